@@ -1,0 +1,5 @@
+pub mod Spelling
+pub mod Order
+pub mod OrderLaws
+pub mod Maps
+pub mod Inside
