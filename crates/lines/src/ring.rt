@@ -1,12 +1,20 @@
-//! A ring, from its least rotation.
+//! Rings.
 ghost use Rattle.std.specs.Prelude.{◌≡◌};
 ghost use Rattle.theory.specs.Ring.{IsRing};
 ghost use Rattle.theory.specs.Props.{IsRing-prop};
 ghost use Rattle.lines.specs.Turned.{IsLeastRotation, IsLeastRotation-prop};
 
 use crate::items::Items;
+use crate::repeated::repeats_segment;
+use crate::shape_fault::ShapeFault;
+use faults::OutOfMemory;
 use grid::pos::Pos;
+use itertools::Itertools;
+use std::alloc::Global;
 
+/// A ring: a cyclic list of three positions or more, with a direction, round which neighbours differ
+/// and no segment stands twice (RFC 7946, section 3.1.6). It is kept from its least rotation, so two
+/// rings that differ only in the place from which they are read are equal.
 #[derive(PartialEq, Eq, PartialOrd, Ord, Hash, Drop, Debug)]
 pub struct Ring {
     positions: Items<Pos>,
@@ -14,11 +22,54 @@ pub struct Ring {
     pub ghost least: { IsLeastRotation positions } by { IsLeastRotation-prop positions },
 }
 
+/// Where the least rotation of a closed list begins: at the least pair of a vertex and the next.
+fn least_start(closed: &[Pos]) -> usize {
+    closed.windows(2).position_min().unwrap_or(0)
+}
+
 impl Ring {
-    pub fn positions(&self) -> &[Pos]
-        ensures positions { result.now ≡ self.now.positions }
+    /// The ring of a closed list of positions, in which equal neighbours are read as one and the
+    /// last repeats the first. The direction is kept.
+    ///
+    /// # Errors
+    /// `TooShort` where no position is left; otherwise `NotClosed` where the first and the last
+    /// differ; otherwise `TooShort` where fewer than four are left; otherwise `Revisit` where a
+    /// segment stands twice.
+    pub fn from_closed(alloc: Global, mut closed: Vec<Pos>) -> Result<Ring, ShapeFault> {
+        closed.dedup();
+        if closed.is_empty() {
+            return Err(ShapeFault::TooShort);
+        }
+        if closed.first() != closed.last() {
+            return Err(ShapeFault::NotClosed);
+        }
+        if closed.len() < 4 {
+            return Err(ShapeFault::TooShort);
+        }
+        if repeats_segment(alloc, &closed)? {
+            return Err(ShapeFault::Revisit);
+        }
+        let start = least_start(&closed);
+        closed.truncate(closed.len() - 1);
+        closed.rotate_left(start);
+        Ok(Ring {
+            positions: Items::from_vec(closed),
+        })
+    }
+
+    /// The vertices from the least rotation, in the ring's direction, without the closing repeat.
+    pub fn vertices(&self) -> &[Pos]
+        ensures vertices { result.now ≡ self.now.positions }
         ensures ring { IsRing result.now }
     {
         self.positions.as_slice()
+    }
+
+    /// An equal ring.
+    pub fn copy(&self, alloc: Global) -> Result<Ring, OutOfMemory> {
+        let positions = self.vertices().to_vec(alloc)?;
+        Ok(Ring {
+            positions: Items::from_vec(positions),
+        })
     }
 }

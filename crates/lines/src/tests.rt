@@ -1,0 +1,95 @@
+use crate::line::Line;
+use crate::ring::Ring;
+use crate::shape_fault::ShapeFault;
+use grid::pos::Pos;
+use std::alloc::Global;
+use std::process::Abort;
+use std::test::Fail;
+
+fn positions(alloc: Global, places: &[(i64, i64)]) -> Result<Vec<Pos>, Fail> {
+    let mut made = Vec::new(alloc);
+    for (x, y) in places {
+        made.push(Pos::new(*x, *y).ok_or("outside the limits")?)?;
+    }
+    Ok(made)
+}
+
+fn line(alloc: Global, places: &[(i64, i64)]) -> Result<Result<Line, ShapeFault>, Fail> {
+    Ok(Line::from_positions(alloc, positions(alloc, places)?))
+}
+
+fn ring(alloc: Global, places: &[(i64, i64)]) -> Result<Result<Ring, ShapeFault>, Fail> {
+    Ok(Ring::from_closed(alloc, positions(alloc, places)?))
+}
+
+const A: (i64, i64) = (0, 0);
+const B: (i64, i64) = (4, 0);
+const C: (i64, i64) = (4, 4);
+const D: (i64, i64) = (1, 4);
+const E: (i64, i64) = (0, 4);
+
+/// Both answers for one list of positions.
+fn check(
+    rt: &impl Abort,
+    alloc: Global,
+    places: &[(i64, i64)],
+    as_line: Option<ShapeFault>,
+    as_ring: Option<ShapeFault>,
+) -> Result<(), Fail> {
+    assert_eq!(rt; line(alloc, places)?.err(), as_line, "{places:?} as a line");
+    assert_eq!(rt; ring(alloc, places)?.err(), as_ring, "{places:?} as a ring");
+    Ok(())
+}
+
+#[test]
+fn lists_without_a_line(rt: HostRuntime) -> Result<(), Fail> {
+    let short = Some(ShapeFault::TooShort);
+    let alloc = rt.alloc();
+    check(&rt, alloc, &[], short, short)?;
+    check(&rt, alloc, &[A], short, short)?;
+    check(&rt, alloc, &[A, A, A], short, short)?;
+    check(&rt, alloc, &[A, B, A], short, short)
+}
+
+#[test]
+fn lines_that_are_no_rings(rt: HostRuntime) -> Result<(), Fail> {
+    let open = Some(ShapeFault::NotClosed);
+    let alloc = rt.alloc();
+    check(&rt, alloc, &[A, B], None, open)?;
+    check(&rt, alloc, &[A, B, B, C], None, open)?;
+    check(&rt, alloc, &[A, B, C, A, D], None, open)?;
+    check(&rt, alloc, &[A, B, A, C], Some(ShapeFault::Revisit), open)
+}
+
+#[test]
+fn closed_lists(rt: HostRuntime) -> Result<(), Fail> {
+    let again = Some(ShapeFault::Revisit);
+    let alloc = rt.alloc();
+    check(&rt, alloc, &[A, B, C, A], None, None)?;
+    check(&rt, alloc, &[A, A, B, C, C, A], None, None)?;
+    check(&rt, alloc, &[A, B, C, A, D, E, A], None, None)?;
+    check(&rt, alloc, &[A, B, A, B, A], again, again)?;
+    check(&rt, alloc, &[A, B, C, B, A], again, again)
+}
+
+#[test]
+fn a_ring_is_read_from_its_least_rotation(rt: HostRuntime) -> Result<(), Fail> {
+    let alloc = rt.alloc();
+    let made = ring(alloc, &[C, A, A, B, C])??;
+    assert_eq!(rt; made.vertices(), positions(alloc, &[A, B, C])?.as_slice());
+    assert_eq!(rt; ring(alloc, &[B, C, A, B])??, made.copy(alloc)?);
+    assert_ne!(rt; ring(alloc, &[A, C, B, A])??, made);
+    let again = ring(alloc, &[E, A, C, B, A, D, E])??;
+    assert_eq!(rt; again.vertices(), positions(alloc, &[A, D, E, A, C, B])?.as_slice());
+    assert_eq!(rt; ring(alloc, &[A, C, B, A, D, E, A])??, again);
+    Ok(())
+}
+
+#[test]
+fn a_line_keeps_its_direction(rt: HostRuntime) -> Result<(), Fail> {
+    let alloc = rt.alloc();
+    let made = line(alloc, &[C, C, B, A, A])??;
+    assert_eq!(rt; made.positions(), positions(alloc, &[C, B, A])?.as_slice());
+    assert_eq!(rt; made.copy(alloc)?, made);
+    Ok(())
+}
