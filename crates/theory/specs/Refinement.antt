@@ -1,0 +1,108 @@
+-- The arcs of a map cut again under the junctions of a map that has all of its lines and rings.
+use Rattle.std.specs.Prelude.{◌≡◌, List, ◌⊎◌, ℕ, zero, suc, cond, [], ◌∷◌, ◌++◌, Some, slice_get}
+use Rattle.std.specs.declared.cmp.Ordering.{Ordering}
+use Rattle.theory.specs.ArcNumbers.{ArcRef, StitchTo, Uses, UsesOnce, backwards}
+use Rattle.theory.specs.Arcs.{AreArcsOf}
+use Rattle.theory.specs.Chain.{Free, IsChain}
+use Rattle.theory.specs.Geometry.{Geometry, IsLineOf, IsRingOf, JunctionOf, SegmentOf}
+use Rattle.theory.specs.LinesAndRings.{closed}
+use Rattle.theory.specs.Lists.{Beside, Each, Has, Pairwise, SomeHas, Steps}
+use Rattle.theory.specs.Topology.{IsRingList}
+
+-- in the one or in the other
+abbrev pub Either : {A : Type 0} → (A → Type 0) → (A → Type 0) → A → Type 0
+Either P Q x = P x ⊎ Q x
+
+-- the lists are chains over U with the stops L, and have the steps of c, all and no others
+pub record PiecesOf {V : Type 0} (U : V → V → Type 0) (L : V → Type 0) (Le : V → V → Type 0) (c : List V) (ps : List (List V)) : Type 0 where
+  pub chains : Each (IsChain U L Le) ps
+  pub covers : (u v : V) → Steps u v c → SomeHas (λ p. Steps u v p) ps
+  pub inside : (u v : V) → SomeHas (λ p. Steps u v p) ps → Steps u v c
+
+-- each line and ring of g is one of u
+pub record IsPartOf {V : Type 0} (g u : Geometry V) : Type 0 where
+  pub lines : (l : List V) → IsLineOf g l → IsLineOf u l
+  pub rings : (r : List V) → IsRingOf g r → IsRingOf u r
+
+-- u has the lines and the rings of both, and no others
+pub record IsUnionOf {V : Type 0} (m n u : Geometry V) : Type 0 where
+  pub left : IsPartOf m u
+  pub right : IsPartOf n u
+  pub lines : (l : List V) → IsLineOf u l → IsLineOf m l ⊎ IsLineOf n l
+  pub rings : (r : List V) → IsRingOf u r → IsRingOf m r ⊎ IsRingOf n r
+
+abbrev pub pieces_at : List (List ArcRef) → ℕ → List ArcRef
+pieces_at [] i = []
+pieces_at (p ∷ ps) zero = p
+pieces_at (p ∷ ps) (suc i) = pieces_at ps i
+
+-- the pieces of a used arc
+abbrev pub pieces_of_used : List (List ArcRef) → ArcRef → List ArcRef
+pieces_of_used pieces a = cond a.reversed (backwards (pieces_at pieces a.arc)) (pieces_at pieces a.arc)
+
+-- in place of each used arc its pieces
+abbrev pub replaced : List (List ArcRef) → List ArcRef → List ArcRef
+replaced pieces [] = []
+replaced pieces (a ∷ used) = pieces_of_used pieces a ++ replaced pieces used
+
+-- the used arcs of the table stitch to the arc c, or, where c is free under J, to c turned as a ring is under L
+abbrev pub ArePiecesOfArc : {V : Type 0} → (V → V → Ordering) → (V → Type 0) → (V → Type 0) → List (List V) → List V → List ArcRef → Type 0
+ArePiecesOfArc {V} cmp J L table c used =
+    ((¬ Free J c) × StitchTo table used c)
+    ⊎ ((loop : List V) × (c ≡ closed loop) × Free J c × IsRingList cmp L table loop used)
+
+-- pieces has for each arc of g the arcs of u that it is cut into
+pub record IsRefinementOf {V : Type 0} (cmp : V → V → Ordering) (g u : Geometry V) (arcs table : List (List V)) (pieces : List (List ArcRef)) : Type 0 where
+  pub old : AreArcsOf cmp g arcs
+  pub new : AreArcsOf cmp u table
+  pub cut : Pairwise (ArePiecesOfArc cmp (JunctionOf g) (JunctionOf u) table) arcs pieces
+
+-- what follows
+pub record RefinementLaws {V : Type 0} (cmp : V → V → Ordering) (g u : Geometry V) (arcs table : List (List V)) (pieces : List (List ArcRef)) : Type 0 where
+  -- an arc of u that has a segment of g is a piece of an arc of g, and all its segments are those of that arc
+  pub home : (k : ℕ) (d : List V) (a b : V) → slice_get table k ≡ Some d → Beside a b d → SegmentOf g a b →
+      (i : ℕ) × (c : List V) × (slice_get arcs i ≡ Some c) × Uses k (pieces_at pieces i) × ((v w : V) → Beside v w d → Beside v w c)
+  -- what is a piece has only segments of its arc
+  pub inside : (k i : ℕ) (c d : List V) → slice_get arcs i ≡ Some c → slice_get table k ≡ Some d → Uses k (pieces_at pieces i) →
+      (v w : V) → Beside v w d → Beside v w c
+  -- of one arc alone, and at one place of its list
+  pub one_home : (k i j : ℕ) → Uses k (pieces_at pieces i) → Uses k (pieces_at pieces j) → i ≡ j
+  pub one_place : (i : ℕ) → UsesOnce (pieces_at pieces i)
+  -- the list of a line, and of a ring
+  pub line : (l : List V) (used : List ArcRef) → IsLineOf g l → StitchTo arcs used l → StitchTo table (replaced pieces used) l
+  pub ring : (r : List V) (used : List ArcRef) → IsRingOf g r → IsRingList cmp (JunctionOf g) arcs r used →
+      (before : List ArcRef) × (behind : List ArcRef) × (replaced pieces used ≡ before ++ behind) ×
+      IsRingList cmp (JunctionOf u) table r (behind ++ before)
+
+abbrev pub OpenArc : {V : Type 0} → Geometry V → List (List V) → List V → Type 0
+OpenArc g arcs l = Has l arcs × (¬ Free (JunctionOf g) l)
+
+abbrev pub LoopArc : {V : Type 0} → Geometry V → List (List V) → List V → Type 0
+LoopArc g arcs r = Has (closed r) arcs × Free (JunctionOf g) (closed r)
+
+-- a has the arcs of m and of n that aren't free as its lines, and the free loops as its rings
+pub record AreArcsAsMap {V : Type 0} (m n : Geometry V) (ms ns : List (List V)) (a : Geometry V) : Type 0 where
+  pub lines : (l : List V) → IsLineOf a l → OpenArc m ms l ⊎ OpenArc n ns l
+  pub rings : (r : List V) → IsRingOf a r → LoopArc m ms r ⊎ LoopArc n ns r
+  pub open_left : (l : List V) → OpenArc m ms l → IsLineOf a l
+  pub open_right : (l : List V) → OpenArc n ns l → IsLineOf a l
+  pub loop_left : (r : List V) → LoopArc m ms r → IsRingOf a r
+  pub loop_right : (r : List V) → LoopArc n ns r → IsRingOf a r
+
+-- the two maps have the same segments and the same junctions
+pub record Alike {V : Type 0} (a u : Geometry V) : Type 0 where
+  pub segments : (x y : V) → SegmentOf a x y → SegmentOf u x y
+  pub segments_back : (x y : V) → SegmentOf u x y → SegmentOf a x y
+  pub junctions : (v : V) → JunctionOf a v → JunctionOf u v
+  pub junctions_back : (v : V) → JunctionOf u v → JunctionOf a v
+
+-- what is left of a map, g, of the map u: what holds of the old arcs that a new arc is cut into
+pub record RemovalLaws {V : Type 0} (g u : Geometry V) (table : List (List V)) (pieces : List (List ArcRef)) : Type 0 where
+  -- an old arc of which a segment stays is used, in one list and at one place of it
+  pub kept : (k : ℕ) (d : List V) (a b : V) → slice_get table k ≡ Some d → Beside a b d → SegmentOf g a b → (i : ℕ) × Uses k (pieces_at pieces i)
+  pub one_list : (k i j : ℕ) → Uses k (pieces_at pieces i) → Uses k (pieces_at pieces j) → i ≡ j
+  pub one_place : (i : ℕ) → UsesOnce (pieces_at pieces i)
+  -- of an old arc that is used all segments stay
+  pub whole : (k i : ℕ) (d : List V) → slice_get table k ≡ Some d → Uses k (pieces_at pieces i) → (a b : V) → Beside a b d → SegmentOf g a b
+  -- all segments of an old arc stay, or none
+  pub all_or_none : (k : ℕ) (d : List V) (a b v w : V) → slice_get table k ≡ Some d → Beside a b d → SegmentOf g a b → Beside v w d → SegmentOf g v w
