@@ -1,7 +1,7 @@
 //! Rings.
 ghost use Rattle.std.specs.Prelude.{◌≡◌};
-ghost use Rattle.theory.specs.Ring.{IsRing};
-ghost use Rattle.theory.specs.Props.{IsRing-prop};
+ghost use Rattle.theory.specs.LinesAndRings.{IsRing};
+ghost use Rattle.theory.specs.OneProof.{IsRing-prop};
 ghost use Rattle.lines.specs.Turned.{IsLeastRotation, IsLeastRotation-prop};
 
 use crate::items::Items;

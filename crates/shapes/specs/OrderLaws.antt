@@ -26,7 +26,7 @@ use Rattle.shapes.specs.declared.spelled.Spelled.{Spelled}
 use Rattle.shapes.specs.declared.props.Props.{Props}
 use Rattle.std.specs.Coded.{Coded-set, coded_list, coded_ℕ, coded_bool}
 use mathlib.Core.HLevel.{is_prop→PathP}
-use Rattle.theory.specs.Props.{IsLine-prop, IsRing-prop}
+use Rattle.theory.specs.OneProof.{IsLine-prop, IsRing-prop}
 use Rattle.shapes.specs.Spelling.{spelling_of, is_props}
 use Rattle.shapes.specs.declared.shape.Id.TheVariants.{None, Number, Text}
 use Rattle.shapes.specs.declared.shape.Shape.TheVariants.{Null, Point, MultiPoint, Line, MultiLine, Polygon, MultiPolygon}
