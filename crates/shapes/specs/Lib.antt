@@ -1,4 +1,6 @@
 pub mod Spelling
+pub mod Properties
+pub mod Parts
 pub mod Order
 pub mod OrderLaws
 pub mod Maps

@@ -1,34 +1,105 @@
 //! Properties, kept as their compact text.
-ghost use Rattle.std.specs.Prelude.{◌≡◌, true, IfOk, ◌∷◌, []};
-ghost use Rattle.shapes.specs.Spelling.{is_props};
+ghost use Rattle.std.specs.Prelude.{◌≡◌, true};
+ghost use Rattle.std.specs.Coded.{Coded-set, coded_bool};
+ghost use Rattle.shapes.specs.Properties.{is_properties, properties_value};
+ghost use Rattle.json.specs.Lex.{tokens};
+ghost use Rattle.json.specs.Token.{tokens_code};
+ghost use Rattle.json.specs.Tree.{json_tokens};
+ghost use Rattle.serde_json.specs.Written.{outline};
 
+use crate::nesting::{has_fraction, nests_within};
+use faults::OutOfMemory;
 use lines::text::Text;
+use serde_json::Value;
 use std::alloc::{AllocError, Global};
+use thiserror::Error;
 
+/// How deep the containers of properties may nest, the object itself counting one.
+pub const MAX_DEPTH: usize = 64;
+
+/// The properties of a feature: a JSON object, kept as its compact text.
+/// All numbers are whole and its containers nest at most 64 deep.
+/// Equality and order are those of the text, by its bytes.
 #[derive(PartialEq, Eq, PartialOrd, Ord, Drop, Debug)]
 pub struct Props {
     text: Text,
-    pub ghost props: { is_props text ≡ true },
+    pub ghost properties: { is_properties text ≡ true } by { Coded-set coded_bool _ _ },
+    pub ghost lexed: { tokens text ≡ json_tokens (outline (properties_value text)) } by { Coded-set tokens_code _ _ },
+}
+
+/// Why a JSON value is no properties.
+#[derive(Clone, Copy, PartialEq, Eq, Debug, Error)]
+pub enum PropFault {
+    /// The value is not an object.
+    #[error("properties are an object")]
+    WrongKind,
+    /// Some number inside is neither an i64 nor a u64.
+    #[error("a number in properties that is not whole")]
+    PropertyNumber,
+    /// Containers nest deeper than 64.
+    #[error("properties that nest too deep")]
+    PropertyDepth,
+    /// A growth of memory was refused.
+    #[error("out of memory")]
+    OutOfMemory,
 }
 
 impl Props {
-    pub fn empty(alloc: Global) -> Result<Props, AllocError>
-        ensures { IfOk result (λ p. p.text ≡ 123 ∷ 125 ∷ []) }
+    ghost use Rattle.std.specs.Prelude.{IfOk, IfErr, ◌⊎◌, None, Some, ◌↔◌, IsTrue, codes};
+    ghost use Rattle.serde_json.specs.View.{view};
+    ghost use Rattle.serde_json.specs.Written.{compact_text};
+    ghost use Rattle.shapes.specs.Parts.{properties_text};
+
+    /// The properties that the value is, or what is wrong with it: first that it is no object,
+    /// then a number that is not whole, then its depth.
+    pub fn from_value(alloc: Global, value: &Value) -> Result<Props, PropFault>
+        ensures text { IfOk result (λ p. properties_text p ≡ compact_text (view value.now)) }
+    {
+        let Value::Object(_) = value else {
+            return Err(PropFault::WrongKind);
+        };
+        if has_fraction(value) {
+            return Err(PropFault::PropertyNumber);
+        }
+        if !nests_within(value, MAX_DEPTH) {
+            return Err(PropFault::PropertyDepth);
+        }
+        match value.to_string(alloc) {
+            Ok(text) => {
+                let text = Text::from_string(text);
+                Ok(Props { text })
+            }
+            Err(AllocError) => Err(PropFault::OutOfMemory),
+        }
+    }
+
+    /// No properties: the text `{}`.
+    pub fn empty(alloc: Global) -> Result<Props, OutOfMemory>
+        ensures { IfOk result (λ p. properties_text p ≡ codes "{}") }
     {
         let text = Text::from_string(String::from_str(alloc, "{}")?);
         Ok(Props { text })
     }
 
-    pub fn clone_of(alloc: Global, props: &Props) -> Result<Props, AllocError>
-        ensures { IfOk result (λ p. p.text ≡ props.now.text) }
+    /// Whether there are no properties.
+    pub fn is_empty(&self) -> bool
+        ensures { IsTrue result ↔ (properties_text self.now ≡ codes "{}") }
     {
-        let text = Text::from_string(String::from_str(alloc, props.text())?);
-        Ok(Props { text })
+        self.text() == "{}"
     }
 
+    /// The compact text.
     pub fn text(&self) -> &str
-        ensures { result.now ≡ self.now.text }
+        ensures { result.now ≡ properties_text self.now }
     {
         self.text.as_str()
+    }
+
+    /// Equal properties, or want of memory.
+    pub fn copy(&self, alloc: Global) -> Result<Props, OutOfMemory>
+        ensures { IfOk result (λ p. p ≡ self.now) }
+    {
+        let text = Text::from_string(String::from_str(alloc, self.text())?);
+        Ok(Props { text })
     }
 }

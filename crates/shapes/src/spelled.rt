@@ -1,10 +1,14 @@
 //! A text beside its JSON spelling.
-ghost use Rattle.std.specs.Prelude.{◌≡◌, IfOk, string_bytes};
+ghost use Rattle.std.specs.Prelude.{◌≡◌};
 ghost use Rattle.shapes.specs.Spelling.{spelling_of};
 
+use faults::OutOfMemory;
 use lines::text::Text;
-use std::alloc::{AllocError, Global};
+use serde_json::Value;
+use std::alloc::Global;
 
+/// A text with its JSON spelling beside it, as `serde_json` writes it compactly.
+/// Equality and order are those of the text, by its UTF-8 bytes.
 #[derive(Drop)]
 #[derive_where(PartialEq, Eq, PartialOrd, Ord, Debug)]
 pub struct Spelled {
@@ -15,24 +19,39 @@ pub struct Spelled {
 }
 
 impl Spelled {
-    pub fn new(alloc: Global, text: &str) -> Result<Spelled, AllocError>
-        ensures { IfOk result (λ s. s.text ≡ text.now) }
+    ghost use Rattle.std.specs.Prelude.{IfOk};
+    ghost use Rattle.shapes.specs.Parts.{spelled_text};
+
+    /// The text with its spelling, or want of memory.
+    pub fn new(alloc: Global, text: &str) -> Result<Spelled, OutOfMemory>
+        ensures { IfOk result (λ s. spelled_text s ≡ text.now) }
     {
-        let json = format!(in alloc; "\"{text}\"")?;
+        let value = Value::String(String::from_str(alloc, text)?);
+        let json = Text::from_string(value.to_string(alloc)?);
         let text = Text::from_string(String::from_str(alloc, text)?);
-        let json = Text::from_string(json);
         Ok(Spelled { text, json })
     }
 
+    /// The text.
     pub fn text(&self) -> &str
-        ensures { result.now ≡ self.now.text }
+        ensures { result.now ≡ spelled_text self.now }
     {
         self.text.as_str()
     }
 
+    /// The text's compact JSON, in quotes.
     pub fn spelling(&self) -> &str
-        ensures { result.now ≡ spelling_of self.now.text }
+        ensures { result.now ≡ spelling_of (spelled_text self.now) }
     {
         self.json.as_str()
+    }
+
+    /// An equal text with its spelling, or want of memory.
+    pub fn copy(&self, alloc: Global) -> Result<Spelled, OutOfMemory>
+        ensures { IfOk result (λ s. s ≡ self.now) }
+    {
+        let text = Text::from_string(String::from_str(alloc, self.text())?);
+        let json = Text::from_string(String::from_str(alloc, self.spelling())?);
+        Ok(Spelled { text, json })
     }
 }

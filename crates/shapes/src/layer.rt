@@ -1,0 +1,68 @@
+//! A layer of a feature map: its name and its set of features.
+ghost use Rattle.std.specs.Prelude.{◌≡◌, OnOk, IfOk, OnErr, IsOkUnless, not};
+ghost use Rattle.std.specs.FinSet as set;
+ghost use Rattle.shapes.specs.declared.insert_fault.InsertFault.TheVariants.{OutOfMemory as WantOfMemory};
+ghost use Rattle.shapes.specs.Maps.{set_of};
+
+use crate::feature::Feature;
+use crate::insert_fault::InsertFault;
+use crate::spelled::Spelled;
+use faults::OutOfMemory;
+use grid::transform::Grid;
+use std::alloc::Global;
+use std::collections::BTreeSet;
+
+#[derive(Drop)]
+pub(crate) struct Layer {
+    pub name: Spelled,
+    pub features: BTreeSet<Feature>,
+}
+
+impl Layer {
+    pub fn put(&mut self, feature: Feature) -> Result<bool, InsertFault>
+        ensures name { self.new.name ≡ self.old.name }
+        ensures ok { OnOk result (set_of self.new.features ≡ set.insert (set_of self.old.features) feature) }
+        ensures added { IfOk result (λ added. added ≡ not (set.contains (set_of self.old.features) feature)) }
+        ensures err { OnErr result (set_of self.new.features ≡ set_of self.old.features) }
+        ensures memory { IsOkUnless result WantOfMemory }
+    {
+        let added = self.features.insert(feature)?;
+        Ok(added)
+    }
+
+    // The layer with the features of both.
+    pub fn united(&self, alloc: Global, other: &Layer) -> Result<Layer, OutOfMemory> {
+        let name = self.name.copy(alloc)?;
+        let features = union_of(alloc, &self.features, &other.features)?;
+        Ok(Layer { name, features })
+    }
+
+    // Whether each position of each feature fits the grid.
+    pub fn fits(&self, grid: &Grid) -> bool {
+        for feature in self.features.iter() {
+            if !feature.fits(grid) {
+                return false;
+            }
+        }
+        true
+    }
+
+    pub fn copy(&self, alloc: Global) -> Result<Layer, OutOfMemory> {
+        let name = self.name.copy(alloc)?;
+        let none = BTreeSet::new(alloc);
+        let features = union_of(alloc, &self.features, &none)?;
+        Ok(Layer { name, features })
+    }
+}
+
+fn union_of(
+    alloc: Global,
+    these: &BTreeSet<Feature>,
+    those: &BTreeSet<Feature>,
+) -> Result<BTreeSet<Feature>, OutOfMemory> {
+    let mut copies = Vec::new(alloc);
+    for feature in these.union(those) {
+        copies.push(feature.copy(alloc)?)?;
+    }
+    Ok(BTreeSet::from_iter(alloc, copies)?)
+}
