@@ -27,7 +27,12 @@ use Rattle.shapes.specs.declared.props.Props.{Props}
 use Rattle.std.specs.Coded.{Coded-set, coded_list, coded_ℕ, coded_bool}
 use mathlib.Core.HLevel.{is_prop→PathP}
 use Rattle.theory.specs.OneProof.{IsLine-prop, IsRing-prop}
-use Rattle.shapes.specs.Spelling.{spelling_of, is_props}
+use Rattle.shapes.specs.Spelling.{spelling_of}
+use Rattle.shapes.specs.Properties.{is_properties, properties_value}
+use Rattle.json.specs.Lex.{tokens}
+use Rattle.json.specs.Token.{tokens_code}
+use Rattle.json.specs.Tree.{json_tokens}
+use Rattle.serde_json.specs.Written.{outline}
 use Rattle.shapes.specs.declared.shape.Id.TheVariants.{None, Number, Text}
 use Rattle.shapes.specs.declared.shape.Shape.TheVariants.{Null, Point, MultiPoint, Line, MultiLine, Polygon, MultiPolygon}
 
@@ -101,7 +106,11 @@ one_spelled s t e =
     }
 
 pub one_props : (s t : Props) → s.text ≡ t.text → s ≡ t
-one_props s t e i = record { text = e i; props = is_prop→PathP (λ j. is_props (e j) ≡ true) (λ j. Coded-set coded_bool _ _) s.props t.props i }
+one_props s t e i = record {
+  text = e i;
+  properties = is_prop→PathP (λ j. is_properties (e j) ≡ true) (λ j. Coded-set coded_bool _ _) s.properties t.properties i;
+  lexed = is_prop→PathP (λ j. tokens (e j) ≡ json_tokens (outline (properties_value (e j)))) (λ j. Coded-set tokens_code _ _) s.lexed t.lexed i;
+}
 
 pub same_id : IsAntisymmetric id_cmp
 same_id None None e = refl

@@ -10,3 +10,15 @@ pub mod nesting;
 pub mod props;
 pub mod shape;
 pub mod spelled;
+
+pub use faults::{Fault, FaultKind, OutOfMemory, Step};
+pub use feature::Feature;
+pub use feature_map::FeatureMap;
+pub use insert_fault::InsertFault;
+pub use lines::items::Items;
+pub use lines::line::Line;
+pub use lines::ring::Ring;
+pub use lines::shape_fault::ShapeFault;
+pub use props::{PropFault, Props};
+pub use shape::{Id, Shape};
+pub use spelled::Spelled;
