@@ -8,6 +8,7 @@ use crate::feature::Feature;
 use crate::insert_fault::InsertFault;
 use crate::spelled::Spelled;
 use faults::OutOfMemory;
+use grid::transform::Grid;
 use std::alloc::Global;
 use std::collections::BTreeSet;
 
@@ -34,6 +35,16 @@ impl Layer {
         let name = self.name.copy(alloc)?;
         let features = union_of(alloc, &self.features, &other.features)?;
         Ok(Layer { name, features })
+    }
+
+    // Whether each position of each feature fits the grid.
+    pub fn fits(&self, grid: &Grid) -> bool {
+        for feature in self.features.iter() {
+            if !feature.fits(grid) {
+                return false;
+            }
+        }
+        true
     }
 
     pub fn copy(&self, alloc: Global) -> Result<Layer, OutOfMemory> {

@@ -3,6 +3,7 @@ use crate::copying::CopyIn;
 use crate::spelled::Spelled;
 use faults::OutOfMemory;
 use grid::pos::Pos;
+use grid::transform::Grid;
 use lines::items::Items;
 use lines::line::Line;
 use lines::ring::Ring;
@@ -63,4 +64,35 @@ impl Shape {
             Shape::MultiPolygon(polygons) => Ok(Shape::MultiPolygon(polygons.copy_in(alloc)?)),
         }
     }
+
+    /// Whether each position of the shape fits the grid.
+    pub fn fits(&self, grid: &Grid) -> bool {
+        match self {
+            Shape::Null => true,
+            Shape::Point(position) => grid.fits(*position),
+            Shape::MultiPoint(positions) => all_fit(grid, positions.as_slice()),
+            Shape::Line(line) => all_fit(grid, line.positions()),
+            Shape::MultiLine(lines) => lines_fit(grid, lines.as_slice()),
+            Shape::Polygon(rings) => rings_fit(grid, rings.as_slice()),
+            Shape::MultiPolygon(polygons) => polygons_fit(grid, polygons.as_slice()),
+        }
+    }
+}
+
+fn all_fit(grid: &Grid, positions: &[Pos]) -> bool {
+    positions.iter().all(|position| grid.fits(*position))
+}
+
+fn lines_fit(grid: &Grid, lines: &[Line]) -> bool {
+    lines.iter().all(|line| all_fit(grid, line.positions()))
+}
+
+fn rings_fit(grid: &Grid, rings: &[Ring]) -> bool {
+    rings.iter().all(|ring| all_fit(grid, ring.vertices()))
+}
+
+fn polygons_fit(grid: &Grid, polygons: &[Items<Ring>]) -> bool {
+    polygons
+        .iter()
+        .all(|polygon| rings_fit(grid, polygon.as_slice()))
 }
