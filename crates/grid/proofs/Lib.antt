@@ -1,0 +1,4 @@
+pub mod Multiples
+pub mod Places
+pub mod Judged
+pub mod Pairs

@@ -3,7 +3,7 @@ ghost use Rattle.std.specs.Prelude.{◌≡◌, ◌↔◌, IsSome, IfSome, IfOk, 
 ghost use Rattle.grid.specs.Place.{Scaling, IsScaling, IsTransform, IsScale, IsTranslation, IsGridNumber, IsAbsolute, IsMultiple, IsOnGrid, IsNumberOf, IsBeyond, FitsAxis, scaling, transform as transform_of, absolute as absolute_number};
 ghost use Rattle.grid.specs.Fault.{IsAxisFault};
 
-use crate::pos::{Pos, LIMIT};
+use crate::pos::{LIMIT, Pos};
 use std::marker::Model;
 use thiserror::Error;
 
@@ -68,7 +68,9 @@ pub enum GridFault {
 
 /// Absolute numbers are within this, either side of 0.
 const ABSOLUTE_LIMIT: i64 = 9_007_199_254_740_991;
+
 const GREATEST_SCALE: i64 = 1_000_000;
+
 const GREATEST_TRANSLATION: i64 = 1_000_000_000_000;
 
 fn scaled(n: i64, scale: i64) -> i64
@@ -319,9 +321,11 @@ impl Grid {
         ensures fault { IfErr result (IsPlaceFault self.now (ax, ay)) }
         ensures computed { numbers_of result ≡ place_numbers self.now (ax, ay) }
     {
-        let x = self.x.to_grid(ax).map_err(|fault| fault.at(0))?;
-        let y = self.y.to_grid(ay).map_err(|fault| fault.at(1))?;
-        Ok(Pos::within(x, y))
+        match (self.x.to_grid(ax), self.y.to_grid(ay)) {
+            (Err(fault), _) => Err(fault.at(0)),
+            (_, Err(fault)) => Err(fault.at(1)),
+            (Ok(x), Ok(y)) => Ok(Pos::within(x, y)),
+        }
     }
 }
 
@@ -340,12 +344,27 @@ mod tests {
     #[test]
     fn larger_grid(rt: HostRuntime) {
         let one = grid(&rt, 1, 1, 0, 0);
-        assert_eq!(rt; one.to_grid(1_099_511_627_776, 0), Ok(position(&rt, 1_099_511_627_776, 0)));
-        assert_eq!(rt; one.to_grid(1_099_511_627_777, 0), Err(GridFault::OutOfRange(0)));
-        assert_eq!(rt; one.to_grid(-1_099_511_627_776, 7), Ok(position(&rt, -1_099_511_627_776, 7)));
+        assert_eq!(rt;
+            one.to_grid(1_099_511_627_776, 0),
+            Ok(position(&rt, 1_099_511_627_776, 0))
+        );
+        assert_eq!(rt;
+            one.to_grid(1_099_511_627_777, 0),
+            Err(GridFault::OutOfRange(0))
+        );
+        assert_eq!(rt;
+            one.to_grid(-1_099_511_627_776, 7),
+            Ok(position(&rt, -1_099_511_627_776, 7))
+        );
         let wide = grid(&rt, 1_000_000, 1, 0, 0);
-        assert_eq!(rt; wide.to_grid(9_007_199_254_000_000, 0), Ok(position(&rt, 9_007_199_254, 0)));
-        assert_eq!(rt; wide.to_grid(9_007_199_255_000_000, 0), Err(GridFault::OutOfRange(0)));
+        assert_eq!(rt;
+            wide.to_grid(9_007_199_254_000_000, 0),
+            Ok(position(&rt, 9_007_199_254, 0))
+        );
+        assert_eq!(rt;
+            wide.to_grid(9_007_199_255_000_000, 0),
+            Err(GridFault::OutOfRange(0))
+        );
         assert!(rt; !wide.fits(position(&rt, 9_007_199_255, 0)));
     }
 
@@ -358,7 +377,10 @@ mod tests {
         assert_eq!(rt; near.to_grid(9_007_199_254_740_991, 0), Ok(p));
         let far = grid(&rt, 8192, 1, 0, 0);
         assert!(rt; !far.fits(p));
-        assert_eq!(rt; far.to_grid(9_007_199_254_740_992, 0), Err(GridFault::OutOfRange(0)));
+        assert_eq!(rt;
+            far.to_grid(9_007_199_254_740_992, 0),
+            Err(GridFault::OutOfRange(0))
+        );
     }
 
     #[test]

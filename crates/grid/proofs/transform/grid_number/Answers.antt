@@ -1,0 +1,59 @@
+use Rattle.std.proofs.Common.{◌≡◌, IsTrue, Bool, true, false, ℤ, ◌-ℤ◌, ◌*ℤ◌, FitsSigned, w64, refl, rules, arith, ◌∙◌, int_div, int_rem, pos}
+use Rattle.std.proofs.lemmas.Int.{ints, to_z-of_z}
+use Rattle.grid.specs.Place.{Scaling, IsMultiple, IsGridNumber, IsAbsolute, IsNumberOf, scaling}
+use Rattle.grid.proofs.Places.{number_of_product, product_of_offset}
+use Rattle.grid.proofs.transform.grid_number.Goals as goal
+
+not_true : (b : Bool) → b ≡ false → IsTrue b → ⊥
+not_true b e h = search rules
+
+is_true : (b : Bool) → b ≡ true → IsTrue b
+is_true b e = search rules
+
+pub returns-then-not-is_multiple-clause-fault : goal.returns-then-not-is_multiple-clause-fault
+returns-then-not-is_multiple-clause-fault c =
+    let fa : FitsSigned w64 c.args.a = c.ranges.a in
+    let ft : FitsSigned w64 c.args.translate = c.ranges.translate in
+    let fs : FitsSigned w64 c.args.scale = c.ranges.scale in
+    let fo : FitsSigned w64 c.offset-offset.result = search rules in
+    let m = simp to_z-of_z at c.is_multiple.ensures in
+    let o = simp to_z-of_z at c.offset-offset.ensures in
+    λ h. not_true c.is_multiple.result c.if-not-is_multiple.true (m.1 (rw o h))
+
+pub returns-then-not-is_grid_number-clause-fault :
+    goal.returns-then-not-is_grid_number-clause-fault
+returns-then-not-is_grid_number-clause-fault c =
+    let fa : FitsSigned w64 c.args.a = c.ranges.a in
+    let ft : FitsSigned w64 c.args.translate = c.ranges.translate in
+    let fs : FitsSigned w64 c.args.scale = c.ranges.scale in
+    let fo : FitsSigned w64 c.offset-offset.result = search rules in
+    let fn : FitsSigned w64 c.quotient-number.result = search rules in
+    let m = simp to_z-of_z at c.is_multiple.ensures in
+    let o = simp to_z-of_z at c.offset-offset.ensures in
+    let q = simp to_z-of_z at c.quotient-number.ensures in
+    let g = simp to_z-of_z at c.is_grid_number.ensures in
+    let s : Scaling = scaling c.args.scale c.args.translate in
+    record {
+      number = c.quotient-number.result;
+      product = product_of_offset s c.args.a c.offset-offset.result c.quotient-number.result c.requires.limits.scale o q (m.0 (is_true c.is_multiple.result c.if-not-is_multiple.false));
+      outside = λ i _. not_true c.is_grid_number.result c.if-not-is_grid_number.true (g.1 i);
+    }
+
+pub returns-clause-number : goal.returns-clause-number
+returns-clause-number c =
+    let fa : FitsSigned w64 c.args.a = c.ranges.a in
+    let ft : FitsSigned w64 c.args.translate = c.ranges.translate in
+    let fs : FitsSigned w64 c.args.scale = c.ranges.scale in
+    let fo : FitsSigned w64 c.offset-offset.result = search rules in
+    let fn : FitsSigned w64 c.quotient-number.result = search rules in
+    let m = simp to_z-of_z at c.is_multiple.ensures in
+    let o = simp to_z-of_z at c.offset-offset.ensures in
+    let q = simp to_z-of_z at c.quotient-number.ensures in
+    let g = simp to_z-of_z at c.is_grid_number.ensures in
+    let b = simp to_z-of_z at c.is_absolute.ensures in
+    let s : Scaling = scaling c.args.scale c.args.translate in
+    rw (to_z-of_z w64 c.quotient-number.result fn)
+    (number_of_product s c.args.a c.quotient-number.result
+    (product_of_offset s c.args.a c.offset-offset.result c.quotient-number.result c.requires.limits.scale o q (m.0 (is_true c.is_multiple.result c.if-not-is_multiple.false)))
+    (g.0 (is_true c.is_grid_number.result c.if-not-is_grid_number.false))
+    (b.0 (is_true c.is_absolute.result c.if-not-is_absolute.false)))
