@@ -1,0 +1,36 @@
+-- Members of objects.
+use Rattle.std.proofs.Common.{◌≡◌, ℕ, List, [], ◌∷◌, ◌++◌, Option, Some, None, codes, Result, Ok, is_some, true, Bool, refl, sym, ap, ◌∙◌, subst}
+use Rattle.serde_json.specs.Data.{Data, Members}
+use Rattle.serde_json.specs.Find.{get}
+use Rattle.faults.specs.Path.{name}
+use Rattle.faults.specs.Fault.{Pair, Lifted}
+use Rattle.reading.specs.Fault.{under, LeastOrWant}
+use Rattle.reading.specs.Parts.{object_faults, member_faults, typed_faults, option_faults}
+use Rattle.faults.specs.declared.fault.FaultKind.{FaultKind}
+use Rattle.faults.specs.declared.fault.Fault.{Fault}
+use Rattle.faults.specs.Fault.{pair_of}
+use Rattle.faults.specs.declared.fault.FaultKind.TheVariants.{Missing}
+use Rattle.reading.specs.Fault.{here}
+use Rattle.reading.proofs.Least.{lifted_only, only}
+
+pub member_refused : (n : List ℕ) (of : Data → List Pair) (d e : Data) (old new : Fault) → Some e ≡ get n d → LeastOrWant (of e) old → Lifted (name n) old new → LeastOrWant (member_faults n of d) new
+member_refused n of d e old new is part up = rw (← is) (lifted_only (name n) (of e) old new part up)
+
+object_some : (within : List Pair) (o : Option Members) → true ≡ is_some o → object_faults within o ≡ within
+object_some within None is = cc
+object_some within (Some ms) is = refl
+
+pub in_object : (within : List Pair) (o : Option Members) (f : Fault) → true ≡ is_some o → LeastOrWant within f → LeastOrWant (object_faults within o) f
+in_object within o f is part = subst (λ ps. LeastOrWant ps f) (sym (object_some within o is)) part
+
+pub of_kind : {K : Type 0} (rest : K → List Pair) (r : Result K FaultKind) (k : K) (f : Fault) → Ok k ≡ r → LeastOrWant (rest k) f → LeastOrWant (typed_faults rest r) f
+of_kind rest r k f is part = rw (← is) part
+
+pub option_refused : (n : List ℕ) (of : Data → List Pair) (d e : Data) (old new : Fault) → Some e ≡ get n d → LeastOrWant (of e) old → Lifted (name n) old new → LeastOrWant (option_faults n of d) new
+option_refused n of d e old new is part up = rw (← is) (lifted_only (name n) (of e) old new part up)
+
+pub member_missing : (n : List ℕ) (of : Data → List Pair) (d : Data) (old new : Fault) → None ≡ get n d → pair_of old ≡ record { path = []; kind = Missing } → Lifted (name n) old new → LeastOrWant (member_faults n of d) new
+member_missing n of d old new is told up = rw (← is) (lifted_only (name n) (here Missing) old new (only Missing old told) up)
+
+pub faulty_type : (k : FaultKind) (old new : Fault) → pair_of old ≡ record { path = []; kind = k } → Lifted (name (codes "type")) old new → LeastOrWant (under (name (codes "type")) (here k)) new
+faulty_type k old new told up = lifted_only (name (codes "type")) (here k) old new (only k old told) up
