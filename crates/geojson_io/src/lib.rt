@@ -1,2 +1,6 @@
-//! Under construction.
+//! GeoJSON in and out (RFC 7946, sections 3 and 4).
 #![tactic(auto)]
+
+pub mod read;
+
+pub use read::read;

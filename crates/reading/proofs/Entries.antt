@@ -1,5 +1,5 @@
 -- The members of an object in the order of their names.
-use Rattle.std.proofs.Common.{◌≡◌, List, [], ◌∷◌, ◌++◌, String, Global, string_bytes, string_cmp, Less, ℕ, map, append_assoc, append_nil, sym, ap, ◌∙◌, subst, refl}
+use Rattle.std.proofs.Common.{◌≡◌, List, [], ◌∷◌, ◌++◌, String, Global, string_bytes, string_cmp, Less, ℕ, map, append_assoc, append-nil, sym, ap, ◌∙◌, subst, refl}
 use Rattle.std.specs.List.{AllByRecursion}
 use Rattle.std.specs.List.Sorted.{IsStrictlySortedBy}
 use Rattle.std.specs.Map.{keys_of}
@@ -40,4 +40,4 @@ members_more {X} R k d left whole found now s x is is_name means before xs h =
     subst (MeanMembers R whole) (sym same) (before (y ∷ xs) ((is_name, means), h))
 
 pub members_all : {X : Type 0} (R : Data → X → Type 0) (whole : Members) (found : List (String Global × X)) → MeansAfter R whole no_members found → MeanMembers R whole (map named found)
-members_all R whole found after = subst (MeanMembers R whole) (append_nil (map named found)) (after [] tt)
+members_all R whole found after = subst (MeanMembers R whole) (append-nil (map named found)) (after [] tt)

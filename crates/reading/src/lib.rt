@@ -7,8 +7,10 @@
 #![tactic(auto)]
 
 pub mod document;
-pub mod items;
+pub mod geometry;
+pub mod info;
 pub mod number;
+pub mod outline;
 pub mod part;
 
 pub use part::{Listed, Part};

@@ -10,7 +10,7 @@ ghost use Rattle.reading.specs.Fault.{LeastOrWant, here, under};
 ghost use Rattle.reading.specs.Parts.{each_faults, list_faults, elements, two_faults, pair_faults, IsPair, option_faults, member_faults, each_member_faults, MeanMembers, type_text};
 
 use faults::fault::{Fault, FaultKind};
-use crate::items::Items;
+use lines::items::Items;
 use serde_json::{Map, Value};
 use std::alloc::Global;
 

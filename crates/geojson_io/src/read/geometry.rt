@@ -1,0 +1,82 @@
+//! Geometries: objects with a type and coordinates.
+ghost use Rattle.std.specs.Prelude.{◌≡◌, []};
+
+use crate::read::position::{LineOf, Position, RingOf};
+use faults::fault::{Fault, FaultKind};
+use reading::geometry::GeometryType;
+use reading::part::{Listed, Part, read_member, type_fault};
+use serde_json::Value;
+use shapes::shape::Shape;
+use std::alloc::Global;
+
+/// The coordinates of a geometry of that type.
+#[derive(Clone, Copy)]
+struct Coordinates {
+    position: Position,
+    kind: GeometryType,
+}
+
+impl Part for Coordinates {
+    type Made = Shape;
+
+    ghost faults = { λ _ _. [] };
+
+    ghost means = { λ _ _ x. x ≡ x };
+
+    fn read(&self, alloc: Global, value: &Value) -> Result<Shape, Fault> {
+        let of = self.position;
+        match self.kind {
+            GeometryType::Point => Ok(Shape::Point(of.read(alloc, value)?)),
+            GeometryType::MultiPoint => Ok(Shape::MultiPoint(Listed { of }.read(alloc, value)?)),
+            GeometryType::LineString => Ok(Shape::Line(LineOf { of }.read(alloc, value)?)),
+            GeometryType::MultiLineString => {
+                let of = LineOf { of };
+                Ok(Shape::MultiLine(Listed { of }.read(alloc, value)?))
+            }
+            GeometryType::Polygon => {
+                let of = RingOf { of };
+                Ok(Shape::Polygon(Listed { of }.read(alloc, value)?))
+            }
+            GeometryType::MultiPolygon => {
+                let of = Listed { of: RingOf { of } };
+                Ok(Shape::MultiPolygon(Listed { of }.read(alloc, value)?))
+            }
+        }
+    }
+}
+
+/// The shape of a geometry whose type is known.
+pub fn read_geometry(alloc: Global, position: &Position, kind: GeometryType, value: &Value) -> Result<Shape, Fault> {
+    let coordinates = Coordinates {
+        position: *position,
+        kind,
+    };
+    read_member(alloc, &coordinates, value, "coordinates")
+}
+
+/// The member `geometry` of a feature: null, or a geometry.
+#[derive(Clone, Copy)]
+pub struct Geometry {
+    pub position: Position,
+}
+
+impl Part for Geometry {
+    type Made = Shape;
+
+    ghost faults = { λ _ _. [] };
+
+    ghost means = { λ _ _ x. x ≡ x };
+
+    fn read(&self, alloc: Global, value: &Value) -> Result<Shape, Fault> {
+        if value.is_null() {
+            return Ok(Shape::Null);
+        }
+        if !value.is_object() {
+            return Err(Fault::here(alloc, FaultKind::WrongKind));
+        }
+        match GeometryType::of(value) {
+            Ok(kind) => read_geometry(alloc, &self.position, kind, value),
+            Err(kind) => Err(type_fault(alloc, kind)),
+        }
+    }
+}
