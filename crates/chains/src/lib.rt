@@ -1,2 +1,19 @@
-//! Under construction.
+//! Chains of a map: segments, the index of visits, pieces of lines and rings, the table of arcs, and
+//! the maximal chains over any segments.
 #![tactic(auto)]
+
+pub mod cutting;
+pub mod joining;
+pub mod segment;
+mod starts;
+pub mod table;
+pub mod visits;
+
+pub use cutting::{Piece, cut_line, cut_ring};
+pub use joining::maximal;
+pub use segment::Segment;
+pub use table::{ArcRef, ArcTable};
+pub use visits::VisitIndex;
+
+#[cfg(test)]
+mod tests;

@@ -1,0 +1,8 @@
+-- A table of arcs as contracts see it.
+use Rattle.std.specs.Prelude.{List}
+use Rattle.grid.specs.declared.pos.Pos.{Pos}
+
+-- the arcs by their numbers, and the first vertices of the free loops among them
+pub record Arcs : Type 0 where
+  pub arcs : List (List Pos)
+  pub seams : List Pos

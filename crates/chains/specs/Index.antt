@@ -1,0 +1,38 @@
+-- The index of a map's junctions.
+use Rattle.std.specs.Prelude.{◌≡◌, List, [], ◌∷◌, ◌++◌, map as map_list}
+use Rattle.theory.specs.Chain.{Has}
+use Rattle.theory.specs.Topology.{Shape, lines_in, rings_in, gathered}
+use Rattle.theory.specs.Map.{Visits}
+use Rattle.theory.specs.Map.Visit.{end, pair}
+use Rattle.theory.specs.Geometry.{Geometry, IsLineOf, IsRingOf, JunctionOf}
+use Rattle.grid.specs.declared.pos.Pos.{Pos}
+use Rattle.shapes.specs.declared.feature.Feature.{Feature}
+use Rattle.chains.specs.Seen.{form_of}
+use Rattle.chains.specs.Visits.{visit_of, inner_of, around_of, ends_of}
+use Rattle.chains.specs.declared.visits.Visit.{Visit}
+
+-- the list holds the junctions of the lines and rings, and nothing else
+pub record IsIndexOf (junctions : List Pos) (g : Geometry Pos) : Type 0 where
+  pub all : (v : Pos) → JunctionOf g v → Has v junctions
+  pub only : (v : Pos) → Has v junctions → JunctionOf g v
+
+-- the ends and the other visits of the lines and rings, and nothing else
+pub record AreVisitsOf (ends : List Pos) (visits : List Visit) (g : Geometry Pos) : Type 0 where
+  pub ends_all : (v : Pos) → Visits (IsLineOf g) (IsRingOf g) v end → Has v ends
+  pub ends_only : (v : Pos) → Has v ends → Visits (IsLineOf g) (IsRingOf g) v end
+  pub pairs_all : (a v b : Pos) → Visits (IsLineOf g) (IsRingOf g) v (pair a b) → Has (visit_of a v b) visits
+  pub pairs_only : (w : Visit) → Has w visits → (a : Pos) × (b : Pos) × (w ≡ visit_of a w.vertex b) × Visits (IsLineOf g) (IsRingOf g) w.vertex (pair a b)
+
+-- the ends of the lines of a shape
+abbrev pub form_ends : Shape Pos → List Pos
+form_ends f = gathered ends_of (lines_in f)
+
+-- the visits of a shape that are no ends
+abbrev pub form_visits : Shape Pos → List Visit
+form_visits f = gathered inner_of (lines_in f) ++ gathered around_of (rings_in f)
+
+abbrev pub feature_ends : Feature → List Pos
+feature_ends f = form_ends (form_of f.shape)
+
+abbrev pub feature_visits : Feature → List Visit
+feature_visits f = form_visits (form_of f.shape)

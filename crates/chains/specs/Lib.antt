@@ -1,0 +1,11 @@
+pub mod Pairs
+pub mod Visits
+pub mod Seen
+pub mod Index
+pub mod Starts
+pub mod Pieces
+pub mod Arcs
+pub mod Table
+pub mod Links
+pub mod Walk
+pub mod Joined

@@ -1,0 +1,21 @@
+-- The two neighbours of each vertex, noted from the segments one by one.
+use Rattle.std.specs.Prelude.{cond, List, [], ◌∷◌, Option, Some, None}
+use Rattle.std.specs.Ordering.{is_eq}
+use Rattle.grid.specs.declared.pos.Pos.{Pos}
+use Rattle.lines.specs.Turned.{position_cmp}
+use Rattle.chains.specs.Pairs.{position_eq, among}
+use Rattle.chains.specs.declared.segment.Segment.{Segment}
+
+-- the neighbours noted before, and one more
+abbrev pub joined : Option (Pos × Pos) → Pos → Pos × Pos
+joined None n = (n, n)
+joined (Some p) n = cond (position_eq p.0 n) p (p.0, n)
+
+-- what is noted for q, once `to` is met as a neighbour of `at`
+abbrev pub noted : List Pos → Pos → Option (Pos × Pos) → Pos → Pos → Option (Pos × Pos)
+noted stops q o at to = cond (among stops at) o (cond (is_eq (position_cmp at q)) (Some (joined o to)) o)
+
+-- what is noted for q, once the segments are met
+abbrev pub noted_all : List Pos → Pos → Option (Pos × Pos) → List Segment → Option (Pos × Pos)
+noted_all stops q o [] = o
+noted_all stops q o (s ∷ ss) = noted_all stops q (noted stops q (noted stops q o s.lesser s.greater) s.greater s.lesser) ss

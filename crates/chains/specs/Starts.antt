@@ -1,0 +1,29 @@
+-- Where the cut of a ring begins.
+use Rattle.std.specs.Prelude.{◌≡◌, ℕ, ◌+◌, Bool, not, true, false, cond, List, [], ◌∷◌, ◌++◌, length, take, drop}
+use Rattle.std.specs.Ordering.{is_lt, bool_cmp, ordering_then}
+use Rattle.std.specs.declared.cmp.Ordering.{Ordering}
+use Rattle.grid.specs.declared.pos.Pos.{Pos}
+use Rattle.lines.specs.Turned.{position_cmp}
+use Rattle.chains.specs.declared.starts.Start.{Start}
+
+abbrev pub start_of : (Pos → Bool) → Pos → Pos → Start
+start_of stop a b = record { passed = not (stop a); from = a; to = b }
+
+abbrev pub start_cmp : Start → Start → Ordering
+start_cmp s t = ordering_then (bool_cmp s.passed t.passed) (ordering_then (position_cmp s.from t.from) (position_cmp s.to t.to))
+
+-- each vertex with the one after it, the last with the first
+abbrev pub starts_from : (Pos → Bool) → Pos → Pos → List Pos → List Start
+starts_from stop first here [] = start_of stop here first ∷ []
+starts_from stop first here (next ∷ rest) = start_of stop here next ∷ starts_from stop first next rest
+
+-- the place of the first least start, where the list goes on at place i
+abbrev pub least_from : ℕ → Start → ℕ → List Start → ℕ
+least_from best least i [] = best
+least_from best least i (s ∷ l) = least_from (cond (is_lt (start_cmp s least)) i best) (cond (is_lt (start_cmp s least)) s least) (i + 1) l
+
+-- the place of the ring's least junction, or of its least vertex where it has no junction
+abbrev pub start_place : (Pos → Bool) → List Pos → ℕ
+start_place stop [] = 0
+start_place stop (x ∷ []) = 0
+start_place stop (x ∷ (y ∷ r)) = least_from 0 (start_of stop x y) 1 (starts_from stop x y r)

@@ -1,0 +1,196 @@
+//! Cutting lines and rings at junctions.
+ghost use Rattle.std.specs.Prelude.{◌≡◌, ◌∷◌, ◌<◌, ◌≤◌, ◌+◌, [], IfOk, map, reverse, length};
+ghost use Rattle.lines.specs.Turned.{position_cmp, list_cmp};
+ghost use Rattle.theory.specs.Cut.{Each};
+ghost use Rattle.theory.specs.Geometry.{Geometry, IsSound, IsLineOf, IsRingOf, ArePiecesOf, AreRingPiecesOf};
+ghost use Rattle.grid.specs.declared.pos.Pos.{Pos};
+ghost use Rattle.chains.specs.Pairs.{among};
+ghost use Rattle.chains.specs.Index.{IsIndexOf};
+ghost use Rattle.chains.specs.Seen.{line_of, ring_of};
+ghost use Rattle.chains.specs.Pieces as spec;
+ghost use Rattle.chains.specs.Pieces.{used, chain_of, oriented, opened_at, cut_list, ring_parts, line_pieces, ring_pieces, ArePieces};
+
+use crate::starts::place_of_start;
+use crate::visits::VisitIndex;
+use faults::OutOfMemory;
+use grid::pos::Pos;
+use lines::items::Items;
+use lines::line::Line;
+use lines::ring::Ring;
+use std::alloc::{AllocError, Global};
+use std::cmp::Ordering;
+
+/// A chain in its least direction, with whether it is used against that direction, and whether it is
+/// a free loop: a ring without a junction.
+#[derive(Debug, Drop)]
+pub struct Piece {
+    chain: Items<Pos>,
+    reversed: bool,
+    free: bool,
+}
+
+fn compare_backwards(chain: &[Pos]) -> Ordering
+    ensures { result ≡ list_cmp (reverse chain.now) chain.now }
+{
+    chain.iter().rev().cmp(chain.iter())
+}
+
+fn is_backwards_less(chain: &[Pos]) -> bool
+    ensures { result ≡ spec.is_backwards_less chain.now }
+{
+    compare_backwards(chain).is_lt()
+}
+
+/// Of a chain and its reverse the lesser, and whether it is the reverse.
+fn least_direction(mut chain: Vec<Pos>) -> (Vec<Pos>, bool)
+    ensures chain { result.0.items ≡ spec.least_direction chain.items }
+    ensures reversed { result.1 ≡ spec.is_backwards_less chain.items }
+{
+    let reversed = is_backwards_less(&chain);
+    if reversed {
+        chain.reverse();
+    }
+    (chain, reversed)
+}
+
+impl Piece {
+    pub(crate) fn new(chain: Vec<Pos>, free: bool) -> Piece
+        ensures { result ≡ record { chain = spec.least_direction chain.items; reversed = spec.is_backwards_less chain.items; free = free } }
+    {
+        let (least, reversed) = least_direction(chain);
+        Piece {
+            chain: Items::from_vec(least),
+            reversed,
+            free,
+        }
+    }
+
+    pub(crate) fn into_chain(self) -> Items<Pos>
+        ensures { result ≡ chain_of self }
+    {
+        self.chain
+    }
+
+    pub(crate) fn items(&self) -> &Items<Pos>
+        ensures { result.now ≡ chain_of self.now }
+    {
+        &self.chain
+    }
+
+    /// The positions of the chain in its least direction.
+    pub fn chain(&self) -> &[Pos]
+        ensures { result.now ≡ chain_of self.now }
+    {
+        self.chain.as_slice()
+    }
+
+    /// Whether the line or ring runs along the chain against its least direction.
+    pub fn reversed(&self) -> bool
+        ensures { result ≡ spec.is_reversed self.now }
+    {
+        self.reversed
+    }
+
+    /// Whether the chain is a free loop: no junction lies on it.
+    pub fn is_free(&self) -> bool
+        ensures { result ≡ spec.is_free self.now }
+    {
+        self.free
+    }
+}
+
+/// Whether no junction stands first in a chain.
+fn begins_free(index: &VisitIndex, chain: &[Pos]) -> bool
+    ensures { result ≡ spec.begins_free (among index.now) chain.now }
+{
+    match chain.first() {
+        Some(first) => !index.is_junction(*first),
+        None => false,
+    }
+}
+
+fn piece_of(alloc: Global, index: &VisitIndex, chain: &[Pos]) -> Result<Piece, AllocError>
+    ensures { IfOk result (λ p. p ≡ oriented (among index.now) chain.now) }
+{
+    let free = begins_free(index, chain);
+    Ok(Piece::new(chain.to_vec(alloc)?, free))
+}
+
+/// The list cut at its stops; what is behind the last stop is dropped.
+fn cut(alloc: Global, index: &VisitIndex, line: &[Pos]) -> Result<Vec<Piece>, AllocError>
+    ensures { IfOk result (λ v. v.items ≡ line_pieces index.now line.now) }
+{
+    let mut pieces = Vec::new(alloc);
+    let mut begin = 0;
+    for i in 1..line.len() {
+        if index.is_junction(line[i]) {
+            pieces.push(piece_of(alloc, index, &line[begin..i + 1])?)?;
+            begin = i;
+        }
+    }
+    Ok(pieces)
+}
+
+/// The ring begun at a place, and closed.
+fn opened(alloc: Global, ring: &[Pos], at: usize) -> Result<Vec<Pos>, AllocError>
+    requires { at < length ring.now }
+    ensures { IfOk result (λ v. v.items ≡ opened_at at ring.now) }
+{
+    let mut closed = Vec::with_capacity(alloc, ring.len())?;
+    closed.extend_from_slice(&ring[at..])?;
+    closed.extend_from_slice(&ring[..at])?;
+    closed.push(ring[at])?;
+    Ok(closed)
+}
+
+/// One piece alone.
+fn alone(alloc: Global, index: &VisitIndex, chain: Vec<Pos>) -> Result<Vec<Piece>, AllocError>
+    ensures { IfOk result (λ v. v.items ≡ oriented (among index.now) chain.items ∷ []) }
+{
+    let free = begins_free(index, &chain);
+    let mut pieces = Vec::new(alloc);
+    pieces.push(Piece::new(chain, free))?;
+    Ok(pieces)
+}
+
+fn ring_cut(alloc: Global, index: &VisitIndex, ring: &[Pos]) -> Result<Vec<Piece>, AllocError>
+    ensures { IfOk result (λ v. v.items ≡ ring_pieces index.now ring.now) }
+{
+    let at = place_of_start(index, ring);
+    if at >= ring.len() {
+        return Ok(Vec::new(alloc));
+    }
+    let closed = opened(alloc, ring, at)?;
+    if index.is_junction(ring[at]) {
+        cut(alloc, index, &closed)
+    } else {
+        alone(alloc, index, closed)
+    }
+}
+
+/// The pieces of a line of the map, in order along it.
+///
+/// # Errors
+/// Where memory is refused.
+pub fn cut_line(alloc: Global, index: &VisitIndex, line: &Line) -> Result<Vec<Piece>, OutOfMemory>
+    ensures computed { IfOk result (λ v. v.items ≡ line_pieces index.now (line_of line.now)) }
+    ensures stitch { IfOk result (λ v. (g : Geometry Pos) → IsSound g → IsLineOf g (line_of line.now) → IsIndexOf index.now g → ArePiecesOf position_cmp g (line_of line.now) (map used v.items)) }
+    ensures pieces { IfOk result (λ v. (g : Geometry Pos) → IsSound g → IsLineOf g (line_of line.now) → IsIndexOf index.now g → ArePieces g v.items) }
+{
+    let pieces = cut(alloc, index, line.positions())?;
+    Ok(pieces)
+}
+
+/// The pieces of a ring of the map, in order along it from the least of its rotations that begin at
+/// its least junction, or at its least vertex where it has none.
+///
+/// # Errors
+/// Where memory is refused.
+pub fn cut_ring(alloc: Global, index: &VisitIndex, ring: &Ring) -> Result<Vec<Piece>, OutOfMemory>
+    ensures computed { IfOk result (λ v. v.items ≡ ring_pieces index.now (ring_of ring.now)) }
+    ensures stitch { IfOk result (λ v. (g : Geometry Pos) → IsSound g → IsRingOf g (ring_of ring.now) → IsIndexOf index.now g → AreRingPiecesOf position_cmp g (ring_of ring.now) (map used v.items)) }
+    ensures pieces { IfOk result (λ v. (g : Geometry Pos) → IsSound g → IsRingOf g (ring_of ring.now) → IsIndexOf index.now g → ArePieces g v.items) }
+{
+    let pieces = ring_cut(alloc, index, ring.vertices())?;
+    Ok(pieces)
+}

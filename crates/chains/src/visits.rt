@@ -1,0 +1,249 @@
+//! The index of visits: one list of visits, sorted once, of which the junctions are kept.
+ghost use Rattle.std.specs.Prelude.{◌≡◌, ◌++◌, ◌↔◌, map as map_list, IfOk, OnOk, IsTrue};
+ghost use Rattle.theory.specs.Geometry.{Geometry, JunctionOf};
+ghost use Rattle.theory.specs.Topology.{gathered, joined};
+ghost use Rattle.grid.specs.declared.pos.Pos.{Pos};
+ghost use Rattle.chains.specs.Pairs.{among, pair_of};
+ghost use Rattle.chains.specs.Visits.{visit_of, inner_of, ends_of, around_of, clash, clashes_of};
+ghost use Rattle.chains.specs.Seen.{line_of, ring_of, form_of, geometry_of};
+ghost use Rattle.chains.specs.Index.{IsIndexOf, AreVisitsOf, feature_ends, feature_visits, form_ends, form_visits};
+
+use faults::OutOfMemory;
+use grid::pos::Pos;
+use lines::items::Items;
+use lines::line::Line;
+use lines::ring::Ring;
+use shapes::feature::Feature;
+use shapes::feature_map::FeatureMap;
+use shapes::shape::Shape;
+use std::alloc::{AllocError, Global};
+use std::collections::BTreeSet;
+use std::marker::Model;
+
+/// The unordered pair of a vertex's two neighbours, the lesser first.
+#[derive(Clone, Copy, PartialEq, Eq, Debug)]
+struct Sides {
+    lesser: Pos,
+    greater: Pos,
+}
+
+fn sides_between(a: Pos, b: Pos) -> Sides
+    ensures { result ≡ pair_of a b }
+{
+    if a < b {
+        Sides {
+            lesser: a,
+            greater: b,
+        }
+    } else {
+        Sides {
+            lesser: b,
+            greater: a,
+        }
+    }
+}
+
+/// A vertex and its two neighbours.
+#[derive(Clone, Copy, PartialEq, Eq, Debug)]
+struct Visit {
+    vertex: Pos,
+    sides: Sides,
+}
+
+fn visit_between(before: Pos, here: Pos, next: Pos) -> Visit
+    ensures { result ≡ visit_of before here next }
+{
+    Visit {
+        vertex: here,
+        sides: sides_between(before, next),
+    }
+}
+
+/// What lines and rings are seen to visit: the ends of the lines apart from the other visits.
+#[derive(Drop)]
+struct Seen {
+    ends: Vec<Pos>,
+    visits: Vec<Visit>,
+}
+
+impl Seen {
+    fn see_line(&mut self, line: &[Pos]) -> Result<(), AllocError>
+        ensures ends { OnOk result (self.new.ends.items ≡ self.old.ends.items ++ ends_of line.now) }
+        ensures visits { OnOk result (self.new.visits.items ≡ self.old.visits.items ++ inner_of line.now) }
+    {
+        let Some((first, others)) = line.split_first() else {
+            return Ok(());
+        };
+        self.ends.push(*first)?;
+        let Some((second, rest)) = others.split_first() else {
+            return Ok(());
+        };
+        let mut before = *first;
+        let mut here = *second;
+        for next in rest {
+            self.visits.push(visit_between(before, here, *next))?;
+            before = here;
+            here = *next;
+        }
+        self.ends.push(here)?;
+        Ok(())
+    }
+
+    fn see_ring(&mut self, ring: &[Pos]) -> Result<(), AllocError>
+        ensures ends { OnOk result (self.new.ends.items ≡ self.old.ends.items) }
+        ensures visits { OnOk result (self.new.visits.items ≡ self.old.visits.items ++ around_of ring.now) }
+    {
+        let Some((first, others)) = ring.split_first() else {
+            return Ok(());
+        };
+        let Some((second, rest)) = others.split_first() else {
+            return Ok(());
+        };
+        let mut before = *first;
+        let mut here = *second;
+        for next in rest {
+            self.visits.push(visit_between(before, here, *next))?;
+            before = here;
+            here = *next;
+        }
+        self.visits.push(visit_between(before, here, *first))?;
+        self.visits.push(visit_between(here, *first, *second))?;
+        Ok(())
+    }
+
+    fn see_lines(&mut self, lines: &[Line]) -> Result<(), AllocError>
+        ensures ends { OnOk result (self.new.ends.items ≡ self.old.ends.items ++ gathered ends_of (map_list line_of lines.now)) }
+        ensures visits { OnOk result (self.new.visits.items ≡ self.old.visits.items ++ gathered inner_of (map_list line_of lines.now)) }
+    {
+        for line in lines {
+            self.see_line(line.positions())?;
+        }
+        Ok(())
+    }
+
+    fn see_rings(&mut self, rings: &[Ring]) -> Result<(), AllocError>
+        ensures ends { OnOk result (self.new.ends.items ≡ self.old.ends.items) }
+        ensures visits { OnOk result (self.new.visits.items ≡ self.old.visits.items ++ gathered around_of (map_list ring_of rings.now)) }
+    {
+        for ring in rings {
+            self.see_ring(ring.vertices())?;
+        }
+        Ok(())
+    }
+
+    fn see_polygons(&mut self, polygons: &[Items<Ring>]) -> Result<(), AllocError>
+        ensures ends { OnOk result (self.new.ends.items ≡ self.old.ends.items) }
+        ensures visits { OnOk result (self.new.visits.items ≡ self.old.visits.items ++ gathered around_of (joined (map_list (map_list ring_of) polygons.now))) }
+    {
+        for rings in polygons {
+            self.see_rings(rings.as_slice())?;
+        }
+        Ok(())
+    }
+
+    fn see_shape(&mut self, shape: &Shape) -> Result<(), AllocError>
+        ensures ends { OnOk result (self.new.ends.items ≡ self.old.ends.items ++ form_ends (form_of shape.now)) }
+        ensures visits { OnOk result (self.new.visits.items ≡ self.old.visits.items ++ form_visits (form_of shape.now)) }
+    {
+        match shape {
+            Shape::Null | Shape::Point(_) | Shape::MultiPoint(_) => Ok(()),
+            Shape::Line(line) => self.see_line(line.positions()),
+            Shape::MultiLine(lines) => self.see_lines(lines.as_slice()),
+            Shape::Polygon(rings) => self.see_rings(rings.as_slice()),
+            Shape::MultiPolygon(polygons) => self.see_polygons(polygons.as_slice()),
+        }
+    }
+
+    fn see_features(&mut self, features: &BTreeSet<Feature>) -> Result<(), AllocError>
+        ensures ends { OnOk result (self.new.ends.items ≡ self.old.ends.items ++ gathered feature_ends features.now.keys) }
+        ensures visits { OnOk result (self.new.visits.items ≡ self.old.visits.items ++ gathered feature_visits features.now.keys) }
+    {
+        for feature in features {
+            self.see_shape(&feature.shape)?;
+        }
+        Ok(())
+    }
+}
+
+fn is_clash(a: Visit, b: Visit) -> bool
+    ensures { result ≡ clash a b }
+{
+    a.vertex == b.vertex && a != b
+}
+
+fn keep_clashes(kept: &mut Vec<Pos>, visits: &[Visit]) -> Result<(), AllocError>
+    ensures { OnOk result (kept.new.items ≡ kept.old.items ++ clashes_of visits.now) }
+{
+    let Some((first, others)) = visits.split_first() else {
+        return Ok(());
+    };
+    let mut before = *first;
+    for visit in others {
+        if is_clash(*visit, before) {
+            kept.push(visit.vertex)?;
+        }
+        before = *visit;
+    }
+    Ok(())
+}
+
+/// The junctions of a map, sorted.
+///
+/// A vertex is a junction where a line ends in it, or where lines and rings visit it with different
+/// pairs of neighbours (topojson-server; that a closed line ends at its first vertex is this
+/// project's own rule).
+#[derive(Drop)]
+pub struct VisitIndex {
+    junctions: Vec<Pos>,
+}
+
+impl Model for VisitIndex {
+    ghost use Rattle.std.specs.Prelude.{List};
+    ghost use Rattle.std.specs.List.Sorted.{IsSorted};
+    ghost use Rattle.grid.specs.declared.pos.Pos.{Pos};
+    ghost use Rattle.lines.specs.Turned.{position_cmp};
+
+    ghost Value = { List Pos };
+
+    ghost view = { λ a. a.junctions.items };
+
+    ghost invariant = { λ a. IsSorted position_cmp a.junctions.items };
+}
+
+impl VisitIndex {
+    fn of_seen(seen: Seen) -> Result<VisitIndex, AllocError>
+        ensures { IfOk result (λ i. (g : Geometry Pos) → AreVisitsOf seen.ends.items seen.visits.items g → IsIndexOf i g) }
+    {
+        let Seen { ends, visits } = seen;
+        let mut sorted_visits = visits;
+        sorted_visits.sort_unstable_by_key(|v| v.vertex);
+        let mut junctions = ends;
+        keep_clashes(&mut junctions, &sorted_visits)?;
+        junctions.sort_unstable();
+        Ok(VisitIndex { junctions })
+    }
+
+    /// The index of all lines and rings of a map.
+    pub fn of(alloc: Global, map: &FeatureMap) -> Result<VisitIndex, OutOfMemory>
+        ensures { IfOk result (λ i. IsIndexOf i (geometry_of map.now)) }
+    {
+        let mut seen = Seen {
+            ends: Vec::new(alloc),
+            visits: Vec::new(alloc),
+        };
+        for name in map.names()? {
+            if let Some(features) = map.layer(name.text()) {
+                seen.see_features(features)?;
+            }
+        }
+        Ok(VisitIndex::of_seen(seen)?)
+    }
+
+    /// Whether a position is a junction.
+    pub fn is_junction(&self, p: Pos) -> bool
+        ensures among { result ≡ among self.now p }
+        ensures junction { (g : Geometry Pos) → IsIndexOf self.now g → IsTrue result ↔ JunctionOf g p }
+    {
+        self.junctions.binary_search(&p).is_ok()
+    }
+}
