@@ -1,8 +1,8 @@
 -- The index of a map's junctions.
 use Rattle.std.specs.Prelude.{◌≡◌, List, [], ◌∷◌, ◌++◌, map as map_list}
-use Rattle.theory.specs.Chain.{Has}
-use Rattle.theory.specs.Topology.{Shape, lines_in, rings_in, gathered}
-use Rattle.theory.specs.Map.{Visits}
+use Rattle.theory.specs.Lists.{Has, gathered}
+use Rattle.theory.specs.Topology.{Shape, lines_in, rings_in}
+use Rattle.theory.specs.Junction.{Visits}
 use Rattle.theory.specs.Map.Visit.{end, pair}
 use Rattle.theory.specs.Geometry.{Geometry, IsLineOf, IsRingOf, JunctionOf}
 use Rattle.grid.specs.declared.pos.Pos.{Pos}

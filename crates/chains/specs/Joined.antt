@@ -2,10 +2,12 @@
 use Rattle.std.specs.Prelude.{◌≡◌, ℕ, true, List, [], ◌∷◌, reverse, ◌⊎◌, Some, slice_get}
 use Rattle.std.specs.BTreeMap.{BTreeMap}
 use Rattle.std.specs.declared.cmp.Ordering.TheVariants.{Less}
-use Rattle.theory.specs.Chain.{Has, Beside, IsChain, TwoSegments}
-use Rattle.theory.specs.Grow.{Free}
-use Rattle.theory.specs.Join.{Joining}
-use Rattle.theory.specs.Geometry.{AtMost, Ascends}
+use Rattle.theory.specs.Lists.{Has, Beside}
+use Rattle.theory.specs.Chain.{IsChain, Free}
+use Rattle.theory.specs.Segments.{TwoSegments}
+use Rattle.theory.specs.Walking.{Joining}
+use Rattle.theory.specs.Geometry.{AtMost}
+use Rattle.theory.specs.Arcs.{Ascends}
 use Rattle.grid.specs.declared.pos.Pos.{Pos}
 use Rattle.lines.specs.Turned.{position_cmp, list_cmp}
 use Rattle.chains.specs.Arcs.{Arcs}

@@ -1,10 +1,11 @@
 -- Pieces of lines and rings.
 use Rattle.std.specs.Prelude.{◌≡◌, ℕ, Bool, true, false, not, cond, List, [], ◌∷◌, ◌++◌, length, take, drop, reverse, map}
 use Rattle.std.specs.Ordering.{is_lt}
-use Rattle.theory.specs.Chain.{Has}
-use Rattle.theory.specs.Cut.{cut_from}
-use Rattle.theory.specs.Grow.{Free}
-use Rattle.theory.specs.Geometry.{Geometry, JunctionOf, IsArcOf}
+use Rattle.theory.specs.Lists.{Has}
+use Rattle.theory.specs.Cutting.{cut_from}
+use Rattle.theory.specs.Chain.{Free}
+use Rattle.theory.specs.Geometry.{Geometry, JunctionOf}
+use Rattle.theory.specs.Arcs.{IsArcOf}
 use Rattle.grid.specs.declared.pos.Pos.{Pos}
 use Rattle.lines.specs.Turned.{position_cmp, list_cmp}
 use Rattle.chains.specs.Pairs.{among, Tells}

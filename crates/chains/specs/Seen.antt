@@ -13,7 +13,8 @@ use Rattle.shapes.specs.declared.shape.Shape.TheVariants as of
 use Rattle.shapes.specs.declared.feature.Feature.{Feature}
 use Rattle.theory.specs.Geometry.{Geometry}
 use Rattle.theory.specs.Topology as topology
-use Rattle.theory.specs.Topology.{Form, Shape, Item, Layer, Map, null, point, points, line, lines, polygon, polygons, gathered, joined}
+use Rattle.theory.specs.Topology.{Form, Shape, Item, Layer, Map, null, point, points, line, lines, polygon, polygons}
+use Rattle.theory.specs.Lists.{gathered, joined}
 
 -- what a feature keeps beside its shape: its id and its properties
 abbrev pub Info : Type 0

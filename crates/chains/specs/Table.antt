@@ -2,10 +2,12 @@
 use Rattle.std.specs.Prelude.{◌≡◌, ℕ, Bool, true, false, cond, List, [], ◌∷◌, ◌++◌, map, Option, Some, None, slice_get}
 use Rattle.std.specs.Option.{option_map}
 use Rattle.std.specs.List.{position}
-use Rattle.theory.specs.Chain.{Has, Begins}
-use Rattle.theory.specs.Grow.{Free}
-use Rattle.theory.specs.Geometry.{Geometry, JunctionOf, AreArcsOf, EachSegmentOnce, HaveAllPieces}
-use Rattle.theory.specs.Numbers.{ArcRef}
+use Rattle.theory.specs.Lists.{Has, Begins}
+use Rattle.theory.specs.Chain.{Free}
+use Rattle.theory.specs.Geometry.{Geometry, JunctionOf}
+use Rattle.theory.specs.Arcs.{AreArcsOf, EachSegmentOnce}
+use Rattle.theory.specs.Stitching.{HaveAllPieces}
+use Rattle.theory.specs.ArcNumbers.{ArcRef}
 use Rattle.grid.specs.declared.pos.Pos.{Pos}
 use Rattle.lines.specs.Turned.{position_cmp}
 use Rattle.chains.specs.Pairs.{position_eq, among, Tells}

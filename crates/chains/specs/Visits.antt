@@ -1,7 +1,7 @@
 -- The visits of lists, as a list.
 use Rattle.std.specs.Prelude.{◌≡◌, Bool, true, false, cond, not, ◌&&◌, List, [], ◌∷◌, ◌++◌}
-use Rattle.theory.specs.Chain.{last_of}
-use Rattle.theory.specs.Map.{around}
+use Rattle.theory.specs.Lists.{last_of}
+use Rattle.theory.specs.LinesAndRings.{around}
 use Rattle.grid.specs.declared.pos.Pos.{Pos}
 use Rattle.chains.specs.Pairs.{position_eq, sides_eq, pair_of}
 use Rattle.chains.specs.declared.visits.Visit.{Visit}

@@ -1,7 +1,7 @@
 -- Walks along noted links.
 use Rattle.std.specs.Prelude.{◌≡◌, List, ◌∷◌, ◌++◌, Option}
 use Rattle.std.specs.BTreeMap.{BTreeMap, get}
-use Rattle.theory.specs.Join.{Walked}
+use Rattle.theory.specs.Walking.{Walked}
 use Rattle.grid.specs.declared.pos.Pos.{Pos}
 use Rattle.lines.specs.Turned.{position_cmp}
 

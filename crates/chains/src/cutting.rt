@@ -1,8 +1,9 @@
 //! Cutting lines and rings at junctions.
 ghost use Rattle.std.specs.Prelude.{◌≡◌, ◌∷◌, ◌<◌, ◌≤◌, ◌+◌, [], IfOk, map, reverse, length};
 ghost use Rattle.lines.specs.Turned.{position_cmp, list_cmp};
-ghost use Rattle.theory.specs.Cut.{Each};
-ghost use Rattle.theory.specs.Geometry.{Geometry, IsSound, IsLineOf, IsRingOf, ArePiecesOf, AreRingPiecesOf};
+ghost use Rattle.theory.specs.Lists.{Each};
+ghost use Rattle.theory.specs.Geometry.{Geometry, IsSound, IsLineOf, IsRingOf};
+ghost use Rattle.theory.specs.Stitching.{ArePiecesOf, AreRingPiecesOf};
 ghost use Rattle.grid.specs.declared.pos.Pos.{Pos};
 ghost use Rattle.chains.specs.Pairs.{among};
 ghost use Rattle.chains.specs.Index.{IsIndexOf};

@@ -3,9 +3,10 @@ ghost use Rattle.std.specs.Prelude.{◌≡◌, ◌↔◌, ◌<◌, ◌^◌, IfOk
 ghost use Rattle.std.specs.Option.{option_map};
 ghost use Rattle.indexmap.specs.IndexSet.{insert_all, IsUnique};
 ghost use Rattle.lines.specs.Turned.{position_cmp, list_cmp};
-ghost use Rattle.theory.specs.Chain.{Has};
-ghost use Rattle.theory.specs.Geometry.{Geometry, IsSound, AreSortedOnce};
-ghost use Rattle.theory.specs.Numbers.{along, index_of};
+ghost use Rattle.theory.specs.Lists.{Has};
+ghost use Rattle.theory.specs.Geometry.{Geometry, IsSound};
+ghost use Rattle.theory.specs.Arcs.{AreSortedOnce};
+ghost use Rattle.theory.specs.ArcNumbers.{along, index_of};
 ghost use Rattle.grid.specs.declared.pos.Pos.{Pos};
 ghost use Rattle.chains.specs.Pieces.{used, chain_of};
 ghost use Rattle.chains.specs.Table.{same_list, seams_of, found_in, free_at, AreSeamsOf, ArePiecesOfMap, IsTableOf};

@@ -1,7 +1,7 @@
 //! The index of visits: one list of visits, sorted once, of which the junctions are kept.
 ghost use Rattle.std.specs.Prelude.{◌≡◌, ◌++◌, ◌↔◌, map as map_list, IfOk, OnOk, IsTrue};
 ghost use Rattle.theory.specs.Geometry.{Geometry, JunctionOf};
-ghost use Rattle.theory.specs.Topology.{gathered, joined};
+ghost use Rattle.theory.specs.Lists.{gathered, joined};
 ghost use Rattle.grid.specs.declared.pos.Pos.{Pos};
 ghost use Rattle.chains.specs.Pairs.{among, pair_of};
 ghost use Rattle.chains.specs.Visits.{visit_of, inner_of, ends_of, around_of, clash, clashes_of};
