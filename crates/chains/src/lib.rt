@@ -15,5 +15,5 @@ pub use segment::Segment;
 pub use table::{ArcRef, ArcTable};
 pub use visits::VisitIndex;
 
-
-
+#[cfg(test)]
+mod tests;

@@ -1,0 +1,217 @@
+use crate::{ArcTable, Piece, Segment, VisitIndex, cut_line, cut_ring, maximal};
+use grid::pos::Pos;
+use shapes::{Feature, FeatureMap, Id, Items, Line, Props, Ring, Shape};
+use std::alloc::Global;
+use std::collections::BTreeSet;
+use std::process::Abort;
+use std::test::Fail;
+
+fn positions(alloc: Global, places: &[(i64, i64)]) -> Result<Vec<Pos>, Fail> {
+    let mut made = Vec::new(alloc);
+    for (x, y) in places {
+        made.push(Pos::new(*x, *y).ok_or("outside the limits")?)?;
+    }
+    Ok(made)
+}
+
+fn line(alloc: Global, places: &[(i64, i64)]) -> Result<Line, Fail> {
+    Ok(Line::from_positions(alloc, positions(alloc, places)?)?)
+}
+
+fn ring(alloc: Global, places: &[(i64, i64)]) -> Result<Ring, Fail> {
+    Ok(Ring::from_closed(alloc, positions(alloc, places)?)?)
+}
+
+/// The map of one layer with these lines and polygons of one ring.
+fn map_of(alloc: Global, lines: &[&[(i64, i64)]], rings: &[&[(i64, i64)]]) -> Result<FeatureMap, Fail> {
+    let mut map = FeatureMap::new(alloc);
+    map.add_layer("a")?;
+    for places in lines {
+        put(alloc, &mut map, Shape::Line(line(alloc, places)?))?;
+    }
+    for places in rings {
+        let mut one = Vec::new(alloc);
+        one.push(ring(alloc, places)?)?;
+        put(alloc, &mut map, Shape::Polygon(Items::from_vec(one)))?;
+    }
+    Ok(map)
+}
+
+/// Puts a feature of a shape alone into the layer.
+fn put(alloc: Global, map: &mut FeatureMap, shape: Shape) -> Result<(), Fail> {
+    let feature = Feature {
+        id: Id::None,
+        props: Props::empty(alloc)?,
+        shape,
+    };
+    map.insert("a", feature)?;
+    Ok(())
+}
+
+/// Compares the arcs of a table.
+fn check(
+    rt: &impl Abort,
+    alloc: Global,
+    table: &ArcTable,
+    arcs: &[&[(i64, i64)]],
+) -> Result<(), Fail> {
+    assert_eq!(rt; table.len(), arcs.len());
+    for (i, places) in arcs.iter().enumerate() {
+        let expected = positions(alloc, places)?;
+        assert_eq!(rt; table.arc(i), Some(expected.as_slice()), "arc {i}");
+    }
+    assert_eq!(rt; table.arc(arcs.len()), None);
+    Ok(())
+}
+
+/// The indexes of pieces in a table.
+fn indexes(alloc: Global, table: &ArcTable, pieces: &[Piece]) -> Result<Vec<i64>, Fail> {
+    let mut made = Vec::new(alloc);
+    for piece in pieces {
+        let found = table.find(piece).ok_or("no arc")?;
+        made.push(if found.reversed { -1 - found.arc as i64 } else { found.arc as i64 })?;
+    }
+    Ok(made)
+}
+
+/// The pieces of all these lines and rings of a map.
+fn all_pieces(
+    alloc: Global,
+    index: &VisitIndex,
+    lines: &[&[(i64, i64)]],
+    rings: &[&[(i64, i64)]],
+) -> Result<Vec<Piece>, Fail> {
+    let mut pieces = Vec::new(alloc);
+    for places in lines {
+        pieces.append(&mut cut_line(alloc, index, &line(alloc, places)?)?)?;
+    }
+    for places in rings {
+        pieces.append(&mut cut_ring(alloc, index, &ring(alloc, places)?)?)?;
+    }
+    Ok(pieces)
+}
+
+const TRIANGLE: &[(i64, i64)] = &[(0, 0), (2, 0), (0, 2), (0, 0)];
+
+#[test]
+fn a_free_loop_used_reversed(rt: HostRuntime) -> Result<(), Fail> {
+    let alloc = rt.alloc();
+    let index = VisitIndex::of(alloc, &map_of(alloc, &[], &[TRIANGLE])?)?;
+    let pieces = all_pieces(alloc, &index, &[], &[TRIANGLE])?;
+    assert_eq!(rt; pieces.len(), 1);
+    let loop_positions = positions(alloc, &[(0, 0), (0, 2), (2, 0), (0, 0)])?;
+    for piece in &pieces {
+        assert_eq!(rt; piece.chain(), loop_positions.as_slice());
+        assert!(rt; piece.reversed());
+        assert!(rt; piece.is_free());
+    }
+    let table = ArcTable::from_pieces(alloc, pieces)?;
+    assert!(rt; table.is_free(0));
+    assert!(rt; !table.is_free(1));
+    Ok(())
+}
+
+#[test]
+fn a_line_is_cut_where_another_leaves_it(rt: HostRuntime) -> Result<(), Fail> {
+    let alloc = rt.alloc();
+    let straight: &[(i64, i64)] = &[(0, 0), (1, 0), (2, 0)];
+    let bent: &[(i64, i64)] = &[(0, 0), (1, 0), (1, 1)];
+    let index = VisitIndex::of(alloc, &map_of(alloc, &[straight, bent], &[])?)?;
+    let pieces = all_pieces(alloc, &index, &[straight], &[])?;
+    assert_eq!(rt; pieces.len(), 2);
+    for piece in &pieces {
+        assert!(rt; !piece.reversed());
+        assert!(rt; !piece.is_free());
+    }
+    let table = ArcTable::from_pieces(alloc, pieces)?;
+    check(&rt, alloc, &table, &[&[(0, 0), (1, 0)], &[(1, 0), (2, 0)]])
+}
+
+#[test]
+fn one_piece_twice_and_none(rt: HostRuntime) -> Result<(), Fail> {
+    let alloc = rt.alloc();
+    let index = VisitIndex::of(alloc, &map_of(alloc, &[], &[TRIANGLE])?)?;
+    let twice = all_pieces(alloc, &index, &[], &[TRIANGLE, TRIANGLE])?;
+    assert_eq!(rt; ArcTable::from_pieces(alloc, twice)?.len(), 1);
+    let none = ArcTable::from_pieces(alloc, Vec::new(alloc))?;
+    check(&rt, alloc, &none, &[])
+}
+
+#[test]
+fn squares_that_touch(rt: HostRuntime) -> Result<(), Fail> {
+    let alloc = rt.alloc();
+    let first: &[(i64, i64)] = &[(0, 0), (1, 0), (1, 1), (0, 1), (0, 0)];
+    let second: &[(i64, i64)] = &[(1, 1), (2, 1), (2, 2), (1, 2), (1, 1)];
+    let index = VisitIndex::of(alloc, &map_of(alloc, &[], &[first, second])?)?;
+    let table = ArcTable::from_pieces(alloc, all_pieces(alloc, &index, &[], &[first, second])?)?;
+    let arcs: &[&[(i64, i64)]] = &[
+        &[(1, 1), (0, 1), (0, 0), (1, 0), (1, 1)],
+        &[(1, 1), (1, 2), (2, 2), (2, 1), (1, 1)],
+    ];
+    check(&rt, alloc, &table, arcs)?;
+    check(&rt, alloc, &table.copy(alloc)?, arcs)?;
+    assert!(rt; !table.is_free(0) && !table.is_free(1));
+    assert_eq!(rt; indexes(alloc, &table, &all_pieces(alloc, &index, &[], &[first])?)?.as_slice(), [0].as_slice());
+    assert_eq!(rt; indexes(alloc, &table, &all_pieces(alloc, &index, &[], &[second])?)?.as_slice(), [-2].as_slice());
+    Ok(())
+}
+
+#[test]
+fn a_ring_that_comes_to_a_vertex_again(rt: HostRuntime) -> Result<(), Fail> {
+    let alloc = rt.alloc();
+    let eight: &[(i64, i64)] = &[(0, 0), (2, 0), (1, 1), (0, 2), (2, 2), (1, 1), (0, 0)];
+    let index = VisitIndex::of(alloc, &map_of(alloc, &[], &[eight])?)?;
+    let table = ArcTable::from_pieces(alloc, all_pieces(alloc, &index, &[], &[eight])?)?;
+    let arcs: &[&[(i64, i64)]] = &[
+        &[(1, 1), (0, 0), (2, 0), (1, 1)],
+        &[(1, 1), (0, 2), (2, 2), (1, 1)],
+    ];
+    check(&rt, alloc, &table, arcs)?;
+    let used = indexes(alloc, &table, &all_pieces(alloc, &index, &[], &[eight])?)?;
+    assert_eq!(rt; used.as_slice(), [0, 1].as_slice());
+    Ok(())
+}
+
+#[test]
+fn a_line_that_comes_to_a_vertex_again(rt: HostRuntime) -> Result<(), Fail> {
+    let alloc = rt.alloc();
+    let crossing: &[(i64, i64)] = &[(0, 0), (1, 1), (2, 2), (2, 0), (1, 1), (0, 2)];
+    let index = VisitIndex::of(alloc, &map_of(alloc, &[crossing], &[])?)?;
+    let table = ArcTable::from_pieces(alloc, all_pieces(alloc, &index, &[crossing], &[])?)?;
+    let arcs: &[&[(i64, i64)]] = &[
+        &[(0, 0), (1, 1)],
+        &[(0, 2), (1, 1)],
+        &[(1, 1), (2, 0), (2, 2), (1, 1)],
+    ];
+    check(&rt, alloc, &table, arcs)?;
+    let used = indexes(alloc, &table, &all_pieces(alloc, &index, &[crossing], &[])?)?;
+    assert_eq!(rt; used.as_slice(), [0, -3, -2].as_slice());
+    Ok(())
+}
+
+#[test]
+fn segments_have_the_lesser_end_first(rt: HostRuntime) -> Result<(), Fail> {
+    let alloc = rt.alloc();
+    let places = positions(alloc, &[(1, 0), (0, 5)])?;
+    let (a, b) = (*places.first().ok_or("none")?, *places.last().ok_or("none")?);
+    let segment = Segment::new(a, b).ok_or("equal")?;
+    assert_eq!(rt; segment.ends(), (b, a));
+    assert_eq!(rt; Segment::new(b, a), Some(segment));
+    assert_eq!(rt; Segment::new(a, a), None);
+    Ok(())
+}
+
+#[test]
+fn maximal_chains_of_two_segments(rt: HostRuntime) -> Result<(), Fail> {
+    let alloc = rt.alloc();
+    let places = positions(alloc, &[(0, 0), (1, 0), (2, 0)])?;
+    let mut segments = BTreeSet::new(alloc);
+    let mut stops = BTreeSet::new(alloc);
+    for pair in places.windows(2) {
+        segments.insert(Segment::new(pair[0], pair[1]).ok_or("equal")?)?;
+        stops.insert(pair[0])?;
+        stops.insert(pair[1])?;
+    }
+    let table = maximal(alloc, &segments, &stops)?;
+    check(&rt, alloc, &table, &[&[(0, 0), (1, 0)], &[(1, 0), (2, 0)]])
+}
