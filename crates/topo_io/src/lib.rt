@@ -1,2 +1,6 @@
-//! Under construction.
+//! Texts of topologies in and out (TopoJSON, section 2).
 #![tactic(auto)]
+
+pub mod read;
+
+pub use read::read;
