@@ -1,2 +1,12 @@
-//! Under construction.
+//! The topology of a map (TopoJSON section 2.1): its arcs, each once, and each line and ring as a list
+//! of arcs.
 #![tactic(auto)]
+
+mod bounds;
+pub mod geom;
+pub mod topology;
+pub mod walk;
+
+pub use geom::{Body, Geom};
+pub use topology::{Layer, Topology};
+pub use walk::Walk;
