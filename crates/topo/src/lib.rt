@@ -3,6 +3,8 @@
 #![tactic(auto)]
 
 mod bounds;
+mod building;
+mod expanding;
 pub mod geom;
 pub mod topology;
 pub mod walk;
@@ -10,3 +12,6 @@ pub mod walk;
 pub use geom::{Body, Geom};
 pub use topology::{Layer, Topology};
 pub use walk::Walk;
+
+#[cfg(test)]
+mod tests;
