@@ -1,0 +1,37 @@
+-- The text of the items that an iterator gave so far.
+use Rattle.std.proofs.Common.{◌≡◌, ℕ, List, [], ◌∷◌, ◌++◌, refl, sym, subst, ◌∙◌, ap, append-nil, append_assoc, codes}
+use Rattle.sinks.specs.Seen.{Seen}
+use Rattle.sinks.specs.Texts.{after_comma, after_commas, joined, separator}
+use Rattle.sinks.specs.Writes.{TookAll, TookPart}
+use Rattle.sinks.proofs.Writes.{all_all, all_part, part_more}
+
+one_more_after : {X : Type 0} (f : X → List ℕ) (xs : List X) (x : X) → after_commas f (xs ++ (x ∷ [])) ≡ after_commas f xs ++ after_comma f x
+one_more_after f [] x = append-nil (after_comma f x)
+one_more_after f (y ∷ ys) x =
+    ap (λ l. after_comma f y ++ l) (one_more_after f ys x) ∙ sym (append_assoc (after_comma f y) (after_commas f ys) (after_comma f x))
+
+-- the text of one more item
+pub one_more_text : {X : Type 0} (f : X → List ℕ) (xs : List X) (x : X) → joined f (xs ++ (x ∷ [])) ≡ joined f xs ++ (separator xs ++ f x)
+one_more_text f [] x = append-nil (f x)
+one_more_text f (y ∷ ys) x =
+    ap (λ l. f y ++ l) (one_more_after f ys x) ∙ sym (append_assoc (f y) (after_commas f ys) (after_comma f x))
+
+pub more_all : {X : Type 0} (f : X → List ℕ) (xs : List X) (x : X) (s : List ℕ) {a b c : Seen} → s ≡ separator xs → TookAll a b (joined f xs) → TookAll b c (s ++ f x) → TookAll a c (joined f (xs ++ (x ∷ [])))
+more_all f xs x s {a} {b} {c} e p q =
+    let P : List ℕ → Type 0 = λ l. TookAll a c l in
+    subst P (ap (λ t. joined f xs ++ (t ++ f x)) e ∙ sym (one_more_text f xs x)) (all_all p q)
+
+pub more_part : {X : Type 0} (f : X → List ℕ) (xs : List X) (x : X) (s : List ℕ) {a b c : Seen} → s ≡ separator xs → TookAll a b (joined f xs) → TookPart b c (s ++ f x) → TookPart a c (joined f (xs ++ (x ∷ [])))
+more_part f xs x s {a} {b} {c} e p q =
+    let P : List ℕ → Type 0 = λ l. TookPart a c l in
+    subst P (ap (λ t. joined f xs ++ (t ++ f x)) e ∙ sym (one_more_text f xs x)) (all_part p q)
+
+pub part_stays : {X : Type 0} (f : X → List ℕ) (xs : List X) (x : X) {a b : Seen} → TookPart a b (joined f xs) → TookPart a b (joined f (xs ++ (x ∷ [])))
+part_stays f xs x {a} {b} p =
+    let P : List ℕ → Type 0 = λ l. TookPart a b l in
+    subst P (sym (one_more_text f xs x)) (part_more (separator xs ++ f x) p)
+
+-- after an item there is a comma before the next
+pub separator_after : {X : Type 0} (xs : List X) (x : X) → codes "," ≡ separator (xs ++ (x ∷ []))
+separator_after [] x = refl
+separator_after (y ∷ ys) x = refl

@@ -1,0 +1,35 @@
+-- Texts put together of texts.
+use Rattle.std.specs.Prelude.{ℕ, ℤ, List, [], ◌∷◌, ◌++◌, codes, Option, Some, None}
+use Rattle.std.specs.Fmt.{signed_decimal}
+
+-- nothing, or the text of the value
+abbrev pub option_text : {T : Type 0} → (T → List ℕ) → Option T → List ℕ
+option_text f None = []
+option_text f (Some x) = f x
+
+-- a text after a comma
+abbrev pub after_comma : {T : Type 0} → (T → List ℕ) → T → List ℕ
+after_comma f x = codes "," ++ f x
+
+-- each text after a comma
+abbrev pub after_commas : {T : Type 0} → (T → List ℕ) → List T → List ℕ
+after_commas f [] = []
+after_commas f (x ∷ xs) = after_comma f x ++ after_commas f xs
+
+-- the texts in order, with commas between them
+abbrev pub joined : {T : Type 0} → (T → List ℕ) → List T → List ℕ
+joined f [] = []
+joined f (x ∷ xs) = f x ++ after_commas f xs
+
+-- what stands before the next text: a comma where some were written
+abbrev pub separator : {T : Type 0} → List T → List ℕ
+separator [] = []
+separator (x ∷ xs) = codes ","
+
+-- a text in brackets
+abbrev pub bracketed : List ℕ → List ℕ
+bracketed t = codes "[" ++ (t ++ codes "]")
+
+-- two numbers in brackets
+abbrev pub pair_text : ℤ → ℤ → List ℕ
+pair_text x y = bracketed (signed_decimal x ++ (codes "," ++ signed_decimal y))

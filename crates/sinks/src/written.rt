@@ -1,0 +1,202 @@
+//! Values that have a text, and texts put together of texts. A text is written piece by piece
+//! through `put`, with no memory.
+ghost use Rattle.std.specs.Prelude.{◌≡◌, ℕ, ℤ, ◌<◌, ◌≤◌, ◌++◌, length, List, [], codes, OnErr, OnOk};
+ghost use Rattle.std.specs.Fmt.{signed_decimal};
+ghost use Rattle.std.specs.Iterator.{Drains, IsFinite};
+ghost use Rattle.sinks.specs.Seen.{Seen};
+ghost use Rattle.sinks.specs.Writes.{TookAll, TookPart};
+ghost use Rattle.sinks.specs.Texts.{bracketed, joined, after_comma, after_commas, option_text};
+
+use crate::{Sink, WriteFault, put};
+use itoa::Buffer;
+
+/// A value that has a text.
+pub trait Written {
+    /// The text's bytes.
+    ghost text: { Self → List ℕ };
+
+    /// Writes the text. After an error the sink took a beginning of it.
+    fn write<W: Sink>(&self, sink: &mut W) -> Result<(), WriteFault>
+        ensures whole { OnOk result (TookAll (W.seen sink.old) (W.seen sink.new) (text self.now)) }
+        ensures part { OnErr result (TookPart (W.seen sink.old) (W.seen sink.new) (text self.now)) };
+}
+
+/// Bytes as they are.
+#[derive(Clone, Copy)]
+pub struct Text<'a>(pub &'a [u8]);
+
+impl<'a> Written for Text<'a> {
+    ghost text = { λ t. t.0.now };
+
+    fn write<W: Sink>(&self, sink: &mut W) -> Result<(), WriteFault> {
+        put(sink, self.0)
+    }
+}
+
+/// A decimal number, with a minus where it is negative and no leading zeros.
+#[derive(Clone, Copy)]
+pub struct Number(pub i64);
+
+impl Written for Number {
+    ghost text = { λ n. signed_decimal n.0 };
+
+    fn write<W: Sink>(&self, sink: &mut W) -> Result<(), WriteFault> {
+        let mut buffer = Buffer::new();
+        put(sink, buffer.format(self.0).as_bytes())
+    }
+}
+
+/// One text after another.
+#[derive(Clone, Copy)]
+pub struct Then<A, B>(pub A, pub B);
+
+impl<A: Written, B: Written> Written for Then<A, B> {
+    ghost text = { λ t. A.text t.0 ++ B.text t.1 };
+
+    fn write<W: Sink>(&self, sink: &mut W) -> Result<(), WriteFault> {
+        match self.0.write(sink) {
+            Ok(()) => self.1.write(sink),
+            Err(fault) => Err(fault),
+        }
+    }
+}
+
+/// A text that may be missing.
+impl<A: Written> Written for Option<A> {
+    ghost text = { λ o. option_text A.text o };
+
+    fn write<W: Sink>(&self, sink: &mut W) -> Result<(), WriteFault> {
+        match self {
+            Some(value) => value.write(sink),
+            None => Ok(()),
+        }
+    }
+}
+
+/// The texts of a slice in order, with commas between them.
+#[derive(Clone, Copy)]
+pub struct Joined<'a, T>(pub &'a [T]);
+
+impl<'a, T: Written> Written for Joined<'a, T> {
+    ghost text = { λ j. joined T.text j.0.now };
+
+    fn write<W: Sink>(&self, sink: &mut W) -> Result<(), WriteFault> {
+        match self.0.split_first() {
+            Some((first, others)) => match first.write(sink) {
+                Ok(()) => write_others(sink, others),
+                Err(fault) => Err(fault),
+            },
+            None => Ok(()),
+        }
+    }
+}
+
+fn write_others<W: Sink, T: Written>(sink: &mut W, others: &[T]) -> Result<(), WriteFault>
+    ensures whole { OnOk result (TookAll (W.seen sink.old) (W.seen sink.new) (after_commas T.text others.now)) }
+    ensures part { OnErr result (TookPart (W.seen sink.old) (W.seen sink.new) (after_commas T.text others.now)) }
+{
+    let mut left = others;
+    while let Some((item, after)) = left.split_first() {
+        match write_after_comma(sink, item) {
+            Ok(()) => left = after,
+            Err(fault) => return Err(fault),
+        }
+    }
+    Ok(())
+}
+
+fn write_after_comma<W: Sink, T: Written>(sink: &mut W, item: &T) -> Result<(), WriteFault>
+    ensures whole { OnOk result (TookAll (W.seen sink.old) (W.seen sink.new) (after_comma T.text item.now)) }
+    ensures part { OnErr result (TookPart (W.seen sink.old) (W.seen sink.new) (after_comma T.text item.now)) }
+{
+    match put(sink, b",") {
+        Ok(()) => item.write(sink),
+        Err(fault) => Err(fault),
+    }
+}
+
+/// A text in brackets.
+#[derive(Clone, Copy)]
+pub struct Bracketed<A>(pub A);
+
+impl<A: Written> Written for Bracketed<A> {
+    ghost text = { λ b. bracketed (A.text b.0) };
+
+    fn write<W: Sink>(&self, sink: &mut W) -> Result<(), WriteFault> {
+        Then(Text(b"["), Then(&self.0, Text(b"]"))).write(sink)
+    }
+}
+
+impl<'a, A: Written> Written for &'a A {
+    ghost text = { λ a. A.text a.now };
+
+    fn write<W: Sink>(&self, sink: &mut W) -> Result<(), WriteFault> {
+        A::write(*self, sink)
+    }
+}
+
+/// Writes the texts that an iterator gives, in order, with commas between them.
+/// After an error it takes the items that are left and offers nothing.
+pub fn write_joined<W: Sink, T: Written + Drop, I: Iterator<Item = T> + Drop>(
+    sink: &mut W,
+    items: I,
+) -> Result<(), WriteFault>
+    requires can { I.can_next items }
+    requires ends { IsFinite (I.remaining items) }
+    ensures whole { OnOk result ((xs : List T) × Drains I.next_gives items xs × TookAll (W.seen sink.old) (W.seen sink.new) (joined T.text xs)) }
+    ensures part { OnErr result ((xs : List T) × Drains I.next_gives items xs × TookPart (W.seen sink.old) (W.seen sink.new) (joined T.text xs)) }
+{
+    let mut result = Ok(());
+    let mut separator = Text(b"");
+    for item in items {
+        match result {
+            Ok(()) => result = Then(separator, &item).write(sink),
+            Err(_) => {}
+        }
+        separator = Text(b",");
+    }
+    result
+}
+
+#[cfg(test)]
+mod tests {
+    use super::*;
+    use crate::{Answer, Kept, Script};
+    use std::test::Fail;
+
+    #[test]
+    fn joins_numbers(rt: HostRuntime) -> Result<(), Fail> {
+        let rows = [Number(1), Number(-20), Number(i64::MIN)];
+        let mut kept = Kept::new(rt.alloc());
+        assert!(rt; Bracketed(Joined(&rows)).write(&mut kept).is_ok());
+        assert!(rt; Option::<Number>::None.write(&mut kept).is_ok());
+        assert!(rt; Some(Text(b";")).write(&mut kept).is_ok());
+        assert_eq!(rt;
+            kept.into_bytes().as_slice(),
+            b"[1,-20,-9223372036854775808];".as_slice()
+        );
+        Ok(())
+    }
+
+    #[test]
+    fn joins_what_an_iterator_gives(rt: HostRuntime) -> Result<(), Fail> {
+        let rows = [Number(3), Number(0)];
+        let mut kept = Kept::new(rt.alloc());
+        assert!(rt; write_joined(&mut kept, rows.iter()).is_ok());
+        assert_eq!(rt; kept.into_bytes().as_slice(), b"3,0".as_slice());
+        Ok(())
+    }
+
+    #[test]
+    fn stops_at_a_failure(rt: HostRuntime) -> Result<(), Fail> {
+        let mut answers = Vec::new(rt.alloc());
+        answers.push(Answer::Take(2))?;
+        answers.push(Answer::FailAfter(1))?;
+        let mut script = Script::new(rt.alloc(), answers);
+        let rows = [Number(123), Number(4)];
+        assert_eq!(rt; Joined(&rows).write(&mut script), Err(WriteFault::Write));
+        assert_eq!(rt; script.taken(), b"123".as_slice());
+        assert_eq!(rt; script.failures(), 1);
+        Ok(())
+    }
+}
