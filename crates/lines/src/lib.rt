@@ -3,10 +3,10 @@
 
 pub mod items;
 pub mod line;
-pub mod repeated;
 pub mod ring;
 pub mod shape_fault;
 pub mod text;
+mod trail;
 
 #[cfg(test)]
 mod tests;

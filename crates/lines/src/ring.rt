@@ -1,12 +1,13 @@
 //! Rings.
-ghost use Rattle.std.specs.Prelude.{◌≡◌};
+ghost use Rattle.std.specs.Prelude.{◌≡◌, ◌≢◌, ◌≤◌, IfOk, IfErr, Some, None, length};
 ghost use Rattle.theory.specs.LinesAndRings.{IsRing};
 ghost use Rattle.theory.specs.OneProof.{IsRing-prop};
-ghost use Rattle.lines.specs.Turned.{IsLeastRotation, IsLeastRotation-prop};
+ghost use Rattle.lines.specs.Turned.{IsLeastRotation, IsLeastRotation-prop, position_cmp};
+ghost use Rattle.lines.specs.Windows.{IsLeastStart};
 
 use crate::items::Items;
-use crate::repeated::repeats_segment;
 use crate::shape_fault::ShapeFault;
+use crate::trail::{collapse, is_closed, repeats_segment};
 use faults::OutOfMemory;
 use grid::pos::Pos;
 use itertools::Itertools;
@@ -23,11 +24,17 @@ pub struct Ring {
 }
 
 /// Where the least rotation of a closed list begins: at the least pair of a vertex and the next.
-fn least_start(closed: &[Pos]) -> usize {
+fn least_start(closed: &[Pos]) -> usize
+    requires { 2 ≤ length closed.now }
+    ensures { IsLeastStart position_cmp closed.now result }
+{
     closed.windows(2).position_min().unwrap_or(0)
 }
 
 impl Ring {
+    ghost use Rattle.lines.specs.Reading.{ring_fault, ring_of};
+    ghost use Rattle.lines.specs.Seen.{vertices_of};
+
     /// The ring of a closed list of positions, in which equal neighbours are read as one and the
     /// last repeats the first. The direction is kept.
     ///
@@ -35,12 +42,16 @@ impl Ring {
     /// `TooShort` where no position is left; otherwise `NotClosed` where the first and the last
     /// differ; otherwise `TooShort` where fewer than four are left; otherwise `Revisit` where a
     /// segment stands twice.
-    pub fn from_closed(alloc: Global, mut closed: Vec<Pos>) -> Result<Ring, ShapeFault> {
-        closed.dedup();
+    pub fn from_closed(alloc: Global, mut closed: Vec<Pos>) -> Result<Ring, ShapeFault>
+        ensures ok { IfOk result (λ _. ring_fault position_cmp closed.items ≡ None) }
+        ensures ring { IfOk result (λ ring. vertices_of ring ≡ ring_of position_cmp closed.items) }
+        ensures fault { IfErr result (λ f. f ≢ ShapeFault.OutOfMemory → ring_fault position_cmp closed.items ≡ Some f) }
+    {
+        collapse(&mut closed);
         if closed.is_empty() {
             return Err(ShapeFault::TooShort);
         }
-        if closed.first() != closed.last() {
+        if !is_closed(&closed) {
             return Err(ShapeFault::NotClosed);
         }
         if closed.len() < 4 {
@@ -59,14 +70,16 @@ impl Ring {
 
     /// The vertices from the least rotation, in the ring's direction, without the closing repeat.
     pub fn vertices(&self) -> &[Pos]
-        ensures vertices { result.now ≡ self.now.positions }
+        ensures vertices { result.now ≡ vertices_of self.now }
         ensures ring { IsRing result.now }
     {
         self.positions.as_slice()
     }
 
     /// An equal ring.
-    pub fn copy(&self, alloc: Global) -> Result<Ring, OutOfMemory> {
+    pub fn copy(&self, alloc: Global) -> Result<Ring, OutOfMemory>
+        ensures { IfOk result (λ ring. ring ≡ self.now) }
+    {
         let positions = self.vertices().to_vec(alloc)?;
         Ok(Ring {
             positions: Items::from_vec(positions),

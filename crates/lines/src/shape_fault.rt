@@ -1,5 +1,6 @@
 //! Why a list of positions is no line or ring.
 ghost use Rattle.std.specs.Prelude.{◌≡◌};
+ghost use Rattle.lines.specs.declared.shape_fault.ShapeFault.TheVariants.{OutOfMemory};
 
 use std::alloc::{AllocError, AllocFailed};
 use thiserror::Error;
@@ -22,7 +23,7 @@ pub enum ShapeFault {
 }
 
 impl From<AllocError> for ShapeFault {
-    ghost from_gives = { λ _ f. f ≡ ShapeFault.OutOfMemory };
+    ghost from_gives = { λ _ f. f ≡ OutOfMemory };
 
     fn from(_: AllocError) -> ShapeFault {
         ShapeFault::OutOfMemory
@@ -30,7 +31,7 @@ impl From<AllocError> for ShapeFault {
 }
 
 impl<T: Drop> From<AllocFailed<T>> for ShapeFault {
-    ghost from_gives = { λ _ f. f ≡ ShapeFault.OutOfMemory };
+    ghost from_gives = { λ _ f. f ≡ OutOfMemory };
 
     fn from(_: AllocFailed<T>) -> ShapeFault {
         ShapeFault::OutOfMemory
