@@ -1,14 +1,14 @@
 -- Faults of lists, and rings, in the form of the code.
-use Rattle.std.proofs.Common.{◌≡◌, ◌≤◌, ◌<◌, ◌+◌, ◌-◌, ℕ, Bool, true, false, cond, not, ◌&&◌, List, [], ◌∷◌, ◌++◌, length, take, drop, refl, sym, ap, ◌∙◌, subst, arith, Option, Some, None, nat_lt, slice_get, ◌⊎◌, inl, inr, zero, suc, ◌==◌}
+use Rattle.std.proofs.Common.{◌≡◌, ◌≤◌, ◌<◌, ◌-◌, ℕ, Bool, true, false, cond, not, ◌&&◌, List, [], ◌∷◌, ◌++◌, length, take, drop, refl, sym, ap, ◌∙◌, subst, arith, Option, Some, None, nat_lt, slice_get, ◌⊎◌, inl, inr, zero, suc, ◌==◌}
 use Rattle.std.proofs.lemmas.Bool.{eqb-true}
 use denote.Ref.{Bor}
 use borrow.Author.Tests.{ltb-true, ltb-false}
 use Rattle.std.specs.Option.{option_eq, option_copied}
 use Rattle.std.proofs.Math.Seq.{take-append_seam}
-use Rattle.std.proofs.lemmas.List.{length-append, take-append-drop, length-take, length-drop}
+use Rattle.std.proofs.lemmas.List.{length-append, take-append-drop}
 use Rattle.grid.specs.declared.pos.Pos.{Pos}
 use Rattle.grid.specs.contracts.pos.PosPartialEq.TheImpl as pos_eq
-use Rattle.theory.specs.Lists.{front_of, last_of}
+use Rattle.theory.specs.Lists.{last_of}
 use Rattle.theory.specs.LinesAndRings.{closed}
 use Rattle.theory.specs.Geometry.{AtMost}
 use Rattle.theory.specs.LinesAndRings.{IsLine, IsRing, IsRotation}
@@ -16,7 +16,6 @@ use Rattle.theory.proofs.Rotations.{rotation_trans, rotation_ring}
 use Rattle.lines.specs.Turned.{position_cmp, list_cmp, IsLeastRotation}
 use Rattle.lines.specs.Reading.{collapsed, is_closed, repeats, opened, collapsed_line_fault, collapsed_ring_fault, line_fault, ring_fault, ring_of}
 use Rattle.lines.specs.Windows.{IsLeastStart}
-use Rattle.lines.specs.declared.shape_fault.ShapeFault.{ShapeFault}
 use Rattle.lines.specs.declared.shape_fault.ShapeFault.TheVariants.{TooShort, NotClosed, Revisit}
 use Rattle.lines.proofs.Positions.{position_total, position_same, derived_eq}
 use Rattle.lines.proofs.Trails.{line_accepted, ring_accepted, Closes}
@@ -37,6 +36,7 @@ closes_told (x ∷ l) a b r p q e = go a b p (q ∙ ap (slice_get (x ∷ l)) k �
   where
     k : length (x ∷ l) - 1 ≡ length l
     k = omega arith
+
     go : (a b : Option (Bor Pos)) → option_copied a ≡ Some x → option_copied b ≡ Some (last_of x l) →
         r ≡ option_eq (λ x y. pos_eq.eq-value.it x.now y.now) a b → r ≡ is_closed position_cmp (x ∷ l)
     go None b p q e = absurd cc
@@ -152,25 +152,32 @@ pub ring_made : (l c r : List Pos) (i : ℕ) → c ≡ collapsed position_cmp l 
     r ≡ drop i (take (length c - 1) c) ++ take i (take (length c - 1) c) → IsRingOf l r
 unfolding ring_of
 ring_made l c r i e n start made = record {
-    is_ring = ring;
-    least = λ m p. least m (rotation_trans f r m q p);
-    is = least_is position_cmp position_total position_same f r (let k : 3 ≤ length r = ring.long in omega arith) q least;
-  }
+  is_ring = ring;
+  least = λ m p. least m (rotation_trans f r m q p);
+  is = least_is position_cmp position_total position_same f r (let k : 3 ≤ length r = ring.long in omega arith) q least;
+}
   where
     f : List Pos
     f = opened (collapsed position_cmp l)
+
     closes : Closes position_cmp position_total position_same (collapsed position_cmp l)
     closes = ring_accepted position_cmp position_total position_same l n
+
     is_closed_list : c ≡ closed f
     is_closed_list = e ∙ closes.is
+
     front : take (length c - 1) c ≡ f
     front = subst (λ w. take (length w - 1) w ≡ f) (sym is_closed_list) (take_closed f)
+
     turned : r ≡ drop i f ++ take i f
     turned = made ∙ (λ j. drop i (front j) ++ take i (front j))
+
     q : IsRotation f r
     q = (take i f, drop i f, sym (take-append-drop i f), turned)
+
     ring : IsRing r
     ring = rotation_ring f r q closes.is_ring
+
     least : (m : List Pos) → IsRotation f m → AtMost (list_cmp) r m
     least m p =
         subst (λ w. AtMost list_cmp w m) (sym turned)

@@ -1,13 +1,13 @@
 -- Lists with an element at two places, in order and before they are sorted.
-use Rattle.std.proofs.Common.{◌≡◌, ◌≢◌, ℕ, zero, suc, ◌+◌, ◌<◌, ◌≤◌, Bool, true, false, cond, List, [], ◌∷◌, length, get_or, ◌⊎◌, inl, inr, refl, sym, ap, ◌∙◌, subst, arith, add-one}
-use Rattle.std.specs.List.{sum_by, Contains, slice_index_or}
+use Rattle.std.proofs.Common.{◌≡◌, ℕ, zero, suc, ◌+◌, ◌<◌, ◌≤◌, false, cond, List, [], ◌∷◌, length, get_or, ◌⊎◌, inl, inr, refl, sym, ap, subst, arith}
+use Rattle.std.specs.List.{sum_by, Contains}
 use Rattle.std.specs.List.Sorted.{IsPermutation, IsSorted}
-use Rattle.std.specs.Cmp.{IsTotalOrder, upto, tied_itself, tied_back}
+use Rattle.std.specs.Cmp.{IsTotalOrder, upto, tied_itself}
 use Rattle.std.specs.Ordering.{is_eq, is_lt, is_gt, ordering_reverse}
 use Rattle.std.specs.declared.cmp.Ordering.{Ordering}
 use Rattle.std.specs.declared.cmp.Ordering.TheVariants.{Less, Equal, Greater}
 use Rattle.std.proofs.lemmas.List.Sums.{sum_by-cons}
-use Rattle.std.proofs.lemmas.List.Sorted.{sum_by-IsPermutation, Contains-permutation, IsPermutation-sym}
+use Rattle.std.proofs.lemmas.List.Sorted.{sum_by-IsPermutation, Contains-permutation}
 use Rattle.theory.specs.Lists.{Has}
 
 -- an element stands at two places
@@ -54,9 +54,9 @@ module _ {X : Type 0} (R : X → X → Ordering) (o : IsTotalOrder R) where
 
   pub tail_sorted : (x : X) (l : List X) → IsSorted R (x ∷ l) → IsSorted R l
   tail_sorted x l s = λ k d a b.
-    let t = s (suc k) d (omega arith) (omega (arith, b)) in
-    let e : suc k + 1 ≡ suc (k + 1) = omega arith in
-    subst (λ n. is_lt (R (get_or (x ∷ l) n d) (get_or l k d)) ≡ false) e t
+      let t = s (suc k) d (omega arith) (omega (arith, b)) in
+      let e : suc k + 1 ≡ suc (k + 1) = omega arith in
+      subst (λ n. is_lt (R (get_or (x ∷ l) n d) (get_or l k d)) ≡ false) e t
 
   pub rises_from_sorted : (x : X) (l : List X) → IsSorted R (x ∷ l) → Rises R x l
   rises_from_sorted x [] s = tt
@@ -146,9 +146,10 @@ module _ {X : Type 0} (R : X → X → Ordering) (o : IsTotalOrder R) where
     doubled_counted x [] h = let a = count_nil x in absurd (omega arith)
     doubled_counted x (y ∷ l) h =
         elim (one_cases x y) [
-          inl e ↦ (let a = one_itself x y e in let b = count-cons x y l in let k : 1 ≤ count x l = omega arith in
+          | inl e ↦ (let a = one_itself x y e in let b = count-cons x y l in let k : 1 ≤ count x l = omega arith in
               inl (subst (λ w. Has w l) e (has_counted x l k)))
-        | inr z ↦ (let b = count-cons x y l in let k : 2 ≤ count x l = omega arith in inr (doubled_counted x l k)) ]
+          | inr z ↦ (let b = count-cons x y l in let k : 2 ≤ count x l = omega arith in inr (doubled_counted x l k))
+        ]
 
     count_moved : (x : X) (xs ys : List X) → IsPermutation xs ys → count x ys ≡ count x xs
     unfolding count

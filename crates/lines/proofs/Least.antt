@@ -1,8 +1,8 @@
 -- The rotation that begins with the least pair of a vertex and the next one is the least.
-use Rattle.std.proofs.Common.{◌≡◌, ◌≤◌, ◌<◌, ◌+◌, ℕ, zero, suc, Bool, true, false, cond, List, [], ◌∷◌, ◌++◌, length, take, drop, ◌⊎◌, inl, inr, refl, sym, ap, ◌∙◌, subst, arith, append_assoc}
+use Rattle.std.proofs.Common.{◌≡◌, ◌≤◌, ◌<◌, ◌+◌, ℕ, false, List, [], ◌∷◌, ◌++◌, length, take, drop, inl, inr, refl, sym, ap, ◌∙◌, subst, arith, append_assoc}
 use Rattle.std.specs.declared.cmp.Ordering.{Ordering}
 use Rattle.std.specs.declared.cmp.Ordering.TheVariants.{Less, Equal, Greater}
-use Rattle.std.specs.Ordering.{is_lt, is_gt, ordering_then, ordering_reverse}
+use Rattle.std.specs.Ordering.{is_lt, ordering_then, ordering_reverse}
 use Rattle.std.specs.Cmp.{IsTotalOrder}
 use Rattle.std.specs.FinMap.{IsAntisymmetric, slice_cmp-IsAntisymmetric}
 use Rattle.std.specs.Cmp.Lexicographic.{slice_cmp}
@@ -82,23 +82,30 @@ module _ {V : Type 0} (cmp : V → V → Ordering) (o : IsTotalOrder cmp) (same 
     where
       long : 3 ≤ length f
       long = g.long
+
       closed_length : (l : List V) → 1 ≤ length l → length (closed l) ≡ length l + 1
       closed_length [] n = absurd (omega arith)
       closed_length (x ∷ l) n = omega (arith, length-append l (x ∷ []))
+
       within : i < length f
       within = let n : length (closed f) ≡ length f + 1 = closed_length f (omega (arith, long)) in omega (arith, b.within)
+
       r : List V
       r = drop i f ++ take i f
+
       turned : IsRotation f r
       turned = (take i f, drop i f, sym (take-append-drop i f), refl)
+
       at : (s t : List V) → f ≡ s ++ t → 1 ≤ length t → window (closed f) (length s) ≡ take 2 (t ++ s)
       at s t e n =
           subst (λ w. window (closed w) (length s) ≡ take 2 (t ++ s)) (sym e)
           (opens s t n (let k : length f ≡ length (s ++ t) = ap length e in omega (arith, long)))
+
       here : window (closed f) i ≡ take 2 r
       here =
           subst (λ k. window (closed f) k ≡ take 2 r) (length-take-le i f (omega (arith, within)))
           (at (take i f) (drop i f) (sym (take-append-drop i f)) (omega (arith, length-drop i f, within)))
+
       decided : (s t : List V) → f ≡ s ++ t → 1 ≤ length t → AtMost (slice_cmp cmp) r (t ++ s)
       decided s t e n =
           let p : IsRotation f (t ++ s) = (s, t, e, refl) in
@@ -108,6 +115,7 @@ module _ {V : Type 0} (cmp : V → V → Ordering) (o : IsTotalOrder cmp) (same 
           (subst (λ w. is_lt (slice_cmp cmp w (take 2 r)) ≡ false) (at s t e n)
           (subst (λ w. is_lt (slice_cmp cmp (window (closed f) (length s)) w) ≡ false) here
           (b.least (length s) (omega (arith, closed_length f (omega (arith, long)), k, n)))))
+
       go : (s t : List V) → f ≡ s ++ t → m ≡ t ++ s → AtMost (slice_cmp cmp) r m
       go s [] e h =
           let k : f ≡ [] ++ f = refl in

@@ -1,9 +1,9 @@
 -- The laws of the order of positions.
-use Rattle.std.proofs.Common.{◌≡◌, ◌&&◌, Bool, true, false, refl, sym, ap, ◌∙◌, rules}
+use Rattle.std.proofs.Common.{◌≡◌, true, refl, sym, ap, ◌∙◌, rules}
 use mathlib.Core.HLevel.{is_prop→PathP}
 use Rattle.std.specs.Cmp.{IsTotalOrder, then_total, on_total, int_cmp_total, tied_itself}
 use Rattle.std.specs.FinMap.{IsAntisymmetric, int_cmp-IsAntisymmetric}
-use Rattle.std.specs.Ordering.{is_eq, int_eq, int_cmp, ordering_then}
+use Rattle.std.specs.Ordering.{is_eq, int_cmp, ordering_then}
 use Rattle.std.specs.declared.cmp.Ordering.{Ordering}
 use Rattle.std.specs.declared.cmp.Ordering.TheVariants.{Less, Equal, Greater}
 use Rattle.grid.specs.Place.{IsGridNumber, IsGridNumber-prop}

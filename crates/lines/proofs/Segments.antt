@@ -138,11 +138,11 @@ told_by_sorting l [] p s =
 told_by_sorting l (y ∷ ys) p s =
     one_test (equal_from y ys) (repeats position_cmp l)
     (λ e. told_repeats position_cmp position_total position_same l
-      (all_repeats l (Doubled-permutation segment_cmp segment_total segment_same (y ∷ ys) (segments_of l) (IsPermutation-sym (segments_of l) (y ∷ ys) p)
-      (doubled_from_equal segment_cmp segment_total segment_same y ys (equal_yes y ys e)))))
+    (all_repeats l (Doubled-permutation segment_cmp segment_total segment_same (y ∷ ys) (segments_of l) (IsPermutation-sym (segments_of l) (y ∷ ys) p)
+    (doubled_from_equal segment_cmp segment_total segment_same y ys (equal_yes y ys e)))))
     (λ e. no_no (equal_from y ys) (λ f. equal_no y ys f
-      (equal_from_doubled segment_cmp segment_total segment_same y ys (up_from_sorted segment_cmp segment_total (y ∷ ys) s)
-      (Doubled-permutation segment_cmp segment_total segment_same (segments_of l) (y ∷ ys) p (repeats_all l (repeats_told position_cmp position_total position_same l e))))))
+    (equal_from_doubled segment_cmp segment_total segment_same y ys (up_from_sorted segment_cmp segment_total (y ∷ ys) s)
+    (Doubled-permutation segment_cmp segment_total segment_same (segments_of l) (y ∷ ys) p (repeats_all l (repeats_told position_cmp position_total position_same l e))))))
   where
     no_no : (b : Bool) → ¬ (b ≡ false) → b ≡ true
     no_no true n = refl

@@ -1,20 +1,17 @@
 -- What the faults of lists say: lists without a fault are lines and rings.
-use Rattle.std.proofs.Common.{◌≡◌, ◌≤◌, ℕ, Bool, true, false, cond, not, ◌&&◌, List, [], ◌∷◌, ◌++◌, length, ◌⊎◌, inl, inr, refl, sym, ap, ◌∙◌, subst, arith, Some, None, nat_lt}
-use borrow.Author.Tests.{ltb-true, ltb-false}
+use Rattle.std.proofs.Common.{◌≡◌, ◌≤◌, Bool, true, false, cond, not, ◌&&◌, List, [], ◌∷◌, ◌++◌, length, ◌⊎◌, inl, inr, refl, sym, ap, ◌∙◌, subst, arith, Some, None, nat_lt}
+use borrow.Author.Tests.{ltb-false}
 use Rattle.std.specs.declared.cmp.Ordering.{Ordering}
-use Rattle.std.specs.declared.cmp.Ordering.TheVariants.{Less, Equal, Greater}
-use Rattle.std.specs.Ordering.{is_eq}
 use Rattle.std.specs.Cmp.{IsTotalOrder}
-use Rattle.std.proofs.lemmas.Cmp.{tied_itself}
+use Rattle.theory.proofs.JunctionTest.{same_vertex-equal, equal-same_vertex}
 use Rattle.std.specs.FinMap.{IsAntisymmetric}
 use Rattle.std.specs.List.{dedup_from}
-use Rattle.theory.specs.Lists.{Begins, Steps, Beside, last_of, front_of}
+use Rattle.theory.specs.Lists.{Begins, Beside, last_of, front_of}
 use Rattle.theory.specs.LinesAndRings.{closed}
 use Rattle.theory.specs.LinesAndRings.{Trail}
 use Rattle.theory.specs.LinesAndRings.{IsLine, IsRing}
 use Rattle.theory.specs.TopologyFunction.{same_vertex, same_sides}
 use Rattle.lines.specs.Reading.{collapsed, is_closed, are_beside, repeats_from, repeats, opened, collapsed_line_fault, collapsed_ring_fault, line_fault, ring_fault}
-use Rattle.lines.specs.declared.shape_fault.ShapeFault.{ShapeFault}
 use Rattle.lines.specs.declared.shape_fault.ShapeFault.TheVariants.{TooShort, NotClosed, Revisit}
 
 -- some unordered pair of neighbours stands at two places
@@ -55,34 +52,23 @@ trail_once (x ∷ l) t (inl h) = (t.0 h.0 h.1).1 h.2
 trail_once (x ∷ l) t (inr h) = trail_once l t.1 h
 
 module _ {V : Type 0} (cmp : V → V → Ordering) (o : IsTotalOrder cmp) (same : IsAntisymmetric cmp) where
-  same_is : (a b : V) → same_vertex cmp a b ≡ true → a ≡ b
-  same_is a b e = go (cmp a b) refl e
-    where
-      go : (r : Ordering) → cmp a b ≡ r → is_eq r ≡ true → a ≡ b
-      go Less h k = cc
-      go Equal h k = same a b h
-      go Greater h k = cc
-
-  is_same : (a b : V) → a ≡ b → same_vertex cmp a b ≡ true
-  is_same a b e = subst (λ w. same_vertex cmp a w ≡ true) e (ap is_eq (tied_itself o a))
-
   joins_is : (a b c d : V) → same_sides cmp (a, b) (c, d) ≡ true → ((a ≡ c) × (b ≡ d)) ⊎ ((a ≡ d) × (b ≡ c))
   joins_is a b c d e = go (same_vertex cmp a c) refl (same_vertex cmp b d) refl (same_vertex cmp a d) refl (same_vertex cmp b c) refl e
     where
       go : (p : Bool) → same_vertex cmp a c ≡ p → (q : Bool) → same_vertex cmp b d ≡ q → (r : Bool) → same_vertex cmp a d ≡ r →
           (s : Bool) → same_vertex cmp b c ≡ s → cond (cond p q false) true (cond r s false) ≡ true → ((a ≡ c) × (b ≡ d)) ⊎ ((a ≡ d) × (b ≡ c))
-      go true p true q r x s y f = inl (same_is a c p, same_is b d q)
-      go true p false q true x true y f = inr (same_is a d x, same_is b c y)
-      go false p q q' true x true y f = inr (same_is a d x, same_is b c y)
+      go true p true q r x s y f = inl (same_vertex-equal cmp o same a c p, same_vertex-equal cmp o same b d q)
+      go true p false q true x true y f = inr (same_vertex-equal cmp o same a d x, same_vertex-equal cmp o same b c y)
+      go false p q q' true x true y f = inr (same_vertex-equal cmp o same a d x, same_vertex-equal cmp o same b c y)
       go p p' q q' r x s y f = absurd cc
 
   is_joins : (a b c d : V) → ((a ≡ c) × (b ≡ d)) ⊎ ((a ≡ d) × (b ≡ c)) → same_sides cmp (a, b) (c, d) ≡ true
-  is_joins a b c d (inl h) = rw (is_same a c h.0, is_same b d h.1) refl
+  is_joins a b c d (inl h) = rw (equal-same_vertex cmp o same a c h.0, equal-same_vertex cmp o same b d h.1) refl
   is_joins a b c d (inr h) = go (cond (same_vertex cmp a c) (same_vertex cmp b d) false)
     where
       go : (p : Bool) → cond p true (cond (same_vertex cmp a d) (same_vertex cmp b c) false) ≡ true
       go true = refl
-      go false = rw (is_same a d h.0, is_same b c h.1) refl
+      go false = rw (equal-same_vertex cmp o same a d h.0, equal-same_vertex cmp o same b c h.1) refl
 
   beside_told : (u v x : V) (l : List V) → are_beside cmp u v x l ≡ true → Beside u v (x ∷ l)
   beside_told u v x [] e = absurd cc
@@ -149,7 +135,7 @@ module _ {V : Type 0} (cmp : V → V → Ordering) (o : IsTotalOrder cmp) (same 
       go false p a b = (
         x ∷ b.0,
         ap (λ w. k ∷ w) b.1,
-        ((λ y e q. absurd (let h : true ≡ false = sym (is_same x k (sym (q ∙ e))) ∙ p in cc)), b.2),
+        ((λ y e q. absurd (let h : true ≡ false = sym (equal-same_vertex cmp o same x k (sym (q ∙ e))) ∙ p in cc)), b.2),
       )
 
   pub collapsed_apart : (l : List V) → Apart (collapsed cmp l)
@@ -187,7 +173,7 @@ module _ {V : Type 0} (cmp : V → V → Ordering) (o : IsTotalOrder cmp) (same 
       go true p false s true q f = absurd cc
       go true p false s false q f =
           let n = ltb-false (length (x ∷ l)) 4 s in
-          let k : x ∷ l ≡ closed (front_of x l) = closing x l (same_is x (last_of x l) p) (omega arith) in
+          let k : x ∷ l ≡ closed (front_of x l) = closing x l (same_vertex-equal cmp o same x (last_of x l) p) (omega arith) in
           record {
             is_ring = record {
               long = (let m = front_length x l in omega arith);

@@ -1,10 +1,9 @@
 -- The place that `position_min` finds among the windows of a list.
-use Rattle.std.proofs.Common.{◌≡◌, ◌≤◌, ◌<◌, ◌+◌, ◌-◌, ℕ, Bool, true, false, List, [], ◌∷◌, length, take, drop, get_or, refl, sym, ap, ◌∙◌, subst, arith, Option, Some, None, unwrap_or, option_map, slice_index_or, All, IfSome}
+use Rattle.std.proofs.Common.{◌≡◌, ◌≤◌, ◌<◌, ◌+◌, ℕ, Bool, false, List, [], ◌∷◌, length, refl, sym, ap, ◌∙◌, subst, arith, Option, Some, None, unwrap_or, option_map, slice_index_or, All, IfSome}
 use denote.Ref.{Bor}
-use Rattle.std.specs.Cmp.{IsTotalOrder}
 use Rattle.std.specs.Ordering.{is_lt}
 use Rattle.std.specs.List.{IsSubsliceAt}
-use Rattle.std.specs.Iterator.Runs.{Run, WholeRun, EveryRun, IsWindowsRun}
+use Rattle.std.specs.Iterator.Runs.{WholeRun, EveryRun, IsWindowsRun}
 use Rattle.std.specs.Slice.Iter.{windows_steps, windows_rest, windows_size}
 use Rattle.std.specs.declared.slice.Windows.{Windows}
 use Rattle.std.proofs.lemmas.Cmp.{lists_total}
@@ -31,9 +30,9 @@ least_place xs items n long count reads e = go (position_of (wins false comes_be
     found i w d all = record {
       within = omega arith;
       least = λ k h.
-        let below : k < length items = omega arith in
-        subst (λ v. is_lt (list_cmp v (window xs i)) ≡ false) (reads k d below)
-        (subst (λ v. is_lt (list_cmp (slice_index_or items k d).now v) ≡ false) (reads i d w) (all k d below));
+          let below : k < length items = omega arith in
+          subst (λ v. is_lt (list_cmp v (window xs i)) ≡ false) (reads k d below)
+          (subst (λ v. is_lt (list_cmp (slice_index_or items k d).now v) ≡ false) (reads i d w) (all k d below));
     }
 
     go : (r : Option ℕ) → PositionFacts (λ y b. comes_before y b ≡ false) items r → n ≡ unwrap_or r 0 → IsLeastStart position_cmp xs n
@@ -53,14 +52,18 @@ least_window w xs n r rest size long each (p, from, whole, is) e =
   where
     size_is : windows_size p.from ≡ 2
     size_is = ap windows_size from ∙ size
+
     rest_is : windows_rest p.from ≡ xs
     rest_is = ap windows_rest from ∙ rest
+
     run : IsWindowsRun p 2 xs
     run =
         subst (λ l. IsWindowsRun p 2 l) rest_is
         (subst (λ m. IsWindowsRun p m (windows_rest p.from)) size_is (each p p.seen (omega (arith, size_is))))
+
     count : length p.items + 1 ≡ length xs
     count = omega (arith, run.1 whole, p.long)
+
     reads : (k : ℕ) (d : Bor (List Pos)) → k < length p.items → (slice_index_or p.items k d).now ≡ window xs k
     reads k d h = go (p.at k) (p.reads k d (omega (arith, p.long, h))) (run.2 k)
       where

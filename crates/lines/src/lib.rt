@@ -5,8 +5,7 @@ pub mod items;
 pub mod line;
 pub mod ring;
 pub mod shape_fault;
-pub mod text;
-mod trail;
-
 #[cfg(test)]
 mod tests;
+pub mod text;
+mod trail;

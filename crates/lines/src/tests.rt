@@ -23,9 +23,13 @@ fn ring(alloc: Global, places: &[(i64, i64)]) -> Result<Result<Ring, ShapeFault>
 }
 
 const A: (i64, i64) = (0, 0);
+
 const B: (i64, i64) = (4, 0);
+
 const C: (i64, i64) = (4, 4);
+
 const D: (i64, i64) = (1, 4);
+
 const E: (i64, i64) = (0, 4);
 
 /// Both answers for one list of positions.
@@ -80,7 +84,10 @@ fn a_ring_is_read_from_its_least_rotation(rt: HostRuntime) -> Result<(), Fail> {
     assert_eq!(rt; ring(alloc, &[B, C, A, B])??, made.copy(alloc)?);
     assert_ne!(rt; ring(alloc, &[A, C, B, A])??, made);
     let again = ring(alloc, &[E, A, C, B, A, D, E])??;
-    assert_eq!(rt; again.vertices(), positions(alloc, &[A, D, E, A, C, B])?.as_slice());
+    assert_eq!(rt;
+        again.vertices(),
+        positions(alloc, &[A, D, E, A, C, B])?.as_slice()
+    );
     assert_eq!(rt; ring(alloc, &[A, C, B, A, D, E, A])??, again);
     Ok(())
 }

@@ -1,4 +1,4 @@
-use Rattle.std.proofs.Common.{◌≡◌, ◌≤◌, ◌<◌, false, length, ◌⊎◌, inl, inr, sym, ap, ◌∙◌, subst, arith}
+use Rattle.std.proofs.Common.{◌≡◌, ◌≤◌, false, length, ◌⊎◌, inl, inr, sym, ap, ◌∙◌, subst, arith}
 use Rattle.theory.specs.LinesAndRings.{IsLine}
 use Rattle.lines.specs.Turned.{position_cmp}
 use Rattle.lines.specs.Reading.{is_closed, repeats}
@@ -29,11 +29,11 @@ returns-then-branch-clause-fault c = λ _.
 
 pub invariant_of-result : goal.invariant_of-result
 invariant_of-result c = record {
-    line = subst IsLine (sym c.from_vec.ensures) (line_is c.args.positions.items c.collapse.new.positions.items c.collapse.ensures
+  line = subst IsLine (sym c.from_vec.ensures) (line_is c.args.positions.items c.collapse.new.positions.items c.collapse.ensures
       (line_good c.args.positions.items c.collapse.new.positions.items c.collapse.ensures (omega (arith, c.collapse.new.positions.ok.0)) c.is_closed.result
       (c.is_closed.ensures ∙ ap (is_closed position_cmp) c.deref.ensures.value) long
       (sym c.if-branch.false ∙ c.in_ok-repeats_segment.ensures ∙ ap (repeats position_cmp) c.deref-2.ensures.value)));
-  }
+}
   where
     long : (c.is_closed.result ≡ false) ⊎ (4 ≤ length c.collapse.new.positions.items)
     long = elim c.else-is_closed.branch [
