@@ -5,7 +5,7 @@ ghost use Rattle.std.specs.Fmt.{signed_decimal};
 ghost use Rattle.std.specs.Iterator.{Drains, IsFinite};
 ghost use Rattle.sinks.specs.Seen.{Seen};
 ghost use Rattle.sinks.specs.Writes.{TookAll, TookPart};
-ghost use Rattle.sinks.specs.Texts.{bracketed, joined, after_comma, after_commas, option_text};
+ghost use Rattle.sinks.specs.Texts.{bracketed, joined, after_comma, after_commas, option_text, pair_text};
 
 use crate::{Sink, WriteFault, put};
 use itoa::Buffer;
@@ -73,6 +73,71 @@ impl<A: Written> Written for Option<A> {
     }
 }
 
+/// A way to write values of one type.
+pub trait Notation<T> {
+    /// The bytes that stand for a value.
+    ghost text: { Self → T → List ℕ };
+
+    /// Writes the value. After an error the sink took a beginning of its text.
+    fn write_value<W: Sink>(&self, value: &T, sink: &mut W) -> Result<(), WriteFault>
+        ensures whole { OnOk result (TookAll (W.seen sink.old) (W.seen sink.new) (text self.now value.now)) }
+        ensures part { OnErr result (TookPart (W.seen sink.old) (W.seen sink.new) (text self.now value.now)) };
+}
+
+/// Values that have a text, by that text.
+#[derive(Clone, Copy)]
+pub struct Itself;
+
+impl<T: Written> Notation<T> for Itself {
+    ghost text = { λ _ value. T.text value };
+
+    fn write_value<W: Sink>(&self, value: &T, sink: &mut W) -> Result<(), WriteFault> {
+        value.write(sink)
+    }
+}
+
+/// The values of a slice in order, in one notation, with commas between them.
+#[derive(Clone, Copy)]
+pub struct Each<'a, T, N>(pub &'a [T], pub &'a N);
+
+impl<'a, T, N: Notation<T>> Written for Each<'a, T, N> {
+    ghost text = { λ e. joined (N.text e.1.now) e.0.now };
+
+    fn write<W: Sink>(&self, sink: &mut W) -> Result<(), WriteFault> {
+        match self.0.split_first() {
+            Some((first, others)) => match self.1.write_value(first, sink) {
+                Ok(()) => write_others(sink, self.1, others),
+                Err(fault) => Err(fault),
+            },
+            None => Ok(()),
+        }
+    }
+}
+
+fn write_others<W: Sink, T, N: Notation<T>>(sink: &mut W, notation: &N, others: &[T]) -> Result<(), WriteFault>
+    ensures whole { OnOk result (TookAll (W.seen sink.old) (W.seen sink.new) (after_commas (N.text notation.now) others.now)) }
+    ensures part { OnErr result (TookPart (W.seen sink.old) (W.seen sink.new) (after_commas (N.text notation.now) others.now)) }
+{
+    let mut left = others;
+    while let Some((value, after)) = left.split_first() {
+        match write_after_comma(sink, notation, value) {
+            Ok(()) => left = after,
+            Err(fault) => return Err(fault),
+        }
+    }
+    Ok(())
+}
+
+fn write_after_comma<W: Sink, T, N: Notation<T>>(sink: &mut W, notation: &N, value: &T) -> Result<(), WriteFault>
+    ensures whole { OnOk result (TookAll (W.seen sink.old) (W.seen sink.new) (after_comma (N.text notation.now) value.now)) }
+    ensures part { OnErr result (TookPart (W.seen sink.old) (W.seen sink.new) (after_comma (N.text notation.now) value.now)) }
+{
+    match put(sink, b",") {
+        Ok(()) => notation.write_value(value, sink),
+        Err(fault) => Err(fault),
+    }
+}
+
 /// The texts of a slice in order, with commas between them.
 #[derive(Clone, Copy)]
 pub struct Joined<'a, T>(pub &'a [T]);
@@ -81,37 +146,20 @@ impl<'a, T: Written> Written for Joined<'a, T> {
     ghost text = { λ j. joined T.text j.0.now };
 
     fn write<W: Sink>(&self, sink: &mut W) -> Result<(), WriteFault> {
-        match self.0.split_first() {
-            Some((first, others)) => match first.write(sink) {
-                Ok(()) => write_others(sink, others),
-                Err(fault) => Err(fault),
-            },
-            None => Ok(()),
-        }
+        Each(self.0, &Itself).write(sink)
     }
 }
 
-fn write_others<W: Sink, T: Written>(sink: &mut W, others: &[T]) -> Result<(), WriteFault>
-    ensures whole { OnOk result (TookAll (W.seen sink.old) (W.seen sink.new) (after_commas T.text others.now)) }
-    ensures part { OnErr result (TookPart (W.seen sink.old) (W.seen sink.new) (after_commas T.text others.now)) }
-{
-    let mut left = others;
-    while let Some((item, after)) = left.split_first() {
-        match write_after_comma(sink, item) {
-            Ok(()) => left = after,
-            Err(fault) => return Err(fault),
-        }
-    }
-    Ok(())
-}
+/// Two numbers in brackets.
+#[derive(Clone, Copy)]
+pub struct Pair(pub i64, pub i64);
 
-fn write_after_comma<W: Sink, T: Written>(sink: &mut W, item: &T) -> Result<(), WriteFault>
-    ensures whole { OnOk result (TookAll (W.seen sink.old) (W.seen sink.new) (after_comma T.text item.now)) }
-    ensures part { OnErr result (TookPart (W.seen sink.old) (W.seen sink.new) (after_comma T.text item.now)) }
-{
-    match put(sink, b",") {
-        Ok(()) => item.write(sink),
-        Err(fault) => Err(fault),
+impl Written for Pair {
+    ghost text = { λ p. pair_text p.0 p.1 };
+
+    fn write<W: Sink>(&self, sink: &mut W) -> Result<(), WriteFault> {
+        let numbers = Then(Number(self.0), Then(Text(b","), Number(self.1)));
+        Bracketed(numbers).write(sink)
     }
 }
 

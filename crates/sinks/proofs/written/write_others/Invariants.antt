@@ -3,8 +3,8 @@ use Rattle.sinks.specs.Writes.{TookUpTo}
 use Rattle.sinks.specs.Texts.{after_commas}
 use Rattle.sinks.proofs.written.write_others.Given as goal
 
-abbrev pub invariant-loop-item : goal.invariant-loop-item
-invariant-loop-item g l = TookUpTo (g.W.Sink.seen l.initial.sink) (g.W.Sink.seen l.sink) (after_commas g.T.Written.text l.others) (after_commas g.T.Written.text l.left)
+abbrev pub invariant-loop-value : goal.invariant-loop-value
+invariant-loop-value g l = TookUpTo (g.W.Sink.seen l.initial.sink) (g.W.Sink.seen l.sink) (after_commas (g.N.Notation.text l.notation) l.others) (after_commas (g.N.Notation.text l.notation) l.left)
 
-abbrev pub decreases-loop-item : goal.decreases-loop-item
-decreases-loop-item g l = length l.left
+abbrev pub decreases-loop-value : goal.decreases-loop-value
+decreases-loop-value g l = length l.left
