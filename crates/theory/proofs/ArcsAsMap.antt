@@ -31,7 +31,7 @@ module _ {V : Type 0} (L R L' R' : List V → Type 0) (f : (l : List V) → L l 
   visit_map v (pair a b) (inl k) = inl (k.0, f k.0 k.1, k.2)
   visit_map v (pair a b) (inr k) = inr (k.0, h k.0 k.1, k.2)
 
-  junction_map : (v : V) → Junction L R v → Junction L' R' v
+  pub junction_map : (v : V) → Junction L R v → Junction L' R' v
   junction_map v (inl e) = inl (visit_map v end e)
   junction_map v (inr (p, q, vp, vq, n)) = inr (p, q, visit_map v p vp, visit_map v q vq, n)
 
@@ -73,7 +73,7 @@ module _ {V : Type 0} (cmp : V → V → Ordering) (o : IsTotalOrder cmp) (same 
         (elim b [ inl k ↦ inl (around_steps x y r k) | inr k ↦ inr (around_steps y x r k) ])
 
     -- an arc is open or a loop
-    kind : (c : List V) → Has c arcs → OpenArc g arcs c ⊎ ((r : List V) × (c ≡ closed r) × LoopArc g arcs r)
+    pub kind : (c : List V) → Has c arcs → OpenArc g arcs c ⊎ ((r : List V) × (c ≡ closed r) × LoopArc g arcs r)
     kind c h = go c h (all.arcs_only c h).chain
       where
         go : (c : List V) → Has c arcs → IsChainOf cmp g c → OpenArc g arcs c ⊎ ((r : List V) × (c ≡ closed r) × LoopArc g arcs r)

@@ -83,3 +83,15 @@ pub has_get : {A : Type 0} (l : List A) (x : A) → Has x l → (i : ℕ) × (sl
 has_get [] x h = absurd h
 has_get (y ∷ l) x (inl e) = (zero, ap Some (sym e))
 has_get (y ∷ l) x (inr h) = let t = has_get l x h in (suc t.0, t.1)
+
+pub Each-all : {V : Type 0} (P : List V → Type 0) (cs : List (List V)) → ((c : List V) → Has c cs → P c) → Each P cs
+Each-all P [] f = tt
+Each-all P (c ∷ cs) f = (f c (inl refl), Each-all P cs (λ d h. f d (inr h)))
+
+-- a list that is in R with each member, member by member
+pub Pairwise-exists : {A B : Type 0} (R : A → B → Type 0) (xs : List A) → ((x : A) → Has x xs → (y : B) × R x y) → (ys : List B) × Pairwise R xs ys
+Pairwise-exists R [] f = ([], tt)
+Pairwise-exists R (x ∷ xs) f =
+    let h = f x (inl refl) in
+    let t = Pairwise-exists R xs (λ z k. f z (inr k)) in
+    (h.0 ∷ t.0, (h.1, t.1))

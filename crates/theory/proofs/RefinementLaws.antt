@@ -12,10 +12,10 @@ use Rattle.theory.proofs.Lists.{last-snoc}
 use Rattle.theory.proofs.ListsOfLists.{Has-SomeHas, SomeHas-Has, get_has}
 use Rattle.theory.proofs.OneTopology.{along_chain, ring_list_unique, stitch_unique}
 use Rattle.theory.proofs.Pieces.{SegmentOf-flip, two_segments_of}
-use Rattle.theory.proofs.Reversing.{Beside-reverse}
+use Rattle.theory.proofs.Reversing.{Beside-reverse, beside_same, same_beside}
 use Rattle.theory.proofs.Rotations.{rotation_back, rotation_length, rotation_steps, rotation_trail}
 use Rattle.theory.proofs.SegmentsOnce.{segments_once}
-use Rattle.theory.proofs.Stitching.{Stitched-covers, Stitched-inside}
+use Rattle.theory.proofs.Stitching.{Stitched-covers, Stitched-inside, beside_stitched, stitched_beside}
 use Rattle.theory.specs.ArcNumbers.{ArcRef, AreTaken, Uses, UsesOnce}
 use Rattle.theory.specs.Arcs.{AreArcsOf}
 use Rattle.theory.specs.Geometry.{AtMost, Geometry, IsChainOf, IsLineOf, IsRingOf, IsSound, JunctionOf, SegmentOf}
@@ -146,24 +146,8 @@ module _ {V : Type 0} (cmp : V → V → Ordering) (o : IsTotalOrder cmp) (same 
                   (both a b (closed (y ∷ l)) (closed (p ∷ q)) (rotation_steps y l p q m' (rotation_back (p ∷ q) (y ∷ l) turned.rotation)) s);
             }
 
-  same_side : (a b : V) (c d : List V) → (c ≡ d) ⊎ (c ≡ reverse d) → Beside a b d → Beside a b c
-  same_side a b c d (inl e) h = subst (λ w. Beside a b w) (sym e) h
-  same_side a b c d (inr e) h = subst (λ w. Beside a b w) (sym e) (Beside-reverse a b d h)
-
-  side_same : (a b : V) (c d : List V) → (c ≡ d) ⊎ (c ≡ reverse d) → Beside a b c → Beside a b d
-  side_same a b c d (inl e) h = subst (λ w. Beside a b w) e h
-  side_same a b c d (inr e) h = subst (λ w. Beside a b w) (reverse-reverse d) (Beside-reverse a b (reverse d) (subst (λ w. Beside a b w) e h))
-
-  stitched_beside : (a b x : V) (cs : List (List V)) (r : List V) → Stitched x cs r → Beside a b (x ∷ r) → (p : List V) × Has p cs × Beside a b p
-  stitched_beside a b x cs r s (inl h) = let t = SomeHas-Has (λ p. Steps a b p) cs (Stitched-covers a b x cs r s h) in (t.0, t.1, inl t.2)
-  stitched_beside a b x cs r s (inr h) = let t = SomeHas-Has (λ p. Steps b a p) cs (Stitched-covers b a x cs r s h) in (t.0, t.1, inr t.2)
-
-  beside_stitched : (a b x : V) (cs : List (List V)) (r : List V) → Stitched x cs r → (p : List V) → Has p cs → Beside a b p → Beside a b (x ∷ r)
-  beside_stitched a b x cs r s p h (inl k) = inl (Stitched-inside a b x cs r s (Has-SomeHas (λ p. Steps a b p) cs p h k))
-  beside_stitched a b x cs r s p h (inr k) = inr (Stitched-inside b a x cs r s (Has-SomeHas (λ p. Steps b a p) cs p h k))
-
   module _ (u : Geometry V) (su : IsSound u) (table : List (List V)) (all : AreArcsOf cmp u table) where
-    chain_side : (c : List V) → IsChainOf cmp u c → (a : V) × (b : V) × Beside a b c
+    pub chain_side : (c : List V) → IsChainOf cmp u c → (a : V) × (b : V) × Beside a b c
     chain_side [] k = absurd k
     chain_side (x ∷ []) k = let n : 1 ≤ 0 = k.long in absurd (omega arith)
     chain_side (x ∷ (y ∷ r)) k = (x, y, inl (inl (refl, refl)))
@@ -181,8 +165,8 @@ module _ {V : Type 0} (cmp : V → V → Ordering) (o : IsTotalOrder cmp) (same 
               let ck : IsChainOf cmp u c = along_chain cmp o same dec u su table all a c t.0 in
               let e = chain_side c ck in
               let pd : Beside e.0 e.1 p.0 =
-              same_side e.0 e.1 p.0 p.2 p.4
-              (side_same e.0 e.1 c p.2
+              beside_same e.0 e.1 p.0 p.2 p.4
+              (same_beside e.0 e.1 c p.2
               (subst (λ w. (c ≡ w) ⊎ (c ≡ reverse w)) (let z : Some f.0 ≡ Some p.2 = sym f.1 ∙ p.3 in cc) (by_ref a.reversed f.0 f.2)) e.2) in
               Trail-parts e.0 e.1 x s.0 s.1 tr' (subst (λ w. Beside e.0 e.1 w) s.2 e.2)
               (beside_stitched e.0 e.1 (last_of x s.0) cs s.1 s.4 p.0 p.1 pd)),
@@ -207,7 +191,7 @@ module _ {V : Type 0} (cmp : V → V → Ordering) (o : IsTotalOrder cmp) (same 
           let p = uses_along table (pieces_at pieces i) a.lists a.taken k h in
           let q : p.2 ≡ d = (let z : Some p.2 ≡ Some d = sym p.3 ∙ f in cc) in
           a.back v w (beside_stitched v w a.first a.lists a.rest a.stitched p.0 p.1
-          (same_side v w p.0 p.2 p.4 (subst (λ z. Beside v w z) (sym q) b)))
+          (beside_same v w p.0 p.2 p.4 (subst (λ z. Beside v w z) (sym q) b)))
 
       pub home : (k : ℕ) (d : List V) (a b : V) → slice_get table k ≡ Some d → Beside a b d → SegmentOf g a b →
           (i : ℕ) × (c : List V) × (slice_get arcs i ≡ Some c) × Uses k (pieces_at pieces i) × ((v w : V) → Beside v w d → Beside v w c)
@@ -216,7 +200,7 @@ module _ {V : Type 0} (cmp : V → V → Ordering) (o : IsTotalOrder cmp) (same 
           let l = cut_at t.0 t.1 t.2 in
           let p = stitched_beside a b l.first l.lists l.rest l.stitched (l.onto a b t.3) in
           let m = along_used table (pieces_at pieces t.0) l.lists l.taken p.0 p.1 in
-          let n : m.0 ≡ k = (segments_once cmp o same dec u su table all).one_arc a b m.0 k m.2 d m.3 f (side_same a b p.0 m.2 m.4 p.2) h in
+          let n : m.0 ≡ k = (segments_once cmp o same dec u su table all).one_arc a b m.0 k m.2 d m.3 f (same_beside a b p.0 m.2 m.4 p.2) h in
           let us : Uses k (pieces_at pieces t.0) = subst (λ w. Uses w (pieces_at pieces t.0)) n m.1 in
           (t.0, t.1, t.2, us, inside k t.0 t.1 d t.2 f us)
 

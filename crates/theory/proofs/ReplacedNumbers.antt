@@ -167,7 +167,7 @@ module _ {V : Type 0} (cmp : V → V → Ordering) (o : IsTotalOrder cmp) (same 
             ap (λ w. w ++ (y ∷ [])) (f ∙ ap (λ w. t ++ (w ∷ s)) a) ∙ append_assoc t (x ∷ s) (y ∷ []) ∙ sym (append_assoc t (x ∷ []) (s ++ (y ∷ []))),
           )
 
-  -- a list that stitches to a ring from one junction, turned to the chains_meet
+  -- a list that stitches to a ring from one junction, turned to its seam
   turn_list : (r : List V) (x : V) (l : List V) (us : List ArcRef) → IsRingOf u r → IsRotation r (x ∷ l) → JunctionOf u x →
       StitchFrom table x us (l ++ (x ∷ [])) →
       (before : List ArcRef) × (behind : List ArcRef) × (us ≡ before ++ behind) × IsRingList cmp (JunctionOf u) table r (behind ++ before)

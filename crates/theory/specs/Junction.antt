@@ -8,6 +8,7 @@ pub data Visit (V : Type 0) : Type 0 where
   end : Visit V
   pair : V → V → Visit V
 
+-- two visits that say the same: both an end, or the same two neighbours in either order
 abbrev pub SameVisit : {V : Type 0} → Visit V → Visit V → Type 0
 SameVisit end end = Unit {0}
 SameVisit end (pair c d) = ⊥

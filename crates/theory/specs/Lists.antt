@@ -63,6 +63,7 @@ abbrev pub EndOf : {V : Type 0} → V → List V → Type 0
 EndOf v [] = ⊥
 EndOf v (x ∷ r) = (v ≡ x) ⊎ (v ≡ last_of x r)
 
+-- each of the lists has P
 abbrev pub Each : {V : Type 0} → (List V → Type 0) → List (List V) → Type 0
 Each P [] = Unit {0}
 Each P (c ∷ cs) = P c × Each P cs
@@ -84,6 +85,7 @@ abbrev pub joined : {A : Type 0} → List (List A) → List A
 joined [] = []
 joined (x ∷ l) = x ++ joined l
 
+-- what f gives for each member, one after the other
 abbrev pub gathered : {A B : Type 0} → (A → List B) → List A → List B
 gathered f [] = []
 gathered f (x ∷ l) = f x ++ gathered f l

@@ -1,13 +1,14 @@
 -- The arcs of a map cut again under the junctions of a map that has all of its lines and rings.
-use Rattle.std.specs.Prelude.{◌≡◌, List, ◌⊎◌, ℕ, zero, suc, cond, [], ◌∷◌, ◌++◌, Some, slice_get}
+use Rattle.std.specs.Prelude.{◌≡◌, List, ◌⊎◌, ℕ, zero, suc, Bool, cond, not, [], ◌∷◌, ◌++◌, map, Some, slice_get}
 use Rattle.std.specs.declared.cmp.Ordering.{Ordering}
 use Rattle.theory.specs.ArcNumbers.{ArcRef, StitchTo, Uses, UsesOnce, backwards}
 use Rattle.theory.specs.Arcs.{AreArcsOf}
 use Rattle.theory.specs.Chain.{Free, IsChain}
 use Rattle.theory.specs.Geometry.{Geometry, IsLineOf, IsRingOf, JunctionOf, SegmentOf}
 use Rattle.theory.specs.LinesAndRings.{closed}
-use Rattle.theory.specs.Lists.{Beside, Each, Has, Pairwise, SomeHas, Steps}
+use Rattle.theory.specs.Lists.{Beside, Each, Has, Pairwise, SomeHas, Steps, front_of}
 use Rattle.theory.specs.Topology.{IsRingList}
+use Rattle.theory.specs.TopologyFunction.{is_junction, keep, line_cut, ref_of, ring_cut, some}
 
 -- in the one or in the other
 abbrev pub Either : {A : Type 0} → (A → Type 0) → (A → Type 0) → A → Type 0
@@ -31,6 +32,7 @@ pub record IsUnionOf {V : Type 0} (m n u : Geometry V) : Type 0 where
   pub lines : (l : List V) → IsLineOf u l → IsLineOf m l ⊎ IsLineOf n l
   pub rings : (r : List V) → IsRingOf u r → IsRingOf m r ⊎ IsRingOf n r
 
+-- the pieces of arc i
 abbrev pub pieces_at : List (List ArcRef) → ℕ → List ArcRef
 pieces_at [] i = []
 pieces_at (p ∷ ps) zero = p
@@ -57,6 +59,19 @@ pub record IsRefinementOf {V : Type 0} (cmp : V → V → Ordering) (g u : Geome
   pub new : AreArcsOf cmp u table
   pub cut : Pairwise (ArePiecesOfArc cmp (JunctionOf g) (JunctionOf u) table) arcs pieces
 
+-- a closed list without its last vertex: the ring that it goes round
+abbrev pub unclosed : {V : Type 0} → List V → List V
+unclosed [] = []
+unclosed (x ∷ r) = front_of x r
+
+-- the pieces of an arc of g under the stops of u: cut as a line, or, where g has no junction on it, as a ring
+abbrev pub arc_cut : {V : Type 0} → (V → V → Ordering) → (V → Bool) → (V → Bool) → List V → List (List V)
+arc_cut cmp old stop c = cond (some old c) (line_cut stop c) (ring_cut cmp stop (unclosed c))
+
+-- for each arc of g the numbers, in u's table, of its pieces
+abbrev pub recut : {V : Type 0} → (V → V → Ordering) → Geometry V → Geometry V → List (List V) → List (List V) → List (List ArcRef)
+recut cmp g u arcs table = map (λ c. map (ref_of cmp table) (arc_cut cmp (is_junction cmp g) (is_junction cmp u) c)) arcs
+
 -- what follows
 pub record RefinementLaws {V : Type 0} (cmp : V → V → Ordering) (g u : Geometry V) (arcs table : List (List V)) (pieces : List (List ArcRef)) : Type 0 where
   -- an arc of u that has a segment of g is a piece of an arc of g, and all its segments are those of that arc
@@ -74,9 +89,11 @@ pub record RefinementLaws {V : Type 0} (cmp : V → V → Ordering) (g u : Geome
       (before : List ArcRef) × (behind : List ArcRef) × (replaced pieces used ≡ before ++ behind) ×
       IsRingList cmp (JunctionOf u) table r (behind ++ before)
 
+-- an arc of g with a junction on it
 abbrev pub OpenArc : {V : Type 0} → Geometry V → List (List V) → List V → Type 0
 OpenArc g arcs l = Has l arcs × (¬ Free (JunctionOf g) l)
 
+-- a ring that, closed, is an arc of g without a junction
 abbrev pub LoopArc : {V : Type 0} → Geometry V → List (List V) → List V → Type 0
 LoopArc g arcs r = Has (closed r) arcs × Free (JunctionOf g) (closed r)
 
@@ -88,6 +105,17 @@ pub record AreArcsAsMap {V : Type 0} (m n : Geometry V) (ms ns : List (List V)) 
   pub open_right : (l : List V) → OpenArc n ns l → IsLineOf a l
   pub loop_left : (r : List V) → LoopArc m ms r → IsRingOf a r
   pub loop_right : (r : List V) → LoopArc n ns r → IsRingOf a r
+
+-- the arcs as a map: those that are not free as its lines, the free loops as its rings
+abbrev pub arcs_as_map : {V : Type 0} → (V → V → Ordering) → Geometry V → List (List V) → Geometry V
+arcs_as_map cmp g arcs = record {
+  lines = keep (some (is_junction cmp g)) arcs;
+  rings = map unclosed (keep (λ c. not (some (is_junction cmp g) c)) arcs);
+}
+
+-- the lines and the rings of both
+abbrev pub both_of : {V : Type 0} → Geometry V → Geometry V → Geometry V
+both_of a b = record { lines = a.lines ++ b.lines; rings = a.rings ++ b.rings }
 
 -- the two maps have the same segments and the same junctions
 pub record Alike {V : Type 0} (a u : Geometry V) : Type 0 where

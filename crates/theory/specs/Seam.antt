@@ -12,6 +12,7 @@ pub record IsLeastOf {V : Type 0} (cmp : V → V → Ordering) (P : V → Type 0
   pub has_it : P v
   pub least : (u : V) → Has u l → P u → AtMost cmp v u
 
+-- any vertex
 abbrev pub Any : {V : Type 0} → V → Type 0
 Any v = Unit {0}
 
