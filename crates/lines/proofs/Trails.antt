@@ -1,6 +1,6 @@
 -- What the faults of lists say: lists without a fault are lines and rings.
-use Rattle.std.proofs.Common.{◌≡◌, ◌≤◌, Bool, true, false, cond, not, ◌&&◌, List, [], ◌∷◌, ◌++◌, length, ◌⊎◌, inl, inr, refl, sym, ap, ◌∙◌, subst, arith, Some, None, nat_lt}
-use borrow.Author.Tests.{ltb-false}
+use Rattle.std.proofs.Common.{◌≡◌, ◌≤◌, Bool, true, false, cond, not, ◌&&◌, List, [], ◌∷◌, ◌++◌, length, ◌⊎◌, inl, inr, refl, sym, ap, ◌∙◌, subst, arith, Some, None, nat_lt, ◌↔◌}
+use borrow.Author.Tests.{ltb-true, ltb-false}
 use Rattle.std.specs.declared.cmp.Ordering.{Ordering}
 use Rattle.std.specs.Cmp.{IsTotalOrder}
 use Rattle.theory.proofs.JunctionTest.{same_vertex-equal, equal-same_vertex}
@@ -156,6 +156,38 @@ module _ {V : Type 0} (cmp : V → V → Ordering) (o : IsTotalOrder cmp) (same 
   pub line_accepted : (l : List V) → line_fault cmp l ≡ None → IsLine (collapsed cmp l)
   unfolding line_fault
   line_accepted l e = line_judged (collapsed cmp l) (collapsed_apart l) e
+
+  line_not_short : (c : List V) → IsLine c → (is_closed cmp c && nat_lt (length c) 4) ≡ false
+  line_not_short [] k = let n : 2 ≤ 0 = k.long in absurd (omega arith)
+  line_not_short (x ∷ []) k = let n : 2 ≤ 1 = k.long in absurd (omega arith)
+  line_not_short (x ∷ (y ∷ [])) k = go (same_vertex cmp x y) refl
+    where
+      go : (b : Bool) → same_vertex cmp x y ≡ b → (b && true) ≡ false
+      go true p = absurd ((k.once.0 y refl).0 (same_vertex-equal cmp o same x y p))
+      go false p = refl
+  line_not_short (x ∷ (y ∷ (z ∷ []))) k = go (same_vertex cmp x z) refl
+    where
+      go : (b : Bool) → same_vertex cmp x z ≡ b → (b && true) ≡ false
+      go true p = absurd ((k.once.0 y refl).1 (inr (inl (refl, same_vertex-equal cmp o same x z p))))
+      go false p = refl
+  line_not_short (x ∷ (y ∷ (z ∷ (w ∷ l)))) k = go (is_closed cmp (x ∷ (y ∷ (z ∷ (w ∷ l))))) (nat_lt (length (x ∷ (y ∷ (z ∷ (w ∷ l))))) 4) refl
+    where
+      go : (b d : Bool) → nat_lt (length (x ∷ (y ∷ (z ∷ (w ∷ l))))) 4 ≡ d → (b && d) ≡ false
+      go true true p = let n = ltb-true (length (x ∷ (y ∷ (z ∷ (w ∷ l))))) 4 p in absurd (omega arith)
+      go true false p = refl
+      go false d p = refl
+
+  line_faultless : (c : List V) → IsLine c → collapsed_line_fault cmp c ≡ None
+  line_faultless c k = go (nat_lt (length c) 2) refl
+    where
+      go : (b : Bool) → nat_lt (length c) 2 ≡ b → cond b (Some TooShort) (cond (is_closed cmp c && nat_lt (length c) 4) (Some TooShort) (cond (repeats cmp c) (Some Revisit) None)) ≡ None
+      go true p = let n = ltb-true (length c) 2 p in let m : 2 ≤ length c = k.long in absurd (omega arith)
+      go false p = rw (line_not_short c k, once_told c (trail_once c k.once)) refl
+
+  -- a list has no fault exactly where it is read as a line
+  pub line_exact : (l : List V) → (line_fault cmp l ≡ None) ↔ IsLine (collapsed cmp l)
+  unfolding line_fault
+  line_exact l = (line_judged (collapsed cmp l) (collapsed_apart l), line_faultless (collapsed cmp l))
 
   -- a closed list, and its ring
   pub record Closes (c : List V) : Type 0 where
