@@ -1,0 +1,143 @@
+#!/usr/bin/env python3
+"""Measures the command on tilings of districts, against reading the same files as JSON values.
+
+    cd crates/topotool && rt run; cd ../value_alone && rt run; cd ../..
+    python3 bench/run.py
+
+builds both programs and prints a table: for each command its time, how many times the time and the
+peak memory of reading its input as values alone it takes, and by how much the time grows when the
+map doubles. Times are processor times (user and system), the least of some runs. It also compares
+merges of shards, in several orders and shapes, with the build of the whole, byte by byte.
+"""
+
+import argparse
+import os
+import random
+import subprocess
+import sys
+import tempfile
+
+import generate
+
+TOP = os.path.dirname(os.path.dirname(os.path.abspath(__file__)))
+TOOL = os.path.join(TOP, "crates", "topotool", "out", "topotool")
+VALUE = os.path.join(TOP, "crates", "value_alone", "out", "value_alone")
+SHARDS = 16
+GRID = ["--grid", "1,1,0,0"]
+
+
+class Measure:
+    """Processor seconds and peak megabytes."""
+
+    def __init__(self, seconds, megabytes):
+        self.seconds = seconds
+        self.megabytes = megabytes
+
+
+def run_once(words, out):
+    """Runs a program to its end, with its output in a file."""
+    with open(out, "wb") as file:
+        child = subprocess.Popen(words, stdout=file)
+        _, status, usage = os.wait4(child.pid, 0)
+        child.returncode = os.waitstatus_to_exitcode(status)
+    if child.returncode != 0:
+        sys.exit(f"{' '.join(words[:3])} ended with {child.returncode}")
+    return Measure(usage.ru_utime + usage.ru_stime, usage.ru_maxrss / 1024)
+
+
+def measure(words, out, runs):
+    """The least time and the greatest memory of some runs."""
+    measures = [run_once(words, out) for _ in range(runs)]
+    return Measure(
+        min(each.seconds for each in measures), max(each.megabytes for each in measures)
+    )
+
+
+def same_bytes(left, right):
+    with open(left, "rb") as first, open(right, "rb") as second:
+        return first.read() == second.read()
+
+
+def make_topologies(folder):
+    """Builds the topology of the whole tiling and of each shard."""
+    whole = os.path.join(folder, "tiling.topo.json")
+    run_once([TOOL, "build", *GRID, "a=" + os.path.join(folder, "tiling.json")], whole)
+    shards = []
+    for shard in range(SHARDS):
+        name = os.path.join(folder, f"shard_{shard:02}")
+        run_once([TOOL, "build", *GRID, f"a={name}.json"], name + ".topo.json")
+        shards.append(name + ".topo.json")
+    return whole, shards
+
+
+def compare_merges(folder, whole, shards, seed):
+    """Merges in several orders and shapes give the bytes of the whole."""
+    rng = random.Random(seed)
+    out = os.path.join(folder, "merged.topo.json")
+    for shape in ["left", "right", "halves"]:
+        order = list(shards)
+        rng.shuffle(order)
+        run_once([TOOL, "merge", "--shape", shape, *order], out)
+        if not same_bytes(out, whole):
+            sys.exit(f"merge --shape {shape} differs from the build of the whole")
+    print(f"merges of {SHARDS} shards by left, right and halves, each in another order: same bytes")
+
+
+def commands(folder, whole, shards):
+    """The measured commands: title, words, and the files whose values are read for comparison."""
+    return [
+        ("build", ["build", *GRID, "a=" + os.path.join(folder, "tiling.json")],
+         [os.path.join(folder, "tiling.json")]),
+        ("check", ["check", whole], [whole]),
+        ("merge of one file", ["merge", whole], [whole]),
+        (f"merge of {SHARDS} shards", ["merge", *shards], shards),
+        ("feature", ["feature", "--layer", "a", whole], [whole]),
+        ("mesh", ["mesh", whole], [whole]),
+        ("mesh --edges interior", ["mesh", "--edges", "interior", whole], [whole]),
+        ("neighbors", ["neighbors", "--layer", "a", whole], [whole]),
+    ]
+
+
+def measure_size(folder, positions, seed, runs):
+    """Measures each command at one size: title, of the command and of the values."""
+    count = generate.write_tiling(folder, positions, seed, SHARDS)
+    whole, shards = make_topologies(folder)
+    compare_merges(folder, whole, shards, seed)
+    out = os.path.join(folder, "out")
+    results = []
+    for title, words, files in commands(folder, whole, shards):
+        value = measure([VALUE, *files], out, runs)
+        command = measure([TOOL, *words], out, runs)
+        results.append((title, command, value))
+    return count, results
+
+
+def print_table(sizes):
+    (count, small), (double, large) = sizes
+    print(f"\n{count} positions, and {double}\n")
+    print("| Command | Seconds | Times the value | Memory times the value | Doubled: times the value "
+          "| Time grows by |")
+    print("|---|---|---|---|---|---|")
+    for (title, command, value), (_, more, more_value) in zip(small, large):
+        print(
+            f"| `{title}` | {command.seconds:.2f} | {command.seconds / value.seconds:.2f} "
+            f"| {command.megabytes / value.megabytes:.2f} "
+            f"| {more.seconds / more_value.seconds:.2f} | {more.seconds / command.seconds:.2f} |"
+        )
+
+
+def main():
+    parser = argparse.ArgumentParser(description="Measures the command on tilings of districts.")
+    parser.add_argument("--positions", type=int, default=1_000_000)
+    parser.add_argument("--seed", type=int, default=1)
+    parser.add_argument("--runs", type=int, default=3)
+    words = parser.parse_args()
+    sizes = []
+    for positions in [words.positions, 2 * words.positions]:
+        with tempfile.TemporaryDirectory() as folder:
+            sizes.append(measure_size(folder, positions, words.seed, words.runs))
+    print_table(sizes)
+
+
+if __name__ == "__main__":
+    main()
