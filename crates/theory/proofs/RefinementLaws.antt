@@ -153,7 +153,7 @@ module _ {V : Type 0} (cmp : V → V → Ordering) (o : IsTotalOrder cmp) (same 
     chain_side (x ∷ (y ∷ r)) k = (x, y, inl (inl (refl, refl)))
 
     -- along a trail no arc is used twice
-    once : (used : List ArcRef) (cs : List (List V)) (x : V) (r : List V) → AreTaken table used cs → Stitched x cs r → Trail (x ∷ r) → UsesOnce used
+    pub once : (used : List ArcRef) (cs : List (List V)) (x : V) (r : List V) → AreTaken table used cs → Stitched x cs r → Trail (x ∷ r) → UsesOnce used
     once [] cs x r t s tr = tt
     once (a ∷ used) [] x r t s tr = absurd t
     once (a ∷ used) (c ∷ cs) x r t s tr =
