@@ -2,5 +2,7 @@
 #![tactic(auto)]
 
 pub mod read;
+pub mod write;
 
 pub use read::read;
+pub use write::write;

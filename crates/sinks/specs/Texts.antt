@@ -30,6 +30,14 @@ separator (x ∷ xs) = codes ","
 abbrev pub bracketed : List ℕ → List ℕ
 bracketed t = codes "[" ++ (t ++ codes "]")
 
+-- the texts in brackets, with commas between them
+abbrev pub list_text : {T : Type 0} → (T → List ℕ) → List T → List ℕ
+list_text f xs = bracketed (joined f xs)
+
+-- the texts with commas between them, behind a head and before a tail
+abbrev pub framed : {T : Type 0} → (T → List ℕ) → List ℕ → List T → List ℕ → List ℕ
+framed f head xs tail = head ++ (joined f xs ++ tail)
+
 -- two numbers in brackets
 abbrev pub pair_text : ℤ → ℤ → List ℕ
 pair_text x y = bracketed (signed_decimal x ++ (codes "," ++ signed_decimal y))

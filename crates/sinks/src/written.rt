@@ -5,7 +5,7 @@ ghost use Rattle.std.specs.Fmt.{signed_decimal};
 ghost use Rattle.std.specs.Iterator.{Drains, IsFinite};
 ghost use Rattle.sinks.specs.Seen.{Seen};
 ghost use Rattle.sinks.specs.Writes.{TookAll, TookPart};
-ghost use Rattle.sinks.specs.Texts.{bracketed, joined, after_comma, after_commas, option_text, pair_text};
+ghost use Rattle.sinks.specs.Texts.{bracketed, joined, after_comma, after_commas, framed, list_text, option_text, pair_text};
 
 use crate::{Sink, WriteFault, put};
 use itoa::Buffer;
@@ -82,6 +82,18 @@ pub trait Notation<T> {
     fn write_value<W: Sink>(&self, value: &T, sink: &mut W) -> Result<(), WriteFault>
         ensures whole { OnOk result (TookAll (W.seen sink.old) (W.seen sink.new) (text self.now value.now)) }
         ensures part { OnErr result (TookPart (W.seen sink.old) (W.seen sink.new) (text self.now value.now)) };
+}
+
+/// A value in a notation.
+#[derive(Clone, Copy)]
+pub struct Noted<'a, T, N>(pub &'a T, pub &'a N);
+
+impl<'a, T, N: Notation<T>> Written for Noted<'a, T, N> {
+    ghost text = { λ v. N.text v.1.now v.0.now };
+
+    fn write<W: Sink>(&self, sink: &mut W) -> Result<(), WriteFault> {
+        self.1.write_value(self.0, sink)
+    }
 }
 
 /// Values that have a text, by that text.
@@ -175,6 +187,18 @@ impl<A: Written> Written for Bracketed<A> {
     }
 }
 
+/// The values of a slice in one notation, as a list in brackets.
+#[derive(Clone, Copy)]
+pub struct Listed<'a, T, N>(pub &'a [T], pub &'a N);
+
+impl<'a, T, N: Notation<T>> Written for Listed<'a, T, N> {
+    ghost text = { λ l. list_text (N.text l.1.now) l.0.now };
+
+    fn write<W: Sink>(&self, sink: &mut W) -> Result<(), WriteFault> {
+        Bracketed(Each(self.0, self.1)).write(sink)
+    }
+}
+
 impl<'a, A: Written> Written for &'a A {
     ghost text = { λ a. A.text a.now };
 
@@ -183,27 +207,33 @@ impl<'a, A: Written> Written for &'a A {
     }
 }
 
-/// Writes the texts that an iterator gives, in order, with commas between them.
-/// After an error it takes the items that are left and offers nothing.
-pub fn write_joined<W: Sink, T: Written + Drop, I: Iterator<Item = T> + Drop>(
+/// Writes what an iterator gives, in one notation, with commas between, behind a head and before a tail.
+/// After an error it takes the values that are left and offers nothing.
+pub fn write_framed<W: Sink, T: Drop, N: Notation<T>, I: Iterator<Item = T> + Drop>(
     sink: &mut W,
-    items: I,
+    head: &[u8],
+    notation: &N,
+    values: I,
+    tail: &[u8],
 ) -> Result<(), WriteFault>
-    requires can { I.can_next items }
-    requires ends { IsFinite (I.remaining items) }
-    ensures whole { OnOk result ((xs : List T) × Drains I.next_gives items xs × TookAll (W.seen sink.old) (W.seen sink.new) (joined T.text xs)) }
-    ensures part { OnErr result ((xs : List T) × Drains I.next_gives items xs × TookPart (W.seen sink.old) (W.seen sink.new) (joined T.text xs)) }
+    requires can { I.can_next values }
+    requires ends { IsFinite (I.remaining values) }
+    ensures whole { OnOk result ((xs : List T) × Drains I.next_gives values xs × TookAll (W.seen sink.old) (W.seen sink.new) (framed (N.text notation.now) head.now xs tail.now)) }
+    ensures part { OnErr result ((xs : List T) × Drains I.next_gives values xs × TookPart (W.seen sink.old) (W.seen sink.new) (framed (N.text notation.now) head.now xs tail.now)) }
 {
-    let mut result = Ok(());
+    let mut result = put(sink, head);
     let mut separator = Text(b"");
-    for item in items {
+    for value in values {
         match result {
-            Ok(()) => result = Then(separator, &item).write(sink),
+            Ok(()) => result = Then(separator, Noted(&value, notation)).write(sink),
             Err(_) => {}
         }
         separator = Text(b",");
     }
-    result
+    match result {
+        Ok(()) => put(sink, tail),
+        Err(fault) => Err(fault),
+    }
 }
 
 #[cfg(test)]
@@ -230,8 +260,9 @@ mod tests {
     fn joins_what_an_iterator_gives(rt: HostRuntime) -> Result<(), Fail> {
         let rows = [Number(3), Number(0)];
         let mut kept = Kept::new(rt.alloc());
-        assert!(rt; write_joined(&mut kept, rows.iter()).is_ok());
-        assert_eq!(rt; kept.into_bytes().as_slice(), b"3,0".as_slice());
+        assert!(rt; write_framed(&mut kept, b"<", &Itself, rows.iter(), b">").is_ok());
+        assert!(rt; Listed(&rows, &Itself).write(&mut kept).is_ok());
+        assert_eq!(rt; kept.into_bytes().as_slice(), b"<3,0>[3,0]".as_slice());
         Ok(())
     }
 

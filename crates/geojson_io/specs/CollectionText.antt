@@ -1,0 +1,57 @@
+-- The text of a FeatureCollection (RFC 7946, section 3).
+use Rattle.std.specs.Prelude.{ℕ, ℤ, List, [], ◌∷◌, ◌++◌, codes, Bor}
+use Rattle.grid.specs.Place.{Transform}
+use Rattle.grid.specs.Fits.{absolute_place}
+use Rattle.grid.specs.declared.pos.Pos.{Pos}
+use Rattle.lines.specs.Seen.{positions_of, vertices_of}
+use Rattle.shapes.specs.Parts.{properties_text}
+use Rattle.shapes.specs.declared.shape.Id.{Id}
+use Rattle.shapes.specs.declared.shape.Shape.{Shape}
+use Rattle.shapes.specs.declared.shape.Shape.TheVariants as shape
+use Rattle.shapes.specs.declared.feature.Feature.{Feature}
+use Rattle.sinks.specs.Texts.{joined, bracketed, list_text, pair_text, framed}
+use Rattle.theory.specs.LinesAndRings.{closed}
+use Rattle.writing.specs.Members.{id_text}
+
+-- a position by its absolute numbers
+abbrev pub place_text : Transform → Pos → List ℕ
+place_text t p = pair_text (absolute_place t p).0 (absolute_place t p).1
+
+-- a line as it is
+abbrev pub line_text : Transform → List Pos → List ℕ
+line_text t ps = list_text (place_text t) ps
+
+-- the places of a closed list
+abbrev pub closed_text : Transform → List Pos → List ℕ
+closed_text t vs = joined (place_text t) (closed vs)
+
+-- a ring from its least rotation, with the first position repeated at the end
+abbrev pub ring_text : Transform → List Pos → List ℕ
+ring_text t vs = bracketed (closed_text t vs)
+
+-- coordinates and the name of their type
+abbrev pub geometry_text : List ℕ → List ℕ → List ℕ
+geometry_text coordinates name = codes "{\"coordinates\":" ++ (coordinates ++ (codes ",\"type\":\"" ++ (name ++ codes "\"}")))
+
+-- a geometry, or null
+abbrev pub shape_text : Transform → Shape → List ℕ
+shape_text t shape.Null = codes "null"
+shape_text t (shape.Point p) = geometry_text (place_text t p) (codes "Point")
+shape_text t (shape.MultiPoint ps) = geometry_text (list_text (place_text t) ps) (codes "MultiPoint")
+shape_text t (shape.Line l) = geometry_text (line_text t (positions_of l)) (codes "LineString")
+shape_text t (shape.MultiLine ls) = geometry_text (list_text (λ l. line_text t (positions_of l)) ls) (codes "MultiLineString")
+shape_text t (shape.Polygon rs) = geometry_text (list_text (λ r. ring_text t (vertices_of r)) rs) (codes "Polygon")
+shape_text t (shape.MultiPolygon ps) =
+    geometry_text (list_text (list_text (λ r. ring_text t (vertices_of r))) ps) (codes "MultiPolygon")
+
+-- a feature around the text of its geometry
+abbrev pub feature_frame : Id → List ℕ → List ℕ → List ℕ
+feature_frame i properties geometry =
+    codes "{\"geometry\":" ++ (geometry ++ (codes "," ++ (id_text i ++ (codes "\"properties\":" ++ (properties ++ codes ",\"type\":\"Feature\"}")))))
+
+abbrev pub feature_text : Transform → Feature → List ℕ
+feature_text t f = feature_frame f.id (properties_text f.props) (shape_text t f.shape)
+
+-- the features in order
+abbrev pub collection_text : Transform → List (Bor Feature) → List ℕ
+collection_text t fs = framed (λ f. feature_text t f.now) (codes "{\"features\":[") fs (codes "],\"type\":\"FeatureCollection\"}")

@@ -1,0 +1,205 @@
+//! Writing a GeoJSON FeatureCollection (RFC 7946, section 3.3), piece by piece and with no memory.
+ghost use Rattle.std.specs.Prelude.{◌≡◌, ℕ, ℤ, List, [], ◌++◌, codes, OnErr, OnOk, Bor};
+ghost use Rattle.std.specs.Iterator.{Drains, IsFinite};
+ghost use Rattle.std.specs.List.{map};
+ghost use Rattle.sinks.specs.Texts.{list_text, framed};
+ghost use Rattle.sinks.specs.Writes.{TookAll, TookPart};
+ghost use Rattle.lines.specs.Seen.{positions_of, vertices_of};
+ghost use Rattle.shapes.specs.Parts.{properties_text};
+ghost use Rattle.geojson_io.specs.CollectionText.{place_text, line_text, ring_text, closed_text, geometry_text, shape_text, feature_frame, feature_text, collection_text};
+ghost use Rattle.shapes.specs.declared.feature.Feature.{Feature};
+
+use grid::{Grid, Pos};
+use lines::line::Line;
+use lines::ring::Ring;
+use shapes::feature::Feature;
+use shapes::props::Props;
+use shapes::shape::{Id, Shape};
+use sinks::written::{Bracketed, Each, Listed, Notation, Noted, Pair, Text, Then, Written, write_framed};
+use sinks::{Sink, WriteFault};
+use writing::{IdMember, Lists};
+
+/// Positions, by their absolute numbers on a grid.
+#[derive(Clone, Copy)]
+pub struct Places<'a>(pub &'a Grid);
+
+impl<'a> Notation<Pos> for Places<'a> {
+    ghost text = { λ places p. place_text places.0.now p };
+
+    fn write_value<W: Sink>(&self, value: &Pos, sink: &mut W) -> Result<(), WriteFault> {
+        let (x, y) = self.0.to_absolute(*value);
+        Pair(x, y).write(sink)
+    }
+}
+
+/// Lines, as lists of places.
+#[derive(Clone, Copy)]
+pub struct LinesOn<'a>(pub &'a Grid);
+
+impl<'a> Notation<Line> for LinesOn<'a> {
+    ghost text = { λ lines line. line_text lines.0.now (positions_of line) };
+
+    fn write_value<W: Sink>(&self, value: &Line, sink: &mut W) -> Result<(), WriteFault> {
+        Listed(value.positions(), &Places(self.0)).write(sink)
+    }
+}
+
+/// Rings, as closed lists of places: from the least rotation, with the first place repeated at the end.
+#[derive(Clone, Copy)]
+pub struct RingsOn<'a>(pub &'a Grid);
+
+impl<'a> Notation<Ring> for RingsOn<'a> {
+    ghost text = { λ rings ring. ring_text rings.0.now (vertices_of ring) };
+
+    fn write_value<W: Sink>(&self, value: &Ring, sink: &mut W) -> Result<(), WriteFault> {
+        Bracketed(Closed(value.vertices(), self.0)).write(sink)
+    }
+}
+
+/// The places of a ring's vertices, and the first again.
+#[derive(Clone, Copy)]
+struct Closed<'a>(&'a [Pos], &'a Grid);
+
+impl<'a> Written for Closed<'a> {
+    ghost text = { λ c. closed_text c.1.now c.0.now };
+
+    fn write<W: Sink>(&self, sink: &mut W) -> Result<(), WriteFault> {
+        match self.0.first() {
+            Some(first) => {
+                let last = Then(Text(b","), Noted(first, &Places(self.1)));
+                Then(Each(self.0, &Places(self.1)), last).write(sink)
+            }
+            None => Ok(()),
+        }
+    }
+}
+
+/// A geometry, of its coordinates and its type's name.
+#[derive(Clone, Copy)]
+pub struct Geometry<'a, C>(pub C, pub &'a [u8]);
+
+impl<'a, C: Written> Written for Geometry<'a, C> {
+    ghost text = { λ g. geometry_text (C.text g.0) g.1.now };
+
+    fn write<W: Sink>(&self, sink: &mut W) -> Result<(), WriteFault> {
+        let name = Then(Text(b",\"type\":\""), Then(Text(self.1), Text(b"\"}")));
+        Then(Text(b"{\"coordinates\":"), Then(&self.0, name)).write(sink)
+    }
+}
+
+/// Shapes as geometries, or `null`.
+#[derive(Clone, Copy)]
+pub struct ShapesOn<'a>(pub &'a Grid);
+
+impl<'a> Notation<Shape> for ShapesOn<'a> {
+    ghost text = { λ shapes shape. shape_text shapes.0.now shape };
+
+    fn write_value<W: Sink>(&self, value: &Shape, sink: &mut W) -> Result<(), WriteFault> {
+        let grid = self.0;
+        match value {
+            Shape::Null => Text(b"null").write(sink),
+            Shape::Point(place) => Geometry(Noted(place, &Places(grid)), b"Point").write(sink),
+            Shape::MultiPoint(places) => Geometry(Listed(places.as_slice(), &Places(grid)), b"MultiPoint").write(sink),
+            Shape::Line(line) => Geometry(Noted(line, &LinesOn(grid)), b"LineString").write(sink),
+            Shape::MultiLine(lines) => Geometry(Listed(lines.as_slice(), &LinesOn(grid)), b"MultiLineString").write(sink),
+            Shape::Polygon(rings) => Geometry(Listed(rings.as_slice(), &RingsOn(grid)), b"Polygon").write(sink),
+            Shape::MultiPolygon(polygons) => {
+                Geometry(Listed(polygons.as_slice(), &Lists(RingsOn(grid))), b"MultiPolygon").write(sink)
+            }
+        }
+    }
+}
+
+/// A feature, of its id, its properties and its geometry's text.
+#[derive(Clone, Copy)]
+pub struct FeatureOf<'a, G> {
+    pub id: &'a Id,
+    pub props: &'a Props,
+    pub geometry: G,
+}
+
+impl<'a, G: Written> Written for FeatureOf<'a, G> {
+    ghost text = { λ f. feature_frame f.id.now (properties_text f.props.now) (G.text f.geometry) };
+
+    fn write<W: Sink>(&self, sink: &mut W) -> Result<(), WriteFault> {
+        let properties = Text(self.props.text().as_bytes());
+        let tail = Then(Text(b"\"properties\":"), Then(properties, Text(b",\"type\":\"Feature\"}")));
+        let id = Then(Text(b","), Then(IdMember(self.id), tail));
+        Then(Text(b"{\"geometry\":"), Then(&self.geometry, id)).write(sink)
+    }
+}
+
+/// Features in absolute numbers.
+#[derive(Clone, Copy)]
+pub struct FeaturesOn<'a>(pub &'a Grid);
+
+impl<'a, 'b> Notation<&'b Feature> for FeaturesOn<'a> {
+    ghost text = { λ features f. feature_text features.0.now f.now };
+
+    fn write_value<W: Sink>(&self, value: &&'b Feature, sink: &mut W) -> Result<(), WriteFault> {
+        let feature = *value;
+        FeatureOf {
+            id: &feature.id,
+            props: &feature.props,
+            geometry: Noted(&feature.shape, &ShapesOn(self.0)),
+        }
+        .write(sink)
+    }
+}
+
+/// Writes the features as a FeatureCollection, in the iterator's order. Positions are written in absolute
+/// numbers, a line as it is, a ring from its least rotation and closed.
+///
+/// # Errors
+/// `Write` where the sink failed; it then took a beginning of the text.
+pub fn write<'a, W: Sink, I: Iterator<Item = &'a Feature> + Drop>(grid: &Grid, features: I, sink: &mut W) -> Result<(), WriteFault>
+    requires can { I.can_next features }
+    requires ends { IsFinite (I.remaining features) }
+    ensures whole { OnOk result ((xs : List (Bor Feature)) × Drains I.next_gives features xs × TookAll (W.seen sink.old) (W.seen sink.new) (collection_text grid.now xs)) }
+    ensures part { OnErr result ((xs : List (Bor Feature)) × Drains I.next_gives features xs × TookPart (W.seen sink.old) (W.seen sink.new) (collection_text grid.now xs)) }
+{
+    write_framed(sink, b"{\"features\":[", &FeaturesOn(grid), features, b"],\"type\":\"FeatureCollection\"}")
+}
+
+#[cfg(test)]
+mod tests {
+    use super::*;
+    use crate::read;
+    use sinks::{Answer, Kept, Script};
+    use std::alloc::Global;
+    use std::test::Fail;
+
+    const SQUARES: &[u8] = b"{\"features\":[{\"geometry\":{\"coordinates\":[[[0,0],[1,0],[1,1],[0,1],[0,0]]],\"type\":\"Polygon\"},\"properties\":{},\"type\":\"Feature\"},{\"geometry\":{\"coordinates\":[[[1,0],[2,0],[2,1],[1,1],[1,0]]],\"type\":\"Polygon\"},\"properties\":{},\"type\":\"Feature\"}],\"type\":\"FeatureCollection\"}";
+
+    const KINDS: &[u8] = b"{\"features\":[{\"geometry\":null,\"properties\":{\"a\":1},\"type\":\"Feature\"},{\"geometry\":{\"coordinates\":[-20,7],\"type\":\"Point\"},\"id\":3,\"properties\":{},\"type\":\"Feature\"},{\"geometry\":{\"coordinates\":[],\"type\":\"MultiPolygon\"},\"id\":\"m\",\"properties\":{},\"type\":\"Feature\"},{\"geometry\":{\"coordinates\":[[10,7],[0,8]],\"type\":\"LineString\"},\"id\":\"n\",\"properties\":{},\"type\":\"Feature\"}],\"type\":\"FeatureCollection\"}";
+
+    fn write_again(alloc: Global, grid: &Grid, text: &[u8]) -> Option<Vec<u8>> {
+        let features = read(alloc, text, grid).ok()?;
+        let mut kept = Kept::new(alloc);
+        write(grid, features.iter(), &mut kept).ok()?;
+        Some(kept.into_bytes())
+    }
+
+    #[test]
+    fn writes_what_was_read(rt: HostRuntime) {
+        let grid = Grid::new(1, 1, 0, 0).expect(&rt, "a grid");
+        let again = write_again(rt.alloc(), &grid, SQUARES).expect(&rt, "a text");
+        assert_eq!(rt; again.as_slice(), SQUARES);
+        let grid = Grid::new(10, 1, 0, 7).expect(&rt, "a grid");
+        let again = write_again(rt.alloc(), &grid, KINDS).expect(&rt, "a text");
+        assert_eq!(rt; again.as_slice(), KINDS);
+    }
+
+    #[test]
+    fn stops_at_a_failure(rt: HostRuntime) -> Result<(), Fail> {
+        let grid = Grid::new(1, 1, 0, 0).expect(&rt, "a grid");
+        let features = read(rt.alloc(), SQUARES, &grid).ok().expect(&rt, "features");
+        let mut answers = Vec::new(rt.alloc());
+        answers.push(Answer::Take(13))?;
+        answers.push(Answer::FailAfter(3))?;
+        let mut script = Script::new(rt.alloc(), answers);
+        assert_eq!(rt; write(&grid, features.iter(), &mut script), Err(WriteFault::Write));
+        assert_eq!(rt; script.taken(), &SQUARES[..16]);
+        Ok(())
+    }
+}

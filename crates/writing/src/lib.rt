@@ -1,0 +1,69 @@
+//! Parts of texts that both writers share: lists of lists, and the member `id`.
+#![tactic(auto)]
+
+ghost use Rattle.std.specs.Prelude.{◌≡◌, ℕ, List, ◌++◌, codes, OnErr, OnOk};
+ghost use Rattle.std.specs.Fmt.{signed_decimal};
+ghost use Rattle.sinks.specs.Texts.{list_text};
+ghost use Rattle.sinks.specs.Writes.{TookAll, TookPart};
+ghost use Rattle.writing.specs.Members.{id_text};
+
+use lines::items::Items;
+use shapes::shape::Id;
+use sinks::written::{Listed, Notation, Number, Text, Then, Written};
+use sinks::{Sink, WriteFault};
+
+/// Lists of values in one notation, each in brackets.
+#[derive(Clone, Copy)]
+pub struct Lists<N>(pub N);
+
+impl<T, N: Notation<T>> Notation<Items<T>> for Lists<N> {
+    ghost text = { λ lists values. list_text (N.text lists.0) values };
+
+    fn write_value<W: Sink>(&self, value: &Items<T>, sink: &mut W) -> Result<(), WriteFault> {
+        Listed(value.as_slice(), &self.0).write(sink)
+    }
+}
+
+/// The member `id` and a comma, or nothing where there is no id.
+#[derive(Clone, Copy)]
+pub struct IdMember<'a>(pub &'a Id);
+
+impl<'a> Written for IdMember<'a> {
+    ghost text = { λ member. id_text member.0.now };
+
+    fn write<W: Sink>(&self, sink: &mut W) -> Result<(), WriteFault> {
+        match self.0 {
+            Id::None => Ok(()),
+            Id::Number(number) => Then(Text(b"\"id\":"), Then(Number(*number), Text(b","))).write(sink),
+            Id::Text(text) => {
+                let spelling = Text(text.spelling().as_bytes());
+                Then(Text(b"\"id\":"), Then(spelling, Text(b","))).write(sink)
+            }
+        }
+    }
+}
+
+#[cfg(test)]
+mod tests {
+    use super::*;
+    use sinks::Kept;
+    use sinks::written::Itself;
+    use shapes::spelled::Spelled;
+    use std::test::Fail;
+
+    #[test]
+    fn lists_and_ids(rt: HostRuntime) -> Result<(), Fail> {
+        let mut numbers = Vec::new(rt.alloc());
+        numbers.push(Number(1))?;
+        numbers.push(Number(2))?;
+        let lists = [Items::from_vec(numbers), Items::from_vec(Vec::new(rt.alloc()))];
+        let mut kept = Kept::new(rt.alloc());
+        assert!(rt; Listed(&lists, &Lists(Itself)).write(&mut kept).is_ok());
+        let name = Spelled::new(rt.alloc(), "a\"b").expect(&rt, "memory");
+        assert!(rt; IdMember(&Id::Text(name)).write(&mut kept).is_ok());
+        assert!(rt; IdMember(&Id::Number(-7)).write(&mut kept).is_ok());
+        assert!(rt; IdMember(&Id::None).write(&mut kept).is_ok());
+        assert_eq!(rt; kept.into_bytes().as_slice(), b"[[1,2],[]]\"id\":\"a\\\"b\",\"id\":-7,".as_slice());
+        Ok(())
+    }
+}
