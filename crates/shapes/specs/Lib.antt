@@ -3,5 +3,8 @@ pub mod Properties
 pub mod Parts
 pub mod Order
 pub mod OrderLaws
+pub mod Sets
+pub mod SetLaws
+pub mod Union
 pub mod Maps
 pub mod Inside

@@ -1,8 +1,9 @@
 //! A layer of a feature map: its name and its set of features.
-ghost use Rattle.std.specs.Prelude.{◌≡◌, OnOk, IfOk, OnErr, IsOkUnless, not};
-ghost use Rattle.std.specs.FinSet as set;
+ghost use Rattle.std.specs.Prelude.{◌≡◌, OnOk, IfOk, OnErr, IsOkUnless, not, option_map};
+ghost use Rattle.shapes.specs.Sets as set;
 ghost use Rattle.shapes.specs.declared.insert_fault.InsertFault.TheVariants.{OutOfMemory as WantOfMemory};
 ghost use Rattle.shapes.specs.Maps.{set_of};
+ghost use Rattle.shapes.specs.Inside.{features_if};
 
 use crate::feature::Feature;
 use crate::insert_fault::InsertFault;
@@ -30,10 +31,16 @@ impl Layer {
         Ok(added)
     }
 
-    // The layer with the features of both.
-    pub fn united(&self, alloc: Global, other: &Layer) -> Result<Layer, OutOfMemory> {
+    // The layer with the features of another one beside its own, copied.
+    pub fn united(&self, alloc: Global, other: Option<&Layer>) -> Result<Layer, OutOfMemory>
+        ensures name { IfOk result (λ l. l.name ≡ self.now.name) }
+        ensures features { IfOk result (λ l. set_of l.features ≡ set.union (set_of self.now.features) (features_if (option_map (λ o. o.now) other.entry))) }
+    {
         let name = self.name.copy(alloc)?;
-        let features = union_of(alloc, &self.features, &other.features)?;
+        let features = match other {
+            Some(other) => union_of(alloc, &self.features, &other.features)?,
+            None => union_of(alloc, &self.features, &BTreeSet::new(alloc))?,
+        };
         Ok(Layer { name, features })
     }
 
@@ -46,20 +53,16 @@ impl Layer {
         }
         true
     }
-
-    pub fn copy(&self, alloc: Global) -> Result<Layer, OutOfMemory> {
-        let name = self.name.copy(alloc)?;
-        let none = BTreeSet::new(alloc);
-        let features = union_of(alloc, &self.features, &none)?;
-        Ok(Layer { name, features })
-    }
 }
 
+// Copies of the features of both sets, by one pass over the two.
 fn union_of(
     alloc: Global,
     these: &BTreeSet<Feature>,
     those: &BTreeSet<Feature>,
-) -> Result<BTreeSet<Feature>, OutOfMemory> {
+) -> Result<BTreeSet<Feature>, OutOfMemory>
+    ensures { IfOk result (λ s. set_of s ≡ set.union (set_of these.now) (set_of those.now)) }
+{
     let mut copies = Vec::new(alloc);
     for feature in these.union(those) {
         copies.push(feature.copy(alloc)?)?;

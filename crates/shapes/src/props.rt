@@ -65,10 +65,9 @@ impl Props {
             return Err(PropFault::PropertyDepth);
         }
         match value.to_string(alloc) {
-            Ok(text) => {
-                let text = Text::from_string(text);
-                Ok(Props { text })
-            }
+            Ok(text) => Ok(Props {
+                text: Text::from_string(text),
+            }),
             Err(AllocError) => Err(PropFault::OutOfMemory),
         }
     }
