@@ -1,6 +1,7 @@
 pub mod Spelling
 pub mod Properties
 pub mod Parts
+pub mod PropertyFaults
 pub mod Order
 pub mod OrderLaws
 pub mod Sets

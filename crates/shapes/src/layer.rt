@@ -67,5 +67,6 @@ fn union_of(
     for feature in these.union(those) {
         copies.push(feature.copy(alloc)?)?;
     }
-    Ok(BTreeSet::from_iter(alloc, copies)?)
+    let features: BTreeSet<Feature> = copies.into_iter().collect(alloc)?;
+    Ok(features)
 }

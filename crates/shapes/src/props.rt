@@ -45,15 +45,18 @@ pub enum PropFault {
 }
 
 impl Props {
-    ghost use Rattle.std.specs.Prelude.{IfOk, IfErr, ◌⊎◌, None, Some, ◌↔◌, IsTrue, codes};
+    ghost use Rattle.std.specs.Prelude.{◌≢◌, IfOk, IfErr, None, Some, ◌↔◌, IsTrue, codes};
     ghost use Rattle.serde_json.specs.View.{view};
     ghost use Rattle.serde_json.specs.Written.{compact_text};
     ghost use Rattle.shapes.specs.Parts.{properties_text};
+    ghost use Rattle.shapes.specs.PropertyFaults.{property_fault};
 
     /// The properties that the value is, or what is wrong with it: first that it is no object,
     /// then a number that is not whole, then its depth.
     pub fn from_value(alloc: Global, value: &Value) -> Result<Props, PropFault>
+        ensures ok { IfOk result (λ _. property_fault (view value.now) ≡ None) }
         ensures text { IfOk result (λ p. properties_text p ≡ compact_text (view value.now)) }
+        ensures fault { IfErr result (λ f. f ≢ PropFault.OutOfMemory → property_fault (view value.now) ≡ Some f) }
     {
         let Value::Object(_) = value else {
             return Err(PropFault::WrongKind);
