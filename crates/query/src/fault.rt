@@ -1,0 +1,63 @@
+//! Why a question to a topology has no answer.
+ghost use Rattle.std.specs.Prelude.{◌≡◌};
+ghost use Rattle.query.specs.declared.fault.QueryFault.TheVariants.{OutOfMemory as WantOfMemory};
+ghost use Rattle.query.specs.declared.fault.LayerFault.TheVariants.{Write};
+
+use faults::OutOfMemory;
+use sinks::WriteFault;
+use std::alloc::{AllocError, AllocFailed};
+use thiserror::Error;
+
+/// Why a question about a layer has no answer.
+#[derive(Clone, Copy, PartialEq, Eq, Debug, Error)]
+pub enum QueryFault {
+    /// The topology has no layer of that name.
+    #[error("no such layer")]
+    NoLayer,
+    /// A growth of memory was refused.
+    #[error("out of memory")]
+    OutOfMemory,
+}
+
+/// Why a layer wasn't written.
+#[derive(Clone, Copy, PartialEq, Eq, Debug, Error)]
+pub enum LayerFault {
+    /// The topology has no layer of that name.
+    #[error("no such layer")]
+    NoLayer,
+    /// The sink failed.
+    #[error("output failed")]
+    Write,
+}
+
+impl From<AllocError> for QueryFault {
+    ghost from_gives = { λ _ f. f ≡ WantOfMemory };
+
+    fn from(_: AllocError) -> QueryFault {
+        QueryFault::OutOfMemory
+    }
+}
+
+impl<T: Drop> From<AllocFailed<T>> for QueryFault {
+    ghost from_gives = { λ _ f. f ≡ WantOfMemory };
+
+    fn from(_: AllocFailed<T>) -> QueryFault {
+        QueryFault::OutOfMemory
+    }
+}
+
+impl From<OutOfMemory> for QueryFault {
+    ghost from_gives = { λ _ f. f ≡ WantOfMemory };
+
+    fn from(_: OutOfMemory) -> QueryFault {
+        QueryFault::OutOfMemory
+    }
+}
+
+impl From<WriteFault> for LayerFault {
+    ghost from_gives = { λ _ f. f ≡ Write };
+
+    fn from(_: WriteFault) -> LayerFault {
+        LayerFault::Write
+    }
+}
