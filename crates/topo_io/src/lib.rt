@@ -2,5 +2,9 @@
 #![tactic(auto)]
 
 pub mod read;
+pub mod same;
+pub mod write;
 
 pub use read::read;
+pub use same::is_text_of;
+pub use write::write;

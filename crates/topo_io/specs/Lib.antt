@@ -1,0 +1,2 @@
+pub mod TopologyText
+pub mod Front

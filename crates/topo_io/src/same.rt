@@ -1,0 +1,89 @@
+//! Whether bytes are the canonical text of a topology, with no memory.
+
+ghost use Rattle.std.specs.Prelude.{◌≡◌, ◌≢◌, ◌↔◌, ℕ, ◌<◌, ◌≤◌, ◌++◌, length, take, drop, List, [], IfOk, OnErr, OnOk, Some, None, IsTrue, slice_index, true, false};
+ghost use Rattle.sinks.specs.Seen.{Seen};
+ghost use Rattle.sinks.specs.Writes.{TookAll, TookPart};
+ghost use Rattle.topo.specs.OfMap.{seen_parts};
+ghost use Rattle.topo_io.specs.TopologyText.{topology_text};
+ghost use Rattle.topo_io.specs.Front.{taken, is_next, may_have_failed, IsCommon};
+
+use crate::write::Canonical;
+use sinks::{Refused, Sink, WriteFault};
+use sinks::written::Written;
+use topo::topology::Topology;
+
+/// A sink that takes the bytes of one text, and refuses after the first other byte.
+#[derive(Drop)]
+struct Expected<'a> {
+    whole: &'a [u8],
+    at: usize,
+    wrong: Option<u8>,
+    failures: u64,
+    ghost within: { at ≤ length whole.now },
+    ghost other: { is_next whole.now at wrong ≡ false },
+    ghost quiet: { may_have_failed wrong failures ≡ true },
+}
+
+impl<'a> Sink for Expected<'a> {
+    ghost seen = { λ e. record { bytes = Some (taken e.whole.now e.at e.wrong); failures = e.failures } };
+
+    fn offer(&mut self, piece: &[u8]) -> Result<usize, Refused> {
+        if self.wrong.is_some() {
+            if piece.is_empty() {
+                return Ok(0);
+            }
+            self.failures = self.failures.saturating_add(1);
+            return Err(Refused);
+        }
+        let same = common(&self.whole[self.at..], piece);
+        if same < piece.len() {
+            self.at += same;
+            self.wrong = Some(piece[same]);
+            self.failures = self.failures.saturating_add(1);
+            return Err(Refused);
+        }
+        self.at += same;
+        Ok(same)
+    }
+
+    fn flush(&mut self) -> Result<(), Refused> {
+        Ok(())
+    }
+}
+
+// How far two lists are the same.
+fn common(a: &[u8], b: &[u8]) -> usize
+    ensures { IsCommon a.now b.now result }
+{
+    let mut n = 0;
+    while n < a.len() && n < b.len() {
+        if a[n] != b[n] {
+            return n;
+        }
+        n += 1;
+    }
+    n
+}
+
+// Whether the bytes are the text of the value.
+fn is_written_text<T: Written>(value: &T, bytes: &[u8]) -> bool
+    ensures { IsTrue result ↔ (bytes.now ≡ T.text value.now) }
+{
+    let mut sink = Expected {
+        whole: bytes,
+        at: 0,
+        wrong: None,
+        failures: 0,
+    };
+    match value.write(&mut sink) {
+        Ok(()) => sink.wrong.is_none() && sink.at == bytes.len(),
+        Err(WriteFault::Write) => false,
+    }
+}
+
+/// Whether the bytes are the canonical text of the topology.
+pub fn is_text_of(topology: &Topology, bytes: &[u8]) -> bool
+    ensures { IsTrue result ↔ (bytes.now ≡ topology_text (seen_parts topology.now)) }
+{
+    is_written_text(&Canonical(topology), bytes)
+}
