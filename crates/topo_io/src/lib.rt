@@ -6,5 +6,5 @@ pub mod same;
 pub mod write;
 
 pub use read::read;
-pub use same::is_text_of;
+pub use same::{is_canonical, is_text_of};
 pub use write::write;

@@ -7,9 +7,12 @@ ghost use Rattle.topo.specs.OfMap.{seen_parts};
 ghost use Rattle.topo_io.specs.TopologyText.{topology_text};
 ghost use Rattle.topo_io.specs.Front.{taken, is_next, may_have_failed, IsCommon};
 
+use crate::read;
 use crate::write::Canonical;
+use faults::{Fault, FaultKind, OutOfMemory};
 use sinks::{Refused, Sink, WriteFault};
 use sinks::written::Written;
+use std::alloc::Global;
 use topo::topology::Topology;
 
 /// A sink that takes the bytes of one text, and refuses after the first other byte.
@@ -86,4 +89,30 @@ pub fn is_text_of(topology: &Topology, bytes: &[u8]) -> bool
     ensures { IsTrue result ↔ (bytes.now ≡ topology_text (seen_parts topology.now)) }
 {
     is_written_text(&Canonical(topology), bytes)
+}
+
+/// Whether an accepted text is the canonical text of what it means.
+///
+/// # Errors
+/// The fault of `read`, or want of memory.
+pub fn is_canonical(alloc: Global, bytes: &[u8]) -> Result<bool, Fault> {
+    let (grid, map) = read(alloc, bytes)?;
+    match Topology::build(alloc, &grid, &map) {
+        Ok(topology) => Ok(is_text_of(&topology, bytes)),
+        Err(OutOfMemory) => Err(Fault::here(alloc, FaultKind::OutOfMemory)),
+    }
+}
+
+#[cfg(test)]
+mod tests {
+    use super::*;
+
+    #[test]
+    fn another_tools_text_is_not_canonical(rt: HostRuntime) {
+        let text = b"{\"type\":\"Topology\",\"transform\":{\"scale\":[1,1],\"translate\":[0,0]},\"bbox\":[0.5,0,1,1],\"x\":0,\"objects\":{\"a\":{\"type\":\"Polygon\",\"arcs\":[[0,1]]}},\"arcs\":[[[0,0],[1,0],[0,1]],[[1,1],[-1,0],[0,-1]],[[5,5],[1,1]]]}";
+        assert!(rt; !is_canonical(rt.alloc(), text).ok().expect(&rt, "an accepted text"));
+        let text = b"{\"arcs\":[[[0,0],[0,1],[1,0],[0,-1],[-1,0]]],\"bbox\":[0,0,1,1],\"objects\":{\"a\":{\"geometries\":[{\"arcs\":[[-1]],\"type\":\"Polygon\"}],\"type\":\"GeometryCollection\"}},\"transform\":{\"scale\":[1,1],\"translate\":[0,0]},\"type\":\"Topology\"}";
+        assert!(rt; is_canonical(rt.alloc(), text).ok().expect(&rt, "an accepted text"));
+        assert!(rt; is_canonical(rt.alloc(), &text[1..]).is_err());
+    }
 }
