@@ -1,23 +1,20 @@
 -- The segments and junctions of a map are a network, with the map's chains.
-use Rattle.std.proofs.Common.{◌≡◌, List, [], ◌∷◌, ◌++◌, ◌⊎◌, inl, inr, refl, sym, ap, ◌∙◌, subst, ◌↔◌, Bool, true, false}
+use Rattle.std.proofs.Common.{◌≡◌, List, [], ◌∷◌, ◌++◌, inl, inr, refl, sym, ap, subst, ◌↔◌}
 use Rattle.std.specs.Cmp.{IsTotalOrder}
 use Rattle.std.specs.FinMap.{IsAntisymmetric}
 use Rattle.std.specs.declared.cmp.Ordering.{Ordering}
-use Rattle.theory.proofs.Ascending.{at_most_same}
-use Rattle.theory.proofs.Junctions.{line_visit}
 use Rattle.theory.proofs.JunctionTest.{junction_told, is_told}
-use Rattle.theory.proofs.Lists.{Has-append, Has-append_left, Has-append_right, Passes-before, Steps-left, Steps-right}
+use Rattle.theory.proofs.Lists.{Has-append, Has-append_left, Has-append_right, Passes-before, Steps-right}
 use Rattle.theory.proofs.ListsOfLists.{Has-gathered, gathered_from, Has-joined}
 use Rattle.theory.proofs.Pieces.{SegmentOf-flip, SegmentOf-apart, two_segments_of}
 use Rattle.theory.proofs.Turning.{keep_has, has_keep}
-use Rattle.theory.specs.Chain.{Chain, IsChain}
+use Rattle.theory.specs.Chain.{IsChain}
 use Rattle.theory.specs.Geometry.{Geometry, IsLineOf, IsRingOf, IsSound, AtMost, SegmentOf, JunctionOf, IsChainOf}
 use Rattle.theory.specs.Junction.{Visits, Visit, end, pair}
 use Rattle.theory.specs.LinesAndRings.{around}
-use Rattle.theory.specs.Lists.{Begins, Has, Steps, Beside, Passes, Between, EndOf, last_of, gathered, joined}
+use Rattle.theory.specs.Lists.{Has, Steps, Between, EndOf, last_of, gathered, joined}
 use Rattle.theory.specs.Network.{Network, Joins, IsStop, IsNetwork, IsChainIn, IsNetworkOf, pairs_in, network_of}
-use Rattle.theory.specs.Segments.{TwoSegments}
-use Rattle.theory.specs.TopologyFunction.{is_junction, keep}
+use Rattle.theory.specs.TopologyFunction.{is_junction}
 
 pub Joins-flip : {V : Type 0} (n : Network V) (u v : V) → Joins n u v → Joins n v u
 Joins-flip n u v (inl h) = inr h

@@ -1,26 +1,25 @@
 -- Each arc of a map has its pieces among the arcs of a map that has all of its lines and rings.
-use Rattle.std.proofs.Common.{◌≡◌, ◌≤◌, ℕ, Bool, true, false, cond, not, List, [], ◌∷◌, ◌++◌, length, map, ◌⊎◌, inl, inr, refl, sym, ap, ◌∙◌, subst, arith, Some, slice_get}
+use Rattle.std.proofs.Common.{◌≡◌, ℕ, Bool, true, false, cond, not, List, [], ◌∷◌, map, ◌⊎◌, inl, inr, refl, sym, ap, ◌∙◌, subst, Some, slice_get}
 use Rattle.std.specs.Cmp.{IsTotalOrder}
 use Rattle.std.specs.FinMap.{IsAntisymmetric}
 use Rattle.std.specs.declared.cmp.Ordering.{Ordering}
 use Rattle.theory.proofs.ArcsAsMap.{arcs_sound, arcs_alike, arcs_same, kind, turned_alike}
 use Rattle.theory.proofs.ArcsOfMap.{are_arcs}
-use Rattle.theory.proofs.JunctionTest.{some_found, some_from, some_none, junction_told, is_told}
+use Rattle.theory.proofs.JunctionTest.{some_found, some_none, junction_told, is_told}
 use Rattle.theory.proofs.Lists.{Has-append, Has-append_left, Has-append_right, front-snoc}
 use Rattle.theory.proofs.ListsOfLists.{Has-map, map_has, Pairwise-map, Pairwise-same, get_has}
 use Rattle.theory.proofs.OneTopology.{arcs_unique}
 use Rattle.theory.proofs.Pieces.{SegmentOf-flip}
-use Rattle.theory.proofs.RefinementLaws.{pieces_unique, part_segment, home, chain_side}
+use Rattle.theory.proofs.RefinementLaws.{pieces_unique, home, chain_side}
 use Rattle.theory.proofs.TopologyExists.{line_stitched, ring_stitched}
 use Rattle.theory.proofs.Turning.{keep_has, has_keep}
 use Rattle.theory.specs.ArcNumbers.{ArcRef, StitchTo, Uses}
 use Rattle.theory.specs.Arcs.{AreArcsOf}
-use Rattle.theory.specs.Chain.{Free, IsChain}
+use Rattle.theory.specs.Chain.{Free}
 use Rattle.theory.specs.Geometry.{Geometry, IsLineOf, IsRingOf, SegmentOf, JunctionOf, IsSound, IsChainOf}
 use Rattle.theory.specs.LinesAndRings.{closed}
-use Rattle.theory.specs.Lists.{Has, Steps, Beside, Pairwise}
-use Rattle.theory.specs.Refinement.{IsPartOf, IsUnionOf, Alike, OpenArc, LoopArc, AreArcsAsMap, ArePiecesOfArc, IsRefinementOf, RefinementLaws, unclosed, arc_cut, recut, arcs_as_map, both_of, pieces_at}
-use Rattle.theory.specs.Topology.{IsRingList}
+use Rattle.theory.specs.Lists.{Has, Beside}
+use Rattle.theory.specs.Refinement.{IsPartOf, IsUnionOf, Alike, OpenArc, LoopArc, AreArcsAsMap, ArePiecesOfArc, IsRefinementOf, unclosed, arc_cut, recut, arcs_as_map, both_of, pieces_at}
 use Rattle.theory.specs.TopologyFunction.{arcs_of, is_junction, keep, line_cut, line_refs, ref_of, ring_cut, ring_refs, some}
 
 unclosed-closed : {V : Type 0} (r : List V) → unclosed (closed r) ≡ r

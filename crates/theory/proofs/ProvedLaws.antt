@@ -1,5 +1,5 @@
 -- The laws of maps, proved.
-use Rattle.std.proofs.Common.{◌≡◌, ◌≤◌, ℕ, Bool, true, false, cond, List, [], ◌∷◌, ◌++◌, length, reverse, ◌⊎◌, inl, inr, refl, sym, ap, ◌∙◌, subst, arith, ◌↔◌}
+use Rattle.std.proofs.Common.{◌≡◌, ◌≤◌, Bool, true, false, cond, List, [], ◌∷◌, ◌++◌, inl, inr, refl, ap, ◌∙◌, subst, arith}
 use Rattle.std.specs.declared.cmp.Ordering.{Ordering}
 use Rattle.theory.proofs.ArcsAsMap.{arcs_alike, arcs_sound, junction_map}
 use Rattle.theory.proofs.ArcsOfMap.{are_arcs, line_is_cut, ring_is_cut}
@@ -17,20 +17,21 @@ use Rattle.theory.proofs.PiecesExist.{are_arcs_as_map, arcs_are_pieces, recut_re
 use Rattle.theory.proofs.Removal.{removal_laws}
 use Rattle.theory.proofs.ReplacedNumbers.{refinement_laws}
 use Rattle.theory.proofs.Reversing.{IsChain-reverse}
+use Rattle.theory.proofs.RingListStart.{least_start}
 use Rattle.theory.proofs.Rotations.{least_second, ring_list_rotated, rotation_back, rotation_has}
 use Rattle.theory.proofs.SegmentsOnce.{segments_once, sorted_pieces_are_arcs}
 use Rattle.theory.proofs.Stitching.{beside_stitched, stitched_beside}
 use Rattle.theory.proofs.TopologyExists.{topology_exists}
 use Rattle.theory.proofs.VisitedAgain.{Trail-turn, ring_turn}
+use Rattle.theory.proofs.WalksExist.{walks_exist}
 use Rattle.theory.proofs.WalksFindAll.{walks_find_all}
-use Rattle.theory.specs.Chain.{Chain, Free, IsChain}
-use Rattle.theory.specs.Geometry.{AtMost, Geometry, IsChainOf, IsLineOf, IsRingOf, IsSound, JunctionOf, SegmentOf}
-use Rattle.theory.specs.Laws.{IsOrder, OneChainThroughASegment, NoSegmentTwice, NotItsReverse, ReverseIsAChain, CoveringChainsAreAll, OneListOfChains, WalksFindAllChains, MapIsANetwork, JunctionBySegments, VisitedAgainIsAJunction, OthersOnTwoSegments, PiecesOfALine, PiecesOfARing, PiecesCover, OneFreeLoop, RingFromAnyPlace, LeastSecondVertex, PiecesAreTheArcs, ArcsOfAMap, SegmentsOnce, OneListOfNumbers, OneListOfARing, OneTopology, TopologyOfAMap, JunctionsOnlyGrow, OneListOfPieces, ArcsOfAUnionArePieces, PiecesInPlace, UnionKnownFromArcs, PiecesOfWhatIsLeft}
+use Rattle.theory.specs.Chain.{Free}
+use Rattle.theory.specs.Geometry.{AtMost, Geometry, IsChainOf, IsLineOf, IsRingOf, JunctionOf}
+use Rattle.theory.specs.Laws.{IsOrder, OneChainThroughASegment, NoSegmentTwice, NotItsReverse, ReverseIsAChain, CoveringChainsAreAll, OneListOfChains, WalksFindAllChains, WalksEnd, MapIsANetwork, JunctionBySegments, VisitedAgainIsAJunction, OthersOnTwoSegments, PiecesOfALine, PiecesOfARing, PiecesCover, OneFreeLoop, RingFromAnyPlace, LeastSecondVertex, PiecesAreTheArcs, ArcsOfAMap, SegmentsOnce, OneListOfNumbers, OneListOfARing, RingBeginsAtLeastStart, OneTopology, TopologyOfAMap, JunctionsOnlyGrow, OneListOfPieces, ArcsOfAUnionArePieces, PiecesInPlace, UnionKnownFromArcs, PiecesOfWhatIsLeft}
 use Rattle.theory.specs.LinesAndRings.{IsRotation, closed}
-use Rattle.theory.specs.Lists.{Beside, Each, Has}
-use Rattle.theory.specs.Network.{IsChainIn, IsNetwork, IsStop, Joins, Network, network_of}
+use Rattle.theory.specs.Lists.{Each, Has}
+use Rattle.theory.specs.Network.{IsChainIn, IsStop, Joins, network_of}
 use Rattle.theory.specs.Refinement.{arcs_as_map, both_of, recut}
-use Rattle.theory.specs.Seam.{IsTurned}
 use Rattle.theory.specs.TopologyFunction.{is_junction, line_cut, ring_cut, arcs_of, some, turned}
 
 -- two vertices are one or not
@@ -68,6 +69,11 @@ one_list_of_chains cmp n o ok x r cs ds ec ed h k =
 
 pub walks_find_all_chains : {V : Type 0} → WalksFindAllChains V
 walks_find_all_chains cmp n o ok = walks_find_all cmp o.total o.same (same_vertices cmp o) n ok
+
+pub walks_end : {V : Type 0} → WalksEnd V
+walks_end cmp n o ok =
+    let d = walks_exist cmp o.total o.same (same_vertices cmp o) n ok in
+    (d.left, d.lists, d.found, d.none, d.covered)
 
 pub map_is_a_network : {V : Type 0} → MapIsANetwork V
 map_is_a_network cmp g o s =
@@ -160,6 +166,9 @@ one_list_of_numbers cmp g o s = stitch_unique cmp o.total o.same (same_vertices 
 
 pub one_list_of_a_ring : {V : Type 0} → OneListOfARing V
 one_list_of_a_ring cmp g o s = ring_list_unique cmp o.total o.same (same_vertices cmp o) g s
+
+pub ring_begins_at_least_start : {V : Type 0} → RingBeginsAtLeastStart V
+ring_begins_at_least_start cmp g o s arcs all = least_start cmp o.total o.same (same_vertices cmp o) g s arcs all
 
 pub one_topology : {V I G B : Type 0} → OneTopology V I G B
 one_topology cmp box_of on m o s = topology_unique cmp o.total o.same (same_vertices cmp o) box_of on m s

@@ -1,6 +1,6 @@
 -- What follows from a refinement: each new arc has one home, at one place.
 use Rattle.std.proofs.Common.{◌≡◌, ◌≤◌, ℕ, zero, suc, Bool, true, false, cond, List, [], ◌∷◌, ◌++◌, length, reverse, ◌⊎◌, inl, inr, refl, sym, ◌∙◌, subst, arith, Option, Some, None, slice_get}
-use Rattle.std.proofs.lemmas.List.{reverse-reverse, length-append}
+use Rattle.std.proofs.lemmas.List.{length-append}
 use Rattle.std.specs.Cmp.{IsTotalOrder}
 use Rattle.std.specs.FinMap.{IsAntisymmetric}
 use Rattle.std.specs.declared.cmp.Ordering.{Ordering}
@@ -9,19 +9,19 @@ use Rattle.theory.proofs.Ascending.{at_most_same}
 use Rattle.theory.proofs.Chains.{Chain-Trail}
 use Rattle.theory.proofs.ClosedLists.{closed_same}
 use Rattle.theory.proofs.Lists.{last-snoc}
-use Rattle.theory.proofs.ListsOfLists.{Has-SomeHas, SomeHas-Has, get_has}
+use Rattle.theory.proofs.ListsOfLists.{get_has}
 use Rattle.theory.proofs.OneTopology.{along_chain, ring_list_unique, stitch_unique}
 use Rattle.theory.proofs.Pieces.{SegmentOf-flip, two_segments_of}
-use Rattle.theory.proofs.Reversing.{Beside-reverse, beside_same, same_beside}
+use Rattle.theory.proofs.Reversing.{beside_same, same_beside}
 use Rattle.theory.proofs.Rotations.{rotation_back, rotation_length, rotation_steps, rotation_trail}
 use Rattle.theory.proofs.SegmentsOnce.{segments_once}
-use Rattle.theory.proofs.Stitching.{Stitched-covers, Stitched-inside, beside_stitched, stitched_beside}
+use Rattle.theory.proofs.Stitching.{beside_stitched, stitched_beside}
 use Rattle.theory.specs.ArcNumbers.{ArcRef, AreTaken, Uses, UsesOnce}
 use Rattle.theory.specs.Arcs.{AreArcsOf}
 use Rattle.theory.specs.Geometry.{AtMost, Geometry, IsChainOf, IsLineOf, IsRingOf, IsSound, JunctionOf, SegmentOf}
 use Rattle.theory.specs.Junction.{Visit, Visits, end, pair}
 use Rattle.theory.specs.LinesAndRings.{Trail, closed}
-use Rattle.theory.specs.Lists.{Beside, Has, Pairwise, Steps, last_of}
+use Rattle.theory.specs.Lists.{Beside, Pairwise, Steps, last_of}
 use Rattle.theory.specs.Refinement.{ArePiecesOfArc, IsPartOf, IsRefinementOf, pieces_at}
 use Rattle.theory.specs.Stitching.{Stitched}
 use Rattle.theory.specs.Topology.{IsRingList}

@@ -1,13 +1,13 @@
 -- Where the list of a ring begins: of its used arcs, turned in any way, at that which starts least.
 use Rattle.std.proofs.Common.{◌≡◌, ◌≤◌, List, [], ◌∷◌, ◌++◌, length, ◌⊎◌, inl, inr, refl, sym, ap, ◌∙◌, subst, arith, append_assoc, Some}
-use Rattle.std.proofs.lemmas.Cmp.{lists_total, tied_itself}
-use Rattle.std.proofs.lemmas.List.{append-nil, length-append}
+use Rattle.std.proofs.lemmas.Cmp.{tied_itself}
+use Rattle.std.proofs.lemmas.List.{append-nil}
 use Rattle.std.specs.Cmp.Lexicographic.{slice_cmp}
 use Rattle.std.specs.Cmp.{IsTotalOrder}
 use Rattle.std.specs.FinMap.{IsAntisymmetric}
 use Rattle.std.specs.Ordering.{is_gt, ordering_then}
 use Rattle.std.specs.declared.cmp.Ordering.{Ordering}
-use Rattle.theory.proofs.ArcNumbers.{taken_of, to_from}
+use Rattle.theory.proofs.ArcNumbers.{taken_of}
 use Rattle.theory.proofs.Ascending.{at_most_same, at_most_self, head_most}
 use Rattle.theory.proofs.Chains.{same_chain}
 use Rattle.theory.proofs.Lists.{Has-append_left, Has-append_right, Has-split, Has-swap, front_join, front-snoc, last_join}
@@ -15,13 +15,12 @@ use Rattle.theory.proofs.OneTopology.{along_chain, along_once}
 use Rattle.theory.proofs.Pieces.{SegmentOf-flip, two_segments_of}
 use Rattle.theory.proofs.RefinementLaws.{once}
 use Rattle.theory.proofs.Rotations.{rotation_back, rotation_has, rotation_length, rotation_trail, rotation_trans}
-use Rattle.theory.specs.ArcNumbers.{ArcRef, StartsLeast, StitchFrom, StitchTo, Uses, UsesOnce, along}
+use Rattle.theory.specs.ArcNumbers.{ArcRef, StartsLeast, StitchFrom, Uses, UsesOnce, along}
 use Rattle.theory.specs.Arcs.{AreArcsOf}
-use Rattle.theory.specs.Chain.{Chain}
 use Rattle.theory.specs.Geometry.{AtMost, Geometry, IsChainOf, IsRingOf, IsSound, JunctionOf, SegmentOf}
-use Rattle.theory.specs.LinesAndRings.{IsRotation, closed}
+use Rattle.theory.specs.LinesAndRings.{IsRotation}
 use Rattle.theory.specs.Lists.{Has, front_of, last_of}
-use Rattle.theory.specs.Seam.{IsSeamOf, IsTurned}
+use Rattle.theory.specs.Seam.{IsTurned}
 use Rattle.theory.specs.Topology.{IsRingList}
 
 -- used arcs that stitch, parted

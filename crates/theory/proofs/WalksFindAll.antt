@@ -1,5 +1,5 @@
 -- Walks from stops, and then round what is left, find all chains of a network.
-use Rattle.std.proofs.Common.{◌≡◌, List, [], ◌∷◌, reverse, ◌⊎◌, inl, inr, refl, sym, ◌∙◌, Option, Some, None}
+use Rattle.std.proofs.Common.{◌≡◌, List, [], ◌∷◌, ◌⊎◌, inl, inr, Option, None}
 use Rattle.std.specs.Cmp.{IsTotalOrder}
 use Rattle.std.specs.FinMap.{IsAntisymmetric}
 use Rattle.std.specs.declared.cmp.Ordering.{Ordering}
@@ -8,13 +8,12 @@ use Rattle.theory.proofs.Chains.{all_chains}
 use Rattle.theory.proofs.ListsOfLists.{Each-all}
 use Rattle.theory.proofs.Networks.{Joins-flip}
 use Rattle.theory.proofs.Walking.{from_stop, from_seam, all_covered, none_some}
-use Rattle.theory.specs.Chain.{IsChain}
 use Rattle.theory.specs.Geometry.{AtMost}
-use Rattle.theory.specs.Lists.{Has, Beside}
+use Rattle.theory.specs.Lists.{Has}
 use Rattle.theory.specs.Network.{Network, Joins, IsStop, IsNetwork, IsChainIn, AreAllChains}
-use Rattle.theory.specs.Walking.{Joining, Noted, AreLinks, StopsCovered, Found, WalkedFromAStop, WalkedFromTheLeast}
+use Rattle.theory.specs.Walking.{Joining, StopsCovered, Found, WalkedFromAStop, WalkedFromTheLeast}
 
-Has-or-not : {V : Type 0} (dec : (a b : V) → Dec (a ≡ b)) (v : V) (l : List V) → Has v l ⊎ (¬ Has v l)
+pub Has-or-not : {V : Type 0} (dec : (a b : V) → Dec (a ≡ b)) (v : V) (l : List V) → Has v l ⊎ (¬ Has v l)
 Has-or-not dec v [] = inr (λ h. h)
 Has-or-not dec v (x ∷ l) =
     elim (dec v x) [
@@ -22,7 +21,7 @@ Has-or-not dec v (x ∷ l) =
       | no n ↦ elim (Has-or-not dec v l) [ inl h ↦ inl (inr h) | inr k ↦ inr (λ h. elim h [ inl e ↦ n e | inr j ↦ k j ]) ]
     ]
 
-same_or_not : {V : Type 0} (dec : (a b : V) → Dec (a ≡ b)) (u v : V) → (u ≡ v) ⊎ (¬ (u ≡ v))
+pub same_or_not : {V : Type 0} (dec : (a b : V) → Dec (a ≡ b)) (u v : V) → (u ≡ v) ⊎ (¬ (u ≡ v))
 same_or_not dec u v = elim (dec u v) [ yes e ↦ inl e | no n ↦ inr n ]
 
 module _ {V : Type 0} (cmp : V → V → Ordering) (o : IsTotalOrder cmp) (same : IsAntisymmetric cmp) (dec : (a b : V) → Dec (a ≡ b))
@@ -30,10 +29,10 @@ module _ {V : Type 0} (cmp : V → V → Ordering) (o : IsTotalOrder cmp) (same 
   turn : (u v : V) → Joins n u v → Joins n v u
   turn = Joins-flip n
 
-  at_same : (u v : V) → AtMost cmp u v → AtMost cmp v u → u ≡ v
+  pub at_same : (u v : V) → AtMost cmp u v → AtMost cmp v u → u ≡ v
   at_same = at_most_same cmp o same
 
-  stop_or_not : (v : V) → IsStop n v ⊎ (¬ IsStop n v)
+  pub stop_or_not : (v : V) → IsStop n v ⊎ (¬ IsStop n v)
   stop_or_not v = Has-or-not dec v n.stops
 
   -- one more walk
@@ -53,7 +52,7 @@ module _ {V : Type 0} (cmp : V → V → Ordering) (o : IsTotalOrder cmp) (same 
       from_seam (Joins n) (IsStop n) (AtMost cmp) turn ok.two at_same ok.apart stop_or_not (same_or_not dec)
       (λ e. Has e ds) m j x c w.0 l w.1 k w.2 w.4 w.3 covered w.5
 
-  joining : (k : V → Option (V × V)) (ds : List (List V)) → Found cmp n k ds → Joining (Joins n) (IsStop n) (AtMost cmp) k (λ d. Has d ds)
+  pub joining : (k : V → Option (V × V)) (ds : List (List V)) → Found cmp n k ds → Joining (Joins n) (IsStop n) (AtMost cmp) k (λ d. Has d ds)
   joining k [] f = record {
     links = f.noted;
     chains = λ d h. absurd h;

@@ -1,12 +1,11 @@
 -- Worked rows: what `topology_of` gives, by computation. Vertices are pairs of whole numbers, ordered by the first, then the second.
 -- One layer without a name holds the features in their order; what a feature keeps beside its shape is left out, and so is the box.
-use Rattle.std.proofs.Common.{◌≡◌, ℕ, ℤ, pos, Bool, true, false, List, [], ◌∷◌, refl, Option, None}
+use Rattle.std.proofs.Common.{◌≡◌, ℕ, ℤ, pos, true, false, List, [], ◌∷◌, refl, None}
 use Rattle.std.specs.Ordering.{int_cmp, ordering_then}
 use Rattle.std.specs.Prelude.{map, negsuc}
 use Rattle.std.specs.declared.cmp.Ordering.{Ordering}
 use Rattle.theory.specs.ArcNumbers.{ArcRef, index_of}
-use Rattle.theory.specs.Geometry.{Geometry}
-use Rattle.theory.specs.Topology.{Form, line, polygon, Shape, Body, Item, Layer, Map, Topology, geometry_of}
+use Rattle.theory.specs.Topology.{line, polygon, Shape, Body, Item, Map, Topology, geometry_of}
 use Rattle.theory.specs.TopologyFunction.{is_junction, topology_of}
 
 abbrev Position : Type 0

@@ -2,9 +2,9 @@
 use Rattle.std.specs.Cmp.Lexicographic.{slice_cmp}
 use Rattle.std.specs.Cmp.{IsTotalOrder}
 use Rattle.std.specs.FinMap.{IsAntisymmetric}
-use Rattle.std.specs.Prelude.{◌≡◌, ℕ, List, [], ◌∷◌, reverse, ◌⊎◌, ◌↔◌, Option, Some, None, slice_get}
+use Rattle.std.specs.Prelude.{◌≡◌, ℕ, List, [], ◌∷◌, ◌++◌, reverse, ◌⊎◌, ◌↔◌, Option, Some, None, slice_get}
 use Rattle.std.specs.declared.cmp.Ordering.{Ordering}
-use Rattle.theory.specs.ArcNumbers.{ArcRef, StitchTo, Uses}
+use Rattle.theory.specs.ArcNumbers.{ArcRef, StartsLeast, StitchTo, Uses, along}
 use Rattle.theory.specs.Arcs.{IsArcOf, AreArcsOf, AreSortedOnce, EachSegmentOnce}
 use Rattle.theory.specs.Chain.{Free, SameArc}
 use Rattle.theory.specs.Geometry.{Geometry, IsLineOf, IsRingOf, IsSound, SegmentOf, JunctionOf, IsChainOf, AtMost}
@@ -64,6 +64,12 @@ abbrev pub WalksFindAllChains : Type 0 → Type 0
 WalksFindAllChains V =
     (cmp : V → V → Ordering) (n : Network V) → IsOrder cmp → IsNetwork n → (k : V → Option (V × V)) (ds : List (List V)) →
     Found cmp n k ds → ((v : V) → k v ≡ None) → StopsCovered n ds → AreAllChains cmp n ds
+
+-- and such walks can always be taken to their end
+abbrev pub WalksEnd : Type 0 → Type 0
+WalksEnd V =
+    (cmp : V → V → Ordering) (n : Network V) → IsOrder cmp → IsNetwork n →
+    (k : V → Option (V × V)) × (ds : List (List V)) × Found cmp n k ds × ((v : V) → k v ≡ None) × StopsCovered n ds
 
 -- the segments and the junctions of a map are such segments and stops, and have the chains of the map
 abbrev pub MapIsANetwork : Type 0 → Type 0
@@ -162,6 +168,14 @@ abbrev pub OneListOfARing : Type 0 → Type 0
 OneListOfARing V =
     (cmp : V → V → Ordering) (g : Geometry V) → IsOrder cmp → IsSound g → (arcs : List (List V)) → AreArcsOf cmp g arcs →
     (r : List V) (us vs : List ArcRef) → IsRingList cmp (JunctionOf g) arcs r us → IsRingList cmp (JunctionOf g) arcs r vs → us ≡ vs
+
+-- of the used arcs of a ring, turned in any way, the ring's list begins at that which starts least
+abbrev pub RingBeginsAtLeastStart : Type 0 → Type 0
+RingBeginsAtLeastStart V =
+    (cmp : V → V → Ordering) (g : Geometry V) → IsOrder cmp → IsSound g → (arcs : List (List V)) → AreArcsOf cmp g arcs →
+    (r : List V) → IsRingOf g r → (before behind before' : List ArcRef) (a : ArcRef) (more : List ArcRef) (y z : V) (q : List V) →
+    IsRingList cmp (JunctionOf g) arcs r (behind ++ before) → before' ++ (a ∷ more) ≡ before ++ behind →
+    along arcs a ≡ Some (y ∷ (z ∷ q)) → StartsLeast cmp arcs y z (before ++ behind) → (a ∷ more) ++ before' ≡ behind ++ before
 
 -- The topology of a map.
 

@@ -1,167 +1,177 @@
 //! The laws of maps, each promised by a function that does nothing.
-ghost use Rattle.theory.specs.Laws.{OneChainThroughASegment, NoSegmentTwice, NotItsReverse, ReverseIsAChain, CoveringChainsAreAll, OneListOfChains, WalksFindAllChains, MapIsANetwork, JunctionBySegments, VisitedAgainIsAJunction, OthersOnTwoSegments, PiecesOfALine, PiecesOfARing, PiecesCover, OneFreeLoop, RingFromAnyPlace, LeastSecondVertex, PiecesAreTheArcs, ArcsOfAMap, SegmentsOnce, OneListOfNumbers, OneListOfARing, OneTopology, TopologyOfAMap, JunctionsOnlyGrow, OneListOfPieces, ArcsOfAUnionArePieces, PiecesInPlace, UnionKnownFromArcs, PiecesOfWhatIsLeft};
+ghost use Rattle.theory.specs.Laws as law;
 
 /// Two chains that have one segment are one chain, or each is the other's reverse.
 #[tactic(auto, using(crate::proofs::ProvedLaws::one_chain_through_a_segment))]
 pub fn one_chain_through_a_segment<V>()
-    ensures { OneChainThroughASegment V }
+    ensures { law.OneChainThroughASegment V }
 {}
 
 /// No segment stands twice in a chain.
 #[tactic(auto, using(crate::proofs::ProvedLaws::no_segment_twice))]
 pub fn no_segment_twice<V>()
-    ensures { NoSegmentTwice V }
+    ensures { law.NoSegmentTwice V }
 {}
 
 /// No chain is its own reverse.
 #[tactic(auto, using(crate::proofs::ProvedLaws::not_its_reverse))]
 pub fn not_its_reverse<V>()
-    ensures { NotItsReverse V }
+    ensures { law.NotItsReverse V }
 {}
 
 /// The reverse of a chain is a chain.
 #[tactic(auto, using(crate::proofs::ProvedLaws::reverse_is_a_chain))]
 pub fn reverse_is_a_chain<V>()
-    ensures { ReverseIsAChain V }
+    ensures { law.ReverseIsAChain V }
 {}
 
 /// Chains that have all segments among them are all chains, up to direction.
 pub fn covering_chains_are_all<V>()
-    ensures { CoveringChainsAreAll V }
+    ensures { law.CoveringChainsAreAll V }
 {}
 
 /// At most one list of chains stitches to a list.
 pub fn one_list_of_chains<V>()
-    ensures { OneListOfChains V }
+    ensures { law.OneListOfChains V }
 {}
 
 /// Walks from stops, and then round what is left, find all chains.
 #[tactic(auto, using(crate::proofs::ProvedLaws::walks_find_all_chains))]
 pub fn walks_find_all_chains<V>()
-    ensures { WalksFindAllChains V }
+    ensures { law.WalksFindAllChains V }
+{}
+
+/// Such walks can always be taken to their end.
+pub fn walks_end<V>()
+    ensures { law.WalksEnd V }
 {}
 
 /// The segments and the junctions of a map are such segments and stops, and have the chains of the map.
 #[tactic(auto, using(crate::proofs::ProvedLaws::map_is_a_network))]
 pub fn map_is_a_network<V>()
-    ensures { MapIsANetwork V }
+    ensures { law.MapIsANetwork V }
 {}
 
 /// A vertex is a junction exactly where it is an end of a line or lies on three or more segments.
 pub fn junction_by_segments<V>()
-    ensures { JunctionBySegments V }
+    ensures { law.JunctionBySegments V }
 {}
 
 /// A vertex that one line or ring visits again is a junction.
 #[tactic(auto, using(crate::proofs::ProvedLaws::visited_again_is_a_junction))]
 pub fn visited_again_is_a_junction<V>()
-    ensures { VisitedAgainIsAJunction V }
+    ensures { law.VisitedAgainIsAJunction V }
 {}
 
 /// Each other vertex of a segment lies on exactly two segments.
 pub fn others_on_two_segments<V>()
-    ensures { OthersOnTwoSegments V }
+    ensures { law.OthersOnTwoSegments V }
 {}
 
 /// A line, cut at its junctions: chains that stitch to it.
 #[tactic(auto, using(crate::proofs::ProvedLaws::pieces_of_a_line))]
 pub fn pieces_of_a_line<V>()
-    ensures { PiecesOfALine V }
+    ensures { law.PiecesOfALine V }
 {}
 
 /// A ring, turned to its seam and cut at its junctions: chains that stitch to it.
 pub fn pieces_of_a_ring<V>()
-    ensures { PiecesOfARing V }
+    ensures { law.PiecesOfARing V }
 {}
 
 /// What stitches to a list has its segments, all and no others.
 pub fn pieces_cover<V>()
-    ensures { PiecesCover V }
+    ensures { law.PiecesCover V }
 {}
 
 /// A ring without a junction is one free loop, turned to its least vertex.
 pub fn one_free_loop<V>()
-    ensures { OneFreeLoop V }
+    ensures { law.OneFreeLoop V }
 {}
 
 /// The list of a ring does not depend on where its data begins.
 pub fn ring_from_any_place<V>()
-    ensures { RingFromAnyPlace V }
+    ensures { law.RingFromAnyPlace V }
 {}
 
 /// Of the rotations of a ring that begin at one vertex, that with the least second vertex is the least.
 #[tactic(auto, using(crate::proofs::ProvedLaws::least_second_vertex))]
 pub fn least_second_vertex<V>()
-    ensures { LeastSecondVertex V }
+    ensures { law.LeastSecondVertex V }
 {}
 
 /// The pieces of all lines and rings, in least direction, sorted, each once, are the arcs of the map.
 pub fn pieces_are_the_arcs<V>()
-    ensures { PiecesAreTheArcs V }
+    ensures { law.PiecesAreTheArcs V }
 {}
 
 /// `arcs_of` has the arcs of the map, and no other list has them.
 #[tactic(auto, using(crate::proofs::ProvedLaws::arcs_of_a_map))]
 pub fn arcs_of_a_map<V>()
-    ensures { ArcsOfAMap V }
+    ensures { law.ArcsOfAMap V }
 {}
 
 /// Each segment of the map is at one place of one arc, and arcs have no other segment.
 #[tactic(auto, using(crate::proofs::ProvedLaws::each_segment_once))]
 pub fn each_segment_once<V>()
-    ensures { SegmentsOnce V }
+    ensures { law.SegmentsOnce V }
 {}
 
 /// At most one list of arc numbers stitches to a list.
 #[tactic(auto, using(crate::proofs::ProvedLaws::one_list_of_numbers))]
 pub fn one_list_of_numbers<V>()
-    ensures { OneListOfNumbers V }
+    ensures { law.OneListOfNumbers V }
 {}
 
 /// At most one list of arc numbers stitches to a ring, read from its seam.
 pub fn one_list_of_a_ring<V>()
-    ensures { OneListOfARing V }
+    ensures { law.OneListOfARing V }
+{}
+
+/// Of the used arcs of a ring, turned in any way, the ring's list begins at that which starts least.
+pub fn ring_begins_at_least_start<V>()
+    ensures { law.RingBeginsAtLeastStart V }
 {}
 
 /// At most one topology is that of a map on a grid.
 pub fn one_topology<V, I, G, B>()
-    ensures { OneTopology V I G B }
+    ensures { law.OneTopology V I G B }
 {}
 
-/// And `topology_of` is it.
+/// `topology_of` is the topology of the map.
 pub fn topology_of_a_map<V, I, G, B>()
-    ensures { TopologyOfAMap V I G B }
+    ensures { law.TopologyOfAMap V I G B }
 {}
 
 /// Junctions only grow.
 pub fn junctions_only_grow<V>()
-    ensures { JunctionsOnlyGrow V }
+    ensures { law.JunctionsOnlyGrow V }
 {}
 
 /// Each old arc has one list of pieces: what `recut` gives.
 #[tactic(auto, using(crate::proofs::ProvedLaws::one_list_of_pieces))]
 pub fn one_list_of_pieces<V>()
-    ensures { OneListOfPieces V }
+    ensures { law.OneListOfPieces V }
 {}
 
 /// Each arc of the union is a piece of an old arc.
 pub fn arcs_of_a_union_are_pieces<V>()
-    ensures { ArcsOfAUnionArePieces V }
+    ensures { law.ArcsOfAUnionArePieces V }
 {}
 
 /// A piece is one of one arc of a map, at one place, and has only its segments; a line's and a ring's replaced list is that of u.
 #[tactic(auto, using(crate::proofs::ProvedLaws::pieces_in_place))]
 pub fn pieces_in_place<V>()
-    ensures { PiecesInPlace V }
+    ensures { law.PiecesInPlace V }
 {}
 
 /// The arcs of both maps, taken as lines and rings, have the segments and the junctions of the union.
 #[tactic(auto, using(crate::proofs::ProvedLaws::union_known_from_arcs))]
 pub fn union_known_from_arcs<V>()
-    ensures { UnionKnownFromArcs V }
+    ensures { law.UnionKnownFromArcs V }
 {}
 
 /// What is left of a map u: of each old arc all segments stay, or none.
 pub fn pieces_of_what_is_left<V>()
-    ensures { PiecesOfWhatIsLeft V }
+    ensures { law.PiecesOfWhatIsLeft V }
 {}
