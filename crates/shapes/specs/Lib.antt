@@ -8,4 +8,5 @@ pub mod Sets
 pub mod SetLaws
 pub mod Union
 pub mod Maps
+pub mod Fitting
 pub mod Inside

@@ -1,5 +1,7 @@
 //! A layer of a feature map: its name and its set of features.
-ghost use Rattle.std.specs.Prelude.{◌≡◌, OnOk, IfOk, OnErr, IsOkUnless, not, option_map};
+ghost use Rattle.std.specs.Prelude.{◌≡◌, OnOk, IfOk, OnErr, IsOkUnless, not, option_map, ◌↔◌, IsTrue};
+ghost use Rattle.std.specs.List.{AllByRecursion};
+ghost use Rattle.shapes.specs.Fitting.{ShapeFits};
 ghost use Rattle.shapes.specs.Sets as set;
 ghost use Rattle.shapes.specs.declared.insert_fault.InsertFault.TheVariants.{OutOfMemory as WantOfMemory};
 ghost use Rattle.shapes.specs.Maps.{set_of};
@@ -45,7 +47,9 @@ impl Layer {
     }
 
     // Whether each position of each feature fits the grid.
-    pub fn fits(&self, grid: &Grid) -> bool {
+    pub fn fits(&self, grid: &Grid) -> bool
+        ensures { IsTrue result ↔ AllByRecursion (λ f. ShapeFits grid.now f.shape) self.now.features.keys }
+    {
         for feature in self.features.iter() {
             if !feature.fits(grid) {
                 return false;

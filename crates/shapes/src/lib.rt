@@ -4,6 +4,7 @@
 pub mod copying;
 pub mod feature;
 pub mod feature_map;
+mod fitting;
 pub mod insert_fault;
 mod layer;
 pub mod nesting;
@@ -22,3 +23,6 @@ pub use lines::shape_fault::ShapeFault;
 pub use props::{PropFault, Props};
 pub use shape::{Id, Shape};
 pub use spelled::Spelled;
+
+#[cfg(test)]
+mod tests;

@@ -1,5 +1,6 @@
 //! Ids and shapes.
 use crate::copying::CopyIn;
+use crate::fitting::FitsGrid;
 use crate::spelled::Spelled;
 use faults::OutOfMemory;
 use grid::pos::Pos;
@@ -48,7 +49,8 @@ pub enum Shape {
 }
 
 impl Shape {
-    ghost use Rattle.std.specs.Prelude.{◌≡◌, IfOk};
+    ghost use Rattle.std.specs.Prelude.{◌≡◌, ◌↔◌, IfOk, IsTrue};
+    ghost use Rattle.shapes.specs.Fitting.{ShapeFits};
 
     /// An equal shape, or want of memory.
     pub fn copy(&self, alloc: Global) -> Result<Shape, OutOfMemory>
@@ -66,33 +68,17 @@ impl Shape {
     }
 
     /// Whether each position of the shape fits the grid.
-    pub fn fits(&self, grid: &Grid) -> bool {
+    pub fn fits(&self, grid: &Grid) -> bool
+        ensures { IsTrue result ↔ ShapeFits grid.now self.now }
+    {
         match self {
             Shape::Null => true,
-            Shape::Point(position) => grid.fits(*position),
-            Shape::MultiPoint(positions) => all_fit(grid, positions.as_slice()),
-            Shape::Line(line) => all_fit(grid, line.positions()),
-            Shape::MultiLine(lines) => lines_fit(grid, lines.as_slice()),
-            Shape::Polygon(rings) => rings_fit(grid, rings.as_slice()),
-            Shape::MultiPolygon(polygons) => polygons_fit(grid, polygons.as_slice()),
+            Shape::Point(position) => position.fits_grid(grid),
+            Shape::MultiPoint(positions) => positions.fits_grid(grid),
+            Shape::Line(line) => line.fits_grid(grid),
+            Shape::MultiLine(lines) => lines.fits_grid(grid),
+            Shape::Polygon(rings) => rings.fits_grid(grid),
+            Shape::MultiPolygon(polygons) => polygons.fits_grid(grid),
         }
     }
-}
-
-fn all_fit(grid: &Grid, positions: &[Pos]) -> bool {
-    positions.iter().all(|position| grid.fits(*position))
-}
-
-fn lines_fit(grid: &Grid, lines: &[Line]) -> bool {
-    lines.iter().all(|line| all_fit(grid, line.positions()))
-}
-
-fn rings_fit(grid: &Grid, rings: &[Ring]) -> bool {
-    rings.iter().all(|ring| all_fit(grid, ring.vertices()))
-}
-
-fn polygons_fit(grid: &Grid, polygons: &[Items<Ring>]) -> bool {
-    polygons
-        .iter()
-        .all(|polygon| rings_fit(grid, polygon.as_slice()))
 }

@@ -1,0 +1,171 @@
+use crate::feature::Feature;
+use crate::feature_map::FeatureMap;
+use crate::insert_fault::InsertFault;
+use crate::props::{PropFault, Props};
+use crate::shape::{Id, Shape};
+use crate::spelled::Spelled;
+use grid::pos::Pos;
+use grid::transform::Grid;
+use lines::items::Items;
+use lines::line::Line;
+use serde_json::Value;
+use std::alloc::Global;
+use std::test::Fail;
+
+fn pos(x: i64, y: i64) -> Result<Pos, Fail> {
+    Ok(Pos::new(x, y).ok_or("outside the limits")?)
+}
+
+fn line(alloc: Global, places: &[(i64, i64)]) -> Result<Shape, Fail> {
+    let mut positions = Vec::new(alloc);
+    for (x, y) in places {
+        positions.push(pos(*x, *y)?)?;
+    }
+    Ok(Shape::Line(Line::from_positions(alloc, positions)?))
+}
+
+fn feature(alloc: Global, id: Id, props: &str, shape: Shape) -> Result<Feature, Fail> {
+    let value = Value::from_str(alloc, props)?;
+    let props = Props::from_value(alloc, &value)?;
+    Ok(Feature { id, props, shape })
+}
+
+fn point(alloc: Global, x: i64, y: i64) -> Result<Feature, Fail> {
+    feature(alloc, Id::None, "{}", Shape::Point(pos(x, y)?))
+}
+
+/// Each feature of the list is less than the one after it.
+fn ordered(alloc: Global) -> Result<Vec<Feature>, Fail> {
+    let mut list = Vec::new(alloc);
+    list.push(feature(alloc, Id::None, "{\"a\":1}", Shape::Null)?)?;
+    list.push(feature(alloc, Id::None, "{}", Shape::Null)?)?;
+    list.push(point(alloc, 9, 9)?)?;
+    list.push(feature(alloc, Id::None, "{}", line(alloc, &[(0, 0), (1, 0)])?)?)?;
+    list.push(feature(alloc, Id::None, "{}", line(alloc, &[(0, 0), (1, 0), (1, 1)])?)?)?;
+    list.push(feature(alloc, Id::None, "{}", line(alloc, &[(0, 0), (2, 0)])?)?)?;
+    list.push(feature(alloc, Id::Number(-3), "{}", Shape::Point(pos(0, 0)?))?)?;
+    list.push(feature(alloc, Id::Number(12), "{}", Shape::Null)?)?;
+    list.push(feature(alloc, Id::Text(Spelled::new(alloc, "10")?), "{}", Shape::Null)?)?;
+    list.push(feature(alloc, Id::Text(Spelled::new(alloc, "9")?), "{}", Shape::Null)?)?;
+    Ok(list)
+}
+
+#[test]
+fn features_are_ordered(rt: HostRuntime) -> Result<(), Fail> {
+    let list = ordered(rt.alloc())?;
+    for (i, a) in list.iter().enumerate() {
+        for (j, b) in list.iter().enumerate() {
+            assert_eq!(rt; a.cmp(b), i.cmp(&j), "{i} and {j}");
+            assert_eq!(rt; a == b, i == j);
+        }
+        let copy = a.copy(rt.alloc())?;
+        assert!(rt; copy == *a);
+    }
+    Ok(())
+}
+
+#[test]
+fn spellings(rt: HostRuntime) -> Result<(), Fail> {
+    let spelled = Spelled::new(rt.alloc(), "a\"\\\n\u{1}é/")?;
+    assert_eq!(rt; spelled.text(), "a\"\\\n\u{1}é/");
+    assert_eq!(rt; spelled.spelling(), "\"a\\\"\\\\\\n\\u0001é/\"");
+    assert!(rt; spelled.copy(rt.alloc())? == spelled);
+    Ok(())
+}
+
+fn nested(alloc: Global, depth: usize) -> Result<String, Fail> {
+    let mut text = String::from_str(alloc, "{\"p\":")?;
+    for _ in 0..depth {
+        text.push_str("[")?;
+    }
+    for _ in 0..depth {
+        text.push_str("]")?;
+    }
+    text.push_str("}")?;
+    Ok(text)
+}
+
+fn refusal(alloc: Global, text: &str) -> Result<Option<PropFault>, Fail> {
+    let value = Value::from_str(alloc, text)?;
+    Ok(Props::from_value(alloc, &value).err())
+}
+
+#[test]
+fn properties(rt: HostRuntime) -> Result<(), Fail> {
+    let alloc = rt.alloc();
+    let value = Value::from_str(alloc, "{\"b\":1, \"a\":[null, \"é\"]}")?;
+    let props = Props::from_value(alloc, &value)?;
+    assert_eq!(rt; props.text(), "{\"a\":[null,\"é\"],\"b\":1}");
+    assert!(rt; !props.is_empty());
+    assert!(rt; props.copy(alloc)? == props);
+    assert_eq!(rt; Props::empty(alloc)?.text(), "{}");
+    assert!(rt; Props::empty(alloc)?.is_empty());
+    assert_eq!(rt; refusal(alloc, "[]")?, Some(PropFault::WrongKind));
+    assert_eq!(rt; refusal(alloc, "{\"a\":[1.0]}")?, Some(PropFault::PropertyNumber));
+    assert_eq!(rt; refusal(alloc, "{\"a\":18446744073709551615}")?, None);
+    assert_eq!(rt; refusal(alloc, nested(alloc, 63)?.as_str())?, None);
+    assert_eq!(rt; refusal(alloc, nested(alloc, 64)?.as_str())?, Some(PropFault::PropertyDepth));
+    Ok(())
+}
+
+#[test]
+fn maps_are_maps_of_sets(rt: HostRuntime) -> Result<(), Fail> {
+    let alloc = rt.alloc();
+    let mut map = FeatureMap::new(alloc);
+    assert_eq!(rt; map.insert("b", point(alloc, 1, 2)?).err(), Some(InsertFault::NoLayer));
+    assert!(rt; map.add_layer("b")?);
+    assert!(rt; !map.add_layer("b")?);
+    assert!(rt; map.add_layer("a")?);
+    assert!(rt; map.insert("b", point(alloc, 1, 2)?)?);
+    assert!(rt; !map.insert("b", point(alloc, 1, 2)?)?);
+    assert!(rt; map.contains("b", &point(alloc, 1, 2)?));
+    assert!(rt; !map.contains("a", &point(alloc, 1, 2)?));
+    assert!(rt; map.layer("c").is_none());
+    let names = map.names()?;
+    assert_eq!(rt; names.len(), 2);
+    assert_eq!(rt; names[0].text(), "a");
+    assert_eq!(rt; names[1].text(), "b");
+    Ok(())
+}
+
+#[test]
+fn unions_have_both(rt: HostRuntime) -> Result<(), Fail> {
+    let alloc = rt.alloc();
+    let mut one = FeatureMap::new(alloc);
+    one.add_layer("a")?;
+    one.add_layer("b")?;
+    one.insert("b", point(alloc, 1, 2)?)?;
+    let mut two = FeatureMap::new(alloc);
+    two.add_layer("b")?;
+    two.add_layer("c")?;
+    two.insert("b", point(alloc, 0, 5)?)?;
+    two.insert("b", point(alloc, 1, 2)?)?;
+    two.insert("c", point(alloc, 7, 7)?)?;
+    for both in [one.union(&two)?, two.union(&one)?.copy()?] {
+        assert_eq!(rt; both.names()?.len(), 3);
+        assert_eq!(rt; both.layer("a").ok_or("no a")?.len(), 0);
+        assert_eq!(rt; both.layer("b").ok_or("no b")?.len(), 2);
+        assert!(rt; both.contains("b", &point(alloc, 0, 5)?));
+        assert!(rt; both.contains("b", &point(alloc, 1, 2)?));
+        assert!(rt; both.contains("c", &point(alloc, 7, 7)?));
+    }
+    Ok(())
+}
+
+#[test]
+fn maps_fit_grids(rt: HostRuntime) -> Result<(), Fail> {
+    let alloc = rt.alloc();
+    let fine = Grid::new(8192, 1, -1, 0).ok_or("no grid")?;
+    let over = Grid::new(8192, 1, 0, 0).ok_or("no grid")?;
+    let mut positions = Vec::new(alloc);
+    positions.push(pos(0, 0)?)?;
+    positions.push(pos(1_099_511_627_776, 0)?)?;
+    let shape = Shape::MultiPoint(Items::from_vec(positions));
+    let mut map = FeatureMap::new(alloc);
+    assert!(rt; map.fits(&over));
+    map.add_layer("a")?;
+    map.insert("a", feature(alloc, Id::None, "{}", shape)?)?;
+    assert!(rt; map.fits(&fine));
+    assert!(rt; !map.fits(&over));
+    Ok(())
+}
