@@ -1,2 +1,17 @@
-//! Under construction.
+//! The command `topotool` as a library: its words, its statuses and lines, and the way from GeoJSON
+//! texts to the text of a topology. Files and outputs are handed in, so that a test can run the
+//! whole command.
 #![tactic(auto)]
+
+mod answers;
+mod arguments;
+mod building;
+mod command;
+mod files;
+mod grid_word;
+mod queries;
+mod refusal;
+
+pub use building::{BuildFault, build_text};
+pub use command::run;
+pub use files::{FileFault, Files};

@@ -1,0 +1,123 @@
+//! The words of the command line, read with clap.
+use clap::{Arg, ArgAction, ArgMatches, Command, Error};
+use std::alloc::{AllocError, Global};
+
+const ABOUT: &str = "Builds, checks, merges and queries TopoJSON topologies on whole-number grids
+
+A topology stores each border of a map once, as an arc, and each geometry as a list
+of arc numbers. The same features get the same bytes, whatever the order of the files.";
+
+const AFTER: &str = "Status: 0 done, 1 `check` says no, 2 wrong usage, 3 a file can't be read,
+4 an input is refused, 5 out of memory, 6 the output failed
+
+Example: topotool build --grid 1,1,0,0 districts=east.json districts=west.json";
+
+/// The name of a layer, after `--layer`.
+fn layer<'a>(alloc: Global, help: &'a str) -> Arg<'a> {
+    Arg::new(alloc, "layer")
+        .long("layer")
+        .value_name("NAME")
+        .action(ArgAction::Set)
+        .help(help)
+}
+
+/// The one file of a command.
+fn file<'a>(alloc: Global) -> Arg<'a> {
+    Arg::new(alloc, "FILE")
+        .required(true)
+        .action(ArgAction::Set)
+        .help("A TopoJSON topology with a transform")
+}
+
+fn build<'a>(alloc: Global) -> Result<Command<'a>, AllocError> {
+    let grid = Arg::new(alloc, "grid")
+        .long("grid")
+        .value_name("SX,SY,TX,TY")
+        .required(true)
+        .action(ArgAction::Set)
+        .help("The transform: the scales of x and y, then their translations, whole numbers");
+    let files = Arg::new(alloc, "NAME=FILE")
+        .required(true)
+        .num_args(1..)
+        .action(ArgAction::Append)
+        .help("A layer's name, up to the first `=`, and a GeoJSON file of its features");
+    Ok(
+        Command::new(alloc, "build")
+            .about("Builds the topology of GeoJSON files and prints it")
+            .after_help(
+                "Every coordinate has to be a whole number on the grid, which is position * scale +\n\
+                 translation. Scales are from 1 to 1000000, translations from -1000000000000 to\n\
+                 1000000000000. A name\n\
+                 given again gets the features of both files.\n\n\
+                 Example: topotool build --grid 1,1,0,0 a=squares.json",
+            )
+            .arg(grid)?
+            .arg(files)?,
+    )
+}
+
+fn mesh<'a>(alloc: Global) -> Result<Command<'a>, AllocError> {
+    let edges = Arg::new(alloc, "edges")
+        .long("edges")
+        .value_name("EDGES")
+        .value_parser(["all", "interior", "exterior"].as_slice())
+        .default_value("all")
+        .action(ArgAction::Set)
+        .help("Every border, those between two features, or those of one feature alone");
+    Ok(
+        Command::new(alloc, "mesh")
+            .about("Prints borders as a GeoJSON MultiLineString, each stretch once")
+            .after_help("Example: topotool mesh --edges interior country.topo.json")
+            .arg(layer(
+                alloc,
+                "Only this layer's features; without it, those of all layers",
+            ))?
+            .arg(edges)?
+            .arg(file(alloc))?,
+    )
+}
+
+fn neighbors<'a>(alloc: Global) -> Result<Command<'a>, AllocError> {
+    Ok(
+        Command::new(alloc, "neighbors")
+            .about("Prints, for each feature of a layer, which others share a border with it")
+            .after_help(
+                "Prints a list for each feature, in the order in which `feature` prints them, of the\n\
+                 numbers of the others, from 0. To touch in single points is not to share a border.\n\n\
+                 Example: topotool neighbors --layer districts country.topo.json",
+            )
+            .arg(layer(alloc, "The layer to look at").required(true))?
+            .arg(file(alloc))?,
+    )
+}
+
+fn check<'a>(alloc: Global) -> Result<Command<'a>, AllocError> {
+    Ok(
+        Command::new(alloc, "check")
+            .about("Says whether a topology is the canonical text of what it means")
+            .after_help(
+                "Prints `canonical` with status 0, or `not canonical` with status 1.\n\n\
+                 Example: topotool check country.topo.json",
+            )
+            .arg(file(alloc))?,
+    )
+}
+
+fn topotool<'a>(alloc: Global) -> Result<Command<'a>, AllocError> {
+    Ok(
+        Command::new(alloc, "topotool")
+            .about(ABOUT)
+            .after_help(AFTER)
+            .subcommand_required(true)
+            .arg_required_else_help(true)
+            .subcommand(build(alloc)?)?
+            .subcommand(check(alloc)?)?
+            .subcommand(mesh(alloc)?)?
+            .subcommand(neighbors(alloc)?)?,
+    )
+}
+
+/// What the words ask for. The first word is the program's name.
+pub(crate) fn parse<'a>(alloc: Global, words: &'a [String]) -> Result<ArgMatches<'a>, Error> {
+    topotool(alloc)?.try_get_matches_from(words)
+}

@@ -1,0 +1,147 @@
+//! From GeoJSON texts to a topology: `build_text` and the command `build`.
+use crate::files::{Files, name_at, read_named};
+use crate::grid_word::parse_grid;
+use crate::refusal::Refusal;
+use clap::ArgMatches;
+use faults::{Fault, FaultKind, OutOfMemory};
+use grid::Grid;
+use shapes::{Feature, FeatureMap, InsertFault};
+use sinks::{Kept, Sink};
+use std::alloc::Global;
+use std::collections::BTreeSet;
+use topo::Topology;
+
+/// Why texts were not built into a topology.
+#[derive(Debug, Drop)]
+pub enum BuildFault {
+    /// The place of the first refused text, and its least fault, which is never want of memory.
+    Text(usize, Fault),
+    /// A growth of memory was refused.
+    OutOfMemory,
+}
+
+impl From<OutOfMemory> for BuildFault {
+    fn from(_fault: OutOfMemory) -> BuildFault {
+        BuildFault::OutOfMemory
+    }
+}
+
+/// The canonical text of the topology of GeoJSON texts. Before each text stands the name of the
+/// layer that its features are put into; texts with one name share a layer.
+pub fn build_text(
+    alloc: Global,
+    grid: &Grid,
+    texts: &[(String, Vec<u8>)],
+) -> Result<Vec<u8>, BuildFault> {
+    let topology = build_topology(alloc, grid, texts)?;
+    let mut kept = Kept::new(alloc);
+    match topo_io::write(&topology, &mut kept) {
+        Ok(()) => Ok(kept.into_bytes()),
+        Err(_) => Err(BuildFault::OutOfMemory),
+    }
+}
+
+/// The topology of GeoJSON texts, each after its layer's name.
+fn build_topology(
+    alloc: Global,
+    grid: &Grid,
+    texts: &[(String, Vec<u8>)],
+) -> Result<Topology, BuildFault> {
+    let map = read_layers(alloc, grid, texts)?;
+    Ok(Topology::build(alloc, grid, &map)?)
+}
+
+/// The features of GeoJSON texts, each after its layer's name.
+fn read_layers(
+    alloc: Global,
+    grid: &Grid,
+    texts: &[(String, Vec<u8>)],
+) -> Result<FeatureMap, BuildFault> {
+    let mut map = FeatureMap::new(alloc);
+    for (place, (layer, text)) in texts.iter().enumerate() {
+        match geojson_io::read(alloc, text.as_slice(), grid) {
+            Ok(features) => add_features(&mut map, layer.as_str(), features)?,
+            Err(fault) => return Err(refused(place, fault)),
+        }
+    }
+    Ok(map)
+}
+
+/// Puts features into a layer, which is made where it is not there.
+fn add_features(
+    map: &mut FeatureMap,
+    layer: &str,
+    features: BTreeSet<Feature>,
+) -> Result<(), OutOfMemory> {
+    map.add_layer(layer)?;
+    for feature in features {
+        if let Err(InsertFault::OutOfMemory) = map.insert(layer, feature) {
+            return Err(OutOfMemory);
+        }
+    }
+    Ok(())
+}
+
+fn refused(place: usize, fault: Fault) -> BuildFault {
+    match fault.kind {
+        FaultKind::OutOfMemory => BuildFault::OutOfMemory,
+        _ => BuildFault::Text(place, fault),
+    }
+}
+
+/// Prints the topology of GeoJSON files.
+pub(crate) fn run_build<'a, F: Files, O: Sink>(
+    alloc: Global,
+    found: &ArgMatches<'a>,
+    files: &mut F,
+    out: &mut O,
+) -> Result<u8, Refusal<'a>> {
+    let word = found.get_str("grid").unwrap_or("");
+    let Some(grid) = parse_grid(word) else {
+        return Err(Refusal::BadGrid(word));
+    };
+    let (layers, names) = split_words(alloc, found.get_strs("NAME=FILE").unwrap_or(&[]))?;
+    let texts = read_texts(alloc, files, layers.as_slice(), names.as_slice())?;
+    match build_topology(alloc, &grid, texts.as_slice()) {
+        Ok(topology) => {
+            topo_io::write(&topology, out)?;
+            Ok(0)
+        }
+        Err(BuildFault::Text(place, fault)) => {
+            Err(Refusal::of_text(name_at(names.as_slice(), place), fault))
+        }
+        Err(BuildFault::OutOfMemory) => Err(Refusal::OutOfMemory),
+    }
+}
+
+/// The names of layers and of files in words `NAME=FILE`, split at the first `=`.
+fn split_words<'a>(
+    alloc: Global,
+    words: &[&'a str],
+) -> Result<(Vec<&'a str>, Vec<&'a str>), Refusal<'a>> {
+    let mut layers = Vec::new(alloc);
+    let mut names = Vec::new(alloc);
+    for word in words {
+        let Some((layer, name)) = word.split_once('=') else {
+            return Err(Refusal::BadLayer(*word));
+        };
+        layers.push(layer)?;
+        names.push(name)?;
+    }
+    Ok((layers, names))
+}
+
+/// Reads the files in order, each after its layer's name.
+fn read_texts<'a, F: Files>(
+    alloc: Global,
+    files: &mut F,
+    layers: &[&'a str],
+    names: &[&'a str],
+) -> Result<Vec<(String, Vec<u8>)>, Refusal<'a>> {
+    let mut texts = Vec::new(alloc);
+    for (layer, name) in layers.iter().zip(names) {
+        let layer = String::from_str(alloc, *layer)?;
+        texts.push((layer, read_named(alloc, files, *name)?))?;
+    }
+    Ok(texts)
+}

@@ -1,0 +1,78 @@
+//! The whole command, over files and sinks that are handed in.
+use crate::arguments::parse;
+use crate::building::run_build;
+use crate::files::Files;
+use crate::queries::{run_check, run_mesh, run_neighbors};
+use crate::refusal::Refusal;
+use clap::error::ErrorKind;
+use clap::{ArgMatches, Error};
+use sinks::{Sink, put};
+use std::alloc::Global;
+
+/// Runs the command that the words ask for, of which the first is the program's name, and answers
+/// the exit status: 0 done, 1 `check` says no, 2 usage, 3 a file can't be read, 4 an input is
+/// refused, 5 want of memory, 6 the output failed. From 2 on `err` is given a line that says why.
+/// Where an input is refused nothing is written to `out`; otherwise it is flushed last.
+pub fn run<F: Files, O: Sink, E: Sink>(
+    alloc: Global,
+    words: &[String],
+    files: &mut F,
+    out: &mut O,
+    err: &mut E,
+) -> u8 {
+    match parse(alloc, words) {
+        Ok(matches) => match perform(alloc, &matches, files, out) {
+            Ok(status) => finish(status, out, err),
+            Err(refusal) => refuse(&refusal, err),
+        },
+        Err(error) => explain(alloc, &error, out, err),
+    }
+}
+
+/// Does what the words ask for. Answers 0, or 1 where `check` says no.
+fn perform<'a, F: Files, O: Sink>(
+    alloc: Global,
+    matches: &ArgMatches<'a>,
+    files: &mut F,
+    out: &mut O,
+) -> Result<u8, Refusal<'a>> {
+    match matches.subcommand() {
+        Some(("build", found)) => run_build(alloc, found, files, out),
+        Some(("check", found)) => run_check(alloc, found, files, out),
+        Some(("mesh", found)) => run_mesh(alloc, found, files, out),
+        Some(("neighbors", found)) => run_neighbors(alloc, found, files, out),
+        _ => Ok(2),
+    }
+}
+
+/// Flushes the output, which may fail until then.
+fn finish<O: Sink, E: Sink>(status: u8, out: &mut O, err: &mut E) -> u8 {
+    match out.flush() {
+        Ok(()) => status,
+        Err(_) => refuse(&Refusal::Write, err),
+    }
+}
+
+/// Says why, and answers the status. A failure of standard error changes nothing.
+fn refuse<E: Sink>(refusal: &Refusal<'_>, err: &mut E) -> u8 {
+    let _ = refusal.write_line(err);
+    refusal.status()
+}
+
+/// Prints the help that was asked for, or what is wrong with the words.
+fn explain<O: Sink, E: Sink>(alloc: Global, error: &Error, out: &mut O, err: &mut E) -> u8 {
+    if matches!(error.kind(), ErrorKind::OutOfMemory) {
+        return refuse(&Refusal::OutOfMemory, err);
+    }
+    let Ok(text) = error.to_string(alloc) else {
+        return refuse(&Refusal::OutOfMemory, err);
+    };
+    if error.use_stderr() {
+        let _ = put(err, text.as_bytes());
+        return 2;
+    }
+    match put(out, text.as_bytes()) {
+        Ok(()) => finish(0, out, err),
+        Err(_) => refuse(&Refusal::Write, err),
+    }
+}

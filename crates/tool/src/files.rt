@@ -1,0 +1,36 @@
+//! The files that a command reads.
+use crate::refusal::Refusal;
+use std::alloc::Global;
+
+/// Why a file gave no bytes.
+#[derive(Clone, Copy, Debug, PartialEq, Eq)]
+pub enum FileFault {
+    /// The file is not there, or can't be read.
+    Unreadable,
+    /// There is no memory for its bytes.
+    OutOfMemory,
+}
+
+/// Where a command finds its files: those of the machine, or a test's own.
+pub trait Files {
+    /// The bytes of the file of this name.
+    fn read_file(&mut self, alloc: Global, name: &str) -> Result<Vec<u8>, FileFault>;
+}
+
+/// The bytes of a file, or the refusal that names it.
+pub(crate) fn read_named<'a, F: Files>(
+    alloc: Global,
+    files: &mut F,
+    file: &'a str,
+) -> Result<Vec<u8>, Refusal<'a>> {
+    match files.read_file(alloc, file) {
+        Ok(bytes) => Ok(bytes),
+        Err(FileFault::Unreadable) => Err(Refusal::Unreadable(file)),
+        Err(FileFault::OutOfMemory) => Err(Refusal::OutOfMemory),
+    }
+}
+
+/// The name at a place of a list, empty past its end.
+pub(crate) fn name_at<'a>(names: &[&'a str], place: usize) -> &'a str {
+    names.get(place).copied().unwrap_or("")
+}

@@ -1,0 +1,129 @@
+//! The commands that ask one topology: `check`, `feature`, `mesh` and `neighbors`.
+use crate::answers::{write_lists, write_mesh};
+use crate::files::{Files, read_named};
+use crate::refusal::Refusal;
+use chains::ArcTable;
+use clap::ArgMatches;
+use faults::{Fault, FaultKind};
+use grid::Grid;
+use query::{QueryFault, mesh, neighbors};
+use shapes::{Feature, FeatureMap};
+use sinks::{Sink, put};
+use std::alloc::Global;
+use topo::Topology;
+
+/// Prints whether a text is canonical. Answers 0, or 1 where it is not.
+pub(crate) fn run_check<'a, F: Files, O: Sink>(
+    alloc: Global,
+    found: &ArgMatches<'a>,
+    files: &mut F,
+    out: &mut O,
+) -> Result<u8, Refusal<'a>> {
+    let file = word(found, "FILE");
+    let text = read_named(alloc, files, file)?;
+    match is_canonical(alloc, text.as_slice()) {
+        Ok(true) => {
+            put(out, b"canonical\n")?;
+            Ok(0)
+        }
+        Ok(false) => {
+            put(out, b"not canonical\n")?;
+            Ok(1)
+        }
+        Err(fault) => Err(Refusal::of_text(file, fault)),
+    }
+}
+
+/// Whether a topology's text is the canonical text of what it means.
+fn is_canonical(alloc: Global, text: &[u8]) -> Result<bool, Fault> {
+    let (grid, map) = topo_io::read(alloc, text)?;
+    match Topology::build(alloc, &grid, &map) {
+        Ok(topology) => Ok(topo_io::is_text_of(&topology, text)),
+        Err(_) => Err(Fault::here(alloc, FaultKind::OutOfMemory)),
+    }
+}
+
+/// Prints the borders of a layer, or of all layers.
+pub(crate) fn run_mesh<'a, F: Files, O: Sink>(
+    alloc: Global,
+    found: &ArgMatches<'a>,
+    files: &mut F,
+    out: &mut O,
+) -> Result<u8, Refusal<'a>> {
+    let layer = found.get_str("layer");
+    let topology = read_topology(alloc, files, word(found, "FILE"))?;
+    match mesh_of(alloc, &topology, layer, word(found, "edges")) {
+        Ok(lines) => {
+            write_mesh(&topology.grid(), &lines, out)?;
+            Ok(0)
+        }
+        Err(fault) => Err(refused(layer.unwrap_or(""), fault)),
+    }
+}
+
+/// The borders that the word after `--edges` names: between two features, of one alone, or all.
+fn mesh_of(
+    alloc: Global,
+    topology: &Topology,
+    layer: Option<&str>,
+    edges: &str,
+) -> Result<ArcTable, QueryFault> {
+    match edges {
+        "interior" => mesh(alloc, topology, layer, |a: &Feature, b: &Feature| a != b),
+        "exterior" => mesh(alloc, topology, layer, |a: &Feature, b: &Feature| a == b),
+        _ => mesh(alloc, topology, layer, |_: &Feature, _: &Feature| true),
+    }
+}
+
+/// Prints which features of a layer share a border.
+pub(crate) fn run_neighbors<'a, F: Files, O: Sink>(
+    alloc: Global,
+    found: &ArgMatches<'a>,
+    files: &mut F,
+    out: &mut O,
+) -> Result<u8, Refusal<'a>> {
+    let layer = word(found, "layer");
+    let topology = read_topology(alloc, files, word(found, "FILE"))?;
+    match neighbors(alloc, &topology, layer) {
+        Ok(lists) => {
+            write_lists(lists.as_slice(), out)?;
+            Ok(0)
+        }
+        Err(fault) => Err(refused(layer, fault)),
+    }
+}
+
+fn refused<'a>(layer: &'a str, fault: QueryFault) -> Refusal<'a> {
+    match fault {
+        QueryFault::NoLayer => Refusal::NoLayer(layer),
+        QueryFault::OutOfMemory => Refusal::OutOfMemory,
+    }
+}
+
+/// The topology of a file.
+fn read_topology<'a, F: Files>(
+    alloc: Global,
+    files: &mut F,
+    file: &'a str,
+) -> Result<Topology, Refusal<'a>> {
+    let (grid, map) = read_map(alloc, files, file)?;
+    Ok(Topology::build(alloc, &grid, &map)?)
+}
+
+/// What a file's text means. The text is given up before the topology is built.
+fn read_map<'a, F: Files>(
+    alloc: Global,
+    files: &mut F,
+    file: &'a str,
+) -> Result<(Grid, FeatureMap), Refusal<'a>> {
+    let text = read_named(alloc, files, file)?;
+    match topo_io::read(alloc, text.as_slice()) {
+        Ok(meaning) => Ok(meaning),
+        Err(fault) => Err(Refusal::of_text(file, fault)),
+    }
+}
+
+/// The value of an argument, empty where it has none.
+fn word<'a>(found: &ArgMatches<'a>, name: &str) -> &'a str {
+    found.get_str(name).unwrap_or("")
+}

@@ -1,0 +1,137 @@
+//! How a command says that it did not do its work: an exit status and a line on standard error.
+use faults::{Fault, FaultKind, OutOfMemory, Step};
+use itoa::Buffer;
+use sinks::{Sink, WriteFault, put};
+use std::alloc::{AllocError, AllocFailed};
+
+/// Why a command ends without its answer.
+#[derive(Drop)]
+pub(crate) enum Refusal<'a> {
+    /// The word after `--grid` is no transform.
+    BadGrid(&'a str),
+    /// A file word of `build` has no `=`.
+    BadLayer(&'a str),
+    /// A file can't be read.
+    Unreadable(&'a str),
+    /// The text of a file is refused.
+    Text(&'a str, Fault),
+    /// The transform of a file is not that of the first file.
+    OtherGrid(&'a str),
+    /// The topology has no layer of this name.
+    NoLayer(&'a str),
+    /// A plan names a file that is not there.
+    BadPlan,
+    /// A growth of memory was refused.
+    OutOfMemory,
+    /// Standard output failed.
+    Write,
+}
+
+impl<'a> Refusal<'a> {
+    /// The refusal of a file's text.
+    pub(crate) fn of_text(file: &'a str, fault: Fault) -> Refusal<'a> {
+        match fault.kind {
+            FaultKind::OutOfMemory => Refusal::OutOfMemory,
+            _ => Refusal::Text(file, fault),
+        }
+    }
+
+    /// The exit status.
+    pub(crate) fn status(&self) -> u8 {
+        match self {
+            Refusal::BadGrid(_) | Refusal::BadLayer(_) => 2,
+            Refusal::Unreadable(_) => 3,
+            Refusal::Text(..) | Refusal::OtherGrid(_) | Refusal::NoLayer(_) | Refusal::BadPlan => 4,
+            Refusal::OutOfMemory => 5,
+            Refusal::Write => 6,
+        }
+    }
+
+    /// Writes the line on standard error.
+    pub(crate) fn write_line<E: Sink>(&self, err: &mut E) -> Result<(), WriteFault> {
+        put(err, b"topotool: ")?;
+        match self {
+            Refusal::BadGrid(word) => put_words(err, "bad grid ", word)?,
+            Refusal::BadLayer(word) => put_words(err, "bad layer ", word)?,
+            Refusal::Unreadable(file) => put_words(err, "cannot read ", file)?,
+            Refusal::Text(file, fault) => {
+                put_words(err, file, ": ")?;
+                put_kind(err, fault.kind)?;
+                put(err, b" ")?;
+                put_path(err, fault.path.as_slice())?;
+            }
+            Refusal::OtherGrid(file) => {
+                put_words(err, file, ": ")?;
+                put_kind(err, FaultKind::OtherGrid)?;
+            }
+            Refusal::NoLayer(name) => {
+                put_kind(err, FaultKind::NoLayer)?;
+                put_words(err, " ", name)?;
+            }
+            Refusal::BadPlan => put_kind(err, FaultKind::BadPlan)?,
+            Refusal::OutOfMemory => put_kind(err, FaultKind::OutOfMemory)?,
+            Refusal::Write => put_kind(err, FaultKind::Write)?,
+        }
+        put(err, b"\n")
+    }
+}
+
+impl<'a> From<AllocError> for Refusal<'a> {
+    fn from(_error: AllocError) -> Refusal<'a> {
+        Refusal::OutOfMemory
+    }
+}
+
+impl<'a, T: Drop> From<AllocFailed<T>> for Refusal<'a> {
+    fn from(_failed: AllocFailed<T>) -> Refusal<'a> {
+        Refusal::OutOfMemory
+    }
+}
+
+impl<'a> From<OutOfMemory> for Refusal<'a> {
+    fn from(_fault: OutOfMemory) -> Refusal<'a> {
+        Refusal::OutOfMemory
+    }
+}
+
+impl<'a> From<WriteFault> for Refusal<'a> {
+    fn from(_fault: WriteFault) -> Refusal<'a> {
+        Refusal::Write
+    }
+}
+
+fn put_words<E: Sink>(err: &mut E, first: &str, second: &str) -> Result<(), WriteFault> {
+    put(err, first.as_bytes())?;
+    put(err, second.as_bytes())
+}
+
+/// A fault's number and name.
+fn put_kind<E: Sink>(err: &mut E, kind: FaultKind) -> Result<(), WriteFault> {
+    put(err, Buffer::new().format(kind.number()).as_bytes())?;
+    put_words(err, " ", kind.name())
+}
+
+/// A path is `$`, then `/` and the step for each step.
+fn put_path<E: Sink>(err: &mut E, path: &[Step]) -> Result<(), WriteFault> {
+    put(err, b"$")?;
+    for step in path {
+        put(err, b"/")?;
+        match step {
+            Step::Name(name) => put_name(err, name.as_str())?,
+            Step::Index(index) => put(err, Buffer::new().format(*index).as_bytes())?,
+        }
+    }
+    Ok(())
+}
+
+/// A member's name, with `~0` for `~` and `~1` for `/`.
+fn put_name<E: Sink>(err: &mut E, name: &str) -> Result<(), WriteFault> {
+    for byte in name.bytes() {
+        match byte {
+            b'~' => put(err, b"~0")?,
+            b'/' => put(err, b"~1")?,
+            _ => put(err, &[byte])?,
+        }
+    }
+    Ok(())
+}
