@@ -126,7 +126,11 @@ impl<'a, T, N: Notation<T>> Written for Each<'a, T, N> {
     }
 }
 
-fn write_others<W: Sink, T, N: Notation<T>>(sink: &mut W, notation: &N, others: &[T]) -> Result<(), WriteFault>
+fn write_others<W: Sink, T, N: Notation<T>>(
+    sink: &mut W,
+    notation: &N,
+    others: &[T],
+) -> Result<(), WriteFault>
     ensures whole { OnOk result (TookAll (W.seen sink.old) (W.seen sink.new) (after_commas (N.text notation.now) others.now)) }
     ensures part { OnErr result (TookPart (W.seen sink.old) (W.seen sink.new) (after_commas (N.text notation.now) others.now)) }
 {
@@ -140,7 +144,11 @@ fn write_others<W: Sink, T, N: Notation<T>>(sink: &mut W, notation: &N, others: 
     Ok(())
 }
 
-fn write_after_comma<W: Sink, T, N: Notation<T>>(sink: &mut W, notation: &N, value: &T) -> Result<(), WriteFault>
+fn write_after_comma<W: Sink, T, N: Notation<T>>(
+    sink: &mut W,
+    notation: &N,
+    value: &T,
+) -> Result<(), WriteFault>
     ensures whole { OnOk result (TookAll (W.seen sink.old) (W.seen sink.new) (after_comma (N.text notation.now) value.now)) }
     ensures part { OnErr result (TookPart (W.seen sink.old) (W.seen sink.new) (after_comma (N.text notation.now) value.now)) }
 {

@@ -34,7 +34,9 @@ impl<'a> Written for IdMember<'a> {
     fn write<W: Sink>(&self, sink: &mut W) -> Result<(), WriteFault> {
         match self.0 {
             Id::None => Ok(()),
-            Id::Number(number) => Then(Text(b"\"id\":"), Then(Number(*number), Text(b","))).write(sink),
+            Id::Number(number) => Then(Text(b"\"id\":"), Then(Number(*number), Text(b","))).write(
+                sink,
+            ),
             Id::Text(text) => {
                 let spelling = Text(text.spelling().as_bytes());
                 Then(Text(b"\"id\":"), Then(spelling, Text(b","))).write(sink)
@@ -46,9 +48,9 @@ impl<'a> Written for IdMember<'a> {
 #[cfg(test)]
 mod tests {
     use super::*;
+    use shapes::spelled::Spelled;
     use sinks::Kept;
     use sinks::written::Itself;
-    use shapes::spelled::Spelled;
     use std::test::Fail;
 
     #[test]
@@ -56,14 +58,20 @@ mod tests {
         let mut numbers = Vec::new(rt.alloc());
         numbers.push(Number(1))?;
         numbers.push(Number(2))?;
-        let lists = [Items::from_vec(numbers), Items::from_vec(Vec::new(rt.alloc()))];
+        let lists = [
+            Items::from_vec(numbers),
+            Items::from_vec(Vec::new(rt.alloc())),
+        ];
         let mut kept = Kept::new(rt.alloc());
         assert!(rt; Listed(&lists, &Lists(Itself)).write(&mut kept).is_ok());
         let name = Spelled::new(rt.alloc(), "a\"b").expect(&rt, "memory");
         assert!(rt; IdMember(&Id::Text(name)).write(&mut kept).is_ok());
         assert!(rt; IdMember(&Id::Number(-7)).write(&mut kept).is_ok());
         assert!(rt; IdMember(&Id::None).write(&mut kept).is_ok());
-        assert_eq!(rt; kept.into_bytes().as_slice(), b"[[1,2],[]]\"id\":\"a\\\"b\",\"id\":-7,".as_slice());
+        assert_eq!(rt;
+            kept.into_bytes().as_slice(),
+            b"[[1,2],[]]\"id\":\"a\\\"b\",\"id\":-7,".as_slice()
+        );
         Ok(())
     }
 }
