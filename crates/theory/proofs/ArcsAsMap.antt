@@ -35,10 +35,6 @@ module _ {V : Type 0} (L R L' R' : List V → Type 0) (f : (l : List V) → L l 
   junction_map v (inl e) = inl (visit_map v end e)
   junction_map v (inr (p, q, vp, vq, n)) = inr (p, q, visit_map v p vp, visit_map v q vq, n)
 
-  segment_map : (a b : V) → Segment L R a b → Segment L' R' a b
-  segment_map a b (inl k) = inl (k.0, f k.0 k.1, k.2)
-  segment_map a b (inr k) = inr (k.0, h k.0 k.1, k.2)
-
 three_map : {V : Type 0} (S T : V → V → Type 0) → ((a b : V) → S a b → T a b) → (v : V) → OnThree S v → OnThree T v
 three_map S T f v (a, b, c, x, y, z, p, q, r) = (a, b, c, f v a x, f v b y, f v c z, p, q, r)
 

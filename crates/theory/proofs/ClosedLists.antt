@@ -1,6 +1,6 @@
 -- Closed lists, and what stands round a ring: they do not depend on where the ring begins.
 use Rattle.std.proofs.Common.{◌≡◌, List, [], ◌∷◌, ◌++◌, ◌⊎◌, inl, inr, refl, sym, ap, subst, append_assoc, ◌≤◌, length, ◌∙◌, arith}
-use Rattle.theory.proofs.Lists.{Distinct-snoc, Has-append_left, Passes-append_left, Steps-append_left, Steps-last, append_nil, front-snoc, last-snoc}
+use Rattle.theory.proofs.Lists.{Distinct-snoc, Passes-append_left, Steps-append_left, Steps-last, append_nil, front-snoc, last-snoc}
 use Rattle.theory.specs.LinesAndRings.{around, closed}
 use Rattle.theory.specs.Lists.{Distinct, Passes, Steps, front_of}
 
@@ -94,10 +94,6 @@ around_steps u v (x ∷ (y ∷ q)) h =
       | inl k ↦ k
       | inr k ↦ inl (k.0 ∙ last-snoc x x (y ∷ q), k.1)
     ]
-
-Distinct-left : {V : Type 0} (s t : List V) → Distinct (s ++ t) → Distinct s
-Distinct-left [] t d = tt
-Distinct-left (x ∷ s) t d = ((λ h. d.0 (Has-append_left x s t h)), Distinct-left s t d.1)
 
 pub Distinct-rotate : {V : Type 0} (s t : List V) → Distinct (s ++ t) → Distinct (t ++ s)
 Distinct-rotate [] t d = subst Distinct (sym (append_nil t)) d

@@ -4,11 +4,6 @@ use Rattle.theory.proofs.Reversing.{reverse-snoc}
 use Rattle.theory.specs.ArcNumbers.{ArcRef, Uses, UsesOnce, backwards, flipped}
 use Rattle.theory.specs.Refinement.{pieces_at, pieces_of_used, replaced}
 
-uses_left : (k : ℕ) (a b : List ArcRef) → Uses k a → Uses k (a ++ b)
-uses_left k [] b h = absurd h
-uses_left k (x ∷ a) b (inl e) = inl e
-uses_left k (x ∷ a) b (inr h) = inr (uses_left k a b h)
-
 uses_parts : (k : ℕ) (a b : List ArcRef) → Uses k (a ++ b) → Uses k a ⊎ Uses k b
 uses_parts k [] b h = inr h
 uses_parts k (x ∷ a) b (inl e) = inl (inl e)

@@ -1,5 +1,5 @@
 -- Members of lists, of mapped lists and of lists of lists.
-use Rattle.std.proofs.Common.{◌≡◌, List, [], ◌∷◌, ◌++◌, map, inl, inr, refl, sym, ap, subst, ℕ, suc, zero, Some, slice_get}
+use Rattle.std.proofs.Common.{◌≡◌, List, [], ◌∷◌, map, inl, inr, refl, sym, ap, subst, ℕ, suc, zero, Some, slice_get}
 use Rattle.std.specs.Prelude.{map}
 use Rattle.theory.proofs.Lists.{Has-append, Has-append_left, Has-append_right}
 use Rattle.theory.specs.Lists.{Each, Has, Pairwise, SomeHas, gathered, joined}
@@ -28,18 +28,6 @@ pub Has-SomeHas : {V : Type 0} (Q : List V → Type 0) (ps : List (List V)) (p :
 Has-SomeHas Q [] p h q = absurd h
 Has-SomeHas Q (c ∷ ps) p (inl h) q = inl (subst Q h q)
 Has-SomeHas Q (c ∷ ps) p (inr h) q = inr (Has-SomeHas Q ps p h q)
-
-pub each_join : {V : Type 0} (P : List V → Type 0) (cs ds : List (List V)) → Each P cs → Each P ds → Each P (cs ++ ds)
-each_join P [] ds h k = k
-each_join P (c ∷ cs) ds h k = (h.0, each_join P cs ds h.1 k)
-
-pub each_left : {V : Type 0} (P : List V → Type 0) (cs ds : List (List V)) → Each P (cs ++ ds) → Each P cs
-each_left P [] ds h = tt
-each_left P (c ∷ cs) ds h = (h.0, each_left P cs ds h.1)
-
-pub each_right : {V : Type 0} (P : List V → Type 0) (cs ds : List (List V)) → Each P (cs ++ ds) → Each P ds
-each_right P [] ds h = h
-each_right P (c ∷ cs) ds h = each_right P cs ds h.1
 
 pub Has-gathered : {A B : Type 0} (f : A → List B) (l : List A) (x : A) (y : B) → Has x l → Has y (f x) → Has y (gathered f l)
 Has-gathered f [] x y h k = absurd h
@@ -87,11 +75,3 @@ has_get (y ∷ l) x (inr h) = let t = has_get l x h in (suc t.0, t.1)
 pub Each-all : {V : Type 0} (P : List V → Type 0) (cs : List (List V)) → ((c : List V) → Has c cs → P c) → Each P cs
 Each-all P [] f = tt
 Each-all P (c ∷ cs) f = (f c (inl refl), Each-all P cs (λ d h. f d (inr h)))
-
--- a list that is in R with each member, member by member
-pub Pairwise-exists : {A B : Type 0} (R : A → B → Type 0) (xs : List A) → ((x : A) → Has x xs → (y : B) × R x y) → (ys : List B) × Pairwise R xs ys
-Pairwise-exists R [] f = ([], tt)
-Pairwise-exists R (x ∷ xs) f =
-    let h = f x (inl refl) in
-    let t = Pairwise-exists R xs (λ z k. f z (inr k)) in
-    (h.0 ∷ t.0, (h.1, t.1))

@@ -9,13 +9,12 @@ use Rattle.std.specs.declared.cmp.Ordering.{Ordering}
 use Rattle.theory.proofs.ArcNumbers.{along_get, from_to, taken_back, taken_join, taken_of, taken_stitch, to_from}
 use Rattle.theory.proofs.ArcsOfMap.{passes, ring_is_cut, stop, stops}
 use Rattle.theory.proofs.Ascending.{at_most_self}
-use Rattle.theory.proofs.ChainLists.{chain_not_empty, same_head}
+use Rattle.theory.proofs.ChainLists.{chain_not_empty, chains_meet, same_head}
 use Rattle.theory.proofs.ClosedLists.{Distinct-rotate, closed_same}
 use Rattle.theory.proofs.Lists.{Has-append_right, append_cancel, front-snoc, last-snoc, last_join}
 use Rattle.theory.proofs.OneTopology.{along_chain}
 use Rattle.theory.proofs.Pieces.{SegmentOf-flip, ring_loop, two_segments_of}
 use Rattle.theory.proofs.RefinementLaws.{home, inside, one_home, one_place, pairwise_at, part_junction, same_le}
-use Rattle.theory.proofs.ReplacedLists.{chains_meet}
 use Rattle.theory.proofs.Reversing.{Has-reverse, Has-unreverse, reverse-join, reverse-last, reverse-snoc}
 use Rattle.theory.proofs.Rotations.{ring_list_rotated, rotation_back, rotation_has, rotation_trans}
 use Rattle.theory.proofs.Stitching.{stitched_join, stitched_reverse}

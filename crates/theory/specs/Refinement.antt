@@ -3,22 +3,16 @@ use Rattle.std.specs.Prelude.{◌≡◌, List, ◌⊎◌, ℕ, zero, suc, Bool, 
 use Rattle.std.specs.declared.cmp.Ordering.{Ordering}
 use Rattle.theory.specs.ArcNumbers.{ArcRef, StitchTo, Uses, UsesOnce, backwards}
 use Rattle.theory.specs.Arcs.{AreArcsOf}
-use Rattle.theory.specs.Chain.{Free, IsChain}
+use Rattle.theory.specs.Chain.{Free}
 use Rattle.theory.specs.Geometry.{Geometry, IsLineOf, IsRingOf, JunctionOf, SegmentOf}
 use Rattle.theory.specs.LinesAndRings.{closed}
-use Rattle.theory.specs.Lists.{Beside, Each, Has, Pairwise, SomeHas, Steps, front_of}
+use Rattle.theory.specs.Lists.{Beside, Has, Pairwise, front_of}
 use Rattle.theory.specs.Topology.{IsRingList}
 use Rattle.theory.specs.TopologyFunction.{is_junction, keep, line_cut, ref_of, ring_cut, some}
 
 -- in the one or in the other
 abbrev pub Either : {A : Type 0} → (A → Type 0) → (A → Type 0) → A → Type 0
 Either P Q x = P x ⊎ Q x
-
--- the lists are chains over U with the stops L, and have the steps of c, all and no others
-pub record PiecesOf {V : Type 0} (U : V → V → Type 0) (L : V → Type 0) (Le : V → V → Type 0) (c : List V) (ps : List (List V)) : Type 0 where
-  pub chains : Each (IsChain U L Le) ps
-  pub covers : (u v : V) → Steps u v c → SomeHas (λ p. Steps u v p) ps
-  pub inside : (u v : V) → SomeHas (λ p. Steps u v p) ps → Steps u v c
 
 -- each line and ring of g is one of u
 pub record IsPartOf {V : Type 0} (g u : Geometry V) : Type 0 where
