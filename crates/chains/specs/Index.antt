@@ -3,7 +3,7 @@ use Rattle.std.specs.Prelude.{◌≡◌, List, [], ◌∷◌, ◌++◌, map as m
 use Rattle.theory.specs.Lists.{Has, gathered}
 use Rattle.theory.specs.Topology.{Shape, lines_in, rings_in}
 use Rattle.theory.specs.Junction.{Visits}
-use Rattle.theory.specs.Map.Visit.{end, pair}
+use Rattle.theory.specs.Junction.Visit.{end, pair}
 use Rattle.theory.specs.Geometry.{Geometry, IsLineOf, IsRingOf, JunctionOf}
 use Rattle.grid.specs.declared.pos.Pos.{Pos}
 use Rattle.shapes.specs.declared.feature.Feature.{Feature}

@@ -16,10 +16,6 @@ use Rattle.chains.specs.Table.{free_at}
 use Rattle.chains.specs.Walk.{links_in}
 use Rattle.chains.specs.declared.segment.Segment.{Segment}
 
--- the two ends of a segment, the lesser first
-abbrev pub ends_of : Segment → Pos × Pos
-ends_of s = (s.lesser, s.greater)
-
 -- u and v are the ends of one of the segments
 abbrev pub AmongSegments : Pos → Pos → List Segment → Type 0
 AmongSegments u v [] = ⊥

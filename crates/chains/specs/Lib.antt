@@ -8,4 +8,5 @@ pub mod Arcs
 pub mod Table
 pub mod Links
 pub mod Walk
+pub mod Segments
 pub mod Joined

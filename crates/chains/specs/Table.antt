@@ -1,7 +1,7 @@
 -- The table of arcs.
 use Rattle.std.specs.Prelude.{◌≡◌, ℕ, Bool, true, false, cond, List, [], ◌∷◌, ◌++◌, map, Option, Some, None, slice_get}
 use Rattle.std.specs.Option.{option_map}
-use Rattle.std.specs.List.{position}
+use Rattle.std.specs.List.{position, position_or_len}
 use Rattle.theory.specs.Lists.{Has, Begins}
 use Rattle.theory.specs.Chain.{Free}
 use Rattle.theory.specs.Geometry.{Geometry, JunctionOf}
@@ -18,6 +18,10 @@ use lib.Pointwise.{pointwise}
 
 abbrev pub same_list : List Pos → List Pos → Bool
 same_list = pointwise position_eq
+
+-- the used arc that runs along a piece; the number is that of all arcs where there is none
+abbrev pub located : List (List Pos) → Piece → ArcRef
+located arcs p = record { arc = position_or_len (same_list p.chain) arcs; reversed = p.reversed }
 
 -- the used arc that runs along a piece
 abbrev pub found_in : List (List Pos) → Piece → Option ArcRef
@@ -36,14 +40,18 @@ is_seamed seams (Some c) = begins_among seams c
 abbrev pub free_at : Arcs → ℕ → Bool
 free_at t n = is_seamed t.seams (slice_get t.arcs n)
 
-abbrev pub seam_of : Bool → List Pos → List Pos
-seam_of free [] = []
-seam_of free (x ∷ l) = cond free (x ∷ []) []
+-- the first vertex of a piece that is marked as free
+abbrev pub seam_of : Piece → Option Pos
+seam_of p = cond p.free (slice_get p.chain 0) None
+
+abbrev pub with_seam : Option Pos → List Pos → List Pos
+with_seam None l = l
+with_seam (Some x) l = x ∷ l
 
 -- the first vertices of the free pieces, in order
 abbrev pub seams_of : List Piece → List Pos
 seams_of [] = []
-seams_of (p ∷ ps) = seam_of p.free p.chain ++ seams_of ps
+seams_of (p ∷ ps) = with_seam (seam_of p) (seams_of ps)
 
 -- the first vertices of the free pieces
 pub record AreSeamsOf (ps : List Piece) (seams : List Pos) : Type 0 where

@@ -191,5 +191,6 @@ pub fn maximal(
     let list = listed(alloc, segments)?;
     let chains = chains_of(alloc, &list, stops)?;
     let pieces = pieces_of(alloc, chains, stops)?;
-    ArcTable::from_pieces(alloc, pieces)
+    let table = ArcTable::from_pieces(alloc, pieces)?;
+    Ok(table)
 }

@@ -1,5 +1,5 @@
 //! Segments: the unordered pairs of neighbouring vertices.
-ghost use Rattle.std.specs.Prelude.{◌≡◌, true};
+ghost use Rattle.std.specs.Prelude.{◌≡◌, ◌↔◌, true, IsNone, IfSome};
 ghost use Rattle.std.specs.Ordering.{is_lt};
 ghost use Rattle.lines.specs.Turned.{position_cmp};
 
@@ -15,8 +15,13 @@ pub struct Segment {
 }
 
 impl Segment {
+    ghost use Rattle.chains.specs.Segments.{ends_of, IsBetween};
+
     /// The segment between two positions; `None` exactly where they are equal.
-    pub fn new(a: Pos, b: Pos) -> Option<Segment> {
+    pub fn new(a: Pos, b: Pos) -> Option<Segment>
+        ensures none { IsNone result ↔ (a ≡ b) }
+        ensures between { IfSome result (λ s. IsBetween a b s) }
+    {
         match a.cmp(&b) {
             Ordering::Less => Some(Segment {
                 lesser: a,
@@ -31,7 +36,9 @@ impl Segment {
     }
 
     /// The two ends, the lesser first.
-    pub fn ends(self) -> (Pos, Pos) {
+    pub fn ends(self) -> (Pos, Pos)
+        ensures { result ≡ ends_of self }
+    {
         (self.lesser, self.greater)
     }
 }

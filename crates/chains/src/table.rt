@@ -9,7 +9,7 @@ ghost use Rattle.theory.specs.Arcs.{AreSortedOnce};
 ghost use Rattle.theory.specs.ArcNumbers.{along, index_of};
 ghost use Rattle.grid.specs.declared.pos.Pos.{Pos};
 ghost use Rattle.chains.specs.Pieces.{used, chain_of};
-ghost use Rattle.chains.specs.Table.{same_list, seams_of, found_in, free_at, AreSeamsOf, ArePiecesOfMap, IsTableOf};
+ghost use Rattle.chains.specs.Table.{same_list, seam_of, seams_of, located, found_in, free_at, AreSeamsOf, ArePiecesOfMap, IsTableOf};
 
 use crate::cutting::Piece;
 use faults::OutOfMemory;
@@ -27,7 +27,7 @@ pub struct ArcRef {
 }
 
 impl Model for ArcRef {
-    ghost use Rattle.theory.specs.Numbers as numbers;
+    ghost use Rattle.theory.specs.ArcNumbers as numbers;
 
     ghost Value = { numbers.ArcRef };
 
@@ -97,18 +97,33 @@ fn all_chains(alloc: Global, pieces: Vec<Piece>) -> Result<IndexSet<Items<Pos>>,
     Ok(arcs)
 }
 
+/// The first vertex of a piece that is a free loop.
+fn seam(piece: &Piece) -> Option<Pos>
+    ensures { result ≡ seam_of piece.now }
+{
+    if piece.is_free() {
+        piece.chain().first().copied()
+    } else {
+        None
+    }
+}
+
 fn all_seams(alloc: Global, pieces: &[Piece]) -> Result<Vec<Pos>, AllocError>
     ensures { IfOk result (λ v. v.items ≡ seams_of pieces.now) }
 {
     let mut seams = Vec::new(alloc);
     for piece in pieces {
-        if piece.is_free()
-            && let Some(seam) = piece.chain().first()
-        {
-            seams.push(*seam)?;
+        if let Some(vertex) = seam(piece) {
+            seams.push(vertex)?;
         }
     }
     Ok(seams)
+}
+
+fn copied(alloc: Global, positions: &[Pos]) -> Result<Vec<Pos>, AllocError>
+    ensures { IfOk result (λ v. v.items ≡ positions.now) }
+{
+    positions.to_vec(alloc)
 }
 
 fn copies(alloc: Global, arcs: &[Items<Pos>]) -> Result<IndexSet<Items<Pos>>, AllocError>
@@ -116,7 +131,7 @@ fn copies(alloc: Global, arcs: &[Items<Pos>]) -> Result<IndexSet<Items<Pos>>, Al
 {
     let mut made = IndexSet::new(alloc);
     for arc in arcs {
-        made.insert(Items::from_vec(arc.as_slice().to_vec(alloc)?))?;
+        made.insert(Items::from_vec(copied(alloc, arc.as_slice())?))?;
     }
     Ok(made)
 }
@@ -159,6 +174,7 @@ impl ArcTable {
     /// The used arc that runs along a piece.
     pub fn find(&self, piece: &Piece) -> Option<ArcRef>
         ensures computed { result ≡ found_in self.now.arcs piece.now }
+        ensures located { IfSome result (λ r. r ≡ located self.now.arcs piece.now) }
         ensures along { IfSome result (λ r. along self.now.arcs r ≡ Some (used piece.now)) }
         ensures found { IsSome result ↔ Has (chain_of piece.now) self.now.arcs }
     {
@@ -192,7 +208,7 @@ impl ArcTable {
         ensures { IfOk result (λ t. t ≡ self.now) }
     {
         let arcs = copies(alloc, self.arcs.as_slice())?;
-        let seams = self.seams.as_slice().to_vec(alloc)?;
+        let seams = copied(alloc, &self.seams)?;
         Ok(ArcTable { arcs, seams })
     }
 }

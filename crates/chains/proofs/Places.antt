@@ -1,0 +1,199 @@
+-- The sorted keys are the chains of the pieces, each once.
+use Rattle.std.proofs.Common.{◌≡◌, ℕ, zero, suc, Bool, true, false, cond, not, ◌&&◌, ◌||◌, List, [], ◌∷◌, ◌++◌, length, ◌⊎◌, inl, inr, refl, sym, ap, ◌∙◌, subst, Option, Some, None, slice_get, nat_lt, reverse, option_map, arith, ◌<◌, ◌≤◌, ◌+◌, append_assoc}
+use borrow.Author.Tests.{ltb-true, ltb-false}
+use Rattle.std.specs.List.{list_any, IsDistinct, AllByRecursion, position, position_or_len}
+use Rattle.std.specs.List.Sorted.{IsSorted}
+use Rattle.std.specs.Cmp.{IsTotalOrder}
+use Rattle.std.specs.Cmp.Lexicographic.{slice_cmp, lists_total}
+use Rattle.std.specs.FinMap.{IsAntisymmetric, slice_cmp-IsAntisymmetric}
+use Rattle.std.specs.declared.cmp.Ordering.TheVariants.{Less}
+use Rattle.indexmap.specs.IndexSet.{insert_key, insert_all}
+use Rattle.grid.specs.declared.pos.Pos.{Pos}
+use Rattle.lines.specs.Turned.{position_cmp}
+use Rattle.theory.specs.Lists.{Has}
+use Rattle.chains.specs.Pairs.{position_eq}
+use Rattle.chains.specs.Pieces.{used}
+use Rattle.chains.specs.declared.cutting.Piece.{Piece}
+use Rattle.chains.specs.Table.{same_list, located, found_in}
+use Rattle.chains.proofs.SortedLists.{Up, up_from_sorted}
+use Rattle.chains.proofs.Equality.{position_total, position_same, position_true, position_refl, both_true, both_intro}
+use Rattle.theory.specs.Arcs.{Ascends, AreSortedOnce}
+use Rattle.theory.proofs.Ascending.{at_most_less}
+use Rattle.theory.proofs.Lists.{Has-append, Has-append_left, Has-append_right, append_nil}
+use Rattle.theory.specs.ArcNumbers.{along}
+
+pub list_true : (xs ys : List Pos) → same_list xs ys ≡ true → xs ≡ ys
+list_true [] [] e = refl
+list_true [] (y ∷ ys) e = absurd cc
+list_true (x ∷ xs) [] e = absurd cc
+list_true (x ∷ xs) (y ∷ ys) e =
+    let t = both_true (position_eq x y) (same_list xs ys) e in
+    let h : x ≡ y = position_true x y t.0 in
+    let ih : xs ≡ ys = list_true xs ys t.1 in λ i. h i ∷ ih i
+
+pub list_refl : (xs : List Pos) → same_list xs xs ≡ true
+list_refl [] = refl
+list_refl (x ∷ xs) = both_intro (position_eq x x) (same_list xs xs) (position_refl x) (list_refl xs)
+
+pub any_has : (q : List Pos) (l : List (List Pos)) → list_any (same_list q) l ≡ true → Has q l
+any_has q [] e = absurd cc
+any_has q (x ∷ l) e = go (same_list q x) refl e (any_has q l)
+  where
+    go : (b : Bool) → same_list q x ≡ b → (b || list_any (same_list q) l) ≡ true → (list_any (same_list q) l ≡ true → Has q l) → Has q (x ∷ l)
+    go true p f ih = inl (list_true q x p)
+    go false p f ih = inr (ih f)
+
+pub has_any : (q : List Pos) (l : List (List Pos)) → Has q l → list_any (same_list q) l ≡ true
+has_any q [] h = absurd h
+has_any q (x ∷ l) (inl e) = rw (subst (λ w. same_list q w ≡ true) e (list_refl q)) refl
+has_any q (x ∷ l) (inr h) = go (same_list q x) (has_any q l h)
+  where
+    go : (b : Bool) → list_any (same_list q) l ≡ true → (b || list_any (same_list q) l) ≡ true
+    go true e = refl
+    go false e = e
+
+insert_there : (x : List Pos) (ks : List (List Pos)) (b : Bool) → list_any (same_list x) ks ≡ b → Has x (cond b ks (ks ++ (x ∷ [])))
+insert_there x ks true e = any_has x ks e
+insert_there x ks false e = Has-append_right x ks (x ∷ []) (inl refl)
+
+insert_keeps : (x y : List Pos) (ks : List (List Pos)) (b : Bool) → Has y ks → Has y (cond b ks (ks ++ (x ∷ [])))
+insert_keeps x y ks true h = h
+insert_keeps x y ks false h = Has-append_left y ks (x ∷ []) h
+
+insert_only : (x y : List Pos) (ks : List (List Pos)) (b : Bool) → Has y (cond b ks (ks ++ (x ∷ []))) → Has y ks ⊎ (y ≡ x)
+insert_only x y ks true h = inl h
+insert_only x y ks false h = elim (Has-append y ks (x ∷ []) h) [ inl k ↦ inl k | inr k ↦ elim k [ inl e ↦ inr e | inr z ↦ absurd z ] ]
+
+all_there : (xs ks : List (List Pos)) (y : List Pos) → Has y ks ⊎ Has y xs → Has y (insert_all same_list ks xs)
+all_there [] ks y (inl h) = h
+all_there [] ks y (inr h) = absurd h
+all_there (x ∷ xs) ks y (inl h) = all_there xs (insert_key same_list ks x) y (inl (insert_keeps x y ks (list_any (same_list x) ks) h))
+all_there (x ∷ xs) ks y (inr (inl e)) =
+    all_there xs (insert_key same_list ks x) y (inl (subst (λ w. Has w (insert_key same_list ks x)) (sym e) (insert_there x ks (list_any (same_list x) ks) refl)))
+all_there (x ∷ xs) ks y (inr (inr h)) = all_there xs (insert_key same_list ks x) y (inr h)
+
+all_only : (xs ks : List (List Pos)) (y : List Pos) → Has y (insert_all same_list ks xs) → Has y ks ⊎ Has y xs
+all_only [] ks y h = inl h
+all_only (x ∷ xs) ks y h =
+    elim (all_only xs (insert_key same_list ks x) y h) [
+      | inr k ↦ inr (inr k)
+      | inl k ↦ elim (insert_only x y ks (list_any (same_list x) ks) k) [ inl j ↦ inl j | inr e ↦ inr (inl e) ]
+    ]
+
+apart : (x : List Pos) (l : List (List Pos)) → AllByRecursion (λ y. same_list x y ≡ false) l → (y : List Pos) → Has y l → ¬ (x ≡ y)
+apart x [] a y h e = h
+apart x (z ∷ l) a y (inl k) e =
+    let f : same_list x x ≡ false = subst (λ w. same_list x w ≡ false) (sym (e ∙ k)) a.0 in
+    let g : true ≡ false = sym (list_refl x) ∙ f in cc
+apart x (z ∷ l) a y (inr k) e = apart x l a.1 y k e
+
+ascends : (l : List (List Pos)) → Up (slice_cmp position_cmp) l → IsDistinct same_list l → Ascends (slice_cmp position_cmp) l
+unfolding IsDistinct
+ascends [] u d = tt
+ascends (x ∷ l) u d = (
+  (λ y h. elim (at_most_less (slice_cmp position_cmp) (lists_total position_total) (slice_cmp-IsAntisymmetric position_same) x y (u.0 y h)) [
+    | inl e ↦ e
+    | inr e ↦ absurd (apart x l d.0 y h e)
+  ]),
+  ascends l u.1 d.1,
+)
+
+pub sorted_once : (ps ks arcs : List (List Pos)) → ks ≡ insert_all same_list [] ps →
+    ((q : List Pos) → list_any (same_list q) arcs ≡ list_any (same_list q) ks) → IsSorted (slice_cmp position_cmp) arcs → IsDistinct same_list arcs →
+    AreSortedOnce (slice_cmp position_cmp) ps arcs
+sorted_once ps ks arcs e m s d = record {
+  ascends = ascends arcs (up_from_sorted (slice_cmp position_cmp) (lists_total position_total) arcs s) d;
+  there = λ c h. any_has c arcs (m c ∙ has_any c ks (subst (λ w. Has c w) (sym e) (all_there ps [] c (inr h))));
+  only = λ c h. elim (all_only ps [] c (subst (λ w. Has c w) e (any_has c ks (sym (m c) ∙ has_any c arcs h)))) [ inl z ↦ absurd z | inr k ↦ k ];
+}
+
+-- what stands at the place that a search finds
+place_is : (q : List Pos) (l : List (List Pos)) → position_or_len (same_list q) l < length l →
+    slice_get l (position_or_len (same_list q) l) ≡ Some q
+place_is q [] h = absurd (omega arith)
+place_is q (x ∷ l) h = go (same_list q x) refl h (place_is q l)
+  where
+    go : (b : Bool) → same_list q x ≡ b → cond (not b) (1 + position_or_len (same_list q) l) 0 < suc (length l) →
+        (position_or_len (same_list q) l < length l → slice_get l (position_or_len (same_list q) l) ≡ Some q) →
+        slice_get (x ∷ l) (cond (not b) (1 + position_or_len (same_list q) l) 0) ≡ Some q
+    go true e k ih = ap Some (sym (list_true q x e))
+    go false e k ih =
+        let n : suc (position_or_len (same_list q) l) ≡ 1 + position_or_len (same_list q) l = omega arith in
+        subst (λ w. slice_get (x ∷ l) w ≡ Some q) n (ih (omega (arith, k)))
+
+found_at : (q : List Pos) (l : List (List Pos)) (i : ℕ) → Some i ≡ position (same_list q) l → slice_get l i ≡ Some q
+found_at q l i e = go (nat_lt (position_or_len (same_list q) l) (length l)) refl e
+  where
+    go : (b : Bool) → nat_lt (position_or_len (same_list q) l) (length l) ≡ b → Some i ≡ cond b (Some (position_or_len (same_list q) l)) None → slice_get l i ≡ Some q
+    go true h k = let n : i ≡ position_or_len (same_list q) l = cc in subst (λ w. slice_get l w ≡ Some q) (sym n) (place_is q l (ltb-true (position_or_len (same_list q) l) (length l) h))
+    go false h k = absurd cc
+
+pub along_found : (l : List (List Pos)) (p : Piece) (q : List Pos) (i : ℕ) (r : Bool) → Some i ≡ position (same_list q) l → q ≡ p.chain → r ≡ p.reversed →
+    along l (record { arc = i; reversed = r }) ≡ Some (used p)
+along_found l p q i r e f h =
+    ap (option_map (λ c. cond r (reverse c) c)) (found_at q l i e) ∙ (λ j. Some (cond (h j) (reverse (f j)) (f j)))
+
+-- the place that a search finds is that of the used arc
+pub found_located : (l : List (List Pos)) (p : Piece) (q : List Pos) (i : ℕ) (r : Bool) → Some i ≡ position (same_list q) l → q ≡ p.chain → r ≡ p.reversed →
+    record { arc = i; reversed = r } ≡ located l p
+found_located l p q i r e f h = go (nat_lt (position_or_len (same_list q) l) (length l)) e
+  where
+    go : (b : Bool) → Some i ≡ cond b (Some (position_or_len (same_list q) l)) None → record { arc = i; reversed = r } ≡ located l p
+    go true k =
+        let n : i ≡ position_or_len (same_list q) l = cc in
+        let a : i ≡ position_or_len (same_list p.chain) l = n ∙ ap (λ w. position_or_len (same_list w) l) f in
+        λ j. record { arc = a j; reversed = h j }
+    go false k = absurd cc
+
+-- the answer of a search, in one word
+pub found_computed : (l : List (List Pos)) (p : Piece) (q : List Pos) (i : ℕ) (r : Bool) → Some i ≡ position (same_list q) l → q ≡ p.chain → r ≡ p.reversed →
+    Some (record { arc = i; reversed = r }) ≡ found_in l p
+found_computed l p q i r e f h =
+    ap (option_map (λ n. record { arc = n; reversed = r })) e
+    ∙ (λ j. option_map (λ n. record { arc = n; reversed = h j }) (position (same_list (f j)) l))
+
+pub none_computed : (l : List (List Pos)) (p : Piece) (q : List Pos) → None ≡ position (same_list q) l → q ≡ p.chain → None ≡ found_in l p
+none_computed l p q e f =
+    ap (option_map (λ n. record { arc = n; reversed = p.reversed })) e
+    ∙ (λ j. option_map (λ n. record { arc = n; reversed = p.reversed }) (position (same_list (f j)) l))
+
+-- lists that all differ, inserted one by one
+pub insert_own : (ks xs : List (List Pos)) → IsDistinct same_list (ks ++ xs) → insert_all same_list ks xs ≡ ks ++ xs
+unfolding IsDistinct
+insert_own ks [] d = sym (append_nil ks)
+insert_own ks (x ∷ xs) d =
+    ap (λ w. insert_all same_list w xs) (new ks (x ∷ xs) d)
+    ∙ insert_own (ks ++ (x ∷ [])) xs (subst (IsDistinct same_list) (sym (append_assoc ks (x ∷ []) xs)) d)
+    ∙ append_assoc ks (x ∷ []) xs
+  where
+    differs : (k : List Pos) (l : List (List Pos)) (y : List Pos) → AllByRecursion (λ z. same_list k z ≡ false) l → Has y l → ¬ (y ≡ k)
+    differs k l y a h e = apart k l a y h (sym e)
+
+    stranger : (ks : List (List Pos)) → IsDistinct same_list (ks ++ (x ∷ xs)) → ¬ Has x ks
+    stranger [] d h = h
+    stranger (k ∷ ks) d (inl e) = differs k (ks ++ (x ∷ xs)) x d.0 (Has-append_right x ks (x ∷ xs) (inl refl)) e
+    stranger (k ∷ ks) d (inr h) = stranger ks d.1 h
+
+    new : (ks ys : List (List Pos)) → IsDistinct same_list (ks ++ (x ∷ xs)) → insert_key same_list ks x ≡ ks ++ (x ∷ [])
+    new ks ys d = go (list_any (same_list x) ks) refl
+      where
+        go : (b : Bool) → list_any (same_list x) ks ≡ b → cond b ks (ks ++ (x ∷ [])) ≡ ks ++ (x ∷ [])
+        go true e = absurd (stranger ks d (any_has x ks e))
+        go false e = refl
+
+-- a member's place is found
+pub found_place : (q : List Pos) (l : List (List Pos)) → Has q l → Some (position_or_len (same_list q) l) ≡ position (same_list q) l
+found_place q l h = go (nat_lt (position_or_len (same_list q) l) (length l)) refl
+  where
+    within : (l : List (List Pos)) → Has q l → position_or_len (same_list q) l < length l
+    within [] k = absurd k
+    within (x ∷ l) (inl e) = rw (subst (λ w. same_list q w ≡ true) e (list_refl q)) (omega arith)
+    within (x ∷ l) (inr k) = step (same_list q x) l (within l k)
+      where
+        step : (b : Bool) (l : List (List Pos)) → position_or_len (same_list q) l < length l → cond (not b) (1 + position_or_len (same_list q) l) 0 < suc (length l)
+        step true l h = omega arith
+        step false l h = omega (arith, h)
+
+    go : (b : Bool) → nat_lt (position_or_len (same_list q) l) (length l) ≡ b → Some (position_or_len (same_list q) l) ≡ cond b (Some (position_or_len (same_list q) l)) None
+    go true e = refl
+    go false e = let m = ltb-false (position_or_len (same_list q) l) (length l) e in let k = within l h in absurd (omega arith)

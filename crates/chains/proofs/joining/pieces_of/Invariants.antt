@@ -1,0 +1,9 @@
+use Rattle.std.proofs.Common.{◌≡◌, ◌++◌, map}
+use Rattle.chains.specs.Pairs.{among}
+use Rattle.chains.specs.Pieces.{oriented}
+use Rattle.chains.proofs.joining.pieces_of.Given as goal
+
+abbrev pub invariant-loop-chain : goal.invariant-loop-chain
+invariant-loop-chain l =
+    l.pieces.items ++ map (oriented (among l.stops.keys)) (map (λ c. c.items) l.chain-iterator.rest.items)
+    ≡ map (oriented (among l.stops.keys)) (map (λ c. c.items) l.fn.chains.items)

@@ -1,0 +1,12 @@
+use Rattle.chains.proofs.Search.{looked_up}
+use Rattle.chains.proofs.Among.{is_known}
+use Rattle.chains.proofs.visits.VisitIndex.is_junction.Goals as goal
+
+pub returns-clause-among : goal.returns-clause-among
+returns-clause-among c =
+    looked_up _ _ _ c.args.p _ _ c.self.view_is c.deref.ensures.value c.is_ok.ensures.value c.binary_search.ensures.bound c.binary_search.ensures.position c.self.invariant
+
+pub returns-clause-junction : goal.returns-clause-junction
+returns-clause-junction c =
+    is_known c.args.self.now c.args.p _
+    (looked_up _ _ _ c.args.p _ _ c.self.view_is c.deref.ensures.value c.is_ok.ensures.value c.binary_search.ensures.bound c.binary_search.ensures.position c.self.invariant)
