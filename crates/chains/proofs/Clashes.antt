@@ -95,6 +95,7 @@ one_side v b a q l u h at_b at_q d f = go (clash a b) refl
   where
     same : a.vertex ≡ b.vertex
     same = between_vertices b a q l u h (at_b ∙ sym at_q)
+
     go : (t : Bool) → clash a b ≡ t → Has v (cond t (a.vertex ∷ clashes_from a l) (clashes_from a l))
     go true e = inl (sym (same ∙ at_b))
     go false e =
@@ -116,7 +117,7 @@ neighbours_from_clash v b (a ∷ l) u c = both c.has_one c.has_other (λ k. neig
     both (inr p) (inl q) f = one_side v b a c.one l u p (ap (λ w. w.vertex) (sym q) ∙ c.at_other) c.at_one (λ z. c.differ (sym z ∙ sym q)) f
     both (inr p) (inr q) f =
         keep v (clash a b) a.vertex (clashes_from a l)
-          (f (record { one = c.one; other = c.other; has_one = p; has_other = q; at_one = c.at_one; at_other = c.at_other; differ = c.differ }))
+        (f (record { one = c.one; other = c.other; has_one = p; has_other = q; at_one = c.at_one; at_other = c.at_other; differ = c.differ }))
 
 pub clash_from_sorted : (v : Pos) (ys : List Visit) → Has v (clashes_of ys) → Clash v ys
 clash_from_sorted v [] h = absurd h

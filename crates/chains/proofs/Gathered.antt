@@ -95,9 +95,13 @@ module _ (g : Geometry Pos) (ends : List Pos) (visits : List Visit) (are : AreVi
   clash_seen v c =
       let k = are.pairs_only c.one c.has_one in
       let m = are.pairs_only c.other c.has_other in
-      inr (pair k.0 k.1, pair m.0 m.1,
-        subst (λ w. Seen_so w (pair k.0 k.1)) c.at_one k.3, subst (λ w. Seen_so w (pair m.0 m.1)) c.at_other m.3,
-        λ s. c.differ (k.2 ∙ seen_same c.one.vertex c.other.vertex k.0 k.1 m.0 m.1 (c.at_one ∙ sym c.at_other) s ∙ sym m.2))
+      inr (
+        pair k.0 k.1,
+        pair m.0 m.1,
+        subst (λ w. Seen_so w (pair k.0 k.1)) c.at_one k.3,
+        subst (λ w. Seen_so w (pair m.0 m.1)) c.at_other m.3,
+        λ s. c.differ (k.2 ∙ seen_same c.one.vertex c.other.vertex k.0 k.1 m.0 m.1 (c.at_one ∙ sym c.at_other) s ∙ sym m.2),
+      )
 
   seen_clash : (v : Pos) → JunctionOf g v → Has v ends ⊎ Clash v visits
   unfolding Seen_so
@@ -112,9 +116,14 @@ module _ (g : Geometry Pos) (ends : List Pos) (visits : List Visit) (are : AreVi
 
 clash_moved : (v : Pos) (xs ys : List Visit) → IsPermutation xs ys → Clash v xs → Clash v ys
 clash_moved v xs ys p c = record {
-    one = c.one; other = c.other; has_one = Has-permutation xs ys c.one p c.has_one; has_other = Has-permutation xs ys c.other p c.has_other;
-    at_one = c.at_one; at_other = c.at_other; differ = c.differ
-  }
+  one = c.one;
+  other = c.other;
+  has_one = Has-permutation xs ys c.one p c.has_one;
+  has_other = Has-permutation xs ys c.other p c.has_other;
+  at_one = c.at_one;
+  at_other = c.at_other;
+  differ = c.differ;
+}
 
 -- sorted by vertex, looked through, put behind the ends and sorted
 pub junctions_kept : (g : Geometry Pos) (ends kept sorted : List Pos) (visits ordered given : List Visit) →
@@ -122,17 +131,19 @@ pub junctions_kept : (g : Geometry Pos) (ends kept sorted : List Pos) (visits or
     IsSortedByKey (λ (v : Visit). v.vertex) position_cmp ordered → given ≡ ordered → kept ≡ ends ++ clashes_of given → IsPermutation kept sorted →
     IsIndexOf sorted g
 junctions_kept g ends kept sorted visits ordered given are p s h k q = record {
-    all = λ v j. Has-permutation kept sorted v q (subst (Has v) (sym k)
+  all = λ v j. Has-permutation kept sorted v q (subst (Has v) (sym k)
       (elim (seen_clash g ends visits are v j) [
-        inl e ↦ Has-append_left v ends (clashes_of given) e
-      | inr c ↦ Has-append_right v ends (clashes_of given) (subst (λ w. Has v (clashes_of w)) (sym h)
-          (sorted_from_clash v ordered (up_from_sorted visit_cmp visit_total ordered s) (clash_moved v visits ordered p c))) ]));
-    only = λ v m.
+        | inl e ↦ Has-append_left v ends (clashes_of given) e
+        | inr c ↦ Has-append_right v ends (clashes_of given) (subst (λ w. Has v (clashes_of w)) (sym h)
+            (sorted_from_clash v ordered (up_from_sorted visit_cmp visit_total ordered s) (clash_moved v visits ordered p c)))
+      ]));
+  only = λ v m.
       elim (Has-append v ends (clashes_of given) (subst (Has v) k (Has-permutation sorted kept v (IsPermutation-sym kept sorted q) m))) [
-        inl a ↦ inl (are.ends_only v a)
-      | inr b ↦ clash_seen g ends visits are v (clash_moved v ordered visits (IsPermutation-sym visits ordered p)
-          (clash_from_sorted v ordered (subst (λ w. Has v (clashes_of w)) h b))) ]
-  }
+        | inl a ↦ inl (are.ends_only v a)
+        | inr b ↦ clash_seen g ends visits are v (clash_moved v ordered visits (IsPermutation-sym visits ordered p)
+            (clash_from_sorted v ordered (subst (λ w. Has v (clashes_of w)) h b)))
+      ];
+}
 
 -- what is gathered from the forms of a map
 module _ (m : Layers) where
@@ -163,13 +174,13 @@ module _ (m : Layers) where
   pairs_all a v b (inl t) =
       let f = gathered_from lines_in forms t.0 t.1 in
       Has-gathered form_visits forms f.0 (visit_of a v b) f.1
-        (Has-append_left (visit_of a v b) (gathered inner_of (lines_in f.0)) (gathered around_of (rings_in f.0))
-          (Has-gathered inner_of (lines_in f.0) t.0 (visit_of a v b) f.2 (between_has a v b t.0 t.2)))
+      (Has-append_left (visit_of a v b) (gathered inner_of (lines_in f.0)) (gathered around_of (rings_in f.0))
+      (Has-gathered inner_of (lines_in f.0) t.0 (visit_of a v b) f.2 (between_has a v b t.0 t.2)))
   pairs_all a v b (inr t) =
       let f = gathered_from rings_in forms t.0 t.1 in
       Has-gathered form_visits forms f.0 (visit_of a v b) f.1
-        (Has-append_right (visit_of a v b) (gathered inner_of (lines_in f.0)) (gathered around_of (rings_in f.0))
-          (Has-gathered around_of (rings_in f.0) t.0 (visit_of a v b) f.2 (between_has a v b (around t.0) t.2)))
+      (Has-append_right (visit_of a v b) (gathered inner_of (lines_in f.0)) (gathered around_of (rings_in f.0))
+      (Has-gathered around_of (rings_in f.0) t.0 (visit_of a v b) f.2 (between_has a v b (around t.0) t.2)))
 
   visits_of_map : AreVisitsOf (gathered form_ends forms) (gathered form_visits forms) (geometry_of m)
   unfolding forms

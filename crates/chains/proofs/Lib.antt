@@ -2,6 +2,7 @@ pub mod SortedLists
 pub mod Equality
 pub mod Among
 pub mod Search
+pub mod Layers
 pub mod Clashes
 pub mod Gathered
 pub mod Oriented

@@ -24,19 +24,20 @@ split_at k i = go (nat_lt k i) refl
 pub found : (xs : List Pos) (x : Pos) (r : Result ℕ ℕ) (b : Bool) → b ≡ is_ok r → IsSearchInRange r (length xs) →
     IsBinarySearchResult (λ y. position_cmp y x) xs r → IsSorted position_cmp xs → Tells b (Has x xs)
 found xs x (Ok i) b e w p s = record {
-    yes = λ h. has_from_contains x xs i w (position_same (get_or xs i x) x (p x));
-    no = λ h. absurd cc
-  }
+  yes = λ h. has_from_contains x xs i w (position_same (get_or xs i x) x (p x));
+  no = λ h. absurd cc;
+}
 found xs x (Err i) b e w p s = record {
-    yes = λ h. absurd cc;
-    no = λ h k.
+  yes = λ h. absurd cc;
+  no = λ h k.
       let t = Contains-from_has x xs k in
       let q = p (searchable_from_sorted position_total (λ (y : Pos). y) xs x s) in
       let z : position_cmp (get_or xs t.0 x) x ≡ Equal = ap (λ w. position_cmp w x) t.2 ∙ tied_itself position_total x in
       elim (split_at t.0 i) [
-        inl a ↦ (let m : position_cmp (get_or xs t.0 x) x ≡ Less = q.0 t.0 x (omega arith) a in absurd cc)
-      | inr a ↦ (let m : position_cmp (get_or xs t.0 x) x ≡ Greater = q.1 t.0 x a t.1 in absurd cc) ]
-  }
+        | inl a ↦ (let m : position_cmp (get_or xs t.0 x) x ≡ Less = q.0 t.0 x (omega arith) a in absurd cc)
+        | inr a ↦ (let m : position_cmp (get_or xs t.0 x) x ≡ Greater = q.1 t.0 x a t.1 in absurd cc)
+      ];
+}
 
 -- the same in the form of the code
 pub found_by_code : (xs ys : List Pos) (x : Pos) (r : Result ℕ ℕ) (b : Bool) → ys ≡ xs → b ≡ is_ok r → IsSearchInRange r (length ys) →

@@ -43,9 +43,9 @@ module _ {X : Type 0} (R : X → X → Ordering) (o : IsTotalOrder R) where
 
   pub tail_sorted : (x : X) (l : List X) → IsSorted R (x ∷ l) → IsSorted R l
   tail_sorted x l s = λ k d a b.
-    let t = s (suc k) d (omega arith) (omega (arith, b)) in
-    let e : suc k + 1 ≡ suc (k + 1) = omega arith in
-    subst (λ n. is_lt (R (get_or (x ∷ l) n d) (get_or l k d)) ≡ false) e t
+      let t = s (suc k) d (omega arith) (omega (arith, b)) in
+      let e : suc k + 1 ≡ suc (k + 1) = omega arith in
+      subst (λ n. is_lt (R (get_or (x ∷ l) n d) (get_or l k d)) ≡ false) e t
 
   pub rises_from_sorted : (x : X) (l : List X) → IsSorted R (x ∷ l) → Rises R x l
   rises_from_sorted x [] s = tt

@@ -140,7 +140,7 @@ pub table_is : (g : Geometry Pos) → IsSound g → (ps : List Piece) (t : Arcs)
     ArePiecesOfMap g ps → IsTableOf g t
 table_is g sound ps t s m are =
     let good : (c : List Pos) → Has c (map chain_of ps) → IsArcOf position_cmp g c =
-        λ c h. (let k = map_has chain_of ps c h in subst (IsArcOf position_cmp g) (sym k.2) (are.each k.0 k.1).arc) in
+    λ c h. (let k = map_has chain_of ps c h in subst (IsArcOf position_cmp g) (sym k.2) (are.each k.0 k.1).arc) in
     let arcs : AreArcsOf position_cmp g t.arcs = sorted_pieces_are_arcs position_cmp position_total position_same position_dec g sound (map chain_of ps) are.all t.arcs good s in
     record {
       arcs = arcs;

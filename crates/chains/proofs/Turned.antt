@@ -155,5 +155,5 @@ module _ (J : Pos → Type 0) (stop : Pos → Bool) (stops : (v : Pos) → stop 
           (least_second position_cmp position_total position_same r f next s.0 g
           (subst (λ w. IsRotation r (f ∷ w)) s.1 turn)
           (λ z m h.
-              then_tail (position_cmp f f) (position_cmp next z) (tied_itself position_total f)
-              (same_kind (stop f) (stop f) (ordering_then (position_cmp f f) (position_cmp next z)) refl (below f z (rotation_start x (y ∷ l) f z m h)))))
+          then_tail (position_cmp f f) (position_cmp next z) (tied_itself position_total f)
+          (same_kind (stop f) (stop f) (ordering_then (position_cmp f f) (position_cmp next z)) refl (below f z (rotation_start x (y ∷ l) f z m h)))))

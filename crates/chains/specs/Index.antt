@@ -1,11 +1,13 @@
 -- The index of a map's junctions.
-use Rattle.std.specs.Prelude.{◌≡◌, List, [], ◌∷◌, ◌++◌, map as map_list}
+use Rattle.std.specs.Prelude.{◌≡◌, ℕ, List, [], ◌∷◌, ◌++◌}
 use Rattle.theory.specs.Lists.{Has, gathered}
 use Rattle.theory.specs.Topology.{Shape, lines_in, rings_in}
 use Rattle.theory.specs.Junction.{Visits}
 use Rattle.theory.specs.Junction.Visit.{end, pair}
 use Rattle.theory.specs.Geometry.{Geometry, IsLineOf, IsRingOf, JunctionOf}
 use Rattle.grid.specs.declared.pos.Pos.{Pos}
+use Rattle.shapes.specs.Maps.{Layers, features_at}
+use Rattle.shapes.specs.Sets as set
 use Rattle.shapes.specs.declared.feature.Feature.{Feature}
 use Rattle.chains.specs.Seen.{form_of}
 use Rattle.chains.specs.Visits.{visit_of, inner_of, around_of, ends_of}
@@ -36,3 +38,10 @@ feature_ends f = form_ends (form_of f.shape)
 
 abbrev pub feature_visits : Feature → List Visit
 feature_visits f = form_visits (form_of f.shape)
+
+-- those of the features under a name
+abbrev pub layer_ends : Layers → List ℕ → List Pos
+layer_ends m name = gathered feature_ends (set.items (features_at m name))
+
+abbrev pub layer_visits : Layers → List ℕ → List Visit
+layer_visits m name = gathered feature_visits (set.items (features_at m name))

@@ -1,10 +1,11 @@
 -- A feature map as the definitions of the topology see it, and its lines and rings.
 use Rattle.std.specs.Prelude.{ℕ, List, [], ◌∷◌, ◌++◌, map as map_list}
-use Rattle.std.specs.FinSet as set
+use Rattle.shapes.specs.Sets as set
 use Rattle.std.specs.FinMap as map
 use Rattle.grid.specs.declared.pos.Pos.{Pos}
 use Rattle.lines.specs.declared.line.Line as lines_of
 use Rattle.lines.specs.declared.ring.Ring as rings_of
+use Rattle.lines.specs.Seen.{positions_of, vertices_of}
 use Rattle.shapes.specs.Maps.{Layers, Features}
 use Rattle.shapes.specs.declared.props.Props.{Props}
 use Rattle.shapes.specs.declared.shape.Id.{Id}
@@ -21,10 +22,10 @@ abbrev pub Info : Type 0
 Info = Id × Props
 
 abbrev pub line_of : lines_of.Line → List Pos
-line_of l = l.positions
+line_of l = positions_of l
 
 abbrev pub ring_of : rings_of.Ring → List Pos
-ring_of r = r.positions
+ring_of r = vertices_of r
 
 -- a shape whose lines and rings are lists of vertices
 abbrev pub form_of : shapes.Shape → Shape Pos

@@ -23,7 +23,11 @@ fn ring(alloc: Global, places: &[(i64, i64)]) -> Result<Ring, Fail> {
 }
 
 /// The map of one layer with these lines and polygons of one ring.
-fn map_of(alloc: Global, lines: &[&[(i64, i64)]], rings: &[&[(i64, i64)]]) -> Result<FeatureMap, Fail> {
+fn map_of(
+    alloc: Global,
+    lines: &[&[(i64, i64)]],
+    rings: &[&[(i64, i64)]],
+) -> Result<FeatureMap, Fail> {
     let mut map = FeatureMap::new(alloc);
     map.add_layer("a")?;
     for places in lines {
@@ -69,7 +73,11 @@ fn indexes(alloc: Global, table: &ArcTable, pieces: &[Piece]) -> Result<Vec<i64>
     let mut made = Vec::new(alloc);
     for piece in pieces {
         let found = table.find(piece).ok_or("no arc")?;
-        made.push(if found.reversed { -1 - found.arc as i64 } else { found.arc as i64 })?;
+        made.push(if found.reversed {
+            -1 - found.arc as i64
+        } else {
+            found.arc as i64
+        })?;
     }
     Ok(made)
 }
@@ -151,8 +159,14 @@ fn squares_that_touch(rt: HostRuntime) -> Result<(), Fail> {
     check(&rt, alloc, &table, arcs)?;
     check(&rt, alloc, &table.copy(alloc)?, arcs)?;
     assert!(rt; !table.is_free(0) && !table.is_free(1));
-    assert_eq!(rt; indexes(alloc, &table, &all_pieces(alloc, &index, &[], &[first])?)?.as_slice(), [0].as_slice());
-    assert_eq!(rt; indexes(alloc, &table, &all_pieces(alloc, &index, &[], &[second])?)?.as_slice(), [-2].as_slice());
+    assert_eq!(rt;
+        indexes(alloc, &table, &all_pieces(alloc, &index, &[], &[first])?)?.as_slice(),
+        [0].as_slice()
+    );
+    assert_eq!(rt;
+        indexes(alloc, &table, &all_pieces(alloc, &index, &[], &[second])?)?.as_slice(),
+        [-2].as_slice()
+    );
     Ok(())
 }
 
@@ -193,7 +207,10 @@ fn a_line_that_comes_to_a_vertex_again(rt: HostRuntime) -> Result<(), Fail> {
 fn segments_have_the_lesser_end_first(rt: HostRuntime) -> Result<(), Fail> {
     let alloc = rt.alloc();
     let places = positions(alloc, &[(1, 0), (0, 5)])?;
-    let (a, b) = (*places.first().ok_or("none")?, *places.last().ok_or("none")?);
+    let (a, b) = (
+        *places.first().ok_or("none")?,
+        *places.last().ok_or("none")?,
+    );
     let segment = Segment::new(a, b).ok_or("equal")?;
     assert_eq!(rt; segment.ends(), (b, a));
     assert_eq!(rt; Segment::new(b, a), Some(segment));

@@ -6,7 +6,10 @@ ghost use Rattle.grid.specs.declared.pos.Pos.{Pos};
 ghost use Rattle.chains.specs.Pairs.{among, pair_of};
 ghost use Rattle.chains.specs.Visits.{visit_of, inner_of, ends_of, around_of, clash, clashes_of};
 ghost use Rattle.chains.specs.Seen.{line_of, ring_of, form_of, geometry_of};
-ghost use Rattle.chains.specs.Index.{IsIndexOf, AreVisitsOf, feature_ends, feature_visits, form_ends, form_visits};
+ghost use Rattle.chains.specs.Index.{IsIndexOf, AreVisitsOf, feature_ends, feature_visits, form_ends, form_visits, layer_ends, layer_visits};
+ghost use Rattle.shapes.specs.Maps.{set_of};
+ghost use Rattle.shapes.specs.Parts.{spelled_text};
+ghost use Rattle.shapes.specs.Sets as set;
 
 use faults::OutOfMemory;
 use grid::pos::Pos;
@@ -16,6 +19,7 @@ use lines::ring::Ring;
 use shapes::feature::Feature;
 use shapes::feature_map::FeatureMap;
 use shapes::shape::Shape;
+use shapes::spelled::Spelled;
 use std::alloc::{AllocError, Global};
 use std::collections::BTreeSet;
 use std::marker::Model;
@@ -155,11 +159,31 @@ impl Seen {
     }
 
     fn see_features(&mut self, features: &BTreeSet<Feature>) -> Result<(), AllocError>
-        ensures ends { OnOk result (self.new.ends.items ≡ self.old.ends.items ++ gathered feature_ends features.now.keys) }
-        ensures visits { OnOk result (self.new.visits.items ≡ self.old.visits.items ++ gathered feature_visits features.now.keys) }
+        ensures ends { OnOk result (self.new.ends.items ≡ self.old.ends.items ++ gathered feature_ends (set.items (set_of features.now))) }
+        ensures visits { OnOk result (self.new.visits.items ≡ self.old.visits.items ++ gathered feature_visits (set.items (set_of features.now))) }
     {
-        for feature in features {
+        for feature in features.iter() {
             self.see_shape(&feature.shape)?;
+        }
+        Ok(())
+    }
+
+    fn see_layer(&mut self, map: &FeatureMap, name: &str) -> Result<(), AllocError>
+        ensures ends { OnOk result (self.new.ends.items ≡ self.old.ends.items ++ layer_ends map.now name.now) }
+        ensures visits { OnOk result (self.new.visits.items ≡ self.old.visits.items ++ layer_visits map.now name.now) }
+    {
+        match map.layer(name) {
+            Some(features) => self.see_features(features),
+            None => Ok(()),
+        }
+    }
+
+    fn see_layers(&mut self, map: &FeatureMap, names: &[&Spelled]) -> Result<(), AllocError>
+        ensures ends { OnOk result (self.new.ends.items ≡ self.old.ends.items ++ gathered (layer_ends map.now) (map_list (λ s. spelled_text s.now) names.now)) }
+        ensures visits { OnOk result (self.new.visits.items ≡ self.old.visits.items ++ gathered (layer_visits map.now) (map_list (λ s. spelled_text s.now) names.now)) }
+    {
+        for name in names {
+            self.see_layer(map, name.text())?;
         }
         Ok(())
     }
@@ -231,12 +255,10 @@ impl VisitIndex {
             ends: Vec::new(alloc),
             visits: Vec::new(alloc),
         };
-        for name in map.names()? {
-            if let Some(features) = map.layer(name.text()) {
-                seen.see_features(features)?;
-            }
-        }
-        Ok(VisitIndex::of_seen(seen)?)
+        let names = map.names()?;
+        seen.see_layers(map, &names)?;
+        let index = VisitIndex::of_seen(seen)?;
+        Ok(index)
     }
 
     /// Whether a position is a junction.

@@ -12,9 +12,6 @@ use Rattle.chains.proofs.joining.chains_of.Goals as goal
 yes_no : false ≡ true → ⊥
 yes_no e = cc
 
-
-
-
 pub loop-segment-init : goal.loop-segment-init
 loop-segment-init c = record {
   joining = subst (λ u. IsJoining c.args.segments.now c.args.stops.now.keys c.in_ok-links.links (map (λ d. d.items) u)) (sym c.new-found.ensures.items)
@@ -27,11 +24,11 @@ loop-segment-preserved c =
     let keys = c.args.stops.now.keys in
     let segs = c.args.segments.now in
     let first : (Pos × Pos) → Type 0 = λ e.
-        AmongSegments e.0 e.1 segs → IsJoining segs keys c.loop-segment.links (map (λ d. d.items) c.loop-segment.found.items) →
-        Took segs keys c.take_from.new.links (map (λ d. d.items) c.loop-segment.found.items) (map (λ d. d.items) c.take_from.new.found.items) e.0 e.1 in
+    AmongSegments e.0 e.1 segs → IsJoining segs keys c.loop-segment.links (map (λ d. d.items) c.loop-segment.found.items) →
+    Took segs keys c.take_from.new.links (map (λ d. d.items) c.loop-segment.found.items) (map (λ d. d.items) c.take_from.new.found.items) e.0 e.1 in
     let second : (Pos × Pos) → Type 0 = λ e.
-        AmongSegments e.1 e.0 segs → IsJoining segs keys c.take_from.new.links (map (λ d. d.items) c.take_from.new.found.items) →
-        Took segs keys c.take_from-in-loop-segment.new.links (map (λ d. d.items) c.take_from.new.found.items) (map (λ d. d.items) c.take_from-in-loop-segment.new.found.items) e.1 e.0 in
+    AmongSegments e.1 e.0 segs → IsJoining segs keys c.take_from.new.links (map (λ d. d.items) c.take_from.new.found.items) →
+    Took segs keys c.take_from-in-loop-segment.new.links (map (λ d. d.items) c.take_from.new.found.items) (map (λ d. d.items) c.take_from-in-loop-segment.new.found.items) e.1 e.0 in
     let one : first c.ends.result = c.in_ok-take_from.ensures segs c.requires in
     let two : second c.ends.result = c.in_ok-take_from-2.ensures segs c.requires in
     let t = two_steps segs keys c.requires c.loop-segment.links c.take_from.new.links c.take_from-in-loop-segment.new.links

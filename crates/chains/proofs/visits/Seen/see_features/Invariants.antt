@@ -6,5 +6,5 @@ use Rattle.chains.proofs.visits.Seen.see_features.Given as goal
 abbrev pub invariant-loop-feature : goal.invariant-loop-feature
 invariant-loop-feature l = record {
   ends : l.self.ends.items ++ gathered feature_ends l.feature-iterator ≡ l.fn.self.ends.items ++ gathered feature_ends l.features.keys;
-  visits : l.self.visits.items ++ gathered feature_visits l.feature-iterator ≡ l.fn.self.visits.items ++ gathered feature_visits l.features.keys
+  visits : l.self.visits.items ++ gathered feature_visits l.feature-iterator ≡ l.fn.self.visits.items ++ gathered feature_visits l.features.keys;
 }

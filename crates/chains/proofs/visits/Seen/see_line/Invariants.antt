@@ -6,5 +6,5 @@ use Rattle.chains.proofs.visits.Seen.see_line.Given as goal
 abbrev pub invariant-loop-next : goal.invariant-loop-next
 invariant-loop-next l = record {
   visits : l.self.visits.items ++ inner_from l.before l.here (drop l.next-index l.rest) ≡ l.fn.self.visits.items ++ inner_of l.fn.line;
-  ends : l.self.ends.items ++ (last_of l.here (drop l.next-index l.rest) ∷ []) ≡ l.fn.self.ends.items ++ ends_of l.fn.line
+  ends : l.self.ends.items ++ (last_of l.here (drop l.next-index l.rest) ∷ []) ≡ l.fn.self.ends.items ++ ends_of l.fn.line;
 }

@@ -7,5 +7,5 @@ use Rattle.chains.proofs.visits.Seen.see_lines.Given as goal
 abbrev pub invariant-loop-line : goal.invariant-loop-line
 invariant-loop-line l = record {
   ends : l.self.ends.items ++ gathered ends_of (map line_of (drop l.line-index l.lines)) ≡ l.fn.self.ends.items ++ gathered ends_of (map line_of l.lines);
-  visits : l.self.visits.items ++ gathered inner_of (map line_of (drop l.line-index l.lines)) ≡ l.fn.self.visits.items ++ gathered inner_of (map line_of l.lines)
+  visits : l.self.visits.items ++ gathered inner_of (map line_of (drop l.line-index l.lines)) ≡ l.fn.self.visits.items ++ gathered inner_of (map line_of l.lines);
 }

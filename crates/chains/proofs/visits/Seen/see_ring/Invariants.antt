@@ -5,5 +5,5 @@ use Rattle.chains.proofs.visits.Seen.see_ring.Given as goal
 abbrev pub invariant-loop-next : goal.invariant-loop-next
 invariant-loop-next l = record {
   visits : l.self.visits.items ++ inner_from l.before l.here (drop l.next-index l.rest ++ (l.first ∷ (l.second ∷ []))) ≡ l.fn.self.visits.items ++ around_of l.fn.ring;
-  ends : l.self.ends.items ≡ l.fn.self.ends.items
+  ends : l.self.ends.items ≡ l.fn.self.ends.items;
 }

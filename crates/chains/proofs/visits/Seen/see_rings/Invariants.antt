@@ -7,5 +7,5 @@ use Rattle.chains.proofs.visits.Seen.see_rings.Given as goal
 abbrev pub invariant-loop-ring : goal.invariant-loop-ring
 invariant-loop-ring l = record {
   ends : l.self.ends.items ≡ l.fn.self.ends.items;
-  visits : l.self.visits.items ++ gathered around_of (map ring_of (drop l.ring-index l.rings)) ≡ l.fn.self.visits.items ++ gathered around_of (map ring_of l.rings)
+  visits : l.self.visits.items ++ gathered around_of (map ring_of (drop l.ring-index l.rings)) ≡ l.fn.self.visits.items ++ gathered around_of (map ring_of l.rings);
 }
