@@ -1,11 +1,16 @@
 -- Ids and properties.
-use Rattle.std.specs.Prelude.{ℕ, List, [], ◌++◌, nat_lt, is_some, if◌then◌else◌}
+use Rattle.std.specs.Prelude.{ℕ, ℤ, pos, List, [], ◌++◌, Option, nat_lt, is_some, unwrap_or, codes, if◌then◌else◌}
 use Rattle.serde_json.specs.Data.{Data, null, boolean, number, string, array, object, depth}
-use Rattle.serde_json.specs.Find.{as_i64}
-use Rattle.serde_json.specs.Written.{has_float}
+use Rattle.serde_json.specs.Find.{get, as_null, as_i64}
+use Rattle.serde_json.specs.Written.{has_float, compact_text}
 use Rattle.faults.specs.Fault.{Pair}
-use Rattle.faults.specs.declared.fault.FaultKind.TheVariants.{WrongKind, NotWhole, PropertyNumber, PropertyDepth}
+use Rattle.faults.specs.declared.fault.FaultKind.TheVariants.{WrongKind, NotWhole, PropertyNumber, PropertyDepth, OutOfMemory}
+use Rattle.faults.specs.declared.fault.FaultKind.{FaultKind}
+use Rattle.shapes.specs.declared.props.PropFault as props
+use Rattle.shapes.specs.declared.props.PropFault.TheVariants as of
 use Rattle.reading.specs.Fault.{here}
+use Rattle.reading.specs.Parts.{option_faults}
+use Rattle.reading.specs.Plain.{PlainId, none, number as whole, text}
 
 -- an id is null, a whole number or a text
 abbrev pub id_faults : Data → List Pair
@@ -32,3 +37,33 @@ properties_faults (number n) = here WrongKind
 properties_faults (string s) = here WrongKind
 properties_faults (array ds) = here WrongKind
 properties_faults (object ms) = number_in_faults (object ms) ++ depth_faults (object ms)
+
+-- the id and the properties of an object
+abbrev pub info_faults : Data → List Pair
+info_faults d = option_faults (codes "id") id_faults d ++ option_faults (codes "properties") properties_faults d
+
+-- ---- meaning
+
+-- the member of that name, null where it is missing
+abbrev pub member_or_null : List ℕ → Data → Data
+member_or_null n d = unwrap_or (get n d) null
+
+abbrev pub id_of : Data → PlainId
+id_of null = none
+id_of (boolean b) = none
+id_of (number n) = whole (unwrap_or (as_i64 n) (pos 0))
+id_of (string s) = text s
+id_of (array ds) = none
+id_of (object ms) = none
+
+-- the compact text of properties, where null is the empty object
+abbrev pub properties_of : Data → List ℕ
+properties_of d = if is_some (as_null d) then codes "{}" else compact_text d
+
+-- ---- the faults that `Props::from_value` tells
+
+abbrev pub properties_kind : props.PropFault → FaultKind
+properties_kind of.WrongKind = WrongKind
+properties_kind of.PropertyNumber = PropertyNumber
+properties_kind of.PropertyDepth = PropertyDepth
+properties_kind of.OutOfMemory = OutOfMemory

@@ -2,5 +2,9 @@ pub mod Fault
 pub mod Parts
 pub mod Scan
 pub mod Numbers
+pub mod Positions
+pub mod Outlines
+pub mod Types
 pub mod Info
+pub mod Plain
 pub mod Text

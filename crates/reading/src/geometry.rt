@@ -1,5 +1,6 @@
 //! The six types of geometries.
 ghost use Rattle.std.specs.Prelude.{◌≡◌};
+ghost use Rattle.serde_json.specs.View.{view};
 
 use crate::part::type_name;
 use faults::fault::FaultKind;
@@ -17,21 +18,33 @@ pub enum GeometryType {
 }
 
 impl GeometryType {
+    ghost use Rattle.reading.specs.Types.{geometry_named, geometry_type};
+
     /// The type of that name.
-    pub fn named(text: &str) -> Result<GeometryType, FaultKind> {
-        match text {
-            "Point" => Ok(GeometryType::Point),
-            "MultiPoint" => Ok(GeometryType::MultiPoint),
-            "LineString" => Ok(GeometryType::LineString),
-            "MultiLineString" => Ok(GeometryType::MultiLineString),
-            "Polygon" => Ok(GeometryType::Polygon),
-            "MultiPolygon" => Ok(GeometryType::MultiPolygon),
-            _ => Err(FaultKind::UnknownType),
+    pub fn named(text: &str) -> Result<GeometryType, FaultKind>
+        ensures { result ≡ geometry_named text.now }
+    {
+        if text == "Point" {
+            Ok(GeometryType::Point)
+        } else if text == "MultiPoint" {
+            Ok(GeometryType::MultiPoint)
+        } else if text == "LineString" {
+            Ok(GeometryType::LineString)
+        } else if text == "MultiLineString" {
+            Ok(GeometryType::MultiLineString)
+        } else if text == "Polygon" {
+            Ok(GeometryType::Polygon)
+        } else if text == "MultiPolygon" {
+            Ok(GeometryType::MultiPolygon)
+        } else {
+            Err(FaultKind::UnknownType)
         }
     }
 
     /// What an object's member `type` names.
-    pub fn of(value: &Value) -> Result<GeometryType, FaultKind> {
+    pub fn of(value: &Value) -> Result<GeometryType, FaultKind>
+        ensures { result ≡ geometry_type (view value.now) }
+    {
         match type_name(value) {
             Ok(text) => GeometryType::named(text),
             Err(kind) => Err(kind),

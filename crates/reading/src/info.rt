@@ -1,8 +1,14 @@
 //! Ids and properties.
-ghost use Rattle.std.specs.Prelude.{◌≡◌, []};
-ghost use Rattle.reading.specs.Info.{id_faults, properties_faults};
+ghost use Rattle.std.specs.Prelude.{◌≡◌, [], IfOk, IfErr, OnOk, codes};
+ghost use Rattle.serde_json.specs.View.{view};
+ghost use Rattle.faults.specs.Fault.{IsWant};
+ghost use Rattle.shapes.specs.Parts.{properties_text};
+ghost use Rattle.reading.specs.Fault.{LeastOrWant};
+ghost use Rattle.reading.specs.Parts.{option_faults};
+ghost use Rattle.reading.specs.Plain.{plain_id};
+ghost use Rattle.reading.specs.Info.{id_faults, properties_faults, info_faults, id_of, properties_of, member_or_null, properties_kind};
 
-use crate::part::Part;
+use crate::part::{Part, read_option};
 use faults::fault::{Fault, FaultKind};
 use serde_json::Value;
 use shapes::props::{PropFault, Props};
@@ -18,7 +24,8 @@ impl Part for Ids {
     type Made = Id;
 
     ghost faults = { λ _. id_faults };
-    ghost means = { λ _ d x. x ≡ x };
+
+    ghost means = { λ _ d x. plain_id x ≡ id_of d };
 
     fn read(&self, alloc: Global, value: &Value) -> Result<Id, Fault> {
         match value {
@@ -44,7 +51,8 @@ impl Part for Properties {
     type Made = Props;
 
     ghost faults = { λ _. properties_faults };
-    ghost means = { λ _ d x. x ≡ x };
+
+    ghost means = { λ _ d x. properties_text x ≡ properties_of d };
 
     fn read(&self, alloc: Global, value: &Value) -> Result<Props, Fault> {
         if value.is_null() {
@@ -57,7 +65,9 @@ impl Part for Properties {
     }
 }
 
-fn kind_of(fault: PropFault) -> FaultKind {
+fn kind_of(fault: PropFault) -> FaultKind
+    ensures { result ≡ properties_kind fault }
+{
     match fault {
         PropFault::WrongKind => FaultKind::WrongKind,
         PropFault::PropertyNumber => FaultKind::PropertyNumber,
@@ -67,22 +77,46 @@ fn kind_of(fault: PropFault) -> FaultKind {
 }
 
 /// The properties of a feature that names none.
-pub fn no_properties(alloc: Global) -> Result<Props, Fault> {
+pub fn no_properties(alloc: Global) -> Result<Props, Fault>
+    ensures ok { IfOk result (λ p. properties_text p ≡ codes "{}") }
+    ensures err { IfErr result IsWant }
+{
     match Props::empty(alloc) {
         Ok(props) => Ok(props),
         Err(_) => Err(Fault::here(alloc, FaultKind::OutOfMemory)),
     }
 }
 
-/// The id and the properties of an object: its members `id` and `properties`.
-pub fn read_info(alloc: Global, value: &Value) -> Result<(Id, Props), Fault> {
-    let id = match crate::part::read_option(alloc, &Ids, value, "id")? {
-        Some(id) => id,
-        None => Id::None,
-    };
-    let props = match crate::part::read_option(alloc, &Properties, value, "properties")? {
-        Some(props) => props,
-        None => no_properties(alloc)?,
-    };
+fn read_id(alloc: Global, value: &Value) -> Result<Id, Fault>
+    ensures ok { OnOk result (option_faults (codes "id") id_faults (view value.now) ≡ []) }
+    ensures made { IfOk result (λ id. plain_id id ≡ id_of (member_or_null (codes "id") (view value.now))) }
+    ensures err { IfErr result (λ f. LeastOrWant (option_faults (codes "id") id_faults (view value.now)) f) }
+{
+    match read_option(alloc, &Ids, value, "id")? {
+        Some(id) => Ok(id),
+        None => Ok(Id::None),
+    }
+}
+
+fn read_properties(alloc: Global, value: &Value) -> Result<Props, Fault>
+    ensures ok { OnOk result (option_faults (codes "properties") properties_faults (view value.now) ≡ []) }
+    ensures made { IfOk result (λ p. properties_text p ≡ properties_of (member_or_null (codes "properties") (view value.now))) }
+    ensures err { IfErr result (λ f. LeastOrWant (option_faults (codes "properties") properties_faults (view value.now)) f) }
+{
+    match read_option(alloc, &Properties, value, "properties")? {
+        Some(props) => Ok(props),
+        None => no_properties(alloc),
+    }
+}
+
+/// The id and the properties of an object: its members `id` and `properties`, which may be missing.
+pub fn read_info(alloc: Global, value: &Value) -> Result<(Id, Props), Fault>
+    ensures ok { OnOk result (info_faults (view value.now) ≡ []) }
+    ensures id { IfOk result (λ info. plain_id info.0 ≡ id_of (member_or_null (codes "id") (view value.now))) }
+    ensures properties { IfOk result (λ info. properties_text info.1 ≡ properties_of (member_or_null (codes "properties") (view value.now))) }
+    ensures err { IfErr result (λ f. LeastOrWant (info_faults (view value.now)) f) }
+{
+    let id = read_id(alloc, value)?;
+    let props = read_properties(alloc, value)?;
     Ok((id, props))
 }
