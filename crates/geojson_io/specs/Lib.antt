@@ -1,1 +1,4 @@
 pub mod CollectionText
+pub mod Positions
+pub mod Geometries
+pub mod Features

@@ -1,5 +1,13 @@
 //! GeoJSON in: features out of a FeatureCollection, a Feature or a geometry.
-ghost use Rattle.std.specs.Prelude.{◌≡◌};
+ghost use Rattle.std.specs.Prelude.{◌≡◌, [], ◌∷◌, map, IfOk, IfErr, OnOk, Ok, Err, codes};
+ghost use Rattle.serde_json.specs.View.{view};
+ghost use Rattle.faults.specs.Fault.{IsWant};
+ghost use Rattle.reading.specs.Fault.{LeastOrWant};
+ghost use Rattle.reading.specs.Parts.{member_faults, list_faults, elements};
+ghost use Rattle.reading.specs.Info.{member_or_null};
+ghost use Rattle.reading.specs.Plain.{plain, plain_form};
+ghost use Rattle.geojson_io.specs.Geometries.{typed_geometry_faults, typed_form};
+ghost use Rattle.geojson_io.specs.Features.{feature_members, feature_of, element_of_features_faults, root_named as named_root, root_type, root_faults, features_by, HaveSame, geojson_faults, features_of, features_of_text, faults_of_text, bare, AreFeatures};
 
 mod feature;
 mod geometry;
@@ -8,7 +16,7 @@ mod position;
 #[cfg(test)]
 mod tests;
 
-use crate::read::feature::FeatureElement;
+use crate::read::feature::{FeatureElement, read_feature};
 use crate::read::geometry::read_geometry;
 use crate::read::position::Position;
 use faults::fault::{Fault, FaultKind};
@@ -25,47 +33,72 @@ use std::collections::BTreeSet;
 
 /// What the root of a text is.
 #[derive(Clone, Copy, PartialEq, Eq, Debug)]
-enum Root {
+pub enum Root {
     Collection,
     Feature,
     Geometry(GeometryType),
 }
 
-fn root_named(text: &str) -> Result<Root, FaultKind> {
-    match text {
-        "FeatureCollection" => Ok(Root::Collection),
-        "Feature" => Ok(Root::Feature),
-        _ => match GeometryType::named(text) {
-            Ok(kind) => Ok(Root::Geometry(kind)),
-            Err(fault) => Err(fault),
-        },
+fn root_named(text: &str) -> Result<Root, FaultKind>
+    ensures { result ≡ named_root text.now }
+{
+    if text == "FeatureCollection" {
+        return Ok(Root::Collection);
+    }
+    if text == "Feature" {
+        return Ok(Root::Feature);
+    }
+    match GeometryType::named(text) {
+        Ok(kind) => Ok(Root::Geometry(kind)),
+        Err(fault) => Err(fault),
     }
 }
 
-fn root_of(value: &Value) -> Result<Root, FaultKind> {
+fn root_of(value: &Value) -> Result<Root, FaultKind>
+    ensures { result ≡ root_type (view value.now) }
+{
     match type_name(value) {
         Ok(text) => root_named(text),
         Err(kind) => Err(kind),
     }
 }
 
-fn one(alloc: Global, feature: Feature) -> Result<Vec<Feature>, Fault> {
+fn one(alloc: Global, feature: Feature) -> Result<Vec<Feature>, Fault>
+    ensures ok { IfOk result (λ v. v.items ≡ feature ∷ []) }
+    ensures err { IfErr result IsWant }
+{
     let mut features = Vec::new(alloc);
     keep(&mut features, feature)?;
     Ok(features)
 }
 
 /// The feature that a geometry alone means: without id, its properties empty.
-fn bare_feature(alloc: Global, shape: Shape) -> Result<Feature, Fault> {
-    let props = no_properties(alloc)?;
-    Ok(Feature {
-        id: Id::None,
-        props,
-        shape,
-    })
+fn bare_feature(alloc: Global, shape: Shape) -> Result<Feature, Fault>
+    ensures ok { IfOk result (λ f. plain f ≡ bare (plain_form shape)) }
+    ensures err { IfErr result IsWant }
+{
+    match no_properties(alloc) {
+        Ok(props) => Ok(Feature {
+            id: Id::None,
+            props,
+            shape,
+        }),
+        Err(fault) => refused(shape, fault),
+    }
 }
 
-fn read_features(alloc: Global, position: &Position, value: &Value) -> Result<Vec<Feature>, Fault> {
+// The shape is given up.
+fn refused(_shape: Shape, fault: Fault) -> Result<Feature, Fault>
+    ensures { result ≡ Err fault }
+{
+    Err(fault)
+}
+
+fn read_features(alloc: Global, position: &Position, value: &Value) -> Result<Vec<Feature>, Fault>
+    ensures ok { OnOk result (member_faults (codes "features") (list_faults (element_of_features_faults position.now.grid)) (view value.now) ≡ []) }
+    ensures made { IfOk result (λ fs. map plain fs.items ≡ map (feature_of position.now.grid) (elements (member_or_null (codes "features") (view value.now)))) }
+    ensures err { IfErr result (λ f. LeastOrWant (member_faults (codes "features") (list_faults (element_of_features_faults position.now.grid)) (view value.now)) f) }
+{
     let of = FeatureElement { position: *position };
     match read_member(alloc, &Listed { of }, value, "features") {
         Ok(features) => Ok(features.into_vec()),
@@ -73,28 +106,65 @@ fn read_features(alloc: Global, position: &Position, value: &Value) -> Result<Ve
     }
 }
 
-fn read_root(alloc: Global, position: &Position, value: &Value) -> Result<Vec<Feature>, Fault> {
+fn read_bare(alloc: Global, position: &Position, kind: GeometryType, value: &Value) -> Result<Vec<Feature>, Fault>
+    ensures ok { OnOk result (typed_geometry_faults position.now.grid kind (view value.now) ≡ []) }
+    ensures made { IfOk result (λ fs. map plain fs.items ≡ bare (typed_form position.now.grid kind (view value.now)) ∷ []) }
+    ensures err { IfErr result (λ f. LeastOrWant (typed_geometry_faults position.now.grid kind (view value.now)) f) }
+{
+    let shape = read_geometry(alloc, position, kind, value)?;
+    let feature = bare_feature(alloc, shape)?;
+    one(alloc, feature)
+}
+
+fn read_one(alloc: Global, position: &Position, value: &Value) -> Result<Vec<Feature>, Fault>
+    ensures ok { OnOk result (feature_members position.now.grid (view value.now) ≡ []) }
+    ensures made { IfOk result (λ fs. map plain fs.items ≡ feature_of position.now.grid (view value.now) ∷ []) }
+    ensures err { IfErr result (λ f. LeastOrWant (feature_members position.now.grid (view value.now)) f) }
+{
+    let feature = read_feature(alloc, position, value)?;
+    one(alloc, feature)
+}
+
+fn read_as(alloc: Global, position: &Position, root: Root, value: &Value) -> Result<Vec<Feature>, Fault>
+    ensures ok { OnOk result (root_faults position.now.grid (view value.now) root ≡ []) }
+    ensures made { IfOk result (λ fs. map plain fs.items ≡ features_by position.now.grid (view value.now) (Ok root)) }
+    ensures err { IfErr result (λ f. LeastOrWant (root_faults position.now.grid (view value.now) root) f) }
+{
+    match root {
+        Root::Collection => read_features(alloc, position, value),
+        Root::Feature => read_one(alloc, position, value),
+        Root::Geometry(kind) => read_bare(alloc, position, kind, value),
+    }
+}
+
+fn read_root(alloc: Global, position: &Position, value: &Value) -> Result<Vec<Feature>, Fault>
+    ensures ok { OnOk result (geojson_faults position.now.grid (view value.now) ≡ []) }
+    ensures made { IfOk result (λ fs. map plain fs.items ≡ features_of position.now.grid (view value.now)) }
+    ensures err { IfErr result (λ f. LeastOrWant (geojson_faults position.now.grid (view value.now)) f) }
+{
     if !value.is_object() {
         return Err(Fault::here(alloc, FaultKind::WrongKind));
     }
     match root_of(value) {
+        Ok(root) => read_as(alloc, position, root, value),
         Err(kind) => Err(type_fault(alloc, kind)),
-        Ok(Root::Collection) => read_features(alloc, position, value),
-        Ok(Root::Feature) => one(alloc, feature::read_feature(alloc, position, value)?),
-        Ok(Root::Geometry(kind)) => {
-            let shape = read_geometry(alloc, position, kind, value)?;
-            one(alloc, bare_feature(alloc, shape)?)
-        }
     }
 }
 
 // The value is dropped at the end, before the set is made.
-fn read_text(alloc: Global, bytes: &[u8], grid: &Grid) -> Result<Vec<Feature>, Fault> {
+fn read_text(alloc: Global, bytes: &[u8], grid: &Grid) -> Result<Vec<Feature>, Fault>
+    ensures ok { OnOk result (faults_of_text grid.now bytes.now ≡ []) }
+    ensures made { IfOk result (λ fs. map plain fs.items ≡ features_of_text grid.now bytes.now) }
+    ensures err { IfErr result (λ f. LeastOrWant (faults_of_text grid.now bytes.now) f) }
+{
     let value = document(alloc, bytes)?;
-    read_root(alloc, &Position::on(grid), &value)
+    read_root(alloc, &Position { grid: *grid }, &value)
 }
 
-fn set_of(alloc: Global, features: Vec<Feature>) -> Result<BTreeSet<Feature>, Fault> {
+fn set_of(alloc: Global, features: Vec<Feature>) -> Result<BTreeSet<Feature>, Fault>
+    ensures ok { IfOk result (λ fs. HaveSame fs.keys features.items) }
+    ensures err { IfErr result IsWant }
+{
     let mut set = BTreeSet::new(alloc);
     for feature in features {
         match set.insert(feature) {
@@ -113,7 +183,11 @@ fn set_of(alloc: Global, features: Vec<Feature>) -> Result<BTreeSet<Feature>, Fa
 ///
 /// # Errors
 /// The least fault of the text, by path and then by number; `OutOfMemory` at the root.
-pub fn read(alloc: Global, bytes: &[u8], grid: &Grid) -> Result<BTreeSet<Feature>, Fault> {
+pub fn read(alloc: Global, bytes: &[u8], grid: &Grid) -> Result<BTreeSet<Feature>, Fault>
+    ensures ok { OnOk result (faults_of_text grid.now bytes.now ≡ []) }
+    ensures made { IfOk result (λ fs. AreFeatures fs.keys (features_of_text grid.now bytes.now)) }
+    ensures err { IfErr result (λ f. LeastOrWant (faults_of_text grid.now bytes.now) f) }
+{
     let features = read_text(alloc, bytes, grid)?;
     set_of(alloc, features)
 }

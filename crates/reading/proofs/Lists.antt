@@ -97,3 +97,23 @@ zip_suc R (w ∷ vs) (suc i) v (y ∷ xs) x less is before now = (before.0, zip_
 pub zip_more : {X : Type 0} (R : Data → X → Type 0) (vs : List Value) (i : ℕ) (v : Value) (xs : List X) (x : X) → i < length vs → v ≡ get_or vs i v
     → AllZip R (map view (take i vs)) xs → R (view v) x → AllZip R (map view (take (i + 1) vs)) (xs ++ x ∷ [])
 zip_more R vs i v xs x less is before now = rw add-one (zip_suc R vs i v xs x less is before now)
+
+-- what each element means is what a function gives
+pub zip_is : {X : Type 0} (g : Data → X) (ds : List Data) (xs : List X) → AllZip (λ d x. x ≡ g d) ds xs → xs ≡ map g ds
+zip_is g [] [] h = refl
+zip_is g [] (x ∷ xs) h = absurd h
+zip_is g (d ∷ ds) [] h = absurd h
+zip_is g (d ∷ ds) (x ∷ xs) h = λ i. h.0 i ∷ zip_is g ds xs h.1 i
+
+-- the same of what is seen of each
+pub zip_map : {X Y : Type 0} (f : X → Y) (g : Data → Y) (ds : List Data) (xs : List X) → AllZip (λ d x. f x ≡ g d) ds xs → map f xs ≡ map g ds
+zip_map f g [] [] h = refl
+zip_map f g [] (x ∷ xs) h = absurd h
+zip_map f g (d ∷ ds) [] h = absurd h
+zip_map f g (d ∷ ds) (x ∷ xs) h = λ i. h.0 i ∷ zip_map f g ds xs h.1 i
+
+pub zip_weaker : {X : Type 0} (R S : Data → X → Type 0) (ds : List Data) (xs : List X) → ((d : Data) (x : X) → R d x → S d x) → AllZip R ds xs → AllZip S ds xs
+zip_weaker R S [] [] f h = tt
+zip_weaker R S [] (x ∷ xs) f h = absurd h
+zip_weaker R S (d ∷ ds) [] f h = absurd h
+zip_weaker R S (d ∷ ds) (x ∷ xs) f h = (f d x h.0, zip_weaker R S ds xs f h.1)

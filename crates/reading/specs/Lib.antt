@@ -5,6 +5,6 @@ pub mod Numbers
 pub mod Positions
 pub mod Outlines
 pub mod Types
-pub mod Info
 pub mod Plain
+pub mod Info
 pub mod Text

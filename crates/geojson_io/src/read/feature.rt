@@ -1,5 +1,12 @@
 //! Features: an object with a geometry, an id and properties.
-ghost use Rattle.std.specs.Prelude.{◌≡◌, []};
+ghost use Rattle.std.specs.Prelude.{◌≡◌, [], IfOk, IfErr, OnOk, codes};
+ghost use Rattle.serde_json.specs.View.{view};
+ghost use Rattle.reading.specs.Fault.{LeastOrWant};
+ghost use Rattle.reading.specs.Parts.{named, type_text, option_faults, unless_null};
+ghost use Rattle.reading.specs.Info.{member_or_null};
+ghost use Rattle.reading.specs.Plain.{plain, plain_form};
+ghost use Rattle.geojson_io.specs.Geometries.{geometry_faults, geometry_form};
+ghost use Rattle.geojson_io.specs.Features.{feature_members, feature_of, feature_named, element_of_features_faults};
 
 use crate::read::geometry::Geometry;
 use crate::read::position::Position;
@@ -11,13 +18,25 @@ use shapes::feature::Feature;
 use shapes::shape::Shape;
 use std::alloc::Global;
 
-/// The feature of an object whose type is judged. A missing geometry is the null shape.
-pub fn read_feature(alloc: Global, position: &Position, value: &Value) -> Result<Feature, Fault> {
+fn read_shape(alloc: Global, position: &Position, value: &Value) -> Result<Shape, Fault>
+    ensures ok { OnOk result (option_faults (codes "geometry") (unless_null (geometry_faults position.now.grid)) (view value.now) ≡ []) }
+    ensures made { IfOk result (λ s. plain_form s ≡ geometry_form position.now.grid (member_or_null (codes "geometry") (view value.now))) }
+    ensures err { IfErr result (λ f. LeastOrWant (option_faults (codes "geometry") (unless_null (geometry_faults position.now.grid)) (view value.now)) f) }
+{
     let geometry = Geometry { position: *position };
-    let shape = match read_option(alloc, &geometry, value, "geometry")? {
-        Some(shape) => shape,
-        None => Shape::Null,
-    };
+    match read_option(alloc, &geometry, value, "geometry")? {
+        Some(shape) => Ok(shape),
+        None => Ok(Shape::Null),
+    }
+}
+
+/// The feature of an object whose type is judged. A missing geometry is the null shape.
+pub fn read_feature(alloc: Global, position: &Position, value: &Value) -> Result<Feature, Fault>
+    ensures ok { OnOk result (feature_members position.now.grid (view value.now) ≡ []) }
+    ensures made { IfOk result (λ f. plain f ≡ feature_of position.now.grid (view value.now)) }
+    ensures err { IfErr result (λ f. LeastOrWant (feature_members position.now.grid (view value.now)) f) }
+{
+    let shape = read_shape(alloc, position, value)?;
     let (id, props) = read_info(alloc, value)?;
     Ok(Feature { id, props, shape })
 }
@@ -28,10 +47,17 @@ pub struct FeatureElement {
     pub position: Position,
 }
 
-fn feature_type(value: &Value) -> Result<(), FaultKind> {
+fn feature_type(value: &Value) -> Result<(), FaultKind>
+    ensures { result ≡ named feature_named (type_text (view value.now)) }
+{
     match type_name(value) {
-        Ok("Feature") => Ok(()),
-        Ok(_) => Err(FaultKind::UnknownType),
+        Ok(text) => {
+            if text == "Feature" {
+                Ok(())
+            } else {
+                Err(FaultKind::UnknownType)
+            }
+        }
         Err(kind) => Err(kind),
     }
 }
@@ -39,9 +65,9 @@ fn feature_type(value: &Value) -> Result<(), FaultKind> {
 impl Part for FeatureElement {
     type Made = Feature;
 
-    ghost faults = { λ _ _. [] };
+    ghost faults = { λ p. element_of_features_faults p.position.grid };
 
-    ghost means = { λ _ _ x. x ≡ x };
+    ghost means = { λ p d f. plain f ≡ feature_of p.position.grid d };
 
     fn read(&self, alloc: Global, value: &Value) -> Result<Feature, Fault> {
         if !value.is_object() {

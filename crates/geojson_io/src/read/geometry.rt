@@ -1,5 +1,10 @@
 //! Geometries: objects with a type and coordinates.
-ghost use Rattle.std.specs.Prelude.{◌≡◌, []};
+ghost use Rattle.std.specs.Prelude.{◌≡◌, [], IfOk, IfErr, OnOk};
+ghost use Rattle.serde_json.specs.View.{view};
+ghost use Rattle.reading.specs.Fault.{LeastOrWant};
+ghost use Rattle.reading.specs.Parts.{unless_null};
+ghost use Rattle.reading.specs.Plain.{plain_form};
+ghost use Rattle.geojson_io.specs.Geometries.{coordinates_faults, form_of, typed_geometry_faults, typed_form, geometry_faults, geometry_form};
 
 use crate::read::position::{LineOf, Position, RingOf};
 use faults::fault::{Fault, FaultKind};
@@ -19,9 +24,9 @@ struct Coordinates {
 impl Part for Coordinates {
     type Made = Shape;
 
-    ghost faults = { λ _ _. [] };
+    ghost faults = { λ p. coordinates_faults p.position.grid p.kind };
 
-    ghost means = { λ _ _ x. x ≡ x };
+    ghost means = { λ p d s. plain_form s ≡ form_of p.position.grid p.kind d };
 
     fn read(&self, alloc: Global, value: &Value) -> Result<Shape, Fault> {
         let of = self.position;
@@ -46,7 +51,11 @@ impl Part for Coordinates {
 }
 
 /// The shape of a geometry whose type is known.
-pub fn read_geometry(alloc: Global, position: &Position, kind: GeometryType, value: &Value) -> Result<Shape, Fault> {
+pub fn read_geometry(alloc: Global, position: &Position, kind: GeometryType, value: &Value) -> Result<Shape, Fault>
+    ensures ok { OnOk result (typed_geometry_faults position.now.grid kind (view value.now) ≡ []) }
+    ensures made { IfOk result (λ s. plain_form s ≡ typed_form position.now.grid kind (view value.now)) }
+    ensures err { IfErr result (λ f. LeastOrWant (typed_geometry_faults position.now.grid kind (view value.now)) f) }
+{
     let coordinates = Coordinates {
         position: *position,
         kind,
@@ -63,9 +72,9 @@ pub struct Geometry {
 impl Part for Geometry {
     type Made = Shape;
 
-    ghost faults = { λ _ _. [] };
+    ghost faults = { λ p. unless_null (geometry_faults p.position.grid) };
 
-    ghost means = { λ _ _ x. x ≡ x };
+    ghost means = { λ p d s. plain_form s ≡ geometry_form p.position.grid d };
 
     fn read(&self, alloc: Global, value: &Value) -> Result<Shape, Fault> {
         if value.is_null() {

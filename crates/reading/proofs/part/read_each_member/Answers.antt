@@ -39,4 +39,4 @@ pub returns-clause-made : goal.returns-clause-made
 returns-clause-made g c =
     let R = g.P.Part.means c.args.part.now in
     let whole = members_view c.args.members.now.entries in
-    members_all R whole c.loop-key.found.items (subst (λ es. MeansAfter R whole (members_view es) c.loop-key.found.items) c.in-None.ensures.steps c.loop-key.invariant.3)
+    members_all R whole c.loop-key.found.items (subst (λ es. MeansAfter R whole (members_view es) c.loop-key.found.items) c.in-None.ensures.steps.0 c.loop-key.invariant.3)

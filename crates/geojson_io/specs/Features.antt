@@ -1,0 +1,100 @@
+-- Faults and meaning of features and of whole texts.
+use Rattle.std.specs.Prelude.{◌≡◌, ℕ, List, [], ◌∷◌, ◌++◌, map, Contains, Option, Some, None, Result, Ok, Err, codes, if◌then◌else◌}
+use Rattle.std.specs.Str.{bytes_eq}
+use Rattle.serde_json.specs.Data.{Data}
+use Rattle.serde_json.specs.Find.{as_object}
+use Rattle.faults.specs.Fault.{Pair}
+use Rattle.faults.specs.declared.fault.FaultKind.{FaultKind}
+use Rattle.faults.specs.declared.fault.FaultKind.TheVariants.{UnknownType}
+use Rattle.grid.specs.Place.{Transform}
+use Rattle.shapes.specs.declared.feature.Feature as features
+use Rattle.reading.specs.Parts.{list_faults, elements, member_faults, option_faults, object_faults, typed_faults, unless_null, named, type_text}
+use Rattle.reading.specs.Info.{info_faults, member_or_null, id_of, properties_of}
+use Rattle.reading.specs.Plain.{Plain, PlainForm, none, plain}
+use Rattle.reading.specs.Text.{document, text_faults}
+use Rattle.reading.specs.Types.{geometry_named}
+use Rattle.reading.specs.declared.geometry.GeometryType.{GeometryType}
+use Rattle.geojson_io.specs.Geometries.{geometry_faults, geometry_form, typed_geometry_faults, typed_form}
+use Rattle.geojson_io.specs.declared.read.Root.{Root}
+use Rattle.geojson_io.specs.declared.read.Root.TheVariants.{Collection, Feature, Geometry}
+
+-- ---- features
+
+-- the members of a feature; a missing geometry is null
+abbrev pub feature_members : Transform → Data → List Pair
+feature_members t d = option_faults (codes "geometry") (unless_null (geometry_faults t)) d ++ info_faults d
+
+abbrev pub feature_of : Transform → Data → Plain
+feature_of t d = record {
+  id = id_of (member_or_null (codes "id") d);
+  properties = properties_of (member_or_null (codes "properties") d);
+  form = geometry_form t (member_or_null (codes "geometry") d)
+}
+
+abbrev pub feature_named : List ℕ → Result Unit FaultKind
+feature_named s = if bytes_eq s (codes "Feature") then Ok tt else Err UnknownType
+
+-- an element of `features`
+abbrev pub element_of_features_faults : Transform → Data → List Pair
+element_of_features_faults t d = object_faults (typed_faults (λ _. feature_members t d) (named feature_named (type_text d))) (as_object d)
+
+-- ---- the root
+
+abbrev pub root_geometry : Result GeometryType FaultKind → Result Root FaultKind
+root_geometry (Err k) = Err k
+root_geometry (Ok k) = Ok (Geometry k)
+
+abbrev pub root_named : List ℕ → Result Root FaultKind
+root_named s =
+    if bytes_eq s (codes "FeatureCollection") then Ok Collection
+    else (if bytes_eq s (codes "Feature") then Ok Feature else root_geometry (geometry_named s))
+
+abbrev pub root_type : Data → Result Root FaultKind
+root_type d = named root_named (type_text d)
+
+-- a collection, a feature or a geometry
+abbrev pub root_faults : Transform → Data → Root → List Pair
+root_faults t d Collection = member_faults (codes "features") (list_faults (element_of_features_faults t)) d
+root_faults t d Feature = feature_members t d
+root_faults t d (Geometry k) = typed_geometry_faults t k d
+
+abbrev pub geojson_faults : Transform → Data → List Pair
+geojson_faults t d = object_faults (typed_faults (root_faults t d) (root_type d)) (as_object d)
+
+-- a geometry alone is a feature without id, its properties empty
+abbrev pub bare : PlainForm → Plain
+bare f = record { id = none; properties = codes "{}"; form = f }
+
+abbrev pub features_by : Transform → Data → Result Root FaultKind → List Plain
+features_by t d (Err k) = []
+features_by t d (Ok Collection) = map (feature_of t) (elements (member_or_null (codes "features") d))
+features_by t d (Ok Feature) = feature_of t d ∷ []
+features_by t d (Ok (Geometry k)) = bare (typed_form t k d) ∷ []
+
+-- the features of a value, in its order
+abbrev pub features_of : Transform → Data → List Plain
+features_of t d = features_by t d (root_type d)
+
+abbrev pub features_or_none : Transform → Option Data → List Plain
+features_or_none t None = []
+features_or_none t (Some d) = features_of t d
+
+-- ---- the text
+
+-- the faults of the bytes of a GeoJSON text
+abbrev pub faults_of_text : Transform → List ℕ → List Pair
+faults_of_text t bytes = text_faults (geojson_faults t) (document bytes)
+
+-- the features of the bytes of a GeoJSON text, as plain data
+abbrev pub features_of_text : Transform → List ℕ → List Plain
+features_of_text t bytes = features_or_none t (document bytes)
+
+-- the same features, whatever the order and however often each stands
+pub record HaveSame (made given : List features.Feature) : Type 0 where
+  pub only : (f : features.Feature) → Contains made f → Contains given f
+  pub all : (f : features.Feature) → Contains given f → Contains made f
+
+-- the features are these, whatever the order and however often each stands
+pub record AreFeatures (made : List features.Feature) (meant : List Plain) : Type 0 where
+  pub only : (f : features.Feature) → Contains made f → Contains meant (plain f)
+  pub all : (p : Plain) → Contains meant p → (f : features.Feature) × Contains made f × (plain f ≡ p)
