@@ -1,6 +1,8 @@
 -- Members of objects.
 use Rattle.std.proofs.Common.{◌≡◌, ℕ, List, [], ◌∷◌, ◌++◌, Option, Some, None, codes, Result, Ok, is_some, true, Bool, refl, sym, ap, ◌∙◌, subst}
-use Rattle.serde_json.specs.Data.{Data, Members}
+use Rattle.std.specs.Prelude.{unwrap_or}
+use Rattle.serde_json.specs.Data.{Data, null, Members}
+use Rattle.reading.specs.Info.{member_or_null}
 use Rattle.serde_json.specs.Find.{get}
 use Rattle.faults.specs.Path.{name}
 use Rattle.faults.specs.Fault.{Pair, Lifted}
@@ -34,3 +36,10 @@ member_missing n of d old new is told up = rw (← is) (lifted_only (name n) (he
 
 pub faulty_type : (k : FaultKind) (old new : Fault) → pair_of old ≡ record { path = []; kind = k } → Lifted (name (codes "type")) old new → LeastOrWant (under (name (codes "type")) (here k)) new
 faulty_type k old new told up = lifted_only (name (codes "type")) (here k) old new (only k old told) up
+
+-- a member that is there, and one that is missing
+pub member_there : (n : List ℕ) (d e : Data) → get n d ≡ Some e → member_or_null n d ≡ e
+member_there n d e is = ap (λ o. unwrap_or o null) is
+
+pub member_not_there : (n : List ℕ) (d : Data) → get n d ≡ None → member_or_null n d ≡ null
+member_not_there n d is = ap (λ o. unwrap_or o null) is

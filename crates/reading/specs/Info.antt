@@ -1,5 +1,5 @@
 -- Ids and properties.
-use Rattle.std.specs.Prelude.{ℕ, ℤ, pos, List, [], ◌++◌, Option, nat_lt, is_some, unwrap_or, codes, if◌then◌else◌}
+use Rattle.std.specs.Prelude.{ℕ, ℤ, pos, List, [], ◌++◌, Option, not, nat_le, is_some, unwrap_or, codes, if◌then◌else◌}
 use Rattle.serde_json.specs.Data.{Data, null, boolean, number, string, array, object, depth}
 use Rattle.serde_json.specs.Find.{get, as_null, as_i64}
 use Rattle.serde_json.specs.Written.{has_float, compact_text}
@@ -27,7 +27,7 @@ number_in_faults d = if has_float d then here PropertyNumber else []
 
 -- containers nest deeper than 64
 abbrev pub depth_faults : Data → List Pair
-depth_faults d = if nat_lt 64 (depth d) then here PropertyDepth else []
+depth_faults d = if not (nat_le (depth d) 64) then here PropertyDepth else []
 
 -- properties are null or an object
 abbrev pub properties_faults : Data → List Pair

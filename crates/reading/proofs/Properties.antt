@@ -1,0 +1,77 @@
+-- Properties that were judged.
+use Rattle.std.proofs.Common.{◌≡◌, Bool, true, false, not, nat_le, List, [], ◌∷◌, ◌++◌, Option, Some, None, is_some, if◌then◌else◌, refl, sym, ap, subst, arith, All, Contains}
+use Rattle.std.specs.Prelude.{codes}
+use Rattle.serde_json.specs.Data.{Data, null, boolean, number, string, array, object, depth}
+use Rattle.serde_json.specs.Find.{as_null}
+use Rattle.serde_json.specs.Written.{has_float, compact_text}
+use Rattle.faults.specs.Fault.{Pair, pair_of}
+use Rattle.faults.specs.declared.fault.Fault.{Fault}
+use Rattle.faults.specs.declared.fault.FaultKind.TheVariants as kind
+use Rattle.shapes.specs.PropertyFaults.{property_fault}
+use Rattle.shapes.specs.declared.props.PropFault.{PropFault}
+use Rattle.shapes.specs.declared.props.PropFault.TheVariants.{WrongKind, PropertyNumber, PropertyDepth, OutOfMemory}
+use Rattle.std.proofs.lemmas.List.Elements.{All-cons, All-nil}
+use Rattle.reading.specs.Fault.{here, IsUpto, IsLeast, LeastOrWant}
+use Rattle.reading.specs.Info.{properties_faults, properties_kind, properties_of}
+use Rattle.reading.proofs.Least.{least_here, from_want}
+
+abbrev object_fault : Bool → Bool → Option PropFault
+object_fault fraction deep = if fraction then Some PropertyNumber else (if deep then Some PropertyDepth else None)
+
+abbrev object_list : Bool → Bool → List Pair
+object_list fraction deep = (if fraction then here kind.PropertyNumber else []) ++ (if deep then here kind.PropertyDepth else [])
+
+object_ok : (fraction deep : Bool) → object_fault fraction deep ≡ None → object_list fraction deep ≡ []
+object_ok true deep e = cc
+object_ok false true e = cc
+object_ok false false e = refl
+
+pub properties_ok : (d : Data) → property_fault d ≡ None → properties_faults d ≡ []
+properties_ok null e = refl
+properties_ok (boolean b) e = cc
+properties_ok (number n) e = cc
+properties_ok (string s) e = cc
+properties_ok (array ds) e = cc
+properties_ok (object ms) e = object_ok (has_float (object ms)) (not (nat_le (depth (object ms)) 64)) e
+
+abbrev told_as : PropFault → Pair
+told_as f = record { path = []; kind = properties_kind f }
+
+number_first : IsLeast (object_list true true) (told_as PropertyNumber)
+number_first = record {
+  present = (0, omega arith, refl);
+  first = All-cons (IsUpto (told_as PropertyNumber)) (told_as PropertyNumber) (told_as PropertyDepth ∷ []) refl (All-cons (IsUpto (told_as PropertyNumber)) (told_as PropertyDepth) [] refl (All-nil (IsUpto (told_as PropertyNumber))))
+}
+
+object_least : (fraction deep : Bool) (f : PropFault) → object_fault fraction deep ≡ Some f → IsLeast (object_list fraction deep) (told_as f)
+object_least true true PropertyNumber e = number_first
+object_least true false PropertyNumber e = least_here kind.PropertyNumber
+object_least false true PropertyDepth e = least_here kind.PropertyDepth
+object_least fraction deep f e = cc
+
+fault_least : (d : Data) (f : PropFault) → is_some (as_null d) ≡ false → property_fault d ≡ Some f → IsLeast (properties_faults d) (told_as f)
+fault_least null f there e = cc
+fault_least (boolean b) WrongKind there e = least_here kind.WrongKind
+fault_least (number n) WrongKind there e = least_here kind.WrongKind
+fault_least (string s) WrongKind there e = least_here kind.WrongKind
+fault_least (array ds) WrongKind there e = least_here kind.WrongKind
+fault_least (object ms) f there e = object_least (has_float (object ms)) (not (nat_le (depth (object ms)) 64)) f e
+fault_least d f there e = cc
+
+least_of : (d : Data) (f : PropFault) (told : Fault) → is_some (as_null d) ≡ false → property_fault d ≡ Some f → pair_of told ≡ told_as f → LeastOrWant (properties_faults d) told
+least_of d f told there e is = record { least = λ real. subst (IsLeast (properties_faults d)) (sym is) (fault_least d f there e) }
+
+pub properties_refused : (d : Data) (f : PropFault) (told : Fault) → is_some (as_null d) ≡ false → ((f ≡ OutOfMemory → ⊥) → property_fault d ≡ Some f) → pair_of told ≡ told_as f → LeastOrWant (properties_faults d) told
+properties_refused d WrongKind told there e is = least_of d WrongKind told there (e (λ k. cc)) is
+properties_refused d PropertyNumber told there e is = least_of d PropertyNumber told there (e (λ k. cc)) is
+properties_refused d PropertyDepth told there e is = least_of d PropertyDepth told there (e (λ k. cc)) is
+properties_refused d OutOfMemory told there e is = from_want (properties_faults d) told (ap (λ p. p.kind) is)
+
+-- null stands for no properties
+pub null_is : (d : Data) → is_some (as_null d) ≡ true → d ≡ null
+null_is null e = refl
+null_is (boolean b) e = cc
+null_is (number n) e = cc
+null_is (string s) e = cc
+null_is (array ds) e = cc
+null_is (object ms) e = cc
