@@ -1,5 +1,5 @@
 -- Faults and meaning of features and of whole texts.
-use Rattle.std.specs.Prelude.{◌≡◌, ℕ, List, [], ◌∷◌, ◌++◌, map, Contains, Option, Some, None, Result, Ok, Err, codes, if◌then◌else◌}
+use Rattle.std.specs.Prelude.{◌≡◌, ℕ, List, [], ◌∷◌, ◌++◌, map, IsTrue, Option, Some, None, Result, Ok, Err, codes, if◌then◌else◌}
 use Rattle.std.specs.Str.{bytes_eq}
 use Rattle.serde_json.specs.Data.{Data}
 use Rattle.serde_json.specs.Find.{as_object}
@@ -7,7 +7,10 @@ use Rattle.faults.specs.Fault.{Pair}
 use Rattle.faults.specs.declared.fault.FaultKind.{FaultKind}
 use Rattle.faults.specs.declared.fault.FaultKind.TheVariants.{UnknownType}
 use Rattle.grid.specs.Place.{Transform}
+use Rattle.shapes.specs.Sets as set
+use Rattle.shapes.specs.Maps.{Features}
 use Rattle.shapes.specs.declared.feature.Feature as features
+use Rattle.theory.specs.Lists.{Has}
 use Rattle.reading.specs.Parts.{list_faults, elements, member_faults, option_faults, object_faults, typed_faults, unless_null, named, type_text}
 use Rattle.reading.specs.Info.{info_faults, member_or_null, id_of, properties_of}
 use Rattle.reading.specs.Plain.{Plain, PlainForm, none, plain}
@@ -15,8 +18,8 @@ use Rattle.reading.specs.Text.{document, text_faults}
 use Rattle.reading.specs.Types.{geometry_named}
 use Rattle.reading.specs.declared.geometry.GeometryType.{GeometryType}
 use Rattle.geojson_io.specs.Geometries.{geometry_faults, geometry_form, typed_geometry_faults, typed_form}
-use Rattle.geojson_io.specs.declared.read.Root.{Root}
-use Rattle.geojson_io.specs.declared.read.Root.TheVariants.{Collection, Feature, Geometry}
+use Rattle.geojson_io.specs.declared.reader.Root.{Root}
+use Rattle.geojson_io.specs.declared.reader.Root.TheVariants.{Collection, Feature, Geometry}
 
 -- ---- features
 
@@ -89,12 +92,7 @@ faults_of_text t bytes = text_faults (geojson_faults t) (document bytes)
 abbrev pub features_of_text : Transform → List ℕ → List Plain
 features_of_text t bytes = features_or_none t (document bytes)
 
--- the same features, whatever the order and however often each stands
-pub record HaveSame (made given : List features.Feature) : Type 0 where
-  pub only : (f : features.Feature) → Contains made f → Contains given f
-  pub all : (f : features.Feature) → Contains given f → Contains made f
-
--- the features are these, whatever the order and however often each stands
-pub record AreFeatures (made : List features.Feature) (meant : List Plain) : Type 0 where
-  pub only : (f : features.Feature) → Contains made f → Contains meant (plain f)
-  pub all : (p : Plain) → Contains meant p → (f : features.Feature) × Contains made f × (plain f ≡ p)
+-- the set holds the features that are these as plain data, and nothing else
+pub record AreFeatures (made : Features) (meant : List Plain) : Type 0 where
+  pub only : (f : features.Feature) → IsTrue (set.contains made f) → Has (plain f) meant
+  pub all : (p : Plain) → Has p meant → (f : features.Feature) × IsTrue (set.contains made f) × (plain f ≡ p)

@@ -11,10 +11,10 @@ mod transform;
 #[cfg(test)]
 mod tests;
 
-use crate::read::arc::ArcOf;
-use crate::read::layer::LayerOf;
-use crate::read::limit::Limits;
-use crate::read::transform::read_transform;
+use crate::reader::arc::ArcOf;
+use crate::reader::layer::LayerOf;
+use crate::reader::limit::Limits;
+use crate::reader::transform::read_transform;
 use faults::fault::{Fault, FaultKind};
 use grid::pos::Pos;
 use grid::transform::Grid;

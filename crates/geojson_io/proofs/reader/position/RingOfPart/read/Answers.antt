@@ -7,7 +7,7 @@ use Rattle.reading.proofs.Faulty.{faultless_part, faultless}
 use Rattle.reading.proofs.Lists.{zip_is}
 use Rattle.reading.proofs.Results.{ok_with, err_map}
 use Rattle.geojson_io.specs.Positions.{position_of, positions_of}
-use Rattle.geojson_io.proofs.read.position.RingOfPart.read.Goals as goal
+use Rattle.geojson_io.proofs.reader.position.RingOfPart.read.Goals as goal
 
 pub returns-clause-ok : goal.returns-clause-ok
 returns-clause-ok c =

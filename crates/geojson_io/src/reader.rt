@@ -1,13 +1,17 @@
 //! GeoJSON in: features out of a FeatureCollection, a Feature or a geometry.
-ghost use Rattle.std.specs.Prelude.{◌≡◌, [], ◌∷◌, map, IfOk, IfErr, OnOk, Ok, Err, codes};
+ghost use Rattle.std.specs.Prelude.{◌≡◌, [], ◌∷◌, map, IfOk, IfErr, OnOk, Ok, Err, IsTrue, ◌↔◌, codes};
 ghost use Rattle.serde_json.specs.View.{view};
 ghost use Rattle.faults.specs.Fault.{IsWant};
 ghost use Rattle.reading.specs.Fault.{LeastOrWant};
 ghost use Rattle.reading.specs.Parts.{member_faults, list_faults, elements};
 ghost use Rattle.reading.specs.Info.{member_or_null};
 ghost use Rattle.reading.specs.Plain.{plain, plain_form};
+ghost use Rattle.shapes.specs.Sets as set;
+ghost use Rattle.shapes.specs.Maps.{set_of as features_set};
+ghost use Rattle.theory.specs.Lists.{Has};
+ghost use Rattle.shapes.specs.declared.feature.Feature.{Feature};
 ghost use Rattle.geojson_io.specs.Geometries.{typed_geometry_faults, typed_form};
-ghost use Rattle.geojson_io.specs.Features.{feature_members, feature_of, element_of_features_faults, root_named as named_root, root_type, root_faults, features_by, HaveSame, geojson_faults, features_of, features_of_text, faults_of_text, bare, AreFeatures};
+ghost use Rattle.geojson_io.specs.Features.{feature_members, feature_of, element_of_features_faults, root_named as named_root, root_type, root_faults, features_by, geojson_faults, features_of, features_of_text, faults_of_text, bare, AreFeatures};
 
 mod feature;
 mod geometry;
@@ -16,9 +20,9 @@ mod position;
 #[cfg(test)]
 mod tests;
 
-use crate::read::feature::{FeatureElement, read_feature};
-use crate::read::geometry::read_geometry;
-use crate::read::position::Position;
+use crate::reader::feature::{FeatureElement, read_feature};
+use crate::reader::geometry::read_geometry;
+use crate::reader::position::Position;
 use faults::fault::{Fault, FaultKind};
 use grid::transform::Grid;
 use reading::document::document;
@@ -28,7 +32,7 @@ use reading::part::{Listed, Part, keep, read_member, type_fault, type_name};
 use serde_json::Value;
 use shapes::feature::Feature;
 use shapes::shape::{Id, Shape};
-use std::alloc::Global;
+use std::alloc::{AllocError, Global};
 use std::collections::BTreeSet;
 
 /// What the root of a text is.
@@ -162,17 +166,13 @@ fn read_text(alloc: Global, bytes: &[u8], grid: &Grid) -> Result<Vec<Feature>, F
 }
 
 fn set_of(alloc: Global, features: Vec<Feature>) -> Result<BTreeSet<Feature>, Fault>
-    ensures ok { IfOk result (λ fs. HaveSame fs.keys features.items) }
+    ensures ok { IfOk result (λ fs. (f : Feature) → IsTrue (set.contains (features_set fs) f) ↔ Has f features.items) }
     ensures err { IfErr result IsWant }
 {
-    let mut set = BTreeSet::new(alloc);
-    for feature in features {
-        match set.insert(feature) {
-            Ok(_) => {}
-            Err(_) => return Err(Fault::here(alloc, FaultKind::OutOfMemory)),
-        }
+    match features.into_iter().collect(alloc) {
+        Ok(features) => Ok(features),
+        Err(AllocError) => Err(Fault::here(alloc, FaultKind::OutOfMemory)),
     }
-    Ok(set)
 }
 
 /// The features of a GeoJSON text whose positions are absolute numbers on the grid.
@@ -185,7 +185,7 @@ fn set_of(alloc: Global, features: Vec<Feature>) -> Result<BTreeSet<Feature>, Fa
 /// The least fault of the text, by path and then by number; `OutOfMemory` at the root.
 pub fn read(alloc: Global, bytes: &[u8], grid: &Grid) -> Result<BTreeSet<Feature>, Fault>
     ensures ok { OnOk result (faults_of_text grid.now bytes.now ≡ []) }
-    ensures made { IfOk result (λ fs. AreFeatures fs.keys (features_of_text grid.now bytes.now)) }
+    ensures made { IfOk result (λ fs. AreFeatures (features_set fs) (features_of_text grid.now bytes.now)) }
     ensures err { IfErr result (λ f. LeastOrWant (faults_of_text grid.now bytes.now) f) }
 {
     let features = read_text(alloc, bytes, grid)?;

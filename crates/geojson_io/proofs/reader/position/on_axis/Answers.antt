@@ -5,7 +5,7 @@ use Rattle.grid.specs.Computed.{axis_number}
 use Rattle.faults.specs.declared.fault.FaultKind.TheVariants as kind
 use Rattle.reading.proofs.Least.{only_of}
 use Rattle.geojson_io.specs.Positions.{axis_faults, grid_faults}
-use Rattle.geojson_io.proofs.read.position.on_axis.Goals as goal
+use Rattle.geojson_io.proofs.reader.position.on_axis.Goals as goal
 
 pub returns-in-Ok-clause-inside : goal.returns-in-Ok-clause-inside
 returns-in-Ok-clause-inside c =

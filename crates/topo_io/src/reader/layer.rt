@@ -1,8 +1,8 @@
 //! Layers: the members of a topology's `objects`.
 ghost use Rattle.std.specs.Prelude.{◌≡◌, []};
 
-use crate::read::geometry::{GeometryOf, type_or_null};
-use crate::read::limit::Limits;
+use crate::reader::geometry::{GeometryOf, type_or_null};
+use crate::reader::limit::Limits;
 use faults::fault::{Fault, FaultKind};
 use grid::pos::Pos;
 use lines::items::Items;

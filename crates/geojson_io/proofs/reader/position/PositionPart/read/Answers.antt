@@ -5,7 +5,7 @@ use Rattle.reading.specs.Fault.{LeastOrWant}
 use Rattle.reading.specs.Parts.{pair_faults, IsPair, elements}
 use Rattle.geojson_io.specs.Positions.{coordinate_faults, position_faults, position_of}
 use Rattle.geojson_io.proofs.Places.{same_axes, two_inside, pair_is, IsCoordinate}
-use Rattle.geojson_io.proofs.read.position.PositionPart.read.Goals as goal
+use Rattle.geojson_io.proofs.reader.position.PositionPart.read.Goals as goal
 
 pub returns-in_err-x-clause-err : goal.returns-in_err-x-clause-err
 returns-in_err-x-clause-err c =

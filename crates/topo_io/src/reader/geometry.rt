@@ -1,8 +1,8 @@
 //! Geometries of a topology (TopoJSON, section 2.2).
 ghost use Rattle.std.specs.Prelude.{◌≡◌, []};
 
-use crate::read::limit::{Limits, Position};
-use crate::read::stitching::{IndexOf, LineOf, RingOf};
+use crate::reader::limit::{Limits, Position};
+use crate::reader::stitching::{IndexOf, LineOf, RingOf};
 use faults::fault::{Fault, FaultKind};
 use grid::pos::Pos;
 use lines::items::Items;

@@ -1,7 +1,7 @@
 //! Arcs: a first position and differences (TopoJSON, section 2.1.3).
 ghost use Rattle.std.specs.Prelude.{◌≡◌, []};
 
-use crate::read::limit::{Limits, origin, read_from};
+use crate::reader::limit::{Limits, origin, read_from};
 use faults::fault::{Fault, FaultKind};
 use grid::pos::Pos;
 use lines::items::Items;

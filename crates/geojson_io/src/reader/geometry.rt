@@ -6,7 +6,7 @@ ghost use Rattle.reading.specs.Parts.{unless_null};
 ghost use Rattle.reading.specs.Plain.{plain_form};
 ghost use Rattle.geojson_io.specs.Geometries.{coordinates_faults, form_of, typed_geometry_faults, typed_form, geometry_faults, geometry_form};
 
-use crate::read::position::{LineOf, Position, RingOf};
+use crate::reader::position::{LineOf, Position, RingOf};
 use faults::fault::{Fault, FaultKind};
 use reading::geometry::GeometryType;
 use reading::part::{Listed, Part, read_member, type_fault};

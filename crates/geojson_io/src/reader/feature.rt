@@ -8,8 +8,8 @@ ghost use Rattle.reading.specs.Plain.{plain, plain_form};
 ghost use Rattle.geojson_io.specs.Geometries.{geometry_faults, geometry_form};
 ghost use Rattle.geojson_io.specs.Features.{feature_members, feature_of, feature_named, element_of_features_faults};
 
-use crate::read::geometry::Geometry;
-use crate::read::position::Position;
+use crate::reader::geometry::Geometry;
+use crate::reader::position::Position;
 use faults::fault::{Fault, FaultKind};
 use reading::info::read_info;
 use reading::part::{Part, read_option, type_fault, type_name};
