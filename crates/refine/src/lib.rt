@@ -1,2 +1,15 @@
-//! Under construction.
+//! Merging shards: a shard is a grid and a map of features, a plan says which are joined and in what grouping.
 #![tactic(auto)]
+
+pub mod fault;
+pub mod grouping;
+pub mod merge;
+pub mod plan;
+pub mod shard;
+pub mod whole;
+
+pub use fault::{JoinFault, MergeFault, PlanFault};
+pub use merge::merge_texts;
+pub use plan::{Plan, run_plan};
+pub use shard::Shard;
+pub use whole::Whole;

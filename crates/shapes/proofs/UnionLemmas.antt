@@ -59,10 +59,10 @@ pub united_put : (n m : Layers) (k : String Global) (l : Layer) (es : Entries) �
 united_put n m k l es absent q =
     ap (λ o. option_or o (option_map at (look q es))) (map.get-insert nat_list_cmp_total m (string_bytes k) (set.union (features_of l) (features_at n (string_bytes k))) q)
     ∙ elim (slice_cmp nat_cmp q (string_bytes k)) as (λ o. slice_cmp nat_cmp q (string_bytes k) ≡ o → option_or (cond (is_eq o) (Some (set.union (features_of l) (features_at n (string_bytes k)))) (map.get m q)) (option_map at (look q es)) ≡ option_or (map.get m q) (option_map at (cond (is_eq o) (Some l) (look q es)))) [
-        | Less ↦ λ _. refl
-        | Equal ↦ λ e. here e
-        | Greater ↦ λ _. refl
-      ] refl
+      | Less ↦ λ _. refl
+      | Equal ↦ λ e. here e
+      | Greater ↦ λ _. refl
+    ] refl
   where
     at : Layer → Features
     at x = set.union (features_of x) (features_at n q)
@@ -85,7 +85,7 @@ united_twice es fs u v first second =
     map.same_map nat_list_cmp_total same_text _ _ (λ q.
     second q
     ∙ ap (λ o. option_or o (option_map (λ l. set.union (features_of l) (features_at (layers_of es) q)) (look q fs)))
-        (first q ∙ ap (λ o. option_or o (option_map (λ l. set.union (features_of l) (features_at (layers_of fs) q)) (look q es))) (map.get-empty (slice_cmp nat_cmp) q))
+    (first q ∙ ap (λ o. option_or o (option_map (λ l. set.union (features_of l) (features_at (layers_of fs) q)) (look q es))) (map.get-empty (slice_cmp nat_cmp) q))
     ∙ cases (map.get (layers_of es) q) (map.get (layers_of fs) q) (look q es) (look q fs) (get-layers es q) (get-layers fs q)
     ∙ sym (get-union nat_list_cmp_total same_text (layers_of es) (layers_of fs) q))
   where

@@ -39,7 +39,6 @@ any_append p (x ∷ s) t = ap (λ b. p x || b) (any_append p s t) ∙ sym (or_as
     or_assoc true b c = refl
     or_assoc false b c = refl
 
-
 -- the laws of a union of sets
 module _ {X : Type 0} {Q : X → X → Ordering} (o : IsTotalOrder Q) (same : IsAntisymmetric Q) where
   pub set_union_commutes : (s t : set.FinSet Q) → set.union s t ≡ set.union t s
@@ -58,7 +57,6 @@ module _ {X : Type 0} {Q : X → X → Ordering} (o : IsTotalOrder Q) (same : Is
 -- the laws of a union of maps
 module _ {K X : Type 0} {R : K → K → Ordering} {Q : X → X → Ordering}
     (o : IsTotalOrder R) (same : IsAntisymmetric R) where
-
   get-made : (ks : List K) (f : K → Option (set.FinSet Q)) (q : K) →
       map.get (made {R = R} {Q = Q} ks f) q ≡ cond (list_any (eq_by_cmp R q) ks) (f q) None
   get-made [] f q = map.get-empty R q
@@ -83,8 +81,8 @@ module _ {K X : Type 0} {R : K → K → Ordering} {Q : X → X → Ordering}
   get-union m n q =
       get-made (map.keys m ++ map.keys n) _ q
       ∙ ap (λ b. cond b (both (map.get m q) (map.get n q)) None)
-          (any_append (eq_by_cmp R q) (map.keys m) (map.keys n)
-            ∙ (λ i. sym (map.contains_key-keys m q) i || sym (map.contains_key-keys n q) i))
+      (any_append (eq_by_cmp R q) (map.keys m) (map.keys n)
+      ∙ (λ i. sym (map.contains_key-keys m q) i || sym (map.contains_key-keys n q) i))
       ∙ there (map.get m q) (map.get n q)
     where
       there : (a b : Option (set.FinSet Q)) → cond (is_some a || is_some b) (both a b) None ≡ both a b

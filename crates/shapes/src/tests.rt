@@ -41,12 +41,27 @@ fn ordered(alloc: Global) -> Result<Vec<Feature>, Fail> {
     list.push(feature(alloc, Id::None, "{}", Shape::Null)?)?;
     list.push(point(alloc, 9, 9)?)?;
     list.push(feature(alloc, Id::None, "{}", line(alloc, &[(0, 0), (1, 0)])?)?)?;
-    list.push(feature(alloc, Id::None, "{}", line(alloc, &[(0, 0), (1, 0), (1, 1)])?)?)?;
+    list.push(feature(
+        alloc,
+        Id::None,
+        "{}",
+        line(alloc, &[(0, 0), (1, 0), (1, 1)])?,
+    )?)?;
     list.push(feature(alloc, Id::None, "{}", line(alloc, &[(0, 0), (2, 0)])?)?)?;
     list.push(feature(alloc, Id::Number(-3), "{}", Shape::Point(pos(0, 0)?))?)?;
     list.push(feature(alloc, Id::Number(12), "{}", Shape::Null)?)?;
-    list.push(feature(alloc, Id::Text(Spelled::new(alloc, "10")?), "{}", Shape::Null)?)?;
-    list.push(feature(alloc, Id::Text(Spelled::new(alloc, "9")?), "{}", Shape::Null)?)?;
+    list.push(feature(
+        alloc,
+        Id::Text(Spelled::new(alloc, "10")?),
+        "{}",
+        Shape::Null,
+    )?)?;
+    list.push(feature(
+        alloc,
+        Id::Text(Spelled::new(alloc, "9")?),
+        "{}",
+        Shape::Null,
+    )?)?;
     Ok(list)
 }
 
@@ -101,10 +116,16 @@ fn properties(rt: HostRuntime) -> Result<(), Fail> {
     assert_eq!(rt; Props::empty(alloc)?.text(), "{}");
     assert!(rt; Props::empty(alloc)?.is_empty());
     assert_eq!(rt; refusal(alloc, "[]")?, Some(PropFault::WrongKind));
-    assert_eq!(rt; refusal(alloc, "{\"a\":[1.0]}")?, Some(PropFault::PropertyNumber));
+    assert_eq!(rt;
+        refusal(alloc, "{\"a\":[1.0]}")?,
+        Some(PropFault::PropertyNumber)
+    );
     assert_eq!(rt; refusal(alloc, "{\"a\":18446744073709551615}")?, None);
     assert_eq!(rt; refusal(alloc, nested(alloc, 63)?.as_str())?, None);
-    assert_eq!(rt; refusal(alloc, nested(alloc, 64)?.as_str())?, Some(PropFault::PropertyDepth));
+    assert_eq!(rt;
+        refusal(alloc, nested(alloc, 64)?.as_str())?,
+        Some(PropFault::PropertyDepth)
+    );
     Ok(())
 }
 
@@ -112,7 +133,10 @@ fn properties(rt: HostRuntime) -> Result<(), Fail> {
 fn maps_are_maps_of_sets(rt: HostRuntime) -> Result<(), Fail> {
     let alloc = rt.alloc();
     let mut map = FeatureMap::new(alloc);
-    assert_eq!(rt; map.insert("b", point(alloc, 1, 2)?).err(), Some(InsertFault::NoLayer));
+    assert_eq!(rt;
+        map.insert("b", point(alloc, 1, 2)?).err(),
+        Some(InsertFault::NoLayer)
+    );
     assert!(rt; map.add_layer("b")?);
     assert!(rt; !map.add_layer("b")?);
     assert!(rt; map.add_layer("a")?);

@@ -1,0 +1,64 @@
+//! Merging texts of topologies.
+use crate::fault::{MergeFault, plan_refused};
+use crate::plan::{Plan, first_bad_leaf, run_plan};
+use crate::shard::Shard;
+use crate::whole::Whole;
+use faults::{Fault, FaultKind};
+use std::alloc::Global;
+
+// A reader's refusal of the text of that number.
+fn text_refused(number: usize, fault: Fault) -> MergeFault {
+    if fault.kind == FaultKind::OutOfMemory {
+        return MergeFault::OutOfMemory;
+    }
+    MergeFault::Text(number, fault)
+}
+
+fn read_shard<S: Shard>(alloc: Global, number: usize, text: &[u8]) -> Result<S, MergeFault> {
+    match topo_io::read(alloc, text) {
+        Ok((grid, map)) => Ok(S::from_map(alloc, &grid, &map)?),
+        Err(fault) => Err(text_refused(number, fault)),
+    }
+}
+
+fn read_shards<S: Shard>(alloc: Global, texts: &[Vec<u8>]) -> Result<Vec<S>, MergeFault> {
+    let mut shards = Vec::new(alloc);
+    for (number, text) in texts.iter().enumerate() {
+        match read_shard(alloc, number, text) {
+            Ok(shard) => shards.push(shard)?,
+            Err(fault) => return Err(fault),
+        }
+    }
+    Ok(shards)
+}
+
+/// Merges texts over shards of a chosen kind: see `merge_texts`.
+pub fn merge_as<S: Shard>(
+    alloc: Global,
+    texts: &[Vec<u8>],
+    plan: &Plan,
+) -> Result<Vec<u8>, MergeFault> {
+    if let Some(leaf) = first_bad_leaf(plan, texts.len()) {
+        return Err(MergeFault::BadPlan(leaf));
+    }
+    let shards: Vec<S> = read_shards(alloc, texts)?;
+    match run_plan(alloc, &shards, plan) {
+        Ok(shard) => Ok(shard.text(alloc)?),
+        Err(fault) => Err(plan_refused(fault)),
+    }
+}
+
+/// The canonical text of the union of the features of the texts that the plan names.
+///
+/// # Errors
+/// `BadPlan` with the first leaf from the left that is no place of the list; otherwise `Text` with
+/// the first text of the list that is refused, and its least fault; otherwise `OtherGrid` with the
+/// first text whose transform differs from that of text 0. All texts are read, also those that the
+/// plan does not name.
+pub fn merge_texts(
+    alloc: Global,
+    texts: &[Vec<u8>],
+    plan: &Plan,
+) -> Result<Vec<u8>, MergeFault> {
+    merge_as::<Whole>(alloc, texts, plan)
+}

@@ -1,0 +1,56 @@
+//! What a merge needs of a shard.
+ghost use Rattle.std.specs.Prelude.{◌≡◌, ◌↔◌, IfOk, IsErrOf};
+ghost use Rattle.grid.specs.Place.{Transform};
+ghost use Rattle.shapes.specs.Maps.{Layers};
+ghost use Rattle.shapes.specs.Union.{union};
+ghost use Rattle.refine.specs.Meaning.{Commutes, Associates, IsIdempotent};
+ghost use Rattle.refine.specs.declared.fault.JoinFault.TheVariants.{OtherGrid};
+
+use crate::fault::JoinFault;
+use faults::OutOfMemory;
+use grid::transform::Grid;
+use shapes::feature_map::FeatureMap;
+use std::alloc::Global;
+
+/// A shard: a grid and a map of features, kept in one form or another. Each implementation proves
+/// that its join commutes, associates and is idempotent on what shards mean.
+pub trait Shard: Sized + Drop {
+    // The shard's grid.
+    ghost grid_of: { Self → Transform };
+
+    // The shard's features.
+    ghost map_of: { Self → Layers };
+
+    // What a join of two shards may answer.
+    ghost joined: { Self → Self → Self → Type 0 };
+
+    /// The shard's grid.
+    fn grid(&self) -> Grid
+        ensures { result ≡ grid_of self.now };
+
+    /// The shard of a map on a grid.
+    fn from_map(alloc: Global, grid: &Grid, map: &FeatureMap) -> Result<Self, OutOfMemory>
+        ensures grid { IfOk result (λ s. grid_of s ≡ grid.now) }
+        ensures map { IfOk result (λ s. map_of s ≡ map.now) };
+
+    /// A shard of the same meaning.
+    fn copy(&self, alloc: Global) -> Result<Self, OutOfMemory>
+        ensures grid { IfOk result (λ s. grid_of s ≡ grid_of self.now) }
+        ensures map { IfOk result (λ s. map_of s ≡ map_of self.now) };
+
+    /// The shard of the common grid and the union of both maps, refused where the grids differ.
+    fn join(&self, alloc: Global, other: &Self) -> Result<Self, JoinFault>
+        ensures joined { IfOk result (λ s. joined self.now other.now s) }
+        ensures grid { IfOk result (λ s. grid_of s ≡ grid_of self.now) }
+        ensures map { IfOk result (λ s. map_of s ≡ union (map_of self.now) (map_of other.now)) }
+        ensures other_grid { IsErrOf result OtherGrid ↔ ¬ (grid_of self.now ≡ grid_of other.now) };
+
+    /// The canonical text of the shard's topology.
+    fn text(&self, alloc: Global) -> Result<Vec<u8>, OutOfMemory>;
+
+    ghost commutes: { Commutes joined map_of };
+
+    ghost associates: { Associates joined map_of };
+
+    ghost idempotent: { IsIdempotent joined map_of };
+}

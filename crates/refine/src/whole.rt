@@ -1,0 +1,77 @@
+//! A shard that keeps its map.
+ghost use Rattle.std.specs.Prelude.{◌≡◌};
+ghost use Rattle.shapes.specs.Union.{union};
+ghost use Rattle.refine.specs.Laws.{union-Commutes, union-Associates, union-IsIdempotent};
+
+use crate::fault::JoinFault;
+use crate::plan::same_grid;
+use crate::shard::Shard;
+use faults::OutOfMemory;
+use grid::transform::Grid;
+use shapes::feature_map::FeatureMap;
+use sinks::Kept;
+use std::alloc::Global;
+use topo::topology::Topology;
+
+/// A shard that keeps its map and builds its topology when it is written.
+#[derive(Drop)]
+pub struct Whole {
+    grid: Grid,
+    map: FeatureMap,
+}
+
+impl Shard for Whole {
+    ghost grid_of = { λ s. s.grid };
+
+    ghost map_of = { λ s. s.map };
+
+    ghost joined = { λ a b c. c.map ≡ union a.map b.map };
+
+    fn grid(&self) -> Grid {
+        self.grid
+    }
+
+    fn from_map(_alloc: Global, grid: &Grid, map: &FeatureMap) -> Result<Whole, OutOfMemory> {
+        let map = map.copy()?;
+        Ok(Whole { grid: *grid, map })
+    }
+
+    fn copy(&self, _alloc: Global) -> Result<Whole, OutOfMemory> {
+        let map = self.map.copy()?;
+        Ok(Whole {
+            grid: self.grid,
+            map,
+        })
+    }
+
+    fn join(&self, _alloc: Global, other: &Whole) -> Result<Whole, JoinFault> {
+        if !same_grid(&self.grid, &other.grid) {
+            return Err(JoinFault::OtherGrid);
+        }
+        let map = self.map.union(&other.map)?;
+        Ok(Whole {
+            grid: self.grid,
+            map,
+        })
+    }
+
+    fn text(&self, alloc: Global) -> Result<Vec<u8>, OutOfMemory> {
+        let topology = Topology::build(alloc, &self.grid, &self.map)?;
+        text_of(alloc, &topology)
+    }
+
+    ghost commutes = { union-Commutes (λ s. s.map) };
+
+    ghost associates = { union-Associates (λ s. s.map) };
+
+    ghost idempotent = { union-IsIdempotent (λ s. s.map) };
+}
+
+// The canonical text of a topology, in memory.
+fn text_of(alloc: Global, topology: &Topology) -> Result<Vec<u8>, OutOfMemory> {
+    let mut text = Kept::new(alloc);
+    match topo_io::write(topology, &mut text) {
+        Ok(()) => Ok(text.into_bytes()),
+        Err(_) => Err(OutOfMemory),
+    }
+}
