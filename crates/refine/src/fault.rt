@@ -41,15 +41,20 @@ pub enum PlanFault {
 }
 
 /// Why texts are not merged.
-#[derive(PartialEq, Eq, Drop, Debug)]
+#[derive(PartialEq, Eq, Drop, Debug, Error)]
 pub enum MergeFault {
     /// This leaf of the plan is no place of the list; the first such from the left.
+    #[error("leaf {0} is past the list")]
     BadPlan(usize),
-    /// The text of this number is refused, the first such, with its least fault, which is never want of memory.
+    /// The text of this number is refused, the first such, with its least fault, which is never want
+    /// of memory.
+    #[error("text {0} is refused")]
     Text(usize, Fault),
     /// The text of this number has another transform than text 0; the first such.
+    #[error("text {0} is on another grid")]
     OtherGrid(usize),
     /// A growth of memory was refused.
+    #[error("out of memory")]
     OutOfMemory,
 }
 

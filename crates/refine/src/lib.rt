@@ -13,3 +13,6 @@ pub use merge::merge_texts;
 pub use plan::{Plan, run_plan};
 pub use shard::Shard;
 pub use whole::Whole;
+
+#[cfg(test)]
+mod tests;
