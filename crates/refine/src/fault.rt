@@ -83,8 +83,7 @@ impl<T: Drop> From<AllocFailed<T>> for MergeFault {
 }
 
 // A plan's fault as a merge's.
-pub(crate) fn plan_refused(fault: PlanFault) -> MergeFault
-{
+pub(crate) fn plan_refused(fault: PlanFault) -> MergeFault {
     match fault {
         PlanFault::BadPlan(leaf) => MergeFault::BadPlan(leaf),
         PlanFault::OtherGrid(number) => MergeFault::OtherGrid(number),

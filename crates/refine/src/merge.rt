@@ -55,10 +55,6 @@ pub fn merge_as<S: Shard>(
 /// the first text of the list that is refused, and its least fault; otherwise `OtherGrid` with the
 /// first text whose transform differs from that of text 0. All texts are read, also those that the
 /// plan does not name.
-pub fn merge_texts(
-    alloc: Global,
-    texts: &[Vec<u8>],
-    plan: &Plan,
-) -> Result<Vec<u8>, MergeFault> {
+pub fn merge_texts(alloc: Global, texts: &[Vec<u8>], plan: &Plan) -> Result<Vec<u8>, MergeFault> {
     merge_as::<Whole>(alloc, texts, plan)
 }

@@ -26,13 +26,7 @@ pub(crate) fn first_bad_leaf(plan: &Plan, count: usize) -> Option<usize>
     ensures none { result ≡ None → HasPlaces count plan.now }
 {
     match plan {
-        Plan::Leaf(place) => {
-            if *place < count {
-                None
-            } else {
-                Some(*place)
-            }
-        }
+        Plan::Leaf(place) => { if *place < count { None } else { Some(*place) } }
         Plan::Node(left, right) => match first_bad_leaf(left, count) {
             None => first_bad_leaf(right, count),
             found => found,

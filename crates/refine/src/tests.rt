@@ -11,11 +11,20 @@ use std::process::Abort;
 use std::test::Fail;
 
 // Three squares in a row, each a topology of its own.
-const FIRST: &str = "{\"arcs\":[[[0,0],[0,1],[1,0],[0,-1],[-1,0]]],\"bbox\":[0,0,1,1],\"objects\":{\"a\":{\"geometries\":[{\"arcs\":[[-1]],\"type\":\"Polygon\"}],\"type\":\"GeometryCollection\"}},\"transform\":{\"scale\":[1,1],\"translate\":[0,0]},\"type\":\"Topology\"}";
-const SECOND: &str = "{\"arcs\":[[[1,0],[0,1],[1,0],[0,-1],[-1,0]]],\"bbox\":[1,0,2,1],\"objects\":{\"a\":{\"geometries\":[{\"arcs\":[[-1]],\"type\":\"Polygon\"}],\"type\":\"GeometryCollection\"}},\"transform\":{\"scale\":[1,1],\"translate\":[0,0]},\"type\":\"Topology\"}";
-const THIRD: &str = "{\"arcs\":[[[2,0],[0,1],[1,0],[0,-1],[-1,0]]],\"bbox\":[2,0,3,1],\"objects\":{\"a\":{\"geometries\":[{\"arcs\":[[-1]],\"type\":\"Polygon\"}],\"type\":\"GeometryCollection\"}},\"transform\":{\"scale\":[1,1],\"translate\":[0,0]},\"type\":\"Topology\"}";
-const ALL: &str = "{\"arcs\":[[[1,0],[-1,0],[0,1],[1,0]],[[1,0],[0,1]],[[1,0],[1,0]],[[1,1],[1,0]],[[2,0],[0,1]],[[2,0],[1,0],[0,1],[-1,0]]],\"bbox\":[0,0,3,1],\"objects\":{\"a\":{\"geometries\":[{\"arcs\":[[1,-1]],\"type\":\"Polygon\"},{\"arcs\":[[2,4,-4,-2]],\"type\":\"Polygon\"},{\"arcs\":[[5,-5]],\"type\":\"Polygon\"}],\"type\":\"GeometryCollection\"}},\"transform\":{\"scale\":[1,1],\"translate\":[0,0]},\"type\":\"Topology\"}";
-const DOUBLE: &str = "{\"arcs\":[],\"objects\":{},\"transform\":{\"scale\":[2,2],\"translate\":[0,0]},\"type\":\"Topology\"}";
+const FIRST: &str =
+    "{\"arcs\":[[[0,0],[0,1],[1,0],[0,-1],[-1,0]]],\"bbox\":[0,0,1,1],\"objects\":{\"a\":{\"geometries\":[{\"arcs\":[[-1]],\"type\":\"Polygon\"}],\"type\":\"GeometryCollection\"}},\"transform\":{\"scale\":[1,1],\"translate\":[0,0]},\"type\":\"Topology\"}";
+
+const SECOND: &str =
+    "{\"arcs\":[[[1,0],[0,1],[1,0],[0,-1],[-1,0]]],\"bbox\":[1,0,2,1],\"objects\":{\"a\":{\"geometries\":[{\"arcs\":[[-1]],\"type\":\"Polygon\"}],\"type\":\"GeometryCollection\"}},\"transform\":{\"scale\":[1,1],\"translate\":[0,0]},\"type\":\"Topology\"}";
+
+const THIRD: &str =
+    "{\"arcs\":[[[2,0],[0,1],[1,0],[0,-1],[-1,0]]],\"bbox\":[2,0,3,1],\"objects\":{\"a\":{\"geometries\":[{\"arcs\":[[-1]],\"type\":\"Polygon\"}],\"type\":\"GeometryCollection\"}},\"transform\":{\"scale\":[1,1],\"translate\":[0,0]},\"type\":\"Topology\"}";
+
+const ALL: &str =
+    "{\"arcs\":[[[1,0],[-1,0],[0,1],[1,0]],[[1,0],[0,1]],[[1,0],[1,0]],[[1,1],[1,0]],[[2,0],[0,1]],[[2,0],[1,0],[0,1],[-1,0]]],\"bbox\":[0,0,3,1],\"objects\":{\"a\":{\"geometries\":[{\"arcs\":[[1,-1]],\"type\":\"Polygon\"},{\"arcs\":[[2,4,-4,-2]],\"type\":\"Polygon\"},{\"arcs\":[[5,-5]],\"type\":\"Polygon\"}],\"type\":\"GeometryCollection\"}},\"transform\":{\"scale\":[1,1],\"translate\":[0,0]},\"type\":\"Topology\"}";
+
+const DOUBLE: &str =
+    "{\"arcs\":[],\"objects\":{},\"transform\":{\"scale\":[2,2],\"translate\":[0,0]},\"type\":\"Topology\"}";
 
 fn texts(alloc: Global, list: &[&str]) -> Result<Vec<Vec<u8>>, Fail> {
     let mut made = Vec::new(alloc);
@@ -38,7 +47,10 @@ fn three_squares_in_any_grouping(rt: HostRuntime) -> Result<(), Fail> {
     let forth = texts(alloc, &[FIRST, SECOND, THIRD])?;
     let back = texts(alloc, &[THIRD, FIRST, SECOND])?;
     for plan in [&left, &right, &halves] {
-        assert_eq!(rt; merge_texts(alloc, &forth, plan)?.as_slice(), ALL.as_bytes());
+        assert_eq!(rt;
+            merge_texts(alloc, &forth, plan)?.as_slice(),
+            ALL.as_bytes()
+        );
         assert_eq!(rt; merge_texts(alloc, &back, plan)?.as_slice(), ALL.as_bytes());
     }
     assert!(rt; Plan::left(alloc, 0)?.is_none());
@@ -52,7 +64,10 @@ fn a_text_merged_with_itself(rt: HostRuntime) -> Result<(), Fail> {
     let alloc = rt.alloc();
     let plan = planned(Plan::left(alloc, 2)?)?;
     let twice = texts(alloc, &[SECOND, SECOND])?;
-    assert_eq!(rt; merge_texts(alloc, &twice, &plan)?.as_slice(), SECOND.as_bytes());
+    assert_eq!(rt;
+        merge_texts(alloc, &twice, &plan)?.as_slice(),
+        SECOND.as_bytes()
+    );
     Ok(())
 }
 
@@ -84,7 +99,13 @@ fn refusals_in_their_order(rt: HostRuntime) -> Result<(), Fail> {
     let text = |number: usize| MergeFault::Text(number, missing_type(alloc));
     check_refused(&rt, alloc, &[FIRST, "{}"], &first, text(1))?;
     check_refused(&rt, alloc, &[FIRST, DOUBLE, "{}"], &first, text(2))?;
-    check_refused(&rt, alloc, &[FIRST, DOUBLE], &first, MergeFault::OtherGrid(1))?;
+    check_refused(
+        &rt,
+        alloc,
+        &[FIRST, DOUBLE],
+        &first,
+        MergeFault::OtherGrid(1),
+    )?;
     check_refused(&rt, alloc, &["{}"], &past, MergeFault::BadPlan(3))?;
     check_refused(&rt, alloc, &[], &first, MergeFault::BadPlan(0))
 }
@@ -104,7 +125,8 @@ fn plans_over_shards(rt: HostRuntime) -> Result<(), Fail> {
     shards.push(shard(alloc, 1, "b")?)?;
     shards.push(shard(alloc, 1, "a")?)?;
     let joined = run_plan(alloc, &shards, &both)?;
-    let empty = "{\"arcs\":[],\"objects\":{\"a\":{\"geometries\":[],\"type\":\"GeometryCollection\"},\"b\":{\"geometries\":[],\"type\":\"GeometryCollection\"}},\"transform\":{\"scale\":[1,1],\"translate\":[0,0]},\"type\":\"Topology\"}";
+    let empty =
+        "{\"arcs\":[],\"objects\":{\"a\":{\"geometries\":[],\"type\":\"GeometryCollection\"},\"b\":{\"geometries\":[],\"type\":\"GeometryCollection\"}},\"transform\":{\"scale\":[1,1],\"translate\":[0,0]},\"type\":\"Topology\"}";
     assert_eq!(rt; joined.text(alloc)?.as_slice(), empty.as_bytes());
     assert!(rt; joined.copy(alloc)?.grid() == joined.grid());
     let past = run_plan(alloc, &shards, &Plan::Leaf(2));

@@ -6,14 +6,14 @@ use Rattle.refine.proofs.plan.run_plan.Goals as goal
 pub returns-in_default-first-clause-faults : goal.returns-in_default-first-clause-faults
 returns-in_default-first-clause-faults g c =
     absurd (no_places c.args.plan.now
-      (subst (λ n. HasPlaces n c.args.plan.now) (no_first c.args.shards.now c.in_default-first.ensures.value) (c.in_default.ensures.none refl)))
+    (subst (λ n. HasPlaces n c.args.plan.now) (no_first c.args.shards.now c.in_default-first.ensures.value) (c.in_default.ensures.none refl)))
 
 pub join_leaves-requires-clause-one_grid : goal.join_leaves-requires-clause-one_grid
 join_leaves-requires-clause-one_grid g c =
     λ k d lt. one_grid g.S.Shard.grid_of c.args.shards.now c.in-Some-first.first.now c.in-Some-first.ensures.value c.in_default-first_other_grid.ensures k d lt
-      ∙ sym c.grid.ensures
+    ∙ sym c.grid.ensures
 
 pub returns-in-Ok-clause-grid : goal.returns-in-Ok-clause-grid
 returns-in-Ok-clause-grid g c =
     λ k d lt. one_grid g.S.Shard.grid_of c.args.shards.now c.in-Some-first.first.now c.in-Some-first.ensures.value c.in_default-first_other_grid.ensures k d lt
-      ∙ sym c.grid.ensures ∙ sym c.in-Ok.ensures.grid
+    ∙ sym c.grid.ensures ∙ sym c.in-Ok.ensures.grid
