@@ -42,6 +42,14 @@ gathered_from f (z ∷ l) y h =
       | inr k ↦ (let t = gathered_from f l y k in (t.0, inr t.1, t.2))
     ]
 
+pub joined_from : {A : Type 0} (ls : List (List A)) (x : A) → Has x (joined ls) → (l : List A) × Has l ls × Has x l
+joined_from [] x h = absurd h
+joined_from (k ∷ ls) x h =
+    elim (Has-append x k (joined ls) h) [
+      | inl i ↦ (k, inl refl, i)
+      | inr i ↦ (let t = joined_from ls x i in (t.0, inr t.1, t.2))
+    ]
+
 pub Has-joined : {A : Type 0} (ls : List (List A)) (l : List A) (x : A) → Has l ls → Has x l → Has x (joined ls)
 Has-joined [] l x h k = absurd h
 Has-joined (m ∷ ls) l x (inl h) k = Has-append_left x m (joined ls) (subst (λ w. Has x w) h k)

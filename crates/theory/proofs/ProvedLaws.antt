@@ -22,12 +22,13 @@ use Rattle.theory.proofs.Rotations.{least_second, ring_list_rotated, rotation_ba
 use Rattle.theory.proofs.SegmentsOnce.{segments_once, sorted_pieces_are_arcs}
 use Rattle.theory.proofs.Stitching.{beside_stitched, stitched_beside}
 use Rattle.theory.proofs.TopologyExists.{topology_exists}
+use Rattle.theory.proofs.UsersOfArcs.{share, users}
 use Rattle.theory.proofs.VisitedAgain.{Trail-turn, ring_turn}
 use Rattle.theory.proofs.WalksExist.{walks_exist}
 use Rattle.theory.proofs.WalksFindAll.{walks_find_all}
 use Rattle.theory.specs.Chain.{Free}
 use Rattle.theory.specs.Geometry.{AtMost, Geometry, IsChainOf, IsLineOf, IsRingOf, JunctionOf}
-use Rattle.theory.specs.Laws.{IsOrder, OneChainThroughASegment, NoSegmentTwice, NotItsReverse, ReverseIsAChain, CoveringChainsAreAll, OneListOfChains, WalksFindAllChains, WalksEnd, MapIsANetwork, JunctionBySegments, VisitedAgainIsAJunction, OthersOnTwoSegments, PiecesOfALine, PiecesOfARing, PiecesCover, OneFreeLoop, RingFromAnyPlace, LeastSecondVertex, PiecesAreTheArcs, ArcsOfAMap, SegmentsOnce, OneListOfNumbers, OneListOfARing, RingBeginsAtLeastStart, OneTopology, TopologyOfAMap, JunctionsOnlyGrow, OneListOfPieces, ArcsOfAUnionArePieces, PiecesInPlace, UnionKnownFromArcs, PiecesOfWhatIsLeft}
+use Rattle.theory.specs.Laws.{IsOrder, OneChainThroughASegment, NoSegmentTwice, NotItsReverse, ReverseIsAChain, CoveringChainsAreAll, OneListOfChains, WalksFindAllChains, WalksEnd, MapIsANetwork, JunctionBySegments, VisitedAgainIsAJunction, OthersOnTwoSegments, PiecesOfALine, PiecesOfARing, PiecesCover, OneFreeLoop, RingFromAnyPlace, LeastSecondVertex, PiecesAreTheArcs, ArcsOfAMap, SegmentsOnce, OneListOfNumbers, OneListOfARing, RingBeginsAtLeastStart, OneTopology, TopologyOfAMap, UsersOfAnArc, SharedSegmentIsASharedArc, JunctionsOnlyGrow, OneListOfPieces, ArcsOfAUnionArePieces, PiecesInPlace, UnionKnownFromArcs, PiecesOfWhatIsLeft}
 use Rattle.theory.specs.LinesAndRings.{IsRotation, closed}
 use Rattle.theory.specs.Lists.{Each, Has}
 use Rattle.theory.specs.Network.{IsChainIn, IsStop, Joins, network_of}
@@ -175,6 +176,12 @@ one_topology cmp box_of on m o s = topology_unique cmp o.total o.same (same_vert
 
 pub topology_of_a_map : {V I G B : Type 0} → TopologyOfAMap V I G B
 topology_of_a_map cmp box_of on m o s = topology_exists cmp o.total o.same (same_vertices cmp o) box_of on m s
+
+pub users_of_an_arc : {V : Type 0} → UsersOfAnArc V
+users_of_an_arc cmp g o s arcs all f h form rings = users cmp o.total o.same (same_vertices cmp o) g s arcs all f h form rings
+
+pub shared_segment_is_a_shared_arc : {V : Type 0} → SharedSegmentIsASharedArc V
+shared_segment_is_a_shared_arc cmp g o s arcs all = share cmp o.total o.same (same_vertices cmp o) g s arcs all
 
 pub junctions_only_grow : {V : Type 0} → JunctionsOnlyGrow V
 junctions_only_grow g u part = junction_map (IsLineOf g) (IsRingOf g) (IsLineOf u) (IsRingOf u) part.lines part.rings

@@ -15,8 +15,9 @@ use Rattle.theory.specs.Refinement.{IsPartOf, IsUnionOf, IsRefinementOf, Refinem
 use Rattle.theory.specs.Seam.{Any, IsLeastOf, IsTurned}
 use Rattle.theory.specs.Segments.{OnThree, TwoSegments}
 use Rattle.theory.specs.Stitching.{Stitched, ArePiecesOf, AreRingPiecesOf, HaveAllPieces}
-use Rattle.theory.specs.Topology.{Map, Topology, IsRingList, IsTopologyOf, geometry_of}
+use Rattle.theory.specs.Topology.{Body, IsFormOf, IsRingList, IsTopologyOf, Map, Shape, Topology, geometry_of, rings_in}
 use Rattle.theory.specs.TopologyFunction.{is_junction, line_cut, ring_cut, arcs_of, topology_of}
+use Rattle.theory.specs.Users.{HasSegment, ShareArc, ShareSegment, UsesArc}
 use Rattle.theory.specs.Walking.{Found, StopsCovered}
 
 -- the comparison of vertices is a total order in which equal means the same
@@ -190,6 +191,24 @@ abbrev pub TopologyOfAMap : Type 0 → Type 0 → Type 0 → Type 0 → Type 0
 TopologyOfAMap V I G B =
     (cmp : V → V → Ordering) (box_of : G → List V → Option B) (on : G) (m : Map I V) → IsOrder cmp → IsSound (geometry_of m) →
     IsTopologyOf cmp box_of on m (topology_of cmp box_of on m)
+
+-- the features that have a segment are those whose geometries use its arc
+abbrev pub UsersOfAnArc : Type 0 → Type 0
+UsersOfAnArc V =
+    (cmp : V → V → Ordering) (g : Geometry V) → IsOrder cmp → IsSound g → (arcs : List (List V)) → AreArcsOf cmp g arcs →
+    (f : Shape V) (h : Body V) → IsFormOf (λ l used. StitchTo arcs used l) (IsRingList cmp (JunctionOf g) arcs) f h →
+    ((r : List V) → Has r (rings_in f) → IsRingOf g r) →
+    (k : ℕ) (c : List V) (u v : V) → slice_get arcs k ≡ Some c → Beside u v c → HasSegment u v f ↔ UsesArc k h
+
+-- two features of a map share a segment exactly where their geometries share an arc
+abbrev pub SharedSegmentIsASharedArc : Type 0 → Type 0
+SharedSegmentIsASharedArc V =
+    (cmp : V → V → Ordering) (g : Geometry V) → IsOrder cmp → IsSound g → (arcs : List (List V)) → AreArcsOf cmp g arcs →
+    (f f' : Shape V) (h h' : Body V) →
+    IsFormOf (λ l used. StitchTo arcs used l) (IsRingList cmp (JunctionOf g) arcs) f h →
+    IsFormOf (λ l used. StitchTo arcs used l) (IsRingList cmp (JunctionOf g) arcs) f' h' →
+    ((r : List V) → Has r (rings_in f) → IsRingOf g r) → ((r : List V) → Has r (rings_in f') → IsRingOf g r) →
+    ((u v : V) → HasSegment u v f → SegmentOf g u v) → ShareSegment f f' ↔ ShareArc h h'
 
 -- Refinement: a map g whose lines and rings are among those of u, and the union u of two maps m and n.
 

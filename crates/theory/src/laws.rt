@@ -143,6 +143,16 @@ pub fn topology_of_a_map<V, I, G, B>()
     ensures { law.TopologyOfAMap V I G B }
 {}
 
+/// The features that have a segment are those whose geometries use its arc.
+pub fn users_of_an_arc<V>()
+    ensures { law.UsersOfAnArc V }
+{}
+
+/// Two features of a map share a segment exactly where their geometries share an arc.
+pub fn shared_segment_is_a_shared_arc<V>()
+    ensures { law.SharedSegmentIsASharedArc V }
+{}
+
 /// Junctions only grow.
 pub fn junctions_only_grow<V>()
     ensures { law.JunctionsOnlyGrow V }
