@@ -21,7 +21,7 @@ not_same : (b : Bool) → ¬ (b ≡ not b)
 not_same true e = absurd cc
 not_same false e = absurd cc
 
--- pieces used once don't begin as they do backwards
+-- pieces used once do not begin as they do backwards
 one_way : (ps : List ArcRef) (X Y : List ArcRef) → UsesOnce ps → (p : ArcRef) × (q : List ArcRef) × (ps ≡ p ∷ q) → ¬ (ps ++ X ≡ backwards ps ++ Y)
 one_way [] X Y o (p, q, n) e = absurd cc
 one_way (a ∷ ps) X Y o (p, q, n) e =

@@ -50,7 +50,7 @@ beside_far : {V : Type 0} (a b x y : V) (q s : List V) → a ≡ x → b ≡ y �
 beside_far a b x y q s e f (inl k) = inl (steps_far x y y q s (subst (λ w. Steps w y (last_of y q ∷ s)) e (subst (λ w. Steps a w (last_of y q ∷ s)) f k)))
 beside_far a b x y q s e f (inr k) = inr (steps_far y x y q s (subst (λ w. Steps w x (last_of y q ∷ s)) f (subst (λ w. Steps b w (last_of y q ∷ s)) e k)))
 
--- what stands on the one side of a parting doesn't on the other
+-- what stands on the one side of a parting does not on the other
 steps_parts : {V : Type 0} (a b x : V) (q s : List V) → Trail (x ∷ (q ++ s)) → Steps a b (x ∷ q) → ¬ Beside a b (last_of x q ∷ s)
 steps_parts a b x [] s t (inl h) k = h.1
 steps_parts a b x [] s t (inr h) k = h

@@ -57,7 +57,7 @@ Trail-apart u v [] t h e = h
 Trail-apart u v (x ∷ l) t (inl h) e = (t.0 v h.1).0 (sym h.0 ∙ e)
 Trail-apart u v (x ∷ l) t (inr h) e = Trail-apart u v l t.1 h e
 
--- a ring doesn't turn back
+-- a ring does not turn back
 pub ring_turn : {V : Type 0} (r : List V) → IsRing r → NoTurnBack (around r)
 ring_turn [] g a v b h e = h
 ring_turn (x ∷ []) g a v b h e = h

@@ -2,7 +2,7 @@
 use Rattle.std.specs.Prelude.{Bool, cond, List, [], ◌∷◌, ◌++◌}
 use Rattle.theory.specs.Lists.{NoTurnBack, Steps, Twice}
 
--- the list runs along segments, doesn't turn back, and where it comes again to a vertex there is a stop
+-- the list runs along segments, does not turn back, and where it comes again to a vertex there is a stop
 pub record Course {V : Type 0} (S : V → V → Type 0) (J : V → Type 0) (l : List V) : Type 0 where
   pub along : (u v : V) → Steps u v l → S u v
   pub no_turn : NoTurnBack l

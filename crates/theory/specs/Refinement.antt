@@ -66,7 +66,7 @@ arc_cut cmp old stop c = cond (some old c) (line_cut stop c) (ring_cut cmp stop 
 abbrev pub recut : {V : Type 0} → (V → V → Ordering) → Geometry V → Geometry V → List (List V) → List (List V) → List (List ArcRef)
 recut cmp g u arcs table = map (λ c. map (ref_of cmp table) (arc_cut cmp (is_junction cmp g) (is_junction cmp u) c)) arcs
 
--- what follows
+-- what follows from a refinement
 pub record RefinementLaws {V : Type 0} (cmp : V → V → Ordering) (g u : Geometry V) (arcs table : List (List V)) (pieces : List (List ArcRef)) : Type 0 where
   -- an arc of u that has a segment of g is a piece of an arc of g, and all its segments are those of that arc
   pub home : (k : ℕ) (d : List V) (a b : V) → slice_get table k ≡ Some d → Beside a b d → SegmentOf g a b →
@@ -91,7 +91,7 @@ OpenArc g arcs l = Has l arcs × (¬ Free (JunctionOf g) l)
 abbrev pub LoopArc : {V : Type 0} → Geometry V → List (List V) → List V → Type 0
 LoopArc g arcs r = Has (closed r) arcs × Free (JunctionOf g) (closed r)
 
--- a has the arcs of m and of n that aren't free as its lines, and the free loops as its rings
+-- a has the arcs of m and of n that are not free as its lines, and the free loops as its rings
 pub record AreArcsAsMap {V : Type 0} (m n : Geometry V) (ms ns : List (List V)) (a : Geometry V) : Type 0 where
   pub lines : (l : List V) → IsLineOf a l → OpenArc m ms l ⊎ OpenArc n ns l
   pub rings : (r : List V) → IsRingOf a r → LoopArc m ms r ⊎ LoopArc n ns r
