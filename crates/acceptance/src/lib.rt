@@ -5,6 +5,8 @@
 #[cfg(test)]
 mod build_rows;
 #[cfg(test)]
+mod depth;
+#[cfg(test)]
 mod feature_order;
 #[cfg(test)]
 mod geojson_refusals;
@@ -13,4 +15,20 @@ mod harness;
 #[cfg(test)]
 mod hostile_geojson;
 #[cfg(test)]
+mod hostile_topologies;
+#[cfg(test)]
 mod inputs;
+#[cfg(test)]
+mod merge_calls;
+#[cfg(test)]
+mod merge_rows;
+#[cfg(test)]
+mod query_rows;
+#[cfg(test)]
+mod topology_refusals;
+#[cfg(test)]
+mod topology_texts;
+#[cfg(test)]
+mod usage;
+#[cfg(test)]
+mod writers;

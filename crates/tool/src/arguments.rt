@@ -56,6 +56,42 @@ fn build<'a>(alloc: Global) -> Result<Command<'a>, AllocError> {
     )
 }
 
+fn merge<'a>(alloc: Global) -> Result<Command<'a>, AllocError> {
+    let shape = Arg::new(alloc, "shape")
+        .long("shape")
+        .value_name("SHAPE")
+        .value_parser(["left", "right", "halves"].as_slice())
+        .default_value("left")
+        .action(ArgAction::Set)
+        .help("How the files are grouped: ((0,1),2), (0,(1,2)) or by halves");
+    let files = Arg::new(alloc, "FILE")
+        .required(true)
+        .num_args(1..)
+        .action(ArgAction::Append)
+        .help("Topologies, all with the same transform");
+    Ok(
+        Command::new(alloc, "merge")
+            .about("Merges topologies and prints the topology of all their features")
+            .after_help(
+                "The printed bytes depend on the features alone: not on the order of the files,\n\
+                 their grouping, or repeats.\n\n\
+                 Example: topotool merge east.topo.json west.topo.json",
+            )
+            .arg(shape)?
+            .arg(files)?,
+    )
+}
+
+fn feature<'a>(alloc: Global) -> Result<Command<'a>, AllocError> {
+    Ok(
+        Command::new(alloc, "feature")
+            .about("Prints a layer as a GeoJSON FeatureCollection")
+            .after_help("Example: topotool feature --layer districts country.topo.json")
+            .arg(layer(alloc, "The layer to print").required(true))?
+            .arg(file(alloc))?,
+    )
+}
+
 fn mesh<'a>(alloc: Global) -> Result<Command<'a>, AllocError> {
     let edges = Arg::new(alloc, "edges")
         .long("edges")
@@ -112,6 +148,8 @@ fn topotool<'a>(alloc: Global) -> Result<Command<'a>, AllocError> {
             .arg_required_else_help(true)
             .subcommand(build(alloc)?)?
             .subcommand(check(alloc)?)?
+            .subcommand(merge(alloc)?)?
+            .subcommand(feature(alloc)?)?
             .subcommand(mesh(alloc)?)?
             .subcommand(neighbors(alloc)?)?,
     )

@@ -2,7 +2,8 @@
 use crate::arguments::parse;
 use crate::building::run_build;
 use crate::files::Files;
-use crate::queries::{run_check, run_mesh, run_neighbors};
+use crate::merging::run_merge;
+use crate::queries::{run_check, run_feature, run_mesh, run_neighbors};
 use crate::refusal::Refusal;
 use clap::error::ErrorKind;
 use clap::{ArgMatches, Error};
@@ -39,6 +40,8 @@ fn perform<'a, F: Files, O: Sink>(
     match matches.subcommand() {
         Some(("build", found)) => run_build(alloc, found, files, out),
         Some(("check", found)) => run_check(alloc, found, files, out),
+        Some(("merge", found)) => run_merge(alloc, found, files, out),
+        Some(("feature", found)) => run_feature(alloc, found, files, out),
         Some(("mesh", found)) => run_mesh(alloc, found, files, out),
         Some(("neighbors", found)) => run_neighbors(alloc, found, files, out),
         _ => Ok(2),

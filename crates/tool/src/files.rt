@@ -30,6 +30,19 @@ pub(crate) fn read_named<'a, F: Files>(
     }
 }
 
+/// The bytes of all files, read in order.
+pub(crate) fn read_all<'a, F: Files>(
+    alloc: Global,
+    files: &mut F,
+    names: &[&'a str],
+) -> Result<Vec<Vec<u8>>, Refusal<'a>> {
+    let mut texts = Vec::new(alloc);
+    for name in names {
+        texts.push(read_named(alloc, files, *name)?)?;
+    }
+    Ok(texts)
+}
+
 /// The name at a place of a list, empty past its end.
 pub(crate) fn name_at<'a>(names: &[&'a str], place: usize) -> &'a str {
     names.get(place).copied().unwrap_or("")

@@ -4,9 +4,8 @@ use crate::files::{Files, read_named};
 use crate::refusal::Refusal;
 use chains::ArcTable;
 use clap::ArgMatches;
-use faults::{Fault, FaultKind};
 use grid::Grid;
-use query::{QueryFault, mesh, neighbors};
+use query::{QueryFault, feature, mesh, neighbors};
 use shapes::{Feature, FeatureMap};
 use sinks::{Sink, put};
 use std::alloc::Global;
@@ -21,7 +20,7 @@ pub(crate) fn run_check<'a, F: Files, O: Sink>(
 ) -> Result<u8, Refusal<'a>> {
     let file = word(found, "FILE");
     let text = read_named(alloc, files, file)?;
-    match is_canonical(alloc, text.as_slice()) {
+    match topo_io::is_canonical(alloc, text.as_slice()) {
         Ok(true) => {
             put(out, b"canonical\n")?;
             Ok(0)
@@ -34,12 +33,21 @@ pub(crate) fn run_check<'a, F: Files, O: Sink>(
     }
 }
 
-/// Whether a topology's text is the canonical text of what it means.
-fn is_canonical(alloc: Global, text: &[u8]) -> Result<bool, Fault> {
-    let (grid, map) = topo_io::read(alloc, text)?;
-    match Topology::build(alloc, &grid, &map) {
-        Ok(topology) => Ok(topo_io::is_text_of(&topology, text)),
-        Err(_) => Err(Fault::here(alloc, FaultKind::OutOfMemory)),
+/// Prints a layer as GeoJSON.
+pub(crate) fn run_feature<'a, F: Files, O: Sink>(
+    alloc: Global,
+    found: &ArgMatches<'a>,
+    files: &mut F,
+    out: &mut O,
+) -> Result<u8, Refusal<'a>> {
+    let layer = word(found, "layer");
+    let topology = read_topology(alloc, files, word(found, "FILE"))?;
+    match feature(alloc, &topology, layer) {
+        Ok(features) => {
+            geojson_io::write(&topology.grid(), features.iter(), out)?;
+            Ok(0)
+        }
+        Err(fault) => Err(refused(layer, fault)),
     }
 }
 
