@@ -2,7 +2,7 @@
 #![tactic(auto)]
 
 pub mod reader;
-pub mod write;
+pub mod writer;
 
 pub use reader::read;
-pub use write::write;
+pub use writer::write;

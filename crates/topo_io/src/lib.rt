@@ -3,8 +3,8 @@
 
 pub mod reader;
 pub mod same;
-pub mod write;
+pub mod writer;
 
 pub use reader::read;
 pub use same::{is_canonical, is_text_of};
-pub use write::write;
+pub use writer::write;

@@ -8,7 +8,7 @@ ghost use Rattle.topo_io.specs.TopologyText.{topology_text};
 ghost use Rattle.topo_io.specs.Front.{taken, is_next, may_have_failed, IsCommon};
 
 use crate::read;
-use crate::write::Canonical;
+use crate::writer::Canonical;
 use faults::{Fault, FaultKind, OutOfMemory};
 use sinks::{Refused, Sink, WriteFault};
 use sinks::written::Written;
