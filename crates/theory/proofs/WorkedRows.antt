@@ -8,13 +8,13 @@ use Rattle.theory.specs.ArcNumbers.{ArcRef, index_of}
 use Rattle.theory.specs.Topology.{line, polygon, Shape, Body, Item, Map, Topology, geometry_of}
 use Rattle.theory.specs.TopologyFunction.{is_junction, topology_of}
 
-abbrev Position : Type 0
+abbrev pub Position : Type 0
 Position = ℤ × ℤ
 
-abbrev by_position : Position → Position → Ordering
+abbrev pub by_position : Position → Position → Ordering
 by_position p q = ordering_then (int_cmp p.0 q.0) (int_cmp p.1 q.1)
 
-abbrev p : ℕ → ℕ → Position
+abbrev pub p : ℕ → ℕ → Position
 p x y = (pos x, pos y)
 
 abbrev feature : Shape Position → Item ℕ (Shape Position)
@@ -65,7 +65,7 @@ shared_edge :
     (polygon ((ahead 1 ∷ reversed 0 ∷ []) ∷ []) ∷ polygon ((ahead 2 ∷ reversed 1 ∷ []) ∷ []) ∷ [])
 shared_edge = refl
 
-abbrev triangle : List Position
+abbrev pub triangle : List Position
 triangle = p 0 0 ∷ p 2 0 ∷ p 0 2 ∷ []
 
 -- free loop, used reversed
