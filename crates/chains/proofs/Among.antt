@@ -1,11 +1,14 @@
 -- Whether a position is one of the keys.
-use Rattle.std.proofs.Common.{◌≡◌, Bool, true, false, ◌||◌, List, [], ◌∷◌, inl, inr, refl, sym, ◌∙◌, subst, ◌↔◌, IsTrue}
+use Rattle.std.proofs.Common.{◌≡◌, Bool, true, false, ◌||◌, List, [], ◌∷◌, inl, inr, refl, sym, ◌∙◌, subst, ◌↔◌, ◌⊎◌, IsTrue}
 use Rattle.theory.specs.Lists.{Has}
 use Rattle.grid.specs.declared.pos.Pos.{Pos}
-use Rattle.theory.specs.Geometry.{Geometry, JunctionOf}
-use Rattle.chains.specs.Index.{IsIndexOf}
+use Rattle.theory.specs.Geometry.{Geometry, IsSound, SegmentOf, JunctionOf}
+use Rattle.theory.specs.Segments.{OnThree}
+use Rattle.theory.proofs.ProvedLaws.{junction_by_segments}
+use Rattle.chains.specs.Index.{IsIndexOf, EndsALine}
 use Rattle.chains.specs.Pairs.{Tells, position_eq, among}
-use Rattle.chains.proofs.Equality.{position_true, position_refl}
+use Rattle.chains.proofs.Equality.{position_true, position_refl, position_total, position_same}
+use Rattle.lines.specs.Turned.{position_cmp}
 
 pub among_has : (keys : List Pos) (v : Pos) → among keys v ≡ true → Has v keys
 among_has [] v e = absurd cc
@@ -39,3 +42,13 @@ is_known js v b e g i = (
   (λ h. i.only v (among_has js v (sym e ∙ h))),
   (λ j. e ∙ has_among js v (i.all v j)),
 )
+
+-- the same by the segments of the map
+pub is_known_by_segments : (js : List Pos) (v : Pos) (b : Bool) → b ≡ among js v → (g : Geometry Pos) → IsSound g → IsIndexOf js g →
+    IsTrue b ↔ (EndsALine g v ⊎ OnThree (SegmentOf g) v)
+is_known_by_segments js v b e g s i =
+    let k = is_known js v b e g i in
+    let law = junction_by_segments position_cmp g (record { total = position_total; same = position_same }) s v in (
+      (λ h. law.0 (k.0 h)),
+      (λ h. k.1 (law.1 h)),
+    )

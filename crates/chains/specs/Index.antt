@@ -1,6 +1,6 @@
 -- The index of a map's junctions.
 use Rattle.std.specs.Prelude.{◌≡◌, ℕ, List, [], ◌∷◌, ◌++◌}
-use Rattle.theory.specs.Lists.{Has, gathered}
+use Rattle.theory.specs.Lists.{Has, EndOf, gathered}
 use Rattle.theory.specs.Topology.{Shape, lines_in, rings_in}
 use Rattle.theory.specs.Junction.{Visits}
 use Rattle.theory.specs.Junction.Visit.{end, pair}
@@ -17,6 +17,10 @@ use Rattle.chains.specs.declared.visits.Visit.{Visit}
 pub record IsIndexOf (junctions : List Pos) (g : Geometry Pos) : Type 0 where
   pub all : (v : Pos) → JunctionOf g v → Has v junctions
   pub only : (v : Pos) → Has v junctions → JunctionOf g v
+
+-- v is the first or the last vertex of a line
+abbrev pub EndsALine : Geometry Pos → Pos → Type 0
+EndsALine g v = (l : List Pos) × IsLineOf g l × EndOf v l
 
 -- the ends and the other visits of the lines and rings, and nothing else
 pub record AreVisitsOf (ends : List Pos) (visits : List Visit) (g : Geometry Pos) : Type 0 where

@@ -1,4 +1,4 @@
-use crate::{ArcTable, Piece, Segment, VisitIndex, cut_line, cut_ring, maximal};
+use crate::{ArcRef, ArcTable, Piece, Segment, VisitIndex, cut_line, cut_ring, maximal};
 use grid::pos::Pos;
 use shapes::{Feature, FeatureMap, Id, Items, Line, Props, Ring, Shape};
 use std::alloc::Global;
@@ -68,18 +68,18 @@ fn check(
     Ok(())
 }
 
-/// The indexes of pieces in a table.
-fn indexes(alloc: Global, table: &ArcTable, pieces: &[Piece]) -> Result<Vec<i64>, Fail> {
-    let mut made = Vec::new(alloc);
-    for piece in pieces {
-        let found = table.find(piece).ok_or("no arc")?;
-        made.push(if found.reversed {
-            -1 - found.arc as i64
-        } else {
-            found.arc as i64
-        })?;
+/// Compares the used arcs of pieces with TopoJSON's indexes.
+fn check_used(
+    rt: &impl Abort,
+    table: &ArcTable,
+    pieces: &[Piece],
+    indexes: &[i64],
+) -> Result<(), Fail> {
+    assert_eq!(rt; pieces.len(), indexes.len());
+    for (piece, index) in pieces.iter().zip(indexes) {
+        assert_eq!(rt; table.find(piece), Some(ArcRef::from_index(*index)));
     }
-    Ok(made)
+    Ok(())
 }
 
 /// The pieces of all these lines and rings of a map.
@@ -159,14 +159,18 @@ fn squares_that_touch(rt: HostRuntime) -> Result<(), Fail> {
     check(&rt, alloc, &table, arcs)?;
     check(&rt, alloc, &table.copy(alloc)?, arcs)?;
     assert!(rt; !table.is_free(0) && !table.is_free(1));
-    assert_eq!(rt;
-        indexes(alloc, &table, &all_pieces(alloc, &index, &[], &[first])?)?.as_slice(),
-        [0].as_slice()
-    );
-    assert_eq!(rt;
-        indexes(alloc, &table, &all_pieces(alloc, &index, &[], &[second])?)?.as_slice(),
-        [-2].as_slice()
-    );
+    check_used(
+        &rt,
+        &table,
+        &all_pieces(alloc, &index, &[], &[first])?,
+        &[0],
+    )?;
+    check_used(
+        &rt,
+        &table,
+        &all_pieces(alloc, &index, &[], &[second])?,
+        &[-2],
+    )?;
     Ok(())
 }
 
@@ -181,9 +185,12 @@ fn a_ring_that_comes_to_a_vertex_again(rt: HostRuntime) -> Result<(), Fail> {
         &[(1, 1), (0, 2), (2, 2), (1, 1)],
     ];
     check(&rt, alloc, &table, arcs)?;
-    let used = indexes(alloc, &table, &all_pieces(alloc, &index, &[], &[eight])?)?;
-    assert_eq!(rt; used.as_slice(), [0, 1].as_slice());
-    Ok(())
+    check_used(
+        &rt,
+        &table,
+        &all_pieces(alloc, &index, &[], &[eight])?,
+        &[0, 1],
+    )
 }
 
 #[test]
@@ -198,9 +205,12 @@ fn a_line_that_comes_to_a_vertex_again(rt: HostRuntime) -> Result<(), Fail> {
         &[(1, 1), (2, 0), (2, 2), (1, 1)],
     ];
     check(&rt, alloc, &table, arcs)?;
-    let used = indexes(alloc, &table, &all_pieces(alloc, &index, &[crossing], &[])?)?;
-    assert_eq!(rt; used.as_slice(), [0, -3, -2].as_slice());
-    Ok(())
+    check_used(
+        &rt,
+        &table,
+        &all_pieces(alloc, &index, &[crossing], &[])?,
+        &[0, -3, -2],
+    )
 }
 
 #[test]
@@ -231,4 +241,12 @@ fn maximal_chains_of_two_segments(rt: HostRuntime) -> Result<(), Fail> {
     }
     let table = maximal(alloc, &segments, &stops)?;
     check(&rt, alloc, &table, &[&[(0, 0), (1, 0)], &[(1, 0), (2, 0)]])
+}
+
+#[test]
+fn indexes_of_used_arcs(rt: HostRuntime) {
+    for (arc, reversed, index) in [(0, false, 0), (0, true, -1), (1, true, -2), (7, false, 7)] {
+        assert_eq!(rt; ArcRef { arc, reversed }.index(), index);
+        assert_eq!(rt; ArcRef::from_index(index), ArcRef { arc, reversed });
+    }
 }

@@ -1,12 +1,13 @@
 //! The index of visits: one list of visits, sorted once, of which the junctions are kept.
-ghost use Rattle.std.specs.Prelude.{◌≡◌, ◌++◌, ◌↔◌, map as map_list, IfOk, OnOk, IsTrue};
-ghost use Rattle.theory.specs.Geometry.{Geometry, JunctionOf};
+ghost use Rattle.std.specs.Prelude.{◌≡◌, ◌++◌, ◌↔◌, ◌⊎◌, map as map_list, IfOk, OnOk, IsTrue};
+ghost use Rattle.theory.specs.Geometry.{Geometry, IsSound, JunctionOf, SegmentOf};
+ghost use Rattle.theory.specs.Segments.{OnThree};
 ghost use Rattle.theory.specs.Lists.{gathered, joined};
 ghost use Rattle.grid.specs.declared.pos.Pos.{Pos};
 ghost use Rattle.chains.specs.Pairs.{among, pair_of};
 ghost use Rattle.chains.specs.Visits.{visit_of, inner_of, ends_of, around_of, clash, clashes_of};
 ghost use Rattle.chains.specs.Seen.{line_of, ring_of, form_of, geometry_of};
-ghost use Rattle.chains.specs.Index.{IsIndexOf, AreVisitsOf, feature_ends, feature_visits, form_ends, form_visits, layer_ends, layer_visits};
+ghost use Rattle.chains.specs.Index.{IsIndexOf, EndsALine, AreVisitsOf, feature_ends, feature_visits, form_ends, form_visits, layer_ends, layer_visits};
 ghost use Rattle.shapes.specs.Maps.{set_of};
 ghost use Rattle.shapes.specs.Parts.{spelled_text};
 ghost use Rattle.shapes.specs.Sets as set;
@@ -265,6 +266,7 @@ impl VisitIndex {
     pub fn is_junction(&self, p: Pos) -> bool
         ensures among { result ≡ among self.now p }
         ensures junction { (g : Geometry Pos) → IsIndexOf self.now g → IsTrue result ↔ JunctionOf g p }
+        ensures by_segments { (g : Geometry Pos) → IsSound g → IsIndexOf self.now g → IsTrue result ↔ (EndsALine g p ⊎ OnThree (SegmentOf g) p) }
     {
         self.junctions.binary_search(&p).is_ok()
     }
