@@ -1,0 +1,6 @@
+pub mod Walks
+pub mod Boxes
+pub mod Positions
+pub mod Sound
+pub mod OfParts
+pub mod ArcsLeft

@@ -1,4 +1,11 @@
 //! The box around positions.
+ghost use Rattle.std.specs.Prelude.{◌≡◌, Some, None, ◌++◌, map as map_list};
+ghost use Rattle.std.specs.Int.{int_min, int_max};
+ghost use Rattle.theory.specs.Lists.{gathered, joined};
+ghost use Rattle.topo.specs.Box as spec;
+ghost use Rattle.topo.specs.Box.{widened_at, box_from};
+ghost use Rattle.topo.specs.Points.{arc_at, body_points, geometry_points, layer_points};
+
 use crate::geom::{Body, Geom};
 use crate::topology::Layer;
 use chains::table::ArcTable;
@@ -7,48 +14,105 @@ use grid::{Grid, Pos};
 /// Least x, least y, greatest x and greatest y, in absolute numbers.
 type Corners = (i64, i64, i64, i64);
 
-fn widened(grid: &Grid, corners: Option<Corners>, p: Pos) -> Corners {
-    let (x, y) = grid.to_absolute(p);
+fn west(corners: Corners, x: i64) -> i64
+    ensures { result ≡ int_min corners.0 x }
+{
+    corners.0.min(x)
+}
+
+fn south(corners: Corners, y: i64) -> i64
+    ensures { result ≡ int_min corners.1 y }
+{
+    corners.1.min(y)
+}
+
+fn east(corners: Corners, x: i64) -> i64
+    ensures { result ≡ int_max corners.2 x }
+{
+    corners.2.max(x)
+}
+
+fn north(corners: Corners, y: i64) -> i64
+    ensures { result ≡ int_max corners.3 y }
+{
+    corners.3.max(y)
+}
+
+fn wider(corners: Corners, x: i64, y: i64) -> Corners
+    ensures { result ≡ widened_at (Some corners) (x, y) }
+{
+    (west(corners, x), south(corners, y), east(corners, x), north(corners, y))
+}
+
+fn widened(corners: Option<Corners>, x: i64, y: i64) -> Corners
+    ensures { result ≡ widened_at corners (x, y) }
+{
     match corners {
         None => (x, y, x, y),
-        Some((west, south, east, north)) => (west.min(x), south.min(y), east.max(x), north.max(y)),
+        Some(corners) => wider(corners, x, y),
     }
 }
 
-fn around(grid: &Grid, mut corners: Option<Corners>, positions: &[Pos]) -> Option<Corners> {
+fn widened_by(grid: &Grid, corners: Option<Corners>, p: Pos) -> Corners
+    ensures { result ≡ spec.widened grid.now corners p }
+{
+    let (x, y) = grid.to_absolute(p);
+    widened(corners, x, y)
+}
+
+fn around(grid: &Grid, mut corners: Option<Corners>, positions: &[Pos]) -> Option<Corners>
+    ensures { result ≡ box_from grid.now corners positions.now }
+{
     for p in positions {
-        corners = Some(widened(grid, corners, *p));
+        corners = Some(widened_by(grid, corners, *p));
     }
     corners
 }
 
-fn around_arcs(grid: &Grid, mut corners: Option<Corners>, arcs: &ArcTable) -> Option<Corners> {
-    for i in 0..arcs.len() {
-        if let Some(arc) = arcs.arc(i) {
-            corners = around(grid, corners, arc);
-        }
+fn around_arc(grid: &Grid, corners: Option<Corners>, arcs: &ArcTable, number: usize) -> Option<Corners>
+    ensures { result ≡ box_from grid.now corners (arc_at arcs.now.arcs number) }
+{
+    match arcs.arc(number) {
+        Some(arc) => around(grid, corners, arc),
+        None => corners,
+    }
+}
+
+#[tactic(auto, using(crate::proofs::ArcsLeft::arcs_step))]
+fn around_arcs(grid: &Grid, arcs: &ArcTable) -> Option<Corners>
+    ensures { result ≡ box_from grid.now None (joined arcs.now.arcs) }
+{
+    let mut corners = None;
+    for number in 0..arcs.len() {
+        corners = around_arc(grid, corners, arcs, number);
     }
     corners
 }
 
-fn around_points(grid: &Grid, corners: Option<Corners>, body: &Body) -> Option<Corners> {
+fn around_body(grid: &Grid, corners: Option<Corners>, body: &Body) -> Option<Corners>
+    ensures { result ≡ box_from grid.now corners (body_points body.now) }
+{
     match body {
-        Body::Point(p) => Some(widened(grid, corners, *p)),
+        Body::Point(p) => Some(widened_by(grid, corners, *p)),
         Body::MultiPoint(ps) => around(grid, corners, ps.as_slice()),
         _ => corners,
     }
 }
 
-fn around_geometries(grid: &Grid, mut corners: Option<Corners>, geometries: &[Geom]) -> Option<Corners> {
+fn around_geometries(grid: &Grid, mut corners: Option<Corners>, geometries: &[Geom]) -> Option<Corners>
+    ensures { result ≡ box_from grid.now corners (gathered geometry_points geometries.now) }
+{
     for geometry in geometries {
-        corners = around_points(grid, corners, &geometry.body);
+        corners = around_body(grid, corners, &geometry.body);
     }
     corners
 }
 
 /// The box around the arcs and the points of the layers; None where there are none.
-pub(crate) fn bounds(grid: &Grid, arcs: &ArcTable, layers: &[Layer]) -> Option<Corners> {
-    let mut corners = around_arcs(grid, None, arcs);
+pub(crate) fn bounds(grid: &Grid, arcs: &ArcTable, layers: &[Layer]) -> Option<Corners>
+    ensures { result ≡ box_from grid.now None (joined arcs.now.arcs ++ gathered layer_points layers.now) }
+{
+    let mut corners = around_arcs(grid, arcs);
     for layer in layers {
         corners = around_geometries(grid, corners, layer.geometries());
     }

@@ -1,5 +1,11 @@
 //! A topology as a value.
-ghost use Rattle.std.specs.Prelude.{◌≡◌, IfOk};
+ghost use Rattle.std.specs.Prelude.{◌≡◌, IfOk, List, ◌++◌, Option, Some, None};
+ghost use Rattle.grid.specs.declared.pos.Pos.{Pos};
+ghost use Rattle.theory.specs.ArcNumbers.{StitchTo};
+ghost use Rattle.shapes.specs.Maps.{Layers};
+ghost use Rattle.shapes.specs.Parts.{spelled_text};
+ghost use Rattle.topo.specs.Walked.{walked};
+ghost use Rattle.topo.specs.OfMap.{ArePartsOf, IsOf, IsOfSomeMap, IsTopology, seen_parts, the_topology};
 
 use crate::bounds::bounds;
 use crate::geom::Geom;
@@ -10,6 +16,7 @@ use grid::Grid;
 use lines::items::Items;
 use shapes::spelled::Spelled;
 use std::alloc::Global;
+use std::marker::Model;
 
 /// A layer of a topology: its name and its geometries, in the order of the features.
 #[derive(Drop)]
@@ -18,9 +25,19 @@ pub struct Layer {
     geometries: Items<Geom>,
 }
 
+impl Model for Layer {
+    ghost use Rattle.topo.specs.Parts.{LayerParts};
+
+    ghost Value = { LayerParts };
+
+    ghost view = { λ l. record { name = l.name; geometries = l.geometries } };
+}
+
 impl Layer {
     /// The layer of a name and its geometries.
-    pub fn new(name: Spelled, geometries: Vec<Geom>) -> Layer {
+    pub fn new(name: Spelled, geometries: Vec<Geom>) -> Layer
+        ensures { result ≡ record { name = name; geometries = geometries.items } }
+    {
         Layer {
             name,
             geometries: Items::from_vec(geometries),
@@ -28,23 +45,47 @@ impl Layer {
     }
 
     /// The layer's name.
-    pub fn name(&self) -> &Spelled {
+    pub fn name(&self) -> &Spelled
+        ensures { result.now ≡ self.now.name }
+    {
         &self.name
     }
 
     /// The layer's geometries, in the order of the features.
-    pub fn geometries(&self) -> &[Geom] {
+    pub fn geometries(&self) -> &[Geom]
+        ensures { result.now ≡ self.now.geometries }
+    {
         self.geometries.as_slice()
     }
 
     /// An equal layer.
-    pub fn copy(&self, alloc: Global) -> Result<Layer, OutOfMemory> {
-        let mut geometries = Vec::with_capacity(alloc, self.geometries().len())?;
-        for geometry in self.geometries() {
-            geometries.push(geometry.copy(alloc)?)?;
-        }
-        Ok(Layer::new(self.name.copy(alloc)?, geometries))
+    pub fn copy(&self, alloc: Global) -> Result<Layer, OutOfMemory>
+        ensures { IfOk result (λ l. l ≡ self.now) }
+    {
+        let name = self.name.copy(alloc)?;
+        let geometries = copy_geometries(alloc, self.geometries())?;
+        Ok(Layer::new(name, geometries))
     }
+}
+
+fn copy_geometries(alloc: Global, geometries: &[Geom]) -> Result<Vec<Geom>, OutOfMemory>
+    ensures { IfOk result (λ v. v.items ≡ geometries.now) }
+{
+    let mut copies = Vec::with_capacity(alloc, geometries.len())?;
+    for geometry in geometries {
+        copies.push(geometry.copy(alloc)?)?;
+    }
+    Ok(copies)
+}
+
+fn copy_layers(alloc: Global, layers: &[Layer]) -> Result<Vec<Layer>, OutOfMemory>
+    ensures { IfOk result (λ v. v.items ≡ layers.now) }
+{
+    let mut copies = Vec::with_capacity(alloc, layers.len())?;
+    for layer in layers {
+        copies.push(layer.copy(alloc)?)?;
+    }
+    Ok(copies)
 }
 
 /// A quantized topology (TopoJSON section 2.1): the grid, the arcs, and for each layer its
@@ -57,10 +98,28 @@ pub struct Topology {
     bbox: Option<(i64, i64, i64, i64)>,
 }
 
+impl Model for Topology {
+    ghost use Rattle.topo.specs.Parts.{TopologyParts};
+
+    ghost Value = { TopologyParts };
+
+    ghost use Rattle.topo.specs.Inside.{parts_inside, IsOfSomeMapInside};
+
+    ghost view = { parts_inside };
+
+    ghost invariant = { IsOfSomeMapInside };
+}
+
 impl Topology {
     /// The topology of its parts: those of one map on the grid. The layers stand in the byte order
     /// of their names.
-    pub fn from_parts(grid: Grid, arcs: ArcTable, layers: Vec<Layer>) -> Topology {
+    pub fn from_parts(grid: Grid, arcs: ArcTable, layers: Vec<Layer>) -> Topology
+        requires { (m : Layers) × ArePartsOf m arcs layers.items }
+        ensures grid { result.grid ≡ grid }
+        ensures arcs { result.arcs ≡ arcs }
+        ensures layers { result.layers ≡ layers.items }
+        ensures of_map { (m : Layers) → ArePartsOf m arcs layers.items → IsOf m result }
+    {
         let bbox = bounds(&grid, &arcs, &layers);
         Topology {
             grid,
@@ -71,17 +130,25 @@ impl Topology {
     }
 
     /// The grid.
-    pub fn grid(&self) -> Grid {
+    pub fn grid(&self) -> Grid
+        ensures { result ≡ self.now.grid }
+    {
         self.grid
     }
 
     /// The arcs, sorted.
-    pub fn arcs(&self) -> &ArcTable {
+    pub fn arcs(&self) -> &ArcTable
+        ensures arcs { result.now ≡ self.now.arcs }
+        ensures of_map { IsOfSomeMap self.now }
+    {
         &self.arcs
     }
 
     /// The layers, in the byte order of their names.
-    pub fn layers(&self) -> &[Layer] {
+    pub fn layers(&self) -> &[Layer]
+        ensures layers { result.now ≡ self.now.layers }
+        ensures of_map { IsOfSomeMap self.now }
+    {
         self.layers.as_slice()
     }
 
@@ -99,24 +166,29 @@ impl Topology {
 
     /// Least x, least y, greatest x and greatest y of all positions, in absolute numbers (TopoJSON
     /// section 3); None where no position is there.
-    pub fn bbox(&self) -> Option<(i64, i64, i64, i64)> {
+    pub fn bbox(&self) -> Option<(i64, i64, i64, i64)>
+        ensures { result ≡ self.now.bbox }
+    {
         self.bbox
     }
 
     /// The positions that a list of arcs stitches to, lent from the arcs.
-    pub fn walk<'a>(&'a self, refs: &'a [ArcRef]) -> Walk<'a> {
+    pub fn walk<'a>(&'a self, refs: &'a [ArcRef]) -> Walk<'a>
+        ensures walked { result ≡ walked self.now.arcs.arcs refs.now }
+        ensures stitched { (l : List Pos) → StitchTo self.now.arcs.arcs refs.now l → result ≡ l }
+    {
         Walk::over(&self.arcs, refs)
     }
 
     /// An equal topology.
-    pub fn copy(&self, alloc: Global) -> Result<Topology, OutOfMemory> {
-        let mut layers = Vec::with_capacity(alloc, self.layers().len())?;
-        for layer in self.layers() {
-            layers.push(layer.copy(alloc)?)?;
-        }
+    pub fn copy(&self, alloc: Global) -> Result<Topology, OutOfMemory>
+        ensures { IfOk result (λ t. t ≡ self.now) }
+    {
+        let layers = copy_layers(alloc, self.layers())?;
+        let arcs = self.arcs.copy(alloc)?;
         Ok(Topology {
             grid: self.grid,
-            arcs: self.arcs.copy(alloc)?,
+            arcs,
             layers: Items::from_vec(layers),
             bbox: self.bbox,
         })
