@@ -4,3 +4,5 @@ pub mod Positions
 pub mod Sound
 pub mod OfParts
 pub mod ArcsLeft
+pub mod Gathered
+pub mod Located

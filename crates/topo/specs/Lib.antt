@@ -5,3 +5,4 @@ pub mod Box
 pub mod OfMap
 pub mod Points
 pub mod Inside
+pub mod Building

@@ -1,6 +1,21 @@
 //! The topology of a map: all pieces are cut and put into the table of arcs, and each line and ring
 //! becomes the list of the arcs that its pieces are.
-use crate::geom::{Body, Geom};
+ghost use Rattle.std.specs.Prelude.{◌≡◌, ◌++◌, IfOk, OnOk, map as map_list};
+ghost use Rattle.grid.specs.declared.pos.Pos.{Pos};
+ghost use Rattle.lines.specs.Turned.{position_cmp};
+ghost use Rattle.shapes.specs.Maps.{set_of};
+ghost use Rattle.shapes.specs.Parts.{spelled_text};
+ghost use Rattle.shapes.specs.Sets as set;
+ghost use Rattle.chains.specs.Pieces.{line_pieces, ring_pieces};
+ghost use Rattle.chains.specs.Seen.{line_of, ring_of, form_of, geometry_of, seen};
+ghost use Rattle.chains.specs.Table.{located};
+ghost use Rattle.theory.specs.Arcs.{EachSegmentOnce};
+ghost use Rattle.theory.specs.Lists.{gathered, joined};
+ghost use Rattle.theory.specs.Topology.{forms_of};
+ghost use Rattle.topo.specs.Building.{form_pieces, feature_pieces, layer_pieces, line_used, ring_used, body_built, geometry_built, geometries_built, layer_built};
+ghost use Rattle.topo.specs.OfMap.{IsTopology, seen_parts, the_topology, IsOf};
+
+use crate::geom::{Body, Geom, copy_positions};
 use crate::topology::{Layer, Topology};
 use chains::cutting::{Piece, cut_line, cut_ring};
 use chains::table::{ArcRef, ArcTable};
@@ -17,73 +32,111 @@ use shapes::spelled::Spelled;
 use std::alloc::Global;
 use std::collections::BTreeSet;
 
-fn add_lines(alloc: Global, pieces: &mut Vec<Piece>, index: &VisitIndex, lines: &[Line]) -> Result<(), OutOfMemory> {
+fn add_line(alloc: Global, pieces: &mut Vec<Piece>, index: &VisitIndex, line: &Line) -> Result<(), OutOfMemory>
+    ensures { OnOk result (pieces.new.items ≡ pieces.old.items ++ line_pieces index.now (line_of line.now)) }
+{
+    let mut cut = cut_line(alloc, index, line)?;
+    pieces.append(&mut cut)?;
+    Ok(())
+}
+
+fn add_ring(alloc: Global, pieces: &mut Vec<Piece>, index: &VisitIndex, ring: &Ring) -> Result<(), OutOfMemory>
+    ensures { OnOk result (pieces.new.items ≡ pieces.old.items ++ ring_pieces index.now (ring_of ring.now)) }
+{
+    let mut cut = cut_ring(alloc, index, ring)?;
+    pieces.append(&mut cut)?;
+    Ok(())
+}
+
+fn add_lines(alloc: Global, pieces: &mut Vec<Piece>, index: &VisitIndex, lines: &[Line]) -> Result<(), OutOfMemory>
+    ensures { OnOk result (pieces.new.items ≡ pieces.old.items ++ gathered (line_pieces index.now) (map_list line_of lines.now)) }
+{
     for line in lines {
-        let mut cut = cut_line(alloc, index, line)?;
-        pieces.append(&mut cut)?;
+        add_line(alloc, pieces, index, line)?;
     }
     Ok(())
 }
 
-fn add_rings(alloc: Global, pieces: &mut Vec<Piece>, index: &VisitIndex, rings: &[Ring]) -> Result<(), OutOfMemory> {
+fn add_rings(alloc: Global, pieces: &mut Vec<Piece>, index: &VisitIndex, rings: &[Ring]) -> Result<(), OutOfMemory>
+    ensures { OnOk result (pieces.new.items ≡ pieces.old.items ++ gathered (ring_pieces index.now) (map_list ring_of rings.now)) }
+{
     for ring in rings {
-        let mut cut = cut_ring(alloc, index, ring)?;
-        pieces.append(&mut cut)?;
+        add_ring(alloc, pieces, index, ring)?;
     }
     Ok(())
 }
 
-fn add_polygons(alloc: Global, pieces: &mut Vec<Piece>, index: &VisitIndex, polygons: &[Items<Ring>]) -> Result<(), OutOfMemory> {
+#[tactic(auto, using(crate::proofs::Gathered::gathered_join))]
+fn add_polygons(alloc: Global, pieces: &mut Vec<Piece>, index: &VisitIndex, polygons: &[Items<Ring>]) -> Result<(), OutOfMemory>
+    ensures { OnOk result (pieces.new.items ≡ pieces.old.items ++ gathered (ring_pieces index.now) (joined (map_list (map_list ring_of) polygons.now))) }
+{
     for rings in polygons {
         add_rings(alloc, pieces, index, rings.as_slice())?;
     }
     Ok(())
 }
 
-fn add_shape(alloc: Global, pieces: &mut Vec<Piece>, index: &VisitIndex, shape: &Shape) -> Result<(), OutOfMemory> {
+fn add_shape(alloc: Global, pieces: &mut Vec<Piece>, index: &VisitIndex, shape: &Shape) -> Result<(), OutOfMemory>
+    ensures { OnOk result (pieces.new.items ≡ pieces.old.items ++ form_pieces index.now (form_of shape.now)) }
+{
     match shape {
         Shape::Null | Shape::Point(_) | Shape::MultiPoint(_) => Ok(()),
-        Shape::Line(line) => {
-            let mut cut = cut_line(alloc, index, line)?;
-            pieces.append(&mut cut)?;
-            Ok(())
-        }
+        Shape::Line(line) => add_line(alloc, pieces, index, line),
         Shape::MultiLine(lines) => add_lines(alloc, pieces, index, lines.as_slice()),
         Shape::Polygon(rings) => add_rings(alloc, pieces, index, rings.as_slice()),
         Shape::MultiPolygon(polygons) => add_polygons(alloc, pieces, index, polygons.as_slice()),
     }
 }
 
-fn add_features(alloc: Global, pieces: &mut Vec<Piece>, index: &VisitIndex, features: &BTreeSet<Feature>) -> Result<(), OutOfMemory> {
-    for feature in features {
+fn add_features(alloc: Global, pieces: &mut Vec<Piece>, index: &VisitIndex, features: &BTreeSet<Feature>) -> Result<(), OutOfMemory>
+    ensures { OnOk result (pieces.new.items ≡ pieces.old.items ++ gathered (feature_pieces index.now) (set.items (set_of features.now))) }
+{
+    for feature in features.iter() {
         add_shape(alloc, pieces, index, &feature.shape)?;
     }
     Ok(())
 }
 
-/// The features of a layer of the map.
-fn features_of<'a>(map: &'a FeatureMap, name: &Spelled) -> Option<&'a BTreeSet<Feature>> {
-    map.layer(name.text())
+fn add_layer(alloc: Global, pieces: &mut Vec<Piece>, index: &VisitIndex, map: &FeatureMap, name: &str) -> Result<(), OutOfMemory>
+    ensures { OnOk result (pieces.new.items ≡ pieces.old.items ++ layer_pieces index.now map.now name.now) }
+{
+    match map.layer(name) {
+        Some(features) => add_features(alloc, pieces, index, features),
+        None => Ok(()),
+    }
 }
 
 /// The pieces of all lines and rings of the map, in its order.
-fn all_pieces(alloc: Global, index: &VisitIndex, map: &FeatureMap, names: &[&Spelled]) -> Result<Vec<Piece>, OutOfMemory> {
+fn all_pieces(alloc: Global, index: &VisitIndex, map: &FeatureMap, names: &[&Spelled]) -> Result<Vec<Piece>, OutOfMemory>
+    ensures { IfOk result (λ v. v.items ≡ gathered (layer_pieces index.now map.now) (map_list (λ s. spelled_text s.now) names.now)) }
+{
     let mut pieces = Vec::new(alloc);
     for name in names {
-        if let Some(features) = features_of(map, name) {
-            add_features(alloc, &mut pieces, index, features)?;
-        }
+        add_layer(alloc, &mut pieces, index, map, name.text())?;
     }
     Ok(pieces)
 }
 
+/// The arc that a piece is; past the last arc where it is none.
+fn ref_of(table: &ArcTable, piece: &Piece) -> ArcRef
+    ensures { result ≡ located table.now.arcs piece.now }
+{
+    match table.find(piece) {
+        Some(used) => used,
+        None => ArcRef {
+            arc: table.len(),
+            reversed: piece.reversed(),
+        },
+    }
+}
+
 /// The arcs that pieces are.
-fn refs_of(alloc: Global, table: &ArcTable, pieces: &[Piece]) -> Result<Items<ArcRef>, OutOfMemory> {
+fn refs_of(alloc: Global, table: &ArcTable, pieces: &[Piece]) -> Result<Items<ArcRef>, OutOfMemory>
+    ensures { IfOk result (λ v. v ≡ map_list (located table.now.arcs) pieces.now) }
+{
     let mut refs = Vec::with_capacity(alloc, pieces.len())?;
     for piece in pieces {
-        if let Some(used) = table.find(piece) {
-            refs.push(used)?;
-        }
+        refs.push(ref_of(table, piece))?;
     }
     Ok(Items::from_vec(refs))
 }
@@ -96,17 +149,23 @@ struct ArcLists<'a> {
 }
 
 impl ArcLists<'_> {
-    fn line(&self, alloc: Global, line: &Line) -> Result<Items<ArcRef>, OutOfMemory> {
+    fn line(&self, alloc: Global, line: &Line) -> Result<Items<ArcRef>, OutOfMemory>
+        ensures { IfOk result (λ v. v ≡ line_used self.now.index.now self.now.table.now.arcs line.now) }
+    {
         let pieces = cut_line(alloc, self.index, line)?;
         refs_of(alloc, self.table, &pieces)
     }
 
-    fn ring(&self, alloc: Global, ring: &Ring) -> Result<Items<ArcRef>, OutOfMemory> {
+    fn ring(&self, alloc: Global, ring: &Ring) -> Result<Items<ArcRef>, OutOfMemory>
+        ensures { IfOk result (λ v. v ≡ ring_used self.now.index.now self.now.table.now.arcs ring.now) }
+    {
         let pieces = cut_ring(alloc, self.index, ring)?;
         refs_of(alloc, self.table, &pieces)
     }
 
-    fn lines(&self, alloc: Global, lines: &[Line]) -> Result<Items<Items<ArcRef>>, OutOfMemory> {
+    fn lines(&self, alloc: Global, lines: &[Line]) -> Result<Items<Items<ArcRef>>, OutOfMemory>
+        ensures { IfOk result (λ v. v ≡ map_list (line_used self.now.index.now self.now.table.now.arcs) lines.now) }
+    {
         let mut lists = Vec::with_capacity(alloc, lines.len())?;
         for line in lines {
             lists.push(self.line(alloc, line)?)?;
@@ -114,7 +173,9 @@ impl ArcLists<'_> {
         Ok(Items::from_vec(lists))
     }
 
-    fn rings(&self, alloc: Global, rings: &[Ring]) -> Result<Items<Items<ArcRef>>, OutOfMemory> {
+    fn rings(&self, alloc: Global, rings: &[Ring]) -> Result<Items<Items<ArcRef>>, OutOfMemory>
+        ensures { IfOk result (λ v. v ≡ map_list (ring_used self.now.index.now self.now.table.now.arcs) rings.now) }
+    {
         let mut lists = Vec::with_capacity(alloc, rings.len())?;
         for ring in rings {
             lists.push(self.ring(alloc, ring)?)?;
@@ -122,7 +183,9 @@ impl ArcLists<'_> {
         Ok(Items::from_vec(lists))
     }
 
-    fn polygons(&self, alloc: Global, polygons: &[Items<Ring>]) -> Result<Items<Items<Items<ArcRef>>>, OutOfMemory> {
+    fn polygons(&self, alloc: Global, polygons: &[Items<Ring>]) -> Result<Items<Items<Items<ArcRef>>>, OutOfMemory>
+        ensures { IfOk result (λ v. v ≡ map_list (map_list (ring_used self.now.index.now self.now.table.now.arcs)) polygons.now) }
+    {
         let mut lists = Vec::with_capacity(alloc, polygons.len())?;
         for rings in polygons {
             lists.push(self.rings(alloc, rings.as_slice())?)?;
@@ -130,11 +193,13 @@ impl ArcLists<'_> {
         Ok(Items::from_vec(lists))
     }
 
-    fn body(&self, alloc: Global, shape: &Shape) -> Result<Body, OutOfMemory> {
+    fn body(&self, alloc: Global, shape: &Shape) -> Result<Body, OutOfMemory>
+        ensures { IfOk result (λ b. b ≡ body_built self.now.index.now self.now.table.now.arcs shape.now) }
+    {
         match shape {
             Shape::Null => Ok(Body::Null),
             Shape::Point(p) => Ok(Body::Point(*p)),
-            Shape::MultiPoint(ps) => Ok(Body::MultiPoint(Items::from_vec(ps.as_slice().to_vec(alloc)?))),
+            Shape::MultiPoint(ps) => Ok(Body::MultiPoint(copy_positions(alloc, ps.as_slice())?)),
             Shape::Line(line) => Ok(Body::Line(self.line(alloc, line)?)),
             Shape::MultiLine(lines) => Ok(Body::MultiLine(self.lines(alloc, lines.as_slice())?)),
             Shape::Polygon(rings) => Ok(Body::Polygon(self.rings(alloc, rings.as_slice())?)),
@@ -142,28 +207,48 @@ impl ArcLists<'_> {
         }
     }
 
-    fn geometry(&self, alloc: Global, feature: &Feature) -> Result<Geom, OutOfMemory> {
+    fn geometry(&self, alloc: Global, feature: &Feature) -> Result<Geom, OutOfMemory>
+        ensures { IfOk result (λ g. g ≡ geometry_built self.now.index.now self.now.table.now.arcs feature.now) }
+    {
         let id = feature.id.copy(alloc)?;
         let props = feature.props.copy(alloc)?;
         let body = self.body(alloc, &feature.shape)?;
         Ok(Geom { id, props, body })
     }
 
-    fn geometries(&self, alloc: Global, features: &BTreeSet<Feature>) -> Result<Vec<Geom>, OutOfMemory> {
+    fn geometries(&self, alloc: Global, features: &BTreeSet<Feature>) -> Result<Vec<Geom>, OutOfMemory>
+        ensures { IfOk result (λ v. v.items ≡ map_list (geometry_built self.now.index.now self.now.table.now.arcs) (set.items (set_of features.now))) }
+    {
         let mut geometries = Vec::with_capacity(alloc, features.len())?;
-        for feature in features {
+        for feature in features.iter() {
             geometries.push(self.geometry(alloc, feature)?)?;
         }
         Ok(geometries)
     }
 
-    fn layers(&self, alloc: Global, map: &FeatureMap, names: &[&Spelled]) -> Result<Vec<Layer>, OutOfMemory> {
+    fn layer(&self, alloc: Global, map: &FeatureMap, name: &str) -> Result<Vec<Geom>, OutOfMemory>
+        ensures { IfOk result (λ v. v.items ≡ geometries_built self.now.index.now self.now.table.now.arcs map.now name.now) }
+    {
+        match map.layer(name) {
+            Some(features) => self.geometries(alloc, features),
+            None => Ok(Vec::new(alloc)),
+        }
+    }
+
+    fn named(&self, alloc: Global, map: &FeatureMap, name: &Spelled) -> Result<Layer, OutOfMemory>
+        ensures { IfOk result (λ l. l ≡ layer_built self.now.index.now self.now.table.now.arcs map.now name.now) }
+    {
+        let geometries = self.layer(alloc, map, name.text())?;
+        let name = name.copy(alloc)?;
+        Ok(Layer::new(name, geometries))
+    }
+
+    fn layers(&self, alloc: Global, map: &FeatureMap, names: &[&Spelled]) -> Result<Vec<Layer>, OutOfMemory>
+        ensures { IfOk result (λ v. v.items ≡ map_list (λ s. layer_built self.now.index.now self.now.table.now.arcs map.now s.now) names.now) }
+    {
         let mut layers = Vec::with_capacity(alloc, names.len())?;
         for name in names {
-            if let Some(features) = features_of(map, name) {
-                let geometries = self.geometries(alloc, features)?;
-                layers.push(Layer::new(name.copy(alloc)?, geometries))?;
-            }
+            layers.push(self.named(alloc, map, name)?)?;
         }
         Ok(layers)
     }
@@ -176,7 +261,12 @@ impl Topology {
     ///
     /// # Errors
     /// Where memory is refused.
-    pub fn build(alloc: Global, grid: &Grid, map: &FeatureMap) -> Result<Topology, OutOfMemory> {
+    pub fn build(alloc: Global, grid: &Grid, map: &FeatureMap) -> Result<Topology, OutOfMemory>
+        ensures topology { IfOk result (λ t. IsTopology grid.now map.now (seen_parts t)) }
+        ensures computed { IfOk result (λ t. seen_parts t ≡ the_topology grid.now map.now) }
+        ensures segments { IfOk result (λ t. EachSegmentOnce (geometry_of map.now) t.arcs.arcs) }
+        ensures of_map { IfOk result (λ t. IsOf map.now t) }
+    {
         let names = map.names()?;
         let index = VisitIndex::of(alloc, map)?;
         let pieces = all_pieces(alloc, &index, map, &names)?;

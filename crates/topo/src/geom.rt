@@ -70,7 +70,7 @@ impl Body {
     }
 }
 
-fn copy_positions(alloc: Global, positions: &[Pos]) -> Result<Items<Pos>, OutOfMemory>
+pub(crate) fn copy_positions(alloc: Global, positions: &[Pos]) -> Result<Items<Pos>, OutOfMemory>
     ensures { IfOk result (λ v. v ≡ positions.now) }
 {
     Ok(Items::from_vec(positions.to_vec(alloc)?))
