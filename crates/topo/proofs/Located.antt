@@ -16,17 +16,18 @@ small q (x ∷ l) = go (same_list q x) (small q l)
     go true h = omega arith
     go false h = omega (arith, h)
 
+abbrev used_at : ℕ → Bool → ArcRef
+used_at n r = record { arc = n; reversed = r }
+
 -- where nothing is found, the number is that of all arcs
-pub none_located : (arcs : List (List Pos)) (p : Piece) (n : ℕ) (r : Bool) → None ≡ found_in arcs p → n ≡ length arcs → r ≡ p.reversed →
-    record { arc = n; reversed = r } ≡ located arcs p
+pub none_located : (arcs : List (List Pos)) (p : Piece) (n : ℕ) (r : Bool) → None ≡ found_in arcs p → n ≡ length arcs → r ≡ p.reversed → used_at n r ≡ located arcs p
 none_located arcs p n r e f g = go (nat_lt (position_or_len (same_list p.chain) arcs) (length arcs)) refl e
   where
     go : (b : Bool) → nat_lt (position_or_len (same_list p.chain) arcs) (length arcs) ≡ b →
-        None ≡ option_map (λ n. record { arc = n; reversed = p.reversed }) (cond b (Some (position_or_len (same_list p.chain) arcs)) None) →
-        record { arc = n; reversed = r } ≡ located arcs p
+        None ≡ option_map (λ k. used_at k p.reversed) (cond b (Some (position_or_len (same_list p.chain) arcs)) None) → used_at n r ≡ located arcs p
     go true h k = absurd cc
     go false h k =
         let s = small p.chain arcs in
         let m : length arcs ≤ position_or_len (same_list p.chain) arcs = ltb-false (position_or_len (same_list p.chain) arcs) (length arcs) h in
         let a : n ≡ position_or_len (same_list p.chain) arcs = omega (arith, f) in
-        λ i. record { arc = a i; reversed = g i }
+        λ i. used_at (a i) (g i)

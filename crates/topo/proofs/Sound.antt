@@ -13,7 +13,7 @@ use Rattle.theory.specs.Topology.{Shape, lines_in, rings_in, forms_of}
 use Rattle.theory.proofs.ListsOfLists.{gathered_from, map_has}
 use Rattle.theory.proofs.Lists.{Has-append}
 use Rattle.shapes.specs.Maps.{Features}
-use Rattle.std.specs.FinSet as set
+use Rattle.shapes.specs.Sets as set
 use Rattle.std.specs.FinMap as map
 
 -- each form of a map is that of a shape

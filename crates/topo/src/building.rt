@@ -13,7 +13,7 @@ ghost use Rattle.theory.specs.Arcs.{EachSegmentOnce};
 ghost use Rattle.theory.specs.Lists.{gathered, joined};
 ghost use Rattle.theory.specs.Topology.{forms_of};
 ghost use Rattle.topo.specs.Building.{form_pieces, feature_pieces, layer_pieces, line_used, ring_used, body_built, geometry_built, geometries_built, layer_built};
-ghost use Rattle.topo.specs.OfMap.{IsTopology, seen_parts, the_topology, IsOf};
+ghost use Rattle.topo.specs.OfMap.{ArePartsOf, IsTopology, seen_parts, the_topology, IsOf};
 
 use crate::geom::{Body, Geom, copy_positions};
 use crate::topology::{Layer, Topology};
@@ -254,6 +254,28 @@ impl ArcLists<'_> {
     }
 }
 
+/// The table of a map's arcs, and its layers by them.
+#[derive(Drop)]
+struct Parts {
+    table: ArcTable,
+    layers: Vec<Layer>,
+}
+
+fn parts_of(alloc: Global, map: &FeatureMap) -> Result<Parts, OutOfMemory>
+    ensures { IfOk result (λ p. ArePartsOf map.now p.table p.layers.items) }
+{
+    let names = map.names()?;
+    let index = VisitIndex::of(alloc, map)?;
+    let pieces = all_pieces(alloc, &index, map, &names)?;
+    let table = ArcTable::from_pieces(alloc, pieces)?;
+    let lists = ArcLists {
+        index: &index,
+        table: &table,
+    };
+    let layers = lists.layers(alloc, map, &names)?;
+    Ok(Parts { table, layers })
+}
+
 impl Topology {
     /// The topology of a map on a grid: its arcs are all chains of the map in least direction,
     /// sorted; each line and ring is the list of arcs that stitches to it, a ring read from its least
@@ -267,15 +289,7 @@ impl Topology {
         ensures segments { IfOk result (λ t. EachSegmentOnce (geometry_of map.now) t.arcs.arcs) }
         ensures of_map { IfOk result (λ t. IsOf map.now t) }
     {
-        let names = map.names()?;
-        let index = VisitIndex::of(alloc, map)?;
-        let pieces = all_pieces(alloc, &index, map, &names)?;
-        let table = ArcTable::from_pieces(alloc, pieces)?;
-        let lists = ArcLists {
-            index: &index,
-            table: &table,
-        };
-        let layers = lists.layers(alloc, map, &names)?;
-        Ok(Topology::from_parts(*grid, table, layers))
+        let parts = parts_of(alloc, map)?;
+        Ok(Topology::from_parts(*grid, parts.table, parts.layers))
     }
 }

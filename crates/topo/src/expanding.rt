@@ -7,10 +7,8 @@ use grid::Pos;
 use lines::items::Items;
 use lines::line::Line;
 use lines::ring::Ring;
-use lines::shape_fault::ShapeFault;
 use shapes::feature::Feature;
 use shapes::feature_map::FeatureMap;
-use shapes::insert_fault::InsertFault;
 use shapes::shape::Shape;
 use std::alloc::Global;
 
@@ -18,8 +16,7 @@ use std::alloc::Global;
 fn put(map: &mut FeatureMap, name: &str, feature: Feature) -> Result<(), OutOfMemory> {
     match map.insert(name, feature) {
         Ok(_) => Ok(()),
-        Err(InsertFault::OutOfMemory) => Err(OutOfMemory),
-        Err(InsertFault::NoLayer) => unreachable!(),
+        Err(_) => Err(OutOfMemory),
     }
 }
 
@@ -36,16 +33,14 @@ impl Topology {
     fn line(&self, alloc: Global, refs: &[ArcRef]) -> Result<Line, OutOfMemory> {
         match Line::from_positions(alloc, self.stitched(alloc, refs)?) {
             Ok(line) => Ok(line),
-            Err(ShapeFault::OutOfMemory) => Err(OutOfMemory),
-            Err(_) => unreachable!(),
+            Err(_) => Err(OutOfMemory),
         }
     }
 
     fn ring(&self, alloc: Global, refs: &[ArcRef]) -> Result<Ring, OutOfMemory> {
         match Ring::from_closed(alloc, self.stitched(alloc, refs)?) {
             Ok(ring) => Ok(ring),
-            Err(ShapeFault::OutOfMemory) => Err(OutOfMemory),
-            Err(_) => unreachable!(),
+            Err(_) => Err(OutOfMemory),
         }
     }
 
