@@ -1,5 +1,5 @@
 -- The laws of maps, proved.
-use Rattle.std.proofs.Common.{◌≡◌, ◌≤◌, Bool, true, false, cond, List, [], ◌∷◌, ◌++◌, inl, inr, refl, ap, ◌∙◌, subst, arith}
+use Rattle.std.proofs.Common.{◌≡◌, ◌≤◌, Bool, true, false, cond, List, [], ◌∷◌, ◌++◌, inl, inr, refl, ap, ◌∙◌, subst, arith, sym}
 use Rattle.std.specs.declared.cmp.Ordering.{Ordering}
 use Rattle.theory.proofs.ArcsAsMap.{arcs_alike, arcs_sound, junction_map}
 use Rattle.theory.proofs.ArcsOfMap.{are_arcs, line_is_cut, ring_is_cut}
@@ -17,7 +17,7 @@ use Rattle.theory.proofs.PiecesExist.{are_arcs_as_map, arcs_are_pieces, recut_re
 use Rattle.theory.proofs.Removal.{removal_laws}
 use Rattle.theory.proofs.ReplacedNumbers.{refinement_laws}
 use Rattle.theory.proofs.Reversing.{IsChain-reverse}
-use Rattle.theory.proofs.RingListStart.{least_start}
+use Rattle.theory.proofs.RingListStart.{least_start, turned_used_is}
 use Rattle.theory.proofs.Rotations.{least_second, ring_list_rotated, rotation_back, rotation_has}
 use Rattle.theory.proofs.SegmentsOnce.{segments_once, sorted_pieces_are_arcs}
 use Rattle.theory.proofs.Stitching.{beside_stitched, stitched_beside}
@@ -33,7 +33,8 @@ use Rattle.theory.specs.Laws.{IsOrder}
 use Rattle.theory.specs.LinesAndRings.{IsRotation, closed}
 use Rattle.theory.specs.Lists.{Each, Has}
 use Rattle.theory.specs.Network.{IsChainIn, IsStop, Joins, network_of}
-use Rattle.theory.specs.Refinement.{arcs_as_map, both_of, recut}
+use Rattle.theory.specs.Refinement.{arcs_as_map, both_of, recut, turned_used}
+use Rattle.theory.specs.Topology.{IsRingList}
 use Rattle.theory.specs.TopologyFunction.{is_junction, line_cut, ring_cut, arcs_of, some, turned}
 
 -- two vertices are one or not
@@ -198,6 +199,14 @@ arcs_of_a_union_are_pieces cmp m n u o = arcs_are_pieces cmp o.total o.same (sam
 pub pieces_in_place : {V : Type 0} → law.PiecesInPlace V
 pieces_in_place cmp g u o sg su part arcs table pieces ref =
     refinement_laws cmp o.total o.same (same_vertices cmp o) u su table ref.new g sg part arcs pieces ref
+
+pub ring_replaced_and_turned : {V : Type 0} → law.RingReplacedAndTurned V
+ring_replaced_and_turned cmp g u o sg su part arcs table pieces ref r used i h =
+    let k = (pieces_in_place cmp g u o sg su part arcs table pieces ref).ring r used i h in
+    subst (λ w. IsRingList cmp (JunctionOf u) table r w)
+    (sym (ap (turned_used cmp table) k.2
+    ∙ turned_used_is cmp o.total o.same (same_vertices cmp o) u su table ref.new r (part.rings r i) k.0 k.1 k.3))
+    k.3
 
 pub union_known_from_arcs : {V : Type 0} → law.UnionKnownFromArcs V
 union_known_from_arcs cmp m n u o sm sn su union ms ns am an =

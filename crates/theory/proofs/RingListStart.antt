@@ -1,25 +1,28 @@
 -- Where the list of a ring begins: of its used arcs, turned in any way, at that which starts least.
 use Rattle.std.proofs.Common.{◌≡◌, ◌≤◌, List, [], ◌∷◌, ◌++◌, length, ◌⊎◌, inl, inr, refl, sym, ap, ◌∙◌, subst, arith, append_assoc, Some}
-use Rattle.std.proofs.lemmas.Cmp.{tied_itself}
+use Rattle.std.proofs.lemmas.Cmp.{tied_itself, lists_total}
 use Rattle.std.proofs.lemmas.List.{append-nil}
 use Rattle.std.specs.Cmp.Lexicographic.{slice_cmp}
-use Rattle.std.specs.Cmp.{IsTotalOrder}
+use Rattle.std.specs.Cmp.{IsTotalOrder, on_total}
 use Rattle.std.specs.FinMap.{IsAntisymmetric}
 use Rattle.std.specs.Ordering.{is_gt, ordering_then}
 use Rattle.std.specs.declared.cmp.Ordering.{Ordering}
-use Rattle.theory.proofs.ArcNumbers.{taken_of}
+use Rattle.theory.proofs.ArcNumbers.{taken_of, to_from}
 use Rattle.theory.proofs.Ascending.{at_most_same, at_most_self, head_most}
 use Rattle.theory.proofs.Chains.{same_chain}
 use Rattle.theory.proofs.Lists.{Has-append_left, Has-append_right, Has-split, Has-swap, front_join, front-snoc, last_join}
 use Rattle.theory.proofs.OneTopology.{along_chain, along_once}
 use Rattle.theory.proofs.Pieces.{SegmentOf-flip, two_segments_of}
 use Rattle.theory.proofs.RefinementLaws.{once}
+use Rattle.theory.proofs.Turning.{least_list_found, rotation_listed, rotation_of}
 use Rattle.theory.proofs.Rotations.{rotation_back, rotation_has, rotation_length, rotation_trail, rotation_trans}
 use Rattle.theory.specs.ArcNumbers.{ArcRef, StartsLeast, StitchFrom, Uses, UsesOnce, along}
 use Rattle.theory.specs.Arcs.{AreArcsOf}
 use Rattle.theory.specs.Geometry.{AtMost, Geometry, IsChainOf, IsRingOf, IsSound, JunctionOf, SegmentOf}
 use Rattle.theory.specs.LinesAndRings.{IsRotation}
 use Rattle.theory.specs.Lists.{Has, front_of, last_of}
+use Rattle.theory.specs.Refinement.{first_two, start_of, turned_used}
+use Rattle.theory.specs.TopologyFunction.{rotations}
 use Rattle.theory.specs.Seam.{IsTurned}
 use Rattle.theory.specs.Topology.{IsRingList}
 
@@ -243,3 +246,69 @@ module _ {V : Type 0} (cmp : V → V → Ordering) (o : IsTotalOrder cmp) (same 
           let aa : a ≡ a0 = least_is_first r i k.0 k.1 k.2 a0 rest st a y z q (subst (λ w. Has a w) f there) al least' in
           let once' = used_once r i k.0 k.1 k.2 a0 rest st in
           finish behind before e a0 rest f aa (λ h. once'.0 (Has-Uses a0 rest (subst (λ w. Has w rest) aa h)))
+
+  -- a used arc of what stitches runs along a list of two or more
+  runs : (us : List ArcRef) (x : V) (r : List V) → StitchFrom table x us r → (a : ArcRef) → Has a us →
+      (y : V) × (z : V) × (q : List V) × (along table a ≡ Some (y ∷ (z ∷ q)))
+  runs [] x r h a i = absurd i
+  runs (b ∷ us) x r h a (inl e) =
+      let s = second b x h.0 h.2 in
+      (x, s.0, s.1, ap (λ w. along table w) e ∙ h.2 ∙ ap (λ w. Some (x ∷ w)) s.2)
+  runs (b ∷ us) x r h a (inr i) = runs us (last_of x h.0) h.1 h.4 a i
+
+  nothing : (s t : List ArcRef) → s ++ t ≡ [] → t ++ s ≡ []
+  nothing [] [] e = refl
+  nothing [] (x ∷ t) e = absurd cc
+  nothing (x ∷ s) t e = absurd cc
+
+  start_most : (us : List ArcRef) →
+      ((l : List ArcRef) → Has l (rotations us) → Has (turned_used cmp table us) (rotations us) ×
+      AtMost (λ a b. slice_cmp cmp (start_of table a) (start_of table b)) (turned_used cmp table us) l) →
+      (a : ArcRef) (p s : List ArcRef) → turned_used cmp table us ≡ a ∷ (s ++ p) →
+      (y z : V) (q : List V) → along table a ≡ Some (y ∷ (z ∷ q)) →
+      (b : ArcRef) (v x : V) (k : List V) → Has b us → along table b ≡ Some (v ∷ (x ∷ k)) →
+      AtMost (slice_cmp cmp) (y ∷ (z ∷ [])) (v ∷ (x ∷ []))
+  start_most us best a p s e y z q f b v x k h g =
+      let c = Has-split b us h in
+      let listed = rotation_listed us b (c.1 ++ c.0) (c.0, b ∷ c.1, c.2, refl) in
+      let m : AtMost (slice_cmp cmp) (start_of table (turned_used cmp table us)) (start_of table (b ∷ (c.1 ++ c.0))) = (best (b ∷ (c.1 ++ c.0)) listed).1 in
+      let m' : AtMost (slice_cmp cmp) (first_two (along table a)) (first_two (along table b)) =
+      subst (λ w. AtMost (slice_cmp cmp) (start_of table w) (first_two (along table b))) e m in
+      subst (λ w. AtMost (slice_cmp cmp) (first_two w) (v ∷ (x ∷ []))) f
+      (subst (λ w. AtMost (slice_cmp cmp) (first_two (along table a)) (first_two w)) g m')
+
+  -- `turned_used` turns what is the list of a ring but for its beginning
+  pub turned_used_is : (r : List V) → IsRingOf u r → (before behind : List ArcRef) → IsRingList cmp (JunctionOf u) table r (behind ++ before) →
+      turned_used cmp table (before ++ behind) ≡ behind ++ before
+  turned_used_is r i before behind list = go (before ++ behind) refl
+    where
+      all_run : (a : ArcRef) → Has a (before ++ behind) → (y : V) × (z : V) × (q : List V) × (along table a ≡ Some (y ∷ (z ∷ q)))
+      all_run a h =
+          runs (behind ++ before) list.0 (list.1 ++ (list.0 ∷ []))
+          (to_from table (behind ++ before) list.0 (list.1 ++ (list.0 ∷ [])) list.3) a (Has-swap a behind before h)
+
+      total : IsTotalOrder (λ (a b : List ArcRef). slice_cmp cmp (start_of table a) (start_of table b))
+      total = on_total (start_of table) (lists_total o)
+
+      go : (us : List ArcRef) → before ++ behind ≡ us → turned_used cmp table us ≡ behind ++ before
+      go [] e =
+          let none : behind ++ before ≡ [] = nothing before behind e in
+          sym none
+      go (w ∷ ws) e =
+          let us : List ArcRef = w ∷ ws in
+          let best = λ (l : List ArcRef) (h : Has l (rotations us)).
+          least_list_found (λ a b. slice_cmp cmp (start_of table a) (start_of table b)) total (rotations us) l h in
+          let here : Has us (rotations us) = rotation_listed us w ws ([], us, refl, sym (append-nil us)) in
+          let t = rotation_of [] us (turned_used cmp table us) (best us here).0 in
+          let a = t.0 in
+          let there : Has a (before ++ behind) =
+          subst (λ v. Has a v) (sym (e ∙ t.3)) (Has-append_right a t.1 (a ∷ t.2) (inl refl)) in
+          let run = all_run a there in
+          let least = λ (b : ArcRef) (v z : V) (s : List V) (h : Has b (before ++ behind)) (f : along table b ≡ Some (v ∷ (z ∷ s))).
+          start_most us (best) t.0 t.1 t.2 t.4 run.0 run.1 run.2 run.3 b v z s (subst (λ k. Has b k) e h) f in
+          t.4 ∙ least_start r i before behind t.1 a t.2 run.0 run.1 run.2 list (sym t.3 ∙ sym e) run.3
+          (record {
+            first = λ b v z s h f. head_most cmp run.0 v (run.1 ∷ []) (z ∷ []) (least b v z s h f);
+            second = λ b v z s h f vy. head_most cmp run.1 z [] []
+                (tail_most run.0 (run.1 ∷ []) (z ∷ []) (subst (λ k. AtMost (slice_cmp cmp) (run.0 ∷ (run.1 ∷ [])) (k ∷ (z ∷ []))) vy (least b v z s h f)));
+          })

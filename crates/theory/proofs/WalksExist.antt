@@ -280,7 +280,7 @@ module _ {V : Type 0} (cmp : V → V → Ordering) (o : IsTotalOrder cmp) (same 
               t,
               λ v h q. elim h [
                 | inl g ↦ subst (λ w. AtMost cmp x w) (sym g) (at_most_self cmp o same x)
-                | inr g ↦ trans_most cmp o same x y v m (ly v g q)
+                | inr g ↦ trans_most cmp o x y v m (ly v g q)
               ],
             )
             | inr m ↦ inl (

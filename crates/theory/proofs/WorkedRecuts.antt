@@ -1,11 +1,11 @@
 -- Worked rows of arcs that are cut again, by computation: for each old arc the indexes, in the table of the union, of its pieces.
 -- Vertices are pairs of whole numbers, ordered by the first, then the second.
-use Rattle.std.proofs.Common.{◌≡◌, ℕ, ℤ, pos, List, [], ◌∷◌, refl}
+use Rattle.std.proofs.Common.{◌≡◌, ℕ, ℤ, pos, List, [], ◌∷◌, refl, true, false}
 use Rattle.std.specs.Prelude.{map, negsuc}
 use Rattle.theory.proofs.WorkedRows.{Position, by_position, p, triangle}
 use Rattle.theory.specs.ArcNumbers.{ArcRef, index_of}
 use Rattle.theory.specs.Geometry.{Geometry}
-use Rattle.theory.specs.Refinement.{both_of, recut}
+use Rattle.theory.specs.Refinement.{both_of, recut, replaced, turned_used}
 use Rattle.theory.specs.TopologyFunction.{arcs_of}
 
 abbrev of_ring : List Position → Geometry Position
@@ -85,3 +85,15 @@ corner_cut = refl
 
 westward_kept : pieces westward two_squares ≡ (ahead 0 ∷ []) ∷ []
 westward_kept = refl
+
+-- the lists of the two squares, and of the line, in the union
+abbrev ring_in_union : List ArcRef → List ℤ
+ring_in_union used =
+    let table = arcs_of by_position (both_of two_squares westward) in
+    map index_of (turned_used by_position table (replaced (recut by_position two_squares (both_of two_squares westward) (arcs_of by_position two_squares) table) used))
+
+first_list : ring_in_union (record { arc = 1; reversed = false } ∷ (record { arc = 0; reversed = true } ∷ [])) ≡ ahead 2 ∷ ahead 3 ∷ reversed 1 ∷ []
+first_list = refl
+
+second_list : ring_in_union (record { arc = 2; reversed = false } ∷ (record { arc = 1; reversed = true } ∷ [])) ≡ ahead 4 ∷ reversed 3 ∷ []
+second_list = refl

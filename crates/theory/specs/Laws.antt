@@ -11,7 +11,7 @@ use Rattle.theory.specs.Geometry.{Geometry, IsLineOf, IsRingOf, IsSound, Segment
 use Rattle.theory.specs.LinesAndRings.{Trail, IsRing, IsRotation, closed}
 use Rattle.theory.specs.Lists.{Has, Beside, Twice, EndOf, Each}
 use Rattle.theory.specs.Network.{Network, IsNetwork, IsNetworkOf, IsChainIn, AreAllChains, Joins, network_of}
-use Rattle.theory.specs.Refinement.{IsPartOf, IsUnionOf, IsRefinementOf, RefinementLaws, RemovalLaws, Alike, pieces_at, recut, both_of, arcs_as_map}
+use Rattle.theory.specs.Refinement.{IsPartOf, IsUnionOf, IsRefinementOf, RefinementLaws, RemovalLaws, Alike, arcs_as_map, both_of, pieces_at, recut, replaced, turned_used}
 use Rattle.theory.specs.Seam.{Any, IsLeastOf, IsTurned}
 use Rattle.theory.specs.Segments.{OnThree, TwoSegments}
 use Rattle.theory.specs.Stitching.{Stitched, ArePiecesOf, AreRingPiecesOf, HaveAllPieces}
@@ -239,6 +239,14 @@ PiecesInPlace V =
     (cmp : V → V → Ordering) (g u : Geometry V) → IsOrder cmp → IsSound g → IsSound u → IsPartOf g u →
     (arcs table : List (List V)) (pieces : List (List ArcRef)) → IsRefinementOf cmp g u arcs table pieces →
     RefinementLaws cmp g u arcs table pieces
+
+-- the list of a ring: its pieces in place of each old arc, turned to begin where it starts least
+abbrev pub RingReplacedAndTurned : Type 0 → Type 0
+RingReplacedAndTurned V =
+    (cmp : V → V → Ordering) (g u : Geometry V) → IsOrder cmp → IsSound g → IsSound u → IsPartOf g u →
+    (arcs table : List (List V)) (pieces : List (List ArcRef)) → IsRefinementOf cmp g u arcs table pieces →
+    (r : List V) (used : List ArcRef) → IsRingOf g r → IsRingList cmp (JunctionOf g) arcs r used →
+    IsRingList cmp (JunctionOf u) table r (turned_used cmp table (replaced pieces used))
 
 -- the arcs of both maps, taken as lines and rings, have the segments and the junctions of the union
 abbrev pub UnionKnownFromArcs : Type 0 → Type 0

@@ -1,14 +1,15 @@
 -- The arcs of a map cut again under the junctions of a map that has all of its lines and rings.
-use Rattle.std.specs.Prelude.{◌≡◌, List, ◌⊎◌, ℕ, zero, suc, Bool, cond, not, [], ◌∷◌, ◌++◌, map, Some, slice_get}
+use Rattle.std.specs.Prelude.{◌≡◌, List, ◌⊎◌, ℕ, zero, suc, Bool, cond, not, [], ◌∷◌, ◌++◌, map, Some, slice_get, Option, None}
+use Rattle.std.specs.Cmp.Lexicographic.{slice_cmp}
 use Rattle.std.specs.declared.cmp.Ordering.{Ordering}
-use Rattle.theory.specs.ArcNumbers.{ArcRef, StitchTo, Uses, UsesOnce, backwards}
+use Rattle.theory.specs.ArcNumbers.{along, ArcRef, backwards, StitchTo, Uses, UsesOnce}
 use Rattle.theory.specs.Arcs.{AreArcsOf}
 use Rattle.theory.specs.Chain.{Free}
 use Rattle.theory.specs.Geometry.{Geometry, IsLineOf, IsRingOf, JunctionOf, SegmentOf}
 use Rattle.theory.specs.LinesAndRings.{closed}
 use Rattle.theory.specs.Lists.{Beside, Has, Pairwise, front_of}
 use Rattle.theory.specs.Topology.{IsRingList}
-use Rattle.theory.specs.TopologyFunction.{is_junction, keep, line_cut, ref_of, ring_cut, some}
+use Rattle.theory.specs.TopologyFunction.{is_junction, keep, least_list, line_cut, ref_of, ring_cut, rotations, some}
 
 -- in the one or in the other
 abbrev pub Either : {A : Type 0} → (A → Type 0) → (A → Type 0) → A → Type 0
@@ -40,6 +41,22 @@ pieces_of_used pieces a = cond a.reversed (backwards (pieces_at pieces a.arc)) (
 abbrev pub replaced : List (List ArcRef) → List ArcRef → List ArcRef
 replaced pieces [] = []
 replaced pieces (a ∷ used) = pieces_of_used pieces a ++ replaced pieces used
+
+-- the first two vertices of a list
+abbrev pub first_two : {V : Type 0} → Option (List V) → List V
+first_two None = []
+first_two (Some []) = []
+first_two (Some (x ∷ [])) = x ∷ []
+first_two (Some (x ∷ (y ∷ r))) = x ∷ (y ∷ [])
+
+-- the first two vertices along the first used arc
+abbrev pub start_of : {V : Type 0} → List (List V) → List ArcRef → List V
+start_of arcs [] = []
+start_of arcs (a ∷ used) = first_two (along arcs a)
+
+-- the used arcs of a ring, turned to begin where they start least
+abbrev pub turned_used : {V : Type 0} → (V → V → Ordering) → List (List V) → List ArcRef → List ArcRef
+turned_used cmp arcs used = least_list (λ a b. slice_cmp cmp (start_of arcs a) (start_of arcs b)) (rotations used)
 
 -- the used arcs of the table stitch to the arc c, or, where c is free under J, to c turned as a ring is under L
 abbrev pub ArePiecesOfArc : {V : Type 0} → (V → V → Ordering) → (V → Type 0) → (V → Type 0) → List (List V) → List V → List ArcRef → Type 0

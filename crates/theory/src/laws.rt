@@ -175,6 +175,11 @@ pub fn pieces_in_place<V>()
     ensures { law.PiecesInPlace V }
 {}
 
+/// The list of a ring: its pieces in place of each old arc, turned to begin where it starts least.
+pub fn ring_replaced_and_turned<V>()
+    ensures { law.RingReplacedAndTurned V }
+{}
+
 /// The arcs of both maps, taken as lines and rings, have the segments and the junctions of the union.
 #[tactic(auto, using(crate::proofs::ProvedLaws::union_known_from_arcs))]
 pub fn union_known_from_arcs<V>()
