@@ -1,5 +1,5 @@
 -- The text of a FeatureCollection (RFC 7946, section 3).
-use Rattle.std.specs.Prelude.{ℕ, ℤ, List, [], ◌∷◌, ◌++◌, codes, Bor}
+use Rattle.std.specs.Prelude.{ℕ, ℤ, List, [], ◌∷◌, ◌++◌, codes}
 use Rattle.grid.specs.Place.{Transform}
 use Rattle.grid.specs.Fits.{absolute_place}
 use Rattle.grid.specs.declared.pos.Pos.{Pos}
@@ -53,5 +53,5 @@ abbrev pub feature_text : Transform → Feature → List ℕ
 feature_text t f = feature_frame f.id (properties_text f.props) (shape_text t f.shape)
 
 -- the features in order
-abbrev pub collection_text : Transform → List (Bor Feature) → List ℕ
-collection_text t fs = framed (λ f. feature_text t f.now) (codes "{\"features\":[") fs (codes "],\"type\":\"FeatureCollection\"}")
+abbrev pub collection_text : Transform → List Feature → List ℕ
+collection_text t fs = framed (feature_text t) (codes "{\"features\":[") fs (codes "],\"type\":\"FeatureCollection\"}")

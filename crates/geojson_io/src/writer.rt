@@ -1,7 +1,7 @@
 //! Writing a GeoJSON FeatureCollection (RFC 7946, section 3.3), piece by piece and with no memory.
-ghost use Rattle.std.specs.Prelude.{◌≡◌, ℕ, ℤ, List, [], ◌++◌, codes, OnErr, OnOk, Bor};
+ghost use Rattle.std.specs.Prelude.{◌≡◌, ℕ, ℤ, List, [], ◌++◌, codes, map, OnErr, OnOk};
+ghost use Rattle.std.specs.Borrow.{Bor};
 ghost use Rattle.std.specs.Iterator.{Drains, IsFinite};
-ghost use Rattle.std.specs.List.{map};
 ghost use Rattle.sinks.specs.Texts.{list_text, framed};
 ghost use Rattle.sinks.specs.Writes.{TookAll, TookPart};
 ghost use Rattle.lines.specs.Seen.{positions_of, vertices_of};
@@ -15,7 +15,9 @@ use lines::ring::Ring;
 use shapes::feature::Feature;
 use shapes::props::Props;
 use shapes::shape::{Id, Shape};
-use sinks::written::{Bracketed, Each, Listed, Notation, Noted, Pair, Text, Then, Written, write_framed};
+use sinks::written::{
+    Bracketed, Each, Listed, Notation, Noted, Pair, Text, Then, Written, write_framed,
+};
 use sinks::{Sink, WriteFault};
 use writing::{IdMember, Lists};
 
@@ -64,8 +66,8 @@ impl<'a> Written for Closed<'a> {
     ghost text = { λ c. closed_text c.1.now c.0.now };
 
     fn write<W: Sink>(&self, sink: &mut W) -> Result<(), WriteFault> {
-        match self.0.first() {
-            Some(first) => {
+        match self.0.split_first() {
+            Some((first, _)) => {
                 let last = Then(Text(b","), Noted(first, &Places(self.1)));
                 Then(Each(self.0, &Places(self.1)), last).write(sink)
             }
@@ -99,12 +101,25 @@ impl<'a> Notation<Shape> for ShapesOn<'a> {
         match value {
             Shape::Null => Text(b"null").write(sink),
             Shape::Point(place) => Geometry(Noted(place, &Places(grid)), b"Point").write(sink),
-            Shape::MultiPoint(places) => Geometry(Listed(places.as_slice(), &Places(grid)), b"MultiPoint").write(sink),
+            Shape::MultiPoint(places) => Geometry(
+                Listed(places.as_slice(), &Places(grid)),
+                b"MultiPoint",
+            ).write(sink),
             Shape::Line(line) => Geometry(Noted(line, &LinesOn(grid)), b"LineString").write(sink),
-            Shape::MultiLine(lines) => Geometry(Listed(lines.as_slice(), &LinesOn(grid)), b"MultiLineString").write(sink),
-            Shape::Polygon(rings) => Geometry(Listed(rings.as_slice(), &RingsOn(grid)), b"Polygon").write(sink),
+            Shape::MultiLine(lines) => Geometry(
+                Listed(lines.as_slice(), &LinesOn(grid)),
+                b"MultiLineString",
+            ).write(sink),
+            Shape::Polygon(rings) => Geometry(
+                Listed(rings.as_slice(), &RingsOn(grid)),
+                b"Polygon",
+            ).write(sink),
             Shape::MultiPolygon(polygons) => {
-                Geometry(Listed(polygons.as_slice(), &Lists(RingsOn(grid))), b"MultiPolygon").write(sink)
+                Geometry(
+                    Listed(polygons.as_slice(), &Lists(RingsOn(grid))),
+                    b"MultiPolygon",
+                )
+                .write(sink)
             }
         }
     }
@@ -123,7 +138,10 @@ impl<'a, G: Written> Written for FeatureOf<'a, G> {
 
     fn write<W: Sink>(&self, sink: &mut W) -> Result<(), WriteFault> {
         let properties = Text(self.props.text().as_bytes());
-        let tail = Then(Text(b"\"properties\":"), Then(properties, Text(b",\"type\":\"Feature\"}")));
+        let tail = Then(
+            Text(b"\"properties\":"),
+            Then(properties, Text(b",\"type\":\"Feature\"}")),
+        );
         let id = Then(Text(b","), Then(IdMember(self.id), tail));
         Then(Text(b"{\"geometry\":"), Then(&self.geometry, id)).write(sink)
     }
@@ -152,13 +170,23 @@ impl<'a, 'b> Notation<&'b Feature> for FeaturesOn<'a> {
 ///
 /// # Errors
 /// `Write` where the sink failed; it then took a beginning of the text.
-pub fn write<'a, W: Sink, I: Iterator<Item = &'a Feature> + Drop>(grid: &Grid, features: I, sink: &mut W) -> Result<(), WriteFault>
+pub fn write<'a, W: Sink, I: Iterator<Item = &'a Feature> + Drop>(
+    grid: &Grid,
+    features: I,
+    sink: &mut W,
+) -> Result<(), WriteFault>
     requires can { I.can_next features }
     requires ends { IsFinite (I.remaining features) }
-    ensures whole { OnOk result ((xs : List (Bor Feature)) × Drains I.next_gives features xs × TookAll (W.seen sink.old) (W.seen sink.new) (collection_text grid.now xs)) }
-    ensures part { OnErr result ((xs : List (Bor Feature)) × Drains I.next_gives features xs × TookPart (W.seen sink.old) (W.seen sink.new) (collection_text grid.now xs)) }
+    ensures whole { OnOk result ((xs : List (Bor Feature)) × Drains I.next_gives features xs × TookAll (W.seen sink.old) (W.seen sink.new) (collection_text grid.now (map (λ f. f.now) xs))) }
+    ensures part { OnErr result ((xs : List (Bor Feature)) × Drains I.next_gives features xs × TookPart (W.seen sink.old) (W.seen sink.new) (collection_text grid.now (map (λ f. f.now) xs))) }
 {
-    write_framed(sink, b"{\"features\":[", &FeaturesOn(grid), features, b"],\"type\":\"FeatureCollection\"}")
+    write_framed(
+        sink,
+        b"{\"features\":[",
+        &FeaturesOn(grid),
+        features,
+        b"],\"type\":\"FeatureCollection\"}",
+    )
 }
 
 #[cfg(test)]
@@ -169,9 +197,11 @@ mod tests {
     use std::alloc::Global;
     use std::test::Fail;
 
-    const SQUARES: &[u8] = b"{\"features\":[{\"geometry\":{\"coordinates\":[[[0,0],[1,0],[1,1],[0,1],[0,0]]],\"type\":\"Polygon\"},\"properties\":{},\"type\":\"Feature\"},{\"geometry\":{\"coordinates\":[[[1,0],[2,0],[2,1],[1,1],[1,0]]],\"type\":\"Polygon\"},\"properties\":{},\"type\":\"Feature\"}],\"type\":\"FeatureCollection\"}";
+    const SQUARES: &[u8] =
+        b"{\"features\":[{\"geometry\":{\"coordinates\":[[[0,0],[1,0],[1,1],[0,1],[0,0]]],\"type\":\"Polygon\"},\"properties\":{},\"type\":\"Feature\"},{\"geometry\":{\"coordinates\":[[[1,0],[2,0],[2,1],[1,1],[1,0]]],\"type\":\"Polygon\"},\"properties\":{},\"type\":\"Feature\"}],\"type\":\"FeatureCollection\"}";
 
-    const KINDS: &[u8] = b"{\"features\":[{\"geometry\":null,\"properties\":{\"a\":1},\"type\":\"Feature\"},{\"geometry\":{\"coordinates\":[-20,7],\"type\":\"Point\"},\"id\":3,\"properties\":{},\"type\":\"Feature\"},{\"geometry\":{\"coordinates\":[],\"type\":\"MultiPolygon\"},\"id\":\"m\",\"properties\":{},\"type\":\"Feature\"},{\"geometry\":{\"coordinates\":[[10,7],[0,8]],\"type\":\"LineString\"},\"id\":\"n\",\"properties\":{},\"type\":\"Feature\"}],\"type\":\"FeatureCollection\"}";
+    const KINDS: &[u8] =
+        b"{\"features\":[{\"geometry\":null,\"properties\":{\"a\":1},\"type\":\"Feature\"},{\"geometry\":{\"coordinates\":[-20,7],\"type\":\"Point\"},\"id\":3,\"properties\":{},\"type\":\"Feature\"},{\"geometry\":{\"coordinates\":[],\"type\":\"MultiPolygon\"},\"id\":\"m\",\"properties\":{},\"type\":\"Feature\"},{\"geometry\":{\"coordinates\":[[10,7],[0,8]],\"type\":\"LineString\"},\"id\":\"n\",\"properties\":{},\"type\":\"Feature\"}],\"type\":\"FeatureCollection\"}";
 
     fn write_again(alloc: Global, grid: &Grid, text: &[u8]) -> Option<Vec<u8>> {
         let features = read(alloc, text, grid).ok()?;
@@ -193,12 +223,17 @@ mod tests {
     #[test]
     fn stops_at_a_failure(rt: HostRuntime) -> Result<(), Fail> {
         let grid = Grid::new(1, 1, 0, 0).expect(&rt, "a grid");
-        let features = read(rt.alloc(), SQUARES, &grid).ok().expect(&rt, "features");
+        let features = read(rt.alloc(), SQUARES, &grid)
+            .ok()
+            .expect(&rt, "features");
         let mut answers = Vec::new(rt.alloc());
         answers.push(Answer::Take(13))?;
         answers.push(Answer::FailAfter(3))?;
         let mut script = Script::new(rt.alloc(), answers);
-        assert_eq!(rt; write(&grid, features.iter(), &mut script), Err(WriteFault::Write));
+        assert_eq!(rt;
+            write(&grid, features.iter(), &mut script),
+            Err(WriteFault::Write)
+        );
         assert_eq!(rt; script.taken(), &SQUARES[..16]);
         Ok(())
     }

@@ -2,7 +2,7 @@
 //! compact JSON, members in byte order of their names, no newline at the end.
 ghost use Rattle.std.specs.Prelude.{◌≡◌, ℕ, ℤ, ◌-ℤ◌, List, [], ◌++◌, codes, OnErr, OnOk};
 ghost use Rattle.std.specs.Fmt.{signed_decimal};
-ghost use Rattle.sinks.specs.Texts.{list_text, joined};
+ghost use Rattle.sinks.specs.Texts.{list_text, joined, option_text};
 ghost use Rattle.sinks.specs.Writes.{TookAll, TookPart};
 ghost use Rattle.shapes.specs.Parts.{spelled_text, properties_text};
 ghost use Rattle.theory.specs.ArcNumbers.{index_of};
@@ -13,7 +13,9 @@ use chains::table::{ArcRef, ArcTable};
 use grid::{Grid, Pos};
 use itoa::Buffer;
 use shapes::props::Props;
-use sinks::written::{Bracketed, Each, Joined, Listed, Notation, Noted, Number, Pair, Text, Then, Written};
+use sinks::written::{
+    Bracketed, Each, Joined, Listed, Notation, Noted, Number, Pair, Text, Then, Written,
+};
 use sinks::{Sink, WriteFault, put};
 use topo::geom::{Body, Geom};
 use topo::topology::{Layer, Topology};
@@ -138,6 +140,7 @@ impl<'a, C: Written> Written for Content<'a, C> {
 }
 
 const COORDINATES: &[u8] = b"\"coordinates\":";
+
 const ARCS: &[u8] = b"\"arcs\":";
 
 /// What a geometry is made of; nothing for the null shape.
@@ -151,11 +154,21 @@ impl<'a> Written for ContentOf<'a> {
         match self.0 {
             Body::Null => Ok(()),
             Body::Point(p) => Content(COORDINATES, Noted(p, &GridNumbers)).write(sink),
-            Body::MultiPoint(ps) => Content(COORDINATES, Listed(ps.as_slice(), &GridNumbers)).write(sink),
+            Body::MultiPoint(ps) => Content(COORDINATES, Listed(ps.as_slice(), &GridNumbers)).write(
+                sink,
+            ),
             Body::Line(used) => Content(ARCS, Listed(used.as_slice(), &Indexes)).write(sink),
-            Body::MultiLine(lines) => Content(ARCS, Listed(lines.as_slice(), &Lists(Indexes))).write(sink),
-            Body::Polygon(rings) => Content(ARCS, Listed(rings.as_slice(), &Lists(Indexes))).write(sink),
-            Body::MultiPolygon(polygons) => Content(ARCS, Listed(polygons.as_slice(), &Lists(Lists(Indexes)))).write(sink),
+            Body::MultiLine(lines) => Content(
+                ARCS,
+                Listed(lines.as_slice(), &Lists(Indexes)),
+            ).write(sink),
+            Body::Polygon(rings) => Content(ARCS, Listed(rings.as_slice(), &Lists(Indexes))).write(
+                sink,
+            ),
+            Body::MultiPolygon(polygons) => Content(
+                ARCS,
+                Listed(polygons.as_slice(), &Lists(Lists(Indexes))),
+            ).write(sink),
         }
     }
 }
@@ -199,8 +212,14 @@ impl Notation<Geom> for Geometries {
     ghost text = { λ _ g. geometry_text (item_of g) };
 
     fn write_value<W: Sink>(&self, value: &Geom, sink: &mut W) -> Result<(), WriteFault> {
-        let name = Then(Text(b"\"type\":"), Then(Text(type_name(&value.body)), Text(b"}")));
-        let members = Then(IdMember(&value.id), Then(PropertiesMember(&value.props), name));
+        let name = Then(
+            Text(b"\"type\":"),
+            Then(Text(type_name(&value.body)), Text(b"}")),
+        );
+        let members = Then(
+            IdMember(&value.id),
+            Then(PropertiesMember(&value.props), name),
+        );
         Then(Text(b"{"), Then(ContentOf(&value.body), members)).write(sink)
     }
 }
@@ -220,17 +239,23 @@ impl Notation<Layer> for Layers {
     }
 }
 
-/// The member `bbox` and a comma (TopoJSON, section 3).
+/// The member `bbox` and a comma (TopoJSON, section 3); nothing where no position is there.
 #[derive(Clone, Copy)]
-struct BboxMember((i64, i64, i64, i64));
+struct BboxMember(Option<(i64, i64, i64, i64)>);
 
 impl Written for BboxMember {
-    ghost text = { λ b. bbox_text b.0 };
+    ghost text = { λ b. option_text bbox_text b.0 };
 
     fn write<W: Sink>(&self, sink: &mut W) -> Result<(), WriteFault> {
-        let (west, south, east, north) = self.0;
+        let Some((west, south, east, north)) = self.0 else {
+            return Ok(());
+        };
         let numbers = [Number(west), Number(south), Number(east), Number(north)];
-        Then(Text(b"\"bbox\":"), Then(Bracketed(Joined(&numbers)), Text(b","))).write(sink)
+        Then(
+            Text(b"\"bbox\":"),
+            Then(Bracketed(Joined(&numbers)), Text(b",")),
+        )
+        .write(sink)
     }
 }
 
@@ -245,7 +270,11 @@ impl Written for TransformMember {
         let (sx, sy) = self.0.scale();
         let (tx, ty) = self.0.translate();
         let translate = Then(Text(b",\"translate\":"), Then(Pair(tx, ty), Text(b"}")));
-        Then(Text(b"\"transform\":{\"scale\":"), Then(Pair(sx, sy), translate)).write(sink)
+        Then(
+            Text(b"\"transform\":{\"scale\":"),
+            Then(Pair(sx, sy), translate),
+        )
+        .write(sink)
     }
 }
 
@@ -258,11 +287,23 @@ impl<'a> Written for Canonical<'a> {
 
     fn write<W: Sink>(&self, sink: &mut W) -> Result<(), WriteFault> {
         let topology = self.0;
-        let transform = Then(TransformMember(topology.grid()), Text(b",\"type\":\"Topology\"}"));
-        let objects = Then(Each(topology.layers(), &Layers), Then(Text(b"},"), transform));
-        let bbox = topology.bbox().map(|corners| BboxMember(corners));
-        let tail = Then(bbox, Then(Text(b"\"objects\":{"), objects));
-        Then(Text(b"{\"arcs\":["), Then(ArcsText(topology.arcs()), Then(Text(b"],"), tail))).write(sink)
+        let transform = Then(
+            TransformMember(topology.grid()),
+            Text(b",\"type\":\"Topology\"}"),
+        );
+        let objects = Then(
+            Each(topology.layers(), &Layers),
+            Then(Text(b"},"), transform),
+        );
+        let tail = Then(
+            BboxMember(topology.bbox()),
+            Then(Text(b"\"objects\":{"), objects),
+        );
+        Then(
+            Text(b"{\"arcs\":["),
+            Then(ArcsText(topology.arcs()), Then(Text(b"],"), tail)),
+        )
+        .write(sink)
     }
 }
 
@@ -286,9 +327,11 @@ mod tests {
     use sinks::Kept;
     use std::alloc::Global;
 
-    const SQUARES: &[u8] = b"{\"arcs\":[[[1,0],[-1,0],[0,1],[1,0]],[[1,0],[0,1]],[[1,0],[1,0],[0,1],[-1,0]]],\"bbox\":[0,0,2,1],\"objects\":{\"a\":{\"geometries\":[{\"arcs\":[[1,-1]],\"type\":\"Polygon\"},{\"arcs\":[[2,-2]],\"type\":\"Polygon\"}],\"type\":\"GeometryCollection\"}},\"transform\":{\"scale\":[1,1],\"translate\":[0,0]},\"type\":\"Topology\"}";
+    const SQUARES: &[u8] =
+        b"{\"arcs\":[[[1,0],[-1,0],[0,1],[1,0]],[[1,0],[0,1]],[[1,0],[1,0],[0,1],[-1,0]]],\"bbox\":[0,0,2,1],\"objects\":{\"a\":{\"geometries\":[{\"arcs\":[[1,-1]],\"type\":\"Polygon\"},{\"arcs\":[[2,-2]],\"type\":\"Polygon\"}],\"type\":\"GeometryCollection\"}},\"transform\":{\"scale\":[1,1],\"translate\":[0,0]},\"type\":\"Topology\"}";
 
-    const POINTS: &[u8] = b"{\"arcs\":[],\"bbox\":[-7,30,93,45],\"objects\":{\"\":{\"geometries\":[],\"type\":\"GeometryCollection\"},\"b\":{\"geometries\":[{\"id\":\"x\",\"properties\":{\"a\":null,\"b\":1},\"type\":null},{\"coordinates\":[[1,2],[1,2]],\"id\":\"y\",\"type\":\"MultiPoint\"},{\"coordinates\":[-9,-1],\"id\":\"z\",\"type\":\"Point\"}],\"type\":\"GeometryCollection\"}},\"transform\":{\"scale\":[10,5],\"translate\":[83,35]},\"type\":\"Topology\"}";
+    const POINTS: &[u8] =
+        b"{\"arcs\":[],\"bbox\":[-7,30,93,45],\"objects\":{\"\":{\"geometries\":[],\"type\":\"GeometryCollection\"},\"b\":{\"geometries\":[{\"id\":\"x\",\"properties\":{\"a\":null,\"b\":1},\"type\":null},{\"coordinates\":[[1,2],[1,2]],\"id\":\"y\",\"type\":\"MultiPoint\"},{\"coordinates\":[-9,-1],\"id\":\"z\",\"type\":\"Point\"}],\"type\":\"GeometryCollection\"}},\"transform\":{\"scale\":[10,5],\"translate\":[83,35]},\"type\":\"Topology\"}";
 
     fn built(alloc: Global, text: &[u8]) -> Option<Topology> {
         let (grid, map) = read(alloc, text).ok()?;
@@ -323,9 +366,12 @@ mod tests {
     fn no_layers(rt: HostRuntime) {
         let grid = Grid::new(1, 1, 0, 0).expect(&rt, "a grid");
         let map = FeatureMap::new(rt.alloc());
-        let topology = Topology::build(rt.alloc(), &grid, &map).ok().expect(&rt, "memory");
+        let topology = Topology::build(rt.alloc(), &grid, &map)
+            .ok()
+            .expect(&rt, "memory");
         let text = written(rt.alloc(), &topology).expect(&rt, "a text");
-        let want = b"{\"arcs\":[],\"objects\":{},\"transform\":{\"scale\":[1,1],\"translate\":[0,0]},\"type\":\"Topology\"}";
+        let want =
+            b"{\"arcs\":[],\"objects\":{},\"transform\":{\"scale\":[1,1],\"translate\":[0,0]},\"type\":\"Topology\"}";
         assert_eq!(rt; text.as_slice(), want.as_slice());
     }
 }
