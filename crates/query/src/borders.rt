@@ -26,7 +26,11 @@ fn note_arc(segments: &mut BTreeSet<Segment>, arc: &[Pos]) -> Result<(), AllocEr
 }
 
 /// Whether the filter says yes to the least and the greatest feature of a span.
-fn is_selected<F: Fn(&Feature, &Feature) -> bool>(members: &[Member], span: Span, filter: &F) -> bool
+fn is_selected<F: Fn(&Feature, &Feature) -> bool>(
+    members: &[Member],
+    span: Span,
+    filter: &F,
+) -> bool
     requires { F.IsAlwaysCallable filter.now }
 {
     match (members.get(span.least), members.get(span.greatest)) {

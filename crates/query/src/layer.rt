@@ -8,7 +8,11 @@ use topo::Topology;
 ///
 /// # Errors
 /// `NoLayer` where the topology has no layer of that name; `OutOfMemory`.
-pub fn feature(alloc: Global, topology: &Topology, layer: &str) -> Result<Vec<Feature>, QueryFault> {
+pub fn feature(
+    alloc: Global,
+    topology: &Topology,
+    layer: &str,
+) -> Result<Vec<Feature>, QueryFault> {
     let map = topology.expand(alloc)?;
     let Some(features) = map.layer(layer) else {
         return Err(QueryFault::NoLayer);

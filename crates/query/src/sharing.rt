@@ -29,14 +29,22 @@ fn note_refs(uses: &mut Vec<Use>, place: usize, refs: &[ArcRef]) -> Result<(), A
     Ok(())
 }
 
-fn note_lists(uses: &mut Vec<Use>, place: usize, lists: &[Items<ArcRef>]) -> Result<(), AllocError> {
+fn note_lists(
+    uses: &mut Vec<Use>,
+    place: usize,
+    lists: &[Items<ArcRef>],
+) -> Result<(), AllocError> {
     for refs in lists {
         note_refs(uses, place, refs.as_slice())?;
     }
     Ok(())
 }
 
-fn note_polygons(uses: &mut Vec<Use>, place: usize, polygons: &[Items<Items<ArcRef>>]) -> Result<(), AllocError> {
+fn note_polygons(
+    uses: &mut Vec<Use>,
+    place: usize,
+    polygons: &[Items<Items<ArcRef>>],
+) -> Result<(), AllocError> {
     for lists in polygons {
         note_lists(uses, place, lists.as_slice())?;
     }
@@ -114,7 +122,11 @@ fn note_other(lists: &mut Vec<Vec<usize>>, pair: Pair) -> Result<(), AllocError>
 ///
 /// # Errors
 /// `NoLayer` where the topology has no layer of that name; `OutOfMemory`.
-pub fn neighbors(alloc: Global, topology: &Topology, layer: &str) -> Result<Vec<Vec<usize>>, QueryFault> {
+pub fn neighbors(
+    alloc: Global,
+    topology: &Topology,
+    layer: &str,
+) -> Result<Vec<Vec<usize>>, QueryFault> {
     let Some(geometries) = topology.geometries(layer) else {
         return Err(QueryFault::NoLayer);
     };

@@ -56,7 +56,11 @@ fn note_body(spans: &mut [Option<Span>], place: usize, body: &Body) {
 
 /// For each of the arcs its least and its greatest user, where it has one. The members stand in the
 /// order of their features.
-pub(crate) fn spans_of(alloc: Global, arcs: usize, members: &[Member]) -> Result<Vec<Option<Span>>, AllocError> {
+pub(crate) fn spans_of(
+    alloc: Global,
+    arcs: usize,
+    members: &[Member],
+) -> Result<Vec<Option<Span>>, AllocError> {
     let mut spans = Vec::with_capacity(alloc, arcs)?;
     for _ in 0..arcs {
         spans.push(None)?;

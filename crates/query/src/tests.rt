@@ -8,9 +8,13 @@ use std::test::Fail;
 use topo::Topology;
 
 const FIRST: [(i64, i64); 5] = [(0, 0), (1, 0), (1, 1), (0, 1), (0, 0)];
+
 const SECOND: [(i64, i64); 5] = [(1, 0), (2, 0), (2, 1), (1, 1), (1, 0)];
+
 const THIRD: [(i64, i64); 5] = [(2, 0), (3, 0), (3, 1), (2, 1), (2, 0)];
+
 const CORNER: [(i64, i64); 5] = [(1, 1), (2, 1), (2, 2), (1, 2), (1, 1)];
+
 const LOOP: [(i64, i64); 4] = [(0, 0), (2, 0), (0, 2), (0, 0)];
 
 fn positions(alloc: Global, places: &[(i64, i64)]) -> Result<Vec<Pos>, Fail> {
@@ -61,7 +65,12 @@ fn of_rings(alloc: Global, rings: &[&[(i64, i64)]]) -> Result<Topology, Fail> {
     built(alloc, &map)
 }
 
-fn check_lines(rt: &impl Abort, alloc: Global, found: &ArcTable, lines: &[&[(i64, i64)]]) -> Result<(), Fail> {
+fn check_lines(
+    rt: &impl Abort,
+    alloc: Global,
+    found: &ArcTable,
+    lines: &[&[(i64, i64)]],
+) -> Result<(), Fail> {
     assert_eq!(rt; found.len(), lines.len());
     for (i, places) in lines.iter().enumerate() {
         let expected = positions(alloc, places)?;
@@ -112,11 +121,24 @@ fn borders_of_two_squares(rt: HostRuntime) -> Result<(), Fail> {
     let around: &[(i64, i64)] = &[(0, 0), (0, 1), (1, 1), (2, 1), (2, 0), (1, 0), (0, 0)];
     let all = mesh(alloc, &squares, None, |_: &Feature, _: &Feature| true)?;
     check_lines(&rt, alloc, &all, &[left, shared, right])?;
-    let interior = mesh(alloc, &squares, Some("a"), |a: &Feature, b: &Feature| a != b)?;
+    let interior = mesh(
+        alloc,
+        &squares,
+        Some("a"),
+        |a: &Feature, b: &Feature| a != b,
+    )?;
     check_lines(&rt, alloc, &interior, &[shared])?;
-    let exterior = mesh(alloc, &squares, Some("a"), |a: &Feature, b: &Feature| a == b)?;
+    let exterior = mesh(
+        alloc,
+        &squares,
+        Some("a"),
+        |a: &Feature, b: &Feature| a == b,
+    )?;
     check_lines(&rt, alloc, &exterior, &[around])?;
-    assert!(rt; mesh(alloc, &squares, Some("q"), |_: &Feature, _: &Feature| true).err() == Some(QueryFault::NoLayer));
+    assert!(rt;
+        mesh(alloc, &squares, Some("q"), |_: &Feature, _: &Feature| true).err()
+            == Some(QueryFault::NoLayer)
+    );
     Ok(())
 }
 
@@ -126,9 +148,19 @@ fn borders_join_at_a_vertex_of_two(rt: HostRuntime) -> Result<(), Fail> {
     let mut map = FeatureMap::new(alloc);
     insert(alloc, &mut map, "a", line(alloc, &[(0, 0), (1, 0)])?)?;
     insert(alloc, &mut map, "a", line(alloc, &[(1, 0), (2, 0)])?)?;
-    let found = mesh(alloc, &built(alloc, &map)?, None, |_: &Feature, _: &Feature| true)?;
+    let found = mesh(
+        alloc,
+        &built(alloc, &map)?,
+        None,
+        |_: &Feature, _: &Feature| true,
+    )?;
     check_lines(&rt, alloc, &found, &[&[(0, 0), (1, 0), (2, 0)]])?;
-    let free = mesh(alloc, &of_rings(alloc, &[&LOOP])?, None, |_: &Feature, _: &Feature| true)?;
+    let free = mesh(
+        alloc,
+        &of_rings(alloc, &[&LOOP])?,
+        None,
+        |_: &Feature, _: &Feature| true,
+    )?;
     check_lines(&rt, alloc, &free, &[&[(0, 0), (0, 2), (2, 0), (0, 0)]])
 }
 
@@ -141,11 +173,21 @@ fn borders_over_all_layers(rt: HostRuntime) -> Result<(), Fail> {
     let topology = built(alloc, &map)?;
     let interior = mesh(alloc, &topology, None, |a: &Feature, b: &Feature| a != b)?;
     check_lines(&rt, alloc, &interior, &[&[(1, 0), (1, 1)]])?;
-    let alone = mesh(alloc, &topology, Some("a"), |a: &Feature, b: &Feature| a != b)?;
+    let alone = mesh(
+        alloc,
+        &topology,
+        Some("a"),
+        |a: &Feature, b: &Feature| a != b,
+    )?;
     check_lines(&rt, alloc, &alone, &[])?;
     let mut twice = FeatureMap::new(alloc);
     insert(alloc, &mut twice, "a", polygon(alloc, &FIRST)?)?;
     insert(alloc, &mut twice, "b", polygon(alloc, &FIRST)?)?;
-    let one = mesh(alloc, &built(alloc, &twice)?, None, |a: &Feature, b: &Feature| a != b)?;
+    let one = mesh(
+        alloc,
+        &built(alloc, &twice)?,
+        None,
+        |a: &Feature, b: &Feature| a != b,
+    )?;
     check_lines(&rt, alloc, &one, &[])
 }

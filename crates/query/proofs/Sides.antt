@@ -1,0 +1,203 @@
+-- What is noted of the other ends of a vertex's segments, and which vertices are stops.
+use Rattle.std.proofs.Common.{◌≡◌, Bool, true, false, cond, ◌||◌, rules, List, [], ◌∷◌, ◌⊎◌, inl, inr, refl, sym, ap, ◌∙◌, subst, Option, Some, None, Result, Ok, Err, IfOk}
+use Rattle.std.specs.Ordering.{is_eq}
+use Rattle.std.specs.List.{list_any}
+use Rattle.std.specs.BTreeSet.{BTreeSet, contains}
+use Rattle.theory.specs.Segments.{TwoSegments}
+use Rattle.lines.specs.Turned.{position_cmp}
+use Rattle.grid.specs.declared.pos.Pos.{Pos}
+use Rattle.chains.specs.Pairs.{position_eq, among}
+use Rattle.chains.specs.Joined.{AmongSegments, SegmentsOf, StopAt, MeetsTwo}
+use Rattle.chains.specs.declared.segment.Segment.{Segment}
+use Rattle.chains.proofs.Equality.{position_tied, tied_position, position_true, true_position, true_false}
+use Rattle.query.specs.declared.stops.Sides.{Sides}
+use Rattle.query.specs.declared.stops.Sides.TheVariants.{One, Two, More}
+use Rattle.query.specs.Stops.{sided, noted, noted_all, sides_in, halts, stop_step, stop_all, OnOne, OnThreeOf, AreStops}
+
+-- what is noted says of the other ends H
+abbrev Means : Option Sides → (Pos → Type 0) → Type 0
+Means None H = (p : Pos) → ¬ H p
+Means (Some (One a)) H = H a × ((p : Pos) → H p → p ≡ a)
+Means (Some (Two a b)) H = (¬ (a ≡ b)) × H a × H b × ((p : Pos) → H p → (p ≡ a) ⊎ (p ≡ b))
+Means (Some More) H = (a : Pos) × (b : Pos) × (c : Pos) × H a × H b × H c × (¬ (a ≡ b)) × (¬ (a ≡ c)) × (¬ (b ≡ c))
+
+Means-iff : (o : Option Sides) (H G : Pos → Type 0) → ((p : Pos) → H p → G p) → ((p : Pos) → G p → H p) → Means o H → Means o G
+Means-iff None H G f g h = λ p k. h p (g p k)
+Means-iff (Some (One a)) H G f g h = (f a h.0, λ p k. h.1 p (g p k))
+Means-iff (Some (Two a b)) H G f g h = (h.0, f a h.1, f b h.2, λ p k. h.3 p (g p k))
+Means-iff (Some More) H G f g h = (h.0, h.1, h.2, f h.0 h.3, f h.1 h.4, f h.2 h.5, h.6, h.7, h.8)
+
+apart_false : (a n : Pos) → position_eq a n ≡ false → ¬ (a ≡ n)
+apart_false a n e k = true_false (position_eq a n) (true_position a n k) e
+
+Means-sided : (o : Option Sides) (H : Pos → Type 0) (n : Pos) → Means o H → Means (Some (sided o n)) (λ p. (p ≡ n) ⊎ H p)
+Means-sided None H n h = (inl refl, λ p k. elim k [ inl f ↦ f | inr f ↦ absurd (h p f) ])
+Means-sided (Some (One a)) H n h = go (position_eq a n) refl
+  where
+    go : (b : Bool) → position_eq a n ≡ b → Means (Some (cond b (One a) (Two a n))) (λ p. (p ≡ n) ⊎ H p)
+    go true e = (inr h.0, λ p k. elim k [ inl f ↦ f ∙ sym (position_true a n e) | inr f ↦ h.1 p f ])
+    go false e = (apart_false a n e, inr h.0, inl refl, λ p k. elim k [ inl f ↦ inr f | inr f ↦ inl (h.1 p f) ])
+Means-sided (Some (Two a b)) H n h = go (position_eq a n) refl (position_eq b n) refl
+  where
+    go : (s : Bool) → position_eq a n ≡ s → (t : Bool) → position_eq b n ≡ t → Means (Some (cond s (Two a b) (cond t (Two a b) More))) (λ p. (p ≡ n) ⊎ H p)
+    go true e t f = (h.0, inr h.1, inr h.2, λ p k. elim k [ inl g ↦ inl (g ∙ sym (position_true a n e)) | inr g ↦ h.3 p g ])
+    go false e true f = (h.0, inr h.1, inr h.2, λ p k. elim k [ inl g ↦ inr (g ∙ sym (position_true b n f)) | inr g ↦ h.3 p g ])
+    go false e false f = (a, b, n, inr h.1, inr h.2, inl refl, h.0, apart_false a n e, apart_false b n f)
+Means-sided (Some More) H n h = (h.0, h.1, h.2, inr h.3, inr h.4, inr h.5, h.6, h.7, h.8)
+
+Means-noted : (q : Pos) (o : Option Sides) (H : Pos → Type 0) (at to : Pos) → Means o H → Means (noted q o at to) (λ p. ((q ≡ at) × (p ≡ to)) ⊎ H p)
+Means-noted q o H at to h = go (is_eq (position_cmp at q)) refl
+  where
+    go : (b : Bool) → is_eq (position_cmp at q) ≡ b → Means (cond b (Some (sided o to)) o) (λ p. ((q ≡ at) × (p ≡ to)) ⊎ H p)
+    go true e =
+        Means-iff (Some (sided o to)) (λ p. (p ≡ to) ⊎ H p) (λ p. ((q ≡ at) × (p ≡ to)) ⊎ H p)
+        (λ p k. elim k [ inl f ↦ inl (sym (position_tied at q e), f) | inr f ↦ inr f ])
+        (λ p k. elim k [ inl f ↦ inl f.1 | inr f ↦ inr f ]) (Means-sided o H to h)
+    go false e =
+        Means-iff o H (λ p. ((q ≡ at) × (p ≡ to)) ⊎ H p) (λ p k. inr k)
+        (λ p k. elim k [ inl f ↦ absurd (true_false (is_eq (position_cmp at q)) (tied_position at q (sym f.0)) e) | inr f ↦ f ]) h
+
+Means-all : (q : Pos) (o : Option Sides) (H : Pos → Type 0) (ss : List Segment) → Means o H → Means (noted_all q o ss) (λ p. AmongSegments q p ss ⊎ H p)
+Means-all q o H [] h = Means-iff o H (λ p. ⊥ ⊎ H p) (λ p k. inr k) (λ p k. elim k [ inl z ↦ absurd z | inr f ↦ f ]) h
+Means-all q o H (s ∷ ss) h =
+    let one = noted q o s.lesser s.greater in
+    let first = Means-noted q o H s.lesser s.greater h in
+    let second = Means-noted q one (λ p. ((q ≡ s.lesser) × (p ≡ s.greater)) ⊎ H p) s.greater s.lesser first in
+    Means-iff (noted_all q o (s ∷ ss))
+    (λ p. AmongSegments q p ss ⊎ (((q ≡ s.greater) × (p ≡ s.lesser)) ⊎ (((q ≡ s.lesser) × (p ≡ s.greater)) ⊎ H p)))
+    (λ p. AmongSegments q p (s ∷ ss) ⊎ H p)
+    (λ p k. elim k [
+      | inl f ↦ inl (inr f)
+      | inr f ↦ elim f [ inl g ↦ inl (inl (inr g)) | inr g ↦ elim g [ inl i ↦ inl (inl (inl i)) | inr i ↦ inr i ] ]
+    ])
+    (λ p k. elim k [
+      | inr f ↦ inr (inr (inr f))
+      | inl f ↦ elim f [ inr g ↦ inl g | inl g ↦ elim g [ inl i ↦ inr (inr (inl i)) | inr i ↦ inr (inl i) ] ]
+    ])
+    (Means-all q (noted q one s.greater s.lesser)
+    (λ p. ((q ≡ s.greater) × (p ≡ s.lesser)) ⊎ (((q ≡ s.lesser) × (p ≡ s.greater)) ⊎ H p)) ss second)
+
+-- what is noted of all segments
+Means-segments : (q : Pos) (ss : List Segment) → Means (noted_all q None ss) (λ p. AmongSegments q p ss)
+Means-segments q ss =
+    Means-iff (noted_all q None ss) (λ p. AmongSegments q p ss ⊎ ⊥) (λ p. AmongSegments q p ss)
+    (λ p k. elim k [ inl f ↦ f | inr z ↦ absurd z ]) (λ p k. inl k) (Means-all q None (λ p. ⊥) ss (λ p z. z))
+
+-- the stops that the code notes
+module _ (f : Pos → Option Sides) (q : Pos) where
+  step_kept : (v : Pos) → stop_step f q true v ≡ true
+  step_kept v = go (halts (f v)) (is_eq (position_cmp v q))
+    where
+      go : (a b : Bool) → cond a (cond b true true) true ≡ true
+      go true true = refl
+      go true false = refl
+      go false b = refl
+
+  all_kept : (ss : List Segment) → stop_all f q true ss ≡ true
+  all_kept [] = refl
+  all_kept (s ∷ ss) =
+      ap (λ b. stop_all f q (stop_step f q b s.greater) ss) (step_kept s.lesser)
+      ∙ ap (λ b. stop_all f q b ss) (step_kept s.greater) ∙ all_kept ss
+
+  step_met : (b : Bool) (v : Pos) → halts (f q) ≡ true → q ≡ v → stop_step f q b v ≡ true
+  step_met b v h e = rw (ap (λ w. halts (f w)) (sym e) ∙ h, tied_position v q (sym e)) refl
+
+  -- an end of a segment, if it halts, is a stop
+  all_met : (b : Bool) (w : Pos) (ss : List Segment) → halts (f q) ≡ true → AmongSegments q w ss → stop_all f q b ss ≡ true
+  all_met b w [] h k = absurd k
+  all_met b w (s ∷ ss) h (inl (inl k)) =
+      ap (λ c. stop_all f q (stop_step f q c s.greater) ss) (step_met b s.lesser h k.0)
+      ∙ ap (λ c. stop_all f q c ss) (step_kept s.greater) ∙ all_kept ss
+  all_met b w (s ∷ ss) h (inl (inr k)) =
+      ap (λ c. stop_all f q c ss) (step_met (stop_step f q b s.lesser) s.greater h k.0) ∙ all_kept ss
+  all_met b w (s ∷ ss) h (inr k) = all_met (stop_step f q (stop_step f q b s.lesser) s.greater) w ss h k
+
+  step_from : (b : Bool) (v : Pos) → stop_step f q b v ≡ true → (b ≡ true) ⊎ (halts (f q) ≡ true)
+  step_from b v e = go (halts (f v)) refl (is_eq (position_cmp v q)) refl e
+    where
+      go : (a : Bool) → halts (f v) ≡ a → (c : Bool) → is_eq (position_cmp v q) ≡ c → cond a (cond c true b) b ≡ true → (b ≡ true) ⊎ (halts (f q) ≡ true)
+      go true h true g k = inr (subst (λ w. halts (f w) ≡ true) (position_tied v q g) h)
+      go true h false g k = inl k
+      go false h c g k = inl k
+
+  -- each stop halts
+  all_from : (b : Bool) (ss : List Segment) → stop_all f q b ss ≡ true → (b ≡ true) ⊎ (halts (f q) ≡ true)
+  all_from b [] e = inl e
+  all_from b (s ∷ ss) e =
+      elim (all_from (stop_step f q (stop_step f q b s.lesser) s.greater) ss e) [
+        | inr h ↦ inr h
+        | inl k ↦ elim (step_from (stop_step f q b s.lesser) s.greater k) [
+          | inr h ↦ inr h
+          | inl i ↦ step_from b s.lesser i
+        ]
+      ]
+
+module _ (segs list : List Segment) (stops : List Pos) (f : Pos → Option Sides) (same : list ≡ segs)
+    (noting : (q : Pos) → f q ≡ noted_all q None list) (made : (q : Pos) → among stops q ≡ stop_all f q false list) where
+  means : (q : Pos) → Means (f q) (λ p. AmongSegments q p segs)
+  means q = subst (λ o. Means o (λ p. AmongSegments q p segs)) (sym (noting q ∙ ap (noted_all q None) same)) (Means-segments q segs)
+
+  -- a vertex that is no stop lies on two segments
+  pub stops_meet : MeetsTwo segs stops
+  stops_meet v w free k = go (f v) (means v) halting
+    where
+      halting : ¬ (halts (f v) ≡ true)
+      halting h = free (made v ∙ all_met f v false w list h (subst (AmongSegments v w) (sym same) k))
+
+      go : (o : Option Sides) → Means o (λ p. AmongSegments v p segs) → ¬ (halts o ≡ true) →
+          (a : Pos) × (b : Pos) × (¬ (a ≡ b)) × SegmentsOf segs v a × SegmentsOf segs v b × ((c : Pos) → SegmentsOf segs v c → (c ≡ a) ⊎ (c ≡ b))
+      go None m n = absurd (m w k)
+      go (Some (One a)) m n = absurd (n refl)
+      go (Some (Two a b)) m n = (a, b, m.0, m.1, m.2, m.3)
+      go (Some More) m n = absurd (n refl)
+
+  -- a stop lies on one segment, or on three or more
+  pub stops_are : AreStops segs stops
+  stops_are v k = go (f v) (means v) (elim (all_from f v false list (sym (made v) ∙ k)) [ inl e ↦ absurd (true_false false e refl) | inr h ↦ h ])
+    where
+      go : (o : Option Sides) → Means o (λ p. AmongSegments v p segs) → halts o ≡ true → OnOne (SegmentsOf segs) v ⊎ OnThreeOf (SegmentsOf segs) v
+      go None m n = absurd cc
+      go (Some (One a)) m n = inl (a, m.0, m.1)
+      go (Some (Two a b)) m n = absurd cc
+      go (Some More) m n = inr m
+
+-- whether a set has a position
+eq_is : (p q : Pos) → is_eq (position_cmp p q) ≡ position_eq p q
+eq_is p q = search rules
+
+pub contains_among : (s : BTreeSet Pos) (q : Pos) → contains position_cmp s q ≡ among s.keys q
+contains_among s q = go s.keys
+  where
+    go : (ks : List Pos) → list_any (λ k. is_eq (position_cmp q k)) ks ≡ list_any (position_eq q) ks
+    go [] = refl
+    go (k ∷ ks) = let p = eq_is q k in let r = go ks in λ i. p i || r i
+
+-- one vertex more is noted
+pub noted_step : (q at to : Pos) (f : Pos → Option Sides) (new : Option Sides) (old : Option Sides) (v : Sides) →
+    new ≡ cond (is_eq (position_cmp at q)) (Some v) (f q) → v ≡ sided old to → old ≡ f at → new ≡ noted q (f q) at to
+noted_step q at to f new old v e g h = e ∙ go (is_eq (position_cmp at q)) refl
+  where
+    go : (b : Bool) → is_eq (position_cmp at q) ≡ b → cond b (Some v) (f q) ≡ cond b (Some (sided (f q) to)) (f q)
+    go true i = ap Some (g ∙ ap (λ u. sided u to) (h ∙ ap f (position_tied at q i)))
+    go false i = refl
+
+-- a vertex is put among the stops
+pub stop_put : (s t : BTreeSet Pos) (f : Pos → Option Sides) (v q : Pos) → halts (f v) ≡ true →
+    contains position_cmp t q ≡ cond (is_eq (position_cmp v q)) true (contains position_cmp s q) → among t.keys q ≡ stop_step f q (among s.keys q) v
+stop_put s t f v q h e =
+    sym (contains_among t q) ∙ e ∙ ap (λ b. cond (is_eq (position_cmp v q)) true b) (contains_among s q)
+    ∙ sym (ap (λ a. cond a (cond (is_eq (position_cmp v q)) true (among s.keys q)) (among s.keys q)) h)
+
+-- it is not put there
+pub stop_left : (keys : List Pos) (f : Pos → Option Sides) (v q : Pos) → halts (f v) ≡ false → among keys q ≡ stop_step f q (among keys q) v
+stop_left keys f v q h = sym (ap (λ a. cond a (cond (is_eq (position_cmp v q)) true (among keys q)) (among keys q)) h)
+
+-- in the form of the code
+pub stops_told : {E : Type 0} (segs xs ys : List Segment) (f : Pos → Option Sides) (r : Result (BTreeSet Pos) E) → xs ≡ segs → ys ≡ segs →
+    ((q : Pos) → f q ≡ noted_all q None xs) → IfOk r (λ s. (q : Pos) → among s.keys q ≡ stop_all f q false ys) →
+    IfOk r (λ s. MeetsTwo segs s.keys) × IfOk r (λ s. AreStops segs s.keys)
+stops_told segs xs ys f (Ok s) p q noting made =
+    let n : (v : Pos) → f v ≡ noted_all v None segs = λ v. noting v ∙ ap (noted_all v None) p in
+    let m : (v : Pos) → among s.keys v ≡ stop_all f v false segs = λ v. made v ∙ ap (stop_all f v false) q in
+    (stops_meet segs segs s.keys f refl n m, stops_are segs segs s.keys f refl n m)
+stops_told segs xs ys f (Err e) p q noting made = (tt, tt)
