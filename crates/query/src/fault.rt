@@ -1,8 +1,10 @@
 //! Why a question to a topology has no answer.
 ghost use Rattle.std.specs.Prelude.{◌≡◌};
 ghost use Rattle.query.specs.declared.fault.QueryFault.TheVariants.{OutOfMemory as WantOfMemory};
+ghost use Rattle.query.specs.declared.fault.LayerFault.TheVariants.{Write};
 
 use faults::OutOfMemory;
+use sinks::WriteFault;
 use std::alloc::{AllocError, AllocFailed};
 use thiserror::Error;
 
@@ -49,5 +51,13 @@ impl From<OutOfMemory> for QueryFault {
 
     fn from(_: OutOfMemory) -> QueryFault {
         QueryFault::OutOfMemory
+    }
+}
+
+impl From<WriteFault> for LayerFault {
+    ghost from_gives = { λ _ f. f ≡ Write };
+
+    fn from(_: WriteFault) -> LayerFault {
+        LayerFault::Write
     }
 }

@@ -3,6 +3,7 @@
 #![tactic(auto)]
 
 pub mod borders;
+pub mod collection;
 pub mod fault;
 pub mod layer;
 mod members;
@@ -11,6 +12,7 @@ mod spans;
 mod stops;
 
 pub use borders::mesh;
+pub use collection::write_layer;
 pub use fault::{LayerFault, QueryFault};
 pub use layer::feature;
 pub use sharing::neighbors;

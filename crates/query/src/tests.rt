@@ -1,7 +1,8 @@
-use crate::{QueryFault, feature, mesh, neighbors};
+use crate::{LayerFault, QueryFault, feature, mesh, neighbors, write_layer};
 use chains::ArcTable;
 use grid::{Grid, Pos};
 use shapes::{Feature, FeatureMap, Id, Items, Line, Props, Ring, Shape};
+use sinks::Kept;
 use std::alloc::Global;
 use std::process::Abort;
 use std::test::Fail;
@@ -190,4 +191,24 @@ fn borders_over_all_layers(rt: HostRuntime) -> Result<(), Fail> {
         |a: &Feature, b: &Feature| a != b,
     )?;
     check_lines(&rt, alloc, &one, &[])
+}
+
+fn check_text(rt: &impl Abort, alloc: Global, topology: &Topology, text: &[u8]) {
+    let mut kept = Kept::new(alloc);
+    assert!(rt; write_layer(topology, "a", &mut kept).is_ok());
+    assert_eq!(rt; kept.into_bytes().as_slice(), text);
+}
+
+#[test]
+fn writes_a_layer(rt: HostRuntime) -> Result<(), Fail> {
+    let alloc = rt.alloc();
+    let squares = of_rings(alloc, &[&FIRST, &SECOND])?;
+    check_text(&rt, alloc, &squares, b"{\"features\":[{\"geometry\":{\"coordinates\":[[[0,0],[1,0],[1,1],[0,1],[0,0]]],\"type\":\"Polygon\"},\"properties\":{},\"type\":\"Feature\"},{\"geometry\":{\"coordinates\":[[[1,0],[2,0],[2,1],[1,1],[1,0]]],\"type\":\"Polygon\"},\"properties\":{},\"type\":\"Feature\"}],\"type\":\"FeatureCollection\"}");
+    let mut kept = Kept::new(alloc);
+    assert!(rt; write_layer(&squares, "q", &mut kept) == Err(LayerFault::NoLayer));
+    let mut map = FeatureMap::new(alloc);
+    insert(alloc, &mut map, "a", line(alloc, &[(3, 0), (1, 0), (2, 5)])?)?;
+    insert(alloc, &mut map, "a", Shape::Null)?;
+    check_text(&rt, alloc, &built(alloc, &map)?, b"{\"features\":[{\"geometry\":null,\"properties\":{},\"type\":\"Feature\"},{\"geometry\":{\"coordinates\":[[3,0],[1,0],[2,5]],\"type\":\"LineString\"},\"properties\":{},\"type\":\"Feature\"}],\"type\":\"FeatureCollection\"}");
+    Ok(())
 }
