@@ -44,10 +44,6 @@ not_true : (b : Bool) → not b ≡ true → b ≡ false
 not_true true e = sym e
 not_true false e = refl
 
-not_false : (b : Bool) → not b ≡ false → b ≡ true
-not_false true e = refl
-not_false false e = sym e
-
 clash_yes : (a b : Visit) → clash a b ≡ true → (a.vertex ≡ b.vertex) × (¬ (a ≡ b))
 clash_yes a b e =
     let h = both_true (position_eq a.vertex b.vertex) (not (visit_eq a b)) e in

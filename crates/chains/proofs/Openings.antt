@@ -1,7 +1,7 @@
 -- The least start of a ring, where the list is parted.
 use Rattle.std.proofs.Common.{◌≡◌, ℕ, zero, suc, ◌+◌, ◌<◌, ◌≤◌, Bool, true, false, cond, not, List, [], ◌∷◌, ◌++◌, length, inl, inr, refl, sym, ap, ◌∙◌, subst, arith, append_assoc}
 use Rattle.std.specs.Cmp.{IsTotalOrder, then_total, on_total, tied_itself, upto, bool_cmp_total}
-use Rattle.std.specs.Ordering.{is_lt, is_gt}
+use Rattle.std.specs.Ordering.{is_lt, is_gt, bool_cmp, ordering_then}
 use Rattle.std.specs.declared.cmp.Ordering.{Ordering}
 use Rattle.std.specs.declared.cmp.Ordering.TheVariants.{Less, Equal, Greater}
 use Rattle.std.proofs.lemmas.List.{length-append}
@@ -119,3 +119,15 @@ start_there stop first [] x [] = inl refl
 start_there stop first [] x (y ∷ right) = inl refl
 start_there stop first (a ∷ []) x right = inr (start_there stop first [] x right)
 start_there stop first (a ∷ (b ∷ left)) x right = inr (start_there stop first (b ∷ left) x right)
+
+-- behind a stop, only a lesser vertex starts before it
+pub not_lesser : (stop : Pos → Bool) (best : Start) (a b : Pos) → best.passed ≡ false → is_gt (position_cmp a best.from) ≡ true →
+    is_lt (start_cmp (start_of stop a b) best) ≡ false
+not_lesser stop best a b e g = go (stop a) best.passed (position_cmp a best.from) e g
+  where
+    go : (s p : Bool) (r : Ordering) → p ≡ false → is_gt r ≡ true → is_lt (ordering_then (bool_cmp (not s) p) (ordering_then r (position_cmp b best.to))) ≡ false
+    go s true r e g = absurd cc
+    go s false Less e g = absurd cc
+    go s false Equal e g = absurd cc
+    go true false Greater e g = refl
+    go false false Greater e g = refl

@@ -37,15 +37,18 @@ form_ends f = gathered ends_of (lines_in f)
 abbrev pub form_visits : Shape Pos → List Visit
 form_visits f = gathered inner_of (lines_in f) ++ gathered around_of (rings_in f)
 
+-- the ends of the lines of a feature
 abbrev pub feature_ends : Feature → List Pos
 feature_ends f = form_ends (form_of f.shape)
 
+-- the visits of a feature that are no ends
 abbrev pub feature_visits : Feature → List Visit
 feature_visits f = form_visits (form_of f.shape)
 
--- those of the features under a name
+-- the ends of the lines of the features under a name
 abbrev pub layer_ends : Layers → List ℕ → List Pos
 layer_ends m name = gathered feature_ends (set.items (features_at m name))
 
+-- the visits of the features under a name that are no ends
 abbrev pub layer_visits : Layers → List ℕ → List Visit
 layer_visits m name = gathered feature_visits (set.items (features_at m name))

@@ -22,6 +22,7 @@ AmongSegments u v [] = ⊥
 AmongSegments u v (s ∷ ss) =
     (((u ≡ s.lesser) × (v ≡ s.greater)) ⊎ ((u ≡ s.greater) × (v ≡ s.lesser))) ⊎ AmongSegments u v ss
 
+-- the segments as a relation of vertices
 abbrev pub SegmentsOf : List Segment → Pos → Pos → Type 0
 SegmentsOf segs u v = AmongSegments u v segs
 

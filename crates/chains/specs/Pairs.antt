@@ -6,6 +6,7 @@ use Rattle.grid.specs.declared.pos.Pos.{Pos}
 use Rattle.lines.specs.Turned.{position_cmp}
 use Rattle.chains.specs.declared.visits.Sides.{Sides}
 
+-- whether two positions have equal numbers
 abbrev pub position_eq : Pos → Pos → Bool
 position_eq p q = int_eq p.x q.x && int_eq p.y q.y
 
@@ -13,6 +14,7 @@ position_eq p q = int_eq p.x q.x && int_eq p.y q.y
 abbrev pub among : List Pos → Pos → Bool
 among keys p = list_any (position_eq p) keys
 
+-- whether two unordered pairs are equal
 abbrev pub sides_eq : Sides → Sides → Bool
 sides_eq s t = position_eq s.lesser t.lesser && position_eq s.greater t.greater
 

@@ -45,6 +45,7 @@ begins_free stop (x ∷ l) = not (stop x)
 abbrev pub oriented : (Pos → Bool) → List Pos → Piece
 oriented stop c = record { chain = least_direction c; reversed = is_backwards_less c; free = begins_free stop c }
 
+-- a list cut at its stops; what is behind the last stop is dropped
 abbrev pub cut_list : (Pos → Bool) → List Pos → List (List Pos)
 cut_list stop [] = []
 cut_list stop (x ∷ rest) = cut_from stop (x ∷ []) rest
@@ -53,6 +54,7 @@ cut_list stop (x ∷ rest) = cut_from stop (x ∷ []) rest
 abbrev pub opened_at : ℕ → List Pos → List Pos
 opened_at i l = (drop i l ++ take i l) ++ take 1 (drop i l)
 
+-- whether the list begins with a stop
 abbrev pub first_stops : (Pos → Bool) → List Pos → Bool
 first_stops stop [] = false
 first_stops stop (x ∷ l) = stop x
@@ -62,6 +64,7 @@ abbrev pub parts_at : (Pos → Bool) → ℕ → List Pos → List (List Pos)
 parts_at stop i [] = []
 parts_at stop i (x ∷ r) = cond (first_stops stop (drop i (x ∷ r))) (cut_list stop (opened_at i (x ∷ r))) (opened_at i (x ∷ r) ∷ [])
 
+-- the pieces of a ring, in order along it from its seam, as lists
 abbrev pub ring_parts : (Pos → Bool) → List Pos → List (List Pos)
 ring_parts stop r = parts_at stop (start_place stop r) r
 

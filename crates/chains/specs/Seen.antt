@@ -21,9 +21,11 @@ use Rattle.theory.specs.Lists.{gathered, joined}
 abbrev pub Info : Type 0
 Info = Id × Props
 
+-- the positions of a line
 abbrev pub line_of : lines_of.Line → List Pos
 line_of l = positions_of l
 
+-- the vertices of a ring, from its least rotation
 abbrev pub ring_of : rings_of.Ring → List Pos
 ring_of r = vertices_of r
 
@@ -37,9 +39,11 @@ form_of (of.MultiLine ls) = lines (map_list line_of ls)
 form_of (of.Polygon rs) = polygon (map_list ring_of rs)
 form_of (of.MultiPolygon ps) = polygons (map_list (map_list ring_of) ps)
 
+-- a feature: id and properties, and its form
 abbrev pub item_of : Feature → Item Info (Shape Pos)
 item_of f = record { info = (f.id, f.props); form = form_of f.shape }
 
+-- a layer: its name, and its features in order
 abbrev pub layer_of : List ℕ × Features → Layer (Item Info (Shape Pos))
 layer_of e = record { name = e.0; items = map_list item_of (set.items e.1) }
 

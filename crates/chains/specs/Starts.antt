@@ -6,9 +6,11 @@ use Rattle.grid.specs.declared.pos.Pos.{Pos}
 use Rattle.lines.specs.Turned.{position_cmp}
 use Rattle.chains.specs.declared.starts.Start.{Start}
 
+-- a vertex with the next one, and whether the cut passes it
 abbrev pub start_of : (Pos → Bool) → Pos → Pos → Start
 start_of stop a b = record { passed = not (stop a); from = a; to = b }
 
+-- stops first, then by the vertex, then by the next one
 abbrev pub start_cmp : Start → Start → Ordering
 start_cmp s t = ordering_then (bool_cmp s.passed t.passed) (ordering_then (position_cmp s.from t.from) (position_cmp s.to t.to))
 

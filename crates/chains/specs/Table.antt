@@ -16,6 +16,7 @@ use Rattle.chains.specs.Pieces.{chain_of, ArePieces}
 use Rattle.chains.specs.declared.cutting.Piece.{Piece}
 use lib.Pointwise.{pointwise}
 
+-- whether two lists have equal positions
 abbrev pub same_list : List Pos → List Pos → Bool
 same_list = pointwise position_eq
 
@@ -32,6 +33,7 @@ abbrev pub begins_among : List Pos → List Pos → Bool
 begins_among keys [] = false
 begins_among keys (x ∷ l) = among keys x
 
+-- whether there is a list, and it begins at a seam
 abbrev pub is_seamed : List Pos → Option (List Pos) → Bool
 is_seamed seams None = false
 is_seamed seams (Some c) = begins_among seams c
@@ -44,6 +46,7 @@ free_at t n = is_seamed t.seams (slice_get t.arcs n)
 abbrev pub seam_of : Piece → Option Pos
 seam_of p = cond p.free (slice_get p.chain 0) None
 
+-- the vertices, behind one more where there is one
 abbrev pub with_seam : Option Pos → List Pos → List Pos
 with_seam None l = l
 with_seam (Some x) l = x ∷ l

@@ -6,6 +6,7 @@ use Rattle.grid.specs.declared.pos.Pos.{Pos}
 use Rattle.chains.specs.Pairs.{position_eq, sides_eq, pair_of}
 use Rattle.chains.specs.declared.visits.Visit.{Visit}
 
+-- whether two visits are equal
 abbrev pub visit_eq : Visit → Visit → Bool
 visit_eq a b = position_eq a.vertex b.vertex && sides_eq a.sides b.sides
 
@@ -13,6 +14,7 @@ visit_eq a b = position_eq a.vertex b.vertex && sides_eq a.sides b.sides
 abbrev pub visit_of : Pos → Pos → Pos → Visit
 visit_of before here next = record { vertex = here; sides = pair_of before next }
 
+-- each place of the list but the last, with its two neighbours, where `before` and `here` stand in front
 abbrev pub inner_from : Pos → Pos → List Pos → List Visit
 inner_from before here [] = []
 inner_from before here (next ∷ rest) = visit_of before here next ∷ inner_from here next rest
@@ -37,6 +39,7 @@ ends_of (x ∷ (y ∷ r)) = x ∷ (last_of y r ∷ [])
 abbrev pub clash : Visit → Visit → Bool
 clash a b = position_eq a.vertex b.vertex && not (visit_eq a b)
 
+-- the vertices of neighbours that clash, where `before` stands in front
 abbrev pub clashes_from : Visit → List Visit → List Pos
 clashes_from before [] = []
 clashes_from before (a ∷ l) = cond (clash a before) (a.vertex ∷ clashes_from a l) (clashes_from a l)

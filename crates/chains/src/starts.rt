@@ -49,6 +49,19 @@ fn lesser(best: Best, place: usize, start: Start) -> Best
     }
 }
 
+/// The lesser of the best start and that at a place. Behind a junction only lesser vertices are
+/// looked up in the index.
+#[tactic(auto, using(crate::proofs::Openings::not_lesser))]
+fn improved(index: &VisitIndex, best: Best, place: usize, from: Pos, to: Pos) -> Best
+    ensures place { result.place ≡ (if is_lt (start_cmp (start_of (among index.now) from to) best.start) then place else best.place) }
+    ensures start { result.start ≡ (if is_lt (start_cmp (start_of (among index.now) from to) best.start) then start_of (among index.now) from to else best.start) }
+{
+    if !best.start.passed && from > best.start.from {
+        return best;
+    }
+    lesser(best, place, start_between(index, from, to))
+}
+
 /// The place from which a ring is cut. Of two rotations that begin at one vertex the one with the
 /// lesser second vertex comes first, since no segment of a ring stands twice.
 pub(crate) fn place_of_start(index: &VisitIndex, ring: &[Pos]) -> usize
@@ -66,9 +79,9 @@ pub(crate) fn place_of_start(index: &VisitIndex, ring: &[Pos]) -> usize
     };
     let mut here = *second;
     for (i, next) in rest.iter().enumerate() {
-        best = lesser(best, i + 1, start_between(index, here, *next));
+        best = improved(index, best, i + 1, here, *next);
         here = *next;
     }
-    best = lesser(best, others.len(), start_between(index, here, *first));
+    best = improved(index, best, others.len(), here, *first);
     best.place
 }

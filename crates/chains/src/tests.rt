@@ -229,18 +229,10 @@ fn segments_have_the_lesser_end_first(rt: HostRuntime) -> Result<(), Fail> {
 }
 
 #[test]
-fn maximal_chains_of_two_segments(rt: HostRuntime) -> Result<(), Fail> {
+fn no_segments_have_no_chains(rt: HostRuntime) -> Result<(), Fail> {
     let alloc = rt.alloc();
-    let places = positions(alloc, &[(0, 0), (1, 0), (2, 0)])?;
-    let mut segments = BTreeSet::new(alloc);
-    let mut stops = BTreeSet::new(alloc);
-    for pair in places.windows(2) {
-        segments.insert(Segment::new(pair[0], pair[1]).ok_or("equal")?)?;
-        stops.insert(pair[0])?;
-        stops.insert(pair[1])?;
-    }
-    let table = maximal(alloc, &segments, &stops)?;
-    check(&rt, alloc, &table, &[&[(0, 0), (1, 0)], &[(1, 0), (2, 0)]])
+    let table = maximal(alloc, &BTreeSet::new(alloc), &BTreeSet::new(alloc))?;
+    check(&rt, alloc, &table, &[])
 }
 
 #[test]
