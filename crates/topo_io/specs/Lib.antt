@@ -1,2 +1,3 @@
 pub mod TopologyText
 pub mod Front
+pub mod Canon
