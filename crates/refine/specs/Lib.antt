@@ -2,3 +2,4 @@ pub mod Meaning
 pub mod Laws
 pub mod Plans
 pub mod Groupings
+pub mod Alike

@@ -3,6 +3,7 @@
 
 pub mod fault;
 pub mod grouping;
+pub mod laws;
 pub mod merge;
 pub mod plan;
 pub mod shard;

@@ -1,4 +1,8 @@
 //! Merging texts of topologies.
+ghost use Rattle.std.specs.Prelude.{◌≡◌, ℕ, Some, Err, length};
+ghost use Rattle.refine.specs.declared.fault.MergeFault.TheVariants.{BadPlan};
+ghost use Rattle.refine.specs.Plans.{leaves, first_outside};
+
 use crate::fault::{MergeFault, plan_refused};
 use crate::plan::{Plan, first_bad_leaf, run_plan};
 use crate::shard::Shard;
@@ -37,7 +41,9 @@ pub fn merge_as<S: Shard>(
     alloc: Global,
     texts: &[Vec<u8>],
     plan: &Plan,
-) -> Result<Vec<u8>, MergeFault> {
+) -> Result<Vec<u8>, MergeFault>
+    ensures bad_plan { (k : ℕ) → first_outside (length texts.now) (leaves plan.now) ≡ Some k → result ≡ Err (BadPlan k) }
+{
     if let Some(leaf) = first_bad_leaf(plan, texts.len()) {
         return Err(MergeFault::BadPlan(leaf));
     }
@@ -55,6 +61,8 @@ pub fn merge_as<S: Shard>(
 /// the first text of the list that is refused, and its least fault; otherwise `OtherGrid` with the
 /// first text whose transform differs from that of text 0. All texts are read, also those that the
 /// plan does not name.
-pub fn merge_texts(alloc: Global, texts: &[Vec<u8>], plan: &Plan) -> Result<Vec<u8>, MergeFault> {
+pub fn merge_texts(alloc: Global, texts: &[Vec<u8>], plan: &Plan) -> Result<Vec<u8>, MergeFault>
+    ensures bad_plan { (k : ℕ) → first_outside (length texts.now) (leaves plan.now) ≡ Some k → result ≡ Err (BadPlan k) }
+{
     merge_as::<Whole>(alloc, texts, plan)
 }

@@ -22,6 +22,7 @@ pub use lines::ring::Ring;
 pub use lines::shape_fault::ShapeFault;
 pub use props::{PropFault, Props};
 pub use shape::{Id, Shape};
+pub use sinks::{Answer, Kept, Refused, Script, Sink, Tap, WriteFault, put};
 pub use spelled::Spelled;
 
 #[cfg(test)]

@@ -1,6 +1,6 @@
 use Rattle.std.proofs.Common.{◌<◌, ◌-◌}
 use Rattle.refine.specs.Groupings.{IsRight}
-use Rattle.refine.proofs.grouping.Plan.right.Given as goal
+use Rattle.refine.proofs.plan.Plan.right.Given as goal
 
 abbrev pub invariant-loop-start : goal.invariant-loop-start
 invariant-loop-start l = (l.start < l.count) × IsRight l.plan l.start (l.count - l.start)

@@ -1,7 +1,7 @@
 use Rattle.std.proofs.Common.{rules, arith, ◌≡◌, ◌-◌, ◌∙◌, ap, subst}
 use Rattle.refine.specs.Groupings.{IsLeft, IsRight, IsHalves}
 use Rattle.refine.proofs.GroupingLemmas.{halves_leaves}
-use Rattle.refine.proofs.grouping.Plan.halves.Goals as goal
+use Rattle.refine.proofs.plan.Plan.halves.Goals as goal
 
 pub returns-clause-leaves : goal.returns-clause-leaves
 returns-clause-leaves c = halves_leaves _ _ _ c.in_ok-halves_from.ensures
