@@ -1,14 +1,14 @@
 -- A union depends only on which maps are in it.
-use Rattle.std.proofs.Common.{◌≡◌, ℕ, ◌<◌, Bool, true, false, cond, List, [], ◌∷◌, length, get_or, Option, Some, None, refl, sym, ◌∙◌, ap, subst, ◌⊎◌, inl, inr}
-use Rattle.std.specs.Prelude.{map as map_list, slice_get, unwrap_or, option_map, nat_lt}
+use Rattle.std.proofs.Common.{◌≡◌, ℕ, Bool, true, false, cond, List, [], ◌∷◌, length, get_or, Option, Some, None, refl, sym, ◌∙◌, ap, ◌⊎◌, inl, inr}
+use Rattle.std.specs.Prelude.{map as map_list, slice_get, unwrap_or, nat_lt}
 use Rattle.std.specs.FinMap as map
 use Rattle.std.proofs.lemmas.Option.{slice_get-get_or}
 use Rattle.std.proofs.lemmas.Bool.{ltb-true}
 use Rattle.shapes.specs.Maps.{Layers}
 use Rattle.shapes.specs.Union.{union}
 use Rattle.refine.specs.Laws.{union_commutes, union_associates, union_itself, union_empty}
-use Rattle.refine.specs.Plans.{union_all, union_at, first_outside}
-use Rattle.refine.specs.Alike.{IsIn, Names, NameTheSame, PlansAlike}
+use Rattle.refine.specs.Plans.{union_all, first_outside}
+use Rattle.refine.specs.Alike.{IsIn, Names, PlansAlike}
 
 abbrev Among : Layers → List Layers → Type 0
 Among m [] = ⊥

@@ -1,22 +1,21 @@
 -- Plans' leaves, and unions over them.
-use Rattle.std.proofs.Common.{◌≡◌, ℕ, ℤ, suc, ◌+◌, ◌<◌, Bool, true, false, cond, List, [], ◌∷◌, ◌++◌, length, get_or, Option, Some, None, refl, sym, ◌∙◌, ap, arith, subst}
+use Rattle.std.proofs.Common.{◌≡◌, ℕ, ℤ, ◌<◌, Bool, true, false, cond, List, [], ◌∷◌, ◌++◌, length, get_or, Some, None, refl, sym, ◌∙◌, ap, arith}
 use Rattle.std.specs.Prelude.{All, map as map_list, nat_lt, slice_get, unwrap_or, option_map}
 use Rattle.std.specs.Option.{option_or}
-use Rattle.std.proofs.Common.{◌||◌, Result, Ok, Err, IfOk}
-use Rattle.std.proofs.lemmas.List.{get_or_append_left, get_or-append-add}
+use Rattle.std.proofs.Common.{Result, Ok, Err, IfOk}
 use Rattle.std.proofs.lemmas.Option.{slice_get-map, slice_get-get_or}
-use Rattle.std.proofs.lemmas.List.{map-append, length-append}
+use Rattle.std.proofs.lemmas.List.{map-append}
 use Rattle.std.specs.FinMap as map
 use Rattle.grid.specs.Place.{Scaling, Transform}
 use Rattle.shapes.specs.Maps.{Layers}
 use Rattle.shapes.specs.Union.{union}
 use Rattle.std.specs.Ordering.{int_eq}
-use Rattle.refine.specs.Laws.{union_commutes, union_associates, union_itself, union_empty}
+use Rattle.refine.specs.Laws.{union_commutes, union_associates, union_empty}
 use Rattle.refine.specs.Meaning.{same_grid, same_scaling}
 use Rattle.refine.specs.declared.plan.Plan.{Plan}
 use Rattle.refine.specs.declared.plan.Plan.TheVariants.{Leaf, Node'}
 use Rattle.refine.specs.Plans.{first_outside, union_all, union_at, HasPlaces, off_grid, first_other}
-use Rattle.std.specs.Prelude.{position, not, ◌&&◌}
+use Rattle.std.specs.Prelude.{not, ◌&&◌}
 use Rattle.std.specs.List.{position_or_len}
 use Rattle.std.proofs.lemmas.List.Sums.{fails_before_first}
 use Rattle.std.proofs.Common.{◌≤◌}

@@ -2,7 +2,6 @@
 use Rattle.std.specs.Prelude.{◌≡◌, Bool, ◌&&◌}
 use Rattle.std.specs.Ordering.{int_eq}
 use Rattle.grid.specs.Place.{Scaling, Transform}
-use Rattle.shapes.specs.Maps.{Layers}
 
 abbrev pub same_scaling : Scaling → Scaling → Bool
 same_scaling a b = int_eq a.scale b.scale && int_eq a.translate b.translate

@@ -1,6 +1,4 @@
-use Rattle.std.proofs.Common.{rules, ◌≡◌, Some, None, sym, ◌∙◌, ap}
-use Rattle.std.specs.Option.{option_or}
-use Rattle.refine.specs.Plans.{leaves, first_outside}
+use Rattle.std.proofs.Common.{sym, ◌∙◌}
 use Rattle.refine.proofs.PlanLemmas.{first_outside-append}
 use Rattle.refine.proofs.plan.+first_bad_leaf.Goals as goal
 

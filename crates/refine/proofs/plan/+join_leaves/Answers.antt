@@ -1,6 +1,6 @@
-use Rattle.std.proofs.Common.{rules, arith, ◌≡◌, ℕ, ◌<◌, ◌++◌, Some, None, sym, ◌∙◌, ap, length}
-use Rattle.std.specs.Prelude.{map, IfOk}
-use Rattle.refine.specs.Plans.{leaves, union_at, HasPlaces}
+use Rattle.std.proofs.Common.{◌<◌, sym, ◌∙◌, ap, length}
+use Rattle.std.specs.Prelude.{map}
+use Rattle.refine.specs.Plans.{leaves}
 use Rattle.refine.proofs.PlanLemmas.{union_at-append, union_at_one, ok_is}
 use Rattle.refine.proofs.plan.+join_leaves.Goals as goal
 

@@ -1,5 +1,3 @@
-use Rattle.std.proofs.Common.{rules, arith, ◌≡◌, ◌-◌, ◌∙◌, ap, subst}
-use Rattle.refine.specs.Groupings.{IsLeft, IsRight, IsHalves}
 use Rattle.refine.proofs.GroupingLemmas.{halves_leaves}
 use Rattle.refine.proofs.plan.Plan.halves.Goals as goal
 

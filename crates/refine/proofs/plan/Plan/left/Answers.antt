@@ -1,5 +1,5 @@
-use Rattle.std.proofs.Common.{rules, arith, ◌≡◌, ◌-◌, ◌∙◌, ap, subst}
-use Rattle.refine.specs.Groupings.{IsLeft, IsRight, IsHalves}
+use Rattle.std.proofs.Common.{arith, ◌≡◌, subst}
+use Rattle.refine.specs.Groupings.{IsLeft}
 use Rattle.refine.proofs.GroupingLemmas.{left_leaves}
 use Rattle.refine.proofs.plan.Plan.left.Goals as goal
 
