@@ -1,3 +1,5 @@
 pub mod PlanLemmas
 pub mod GroupingLemmas
 pub mod AlikeLemmas
+pub mod SinkLemmas
+pub mod MergeLemmas

@@ -3,3 +3,4 @@ pub mod Laws
 pub mod Plans
 pub mod Groupings
 pub mod Alike
+pub mod Merge

@@ -81,12 +81,3 @@ impl<T: Drop> From<AllocFailed<T>> for MergeFault {
         MergeFault::OutOfMemory
     }
 }
-
-// A plan's fault as a merge's.
-pub(crate) fn plan_refused(fault: PlanFault) -> MergeFault {
-    match fault {
-        PlanFault::BadPlan(leaf) => MergeFault::BadPlan(leaf),
-        PlanFault::OtherGrid(number) => MergeFault::OtherGrid(number),
-        PlanFault::OutOfMemory => MergeFault::OutOfMemory,
-    }
-}

@@ -1,6 +1,7 @@
 //! Merging shards: a shard is a grid and a map of features, a plan says which are joined and in what grouping.
 #![tactic(auto)]
 
+mod canonical;
 pub mod fault;
 pub mod grouping;
 pub mod laws;

@@ -1,31 +1,39 @@
 //! Merging texts of topologies.
-ghost use Rattle.std.specs.Prelude.{◌≡◌, ℕ, Some, Err, length};
+ghost use Rattle.std.specs.Prelude.{◌≡◌, ℕ, IfOk, IfErr, Some, Err, length};
 ghost use Rattle.refine.specs.declared.fault.MergeFault.TheVariants.{BadPlan};
 ghost use Rattle.refine.specs.Plans.{leaves, first_outside};
+ghost use Rattle.refine.specs.Merge.{IsReadFault, IsMergeFault, IsMergeOf, as_merge};
 
-use crate::fault::{MergeFault, plan_refused};
+use crate::fault::{MergeFault, PlanFault};
 use crate::plan::{Plan, first_bad_leaf, run_plan};
 use crate::shard::Shard;
 use crate::whole::Whole;
 use faults::{Fault, FaultKind};
 use std::alloc::Global;
 
-// A reader's refusal of the text of that number.
-fn text_refused(number: usize, fault: Fault) -> MergeFault {
-    if fault.kind == FaultKind::OutOfMemory {
-        return MergeFault::OutOfMemory;
+// The reader's fault of the text of that number.
+fn text_refused(number: usize, fault: Fault) -> MergeFault
+    ensures { IsReadFault result }
+{
+    match fault.kind {
+        FaultKind::OutOfMemory => MergeFault::OutOfMemory,
+        _ => MergeFault::Text(number, fault),
     }
-    MergeFault::Text(number, fault)
 }
 
-fn read_shard<S: Shard>(alloc: Global, number: usize, text: &[u8]) -> Result<S, MergeFault> {
+fn read_shard<S: Shard>(alloc: Global, number: usize, text: &[u8]) -> Result<S, MergeFault>
+    ensures { IfErr result IsReadFault }
+{
     match topo_io::read(alloc, text) {
         Ok((grid, map)) => Ok(S::from_map(alloc, &grid, &map)?),
         Err(fault) => Err(text_refused(number, fault)),
     }
 }
 
-fn read_shards<S: Shard>(alloc: Global, texts: &[Vec<u8>]) -> Result<Vec<S>, MergeFault> {
+fn read_shards<S: Shard>(alloc: Global, texts: &[Vec<u8>]) -> Result<Vec<S>, MergeFault>
+    ensures fault { IfErr result IsReadFault }
+    ensures one_each { IfOk result (λ v. length v.items ≡ length texts.now) }
+{
     let mut shards = Vec::new(alloc);
     for (number, text) in texts.iter().enumerate() {
         match read_shard(alloc, number, text) {
@@ -36,6 +44,17 @@ fn read_shards<S: Shard>(alloc: Global, texts: &[Vec<u8>]) -> Result<Vec<S>, Mer
     Ok(shards)
 }
 
+// A plan's fault as a merge's.
+fn plan_refused(fault: PlanFault) -> MergeFault
+    ensures { result ≡ as_merge fault }
+{
+    match fault {
+        PlanFault::BadPlan(leaf) => MergeFault::BadPlan(leaf),
+        PlanFault::OtherGrid(number) => MergeFault::OtherGrid(number),
+        PlanFault::OutOfMemory => MergeFault::OutOfMemory,
+    }
+}
+
 /// Merges texts over shards of a chosen kind: see `merge_texts`.
 pub fn merge_as<S: Shard>(
     alloc: Global,
@@ -43,6 +62,8 @@ pub fn merge_as<S: Shard>(
     plan: &Plan,
 ) -> Result<Vec<u8>, MergeFault>
     ensures bad_plan { (k : ℕ) → first_outside (length texts.now) (leaves plan.now) ≡ Some k → result ≡ Err (BadPlan k) }
+    ensures fault { IfErr result (IsMergeFault (length texts.now) (leaves plan.now)) }
+    ensures merged { IfOk result (λ t. IsMergeOf (length texts.now) (leaves plan.now) t.items) }
 {
     if let Some(leaf) = first_bad_leaf(plan, texts.len()) {
         return Err(MergeFault::BadPlan(leaf));
@@ -63,6 +84,8 @@ pub fn merge_as<S: Shard>(
 /// plan does not name.
 pub fn merge_texts(alloc: Global, texts: &[Vec<u8>], plan: &Plan) -> Result<Vec<u8>, MergeFault>
     ensures bad_plan { (k : ℕ) → first_outside (length texts.now) (leaves plan.now) ≡ Some k → result ≡ Err (BadPlan k) }
+    ensures fault { IfErr result (IsMergeFault (length texts.now) (leaves plan.now)) }
+    ensures merged { IfOk result (λ t. IsMergeOf (length texts.now) (leaves plan.now) t.items) }
 {
     merge_as::<Whole>(alloc, texts, plan)
 }

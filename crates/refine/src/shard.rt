@@ -4,6 +4,7 @@ ghost use Rattle.grid.specs.Place.{Transform};
 ghost use Rattle.shapes.specs.Maps.{Layers};
 ghost use Rattle.shapes.specs.Union.{union};
 ghost use Rattle.refine.specs.Meaning.{Commutes, Associates, IsIdempotent};
+ghost use Rattle.topo_io.specs.Canon.{canon};
 ghost use Rattle.refine.specs.declared.fault.JoinFault.TheVariants.{OtherGrid};
 
 use crate::fault::JoinFault;
@@ -46,7 +47,8 @@ pub trait Shard: Sized + Drop {
         ensures other_grid { IsErrOf result OtherGrid ↔ ¬ (grid_of self.now ≡ grid_of other.now) };
 
     /// The canonical text of the shard's topology.
-    fn text(&self, alloc: Global) -> Result<Vec<u8>, OutOfMemory>;
+    fn text(&self, alloc: Global) -> Result<Vec<u8>, OutOfMemory>
+        ensures { IfOk result (λ t. t.items ≡ canon (grid_of self.now) (map_of self.now)) };
 
     ghost commutes: { Commutes joined map_of };
 

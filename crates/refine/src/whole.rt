@@ -3,15 +3,14 @@ ghost use Rattle.std.specs.Prelude.{◌≡◌};
 ghost use Rattle.shapes.specs.Union.{union};
 ghost use Rattle.refine.specs.Laws.{union-Commutes, union-Associates, union-IsIdempotent};
 
+use crate::canonical::canonical_text;
 use crate::fault::JoinFault;
 use crate::plan::same_grid;
 use crate::shard::Shard;
 use faults::OutOfMemory;
 use grid::transform::Grid;
 use shapes::feature_map::FeatureMap;
-use sinks::Kept;
 use std::alloc::Global;
-use topo::topology::Topology;
 
 /// A shard that keeps its map and builds its topology when it is written.
 #[derive(Drop)]
@@ -56,8 +55,7 @@ impl Shard for Whole {
     }
 
     fn text(&self, alloc: Global) -> Result<Vec<u8>, OutOfMemory> {
-        let topology = Topology::build(alloc, &self.grid, &self.map)?;
-        text_of(alloc, &topology)
+        canonical_text(alloc, &self.grid, &self.map)
     }
 
     ghost commutes = { union-Commutes (λ s. s.map) };
@@ -65,13 +63,4 @@ impl Shard for Whole {
     ghost associates = { union-Associates (λ s. s.map) };
 
     ghost idempotent = { union-IsIdempotent (λ s. s.map) };
-}
-
-// The canonical text of a topology, in memory.
-fn text_of(alloc: Global, topology: &Topology) -> Result<Vec<u8>, OutOfMemory> {
-    let mut text = Kept::new(alloc);
-    match topo_io::write(topology, &mut text) {
-        Ok(()) => Ok(text.into_bytes()),
-        Err(_) => Err(OutOfMemory),
-    }
 }
