@@ -12,12 +12,25 @@ pub(crate) fn write_mesh<O: Sink>(
 ) -> Result<(), WriteFault> {
     put(out, b"{\"coordinates\":[")?;
     for place in 0..lines.len() {
-        if place > 0 {
-            put(out, b",")?;
-        }
-        write_line(grid, lines.arc(place).unwrap_or(&[]), out)?;
+        write_line_at(grid, lines, place, out)?;
     }
     put(out, b"],\"type\":\"MultiLineString\"}")
+}
+
+/// Writes a line of the table, after a comma where it is not the first.
+fn write_line_at<O: Sink>(
+    grid: &Grid,
+    lines: &ArcTable,
+    place: usize,
+    out: &mut O,
+) -> Result<(), WriteFault> {
+    if place > 0 {
+        put(out, b",")?;
+    }
+    match lines.arc(place) {
+        Some(line) => write_line(grid, line, out),
+        None => Ok(()),
+    }
 }
 
 fn write_line<O: Sink>(grid: &Grid, line: &[Pos], out: &mut O) -> Result<(), WriteFault> {
