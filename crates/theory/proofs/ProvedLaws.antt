@@ -14,6 +14,8 @@ use Rattle.theory.proofs.Networks.{Joins-flip, is_network, network_has, same_cha
 use Rattle.theory.proofs.OneTopology.{arcs_unique, ring_list_unique, stitch_unique, topology_unique}
 use Rattle.theory.proofs.Pieces.{line_junction, ring_junction, two_segments_of}
 use Rattle.theory.proofs.PiecesExist.{are_arcs_as_map, arcs_are_pieces, recut_refines, refinement_once}
+use Rattle.theory.proofs.RecutBodies.{form_replaced}
+use Rattle.theory.specs.ArcNumbers.{StitchTo}
 use Rattle.theory.proofs.Removal.{removal_laws}
 use Rattle.theory.proofs.ReplacedNumbers.{refinement_laws}
 use Rattle.theory.proofs.Reversing.{IsChain-reverse}
@@ -33,7 +35,7 @@ use Rattle.theory.specs.Laws.{IsOrder}
 use Rattle.theory.specs.LinesAndRings.{IsRotation, closed}
 use Rattle.theory.specs.Lists.{Each, Has}
 use Rattle.theory.specs.Network.{IsChainIn, IsStop, Joins, network_of}
-use Rattle.theory.specs.Refinement.{arcs_as_map, both_of, recut, turned_used}
+use Rattle.theory.specs.Refinement.{arcs_as_map, both_of, recut, turned_used, replaced}
 use Rattle.theory.specs.Topology.{IsRingList}
 use Rattle.theory.specs.TopologyFunction.{is_junction, line_cut, ring_cut, arcs_of, some, turned}
 
@@ -207,6 +209,14 @@ ring_replaced_and_turned cmp g u o sg su part arcs table pieces ref r used i h =
     (sym (ap (turned_used cmp table) k.2
     ∙ turned_used_is cmp o.total o.same (same_vertices cmp o) u su table ref.new r (part.rings r i) k.0 k.1 k.3))
     k.3
+
+pub body_after_a_recut : {V : Type 0} → law.BodyAfterARecut V
+body_after_a_recut cmp g u o sg su part arcs table pieces ref f h ls rs form =
+    form_replaced (λ l used. StitchTo arcs used l) (IsRingList cmp (JunctionOf g) arcs)
+    (λ l used. StitchTo table used l) (IsRingList cmp (JunctionOf u) table)
+    (replaced pieces) (λ used. turned_used cmp table (replaced pieces used)) f h form
+    (λ l used i k. (pieces_in_place cmp g u o sg su part arcs table pieces ref).line l used (ls l i) k)
+    (λ r used i k. ring_replaced_and_turned cmp g u o sg su part arcs table pieces ref r used (rs r i) k)
 
 pub union_known_from_arcs : {V : Type 0} → law.UnionKnownFromArcs V
 union_known_from_arcs cmp m n u o sm sn su union ms ns am an =

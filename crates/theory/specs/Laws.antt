@@ -11,11 +11,11 @@ use Rattle.theory.specs.Geometry.{Geometry, IsLineOf, IsRingOf, IsSound, Segment
 use Rattle.theory.specs.LinesAndRings.{Trail, IsRing, IsRotation, closed}
 use Rattle.theory.specs.Lists.{Has, Beside, Twice, EndOf, Each}
 use Rattle.theory.specs.Network.{Network, IsNetwork, IsNetworkOf, IsChainIn, AreAllChains, Joins, network_of}
-use Rattle.theory.specs.Refinement.{IsPartOf, IsUnionOf, IsRefinementOf, RefinementLaws, RemovalLaws, Alike, arcs_as_map, both_of, pieces_at, recut, replaced, turned_used}
+use Rattle.theory.specs.Refinement.{IsPartOf, IsUnionOf, IsRefinementOf, RefinementLaws, RemovalLaws, Alike, arcs_as_map, both_of, pieces_at, recut, replaced, turned_used, recut_body}
 use Rattle.theory.specs.Seam.{Any, IsLeastOf, IsTurned}
 use Rattle.theory.specs.Segments.{OnThree, TwoSegments}
 use Rattle.theory.specs.Stitching.{Stitched, ArePiecesOf, AreRingPiecesOf, HaveAllPieces}
-use Rattle.theory.specs.Topology.{Body, IsFormOf, IsRingList, IsTopologyOf, Map, Shape, Topology, geometry_of, rings_in}
+use Rattle.theory.specs.Topology.{Body, IsFormOf, IsRingList, IsTopologyOf, Map, Shape, Topology, geometry_of, rings_in, lines_in}
 use Rattle.theory.specs.TopologyFunction.{is_junction, line_cut, ring_cut, arcs_of, topology_of}
 use Rattle.theory.specs.Users.{HasSegment, ShareArc, ShareSegment, UsesArc}
 use Rattle.theory.specs.Walking.{Found, StopsCovered}
@@ -247,6 +247,15 @@ RingReplacedAndTurned V =
     (arcs table : List (List V)) (pieces : List (List ArcRef)) → IsRefinementOf cmp g u arcs table pieces →
     (r : List V) (used : List ArcRef) → IsRingOf g r → IsRingList cmp (JunctionOf g) arcs r used →
     IsRingList cmp (JunctionOf u) table r (turned_used cmp table (replaced pieces used))
+
+-- the geometry of a feature after its arcs are cut again is its geometry in the finer map
+abbrev pub BodyAfterARecut : Type 0 → Type 0
+BodyAfterARecut V =
+    (cmp : V → V → Ordering) (g u : Geometry V) → IsOrder cmp → IsSound g → IsSound u → IsPartOf g u →
+    (arcs table : List (List V)) (pieces : List (List ArcRef)) → IsRefinementOf cmp g u arcs table pieces →
+    (f : Shape V) (h : Body V) → ((l : List V) → Has l (lines_in f) → IsLineOf g l) → ((r : List V) → Has r (rings_in f) → IsRingOf g r) →
+    IsFormOf (λ l used. StitchTo arcs used l) (IsRingList cmp (JunctionOf g) arcs) f h →
+    IsFormOf (λ l used. StitchTo table used l) (IsRingList cmp (JunctionOf u) table) f (recut_body cmp table pieces h)
 
 -- the arcs of both maps, taken as lines and rings, have the segments and the junctions of the union
 abbrev pub UnionKnownFromArcs : Type 0 → Type 0

@@ -8,8 +8,8 @@ use Rattle.theory.specs.Chain.{Free}
 use Rattle.theory.specs.Geometry.{Geometry, IsLineOf, IsRingOf, JunctionOf, SegmentOf}
 use Rattle.theory.specs.LinesAndRings.{closed}
 use Rattle.theory.specs.Lists.{Beside, Has, Pairwise, front_of}
-use Rattle.theory.specs.Topology.{IsRingList}
-use Rattle.theory.specs.TopologyFunction.{is_junction, keep, least_list, line_cut, ref_of, ring_cut, rotations, some}
+use Rattle.theory.specs.Topology.{Body, IsRingList}
+use Rattle.theory.specs.TopologyFunction.{form_map, is_junction, keep, least_list, line_cut, ref_of, ring_cut, rotations, some}
 
 -- in the one or in the other
 abbrev pub Either : {A : Type 0} → (A → Type 0) → (A → Type 0) → A → Type 0
@@ -57,6 +57,10 @@ start_of arcs (a ∷ used) = first_two (along arcs a)
 -- the used arcs of a ring, turned to begin where they start least
 abbrev pub turned_used : {V : Type 0} → (V → V → Ordering) → List (List V) → List ArcRef → List ArcRef
 turned_used cmp arcs used = least_list (λ a b. slice_cmp cmp (start_of arcs a) (start_of arcs b)) (rotations used)
+
+-- a body after its arcs are cut again: the list of each line replaced, that of each ring replaced and turned
+abbrev pub recut_body : {V : Type 0} → (V → V → Ordering) → List (List V) → List (List ArcRef) → Body V → Body V
+recut_body cmp table pieces b = form_map (replaced pieces) (λ used. turned_used cmp table (replaced pieces used)) b
 
 -- the used arcs of the table stitch to the arc c, or, where c is free under J, to c turned as a ring is under L
 abbrev pub ArePiecesOfArc : {V : Type 0} → (V → V → Ordering) → (V → Type 0) → (V → Type 0) → List (List V) → List V → List ArcRef → Type 0

@@ -180,6 +180,11 @@ pub fn ring_replaced_and_turned<V>()
     ensures { law.RingReplacedAndTurned V }
 {}
 
+/// The geometry of a feature after its arcs are cut again is its geometry in the finer map.
+pub fn body_after_a_recut<V>()
+    ensures { law.BodyAfterARecut V }
+{}
+
 /// The arcs of both maps, taken as lines and rings, have the segments and the junctions of the union.
 #[tactic(auto, using(crate::proofs::ProvedLaws::union_known_from_arcs))]
 pub fn union_known_from_arcs<V>()
