@@ -115,7 +115,6 @@ high_same f ps qs a b to from h k =
     (subst (λ w. w ≤ℤ a) (sym k.there.2) (h.above k.there.0 (from k.there.0 k.there.1)))
 
 module _ (g : Transform) where
-
   record IsAround (ps : List Pos) (b : Corners) : Type 0 where
     west : IsLow (λ p. (absolute_place g p).0) ps b.0
     south : IsLow (λ p. (absolute_place g p).1) ps b.1

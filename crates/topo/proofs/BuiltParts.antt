@@ -127,7 +127,6 @@ module _ (m : Layers) (i : List Pos) (index : IsIndexOf i (geometry_of m)) (ps :
         Has-gathered (λ l. gathered (λ x. x.form ∷ []) l.items) (seen m) (seen_by.layer_of e) (form_of f.shape) (Has-map seen_by.layer_of (map.entries m) e h)
         (Has-gathered (λ x. x.form ∷ []) (map_list seen_by.item_of (set.items e.1)) (seen_by.item_of f) (form_of f.shape) (Has-map seen_by.item_of (set.items e.1) f k) (inl refl))
 
-
     layers_good : (es : List (List ℕ × Features)) (names : List (Bor Spelled)) → ((e : List ℕ × Features) → Has e es → Has e (map.entries m)) →
         map_list (λ s. spelled_text s.now) names ≡ map_list (λ e. e.0) es →
         Pairwise (IsLayerOf position_cmp (JunctionOf (geometry_of m)) arcs) (map_list seen_by.layer_of es) (map_list layer_of (map_list (λ s. layer_built i arcs m s.now) names))

@@ -9,3 +9,4 @@ pub mod Located
 pub mod AtEntry
 pub mod BuiltParts
 pub mod TopologyLaws
+pub mod LayersNamed

@@ -106,7 +106,6 @@ module _ (J : Pos → Type 0) (arcs : List (List Pos)) where
       λ i. e i ++ t i
 
 module _ (m : Layers) (t : Arcs) (ls : List LayerParts) (parts : ArePartsOf m t ls) (sound : IsSound (geometry_of m)) where
-
   same_map_points : gathered points_in (forms_of (seen m)) ≡ gathered layer_points ls
   same_map_points =
       gathered_gathered points_in (λ l. item_forms l.items) (seen m)
@@ -159,12 +158,12 @@ module _ (m : Layers) (t : Arcs) (ls : List LayerParts) (parts : ArePartsOf m t 
   positions_found p h =
       elim (Has-append p (joined t.arcs) (gathered layer_points ls) h) [
         | inl a ↦ (
-          let (c, there, on) = joined_from t.arcs p a in
-          let b = chain_beside (geometry_of m) p c (parts.table.arcs.arcs_only c there).chain on in
-          of_segment p b.0 (parts.table.once.no_other p b.0 c there b.1)
-        )
+            let (c, there, on) = joined_from t.arcs p a in
+            let b = chain_beside (geometry_of m) p c (parts.table.arcs.arcs_only c there).chain on in
+            of_segment p b.0 (parts.table.once.no_other p b.0 c there b.1)
+            )
         | inr a ↦ (
-          let (f, there, k) = gathered_from points_in (forms_of (seen m)) p (subst (λ w. Has p w) (sym same_map_points) a) in
-          position_of p f there (Has-append_left p (points_in f) (joined (lines_in f) ++ joined (rings_in f)) k)
-        )
+            let (f, there, k) = gathered_from points_in (forms_of (seen m)) p (subst (λ w. Has p w) (sym same_map_points) a) in
+            position_of p f there (Has-append_left p (points_in f) (joined (lines_in f) ++ joined (rings_in f)) k)
+            )
       ]

@@ -55,11 +55,11 @@ rings_of_shape (of.MultiPolygon ps) l k = joined_all IsRing ring_of (λ x. x.rin
 pub are_sound : (m : Layers) → IsSound (geometry_of m)
 are_sound m = record {
   lines = λ l h.
-    let (f, there, k) = gathered_from lines_in (forms_of (seen m)) l h in
-    let (s, e) = from_shape m f there in
-    lines_of_shape s l (subst (λ w. Has l (lines_in w)) e k);
+      let (f, there, k) = gathered_from lines_in (forms_of (seen m)) l h in
+      let (s, e) = from_shape m f there in
+      lines_of_shape s l (subst (λ w. Has l (lines_in w)) e k);
   rings = λ r h.
-    let (f, there, k) = gathered_from rings_in (forms_of (seen m)) r h in
-    let (s, e) = from_shape m f there in
-    rings_of_shape s r (subst (λ w. Has r (rings_in w)) e k);
+      let (f, there, k) = gathered_from rings_in (forms_of (seen m)) r h in
+      let (s, e) = from_shape m f there in
+      rings_of_shape s r (subst (λ w. Has r (rings_in w)) e k);
 }

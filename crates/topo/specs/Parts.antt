@@ -1,8 +1,10 @@
 -- A layer and a topology, as contracts see them.
-use Rattle.std.specs.Prelude.{ℤ, List, Option}
+use Rattle.std.specs.Prelude.{◌≡◌, ℕ, ℤ, List, Option}
 use Rattle.grid.specs.Place.{Transform}
 use Rattle.shapes.specs.declared.spelled.Spelled.{Spelled}
+use Rattle.shapes.specs.Parts.{spelled_text}
 use Rattle.chains.specs.Arcs.{Arcs}
+use Rattle.theory.specs.Lists.{Has}
 use Rattle.topo.specs.declared.geom.Geom.{Geom}
 
 -- least x, least y, greatest x, greatest y
@@ -20,3 +22,7 @@ pub record TopologyParts : Type 0 where
   pub arcs : Arcs
   pub layers : List LayerParts
   pub bbox : Option Corners
+
+-- the geometries are those of a layer of that name
+abbrev pub IsOfLayerNamed : List LayerParts → List ℕ → List Geom → Type 0
+IsOfLayerNamed ls name gs = (l : LayerParts) × Has l ls × (spelled_text l.name ≡ name) × (gs ≡ l.geometries)

@@ -41,7 +41,12 @@ fn north(corners: Corners, y: i64) -> i64
 fn wider(corners: Corners, x: i64, y: i64) -> Corners
     ensures { result ≡ widened_at (Some corners) (x, y) }
 {
-    (west(corners, x), south(corners, y), east(corners, x), north(corners, y))
+    (
+        west(corners, x),
+        south(corners, y),
+        east(corners, x),
+        north(corners, y),
+    )
 }
 
 fn widened(corners: Option<Corners>, x: i64, y: i64) -> Corners
@@ -69,7 +74,12 @@ fn around(grid: &Grid, mut corners: Option<Corners>, positions: &[Pos]) -> Optio
     corners
 }
 
-fn around_arc(grid: &Grid, corners: Option<Corners>, arcs: &ArcTable, number: usize) -> Option<Corners>
+fn around_arc(
+    grid: &Grid,
+    corners: Option<Corners>,
+    arcs: &ArcTable,
+    number: usize,
+) -> Option<Corners>
     ensures { result ≡ box_from grid.now corners (arc_at arcs.now.arcs number) }
 {
     match arcs.arc(number) {
@@ -99,7 +109,11 @@ fn around_body(grid: &Grid, corners: Option<Corners>, body: &Body) -> Option<Cor
     }
 }
 
-fn around_geometries(grid: &Grid, mut corners: Option<Corners>, geometries: &[Geom]) -> Option<Corners>
+fn around_geometries(
+    grid: &Grid,
+    mut corners: Option<Corners>,
+    geometries: &[Geom],
+) -> Option<Corners>
     ensures { result ≡ box_from grid.now corners (gathered geometry_points geometries.now) }
 {
     for geometry in geometries {

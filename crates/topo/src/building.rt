@@ -32,7 +32,12 @@ use shapes::spelled::Spelled;
 use std::alloc::Global;
 use std::collections::BTreeSet;
 
-fn add_line(alloc: Global, pieces: &mut Vec<Piece>, index: &VisitIndex, line: &Line) -> Result<(), OutOfMemory>
+fn add_line(
+    alloc: Global,
+    pieces: &mut Vec<Piece>,
+    index: &VisitIndex,
+    line: &Line,
+) -> Result<(), OutOfMemory>
     ensures { OnOk result (pieces.new.items ≡ pieces.old.items ++ line_pieces index.now (line_of line.now)) }
 {
     let mut cut = cut_line(alloc, index, line)?;
@@ -40,7 +45,12 @@ fn add_line(alloc: Global, pieces: &mut Vec<Piece>, index: &VisitIndex, line: &L
     Ok(())
 }
 
-fn add_ring(alloc: Global, pieces: &mut Vec<Piece>, index: &VisitIndex, ring: &Ring) -> Result<(), OutOfMemory>
+fn add_ring(
+    alloc: Global,
+    pieces: &mut Vec<Piece>,
+    index: &VisitIndex,
+    ring: &Ring,
+) -> Result<(), OutOfMemory>
     ensures { OnOk result (pieces.new.items ≡ pieces.old.items ++ ring_pieces index.now (ring_of ring.now)) }
 {
     let mut cut = cut_ring(alloc, index, ring)?;
@@ -48,7 +58,12 @@ fn add_ring(alloc: Global, pieces: &mut Vec<Piece>, index: &VisitIndex, ring: &R
     Ok(())
 }
 
-fn add_lines(alloc: Global, pieces: &mut Vec<Piece>, index: &VisitIndex, lines: &[Line]) -> Result<(), OutOfMemory>
+fn add_lines(
+    alloc: Global,
+    pieces: &mut Vec<Piece>,
+    index: &VisitIndex,
+    lines: &[Line],
+) -> Result<(), OutOfMemory>
     ensures { OnOk result (pieces.new.items ≡ pieces.old.items ++ gathered (line_pieces index.now) (map_list line_of lines.now)) }
 {
     for line in lines {
@@ -57,7 +72,12 @@ fn add_lines(alloc: Global, pieces: &mut Vec<Piece>, index: &VisitIndex, lines: 
     Ok(())
 }
 
-fn add_rings(alloc: Global, pieces: &mut Vec<Piece>, index: &VisitIndex, rings: &[Ring]) -> Result<(), OutOfMemory>
+fn add_rings(
+    alloc: Global,
+    pieces: &mut Vec<Piece>,
+    index: &VisitIndex,
+    rings: &[Ring],
+) -> Result<(), OutOfMemory>
     ensures { OnOk result (pieces.new.items ≡ pieces.old.items ++ gathered (ring_pieces index.now) (map_list ring_of rings.now)) }
 {
     for ring in rings {
@@ -67,7 +87,12 @@ fn add_rings(alloc: Global, pieces: &mut Vec<Piece>, index: &VisitIndex, rings: 
 }
 
 #[tactic(auto, using(crate::proofs::Gathered::gathered_join))]
-fn add_polygons(alloc: Global, pieces: &mut Vec<Piece>, index: &VisitIndex, polygons: &[Items<Ring>]) -> Result<(), OutOfMemory>
+fn add_polygons(
+    alloc: Global,
+    pieces: &mut Vec<Piece>,
+    index: &VisitIndex,
+    polygons: &[Items<Ring>],
+) -> Result<(), OutOfMemory>
     ensures { OnOk result (pieces.new.items ≡ pieces.old.items ++ gathered (ring_pieces index.now) (joined (map_list (map_list ring_of) polygons.now))) }
 {
     for rings in polygons {
@@ -76,7 +101,12 @@ fn add_polygons(alloc: Global, pieces: &mut Vec<Piece>, index: &VisitIndex, poly
     Ok(())
 }
 
-fn add_shape(alloc: Global, pieces: &mut Vec<Piece>, index: &VisitIndex, shape: &Shape) -> Result<(), OutOfMemory>
+fn add_shape(
+    alloc: Global,
+    pieces: &mut Vec<Piece>,
+    index: &VisitIndex,
+    shape: &Shape,
+) -> Result<(), OutOfMemory>
     ensures { OnOk result (pieces.new.items ≡ pieces.old.items ++ form_pieces index.now (form_of shape.now)) }
 {
     match shape {
@@ -88,7 +118,12 @@ fn add_shape(alloc: Global, pieces: &mut Vec<Piece>, index: &VisitIndex, shape: 
     }
 }
 
-fn add_features(alloc: Global, pieces: &mut Vec<Piece>, index: &VisitIndex, features: &BTreeSet<Feature>) -> Result<(), OutOfMemory>
+fn add_features(
+    alloc: Global,
+    pieces: &mut Vec<Piece>,
+    index: &VisitIndex,
+    features: &BTreeSet<Feature>,
+) -> Result<(), OutOfMemory>
     ensures { OnOk result (pieces.new.items ≡ pieces.old.items ++ gathered (feature_pieces index.now) (set.items (set_of features.now))) }
 {
     for feature in features.iter() {
@@ -97,7 +132,13 @@ fn add_features(alloc: Global, pieces: &mut Vec<Piece>, index: &VisitIndex, feat
     Ok(())
 }
 
-fn add_layer(alloc: Global, pieces: &mut Vec<Piece>, index: &VisitIndex, map: &FeatureMap, name: &str) -> Result<(), OutOfMemory>
+fn add_layer(
+    alloc: Global,
+    pieces: &mut Vec<Piece>,
+    index: &VisitIndex,
+    map: &FeatureMap,
+    name: &str,
+) -> Result<(), OutOfMemory>
     ensures { OnOk result (pieces.new.items ≡ pieces.old.items ++ layer_pieces index.now map.now name.now) }
 {
     match map.layer(name) {
@@ -107,7 +148,12 @@ fn add_layer(alloc: Global, pieces: &mut Vec<Piece>, index: &VisitIndex, map: &F
 }
 
 /// The pieces of all lines and rings of the map, in its order.
-fn all_pieces(alloc: Global, index: &VisitIndex, map: &FeatureMap, names: &[&Spelled]) -> Result<Vec<Piece>, OutOfMemory>
+fn all_pieces(
+    alloc: Global,
+    index: &VisitIndex,
+    map: &FeatureMap,
+    names: &[&Spelled],
+) -> Result<Vec<Piece>, OutOfMemory>
     ensures { IfOk result (λ v. v.items ≡ gathered (layer_pieces index.now map.now) (map_list (λ s. spelled_text s.now) names.now)) }
 {
     let mut pieces = Vec::new(alloc);
@@ -183,7 +229,11 @@ impl ArcLists<'_> {
         Ok(Items::from_vec(lists))
     }
 
-    fn polygons(&self, alloc: Global, polygons: &[Items<Ring>]) -> Result<Items<Items<Items<ArcRef>>>, OutOfMemory>
+    fn polygons(
+        &self,
+        alloc: Global,
+        polygons: &[Items<Ring>],
+    ) -> Result<Items<Items<Items<ArcRef>>>, OutOfMemory>
         ensures { IfOk result (λ v. v ≡ map_list (map_list (ring_used self.now.index.now self.now.table.now.arcs)) polygons.now) }
     {
         let mut lists = Vec::with_capacity(alloc, polygons.len())?;
@@ -203,7 +253,10 @@ impl ArcLists<'_> {
             Shape::Line(line) => Ok(Body::Line(self.line(alloc, line)?)),
             Shape::MultiLine(lines) => Ok(Body::MultiLine(self.lines(alloc, lines.as_slice())?)),
             Shape::Polygon(rings) => Ok(Body::Polygon(self.rings(alloc, rings.as_slice())?)),
-            Shape::MultiPolygon(polygons) => Ok(Body::MultiPolygon(self.polygons(alloc, polygons.as_slice())?)),
+            Shape::MultiPolygon(polygons) => Ok(Body::MultiPolygon(self.polygons(
+                alloc,
+                polygons.as_slice(),
+            )?)),
         }
     }
 
@@ -216,7 +269,11 @@ impl ArcLists<'_> {
         Ok(Geom { id, props, body })
     }
 
-    fn geometries(&self, alloc: Global, features: &BTreeSet<Feature>) -> Result<Vec<Geom>, OutOfMemory>
+    fn geometries(
+        &self,
+        alloc: Global,
+        features: &BTreeSet<Feature>,
+    ) -> Result<Vec<Geom>, OutOfMemory>
         ensures { IfOk result (λ v. v.items ≡ map_list (geometry_built self.now.index.now self.now.table.now.arcs) (set.items (set_of features.now))) }
     {
         let mut geometries = Vec::with_capacity(alloc, features.len())?;
@@ -243,7 +300,12 @@ impl ArcLists<'_> {
         Ok(Layer::new(name, geometries))
     }
 
-    fn layers(&self, alloc: Global, map: &FeatureMap, names: &[&Spelled]) -> Result<Vec<Layer>, OutOfMemory>
+    fn layers(
+        &self,
+        alloc: Global,
+        map: &FeatureMap,
+        names: &[&Spelled],
+    ) -> Result<Vec<Layer>, OutOfMemory>
         ensures { IfOk result (λ v. v.items ≡ map_list (λ s. layer_built self.now.index.now self.now.table.now.arcs map.now s.now) names.now) }
     {
         let mut layers = Vec::with_capacity(alloc, names.len())?;

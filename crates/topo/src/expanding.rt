@@ -60,7 +60,11 @@ impl Topology {
         Ok(Items::from_vec(rings))
     }
 
-    fn polygons(&self, alloc: Global, polygons: &[Items<Items<ArcRef>>]) -> Result<Items<Items<Ring>>, OutOfMemory> {
+    fn polygons(
+        &self,
+        alloc: Global,
+        polygons: &[Items<Items<ArcRef>>],
+    ) -> Result<Items<Items<Ring>>, OutOfMemory> {
         let mut made = Vec::with_capacity(alloc, polygons.len())?;
         for lists in polygons {
             made.push(self.rings(alloc, lists.as_slice())?)?;
@@ -72,11 +76,16 @@ impl Topology {
         match body {
             Body::Null => Ok(Shape::Null),
             Body::Point(p) => Ok(Shape::Point(*p)),
-            Body::MultiPoint(ps) => Ok(Shape::MultiPoint(Items::from_vec(ps.as_slice().to_vec(alloc)?))),
+            Body::MultiPoint(ps) => Ok(Shape::MultiPoint(Items::from_vec(
+                ps.as_slice().to_vec(alloc)?,
+            ))),
             Body::Line(refs) => Ok(Shape::Line(self.line(alloc, refs.as_slice())?)),
             Body::MultiLine(lists) => Ok(Shape::MultiLine(self.lines(alloc, lists.as_slice())?)),
             Body::Polygon(lists) => Ok(Shape::Polygon(self.rings(alloc, lists.as_slice())?)),
-            Body::MultiPolygon(polygons) => Ok(Shape::MultiPolygon(self.polygons(alloc, polygons.as_slice())?)),
+            Body::MultiPolygon(polygons) => Ok(Shape::MultiPolygon(self.polygons(
+                alloc,
+                polygons.as_slice(),
+            )?)),
         }
     }
 
@@ -87,7 +96,12 @@ impl Topology {
         Ok(Feature { id, props, shape })
     }
 
-    fn put_layer(&self, alloc: Global, map: &mut FeatureMap, layer: &Layer) -> Result<(), OutOfMemory> {
+    fn put_layer(
+        &self,
+        alloc: Global,
+        map: &mut FeatureMap,
+        layer: &Layer,
+    ) -> Result<(), OutOfMemory> {
         let name = layer.name().text();
         map.add_layer(name)?;
         for geometry in layer.geometries() {

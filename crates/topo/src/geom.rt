@@ -61,11 +61,17 @@ impl Body {
         match self {
             Body::Null => Ok(Body::Null),
             Body::Point(p) => Ok(Body::Point(*p)),
-            Body::MultiPoint(positions) => Ok(Body::MultiPoint(copy_positions(alloc, positions.as_slice())?)),
+            Body::MultiPoint(positions) => Ok(Body::MultiPoint(copy_positions(
+                alloc,
+                positions.as_slice(),
+            )?)),
             Body::Line(refs) => Ok(Body::Line(copy_refs(alloc, refs.as_slice())?)),
             Body::MultiLine(lines) => Ok(Body::MultiLine(copy_lists(alloc, lines.as_slice())?)),
             Body::Polygon(rings) => Ok(Body::Polygon(copy_lists(alloc, rings.as_slice())?)),
-            Body::MultiPolygon(polygons) => Ok(Body::MultiPolygon(copy_polygons(alloc, polygons.as_slice())?)),
+            Body::MultiPolygon(polygons) => Ok(Body::MultiPolygon(copy_polygons(
+                alloc,
+                polygons.as_slice(),
+            )?)),
         }
     }
 }
@@ -92,7 +98,10 @@ fn copy_lists(alloc: Global, lists: &[Items<ArcRef>]) -> Result<Items<Items<ArcR
     Ok(Items::from_vec(copies))
 }
 
-fn copy_polygons(alloc: Global, polygons: &[Items<Items<ArcRef>>]) -> Result<Items<Items<Items<ArcRef>>>, OutOfMemory>
+fn copy_polygons(
+    alloc: Global,
+    polygons: &[Items<Items<ArcRef>>],
+) -> Result<Items<Items<Items<ArcRef>>>, OutOfMemory>
     ensures { IfOk result (λ v. v ≡ polygons.now) }
 {
     let mut copies = Vec::with_capacity(alloc, polygons.len())?;

@@ -7,7 +7,9 @@ use std::process::Abort;
 use std::test::Fail;
 
 const LEFT: [(i64, i64); 5] = [(0, 0), (1, 0), (1, 1), (0, 1), (0, 0)];
+
 const RIGHT: [(i64, i64); 5] = [(1, 0), (2, 0), (2, 1), (1, 1), (1, 0)];
+
 const LOOP: [(i64, i64); 4] = [(0, 0), (2, 0), (0, 2), (0, 0)];
 
 fn positions(alloc: Global, places: &[(i64, i64)]) -> Result<Vec<Pos>, Fail> {
@@ -50,17 +52,31 @@ fn unit_grid() -> Result<Grid, Fail> {
 }
 
 /// Compares the arcs.
-fn check_arcs(rt: &impl Abort, alloc: Global, topology: &Topology, arcs: &[&[(i64, i64)]]) -> Result<(), Fail> {
+fn check_arcs(
+    rt: &impl Abort,
+    alloc: Global,
+    topology: &Topology,
+    arcs: &[&[(i64, i64)]],
+) -> Result<(), Fail> {
     assert_eq!(rt; topology.arcs().len(), arcs.len());
     for (i, places) in arcs.iter().enumerate() {
         let expected = positions(alloc, places)?;
-        assert_eq!(rt; topology.arcs().arc(i), Some(expected.as_slice()), "arc {i}");
+        assert_eq!(rt;
+            topology.arcs().arc(i),
+            Some(expected.as_slice()),
+            "arc {i}"
+        );
     }
     Ok(())
 }
 
 /// Compares the indexes of the first ring of a polygon of layer `a`.
-fn check_ring(rt: &impl Abort, topology: &Topology, place: usize, indexes: &[i64]) -> Result<(), Fail> {
+fn check_ring(
+    rt: &impl Abort,
+    topology: &Topology,
+    place: usize,
+    indexes: &[i64],
+) -> Result<(), Fail> {
     let geometries = topology.geometries("a").ok_or("no layer")?;
     let geometry = geometries.get(place).ok_or("no geometry")?;
     let Body::Polygon(rings) = &geometry.body else {
@@ -75,7 +91,12 @@ fn check_ring(rt: &impl Abort, topology: &Topology, place: usize, indexes: &[i64
 }
 
 /// Expands the topology and compares the map with the one that was built.
-fn check_expanded(rt: &impl Abort, alloc: Global, topology: &Topology, map: &FeatureMap) -> Result<(), Fail> {
+fn check_expanded(
+    rt: &impl Abort,
+    alloc: Global,
+    topology: &Topology,
+    map: &FeatureMap,
+) -> Result<(), Fail> {
     let expanded = topology.expand(alloc)?;
     let names = map.names()?;
     assert_eq!(rt; expanded.names()?.len(), names.len());
@@ -105,11 +126,16 @@ fn shared_edge(rt: HostRuntime) -> Result<(), Fail> {
     let grid = unit_grid()?;
     let map = map_of_rings(alloc, &[&LEFT, &RIGHT])?;
     let topology = Topology::build(alloc, &grid, &map)?;
-    check_arcs(&rt, alloc, &topology, &[
-        &[(1, 0), (0, 0), (0, 1), (1, 1)],
-        &[(1, 0), (1, 1)],
-        &[(1, 0), (2, 0), (2, 1), (1, 1)],
-    ])?;
+    check_arcs(
+        &rt,
+        alloc,
+        &topology,
+        &[
+            &[(1, 0), (0, 0), (0, 1), (1, 1)],
+            &[(1, 0), (1, 1)],
+            &[(1, 0), (2, 0), (2, 1), (1, 1)],
+        ],
+    )?;
     check_ring(&rt, &topology, 0, &[1, -1])?;
     check_ring(&rt, &topology, 1, &[2, -2])?;
     assert_eq!(rt; topology.bbox(), Some((0, 0, 2, 1)));
@@ -176,11 +202,22 @@ fn walks_from_both_ends(rt: HostRuntime) -> Result<(), Fail> {
 fn bbox_in_absolute_numbers(rt: HostRuntime) -> Result<(), Fail> {
     let alloc = rt.alloc();
     let grid = Grid::new(10, 10, -500, 0).ok_or("no grid")?;
-    let places = [(-1_000_000_000, -1_000_000_000), (1_000_000_000, 1_000_000_000)];
+    let places = [
+        (-1_000_000_000, -1_000_000_000),
+        (1_000_000_000, 1_000_000_000),
+    ];
     let line = Line::from_positions(alloc, positions(alloc, &places)?)?;
     let mut map = FeatureMap::new(alloc);
     insert(alloc, &mut map, "a", Shape::Line(line))?;
     let topology = Topology::build(alloc, &grid, &map)?;
-    assert_eq!(rt; topology.bbox(), Some((-10_000_000_500, -10_000_000_000, 9_999_999_500, 10_000_000_000)));
+    assert_eq!(rt;
+        topology.bbox(),
+        Some((
+            -10_000_000_500,
+            -10_000_000_000,
+            9_999_999_500,
+            10_000_000_000
+        ))
+    );
     check_expanded(&rt, alloc, &topology, &map)
 }

@@ -1,10 +1,12 @@
 //! A topology as a value.
-ghost use Rattle.std.specs.Prelude.{◌≡◌, IfOk, List, ◌++◌, Option, Some, None};
+ghost use Rattle.std.specs.Prelude.{◌≡◌, ◌↔◌, IfOk, IfSome, IfNone, IsTrue, List};
 ghost use Rattle.grid.specs.declared.pos.Pos.{Pos};
 ghost use Rattle.theory.specs.ArcNumbers.{StitchTo};
+ghost use Rattle.theory.specs.Lists.{Has};
 ghost use Rattle.shapes.specs.Maps.{Layers};
 ghost use Rattle.shapes.specs.Parts.{spelled_text};
 ghost use Rattle.topo.specs.Walked.{walked};
+ghost use Rattle.topo.specs.Parts.{LayerParts, IsOfLayerNamed};
 ghost use Rattle.topo.specs.OfMap.{ArePartsOf, IsOf, IsOfSomeMap, IsTopology, seen_parts, the_topology};
 
 use crate::bounds::bounds;
@@ -88,6 +90,24 @@ fn copy_layers(alloc: Global, layers: &[Layer]) -> Result<Vec<Layer>, OutOfMemor
     Ok(copies)
 }
 
+fn is_named(layer: &Layer, name: &str) -> bool
+    ensures { IsTrue result ↔ (spelled_text layer.now.name ≡ name.now) }
+{
+    layer.name().text() == name
+}
+
+fn find_geometries<'a>(layers: &'a [Layer], name: &str) -> Option<&'a [Geom]>
+    ensures found { IfSome result (λ gs. IsOfLayerNamed layers.now name.now gs.now) }
+    ensures none { IfNone result ((l : LayerParts) → Has l layers.now → ¬ (spelled_text l.name ≡ name.now)) }
+{
+    for layer in layers {
+        if is_named(layer, name) {
+            return Some(layer.geometries());
+        }
+    }
+    None
+}
+
 /// A quantized topology (TopoJSON section 2.1): the grid, the arcs, and for each layer its
 /// geometries as lists of arcs. The bounding box of its positions is kept with it.
 #[derive(Drop)]
@@ -152,16 +172,12 @@ impl Topology {
         self.layers.as_slice()
     }
 
-    /// The geometries of the layer of a name; None where there is no such layer.
-    pub fn geometries(&self, name: &str) -> Option<&[Geom]> {
-        let layers = self.layers();
-        let place = layers.partition_point(|layer| layer.name().text() < name);
-        let layer = layers.get(place)?;
-        if layer.name().text() == name {
-            Some(layer.geometries())
-        } else {
-            None
-        }
+    /// The geometries of the layer of a name; None exactly where there is no such layer.
+    pub fn geometries(&self, name: &str) -> Option<&[Geom]>
+        ensures found { IfSome result (λ gs. IsOfLayerNamed self.now.layers name.now gs.now) }
+        ensures none { IfNone result ((l : LayerParts) → Has l self.now.layers → ¬ (spelled_text l.name ≡ name.now)) }
+    {
+        find_geometries(self.layers(), name)
     }
 
     /// Least x, least y, greatest x and greatest y of all positions, in absolute numbers (TopoJSON
