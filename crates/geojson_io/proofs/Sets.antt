@@ -43,7 +43,7 @@ pub collected : (n : BTreeSet Feature) (ks : List Feature) → sorted.IsFromIter
 collected n ks made q =
     let same = contains-set_of n q ∙ made.0 q in (
       λ e. has_member q ks (sym same ∙ e),
-      λ h. same ∙ member_has q ks h
+      λ h. same ∙ member_has q ks h,
     )
 
 has_plain : (f : Feature) (fs : List Feature) → Has f fs → Has (plain f) (map plain fs)

@@ -31,7 +31,7 @@ abbrev pub feature_of : Transform → Data → Plain
 feature_of t d = record {
   id = id_of (member_or_null (codes "id") d);
   properties = properties_of (member_or_null (codes "properties") d);
-  form = geometry_form t (member_or_null (codes "geometry") d)
+  form = geometry_form t (member_or_null (codes "geometry") d);
 }
 
 abbrev pub feature_named : List ℕ → Result Unit FaultKind

@@ -16,7 +16,6 @@ ghost use Rattle.geojson_io.specs.Features.{feature_members, feature_of, element
 mod feature;
 mod geometry;
 mod position;
-
 #[cfg(test)]
 mod tests;
 
@@ -103,14 +102,21 @@ fn read_features(alloc: Global, position: &Position, value: &Value) -> Result<Ve
     ensures made { IfOk result (λ fs. map plain fs.items ≡ map (feature_of position.now.grid) (elements (member_or_null (codes "features") (view value.now)))) }
     ensures err { IfErr result (λ f. LeastOrWant (member_faults (codes "features") (list_faults (element_of_features_faults position.now.grid)) (view value.now)) f) }
 {
-    let of = FeatureElement { position: *position };
+    let of = FeatureElement {
+        position: *position,
+    };
     match read_member(alloc, &Listed { of }, value, "features") {
         Ok(features) => Ok(features.into_vec()),
         Err(fault) => Err(fault),
     }
 }
 
-fn read_bare(alloc: Global, position: &Position, kind: GeometryType, value: &Value) -> Result<Vec<Feature>, Fault>
+fn read_bare(
+    alloc: Global,
+    position: &Position,
+    kind: GeometryType,
+    value: &Value,
+) -> Result<Vec<Feature>, Fault>
     ensures ok { OnOk result (typed_geometry_faults position.now.grid kind (view value.now) ≡ []) }
     ensures made { IfOk result (λ fs. map plain fs.items ≡ bare (typed_form position.now.grid kind (view value.now)) ∷ []) }
     ensures err { IfErr result (λ f. LeastOrWant (typed_geometry_faults position.now.grid kind (view value.now)) f) }
@@ -129,7 +135,12 @@ fn read_one(alloc: Global, position: &Position, value: &Value) -> Result<Vec<Fea
     one(alloc, feature)
 }
 
-fn read_as(alloc: Global, position: &Position, root: Root, value: &Value) -> Result<Vec<Feature>, Fault>
+fn read_as(
+    alloc: Global,
+    position: &Position,
+    root: Root,
+    value: &Value,
+) -> Result<Vec<Feature>, Fault>
     ensures ok { OnOk result (root_faults position.now.grid (view value.now) root ≡ []) }
     ensures made { IfOk result (λ fs. map plain fs.items ≡ features_by position.now.grid (view value.now) (Ok root)) }
     ensures err { IfErr result (λ f. LeastOrWant (root_faults position.now.grid (view value.now) root) f) }

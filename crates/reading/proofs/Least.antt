@@ -57,7 +57,7 @@ upto_itself k = rw (tied_itself nat_cmp_total (number_of k)) refl
 pub least_here : (k : FaultKind) → IsLeast (here k) (record { path = []; kind = k })
 least_here k = record {
   present = (0, omega arith, refl);
-  first = All-cons (IsUpto (record { path = []; kind = k })) (record { path = []; kind = k }) [] (upto_itself k) (All-nil _)
+  first = All-cons (IsUpto (record { path = []; kind = k })) (record { path = []; kind = k }) [] (upto_itself k) (All-nil _);
 }
 
 -- the one fault of a value itself
@@ -73,7 +73,7 @@ from_want ps f want = record { least = λ real. absurd (real want) }
 pub least_under : (t : Turn) (ps : List Pair) (p : Pair) → IsLeast ps p → IsLeast (under t ps) (prefixed t p)
 least_under t ps p h = record {
   present = Contains-map (prefixed t) ps p h.present;
-  first = All-map (IsUpto (prefixed t p)) (prefixed t) ps (All-weaker (IsUpto p) _ (λ q. upto_prefixed t p q) ps h.first)
+  first = All-map (IsUpto (prefixed t p)) (prefixed t) ps (All-weaker (IsUpto p) _ (λ q. upto_prefixed t p q) ps h.first);
 }
 
 -- faults further on do not count
@@ -81,19 +81,19 @@ pub least_before : (t : Turn) (ps qs : List Pair) (p : Pair) → IsLeast ps p �
 least_before t ps qs p h later =
     let inner = least_under t ps p h in record {
       present = Contains-append_left (under t ps) qs _ inner.present;
-      first = All-append (IsUpto (prefixed t p)) (under t ps) qs inner.first (All-weaker (λ q. BeginsAfter t q.path) _ (λ q. upto_after t p q) qs later.all)
+      first = All-append (IsUpto (prefixed t p)) (under t ps) qs inner.first (All-weaker (λ q. BeginsAfter t q.path) _ (λ q. upto_after t p q) qs later.all);
     }
 
 -- a part's fault is the whole's, as nothing before it has any
 pub lifted : (t : Turn) (ps qs : List Pair) (old new : Fault) → LeastOrWant ps old → Lifted t old new → After t qs → LeastOrWant (under t ps ++ qs) new
 lifted t ps qs old new part up later = record {
-  least = λ real. subst (IsLeast (under t ps ++ qs)) (sym (up.at real)) (least_before t ps qs (pair_of old) (part.least (up.was real)) later)
+  least = λ real. subst (IsLeast (under t ps ++ qs)) (sym (up.at real)) (least_before t ps qs (pair_of old) (part.least (up.was real)) later);
 }
 
 -- the same of the last part, where those before it have none
 pub lifted_last : (t : Turn) (ps qs : List Pair) (old new : Fault) → LeastOrWant qs old → Lifted t old new → ps ≡ [] → LeastOrWant (ps ++ under t qs) new
 lifted_last t ps qs old new part up none = rw none (record {
-  least = λ real. subst (IsLeast (under t qs)) (sym (up.at real)) (least_under t qs (pair_of old) (part.least (up.was real)))
+  least = λ real. subst (IsLeast (under t qs)) (sym (up.at real)) (least_under t qs (pair_of old) (part.least (up.was real)));
 })
 
 pub lifted_only : (t : Turn) (qs : List Pair) (old new : Fault) → LeastOrWant qs old → Lifted t old new → LeastOrWant (under t qs) new
@@ -108,7 +108,7 @@ least_first : (t : Turn) (ps qs : List Pair) (p : Pair) → IsLeast (under t ps)
 least_first t ps qs p h later =
     let front = begun t ps p h.present in record {
       present = Contains-append_left (under t ps) qs p h.present;
-      first = All-append (IsUpto p) (under t ps) qs h.first (All-weaker (λ q. BeginsAfter t q.path) _ (λ q a. subst (λ x. IsUpto x q) (sym front.1) (upto_after t front.0 q a)) qs later.all)
+      first = All-append (IsUpto p) (under t ps) qs h.first (All-weaker (λ q. BeginsAfter t q.path) _ (λ q a. subst (λ x. IsUpto x q) (sym front.1) (upto_after t front.0 q a)) qs later.all);
     }
 
 -- the faults of a member, before those of later members

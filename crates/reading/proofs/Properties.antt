@@ -40,7 +40,7 @@ told_as f = record { path = []; kind = properties_kind f }
 number_first : IsLeast (object_list true true) (told_as PropertyNumber)
 number_first = record {
   present = (0, omega arith, refl);
-  first = All-cons (IsUpto (told_as PropertyNumber)) (told_as PropertyNumber) (told_as PropertyDepth ∷ []) refl (All-cons (IsUpto (told_as PropertyNumber)) (told_as PropertyDepth) [] refl (All-nil (IsUpto (told_as PropertyNumber))))
+  first = All-cons (IsUpto (told_as PropertyNumber)) (told_as PropertyNumber) (told_as PropertyDepth ∷ []) refl (All-cons (IsUpto (told_as PropertyNumber)) (told_as PropertyDepth) [] refl (All-nil (IsUpto (told_as PropertyNumber))));
 }
 
 object_least : (fraction deep : Bool) (f : PropFault) → object_fault fraction deep ≡ Some f → IsLeast (object_list fraction deep) (told_as f)

@@ -19,6 +19,7 @@ pub trait Part {
     type Made: Drop;
 
     ghost faults: { Self → Data → List Pair };
+
     ghost means: { Self → Data → Self.Made → Type 0 };
 
     /// What the value means, or the least of its faults, with its path from this value.
@@ -80,7 +81,12 @@ fn read_each_part<P: Part>(alloc: Global, part: &P, values: &[Value]) -> Result<
 }
 
 /// Two parts in an array.
-pub fn read_pair<P: Part, Q: Part>(alloc: Global, first: &P, second: &Q, value: &Value) -> Result<(P::Made, Q::Made), Fault>
+pub fn read_pair<P: Part, Q: Part>(
+    alloc: Global,
+    first: &P,
+    second: &Q,
+    value: &Value,
+) -> Result<(P::Made, Q::Made), Fault>
     ensures ok { OnOk result
         (pair_faults (P.faults first.now) (Q.faults second.now) (view value.now) ≡ []) }
     ensures made { IfOk result (λ p. IsPair (P.means first.now) (Q.means second.now) (elements (view value.now)) p.0 p.1) }
@@ -93,7 +99,12 @@ pub fn read_pair<P: Part, Q: Part>(alloc: Global, first: &P, second: &Q, value: 
     read_two(alloc, first, second, items)
 }
 
-fn read_two<P: Part, Q: Part>(alloc: Global, first: &P, second: &Q, values: &[Value]) -> Result<(P::Made, Q::Made), Fault>
+fn read_two<P: Part, Q: Part>(
+    alloc: Global,
+    first: &P,
+    second: &Q,
+    values: &[Value],
+) -> Result<(P::Made, Q::Made), Fault>
     ensures ok { OnOk result
         (two_faults (P.faults first.now) (Q.faults second.now) (map view values.now) ≡ []) }
     ensures made { IfOk result (λ p. IsPair (P.means first.now) (Q.means second.now) (map view values.now) p.0 p.1) }
@@ -115,7 +126,12 @@ fn read_two<P: Part, Q: Part>(alloc: Global, first: &P, second: &Q, values: &[Va
 }
 
 /// A member that may be missing.
-pub fn read_option<P: Part>(alloc: Global, part: &P, value: &Value, member: &str) -> Result<Option<P::Made>, Fault>
+pub fn read_option<P: Part>(
+    alloc: Global,
+    part: &P,
+    value: &Value,
+    member: &str,
+) -> Result<Option<P::Made>, Fault>
     ensures ok { OnOk result (option_faults member.now (P.faults part.now) (view value.now) ≡ []) }
     ensures made { IfOk result (λ o. MatchOption o (get member.now (view value.now) ≡ None)
         (λ x. (d : Data) × (get member.now (view value.now) ≡ Some d) × P.means part.now d x)) }
@@ -132,7 +148,12 @@ pub fn read_option<P: Part>(alloc: Global, part: &P, value: &Value, member: &str
 }
 
 /// A member that has to be there; a missing one is told at its own path.
-pub fn read_member<P: Part>(alloc: Global, part: &P, value: &Value, member: &str) -> Result<P::Made, Fault>
+pub fn read_member<P: Part>(
+    alloc: Global,
+    part: &P,
+    value: &Value,
+    member: &str,
+) -> Result<P::Made, Fault>
     ensures ok { OnOk result (member_faults member.now (P.faults part.now) (view value.now) ≡ []) }
     ensures made { IfOk result (λ x. (d : Data) × (get member.now (view value.now) ≡ Some d) × P.means part.now d x) }
     ensures err { IfErr result
@@ -148,7 +169,11 @@ pub fn read_member<P: Part>(alloc: Global, part: &P, value: &Value, member: &str
 }
 
 /// Each member of an object, with its name, in the byte order of the names.
-pub fn read_each_member<P: Part>(alloc: Global, part: &P, members: &Map<String, Value>) -> Result<Vec<(String, P::Made)>, Fault>
+pub fn read_each_member<P: Part>(
+    alloc: Global,
+    part: &P,
+    members: &Map<String, Value>,
+) -> Result<Vec<(String, P::Made)>, Fault>
     ensures made { IfOk result (λ ms. MeanMembers (P.means part.now) (members_view members.now.entries) (map (λ m. (string_bytes m.0, m.1)) ms.items)) }
     ensures ok { OnOk result
         (each_member_faults (P.faults part.now) (members_view members.now.entries) ≡ []) }
@@ -165,7 +190,12 @@ pub fn read_each_member<P: Part>(alloc: Global, part: &P, members: &Map<String, 
     Ok(found)
 }
 
-fn keep_named<T: Drop>(alloc: Global, list: &mut Vec<(String, T)>, name: &str, made: T) -> Result<(), Fault>
+fn keep_named<T: Drop>(
+    alloc: Global,
+    list: &mut Vec<(String, T)>,
+    name: &str,
+    made: T,
+) -> Result<(), Fault>
     ensures ok { OnOk result ((s : String Global) × (string_bytes s ≡ name.now) × (list.new.items ≡ list.old.items ++ (s, made) ∷ [])) }
     ensures err { IfErr result IsWant }
 {
@@ -185,6 +215,7 @@ impl<P: Part> Part for Listed<P> {
     type Made = Items<P::Made>;
 
     ghost faults = { λ p. list_faults (P.faults p.of) };
+
     ghost means = { λ p d xs. AllZip (P.means p.of) (elements d) xs };
 
     fn read(&self, alloc: Global, value: &Value) -> Result<Items<P::Made>, Fault> {

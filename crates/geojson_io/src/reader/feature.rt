@@ -23,7 +23,9 @@ fn read_shape(alloc: Global, position: &Position, value: &Value) -> Result<Shape
     ensures made { IfOk result (λ s. plain_form s ≡ geometry_form position.now.grid (member_or_null (codes "geometry") (view value.now))) }
     ensures err { IfErr result (λ f. LeastOrWant (option_faults (codes "geometry") (unless_null (geometry_faults position.now.grid)) (view value.now)) f) }
 {
-    let geometry = Geometry { position: *position };
+    let geometry = Geometry {
+        position: *position,
+    };
     match read_option(alloc, &geometry, value, "geometry")? {
         Some(shape) => Ok(shape),
         None => Ok(Shape::Null),

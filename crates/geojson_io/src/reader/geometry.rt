@@ -51,7 +51,12 @@ impl Part for Coordinates {
 }
 
 /// The shape of a geometry whose type is known.
-pub fn read_geometry(alloc: Global, position: &Position, kind: GeometryType, value: &Value) -> Result<Shape, Fault>
+pub fn read_geometry(
+    alloc: Global,
+    position: &Position,
+    kind: GeometryType,
+    value: &Value,
+) -> Result<Shape, Fault>
     ensures ok { OnOk result (typed_geometry_faults position.now.grid kind (view value.now) ≡ []) }
     ensures made { IfOk result (λ s. plain_form s ≡ typed_form position.now.grid kind (view value.now)) }
     ensures err { IfErr result (λ f. LeastOrWant (typed_geometry_faults position.now.grid kind (view value.now)) f) }

@@ -65,8 +65,12 @@ impl Part for Position {
     ghost means = { λ p d x. x ≡ position_of p.grid d };
 
     fn read(&self, alloc: Global, value: &Value) -> Result<Pos, Fault> {
-        let x = Coordinate { axis: self.grid.x_axis() };
-        let y = Coordinate { axis: self.grid.y_axis() };
+        let x = Coordinate {
+            axis: self.grid.x_axis(),
+        };
+        let y = Coordinate {
+            axis: self.grid.y_axis(),
+        };
         let (x, y) = read_pair(alloc, &x, &y, value)?;
         match Pos::new(x, y) {
             Some(position) => Ok(position),

@@ -20,7 +20,7 @@ loop-key-preserved g c =
       l.invariant.1 ∙ ap (λ es. l.invariant.0 ++ es) c.in-Some.ensures.steps ∙ sym (append_assoc l.invariant.0 (e ∷ []) left),
       l.invariant.2 ∙ ap (λ es. each_member_faults of (members_view es)) c.in-Some.ensures.steps ∙ ap (λ ps. under (name (string_bytes e.0)) ps ++ each_member_faults of (members_view left)) c.in-Ok.ensures.ok.0,
       members_more (g.P.Part.means c.args.part.now) (string_bytes e.0) (view e.1) (members_view left) (members_view c.args.members.now.entries) l.found.items _ c.in_ok-keep_named-in-Ok.ensures.ok.0 c.in-Ok.made c.in_ok-keep_named-in-Ok.ensures.ok.2 (c.in_ok-keep_named-in-Ok.ensures.ok.1 ∙ c.as_str.ensures.value) c.in-Ok.ensures.ok.1
-      (subst (λ es. MeansAfter (g.P.Part.means c.args.part.now) (members_view c.args.members.now.entries) (members_view es) l.found.items) c.in-Some.ensures.steps l.invariant.3)
+          (subst (λ es. MeansAfter (g.P.Part.means c.args.part.now) (members_view c.args.members.now.entries) (members_view es) l.found.items) c.in-Some.ensures.steps l.invariant.3),
     )
 
 pub returns-in-Err-clause-err : goal.returns-in-Err-clause-err

@@ -14,5 +14,5 @@ pub loop-i-preserved : goal.loop-i-preserved
 loop-i-preserved g c = record {
   judged = c.loop-i.invariant.judged ∙ each_passed (g.P.Part.faults c.args.part.now) c.args.values.now c.loop-i.i c.index-values-i.result (omega arith) c.index-values-i.is c.in-Ok.ensures.ok.0;
   meant = subst (AllZip (g.P.Part.means c.args.part.now) (map view (take (c.loop-i.i + 1) c.args.values.now))) (sym c.in_ok-keep-in-Ok.ensures.ok)
-    (zip_more (g.P.Part.means c.args.part.now) c.args.values.now c.loop-i.i c.index-values-i.result c.loop-i.found.items c.in-Ok.made (omega arith) c.index-values-i.is c.loop-i.invariant.meant c.in-Ok.ensures.ok.1)
+      (zip_more (g.P.Part.means c.args.part.now) c.args.values.now c.loop-i.i c.index-values-i.result c.loop-i.found.items c.in-Ok.made (omega arith) c.index-values-i.is c.loop-i.invariant.meant c.in-Ok.ensures.ok.1);
 }
