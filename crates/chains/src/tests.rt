@@ -1,8 +1,7 @@
-use crate::{ArcRef, ArcTable, Piece, Segment, VisitIndex, cut_line, cut_ring, maximal};
+use crate::{ArcRef, ArcTable, Piece, Segment, VisitIndex, cut_line, cut_ring};
 use grid::pos::Pos;
 use shapes::{Feature, FeatureMap, Id, Items, Line, Props, Ring, Shape};
 use std::alloc::Global;
-use std::collections::BTreeSet;
 use std::process::Abort;
 use std::test::Fail;
 
@@ -226,13 +225,6 @@ fn segments_have_the_lesser_end_first(rt: HostRuntime) -> Result<(), Fail> {
     assert_eq!(rt; Segment::new(b, a), Some(segment));
     assert_eq!(rt; Segment::new(a, a), None);
     Ok(())
-}
-
-#[test]
-fn no_segments_have_no_chains(rt: HostRuntime) -> Result<(), Fail> {
-    let alloc = rt.alloc();
-    let table = maximal(alloc, &BTreeSet::new(alloc), &BTreeSet::new(alloc))?;
-    check(&rt, alloc, &table, &[])
 }
 
 #[test]
