@@ -1,24 +1,38 @@
 //! Topologies in: the grid and the features that arcs stitch to.
-ghost use Rattle.std.specs.Prelude.{◌≡◌, []};
+ghost use Rattle.std.specs.Prelude.{◌≡◌, [], ◌++◌, map, Some, Ok, Err, codes, IfOk, IfErr, OnOk, string_bytes};
+ghost use Rattle.serde_json.specs.Data.{Data};
+ghost use Rattle.serde_json.specs.Find.{get, as_object};
+ghost use Rattle.serde_json.specs.View.{view};
+ghost use Rattle.faults.specs.Path.{name as name_turn};
+ghost use Rattle.faults.specs.Fault.{IsWant};
+ghost use Rattle.reading.specs.Fault.{LeastOrWant, under};
+ghost use Rattle.reading.specs.Parts.{named, type_text, member_faults};
+ghost use Rattle.reading.specs.Info.{member_or_null};
+ghost use Rattle.topo_io.specs.Arcs.{known};
+ghost use Rattle.topo_io.specs.Layers.{plain_layer};
+ghost use Rattle.topo_io.specs.Roots.{topology_named, objects_faults, layers_if_object, content_faults, layers_of, limits_of, transform_of, transform_faults, transformed_faults, topology_faults, grid_of, faults_of_text, grid_of_text, layers_of_text};
 
-mod arc;
-mod geometry;
-mod layer;
-mod limit;
-mod stitching;
-mod transform;
+pub mod arc;
+pub mod geometry;
+pub mod layer;
+pub mod layer_type;
+pub mod limit;
+pub mod position;
+pub mod stitching;
+pub mod transform;
+pub mod used_arc;
 
 #[cfg(test)]
 mod tests;
 
+
 use crate::reader::arc::ArcOf;
+use crate::reader::geometry::Ground;
 use crate::reader::layer::LayerOf;
-use crate::reader::limit::Limits;
+use crate::reader::position::Limits;
 use crate::reader::transform::read_transform;
 use faults::fault::{Fault, FaultKind};
-use grid::pos::Pos;
 use grid::transform::Grid;
-use lines::items::Items;
 use reading::document::document;
 use reading::part::{Listed, Part, read_each_member, read_member, type_fault, type_name};
 use serde_json::Value;
@@ -30,84 +44,137 @@ use std::alloc::Global;
 /// Layers by name, each with the features that its geometries mean.
 type Layers = Vec<(String, Vec<Feature>)>;
 
-fn topology_type(value: &Value) -> Result<(), FaultKind> {
+fn topology_type(value: &Value) -> Result<(), FaultKind>
+    ensures { result ≡ named topology_named (type_text (view value.now)) }
+{
     match type_name(value) {
-        Ok("Topology") => Ok(()),
-        Ok(_) => Err(FaultKind::UnknownType),
+        Ok(text) => {
+            if text == "Topology" {
+                Ok(())
+            } else {
+                Err(FaultKind::UnknownType)
+            }
+        }
         Err(kind) => Err(kind),
     }
 }
 
 /// The member `objects`: an object of layers.
 #[derive(Clone, Copy)]
-struct Objects<'a> {
-    of: LayerOf<'a>,
+struct Objects<'g, 'a> {
+    on: &'g Ground<'a>,
 }
 
-impl Part for Objects<'_> {
+impl Part for Objects<'_, '_> {
     type Made = Layers;
 
-    ghost faults = { λ _ _. [] };
+    ghost faults = { λ p. objects_faults p.on.now.limits (known p.on.now.arcs.now) };
 
-    ghost means = { λ _ _ x. x ≡ x };
+    ghost means = { λ p d ls. map plain_layer ls.items ≡ layers_if_object p.on.now.arcs.now (as_object d) };
 
     fn read(&self, alloc: Global, value: &Value) -> Result<Layers, Fault> {
+        let of = LayerOf { on: self.on };
         match value.as_object() {
-            Some(members) => read_each_member(alloc, &self.of, members),
+            Some(members) => read_each_member(alloc, &of, members),
             None => Err(Fault::here(alloc, FaultKind::WrongKind)),
         }
     }
 }
 
+fn read_objects(alloc: Global, on: &Ground, value: &Value) -> Result<Layers, Fault>
+    ensures ok { OnOk result (member_faults (codes "objects") (objects_faults on.now.limits (known on.now.arcs.now)) (view value.now) ≡ []) }
+    ensures made { IfOk result (λ ls. map plain_layer ls.items ≡ layers_if_object on.now.arcs.now (as_object (member_or_null (codes "objects") (view value.now)))) }
+    ensures err { IfErr result (λ f. LeastOrWant (member_faults (codes "objects") (objects_faults on.now.limits (known on.now.arcs.now)) (view value.now)) f) }
+{
+    read_member(alloc, &Objects { on }, value, "objects")
+}
+
 /// The layers of a topology: its arcs are judged first, used or not, and dropped at the end.
-fn read_layers(alloc: Global, limits: &Limits, value: &Value) -> Result<Layers, Fault> {
-    let arcs = read_member(alloc, &Listed { of: ArcOf { limits: *limits } }, value, "arcs")?;
-    let of = LayerOf {
+fn read_layers(alloc: Global, limits: &Limits, value: &Value) -> Result<Layers, Fault>
+    ensures ok { OnOk result (content_faults limits.now (view value.now) ≡ []) }
+    ensures made { IfOk result (λ ls. map plain_layer ls.items ≡ layers_of (view value.now)) }
+    ensures err { IfErr result (λ f. LeastOrWant (content_faults limits.now (view value.now)) f) }
+{
+    let of = ArcOf { limits: *limits };
+    let arcs = read_member(alloc, &Listed { of }, value, "arcs")?;
+    let on = Ground {
         arcs: arcs.as_slice(),
         limits: *limits,
     };
-    read_member(alloc, &Objects { of }, value, "objects")
+    read_objects(alloc, &on, value)
 }
 
-/// The layers, and the grid where the transform has no fault. A faulty transform is told after the
-/// faults of arcs and objects, and absolute numbers then have no limits.
-fn read_with(alloc: Global, grid: Result<Grid, Fault>, value: &Value) -> Result<(Grid, Layers), Fault> {
-    match grid {
+// A faulty transform is told after the faults of arcs and objects, and absolute numbers then have no
+// limits.
+fn read_faulty(alloc: Global, fault: Fault, value: &Value) -> Result<(Grid, Layers), Fault>
+    ensures err { IfErr result (λ f. (t : Data) → LeastOrWant (transform_faults t) fault → LeastOrWant (content_faults (limits_of t) (view value.now) ++ under (name_turn (codes "transform")) (transform_faults t)) f) }
+    ensures ok { OnOk result ⊥ }
+{
+    match fault.kind {
+        FaultKind::OutOfMemory => Err(fault),
+        _ => match read_layers(alloc, &Limits::of_positions(), value) {
+            Ok(_layers) => Err(fault.under_name(alloc, "transform")),
+            Err(before) => Err(before),
+        },
+    }
+}
+
+fn read_with(alloc: Global, transform: &Value, value: &Value) -> Result<(Grid, Layers), Fault>
+    ensures ok { OnOk result (content_faults (limits_of (view transform.now)) (view value.now) ++ under (name_turn (codes "transform")) (transform_faults (view transform.now)) ≡ []) }
+    ensures grid { IfOk result (λ made. made.0 ≡ transform_of (view transform.now)) }
+    ensures layers { IfOk result (λ made. map plain_layer made.1.items ≡ layers_of (view value.now)) }
+    ensures err { IfErr result (λ f. LeastOrWant (content_faults (limits_of (view transform.now)) (view value.now) ++ under (name_turn (codes "transform")) (transform_faults (view transform.now))) f) }
+{
+    match read_transform(alloc, transform) {
         Ok(grid) => {
             let layers = read_layers(alloc, &Limits::of(&grid), value)?;
             Ok((grid, layers))
         }
-        Err(fault) => {
-            if fault.kind == FaultKind::OutOfMemory {
-                return Err(fault);
-            }
-            let _layers = read_layers(alloc, &Limits::of_positions(), value)?;
-            Err(fault.under_name(alloc, "transform"))
-        }
+        Err(fault) => read_faulty(alloc, fault, value),
     }
 }
 
-fn read_root(alloc: Global, value: &Value) -> Result<(Grid, Layers), Fault> {
+fn read_members(alloc: Global, value: &Value) -> Result<(Grid, Layers), Fault>
+    ensures ok { OnOk result (transformed_faults (view value.now) (get (codes "transform") (view value.now)) ≡ []) }
+    ensures grid { IfOk result (λ made. made.0 ≡ grid_of (view value.now)) }
+    ensures layers { IfOk result (λ made. map plain_layer made.1.items ≡ layers_of (view value.now)) }
+    ensures err { IfErr result (λ f. LeastOrWant (transformed_faults (view value.now) (get (codes "transform") (view value.now))) f) }
+{
+    match value.get("transform") {
+        None => Err(Fault::here(alloc, FaultKind::NoTransform).under_name(alloc, "transform")),
+        Some(transform) => read_with(alloc, transform, value),
+    }
+}
+
+fn read_root(alloc: Global, value: &Value) -> Result<(Grid, Layers), Fault>
+    ensures ok { OnOk result (topology_faults (view value.now) ≡ []) }
+    ensures grid { IfOk result (λ made. made.0 ≡ grid_of (view value.now)) }
+    ensures layers { IfOk result (λ made. map plain_layer made.1.items ≡ layers_of (view value.now)) }
+    ensures err { IfErr result (λ f. LeastOrWant (topology_faults (view value.now)) f) }
+{
     if !value.is_object() {
         return Err(Fault::here(alloc, FaultKind::WrongKind));
     }
     match topology_type(value) {
-        Ok(()) => {}
-        Err(kind) => return Err(type_fault(alloc, kind)),
-    }
-    match value.get("transform") {
-        None => Err(Fault::here(alloc, FaultKind::NoTransform).under_name(alloc, "transform")),
-        Some(transform) => read_with(alloc, read_transform(alloc, transform), value),
+        Ok(()) => read_members(alloc, value),
+        Err(kind) => Err(type_fault(alloc, kind)),
     }
 }
 
 // The value is dropped at the end, before the map is made.
-fn read_text(alloc: Global, bytes: &[u8]) -> Result<(Grid, Layers), Fault> {
+fn read_text(alloc: Global, bytes: &[u8]) -> Result<(Grid, Layers), Fault>
+    ensures ok { OnOk result (faults_of_text bytes.now ≡ []) }
+    ensures grid { IfOk result (λ made. made.0 ≡ grid_of_text bytes.now) }
+    ensures layers { IfOk result (λ made. map plain_layer made.1.items ≡ layers_of_text bytes.now) }
+    ensures err { IfErr result (λ f. LeastOrWant (faults_of_text bytes.now) f) }
+{
     let value = document(alloc, bytes)?;
     read_root(alloc, &value)
 }
 
-fn fill(alloc: Global, map: &mut FeatureMap, name: &str, features: Vec<Feature>) -> Result<(), Fault> {
+fn fill(alloc: Global, map: &mut FeatureMap, name: &str, features: Vec<Feature>) -> Result<(), Fault>
+    ensures err { IfErr result IsWant }
+{
     for feature in features {
         match map.insert(name, feature) {
             Ok(_) => {}
@@ -118,7 +185,9 @@ fn fill(alloc: Global, map: &mut FeatureMap, name: &str, features: Vec<Feature>)
     Ok(())
 }
 
-fn map_of(alloc: Global, layers: Layers) -> Result<FeatureMap, Fault> {
+fn map_of(alloc: Global, layers: Layers) -> Result<FeatureMap, Fault>
+    ensures err { IfErr result IsWant }
+{
     let mut map = FeatureMap::new(alloc);
     for (name, features) in layers {
         match map.add_layer(name.as_str()) {
@@ -136,7 +205,11 @@ fn map_of(alloc: Global, layers: Layers) -> Result<FeatureMap, Fault> {
 ///
 /// # Errors
 /// The least fault of the text, by path and then by number; `OutOfMemory` at the root.
-pub fn read(alloc: Global, bytes: &[u8]) -> Result<(Grid, FeatureMap), Fault> {
+pub fn read(alloc: Global, bytes: &[u8]) -> Result<(Grid, FeatureMap), Fault>
+    ensures ok { OnOk result (faults_of_text bytes.now ≡ []) }
+    ensures grid { IfOk result (λ made. made.0 ≡ grid_of_text bytes.now) }
+    ensures err { IfErr result (λ f. LeastOrWant (faults_of_text bytes.now) f) }
+{
     let (grid, layers) = read_text(alloc, bytes)?;
     let map = map_of(alloc, layers)?;
     Ok((grid, map))

@@ -1,7 +1,12 @@
 //! Geometries of a topology (TopoJSON, section 2.2).
-ghost use Rattle.std.specs.Prelude.{◌≡◌, []};
+ghost use Rattle.std.specs.Prelude.{◌≡◌, [], IfOk, IfErr, OnOk, Ok, Err, Some, None, option_map};
+ghost use Rattle.serde_json.specs.View.{view};
+ghost use Rattle.reading.specs.Fault.{LeastOrWant};
+ghost use Rattle.reading.specs.Plain.{plain, plain_form};
+ghost use Rattle.topo_io.specs.Arcs.{known};
+ghost use Rattle.topo_io.specs.Geometries.{body_name as name_of_body, body_faults, body_form, shape_faults, shape_form, typed_faults_of, feature_of, text_or_null as text_or_null_of, type_or_null as type_text_or_null, geometry_type as type_of_geometry, geometry_faults, geometry_feature};
 
-use crate::reader::limit::{Limits, Position};
+use crate::reader::position::{Limits, Position};
 use crate::reader::stitching::{IndexOf, LineOf, RingOf};
 use faults::fault::{Fault, FaultKind};
 use grid::pos::Pos;
@@ -14,67 +19,114 @@ use shapes::feature::Feature;
 use shapes::shape::Shape;
 use std::alloc::Global;
 
+fn text_or_null(value: &Value) -> Result<Option<&str>, FaultKind>
+    ensures ok { IfOk result (λ s. text_or_null_of (view value.now) ≡ Ok (option_map (λ t. t.now) s)) }
+    ensures err { IfErr result (λ k. text_or_null_of (view value.now) ≡ Err k) }
+{
+    match value {
+        Value::Null => Ok(None),
+        Value::String(text) => Ok(Some(text.as_str())),
+        _ => Err(FaultKind::WrongKind),
+    }
+}
+
 /// The text of an object's member `type`, where it is not null.
-pub fn type_or_null(value: &Value) -> Result<Option<&str>, FaultKind> {
+pub fn type_or_null(value: &Value) -> Result<Option<&str>, FaultKind>
+    ensures ok { IfOk result (λ s. type_text_or_null (view value.now) ≡ Ok (option_map (λ t. t.now) s)) }
+    ensures err { IfErr result (λ k. type_text_or_null (view value.now) ≡ Err k) }
+{
     match value.get("type") {
         None => Err(FaultKind::Missing),
-        Some(Value::Null) => Ok(None),
-        Some(member) => match member.as_str() {
-            None => Err(FaultKind::WrongKind),
-            Some(text) => Ok(Some(text)),
-        },
+        Some(member) => text_or_null(member),
     }
 }
 
 /// What geometries stand on: the topology's arcs, and the limits of positions.
 #[derive(Clone, Copy)]
-pub struct GeometryOf<'a> {
+pub struct Ground<'a> {
     pub arcs: &'a [Items<Pos>],
     pub limits: Limits,
 }
 
-impl GeometryOf<'_> {
-    fn read_points(&self, alloc: Global, kind: GeometryType, value: &Value) -> Result<Shape, Fault> {
-        let of = Position { limits: self.limits };
-        match kind {
-            GeometryType::Point => Ok(Shape::Point(read_member(alloc, &of, value, "coordinates")?)),
-            _ => Ok(Shape::MultiPoint(read_member(alloc, &Listed { of }, value, "coordinates")?)),
-        }
-    }
+/// The body of a geometry of that type: its coordinates, or its lists of arcs.
+#[derive(Clone, Copy)]
+pub struct BodyOf<'g, 'a> {
+    pub on: &'g Ground<'a>,
+    pub kind: GeometryType,
+}
 
-    /// The shape of a geometry of that type.
-    fn read_shape(&self, alloc: Global, kind: GeometryType, value: &Value) -> Result<Shape, Fault> {
-        let of = IndexOf { arcs: self.arcs };
-        match kind {
-            GeometryType::Point | GeometryType::MultiPoint => self.read_points(alloc, kind, value),
-            GeometryType::LineString => Ok(Shape::Line(read_member(alloc, &LineOf { of }, value, "arcs")?)),
-            GeometryType::MultiLineString => {
-                let of = LineOf { of };
-                Ok(Shape::MultiLine(read_member(alloc, &Listed { of }, value, "arcs")?))
-            }
-            GeometryType::Polygon => {
-                let of = RingOf { of };
-                Ok(Shape::Polygon(read_member(alloc, &Listed { of }, value, "arcs")?))
-            }
-            GeometryType::MultiPolygon => {
-                let of = Listed { of: RingOf { of } };
-                Ok(Shape::MultiPolygon(read_member(alloc, &Listed { of }, value, "arcs")?))
-            }
-        }
-    }
-
-    /// The feature of a geometry of that type, none for null.
-    pub fn read_as(&self, alloc: Global, kind: Option<GeometryType>, value: &Value) -> Result<Feature, Fault> {
-        let shape = match kind {
-            Some(kind) => self.read_shape(alloc, kind, value)?,
-            None => Shape::Null,
-        };
-        let (id, props) = read_info(alloc, value)?;
-        Ok(Feature { id, props, shape })
+/// The name of the member that holds the body.
+fn body_name(kind: GeometryType) -> &'static str
+    ensures { result.now ≡ name_of_body kind }
+{
+    match kind {
+        GeometryType::Point => "coordinates",
+        GeometryType::MultiPoint => "coordinates",
+        GeometryType::LineString => "arcs",
+        GeometryType::MultiLineString => "arcs",
+        GeometryType::Polygon => "arcs",
+        GeometryType::MultiPolygon => "arcs",
     }
 }
 
-fn geometry_type(value: &Value) -> Result<Option<GeometryType>, FaultKind> {
+impl Part for BodyOf<'_, '_> {
+    type Made = Shape;
+
+    ghost faults = { λ p. body_faults p.on.now.limits (known p.on.now.arcs.now) p.kind };
+
+    ghost means = { λ p d s. plain_form s ≡ body_form p.on.now.arcs.now p.kind d };
+
+    fn read(&self, alloc: Global, value: &Value) -> Result<Shape, Fault> {
+        let at = Position { limits: self.on.limits };
+        let of = IndexOf { arcs: self.on.arcs };
+        match self.kind {
+            GeometryType::Point => Ok(Shape::Point(at.read(alloc, value)?)),
+            GeometryType::MultiPoint => Ok(Shape::MultiPoint(Listed { of: at }.read(alloc, value)?)),
+            GeometryType::LineString => Ok(Shape::Line(LineOf { of }.read(alloc, value)?)),
+            GeometryType::MultiLineString => {
+                let of = LineOf { of };
+                Ok(Shape::MultiLine(Listed { of }.read(alloc, value)?))
+            }
+            GeometryType::Polygon => {
+                let of = RingOf { of };
+                Ok(Shape::Polygon(Listed { of }.read(alloc, value)?))
+            }
+            GeometryType::MultiPolygon => {
+                let of = Listed { of: RingOf { of } };
+                Ok(Shape::MultiPolygon(Listed { of }.read(alloc, value)?))
+            }
+        }
+    }
+}
+
+fn read_shape(alloc: Global, on: &Ground, kind: Option<GeometryType>, value: &Value) -> Result<Shape, Fault>
+    ensures ok { OnOk result (shape_faults on.now.limits (known on.now.arcs.now) kind (view value.now) ≡ []) }
+    ensures made { IfOk result (λ s. plain_form s ≡ shape_form on.now.arcs.now kind (view value.now)) }
+    ensures err { IfErr result (λ f. LeastOrWant (shape_faults on.now.limits (known on.now.arcs.now) kind (view value.now)) f) }
+{
+    match kind {
+        None => Ok(Shape::Null),
+        Some(kind) => {
+            let body = BodyOf { on, kind };
+            read_member(alloc, &body, value, body_name(kind))
+        }
+    }
+}
+
+/// The feature of a geometry of that type, none for null.
+pub fn read_as(alloc: Global, on: &Ground, kind: Option<GeometryType>, value: &Value) -> Result<Feature, Fault>
+    ensures ok { OnOk result (typed_faults_of on.now.limits (known on.now.arcs.now) kind (view value.now) ≡ []) }
+    ensures made { IfOk result (λ f. plain f ≡ feature_of on.now.arcs.now kind (view value.now)) }
+    ensures err { IfErr result (λ f. LeastOrWant (typed_faults_of on.now.limits (known on.now.arcs.now) kind (view value.now)) f) }
+{
+    let shape = read_shape(alloc, on, kind, value)?;
+    let (id, props) = read_info(alloc, value)?;
+    Ok(Feature { id, props, shape })
+}
+
+fn geometry_type(value: &Value) -> Result<Option<GeometryType>, FaultKind>
+    ensures { result ≡ type_of_geometry (view value.now) }
+{
     match type_or_null(value) {
         Ok(None) => Ok(None),
         Ok(Some(text)) => match GeometryType::named(text) {
@@ -85,19 +137,25 @@ fn geometry_type(value: &Value) -> Result<Option<GeometryType>, FaultKind> {
     }
 }
 
-impl Part for GeometryOf<'_> {
+/// A geometry of a collection.
+#[derive(Clone, Copy)]
+pub struct GeometryOf<'g, 'a> {
+    pub on: &'g Ground<'a>,
+}
+
+impl Part for GeometryOf<'_, '_> {
     type Made = Feature;
 
-    ghost faults = { λ _ _. [] };
+    ghost faults = { λ p. geometry_faults p.on.now.limits (known p.on.now.arcs.now) };
 
-    ghost means = { λ _ _ x. x ≡ x };
+    ghost means = { λ p d f. plain f ≡ geometry_feature p.on.now.arcs.now d };
 
     fn read(&self, alloc: Global, value: &Value) -> Result<Feature, Fault> {
         if !value.is_object() {
             return Err(Fault::here(alloc, FaultKind::WrongKind));
         }
         match geometry_type(value) {
-            Ok(kind) => self.read_as(alloc, kind, value),
+            Ok(kind) => read_as(alloc, self.on, kind, value),
             Err(kind) => Err(type_fault(alloc, kind)),
         }
     }

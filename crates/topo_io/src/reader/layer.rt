@@ -1,35 +1,38 @@
-//! Layers: the members of a topology's `objects`.
-ghost use Rattle.std.specs.Prelude.{◌≡◌, []};
+//! Layers: the members of a topology's `objects` (TopoJSON, section 2.1.5).
+ghost use Rattle.std.specs.Prelude.{◌≡◌, [], ◌∷◌, map, IfOk, IfErr, OnOk, Ok, Err, codes};
+ghost use Rattle.serde_json.specs.View.{view};
+ghost use Rattle.faults.specs.Fault.{IsWant};
+ghost use Rattle.reading.specs.Fault.{LeastOrWant};
+ghost use Rattle.reading.specs.Parts.{member_faults, list_faults, elements};
+ghost use Rattle.reading.specs.Info.{member_or_null};
+ghost use Rattle.reading.specs.Plain.{plain};
+ghost use Rattle.topo_io.specs.Arcs.{known};
+ghost use Rattle.topo_io.specs.Geometries.{typed_faults_of, feature_of, geometry_faults, geometry_feature, layer_named as named_layer, layer_type as type_of_layer, typed_layer_faults, layer_faults, layer_as, layer_features};
 
-use crate::reader::geometry::{GeometryOf, type_or_null};
-use crate::reader::limit::Limits;
+use crate::reader::geometry::{GeometryOf, Ground, read_as, type_or_null};
+use crate::reader::layer_type::LayerType;
 use faults::fault::{Fault, FaultKind};
-use grid::pos::Pos;
-use lines::items::Items;
 use reading::geometry::GeometryType;
 use reading::part::{Listed, Part, keep, read_member, type_fault};
 use serde_json::Value;
 use shapes::feature::Feature;
 use std::alloc::Global;
 
-/// What a layer is: a collection of geometries, or one geometry, whose type may be null.
-#[derive(Clone, Copy, PartialEq, Eq, Debug)]
-enum LayerType {
-    Collection,
-    Geometry(Option<GeometryType>),
-}
-
-fn layer_named(text: &str) -> Result<LayerType, FaultKind> {
-    match text {
-        "GeometryCollection" => Ok(LayerType::Collection),
-        _ => match GeometryType::named(text) {
-            Ok(kind) => Ok(LayerType::Geometry(Some(kind))),
-            Err(fault) => Err(fault),
-        },
+fn layer_named(text: &str) -> Result<LayerType, FaultKind>
+    ensures { result ≡ named_layer text.now }
+{
+    if text == "GeometryCollection" {
+        return Ok(LayerType::Collection);
+    }
+    match GeometryType::named(text) {
+        Ok(kind) => Ok(LayerType::Geometry(Some(kind))),
+        Err(fault) => Err(fault),
     }
 }
 
-fn layer_type(value: &Value) -> Result<LayerType, FaultKind> {
+fn layer_type(value: &Value) -> Result<LayerType, FaultKind>
+    ensures { result ≡ type_of_layer (view value.now) }
+{
     match type_or_null(value) {
         Ok(None) => Ok(LayerType::Geometry(None)),
         Ok(Some(text)) => layer_named(text),
@@ -37,47 +40,66 @@ fn layer_type(value: &Value) -> Result<LayerType, FaultKind> {
     }
 }
 
-/// A layer, and what its geometries stand on.
-#[derive(Clone, Copy)]
-pub struct LayerOf<'a> {
-    pub arcs: &'a [Items<Pos>],
-    pub limits: Limits,
-}
-
-impl LayerOf<'_> {
-    fn read_as(&self, alloc: Global, kind: LayerType, value: &Value) -> Result<Vec<Feature>, Fault> {
-        let of = GeometryOf {
-            arcs: self.arcs,
-            limits: self.limits,
-        };
-        match kind {
-            LayerType::Collection => {
-                let features = read_member(alloc, &Listed { of }, value, "geometries")?;
-                Ok(features.into_vec())
-            }
-            LayerType::Geometry(kind) => {
-                let feature = of.read_as(alloc, kind, value)?;
-                let mut features = Vec::new(alloc);
-                keep(&mut features, feature)?;
-                Ok(features)
-            }
-        }
+fn read_geometries(alloc: Global, on: &Ground, value: &Value) -> Result<Vec<Feature>, Fault>
+    ensures ok { OnOk result (member_faults (codes "geometries") (list_faults (geometry_faults on.now.limits (known on.now.arcs.now))) (view value.now) ≡ []) }
+    ensures made { IfOk result (λ fs. map plain fs.items ≡ map (geometry_feature on.now.arcs.now) (elements (member_or_null (codes "geometries") (view value.now)))) }
+    ensures err { IfErr result (λ f. LeastOrWant (member_faults (codes "geometries") (list_faults (geometry_faults on.now.limits (known on.now.arcs.now))) (view value.now)) f) }
+{
+    let of = GeometryOf { on };
+    match read_member(alloc, &Listed { of }, value, "geometries") {
+        Ok(features) => Ok(features.into_vec()),
+        Err(fault) => Err(fault),
     }
 }
 
-impl Part for LayerOf<'_> {
+fn one(alloc: Global, feature: Feature) -> Result<Vec<Feature>, Fault>
+    ensures ok { IfOk result (λ v. v.items ≡ feature ∷ []) }
+    ensures err { IfErr result IsWant }
+{
+    let mut features = Vec::new(alloc);
+    keep(&mut features, feature)?;
+    Ok(features)
+}
+
+fn read_one(alloc: Global, on: &Ground, kind: Option<GeometryType>, value: &Value) -> Result<Vec<Feature>, Fault>
+    ensures ok { OnOk result (typed_faults_of on.now.limits (known on.now.arcs.now) kind (view value.now) ≡ []) }
+    ensures made { IfOk result (λ fs. map plain fs.items ≡ feature_of on.now.arcs.now kind (view value.now) ∷ []) }
+    ensures err { IfErr result (λ f. LeastOrWant (typed_faults_of on.now.limits (known on.now.arcs.now) kind (view value.now)) f) }
+{
+    let feature = read_as(alloc, on, kind, value)?;
+    one(alloc, feature)
+}
+
+fn read_layer(alloc: Global, on: &Ground, kind: LayerType, value: &Value) -> Result<Vec<Feature>, Fault>
+    ensures ok { OnOk result (typed_layer_faults on.now.limits (known on.now.arcs.now) (view value.now) kind ≡ []) }
+    ensures made { IfOk result (λ fs. map plain fs.items ≡ layer_as on.now.arcs.now (view value.now) (Ok kind)) }
+    ensures err { IfErr result (λ f. LeastOrWant (typed_layer_faults on.now.limits (known on.now.arcs.now) (view value.now) kind) f) }
+{
+    match kind {
+        LayerType::Collection => read_geometries(alloc, on, value),
+        LayerType::Geometry(kind) => read_one(alloc, on, kind, value),
+    }
+}
+
+/// A layer, and what its geometries stand on.
+#[derive(Clone, Copy)]
+pub struct LayerOf<'g, 'a> {
+    pub on: &'g Ground<'a>,
+}
+
+impl Part for LayerOf<'_, '_> {
     type Made = Vec<Feature>;
 
-    ghost faults = { λ _ _. [] };
+    ghost faults = { λ p. layer_faults p.on.now.limits (known p.on.now.arcs.now) };
 
-    ghost means = { λ _ _ x. x ≡ x };
+    ghost means = { λ p d fs. map plain fs.items ≡ layer_features p.on.now.arcs.now d };
 
     fn read(&self, alloc: Global, value: &Value) -> Result<Vec<Feature>, Fault> {
         if !value.is_object() {
             return Err(Fault::here(alloc, FaultKind::WrongKind));
         }
         match layer_type(value) {
-            Ok(kind) => self.read_as(alloc, kind, value),
+            Ok(kind) => read_layer(alloc, self.on, kind, value),
             Err(kind) => Err(type_fault(alloc, kind)),
         }
     }

@@ -1,6 +1,17 @@
 //! Lists of indexes of arcs, and what they stitch to (TopoJSON, section 2.1.4).
-ghost use Rattle.std.specs.Prelude.{◌≡◌, []};
+ghost use Rattle.std.specs.Prelude.{◌≡◌, ◌≢◌, [], ◌∷◌, ◌++◌, List, map, reverse, length, true, false, Some, None, IfOk, IfErr, OnOk};
+ghost use Rattle.serde_json.specs.View.{view};
+ghost use Rattle.lines.specs.Segments.{position_eq};
+ghost use Rattle.lines.specs.Seen.{positions_of, vertices_of};
+ghost use Rattle.grid.specs.declared.pos.Pos.{Pos};
+ghost use Rattle.faults.specs.Fault.{Pair, IsWant};
+ghost use Rattle.faults.specs.declared.fault.FaultKind.TheVariants.{OutOfMemory, Broken};
+ghost use Rattle.reading.specs.Fault.{LeastOrWant, here, unless_faulty};
+ghost use Rattle.reading.specs.Parts.{list_faults};
+ghost use Rattle.reading.specs.Numbers.{whole_of};
+ghost use Rattle.topo_io.specs.Arcs.{known, arc_number as number_of_arc, used_arc, along, no_arc_faults, index_faults, meets, onto, stitched, stitched_faults, stitching_faults, used_arcs, stitched_of, line_list_faults, ring_list_faults, line_at, ring_at};
 
+use crate::reader::used_arc::UsedArc;
 use faults::fault::{Fault, FaultKind};
 use grid::pos::Pos;
 use lines::items::Items;
@@ -12,13 +23,6 @@ use reading::part::{Part, keep, read_list};
 use serde_json::Value;
 use std::alloc::Global;
 
-/// An arc, used in its direction or reversed.
-#[derive(Clone, Copy)]
-pub struct UsedArc<'a> {
-    positions: &'a [Pos],
-    reversed: bool,
-}
-
 /// An index: `i` for arc `i`, its one's complement for arc `i` reversed.
 #[derive(Clone, Copy)]
 pub struct IndexOf<'a> {
@@ -26,75 +30,162 @@ pub struct IndexOf<'a> {
 }
 
 /// The number of the arc that an index names.
-fn arc_number(index: i64) -> usize {
-    if index < 0 { (-(index + 1)) as usize } else { index as usize }
+fn arc_number(index: i64) -> usize
+    ensures { result ≡ number_of_arc index }
+{
+    if index < 0 {
+        (-(index + 1)) as usize
+    } else {
+        index as usize
+    }
 }
 
-impl<'a> Part for IndexOf<'a> {
-    type Made = UsedArc<'a>;
+fn used(alloc: Global, count: usize, index: i64) -> Result<UsedArc, Fault>
+    ensures ok { OnOk result (no_arc_faults count index ≡ []) }
+    ensures made { IfOk result (λ u. (arcs : List (List Pos)) → along arcs u ≡ used_arc arcs index) }
+    ensures err { IfErr result (λ f. LeastOrWant (no_arc_faults count index) f) }
+{
+    let arc = arc_number(index);
+    if arc < count {
+        Ok(UsedArc {
+            arc,
+            reversed: index < 0,
+        })
+    } else {
+        Err(Fault::here(alloc, FaultKind::NoArc))
+    }
+}
 
-    ghost faults = { λ _ _. [] };
+impl Part for IndexOf<'_> {
+    type Made = UsedArc;
 
-    ghost means = { λ _ _ x. x ≡ x };
+    ghost faults = { λ p. index_faults (known p.arcs.now) };
 
-    fn read(&self, alloc: Global, value: &Value) -> Result<UsedArc<'a>, Fault> {
+    ghost means = { λ p d u. along p.arcs.now u ≡ used_arc p.arcs.now (whole_of d) };
+
+    fn read(&self, alloc: Global, value: &Value) -> Result<UsedArc, Fault> {
         match whole_number(value) {
-            Ok(index) => match self.arcs.get(arc_number(index)) {
-                Some(arc) => Ok(UsedArc {
-                    positions: arc.as_slice(),
-                    reversed: index < 0,
-                }),
-                None => Err(Fault::here(alloc, FaultKind::NoArc)),
-            },
+            Ok(index) => used(alloc, self.arcs.len(), index),
             Err(kind) => Err(Fault::here(alloc, kind)),
         }
     }
 }
 
-/// The end of a list, where an arc goes on: its last position is the arc's first, and is dropped.
-fn meet(alloc: Global, list: &mut Vec<Pos>, first: &Pos) -> Result<(), Fault> {
-    match list.pop() {
-        Some(last) if last != *first => Err(Fault::here(alloc, FaultKind::Broken)),
-        _ => Ok(()),
-    }
-}
-
-fn append(alloc: Global, list: &mut Vec<Pos>, arc: &[Pos]) -> Result<(), Fault> {
-    if let Some(first) = arc.first() {
-        meet(alloc, list, first)?;
-    }
+fn extend(alloc: Global, list: &mut Vec<Pos>, arc: &[Pos]) -> Result<(), Fault>
+    ensures ok { OnOk result (list.new.items ≡ list.old.items ++ arc.now) }
+    ensures err { IfErr result IsWant }
+{
     match list.extend_from_slice(arc) {
         Ok(()) => Ok(()),
         Err(_) => Err(Fault::here(alloc, FaultKind::OutOfMemory)),
     }
 }
 
-fn append_reversed(alloc: Global, list: &mut Vec<Pos>, arc: &[Pos]) -> Result<(), Fault> {
-    if let Some(last) = arc.last() {
-        meet(alloc, list, last)?;
-    }
-    for position in arc.iter().rev() {
-        keep(list, *position)?;
+fn extend_reversed(list: &mut Vec<Pos>, arc: &[Pos]) -> Result<(), Fault>
+    ensures ok { OnOk result (list.new.items ≡ list.old.items ++ reverse arc.now) }
+    ensures err { IfErr result IsWant }
+{
+    let mut left = arc;
+    while let Some((last, before)) = left.split_last() {
+        keep(list, *last)?;
+        left = before;
     }
     Ok(())
 }
 
-/// The arcs one after the other, one of two equal ends dropped.
-fn stitch(alloc: Global, arcs: &[UsedArc]) -> Result<Vec<Pos>, Fault> {
-    let mut list = Vec::new(alloc);
-    for arc in arcs {
-        if arc.reversed {
-            append_reversed(alloc, &mut list, arc.positions)?;
-        } else {
-            append(alloc, &mut list, arc.positions)?;
+fn is_same(p: &Pos, q: &Pos) -> bool
+    ensures { result ≡ position_eq p.now q.now }
+{
+    p == q
+}
+
+// Whether the list's last position is this one, where it has one.
+fn ends_at(list: &[Pos], first: &Pos) -> bool
+    ensures { result ≡ meets list.now (first.now ∷ []) }
+{
+    match list.last() {
+        Some(last) => is_same(last, first),
+        None => true,
+    }
+}
+
+// The arc after the list, one of the two equal positions dropped.
+fn append(alloc: Global, list: &mut Vec<Pos>, arc: &[Pos]) -> Result<(), Fault>
+    ensures meets { OnOk result (meets list.old.items arc.now ≡ true) }
+    ensures ok { OnOk result (list.new.items ≡ onto list.old.items arc.now) }
+    ensures broken { IfErr result (λ f. f.kind ≢ OutOfMemory → meets list.old.items arc.now ≡ false) }
+    ensures err { IfErr result (λ f. LeastOrWant (here Broken) f) }
+{
+    let Some((first, rest)) = arc.split_first() else {
+        return Ok(());
+    };
+    if list.is_empty() {
+        return extend(alloc, list, arc);
+    }
+    if ends_at(list, first) {
+        extend(alloc, list, rest)
+    } else {
+        Err(Fault::here(alloc, FaultKind::Broken))
+    }
+}
+
+// The same of the arc reversed.
+fn append_reversed(alloc: Global, list: &mut Vec<Pos>, arc: &[Pos]) -> Result<(), Fault>
+    ensures meets { OnOk result (meets list.old.items (reverse arc.now) ≡ true) }
+    ensures ok { OnOk result (list.new.items ≡ onto list.old.items (reverse arc.now)) }
+    ensures broken { IfErr result (λ f. f.kind ≢ OutOfMemory → meets list.old.items (reverse arc.now) ≡ false) }
+    ensures err { IfErr result (λ f. LeastOrWant (here Broken) f) }
+{
+    let Some((first, rest)) = arc.split_last() else {
+        return Ok(());
+    };
+    if list.is_empty() {
+        return extend_reversed(list, arc);
+    }
+    if ends_at(list, first) {
+        extend_reversed(list, rest)
+    } else {
+        Err(Fault::here(alloc, FaultKind::Broken))
+    }
+}
+
+fn append_used(alloc: Global, list: &mut Vec<Pos>, arcs: &[Items<Pos>], used: UsedArc) -> Result<(), Fault>
+    ensures meets { OnOk result (meets list.old.items (along arcs.now used) ≡ true) }
+    ensures ok { OnOk result (list.new.items ≡ onto list.old.items (along arcs.now used)) }
+    ensures broken { IfErr result (λ f. f.kind ≢ OutOfMemory → meets list.old.items (along arcs.now used) ≡ false) }
+    ensures err { IfErr result (λ f. LeastOrWant (here Broken) f) }
+{
+    match arcs.get(used.arc) {
+        Some(arc) => {
+            if used.reversed {
+                append_reversed(alloc, list, arc.as_slice())
+            } else {
+                append(alloc, list, arc.as_slice())
+            }
         }
+        None => Ok(()),
+    }
+}
+
+/// The arcs one after the other, one of two equal ends dropped.
+fn stitch(alloc: Global, arcs: &[Items<Pos>], used: &[UsedArc]) -> Result<Vec<Pos>, Fault>
+    ensures made { IfOk result (λ l. stitched (map (along arcs.now) used.now) ≡ Some l.items) }
+    ensures err { IfErr result (λ f. (of : List Pos → List Pair) → LeastOrWant (stitched_faults of (stitched (map (along arcs.now) used.now))) f) }
+{
+    let mut list = Vec::new(alloc);
+    for arc in used {
+        append_used(alloc, &mut list, arcs, *arc)?;
     }
     Ok(list)
 }
 
-fn read_stitched(alloc: Global, of: &IndexOf, value: &Value) -> Result<Vec<Pos>, Fault> {
+fn read_stitched(alloc: Global, of: &IndexOf, value: &Value) -> Result<Vec<Pos>, Fault>
+    ensures ok { OnOk result (list_faults (index_faults (known of.now.arcs.now)) (view value.now) ≡ []) }
+    ensures stitched { IfOk result (λ l. stitched (used_arcs of.now.arcs.now (view value.now)) ≡ Some l.items) }
+    ensures err { IfErr result (λ f. (more : List Pos → List Pair) → LeastOrWant (unless_faulty (list_faults (index_faults (known of.now.arcs.now)) (view value.now)) (stitching_faults more (known of.now.arcs.now) (view value.now))) f) }
+{
     let used = read_list(alloc, of, value)?;
-    stitch(alloc, &used)
+    stitch(alloc, of.arcs, &used)
 }
 
 /// A line: the list of indexes that stitches to it.
@@ -106,9 +197,9 @@ pub struct LineOf<'a> {
 impl Part for LineOf<'_> {
     type Made = Line;
 
-    ghost faults = { λ _ _. [] };
+    ghost faults = { λ p. line_list_faults (known p.of.arcs.now) };
 
-    ghost means = { λ _ _ x. x ≡ x };
+    ghost means = { λ p d l. positions_of l ≡ line_at p.of.arcs.now d };
 
     fn read(&self, alloc: Global, value: &Value) -> Result<Line, Fault> {
         let positions = read_stitched(alloc, &self.of, value)?;
@@ -125,9 +216,9 @@ pub struct RingOf<'a> {
 impl Part for RingOf<'_> {
     type Made = Ring;
 
-    ghost faults = { λ _ _. [] };
+    ghost faults = { λ p. ring_list_faults (known p.of.arcs.now) };
 
-    ghost means = { λ _ _ x. x ≡ x };
+    ghost means = { λ p d r. vertices_of r ≡ ring_at p.of.arcs.now d };
 
     fn read(&self, alloc: Global, value: &Value) -> Result<Ring, Fault> {
         let positions = read_stitched(alloc, &self.of, value)?;

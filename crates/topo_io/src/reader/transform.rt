@@ -1,5 +1,11 @@
 //! The transform of a quantized topology (TopoJSON, section 2.1.2).
-ghost use Rattle.std.specs.Prelude.{◌≡◌, []};
+ghost use Rattle.std.specs.Prelude.{◌≡◌, [], ◌≤ℤ◌, IfOk, IfErr, OnOk, pos, negsuc};
+ghost use Rattle.serde_json.specs.View.{view};
+ghost use Rattle.reading.specs.Fault.{LeastOrWant};
+ghost use Rattle.reading.specs.Parts.{elements};
+ghost use Rattle.reading.specs.Numbers.{element_faults};
+ghost use Rattle.grid.specs.Place.{IsScale, IsTranslation, scaling, transform as transform_on};
+ghost use Rattle.topo_io.specs.Roots.{within_faults, both_faults, IsWithin, AreBoth, transform_members, transform_faults, transform_of};
 
 use faults::fault::{Fault, FaultKind};
 use grid::transform::Grid;
@@ -15,27 +21,32 @@ struct Within {
     greatest: i64,
 }
 
-const SCALE: Within = Within {
-    least: 1,
-    greatest: 1_000_000,
-};
-
-const TRANSLATION: Within = Within {
-    least: -1_000_000_000_000,
-    greatest: 1_000_000_000_000,
-};
+fn judged(alloc: Global, least: i64, greatest: i64, a: i64) -> Result<i64, Fault>
+    ensures ok { OnOk result (within_faults least greatest a ≡ []) }
+    ensures made { IfOk result (λ n. n ≡ a) }
+    ensures low { IfOk result (λ n. least ≤ℤ n) }
+    ensures high { IfOk result (λ n. n ≤ℤ greatest) }
+    ensures err { IfErr result (λ f. LeastOrWant (within_faults least greatest a) f) }
+{
+    if a < least {
+        return Err(Fault::here(alloc, FaultKind::OutOfRange));
+    }
+    if a > greatest {
+        return Err(Fault::here(alloc, FaultKind::OutOfRange));
+    }
+    Ok(a)
+}
 
 impl Part for Within {
     type Made = i64;
 
-    ghost faults = { λ _ _. [] };
+    ghost faults = { λ p. element_faults (within_faults p.least p.greatest) };
 
-    ghost means = { λ _ _ x. x ≡ x };
+    ghost means = { λ p d n. IsWithin p.least p.greatest d n };
 
     fn read(&self, alloc: Global, value: &Value) -> Result<i64, Fault> {
         match whole_number(value) {
-            Ok(a) if self.least <= a && a <= self.greatest => Ok(a),
-            Ok(_) => Err(Fault::here(alloc, FaultKind::OutOfRange)),
+            Ok(a) => judged(alloc, self.least, self.greatest, a),
             Err(kind) => Err(Fault::here(alloc, kind)),
         }
     }
@@ -50,24 +61,58 @@ struct Both {
 impl Part for Both {
     type Made = (i64, i64);
 
-    ghost faults = { λ _ _. [] };
+    ghost faults = { λ p. both_faults p.of.least p.of.greatest };
 
-    ghost means = { λ _ _ x. x ≡ x };
+    ghost means = { λ p d n. AreBoth p.of.least p.of.greatest (elements d) n.0 n.1 };
 
     fn read(&self, alloc: Global, value: &Value) -> Result<(i64, i64), Fault> {
         read_pair(alloc, &self.of, &self.of, value)
     }
 }
 
+fn grid_of(sx: i64, sy: i64, tx: i64, ty: i64) -> Grid
+    requires sx { IsScale sx }
+    requires sy { IsScale sy }
+    requires tx { IsTranslation tx }
+    requires ty { IsTranslation ty }
+    ensures { result ≡ transform_on (scaling sx tx) (scaling sy ty) }
+{
+    match Grid::new(sx, sy, tx, ty) {
+        Some(grid) => grid,
+        None => unreachable!(),
+    }
+}
+
+fn read_members(alloc: Global, value: &Value) -> Result<Grid, Fault>
+    ensures ok { OnOk result (transform_members (view value.now) ≡ []) }
+    ensures made { IfOk result (λ g. g ≡ transform_of (view value.now)) }
+    ensures err { IfErr result (λ f. LeastOrWant (transform_members (view value.now)) f) }
+{
+    let scale = Both {
+        of: Within {
+            least: 1,
+            greatest: 1_000_000,
+        },
+    };
+    let translate = Both {
+        of: Within {
+            least: -1_000_000_000_000,
+            greatest: 1_000_000_000_000,
+        },
+    };
+    let (sx, sy) = read_member(alloc, &scale, value, "scale")?;
+    let (tx, ty) = read_member(alloc, &translate, value, "translate")?;
+    Ok(grid_of(sx, sy, tx, ty))
+}
+
 /// The grid of a transform.
-pub fn read_transform(alloc: Global, value: &Value) -> Result<Grid, Fault> {
+pub fn read_transform(alloc: Global, value: &Value) -> Result<Grid, Fault>
+    ensures ok { OnOk result (transform_faults (view value.now) ≡ []) }
+    ensures made { IfOk result (λ g. g ≡ transform_of (view value.now)) }
+    ensures err { IfErr result (λ f. LeastOrWant (transform_faults (view value.now)) f) }
+{
     if !value.is_object() {
         return Err(Fault::here(alloc, FaultKind::WrongKind));
     }
-    let (sx, sy) = read_member(alloc, &Both { of: SCALE }, value, "scale")?;
-    let (tx, ty) = read_member(alloc, &Both { of: TRANSLATION }, value, "translate")?;
-    match Grid::new(sx, sy, tx, ty) {
-        Some(grid) => Ok(grid),
-        None => unreachable!(),
-    }
+    read_members(alloc, value)
 }

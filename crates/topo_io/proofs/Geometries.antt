@@ -1,0 +1,31 @@
+-- The body of a geometry comes before its id and properties.
+use Rattle.std.proofs.Common.{◌≡◌, List, [], ◌++◌, Option, Some, None, codes, refl, arith}
+use Rattle.serde_json.specs.Data.{Data}
+use Rattle.faults.specs.Path.{name}
+use Rattle.faults.specs.declared.fault.Fault.{Fault}
+use Rattle.reading.specs.Fault.{LeastOrWant}
+use Rattle.reading.specs.Info.{info_faults}
+use Rattle.reading.specs.declared.geometry.GeometryType.{GeometryType}
+use Rattle.reading.specs.declared.geometry.GeometryType.TheVariants.{Point, MultiPoint, LineString, MultiLineString, Polygon, MultiPolygon}
+use Rattle.reading.proofs.Least.{After, after_under, after_append, first_of}
+use Rattle.topo_io.specs.Arcs.{Arcs}
+use Rattle.topo_io.specs.Geometries.{body_name, shape_faults, typed_faults_of}
+use Rattle.topo_io.specs.declared.reader.position.Limits.{Limits}
+
+after_arcs : (d : Data) → After (name (codes "arcs")) (info_faults d)
+after_arcs d = after_append (name (codes "arcs")) _ _ (after_under _ (name (codes "id")) _ refl) (after_under _ (name (codes "properties")) _ refl)
+
+after_coordinates : (d : Data) → After (name (codes "coordinates")) (info_faults d)
+after_coordinates d = after_append (name (codes "coordinates")) _ _ (after_under _ (name (codes "id")) _ refl) (after_under _ (name (codes "properties")) _ refl)
+
+after_body : (k : GeometryType) (d : Data) → After (name (body_name k)) (info_faults d)
+after_body Point d = after_coordinates d
+after_body MultiPoint d = after_coordinates d
+after_body LineString d = after_arcs d
+after_body MultiLineString d = after_arcs d
+after_body Polygon d = after_arcs d
+after_body MultiPolygon d = after_arcs d
+
+pub shape_first : (l : Limits) (arcs : Arcs) (k : Option GeometryType) (d : Data) (f : Fault) → LeastOrWant (shape_faults l arcs k d) f → LeastOrWant (typed_faults_of l arcs k d) f
+shape_first l arcs None d f h = record { least = λ real. let none = (h.least real).present in absurd (omega (arith, none.1)) }
+shape_first l arcs (Some k) d f h = first_of (name (body_name k)) _ _ f h (after_body k d)

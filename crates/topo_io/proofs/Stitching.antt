@@ -1,0 +1,53 @@
+-- Arcs put one after the other.
+use Rattle.std.proofs.Common.{◌≡◌, ℕ, ◌<◌, ◌+◌, Bool, true, false, List, [], ◌∷◌, ◌++◌, length, map, drop, get_or, reverse, Option, Some, None, OnOk, if◌then◌else◌, refl, sym, ap, ◌∙◌, subst, arith}
+use Rattle.std.proofs.lemmas.List.{reverse-append, drop_more, drop_all}
+use Rattle.faults.specs.Fault.{Pair}
+use Rattle.faults.specs.declared.fault.Fault.{Fault}
+use Rattle.faults.specs.declared.fault.FaultKind.TheVariants.{OutOfMemory, Broken}
+use Rattle.grid.specs.declared.pos.Pos.{Pos}
+use Rattle.reading.specs.Fault.{LeastOrWant, here}
+use Rattle.topo_io.specs.Arcs.{meets, onto, stitched_onto, stitched_faults}
+
+pub meets_empty : (c : List Pos) → meets [] c ≡ true
+meets_empty [] = refl
+meets_empty (y ∷ c) = refl
+
+pub meets_first : (l : List Pos) (y : Pos) (c : List Pos) → meets l (y ∷ c) ≡ meets l (y ∷ [])
+meets_first l y c = refl
+
+pub none_left : (c : List Pos) → length c ≡ 0 → c ≡ []
+none_left [] e = refl
+none_left (y ∷ c) e = absurd (omega (arith, e))
+
+pub onto_none : (l : List Pos) → l ≡ onto l []
+onto_none [] = refl
+onto_none (x ∷ l) = refl
+
+pub onto_empty : (c : List Pos) → onto [] c ≡ c
+onto_empty [] = refl
+onto_empty (y ∷ c) = refl
+
+pub onto_more : (l : List Pos) (y : Pos) (c : List Pos) → 0 < length l → onto l (y ∷ c) ≡ l ++ c
+onto_more [] y c h = absurd (omega (arith, h))
+onto_more (x ∷ l) y c h = refl
+
+-- an arc's last position is the first of the reversed arc
+pub reverse_last : (c : List Pos) (rest : List Pos) (y : Pos) → c ≡ rest ++ y ∷ [] → reverse c ≡ y ∷ reverse rest
+reverse_last c rest y e = ap reverse e ∙ reverse-append rest (y ∷ [])
+
+-- one more arc
+pub stitched_passed : (l : List Pos) (c : List Pos) (cs : List (List Pos)) → meets l c ≡ true → stitched_onto l (c ∷ cs) ≡ stitched_onto (onto l c) cs
+stitched_passed l c cs e = ap (λ b. if b then stitched_onto (onto l c) cs else None) e
+
+stitched_broken : (l : List Pos) (c : List Pos) (cs : List (List Pos)) → meets l c ≡ false → stitched_onto l (c ∷ cs) ≡ None
+stitched_broken l c cs e = ap (λ b. if b then stitched_onto (onto l c) cs else None) e
+
+pub broken_at : (of : List Pos → List Pair) (l : List Pos) (c : List Pos) (cs : List (List Pos)) (f : Fault) → ((f.kind ≡ OutOfMemory → ⊥) → meets l c ≡ false) → LeastOrWant (here Broken) f
+    → LeastOrWant (stitched_faults of (stitched_onto l (c ∷ cs))) f
+broken_at of l c cs f apart told = record {
+  least = λ real. rw (ap (stitched_faults of) (stitched_broken l c cs (apart real))) (told.least real)
+}
+
+-- the used arcs that are left, the first apart
+pub used_more : {U : Type 0} (g : U → List Pos) (us : List U) (i : ℕ) (u : U) → i < length us → u ≡ get_or us i u → map g (drop i us) ≡ g u ∷ map g (drop (i + 1) us)
+used_more g us i u less is = rw (drop_more us i u less, ← is) refl
