@@ -77,11 +77,11 @@ contained P xs x all h = subst P h.2 (all h.0 x h.1)
 pub earlier : (t : Turn) (ps qs : List Pair) (f : Fault) → LeastOrWant ps f → Before t ps → LeastOrWant (ps ++ under t qs) f
 earlier t ps qs f part before = record {
   least = λ real.
-    let h = part.least real in
-    let begins = contained (λ p. BeginsBefore t p.path) ps (pair_of f) before.all h.present in record {
-      present = Contains-append_left ps (under t qs) (pair_of f) h.present;
-      first = All-append (IsUpto (pair_of f)) ps (under t qs) h.first (All-map (IsUpto (pair_of f)) (prefixed t) qs (λ k d h. upto_later t (pair_of f) _ begins))
-    }
+      let h = part.least real in
+      let begins = contained (λ p. BeginsBefore t p.path) ps (pair_of f) before.all h.present in record {
+        present = Contains-append_left ps (under t qs) (pair_of f) h.present;
+        first = All-append (IsUpto (pair_of f)) ps (under t qs) h.first (All-map (IsUpto (pair_of f)) (prefixed t) qs (λ k d h. upto_later t (pair_of f) _ begins));
+      };
 }
 
 pub append_none : {A : Type 0} (ps qs : List A) → ps ≡ [] → qs ≡ [] → ps ++ qs ≡ []

@@ -45,7 +45,7 @@ stitched_broken l c cs e = ap (λ b. if b then stitched_onto (onto l c) cs else 
 pub broken_at : (of : List Pos → List Pair) (l : List Pos) (c : List Pos) (cs : List (List Pos)) (f : Fault) → ((f.kind ≡ OutOfMemory → ⊥) → meets l c ≡ false) → LeastOrWant (here Broken) f
     → LeastOrWant (stitched_faults of (stitched_onto l (c ∷ cs))) f
 broken_at of l c cs f apart told = record {
-  least = λ real. rw (ap (stitched_faults of) (stitched_broken l c cs (apart real))) (told.least real)
+  least = λ real. rw (ap (stitched_faults of) (stitched_broken l c cs (apart real))) (told.least real);
 }
 
 -- the used arcs that are left, the first apart

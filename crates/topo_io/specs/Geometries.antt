@@ -67,7 +67,7 @@ abbrev pub feature_of : List (List Pos) → Option GeometryType → Data → Pla
 feature_of arcs k d = record {
   id = id_of (member_or_null (codes "id") d);
   properties = properties_of (member_or_null (codes "properties") d);
-  form = shape_form arcs k d
+  form = shape_form arcs k d;
 }
 
 -- a text, or null

@@ -60,7 +60,7 @@ numbers_at n d = both_numbers (elements (member_or_null n d))
 abbrev pub transform_of : Data → Transform
 transform_of d = record {
   x = scaling (numbers_at (codes "scale") d).0 (numbers_at (codes "translate") d).0;
-  y = scaling (numbers_at (codes "scale") d).1 (numbers_at (codes "translate") d).1
+  y = scaling (numbers_at (codes "scale") d).1 (numbers_at (codes "translate") d).1;
 }
 
 -- where the transform has a fault, absolute numbers have no limits

@@ -19,12 +19,10 @@ pub mod layer_type;
 pub mod limit;
 pub mod position;
 pub mod stitching;
-pub mod transform;
-pub mod used_arc;
-
 #[cfg(test)]
 mod tests;
-
+pub mod transform;
+pub mod used_arc;
 
 use crate::reader::arc::ArcOf;
 use crate::reader::geometry::Ground;
@@ -172,7 +170,12 @@ fn read_text(alloc: Global, bytes: &[u8]) -> Result<(Grid, Layers), Fault>
     read_root(alloc, &value)
 }
 
-fn fill(alloc: Global, map: &mut FeatureMap, name: &str, features: Vec<Feature>) -> Result<(), Fault>
+fn fill(
+    alloc: Global,
+    map: &mut FeatureMap,
+    name: &str,
+    features: Vec<Feature>,
+) -> Result<(), Fault>
     ensures err { IfErr result IsWant }
 {
     for feature in features {

@@ -77,11 +77,15 @@ impl Part for BodyOf<'_, '_> {
     ghost means = { λ p d s. plain_form s ≡ body_form p.on.now.arcs.now p.kind d };
 
     fn read(&self, alloc: Global, value: &Value) -> Result<Shape, Fault> {
-        let at = Position { limits: self.on.limits };
+        let at = Position {
+            limits: self.on.limits,
+        };
         let of = IndexOf { arcs: self.on.arcs };
         match self.kind {
             GeometryType::Point => Ok(Shape::Point(at.read(alloc, value)?)),
-            GeometryType::MultiPoint => Ok(Shape::MultiPoint(Listed { of: at }.read(alloc, value)?)),
+            GeometryType::MultiPoint => Ok(Shape::MultiPoint(Listed { of: at }.read(
+                alloc, value,
+            )?)),
             GeometryType::LineString => Ok(Shape::Line(LineOf { of }.read(alloc, value)?)),
             GeometryType::MultiLineString => {
                 let of = LineOf { of };
@@ -99,7 +103,12 @@ impl Part for BodyOf<'_, '_> {
     }
 }
 
-fn read_shape(alloc: Global, on: &Ground, kind: Option<GeometryType>, value: &Value) -> Result<Shape, Fault>
+fn read_shape(
+    alloc: Global,
+    on: &Ground,
+    kind: Option<GeometryType>,
+    value: &Value,
+) -> Result<Shape, Fault>
     ensures ok { OnOk result (shape_faults on.now.limits (known on.now.arcs.now) kind (view value.now) ≡ []) }
     ensures made { IfOk result (λ s. plain_form s ≡ shape_form on.now.arcs.now kind (view value.now)) }
     ensures err { IfErr result (λ f. LeastOrWant (shape_faults on.now.limits (known on.now.arcs.now) kind (view value.now)) f) }
@@ -114,7 +123,12 @@ fn read_shape(alloc: Global, on: &Ground, kind: Option<GeometryType>, value: &Va
 }
 
 /// The feature of a geometry of that type, none for null.
-pub fn read_as(alloc: Global, on: &Ground, kind: Option<GeometryType>, value: &Value) -> Result<Feature, Fault>
+pub fn read_as(
+    alloc: Global,
+    on: &Ground,
+    kind: Option<GeometryType>,
+    value: &Value,
+) -> Result<Feature, Fault>
     ensures ok { OnOk result (typed_faults_of on.now.limits (known on.now.arcs.now) kind (view value.now) ≡ []) }
     ensures made { IfOk result (λ f. plain f ≡ feature_of on.now.arcs.now kind (view value.now)) }
     ensures err { IfErr result (λ f. LeastOrWant (typed_faults_of on.now.limits (known on.now.arcs.now) kind (view value.now)) f) }

@@ -61,7 +61,12 @@ fn one(alloc: Global, feature: Feature) -> Result<Vec<Feature>, Fault>
     Ok(features)
 }
 
-fn read_one(alloc: Global, on: &Ground, kind: Option<GeometryType>, value: &Value) -> Result<Vec<Feature>, Fault>
+fn read_one(
+    alloc: Global,
+    on: &Ground,
+    kind: Option<GeometryType>,
+    value: &Value,
+) -> Result<Vec<Feature>, Fault>
     ensures ok { OnOk result (typed_faults_of on.now.limits (known on.now.arcs.now) kind (view value.now) ≡ []) }
     ensures made { IfOk result (λ fs. map plain fs.items ≡ feature_of on.now.arcs.now kind (view value.now) ∷ []) }
     ensures err { IfErr result (λ f. LeastOrWant (typed_faults_of on.now.limits (known on.now.arcs.now) kind (view value.now)) f) }
@@ -70,7 +75,12 @@ fn read_one(alloc: Global, on: &Ground, kind: Option<GeometryType>, value: &Valu
     one(alloc, feature)
 }
 
-fn read_layer(alloc: Global, on: &Ground, kind: LayerType, value: &Value) -> Result<Vec<Feature>, Fault>
+fn read_layer(
+    alloc: Global,
+    on: &Ground,
+    kind: LayerType,
+    value: &Value,
+) -> Result<Vec<Feature>, Fault>
     ensures ok { OnOk result (typed_layer_faults on.now.limits (known on.now.arcs.now) (view value.now) kind ≡ []) }
     ensures made { IfOk result (λ fs. map plain fs.items ≡ layer_as on.now.arcs.now (view value.now) (Ok kind)) }
     ensures err { IfErr result (λ f. LeastOrWant (typed_layer_faults on.now.limits (known on.now.arcs.now) (view value.now) kind) f) }

@@ -149,7 +149,12 @@ fn append_reversed(alloc: Global, list: &mut Vec<Pos>, arc: &[Pos]) -> Result<()
     }
 }
 
-fn append_used(alloc: Global, list: &mut Vec<Pos>, arcs: &[Items<Pos>], used: UsedArc) -> Result<(), Fault>
+fn append_used(
+    alloc: Global,
+    list: &mut Vec<Pos>,
+    arcs: &[Items<Pos>],
+    used: UsedArc,
+) -> Result<(), Fault>
     ensures meets { OnOk result (meets list.old.items (along arcs.now used) ≡ true) }
     ensures ok { OnOk result (list.new.items ≡ onto list.old.items (along arcs.now used)) }
     ensures broken { IfErr result (λ f. f.kind ≢ OutOfMemory → meets list.old.items (along arcs.now used) ≡ false) }

@@ -30,33 +30,96 @@ fn refusals(rt: HostRuntime) -> Result<(), Fail> {
     let alloc = rt.alloc();
     let line = "\"objects\":{\"a\":{\"type\":\"LineString\",\"arcs\":";
     let text = format!(in alloc; "\"arcs\":[[[0,0],[1,0]]],{line}[1]}}}}")?;
-    assert_eq!(rt; told_of(alloc, text.as_str())?.as_str(), "11 $/objects/a/arcs/0");
+    assert_eq!(rt;
+        told_of(alloc, text.as_str())?.as_str(),
+        "11 $/objects/a/arcs/0"
+    );
     let text = format!(in alloc; "\"arcs\":[],{line}[-1]}}}}")?;
-    assert_eq!(rt; told_of(alloc, text.as_str())?.as_str(), "11 $/objects/a/arcs/0");
+    assert_eq!(rt;
+        told_of(alloc, text.as_str())?.as_str(),
+        "11 $/objects/a/arcs/0"
+    );
     let text = format!(in alloc; "\"arcs\":[[[0,0],[1,0]],[[2,0],[1,0]]],{line}[0,1]}}}}")?;
-    assert_eq!(rt; told_of(alloc, text.as_str())?.as_str(), "12 $/objects/a/arcs");
+    assert_eq!(rt;
+        told_of(alloc, text.as_str())?.as_str(),
+        "12 $/objects/a/arcs"
+    );
     let text = format!(in alloc; "\"arcs\":[[[0,0],[1,0]]],{line}[-9223372036854775808]}}}}")?;
-    assert_eq!(rt; told_of(alloc, text.as_str())?.as_str(), "11 $/objects/a/arcs/0");
+    assert_eq!(rt;
+        told_of(alloc, text.as_str())?.as_str(),
+        "11 $/objects/a/arcs/0"
+    );
     let text = format!(in alloc; "\"arcs\":[[[0,0],[1,0]]],{line}[9223372036854775808]}}}}")?;
-    assert_eq!(rt; told_of(alloc, text.as_str())?.as_str(), "5 $/objects/a/arcs/0");
+    assert_eq!(rt;
+        told_of(alloc, text.as_str())?.as_str(),
+        "5 $/objects/a/arcs/0"
+    );
     let text = format!(in alloc; "\"arcs\":[[[0,0],[0,0],[1,0]]],{line}[0]}}}}")?;
     assert_eq!(rt; told_of(alloc, text.as_str())?.as_str(), "accepted");
-    assert_eq!(rt; told(alloc, "{\"type\":\"Topology\",\"objects\":{},\"arcs\":[]}")?.as_str(), "15 $/transform");
-    assert_eq!(rt; told(alloc, "{\"type\":\"topology\",\"arcs\":5}")?.as_str(), "4 $/type");
-    assert_eq!(rt; told(alloc, "{\"type\":\"Topology\",\"transform\":null,\"objects\":{},\"arcs\":[]}")?.as_str(), "3 $/transform");
+    assert_eq!(rt;
+        told(alloc, "{\"type\":\"Topology\",\"objects\":{},\"arcs\":[]}")?.as_str(),
+        "15 $/transform"
+    );
+    assert_eq!(rt;
+        told(alloc, "{\"type\":\"topology\",\"arcs\":5}")?.as_str(),
+        "4 $/type"
+    );
+    assert_eq!(rt;
+        told(
+            alloc,
+            "{\"type\":\"Topology\",\"transform\":null,\"objects\":{},\"arcs\":[]}"
+        )?
+        .as_str(),
+        "3 $/transform"
+    );
     Ok(())
 }
 
 #[test]
 fn arcs_and_layers(rt: HostRuntime) -> Result<(), Fail> {
     let alloc = rt.alloc();
-    assert_eq!(rt; told_of(alloc, "\"arcs\":[[[0,0]]],\"objects\":{\"a\":{\"type\":\"Point\",\"coordinates\":[1.0,0]}}")?.as_str(), "8 $/arcs/0");
-    assert_eq!(rt; told_of(alloc, "\"arcs\":[[[1099511627776,0],[1,0]]],\"objects\":{}")?.as_str(), "6 $/arcs/0/1/0");
-    assert_eq!(rt; told_of(alloc, "\"arcs\":[[[0,0],[9223372036854775807,0],[9223372036854775807,0]]],\"objects\":{}")?.as_str(), "6 $/arcs/0/1/0");
-    assert_eq!(rt; told_of(alloc, "\"arcs\":[],\"objects\":{\"x/y~z\":5}")?.as_str(), "3 $/objects/x/y~z");
-    assert_eq!(rt; told_of(alloc, "\"arcs\":[],\"objects\":{\"a\":{\"type\":null,\"arcs\":[99],\"id\":\"n\"}}")?.as_str(), "accepted");
-    assert_eq!(rt; told_of(alloc, "\"arcs\":[],\"objects\":{\"b\":{\"type\":\"Point\"},\"a\":{\"type\":\"Polygon\",\"arcs\":[[0],[0.5]]}}")?.as_str(), "11 $/objects/a/arcs/0/0");
-    let wide = "{\"arcs\":[],\"objects\":{\"a\":{\"type\":\"Point\",\"coordinates\":[9007199255,0]}},\"transform\":{\"scale\":[1000000,1],\"translate\":[0,0]},\"type\":\"Topology\"}";
+    assert_eq!(rt;
+        told_of(
+            alloc,
+            "\"arcs\":[[[0,0]]],\"objects\":{\"a\":{\"type\":\"Point\",\"coordinates\":[1.0,0]}}"
+        )?
+        .as_str(),
+        "8 $/arcs/0"
+    );
+    assert_eq!(rt;
+        told_of(alloc, "\"arcs\":[[[1099511627776,0],[1,0]]],\"objects\":{}")?.as_str(),
+        "6 $/arcs/0/1/0"
+    );
+    assert_eq!(rt;
+        told_of(
+            alloc,
+            "\"arcs\":[[[0,0],[9223372036854775807,0],[9223372036854775807,0]]],\"objects\":{}"
+        )?
+        .as_str(),
+        "6 $/arcs/0/1/0"
+    );
+    assert_eq!(rt;
+        told_of(alloc, "\"arcs\":[],\"objects\":{\"x/y~z\":5}")?.as_str(),
+        "3 $/objects/x/y~z"
+    );
+    assert_eq!(rt;
+        told_of(
+            alloc,
+            "\"arcs\":[],\"objects\":{\"a\":{\"type\":null,\"arcs\":[99],\"id\":\"n\"}}"
+        )?
+        .as_str(),
+        "accepted"
+    );
+    assert_eq!(rt;
+        told_of(
+            alloc,
+            "\"arcs\":[],\"objects\":{\"b\":{\"type\":\"Point\"},\"a\":{\"type\":\"Polygon\",\"arcs\":[[0],[0.5]]}}"
+        )?
+        .as_str(),
+        "11 $/objects/a/arcs/0/0"
+    );
+    let wide =
+        "{\"arcs\":[],\"objects\":{\"a\":{\"type\":\"Point\",\"coordinates\":[9007199255,0]}},\"transform\":{\"scale\":[1000000,1],\"translate\":[0,0]},\"type\":\"Topology\"}";
     assert_eq!(rt; told(alloc, wide)?.as_str(), "6 $/objects/a/coordinates/0");
     Ok(())
 }
@@ -64,7 +127,8 @@ fn arcs_and_layers(rt: HostRuntime) -> Result<(), Fail> {
 #[test]
 fn stitched_features(rt: HostRuntime) -> Result<(), Fail> {
     let alloc = rt.alloc();
-    let text = "{\"type\":\"Topology\",\"transform\":{\"scale\":[1,1],\"translate\":[0,0]},\"bbox\":[0.5,0,1,1],\"x\":0,\"objects\":{\"a\":{\"type\":\"Polygon\",\"arcs\":[[0,1]]}},\"arcs\":[[[0,0],[1,0],[0,1]],[[1,1],[-1,0],[0,-1]],[[5,5],[1,1]]]}";
+    let text =
+        "{\"type\":\"Topology\",\"transform\":{\"scale\":[1,1],\"translate\":[0,0]},\"bbox\":[0.5,0,1,1],\"x\":0,\"objects\":{\"a\":{\"type\":\"Polygon\",\"arcs\":[[0,1]]}},\"arcs\":[[[0,0],[1,0],[0,1]],[[1,1],[-1,0],[0,-1]],[[5,5],[1,1]]]}";
     let Ok((grid, map)) = read(alloc, text.as_bytes()) else {
         return Err(Fail::new("refused"));
     };

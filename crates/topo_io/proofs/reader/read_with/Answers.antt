@@ -14,7 +14,7 @@ returns-in_err-layers-in-Ok-clause-err c =
     let v = view c.args.value.now in
     let same : c.of.result ≡ limits_of t = c.of.ensures ∙ ap limits_on c.in-Ok.ensures.made ∙ sym (limits_known (transform_faults t) t c.in-Ok.ensures.ok) in
     let part : LeastOrWant (content_faults (limits_of t) v ++ under (name (codes "transform")) (transform_faults t)) c.in_err-layers-in-Ok.field-0.0 =
-      earlier (name (codes "transform")) (content_faults (limits_of t) v) (transform_faults t) c.in_err-layers-in-Ok.field-0.0 (subst (λ l. LeastOrWant (content_faults l v) c.in_err-layers-in-Ok.field-0.0) same c.in_err-layers-in-Ok.ensures.err) (content_before (limits_of t) v) in
+    earlier (name (codes "transform")) (content_faults (limits_of t) v) (transform_faults t) c.in_err-layers-in-Ok.field-0.0 (subst (λ l. LeastOrWant (content_faults l v) c.in_err-layers-in-Ok.field-0.0) same c.in_err-layers-in-Ok.ensures.err) (content_before (limits_of t) v) in
     search (rules, part)
 
 pub returns-in_ok-layers-in-Ok-clause-ok : goal.returns-in_ok-layers-in-Ok-clause-ok

@@ -14,7 +14,7 @@ loop-i-init c =
     let start : sums_at c.origin-last.result.x c.origin-last.result.y ≡ sums_at (pos 0) (pos 0) = λ i. sums_at (c.origin-last.ensures.x i) (c.origin-last.ensures.y i) in
     record {
       judged = ap (λ s. scan_faults (step_faults c.args.limits.now) next_sums s 0 (map view c.args.values.now)) (sym start);
-      made = rw c.in_ok-found.ensures.ok (ap (λ s. places_from s (map view c.args.values.now)) start)
+      made = rw c.in_ok-found.ensures.ok (ap (λ s. places_from s (map view c.args.values.now)) start);
     }
 
 pub returns-in-Err-clause-err : goal.returns-in-Err-clause-err
@@ -30,7 +30,7 @@ loop-i-preserved c =
     let rest = places_from (sums_at p.x p.y) (map view (drop (c.loop-i.i + 1) vs)) in
     record {
       judged = c.loop-i.invariant.judged ∙ scan_passed (step_faults c.args.limits.now) next_sums before (sums_at p.x p.y) vs c.loop-i.i c.index-values-i.result (omega arith) c.index-values-i.is c.in-Ok.ensures.ok c.in-Ok.ensures.made;
-      made = ap (λ l. l ++ rest) c.in_ok-keep-in-Ok.ensures.ok ∙ append_assoc c.loop-i.found.items (p ∷ []) rest ∙ ap (λ l. c.loop-i.found.items ++ l) (sym (places_passed before vs c.loop-i.i c.index-values-i.result p (omega arith) c.index-values-i.is c.in-Ok.ensures.made)) ∙ c.loop-i.invariant.made
+      made = ap (λ l. l ++ rest) c.in_ok-keep-in-Ok.ensures.ok ∙ append_assoc c.loop-i.found.items (p ∷ []) rest ∙ ap (λ l. c.loop-i.found.items ++ l) (sym (places_passed before vs c.loop-i.i c.index-values-i.result p (omega arith) c.index-values-i.is c.in-Ok.ensures.made)) ∙ c.loop-i.invariant.made;
     }
 
 pub returns-clause-ok : goal.returns-clause-ok

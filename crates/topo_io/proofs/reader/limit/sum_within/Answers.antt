@@ -20,5 +20,5 @@ returns-else-is_allowed-clause-err c =
     let f = to_z-of_z w64 c.args.from c.ranges.from in
     let g = to_z-of_z w64 c.args.a c.ranges.a in
     let same : to_z w64 (of_z w64 (to_z w64 (of_z w64 c.args.from) +ℤ to_z w64 (of_z w64 c.args.a))) ≡ c.args.from +ℤ c.args.a =
-      (λ i. to_z w64 (of_z w64 (f i +ℤ g i))) ∙ to_z-of_z w64 (c.args.from +ℤ c.args.a) fits in
+    (λ i. to_z w64 (of_z w64 (f i +ℤ g i))) ∙ to_z-of_z w64 (c.args.from +ℤ c.args.a) fits in
     out_of_range c.args.axis.now c.args.from c.args.a c.here-else-is_allowed.result c.here-else-is_allowed.ensures (ap (allows c.args.axis.now) (sym same) ∙ told)
