@@ -1,4 +1,10 @@
 //! The borders between features: lines over the segments that a filter selects.
+ghost use Rattle.std.specs.Prelude.{IfOk, List};
+ghost use Rattle.grid.specs.declared.pos.Pos.{Pos};
+ghost use Rattle.chains.specs.Joined.{AreMaximal};
+ghost use Rattle.chains.specs.declared.segment.Segment.{Segment};
+ghost use Rattle.query.specs.Stops.{AreStops};
+
 use crate::fault::QueryFault;
 use crate::members::{Member, of_all_layers, of_layer};
 use crate::spans::{Span, spans_of};
@@ -74,6 +80,7 @@ pub fn mesh<F: Fn(&Feature, &Feature) -> bool>(
     filter: F,
 ) -> Result<ArcTable, QueryFault>
     requires { F.IsAlwaysCallable filter }
+    ensures { IfOk result (λ lines. (segments : List Segment) × (stops : List Pos) × AreStops segments stops × AreMaximal segments stops lines) }
 {
     let map = topology.expand(alloc)?;
     let members = match layer {

@@ -59,25 +59,42 @@ fn write_places<'a, W: Sink, I: Iterator<Item = &'a Pos> + Drop>(
     put(sink, b"]")
 }
 
-fn write_place<W: Sink>(grid: &Grid, separator: &[u8], place: Pos, sink: &mut W) -> Result<(), WriteFault> {
+fn write_place<W: Sink>(
+    grid: &Grid,
+    separator: &[u8],
+    place: Pos,
+    sink: &mut W,
+) -> Result<(), WriteFault> {
     put(sink, separator)?;
     let (x, y) = grid.to_absolute(place);
     Pair(x, y).write(sink)
 }
 
-fn write_line<W: Sink>(topology: &Topology, refs: &[ArcRef], sink: &mut W) -> Result<(), WriteFault> {
+fn write_line<W: Sink>(
+    topology: &Topology,
+    refs: &[ArcRef],
+    sink: &mut W,
+) -> Result<(), WriteFault> {
     write_places(&topology.grid(), topology.walk(refs), sink)
 }
 
 /// Writes a ring from its least rotation, with the first position repeated at the end.
-fn write_ring<W: Sink>(topology: &Topology, refs: &[ArcRef], sink: &mut W) -> Result<(), WriteFault> {
+fn write_ring<W: Sink>(
+    topology: &Topology,
+    refs: &[ArcRef],
+    sink: &mut W,
+) -> Result<(), WriteFault> {
     let start = least_start(topology.walk(refs));
     let behind = topology.walk(refs).skip(start);
     let before = topology.walk(refs).skip(1).take(start);
     write_places(&topology.grid(), behind.chain(before), sink)
 }
 
-fn write_lines<W: Sink>(topology: &Topology, lists: &[Items<ArcRef>], sink: &mut W) -> Result<(), WriteFault> {
+fn write_lines<W: Sink>(
+    topology: &Topology,
+    lists: &[Items<ArcRef>],
+    sink: &mut W,
+) -> Result<(), WriteFault> {
     put(sink, b"[")?;
     let mut separator: &[u8] = b"";
     for refs in lists {
@@ -88,7 +105,11 @@ fn write_lines<W: Sink>(topology: &Topology, lists: &[Items<ArcRef>], sink: &mut
     put(sink, b"]")
 }
 
-fn write_rings<W: Sink>(topology: &Topology, lists: &[Items<ArcRef>], sink: &mut W) -> Result<(), WriteFault> {
+fn write_rings<W: Sink>(
+    topology: &Topology,
+    lists: &[Items<ArcRef>],
+    sink: &mut W,
+) -> Result<(), WriteFault> {
     put(sink, b"[")?;
     let mut separator: &[u8] = b"";
     for refs in lists {
@@ -114,7 +135,11 @@ fn write_polygons<W: Sink>(
     put(sink, b"]")
 }
 
-fn write_coordinates<W: Sink>(topology: &Topology, body: &Body, sink: &mut W) -> Result<(), WriteFault> {
+fn write_coordinates<W: Sink>(
+    topology: &Topology,
+    body: &Body,
+    sink: &mut W,
+) -> Result<(), WriteFault> {
     match body {
         Body::Null => Ok(()),
         Body::Point(place) => write_place(&topology.grid(), b"", *place, sink),
@@ -139,7 +164,11 @@ fn type_name(body: &Body) -> Option<&'static [u8]> {
     }
 }
 
-fn write_geometry<W: Sink>(topology: &Topology, body: &Body, sink: &mut W) -> Result<(), WriteFault> {
+fn write_geometry<W: Sink>(
+    topology: &Topology,
+    body: &Body,
+    sink: &mut W,
+) -> Result<(), WriteFault> {
     let Some(name) = type_name(body) else {
         return put(sink, b"null");
     };
@@ -150,7 +179,11 @@ fn write_geometry<W: Sink>(topology: &Topology, body: &Body, sink: &mut W) -> Re
     put(sink, b"\"}")
 }
 
-fn write_feature<W: Sink>(topology: &Topology, geometry: &Geom, sink: &mut W) -> Result<(), WriteFault> {
+fn write_feature<W: Sink>(
+    topology: &Topology,
+    geometry: &Geom,
+    sink: &mut W,
+) -> Result<(), WriteFault> {
     put(sink, b"{\"geometry\":")?;
     write_geometry(topology, &geometry.body, sink)?;
     put(sink, b",")?;
@@ -166,7 +199,11 @@ fn write_feature<W: Sink>(topology: &Topology, geometry: &Geom, sink: &mut W) ->
 /// # Errors
 /// `NoLayer` where the topology has no layer of that name; `Write` where the sink failed, which then
 /// took a beginning of the text.
-pub fn write_layer<W: Sink>(topology: &Topology, layer: &str, sink: &mut W) -> Result<(), LayerFault> {
+pub fn write_layer<W: Sink>(
+    topology: &Topology,
+    layer: &str,
+    sink: &mut W,
+) -> Result<(), LayerFault> {
     let Some(geometries) = topology.geometries(layer) else {
         return Err(LayerFault::NoLayer);
     };

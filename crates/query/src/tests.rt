@@ -203,12 +203,27 @@ fn check_text(rt: &impl Abort, alloc: Global, topology: &Topology, text: &[u8]) 
 fn writes_a_layer(rt: HostRuntime) -> Result<(), Fail> {
     let alloc = rt.alloc();
     let squares = of_rings(alloc, &[&FIRST, &SECOND])?;
-    check_text(&rt, alloc, &squares, b"{\"features\":[{\"geometry\":{\"coordinates\":[[[0,0],[1,0],[1,1],[0,1],[0,0]]],\"type\":\"Polygon\"},\"properties\":{},\"type\":\"Feature\"},{\"geometry\":{\"coordinates\":[[[1,0],[2,0],[2,1],[1,1],[1,0]]],\"type\":\"Polygon\"},\"properties\":{},\"type\":\"Feature\"}],\"type\":\"FeatureCollection\"}");
+    check_text(
+        &rt,
+        alloc,
+        &squares,
+        b"{\"features\":[{\"geometry\":{\"coordinates\":[[[0,0],[1,0],[1,1],[0,1],[0,0]]],\"type\":\"Polygon\"},\"properties\":{},\"type\":\"Feature\"},{\"geometry\":{\"coordinates\":[[[1,0],[2,0],[2,1],[1,1],[1,0]]],\"type\":\"Polygon\"},\"properties\":{},\"type\":\"Feature\"}],\"type\":\"FeatureCollection\"}",
+    );
     let mut kept = Kept::new(alloc);
     assert!(rt; write_layer(&squares, "q", &mut kept) == Err(LayerFault::NoLayer));
     let mut map = FeatureMap::new(alloc);
-    insert(alloc, &mut map, "a", line(alloc, &[(3, 0), (1, 0), (2, 5)])?)?;
+    insert(
+        alloc,
+        &mut map,
+        "a",
+        line(alloc, &[(3, 0), (1, 0), (2, 5)])?,
+    )?;
     insert(alloc, &mut map, "a", Shape::Null)?;
-    check_text(&rt, alloc, &built(alloc, &map)?, b"{\"features\":[{\"geometry\":null,\"properties\":{},\"type\":\"Feature\"},{\"geometry\":{\"coordinates\":[[3,0],[1,0],[2,5]],\"type\":\"LineString\"},\"properties\":{},\"type\":\"Feature\"}],\"type\":\"FeatureCollection\"}");
+    check_text(
+        &rt,
+        alloc,
+        &built(alloc, &map)?,
+        b"{\"features\":[{\"geometry\":null,\"properties\":{},\"type\":\"Feature\"},{\"geometry\":{\"coordinates\":[[3,0],[1,0],[2,5]],\"type\":\"LineString\"},\"properties\":{},\"type\":\"Feature\"}],\"type\":\"FeatureCollection\"}",
+    );
     Ok(())
 }
