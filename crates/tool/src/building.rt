@@ -1,4 +1,8 @@
 //! From GeoJSON texts to a topology: `build_text` and the command `build`.
+ghost use Rattle.std.specs.Prelude.{◌≡◌, map, OnOk, IfErr};
+ghost use Rattle.tool.specs.declared.building.BuildFault.TheVariants.{OutOfMemory as WantOfMemory};
+ghost use Rattle.tool.specs.Sources.{AreAccepted, IsRefusal, IsFaultAt};
+
 use crate::files::{Files, name_at, read_named};
 use crate::grid_word::parse_grid;
 use crate::refusal::Refusal;
@@ -21,6 +25,8 @@ pub enum BuildFault {
 }
 
 impl From<OutOfMemory> for BuildFault {
+    ghost from_gives = { λ _ e. e ≡ WantOfMemory };
+
     fn from(_fault: OutOfMemory) -> BuildFault {
         BuildFault::OutOfMemory
     }
@@ -32,7 +38,10 @@ pub fn build_text(
     alloc: Global,
     grid: &Grid,
     texts: &[(String, Vec<u8>)],
-) -> Result<Vec<u8>, BuildFault> {
+) -> Result<Vec<u8>, BuildFault>
+    ensures accepted { OnOk result (AreAccepted grid.now (map (λ s. s.1.items) texts.now)) }
+    ensures refused { IfErr result (IsRefusal grid.now (map (λ s. s.1.items) texts.now)) }
+{
     let topology = build_topology(alloc, grid, texts)?;
     let mut kept = Kept::new(alloc);
     match topo_io::write(&topology, &mut kept) {
@@ -46,7 +55,10 @@ fn build_topology(
     alloc: Global,
     grid: &Grid,
     texts: &[(String, Vec<u8>)],
-) -> Result<Topology, BuildFault> {
+) -> Result<Topology, BuildFault>
+    ensures accepted { OnOk result (AreAccepted grid.now (map (λ s. s.1.items) texts.now)) }
+    ensures refused { IfErr result (IsRefusal grid.now (map (λ s. s.1.items) texts.now)) }
+{
     let map = read_layers(alloc, grid, texts)?;
     Ok(Topology::build(alloc, grid, &map)?)
 }
@@ -56,13 +68,20 @@ fn read_layers(
     alloc: Global,
     grid: &Grid,
     texts: &[(String, Vec<u8>)],
-) -> Result<FeatureMap, BuildFault> {
+) -> Result<FeatureMap, BuildFault>
+    ensures accepted { OnOk result (AreAccepted grid.now (map (λ s. s.1.items) texts.now)) }
+    ensures refused { IfErr result (IsRefusal grid.now (map (λ s. s.1.items) texts.now)) }
+{
     let mut map = FeatureMap::new(alloc);
-    for (place, (layer, text)) in texts.iter().enumerate() {
-        match geojson_io::read(alloc, text.as_slice(), grid) {
-            Ok(features) => add_features(&mut map, layer.as_str(), features)?,
+    let mut place = 0;
+    let mut left = texts;
+    while let Some((source, after)) = left.split_first() {
+        match geojson_io::read(alloc, source.1.as_slice(), grid) {
+            Ok(features) => add_features(&mut map, source.0.as_str(), features)?,
             Err(fault) => return Err(refused(place, fault)),
         }
+        place += 1;
+        left = after;
     }
     Ok(map)
 }
@@ -82,7 +101,9 @@ fn add_features(
     Ok(())
 }
 
-fn refused(place: usize, fault: Fault) -> BuildFault {
+fn refused(place: usize, fault: Fault) -> BuildFault
+    ensures { IsFaultAt place fault result }
+{
     match fault.kind {
         FaultKind::OutOfMemory => BuildFault::OutOfMemory,
         _ => BuildFault::Text(place, fault),

@@ -1,0 +1,9 @@
+use Rattle.std.proofs.Common.{length, map}
+use Rattle.tool.proofs.Refusals.{SoFar}
+use Rattle.tool.proofs.building.read_layers.Given as goal
+
+abbrev pub invariant-loop-source : goal.invariant-loop-source
+invariant-loop-source l = SoFar l.grid (map (λ s. s.1.items) l.texts) (map (λ s. s.1.items) l.left) l.place
+
+abbrev pub decreases-loop-source : goal.decreases-loop-source
+decreases-loop-source l = length l.left
