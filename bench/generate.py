@@ -18,6 +18,7 @@ import random
 CELL = 1000  # the side of a district
 STEPS = 25  # segments of a side
 SWING = 80  # how far a side may leave its straight line
+SLANT = 15  # and how far, for each segment from its nearer end: sides of one corner stay apart
 
 
 def districts_per_side(positions):
@@ -31,10 +32,11 @@ def side(rng, start, end):
     for step in range(1, STEPS):
         x = start[0] + (end[0] - start[0]) * step // STEPS
         y = start[1] + (end[1] - start[1]) * step // STEPS
+        swing = min(SWING, SLANT * min(step, STEPS - step))
         if abs(end[0] - start[0]) > abs(end[1] - start[1]):
-            y += rng.randint(-SWING, SWING)
+            y += rng.randint(-swing, swing)
         else:
-            x += rng.randint(-SWING, SWING)
+            x += rng.randint(-swing, swing)
         positions.append((x, y))
     positions.append(end)
     return positions
