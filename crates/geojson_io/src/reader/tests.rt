@@ -1,5 +1,8 @@
 use super::*;
 use faults::fault::Step;
+use grid::pos::Pos;
+use lines::items::Items;
+use lines::ring::Ring;
 use std::process::Abort;
 use std::test::Fail;
 
@@ -138,6 +141,13 @@ fn refusals(rt: HostRuntime) -> Result<(), Fail> {
     Ok(())
 }
 
+fn first_vertex(polygons: &[Items<Ring>]) -> Option<Pos> {
+    let rings = polygons.first()?;
+    let ring = rings.as_slice().first()?;
+    let vertex = ring.vertices().first()?;
+    Some(*vertex)
+}
+
 #[test]
 fn features_of_a_collection(rt: HostRuntime) -> Result<(), Fail> {
     let alloc = rt.alloc();
@@ -152,7 +162,9 @@ fn features_of_a_collection(rt: HostRuntime) -> Result<(), Fail> {
             Shape::Null => assert_eq!(rt; feature.props.text(), "{}"),
             Shape::MultiPolygon(polygons) => {
                 assert_eq!(rt; feature.props.text(), "{\"a\":null,\"b\":1}");
-                let corner = polygons.as_slice()[0].as_slice()[0].vertices()[0];
+                let Some(corner) = first_vertex(polygons.as_slice()) else {
+                    return Err(Fail::new("no vertex"));
+                };
                 assert_eq!(rt; (corner.x(), corner.y()), (0, 0));
             }
             _ => return Err(Fail::new("another shape")),

@@ -141,7 +141,10 @@ fn stitched_features(rt: HostRuntime) -> Result<(), Fail> {
         let shapes::shape::Shape::Polygon(rings) = &feature.shape else {
             return Err(Fail::new("another shape"));
         };
-        let ring = rings.as_slice()[0].vertices();
+        let Some(first) = rings.as_slice().first() else {
+            return Err(Fail::new("no ring"));
+        };
+        let ring = first.vertices();
         assert_eq!(rt; ring.len(), 4);
         assert_eq!(rt; (ring[0].x(), ring[0].y()), (0, 0));
         assert_eq!(rt; (ring[1].x(), ring[1].y()), (1, 0));
