@@ -16,6 +16,3 @@ pub use collection::write_layer;
 pub use fault::{LayerFault, QueryFault};
 pub use layer::feature;
 pub use sharing::neighbors;
-
-#[cfg(test)]
-mod tests;
