@@ -12,7 +12,7 @@ use Rattle.shapes.specs.OrderLaws.{feature_tied}
 use Rattle.shapes.specs.declared.feature.Feature.{Feature}
 use Rattle.shapes.proofs.MapLemmas.{contains-set_of}
 use Rattle.reading.specs.Plain.{Plain, plain}
-use Rattle.geojson_io.specs.Features.{AreFeatures}
+use Rattle.reading.specs.Meant.{AreFeatures}
 
 either : (a b : Bool) → (a || b) ≡ true → (a ≡ true) ⊎ (b ≡ true)
 either true b e = inl refl

@@ -1,5 +1,5 @@
 -- Faults and meaning of features and of whole texts.
-use Rattle.std.specs.Prelude.{◌≡◌, ℕ, List, [], ◌∷◌, ◌++◌, map, IsTrue, Option, Some, None, Result, Ok, Err, codes, if◌then◌else◌}
+use Rattle.std.specs.Prelude.{ℕ, List, [], ◌∷◌, ◌++◌, map, Option, Some, None, Result, Ok, Err, codes, if◌then◌else◌}
 use Rattle.std.specs.Str.{bytes_eq}
 use Rattle.serde_json.specs.Data.{Data}
 use Rattle.serde_json.specs.Find.{as_object}
@@ -7,13 +7,9 @@ use Rattle.faults.specs.Fault.{Pair}
 use Rattle.faults.specs.declared.fault.FaultKind.{FaultKind}
 use Rattle.faults.specs.declared.fault.FaultKind.TheVariants.{UnknownType}
 use Rattle.grid.specs.Place.{Transform}
-use Rattle.shapes.specs.Sets as set
-use Rattle.shapes.specs.Maps.{Features}
-use Rattle.shapes.specs.declared.feature.Feature as features
-use Rattle.theory.specs.Lists.{Has}
 use Rattle.reading.specs.Parts.{list_faults, elements, member_faults, option_faults, object_faults, typed_faults, unless_null, named, type_text}
 use Rattle.reading.specs.Info.{info_faults, member_or_null, id_of, properties_of}
-use Rattle.reading.specs.Plain.{Plain, PlainForm, none, plain}
+use Rattle.reading.specs.Plain.{Plain, PlainForm, none}
 use Rattle.reading.specs.Text.{document, text_faults}
 use Rattle.reading.specs.Types.{geometry_named}
 use Rattle.reading.specs.declared.geometry.GeometryType.{GeometryType}
@@ -91,8 +87,3 @@ faults_of_text t bytes = text_faults (geojson_faults t) (document bytes)
 -- the features of the bytes of a GeoJSON text, as plain data
 abbrev pub features_of_text : Transform → List ℕ → List Plain
 features_of_text t bytes = features_or_none t (document bytes)
-
--- the set holds the features that are these as plain data, and nothing else
-pub record AreFeatures (made : Features) (meant : List Plain) : Type 0 where
-  pub only : (f : features.Feature) → IsTrue (set.contains made f) → Has (plain f) meant
-  pub all : (p : Plain) → Has p meant → (f : features.Feature) × IsTrue (set.contains made f) × (plain f ≡ p)

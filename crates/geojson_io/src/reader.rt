@@ -11,7 +11,8 @@ ghost use Rattle.shapes.specs.Maps.{set_of as features_set};
 ghost use Rattle.theory.specs.Lists.{Has};
 ghost use Rattle.shapes.specs.declared.feature.Feature.{Feature};
 ghost use Rattle.geojson_io.specs.Geometries.{typed_geometry_faults, typed_form};
-ghost use Rattle.geojson_io.specs.Features.{feature_members, feature_of, element_of_features_faults, root_named as named_root, root_type, root_faults, features_by, geojson_faults, features_of, features_of_text, faults_of_text, bare, AreFeatures};
+ghost use Rattle.reading.specs.Meant.{AreFeatures};
+ghost use Rattle.geojson_io.specs.Features.{feature_members, feature_of, element_of_features_faults, root_named as named_root, root_type, root_faults, features_by, geojson_faults, features_of, features_of_text, faults_of_text, bare};
 
 mod feature;
 mod geometry;

@@ -8,3 +8,4 @@ pub mod Types
 pub mod Plain
 pub mod Info
 pub mod Text
+pub mod Meant

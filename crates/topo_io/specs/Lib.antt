@@ -6,3 +6,4 @@ pub mod Arcs
 pub mod Geometries
 pub mod Roots
 pub mod Layers
+pub mod Means
