@@ -53,7 +53,7 @@ small n k h = go (nat_lt n k) refl
     go true e = e
     go false e = absurd (let l = ltb-false n k e in omega arith)
 
-large : (n k : ℕ) → k ≤ n → nat_lt n k ≡ false
+pub large : (n k : ℕ) → k ≤ n → nat_lt n k ≡ false
 large n k h = go (nat_lt n k) refl
   where
     go : (b : Bool) → nat_lt n k ≡ b → nat_lt n k ≡ false

@@ -5,3 +5,4 @@ pub mod Segments
 pub mod Least
 pub mod Windows
 pub mod Codes
+pub mod ReadsItself

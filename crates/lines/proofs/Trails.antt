@@ -46,7 +46,7 @@ trail_from : {V : Type 0} (l : List V) → Apart l → ¬ Repeats l → Trail l
 trail_from [] a n = tt
 trail_from (x ∷ l) a n = ((λ y b. (a.0 y b, (λ h. n (inl (y, b, h))))), trail_from l a.1 (λ h. n (inr h)))
 
-trail_once : {V : Type 0} (l : List V) → Trail l → ¬ Repeats l
+pub trail_once : {V : Type 0} (l : List V) → Trail l → ¬ Repeats l
 trail_once [] t h = h
 trail_once (x ∷ l) t (inl h) = (t.0 h.0 h.1).1 h.2
 trail_once (x ∷ l) t (inr h) = trail_once l t.1 h
