@@ -9,3 +9,4 @@ pub mod Plain
 pub mod Info
 pub mod Text
 pub mod Meant
+pub mod Fitting
