@@ -1,10 +1,8 @@
 //! Why a question to a topology has no answer.
 ghost use Rattle.std.specs.Prelude.{◌≡◌};
 ghost use Rattle.query.specs.declared.fault.QueryFault.TheVariants.{OutOfMemory as WantOfMemory};
-ghost use Rattle.query.specs.declared.fault.LayerFault.TheVariants.{Write};
 
 use faults::OutOfMemory;
-use sinks::WriteFault;
 use std::alloc::{AllocError, AllocFailed};
 use thiserror::Error;
 
@@ -17,17 +15,6 @@ pub enum QueryFault {
     /// A growth of memory was refused.
     #[error("out of memory")]
     OutOfMemory,
-}
-
-/// Why a layer wasn't written.
-#[derive(Clone, Copy, PartialEq, Eq, Debug, Error)]
-pub enum LayerFault {
-    /// The topology has no layer of that name.
-    #[error("no such layer")]
-    NoLayer,
-    /// The sink failed.
-    #[error("output failed")]
-    Write,
 }
 
 impl From<AllocError> for QueryFault {
@@ -51,13 +38,5 @@ impl From<OutOfMemory> for QueryFault {
 
     fn from(_: OutOfMemory) -> QueryFault {
         QueryFault::OutOfMemory
-    }
-}
-
-impl From<WriteFault> for LayerFault {
-    ghost from_gives = { λ _ f. f ≡ Write };
-
-    fn from(_: WriteFault) -> LayerFault {
-        LayerFault::Write
     }
 }

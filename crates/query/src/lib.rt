@@ -3,7 +3,6 @@
 #![tactic(auto)]
 
 pub mod borders;
-pub mod collection;
 pub mod fault;
 pub mod layer;
 mod members;
@@ -12,7 +11,7 @@ mod spans;
 mod stops;
 
 pub use borders::mesh;
-pub use collection::write_layer;
-pub use fault::{LayerFault, QueryFault};
+pub use fault::QueryFault;
 pub use layer::feature;
+pub use layer_text::{LayerFault, write_layer};
 pub use sharing::neighbors;
