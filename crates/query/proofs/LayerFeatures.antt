@@ -104,16 +104,19 @@ module _ (m : Layers) (t : TopologyParts) (of : IsOf m t) where
       (e : List ℕ × Features) × Has e (map.entries m) × (e.0 ≡ spelled_text l.name) × OfFeatures (set.items e.1) l.geometries
   layer_entry l h =
       let (k, there, is) = partner_back (IsLayerOf position_cmp (JunctionOf (geometry_of m)) t.arcs.arcs) (seen m) (map_list layer_of t.layers) of.topology.layers
-          (layer_of l) (Has-map layer_of t.layers l h) in
-      let (e, at, same) = map_has seen_by.layer_of (map.entries m) k there in
-      (e, at, ap (λ w. w.name) (sym same) ∙ is.name,
-        subst (λ w. Pairwise (IsGeometryOf position_cmp (JunctionOf (geometry_of m)) t.arcs.arcs) w.items (map_list item_of l.geometries)) same is.items)
+      (layer_of l) (Has-map layer_of t.layers l h) in
+      let (e, at, same) = map_has seen_by.layer_of (map.entries m) k there in (
+        e,
+        at,
+        ap (λ w. w.name) (sym same) ∙ is.name,
+        subst (λ w. Pairwise (IsGeometryOf position_cmp (JunctionOf (geometry_of m)) t.arcs.arcs) w.items (map_list item_of l.geometries)) same is.items,
+      )
 
   -- an entry of the map has a layer
   pub entry_layer : (e : List ℕ × Features) → Has e (map.entries m) → (l : LayerParts) × Has l t.layers × (spelled_text l.name ≡ e.0)
   entry_layer e h =
       let (k, there, is) = partner (IsLayerOf position_cmp (JunctionOf (geometry_of m)) t.arcs.arcs) (seen m) (map_list layer_of t.layers) of.topology.layers
-          (seen_by.layer_of e) (Has-map seen_by.layer_of (map.entries m) e h) in
+      (seen_by.layer_of e) (Has-map seen_by.layer_of (map.entries m) e h) in
       let (l, at, same) = map_has layer_of t.layers k there in
       (l, at, ap (λ w. w.name) (sym same) ∙ sym is.name)
 
@@ -123,9 +126,10 @@ module _ (m : Layers) (t : TopologyParts) (of : IsOf m t) where
   named_features name gs (l, h, n, is) =
       let (e, at, k, all) = layer_entry l h in
       let named : e.0 ≡ name = k ∙ n in
-      let under : features_at m name ≡ e.1 = ap (features_at m) (sym named) ∙ at_entry m e at in
-      (subst (λ q. IsTrue (map.contains_key m q)) named (entry_key m e at),
-        subst (λ w. OfFeatures (set.items (features_at m name)) w) (sym is) (subst (λ w. OfFeatures (set.items w) l.geometries) (sym under) all))
+      let under : features_at m name ≡ e.1 = ap (features_at m) (sym named) ∙ at_entry m e at in (
+        subst (λ q. IsTrue (map.contains_key m q)) named (entry_key m e at),
+        subst (λ w. OfFeatures (set.items (features_at m name)) w) (sym is) (subst (λ w. OfFeatures (set.items w) l.geometries) (sym under) all),
+      )
 
   pub not_named : (name : List ℕ) → ((l : LayerParts) → Has l t.layers → ¬ (spelled_text l.name ≡ name)) → ¬ IsTrue (map.contains_key m name)
   not_named name none h =

@@ -56,18 +56,18 @@ pub among_from : (us : List Use) → Ascends use_cmp us → (q : Pair) → Has q
 among_from [] a q h = absurd h
 among_from (u ∷ us) a q h = elim (Has-append q (pairs_behind u us) (pairs_among us) h) [
   | inl k ↦ (
-    let t = behind_from u us q k in
-    let below : u.place < t.0.place = places_rise u t.0 (sym t.2) (a.0 t.0 t.1) in
-    elim t.3 [
-      | inl e ↦ (
-        let p : q.place ≡ u.place = ap (λ w. w.place) e in
-        let o : q.other ≡ t.0.place = ap (λ w. w.other) e in
-        (u, t.0, inl refl, inr t.1, sym t.2, p, o, λ z. omega (arith, below, p, o, z)))
-      | inr e ↦ (
-        let p : q.place ≡ t.0.place = ap (λ w. w.place) e in
-        let o : q.other ≡ u.place = ap (λ w. w.other) e in
-        (t.0, u, inr t.1, inl refl, t.2, p, o, λ z. omega (arith, below, p, o, z)))
-    ])
+      let t = behind_from u us q k in
+      let below : u.place < t.0.place = places_rise u t.0 (sym t.2) (a.0 t.0 t.1) in
+      elim t.3 [
+        | inl e ↦ (
+            let p : q.place ≡ u.place = ap (λ w. w.place) e in
+            let o : q.other ≡ t.0.place = ap (λ w. w.other) e in
+            (u, t.0, inl refl, inr t.1, sym t.2, p, o, λ z. omega (arith, below, p, o, z)))
+        | inr e ↦ (
+            let p : q.place ≡ t.0.place = ap (λ w. w.place) e in
+            let o : q.other ≡ u.place = ap (λ w. w.other) e in
+            (t.0, u, inr t.1, inl refl, t.2, p, o, λ z. omega (arith, below, p, o, z)))
+      ])
   | inr k ↦ (let t = among_from us a.1 q k in (t.0, t.1, inr t.2, inr t.3, t.4, t.5, t.6, t.7))
 ]
 

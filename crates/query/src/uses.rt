@@ -28,11 +28,7 @@ fn note_refs(uses: &mut Vec<Use>, place: usize, refs: &[ArcRef]) -> Result<(), A
     Ok(())
 }
 
-fn note_lists(
-    uses: &mut Vec<Use>,
-    place: usize,
-    lists: &[Items<ArcRef>],
-) -> Result<(), AllocError>
+fn note_lists(uses: &mut Vec<Use>, place: usize, lists: &[Items<ArcRef>]) -> Result<(), AllocError>
     ensures { OnOk result (uses.new.items ≡ uses.old.items ++ gathered (refs_uses place) lists.now) }
 {
     for refs in lists {
