@@ -1,4 +1,1 @@
 pub mod Stops
-pub mod Uses
-pub mod Neighbors
-pub mod Pairs

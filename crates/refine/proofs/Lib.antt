@@ -3,3 +3,4 @@ pub mod GroupingLemmas
 pub mod AlikeLemmas
 pub mod SinkLemmas
 pub mod MergeLemmas
+pub mod MergedTexts

@@ -1,4 +1,4 @@
--- Plans that name the same maps.
+-- Plans that name the same maps or texts.
 use Rattle.std.specs.Prelude.{◌≡◌, ℕ, ◌↔◌, ◌⊎◌, List, [], ◌∷◌, Some, None, length, slice_get}
 use Rattle.shapes.specs.Maps.{Layers}
 use Rattle.refine.specs.Plans.{first_outside, union_at}
@@ -8,13 +8,13 @@ abbrev pub IsIn : ℕ → List ℕ → Type 0
 IsIn i [] = ⊥
 IsIn i (j ∷ js) = (i ≡ j) ⊎ IsIn i js
 
--- one of the places holds the map
-abbrev pub Names : List Layers → List ℕ → Layers → Type 0
-Names ms is m = (i : ℕ) × IsIn i is × (slice_get ms i ≡ Some m)
+-- one of the places holds the map or text
+abbrev pub Names : {A : Type 0} → List A → List ℕ → A → Type 0
+Names xs is x = (i : ℕ) × IsIn i is × (slice_get xs i ≡ Some x)
 
--- the two name the same maps
-abbrev pub NameTheSame : List Layers → List ℕ → List Layers → List ℕ → Type 0
-NameTheSame ms is ns js = (m : Layers) → Names ms is m ↔ Names ns js m
+-- the two name the same maps or texts
+abbrev pub NameTheSame : {A : Type 0} → List A → List ℕ → List A → List ℕ → Type 0
+NameTheSame {A = A} xs is ys js = (x : A) → Names xs is x ↔ Names ys js x
 
 -- leaves that are places, in any order, with repeats and in any grouping: the union depends only on which maps are named
 abbrev pub PlansAlike : Type 0

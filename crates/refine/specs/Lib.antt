@@ -4,3 +4,4 @@ pub mod Plans
 pub mod Groupings
 pub mod Alike
 pub mod Merge
+pub mod MergeLaws

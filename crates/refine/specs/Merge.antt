@@ -1,37 +1,93 @@
 -- What a merge of texts answers.
-use Rattle.std.specs.Prelude.{◌≡◌, ℕ, List, Some, length}
+use Rattle.std.specs.Prelude.{◌≡◌, ℕ, List, [], ◌∷◌, ◌++◌, Some, None, length, map, All}
+use Rattle.std.specs.declared.vec.Vec.{Vec}
+use Rattle.std.specs.declared.alloc.Global.{Global}
+use Rattle.faults.specs.Fault.{pair_of, IsWant}
+use Rattle.faults.specs.declared.fault.Fault.{Fault}
 use Rattle.grid.specs.Place.{Transform}
+use Rattle.theory.specs.Lists.{Pairwise}
 use Rattle.shapes.specs.Maps.{Layers}
+use Rattle.reading.specs.Fault.{IsLeast}
 use Rattle.refine.specs.declared.fault.MergeFault.{MergeFault}
 use Rattle.refine.specs.declared.fault.MergeFault.TheVariants.{BadPlan, Text, OtherGrid, OutOfMemory}
 use Rattle.refine.specs.declared.fault.PlanFault.{PlanFault}
 use Rattle.refine.specs.declared.fault.PlanFault.TheVariants as plan
-use Rattle.refine.specs.Plans.{first_outside, union_at}
+use Rattle.refine.specs.Plans.{first_outside, first_other, union_at}
 use Rattle.topo_io.specs.Canon.{canon}
+use Rattle.topo_io.specs.Means.{Means}
+use Rattle.topo_io.specs.Roots.{faults_of_text, grid_of_text}
+
+-- the bytes of each text
+abbrev pub bytes_of : List (Vec ℕ Global) → List (List ℕ)
+bytes_of texts = map (λ t. t.items) texts
+
+-- none of the texts has a fault
+abbrev pub AreAccepted : List (List ℕ) → Type 0
+AreAccepted texts = All (λ t. faults_of_text t ≡ []) texts
+
+-- each text means the map beside it, all on one grid
+abbrev pub AreMeant : List (List ℕ) → Transform → List Layers → Type 0
+AreMeant texts g maps = Pairwise (λ t m. Means t g m) texts maps
+
+-- the text is accepted, and this is its grid
+pub record IsOnGrid (t : List ℕ) (g : Transform) : Type 0 where
+  pub accepted : faults_of_text t ≡ []
+  pub grid : g ≡ grid_of_text t
+
+-- each text is accepted on the grid of the shard beside it
+abbrev pub AreRead : {S : Type 0} → (S → Transform) → List (List ℕ) → List S → Type 0
+AreRead grid texts shards = Pairwise (λ t s. IsOnGrid t (grid s)) texts shards
+
+-- the text of that number is refused with its least fault, and those before it are accepted
+pub record IsFirstRefused (texts : List (List ℕ)) (number : ℕ) (f : Fault) : Type 0 where
+  pub before : List (List ℕ)
+  pub text : List ℕ
+  pub after : List (List ℕ)
+  pub parts : before ++ (text ∷ after) ≡ texts
+  pub at : length before ≡ number
+  pub accepted : AreAccepted before
+  pub least : IsLeast (faults_of_text text) (pair_of f)
+  pub no_want : IsWant f → ⊥
+
+-- the texts are accepted, on one grid, and the text is the canonical text of the union of the named maps on it
+pub record IsMergeOf (texts : List (List ℕ)) (is t : List ℕ) : Type 0 where
+  pub places : first_outside (length texts) is ≡ None
+  pub grid : Transform
+  pub maps : List Layers
+  pub meant : AreMeant texts grid maps
+  pub text : t ≡ canon grid (union_at maps is)
+
+-- the texts are accepted, on one grid, and the text is the canonical text on it of a union of maps, one for each text
+pub record IsMergeOn (texts : List (List ℕ)) (is t : List ℕ) : Type 0 where
+  pub places : first_outside (length texts) is ≡ None
+  pub grid : Transform
+  pub maps : List Layers
+  pub on_grid : Pairwise (λ u m. IsOnGrid u grid) texts maps
+  pub text : t ≡ canon grid (union_at maps is)
+
+-- why texts are not merged: the first leaf that is no place; else the first refused text; else the first on another grid than text 0
+abbrev pub IsMergeFault : List (List ℕ) → List ℕ → MergeFault → Type 0
+IsMergeFault texts is (BadPlan k) = first_outside (length texts) is ≡ Some k
+IsMergeFault texts is (Text n f) = (first_outside (length texts) is ≡ None) × IsFirstRefused texts n f
+IsMergeFault texts is (OtherGrid n) = (first_outside (length texts) is ≡ None) × AreAccepted texts × (first_other grid_of_text texts ≡ Some n)
+IsMergeFault texts is OutOfMemory = Unit {0}
+
+-- why texts are not read
+abbrev pub IsReadFault : List (List ℕ) → MergeFault → Type 0
+IsReadFault texts (BadPlan k) = ⊥
+IsReadFault texts (Text n f) = IsFirstRefused texts n f
+IsReadFault texts (OtherGrid n) = ⊥
+IsReadFault texts OutOfMemory = Unit {0}
+
+-- the fault of the text of that number, or memory was refused
+abbrev pub IsFaultOf : ℕ → Fault → MergeFault → Type 0
+IsFaultOf number fault (BadPlan k) = ⊥
+IsFaultOf number fault (Text n f) = (n ≡ number) × (f ≡ fault) × (IsWant fault → ⊥)
+IsFaultOf number fault (OtherGrid n) = ⊥
+IsFaultOf number fault OutOfMemory = Unit {0}
 
 -- a plan's fault as a merge's
 abbrev pub as_merge : PlanFault → MergeFault
 as_merge (plan.BadPlan n) = BadPlan n
 as_merge (plan.OtherGrid n) = OtherGrid n
 as_merge plan.OutOfMemory = OutOfMemory
-
--- the text is the canonical text, on one grid, of the union of the maps at the leaves, of one map for each of n texts
-pub record IsMergeOf (n : ℕ) (is t : List ℕ) : Type 0 where
-  pub grid : Transform
-  pub maps : List Layers
-  pub one_each : length maps ≡ n
-  pub text : t ≡ canon grid (union_at maps is)
-
--- a plan is told as bad only by its first leaf past n texts
-abbrev pub IsMergeFault : ℕ → List ℕ → MergeFault → Type 0
-IsMergeFault n is (BadPlan k) = first_outside n is ≡ Some k
-IsMergeFault n is (Text k f) = Unit {0}
-IsMergeFault n is (OtherGrid k) = Unit {0}
-IsMergeFault n is OutOfMemory = Unit {0}
-
--- no text is told as a bad plan
-abbrev pub IsReadFault : MergeFault → Type 0
-IsReadFault (BadPlan k) = ⊥
-IsReadFault (Text k f) = Unit {0}
-IsReadFault (OtherGrid k) = ⊥
-IsReadFault OutOfMemory = Unit {0}

@@ -2,7 +2,7 @@
 ghost use Rattle.std.specs.Prelude.{◌≡◌, ℕ, IfOk, IfErr, Some, Err, length};
 ghost use Rattle.refine.specs.declared.fault.MergeFault.TheVariants.{BadPlan};
 ghost use Rattle.refine.specs.Plans.{leaves, first_outside};
-ghost use Rattle.refine.specs.Merge.{IsReadFault, IsMergeFault, IsMergeOf, as_merge};
+ghost use Rattle.refine.specs.Merge.{bytes_of, AreRead, IsFaultOf, IsReadFault, IsMergeFault, IsMergeOn, as_merge};
 
 use crate::fault::{MergeFault, PlanFault};
 use crate::plan::{Plan, first_bad_leaf, run_plan};
@@ -13,7 +13,7 @@ use std::alloc::Global;
 
 // The reader's fault of the text of that number.
 fn text_refused(number: usize, fault: Fault) -> MergeFault
-    ensures { IsReadFault result }
+    ensures { IsFaultOf number fault result }
 {
     match fault.kind {
         FaultKind::OutOfMemory => MergeFault::OutOfMemory,
@@ -21,25 +21,21 @@ fn text_refused(number: usize, fault: Fault) -> MergeFault
     }
 }
 
-fn read_shard<S: Shard>(alloc: Global, number: usize, text: &[u8]) -> Result<S, MergeFault>
-    ensures { IfErr result IsReadFault }
-{
-    match topo_io::read(alloc, text) {
-        Ok((grid, map)) => Ok(S::from_map(alloc, &grid, &map)?),
-        Err(fault) => Err(text_refused(number, fault)),
-    }
-}
-
+// The shards of texts, in their order.
 fn read_shards<S: Shard>(alloc: Global, texts: &[Vec<u8>]) -> Result<Vec<S>, MergeFault>
-    ensures fault { IfErr result IsReadFault }
-    ensures one_each { IfOk result (λ v. length v.items ≡ length texts.now) }
+    ensures fault { IfErr result (IsReadFault (bytes_of texts.now)) }
+    ensures read { IfOk result (λ v. AreRead S.grid_of (bytes_of texts.now) v.items) }
 {
     let mut shards = Vec::new(alloc);
-    for (number, text) in texts.iter().enumerate() {
-        match read_shard(alloc, number, text) {
-            Ok(shard) => shards.push(shard)?,
-            Err(fault) => return Err(fault),
+    let mut number = 0;
+    let mut left = texts;
+    while let Some((text, after)) = left.split_first() {
+        match topo_io::read(alloc, text.as_slice()) {
+            Ok((grid, map)) => shards.push(S::of_map(alloc, &grid, map)?)?,
+            Err(fault) => return Err(text_refused(number, fault)),
         }
+        number += 1;
+        left = after;
     }
     Ok(shards)
 }
@@ -62,8 +58,8 @@ pub fn merge_as<S: Shard>(
     plan: &Plan,
 ) -> Result<Vec<u8>, MergeFault>
     ensures bad_plan { (k : ℕ) → first_outside (length texts.now) (leaves plan.now) ≡ Some k → result ≡ Err (BadPlan k) }
-    ensures fault { IfErr result (IsMergeFault (length texts.now) (leaves plan.now)) }
-    ensures merged { IfOk result (λ t. IsMergeOf (length texts.now) (leaves plan.now) t.items) }
+    ensures fault { IfErr result (IsMergeFault (bytes_of texts.now) (leaves plan.now)) }
+    ensures merged { IfOk result (λ t. IsMergeOn (bytes_of texts.now) (leaves plan.now) t.items) }
 {
     if let Some(leaf) = first_bad_leaf(plan, texts.len()) {
         return Err(MergeFault::BadPlan(leaf));
@@ -84,8 +80,8 @@ pub fn merge_as<S: Shard>(
 /// plan does not name.
 pub fn merge_texts(alloc: Global, texts: &[Vec<u8>], plan: &Plan) -> Result<Vec<u8>, MergeFault>
     ensures bad_plan { (k : ℕ) → first_outside (length texts.now) (leaves plan.now) ≡ Some k → result ≡ Err (BadPlan k) }
-    ensures fault { IfErr result (IsMergeFault (length texts.now) (leaves plan.now)) }
-    ensures merged { IfOk result (λ t. IsMergeOf (length texts.now) (leaves plan.now) t.items) }
+    ensures fault { IfErr result (IsMergeFault (bytes_of texts.now) (leaves plan.now)) }
+    ensures merged { IfOk result (λ t. IsMergeOn (bytes_of texts.now) (leaves plan.now) t.items) }
 {
     merge_as::<Whole>(alloc, texts, plan)
 }

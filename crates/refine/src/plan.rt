@@ -76,7 +76,7 @@ fn join_leaves<S: Shard>(
         Plan::Node(left, right) => {
             let first = join_leaves(alloc, shards, grid, left)?;
             let second = join_leaves(alloc, shards, grid, right)?;
-            first.join(alloc, &second)
+            first.join_owned(alloc, second)
         }
     }
 }

@@ -34,6 +34,14 @@ pub trait Shard: Sized + Drop {
         ensures grid { IfOk result (λ s. grid_of s ≡ grid.now) }
         ensures map { IfOk result (λ s. map_of s ≡ map.now) };
 
+    /// `from_map` of a map that is handed over.
+    fn of_map(alloc: Global, grid: &Grid, map: FeatureMap) -> Result<Self, OutOfMemory>
+        ensures grid { IfOk result (λ s. grid_of s ≡ grid.now) }
+        ensures map { IfOk result (λ s. map_of s ≡ map) }
+    {
+        Self::from_map(alloc, grid, &map)
+    }
+
     /// A shard of the same meaning.
     fn copy(&self, alloc: Global) -> Result<Self, OutOfMemory>
         ensures grid { IfOk result (λ s. grid_of s ≡ grid_of self.now) }
@@ -45,6 +53,16 @@ pub trait Shard: Sized + Drop {
         ensures grid { IfOk result (λ s. grid_of s ≡ grid_of self.now) }
         ensures map { IfOk result (λ s. map_of s ≡ union (map_of self.now) (map_of other.now)) }
         ensures other_grid { IsErrOf result OtherGrid ↔ ¬ (grid_of self.now ≡ grid_of other.now) };
+
+    /// `join` of two shards that are handed over.
+    fn join_owned(self, alloc: Global, other: Self) -> Result<Self, JoinFault>
+        ensures joined { IfOk result (λ s. joined self other s) }
+        ensures grid { IfOk result (λ s. grid_of s ≡ grid_of self) }
+        ensures map { IfOk result (λ s. map_of s ≡ union (map_of self) (map_of other)) }
+        ensures other_grid { IsErrOf result OtherGrid ↔ ¬ (grid_of self ≡ grid_of other) }
+    {
+        self.join(alloc, &other)
+    }
 
     /// The canonical text of the shard's topology.
     fn text(&self, alloc: Global) -> Result<Vec<u8>, OutOfMemory>

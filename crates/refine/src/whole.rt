@@ -35,6 +35,10 @@ impl Shard for Whole {
         Ok(Whole { grid: *grid, map })
     }
 
+    fn of_map(_alloc: Global, grid: &Grid, map: FeatureMap) -> Result<Whole, OutOfMemory> {
+        Ok(Whole { grid: *grid, map })
+    }
+
     fn copy(&self, _alloc: Global) -> Result<Whole, OutOfMemory> {
         let map = self.map.copy()?;
         Ok(Whole {
@@ -52,6 +56,15 @@ impl Shard for Whole {
             grid: self.grid,
             map,
         })
+    }
+
+    fn join_owned(self, _alloc: Global, other: Whole) -> Result<Whole, JoinFault> {
+        let Whole { grid, map } = self;
+        if !same_grid(&grid, &other.grid) {
+            return Err(JoinFault::OtherGrid);
+        }
+        let map = map.united(other.map)?;
+        Ok(Whole { grid, map })
     }
 
     fn text(&self, alloc: Global) -> Result<Vec<u8>, OutOfMemory> {

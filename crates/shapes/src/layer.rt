@@ -46,6 +46,18 @@ impl Layer {
         Ok(Layer { name, features })
     }
 
+    // The layer with the features of another one beside its own, moved.
+    pub fn joined(self, other: Layer) -> Result<Layer, OutOfMemory>
+        ensures name { IfOk result (λ l. l.name ≡ self.name) }
+        ensures features { IfOk result (λ l. set_of l.features ≡ set.union (set_of self.features) (set_of other.features)) }
+    {
+        let features = merged(self.features, other.features)?;
+        Ok(Layer {
+            name: self.name,
+            features,
+        })
+    }
+
     // Whether each position of each feature fits the grid.
     pub fn fits(&self, grid: &Grid) -> bool
         ensures { IsTrue result ↔ AllByRecursion (λ f. ShapeFits grid.now f.shape) self.now.features.keys }
@@ -57,6 +69,30 @@ impl Layer {
         }
         true
     }
+}
+
+// The features of both sets: the fewer are moved to the others.
+fn merged(
+    these: BTreeSet<Feature>,
+    those: BTreeSet<Feature>,
+) -> Result<BTreeSet<Feature>, OutOfMemory>
+    ensures { IfOk result (λ s. set_of s ≡ set.union (set_of these) (set_of those)) }
+{
+    if these.len() < those.len() {
+        appended(those, these)
+    } else {
+        appended(these, those)
+    }
+}
+
+fn appended(
+    mut many: BTreeSet<Feature>,
+    mut few: BTreeSet<Feature>,
+) -> Result<BTreeSet<Feature>, OutOfMemory>
+    ensures { IfOk result (λ s. set_of s ≡ set.union (set_of many) (set_of few)) }
+{
+    many.append(&mut few)?;
+    Ok(many)
 }
 
 // Copies of the features of both sets, by one pass over the two.

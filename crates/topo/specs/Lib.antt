@@ -6,4 +6,3 @@ pub mod OfMap
 pub mod Points
 pub mod Inside
 pub mod Building
-pub mod Features

@@ -1,5 +1,10 @@
-use Rattle.std.proofs.Common.{◌≡◌, length}
+use Rattle.std.proofs.Common.{length}
+use Rattle.refine.specs.Merge.{bytes_of}
+use Rattle.refine.proofs.MergeLemmas.{SoFar}
 use Rattle.refine.proofs.merge.read_shards.Given as goal
 
-abbrev pub invariant-loop-number : goal.invariant-loop-number
-invariant-loop-number g l = length l.shards.items ≡ l.number
+abbrev pub invariant-loop-text : goal.invariant-loop-text
+invariant-loop-text g l = SoFar g.S.Shard.grid_of (bytes_of l.texts) (bytes_of l.left) l.number l.shards.items
+
+abbrev pub decreases-loop-text : goal.decreases-loop-text
+decreases-loop-text g l = length l.left

@@ -16,6 +16,6 @@ returns-in_ok-copy-in-Leaf-clause-map g t c =
 
 pub returns-in_ok-second-in-Node-clause-map : goal.returns-in_ok-second-in-Node-clause-map
 returns-in_ok-second-in-Node-clause-map g t c =
-    ok_is c.join.result g.S.Shard.map_of _ _ c.join.ensures.map
+    ok_is c.join_owned.result g.S.Shard.map_of _ _ c.join_owned.ensures.map
     (rw (c.in_ok-first-in-Node.ensures.map, c.in_ok-second-in-Node.ensures.map, c.in-Node.is, c.deref.ensures, c.deref-in-Node.ensures)
     (sym (union_at-append (map g.S.Shard.map_of c.args.shards.now) (leaves c.in-Node.left.value) (leaves c.in-Node.right.value))))
