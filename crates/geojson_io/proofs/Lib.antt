@@ -1,3 +1,4 @@
 pub mod Places
 pub mod Sets
 pub mod Collections
+pub mod Fitting

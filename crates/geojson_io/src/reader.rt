@@ -3,6 +3,7 @@ ghost use Rattle.std.specs.Prelude.{◌≡◌, [], ◌∷◌, map, IfOk, IfErr, 
 ghost use Rattle.serde_json.specs.View.{view};
 ghost use Rattle.faults.specs.Fault.{IsWant};
 ghost use Rattle.reading.specs.Fault.{LeastOrWant};
+ghost use Rattle.reading.specs.Fitting.{SetFits};
 ghost use Rattle.reading.specs.Parts.{member_faults, list_faults, elements};
 ghost use Rattle.reading.specs.Info.{member_or_null};
 ghost use Rattle.reading.specs.Plain.{plain, plain_form};
@@ -191,13 +192,14 @@ fn set_of(alloc: Global, features: Vec<Feature>) -> Result<BTreeSet<Feature>, Fa
 ///
 /// The root is a FeatureCollection, a Feature or a geometry other than a GeometryCollection
 /// (RFC 7946, section 3). Members that the standard does not name are ignored, and so are `bbox` and
-/// `crs`. Numbers have to be whole.
+/// `crs`. Numbers have to be whole. Each position of the features fits the grid.
 ///
 /// # Errors
 /// The least fault of the text, by path and then by number; `OutOfMemory` at the root.
 pub fn read(alloc: Global, bytes: &[u8], grid: &Grid) -> Result<BTreeSet<Feature>, Fault>
     ensures ok { OnOk result (faults_of_text grid.now bytes.now ≡ []) }
     ensures made { IfOk result (λ fs. AreFeatures (features_set fs) (features_of_text grid.now bytes.now)) }
+    ensures fits { IfOk result (λ fs. SetFits grid.now (features_set fs)) }
     ensures err { IfErr result (λ f. LeastOrWant (faults_of_text grid.now bytes.now) f) }
 {
     let features = read_text(alloc, bytes, grid)?;

@@ -3,6 +3,14 @@ use Rattle.std.specs.Prelude.{◌≡◌, ℤ}
 use Rattle.grid.specs.Place.{Transform, FitsAxis, absolute}
 use Rattle.grid.specs.declared.pos.Pos.{Pos}
 
+-- the first grid number of a position
+abbrev pub x_of : Pos → ℤ
+x_of p = p.x
+
+-- the second grid number of a position
+abbrev pub y_of : Pos → ℤ
+y_of p = p.y
+
 -- the absolute place of a position
 abbrev pub absolute_place : Transform → Pos → ℤ × ℤ
 absolute_place t p = (absolute t.x p.x, absolute t.y p.y)

@@ -1,1 +1,4 @@
 pub mod Stops
+pub mod Uses
+pub mod Neighbors
+pub mod Pairs

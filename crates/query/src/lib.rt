@@ -9,6 +9,7 @@ mod members;
 pub mod sharing;
 mod spans;
 mod stops;
+mod uses;
 
 pub use borders::mesh;
 pub use fault::QueryFault;

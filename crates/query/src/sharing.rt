@@ -1,16 +1,19 @@
 //! Which features of a layer are neighbours: those that share a segment, so an arc.
-use crate::fault::QueryFault;
-use chains::ArcRef;
-use lines::items::Items;
-use std::alloc::{AllocError, Global};
-use topo::{Body, Geom, Topology};
+ghost use Rattle.std.specs.Prelude.{◌≡◌, ◌↔◌, ◌++◌, IfOk, OnOk, Err, IsTrue, [], map as map_list, replicate};
+ghost use Rattle.std.specs.FinMap as map;
+ghost use Rattle.shapes.specs.Maps.{Layers, features_at};
+ghost use Rattle.shapes.specs.Sets as set;
+ghost use Rattle.theory.specs.Arcs.{AreSortedOnce};
+ghost use Rattle.topo.specs.OfMap.{body_of, IsOf};
+ghost use Rattle.query.specs.Neighbors.{ListsNeighbors};
+ghost use Rattle.query.specs.Pairs.{pairs_behind, pairs_among, pair_cmp, with_other, with_others};
+ghost use Rattle.query.specs.Uses.{bodies_uses, use_cmp};
+ghost use Rattle.query.specs.declared.fault.QueryFault.TheVariants.{NoLayer as MissingLayer};
 
-/// That the feature at a place uses an arc.
-#[derive(Clone, Copy, PartialEq, Eq, PartialOrd, Ord, Debug)]
-struct Use {
-    arc: usize,
-    place: usize,
-}
+use crate::fault::QueryFault;
+use crate::uses::{Use, note_body};
+use std::alloc::{AllocError, Global};
+use topo::{Geom, Topology};
 
 /// Two places whose features share an arc.
 #[derive(Clone, Copy, PartialEq, Eq, PartialOrd, Ord, Debug)]
@@ -19,60 +22,29 @@ struct Pair {
     other: usize,
 }
 
-fn note_refs(uses: &mut Vec<Use>, place: usize, refs: &[ArcRef]) -> Result<(), AllocError> {
-    for used in refs {
-        uses.push(Use {
-            arc: used.arc,
-            place,
-        })?;
-    }
-    Ok(())
-}
-
-fn note_lists(
-    uses: &mut Vec<Use>,
-    place: usize,
-    lists: &[Items<ArcRef>],
-) -> Result<(), AllocError> {
-    for refs in lists {
-        note_refs(uses, place, refs.as_slice())?;
-    }
-    Ok(())
-}
-
-fn note_polygons(
-    uses: &mut Vec<Use>,
-    place: usize,
-    polygons: &[Items<Items<ArcRef>>],
-) -> Result<(), AllocError> {
-    for lists in polygons {
-        note_lists(uses, place, lists.as_slice())?;
-    }
-    Ok(())
-}
-
-fn note_body(uses: &mut Vec<Use>, place: usize, body: &Body) -> Result<(), AllocError> {
-    match body {
-        Body::Line(refs) => note_refs(uses, place, refs.as_slice()),
-        Body::MultiLine(lists) | Body::Polygon(lists) => note_lists(uses, place, lists.as_slice()),
-        Body::MultiPolygon(polygons) => note_polygons(uses, place, polygons.as_slice()),
-        _ => Ok(()),
-    }
-}
-
-/// Which features use which arc, by arcs and then by places, each use once.
-fn uses_of(alloc: Global, geometries: &[Geom]) -> Result<Vec<Use>, AllocError> {
+/// Which features use which arc, place by place.
+fn all_uses(alloc: Global, geometries: &[Geom]) -> Result<Vec<Use>, AllocError>
+    ensures { IfOk result (λ v. v.items ≡ bodies_uses 0 (map_list (λ g. body_of g.body) geometries.now)) }
+{
     let mut uses = Vec::new(alloc);
-    for (place, geometry) in geometries.iter().enumerate() {
-        note_body(&mut uses, place, &geometry.body)?;
+    for place in 0..geometries.len() {
+        note_body(&mut uses, place, &geometries[place].body)?;
     }
-    uses.sort_unstable();
-    uses.dedup();
     Ok(uses)
 }
 
+/// Sorts uses by arcs and then by places, and keeps each once.
+fn sort_uses(uses: &mut Vec<Use>)
+    ensures { AreSortedOnce use_cmp uses.old.items uses.new.items }
+{
+    uses.sort_unstable();
+    uses.dedup();
+}
+
 /// Pairs a use with the others of its arc, which stand behind it.
-fn note_pairs(pairs: &mut Vec<Pair>, user: Use, behind: &[Use]) -> Result<(), AllocError> {
+fn note_pairs(pairs: &mut Vec<Pair>, user: Use, behind: &[Use]) -> Result<(), AllocError>
+    ensures { OnOk result (pairs.new.items ≡ pairs.old.items ++ pairs_behind user behind.now) }
+{
     for other in behind {
         if other.arc != user.arc {
             return Ok(());
@@ -89,20 +61,30 @@ fn note_pairs(pairs: &mut Vec<Pair>, user: Use, behind: &[Use]) -> Result<(), Al
     Ok(())
 }
 
-/// The pairs of places whose features share an arc, in order, each once.
-fn pairs_of(alloc: Global, uses: &[Use]) -> Result<Vec<Pair>, AllocError> {
+/// The pairs of places whose features share an arc.
+fn all_pairs(alloc: Global, uses: &[Use]) -> Result<Vec<Pair>, AllocError>
+    ensures { IfOk result (λ v. v.items ≡ pairs_among uses.now) }
+{
     let mut pairs = Vec::new(alloc);
     let mut left = uses;
     while let Some((user, behind)) = left.split_first() {
         note_pairs(&mut pairs, *user, behind)?;
         left = behind;
     }
-    pairs.sort_unstable();
-    pairs.dedup();
     Ok(pairs)
 }
 
-fn empty_lists(alloc: Global, count: usize) -> Result<Vec<Vec<usize>>, AllocError> {
+/// Sorts pairs by places and then by the other places, and keeps each once.
+fn sort_pairs(pairs: &mut Vec<Pair>)
+    ensures { AreSortedOnce pair_cmp pairs.old.items pairs.new.items }
+{
+    pairs.sort_unstable();
+    pairs.dedup();
+}
+
+fn empty_lists(alloc: Global, count: usize) -> Result<Vec<Vec<usize>>, AllocError>
+    ensures { IfOk result (λ v. map_list (λ l. l.items) v.items ≡ replicate count []) }
+{
     let mut lists = Vec::with_capacity(alloc, count)?;
     for _ in 0..count {
         lists.push(Vec::new(alloc))?;
@@ -110,11 +92,25 @@ fn empty_lists(alloc: Global, count: usize) -> Result<Vec<Vec<usize>>, AllocErro
     Ok(lists)
 }
 
-fn note_other(lists: &mut Vec<Vec<usize>>, pair: Pair) -> Result<(), AllocError> {
+/// Puts the other place of a pair at the end of the list of its place.
+fn note_other(lists: &mut Vec<Vec<usize>>, pair: Pair) -> Result<(), AllocError>
+    ensures { OnOk result (map_list (λ l. l.items) lists.new.items ≡ with_other (map_list (λ l. l.items) lists.old.items) pair) }
+{
     match lists.get_mut(pair.place) {
         Some(list) => Ok(list.push(pair.other)?),
         None => Ok(()),
     }
+}
+
+/// For each of so many places the other places of its pairs, in the order of the pairs.
+fn lists_of(alloc: Global, count: usize, pairs: &[Pair]) -> Result<Vec<Vec<usize>>, AllocError>
+    ensures { IfOk result (λ v. map_list (λ l. l.items) v.items ≡ with_others (replicate count []) pairs.now) }
+{
+    let mut lists = empty_lists(alloc, count)?;
+    for pair in pairs {
+        note_other(&mut lists, *pair)?;
+    }
+    Ok(lists)
 }
 
 /// For each feature of a layer, in order, the places of the other features of the layer that share a
@@ -126,15 +122,16 @@ pub fn neighbors(
     alloc: Global,
     topology: &Topology,
     layer: &str,
-) -> Result<Vec<Vec<usize>>, QueryFault> {
+) -> Result<Vec<Vec<usize>>, QueryFault>
+    ensures layer { (m : Layers) → IsOf m topology.now → (result ≡ Err MissingLayer) ↔ (¬ IsTrue (map.contains_key m layer.now)) }
+    ensures neighbors { IfOk result (λ lists. (m : Layers) → IsOf m topology.now → ListsNeighbors (set.items (features_at m layer.now)) (map_list (λ l. l.items) lists.items)) }
+{
     let Some(geometries) = topology.geometries(layer) else {
         return Err(QueryFault::NoLayer);
     };
-    let uses = uses_of(alloc, geometries)?;
-    let pairs = pairs_of(alloc, &uses)?;
-    let mut lists = empty_lists(alloc, geometries.len())?;
-    for pair in &pairs {
-        note_other(&mut lists, *pair)?;
-    }
-    Ok(lists)
+    let mut uses = all_uses(alloc, geometries)?;
+    sort_uses(&mut uses);
+    let mut pairs = all_pairs(alloc, &uses)?;
+    sort_pairs(&mut pairs);
+    Ok(lists_of(alloc, geometries.len(), &pairs)?)
 }

@@ -11,11 +11,11 @@ use Rattle.theory.specs.Lists.{Has}
 use Rattle.shapes.specs.Maps.{Layers, Features, features_at}
 use Rattle.shapes.specs.Sets as set
 
-left : (a b : Bool) → T (a && b) → T a
+pub left : (a b : Bool) → T (a && b) → T a
 left true b h = tt
 left false b h = absurd h
 
-right : (a b : Bool) → T (a && b) → T b
+pub right : (a b : Bool) → T (a && b) → T b
 right true b h = h
 right false b h = absurd h
 
@@ -29,7 +29,7 @@ apart R o k q h = go (R k q) (R q k) h (o.antisymm q k)
 
 -- the value that stands at each key of a sorted list of entries
 module _ {K X : Type 0} (R : K → K → Ordering) (o : IsTotalOrder R) where
-  above : (k : K) (es : List (K × X)) (e : K × X) → T (map.Entries.below_all R k es) → Has e es → T (is_lt (R k e.0))
+  pub above : (k : K) (es : List (K × X)) (e : K × X) → T (map.Entries.below_all R k es) → Has e es → T (is_lt (R k e.0))
   above k [] e b h = absurd h
   above k (d ∷ es) e b (inl p) = subst (λ w. T (is_lt (R k w.0))) (sym p) (left (is_lt (R k d.0)) (map.Entries.below_all R k es) b)
   above k (d ∷ es) e b (inr h) = above k es e (right (is_lt (R k d.0)) (map.Entries.below_all R k es) b) h

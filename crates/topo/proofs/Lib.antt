@@ -10,3 +10,8 @@ pub mod AtEntry
 pub mod BuiltParts
 pub mod TopologyLaws
 pub mod LayersNamed
+pub mod Pairs
+pub mod Filling
+pub mod Stitched
+pub mod Shapes
+pub mod Expanded

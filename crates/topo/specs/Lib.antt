@@ -6,3 +6,4 @@ pub mod OfMap
 pub mod Points
 pub mod Inside
 pub mod Building
+pub mod Features

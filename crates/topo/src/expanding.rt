@@ -1,5 +1,19 @@
 //! The map that a topology holds: its features, stitched from the arcs.
-use crate::geom::{Body, Geom};
+ghost use Rattle.std.specs.Prelude.{◌≡◌, IfOk, IsTrue, List, OnOk};
+ghost use Rattle.std.specs.FinMap.{contains_key};
+ghost use Rattle.lines.specs.declared.line.Line as the_line;
+ghost use Rattle.lines.specs.declared.ring.Ring as the_ring;
+ghost use Rattle.lines.specs.declared.shape_fault.ShapeFault.TheVariants.{OutOfMemory as WantOfMemory};
+ghost use Rattle.shapes.specs.Maps.{Layers, with_feature, with_layer};
+ghost use Rattle.shapes.specs.Parts.{spelled_text};
+ghost use Rattle.shapes.specs.declared.feature.Feature as features;
+ghost use Rattle.shapes.specs.declared.shape.Shape as shapes;
+ghost use Rattle.theory.specs.Lists.{Pairwise};
+ghost use Rattle.topo.specs.Features.{AreFeaturesOf, IsFeatureOf, IsLineOf, IsRingOf, IsShapeOf, with_features};
+ghost use Rattle.topo.specs.OfMap.{IsOf};
+ghost use Rattle.topo.specs.Walked.{walked};
+
+use crate::geom::{Body, Geom, copy_positions};
 use crate::topology::{Layer, Topology};
 use chains::table::ArcRef;
 use faults::OutOfMemory;
@@ -7,22 +21,40 @@ use grid::Pos;
 use lines::items::Items;
 use lines::line::Line;
 use lines::ring::Ring;
+use lines::shape_fault::ShapeFault;
 use shapes::feature::Feature;
 use shapes::feature_map::FeatureMap;
+use shapes::insert_fault::InsertFault;
 use shapes::shape::Shape;
 use std::alloc::Global;
 
+/// The only fault of positions that are those of a line or a ring.
+fn want_of_memory(fault: ShapeFault) -> OutOfMemory
+    requires { fault ≡ WantOfMemory }
+{
+    match fault {
+        ShapeFault::OutOfMemory => OutOfMemory,
+        _ => unreachable!(),
+    }
+}
+
 /// Puts a feature into a layer that is there.
-fn put(map: &mut FeatureMap, name: &str, feature: Feature) -> Result<(), OutOfMemory> {
+fn put(map: &mut FeatureMap, name: &str, feature: Feature) -> Result<(), OutOfMemory>
+    requires { IsTrue (contains_key map.old name.now) }
+    ensures { OnOk result (map.new ≡ with_feature map.old name.now feature) }
+{
     match map.insert(name, feature) {
         Ok(_) => Ok(()),
-        Err(_) => Err(OutOfMemory),
+        Err(InsertFault::OutOfMemory) => Err(OutOfMemory),
+        Err(InsertFault::NoLayer) => unreachable!(),
     }
 }
 
 impl Topology {
     /// The positions of a list of arcs, in a vector of their own.
-    fn stitched(&self, alloc: Global, refs: &[ArcRef]) -> Result<Vec<Pos>, OutOfMemory> {
+    fn stitched(&self, alloc: Global, refs: &[ArcRef]) -> Result<Vec<Pos>, OutOfMemory>
+        ensures { IfOk result (λ v. v.items ≡ walked self.now.arcs.arcs refs.now) }
+    {
         let mut positions = Vec::new(alloc);
         for p in self.walk(refs) {
             positions.push(*p)?;
@@ -30,21 +62,30 @@ impl Topology {
         Ok(positions)
     }
 
-    fn line(&self, alloc: Global, refs: &[ArcRef]) -> Result<Line, OutOfMemory> {
+    fn line(&self, alloc: Global, refs: &[ArcRef]) -> Result<Line, OutOfMemory>
+        requires { (l : the_line.Line) × IsLineOf self.now.arcs.arcs l refs.now }
+        ensures { IfOk result (λ made. (l : the_line.Line) → IsLineOf self.now.arcs.arcs l refs.now → made ≡ l) }
+    {
         match Line::from_positions(alloc, self.stitched(alloc, refs)?) {
             Ok(line) => Ok(line),
-            Err(_) => Err(OutOfMemory),
+            Err(fault) => Err(want_of_memory(fault)),
         }
     }
 
-    fn ring(&self, alloc: Global, refs: &[ArcRef]) -> Result<Ring, OutOfMemory> {
+    fn ring(&self, alloc: Global, refs: &[ArcRef]) -> Result<Ring, OutOfMemory>
+        requires { (r : the_ring.Ring) × IsRingOf self.now.arcs.arcs r refs.now }
+        ensures { IfOk result (λ made. (r : the_ring.Ring) → IsRingOf self.now.arcs.arcs r refs.now → made ≡ r) }
+    {
         match Ring::from_closed(alloc, self.stitched(alloc, refs)?) {
             Ok(ring) => Ok(ring),
-            Err(_) => Err(OutOfMemory),
+            Err(fault) => Err(want_of_memory(fault)),
         }
     }
 
-    fn lines(&self, alloc: Global, lists: &[Items<ArcRef>]) -> Result<Items<Line>, OutOfMemory> {
+    fn lines(&self, alloc: Global, lists: &[Items<ArcRef>]) -> Result<Items<Line>, OutOfMemory>
+        requires { (ls : List the_line.Line) × Pairwise (IsLineOf self.now.arcs.arcs) ls lists.now }
+        ensures { IfOk result (λ made. (ls : List the_line.Line) → Pairwise (IsLineOf self.now.arcs.arcs) ls lists.now → made ≡ ls) }
+    {
         let mut lines = Vec::with_capacity(alloc, lists.len())?;
         for refs in lists {
             lines.push(self.line(alloc, refs.as_slice())?)?;
@@ -52,7 +93,10 @@ impl Topology {
         Ok(Items::from_vec(lines))
     }
 
-    fn rings(&self, alloc: Global, lists: &[Items<ArcRef>]) -> Result<Items<Ring>, OutOfMemory> {
+    fn rings(&self, alloc: Global, lists: &[Items<ArcRef>]) -> Result<Items<Ring>, OutOfMemory>
+        requires { (rs : List the_ring.Ring) × Pairwise (IsRingOf self.now.arcs.arcs) rs lists.now }
+        ensures { IfOk result (λ made. (rs : List the_ring.Ring) → Pairwise (IsRingOf self.now.arcs.arcs) rs lists.now → made ≡ rs) }
+    {
         let mut rings = Vec::with_capacity(alloc, lists.len())?;
         for refs in lists {
             rings.push(self.ring(alloc, refs.as_slice())?)?;
@@ -64,7 +108,10 @@ impl Topology {
         &self,
         alloc: Global,
         polygons: &[Items<Items<ArcRef>>],
-    ) -> Result<Items<Items<Ring>>, OutOfMemory> {
+    ) -> Result<Items<Items<Ring>>, OutOfMemory>
+        requires { (ps : List (List the_ring.Ring)) × Pairwise (Pairwise (IsRingOf self.now.arcs.arcs)) ps polygons.now }
+        ensures { IfOk result (λ made. (ps : List (List the_ring.Ring)) → Pairwise (Pairwise (IsRingOf self.now.arcs.arcs)) ps polygons.now → made ≡ ps) }
+    {
         let mut made = Vec::with_capacity(alloc, polygons.len())?;
         for lists in polygons {
             made.push(self.rings(alloc, lists.as_slice())?)?;
@@ -72,13 +119,14 @@ impl Topology {
         Ok(Items::from_vec(made))
     }
 
-    fn shape(&self, alloc: Global, body: &Body) -> Result<Shape, OutOfMemory> {
+    fn shape(&self, alloc: Global, body: &Body) -> Result<Shape, OutOfMemory>
+        requires { (s : shapes.Shape) × IsShapeOf self.now.arcs.arcs s body.now }
+        ensures { IfOk result (λ made. (s : shapes.Shape) → IsShapeOf self.now.arcs.arcs s body.now → made ≡ s) }
+    {
         match body {
             Body::Null => Ok(Shape::Null),
             Body::Point(p) => Ok(Shape::Point(*p)),
-            Body::MultiPoint(ps) => Ok(Shape::MultiPoint(Items::from_vec(
-                ps.as_slice().to_vec(alloc)?,
-            ))),
+            Body::MultiPoint(ps) => Ok(Shape::MultiPoint(copy_positions(alloc, ps.as_slice())?)),
             Body::Line(refs) => Ok(Shape::Line(self.line(alloc, refs.as_slice())?)),
             Body::MultiLine(lists) => Ok(Shape::MultiLine(self.lines(alloc, lists.as_slice())?)),
             Body::Polygon(lists) => Ok(Shape::Polygon(self.rings(alloc, lists.as_slice())?)),
@@ -89,7 +137,15 @@ impl Topology {
         }
     }
 
-    fn feature(&self, alloc: Global, geometry: &Geom) -> Result<Feature, OutOfMemory> {
+    /// The feature that a geometry of this topology stitches to: the geometry's id and properties, and
+    /// its lines and rings put together from the arcs (TopoJSON section 2.1.4).
+    ///
+    /// # Errors
+    /// Where memory is refused.
+    pub fn feature(&self, alloc: Global, geometry: &Geom) -> Result<Feature, OutOfMemory>
+        requires { (f : features.Feature) × IsFeatureOf self.now.arcs.arcs f geometry.now }
+        ensures { IfOk result (λ made. (f : features.Feature) → IsFeatureOf self.now.arcs.arcs f geometry.now → made ≡ f) }
+    {
         let id = geometry.id.copy(alloc)?;
         let props = geometry.props.copy(alloc)?;
         let shape = self.shape(alloc, &geometry.body)?;
@@ -101,7 +157,11 @@ impl Topology {
         alloc: Global,
         map: &mut FeatureMap,
         layer: &Layer,
-    ) -> Result<(), OutOfMemory> {
+    ) -> Result<(), OutOfMemory>
+        requires { (fs : List features.Feature) × AreFeaturesOf self.now.arcs.arcs fs layer.now.geometries }
+        ensures { OnOk result ((fs : List features.Feature) → AreFeaturesOf self.now.arcs.arcs fs layer.now.geometries
+            → map.new ≡ with_features (with_layer map.old (spelled_text layer.now.name)) (spelled_text layer.now.name) fs) }
+    {
         let name = layer.name().text();
         map.add_layer(name)?;
         for geometry in layer.geometries() {
@@ -111,13 +171,16 @@ impl Topology {
         Ok(())
     }
 
-    /// The map that the topology holds: under each layer's name the features that stitching its
+    /// The map that the topology is of: under each layer's name the features that stitching its
     /// geometries gives (TopoJSON section 2.1.4). For a topology that was built it is the map it was
     /// built from.
     ///
     /// # Errors
     /// Where memory is refused.
-    pub fn expand(&self, alloc: Global) -> Result<FeatureMap, OutOfMemory> {
+    pub fn expand(&self, alloc: Global) -> Result<FeatureMap, OutOfMemory>
+        ensures of_map { IfOk result (λ made. IsOf made self.now) }
+        ensures only { IfOk result (λ made. (m : Layers) → IsOf m self.now → made ≡ m) }
+    {
         let mut map = FeatureMap::new(alloc);
         for layer in self.layers() {
             self.put_layer(alloc, &mut map, layer)?;

@@ -1,4 +1,3 @@
-use Rattle.std.proofs.Common.{codes}
 use Rattle.sinks.proofs.Writes.{part_more}
 use Rattle.sinks.proofs.Left.{then_err}
 use Rattle.sinks.proofs.written.write_after_comma.Goals as goal

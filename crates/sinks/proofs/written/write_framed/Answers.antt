@@ -1,6 +1,5 @@
-use Rattle.std.proofs.Common.{rules, ◌≡◌, ℕ, List, [], ◌∷◌, ◌++◌}
+use Rattle.std.proofs.Common.{rules, ◌++◌}
 use Rattle.std.specs.Iterator.{Drains}
-use Rattle.std.specs.Result.{OnOk, OnErr}
 use Rattle.std.proofs.lemmas.Result.{on_ok_weaker, on_err_weaker, IfOk-at_ok, IfErr-at_err}
 use Rattle.sinks.specs.Texts.{joined}
 use Rattle.sinks.specs.Writes.{TookAll, TookPart}

@@ -1,0 +1,125 @@
+-- The lists of neighbours, from the uses and the pairs.
+use Rattle.std.proofs.Common.{◌≡◌, ◌↔◌, ◌<◌, ◌+◌, ℕ, zero, suc, List, [], ◌∷◌, length, get_or, map, replicate, refl, sym, ap, ◌∙◌, subst, Some, slice_get, arith}
+use Rattle.std.specs.List.Sorted.{IsStrictlyIncreasing}
+use Rattle.grid.specs.declared.pos.Pos.{Pos}
+use Rattle.lines.specs.Turned.{position_cmp}
+use Rattle.shapes.specs.Maps.{Layers, features_at}
+use Rattle.shapes.specs.Sets as set
+use Rattle.shapes.specs.declared.feature.Feature.{Feature}
+use Rattle.chains.specs.Seen as seen_by
+use Rattle.chains.specs.Seen.{geometry_of}
+use Rattle.theory.specs.Arcs.{AreSortedOnce}
+use Rattle.theory.specs.Geometry.{JunctionOf}
+use Rattle.theory.specs.Lists.{Has}
+use Rattle.theory.specs.Topology.{Body, IsGeometryOf}
+use Rattle.theory.specs.Users.{UsesArc}
+use Rattle.theory.proofs.ListsOfLists.{get_has}
+use Rattle.topo.specs.OfMap.{IsOf, body_of, item_of}
+use Rattle.topo.specs.Parts.{IsOfLayerNamed, TopologyParts}
+use Rattle.topo.specs.declared.geom.Geom.{Geom}
+use Rattle.query.specs.Neighbors.{AreNeighbors, ListsNeighbors}
+use Rattle.query.specs.Pairs.{pairs_among, pair_cmp, with_others}
+use Rattle.query.specs.Uses.{bodies_uses, use_cmp}
+use Rattle.query.specs.declared.uses.Use.{Use}
+use Rattle.query.specs.declared.sharing.Pair.{Pair}
+use Rattle.query.proofs.LayerFeatures.{pair_at, pair_back, pair_length, named_features, layer_form, features_share, OfFeature, OfFeatures}
+use Rattle.query.proofs.Others.{others_at, lists_hold, lists_length, other_paired, paired_other, others_increase}
+use Rattle.query.proofs.Pairing.{among_from, has_among, paired}
+use Rattle.query.proofs.UsesOfBodies.{bodies_from, has_bodies, use_at}
+
+get_there : (ls : List (List ℕ)) (i : ℕ) (l : List ℕ) → slice_get ls i ≡ Some l → (i < length ls) × (get_or ls i [] ≡ l)
+get_there [] i l e = absurd cc
+get_there (k ∷ ls) zero l e = let same : k ≡ l = cc in (omega arith, same)
+get_there (k ∷ ls) (suc i) l e = let t = get_there ls i l e in (omega (arith, t.0), t.1)
+
+body_at : (gs : List Geom) (i : ℕ) (b : Body Pos) → slice_get (map (λ g. body_of g.body) gs) i ≡ Some b → (g : Geom) × (slice_get gs i ≡ Some g) × (b ≡ body_of g.body)
+body_at [] i b e = absurd cc
+body_at (g ∷ gs) zero b e = let same : body_of g.body ≡ b = cc in (g, refl, sym same)
+body_at (g ∷ gs) (suc i) b e = body_at gs i b e
+
+at_body : (gs : List Geom) (i : ℕ) (g : Geom) → slice_get gs i ≡ Some g → slice_get (map (λ g. body_of g.body) gs) i ≡ Some (body_of g.body)
+at_body [] i g e = absurd cc
+at_body (h ∷ gs) zero g e = let same : h ≡ g = cc in ap (λ w. Some (body_of w.body)) same
+at_body (h ∷ gs) (suc i) g e = at_body gs i g e
+
+module _ (m : Layers) (t : TopologyParts) (of : IsOf m t) (name : List ℕ) (gs : List Geom) (under : IsOfLayerNamed t.layers name gs) where
+  abbrev features : List Feature
+  features = set.items (features_at m name)
+
+  abbrev OfOne : Feature → Geom → Type 0
+  OfOne f g = OfFeature m t of f g
+
+  all : OfFeatures m t of features gs
+  all = (named_features m t of name gs under).1
+
+  feature_at : (i : ℕ) (g : Geom) → slice_get gs i ≡ Some g → (f : Feature) × (slice_get features i ≡ Some f) × OfOne f g
+  feature_at i g e = pair_at (IsGeometryOf position_cmp (JunctionOf (geometry_of m)) t.arcs.arcs) seen_by.item_of item_of features gs all i g e
+
+  geometry_at : (i : ℕ) (f : Feature) → slice_get features i ≡ Some f → (g : Geom) × (slice_get gs i ≡ Some g) × OfOne f g
+  geometry_at i f e = pair_back (IsGeometryOf position_cmp (JunctionOf (geometry_of m)) t.arcs.arcs) seen_by.item_of item_of features gs all i f e
+
+  -- the feature at the place of a use uses its arc
+  user : (u : Use) → Has u (bodies_uses 0 (map (λ g. body_of g.body) gs)) →
+      (f : Feature) × (g : Geom) × (slice_get features u.place ≡ Some f) × OfOne f g × UsesArc u.arc (body_of g.body)
+  user u h =
+      let (n, b, at, is, uses) = bodies_from (map (λ g. body_of g.body) gs) 0 u h in
+      let (g, there, same) = body_at gs n b at in
+      let (f, here, o) = feature_at n g there in
+      let place : u.place ≡ n = omega (arith, is) in
+      (f, g, subst (λ k. slice_get features k ≡ Some f) (sym place) here, o, subst (λ w. UsesArc u.arc w) same uses)
+
+  used_at : (i k : ℕ) (g : Geom) → slice_get gs i ≡ Some g → UsesArc k (body_of g.body) → Has (use_at k i) (bodies_uses 0 (map (λ g. body_of g.body) gs))
+  used_at i k g at uses =
+      let e : 0 + i ≡ i = omega arith in
+      subst (λ n. Has (use_at k n) (bodies_uses 0 (map (λ g. body_of g.body) gs))) e
+      (has_bodies (map (λ g. body_of g.body) gs) 0 i k (body_of g.body) (at_body gs i g at) uses)
+
+  module _ (us : List Use) (ps : List Pair) (used : AreSortedOnce use_cmp (bodies_uses 0 (map (λ g. body_of g.body) gs)) us)
+      (pairs : AreSortedOnce pair_cmp (pairs_among us) ps) where
+    neighbors_from : (i j : ℕ) → Has j (others_at i ps) → AreNeighbors features i j
+    neighbors_from i j h =
+        let (p, hp, pi, pj) = other_paired i j ps h in
+        let (u, v, hu, hv, arc, pu, pv, n) = among_from us used.ascends p (pairs.only p hp) in
+        let (f, g, at, o, uses) = user u (used.only u hu) in
+        let (f', g', at', o', uses') = user v (used.only v hv) in
+        let contained = (named_features m t of name gs under).0 in
+        let key = features_share m t of f f' g g' (layer_form m name contained f (get_has features u.place f at)) (layer_form m name contained f' (get_has features v.place f' at')) o o' in
+        record {
+          apart = λ z. n (pi ∙ z ∙ sym pj);
+          one = f;
+          other = f';
+          at = subst (λ k. slice_get features k ≡ Some f) (sym pu ∙ pi) at;
+          beside = subst (λ k. slice_get features k ≡ Some f') (sym pv ∙ pj) at';
+          share = key.1 (u.arc, uses, subst (λ k. UsesArc k (body_of g'.body)) (sym arc) uses');
+        }
+
+    from_neighbors : (i j : ℕ) → AreNeighbors features i j → Has j (others_at i ps)
+    from_neighbors i j r =
+        let (g, at, o) = geometry_at i r.one r.at in
+        let (g', at', o') = geometry_at j r.other r.beside in
+        let contained = (named_features m t of name gs under).0 in
+        let key = features_share m t of r.one r.other g g' (layer_form m name contained r.one (get_has features i r.one r.at))
+        (layer_form m name contained r.other (get_has features j r.other r.beside)) o o' in
+        let (k, uses, uses') = key.0 r.share in
+        let hu = used.there (use_at k i) (used_at i k g at uses) in
+        let hv = used.there (use_at k j) (used_at j k g' at' uses') in
+        paired_other i j ps (paired (use_at k i) (use_at k j))
+        (pairs.there (paired (use_at k i) (use_at k j)) (has_among us used.ascends (use_at k i) (use_at k j) hu hv refl r.apart)) refl refl
+
+    pub lists_neighbors : (lists : List (List ℕ)) → lists ≡ with_others (replicate (length gs) []) ps → ListsNeighbors features lists
+    lists_neighbors lists is = record {
+      each = count ∙ sym (pair_length (IsGeometryOf position_cmp (JunctionOf (geometry_of m)) t.arcs.arcs) seen_by.item_of item_of features gs all);
+      ascend = λ i js e. subst IsStrictlyIncreasing (sym (held i js e)) (others_increase i ps pairs.ascends);
+      exact = λ i js e j. (
+        (λ h. neighbors_from i j (subst (λ w. Has j w) (held i js e) h)),
+        (λ r. subst (λ w. Has j w) (sym (held i js e)) (from_neighbors i j r)),
+      );
+    }
+      where
+        count : length lists ≡ length gs
+        count = ap length is ∙ lists_length (length gs) ps
+
+        held : (i : ℕ) (js : List ℕ) → slice_get lists i ≡ Some js → js ≡ others_at i ps
+        held i js e =
+            let s = get_there lists i js e in
+            sym s.1 ∙ ap (λ w. get_or w i []) is ∙ lists_hold (length gs) ps i (subst (λ n. i < n) count s.0)

@@ -1,0 +1,70 @@
+-- The orders of uses and of pairs.
+use Rattle.std.proofs.Common.{◌≡◌, ◌<◌, ◌≤◌, ℕ, refl, ap, rules, arith}
+use Rattle.std.specs.Cmp.{IsTotalOrder, then_total, on_total, nat_cmp_total, ranks}
+use Rattle.std.specs.FinMap.{IsAntisymmetric, nat_cmp-IsAntisymmetric}
+use Rattle.std.specs.Ordering.{eq_by_cmp, nat_cmp, ordering_then, MatchOrdering}
+use Rattle.std.specs.declared.cmp.Ordering.{Ordering}
+use Rattle.std.specs.declared.cmp.Ordering.TheVariants.{Less, Equal, Greater}
+use Rattle.lines.proofs.Positions.{then_equal}
+use Rattle.query.specs.declared.uses.Use.{Use}
+use Rattle.query.specs.declared.sharing.Pair.{Pair}
+use Rattle.query.specs.contracts.uses.UsePartialEq.TheImpl as use_eq
+use Rattle.query.specs.contracts.sharing.PairPartialEq.TheImpl as pair_eq
+use Rattle.query.specs.Uses.{use_cmp}
+use Rattle.query.specs.Pairs.{pair_cmp}
+
+pub use_total : IsTotalOrder use_cmp
+use_total = then_total (on_total (λ (u : Use). u.arc) nat_cmp_total) (on_total (λ (u : Use). u.place) nat_cmp_total)
+
+pub pair_total : IsTotalOrder pair_cmp
+pair_total = then_total (on_total (λ (p : Pair). p.place) nat_cmp_total) (on_total (λ (p : Pair). p.other) nat_cmp_total)
+
+pub use_same : IsAntisymmetric use_cmp
+use_same u v e =
+    let h = then_equal (nat_cmp u.arc v.arc) (nat_cmp u.place v.place) e in
+    let a : u.arc ≡ v.arc = nat_cmp-IsAntisymmetric u.arc v.arc h.0 in
+    let b : u.place ≡ v.place = nat_cmp-IsAntisymmetric u.place v.place h.1 in
+    λ i. record { arc = a i; place = b i }
+
+pub pair_same : IsAntisymmetric pair_cmp
+pair_same p q e =
+    let h = then_equal (nat_cmp p.place q.place) (nat_cmp p.other q.other) e in
+    let a : p.place ≡ q.place = nat_cmp-IsAntisymmetric p.place q.place h.0 in
+    let b : p.other ≡ q.other = nat_cmp-IsAntisymmetric p.other q.other h.1 in
+    λ i. record { place = a i; other = b i }
+
+-- the derived tests are those of the orders
+pub use_ties : (u v : Use) → use_eq.eq-value.it u v ≡ eq_by_cmp use_cmp u v
+use_ties u v = search rules
+
+pub pair_ties : (p q : Pair) → pair_eq.eq-value.it p q ≡ eq_by_cmp pair_cmp p q
+pair_ties p q = search rules
+
+first_most : (a b : ℕ) (r : Ordering) → ordering_then (nat_cmp a b) r ≡ Less → a ≤ b
+first_most a b r e = go (nat_cmp a b) (ranks a b) e
+  where
+    go : (c : Ordering) → MatchOrdering c (a < b) (a ≡ b) (b < a) → ordering_then c r ≡ Less → a ≤ b
+    go Less h k = omega (arith, h)
+    go Equal h k = omega (arith, h)
+    go Greater h k = cc
+
+second_less : (a b c d : ℕ) → a ≡ b → ordering_then (nat_cmp a b) (nat_cmp c d) ≡ Less → c < d
+second_less a b c d f e = go (nat_cmp a b) (ranks a b) (nat_cmp c d) (ranks c d) e
+  where
+    go : (r : Ordering) → MatchOrdering r (a < b) (a ≡ b) (b < a) → (s : Ordering) → MatchOrdering s (c < d) (c ≡ d) (d < c) → ordering_then r s ≡ Less → c < d
+    go Less h s k q = absurd (omega (arith, h, f))
+    go Equal h Less k q = k
+    go Equal h Equal k q = cc
+    go Equal h Greater k q = cc
+    go Greater h s k q = absurd (omega (arith, h, f))
+
+-- arcs don't fall along uses in order, and places rise along the uses of one arc
+pub arcs_rise : (u v : Use) → use_cmp u v ≡ Less → u.arc ≤ v.arc
+arcs_rise u v e = first_most u.arc v.arc (nat_cmp u.place v.place) e
+
+pub places_rise : (u v : Use) → u.arc ≡ v.arc → use_cmp u v ≡ Less → u.place < v.place
+places_rise u v f e = second_less u.arc v.arc u.place v.place f e
+
+-- the other places rise along the pairs of one place
+pub others_rise : (p q : Pair) → p.place ≡ q.place → pair_cmp p q ≡ Less → p.other < q.other
+others_rise p q f e = second_less p.place q.place p.other q.other f e

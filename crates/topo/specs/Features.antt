@@ -1,0 +1,50 @@
+-- The features that geometries stitch to (TopoJSON section 2.1.4).
+use Rattle.std.specs.Prelude.{◌≡◌, ℕ, List, [], ◌∷◌}
+use Rattle.grid.specs.declared.pos.Pos.{Pos}
+use Rattle.lines.specs.Seen.{positions_of, vertices_of}
+use Rattle.lines.specs.declared.line.Line as the_line
+use Rattle.lines.specs.declared.ring.Ring as the_ring
+use Rattle.shapes.specs.Maps.{Layers, with_feature}
+use Rattle.shapes.specs.declared.feature.Feature.{Feature}
+use Rattle.shapes.specs.declared.shape.Shape as shapes
+use Rattle.shapes.specs.declared.shape.Shape.TheVariants as of
+use Rattle.theory.specs.ArcNumbers.{ArcRef, StitchTo}
+use Rattle.theory.specs.LinesAndRings.{IsRotation, closed}
+use Rattle.theory.specs.Lists.{Pairwise}
+use Rattle.topo.specs.declared.geom.Body as bodies
+use Rattle.topo.specs.declared.geom.Body.TheVariants as to
+use Rattle.topo.specs.declared.geom.Geom.{Geom}
+
+-- the used arcs stitch to the line
+abbrev pub IsLineOf : List (List Pos) → the_line.Line → List ArcRef → Type 0
+IsLineOf arcs l used = StitchTo arcs used (positions_of l)
+
+-- the used arcs stitch to the ring, begun at one of its vertices, and closed
+abbrev pub IsRingOf : List (List Pos) → the_ring.Ring → List ArcRef → Type 0
+IsRingOf arcs r used = (q : List Pos) × IsRotation (vertices_of r) q × StitchTo arcs used (closed q)
+
+-- the same kind, with the same points, and lists of used arcs that stitch to the lines and rings
+abbrev pub IsShapeOf : List (List Pos) → shapes.Shape → bodies.Body → Type 0
+IsShapeOf arcs of.Null to.Null = Unit {0}
+IsShapeOf arcs (of.Point p) (to.Point q) = p ≡ q
+IsShapeOf arcs (of.MultiPoint ps) (to.MultiPoint qs) = ps ≡ qs
+IsShapeOf arcs (of.Line l) (to.Line used) = IsLineOf arcs l used
+IsShapeOf arcs (of.MultiLine ls) (to.MultiLine lists) = Pairwise (IsLineOf arcs) ls lists
+IsShapeOf arcs (of.Polygon rs) (to.Polygon lists) = Pairwise (IsRingOf arcs) rs lists
+IsShapeOf arcs (of.MultiPolygon ps) (to.MultiPolygon lists) = Pairwise (Pairwise (IsRingOf arcs)) ps lists
+IsShapeOf arcs s b = ⊥
+
+-- the geometry stitches to the feature: the same id and properties, and its body stitches to the shape
+pub record IsFeatureOf (arcs : List (List Pos)) (f : Feature) (g : Geom) : Type 0 where
+  pub id : f.id ≡ g.id
+  pub props : f.props ≡ g.props
+  pub shape : IsShapeOf arcs f.shape g.body
+
+-- the geometries stitch to the features, one by one
+abbrev pub AreFeaturesOf : List (List Pos) → List Feature → List Geom → Type 0
+AreFeaturesOf arcs = Pairwise (IsFeatureOf arcs)
+
+-- the map with these features, too, under a name
+abbrev pub with_features : Layers → List ℕ → List Feature → Layers
+with_features m name [] = m
+with_features m name (f ∷ fs) = with_features (with_feature m name f) name fs
