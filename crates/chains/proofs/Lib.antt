@@ -17,3 +17,4 @@ pub mod Noting
 pub mod Found
 pub mod AllChains
 pub mod Slices
+pub mod Dealt

@@ -1,5 +1,6 @@
 pub mod Pairs
 pub mod Visits
+pub mod Slots
 pub mod Seen
 pub mod Index
 pub mod Starts

@@ -1,5 +1,6 @@
 //! The index of visits: one list of visits, sorted once, of which the junctions are kept.
-ghost use Rattle.std.specs.Prelude.{◌≡◌, ◌++◌, ◌↔◌, ◌⊎◌, map as map_list, IfOk, OnOk, IsTrue};
+ghost use Rattle.std.specs.Prelude.{◌≡◌, ◌<◌, ◌++◌, ◌↔◌, ◌⊎◌, map as map_list, IfOk, OnOk, IsTrue};
+ghost use Rattle.chains.specs.Slots.{slot_of, AreSlotsOf};
 ghost use Rattle.theory.specs.Geometry.{Geometry, IsSound, JunctionOf, SegmentOf};
 ghost use Rattle.theory.specs.Segments.{OnThree};
 ghost use Rattle.theory.specs.Lists.{gathered, joined};
@@ -212,6 +213,28 @@ fn keep_clashes(kept: &mut Vec<Pos>, visits: &[Visit]) -> Result<(), AllocError>
     Ok(())
 }
 
+/// The number of slots that positions are dealt to.
+const SLOTS: usize = 262144;
+
+/// The slot of a position. Most positions near one another have different ones.
+fn slot(p: Pos) -> usize
+    ensures slot { result ≡ slot_of p }
+    ensures below { result < 262144 }
+{
+    ((p.x().unsigned_abs() * 31 + p.y().unsigned_abs()) % 262144) as usize
+}
+
+/// Which slots hold some of the junctions.
+fn slots_of(alloc: Global, junctions: &[Pos]) -> Result<Vec<bool>, AllocError>
+    ensures { IfOk result (λ v. AreSlotsOf v.items junctions.now) }
+{
+    let mut slots = vec![in alloc; false; SLOTS]?;
+    for junction in junctions {
+        slots[slot(*junction)] = true;
+    }
+    Ok(slots)
+}
+
 /// The junctions of a map, sorted.
 ///
 /// A vertex is a junction where a line ends in it, or where lines and rings visit it with different
@@ -220,23 +243,24 @@ fn keep_clashes(kept: &mut Vec<Pos>, visits: &[Visit]) -> Result<(), AllocError>
 #[derive(Drop)]
 pub struct VisitIndex {
     junctions: Vec<Pos>,
+    /// Most positions are no junctions, and have a slot that holds none: they need no look-up.
+    slots: Vec<bool>,
 }
 
 impl Model for VisitIndex {
     ghost use Rattle.std.specs.Prelude.{List};
-    ghost use Rattle.std.specs.List.Sorted.{IsSorted};
     ghost use Rattle.grid.specs.declared.pos.Pos.{Pos};
-    ghost use Rattle.lines.specs.Turned.{position_cmp};
+    ghost use Rattle.chains.specs.Slots.{IsLookUp};
 
     ghost Value = { List Pos };
 
     ghost view = { λ a. a.junctions.items };
 
-    ghost invariant = { λ a. IsSorted position_cmp a.junctions.items };
+    ghost invariant = { λ a. IsLookUp a.slots.items a.junctions.items };
 }
 
 impl VisitIndex {
-    fn of_seen(seen: Seen) -> Result<VisitIndex, AllocError>
+    fn of_seen(alloc: Global, seen: Seen) -> Result<VisitIndex, AllocError>
         ensures { IfOk result (λ i. (g : Geometry Pos) → AreVisitsOf seen.ends.items seen.visits.items g → IsIndexOf i g) }
     {
         let Seen { ends, visits } = seen;
@@ -245,7 +269,8 @@ impl VisitIndex {
         let mut junctions = ends;
         keep_clashes(&mut junctions, &sorted_visits)?;
         junctions.sort_unstable();
-        Ok(VisitIndex { junctions })
+        let slots = slots_of(alloc, &junctions)?;
+        Ok(VisitIndex { junctions, slots })
     }
 
     /// The index of all lines and rings of a map.
@@ -258,8 +283,17 @@ impl VisitIndex {
         };
         let names = map.names()?;
         seen.see_layers(map, &names)?;
-        let index = VisitIndex::of_seen(seen)?;
+        let index = VisitIndex::of_seen(alloc, seen)?;
         Ok(index)
+    }
+
+    fn has(&self, p: Pos) -> bool
+        ensures { result ≡ among self.now p }
+    {
+        match self.slots.get(slot(p)) {
+            Some(false) => false,
+            _ => self.junctions.binary_search(&p).is_ok(),
+        }
     }
 
     /// Whether a position is a junction.
@@ -268,6 +302,6 @@ impl VisitIndex {
         ensures junction { (g : Geometry Pos) → IsIndexOf self.now g → IsTrue result ↔ JunctionOf g p }
         ensures by_segments { (g : Geometry Pos) → IsSound g → IsIndexOf self.now g → IsTrue result ↔ (EndsALine g p ⊎ OnThree (SegmentOf g) p) }
     {
-        self.junctions.binary_search(&p).is_ok()
+        self.has(p)
     }
 }
