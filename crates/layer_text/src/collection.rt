@@ -1,219 +1,130 @@
 //! Writing a layer as a GeoJSON FeatureCollection (RFC 7946, section 3.3), piece by piece and with no
 //! memory: positions are lent from the arcs.
-ghost use Rattle.std.specs.Iterator.{IsFinite};
+ghost use Rattle.std.specs.Prelude.{◌≡◌, ◌↔◌, ℕ, List, IfErr, IsErrOf, OnOk, false};
+ghost use Rattle.std.specs.FinMap as map;
+ghost use Rattle.shapes.specs.Maps.{Layers, features_at};
+ghost use Rattle.shapes.specs.Sets as set;
+ghost use Rattle.sinks.specs.Writes.{TookAll, TookPart};
+ghost use Rattle.geojson_io.specs.CollectionText.{collection_text};
+ghost use Rattle.topo.specs.OfMap.{IsOf};
+ghost use Rattle.layer_text.specs.ByArcs.{line_along, ring_along, body_text, geom_text};
+ghost use Rattle.layer_text.specs.declared.fault.LayerFault.TheVariants.{NoLayer, Write};
 
 use crate::fault::LayerFault;
+use crate::places::{Along, Round};
 use chains::ArcRef;
-use grid::{Grid, Pos};
+use geojson_io::writer::{FeatureOf, Geometry, Places};
 use lines::items::Items;
-use sinks::written::{Pair, Written};
-use sinks::{Sink, WriteFault, put};
-use topo::{Body, Geom, Topology, Walk};
-use writing::IdMember;
+use sinks::written::{Bracketed, Each, Listed, Notation, Noted, Text, Then, Written};
+use sinks::{Sink, WriteFault};
+use topo::{Body, Geom, Topology};
+use writing::Lists;
 
-/// Where the least rotation of a closed walk begins: at the least pair of a vertex and the next.
-fn least_start(mut walk: Walk) -> usize {
-    let Some(first) = walk.next() else {
-        return 0;
-    };
-    let mut here = *first;
-    let mut least: Option<(Pos, Pos)> = None;
-    let mut start = 0;
-    let mut place: usize = 0;
-    for next in walk {
-        if comes_before(here, *next, least) {
-            least = Some((here, *next));
-            start = place;
+/// Used arcs, as lists of the places along them.
+#[derive(Clone, Copy)]
+struct LinesOf<'a>(&'a Topology);
+
+impl<'a> Notation<Items<ArcRef>> for LinesOf<'a> {
+    ghost text = { λ lines used. line_along lines.0.now used };
+
+    fn write_value<W: Sink>(&self, value: &Items<ArcRef>, sink: &mut W) -> Result<(), WriteFault> {
+        Bracketed(Along(self.0, value.as_slice())).write(sink)
+    }
+}
+
+/// Used arcs of rings, as closed lists of places: from the least rotation, with the first place repeated
+/// at the end.
+#[derive(Clone, Copy)]
+struct RingsOf<'a>(&'a Topology);
+
+impl<'a> Notation<Items<ArcRef>> for RingsOf<'a> {
+    ghost text = { λ rings used. ring_along rings.0.now used };
+
+    fn write_value<W: Sink>(&self, value: &Items<ArcRef>, sink: &mut W) -> Result<(), WriteFault> {
+        Bracketed(Round(self.0, value.as_slice())).write(sink)
+    }
+}
+
+/// Bodies as geometries, or `null`.
+#[derive(Clone, Copy)]
+struct BodiesOf<'a>(&'a Topology);
+
+impl<'a> Notation<Body> for BodiesOf<'a> {
+    ghost text = { λ bodies body. body_text bodies.0.now body };
+
+    fn write_value<W: Sink>(&self, value: &Body, sink: &mut W) -> Result<(), WriteFault> {
+        let topology = self.0;
+        let grid = topology.grid();
+        match value {
+            Body::Null => Text(b"null").write(sink),
+            Body::Point(place) => Geometry(Noted(place, &Places(&grid)), b"Point").write(sink),
+            Body::MultiPoint(places) => Geometry(
+                Listed(places.as_slice(), &Places(&grid)),
+                b"MultiPoint",
+            ).write(sink),
+            Body::Line(used) => Geometry(Noted(used, &LinesOf(topology)), b"LineString").write(
+                sink,
+            ),
+            Body::MultiLine(lines) => Geometry(
+                Listed(lines.as_slice(), &LinesOf(topology)),
+                b"MultiLineString",
+            )
+            .write(sink),
+            Body::Polygon(rings) => Geometry(
+                Listed(rings.as_slice(), &RingsOf(topology)),
+                b"Polygon",
+            ).write(sink),
+            Body::MultiPolygon(polygons) => {
+                Geometry(
+                    Listed(polygons.as_slice(), &Lists(RingsOf(topology))),
+                    b"MultiPolygon",
+                )
+                .write(sink)
+            }
         }
-        here = *next;
-        place = place.saturating_add(1);
-    }
-    start
-}
-
-fn comes_before(here: Pos, next: Pos, least: Option<(Pos, Pos)>) -> bool {
-    match least {
-        Some(pair) => (here, next) < pair,
-        None => true,
     }
 }
 
-/// Writes positions in absolute numbers, as a list.
-fn write_places<'a, W: Sink, I: Iterator<Item = &'a Pos> + Drop>(
-    grid: &Grid,
-    places: I,
-    sink: &mut W,
-) -> Result<(), WriteFault>
-    requires can { I.can_next places }
-    requires ends { IsFinite (I.remaining places) }
-{
-    let mut result = put(sink, b"[");
-    let mut separator: &[u8] = b"";
-    for place in places {
-        if result.is_ok() {
-            result = write_place(grid, separator, *place, sink);
+/// Geometries as features in absolute numbers.
+#[derive(Clone, Copy)]
+struct GeometriesOf<'a>(&'a Topology);
+
+impl<'a> Notation<Geom> for GeometriesOf<'a> {
+    ghost text = { λ geometries g. geom_text geometries.0.now g };
+
+    fn write_value<W: Sink>(&self, value: &Geom, sink: &mut W) -> Result<(), WriteFault> {
+        FeatureOf {
+            id: &value.id,
+            props: &value.props,
+            geometry: Noted(&value.body, &BodiesOf(self.0)),
         }
-        separator = b",";
-    }
-    result?;
-    put(sink, b"]")
-}
-
-fn write_place<W: Sink>(
-    grid: &Grid,
-    separator: &[u8],
-    place: Pos,
-    sink: &mut W,
-) -> Result<(), WriteFault> {
-    put(sink, separator)?;
-    let (x, y) = grid.to_absolute(place);
-    Pair(x, y).write(sink)
-}
-
-fn write_line<W: Sink>(
-    topology: &Topology,
-    refs: &[ArcRef],
-    sink: &mut W,
-) -> Result<(), WriteFault> {
-    write_places(&topology.grid(), topology.walk(refs), sink)
-}
-
-/// Writes a ring from its least rotation, with the first position repeated at the end.
-fn write_ring<W: Sink>(
-    topology: &Topology,
-    refs: &[ArcRef],
-    sink: &mut W,
-) -> Result<(), WriteFault> {
-    let start = least_start(topology.walk(refs));
-    let behind = topology.walk(refs).skip(start);
-    let before = topology.walk(refs).skip(1).take(start);
-    write_places(&topology.grid(), behind.chain(before), sink)
-}
-
-fn write_lines<W: Sink>(
-    topology: &Topology,
-    lists: &[Items<ArcRef>],
-    sink: &mut W,
-) -> Result<(), WriteFault> {
-    put(sink, b"[")?;
-    let mut separator: &[u8] = b"";
-    for refs in lists {
-        put(sink, separator)?;
-        write_line(topology, refs.as_slice(), sink)?;
-        separator = b",";
-    }
-    put(sink, b"]")
-}
-
-fn write_rings<W: Sink>(
-    topology: &Topology,
-    lists: &[Items<ArcRef>],
-    sink: &mut W,
-) -> Result<(), WriteFault> {
-    put(sink, b"[")?;
-    let mut separator: &[u8] = b"";
-    for refs in lists {
-        put(sink, separator)?;
-        write_ring(topology, refs.as_slice(), sink)?;
-        separator = b",";
-    }
-    put(sink, b"]")
-}
-
-fn write_polygons<W: Sink>(
-    topology: &Topology,
-    polygons: &[Items<Items<ArcRef>>],
-    sink: &mut W,
-) -> Result<(), WriteFault> {
-    put(sink, b"[")?;
-    let mut separator: &[u8] = b"";
-    for lists in polygons {
-        put(sink, separator)?;
-        write_rings(topology, lists.as_slice(), sink)?;
-        separator = b",";
-    }
-    put(sink, b"]")
-}
-
-fn write_coordinates<W: Sink>(
-    topology: &Topology,
-    body: &Body,
-    sink: &mut W,
-) -> Result<(), WriteFault> {
-    match body {
-        Body::Null => Ok(()),
-        Body::Point(place) => write_place(&topology.grid(), b"", *place, sink),
-        Body::MultiPoint(places) => write_places(&topology.grid(), places.as_slice().iter(), sink),
-        Body::Line(refs) => write_line(topology, refs.as_slice(), sink),
-        Body::MultiLine(lists) => write_lines(topology, lists.as_slice(), sink),
-        Body::Polygon(lists) => write_rings(topology, lists.as_slice(), sink),
-        Body::MultiPolygon(polygons) => write_polygons(topology, polygons.as_slice(), sink),
+        .write(sink)
     }
 }
 
-/// The name of a geometry's type; None where a feature has no shape.
-fn type_name(body: &Body) -> Option<&'static [u8]> {
-    match body {
-        Body::Null => None,
-        Body::Point(_) => Some(b"Point"),
-        Body::MultiPoint(_) => Some(b"MultiPoint"),
-        Body::Line(_) => Some(b"LineString"),
-        Body::MultiLine(_) => Some(b"MultiLineString"),
-        Body::Polygon(_) => Some(b"Polygon"),
-        Body::MultiPolygon(_) => Some(b"MultiPolygon"),
-    }
-}
-
-fn write_geometry<W: Sink>(
-    topology: &Topology,
-    body: &Body,
-    sink: &mut W,
-) -> Result<(), WriteFault> {
-    let Some(name) = type_name(body) else {
-        return put(sink, b"null");
-    };
-    put(sink, b"{\"coordinates\":")?;
-    write_coordinates(topology, body, sink)?;
-    put(sink, b",\"type\":\"")?;
-    put(sink, name)?;
-    put(sink, b"\"}")
-}
-
-fn write_feature<W: Sink>(
-    topology: &Topology,
-    geometry: &Geom,
-    sink: &mut W,
-) -> Result<(), WriteFault> {
-    put(sink, b"{\"geometry\":")?;
-    write_geometry(topology, &geometry.body, sink)?;
-    put(sink, b",")?;
-    IdMember(&geometry.id).write(sink)?;
-    put(sink, b"\"properties\":")?;
-    put(sink, geometry.props.text().as_bytes())?;
-    put(sink, b",\"type\":\"Feature\"}")
-}
-
-/// Writes the features of a layer, in their order, as a GeoJSON FeatureCollection in absolute numbers.
-/// It takes no memory.
+/// Writes the features of a layer, in their order, as a GeoJSON FeatureCollection in absolute numbers:
+/// the text that `geojson_io::write` gives for them. It takes no memory.
 ///
 /// # Errors
-/// `NoLayer` where the topology has no layer of that name; `Write` where the sink failed, which then
-/// took a beginning of the text.
+/// `NoLayer` exactly where the topology has no layer of that name, and nothing was offered to the sink;
+/// `Write` where the sink failed, which then took a beginning of the text.
 pub fn write_layer<W: Sink>(
     topology: &Topology,
     layer: &str,
     sink: &mut W,
-) -> Result<(), LayerFault> {
+) -> Result<(), LayerFault>
+    ensures whole { OnOk result ((m : Layers) → IsOf m topology.now → TookAll (W.seen sink.old) (W.seen sink.new) (collection_text topology.now.grid (set.items (features_at m layer.now)))) }
+    ensures part { IfErr result (λ f. f ≡ Write → (m : Layers) → IsOf m topology.now → TookPart (W.seen sink.old) (W.seen sink.new) (collection_text topology.now.grid (set.items (features_at m layer.now)))) }
+    ensures no_layer { (m : Layers) → IsOf m topology.now → IsErrOf result NoLayer ↔ (map.contains_key m layer.now ≡ false) }
+    ensures untouched { IsErrOf result NoLayer → sink.new ≡ sink.old }
+{
     let Some(geometries) = topology.geometries(layer) else {
         return Err(LayerFault::NoLayer);
     };
-    put(sink, b"{\"features\":[")?;
-    let mut separator: &[u8] = b"";
-    for geometry in geometries {
-        put(sink, separator)?;
-        write_feature(topology, geometry, sink)?;
-        separator = b",";
+    let features = Each(geometries, &GeometriesOf(topology));
+    let tail = Then(features, Text(b"],\"type\":\"FeatureCollection\"}"));
+    match Then(Text(b"{\"features\":["), tail).write(sink) {
+        Ok(()) => Ok(()),
+        Err(WriteFault::Write) => Err(LayerFault::Write),
     }
-    put(sink, b"],\"type\":\"FeatureCollection\"}")?;
-    Ok(())
 }

@@ -3,6 +3,8 @@
 
 pub mod collection;
 pub mod fault;
+mod places;
+mod steps;
 
 pub use collection::write_layer;
 pub use fault::LayerFault;

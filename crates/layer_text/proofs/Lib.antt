@@ -1,0 +1,4 @@
+pub mod LeastSteps
+pub mod Turns
+pub mod Texts
+pub mod OfLayer
