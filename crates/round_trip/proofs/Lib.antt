@@ -1,0 +1,10 @@
+pub mod TextIs
+pub mod Stitched
+pub mod Standing
+pub mod Positions
+pub mod Geometries
+pub mod Readable
+pub mod Root
+pub mod Entries
+pub mod Fit
+pub mod OfMap

@@ -1,0 +1,172 @@
+-- The topology of a map that fits its grid stands beside the map's plain data.
+use Rattle.std.proofs.Common.{◌≡◌, ℕ, ◌≤◌, ◌^◌, List, [], ◌∷◌, ◌++◌, map as map_list, length, IsUtf8, inl, inr, refl, sym, ap, ◌∙◌, subst}
+use Rattle.std.specs.FinMap as map
+use Rattle.std.specs.Ordering.{nat_cmp}
+use Rattle.std.specs.Cmp.Lexicographic.{slice_cmp}
+use Rattle.grid.specs.Place.{Transform, IsTransform}
+use Rattle.grid.specs.Fits.{Fits}
+use Rattle.grid.specs.declared.pos.Pos.{Pos}
+use Rattle.lines.specs.Seen as lines_seen
+use Rattle.lines.specs.Turned.{position_cmp}
+use Rattle.lines.specs.declared.line.Line as the_line
+use Rattle.lines.specs.declared.ring.Ring as the_ring
+use Rattle.lines.proofs.ReadsItself.{line_reads, ring_reads}
+use Rattle.theory.specs.Arcs.{Ascends}
+use Rattle.theory.specs.ArcNumbers.{ArcRef, StitchTo}
+use Rattle.theory.specs.Geometry.{JunctionOf}
+use Rattle.theory.specs.LinesAndRings.{closed}
+use Rattle.theory.specs.Lists.{Has, Pairwise, joined}
+use Rattle.theory.specs.Topology.{Item, Layer, Body, IsFormOf, IsGeometryOf, IsLayerOf, IsRingList, lines_in, rings_in, points_in, null, point, points, line, lines, polygon, polygons}
+use Rattle.theory.specs.TopologyFunction.{arcs_of}
+use Rattle.theory.proofs.Lists.{Has-append_left}
+use Rattle.shapes.specs.Fitting.{ShapeFits, MapFits}
+use Rattle.shapes.specs.Maps.{Layers, Features}
+use Rattle.shapes.specs.Parts.{properties_text}
+use Rattle.shapes.specs.Sets as set
+use Rattle.shapes.specs.declared.feature.Feature.{Feature}
+use Rattle.shapes.specs.declared.shape.Shape as shapes
+use Rattle.shapes.specs.declared.shape.Shape.TheVariants as of
+use Rattle.reading.specs.Meant.{AreLayers}
+use Rattle.reading.specs.Outlines.{outline_faults}
+use Rattle.reading.specs.Plain.{plain, plain_form, plain_id}
+use Rattle.chains.specs.Seen.{Info, line_of, ring_of, form_of, item_of, layer_of, geometry_of}
+use Rattle.topo.specs.OfMap.{Seen, IsTopology, the_topology}
+use Rattle.topo.proofs.TopologyLaws.{has_topology}
+use Rattle.topo_io.specs.Canon.{canon}
+use Rattle.topo_io.specs.Means.{Means}
+use Rattle.compact.specs.Stored.{IsStoredId}
+use Rattle.round_trip.specs.Laws.{IsStored, WrittenTopologiesAreRead}
+use Rattle.round_trip.proofs.Entries.{has_name, holds_item, names_ascend, meant, holds_layers}
+use Rattle.round_trip.proofs.Fit.{shape_places, feature_fits, chain_long, chain_fits, box_stands}
+use Rattle.round_trip.proofs.Root.{text_accepted, text_grid, text_layers}
+use Rattle.round_trip.proofs.Standing.{LineStands, RingStands, Stands, LayerStands, TopologyStands}
+use Rattle.topo.proofs.AtEntry.{at_entry}
+
+-- ---- forms
+
+module _ (J : Pos → Type 0) (arcs : List (List Pos)) where
+  line_stands : (l : the_line.Line) (used : List ArcRef) → StitchTo arcs used (lines_seen.positions_of l) → LineStands arcs (lines_seen.positions_of l) used
+  line_stands l used h = record { list = lines_seen.positions_of l; stitches = h; none = ap outline_faults (line_reads l).0; same = (line_reads l).1 }
+
+  ring_stands : (r : the_ring.Ring) (used : List ArcRef) → IsRingList position_cmp J arcs (lines_seen.vertices_of r) used → RingStands arcs (lines_seen.vertices_of r) used
+  ring_stands r used h =
+      let reads = ring_reads r (h.0 ∷ h.1) h.2.rotation in
+      record { list = closed (h.0 ∷ h.1); stitches = h.3; none = ap outline_faults reads.0; same = reads.1 }
+
+  pairs_stand : {L M A : Type 0} (P Q : A → M → Type 0) (f : L → A) → ((l : L) (u : M) → P (f l) u → Q (f l) u) → (ls : List L) (us : List M) → Pairwise P (map_list f ls) us → Pairwise Q (map_list f ls) us
+  pairs_stand P Q f to [] [] h = tt
+  pairs_stand P Q f to [] (u ∷ us) h = absurd h
+  pairs_stand P Q f to (l ∷ ls) [] h = absurd h
+  pairs_stand P Q f to (l ∷ ls) (u ∷ us) h = (to l u h.0, pairs_stand P Q f to ls us h.1)
+
+  rings_stand : (rs : List the_ring.Ring) (us : List (List ArcRef)) → Pairwise (IsRingList position_cmp J arcs) (map_list ring_of rs) us → Pairwise (RingStands arcs) (map_list ring_of rs) us
+  rings_stand = pairs_stand (IsRingList position_cmp J arcs) (RingStands arcs) ring_of ring_stands
+
+  form_stands : (s : shapes.Shape) (b : Body Pos) → IsFormOf (λ l used. StitchTo arcs used l) (IsRingList position_cmp J arcs) (form_of s) b → IsFormOf (LineStands arcs) (RingStands arcs) (plain_form s) b
+  form_stands of.Null null h = tt
+  form_stands (of.Point p) (point q) h = h
+  form_stands (of.MultiPoint ps) (points qs) h = h
+  form_stands (of.Line l) (line used) h = line_stands l used h
+  form_stands (of.MultiLine ls) (lines us) h = pairs_stand (λ l used. StitchTo arcs used l) (LineStands arcs) line_of line_stands ls us h
+  form_stands (of.Polygon rs) (polygon us) h = rings_stand rs us h
+  form_stands (of.MultiPolygon ps) (polygons us) h = pairs_stand (Pairwise (IsRingList position_cmp J arcs)) (Pairwise (RingStands arcs)) (map_list ring_of) rings_stand ps us h
+  form_stands s b h = absurd h
+
+-- forms of one kind have the same points
+same_points : {L R M Q : Type 0} (A : L → M → Type 0) (B : R → Q → Type 0) (f : _) (h : _) → IsFormOf {V = Pos} A B f h → points_in f ≡ points_in h
+same_points A B null null e = refl
+same_points A B (point p) (point q) e = ap (λ w. w ∷ []) e
+same_points A B (points ps) (points qs) e = e
+same_points A B (line l) (line k) e = refl
+same_points A B (lines l) (lines k) e = refl
+same_points A B (polygon l) (polygon k) e = refl
+same_points A B (polygons l) (polygons k) e = refl
+same_points A B f h e = absurd e
+
+-- ---- features and layers
+
+-- the feature can be stored, and fits
+record FeatureStands (g : Transform) (f : Feature) : Type 0 where
+  id : IsStoredId f.id
+  fits : ShapeFits g f.shape
+
+record EntryStands (g : Transform) (e : List ℕ × Features) : Type 0 where
+  name : IsUtf8 e.0
+  features : (f : Feature) → Has f (set.items e.1) → FeatureStands g f
+
+module _ (g : Transform) (J : Pos → Type 0) (arcs : List (List Pos)) where
+  geometry_stands : (f : Feature) (h : Item Info (Body Pos)) → FeatureStands g f → IsGeometryOf position_cmp J arcs (item_of f) h → Stands g arcs (plain f) h
+  geometry_stands f h ok s = record {
+    stored = subst (λ (i : Info). IsStoredId i.0) s.info ok.id;
+    id = ap (λ (i : Info). plain_id i.0) (sym s.info);
+    properties = ap (λ (i : Info). properties_text i.1) (sym s.info);
+    form = form_stands J arcs f.shape h.form s.form;
+    points = λ q k.
+        shape_places g f.shape ok.fits q
+        (Has-append_left q (points_in (form_of f.shape)) (joined (lines_in (form_of f.shape)) ++ joined (rings_in (form_of f.shape)))
+        (subst (Has q) (sym (same_points _ _ (form_of f.shape) h.form s.form)) k));
+  }
+
+  geometries_stand : (fs : List Feature) (hs : List (Item Info (Body Pos))) → ((f : Feature) → Has f fs → FeatureStands g f) → Pairwise (IsGeometryOf position_cmp J arcs) (map_list item_of fs) hs → Pairwise (Stands g arcs) (map_list plain fs) hs
+  geometries_stand [] [] ok s = tt
+  geometries_stand [] (h ∷ hs) ok s = absurd s
+  geometries_stand (f ∷ fs) [] ok s = absurd s
+  geometries_stand (f ∷ fs) (h ∷ hs) ok s = (geometry_stands f h (ok f (inl refl)) s.0, geometries_stand fs hs (λ x k. ok x (inr k)) s.1)
+
+  layers_stand : (es : List (List ℕ × Features)) (ks : List (Layer (Item Info (Body Pos)))) → ((e : List ℕ × Features) → Has e es → EntryStands g e) → Pairwise (IsLayerOf position_cmp J arcs) (map_list layer_of es) ks
+      → Pairwise (LayerStands g arcs) (map_list meant es) ks
+  layers_stand [] [] ok s = tt
+  layers_stand [] (k ∷ ks) ok s = absurd s
+  layers_stand (e ∷ es) [] ok s = absurd s
+  layers_stand (e ∷ es) (k ∷ ks) ok s =
+      let this = ok e (inl refl) in (
+        record { name = sym s.0.name; utf8 = subst IsUtf8 s.0.name this.name; items = geometries_stand (set.items e.1) k.items this.features s.0.items },
+        layers_stand es ks (λ x j. ok x (inr j)) s.1,
+      )
+
+  names_are : (es : List (List ℕ × Features)) (ks : List (Layer (Item Info (Body Pos)))) → Pairwise (IsLayerOf position_cmp J arcs) (map_list layer_of es) ks → map_list (λ e. e.0) es ≡ map_list (λ k. k.name) ks
+  names_are [] [] s = refl
+  names_are [] (k ∷ ks) s = absurd s
+  names_are (e ∷ es) [] s = absurd s
+  names_are (e ∷ es) (k ∷ ks) s = let n = s.0.name in let r = names_are es ks s.1 in λ i. n i ∷ r i
+
+-- ---- the topology of a map
+
+arcs_are : (g : Transform) (m : Layers) → (the_topology g m).arcs ≡ arcs_of position_cmp (geometry_of m)
+unfolding the_topology
+arcs_are g m = refl
+
+module _ (g : Transform) (m : Layers) (limits : IsTransform g) (stored : IsStored m) (fits : MapFits g m) where
+  entry_stands : (e : List ℕ × Features) → Has e (map.entries m) → EntryStands g e
+  entry_stands e there = record {
+    name = stored.names e.0 (has_name m e there);
+    features = λ f h. record { id = stored.ids e.0 f (ap (λ s. set.contains s f) (at_entry m e there) ∙ holds_item e.1 f h); fits = feature_fits g m fits e there f h };
+  }
+
+  stands : (t : Seen) → IsTopology g m t → length t.arcs ≤ 2 ^ 63 → TopologyStands t (map_list meant (map.entries m))
+  stands t is few =
+      let same : t.grid ≡ g = is.grid in
+      record {
+        limits = subst IsTransform (sym same) limits;
+        few = few;
+        long = λ c h. chain_long g m fits c (is.arcs.arcs_only c h).chain;
+        fit = λ c h. subst (λ w. (p : Pos) → Has p c → Fits w p) (sym same) (chain_fits g m fits c (is.arcs.arcs_only c h).chain);
+        box = λ c e. box_stands g m fits c (sym is.bbox ∙ e);
+        layers = subst (λ w. Pairwise (LayerStands w t.arcs) (map_list meant (map.entries m)) t.layers) (sym same)
+            (layers_stand g (JunctionOf (geometry_of m)) t.arcs (map.entries m) t.layers entry_stands is.layers);
+        ascends = subst (Ascends (slice_cmp nat_cmp)) (names_are g (JunctionOf (geometry_of m)) t.arcs (map.entries m) t.layers is.layers) (names_ascend m);
+      }
+
+  pub reads_back : Means (canon g m) g m
+  reads_back =
+      let t = the_topology g m in
+      let is = has_topology g m in
+      let s = stands t is (subst (λ w. length w ≤ 2 ^ 63) (sym (arcs_are g m)) stored.few) in
+      record {
+        accepted = text_accepted t (map_list meant (map.entries m)) s;
+        grid = sym (text_grid t (map_list meant (map.entries m)) s ∙ is.grid);
+        layers = subst (AreLayers m) (sym (text_layers t (map_list meant (map.entries m)) s)) (holds_layers m);
+      }
+
+pub written_topologies_are_read : WrittenTopologiesAreRead
+written_topologies_are_read g m limits stored fits = reads_back g m limits stored fits

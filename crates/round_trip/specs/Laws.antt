@@ -1,0 +1,24 @@
+-- What is written of a map is read back as the map.
+use Rattle.std.specs.Prelude.{◌≡◌, ℕ, ◌≤◌, ◌^◌, List, length, true, IsTrue, IsUtf8}
+use Rattle.std.specs.FinMap as map
+use Rattle.grid.specs.Place.{Transform, IsTransform}
+use Rattle.lines.specs.Turned.{position_cmp}
+use Rattle.shapes.specs.Sets as set
+use Rattle.shapes.specs.Fitting.{MapFits}
+use Rattle.shapes.specs.Maps.{Layers, features_at}
+use Rattle.shapes.specs.declared.feature.Feature.{Feature}
+use Rattle.chains.specs.Seen.{geometry_of}
+use Rattle.theory.specs.TopologyFunction.{arcs_of}
+use Rattle.compact.specs.Stored.{IsStoredId}
+use Rattle.topo_io.specs.Canon.{canon}
+use Rattle.topo_io.specs.Means.{Means}
+
+-- what holds of each map in memory: names are UTF-8, ids are what memory holds, and 64 bits number its arcs
+pub record IsStored (m : Layers) : Type 0 where
+  pub names : (n : List ℕ) → IsTrue (map.contains_key m n) → IsUtf8 n
+  pub ids : (n : List ℕ) (f : Feature) → set.contains (features_at m n) f ≡ true → IsStoredId f.id
+  pub few : length (arcs_of position_cmp (geometry_of m)) ≤ 2 ^ 63
+
+-- the canonical text of a map that fits a grid is accepted, and means that grid and that map
+abbrev pub WrittenTopologiesAreRead : Type 0
+WrittenTopologiesAreRead = (g : Transform) (m : Layers) → IsTransform g → IsStored m → MapFits g m → Means (canon g m) g m
