@@ -12,16 +12,17 @@ ghost use Rattle.chains.specs.Joined.{AmongSegments, MeetsTwo, IsJoining, Took, 
 
 use crate::cutting::Piece;
 use crate::segment::Segment;
+use crate::stop_set::StopSet;
 use crate::table::ArcTable;
 use faults::OutOfMemory;
 use grid::pos::Pos;
 use std::alloc::{AllocError, Global};
 use std::collections::{BTreeMap, BTreeSet};
 
-fn is_stop(stops: &BTreeSet<Pos>, p: Pos) -> bool
-    ensures { result ≡ among stops.now.keys p }
+fn is_stop(stops: &StopSet, p: Pos) -> bool
+    ensures { result ≡ among stops.now p }
 {
-    stops.contains(&p)
+    stops.has(p)
 }
 
 /// The chain that begins with `from`, `to` and goes on along the links, which are used up.
@@ -65,11 +66,11 @@ fn joined_to(old: Option<(Pos, Pos)>, to: Pos) -> (Pos, Pos)
 
 fn note(
     links: &mut BTreeMap<Pos, (Pos, Pos)>,
-    stops: &BTreeSet<Pos>,
+    stops: &StopSet,
     at: Pos,
     to: Pos,
 ) -> Result<(), AllocError>
-    ensures { OnOk result ((q : Pos) → links_in links.new q ≡ noted stops.now.keys q (links_in links.old q) at to) }
+    ensures { OnOk result ((q : Pos) → links_in links.new q ≡ noted stops.now q (links_in links.old q) at to) }
 {
     if is_stop(stops, at) {
         return Ok(());
@@ -83,9 +84,9 @@ fn note(
 fn links_of(
     alloc: Global,
     segments: &[Segment],
-    stops: &BTreeSet<Pos>,
+    stops: &StopSet,
 ) -> Result<BTreeMap<Pos, (Pos, Pos)>, AllocError>
-    ensures { IfOk result (λ m. (q : Pos) → links_in m q ≡ noted_all stops.now.keys q None segments.now) }
+    ensures { IfOk result (λ m. (q : Pos) → links_in m q ≡ noted_all stops.now q None segments.now) }
 {
     let mut links = BTreeMap::new(alloc);
     for segment in segments {
@@ -99,13 +100,13 @@ fn links_of(
 /// Walks from a stop along a segment, unless another walk has come along it.
 fn take_from(
     alloc: Global,
-    stops: &BTreeSet<Pos>,
+    stops: &StopSet,
     links: &mut BTreeMap<Pos, (Pos, Pos)>,
     found: &mut Vec<Vec<Pos>>,
     from: Pos,
     to: Pos,
 ) -> Result<(), AllocError>
-    ensures { OnOk result ((segs : List Segment) → MeetsTwo segs stops.now.keys → AmongSegments from to segs → IsJoining segs stops.now.keys links.old (map (λ c. c.items) found.old.items) → Took segs stops.now.keys links.new (map (λ c. c.items) found.old.items) (map (λ c. c.items) found.new.items) from to) }
+    ensures { OnOk result ((segs : List Segment) → MeetsTwo segs stops.now → AmongSegments from to segs → IsJoining segs stops.now links.old (map (λ c. c.items) found.old.items) → Took segs stops.now links.new (map (λ c. c.items) found.old.items) (map (λ c. c.items) found.new.items) from to) }
 {
     if !is_stop(stops, from) {
         return Ok(());
@@ -121,10 +122,10 @@ fn take_from(
 fn chains_of(
     alloc: Global,
     segments: &[Segment],
-    stops: &BTreeSet<Pos>,
+    stops: &StopSet,
 ) -> Result<Vec<Vec<Pos>>, AllocError>
-    requires { MeetsTwo segments.now stops.now.keys }
-    ensures { IfOk result (λ v. AreAllChains segments.now stops.now.keys (map (λ c. c.items) v.items)) }
+    requires { MeetsTwo segments.now stops.now }
+    ensures { IfOk result (λ v. AreAllChains segments.now stops.now (map (λ c. c.items) v.items)) }
 {
     let mut links = links_of(alloc, segments, stops)?;
     let mut found = Vec::new(alloc);
@@ -151,8 +152,8 @@ fn listed(alloc: Global, segments: &BTreeSet<Segment>) -> Result<Vec<Segment>, A
 }
 
 /// Whether no stop stands first in a chain.
-fn begins_free(stops: &BTreeSet<Pos>, chain: &[Pos]) -> bool
-    ensures { result ≡ pieces.begins_free (among stops.now.keys) chain.now }
+fn begins_free(stops: &StopSet, chain: &[Pos]) -> bool
+    ensures { result ≡ pieces.begins_free (among stops.now) chain.now }
 {
     match chain.first() {
         Some(first) => !is_stop(stops, *first),
@@ -163,9 +164,9 @@ fn begins_free(stops: &BTreeSet<Pos>, chain: &[Pos]) -> bool
 fn pieces_of(
     alloc: Global,
     chains: Vec<Vec<Pos>>,
-    stops: &BTreeSet<Pos>,
+    stops: &StopSet,
 ) -> Result<Vec<Piece>, AllocError>
-    ensures { IfOk result (λ v. v.items ≡ map (oriented (among stops.now.keys)) (map (λ c. c.items) chains.items)) }
+    ensures { IfOk result (λ v. v.items ≡ map (oriented (among stops.now)) (map (λ c. c.items) chains.items)) }
 {
     let mut pieces = Vec::with_capacity(alloc, chains.len())?;
     for chain in chains {
@@ -189,8 +190,9 @@ pub fn maximal(
     ensures { IfOk result (λ t. AreMaximal segments.now.keys stops.now.keys t) }
 {
     let list = listed(alloc, segments)?;
-    let chains = chains_of(alloc, &list, stops)?;
-    let pieces = pieces_of(alloc, chains, stops)?;
+    let stops = StopSet::of(alloc, stops)?;
+    let chains = chains_of(alloc, &list, &stops)?;
+    let pieces = pieces_of(alloc, chains, &stops)?;
     let table = ArcTable::from_pieces(alloc, pieces)?;
     Ok(table)
 }

@@ -5,7 +5,9 @@
 pub mod cutting;
 pub mod joining;
 pub mod segment;
+mod slots;
 mod starts;
+mod stop_set;
 pub mod table;
 pub mod visits;
 

@@ -1,6 +1,5 @@
 //! The index of visits: one list of visits, sorted once, of which the junctions are kept.
-ghost use Rattle.std.specs.Prelude.{◌≡◌, ◌<◌, ◌++◌, ◌↔◌, ◌⊎◌, map as map_list, IfOk, OnOk, IsTrue};
-ghost use Rattle.chains.specs.Slots.{slot_of, AreSlotsOf};
+ghost use Rattle.std.specs.Prelude.{◌≡◌, ◌++◌, ◌↔◌, ◌⊎◌, map as map_list, IfOk, OnOk, IsTrue};
 ghost use Rattle.theory.specs.Geometry.{Geometry, IsSound, JunctionOf, SegmentOf};
 ghost use Rattle.theory.specs.Segments.{OnThree};
 ghost use Rattle.theory.specs.Lists.{gathered, joined};
@@ -13,6 +12,7 @@ ghost use Rattle.shapes.specs.Maps.{set_of};
 ghost use Rattle.shapes.specs.Parts.{spelled_text};
 ghost use Rattle.shapes.specs.Sets as set;
 
+use crate::slots::{slot, slots_of};
 use faults::OutOfMemory;
 use grid::pos::Pos;
 use lines::items::Items;
@@ -211,28 +211,6 @@ fn keep_clashes(kept: &mut Vec<Pos>, visits: &[Visit]) -> Result<(), AllocError>
         before = *visit;
     }
     Ok(())
-}
-
-/// The number of slots that positions are dealt to.
-const SLOTS: usize = 262144;
-
-/// The slot of a position. Most positions near one another have different ones.
-fn slot(p: Pos) -> usize
-    ensures slot { result ≡ slot_of p }
-    ensures below { result < 262144 }
-{
-    ((p.x().unsigned_abs() * 31 + p.y().unsigned_abs()) % 262144) as usize
-}
-
-/// Which slots hold some of the junctions.
-fn slots_of(alloc: Global, junctions: &[Pos]) -> Result<Vec<bool>, AllocError>
-    ensures { IfOk result (λ v. AreSlotsOf v.items junctions.now) }
-{
-    let mut slots = vec![in alloc; false; SLOTS]?;
-    for junction in junctions {
-        slots[slot(*junction)] = true;
-    }
-    Ok(slots)
 }
 
 /// The junctions of a map, sorted.

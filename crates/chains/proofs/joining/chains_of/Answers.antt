@@ -14,14 +14,14 @@ yes_no e = cc
 
 pub loop-segment-init : goal.loop-segment-init
 loop-segment-init c = record {
-  joining = subst (λ u. IsJoining c.args.segments.now c.args.stops.now.keys c.in_ok-links.links (map (λ d. d.items) u)) (sym c.new-found.ensures.items)
-      (joining_start c.args.segments.now c.args.stops.now.keys (links_in c.in_ok-links.links) c.requires c.in_ok-links.ensures);
+  joining = subst (λ u. IsJoining c.args.segments.now c.args.stops.now c.in_ok-links.links (map (λ d. d.items) u)) (sym c.new-found.ensures.items)
+      (joining_start c.args.segments.now c.args.stops.now (links_in c.in_ok-links.links) c.requires c.in_ok-links.ensures);
   rest = λ u v st s. inr s;
 }
 
 pub loop-segment-preserved : goal.loop-segment-preserved
 loop-segment-preserved c =
-    let keys = c.args.stops.now.keys in
+    let keys = c.args.stops.now in
     let segs = c.args.segments.now in
     let first : (Pos × Pos) → Type 0 = λ e.
     AmongSegments e.0 e.1 segs → IsJoining segs keys c.loop-segment.links (map (λ d. d.items) c.loop-segment.found.items) →
@@ -51,7 +51,7 @@ loop-seam-init c = record {
 
 pub loop-seam-preserved : goal.loop-seam-preserved
 loop-seam-preserved c =
-    let t = looped c.args.segments.now c.args.stops.now.keys c.requires c.loop-seam.links c.pop_first.new.self c.walk.new.links
+    let t = looped c.args.segments.now c.args.stops.now c.requires c.loop-seam.links c.pop_first.new.self c.walk.new.links
     (map (λ d. d.items) c.loop-seam.found.items) (map (λ d. d.items) c.push.new.self.items) c.in-Some.seam c.in-Some.next c.in-Some.field-0-1-1
     c.in_ok-chain.chain.items c.loop-seam.invariant.joining
     c.in-Some.ensures.value (removed c.loop-seam.links c.pop_first.new.self c.in-Some.seam c.in-Some.ensures.updates)
@@ -61,6 +61,6 @@ loop-seam-preserved c =
 
 pub returns : goal.returns
 returns c =
-    all_found c.args.segments.now c.args.stops.now.keys c.requires c.loop-seam.links (map (λ d. d.items) c.loop-seam.found.items)
+    all_found c.args.segments.now c.args.stops.now c.requires c.loop-seam.links (map (λ d. d.items) c.loop-seam.found.items)
     c.loop-seam.invariant.joining c.loop-seam.invariant.stops
     (empty_links c.loop-seam.links (λ h. yes_no (c.in_default.ensures.variant.1 h)))

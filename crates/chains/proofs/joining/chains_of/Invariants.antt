@@ -6,15 +6,15 @@ use Rattle.chains.proofs.joining.chains_of.Given as goal
 
 abbrev pub invariant-loop-segment : goal.invariant-loop-segment
 invariant-loop-segment l = record {
-  joining : IsJoining l.segments l.stops.keys l.links (map (λ c. c.items) l.found.items);
-  rest : (u v : Pos) → StopAt l.stops.keys u → AmongSegments u v l.segments →
+  joining : IsJoining l.segments l.stops l.links (map (λ c. c.items) l.found.items);
+  rest : (u v : Pos) → StopAt l.stops u → AmongSegments u v l.segments →
       Covered u v (map (λ c. c.items) l.found.items) ⊎ AmongSegments u v (drop l.segment-index l.segments);
 }
 
 abbrev pub invariant-loop-seam : goal.invariant-loop-seam
 invariant-loop-seam l = record {
-  joining : IsJoining l.segments l.stops.keys l.links (map (λ c. c.items) l.found.items);
-  stops : (u v : Pos) → StopAt l.stops.keys u → AmongSegments u v l.segments → Covered u v (map (λ c. c.items) l.found.items);
+  joining : IsJoining l.segments l.stops l.links (map (λ c. c.items) l.found.items);
+  stops : (u v : Pos) → StopAt l.stops u → AmongSegments u v l.segments → Covered u v (map (λ c. c.items) l.found.items);
 }
 
 abbrev pub decreases-loop-seam : goal.decreases-loop-seam

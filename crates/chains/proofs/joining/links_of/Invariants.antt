@@ -5,4 +5,4 @@ use Rattle.grid.specs.declared.pos.Pos.{Pos}
 use Rattle.chains.proofs.joining.links_of.Given as goal
 
 abbrev pub invariant-loop-segment : goal.invariant-loop-segment
-invariant-loop-segment l = (q : Pos) → noted_all l.stops.keys q (links_in l.links q) (drop l.segment-index l.segments) ≡ noted_all l.stops.keys q None l.segments
+invariant-loop-segment l = (q : Pos) → noted_all l.stops q (links_in l.links q) (drop l.segment-index l.segments) ≡ noted_all l.stops q None l.segments

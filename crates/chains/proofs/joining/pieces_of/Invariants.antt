@@ -5,5 +5,5 @@ use Rattle.chains.proofs.joining.pieces_of.Given as goal
 
 abbrev pub invariant-loop-chain : goal.invariant-loop-chain
 invariant-loop-chain l =
-    l.pieces.items ++ map (oriented (among l.stops.keys)) (map (λ c. c.items) l.chain-iterator.rest.items)
-    ≡ map (oriented (among l.stops.keys)) (map (λ c. c.items) l.fn.chains.items)
+    l.pieces.items ++ map (oriented (among l.stops)) (map (λ c. c.items) l.chain-iterator.rest.items)
+    ≡ map (oriented (among l.stops)) (map (λ c. c.items) l.fn.chains.items)

@@ -8,12 +8,12 @@ use Rattle.chains.proofs.joining.take_from.Goals.{else-not-is_stop-2-via-then-no
 
 pub returns-then-not-contains_key : goal.returns-then-not-contains_key
 returns-then-not-contains_key c = λ segs ok s j.
-    skipped segs c.args.stops.now.keys ok c.args.links.now (map (λ d. d.items) c.args.found.now.items) c.args.from c.args.to s j
+    skipped segs c.args.stops.now ok c.args.links.now (map (λ d. d.items) c.args.found.now.items) c.args.from c.args.to s j
     (sym c.if-not-is_stop-2.ensures) (noted_none (links_in c.args.links.now c.args.to) c.if-not-contains_key.ensures)
 
 pub returns : goal.returns
 returns c = λ segs ok s j.
-    taken segs c.args.stops.now.keys ok c.args.links.now c.walk.new.links (map (λ d. d.items) c.args.found.now.items)
+    taken segs c.args.stops.now ok c.args.links.now c.walk.new.links (map (λ d. d.items) c.args.found.now.items)
     (map (λ d. d.items) c.push.new.self.items) c.args.from c.args.to c.in_ok-chain.chain.items s j (sym c.if-not-is_stop.ensures)
     (elim c.else-not-is_stop-2.branch [
       | else-not-is_stop-2-via-then-not-is_stop-2+else-not-contains_key w ↦ inr (noted_some (links_in c.args.links.now c.args.to) w.if-not-contains_key.ensures)

@@ -1,0 +1,58 @@
+//! The stops of chains, with most look-ups ended by a table of slots.
+ghost use Rattle.std.specs.Prelude.{◌≡◌, IfOk};
+ghost use Rattle.chains.specs.Pairs.{among};
+
+use crate::slots::{slot, slots_of};
+use grid::pos::Pos;
+use std::alloc::{AllocError, Global};
+use std::collections::BTreeSet;
+use std::marker::Model;
+
+/// A set of stops. Most vertices are none, and have a slot that holds none: they need no look-up.
+#[derive(Drop)]
+pub(crate) struct StopSet<'a> {
+    stops: &'a BTreeSet<Pos>,
+    slots: Vec<bool>,
+}
+
+impl<'a> Model for StopSet<'a> {
+    ghost use Rattle.std.specs.Prelude.{List};
+    ghost use Rattle.grid.specs.declared.pos.Pos.{Pos};
+    ghost use Rattle.chains.specs.Slots.{AreSlotsOf};
+
+    ghost Value = { List Pos };
+
+    ghost view = { λ a. a.stops.now.keys };
+
+    ghost invariant = { λ a. AreSlotsOf a.slots.items a.stops.now.keys };
+}
+
+fn listed(alloc: Global, stops: &BTreeSet<Pos>) -> Result<Vec<Pos>, AllocError>
+    ensures { IfOk result (λ v. v.items ≡ stops.now.keys) }
+{
+    let mut list = Vec::with_capacity(alloc, stops.len())?;
+    for stop in stops.iter() {
+        list.push(*stop)?;
+    }
+    Ok(list)
+}
+
+impl<'a> StopSet<'a> {
+    pub(crate) fn of(alloc: Global, stops: &'a BTreeSet<Pos>) -> Result<StopSet<'a>, AllocError>
+        ensures { IfOk result (λ s. s ≡ stops.now.keys) }
+    {
+        let list = listed(alloc, stops)?;
+        let slots = slots_of(alloc, &list)?;
+        Ok(StopSet { stops, slots })
+    }
+
+    /// Whether a position is one of the stops.
+    pub(crate) fn has(&self, p: Pos) -> bool
+        ensures { result ≡ among self.now p }
+    {
+        match self.slots.get(slot(p)) {
+            Some(false) => false,
+            _ => self.stops.contains(&p),
+        }
+    }
+}
