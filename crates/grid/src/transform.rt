@@ -388,6 +388,9 @@ mod tests {
         let g = grid(&rt, 10, 10, -500, 0);
         assert_eq!(rt; g.scale(), (10, 10));
         assert_eq!(rt; g.translate(), (-500, 0));
+        let apart = position(&rt, 3, -4);
+        assert_eq!(rt; (apart.x(), apart.y()), (3, -4));
+        assert!(rt; position(&rt, 2, 9) < apart && apart < position(&rt, 3, 0));
         let least = position(&rt, -1_000_000_000, -1_000_000_000);
         assert_eq!(rt; g.to_grid(-10_000_000_500, -10_000_000_000), Ok(least));
         assert_eq!(rt; g.to_absolute(least), (-10_000_000_500, -10_000_000_000));

@@ -257,9 +257,10 @@ mod tests {
         assert!(rt; Bracketed(Joined(&rows)).write(&mut kept).is_ok());
         assert!(rt; Option::<Number>::None.write(&mut kept).is_ok());
         assert!(rt; Some(Text(b";")).write(&mut kept).is_ok());
+        assert!(rt; Pair(-3, 4).write(&mut kept).is_ok());
         assert_eq!(rt;
             kept.into_bytes().as_slice(),
-            b"[1,-20,-9223372036854775808];".as_slice()
+            b"[1,-20,-9223372036854775808];[-3,4]".as_slice()
         );
         Ok(())
     }
