@@ -100,54 +100,13 @@ polygons_same t J ps qs h =
 shape_same : (t : TopologyParts) (J : Pos → Type 0) (s : Shape) (b : Body) →
     IsFormOf (λ l used. StitchTo t.arcs.arcs used l) (IsRingList position_cmp J t.arcs.arcs) (seen_by.form_of s) (body_of b) → shape_text t.grid s ≡ body_text t b
 shape_same t J of.Null to.Null h = refl
-shape_same t J of.Null (to.Point q) h = absurd h
-shape_same t J of.Null (to.MultiPoint qs) h = absurd h
-shape_same t J of.Null (to.Line used) h = absurd h
-shape_same t J of.Null (to.MultiLine ks) h = absurd h
-shape_same t J of.Null (to.Polygon qs) h = absurd h
-shape_same t J of.Null (to.MultiPolygon qs) h = absurd h
-shape_same t J (of.Point p) to.Null h = absurd h
 shape_same t J (of.Point p) (to.Point q) h = ap (λ w. geometry_text (place_text t.grid w) (codes "Point")) h
-shape_same t J (of.Point p) (to.MultiPoint qs) h = absurd h
-shape_same t J (of.Point p) (to.Line used) h = absurd h
-shape_same t J (of.Point p) (to.MultiLine ks) h = absurd h
-shape_same t J (of.Point p) (to.Polygon qs) h = absurd h
-shape_same t J (of.Point p) (to.MultiPolygon qs) h = absurd h
-shape_same t J (of.MultiPoint ps) to.Null h = absurd h
-shape_same t J (of.MultiPoint ps) (to.Point q) h = absurd h
 shape_same t J (of.MultiPoint ps) (to.MultiPoint qs) h = ap (λ w. geometry_text (list_text (place_text t.grid) w) (codes "MultiPoint")) h
-shape_same t J (of.MultiPoint ps) (to.Line used) h = absurd h
-shape_same t J (of.MultiPoint ps) (to.MultiLine ks) h = absurd h
-shape_same t J (of.MultiPoint ps) (to.Polygon qs) h = absurd h
-shape_same t J (of.MultiPoint ps) (to.MultiPolygon qs) h = absurd h
-shape_same t J (of.Line l) to.Null h = absurd h
-shape_same t J (of.Line l) (to.Point q) h = absurd h
-shape_same t J (of.Line l) (to.MultiPoint qs) h = absurd h
 shape_same t J (of.Line l) (to.Line used) h = ap (λ w. geometry_text w (codes "LineString")) (line_same t (positions_of l) used h)
-shape_same t J (of.Line l) (to.MultiLine ks) h = absurd h
-shape_same t J (of.Line l) (to.Polygon qs) h = absurd h
-shape_same t J (of.Line l) (to.MultiPolygon qs) h = absurd h
-shape_same t J (of.MultiLine ls) to.Null h = absurd h
-shape_same t J (of.MultiLine ls) (to.Point q) h = absurd h
-shape_same t J (of.MultiLine ls) (to.MultiPoint qs) h = absurd h
-shape_same t J (of.MultiLine ls) (to.Line used) h = absurd h
 shape_same t J (of.MultiLine ls) (to.MultiLine ks) h = ap (λ w. geometry_text w (codes "MultiLineString")) (lines_same t ls ks h)
-shape_same t J (of.MultiLine ls) (to.Polygon qs) h = absurd h
-shape_same t J (of.MultiLine ls) (to.MultiPolygon qs) h = absurd h
-shape_same t J (of.Polygon rs) to.Null h = absurd h
-shape_same t J (of.Polygon rs) (to.Point q) h = absurd h
-shape_same t J (of.Polygon rs) (to.MultiPoint qs) h = absurd h
-shape_same t J (of.Polygon rs) (to.Line used) h = absurd h
-shape_same t J (of.Polygon rs) (to.MultiLine ks) h = absurd h
 shape_same t J (of.Polygon rs) (to.Polygon qs) h = ap (λ w. geometry_text w (codes "Polygon")) (rings_same t J rs qs h)
-shape_same t J (of.Polygon rs) (to.MultiPolygon qs) h = absurd h
-shape_same t J (of.MultiPolygon ps) to.Null h = absurd h
-shape_same t J (of.MultiPolygon ps) (to.Point q) h = absurd h
-shape_same t J (of.MultiPolygon ps) (to.MultiPoint qs) h = absurd h
-shape_same t J (of.MultiPolygon ps) (to.Line used) h = absurd h
-shape_same t J (of.MultiPolygon ps) (to.MultiLine ks) h = absurd h
-shape_same t J (of.MultiPolygon ps) (to.Polygon qs) h = absurd h
 shape_same t J (of.MultiPolygon ps) (to.MultiPolygon qs) h = ap (λ w. geometry_text w (codes "MultiPolygon")) (polygons_same t J ps qs h)
+shape_same t J s b h = absurd h
 
 feature_same : (t : TopologyParts) (J : Pos → Type 0) (f : Feature) (g : Geom) → IsGeometryOf position_cmp J t.arcs.arcs (seen_by.item_of f) (item_of g) →
     feature_text t.grid f ≡ geom_text t g

@@ -1,6 +1,6 @@
 //! Writing a layer as a GeoJSON FeatureCollection (RFC 7946, section 3.3), piece by piece and with no
 //! memory: positions are lent from the arcs.
-ghost use Rattle.std.specs.Prelude.{◌≡◌, ◌↔◌, ℕ, List, IfErr, IsErrOf, OnOk, false};
+ghost use Rattle.std.specs.Prelude.{◌≡◌, ◌↔◌, Err, IfErr, IsTrue, OnOk};
 ghost use Rattle.std.specs.FinMap as map;
 ghost use Rattle.shapes.specs.Maps.{Layers, features_at};
 ghost use Rattle.shapes.specs.Sets as set;
@@ -115,8 +115,8 @@ pub fn write_layer<W: Sink>(
 ) -> Result<(), LayerFault>
     ensures whole { OnOk result ((m : Layers) → IsOf m topology.now → TookAll (W.seen sink.old) (W.seen sink.new) (collection_text topology.now.grid (set.items (features_at m layer.now)))) }
     ensures part { IfErr result (λ f. f ≡ Write → (m : Layers) → IsOf m topology.now → TookPart (W.seen sink.old) (W.seen sink.new) (collection_text topology.now.grid (set.items (features_at m layer.now)))) }
-    ensures no_layer { (m : Layers) → IsOf m topology.now → IsErrOf result NoLayer ↔ (map.contains_key m layer.now ≡ false) }
-    ensures untouched { IsErrOf result NoLayer → sink.new ≡ sink.old }
+    ensures no_layer { (m : Layers) → IsOf m topology.now → (result ≡ Err NoLayer) ↔ (¬ IsTrue (map.contains_key m layer.now)) }
+    ensures untouched { result ≡ Err NoLayer → sink.new ≡ sink.old }
 {
     let Some(geometries) = topology.geometries(layer) else {
         return Err(LayerFault::NoLayer);

@@ -1,25 +1,45 @@
 //! The features of a layer.
+ghost use Rattle.std.specs.Prelude.{◌≡◌, ◌↔◌, Err, IfOk, IsTrue, List};
+ghost use Rattle.std.specs.FinMap as map;
+ghost use Rattle.shapes.specs.Maps.{Layers, features_at};
+ghost use Rattle.shapes.specs.Sets as set;
+ghost use Rattle.shapes.specs.declared.feature.Feature as features;
+ghost use Rattle.topo.specs.Features.{AreFeaturesOf};
+ghost use Rattle.topo.specs.OfMap.{IsOf};
+ghost use Rattle.query.specs.declared.fault.QueryFault.TheVariants.{NoLayer as MissingLayer};
+
 use crate::fault::QueryFault;
+use faults::OutOfMemory;
 use shapes::feature::Feature;
 use std::alloc::Global;
-use topo::Topology;
+use topo::{Geom, Topology};
 
-/// The features of a layer, in their order.
-///
-/// # Errors
-/// `NoLayer` where the topology has no layer of that name; `OutOfMemory`.
-pub fn feature(
+/// The features that geometries of a topology stitch to, in order.
+fn stitched(
     alloc: Global,
     topology: &Topology,
-    layer: &str,
-) -> Result<Vec<Feature>, QueryFault> {
-    let map = topology.expand(alloc)?;
-    let Some(features) = map.layer(layer) else {
+    geometries: &[Geom],
+) -> Result<Vec<Feature>, OutOfMemory>
+    requires { (fs : List features.Feature) × AreFeaturesOf topology.now.arcs.arcs fs geometries.now }
+    ensures { IfOk result (λ made. (fs : List features.Feature) → AreFeaturesOf topology.now.arcs.arcs fs geometries.now → made.items ≡ fs) }
+{
+    let mut made = Vec::with_capacity(alloc, geometries.len())?;
+    for geometry in geometries {
+        made.push(topology.feature(alloc, geometry)?)?;
+    }
+    Ok(made)
+}
+
+/// The features of a layer, in their order, stitched from the arcs of the layer's geometries alone.
+///
+/// # Errors
+/// `NoLayer` exactly where the topology has no layer of that name; `OutOfMemory`.
+pub fn feature(alloc: Global, topology: &Topology, layer: &str) -> Result<Vec<Feature>, QueryFault>
+    ensures layer { (m : Layers) → IsOf m topology.now → (result ≡ Err MissingLayer) ↔ (¬ IsTrue (map.contains_key m layer.now)) }
+    ensures features { IfOk result (λ made. (m : Layers) → IsOf m topology.now → made.items ≡ set.items (features_at m layer.now)) }
+{
+    let Some(geometries) = topology.geometries(layer) else {
         return Err(QueryFault::NoLayer);
     };
-    let mut copies = Vec::with_capacity(alloc, features.len())?;
-    for feature in features {
-        copies.push(feature.copy(alloc)?)?;
-    }
-    Ok(copies)
+    Ok(stitched(alloc, topology, geometries)?)
 }

@@ -176,6 +176,7 @@ impl Topology {
     pub fn geometries(&self, name: &str) -> Option<&[Geom]>
         ensures found { IfSome result (λ gs. IsOfLayerNamed self.now.layers name.now gs.now) }
         ensures none { IfNone result ((l : LayerParts) → Has l self.now.layers → ¬ (spelled_text l.name ≡ name.now)) }
+        ensures of_map { IsOfSomeMap self.now }
     {
         find_geometries(self.layers(), name)
     }

@@ -7,7 +7,10 @@ true_false : true ≡ false → ⊥
 true_false e = cc
 
 pub returns-in_default-clause-no_layer : goal.returns-in_default-clause-no_layer
-returns-in_default-clause-no_layer g c = λ m is. ((λ e. no_layer_is m c.args.topology.now c.args.layer.now is c.in_default.ensures.none), (λ e. refl))
+returns-in_default-clause-no_layer g c = λ m is. (
+  (λ e n. true_false (sym n ∙ no_layer_is m c.args.topology.now c.args.layer.now is c.in_default.ensures.none)),
+  (λ e. refl),
+)
 
 pub returns-in-Ok-clause-whole : goal.returns-in-Ok-clause-whole
 returns-in-Ok-clause-whole g c = λ m is.
@@ -17,7 +20,7 @@ returns-in-Ok-clause-whole g c = λ m is.
 pub returns-in-Ok-clause-no_layer : goal.returns-in-Ok-clause-no_layer
 returns-in-Ok-clause-no_layer g c = λ m is. (
   (λ e. absurd cc),
-  (λ e. absurd (true_false (sym (layer_text_is m c.args.topology.now c.args.layer.now c.in-Some.geometries.now is c.in-Some.ensures.found).there ∙ e))),
+  (λ n. absurd (n (layer_text_is m c.args.topology.now c.args.layer.now c.in-Some.geometries.now is c.in-Some.ensures.found).there)),
 )
 
 pub returns-in-Err-Write-clause-part : goal.returns-in-Err-Write-clause-part
@@ -28,5 +31,5 @@ returns-in-Err-Write-clause-part g c = λ e m is.
 pub returns-in-Err-Write-clause-no_layer : goal.returns-in-Err-Write-clause-no_layer
 returns-in-Err-Write-clause-no_layer g c = λ m is. (
   (λ e. absurd cc),
-  (λ e. absurd (true_false (sym (layer_text_is m c.args.topology.now c.args.layer.now c.in-Some.geometries.now is c.in-Some.ensures.found).there ∙ e))),
+  (λ n. absurd (n (layer_text_is m c.args.topology.now c.args.layer.now c.in-Some.geometries.now is c.in-Some.ensures.found).there)),
 )
