@@ -1,8 +1,11 @@
+use crate::items::Items;
 use crate::line::Line;
 use crate::ring::Ring;
 use crate::shape_fault::ShapeFault;
+use crate::text::Text;
 use grid::pos::Pos;
 use std::alloc::Global;
+use std::hash::{DefaultHasher, Hash, Hasher};
 use std::process::Abort;
 use std::test::Fail;
 
@@ -98,5 +101,38 @@ fn a_line_keeps_its_direction(rt: HostRuntime) -> Result<(), Fail> {
     let made = line(alloc, &[C, C, B, A, A])??;
     assert_eq!(rt; made.positions(), positions(alloc, &[C, B, A])?.as_slice());
     assert_eq!(rt; made.copy(alloc)?, made);
+    Ok(())
+}
+
+#[test]
+fn items_and_texts(rt: HostRuntime) -> Result<(), Fail> {
+    let alloc = rt.alloc();
+    let first = Items::from_vec(positions(alloc, &[A, B])?);
+    let second = Items::from_vec(positions(alloc, &[A, C])?);
+    assert!(rt; first < second && first != second);
+    assert_eq!(rt; first.as_slice(), positions(alloc, &[A, B])?.as_slice());
+    assert_eq!(rt;
+        second.into_vec().as_slice(),
+        positions(alloc, &[A, C])?.as_slice()
+    );
+    let text = Text::from_string(String::from_str(alloc, "10")?);
+    assert_eq!(rt; text.as_str(), "10");
+    assert!(rt; text < Text::from_string(String::from_str(alloc, "9")?));
+    Ok(())
+}
+
+fn hash_of<T: Hash>(value: &T) -> u64 {
+    let mut state = DefaultHasher::new();
+    value.hash(&mut state);
+    state.finish()
+}
+
+#[test]
+fn equal_rings_and_lines_have_one_hash(rt: HostRuntime) -> Result<(), Fail> {
+    let alloc = rt.alloc();
+    let made = ring(alloc, &[C, A, B, C])??;
+    assert_eq!(rt; hash_of(&made), hash_of(&ring(alloc, &[A, B, C, A])??));
+    let open = line(alloc, &[A, B])??;
+    assert_eq!(rt; hash_of(&open), hash_of(&line(alloc, &[A, A, B])??));
     Ok(())
 }
