@@ -1,5 +1,5 @@
 -- Lists of texts that are read one after the other.
-use Rattle.std.proofs.Common.{◌≡◌, ℕ, List, [], ◌∷◌, ◌++◌, ◌+◌, length, arith, append_assoc}
+use Rattle.std.proofs.Common.{◌≡◌, ℕ, List, [], ◌∷◌, ◌++◌, ◌+◌, length, refl, arith, append_assoc}
 use Rattle.std.proofs.lemmas.List.{length-append}
 use Rattle.std.proofs.lemmas.List.Elements.{All-append, All-cons, All-nil}
 use Rattle.faults.specs.declared.fault.Fault.{Fault}
@@ -16,6 +16,9 @@ pub record SoFar (t : Transform) (texts left : List (List ℕ)) (place : ℕ) : 
   pub parts : before ++ left ≡ texts
   pub at : length before ≡ place
   pub accepted : AreAccepted t before
+
+pub begun : (t : Transform) (texts : List (List ℕ)) → SoFar t texts texts 0
+begun t texts = record { before = []; parts = refl; at = refl; accepted = All-nil _ }
 
 -- one more text is accepted
 pub one_more : (t : Transform) (texts left : List (List ℕ)) (text : List ℕ) (after : List (List ℕ)) (place : ℕ)

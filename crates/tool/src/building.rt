@@ -1,7 +1,11 @@
 //! From GeoJSON texts to a topology: `build_text` and the command `build`.
-ghost use Rattle.std.specs.Prelude.{◌≡◌, map, OnOk, IfErr};
+ghost use Rattle.std.specs.Prelude.{◌≡◌, map, OnOk, IfOk, IfErr};
+ghost use Rattle.shapes.specs.Maps.{set_of};
 ghost use Rattle.tool.specs.declared.building.BuildFault.TheVariants.{OutOfMemory as WantOfMemory};
+ghost use Rattle.tool.specs.Maps.{named_texts, IsMapOfTexts, IsTextOfTexts, with_features};
 ghost use Rattle.tool.specs.Sources.{AreAccepted, IsRefusal, IsFaultAt};
+ghost use Rattle.topo.specs.OfMap.{seen_parts};
+ghost use Rattle.topo_io.specs.TopologyText.{topology_text};
 
 use crate::files::{Files, name_at, read_named};
 use crate::grid_word::parse_grid;
@@ -34,19 +38,30 @@ impl From<OutOfMemory> for BuildFault {
 
 /// The canonical text of the topology of GeoJSON texts. Before each text stands the name of the
 /// layer that its features are put into; texts with one name share a layer.
+///
+/// # Errors
+/// `Text` with the first refused text of the list and its least fault; `OutOfMemory`.
 pub fn build_text(
     alloc: Global,
     grid: &Grid,
     texts: &[(String, Vec<u8>)],
 ) -> Result<Vec<u8>, BuildFault>
     ensures accepted { OnOk result (AreAccepted grid.now (map (λ s. s.1.items) texts.now)) }
+    ensures canonical { IfOk result (λ t. IsTextOfTexts grid.now (named_texts texts.now) t.items) }
     ensures refused { IfErr result (IsRefusal grid.now (map (λ s. s.1.items) texts.now)) }
 {
     let topology = build_topology(alloc, grid, texts)?;
+    Ok(text_of(alloc, &topology)?)
+}
+
+// The canonical text of a topology, in memory.
+fn text_of(alloc: Global, topology: &Topology) -> Result<Vec<u8>, OutOfMemory>
+    ensures { IfOk result (λ t. t.items ≡ topology_text (seen_parts topology.now)) }
+{
     let mut kept = Kept::new(alloc);
-    match topo_io::write(&topology, &mut kept) {
+    match topo_io::write(topology, &mut kept) {
         Ok(()) => Ok(kept.into_bytes()),
-        Err(_) => Err(BuildFault::OutOfMemory),
+        Err(_) => Err(OutOfMemory),
     }
 }
 
@@ -57,6 +72,7 @@ fn build_topology(
     texts: &[(String, Vec<u8>)],
 ) -> Result<Topology, BuildFault>
     ensures accepted { OnOk result (AreAccepted grid.now (map (λ s. s.1.items) texts.now)) }
+    ensures canonical { IfOk result (λ t. IsTextOfTexts grid.now (named_texts texts.now) (topology_text (seen_parts t))) }
     ensures refused { IfErr result (IsRefusal grid.now (map (λ s. s.1.items) texts.now)) }
 {
     let map = read_layers(alloc, grid, texts)?;
@@ -70,6 +86,7 @@ fn read_layers(
     texts: &[(String, Vec<u8>)],
 ) -> Result<FeatureMap, BuildFault>
     ensures accepted { OnOk result (AreAccepted grid.now (map (λ s. s.1.items) texts.now)) }
+    ensures map { IfOk result (IsMapOfTexts grid.now (named_texts texts.now)) }
     ensures refused { IfErr result (IsRefusal grid.now (map (λ s. s.1.items) texts.now)) }
 {
     let mut map = FeatureMap::new(alloc);
@@ -91,11 +108,15 @@ fn add_features(
     map: &mut FeatureMap,
     layer: &str,
     features: BTreeSet<Feature>,
-) -> Result<(), OutOfMemory> {
+) -> Result<(), OutOfMemory>
+    ensures { OnOk result (map.new ≡ with_features map.old layer.now (set_of features)) }
+{
     map.add_layer(layer)?;
     for feature in features {
-        if let Err(InsertFault::OutOfMemory) = map.insert(layer, feature) {
-            return Err(OutOfMemory);
+        match map.insert(layer, feature) {
+            Ok(_) => {}
+            Err(InsertFault::OutOfMemory) => return Err(OutOfMemory),
+            Err(InsertFault::NoLayer) => unreachable!(),
         }
     }
     Ok(())

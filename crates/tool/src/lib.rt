@@ -9,6 +9,7 @@ mod building;
 mod command;
 mod files;
 mod grid_word;
+pub mod laws;
 mod merging;
 mod queries;
 mod refusal;

@@ -1,9 +1,14 @@
 use Rattle.std.proofs.Common.{length, map}
+use Rattle.tool.specs.Maps.{named_texts}
+use Rattle.tool.proofs.Layers.{SoFarMap}
 use Rattle.tool.proofs.Refusals.{SoFar}
 use Rattle.tool.proofs.building.read_layers.Given as goal
 
 abbrev pub invariant-loop-source : goal.invariant-loop-source
-invariant-loop-source l = SoFar l.grid (map (λ s. s.1.items) l.texts) (map (λ s. s.1.items) l.left) l.place
+invariant-loop-source l = record {
+  judged : SoFar l.grid (map (λ s. s.1.items) l.texts) (map (λ s. s.1.items) l.left) l.place;
+  collected : SoFarMap l.grid (named_texts l.texts) (named_texts l.left) l.map;
+}
 
 abbrev pub decreases-loop-source : goal.decreases-loop-source
 decreases-loop-source l = length l.left

@@ -1,0 +1,39 @@
+-- The map of GeoJSON texts, each after its layer's name, and the canonical text of that map.
+use Rattle.std.specs.Prelude.{◌≡◌, ℕ, List, [], ◌∷◌, ◌++◌, map as map_list, String, Vec, string_bytes, if◌then◌else◌}
+use Rattle.std.specs.FinMap as map
+use Rattle.std.specs.Str.{bytes_eq}
+use Rattle.std.specs.declared.alloc.Global.{Global}
+use Rattle.grid.specs.Place.{Transform}
+use Rattle.shapes.specs.Sets as set
+use Rattle.shapes.specs.Maps.{Features, Layers, features_at}
+use Rattle.reading.specs.Meant.{AreLayers}
+use Rattle.reading.specs.Plain.{Plain}
+use Rattle.geojson_io.specs.Features.{features_of_text}
+use Rattle.topo_io.specs.Canon.{canon}
+
+-- names and texts by their bytes
+abbrev pub named_texts : List (String Global × Vec ℕ Global) → List (List ℕ × List ℕ)
+named_texts texts = map_list (λ s. (string_bytes s.0, s.1.items)) texts
+
+-- the features of all texts of that name, as plain data
+abbrev pub features_under : Transform → List ℕ → List (List ℕ × List ℕ) → List Plain
+features_under t n [] = []
+features_under t n (s ∷ texts) = (if bytes_eq n s.0 then features_of_text t s.1 else []) ++ features_under t n texts
+
+-- the name of each text, with the features of all texts of that name
+abbrev pub layers_of_texts : Transform → List (List ℕ × List ℕ) → List (List ℕ × List Plain)
+layers_of_texts t texts = map_list (λ s. (s.0, features_under t s.0 texts)) texts
+
+-- the layers of the map have the names of the texts, and each has the features of all texts of its name, and no others
+pub record IsMapOfTexts (t : Transform) (texts : List (List ℕ × List ℕ)) (m : Layers) : Type 0 where
+  pub layers : AreLayers m (layers_of_texts t texts)
+
+-- the canonical text of the map of the texts
+pub record IsTextOfTexts (t : Transform) (texts : List (List ℕ × List ℕ)) (text : List ℕ) : Type 0 where
+  pub map : Layers
+  pub of_texts : IsMapOfTexts t texts map
+  pub is : text ≡ canon t map
+
+-- the map with these features under a name
+abbrev pub with_features : Layers → List ℕ → Features → Layers
+with_features m n s = map.insert m n (set.union (features_at m n) s)
