@@ -1,10 +1,10 @@
 #!/usr/bin/env python3
 """Measures the command on tilings of districts, against reading the same files as JSON values.
 
-    cd crates/topotool && rt run; cd ../value_alone && rt run; cd ../..
+    for p in topotool features_alone value_alone; do (cd crates/$p && rt run); done
     python3 bench/run.py
 
-builds both programs and prints a table: for each command its time, how many times the time and the
+builds the programs and prints a table: for each command its time, how many times the time and the
 peak memory of reading its input as values alone it takes, and by how much the time grows when the
 map doubles. Times are processor times (user and system), the least of some runs. It also compares
 merges of shards, in several orders and shapes, with the build of the whole, byte by byte.
@@ -22,6 +22,7 @@ import generate
 TOP = os.path.dirname(os.path.dirname(os.path.abspath(__file__)))
 TOOL = os.path.join(TOP, "crates", "topotool", "out", "topotool")
 VALUE = os.path.join(TOP, "crates", "value_alone", "out", "value_alone")
+FEATURES = os.path.join(TOP, "crates", "features_alone", "out", "features_alone")
 SHARDS = 16
 GRID = ["--grid", "1,1,0,0"]
 
@@ -85,16 +86,17 @@ def compare_merges(folder, whole, shards, seed):
 
 def commands(folder, whole, shards):
     """The measured commands: title, words, and the files whose values are read for comparison."""
+    tiling = os.path.join(folder, "tiling.json")
     return [
-        ("build", ["build", *GRID, "a=" + os.path.join(folder, "tiling.json")],
-         [os.path.join(folder, "tiling.json")]),
-        ("check", ["check", whole], [whole]),
-        ("merge of one file", ["merge", whole], [whole]),
-        (f"merge of {SHARDS} shards", ["merge", *shards], shards),
-        ("feature", ["feature", "--layer", "a", whole], [whole]),
-        ("mesh", ["mesh", whole], [whole]),
-        ("mesh --edges interior", ["mesh", "--edges", "interior", whole], [whole]),
-        ("neighbors", ["neighbors", "--layer", "a", whole], [whole]),
+        ("features of GeoJSON", [FEATURES, tiling], [tiling]),
+        ("build", [TOOL, "build", *GRID, "a=" + tiling], [tiling]),
+        ("check", [TOOL, "check", whole], [whole]),
+        ("merge of one file", [TOOL, "merge", whole], [whole]),
+        (f"merge of {SHARDS} shards", [TOOL, "merge", *shards], shards),
+        ("feature", [TOOL, "feature", "--layer", "a", whole], [whole]),
+        ("mesh", [TOOL, "mesh", whole], [whole]),
+        ("mesh --edges interior", [TOOL, "mesh", "--edges", "interior", whole], [whole]),
+        ("neighbors", [TOOL, "neighbors", "--layer", "a", whole], [whole]),
     ]
 
 
@@ -107,7 +109,7 @@ def measure_size(folder, positions, seed, runs):
     results = []
     for title, words, files in commands(folder, whole, shards):
         value = measure([VALUE, *files], out, runs)
-        command = measure([TOOL, *words], out, runs)
+        command = measure(words, out, runs)
         results.append((title, command, value))
     return count, results
 
