@@ -13,6 +13,7 @@ use Rattle.shapes.specs.declared.feature.Feature.{Feature}
 use Rattle.shapes.proofs.MapLemmas.{contains-set_of}
 use Rattle.reading.specs.Plain.{Plain, plain}
 use Rattle.reading.specs.Meant.{AreFeatures}
+use Rattle.reading.proofs.Plains.{has_plain, plain_has}
 
 either : (a b : Bool) → (a || b) ≡ true → (a ≡ true) ⊎ (b ≡ true)
 either true b e = inl refl
@@ -45,16 +46,6 @@ collected n ks made q =
       λ e. has_member q ks (sym same ∙ e),
       λ h. same ∙ member_has q ks h,
     )
-
-has_plain : (f : Feature) (fs : List Feature) → Has f fs → Has (plain f) (map plain fs)
-has_plain f [] h = absurd h
-has_plain f (g ∷ fs) (inl e) = inl (ap plain e)
-has_plain f (g ∷ fs) (inr h) = inr (has_plain f fs h)
-
-plain_has : (p : Plain) (fs : List Feature) → Has p (map plain fs) → (f : Feature) × Has f fs × (plain f ≡ p)
-plain_has p [] h = absurd h
-plain_has p (g ∷ fs) (inl e) = (g, inl refl, sym e)
-plain_has p (g ∷ fs) (inr h) = let rest = plain_has p fs h in (rest.0, inr rest.1, rest.2)
 
 pub are_features : (made : Features) (given : List Feature) (meant : List Plain) → ((f : Feature) → IsTrue (set.contains made f) ↔ Has f given) → map plain given ≡ meant → AreFeatures made meant
 are_features made given meant holds same = record {

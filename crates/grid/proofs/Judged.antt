@@ -123,7 +123,7 @@ same_tests false false f g = refl
 fits_test : (s : Scaling) (n : ℤ) → FitsAxis s n → fits_axis s n ≡ true
 fits_test s n h = both (is_grid_number n) (is_absolute (absolute s n)) (number_test n h.number) (absolute_test (absolute s n) h.absolute)
 
-by_fits_test : (s : Scaling) (n : ℤ) → fits_axis s n ≡ true → FitsAxis s n
+pub by_fits_test : (s : Scaling) (n : ℤ) → fits_axis s n ≡ true → FitsAxis s n
 by_fits_test s n e = record {
   number = by_number_test n (both_first (is_grid_number n) (is_absolute (absolute s n)) e);
   absolute = by_absolute_test (absolute s n) (both_second (is_grid_number n) (is_absolute (absolute s n)) e);

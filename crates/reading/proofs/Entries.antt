@@ -1,9 +1,13 @@
 -- The members of an object in the order of their names.
-use Rattle.std.proofs.Common.{◌≡◌, List, [], ◌∷◌, ◌++◌, String, Global, string_bytes, string_cmp, Less, ℕ, map, append_assoc, append-nil, sym, ap, ◌∙◌, subst, refl}
+use Rattle.std.proofs.Common.{◌≡◌, ◌⊎◌, inl, inr, List, [], ◌∷◌, ◌++◌, String, Global, string_bytes, string_cmp, Less, Equal, ℕ, map, append_assoc, append-nil, sym, ap, ◌∙◌, subst, refl}
+use Rattle.std.specs.Cmp.{tied_itself}
+use Rattle.std.specs.Cmp.Lexicographic.{slice_cmp, nat_list_cmp_total}
 use Rattle.std.specs.List.{AllByRecursion}
 use Rattle.std.specs.List.Sorted.{IsStrictlySortedBy}
 use Rattle.std.specs.Map.{keys_of}
+use Rattle.std.specs.Ordering.{nat_cmp}
 use Rattle.std.proofs.lemmas.List.{map-append}
+use Rattle.theory.specs.Lists.{Has, Distinct}
 use Rattle.serde_json.specs.Data.{Data, Members, no_members, member}
 use Rattle.serde_json.specs.View.{view, members_view}
 use Rattle.serde_json.proofs.Views.{Entry}
@@ -41,3 +45,25 @@ members_more {X} R k d left whole found now s x is is_name means before xs h =
 
 pub members_all : {X : Type 0} (R : Data → X → Type 0) (whole : Members) (found : List (String Global × X)) → MeansAfter R whole no_members found → MeanMembers R whole (map named found)
 members_all R whole found after = subst (MeanMembers R whole) (append-nil (map named found)) (after [] tt)
+
+names_apart : {X : Type 0} (R : Data → X → Type 0) (k : String Global) (es : List Entry) (ms : List (String Global × X)) → AllByRecursion (λ y. string_cmp k y ≡ Less) (keys_of es) → MeanMembers R (members_view es) (map named ms)
+    → Has (string_bytes k) (map (λ m. string_bytes m.0) ms) → ⊥
+names_apart R k es [] below mean h = absurd h
+names_apart R k [] (m ∷ ms) below mean h = absurd mean
+names_apart R k (e ∷ es) (m ∷ ms) below mean (inl same) =
+    let less : slice_cmp nat_cmp (string_bytes k) (string_bytes k) ≡ Less = subst (λ n. slice_cmp nat_cmp (string_bytes k) n ≡ Less) (sym (same ∙ mean.0.0)) below.0 in
+    not_less (sym (tied_itself nat_list_cmp_total (string_bytes k)) ∙ less)
+  where
+    not_less : Equal ≡ Less → ⊥
+    not_less e = cc
+names_apart R k (e ∷ es) (m ∷ ms) below mean (inr h) = names_apart R k es ms below.1 mean.1 h
+
+-- members in the order of their names have each name once
+pub names_once : {X : Type 0} (R : Data → X → Type 0) (es : List Entry) (ms : List (String Global × X)) → IsStrictlySortedBy string_cmp (keys_of es) → MeanMembers R (members_view es) (map named ms) → Distinct (map (λ m. string_bytes m.0) ms)
+unfolding IsStrictlySortedBy
+names_once R es [] ordered mean = tt
+names_once R [] (m ∷ ms) ordered mean = absurd mean
+names_once R (e ∷ es) (m ∷ ms) ordered mean = (
+  λ h. names_apart R e.0 es ms ordered.0 mean.1 (subst (λ n. Has n (map (λ m. string_bytes m.0) ms)) mean.0.0 h),
+  names_once R es ms ordered.1 mean.1,
+)

@@ -100,6 +100,19 @@ layers_once made other meant are also =
     let (ps, has) = layer_of n meant ((are.names n).0 there) in
     features_once (features_at made n) (features_at other n) ps (are.features n ps has) (also.features n ps has)))
 
+-- ---- lists of features
+
+-- a list's features as plain data
+pub has_plain : (f : Feature) (fs : List Feature) → Has f fs → Has (plain f) (map plain fs)
+has_plain f [] h = absurd h
+has_plain f (g ∷ fs) (inl e) = inl (ap plain e)
+has_plain f (g ∷ fs) (inr h) = inr (has_plain f fs h)
+
+pub plain_has : (p : Plain) (fs : List Feature) → Has p (map plain fs) → (f : Feature) × Has f fs × (plain f ≡ p)
+plain_has p [] h = absurd h
+plain_has p (g ∷ fs) (inl e) = (g, inl refl, sym e)
+plain_has p (g ∷ fs) (inr h) = let rest = plain_has p fs h in (rest.0, inr rest.1, rest.2)
+
 -- ---- what fits
 
 -- each feature of the map fits where the plain data of its layers does

@@ -9,6 +9,10 @@ pub ok_map : {X E : Type 0} (r : Result X E) (B C : X → Type 0) → IfOk r B �
 ok_map (Ok x) B C b f = f x b
 ok_map (Err e) B C b f = tt
 
+pub ok_both : {X E : Type 0} (r : Result X E) (B C : X → Type 0) → IfOk r B → IfOk r C → IfOk r (λ x. B x × C x)
+ok_both (Ok x) B C b c = (b, c)
+ok_both (Err e) B C b c = tt
+
 pub on_ok_map : {X E : Type 0} (r : Result X E) (A B : Type 0) → OnOk r A → (A → B) → OnOk r B
 on_ok_map (Ok x) A B a f = f a
 on_ok_map (Err e) A B a f = tt

@@ -1,6 +1,7 @@
 //! A part of a text, by its faults and its meaning; lists, pairs and members of parts.
 ghost use Rattle.std.specs.Prelude.{◌≡◌, [], ◌∷◌, ◌++◌, List, map, IfOk, IfErr, OnOk, MatchOption, Some, None, Ok, Err, codes, String, string_bytes};
 ghost use Rattle.std.specs.List.{AllZip};
+ghost use Rattle.theory.specs.Lists.{Distinct};
 ghost use Rattle.serde_json.specs.Data.{Data};
 ghost use Rattle.serde_json.specs.Find.{as_array, get};
 ghost use Rattle.serde_json.specs.View.{view, members_view};
@@ -168,13 +169,14 @@ pub fn read_member<P: Part>(
     }
 }
 
-/// Each member of an object, with its name, in the byte order of the names.
+/// Each member of an object, with its name, in the byte order of the names, each name once.
 pub fn read_each_member<P: Part>(
     alloc: Global,
     part: &P,
     members: &Map<String, Value>,
 ) -> Result<Vec<(String, P::Made)>, Fault>
     ensures made { IfOk result (λ ms. MeanMembers (P.means part.now) (members_view members.now.entries) (map (λ m. (string_bytes m.0, m.1)) ms.items)) }
+    ensures distinct { IfOk result (λ ms. Distinct (map (λ m. string_bytes m.0) ms.items)) }
     ensures ok { OnOk result
         (each_member_faults (P.faults part.now) (members_view members.now.entries) ≡ []) }
     ensures err { IfErr result

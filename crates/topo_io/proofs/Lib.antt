@@ -5,3 +5,6 @@ pub mod Steps
 pub mod Stitching
 pub mod Roots
 pub mod Geometries
+pub mod Filling
+pub mod Fitting
+pub mod Once

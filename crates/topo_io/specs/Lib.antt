@@ -7,3 +7,4 @@ pub mod Geometries
 pub mod Roots
 pub mod Layers
 pub mod Means
+pub mod Laws

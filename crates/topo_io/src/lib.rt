@@ -1,6 +1,7 @@
 //! Texts of topologies in and out (TopoJSON, section 2).
 #![tactic(auto)]
 
+pub mod laws;
 pub mod reader;
 pub mod same;
 pub mod writer;

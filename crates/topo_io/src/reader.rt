@@ -1,5 +1,7 @@
 //! Topologies in: the grid and the features that arcs stitch to.
-ghost use Rattle.std.specs.Prelude.{◌≡◌, [], ◌++◌, map, Some, Ok, Err, codes, IfOk, IfErr, OnOk, string_bytes};
+ghost use Rattle.std.specs.Prelude.{◌≡◌, [], ◌++◌, map as map_list, IsTrue, Some, Ok, Err, codes, IfOk, IfErr, OnOk, string_bytes};
+ghost use Rattle.std.specs.FinMap as finite;
+ghost use Rattle.theory.specs.Lists.{Distinct};
 ghost use Rattle.serde_json.specs.Data.{Data};
 ghost use Rattle.serde_json.specs.Find.{get, as_object};
 ghost use Rattle.serde_json.specs.View.{view};
@@ -9,7 +11,10 @@ ghost use Rattle.reading.specs.Fault.{LeastOrWant, under};
 ghost use Rattle.reading.specs.Parts.{named, type_text, member_faults};
 ghost use Rattle.reading.specs.Info.{member_or_null};
 ghost use Rattle.topo_io.specs.Arcs.{known};
-ghost use Rattle.topo_io.specs.Layers.{plain_layer};
+ghost use Rattle.topo.specs.Features.{with_features};
+ghost use Rattle.shapes.specs.Fitting.{MapFits};
+ghost use Rattle.topo_io.specs.Means.{Means};
+ghost use Rattle.topo_io.specs.Layers.{plain_layer, layer_read, names_read, with_layers};
 ghost use Rattle.topo_io.specs.Roots.{topology_named, objects_faults, layers_if_object, content_faults, layers_of, limits_of, transform_of, transform_faults, transformed_faults, topology_faults, grid_of, faults_of_text, grid_of_text, layers_of_text};
 
 pub mod arc;
@@ -68,7 +73,7 @@ impl Part for Objects<'_, '_> {
 
     ghost faults = { λ p. objects_faults p.on.now.limits (known p.on.now.arcs.now) };
 
-    ghost means = { λ p d ls. map plain_layer ls.items ≡ layers_if_object p.on.now.arcs.now (as_object d) };
+    ghost means = { λ p d ls. (map_list plain_layer ls.items ≡ layers_if_object p.on.now.arcs.now (as_object d)) × Distinct (names_read ls.items) };
 
     fn read(&self, alloc: Global, value: &Value) -> Result<Layers, Fault> {
         let of = LayerOf { on: self.on };
@@ -81,7 +86,8 @@ impl Part for Objects<'_, '_> {
 
 fn read_objects(alloc: Global, on: &Ground, value: &Value) -> Result<Layers, Fault>
     ensures ok { OnOk result (member_faults (codes "objects") (objects_faults on.now.limits (known on.now.arcs.now)) (view value.now) ≡ []) }
-    ensures made { IfOk result (λ ls. map plain_layer ls.items ≡ layers_if_object on.now.arcs.now (as_object (member_or_null (codes "objects") (view value.now)))) }
+    ensures made { IfOk result (λ ls. map_list plain_layer ls.items ≡ layers_if_object on.now.arcs.now (as_object (member_or_null (codes "objects") (view value.now)))) }
+    ensures distinct { IfOk result (λ ls. Distinct (names_read ls.items)) }
     ensures err { IfErr result (λ f. LeastOrWant (member_faults (codes "objects") (objects_faults on.now.limits (known on.now.arcs.now)) (view value.now)) f) }
 {
     read_member(alloc, &Objects { on }, value, "objects")
@@ -90,7 +96,8 @@ fn read_objects(alloc: Global, on: &Ground, value: &Value) -> Result<Layers, Fau
 /// The layers of a topology: its arcs are judged first, used or not, and dropped at the end.
 fn read_layers(alloc: Global, limits: &Limits, value: &Value) -> Result<Layers, Fault>
     ensures ok { OnOk result (content_faults limits.now (view value.now) ≡ []) }
-    ensures made { IfOk result (λ ls. map plain_layer ls.items ≡ layers_of (view value.now)) }
+    ensures made { IfOk result (λ ls. map_list plain_layer ls.items ≡ layers_of (view value.now)) }
+    ensures distinct { IfOk result (λ ls. Distinct (names_read ls.items)) }
     ensures err { IfErr result (λ f. LeastOrWant (content_faults limits.now (view value.now)) f) }
 {
     let of = ArcOf { limits: *limits };
@@ -120,7 +127,8 @@ fn read_faulty(alloc: Global, fault: Fault, value: &Value) -> Result<(Grid, Laye
 fn read_with(alloc: Global, transform: &Value, value: &Value) -> Result<(Grid, Layers), Fault>
     ensures ok { OnOk result (content_faults (limits_of (view transform.now)) (view value.now) ++ under (name_turn (codes "transform")) (transform_faults (view transform.now)) ≡ []) }
     ensures grid { IfOk result (λ made. made.0 ≡ transform_of (view transform.now)) }
-    ensures layers { IfOk result (λ made. map plain_layer made.1.items ≡ layers_of (view value.now)) }
+    ensures layers { IfOk result (λ made. map_list plain_layer made.1.items ≡ layers_of (view value.now)) }
+    ensures distinct { IfOk result (λ made. Distinct (names_read made.1.items)) }
     ensures err { IfErr result (λ f. LeastOrWant (content_faults (limits_of (view transform.now)) (view value.now) ++ under (name_turn (codes "transform")) (transform_faults (view transform.now))) f) }
 {
     match read_transform(alloc, transform) {
@@ -135,7 +143,8 @@ fn read_with(alloc: Global, transform: &Value, value: &Value) -> Result<(Grid, L
 fn read_members(alloc: Global, value: &Value) -> Result<(Grid, Layers), Fault>
     ensures ok { OnOk result (transformed_faults (view value.now) (get (codes "transform") (view value.now)) ≡ []) }
     ensures grid { IfOk result (λ made. made.0 ≡ grid_of (view value.now)) }
-    ensures layers { IfOk result (λ made. map plain_layer made.1.items ≡ layers_of (view value.now)) }
+    ensures layers { IfOk result (λ made. map_list plain_layer made.1.items ≡ layers_of (view value.now)) }
+    ensures distinct { IfOk result (λ made. Distinct (names_read made.1.items)) }
     ensures err { IfErr result (λ f. LeastOrWant (transformed_faults (view value.now) (get (codes "transform") (view value.now))) f) }
 {
     match value.get("transform") {
@@ -147,7 +156,8 @@ fn read_members(alloc: Global, value: &Value) -> Result<(Grid, Layers), Fault>
 fn read_root(alloc: Global, value: &Value) -> Result<(Grid, Layers), Fault>
     ensures ok { OnOk result (topology_faults (view value.now) ≡ []) }
     ensures grid { IfOk result (λ made. made.0 ≡ grid_of (view value.now)) }
-    ensures layers { IfOk result (λ made. map plain_layer made.1.items ≡ layers_of (view value.now)) }
+    ensures layers { IfOk result (λ made. map_list plain_layer made.1.items ≡ layers_of (view value.now)) }
+    ensures distinct { IfOk result (λ made. Distinct (names_read made.1.items)) }
     ensures err { IfErr result (λ f. LeastOrWant (topology_faults (view value.now)) f) }
 {
     if !value.is_object() {
@@ -163,25 +173,29 @@ fn read_root(alloc: Global, value: &Value) -> Result<(Grid, Layers), Fault>
 fn read_text(alloc: Global, bytes: &[u8]) -> Result<(Grid, Layers), Fault>
     ensures ok { OnOk result (faults_of_text bytes.now ≡ []) }
     ensures grid { IfOk result (λ made. made.0 ≡ grid_of_text bytes.now) }
-    ensures layers { IfOk result (λ made. map plain_layer made.1.items ≡ layers_of_text bytes.now) }
+    ensures layers { IfOk result (λ made. map_list plain_layer made.1.items ≡ layers_of_text bytes.now) }
+    ensures distinct { IfOk result (λ made. Distinct (names_read made.1.items)) }
     ensures err { IfErr result (λ f. LeastOrWant (faults_of_text bytes.now) f) }
 {
     let value = document(alloc, bytes)?;
     read_root(alloc, &value)
 }
 
+// Puts features into a layer that is there.
 fn fill(
     alloc: Global,
     map: &mut FeatureMap,
     name: &str,
     features: Vec<Feature>,
 ) -> Result<(), Fault>
+    requires { IsTrue (finite.contains_key map.old name.now) }
+    ensures made { OnOk result (map.new ≡ with_features map.old name.now features.items) }
     ensures err { IfErr result IsWant }
 {
     for feature in features {
         match map.insert(name, feature) {
             Ok(_) => {}
-            Err(InsertFault::NoLayer) => {}
+            Err(InsertFault::NoLayer) => unreachable!(),
             Err(InsertFault::OutOfMemory) => return Err(Fault::here(alloc, FaultKind::OutOfMemory)),
         }
     }
@@ -189,6 +203,7 @@ fn fill(
 }
 
 fn map_of(alloc: Global, layers: Layers) -> Result<FeatureMap, Fault>
+    ensures made { IfOk result (λ m. m ≡ with_layers finite.empty (map_list layer_read layers.items)) }
     ensures err { IfErr result IsWant }
 {
     let mut map = FeatureMap::new(alloc);
@@ -211,6 +226,8 @@ fn map_of(alloc: Global, layers: Layers) -> Result<FeatureMap, Fault>
 pub fn read(alloc: Global, bytes: &[u8]) -> Result<(Grid, FeatureMap), Fault>
     ensures ok { OnOk result (faults_of_text bytes.now ≡ []) }
     ensures grid { IfOk result (λ made. made.0 ≡ grid_of_text bytes.now) }
+    ensures means { IfOk result (λ made. Means bytes.now made.0 made.1) }
+    ensures fits { IfOk result (λ made. MapFits made.0 made.1) }
     ensures err { IfErr result (λ f. LeastOrWant (faults_of_text bytes.now) f) }
 {
     let (grid, layers) = read_text(alloc, bytes)?;

@@ -1,10 +1,16 @@
 //! Whether bytes are the canonical text of a topology, with no memory.
 
-ghost use Rattle.std.specs.Prelude.{◌≡◌, ◌≢◌, ◌↔◌, ℕ, ◌<◌, ◌≤◌, ◌++◌, length, take, drop, List, [], IfOk, OnErr, OnOk, Some, None, IsTrue, slice_index, true, false};
+ghost use Rattle.std.specs.Prelude.{◌≡◌, ◌≢◌, ◌↔◌, ℕ, ◌<◌, ◌≤◌, ◌++◌, length, take, drop, List, [], IfOk, IfErr, OnErr, OnOk, Some, None, IsTrue, slice_index, true, false};
 ghost use Rattle.sinks.specs.Seen.{Seen};
 ghost use Rattle.sinks.specs.Writes.{TookAll, TookPart};
 ghost use Rattle.topo.specs.OfMap.{seen_parts};
+ghost use Rattle.grid.specs.Place.{Transform};
+ghost use Rattle.shapes.specs.Maps.{Layers};
+ghost use Rattle.reading.specs.Fault.{LeastOrWant};
 ghost use Rattle.topo_io.specs.TopologyText.{topology_text};
+ghost use Rattle.topo_io.specs.Canon.{canon};
+ghost use Rattle.topo_io.specs.Means.{Means};
+ghost use Rattle.topo_io.specs.Roots.{faults_of_text};
 ghost use Rattle.topo_io.specs.Front.{taken, is_next, may_have_failed, IsCommon};
 
 use crate::read;
@@ -94,8 +100,12 @@ pub fn is_text_of(topology: &Topology, bytes: &[u8]) -> bool
 /// Whether an accepted text is the canonical text of what it means.
 ///
 /// # Errors
-/// The fault of `read`, or want of memory.
-pub fn is_canonical(alloc: Global, bytes: &[u8]) -> Result<bool, Fault> {
+/// The least fault of the text, by path and then by number; `OutOfMemory` at the root.
+pub fn is_canonical(alloc: Global, bytes: &[u8]) -> Result<bool, Fault>
+    ensures canonical { IfOk result (λ yes. (g : Transform) (m : Layers) → Means bytes.now g m → IsTrue yes ↔ (bytes.now ≡ canon g m)) }
+    ensures ok { OnOk result (faults_of_text bytes.now ≡ []) }
+    ensures err { IfErr result (λ f. LeastOrWant (faults_of_text bytes.now) f) }
+{
     let (grid, map) = read(alloc, bytes)?;
     match Topology::build(alloc, &grid, &map) {
         Ok(topology) => Ok(is_text_of(&topology, bytes)),

@@ -7,7 +7,7 @@ use Rattle.faults.specs.Path.{name}
 use Rattle.faults.specs.Fault.{Lifted}
 use Rattle.reading.specs.Fault.{LeastOrWant, under}
 use Rattle.reading.specs.Parts.{each_member_faults}
-use Rattle.reading.proofs.Entries.{member_lifted, MeansAfter, members_more, members_all}
+use Rattle.reading.proofs.Entries.{member_lifted, MeansAfter, members_more, members_all, names_once}
 use Rattle.reading.proofs.part.read_each_member.Goals as goal
 
 pub loop-key-preserved : goal.loop-key-preserved
@@ -40,3 +40,10 @@ returns-clause-made g c =
     let R = g.P.Part.means c.args.part.now in
     let whole = members_view c.args.members.now.entries in
     members_all R whole c.loop-key.found.items (subst (λ es. MeansAfter R whole (members_view es) c.loop-key.found.items) c.in-None.ensures.steps.0 c.loop-key.invariant.3)
+
+pub returns-clause-distinct : goal.returns-clause-distinct
+returns-clause-distinct g c =
+    let R = g.P.Part.means c.args.part.now in
+    let whole = members_view c.args.members.now.entries in
+    let mean = members_all R whole c.loop-key.found.items (subst (λ es. MeansAfter R whole (members_view es) c.loop-key.found.items) c.in-None.ensures.steps.0 c.loop-key.invariant.3) in
+    names_once R c.args.members.now.entries c.loop-key.found.items c.iter-key-items.ensures.ordered mean

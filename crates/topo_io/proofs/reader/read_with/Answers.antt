@@ -33,5 +33,8 @@ returns-in-Err-clause-grid c = never c.read_faulty.result _ c.read_faulty.ensure
 pub returns-in-Err-clause-layers : goal.returns-in-Err-clause-layers
 returns-in-Err-clause-layers c = never c.read_faulty.result _ c.read_faulty.ensures.ok
 
+pub returns-in-Err-clause-distinct : goal.returns-in-Err-clause-distinct
+returns-in-Err-clause-distinct c = never c.read_faulty.result _ c.read_faulty.ensures.ok
+
 pub returns-in-Err-clause-err : goal.returns-in-Err-clause-err
 returns-in-Err-clause-err c = err_map c.read_faulty.result _ _ c.read_faulty.ensures.err (λ f h. h (view c.args.transform.now) c.in-Err.ensures.err)
