@@ -116,3 +116,10 @@ Good-at false d h = h
 
 pub Good-properties : (p : Props) → OptionGood 64 (properties_data (properties_text p))
 Good-properties p = Good-at (bytes_eq (properties_text p) (codes "{}")) _ (Good-value p)
+
+-- the value of properties has no fault, and means their text
+pub properties_value_faultless : (p : Props) → properties_faults (properties_value (properties_text p)) ≡ []
+properties_value_faultless p = let t = properties_text p in value_faultless t (properties_value t) (are_properties p)
+
+pub properties_value_means : (p : Props) → properties_of (properties_value (properties_text p)) ≡ properties_text p
+properties_value_means p = let t = properties_text p in value_means t (properties_value t) (are_properties p) ∙ sym (properties_value_is p)
