@@ -32,7 +32,7 @@ right_true true b e = refl
 right_true false b e = e
 
 module _ {K : Type 0} (R : K → K → Ordering) (o : IsTotalOrder R) (same : IsAntisymmetric R) where
-  any_has : (q : K) (ks : List K) → list_any (eq_by_cmp R q) ks ≡ true → Has q ks
+  pub any_has : (q : K) (ks : List K) → list_any (eq_by_cmp R q) ks ≡ true → Has q ks
   any_has q [] e = cc
   any_has q (k ∷ ks) e =
       elim (either_true (eq_by_cmp R q k) (list_any (eq_by_cmp R q) ks) e) [
@@ -49,7 +49,7 @@ module _ {K : Type 0} (R : K → K → Ordering) (o : IsTotalOrder R) (same : Is
 pub holds_item : (s : Features) (f : Feature) → Has f (set.items s) → set.contains s f ≡ true
 holds_item s f h = contains-items s f ∙ has_any feature_cmp feature_cmp_total same_feature f (set.items s) h
 
-item_held : (s : Features) (f : Feature) → set.contains s f ≡ true → Has f (set.items s)
+pub item_held : (s : Features) (f : Feature) → set.contains s f ≡ true → Has f (set.items s)
 item_held s f h = any_has feature_cmp feature_cmp_total same_feature f (set.items s) (sym (contains-items s f) ∙ h)
 
 -- ---- names

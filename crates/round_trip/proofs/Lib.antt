@@ -8,3 +8,4 @@ pub mod Root
 pub mod Entries
 pub mod Fit
 pub mod OfMap
+pub mod StoredMaps

@@ -29,13 +29,15 @@ use Rattle.shapes.specs.declared.shape.Shape.TheVariants as of
 use Rattle.reading.specs.Meant.{AreLayers}
 use Rattle.reading.specs.Outlines.{outline_faults}
 use Rattle.reading.specs.Plain.{plain, plain_form, plain_id}
+use Rattle.reading.proofs.Plains.{layers_once}
 use Rattle.chains.specs.Seen.{Info, line_of, ring_of, form_of, item_of, layer_of, geometry_of}
 use Rattle.topo.specs.OfMap.{Seen, IsTopology, the_topology}
 use Rattle.topo.proofs.TopologyLaws.{has_topology}
 use Rattle.topo_io.specs.Canon.{canon}
 use Rattle.topo_io.specs.Means.{Means}
+use Rattle.topo_io.specs.Roots.{grid_of_text, layers_of_text}
 use Rattle.compact.specs.Stored.{IsStoredId}
-use Rattle.round_trip.specs.Laws.{IsStored, WrittenTopologiesAreRead}
+use Rattle.round_trip.specs.Laws.{IsStored, WrittenTopologiesAreRead, OneMapOfAText}
 use Rattle.round_trip.proofs.Entries.{has_name, holds_item, names_ascend, meant, holds_layers}
 use Rattle.round_trip.proofs.Fit.{shape_places, feature_fits, chain_long, chain_fits, box_stands}
 use Rattle.round_trip.proofs.Root.{text_accepted, text_grid, text_layers}
@@ -170,3 +172,11 @@ module _ (g : Transform) (m : Layers) (limits : IsTransform g) (stored : IsStore
 
 pub written_topologies_are_read : WrittenTopologiesAreRead
 written_topologies_are_read g m limits stored fits = reads_back g m limits stored fits
+
+pub one_map_of_a_text : OneMapOfAText
+one_map_of_a_text g h m n lg lh sm sn fm fn same =
+    let a = reads_back g m lg sm fm in
+    let b = reads_back h n lh sn fn in (
+      a.grid ∙ ap grid_of_text same ∙ sym b.grid,
+      layers_once m n (layers_of_text (canon h n)) (subst (AreLayers m) (ap layers_of_text same) a.layers) b.layers,
+    )
