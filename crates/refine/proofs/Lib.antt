@@ -4,3 +4,5 @@ pub mod AlikeLemmas
 pub mod SinkLemmas
 pub mod MergeLemmas
 pub mod MergedTexts
+pub mod UnionFits
+pub mod ThroughTexts

@@ -10,6 +10,7 @@ use Rattle.grid.specs.Place.{Transform}
 use Rattle.theory.specs.Lists.{Pairwise}
 use Rattle.shapes.specs.Maps.{Layers}
 use Rattle.reading.specs.Fault.{LeastOrWant}
+use Rattle.topo_io.specs.Means.{Means}
 use Rattle.topo_io.specs.Roots.{faults_of_text, grid_of_text}
 use Rattle.refine.specs.Meaning.{same_grid}
 use Rattle.refine.specs.declared.fault.MergeFault.{MergeFault}
@@ -19,47 +20,47 @@ use Rattle.refine.specs.declared.fault.PlanFault.TheVariants as plan
 use Rattle.refine.specs.Plans.{first_outside, first_other, off_grid, plan_fault}
 use Rattle.std.specs.declared.vec.Vec.{Vec}
 use Rattle.std.specs.declared.alloc.Global.{Global}
-use Rattle.refine.specs.Merge.{bytes_of, IsOnGrid, AreAccepted, AreRead, IsFirstRefused, IsFaultOf, IsReadFault, IsMergeFault, as_merge}
+use Rattle.refine.specs.Merge.{bytes_of, AreAccepted, AreMeant, AreRead, IsFirstRefused, IsFaultOf, IsReadFault, IsMergeFault, as_merge}
 
 -- the texts before that number were read, and these are left
-pub record SoFar {S : Type 0} (grid : S → Transform) (texts left : List (List ℕ)) (number : ℕ) (shards : List S) : Type 0 where
+pub record SoFar {S : Type 0} (grid : S → Transform) (map_of : S → Layers) (texts left : List (List ℕ)) (number : ℕ) (shards : List S) : Type 0 where
   pub before : List (List ℕ)
   pub parts : before ++ left ≡ texts
   pub at : length before ≡ number
-  pub read : AreRead grid before shards
+  pub read : AreRead grid map_of before shards
 
-module _ {S : Type 0} (grid : S → Transform) where
-  read_push : (texts : List (List ℕ)) (shards : List S) (t : List ℕ) (s : S) → AreRead grid texts shards → IsOnGrid t (grid s) → AreRead grid (texts ++ (t ∷ [])) (shards ++ (s ∷ []))
+module _ {S : Type 0} (grid : S → Transform) (map_of : S → Layers) where
+  read_push : (texts : List (List ℕ)) (shards : List S) (t : List ℕ) (s : S) → AreRead grid map_of texts shards → Means t (grid s) (map_of s) → AreRead grid map_of (texts ++ (t ∷ [])) (shards ++ (s ∷ []))
   read_push [] [] t s h m = (m, tt)
   read_push [] (x ∷ xs) t s h m = absurd h
   read_push (u ∷ us) [] t s h m = absurd h
   read_push (u ∷ us) (x ∷ xs) t s h m = (h.0, read_push us xs t s h.1 m)
 
-  pub read_accepted : (texts : List (List ℕ)) (shards : List S) → AreRead grid texts shards → AreAccepted texts
+  pub read_accepted : (texts : List (List ℕ)) (shards : List S) → AreRead grid map_of texts shards → AreAccepted texts
   read_accepted [] [] h = All-nil (λ t. faults_of_text t ≡ [])
   read_accepted [] (x ∷ xs) h = absurd h
   read_accepted (u ∷ us) [] h = absurd h
   read_accepted (u ∷ us) (x ∷ xs) h = All-cons (λ t. faults_of_text t ≡ []) u us h.0.accepted (read_accepted us xs h.1)
 
-  pub read_length : (texts : List (List ℕ)) (shards : List S) → AreRead grid texts shards → length shards ≡ length texts
+  pub read_length : (texts : List (List ℕ)) (shards : List S) → AreRead grid map_of texts shards → length shards ≡ length texts
   read_length [] [] h = refl
   read_length [] (x ∷ xs) h = absurd h
   read_length (u ∷ us) [] h = absurd h
   read_length (u ∷ us) (x ∷ xs) h = ap suc (read_length us xs h.1)
 
-  read_grids : (texts : List (List ℕ)) (shards : List S) → AreRead grid texts shards → map grid shards ≡ map grid_of_text texts
+  read_grids : (texts : List (List ℕ)) (shards : List S) → AreRead grid map_of texts shards → map grid shards ≡ map grid_of_text texts
   read_grids [] [] h = refl
   read_grids [] (x ∷ xs) h = absurd h
   read_grids (u ∷ us) [] h = absurd h
   read_grids (u ∷ us) (x ∷ xs) h = λ i. h.0.grid i ∷ read_grids us xs h.1 i
 
-  -- shards on one grid are of texts on it
-  pub read_on : {M : Type 0} (f : S → M) (g : Transform) (texts : List (List ℕ)) (shards : List S) → AreRead grid texts shards → All (λ s. grid s ≡ g) shards → Pairwise (λ u m. IsOnGrid u g) texts (map f shards)
-  read_on f g [] [] h one = tt
-  read_on f g [] (x ∷ xs) h one = absurd h
-  read_on f g (u ∷ us) [] h one = absurd h
-  read_on f g (u ∷ us) (x ∷ xs) h one =
-      (subst (IsOnGrid u) (one 0 x (first (length xs))) h.0, read_on f g us xs h.1 (λ k d lt. one (suc k) d (later lt)))
+  -- shards on one grid are what their texts mean on it
+  pub read_meant : (g : Transform) (texts : List (List ℕ)) (shards : List S) → AreRead grid map_of texts shards → All (λ s. grid s ≡ g) shards → AreMeant texts g (map map_of shards)
+  read_meant g [] [] h one = tt
+  read_meant g [] (x ∷ xs) h one = absurd h
+  read_meant g (u ∷ us) [] h one = absurd h
+  read_meant g (u ∷ us) (x ∷ xs) h one =
+      (subst (λ k. Means u k (map_of x)) (one 0 x (first (length xs))) h.0, read_meant g us xs h.1 (λ k d lt. one (suc k) d (later lt)))
     where
       first : (n : ℕ) → 0 < suc n
       first n = omega arith
@@ -69,7 +70,7 @@ module _ {S : Type 0} (grid : S → Transform) where
 
   -- one more text is read
   pub one_more : (texts left : List (List ℕ)) (text : List ℕ) (after : List (List ℕ)) (number : ℕ) (shards : List S) (s : S)
-      → SoFar grid texts left number shards → left ≡ text ∷ after → IsOnGrid text (grid s) → SoFar grid texts after (number + 1) (shards ++ (s ∷ []))
+      → SoFar grid map_of texts left number shards → left ≡ text ∷ after → Means text (grid s) (map_of s) → SoFar grid map_of texts after (number + 1) (shards ++ (s ∷ []))
   one_more texts left text after number shards s old e means =
       let parts : old.before ++ (text ∷ after) ≡ texts = rw e at old.parts in
       let at = old.at in
@@ -82,7 +83,7 @@ module _ {S : Type 0} (grid : S → Transform) where
 
   -- the next text is refused
   pub refusal_at : (texts left : List (List ℕ)) (text : List ℕ) (after : List (List ℕ)) (number : ℕ) (shards : List S) (fault : Fault) (e : MergeFault)
-      → SoFar grid texts left number shards → left ≡ text ∷ after → LeastOrWant (faults_of_text text) fault → IsFaultOf number fault e → IsReadFault texts e
+      → SoFar grid map_of texts left number shards → left ≡ text ∷ after → LeastOrWant (faults_of_text text) fault → IsFaultOf number fault e → IsReadFault texts e
   refusal_at texts left text after number shards fault (BadPlan k) old split least is = absurd is
   refusal_at texts left text after number shards fault (OtherGrid k) old split least is = absurd is
   refusal_at texts left text after number shards fault OutOfMemory old split least is = tt
@@ -100,17 +101,18 @@ module _ {S : Type 0} (grid : S → Transform) where
       }
 
   -- all texts are read
-  pub all_read : (texts left : List (List ℕ)) (number : ℕ) (shards : List S) → SoFar grid texts left number shards → left ≡ [] → AreRead grid texts shards
+  pub all_read : (texts left : List (List ℕ)) (number : ℕ) (shards : List S) → SoFar grid map_of texts left number shards → left ≡ [] → AreRead grid map_of texts shards
   all_read texts left number shards old none =
       let parts : old.before ++ [] ≡ texts = rw none at old.parts in
-      subst (λ ts. AreRead grid ts shards) (sym (append-nil old.before) ∙ parts) old.read
+      subst (λ ts. AreRead grid map_of ts shards) (sym (append-nil old.before) ∙ parts) old.read
 
   -- nothing is read
-  pub none_read : (texts : List (List ℕ)) (shards : List S) → shards ≡ [] → SoFar grid texts texts 0 shards
-  none_read texts shards none = record { before = []; parts = refl; at = refl; read = subst (AreRead grid []) (sym none) tt }
+  pub none_read : (texts : List (List ℕ)) (shards : List S) → shards ≡ [] → SoFar grid map_of texts texts 0 shards
+  none_read texts shards none = record { before = []; parts = refl; at = refl; read = subst (AreRead grid map_of []) (sym none) tt }
 
-pub on_grid : (bytes text : List ℕ) (g h : Transform) → bytes ≡ text → h ≡ g → faults_of_text bytes ≡ [] → g ≡ grid_of_text bytes → IsOnGrid text h
-on_grid bytes text g h same grid ok is = subst (λ t. IsOnGrid t h) same (record { accepted = ok; grid = grid ∙ is })
+pub means_as : (bytes text : List ℕ) (g h : Transform) (m n : Layers) → bytes ≡ text → h ≡ g → n ≡ m → Means bytes g m → Means text h n
+means_as bytes text g h m n same grid map means =
+    subst (λ t. Means t h n) same (subst (λ k. Means bytes k n) (sym grid) (subst (λ k. Means bytes g k) (sym map) means))
 
 pub no_bytes : (texts : List (Vec ℕ Global)) → length texts ≡ 0 → bytes_of texts ≡ []
 no_bytes [] e = refl
@@ -144,19 +146,19 @@ read_merge texts is (OtherGrid k) none h = absurd h
 read_merge texts is OutOfMemory none h = tt
 
 -- a plan with places over shards that were read is refused for its grids alone
-pub plan_merge : {S : Type 0} (f : S → Transform) (texts : List (List ℕ)) (ss : List S) (is : List ℕ) (p : PlanFault)
-    → first_outside (length texts) is ≡ None → AreRead f texts ss → (p ≡ plan.OutOfMemory) ⊎ (plan_fault f ss is ≡ Some p) → IsMergeFault texts is (as_merge p)
-plan_merge f texts ss is p none read (inl e) = subst (λ q. IsMergeFault texts is (as_merge q)) (sym e) tt
-plan_merge f texts ss is p none read (inr e) =
+pub plan_merge : {S : Type 0} (f : S → Transform) (h : S → Layers) (texts : List (List ℕ)) (ss : List S) (is : List ℕ) (p : PlanFault)
+    → first_outside (length texts) is ≡ None → AreRead f h texts ss → (p ≡ plan.OutOfMemory) ⊎ (plan_fault f ss is ≡ Some p) → IsMergeFault texts is (as_merge p)
+plan_merge f h texts ss is p none read (inl e) = subst (λ q. IsMergeFault texts is (as_merge q)) (sym e) tt
+plan_merge f h texts ss is p none read (inr e) =
     told (first_other f ss) refl
-    (sym (ap (λ o. option_or (option_map plan.BadPlan o) (option_map plan.OtherGrid (first_other f ss))) (ap (λ k. first_outside k is) (read_length f texts ss read) ∙ none)) ∙ e)
+    (sym (ap (λ o. option_or (option_map plan.BadPlan o) (option_map plan.OtherGrid (first_other f ss))) (ap (λ k. first_outside k is) (read_length f h texts ss read) ∙ none)) ∙ e)
   where
     told : (o : Option ℕ) → first_other f ss ≡ o → option_map plan.OtherGrid o ≡ Some p → IsMergeFault texts is (as_merge p)
     told None k e = absurd cc
     told (Some n) k e =
         let q : plan.OtherGrid n ≡ p = cc in
-        let other : first_other grid_of_text texts ≡ Some n = sym (same_others f grid_of_text ss texts (read_grids f texts ss read)) ∙ k in
-        subst (λ r. IsMergeFault texts is (as_merge r)) q (none, read_accepted f texts ss read, other)
+        let other : first_other grid_of_text texts ≡ Some n = sym (same_others f grid_of_text ss texts (read_grids f h texts ss read)) ∙ k in
+        subst (λ r. IsMergeFault texts is (as_merge r)) q (none, read_accepted f h texts ss read, other)
 
 pub length_bytes : {A B : Type 0} (f : A → B) (xs : List A) → length (map f xs) ≡ length xs
 length_bytes f xs = length_mapped f xs

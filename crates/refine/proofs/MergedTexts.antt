@@ -24,15 +24,15 @@ use Rattle.refine.specs.MergeLaws.{MergeOfAllMeanings, MergesAlike, IsCanonOf, O
 use Rattle.refine.specs.Laws.{union_empty}
 use Rattle.refine.proofs.AlikeLemmas.{plans_alike}
 
-same_grids : (t : List ℕ) (g h : Transform) (m n : Layers) → Means t g m → Means t h n → g ≡ h
+pub same_grids : (t : List ℕ) (g h : Transform) (m n : Layers) → Means t g m → Means t h n → g ≡ h
 same_grids t g h m n a b = a.grid ∙ sym b.grid
 
-same_maps : (t : List ℕ) (g h : Transform) (m n : Layers) → Means t g m → Means t h n → m ≡ n
+pub same_maps : (t : List ℕ) (g h : Transform) (m n : Layers) → Means t g m → Means t h n → m ≡ n
 same_maps t g h m n a b = layers_once m n (layers_of_text t) a.layers b.layers
 
 -- ---- what texts mean, place by place
 
-meant_length : (g : Transform) (ts : List (List ℕ)) (ms : List Layers) → AreMeant ts g ms → length ts ≡ length ms
+pub meant_length : (g : Transform) (ts : List (List ℕ)) (ms : List Layers) → AreMeant ts g ms → length ts ≡ length ms
 meant_length g [] [] h = refl
 meant_length g [] (m ∷ ms) h = absurd h
 meant_length g (t ∷ ts) [] h = absurd h

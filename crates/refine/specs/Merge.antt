@@ -29,14 +29,9 @@ AreAccepted texts = All (λ t. faults_of_text t ≡ []) texts
 abbrev pub AreMeant : List (List ℕ) → Transform → List Layers → Type 0
 AreMeant texts g maps = Pairwise (λ t m. Means t g m) texts maps
 
--- the text is accepted, and this is its grid
-pub record IsOnGrid (t : List ℕ) (g : Transform) : Type 0 where
-  pub accepted : faults_of_text t ≡ []
-  pub grid : g ≡ grid_of_text t
-
--- each text is accepted on the grid of the shard beside it
-abbrev pub AreRead : {S : Type 0} → (S → Transform) → List (List ℕ) → List S → Type 0
-AreRead grid texts shards = Pairwise (λ t s. IsOnGrid t (grid s)) texts shards
+-- each text means the grid and the map of the shard beside it
+abbrev pub AreRead : {S : Type 0} → (S → Transform) → (S → Layers) → List (List ℕ) → List S → Type 0
+AreRead grid map texts shards = Pairwise (λ t s. Means t (grid s) (map s)) texts shards
 
 -- the text of that number is refused with its least fault, and those before it are accepted
 pub record IsFirstRefused (texts : List (List ℕ)) (number : ℕ) (f : Fault) : Type 0 where
@@ -55,14 +50,6 @@ pub record IsMergeOf (texts : List (List ℕ)) (is t : List ℕ) : Type 0 where
   pub grid : Transform
   pub maps : List Layers
   pub meant : AreMeant texts grid maps
-  pub text : t ≡ canon grid (union_at maps is)
-
--- the texts are accepted, on one grid, and the text is the canonical text on it of a union of maps, one for each text
-pub record IsMergeOn (texts : List (List ℕ)) (is t : List ℕ) : Type 0 where
-  pub places : first_outside (length texts) is ≡ None
-  pub grid : Transform
-  pub maps : List Layers
-  pub on_grid : Pairwise (λ u m. IsOnGrid u grid) texts maps
   pub text : t ≡ canon grid (union_at maps is)
 
 -- why texts are not merged: the first leaf that is no place; else the first refused text; else the first on another grid than text 0

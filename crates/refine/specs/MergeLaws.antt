@@ -1,6 +1,7 @@
 -- The laws of merging, from bytes to bytes.
 use Rattle.std.specs.Prelude.{◌≡◌, ℕ, zero, suc, ◌+◌, List, [], ◌∷◌, ◌++◌, length}
-use Rattle.grid.specs.Place.{Transform}
+use Rattle.grid.specs.Place.{Transform, IsTransform}
+use Rattle.round_trip.specs.Laws.{IsStored}
 use Rattle.shapes.specs.Maps.{Layers}
 use Rattle.chains.specs.Seen.{geometry_of}
 use Rattle.theory.specs.Arcs.{EachSegmentOnce}
@@ -42,3 +43,25 @@ MergeOfOneText =
 -- each segment of the map is at one place of one arc of its topology, and arcs have no other segment
 abbrev pub SegmentsOfMergeOnce : Type 0
 SegmentsOfMergeOnce = (g : Transform) (m : Layers) → EachSegmentOnce (geometry_of m) (the_topology g m).arcs
+
+-- what stands for place i of a text and others, where the text was merged from n texts by a plan with the leaves ps
+abbrev pub instead : ℕ → List ℕ → ℕ → List ℕ
+instead n ps zero = ps
+instead n ps (suc i) = (n + i) ∷ []
+
+-- the leaves of one plan over the n texts and the others
+abbrev pub through : ℕ → List ℕ → List ℕ → List ℕ
+through n ps [] = []
+through n ps (i ∷ is) = instead n ps i ++ through n ps is
+
+-- a merged text is accepted, and means the union of the named maps
+abbrev pub MergedTextsMeanUnions : Type 0
+MergedTextsMeanUnions =
+    (texts : List (List ℕ)) (p : Plan) (t : List ℕ) (x : IsMergeOf texts (leaves p) t) → IsTransform x.grid → IsStored (union_at x.maps (leaves p)) →
+    Means t x.grid (union_at x.maps (leaves p))
+
+-- a merged text merged with others is the merge of all texts by the one plan
+abbrev pub MergesThroughTexts : Type 0
+MergesThroughTexts =
+    (texts others : List (List ℕ)) (p q : Plan) (t u : List ℕ) (x : IsMergeOf texts (leaves p) t) → IsTransform x.grid → IsStored (union_at x.maps (leaves p)) →
+    IsMergeOf (t ∷ others) (leaves q) u → IsMergeOf (texts ++ others) (through (length texts) (leaves p) (leaves q)) u

@@ -1,6 +1,6 @@
 //! The laws of merging, as contracts of functions that do nothing.
 ghost use Rattle.refine.specs.Alike.{PlansAlike};
-ghost use Rattle.refine.specs.MergeLaws.{MergeOfAllMeanings, MergesAlike, MergeOfOneText, OneCanon, SegmentsOfMergeOnce};
+ghost use Rattle.refine.specs.MergeLaws.{MergeOfAllMeanings, MergesAlike, MergeOfOneText, MergedTextsMeanUnions, MergesThroughTexts, OneCanon, SegmentsOfMergeOnce};
 
 /// Plans that name the same maps, in any order, with repeats and in any grouping, give the same union.
 pub fn plans_alike()
@@ -17,6 +17,17 @@ pub fn merge_of_all_meanings()
 /// merging is commutative and associative on bytes.
 pub fn merges_alike()
     ensures { MergesAlike }
+{}
+
+/// A merged text of a map that memory holds is accepted, and means the union of the named maps: stitching it
+/// by the standard gives exactly their features.
+pub fn merged_texts_mean_unions()
+    ensures { MergedTextsMeanUnions }
+{}
+
+/// A merged text merged with others gives the bytes of the one plan over all texts.
+pub fn merges_through_texts()
+    ensures { MergesThroughTexts }
 {}
 
 /// The canonical text of what a text means is one text.

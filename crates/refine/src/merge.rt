@@ -2,7 +2,7 @@
 ghost use Rattle.std.specs.Prelude.{◌≡◌, ℕ, IfOk, IfErr, Some, Err, length};
 ghost use Rattle.refine.specs.declared.fault.MergeFault.TheVariants.{BadPlan};
 ghost use Rattle.refine.specs.Plans.{leaves, first_outside};
-ghost use Rattle.refine.specs.Merge.{bytes_of, AreRead, IsFaultOf, IsReadFault, IsMergeFault, IsMergeOn, as_merge};
+ghost use Rattle.refine.specs.Merge.{bytes_of, AreRead, IsFaultOf, IsReadFault, IsMergeFault, IsMergeOf, as_merge};
 
 use crate::fault::{MergeFault, PlanFault};
 use crate::plan::{Plan, first_bad_leaf, run_plan};
@@ -24,7 +24,7 @@ fn text_refused(number: usize, fault: Fault) -> MergeFault
 // The shards of texts, in their order.
 fn read_shards<S: Shard>(alloc: Global, texts: &[Vec<u8>]) -> Result<Vec<S>, MergeFault>
     ensures fault { IfErr result (IsReadFault (bytes_of texts.now)) }
-    ensures read { IfOk result (λ v. AreRead S.grid_of (bytes_of texts.now) v.items) }
+    ensures read { IfOk result (λ v. AreRead S.grid_of S.map_of (bytes_of texts.now) v.items) }
 {
     let mut shards = Vec::new(alloc);
     let mut number = 0;
@@ -59,7 +59,7 @@ pub fn merge_as<S: Shard>(
 ) -> Result<Vec<u8>, MergeFault>
     ensures bad_plan { (k : ℕ) → first_outside (length texts.now) (leaves plan.now) ≡ Some k → result ≡ Err (BadPlan k) }
     ensures fault { IfErr result (IsMergeFault (bytes_of texts.now) (leaves plan.now)) }
-    ensures merged { IfOk result (λ t. IsMergeOn (bytes_of texts.now) (leaves plan.now) t.items) }
+    ensures merged { IfOk result (λ t. IsMergeOf (bytes_of texts.now) (leaves plan.now) t.items) }
 {
     if let Some(leaf) = first_bad_leaf(plan, texts.len()) {
         return Err(MergeFault::BadPlan(leaf));
@@ -81,7 +81,7 @@ pub fn merge_as<S: Shard>(
 pub fn merge_texts(alloc: Global, texts: &[Vec<u8>], plan: &Plan) -> Result<Vec<u8>, MergeFault>
     ensures bad_plan { (k : ℕ) → first_outside (length texts.now) (leaves plan.now) ≡ Some k → result ≡ Err (BadPlan k) }
     ensures fault { IfErr result (IsMergeFault (bytes_of texts.now) (leaves plan.now)) }
-    ensures merged { IfOk result (λ t. IsMergeOn (bytes_of texts.now) (leaves plan.now) t.items) }
+    ensures merged { IfOk result (λ t. IsMergeOf (bytes_of texts.now) (leaves plan.now) t.items) }
 {
     merge_as::<Whole>(alloc, texts, plan)
 }

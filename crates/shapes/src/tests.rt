@@ -165,7 +165,13 @@ fn unions_have_both(rt: HostRuntime) -> Result<(), Fail> {
     two.insert("b", point(alloc, 0, 5)?)?;
     two.insert("b", point(alloc, 1, 2)?)?;
     two.insert("c", point(alloc, 7, 7)?)?;
-    for both in [one.union(&two)?, two.union(&one)?.copy()?] {
+    let unions = [
+        one.union(&two)?,
+        two.union(&one)?.copy()?,
+        one.copy()?.united(two.copy()?)?,
+        two.copy()?.united(one.copy()?)?,
+    ];
+    for both in unions {
         assert_eq!(rt; both.names()?.len(), 3);
         assert_eq!(rt; both.layer("a").ok_or("no a")?.len(), 0);
         assert_eq!(rt; both.layer("b").ok_or("no b")?.len(), 2);

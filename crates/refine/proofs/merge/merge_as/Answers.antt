@@ -4,7 +4,7 @@ use Rattle.std.proofs.lemmas.Result.{err_from_is_err_and}
 use Rattle.refine.specs.Plans.{leaves, union_at, first_outside}
 use Rattle.refine.specs.Merge.{bytes_of}
 use Rattle.topo_io.specs.Canon.{canon}
-use Rattle.refine.proofs.MergeLemmas.{read_merge, plan_merge, read_on, length_bytes}
+use Rattle.refine.proofs.MergeLemmas.{read_merge, plan_merge, read_meant, length_bytes}
 use Rattle.refine.proofs.merge.merge_as.Goals as goal
 
 pub returns-in_err-shards-clause-fault : goal.returns-in_err-shards-clause-fault
@@ -16,7 +16,7 @@ returns-in_err-shards-clause-fault g c =
 pub returns-clause-fault : goal.returns-clause-fault
 returns-clause-fault g c =
     let places = ap (λ n. first_outside n (leaves c.args.plan.now)) (length_bytes (λ t. t.items) c.args.texts.now) ∙ sym c.in_default.ensures.first in
-    rw c.plan_refused.ensures (plan_merge g.S.Shard.grid_of (bytes_of c.args.texts.now) _ _ c.in-Err.fault places c.in_ok-shards.ensures.read (rw c.deref.ensures.value at c.in-Err.ensures.faults))
+    rw c.plan_refused.ensures (plan_merge g.S.Shard.grid_of g.S.Shard.map_of (bytes_of c.args.texts.now) _ _ c.in-Err.fault places c.in_ok-shards.ensures.read (rw c.deref.ensures.value at c.in-Err.ensures.faults))
 
 pub returns-in-Ok-clause-merged : goal.returns-in-Ok-clause-merged
 returns-in-Ok-clause-merged g c =
@@ -26,6 +26,6 @@ returns-in-Ok-clause-merged g c =
       places = ap (λ n. first_outside n (leaves c.args.plan.now)) (length_bytes (λ t. t.items) c.args.texts.now) ∙ sym c.in_default.ensures.first;
       grid = grid;
       maps = map g.S.Shard.map_of shards;
-      on_grid = read_on g.S.Shard.grid_of g.S.Shard.map_of grid (bytes_of c.args.texts.now) shards c.in_ok-shards.ensures.read (rw c.deref.ensures.value at c.in-Ok.ensures.grid);
+      meant = read_meant g.S.Shard.grid_of g.S.Shard.map_of grid (bytes_of c.args.texts.now) shards c.in_ok-shards.ensures.read (rw c.deref.ensures.value at c.in-Ok.ensures.grid);
       text = c.in_ok-text-in-Ok.ensures ∙ ap (canon grid) (c.in-Ok.ensures.map ∙ ap (λ ss. union_at (map g.S.Shard.map_of ss) (leaves c.args.plan.now)) c.deref.ensures.value);
     }

@@ -4,7 +4,7 @@ use Rattle.refine.proofs.MergeLemmas.{SoFar}
 use Rattle.refine.proofs.merge.read_shards.Given as goal
 
 abbrev pub invariant-loop-text : goal.invariant-loop-text
-invariant-loop-text g l = SoFar g.S.Shard.grid_of (bytes_of l.texts) (bytes_of l.left) l.number l.shards.items
+invariant-loop-text g l = SoFar g.S.Shard.grid_of g.S.Shard.map_of (bytes_of l.texts) (bytes_of l.left) l.number l.shards.items
 
 abbrev pub decreases-loop-text : goal.decreases-loop-text
 decreases-loop-text g l = length l.left
