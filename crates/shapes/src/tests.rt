@@ -8,6 +8,7 @@ use grid::pos::Pos;
 use grid::transform::Grid;
 use lines::items::Items;
 use lines::line::Line;
+use lines::ring::Ring;
 use serde_json::Value;
 use std::alloc::Global;
 use std::test::Fail;
@@ -197,5 +198,62 @@ fn maps_fit_grids(rt: HostRuntime) -> Result<(), Fail> {
     map.insert("a", feature(alloc, Id::None, "{}", shape)?)?;
     assert!(rt; map.fits(&fine));
     assert!(rt; !map.fits(&over));
+    Ok(())
+}
+
+const FAR: i64 = 1_099_511_627_776;
+
+const NEAR_RING: &[(i64, i64)] = &[(0, 0), (1, 0), (0, 1), (0, 0)];
+
+const FAR_RING: &[(i64, i64)] = &[(0, 0), (FAR, 0), (0, 1), (0, 0)];
+
+/// A polygon of one ring.
+fn polygon(alloc: Global, places: &[(i64, i64)]) -> Result<Items<Ring>, Fail> {
+    let mut closed = Vec::new(alloc);
+    for (x, y) in places {
+        closed.push(pos(*x, *y)?)?;
+    }
+    let mut rings = Vec::new(alloc);
+    rings.push(Ring::from_closed(alloc, closed)?)?;
+    Ok(Items::from_vec(rings))
+}
+
+/// A shape of each kind, in order; all but the null shape reach to the greatest x.
+fn kinds(alloc: Global) -> Result<Vec<Shape>, Fail> {
+    let mut list = Vec::new(alloc);
+    list.push(Shape::Null)?;
+    list.push(Shape::Point(pos(FAR, 0)?))?;
+    let mut positions = Vec::new(alloc);
+    positions.push(pos(FAR, 0)?)?;
+    list.push(Shape::MultiPoint(Items::from_vec(positions)))?;
+    list.push(line(alloc, &[(0, 0), (FAR, 0)])?)?;
+    let mut lines = Vec::new(alloc);
+    if let Shape::Line(line) = line(alloc, &[(0, 0), (FAR, 0)])? {
+        lines.push(line)?;
+    }
+    list.push(Shape::MultiLine(Items::from_vec(lines)))?;
+    list.push(Shape::Polygon(polygon(alloc, FAR_RING)?))?;
+    let mut polygons = Vec::new(alloc);
+    polygons.push(polygon(alloc, NEAR_RING)?)?;
+    polygons.push(polygon(alloc, FAR_RING)?)?;
+    list.push(Shape::MultiPolygon(Items::from_vec(polygons)))?;
+    Ok(list)
+}
+
+#[test]
+fn shapes_of_each_kind(rt: HostRuntime) -> Result<(), Fail> {
+    let alloc = rt.alloc();
+    let fine = Grid::new(8192, 1, -1, 0).ok_or("no grid")?;
+    let over = Grid::new(8192, 1, 0, 0).ok_or("no grid")?;
+    let list = kinds(alloc)?;
+    assert_eq!(rt; list.len(), 7);
+    for (i, a) in list.iter().enumerate() {
+        for (j, b) in list.iter().enumerate() {
+            assert_eq!(rt; a.cmp(b), i.cmp(&j), "{i} and {j}");
+        }
+        assert!(rt; a.copy(alloc)? == *a);
+        assert!(rt; a.fits(&fine));
+        assert_eq!(rt; a.fits(&over), i == 0);
+    }
     Ok(())
 }
