@@ -178,6 +178,26 @@ fn pieces_of(
 
 /// The maximal chains over the segments, which run from stop to stop, each in its least direction,
 /// sorted. The caller's condition: each vertex that is no stop lies on exactly two of the segments.
+/// The segments may stand in any order.
+///
+/// # Errors
+/// Where memory is refused.
+pub fn maximal_over(
+    alloc: Global,
+    segments: &[Segment],
+    stops: &BTreeSet<Pos>,
+) -> Result<ArcTable, OutOfMemory>
+    requires { MeetsTwo segments.now stops.now.keys }
+    ensures { IfOk result (λ t. AreMaximal segments.now stops.now.keys t) }
+{
+    let stops = StopSet::of(alloc, stops)?;
+    let chains = chains_of(alloc, segments, &stops)?;
+    let pieces = pieces_of(alloc, chains, &stops)?;
+    let table = ArcTable::from_pieces(alloc, pieces)?;
+    Ok(table)
+}
+
+/// The maximal chains over a set of segments, as `maximal_over` gives them.
 ///
 /// # Errors
 /// Where memory is refused.
@@ -190,9 +210,5 @@ pub fn maximal(
     ensures { IfOk result (λ t. AreMaximal segments.now.keys stops.now.keys t) }
 {
     let list = listed(alloc, segments)?;
-    let stops = StopSet::of(alloc, stops)?;
-    let chains = chains_of(alloc, &list, &stops)?;
-    let pieces = pieces_of(alloc, chains, &stops)?;
-    let table = ArcTable::from_pieces(alloc, pieces)?;
-    Ok(table)
+    maximal_over(alloc, &list, stops)
 }

@@ -168,3 +168,16 @@ features_share m t of f h a b i j p q =
 pub layer_stands : {A : Type 0} (r : Result A QueryFault) (Q : Type 0) → IsErrAnd r (λ f. f ≡ WantOfMemory) → Q → (r ≡ Err NoLayer) ↔ (¬ Q)
 layer_stands (Ok a) Q h q = absurd h
 layer_stands (Err f) Q h q = ((λ k. absurd (let j : f ≡ NoLayer = cc in cc)), λ n. absurd (n q))
+
+-- nor after the features were found
+pub found_stands : {A B : Type 0} (r : Result A QueryFault) (made : Result B QueryFault) (b : B) (P : Type 0) → ((made ≡ Err NoLayer) ↔ P) → made ≡ Ok b →
+    IsErrAnd r (λ f. f ≡ WantOfMemory) → (r ≡ Err NoLayer) ↔ P
+found_stands r made b P h e w =
+    let none : ¬ P = λ p. (let k : Ok b ≡ Err NoLayer = sym e ∙ h.1 p in cc) in
+    let s = layer_stands r (¬ P) w none in
+    ((λ k. absurd (s.0 k none)), (λ p. absurd (none p)))
+
+-- nor after they were found, and the answer is there
+pub made_stands : {A B : Type 0} (a : A) (made : Result B QueryFault) (b : B) (P : Type 0) → ((made ≡ Err NoLayer) ↔ P) → made ≡ Ok b →
+    (◌≡◌ {A = Result A QueryFault} (Ok a) (Err NoLayer)) ↔ P
+made_stands a made b P h e = ((λ k. cc), (λ p. absurd (let k : Ok b ≡ Err NoLayer = sym e ∙ h.1 p in cc)))

@@ -6,3 +6,8 @@ pub mod Pairing
 pub mod UsesOfBodies
 pub mod LayerFeatures
 pub mod Neighboring
+pub mod Spanning
+pub mod Siding
+pub mod Choosing
+pub mod Holding
+pub mod Meshing

@@ -12,12 +12,24 @@ use Rattle.query.specs.contracts.uses.UsePartialEq.TheImpl as use_eq
 use Rattle.query.specs.contracts.sharing.PairPartialEq.TheImpl as pair_eq
 use Rattle.query.specs.Uses.{use_cmp}
 use Rattle.query.specs.Pairs.{pair_cmp}
+use Rattle.query.specs.Spans.{span_cmp}
+use Rattle.query.specs.declared.spans.Span.{Span}
 
 pub use_total : IsTotalOrder use_cmp
 use_total = then_total (on_total (λ (u : Use). u.arc) nat_cmp_total) (on_total (λ (u : Use). u.place) nat_cmp_total)
 
 pub pair_total : IsTotalOrder pair_cmp
 pair_total = then_total (on_total (λ (p : Pair). p.place) nat_cmp_total) (on_total (λ (p : Pair). p.other) nat_cmp_total)
+
+pub span_total : IsTotalOrder span_cmp
+span_total = then_total (on_total (λ (s : Span). s.least) nat_cmp_total) (on_total (λ (s : Span). s.greatest) nat_cmp_total)
+
+pub span_same : IsAntisymmetric span_cmp
+span_same s t e =
+    let h = then_equal (nat_cmp s.least t.least) (nat_cmp s.greatest t.greatest) e in
+    let a : s.least ≡ t.least = nat_cmp-IsAntisymmetric s.least t.least h.0 in
+    let b : s.greatest ≡ t.greatest = nat_cmp-IsAntisymmetric s.greatest t.greatest h.1 in
+    λ i. record { least = a i; greatest = b i }
 
 pub use_same : IsAntisymmetric use_cmp
 use_same u v e =

@@ -152,14 +152,46 @@ module _ (segs list : List Segment) (stops : List Pos) (f : Pos → Option Sides
       go (Some More) m n = absurd (n refl)
 
   -- a stop lies on one segment, or on three or more
-  pub stops_are : AreStops segs stops
-  stops_are v k = go (f v) (means v) (elim (all_from f v false list (sym (made v) ∙ k)) [ inl e ↦ absurd (true_false false e refl) | inr h ↦ h ])
+  stops_lie : (v : Pos) → StopAt stops v → OnOne (SegmentsOf segs) v ⊎ OnThreeOf (SegmentsOf segs) v
+  stops_lie v k = go (f v) (means v) (elim (all_from f v false list (sym (made v) ∙ k)) [ inl e ↦ absurd (true_false false e refl) | inr h ↦ h ])
     where
       go : (o : Option Sides) → Means o (λ p. AmongSegments v p segs) → halts o ≡ true → OnOne (SegmentsOf segs) v ⊎ OnThreeOf (SegmentsOf segs) v
       go None m n = absurd cc
       go (Some (One a)) m n = inl (a, m.0, m.1)
       go (Some (Two a b)) m n = absurd cc
       go (Some More) m n = inr m
+
+  -- and a vertex that lies so is a stop
+  lies_stop : (v : Pos) → OnOne (SegmentsOf segs) v ⊎ OnThreeOf (SegmentsOf segs) v → StopAt stops v
+  lies_stop v h = go (among stops v) refl
+    where
+      beside : (w : Pos) × AmongSegments v w segs
+      beside = elim h [ inl o ↦ (o.0, o.1) | inr t ↦ (t.0, t.3) ]
+
+      go : (b : Bool) → among stops v ≡ b → b ≡ true
+      go true e = refl
+      go false e =
+          let t = stops_meet v beside.0 (λ k. true_false (among stops v) k e) beside.1 in
+          absurd (elim h [
+            | inl o ↦ t.2 (o.2 t.0 t.3 ∙ sym (o.2 t.1 t.4))
+            | inr o ↦ three t o
+          ])
+        where
+          three : ((a : Pos) × (b : Pos) × (¬ (a ≡ b)) × SegmentsOf segs v a × SegmentsOf segs v b × ((c : Pos) → SegmentsOf segs v c → (c ≡ a) ⊎ (c ≡ b))) → OnThreeOf (SegmentsOf segs) v → ⊥
+          three t o =
+              elim (t.5 o.0 o.3) [
+                | inl p ↦ elim (t.5 o.1 o.4) [
+                  | inl q ↦ o.6 (p ∙ sym q)
+                  | inr q ↦ elim (t.5 o.2 o.5) [ inl r ↦ o.7 (p ∙ sym r) | inr r ↦ o.8 (q ∙ sym r) ]
+                ]
+                | inr p ↦ elim (t.5 o.1 o.4) [
+                  | inr q ↦ o.6 (p ∙ sym q)
+                  | inl q ↦ elim (t.5 o.2 o.5) [ inr r ↦ o.7 (p ∙ sym r) | inl r ↦ o.8 (q ∙ sym r) ]
+                ]
+              ]
+
+  pub stops_are : AreStops segs stops
+  stops_are v = (stops_lie v, lies_stop v)
 
 -- whether a set has a position
 eq_is : (p q : Pos) → is_eq (position_cmp p q) ≡ position_eq p q

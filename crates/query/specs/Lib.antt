@@ -2,3 +2,8 @@ pub mod Stops
 pub mod Uses
 pub mod Neighbors
 pub mod Pairs
+pub mod Spans
+pub mod Selecting
+pub mod Along
+pub mod Borders
+pub mod Members

@@ -1,5 +1,5 @@
 -- The vertices at which lines over segments stop.
-use Rattle.std.specs.Prelude.{◌≡◌, Bool, true, false, cond, List, [], ◌∷◌, ◌⊎◌, Option, Some, None}
+use Rattle.std.specs.Prelude.{◌≡◌, Bool, true, false, cond, List, [], ◌∷◌, ◌⊎◌, ◌↔◌, Option, Some, None}
 use Rattle.std.specs.Ordering.{is_eq}
 use Rattle.std.specs.BTreeMap.{BTreeMap, get}
 use Rattle.grid.specs.declared.pos.Pos.{Pos}
@@ -54,4 +54,4 @@ OnThreeOf S v = (a : Pos) × (b : Pos) × (c : Pos) × S v a × S v b × S v c �
 
 -- the stops are the vertices on one segment or on three and more
 abbrev pub AreStops : List Segment → List Pos → Type 0
-AreStops segs stops = (v : Pos) → StopAt stops v → OnOne (SegmentsOf segs) v ⊎ OnThreeOf (SegmentsOf segs) v
+AreStops segs stops = (v : Pos) → StopAt stops v ↔ (OnOne (SegmentsOf segs) v ⊎ OnThreeOf (SegmentsOf segs) v)

@@ -1,67 +1,75 @@
 //! The borders between features: lines over the segments that a filter selects.
-ghost use Rattle.std.specs.Prelude.{IfOk, List};
+ghost use Rattle.std.specs.Prelude.{◌≡◌, ◌↔◌, ◌⊎◌, IfOk, OnOk, Err, List};
+ghost use Rattle.std.specs.Fn.{FnReturnsAtPair};
+ghost use Rattle.std.specs.Option.{option_map};
 ghost use Rattle.grid.specs.declared.pos.Pos.{Pos};
-ghost use Rattle.chains.specs.Joined.{AreMaximal};
+ghost use Rattle.shapes.specs.Maps.{Layers};
+ghost use Rattle.theory.specs.Lists.{Has};
+ghost use Rattle.chains.specs.Joined.{AmongSegments};
 ghost use Rattle.chains.specs.declared.segment.Segment.{Segment};
-ghost use Rattle.query.specs.Stops.{AreStops};
+ghost use Rattle.topo.specs.OfMap.{IsOf};
+ghost use Rattle.topo.specs.Points.{arc_at};
+ghost use Rattle.query.specs.Along.{Joins, SidesOf, HasArcs};
+ghost use Rattle.query.specs.Borders.{InScope, IsMissing, AreSelected, AreLinesOver};
+ghost use Rattle.query.specs.declared.fault.QueryFault.TheVariants.{NoLayer as MissingLayer};
 
 use crate::fault::QueryFault;
-use crate::members::{Member, of_all_layers, of_layer};
-use crate::spans::{Span, spans_of};
+use crate::members::members_of;
+use crate::selecting::choose;
+use crate::spans::spans_of;
 use crate::stops::stops_of;
-use chains::{ArcTable, Segment, maximal};
+use chains::{ArcTable, Segment, maximal_over};
 use grid::pos::Pos;
 use shapes::feature::Feature;
 use std::alloc::{AllocError, Global};
-use std::collections::BTreeSet;
 use topo::Topology;
 
-/// Puts the segments of an arc among the selected ones.
-fn note_arc(segments: &mut BTreeSet<Segment>, arc: &[Pos]) -> Result<(), AllocError> {
+/// Puts the segment between two positions behind the others.
+fn note_segment(segments: &mut Vec<Segment>, a: Pos, b: Pos) -> Result<(), AllocError>
+    ensures { OnOk result ((u v : Pos) → AmongSegments u v segments.new.items ↔ (AmongSegments u v segments.old.items ⊎ Joins a b u v)) }
+{
+    let Some(segment) = Segment::new(a, b) else {
+        return Ok(());
+    };
+    segments.push(segment)?;
+    Ok(())
+}
+
+/// Puts the segments of an arc behind the others.
+fn note_arc(segments: &mut Vec<Segment>, arc: &[Pos]) -> Result<(), AllocError>
+    ensures { OnOk result ((u v : Pos) → AmongSegments u v segments.new.items ↔ (AmongSegments u v segments.old.items ⊎ SidesOf arc.now u v)) }
+{
     let Some((first, others)) = arc.split_first() else {
         return Ok(());
     };
     let mut here = *first;
     for next in others {
-        if let Some(segment) = Segment::new(here, *next) {
-            segments.insert(segment)?;
-        }
+        note_segment(segments, here, *next)?;
         here = *next;
     }
     Ok(())
 }
 
-/// Whether the filter says yes to the least and the greatest feature of a span.
-fn is_selected<F: Fn(&Feature, &Feature) -> bool>(
-    members: &[Member],
-    span: Span,
-    filter: &F,
-) -> bool
-    requires { F.IsAlwaysCallable filter.now }
+fn note_number(
+    segments: &mut Vec<Segment>,
+    arcs: &ArcTable,
+    number: usize,
+) -> Result<(), AllocError>
+    ensures { OnOk result ((u v : Pos) → AmongSegments u v segments.new.items ↔ (AmongSegments u v segments.old.items ⊎ SidesOf (arc_at arcs.now.arcs number) u v)) }
 {
-    match (members.get(span.least), members.get(span.greatest)) {
-        (Some(least), Some(greatest)) => filter(least.feature, greatest.feature),
-        _ => false,
+    match arcs.arc(number) {
+        Some(arc) => note_arc(segments, arc),
+        None => Ok(()),
     }
 }
 
-/// The segments of the arcs that the filter selects.
-fn selected<F: Fn(&Feature, &Feature) -> bool>(
-    alloc: Global,
-    arcs: &ArcTable,
-    members: &[Member],
-    filter: &F,
-) -> Result<BTreeSet<Segment>, AllocError>
-    requires { F.IsAlwaysCallable filter.now }
+/// The segments of the arcs of these numbers.
+fn segments_of(alloc: Global, arcs: &ArcTable, chosen: &[usize]) -> Result<Vec<Segment>, AllocError>
+    ensures { IfOk result (λ v. HasArcs arcs.now.arcs chosen.now v.items) }
 {
-    let spans = spans_of(alloc, arcs.len(), members)?;
-    let mut segments = BTreeSet::new(alloc);
-    for (number, span) in spans.iter().enumerate() {
-        if let (Some(span), Some(arc)) = (span, arcs.arc(number))
-            && is_selected(members, *span, filter)
-        {
-            note_arc(&mut segments, arc)?;
-        }
+    let mut segments = Vec::new(alloc);
+    for number in chosen {
+        note_number(&mut segments, arcs, *number)?;
     }
     Ok(segments)
 }
@@ -70,6 +78,8 @@ fn selected<F: Fn(&Feature, &Feature) -> bool>(
 /// lines over the segments for which the filter says yes to the least and the greatest feature that
 /// have them, which are one where only one has the segment. Lines stop at the vertices that lie on a
 /// number of selected segments other than two; each is in its least direction, and they are sorted.
+///
+/// The filter is asked once about each two features, whatever the number of their segments.
 ///
 /// # Errors
 /// `NoLayer` where the topology has no layer of that name; `OutOfMemory`.
@@ -80,14 +90,14 @@ pub fn mesh<F: Fn(&Feature, &Feature) -> bool>(
     filter: F,
 ) -> Result<ArcTable, QueryFault>
     requires { F.IsAlwaysCallable filter }
-    ensures { IfOk result (λ lines. (segments : List Segment) × (stops : List Pos) × AreStops segments stops × AreMaximal segments stops lines) }
+    ensures layer { (m : Layers) → IsOf m topology.now → (result ≡ Err MissingLayer) ↔ IsMissing m (option_map (λ n. n.now) layer.entry) }
+    ensures lines { IfOk result (λ lines. (segments : List Segment) × AreLinesOver segments lines × ((m : Layers) → IsOf m topology.now → AreSelected (InScope m (option_map (λ n. n.now) layer.entry)) (FnReturnsAtPair F.Fn filter) segments)) }
 {
-    let map = topology.expand(alloc)?;
-    let members = match layer {
-        Some(name) => of_layer(alloc, &map, topology, name)?.ok_or(QueryFault::NoLayer)?,
-        None => of_all_layers(alloc, &map, topology)?,
-    };
-    let segments = selected(alloc, topology.arcs(), &members, &filter)?;
+    let arcs = topology.arcs();
+    let members = members_of(alloc, topology, layer)?;
+    let spans = spans_of(alloc, arcs.len(), &members)?;
+    let chosen = choose(alloc, &spans, &members, &filter)?;
+    let segments = segments_of(alloc, arcs, &chosen)?;
     let stops = stops_of(alloc, &segments)?;
-    Ok(maximal(alloc, &segments, &stops)?)
+    Ok(maximal_over(alloc, &segments, &stops)?)
 }

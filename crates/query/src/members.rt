@@ -1,23 +1,40 @@
-//! Features beside the bodies that hold them by arcs.
+//! The features of a topology, beside the bodies that hold them by arcs.
+ghost use Rattle.std.specs.Prelude.{◌≡◌, ◌↔◌, ◌++◌, IfOk, OnOk, Err, Some, None, List, map as map_list};
+ghost use Rattle.std.specs.List.Sorted.{IsPermutation, IsSorted};
+ghost use Rattle.std.specs.Option.{option_map};
+ghost use Rattle.shapes.specs.Maps.{Layers};
+ghost use Rattle.shapes.specs.declared.feature.Feature as features;
+ghost use Rattle.theory.specs.Lists.{gathered};
+ghost use Rattle.topo.specs.Features.{AreFeaturesOf};
+ghost use Rattle.topo.specs.OfMap.{IsOf, IsOfSomeMap};
+ghost use Rattle.query.specs.Borders.{IsMissing};
+ghost use Rattle.query.specs.Members.{held, paired, layer_pairs, by_feature, AreMembers};
+ghost use Rattle.query.specs.declared.fault.QueryFault.TheVariants.{NoLayer as MissingLayer};
+
+use crate::fault::QueryFault;
+use faults::OutOfMemory;
 use shapes::feature::Feature;
-use shapes::feature_map::FeatureMap;
-use std::alloc::{AllocError, Global};
-use std::collections::BTreeSet;
+use std::alloc::Global;
 use topo::{Body, Geom, Topology};
 
 /// A feature, and its shape by arcs.
-#[derive(Clone, Copy)]
+#[derive(Drop)]
 pub(crate) struct Member<'a> {
-    pub(crate) feature: &'a Feature,
+    pub(crate) feature: Feature,
     pub(crate) body: &'a Body,
 }
 
 fn note_layer<'a>(
+    alloc: Global,
     members: &mut Vec<Member<'a>>,
-    features: &'a BTreeSet<Feature>,
+    topology: &Topology,
     geometries: &'a [Geom],
-) -> Result<(), AllocError> {
-    for (feature, geometry) in features.iter().zip(geometries) {
+) -> Result<(), OutOfMemory>
+    requires { (fs : List features.Feature) × AreFeaturesOf topology.now.arcs.arcs fs geometries.now }
+    ensures { OnOk result ((fs : List features.Feature) → AreFeaturesOf topology.now.arcs.arcs fs geometries.now → map_list held members.new.items ≡ map_list held members.old.items ++ paired fs geometries.now) }
+{
+    for geometry in geometries {
+        let feature = topology.feature(alloc, geometry)?;
         members.push(Member {
             feature,
             body: &geometry.body,
@@ -26,34 +43,65 @@ fn note_layer<'a>(
     Ok(())
 }
 
-/// The features of a layer in order; None where there is no such layer.
-pub(crate) fn of_layer<'a>(
+fn note_layers<'a>(
     alloc: Global,
-    map: &'a FeatureMap,
+    members: &mut Vec<Member<'a>>,
     topology: &'a Topology,
-    name: &str,
-) -> Result<Option<Vec<Member<'a>>>, AllocError> {
-    let (Some(features), Some(geometries)) = (map.layer(name), topology.geometries(name)) else {
-        return Ok(None);
-    };
-    let mut members = Vec::new(alloc);
-    note_layer(&mut members, features, geometries)?;
-    Ok(Some(members))
+) -> Result<(), OutOfMemory>
+    ensures { OnOk result ((m : Layers) → IsOf m topology.now → map_list held members.new.items ≡ map_list held members.old.items ++ gathered (layer_pairs m) topology.now.layers) }
+{
+    for layer in topology.layers() {
+        note_layer(alloc, members, topology, layer.geometries())?;
+    }
+    Ok(())
 }
 
-/// The features of all layers in order, each once.
-pub(crate) fn of_all_layers<'a>(
+fn sort_members(members: &mut Vec<Member>)
+    ensures permutation { IsPermutation members.old.items members.new.items }
+    ensures sorted { IsSorted by_feature members.new.items }
+{
+    members.sort_unstable_by(|a, b| a.feature.cmp(&b.feature));
+}
+
+fn members_named<'a>(
     alloc: Global,
-    map: &'a FeatureMap,
     topology: &'a Topology,
-) -> Result<Vec<Member<'a>>, AllocError> {
+    name: &str,
+) -> Result<Vec<Member<'a>>, QueryFault>
+    requires { IsOfSomeMap topology.now }
+    ensures layer { (m : Layers) → IsOf m topology.now → (result ≡ Err MissingLayer) ↔ IsMissing m (Some name.now) }
+    ensures members { IfOk result (λ v. (m : Layers) → IsOf m topology.now → AreMembers m topology.now (Some name.now) v.items) }
+{
+    let Some(geometries) = topology.geometries(name) else {
+        return Err(QueryFault::NoLayer);
+    };
     let mut members = Vec::new(alloc);
-    for layer in topology.layers() {
-        if let Some(features) = map.layer(layer.name().text()) {
-            note_layer(&mut members, features, layer.geometries())?;
-        }
-    }
-    members.sort_unstable_by(|a, b| a.feature.cmp(b.feature));
-    members.dedup_by(|a, b| a.feature == b.feature);
+    note_layer(alloc, &mut members, topology, geometries)?;
+    sort_members(&mut members);
     Ok(members)
+}
+
+fn members_of_all<'a>(alloc: Global, topology: &'a Topology) -> Result<Vec<Member<'a>>, OutOfMemory>
+    ensures { IfOk result (λ v. (m : Layers) → IsOf m topology.now → AreMembers m topology.now None v.items) }
+{
+    let mut members = Vec::new(alloc);
+    note_layers(alloc, &mut members, topology)?;
+    sort_members(&mut members);
+    Ok(members)
+}
+
+/// The features of a layer, or without a layer those of all layers, in their order.
+pub(crate) fn members_of<'a>(
+    alloc: Global,
+    topology: &'a Topology,
+    layer: Option<&str>,
+) -> Result<Vec<Member<'a>>, QueryFault>
+    requires { IsOfSomeMap topology.now }
+    ensures layer { (m : Layers) → IsOf m topology.now → (result ≡ Err MissingLayer) ↔ IsMissing m (option_map (λ n. n.now) layer.entry) }
+    ensures members { IfOk result (λ v. (m : Layers) → IsOf m topology.now → AreMembers m topology.now (option_map (λ n. n.now) layer.entry) v.items) }
+{
+    match layer {
+        Some(name) => members_named(alloc, topology, name),
+        None => Ok(members_of_all(alloc, topology)?),
+    }
 }

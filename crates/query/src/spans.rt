@@ -1,22 +1,27 @@
 //! The least and the greatest feature that use each arc.
+ghost use Rattle.std.specs.Prelude.{◌≡◌, ◌++◌, IfOk, None, set, get_or, replicate, map as map_list};
+ghost use Rattle.topo.specs.OfMap.{body_of};
+ghost use Rattle.query.specs.Spans.{widened, with_use, with_uses};
+ghost use Rattle.query.specs.Uses.{bodies_uses};
+
 use crate::members::Member;
-use chains::ArcRef;
-use lines::items::Items;
+use crate::uses::{Use, note_body};
 use std::alloc::{AllocError, Global};
-use topo::Body;
 
 /// The places of the least and the greatest feature that use an arc.
-#[derive(Clone, Copy, PartialEq, Eq, Debug)]
+#[derive(Clone, Copy, PartialEq, Eq, PartialOrd, Ord, Debug)]
 pub(crate) struct Span {
     pub(crate) least: usize,
     pub(crate) greatest: usize,
 }
 
-fn widened(old: Option<Span>, place: usize) -> Span {
+fn widen(old: Option<Span>, place: usize) -> Span
+    ensures { result ≡ widened old place }
+{
     match old {
         Some(span) => Span {
-            least: span.least,
-            greatest: place,
+            least: span.least.min(place),
+            greatest: span.greatest.max(place),
         },
         None => Span {
             least: place,
@@ -25,48 +30,53 @@ fn widened(old: Option<Span>, place: usize) -> Span {
     }
 }
 
-fn note_refs(spans: &mut [Option<Span>], place: usize, refs: &[ArcRef]) {
-    for used in refs {
-        if let Some(span) = spans.get_mut(used.arc) {
-            *span = Some(widened(*span, place));
-        }
+fn note_use(spans: &mut [Option<Span>], used: Use)
+    ensures { spans.new ≡ with_use spans.old used }
+{
+    if used.arc < spans.len() {
+        spans[used.arc] = Some(widen(spans[used.arc], used.place));
     }
 }
 
-fn note_lists(spans: &mut [Option<Span>], place: usize, lists: &[Items<ArcRef>]) {
-    for refs in lists {
-        note_refs(spans, place, refs.as_slice());
+/// Which members use which arc, place by place.
+fn all_uses(alloc: Global, members: &[Member]) -> Result<Vec<Use>, AllocError>
+    ensures { IfOk result (λ v. v.items ≡ bodies_uses 0 (map_list (λ p. body_of p.body.now) members.now)) }
+{
+    let mut uses = Vec::new(alloc);
+    for place in 0..members.len() {
+        note_body(&mut uses, place, members[place].body)?;
     }
+    Ok(uses)
 }
 
-fn note_polygons(spans: &mut [Option<Span>], place: usize, polygons: &[Items<Items<ArcRef>>]) {
-    for lists in polygons {
-        note_lists(spans, place, lists.as_slice());
-    }
-}
-
-fn note_body(spans: &mut [Option<Span>], place: usize, body: &Body) {
-    match body {
-        Body::Line(refs) => note_refs(spans, place, refs.as_slice()),
-        Body::MultiLine(lists) | Body::Polygon(lists) => note_lists(spans, place, lists.as_slice()),
-        Body::MultiPolygon(polygons) => note_polygons(spans, place, polygons.as_slice()),
-        _ => {}
-    }
-}
-
-/// For each of the arcs its least and its greatest user, where it has one. The members stand in the
-/// order of their features.
-pub(crate) fn spans_of(
-    alloc: Global,
-    arcs: usize,
-    members: &[Member],
-) -> Result<Vec<Option<Span>>, AllocError> {
+fn no_spans(alloc: Global, arcs: usize) -> Result<Vec<Option<Span>>, AllocError>
+    ensures { IfOk result (λ v. v.items ≡ replicate arcs None) }
+{
     let mut spans = Vec::with_capacity(alloc, arcs)?;
     for _ in 0..arcs {
         spans.push(None)?;
     }
-    for (place, member) in members.iter().enumerate() {
-        note_body(&mut spans, place, member.body);
+    Ok(spans)
+}
+
+fn spans_by(alloc: Global, arcs: usize, uses: &[Use]) -> Result<Vec<Option<Span>>, AllocError>
+    ensures { IfOk result (λ v. v.items ≡ with_uses (replicate arcs None) uses.now) }
+{
+    let mut spans = no_spans(alloc, arcs)?;
+    for used in uses {
+        note_use(&mut spans, *used);
     }
     Ok(spans)
+}
+
+/// For each of the arcs the places of its least and its greatest user, where it has one.
+pub(crate) fn spans_of(
+    alloc: Global,
+    arcs: usize,
+    members: &[Member],
+) -> Result<Vec<Option<Span>>, AllocError>
+    ensures { IfOk result (λ v. v.items ≡ with_uses (replicate arcs None) (bodies_uses 0 (map_list (λ p. body_of p.body.now) members.now))) }
+{
+    let uses = all_uses(alloc, members)?;
+    spans_by(alloc, arcs, &uses)
 }

@@ -107,25 +107,11 @@ fn stops_by(
     Ok(stops)
 }
 
-fn listed(alloc: Global, segments: &BTreeSet<Segment>) -> Result<Vec<Segment>, AllocError>
-    ensures { IfOk result (λ v. v.items ≡ segments.now.keys) }
-{
-    let mut list = Vec::with_capacity(alloc, segments.len())?;
-    for segment in segments.iter() {
-        list.push(*segment)?;
-    }
-    Ok(list)
-}
-
 /// The vertices that lie on a number of the segments other than two.
-pub(crate) fn stops_of(
-    alloc: Global,
-    segments: &BTreeSet<Segment>,
-) -> Result<BTreeSet<Pos>, AllocError>
-    ensures meets { IfOk result (λ stops. MeetsTwo segments.now.keys stops.keys) }
-    ensures exact { IfOk result (λ stops. AreStops segments.now.keys stops.keys) }
+pub(crate) fn stops_of(alloc: Global, segments: &[Segment]) -> Result<BTreeSet<Pos>, AllocError>
+    ensures meets { IfOk result (λ stops. MeetsTwo segments.now stops.keys) }
+    ensures exact { IfOk result (λ stops. AreStops segments.now stops.keys) }
 {
-    let list = listed(alloc, segments)?;
-    let sides = sides_of(alloc, &list)?;
-    stops_by(alloc, &sides, &list)
+    let sides = sides_of(alloc, segments)?;
+    stops_by(alloc, &sides, segments)
 }

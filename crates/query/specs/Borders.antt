@@ -1,0 +1,53 @@
+-- The borders between features: the segments that a filter selects, and the lines over them.
+use Rattle.std.specs.Prelude.{◌≡◌, ◌⊎◌, ℕ, Bool, true, false, IsTrue, List, Option, Some, None}
+use Rattle.std.specs.FinMap as map
+use Rattle.grid.specs.declared.pos.Pos.{Pos}
+use Rattle.shapes.specs.Maps.{Layers, features_at}
+use Rattle.shapes.specs.Order.{feature_cmp}
+use Rattle.shapes.specs.Sets as set
+use Rattle.shapes.specs.declared.feature.Feature.{Feature}
+use Rattle.chains.specs.Arcs.{Arcs}
+use Rattle.chains.specs.Joined.{AmongSegments, AreMaximal}
+use Rattle.chains.specs.Seen.{form_of}
+use Rattle.chains.specs.declared.segment.Segment.{Segment}
+use Rattle.theory.specs.Geometry.{AtMost}
+use Rattle.theory.specs.Lists.{Has}
+use Rattle.theory.specs.Users.{HasSegment}
+use Rattle.query.specs.Stops.{AreStops}
+
+-- the feature is one of the layer, or without a layer one of any layer
+abbrev pub InScope : Layers → Option (List ℕ) → Feature → Type 0
+InScope m (Some name) f = Has f (set.items (features_at m name))
+InScope m None f = (name : List ℕ) × Has f (set.items (features_at m name))
+
+-- a layer is named, and the map has none of that name
+abbrev pub IsMissing : Layers → Option (List ℕ) → Type 0
+IsMissing m (Some name) = ¬ IsTrue (map.contains_key m name)
+IsMissing m None = ⊥
+
+-- u and v are neighbours on a line or a ring of the feature
+abbrev pub HasSide : Pos → Pos → Feature → Type 0
+HasSide u v f = HasSegment u v (form_of f.shape)
+
+-- of the features in scope that have the segment, the first in the order of features
+pub record IsLeastWith (In : Feature → Type 0) (u v : Pos) (f : Feature) : Type 0 where
+  pub within : In f
+  pub has : HasSide u v f
+  pub least : (g : Feature) → In g → HasSide u v g → AtMost feature_cmp f g
+
+-- and the last
+pub record IsGreatestWith (In : Feature → Type 0) (u v : Pos) (f : Feature) : Type 0 where
+  pub within : In f
+  pub has : HasSide u v f
+  pub greatest : (g : Feature) → In g → HasSide u v g → AtMost feature_cmp g f
+
+-- the segments are those of features in scope for whose least and greatest feature the answer was yes; for each other it was no
+pub record AreSelected (In : Feature → Type 0) (Says : Feature → Feature → Bool → Type 0) (segs : List Segment) : Type 0 where
+  pub only : (u v : Pos) → AmongSegments u v segs → (a : Feature) × (b : Feature) × IsLeastWith In u v a × IsGreatestWith In u v b × Says a b true
+  pub all : (u v : Pos) (a b : Feature) → IsLeastWith In u v a → IsGreatestWith In u v b → AmongSegments u v segs ⊎ Says a b false
+
+-- the lines are the maximal chains over the segments, which stop at the vertices that lie on one segment, or on three or more
+pub record AreLinesOver (segs : List Segment) (lines : Arcs) : Type 0 where
+  pub stops : List Pos
+  pub exact : AreStops segs stops
+  pub maximal : AreMaximal segs stops lines
