@@ -19,6 +19,8 @@ mod hostile_topologies;
 #[cfg(test)]
 mod inputs;
 #[cfg(test)]
+mod layer_calls;
+#[cfg(test)]
 mod merge_calls;
 #[cfg(test)]
 mod merge_rows;

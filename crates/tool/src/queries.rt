@@ -5,7 +5,7 @@ use crate::refusal::Refusal;
 use chains::ArcTable;
 use clap::ArgMatches;
 use grid::Grid;
-use query::{QueryFault, feature, mesh, neighbors};
+use query::{LayerFault, QueryFault, mesh, neighbors, write_layer};
 use shapes::{Feature, FeatureMap};
 use sinks::{Sink, put};
 use std::alloc::Global;
@@ -42,12 +42,10 @@ pub(crate) fn run_feature<'a, F: Files, O: Sink>(
 ) -> Result<u8, Refusal<'a>> {
     let layer = word(found, "layer");
     let topology = read_topology(alloc, files, word(found, "FILE"))?;
-    match feature(alloc, &topology, layer) {
-        Ok(features) => {
-            geojson_io::write(&topology.grid(), features.iter(), out)?;
-            Ok(0)
-        }
-        Err(fault) => Err(refused(layer, fault)),
+    match write_layer(&topology, layer, out) {
+        Ok(()) => Ok(0),
+        Err(LayerFault::NoLayer) => Err(Refusal::NoLayer(layer)),
+        Err(LayerFault::Write) => Err(Refusal::Write),
     }
 }
 
