@@ -6,3 +6,4 @@ pub mod MergeLemmas
 pub mod MergedTexts
 pub mod UnionFits
 pub mod ThroughTexts
+pub mod InMemory

@@ -5,14 +5,16 @@ use Rattle.std.specs.Option.{option_or}
 use Rattle.std.specs.FinMap as map
 use Rattle.std.proofs.lemmas.Bool.{ltb-true, lt-ltb}
 use Rattle.std.proofs.lemmas.List.{length-append}
-use Rattle.grid.specs.Place.{Transform}
+use Rattle.grid.specs.Place.{Transform, IsTransform}
+use Rattle.round_trip.specs.Laws.{IsStored}
 use Rattle.shapes.specs.Maps.{Layers}
 use Rattle.shapes.specs.Union.{union}
 use Rattle.topo_io.specs.Canon.{canon}
 use Rattle.topo_io.specs.Means.{Means}
 use Rattle.refine.specs.Plans.{leaves, first_outside, union_at}
 use Rattle.refine.specs.Laws.{union_empty}
-use Rattle.refine.specs.Merge.{AreMeant, IsMergeOf}
+use Rattle.refine.specs.declared.plan.Plan.{Plan}
+use Rattle.refine.specs.Merge.{AreMeant, IsMergeOf, MeansUnion}
 use Rattle.refine.specs.MergeLaws.{instead, through, MergedTextsMeanUnions, MergesThroughTexts}
 use Rattle.round_trip.proofs.OfMap.{written_topologies_are_read}
 use Rattle.refine.proofs.UnionFits.{union_at_fits}
@@ -125,5 +127,8 @@ merged_texts_mean_unions texts p t x transform stored =
     (written_topologies_are_read x.grid (union_at x.maps (leaves p)) transform stored (union_at_fits x.grid texts x.maps x.meant (leaves p)))
 
 pub merges_through_texts : MergesThroughTexts
-merges_through_texts texts others p q t u x transform stored y =
-    merged_through texts others (leaves p) (leaves q) t u x (merged_texts_mean_unions texts p t x transform stored) y
+merges_through_texts texts others p q t u x y = merged_through texts others (leaves p) (leaves q) t u x.merge x.means y
+
+-- the merge of a map that memory holds
+pub means_union : (texts : List (List ℕ)) (p : Plan) (t : List ℕ) (x : IsMergeOf texts (leaves p) t) → IsTransform x.grid → IsStored (union_at x.maps (leaves p)) → MeansUnion texts (leaves p) t
+means_union texts p t x limits stored = record { merge = x; means = merged_texts_mean_unions texts p t x limits stored }

@@ -52,6 +52,11 @@ pub record IsMergeOf (texts : List (List ℕ)) (is t : List ℕ) : Type 0 where
   pub meant : AreMeant texts grid maps
   pub text : t ≡ canon grid (union_at maps is)
 
+-- the merged text is accepted, and means the union of the named maps: stitching it by the standard gives exactly their features
+pub record MeansUnion (texts : List (List ℕ)) (is t : List ℕ) : Type 0 where
+  pub merge : IsMergeOf texts is t
+  pub means : Means t merge.grid (union_at merge.maps is)
+
 -- why texts are not merged: the first leaf that is no place; else the first refused text; else the first on another grid than text 0
 abbrev pub IsMergeFault : List (List ℕ) → List ℕ → MergeFault → Type 0
 IsMergeFault texts is (BadPlan k) = first_outside (length texts) is ≡ Some k

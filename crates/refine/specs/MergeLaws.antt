@@ -11,7 +11,7 @@ use Rattle.topo_io.specs.Means.{Means}
 use Rattle.refine.specs.declared.plan.Plan.{Plan}
 use Rattle.refine.specs.Plans.{leaves}
 use Rattle.refine.specs.Alike.{Names, NameTheSame}
-use Rattle.refine.specs.Merge.{AreMeant, IsMergeOf}
+use Rattle.refine.specs.Merge.{AreMeant, IsMergeOf, MeansUnion}
 use Rattle.refine.specs.Plans.{union_at}
 
 -- whatever grid and maps the texts mean, the merged text is the canonical text of the union of the named maps
@@ -63,5 +63,5 @@ MergedTextsMeanUnions =
 -- a merged text merged with others is the merge of all texts by the one plan
 abbrev pub MergesThroughTexts : Type 0
 MergesThroughTexts =
-    (texts others : List (List ℕ)) (p q : Plan) (t u : List ℕ) (x : IsMergeOf texts (leaves p) t) → IsTransform x.grid → IsStored (union_at x.maps (leaves p)) →
+    (texts others : List (List ℕ)) (p q : Plan) (t u : List ℕ) → MeansUnion texts (leaves p) t →
     IsMergeOf (t ∷ others) (leaves q) u → IsMergeOf (texts ++ others) (through (length texts) (leaves p) (leaves q)) u

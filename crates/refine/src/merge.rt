@@ -2,7 +2,7 @@
 ghost use Rattle.std.specs.Prelude.{◌≡◌, ℕ, IfOk, IfErr, Some, Err, length};
 ghost use Rattle.refine.specs.declared.fault.MergeFault.TheVariants.{BadPlan};
 ghost use Rattle.refine.specs.Plans.{leaves, first_outside};
-ghost use Rattle.refine.specs.Merge.{bytes_of, AreRead, IsFaultOf, IsReadFault, IsMergeFault, IsMergeOf, as_merge};
+ghost use Rattle.refine.specs.Merge.{bytes_of, AreRead, IsFaultOf, IsReadFault, IsMergeFault, IsMergeOf, MeansUnion, as_merge};
 
 use crate::fault::{MergeFault, PlanFault};
 use crate::plan::{Plan, first_bad_leaf, run_plan};
@@ -60,6 +60,7 @@ pub fn merge_as<S: Shard>(
     ensures bad_plan { (k : ℕ) → first_outside (length texts.now) (leaves plan.now) ≡ Some k → result ≡ Err (BadPlan k) }
     ensures fault { IfErr result (IsMergeFault (bytes_of texts.now) (leaves plan.now)) }
     ensures merged { IfOk result (λ t. IsMergeOf (bytes_of texts.now) (leaves plan.now) t.items) }
+    ensures accepted { IfOk result (λ t. MeansUnion (bytes_of texts.now) (leaves plan.now) t.items) }
 {
     if let Some(leaf) = first_bad_leaf(plan, texts.len()) {
         return Err(MergeFault::BadPlan(leaf));
@@ -82,6 +83,7 @@ pub fn merge_texts(alloc: Global, texts: &[Vec<u8>], plan: &Plan) -> Result<Vec<
     ensures bad_plan { (k : ℕ) → first_outside (length texts.now) (leaves plan.now) ≡ Some k → result ≡ Err (BadPlan k) }
     ensures fault { IfErr result (IsMergeFault (bytes_of texts.now) (leaves plan.now)) }
     ensures merged { IfOk result (λ t. IsMergeOf (bytes_of texts.now) (leaves plan.now) t.items) }
+    ensures accepted { IfOk result (λ t. MeansUnion (bytes_of texts.now) (leaves plan.now) t.items) }
 {
     merge_as::<Whole>(alloc, texts, plan)
 }

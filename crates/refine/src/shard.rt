@@ -1,6 +1,7 @@
 //! What a merge needs of a shard.
 ghost use Rattle.std.specs.Prelude.{◌≡◌, ◌↔◌, IfOk, IsErrOf};
-ghost use Rattle.grid.specs.Place.{Transform};
+ghost use Rattle.grid.specs.Place.{Transform, IsTransform};
+ghost use Rattle.round_trip.specs.Laws.{IsStored};
 ghost use Rattle.shapes.specs.Maps.{Layers};
 ghost use Rattle.shapes.specs.Union.{union};
 ghost use Rattle.refine.specs.Meaning.{Commutes, Associates, IsIdempotent};
@@ -66,7 +67,9 @@ pub trait Shard: Sized + Drop {
 
     /// The canonical text of the shard's topology.
     fn text(&self, alloc: Global) -> Result<Vec<u8>, OutOfMemory>
-        ensures { IfOk result (λ t. t.items ≡ canon (grid_of self.now) (map_of self.now)) };
+        ensures text { IfOk result (λ t. t.items ≡ canon (grid_of self.now) (map_of self.now)) }
+        ensures limits { IfOk result (λ _. IsTransform (grid_of self.now)) }
+        ensures stored { IfOk result (λ _. IsStored (map_of self.now)) };
 
     ghost commutes: { Commutes joined map_of };
 

@@ -1,10 +1,12 @@
-use Rattle.std.proofs.Common.{length, ap, sym, ◌∙◌, refl, None, Some}
+use Rattle.std.proofs.Common.{length, ap, subst, sym, ◌∙◌, refl, None, Some}
 use Rattle.std.specs.Prelude.{map}
 use Rattle.std.proofs.lemmas.Result.{err_from_is_err_and}
 use Rattle.refine.specs.Plans.{leaves, union_at, first_outside}
 use Rattle.refine.specs.Merge.{bytes_of}
 use Rattle.topo_io.specs.Canon.{canon}
 use Rattle.refine.proofs.MergeLemmas.{read_merge, plan_merge, read_meant, length_bytes}
+use Rattle.round_trip.specs.Laws.{IsStored}
+use Rattle.refine.proofs.ThroughTexts.{means_union}
 use Rattle.refine.proofs.merge.merge_as.Goals as goal
 
 pub returns-in_err-shards-clause-fault : goal.returns-in_err-shards-clause-fault
@@ -27,5 +29,11 @@ returns-in-Ok-clause-merged g c =
       grid = grid;
       maps = map g.S.Shard.map_of shards;
       meant = read_meant g.S.Shard.grid_of g.S.Shard.map_of grid (bytes_of c.args.texts.now) shards c.in_ok-shards.ensures.read (rw c.deref.ensures.value at c.in-Ok.ensures.grid);
-      text = c.in_ok-text-in-Ok.ensures ∙ ap (canon grid) (c.in-Ok.ensures.map ∙ ap (λ ss. union_at (map g.S.Shard.map_of ss) (leaves c.args.plan.now)) c.deref.ensures.value);
+      text = c.in_ok-text-in-Ok.ensures.text ∙ ap (canon grid) (c.in-Ok.ensures.map ∙ ap (λ ss. union_at (map g.S.Shard.map_of ss) (leaves c.args.plan.now)) c.deref.ensures.value);
     }
+
+pub returns-in-Ok-clause-accepted : goal.returns-in-Ok-clause-accepted
+unfolding returns-in-Ok-clause-merged
+returns-in-Ok-clause-accepted g c =
+    means_union (bytes_of c.args.texts.now) c.args.plan.now _ (returns-in-Ok-clause-merged g c) c.in_ok-text-in-Ok.ensures.limits
+    (subst IsStored (c.in-Ok.ensures.map ∙ ap (λ ss. union_at (map g.S.Shard.map_of ss) (leaves c.args.plan.now)) c.deref.ensures.value) c.in_ok-text-in-Ok.ensures.stored)
