@@ -11,3 +11,5 @@ pub mod Siding
 pub mod Choosing
 pub mod Holding
 pub mod Meshing
+pub mod ArcSegments
+pub mod Parted

@@ -6,6 +6,7 @@ pub mod borders;
 pub mod fault;
 pub mod layer;
 mod members;
+mod parts;
 mod selecting;
 pub mod sharing;
 mod spans;

@@ -1,0 +1,255 @@
+-- The arcs that begin and end with a stop are maximal lines, and the segments of the others meet two by two.
+use Rattle.std.proofs.Common.{◌≡◌, ◌↔◌, ℕ, Bool, true, false, cond, ◌&&◌, List, [], ◌∷◌, ◌++◌, ◌⊎◌, inl, inr, refl, sym, ap, ◌∙◌, subst, Option, Some, None, slice_get, unwrap_or}
+use Rattle.grid.specs.declared.pos.Pos.{Pos}
+use Rattle.lines.specs.Turned.{position_cmp}
+use Rattle.lines.proofs.Positions.{position_total, position_same}
+use Rattle.chains.specs.Arcs.{Arcs}
+use Rattle.chains.specs.Pairs.{among}
+use Rattle.chains.specs.Table.{IsTableOf}
+use Rattle.chains.specs.Joined.{AmongSegments, SegmentsOf, StopAt, MeetsTwo, IsChainOver, Covered}
+use Rattle.chains.specs.declared.segment.Segment.{Segment}
+use Rattle.chains.proofs.Equality.{both_true, bool_split, true_false}
+use Rattle.theory.specs.Chain.{Chain}
+use Rattle.theory.specs.Geometry.{Geometry, IsSound, SegmentOf, JunctionOf, AtMost}
+use Rattle.theory.specs.Lists.{Beside, Between, EndOf, Has, Passes, Steps, last_of}
+use Rattle.theory.specs.Segments.{TwoSegments, OnTwo}
+use Rattle.theory.proofs.Ascending.{dec_by}
+use Rattle.theory.proofs.Junctions.{Between-beside, line_visit}
+use Rattle.theory.proofs.Lists.{Has-append, Has-append_left, Has-append_right}
+use Rattle.theory.proofs.ListsOfLists.{get_has}
+use Rattle.theory.proofs.Pieces.{two_segments_of}
+use Rattle.theory.proofs.VisitedAgain.{Trail-apart, Trail-turn}
+use Rattle.topo.specs.Points.{arc_at}
+use Rattle.query.specs.Along.{OnArcs, HasArcs, SidesOf}
+use Rattle.query.specs.Parting.{is_whole, whole_at, other_at, wholes, others}
+use Rattle.query.specs.Stops.{OnOne, OnThreeOf, AreStops}
+use Rattle.query.proofs.Siding.{arc_on, beside_sides, on_arc, sides_beside}
+
+-- the stops are the vertices that lie on one segment of these arcs, or on three and more; each other lies on two
+pub record AreHalts (arcs : List (List Pos)) (ks : List ℕ) (stops : List Pos) : Type 0 where
+  pub exact : (v : Pos) → StopAt stops v ↔ (OnOne (OnArcs arcs ks) v ⊎ OnThreeOf (OnArcs arcs ks) v)
+  pub meets : TwoSegments (OnArcs arcs ks) (StopAt stops)
+
+pub record AreParted (all : List Segment) (stops : List Pos) (whole : List (List Pos)) (rest : List Segment) : Type 0 where
+  pub chains : (d : List Pos) → Has d whole → IsChainOver all stops d
+  pub within : (u v : Pos) → AmongSegments u v rest → AmongSegments u v all
+  pub every : (u v : Pos) → AmongSegments u v all → Covered u v whole ⊎ AmongSegments u v rest
+
+-- what a list of at most one has
+has_if : {A : Type 0} (b : Bool) (x y : A) → Has x (cond b (y ∷ []) []) → (b ≡ true) × (x ≡ y)
+has_if true x y (inl e) = (refl, e)
+has_if true x y (inr z) = absurd z
+has_if false x y z = absurd z
+
+has_unless : {A : Type 0} (b : Bool) (x y : A) → Has x (cond b [] (y ∷ [])) → (b ≡ false) × (x ≡ y)
+has_unless true x y z = absurd z
+has_unless false x y (inl e) = (refl, e)
+has_unless false x y (inr z) = absurd z
+
+-- an arc of a number that is whole or not
+module _ (stops : List Pos) (arcs : List (List Pos)) where
+  at_number : (k : ℕ) (c : List Pos) → slice_get arcs k ≡ Some c → arc_at arcs k ≡ c
+  at_number k c e = ap (λ o. unwrap_or o []) e
+
+  whole_number : (k : ℕ) (c : List Pos) → is_whole stops (arc_at arcs k) ≡ true → c ≡ arc_at arcs k → slice_get arcs k ≡ Some c
+  whole_number k c w e = go (slice_get arcs k) refl w e
+    where
+      go : (o : Option (List Pos)) → slice_get arcs k ≡ o → is_whole stops (unwrap_or o []) ≡ true → c ≡ unwrap_or o [] → slice_get arcs k ≡ Some c
+      go None f w e = absurd (true_false false w refl)
+      go (Some d) f w e = f ∙ ap Some (sym e)
+
+  whole_has : (ks : List ℕ) (k : ℕ) (c : List Pos) → Has k ks → slice_get arcs k ≡ Some c → is_whole stops c ≡ true → Has c (wholes stops arcs ks)
+  whole_has [] k c h e w = absurd h
+  whole_has (j ∷ ks) k c (inr h) e w = Has-append_right c (whole_at stops arcs j) (wholes stops arcs ks) (whole_has ks k c h e w)
+  whole_has (j ∷ ks) k c (inl h) e w =
+      let same : arc_at arcs j ≡ c = at_number j c (ap (slice_get arcs) (sym h) ∙ e) in
+      Has-append_left c (whole_at stops arcs j) (wholes stops arcs ks)
+      (subst (λ b. Has c (cond b (arc_at arcs j ∷ []) [])) (sym (ap (is_whole stops) same ∙ w)) (inl (sym same)))
+
+  has_whole : (ks : List ℕ) (c : List Pos) → Has c (wholes stops arcs ks) → (k : ℕ) × Has k ks × (slice_get arcs k ≡ Some c) × (is_whole stops c ≡ true)
+  has_whole [] c h = absurd h
+  has_whole (k ∷ ks) c h =
+      elim (Has-append c (whole_at stops arcs k) (wholes stops arcs ks) h) [
+        | inr i ↦ (let t = has_whole ks c i in (t.0, inr t.1, t.2, t.3))
+        | inl i ↦ (let t = has_if (is_whole stops (arc_at arcs k)) c (arc_at arcs k) i in
+          (k, inl refl, whole_number k c t.0 t.1, ap (is_whole stops) t.1 ∙ t.0))
+      ]
+
+  other_has : (ks : List ℕ) (k : ℕ) → Has k ks → is_whole stops (arc_at arcs k) ≡ false → Has k (others stops arcs ks)
+  other_has [] k h w = absurd h
+  other_has (j ∷ ks) k (inr h) w = Has-append_right k (other_at stops arcs j) (others stops arcs ks) (other_has ks k h w)
+  other_has (j ∷ ks) k (inl h) w =
+      Has-append_left k (other_at stops arcs j) (others stops arcs ks)
+      (subst (λ b. Has k (cond b [] (j ∷ []))) (sym (ap (λ n. is_whole stops (arc_at arcs n)) (sym h) ∙ w)) (inl h))
+
+  has_other : (ks : List ℕ) (k : ℕ) → Has k (others stops arcs ks) → Has k ks × (is_whole stops (arc_at arcs k) ≡ false)
+  has_other [] k h = absurd h
+  has_other (j ∷ ks) k h =
+      elim (Has-append k (other_at stops arcs j) (others stops arcs ks) h) [
+        | inr i ↦ (let t = has_other ks k i in (inr t.0, t.1))
+        | inl i ↦ (let t = has_unless (is_whole stops (arc_at arcs j)) k j i in (inl t.1, ap (λ n. is_whole stops (arc_at arcs n)) t.1 ∙ t.0))
+      ]
+
+  -- a whole arc has stops at both ends
+  whole_ends : (x : Pos) (r : List Pos) → is_whole stops (x ∷ r) ≡ true → StopAt stops x × StopAt stops (last_of x r)
+  whole_ends x r w = both_true (among stops x) (among stops (last_of x r)) w
+
+  end_stops : (v : Pos) (c : List Pos) → is_whole stops c ≡ true → EndOf v c → StopAt stops v
+  end_stops v [] w h = absurd h
+  end_stops v (x ∷ r) w (inl e) = subst (StopAt stops) (sym e) (whole_ends x r w).0
+  end_stops v (x ∷ r) w (inr e) = subst (StopAt stops) (sym e) (whole_ends x r w).1
+
+-- a vertex on exactly two segments is not on one, nor on three
+not_three : (S : Pos → Pos → Type 0) (v : Pos) → OnTwo S v → ¬ (OnOne S v ⊎ OnThreeOf S v)
+not_three S v t (inl o) = t.2 (o.2 t.0 t.3 ∙ sym (o.2 t.1 t.4))
+not_three S v t (inr o) =
+    elim (t.5 o.0 o.3) [
+      | inl p ↦ elim (t.5 o.1 o.4) [
+        | inl q ↦ o.6 (p ∙ sym q)
+        | inr q ↦ elim (t.5 o.2 o.5) [ inl r ↦ o.7 (p ∙ sym r) | inr r ↦ o.8 (q ∙ sym r) ]
+      ]
+      | inr p ↦ elim (t.5 o.1 o.4) [
+        | inr q ↦ o.6 (p ∙ sym q)
+        | inl q ↦ elim (t.5 o.2 o.5) [ inr r ↦ o.7 (p ∙ sym r) | inl r ↦ o.8 (q ∙ sym r) ]
+      ]
+    ]
+
+-- of two that differ, and are each one of two others, any of the others is one
+one_of : (a b p q w : Pos) → ¬ (a ≡ b) → (a ≡ p) ⊎ (a ≡ q) → (b ≡ p) ⊎ (b ≡ q) → (w ≡ p) ⊎ (w ≡ q) → (w ≡ a) ⊎ (w ≡ b)
+one_of a b p q w n (inl e) (inl f) h = absurd (n (e ∙ sym f))
+one_of a b p q w n (inr e) (inr f) h = absurd (n (e ∙ sym f))
+one_of a b p q w n (inl e) (inr f) h = elim h [ inl k ↦ inl (k ∙ sym e) | inr k ↦ inr (k ∙ sym f) ]
+one_of a b p q w n (inr e) (inl f) h = elim h [ inl k ↦ inr (k ∙ sym f) | inr k ↦ inl (k ∙ sym e) ]
+
+module _ (g : Geometry Pos) (sound : IsSound g) (t : Arcs) (table : IsTableOf g t) (ks : List ℕ) where
+  chain_at : (k : ℕ) (x : Pos) (r : List Pos) → slice_get t.arcs k ≡ Some (x ∷ r) → Chain (SegmentOf g) (JunctionOf g) (AtMost position_cmp) x r
+  chain_at k x r e = (table.arcs.arcs_only (x ∷ r) (get_has t.arcs k (x ∷ r) e)).chain
+
+  inner_free : (k : ℕ) (c : List Pos) → slice_get t.arcs k ≡ Some c → (a v b : Pos) → Between a v b c → ¬ JunctionOf g v
+  inner_free k [] e a v b h = absurd (elim h [ inl i ↦ i | inr i ↦ i ])
+  inner_free k (x ∷ r) e a v b (inl h) = (chain_at k x r e).inner_free a v b h
+  inner_free k (x ∷ r) e a v b (inr h) = (chain_at k x r e).inner_free b v a h
+
+  turns : (k : ℕ) (c : List Pos) → slice_get t.arcs k ≡ Some c → (a v b : Pos) → Between a v b c → ¬ (a ≡ b)
+  turns k c e a v b (inl h) = Trail-turn c (table.once.one_place c (get_has t.arcs k c e)) a v b h
+  turns k c e a v b (inr h) = λ same. Trail-turn c (table.once.one_place c (get_has t.arcs k c e)) b v a h (sym same)
+
+  differ : (k : ℕ) (c : List Pos) → slice_get t.arcs k ≡ Some c → (u v : Pos) → Beside u v c → ¬ (u ≡ v)
+  differ k c e u v (inl h) = Trail-apart u v c (table.once.one_place c (get_has t.arcs k c e)) h
+  differ k c e u v (inr h) = λ same. Trail-apart v u c (table.once.one_place c (get_has t.arcs k c e)) h (sym same)
+
+  on_these : (k : ℕ) (c : List Pos) → Has k ks → slice_get t.arcs k ≡ Some c → (u v : Pos) → Beside u v c → OnArcs t.arcs ks u v
+  on_these k c h e u v b = arc_on t.arcs ks u v k c h e (beside_sides c u v (differ k c e u v b) b)
+
+  segment_on : (u v : Pos) → OnArcs t.arcs ks u v → SegmentOf g u v
+  segment_on u v h =
+      let (k, c, there, e, side) = on_arc t.arcs ks u v h in
+      table.once.no_other u v c (get_has t.arcs k c e) (sides_beside c u v side)
+
+  -- a vertex that an arc passes lies on two segments of these arcs, its neighbours there
+  inner_two : (k : ℕ) (c : List Pos) → Has k ks → slice_get t.arcs k ≡ Some c → (a v b : Pos) → Between a v b c →
+      (¬ (a ≡ b)) × OnArcs t.arcs ks v a × OnArcs t.arcs ks v b × ((w : Pos) → OnArcs t.arcs ks v w → (w ≡ a) ⊎ (w ≡ b))
+  inner_two k c there e a v b h =
+      let beside = Between-beside a v b c h in
+      let n = turns k c e a v b h in
+      let first = on_these k c there e v a beside.0 in
+      let second = on_these k c there e v b beside.1 in
+      let two = two_segments_of g sound (dec_by position_cmp position_total position_same) v a (inner_free k c e a v b h) (segment_on v a first) in
+      (n, first, second, λ w i. one_of a b two.0 two.1 w n (two.5 a (segment_on v a first)) (two.5 b (segment_on v b second)) (two.5 w (segment_on v w i)))
+
+  module _ (stops : List Pos) (halts : AreHalts t.arcs ks stops) where
+    -- a vertex that an arc passes is no stop
+    passed_free : (k : ℕ) (c : List Pos) → Has k ks → slice_get t.arcs k ≡ Some c → (a v b : Pos) → Between a v b c → ¬ StopAt stops v
+    passed_free k c there e a v b h stop =
+        let two = inner_two k c there e a v b h in
+        not_three (OnArcs t.arcs ks) v (a, b, two.0, two.1, two.2, two.3) ((halts.exact v).0 stop)
+
+    module _ (all : List Segment) (has : HasArcs t.arcs ks all) where
+      whole_chain : (k : ℕ) (c : List Pos) → Has k ks → slice_get t.arcs k ≡ Some c → is_whole stops c ≡ true → IsChainOver all stops c
+      whole_chain k [] there e w = absurd (true_false false w refl)
+      whole_chain k (x ∷ r) there e w =
+          let chain = chain_at k x r e in
+          record {
+            long = chain.long;
+            along = λ u v h. (has u v).1 (on_these k (x ∷ r) there e u v (inl h));
+            front_simple = chain.front_simple;
+            rest_simple = chain.rest_simple;
+            closed_long = chain.closed_long;
+            inner_free = λ a v b h. passed_free k (x ∷ r) there e a v b (inl h);
+            ends = inl (whole_ends stops t.arcs x r w);
+          }
+
+      pub all_meet : MeetsTwo all stops
+      all_meet v w free h =
+          let (a, b, n, first, second, only) = halts.meets v w free ((has v w).0 h) in
+          (a, b, n, (has v a).1 first, (has v b).1 second, λ c i. only c ((has v c).0 i))
+
+      pub all_stops : AreStops all stops
+      all_stops v = (
+        (λ h. elim ((halts.exact v).0 h) [
+          | inl (a, s, only) ↦ inl (a, (has v a).1 s, λ p i. only p ((has v p).0 i))
+          | inr (a, b, c, p, q, r, x, y, z) ↦ inr (a, b, c, (has v a).1 p, (has v b).1 q, (has v c).1 r, x, y, z)
+        ]),
+        (λ h. (halts.exact v).1 (elim h [
+          | inl (a, s, only) ↦ inl (a, (has v a).0 s, λ p i. only p ((has v p).1 i))
+          | inr (a, b, c, p, q, r, x, y, z) ↦ inr (a, b, c, (has v a).0 p, (has v b).0 q, (has v c).0 r, x, y, z)
+        ])),
+      )
+
+      module _ (rest : List Segment) (left : HasArcs t.arcs (others stops t.arcs ks) rest) where
+        rest_within : (u v : Pos) → AmongSegments u v rest → OnArcs t.arcs ks u v
+        rest_within u v h =
+            let (k, c, there, e, side) = on_arc t.arcs (others stops t.arcs ks) u v ((left u v).0 h) in
+            arc_on t.arcs ks u v k c (has_other stops t.arcs ks k there).0 e side
+
+        -- a segment is on a whole arc, or among the rest
+        either : (u v : Pos) → OnArcs t.arcs ks u v →
+            ((k : ℕ) × (c : List Pos) × Has k ks × (slice_get t.arcs k ≡ Some c) × (is_whole stops c ≡ true) × Beside u v c) ⊎ AmongSegments u v rest
+        either u v h =
+            let (k, c, there, e, side) = on_arc t.arcs ks u v h in
+            elim (bool_split (is_whole stops c)) [
+              | inl w ↦ inl (k, c, there, e, w, sides_beside c u v side)
+              | inr w ↦ inr ((left u v).1 (arc_on t.arcs (others stops t.arcs ks) u v k c
+                  (other_has stops t.arcs ks k there (ap (is_whole stops) (at_number stops t.arcs k c e) ∙ w)) e side))
+            ]
+
+        pub are_parted : AreParted all stops (wholes stops t.arcs ks) rest
+        are_parted = record {
+          chains = λ d h. let (k, there, e, w) = has_whole stops t.arcs ks d h in whole_chain k d there e w;
+          within = λ u v h. (has u v).1 (rest_within u v h);
+          every = λ u v h. elim (either u v ((has u v).0 h)) [
+            | inl (k, c, there, e, w, beside) ↦ inl (c, whole_has stops t.arcs ks k c there e w, beside)
+            | inr i ↦ inr i
+          ];
+        }
+
+        -- at a vertex of the rest that is no stop no segment is on a whole arc
+        none_whole : (v w : Pos) → ¬ StopAt stops v → AmongSegments v w rest → (k : ℕ) (u : Pos) (c : List Pos) → Has k ks → slice_get t.arcs k ≡ Some c →
+            is_whole stops c ≡ true → Beside v u c → ⊥
+        none_whole v w free h k u c there e is beside =
+            elim (line_visit v u c beside) [
+              | inl end ↦ free (end_stops stops t.arcs v c is end)
+              | inr (b, between) ↦ (
+                let sides = Between-beside u v b c between in
+                let two = inner_two k c there e u v b between in
+                let on : Beside v w c = elim (two.3 w (rest_within v w h)) [
+                  | inl same ↦ subst (λ p. Beside v p c) (sym same) sides.0
+                  | inr same ↦ subst (λ p. Beside v p c) (sym same) sides.1
+                ] in
+                let (j, d, other, f, side) = on_arc t.arcs (others stops t.arcs ks) v w ((left v w).0 h) in
+                let one : k ≡ j = table.once.one_arc v w k j c d e f on (sides_beside d v w side) in
+                true_false (is_whole stops (arc_at t.arcs k)) (ap (is_whole stops) (at_number stops t.arcs k c e) ∙ is)
+                (ap (λ n. is_whole stops (arc_at t.arcs n)) one ∙ (has_other stops t.arcs ks j other).1))
+            ]
+
+        pub rest_meets : MeetsTwo rest stops
+        rest_meets v w free h =
+            let (a, b, n, first, second, only) = halts.meets v w free (rest_within v w h) in
+            (a, b, n, stays a first, stays b second, λ c i. only c (rest_within v c i))
+          where
+            stays : (u : Pos) → OnArcs t.arcs ks v u → AmongSegments v u rest
+            stays u i =
+                elim (either v u i) [
+                  | inr k ↦ k
+                  | inl (k, c, there, e, is, beside) ↦ absurd (none_whole v w free h k u c there e is beside)
+                ]
