@@ -7,12 +7,11 @@ use Rattle.theory.specs.Lists.{Steps, Beside, Has}
 use Rattle.theory.specs.Walking.{Joining, Noted, Removed}
 use Rattle.theory.proofs.Lists.{Beside-flip, Has-append_left}
 use Rattle.theory.proofs.Walking.{from_stop, from_seam, passed, all_covered}
-use Rattle.theory.proofs.Chains.{all_chains}
 use Rattle.lines.specs.Turned.{position_cmp}
 use Rattle.chains.specs.Pairs.{among}
 use Rattle.theory.specs.Geometry.{AtMost}
 use Rattle.chains.proofs.Equality.{bool_split, true_false, position_decide, position_most, not_before}
-use Rattle.chains.specs.Joined.{AmongSegments, SegmentsOf, StopAt, MeetsTwo, Covered, IsJoining, Took, AreAllChains}
+use Rattle.chains.specs.Joined.{AmongSegments, SegmentsOf, StopAt, MeetsTwo, Covered, IsJoining, Took, AreCovering}
 use Rattle.chains.specs.Walk.{links_in, IsWalk}
 use Rattle.grid.specs.declared.pos.Pos.{Pos}
 use Rattle.chains.specs.declared.segment.Segment.{Segment}
@@ -131,12 +130,11 @@ module _ (segs : List Segment) (keys : List Pos) (ok : MeetsTwo segs keys) where
           inl (t.0, t.1, subst (λ w. Beside w v t.0) (sym g.0) (subst (λ w. Beside s.greater w t.0) (sym g.1) t.2))
 
   pub all_found : (m : BTreeMap Pos (Pos × Pos)) (ds : List (List Pos)) → IsJoining segs keys m ds →
-      ((u v : Pos) → StopAt keys u → AmongSegments u v segs → Covered u v ds) → ((q : Pos) → links_in m q ≡ None) → AreAllChains segs keys ds
+      ((u v : Pos) → StopAt keys u → AmongSegments u v segs → Covered u v ds) → ((q : Pos) → links_in m q ≡ None) → AreCovering segs keys ds
   all_found m ds j cover none = record {
     chains = j.chains;
-    each = all_chains (SegmentsOf segs) (StopAt keys) (AtMost position_cmp) (λ u v. Among-turn segs u v) ok position_most (λ d. Has d ds) j.chains
-        (all_covered (SegmentsOf segs) (StopAt keys) (AtMost position_cmp) (λ u v. Among-turn segs u v) ok position_most (Among-apart segs) (stop_decide keys) position_decide
-        (λ d. Has d ds) (links_in m) j none cover);
+    covers = all_covered (SegmentsOf segs) (StopAt keys) (AtMost position_cmp) (λ u v. Among-turn segs u v) ok position_most (Among-apart segs) (stop_decide keys) position_decide
+        (λ d. Has d ds) (links_in m) j none cover;
   }
 
 pub Among-drop : (i : ℕ) (u v : Pos) (segs : List Segment) → AmongSegments u v (drop i segs) → AmongSegments u v segs

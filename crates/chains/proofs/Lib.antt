@@ -9,6 +9,7 @@ pub mod Oriented
 pub mod Openings
 pub mod Turned
 pub mod Cuts
+pub mod Parted
 pub mod Places
 pub mod Marks
 pub mod TableOfMap

@@ -52,6 +52,17 @@ pub record Took (segs : List Segment) (stops : List Pos) (m : BTreeMap Pos (Pos 
   pub keeps : (d : List Pos) → Has d old → Has d ds
   pub covers : StopAt stops from → Covered from to ds
 
+-- the lists are chains, and each of the segments is on one of them
+pub record AreCovering (segs : List Segment) (stops : List Pos) (ds : List (List Pos)) : Type 0 where
+  pub chains : (d : List Pos) → Has d ds → IsChainOver segs stops d
+  pub covers : (u v : Pos) → AmongSegments u v segs → Covered u v ds
+
+-- of all the segments some are on the lists, which are chains over all of them, and the rest are the others
+pub record AreParted (all : List Segment) (stops : List Pos) (whole : List (List Pos)) (rest : List Segment) : Type 0 where
+  pub chains : (d : List Pos) → Has d whole → IsChainOver all stops d
+  pub within : (u v : Pos) → AmongSegments u v rest → AmongSegments u v all
+  pub every : (u v : Pos) → AmongSegments u v all → Covered u v whole ⊎ AmongSegments u v rest
+
 -- these are all the chains, each in one direction or the other
 pub record AreAllChains (segs : List Segment) (stops : List Pos) (ds : List (List Pos)) : Type 0 where
   pub chains : (d : List Pos) → Has d ds → IsChainOver segs stops d

@@ -8,7 +8,7 @@ ghost use Rattle.chains.specs.Pieces.{oriented};
 ghost use Rattle.chains.specs.Pieces as pieces;
 ghost use Rattle.chains.specs.Walk.{IsWalk, links_in};
 ghost use Rattle.chains.specs.Links.{joined, noted, noted_all};
-ghost use Rattle.chains.specs.Joined.{AmongSegments, MeetsTwo, IsJoining, Took, AreAllChains, AreMaximal};
+ghost use Rattle.chains.specs.Joined.{AmongSegments, MeetsTwo, IsJoining, Took, AreCovering, AreParted, AreMaximal};
 
 use crate::cutting::Piece;
 use crate::segment::Segment;
@@ -125,7 +125,7 @@ fn chains_of(
     stops: &StopSet,
 ) -> Result<Vec<Vec<Pos>>, AllocError>
     requires { MeetsTwo segments.now stops.now }
-    ensures { IfOk result (λ v. AreAllChains segments.now stops.now (map (λ c. c.items) v.items)) }
+    ensures { IfOk result (λ v. AreCovering segments.now stops.now (map (λ c. c.items) v.items)) }
 {
     let mut links = links_of(alloc, segments, stops)?;
     let mut found = Vec::new(alloc);
@@ -176,28 +176,33 @@ fn pieces_of(
     Ok(pieces)
 }
 
-/// The maximal chains over the segments, which run from stop to stop, each in its least direction,
-/// sorted. The caller's condition: each vertex that is no stop lies on exactly two of the segments.
-/// The segments may stand in any order.
+/// The maximal chains over segments, of which some stand in `whole` as chains already: these, and
+/// those found over the other segments, each in its least direction, sorted. The caller's condition:
+/// each vertex that is no stop lies on exactly two of the other segments, or on none.
 ///
 /// # Errors
 /// Where memory is refused.
-pub fn maximal_over(
+pub fn maximal_with(
     alloc: Global,
+    whole: Vec<Vec<Pos>>,
     segments: &[Segment],
     stops: &BTreeSet<Pos>,
 ) -> Result<ArcTable, OutOfMemory>
     requires { MeetsTwo segments.now stops.now.keys }
-    ensures { IfOk result (λ t. AreMaximal segments.now stops.now.keys t) }
+    ensures { IfOk result (λ t. (all : List Segment) → MeetsTwo all stops.now.keys → AreParted all stops.now.keys (map (λ c. c.items) whole.items) segments.now → AreMaximal all stops.now.keys t) }
 {
     let stops = StopSet::of(alloc, stops)?;
-    let chains = chains_of(alloc, segments, &stops)?;
+    let mut found = chains_of(alloc, segments, &stops)?;
+    let mut chains = whole;
+    chains.append(&mut found)?;
     let pieces = pieces_of(alloc, chains, &stops)?;
     let table = ArcTable::from_pieces(alloc, pieces)?;
     Ok(table)
 }
 
-/// The maximal chains over a set of segments, as `maximal_over` gives them.
+/// The maximal chains over a set of segments, which run from stop to stop, each in its least
+/// direction, sorted. The caller's condition: each vertex that is no stop lies on exactly two of the
+/// segments.
 ///
 /// # Errors
 /// Where memory is refused.
@@ -210,5 +215,5 @@ pub fn maximal(
     ensures { IfOk result (λ t. AreMaximal segments.now.keys stops.now.keys t) }
 {
     let list = listed(alloc, segments)?;
-    maximal_over(alloc, &list, stops)
+    maximal_with(alloc, Vec::new(alloc), &list, stops)
 }

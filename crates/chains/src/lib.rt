@@ -12,7 +12,7 @@ pub mod table;
 pub mod visits;
 
 pub use cutting::{Piece, cut_line, cut_ring};
-pub use joining::{maximal, maximal_over};
+pub use joining::{maximal, maximal_with};
 pub use segment::Segment;
 pub use table::{ArcRef, ArcTable};
 pub use visits::VisitIndex;
