@@ -6,7 +6,7 @@ use Rattle.lines.proofs.Positions.{position_total, position_same}
 use Rattle.chains.specs.Arcs.{Arcs}
 use Rattle.chains.specs.Pairs.{among}
 use Rattle.chains.specs.Table.{IsTableOf}
-use Rattle.chains.specs.Joined.{AmongSegments, SegmentsOf, StopAt, MeetsTwo, IsChainOver, Covered}
+use Rattle.chains.specs.Joined.{AmongSegments, SegmentsOf, StopAt, MeetsTwo, IsChainOver, Covered, AreParted}
 use Rattle.chains.specs.declared.segment.Segment.{Segment}
 use Rattle.chains.proofs.Equality.{both_true, bool_split, true_false}
 use Rattle.theory.specs.Chain.{Chain}
@@ -22,18 +22,8 @@ use Rattle.theory.proofs.VisitedAgain.{Trail-apart, Trail-turn}
 use Rattle.topo.specs.Points.{arc_at}
 use Rattle.query.specs.Along.{OnArcs, HasArcs, SidesOf}
 use Rattle.query.specs.Parting.{is_whole, whole_at, other_at, wholes, others}
-use Rattle.query.specs.Stops.{OnOne, OnThreeOf, AreStops}
+use Rattle.query.specs.Stops.{OnOne, OnThreeOf, AreHalts, AreStops}
 use Rattle.query.proofs.Siding.{arc_on, beside_sides, on_arc, sides_beside}
-
--- the stops are the vertices that lie on one segment of these arcs, or on three and more; each other lies on two
-pub record AreHalts (arcs : List (List Pos)) (ks : List ℕ) (stops : List Pos) : Type 0 where
-  pub exact : (v : Pos) → StopAt stops v ↔ (OnOne (OnArcs arcs ks) v ⊎ OnThreeOf (OnArcs arcs ks) v)
-  pub meets : TwoSegments (OnArcs arcs ks) (StopAt stops)
-
-pub record AreParted (all : List Segment) (stops : List Pos) (whole : List (List Pos)) (rest : List Segment) : Type 0 where
-  pub chains : (d : List Pos) → Has d whole → IsChainOver all stops d
-  pub within : (u v : Pos) → AmongSegments u v rest → AmongSegments u v all
-  pub every : (u v : Pos) → AmongSegments u v all → Covered u v whole ⊎ AmongSegments u v rest
 
 -- what a list of at most one has
 has_if : {A : Type 0} (b : Bool) (x y : A) → Has x (cond b (y ∷ []) []) → (b ≡ true) × (x ≡ y)
