@@ -11,3 +11,4 @@ pub mod Siding
 pub mod Choosing
 pub mod Holding
 pub mod Meshing
+pub mod Vertices
