@@ -2,7 +2,6 @@
 use Rattle.std.proofs.Common.{◌≡◌, ◌↔◌, ℕ, Bool, true, false, cond, ◌&&◌, List, [], ◌∷◌, ◌++◌, ◌⊎◌, inl, inr, refl, sym, ap, ◌∙◌, subst, Option, Some, None, slice_get, unwrap_or}
 use Rattle.grid.specs.declared.pos.Pos.{Pos}
 use Rattle.lines.specs.Turned.{position_cmp}
-use Rattle.lines.proofs.Positions.{position_total, position_same}
 use Rattle.chains.specs.Arcs.{Arcs}
 use Rattle.chains.specs.Pairs.{among}
 use Rattle.chains.specs.Table.{IsTableOf}
@@ -11,19 +10,16 @@ use Rattle.chains.specs.declared.segment.Segment.{Segment}
 use Rattle.chains.proofs.Equality.{both_true, bool_split, true_false}
 use Rattle.theory.specs.Chain.{Chain}
 use Rattle.theory.specs.Geometry.{Geometry, IsSound, SegmentOf, JunctionOf, AtMost}
-use Rattle.theory.specs.Lists.{Beside, Between, EndOf, Has, Passes, Steps, last_of}
-use Rattle.theory.specs.Segments.{TwoSegments, OnTwo}
-use Rattle.theory.proofs.Ascending.{dec_by}
-use Rattle.theory.proofs.Junctions.{Between-beside, line_visit}
-use Rattle.theory.proofs.Lists.{Has-append, Has-append_left, Has-append_right}
+use Rattle.theory.specs.Lists.{Beside, EndOf, Has, Passes, last_of}
+use Rattle.theory.specs.Segments.{OnTwo}
+use Rattle.theory.proofs.Lists.{Has-append, Has-append_left, Has-append_right, Passes-after, Passes-before}
 use Rattle.theory.proofs.ListsOfLists.{get_has}
-use Rattle.theory.proofs.Pieces.{two_segments_of}
-use Rattle.theory.proofs.VisitedAgain.{Trail-apart, Trail-turn}
 use Rattle.topo.specs.Points.{arc_at}
-use Rattle.query.specs.Along.{OnArcs, HasArcs, SidesOf}
+use Rattle.query.specs.Along.{OnArcs, HasArcs}
 use Rattle.query.specs.Parting.{is_whole, whole_at, other_at, wholes, others}
 use Rattle.query.specs.Stops.{OnOne, OnThreeOf, AreHalts, AreStops}
-use Rattle.query.proofs.Siding.{arc_on, beside_sides, on_arc, sides_beside}
+use Rattle.query.proofs.Siding.{arc_on, on_arc, sides_beside}
+use Rattle.query.proofs.Vertices.{at_place, beside_on, end_of, inner_two}
 
 -- what a list of at most one has
 has_if : {A : Type 0} (b : Bool) (x y : A) → Has x (cond b (y ∷ []) []) → (b ≡ true) × (x ≡ y)
@@ -104,68 +100,26 @@ not_three S v t (inr o) =
       ]
     ]
 
--- of two that differ, and are each one of two others, any of the others is one
-one_of : (a b p q w : Pos) → ¬ (a ≡ b) → (a ≡ p) ⊎ (a ≡ q) → (b ≡ p) ⊎ (b ≡ q) → (w ≡ p) ⊎ (w ≡ q) → (w ≡ a) ⊎ (w ≡ b)
-one_of a b p q w n (inl e) (inl f) h = absurd (n (e ∙ sym f))
-one_of a b p q w n (inr e) (inr f) h = absurd (n (e ∙ sym f))
-one_of a b p q w n (inl e) (inr f) h = elim h [ inl k ↦ inl (k ∙ sym e) | inr k ↦ inr (k ∙ sym f) ]
-one_of a b p q w n (inr e) (inl f) h = elim h [ inl k ↦ inr (k ∙ sym f) | inr k ↦ inl (k ∙ sym e) ]
-
 module _ (g : Geometry Pos) (sound : IsSound g) (t : Arcs) (table : IsTableOf g t) (ks : List ℕ) where
-  chain_at : (k : ℕ) (x : Pos) (r : List Pos) → slice_get t.arcs k ≡ Some (x ∷ r) → Chain (SegmentOf g) (JunctionOf g) (AtMost position_cmp) x r
-  chain_at k x r e = (table.arcs.arcs_only (x ∷ r) (get_has t.arcs k (x ∷ r) e)).chain
-
-  inner_free : (k : ℕ) (c : List Pos) → slice_get t.arcs k ≡ Some c → (a v b : Pos) → Between a v b c → ¬ JunctionOf g v
-  inner_free k [] e a v b h = absurd (elim h [ inl i ↦ i | inr i ↦ i ])
-  inner_free k (x ∷ r) e a v b (inl h) = (chain_at k x r e).inner_free a v b h
-  inner_free k (x ∷ r) e a v b (inr h) = (chain_at k x r e).inner_free b v a h
-
-  turns : (k : ℕ) (c : List Pos) → slice_get t.arcs k ≡ Some c → (a v b : Pos) → Between a v b c → ¬ (a ≡ b)
-  turns k c e a v b (inl h) = Trail-turn c (table.once.one_place c (get_has t.arcs k c e)) a v b h
-  turns k c e a v b (inr h) = λ same. Trail-turn c (table.once.one_place c (get_has t.arcs k c e)) b v a h (sym same)
-
-  differ : (k : ℕ) (c : List Pos) → slice_get t.arcs k ≡ Some c → (u v : Pos) → Beside u v c → ¬ (u ≡ v)
-  differ k c e u v (inl h) = Trail-apart u v c (table.once.one_place c (get_has t.arcs k c e)) h
-  differ k c e u v (inr h) = λ same. Trail-apart v u c (table.once.one_place c (get_has t.arcs k c e)) h (sym same)
-
-  on_these : (k : ℕ) (c : List Pos) → Has k ks → slice_get t.arcs k ≡ Some c → (u v : Pos) → Beside u v c → OnArcs t.arcs ks u v
-  on_these k c h e u v b = arc_on t.arcs ks u v k c h e (beside_sides c u v (differ k c e u v b) b)
-
-  segment_on : (u v : Pos) → OnArcs t.arcs ks u v → SegmentOf g u v
-  segment_on u v h =
-      let (k, c, there, e, side) = on_arc t.arcs ks u v h in
-      table.once.no_other u v c (get_has t.arcs k c e) (sides_beside c u v side)
-
-  -- a vertex that an arc passes lies on two segments of these arcs, its neighbours there
-  inner_two : (k : ℕ) (c : List Pos) → Has k ks → slice_get t.arcs k ≡ Some c → (a v b : Pos) → Between a v b c →
-      (¬ (a ≡ b)) × OnArcs t.arcs ks v a × OnArcs t.arcs ks v b × ((w : Pos) → OnArcs t.arcs ks v w → (w ≡ a) ⊎ (w ≡ b))
-  inner_two k c there e a v b h =
-      let beside = Between-beside a v b c h in
-      let n = turns k c e a v b h in
-      let first = on_these k c there e v a beside.0 in
-      let second = on_these k c there e v b beside.1 in
-      let two = two_segments_of g sound (dec_by position_cmp position_total position_same) v a (inner_free k c e a v b h) (segment_on v a first) in
-      (n, first, second, λ w i. one_of a b two.0 two.1 w n (two.5 a (segment_on v a first)) (two.5 b (segment_on v b second)) (two.5 w (segment_on v w i)))
-
   module _ (stops : List Pos) (halts : AreHalts t.arcs ks stops) where
     -- a vertex that an arc passes is no stop
-    passed_free : (k : ℕ) (c : List Pos) → Has k ks → slice_get t.arcs k ≡ Some c → (a v b : Pos) → Between a v b c → ¬ StopAt stops v
+    passed_free : (k : ℕ) (c : List Pos) → Has k ks → slice_get t.arcs k ≡ Some c → (a v b : Pos) → Passes a v b c → ¬ StopAt stops v
     passed_free k c there e a v b h stop =
-        let two = inner_two k c there e a v b h in
+        let two = inner_two g sound t table ks k c there e a v b h in
         not_three (OnArcs t.arcs ks) v (a, b, two.0, two.1, two.2, two.3) ((halts.exact v).0 stop)
 
     module _ (all : List Segment) (has : HasArcs t.arcs ks all) where
       whole_chain : (k : ℕ) (c : List Pos) → Has k ks → slice_get t.arcs k ≡ Some c → is_whole stops c ≡ true → IsChainOver all stops c
       whole_chain k [] there e w = absurd (true_false false w refl)
       whole_chain k (x ∷ r) there e w =
-          let chain = chain_at k x r e in
+          let chain : Chain (SegmentOf g) (JunctionOf g) (AtMost position_cmp) x r = (table.arcs.arcs_only (x ∷ r) (get_has t.arcs k (x ∷ r) e)).chain in
           record {
             long = chain.long;
-            along = λ u v h. (has u v).1 (on_these k (x ∷ r) there e u v (inl h));
+            along = λ u v h. (has u v).1 (beside_on g sound t table ks k (x ∷ r) there e u v (inl h));
             front_simple = chain.front_simple;
             rest_simple = chain.rest_simple;
             closed_long = chain.closed_long;
-            inner_free = λ a v b h. passed_free k (x ∷ r) there e a v b (inl h);
+            inner_free = λ a v b h. passed_free k (x ∷ r) there e a v b h;
             ends = inl (whole_ends stops t.arcs x r w);
           }
 
@@ -217,17 +171,16 @@ module _ (g : Geometry Pos) (sound : IsSound g) (t : Arcs) (table : IsTableOf g 
         none_whole : (v w : Pos) → ¬ StopAt stops v → AmongSegments v w rest → (k : ℕ) (u : Pos) (c : List Pos) → Has k ks → slice_get t.arcs k ≡ Some c →
             is_whole stops c ≡ true → Beside v u c → ⊥
         none_whole v w free h k u c there e is beside =
-            elim (line_visit v u c beside) [
-              | inl end ↦ free (end_stops stops t.arcs v c is end)
-              | inr (b, between) ↦ (
-                let sides = Between-beside u v b c between in
-                let two = inner_two k c there e u v b between in
+            elim (at_place c v u beside) [
+              | inr end ↦ free (end_stops stops t.arcs v c is (end_of c v u end))
+              | inl (a, b, passes, side) ↦ (
+                let two = inner_two g sound t table ks k c there e a v b passes in
                 let on : Beside v w c = elim (two.3 w (rest_within v w h)) [
-                  | inl same ↦ subst (λ p. Beside v p c) (sym same) sides.0
-                  | inr same ↦ subst (λ p. Beside v p c) (sym same) sides.1
+                  | inl same ↦ subst (λ p. Beside v p c) (sym same) (inr (Passes-before a v b c passes))
+                  | inr same ↦ subst (λ p. Beside v p c) (sym same) (inl (Passes-after a v b c passes))
                 ] in
-                let (j, d, other, f, side) = on_arc t.arcs (others stops t.arcs ks) v w ((left v w).0 h) in
-                let one : k ≡ j = table.once.one_arc v w k j c d e f on (sides_beside d v w side) in
+                let (j, d, other, f, there) = on_arc t.arcs (others stops t.arcs ks) v w ((left v w).0 h) in
+                let one : k ≡ j = table.once.one_arc v w k j c d e f on (sides_beside d v w there) in
                 true_false (is_whole stops (arc_at t.arcs k)) (ap (is_whole stops) (at_number stops t.arcs k c e) ∙ is)
                 (ap (λ n. is_whole stops (arc_at t.arcs n)) one ∙ (has_other stops t.arcs ks j other).1))
             ]
