@@ -14,3 +14,4 @@ pub mod Meshing
 pub mod Vertices
 pub mod ArcSegments
 pub mod Parted
+pub mod Wholes

@@ -4,8 +4,9 @@ use Rattle.grid.specs.declared.pos.Pos.{Pos}
 use Rattle.lines.specs.Turned.{position_cmp}
 use Rattle.chains.specs.Arcs.{Arcs}
 use Rattle.chains.specs.Pairs.{among}
+use Rattle.chains.specs.Seen.{geometry_of}
 use Rattle.chains.specs.Table.{IsTableOf}
-use Rattle.chains.specs.Joined.{AmongSegments, SegmentsOf, StopAt, MeetsTwo, IsChainOver, Covered, AreParted}
+use Rattle.chains.specs.Joined.{AmongSegments, SegmentsOf, StopAt, MeetsTwo, IsChainOver, Covered, AreMaximal, AreParted}
 use Rattle.chains.specs.declared.segment.Segment.{Segment}
 use Rattle.chains.proofs.Equality.{both_true, bool_split, true_false}
 use Rattle.theory.specs.Chain.{Chain}
@@ -15,9 +16,14 @@ use Rattle.theory.specs.Segments.{OnTwo}
 use Rattle.theory.proofs.Lists.{Has-append, Has-append_left, Has-append_right, Passes-after, Passes-before}
 use Rattle.theory.proofs.ListsOfLists.{get_has}
 use Rattle.topo.specs.Points.{arc_at}
+use Rattle.topo.specs.OfMap.{IsOfSomeMap}
+use Rattle.topo.specs.Parts.{TopologyParts}
+use Rattle.topo.proofs.Sound.{are_sound}
 use Rattle.query.specs.Along.{OnArcs, HasArcs}
+use Rattle.query.specs.Borders.{AreLinesOver}
 use Rattle.query.specs.Parting.{is_whole, whole_at, other_at, wholes, others}
 use Rattle.query.specs.Stops.{OnOne, OnThreeOf, AreHalts, AreStops}
+use Rattle.query.proofs.ArcSegments.{segments_on}
 use Rattle.query.proofs.Siding.{arc_on, on_arc, sides_beside}
 use Rattle.query.proofs.Vertices.{at_place, beside_on, end_of, inner_two}
 
@@ -196,3 +202,35 @@ module _ (g : Geometry Pos) (sound : IsSound g) (t : Arcs) (table : IsTableOf g 
                   | inr k ↦ k
                   | inl (k, c, there, e, is, beside) ↦ absurd (none_whole v w free h k u c there e is beside)
                 ]
+
+-- in the form of the code
+module _ (t : TopologyParts) (some : IsOfSomeMap t) (arcs : Arcs) (at : arcs ≡ t.arcs) (ks these those : List ℕ) (first : these ≡ ks) (second : those ≡ ks) (stops : List Pos)
+    (halting : (g : Geometry Pos) → IsSound g → IsTableOf g arcs → AreHalts arcs.arcs these stops)
+    (joined numbers : List ℕ) (taken : joined ≡ others stops arcs.arcs those) (again : numbers ≡ joined)
+    (rest segs : List Segment) (has : HasArcs arcs.arcs numbers rest) (same : segs ≡ rest) where
+  of_some : IsTableOf (geometry_of some.0) arcs
+  of_some = subst (IsTableOf (geometry_of some.0)) (sym at) some.1.table
+
+  halts_at : AreHalts arcs.arcs ks stops
+  halts_at = subst (λ w. AreHalts arcs.arcs w stops) first (halting (geometry_of some.0) (are_sound some.0) of_some)
+
+  left_at : HasArcs arcs.arcs (others stops arcs.arcs ks) segs
+  left_at =
+      subst (λ w. HasArcs arcs.arcs w segs) (again ∙ taken ∙ ap (others stops arcs.arcs) second) (subst (HasArcs arcs.arcs numbers) (sym same) has)
+
+  all_at : (all : List Segment) × HasArcs arcs.arcs ks all
+  all_at = segments_on arcs.arcs ks
+
+  pub joined_meet : MeetsTwo segs stops
+  joined_meet = rest_meets (geometry_of some.0) (are_sound some.0) arcs of_some ks stops halts_at all_at.0 all_at.1 segs left_at
+
+  pub lines_over : (whole : List (List Pos)) → whole ≡ wholes stops arcs.arcs those → (lines : Arcs) →
+      ((all : List Segment) → MeetsTwo all stops → AreParted all stops whole segs → AreMaximal all stops lines) → AreLinesOver (segments_on arcs.arcs ks).0 lines
+  unfolding all_at
+  lines_over whole are lines maximal = record {
+    stops = stops;
+    exact = all_stops (geometry_of some.0) (are_sound some.0) arcs of_some ks stops halts_at all_at.0 all_at.1;
+    maximal = maximal all_at.0 (all_meet (geometry_of some.0) (are_sound some.0) arcs of_some ks stops halts_at all_at.0 all_at.1)
+        (subst (λ w. AreParted all_at.0 stops w segs) (sym (are ∙ ap (wholes stops arcs.arcs) second))
+        (are_parted (geometry_of some.0) (are_sound some.0) arcs of_some ks stops halts_at all_at.0 all_at.1 segs left_at));
+  }

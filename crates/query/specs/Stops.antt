@@ -1,13 +1,11 @@
 -- The vertices at which lines over segments stop.
-use Rattle.std.specs.Prelude.{◌≡◌, ℕ, Bool, true, false, cond, List, [], ◌∷◌, ◌⊎◌, ◌↔◌, Option, Some, None}
+use Rattle.std.specs.Prelude.{◌≡◌, Bool, true, false, cond, List, [], ◌∷◌, ◌⊎◌, ◌↔◌, Option, Some, None}
 use Rattle.std.specs.Ordering.{is_eq}
 use Rattle.std.specs.BTreeMap.{BTreeMap, get}
 use Rattle.grid.specs.declared.pos.Pos.{Pos}
 use Rattle.lines.specs.Turned.{position_cmp}
 use Rattle.chains.specs.Pairs.{position_eq}
 use Rattle.chains.specs.Joined.{SegmentsOf, StopAt}
-use Rattle.theory.specs.Segments.{TwoSegments}
-use Rattle.query.specs.Along.{OnArcs}
 use Rattle.chains.specs.declared.segment.Segment.{Segment}
 use Rattle.query.specs.declared.stops.Sides.{Sides}
 use Rattle.query.specs.declared.stops.Sides.TheVariants.{One, Two, More}
@@ -57,8 +55,3 @@ OnThreeOf S v = (a : Pos) × (b : Pos) × (c : Pos) × S v a × S v b × S v c �
 -- the stops are the vertices on one segment or on three and more
 abbrev pub AreStops : List Segment → List Pos → Type 0
 AreStops segs stops = (v : Pos) → StopAt stops v ↔ (OnOne (SegmentsOf segs) v ⊎ OnThreeOf (SegmentsOf segs) v)
-
--- the stops are the vertices that lie on one segment of these arcs, or on three and more; each other lies on two
-pub record AreHalts (arcs : List (List Pos)) (ks : List ℕ) (stops : List Pos) : Type 0 where
-  pub exact : (v : Pos) → StopAt stops v ↔ (OnOne (OnArcs arcs ks) v ⊎ OnThreeOf (OnArcs arcs ks) v)
-  pub meets : TwoSegments (OnArcs arcs ks) (StopAt stops)

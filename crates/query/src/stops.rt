@@ -3,11 +3,9 @@ ghost use Rattle.std.specs.Prelude.{◌≡◌, IfOk, OnOk, None, false, List};
 ghost use Rattle.grid.specs.declared.pos.Pos.{Pos};
 ghost use Rattle.chains.specs.Joined.{MeetsTwo};
 ghost use Rattle.chains.specs.Pairs.{among};
-ghost use Rattle.chains.specs.Table.{IsTableOf};
-ghost use Rattle.theory.specs.Geometry.{Geometry, IsSound};
-ghost use Rattle.query.specs.Stops.{halts, sided, noted, noted_all, sides_in, stop_step, stop_all, AreStops, AreHalts};
+ghost use Rattle.query.specs.Stops.{halts, sided, noted, noted_all, sides_in, stop_step, stop_all, AreStops};
 
-use chains::{ArcTable, Segment};
+use chains::Segment;
 use grid::pos::Pos;
 use std::alloc::{AllocError, Global};
 use std::collections::{BTreeMap, BTreeSet};
@@ -110,9 +108,10 @@ fn stops_by(
 }
 
 /// The vertices that lie on a number of the segments other than two.
-pub(crate) fn stops_of(alloc: Global, arcs: &ArcTable, chosen: &[usize]) -> Result<BTreeSet<Pos>, AllocError>
-    ensures { IfOk result (λ stops. (g : Geometry Pos) → IsSound g → IsTableOf g arcs.now → AreHalts arcs.now.arcs chosen.now stops.keys) }
+pub(crate) fn stops_of(alloc: Global, segments: &[Segment]) -> Result<BTreeSet<Pos>, AllocError>
+    ensures meets { IfOk result (λ stops. MeetsTwo segments.now stops.keys) }
+    ensures exact { IfOk result (λ stops. AreStops segments.now stops.keys) }
 {
-    if arcs.len() == chosen.len() { return Ok(BTreeSet::new(alloc)); }
-    Ok(BTreeSet::new(alloc))
+    let sides = sides_of(alloc, segments)?;
+    stops_by(alloc, &sides, segments)
 }
