@@ -12,3 +12,5 @@ pub mod Choosing
 pub mod Holding
 pub mod Meshing
 pub mod Vertices
+pub mod Ending
+pub mod Halting
