@@ -1,5 +1,5 @@
 -- A list of the segments of any arcs.
-use Rattle.std.proofs.Common.{◌≡◌, ◌↔◌, ℕ, true, List, [], ◌∷◌, ◌⊎◌, inl, inr, refl, sym, ap, ◌∙◌, subst}
+use Rattle.std.proofs.Common.{◌≡◌, ◌↔◌, ℕ, List, [], ◌∷◌, ◌⊎◌, inl, inr, refl, sym, ap, ◌∙◌}
 use Rattle.std.specs.Ordering.{is_lt, ordering_reverse}
 use Rattle.std.specs.declared.cmp.Ordering.{Ordering}
 use Rattle.std.specs.declared.cmp.Ordering.TheVariants.{Less, Equal, Greater}
@@ -10,7 +10,7 @@ use Rattle.chains.specs.Segments.{IsBetween}
 use Rattle.chains.specs.declared.segment.Segment.{Segment}
 use Rattle.chains.proofs.Equality.{position_decide, position_same, position_total}
 use Rattle.topo.specs.Points.{arc_at}
-use Rattle.query.specs.Along.{Joins, SidesFrom, SidesOf, OnArcs, HasArcs}
+use Rattle.query.specs.Along.{Joins, SidesFrom, SidesOf, HasArcs}
 
 -- two positions that differ are the ends of a segment
 segment_between : (a b : Pos) → ¬ (a ≡ b) → (s : Segment) × IsBetween a b s

@@ -12,6 +12,8 @@ pub mod Choosing
 pub mod Holding
 pub mod Meshing
 pub mod Vertices
+pub mod Ending
+pub mod Halting
 pub mod ArcSegments
 pub mod Parted
 pub mod Wholes

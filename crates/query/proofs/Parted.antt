@@ -1,18 +1,17 @@
 -- The arcs that begin and end with a stop are maximal lines, and the segments of the others meet two by two.
-use Rattle.std.proofs.Common.{◌≡◌, ◌↔◌, ℕ, Bool, true, false, cond, ◌&&◌, List, [], ◌∷◌, ◌++◌, ◌⊎◌, inl, inr, refl, sym, ap, ◌∙◌, subst, Option, Some, None, slice_get, unwrap_or}
+use Rattle.std.proofs.Common.{◌≡◌, ℕ, Bool, true, false, cond, List, [], ◌∷◌, ◌⊎◌, inl, inr, refl, sym, ap, ◌∙◌, subst, Option, Some, None, slice_get, unwrap_or}
 use Rattle.grid.specs.declared.pos.Pos.{Pos}
 use Rattle.lines.specs.Turned.{position_cmp}
 use Rattle.chains.specs.Arcs.{Arcs}
 use Rattle.chains.specs.Pairs.{among}
 use Rattle.chains.specs.Seen.{geometry_of}
 use Rattle.chains.specs.Table.{IsTableOf}
-use Rattle.chains.specs.Joined.{AmongSegments, SegmentsOf, StopAt, MeetsTwo, IsChainOver, Covered, AreMaximal, AreParted}
+use Rattle.chains.specs.Joined.{AmongSegments, StopAt, MeetsTwo, IsChainOver, AreMaximal, AreParted}
 use Rattle.chains.specs.declared.segment.Segment.{Segment}
 use Rattle.chains.proofs.Equality.{both_true, bool_split, true_false}
 use Rattle.theory.specs.Chain.{Chain}
 use Rattle.theory.specs.Geometry.{Geometry, IsSound, SegmentOf, JunctionOf, AtMost}
 use Rattle.theory.specs.Lists.{Beside, EndOf, Has, Passes, last_of}
-use Rattle.theory.specs.Segments.{OnTwo}
 use Rattle.theory.proofs.Lists.{Has-append, Has-append_left, Has-append_right, Passes-after, Passes-before}
 use Rattle.theory.proofs.ListsOfLists.{get_has}
 use Rattle.topo.specs.Points.{arc_at}
@@ -22,9 +21,11 @@ use Rattle.topo.proofs.Sound.{are_sound}
 use Rattle.query.specs.Along.{OnArcs, HasArcs}
 use Rattle.query.specs.Borders.{AreLinesOver}
 use Rattle.query.specs.Parting.{is_whole, whole_at, other_at, wholes, others}
-use Rattle.query.specs.Stops.{OnOne, OnThreeOf, AreHalts, AreStops}
+use Rattle.query.specs.Stops.{AreHalts}
 use Rattle.query.proofs.ArcSegments.{segments_on}
+use Rattle.query.proofs.Halting.{halts_stops}
 use Rattle.query.proofs.Siding.{arc_on, on_arc, sides_beside}
+use Rattle.query.proofs.Sides.{two_only}
 use Rattle.query.proofs.Vertices.{at_place, beside_on, end_of, inner_two}
 
 -- what a list of at most one has
@@ -64,7 +65,7 @@ module _ (stops : List Pos) (arcs : List (List Pos)) where
       elim (Has-append c (whole_at stops arcs k) (wholes stops arcs ks) h) [
         | inr i ↦ (let t = has_whole ks c i in (t.0, inr t.1, t.2, t.3))
         | inl i ↦ (let t = has_if (is_whole stops (arc_at arcs k)) c (arc_at arcs k) i in
-          (k, inl refl, whole_number k c t.0 t.1, ap (is_whole stops) t.1 ∙ t.0))
+            (k, inl refl, whole_number k c t.0 t.1, ap (is_whole stops) t.1 ∙ t.0))
       ]
 
   other_has : (ks : List ℕ) (k : ℕ) → Has k ks → is_whole stops (arc_at arcs k) ≡ false → Has k (others stops arcs ks)
@@ -91,28 +92,13 @@ module _ (stops : List Pos) (arcs : List (List Pos)) where
   end_stops v (x ∷ r) w (inl e) = subst (StopAt stops) (sym e) (whole_ends x r w).0
   end_stops v (x ∷ r) w (inr e) = subst (StopAt stops) (sym e) (whole_ends x r w).1
 
--- a vertex on exactly two segments is not on one, nor on three
-not_three : (S : Pos → Pos → Type 0) (v : Pos) → OnTwo S v → ¬ (OnOne S v ⊎ OnThreeOf S v)
-not_three S v t (inl o) = t.2 (o.2 t.0 t.3 ∙ sym (o.2 t.1 t.4))
-not_three S v t (inr o) =
-    elim (t.5 o.0 o.3) [
-      | inl p ↦ elim (t.5 o.1 o.4) [
-        | inl q ↦ o.6 (p ∙ sym q)
-        | inr q ↦ elim (t.5 o.2 o.5) [ inl r ↦ o.7 (p ∙ sym r) | inr r ↦ o.8 (q ∙ sym r) ]
-      ]
-      | inr p ↦ elim (t.5 o.1 o.4) [
-        | inr q ↦ o.6 (p ∙ sym q)
-        | inl q ↦ elim (t.5 o.2 o.5) [ inr r ↦ o.7 (p ∙ sym r) | inl r ↦ o.8 (q ∙ sym r) ]
-      ]
-    ]
-
 module _ (g : Geometry Pos) (sound : IsSound g) (t : Arcs) (table : IsTableOf g t) (ks : List ℕ) where
   module _ (stops : List Pos) (halts : AreHalts t.arcs ks stops) where
     -- a vertex that an arc passes is no stop
     passed_free : (k : ℕ) (c : List Pos) → Has k ks → slice_get t.arcs k ≡ Some c → (a v b : Pos) → Passes a v b c → ¬ StopAt stops v
     passed_free k c there e a v b h stop =
         let two = inner_two g sound t table ks k c there e a v b h in
-        not_three (OnArcs t.arcs ks) v (a, b, two.0, two.1, two.2, two.3) ((halts.exact v).0 stop)
+        two_only (OnArcs t.arcs ks) v (a, b, two.0, two.1, two.2, two.3) ((halts.exact v).0 stop)
 
     module _ (all : List Segment) (has : HasArcs t.arcs ks all) where
       whole_chain : (k : ℕ) (c : List Pos) → Has k ks → slice_get t.arcs k ≡ Some c → is_whole stops c ≡ true → IsChainOver all stops c
@@ -128,23 +114,6 @@ module _ (g : Geometry Pos) (sound : IsSound g) (t : Arcs) (table : IsTableOf g 
             inner_free = λ a v b h. passed_free k (x ∷ r) there e a v b h;
             ends = inl (whole_ends stops t.arcs x r w);
           }
-
-      pub all_meet : MeetsTwo all stops
-      all_meet v w free h =
-          let (a, b, n, first, second, only) = halts.meets v w free ((has v w).0 h) in
-          (a, b, n, (has v a).1 first, (has v b).1 second, λ c i. only c ((has v c).0 i))
-
-      pub all_stops : AreStops all stops
-      all_stops v = (
-        (λ h. elim ((halts.exact v).0 h) [
-          | inl (a, s, only) ↦ inl (a, (has v a).1 s, λ p i. only p ((has v p).0 i))
-          | inr (a, b, c, p, q, r, x, y, z) ↦ inr (a, b, c, (has v a).1 p, (has v b).1 q, (has v c).1 r, x, y, z)
-        ]),
-        (λ h. (halts.exact v).1 (elim h [
-          | inl (a, s, only) ↦ inl (a, (has v a).0 s, λ p i. only p ((has v p).1 i))
-          | inr (a, b, c, p, q, r, x, y, z) ↦ inr (a, b, c, (has v a).0 p, (has v b).0 q, (has v c).0 r, x, y, z)
-        ])),
-      )
 
       module _ (rest : List Segment) (left : HasArcs t.arcs (others stops t.arcs ks) rest) where
         rest_within : (u v : Pos) → AmongSegments u v rest → OnArcs t.arcs ks u v
@@ -180,15 +149,15 @@ module _ (g : Geometry Pos) (sound : IsSound g) (t : Arcs) (table : IsTableOf g 
             elim (at_place c v u beside) [
               | inr end ↦ free (end_stops stops t.arcs v c is (end_of c v u end))
               | inl (a, b, passes, side) ↦ (
-                let two = inner_two g sound t table ks k c there e a v b passes in
-                let on : Beside v w c = elim (two.3 w (rest_within v w h)) [
-                  | inl same ↦ subst (λ p. Beside v p c) (sym same) (inr (Passes-before a v b c passes))
-                  | inr same ↦ subst (λ p. Beside v p c) (sym same) (inl (Passes-after a v b c passes))
-                ] in
-                let (j, d, other, f, there) = on_arc t.arcs (others stops t.arcs ks) v w ((left v w).0 h) in
-                let one : k ≡ j = table.once.one_arc v w k j c d e f on (sides_beside d v w there) in
-                true_false (is_whole stops (arc_at t.arcs k)) (ap (is_whole stops) (at_number stops t.arcs k c e) ∙ is)
-                (ap (λ n. is_whole stops (arc_at t.arcs n)) one ∙ (has_other stops t.arcs ks j other).1))
+                  let two = inner_two g sound t table ks k c there e a v b passes in
+                  let on : Beside v w c = elim (two.3 w (rest_within v w h)) [
+                    | inl same ↦ subst (λ p. Beside v p c) (sym same) (inr (Passes-before a v b c passes))
+                    | inr same ↦ subst (λ p. Beside v p c) (sym same) (inl (Passes-after a v b c passes))
+                  ] in
+                  let (j, d, other, f, there) = on_arc t.arcs (others stops t.arcs ks) v w ((left v w).0 h) in
+                  let one : k ≡ j = table.once.one_arc v w k j c d e f on (sides_beside d v w there) in
+                  true_false (is_whole stops (arc_at t.arcs k)) (ap (is_whole stops) (at_number stops t.arcs k c e) ∙ is)
+                  (ap (λ n. is_whole stops (arc_at t.arcs n)) one ∙ (has_other stops t.arcs ks j other).1))
             ]
 
         pub rest_meets : MeetsTwo rest stops
@@ -229,8 +198,8 @@ module _ (t : TopologyParts) (some : IsOfSomeMap t) (arcs : Arcs) (at : arcs ≡
   unfolding all_at
   lines_over whole are lines maximal = record {
     stops = stops;
-    exact = all_stops (geometry_of some.0) (are_sound some.0) arcs of_some ks stops halts_at all_at.0 all_at.1;
-    maximal = maximal all_at.0 (all_meet (geometry_of some.0) (are_sound some.0) arcs of_some ks stops halts_at all_at.0 all_at.1)
+    exact = (halts_stops arcs.arcs ks all_at.0 stops all_at.1 halts_at).1;
+    maximal = maximal all_at.0 (halts_stops arcs.arcs ks all_at.0 stops all_at.1 halts_at).0
         (subst (λ w. AreParted all_at.0 stops w segs) (sym (are ∙ ap (wholes stops arcs.arcs) second))
         (are_parted (geometry_of some.0) (are_sound some.0) arcs of_some ks stops halts_at all_at.0 all_at.1 segs left_at));
   }

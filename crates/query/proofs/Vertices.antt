@@ -1,5 +1,5 @@
 -- On which segments of arcs a vertex lies: at an inner place of an arc on two, at an end on the last step of each arc that ends there.
-use Rattle.std.proofs.Common.{◌≡◌, ℕ, List, [], ◌∷◌, ◌⊎◌, inl, inr, refl, sym, ap, ◌∙◌, subst, Some, slice_get, reverse}
+use Rattle.std.proofs.Common.{◌≡◌, ℕ, List, [], ◌∷◌, ◌⊎◌, inl, inr, refl, sym, ap, ◌∙◌, subst, Option, Some, None, slice_get, unwrap_or, reverse}
 use Rattle.std.proofs.lemmas.List.{reverse-reverse}
 use Rattle.grid.specs.declared.pos.Pos.{Pos}
 use Rattle.lines.specs.Turned.{position_cmp}
@@ -16,7 +16,7 @@ use Rattle.theory.proofs.ListsOfLists.{get_has}
 use Rattle.theory.proofs.Pieces.{SegmentOf-flip, two_segments_of}
 use Rattle.theory.proofs.Reversing.{Passes-reverse, reverse-last, Steps-reverse}
 use Rattle.query.specs.Along.{OnArcs}
-use Rattle.query.specs.Ends.{EndStep}
+use Rattle.query.specs.Ends.{EndStep, OnEnds}
 use Rattle.query.proofs.Siding.{arc_on, beside_sides, on_arc, sides_beside}
 use Rattle.query.proofs.Meshing.{beside_differ}
 
@@ -83,6 +83,22 @@ of_two S v a b w t sa sb ne sw =
         | inl eb ↦ elim (t.5 w sw) [ inl ew ↦ inr (ew ∙ sym eb) | inr ew ↦ inl (ew ∙ sym ea) ]
       ]
     ]
+
+-- an arc of one of the numbers that ends with a step
+pub end_arc : (arcs : List (List Pos)) (ks : List ℕ) (v w : Pos) → OnEnds arcs ks v w → (k : ℕ) × (c : List Pos) × Has k ks × (slice_get arcs k ≡ Some c) × EndStep v w c
+end_arc arcs [] v w h = absurd h
+end_arc arcs (k ∷ ks) v w (inr h) = let t = end_arc arcs ks v w h in (t.0, t.1, inr t.2, t.3, t.4)
+end_arc arcs (k ∷ ks) v w (inl h) = go (slice_get arcs k) refl h
+  where
+    go : (o : Option (List Pos)) → slice_get arcs k ≡ o → EndStep v w (unwrap_or o []) →
+        (j : ℕ) × (c : List Pos) × Has j (k ∷ ks) × (slice_get arcs j ≡ Some c) × EndStep v w c
+    go None e i = absurd (elim i [ inl z ↦ z | inr z ↦ z ])
+    go (Some c) e i = (k, c, inl refl, e, i)
+
+pub arc_end : (arcs : List (List Pos)) (ks : List ℕ) (v w : Pos) (k : ℕ) (c : List Pos) → Has k ks → slice_get arcs k ≡ Some c → EndStep v w c → OnEnds arcs ks v w
+arc_end arcs [] v w k c h e s = absurd h
+arc_end arcs (j ∷ ks) v w k c (inl h) e s = inl (subst (λ o. EndStep v w (unwrap_or o [])) (sym e ∙ ap (slice_get arcs) h) s)
+arc_end arcs (j ∷ ks) v w k c (inr h) e s = inr (arc_end arcs ks v w k c h e s)
 
 module _ (g : Geometry Pos) (sound : IsSound g) (t : Arcs) (table : IsTableOf g t) where
   same_position : (u v : Pos) → Dec (u ≡ v)
@@ -171,3 +187,30 @@ module _ (g : Geometry Pos) (sound : IsSound g) (t : Arcs) (table : IsTableOf g 
                 let is : v ≡ x = elim q [ inl m ↦ m | inr m ↦ m ∙ sym loop.0 ] in
                 first_outer x a b r i.front_simple (subst (λ w. Passes a w b (x ∷ r)) is s)
           ]
+
+  -- a step at the end of an arc of one of the numbers is a segment of these arcs
+  pub end_side : (ks : List ℕ) (v w : Pos) → OnEnds t.arcs ks v w → OnArcs t.arcs ks v w
+  end_side ks v w h =
+      let (k, c, there, e, step) = end_arc t.arcs ks v w h in
+      beside_on ks k c there e v w (end_beside c v w step)
+
+  -- where an arc of one of the numbers ends, each segment of these arcs is a step at an end of one
+  pub end_sides : (ks : List ℕ) (v p w : Pos) → OnEnds t.arcs ks v p → OnArcs t.arcs ks v w → OnEnds t.arcs ks v w
+  end_sides ks v p w h s =
+      let (k, c, there, e, step) = end_arc t.arcs ks v p h in
+      let (j, d, also, f, side) = on_arc t.arcs ks v w s in
+      elim (at_place d v w (sides_beside d v w side)) [
+        | inl (a, b, inner, is) ↦ absurd (end_outer k j c d e f v a b (end_of c v p step) inner)
+        | inr last ↦ arc_end t.arcs ks v w j d also f last
+      ]
+
+  -- each vertex of these arcs lies on a step at an end, or on exactly two segments
+  pub end_or_two : (ks : List ℕ) (v w : Pos) → OnArcs t.arcs ks v w → OnEnds t.arcs ks v w ⊎ OnTwo (OnArcs t.arcs ks) v
+  end_or_two ks v w s =
+      let (k, c, there, e, side) = on_arc t.arcs ks v w s in
+      elim (at_place c v w (sides_beside c v w side)) [
+        | inl (a, b, inner, is) ↦ (
+            let (apart, before, behind, only) = inner_two ks k c there e a v b inner in
+            inr (a, b, apart, before, behind, only))
+        | inr last ↦ inl (arc_end t.arcs ks v w k c there e last)
+      ]

@@ -3,7 +3,6 @@ use Rattle.std.specs.Prelude.{map as map_list}
 use Rattle.std.specs.Fn.{FnReturnsAtPair}
 use Rattle.query.proofs.ArcSegments.{segments_on}
 use Rattle.query.proofs.Meshing.{selected_by}
-use Rattle.query.proofs.LayerFeatures.{found_stands, made_stands}
 use Rattle.query.proofs.Parted.{joined_meet, lines_over}
 use Rattle.query.proofs.borders.mesh.Goals as goal
 
@@ -17,9 +16,9 @@ pub returns-clause-lines : goal.returns-clause-lines
 returns-clause-lines g c = (
   (segments_on c.arcs-arcs.result.now.arcs c.in_ok-chosen.chosen.items).0,
   lines_over c.args.topology.now c.arcs-arcs.ensures.of_map c.arcs-arcs.result.now c.arcs-arcs.ensures.arcs c.in_ok-chosen.chosen.items c.deref-4.result.now c.deref-5.result.now
-  c.deref-4.ensures.value c.deref-5.ensures.value c.in_ok-stops.stops.keys c.in_ok-stops.ensures c.in_ok-parts.parts.joined.items c.deref-6.result.now
-  c.in_ok-parts.ensures.joined c.deref-6.ensures.value c.in_ok-segments.segments.items c.deref-7.result.now c.in_ok-segments.ensures c.deref-7.ensures.value
-  (map_list (λ v. v.items) c.in_ok-parts.parts.whole.items) c.in_ok-parts.ensures.whole c.in_ok-maximal_with.field-0 c.in_ok-maximal_with.ensures,
+      c.deref-4.ensures.value c.deref-5.ensures.value c.in_ok-stops.stops.keys c.in_ok-stops.ensures c.in_ok-parts.parts.joined.items c.deref-6.result.now
+      c.in_ok-parts.ensures.joined c.deref-6.ensures.value c.in_ok-segments.segments.items c.deref-7.result.now c.in_ok-segments.ensures c.deref-7.ensures.value
+      (map_list (λ v. v.items) c.in_ok-parts.parts.whole.items) c.in_ok-parts.ensures.whole c.in_ok-maximal_with.field-0 c.in_ok-maximal_with.ensures,
   λ m of. selected_by m c.args.topology.now of _ c.in_ok-members.members.items (c.in_ok-members.ensures.members m of) (FnReturnsAtPair g.F.Fn c.args.filter)
       c.arcs-arcs.result.now c.arcs-arcs.ensures.arcs c.len.result c.len.ensures.len c.deref.result.now c.deref-3.result.now c.deref.ensures.value c.deref-3.ensures.value
       c.in_ok-spans.spans.items c.deref-2.result.now c.in_ok-spans.ensures c.deref-2.ensures.value c.in_ok-chosen.chosen.items c.in_ok-chosen.chosen.items c.in_ok-chosen.ensures
