@@ -12,7 +12,7 @@ returns-clause-lines g c = (
   record {
     stops = c.in_ok-stops.stops.keys;
     exact = (halts_told c.args.topology.now c.arcs-arcs.ensures.of_map c.arcs-arcs.result.now c.arcs-arcs.ensures.arcs c.in_ok-chosen.chosen.items c.deref-4.result.now
-      c.deref-5.result.now c.deref-4.ensures.value c.deref-5.ensures.value c.in_ok-segments.segments.items c.in_ok-segments.ensures c.in_ok-stops.stops.keys c.in_ok-stops.ensures).1;
+        c.deref-5.result.now c.deref-4.ensures.value c.deref-5.ensures.value c.in_ok-segments.segments.items c.in_ok-segments.ensures c.in_ok-stops.stops.keys c.in_ok-stops.ensures).1;
     maximal = subst (λ w. AreMaximal w c.in_ok-stops.stops.keys c.in_ok-maximal_over.field-0) c.deref-6.ensures.value c.in_ok-maximal_over.ensures;
   },
   λ m of. selected_by m c.args.topology.now of _ c.in_ok-members.members.items (c.in_ok-members.ensures.members m of) (FnReturnsAtPair g.F.Fn c.args.filter)
