@@ -11,3 +11,6 @@ pub mod Siding
 pub mod Choosing
 pub mod Holding
 pub mod Meshing
+pub mod Vertices
+pub mod Ending
+pub mod Halting

@@ -72,7 +72,7 @@ steps_differ [] t u v h = absurd h
 steps_differ (x ∷ l) t u v (inl k) = λ e. (t.0 v k.1).0 (sym k.0 ∙ e)
 steps_differ (x ∷ l) t u v (inr k) = steps_differ l t.1 u v k
 
-beside_differ : (c : List Pos) → Trail c → (u v : Pos) → Beside u v c → ¬ (u ≡ v)
+pub beside_differ : (c : List Pos) → Trail c → (u v : Pos) → Beside u v c → ¬ (u ≡ v)
 beside_differ c t u v (inl k) = steps_differ c t u v k
 beside_differ c t u v (inr k) = λ e. steps_differ c t v u k (sym e)
 

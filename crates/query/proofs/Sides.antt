@@ -1,18 +1,24 @@
 -- What is noted of the other ends of a vertex's segments, and which vertices are stops.
-use Rattle.std.proofs.Common.{◌≡◌, Bool, true, false, cond, ◌||◌, rules, List, [], ◌∷◌, ◌⊎◌, inl, inr, refl, sym, ap, ◌∙◌, subst, Option, Some, None, Result, Ok, Err, IfOk}
+use Rattle.std.proofs.Common.{◌≡◌, ℕ, Bool, true, false, cond, ◌||◌, rules, List, [], ◌∷◌, ◌⊎◌, inl, inr, refl, sym, ap, ◌∙◌, subst, Option, Some, None, Result, Ok, Err, IfOk}
 use Rattle.std.specs.Ordering.{is_eq}
 use Rattle.std.specs.List.{list_any}
 use Rattle.std.specs.BTreeSet.{BTreeSet, contains}
-use Rattle.theory.specs.Segments.{TwoSegments}
+use Rattle.theory.specs.Geometry.{Geometry, IsSound}
+use Rattle.theory.specs.Segments.{OnTwo, TwoSegments}
 use Rattle.lines.specs.Turned.{position_cmp}
 use Rattle.grid.specs.declared.pos.Pos.{Pos}
 use Rattle.chains.specs.Pairs.{position_eq, among}
-use Rattle.chains.specs.Joined.{AmongSegments, SegmentsOf, StopAt, MeetsTwo}
-use Rattle.chains.specs.declared.segment.Segment.{Segment}
+use Rattle.chains.specs.Arcs.{Arcs}
+use Rattle.chains.specs.Joined.{StopAt}
+use Rattle.chains.specs.Table.{IsTableOf}
 use Rattle.chains.proofs.Equality.{position_tied, tied_position, position_true, true_position, true_false}
+use Rattle.query.specs.declared.ends.End.{End}
 use Rattle.query.specs.declared.stops.Sides.{Sides}
 use Rattle.query.specs.declared.stops.Sides.TheVariants.{One, Two, More}
-use Rattle.query.specs.Stops.{sided, noted, noted_all, sides_in, halts, stop_step, stop_all, OnOne, OnThreeOf, AreStops}
+use Rattle.query.specs.Stops.{sided, noted, noted_all, halts, stop_step, stop_all, OnOne, OnThreeOf, AreHalts}
+use Rattle.query.specs.Along.{OnArcs}
+use Rattle.query.specs.Ends.{AmongEnds, HasEnds}
+use Rattle.query.proofs.Vertices.{end_side, end_sides, end_or_two}
 
 -- what is noted says of the other ends H
 abbrev Means : Option Sides → (Pos → Type 0) → Type 0
@@ -57,31 +63,21 @@ Means-noted q o H at to h = go (is_eq (position_cmp at q)) refl
         Means-iff o H (λ p. ((q ≡ at) × (p ≡ to)) ⊎ H p) (λ p k. inr k)
         (λ p k. elim k [ inl f ↦ absurd (true_false (is_eq (position_cmp at q)) (tied_position at q (sym f.0)) e) | inr f ↦ f ]) h
 
-Means-all : (q : Pos) (o : Option Sides) (H : Pos → Type 0) (ss : List Segment) → Means o H → Means (noted_all q o ss) (λ p. AmongSegments q p ss ⊎ H p)
+Means-all : (q : Pos) (o : Option Sides) (H : Pos → Type 0) (es : List End) → Means o H → Means (noted_all q o es) (λ p. AmongEnds q p es ⊎ H p)
 Means-all q o H [] h = Means-iff o H (λ p. ⊥ ⊎ H p) (λ p k. inr k) (λ p k. elim k [ inl z ↦ absurd z | inr f ↦ f ]) h
-Means-all q o H (s ∷ ss) h =
-    let one = noted q o s.lesser s.greater in
-    let first = Means-noted q o H s.lesser s.greater h in
-    let second = Means-noted q one (λ p. ((q ≡ s.lesser) × (p ≡ s.greater)) ⊎ H p) s.greater s.lesser first in
-    Means-iff (noted_all q o (s ∷ ss))
-    (λ p. AmongSegments q p ss ⊎ (((q ≡ s.greater) × (p ≡ s.lesser)) ⊎ (((q ≡ s.lesser) × (p ≡ s.greater)) ⊎ H p)))
-    (λ p. AmongSegments q p (s ∷ ss) ⊎ H p)
-    (λ p k. elim k [
-      | inl f ↦ inl (inr f)
-      | inr f ↦ elim f [ inl g ↦ inl (inl (inr g)) | inr g ↦ elim g [ inl i ↦ inl (inl (inl i)) | inr i ↦ inr i ] ]
-    ])
-    (λ p k. elim k [
-      | inr f ↦ inr (inr (inr f))
-      | inl f ↦ elim f [ inr g ↦ inl g | inl g ↦ elim g [ inl i ↦ inr (inr (inl i)) | inr i ↦ inr (inl i) ] ]
-    ])
-    (Means-all q (noted q one s.greater s.lesser)
-    (λ p. ((q ≡ s.greater) × (p ≡ s.lesser)) ⊎ (((q ≡ s.lesser) × (p ≡ s.greater)) ⊎ H p)) ss second)
+Means-all q o H (e ∷ es) h =
+    Means-iff (noted_all q o (e ∷ es))
+    (λ p. AmongEnds q p es ⊎ (((q ≡ e.at) × (p ≡ e.to)) ⊎ H p))
+    (λ p. AmongEnds q p (e ∷ es) ⊎ H p)
+    (λ p k. elim k [ inl f ↦ inl (inr f) | inr f ↦ elim f [ inl i ↦ inl (inl i) | inr i ↦ inr i ] ])
+    (λ p k. elim k [ inl f ↦ elim f [ inl i ↦ inr (inl i) | inr i ↦ inl i ] | inr f ↦ inr (inr f) ])
+    (Means-all q (noted q o e.at e.to) (λ p. ((q ≡ e.at) × (p ≡ e.to)) ⊎ H p) es (Means-noted q o H e.at e.to h))
 
--- what is noted of all segments
-Means-segments : (q : Pos) (ss : List Segment) → Means (noted_all q None ss) (λ p. AmongSegments q p ss)
-Means-segments q ss =
-    Means-iff (noted_all q None ss) (λ p. AmongSegments q p ss ⊎ ⊥) (λ p. AmongSegments q p ss)
-    (λ p k. elim k [ inl f ↦ f | inr z ↦ absurd z ]) (λ p k. inl k) (Means-all q None (λ p. ⊥) ss (λ p z. z))
+-- what is noted of all ends
+Means-ends : (q : Pos) (es : List End) → Means (noted_all q None es) (λ p. AmongEnds q p es)
+Means-ends q es =
+    Means-iff (noted_all q None es) (λ p. AmongEnds q p es ⊎ ⊥) (λ p. AmongEnds q p es)
+    (λ p k. elim k [ inl f ↦ f | inr z ↦ absurd z ]) (λ p k. inl k) (Means-all q None (λ p. ⊥) es (λ p z. z))
 
 -- the stops that the code notes
 module _ (f : Pos → Option Sides) (q : Pos) where
@@ -93,24 +89,18 @@ module _ (f : Pos → Option Sides) (q : Pos) where
       go true false = refl
       go false b = refl
 
-  all_kept : (ss : List Segment) → stop_all f q true ss ≡ true
+  all_kept : (es : List End) → stop_all f q true es ≡ true
   all_kept [] = refl
-  all_kept (s ∷ ss) =
-      ap (λ b. stop_all f q (stop_step f q b s.greater) ss) (step_kept s.lesser)
-      ∙ ap (λ b. stop_all f q b ss) (step_kept s.greater) ∙ all_kept ss
+  all_kept (e ∷ es) = ap (λ b. stop_all f q b es) (step_kept e.at) ∙ all_kept es
 
   step_met : (b : Bool) (v : Pos) → halts (f q) ≡ true → q ≡ v → stop_step f q b v ≡ true
   step_met b v h e = rw (ap (λ w. halts (f w)) (sym e) ∙ h, tied_position v q (sym e)) refl
 
-  -- an end of a segment, if it halts, is a stop
-  all_met : (b : Bool) (w : Pos) (ss : List Segment) → halts (f q) ≡ true → AmongSegments q w ss → stop_all f q b ss ≡ true
+  -- where arcs end is a stop, if it halts
+  all_met : (b : Bool) (w : Pos) (es : List End) → halts (f q) ≡ true → AmongEnds q w es → stop_all f q b es ≡ true
   all_met b w [] h k = absurd k
-  all_met b w (s ∷ ss) h (inl (inl k)) =
-      ap (λ c. stop_all f q (stop_step f q c s.greater) ss) (step_met b s.lesser h k.0)
-      ∙ ap (λ c. stop_all f q c ss) (step_kept s.greater) ∙ all_kept ss
-  all_met b w (s ∷ ss) h (inl (inr k)) =
-      ap (λ c. stop_all f q c ss) (step_met (stop_step f q b s.lesser) s.greater h k.0) ∙ all_kept ss
-  all_met b w (s ∷ ss) h (inr k) = all_met (stop_step f q (stop_step f q b s.lesser) s.greater) w ss h k
+  all_met b w (e ∷ es) h (inl k) = ap (λ c. stop_all f q c es) (step_met b e.at h k.0) ∙ all_kept es
+  all_met b w (e ∷ es) h (inr k) = all_met (stop_step f q b e.at) w es h k
 
   step_from : (b : Bool) (v : Pos) → stop_step f q b v ≡ true → (b ≡ true) ⊎ (halts (f q) ≡ true)
   step_from b v e = go (halts (f v)) refl (is_eq (position_cmp v q)) refl e
@@ -121,77 +111,67 @@ module _ (f : Pos → Option Sides) (q : Pos) where
       go false h c g k = inl k
 
   -- each stop halts
-  all_from : (b : Bool) (ss : List Segment) → stop_all f q b ss ≡ true → (b ≡ true) ⊎ (halts (f q) ≡ true)
+  all_from : (b : Bool) (es : List End) → stop_all f q b es ≡ true → (b ≡ true) ⊎ (halts (f q) ≡ true)
   all_from b [] e = inl e
-  all_from b (s ∷ ss) e =
-      elim (all_from (stop_step f q (stop_step f q b s.lesser) s.greater) ss e) [
-        | inr h ↦ inr h
-        | inl k ↦ elim (step_from (stop_step f q b s.lesser) s.greater k) [
-          | inr h ↦ inr h
-          | inl i ↦ step_from b s.lesser i
-        ]
-      ]
+  all_from b (s ∷ es) e =
+      elim (all_from (stop_step f q b s.at) es e) [ inr h ↦ inr h | inl k ↦ step_from b s.at k ]
 
-module _ (segs list : List Segment) (stops : List Pos) (f : Pos → Option Sides) (same : list ≡ segs)
-    (noting : (q : Pos) → f q ≡ noted_all q None list) (made : (q : Pos) → among stops q ≡ stop_all f q false list) where
-  means : (q : Pos) → Means (f q) (λ p. AmongSegments q p segs)
-  means q = subst (λ o. Means o (λ p. AmongSegments q p segs)) (sym (noting q ∙ ap (noted_all q None) same)) (Means-segments q segs)
+-- no vertex lies on two segments, and on one or three
+two_only : (S : Pos → Pos → Type 0) (v : Pos) → OnTwo S v → OnOne S v ⊎ OnThreeOf S v → ⊥
+two_only S v t (inl o) = t.2 (o.2 t.0 t.3 ∙ sym (o.2 t.1 t.4))
+two_only S v t (inr o) =
+    elim (t.5 o.0 o.3) [
+      | inl p ↦ elim (t.5 o.1 o.4) [
+        | inl q ↦ o.6 (p ∙ sym q)
+        | inr q ↦ elim (t.5 o.2 o.5) [ inl r ↦ o.7 (p ∙ sym r) | inr r ↦ o.8 (q ∙ sym r) ]
+      ]
+      | inr p ↦ elim (t.5 o.1 o.4) [
+        | inr q ↦ o.6 (p ∙ sym q)
+        | inl q ↦ elim (t.5 o.2 o.5) [ inr r ↦ o.7 (p ∙ sym r) | inl r ↦ o.8 (q ∙ sym r) ]
+      ]
+    ]
+
+-- the segments S at a vertex where arcs end are those of the ends, and each other vertex lies on two
+module _ (S : Pos → Pos → Type 0) (ends : List End) (stops : List Pos) (f : Pos → Option Sides)
+    (on : (v w : Pos) → AmongEnds v w ends → S v w) (all : (v p w : Pos) → AmongEnds v p ends → S v w → AmongEnds v w ends)
+    (others : (v w : Pos) → S v w → AmongEnds v w ends ⊎ OnTwo S v)
+    (noting : (q : Pos) → f q ≡ noted_all q None ends) (made : (q : Pos) → among stops q ≡ stop_all f q false ends) where
+  means : (q : Pos) → Means (f q) (λ p. AmongEnds q p ends)
+  means q = subst (λ o. Means o (λ p. AmongEnds q p ends)) (sym (noting q)) (Means-ends q ends)
 
   -- a vertex that is no stop lies on two segments
-  pub stops_meet : MeetsTwo segs stops
-  stops_meet v w free k = go (f v) (means v) halting
+  stops_meet : TwoSegments S (StopAt stops)
+  stops_meet v w free s = elim (others v w s) [ inr t ↦ t | inl k ↦ go k (f v) (means v) (halting k) ]
     where
-      halting : ¬ (halts (f v) ≡ true)
-      halting h = free (made v ∙ all_met f v false w list h (subst (AmongSegments v w) (sym same) k))
+      halting : AmongEnds v w ends → ¬ (halts (f v) ≡ true)
+      halting k h = free (made v ∙ all_met f v false w ends h k)
 
-      go : (o : Option Sides) → Means o (λ p. AmongSegments v p segs) → ¬ (halts o ≡ true) →
-          (a : Pos) × (b : Pos) × (¬ (a ≡ b)) × SegmentsOf segs v a × SegmentsOf segs v b × ((c : Pos) → SegmentsOf segs v c → (c ≡ a) ⊎ (c ≡ b))
-      go None m n = absurd (m w k)
-      go (Some (One a)) m n = absurd (n refl)
-      go (Some (Two a b)) m n = (a, b, m.0, m.1, m.2, m.3)
-      go (Some More) m n = absurd (n refl)
+      go : AmongEnds v w ends → (o : Option Sides) → Means o (λ p. AmongEnds v p ends) → ¬ (halts o ≡ true) → OnTwo S v
+      go k None m n = absurd (m w k)
+      go k (Some (One a)) m n = absurd (n refl)
+      go k (Some (Two a b)) m n = (a, b, m.0, on v a m.1, on v b m.2, λ c h. m.3 c (all v w c k h))
+      go k (Some More) m n = absurd (n refl)
 
   -- a stop lies on one segment, or on three or more
-  stops_lie : (v : Pos) → StopAt stops v → OnOne (SegmentsOf segs) v ⊎ OnThreeOf (SegmentsOf segs) v
-  stops_lie v k = go (f v) (means v) (elim (all_from f v false list (sym (made v) ∙ k)) [ inl e ↦ absurd (true_false false e refl) | inr h ↦ h ])
+  stops_lie : (v : Pos) → StopAt stops v → OnOne S v ⊎ OnThreeOf S v
+  stops_lie v k = go (f v) (means v) (elim (all_from f v false ends (sym (made v) ∙ k)) [ inl e ↦ absurd (true_false false e refl) | inr h ↦ h ])
     where
-      go : (o : Option Sides) → Means o (λ p. AmongSegments v p segs) → halts o ≡ true → OnOne (SegmentsOf segs) v ⊎ OnThreeOf (SegmentsOf segs) v
+      go : (o : Option Sides) → Means o (λ p. AmongEnds v p ends) → halts o ≡ true → OnOne S v ⊎ OnThreeOf S v
       go None m n = absurd cc
-      go (Some (One a)) m n = inl (a, m.0, m.1)
+      go (Some (One a)) m n = inl (a, on v a m.0, λ p h. m.1 p (all v a p m.0 h))
       go (Some (Two a b)) m n = absurd cc
-      go (Some More) m n = inr m
+      go (Some More) m n = inr (m.0, m.1, m.2, on v m.0 m.3, on v m.1 m.4, on v m.2 m.5, m.6, m.7, m.8)
 
   -- and a vertex that lies so is a stop
-  lies_stop : (v : Pos) → OnOne (SegmentsOf segs) v ⊎ OnThreeOf (SegmentsOf segs) v → StopAt stops v
+  lies_stop : (v : Pos) → OnOne S v ⊎ OnThreeOf S v → StopAt stops v
   lies_stop v h = go (among stops v) refl
     where
-      beside : (w : Pos) × AmongSegments v w segs
+      beside : (w : Pos) × S v w
       beside = elim h [ inl o ↦ (o.0, o.1) | inr t ↦ (t.0, t.3) ]
 
       go : (b : Bool) → among stops v ≡ b → b ≡ true
       go true e = refl
-      go false e =
-          let t = stops_meet v beside.0 (λ k. true_false (among stops v) k e) beside.1 in
-          absurd (elim h [
-            | inl o ↦ t.2 (o.2 t.0 t.3 ∙ sym (o.2 t.1 t.4))
-            | inr o ↦ three t o
-          ])
-        where
-          three : ((a : Pos) × (b : Pos) × (¬ (a ≡ b)) × SegmentsOf segs v a × SegmentsOf segs v b × ((c : Pos) → SegmentsOf segs v c → (c ≡ a) ⊎ (c ≡ b))) → OnThreeOf (SegmentsOf segs) v → ⊥
-          three t o =
-              elim (t.5 o.0 o.3) [
-                | inl p ↦ elim (t.5 o.1 o.4) [
-                  | inl q ↦ o.6 (p ∙ sym q)
-                  | inr q ↦ elim (t.5 o.2 o.5) [ inl r ↦ o.7 (p ∙ sym r) | inr r ↦ o.8 (q ∙ sym r) ]
-                ]
-                | inr p ↦ elim (t.5 o.1 o.4) [
-                  | inr q ↦ o.6 (p ∙ sym q)
-                  | inl q ↦ elim (t.5 o.2 o.5) [ inr r ↦ o.7 (p ∙ sym r) | inl r ↦ o.8 (q ∙ sym r) ]
-                ]
-              ]
-
-  pub stops_are : AreStops segs stops
-  stops_are v = (stops_lie v, lies_stop v)
+      go false e = absurd (two_only S v (stops_meet v beside.0 (λ k. true_false (among stops v) k e) beside.1) h)
 
 -- whether a set has a position
 eq_is : (p q : Pos) → is_eq (position_cmp p q) ≡ position_eq p q
@@ -224,12 +204,29 @@ stop_put s t f v q h e =
 pub stop_left : (keys : List Pos) (f : Pos → Option Sides) (v q : Pos) → halts (f v) ≡ false → among keys q ≡ stop_step f q (among keys q) v
 stop_left keys f v q h = sym (ap (λ a. cond a (cond (is_eq (position_cmp v q)) true (among keys q)) (among keys q)) h)
 
+-- the stops that are noted at the ends of arcs of a map
+are_halts : (g : Geometry Pos) → IsSound g → (t : Arcs) → IsTableOf g t → (ks : List ℕ) (ends : List End) → HasEnds t.arcs ks ends →
+    (stops : List Pos) (f : Pos → Option Sides) → ((q : Pos) → f q ≡ noted_all q None ends) → ((q : Pos) → among stops q ≡ stop_all f q false ends) →
+    AreHalts t.arcs ks stops
+are_halts g sound t table ks ends has stops f noting made = record {
+  exact = λ v. (stops_lie (OnArcs t.arcs ks) ends stops f on all others noting made v, lies_stop (OnArcs t.arcs ks) ends stops f on all others noting made v);
+  meets = stops_meet (OnArcs t.arcs ks) ends stops f on all others noting made;
+}
+  where
+    on : (v w : Pos) → AmongEnds v w ends → OnArcs t.arcs ks v w
+    on v w h = end_side g sound t table ks v w ((has v w).0 h)
+
+    all : (v p w : Pos) → AmongEnds v p ends → OnArcs t.arcs ks v w → AmongEnds v w ends
+    all v p w h s = (has v w).1 (end_sides g sound t table ks v p w ((has v p).0 h) s)
+
+    others : (v w : Pos) → OnArcs t.arcs ks v w → AmongEnds v w ends ⊎ OnTwo (OnArcs t.arcs ks) v
+    others v w s = elim (end_or_two g sound t table ks v w s) [ inl h ↦ inl ((has v w).1 h) | inr h ↦ inr h ]
+
 -- in the form of the code
-pub stops_told : {E : Type 0} (segs xs ys : List Segment) (f : Pos → Option Sides) (r : Result (BTreeSet Pos) E) → xs ≡ segs → ys ≡ segs →
+pub stops_told : {E : Type 0} (t : Arcs) (ks : List ℕ) (ends xs ys : List End) (f : Pos → Option Sides) (r : Result (BTreeSet Pos) E) →
+    HasEnds t.arcs ks ends → xs ≡ ends → ys ≡ ends →
     ((q : Pos) → f q ≡ noted_all q None xs) → IfOk r (λ s. (q : Pos) → among s.keys q ≡ stop_all f q false ys) →
-    IfOk r (λ s. MeetsTwo segs s.keys) × IfOk r (λ s. AreStops segs s.keys)
-stops_told segs xs ys f (Ok s) p q noting made =
-    let n : (v : Pos) → f v ≡ noted_all v None segs = λ v. noting v ∙ ap (noted_all v None) p in
-    let m : (v : Pos) → among s.keys v ≡ stop_all f v false segs = λ v. made v ∙ ap (stop_all f v false) q in
-    (stops_meet segs segs s.keys f refl n m, stops_are segs segs s.keys f refl n m)
-stops_told segs xs ys f (Err e) p q noting made = (tt, tt)
+    IfOk r (λ s. (g : Geometry Pos) → IsSound g → IsTableOf g t → AreHalts t.arcs ks s.keys)
+stops_told t ks ends xs ys f (Ok s) has p q noting made = λ g sound table.
+    are_halts g sound t table ks ends has s.keys f (λ v. noting v ∙ ap (noted_all v None) p) (λ v. made v ∙ ap (stop_all f v false) q)
+stops_told t ks ends xs ys f (Err e) has p q noting made = tt

@@ -1,3 +1,4 @@
+pub mod Ends
 pub mod Stops
 pub mod Uses
 pub mod Neighbors

@@ -98,6 +98,6 @@ pub fn mesh<F: Fn(&Feature, &Feature) -> bool>(
     let spans = spans_of(alloc, arcs.len(), &members)?;
     let chosen = choose(alloc, &spans, &members, &filter)?;
     let segments = segments_of(alloc, arcs, &chosen)?;
-    let stops = stops_of(alloc, &segments)?;
+    let stops = stops_of(alloc, arcs, &chosen)?;
     Ok(maximal_over(alloc, &segments, &stops)?)
 }

@@ -3,6 +3,7 @@
 #![tactic(auto)]
 
 pub mod borders;
+mod ends;
 pub mod fault;
 pub mod layer;
 mod members;

@@ -1,11 +1,13 @@
-//! The vertices at which lines over segments stop.
+//! The vertices at which lines over arcs stop.
 ghost use Rattle.std.specs.Prelude.{◌≡◌, IfOk, OnOk, None, false, List};
 ghost use Rattle.grid.specs.declared.pos.Pos.{Pos};
-ghost use Rattle.chains.specs.Joined.{MeetsTwo};
+ghost use Rattle.theory.specs.Geometry.{Geometry, IsSound};
 ghost use Rattle.chains.specs.Pairs.{among};
-ghost use Rattle.query.specs.Stops.{halts, sided, noted, noted_all, sides_in, stop_step, stop_all, AreStops};
+ghost use Rattle.chains.specs.Table.{IsTableOf};
+ghost use Rattle.query.specs.Stops.{halts, sided, noted, noted_all, sides_in, stop_step, stop_all, AreHalts};
 
-use chains::Segment;
+use crate::ends::{End, ends_of};
+use chains::ArcTable;
 use grid::pos::Pos;
 use std::alloc::{AllocError, Global};
 use std::collections::{BTreeMap, BTreeSet};
@@ -51,15 +53,13 @@ fn note_side(sides: &mut BTreeMap<Pos, Sides>, at: Pos, to: Pos) -> Result<(), A
     Ok(())
 }
 
-/// The sides of each vertex of the segments.
-fn sides_of(alloc: Global, segments: &[Segment]) -> Result<BTreeMap<Pos, Sides>, AllocError>
-    ensures { IfOk result (λ m. (q : Pos) → sides_in m q ≡ noted_all q None segments.now) }
+/// The sides of each vertex at which arcs end.
+fn sides_of(alloc: Global, ends: &[End]) -> Result<BTreeMap<Pos, Sides>, AllocError>
+    ensures { IfOk result (λ m. (q : Pos) → sides_in m q ≡ noted_all q None ends.now) }
 {
     let mut sides = BTreeMap::new(alloc);
-    for segment in segments {
-        let (lesser, greater) = segment.ends();
-        note_side(&mut sides, lesser, greater)?;
-        note_side(&mut sides, greater, lesser)?;
+    for end in ends {
+        note_side(&mut sides, end.at, end.to)?;
     }
     Ok(sides)
 }
@@ -94,24 +94,27 @@ fn note_stop(
 fn stops_by(
     alloc: Global,
     sides: &BTreeMap<Pos, Sides>,
-    segments: &[Segment],
+    ends: &[End],
 ) -> Result<BTreeSet<Pos>, AllocError>
-    ensures { IfOk result (λ s. (q : Pos) → among s.keys q ≡ stop_all (sides_in sides.now) q false segments.now) }
+    ensures { IfOk result (λ s. (q : Pos) → among s.keys q ≡ stop_all (sides_in sides.now) q false ends.now) }
 {
     let mut stops = BTreeSet::new(alloc);
-    for segment in segments {
-        let (lesser, greater) = segment.ends();
-        note_stop(&mut stops, sides, lesser)?;
-        note_stop(&mut stops, sides, greater)?;
+    for end in ends {
+        note_stop(&mut stops, sides, end.at)?;
     }
     Ok(stops)
 }
 
-/// The vertices that lie on a number of the segments other than two.
-pub(crate) fn stops_of(alloc: Global, segments: &[Segment]) -> Result<BTreeSet<Pos>, AllocError>
-    ensures meets { IfOk result (λ stops. MeetsTwo segments.now stops.keys) }
-    ensures exact { IfOk result (λ stops. AreStops segments.now stops.keys) }
+/// The vertices that lie on a number of segments of the arcs other than two. A vertex inside an arc
+/// lies on two, so the ends of the arcs are all that there is to look at.
+pub(crate) fn stops_of(
+    alloc: Global,
+    arcs: &ArcTable,
+    chosen: &[usize],
+) -> Result<BTreeSet<Pos>, AllocError>
+    ensures { IfOk result (λ stops. (g : Geometry Pos) → IsSound g → IsTableOf g arcs.now → AreHalts arcs.now.arcs chosen.now stops.keys) }
 {
-    let sides = sides_of(alloc, segments)?;
-    stops_by(alloc, &sides, segments)
+    let ends = ends_of(alloc, arcs, chosen)?;
+    let sides = sides_of(alloc, &ends)?;
+    stops_by(alloc, &sides, &ends)
 }

@@ -1,7 +1,7 @@
-use Rattle.std.proofs.Common.{◌∙◌, subst, sym}
+use Rattle.std.proofs.Common.{subst, sym}
 use Rattle.std.specs.Fn.{FnReturnsAtPair}
 use Rattle.chains.specs.Joined.{AreMaximal, MeetsTwo}
-use Rattle.query.specs.Stops.{AreStops}
+use Rattle.query.proofs.Halting.{halts_told}
 use Rattle.query.proofs.Meshing.{selected_by}
 use Rattle.query.proofs.LayerFeatures.{found_stands, made_stands}
 use Rattle.query.proofs.borders.mesh.Goals as goal
@@ -11,7 +11,8 @@ returns-clause-lines g c = (
   c.in_ok-segments.segments.items,
   record {
     stops = c.in_ok-stops.stops.keys;
-    exact = subst (λ w. AreStops w c.in_ok-stops.stops.keys) c.deref-5.ensures.value c.in_ok-stops.ensures.exact;
+    exact = (halts_told c.args.topology.now c.arcs-arcs.ensures.of_map c.arcs-arcs.result.now c.arcs-arcs.ensures.arcs c.in_ok-chosen.chosen.items c.deref-4.result.now
+        c.deref-5.result.now c.deref-4.ensures.value c.deref-5.ensures.value c.in_ok-segments.segments.items c.in_ok-segments.ensures c.in_ok-stops.stops.keys c.in_ok-stops.ensures).1;
     maximal = subst (λ w. AreMaximal w c.in_ok-stops.stops.keys c.in_ok-maximal_over.field-0) c.deref-6.ensures.value c.in_ok-maximal_over.ensures;
   },
   λ m of. selected_by m c.args.topology.now of _ c.in_ok-members.members.items (c.in_ok-members.ensures.members m of) (FnReturnsAtPair g.F.Fn c.args.filter)
@@ -22,4 +23,6 @@ returns-clause-lines g c = (
 
 pub maximal_over-requires : goal.maximal_over-requires
 maximal_over-requires g c =
-    subst (λ w. MeetsTwo w c.in_ok-stops.stops.keys) (c.deref-5.ensures.value ∙ sym c.deref-6.ensures.value) c.in_ok-stops.ensures.meets
+    subst (λ w. MeetsTwo w c.in_ok-stops.stops.keys) (sym c.deref-6.ensures.value)
+    (halts_told c.args.topology.now c.arcs-arcs.ensures.of_map c.arcs-arcs.result.now c.arcs-arcs.ensures.arcs c.in_ok-chosen.chosen.items c.deref-4.result.now
+    c.deref-5.result.now c.deref-4.ensures.value c.deref-5.ensures.value c.in_ok-segments.segments.items c.in_ok-segments.ensures c.in_ok-stops.stops.keys c.in_ok-stops.ensures).0

@@ -4,6 +4,6 @@ use Rattle.chains.specs.Pairs.{among}
 use Rattle.query.specs.Stops.{sides_in, stop_all}
 use Rattle.query.proofs.stops.stops_by.Given as goal
 
-abbrev pub invariant-loop-segment : goal.invariant-loop-segment
-invariant-loop-segment l =
-    (q : Pos) → stop_all (sides_in l.sides) q (among l.stops.keys q) (drop l.segment-index l.segments) ≡ stop_all (sides_in l.sides) q false l.segments
+abbrev pub invariant-loop-end : goal.invariant-loop-end
+invariant-loop-end l =
+    (q : Pos) → stop_all (sides_in l.sides) q (among l.stops.keys q) (drop l.end-index l.ends) ≡ stop_all (sides_in l.sides) q false l.ends

@@ -1,0 +1,71 @@
+-- The ends of arcs that are put behind others, one by one.
+use Rattle.std.proofs.Common.{◌≡◌, ◌↔◌, ◌⊎◌, inl, inr, ℕ, List, [], ◌∷◌, ◌++◌, reverse, sym, subst, Option, Some, Result, Ok, Err, OnOk}
+use Rattle.grid.specs.declared.pos.Pos.{Pos}
+use Rattle.theory.specs.Lists.{BeginsTwo}
+use Rattle.topo.specs.Points.{arc_at}
+use Rattle.query.specs.declared.ends.End.{End}
+use Rattle.query.specs.Ends.{AmongEnds, EndStep, IsEnd, OnEnds, begin_of}
+
+among_put : (v w : Pos) (es : List End) (e : End) → AmongEnds v w (es ++ (e ∷ [])) ↔ (AmongEnds v w es ⊎ IsEnd v w (Some e))
+among_put v w [] e = ((λ h. elim h [ inl k ↦ inr k | inr z ↦ absurd z ]), (λ h. elim h [ inl z ↦ absurd z | inr k ↦ inl k ]))
+among_put v w (d ∷ es) e =
+    let r = among_put v w es e in (
+      (λ h. elim h [ inl k ↦ inl (inl k) | inr k ↦ elim (r.0 k) [ inl j ↦ inl (inr j) | inr j ↦ inr j ] ]),
+      (λ h. elim h [ inl k ↦ elim k [ inl j ↦ inl j | inr j ↦ inr (r.1 (inl j)) ] | inr k ↦ inr (r.1 (inr k)) ]),
+    )
+
+-- one end more
+pub put_end : (es new : List End) (end : Option End) (e : End) → end ≡ Some e → new ≡ es ++ (e ∷ []) → (v w : Pos) →
+    AmongEnds v w new ↔ (AmongEnds v w es ⊎ IsEnd v w end)
+put_end es new end e is put v w =
+    let r = among_put v w es e in (
+      (λ h. elim (r.0 (subst (AmongEnds v w) put h)) [ inl k ↦ inl k | inr k ↦ inr (subst (IsEnd v w) (sym is) k) ]),
+      (λ h. subst (AmongEnds v w) (sym put) (r.1 (elim h [ inl k ↦ inl k | inr k ↦ inr (subst (IsEnd v w) is k) ]))),
+    )
+
+begin_two : (c : List Pos) (v w : Pos) → IsEnd v w (begin_of c) ↔ BeginsTwo v w c
+begin_two [] v w = ((λ h. h), (λ h. h))
+begin_two (x ∷ []) v w = ((λ h. absurd h), (λ h. h.1))
+begin_two (x ∷ (y ∷ r)) v w = ((λ h. h), (λ h. h))
+
+-- both ends of an arc
+pub two_ends : {A E : Type 0} (r : Result A E) (old mid new : List End) (arc : List Pos) (first last : Option End) →
+    first ≡ begin_of arc → last ≡ begin_of (reverse arc) → ((v w : Pos) → AmongEnds v w mid ↔ (AmongEnds v w old ⊎ IsEnd v w first)) →
+    OnOk r ((v w : Pos) → AmongEnds v w new ↔ (AmongEnds v w mid ⊎ IsEnd v w last)) →
+    OnOk r ((v w : Pos) → AmongEnds v w new ↔ (AmongEnds v w old ⊎ EndStep v w arc))
+two_ends (Err e) old mid new arc first last f l one two = tt
+two_ends (Ok a) old mid new arc first last f l one two = λ v w. (
+  (λ h. elim ((two v w).0 h) [
+    | inl k ↦ elim ((one v w).0 k) [ inl i ↦ inl i | inr i ↦ inr (inl ((begin_two arc v w).0 (subst (IsEnd v w) f i))) ]
+    | inr k ↦ inr (inr ((begin_two (reverse arc) v w).0 (subst (IsEnd v w) l k)))
+  ]),
+  (λ h. (two v w).1 (elim h [
+    | inl k ↦ inl ((one v w).1 (inl k))
+    | inr k ↦ elim k [
+      | inl i ↦ inl ((one v w).1 (inr (subst (IsEnd v w) (sym f) ((begin_two arc v w).1 i))))
+      | inr i ↦ inr (subst (IsEnd v w) (sym l) ((begin_two (reverse arc) v w).1 i))
+    ]
+  ])),
+)
+
+-- the ends of one arc more
+pub step_ends : (old new : List End) (arcs : List (List Pos)) (k : ℕ) (ks rest : List ℕ) (All : Type 0) (v w : Pos) → ks ≡ k ∷ rest →
+    AmongEnds v w new ↔ (AmongEnds v w old ⊎ EndStep v w (arc_at arcs k)) → (AmongEnds v w old ⊎ OnEnds arcs ks v w) ↔ All →
+    (AmongEnds v w new ⊎ OnEnds arcs rest v w) ↔ All
+step_ends old new arcs k ks rest All v w e put left = (
+  (λ h. left.0 (elim h [
+    | inl i ↦ elim (put.0 i) [ inl j ↦ inl j | inr j ↦ inr (subst (λ l. OnEnds arcs l v w) (sym e) (inl j)) ]
+    | inr i ↦ inr (subst (λ l. OnEnds arcs l v w) (sym e) (inr i))
+  ])),
+  (λ a. elim (left.1 a) [
+    | inl j ↦ inl (put.1 (inl j))
+    | inr i ↦ elim (subst (λ l. OnEnds arcs l v w) e i) [ inl j ↦ inl (put.1 (inr j)) | inr j ↦ inr j ]
+  ]),
+)
+
+-- nothing is left
+pub done_ends : (es : List End) (arcs : List (List Pos)) (ks : List ℕ) (All : Type 0) (v w : Pos) → ks ≡ [] → (AmongEnds v w es ⊎ OnEnds arcs ks v w) ↔ All → AmongEnds v w es ↔ All
+done_ends es arcs ks All v w e left = (
+  (λ h. left.0 (inl h)),
+  (λ a. elim (left.1 a) [ inl h ↦ h | inr k ↦ absurd (subst (λ l. OnEnds arcs l v w) e k) ]),
+)

@@ -1,0 +1,35 @@
+-- The ends of arcs.
+use Rattle.std.specs.Prelude.{◌≡◌, ◌↔◌, ◌⊎◌, ℕ, List, [], ◌∷◌, Option, Some, None, reverse}
+use Rattle.grid.specs.declared.pos.Pos.{Pos}
+use Rattle.theory.specs.Lists.{BeginsTwo}
+use Rattle.topo.specs.Points.{arc_at}
+use Rattle.query.specs.declared.ends.End.{End}
+
+-- the list begins with v, w, or it ends with w, v
+abbrev pub EndStep : {V : Type 0} → V → V → List V → Type 0
+EndStep v w c = BeginsTwo v w c ⊎ BeginsTwo v w (reverse c)
+
+-- an arc of one of the numbers begins with v, w, or ends with w, v
+abbrev pub OnEnds : List (List Pos) → List ℕ → Pos → Pos → Type 0
+OnEnds arcs [] v w = ⊥
+OnEnds arcs (k ∷ ks) v w = EndStep v w (arc_at arcs k) ⊎ OnEnds arcs ks v w
+
+-- the first vertex of a list of two and more, and the next
+abbrev pub begin_of : List Pos → Option End
+begin_of [] = None
+begin_of (x ∷ []) = None
+begin_of (x ∷ (y ∷ r)) = Some (record { at = x; to = y })
+
+-- there is an end, of v beside w
+abbrev pub IsEnd : Pos → Pos → Option End → Type 0
+IsEnd v w None = ⊥
+IsEnd v w (Some e) = (v ≡ e.at) × (w ≡ e.to)
+
+-- v beside w is one of the ends
+abbrev pub AmongEnds : Pos → Pos → List End → Type 0
+AmongEnds v w [] = ⊥
+AmongEnds v w (e ∷ es) = ((v ≡ e.at) × (w ≡ e.to)) ⊎ AmongEnds v w es
+
+-- the ends are those of the arcs of these numbers
+abbrev pub HasEnds : List (List Pos) → List ℕ → List End → Type 0
+HasEnds arcs ks es = (v w : Pos) → AmongEnds v w es ↔ OnEnds arcs ks v w

@@ -1,0 +1,80 @@
+//! The ends of arcs.
+ghost use Rattle.std.specs.Prelude.{◌≡◌, ◌↔◌, ◌⊎◌, IfOk, OnOk, reverse};
+ghost use Rattle.grid.specs.declared.pos.Pos.{Pos};
+ghost use Rattle.topo.specs.Points.{arc_at};
+ghost use Rattle.query.specs.Ends.{AmongEnds, EndStep, HasEnds, IsEnd, begin_of};
+
+use chains::ArcTable;
+use grid::pos::Pos;
+use std::alloc::{AllocError, Global};
+
+/// A vertex at which an arc ends, and the vertex beside it on the arc.
+#[derive(Clone, Copy, PartialEq, Eq, Debug)]
+pub(crate) struct End {
+    pub(crate) at: Pos,
+    pub(crate) to: Pos,
+}
+
+fn first_end(arc: &[Pos]) -> Option<End>
+    ensures { result ≡ begin_of arc.now }
+{
+    let (first, rest) = arc.split_first()?;
+    let next = rest.first()?;
+    Some(End {
+        at: *first,
+        to: *next,
+    })
+}
+
+fn last_end(arc: &[Pos]) -> Option<End>
+    ensures { result ≡ begin_of (reverse arc.now) }
+{
+    let (last, rest) = arc.split_last()?;
+    let before = rest.last()?;
+    Some(End {
+        at: *last,
+        to: *before,
+    })
+}
+
+fn note_end(ends: &mut Vec<End>, end: Option<End>) -> Result<(), AllocError>
+    ensures { OnOk result ((v w : Pos) → AmongEnds v w ends.new.items ↔ (AmongEnds v w ends.old.items ⊎ IsEnd v w end)) }
+{
+    let Some(found) = end else {
+        return Ok(());
+    };
+    ends.push(found)?;
+    Ok(())
+}
+
+/// Puts the two ends of an arc behind the others.
+fn note_ends(ends: &mut Vec<End>, arc: &[Pos]) -> Result<(), AllocError>
+    ensures { OnOk result ((v w : Pos) → AmongEnds v w ends.new.items ↔ (AmongEnds v w ends.old.items ⊎ EndStep v w arc.now)) }
+{
+    note_end(ends, first_end(arc))?;
+    note_end(ends, last_end(arc))
+}
+
+fn note_number(ends: &mut Vec<End>, arcs: &ArcTable, number: usize) -> Result<(), AllocError>
+    ensures { OnOk result ((v w : Pos) → AmongEnds v w ends.new.items ↔ (AmongEnds v w ends.old.items ⊎ EndStep v w (arc_at arcs.now.arcs number))) }
+{
+    match arcs.arc(number) {
+        Some(arc) => note_ends(ends, arc),
+        None => Ok(()),
+    }
+}
+
+/// The two ends of each arc of these numbers.
+pub(crate) fn ends_of(
+    alloc: Global,
+    arcs: &ArcTable,
+    chosen: &[usize],
+) -> Result<Vec<End>, AllocError>
+    ensures { IfOk result (λ v. HasEnds arcs.now.arcs chosen.now v.items) }
+{
+    let mut ends = Vec::new(alloc);
+    for number in chosen {
+        note_number(&mut ends, arcs, *number)?;
+    }
+    Ok(ends)
+}
