@@ -1,15 +1,8 @@
 -- The stops of chosen arcs are those of their segments.
-use Rattle.std.proofs.Common.{◌≡◌, ◌∙◌, ℕ, List, inl, inr, sym, subst}
+use Rattle.std.proofs.Common.{ℕ, List, inl, inr}
 use Rattle.grid.specs.declared.pos.Pos.{Pos}
-use Rattle.chains.specs.Arcs.{Arcs}
 use Rattle.chains.specs.Joined.{MeetsTwo}
-use Rattle.chains.specs.Seen.{geometry_of}
-use Rattle.chains.specs.Table.{IsTableOf}
 use Rattle.chains.specs.declared.segment.Segment.{Segment}
-use Rattle.theory.specs.Geometry.{Geometry, IsSound}
-use Rattle.topo.specs.OfMap.{IsOfSomeMap}
-use Rattle.topo.specs.Parts.{TopologyParts}
-use Rattle.topo.proofs.Sound.{are_sound}
 use Rattle.query.specs.Along.{HasArcs}
 use Rattle.query.specs.Stops.{AreHalts, AreStops}
 
@@ -31,13 +24,3 @@ halts_stops arcs ks segs stops has are = (
     ])),
   )),
 )
-
--- in the form of the code
-pub halts_told : (t : TopologyParts) → IsOfSomeMap t → (arcs : Arcs) → arcs ≡ t.arcs → (chosen first second : List ℕ) → first ≡ chosen → second ≡ chosen →
-    (segs : List Segment) → HasArcs arcs.arcs first segs →
-    (stops : List Pos) → ((g : Geometry Pos) → IsSound g → IsTableOf g arcs → AreHalts arcs.arcs second stops) →
-    MeetsTwo segs stops × AreStops segs stops
-halts_told t (m, of) arcs at chosen first second one two segs has stops are =
-    halts_stops arcs.arcs first segs stops has
-    (subst (λ w. AreHalts arcs.arcs w stops) (two ∙ sym one)
-    (are (geometry_of m) (are_sound m) (subst (IsTableOf (geometry_of m)) (sym at) of.table)))

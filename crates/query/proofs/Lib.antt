@@ -14,3 +14,6 @@ pub mod Meshing
 pub mod Vertices
 pub mod Ending
 pub mod Halting
+pub mod ArcSegments
+pub mod Parted
+pub mod Wholes

@@ -117,7 +117,7 @@ module _ (f : Pos → Option Sides) (q : Pos) where
       elim (all_from (stop_step f q b s.at) es e) [ inr h ↦ inr h | inl k ↦ step_from b s.at k ]
 
 -- no vertex lies on two segments, and on one or three
-two_only : (S : Pos → Pos → Type 0) (v : Pos) → OnTwo S v → OnOne S v ⊎ OnThreeOf S v → ⊥
+pub two_only : (S : Pos → Pos → Type 0) (v : Pos) → OnTwo S v → OnOne S v ⊎ OnThreeOf S v → ⊥
 two_only S v t (inl o) = t.2 (o.2 t.0 t.3 ∙ sym (o.2 t.1 t.4))
 two_only S v t (inr o) =
     elim (t.5 o.0 o.3) [

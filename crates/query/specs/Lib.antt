@@ -6,5 +6,6 @@ pub mod Pairs
 pub mod Spans
 pub mod Selecting
 pub mod Along
+pub mod Parting
 pub mod Borders
 pub mod Members

@@ -15,10 +15,11 @@ ghost use Rattle.query.specs.declared.fault.QueryFault.TheVariants.{NoLayer as M
 
 use crate::fault::QueryFault;
 use crate::members::members_of;
+use crate::parts::part;
 use crate::selecting::choose;
 use crate::spans::spans_of;
 use crate::stops::stops_of;
-use chains::{ArcTable, Segment, maximal_over};
+use chains::{ArcTable, Segment, maximal_with};
 use grid::pos::Pos;
 use shapes::feature::Feature;
 use std::alloc::{AllocError, Global};
@@ -97,7 +98,8 @@ pub fn mesh<F: Fn(&Feature, &Feature) -> bool>(
     let members = members_of(alloc, topology, layer)?;
     let spans = spans_of(alloc, arcs.len(), &members)?;
     let chosen = choose(alloc, &spans, &members, &filter)?;
-    let segments = segments_of(alloc, arcs, &chosen)?;
     let stops = stops_of(alloc, arcs, &chosen)?;
-    Ok(maximal_over(alloc, &segments, &stops)?)
+    let parts = part(alloc, arcs, &chosen, &stops)?;
+    let segments = segments_of(alloc, arcs, &parts.joined)?;
+    Ok(maximal_with(alloc, parts.whole, &segments, &stops)?)
 }

@@ -7,6 +7,7 @@ mod ends;
 pub mod fault;
 pub mod layer;
 mod members;
+mod parts;
 mod selecting;
 pub mod sharing;
 mod spans;
