@@ -1,5 +1,6 @@
 //! `write_layer` and `feature`, called on topologies.
-use crate::inputs::{BOW_TIE_TOPOLOGY, EMPTY, SHARED_EDGE};
+use crate::harness::build;
+use crate::inputs::{BOW_TIE_TOPOLOGY, EMPTY, SHARED_EDGE, SQUARES};
 use query::{LayerFault, QueryFault, feature, write_layer};
 use sinks::{Answer, Kept, Script};
 use std::alloc::{AllocError, Global};
@@ -54,6 +55,24 @@ fn a_layer_is_written_as_its_features_are(rt: HostRuntime) -> Result<(), Fail> {
         assert!(rt; geojson_io::write(&topology.grid(), features.iter(), &mut collected).is_ok());
         assert_eq!(rt; collected.into_bytes().as_slice(), printed.as_bytes());
     }
+    Ok(())
+}
+
+#[test]
+fn what_is_built_expands_prints_and_builds_again(rt: HostRuntime) -> Result<(), Fail> {
+    let alloc = rt.alloc();
+    build(alloc, "1,1,0,0", &[("a", SQUARES)])?.assert_printed(&rt, "built", SHARED_EDGE);
+    let topology = topology(alloc, SHARED_EDGE)?;
+    let map = topology.expand(alloc).ok().expect(&rt, "a map");
+    let features = map.layer("a").expect(&rt, "the layer");
+    let mut written = Kept::new(alloc);
+    assert!(rt; geojson_io::write(&topology.grid(), features.iter(), &mut written).is_ok());
+    assert_eq!(rt; written.into_bytes().as_slice(), SQUARES_PRINTED.as_bytes());
+    build(alloc, "1,1,0,0", &[("a", SQUARES_PRINTED)])?.assert_printed(
+        &rt,
+        "built again",
+        SHARED_EDGE,
+    );
     Ok(())
 }
 

@@ -126,12 +126,50 @@ fn a_line_is_cut_where_another_leaves_it(rt: HostRuntime) -> Result<(), Fail> {
     let index = VisitIndex::of(alloc, &map_of(alloc, &[straight, bent], &[])?)?;
     let pieces = all_pieces(alloc, &index, &[straight], &[])?;
     assert_eq!(rt; pieces.len(), 2);
-    for piece in &pieces {
+    let ends: [&[(i64, i64)]; 2] = [&[(0, 0), (1, 0)], &[(1, 0), (2, 0)]];
+    for (piece, places) in pieces.iter().zip(&ends) {
+        assert_eq!(rt; piece.chain(), positions(alloc, places)?.as_slice());
         assert!(rt; !piece.reversed());
         assert!(rt; !piece.is_free());
     }
     let table = ArcTable::from_pieces(alloc, pieces)?;
     check(&rt, alloc, &table, &[&[(0, 0), (1, 0)], &[(1, 0), (2, 0)]])
+}
+
+/// Asks of each place whether it is a junction.
+fn check_junctions(
+    rt: &impl Abort,
+    index: &VisitIndex,
+    places: &[(i64, i64)],
+    junctions: bool,
+) -> Result<(), Fail> {
+    for (x, y) in places {
+        let place = Pos::new(*x, *y).ok_or("outside the limits")?;
+        assert_eq!(rt; index.is_junction(place), junctions, "({x}, {y})");
+    }
+    Ok(())
+}
+
+#[test]
+fn junctions_are_ends_and_vertices_of_three_segments(rt: HostRuntime) -> Result<(), Fail> {
+    let alloc = rt.alloc();
+    let straight: &[(i64, i64)] = &[(0, 0), (1, 0), (2, 0), (3, 0)];
+    let leaves: &[(i64, i64)] = &[(0, 0), (1, 0), (2, 0), (2, 1)];
+    let along: &[(i64, i64)] = &[(3, 0), (2, 0), (1, 0), (0, 0)];
+    let index = VisitIndex::of(alloc, &map_of(alloc, &[straight, leaves, along], &[])?)?;
+    check_junctions(&rt, &index, &[(0, 0), (2, 0), (3, 0), (2, 1)], true)?;
+    check_junctions(&rt, &index, &[(1, 0), (5, 5)], false)
+}
+
+#[test]
+fn junctions_of_rings(rt: HostRuntime) -> Result<(), Fail> {
+    let alloc = rt.alloc();
+    let index = VisitIndex::of(alloc, &map_of(alloc, &[], &[TRIANGLE, TRIANGLE])?)?;
+    check_junctions(&rt, &index, TRIANGLE, false)?;
+    let closed: &[(i64, i64)] = &[(2, 0), (0, 2), (0, 0), (2, 0)];
+    let index = VisitIndex::of(alloc, &map_of(alloc, &[closed], &[TRIANGLE])?)?;
+    check_junctions(&rt, &index, &[(2, 0)], true)?;
+    check_junctions(&rt, &index, &[(0, 0), (0, 2)], false)
 }
 
 #[test]
