@@ -92,85 +92,85 @@ module _ (stops : List Pos) (arcs : List (List Pos)) where
   end_stops v (x ∷ r) w (inl e) = subst (StopAt stops) (sym e) (whole_ends x r w).0
   end_stops v (x ∷ r) w (inr e) = subst (StopAt stops) (sym e) (whole_ends x r w).1
 
-module _ (g : Geometry Pos) (sound : IsSound g) (t : Arcs) (table : IsTableOf g t) (ks : List ℕ) where
-  module _ (stops : List Pos) (halts : AreHalts t.arcs ks stops) where
-    -- a vertex that an arc passes is no stop
-    passed_free : (k : ℕ) (c : List Pos) → Has k ks → slice_get t.arcs k ≡ Some c → (a v b : Pos) → Passes a v b c → ¬ StopAt stops v
-    passed_free k c there e a v b h stop =
-        let two = inner_two g sound t table ks k c there e a v b h in
-        two_only (OnArcs t.arcs ks) v (a, b, two.0, two.1, two.2, two.3) ((halts.exact v).0 stop)
+module _ (g : Geometry Pos) (sound : IsSound g) (t : Arcs) (table : IsTableOf g t) (ks : List ℕ) (stops : List Pos) (halts : AreHalts t.arcs ks stops) where
+  -- a vertex that an arc passes is no stop
+  passed_free : (k : ℕ) (c : List Pos) → Has k ks → slice_get t.arcs k ≡ Some c → (a v b : Pos) → Passes a v b c → ¬ StopAt stops v
+  passed_free k c there e a v b h stop =
+      let two = inner_two g sound t table ks k c there e a v b h in
+      two_only (OnArcs t.arcs ks) v (a, b, two.0, two.1, two.2, two.3) ((halts.exact v).0 stop)
 
-    module _ (all : List Segment) (has : HasArcs t.arcs ks all) where
-      whole_chain : (k : ℕ) (c : List Pos) → Has k ks → slice_get t.arcs k ≡ Some c → is_whole stops c ≡ true → IsChainOver all stops c
-      whole_chain k [] there e w = absurd (true_false false w refl)
-      whole_chain k (x ∷ r) there e w =
-          let chain : Chain (SegmentOf g) (JunctionOf g) (AtMost position_cmp) x r = (table.arcs.arcs_only (x ∷ r) (get_has t.arcs k (x ∷ r) e)).chain in
-          record {
-            long = chain.long;
-            along = λ u v h. (has u v).1 (beside_on g sound t table ks k (x ∷ r) there e u v (inl h));
-            front_simple = chain.front_simple;
-            rest_simple = chain.rest_simple;
-            closed_long = chain.closed_long;
-            inner_free = λ a v b h. passed_free k (x ∷ r) there e a v b h;
-            ends = inl (whole_ends stops t.arcs x r w);
-          }
-
-      module _ (rest : List Segment) (left : HasArcs t.arcs (others stops t.arcs ks) rest) where
-        rest_within : (u v : Pos) → AmongSegments u v rest → OnArcs t.arcs ks u v
-        rest_within u v h =
-            let (k, c, there, e, side) = on_arc t.arcs (others stops t.arcs ks) u v ((left u v).0 h) in
-            arc_on t.arcs ks u v k c (has_other stops t.arcs ks k there).0 e side
-
-        -- a segment is on a whole arc, or among the rest
-        either : (u v : Pos) → OnArcs t.arcs ks u v →
-            ((k : ℕ) × (c : List Pos) × Has k ks × (slice_get t.arcs k ≡ Some c) × (is_whole stops c ≡ true) × Beside u v c) ⊎ AmongSegments u v rest
-        either u v h =
-            let (k, c, there, e, side) = on_arc t.arcs ks u v h in
-            elim (bool_split (is_whole stops c)) [
-              | inl w ↦ inl (k, c, there, e, w, sides_beside c u v side)
-              | inr w ↦ inr ((left u v).1 (arc_on t.arcs (others stops t.arcs ks) u v k c
-                  (other_has stops t.arcs ks k there (ap (is_whole stops) (at_number stops t.arcs k c e) ∙ w)) e side))
-            ]
-
-        pub are_parted : AreParted all stops (wholes stops t.arcs ks) rest
-        are_parted = record {
-          chains = λ d h. let (k, there, e, w) = has_whole stops t.arcs ks d h in whole_chain k d there e w;
-          within = λ u v h. (has u v).1 (rest_within u v h);
-          every = λ u v h. elim (either u v ((has u v).0 h)) [
-            | inl (k, c, there, e, w, beside) ↦ inl (c, whole_has stops t.arcs ks k c there e w, beside)
-            | inr i ↦ inr i
-          ];
+  module _ (all : List Segment) (has : HasArcs t.arcs ks all) where
+    -- a whole arc is a chain over all segments
+    whole_chain : (k : ℕ) (c : List Pos) → Has k ks → slice_get t.arcs k ≡ Some c → is_whole stops c ≡ true → IsChainOver all stops c
+    whole_chain k [] there e w = absurd (true_false false w refl)
+    whole_chain k (x ∷ r) there e w =
+        let chain : Chain (SegmentOf g) (JunctionOf g) (AtMost position_cmp) x r = (table.arcs.arcs_only (x ∷ r) (get_has t.arcs k (x ∷ r) e)).chain in
+        record {
+          long = chain.long;
+          along = λ u v h. (has u v).1 (beside_on g sound t table ks k (x ∷ r) there e u v (inl h));
+          front_simple = chain.front_simple;
+          rest_simple = chain.rest_simple;
+          closed_long = chain.closed_long;
+          inner_free = λ a v b h. passed_free k (x ∷ r) there e a v b h;
+          ends = inl (whole_ends stops t.arcs x r w);
         }
 
-        -- at a vertex of the rest that is no stop no segment is on a whole arc
-        none_whole : (v w : Pos) → ¬ StopAt stops v → AmongSegments v w rest → (k : ℕ) (u : Pos) (c : List Pos) → Has k ks → slice_get t.arcs k ≡ Some c →
-            is_whole stops c ≡ true → Beside v u c → ⊥
-        none_whole v w free h k u c there e is beside =
-            elim (at_place c v u beside) [
-              | inr end ↦ free (end_stops stops t.arcs v c is (end_of c v u end))
-              | inl (a, b, passes, side) ↦ (
-                  let two = inner_two g sound t table ks k c there e a v b passes in
-                  let on : Beside v w c = elim (two.3 w (rest_within v w h)) [
-                    | inl same ↦ subst (λ p. Beside v p c) (sym same) (inr (Passes-before a v b c passes))
-                    | inr same ↦ subst (λ p. Beside v p c) (sym same) (inl (Passes-after a v b c passes))
-                  ] in
-                  let (j, d, other, f, there) = on_arc t.arcs (others stops t.arcs ks) v w ((left v w).0 h) in
-                  let one : k ≡ j = table.once.one_arc v w k j c d e f on (sides_beside d v w there) in
-                  true_false (is_whole stops (arc_at t.arcs k)) (ap (is_whole stops) (at_number stops t.arcs k c e) ∙ is)
-                  (ap (λ n. is_whole stops (arc_at t.arcs n)) one ∙ (has_other stops t.arcs ks j other).1))
-            ]
+    module _ (rest : List Segment) (left : HasArcs t.arcs (others stops t.arcs ks) rest) where
+      rest_within : (u v : Pos) → AmongSegments u v rest → OnArcs t.arcs ks u v
+      rest_within u v h =
+          let (k, c, there, e, side) = on_arc t.arcs (others stops t.arcs ks) u v ((left u v).0 h) in
+          arc_on t.arcs ks u v k c (has_other stops t.arcs ks k there).0 e side
 
-        pub rest_meets : MeetsTwo rest stops
-        rest_meets v w free h =
-            let (a, b, n, first, second, only) = halts.meets v w free (rest_within v w h) in
-            (a, b, n, stays a first, stays b second, λ c i. only c (rest_within v c i))
-          where
-            stays : (u : Pos) → OnArcs t.arcs ks v u → AmongSegments v u rest
-            stays u i =
-                elim (either v u i) [
-                  | inr k ↦ k
-                  | inl (k, c, there, e, is, beside) ↦ absurd (none_whole v w free h k u c there e is beside)
-                ]
+      -- a segment is on a whole arc, or among the rest
+      either : (u v : Pos) → OnArcs t.arcs ks u v →
+          ((k : ℕ) × (c : List Pos) × Has k ks × (slice_get t.arcs k ≡ Some c) × (is_whole stops c ≡ true) × Beside u v c) ⊎ AmongSegments u v rest
+      either u v h =
+          let (k, c, there, e, side) = on_arc t.arcs ks u v h in
+          elim (bool_split (is_whole stops c)) [
+            | inl w ↦ inl (k, c, there, e, w, sides_beside c u v side)
+            | inr w ↦ inr ((left u v).1 (arc_on t.arcs (others stops t.arcs ks) u v k c
+                (other_has stops t.arcs ks k there (ap (is_whole stops) (at_number stops t.arcs k c e) ∙ w)) e side))
+          ]
+
+      pub are_parted : AreParted all stops (wholes stops t.arcs ks) rest
+      are_parted = record {
+        chains = λ d h. let (k, there, e, w) = has_whole stops t.arcs ks d h in whole_chain k d there e w;
+        within = λ u v h. (has u v).1 (rest_within u v h);
+        every = λ u v h. elim (either u v ((has u v).0 h)) [
+          | inl (k, c, there, e, w, beside) ↦ inl (c, whole_has stops t.arcs ks k c there e w, beside)
+          | inr i ↦ inr i
+        ];
+      }
+
+      -- at a vertex of the rest that is no stop no segment is on a whole arc
+      none_whole : (v w : Pos) → ¬ StopAt stops v → AmongSegments v w rest → (k : ℕ) (u : Pos) (c : List Pos) → Has k ks → slice_get t.arcs k ≡ Some c →
+          is_whole stops c ≡ true → Beside v u c → ⊥
+      none_whole v w free h k u c there e is beside =
+          elim (at_place c v u beside) [
+            | inr end ↦ free (end_stops stops t.arcs v c is (end_of c v u end))
+            | inl (a, b, passes, side) ↦ (
+                let two = inner_two g sound t table ks k c there e a v b passes in
+                let on : Beside v w c = elim (two.3 w (rest_within v w h)) [
+                  | inl same ↦ subst (λ p. Beside v p c) (sym same) (inr (Passes-before a v b c passes))
+                  | inr same ↦ subst (λ p. Beside v p c) (sym same) (inl (Passes-after a v b c passes))
+                ] in
+                let (j, d, other, f, there) = on_arc t.arcs (others stops t.arcs ks) v w ((left v w).0 h) in
+                let one : k ≡ j = table.once.one_arc v w k j c d e f on (sides_beside d v w there) in
+                true_false (is_whole stops (arc_at t.arcs k)) (ap (is_whole stops) (at_number stops t.arcs k c e) ∙ is)
+                (ap (λ n. is_whole stops (arc_at t.arcs n)) one ∙ (has_other stops t.arcs ks j other).1))
+          ]
+
+      pub rest_meets : MeetsTwo rest stops
+      rest_meets v w free h =
+          let (a, b, n, first, second, only) = halts.meets v w free (rest_within v w h) in
+          (a, b, n, stays a first, stays b second, λ c i. only c (rest_within v c i))
+        where
+          stays : (u : Pos) → OnArcs t.arcs ks v u → AmongSegments v u rest
+          stays u i =
+              elim (either v u i) [
+                | inr k ↦ k
+                | inl (k, c, there, e, is, beside) ↦ absurd (none_whole v w free h k u c there e is beside)
+              ]
 
 -- in the form of the code
 module _ (t : TopologyParts) (some : IsOfSomeMap t) (arcs : Arcs) (at : arcs ≡ t.arcs) (ks these those : List ℕ) (first : these ≡ ks) (second : those ≡ ks) (stops : List Pos)
