@@ -1,5 +1,5 @@
 //! Where the cut of a ring begins: at its least junction, or at its least vertex where it has none.
-ghost use Rattle.std.specs.Prelude.{◌≡◌, if◌then◌else◌};
+ghost use Rattle.std.specs.Prelude.{◌≡◌};
 ghost use Rattle.std.specs.Ordering.{is_lt};
 ghost use Rattle.chains.specs.Pairs.{among};
 ghost use Rattle.chains.specs.Starts.{start_of, start_cmp, start_place};
@@ -31,35 +31,16 @@ fn comes_before(a: &Start, b: &Start) -> bool
     a < b
 }
 
-/// A place and the start there.
-#[derive(Clone, Copy)]
-struct Best {
-    place: usize,
-    start: Start,
-}
-
-fn lesser(best: Best, place: usize, start: Start) -> Best
-    ensures place { result.place ≡ (if is_lt (start_cmp start best.start) then place else best.place) }
-    ensures start { result.start ≡ (if is_lt (start_cmp start best.start) then start else best.start) }
-{
-    if comes_before(&start, &best.start) {
-        Best { place, start }
-    } else {
-        best
-    }
-}
-
-/// The lesser of the best start and that at a place. Behind a junction only lesser vertices are
-/// looked up in the index.
+/// Whether a start comes before another. Behind a junction only lesser vertices are looked up in the
+/// index.
 #[tactic(auto, using(crate::proofs::Openings::not_lesser))]
-fn improved(index: &VisitIndex, best: Best, place: usize, from: Pos, to: Pos) -> Best
-    ensures place { result.place ≡ (if is_lt (start_cmp (start_of (among index.now) from to) best.start) then place else best.place) }
-    ensures start { result.start ≡ (if is_lt (start_cmp (start_of (among index.now) from to) best.start) then start_of (among index.now) from to else best.start) }
+fn improves(index: &VisitIndex, best: &Start, from: Pos, to: Pos) -> bool
+    ensures { result ≡ is_lt (start_cmp (start_of (among index.now) from to) best.now) }
 {
-    if !best.start.passed && from > best.start.from {
-        return best;
+    if !best.passed && from > best.from {
+        return false;
     }
-    lesser(best, place, start_between(index, from, to))
+    comes_before(&start_between(index, from, to), best)
 }
 
 /// The place from which a ring is cut. Of two rotations that begin at one vertex the one with the
@@ -73,15 +54,18 @@ pub(crate) fn place_of_start(index: &VisitIndex, ring: &[Pos]) -> usize
     let Some((second, rest)) = others.split_first() else {
         return 0;
     };
-    let mut best = Best {
-        place: 0,
-        start: start_between(index, *first, *second),
-    };
+    let mut place = 0;
+    let mut best = start_between(index, *first, *second);
     let mut here = *second;
     for (i, next) in rest.iter().enumerate() {
-        best = improved(index, best, i + 1, here, *next);
+        if improves(index, &best, here, *next) {
+            place = i + 1;
+            best = start_between(index, here, *next);
+        }
         here = *next;
     }
-    best = improved(index, best, others.len(), here, *first);
-    best.place
+    if improves(index, &best, here, *first) {
+        place = others.len();
+    }
+    place
 }

@@ -5,5 +5,5 @@ use Rattle.chains.proofs.starts.place_of_start.Given as goal
 
 abbrev pub invariant-loop-i : goal.invariant-loop-i
 invariant-loop-i l =
-    least_from l.best.place l.best.start (l.i + 1) (starts_from (among l.fn.index) l.first l.here (drop l.i l.rest))
+    least_from l.place l.best (l.i + 1) (starts_from (among l.fn.index) l.first l.here (drop l.i l.rest))
     ≡ start_place (among l.fn.index) l.fn.ring
