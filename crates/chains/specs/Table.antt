@@ -1,7 +1,7 @@
 -- The table of arcs.
 use Rattle.std.specs.Prelude.{◌≡◌, ℕ, Bool, true, false, cond, List, [], ◌∷◌, ◌++◌, map, Option, Some, None, slice_get}
 use Rattle.std.specs.Option.{option_map}
-use Rattle.std.specs.List.{list_any, position, position_or_len}
+use Rattle.std.specs.List.{position, position_or_len}
 use Rattle.theory.specs.Lists.{Has, Begins}
 use Rattle.theory.specs.Chain.{Free}
 use Rattle.theory.specs.Geometry.{Geometry, JunctionOf}
@@ -19,10 +19,6 @@ use lib.Pointwise.{pointwise}
 -- whether two lists have equal positions
 abbrev pub same_list : List Pos → List Pos → Bool
 same_list = pointwise position_eq
-
--- what is equal to a member of the one is equal to a member of the other
-abbrev pub HaveEqual : {A : Type 0} → (A → A → Bool) → List A → List A → Type 0
-HaveEqual {A} same a b = (q : A) → list_any (same q) b ≡ list_any (same q) a
 
 -- the used arc that runs along a piece; the number is that of all arcs where there is none
 abbrev pub located : List (List Pos) → Piece → ArcRef

@@ -1,7 +1,6 @@
 //! The table of arcs.
-ghost use Rattle.std.specs.Prelude.{◌≡◌, ◌↔◌, ◌<◌, ◌^◌, IfOk, OnOk, IfSome, IsSome, IsSorted, IsTrue, Some, map, [], List, slice_get, length};
+ghost use Rattle.std.specs.Prelude.{◌≡◌, ◌↔◌, ◌<◌, ◌^◌, IfOk, IfSome, IsSome, Some, map, [], List, slice_get, length};
 ghost use Rattle.std.specs.Option.{option_map};
-ghost use Rattle.std.specs.Ordering.{is_lt};
 ghost use Rattle.indexmap.specs.IndexSet.{insert_all, IsUnique};
 ghost use Rattle.lines.specs.Turned.{position_cmp, list_cmp};
 ghost use Rattle.theory.specs.Lists.{Has};
@@ -10,7 +9,7 @@ ghost use Rattle.theory.specs.Arcs.{AreSortedOnce};
 ghost use Rattle.theory.specs.ArcNumbers.{along, index_of};
 ghost use Rattle.grid.specs.declared.pos.Pos.{Pos};
 ghost use Rattle.chains.specs.Pieces.{used, chain_of};
-ghost use Rattle.chains.specs.Table.{same_list, seam_of, seams_of, located, found_in, free_at, AreSeamsOf, ArePiecesOfMap, HaveEqual, IsTableOf};
+ghost use Rattle.chains.specs.Table.{same_list, seam_of, seams_of, located, found_in, free_at, AreSeamsOf, ArePiecesOfMap, IsTableOf};
 
 use crate::cutting::Piece;
 use faults::OutOfMemory;
@@ -98,37 +97,6 @@ fn all_chains(alloc: Global, pieces: Vec<Piece>) -> Result<IndexSet<Items<Pos>>,
     Ok(arcs)
 }
 
-fn comes_before(a: &Items<Pos>, b: &Items<Pos>) -> bool
-    ensures { result ≡ is_lt (list_cmp a.now b.now) }
-{
-    a.cmp(b).is_lt()
-}
-
-/// Whether no arc comes before an earlier one.
-fn stand_in_order(arcs: &[Items<Pos>]) -> bool
-    ensures { IsTrue result → IsSorted list_cmp arcs.now }
-{
-    for i in 1..arcs.len() {
-        if comes_before(&arcs[i], &arcs[i - 1]) {
-            return false;
-        }
-    }
-    true
-}
-
-/// Sorts the arcs, unless they stand in order already.
-fn sort(arcs: &mut IndexSet<Items<Pos>>) -> Result<(), AllocError>
-    requires { IsUnique same_list arcs.old }
-    ensures sorted { OnOk result (IsSorted list_cmp arcs.new.keys) }
-    ensures same { OnOk result (HaveEqual same_list arcs.old.keys arcs.new.keys) }
-    ensures unique { IsUnique same_list arcs.new }
-{
-    if stand_in_order(arcs.as_slice()) {
-        return Ok(());
-    }
-    arcs.sort()
-}
-
 /// The first vertex of a piece that is a free loop.
 fn seam(piece: &Piece) -> Option<Pos>
     ensures { result ≡ seam_of piece.now }
@@ -181,7 +149,7 @@ impl ArcTable {
         let mut seams = all_seams(alloc, &pieces)?;
         seams.sort_unstable();
         let mut arcs = all_chains(alloc, pieces)?;
-        sort(&mut arcs)?;
+        arcs.sort()?;
         Ok(ArcTable { arcs, seams })
     }
 
