@@ -142,6 +142,17 @@ take_closed (x ∷ l) =
     let k : length (closed (x ∷ l)) - 1 ≡ length (x ∷ l) = omega (arith, length-append l (x ∷ [])) in
     subst (λ n. take n (closed (x ∷ l)) ≡ x ∷ l) (sym k) (ap (λ w. x ∷ w) (take-append_seam l (x ∷ [])))
 
+-- a closed list without a fault has four places or more
+pub ring_long : (l c : List Pos) → c ≡ collapsed position_cmp l → ring_fault position_cmp l ≡ None → 4 ≤ length c
+ring_long l c e n =
+    let closes = ring_accepted position_cmp position_total position_same l n in
+    let k : 3 ≤ length (opened (collapsed position_cmp l)) = closes.is_ring.long in
+    subst (λ w. 4 ≤ length w) (sym (e ∙ closes.is)) (longer (opened (collapsed position_cmp l)) k)
+  where
+    longer : (f : List Pos) → 3 ≤ length f → 4 ≤ length (closed f)
+    longer [] k = absurd (omega (arith, k))
+    longer (x ∷ f) k = omega (arith, k, length-append f (x ∷ []))
+
 -- what the code makes of a closed list
 pub record IsRingOf (l r : List Pos) : Type 0 where
   pub is_ring : IsRing r

@@ -1,5 +1,5 @@
 -- How a list of vertices is read as a line or as a ring, and which lists are refused. `cmp` is the order of the vertices.
-use Rattle.std.specs.Prelude.{Bool, true, false, cond, not, ◌&&◌, List, [], ◌∷◌, length, nat_lt, Option, Some, None, if◌then◌else◌}
+use Rattle.std.specs.Prelude.{◌≡◌, Bool, true, false, cond, not, ◌&&◌, List, [], ◌∷◌, length, nat_lt, Option, Some, None, if◌then◌else◌}
 use Rattle.std.specs.declared.cmp.Ordering.{Ordering}
 use Rattle.std.specs.List.{dedup}
 use Rattle.std.specs.Cmp.Lexicographic.{slice_cmp}
@@ -56,6 +56,10 @@ line_fault cmp l = collapsed_line_fault cmp (collapsed cmp l)
 -- why the list is no ring; none where it is one
 unfoldable pub ring_fault : {V : Type 0} → (V → V → Ordering) → List V → Option ShapeFault
 ring_fault cmp l = collapsed_ring_fault cmp (collapsed cmp l)
+
+-- c is what a list without a fault is read as, still closed
+abbrev pub IsRingRead : {V : Type 0} → (V → V → Ordering) → List V → Type 0
+IsRingRead {V} cmp c = (l : List V) × (c ≡ collapsed cmp l) × (ring_fault cmp l ≡ None)
 
 -- the ring of a closed list: the least of its rotations, without the closing repeat
 unfoldable pub ring_of : {V : Type 0} → (V → V → Ordering) → List V → List V

@@ -1,5 +1,5 @@
 //! Rings.
-ghost use Rattle.std.specs.Prelude.{◌≡◌, ◌≢◌, ◌≤◌, IfOk, IfErr, Some, None, length};
+ghost use Rattle.std.specs.Prelude.{◌≡◌, ◌≢◌, ◌≤◌, IfOk, IfErr, List, Some, None, length};
 ghost use Rattle.theory.specs.LinesAndRings.{IsRing};
 ghost use Rattle.theory.specs.OneProof.{IsRing-prop};
 ghost use Rattle.lines.specs.Turned.{IsLeastRotation, IsLeastRotation-prop, position_cmp};
@@ -32,7 +32,8 @@ fn least_start(closed: &[Pos]) -> usize
 }
 
 impl Ring {
-    ghost use Rattle.lines.specs.Reading.{ring_fault, ring_of};
+    ghost use Rattle.grid.specs.declared.pos.Pos.{Pos};
+    ghost use Rattle.lines.specs.Reading.{collapsed, ring_fault, ring_of, IsRingRead};
     ghost use Rattle.lines.specs.Seen.{vertices_of};
 
     /// The ring of a closed list of positions, in which equal neighbours are read as one and the
@@ -60,12 +61,29 @@ impl Ring {
         if repeats_segment(alloc, &closed)? {
             return Err(ShapeFault::Revisit);
         }
+        Ok(Ring::turned(closed))
+    }
+
+    /// The same, where the caller knows that the list is a ring's: nothing is tested.
+    pub fn from_sound(mut closed: Vec<Pos>) -> Ring
+        requires { ring_fault position_cmp closed.items ≡ None }
+        ensures { vertices_of result ≡ ring_of position_cmp closed.items }
+    {
+        collapse(&mut closed);
+        Ring::turned(closed)
+    }
+
+    /// The ring of a list without a fault, in which no neighbours are equal.
+    fn turned(mut closed: Vec<Pos>) -> Ring
+        requires { IsRingRead position_cmp closed.items }
+        ensures { (l : List Pos) → closed.items ≡ collapsed position_cmp l → ring_fault position_cmp l ≡ None → vertices_of result ≡ ring_of position_cmp l }
+    {
         let start = least_start(&closed);
         closed.truncate(closed.len() - 1);
         closed.rotate_left(start);
-        Ok(Ring {
+        Ring {
             positions: Items::from_vec(closed),
-        })
+        }
     }
 
     /// The vertices from the least rotation, in the ring's direction, without the closing repeat.

@@ -49,6 +49,17 @@ fn check(
 }
 
 #[test]
+fn lists_that_are_known_to_be_sound(rt: HostRuntime) -> Result<(), Fail> {
+    let alloc = rt.alloc();
+    let places = positions(alloc, &[B, B, C, A, B])?;
+    let line = Line::from_positions(alloc, places.to_vec(alloc)?)?;
+    assert_eq!(rt; Line::from_sound(places.to_vec(alloc)?), line);
+    let ring = Ring::from_closed(alloc, places.to_vec(alloc)?)?;
+    assert_eq!(rt; Ring::from_sound(places), ring);
+    Ok(())
+}
+
+#[test]
 fn lists_without_a_line(rt: HostRuntime) -> Result<(), Fail> {
     let short = Some(ShapeFault::TooShort);
     let alloc = rt.alloc();

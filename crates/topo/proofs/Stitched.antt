@@ -8,8 +8,6 @@ use Rattle.lines.specs.Seen.{positions_of, vertices_of}
 use Rattle.lines.specs.Turned.{position_cmp}
 use Rattle.lines.specs.declared.line.Line as the_line
 use Rattle.lines.specs.declared.ring.Ring as the_ring
-use Rattle.lines.specs.declared.shape_fault.ShapeFault.{ShapeFault}
-use Rattle.lines.specs.declared.shape_fault.ShapeFault.TheVariants.{TooShort, NotClosed, Revisit, OutOfMemory}
 use Rattle.lines.proofs.ReadsItself.{line_reads, ring_reads}
 use Rattle.shapes.specs.Maps.{Layers, Features, features_at}
 use Rattle.shapes.specs.OrderLaws.{one_line, one_ring}
@@ -36,25 +34,16 @@ use Rattle.topo.proofs.AtEntry.{at_entry}
 use Rattle.topo.proofs.Pairs.{Pairwise-mapped, Pairwise-weaker, pair_of}
 use Rattle.topo.proofs.Walks.{walked_stitched}
 
--- a fault that is no other fault is want of memory
-only_memory : (o : Option ShapeFault) (f : ShapeFault) → (¬ (f ≡ OutOfMemory) → o ≡ Some f) → o ≡ None → f ≡ OutOfMemory
-only_memory o OutOfMemory h e = refl
-only_memory o TooShort h e = absurd (let k : Some TooShort ≡ None = sym (h (λ q. cc)) ∙ e in cc)
-only_memory o NotClosed h e = absurd (let k : Some NotClosed ≡ None = sym (h (λ q. cc)) ∙ e in cc)
-only_memory o Revisit h e = absurd (let k : Some Revisit ≡ None = sym (h (λ q. cc)) ∙ e in cc)
-
 module _ (arcs : List (List Pos)) (used : List ArcRef) (ps : List Pos) (is : ps ≡ walked arcs used) where
-  pub line_faultless : (l : the_line.Line) → IsLineOf arcs l used → (f : ShapeFault) → (¬ (f ≡ OutOfMemory) → line_fault position_cmp ps ≡ Some f) → f ≡ OutOfMemory
-  line_faultless l h f told =
-      only_memory (line_fault position_cmp ps) f told (ap (line_fault position_cmp) (is ∙ walked_stitched arcs used (positions_of l) h) ∙ (line_reads l).0)
+  pub line_faultless : (l : the_line.Line) → IsLineOf arcs l used → line_fault position_cmp ps ≡ None
+  line_faultless l h = ap (line_fault position_cmp) (is ∙ walked_stitched arcs used (positions_of l) h) ∙ (line_reads l).0
 
   pub line_made : (made : the_line.Line) → positions_of made ≡ collapsed position_cmp ps → (l : the_line.Line) → IsLineOf arcs l used → made ≡ l
   line_made made e l h =
       one_line made l (e ∙ ap (collapsed position_cmp) (is ∙ walked_stitched arcs used (positions_of l) h) ∙ (line_reads l).1)
 
-  pub ring_faultless : (r : the_ring.Ring) → IsRingOf arcs r used → (f : ShapeFault) → (¬ (f ≡ OutOfMemory) → ring_fault position_cmp ps ≡ Some f) → f ≡ OutOfMemory
-  ring_faultless r (q, turned, h) f told =
-      only_memory (ring_fault position_cmp ps) f told (ap (ring_fault position_cmp) (is ∙ walked_stitched arcs used (closed q) h) ∙ (ring_reads r q turned).0)
+  pub ring_faultless : (r : the_ring.Ring) → IsRingOf arcs r used → ring_fault position_cmp ps ≡ None
+  ring_faultless r (q, turned, h) = ap (ring_fault position_cmp) (is ∙ walked_stitched arcs used (closed q) h) ∙ (ring_reads r q turned).0
 
   pub ring_made : (made : the_ring.Ring) → vertices_of made ≡ ring_of position_cmp ps → (r : the_ring.Ring) → IsRingOf arcs r used → made ≡ r
   ring_made made e r (q, turned, h) =

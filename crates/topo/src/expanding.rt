@@ -3,7 +3,6 @@ ghost use Rattle.std.specs.Prelude.{◌≡◌, IfOk, IsTrue, List, OnOk};
 ghost use Rattle.std.specs.FinMap.{contains_key};
 ghost use Rattle.lines.specs.declared.line.Line as the_line;
 ghost use Rattle.lines.specs.declared.ring.Ring as the_ring;
-ghost use Rattle.lines.specs.declared.shape_fault.ShapeFault.TheVariants.{OutOfMemory as WantOfMemory};
 ghost use Rattle.shapes.specs.Maps.{Layers, with_feature, with_layer};
 ghost use Rattle.shapes.specs.Parts.{spelled_text};
 ghost use Rattle.shapes.specs.declared.feature.Feature as features;
@@ -21,22 +20,11 @@ use grid::Pos;
 use lines::items::Items;
 use lines::line::Line;
 use lines::ring::Ring;
-use lines::shape_fault::ShapeFault;
 use shapes::feature::Feature;
 use shapes::feature_map::FeatureMap;
 use shapes::insert_fault::InsertFault;
 use shapes::shape::Shape;
 use std::alloc::Global;
-
-/// The only fault of positions that are those of a line or a ring.
-fn want_of_memory(fault: ShapeFault) -> OutOfMemory
-    requires { fault ≡ WantOfMemory }
-{
-    match fault {
-        ShapeFault::OutOfMemory => OutOfMemory,
-        _ => unreachable!(),
-    }
-}
 
 /// Puts a feature into a layer that is there.
 fn put(map: &mut FeatureMap, name: &str, feature: Feature) -> Result<(), OutOfMemory>
@@ -66,20 +54,14 @@ impl Topology {
         requires { (l : the_line.Line) × IsLineOf self.now.arcs.arcs l refs.now }
         ensures { IfOk result (λ made. (l : the_line.Line) → IsLineOf self.now.arcs.arcs l refs.now → made ≡ l) }
     {
-        match Line::from_positions(alloc, self.stitched(alloc, refs)?) {
-            Ok(line) => Ok(line),
-            Err(fault) => Err(want_of_memory(fault)),
-        }
+        Ok(Line::from_sound(self.stitched(alloc, refs)?))
     }
 
     fn ring(&self, alloc: Global, refs: &[ArcRef]) -> Result<Ring, OutOfMemory>
         requires { (r : the_ring.Ring) × IsRingOf self.now.arcs.arcs r refs.now }
         ensures { IfOk result (λ made. (r : the_ring.Ring) → IsRingOf self.now.arcs.arcs r refs.now → made ≡ r) }
     {
-        match Ring::from_closed(alloc, self.stitched(alloc, refs)?) {
-            Ok(ring) => Ok(ring),
-            Err(fault) => Err(want_of_memory(fault)),
-        }
+        Ok(Ring::from_sound(self.stitched(alloc, refs)?))
     }
 
     fn lines(&self, alloc: Global, lists: &[Items<ArcRef>]) -> Result<Items<Line>, OutOfMemory>

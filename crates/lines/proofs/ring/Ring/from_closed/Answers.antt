@@ -1,8 +1,7 @@
-use Rattle.std.proofs.Common.{◌∙◌, sym, ap, subst, arith}
+use Rattle.std.proofs.Common.{◌∙◌, sym, ap, arith}
 use Rattle.lines.specs.Turned.{position_cmp}
 use Rattle.lines.specs.Reading.{is_closed, repeats}
-use Rattle.lines.specs.Windows.{IsLeastStart}
-use Rattle.lines.proofs.Codes.{empty, not_empty, ring_empty, ring_open, ring_short, ring_again, ring_good, ring_by_code}
+use Rattle.lines.proofs.Codes.{empty, not_empty, ring_empty, ring_open, ring_short, ring_again, ring_good}
 use Rattle.lines.proofs.ring.Ring.from_closed.Goals as goal
 
 pub returns-then-is_empty-clause-fault : goal.returns-then-is_empty-clause-fault
@@ -27,30 +26,24 @@ returns-then-branch-clause-fault c = λ _.
     (c.if-not-is_closed.ensures ∙ ap (is_closed position_cmp) c.deref.ensures.value) (omega (arith, c.collapse.new.positions.ok.0))
     (sym c.if-branch.true ∙ c.in_ok-repeats_segment.ensures ∙ ap (repeats position_cmp) c.deref-2.ensures.value)
 
-pub invariant_of-result : goal.invariant_of-result
-invariant_of-result c =
-    let made = ring_by_code c.args.closed.items c.collapse.new.positions.items c.truncate.new.self.items c.rotate_left.new.self.items c.from_vec.result
-    c.least_start-start.result c.len-2.result c.collapse.ensures
-    (ring_good c.args.closed.items c.collapse.new.positions.items c.collapse.ensures
-    (c.if-not-is_closed.ensures ∙ ap (is_closed position_cmp) c.deref.ensures.value) (omega (arith, c.collapse.new.positions.ok.0))
-    (sym c.if-branch.false ∙ c.in_ok-repeats_segment.ensures ∙ ap (repeats position_cmp) c.deref-2.ensures.value))
-    (subst (λ l. IsLeastStart position_cmp l c.least_start-start.result) c.deref-3.ensures.value c.least_start-start.ensures)
-    (c.len-2.ensures ∙ c.collapse.new.positions.ok.0) c.truncate.ensures.items c.rotate_left.ensures.items c.from_vec.ensures in
-    record { ring = made.is_ring; least = made.least }
-
 pub returns-clause-ok : goal.returns-clause-ok
 returns-clause-ok c =
     ring_good c.args.closed.items c.collapse.new.positions.items c.collapse.ensures
     (c.if-not-is_closed.ensures ∙ ap (is_closed position_cmp) c.deref.ensures.value) (omega (arith, c.collapse.new.positions.ok.0))
     (sym c.if-branch.false ∙ c.in_ok-repeats_segment.ensures ∙ ap (repeats position_cmp) c.deref-2.ensures.value)
 
+pub turned-requires : goal.turned-requires
+turned-requires c = (
+  c.args.closed.items,
+  c.collapse.ensures,
+  ring_good c.args.closed.items c.collapse.new.positions.items c.collapse.ensures
+      (c.if-not-is_closed.ensures ∙ ap (is_closed position_cmp) c.deref.ensures.value) (omega (arith, c.collapse.new.positions.ok.0))
+      (sym c.if-branch.false ∙ c.in_ok-repeats_segment.ensures ∙ ap (repeats position_cmp) c.deref-2.ensures.value),
+)
+
 pub returns-clause-ring : goal.returns-clause-ring
 returns-clause-ring c =
-    let made = ring_by_code c.args.closed.items c.collapse.new.positions.items c.truncate.new.self.items c.rotate_left.new.self.items c.from_vec.result
-    c.least_start-start.result c.len-2.result c.collapse.ensures
+    c.turned.ensures c.args.closed.items c.collapse.ensures
     (ring_good c.args.closed.items c.collapse.new.positions.items c.collapse.ensures
     (c.if-not-is_closed.ensures ∙ ap (is_closed position_cmp) c.deref.ensures.value) (omega (arith, c.collapse.new.positions.ok.0))
     (sym c.if-branch.false ∙ c.in_ok-repeats_segment.ensures ∙ ap (repeats position_cmp) c.deref-2.ensures.value))
-    (subst (λ l. IsLeastStart position_cmp l c.least_start-start.result) c.deref-3.ensures.value c.least_start-start.ensures)
-    (c.len-2.ensures ∙ c.collapse.new.positions.ok.0) c.truncate.ensures.items c.rotate_left.ensures.items c.from_vec.ensures in
-    made.is

@@ -1,11 +1,10 @@
 use Rattle.topo.proofs.Stitched.{line_faultless, line_made}
 use Rattle.topo.proofs.topology.Topology.line.Goals as goal
 
-pub want_of_memory-requires : goal.want_of_memory-requires
-want_of_memory-requires c =
-    line_faultless c.args.self.now.arcs.arcs c.args.refs.now c.in_ok-stitched.field-0.items c.in_ok-stitched.ensures c.requires.0 c.requires.1 c.in-Err.fault
-    c.in-Err.ensures.fault
+pub from_sound-requires : goal.from_sound-requires
+from_sound-requires c =
+    line_faultless c.args.self.now.arcs.arcs c.args.refs.now c.in_ok-stitched.field-0.items c.in_ok-stitched.ensures c.requires.0 c.requires.1
 
-pub returns-in-Ok : goal.returns-in-Ok
-returns-in-Ok c = λ l h.
-    line_made c.args.self.now.arcs.arcs c.args.refs.now c.in_ok-stitched.field-0.items c.in_ok-stitched.ensures c.in-Ok.line c.in-Ok.ensures.line l h
+pub returns : goal.returns
+returns c = λ l h.
+    line_made c.args.self.now.arcs.arcs c.args.refs.now c.in_ok-stitched.field-0.items c.in_ok-stitched.ensures c.from_sound.result c.from_sound.ensures l h
