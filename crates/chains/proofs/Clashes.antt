@@ -29,7 +29,7 @@ pub record Clash (v : Pos) (ys : List Visit) : Type 0 where
   pub at_other : other.vertex ≡ v
   pub differ : ¬ (one ≡ other)
 
-visit_true : (a b : Visit) → visit_eq a b ≡ true → a ≡ b
+pub visit_true : (a b : Visit) → visit_eq a b ≡ true → a ≡ b
 visit_true a b e =
     let h = both_true (position_eq a.vertex b.vertex) (sides_eq a.sides b.sides) e in
     let p : a.vertex ≡ b.vertex = position_true a.vertex b.vertex h.0 in

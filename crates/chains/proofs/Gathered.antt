@@ -1,8 +1,8 @@
 -- The lists of ends and visits against the visits of lines and rings.
-use Rattle.std.proofs.Common.{◌≡◌, Bool, true, false, cond, List, [], ◌∷◌, ◌++◌, ◌⊎◌, inl, inr, refl, sym, ap, ◌∙◌, subst}
+use Rattle.std.proofs.Common.{◌≡◌, List, [], ◌∷◌, ◌++◌, ◌⊎◌, inl, inr, refl, sym, ap, ◌∙◌, subst}
 use Rattle.std.specs.List.Sorted.{IsPermutation, IsSortedByKey}
 use Rattle.std.proofs.lemmas.List.Sorted.{IsPermutation-sym}
-use Rattle.theory.specs.Lists.{BeginsTwo, Has, Passes, last_of, EndOf, Between, gathered}
+use Rattle.theory.specs.Lists.{Has, Passes, EndOf, Between, gathered}
 use Rattle.theory.specs.LinesAndRings.{around}
 use Rattle.theory.specs.Junction.{Visit as Seen, Visits, SameVisit}
 use Rattle.theory.specs.Junction.Visit.{end, pair}
@@ -13,7 +13,7 @@ use Rattle.theory.proofs.ListsOfLists.{Has-gathered, gathered_from}
 use Rattle.grid.specs.declared.pos.Pos.{Pos}
 use Rattle.lines.specs.Turned.{position_cmp}
 use Rattle.shapes.specs.Maps.{Layers}
-use Rattle.chains.specs.Visits.{visit_of, inner_from, inner_of, around_of, ends_of, clashes_of}
+use Rattle.chains.specs.Visits.{HaveSame, visit_of, inner_from, inner_of, around_of, ends_of, clashes_of}
 use Rattle.chains.specs.Seen.{seen, geometry_of}
 use Rattle.chains.specs.Index.{IsIndexOf, AreVisitsOf, form_ends, form_visits}
 use Rattle.chains.specs.declared.visits.Visit.{Visit}
@@ -196,9 +196,17 @@ module _ (m : Layers) where
     pairs_only = pairs_only;
   }
 
-  pub visits_are : (ends : List Pos) (visits : List Visit) → ends ≡ gathered form_ends (forms_of (seen m)) → visits ≡ gathered form_visits (forms_of (seen m)) →
+  same_visits : (ends : List Pos) (xs ys : List Visit) → HaveSame xs ys → AreVisitsOf ends ys (geometry_of m) → AreVisitsOf ends xs (geometry_of m)
+  same_visits ends xs ys s are = record {
+    ends_all = are.ends_all;
+    ends_only = are.ends_only;
+    pairs_all = λ a v b h. (s.members (visit_of a v b)).1 (are.pairs_all a v b h);
+    pairs_only = λ w h. are.pairs_only w ((s.members w).0 h);
+  }
+
+  pub visits_are : (ends : List Pos) (visits : List Visit) → ends ≡ gathered form_ends (forms_of (seen m)) → HaveSame visits (gathered form_visits (forms_of (seen m))) →
       AreVisitsOf ends visits (geometry_of m)
   unfolding forms
   visits_are ends visits e f =
-      subst (λ w. AreVisitsOf w visits (geometry_of m)) (sym e)
-      (subst (λ w. AreVisitsOf (gathered form_ends forms) w (geometry_of m)) (sym f) visits_of_map)
+      same_visits ends visits (gathered form_visits forms) f
+      (subst (λ w. AreVisitsOf w (gathered form_visits forms) (geometry_of m)) (sym e) visits_of_map)

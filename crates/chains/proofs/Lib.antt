@@ -4,6 +4,7 @@ pub mod Among
 pub mod Search
 pub mod Layers
 pub mod Clashes
+pub mod Same
 pub mod Gathered
 pub mod Oriented
 pub mod Openings

@@ -1,6 +1,6 @@
 -- The visits of lists, as a list.
-use Rattle.std.specs.Prelude.{◌≡◌, Bool, true, false, cond, not, ◌&&◌, List, [], ◌∷◌, ◌++◌}
-use Rattle.theory.specs.Lists.{last_of}
+use Rattle.std.specs.Prelude.{Bool, cond, not, ◌&&◌, ◌↔◌, List, [], ◌∷◌}
+use Rattle.theory.specs.Lists.{Has, last_of}
 use Rattle.theory.specs.LinesAndRings.{around}
 use Rattle.grid.specs.declared.pos.Pos.{Pos}
 use Rattle.chains.specs.Pairs.{position_eq, sides_eq, pair_of}
@@ -9,6 +9,10 @@ use Rattle.chains.specs.declared.visits.Visit.{Visit}
 -- whether two visits are equal
 abbrev pub visit_eq : Visit → Visit → Bool
 visit_eq a b = position_eq a.vertex b.vertex && sides_eq a.sides b.sides
+
+-- the same visits stand in two lists, however often
+pub record HaveSame (xs ys : List Visit) : Type 0 where
+  pub members : (w : Visit) → Has w xs ↔ Has w ys
 
 -- the visit of a vertex that stands between two others
 abbrev pub visit_of : Pos → Pos → Pos → Visit

@@ -1,11 +1,11 @@
 //! The index of visits: one list of visits, sorted once, of which the junctions are kept.
-ghost use Rattle.std.specs.Prelude.{◌≡◌, ◌++◌, ◌↔◌, ◌⊎◌, map as map_list, IfOk, OnOk, IsTrue};
+ghost use Rattle.std.specs.Prelude.{◌≡◌, [], ◌∷◌, ◌++◌, ◌↔◌, ◌⊎◌, map as map_list, IfOk, OnOk, IsTrue};
 ghost use Rattle.theory.specs.Geometry.{Geometry, IsSound, JunctionOf, SegmentOf};
 ghost use Rattle.theory.specs.Segments.{OnThree};
 ghost use Rattle.theory.specs.Lists.{gathered, joined};
 ghost use Rattle.grid.specs.declared.pos.Pos.{Pos};
 ghost use Rattle.chains.specs.Pairs.{among, pair_of};
-ghost use Rattle.chains.specs.Visits.{visit_of, inner_of, ends_of, around_of, clash, clashes_of};
+ghost use Rattle.chains.specs.Visits.{visit_of, inner_of, ends_of, around_of, clash, clashes_of, HaveSame};
 ghost use Rattle.chains.specs.Seen.{line_of, ring_of, form_of, geometry_of};
 ghost use Rattle.chains.specs.Index.{IsIndexOf, EndsALine, AreVisitsOf, feature_ends, feature_visits, form_ends, form_visits, layer_ends, layer_visits};
 ghost use Rattle.shapes.specs.Maps.{set_of};
@@ -65,17 +65,40 @@ fn visit_between(before: Pos, here: Pos, next: Pos) -> Visit
     }
 }
 
+/// The number of places in the table of recent visits.
+const RECENT: usize = 65536;
+
 /// What lines and rings are seen to visit: the ends of the lines apart from the other visits.
 #[derive(Drop)]
 struct Seen {
     ends: Vec<Pos>,
     visits: Vec<Visit>,
+    /// Where a visit was noted not long ago, by its vertex. It is only a hint: most visits of a map
+    /// whose rings share borders come twice, a short time apart, and the second is found here.
+    recent: Vec<usize>,
 }
 
 impl Seen {
+    /// Notes a visit, unless an equal one stands where the table of recent visits points.
+    fn note(&mut self, visit: Visit) -> Result<(), AllocError>
+        ensures ends { self.new.ends.items ≡ self.old.ends.items }
+        ensures visits { OnOk result (HaveSame self.new.visits.items (self.old.visits.items ++ visit ∷ [])) }
+    {
+        if let Some(place) = self.recent.get_mut(slot(visit.vertex) % RECENT) {
+            if let Some(noted) = self.visits.get(*place) {
+                if *noted == visit {
+                    return Ok(());
+                }
+            }
+            *place = self.visits.len();
+        }
+        self.visits.push(visit)?;
+        Ok(())
+    }
+
     fn see_line(&mut self, line: &[Pos]) -> Result<(), AllocError>
         ensures ends { OnOk result (self.new.ends.items ≡ self.old.ends.items ++ ends_of line.now) }
-        ensures visits { OnOk result (self.new.visits.items ≡ self.old.visits.items ++ inner_of line.now) }
+        ensures visits { OnOk result (HaveSame self.new.visits.items (self.old.visits.items ++ inner_of line.now)) }
     {
         let Some((first, others)) = line.split_first() else {
             return Ok(());
@@ -87,7 +110,7 @@ impl Seen {
         let mut before = *first;
         let mut here = *second;
         for next in rest {
-            self.visits.push(visit_between(before, here, *next))?;
+            self.note(visit_between(before, here, *next))?;
             before = here;
             here = *next;
         }
@@ -97,7 +120,7 @@ impl Seen {
 
     fn see_ring(&mut self, ring: &[Pos]) -> Result<(), AllocError>
         ensures ends { OnOk result (self.new.ends.items ≡ self.old.ends.items) }
-        ensures visits { OnOk result (self.new.visits.items ≡ self.old.visits.items ++ around_of ring.now) }
+        ensures visits { OnOk result (HaveSame self.new.visits.items (self.old.visits.items ++ around_of ring.now)) }
     {
         let Some((first, others)) = ring.split_first() else {
             return Ok(());
@@ -108,18 +131,18 @@ impl Seen {
         let mut before = *first;
         let mut here = *second;
         for next in rest {
-            self.visits.push(visit_between(before, here, *next))?;
+            self.note(visit_between(before, here, *next))?;
             before = here;
             here = *next;
         }
-        self.visits.push(visit_between(before, here, *first))?;
-        self.visits.push(visit_between(here, *first, *second))?;
+        self.note(visit_between(before, here, *first))?;
+        self.note(visit_between(here, *first, *second))?;
         Ok(())
     }
 
     fn see_lines(&mut self, lines: &[Line]) -> Result<(), AllocError>
         ensures ends { OnOk result (self.new.ends.items ≡ self.old.ends.items ++ gathered ends_of (map_list line_of lines.now)) }
-        ensures visits { OnOk result (self.new.visits.items ≡ self.old.visits.items ++ gathered inner_of (map_list line_of lines.now)) }
+        ensures visits { OnOk result (HaveSame self.new.visits.items (self.old.visits.items ++ gathered inner_of (map_list line_of lines.now))) }
     {
         for line in lines {
             self.see_line(line.positions())?;
@@ -129,7 +152,7 @@ impl Seen {
 
     fn see_rings(&mut self, rings: &[Ring]) -> Result<(), AllocError>
         ensures ends { OnOk result (self.new.ends.items ≡ self.old.ends.items) }
-        ensures visits { OnOk result (self.new.visits.items ≡ self.old.visits.items ++ gathered around_of (map_list ring_of rings.now)) }
+        ensures visits { OnOk result (HaveSame self.new.visits.items (self.old.visits.items ++ gathered around_of (map_list ring_of rings.now))) }
     {
         for ring in rings {
             self.see_ring(ring.vertices())?;
@@ -139,7 +162,7 @@ impl Seen {
 
     fn see_polygons(&mut self, polygons: &[Items<Ring>]) -> Result<(), AllocError>
         ensures ends { OnOk result (self.new.ends.items ≡ self.old.ends.items) }
-        ensures visits { OnOk result (self.new.visits.items ≡ self.old.visits.items ++ gathered around_of (joined (map_list (map_list ring_of) polygons.now))) }
+        ensures visits { OnOk result (HaveSame self.new.visits.items (self.old.visits.items ++ gathered around_of (joined (map_list (map_list ring_of) polygons.now)))) }
     {
         for rings in polygons {
             self.see_rings(rings.as_slice())?;
@@ -149,7 +172,7 @@ impl Seen {
 
     fn see_shape(&mut self, shape: &Shape) -> Result<(), AllocError>
         ensures ends { OnOk result (self.new.ends.items ≡ self.old.ends.items ++ form_ends (form_of shape.now)) }
-        ensures visits { OnOk result (self.new.visits.items ≡ self.old.visits.items ++ form_visits (form_of shape.now)) }
+        ensures visits { OnOk result (HaveSame self.new.visits.items (self.old.visits.items ++ form_visits (form_of shape.now))) }
     {
         match shape {
             Shape::Null | Shape::Point(_) | Shape::MultiPoint(_) => Ok(()),
@@ -162,7 +185,7 @@ impl Seen {
 
     fn see_features(&mut self, features: &BTreeSet<Feature>) -> Result<(), AllocError>
         ensures ends { OnOk result (self.new.ends.items ≡ self.old.ends.items ++ gathered feature_ends (set.items (set_of features.now))) }
-        ensures visits { OnOk result (self.new.visits.items ≡ self.old.visits.items ++ gathered feature_visits (set.items (set_of features.now))) }
+        ensures visits { OnOk result (HaveSame self.new.visits.items (self.old.visits.items ++ gathered feature_visits (set.items (set_of features.now)))) }
     {
         for feature in features.iter() {
             self.see_shape(&feature.shape)?;
@@ -172,7 +195,7 @@ impl Seen {
 
     fn see_layer(&mut self, map: &FeatureMap, name: &str) -> Result<(), AllocError>
         ensures ends { OnOk result (self.new.ends.items ≡ self.old.ends.items ++ layer_ends map.now name.now) }
-        ensures visits { OnOk result (self.new.visits.items ≡ self.old.visits.items ++ layer_visits map.now name.now) }
+        ensures visits { OnOk result (HaveSame self.new.visits.items (self.old.visits.items ++ layer_visits map.now name.now)) }
     {
         match map.layer(name) {
             Some(features) => self.see_features(features),
@@ -182,7 +205,7 @@ impl Seen {
 
     fn see_layers(&mut self, map: &FeatureMap, names: &[&Spelled]) -> Result<(), AllocError>
         ensures ends { OnOk result (self.new.ends.items ≡ self.old.ends.items ++ gathered (layer_ends map.now) (map_list (λ s. spelled_text s.now) names.now)) }
-        ensures visits { OnOk result (self.new.visits.items ≡ self.old.visits.items ++ gathered (layer_visits map.now) (map_list (λ s. spelled_text s.now) names.now)) }
+        ensures visits { OnOk result (HaveSame self.new.visits.items (self.old.visits.items ++ gathered (layer_visits map.now) (map_list (λ s. spelled_text s.now) names.now))) }
     {
         for name in names {
             self.see_layer(map, name.text())?;
@@ -241,7 +264,7 @@ impl VisitIndex {
     fn of_seen(alloc: Global, seen: Seen) -> Result<VisitIndex, AllocError>
         ensures { IfOk result (λ i. (g : Geometry Pos) → AreVisitsOf seen.ends.items seen.visits.items g → IsIndexOf i g) }
     {
-        let Seen { ends, visits } = seen;
+        let Seen { ends, visits, .. } = seen;
         let mut sorted_visits = visits;
         sorted_visits.sort_unstable_by_key(|v| v.vertex);
         let mut junctions = ends;
@@ -258,6 +281,7 @@ impl VisitIndex {
         let mut seen = Seen {
             ends: Vec::new(alloc),
             visits: Vec::new(alloc),
+            recent: vec![in alloc; 0; RECENT]?,
         };
         let names = map.names()?;
         seen.see_layers(map, &names)?;

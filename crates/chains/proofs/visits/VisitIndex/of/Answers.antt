@@ -4,6 +4,7 @@ use Rattle.shapes.specs.Parts.{spelled_text}
 use Rattle.chains.specs.Seen.{geometry_of}
 use Rattle.chains.specs.Index.{layer_ends, layer_visits, form_ends, form_visits}
 use Rattle.chains.proofs.Gathered.{visits_are}
+use Rattle.chains.proofs.Same.{same_equal, same_trans}
 use Rattle.chains.proofs.Layers.{of_names}
 use Rattle.chains.proofs.visits.VisitIndex.of.Goals as goal
 
@@ -15,6 +16,6 @@ returns c =
     (c.in_ok-see_layers.ensures.ends
     ∙ (λ i. c.new.ensures.items i ++ gathered (layer_ends m) (map (λ s. spelled_text s.now) (c.deref.ensures.value i)))
     ∙ ap (gathered (layer_ends m)) c.in_ok-names.ensures ∙ of_names form_ends m)
-    (c.in_ok-see_layers.ensures.visits
-    ∙ (λ i. c.new-2.ensures.items i ++ gathered (layer_visits m) (map (λ s. spelled_text s.now) (c.deref.ensures.value i)))
-    ∙ ap (gathered (layer_visits m)) c.in_ok-names.ensures ∙ of_names form_visits m))
+    (same_trans c.in_ok-see_layers.ensures.visits (same_equal
+    ((λ i. c.new-2.ensures.items i ++ gathered (layer_visits m) (map (λ s. spelled_text s.now) (c.deref.ensures.value i)))
+    ∙ ap (gathered (layer_visits m)) c.in_ok-names.ensures ∙ of_names form_visits m))))
