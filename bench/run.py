@@ -11,13 +11,12 @@ merges of shards, in several orders and shapes, with the build of the whole, byt
 """
 
 import argparse
+import filecmp
 import os
 import random
 import subprocess
 import sys
 import tempfile
-
-import generate
 
 TOP = os.path.dirname(os.path.dirname(os.path.abspath(__file__)))
 TOOL = os.path.join(TOP, "crates", "topotool", "out", "topotool")
@@ -25,6 +24,7 @@ VALUE = os.path.join(TOP, "crates", "value_alone", "out", "value_alone")
 FEATURES = os.path.join(TOP, "crates", "features_alone", "out", "features_alone")
 SHARDS = 16
 GRID = ["--grid", "1,1,0,0"]
+GENERATE = os.path.join(os.path.dirname(os.path.abspath(__file__)), "generate.py")
 
 
 class Measure:
@@ -46,17 +46,32 @@ def run_once(words, out):
     return Measure(usage.ru_utime + usage.ru_stime, usage.ru_maxrss / 1024)
 
 
-def measure(words, out, runs):
+def least(measures):
     """The least time and the greatest memory of some runs."""
-    measures = [run_once(words, out) for _ in range(runs)]
     return Measure(
         min(each.seconds for each in measures), max(each.megabytes for each in measures)
     )
 
 
+def measure_both(command, value, out, runs):
+    """Runs two programs by turns, so that both meet the same hours of a shared machine."""
+    pairs = [(run_once(command, out), run_once(value, out)) for _ in range(runs)]
+    return least([pair[0] for pair in pairs]), least([pair[1] for pair in pairs])
+
+
+def write_tiling(folder, positions, seed):
+    """Writes a tiling and its shards, and answers how many positions it has.
+
+    Another process makes it: a measured program's peak memory counts from its parent's.
+    """
+    words = [sys.executable, GENERATE, folder, "--positions", str(positions), "--seed", str(seed)]
+    words += ["--shards", str(SHARDS)]
+    told = subprocess.run(words, check=True, capture_output=True, text=True).stdout
+    return int(told.split()[0])
+
+
 def same_bytes(left, right):
-    with open(left, "rb") as first, open(right, "rb") as second:
-        return first.read() == second.read()
+    return filecmp.cmp(left, right, shallow=False)
 
 
 def make_topologies(folder):
@@ -102,14 +117,13 @@ def commands(folder, whole, shards):
 
 def measure_size(folder, positions, seed, runs):
     """Measures each command at one size: title, of the command and of the values."""
-    count = generate.write_tiling(folder, positions, seed, SHARDS)
+    count = write_tiling(folder, positions, seed)
     whole, shards = make_topologies(folder)
     compare_merges(folder, whole, shards, seed)
     out = os.path.join(folder, "out")
     results = []
     for title, words, files in commands(folder, whole, shards):
-        value = measure([VALUE, *files], out, runs)
-        command = measure(words, out, runs)
+        command, value = measure_both(words, [VALUE, *files], out, runs)
         results.append((title, command, value))
     return count, results
 
@@ -132,7 +146,7 @@ def main():
     parser = argparse.ArgumentParser(description="Measures the command on tilings of districts.")
     parser.add_argument("--positions", type=int, default=1_000_000)
     parser.add_argument("--seed", type=int, default=1)
-    parser.add_argument("--runs", type=int, default=3)
+    parser.add_argument("--runs", type=int, default=5)
     words = parser.parse_args()
     sizes = []
     for positions in [words.positions, 2 * words.positions]:

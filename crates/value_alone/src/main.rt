@@ -1,5 +1,5 @@
-//! Reads files as JSON values, one after the other, and gives them up: what the measurements of
-//! `bench` compare the command with.
+//! Reads files as JSON values, and holds them all: what the measurements of `bench` compare the
+//! command with.
 #![tactic(auto)]
 
 use serde_json::Value;
@@ -8,9 +8,13 @@ use std::{env, fs, io};
 
 /// Reads each file that the words name.
 fn read_all(rt: &HostRuntime) -> io::Result<bool> {
+    let mut values = Vec::new(rt.alloc());
     for name in env::args(rt)?.skip(1) {
         let bytes = fs::read(rt, name.as_str())?;
-        if Value::from_slice(rt.alloc(), bytes.as_slice()).is_err() {
+        let Ok(value) = Value::from_slice(rt.alloc(), bytes.as_slice()) else {
+            return Ok(false);
+        };
+        if values.push(value).is_err() {
             return Ok(false);
         }
     }
