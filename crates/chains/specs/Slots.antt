@@ -7,7 +7,7 @@ use Rattle.chains.specs.Pairs.{among}
 
 -- the slot of a position
 abbrev pub slot_of : Pos → ℕ
-slot_of p = (unsigned_abs p.x * 31 + unsigned_abs p.y) % 262144
+slot_of p = (unsigned_abs p.x * 31 + unsigned_abs p.y) % 1048576
 
 -- where a position's slot holds none of the list, the position is none of it
 abbrev pub AreSlotsOf : List Bool → List Pos → Type 0

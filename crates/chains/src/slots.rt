@@ -6,14 +6,14 @@ use grid::pos::Pos;
 use std::alloc::{AllocError, Global};
 
 /// The number of slots that positions are dealt to.
-const SLOTS: usize = 262144;
+const SLOTS: usize = 1048576;
 
 /// The slot of a position. Most positions near one another have different ones.
 pub(crate) fn slot(p: Pos) -> usize
     ensures slot { result ≡ slot_of p }
-    ensures below { result < 262144 }
+    ensures below { result < 1048576 }
 {
-    ((p.x().unsigned_abs() * 31 + p.y().unsigned_abs()) % 262144) as usize
+    ((p.x().unsigned_abs() * 31 + p.y().unsigned_abs()) % 1048576) as usize
 }
 
 /// Which slots hold some of the positions.

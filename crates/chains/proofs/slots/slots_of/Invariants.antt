@@ -6,6 +6,6 @@ use Rattle.chains.proofs.slots.slots_of.Given as goal
 
 abbrev pub invariant-loop-position : goal.invariant-loop-position
 invariant-loop-position l = record {
-  count : length l.slots.items ≡ 262144;
+  count : length l.slots.items ≡ 1048576;
   dealt : (p : Pos) → get_or l.slots.items (slot_of p) true ≡ false → among l.fn.positions p ≡ among (drop l.position-index l.positions) p;
 }
