@@ -1,9 +1,9 @@
 -- The computed answer says what the relations say.
-use Rattle.std.proofs.Common.{◌≡◌, ◌≤◌, ℕ, zero, suc, ℤ, pos, negsuc, ◌+ℤ◌, ◌-ℤ◌, ◌*ℤ◌, ◌≤ℤ◌, ◌&&◌, Bool, true, false, nat_eq, int_le, int_div, int_rem, refl, sym, ap, ◌∙◌, ◌↔◌, IsTrue, arith, rules}
+use Rattle.std.proofs.Common.{◌≡◌, ℕ, zero, suc, ℤ, pos, negsuc, ◌-ℤ◌, ◌*ℤ◌, ◌≤ℤ◌, ◌&&◌, Bool, true, false, nat_eq, int_le, int_div, int_rem, refl, sym, ap, ◌∙◌, ◌↔◌, IsTrue, arith, rules}
 use Rattle.std.specs.Prelude.{Result, Ok, Err, IfOk, IfErr, unsigned_abs}
 use Rattle.std.proofs.lemmas.Int.{ints}
 use Rattle.std.proofs.lemmas.Bool.Decides.{nat_tests}
-use Rattle.grid.specs.Place.{Scaling, IsScaling, IsScale, IsGridNumber, IsAbsolute, IsMultiple, IsOnGrid, IsNumberOf, IsBeyond, FitsAxis, absolute}
+use Rattle.grid.specs.Place.{Scaling, IsScaling, IsGridNumber, IsAbsolute, IsMultiple, IsOnGrid, IsNumberOf, IsBeyond, FitsAxis, absolute}
 use Rattle.grid.specs.Fault.{IsAxisFault}
 use Rattle.grid.specs.Computed.{divides, is_grid_number, is_absolute, fits_axis, number_by, axis_number}
 use Rattle.grid.specs.declared.transform.AxisFault.{AxisFault}

@@ -1,11 +1,11 @@
 -- Positions by their two numbers.
-use Rattle.std.proofs.Common.{◌≡◌, ℕ, ℤ, ◌↔◌, refl, sym, ap, ◌∙◌, inl, inr}
-use Rattle.std.specs.Prelude.{Result, Ok, Err, IfOk, IfErr, IsErrOf}
+use Rattle.std.proofs.Common.{◌≡◌, ℤ, ◌↔◌, sym, ap, ◌∙◌, inl, inr}
+use Rattle.std.specs.Prelude.{Result, Ok, Err, IsErrOf}
 use mathlib.Core.HLevel.{is_prop→PathP}
 use Rattle.grid.specs.Place.{Scaling, Transform, IsGridNumber, IsGridNumber-prop, IsOnGrid, IsNumberOf, IsBeyond, absolute}
-use Rattle.grid.specs.Fits.{absolute_place, IsPlaceOf}
+use Rattle.grid.specs.Fits.{IsPlaceOf}
 use Rattle.grid.specs.Fault.{IsAxisFault, IsPlaceFault, at_element}
-use Rattle.grid.specs.Computed.{axis_number, both_numbers, place_numbers, numbers_of}
+use Rattle.grid.specs.Computed.{axis_number, both_numbers, place_numbers}
 use Rattle.grid.specs.declared.pos.Pos.{Pos}
 use Rattle.grid.specs.declared.transform.AxisFault.{AxisFault}
 use Rattle.grid.specs.declared.transform.AxisFault.TheVariants.{OffGrid, OutOfRange}

@@ -1,8 +1,8 @@
 -- What a quotient, a fault and a found number say of grid numbers and positions.
-use Rattle.std.proofs.Common.{◌≡◌, ◌≤◌, ℕ, ℤ, pos, ◌+ℤ◌, ◌-ℤ◌, ◌*ℤ◌, ◌≤ℤ◌, ◌↔◌, int_div, refl, sym, ap, ◌∙◌, arith, inl, inr}
+use Rattle.std.proofs.Common.{◌≡◌, ℤ, ◌+ℤ◌, ◌-ℤ◌, ◌*ℤ◌, ◌↔◌, int_div, refl, sym, ap, ◌∙◌, arith}
 use Rattle.std.specs.Prelude.{Result, Ok, Err, IfOk, IfErr, IsErrOf}
 use Rattle.std.proofs.lemmas.Int.{ints}
-use Rattle.grid.specs.Place.{Scaling, IsScaling, IsScale, IsGridNumber, IsAbsolute, IsMultiple, IsOnGrid, IsNumberOf, IsBeyond, FitsAxis, absolute}
+use Rattle.grid.specs.Place.{Scaling, IsScaling, IsScale, IsGridNumber, IsAbsolute, IsMultiple, IsOnGrid, IsNumberOf, IsBeyond, absolute}
 use Rattle.grid.specs.Fault.{IsAxisFault}
 use Rattle.grid.specs.declared.transform.AxisFault.{AxisFault}
 use Rattle.grid.specs.declared.transform.AxisFault.TheVariants.{OffGrid, OutOfRange}

@@ -1,5 +1,5 @@
 -- The grid number of an absolute number, computed: what readers list.
-use Rattle.std.specs.Prelude.{◌≡◌, ℕ, ℤ, pos, negsuc, ◌-ℤ◌, ◌&&◌, Bool, true, false, Result, Ok, Err, nat_eq, int_le, int_div, int_rem, unsigned_abs}
+use Rattle.std.specs.Prelude.{ℤ, pos, negsuc, ◌-ℤ◌, ◌&&◌, Bool, true, false, Result, Ok, Err, nat_eq, int_le, int_div, int_rem, unsigned_abs}
 use Rattle.grid.specs.Place.{Scaling, Transform, absolute}
 use Rattle.grid.specs.Fault.{at_element}
 use Rattle.grid.specs.declared.pos.Pos.{Pos}

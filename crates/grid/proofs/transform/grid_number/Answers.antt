@@ -1,6 +1,6 @@
-use Rattle.std.proofs.Common.{◌≡◌, IsTrue, Bool, true, false, ℤ, ◌-ℤ◌, ◌*ℤ◌, FitsSigned, w64, refl, rules, arith, ◌∙◌, int_div, int_rem, pos}
-use Rattle.std.proofs.lemmas.Int.{ints, to_z-of_z}
-use Rattle.grid.specs.Place.{Scaling, IsMultiple, IsGridNumber, IsAbsolute, IsNumberOf, scaling}
+use Rattle.std.proofs.Common.{◌≡◌, IsTrue, Bool, true, false, FitsSigned, w64, rules}
+use Rattle.std.proofs.lemmas.Int.{to_z-of_z}
+use Rattle.grid.specs.Place.{Scaling, scaling}
 use Rattle.grid.proofs.Places.{number_of_product, product_of_offset}
 use Rattle.grid.proofs.transform.grid_number.Goals as goal
 

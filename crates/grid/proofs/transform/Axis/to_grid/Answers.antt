@@ -1,6 +1,6 @@
-use Rattle.std.proofs.Common.{◌≡◌, ℤ, FitsSigned, w64, rules, sym}
+use Rattle.std.proofs.Common.{FitsSigned, w64, rules}
 use Rattle.std.proofs.lemmas.Int.{to_z-of_z}
-use Rattle.grid.specs.Place.{Scaling, IsScaling, scaling}
+use Rattle.grid.specs.Place.{Scaling, scaling}
 use Rattle.grid.proofs.Places.{exact_number, exact_off_grid, exact_out_of_range}
 use Rattle.grid.proofs.Judged.{answer_computed}
 use Rattle.grid.proofs.transform.Axis.to_grid.Goals as goal

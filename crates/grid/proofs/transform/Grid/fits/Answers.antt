@@ -1,7 +1,5 @@
-use Rattle.std.proofs.Common.{◌≡◌, ℤ, IsTrue, FitsSigned, w64, rules, ap, sym}
+use Rattle.std.proofs.Common.{FitsSigned, w64, rules}
 use Rattle.std.proofs.lemmas.Int.{to_z-of_z}
-use Rattle.grid.specs.Place.{FitsAxis}
-use Rattle.grid.specs.Fits.{Fits}
 use Rattle.grid.proofs.transform.Grid.fits.Goals as goal
 
 pub returns-then-fits : goal.returns-then-fits

@@ -1,4 +1,4 @@
-use Rattle.std.proofs.Common.{◌≡◌, refl, rules, IsSome, ℤ, FitsSigned, w64}
+use Rattle.std.proofs.Common.{refl, rules, FitsSigned, w64}
 use Rattle.std.proofs.lemmas.Int.{to_z-of_z}
 use Rattle.grid.proofs.transform.Grid.new.Goals as goal
 

@@ -1,4 +1,4 @@
-use Rattle.std.proofs.Common.{◌≡◌, ℤ, FitsSigned, w64, refl, rules, sym}
+use Rattle.std.proofs.Common.{FitsSigned, w64, rules}
 use Rattle.std.proofs.lemmas.Int.{to_z-of_z}
 use Rattle.grid.specs.Place.{Transform, transform}
 use Rattle.grid.proofs.Pairs.{Answers, x_exact, x_fault, y_exact, y_fault, both_exact, inside}

@@ -1,6 +1,4 @@
-use Rattle.std.proofs.Common.{◌≡◌, ◌∙◌, List, length, ap, subst, sym, arith, None}
-use Rattle.grid.specs.declared.pos.Pos.{Pos}
-use Rattle.lines.specs.Reading.{collapsed, ring_fault}
+use Rattle.std.proofs.Common.{◌∙◌, length, ap, subst, arith}
 use Rattle.lines.specs.Turned.{position_cmp}
 use Rattle.lines.specs.Windows.{IsLeastStart}
 use Rattle.lines.proofs.Codes.{ring_by_code, ring_long}
