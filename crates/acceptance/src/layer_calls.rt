@@ -1,7 +1,10 @@
-//! `write_layer` and `feature`, called on topologies.
+//! `write_layer`, `feature`, `mesh`, `neighbors` and the writers of their answers, called on topologies.
 use crate::harness::build;
 use crate::inputs::{BOW_TIE_TOPOLOGY, EMPTY, SHARED_EDGE, SQUARES};
-use query::{LayerFault, QueryFault, feature, write_layer};
+use query::{
+    LayerFault, QueryFault, feature, mesh, neighbors, write_layer, write_mesh, write_neighbors,
+};
+use shapes::Feature;
 use sinks::{Answer, Kept, Script};
 use std::alloc::{AllocError, Global};
 use std::test::Fail;
@@ -14,6 +17,10 @@ const SQUARES_PRINTED: &str =
 /// A ring whose list of arcs begins at (1,1), which it visits twice.
 const BOW_TIE_PRINTED: &str =
     r#"{"features":[{"geometry":{"coordinates":[[[0,0],[2,0],[1,1],[0,2],[2,2],[1,1],[0,0]]],"type":"Polygon"},"properties":{},"type":"Feature"}],"type":"FeatureCollection"}"#;
+
+/// The borders of the two squares, each stretch once.
+const SQUARES_BORDERS: &str =
+    r#"{"coordinates":[[[1,0],[0,0],[0,1],[1,1]],[[1,0],[1,1]],[[1,0],[2,0],[2,1],[1,1]]],"type":"MultiLineString"}"#;
 
 /// A collection without features.
 const NOTHING_PRINTED: &str = r#"{"features":[],"type":"FeatureCollection"}"#;
@@ -73,6 +80,35 @@ fn what_is_built_expands_prints_and_builds_again(rt: HostRuntime) -> Result<(), 
         "built again",
         SHARED_EDGE,
     );
+    Ok(())
+}
+
+#[test]
+fn borders_are_written_in_the_order_of_the_mesh(rt: HostRuntime) -> Result<(), Fail> {
+    let topology = topology(rt.alloc(), SHARED_EDGE)?;
+    let lines = mesh(
+        rt.alloc(),
+        &topology,
+        Some("a"),
+        |_: &Feature, _: &Feature| true,
+    )
+    .ok()
+    .expect(&rt, "a mesh");
+    let mut written = Kept::new(rt.alloc());
+    assert_eq!(rt; write_mesh(&topology.grid(), &lines, &mut written), Ok(()));
+    assert_eq!(rt; written.into_bytes().as_slice(), SQUARES_BORDERS.as_bytes());
+    Ok(())
+}
+
+#[test]
+fn neighbors_are_written_feature_by_feature(rt: HostRuntime) -> Result<(), Fail> {
+    let topology = topology(rt.alloc(), SHARED_EDGE)?;
+    let lists = neighbors(rt.alloc(), &topology, "a")
+        .ok()
+        .expect(&rt, "lists");
+    let mut written = Kept::new(rt.alloc());
+    assert_eq!(rt; write_neighbors(lists.as_slice(), &mut written), Ok(()));
+    assert_eq!(rt; written.into_bytes().as_slice(), b"[[1],[0]]".as_slice());
     Ok(())
 }
 

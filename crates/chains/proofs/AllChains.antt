@@ -18,7 +18,7 @@ use Rattle.lines.specs.Turned.{position_cmp, list_cmp}
 use Rattle.chains.specs.Pairs.{among, Tells}
 use Rattle.chains.specs.Pieces.{is_backwards_less, least_direction, oriented, chain_of}
 use Rattle.chains.specs.Arcs.{Arcs}
-use Rattle.chains.specs.Table.{AreSeamsOf}
+use Rattle.chains.specs.Table.{AreLoopsOf}
 use Rattle.chains.specs.Joined.{SegmentsOf, StopAt, MeetsTwo, IsChainOver, AreAllChains, AreMaximal}
 use Rattle.chains.specs.declared.segment.Segment.{Segment}
 use Rattle.chains.specs.declared.cutting.Piece.{Piece}
@@ -92,7 +92,7 @@ module _ (segs : List Segment) (keys : List Pos) (ok : MeetsTwo segs keys) where
 
   -- the table of all chains
   pub all_maximal : (ds : List (List Pos)) (ps : List Piece) (t : Arcs) → AreAllChains segs keys ds → ps ≡ map (oriented (among keys)) ds →
-      AreSortedOnce list_cmp (map chain_of ps) t.arcs → AreSeamsOf ps t.seams → AreMaximal segs keys t
+      AreSortedOnce list_cmp (map chain_of ps) t.arcs → AreLoopsOf ps t.loops → AreMaximal segs keys t
   all_maximal ds ps t a e s m = record {
     ascends = s.ascends;
     only = λ c h.
@@ -110,7 +110,7 @@ module _ (segs : List Segment) (keys : List Pos) (ok : MeetsTwo segs keys) where
         ] in
         s.there c (subst (λ w. Has c (map chain_of w)) (sym e) (subst (λ w. Has w (map chain_of (map (oriented (among keys)) ds))) (sym n)
         (Has-map chain_of (map (oriented (among keys)) ds) (oriented (among keys) d.0) (Has-map (oriented (among keys)) ds d.0 d.1))));
-    free = all_marked (SegmentsOf segs) (StopAt keys) (AtMost position_cmp) ps t good m s.only;
+    free = all_marked (StopAt keys) ps t good m s.only;
   }
     where
       origin : (c : List Pos) → Has c (map chain_of ps) → (d : List Pos) × Has d ds × (c ≡ least_direction d)
@@ -119,11 +119,8 @@ module _ (segs : List Segment) (keys : List Pos) (ok : MeetsTwo segs keys) where
           let d = map_has (oriented (among keys)) ds p.0 (subst (Has p.0) e p.1) in
           (d.0, d.1, p.2 ∙ ap chain_of d.2)
 
-      good : (p : Piece) → Has p ps → IsChainOver segs keys p.chain × Tells p.free (Free (StopAt keys) p.chain)
+      good : (p : Piece) → Has p ps → Tells p.free (Free (StopAt keys) p.chain)
       good p h =
           let d = map_has (oriented (among keys)) ds p (subst (Has p) e h) in
-          let k = a.chains d.0 d.1 in
-          subst (λ w. IsChainOver segs keys w.chain × Tells w.free (Free (StopAt keys) w.chain)) (sym d.2) (
-            least_chain d.0 k,
-            marked (SegmentsOf segs) (StopAt keys) (AtMost position_cmp) (among keys) (λ v f. f) (λ v f g. true_false (among keys v) g f) d.0 k,
-          )
+          subst (λ w. Tells w.free (Free (StopAt keys) w.chain)) (sym d.2)
+          (marked (SegmentsOf segs) (StopAt keys) (AtMost position_cmp) (among keys) (λ v f. f) (λ v f g. true_false (among keys v) g f) d.0 (a.chains d.0 d.1))

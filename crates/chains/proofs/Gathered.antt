@@ -14,6 +14,7 @@ use Rattle.grid.specs.declared.pos.Pos.{Pos}
 use Rattle.lines.specs.Turned.{position_cmp}
 use Rattle.shapes.specs.Maps.{Layers}
 use Rattle.chains.specs.Visits.{HaveSame, visit_of, inner_from, inner_of, around_of, ends_of, clashes_of}
+use Rattle.chains.specs.Crowds.{KeepsClashes}
 use Rattle.chains.specs.Seen.{seen, geometry_of}
 use Rattle.chains.specs.Index.{IsIndexOf, AreVisitsOf, form_ends, form_visits}
 use Rattle.chains.specs.declared.visits.Visit.{Visit}
@@ -21,14 +22,14 @@ use Rattle.chains.proofs.SortedLists.{Has-permutation, up_from_sorted}
 use Rattle.chains.proofs.Equality.{pair_same, pair_flip}
 use Rattle.chains.proofs.Clashes.{Clash, visit_cmp, visit_total, clash_from_sorted, sorted_from_clash}
 
-ends_has : (v : Pos) (l : List Pos) → EndOf v l → Has v (ends_of l)
+pub ends_has : (v : Pos) (l : List Pos) → EndOf v l → Has v (ends_of l)
 ends_has v [] h = absurd h
 ends_has v (x ∷ []) (inl e) = inl e
 ends_has v (x ∷ []) (inr e) = inl e
 ends_has v (x ∷ (y ∷ r)) (inl e) = inl e
 ends_has v (x ∷ (y ∷ r)) (inr e) = inr (inl e)
 
-has_ends : (v : Pos) (l : List Pos) → Has v (ends_of l) → EndOf v l
+pub has_ends : (v : Pos) (l : List Pos) → Has v (ends_of l) → EndOf v l
 has_ends v [] h = absurd h
 has_ends v (x ∷ []) (inl e) = inl e
 has_ends v (x ∷ []) (inr h) = absurd h
@@ -55,16 +56,16 @@ passes_has a v b (x ∷ []) (inl h) = absurd h.1
 passes_has a v b (x ∷ []) (inr h) = absurd h
 passes_has a v b (x ∷ (y ∷ r)) h = passes_from a v b x y r h
 
-between_has : (a v b : Pos) (l : List Pos) → Between a v b l → Has (visit_of a v b) (inner_of l)
+pub between_has : (a v b : Pos) (l : List Pos) → Between a v b l → Has (visit_of a v b) (inner_of l)
 between_has a v b l (inl h) = passes_has a v b l h
 between_has a v b l (inr h) = subst (λ w. Has w (inner_of l)) (visit_flip b v a) (passes_has b v a l h)
 
 -- a visit that stands in a list
-record Found (w : Visit) (l : List Pos) : Type 0 where
-  before : Pos
-  next : Pos
-  is : w ≡ visit_of before w.vertex next
-  there : Passes before w.vertex next l
+pub record Found (w : Visit) (l : List Pos) : Type 0 where
+  pub before : Pos
+  pub next : Pos
+  pub is : w ≡ visit_of before w.vertex next
+  pub there : Passes before w.vertex next l
 
 found_from : (w : Visit) (x y : Pos) (r : List Pos) → Has w (inner_from x y r) → Found w (x ∷ (y ∷ r))
 found_from w x y [] h = absurd h
@@ -74,7 +75,7 @@ found_from w x y (z ∷ r) (inl e) =
 found_from w x y (z ∷ r) (inr h) =
     let t = found_from w y z r h in record { before = t.before; next = t.next; is = t.is; there = inr t.there }
 
-found_in : (w : Visit) (l : List Pos) → Has w (inner_of l) → Found w l
+pub found_in : (w : Visit) (l : List Pos) → Has w (inner_of l) → Found w l
 found_in w [] h = absurd h
 found_in w (x ∷ []) h = absurd h
 found_in w (x ∷ (y ∷ r)) h = found_from w x y r h
@@ -125,23 +126,46 @@ clash_moved v xs ys p c = record {
   differ = c.differ;
 }
 
+-- where each visit that clashes is kept, the same vertices have clashes
+clash_kept : (v : Pos) (kept all : List Visit) → KeepsClashes kept all → Clash v all → Clash v kept
+clash_kept v kept all keeps c = record {
+  one = c.one;
+  other = c.other;
+  has_one = keeps.clashing c.one c.other c.has_one c.has_other (c.at_one ∙ sym c.at_other) c.differ;
+  has_other = keeps.clashing c.other c.one c.has_other c.has_one (c.at_other ∙ sym c.at_one) (λ e. c.differ (sym e));
+  at_one = c.at_one;
+  at_other = c.at_other;
+  differ = c.differ;
+}
+
+kept_clash : (v : Pos) (kept all : List Visit) → KeepsClashes kept all → Clash v kept → Clash v all
+kept_clash v kept all keeps c = record {
+  one = c.one;
+  other = c.other;
+  has_one = keeps.only c.one c.has_one;
+  has_other = keeps.only c.other c.has_other;
+  at_one = c.at_one;
+  at_other = c.at_other;
+  differ = c.differ;
+}
+
 -- sorted by vertex, looked through, put behind the ends and sorted
-pub junctions_kept : (g : Geometry Pos) (ends kept sorted : List Pos) (visits ordered given : List Visit) →
-    AreVisitsOf ends visits g → IsPermutation visits ordered →
+pub junctions_kept : (g : Geometry Pos) (ends kept sorted : List Pos) (all visits ordered given : List Visit) → KeepsClashes visits all →
+    AreVisitsOf ends all g → IsPermutation visits ordered →
     IsSortedByKey (λ (v : Visit). v.vertex) position_cmp ordered → given ≡ ordered → kept ≡ ends ++ clashes_of given → IsPermutation kept sorted →
     IsIndexOf sorted g
-junctions_kept g ends kept sorted visits ordered given are p s h k q = record {
+junctions_kept g ends kept sorted all visits ordered given keeps are p s h k q = record {
   all = λ v j. Has-permutation kept sorted v q (subst (Has v) (sym k)
-      (elim (seen_clash g ends visits are v j) [
+      (elim (seen_clash g ends all are v j) [
         | inl e ↦ Has-append_left v ends (clashes_of given) e
         | inr c ↦ Has-append_right v ends (clashes_of given) (subst (λ w. Has v (clashes_of w)) (sym h)
-            (sorted_from_clash v ordered (up_from_sorted visit_cmp visit_total ordered s) (clash_moved v visits ordered p c)))
+            (sorted_from_clash v ordered (up_from_sorted visit_cmp visit_total ordered s) (clash_moved v visits ordered p (clash_kept v visits all keeps c))))
       ]));
   only = λ v m.
       elim (Has-append v ends (clashes_of given) (subst (Has v) k (Has-permutation sorted kept v (IsPermutation-sym kept sorted q) m))) [
         | inl a ↦ inl (are.ends_only v a)
-        | inr b ↦ clash_seen g ends visits are v (clash_moved v ordered visits (IsPermutation-sym visits ordered p)
-            (clash_from_sorted v ordered (subst (λ w. Has v (clashes_of w)) h b)))
+        | inr b ↦ clash_seen g ends all are v (kept_clash v visits all keeps (clash_moved v ordered visits (IsPermutation-sym visits ordered p)
+            (clash_from_sorted v ordered (subst (λ w. Has v (clashes_of w)) h b))))
       ];
 }
 

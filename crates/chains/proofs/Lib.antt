@@ -12,7 +12,11 @@ pub mod Turned
 pub mod Cuts
 pub mod Parted
 pub mod Places
+pub mod Rising
+pub mod Merged
 pub mod Marks
+pub mod Looking
+pub mod Numbered
 pub mod TableOfMap
 pub mod WalkSteps
 pub mod Noting
@@ -20,3 +24,6 @@ pub mod Found
 pub mod AllChains
 pub mod Slices
 pub mod Dealt
+pub mod Crowding
+pub mod TablesAsMap
+pub mod ArcsCut

@@ -1,4 +1,4 @@
--- The sorted keys are the chains of the pieces, each once.
+-- Where a list stands among others.
 use Rattle.std.proofs.Common.{◌≡◌, ℕ, zero, suc, Bool, true, false, cond, not, ◌&&◌, ◌||◌, List, [], ◌∷◌, ◌++◌, length, ◌⊎◌, inl, inr, refl, sym, ap, ◌∙◌, subst, Option, Some, None, slice_get, nat_lt, reverse, option_map, arith, ◌<◌, ◌≤◌, ◌+◌, append_assoc}
 use borrow.Author.Tests.{ltb-true, ltb-false}
 use Rattle.std.specs.List.{list_any, IsDistinct, AllByRecursion, position, position_or_len}
@@ -52,63 +52,8 @@ has_any q (x ∷ l) (inr h) = go (same_list q x) (has_any q l h)
     go true e = refl
     go false e = e
 
-insert_there : (x : List Pos) (ks : List (List Pos)) (b : Bool) → list_any (same_list x) ks ≡ b → Has x (cond b ks (ks ++ (x ∷ [])))
-insert_there x ks true e = any_has x ks e
-insert_there x ks false e = Has-append_right x ks (x ∷ []) (inl refl)
-
-insert_keeps : (x y : List Pos) (ks : List (List Pos)) (b : Bool) → Has y ks → Has y (cond b ks (ks ++ (x ∷ [])))
-insert_keeps x y ks true h = h
-insert_keeps x y ks false h = Has-append_left y ks (x ∷ []) h
-
-insert_only : (x y : List Pos) (ks : List (List Pos)) (b : Bool) → Has y (cond b ks (ks ++ (x ∷ []))) → Has y ks ⊎ (y ≡ x)
-insert_only x y ks true h = inl h
-insert_only x y ks false h = elim (Has-append y ks (x ∷ []) h) [ inl k ↦ inl k | inr k ↦ elim k [ inl e ↦ inr e | inr z ↦ absurd z ] ]
-
-all_there : (xs ks : List (List Pos)) (y : List Pos) → Has y ks ⊎ Has y xs → Has y (insert_all same_list ks xs)
-all_there [] ks y (inl h) = h
-all_there [] ks y (inr h) = absurd h
-all_there (x ∷ xs) ks y (inl h) = all_there xs (insert_key same_list ks x) y (inl (insert_keeps x y ks (list_any (same_list x) ks) h))
-all_there (x ∷ xs) ks y (inr (inl e)) =
-    all_there xs (insert_key same_list ks x) y (inl (subst (λ w. Has w (insert_key same_list ks x)) (sym e) (insert_there x ks (list_any (same_list x) ks) refl)))
-all_there (x ∷ xs) ks y (inr (inr h)) = all_there xs (insert_key same_list ks x) y (inr h)
-
-all_only : (xs ks : List (List Pos)) (y : List Pos) → Has y (insert_all same_list ks xs) → Has y ks ⊎ Has y xs
-all_only [] ks y h = inl h
-all_only (x ∷ xs) ks y h =
-    elim (all_only xs (insert_key same_list ks x) y h) [
-      | inr k ↦ inr (inr k)
-      | inl k ↦ elim (insert_only x y ks (list_any (same_list x) ks) k) [ inl j ↦ inl j | inr e ↦ inr (inl e) ]
-    ]
-
-apart : (x : List Pos) (l : List (List Pos)) → AllByRecursion (λ y. same_list x y ≡ false) l → (y : List Pos) → Has y l → ¬ (x ≡ y)
-apart x [] a y h e = h
-apart x (z ∷ l) a y (inl k) e =
-    let f : same_list x x ≡ false = subst (λ w. same_list x w ≡ false) (sym (e ∙ k)) a.0 in
-    let g : true ≡ false = sym (list_refl x) ∙ f in cc
-apart x (z ∷ l) a y (inr k) e = apart x l a.1 y k e
-
-ascends : (l : List (List Pos)) → Up (slice_cmp position_cmp) l → IsDistinct same_list l → Ascends (slice_cmp position_cmp) l
-unfolding IsDistinct
-ascends [] u d = tt
-ascends (x ∷ l) u d = (
-  (λ y h. elim (at_most_less (slice_cmp position_cmp) (lists_total position_total) (slice_cmp-IsAntisymmetric position_same) x y (u.0 y h)) [
-    | inl e ↦ e
-    | inr e ↦ absurd (apart x l d.0 y h e)
-  ]),
-  ascends l u.1 d.1,
-)
-
-pub sorted_once : (ps ks arcs : List (List Pos)) → ks ≡ insert_all same_list [] ps →
-    ((q : List Pos) → list_any (same_list q) arcs ≡ list_any (same_list q) ks) → IsSorted (slice_cmp position_cmp) arcs → IsDistinct same_list arcs →
-    AreSortedOnce (slice_cmp position_cmp) ps arcs
-sorted_once ps ks arcs e m s d = record {
-  ascends = ascends arcs (up_from_sorted (slice_cmp position_cmp) (lists_total position_total) arcs s) d;
-  there = λ c h. any_has c arcs (m c ∙ has_any c ks (subst (λ w. Has c w) (sym e) (all_there ps [] c (inr h))));
-  only = λ c h. elim (all_only ps [] c (subst (λ w. Has c w) e (any_has c ks (sym (m c) ∙ has_any c arcs h)))) [ inl z ↦ absurd z | inr k ↦ k ];
-}
-
 -- what stands at the place that a search finds
-place_is : (q : List Pos) (l : List (List Pos)) → position_or_len (same_list q) l < length l →
+pub place_is : (q : List Pos) (l : List (List Pos)) → position_or_len (same_list q) l < length l →
     slice_get l (position_or_len (same_list q) l) ≡ Some q
 place_is q [] h = absurd (omega arith)
 place_is q (x ∷ l) h = go (same_list q x) refl h (place_is q l)
@@ -121,7 +66,7 @@ place_is q (x ∷ l) h = go (same_list q x) refl h (place_is q l)
         let n : suc (position_or_len (same_list q) l) ≡ 1 + position_or_len (same_list q) l = omega arith in
         subst (λ w. slice_get (x ∷ l) w ≡ Some q) n (ih (omega (arith, k)))
 
-found_at : (q : List Pos) (l : List (List Pos)) (i : ℕ) → Some i ≡ position (same_list q) l → slice_get l i ≡ Some q
+pub found_at : (q : List Pos) (l : List (List Pos)) (i : ℕ) → Some i ≡ position (same_list q) l → slice_get l i ≡ Some q
 found_at q l i e = go (nat_lt (position_or_len (same_list q) l) (length l)) refl e
   where
     go : (b : Bool) → nat_lt (position_or_len (same_list q) l) (length l) ≡ b → Some i ≡ cond b (Some (position_or_len (same_list q) l)) None → slice_get l i ≡ Some q
@@ -157,30 +102,6 @@ none_computed l p q e f =
     ap (option_map (λ n. record { arc = n; reversed = p.reversed })) e
     ∙ (λ j. option_map (λ n. record { arc = n; reversed = p.reversed }) (position (same_list (f j)) l))
 
--- lists that all differ, inserted one by one
-pub insert_own : (ks xs : List (List Pos)) → IsDistinct same_list (ks ++ xs) → insert_all same_list ks xs ≡ ks ++ xs
-unfolding IsDistinct
-insert_own ks [] d = sym (append_nil ks)
-insert_own ks (x ∷ xs) d =
-    ap (λ w. insert_all same_list w xs) (new ks (x ∷ xs) d)
-    ∙ insert_own (ks ++ (x ∷ [])) xs (subst (IsDistinct same_list) (sym (append_assoc ks (x ∷ []) xs)) d)
-    ∙ append_assoc ks (x ∷ []) xs
-  where
-    differs : (k : List Pos) (l : List (List Pos)) (y : List Pos) → AllByRecursion (λ z. same_list k z ≡ false) l → Has y l → ¬ (y ≡ k)
-    differs k l y a h e = apart k l a y h (sym e)
-
-    stranger : (ks : List (List Pos)) → IsDistinct same_list (ks ++ (x ∷ xs)) → ¬ Has x ks
-    stranger [] d h = h
-    stranger (k ∷ ks) d (inl e) = differs k (ks ++ (x ∷ xs)) x d.0 (Has-append_right x ks (x ∷ xs) (inl refl)) e
-    stranger (k ∷ ks) d (inr h) = stranger ks d.1 h
-
-    new : (ks ys : List (List Pos)) → IsDistinct same_list (ks ++ (x ∷ xs)) → insert_key same_list ks x ≡ ks ++ (x ∷ [])
-    new ks ys d = go (list_any (same_list x) ks) refl
-      where
-        go : (b : Bool) → list_any (same_list x) ks ≡ b → cond b ks (ks ++ (x ∷ [])) ≡ ks ++ (x ∷ [])
-        go true e = absurd (stranger ks d (any_has x ks e))
-        go false e = refl
-
 -- a member's place is found
 pub found_place : (q : List Pos) (l : List (List Pos)) → Has q l → Some (position_or_len (same_list q) l) ≡ position (same_list q) l
 found_place q l h = go (nat_lt (position_or_len (same_list q) l) (length l)) refl
@@ -197,3 +118,10 @@ found_place q l h = go (nat_lt (position_or_len (same_list q) l) (length l)) ref
     go : (b : Bool) → nat_lt (position_or_len (same_list q) l) (length l) ≡ b → Some (position_or_len (same_list q) l) ≡ cond b (Some (position_or_len (same_list q) l)) None
     go true e = refl
     go false e = let m = ltb-false (position_or_len (same_list q) l) (length l) e in let k = within l h in absurd (omega arith)
+
+-- and stands there
+pub place_of_member : (q : List Pos) (l : List (List Pos)) → Has q l → slice_get l (position_or_len (same_list q) l) ≡ Some q
+place_of_member q l h = found_at q l (position_or_len (same_list q) l) (found_place q l h)
+
+pub not_found : (q : List Pos) (l : List (List Pos)) → None ≡ position (same_list q) l → ¬ Has q l
+not_found q l e h = let k : None ≡ Some (position_or_len (same_list q) l) = e ∙ sym (found_place q l h) in absurd cc

@@ -14,7 +14,7 @@ use Rattle.chains.proofs.Among.{told_among}
 use Rattle.chains.proofs.SortedLists.{Contains-from_has, has_from_contains}
 use Rattle.chains.proofs.Equality.{position_total, position_same}
 
-split_at : (k i : ℕ) → (k < i) ⊎ (i ≤ k)
+pub split_at : (k i : ℕ) → (k < i) ⊎ (i ≤ k)
 split_at k i = go (nat_lt k i) refl
   where
     go : (b : Bool) → nat_lt k i ≡ b → (k < i) ⊎ (i ≤ k)

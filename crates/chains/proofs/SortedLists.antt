@@ -35,12 +35,7 @@ Has-permutation xs ys x p h =
     let t = Contains-permutation xs ys x p (Contains-from_has x xs h) in
     has_from_contains x ys t.0 t.1 t.2
 
-module _ {X : Type 0} (R : X → X → Ordering) (o : IsTotalOrder R) where
-  pub not_less : (r s : Ordering) → r ≡ ordering_reverse s → is_lt r ≡ false → is_gt s ≡ false
-  not_less r Less e h = refl
-  not_less r Equal e h = refl
-  not_less r Greater e h = cc
-
+module _ {X : Type 0} (R : X → X → Ordering) where
   pub tail_sorted : (x : X) (l : List X) → IsSorted R (x ∷ l) → IsSorted R l
   tail_sorted x l s = λ k d a b.
       let t = s (suc k) d (omega arith) (omega (arith, b)) in
@@ -50,6 +45,12 @@ module _ {X : Type 0} (R : X → X → Ordering) (o : IsTotalOrder R) where
   pub rises_from_sorted : (x : X) (l : List X) → IsSorted R (x ∷ l) → Rises R x l
   rises_from_sorted x [] s = tt
   rises_from_sorted x (y ∷ l) s = (s 0 x (omega arith) (omega arith), rises_from_sorted y l (tail_sorted x (y ∷ l) s))
+
+module _ {X : Type 0} (R : X → X → Ordering) (o : IsTotalOrder R) where
+  pub not_less : (r s : Ordering) → r ≡ ordering_reverse s → is_lt r ≡ false → is_gt s ≡ false
+  not_less r Less e h = refl
+  not_less r Equal e h = refl
+  not_less r Greater e h = cc
 
   least_first : (x y : X) (l : List X) → Rises R x l → Has y l → is_gt (R x y) ≡ false
   least_first x y [] r h = absurd h
@@ -62,7 +63,7 @@ module _ {X : Type 0} (R : X → X → Ordering) (o : IsTotalOrder R) where
 
   pub up_from_sorted : (l : List X) → IsSorted R l → Up R l
   up_from_sorted [] s = tt
-  up_from_sorted (x ∷ l) s = up_from_rises x l (rises_from_sorted x l s)
+  up_from_sorted (x ∷ l) s = up_from_rises x l (rises_from_sorted R x l s)
 
   pub squeezed : (r s : Ordering) → r ≡ ordering_reverse s → is_gt r ≡ false → is_gt s ≡ false → r ≡ Equal
   squeezed Less Less e h k = cc

@@ -22,7 +22,7 @@ use Rattle.chains.specs.Pairs.{among}
 use Rattle.chains.specs.Index.{IsIndexOf}
 use Rattle.chains.specs.Pieces.{ring_parts, oriented, least_direction, is_backwards_less, cut_list, chain_of, line_pieces, ring_pieces, IsPieceOf, ArePieces}
 use Rattle.chains.specs.Arcs.{Arcs}
-use Rattle.chains.specs.Table.{same_list, located, AreSeamsOf, ArePiecesOfMap, IsTableOf}
+use Rattle.chains.specs.Table.{same_list, located, AreLoopsOf, ArePiecesOfMap, IsTableOf}
 use Rattle.chains.specs.declared.cutting.Piece.{Piece}
 use Rattle.chains.proofs.Equality.{position_total, position_same, position_dec}
 use Rattle.chains.proofs.Places.{along_found, found_place}
@@ -136,7 +136,7 @@ module _ (g : Geometry Pos) (sound : IsSound g) (keys : List Pos) (index : IsInd
         (all_taken arcs (ring_parts (among keys) r) (λ c k. s.there (least_direction c) (of_ring r c h k)))
 
 -- sorted, each once, the pieces of a map are its arcs
-pub table_is : (g : Geometry Pos) → IsSound g → (ps : List Piece) (t : Arcs) → AreSortedOnce list_cmp (map chain_of ps) t.arcs → AreSeamsOf ps t.seams →
+pub table_is : (g : Geometry Pos) → IsSound g → (ps : List Piece) (t : Arcs) → AreSortedOnce list_cmp (map chain_of ps) t.arcs → AreLoopsOf ps t.loops →
     ArePiecesOfMap g ps → IsTableOf g t
 table_is g sound ps t s m are =
     let good : (c : List Pos) → Has c (map chain_of ps) → IsArcOf position_cmp g c =
@@ -144,6 +144,6 @@ table_is g sound ps t s m are =
     let arcs : AreArcsOf position_cmp g t.arcs = sorted_pieces_are_arcs position_cmp position_total position_same position_dec g sound (map chain_of ps) are.all t.arcs good s in
     record {
       arcs = arcs;
-      free = all_marked (SegmentOf g) (JunctionOf g) (AtMost position_cmp) ps t (λ p h. ((are.each p h).arc.chain, (are.each p h).free)) m s.only;
+      free = all_marked (JunctionOf g) ps t (λ p h. (are.each p h).free) m s.only;
       once = segments_once position_cmp position_total position_same position_dec g sound t.arcs arcs;
     }

@@ -2,7 +2,7 @@
 use Rattle.std.specs.Prelude.{List}
 use Rattle.grid.specs.declared.pos.Pos.{Pos}
 
--- the arcs by their numbers, and the first vertices of the free loops among them
+-- the arcs by their numbers, and those of them that are free loops
 pub record Arcs : Type 0 where
   pub arcs : List (List Pos)
-  pub seams : List Pos
+  pub loops : List (List Pos)

@@ -1,5 +1,6 @@
 pub mod Pairs
 pub mod Visits
+pub mod Crowds
 pub mod Slots
 pub mod Seen
 pub mod Index
@@ -7,7 +8,9 @@ pub mod Starts
 pub mod Pieces
 pub mod Arcs
 pub mod Table
+pub mod Stored
 pub mod Links
 pub mod Walk
 pub mod Segments
 pub mod Joined
+pub mod OfArcs

@@ -1,8 +1,8 @@
 -- The table of arcs.
-use Rattle.std.specs.Prelude.{◌≡◌, ℕ, Bool, true, false, cond, List, [], ◌∷◌, ◌++◌, map, Option, Some, None, slice_get}
+use Rattle.std.specs.Prelude.{◌≡◌, ℕ, Bool, true, false, List, map, Option, Some, None, slice_get}
 use Rattle.std.specs.Option.{option_map}
-use Rattle.std.specs.List.{position, position_or_len}
-use Rattle.theory.specs.Lists.{Has, Begins}
+use Rattle.std.specs.List.{position, position_or_len, list_any}
+use Rattle.theory.specs.Lists.{Has}
 use Rattle.theory.specs.Chain.{Free}
 use Rattle.theory.specs.Geometry.{Geometry, JunctionOf}
 use Rattle.theory.specs.Arcs.{AreArcsOf, EachSegmentOnce}
@@ -10,7 +10,7 @@ use Rattle.theory.specs.Stitching.{HaveAllPieces}
 use Rattle.theory.specs.ArcNumbers.{ArcRef}
 use Rattle.grid.specs.declared.pos.Pos.{Pos}
 use Rattle.lines.specs.Turned.{position_cmp}
-use Rattle.chains.specs.Pairs.{position_eq, among, Tells}
+use Rattle.chains.specs.Pairs.{position_eq, Tells}
 use Rattle.chains.specs.Arcs.{Arcs}
 use Rattle.chains.specs.Pieces.{chain_of, ArePieces}
 use Rattle.chains.specs.declared.cutting.Piece.{Piece}
@@ -20,46 +20,44 @@ use lib.Pointwise.{pointwise}
 abbrev pub same_list : List Pos → List Pos → Bool
 same_list = pointwise position_eq
 
+-- the number of the arc that a piece is; that of all arcs where it is none
+abbrev pub number_in : List (List Pos) → Piece → ℕ
+number_in arcs p = position_or_len (same_list p.chain) arcs
+
 -- the used arc that runs along a piece; the number is that of all arcs where there is none
 abbrev pub located : List (List Pos) → Piece → ArcRef
-located arcs p = record { arc = position_or_len (same_list p.chain) arcs; reversed = p.reversed }
+located arcs p = record { arc = number_in arcs p; reversed = p.reversed }
 
 -- the used arc that runs along a piece
 abbrev pub found_in : List (List Pos) → Piece → Option ArcRef
 found_in arcs p = option_map (λ n. record { arc = n; reversed = p.reversed }) (position (same_list p.chain) arcs)
 
--- whether the list begins at one of the keys
-abbrev pub begins_among : List Pos → List Pos → Bool
-begins_among keys [] = false
-begins_among keys (x ∷ l) = among keys x
+-- the number of a list among the arcs, where there is a list
+abbrev pub place_if : List (List Pos) → Option (List Pos) → Option ℕ
+place_if arcs None = None
+place_if arcs (Some c) = position (same_list c) arcs
 
--- whether there is a list, and it begins at a seam
-abbrev pub is_seamed : List Pos → Option (List Pos) → Bool
-is_seamed seams None = false
-is_seamed seams (Some c) = begins_among seams c
+-- whether the list is one of the free loops
+abbrev pub is_loop : List (List Pos) → List Pos → Bool
+is_loop loops c = list_any (same_list c) loops
+
+-- whether there is a list, and it is one of the free loops
+abbrev pub is_loop_if : List (List Pos) → Option (List Pos) → Bool
+is_loop_if loops None = false
+is_loop_if loops (Some c) = is_loop loops c
 
 -- whether the arc of a number is marked as a free loop
 abbrev pub free_at : Arcs → ℕ → Bool
-free_at t n = is_seamed t.seams (slice_get t.arcs n)
+free_at t n = is_loop_if t.loops (slice_get t.arcs n)
 
--- the first vertex of a piece that is marked as free
-abbrev pub seam_of : Piece → Option Pos
-seam_of p = cond p.free (slice_get p.chain 0) None
+-- the free loops are the chains of the pieces that are marked as free
+pub record AreLoopsOf (ps : List Piece) (loops : List (List Pos)) : Type 0 where
+  pub all : (p : Piece) → Has p ps → p.free ≡ true → Has p.chain loops
+  pub only : (c : List Pos) → Has c loops → (p : Piece) × Has p ps × (c ≡ p.chain) × (p.free ≡ true)
 
--- the vertices, behind one more where there is one
-abbrev pub with_seam : Option Pos → List Pos → List Pos
-with_seam None l = l
-with_seam (Some x) l = x ∷ l
-
--- the first vertices of the free pieces, in order
-abbrev pub seams_of : List Piece → List Pos
-seams_of [] = []
-seams_of (p ∷ ps) = with_seam (seam_of p) (seams_of ps)
-
--- the first vertices of the free pieces
-pub record AreSeamsOf (ps : List Piece) (seams : List Pos) : Type 0 where
-  pub all : (p : Piece) → Has p ps → p.free ≡ true → (x : Pos) → Begins x p.chain → Has x seams
-  pub only : (x : Pos) → Has x seams → (p : Piece) × Has p ps × (p.free ≡ true) × Begins x p.chain
+-- pieces that have one chain carry one mark
+abbrev pub AreAlike : List Piece → Type 0
+AreAlike ps = (p q : Piece) → Has p ps → Has q ps → p.chain ≡ q.chain → p.free ≡ q.free
 
 -- pieces of the map, among them those of each line and each ring
 pub record ArePiecesOfMap (g : Geometry Pos) (ps : List Piece) : Type 0 where

@@ -1,5 +1,8 @@
 //! Cutting lines and rings at junctions.
-ghost use Rattle.std.specs.Prelude.{◌≡◌, ◌∷◌, ◌<◌, ◌≤◌, ◌+◌, [], IfOk, map, reverse, length};
+ghost use Rattle.std.specs.Prelude.{◌≡◌, ◌∷◌, ◌<◌, ◌≤◌, ◌+◌, [], List, cond, Some, IfOk, map, reverse, length, slice_get};
+ghost use Rattle.theory.specs.Refinement.{IsPartOf, unclosed};
+ghost use Rattle.chains.specs.OfArcs.{pieces_if, ArePiecesUnder};
+ghost use Rattle.chains.specs.Table.{IsTableOf};
 ghost use Rattle.lines.specs.Turned.{position_cmp, list_cmp};
 ghost use Rattle.theory.specs.Lists.{Each};
 ghost use Rattle.theory.specs.Geometry.{Geometry, IsSound, IsLineOf, IsRingOf};
@@ -12,6 +15,7 @@ ghost use Rattle.chains.specs.Pieces as spec;
 ghost use Rattle.chains.specs.Pieces.{used, chain_of, oriented, opened_at, cut_list, ring_parts, line_pieces, ring_pieces, ArePieces};
 
 use crate::starts::place_of_start;
+use crate::table::ArcTable;
 use crate::visits::VisitIndex;
 use faults::OutOfMemory;
 use grid::pos::Pos;
@@ -23,7 +27,7 @@ use std::cmp::Ordering;
 
 /// A chain in its least direction, with whether it is used against that direction, and whether it is
 /// a free loop: a ring without a junction.
-#[derive(Debug, Drop)]
+#[derive(PartialEq, Eq, PartialOrd, Ord, Debug, Drop)]
 pub struct Piece {
     chain: Items<Pos>,
     reversed: bool,
@@ -166,6 +170,49 @@ fn ring_cut(alloc: Global, index: &VisitIndex, ring: &[Pos]) -> Result<Vec<Piece
         cut(alloc, index, &closed)
     } else {
         alone(alloc, index, closed)
+    }
+}
+
+/// An arc cut as a ring where it is free, otherwise as a line.
+fn arc_cut(
+    alloc: Global,
+    index: &VisitIndex,
+    arc: &[Pos],
+    free: bool,
+) -> Result<Vec<Piece>, AllocError>
+    ensures { IfOk result (λ v. v.items ≡ cond free (ring_pieces index.now (unclosed arc.now)) (line_pieces index.now arc.now)) }
+{
+    if !free {
+        return cut(alloc, index, arc);
+    }
+    match arc.split_last() {
+        Some((_, ring)) => ring_cut(alloc, index, ring),
+        None => Ok(Vec::new(alloc)),
+    }
+}
+
+/// The pieces of an arc of a table under the junctions of a map that has all lines and rings of the
+/// table's map, in order along the arc. A free loop that meets a junction is read from its least
+/// one; one that meets none is its own one piece.
+///
+/// # Errors
+/// Where memory is refused.
+pub fn cut_arc(
+    alloc: Global,
+    index: &VisitIndex,
+    table: &ArcTable,
+    number: usize,
+) -> Result<Vec<Piece>, OutOfMemory>
+    requires { number < length table.now.arcs }
+    ensures computed { IfOk result (λ v. v.items ≡ pieces_if index.now table.now.loops (slice_get table.now.arcs number)) }
+    ensures pieces { IfOk result (λ v. (g u : Geometry Pos) (c : List Pos) → IsSound g → IsSound u → IsPartOf g u → IsTableOf g table.now → IsIndexOf index.now u → slice_get table.now.arcs number ≡ Some c → ArePiecesUnder g u c v.items) }
+{
+    match table.arc(number) {
+        Some(arc) => {
+            let pieces = arc_cut(alloc, index, arc, table.is_free(number))?;
+            Ok(pieces)
+        }
+        None => Ok(Vec::new(alloc)),
     }
 }
 

@@ -2,16 +2,19 @@
 //! the maximal chains over any segments.
 #![tactic(auto)]
 
+mod crowds;
 pub mod cutting;
 pub mod joining;
+mod merging;
 pub mod segment;
 mod slots;
 mod starts;
 mod stop_set;
+mod stored;
 pub mod table;
 pub mod visits;
 
-pub use cutting::{Piece, cut_line, cut_ring};
+pub use cutting::{Piece, cut_arc, cut_line, cut_ring};
 pub use joining::{maximal, maximal_with};
 pub use segment::Segment;
 pub use table::{ArcRef, ArcTable};

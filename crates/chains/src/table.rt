@@ -1,22 +1,22 @@
 //! The table of arcs.
-ghost use Rattle.std.specs.Prelude.{◌≡◌, ◌↔◌, ◌<◌, ◌^◌, IfOk, IfSome, IsSome, Some, map, [], List, slice_get, length};
+ghost use Rattle.std.specs.Prelude.{◌≡◌, ◌↔◌, ◌<◌, ◌^◌, IfOk, IfSome, IsSome, Some, map, slice_get, length};
 ghost use Rattle.std.specs.Option.{option_map};
-ghost use Rattle.indexmap.specs.IndexSet.{insert_all, IsUnique};
-ghost use Rattle.lines.specs.Turned.{position_cmp, list_cmp};
+ghost use Rattle.lines.specs.Turned.{list_cmp};
 ghost use Rattle.theory.specs.Lists.{Has};
 ghost use Rattle.theory.specs.Geometry.{Geometry, IsSound};
 ghost use Rattle.theory.specs.Arcs.{AreSortedOnce};
 ghost use Rattle.theory.specs.ArcNumbers.{along, index_of};
 ghost use Rattle.grid.specs.declared.pos.Pos.{Pos};
+ghost use Rattle.chains.specs.declared.cutting.Piece.{Piece as Part};
 ghost use Rattle.chains.specs.Pieces.{used, chain_of};
-ghost use Rattle.chains.specs.Table.{same_list, seam_of, seams_of, located, found_in, free_at, AreSeamsOf, ArePiecesOfMap, IsTableOf};
+ghost use Rattle.chains.specs.Table.{located, found_in, number_in, place_if, free_at, AreAlike, AreLoopsOf, ArePiecesOfMap, IsTableOf};
 
 use crate::cutting::Piece;
+use crate::merging::merged_arcs;
+use crate::stored::ArcList;
 use faults::OutOfMemory;
 use grid::pos::Pos;
-use indexmap::IndexSet;
-use lines::items::Items;
-use std::alloc::{AllocError, Global};
+use std::alloc::Global;
 use std::marker::Model;
 
 /// An arc by its number, and whether it is used against its direction.
@@ -65,92 +65,40 @@ impl ArcRef {
     }
 }
 
-/// The arcs, sorted, each once, and the seams of the free loops among them.
+/// The arcs, sorted, each once, and which of them are free loops.
 #[derive(Drop)]
 pub struct ArcTable {
-    arcs: IndexSet<Items<Pos>>,
-    /// The first vertices of the free loops, sorted.
-    seams: Vec<Pos>,
+    arcs: ArcList,
 }
 
 impl Model for ArcTable {
-    ghost use Rattle.std.specs.Prelude.{List};
+    ghost use Rattle.std.specs.Prelude.{◌≡◌, true, map as map_list};
     ghost use Rattle.chains.specs.Arcs.{Arcs};
-    ghost use Rattle.std.specs.List.Sorted.{IsSorted};
-    ghost use Rattle.lines.specs.Turned.{position_cmp};
+    ghost use Rattle.chains.specs.Stored.{positions_of, loops_of, rises};
 
     ghost Value = { Arcs };
 
-    ghost view = { λ a. record { arcs = a.arcs.keys; seams = a.seams.items } };
+    ghost view = { λ a. record { arcs = map_list positions_of a.arcs; loops = loops_of a.arcs } };
 
-    ghost invariant = { λ a. IsSorted position_cmp a.seams.items };
-}
-
-fn all_chains(alloc: Global, pieces: Vec<Piece>) -> Result<IndexSet<Items<Pos>>, AllocError>
-    ensures keys { IfOk result (λ s. s.keys ≡ insert_all same_list [] (map chain_of pieces.items)) }
-    ensures unique { IfOk result (λ s. IsUnique same_list s) }
-{
-    let mut arcs = IndexSet::new(alloc);
-    for piece in pieces {
-        arcs.insert(piece.into_chain())?;
-    }
-    Ok(arcs)
-}
-
-/// The first vertex of a piece that is a free loop.
-fn seam(piece: &Piece) -> Option<Pos>
-    ensures { result ≡ seam_of piece.now }
-{
-    if piece.is_free() {
-        piece.chain().first().copied()
-    } else {
-        None
-    }
-}
-
-fn all_seams(alloc: Global, pieces: &[Piece]) -> Result<Vec<Pos>, AllocError>
-    ensures { IfOk result (λ v. v.items ≡ seams_of pieces.now) }
-{
-    let mut seams = Vec::new(alloc);
-    for piece in pieces {
-        if let Some(vertex) = seam(piece) {
-            seams.push(vertex)?;
-        }
-    }
-    Ok(seams)
-}
-
-fn copied(alloc: Global, positions: &[Pos]) -> Result<Vec<Pos>, AllocError>
-    ensures { IfOk result (λ v. v.items ≡ positions.now) }
-{
-    positions.to_vec(alloc)
-}
-
-fn copies(alloc: Global, arcs: &[Items<Pos>]) -> Result<IndexSet<Items<Pos>>, AllocError>
-    ensures { IfOk result (λ s. s.keys ≡ insert_all same_list [] arcs.now) }
-{
-    let mut made = IndexSet::new(alloc);
-    for arc in arcs {
-        made.insert(Items::from_vec(copied(alloc, arc.as_slice())?))?;
-    }
-    Ok(made)
+    ghost invariant = { λ a. rises (map_list positions_of a.arcs) ≡ true };
 }
 
 impl ArcTable {
-    /// The table of the pieces' chains, each once, sorted.
+    /// The table of the pieces' chains, each once, sorted. An arc is free where one of its pieces
+    /// is marked as free.
     ///
     /// # Errors
     /// Where memory is refused.
     pub fn from_pieces(alloc: Global, pieces: Vec<Piece>) -> Result<ArcTable, OutOfMemory>
         ensures arcs { IfOk result (λ t. AreSortedOnce list_cmp (map chain_of pieces.items) t.arcs) }
-        ensures seams { IfOk result (λ t. AreSeamsOf pieces.items t.seams) }
+        ensures loops { IfOk result (λ t. AreLoopsOf pieces.items t.loops) }
+        ensures free { IfOk result (λ t. AreAlike pieces.items → (p : Part) → Has p pieces.items → free_at t (number_in t.arcs p) ≡ p.free) }
         ensures of_map { IfOk result (λ t. (g : Geometry Pos) → IsSound g → ArePiecesOfMap g pieces.items → IsTableOf g t) }
     {
-        let mut seams = all_seams(alloc, &pieces)?;
-        seams.sort_unstable();
-        let mut arcs = all_chains(alloc, pieces)?;
-        arcs.sort()?;
-        Ok(ArcTable { arcs, seams })
+        let mut sorted = pieces;
+        sorted.sort_unstable();
+        let arcs = merged_arcs(alloc, sorted)?;
+        Ok(ArcTable { arcs })
     }
 
     /// The number of arcs.
@@ -165,9 +113,9 @@ impl ArcTable {
     pub fn arc(&self, number: usize) -> Option<&[Pos]>
         ensures { option_map (λ a. a.now) result ≡ slice_get self.now.arcs number }
     {
-        match self.arcs.get_index(number) {
+        match self.arcs.get(number) {
             None => None,
-            Some(arc) => Some(arc.as_slice()),
+            Some(arc) => Some(arc.positions.as_slice()),
         }
     }
 
@@ -178,7 +126,7 @@ impl ArcTable {
         ensures along { IfSome result (λ r. along self.now.arcs r ≡ Some (used piece.now)) }
         ensures found { IsSome result ↔ Has (chain_of piece.now) self.now.arcs }
     {
-        match self.arcs.get_index_of(piece.items()) {
+        match self.arcs.place_of(piece.items()) {
             None => None,
             Some(arc) => Some(ArcRef {
                 arc,
@@ -191,12 +139,19 @@ impl ArcTable {
     pub fn is_free(&self, number: usize) -> bool
         ensures { result ≡ free_at self.now number }
     {
-        match self.arc(number) {
-            Some(arc) => match arc.first() {
-                Some(first) => self.seams.binary_search(first).is_ok(),
-                None => false,
-            },
+        match self.arcs.get(number) {
             None => false,
+            Some(arc) => arc.free,
+        }
+    }
+
+    /// The number of the arc that is an arc of another table, by its number there.
+    pub fn number_of(&self, other: &ArcTable, number: usize) -> Option<usize>
+        ensures { result ≡ place_if self.now.arcs (slice_get other.now.arcs number) }
+    {
+        match other.arcs.get(number) {
+            None => None,
+            Some(arc) => self.arcs.place_of(&arc.positions),
         }
     }
 
@@ -207,8 +162,7 @@ impl ArcTable {
     pub fn copy(&self, alloc: Global) -> Result<ArcTable, OutOfMemory>
         ensures { IfOk result (λ t. t ≡ self.now) }
     {
-        let arcs = copies(alloc, self.arcs.as_slice())?;
-        let seams = copied(alloc, &self.seams)?;
-        Ok(ArcTable { arcs, seams })
+        let arcs = self.arcs.copy(alloc)?;
+        Ok(ArcTable { arcs })
     }
 }

@@ -272,3 +272,38 @@ fn indexes_of_used_arcs(rt: HostRuntime) {
         assert_eq!(rt; ArcRef::from_index(index), ArcRef { arc, reversed });
     }
 }
+
+/// The pieces of a map of these lines and rings.
+fn pieces_of_map(
+    alloc: Global,
+    lines: &[&[(i64, i64)]],
+    rings: &[&[(i64, i64)]],
+) -> Result<Vec<Piece>, Fail> {
+    let map = map_of(alloc, lines, rings)?;
+    let index = VisitIndex::of(alloc, &map)?;
+    all_pieces(alloc, &index, lines, rings)
+}
+
+/// A triangle's free loop, and an open arc of another map that begins at its seam.
+fn table_of_two_maps(alloc: Global) -> Result<ArcTable, Fail> {
+    let mut pieces = pieces_of_map(alloc, &[], &[TRIANGLE])?;
+    let mut others = pieces_of_map(alloc, &[&[(0, 0), (1, 0)]], &[])?;
+    pieces.append(&mut others)?;
+    Ok(ArcTable::from_pieces(alloc, pieces)?)
+}
+
+#[test]
+fn an_open_arc_from_the_seam_of_a_free_loop_of_another_map(rt: HostRuntime) -> Result<(), Fail> {
+    let table = table_of_two_maps(rt.alloc())?;
+    assert!(rt; table.is_free(0));
+    assert!(rt; !table.is_free(1));
+    Ok(())
+}
+
+#[test]
+fn copies_keep_which_arcs_are_free(rt: HostRuntime) -> Result<(), Fail> {
+    let copy = table_of_two_maps(rt.alloc())?.copy(rt.alloc())?;
+    assert!(rt; copy.is_free(0));
+    assert!(rt; !copy.is_free(1));
+    Ok(())
+}

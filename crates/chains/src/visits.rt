@@ -1,18 +1,25 @@
 //! The index of visits: one list of visits, sorted once, of which the junctions are kept.
-ghost use Rattle.std.specs.Prelude.{◌≡◌, [], ◌∷◌, ◌++◌, ◌↔◌, ◌⊎◌, map as map_list, IfOk, OnOk, IsTrue};
+ghost use Rattle.std.specs.Prelude.{◌≡◌, cond, [], ◌∷◌, ◌++◌, ◌↔◌, ◌⊎◌, map as map_list, slice_get, IfOk, List, OnOk, IsTrue};
 ghost use Rattle.theory.specs.Geometry.{Geometry, IsSound, JunctionOf, SegmentOf};
 ghost use Rattle.theory.specs.Segments.{OnThree};
 ghost use Rattle.theory.specs.Lists.{gathered, joined};
 ghost use Rattle.grid.specs.declared.pos.Pos.{Pos};
+ghost use Rattle.chains.specs.Crowds.{KeepsClashes};
 ghost use Rattle.chains.specs.Pairs.{among, pair_of};
 ghost use Rattle.chains.specs.Visits.{visit_of, inner_of, ends_of, around_of, clash, clashes_of, HaveSame};
 ghost use Rattle.chains.specs.Seen.{line_of, ring_of, form_of, geometry_of};
 ghost use Rattle.chains.specs.Index.{IsIndexOf, EndsALine, AreVisitsOf, feature_ends, feature_visits, form_ends, form_visits, layer_ends, layer_visits};
+ghost use Rattle.chains.specs.OfArcs.{arc_ends, arc_visits, ends_if, visits_if, tables_as_map};
+ghost use Rattle.chains.specs.Table.{IsTableOf};
+ghost use Rattle.chains.specs.declared.visits.Visit.{Visit as Visiting};
+ghost use Rattle.theory.specs.Refinement.{IsUnionOf, unclosed};
 ghost use Rattle.shapes.specs.Maps.{set_of};
 ghost use Rattle.shapes.specs.Parts.{spelled_text};
 ghost use Rattle.shapes.specs.Sets as set;
 
+use crate::crowds::crowded_visits;
 use crate::slots::{slot, slots_of};
+use crate::table::ArcTable;
 use faults::OutOfMemory;
 use grid::pos::Pos;
 use lines::items::Items;
@@ -28,7 +35,7 @@ use std::marker::Model;
 
 /// The unordered pair of a vertex's two neighbours, the lesser first.
 #[derive(Clone, Copy, PartialEq, Eq, Debug)]
-struct Sides {
+pub(crate) struct Sides {
     lesser: Pos,
     greater: Pos,
 }
@@ -51,8 +58,8 @@ fn sides_between(a: Pos, b: Pos) -> Sides
 
 /// A vertex and its two neighbours.
 #[derive(Clone, Copy, PartialEq, Eq, Debug)]
-struct Visit {
-    vertex: Pos,
+pub(crate) struct Visit {
+    pub(crate) vertex: Pos,
     sides: Sides,
 }
 
@@ -137,6 +144,40 @@ impl Seen {
         }
         self.note(visit_between(before, here, *first))?;
         self.note(visit_between(here, *first, *second))?;
+        Ok(())
+    }
+
+    /// Notes what an arc visits: a free loop is a ring, each other arc a line.
+    fn see_arc(&mut self, arc: &[Pos], free: bool) -> Result<(), AllocError>
+        ensures ends { OnOk result (self.new.ends.items ≡ self.old.ends.items ++ cond free [] (ends_of arc.now)) }
+        ensures visits { OnOk result (HaveSame self.new.visits.items (self.old.visits.items ++ cond free (around_of (unclosed arc.now)) (inner_of arc.now))) }
+    {
+        if !free {
+            return self.see_line(arc);
+        }
+        match arc.split_last() {
+            Some((_, ring)) => self.see_ring(ring),
+            None => Ok(()),
+        }
+    }
+
+    fn see_numbered(&mut self, table: &ArcTable, number: usize) -> Result<(), AllocError>
+        ensures ends { OnOk result (self.new.ends.items ≡ self.old.ends.items ++ ends_if table.now.loops (slice_get table.now.arcs number)) }
+        ensures visits { OnOk result (HaveSame self.new.visits.items (self.old.visits.items ++ visits_if table.now.loops (slice_get table.now.arcs number))) }
+    {
+        match table.arc(number) {
+            Some(arc) => self.see_arc(arc, table.is_free(number)),
+            None => Ok(()),
+        }
+    }
+
+    fn see_arcs(&mut self, table: &ArcTable) -> Result<(), AllocError>
+        ensures ends { OnOk result (self.new.ends.items ≡ self.old.ends.items ++ gathered (arc_ends table.now.loops) table.now.arcs) }
+        ensures visits { OnOk result (HaveSame self.new.visits.items (self.old.visits.items ++ gathered (arc_visits table.now.loops) table.now.arcs)) }
+    {
+        for number in 0..table.len() {
+            self.see_numbered(table, number)?;
+        }
         Ok(())
     }
 
@@ -262,7 +303,7 @@ impl Model for VisitIndex {
 
 impl VisitIndex {
     fn of_seen(alloc: Global, seen: Seen) -> Result<VisitIndex, AllocError>
-        ensures { IfOk result (λ i. (g : Geometry Pos) → AreVisitsOf seen.ends.items seen.visits.items g → IsIndexOf i g) }
+        ensures { IfOk result (λ i. (g : Geometry Pos) (all : List Visiting) → KeepsClashes seen.visits.items all → AreVisitsOf seen.ends.items all g → IsIndexOf i g) }
     {
         let Seen { ends, visits, .. } = seen;
         let mut sorted_visits = visits;
@@ -285,6 +326,33 @@ impl VisitIndex {
         };
         let names = map.names()?;
         seen.see_layers(map, &names)?;
+        let index = VisitIndex::of_seen(alloc, seen)?;
+        Ok(index)
+    }
+
+    /// The index of all arcs of two tables: the free loops are rings, the other arcs lines. It is the
+    /// index of the maps that the tables are of, taken together.
+    ///
+    /// # Errors
+    /// Where memory is refused.
+    pub fn over_arcs(
+        alloc: Global,
+        left: &ArcTable,
+        right: &ArcTable,
+    ) -> Result<VisitIndex, OutOfMemory>
+        ensures arcs { IfOk result (λ i. IsIndexOf i (tables_as_map left.now right.now)) }
+        ensures union { IfOk result (λ i. (m n u : Geometry Pos) → IsSound m → IsSound n → IsTableOf m left.now → IsTableOf n right.now → IsUnionOf m n u → IsIndexOf i u) }
+    {
+        let mut seen = Seen {
+            ends: Vec::new(alloc),
+            visits: Vec::new(alloc),
+            // Arcs of a table visit no vertex twice in the same way: a hint would miss.
+            recent: Vec::new(alloc),
+        };
+        seen.see_arcs(left)?;
+        seen.see_arcs(right)?;
+        let kept = crowded_visits(alloc, &seen.visits)?;
+        seen.visits = kept;
         let index = VisitIndex::of_seen(alloc, seen)?;
         Ok(index)
     }

@@ -9,6 +9,7 @@ use Rattle.serde_json.specs.Data.{Data, null, boolean, number, string, array, ob
 use Rattle.serde_json.specs.Find.{as_object}
 use Rattle.serde_json.specs.Read.{read}
 use Rattle.serde_json.specs.Written.{compact_text, has_float}
+use Rattle.shapes.specs.Ids.{HasI64}
 use Rattle.shapes.specs.Parts.{spelled_text, properties_text}
 use Rattle.shapes.specs.Properties.{properties_value}
 use Rattle.shapes.specs.declared.props.Props.{Props}
@@ -17,7 +18,6 @@ use Rattle.shapes.specs.declared.shape.Id.TheVariants as id
 use Rattle.reading.specs.Info.{id_faults, properties_faults, id_of, properties_of}
 use Rattle.reading.specs.Parts.{if_there}
 use Rattle.reading.specs.Plain.{plain_id}
-use Rattle.compact.specs.Stored.{IsStoredId}
 use Rattle.compact.specs.Values.{id_data, properties_data}
 use Rattle.compact.specs.Good.{Good}
 use Rattle.compact.proofs.GoodParts.{Good-number, Good-string, Good-text}
@@ -27,20 +27,20 @@ use Rattle.compact.proofs.Texts.{properties_value_is}
 
 -- ---- ids
 
-pub id_faultless : (i : Id) → IsStoredId i → if_there id_faults (id_data i) ≡ []
+pub id_faultless : (i : Id) → HasI64 i → if_there id_faults (id_data i) ≡ []
 id_faultless id.None h = refl
 id_faultless (id.Number n) h = rw (as_i64-of_integer n h)
 id_faultless (id.Text s) h = refl
 
-pub id_means : (i : Id) → IsStoredId i → id_of (unwrap_or (id_data i) null) ≡ plain_id i
+pub id_means : (i : Id) → HasI64 i → id_of (unwrap_or (id_data i) null) ≡ plain_id i
 id_means id.None h = refl
 id_means (id.Number n) h = rw (as_i64-of_integer n h)
 id_means (id.Text s) h = refl
 
-pub Good-id : (n : ℕ) (i : Id) → IsStoredId i → OptionGood n (id_data i)
+pub Good-id : (n : ℕ) (i : Id) → HasI64 i → OptionGood n (id_data i)
 Good-id n id.None h = tt
 Good-id n (id.Number z) h = Good-number n z (Fits-IsI64 z h)
-Good-id n (id.Text s) h = Good-string n (spelled_text s) h
+Good-id n (id.Text s) h = Good-string n (spelled_text s) (IsUtf8-from_is_utf8 (spelled_text s) s.utf8)
 
 -- ---- properties
 

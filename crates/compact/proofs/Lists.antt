@@ -8,7 +8,7 @@ use Rattle.theory.specs.Lists.{Has}
 use Rattle.reading.specs.Fault.{under, unless_faulty}
 use Rattle.reading.specs.Numbers.{element_faults}
 use Rattle.reading.specs.Parts.{list_of, each_faults, list_faults, pair_faults, elements}
-use Rattle.compact.specs.Stored.{IsI64}
+use Rattle.shapes.specs.Ids.{IsI64}
 use Rattle.compact.specs.Values.{integer, list_data, pair_data}
 use Rattle.compact.specs.Good.{Good}
 use Rattle.compact.proofs.GoodParts.{AllGood, Good-number, Good-array}

@@ -4,7 +4,7 @@ use Rattle.std.proofs.lemmas.Int.{ints}
 use Rattle.serde_json.specs.Find.{as_i64, of_integer}
 use Rattle.faults.specs.Fault.{Pair}
 use Rattle.reading.specs.Numbers.{element_faults, whole_of}
-use Rattle.compact.specs.Stored.{IsI64}
+use Rattle.shapes.specs.Ids.{IsI64}
 use Rattle.compact.specs.Values.{integer}
 use Rattle.compact.proofs.GoodParts.{Fits}
 

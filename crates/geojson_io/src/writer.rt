@@ -2,6 +2,7 @@
 ghost use Rattle.std.specs.Prelude.{◌≡◌, ℕ, ℤ, List, [], ◌++◌, codes, map, OnErr, OnOk};
 ghost use Rattle.std.specs.Borrow.{Bor};
 ghost use Rattle.std.specs.Iterator.{Drains, IsFinite};
+ghost use Rattle.sinks.specs.Stops.{FailedIn};
 ghost use Rattle.sinks.specs.Texts.{list_text, framed};
 ghost use Rattle.sinks.specs.Writes.{TookAll, TookPart};
 ghost use Rattle.lines.specs.Seen.{positions_of, vertices_of};
@@ -169,22 +170,23 @@ impl<'a, 'b> Notation<&'b Feature> for FeaturesOn<'a> {
 /// numbers, a line as it is, a ring from its least rotation and closed.
 ///
 /// # Errors
-/// `Write` where the sink failed; it then took a beginning of the text.
+/// `Write` where the sink failed; it then took a beginning of the text, whatever features the iterator had
+/// still to give: it is not asked for them.
 pub fn write<'a, W: Sink, I: Iterator<Item = &'a Feature> + Drop>(
     grid: &Grid,
-    features: I,
+    mut features: I,
     sink: &mut W,
 ) -> Result<(), WriteFault>
     requires can { I.can_next features }
     requires ends { IsFinite (I.remaining features) }
     ensures whole { OnOk result ((xs : List (Bor Feature)) × Drains I.next_gives features xs × TookAll (W.seen sink.old) (W.seen sink.new) (collection_text grid.now (map (λ f. f.now) xs))) }
-    ensures part { OnErr result ((xs : List (Bor Feature)) × Drains I.next_gives features xs × TookPart (W.seen sink.old) (W.seen sink.new) (collection_text grid.now (map (λ f. f.now) xs))) }
+    ensures part { OnErr result (FailedIn I.next_gives (λ f. f.now) (collection_text grid.now) features (W.seen sink.old) (W.seen sink.new)) }
 {
     write_framed(
         sink,
         b"{\"features\":[",
         &FeaturesOn(grid),
-        features,
+        &mut features,
         b"],\"type\":\"FeatureCollection\"}",
     )
 }

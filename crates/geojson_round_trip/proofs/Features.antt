@@ -17,7 +17,7 @@ use Rattle.geojson_io.specs.Features.{feature_members, feature_of, feature_named
 use Rattle.compact.specs.Values.{id_data}
 use Rattle.compact.proofs.Info.{id_faultless, id_means, properties_value_faultless, properties_value_means}
 use Rattle.compact.proofs.Members.{get_past, get_here}
-use Rattle.geojson_round_trip.specs.Laws.{IsWritable}
+use Rattle.geojson_round_trip.specs.Laws.{FeatureFits}
 use Rattle.geojson_round_trip.specs.Values.{after_id, feature_data}
 use Rattle.geojson_round_trip.proofs.Shapes.{shape_faultless, shape_means}
 
@@ -31,15 +31,15 @@ module _ (t : Transform) (f : Feature) where
   get_type : get (codes "type") (feature_data t f) ≡ Some (string (codes "Feature"))
   get_type = get_past (codes "type") (codes "id") (id_data f.id) (after_id f) refl
 
-module _ (t : Transform) (limits : IsTransform t) (f : Feature) (h : IsWritable t f) where
+module _ (t : Transform) (limits : IsTransform t) (f : Feature) (h : FeatureFits t f) where
   info_faultless : info_faults (feature_data t f) ≡ []
   info_faultless =
       ap₂ (λ (a b : List Pair). under (name (codes "id")) a ++ under (name (codes "properties")) b)
-      (ap (if_there id_faults) (get_id t f) ∙ id_faultless f.id h.id)
+      (ap (if_there id_faults) (get_id t f) ∙ id_faultless f.id f.bits)
       (ap (if_there properties_faults) (get_properties t f) ∙ properties_value_faultless f.props)
 
   members_faultless : feature_members t (feature_data t f) ≡ []
-  members_faultless = ap₂ (λ (a b : List Pair). under (name (codes "geometry")) a ++ b) (shape_faultless t limits f.shape h.fits) info_faultless
+  members_faultless = ap₂ (λ (a b : List Pair). under (name (codes "geometry")) a ++ b) (shape_faultless t limits f.shape h) info_faultless
 
   pub feature_faultless : element_of_features_faults t (feature_data t f) ≡ []
   feature_faultless =
@@ -47,7 +47,7 @@ module _ (t : Transform) (limits : IsTransform t) (f : Feature) (h : IsWritable 
 
   pub feature_means : feature_of t (feature_data t f) ≡ plain f
   feature_means =
-      let e = ap (λ o. id_of (unwrap_or o null)) (get_id t f) ∙ id_means f.id h.id in
+      let e = ap (λ o. id_of (unwrap_or o null)) (get_id t f) ∙ id_means f.id f.bits in
       let p = ap (λ o. properties_of (unwrap_or o null)) (get_properties t f) ∙ properties_value_means f.props in
-      let g = shape_means t limits f.shape h.fits in
+      let g = shape_means t limits f.shape h in
       λ i. record { id = e i; properties = p i; form = g i }

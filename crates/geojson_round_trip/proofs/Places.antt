@@ -18,7 +18,7 @@ use Rattle.reading.proofs.Fits.{all_has, all_append}
 use Rattle.reading.proofs.Positions.{position_itself}
 use Rattle.geojson_io.specs.Positions.{grid_faults, axis_faults, number_or_zero, grid_number, position_faults, position_of, positions_faults, positions_of as positions_in, line_at_faults, line_at, ring_at_faults, ring_at}
 use Rattle.compact.specs.Good.{Good}
-use Rattle.compact.specs.Stored.{IsI64}
+use Rattle.shapes.specs.Ids.{IsI64}
 use Rattle.compact.specs.Values.{integer, list_data}
 use Rattle.compact.proofs.Lists.{list_faultless, elements_mean, map-same, unless_none, pair_faultless, Good-pair, Good-list}
 use Rattle.compact.proofs.Numbers.{IsI64-between, whole_of-integer}

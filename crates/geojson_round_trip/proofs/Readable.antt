@@ -19,7 +19,7 @@ use Rattle.compact.proofs.GoodParts.{deeper, Good-string, Good-null, GoodMembers
 use Rattle.compact.proofs.Info.{Good-id, Good-value}
 use Rattle.compact.proofs.Lists.{Good-list}
 use Rattle.compact.proofs.Members.{ComesBefore-given, GoodMembers-given}
-use Rattle.geojson_round_trip.specs.Laws.{IsWritable}
+use Rattle.geojson_round_trip.specs.Laws.{FeatureFits}
 use Rattle.geojson_round_trip.specs.Values.{line_data, ring_data, geometry_data, shape_data, after_id, after_geometry, feature_data, collection_data}
 use Rattle.geojson_round_trip.proofs.Places.{Good-place, Good-places, Good-ring}
 
@@ -45,24 +45,24 @@ module _ (t : Transform) (limits : IsTransform t) where
       (Good-list (list_data (ring_data t)) 3 ps (λ rs k. Good-rings rs (all_has (AllByRecursion (λ r. AllByRecursion (Fits t) (vertices_of r))) ps rs h k)))
       (IsUtf8-are_ascii _ refl)
 
-  Good-feature : (f : Feature) → IsWritable t f → Good 65 (feature_data t f)
+  Good-feature : (f : Feature) → FeatureFits t f → Good 65 (feature_data t f)
   Good-feature f h =
       let last : GoodMembers 64 (after_id f) =
       (IsUtf8-are_ascii _ refl, (refl, tt), Good-value f.props, (IsUtf8-are_ascii _ refl, tt, Good-string 64 _ (IsUtf8-are_ascii _ refl), tt)) in
       let more : GoodMembers 64 (after_geometry f) =
-      GoodMembers-given 64 (codes "id") (id_data f.id) (after_id f) (IsUtf8-are_ascii _ refl) (refl, (refl, tt)) (Good-id 64 f.id h.id) last in
+      GoodMembers-given 64 (codes "id") (id_data f.id) (after_id f) (IsUtf8-are_ascii _ refl) (refl, (refl, tt)) (Good-id 64 f.id f.bits) last in
       Good-object 64 _ (
         IsUtf8-are_ascii _ refl,
         ComesBefore-given (codes "geometry") (codes "id") (id_data f.id) (after_id f) refl (refl, (refl, tt)),
-        deeper 5 64 _ (omega arith) (Good-shape f.shape h.fits),
+        deeper 5 64 _ (omega arith) (Good-shape f.shape h),
         more,
       )
 
-  pub Good-collection : (fs : List Feature) → AllByRecursion (IsWritable t) fs → Good 67 (collection_data t fs)
+  pub Good-collection : (fs : List Feature) → AllByRecursion (FeatureFits t) fs → Good 67 (collection_data t fs)
   Good-collection fs h =
       Good-object 66 _ (
         IsUtf8-are_ascii _ refl,
         (refl, tt),
-        Good-list (feature_data t) 65 fs (λ f k. Good-feature f (all_has (IsWritable t) fs f h k)),
+        Good-list (feature_data t) 65 fs (λ f k. Good-feature f (all_has (FeatureFits t) fs f h k)),
         (IsUtf8-are_ascii _ refl, tt, Good-string 66 _ (IsUtf8-are_ascii _ refl), tt),
       )

@@ -1,5 +1,5 @@
-//! Written GeoJSON reads back: the law of `geojson_io`'s writer and reader, promised by a function
-//! that does nothing.
+//! Written GeoJSON reads back: the laws of `geojson_io`'s writer and reader, promised by functions
+//! that do nothing.
 #![tactic(auto)]
 
 ghost use Rattle.geojson_round_trip.specs.Laws as law;
@@ -7,4 +7,9 @@ ghost use Rattle.geojson_round_trip.specs.Laws as law;
 /// What is written of features that fit the grid is accepted on that grid, and means those features.
 pub fn written_collections_are_read()
     ensures { law.WrittenCollectionsAreRead }
+{}
+
+/// What is written of a layer of a map that fits the grid is accepted on that grid, and means the layer's features.
+pub fn written_layers_are_read()
+    ensures { law.WrittenLayersAreRead }
 {}

@@ -10,7 +10,8 @@ use Rattle.shapes.specs.declared.feature.Feature.{Feature}
 use Rattle.chains.proofs.Slices.{item_at}
 use Rattle.theory.specs.Lists.{Has}
 use Rattle.theory.proofs.Lists.{Has-append, Has-append_left, Has-append_right}
-use Rattle.query.specs.Selecting.{Answered, ChosenBelow, Decided, Known}
+use Rattle.theory.proofs.ListsOfLists.{get_has}
+use Rattle.query.specs.Selecting.{Answered, ChosenBelow, Decided, Known, MayAskAmong}
 use Rattle.query.specs.Spans.{span_cmp}
 use Rattle.query.specs.declared.members.Member.{Member}
 use Rattle.query.specs.declared.spans.Span.{Span}
@@ -83,6 +84,11 @@ pub not_there : (ms : List Member) (i : ℕ) (p : Member) → length ms ≤ i �
 not_there [] i p h e = absurd cc
 not_there (q ∷ ms) zero p h e = absurd (omega (arith, h))
 not_there (q ∷ ms) (suc i) p h e = not_there ms i p (omega (arith, h)) e
+
+-- the filter may be asked about the features at the places of the span
+pub may_ask : (May : Feature → Feature → Type 0) (ms : List Member) (s : Span) (x y : Member) →
+    s.least < length ms → x ≡ get_or ms s.least x → s.greatest < length ms → y ≡ get_or ms s.greatest y → MayAskAmong May ms → May x.feature y.feature
+may_ask May ms s x y h e k f may = may x y (get_has ms s.least x (item_at ms s.least x h e)) (get_has ms s.greatest y (item_at ms s.greatest y k f))
 
 -- the filter was asked about the features at the places of the span
 pub asked : (Says : Feature → Feature → Bool → Type 0) (ms : List Member) (s : Span) (x y : Member) (b : Bool) →

@@ -17,3 +17,4 @@ pub mod Halting
 pub mod ArcSegments
 pub mod Parted
 pub mod Wholes
+pub mod LinesLeft

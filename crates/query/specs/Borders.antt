@@ -1,6 +1,8 @@
 -- The borders between features: the segments that a filter selects, and the lines over them.
 use Rattle.std.specs.Prelude.{◌≡◌, ◌⊎◌, ℕ, Bool, true, false, IsTrue, List, Option, Some, None}
+use Rattle.std.specs.Borrow.{Bor}
 use Rattle.std.specs.FinMap as map
+use Rattle.std.specs.Fn.{Shared}
 use Rattle.grid.specs.declared.pos.Pos.{Pos}
 use Rattle.shapes.specs.Maps.{Layers, features_at}
 use Rattle.shapes.specs.Order.{feature_cmp}
@@ -24,6 +26,10 @@ InScope m None f = (name : List ℕ) × Has f (set.items (features_at m name))
 abbrev pub IsMissing : Layers → Option (List ℕ) → Type 0
 IsMissing m (Some name) = ¬ IsTrue (map.contains_key m name)
 IsMissing m None = ⊥
+
+-- f may be called on references to a and b
+abbrev pub MayAsk : {F : Type 0} → Shared F (Bor Feature × (Bor Feature × Unit {0})) Bool → F → Feature → Feature → Type 0
+MayAsk g f a b = (v w : Bor Feature) → v.now ≡ a → w.now ≡ b → g.pre f (v, (w, tt))
 
 -- u and v are neighbours on a line or a ring of the feature
 abbrev pub HasSide : Pos → Pos → Feature → Type 0

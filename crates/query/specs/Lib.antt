@@ -9,3 +9,4 @@ pub mod Along
 pub mod Parting
 pub mod Borders
 pub mod Members
+pub mod AnswerTexts

@@ -7,6 +7,10 @@ use Rattle.query.specs.Spans.{span_cmp}
 use Rattle.query.specs.declared.members.Member.{Member}
 use Rattle.query.specs.declared.spans.Span.{Span}
 
+-- the question may be asked about any two of the features, and about one with itself
+abbrev pub MayAskAmong : (Feature → Feature → Type 0) → List Member → Type 0
+MayAskAmong May ms = (p q : Member) → Has p ms → Has q ms → May p.feature q.feature
+
 -- b is the answer of the features at the places of the span
 abbrev pub Answered : (Feature → Feature → Bool → Type 0) → List Member → Span → Bool → Type 0
 Answered Says ms s b = (p q : Member) → slice_get ms s.least ≡ Some p → slice_get ms s.greatest ≡ Some q → Says p.feature q.feature b

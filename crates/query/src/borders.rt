@@ -4,13 +4,14 @@ ghost use Rattle.std.specs.Fn.{FnReturnsAtPair};
 ghost use Rattle.std.specs.Option.{option_map};
 ghost use Rattle.grid.specs.declared.pos.Pos.{Pos};
 ghost use Rattle.shapes.specs.Maps.{Layers};
+ghost use Rattle.shapes.specs.declared.feature.Feature.{Feature};
 ghost use Rattle.theory.specs.Lists.{Has};
 ghost use Rattle.chains.specs.Joined.{AmongSegments};
 ghost use Rattle.chains.specs.declared.segment.Segment.{Segment};
 ghost use Rattle.topo.specs.OfMap.{IsOf};
 ghost use Rattle.topo.specs.Points.{arc_at};
 ghost use Rattle.query.specs.Along.{Joins, SidesOf, HasArcs};
-ghost use Rattle.query.specs.Borders.{InScope, IsMissing, AreSelected, AreLinesOver};
+ghost use Rattle.query.specs.Borders.{InScope, IsMissing, MayAsk, AreSelected, AreLinesOver};
 ghost use Rattle.query.specs.declared.fault.QueryFault.TheVariants.{NoLayer as MissingLayer};
 
 use crate::fault::QueryFault;
@@ -80,7 +81,8 @@ fn segments_of(alloc: Global, arcs: &ArcTable, chosen: &[usize]) -> Result<Vec<S
 /// have them, which are one where only one has the segment. Lines stop at the vertices that lie on a
 /// number of selected segments other than two; each is in its least direction, and they are sorted.
 ///
-/// The filter is asked once about each two features, whatever the number of their segments.
+/// The filter has to answer about any two of these features, and about each with itself; about others it
+/// is not asked. How often it is asked is not promised.
 ///
 /// # Errors
 /// `NoLayer` where the topology has no layer of that name; `OutOfMemory`.
@@ -90,7 +92,7 @@ pub fn mesh<F: Fn(&Feature, &Feature) -> bool>(
     layer: Option<&str>,
     filter: F,
 ) -> Result<ArcTable, QueryFault>
-    requires { F.IsAlwaysCallable filter }
+    requires { (m : Layers) → IsOf m topology.now → (a b : Feature) → InScope m (option_map (λ n. n.now) layer) a → InScope m (option_map (λ n. n.now) layer) b → MayAsk F.Fn filter a b }
     ensures layer { (m : Layers) → IsOf m topology.now → (result ≡ Err MissingLayer) ↔ IsMissing m (option_map (λ n. n.now) layer.entry) }
     ensures lines { IfOk result (λ lines. (segments : List Segment) × AreLinesOver segments lines × ((m : Layers) → IsOf m topology.now → AreSelected (InScope m (option_map (λ n. n.now) layer.entry)) (FnReturnsAtPair F.Fn filter) segments)) }
 {

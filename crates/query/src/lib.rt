@@ -1,5 +1,6 @@
 //! Questions to a topology: the features of a layer, the borders between features, and which features
-//! are neighbours. The answers come from the arcs, each of which is the whole of its segments.
+//! are neighbours. The answers come from the arcs, each of which is the whole of its segments. Each has a
+//! text, which is written with no memory.
 #![tactic(auto)]
 
 pub mod borders;
@@ -13,9 +14,11 @@ pub mod sharing;
 mod spans;
 mod stops;
 mod uses;
+pub mod writer;
 
 pub use borders::mesh;
 pub use fault::QueryFault;
 pub use layer::feature;
 pub use layer_text::{LayerFault, write_layer};
 pub use sharing::neighbors;
+pub use writer::{write_mesh, write_neighbors};

@@ -1,7 +1,8 @@
 //! Which arcs a filter selects.
 ghost use Rattle.std.specs.Prelude.{IfOk, OnOk};
 ghost use Rattle.std.specs.Fn.{FnReturnsAtPair};
-ghost use Rattle.query.specs.Selecting.{Answered, Decided, Known, AreChosen};
+ghost use Rattle.query.specs.Borders.{MayAsk};
+ghost use Rattle.query.specs.Selecting.{MayAskAmong, Answered, Decided, Known, AreChosen};
 
 use crate::members::Member;
 use crate::spans::Span;
@@ -11,7 +12,7 @@ use std::collections::BTreeMap;
 
 /// What the filter says of the least and the greatest feature of a span.
 fn ask<F: Fn(&Feature, &Feature) -> bool>(members: &[Member], span: Span, filter: &F) -> bool
-    requires { F.IsAlwaysCallable filter.now }
+    requires { MayAskAmong (MayAsk F.Fn filter.now) members.now }
     ensures { Answered (FnReturnsAtPair F.Fn filter.now) members.now span result }
 {
     match (members.get(span.least), members.get(span.greatest)) {
@@ -20,14 +21,14 @@ fn ask<F: Fn(&Feature, &Feature) -> bool>(members: &[Member], span: Span, filter
     }
 }
 
-/// The same, where the filter is asked once of each two features.
+/// The same; what the filter said before is known.
 fn answer<F: Fn(&Feature, &Feature) -> bool>(
     known: &mut BTreeMap<Span, bool>,
     members: &[Member],
     span: Span,
     filter: &F,
 ) -> Result<bool, AllocError>
-    requires callable { F.IsAlwaysCallable filter.now }
+    requires callable { MayAskAmong (MayAsk F.Fn filter.now) members.now }
     requires known { Known (FnReturnsAtPair F.Fn filter.now) members.now known.old }
     ensures answered { IfOk result (λ says. Answered (FnReturnsAtPair F.Fn filter.now) members.now span says) }
     ensures known { OnOk result (Known (FnReturnsAtPair F.Fn filter.now) members.now known.new) }
@@ -47,7 +48,7 @@ fn is_chosen<F: Fn(&Feature, &Feature) -> bool>(
     span: Option<Span>,
     filter: &F,
 ) -> Result<bool, AllocError>
-    requires callable { F.IsAlwaysCallable filter.now }
+    requires callable { MayAskAmong (MayAsk F.Fn filter.now) members.now }
     requires known { Known (FnReturnsAtPair F.Fn filter.now) members.now known.old }
     ensures decided { IfOk result (λ says. Decided (FnReturnsAtPair F.Fn filter.now) members.now span says) }
     ensures known { OnOk result (Known (FnReturnsAtPair F.Fn filter.now) members.now known.new) }
@@ -65,7 +66,7 @@ pub(crate) fn choose<F: Fn(&Feature, &Feature) -> bool>(
     members: &[Member],
     filter: &F,
 ) -> Result<Vec<usize>, AllocError>
-    requires { F.IsAlwaysCallable filter.now }
+    requires { MayAskAmong (MayAsk F.Fn filter.now) members.now }
     ensures { IfOk result (λ v. AreChosen (FnReturnsAtPair F.Fn filter.now) members.now spans.now v.items) }
 {
     let mut known = BTreeMap::new(alloc);

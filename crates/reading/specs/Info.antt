@@ -1,5 +1,5 @@
 -- Ids and properties.
-use Rattle.std.specs.Prelude.{ℕ, ℤ, pos, List, [], ◌++◌, Option, not, nat_le, is_some, unwrap_or, codes, if◌then◌else◌}
+use Rattle.std.specs.Prelude.{◌≡◌, ℕ, ℤ, pos, List, [], ◌++◌, Option, not, nat_le, is_some, unwrap_or, codes, if◌then◌else◌}
 use Rattle.serde_json.specs.Data.{Data, null, boolean, number, string, array, object, depth}
 use Rattle.serde_json.specs.Find.{get, as_null, as_i64}
 use Rattle.serde_json.specs.Written.{has_float, compact_text}
@@ -10,7 +10,9 @@ use Rattle.shapes.specs.declared.props.PropFault as props
 use Rattle.shapes.specs.declared.props.PropFault.TheVariants as of
 use Rattle.reading.specs.Fault.{here}
 use Rattle.reading.specs.Parts.{option_faults}
-use Rattle.reading.specs.Plain.{PlainId, none, number as whole, text}
+use Rattle.shapes.specs.Ids.{HasI64}
+use Rattle.shapes.specs.declared.shape.Id.{Id}
+use Rattle.reading.specs.Plain.{PlainId, none, number as whole, text, plain_id}
 
 -- an id is null, a whole number or a text
 abbrev pub id_faults : Data → List Pair
@@ -55,6 +57,11 @@ id_of (number n) = whole (unwrap_or (as_i64 n) (pos 0))
 id_of (string s) = text s
 id_of (array ds) = none
 id_of (object ms) = none
+
+-- the id is what the value means, and a number that it is has 64 bits
+pub record IsIdOf (d : Data) (i : Id) : Type 0 where
+  pub means : plain_id i ≡ id_of d
+  pub bits : HasI64 i
 
 -- the compact text of properties, where null is the empty object
 abbrev pub properties_of : Data → List ℕ

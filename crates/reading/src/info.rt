@@ -2,11 +2,12 @@
 ghost use Rattle.std.specs.Prelude.{◌≡◌, [], IfOk, IfErr, OnOk, codes};
 ghost use Rattle.serde_json.specs.View.{view};
 ghost use Rattle.faults.specs.Fault.{IsWant};
+ghost use Rattle.shapes.specs.Ids.{HasI64};
 ghost use Rattle.shapes.specs.Parts.{properties_text};
 ghost use Rattle.reading.specs.Fault.{LeastOrWant};
 ghost use Rattle.reading.specs.Parts.{option_faults};
 ghost use Rattle.reading.specs.Plain.{plain_id};
-ghost use Rattle.reading.specs.Info.{id_faults, properties_faults, info_faults, id_of, properties_of, member_or_null, properties_kind};
+ghost use Rattle.reading.specs.Info.{IsIdOf, id_faults, properties_faults, info_faults, id_of, properties_of, member_or_null, properties_kind};
 
 use crate::part::{Part, read_option};
 use faults::fault::{Fault, FaultKind};
@@ -25,7 +26,7 @@ impl Part for Ids {
 
     ghost faults = { λ _. id_faults };
 
-    ghost means = { λ _ d x. plain_id x ≡ id_of d };
+    ghost means = { λ _ d x. IsIdOf d x };
 
     fn read(&self, alloc: Global, value: &Value) -> Result<Id, Fault> {
         match value {
@@ -90,6 +91,7 @@ pub fn no_properties(alloc: Global) -> Result<Props, Fault>
 fn read_id(alloc: Global, value: &Value) -> Result<Id, Fault>
     ensures ok { OnOk result (option_faults (codes "id") id_faults (view value.now) ≡ []) }
     ensures made { IfOk result (λ id. plain_id id ≡ id_of (member_or_null (codes "id") (view value.now))) }
+    ensures bits { IfOk result HasI64 }
     ensures err { IfErr result (λ f. LeastOrWant (option_faults (codes "id") id_faults (view value.now)) f) }
 {
     match read_option(alloc, &Ids, value, "id")? {
@@ -113,6 +115,7 @@ fn read_properties(alloc: Global, value: &Value) -> Result<Props, Fault>
 pub fn read_info(alloc: Global, value: &Value) -> Result<(Id, Props), Fault>
     ensures ok { OnOk result (info_faults (view value.now) ≡ []) }
     ensures id { IfOk result (λ info. plain_id info.0 ≡ id_of (member_or_null (codes "id") (view value.now))) }
+    ensures bits { IfOk result (λ info. HasI64 info.0) }
     ensures properties { IfOk result (λ info. properties_text info.1 ≡ properties_of (member_or_null (codes "properties") (view value.now))) }
     ensures err { IfErr result (λ f. LeastOrWant (info_faults (view value.now)) f) }
 {

@@ -1,4 +1,7 @@
+pub mod PlanSizes
 pub mod PlanLemmas
+pub mod LeafLemmas
+pub mod RunLemmas
 pub mod GroupingLemmas
 pub mod AlikeLemmas
 pub mod SinkLemmas
@@ -6,4 +9,3 @@ pub mod MergeLemmas
 pub mod MergedTexts
 pub mod UnionFits
 pub mod ThroughTexts
-pub mod InMemory

@@ -5,10 +5,13 @@ use Rattle.std.specs.Option.{option_or}
 use Rattle.std.specs.FinMap as map
 use Rattle.std.proofs.lemmas.Bool.{ltb-true, lt-ltb}
 use Rattle.std.proofs.lemmas.List.{length-append}
-use Rattle.grid.specs.Place.{Transform, IsTransform}
-use Rattle.round_trip.specs.Laws.{IsStored}
+use Rattle.grid.specs.Place.{Transform}
+use Rattle.shapes.specs.Fitting.{MapFits}
 use Rattle.shapes.specs.Maps.{Layers}
 use Rattle.shapes.specs.Union.{union}
+use Rattle.topo.specs.OfMap.{seen_parts}
+use Rattle.topo.proofs.TopologyLaws.{is_computed}
+use Rattle.topo_io.specs.TopologyText.{topology_text}
 use Rattle.topo_io.specs.Canon.{canon}
 use Rattle.topo_io.specs.Means.{Means}
 use Rattle.refine.specs.Plans.{leaves, first_outside, union_at}
@@ -122,13 +125,20 @@ merged_through ts us ps is t a x back y = go y.grid y.maps y.meant y.text
         }
 
 pub merged_texts_mean_unions : MergedTextsMeanUnions
-merged_texts_mean_unions texts p t x transform stored =
-    subst (λ u. Means u x.grid (union_at x.maps (leaves p))) (sym x.text)
-    (written_topologies_are_read x.grid (union_at x.maps (leaves p)) transform stored (union_at_fits x.grid texts x.maps x.meant (leaves p)))
+merged_texts_mean_unions texts p t x u held same =
+    let m = union_at x.maps (leaves p) in
+    let fits : MapFits u.grid m = subst (λ g. MapFits g m) (sym same) (union_at_fits x.grid texts x.maps x.meant (leaves p)) in
+    let written : topology_text (seen_parts u) ≡ t =
+    ap topology_text (is_computed u.grid m (seen_parts u) held.of_map.topology) ∙ ap (λ g. canon g m) same ∙ sym x.text in
+    subst (λ g. Means t g m) same (subst (λ s. Means s u.grid m) written (written_topologies_are_read m u held fits))
 
 pub merges_through_texts : MergesThroughTexts
 merges_through_texts texts others p q t u x y = merged_through texts others (leaves p) (leaves q) t u x.merge x.means y
 
--- the merge of a map that memory holds
-pub means_union : (texts : List (List ℕ)) (p : Plan) (t : List ℕ) (x : IsMergeOf texts (leaves p) t) → IsTransform x.grid → IsStored (union_at x.maps (leaves p)) → MeansUnion texts (leaves p) t
-means_union texts p t x limits stored = record { merge = x; means = merged_texts_mean_unions texts p t x limits stored }
+-- the merge whose text is read back as the map that it was written of
+pub means_union : (texts : List (List ℕ)) (p : Plan) (t : List ℕ) (x : IsMergeOf texts (leaves p) t) (m : Layers) → m ≡ union_at x.maps (leaves p) → (MapFits x.grid m → Means t x.grid m)
+    → MeansUnion texts (leaves p) t
+means_union texts p t x m same back = record {
+  merge = x;
+  means = subst (Means t x.grid) same (back (subst (MapFits x.grid) (sym same) (union_at_fits x.grid texts x.maps x.meant (leaves p))));
+}

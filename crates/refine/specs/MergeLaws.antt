@@ -1,11 +1,12 @@
 -- The laws of merging, from bytes to bytes.
 use Rattle.std.specs.Prelude.{◌≡◌, ℕ, zero, suc, ◌+◌, List, [], ◌∷◌, ◌++◌, length}
-use Rattle.grid.specs.Place.{Transform, IsTransform}
-use Rattle.round_trip.specs.Laws.{IsStored}
+use Rattle.grid.specs.Place.{Transform}
+use Rattle.round_trip.specs.Laws.{IsHeldOf}
 use Rattle.shapes.specs.Maps.{Layers}
 use Rattle.chains.specs.Seen.{geometry_of}
 use Rattle.theory.specs.Arcs.{EachSegmentOnce}
 use Rattle.topo.specs.OfMap.{the_topology}
+use Rattle.topo.specs.Parts.{TopologyParts}
 use Rattle.topo_io.specs.Canon.{canon}
 use Rattle.topo_io.specs.Means.{Means}
 use Rattle.refine.specs.declared.plan.Plan.{Plan}
@@ -54,10 +55,10 @@ abbrev pub through : ℕ → List ℕ → List ℕ → List ℕ
 through n ps [] = []
 through n ps (i ∷ is) = instead n ps i ++ through n ps is
 
--- a merged text is accepted, and means the union of the named maps
+-- a merged text is accepted, and means the union of the named maps, where memory holds the topology of the union
 abbrev pub MergedTextsMeanUnions : Type 0
 MergedTextsMeanUnions =
-    (texts : List (List ℕ)) (p : Plan) (t : List ℕ) (x : IsMergeOf texts (leaves p) t) → IsTransform x.grid → IsStored (union_at x.maps (leaves p)) →
+    (texts : List (List ℕ)) (p : Plan) (t : List ℕ) (x : IsMergeOf texts (leaves p) t) (u : TopologyParts) → IsHeldOf (union_at x.maps (leaves p)) u → u.grid ≡ x.grid →
     Means t x.grid (union_at x.maps (leaves p))
 
 -- a merged text merged with others is the merge of all texts by the one plan

@@ -26,6 +26,14 @@ impl From<OutOfMemory> for JoinFault {
     }
 }
 
+impl<T: Drop> From<AllocFailed<T>> for JoinFault {
+    ghost from_gives = { λ _ f. f ≡ join.OutOfMemory };
+
+    fn from(_: AllocFailed<T>) -> JoinFault {
+        JoinFault::OutOfMemory
+    }
+}
+
 /// Why a plan is not run.
 #[derive(Clone, Copy, PartialEq, Eq, Debug, Error)]
 pub enum PlanFault {

@@ -19,8 +19,8 @@ pub fn merges_alike()
     ensures { MergesAlike }
 {}
 
-/// A merged text of a map that memory holds is accepted, and means the union of the named maps: stitching it
-/// by the standard gives exactly their features.
+/// A merged text is accepted, and means the union of the named maps, where memory holds the topology of the
+/// union: stitching it by the standard gives exactly their features.
 pub fn merged_texts_mean_unions()
     ensures { MergedTextsMeanUnions }
 {}

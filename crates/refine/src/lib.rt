@@ -7,12 +7,14 @@ pub mod grouping;
 pub mod laws;
 pub mod merge;
 pub mod plan;
+mod running;
 pub mod shard;
 pub mod whole;
 
 pub use fault::{JoinFault, MergeFault, PlanFault};
 pub use merge::merge_texts;
 pub use plan::{Plan, run_plan};
+pub use recutting::{Recut, Side, recut};
 pub use shard::Shard;
 pub use whole::Whole;
 

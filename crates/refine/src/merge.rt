@@ -62,7 +62,7 @@ pub fn merge_as<S: Shard>(
     ensures merged { IfOk result (λ t. IsMergeOf (bytes_of texts.now) (leaves plan.now) t.items) }
     ensures accepted { IfOk result (λ t. MeansUnion (bytes_of texts.now) (leaves plan.now) t.items) }
 {
-    if let Some(leaf) = first_bad_leaf(plan, texts.len()) {
+    if let Some(leaf) = first_bad_leaf(alloc, plan, texts.len()) {
         return Err(MergeFault::BadPlan(leaf));
     }
     let shards: Vec<S> = read_shards(alloc, texts)?;

@@ -1,18 +1,19 @@
 //! Plans: which shards are joined, and in what grouping.
-ghost use Rattle.std.specs.Prelude.{◌≡◌, ◌⊎◌, All, IfOk, IfErr, IsOkUnless, None, Some, Err, length, map};
-ghost use Rattle.refine.specs.declared.fault.JoinFault.TheVariants as join;
+ghost use Rattle.std.specs.Prelude.{◌≡◌, ◌⊎◌, All, IfOk, IfErr, None, Some, Err, length, map};
 ghost use Rattle.refine.specs.declared.fault.PlanFault.{PlanFault};
 ghost use Rattle.refine.specs.declared.fault.PlanFault.TheVariants.{OutOfMemory};
 ghost use Rattle.refine.specs.Meaning as meaning;
-ghost use Rattle.refine.specs.Plans.{leaves, HasPlaces, first_outside, first_other, off_grid, union_at, plan_fault};
+ghost use Rattle.refine.specs.Plans.{leaves, first_outside, first_other, off_grid, union_at, plan_fault};
 
-use crate::fault::{JoinFault, PlanFault};
+use crate::fault::PlanFault;
+use crate::running::join_leaves;
 use crate::shard::Shard;
 use grid::transform::Grid;
 use std::alloc::Global;
+use std::mem;
 
-/// Which places of a list of shards are joined, from left to right, and in what grouping.
-#[derive(Drop)]
+/// Which places of a list of shards are joined, from left to right, and in what grouping. A plan of
+/// any depth is run and given up without a call for each level of it.
 pub enum Plan {
     /// The shard at a place of the list.
     Leaf(usize),
@@ -20,17 +21,62 @@ pub enum Plan {
     Node(Box<Plan>, Box<Plan>),
 }
 
-// The first leaf from the left that is no place of a list of `count`.
-pub(crate) fn first_bad_leaf(plan: &Plan, count: usize) -> Option<usize>
+impl Drop for Plan {
+    // Turns a plan to the right until its left plan is a leaf, gives that up, and goes on with the right plan.
+    // So no call goes down the plan, and no memory is asked for.
+    fn drop(mut self) {
+        loop {
+            match self {
+                Plan::Leaf(_) => return,
+                Plan::Node(mut left, mut right) => {
+                    if let Plan::Node(first, second) = &mut *left {
+                        mem::swap(first, second);
+                        mem::swap(second, &mut right);
+                        self = Plan::Node(right, left);
+                    } else {
+                        self = Box::into_inner(left);
+                        let Plan::Leaf(_) = self else {
+                            unreachable!();
+                        };
+                        self = Box::into_inner(right);
+                    }
+                }
+            }
+        }
+    }
+}
+
+// The first leaf from the left that is no place of a list of `count`. It looks at the plan from the right; what
+// waits on the left stands on the heap. Only where memory for that is refused is the right told by a call.
+pub(crate) fn first_bad_leaf(alloc: Global, plan: &Plan, count: usize) -> Option<usize>
     ensures first { result ≡ first_outside count (leaves plan.now) }
-    ensures none { result ≡ None → HasPlaces count plan.now }
 {
-    match plan {
-        Plan::Leaf(place) => { if *place < count { None } else { Some(*place) } }
-        Plan::Node(left, right) => match first_bad_leaf(left, count) {
-            None => first_bad_leaf(right, count),
-            found => found,
-        },
+    let mut waiting = Vec::new(alloc);
+    let mut rest = plan;
+    let mut found = None;
+    loop {
+        match rest {
+            Plan::Leaf(place) => {
+                if *place >= count {
+                    found = Some(*place);
+                }
+                let Some(before) = waiting.pop() else {
+                    return found;
+                };
+                rest = before;
+            }
+            Plan::Node(left, right) => match &**left {
+                Plan::Leaf(place) if *place < count => rest = right,
+                Plan::Leaf(_) => rest = left,
+                Plan::Node(..) => match waiting.push(&**left) {
+                    Ok(()) => rest = right,
+                    Err(_) => {
+                        found = first_bad_leaf(alloc, right, count).or(found);
+                        rest = left;
+                    }
+                },
+            },
+        }
     }
 }
 
@@ -59,28 +105,6 @@ fn first_other_grid<S: Shard>(shards: &[S]) -> Option<usize>
     first_off_grid(shards, first.grid())
 }
 
-fn join_leaves<S: Shard>(
-    alloc: Global,
-    shards: &[S],
-    grid: Grid,
-    plan: &Plan,
-) -> Result<S, JoinFault>
-    requires places { HasPlaces (length shards.now) plan.now }
-    requires one_grid { All (λ s. S.grid_of s ≡ grid) shards.now }
-    ensures grid { IfOk result (λ s. S.grid_of s ≡ grid) }
-    ensures map { IfOk result (λ s. S.map_of s ≡ union_at (map S.map_of shards.now) (leaves plan.now)) }
-    ensures memory { IsOkUnless result join.OutOfMemory }
-{
-    match plan {
-        Plan::Leaf(place) => Ok(shards[*place].copy(alloc)?),
-        Plan::Node(left, right) => {
-            let first = join_leaves(alloc, shards, grid, left)?;
-            let second = join_leaves(alloc, shards, grid, right)?;
-            first.join_owned(alloc, second)
-        }
-    }
-}
-
 /// Joins the shards that the plan names, in its grouping.
 ///
 /// # Errors
@@ -92,7 +116,7 @@ pub fn run_plan<S: Shard>(alloc: Global, shards: &[S], plan: &Plan) -> Result<S,
     ensures grid { IfOk result (λ s. All (λ t. S.grid_of t ≡ S.grid_of s) shards.now) }
     ensures map { IfOk result (λ s. S.map_of s ≡ union_at (map S.map_of shards.now) (leaves plan.now)) }
 {
-    if let Some(leaf) = first_bad_leaf(plan, shards.len()) {
+    if let Some(leaf) = first_bad_leaf(alloc, plan, shards.len()) {
         return Err(PlanFault::BadPlan(leaf));
     }
     if let Some(number) = first_other_grid(shards) {

@@ -1,11 +1,12 @@
 //! What a merge needs of a shard.
 ghost use Rattle.std.specs.Prelude.{◌≡◌, ◌↔◌, IfOk, IsErrOf};
-ghost use Rattle.grid.specs.Place.{Transform, IsTransform};
-ghost use Rattle.round_trip.specs.Laws.{IsStored};
+ghost use Rattle.grid.specs.Place.{Transform};
+ghost use Rattle.shapes.specs.Fitting.{MapFits};
 ghost use Rattle.shapes.specs.Maps.{Layers};
 ghost use Rattle.shapes.specs.Union.{union};
 ghost use Rattle.refine.specs.Meaning.{Commutes, Associates, IsIdempotent};
 ghost use Rattle.topo_io.specs.Canon.{canon};
+ghost use Rattle.topo_io.specs.Means.{Means};
 ghost use Rattle.refine.specs.declared.fault.JoinFault.TheVariants.{OtherGrid};
 
 use crate::fault::JoinFault;
@@ -65,11 +66,10 @@ pub trait Shard: Sized + Drop {
         self.join(alloc, &other)
     }
 
-    /// The canonical text of the shard's topology.
+    /// The canonical text of the shard's topology. Where the map fits the grid, it is read back as both.
     fn text(&self, alloc: Global) -> Result<Vec<u8>, OutOfMemory>
         ensures text { IfOk result (λ t. t.items ≡ canon (grid_of self.now) (map_of self.now)) }
-        ensures limits { IfOk result (λ _. IsTransform (grid_of self.now)) }
-        ensures stored { IfOk result (λ _. IsStored (map_of self.now)) };
+        ensures accepted { IfOk result (λ t. MapFits (grid_of self.now) (map_of self.now) → Means t.items (grid_of self.now) (map_of self.now)) };
 
     ghost commutes: { Commutes joined map_of };
 

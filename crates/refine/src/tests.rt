@@ -23,6 +23,9 @@ const THIRD: &str =
 const ALL: &str =
     "{\"arcs\":[[[1,0],[-1,0],[0,1],[1,0]],[[1,0],[0,1]],[[1,0],[1,0]],[[1,1],[1,0]],[[2,0],[0,1]],[[2,0],[1,0],[0,1],[-1,0]]],\"bbox\":[0,0,3,1],\"objects\":{\"a\":{\"geometries\":[{\"arcs\":[[1,-1]],\"type\":\"Polygon\"},{\"arcs\":[[2,4,-4,-2]],\"type\":\"Polygon\"},{\"arcs\":[[5,-5]],\"type\":\"Polygon\"}],\"type\":\"GeometryCollection\"}},\"transform\":{\"scale\":[1,1],\"translate\":[0,0]},\"type\":\"Topology\"}";
 
+const ENDS: &str =
+    "{\"arcs\":[[[0,0],[0,1],[1,0],[0,-1],[-1,0]],[[2,0],[0,1],[1,0],[0,-1],[-1,0]]],\"bbox\":[0,0,3,1],\"objects\":{\"a\":{\"geometries\":[{\"arcs\":[[-1]],\"type\":\"Polygon\"},{\"arcs\":[[-2]],\"type\":\"Polygon\"}],\"type\":\"GeometryCollection\"}},\"transform\":{\"scale\":[1,1],\"translate\":[0,0]},\"type\":\"Topology\"}";
+
 const DOUBLE: &str =
     "{\"arcs\":[],\"objects\":{},\"transform\":{\"scale\":[2,2],\"translate\":[0,0]},\"type\":\"Topology\"}";
 
@@ -71,6 +74,41 @@ fn a_text_merged_with_itself(rt: HostRuntime) -> Result<(), Fail> {
     Ok(())
 }
 
+fn node(alloc: Global, left: Plan, right: Plan) -> Result<Plan, Fail> {
+    Ok(Plan::Node(Box::new(alloc, left)?, Box::new(alloc, right)?))
+}
+
+#[test]
+fn a_plan_with_repeats_and_omissions(rt: HostRuntime) -> Result<(), Fail> {
+    let alloc = rt.alloc();
+    let twice = node(alloc, Plan::Leaf(0), Plan::Leaf(2))?;
+    let right = node(alloc, Plan::Leaf(2), twice)?;
+    let plan = node(alloc, right, Plan::Leaf(0))?;
+    let list = texts(alloc, &[FIRST, SECOND, THIRD])?;
+    assert_eq!(rt;
+        merge_texts(alloc, &list, &plan)?.as_slice(),
+        ENDS.as_bytes()
+    );
+    Ok(())
+}
+
+// How deep the deep plans are.
+const LEVELS: usize = 2_000;
+
+// A leaf more at each level, on the right where the side is true, the two sides by turns.
+fn deep_plan(alloc: Global, sides: (bool, bool)) -> Result<Plan, Fail> {
+    let mut plan = Plan::Leaf(0);
+    for level in 0..LEVELS {
+        let is_right = if level % 2 == 0 { sides.0 } else { sides.1 };
+        plan = if is_right {
+            node(alloc, plan, Plan::Leaf(0))?
+        } else {
+            node(alloc, Plan::Leaf(0), plan)?
+        };
+    }
+    Ok(plan)
+}
+
 fn check_refused(
     rt: &impl Abort,
     alloc: Global,
@@ -92,10 +130,7 @@ fn missing_type(alloc: Global) -> Fault {
 fn refusals_in_their_order(rt: HostRuntime) -> Result<(), Fail> {
     let alloc = rt.alloc();
     let first = Plan::Leaf(0);
-    let past = Plan::Node(
-        Box::new(alloc, Plan::Leaf(0))?,
-        Box::new(alloc, Plan::Leaf(3))?,
-    );
+    let past = node(alloc, Plan::Leaf(0), Plan::Leaf(3))?;
     let text = |number: usize| MergeFault::Text(number, missing_type(alloc));
     check_refused(&rt, alloc, &[FIRST, "{}"], &first, text(1))?;
     check_refused(&rt, alloc, &[FIRST, DOUBLE, "{}"], &first, text(2))?;
@@ -134,5 +169,22 @@ fn plans_over_shards(rt: HostRuntime) -> Result<(), Fail> {
     shards.push(shard(alloc, 2, "a")?)?;
     let other = run_plan(alloc, &shards, &both);
     assert_eq!(rt; other.err(), Some(PlanFault::OtherGrid(2)));
+    Ok(())
+}
+
+#[test]
+fn deep_plans(rt: HostRuntime) -> Result<(), Fail> {
+    let alloc = rt.alloc();
+    let mut shards = Vec::new(alloc);
+    shards.push(shard(alloc, 1, "a")?)?;
+    let text = shard(alloc, 1, "a")?.text(alloc)?;
+    for sides in [(true, true), (false, false), (true, false)] {
+        let plan = deep_plan(alloc, sides)?;
+        let joined = run_plan(alloc, &shards, &plan)?;
+        assert_eq!(rt; joined.text(alloc)?.as_slice(), text.as_slice());
+        let past = node(alloc, plan, Plan::Leaf(1))?;
+        let refused = run_plan(alloc, &shards, &past);
+        assert_eq!(rt; refused.err(), Some(PlanFault::BadPlan(1)));
+    }
     Ok(())
 }

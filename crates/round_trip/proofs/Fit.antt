@@ -26,7 +26,7 @@ use Rattle.chains.specs.Seen.{line_of, ring_of, form_of, item_of, layer_of, seen
 use Rattle.topo.specs.Box.{widened, box_from, box_of}
 use Rattle.topo.specs.Parts.{Corners}
 use Rattle.topo.proofs.AtEntry.{at_entry}
-use Rattle.compact.specs.Stored.{IsI64}
+use Rattle.shapes.specs.Ids.{IsI64}
 use Rattle.compact.proofs.Numbers.{IsI64-between}
 use Rattle.round_trip.proofs.Entries.{holds_item}
 use Rattle.round_trip.proofs.Standing.{BoxStands}

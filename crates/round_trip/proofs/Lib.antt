@@ -8,4 +8,3 @@ pub mod Root
 pub mod Entries
 pub mod Fit
 pub mod OfMap
-pub mod StoredMaps

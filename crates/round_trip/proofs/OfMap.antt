@@ -1,6 +1,7 @@
 -- The topology of a map that fits its grid stands beside the map's plain data.
-use Rattle.std.proofs.Common.{◌≡◌, ℕ, ◌≤◌, ◌^◌, List, [], ◌∷◌, ◌++◌, map as map_list, length, IsUtf8, inl, inr, refl, sym, ap, ◌∙◌, subst}
+use Rattle.std.proofs.Common.{◌≡◌, ℕ, ◌<◌, ◌≤◌, ◌^◌, List, [], ◌∷◌, ◌++◌, map as map_list, length, IsUtf8, inl, inr, refl, sym, ap, ◌∙◌, subst, arith}
 use Rattle.std.specs.FinMap as map
+use Rattle.std.proofs.lemmas.Str.{IsUtf8-from_is_utf8}
 use Rattle.std.specs.Ordering.{nat_cmp}
 use Rattle.std.specs.Cmp.Lexicographic.{slice_cmp}
 use Rattle.grid.specs.Place.{Transform, IsTransform}
@@ -17,11 +18,11 @@ use Rattle.theory.specs.Geometry.{JunctionOf}
 use Rattle.theory.specs.LinesAndRings.{closed}
 use Rattle.theory.specs.Lists.{Has, Pairwise, joined}
 use Rattle.theory.specs.Topology.{Item, Layer, Body, IsFormOf, IsGeometryOf, IsLayerOf, IsRingList, lines_in, rings_in, points_in, null, point, points, line, lines, polygon, polygons}
-use Rattle.theory.specs.TopologyFunction.{arcs_of}
 use Rattle.theory.proofs.Lists.{Has-append_left}
 use Rattle.shapes.specs.Fitting.{ShapeFits, MapFits}
 use Rattle.shapes.specs.Maps.{Layers, Features}
-use Rattle.shapes.specs.Parts.{properties_text}
+use Rattle.shapes.specs.Ids.{HasI64}
+use Rattle.shapes.specs.Parts.{spelled_text, properties_text}
 use Rattle.shapes.specs.Sets as set
 use Rattle.shapes.specs.declared.feature.Feature.{Feature}
 use Rattle.shapes.specs.declared.shape.Shape as shapes
@@ -31,18 +32,17 @@ use Rattle.reading.specs.Outlines.{outline_faults}
 use Rattle.reading.specs.Plain.{plain, plain_form, plain_id}
 use Rattle.reading.proofs.Plains.{layers_once}
 use Rattle.chains.specs.Seen.{Info, line_of, ring_of, form_of, item_of, layer_of, geometry_of}
-use Rattle.topo.specs.OfMap.{Seen, IsTopology, the_topology}
-use Rattle.topo.proofs.TopologyLaws.{has_topology}
-use Rattle.topo_io.specs.Canon.{canon}
+use Rattle.topo.specs.OfMap.{Seen, IsOf, IsTopology, seen_parts}
+use Rattle.topo.specs.Parts.{TopologyParts}
+use Rattle.topo.proofs.Stitched.{IsEntryOf, entries_of}
+use Rattle.topo_io.specs.TopologyText.{topology_text}
 use Rattle.topo_io.specs.Means.{Means}
 use Rattle.topo_io.specs.Roots.{grid_of_text, layers_of_text}
-use Rattle.compact.specs.Stored.{IsStoredId}
-use Rattle.round_trip.specs.Laws.{IsStored, WrittenTopologiesAreRead, OneMapOfAText}
-use Rattle.round_trip.proofs.Entries.{has_name, holds_item, names_ascend, meant, holds_layers}
+use Rattle.round_trip.specs.Laws.{IsHeldOf, WrittenTopologiesAreRead, OneMapOfAText}
+use Rattle.round_trip.proofs.Entries.{names_ascend, meant, holds_layers}
 use Rattle.round_trip.proofs.Fit.{shape_places, feature_fits, chain_long, chain_fits, box_stands}
 use Rattle.round_trip.proofs.Root.{text_accepted, text_grid, text_layers}
 use Rattle.round_trip.proofs.Standing.{LineStands, RingStands, Stands, LayerStands, TopologyStands}
-use Rattle.topo.proofs.AtEntry.{at_entry}
 
 -- ---- forms
 
@@ -87,29 +87,25 @@ same_points A B f h e = absurd e
 
 -- ---- features and layers
 
--- the feature can be stored, and fits
-record FeatureStands (g : Transform) (f : Feature) : Type 0 where
-  id : IsStoredId f.id
-  fits : ShapeFits g f.shape
-
+-- the name is a text, and the features fit
 record EntryStands (g : Transform) (e : List ℕ × Features) : Type 0 where
   name : IsUtf8 e.0
-  features : (f : Feature) → Has f (set.items e.1) → FeatureStands g f
+  features : (f : Feature) → Has f (set.items e.1) → ShapeFits g f.shape
 
 module _ (g : Transform) (J : Pos → Type 0) (arcs : List (List Pos)) where
-  geometry_stands : (f : Feature) (h : Item Info (Body Pos)) → FeatureStands g f → IsGeometryOf position_cmp J arcs (item_of f) h → Stands g arcs (plain f) h
+  geometry_stands : (f : Feature) (h : Item Info (Body Pos)) → ShapeFits g f.shape → IsGeometryOf position_cmp J arcs (item_of f) h → Stands g arcs (plain f) h
   geometry_stands f h ok s = record {
-    stored = subst (λ (i : Info). IsStoredId i.0) s.info ok.id;
+    stored = subst (λ (i : Info). HasI64 i.0) s.info f.bits;
     id = ap (λ (i : Info). plain_id i.0) (sym s.info);
     properties = ap (λ (i : Info). properties_text i.1) (sym s.info);
     form = form_stands J arcs f.shape h.form s.form;
     points = λ q k.
-        shape_places g f.shape ok.fits q
+        shape_places g f.shape ok q
         (Has-append_left q (points_in (form_of f.shape)) (joined (lines_in (form_of f.shape)) ++ joined (rings_in (form_of f.shape)))
         (subst (Has q) (sym (same_points _ _ (form_of f.shape) h.form s.form)) k));
   }
 
-  geometries_stand : (fs : List Feature) (hs : List (Item Info (Body Pos))) → ((f : Feature) → Has f fs → FeatureStands g f) → Pairwise (IsGeometryOf position_cmp J arcs) (map_list item_of fs) hs → Pairwise (Stands g arcs) (map_list plain fs) hs
+  geometries_stand : (fs : List Feature) (hs : List (Item Info (Body Pos))) → ((f : Feature) → Has f fs → ShapeFits g f.shape) → Pairwise (IsGeometryOf position_cmp J arcs) (map_list item_of fs) hs → Pairwise (Stands g arcs) (map_list plain fs) hs
   geometries_stand [] [] ok s = tt
   geometries_stand [] (h ∷ hs) ok s = absurd s
   geometries_stand (f ∷ fs) [] ok s = absurd s
@@ -134,49 +130,65 @@ module _ (g : Transform) (J : Pos → Type 0) (arcs : List (List Pos)) where
 
 -- ---- the topology of a map
 
-arcs_are : (g : Transform) (m : Layers) → (the_topology g m).arcs ≡ arcs_of position_cmp (geometry_of m)
-unfolding the_topology
-arcs_are g m = refl
+left_of : {A B : Type 0} (R : A → B → Type 0) (xs : List A) (ys : List B) → Pairwise R xs ys → (x : A) → Has x xs → (y : B) × R x y
+left_of R [] [] h x k = absurd k
+left_of R [] (z ∷ ys) h x k = absurd h
+left_of R (w ∷ xs) [] h x k = absurd h
+left_of R (w ∷ xs) (z ∷ ys) h x (inl e) = (z, subst (λ v. R v z) (sym e) h.0)
+left_of R (w ∷ xs) (z ∷ ys) h x (inr k) = left_of R xs ys h.1 x k
 
-module _ (g : Transform) (m : Layers) (limits : IsTransform g) (stored : IsStored m) (fits : MapFits g m) where
-  entry_stands : (e : List ℕ × Features) → Has e (map.entries m) → EntryStands g e
-  entry_stands e there = record {
-    name = stored.names e.0 (has_name m e there);
-    features = λ f h. record { id = stored.ids e.0 f (ap (λ s. set.contains s f) (at_entry m e there) ∙ holds_item e.1 f h); fits = feature_fits g m fits e there f h };
+-- the names of a map are those of its topology's layers, which are texts
+name_is_text : (m : Layers) (t : TopologyParts) → IsOf m t → (e : List ℕ × Features) → Has e (map.entries m) → IsUtf8 e.0
+name_is_text m t h e there =
+    let (l, k) = left_of (IsEntryOf t.arcs.arcs) (map.entries m) t.layers (entries_of m t h) e there in
+    subst IsUtf8 (sym k.name) (IsUtf8-from_is_utf8 (spelled_text l.name) l.name.utf8)
+
+module _ (m : Layers) (t : TopologyParts) (held : IsHeldOf m t) (fits : MapFits t.grid m) where
+  abbrev seen_topology : Seen
+  seen_topology = seen_parts t
+
+  abbrev is : IsTopology t.grid m seen_topology
+  is = held.of_map.topology
+
+  entry_stands : (e : List ℕ × Features) → Has e (map.entries m) → EntryStands t.grid e
+  entry_stands e there = record { name = name_is_text m t held.of_map e there; features = λ f h. feature_fits t.grid m fits e there f h }
+
+  stands : TopologyStands seen_topology (map_list meant (map.entries m))
+  stands = record {
+    limits = held.limits;
+    few = held.few;
+    long = λ c h. chain_long t.grid m fits c (is.arcs.arcs_only c h).chain;
+    fit = λ c h. chain_fits t.grid m fits c (is.arcs.arcs_only c h).chain;
+    box = λ c e. box_stands t.grid m fits c (sym is.bbox ∙ e);
+    layers = layers_stand t.grid (JunctionOf (geometry_of m)) seen_topology.arcs (map.entries m) seen_topology.layers entry_stands is.layers;
+    ascends = subst (Ascends (slice_cmp nat_cmp)) (names_are t.grid (JunctionOf (geometry_of m)) seen_topology.arcs (map.entries m) seen_topology.layers is.layers) (names_ascend m);
   }
 
-  stands : (t : Seen) → IsTopology g m t → length t.arcs ≤ 2 ^ 63 → TopologyStands t (map_list meant (map.entries m))
-  stands t is few =
-      let same : t.grid ≡ g = is.grid in
-      record {
-        limits = subst IsTransform (sym same) limits;
-        few = few;
-        long = λ c h. chain_long g m fits c (is.arcs.arcs_only c h).chain;
-        fit = λ c h. subst (λ w. (p : Pos) → Has p c → Fits w p) (sym same) (chain_fits g m fits c (is.arcs.arcs_only c h).chain);
-        box = λ c e. box_stands g m fits c (sym is.bbox ∙ e);
-        layers = subst (λ w. Pairwise (LayerStands w t.arcs) (map_list meant (map.entries m)) t.layers) (sym same)
-            (layers_stand g (JunctionOf (geometry_of m)) t.arcs (map.entries m) t.layers entry_stands is.layers);
-        ascends = subst (Ascends (slice_cmp nat_cmp)) (names_are g (JunctionOf (geometry_of m)) t.arcs (map.entries m) t.layers is.layers) (names_ascend m);
-      }
-
-  pub reads_back : Means (canon g m) g m
-  reads_back =
-      let t = the_topology g m in
-      let is = has_topology g m in
-      let s = stands t is (subst (λ w. length w ≤ 2 ^ 63) (sym (arcs_are g m)) stored.few) in
-      record {
-        accepted = text_accepted t (map_list meant (map.entries m)) s;
-        grid = sym (text_grid t (map_list meant (map.entries m)) s ∙ is.grid);
-        layers = subst (AreLayers m) (sym (text_layers t (map_list meant (map.entries m)) s)) (holds_layers m);
-      }
+  pub reads_back : Means (topology_text (seen_parts t)) t.grid m
+  reads_back = record {
+    accepted = text_accepted seen_topology (map_list meant (map.entries m)) stands;
+    grid = sym (text_grid seen_topology (map_list meant (map.entries m)) stands);
+    layers = subst (AreLayers m) (sym (text_layers seen_topology (map_list meant (map.entries m)) stands)) (holds_layers m);
+  }
 
 pub written_topologies_are_read : WrittenTopologiesAreRead
-written_topologies_are_read g m limits stored fits = reads_back g m limits stored fits
+written_topologies_are_read m t held fits = reads_back m t held fits
+
+-- what was written of a built topology
+pub built_topology_is_read : (g : Transform) (m : Layers) (t : TopologyParts) (text : List ℕ) → IsTopology g m (seen_parts t) → IsOf m t → IsTransform t.grid → length t.arcs.arcs < 2 ^ 63
+    → text ≡ topology_text (seen_parts t) → MapFits g m → Means text g m
+built_topology_is_read g m t text is of_map limits few written fits =
+    let same : t.grid ≡ g = is.grid in
+    let back = reads_back m t (record { of_map = of_map; limits = limits; few = at_most (length t.arcs.arcs) few }) (subst (λ h. MapFits h m) (sym same) fits) in
+    subst (λ h. Means text h m) same (subst (λ s. Means s t.grid m) (sym written) back)
+  where
+    at_most : (n : ℕ) → n < 2 ^ 63 → n ≤ 2 ^ 63
+    at_most n h = omega (arith, h)
 
 pub one_map_of_a_text : OneMapOfAText
-one_map_of_a_text g h m n lg lh sm sn fm fn same =
-    let a = reads_back g m lg sm fm in
-    let b = reads_back h n lh sn fn in (
+one_map_of_a_text m n t u ht hu ft fu same =
+    let a = reads_back m t ht ft in
+    let b = reads_back n u hu fu in (
       a.grid ∙ ap grid_of_text same ∙ sym b.grid,
-      layers_once m n (layers_of_text (canon h n)) (subst (AreLayers m) (ap layers_of_text same) a.layers) b.layers,
+      layers_once m n (layers_of_text (topology_text (seen_parts u))) (subst (AreLayers m) (ap layers_of_text same) a.layers) b.layers,
     )

@@ -19,7 +19,7 @@ use Rattle.topo_io.specs.Arcs.{steps_faults, short_faults, arc_faults, places_fr
 use Rattle.topo_io.specs.Limits.{limits_on, limit_faults, Sums, sums_at, step_faults, next_sums, moved, place_of, position_faults, position_of}
 use Rattle.topo_io.specs.Roots.{within_faults, scale_faults, translate_faults, both_numbers}
 use Rattle.compact.specs.Good.{Good}
-use Rattle.compact.specs.Stored.{IsI64}
+use Rattle.shapes.specs.Ids.{IsI64}
 use Rattle.compact.specs.Values.{integer, list_data, pair_data}
 use Rattle.compact.proofs.GoodParts.{AllGood, Good-array}
 use Rattle.compact.proofs.Lists.{list_of-items_of, elements_mean, map-same, unless_none, pair_faultless, Good-pair}

@@ -16,7 +16,7 @@ use Rattle.chains.specs.Seen.{Info}
 use Rattle.topo.specs.OfMap.{Seen}
 use Rattle.topo.specs.Parts.{Corners}
 use Rattle.compact.specs.Good.{Good}
-use Rattle.compact.specs.Stored.{IsI64}
+use Rattle.shapes.specs.Ids.{IsI64}
 use Rattle.compact.specs.Values.{integer, list_data, id_data, properties_data}
 use Rattle.compact.proofs.GoodParts.{deeper, Good-number, Good-string, Good-null, ComesBefore, GoodMembers, Good-object}
 use Rattle.compact.proofs.Info.{Good-id, Good-properties}

@@ -17,7 +17,7 @@ use Rattle.reading.specs.Plain.{Plain, plain_id}
 use Rattle.chains.specs.Seen.{Info}
 use Rattle.topo.specs.OfMap.{Seen}
 use Rattle.topo.specs.Parts.{Corners}
-use Rattle.compact.specs.Stored.{IsI64, IsStoredId}
+use Rattle.shapes.specs.Ids.{IsI64, HasI64}
 
 -- the used arcs stitch to a list without faults, which is read as l
 pub record ListStands (faults : List Pos → List Pair) (of : List Pos → List Pos) (arcs : List (List Pos)) (l : List Pos) (used : List ArcRef) : Type 0 where
@@ -34,7 +34,7 @@ RingStands arcs = ListStands ring_faults ring_of arcs
 
 -- a geometry that can be written and means the feature
 pub record Stands (g : Transform) (arcs : List (List Pos)) (p : Plain) (h : Item Info (Body Pos)) : Type 0 where
-  pub stored : IsStoredId h.info.0
+  pub stored : HasI64 h.info.0
   pub id : plain_id h.info.0 ≡ p.id
   pub properties : properties_text h.info.1 ≡ p.properties
   pub form : IsFormOf (LineStands arcs) (RingStands arcs) p.form h.form

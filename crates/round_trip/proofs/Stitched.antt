@@ -16,7 +16,7 @@ use Rattle.reading.specs.Parts.{list_faults}
 use Rattle.topo_io.specs.Arcs.{known, arc_number, no_arc_faults, index_faults, used_arc, used_arcs, same_as, meets, stitched_onto, stitched, stitched_faults, stitching_faults, stitched_of, list_or_none}
 use Rattle.topo_io.proofs.Stitching.{stitched_passed}
 use Rattle.compact.specs.Good.{Good}
-use Rattle.compact.specs.Stored.{IsI64}
+use Rattle.shapes.specs.Ids.{IsI64}
 use Rattle.compact.specs.Values.{list_data}
 use Rattle.compact.proofs.GoodParts.{Good-number}
 use Rattle.compact.proofs.Lists.{list_faultless, elements_mean, Good-list, unless_none}

@@ -1,44 +1,25 @@
--- What is written of a map is read back as the map.
-use Rattle.std.specs.Prelude.{◌≡◌, ℕ, ◌≤◌, ◌^◌, List, length, true, IsTrue, IsUtf8}
-use Rattle.std.specs.FinMap as map
-use Rattle.std.specs.List.{AllByRecursion}
-use Rattle.grid.specs.Place.{Transform, IsTransform}
-use Rattle.lines.specs.Turned.{position_cmp}
-use Rattle.shapes.specs.Sets as set
+-- What is written of a topology is read back as its map.
+use Rattle.std.specs.Prelude.{◌≡◌, ◌≤◌, ◌^◌, length}
+use Rattle.grid.specs.Place.{IsTransform}
 use Rattle.shapes.specs.Fitting.{MapFits}
-use Rattle.shapes.specs.Maps.{Layers, features_at}
-use Rattle.shapes.specs.declared.feature.Feature.{Feature}
-use Rattle.chains.specs.Seen.{geometry_of}
-use Rattle.theory.specs.TopologyFunction.{arcs_of}
-use Rattle.compact.specs.Stored.{IsStoredId}
-use Rattle.topo_io.specs.Canon.{canon}
+use Rattle.shapes.specs.Maps.{Layers}
+use Rattle.topo.specs.OfMap.{IsOf, seen_parts}
+use Rattle.topo.specs.Parts.{TopologyParts}
+use Rattle.topo_io.specs.TopologyText.{topology_text}
 use Rattle.topo_io.specs.Means.{Means}
 
--- the names of the layers are texts in UTF-8
-abbrev pub NamesAreTexts : Layers → Type 0
-NamesAreTexts m = (n : List ℕ) → IsTrue (map.contains_key m n) → IsUtf8 n
+-- the topology in memory of a map: its grid is within its limits, and 64 bits number its arcs
+pub record IsHeldOf (m : Layers) (t : TopologyParts) : Type 0 where
+  pub of_map : IsOf m t
+  pub limits : IsTransform t.grid
+  pub few : length t.arcs.arcs ≤ 2 ^ 63
 
--- the ids of the features are what memory holds
-abbrev pub IdsAreStored : Layers → Type 0
-IdsAreStored m = (n : List ℕ) (f : Feature) → set.contains (features_at m n) f ≡ true → IsStoredId f.id
-
--- one layer of a map
-pub record IsStoredLayer (m : Layers) (n : List ℕ) : Type 0 where
-  pub name : IsUtf8 n
-  pub ids : AllByRecursion (λ f. IsStoredId f.id) (set.items (features_at m n))
-
--- what holds of each map in memory: names and ids are what memory holds, and 64 bits number the arcs
-pub record IsStored (m : Layers) : Type 0 where
-  pub names : NamesAreTexts m
-  pub ids : IdsAreStored m
-  pub few : length (arcs_of position_cmp (geometry_of m)) ≤ 2 ^ 63
-
--- the canonical text of a map that fits a grid is accepted, and means that grid and that map
+-- the text of the topology of a map that fits its grid is accepted, and means that grid and that map
 abbrev pub WrittenTopologiesAreRead : Type 0
-WrittenTopologiesAreRead = (g : Transform) (m : Layers) → IsTransform g → IsStored m → MapFits g m → Means (canon g m) g m
+WrittenTopologiesAreRead = (m : Layers) (t : TopologyParts) → IsHeldOf m t → MapFits t.grid m → Means (topology_text (seen_parts t)) t.grid m
 
--- maps that have one canonical text are one map, and their grids are one grid
+-- maps whose topologies have one text are one map, and their grids are one grid
 abbrev pub OneMapOfAText : Type 0
 OneMapOfAText =
-    (g h : Transform) (m n : Layers) → IsTransform g → IsTransform h → IsStored m → IsStored n → MapFits g m → MapFits h n
-    → canon g m ≡ canon h n → (g ≡ h) × (m ≡ n)
+    (m n : Layers) (t u : TopologyParts) → IsHeldOf m t → IsHeldOf n u → MapFits t.grid m → MapFits u.grid n
+    → topology_text (seen_parts t) ≡ topology_text (seen_parts u) → (t.grid ≡ u.grid) × (m ≡ n)

@@ -1,13 +1,10 @@
-//! What is written is read back.
+//! What is written is read back: laws, promised by functions that do nothing.
 #![tactic(auto)]
-
-pub mod stored;
 
 ghost use Rattle.round_trip.specs.Laws.{WrittenTopologiesAreRead, OneMapOfAText};
 
-pub use stored::map_is_stored;
-
-/// The canonical text of a map that fits a grid is accepted by `topo_io::read`, and means that grid and that map.
+/// The text that `topo_io::write` writes of a topology that `Topology::build` made of a map that fits its grid
+/// is accepted by `topo_io::read`, and means that grid and that map.
 #[tactic(auto, using(crate::proofs::OfMap::written_topologies_are_read))]
 pub fn written_topologies_are_read()
     ensures { WrittenTopologiesAreRead }

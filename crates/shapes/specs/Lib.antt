@@ -1,6 +1,7 @@
 pub mod Spelling
 pub mod Properties
 pub mod Parts
+pub mod Ids
 pub mod PropertyFaults
 pub mod Order
 pub mod OrderLaws

@@ -27,7 +27,9 @@ use Rattle.shapes.specs.declared.props.Props.{Props}
 use Rattle.std.specs.Coded.{Coded-set, coded_list, coded_ℕ, coded_bool}
 use mathlib.Core.HLevel.{is_prop→PathP}
 use Rattle.theory.specs.OneProof.{IsLine-prop, IsRing-prop}
+use Rattle.std.specs.Str.{is_utf8}
 use Rattle.shapes.specs.Spelling.{spelling_of}
+use Rattle.shapes.specs.Ids.{HasI64, HasI64-prop}
 use Rattle.shapes.specs.Properties.{is_properties, properties_value}
 use Rattle.json.specs.Lex.{tokens}
 use Rattle.json.specs.Token.{tokens_code}
@@ -103,6 +105,7 @@ one_spelled s t e =
       text = e i;
       json = f i;
       spelled = is_prop→PathP (λ j. f j ≡ spelling_of (e j)) (λ j. Coded-set (coded_list coded_ℕ) _ _) s.spelled t.spelled i;
+      utf8 = is_prop→PathP (λ j. is_utf8 (e j) ≡ true) (λ j. Coded-set coded_bool _ _) s.utf8 t.utf8 i;
     }
 
 pub one_props : (s t : Props) → s.text ≡ t.text → s ≡ t
@@ -128,13 +131,22 @@ same_shape (Polygon ps) (Polygon qs) e = ap Polygon (slice_cmp-IsAntisymmetric s
 same_shape (MultiPolygon ps) (MultiPolygon qs) e = ap MultiPolygon (slice_cmp-IsAntisymmetric (slice_cmp-IsAntisymmetric same_ring) ps qs e)
 same_shape a b e = cc
 
+-- features of one id, properties and shape are one
+one_feature : (a b : Feature) → a.id ≡ b.id → a.props.text ≡ b.props.text → a.shape ≡ b.shape → a ≡ b
+one_feature a b e p s i = record {
+  id = e i;
+  props = one_props a.props b.props p i;
+  shape = s i;
+  bits = is_prop→PathP (λ j. HasI64 (e j)) (λ j. HasI64-prop (e j)) a.bits b.bits i;
+}
+
 -- features that tie are one
 pub same_feature : IsAntisymmetric feature_cmp
 unfolding feature_cmp
 same_feature a b e =
     let first = then_equal (id_cmp a.id b.id) _ e in
     let rest = then_equal (slice_cmp nat_cmp a.props.text b.props.text) (shape_cmp a.shape b.shape) first.1 in
-    λ i. record { id = same_id a.id b.id first.0 i; props = one_props a.props b.props (same_text a.props.text b.props.text rest.0) i; shape = same_shape a.shape b.shape rest.1 i }
+    one_feature a b (same_id a.id b.id first.0) (same_text a.props.text b.props.text rest.0) (same_shape a.shape b.shape rest.1)
 
 -- from what the comparisons of the three parts answer
 pub feature_cmp_from : (a b : Feature) (x y z : Ordering) → x ≡ id.cmp-value.it a.id b.id → y ≡ slice_cmp nat_cmp a.props.text b.props.text → z ≡ shape.cmp-value.it a.shape b.shape → ordering_then x (ordering_then y z) ≡ feature_cmp a b
@@ -152,5 +164,5 @@ feature_tied a b = (
 pub feature_alike : (a b : Feature) → (a ≡ b) ↔ ((a.id ≡ b.id) × (a.props.text ≡ b.props.text) × (a.shape ≡ b.shape))
 feature_alike a b = (
   λ e. (ap (λ f. f.id) e, ap (λ f. f.props.text) e, ap (λ f. f.shape) e),
-  λ (i, p, s). λ j. record { id = i j; props = one_props a.props b.props p j; shape = s j },
+  λ (i, p, s). one_feature a b i p s,
 )

@@ -1,5 +1,7 @@
 //! A text beside its JSON spelling.
-ghost use Rattle.std.specs.Prelude.{◌≡◌};
+ghost use Rattle.std.specs.Prelude.{◌≡◌, true};
+ghost use Rattle.std.specs.Coded.{Coded-set, coded_bool};
+ghost use Rattle.std.specs.Str.{is_utf8};
 ghost use Rattle.shapes.specs.Spelling.{spelling_of};
 
 use faults::OutOfMemory;
@@ -16,6 +18,7 @@ pub struct Spelled {
     #[derive_where(skip(EqHashOrd))]
     json: Text,
     pub ghost spelled: { json ≡ spelling_of text },
+    pub ghost utf8: { is_utf8 text ≡ true } by { Coded-set coded_bool _ _ },
 }
 
 impl Spelled {

@@ -25,44 +25,77 @@ fn line(alloc: Global, places: &[(i64, i64)]) -> Result<Shape, Fail> {
     Ok(Shape::Line(Line::from_positions(alloc, positions)?))
 }
 
-fn feature(alloc: Global, id: Id, props: &str, shape: Shape) -> Result<Feature, Fail> {
-    let value = Value::from_str(alloc, props)?;
-    let props = Props::from_value(alloc, &value)?;
-    Ok(Feature { id, props, shape })
+fn properties_of(alloc: Global, text: &str) -> Result<Props, Fail> {
+    let value = Value::from_str(alloc, text)?;
+    Ok(Props::from_value(alloc, &value)?)
+}
+
+fn feature(alloc: Global, props: &str, shape: Shape) -> Result<Feature, Fail> {
+    let props = properties_of(alloc, props)?;
+    Ok(Feature {
+        id: Id::None,
+        props,
+        shape,
+    })
+}
+
+fn numbered(alloc: Global, number: i64, shape: Shape) -> Result<Feature, Fail> {
+    let props = properties_of(alloc, "{}")?;
+    Ok(Feature {
+        id: Id::Number(number),
+        props,
+        shape,
+    })
+}
+
+fn named(alloc: Global, name: &str) -> Result<Feature, Fail> {
+    let props = properties_of(alloc, "{}")?;
+    Ok(Feature {
+        id: Id::Text(Spelled::new(alloc, name)?),
+        props,
+        shape: Shape::Null,
+    })
 }
 
 fn point(alloc: Global, x: i64, y: i64) -> Result<Feature, Fail> {
-    feature(alloc, Id::None, "{}", Shape::Point(pos(x, y)?))
+    feature(alloc, "{}", Shape::Point(pos(x, y)?))
+}
+
+fn track(alloc: Global, places: &[(i64, i64)]) -> Result<Feature, Fail> {
+    feature(alloc, "{}", line(alloc, places)?)
+}
+
+/// Features without an id, each less than the one after it.
+fn add_unnamed(alloc: Global, list: &mut Vec<Feature>) -> Result<(), Fail> {
+    list.push(feature(alloc, "{\"a\":1}", Shape::Null)?)?;
+    list.push(feature(alloc, "{}", Shape::Null)?)?;
+    list.push(point(alloc, 9, 9)?)?;
+    Ok(())
+}
+
+/// Lines without an id, each less than the one after it.
+fn add_tracks(alloc: Global, list: &mut Vec<Feature>) -> Result<(), Fail> {
+    list.push(track(alloc, &[(0, 0), (1, 0)])?)?;
+    list.push(track(alloc, &[(0, 0), (1, 0), (1, 1)])?)?;
+    list.push(track(alloc, &[(0, 0), (2, 0)])?)?;
+    Ok(())
+}
+
+/// Features with an id, each less than the one after it.
+fn add_named(alloc: Global, list: &mut Vec<Feature>) -> Result<(), Fail> {
+    list.push(numbered(alloc, -3, Shape::Point(pos(0, 0)?))?)?;
+    list.push(numbered(alloc, 12, Shape::Null)?)?;
+    list.push(named(alloc, "10")?)?;
+    list.push(named(alloc, "9")?)?;
+    Ok(())
 }
 
 /// Each feature of the list is less than the one after it.
 fn ordered(alloc: Global) -> Result<Vec<Feature>, Fail> {
     let mut list = Vec::new(alloc);
-    list.push(feature(alloc, Id::None, "{\"a\":1}", Shape::Null)?)?;
-    list.push(feature(alloc, Id::None, "{}", Shape::Null)?)?;
-    list.push(point(alloc, 9, 9)?)?;
-    list.push(feature(alloc, Id::None, "{}", line(alloc, &[(0, 0), (1, 0)])?)?)?;
-    list.push(feature(
-        alloc,
-        Id::None,
-        "{}",
-        line(alloc, &[(0, 0), (1, 0), (1, 1)])?,
-    )?)?;
-    list.push(feature(alloc, Id::None, "{}", line(alloc, &[(0, 0), (2, 0)])?)?)?;
-    list.push(feature(alloc, Id::Number(-3), "{}", Shape::Point(pos(0, 0)?))?)?;
-    list.push(feature(alloc, Id::Number(12), "{}", Shape::Null)?)?;
-    list.push(feature(
-        alloc,
-        Id::Text(Spelled::new(alloc, "10")?),
-        "{}",
-        Shape::Null,
-    )?)?;
-    list.push(feature(
-        alloc,
-        Id::Text(Spelled::new(alloc, "9")?),
-        "{}",
-        Shape::Null,
-    )?)?;
+    add_unnamed(alloc, &mut list)?;
+    add_tracks(alloc, &mut list)?;
+    add_named(alloc, &mut list)?;
     Ok(list)
 }
 
@@ -195,7 +228,7 @@ fn maps_fit_grids(rt: HostRuntime) -> Result<(), Fail> {
     let mut map = FeatureMap::new(alloc);
     assert!(rt; map.fits(&over));
     map.add_layer("a")?;
-    map.insert("a", feature(alloc, Id::None, "{}", shape)?)?;
+    map.insert("a", feature(alloc, "{}", shape)?)?;
     assert!(rt; map.fits(&fine));
     assert!(rt; !map.fits(&over));
     Ok(())

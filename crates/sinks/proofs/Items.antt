@@ -1,9 +1,9 @@
 -- The text of the items that an iterator gave so far.
 use Rattle.std.proofs.Common.{◌≡◌, ℕ, List, [], ◌∷◌, ◌++◌, refl, sym, subst, ◌∙◌, ap, append-nil, append_assoc, codes}
 use Rattle.sinks.specs.Seen.{Seen}
-use Rattle.sinks.specs.Texts.{after_comma, after_commas, framed, joined, separator}
+use Rattle.sinks.specs.Texts.{after_comma, after_commas, joined, separator}
 use Rattle.sinks.specs.Writes.{TookAll, TookPart}
-use Rattle.sinks.proofs.Writes.{all_all, all_part, part_more}
+use Rattle.sinks.proofs.Writes.{all_all, all_part}
 
 one_more_after : {X : Type 0} (f : X → List ℕ) (xs : List X) (x : X) → after_commas f (xs ++ (x ∷ [])) ≡ after_commas f xs ++ after_comma f x
 one_more_after f [] x = append-nil (after_comma f x)
@@ -22,12 +22,6 @@ head_text f h xs x s e =
     append_assoc h (joined f xs) (s ++ f x)
     ∙ ap (λ l. h ++ l) (ap (λ t. joined f xs ++ (t ++ f x)) e ∙ sym (one_more_text f xs x))
 
-pub none_all : {X : Type 0} (f : X → List ℕ) (h : List ℕ) {a b : Seen} → TookAll a b h → TookAll a b (h ++ joined f [])
-none_all f h {a} {b} p = let P : List ℕ → Type 0 = λ l. TookAll a b l in subst P (sym (append-nil h)) p
-
-pub none_part : {X : Type 0} (f : X → List ℕ) (h : List ℕ) {a b : Seen} → TookPart a b h → TookPart a b (h ++ joined f [])
-none_part f h {a} {b} p = let P : List ℕ → Type 0 = λ l. TookPart a b l in subst P (sym (append-nil h)) p
-
 pub more_all : {X : Type 0} (f : X → List ℕ) (h : List ℕ) (xs : List X) (x : X) (s : List ℕ) {a b c : Seen} → s ≡ separator xs → TookAll a b (h ++ joined f xs) → TookAll b c (s ++ f x) → TookAll a c (h ++ joined f (xs ++ (x ∷ [])))
 more_all f h xs x s {a} {b} {c} e p q =
     let P : List ℕ → Type 0 = λ l. TookAll a c l in subst P (head_text f h xs x s e) (all_all p q)
@@ -35,24 +29,6 @@ more_all f h xs x s {a} {b} {c} e p q =
 pub more_part : {X : Type 0} (f : X → List ℕ) (h : List ℕ) (xs : List X) (x : X) (s : List ℕ) {a b c : Seen} → s ≡ separator xs → TookAll a b (h ++ joined f xs) → TookPart b c (s ++ f x) → TookPart a c (h ++ joined f (xs ++ (x ∷ [])))
 more_part f h xs x s {a} {b} {c} e p q =
     let P : List ℕ → Type 0 = λ l. TookPart a c l in subst P (head_text f h xs x s e) (all_part p q)
-
-pub part_stays : {X : Type 0} (f : X → List ℕ) (h : List ℕ) (xs : List X) (x : X) {a b : Seen} → TookPart a b (h ++ joined f xs) → TookPart a b (h ++ joined f (xs ++ (x ∷ [])))
-part_stays f h xs x {a} {b} p =
-    let P : List ℕ → Type 0 = λ l. TookPart a b l in
-    subst P (head_text f h xs x (separator xs) refl) (part_more (separator xs ++ f x) p)
-
--- before a tail
-pub end_all : {X : Type 0} (f : X → List ℕ) (h : List ℕ) (xs : List X) (t : List ℕ) {a b c : Seen} → TookAll a b (h ++ joined f xs) → TookAll b c t → TookAll a c (framed f h xs t)
-end_all f h xs t {a} {b} {c} p q =
-    let P : List ℕ → Type 0 = λ l. TookAll a c l in subst P (append_assoc h (joined f xs) t) (all_all p q)
-
-pub end_part : {X : Type 0} (f : X → List ℕ) (h : List ℕ) (xs : List X) (t : List ℕ) {a b c : Seen} → TookAll a b (h ++ joined f xs) → TookPart b c t → TookPart a c (framed f h xs t)
-end_part f h xs t {a} {b} {c} p q =
-    let P : List ℕ → Type 0 = λ l. TookPart a c l in subst P (append_assoc h (joined f xs) t) (all_part p q)
-
-pub end_stays : {X : Type 0} (f : X → List ℕ) (h : List ℕ) (xs : List X) (t : List ℕ) {a b : Seen} → TookPart a b (h ++ joined f xs) → TookPart a b (framed f h xs t)
-end_stays f h xs t {a} {b} p =
-    let P : List ℕ → Type 0 = λ l. TookPart a b l in subst P (append_assoc h (joined f xs) t) (part_more t p)
 
 -- after a value there is a comma before the next
 pub separator_after : {X : Type 0} (xs : List X) (x : X) → codes "," ≡ separator (xs ++ (x ∷ []))

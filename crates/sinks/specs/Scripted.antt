@@ -1,6 +1,7 @@
 -- What a script answers.
-use Rattle.std.specs.Prelude.{◌≡◌, ℕ, ◌-◌, ◌^◌, List, [], ◌∷◌, length, drop, min, Result, IfOk, IsErr, Some}
+use Rattle.std.specs.Prelude.{◌≡◌, ℕ, ◌+◌, ◌-◌, ◌^◌, ◌<◌, ◌⊎◌, List, [], ◌∷◌, length, take, drop, min, Result, IfOk, IsErr, Some, vec_len, vec_capacity}
 use Rattle.sinks.specs.Seen.{Seen}
+use Rattle.sinks.specs.Writes.{TookAndFailed}
 use Rattle.sinks.specs.declared.script.Answer.{Answer}
 use Rattle.sinks.specs.declared.script.Answer.TheVariants.{Take, Fail, FailAfter}
 use Rattle.sinks.specs.declared.script.Script.{Script}
@@ -23,3 +24,15 @@ abbrev pub IsAnswered : {E : Type 0} → List ℕ → Result ℕ E → Answer �
 IsAnswered piece r (Take most) = IfOk r (λ n. n ≡ min most (length piece))
 IsAnswered piece r Fail = IsErr r
 IsAnswered piece r (FailAfter most) = IsErr r
+
+-- the script can't take so many bytes more without memory
+abbrev pub LacksRoom : Script → ℕ → Type 0
+LacksRoom s n = vec_capacity s.taken < vec_len s.taken + n
+
+-- a failed offer took as many bytes of the piece as the answer says, or none where memory was refused, of which there was need
+abbrev pub FailsAs : Seen → Seen → (ℕ → Type 0) → List ℕ → Answer → Type 0
+FailsAs old new needs_memory piece (Take most) = TookAndFailed old new [] × needs_memory (min most (length piece))
+FailsAs old new needs_memory piece Fail = TookAndFailed old new []
+FailsAs old new needs_memory piece (FailAfter most) =
+    TookAndFailed old new (take (min most (length piece)) piece)
+    ⊎ (TookAndFailed old new [] × needs_memory (min most (length piece)))

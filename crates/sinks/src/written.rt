@@ -1,10 +1,11 @@
 //! Values that have a text, and texts put together of texts. A text is written piece by piece
 //! through `put`, with no memory.
-ghost use Rattle.std.specs.Prelude.{◌≡◌, ℕ, ℤ, ◌<◌, ◌≤◌, ◌++◌, length, List, [], codes, OnErr, OnOk};
+ghost use Rattle.std.specs.Prelude.{◌≡◌, ℕ, ℤ, ◌<◌, ◌≤◌, ◌++◌, length, List, [], codes, None, OnErr, OnOk};
 ghost use Rattle.std.specs.Fmt.{signed_decimal};
-ghost use Rattle.std.specs.Iterator.{Drains, IsFinite};
+ghost use Rattle.std.specs.Iterator.{IsFinite, YieldsThen};
 ghost use Rattle.sinks.specs.Seen.{Seen};
 ghost use Rattle.sinks.specs.Writes.{TookAll, TookPart};
+ghost use Rattle.sinks.specs.Stops.{StopsAtValue, StopsIn, WritesAll};
 ghost use Rattle.sinks.specs.Texts.{bracketed, joined, after_comma, after_commas, framed, list_text, option_text, pair_text};
 
 use crate::{Sink, WriteFault, put};
@@ -216,32 +217,45 @@ impl<'a, A: Written> Written for &'a A {
 }
 
 /// Writes what an iterator gives, in one notation, with commas between, behind a head and before a tail.
-/// After an error it takes the values that are left and offers nothing.
-pub fn write_framed<W: Sink, T: Drop, N: Notation<T>, I: Iterator<Item = T> + Drop>(
+/// After a failure no value is asked for.
+pub fn write_framed<W: Sink, T: Drop, N: Notation<T>, I: Iterator<Item = T>>(
     sink: &mut W,
     head: &[u8],
     notation: &N,
-    values: I,
+    values: &mut I,
     tail: &[u8],
 ) -> Result<(), WriteFault>
-    requires can { I.can_next values }
-    requires ends { IsFinite (I.remaining values) }
-    ensures whole { OnOk result ((xs : List T) × Drains I.next_gives values xs × TookAll (W.seen sink.old) (W.seen sink.new) (framed (N.text notation.now) head.now xs tail.now)) }
-    ensures part { OnErr result ((xs : List T) × Drains I.next_gives values xs × TookPart (W.seen sink.old) (W.seen sink.new) (framed (N.text notation.now) head.now xs tail.now)) }
+    requires can { I.can_next values.old }
+    requires ends { IsFinite (I.remaining values.old) }
+    ensures whole { OnOk result ((xs : List T) × YieldsThen I.next_gives values.old xs None values.new × TookAll (W.seen sink.old) (W.seen sink.new) (framed (N.text notation.now) head.now xs tail.now)) }
+    ensures part { OnErr result (StopsIn I.next_gives (N.text notation.now) head.now tail.now values.old values.new (W.seen sink.old) (W.seen sink.new)) }
 {
-    let mut result = put(sink, head);
-    let mut separator = Text(b"");
-    for value in values {
-        match result {
-            Ok(()) => result = Then(separator, Noted(&value, notation)).write(sink),
-            Err(_) => {}
-        }
-        separator = Text(b",");
-    }
-    match result {
+    put(sink, head)?;
+    match write_joined(sink, notation, values) {
         Ok(()) => put(sink, tail),
         Err(fault) => Err(fault),
     }
+}
+
+// Writes what an iterator gives, with commas between, until the sink fails.
+fn write_joined<W: Sink, T: Drop, N: Notation<T>, I: Iterator<Item = T>>(
+    sink: &mut W,
+    notation: &N,
+    values: &mut I,
+) -> Result<(), WriteFault>
+    requires can { I.can_next values.old }
+    requires ends { IsFinite (I.remaining values.old) }
+    ensures whole { OnOk result (WritesAll I.next_gives (N.text notation.now) values.old values.new (W.seen sink.old) (W.seen sink.new)) }
+    ensures part { OnErr result (StopsAtValue I.next_gives (N.text notation.now) values.old values.new (W.seen sink.old) (W.seen sink.new)) }
+{
+    let mut separator = Text(b"");
+    while let Some(value) = values.next() {
+        match Then(separator, Noted(&value, notation)).write(sink) {
+            Ok(()) => separator = Text(b","),
+            Err(stop) => return Err(stop),
+        }
+    }
+    Ok(())
 }
 
 #[cfg(test)]
@@ -269,7 +283,7 @@ mod tests {
     fn joins_what_an_iterator_gives(rt: HostRuntime) -> Result<(), Fail> {
         let rows = [Number(3), Number(0)];
         let mut kept = Kept::new(rt.alloc());
-        assert!(rt; write_framed(&mut kept, b"<", &Itself, rows.iter(), b">").is_ok());
+        assert!(rt; write_framed(&mut kept, b"<", &Itself, &mut rows.iter(), b">").is_ok());
         assert!(rt; Listed(&rows, &Itself).write(&mut kept).is_ok());
         assert_eq!(rt; kept.into_bytes().as_slice(), b"<3,0>[3,0]".as_slice());
         Ok(())

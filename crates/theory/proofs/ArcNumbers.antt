@@ -61,7 +61,7 @@ taken_join arcs [] vs (c ∷ cs) ds h k = absurd h
 taken_join arcs (u ∷ us) vs [] ds h k = absurd h
 taken_join arcs (u ∷ us) vs (c ∷ cs) ds h k = (h.0, taken_join arcs us vs cs ds h.1 k)
 
-along_flipped : {V : Type 0} (arcs : List (List V)) (a : ArcRef) (c : List V) → along arcs a ≡ Some c → along arcs (flipped a) ≡ Some (reverse c)
+pub along_flipped : {V : Type 0} (arcs : List (List V)) (a : ArcRef) (c : List V) → along arcs a ≡ Some c → along arcs (flipped a) ≡ Some (reverse c)
 along_flipped {V} arcs a c e =
     let t = along_get arcs a c e in
     ap (option_map (λ d. cond (not a.reversed) (reverse d) d)) t.1 ∙ ap Some (go a.reversed t.0 ∙ ap reverse (sym t.2))

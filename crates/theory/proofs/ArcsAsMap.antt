@@ -35,7 +35,7 @@ module _ {V : Type 0} (L R L' R' : List V → Type 0) (f : (l : List V) → L l 
   junction_map v (inl e) = inl (visit_map v end e)
   junction_map v (inr (p, q, vp, vq, n)) = inr (p, q, visit_map v p vp, visit_map v q vq, n)
 
-three_map : {V : Type 0} (S T : V → V → Type 0) → ((a b : V) → S a b → T a b) → (v : V) → OnThree S v → OnThree T v
+pub three_map : {V : Type 0} (S T : V → V → Type 0) → ((a b : V) → S a b → T a b) → (v : V) → OnThree S v → OnThree T v
 three_map S T f v (a, b, c, x, y, z, p, q, r) = (a, b, c, f v a x, f v b y, f v c z, p, q, r)
 
 module _ {V : Type 0} (cmp : V → V → Ordering) (o : IsTotalOrder cmp) (same : IsAntisymmetric cmp) (dec : (a b : V) → Dec (a ≡ b)) where

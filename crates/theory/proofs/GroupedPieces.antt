@@ -4,12 +4,12 @@ use Rattle.theory.proofs.Reversing.{reverse-snoc}
 use Rattle.theory.specs.ArcNumbers.{ArcRef, Uses, UsesOnce, backwards, flipped}
 use Rattle.theory.specs.Refinement.{pieces_at, pieces_of_used, replaced}
 
-uses_parts : (k : ℕ) (a b : List ArcRef) → Uses k (a ++ b) → Uses k a ⊎ Uses k b
+pub uses_parts : (k : ℕ) (a b : List ArcRef) → Uses k (a ++ b) → Uses k a ⊎ Uses k b
 uses_parts k [] b h = inr h
 uses_parts k (x ∷ a) b (inl e) = inl (inl e)
 uses_parts k (x ∷ a) b (inr h) = elim (uses_parts k a b h) [ inl m ↦ inl (inr m) | inr m ↦ inr m ]
 
-uses_back : (k : ℕ) (a : List ArcRef) → Uses k (backwards a) → Uses k a
+pub uses_back : (k : ℕ) (a : List ArcRef) → Uses k (backwards a) → Uses k a
 uses_back k [] h = absurd h
 uses_back k (x ∷ a) h =
     elim (uses_parts k (backwards a) (flipped x ∷ []) (subst (λ w. Uses k w) (reverse-snoc (flipped x) (map flipped a)) h)) [
@@ -17,7 +17,7 @@ uses_back k (x ∷ a) h =
       | inr m ↦ elim m [ inl e ↦ inl e | inr z ↦ absurd z ]
     ]
 
-not_same : (b : Bool) → ¬ (b ≡ not b)
+pub not_same : (b : Bool) → ¬ (b ≡ not b)
 not_same true e = absurd cc
 not_same false e = absurd cc
 
@@ -47,7 +47,7 @@ full_back : (ps : List ArcRef) → IsFull ps → IsFull (backwards ps)
 full_back [] f = absurd (let e : [] ≡ f.0 ∷ f.1 = f.2 in cc)
 full_back (a ∷ ps) f = subst IsFull (sym (reverse-snoc (flipped a) (map flipped ps))) (full_end (backwards ps) (flipped a))
 
-used_head : (b : Bool) (ps : List ArcRef) → IsFull ps → (p : ArcRef) × (q : List ArcRef) × (cond b (backwards ps) ps ≡ p ∷ q) × Uses p.arc ps
+pub used_head : (b : Bool) (ps : List ArcRef) → IsFull ps → (p : ArcRef) × (q : List ArcRef) × (cond b (backwards ps) ps ≡ p ∷ q) × Uses p.arc ps
 used_head false ps (p, q, e) = (p, q, e, subst (λ w. Uses p.arc w) (sym e) (inl refl))
 used_head true ps f = let t = full_back ps f in (t.0, t.1, t.2, uses_back t.0.arc ps (subst (λ w. Uses t.0.arc w) (sym t.2) (inl refl)))
 

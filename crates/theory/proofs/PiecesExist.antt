@@ -22,7 +22,7 @@ use Rattle.theory.specs.Lists.{Has, Beside}
 use Rattle.theory.specs.Refinement.{IsPartOf, IsUnionOf, Alike, OpenArc, LoopArc, AreArcsAsMap, ArePiecesOfArc, IsRefinementOf, unclosed, arc_cut, recut, arcs_as_map, both_of, pieces_at}
 use Rattle.theory.specs.TopologyFunction.{arcs_of, is_junction, keep, line_cut, line_refs, ref_of, ring_cut, ring_refs, some}
 
-unclosed-closed : {V : Type 0} (r : List V) → unclosed (closed r) ≡ r
+pub unclosed-closed : {V : Type 0} (r : List V) → unclosed (closed r) ≡ r
 unclosed-closed [] = refl
 unclosed-closed (x ∷ l) = front-snoc x x l
 
@@ -76,6 +76,16 @@ module _ {V : Type 0} (cmp : V → V → Ordering) (o : IsTotalOrder cmp) (same 
         subst (λ w. Has w (map unclosed (keep (λ c. not (some (is_junction cmp g) c)) arcs))) (unclosed-closed r)
         (Has-map unclosed (keep (λ c. not (some (is_junction cmp g) c)) arcs) (closed r)
         (has_keep (λ c. not (some (is_junction cmp g) c)) arcs (closed r) h.0 (ap not (free_told g (closed r) h.1))))
+
+    pub as_map_alone : AreArcsAsMap g g arcs arcs (arcs_as_map cmp g arcs)
+    as_map_alone = record {
+      lines = λ l h. inl (open_arc l h);
+      rings = λ r h. inl (loop_arc r h);
+      open_left = arc_open;
+      open_right = arc_open;
+      loop_left = arc_loop;
+      loop_right = arc_loop;
+    }
 
   -- the arcs of two maps as a map
   pub are_arcs_as_map : (m n : Geometry V) → IsSound m → IsSound n → (ms ns : List (List V)) → AreArcsOf cmp m ms → AreArcsOf cmp n ns →

@@ -1,5 +1,5 @@
 -- The list of a line or ring, with its pieces in place of each old arc, is the new list.
-use Rattle.std.proofs.Common.{◌≡◌, ◌≤◌, Bool, true, false, cond, List, [], ◌∷◌, ◌++◌, length, reverse, map, inl, inr, refl, sym, ap, ◌∙◌, subst, arith, append_assoc, Some}
+use Rattle.std.proofs.Common.{◌≡◌, ◌≤◌, Bool, true, false, cond, List, [], ◌∷◌, ◌++◌, length, reverse, map, inl, inr, refl, sym, ap, ◌∙◌, subst, arith, Some}
 use Rattle.std.proofs.lemmas.Cmp.{lists_total}
 use Rattle.std.proofs.lemmas.List.{append-nil, length-append}
 use Rattle.std.specs.Cmp.{IsTotalOrder}
@@ -7,26 +7,26 @@ use Rattle.std.specs.Cmp.Lexicographic.{slice_cmp}
 use Rattle.std.specs.FinMap.{IsAntisymmetric, slice_cmp-IsAntisymmetric}
 use Rattle.std.specs.declared.cmp.Ordering.{Ordering}
 use Rattle.theory.proofs.ArcNumbers.{along_get, from_to, taken_back, taken_join, taken_of, taken_stitch, to_from}
-use Rattle.theory.proofs.ArcsOfMap.{passes, ring_is_cut, stop, stops}
+use Rattle.theory.proofs.ArcsOfMap.{passes, stop, stops}
 use Rattle.theory.proofs.Ascending.{at_most_self}
-use Rattle.theory.proofs.ChainLists.{chain_not_empty, chains_meet, same_head}
+use Rattle.theory.proofs.ChainLists.{chain_not_empty, same_head}
 use Rattle.theory.proofs.ClosedLists.{Distinct-rotate, closed_same}
-use Rattle.theory.proofs.Lists.{Has-append_right, append_cancel, front-snoc, last-snoc, last_join}
+use Rattle.theory.proofs.Lists.{append_cancel, front-snoc}
 use Rattle.theory.proofs.OneTopology.{along_chain}
 use Rattle.theory.proofs.Pieces.{SegmentOf-flip, ring_loop, two_segments_of}
 use Rattle.theory.proofs.RefinementLaws.{home, inside, one_home, one_place, pairwise_at, part_junction, same_le}
 use Rattle.theory.proofs.Reversing.{Has-reverse, Has-unreverse, reverse-join, reverse-last, reverse-snoc}
 use Rattle.theory.proofs.Rotations.{ring_list_rotated, rotation_back, rotation_has, rotation_trans}
 use Rattle.theory.proofs.Stitching.{stitched_join, stitched_reverse}
-use Rattle.theory.specs.ArcNumbers.{ArcRef, AreTaken, StitchFrom, StitchTo, along, backwards}
+use Rattle.theory.proofs.TurnedLists.{one_rotation, rotation_at, turn_list}
+use Rattle.theory.specs.ArcNumbers.{ArcRef, StitchFrom, StitchTo, along, backwards}
 use Rattle.theory.specs.Arcs.{AreArcsOf}
 use Rattle.theory.specs.Chain.{Chain, Free}
 use Rattle.theory.specs.Geometry.{AtMost, Geometry, IsChainOf, IsLineOf, IsRingOf, IsSound, JunctionOf, SegmentOf}
 use Rattle.theory.specs.LinesAndRings.{IsRotation, closed}
-use Rattle.theory.specs.Lists.{Distinct, Each, Has, front_of, last_of}
+use Rattle.theory.specs.Lists.{Distinct, Has, front_of, last_of}
 use Rattle.theory.specs.Refinement.{ArePiecesOfArc, IsPartOf, IsRefinementOf, RefinementLaws, pieces_at, pieces_of_used, replaced}
-use Rattle.theory.specs.Seam.{Any, IsLeastOf, IsTurned}
-use Rattle.theory.specs.Stitching.{Stitched}
+use Rattle.theory.specs.Seam.{Any, IsLeastOf}
 use Rattle.theory.specs.Topology.{IsRingList}
 
 stitch_join : {V : Type 0} (arcs : List (List V)) (x : V) (us vs : List ArcRef) (q s : List V) → StitchFrom arcs x us q → StitchFrom arcs (last_of x q) vs s →
@@ -42,14 +42,6 @@ stitch_back arcs x us r h =
     let t = taken_of arcs x us r h in
     taken_stitch arcs (backwards us) (reverse (map reverse t.0)) (last_of x r) (reverse (front_of x r)) (taken_back arcs us t.0 t.1) (stitched_reverse x t.0 r t.2)
 
-taken_parts : {V : Type 0} (arcs : List (List V)) (us : List ArcRef) (cs ds : List (List V)) → AreTaken arcs us (cs ++ ds) →
-    (vs : List ArcRef) × (ws : List ArcRef) × (us ≡ vs ++ ws) × AreTaken arcs vs cs × AreTaken arcs ws ds
-taken_parts arcs us [] ds h = ([], us, refl, tt, h)
-taken_parts arcs [] (c ∷ cs) ds h = absurd h
-taken_parts arcs (u ∷ us) (c ∷ cs) ds h =
-    let t = taken_parts arcs us cs ds h.1 in
-    (u ∷ t.0, t.1, ap (λ w. u ∷ w) t.2, (h.0, t.3), t.4)
-
 -- the pieces of a used arc stitch to what it runs along
 used_stitch : {V : Type 0} (table : List (List V)) (b : Bool) (ps : List ArcRef) (c : List V) (x : V) (q : List V) → StitchTo table ps c →
     x ∷ q ≡ cond b (reverse c) c → StitchFrom table x (cond b (backwards ps) ps) q
@@ -62,30 +54,12 @@ used_stitch table true ps (y ∷ p) x q h e =
     subst (λ w. StitchFrom table w (backwards ps) q) a
     (subst (λ w. StitchFrom table (last_of y p) (backwards ps) w) b (stitch_back table y ps p (to_from table ps y p h)))
 
--- a rotation, parted before its first vertex
-pub rotation_at : {V : Type 0} (r : List V) (x : V) (l : List V) → IsRotation r (x ∷ l) → (s : List V) × (t : List V) × (r ≡ s ++ (x ∷ t)) × (l ≡ t ++ s)
-rotation_at r x l (s, [], e, f) = ([], l, e ∙ append-nil s ∙ sym f, sym (append-nil l))
-rotation_at r x l (s, y ∷ t, e, f) =
-    let a : y ≡ x = cc in
-    let b : l ≡ t ++ s = cc in
-    (s, t, subst (λ w. r ≡ s ++ (w ∷ t)) a e, b)
-
 pub rotation_reverse : {V : Type 0} (a b : List V) → IsRotation a b → IsRotation (reverse a) (reverse b)
 rotation_reverse a b (s, t, e, f) = (reverse t, reverse s, ap reverse e ∙ reverse-join s t, ap reverse f ∙ reverse-join t s)
 
 closed_back : {V : Type 0} (p : V) (q : List V) → reverse (closed (p ∷ q)) ≡ closed (p ∷ reverse q)
 closed_back p q =
     reverse-snoc p (q ++ (p ∷ [])) ∙ ap (λ w. w ++ (p ∷ [])) (reverse-join q (p ∷ []))
-
--- a list with no vertex twice has one rotation that begins at a vertex
-one_rotation : {V : Type 0} (y : V) (l m : List V) → Distinct (y ∷ l) → IsRotation (y ∷ l) (y ∷ m) → m ≡ l
-one_rotation {V} y l m d r = go (rotation_at (y ∷ l) y m r)
-  where
-    go : (s : List V) × (t : List V) × (y ∷ l ≡ s ++ (y ∷ t)) × (m ≡ t ++ s) → m ≡ l
-    go ([], t, e, f) = let k : l ≡ t = cc in f ∙ append-nil t ∙ sym k
-    go (z ∷ s, t, e, f) =
-        let k : l ≡ s ++ (y ∷ t) = cc in
-        absurd (d.0 (subst (λ w. Has y w) (sym k) (Has-append_right y s (y ∷ t) (inl refl))))
 
 module _ {V : Type 0} (cmp : V → V → Ordering) (o : IsTotalOrder cmp) (same : IsAntisymmetric cmp) (dec : (a b : V) → Dec (a ≡ b))
     (u : Geometry V) (su : IsSound u) (table : List (List V)) (all : AreArcsOf cmp u table)
@@ -138,68 +112,6 @@ module _ {V : Type 0} (cmp : V → V → Ordering) (o : IsTotalOrder cmp) (same 
   abbrev pub RingAnswer : List V → List ArcRef → Type 0
   RingAnswer r used = (before : List ArcRef) × (behind : List ArcRef) × (replaced pieces used ≡ before ++ behind) ×
       IsRingList cmp (JunctionOf u) table r (behind ++ before)
-
-  taken_chains : (us : List ArcRef) (cs : List (List V)) → AreTaken table us cs → Each (IsChainOf cmp u) cs
-  taken_chains [] [] h = tt
-  taken_chains [] (c ∷ cs) h = absurd h
-  taken_chains (a ∷ us) [] h = absurd h
-  taken_chains (a ∷ us) (c ∷ cs) h = (along_chain cmp o same dec u su table all a c h.0, taken_chains us cs h.1)
-
-  -- a closed list, begun at another of its vertices
-  begun : (x y : V) (l m : List V) → IsRotation (x ∷ l) (y ∷ m) →
-      (q : List V) × (s : List V) × (l ++ (x ∷ []) ≡ q ++ s) × (last_of x q ≡ y) × (m ++ (y ∷ []) ≡ s ++ q)
-  begun x y l m r = go (rotation_at (x ∷ l) y m r)
-    where
-      go : (s : List V) × (t : List V) × (x ∷ l ≡ s ++ (y ∷ t)) × (m ≡ t ++ s) →
-          (q : List V) × (s : List V) × (l ++ (x ∷ []) ≡ q ++ s) × (last_of x q ≡ y) × (m ++ (y ∷ []) ≡ s ++ q)
-      go ([], t, e, f) =
-          let a : x ≡ y = cc in
-          let b : l ≡ t = cc in
-          ([], l ++ (x ∷ []), refl, a, ap (λ w. m ++ (w ∷ [])) (sym a) ∙ ap (λ w. w ++ (x ∷ [])) (f ∙ append-nil t ∙ sym b) ∙ sym (append-nil (l ++ (x ∷ []))))
-      go (z ∷ s, t, e, f) =
-          let a : z ≡ x = cc in
-          let b : l ≡ s ++ (y ∷ t) = cc in (
-            s ++ (y ∷ []),
-            t ++ (x ∷ []),
-            ap (λ w. w ++ (x ∷ [])) b ∙ append_assoc s (y ∷ t) (x ∷ []) ∙ sym (append_assoc s (y ∷ []) (t ++ (x ∷ []))),
-            last-snoc x y s,
-            ap (λ w. w ++ (y ∷ [])) (f ∙ ap (λ w. t ++ (w ∷ s)) a) ∙ append_assoc t (x ∷ s) (y ∷ []) ∙ sym (append_assoc t (x ∷ []) (s ++ (y ∷ []))),
-          )
-
-  -- a list that stitches to a ring from one junction, turned to its seam
-  turn_list : (r : List V) (x : V) (l : List V) (us : List ArcRef) → IsRingOf u r → IsRotation r (x ∷ l) → JunctionOf u x →
-      StitchFrom table x us (l ++ (x ∷ [])) →
-      (before : List ArcRef) × (behind : List ArcRef) × (us ≡ before ++ behind) × IsRingList cmp (JunctionOf u) table r (behind ++ before)
-  turn_list r x l us i ro j h =
-      let t = (ring_is_cut cmp o same dec u su r i).turning in
-      let y : V = t.first in
-      let m : List V = t.behind ++ t.before in
-      let turned : IsTurned cmp (JunctionOf u) r y m = record { rotation = (t.before, y ∷ t.behind, t.parted, refl); seam = t.seam; least = t.least } in
-      let jy : JunctionOf u y = (elim t.seam [
-        | inl k ↦ k.has_it
-        | inr k ↦ absurd (k.0 x (rotation_has (x ∷ l) r (rotation_back r (x ∷ l) ro) x (inl refl)) j)
-      ]) in
-      let b = begun x y l m (rotation_trans (x ∷ l) r (y ∷ m) (rotation_back r (x ∷ l) ro) turned.rotation) in
-      let c = taken_of table x us (l ++ (x ∷ [])) h in
-      let p = chains_meet (SegmentOf u) (JunctionOf u) (AtMost cmp) (SegmentOf-flip u su dec) (two_segments_of u su dec) le x c.0 b.0 b.1 (taken_chains us c.0 c.1)
-      (subst (λ w. Stitched x c.0 w) b.2 c.2) (subst (JunctionOf u) (sym b.3) jy) in
-      let v = taken_parts table us p.0 p.1 (subst (AreTaken table us) p.2 c.1) in
-      let round : last_of (last_of x b.0) b.1 ≡ x = sym (last_join x b.0 b.1) ∙ ap (λ w. last_of x w) (sym b.2) ∙ last-snoc x x l in
-      let st : Stitched (last_of x b.0) (p.1 ++ p.0) (b.1 ++ b.0) =
-      stitched_join (last_of x b.0) p.1 p.0 b.1 b.0 p.4 (subst (λ w. Stitched w p.0 b.0) (sym round) p.3) in
-      let st' : Stitched y (p.1 ++ p.0) (m ++ (y ∷ [])) =
-      subst (λ w. Stitched y (p.1 ++ p.0) w) (sym b.4) (subst (λ w. Stitched w (p.1 ++ p.0) (b.1 ++ b.0)) b.3 st) in (
-        v.0,
-        v.1,
-        v.2,
-        (
-          y,
-          m,
-          turned,
-          from_to table (v.1 ++ v.0) y (m ++ (y ∷ [])) (simp length-append (omega arith))
-              (taken_stitch table (v.1 ++ v.0) (p.1 ++ p.0) y (m ++ (y ∷ [])) (taken_join table v.1 v.0 p.1 p.0 v.4 v.3) st'),
-        ),
-      )
 
   -- a ring that is free under the junctions of g
   module _ (r : List V) (x : V) (l : List V) (i : IsRingOf g r) (ro : IsRotation r (x ∷ l)) (free : (v : V) → Has v r → ¬ JunctionOf g v)
@@ -304,7 +216,7 @@ module _ {V : Type 0} (cmp : V → V → Ordering) (o : IsTotalOrder cmp) (same 
   pub ring : (r : List V) (used : List ArcRef) → IsRingOf g r → IsRingList cmp (JunctionOf g) arcs r used → RingAnswer r used
   ring r used i (x, l, tn, st) =
       elim tn.seam [
-        | inl k ↦ turn_list r x l (replaced pieces used) (part.rings r i) tn.rotation (grow x k.has_it)
+        | inl k ↦ turn_list cmp o same dec u su table all r x l (replaced pieces used) (part.rings r i) tn.rotation (grow x k.has_it)
             (open_replaced used x (l ++ (x ∷ [])) (to_from arcs used x (l ++ (x ∷ [])) st) k.has_it)
         | inr k ↦ free_ring r x l i tn.rotation k.0 k.1 used st
       ]

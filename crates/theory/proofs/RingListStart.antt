@@ -52,7 +52,7 @@ one_parting a (b ∷ p) s (c ∷ p') s' np ns e =
     let t = one_parting a p s p' s' (λ h. np (inr h)) ns rest in
     (ap (λ w. w ∷ p) bc ∙ ap (λ w. c ∷ w) t.0, t.1)
 
-Has-Uses : (a : ArcRef) (us : List ArcRef) → Has a us → Uses a.arc us
+pub Has-Uses : (a : ArcRef) (us : List ArcRef) → Has a us → Uses a.arc us
 Has-Uses a [] h = h
 Has-Uses a (b ∷ us) (inl e) = inl (ap (λ w. w.arc) e)
 Has-Uses a (b ∷ us) (inr h) = inr (Has-Uses a us h)
@@ -87,18 +87,18 @@ module _ {V : Type 0} (cmp : V → V → Ordering) (o : IsTotalOrder cmp) (same 
   le : (a b : V) → AtMost cmp a b → AtMost cmp b a → a ≡ b
   le = at_most_same cmp o same
 
-  tail_most : (x : V) (l m : List V) → AtMost (slice_cmp cmp) (x ∷ l) (x ∷ m) → AtMost (slice_cmp cmp) l m
+  pub tail_most : (x : V) (l m : List V) → AtMost (slice_cmp cmp) (x ∷ l) (x ∷ m) → AtMost (slice_cmp cmp) l m
   tail_most x l m h = sym (ap (λ w. is_gt (ordering_then w (slice_cmp cmp l m))) (tied_itself o x)) ∙ h
 
   -- what is used goes on from its first vertex
-  second : (a : ArcRef) (x : V) (r : List V) → along table a ≡ Some (x ∷ r) → (z : V) × (q : List V) × (r ≡ z ∷ q)
+  pub second : (a : ArcRef) (x : V) (r : List V) → along table a ≡ Some (x ∷ r) → (z : V) × (q : List V) × (r ≡ z ∷ q)
   second a x [] e =
       let k : IsChainOf cmp u (x ∷ []) = along_chain cmp o same dec u su table all a (x ∷ []) e in
       let n : 1 ≤ 0 = k.long in absurd (omega arith)
   second a x (z ∷ q) e = (z, q, refl)
 
   -- two used arcs with one first step are one
-  one_start : (a b : ArcRef) (y z : V) (q s : List V) → along table a ≡ Some (y ∷ (z ∷ q)) → along table b ≡ Some (y ∷ (z ∷ s)) → a ≡ b
+  pub one_start : (a b : ArcRef) (y z : V) (q s : List V) → along table a ≡ Some (y ∷ (z ∷ q)) → along table b ≡ Some (y ∷ (z ∷ s)) → a ≡ b
   one_start a b y z q s e f =
       let ka : IsChainOf cmp u (y ∷ (z ∷ q)) = along_chain cmp o same dec u su table all a (y ∷ (z ∷ q)) e in
       let kb : IsChainOf cmp u (y ∷ (z ∷ s)) = along_chain cmp o same dec u su table all b (y ∷ (z ∷ s)) f in
@@ -248,7 +248,7 @@ module _ {V : Type 0} (cmp : V → V → Ordering) (o : IsTotalOrder cmp) (same 
           finish behind before e a0 rest f aa (λ h. once'.0 (Has-Uses a0 rest (subst (λ w. Has w rest) aa h)))
 
   -- a used arc of what stitches runs along a list of two or more
-  runs : (us : List ArcRef) (x : V) (r : List V) → StitchFrom table x us r → (a : ArcRef) → Has a us →
+  pub runs : (us : List ArcRef) (x : V) (r : List V) → StitchFrom table x us r → (a : ArcRef) → Has a us →
       (y : V) × (z : V) × (q : List V) × (along table a ≡ Some (y ∷ (z ∷ q)))
   runs [] x r h a i = absurd i
   runs (b ∷ us) x r h a (inl e) =

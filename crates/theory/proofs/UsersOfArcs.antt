@@ -20,13 +20,13 @@ use Rattle.theory.specs.Topology.{Body, Form, IsFormOf, IsRingList, Shape, line,
 use Rattle.theory.specs.Users.{HasSegment, ShareArc, ShareSegment, UsesArc}
 
 -- a member of a list has its partner in the other
-partner : {A B : Type 0} (R : A → B → Type 0) (xs : List A) (ys : List B) → Pairwise R xs ys → (x : A) → Has x xs → (y : B) × Has y ys × R x y
+pub partner : {A B : Type 0} (R : A → B → Type 0) (xs : List A) (ys : List B) → Pairwise R xs ys → (x : A) → Has x xs → (y : B) × Has y ys × R x y
 partner R [] ys p x h = absurd h
 partner R (z ∷ xs) [] p x h = absurd p
 partner R (z ∷ xs) (y ∷ ys) p x (inl e) = (y, inl refl, subst (λ w. R w y) (sym e) p.0)
 partner R (z ∷ xs) (y ∷ ys) p x (inr h) = let t = partner R xs ys p.1 x h in (t.0, inr t.1, t.2)
 
-partner_back : {A B : Type 0} (R : A → B → Type 0) (xs : List A) (ys : List B) → Pairwise R xs ys → (y : B) → Has y ys → (x : A) × Has x xs × R x y
+pub partner_back : {A B : Type 0} (R : A → B → Type 0) (xs : List A) (ys : List B) → Pairwise R xs ys → (y : B) → Has y ys → (x : A) × Has x xs × R x y
 partner_back R [] [] p y h = absurd h
 partner_back R [] (z ∷ ys) p y h = absurd p
 partner_back R (x ∷ xs) [] p y h = absurd h
@@ -34,21 +34,21 @@ partner_back R (x ∷ xs) (z ∷ ys) p y (inl e) = (x, inl refl, subst (λ w. R 
 partner_back R (x ∷ xs) (z ∷ ys) p y (inr h) = let t = partner_back R xs ys p.1 y h in (t.0, inr t.1, t.2)
 
 -- the same for the lines and for the rings of a form
-line_partner : {V L R L' R' : Type 0} (A : L → L' → Type 0) (B : R → R' → Type 0) (f : Form V L R) (h : Form V L' R') → IsFormOf A B f h →
+pub line_partner : {V L R L' R' : Type 0} (A : L → L' → Type 0) (B : R → R' → Type 0) (f : Form V L R) (h : Form V L' R') → IsFormOf A B f h →
     (l : L) → Has l (lines_in f) → (k : L') × Has k (lines_in h) × A l k
 line_partner A B (line m) (line k) p l (inl e) = (k, inl refl, subst (λ w. A w k) (sym e) p)
 line_partner A B (line m) (line k) p l (inr z) = absurd z
 line_partner A B (lines ls) (lines ks) p l i = partner A ls ks p l i
 line_partner A B f h p l i = search
 
-line_partner_back : {V L R L' R' : Type 0} (A : L → L' → Type 0) (B : R → R' → Type 0) (h : Form V L' R') (f : Form V L R) → IsFormOf A B f h →
+pub line_partner_back : {V L R L' R' : Type 0} (A : L → L' → Type 0) (B : R → R' → Type 0) (h : Form V L' R') (f : Form V L R) → IsFormOf A B f h →
     (k : L') → Has k (lines_in h) → (l : L) × Has l (lines_in f) × A l k
 line_partner_back A B (line k) (line m) p l (inl e) = (m, inl refl, subst (λ w. A m w) (sym e) p)
 line_partner_back A B (line k) (line m) p l (inr z) = absurd z
 line_partner_back A B (lines ks) (lines ls) p l i = partner_back A ls ks p l i
 line_partner_back A B h f p l i = search
 
-ring_partner : {V L R L' R' : Type 0} (A : L → L' → Type 0) (B : R → R' → Type 0) (f : Form V L R) (h : Form V L' R') → IsFormOf A B f h →
+pub ring_partner : {V L R L' R' : Type 0} (A : L → L' → Type 0) (B : R → R' → Type 0) (f : Form V L R) (h : Form V L' R') → IsFormOf A B f h →
     (r : R) → Has r (rings_in f) → (k : R') × Has k (rings_in h) × B r k
 ring_partner A B (polygon rs) (polygon ks) p r i = partner B rs ks p r i
 ring_partner A B (polygons ps) (polygons ks) p r i =
@@ -58,7 +58,7 @@ ring_partner A B (polygons ps) (polygons ks) p r i =
     (v.0, Has-joined ks u.0 v.0 u.1 v.1, v.2)
 ring_partner A B f h p r i = search
 
-ring_partner_back : {V L R L' R' : Type 0} (A : L → L' → Type 0) (B : R → R' → Type 0) (h : Form V L' R') (f : Form V L R) → IsFormOf A B f h →
+pub ring_partner_back : {V L R L' R' : Type 0} (A : L → L' → Type 0) (B : R → R' → Type 0) (h : Form V L' R') (f : Form V L R) → IsFormOf A B f h →
     (k : R') → Has k (rings_in h) → (r : R) × Has r (rings_in f) × B r k
 ring_partner_back A B (polygon ks) (polygon rs) p r i = partner_back B rs ks p r i
 ring_partner_back A B (polygons ks) (polygons ps) p r i =

@@ -1,3 +1,4 @@
 pub mod Refusals
 pub mod Layers
 pub mod ProvedLaws
+pub mod Fitting

@@ -1,15 +1,19 @@
 -- The map of GeoJSON texts, each after its layer's name, and the canonical text of that map.
-use Rattle.std.specs.Prelude.{◌≡◌, ℕ, List, [], ◌∷◌, ◌++◌, map as map_list, String, Vec, string_bytes, if◌then◌else◌}
+use Rattle.std.specs.Prelude.{◌≡◌, ℕ, ◌<◌, ◌^◌, List, [], ◌∷◌, ◌++◌, length, map as map_list, String, Vec, string_bytes, if◌then◌else◌}
 use Rattle.std.specs.FinMap as map
 use Rattle.std.specs.Str.{bytes_eq}
 use Rattle.std.specs.declared.alloc.Global.{Global}
 use Rattle.grid.specs.Place.{Transform}
 use Rattle.shapes.specs.Sets as set
+use Rattle.shapes.specs.Fitting.{MapFits}
 use Rattle.shapes.specs.Maps.{Features, Layers, features_at}
 use Rattle.reading.specs.Meant.{AreLayers}
 use Rattle.reading.specs.Plain.{Plain}
 use Rattle.geojson_io.specs.Features.{features_of_text}
+use Rattle.topo.specs.OfMap.{IsOf, IsTopology, seen_parts}
+use Rattle.topo.specs.Parts.{TopologyParts}
 use Rattle.topo_io.specs.Canon.{canon}
+use Rattle.topo_io.specs.Means.{Means}
 
 -- names and texts by their bytes
 abbrev pub named_texts : List (String Global × Vec ℕ Global) → List (List ℕ × List ℕ)
@@ -33,6 +37,21 @@ pub record IsTextOfTexts (t : Transform) (texts : List (List ℕ × List ℕ)) (
   pub map : Layers
   pub of_texts : IsMapOfTexts t texts map
   pub is : text ≡ canon t map
+
+-- the text is accepted as a topology's, and means the grid and the map of the texts
+pub record MeansTexts (t : Transform) (texts : List (List ℕ × List ℕ)) (text : List ℕ) : Type 0 where
+  pub map : Layers
+  pub of_texts : IsMapOfTexts t texts map
+  pub means : Means text t map
+
+-- the topology in memory of the map of the texts, which fits the grid
+pub record IsTopologyOfTexts (t : Transform) (texts : List (List ℕ × List ℕ)) (parts : TopologyParts) : Type 0 where
+  pub map : Layers
+  pub of_texts : IsMapOfTexts t texts map
+  pub fits : MapFits t map
+  pub topology : IsTopology t map (seen_parts parts)
+  pub of_map : IsOf map parts
+  pub few : length parts.arcs.arcs < 2 ^ 63
 
 -- the map with these features under a name
 abbrev pub with_features : Layers → List ℕ → Features → Layers

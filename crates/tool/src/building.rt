@@ -1,8 +1,9 @@
 //! From GeoJSON texts to a topology: `build_text` and the command `build`.
 ghost use Rattle.std.specs.Prelude.{◌≡◌, map, OnOk, IfOk, IfErr};
+ghost use Rattle.grid.specs.Place.{IsTransform};
 ghost use Rattle.shapes.specs.Maps.{set_of};
 ghost use Rattle.tool.specs.declared.building.BuildFault.TheVariants.{OutOfMemory as WantOfMemory};
-ghost use Rattle.tool.specs.Maps.{named_texts, IsMapOfTexts, IsTextOfTexts, with_features};
+ghost use Rattle.tool.specs.Maps.{named_texts, IsMapOfTexts, IsTextOfTexts, IsTopologyOfTexts, MeansTexts, with_features};
 ghost use Rattle.tool.specs.Sources.{AreAccepted, IsRefusal, IsFaultAt};
 ghost use Rattle.topo.specs.OfMap.{seen_parts};
 ghost use Rattle.topo_io.specs.TopologyText.{topology_text};
@@ -37,7 +38,8 @@ impl From<OutOfMemory> for BuildFault {
 }
 
 /// The canonical text of the topology of GeoJSON texts. Before each text stands the name of the
-/// layer that its features are put into; texts with one name share a layer.
+/// layer that its features are put into; texts with one name share a layer. `topo_io::read` accepts
+/// the text, and reads the grid and the texts' features.
 ///
 /// # Errors
 /// `Text` with the first refused text of the list and its least fault; `OutOfMemory`.
@@ -48,15 +50,18 @@ pub fn build_text(
 ) -> Result<Vec<u8>, BuildFault>
     ensures accepted { OnOk result (AreAccepted grid.now (map (λ s. s.1.items) texts.now)) }
     ensures canonical { IfOk result (λ t. IsTextOfTexts grid.now (named_texts texts.now) t.items) }
+    ensures read_back { IfOk result (λ t. MeansTexts grid.now (named_texts texts.now) t.items) }
     ensures refused { IfErr result (IsRefusal grid.now (map (λ s. s.1.items) texts.now)) }
 {
     let topology = build_topology(alloc, grid, texts)?;
-    Ok(text_of(alloc, &topology)?)
+    let text = text_of(alloc, &topology)?;
+    Ok(text)
 }
 
 // The canonical text of a topology, in memory.
 fn text_of(alloc: Global, topology: &Topology) -> Result<Vec<u8>, OutOfMemory>
-    ensures { IfOk result (λ t. t.items ≡ topology_text (seen_parts topology.now)) }
+    ensures text { IfOk result (λ t. t.items ≡ topology_text (seen_parts topology.now)) }
+    ensures limits { IsTransform topology.now.grid }
 {
     let mut kept = Kept::new(alloc);
     match topo_io::write(topology, &mut kept) {
@@ -72,7 +77,7 @@ fn build_topology(
     texts: &[(String, Vec<u8>)],
 ) -> Result<Topology, BuildFault>
     ensures accepted { OnOk result (AreAccepted grid.now (map (λ s. s.1.items) texts.now)) }
-    ensures canonical { IfOk result (λ t. IsTextOfTexts grid.now (named_texts texts.now) (topology_text (seen_parts t))) }
+    ensures topology { IfOk result (IsTopologyOfTexts grid.now (named_texts texts.now)) }
     ensures refused { IfErr result (IsRefusal grid.now (map (λ s. s.1.items) texts.now)) }
 {
     let map = read_layers(alloc, grid, texts)?;

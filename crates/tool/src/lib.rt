@@ -3,7 +3,6 @@
 //! whole command.
 #![tactic(auto)]
 
-mod answers;
 mod arguments;
 mod building;
 mod command;

@@ -7,6 +7,34 @@ use refine::{MergeFault, Plan, merge_texts};
 use sinks::{Sink, put};
 use std::alloc::Global;
 
+/// In what grouping files are merged.
+#[derive(Clone, Copy)]
+enum Shape {
+    Left,
+    Right,
+    Halves,
+}
+
+impl Shape {
+    /// The grouping that the word after `--shape` names. clap lets no word through that names none.
+    fn of_word(word: &str) -> Shape {
+        match word {
+            "right" => Shape::Right,
+            "halves" => Shape::Halves,
+            _ => Shape::Left,
+        }
+    }
+
+    /// The plan over that many files. None where there is no file.
+    fn plan(self, alloc: Global, count: usize) -> Result<Option<Plan>, OutOfMemory> {
+        match self {
+            Shape::Left => Plan::left(alloc, count),
+            Shape::Right => Plan::right(alloc, count),
+            Shape::Halves => Plan::halves(alloc, count),
+        }
+    }
+}
+
 /// Prints the topology of all files' features.
 pub(crate) fn run_merge<'a, F: Files, O: Sink>(
     alloc: Global,
@@ -16,8 +44,8 @@ pub(crate) fn run_merge<'a, F: Files, O: Sink>(
 ) -> Result<u8, Refusal<'a>> {
     let names = found.get_strs("FILE").unwrap_or(&[]);
     let texts = read_all(alloc, files, names)?;
-    let shape = found.get_str("shape").unwrap_or("left");
-    let Some(plan) = plan_of(alloc, shape, texts.len())? else {
+    let shape = Shape::of_word(found.get_str("shape").unwrap_or("left"));
+    let Some(plan) = shape.plan(alloc, texts.len())? else {
         return Err(Refusal::BadPlan);
     };
     match merge_texts(alloc, texts.as_slice(), &plan) {
@@ -26,15 +54,6 @@ pub(crate) fn run_merge<'a, F: Files, O: Sink>(
             Ok(0)
         }
         Err(fault) => Err(refused(names, fault)),
-    }
-}
-
-/// The grouping that the word after `--shape` names. None where there is no file.
-fn plan_of(alloc: Global, shape: &str, count: usize) -> Result<Option<Plan>, OutOfMemory> {
-    match shape {
-        "right" => Plan::right(alloc, count),
-        "halves" => Plan::halves(alloc, count),
-        _ => Plan::left(alloc, count),
     }
 }
 

@@ -1,11 +1,10 @@
 //! The commands that ask one topology: `check`, `feature`, `mesh` and `neighbors`.
-use crate::answers::{write_lists, write_mesh};
 use crate::files::{Files, read_named};
 use crate::refusal::Refusal;
 use chains::ArcTable;
 use clap::ArgMatches;
 use grid::Grid;
-use query::{LayerFault, QueryFault, mesh, neighbors, write_layer};
+use query::{LayerFault, QueryFault, mesh, neighbors, write_layer, write_mesh, write_neighbors};
 use shapes::{Feature, FeatureMap};
 use sinks::{Sink, put};
 use std::alloc::Global;
@@ -58,7 +57,8 @@ pub(crate) fn run_mesh<'a, F: Files, O: Sink>(
 ) -> Result<u8, Refusal<'a>> {
     let layer = found.get_str("layer");
     let topology = read_topology(alloc, files, word(found, "FILE"))?;
-    match mesh_of(alloc, &topology, layer, word(found, "edges")) {
+    let edges = Edges::of_word(word(found, "edges"));
+    match mesh_of(alloc, &topology, layer, edges) {
         Ok(lines) => {
             write_mesh(&topology.grid(), &lines, out)?;
             Ok(0)
@@ -67,17 +67,37 @@ pub(crate) fn run_mesh<'a, F: Files, O: Sink>(
     }
 }
 
-/// The borders that the word after `--edges` names: between two features, of one alone, or all.
+/// Which borders are asked for.
+#[derive(Clone, Copy)]
+enum Edges {
+    All,
+    /// Those between two features.
+    Interior,
+    /// Those of one feature alone.
+    Exterior,
+}
+
+impl Edges {
+    /// What the word after `--edges` names; all where there is none.
+    fn of_word(word: &str) -> Edges {
+        match word {
+            "interior" => Edges::Interior,
+            "exterior" => Edges::Exterior,
+            _ => Edges::All,
+        }
+    }
+}
+
 fn mesh_of(
     alloc: Global,
     topology: &Topology,
     layer: Option<&str>,
-    edges: &str,
+    edges: Edges,
 ) -> Result<ArcTable, QueryFault> {
     match edges {
-        "interior" => mesh(alloc, topology, layer, |a: &Feature, b: &Feature| a != b),
-        "exterior" => mesh(alloc, topology, layer, |a: &Feature, b: &Feature| a == b),
-        _ => mesh(alloc, topology, layer, |_: &Feature, _: &Feature| true),
+        Edges::All => mesh(alloc, topology, layer, |_: &Feature, _: &Feature| true),
+        Edges::Interior => mesh(alloc, topology, layer, |a: &Feature, b: &Feature| a != b),
+        Edges::Exterior => mesh(alloc, topology, layer, |a: &Feature, b: &Feature| a == b),
     }
 }
 
@@ -92,7 +112,7 @@ pub(crate) fn run_neighbors<'a, F: Files, O: Sink>(
     let topology = read_topology(alloc, files, word(found, "FILE"))?;
     match neighbors(alloc, &topology, layer) {
         Ok(lists) => {
-            write_lists(lists.as_slice(), out)?;
+            write_neighbors(lists.as_slice(), out)?;
             Ok(0)
         }
         Err(fault) => Err(refused(layer, fault)),

@@ -1,5 +1,5 @@
 //! The box around positions.
-ghost use Rattle.std.specs.Prelude.{◌≡◌, Some, None, ◌++◌, map as map_list};
+ghost use Rattle.std.specs.Prelude.{◌≡◌, ◌<◌, ◌^◌, Some, None, ◌++◌, length, map as map_list};
 ghost use Rattle.std.specs.Int.{int_min, int_max};
 ghost use Rattle.theory.specs.Lists.{gathered, joined};
 ghost use Rattle.topo.specs.Box as spec;
@@ -90,7 +90,8 @@ fn around_arc(
 
 #[tactic(auto, using(crate::proofs::ArcsLeft::arcs_step))]
 fn around_arcs(grid: &Grid, arcs: &ArcTable) -> Option<Corners>
-    ensures { result ≡ box_from grid.now None (joined arcs.now.arcs) }
+    ensures corners { result ≡ box_from grid.now None (joined arcs.now.arcs) }
+    ensures few { length arcs.now.arcs < 2 ^ 63 }
 {
     let mut corners = None;
     for number in 0..arcs.len() {
@@ -123,8 +124,10 @@ fn around_geometries(
 }
 
 /// The box around the arcs and the points of the layers; None where there are none.
+/// 64 bits number the arcs of a table.
 pub(crate) fn bounds(grid: &Grid, arcs: &ArcTable, layers: &[Layer]) -> Option<Corners>
-    ensures { result ≡ box_from grid.now None (joined arcs.now.arcs ++ gathered layer_points layers.now) }
+    ensures corners { result ≡ box_from grid.now None (joined arcs.now.arcs ++ gathered layer_points layers.now) }
+    ensures few { length arcs.now.arcs < 2 ^ 63 }
 {
     let mut corners = around_arcs(grid, arcs);
     for layer in layers {

@@ -1,6 +1,6 @@
 //! The topology of a map: all pieces are cut and put into the table of arcs, and each line and ring
 //! becomes the list of the arcs that its pieces are.
-ghost use Rattle.std.specs.Prelude.{◌≡◌, ◌++◌, IfOk, OnOk, map as map_list};
+ghost use Rattle.std.specs.Prelude.{◌≡◌, ◌++◌, ◌<◌, ◌^◌, IfOk, OnOk, length, map as map_list};
 ghost use Rattle.grid.specs.declared.pos.Pos.{Pos};
 ghost use Rattle.lines.specs.Turned.{position_cmp};
 ghost use Rattle.shapes.specs.Maps.{set_of};
@@ -350,6 +350,7 @@ impl Topology {
         ensures computed { IfOk result (λ t. seen_parts t ≡ the_topology grid.now map.now) }
         ensures segments { IfOk result (λ t. EachSegmentOnce (geometry_of map.now) t.arcs.arcs) }
         ensures of_map { IfOk result (λ t. IsOf map.now t) }
+        ensures few { IfOk result (λ t. length t.arcs.arcs < 2 ^ 63) }
     {
         let parts = parts_of(alloc, map)?;
         Ok(Topology::from_parts(*grid, parts.table, parts.layers))

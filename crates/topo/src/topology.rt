@@ -1,5 +1,5 @@
 //! A topology as a value.
-ghost use Rattle.std.specs.Prelude.{◌≡◌, ◌↔◌, IfOk, IfSome, IfNone, IsTrue, List};
+ghost use Rattle.std.specs.Prelude.{◌≡◌, ◌↔◌, ◌<◌, ◌^◌, length, IfOk, IfSome, IfNone, IsTrue, List};
 ghost use Rattle.grid.specs.declared.pos.Pos.{Pos};
 ghost use Rattle.theory.specs.ArcNumbers.{StitchTo};
 ghost use Rattle.theory.specs.Lists.{Has};
@@ -139,6 +139,7 @@ impl Topology {
         ensures arcs { result.arcs ≡ arcs }
         ensures layers { result.layers ≡ layers.items }
         ensures of_map { (m : Layers) → ArePartsOf m arcs layers.items → IsOf m result }
+        ensures few { length result.arcs.arcs < 2 ^ 63 }
     {
         let bbox = bounds(&grid, &arcs, &layers);
         Topology {

@@ -1,5 +1,5 @@
 -- The texts of a topology's parts, as they are written.
-use Rattle.std.proofs.Common.{◌≡◌, ℕ, List, [], ◌∷◌, ◌++◌, map, refl, sym, ap, ◌∙◌, codes, Option, Some, None, IsTrue, Bool, true, false, rules, if◌then◌else◌, ◌<◌, length, get_or}
+use Rattle.std.proofs.Common.{◌≡◌, ℕ, ℤ, List, [], ◌∷◌, ◌++◌, map, refl, sym, ap, ◌∙◌, codes, Option, Some, None, IsTrue, Bool, true, false, rules, if◌then◌else◌, ◌<◌, length, get_or}
 use Rattle.std.specs.Borrow.{Bor}
 use Rattle.std.proofs.lemmas.Option.{slice_get-get_or}
 use Rattle.std.specs.List.{slice_get}
@@ -15,7 +15,7 @@ use Rattle.sinks.specs.Texts.{joined, list_text, option_text}
 use Rattle.topo.specs.Parts.{Corners, LayerParts, TopologyParts}
 use Rattle.topo.specs.OfMap.{item_of, layer_of, seen_parts}
 use Rattle.topo.specs.declared.geom.Geom.{Geom}
-use Rattle.topo_io.specs.TopologyText.{arc_text, geometry_text, layer_text, bbox_text, transform_text, topology_text, properties_member}
+use Rattle.topo_io.specs.TopologyText.{arc_text, geometry_text, layer_text, bbox_text, transform_of, transform_text, topology_text, properties_member}
 use Rattle.writing.proofs.Joined.{joined_map, list_text_map}
 
 not_true : (b : Bool) → b ≡ false → IsTrue b → ⊥
@@ -65,3 +65,7 @@ topology_is t a b ls g e f h k =
     ∙ ap (λ x. codes "{\"arcs\":[" ++ (joined arc_text t.arcs.arcs ++ (codes "]," ++ (option_text bbox_text t.bbox
     ++ (codes "\"objects\":{" ++ (x ++ (codes "}," ++ (transform_text t.grid ++ codes ",\"type\":\"Topology\"}"))))))))
     (sym (joined_map layer_text layer_of t.layers))
+
+-- the grid of its scales and translations
+pub grid_is : (t g : Transform) (s d : ℤ × ℤ) → s ≡ (g.x.scale, g.y.scale) → d ≡ (g.x.translate, g.y.translate) → g ≡ t → transform_of s d ≡ t
+grid_is t g s d e f h = (λ i. transform_of (e i) (f i)) ∙ h

@@ -2,7 +2,7 @@
 use Rattle.std.specs.Prelude.{ℕ, ℤ, ◌-ℤ◌, List, [], ◌∷◌, ◌++◌, codes, if◌then◌else◌}
 use Rattle.std.specs.Fmt.{signed_decimal}
 use Rattle.std.specs.Str.{bytes_eq}
-use Rattle.grid.specs.Place.{Transform}
+use Rattle.grid.specs.Place.{Transform, transform, scaling}
 use Rattle.grid.specs.declared.pos.Pos.{Pos}
 use Rattle.chains.specs.Seen.{Info}
 use Rattle.shapes.specs.Parts.{properties_text}
@@ -74,6 +74,10 @@ layer_text l = spelling_of l.name ++ (codes ":{\"geometries\":" ++ (list_text ge
 -- the member `bbox` and a comma
 abbrev pub bbox_text : Corners → List ℕ
 bbox_text c = codes "\"bbox\":" ++ (list_text signed_decimal (c.0 ∷ c.1 ∷ c.2 ∷ c.3 ∷ []) ++ codes ",")
+
+-- the transform of the scales and the translations of both elements
+abbrev pub transform_of : ℤ × ℤ → ℤ × ℤ → Transform
+transform_of scales translations = transform (scaling scales.0 translations.0) (scaling scales.1 translations.1)
 
 -- the member `transform`
 abbrev pub transform_text : Transform → List ℕ

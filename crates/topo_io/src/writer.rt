@@ -6,11 +6,12 @@ ghost use Rattle.sinks.specs.Texts.{list_text, joined, option_text};
 ghost use Rattle.sinks.specs.Writes.{TookAll, TookPart};
 ghost use Rattle.shapes.specs.Parts.{spelled_text, properties_text};
 ghost use Rattle.theory.specs.ArcNumbers.{index_of};
+ghost use Rattle.grid.specs.Place.{IsTransform};
 ghost use Rattle.topo.specs.OfMap.{body_of, item_of, layer_of, seen_parts};
-ghost use Rattle.topo_io.specs.TopologyText.{position_text, difference_text, differences_text, arc_positions, arc_text, index_text, content_text, type_text, properties_member, geometry_text, layer_text, bbox_text, transform_text, topology_text};
+ghost use Rattle.topo_io.specs.TopologyText.{position_text, difference_text, differences_text, arc_positions, arc_text, index_text, content_text, type_text, properties_member, geometry_text, layer_text, bbox_text, transform_of, transform_text, topology_text};
 
 use chains::table::{ArcRef, ArcTable};
-use grid::{Grid, Pos};
+use grid::Pos;
 use itoa::Buffer;
 use shapes::props::Props;
 use sinks::written::{
@@ -259,16 +260,16 @@ impl Written for BboxMember {
     }
 }
 
-/// The member `transform`.
+/// The member `transform`, of the scales and the translations.
 #[derive(Clone, Copy)]
-struct TransformMember(Grid);
+struct TransformMember((i64, i64), (i64, i64));
 
 impl Written for TransformMember {
-    ghost text = { λ t. transform_text t.0 };
+    ghost text = { λ t. transform_text (transform_of t.0 t.1) };
 
     fn write<W: Sink>(&self, sink: &mut W) -> Result<(), WriteFault> {
-        let (sx, sy) = self.0.scale();
-        let (tx, ty) = self.0.translate();
+        let (sx, sy) = self.0;
+        let (tx, ty) = self.1;
         let translate = Then(Text(b",\"translate\":"), Then(Pair(tx, ty), Text(b"}")));
         Then(
             Text(b"\"transform\":{\"scale\":"),
@@ -285,10 +286,15 @@ pub struct Canonical<'a>(pub &'a Topology);
 impl<'a> Written for Canonical<'a> {
     ghost text = { λ t. topology_text (seen_parts t.0.now) };
 
-    fn write<W: Sink>(&self, sink: &mut W) -> Result<(), WriteFault> {
+    fn write<W: Sink>(&self, sink: &mut W) -> Result<(), WriteFault>
+        ensures whole { OnOk result (TookAll (W.seen sink.old) (W.seen sink.new) (topology_text (seen_parts self.now.0.now))) }
+        ensures part { OnErr result (TookPart (W.seen sink.old) (W.seen sink.new) (topology_text (seen_parts self.now.0.now))) }
+        ensures limits { IsTransform self.now.0.now.grid }
+    {
         let topology = self.0;
+        let grid = topology.grid();
         let transform = Then(
-            TransformMember(topology.grid()),
+            TransformMember(grid.scale(), grid.translate()),
             Text(b",\"type\":\"Topology\"}"),
         );
         let objects = Then(
@@ -307,13 +313,14 @@ impl<'a> Written for Canonical<'a> {
     }
 }
 
-/// Writes the canonical text of a topology.
+/// Writes the canonical text of a topology, whose grid is within its limits.
 ///
 /// # Errors
 /// `Write` where the sink failed; it then took a beginning of the text.
 pub fn write<W: Sink>(topology: &Topology, sink: &mut W) -> Result<(), WriteFault>
     ensures whole { OnOk result (TookAll (W.seen sink.old) (W.seen sink.new) (topology_text (seen_parts topology.now))) }
     ensures part { OnErr result (TookPart (W.seen sink.old) (W.seen sink.new) (topology_text (seen_parts topology.now))) }
+    ensures limits { IsTransform topology.now.grid }
 {
     Canonical(topology).write(sink)
 }
@@ -323,6 +330,7 @@ mod tests {
     use super::*;
     use crate::read;
     use crate::same::is_text_of;
+    use grid::Grid;
     use shapes::feature_map::FeatureMap;
     use sinks::Kept;
     use std::alloc::Global;

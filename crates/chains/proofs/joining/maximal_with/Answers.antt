@@ -18,4 +18,4 @@ returns c all two parted =
     subst (λ k. AreMaximal all k c.in_ok-table.table) c.in_ok-stops.ensures
     (all_maximal all c.in_ok-stops.stops (subst (λ k. MeetsTwo all k) (sym c.in_ok-stops.ensures) two)
     (map (λ d. d.items) c.append.new.self.items) c.in_ok-pieces.pieces.items _ (subst (AreAllChains all c.in_ok-stops.stops) (sym these) found)
-    c.in_ok-pieces.ensures c.in_ok-table.ensures.arcs c.in_ok-table.ensures.seams)
+    c.in_ok-pieces.ensures c.in_ok-table.ensures.arcs c.in_ok-table.ensures.loops)

@@ -1,10 +1,19 @@
-use Rattle.std.proofs.Common.{refl}
+use Rattle.std.proofs.Common.{refl, sym, subst}
 use Rattle.std.specs.Prelude.{map as map_list}
 use Rattle.std.specs.Fn.{FnReturnsAtPair}
+use Rattle.query.specs.Borders.{MayAsk}
+use Rattle.query.specs.Selecting.{MayAskAmong}
 use Rattle.query.proofs.ArcSegments.{segments_on}
 use Rattle.query.proofs.Meshing.{selected_by}
 use Rattle.query.proofs.Parted.{joined_meet, lines_over}
 use Rattle.query.proofs.borders.mesh.Goals as goal
+
+pub choose-requires : goal.choose-requires
+choose-requires g c =
+    let (m, of) = c.arcs-arcs.ensures.of_map in
+    let are = c.in_ok-members.ensures.members m of in
+    subst (MayAskAmong (MayAsk g.F.Fn c.args.filter)) (sym c.deref-3.ensures.value)
+    (λ p q one two. c.requires m of p.feature q.feature (are.only p one).within (are.only q two).within)
 
 pub maximal_with-requires : goal.maximal_with-requires
 maximal_with-requires g c =

@@ -1,7 +1,14 @@
-use Rattle.std.proofs.Common.{refl}
-use Rattle.query.proofs.Choosing.{asked, not_there}
+use Rattle.std.proofs.Common.{refl, of_calls}
 use Rattle.std.specs.Fn.{FnReturnsAtPair}
+use Rattle.query.specs.Borders.{MayAsk}
+use Rattle.query.proofs.Choosing.{asked, may_ask, not_there}
 use Rattle.query.proofs.selecting.ask.Goals as goal
+
+pub filter-requires : goal.filter-requires
+filter-requires g c =
+    let e = c.in-Some-Some.ensures.lookup in
+    let f = c.in-Some-Some.ensures'.lookup in
+    search (of_calls, may_ask (MayAsk g.F.Fn c.args.filter.now) c.args.members.now c.args.span c.in-Some-Some.least.now c.in-Some-Some.greatest.now e.3.0 e.1 f.3.0 f.1 c.requires)
 
 pub returns-in-Some-Some : goal.returns-in-Some-Some
 returns-in-Some-Some g c =

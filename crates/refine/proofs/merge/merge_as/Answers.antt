@@ -1,11 +1,10 @@
-use Rattle.std.proofs.Common.{length, ap, subst, sym, ◌∙◌, refl, None, Some}
+use Rattle.std.proofs.Common.{length, ap, sym, ◌∙◌, refl, None, Some}
 use Rattle.std.specs.Prelude.{map}
 use Rattle.std.proofs.lemmas.Result.{err_from_is_err_and}
 use Rattle.refine.specs.Plans.{leaves, union_at, first_outside}
 use Rattle.refine.specs.Merge.{bytes_of}
 use Rattle.topo_io.specs.Canon.{canon}
 use Rattle.refine.proofs.MergeLemmas.{read_merge, plan_merge, read_meant, length_bytes}
-use Rattle.round_trip.specs.Laws.{IsStored}
 use Rattle.refine.proofs.ThroughTexts.{means_union}
 use Rattle.refine.proofs.merge.merge_as.Goals as goal
 
@@ -35,5 +34,5 @@ returns-in-Ok-clause-merged g c =
 pub returns-in-Ok-clause-accepted : goal.returns-in-Ok-clause-accepted
 unfolding returns-in-Ok-clause-merged
 returns-in-Ok-clause-accepted g c =
-    means_union (bytes_of c.args.texts.now) c.args.plan.now _ (returns-in-Ok-clause-merged g c) c.in_ok-text-in-Ok.ensures.limits
-    (subst IsStored (c.in-Ok.ensures.map ∙ ap (λ ss. union_at (map g.S.Shard.map_of ss) (leaves c.args.plan.now)) c.deref.ensures.value) c.in_ok-text-in-Ok.ensures.stored)
+    means_union (bytes_of c.args.texts.now) c.args.plan.now _ (returns-in-Ok-clause-merged g c) (g.S.Shard.map_of c.in-Ok.shard)
+    (c.in-Ok.ensures.map ∙ ap (λ ss. union_at (map g.S.Shard.map_of ss) (leaves c.args.plan.now)) c.deref.ensures.value) c.in_ok-text-in-Ok.ensures.accepted

@@ -1,12 +1,16 @@
 use Rattle.std.proofs.Common.{sym, ◌∙◌, refl, subst}
 use Rattle.refine.specs.Plans.{HasPlaces}
 use Rattle.refine.proofs.PlanLemmas.{one_grid, no_first, no_places}
+use Rattle.refine.proofs.LeafLemmas.{has_places}
 use Rattle.refine.proofs.plan.run_plan.Goals as goal
 
 pub returns-in_default-first-clause-faults : goal.returns-in_default-first-clause-faults
 returns-in_default-first-clause-faults g c =
     absurd (no_places c.args.plan.now
-    (subst (λ n. HasPlaces n c.args.plan.now) (no_first c.args.shards.now c.in_default-first.ensures.value) (c.in_default.ensures.none refl)))
+    (subst (λ n. HasPlaces n c.args.plan.now) (no_first c.args.shards.now c.in_default-first.ensures.value) (has_places _ _ (sym c.in_default.ensures.first))))
+
+pub join_leaves-requires-clause-places : goal.join_leaves-requires-clause-places
+join_leaves-requires-clause-places g c = has_places _ _ (sym c.in_default.ensures.first)
 
 pub join_leaves-requires-clause-one_grid : goal.join_leaves-requires-clause-one_grid
 join_leaves-requires-clause-one_grid g c =

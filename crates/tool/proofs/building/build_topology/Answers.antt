@@ -1,10 +1,20 @@
-use Rattle.std.proofs.Common.{ap}
-use Rattle.topo_io.specs.TopologyText.{topology_text}
+use Rattle.std.proofs.Common.{subst}
+use Rattle.tool.specs.Maps.{named_texts}
+use Rattle.tool.specs.Sources.{AreAccepted}
+use Rattle.tool.proofs.Fitting.{map_of_texts_fits, same_texts}
 use Rattle.tool.proofs.building.build_topology.Goals as goal
 
-pub returns-clause-canonical : goal.returns-clause-canonical
-returns-clause-canonical c = record {
-  map = c.in_ok-map.map;
-  of_texts = c.in_ok-map.ensures.map;
-  is = ap topology_text c.in_ok-build.ensures.computed;
-}
+pub returns-clause-topology : goal.returns-clause-topology
+returns-clause-topology c =
+    let t = c.args.grid.now in
+    let texts = named_texts c.args.texts.now in
+    let read = c.in_ok-map.ensures in
+    let built = c.in_ok-build.ensures in
+    record {
+      map = c.in_ok-map.map;
+      of_texts = read.map;
+      fits = map_of_texts_fits t texts c.in_ok-map.map (subst (AreAccepted t) (same_texts c.args.texts.now) read.accepted) read.map;
+      topology = built.topology;
+      of_map = built.of_map;
+      few = built.few;
+    }

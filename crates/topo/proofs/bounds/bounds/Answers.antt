@@ -9,7 +9,7 @@ use Rattle.topo.proofs.bounds.bounds.Goals as goal
 
 pub loop-layer-init : goal.loop-layer-init
 loop-layer-init c =
-    ap (λ w. box_from c.args.grid.now w (gathered layer_points c.args.layers.now)) c.around_arcs-corners.ensures
+    ap (λ w. box_from c.args.grid.now w (gathered layer_points c.args.layers.now)) c.around_arcs-corners.ensures.corners
     ∙ sym (box_append c.args.grid.now None (joined c.args.arcs.now.arcs) (gathered layer_points c.args.layers.now))
 
 pub loop-layer-preserved : goal.loop-layer-preserved

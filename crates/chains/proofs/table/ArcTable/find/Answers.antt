@@ -1,30 +1,30 @@
-use Rattle.std.proofs.Common.{ap, sym, ◌∙◌, refl, subst, ◌≡◌, Some}
-use Rattle.std.specs.List.{list_any}
+use Rattle.std.proofs.Common.{◌≡◌, ap, sym, ◌∙◌, refl, subst, map, Some, None}
+use Rattle.std.specs.List.{position}
 use Rattle.theory.specs.Lists.{Has}
 use Rattle.theory.specs.ArcNumbers.{along}
+use Rattle.theory.proofs.ListsOfLists.{get_has}
 use Rattle.chains.specs.Pieces.{used}
+use Rattle.chains.specs.Stored.{positions_of}
 use Rattle.chains.specs.Table.{same_list}
-use Rattle.chains.proofs.Places.{any_has, has_any, along_found}
+use Rattle.chains.proofs.Places.{along_found, found_at, not_found}
 use Rattle.chains.proofs.table.ArcTable.find.Goals as goal
 
 pub returns-in-None-clause-found : goal.returns-in-None-clause-found
-returns-in-None-clause-found c = (
-  (λ e. absurd cc),
-  (λ h. c.in-None.ensures.found
-      ∙ ap (λ w. list_any (same_list w) c.self.inside.arcs.keys) c.items.ensures
-      ∙ has_any c.args.piece.now.chain c.self.inside.arcs.keys (subst (Has c.args.piece.now.chain) (sym (ap (λ w. w.arcs) c.self.view_is)) h)),
-)
+returns-in-None-clause-found c =
+    let l = map positions_of c.self.inside.arcs in
+    let q = c.args.piece.now.chain in
+    let e : None ≡ position (same_list q) l = c.in-None.ensures c.self.invariant ∙ ap (λ w. position (same_list w) l) c.items.ensures in
+    ((λ k. absurd cc), (λ h. absurd (not_found q l e (subst (Has q) (sym (ap (λ w. w.arcs) c.self.view_is)) h))))
 
 pub returns-in-Some-clause-along : goal.returns-in-Some-clause-along
 returns-in-Some-clause-along c =
     subst (λ w. along w (record { arc = c.in-Some.arc; reversed = c.reversed.result }) ≡ Some (used c.args.piece.now)) (ap (λ w. w.arcs) c.self.view_is)
-    (along_found c.self.inside.arcs.keys c.args.piece.now c.items.result.now c.in-Some.arc c.reversed.result
-    c.in-Some.ensures.index c.items.ensures c.reversed.ensures)
+    (along_found (map positions_of c.self.inside.arcs) c.args.piece.now c.items.result.now c.in-Some.arc c.reversed.result
+    (c.in-Some.ensures c.self.invariant) c.items.ensures c.reversed.ensures)
 
 pub returns-in-Some-clause-found : goal.returns-in-Some-clause-found
-returns-in-Some-clause-found c = (
-  (λ e. subst (Has c.args.piece.now.chain) (ap (λ w. w.arcs) c.self.view_is)
-      (any_has c.args.piece.now.chain c.self.inside.arcs.keys
-      (sym (c.in-Some.ensures.found ∙ ap (λ w. list_any (same_list w) c.self.inside.arcs.keys) c.items.ensures)))),
-  (λ h. refl),
-)
+returns-in-Some-clause-found c =
+    let l = map positions_of c.self.inside.arcs in
+    let q = c.args.piece.now.chain in
+    let e : Some c.in-Some.arc ≡ position (same_list q) l = c.in-Some.ensures c.self.invariant ∙ ap (λ w. position (same_list w) l) c.items.ensures in
+    ((λ k. subst (Has q) (ap (λ w. w.arcs) c.self.view_is) (get_has l c.in-Some.arc q (found_at q l c.in-Some.arc e))), (λ h. refl))

@@ -1,25 +1,31 @@
-use Rattle.std.proofs.Common.{map, ap, ◌∙◌}
+use Rattle.std.proofs.Common.{◌≡◌, true, map, sym, subst}
+use Rattle.lines.specs.Turned.{list_cmp}
+use Rattle.theory.specs.Arcs.{AreSortedOnce}
 use Rattle.chains.specs.Pieces.{chain_of}
-use Rattle.chains.specs.Table.{seams_of}
-use Rattle.chains.proofs.Places.{sorted_once}
-use Rattle.chains.proofs.Marks.{seams_kept}
+use Rattle.chains.specs.Stored.{positions_of, loops_of, rises}
+use Rattle.chains.specs.Table.{AreLoopsOf}
+use Rattle.chains.proofs.Marks.{merged_once, merged_loops, alike_told}
+use Rattle.chains.proofs.Merged.{pieces_rise}
 use Rattle.chains.proofs.TableOfMap.{table_is}
 use Rattle.chains.proofs.table.ArcTable.from_pieces.Goals as goal
 
+pub invariant_of-result : goal.invariant_of-result
+invariant_of-result c =
+    subst (λ w. rises (map positions_of w) ≡ true) (sym c.in_ok-arcs.ensures) (pieces_rise c.sort_unstable.new.self.items c.sort_unstable.ensures.sorted)
+
 pub returns-clause-arcs : goal.returns-clause-arcs
 returns-clause-arcs c =
-    sorted_once (map chain_of c.args.pieces.items) c.in_ok-arcs.arcs.keys c.sort.new.self.keys c.in_ok-arcs.ensures.keys
-    c.sort.ensures.reordered.2 c.in_ok-sort.ensures.sorted c.sort.ensures.unique
+    subst (λ w. AreSortedOnce list_cmp (map chain_of c.args.pieces.items) (map positions_of w)) (sym c.in_ok-arcs.ensures)
+    (merged_once c.args.pieces.items c.sort_unstable.new.self.items c.sort_unstable.ensures.permutation
+    (pieces_rise c.sort_unstable.new.self.items c.sort_unstable.ensures.sorted))
 
-pub returns-clause-seams : goal.returns-clause-seams
-returns-clause-seams c =
-    seams_kept c.args.pieces.items c.in_ok-seams.seams.items c.sort_unstable.new.self.items
-    (c.in_ok-seams.ensures ∙ ap seams_of c.deref.ensures.value) c.sort_unstable.ensures.permutation
+pub returns-clause-loops : goal.returns-clause-loops
+returns-clause-loops c =
+    subst (λ w. AreLoopsOf c.args.pieces.items (loops_of w)) (sym c.in_ok-arcs.ensures)
+    (merged_loops c.args.pieces.items c.sort_unstable.new.self.items c.sort_unstable.ensures.permutation)
+
+pub returns-clause-free : goal.returns-clause-free
+returns-clause-free c = alike_told c.args.pieces.items _ (returns-clause-arcs c).there (returns-clause-loops c)
 
 pub returns-clause-of_map : goal.returns-clause-of_map
-returns-clause-of_map c = λ g s are. table_is g s c.args.pieces.items _
-    (sorted_once (map chain_of c.args.pieces.items) c.in_ok-arcs.arcs.keys c.sort.new.self.keys c.in_ok-arcs.ensures.keys
-    c.sort.ensures.reordered.2 c.in_ok-sort.ensures.sorted c.sort.ensures.unique)
-    (seams_kept c.args.pieces.items c.in_ok-seams.seams.items c.sort_unstable.new.self.items
-    (c.in_ok-seams.ensures ∙ ap seams_of c.deref.ensures.value) c.sort_unstable.ensures.permutation)
-    are
+returns-clause-of_map c = λ g s are. table_is g s c.args.pieces.items _ (returns-clause-arcs c) (returns-clause-loops c) are

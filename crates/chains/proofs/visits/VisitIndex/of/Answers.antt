@@ -3,6 +3,7 @@ use Rattle.theory.specs.Lists.{gathered}
 use Rattle.shapes.specs.Parts.{spelled_text}
 use Rattle.chains.specs.Seen.{geometry_of}
 use Rattle.chains.specs.Index.{layer_ends, layer_visits, form_ends, form_visits}
+use Rattle.chains.proofs.Crowding.{keeps_all}
 use Rattle.chains.proofs.Gathered.{visits_are}
 use Rattle.chains.proofs.Same.{same_equal, same_trans}
 use Rattle.chains.proofs.Layers.{of_names}
@@ -11,7 +12,7 @@ use Rattle.chains.proofs.visits.VisitIndex.of.Goals as goal
 pub returns : goal.returns
 returns c =
     let m = c.args.map.now in
-    c.in_ok-index.ensures (geometry_of m)
+    c.in_ok-index.ensures (geometry_of m) _ (keeps_all c.see_layers.new.self.visits.items)
     (visits_are m c.see_layers.new.self.ends.items c.see_layers.new.self.visits.items
     (c.in_ok-see_layers.ensures.ends
     ∙ (λ i. c.new.ensures.items i ++ gathered (layer_ends m) (map (λ s. spelled_text s.now) (c.deref.ensures.value i)))

@@ -4,7 +4,7 @@ use Rattle.chains.proofs.Gathered.{junctions_kept}
 use Rattle.chains.proofs.visits.VisitIndex.of_seen.Goals as goal
 
 pub returns : goal.returns
-returns c = λ g are.
-    junctions_kept g _ _ _ _ _ _ are c.sort_unstable_by_key.ensures.permutation
+returns c = λ g all keeps are.
+    junctions_kept g _ _ _ all _ _ _ keeps are c.sort_unstable_by_key.ensures.permutation
     (c.sort_unstable_by_key.ensures.sorted (λ v. v.vertex) (answers_always _ _ _ (λ f a r g h. search rules)))
     c.deref.ensures.value c.in_ok-keep_clashes.ensures c.sort_unstable.ensures.permutation

@@ -7,6 +7,6 @@ use Rattle.shapes.proofs.feature_map.FeatureMap.copy.Goals as goal
 
 pub returns : goal.returns
 returns c =
-    IfOk-weaker c.union-2.result _ _
-    (λ m e. e ∙ ap (union c.args.self.now) c.new.ensures ∙ union_empty nat_list_cmp_total same_text feature_cmp_total same_feature c.args.self.now)
-    c.union-2.ensures
+    IfOk-weaker c.union.result _ _
+    (λ m e. e ∙ ap (union c.args.self.now) c.new-nothing.ensures ∙ union_empty nat_list_cmp_total same_text feature_cmp_total same_feature c.args.self.now)
+    c.union.ensures

@@ -22,3 +22,6 @@ returns-clause-segments c = (c.from_parts.ensures.of_map c.args.map.now c.in_ok-
 
 pub returns-clause-of_map : goal.returns-clause-of_map
 returns-clause-of_map c = c.from_parts.ensures.of_map c.args.map.now c.in_ok-parts.ensures
+
+pub returns-clause-few : goal.returns-clause-few
+returns-clause-few c = c.from_parts.ensures.few

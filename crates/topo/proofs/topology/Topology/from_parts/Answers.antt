@@ -11,11 +11,14 @@ invariant_of-result c = (
   c.requires.0,
   of_parts c.requires.0 (record { grid = c.args.grid; arcs = c.args.arcs; layers = c.from_vec.result; bbox = c.bounds-bbox.result })
       (subst (ArePartsOf c.requires.0 c.args.arcs) (sym c.from_vec.ensures) c.requires.1)
-      (c.bounds-bbox.ensures ∙ ap (λ w. box_of c.args.grid (joined c.args.arcs.arcs ++ gathered layer_points w)) (c.deref.ensures.value ∙ sym c.from_vec.ensures)),
+      (c.bounds-bbox.ensures.corners ∙ ap (λ w. box_of c.args.grid (joined c.args.arcs.arcs ++ gathered layer_points w)) (c.deref.ensures.value ∙ sym c.from_vec.ensures)),
 )
 
 pub returns-clause-of_map : goal.returns-clause-of_map
 returns-clause-of_map c = λ m h.
     of_parts m (record { grid = c.args.grid; arcs = c.args.arcs; layers = c.from_vec.result; bbox = c.bounds-bbox.result })
     (subst (ArePartsOf m c.args.arcs) (sym c.from_vec.ensures) h)
-    (c.bounds-bbox.ensures ∙ ap (λ w. box_of c.args.grid (joined c.args.arcs.arcs ++ gathered layer_points w)) (c.deref.ensures.value ∙ sym c.from_vec.ensures))
+    (c.bounds-bbox.ensures.corners ∙ ap (λ w. box_of c.args.grid (joined c.args.arcs.arcs ++ gathered layer_points w)) (c.deref.ensures.value ∙ sym c.from_vec.ensures))
+
+pub returns-clause-few : goal.returns-clause-few
+returns-clause-few c = c.bounds-bbox.ensures.few

@@ -1,0 +1,54 @@
+-- Arcs as the table keeps them: in order, each once, with a mark where it is a free loop.
+use Rattle.std.specs.Prelude.{ℕ, ◌<◌, Bool, true, cond, ◌&&◌, ◌||◌, List, [], ◌∷◌, map, length, Contains, Option, Some, None}
+use Rattle.std.specs.Ordering.{is_lt}
+use Rattle.theory.specs.TopologyFunction.{keep}
+use Rattle.grid.specs.declared.pos.Pos.{Pos}
+use Rattle.lines.specs.Turned.{list_cmp}
+use Rattle.chains.specs.Table.{same_list}
+use Rattle.chains.specs.declared.cutting.Piece.{Piece}
+use Rattle.chains.specs.declared.stored.StoredArc.{StoredArc}
+
+-- the positions of the arc
+abbrev pub positions_of : StoredArc → List Pos
+positions_of a = a.positions
+
+-- whether it is marked as a free loop
+abbrev pub is_marked : StoredArc → Bool
+is_marked a = a.free
+
+-- the chain of a piece, with its mark
+abbrev pub stored_of : Piece → StoredArc
+stored_of p = record { positions = p.chain; free = p.free }
+
+-- the arcs that are marked
+abbrev pub loops_of : List StoredArc → List (List Pos)
+loops_of arcs = map positions_of (keep is_marked arcs)
+
+-- whether each list comes before the next
+abbrev pub rises : List (List Pos) → Bool
+rises [] = true
+rises (c ∷ []) = true
+rises (c ∷ (d ∷ l)) = is_lt (list_cmp c d) && rises (d ∷ l)
+
+-- an arc, marked where one of the two is
+abbrev pub with_mark : StoredArc → StoredArc → StoredArc
+with_mark a b = record { positions = a.positions; free = a.free || b.free }
+
+-- arcs of which equal ones stand together, each once, where one more stands in front
+abbrev pub merged_from : StoredArc → List StoredArc → List StoredArc
+merged_from last [] = last ∷ []
+merged_from last (a ∷ l) = cond (same_list a.positions last.positions) (merged_from (with_mark last a) l) (last ∷ merged_from a l)
+
+-- arcs of which equal ones stand together, each once
+abbrev pub merged : List StoredArc → List StoredArc
+merged [] = []
+merged (a ∷ l) = merged_from a l
+
+-- the same, where one more may stand in front
+abbrev pub merged_behind : Option StoredArc → List StoredArc → List StoredArc
+merged_behind None l = merged l
+merged_behind (Some a) l = merged_from a l
+
+-- each number is less than how many there are
+abbrev pub AreBelow : List ℕ → Type 0
+AreBelow ks = (k : ℕ) → Contains ks k → k < length ks

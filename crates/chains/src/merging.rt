@@ -1,0 +1,67 @@
+//! Sorted pieces made into arcs, each once.
+ghost use Rattle.std.specs.Prelude.{◌≡◌, ◌++◌, ◌∷◌, ◌||◌, [], List, map as map_list, IfOk};
+ghost use Rattle.chains.specs.Stored.{stored_of, merged_behind, merged_from, merged};
+ghost use Rattle.chains.specs.declared.stored.StoredArc.{StoredArc as Stored};
+
+use crate::cutting::Piece;
+use crate::stored::{ArcList, StoredArc};
+use std::alloc::{AllocError, Global};
+
+fn either(a: bool, b: bool) -> bool
+    ensures { result ≡ (a || b) }
+{
+    a || b
+}
+
+/// Of two arcs one after the other: one arc where they are equal, free where one of them is;
+/// otherwise the second, and the first is put into the list.
+fn next_arc(arcs: &mut ArcList, last: StoredArc, next: StoredArc) -> Result<StoredArc, AllocError>
+    ensures { IfOk result (λ a. (rest : List Stored) → arcs.new ++ merged_from a rest ≡ arcs.old ++ merged_from last (next ∷ rest)) }
+{
+    if next.positions == last.positions {
+        let free = either(last.free, next.free);
+        return Ok(StoredArc {
+            positions: last.positions,
+            free,
+        });
+    }
+    arcs.push(last)?;
+    Ok(next)
+}
+
+/// The same, where there may be no first.
+fn arc_behind(
+    arcs: &mut ArcList,
+    last: Option<StoredArc>,
+    next: StoredArc,
+) -> Result<StoredArc, AllocError>
+    ensures { IfOk result (λ a. (rest : List Stored) → arcs.new ++ merged_from a rest ≡ arcs.old ++ merged_behind last (next ∷ rest)) }
+{
+    match last {
+        Some(arc) => next_arc(arcs, arc, next),
+        None => Ok(next),
+    }
+}
+
+fn ended(arcs: ArcList, last: Option<StoredArc>) -> Result<ArcList, AllocError>
+    ensures { IfOk result (λ l. l ≡ arcs ++ merged_behind last []) }
+{
+    let mut all = arcs;
+    if let Some(arc) = last {
+        all.push(arc)?;
+    }
+    Ok(all)
+}
+
+/// The arcs of pieces, of which those with one chain stand together.
+pub(crate) fn merged_arcs(alloc: Global, pieces: Vec<Piece>) -> Result<ArcList, AllocError>
+    ensures { IfOk result (λ l. l ≡ merged (map_list stored_of pieces.items)) }
+{
+    let mut arcs = ArcList::new(alloc);
+    let mut last = None;
+    for piece in pieces {
+        last = Some(arc_behind(&mut arcs, last, StoredArc::of(piece))?);
+    }
+    let all = ended(arcs, last)?;
+    Ok(all)
+}

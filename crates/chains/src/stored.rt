@@ -1,0 +1,126 @@
+//! Arcs as the table keeps them.
+ghost use Rattle.std.specs.Prelude.{◌≡◌, ◌++◌, ◌∷◌, ◌<◌, ◌^◌, [], true, OnOk, IfOk, length, slice_get, map as map_list};
+ghost use Rattle.std.specs.List.{position};
+ghost use Rattle.std.specs.Option.{option_map};
+ghost use Rattle.chains.specs.Table.{same_list};
+ghost use Rattle.chains.specs.Stored.{positions_of, stored_of, rises};
+
+use crate::cutting::Piece;
+use grid::pos::Pos;
+use indexmap::IndexMap;
+use lines::items::Items;
+use std::alloc::{AllocError, Global};
+use std::marker::Model;
+
+/// An arc, and whether it is a free loop.
+#[derive(Drop)]
+pub(crate) struct StoredArc {
+    pub(crate) positions: Items<Pos>,
+    pub(crate) free: bool,
+}
+
+impl StoredArc {
+    pub(crate) fn of(piece: Piece) -> StoredArc
+        ensures { result ≡ stored_of piece }
+    {
+        let free = piece.is_free();
+        StoredArc {
+            positions: piece.into_chain(),
+            free,
+        }
+    }
+
+    fn copy(&self, alloc: Global) -> Result<StoredArc, AllocError>
+        ensures { IfOk result (λ a. a ≡ self.now) }
+    {
+        let positions = self.positions.as_slice().to_vec(alloc)?;
+        Ok(StoredArc {
+            positions: Items::from_vec(positions),
+            free: self.free,
+        })
+    }
+}
+
+/// Arcs by their places. The keys are the places themselves, so that no text can choose what is
+/// hashed.
+#[derive(Drop)]
+pub(crate) struct ArcList {
+    arcs: IndexMap<usize, StoredArc>,
+}
+
+impl Model for ArcList {
+    ghost use Rattle.std.specs.Prelude.{List};
+    ghost use Rattle.indexmap.specs.IndexMap.{keys, values};
+    ghost use Rattle.chains.specs.Stored.{AreBelow};
+    ghost use Rattle.chains.specs.declared.stored.StoredArc.{StoredArc as Stored};
+
+    ghost Value = { List Stored };
+
+    ghost view = { λ a. values a.arcs };
+
+    ghost invariant = { λ a. AreBelow (keys a.arcs) };
+}
+
+impl ArcList {
+    pub(crate) fn new(alloc: Global) -> ArcList
+        ensures { result ≡ [] }
+    {
+        ArcList {
+            arcs: IndexMap::new(alloc),
+        }
+    }
+
+    fn as_slice(&self) -> &[StoredArc]
+        ensures { result.now ≡ self.now }
+    {
+        self.arcs.values().as_slice()
+    }
+
+    pub(crate) fn get(&self, place: usize) -> Option<&StoredArc>
+        ensures { option_map (λ a. a.now) result ≡ slice_get self.now place }
+    {
+        self.as_slice().get(place)
+    }
+
+    pub(crate) fn len(&self) -> usize
+        ensures len { result ≡ length self.now }
+        ensures small { result < 2 ^ 63 }
+    {
+        self.arcs.len()
+    }
+
+    /// Puts an arc last.
+    pub(crate) fn push(&mut self, arc: StoredArc) -> Result<(), AllocError>
+        ensures { OnOk result (self.new ≡ self.old ++ arc ∷ []) }
+    {
+        let number = self.arcs.len();
+        self.arcs.insert(number, arc)?;
+        Ok(())
+    }
+
+    pub(crate) fn copy(&self, alloc: Global) -> Result<ArcList, AllocError>
+        ensures { IfOk result (λ l. l ≡ self.now) }
+    {
+        let made = copies(alloc, self.as_slice())?;
+        Ok(made)
+    }
+
+    /// The place of an arc, where the arcs rise.
+    pub(crate) fn place_of(&self, positions: &Items<Pos>) -> Option<usize>
+        ensures { rises (map_list positions_of self.now) ≡ true → result ≡ position (same_list positions.now) (map_list positions_of self.now) }
+    {
+        self.as_slice()
+            .binary_search_by(|arc| arc.positions.cmp(positions))
+            .ok()
+    }
+}
+
+fn copies(alloc: Global, arcs: &[StoredArc]) -> Result<ArcList, AllocError>
+    ensures { IfOk result (λ l. l ≡ arcs.now) }
+{
+    let mut made = ArcList::new(alloc);
+    for arc in arcs {
+        made.push(arc.copy(alloc)?)?;
+    }
+    Ok(made)
+}

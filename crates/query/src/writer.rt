@@ -1,0 +1,97 @@
+//! Writing meshes and neighbours as JSON, piece by piece and with no memory.
+ghost use Rattle.std.specs.Prelude.{◌≡◌, ℕ, List, map, OnErr, OnOk};
+ghost use Rattle.std.specs.Fmt.{decimal};
+ghost use Rattle.grid.specs.declared.pos.Pos.{Pos};
+ghost use Rattle.sinks.specs.Texts.{joined, list_text};
+ghost use Rattle.sinks.specs.Writes.{TookAll, TookPart};
+ghost use Rattle.geojson_io.specs.CollectionText.{line_text};
+ghost use Rattle.topo.specs.Points.{arc_at};
+ghost use Rattle.query.specs.AnswerTexts.{mesh_text, neighbors_text};
+
+use chains::ArcTable;
+use geojson_io::writer::{Geometry, Places};
+use grid::{Grid, Pos};
+use itoa::Buffer;
+use sinks::written::{Bracketed, Listed, Notation, Text, Then, Written};
+use sinks::{Sink, WriteFault, put};
+
+/// The line of a number, empty past the last.
+fn line_at(lines: &ArcTable, number: usize) -> &[Pos]
+    ensures { result.now ≡ arc_at lines.now.arcs number }
+{
+    match lines.arc(number) {
+        Some(line) => line,
+        None => &[],
+    }
+}
+
+/// The lines of a table in order, as lists of places, with commas between them.
+#[derive(Clone, Copy)]
+struct LinesIn<'a>(&'a ArcTable, &'a Grid);
+
+impl<'a> Written for LinesIn<'a> {
+    ghost text = { λ l. joined (line_text l.1.now) l.0.now.arcs };
+
+    fn write<W: Sink>(&self, sink: &mut W) -> Result<(), WriteFault> {
+        let mut separator = Text(b"");
+        for number in 0..self.0.len() {
+            let line = Listed(line_at(self.0, number), &Places(self.1));
+            match Then(separator, line).write(sink) {
+                Ok(()) => separator = Text(b","),
+                Err(fault) => return Err(fault),
+            }
+        }
+        Ok(())
+    }
+}
+
+/// Writes a mesh, the table of lines that `mesh` answers, as a GeoJSON MultiLineString (RFC 7946, section
+/// 3.1.5) in absolute numbers: each line of the table in its order and direction. So the lines of a mesh
+/// come sorted, each in its least direction, and a line that stops nowhere from its least vertex and
+/// closed. It takes no memory.
+///
+/// # Errors
+/// `Write` where the sink failed; it then took a beginning of the text.
+pub fn write_mesh<W: Sink>(grid: &Grid, lines: &ArcTable, sink: &mut W) -> Result<(), WriteFault>
+    ensures whole { OnOk result (TookAll (W.seen sink.old) (W.seen sink.new) (mesh_text grid.now lines.now.arcs)) }
+    ensures part { OnErr result (TookPart (W.seen sink.old) (W.seen sink.new) (mesh_text grid.now lines.now.arcs)) }
+{
+    Geometry(Bracketed(LinesIn(lines, grid)), b"MultiLineString").write(sink)
+}
+
+/// Numbers, in decimal.
+#[derive(Clone, Copy)]
+struct Decimals;
+
+impl Notation<usize> for Decimals {
+    ghost text = { λ _ n. decimal n };
+
+    fn write_value<W: Sink>(&self, value: &usize, sink: &mut W) -> Result<(), WriteFault> {
+        let mut buffer = Buffer::new();
+        put(sink, buffer.format(*value).as_bytes())
+    }
+}
+
+/// Lists of such numbers, each in brackets.
+#[derive(Clone, Copy)]
+struct DecimalLists;
+
+impl Notation<Vec<usize>> for DecimalLists {
+    ghost text = { λ _ list. list_text decimal list.items };
+
+    fn write_value<W: Sink>(&self, value: &Vec<usize>, sink: &mut W) -> Result<(), WriteFault> {
+        Listed(value.as_slice(), &Decimals).write(sink)
+    }
+}
+
+/// Writes lists of places, as `neighbors` answers them, as compact JSON: a list of lists of numbers, in
+/// their order. It takes no memory.
+///
+/// # Errors
+/// `Write` where the sink failed; it then took a beginning of the text.
+pub fn write_neighbors<W: Sink>(lists: &[Vec<usize>], sink: &mut W) -> Result<(), WriteFault>
+    ensures whole { OnOk result (TookAll (W.seen sink.old) (W.seen sink.new) (neighbors_text (map (λ l. l.items) lists.now))) }
+    ensures part { OnErr result (TookPart (W.seen sink.old) (W.seen sink.new) (neighbors_text (map (λ l. l.items) lists.now))) }
+{
+    Listed(lists, &DecimalLists).write(sink)
+}

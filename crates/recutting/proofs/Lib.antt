@@ -1,0 +1,7 @@
+pub mod Stepped
+pub mod Staying
+pub mod TwoTables
+pub mod Located
+pub mod Turned
+pub mod Lists
+pub mod ProvedLaws

@@ -1,0 +1,4 @@
+pub mod Parts
+pub mod Cutting
+pub mod Laws
+pub mod Starts

@@ -1,0 +1,11 @@
+//! Two tables of arcs cut again under the junctions of both maps together.
+#![tactic(auto)]
+
+pub mod laws;
+pub mod recutting;
+pub mod refined;
+mod replacing;
+mod starting;
+
+pub use recutting::recut;
+pub use refined::{Recut, Side};

@@ -1,0 +1,121 @@
+//! Cutting the arcs of two tables again: the index of visits over the arcs gives the junctions of
+//! both maps together, all arcs are cut there, and the pieces are the new table.
+ghost use Rattle.std.specs.Prelude.{◌≡◌, ◌<◌, ◌++◌, IfOk, OnOk, List, map as map_list, length, slice_get, Option};
+ghost use Rattle.grid.specs.declared.pos.Pos.{Pos};
+ghost use Rattle.theory.specs.Geometry.{Geometry, IsSound};
+ghost use Rattle.theory.specs.Lists.{gathered};
+ghost use Rattle.theory.specs.Refinement.{IsUnionOf};
+ghost use Rattle.chains.specs.OfArcs.{arc_pieces};
+ghost use Rattle.chains.specs.Table.{located, IsTableOf};
+ghost use Rattle.recutting.specs.Cutting.{arc_used, used_if, IsRecutOf};
+
+use crate::refined::Recut;
+use chains::cutting::{Piece, cut_arc};
+use chains::table::{ArcRef, ArcTable};
+use chains::visits::VisitIndex;
+use faults::OutOfMemory;
+use lines::items::Items;
+use std::alloc::Global;
+
+/// Adds the pieces of all arcs of a table.
+fn add_table(
+    alloc: Global,
+    pieces: &mut Vec<Piece>,
+    index: &VisitIndex,
+    table: &ArcTable,
+) -> Result<(), OutOfMemory>
+    ensures { OnOk result (pieces.new.items ≡ pieces.old.items ++ gathered (arc_pieces index.now table.now.loops) table.now.arcs) }
+{
+    for number in 0..table.len() {
+        let mut cut = cut_arc(alloc, index, table, number)?;
+        pieces.append(&mut cut)?;
+    }
+    Ok(())
+}
+
+/// The arc that a piece is; past the last arc where it is none.
+fn ref_of(table: &ArcTable, piece: &Piece) -> ArcRef
+    ensures { result ≡ located table.now.arcs piece.now }
+{
+    match table.find(piece) {
+        Some(used) => used,
+        None => ArcRef {
+            arc: table.len(),
+            reversed: piece.reversed(),
+        },
+    }
+}
+
+/// The arcs that pieces are.
+fn refs_of(alloc: Global, table: &ArcTable, pieces: &[Piece]) -> Result<Items<ArcRef>, OutOfMemory>
+    ensures { IfOk result (λ v. v ≡ map_list (located table.now.arcs) pieces.now) }
+{
+    let mut refs = Vec::with_capacity(alloc, pieces.len())?;
+    for piece in pieces {
+        refs.push(ref_of(table, piece))?;
+    }
+    Ok(Items::from_vec(refs))
+}
+
+/// The new arcs of an old one. One that was not cut is looked up as it is.
+fn refs_of_arc(
+    alloc: Global,
+    index: &VisitIndex,
+    old: &ArcTable,
+    number: usize,
+    arcs: &ArcTable,
+) -> Result<Items<ArcRef>, OutOfMemory>
+    requires { number < length old.now.arcs }
+    ensures { IfOk result (λ v. v ≡ used_if index.now old.now.loops arcs.now.arcs (slice_get old.now.arcs number)) }
+{
+    match arcs.number_of(old, number) {
+        Some(arc) => {
+            let mut refs = Vec::with_capacity(alloc, 1)?;
+            refs.push(ArcRef {
+                arc,
+                reversed: false,
+            })?;
+            Ok(Items::from_vec(refs))
+        }
+        None => {
+            let pieces = cut_arc(alloc, index, old, number)?;
+            refs_of(alloc, arcs, &pieces)
+        }
+    }
+}
+
+/// The new arcs of each old one.
+fn refs_of_table(
+    alloc: Global,
+    index: &VisitIndex,
+    old: &ArcTable,
+    arcs: &ArcTable,
+) -> Result<Vec<Items<ArcRef>>, OutOfMemory>
+    ensures { IfOk result (λ v. v.items ≡ map_list (arc_used index.now old.now.loops arcs.now.arcs) old.now.arcs) }
+{
+    let mut lists = Vec::with_capacity(alloc, old.len())?;
+    for number in 0..old.len() {
+        lists.push(refs_of_arc(alloc, index, old, number, arcs)?)?;
+    }
+    Ok(lists)
+}
+
+/// The arcs of two tables, each that of a map, cut again under the junctions of both maps together.
+/// The junctions are known from the tables alone.
+///
+/// # Errors
+/// Where memory is refused.
+pub fn recut(alloc: Global, left: &ArcTable, right: &ArcTable) -> Result<Recut, OutOfMemory>
+    ensures refined { IfOk result (λ r. (m n u : Geometry Pos) → IsSound m → IsSound n → IsTableOf m left.now → IsTableOf n right.now → IsUnionOf m n u → IsRecutOf m n u left.now right.now r) }
+    ensures left { IfOk result (λ r. length r.left ≡ length left.now.arcs) }
+    ensures right { IfOk result (λ r. length r.right ≡ length right.now.arcs) }
+{
+    let index = VisitIndex::over_arcs(alloc, left, right)?;
+    let mut pieces = Vec::new(alloc);
+    add_table(alloc, &mut pieces, &index, left)?;
+    add_table(alloc, &mut pieces, &index, right)?;
+    let arcs = ArcTable::from_pieces(alloc, pieces)?;
+    let of_left = refs_of_table(alloc, &index, left, &arcs)?;
+    let of_right = refs_of_table(alloc, &index, right, &arcs)?;
+    Ok(Recut::from_parts(arcs, of_left, of_right))
+}
