@@ -1,21 +1,17 @@
--- The order of features, as derived, is the order of the definition, and its laws.
-use Rattle.std.proofs.Common.{◌≡◌, ℕ, List, [], ◌∷◌, Bool, true, false, cond, refl, sym, ◌∙◌, ap, subst, rules}
-use Rattle.std.specs.Cmp.{IsTotalOrder, then_total, on_total, Equal-is, eq_by_cmp_equiv}
+-- The laws of the order of features.
+use Rattle.std.proofs.Common.{◌≡◌, ℕ, ℤ, List, [], ◌∷◌, Bool, true, false, cond, refl, sym, ◌∙◌, ap, subst, rules}
+use Rattle.std.specs.Cmp.{IsTotalOrder, then_total, on_total, nat_cmp_total, int_cmp_total, Equal-is, eq_by_cmp_equiv}
 use Rattle.std.specs.Ordering.{eq_by_cmp}
 use Rattle.std.specs.Prelude.{◌↔◌}
 use Rattle.std.specs.FinMap.{IsAntisymmetric, nat_cmp-IsAntisymmetric, int_cmp-IsAntisymmetric, slice_cmp-IsAntisymmetric}
-use Rattle.shapes.specs.Order.{id_cmp, shape_cmp, feature_cmp}
+use Rattle.shapes.specs.Order.{id_rank, id_cmp, shape_rank, shape_cmp, feature_cmp}
 use Rattle.shapes.specs.declared.shape.Id.{Id}
 use Rattle.shapes.specs.declared.shape.Shape.{Shape}
 use Rattle.shapes.specs.declared.feature.Feature.{Feature}
-use Rattle.shapes.specs.contracts.shape.IdOrd.TheImpl as id
-use Rattle.shapes.specs.contracts.shape.ShapeOrd.TheImpl as shape
-use Rattle.shapes.specs.contracts.shape.IdOrd.TheImpl.Laws as id_laws
-use Rattle.shapes.specs.contracts.shape.ShapeOrd.TheImpl.Laws as shape_laws
 use Rattle.std.specs.declared.cmp.Ordering.{Ordering}
 use Rattle.std.specs.declared.cmp.Ordering.TheVariants.{Less, Equal, Greater}
 use Rattle.std.specs.Ordering.{ordering_then, int_cmp, nat_cmp}
-use Rattle.std.specs.Cmp.Lexicographic.{slice_cmp, nat_list_cmp_total}
+use Rattle.std.specs.Cmp.Lexicographic.{slice_cmp, lists_total, nat_list_cmp_total}
 use Rattle.lines.specs.Turned.{position_cmp, list_cmp, IsLeastRotation-prop}
 use Rattle.shapes.specs.Order.{line_cmp, ring_cmp}
 use Rattle.grid.specs.Place.{IsGridNumber, IsGridNumber-prop}
@@ -38,23 +34,92 @@ use Rattle.serde_json.specs.Written.{outline}
 use Rattle.shapes.specs.declared.shape.Id.TheVariants.{None, Number, Text}
 use Rattle.shapes.specs.declared.shape.Shape.TheVariants.{Null, Point, MultiPoint, Line, MultiLine, Polygon, MultiPolygon}
 
-pub id_derived_is : (a b : Id) → id.cmp-value.it a b ≡ id_cmp a b
-id_derived_is a b = search rules
+position_total : IsTotalOrder position_cmp
+position_total = then_total (on_total (λ (p : Pos). p.x) int_cmp_total) (on_total (λ (p : Pos). p.y) int_cmp_total)
 
-pub shape_derived_is : (a b : Shape) → shape.cmp-value.it a b ≡ shape_cmp a b
-shape_derived_is a b = search rules
+-- what ties with nothing behind it
+then_nothing : (x : Ordering) → ordering_then x Equal ≡ x
+then_nothing Less = refl
+then_nothing Equal = refl
+then_nothing Greater = refl
 
-same_id_order : id.cmp-value.it ≡ id_cmp
-same_id_order = λ i a b. id_derived_is a b i
+-- the number of an id, where it is one, and the bytes of its text
+number_in : Id → List ℤ
+number_in None = []
+number_in (Number n) = n ∷ []
+number_in (Text t) = []
 
-same_shape_order : shape.cmp-value.it ≡ shape_cmp
-same_shape_order = λ i a b. shape_derived_is a b i
+text_in : Id → List ℕ
+text_in None = []
+text_in (Number n) = []
+text_in (Text t) = t.text
+
+-- the order of ids goes by rank, number and text in turn
+id_by_parts : (a b : Id) → ordering_then (nat_cmp (id_rank a) (id_rank b)) (ordering_then (slice_cmp int_cmp (number_in a) (number_in b)) (slice_cmp nat_cmp (text_in a) (text_in b))) ≡ id_cmp a b
+unfolding number_in text_in
+id_by_parts None None = refl
+id_by_parts None (Number n) = refl
+id_by_parts None (Text t) = refl
+id_by_parts (Number m) None = refl
+id_by_parts (Number m) (Number n) = ap (λ x. ordering_then x Equal) (then_nothing (int_cmp m n)) ∙ then_nothing (int_cmp m n)
+id_by_parts (Number m) (Text t) = refl
+id_by_parts (Text s) None = refl
+id_by_parts (Text s) (Number n) = refl
+id_by_parts (Text s) (Text t) = refl
+
+id_cmp_total : IsTotalOrder id_cmp
+id_cmp_total =
+    subst IsTotalOrder (λ i a b. id_by_parts a b i)
+    (then_total (on_total id_rank nat_cmp_total) (then_total (on_total number_in (lists_total int_cmp_total)) (on_total text_in nat_list_cmp_total)))
+
+-- the points, lines and polygons of a shape, one or many
+points_in : Shape → List Pos
+points_in (Point p) = p ∷ []
+points_in (MultiPoint ps) = ps
+points_in s = []
+
+lines_in : Shape → List the_line.Line
+lines_in (Line l) = l ∷ []
+lines_in (MultiLine ls) = ls
+lines_in s = []
+
+polygons_in : Shape → List (List the_ring.Ring)
+polygons_in (Polygon rs) = rs ∷ []
+polygons_in (MultiPolygon ps) = ps
+polygons_in s = []
+
+-- the order of shapes goes by rank, points, lines and polygons in turn
+by_parts : Shape → Shape → Ordering
+by_parts a b =
+    ordering_then (nat_cmp (shape_rank a) (shape_rank b))
+    (ordering_then (list_cmp (points_in a) (points_in b))
+    (ordering_then (slice_cmp line_cmp (lines_in a) (lines_in b)) (slice_cmp (slice_cmp ring_cmp) (polygons_in a) (polygons_in b))))
+
+shape_by_parts : (a b : Shape) → by_parts a b ≡ shape_cmp a b
+unfolding by_parts points_in lines_in polygons_in
+shape_by_parts (Point p) (Point q) = ap (λ x. ordering_then x Equal) (then_nothing (position_cmp p q)) ∙ then_nothing (position_cmp p q)
+shape_by_parts (MultiPoint ps) (MultiPoint qs) = then_nothing (list_cmp ps qs)
+shape_by_parts (Line k) (Line l) = ap (λ x. ordering_then x Equal) (then_nothing (line_cmp k l)) ∙ then_nothing (line_cmp k l)
+shape_by_parts (MultiLine ks) (MultiLine ls) = then_nothing (slice_cmp line_cmp ks ls)
+shape_by_parts (Polygon ps) (Polygon qs) = then_nothing (slice_cmp ring_cmp ps qs)
+shape_by_parts (MultiPolygon ps) (MultiPolygon qs) = refl
+shape_by_parts a b = search rules
+
+ring_total : IsTotalOrder ring_cmp
+ring_total = on_total (λ (r : the_ring.Ring). r.positions) (lists_total position_total)
+
+shape_cmp_total : IsTotalOrder shape_cmp
+unfolding by_parts
+shape_cmp_total =
+    subst IsTotalOrder (λ i a b. shape_by_parts a b i)
+    (then_total (on_total shape_rank nat_cmp_total)
+    (then_total (on_total points_in (lists_total position_total))
+    (then_total (on_total lines_in (lists_total (on_total (λ (l : the_line.Line). l.positions) (lists_total position_total))))
+    (on_total polygons_in (lists_total (lists_total ring_total))))))
 
 pub feature_cmp_total : IsTotalOrder feature_cmp
 unfolding feature_cmp
-feature_cmp_total =
-    then_total (on_total (λ f. f.id) (subst IsTotalOrder same_id_order id_laws.total-law))
-    (then_total (on_total (λ f. f.props.text) nat_list_cmp_total) (on_total (λ f. f.shape) (subst IsTotalOrder same_shape_order shape_laws.total-law)))
+feature_cmp_total = then_total (on_total (λ f. f.id) id_cmp_total) (then_total (on_total (λ f. f.props.text) nat_list_cmp_total) (on_total (λ f. f.shape) shape_cmp_total))
 
 then_equal : (a b : Ordering) → ordering_then a b ≡ Equal → (a ≡ Equal) × (b ≡ Equal)
 then_equal Less b e = cc
@@ -147,11 +212,6 @@ same_feature a b e =
     let first = then_equal (id_cmp a.id b.id) _ e in
     let rest = then_equal (slice_cmp nat_cmp a.props.text b.props.text) (shape_cmp a.shape b.shape) first.1 in
     one_feature a b (same_id a.id b.id first.0) (same_text a.props.text b.props.text rest.0) (same_shape a.shape b.shape rest.1)
-
--- from what the comparisons of the three parts answer
-pub feature_cmp_from : (a b : Feature) (x y z : Ordering) → x ≡ id.cmp-value.it a.id b.id → y ≡ slice_cmp nat_cmp a.props.text b.props.text → z ≡ shape.cmp-value.it a.shape b.shape → ordering_then x (ordering_then y z) ≡ feature_cmp a b
-unfolding feature_cmp
-feature_cmp_from a b x y z p q r = λ i. ordering_then ((p ∙ id_derived_is a.id b.id) i) (ordering_then (q i) ((r ∙ shape_derived_is a.shape b.shape) i))
 
 -- features are equal exactly where the order ties them
 pub feature_tied : (a b : Feature) → (eq_by_cmp feature_cmp a b ≡ true) ↔ (a ≡ b)
