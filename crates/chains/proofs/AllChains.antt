@@ -1,5 +1,5 @@
 -- From all chains to the table of them.
-use Rattle.std.proofs.Common.{◌≡◌, ◌≤◌, ℕ, Bool, true, false, cond, List, [], ◌∷◌, map, reverse, length, ◌⊎◌, inl, inr, refl, sym, ap, ◌∙◌, subst, arith}
+use Rattle.std.proofs.Common.{◌≡◌, ◌≤◌, Bool, true, false, cond, List, [], ◌∷◌, map, reverse, inl, inr, refl, sym, ap, ◌∙◌, subst, arith}
 use Rattle.std.proofs.lemmas.List.{reverse-reverse}
 use Rattle.std.specs.declared.cmp.Ordering.{Ordering}
 use Rattle.std.specs.declared.cmp.Ordering.TheVariants.{Less, Equal, Greater}
@@ -15,14 +15,15 @@ use Rattle.theory.proofs.Chains.{not_own_reverse}
 use Rattle.theory.proofs.ListsOfLists.{Has-map, map_has}
 use Rattle.grid.specs.declared.pos.Pos.{Pos}
 use Rattle.lines.specs.Turned.{position_cmp, list_cmp}
-use Rattle.chains.specs.Pairs.{among, Tells}
+use Rattle.chains.specs.Among.{among, Tells}
 use Rattle.chains.specs.Pieces.{is_backwards_less, least_direction, oriented, chain_of}
 use Rattle.chains.specs.Arcs.{Arcs}
 use Rattle.chains.specs.Table.{AreLoopsOf}
 use Rattle.chains.specs.Joined.{SegmentsOf, StopAt, MeetsTwo, IsChainOver, AreAllChains, AreMaximal}
 use Rattle.chains.specs.declared.segment.Segment.{Segment}
 use Rattle.chains.specs.declared.cutting.Piece.{Piece}
-use Rattle.chains.proofs.Equality.{position_total, position_same, position_most, true_false}
+use Rattle.lines.specs.Positions.{position_total, position_same}
+use Rattle.lines.proofs.Positions.{position_most, true_false}
 use Rattle.chains.proofs.Oriented.{marked}
 use Rattle.chains.proofs.Marks.{all_marked}
 use Rattle.chains.proofs.Found.{Among-turn}

@@ -6,8 +6,10 @@ use Rattle.theory.specs.Geometry.{Geometry, IsSound, SegmentOf, JunctionOf}
 use Rattle.theory.specs.Segments.{OnThree}
 use Rattle.theory.proofs.ProvedLaws.{junction_by_segments}
 use Rattle.chains.specs.Index.{IsIndexOf, EndsALine}
-use Rattle.chains.specs.Pairs.{Tells, position_eq, among}
-use Rattle.chains.proofs.Equality.{position_true, position_refl, position_total, position_same}
+use Rattle.chains.specs.Among.{Tells, among}
+use Rattle.lines.specs.Pairs.{position_eq}
+use Rattle.lines.proofs.Positions.{position_true, position_refl}
+use Rattle.lines.specs.Positions.{position_total, position_same}
 use Rattle.lines.specs.Turned.{position_cmp}
 
 pub among_has : (keys : List Pos) (v : Pos) → among keys v ≡ true → Has v keys

@@ -15,12 +15,13 @@ use Rattle.lines.specs.Turned.{position_cmp}
 use Rattle.chains.specs.Arcs.{Arcs}
 use Rattle.chains.specs.Index.{IsIndexOf}
 use Rattle.chains.specs.OfArcs.{arc_pieces, ArePiecesUnder}
-use Rattle.chains.specs.Pairs.{among, Tells}
-use Rattle.chains.specs.Pieces.{used, cut_list, ring_parts, line_pieces, ring_pieces, IsPieceOf, ArePieces}
+use Rattle.chains.specs.Among.{among, Tells}
+use Rattle.chains.specs.Pieces.{used, cut_list, ring_parts, line_pieces, ring_pieces, ArePieces}
 use Rattle.chains.specs.Table.{is_loop, free_at, IsTableOf}
 use Rattle.chains.specs.declared.cutting.Piece.{Piece}
 use Rattle.chains.proofs.Cuts.{line_is_cut, ring_is_cut}
-use Rattle.chains.proofs.Equality.{position_total, position_same, position_dec}
+use Rattle.lines.specs.Positions.{position_total, position_same}
+use Rattle.lines.proofs.Positions.{position_dec}
 use Rattle.chains.proofs.Oriented.{used_all}
 use Rattle.chains.proofs.TableOfMap.{line_good, ring_good}
 use Rattle.chains.proofs.TablesAsMap.{told, free_loop, index_alike}

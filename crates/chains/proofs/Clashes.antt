@@ -1,16 +1,18 @@
 -- Neighbours that clash, in a list of visits that is sorted by vertex.
-use Rattle.std.proofs.Common.{◌≡◌, Bool, true, false, cond, not, ◌&&◌, List, [], ◌∷◌, ◌⊎◌, inl, inr, refl, sym, ap, ◌∙◌, subst}
+use Rattle.std.proofs.Common.{◌≡◌, Bool, true, false, cond, not, List, [], ◌∷◌, inl, inr, refl, sym, ap, ◌∙◌, subst}
 use Rattle.std.specs.Cmp.{IsTotalOrder, on_total}
 use Rattle.std.specs.Ordering.{is_gt}
 use Rattle.std.specs.declared.cmp.Ordering.{Ordering}
 use Rattle.grid.specs.declared.pos.Pos.{Pos}
 use Rattle.lines.specs.Turned.{position_cmp}
 use Rattle.theory.specs.Lists.{Has}
-use Rattle.chains.specs.Pairs.{position_eq, sides_eq}
+use Rattle.lines.specs.Pairs.{position_eq, pair_eq}
 use Rattle.chains.specs.Visits.{visit_eq, clash, clashes_from, clashes_of}
 use Rattle.chains.specs.declared.visits.Visit.{Visit}
-use Rattle.chains.proofs.SortedLists.{Up, squeezed}
-use Rattle.chains.proofs.Equality.{position_total, position_same, position_true, position_refl, sides_true, sides_refl, both_true, both_intro}
+use Rattle.lines.proofs.SortedLists.{Up, squeezed}
+use Rattle.lines.specs.Positions.{position_total, position_same}
+use Rattle.lines.proofs.Positions.{position_true, position_refl, both_true, both_intro}
+use Rattle.lines.proofs.Pairs.{pair_true, pair_refl}
 
 -- visits by their vertices
 abbrev pub visit_cmp : Visit → Visit → Ordering
@@ -31,14 +33,14 @@ pub record Clash (v : Pos) (ys : List Visit) : Type 0 where
 
 pub visit_true : (a b : Visit) → visit_eq a b ≡ true → a ≡ b
 visit_true a b e =
-    let h = both_true (position_eq a.vertex b.vertex) (sides_eq a.sides b.sides) e in
+    let h = both_true (position_eq a.vertex b.vertex) (pair_eq a.sides b.sides) e in
     let p : a.vertex ≡ b.vertex = position_true a.vertex b.vertex h.0 in
-    let q : a.sides ≡ b.sides = sides_true a.sides b.sides h.1 in
+    let q : a.sides ≡ b.sides = pair_true a.sides b.sides h.1 in
     λ i. record { vertex = p i; sides = q i }
 
 visit_refl : (a b : Visit) → a ≡ b → visit_eq a b ≡ true
 visit_refl a b e =
-    subst (λ w. visit_eq a w ≡ true) e (both_intro (position_eq a.vertex a.vertex) (sides_eq a.sides a.sides) (position_refl a.vertex) (sides_refl a.sides a.sides refl))
+    subst (λ w. visit_eq a w ≡ true) e (both_intro (position_eq a.vertex a.vertex) (pair_eq a.sides a.sides) (position_refl a.vertex) (pair_refl a.sides a.sides refl))
 
 not_true : (b : Bool) → not b ≡ true → b ≡ false
 not_true true e = sym e

@@ -7,7 +7,7 @@ use Rattle.theory.specs.Lists.{Has}
 use Rattle.theory.proofs.Lists.{Has-append}
 use Rattle.chains.specs.Crowds.{slot_among, crowded_in, AreCrowds, IsDealt, IsMarked, KeepsClashes}
 use Rattle.chains.specs.declared.visits.Visit.{Visit}
-use Rattle.chains.proofs.Equality.{true_false}
+use Rattle.lines.proofs.Positions.{true_false}
 
 pub marked_set : (slots : List Bool) (at : ℕ) → at < length slots → IsMarked at slots (slice_set slots at true)
 marked_set slots at w n h = elim (eqb_tells n at) [

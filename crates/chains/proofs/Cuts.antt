@@ -1,24 +1,22 @@
 -- The cut in the words of the map.
-use Rattle.std.proofs.Common.{◌≡◌, ℕ, zero, suc, ◌+◌, ◌<◌, ◌≤◌, Bool, true, false, cond, ◌||◌, List, [], ◌∷◌, ◌++◌, length, take, drop, inl, inr, refl, sym, ap, ◌∙◌, subst, arith, append_assoc}
+use Rattle.std.proofs.Common.{◌≡◌, ℕ, ◌+◌, ◌<◌, ◌≤◌, Bool, true, false, cond, List, [], ◌∷◌, ◌++◌, length, take, drop, refl, sym, ap, ◌∙◌, subst, arith}
 use Rattle.std.proofs.Math.Seq.{drop-append_seam, take-append_seam}
 use Rattle.grid.specs.declared.pos.Pos.{Pos}
 use Rattle.lines.specs.Turned.{position_cmp}
-use Rattle.theory.specs.Lists.{Has, Each}
-use Rattle.chains.specs.Pairs.{among}
+use Rattle.theory.specs.Lists.{Has}
+use Rattle.chains.specs.Among.{among}
 use Rattle.chains.specs.Index.{IsIndexOf}
 use Rattle.chains.specs.Starts.{start_place}
 use Rattle.chains.specs.Pieces.{first_stops, parts_at, ring_parts, opened_at, cut_list}
-use Rattle.chains.proofs.Equality.{position_total, position_same, position_dec}
+use Rattle.lines.proofs.Positions.{position_dec}
 use Rattle.chains.proofs.Among.{among_has, has_among}
-use Rattle.theory.specs.LinesAndRings.{IsRing, IsRotation, closed}
-use Rattle.theory.specs.Cutting.{cut_from}
-use Rattle.theory.specs.Stitching.{Stitched, ArePiecesOf, AreRingPiecesOf}
-use Rattle.theory.specs.Geometry.{Geometry, IsSound, IsLineOf, IsRingOf, JunctionOf, AtMost, IsChainOf}
-use Rattle.theory.specs.Seam.{IsTurned}
+use Rattle.theory.specs.LinesAndRings.{closed}
+use Rattle.theory.specs.Stitching.{ArePiecesOf, AreRingPiecesOf}
+use Rattle.theory.specs.Geometry.{Geometry, IsSound, IsLineOf, IsRingOf, JunctionOf, AtMost}
 use Rattle.theory.proofs.Lists.{append_nil}
 use Rattle.theory.proofs.Pieces.{line_pieces, ring_pieces, ring_loop}
 use Rattle.chains.proofs.Openings.{place_least, opening}
-use Rattle.chains.proofs.Turned.{TurnedAt, turned_at}
+use Rattle.chains.proofs.Turned.{turned_at}
 
 -- the place is within the ring
 pub place_within : (stop : Pos → Bool) (x : Pos) (r : List Pos) → start_place stop (x ∷ r) < length (x ∷ r)

@@ -4,9 +4,10 @@ use Rattle.std.proofs.lemmas.Bool.Decides.{eqb_tells}
 use Rattle.std.proofs.lemmas.List.{get_or-set_other}
 use Rattle.std.proofs.lemmas.Grind.{get_or-set_at}
 use Rattle.grid.specs.declared.pos.Pos.{Pos}
-use Rattle.chains.specs.Pairs.{position_eq, among}
+use Rattle.lines.specs.Pairs.{position_eq}
+use Rattle.chains.specs.Among.{among}
 use Rattle.chains.specs.Slots.{slot_of}
-use Rattle.chains.proofs.Equality.{position_true, true_false}
+use Rattle.lines.proofs.Positions.{position_true, true_false}
 
 -- what is said of the positions not dealt yet, once one more is dealt
 pub one_dealt : (slots : List Bool) (js left more : List Pos) (q : Pos) (n : ℕ) → n ≡ slot_of q → n < length slots → left ≡ q ∷ more →

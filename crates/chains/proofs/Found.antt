@@ -8,9 +8,9 @@ use Rattle.theory.specs.Walking.{Joining, Noted, Removed}
 use Rattle.theory.proofs.Lists.{Beside-flip, Has-append_left}
 use Rattle.theory.proofs.Walking.{from_stop, from_seam, passed, all_covered}
 use Rattle.lines.specs.Turned.{position_cmp}
-use Rattle.chains.specs.Pairs.{among}
+use Rattle.chains.specs.Among.{among}
 use Rattle.theory.specs.Geometry.{AtMost}
-use Rattle.chains.proofs.Equality.{bool_split, true_false, position_decide, position_most, not_before}
+use Rattle.lines.proofs.Positions.{bool_split, true_false, position_decide, position_most, not_before}
 use Rattle.chains.specs.Joined.{AmongSegments, SegmentsOf, StopAt, MeetsTwo, Covered, IsJoining, Took, AreCovering}
 use Rattle.chains.specs.Walk.{links_in, IsWalk}
 use Rattle.grid.specs.declared.pos.Pos.{Pos}
@@ -25,8 +25,8 @@ Among-turn (s ∷ ss) u v (inr h) = inr (Among-turn ss u v h)
 -- no segment has one vertex twice
 Among-apart : (segs : List Segment) (u : Pos) → ¬ AmongSegments u u segs
 Among-apart [] u h = h
-Among-apart (s ∷ ss) u (inl (inl h)) = not_before s.lesser s.greater (sym h.0 ∙ h.1) s.ordered
-Among-apart (s ∷ ss) u (inl (inr h)) = not_before s.lesser s.greater (sym h.1 ∙ h.0) s.ordered
+Among-apart (s ∷ ss) u (inl (inl h)) = not_before s.ends.lesser s.ends.greater (sym h.0 ∙ h.1) s.ordered
+Among-apart (s ∷ ss) u (inl (inr h)) = not_before s.ends.lesser s.ends.greater (sym h.1 ∙ h.0) s.ordered
 Among-apart (s ∷ ss) u (inr h) = Among-apart ss u h
 
 stop_decide : (keys : List Pos) (v : Pos) → StopAt keys v ⊎ (¬ StopAt keys v)
@@ -101,16 +101,16 @@ module _ (segs : List Segment) (keys : List Pos) (ok : MeetsTwo segs keys) where
   pub two_steps : (m h k : BTreeMap Pos (Pos × Pos)) (ds es fs : List (List Pos)) (s : Segment) (left more : List Segment) →
       left ≡ s ∷ more → ((u v : Pos) → AmongSegments u v left → AmongSegments u v segs) → IsJoining segs keys m ds →
       ((u v : Pos) → StopAt keys u → AmongSegments u v segs → Covered u v ds ⊎ AmongSegments u v left) →
-      (AmongSegments s.lesser s.greater segs → IsJoining segs keys m ds → Took segs keys h ds es s.lesser s.greater) →
-      (AmongSegments s.greater s.lesser segs → IsJoining segs keys h es → Took segs keys k es fs s.greater s.lesser) →
+      (AmongSegments s.ends.lesser s.ends.greater segs → IsJoining segs keys m ds → Took segs keys h ds es s.ends.lesser s.ends.greater) →
+      (AmongSegments s.ends.greater s.ends.lesser segs → IsJoining segs keys h es → Took segs keys k es fs s.ends.greater s.ends.lesser) →
       record {
         joining : IsJoining segs keys k fs;
         rest : (u v : Pos) → StopAt keys u → AmongSegments u v segs → Covered u v fs ⊎ AmongSegments u v more;
       }
   two_steps m h k ds es fs s left more e inside j rest t1 t2 =
-      let there : AmongSegments s.lesser s.greater segs = inside s.lesser s.greater (subst (λ w. AmongSegments s.lesser s.greater w) (sym e) (inl (inl (refl, refl)))) in
-      let a : Took segs keys h ds es s.lesser s.greater = t1 there j in
-      let b : Took segs keys k es fs s.greater s.lesser = t2 (Among-turn segs s.lesser s.greater there) a.joining in
+      let there : AmongSegments s.ends.lesser s.ends.greater segs = inside s.ends.lesser s.ends.greater (subst (λ w. AmongSegments s.ends.lesser s.ends.greater w) (sym e) (inl (inl (refl, refl)))) in
+      let a : Took segs keys h ds es s.ends.lesser s.ends.greater = t1 there j in
+      let b : Took segs keys k es fs s.ends.greater s.ends.lesser = t2 (Among-turn segs s.ends.lesser s.ends.greater there) a.joining in
       record {
         joining = b.joining;
         rest = λ u v st i. elim (rest u v st i) [
@@ -119,15 +119,15 @@ module _ (segs : List Segment) (keys : List Pos) (ok : MeetsTwo segs keys) where
         ];
       }
     where
-      split : Took segs keys h ds es s.lesser s.greater → Took segs keys k es fs s.greater s.lesser → (u v : Pos) → StopAt keys u →
+      split : Took segs keys h ds es s.ends.lesser s.ends.greater → Took segs keys k es fs s.ends.greater s.ends.lesser → (u v : Pos) → StopAt keys u →
           AmongSegments u v (s ∷ more) → Covered u v fs ⊎ AmongSegments u v more
       split a b u v st (inr r) = inr r
       split a b u v st (inl (inl g)) =
           let t = a.covers (subst (StopAt keys) g.0 st) in
-          inl (t.0, b.keeps t.0 t.1, subst (λ w. Beside w v t.0) (sym g.0) (subst (λ w. Beside s.lesser w t.0) (sym g.1) t.2))
+          inl (t.0, b.keeps t.0 t.1, subst (λ w. Beside w v t.0) (sym g.0) (subst (λ w. Beside s.ends.lesser w t.0) (sym g.1) t.2))
       split a b u v st (inl (inr g)) =
           let t = b.covers (subst (StopAt keys) g.0 st) in
-          inl (t.0, t.1, subst (λ w. Beside w v t.0) (sym g.0) (subst (λ w. Beside s.greater w t.0) (sym g.1) t.2))
+          inl (t.0, t.1, subst (λ w. Beside w v t.0) (sym g.0) (subst (λ w. Beside s.ends.greater w t.0) (sym g.1) t.2))
 
   pub all_found : (m : BTreeMap Pos (Pos × Pos)) (ds : List (List Pos)) → IsJoining segs keys m ds →
       ((u v : Pos) → StopAt keys u → AmongSegments u v segs → Covered u v ds) → ((q : Pos) → links_in m q ≡ None) → AreCovering segs keys ds

@@ -18,8 +18,8 @@ use Rattle.chains.specs.Crowds.{KeepsClashes}
 use Rattle.chains.specs.Seen.{seen, geometry_of}
 use Rattle.chains.specs.Index.{IsIndexOf, AreVisitsOf, form_ends, form_visits}
 use Rattle.chains.specs.declared.visits.Visit.{Visit}
-use Rattle.chains.proofs.SortedLists.{Has-permutation, up_from_sorted}
-use Rattle.chains.proofs.Equality.{pair_same, pair_flip}
+use Rattle.lines.proofs.SortedLists.{Has-permutation, up_from_sorted}
+use Rattle.lines.proofs.Pairs.{pair_same, pair_flip}
 use Rattle.chains.proofs.Clashes.{Clash, visit_cmp, visit_total, clash_from_sorted, sorted_from_clash}
 
 pub ends_has : (v : Pos) (l : List Pos) → EndOf v l → Has v (ends_of l)

@@ -1,5 +1,3 @@
-pub mod SortedLists
-pub mod Equality
 pub mod Among
 pub mod Search
 pub mod Layers

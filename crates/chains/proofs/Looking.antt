@@ -1,5 +1,5 @@
 -- A look-up among arcs of which each comes before the next.
-use Rattle.std.proofs.Common.{◌≡◌, ℕ, zero, suc, ◌+◌, ◌<◌, ◌≤◌, Bool, true, false, cond, List, [], ◌∷◌, length, map, get_or, inl, inr, refl, sym, ap, ◌∙◌, subst, arith, Result, Ok, Err, Option, Some, None, slice_get, nat_lt}
+use Rattle.std.proofs.Common.{◌≡◌, ℕ, zero, suc, ◌+◌, ◌<◌, Bool, true, false, cond, List, [], ◌∷◌, length, map, get_or, inl, inr, refl, sym, ap, ◌∙◌, subst, arith, Result, Ok, Err, Option, Some, None, slice_get, nat_lt}
 use borrow.Author.Tests.{ltb-true}
 use Rattle.std.specs.List.{position, position_or_len}
 use Rattle.std.specs.List.Sorted.{IsSortedByKey, IsBinarySearchResult, IsSearchInRange}
@@ -20,12 +20,12 @@ use Rattle.std.specs.Result.{result_ok}
 use Rattle.chains.specs.Stored.{positions_of, rises}
 use Rattle.chains.specs.Table.{same_list}
 use Rattle.chains.specs.declared.stored.StoredArc.{StoredArc}
-use Rattle.chains.proofs.Equality.{position_total, position_same}
+use Rattle.lines.specs.Positions.{position_total, position_same}
 use Rattle.chains.proofs.Marks.{get_mapped}
 use Rattle.chains.proofs.Places.{place_is, found_place, place_of_member}
 use Rattle.chains.proofs.Rising.{ascends_rising}
 use Rattle.chains.proofs.Search.{split_at}
-use Rattle.chains.proofs.SortedLists.{Contains-from_has}
+use Rattle.lines.proofs.SortedLists.{Contains-from_has}
 
 sorted_ascending : (l : List StoredArc) → Ascends list_cmp (map positions_of l) → IsSortedByKey positions_of list_cmp l
 sorted_ascending [] s k d a b = absurd (omega (arith, b))

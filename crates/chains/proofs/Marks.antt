@@ -1,5 +1,5 @@
 -- Which arcs are free loops.
-use Rattle.std.proofs.Common.{◌≡◌, ℕ, zero, suc, Bool, true, false, List, [], ◌∷◌, map, inl, inr, refl, sym, ap, ◌∙◌, subst, Option, Some, None, slice_get}
+use Rattle.std.proofs.Common.{◌≡◌, ℕ, zero, suc, Bool, true, false, List, [], ◌∷◌, map, inl, inr, refl, sym, ap, ◌∙◌, subst, Some, None, slice_get}
 use Rattle.std.specs.List.Sorted.{IsPermutation}
 use Rattle.std.proofs.lemmas.List.Sorted.{IsPermutation-sym}
 use Rattle.std.specs.Option.{option_map}
@@ -15,18 +15,18 @@ use Rattle.std.specs.Cmp.Lexicographic.{lists_total}
 use Rattle.std.specs.FinMap.{slice_cmp-IsAntisymmetric}
 use Rattle.grid.specs.declared.pos.Pos.{Pos}
 use Rattle.lines.specs.Turned.{list_cmp}
-use Rattle.chains.specs.Pairs.{Tells}
+use Rattle.chains.specs.Among.{Tells}
 use Rattle.chains.specs.Pieces.{chain_of}
 use Rattle.chains.specs.Arcs.{Arcs}
 use Rattle.chains.specs.Stored.{positions_of, is_marked, stored_of, loops_of, rises, merged}
 use Rattle.chains.specs.Table.{is_loop, is_loop_if, free_at, number_in, AreAlike, AreLoopsOf}
 use Rattle.chains.specs.declared.cutting.Piece.{Piece}
 use Rattle.chains.specs.declared.stored.StoredArc.{StoredArc}
-use Rattle.chains.proofs.Equality.{position_total, position_same}
+use Rattle.lines.specs.Positions.{position_total, position_same}
 use Rattle.chains.proofs.Merged.{Marked, marked_only, marked_there, merged_only, merged_there}
 use Rattle.chains.proofs.Places.{any_has, has_any, place_of_member}
 use Rattle.chains.proofs.Rising.{ascends_rising}
-use Rattle.chains.proofs.SortedLists.{Has-permutation}
+use Rattle.lines.proofs.SortedLists.{Has-permutation}
 
 -- the loops are the arcs with a mark
 pub loops_marked : (c : List Pos) (l : List StoredArc) → Has c (loops_of l) → Marked c l

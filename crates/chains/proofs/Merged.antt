@@ -1,6 +1,6 @@
 -- Arcs of which equal ones stand together, made into arcs that stand once.
-use Rattle.std.proofs.Common.{◌≡◌, Bool, true, false, cond, ◌&&◌, ◌||◌, List, [], ◌∷◌, map, length, arith, ◌⊎◌, inl, inr, refl, sym, ap, ◌∙◌, subst}
-use Rattle.std.specs.Ordering.{is_lt, is_gt, bool_cmp, ordering_then}
+use Rattle.std.proofs.Common.{◌≡◌, Bool, true, false, cond, ◌||◌, List, [], ◌∷◌, map, length, arith, ◌⊎◌, inl, inr, refl, sym, ap, ◌∙◌, subst}
+use Rattle.std.specs.Ordering.{is_lt, bool_cmp, ordering_then}
 use Rattle.std.specs.Cmp.Lexicographic.{lists_total}
 use Rattle.std.specs.FinMap.{slice_cmp-IsAntisymmetric}
 use Rattle.std.specs.List.Sorted.{IsSorted}
@@ -14,9 +14,10 @@ use Rattle.chains.specs.Stored.{positions_of, stored_of, rises, with_mark, merge
 use Rattle.chains.specs.Table.{same_list}
 use Rattle.chains.specs.declared.cutting.Piece.{Piece}
 use Rattle.chains.specs.declared.stored.StoredArc.{StoredArc}
-use Rattle.chains.proofs.Equality.{position_total, position_same, both_intro}
+use Rattle.lines.specs.Positions.{position_total, position_same}
+use Rattle.lines.proofs.Positions.{both_intro}
 use Rattle.chains.proofs.Places.{list_true, list_refl}
-use Rattle.chains.proofs.SortedLists.{Rises, rises_from_sorted, not_less}
+use Rattle.lines.proofs.SortedLists.{Rises, rises_from_sorted, not_less}
 
 -- no arc comes before the one in front of it
 abbrev pub Climbs : List Pos → List StoredArc → Type 0

@@ -4,9 +4,10 @@ use Rattle.std.specs.Ordering.{is_eq}
 use Rattle.std.specs.Option.{is_some}
 use Rattle.theory.specs.Walking.{Joining}
 use Rattle.lines.specs.Turned.{position_cmp}
-use Rattle.chains.specs.Pairs.{position_eq, among}
+use Rattle.lines.specs.Pairs.{position_eq}
+use Rattle.chains.specs.Among.{among}
 use Rattle.theory.specs.Geometry.{AtMost}
-use Rattle.chains.proofs.Equality.{position_tied, tied_position, position_true, true_position, true_false}
+use Rattle.lines.proofs.Positions.{position_tied, tied_position, position_true, true_position, true_false}
 use Rattle.chains.specs.Joined.{AmongSegments, SegmentsOf, StopAt, MeetsTwo}
 use Rattle.chains.specs.Links.{joined, noted, noted_all}
 use Rattle.theory.specs.Lists.{Has}
@@ -55,11 +56,11 @@ module _ (keys : List Pos) (q : Pos) (free : ¬ StopAt keys q) where
       Means (noted_all keys q o ss) (λ p. AmongSegments q p ss ⊎ H p)
   Means-all o H [] h = Means-iff o H (λ p. ⊥ ⊎ H p) (λ p k. inr k) (λ p k. elim k [ inl z ↦ absurd z | inr f ↦ f ]) h
   Means-all o H (s ∷ ss) h =
-      let one = noted keys q o s.lesser s.greater in
-      let first = Means-noted o H s.lesser s.greater h in
-      let second = Means-noted one (λ p. ((q ≡ s.lesser) × (p ≡ s.greater)) ⊎ H p) s.greater s.lesser first in
+      let one = noted keys q o s.ends.lesser s.ends.greater in
+      let first = Means-noted o H s.ends.lesser s.ends.greater h in
+      let second = Means-noted one (λ p. ((q ≡ s.ends.lesser) × (p ≡ s.ends.greater)) ⊎ H p) s.ends.greater s.ends.lesser first in
       Means-iff (noted_all keys q o (s ∷ ss))
-      (λ p. AmongSegments q p ss ⊎ (((q ≡ s.greater) × (p ≡ s.lesser)) ⊎ (((q ≡ s.lesser) × (p ≡ s.greater)) ⊎ H p)))
+      (λ p. AmongSegments q p ss ⊎ (((q ≡ s.ends.greater) × (p ≡ s.ends.lesser)) ⊎ (((q ≡ s.ends.lesser) × (p ≡ s.ends.greater)) ⊎ H p)))
       (λ p. AmongSegments q p (s ∷ ss) ⊎ H p)
       (λ p k. elim k [
         | inl f ↦ inl (inr f)
@@ -69,8 +70,8 @@ module _ (keys : List Pos) (q : Pos) (free : ¬ StopAt keys q) where
         | inr f ↦ inr (inr (inr f))
         | inl f ↦ elim f [ inr g ↦ inl g | inl g ↦ elim g [ inl i ↦ inr (inr (inl i)) | inr i ↦ inr (inl i) ] ]
       ])
-      (Means-all (noted keys q one s.greater s.lesser)
-      (λ p. ((q ≡ s.greater) × (p ≡ s.lesser)) ⊎ (((q ≡ s.lesser) × (p ≡ s.greater)) ⊎ H p)) ss second)
+      (Means-all (noted keys q one s.ends.greater s.ends.lesser)
+      (λ p. ((q ≡ s.ends.greater) × (p ≡ s.ends.lesser)) ⊎ (((q ≡ s.ends.lesser) × (p ≡ s.ends.greater)) ⊎ H p)) ss second)
 
 -- nothing is noted of a stop
 module _ (keys : List Pos) (q : Pos) (halt : StopAt keys q) where
@@ -88,8 +89,8 @@ module _ (keys : List Pos) (q : Pos) (halt : StopAt keys q) where
   stop_all : (o : Option (Pos × Pos)) (ss : List Segment) → noted_all keys q o ss ≡ o
   stop_all o [] = refl
   stop_all o (s ∷ ss) =
-      stop_all (noted keys q (noted keys q o s.lesser s.greater) s.greater s.lesser) ss
-      ∙ stop_once (noted keys q o s.lesser s.greater) s.greater s.lesser ∙ stop_once o s.lesser s.greater
+      stop_all (noted keys q (noted keys q o s.ends.lesser s.ends.greater) s.ends.greater s.ends.lesser) ss
+      ∙ stop_once (noted keys q o s.ends.lesser s.ends.greater) s.ends.greater s.ends.lesser ∙ stop_once o s.ends.lesser s.ends.greater
 
 -- the step of the code
 pub noted_step : (keys : List Pos) (q at to : Pos) (f : Pos → Option (Pos × Pos)) (new o : Option (Pos × Pos)) (v : Pos × Pos) →

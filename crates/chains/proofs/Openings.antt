@@ -1,5 +1,5 @@
 -- The least start of a ring, where the list is parted.
-use Rattle.std.proofs.Common.{◌≡◌, ℕ, zero, suc, ◌+◌, ◌<◌, ◌≤◌, Bool, true, false, cond, not, List, [], ◌∷◌, ◌++◌, length, inl, inr, refl, sym, ap, ◌∙◌, subst, arith, append_assoc}
+use Rattle.std.proofs.Common.{◌≡◌, ℕ, suc, ◌+◌, Bool, true, false, cond, not, List, [], ◌∷◌, ◌++◌, length, inl, inr, refl, sym, ap, ◌∙◌, subst, arith, append_assoc}
 use Rattle.std.specs.Cmp.{IsTotalOrder, then_total, on_total, tied_itself, upto, bool_cmp_total}
 use Rattle.std.specs.Ordering.{is_lt, is_gt, bool_cmp, ordering_then}
 use Rattle.std.specs.declared.cmp.Ordering.{Ordering}
@@ -10,8 +10,8 @@ use Rattle.lines.specs.Turned.{position_cmp}
 use Rattle.theory.specs.Lists.{Has}
 use Rattle.chains.specs.Starts.{start_of, start_cmp, starts_from, least_from, start_place}
 use Rattle.chains.specs.declared.starts.Start.{Start}
-use Rattle.chains.proofs.SortedLists.{not_less}
-use Rattle.chains.proofs.Equality.{position_total}
+use Rattle.lines.proofs.SortedLists.{not_less}
+use Rattle.lines.specs.Positions.{position_total}
 use Rattle.theory.proofs.Lists.{Has-append, append_nil}
 
 pub start_total : IsTotalOrder start_cmp

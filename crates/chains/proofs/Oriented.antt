@@ -1,11 +1,11 @@
 -- A piece runs along its chain as used, and is marked as free exactly where no stop lies on it.
-use Rattle.std.proofs.Common.{◌≡◌, ◌≤◌, Bool, true, false, cond, not, List, [], ◌∷◌, length, map, reverse, inl, inr, refl, sym, ap, ◌∙◌, subst, arith}
+use Rattle.std.proofs.Common.{◌≡◌, Bool, true, false, cond, not, List, [], ◌∷◌, map, reverse, inl, inr, refl, ap, ◌∙◌, subst}
 use Rattle.std.proofs.lemmas.List.{reverse-reverse}
 use Rattle.theory.specs.Lists.{Has}
 use Rattle.theory.specs.Chain.{IsChain, Free}
 use Rattle.theory.proofs.Reversing.{Has-reverse}
 use Rattle.grid.specs.declared.pos.Pos.{Pos}
-use Rattle.chains.specs.Pairs.{Tells}
+use Rattle.chains.specs.Among.{Tells}
 use Rattle.chains.specs.Pieces.{used, oriented, least_direction, is_backwards_less, begins_free}
 use Rattle.chains.specs.declared.cutting.Piece.{Piece}
 

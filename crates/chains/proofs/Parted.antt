@@ -1,5 +1,5 @@
 -- Chains over all segments, of which some stood already and the others were found over the rest.
-use Rattle.std.proofs.Common.{◌≡◌, List, [], ◌∷◌, ◌++◌, ◌⊎◌, inl, inr, sym, subst, Result, Ok, Err, IfOk}
+use Rattle.std.proofs.Common.{◌≡◌, List, [], ◌∷◌, ◌++◌, inl, inr, sym, subst, Result, Ok, Err, IfOk}
 use Rattle.theory.specs.Geometry.{AtMost}
 use Rattle.theory.specs.Lists.{Has}
 use Rattle.theory.proofs.Chains.{all_chains}
@@ -9,7 +9,7 @@ use Rattle.lines.specs.Turned.{position_cmp}
 use Rattle.chains.specs.Joined.{AmongSegments, SegmentsOf, StopAt, MeetsTwo, IsChainOver, Covered, AreCovering, AreParted, AreAllChains, AreMaximal}
 use Rattle.chains.specs.Arcs.{Arcs}
 use Rattle.chains.specs.declared.segment.Segment.{Segment}
-use Rattle.chains.proofs.Equality.{position_most}
+use Rattle.lines.proofs.Positions.{position_most}
 use Rattle.chains.proofs.Found.{Among-turn}
 
 -- a chain over some segments is one over more

@@ -1,25 +1,14 @@
 -- Where a list stands among others.
-use Rattle.std.proofs.Common.{◌≡◌, ℕ, zero, suc, Bool, true, false, cond, not, ◌&&◌, ◌||◌, List, [], ◌∷◌, ◌++◌, length, ◌⊎◌, inl, inr, refl, sym, ap, ◌∙◌, subst, Option, Some, None, slice_get, nat_lt, reverse, option_map, arith, ◌<◌, ◌≤◌, ◌+◌, append_assoc}
+use Rattle.std.proofs.Common.{◌≡◌, ℕ, suc, Bool, true, false, cond, not, ◌||◌, List, [], ◌∷◌, length, inl, inr, refl, sym, ap, ◌∙◌, subst, Some, None, slice_get, nat_lt, reverse, option_map, arith, ◌<◌, ◌+◌}
 use borrow.Author.Tests.{ltb-true, ltb-false}
-use Rattle.std.specs.List.{list_any, IsDistinct, AllByRecursion, position, position_or_len}
-use Rattle.std.specs.List.Sorted.{IsSorted}
-use Rattle.std.specs.Cmp.{IsTotalOrder}
-use Rattle.std.specs.Cmp.Lexicographic.{slice_cmp, lists_total}
-use Rattle.std.specs.FinMap.{IsAntisymmetric, slice_cmp-IsAntisymmetric}
-use Rattle.std.specs.declared.cmp.Ordering.TheVariants.{Less}
-use Rattle.indexmap.specs.IndexSet.{insert_key, insert_all}
+use Rattle.std.specs.List.{list_any, position, position_or_len}
 use Rattle.grid.specs.declared.pos.Pos.{Pos}
-use Rattle.lines.specs.Turned.{position_cmp}
 use Rattle.theory.specs.Lists.{Has}
-use Rattle.chains.specs.Pairs.{position_eq}
+use Rattle.lines.specs.Pairs.{position_eq}
 use Rattle.chains.specs.Pieces.{used}
 use Rattle.chains.specs.declared.cutting.Piece.{Piece}
 use Rattle.chains.specs.Table.{same_list, located, found_in}
-use Rattle.chains.proofs.SortedLists.{Up, up_from_sorted}
-use Rattle.chains.proofs.Equality.{position_total, position_same, position_true, position_refl, both_true, both_intro}
-use Rattle.theory.specs.Arcs.{Ascends, AreSortedOnce}
-use Rattle.theory.proofs.Ascending.{at_most_less}
-use Rattle.theory.proofs.Lists.{Has-append, Has-append_left, Has-append_right, append_nil}
+use Rattle.lines.proofs.Positions.{position_true, position_refl, both_true, both_intro}
 use Rattle.theory.specs.ArcNumbers.{along}
 
 pub list_true : (xs ys : List Pos) → same_list xs ys ≡ true → xs ≡ ys

@@ -1,5 +1,5 @@
 -- Lists of positions of which each comes before the next.
-use Rattle.std.proofs.Common.{◌≡◌, true, List, [], ◌∷◌, ◌⊎◌, inl, inr, sym, subst}
+use Rattle.std.proofs.Common.{◌≡◌, true, List, [], ◌∷◌, inl, inr, sym, subst}
 use Rattle.std.specs.Ordering.{is_lt}
 use Rattle.std.specs.Cmp.Lexicographic.{lists_total}
 use Rattle.std.specs.declared.cmp.Ordering.{Ordering}
@@ -7,9 +7,9 @@ use Rattle.std.specs.declared.cmp.Ordering.TheVariants.{Less, Equal, Greater}
 use Rattle.grid.specs.declared.pos.Pos.{Pos}
 use Rattle.lines.specs.Turned.{list_cmp}
 use Rattle.theory.specs.Arcs.{Ascends}
-use Rattle.theory.specs.Lists.{Has}
 use Rattle.chains.specs.Stored.{rises}
-use Rattle.chains.proofs.Equality.{position_total, both_true}
+use Rattle.lines.specs.Positions.{position_total}
+use Rattle.lines.proofs.Positions.{both_true}
 
 pub less_is : (r : Ordering) → is_lt r ≡ true → r ≡ Less
 less_is Less e = cc

@@ -4,7 +4,7 @@ use Rattle.theory.specs.Lists.{Has}
 use Rattle.theory.proofs.Lists.{Has-append, Has-append_left, Has-append_right}
 use Rattle.chains.specs.Visits.{HaveSame, visit_eq}
 use Rattle.chains.specs.declared.visits.Visit.{Visit}
-use Rattle.chains.proofs.SortedLists.{has_from_contains}
+use Rattle.lines.proofs.SortedLists.{has_from_contains}
 use Rattle.chains.proofs.Clashes.{visit_true}
 
 pub same_refl : (a : List Visit) → HaveSame a a

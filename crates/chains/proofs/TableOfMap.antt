@@ -1,5 +1,5 @@
 -- The table of all pieces is the arcs of the map, and the lists of used arcs stitch.
-use Rattle.std.proofs.Common.{◌≡◌, Bool, true, false, cond, List, [], ◌∷◌, ◌++◌, map, reverse, ◌⊎◌, inl, inr, refl, sym, ap, ◌∙◌, subst, Some}
+use Rattle.std.proofs.Common.{◌≡◌, Bool, true, false, cond, List, [], ◌∷◌, map, reverse, ◌⊎◌, inl, inr, refl, sym, ap, ◌∙◌, subst, Some}
 use Rattle.std.specs.Ordering.{is_lt, ordering_reverse}
 use Rattle.std.specs.declared.cmp.Ordering.{Ordering}
 use Rattle.std.specs.declared.cmp.Ordering.TheVariants.{Less, Equal, Greater}
@@ -8,7 +8,7 @@ use Rattle.std.specs.List.{position_or_len}
 use Rattle.theory.specs.Lists.{Has, Each}
 use Rattle.theory.specs.Geometry.{Geometry, IsSound, IsLineOf, IsRingOf, SegmentOf, JunctionOf, AtMost, IsChainOf}
 use Rattle.theory.specs.Arcs.{IsArcOf, AreArcsOf, EitherWay, AreSortedOnce}
-use Rattle.theory.specs.Stitching.{ArePiecesOf, AreRingPiecesOf, HaveAllPieces}
+use Rattle.theory.specs.Stitching.{ArePiecesOf, HaveAllPieces}
 use Rattle.theory.specs.ArcNumbers.{along, AreTaken, StitchTo}
 use Rattle.theory.specs.Topology.{IsRingList}
 use Rattle.theory.specs.TopologyFunction.{forward, lesser}
@@ -18,13 +18,14 @@ use Rattle.theory.proofs.ArcsOfMap.{forward_arc}
 use Rattle.theory.proofs.SegmentsOnce.{sorted_pieces_are_arcs, segments_once}
 use Rattle.grid.specs.declared.pos.Pos.{Pos}
 use Rattle.lines.specs.Turned.{position_cmp, list_cmp}
-use Rattle.chains.specs.Pairs.{among}
+use Rattle.chains.specs.Among.{among}
 use Rattle.chains.specs.Index.{IsIndexOf}
 use Rattle.chains.specs.Pieces.{ring_parts, oriented, least_direction, is_backwards_less, cut_list, chain_of, line_pieces, ring_pieces, IsPieceOf, ArePieces}
 use Rattle.chains.specs.Arcs.{Arcs}
 use Rattle.chains.specs.Table.{same_list, located, AreLoopsOf, ArePiecesOfMap, IsTableOf}
 use Rattle.chains.specs.declared.cutting.Piece.{Piece}
-use Rattle.chains.proofs.Equality.{position_total, position_same, position_dec}
+use Rattle.lines.specs.Positions.{position_total, position_same}
+use Rattle.lines.proofs.Positions.{position_dec}
 use Rattle.chains.proofs.Places.{along_found, found_place}
 use Rattle.chains.proofs.Oriented.{used_oriented, marked}
 use Rattle.chains.proofs.Marks.{all_marked}

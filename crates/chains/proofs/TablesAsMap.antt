@@ -1,30 +1,28 @@
 -- The arcs of tables as lines and rings: what they visit, and the maps that have their segments and junctions.
 use Rattle.std.proofs.Common.{◌≡◌, ℕ, Bool, true, false, cond, not, List, [], ◌∷◌, ◌++◌, map, ◌⊎◌, inl, inr, refl, sym, ap, ◌∙◌, subst, Option, Some, None, slice_get, zero, suc, ◌+◌, ◌<◌, length, drop, append_assoc, arith}
-use Rattle.theory.specs.Lists.{Has, EndOf, Between, Each, gathered}
+use Rattle.theory.specs.Lists.{Has, EndOf, Between, gathered}
 use Rattle.theory.specs.LinesAndRings.{around, closed}
 use Rattle.theory.specs.Chain.{Free}
 use Rattle.theory.specs.Junction.{Visits}
-use Rattle.theory.specs.Junction.Visit.{end, pair}
-use Rattle.theory.specs.Geometry.{Geometry, IsSound, IsLineOf, IsRingOf, JunctionOf, IsChainOf}
+use Rattle.theory.specs.Junction.Visit.{pair}
+use Rattle.theory.specs.Geometry.{Geometry, IsSound, IsLineOf, IsRingOf, JunctionOf}
 use Rattle.theory.specs.Refinement.{Alike, AreArcsAsMap, IsUnionOf, LoopArc, OpenArc, unclosed}
-use Rattle.theory.specs.Stitching.{ArePiecesOf, AreRingPiecesOf}
 use Rattle.theory.specs.TopologyFunction.{keep}
 use Rattle.theory.proofs.Lists.{Has-append, Has-append_left, Has-append_right, front-snoc}
 use Rattle.theory.proofs.ListsOfLists.{Has-gathered, gathered_from, Has-map, map_has, has_get}
 use Rattle.theory.proofs.Turning.{keep_has, has_keep}
-use Rattle.theory.proofs.ArcsAsMap.{kind, arcs_sound, arcs_alike, arcs_same, arc_alike, chain_alike, turned_alike}
+use Rattle.theory.proofs.ArcsAsMap.{kind, arcs_sound, arcs_alike}
 use Rattle.grid.specs.declared.pos.Pos.{Pos}
 use Rattle.lines.specs.Turned.{position_cmp}
 use Rattle.chains.specs.Arcs.{Arcs}
 use Rattle.chains.specs.Index.{IsIndexOf, AreVisitsOf}
-use Rattle.chains.specs.OfArcs.{open_in, loops_in, table_as_map, tables_as_map, arc_ends, arc_visits, ends_if, visits_if}
-use Rattle.chains.specs.Pairs.{Tells}
-use Rattle.chains.specs.Pieces.{IsPieceOf, ArePieces}
+use Rattle.chains.specs.OfArcs.{open_in, loops_in, tables_as_map, arc_ends, arc_visits, ends_if, visits_if}
+use Rattle.chains.specs.Among.{Tells}
 use Rattle.chains.specs.Table.{is_loop, is_loop_if, IsTableOf}
 use Rattle.chains.specs.Visits.{HaveSame, visit_of, inner_of, around_of, ends_of}
-use Rattle.chains.specs.declared.cutting.Piece.{Piece}
 use Rattle.chains.specs.declared.visits.Visit.{Visit}
-use Rattle.chains.proofs.Equality.{position_total, position_same, position_dec}
+use Rattle.lines.specs.Positions.{position_total, position_same}
+use Rattle.lines.proofs.Positions.{position_dec}
 use Rattle.chains.proofs.Slices.{drop_next}
 use Rattle.chains.proofs.Gathered.{Found, ends_has, has_ends, between_has, found_in}
 

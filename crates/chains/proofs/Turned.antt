@@ -1,15 +1,15 @@
 -- The ring begun at its least start is turned.
-use Rattle.std.proofs.Common.{◌≡◌, ℕ, zero, suc, ◌+◌, ◌<◌, ◌≤◌, Bool, true, false, cond, not, List, [], ◌∷◌, ◌++◌, length, inl, inr, refl, sym, ap, ◌∙◌, subst, arith, append_assoc}
+use Rattle.std.proofs.Common.{◌≡◌, ℕ, ◌+◌, ◌≤◌, Bool, true, false, not, List, [], ◌∷◌, ◌++◌, length, inl, inr, refl, sym, ap, ◌∙◌, subst, arith}
 use Rattle.std.specs.Cmp.{tied_itself}
-use Rattle.std.specs.Ordering.{is_lt, is_gt, bool_cmp, ordering_then}
+use Rattle.std.specs.Ordering.{is_gt, bool_cmp, ordering_then}
 use Rattle.std.specs.declared.cmp.Ordering.{Ordering}
 use Rattle.std.specs.declared.cmp.Ordering.TheVariants.{Less, Equal, Greater}
 use Rattle.std.specs.Cmp.Lexicographic.{slice_cmp}
 use Rattle.grid.specs.declared.pos.Pos.{Pos}
 use Rattle.lines.specs.Turned.{position_cmp}
 use Rattle.theory.specs.Lists.{Has}
-use Rattle.chains.specs.Starts.{start_of, start_cmp, starts_from, start_place}
-use Rattle.chains.proofs.Equality.{position_total, position_same}
+use Rattle.chains.specs.Starts.{start_of, start_cmp, start_place}
+use Rattle.lines.specs.Positions.{position_total, position_same}
 use Rattle.theory.specs.LinesAndRings.{IsRing, IsRotation}
 use Rattle.theory.specs.Geometry.{AtMost}
 use Rattle.theory.specs.Seam.{IsSeamOf, IsTurned}

@@ -3,8 +3,8 @@ use Rattle.std.specs.BTreeMap.{BTreeMap, Updates, is_at}
 use Rattle.std.specs.Map.{lookup}
 use Rattle.theory.specs.Walking.{Walked, Removed, Onward}
 use Rattle.lines.specs.Turned.{position_cmp}
-use Rattle.chains.specs.Pairs.{position_eq}
-use Rattle.chains.proofs.Equality.{position_true, true_position, true_false, position_apart}
+use Rattle.lines.specs.Pairs.{position_eq}
+use Rattle.lines.proofs.Positions.{position_true, true_position, true_false, position_apart}
 use Rattle.chains.specs.Walk.{links_in, HasCome, IsWalk}
 use Rattle.grid.specs.declared.pos.Pos.{Pos}
 

@@ -11,7 +11,7 @@ use Rattle.theory.specs.Arcs.{Ascends}
 use Rattle.grid.specs.declared.pos.Pos.{Pos}
 use Rattle.lines.specs.Turned.{position_cmp, list_cmp}
 use Rattle.chains.specs.Arcs.{Arcs}
-use Rattle.chains.specs.Pairs.{among, Tells}
+use Rattle.chains.specs.Among.{among, Tells}
 use Rattle.chains.specs.Table.{free_at}
 use Rattle.chains.specs.Walk.{links_in}
 use Rattle.chains.specs.declared.segment.Segment.{Segment}
@@ -20,7 +20,7 @@ use Rattle.chains.specs.declared.segment.Segment.{Segment}
 abbrev pub AmongSegments : Pos → Pos → List Segment → Type 0
 AmongSegments u v [] = ⊥
 AmongSegments u v (s ∷ ss) =
-    (((u ≡ s.lesser) × (v ≡ s.greater)) ⊎ ((u ≡ s.greater) × (v ≡ s.lesser))) ⊎ AmongSegments u v ss
+    (((u ≡ s.ends.lesser) × (v ≡ s.ends.greater)) ⊎ ((u ≡ s.ends.greater) × (v ≡ s.ends.lesser))) ⊎ AmongSegments u v ss
 
 -- the segments as a relation of vertices
 abbrev pub SegmentsOf : List Segment → Pos → Pos → Type 0

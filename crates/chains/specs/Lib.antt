@@ -1,4 +1,4 @@
-pub mod Pairs
+pub mod Among
 pub mod Visits
 pub mod Crowds
 pub mod Slots

@@ -3,7 +3,8 @@ use Rattle.std.specs.Prelude.{cond, List, [], ◌∷◌, Option, Some, None}
 use Rattle.std.specs.Ordering.{is_eq}
 use Rattle.grid.specs.declared.pos.Pos.{Pos}
 use Rattle.lines.specs.Turned.{position_cmp}
-use Rattle.chains.specs.Pairs.{position_eq, among}
+use Rattle.lines.specs.Pairs.{position_eq}
+use Rattle.chains.specs.Among.{among}
 use Rattle.chains.specs.declared.segment.Segment.{Segment}
 
 -- the neighbours noted before, and one more
@@ -18,4 +19,4 @@ noted stops q o at to = cond (among stops at) o (cond (is_eq (position_cmp at q)
 -- what is noted for q, once the segments are met
 abbrev pub noted_all : List Pos → Pos → Option (Pos × Pos) → List Segment → Option (Pos × Pos)
 noted_all stops q o [] = o
-noted_all stops q o (s ∷ ss) = noted_all stops q (noted stops q (noted stops q o s.lesser s.greater) s.greater s.lesser) ss
+noted_all stops q o (s ∷ ss) = noted_all stops q (noted stops q (noted stops q o s.ends.lesser s.ends.greater) s.ends.greater s.ends.lesser) ss

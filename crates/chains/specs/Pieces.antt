@@ -1,5 +1,5 @@
 -- Pieces of lines and rings.
-use Rattle.std.specs.Prelude.{◌≡◌, ℕ, Bool, true, false, not, cond, List, [], ◌∷◌, ◌++◌, length, take, drop, reverse, map}
+use Rattle.std.specs.Prelude.{ℕ, Bool, false, not, cond, List, [], ◌∷◌, ◌++◌, take, drop, reverse, map}
 use Rattle.std.specs.Ordering.{is_lt}
 use Rattle.theory.specs.Lists.{Has}
 use Rattle.theory.specs.Cutting.{cut_from}
@@ -8,7 +8,7 @@ use Rattle.theory.specs.Geometry.{Geometry, JunctionOf}
 use Rattle.theory.specs.Arcs.{IsArcOf}
 use Rattle.grid.specs.declared.pos.Pos.{Pos}
 use Rattle.lines.specs.Turned.{position_cmp, list_cmp}
-use Rattle.chains.specs.Pairs.{among, Tells}
+use Rattle.chains.specs.Among.{among, Tells}
 use Rattle.chains.specs.Starts.{start_place}
 use Rattle.chains.specs.declared.cutting.Piece.{Piece}
 

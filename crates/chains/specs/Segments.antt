@@ -1,11 +1,11 @@
 -- Segments as contracts see them.
-use Rattle.std.specs.Prelude.{◌≡◌, List, [], ◌∷◌, ◌⊎◌}
+use Rattle.std.specs.Prelude.{◌≡◌, ◌⊎◌}
 use Rattle.grid.specs.declared.pos.Pos.{Pos}
 use Rattle.chains.specs.declared.segment.Segment.{Segment}
 
 -- the two ends of a segment, the lesser first
 abbrev pub ends_of : Segment → Pos × Pos
-ends_of s = (s.lesser, s.greater)
+ends_of s = (s.ends.lesser, s.ends.greater)
 
 -- the segment has these two ends
 abbrev pub IsBetween : Pos → Pos → Segment → Type 0

@@ -10,7 +10,8 @@ use Rattle.theory.specs.Stitching.{HaveAllPieces}
 use Rattle.theory.specs.ArcNumbers.{ArcRef}
 use Rattle.grid.specs.declared.pos.Pos.{Pos}
 use Rattle.lines.specs.Turned.{position_cmp}
-use Rattle.chains.specs.Pairs.{position_eq, Tells}
+use Rattle.lines.specs.Pairs.{position_eq}
+use Rattle.chains.specs.Among.{Tells}
 use Rattle.chains.specs.Arcs.{Arcs}
 use Rattle.chains.specs.Pieces.{chain_of, ArePieces}
 use Rattle.chains.specs.declared.cutting.Piece.{Piece}

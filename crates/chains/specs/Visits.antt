@@ -3,12 +3,12 @@ use Rattle.std.specs.Prelude.{Bool, cond, not, ◌&&◌, ◌↔◌, List, [], �
 use Rattle.theory.specs.Lists.{Has, last_of}
 use Rattle.theory.specs.LinesAndRings.{around}
 use Rattle.grid.specs.declared.pos.Pos.{Pos}
-use Rattle.chains.specs.Pairs.{position_eq, sides_eq, pair_of}
+use Rattle.lines.specs.Pairs.{position_eq, pair_eq, pair_of}
 use Rattle.chains.specs.declared.visits.Visit.{Visit}
 
 -- whether two visits are equal
 abbrev pub visit_eq : Visit → Visit → Bool
-visit_eq a b = position_eq a.vertex b.vertex && sides_eq a.sides b.sides
+visit_eq a b = position_eq a.vertex b.vertex && pair_eq a.sides b.sides
 
 -- the same visits stand in two lists, however often
 pub record HaveSame (xs ys : List Visit) : Type 0 where

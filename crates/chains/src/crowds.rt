@@ -1,9 +1,10 @@
 //! Slots that visits are dealt to by their vertices. Two visits of one vertex meet in a slot, and
 //! most visits are alone in theirs: so most are known to clash with no other.
-ghost use Rattle.std.specs.Prelude.{◌≡◌, IfOk, get_or, true};
+ghost use Rattle.std.specs.Prelude.{◌≡◌, IfOk};
 ghost use Rattle.chains.specs.Crowds as spec;
 ghost use Rattle.chains.specs.Crowds.{AreCrowds, IsDealt, IsMarked, KeepsClashes, crowded_in};
 
+use crate::slots::is_marked;
 use crate::visits::Visit;
 use grid::pos::Pos;
 use std::alloc::{AllocError, Global};
@@ -19,16 +20,6 @@ fn slot_among(count: usize, p: Pos) -> usize
     let up = p.y().cast_unsigned().wrapping_mul(14029467366897019727);
     let spread = across.wrapping_add(up) >> 32;
     (spread.wrapping_mul(count as u64) >> 32) as usize
-}
-
-/// Whether a slot is marked; what is no slot counts as marked.
-fn is_marked(slots: &[bool], at: usize) -> bool
-    ensures { result ≡ get_or slots.now at true }
-{
-    match slots.get(at) {
-        Some(marked) => *marked,
-        None => true,
-    }
 }
 
 fn mark(slots: &mut Vec<bool>, at: usize)

@@ -8,7 +8,7 @@ ghost use Rattle.theory.specs.Lists.{Each};
 ghost use Rattle.theory.specs.Geometry.{Geometry, IsSound, IsLineOf, IsRingOf};
 ghost use Rattle.theory.specs.Stitching.{ArePiecesOf, AreRingPiecesOf};
 ghost use Rattle.grid.specs.declared.pos.Pos.{Pos};
-ghost use Rattle.chains.specs.Pairs.{among};
+ghost use Rattle.chains.specs.Among.{among};
 ghost use Rattle.chains.specs.Index.{IsIndexOf};
 ghost use Rattle.chains.specs.Seen.{line_of, ring_of};
 ghost use Rattle.chains.specs.Pieces as spec;

@@ -3,7 +3,7 @@ ghost use Rattle.std.specs.Prelude.{◌≡◌, ◌≤◌, IfOk, OnOk, None, List
 ghost use Rattle.std.specs.BTreeMap.{btree_map_len};
 ghost use Rattle.grid.specs.declared.pos.Pos.{Pos};
 ghost use Rattle.chains.specs.declared.segment.Segment.{Segment};
-ghost use Rattle.chains.specs.Pairs.{among};
+ghost use Rattle.chains.specs.Among.{among};
 ghost use Rattle.chains.specs.Pieces.{oriented};
 ghost use Rattle.chains.specs.Pieces as pieces;
 ghost use Rattle.chains.specs.Walk.{IsWalk, links_in};

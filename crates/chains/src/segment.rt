@@ -4,14 +4,13 @@ ghost use Rattle.std.specs.Ordering.{is_lt};
 ghost use Rattle.lines.specs.Turned.{position_cmp};
 
 use grid::pos::Pos;
-use std::cmp::Ordering;
+use lines::pair::Pair;
 
 /// A segment: an unordered pair of two different positions.
 #[derive(Clone, Copy, PartialEq, Eq, PartialOrd, Ord, Hash, Debug)]
 pub struct Segment {
-    lesser: Pos,
-    greater: Pos,
-    pub ghost ordered: { is_lt (position_cmp lesser greater) ≡ true },
+    ends: Pair,
+    pub ghost ordered: { is_lt (position_cmp ends.lesser ends.greater) ≡ true },
 }
 
 impl Segment {
@@ -22,23 +21,18 @@ impl Segment {
         ensures none { IsNone result ↔ (a ≡ b) }
         ensures between { IfSome result (λ s. IsBetween a b s) }
     {
-        match a.cmp(&b) {
-            Ordering::Less => Some(Segment {
-                lesser: a,
-                greater: b,
-            }),
-            Ordering::Equal => None,
-            Ordering::Greater => Some(Segment {
-                lesser: b,
-                greater: a,
-            }),
+        if a == b {
+            return None;
         }
+        Some(Segment {
+            ends: Pair::of(a, b),
+        })
     }
 
     /// The two ends, the lesser first.
     pub fn ends(self) -> (Pos, Pos)
         ensures { result ≡ ends_of self }
     {
-        (self.lesser, self.greater)
+        self.ends.ends()
     }
 }

@@ -1,5 +1,5 @@
 //! Slots that positions are dealt to, so that most look-ups of a position end at once.
-ghost use Rattle.std.specs.Prelude.{◌≡◌, ◌<◌, IfOk};
+ghost use Rattle.std.specs.Prelude.{◌≡◌, ◌<◌, IfOk, get_or, true};
 ghost use Rattle.chains.specs.Slots.{slot_of, AreSlotsOf};
 
 use grid::pos::Pos;
@@ -14,6 +14,16 @@ pub(crate) fn slot(p: Pos) -> usize
     ensures below { result < 1048576 }
 {
     ((p.x().unsigned_abs() * 31 + p.y().unsigned_abs()) % 1048576) as usize
+}
+
+/// Whether a slot is marked; what is no slot counts as marked.
+pub(crate) fn is_marked(slots: &[bool], at: usize) -> bool
+    ensures { result ≡ get_or slots.now at true }
+{
+    match slots.get(at) {
+        Some(marked) => *marked,
+        None => true,
+    }
 }
 
 /// Which slots hold some of the positions.

@@ -1,8 +1,8 @@
 //! The stops of chains, with most look-ups ended by a table of slots.
 ghost use Rattle.std.specs.Prelude.{◌≡◌, IfOk};
-ghost use Rattle.chains.specs.Pairs.{among};
+ghost use Rattle.chains.specs.Among.{among};
 
-use crate::slots::{slot, slots_of};
+use crate::slots::{is_marked, slot, slots_of};
 use grid::pos::Pos;
 use std::alloc::{AllocError, Global};
 use std::collections::BTreeSet;
@@ -50,9 +50,6 @@ impl<'a> StopSet<'a> {
     pub(crate) fn has(&self, p: Pos) -> bool
         ensures { result ≡ among self.now p }
     {
-        match self.slots.get(slot(p)) {
-            Some(false) => false,
-            _ => self.stops.contains(&p),
-        }
+        is_marked(&self.slots, slot(p)) && self.stops.contains(&p)
     }
 }

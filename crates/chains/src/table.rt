@@ -37,13 +37,21 @@ impl Model for ArcRef {
 }
 
 impl ArcRef {
-    /// TopoJSON's index: `i` for arc `i`, and its one's complement `-1 - i` for arc `i` reversed.
+    /// TopoJSON's index: `i` for arc `i`, and its one's complement `-1 - i` for arc `i` reversed. It is
+    /// as wide as the number of any arc needs.
+    pub fn wide_index(self) -> i128
+        ensures { result ≡ index_of self }
+    {
+        let number = self.arc as i128;
+        if self.reversed { -1 - number } else { number }
+    }
+
+    /// The same, as texts have it.
     pub fn index(self) -> i64
         requires { self.arc < 2 ^ 63 }
         ensures { result ≡ index_of self }
     {
-        let number = self.arc as i64;
-        if self.reversed { -1 - number } else { number }
+        self.wide_index() as i64
     }
 
     /// The used arc of TopoJSON's index.

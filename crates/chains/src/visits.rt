@@ -5,7 +5,7 @@ ghost use Rattle.theory.specs.Segments.{OnThree};
 ghost use Rattle.theory.specs.Lists.{gathered, joined};
 ghost use Rattle.grid.specs.declared.pos.Pos.{Pos};
 ghost use Rattle.chains.specs.Crowds.{KeepsClashes};
-ghost use Rattle.chains.specs.Pairs.{among, pair_of};
+ghost use Rattle.chains.specs.Among.{among};
 ghost use Rattle.chains.specs.Visits.{visit_of, inner_of, ends_of, around_of, clash, clashes_of, HaveSame};
 ghost use Rattle.chains.specs.Seen.{line_of, ring_of, form_of, geometry_of};
 ghost use Rattle.chains.specs.Index.{IsIndexOf, EndsALine, AreVisitsOf, feature_ends, feature_visits, form_ends, form_visits, layer_ends, layer_visits};
@@ -18,12 +18,13 @@ ghost use Rattle.shapes.specs.Parts.{spelled_text};
 ghost use Rattle.shapes.specs.Sets as set;
 
 use crate::crowds::crowded_visits;
-use crate::slots::{slot, slots_of};
+use crate::slots::{is_marked, slot, slots_of};
 use crate::table::ArcTable;
 use faults::OutOfMemory;
 use grid::pos::Pos;
 use lines::items::Items;
 use lines::line::Line;
+use lines::pair::Pair;
 use lines::ring::Ring;
 use shapes::feature::Feature;
 use shapes::feature_map::FeatureMap;
@@ -33,34 +34,11 @@ use std::alloc::{AllocError, Global};
 use std::collections::BTreeSet;
 use std::marker::Model;
 
-/// The unordered pair of a vertex's two neighbours, the lesser first.
-#[derive(Clone, Copy, PartialEq, Eq, Debug)]
-pub(crate) struct Sides {
-    lesser: Pos,
-    greater: Pos,
-}
-
-fn sides_between(a: Pos, b: Pos) -> Sides
-    ensures { result ≡ pair_of a b }
-{
-    if a < b {
-        Sides {
-            lesser: a,
-            greater: b,
-        }
-    } else {
-        Sides {
-            lesser: b,
-            greater: a,
-        }
-    }
-}
-
 /// A vertex and its two neighbours.
 #[derive(Clone, Copy, PartialEq, Eq, Debug)]
 pub(crate) struct Visit {
     pub(crate) vertex: Pos,
-    sides: Sides,
+    sides: Pair,
 }
 
 fn visit_between(before: Pos, here: Pos, next: Pos) -> Visit
@@ -68,7 +46,7 @@ fn visit_between(before: Pos, here: Pos, next: Pos) -> Visit
 {
     Visit {
         vertex: here,
-        sides: sides_between(before, next),
+        sides: Pair::of(before, next),
     }
 }
 
@@ -360,10 +338,7 @@ impl VisitIndex {
     fn has(&self, p: Pos) -> bool
         ensures { result ≡ among self.now p }
     {
-        match self.slots.get(slot(p)) {
-            Some(false) => false,
-            _ => self.junctions.binary_search(&p).is_ok(),
-        }
+        is_marked(&self.slots, slot(p)) && self.junctions.binary_search(&p).is_ok()
     }
 
     /// Whether a position is a junction.

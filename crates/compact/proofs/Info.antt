@@ -9,6 +9,7 @@ use Rattle.serde_json.specs.Data.{Data, null, boolean, number, string, array, ob
 use Rattle.serde_json.specs.Find.{as_object}
 use Rattle.serde_json.specs.Read.{read}
 use Rattle.serde_json.specs.Written.{compact_text, has_float}
+use Rattle.shapes.specs.declared.nesting.TheConstants.{GREATEST_PROPERTY_DEPTH}
 use Rattle.shapes.specs.Ids.{HasI64}
 use Rattle.shapes.specs.Parts.{spelled_text, properties_text}
 use Rattle.shapes.specs.Properties.{properties_value}
@@ -59,7 +60,7 @@ pub record AreProperties (t : List ℕ) (d : Data) : Type 0 where
   pub object : is_some (as_object d) ≡ true
   pub utf8 : IsUtf8 t
   pub whole : not (has_float d) ≡ true
-  pub shallow : nat_le (depth d) 64 ≡ true
+  pub shallow : nat_le (depth d) GREATEST_PROPERTY_DEPTH ≡ true
 
 are_properties : (p : Props) → AreProperties (properties_text p) (properties_value (properties_text p))
 are_properties p =
@@ -74,13 +75,13 @@ not_true : (b : Bool) → not b ≡ true → b ≡ false
 not_true true e = absurd (cc)
 not_true false e = refl
 
-object_faultless : (ms : Members) → not (has_float (object ms)) ≡ true → nat_le (depth (object ms)) 64 ≡ true → properties_faults (object ms) ≡ []
+object_faultless : (ms : Members) → not (has_float (object ms)) ≡ true → nat_le (depth (object ms)) GREATEST_PROPERTY_DEPTH ≡ true → properties_faults (object ms) ≡ []
 object_faultless ms whole shallow = rw (not_true _ whole, shallow)
 
 value_faultless : (t : List ℕ) (d : Data) → AreProperties t d → properties_faults d ≡ []
 value_faultless t d h =
     let m = is_there d h.object in
-    ap properties_faults m.1 ∙ object_faultless m.0 (ap (λ e. not (has_float e)) (sym m.1) ∙ h.whole) (ap (λ e. nat_le (depth e) 64) (sym m.1) ∙ h.shallow)
+    ap properties_faults m.1 ∙ object_faultless m.0 (ap (λ e. not (has_float e)) (sym m.1) ∙ h.whole) (ap (λ e. nat_le (depth e) GREATEST_PROPERTY_DEPTH) (sym m.1) ∙ h.shallow)
 
 value_means : (t : List ℕ) (d : Data) → AreProperties t d → properties_of d ≡ compact_text d
 value_means t d h = let m = is_there d h.object in ap properties_of m.1 ∙ sym (ap compact_text m.1)

@@ -1,15 +1,14 @@
 -- What a text without faults means fits the grid.
-use Rattle.std.proofs.Common.{◌≡◌, ℕ, ℤ, ◌-ℤ◌, List, [], ◌∷◌, ◌&&◌, Bool, true, false, Option, Some, None, Ok, map, refl, sym, subst, arith, int_div, int_rem, int_le, pos, zero, suc, negsuc, unsigned_abs, nat_eq, unwrap_or, option_and_then, codes}
-use Rattle.std.proofs.lemmas.Int.{ints}
-use Rattle.std.proofs.lemmas.Bool.Decides.{nat_tests}
+use Rattle.std.proofs.Common.{◌≡◌, ℕ, ℤ, ◌-ℤ◌, List, [], ◌∷◌, ◌&&◌, Bool, true, false, Option, Some, None, Ok, map, refl, sym, subst, int_div, int_rem, pos, unwrap_or, option_and_then, codes}
 use Rattle.std.specs.List.{AllByRecursion}
 use Rattle.serde_json.specs.Data.{Num, Data, null, boolean, number, string, array, object, Items}
 use Rattle.serde_json.specs.Find.{as_number, as_i64, as_array, as_object}
 use Rattle.faults.specs.Path.{index}
 use Rattle.faults.specs.Fault.{Pair}
-use Rattle.grid.specs.Place.{Scaling, Transform, IsGridNumber, IsAbsolute, FitsAxis, absolute}
+use Rattle.grid.specs.Place.{Scaling, Transform, IsAbsolute, FitsAxis, absolute}
 use Rattle.grid.specs.Fits.{Fits}
 use Rattle.grid.specs.Computed.{divides, is_grid_number, is_absolute, number_by, axis_number}
+use Rattle.grid.proofs.Judged.{both_first, both_second, no_size, by_number_test, by_absolute_test}
 use Rattle.grid.proofs.Multiples.{product_of_quotient}
 use Rattle.grid.proofs.Places.{absolute_by_product}
 use Rattle.reading.specs.Fault.{under}
@@ -35,34 +34,6 @@ use Rattle.geojson_io.specs.declared.reader.Root.{Root}
 use Rattle.geojson_io.specs.declared.reader.Root.TheVariants as root
 
 -- ---- numbers
-
-both_first : (a b : Bool) → (a && b) ≡ true → a ≡ true
-both_first true b e = refl
-both_first false b e = e
-
-both_second : (a b : Bool) → (a && b) ≡ true → b ≡ true
-both_second true b e = e
-both_second false b e = cc
-
-no_zero : (n : ℕ) → nat_eq (suc n) 0 ≡ true → ⊥
-no_zero n e = grind (arith, nat_tests)
-
-no_size : (z : ℤ) → nat_eq (unsigned_abs z) 0 ≡ true → z ≡ pos 0
-no_size (pos zero) e = refl
-no_size (pos (suc n)) e = absurd (no_zero n e)
-no_size (negsuc n) e = absurd (no_zero n e)
-
-by_number_test : (n : ℤ) → is_grid_number n ≡ true → IsGridNumber n
-by_number_test n e =
-    let a = both_first (int_le (negsuc 1099511627775) n) (int_le n (pos 1099511627776)) e in
-    let b = both_second (int_le (negsuc 1099511627775) n) (int_le n (pos 1099511627776)) e in
-    record { low = omega (arith, ints); high = omega (arith, ints) }
-
-by_absolute_test : (n : ℤ) → is_absolute n ≡ true → IsAbsolute n
-by_absolute_test n e =
-    let a = both_first (int_le (negsuc 9007199254740990) n) (int_le n (pos 9007199254740991)) e in
-    let b = both_second (int_le (negsuc 9007199254740990) n) (int_le n (pos 9007199254740991)) e in
-    record { low = omega (arith, ints); high = omega (arith, ints) }
 
 quotient_fits : (s : Scaling) (a : ℤ) → divides s.scale (a -ℤ s.translate) ≡ true → (is_grid_number (int_div (a -ℤ s.translate) s.scale) && is_absolute a) ≡ true → FitsAxis s (int_div (a -ℤ s.translate) s.scale)
 quotient_fits s a whole within =

@@ -3,6 +3,7 @@ use Rattle.std.proofs.Common.{◌≡◌, ℕ, zero, suc, ℤ, pos, negsuc, ◌-�
 use Rattle.std.specs.Prelude.{Result, Ok, Err, IfOk, IfErr, unsigned_abs}
 use Rattle.std.proofs.lemmas.Int.{ints}
 use Rattle.std.proofs.lemmas.Bool.Decides.{nat_tests}
+use Rattle.grid.specs.declared.limits.TheConstants.{LEAST_GRID_NUMBER, GREATEST_GRID_NUMBER, LEAST_ABSOLUTE_NUMBER, GREATEST_ABSOLUTE_NUMBER}
 use Rattle.grid.specs.Place.{Scaling, IsScaling, IsGridNumber, IsAbsolute, IsMultiple, IsOnGrid, IsNumberOf, IsBeyond, FitsAxis, absolute}
 use Rattle.grid.specs.Fault.{IsAxisFault}
 use Rattle.grid.specs.Computed.{divides, is_grid_number, is_absolute, fits_axis, number_by, axis_number}
@@ -20,18 +21,18 @@ both true true e f = refl
 both true false e f = f
 both false b e f = e
 
-both_first : (a b : Bool) → (a && b) ≡ true → a ≡ true
+pub both_first : (a b : Bool) → (a && b) ≡ true → a ≡ true
 both_first true b e = refl
 both_first false b e = e
 
-both_second : (a b : Bool) → (a && b) ≡ true → b ≡ true
+pub both_second : (a b : Bool) → (a && b) ≡ true → b ≡ true
 both_second true b e = e
 both_second false b e = cc
 
 no_zero : (n : ℕ) → nat_eq (suc n) 0 ≡ true → ⊥
 no_zero n e = grind (arith, nat_tests)
 
-no_size : (z : ℤ) → nat_eq (unsigned_abs z) 0 ≡ true → z ≡ pos 0
+pub no_size : (z : ℤ) → nat_eq (unsigned_abs z) 0 ≡ true → z ≡ pos 0
 no_size (pos zero) e = refl
 no_size (pos (suc n)) e = absurd (no_zero n e)
 no_size (negsuc n) e = absurd (no_zero n e)
@@ -42,25 +43,29 @@ multiple_by_divides s d e = multiple_by_rest s d (no_size (int_rem d s) e)
 divides_multiple : (s d : ℤ) → pos 1 ≤ℤ s → IsMultiple s d → divides s d ≡ true
 divides_multiple s d h m = ap (λ x. nat_eq (unsigned_abs x) 0) (rest_of_multiple s d h m)
 
-number_test : (n : ℤ) → IsGridNumber n → is_grid_number n ≡ true
-number_test n h =
-    both (int_le (negsuc 1099511627775) n) (int_le n (pos 1099511627776)) (grind (arith, ints)) (grind (arith, ints))
+within_test : (least greatest n : ℤ) → least ≤ℤ n → n ≤ℤ greatest → (int_le least n && int_le n greatest) ≡ true
+within_test least greatest n h k =
+    both (int_le least n) (int_le n greatest) (grind (arith, ints)) (grind (arith, ints))
 
-by_number_test : (n : ℤ) → is_grid_number n ≡ true → IsGridNumber n
+by_within_test : (least greatest n : ℤ) → (int_le least n && int_le n greatest) ≡ true → (least ≤ℤ n) × (n ≤ℤ greatest)
+by_within_test least greatest n e =
+    let a = both_first (int_le least n) (int_le n greatest) e in
+    let b = both_second (int_le least n) (int_le n greatest) e in
+    (omega (arith, ints), omega (arith, ints))
+
+number_test : (n : ℤ) → IsGridNumber n → is_grid_number n ≡ true
+number_test n h = within_test LEAST_GRID_NUMBER GREATEST_GRID_NUMBER n h.low h.high
+
+pub by_number_test : (n : ℤ) → is_grid_number n ≡ true → IsGridNumber n
 by_number_test n e =
-    let a = both_first (int_le (negsuc 1099511627775) n) (int_le n (pos 1099511627776)) e in
-    let b = both_second (int_le (negsuc 1099511627775) n) (int_le n (pos 1099511627776)) e in
-    record { low = omega (arith, ints); high = omega (arith, ints) }
+    let w = by_within_test LEAST_GRID_NUMBER GREATEST_GRID_NUMBER n e in record { low = w.0; high = w.1 }
 
 absolute_test : (n : ℤ) → IsAbsolute n → is_absolute n ≡ true
-absolute_test n h =
-    both (int_le (negsuc 9007199254740990) n) (int_le n (pos 9007199254740991)) (grind (arith, ints)) (grind (arith, ints))
+absolute_test n h = within_test LEAST_ABSOLUTE_NUMBER GREATEST_ABSOLUTE_NUMBER n h.low h.high
 
-by_absolute_test : (n : ℤ) → is_absolute n ≡ true → IsAbsolute n
+pub by_absolute_test : (n : ℤ) → is_absolute n ≡ true → IsAbsolute n
 by_absolute_test n e =
-    let a = both_first (int_le (negsuc 9007199254740990) n) (int_le n (pos 9007199254740991)) e in
-    let b = both_second (int_le (negsuc 9007199254740990) n) (int_le n (pos 9007199254740991)) e in
-    record { low = omega (arith, ints); high = omega (arith, ints) }
+    let w = by_within_test LEAST_ABSOLUTE_NUMBER GREATEST_ABSOLUTE_NUMBER n e in record { low = w.0; high = w.1 }
 
 -- the quotient is the only factor
 quotient_is : (s d n : ℤ) → pos 1 ≤ℤ s → n *ℤ s ≡ d → int_div d s ≡ n

@@ -1,4 +1,5 @@
 pub mod Multiples
 pub mod Places
 pub mod Judged
+pub mod Heard
 pub mod Pairs

@@ -1,24 +1,15 @@
 -- Positions by their two numbers.
 use Rattle.std.proofs.Common.{◌≡◌, ℤ, ◌↔◌, sym, ap, ◌∙◌, inl, inr}
-use Rattle.std.specs.Prelude.{Result, Ok, Err, IsErrOf}
-use mathlib.Core.HLevel.{is_prop→PathP}
-use Rattle.grid.specs.Place.{Scaling, Transform, IsGridNumber, IsGridNumber-prop, IsOnGrid, IsNumberOf, IsBeyond, absolute}
-use Rattle.grid.specs.Fits.{IsPlaceOf}
+use Rattle.std.specs.Prelude.{Result, Ok, Err}
+use Rattle.grid.specs.Place.{Scaling, Transform, IsGridNumber, IsNumberOf, absolute}
+use Rattle.grid.specs.Fits.{IsPlaceOf, one_position}
 use Rattle.grid.specs.Fault.{IsAxisFault, IsPlaceFault, at_element}
 use Rattle.grid.specs.Computed.{axis_number, both_numbers, place_numbers}
 use Rattle.grid.specs.declared.pos.Pos.{Pos}
+use Rattle.grid.proofs.Heard.{Answers}
 use Rattle.grid.specs.declared.transform.AxisFault.{AxisFault}
 use Rattle.grid.specs.declared.transform.AxisFault.TheVariants.{OffGrid, OutOfRange}
 use Rattle.grid.specs.declared.transform.GridFault.{GridFault}
-
--- equal numbers make one position
-pub one_position : (p q : Pos) → p.x ≡ q.x → p.y ≡ q.y → p ≡ q
-one_position p q e f i = record {
-  x = e i;
-  y = f i;
-  across = is_prop→PathP (λ j. IsGridNumber (e j)) (λ j. IsGridNumber-prop (e j)) p.across q.across i;
-  along = is_prop→PathP (λ j. IsGridNumber (f j)) (λ j. IsGridNumber-prop (f j)) p.along q.along i;
-}
 
 same_pair : (a b x y : ℤ) → a ≡ x → b ≡ y → ◌≡◌ {A = ℤ × ℤ} (a, b) (x, y)
 same_pair a b x y e f = cc
@@ -34,13 +25,6 @@ place_of t ax ay p h k = record {
   place = same_pair (absolute t.x p.x) (absolute t.y p.y) ax ay h.place k.place;
   fits = record { x = h.fits; y = k.fits };
 }
-
--- what an axis answers
-pub record Answers (s : Scaling) (a : ℤ) (r : Result ℤ AxisFault) : Type 0 where
-  pub exact : (n : ℤ) → (r ≡ Ok n) ↔ IsNumberOf s a n
-  pub off_grid : IsErrOf r OffGrid ↔ (IsOnGrid s a → ⊥)
-  pub out_of_range : IsErrOf r OutOfRange ↔ IsBeyond s a
-  pub computed : r ≡ axis_number s a
 
 fault_says : (s : Scaling) (a : ℤ) (r : Result ℤ AxisFault) (f : AxisFault) → r ≡ Err f → Answers s a r → IsAxisFault s a f
 fault_says s a r OffGrid e h = h.off_grid.0 e

@@ -1,5 +1,6 @@
 -- The grid number of an absolute number, computed: what readers list.
-use Rattle.std.specs.Prelude.{ℤ, pos, negsuc, ◌-ℤ◌, ◌&&◌, Bool, true, false, Result, Ok, Err, nat_eq, int_le, int_div, int_rem, unsigned_abs}
+use Rattle.std.specs.Prelude.{ℤ, ◌-ℤ◌, ◌&&◌, Bool, true, false, Result, Ok, Err, nat_eq, int_le, int_div, int_rem, unsigned_abs}
+use Rattle.grid.specs.declared.limits.TheConstants.{LEAST_GRID_NUMBER, GREATEST_GRID_NUMBER, LEAST_ABSOLUTE_NUMBER, GREATEST_ABSOLUTE_NUMBER}
 use Rattle.grid.specs.Place.{Scaling, Transform, absolute}
 use Rattle.grid.specs.Fault.{at_element}
 use Rattle.grid.specs.declared.pos.Pos.{Pos}
@@ -12,10 +13,10 @@ abbrev pub divides : ℤ → ℤ → Bool
 divides scale d = nat_eq (unsigned_abs (int_rem d scale)) 0
 
 abbrev pub is_grid_number : ℤ → Bool
-is_grid_number n = int_le (negsuc 1099511627775) n && int_le n (pos 1099511627776)
+is_grid_number n = int_le LEAST_GRID_NUMBER n && int_le n GREATEST_GRID_NUMBER
 
 abbrev pub is_absolute : ℤ → Bool
-is_absolute a = int_le (negsuc 9007199254740990) a && int_le a (pos 9007199254740991)
+is_absolute a = int_le LEAST_ABSOLUTE_NUMBER a && int_le a GREATEST_ABSOLUTE_NUMBER
 
 -- whether the grid number and its absolute number are within their limits
 abbrev pub fits_axis : Scaling → ℤ → Bool

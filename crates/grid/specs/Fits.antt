@@ -1,6 +1,7 @@
 -- Positions and their absolute places.
 use Rattle.std.specs.Prelude.{◌≡◌, ℤ}
-use Rattle.grid.specs.Place.{Transform, FitsAxis, absolute}
+use mathlib.Core.HLevel.{is_prop→PathP}
+use Rattle.grid.specs.Place.{Transform, FitsAxis, IsGridNumber, IsGridNumber-prop, absolute}
 use Rattle.grid.specs.declared.pos.Pos.{Pos}
 
 -- the first grid number of a position
@@ -10,6 +11,15 @@ x_of p = p.x
 -- the second grid number of a position
 abbrev pub y_of : Pos → ℤ
 y_of p = p.y
+
+-- equal numbers make one position
+pub one_position : (p q : Pos) → p.x ≡ q.x → p.y ≡ q.y → p ≡ q
+one_position p q e f i = record {
+  x = e i;
+  y = f i;
+  across = is_prop→PathP (λ j. IsGridNumber (e j)) (λ j. IsGridNumber-prop (e j)) p.across q.across i;
+  along = is_prop→PathP (λ j. IsGridNumber (f j)) (λ j. IsGridNumber-prop (f j)) p.along q.along i;
+}
 
 -- the absolute place of a position
 abbrev pub absolute_place : Transform → Pos → ℤ × ℤ

@@ -1,14 +1,19 @@
 //! The transform between grid numbers and absolute numbers (TopoJSON, section 2).
-ghost use Rattle.std.specs.Prelude.{◌≡◌, ◌↔◌, IsSome, IfSome, IfOk, IfErr, IsErrOf, IsTrue, Ok, Some, None, ℤ, pos, negsuc, unsigned_abs, ◌≤◌, ◌*ℤ◌, ◌-ℤ◌, ◌≤ℤ◌, int_rem, int_div};
+ghost use Rattle.std.specs.Prelude.{◌≡◌, ◌↔◌, IsSome, IfSome, IfOk, IfErr, IsErrOf, IsTrue, Ok, Some, None, ℤ, pos, negsuc, unsigned_abs, ◌≤◌, ◌*◌, ◌*ℤ◌, ◌-ℤ◌, ◌≤ℤ◌, int_rem, int_div};
 ghost use Rattle.grid.specs.Place.{Scaling, IsScaling, IsTransform, IsScale, IsTranslation, IsGridNumber, IsAbsolute, IsMultiple, IsOnGrid, IsNumberOf, IsBeyond, FitsAxis, scaling, transform as transform_of, absolute as absolute_number};
 ghost use Rattle.grid.specs.Fault.{IsAxisFault};
 
-use crate::pos::{LIMIT, Pos};
+use crate::limits::{
+    GREATEST_ABSOLUTE_NUMBER, GREATEST_GRID_NUMBER, GREATEST_SCALE, GREATEST_TRANSLATION,
+    LEAST_ABSOLUTE_NUMBER, LEAST_GRID_NUMBER, LEAST_SCALE, LEAST_TRANSLATION,
+};
+use crate::pos::Pos;
 use std::marker::Model;
 use thiserror::Error;
 
 /// The transform of one element of a position: its absolute number is the grid number times the scale,
-/// plus the translation. Scales are from 1 to 1,000,000, translations from -10^12 to 10^12.
+/// plus the translation. Scales are from `LEAST_SCALE` to `GREATEST_SCALE`, translations from
+/// `LEAST_TRANSLATION` to `GREATEST_TRANSLATION`.
 #[derive(Clone, Copy, PartialEq, Eq, Debug)]
 pub struct Axis {
     scale: i64,
@@ -66,18 +71,11 @@ pub enum GridFault {
     OutOfRange(usize),
 }
 
-/// Absolute numbers are within this, either side of 0.
-const ABSOLUTE_LIMIT: i64 = 9_007_199_254_740_991;
-
-const GREATEST_SCALE: i64 = 1_000_000;
-
-const GREATEST_TRANSLATION: i64 = 1_000_000_000_000;
-
 fn scaled(n: i64, scale: i64) -> i64
     requires scale { IsScale scale }
     requires number { IsGridNumber n }
     ensures value { result ≡ (n *ℤ scale) }
-    ensures bound { unsigned_abs result ≤ 1099511627776000000 }
+    ensures bound { unsigned_abs result ≤ (unsigned_abs GREATEST_GRID_NUMBER * unsigned_abs GREATEST_SCALE) }
 {
     n * scale
 }
@@ -93,13 +91,13 @@ fn absolute(scale: i64, translate: i64, n: i64) -> i64
 fn is_absolute(a: i64) -> bool
     ensures { IsTrue result ↔ IsAbsolute a }
 {
-    -ABSOLUTE_LIMIT <= a && a <= ABSOLUTE_LIMIT
+    LEAST_ABSOLUTE_NUMBER <= a && a <= GREATEST_ABSOLUTE_NUMBER
 }
 
 fn is_grid_number(n: i64) -> bool
     ensures { IsTrue result ↔ IsGridNumber n }
 {
-    -LIMIT <= n && n <= LIMIT
+    LEAST_GRID_NUMBER <= n && n <= GREATEST_GRID_NUMBER
 }
 
 fn offset(a: i64, translate: i64) -> i64
@@ -113,7 +111,7 @@ fn offset(a: i64, translate: i64) -> i64
 fn remainder(a: i64, scale: i64) -> i64
     requires scale { IsScale scale }
     ensures value { result ≡ int_rem a scale }
-    ensures bound { unsigned_abs result ≤ 1000000 }
+    ensures bound { unsigned_abs result ≤ unsigned_abs GREATEST_SCALE }
 {
     a % scale
 }
@@ -183,16 +181,16 @@ impl Axis {
         ensures given { IfSome result (λ a. a ≡ scaling scale translate) }
         ensures exact { IsSome result ↔ IsScaling (scaling scale translate) }
     {
-        if scale < 1 || scale > GREATEST_SCALE {
+        if scale < LEAST_SCALE || scale > GREATEST_SCALE {
             return None;
         }
-        if translate < -GREATEST_TRANSLATION || translate > GREATEST_TRANSLATION {
+        if translate < LEAST_TRANSLATION || translate > GREATEST_TRANSLATION {
             return None;
         }
         Some(Axis { scale, translate })
     }
 
-    /// The factor, from 1 to 1,000,000.
+    /// The factor, from `LEAST_SCALE` to `GREATEST_SCALE`.
     pub fn scale(&self) -> i64
         ensures value { result ≡ self.now.scale }
         ensures limits { IsScaling self.now }
@@ -200,7 +198,7 @@ impl Axis {
         self.scale
     }
 
-    /// What is added, from -10^12 to 10^12.
+    /// What is added, from `LEAST_TRANSLATION` to `GREATEST_TRANSLATION`.
     pub fn translate(&self) -> i64
         ensures value { result ≡ self.now.translate }
         ensures limits { IsScaling self.now }
@@ -216,7 +214,7 @@ impl Axis {
         absolute(self.scale, self.translate, n)
     }
 
-    /// Whether a number is a grid number whose absolute number is from -(2^53 - 1) to 2^53 - 1.
+    /// Whether a number is a grid number whose absolute number is within its limits.
     pub fn fits(&self, n: i64) -> bool
         ensures exact { IsTrue result ↔ FitsAxis self.now n }
         ensures computed { result ≡ fits_axis self.now n }
@@ -304,7 +302,7 @@ impl Grid {
         (self.x.to_absolute(p.x()), self.y.to_absolute(p.y()))
     }
 
-    /// Whether both absolute numbers of a position are from -(2^53 - 1) to 2^53 - 1.
+    /// Whether both absolute numbers of a position are within their limits.
     pub fn fits(&self, p: Pos) -> bool
         ensures { IsTrue result ↔ Fits self.now p }
     {

@@ -5,8 +5,9 @@ use Rattle.std.specs.Ordering.{is_lt, is_gt, ordering_reverse}
 use Rattle.std.specs.declared.cmp.Ordering.{Ordering}
 use Rattle.std.specs.declared.cmp.Ordering.TheVariants.{Less, Equal, Greater}
 use Rattle.grid.specs.declared.pos.Pos.{Pos}
-use Rattle.lines.specs.Segments.{position_eq}
-use Rattle.lines.proofs.Positions.{position_total, position_true, position_refl}
+use Rattle.lines.specs.Pairs.{position_eq}
+use Rattle.lines.specs.Positions.{position_total}
+use Rattle.lines.proofs.Positions.{position_true, position_refl}
 use Rattle.theory.specs.Geometry.{AtMost}
 use Rattle.theory.specs.Lists.{Steps}
 use Rattle.layer_text.specs.Steps.{step, step_cmp, is_step, lesser, least_from, behind_from, up_to_from}

@@ -20,7 +20,7 @@ use Rattle.chains.specs.Seen as seen_by
 use Rattle.topo.specs.OfMap.{IsOf, layer_of}
 use Rattle.topo.specs.Parts.{IsOfLayerNamed, LayerParts, TopologyParts}
 use Rattle.topo.specs.declared.geom.Geom.{Geom}
-use Rattle.topo.proofs.AtEntry.{at_entry, found}
+use Rattle.shapes.proofs.Entries.{at_entry, found}
 use Rattle.layer_text.specs.ByArcs.{geom_text}
 use Rattle.layer_text.proofs.Texts.{features_same}
 

@@ -13,7 +13,7 @@ use Rattle.lines.specs.Turned.{position_cmp}
 use Rattle.lines.specs.Windows.{window, IsLeastStart}
 use Rattle.lines.specs.declared.ring.Ring as the_ring
 use Rattle.lines.proofs.Least.{least_is, least_turn}
-use Rattle.lines.proofs.Positions.{position_total, position_same}
+use Rattle.lines.specs.Positions.{position_total, position_same}
 use Rattle.theory.specs.Geometry.{AtMost}
 use Rattle.theory.specs.LinesAndRings.{IsRing, IsRotation, closed}
 use Rattle.theory.specs.Lists.{Steps, front_of, last_of}

@@ -3,7 +3,7 @@ use Rattle.std.specs.Prelude.{Bool, cond, ◌&&◌, List, [], ◌∷◌, Option,
 use Rattle.std.specs.Ordering.{is_lt, ordering_then}
 use Rattle.std.specs.declared.cmp.Ordering.{Ordering}
 use Rattle.grid.specs.declared.pos.Pos.{Pos}
-use Rattle.lines.specs.Segments.{position_eq}
+use Rattle.lines.specs.Pairs.{position_eq}
 use Rattle.lines.specs.Turned.{position_cmp}
 use Rattle.layer_text.specs.declared.steps.Step.{Step}
 

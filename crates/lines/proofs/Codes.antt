@@ -17,7 +17,8 @@ use Rattle.lines.specs.Turned.{position_cmp, list_cmp, IsLeastRotation}
 use Rattle.lines.specs.Reading.{collapsed, is_closed, repeats, opened, collapsed_line_fault, collapsed_ring_fault, line_fault, ring_fault, ring_of}
 use Rattle.lines.specs.Windows.{IsLeastStart}
 use Rattle.lines.specs.declared.shape_fault.ShapeFault.TheVariants.{TooShort, NotClosed, Revisit}
-use Rattle.lines.proofs.Positions.{position_total, position_same, derived_eq}
+use Rattle.lines.specs.Positions.{position_total, position_same}
+use Rattle.lines.proofs.Positions.{derived_eq}
 use Rattle.lines.proofs.Trails.{line_accepted, ring_accepted, Closes}
 use Rattle.lines.proofs.Least.{least_turn, least_is}
 

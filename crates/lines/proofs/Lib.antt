@@ -1,5 +1,7 @@
+pub mod SortedLists
 pub mod Doubles
 pub mod Positions
+pub mod Pairs
 pub mod Trails
 pub mod Segments
 pub mod Least

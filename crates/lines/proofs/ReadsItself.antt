@@ -20,7 +20,7 @@ use Rattle.lines.specs.declared.line.Line as the_line
 use Rattle.lines.specs.declared.ring.Ring as the_ring
 use Rattle.lines.proofs.Codes.{large}
 use Rattle.lines.proofs.Least.{least_is}
-use Rattle.lines.proofs.Positions.{position_total, position_same}
+use Rattle.lines.specs.Positions.{position_total, position_same}
 use Rattle.lines.proofs.Trails.{line_exact, once_told, trail_once}
 
 -- a closed list without its last vertex

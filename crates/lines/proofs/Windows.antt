@@ -13,7 +13,7 @@ use Rattle.itertools.proofs.ExtremeLemmas.{position-least}
 use Rattle.grid.specs.declared.pos.Pos.{Pos}
 use Rattle.lines.specs.Turned.{position_cmp, list_cmp}
 use Rattle.lines.specs.Windows.{window, IsLeastStart}
-use Rattle.lines.proofs.Positions.{position_total}
+use Rattle.lines.specs.Positions.{position_total}
 
 abbrev comes_before : Bor (List Pos) → Bor (List Pos) → Bool
 comes_before a b = is_lt (list_cmp a.now b.now)

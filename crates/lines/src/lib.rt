@@ -3,6 +3,7 @@
 
 pub mod items;
 pub mod line;
+pub mod pair;
 pub mod ring;
 pub mod shape_fault;
 #[cfg(test)]

@@ -1,36 +1,14 @@
 //! What makes a list of positions a trail: neighbours differ, and no segment stands twice.
 ghost use Rattle.std.specs.Prelude.{◌≡◌, IfOk};
 ghost use Rattle.lines.specs.Reading.{collapsed, is_closed as closes, repeats};
-ghost use Rattle.lines.specs.Segments.{pair_of, segments_of, equal_neighbours};
+ghost use Rattle.lines.specs.Segments.{segments_of, equal_neighbours};
 ghost use Rattle.lines.specs.Turned.{position_cmp};
 
+use crate::pair::Pair;
 use grid::pos::Pos;
 use std::alloc::{AllocError, Global};
 
-/// Two neighbours, the lesser first.
-#[derive(Clone, Copy, PartialEq, Eq, PartialOrd, Ord, Debug)]
-struct Segment {
-    lesser: Pos,
-    greater: Pos,
-}
-
-fn segment_between(a: Pos, b: Pos) -> Segment
-    ensures { result ≡ pair_of a b }
-{
-    if a < b {
-        Segment {
-            lesser: a,
-            greater: b,
-        }
-    } else {
-        Segment {
-            lesser: b,
-            greater: a,
-        }
-    }
-}
-
-fn all_segments(alloc: Global, positions: &[Pos]) -> Result<Vec<Segment>, AllocError>
+fn all_segments(alloc: Global, positions: &[Pos]) -> Result<Vec<Pair>, AllocError>
     ensures { IfOk result (λ made. made.items ≡ segments_of positions.now) }
 {
     let mut made = Vec::with_capacity(alloc, positions.len())?;
@@ -39,13 +17,13 @@ fn all_segments(alloc: Global, positions: &[Pos]) -> Result<Vec<Segment>, AllocE
     };
     let mut here = *first;
     for next in others {
-        made.push(segment_between(here, *next))?;
+        made.push(Pair::of(here, *next))?;
         here = *next;
     }
     Ok(made)
 }
 
-fn has_equal_neighbours(segments: &[Segment]) -> bool
+fn has_equal_neighbours(segments: &[Pair]) -> bool
     ensures { result ≡ equal_neighbours segments.now }
 {
     let Some((first, others)) = segments.split_first() else {

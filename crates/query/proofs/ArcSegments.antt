@@ -1,37 +1,30 @@
 -- A list of the segments of any arcs.
-use Rattle.std.proofs.Common.{◌≡◌, ◌↔◌, ℕ, List, [], ◌∷◌, ◌⊎◌, inl, inr, refl, sym, ap, ◌∙◌}
-use Rattle.std.specs.Ordering.{is_lt, ordering_reverse}
-use Rattle.std.specs.declared.cmp.Ordering.{Ordering}
-use Rattle.std.specs.declared.cmp.Ordering.TheVariants.{Less, Equal, Greater}
+use Rattle.std.proofs.Common.{◌≡◌, ◌↔◌, ℕ, List, [], ◌∷◌, ◌⊎◌, inl, inr, sym, ap, ◌∙◌}
 use Rattle.grid.specs.declared.pos.Pos.{Pos}
-use Rattle.lines.specs.Turned.{position_cmp}
+use Rattle.lines.specs.Pairs.{pair_of}
 use Rattle.chains.specs.Joined.{AmongSegments}
 use Rattle.chains.specs.Segments.{IsBetween}
 use Rattle.chains.specs.declared.segment.Segment.{Segment}
-use Rattle.chains.proofs.Equality.{position_decide, position_same, position_total}
+use Rattle.lines.proofs.Pairs.{pair_ordered, pair_between}
+use Rattle.lines.proofs.Positions.{position_decide}
 use Rattle.topo.specs.Points.{arc_at}
 use Rattle.query.specs.Along.{Joins, SidesFrom, SidesOf, HasArcs}
 
 -- two positions that differ are the ends of a segment
 segment_between : (a b : Pos) → ¬ (a ≡ b) → (s : Segment) × IsBetween a b s
-segment_between a b n = go (position_cmp a b) (position_cmp b a) refl refl (position_total.antisymm b a)
-  where
-    go : (r q : Ordering) → position_cmp a b ≡ r → position_cmp b a ≡ q → position_cmp b a ≡ ordering_reverse (position_cmp a b) → (s : Segment) × IsBetween a b s
-    go Less q e f h = (record { lesser = a; greater = b; ordered = ap is_lt e }, inl refl)
-    go Equal q e f h = absurd (n (position_same a b e))
-    go Greater q e f h = (record { lesser = b; greater = a; ordered = ap is_lt (h ∙ ap ordering_reverse e) }, inr refl)
+segment_between a b n = (record { ends = pair_of a b; ordered = pair_ordered a b n }, pair_between a b)
 
 -- the ends of the segment are these two
-same_ends : (a b u v : Pos) (s : Segment) → ¬ (a ≡ b) → IsBetween a b s → (((u ≡ s.lesser) × (v ≡ s.greater)) ⊎ ((u ≡ s.greater) × (v ≡ s.lesser))) ↔ Joins a b u v
+same_ends : (a b u v : Pos) (s : Segment) → ¬ (a ≡ b) → IsBetween a b s → (((u ≡ s.ends.lesser) × (v ≡ s.ends.greater)) ⊎ ((u ≡ s.ends.greater) × (v ≡ s.ends.lesser))) ↔ Joins a b u v
 same_ends a b u v s n (inl e) =
-    let x : s.lesser ≡ a = ap (λ w. w.0) e in
-    let y : s.greater ≡ b = ap (λ w. w.1) e in (
+    let x : s.ends.lesser ≡ a = ap (λ w. w.0) e in
+    let y : s.ends.greater ≡ b = ap (λ w. w.1) e in (
       (λ h. (n, elim h [ inl k ↦ inl (k.0 ∙ x, k.1 ∙ y) | inr k ↦ inr (k.0 ∙ y, k.1 ∙ x) ])),
       (λ h. elim h.1 [ inl k ↦ inl (k.0 ∙ sym x, k.1 ∙ sym y) | inr k ↦ inr (k.0 ∙ sym y, k.1 ∙ sym x) ]),
     )
 same_ends a b u v s n (inr e) =
-    let x : s.lesser ≡ b = ap (λ w. w.0) e in
-    let y : s.greater ≡ a = ap (λ w. w.1) e in (
+    let x : s.ends.lesser ≡ b = ap (λ w. w.0) e in
+    let y : s.ends.greater ≡ a = ap (λ w. w.1) e in (
       (λ h. (n, elim h [ inl k ↦ inr (k.0 ∙ x, k.1 ∙ y) | inr k ↦ inl (k.0 ∙ y, k.1 ∙ x) ])),
       (λ h. elim h.1 [ inl k ↦ inr (k.0 ∙ sym y, k.1 ∙ sym x) | inr k ↦ inl (k.0 ∙ sym x, k.1 ∙ sym y) ]),
     )

@@ -19,7 +19,7 @@ use Rattle.shapes.specs.declared.feature.Feature.{Feature}
 use Rattle.chains.specs.Seen.{form_of, seen}
 use Rattle.chains.proofs.Layers.{no_features}
 use Rattle.chains.proofs.Slices.{drop_item, item_at}
-use Rattle.chains.proofs.SortedLists.{Up, up_from_sorted, Has-permutation}
+use Rattle.lines.proofs.SortedLists.{Up, up_from_sorted, Has-permutation}
 use Rattle.theory.specs.Lists.{Has, gathered}
 use Rattle.theory.specs.Topology.{forms_of}
 use Rattle.theory.proofs.ListsOfLists.{Has-map, map_has, Has-gathered, gathered_from, get_has}

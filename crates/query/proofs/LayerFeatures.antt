@@ -11,7 +11,7 @@ use Rattle.std.specs.declared.cmp.Ordering.{Ordering}
 use Rattle.std.specs.declared.cmp.Ordering.TheVariants.{Less, Equal, Greater}
 use Rattle.grid.specs.declared.pos.Pos.{Pos}
 use Rattle.lines.specs.Turned.{position_cmp}
-use Rattle.lines.proofs.Positions.{position_total, position_same}
+use Rattle.lines.specs.Positions.{position_total, position_same}
 use Rattle.shapes.specs.Maps.{Layers, Features, features_at}
 use Rattle.shapes.specs.Parts.{spelled_text}
 use Rattle.shapes.specs.Sets as set
@@ -31,7 +31,7 @@ use Rattle.topo.specs.Parts.{IsOfLayerNamed, LayerParts, TopologyParts}
 use Rattle.topo.specs.declared.geom.Geom.{Geom}
 use Rattle.query.specs.declared.fault.QueryFault.{QueryFault}
 use Rattle.query.specs.declared.fault.QueryFault.TheVariants.{NoLayer, OutOfMemory as WantOfMemory}
-use Rattle.topo.proofs.AtEntry.{at_entry, found}
+use Rattle.shapes.proofs.Entries.{at_entry, found}
 use Rattle.topo.proofs.Sound.{are_sound}
 
 partner : {A B : Type 0} (R : A → B → Type 0) (xs : List A) (ys : List B) → Pairwise R xs ys → (x : A) → Has x xs → (y : B) × Has y ys × R x y

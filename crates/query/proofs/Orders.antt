@@ -5,7 +5,7 @@ use Rattle.std.specs.FinMap.{IsAntisymmetric, nat_cmp-IsAntisymmetric}
 use Rattle.std.specs.Ordering.{eq_by_cmp, nat_cmp, ordering_then, MatchOrdering}
 use Rattle.std.specs.declared.cmp.Ordering.{Ordering}
 use Rattle.std.specs.declared.cmp.Ordering.TheVariants.{Less, Equal, Greater}
-use Rattle.lines.proofs.Positions.{then_equal}
+use Rattle.lines.specs.Positions.{then_equal}
 use Rattle.query.specs.declared.uses.Use.{Use}
 use Rattle.query.specs.declared.sharing.Pair.{Pair}
 use Rattle.query.specs.contracts.uses.UsePartialEq.TheImpl as use_eq

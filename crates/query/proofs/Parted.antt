@@ -3,12 +3,12 @@ use Rattle.std.proofs.Common.{◌≡◌, ℕ, Bool, true, false, cond, List, [],
 use Rattle.grid.specs.declared.pos.Pos.{Pos}
 use Rattle.lines.specs.Turned.{position_cmp}
 use Rattle.chains.specs.Arcs.{Arcs}
-use Rattle.chains.specs.Pairs.{among}
+use Rattle.chains.specs.Among.{among}
 use Rattle.chains.specs.Seen.{geometry_of}
 use Rattle.chains.specs.Table.{IsTableOf}
 use Rattle.chains.specs.Joined.{AmongSegments, StopAt, MeetsTwo, IsChainOver, AreMaximal, AreParted}
 use Rattle.chains.specs.declared.segment.Segment.{Segment}
-use Rattle.chains.proofs.Equality.{both_true, bool_split, true_false}
+use Rattle.lines.proofs.Positions.{both_true, bool_split, true_false}
 use Rattle.theory.specs.Chain.{Chain}
 use Rattle.theory.specs.Geometry.{Geometry, IsSound, SegmentOf, JunctionOf, AtMost}
 use Rattle.theory.specs.Lists.{Beside, EndOf, Has, Passes, last_of}

@@ -7,11 +7,12 @@ use Rattle.theory.specs.Geometry.{Geometry, IsSound}
 use Rattle.theory.specs.Segments.{OnTwo, TwoSegments}
 use Rattle.lines.specs.Turned.{position_cmp}
 use Rattle.grid.specs.declared.pos.Pos.{Pos}
-use Rattle.chains.specs.Pairs.{position_eq, among}
+use Rattle.lines.specs.Pairs.{position_eq}
+use Rattle.chains.specs.Among.{among}
 use Rattle.chains.specs.Arcs.{Arcs}
 use Rattle.chains.specs.Joined.{StopAt}
 use Rattle.chains.specs.Table.{IsTableOf}
-use Rattle.chains.proofs.Equality.{position_tied, tied_position, position_true, true_position, true_false}
+use Rattle.lines.proofs.Positions.{position_tied, tied_position, position_true, true_position, true_false}
 use Rattle.query.specs.declared.ends.End.{End}
 use Rattle.query.specs.declared.stops.Sides.{Sides}
 use Rattle.query.specs.declared.stops.Sides.TheVariants.{One, Two, More}

@@ -17,7 +17,7 @@ none_left (x ∷ xs) zero k = absurd (omega (arith, k))
 none_left (x ∷ xs) (suc i) k = none_left xs i (omega (arith, k))
 
 among_push : (u v : Pos) (l : List Segment) (s : Segment) →
-    AmongSegments u v (l ++ (s ∷ [])) ↔ (AmongSegments u v l ⊎ (((u ≡ s.lesser) × (v ≡ s.greater)) ⊎ ((u ≡ s.greater) × (v ≡ s.lesser))))
+    AmongSegments u v (l ++ (s ∷ [])) ↔ (AmongSegments u v l ⊎ (((u ≡ s.ends.lesser) × (v ≡ s.ends.greater)) ⊎ ((u ≡ s.ends.greater) × (v ≡ s.ends.lesser))))
 among_push u v [] s = ((λ h. elim h [ inl k ↦ inr k | inr z ↦ absurd z ]), (λ h. elim h [ inl z ↦ absurd z | inr k ↦ inl k ]))
 among_push u v (t ∷ l) s =
     let r = among_push u v l s in (
@@ -34,24 +34,24 @@ put_segment a b l new s is n e u v =
       (λ h. subst (AmongSegments u v) (sym e) (r.1 (elim h [ inl k ↦ inl k | inr k ↦ inr (from is k) ]))),
     )
   where
-    to : IsBetween a b s → ((u ≡ s.lesser) × (v ≡ s.greater)) ⊎ ((u ≡ s.greater) × (v ≡ s.lesser)) → Joins a b u v
+    to : IsBetween a b s → ((u ≡ s.ends.lesser) × (v ≡ s.ends.greater)) ⊎ ((u ≡ s.ends.greater) × (v ≡ s.ends.lesser)) → Joins a b u v
     to (inl p) k =
-        let x : s.lesser ≡ a = ap (λ w. w.0) p in
-        let y : s.greater ≡ b = ap (λ w. w.1) p in
+        let x : s.ends.lesser ≡ a = ap (λ w. w.0) p in
+        let y : s.ends.greater ≡ b = ap (λ w. w.1) p in
         (n, elim k [ inl q ↦ inl (q.0 ∙ x, q.1 ∙ y) | inr q ↦ inr (q.0 ∙ y, q.1 ∙ x) ])
     to (inr p) k =
-        let x : s.lesser ≡ b = ap (λ w. w.0) p in
-        let y : s.greater ≡ a = ap (λ w. w.1) p in
+        let x : s.ends.lesser ≡ b = ap (λ w. w.0) p in
+        let y : s.ends.greater ≡ a = ap (λ w. w.1) p in
         (n, elim k [ inl q ↦ inr (q.0 ∙ x, q.1 ∙ y) | inr q ↦ inl (q.0 ∙ y, q.1 ∙ x) ])
 
-    from : IsBetween a b s → Joins a b u v → ((u ≡ s.lesser) × (v ≡ s.greater)) ⊎ ((u ≡ s.greater) × (v ≡ s.lesser))
+    from : IsBetween a b s → Joins a b u v → ((u ≡ s.ends.lesser) × (v ≡ s.ends.greater)) ⊎ ((u ≡ s.ends.greater) × (v ≡ s.ends.lesser))
     from (inl p) k =
-        let x : s.lesser ≡ a = ap (λ w. w.0) p in
-        let y : s.greater ≡ b = ap (λ w. w.1) p in
+        let x : s.ends.lesser ≡ a = ap (λ w. w.0) p in
+        let y : s.ends.greater ≡ b = ap (λ w. w.1) p in
         elim k.1 [ inl q ↦ inl (q.0 ∙ sym x, q.1 ∙ sym y) | inr q ↦ inr (q.0 ∙ sym y, q.1 ∙ sym x) ]
     from (inr p) k =
-        let x : s.lesser ≡ b = ap (λ w. w.0) p in
-        let y : s.greater ≡ a = ap (λ w. w.1) p in
+        let x : s.ends.lesser ≡ b = ap (λ w. w.0) p in
+        let y : s.ends.greater ≡ a = ap (λ w. w.1) p in
         elim k.1 [ inl q ↦ inr (q.0 ∙ sym y, q.1 ∙ sym x) | inr q ↦ inl (q.0 ∙ sym x, q.1 ∙ sym y) ]
 
 -- none between equal positions

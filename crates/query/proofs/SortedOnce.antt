@@ -10,7 +10,7 @@ use Rattle.std.specs.declared.cmp.Ordering.{Ordering}
 use Rattle.std.specs.declared.cmp.Ordering.TheVariants.{Less, Equal, Greater}
 use Rattle.std.proofs.lemmas.List.Filters.{dedup_is}
 use Rattle.std.proofs.lemmas.List.Sorted.{IsPermutation-sym}
-use Rattle.chains.proofs.SortedLists.{Up, up_from_sorted, Has-permutation}
+use Rattle.lines.proofs.SortedLists.{Up, up_from_sorted, Has-permutation}
 use Rattle.theory.specs.Arcs.{Ascends, AreSortedOnce}
 use Rattle.theory.specs.Lists.{Has}
 use Rattle.theory.proofs.Ascending.{at_most_less, at_most_same}

@@ -3,7 +3,7 @@ use Rattle.std.proofs.Common.{◌≡◌, ℕ, List, [], ◌∷◌, ◌⊎◌, in
 use Rattle.std.proofs.lemmas.List.{reverse-reverse}
 use Rattle.grid.specs.declared.pos.Pos.{Pos}
 use Rattle.lines.specs.Turned.{position_cmp}
-use Rattle.lines.proofs.Positions.{position_total, position_same}
+use Rattle.lines.specs.Positions.{position_total, position_same}
 use Rattle.chains.specs.Arcs.{Arcs}
 use Rattle.chains.specs.Table.{IsTableOf}
 use Rattle.theory.specs.Geometry.{AtMost, Geometry, IsChainOf, IsSound, JunctionOf, SegmentOf}

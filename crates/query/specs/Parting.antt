@@ -2,7 +2,7 @@
 use Rattle.std.specs.Prelude.{Bool, false, cond, ◌&&◌, ℕ, List, [], ◌∷◌, ◌++◌}
 use Rattle.theory.specs.Lists.{last_of}
 use Rattle.grid.specs.declared.pos.Pos.{Pos}
-use Rattle.chains.specs.Pairs.{among}
+use Rattle.chains.specs.Among.{among}
 use Rattle.topo.specs.Points.{arc_at}
 
 -- whether an arc begins and ends with a stop

@@ -2,7 +2,7 @@
 ghost use Rattle.std.specs.Prelude.{◌≡◌, IfOk, OnOk, None, false, List};
 ghost use Rattle.grid.specs.declared.pos.Pos.{Pos};
 ghost use Rattle.theory.specs.Geometry.{Geometry, IsSound};
-ghost use Rattle.chains.specs.Pairs.{among};
+ghost use Rattle.chains.specs.Among.{among};
 ghost use Rattle.chains.specs.Table.{IsTableOf};
 ghost use Rattle.query.specs.Stops.{halts, sided, noted, noted_all, sides_in, stop_step, stop_all, AreHalts};
 

@@ -1,19 +1,10 @@
 -- Positions out of numbers.
-use Rattle.std.proofs.Common.{◌≡◌, ℤ, pos, negsuc, ◌≤ℤ◌, min, refl, sym, ap, ◌∙◌, arith, FitsSigned, to_z, of_z, w64}
+use Rattle.std.proofs.Common.{◌≡◌, ℤ, pos, negsuc, refl, sym, ap, ◌∙◌, arith, FitsSigned, to_z, of_z, w64}
 use Rattle.std.proofs.lemmas.Int.{ints, fits_signed_from_abs, to_z-of_z}
-use Rattle.grid.specs.Place.{IsGridNumber, IsGridNumber-prop}
+use Rattle.grid.specs.Fits.{one_position}
+use Rattle.grid.specs.Place.{IsGridNumber}
 use Rattle.grid.specs.declared.pos.Pos.{Pos}
 use Rattle.reading.specs.Positions.{clamped, position_at}
-use mathlib.Core.HLevel.{is_prop→PathP}
-
--- equal numbers make one position
-pub one_place : (p q : Pos) → p.x ≡ q.x → p.y ≡ q.y → p ≡ q
-one_place p q e f i = record {
-  x = e i;
-  y = f i;
-  across = is_prop→PathP (λ j. IsGridNumber (e j)) (λ j. IsGridNumber-prop (e j)) p.across q.across i;
-  along = is_prop→PathP (λ j. IsGridNumber (f j)) (λ j. IsGridNumber-prop (f j)) p.along q.along i;
-}
 
 pub clamped-same : (n : ℤ) → IsGridNumber n → clamped n ≡ n
 clamped-same (pos n) h = ap pos (grind (arith, ints, h.high))
@@ -21,7 +12,7 @@ clamped-same (negsuc n) h = ap negsuc (grind (arith, ints, h.low))
 
 pub position_is : (q : Pos) (x y : ℤ) → q.x ≡ x → q.y ≡ y → IsGridNumber x → IsGridNumber y → q ≡ position_at x y
 unfolding position_at
-position_is q x y e f h k = one_place q (position_at x y) (e ∙ sym (clamped-same x h)) (f ∙ sym (clamped-same y k))
+position_is q x y e f h k = one_position q (position_at x y) (e ∙ sym (clamped-same x h)) (f ∙ sym (clamped-same y k))
 
 pub position_itself : (q : Pos) → q ≡ position_at q.x q.y
 position_itself q = position_is q q.x q.y refl refl q.across q.along

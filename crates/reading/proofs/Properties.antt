@@ -1,18 +1,18 @@
 -- Properties that were judged.
-use Rattle.std.proofs.Common.{◌≡◌, Bool, true, false, not, nat_le, List, [], ◌∷◌, ◌++◌, Option, Some, None, is_some, if◌then◌else◌, refl, sym, ap, subst, arith, All, Contains}
-use Rattle.std.specs.Prelude.{codes}
+use Rattle.std.proofs.Common.{◌≡◌, Bool, true, false, not, nat_le, List, [], ◌∷◌, ◌++◌, Option, Some, None, is_some, if◌then◌else◌, refl, sym, ap, subst, arith, All}
 use Rattle.serde_json.specs.Data.{Data, null, boolean, number, string, array, object, depth}
 use Rattle.serde_json.specs.Find.{as_null}
-use Rattle.serde_json.specs.Written.{has_float, compact_text}
+use Rattle.serde_json.specs.Written.{has_float}
 use Rattle.faults.specs.Fault.{Pair, pair_of}
 use Rattle.faults.specs.declared.fault.Fault.{Fault}
 use Rattle.faults.specs.declared.fault.FaultKind.TheVariants as kind
+use Rattle.shapes.specs.declared.nesting.TheConstants.{GREATEST_PROPERTY_DEPTH}
 use Rattle.shapes.specs.PropertyFaults.{property_fault}
 use Rattle.shapes.specs.declared.props.PropFault.{PropFault}
 use Rattle.shapes.specs.declared.props.PropFault.TheVariants.{WrongKind, PropertyNumber, PropertyDepth, OutOfMemory}
 use Rattle.std.proofs.lemmas.List.Elements.{All-cons, All-nil}
 use Rattle.reading.specs.Fault.{here, IsUpto, IsLeast, LeastOrWant}
-use Rattle.reading.specs.Info.{properties_faults, properties_kind, properties_of}
+use Rattle.reading.specs.Info.{properties_faults, properties_kind}
 use Rattle.reading.proofs.Least.{least_here, from_want}
 
 abbrev object_fault : Bool → Bool → Option PropFault
@@ -32,7 +32,7 @@ properties_ok (boolean b) e = cc
 properties_ok (number n) e = cc
 properties_ok (string s) e = cc
 properties_ok (array ds) e = cc
-properties_ok (object ms) e = object_ok (has_float (object ms)) (not (nat_le (depth (object ms)) 64)) e
+properties_ok (object ms) e = object_ok (has_float (object ms)) (not (nat_le (depth (object ms)) GREATEST_PROPERTY_DEPTH)) e
 
 abbrev told_as : PropFault → Pair
 told_as f = record { path = []; kind = properties_kind f }
@@ -55,7 +55,7 @@ fault_least (boolean b) WrongKind there e = least_here kind.WrongKind
 fault_least (number n) WrongKind there e = least_here kind.WrongKind
 fault_least (string s) WrongKind there e = least_here kind.WrongKind
 fault_least (array ds) WrongKind there e = least_here kind.WrongKind
-fault_least (object ms) f there e = object_least (has_float (object ms)) (not (nat_le (depth (object ms)) 64)) f e
+fault_least (object ms) f there e = object_least (has_float (object ms)) (not (nat_le (depth (object ms)) GREATEST_PROPERTY_DEPTH)) f e
 fault_least d f there e = cc
 
 least_of : (d : Data) (f : PropFault) (told : Fault) → is_some (as_null d) ≡ false → property_fault d ≡ Some f → pair_of told ≡ told_as f → LeastOrWant (properties_faults d) told

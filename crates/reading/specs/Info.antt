@@ -1,11 +1,12 @@
 -- Ids and properties.
-use Rattle.std.specs.Prelude.{◌≡◌, ℕ, ℤ, pos, List, [], ◌++◌, Option, not, nat_le, is_some, unwrap_or, codes, if◌then◌else◌}
+use Rattle.std.specs.Prelude.{◌≡◌, ℕ, pos, List, [], ◌++◌, not, nat_le, is_some, unwrap_or, codes, if◌then◌else◌}
 use Rattle.serde_json.specs.Data.{Data, null, boolean, number, string, array, object, depth}
 use Rattle.serde_json.specs.Find.{get, as_null, as_i64}
 use Rattle.serde_json.specs.Written.{has_float, compact_text}
 use Rattle.faults.specs.Fault.{Pair}
 use Rattle.faults.specs.declared.fault.FaultKind.TheVariants.{WrongKind, NotWhole, PropertyNumber, PropertyDepth, OutOfMemory}
 use Rattle.faults.specs.declared.fault.FaultKind.{FaultKind}
+use Rattle.shapes.specs.declared.nesting.TheConstants.{GREATEST_PROPERTY_DEPTH}
 use Rattle.shapes.specs.declared.props.PropFault as props
 use Rattle.shapes.specs.declared.props.PropFault.TheVariants as of
 use Rattle.reading.specs.Fault.{here}
@@ -27,9 +28,9 @@ id_faults (object ms) = here WrongKind
 abbrev pub number_in_faults : Data → List Pair
 number_in_faults d = if has_float d then here PropertyNumber else []
 
--- containers nest deeper than 64
+-- containers nest too deep
 abbrev pub depth_faults : Data → List Pair
-depth_faults d = if not (nat_le (depth d) 64) then here PropertyDepth else []
+depth_faults d = if not (nat_le (depth d) GREATEST_PROPERTY_DEPTH) then here PropertyDepth else []
 
 -- properties are null or an object
 abbrev pub properties_faults : Data → List Pair

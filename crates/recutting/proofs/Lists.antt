@@ -8,7 +8,7 @@ use Rattle.theory.specs.Topology.{IsRingList}
 use Rattle.theory.proofs.ProvedLaws.{pieces_in_place, ring_replaced_and_turned}
 use Rattle.grid.specs.declared.pos.Pos.{Pos}
 use Rattle.lines.specs.Turned.{position_cmp}
-use Rattle.chains.proofs.Equality.{position_total, position_same}
+use Rattle.lines.specs.Positions.{position_total, position_same}
 
 order : IsOrder position_cmp
 order = record { total = position_total; same = position_same }

@@ -11,7 +11,8 @@ use Rattle.theory.proofs.RefinementLaws.{pieces_unique}
 use Rattle.grid.specs.declared.pos.Pos.{Pos}
 use Rattle.lines.specs.Turned.{position_cmp}
 use Rattle.chains.specs.Arcs.{Arcs}
-use Rattle.chains.proofs.Equality.{position_total, position_same, position_dec}
+use Rattle.lines.specs.Positions.{position_total, position_same}
+use Rattle.lines.proofs.Positions.{position_dec}
 use Rattle.chains.proofs.TablesAsMap.{union_sound}
 use Rattle.recutting.specs.Laws.{ArcsOfOneArc, HaveOnePieces, IsOfOneArc, JunctionsOfBoth, NoOtherArcs, OnePieces}
 

@@ -19,7 +19,7 @@ use Rattle.theory.proofs.TurnedLists.{one_rotation}
 use Rattle.grid.specs.declared.pos.Pos.{Pos}
 use Rattle.lines.specs.Turned.{position_cmp}
 use Rattle.chains.specs.Table.{same_list}
-use Rattle.chains.proofs.Equality.{position_total, position_same}
+use Rattle.lines.specs.Positions.{position_total, position_same}
 use Rattle.chains.proofs.Places.{along_found}
 
 -- a list that is found among others is one of them

@@ -20,7 +20,8 @@ use Rattle.chains.specs.Pieces.{chain_of, line_pieces, ring_pieces}
 use Rattle.chains.specs.Table.{same_list, is_loop, located, ArePiecesOfMap, IsTableOf}
 use Rattle.chains.specs.declared.cutting.Piece.{Piece}
 use Rattle.chains.proofs.ArcsCut.{table_alike}
-use Rattle.chains.proofs.Equality.{position_total, position_same, position_dec}
+use Rattle.lines.specs.Positions.{position_total, position_same}
+use Rattle.lines.proofs.Positions.{position_dec}
 use Rattle.chains.proofs.Places.{along_found}
 use Rattle.chains.proofs.TableOfMap.{are_pieces, line_list, ring_list}
 use Rattle.chains.proofs.TablesAsMap.{open_has, has_open, loop_has, has_loop, told, free_loop, tables_sound, tables_alike}

@@ -19,7 +19,7 @@ use Rattle.shapes.specs.OrderLaws.{feature_cmp_total, same_feature, same_text}
 use Rattle.shapes.specs.declared.feature.Feature.{Feature}
 use Rattle.reading.specs.Meant.{AreFeatures, AreLayers}
 use Rattle.reading.specs.Plain.{Plain, plain}
-use Rattle.topo.proofs.AtEntry.{found, at_entry}
+use Rattle.shapes.proofs.Entries.{found, at_entry}
 
 -- ---- members by their order
 

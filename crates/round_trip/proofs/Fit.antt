@@ -25,7 +25,7 @@ use Rattle.reading.proofs.Fits.{all_has}
 use Rattle.chains.specs.Seen.{line_of, ring_of, form_of, item_of, layer_of, seen, geometry_of}
 use Rattle.topo.specs.Box.{widened, box_from, box_of}
 use Rattle.topo.specs.Parts.{Corners}
-use Rattle.topo.proofs.AtEntry.{at_entry}
+use Rattle.shapes.proofs.Entries.{at_entry}
 use Rattle.shapes.specs.Ids.{IsI64}
 use Rattle.compact.proofs.Numbers.{IsI64-between}
 use Rattle.round_trip.proofs.Entries.{holds_item}

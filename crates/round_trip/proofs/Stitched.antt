@@ -5,7 +5,7 @@ use Rattle.std.proofs.lemmas.Option.{slice_get_within, get_or_from_slice_get}
 use Rattle.std.specs.Ordering.{int_eq}
 use Rattle.faults.specs.Fault.{Pair}
 use Rattle.grid.specs.declared.pos.Pos.{Pos}
-use Rattle.lines.specs.Segments.{position_eq}
+use Rattle.lines.specs.Pairs.{position_eq}
 use Rattle.theory.specs.ArcNumbers.{ArcRef, index_of, along, StitchFrom, StitchTo}
 use Rattle.theory.specs.Lists.{Has, last_of}
 use Rattle.theory.proofs.ArcNumbers.{along_get}
@@ -13,7 +13,8 @@ use Rattle.theory.proofs.Lists.{append_nil, last_join}
 use Rattle.reading.specs.Fault.{unless_faulty}
 use Rattle.reading.specs.Numbers.{whole_of}
 use Rattle.reading.specs.Parts.{list_faults}
-use Rattle.topo_io.specs.Arcs.{known, arc_number, no_arc_faults, index_faults, used_arc, used_arcs, same_as, meets, stitched_onto, stitched, stitched_faults, stitching_faults, stitched_of, list_or_none}
+use Rattle.topo_io.specs.Arcs.{known, no_arc_faults, index_faults, used_arc, used_arcs, same_as, meets, stitched_onto, stitched, stitched_faults, stitching_faults, stitched_of, list_or_none}
+use Rattle.topo_io.proofs.Indexes.{number_of_index, along_index}
 use Rattle.topo_io.proofs.Stitching.{stitched_passed}
 use Rattle.compact.specs.Good.{Good}
 use Rattle.shapes.specs.Ids.{IsI64}
@@ -25,19 +26,11 @@ use Rattle.round_trip.specs.Values.{index_data}
 
 -- ---- the arc of an index
 
-by_direction : (arcs : List (List Pos)) (b : Bool) (n : ℕ) → used_arc arcs (cond b (negsuc n) (pos n)) ≡ cond b (reverse (get_or arcs n [])) (get_or arcs n [])
-by_direction arcs true n = refl
-by_direction arcs false n = refl
-
 used_is : (arcs : List (List Pos)) (a : ArcRef) (c : List Pos) → along arcs a ≡ Some c → used_arc arcs (index_of a) ≡ c
 used_is arcs a c e =
     let (d, there, is) = along_get arcs a c e in
     let at : get_or arcs a.arc [] ≡ d = get_or_from_slice_get arcs a.arc d [] there in
-    by_direction arcs a.reversed a.arc ∙ ap (λ w. cond a.reversed (reverse w) w) at ∙ sym is
-
-number_by_direction : (b : Bool) (n : ℕ) → arc_number (cond b (negsuc n) (pos n)) ≡ n
-number_by_direction true n = refl
-number_by_direction false n = refl
+    sym (along_index arcs a (index_of a) refl) ∙ ap (λ w. cond a.reversed (reverse w) w) at ∙ sym is
 
 I64-by_direction : (b : Bool) (n : ℕ) → n < 2 ^ 63 → IsI64 (cond b (negsuc n) (pos n))
 I64-by_direction true n h = h
@@ -104,7 +97,7 @@ module _ (arcs : List (List Pos)) where
     index_I64 a h = I64-by_direction a.reversed a.arc (omega (arith, few, h))
 
     index_none : (a : ArcRef) → a.arc < length arcs → no_arc_faults (length arcs) (index_of a) ≡ []
-    index_none a h = rw (number_by_direction a.reversed a.arc, lt-ltb _ _ h)
+    index_none a h = rw (number_of_index a (index_of a) refl, lt-ltb _ _ h)
 
     used_back : (used : List ArcRef) → ((a : ArcRef) → Has a used → a.arc < length arcs) → used_arcs arcs (list_data index_data used) ≡ lists_of used
     used_back used h = elements_mean index_data (λ i. used_arc arcs (whole_of i)) (λ a. used_arc arcs (index_of a)) used (λ a k. ap (used_arc arcs) (whole_of-integer (index_of a) (index_I64 a (h a k))))

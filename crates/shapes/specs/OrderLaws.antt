@@ -1,5 +1,5 @@
 -- The laws of the order of features.
-use Rattle.std.proofs.Common.{◌≡◌, ℕ, ℤ, List, [], ◌∷◌, Bool, true, false, cond, refl, sym, ◌∙◌, ap, subst, rules}
+use Rattle.std.proofs.Common.{◌≡◌, ℕ, ℤ, List, [], ◌∷◌, true, refl, sym, ◌∙◌, ap, subst, rules}
 use Rattle.std.specs.Cmp.{IsTotalOrder, then_total, on_total, nat_cmp_total, int_cmp_total, Equal-is, eq_by_cmp_equiv}
 use Rattle.std.specs.Ordering.{eq_by_cmp}
 use Rattle.std.specs.Prelude.{◌↔◌}
@@ -12,9 +12,9 @@ use Rattle.std.specs.declared.cmp.Ordering.{Ordering}
 use Rattle.std.specs.declared.cmp.Ordering.TheVariants.{Less, Equal, Greater}
 use Rattle.std.specs.Ordering.{ordering_then, int_cmp, nat_cmp}
 use Rattle.std.specs.Cmp.Lexicographic.{slice_cmp, lists_total, nat_list_cmp_total}
+use Rattle.lines.specs.Positions.{position_total, then_equal, position_same}
 use Rattle.lines.specs.Turned.{position_cmp, list_cmp, IsLeastRotation-prop}
 use Rattle.shapes.specs.Order.{line_cmp, ring_cmp}
-use Rattle.grid.specs.Place.{IsGridNumber, IsGridNumber-prop}
 use Rattle.grid.specs.declared.pos.Pos.{Pos}
 use Rattle.lines.specs.declared.line.Line as the_line
 use Rattle.lines.specs.declared.ring.Ring as the_ring
@@ -33,9 +33,6 @@ use Rattle.json.specs.Tree.{json_tokens}
 use Rattle.serde_json.specs.Written.{outline}
 use Rattle.shapes.specs.declared.shape.Id.TheVariants.{None, Number, Text}
 use Rattle.shapes.specs.declared.shape.Shape.TheVariants.{Null, Point, MultiPoint, Line, MultiLine, Polygon, MultiPolygon}
-
-position_total : IsTotalOrder position_cmp
-position_total = then_total (on_total (λ (p : Pos). p.x) int_cmp_total) (on_total (λ (p : Pos). p.y) int_cmp_total)
 
 -- what ties with nothing behind it
 then_nothing : (x : Ordering) → ordering_then x Equal ≡ x
@@ -121,27 +118,8 @@ pub feature_cmp_total : IsTotalOrder feature_cmp
 unfolding feature_cmp
 feature_cmp_total = then_total (on_total (λ f. f.id) id_cmp_total) (then_total (on_total (λ f. f.props.text) nat_list_cmp_total) (on_total (λ f. f.shape) shape_cmp_total))
 
-then_equal : (a b : Ordering) → ordering_then a b ≡ Equal → (a ≡ Equal) × (b ≡ Equal)
-then_equal Less b e = cc
-then_equal Equal b e = (refl, e)
-then_equal Greater b e = cc
-
--- equal numbers make one position
-pub one_position : (p q : Pos) → p.x ≡ q.x → p.y ≡ q.y → p ≡ q
-one_position p q e f i = record {
-  x = e i;
-  y = f i;
-  across = is_prop→PathP (λ j. IsGridNumber (e j)) (λ j. IsGridNumber-prop (e j)) p.across q.across i;
-  along = is_prop→PathP (λ j. IsGridNumber (f j)) (λ j. IsGridNumber-prop (f j)) p.along q.along i;
-}
-
-pub same_position : IsAntisymmetric position_cmp
-same_position p q e =
-    let both = then_equal (int_cmp p.x q.x) (int_cmp p.y q.y) e in
-    one_position p q (int_cmp-IsAntisymmetric p.x q.x both.0) (int_cmp-IsAntisymmetric p.y q.y both.1)
-
 pub same_list : IsAntisymmetric list_cmp
-same_list = slice_cmp-IsAntisymmetric same_position
+same_list = slice_cmp-IsAntisymmetric position_same
 
 pub same_text : IsAntisymmetric (slice_cmp nat_cmp)
 same_text = slice_cmp-IsAntisymmetric nat_cmp-IsAntisymmetric
@@ -188,7 +166,7 @@ same_id a b e = cc
 
 pub same_shape : IsAntisymmetric shape_cmp
 same_shape Null Null e = refl
-same_shape (Point p) (Point q) e = ap Point (same_position p q e)
+same_shape (Point p) (Point q) e = ap Point (position_same p q e)
 same_shape (MultiPoint ps) (MultiPoint qs) e = ap MultiPoint (same_list ps qs e)
 same_shape (Line k) (Line l) e = ap Line (same_line k l e)
 same_shape (MultiLine ks) (MultiLine ls) e = ap MultiLine (slice_cmp-IsAntisymmetric same_line ks ls e)

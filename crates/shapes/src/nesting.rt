@@ -6,6 +6,10 @@ ghost use Rattle.serde_json.specs.Written.{has_float, items_have_float, members_
 
 use serde_json::{Map, Value};
 
+/// How deep the containers of properties may nest, in containers, the object itself counting one (the
+/// limit is this project's).
+pub const GREATEST_PROPERTY_DEPTH: usize = 64;
+
 /// Whether some number inside is neither an i64 nor a u64.
 #[cycle(float)]
 pub fn has_fraction(value: &Value) -> bool

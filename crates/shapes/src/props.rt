@@ -7,18 +7,15 @@ ghost use Rattle.json.specs.Token.{tokens_code};
 ghost use Rattle.json.specs.Tree.{json_tokens};
 ghost use Rattle.serde_json.specs.Written.{outline};
 
-use crate::nesting::{has_fraction, nests_within};
+use crate::nesting::{GREATEST_PROPERTY_DEPTH, has_fraction, nests_within};
 use faults::OutOfMemory;
 use lines::text::Text;
 use serde_json::Value;
 use std::alloc::{AllocError, Global};
 use thiserror::Error;
 
-/// How deep the containers of properties may nest, the object itself counting one.
-pub const MAX_DEPTH: usize = 64;
-
 /// The properties of a feature: a JSON object, kept as its compact text.
-/// All numbers are whole and its containers nest at most 64 deep.
+/// All numbers are whole and its containers nest at most `GREATEST_PROPERTY_DEPTH` deep.
 /// Equality and order are those of the text, by its bytes.
 #[derive(PartialEq, Eq, PartialOrd, Ord, Drop, Debug)]
 pub struct Props {
@@ -36,7 +33,7 @@ pub enum PropFault {
     /// Some number inside is neither an i64 nor a u64.
     #[error("a number in properties that is not whole")]
     PropertyNumber,
-    /// Containers nest deeper than 64.
+    /// Containers nest deeper than `GREATEST_PROPERTY_DEPTH`.
     #[error("properties that nest too deep")]
     PropertyDepth,
     /// A growth of memory was refused.
@@ -64,7 +61,7 @@ impl Props {
         if has_fraction(value) {
             return Err(PropFault::PropertyNumber);
         }
-        if !nests_within(value, MAX_DEPTH) {
+        if !nests_within(value, GREATEST_PROPERTY_DEPTH) {
             return Err(PropFault::PropertyDepth);
         }
         match value.to_string(alloc) {

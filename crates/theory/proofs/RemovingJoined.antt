@@ -1,22 +1,18 @@
 -- Arcs joined of kept ones are the arcs of what is left, and the joined ones are their pieces.
-use Rattle.std.proofs.Common.{◌≡◌, ◌≤◌, ℕ, Bool, true, false, cond, List, [], ◌∷◌, ◌++◌, length, reverse, ◌⊎◌, inl, inr, refl, sym, ap, ◌∙◌, subst, arith, append_assoc, Some}
-use Rattle.std.proofs.lemmas.Cmp.{lists_total}
-use Rattle.std.proofs.lemmas.List.{append-nil, reverse-reverse}
+use Rattle.std.proofs.Common.{◌≡◌, ◌≤◌, ℕ, Bool, true, false, cond, List, [], ◌∷◌, ◌++◌, length, ◌⊎◌, inl, inr, refl, sym, ap, ◌∙◌, subst, arith, append_assoc, Some}
+use Rattle.std.proofs.lemmas.List.{append-nil}
 use Rattle.std.specs.Cmp.{IsTotalOrder}
-use Rattle.std.specs.Cmp.Lexicographic.{slice_cmp}
-use Rattle.std.specs.FinMap.{IsAntisymmetric, slice_cmp-IsAntisymmetric}
+use Rattle.std.specs.FinMap.{IsAntisymmetric}
 use Rattle.std.specs.declared.cmp.Ordering.{Ordering}
-use Rattle.std.specs.declared.cmp.Ordering.TheVariants.{Less}
 use Rattle.theory.proofs.ArcNumbers.{along_used, taken_of}
 use Rattle.theory.proofs.ArcsAsMap.{alike_back, arcs_same, chain_alike, three_map, turned_alike}
 use Rattle.theory.proofs.ArcsOfMap.{passes, stops}
-use Rattle.theory.proofs.Ascending.{at_most_same, both_less}
-use Rattle.theory.proofs.Chains.{all_chains}
 use Rattle.theory.proofs.ClosedLists.{around_steps}
+use Rattle.theory.proofs.CoveringChains.{covering_arcs}
 use Rattle.theory.proofs.Junctions.{junction_law, line_visit}
 use Rattle.theory.proofs.Lists.{Has-append, Has-append_left, Has-append_right, Steps-left, Steps-right, last-snoc, last_join, last_or_inner, last_step}
 use Rattle.theory.proofs.OneTopology.{along_chain}
-use Rattle.theory.proofs.Pieces.{SegmentOf-flip, line_pieces, ring_loop, two_segments_of}
+use Rattle.theory.proofs.Pieces.{line_pieces, ring_loop}
 use Rattle.theory.proofs.RefinementLaws.{pairwise_at, pairwise_used, part_junction, part_segment}
 use Rattle.theory.proofs.RemovingKept.{kept_laws, kept_stays, part_sound}
 use Rattle.theory.proofs.Reversing.{same_beside}
@@ -415,27 +411,9 @@ module _ {V : Type 0} (cmp : V → V → Ordering) (o : IsTotalOrder cmp) (same 
                   (subst (λ z. Beside p q (closed z)) t.4 (to_closed p q r b))),
             )
 
-    lo : IsTotalOrder (slice_cmp cmp)
-    lo = lists_total o
-
-    lsame : IsAntisymmetric (slice_cmp cmp)
-    lsame = slice_cmp-IsAntisymmetric same
-
     -- the joined arcs are those of what is left
     pub joined_arcs : AreArcsOf cmp g arcs
-    joined_arcs = record {
-      sorted = joined.sorted;
-      arcs_only = λ c h. record { chain = arc_chain c h; forward = joined.forward c h };
-      all_arcs = λ c k.
-          let t = all_chains (SegmentOf g) (JunctionOf g) (AtMost cmp) (SegmentOf-flip g sg dec) (two_segments_of g sg dec) (at_most_same cmp o same)
-          (λ d. Has d arcs) arc_chain covered c k.chain in
-          elim t.2 [
-            | inl e ↦ subst (λ z. Has z arcs) e t.1
-            | inr e ↦ absurd (both_less (slice_cmp cmp) lo lsame c (reverse c) k.forward
-                (subst (λ z. slice_cmp cmp (reverse c) z ≡ Less) (reverse-reverse c)
-                (subst (λ z. slice_cmp cmp z (reverse z) ≡ Less) e (joined.forward t.0 t.1))))
-          ];
-    }
+    joined_arcs = covering_arcs cmp o same dec g sg arcs joined.sorted joined.forward arc_chain covered
 
     -- and the old arcs that they were joined of are their pieces
     pub joined_pieces : IsRefinementOf cmp g u arcs table pieces

@@ -5,8 +5,9 @@ use Rattle.std.specs.FinMap.{IsAntisymmetric}
 use Rattle.std.specs.declared.cmp.Ordering.{Ordering}
 use Rattle.theory.proofs.ArcNumbers.{along_flipped}
 use Rattle.theory.proofs.ArcsOfMap.{are_arcs}
+use Rattle.theory.proofs.CoveringChains.{begins_along}
 use Rattle.theory.proofs.Junctions.{junction_law}
-use Rattle.theory.proofs.Lists.{last_join, step_from}
+use Rattle.theory.proofs.Lists.{last_join}
 use Rattle.theory.proofs.ListsOfLists.{get_has}
 use Rattle.theory.proofs.OneTopology.{arcs_unique}
 use Rattle.theory.proofs.Pieces.{SegmentOf-flip}
@@ -22,7 +23,7 @@ use Rattle.theory.specs.ArcNumbers.{ArcRef, StitchFrom, StitchTo, along, flipped
 use Rattle.theory.specs.Arcs.{AreArcsOf, IsArcOf}
 use Rattle.theory.specs.Chain.{Free}
 use Rattle.theory.specs.Geometry.{AtMost, Geometry, IsChainOf, IsLineOf, IsRingOf, IsSound, JunctionOf, SegmentOf}
-use Rattle.theory.specs.Lists.{Begins, Beside, EndOf, Passes, Steps, front_of, last_of}
+use Rattle.theory.specs.Lists.{Beside, EndOf, Passes, Steps, front_of, last_of}
 use Rattle.theory.specs.Refinement.{IsPartOf}
 use Rattle.theory.specs.Removing.{EndBeside, IsKept, IsLineEnd, KeptLaws, ThreeMeet}
 use Rattle.theory.specs.Segments.{OnThree}
@@ -102,27 +103,15 @@ module _ {V : Type 0} (cmp : V → V → Ordering) (o : IsTotalOrder cmp) (same 
     (λ t. kept_stays t.0 t.1 t.2 t.3 a b t.4),
   )
 
-  -- an arc begins along each segment at a junction
-  begins : (c : List V) → IsChainOf cmp u c → (v p : V) → JunctionOf u v → Steps v p c → (q : List V) × (c ≡ v ∷ (p ∷ q))
-  begins [] k v p j s = absurd s
-  begins (x ∷ r) k v p j s = elim (step_from x v p r s) [
-    | inl h ↦ (let t = head r h.1 in (t.0, ap (λ w. w ∷ r) (sym h.0) ∙ ap (λ w. v ∷ w) t.1))
-    | inr h ↦ absurd (k.inner_free h.0 v p h.1 j)
-  ]
-    where
-      head : (r : List V) → Begins p r → (q : List V) × (r ≡ p ∷ q)
-      head [] b = absurd b
-      head (y ∷ q) b = (q, ap (λ w. w ∷ q) (sym b))
-
   -- at a junction of the whole map, a segment that stays begins a kept arc
   pub arc_from : (v p : V) → JunctionOf u v → SegmentOf g v p → EndBeside Kept table v p
   arc_from v p j s =
       let t = (segments v p).0 s in
       let k : IsChainOf cmp u t.1 = chain_of t.0 t.1 t.3 in
       elim t.4 [
-        | inl h ↦ (let q = begins t.1 k v p j h in
+        | inl h ↦ (let q = begins_along cmp u t.1 k v p j h in
             (record { arc = t.0; reversed = false }, t.2, q.0, ap (option_map (λ c. cond false (reverse c) c)) t.3 ∙ ap Some q.1))
-        | inr h ↦ (let q = begins (reverse t.1) (IsChain-reverse (SegmentOf u) (JunctionOf u) (AtMost cmp) (SegmentOf-flip u su dec) t.1 k) v p j (Steps-reverse p v t.1 h) in
+        | inr h ↦ (let q = begins_along cmp u (reverse t.1) (IsChain-reverse (SegmentOf u) (JunctionOf u) (AtMost cmp) (SegmentOf-flip u su dec) t.1 k) v p j (Steps-reverse p v t.1 h) in
             (record { arc = t.0; reversed = true }, t.2, q.0, ap (option_map (λ c. cond true (reverse c) c)) t.3 ∙ ap Some q.1))
       ]
 

@@ -1,17 +1,16 @@
 -- Arcs that stand are the arcs of the map that they make: its segments are in one arc each, once.
 use Rattle.std.proofs.Common.{◌≡◌, ◌≤◌, List, [], ◌∷◌, ◌++◌, length, reverse, inl, inr, refl, sym, subst, arith}
 use Rattle.std.proofs.lemmas.Cmp.{lists_total}
-use Rattle.std.proofs.lemmas.List.{length-append, reverse-reverse}
+use Rattle.std.proofs.lemmas.List.{length-append}
 use Rattle.std.specs.Cmp.{IsTotalOrder}
 use Rattle.std.specs.Cmp.Lexicographic.{slice_cmp}
 use Rattle.std.specs.FinMap.{IsAntisymmetric, slice_cmp-IsAntisymmetric}
 use Rattle.std.specs.declared.cmp.Ordering.{Ordering}
 use Rattle.std.specs.declared.cmp.Ordering.TheVariants.{Less}
-use Rattle.theory.proofs.Ascending.{at_most_same, at_most_self, both_less, less_at_most, less_self}
-use Rattle.theory.proofs.Chains.{all_chains}
+use Rattle.theory.proofs.Ascending.{at_most_self, less_at_most, less_self}
 use Rattle.theory.proofs.ClosedLists.{around_steps, closed_passes, closed_steps}
+use Rattle.theory.proofs.CoveringChains.{covering_arcs}
 use Rattle.theory.proofs.Lists.{last-snoc}
-use Rattle.theory.proofs.Pieces.{SegmentOf-flip, two_segments_of}
 use Rattle.theory.proofs.StandingLists.{Has-snoc, Simple, Simple-Trail, middle_has, simple}
 use Rattle.theory.specs.Arcs.{AreArcsOf}
 use Rattle.theory.specs.Geometry.{AtMost, Geometry, IsChainOf, IsLineOf, IsRingOf, IsSound, JunctionOf, SegmentOf}
@@ -131,16 +130,4 @@ module _ {V : Type 0} (cmp : V → V → Ordering) (o : IsTotalOrder cmp) (same 
 
   -- they are the arcs of their map
   pub are_arcs : AreArcsOf cmp a arcs
-  are_arcs = record {
-    sorted = st.sorted;
-    arcs_only = λ c h. record { chain = arc_chain c h; forward = st.forward c h };
-    all_arcs = λ c k.
-        let t = all_chains (SegmentOf a) (JunctionOf a) (AtMost cmp) (SegmentOf-flip a sound dec) (two_segments_of a sound dec) (at_most_same cmp o same)
-        (λ d. Has d arcs) arc_chain covered c k.chain in
-        elim t.2 [
-          | inl e ↦ subst (λ w. Has w arcs) e t.1
-          | inr e ↦ absurd (both_less (slice_cmp cmp) lo lsame c (reverse c) k.forward
-              (subst (λ w. slice_cmp cmp (reverse c) w ≡ Less) (reverse-reverse c)
-              (subst (λ w. slice_cmp cmp w (reverse w) ≡ Less) e (st.forward t.0 t.1))))
-        ];
-  }
+  are_arcs = covering_arcs cmp o same dec a sound arcs st.sorted st.forward arc_chain covered

@@ -10,8 +10,9 @@ use Rattle.std.specs.declared.cmp.Ordering.TheVariants.{Less}
 use Rattle.theory.proofs.ArcNumbers.{taken_of, to_from}
 use Rattle.theory.proofs.ArcsAsMap.{arcs_alike, kind}
 use Rattle.theory.proofs.Ascending.{at_most_less, less_self}
+use Rattle.theory.proofs.CoveringChains.{begins_along}
 use Rattle.theory.proofs.Junctions.{junction_law}
-use Rattle.theory.proofs.Lists.{Has-append_left, front-snoc, step_from}
+use Rattle.theory.proofs.Lists.{Has-append_left, front-snoc}
 use Rattle.theory.proofs.ListsOfLists.{Has-gathered, gathered_from, get_has, map_has}
 use Rattle.theory.proofs.OneTopology.{along_chain}
 use Rattle.theory.proofs.Pieces.{SegmentOf-flip}
@@ -32,7 +33,7 @@ use Rattle.theory.specs.Arcs.{AreArcsOf, Ascends}
 use Rattle.theory.specs.Chain.{Free, SameArc}
 use Rattle.theory.specs.Geometry.{AtMost, Geometry, IsChainOf, IsLineOf, IsRingOf, IsSound, JunctionOf, SegmentOf}
 use Rattle.theory.specs.LinesAndRings.{closed}
-use Rattle.theory.specs.Lists.{Begins, Beside, Distinct, EndOf, Has, Passes, Steps, gathered, last_of}
+use Rattle.theory.specs.Lists.{Beside, Distinct, EndOf, Has, Passes, Steps, gathered, last_of}
 use Rattle.theory.specs.Refinement.{Alike, AreArcsAsMap, IsUnionOf, LoopArc, OpenArc, arcs_as_map, turned_used, unclosed}
 use Rattle.theory.specs.Segments.{OnThree}
 use Rattle.theory.specs.Standing.{ArcsApart, ArcsStand, InLayers, IsListOfLine, IsReadGeometry, IsReadLayer, IsReadRing, ThreeBegin, TopologyStands}
@@ -195,26 +196,14 @@ module _ {V : Type 0} (cmp : V → V → Ordering) (o : IsTotalOrder cmp) (same 
       none [] st e = absurd cc
       none (b ∷ used) st e = absurd cc
 
-  -- an arc begins along each segment at a junction
-  begins : (c : List V) → IsChainOf cmp g c → (v p : V) → JunctionOf g v → Steps v p c → (q : List V) × (c ≡ v ∷ (p ∷ q))
-  begins [] k v p j s = absurd s
-  begins (x ∷ r) k v p j s = elim (step_from x v p r s) [
-    | inl h ↦ (let t = head r h.1 in (t.0, ap (λ w. w ∷ r) (sym h.0) ∙ ap (λ w. v ∷ w) t.1))
-    | inr h ↦ absurd (k.inner_free h.0 v p h.1 j)
-  ]
-    where
-      head : (r : List V) → Begins p r → (q : List V) × (r ≡ p ∷ q)
-      head [] b = absurd b
-      head (y ∷ q) b = (q, ap (λ w. w ∷ q) (sym b))
-
   arc_from : (v p : V) → JunctionOf g v → SegmentOf g v p → (b : ArcRef) × (q : List V) × (along arcs b ≡ Some (v ∷ (p ∷ q)))
   arc_from v p j s =
       let t = (segments_once cmp o same dec g sg arcs all).in_an_arc v p s in
       let k : IsChainOf cmp g t.1 = chain_of t.1 (get_has arcs t.0 t.1 t.2) in
       elim t.3 [
-        | inl h ↦ (let q = begins t.1 k v p j h in
+        | inl h ↦ (let q = begins_along cmp g t.1 k v p j h in
             (record { arc = t.0; reversed = false }, q.0, ap (option_map (λ c. cond false (reverse c) c)) t.2 ∙ ap Some q.1))
-        | inr h ↦ (let q = begins (reverse t.1) (IsChain-reverse (SegmentOf g) (JunctionOf g) (AtMost cmp) (SegmentOf-flip g sg dec) t.1 k) v p j (Steps-reverse p v t.1 h) in
+        | inr h ↦ (let q = begins_along cmp g (reverse t.1) (IsChain-reverse (SegmentOf g) (JunctionOf g) (AtMost cmp) (SegmentOf-flip g sg dec) t.1 k) v p j (Steps-reverse p v t.1 h) in
             (record { arc = t.0; reversed = true }, q.0, ap (option_map (λ c. cond true (reverse c) c)) t.2 ∙ ap Some q.1))
       ]
 

@@ -37,7 +37,7 @@ use Rattle.topo.specs.Building.{form_pieces, layer_pieces, line_used, ring_used,
 use Rattle.topo.specs.OfMap.{ArePartsOf, body_of, item_of, layer_of}
 use Rattle.topo.specs.Parts.{LayerParts}
 use Rattle.topo.proofs.Sound.{are_sound}
-use Rattle.topo.proofs.AtEntry.{at_entry}
+use Rattle.shapes.proofs.Entries.{at_entry}
 
 module _ {A : Type 0} (B : A → List Pos) (u : A → List ArcRef) (R : List Pos → List ArcRef → Type 0) where
   pairs : (xs : List A) → ((x : A) → Has x xs → R (B x) (u x)) → Pairwise R (map_list B xs) (map_list u xs)

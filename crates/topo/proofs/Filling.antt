@@ -14,7 +14,7 @@ use Rattle.shapes.specs.Sets as set
 use Rattle.shapes.specs.SetLaws.{contains-empty, contains-insert, contains-items, or-false, or_groups, or_swaps, same_set}
 use Rattle.shapes.specs.declared.feature.Feature.{Feature}
 use Rattle.topo.specs.Features.{with_features}
-use Rattle.topo.proofs.AtEntry.{above, apart, left, right}
+use Rattle.shapes.proofs.Entries.{above, apart, left, right}
 
 abbrev Name : Type 0
 Name = List ℕ

@@ -6,7 +6,6 @@ pub mod OfParts
 pub mod ArcsLeft
 pub mod Gathered
 pub mod Located
-pub mod AtEntry
 pub mod BuiltParts
 pub mod TopologyLaws
 pub mod LayersNamed

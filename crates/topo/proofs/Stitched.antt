@@ -30,7 +30,7 @@ use Rattle.topo.specs.Walked.{walked}
 use Rattle.topo.specs.declared.geom.Body as bodies
 use Rattle.topo.specs.declared.geom.Body.TheVariants as to
 use Rattle.topo.specs.declared.geom.Geom.{Geom}
-use Rattle.topo.proofs.AtEntry.{at_entry}
+use Rattle.shapes.proofs.Entries.{at_entry}
 use Rattle.topo.proofs.Pairs.{Pairwise-mapped, Pairwise-weaker, pair_of}
 use Rattle.topo.proofs.Walks.{walked_stitched}
 

@@ -4,7 +4,8 @@ use Rattle.grid.specs.Place.{Transform}
 use Rattle.lines.specs.Turned.{position_cmp}
 use Rattle.shapes.specs.Maps.{Layers}
 use Rattle.chains.specs.Seen.{seen}
-use Rattle.chains.proofs.Equality.{position_total, position_same, position_dec}
+use Rattle.lines.specs.Positions.{position_total, position_same}
+use Rattle.lines.proofs.Positions.{position_dec}
 use Rattle.theory.proofs.OneTopology.{topology_unique}
 use Rattle.theory.proofs.TopologyExists.{topology_exists}
 use Rattle.topo.specs.Box.{box_of}

@@ -1,5 +1,6 @@
 pub mod Comparing
 pub mod Arcs
+pub mod Indexes
 pub mod Parts
 pub mod Steps
 pub mod Stitching

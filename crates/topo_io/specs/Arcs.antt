@@ -1,11 +1,12 @@
 -- Faults and meaning of arcs, and of lists of indexes of arcs.
-use Rattle.std.specs.Prelude.{◌≡◌, ℕ, ℤ, pos, negsuc, List, [], ◌∷◌, ◌++◌, length, map, reverse, get_or, slice_get, ◌-◌, Option, Some, None, Bool, true, cond, nat_lt, if◌then◌else◌}
+use Rattle.std.specs.Prelude.{ℕ, ℤ, pos, negsuc, List, [], ◌∷◌, ◌++◌, length, map, reverse, get_or, slice_get, ◌-◌, Option, Some, None, Bool, true, cond, nat_lt, if◌then◌else◌}
 use Rattle.serde_json.specs.Data.{Data}
 use Rattle.serde_json.specs.Find.{as_array}
-use Rattle.lines.specs.Segments.{position_eq}
+use Rattle.lines.specs.Pairs.{position_eq}
 use Rattle.faults.specs.Fault.{Pair}
 use Rattle.faults.specs.declared.fault.FaultKind.TheVariants.{TooShort, NoArc, Broken}
 use Rattle.grid.specs.declared.pos.Pos.{Pos}
+use Rattle.theory.specs.ArcNumbers.{ArcRef}
 use Rattle.reading.specs.Fault.{here, unless_faulty}
 use Rattle.reading.specs.Parts.{array_faults, list_faults, elements}
 use Rattle.reading.specs.Scan.{scan_faults}
@@ -13,7 +14,6 @@ use Rattle.reading.specs.Numbers.{element_faults, whole_of}
 use Rattle.reading.specs.Outlines.{line_faults, ring_faults, line_of, ring_of}
 use Rattle.topo_io.specs.Limits.{Sums, sums_at, step_faults, next_sums, place_of}
 use Rattle.topo_io.specs.declared.reader.position.Limits.{Limits}
-use Rattle.topo_io.specs.declared.reader.used_arc.UsedArc.{UsedArc}
 
 -- ---- arcs
 
@@ -67,7 +67,7 @@ index_faults (counted n) d = element_faults (no_arc_faults n) d
 index_faults (known arcs) d = element_faults (no_arc_faults (length arcs)) d
 
 -- an arc by its number, in its direction or reversed
-abbrev pub along : List (List Pos) → UsedArc → List Pos
+abbrev pub along : List (List Pos) → ArcRef → List Pos
 along arcs u = cond u.reversed (reverse (get_or arcs u.arc [])) (get_or arcs u.arc [])
 
 -- ---- stitching

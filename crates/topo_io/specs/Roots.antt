@@ -1,5 +1,5 @@
 -- Faults and meaning of the text of a topology.
-use Rattle.std.specs.Prelude.{◌≡◌, ℕ, ℤ, pos, negsuc, int_le, ◌≤ℤ◌, List, [], ◌∷◌, ◌++◌, length, ◌&&◌, Option, Some, None, Result, Ok, Err, codes, if◌then◌else◌}
+use Rattle.std.specs.Prelude.{◌≡◌, ℕ, ℤ, pos, int_le, ◌≤ℤ◌, List, [], ◌∷◌, ◌++◌, length, ◌&&◌, Option, Some, None, Result, Ok, Err, codes, if◌then◌else◌}
 use Rattle.std.specs.Str.{bytes_eq}
 use Rattle.serde_json.specs.Data.{Data, Items, Members, no_members, member}
 use Rattle.serde_json.specs.Find.{get, as_array, as_object}
@@ -8,6 +8,7 @@ use Rattle.faults.specs.Fault.{Pair}
 use Rattle.faults.specs.declared.fault.FaultKind.{FaultKind}
 use Rattle.faults.specs.declared.fault.FaultKind.TheVariants.{UnknownType, OutOfRange, NoTransform}
 use Rattle.grid.specs.Place.{Transform, scaling}
+use Rattle.grid.specs.declared.limits.TheConstants.{LEAST_SCALE, GREATEST_SCALE, LEAST_TRANSLATION, GREATEST_TRANSLATION}
 use Rattle.grid.specs.declared.pos.Pos.{Pos}
 use Rattle.reading.specs.Fault.{here, under}
 use Rattle.reading.specs.Parts.{IsPair, pair_faults, list_faults, elements, member_faults, object_faults, members_faults, typed_faults, named, type_text}
@@ -30,10 +31,10 @@ abbrev pub both_faults : ℤ → ℤ → Data → List Pair
 both_faults least greatest = pair_faults (element_faults (within_faults least greatest)) (element_faults (within_faults least greatest))
 
 abbrev pub scale_faults : Data → List Pair
-scale_faults = both_faults (pos 1) (pos 1000000)
+scale_faults = both_faults LEAST_SCALE GREATEST_SCALE
 
 abbrev pub translate_faults : Data → List Pair
-translate_faults = both_faults (negsuc 999999999999) (pos 1000000000000)
+translate_faults = both_faults LEAST_TRANSLATION GREATEST_TRANSLATION
 
 abbrev pub transform_members : Data → List Pair
 transform_members d = member_faults (codes "scale") scale_faults d ++ member_faults (codes "translate") translate_faults d

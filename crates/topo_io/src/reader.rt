@@ -27,7 +27,6 @@ pub mod stitching;
 #[cfg(test)]
 mod tests;
 pub mod transform;
-pub mod used_arc;
 
 use crate::reader::arc::ArcOf;
 use crate::reader::geometry::Ground;

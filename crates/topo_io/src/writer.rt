@@ -5,7 +5,6 @@ ghost use Rattle.std.specs.Fmt.{signed_decimal};
 ghost use Rattle.sinks.specs.Texts.{list_text, joined, option_text};
 ghost use Rattle.sinks.specs.Writes.{TookAll, TookPart};
 ghost use Rattle.shapes.specs.Parts.{spelled_text, properties_text};
-ghost use Rattle.theory.specs.ArcNumbers.{index_of};
 ghost use Rattle.grid.specs.Place.{IsTransform};
 ghost use Rattle.topo.specs.OfMap.{body_of, item_of, layer_of, seen_parts};
 ghost use Rattle.topo_io.specs.TopologyText.{position_text, difference_text, differences_text, arc_positions, arc_text, index_text, content_text, type_text, properties_member, geometry_text, layer_text, bbox_text, transform_of, transform_text, topology_text};
@@ -116,16 +115,8 @@ impl Notation<ArcRef> for Indexes {
 
     fn write_value<W: Sink>(&self, value: &ArcRef, sink: &mut W) -> Result<(), WriteFault> {
         let mut buffer = Buffer::new();
-        put(sink, buffer.format(wide_index(*value)).as_bytes())
+        put(sink, buffer.format(value.wide_index()).as_bytes())
     }
-}
-
-// The index of any used arc: the numbers of arcs may pass an i64.
-fn wide_index(used: ArcRef) -> i128
-    ensures { result ≡ index_of used }
-{
-    let number = used.arc as i128;
-    if used.reversed { -1 - number } else { number }
 }
 
 /// The member `coordinates` or `arcs` and a comma.

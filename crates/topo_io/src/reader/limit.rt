@@ -6,14 +6,15 @@ ghost use Rattle.reading.specs.Fault.{LeastOrWant};
 ghost use Rattle.topo_io.specs.Limits.{allows, limit_faults, difference_faults, moved};
 
 use faults::fault::{Fault, FaultKind};
+use grid::limits::{GREATEST_GRID_NUMBER, LEAST_GRID_NUMBER};
 use grid::transform::Axis;
 use reading::number::whole_number;
 use reading::part::Part;
 use serde_json::Value;
 use std::alloc::Global;
 
-/// Grid numbers are within this, either side of 0.
-const LIMIT: i64 = 1_099_511_627_776;
+/// No difference of two grid numbers is greater, in steps of the grid.
+const GREATEST_DIFFERENCE: i64 = GREATEST_GRID_NUMBER - LEAST_GRID_NUMBER;
 
 /// Whether a number is within the limits of grid numbers and, where the transform has no fault, of
 /// absolute numbers.
@@ -22,7 +23,7 @@ fn is_allowed(axis: &Option<Axis>, n: i64) -> bool
 {
     match axis {
         Some(axis) => axis.fits(n),
-        None => -LIMIT <= n && n <= LIMIT,
+        None => LEAST_GRID_NUMBER <= n && n <= GREATEST_GRID_NUMBER,
     }
 }
 
@@ -33,10 +34,10 @@ fn sum_within(alloc: Global, axis: &Option<Axis>, from: i64, a: i64) -> Result<i
     ensures inside { IfOk result IsGridNumber }
     ensures err { IfErr result (λ f. LeastOrWant (limit_faults axis.now (Some from) a) f) }
 {
-    if a < -2_199_023_255_552 {
+    if a < -GREATEST_DIFFERENCE {
         return Err(Fault::here(alloc, FaultKind::OutOfRange));
     }
-    if a > 2_199_023_255_552 {
+    if a > GREATEST_DIFFERENCE {
         return Err(Fault::here(alloc, FaultKind::OutOfRange));
     }
     let sum = from + a;

@@ -1,7 +1,7 @@
 //! Lists of indexes of arcs, and what they stitch to (TopoJSON, section 2.1.4).
 ghost use Rattle.std.specs.Prelude.{◌≡◌, ◌≢◌, [], ◌∷◌, ◌++◌, List, map, reverse, length, true, false, Some, None, IfOk, IfErr, OnOk};
 ghost use Rattle.serde_json.specs.View.{view};
-ghost use Rattle.lines.specs.Segments.{position_eq};
+ghost use Rattle.lines.specs.Pairs.{position_eq};
 ghost use Rattle.lines.specs.Seen.{positions_of, vertices_of};
 ghost use Rattle.grid.specs.declared.pos.Pos.{Pos};
 ghost use Rattle.faults.specs.Fault.{Pair, IsWant};
@@ -9,9 +9,9 @@ ghost use Rattle.faults.specs.declared.fault.FaultKind.TheVariants.{OutOfMemory,
 ghost use Rattle.reading.specs.Fault.{LeastOrWant, here, unless_faulty};
 ghost use Rattle.reading.specs.Parts.{list_faults};
 ghost use Rattle.reading.specs.Numbers.{whole_of};
-ghost use Rattle.topo_io.specs.Arcs.{known, arc_number as number_of_arc, used_arc, along, no_arc_faults, index_faults, meets, onto, stitched, stitched_faults, stitching_faults, used_arcs, stitched_of, line_list_faults, ring_list_faults, line_at, ring_at};
+ghost use Rattle.topo_io.specs.Arcs.{known, used_arc, along, no_arc_faults, index_faults, meets, onto, stitched, stitched_faults, stitching_faults, used_arcs, stitched_of, line_list_faults, ring_list_faults, line_at, ring_at};
 
-use crate::reader::used_arc::UsedArc;
+use chains::ArcRef;
 use faults::fault::{Fault, FaultKind};
 use grid::pos::Pos;
 use lines::items::Items;
@@ -23,47 +23,34 @@ use reading::part::{Part, keep, read_list};
 use serde_json::Value;
 use std::alloc::Global;
 
-/// An index: `i` for arc `i`, its one's complement for arc `i` reversed.
+/// An index of one of the arcs.
 #[derive(Clone, Copy)]
 pub struct IndexOf<'a> {
     pub arcs: &'a [Items<Pos>],
 }
 
-/// The number of the arc that an index names.
-fn arc_number(index: i64) -> usize
-    ensures { result ≡ number_of_arc index }
-{
-    if index < 0 {
-        (-(index + 1)) as usize
-    } else {
-        index as usize
-    }
-}
-
-fn used(alloc: Global, count: usize, index: i64) -> Result<UsedArc, Fault>
+#[tactic(auto, using(crate::proofs::Indexes::number_of_index, crate::proofs::Indexes::along_index))]
+fn used(alloc: Global, count: usize, index: i64) -> Result<ArcRef, Fault>
     ensures ok { OnOk result (no_arc_faults count index ≡ []) }
     ensures made { IfOk result (λ u. (arcs : List (List Pos)) → along arcs u ≡ used_arc arcs index) }
     ensures err { IfErr result (λ f. LeastOrWant (no_arc_faults count index) f) }
 {
-    let arc = arc_number(index);
-    if arc < count {
-        Ok(UsedArc {
-            arc,
-            reversed: index < 0,
-        })
+    let used = ArcRef::from_index(index);
+    if used.arc < count {
+        Ok(used)
     } else {
         Err(Fault::here(alloc, FaultKind::NoArc))
     }
 }
 
 impl Part for IndexOf<'_> {
-    type Made = UsedArc;
+    type Made = ArcRef;
 
     ghost faults = { λ p. index_faults (known p.arcs.now) };
 
     ghost means = { λ p d u. along p.arcs.now u ≡ used_arc p.arcs.now (whole_of d) };
 
-    fn read(&self, alloc: Global, value: &Value) -> Result<UsedArc, Fault> {
+    fn read(&self, alloc: Global, value: &Value) -> Result<ArcRef, Fault> {
         match whole_number(value) {
             Ok(index) => used(alloc, self.arcs.len(), index),
             Err(kind) => Err(Fault::here(alloc, kind)),
@@ -153,7 +140,7 @@ fn append_used(
     alloc: Global,
     list: &mut Vec<Pos>,
     arcs: &[Items<Pos>],
-    used: UsedArc,
+    used: ArcRef,
 ) -> Result<(), Fault>
     ensures meets { OnOk result (meets list.old.items (along arcs.now used) ≡ true) }
     ensures ok { OnOk result (list.new.items ≡ onto list.old.items (along arcs.now used)) }
@@ -173,7 +160,7 @@ fn append_used(
 }
 
 /// The arcs one after the other, one of two equal ends dropped.
-fn stitch(alloc: Global, arcs: &[Items<Pos>], used: &[UsedArc]) -> Result<Vec<Pos>, Fault>
+fn stitch(alloc: Global, arcs: &[Items<Pos>], used: &[ArcRef]) -> Result<Vec<Pos>, Fault>
     ensures made { IfOk result (λ l. stitched (map (along arcs.now) used.now) ≡ Some l.items) }
     ensures err { IfErr result (λ f. (of : List Pos → List Pair) → LeastOrWant (stitched_faults of (stitched (map (along arcs.now) used.now))) f) }
 {

@@ -8,6 +8,7 @@ ghost use Rattle.grid.specs.Place.{IsScale, IsTranslation, scaling, transform as
 ghost use Rattle.topo_io.specs.Roots.{within_faults, both_faults, IsWithin, AreBoth, transform_members, transform_faults, transform_of};
 
 use faults::fault::{Fault, FaultKind};
+use grid::limits::{GREATEST_SCALE, GREATEST_TRANSLATION, LEAST_SCALE, LEAST_TRANSLATION};
 use grid::transform::Grid;
 use reading::number::whole_number;
 use reading::part::{Part, read_member, read_pair};
@@ -90,14 +91,14 @@ fn read_members(alloc: Global, value: &Value) -> Result<Grid, Fault>
 {
     let scale = Both {
         of: Within {
-            least: 1,
-            greatest: 1_000_000,
+            least: LEAST_SCALE,
+            greatest: GREATEST_SCALE,
         },
     };
     let translate = Both {
         of: Within {
-            least: -1_000_000_000_000,
-            greatest: 1_000_000_000_000,
+            least: LEAST_TRANSLATION,
+            greatest: GREATEST_TRANSLATION,
         },
     };
     let (sx, sy) = read_member(alloc, &scale, value, "scale")?;

@@ -1,6 +1,6 @@
 use Rattle.std.proofs.Common.{◌≡◌, ◌<◌, ◌++◌, map, drop, slice_range}
 use Rattle.theory.specs.Cutting.{cut_from}
-use Rattle.chains.specs.Pairs.{among}
+use Rattle.chains.specs.Among.{among}
 use Rattle.chains.specs.Pieces.{oriented, line_pieces}
 use Rattle.chains.proofs.cutting.cut.Given as goal
 

@@ -1,5 +1,5 @@
 use Rattle.std.proofs.Common.{map}
-use Rattle.chains.specs.Pairs.{among}
+use Rattle.chains.specs.Among.{among}
 use Rattle.chains.specs.Pieces.{line_pieces, used, cut_list, ArePieces}
 use Rattle.chains.proofs.Oriented.{used_all}
 use Rattle.chains.proofs.Cuts.{line_is_cut}

@@ -1,5 +1,5 @@
 use Rattle.std.proofs.Common.{map}
-use Rattle.chains.specs.Pairs.{among}
+use Rattle.chains.specs.Among.{among}
 use Rattle.chains.specs.Pieces.{ring_pieces, used, ring_parts, ArePieces}
 use Rattle.chains.proofs.Oriented.{used_all}
 use Rattle.chains.proofs.Cuts.{ring_is_cut}

@@ -1,6 +1,6 @@
 use Rattle.std.proofs.Common.{map, ap, sym, ◌∙◌}
 use Rattle.chains.specs.Pieces.{oriented}
-use Rattle.chains.specs.Pairs.{among}
+use Rattle.chains.specs.Among.{among}
 use Rattle.chains.proofs.Cuts.{none_to_cut}
 use Rattle.chains.proofs.cutting.ring_cut.Goals as goal
 

@@ -2,7 +2,7 @@ use Rattle.std.proofs.Common.{◌∙◌, ◌+◌, ◌<◌, true, sym, ap, subst,
 use Rattle.std.proofs.lemmas.List.{length-set, drop_all}
 use Rattle.chains.proofs.Dealt.{one_dealt}
 use Rattle.chains.proofs.Slices.{drop_item}
-use Rattle.chains.specs.Pairs.{among}
+use Rattle.chains.specs.Among.{among}
 use Rattle.chains.proofs.slots.slots_of.Goals as goal
 
 pub loop-position-init : goal.loop-position-init

@@ -1,6 +1,6 @@
 use Rattle.std.proofs.Common.{◌≡◌, true, false, drop, length, get_or}
 use Rattle.grid.specs.declared.pos.Pos.{Pos}
-use Rattle.chains.specs.Pairs.{among}
+use Rattle.chains.specs.Among.{among}
 use Rattle.chains.specs.Slots.{slot_of}
 use Rattle.chains.proofs.slots.slots_of.Given as goal
 

@@ -1,0 +1,75 @@
+"""Runs the examples of the documents as they are printed there, and compares what they print.
+
+    python3 tests/documents.py [DOCUMENT...]
+
+An example is a line that begins with `$ `, in a fenced block or indented by four spaces, and the lines below
+it. They run in turn at the top of the repository, `topotool` being crates/topotool/out/topotool, which has to
+be built before; files that they name relatively are made in a folder of this run. Ends with a line of counts,
+and with status 1 where an example prints something else.
+"""
+
+import os
+import re
+import subprocess
+import sys
+import tempfile
+
+TOP = os.path.dirname(os.path.dirname(os.path.abspath(__file__)))
+PROGRAM = os.environ.get("TOPOTOOL", f"{TOP}/crates/topotool/out/topotool")
+DOCUMENTS = ["README.md", "docs/FAULTS.md"]
+
+
+def examples(text):
+    """Gives each command with the lines that it is to print."""
+    command, printed, fenced = None, [], False
+    for line in text.split("\n"):
+        is_fence = line.startswith("```")
+        inside = line if fenced else line[4:] if line.startswith("    ") else None
+        if is_fence or inside is None or inside.startswith("$ "):
+            if command is not None:
+                yield command, printed
+            command, printed = None, []
+        if is_fence:
+            fenced = not fenced
+        elif inside is not None and inside.startswith("$ "):
+            command = inside[2:]
+        elif inside is not None and command is not None:
+            printed.append(inside)
+
+
+def run(command, folder):
+    """Returns what a command of a document prints, on either output."""
+    path = f"{os.path.dirname(PROGRAM)}:{os.environ['PATH']}"
+    ran = subprocess.run(["bash", "-c", command], cwd=folder, env={**os.environ, "PATH": path},
+                         stdin=subprocess.DEVNULL, stdout=subprocess.PIPE, stderr=subprocess.STDOUT, text=True)
+    return [it for it in re.sub(r"\n\Z", "", ran.stdout).split("\n") if it or ran.stdout]
+
+
+def tried(document, folder):
+    """Runs the examples of a document; returns how many there are, and how many print something else."""
+    with open(f"{TOP}/{document}", encoding="utf-8") as file:
+        found = [*examples(file.read())]
+    wrong = 0
+    for command, printed in found:
+        got = run(command, folder)
+        if got != printed and not (got == [] and printed == []):
+            wrong += 1
+            print(f"{document}: $ {command}\n  is to print {printed}\n  and printed {got}")
+    return len(found), wrong
+
+
+def main(documents):
+    if not os.path.isfile(PROGRAM):
+        sys.exit(f"{PROGRAM} is not there: rt run in crates/topotool builds it")
+    count = wrong = 0
+    with tempfile.TemporaryDirectory() as folder:
+        os.symlink(f"{TOP}/examples", f"{folder}/examples")
+        for document in documents:
+            more, bad = tried(document, folder)
+            count, wrong = count + more, wrong + bad
+    print(f"{count} examples, {wrong} wrong")
+    return 1 if wrong else 0
+
+
+if __name__ == "__main__":
+    sys.exit(main(sys.argv[1:] or DOCUMENTS))

@@ -1,0 +1,150 @@
+"""Runs every command on topologies that were hurt at random: bytes, members and elements changed.
+
+    python3 tests/hurt_texts.py [--seed N] [--texts N]
+
+Each run has to end with status 0, 1 (`check` alone) or 4; with 4 nothing is printed, and standard error has one
+line; all commands refuse the same texts, for the same fault; and what `merge` prints is canonical by `check`, and
+is printed again by a second merge. Ends with a line of counts, and with status 1 where a run did anything else.
+"""
+
+import argparse
+import json
+import os
+import random
+import subprocess
+import sys
+import tempfile
+from concurrent.futures import ThreadPoolExecutor
+
+TOP = os.path.dirname(os.path.dirname(os.path.abspath(__file__)))
+PROGRAM = os.environ.get("TOPOTOOL", f"{TOP}/crates/topotool/out/topotool")
+LOOP = {"type": "FeatureCollection", "features": [
+    {"type": "Feature", "id": "loop", "geometry": {"type": "Polygon", "coordinates": [[[0, 0], [2, 0], [0, 2], [0, 0]]]}, "properties": {"n": 1}},
+    {"type": "Feature", "geometry": {"type": "LineString", "coordinates": [[2, 0], [3, 0]]}, "properties": {}},
+    {"type": "Feature", "id": 7, "geometry": {"type": "MultiPoint", "coordinates": [[1, 1], [1, 1]]}, "properties": {"a": [None, True]}}]}
+
+
+def topotool(*words, given=None):
+    return subprocess.run([PROGRAM, *words], input=given, capture_output=True)
+
+
+def whole_texts(folder):
+    """The texts that are hurt: canonical ones, and the same in the spelling of another tool."""
+    with open(f"{folder}/loop.json", "w", encoding="utf-8") as file:
+        json.dump(LOOP, file)
+    builds = [("1,1,0,0", f"{TOP}/examples/squares.json"), ("10,10,0,0", f"{TOP}/examples/west.json"), ("1,1,0,0", f"{folder}/loop.json")]
+    texts = [topotool("build", "--grid", grid, f"a={file}").stdout for grid, file in builds]
+    return texts + [json.dumps({it: json.loads(text)[it] for it in ("type", "transform", "objects", "arcs")}).encode() for text in texts]
+
+
+def hurt_bytes(chance, text):
+    """A byte replaced, removed, doubled or swapped with another, or all behind it cut off."""
+    bytes_, at = bytearray(text), chance.randrange(len(text))
+    kind = chance.randrange(5)
+    if kind == 0:
+        bytes_[at] = chance.choice(b'\0\xff"{}[],:0123456789-.eE tfn\\/')
+    elif kind == 1:
+        del bytes_[at]
+    elif kind == 2:
+        bytes_.insert(at, bytes_[at])
+    elif kind == 3:
+        other = chance.randrange(len(text))
+        bytes_[at], bytes_[other] = bytes_[other], bytes_[at]
+    else:
+        del bytes_[at:]
+    return bytes(bytes_)
+
+
+def places(value):
+    """Each place of a value: what holds it, and its name or index there."""
+    for key in value if isinstance(value, dict) else range(len(value)):
+        yield value, key
+        if isinstance(value[key], (dict, list)):
+            yield from places(value[key])
+
+
+def hurt_value(chance, text):
+    """Two members or elements exchanged, one taken away or doubled, or a number moved."""
+    value = json.loads(text)
+    found = [*places(value)]
+    holder, key = chance.choice(found)
+    kind = chance.randrange(4)
+    if kind == 0:
+        other, there = chance.choice(found)
+        copy = json.loads(json.dumps([holder[key], other[there]]))
+        holder[key] = copy[1]
+        other[there] = copy[0]
+    elif kind == 1:
+        del holder[key]
+    elif kind == 2 and isinstance(holder, list):
+        holder.insert(key, json.loads(json.dumps(holder[key])))
+    else:
+        numbers = [it for it in found if isinstance(it[0][it[1]], int)]
+        holder, key = chance.choice(numbers)
+        holder[key] += chance.choice([-2, -1, 1, 2, 10**9, -(10**18)])
+    return json.dumps(value, separators=(",", ":")).encode()
+
+
+def hurt(chance, texts):
+    text = chance.choice(texts)
+    for _ in range(chance.choice([1, 1, 1, 2, 3])):
+        try:
+            text = chance.choice([hurt_bytes, hurt_value])(chance, text)
+        except (ValueError, IndexError, RecursionError):
+            text = hurt_bytes(chance, text or b" ")
+    return text
+
+
+def is_refusal(ran):
+    return ran.returncode == 4 and not ran.stdout and ran.stderr.count(b"\n") == 1
+
+
+def complaints(file):
+    """What is wrong with the runs on one text."""
+    check, merge, mesh = topotool("check", file), topotool("merge", file), topotool("mesh", file)
+    layered = [topotool(it, "--layer", "a", file) for it in ("feature", "neighbors")]
+    runs = [check, merge, mesh, *layered]
+    if any(it.returncode not in (0, 4) and not (it is check and it.returncode == 1) for it in runs):
+        yield f"statuses {[it.returncode for it in runs]}"
+    if any(it.returncode == 4 and not is_refusal(it) for it in runs):
+        yield "a refusal that prints"
+    if merge.returncode == 4:
+        if {it.stderr for it in runs} != {merge.stderr}:
+            yield f"other faults {[it.stderr for it in runs]}"
+        return
+    with tempfile.NamedTemporaryFile() as merged:
+        merged.write(merge.stdout)
+        merged.flush()
+        if topotool("check", merged.name).returncode or topotool("merge", merged.name).stdout != merge.stdout:
+            yield "a merge that is not canonical"
+    if any(it.returncode == 4 and it.stderr != b"topotool: 19 NoLayer a\n" for it in layered):
+        yield "a layer that is refused"
+
+
+def main():
+    words = argparse.ArgumentParser()
+    words.add_argument("--seed", type=int, default=1)
+    words.add_argument("--texts", type=int, default=10000)
+    words = words.parse_args()
+    if not os.path.isfile(PROGRAM):
+        sys.exit(f"{PROGRAM} is not there: rt run in crates/topotool builds it")
+    chance, wrong, accepted = random.Random(words.seed), 0, 0
+    with tempfile.TemporaryDirectory() as folder, ThreadPoolExecutor(len(os.sched_getaffinity(0))) as pool:
+        texts = whole_texts(folder)
+        files = []
+        for number in range(words.texts):
+            files.append(f"{folder}/{number}.json")
+            with open(files[-1], "wb") as file:
+                file.write(hurt(chance, texts))
+        for file, found in zip(files, pool.map(lambda it: [*complaints(it)], files)):
+            for it in found:
+                wrong += 1
+                with open(file, "rb") as text:
+                    print(f"{it}: {text.read()!r}")
+            accepted += not found and topotool("merge", file).returncode == 0
+    print(f"{words.texts} texts with seed {words.seed}, {accepted} accepted, {wrong} wrong")
+    return 1 if wrong or not accepted else 0
+
+
+if __name__ == "__main__":
+    sys.exit(main())
