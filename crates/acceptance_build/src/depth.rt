@@ -23,24 +23,33 @@ fn feature(alloc: Global, depth: usize) -> Result<String, AllocError> {
     )
 }
 
-#[test]
-fn the_deepest_properties(rt: HostRuntime) -> Result<(), Fail> {
-    let alloc = rt.alloc();
+const TAIL: &str = topology!("");
+
+/// The topology of the feature with 63 arrays.
+fn deepest_topology(alloc: Global) -> Result<String, AllocError> {
     let arrays = arrays(alloc, 63)?;
-    let front = format!(in alloc;
-        "{{\"arcs\":[],\"objects\":{{\"a\":{{\"geometries\":[{{\"properties\":{{\"p\":{arrays}}},\"type\":null}}],\"type\":\"GeometryCollection\"}}}},"
-    )?;
-    let want = format!(in alloc; "{front}{TAIL}")?;
-    let text = feature(alloc, 63)?;
-    let built = build(alloc, "1,1,0,0", &[("a", text.as_str())])?;
-    built.expect_printed("63 arrays", want.as_str())?;
-    let file = [("t.json", built.out.as_str())];
-    run_words(alloc, &["check", "t.json"], &file)?.expect_printed("checked", "canonical\n")?;
-    run_words(alloc, &["merge", "t.json"], &file)?.expect_printed("merged", want.as_str())?;
-    Ok(())
+    format!(in alloc;
+        "{{\"arcs\":[],\"objects\":{{\"a\":{{\"geometries\":[{{\"properties\":{{\"p\":{arrays}}},\"type\":null}}],\"type\":\"GeometryCollection\"}}}},{TAIL}"
+    )
 }
 
-const TAIL: &str = topology!("");
+#[test]
+fn the_deepest_properties(rt: HostRuntime) -> Result<(), Fail> {
+    let text = feature(rt.alloc(), 63)?;
+    let want = deepest_topology(rt.alloc())?;
+    build(rt.alloc(), "1,1,0,0", &[("a", text.as_str())])?.expect_printed(
+        "63 arrays",
+        want.as_str(),
+    )
+}
+
+#[test]
+fn the_deepest_topology(rt: HostRuntime) -> Result<(), Fail> {
+    let text = deepest_topology(rt.alloc())?;
+    let files = [("t.json", text.as_str())];
+    run_words(rt.alloc(), &["check", "t.json"], &files)?.expect_printed("checked", "canonical\n")?;
+    run_words(rt.alloc(), &["merge", "t.json"], &files)?.expect_printed("merged", text.as_str())
+}
 
 #[test]
 fn properties_too_deep(rt: HostRuntime) -> Result<(), Fail> {

@@ -47,16 +47,22 @@ fn merge(
     run.outcome()
 }
 
-fn expect_merges(alloc: Global, union: &Union) -> Result<(), Fail> {
+fn expect_merges(alloc: Global, union: &Union, order: &[usize]) -> Result<(), Fail> {
     let topologies = topologies(alloc, union.texts)?;
+    for shape in SHAPES {
+        merge(alloc, shape, order, topologies.as_slice())?.expect_printed(
+            union.title,
+            union.topology,
+        )?;
+    }
+    Ok(())
+}
+
+/// Merges the topologies of a union in each order.
+fn expect_each_order(alloc: Global, union: &Union) -> Result<(), Fail> {
     for order in ORDERS {
-        if order.len() == topologies.len() {
-            for shape in SHAPES {
-                merge(alloc, shape, order, topologies.as_slice())?.expect_printed(
-                    union.title,
-                    union.topology,
-                )?;
-            }
+        if order.len() == union.texts.len() {
+            expect_merges(alloc, union, order)?;
         }
     }
     Ok(())
@@ -65,42 +71,56 @@ fn expect_merges(alloc: Global, union: &Union) -> Result<(), Fail> {
 #[test]
 fn each_order_and_shape(rt: HostRuntime) -> Result<(), Fail> {
     for union in UNIONS {
-        expect_merges(rt.alloc(), union)?;
+        expect_each_order(rt.alloc(), union)?;
     }
     Ok(())
 }
 
-#[test]
-fn a_merged_text_is_merged_again(rt: HostRuntime) -> Result<(), Fail> {
-    let alloc = rt.alloc();
+/// `A`, `B` and `C`, merged by one plan.
+fn merged_at_once(alloc: Global) -> Result<String, Fail> {
     let shards = topologies(alloc, &[A, B, C])?;
+    Ok(merge(alloc, "left", &[0, 1, 2], shards.as_slice())?.out)
+}
+
+/// `A` and `B`, merged.
+fn merged_pair(alloc: Global) -> Result<String, Fail> {
+    let shards = topologies(alloc, &[A, B])?;
     let pair = merge(alloc, "left", &[0, 1], shards.as_slice())?;
     pair.expect_printed("shared edge", SHARED_EDGE)?;
-    let at_once = merge(alloc, "left", &[0, 1, 2], shards.as_slice())?;
-    let third = build(alloc, "1,1,0,0", &[("a", C)])?;
-    let in_steps = [pair.out, third.out];
-    merge(alloc, "left", &[1, 0], &in_steps)?.expect_printed(
+    Ok(pair.out)
+}
+
+#[test]
+fn a_merged_text_is_merged_again(rt: HostRuntime) -> Result<(), Fail> {
+    let at_once = merged_at_once(rt.alloc())?;
+    let third = build(rt.alloc(), "1,1,0,0", &[("a", C)])?.out;
+    let in_steps = [merged_pair(rt.alloc())?, third];
+    merge(rt.alloc(), "left", &[1, 0], &in_steps)?.expect_printed(
         "three shards in two steps",
-        at_once.out.as_str(),
-    )?;
-    Ok(())
+        at_once.as_str(),
+    )
+}
+
+/// Merges files of which the second is on another grid and the last is no topology.
+fn expect_refused(alloc: Global, words: &[&str], line: &str) -> Result<(), Fail> {
+    let first = build(alloc, "1,1,0,0", &[("a", A)])?.out;
+    let second = build(alloc, "1,1,0,5", &[("a", A)])?.out;
+    let files = [
+        ("first.json", first.as_str()),
+        ("second.json", second.as_str()),
+        ("bad.json", "{}"),
+    ];
+    run_words(alloc, words, &files)?.expect_refused(line, 4, line)
 }
 
 #[test]
 fn another_transform(rt: HostRuntime) -> Result<(), Fail> {
-    let alloc = rt.alloc();
-    let first = build(alloc, "1,1,0,0", &[("a", A)])?;
-    let second = build(alloc, "1,1,0,5", &[("a", A)])?;
-    let files = [
-        ("first.json", first.out.as_str()),
-        ("second.json", second.out.as_str()),
-        ("bad.json", "{}"),
-    ];
     let words = ["merge", "first.json", "second.json", "first.json"];
-    let outcome = run_words(alloc, &words, &files)?;
-    outcome.expect_refused("grid", 4, "topotool: second.json: 17 OtherGrid\n")?;
+    expect_refused(rt.alloc(), &words, "topotool: second.json: 17 OtherGrid\n")
+}
+
+#[test]
+fn a_refused_text_before_another_transform(rt: HostRuntime) -> Result<(), Fail> {
     let words = ["merge", "first.json", "second.json", "bad.json"];
-    let outcome = run_words(alloc, &words, &files)?;
-    outcome.expect_refused("text", 4, "topotool: bad.json: 2 Missing $/type\n")?;
-    Ok(())
+    expect_refused(rt.alloc(), &words, "topotool: bad.json: 2 Missing $/type\n")
 }

@@ -32,10 +32,8 @@ const PRINTED: &[(&str, &str)] = &[
 ];
 
 fn topology(alloc: Global, text: &str) -> Result<Topology, Fail> {
-    let (grid, map) = topo_io::read(alloc, text.as_bytes())
-        .ok()
-        .ok_or("a topology that is refused")?;
-    Ok(Topology::build(alloc, &grid, &map).ok().ok_or("no memory")?)
+    let (grid, map) = topo_io::read(alloc, text.as_bytes()).ok().ok_or("refused")?;
+    Ok(Topology::build(alloc, &grid, &map)?)
 }
 
 /// A sink that takes one byte a call for some calls, and then answers once more by the script.
@@ -48,34 +46,52 @@ fn slow_sink(alloc: Global, calls: usize, last: Answer) -> Result<Script, AllocE
     Ok(Script::new(alloc, answers))
 }
 
+/// The layer `a` is written as this text.
+fn writes_layer(alloc: Global, topology: &Topology, text: &str) -> bool {
+    let mut kept = Kept::new(alloc);
+    let is_written = write_layer(topology, "a", &mut kept).is_ok();
+    is_written && kept.into_bytes().as_slice() == text.as_bytes()
+}
+
+/// The features of the layer `a` are written as this text.
+fn writes_features(alloc: Global, topology: &Topology, text: &str) -> Result<bool, Fail> {
+    let features = feature(alloc, topology, "a")?;
+    let mut kept = Kept::new(alloc);
+    let is_written = geojson_io::write(&topology.grid(), features.iter(), &mut kept).is_ok();
+    Ok(is_written && kept.into_bytes().as_slice() == text.as_bytes())
+}
+
 #[test]
 fn a_layer_is_written_as_its_features_are(rt: HostRuntime) -> Result<(), Fail> {
     for (text, printed) in PRINTED {
         let topology = topology(rt.alloc(), text)?;
-        let mut written = Kept::new(rt.alloc());
-        assert_eq!(rt; write_layer(&topology, "a", &mut written), Ok(()));
-        assert_eq!(rt; written.into_bytes().as_slice(), printed.as_bytes());
-        let features = feature(rt.alloc(), &topology, "a")
-            .ok()
-            .expect(&rt, "features");
-        let mut collected = Kept::new(rt.alloc());
-        assert!(rt; geojson_io::write(&topology.grid(), features.iter(), &mut collected).is_ok());
-        assert_eq!(rt; collected.into_bytes().as_slice(), printed.as_bytes());
+        assert!(rt; writes_layer(rt.alloc(), &topology, printed), "{text}");
+        assert!(rt; writes_features(rt.alloc(), &topology, printed)?, "{text}");
     }
     Ok(())
 }
 
+/// The features of the expanded layer `a` are written as this text.
+fn expands_to(alloc: Global, topology: &Topology, text: &str) -> Result<bool, Fail> {
+    let map = topology.expand(alloc)?;
+    let features = map.layer("a").ok_or("no layer")?;
+    let mut kept = Kept::new(alloc);
+    let is_written = geojson_io::write(&topology.grid(), features.iter(), &mut kept).is_ok();
+    Ok(is_written && kept.into_bytes().as_slice() == text.as_bytes())
+}
+
 #[test]
-fn what_is_built_expands_prints_and_builds_again(rt: HostRuntime) -> Result<(), Fail> {
-    let alloc = rt.alloc();
-    build(alloc, "1,1,0,0", &[("a", SQUARES)])?.expect_printed("built", SHARED_EDGE)?;
-    let topology = topology(alloc, SHARED_EDGE)?;
-    let map = topology.expand(alloc).ok().expect(&rt, "a map");
-    let features = map.layer("a").expect(&rt, "the layer");
-    let mut written = Kept::new(alloc);
-    assert!(rt; geojson_io::write(&topology.grid(), features.iter(), &mut written).is_ok());
-    assert_eq!(rt; written.into_bytes().as_slice(), SQUARES_PRINTED.as_bytes());
-    build(alloc, "1,1,0,0", &[("a", SQUARES_PRINTED)])?.expect_printed("built again", SHARED_EDGE)?;
+fn what_is_built_expands_and_prints(rt: HostRuntime) -> Result<(), Fail> {
+    let topology = topology(rt.alloc(), SHARED_EDGE)?;
+    assert!(rt; expands_to(rt.alloc(), &topology, SQUARES_PRINTED)?);
+    Ok(())
+}
+
+#[test]
+fn what_is_printed_builds_again(rt: HostRuntime) -> Result<(), Fail> {
+    for text in [SQUARES, SQUARES_PRINTED] {
+        build(rt.alloc(), "1,1,0,0", &[("a", text)])?.expect_printed(text, SHARED_EDGE)?;
+    }
     Ok(())
 }
 
@@ -87,24 +103,20 @@ fn borders_are_written_in_the_order_of_the_mesh(rt: HostRuntime) -> Result<(), F
         &topology,
         Some("a"),
         |_: &Feature, _: &Feature| true,
-    )
-    .ok()
-    .expect(&rt, "a mesh");
-    let mut written = Kept::new(rt.alloc());
-    assert_eq!(rt; write_mesh(&topology.grid(), &lines, &mut written), Ok(()));
-    assert_eq!(rt; written.into_bytes().as_slice(), SQUARES_BORDERS.as_bytes());
+    )?;
+    let mut kept = Kept::new(rt.alloc());
+    assert!(rt; write_mesh(&topology.grid(), &lines, &mut kept).is_ok());
+    assert!(rt; kept.into_bytes().as_slice() == SQUARES_BORDERS.as_bytes());
     Ok(())
 }
 
 #[test]
 fn neighbors_are_written_feature_by_feature(rt: HostRuntime) -> Result<(), Fail> {
     let topology = topology(rt.alloc(), SHARED_EDGE)?;
-    let lists = neighbors(rt.alloc(), &topology, "a")
-        .ok()
-        .expect(&rt, "lists");
-    let mut written = Kept::new(rt.alloc());
-    assert_eq!(rt; write_neighbors(lists.as_slice(), &mut written), Ok(()));
-    assert_eq!(rt; written.into_bytes().as_slice(), b"[[1],[0]]".as_slice());
+    let lists = neighbors(rt.alloc(), &topology, "a")?;
+    let mut kept = Kept::new(rt.alloc());
+    assert!(rt; write_neighbors(lists.as_slice(), &mut kept).is_ok());
+    assert!(rt; kept.into_bytes().as_slice() == b"[[1],[0]]".as_slice());
     Ok(())
 }
 
@@ -112,24 +124,28 @@ fn neighbors_are_written_feature_by_feature(rt: HostRuntime) -> Result<(), Fail>
 fn a_layer_is_written_a_byte_a_call(rt: HostRuntime) -> Result<(), Fail> {
     let topology = topology(rt.alloc(), SHARED_EDGE)?;
     let mut sink = slow_sink(rt.alloc(), SQUARES_PRINTED.len(), Answer::Fail)?;
-    assert_eq!(rt; write_layer(&topology, "a", &mut sink), Ok(()));
-    assert_eq!(rt; sink.taken(), SQUARES_PRINTED.as_bytes());
-    assert_eq!(rt; sink.failures(), 0);
+    assert!(rt; write_layer(&topology, "a", &mut sink).is_ok());
+    assert!(rt; sink.taken() == SQUARES_PRINTED.as_bytes() && sink.failures() == 0);
     Ok(())
+}
+
+/// The layer is written to a sink that takes a byte a call and fails after so many.
+fn stops_after(alloc: Global, topology: &Topology, calls: usize) -> Result<bool, Fail> {
+    let mut sink = slow_sink(alloc, calls, Answer::FailAfter(1))?;
+    let is_refused = write_layer(topology, "a", &mut sink) == Err(LayerFault::Write);
+    Ok(
+        is_refused
+            && SQUARES_PRINTED.as_bytes().starts_with(sink.taken())
+            && Some(sink.taken().len()) == calls.checked_add(1)
+            && sink.failures() == 1,
+    )
 }
 
 #[test]
 fn a_layer_stops_at_each_failure(rt: HostRuntime) -> Result<(), Fail> {
     let topology = topology(rt.alloc(), SHARED_EDGE)?;
     for calls in 0..SQUARES_PRINTED.len() {
-        let mut sink = slow_sink(rt.alloc(), calls, Answer::FailAfter(1))?;
-        assert_eq!(rt;
-            write_layer(&topology, "a", &mut sink),
-            Err(LayerFault::Write)
-        );
-        assert!(rt; SQUARES_PRINTED.as_bytes().starts_with(sink.taken()));
-        assert_eq!(rt; sink.taken().len(), calls + 1);
-        assert_eq!(rt; sink.failures(), 1);
+        assert!(rt; stops_after(rt.alloc(), &topology, calls)?, "{calls}");
     }
     Ok(())
 }
@@ -138,15 +154,9 @@ fn a_layer_stops_at_each_failure(rt: HostRuntime) -> Result<(), Fail> {
 fn a_layer_that_is_not_there(rt: HostRuntime) -> Result<(), Fail> {
     let topology = topology(rt.alloc(), SHARED_EDGE)?;
     let mut sink = slow_sink(rt.alloc(), 0, Answer::Fail)?;
-    assert_eq!(rt;
-        write_layer(&topology, "b", &mut sink),
-        Err(LayerFault::NoLayer)
-    );
-    assert_eq!(rt; sink.taken().len(), 0);
-    assert_eq!(rt; sink.failures(), 0);
-    assert_eq!(rt;
-        feature(rt.alloc(), &topology, "b").err(),
-        Some(QueryFault::NoLayer)
-    );
+    assert!(rt; write_layer(&topology, "b", &mut sink) == Err(LayerFault::NoLayer));
+    assert!(rt; sink.taken().is_empty() && sink.failures() == 0);
+    let fault = feature(rt.alloc(), &topology, "b").err();
+    assert!(rt; fault == Some(QueryFault::NoLayer));
     Ok(())
 }
