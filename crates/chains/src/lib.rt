@@ -19,6 +19,3 @@ pub use joining::{maximal, maximal_with};
 pub use segment::Segment;
 pub use table::{ArcRef, ArcTable};
 pub use visits::VisitIndex;
-
-#[cfg(test)]
-mod tests;

@@ -18,8 +18,6 @@ ghost use Rattle.geojson_io.specs.Features.{feature_members, feature_of, element
 mod feature;
 mod geometry;
 mod position;
-#[cfg(test)]
-mod tests;
 
 use crate::reader::feature::{FeatureElement, read_feature};
 use crate::reader::geometry::read_geometry;

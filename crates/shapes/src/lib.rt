@@ -24,6 +24,3 @@ pub use props::{PropFault, Props};
 pub use shape::{Id, Shape};
 pub use sinks::{Answer, Kept, Refused, Script, Sink, Tap, WriteFault, put};
 pub use spelled::Spelled;
-
-#[cfg(test)]
-mod tests;

@@ -12,6 +12,3 @@ pub mod walk;
 pub use geom::{Body, Geom};
 pub use topology::{Layer, Topology};
 pub use walk::Walk;
-
-#[cfg(test)]
-mod tests;

@@ -24,8 +24,6 @@ pub mod layer_type;
 pub mod limit;
 pub mod position;
 pub mod stitching;
-#[cfg(test)]
-mod tests;
 pub mod transform;
 
 use crate::reader::arc::ArcOf;

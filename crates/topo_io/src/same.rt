@@ -112,27 +112,3 @@ pub fn is_canonical(alloc: Global, bytes: &[u8]) -> Result<bool, Fault>
         Err(OutOfMemory) => Err(Fault::here(alloc, FaultKind::OutOfMemory)),
     }
 }
-
-#[cfg(test)]
-mod tests {
-    use super::*;
-
-    #[test]
-    fn another_tools_text_is_not_canonical(rt: HostRuntime) {
-        let text =
-            b"{\"type\":\"Topology\",\"transform\":{\"scale\":[1,1],\"translate\":[0,0]},\"bbox\":[0.5,0,1,1],\"x\":0,\"objects\":{\"a\":{\"type\":\"Polygon\",\"arcs\":[[0,1]]}},\"arcs\":[[[0,0],[1,0],[0,1]],[[1,1],[-1,0],[0,-1]],[[5,5],[1,1]]]}";
-        assert!(rt;
-            !is_canonical(rt.alloc(), text)
-                .ok()
-                .expect(&rt, "an accepted text")
-        );
-        let text =
-            b"{\"arcs\":[[[0,0],[0,1],[1,0],[0,-1],[-1,0]]],\"bbox\":[0,0,1,1],\"objects\":{\"a\":{\"geometries\":[{\"arcs\":[[-1]],\"type\":\"Polygon\"}],\"type\":\"GeometryCollection\"}},\"transform\":{\"scale\":[1,1],\"translate\":[0,0]},\"type\":\"Topology\"}";
-        assert!(rt;
-            is_canonical(rt.alloc(), text)
-                .ok()
-                .expect(&rt, "an accepted text")
-        );
-        assert!(rt; is_canonical(rt.alloc(), &text[1..]).is_err());
-    }
-}

@@ -1,0 +1,162 @@
+//! Runs of the command over files in memory and sinks that keep what they are given.
+use sinks::{Kept, Sink};
+use std::alloc::{AllocError, Global};
+use std::test::Fail;
+use tool::{FileFault, Files, run};
+
+/// Files in memory, by name.
+#[derive(Drop)]
+struct Memory<'a> {
+    files: &'a [(String, Vec<u8>)],
+}
+
+impl Files for Memory<'_> {
+    fn read_file(&mut self, alloc: Global, name: &str) -> Result<Vec<u8>, FileFault> {
+        for (known, bytes) in self.files {
+            if known.as_str() == name {
+                return match Vec::from_slice(alloc, bytes.as_slice()) {
+                    Ok(copy) => Ok(copy),
+                    Err(_) => Err(FileFault::OutOfMemory),
+                };
+            }
+        }
+        Err(FileFault::Unreadable)
+    }
+}
+
+/// A run of the command: its words and files.
+#[derive(Drop)]
+pub struct Run {
+    alloc: Global,
+    words: Vec<String>,
+    files: Vec<(String, Vec<u8>)>,
+}
+
+impl Run {
+    /// A run with these words after the program's name, and no file.
+    pub fn new(alloc: Global, words: &[&str]) -> Result<Run, AllocError> {
+        let mut run = Run {
+            alloc,
+            words: Vec::new(alloc),
+            files: Vec::new(alloc),
+        };
+        run.add_word("topotool")?;
+        for word in words {
+            run.add_word(*word)?;
+        }
+        Ok(run)
+    }
+
+    pub fn add_word(&mut self, word: &str) -> Result<(), AllocError> {
+        let word = String::from_str(self.alloc, word)?;
+        self.words.push(word)?;
+        Ok(())
+    }
+
+    pub fn add_file(&mut self, name: &str, bytes: &[u8]) -> Result<(), AllocError> {
+        let name = String::from_str(self.alloc, name)?;
+        let bytes = Vec::from_slice(self.alloc, bytes)?;
+        self.files.push((name, bytes))?;
+        Ok(())
+    }
+
+    /// Runs the command over sinks of the caller's, and answers its status.
+    pub fn over<O: Sink, E: Sink>(&self, out: &mut O, err: &mut E) -> u8 {
+        let mut files = Memory {
+            files: self.files.as_slice(),
+        };
+        run(self.alloc, self.words.as_slice(), &mut files, out, err)
+    }
+
+    /// Runs the command, and keeps what it writes.
+    pub fn outcome(&self) -> Result<Outcome, Fail> {
+        let mut out = Kept::new(self.alloc);
+        let mut err = Kept::new(self.alloc);
+        let status = self.over(&mut out, &mut err);
+        Ok(Outcome {
+            status,
+            out: String::from_utf8(out.into_bytes())?,
+            err: String::from_utf8(err.into_bytes())?,
+        })
+    }
+}
+
+/// What a run ended with.
+#[derive(Drop)]
+pub struct Outcome {
+    pub status: u8,
+    pub out: String,
+    pub err: String,
+}
+
+impl Outcome {
+    /// The run printed this text, and ended with status 0.
+    pub fn expect_printed(&self, title: &str, text: &str) -> Result<(), Fail> {
+        self.expect_ended(title, 0, text, "")
+    }
+
+    /// The run printed nothing, told this line and ended with this status.
+    pub fn expect_refused(&self, title: &str, status: u8, line: &str) -> Result<(), Fail> {
+        self.expect_ended(title, status, "", line)
+    }
+
+    /// The run ended with this status, and wrote these texts; else a failure that names the title.
+    pub fn expect_ended(&self, title: &str, status: u8, out: &str, err: &str) -> Result<(), Fail> {
+        if self.status == status && self.out.as_str() == out && self.err.as_str() == err {
+            Ok(())
+        } else {
+            Err(Fail::new(format_args!(
+                "{title}: status {}, standard error {:?}, output {:?}",
+                self.status,
+                self.err.as_str(),
+                self.out.as_str()
+            )))
+        }
+    }
+}
+
+/// Runs the command on words and files, each a name and a text.
+pub fn run_words(alloc: Global, words: &[&str], files: &[(&str, &str)]) -> Result<Outcome, Fail> {
+    let mut run = Run::new(alloc, words)?;
+    for (name, text) in files {
+        run.add_file(*name, text.as_bytes())?;
+    }
+    run.outcome()
+}
+
+/// Runs the command on words and one file of any bytes.
+pub fn run_on_bytes(
+    alloc: Global,
+    words: &[&str],
+    name: &str,
+    bytes: &[u8],
+) -> Result<Outcome, Fail> {
+    let mut run = Run::new(alloc, words)?;
+    run.add_file(name, bytes)?;
+    run.outcome()
+}
+
+/// Builds GeoJSON texts, each in the layer named before it.
+pub fn build(alloc: Global, grid: &str, sources: &[(&str, &str)]) -> Result<Outcome, Fail> {
+    let mut run = Run::new(alloc, &["build", "--grid"])?;
+    run.add_word(grid)?;
+    for (place, (layer, text)) in sources.iter().enumerate() {
+        let name = format!(in alloc; "{place}.json")?;
+        let word = format!(in alloc; "{layer}={name}")?;
+        run.add_word(word.as_str())?;
+        run.add_file(name.as_str(), text.as_bytes())?;
+    }
+    run.outcome()
+}
+
+/// Builds GeoJSON texts in one layer on the grid 1,1,0,0.
+pub fn build_all(alloc: Global, layer: &str, texts: &[&str]) -> Result<Outcome, Fail> {
+    let mut run = Run::new(alloc, &["build", "--grid", "1,1,0,0"])?;
+    for (place, text) in texts.iter().enumerate() {
+        let name = format!(in alloc; "{place}.json")?;
+        let word = format!(in alloc; "{layer}={name}")?;
+        run.add_word(word.as_str())?;
+        run.add_file(name.as_str(), text.as_bytes())?;
+    }
+    run.outcome()
+}
