@@ -49,6 +49,14 @@ no_place q l h = go (nat_lt (position_or_len (same_list q) l) (length l)) refl
     go true e = absurd (h (get_has l (position_or_len (same_list q) l) q (place_is q l (ltb-true (position_or_len (same_list q) l) (length l) e))))
     go false e = refl
 
+-- the place of what stands in the list
+pub place_standing : (l : List (List Pos)) (q : List Pos) (i : ℕ) → rises l ≡ true → slice_get l i ≡ Some q → Some i ≡ position (same_list q) l
+place_standing l q i s at =
+    let h : Has q l = get_has l i q at in
+    ap Some (get_once list_cmp (less_self list_cmp (lists_total position_total) (slice_cmp-IsAntisymmetric position_same)) l
+    i (position_or_len (same_list q) l) q (ascends_rising l s) at (place_of_member q l h))
+    ∙ found_place q l h
+
 -- the answer of a search
 pub place_looked : (l : List StoredArc) (q : List Pos) (r : Result ℕ ℕ) → IsSearchInRange r (length l) → IsBinarySearchResult (λ a. list_cmp a.positions q) l r →
     rises (map positions_of l) ≡ true → result_ok r ≡ position (same_list q) (map positions_of l)
@@ -56,10 +64,7 @@ place_looked l q (Ok i) w p s =
     let d : StoredArc = record { positions = q; free = false } in
     let e : positions_of (get_or l i d) ≡ q = slice_cmp-IsAntisymmetric position_same (positions_of (get_or l i d)) q (p d) in
     let at : slice_get (map positions_of l) i ≡ Some q = get_mapped positions_of l i ∙ ap (option_map positions_of) (get_or_some l i d w) ∙ ap Some e in
-    let h : Has q (map positions_of l) = get_has (map positions_of l) i q at in
-    ap Some (get_once list_cmp (less_self list_cmp (lists_total position_total) (slice_cmp-IsAntisymmetric position_same)) (map positions_of l)
-    i (position_or_len (same_list q) (map positions_of l)) q (ascends_rising (map positions_of l) s) at (place_of_member q (map positions_of l) h))
-    ∙ found_place q (map positions_of l) h
+    place_standing (map positions_of l) q i s at
 place_looked l q (Err i) w p s = no_place q (map positions_of l) (λ h.
     let m = map_has positions_of l q h in
     let t = Contains-from_has m.0 l m.1 in

@@ -153,13 +153,14 @@ impl ArcTable {
         }
     }
 
-    /// The number of the arc that is an arc of another table, by its number there.
-    pub fn number_of(&self, other: &ArcTable, number: usize) -> Option<usize>
+    /// The number of the arc that is an arc of another table, by its number there. It is looked for
+    /// first where it is expected, and a little behind it.
+    pub fn number_near(&self, other: &ArcTable, number: usize, expected: usize) -> Option<usize>
         ensures { result ≡ place_if self.now.arcs (slice_get other.now.arcs number) }
     {
         match other.arcs.get(number) {
             None => None,
-            Some(arc) => self.arcs.place_of(&arc.positions),
+            Some(arc) => self.arcs.place_near(&arc.positions, expected),
         }
     }
 

@@ -233,6 +233,17 @@ impl Seen {
     }
 }
 
+/// How many positions the arcs of a table have, and so visits at most.
+fn position_count(table: &ArcTable) -> usize {
+    let mut count: usize = 0;
+    for number in 0..table.len() {
+        if let Some(arc) = table.arc(number) {
+            count = count.saturating_add(arc.len());
+        }
+    }
+    count
+}
+
 fn is_clash(a: Visit, b: Visit) -> bool
     ensures { result ≡ clash a b }
 {
@@ -321,9 +332,10 @@ impl VisitIndex {
         ensures arcs { IfOk result (λ i. IsIndexOf i (tables_as_map left.now right.now)) }
         ensures union { IfOk result (λ i. (m n u : Geometry Pos) → IsSound m → IsSound n → IsTableOf m left.now → IsTableOf n right.now → IsUnionOf m n u → IsIndexOf i u) }
     {
+        let count = position_count(left).saturating_add(position_count(right));
         let mut seen = Seen {
             ends: Vec::new(alloc),
-            visits: Vec::new(alloc),
+            visits: Vec::with_capacity(alloc, count)?,
             // Arcs of a table visit no vertex twice in the same way: a hint would miss.
             recent: Vec::new(alloc),
         };

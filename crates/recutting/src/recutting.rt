@@ -57,18 +57,20 @@ fn refs_of(alloc: Global, table: &ArcTable, pieces: &[Piece]) -> Result<Items<Ar
     Ok(Items::from_vec(refs))
 }
 
-/// The new arcs of an old one. One that was not cut is looked up as it is.
+/// The new arcs of an old one. One that was not cut is looked up as it is, first where it is
+/// expected.
 fn refs_of_arc(
     alloc: Global,
     index: &VisitIndex,
     old: &ArcTable,
     number: usize,
     arcs: &ArcTable,
+    expected: usize,
 ) -> Result<Items<ArcRef>, OutOfMemory>
     requires { number < length old.now.arcs }
     ensures { IfOk result (λ v. v ≡ used_if index.now old.now.loops arcs.now.arcs (slice_get old.now.arcs number)) }
 {
-    match arcs.number_of(old, number) {
+    match arcs.number_near(old, number, expected) {
         Some(arc) => {
             let mut refs = Vec::with_capacity(alloc, 1)?;
             refs.push(ArcRef {
@@ -84,7 +86,16 @@ fn refs_of_arc(
     }
 }
 
-/// The new arcs of each old one.
+/// The number behind the last of some arcs, or the one given where there are none.
+fn number_behind(refs: &Items<ArcRef>, otherwise: usize) -> usize {
+    match refs.as_slice().last() {
+        Some(used) => used.arc.saturating_add(1),
+        None => otherwise,
+    }
+}
+
+/// The new arcs of each old one. Both tables are sorted, so the arcs that stay stand in one order in
+/// both, and each is expected behind the one before it.
 fn refs_of_table(
     alloc: Global,
     index: &VisitIndex,
@@ -94,8 +105,11 @@ fn refs_of_table(
     ensures { IfOk result (λ v. v.items ≡ map_list (arc_used index.now old.now.loops arcs.now.arcs) old.now.arcs) }
 {
     let mut lists = Vec::with_capacity(alloc, old.len())?;
+    let mut expected = 0;
     for number in 0..old.len() {
-        lists.push(refs_of_arc(alloc, index, old, number, arcs)?)?;
+        let refs = refs_of_arc(alloc, index, old, number, arcs, expected)?;
+        expected = number_behind(&refs, expected);
+        lists.push(refs)?;
     }
     Ok(lists)
 }
@@ -111,7 +125,7 @@ pub fn recut(alloc: Global, left: &ArcTable, right: &ArcTable) -> Result<Recut, 
     ensures right { IfOk result (λ r. length r.right ≡ length right.now.arcs) }
 {
     let index = VisitIndex::over_arcs(alloc, left, right)?;
-    let mut pieces = Vec::new(alloc);
+    let mut pieces = Vec::with_capacity(alloc, left.len() + right.len())?;
     add_table(alloc, &mut pieces, &index, left)?;
     add_table(alloc, &mut pieces, &index, right)?;
     let arcs = ArcTable::from_pieces(alloc, pieces)?;

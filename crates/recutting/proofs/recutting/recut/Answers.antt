@@ -11,6 +11,6 @@ returns-clause-refined c = λ m n u sm sn ms nt union.
     let js = c.in_ok-index.index in
     recut_is s t js c.in_ok-index.ensures.arcs m n u sm sn ms nt union c.add_table-2.new.pieces.items
     (c.in_ok-add_table-2.ensures ∙ ap (λ w. w ++ gathered (arc_pieces js t.loops) t.arcs)
-    (c.in_ok-add_table.ensures ∙ ap (λ w. w ++ gathered (arc_pieces js s.loops) s.arcs) c.new-pieces.ensures.items))
+    (c.in_ok-add_table.ensures ∙ ap (λ w. w ++ gathered (arc_pieces js s.loops) s.arcs) c.in_ok-pieces.ensures.items))
     c.in_ok-arcs.arcs c.in_ok-arcs.ensures.arcs c.in_ok-arcs.ensures.of_map c.from_parts.result
     (c.from_parts.ensures ∙ (λ i. record { arcs = c.in_ok-arcs.arcs; left = c.in_ok-of_left.ensures i; right = c.in_ok-of_right.ensures i }))

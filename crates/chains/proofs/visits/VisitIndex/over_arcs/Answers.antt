@@ -1,7 +1,6 @@
 use Rattle.std.proofs.Common.{◌++◌, ◌∙◌, ap, subst}
 use Rattle.theory.specs.Lists.{gathered}
 use Rattle.chains.specs.Crowds.{KeepsClashes}
-use Rattle.chains.specs.Index.{IsIndexOf}
 use Rattle.chains.specs.OfArcs.{arc_ends, arc_visits, tables_as_map}
 use Rattle.chains.proofs.Same.{same_before, same_equal, same_trans}
 use Rattle.chains.proofs.TablesAsMap.{visits_of_tables, tables_alike, index_alike}
@@ -16,7 +15,7 @@ returns-clause-arcs c =
     (c.in_ok-see_arcs-2.ensures.ends ∙ ap (λ w. w ++ gathered (arc_ends t.loops) t.arcs)
     (c.in_ok-see_arcs.ensures.ends ∙ ap (λ w. w ++ gathered (arc_ends s.loops) s.arcs) c.new.ensures.items))
     (same_trans c.in_ok-see_arcs-2.ensures.visits (same_before (gathered (arc_visits t.loops) t.arcs)
-    (same_trans c.in_ok-see_arcs.ensures.visits (same_equal (ap (λ w. w ++ gathered (arc_visits s.loops) s.arcs) c.new-2.ensures.items))))))
+    (same_trans c.in_ok-see_arcs.ensures.visits (same_equal (ap (λ w. w ++ gathered (arc_visits s.loops) s.arcs) c.in_ok-with_capacity.ensures.items))))))
 
 pub returns-clause-union : goal.returns-clause-union
 returns-clause-union c = λ m n u sm sn ms nt un.

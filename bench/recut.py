@@ -1,0 +1,77 @@
+#!/usr/bin/env python3
+"""Measures cutting arcs again, against building the topology of both maps together.
+
+    (cd crates/bench_recut && rt run)
+    python3 bench/recut.py
+
+builds the program and prints, for tilings of two sizes, what cutting the arcs of their two halves
+again takes, and what building the whole takes, each without reading the files: a program that does
+it several times is compared with one that doesn't do it. Times are processor times (user and
+system), taken by turns, and the least of some runs counts. It also compares the numbers of arcs.
+"""
+
+import argparse
+import os
+import subprocess
+import sys
+import tempfile
+
+from run import run_once
+
+HERE = os.path.dirname(os.path.abspath(__file__))
+GENERATE = os.path.join(HERE, "generate.py")
+PROGRAM = os.path.join(os.path.dirname(HERE), "crates", "bench_recut", "out", "bench_recut")
+
+
+def write_halves(folder, positions, seed):
+    """Writes the halves of a tiling, and answers how many positions it has and their files."""
+    words = [sys.executable, GENERATE, folder, "--positions", str(positions), "--seed", str(seed)]
+    told = subprocess.run(
+        [*words, "--shards", "2"], check=True, capture_output=True, text=True
+    ).stdout
+    return int(told.split()[0]), [os.path.join(folder, f"shard_{half:02}.json") for half in (0, 1)]
+
+
+def seconds_of(mode, count, halves, out):
+    """The processor seconds of a run, and what it printed."""
+    measure = run_once([PROGRAM, mode, str(count), *halves], out)
+    with open(out, "rb") as file:
+        return measure.seconds, file.read()
+
+
+def seconds_each(halves, folder, runs, times):
+    """The seconds of cutting again and of building, once each."""
+    out = os.path.join(folder, "out")
+    least = {}
+    for _ in range(runs):
+        told = set()
+        for mode in ["recut", "build"]:
+            for count in [0, times]:
+                seconds, text = seconds_of(mode, count, halves, out)
+                least[mode, count] = min(seconds, least.get((mode, count), seconds))
+                if count > 0:
+                    told.add(text)
+        if len(told) != 1:
+            sys.exit("the numbers of arcs differ")
+    return [(least[mode, times] - least[mode, 0]) / times for mode in ["recut", "build"]]
+
+
+def main():
+    parser = argparse.ArgumentParser(description="Measures cutting arcs again.")
+    parser.add_argument("--positions", type=int, default=1_000_000)
+    parser.add_argument("--seed", type=int, default=1)
+    parser.add_argument("--runs", type=int, default=5)
+    parser.add_argument("--times", type=int, default=4)
+    words = parser.parse_args()
+    before = None
+    for positions in [words.positions, 2 * words.positions]:
+        with tempfile.TemporaryDirectory() as folder:
+            count, halves = write_halves(folder, positions, words.seed)
+            recut, build = seconds_each(halves, folder, words.runs, words.times)
+        told = f"{count} positions: recut {recut:.3f} s, build {build:.3f} s, {recut / build:.2f} of it"
+        print(told if before is None else f"{told}; recut grows by {recut / before:.2f}", flush=True)
+        before = recut
+
+
+if __name__ == "__main__":
+    main()
