@@ -13,7 +13,7 @@ use Rattle.std.specs.BTreeSet.{BTreeSet}
 use Rattle.std.specs.List.{list_any}
 use Rattle.std.specs.FinMap as map
 use Rattle.shapes.specs.Sets as set
-use Rattle.shapes.specs.SetLaws.{contains-union, contains-empty, same_set, or-false}
+use Rattle.shapes.specs.SetLaws.{contains-union, contains-empty, same_set, or-false, contains-from_list}
 use Rattle.shapes.specs.Union.{both, union, get-union, union_empty}
 use Rattle.shapes.specs.Order.{feature_cmp}
 use Rattle.shapes.specs.OrderLaws.{feature_cmp_total, same_feature, same_text}
@@ -29,11 +29,16 @@ set_union_empty s =
     contains-union feature_cmp_total s set.empty q ∙ ap (λ b. set.contains s q || b) (contains-empty feature_cmp q)
     ∙ sym (or-false (set.contains s q)))
 
+-- the set of what was collected
+pub set_collected : (n : BTreeSet Feature) (ks : List Feature) → sorted.IsFromIterResult feature_cmp ks n → set_of n ≡ set.from_list ks
+set_collected n ks made =
+    same_set feature_cmp_total same_feature _ _ (λ q. contains-set_of n q ∙ made.0 q ∙ sym (contains-from_list feature_cmp_total ks q))
+
 -- the set of a merged list
-pub union_made : (s t n : BTreeSet Feature) (ks : List Feature) → sorted.IsUnion feature_cmp s t ks → sorted.IsFromIterResult feature_cmp ks n → set_of n ≡ set.union (set_of s) (set_of t)
+pub union_made : (s t : BTreeSet Feature) (n : Features) (ks : List Feature) → sorted.IsUnion feature_cmp s t ks → n ≡ set.from_list ks → n ≡ set.union (set_of s) (set_of t)
 union_made s t n ks merged made =
-    same_set feature_cmp_total same_feature _ _ (λ q.
-    contains-set_of n q ∙ made.0 q ∙ merged q
+    made ∙ same_set feature_cmp_total same_feature _ _ (λ q.
+    contains-from_list feature_cmp_total ks q ∙ merged q
     ∙ (λ i. sym (contains-set_of s q) i || sym (contains-set_of t q) i)
     ∙ sym (contains-union feature_cmp_total (set_of s) (set_of t) q))
 

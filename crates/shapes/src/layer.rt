@@ -35,7 +35,11 @@ impl FeatureLayer {
     }
 
     // The layer with the features of another one beside its own, copied.
-    pub(crate) fn united(&self, alloc: Global, other: Option<&FeatureLayer>) -> Result<FeatureLayer, OutOfMemory>
+    pub(crate) fn united(
+        &self,
+        alloc: Global,
+        other: Option<&FeatureLayer>,
+    ) -> Result<FeatureLayer, OutOfMemory>
         ensures name { IfOk result (λ l. l.name ≡ self.now.name) }
         ensures features { IfOk result (λ l. set_of l.features ≡ set.union (set_of self.now.features) (features_if (option_map (λ o. o.now) other.entry))) }
     {
@@ -108,6 +112,13 @@ fn union_of(
     for feature in these.union(those) {
         copies.push(feature.copy(alloc)?)?;
     }
-    let features: BTreeSet<Feature> = copies.into_iter().collect(alloc)?;
-    Ok(features)
+    feature_set(alloc, copies)
+}
+
+/// The set of these features.
+pub fn feature_set(alloc: Global, features: Vec<Feature>) -> Result<BTreeSet<Feature>, OutOfMemory>
+    ensures { IfOk result (λ s. set_of s ≡ set.from_list features.items) }
+{
+    let set: BTreeSet<Feature> = features.into_iter().collect(alloc)?;
+    Ok(set)
 }

@@ -16,7 +16,7 @@ pub use faults::{Fault, FaultKind, OutOfMemory, Step};
 pub use feature::Feature;
 pub use feature_map::FeatureMap;
 pub use insert_fault::InsertFault;
-pub use layer::FeatureLayer;
+pub use layer::{FeatureLayer, feature_set};
 pub use lines::items::Items;
 pub use lines::line::Line;
 pub use lines::ring::Ring;
