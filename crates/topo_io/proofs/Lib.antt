@@ -8,3 +8,4 @@ pub mod Geometries
 pub mod Filling
 pub mod Fitting
 pub mod Once
+pub mod SinkLemmas
