@@ -5,11 +5,12 @@ use Rattle.std.specs.FinMap as map
 use Rattle.theory.specs.Lists.{Has, gathered}
 use Rattle.theory.specs.Topology.{Shape, forms_of}
 use Rattle.grid.specs.declared.pos.Pos.{Pos}
-use Rattle.shapes.specs.Maps.{Layers, Features, features_at}
+use Rattle.shapes.specs.Maps.{Layers, features_at, layer_entry, set_of}
 use Rattle.shapes.specs.Order.{feature_cmp}
 use Rattle.shapes.specs.Sets as set
 use Rattle.shapes.specs.declared.feature.Feature.{Feature}
 use Rattle.shapes.proofs.Entries.{at_entry}
+use Rattle.shapes.specs.declared.layer.FeatureLayer.{FeatureLayer}
 use Rattle.chains.specs.Seen.{form_of, item_of, layer_of, seen}
 
 pub gathered-append : {A B : Type 0} (f : A → List B) (s t : List A) → gathered f (s ++ t) ≡ gathered f s ++ gathered f t
@@ -27,23 +28,23 @@ no_features m name e =
     ∙ ap (map_list (λ e. e.0)) (none_entries (map.entries map.empty) (sym (map.len-entries map.empty) ∙ map.len-empty feature_cmp (Unit {0})))
 
 module _ {X : Type 0} (f : Shape Pos → List X) where
-  under : Layers → List ℕ → List X
-  under m name = gathered (λ (x : Feature). f (form_of x.shape)) (set.items (features_at m name))
+  of_features : List Feature → List X
+  of_features fs = gathered (λ (x : Feature). f (form_of x.shape)) fs
 
-  of_items : (fs : List Feature) → gathered (λ (x : Feature). f (form_of x.shape)) fs ≡ gathered f (gathered (λ x. x.form ∷ []) (map_list item_of fs))
+  of_items : (fs : List Feature) → of_features fs ≡ gathered f (gathered (λ x. x.form ∷ []) (map_list item_of fs))
+  unfolding of_features
   of_items [] = refl
   of_items (x ∷ fs) = ap (λ w. f (form_of x.shape) ++ w) (of_items fs)
 
-  of_entries : (m : Layers) (es : List (List ℕ × Features)) → ((e : List ℕ × Features) → Has e es → features_at m e.0 ≡ e.1) →
-      gathered (under m) (map_list (λ e. e.0) es) ≡ gathered f (forms_of (map_list layer_of es))
-  unfolding under
-  of_entries m [] h = refl
-  of_entries m (e ∷ es) h =
-      (λ i. gathered (λ (x : Feature). f (form_of x.shape)) (set.items (h e (inl refl) i)) ++ of_entries m es (λ d k. h d (inr k)) i)
-      ∙ ap (λ w. w ++ gathered f (forms_of (map_list layer_of es))) (of_items (set.items e.1))
-      ∙ sym (gathered-append f (gathered (λ x. x.form ∷ []) (map_list item_of (set.items e.1))) (forms_of (map_list layer_of es)))
+  of_entries : (ls : List FeatureLayer) → gathered (λ l. of_features (set.items (set_of l.features))) ls ≡ gathered f (forms_of (map_list layer_of (map_list layer_entry ls)))
+  of_entries [] = refl
+  of_entries (l ∷ ls) =
+      let items = gathered (λ x. x.form ∷ []) (map_list item_of (set.items (set_of l.features))) in
+      (λ i. of_items (set.items (set_of l.features)) i ++ of_entries ls i)
+      ∙ sym (gathered-append f items (forms_of (map_list layer_of (map_list layer_entry ls))))
 
-  -- name by name
-  pub of_names : (m : Layers) → gathered (λ name. gathered (λ (x : Feature). f (form_of x.shape)) (set.items (features_at m name))) (map.keys m) ≡ gathered f (forms_of (seen m))
-  unfolding under
-  of_names m = of_entries m (map.entries m) (at_entry m)
+  -- layer by layer
+  pub of_layers : (m : Layers) (ls : List FeatureLayer) → map_list layer_entry ls ≡ map.entries m →
+      gathered (λ l. gathered (λ (x : Feature). f (form_of x.shape)) (set.items (set_of l.features))) ls ≡ gathered f (forms_of (seen m))
+  unfolding of_features
+  of_layers m ls e = of_entries ls ∙ ap (λ es. gathered f (forms_of (map_list layer_of es))) e

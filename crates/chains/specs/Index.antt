@@ -6,9 +6,10 @@ use Rattle.theory.specs.Junction.{Visits}
 use Rattle.theory.specs.Junction.Visit.{end, pair}
 use Rattle.theory.specs.Geometry.{Geometry, IsLineOf, IsRingOf, JunctionOf}
 use Rattle.grid.specs.declared.pos.Pos.{Pos}
-use Rattle.shapes.specs.Maps.{Layers, features_at}
+use Rattle.shapes.specs.Maps.{set_of}
 use Rattle.shapes.specs.Sets as set
 use Rattle.shapes.specs.declared.feature.Feature.{Feature}
+use Rattle.shapes.specs.declared.layer.FeatureLayer.{FeatureLayer}
 use Rattle.chains.specs.Seen.{form_of}
 use Rattle.chains.specs.Visits.{visit_of, inner_of, around_of, ends_of}
 use Rattle.chains.specs.declared.visits.Visit.{Visit}
@@ -45,10 +46,10 @@ feature_ends f = form_ends (form_of f.shape)
 abbrev pub feature_visits : Feature → List Visit
 feature_visits f = form_visits (form_of f.shape)
 
--- the ends of the lines of the features under a name
-abbrev pub layer_ends : Layers → List ℕ → List Pos
-layer_ends m name = gathered feature_ends (set.items (features_at m name))
+-- the ends of the lines of the features of a layer
+abbrev pub layer_ends : FeatureLayer → List Pos
+layer_ends l = gathered feature_ends (set.items (set_of l.features))
 
--- the visits of the features under a name that are no ends
-abbrev pub layer_visits : Layers → List ℕ → List Visit
-layer_visits m name = gathered feature_visits (set.items (features_at m name))
+-- the visits of the features of a layer that are no ends
+abbrev pub layer_visits : FeatureLayer → List Visit
+layer_visits l = gathered feature_visits (set.items (set_of l.features))

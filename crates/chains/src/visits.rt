@@ -3,18 +3,18 @@ ghost use Rattle.std.specs.Prelude.{◌≡◌, cond, [], ◌∷◌, ◌++◌, �
 ghost use Rattle.theory.specs.Geometry.{Geometry, IsSound, JunctionOf, SegmentOf};
 ghost use Rattle.theory.specs.Segments.{OnThree};
 ghost use Rattle.theory.specs.Lists.{gathered, joined};
+ghost use Rattle.theory.specs.Topology.{forms_of};
 ghost use Rattle.grid.specs.declared.pos.Pos.{Pos};
 ghost use Rattle.chains.specs.Crowds.{KeepsClashes};
 ghost use Rattle.chains.specs.Among.{among};
 ghost use Rattle.chains.specs.Visits.{visit_of, inner_of, ends_of, around_of, clash, clashes_of, HaveSame};
-ghost use Rattle.chains.specs.Seen.{line_of, ring_of, form_of, geometry_of};
-ghost use Rattle.chains.specs.Index.{IsIndexOf, EndsALine, AreVisitsOf, feature_ends, feature_visits, form_ends, form_visits, layer_ends, layer_visits};
+ghost use Rattle.chains.specs.Seen.{line_of, ring_of, form_of, geometry_of, seen};
+ghost use Rattle.chains.specs.Index.{IsIndexOf, EndsALine, AreVisitsOf, feature_ends, feature_visits, form_ends, form_visits};
 ghost use Rattle.chains.specs.OfArcs.{arc_ends, arc_visits, ends_if, visits_if, tables_as_map};
 ghost use Rattle.chains.specs.Table.{IsTableOf};
 ghost use Rattle.chains.specs.declared.visits.Visit.{Visit as Visiting};
 ghost use Rattle.theory.specs.Refinement.{IsUnionOf, unclosed};
 ghost use Rattle.shapes.specs.Maps.{set_of};
-ghost use Rattle.shapes.specs.Parts.{spelled_text};
 ghost use Rattle.shapes.specs.Sets as set;
 
 use crate::crowds::crowded_visits;
@@ -29,7 +29,6 @@ use lines::ring::Ring;
 use shapes::feature::Feature;
 use shapes::feature_map::FeatureMap;
 use shapes::shape::Shape;
-use shapes::spelled::Spelled;
 use std::alloc::{AllocError, Global};
 use std::collections::BTreeSet;
 use std::marker::Model;
@@ -212,22 +211,12 @@ impl Seen {
         Ok(())
     }
 
-    fn see_layer(&mut self, map: &FeatureMap, name: &str) -> Result<(), AllocError>
-        ensures ends { OnOk result (self.new.ends.items ≡ self.old.ends.items ++ layer_ends map.now name.now) }
-        ensures visits { OnOk result (HaveSame self.new.visits.items (self.old.visits.items ++ layer_visits map.now name.now)) }
+    fn see_layers(&mut self, map: &FeatureMap) -> Result<(), AllocError>
+        ensures ends { OnOk result (self.new.ends.items ≡ self.old.ends.items ++ gathered form_ends (forms_of (seen map.now))) }
+        ensures visits { OnOk result (HaveSame self.new.visits.items (self.old.visits.items ++ gathered form_visits (forms_of (seen map.now)))) }
     {
-        match map.layer(name) {
-            Some(features) => self.see_features(features),
-            None => Ok(()),
-        }
-    }
-
-    fn see_layers(&mut self, map: &FeatureMap, names: &[&Spelled]) -> Result<(), AllocError>
-        ensures ends { OnOk result (self.new.ends.items ≡ self.old.ends.items ++ gathered (layer_ends map.now) (map_list (λ s. spelled_text s.now) names.now)) }
-        ensures visits { OnOk result (HaveSame self.new.visits.items (self.old.visits.items ++ gathered (layer_visits map.now) (map_list (λ s. spelled_text s.now) names.now))) }
-    {
-        for name in names {
-            self.see_layer(map, name.text())?;
+        for layer in map.layers() {
+            self.see_features(&layer.features)?;
         }
         Ok(())
     }
@@ -313,8 +302,7 @@ impl VisitIndex {
             visits: Vec::new(alloc),
             recent: vec![in alloc; 0; RECENT]?,
         };
-        let names = map.names()?;
-        seen.see_layers(map, &names)?;
+        seen.see_layers(map)?;
         let index = VisitIndex::of_seen(alloc, seen)?;
         Ok(index)
     }

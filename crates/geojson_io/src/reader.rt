@@ -30,8 +30,9 @@ use reading::info::no_properties;
 use reading::part::{Listed, Part, keep, read_member, type_fault, type_name};
 use serde_json::Value;
 use shapes::feature::Feature;
+use shapes::layer::feature_set;
 use shapes::shape::{Id, Shape};
-use std::alloc::{AllocError, Global};
+use std::alloc::Global;
 use std::collections::BTreeSet;
 
 /// What the root of a text is.
@@ -180,9 +181,9 @@ fn set_of(alloc: Global, features: Vec<Feature>) -> Result<BTreeSet<Feature>, Fa
     ensures ok { IfOk result (λ fs. (f : Feature) → IsTrue (set.contains (features_set fs) f) ↔ Has f features.items) }
     ensures err { IfErr result IsWant }
 {
-    match features.into_iter().collect(alloc) {
-        Ok(features) => Ok(features),
-        Err(AllocError) => Err(Fault::here(alloc, FaultKind::OutOfMemory)),
+    match feature_set(alloc, features) {
+        Ok(set) => Ok(set),
+        Err(_) => Err(Fault::here(alloc, FaultKind::OutOfMemory)),
     }
 }
 

@@ -4,7 +4,6 @@ pub mod LeafLemmas
 pub mod RunLemmas
 pub mod GroupingLemmas
 pub mod AlikeLemmas
-pub mod SinkLemmas
 pub mod MergeLemmas
 pub mod MergedTexts
 pub mod UnionFits

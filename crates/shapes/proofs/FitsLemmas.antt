@@ -17,14 +17,14 @@ use Rattle.shapes.specs.OrderLaws.{feature_cmp_total, same_feature}
 use Rattle.shapes.specs.Maps.{Layers, set_of, features_at}
 use Rattle.shapes.specs.Inside.{layers_of, look, features_of}
 use Rattle.shapes.specs.Fitting.{ShapeFits, MapFits}
-use Rattle.shapes.specs.declared.layer.Layer.{Layer}
+use Rattle.shapes.specs.declared.layer.FeatureLayer.{FeatureLayer}
 use Rattle.shapes.specs.declared.feature.Feature.{Feature}
 use Rattle.shapes.proofs.MapLemmas.{Entries, contains-set_of, features_at-layers, features_at-none}
 
 abbrev pub FeatureFits : Transform → Feature → Type 0
 FeatureFits g f = ShapeFits g f.shape
 
-abbrev pub LayerFits : Transform → Layer → Type 0
+abbrev pub LayerFits : Transform → FeatureLayer → Type 0
 LayerFits g l = AllByRecursion (FeatureFits g) l.features.keys
 
 -- the features of all entries fit
@@ -50,7 +50,7 @@ members_fit g (k ∷ ks) h = (
   members_fit g ks (λ f e. h f (ap (λ b. eq_by_cmp feature_cmp f k || b) e ∙ or_later (eq_by_cmp feature_cmp f k))),
 )
 
-entry_fits : (g : Transform) (es : Entries) → EntriesFit g es → (q : List ℕ) (l : Layer) → look q es ≡ Some l → LayerFits g l
+entry_fits : (g : Transform) (es : Entries) → EntriesFit g es → (q : List ℕ) (l : FeatureLayer) → look q es ≡ Some l → LayerFits g l
 entry_fits g [] h q l e = cc
 entry_fits g (x ∷ es) h q l e =
     elim (is_eq (slice_cmp nat_cmp q (string_bytes x.0))) as (λ b. cond b (Some x.1) (look q es) ≡ Some l → LayerFits g l) [

@@ -19,15 +19,15 @@ use Rattle.shapes.specs.SetLaws.{contains-union, same_set}
 use Rattle.shapes.specs.Union.{both, union, get-union, union_empty, set_union_commutes}
 use Rattle.shapes.specs.Order.{feature_cmp}
 use Rattle.shapes.specs.OrderLaws.{feature_cmp_total, same_feature, same_text}
-use Rattle.shapes.specs.Maps.{Features, Layers, set_of, features_at}
-use Rattle.shapes.specs.Inside.{layers_of, look, features_of, features_if, with_features, AreNamed}
-use Rattle.shapes.specs.declared.layer.Layer.{Layer}
+use Rattle.shapes.specs.Maps.{Features, Layers, set_of, features_at, with_features}
+use Rattle.shapes.specs.Inside.{layers_of, look, features_of, features_if, AreNamed}
+use Rattle.shapes.specs.declared.layer.FeatureLayer.{FeatureLayer}
 use Rattle.shapes.specs.declared.feature.Feature.{Feature}
 use Rattle.shapes.proofs.MapLemmas.{Entries, contains-set_of, get-layers, same_bytes}
 use Rattle.shapes.proofs.UnionLemmas.{set_union_empty, features_found}
 
 abbrev Tree : Type 0
-Tree = BTreeMap (String Global) Layer
+Tree = BTreeMap (String Global) FeatureLayer
 
 -- the set of what is appended to a set
 pub union_appended : (s t n : BTreeSet Feature) → sorted.InsertsAll feature_cmp s t.keys n → set_of n ≡ set.union (set_of s) (set_of t)
@@ -49,12 +49,12 @@ put_back m r bs fs h =
     ∙ ap (cond (eq_by_cmp (slice_cmp nat_cmp) q bs) (Some fs)) (sym (get-layers m.entries q))
     ∙ sym (map.get-insert nat_list_cmp_total (layers_of m.entries) bs fs q))
   where
-    hidden : (b : Bool) (o : Option Layer) → cond b (Some fs) (option_map features_of (cond b None o)) ≡ cond b (Some fs) (option_map features_of o)
+    hidden : (b : Bool) (o : Option FeatureLayer) → cond b (Some fs) (option_map features_of (cond b None o)) ≡ cond b (Some fs) (option_map features_of o)
     hidden true o = refl
     hidden false o = refl
 
 -- features put beside those that were taken out
-pub put_beside : (m r n : Tree) (bs k : List ℕ) (fs whole : Features) (o : Option Layer) → bs ≡ k → UpdatesBy string_cmp (λ k. slice_cmp nat_cmp bs (string_bytes k)) m r None
+pub put_beside : (m r n : Tree) (bs k : List ℕ) (fs whole : Features) (o : Option FeatureLayer) → bs ≡ k → UpdatesBy string_cmp (λ k. slice_cmp nat_cmp bs (string_bytes k)) m r None
     → o ≡ look bs m.entries → whole ≡ set.union fs (features_if o) → layers_of n.entries ≡ map.insert (layers_of r.entries) k whole
     → layers_of n.entries ≡ with_features (layers_of m.entries) k fs
 put_beside m r n bs k fs whole o same h found is made =
@@ -71,7 +71,7 @@ names_left m r bs h named q l found = kept (bytes_eq bs q) (sym (btree_map_updat
     kept false e = named q l e
 
 -- one layer moved from one map to another
-pub moved_one : (m : Layers) (k : String Global) (l : Layer) (old left : Tree) → old.entries ≡ (k, l) ∷ left.entries
+pub moved_one : (m : Layers) (k : String Global) (l : FeatureLayer) (old left : Tree) → old.entries ≡ (k, l) ∷ left.entries
     → UpdatesBy string_cmp (string_cmp k) old left None
     → union (with_features m (string_bytes k) (features_of l)) (layers_of left.entries) ≡ union m (layers_of old.entries)
 moved_one m k l old left is h =

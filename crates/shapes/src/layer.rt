@@ -15,14 +15,15 @@ use grid::transform::Grid;
 use std::alloc::Global;
 use std::collections::BTreeSet;
 
+/// A layer of a feature map: its name, and its features in their order.
 #[derive(Drop)]
-pub(crate) struct Layer {
+pub struct FeatureLayer {
     pub name: Spelled,
     pub features: BTreeSet<Feature>,
 }
 
-impl Layer {
-    pub fn put(&mut self, feature: Feature) -> Result<bool, InsertFault>
+impl FeatureLayer {
+    pub(crate) fn put(&mut self, feature: Feature) -> Result<bool, InsertFault>
         ensures name { self.new.name ≡ self.old.name }
         ensures ok { OnOk result (set_of self.new.features ≡ set.insert (set_of self.old.features) feature) }
         ensures added { IfOk result (λ added. added ≡ not (set.contains (set_of self.old.features) feature)) }
@@ -34,7 +35,11 @@ impl Layer {
     }
 
     // The layer with the features of another one beside its own, copied.
-    pub fn united(&self, alloc: Global, other: Option<&Layer>) -> Result<Layer, OutOfMemory>
+    pub(crate) fn united(
+        &self,
+        alloc: Global,
+        other: Option<&FeatureLayer>,
+    ) -> Result<FeatureLayer, OutOfMemory>
         ensures name { IfOk result (λ l. l.name ≡ self.now.name) }
         ensures features { IfOk result (λ l. set_of l.features ≡ set.union (set_of self.now.features) (features_if (option_map (λ o. o.now) other.entry))) }
     {
@@ -43,23 +48,23 @@ impl Layer {
             Some(other) => union_of(alloc, &self.features, &other.features)?,
             None => union_of(alloc, &self.features, &BTreeSet::new(alloc))?,
         };
-        Ok(Layer { name, features })
+        Ok(FeatureLayer { name, features })
     }
 
     // The layer with the features of another one beside its own, moved.
-    pub fn joined(self, other: Layer) -> Result<Layer, OutOfMemory>
+    pub(crate) fn joined(self, other: FeatureLayer) -> Result<FeatureLayer, OutOfMemory>
         ensures name { IfOk result (λ l. l.name ≡ self.name) }
         ensures features { IfOk result (λ l. set_of l.features ≡ set.union (set_of self.features) (set_of other.features)) }
     {
         let features = merged(self.features, other.features)?;
-        Ok(Layer {
+        Ok(FeatureLayer {
             name: self.name,
             features,
         })
     }
 
     // Whether each position of each feature fits the grid.
-    pub fn fits(&self, grid: &Grid) -> bool
+    pub(crate) fn fits(&self, grid: &Grid) -> bool
         ensures { IsTrue result ↔ AllByRecursion (λ f. ShapeFits grid.now f.shape) self.now.features.keys }
     {
         for feature in self.features.iter() {
@@ -107,6 +112,13 @@ fn union_of(
     for feature in these.union(those) {
         copies.push(feature.copy(alloc)?)?;
     }
-    let features: BTreeSet<Feature> = copies.into_iter().collect(alloc)?;
-    Ok(features)
+    feature_set(alloc, copies)
+}
+
+/// The set of these features.
+pub fn feature_set(alloc: Global, features: Vec<Feature>) -> Result<BTreeSet<Feature>, OutOfMemory>
+    ensures { IfOk result (λ s. set_of s ≡ set.from_list features.items) }
+{
+    let set: BTreeSet<Feature> = features.into_iter().collect(alloc)?;
+    Ok(set)
 }

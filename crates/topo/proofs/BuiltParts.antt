@@ -4,16 +4,15 @@ use Rattle.std.specs.Prelude.{map as map_list, unwrap_or}
 use Rattle.std.specs.FinMap as map
 use Rattle.std.specs.Ordering.{nat_cmp}
 use Rattle.std.specs.Cmp.Lexicographic.{slice_cmp}
-use denote.Ref.{Bor}
 use Rattle.grid.specs.declared.pos.Pos.{Pos}
 use Rattle.lines.specs.Turned.{position_cmp, list_cmp}
-use Rattle.shapes.specs.Maps.{Layers, Features, features_at}
+use Rattle.shapes.specs.Maps.{Layers, Features, layer_entry}
 use Rattle.shapes.specs.Parts.{spelled_text}
 use Rattle.shapes.specs.Sets as set
 use Rattle.shapes.specs.declared.feature.Feature.{Feature}
+use Rattle.shapes.specs.declared.layer.FeatureLayer.{FeatureLayer}
 use Rattle.shapes.specs.declared.shape.Shape as shapes
 use Rattle.shapes.specs.declared.shape.Shape.TheVariants as of
-use Rattle.shapes.specs.declared.spelled.Spelled.{Spelled}
 use Rattle.lines.specs.declared.line.Line as the_line
 use Rattle.lines.specs.declared.ring.Ring as the_ring
 use Rattle.chains.specs.Arcs.{Arcs}
@@ -23,7 +22,6 @@ use Rattle.chains.specs.Seen as seen_by
 use Rattle.chains.specs.Seen.{line_of, ring_of, form_of, seen, geometry_of}
 use Rattle.chains.specs.Table.{located, ArePiecesOfMap, IsTableOf}
 use Rattle.chains.specs.declared.cutting.Piece.{Piece}
-use Rattle.chains.proofs.Layers.{of_names}
 use Rattle.chains.proofs.TableOfMap.{are_pieces, line_list, ring_list}
 use Rattle.theory.specs.ArcNumbers.{ArcRef, StitchTo}
 use Rattle.theory.specs.Arcs.{AreSortedOnce}
@@ -33,7 +31,7 @@ use Rattle.theory.specs.Topology as topology
 use Rattle.theory.specs.Topology.{Shape, Item, IsFormOf, IsGeometryOf, IsLayerOf, IsRingList, forms_of, lines_in, rings_in}
 use Rattle.theory.proofs.Lists.{Has-append, Has-append_left, Has-append_right}
 use Rattle.theory.proofs.ListsOfLists.{Has-gathered, gathered_from}
-use Rattle.topo.specs.Building.{form_pieces, layer_pieces, line_used, ring_used, body_built, geometry_built, layer_built}
+use Rattle.topo.specs.Building.{entry_built, form_pieces, line_used, ring_used, body_built, geometry_built, layer_built, parts_entry}
 use Rattle.topo.specs.OfMap.{ArePartsOf, body_of, item_of, layer_of}
 use Rattle.topo.specs.Parts.{LayerParts}
 use Rattle.topo.proofs.Sound.{are_sound}
@@ -127,37 +125,38 @@ module _ (m : Layers) (i : List Pos) (index : IsIndexOf i (geometry_of m)) (ps :
         Has-gathered (λ l. gathered (λ x. x.form ∷ []) l.items) (seen m) (seen_by.layer_of e) (form_of f.shape) (Has-map seen_by.layer_of (map.entries m) e h)
         (Has-gathered (λ x. x.form ∷ []) (map_list seen_by.item_of (set.items e.1)) (seen_by.item_of f) (form_of f.shape) (Has-map seen_by.item_of (set.items e.1) f k) (inl refl))
 
-    layers_good : (es : List (List ℕ × Features)) (names : List (Bor Spelled)) → ((e : List ℕ × Features) → Has e es → Has e (map.entries m)) →
-        map_list (λ s. spelled_text s.now) names ≡ map_list (λ e. e.0) es →
-        Pairwise (IsLayerOf position_cmp (JunctionOf (geometry_of m)) arcs) (map_list seen_by.layer_of es) (map_list layer_of (map_list (λ s. layer_built i arcs m s.now) names))
+    layers_good : (es : List (List ℕ × Features)) (ls : List LayerParts) → ((e : List ℕ × Features) → Has e es → Has e (map.entries m)) →
+        map_list parts_entry ls ≡ map_list (entry_built i arcs) es →
+        Pairwise (IsLayerOf position_cmp (JunctionOf (geometry_of m)) arcs) (map_list seen_by.layer_of es) (map_list layer_of ls)
     layers_good [] [] h e = tt
-    layers_good [] (s ∷ names) h e = absurd cc
+    layers_good [] (l ∷ ls) h e = absurd cc
     layers_good (d ∷ es) [] h e = absurd cc
-    layers_good (d ∷ es) (s ∷ names) h e =
-        let both : spelled_text s.now ∷ map_list (λ s. spelled_text s.now) names ≡ d.0 ∷ map_list (λ e. e.0) es = e in
-        let name : spelled_text s.now ≡ d.0 = cc in
-        let rest : map_list (λ s. spelled_text s.now) names ≡ map_list (λ e. e.0) es = cc in
-        let same : d.1 ≡ features_at m (spelled_text s.now) = sym (at_entry m d (h d (inl refl))) ∙ ap (features_at m) (sym name) in (
+    layers_good (d ∷ es) (l ∷ ls) h e =
+        let both : parts_entry l ∷ map_list parts_entry ls ≡ entry_built i arcs d ∷ map_list (entry_built i arcs) es = e in
+        let first : parts_entry l ≡ entry_built i arcs d = cc in
+        let rest : map_list parts_entry ls ≡ map_list (entry_built i arcs) es = cc in (
           record {
-            name = sym name;
-            items = subst (λ fs. Pairwise (IsGeometryOf position_cmp (JunctionOf (geometry_of m)) arcs) (map_list seen_by.item_of (set.items d.1)) (map_list item_of (map_list (geometry_built i arcs) (set.items fs))))
-                same (items_good (set.items d.1) (form_there d (h d (inl refl))));
+            name = sym (ap (λ p. p.0) first);
+            items = subst (λ gs. Pairwise (IsGeometryOf position_cmp (JunctionOf (geometry_of m)) arcs) (map_list seen_by.item_of (set.items d.1)) (map_list item_of gs))
+                (sym (ap (λ p. p.1) first)) (items_good (set.items d.1) (form_there d (h d (inl refl))));
           },
-          layers_good es names (λ k q. h k (inr q)) rest,
+          layers_good es ls (λ k q. h k (inr q)) rest,
         )
 
-pub built_parts : (m : Layers) (i : List Pos) (names : List (Bor Spelled)) (ps : List Piece) (t : Arcs) (ls : List LayerParts) →
+-- what is built of layers, by their entries
+pub entries_built : (i : List Pos) (arcs : List (List Pos)) (ls : List FeatureLayer) →
+    map_list parts_entry (map_list (layer_built i arcs) ls) ≡ map_list (entry_built i arcs) (map_list layer_entry ls)
+entries_built i arcs [] = refl
+entries_built i arcs (l ∷ ls) = ap (λ es. entry_built i arcs (layer_entry l) ∷ es) (entries_built i arcs ls)
+
+pub built_parts : (m : Layers) (i : List Pos) (ps : List Piece) (t : Arcs) (ls : List LayerParts) →
     IsIndexOf i (geometry_of m) →
-    map_list (λ s. spelled_text s.now) names ≡ map.keys m →
-    ps ≡ gathered (layer_pieces i m) (map_list (λ s. spelled_text s.now) names) →
+    ps ≡ gathered (form_pieces i) (forms_of (seen m)) →
     AreSortedOnce list_cmp (map_list chain_of ps) t.arcs →
     (IsSound (geometry_of m) → ArePiecesOfMap (geometry_of m) ps → IsTableOf (geometry_of m) t) →
-    ls ≡ map_list (λ s. layer_built i t.arcs m s.now) names →
+    map_list parts_entry ls ≡ map_list (entry_built i t.arcs) (map.entries m) →
     ArePartsOf m t ls
-built_parts m i names ps t ls index keys pieces sorted table layers =
-    let all : ps ≡ gathered (form_pieces i) (forms_of (seen m)) = pieces ∙ ap (gathered (layer_pieces i m)) keys ∙ of_names (form_pieces i) m in
-    record {
-      table = table (are_sound m) (map_pieces m i index ps all);
-      layers = subst (λ w. Pairwise (IsLayerOf position_cmp (JunctionOf (geometry_of m)) t.arcs) (seen m) (map_list layer_of w)) (sym layers)
-          (layers_good m i index ps all t.arcs sorted (map.entries m) names (λ e h. h) keys);
-    }
+built_parts m i ps t ls index pieces sorted table layers = record {
+  table = table (are_sound m) (map_pieces m i index ps pieces);
+  layers = layers_good m i index ps pieces t.arcs sorted (map.entries m) ls (λ e h. h) layers;
+}

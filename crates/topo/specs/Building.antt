@@ -3,13 +3,13 @@ use Rattle.std.specs.Prelude.{ℕ, List, [], ◌++◌, map as map_list}
 use Rattle.grid.specs.declared.pos.Pos.{Pos}
 use Rattle.lines.specs.declared.line.Line as the_line
 use Rattle.lines.specs.declared.ring.Ring as the_ring
-use Rattle.shapes.specs.Maps.{Layers, features_at}
+use Rattle.shapes.specs.Maps.{Features, set_of}
 use Rattle.shapes.specs.Parts.{spelled_text}
 use Rattle.shapes.specs.Sets as set
 use Rattle.shapes.specs.declared.feature.Feature.{Feature}
+use Rattle.shapes.specs.declared.layer.FeatureLayer.{FeatureLayer}
 use Rattle.shapes.specs.declared.shape.Shape as shapes
 use Rattle.shapes.specs.declared.shape.Shape.TheVariants as of
-use Rattle.shapes.specs.declared.spelled.Spelled.{Spelled}
 use Rattle.chains.specs.Pieces.{line_pieces, ring_pieces}
 use Rattle.chains.specs.Seen.{line_of, ring_of, form_of}
 use Rattle.chains.specs.Table.{located}
@@ -29,9 +29,9 @@ form_pieces i f = gathered (line_pieces i) (lines_in f) ++ gathered (ring_pieces
 abbrev pub feature_pieces : List Pos → Feature → List Piece
 feature_pieces i f = form_pieces i (form_of f.shape)
 
--- the pieces of the layer of a name
-abbrev pub layer_pieces : List Pos → Layers → List ℕ → List Piece
-layer_pieces i m name = gathered (feature_pieces i) (set.items (features_at m name))
+-- the pieces of a layer
+abbrev pub layer_pieces : List Pos → FeatureLayer → List Piece
+layer_pieces i l = gathered (feature_pieces i) (set.items (set_of l.features))
 
 -- the used arcs of a line, and of a ring
 abbrev pub line_used : List Pos → List (List Pos) → the_line.Line → List ArcRef
@@ -52,9 +52,13 @@ body_built i arcs (of.MultiPolygon ps) = to.MultiPolygon (map_list (map_list (ri
 abbrev pub geometry_built : List Pos → List (List Pos) → Feature → Geom
 geometry_built i arcs f = record { id = f.id; props = f.props; body = body_built i arcs f.shape }
 
--- the geometries of the layer of a name
-abbrev pub geometries_built : List Pos → List (List Pos) → Layers → List ℕ → List Geom
-geometries_built i arcs m name = map_list (geometry_built i arcs) (set.items (features_at m name))
+abbrev pub layer_built : List Pos → List (List Pos) → FeatureLayer → LayerParts
+layer_built i arcs l = record { name = l.name; geometries = map_list (geometry_built i arcs) (set.items (set_of l.features)) }
 
-abbrev pub layer_built : List Pos → List (List Pos) → Layers → Spelled → LayerParts
-layer_built i arcs m name = record { name = name; geometries = geometries_built i arcs m (spelled_text name) }
+-- an entry of a map, its features as geometries
+abbrev pub entry_built : List Pos → List (List Pos) → List ℕ × Features → List ℕ × List Geom
+entry_built i arcs e = (e.0, map_list (geometry_built i arcs) (set.items e.1))
+
+-- a layer of a topology as such an entry
+abbrev pub parts_entry : LayerParts → List ℕ × List Geom
+parts_entry l = (spelled_text l.name, l.geometries)

@@ -1,10 +1,9 @@
 -- The features that geometries stitch to (TopoJSON section 2.1.4).
-use Rattle.std.specs.Prelude.{◌≡◌, ℕ, List, [], ◌∷◌}
+use Rattle.std.specs.Prelude.{◌≡◌, List}
 use Rattle.grid.specs.declared.pos.Pos.{Pos}
 use Rattle.lines.specs.Seen.{positions_of, vertices_of}
 use Rattle.lines.specs.declared.line.Line as the_line
 use Rattle.lines.specs.declared.ring.Ring as the_ring
-use Rattle.shapes.specs.Maps.{Layers, with_feature}
 use Rattle.shapes.specs.declared.feature.Feature.{Feature}
 use Rattle.shapes.specs.declared.shape.Shape as shapes
 use Rattle.shapes.specs.declared.shape.Shape.TheVariants as of
@@ -43,8 +42,3 @@ pub record IsFeatureOf (arcs : List (List Pos)) (f : Feature) (g : Geom) : Type 
 -- the geometries stitch to the features, one by one
 abbrev pub AreFeaturesOf : List (List Pos) → List Feature → List Geom → Type 0
 AreFeaturesOf arcs = Pairwise (IsFeatureOf arcs)
-
--- the map with these features, too, under a name
-abbrev pub with_features : Layers → List ℕ → List Feature → Layers
-with_features m name [] = m
-with_features m name (f ∷ fs) = with_features (with_feature m name f) name fs

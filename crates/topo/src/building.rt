@@ -1,10 +1,10 @@
 //! The topology of a map: all pieces are cut and put into the table of arcs, and each line and ring
 //! becomes the list of the arcs that its pieces are.
 ghost use Rattle.std.specs.Prelude.{◌≡◌, ◌++◌, ◌<◌, ◌^◌, IfOk, OnOk, length, map as map_list};
+ghost use Rattle.std.specs.FinMap.{entries};
 ghost use Rattle.grid.specs.declared.pos.Pos.{Pos};
 ghost use Rattle.lines.specs.Turned.{position_cmp};
 ghost use Rattle.shapes.specs.Maps.{set_of};
-ghost use Rattle.shapes.specs.Parts.{spelled_text};
 ghost use Rattle.shapes.specs.Sets as set;
 ghost use Rattle.chains.specs.Pieces.{line_pieces, ring_pieces};
 ghost use Rattle.chains.specs.Seen.{line_of, ring_of, form_of, geometry_of, seen};
@@ -12,7 +12,7 @@ ghost use Rattle.chains.specs.Table.{located};
 ghost use Rattle.theory.specs.Arcs.{EachSegmentOnce};
 ghost use Rattle.theory.specs.Lists.{gathered, joined};
 ghost use Rattle.theory.specs.Topology.{forms_of};
-ghost use Rattle.topo.specs.Building.{form_pieces, feature_pieces, layer_pieces, line_used, ring_used, body_built, geometry_built, geometries_built, layer_built};
+ghost use Rattle.topo.specs.Building.{entry_built, form_pieces, feature_pieces, line_used, ring_used, body_built, geometry_built, layer_built, parts_entry};
 ghost use Rattle.topo.specs.OfMap.{ArePartsOf, IsTopology, seen_parts, the_topology, IsOf};
 
 use crate::geom::{Body, Geom, copy_positions};
@@ -27,8 +27,8 @@ use lines::line::Line;
 use lines::ring::Ring;
 use shapes::feature::Feature;
 use shapes::feature_map::FeatureMap;
+use shapes::layer::FeatureLayer;
 use shapes::shape::Shape;
-use shapes::spelled::Spelled;
 use std::alloc::Global;
 use std::collections::BTreeSet;
 
@@ -132,33 +132,17 @@ fn add_features(
     Ok(())
 }
 
-fn add_layer(
-    alloc: Global,
-    pieces: &mut Vec<Piece>,
-    index: &VisitIndex,
-    map: &FeatureMap,
-    name: &str,
-) -> Result<(), OutOfMemory>
-    ensures { OnOk result (pieces.new.items ≡ pieces.old.items ++ layer_pieces index.now map.now name.now) }
-{
-    match map.layer(name) {
-        Some(features) => add_features(alloc, pieces, index, features),
-        None => Ok(()),
-    }
-}
-
 /// The pieces of all lines and rings of the map, in its order.
 fn all_pieces(
     alloc: Global,
     index: &VisitIndex,
     map: &FeatureMap,
-    names: &[&Spelled],
 ) -> Result<Vec<Piece>, OutOfMemory>
-    ensures { IfOk result (λ v. v.items ≡ gathered (layer_pieces index.now map.now) (map_list (λ s. spelled_text s.now) names.now)) }
+    ensures { IfOk result (λ v. v.items ≡ gathered (form_pieces index.now) (forms_of (seen map.now))) }
 {
     let mut pieces = Vec::new(alloc);
-    for name in names {
-        add_layer(alloc, &mut pieces, index, map, name.text())?;
+    for layer in map.layers() {
+        add_features(alloc, &mut pieces, index, &layer.features)?;
     }
     Ok(pieces)
 }
@@ -283,34 +267,20 @@ impl ArcLists<'_> {
         Ok(geometries)
     }
 
-    fn layer(&self, alloc: Global, map: &FeatureMap, name: &str) -> Result<Vec<Geom>, OutOfMemory>
-        ensures { IfOk result (λ v. v.items ≡ geometries_built self.now.index.now self.now.table.now.arcs map.now name.now) }
+    fn layer(&self, alloc: Global, layer: &FeatureLayer) -> Result<Layer, OutOfMemory>
+        ensures { IfOk result (λ l. l ≡ layer_built self.now.index.now self.now.table.now.arcs layer.now) }
     {
-        match map.layer(name) {
-            Some(features) => self.geometries(alloc, features),
-            None => Ok(Vec::new(alloc)),
-        }
-    }
-
-    fn named(&self, alloc: Global, map: &FeatureMap, name: &Spelled) -> Result<Layer, OutOfMemory>
-        ensures { IfOk result (λ l. l ≡ layer_built self.now.index.now self.now.table.now.arcs map.now name.now) }
-    {
-        let geometries = self.layer(alloc, map, name.text())?;
-        let name = name.copy(alloc)?;
+        let name = layer.name.copy(alloc)?;
+        let geometries = self.geometries(alloc, &layer.features)?;
         Ok(Layer::new(name, geometries))
     }
 
-    fn layers(
-        &self,
-        alloc: Global,
-        map: &FeatureMap,
-        names: &[&Spelled],
-    ) -> Result<Vec<Layer>, OutOfMemory>
-        ensures { IfOk result (λ v. v.items ≡ map_list (λ s. layer_built self.now.index.now self.now.table.now.arcs map.now s.now) names.now) }
+    fn layers(&self, alloc: Global, map: &FeatureMap) -> Result<Vec<Layer>, OutOfMemory>
+        ensures { IfOk result (λ v. map_list parts_entry v.items ≡ map_list (entry_built self.now.index.now self.now.table.now.arcs) (entries map.now)) }
     {
-        let mut layers = Vec::with_capacity(alloc, names.len())?;
-        for name in names {
-            layers.push(self.named(alloc, map, name)?)?;
+        let mut layers = Vec::new(alloc);
+        for layer in map.layers() {
+            layers.push(self.layer(alloc, layer)?)?;
         }
         Ok(layers)
     }
@@ -326,15 +296,14 @@ struct Parts {
 fn parts_of(alloc: Global, map: &FeatureMap) -> Result<Parts, OutOfMemory>
     ensures { IfOk result (λ p. ArePartsOf map.now p.table p.layers.items) }
 {
-    let names = map.names()?;
     let index = VisitIndex::of(alloc, map)?;
-    let pieces = all_pieces(alloc, &index, map, &names)?;
+    let pieces = all_pieces(alloc, &index, map)?;
     let table = ArcTable::from_pieces(alloc, pieces)?;
     let lists = ArcLists {
         index: &index,
         table: &table,
     };
-    let layers = lists.layers(alloc, map, &names)?;
+    let layers = lists.layers(alloc, map)?;
     Ok(Parts { table, layers })
 }
 

@@ -1,14 +1,14 @@
 //! The map that a topology holds: its features, stitched from the arcs.
-ghost use Rattle.std.specs.Prelude.{◌≡◌, IfOk, IsTrue, List, OnOk};
-ghost use Rattle.std.specs.FinMap.{contains_key};
+ghost use Rattle.std.specs.Prelude.{◌≡◌, IfOk, List};
 ghost use Rattle.lines.specs.declared.line.Line as the_line;
 ghost use Rattle.lines.specs.declared.ring.Ring as the_ring;
-ghost use Rattle.shapes.specs.Maps.{Layers, with_feature, with_layer};
+ghost use Rattle.shapes.specs.Maps.{Layers, with_features};
 ghost use Rattle.shapes.specs.Parts.{spelled_text};
+ghost use Rattle.shapes.specs.Sets.{from_list};
 ghost use Rattle.shapes.specs.declared.feature.Feature as features;
 ghost use Rattle.shapes.specs.declared.shape.Shape as shapes;
 ghost use Rattle.theory.specs.Lists.{Pairwise};
-ghost use Rattle.topo.specs.Features.{AreFeaturesOf, IsFeatureOf, IsLineOf, IsRingOf, IsShapeOf, with_features};
+ghost use Rattle.topo.specs.Features.{AreFeaturesOf, IsFeatureOf, IsLineOf, IsRingOf, IsShapeOf};
 ghost use Rattle.topo.specs.OfMap.{IsOf};
 ghost use Rattle.topo.specs.Walked.{walked};
 
@@ -22,21 +22,9 @@ use lines::line::Line;
 use lines::ring::Ring;
 use shapes::feature::Feature;
 use shapes::feature_map::FeatureMap;
-use shapes::insert_fault::InsertFault;
+use shapes::layer::feature_set;
 use shapes::shape::Shape;
 use std::alloc::Global;
-
-/// Puts a feature into a layer that is there.
-fn put(map: &mut FeatureMap, name: &str, feature: Feature) -> Result<(), OutOfMemory>
-    requires { IsTrue (contains_key map.old name.now) }
-    ensures { OnOk result (map.new ≡ with_feature map.old name.now feature) }
-{
-    match map.insert(name, feature) {
-        Ok(_) => Ok(()),
-        Err(InsertFault::OutOfMemory) => Err(OutOfMemory),
-        Err(InsertFault::NoLayer) => unreachable!(),
-    }
-}
 
 impl Topology {
     /// The positions of a list of arcs, in a vector of their own.
@@ -134,23 +122,30 @@ impl Topology {
         Ok(Feature { id, props, shape })
     }
 
+    fn features(&self, alloc: Global, geometries: &[Geom]) -> Result<Vec<Feature>, OutOfMemory>
+        requires { (fs : List features.Feature) × AreFeaturesOf self.now.arcs.arcs fs geometries.now }
+        ensures { IfOk result (λ made. (fs : List features.Feature) → AreFeaturesOf self.now.arcs.arcs fs geometries.now → made.items ≡ fs) }
+    {
+        let mut features = Vec::with_capacity(alloc, geometries.len())?;
+        for geometry in geometries {
+            features.push(self.feature(alloc, geometry)?)?;
+        }
+        Ok(features)
+    }
+
     fn put_layer(
         &self,
         alloc: Global,
-        map: &mut FeatureMap,
+        map: FeatureMap,
         layer: &Layer,
-    ) -> Result<(), OutOfMemory>
+    ) -> Result<FeatureMap, OutOfMemory>
         requires { (fs : List features.Feature) × AreFeaturesOf self.now.arcs.arcs fs layer.now.geometries }
-        ensures { OnOk result ((fs : List features.Feature) → AreFeaturesOf self.now.arcs.arcs fs layer.now.geometries
-            → map.new ≡ with_features (with_layer map.old (spelled_text layer.now.name)) (spelled_text layer.now.name) fs) }
+        ensures { IfOk result (λ made. (fs : List features.Feature) → AreFeaturesOf self.now.arcs.arcs fs layer.now.geometries
+            → made ≡ with_features map (spelled_text layer.now.name) (from_list fs)) }
     {
-        let name = layer.name().text();
-        map.add_layer(name)?;
-        for geometry in layer.geometries() {
-            let feature = self.feature(alloc, geometry)?;
-            put(map, name, feature)?;
-        }
-        Ok(())
+        let features = self.features(alloc, layer.geometries())?;
+        let features = feature_set(alloc, features)?;
+        map.with_features(layer.name().text(), features)
     }
 
     /// The map that the topology is of: under each layer's name the features that stitching its
@@ -165,7 +160,7 @@ impl Topology {
     {
         let mut map = FeatureMap::new(alloc);
         for layer in self.layers() {
-            self.put_layer(alloc, &mut map, layer)?;
+            map = self.put_layer(alloc, map, layer)?;
         }
         Ok(map)
     }

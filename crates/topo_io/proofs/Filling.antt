@@ -8,15 +8,15 @@ use Rattle.std.specs.Ordering.{nat_cmp, is_eq, eq_by_cmp}
 use Rattle.std.specs.declared.cmp.Ordering.TheVariants.{Less, Equal, Greater}
 use Rattle.theory.specs.Lists.{Has, Distinct}
 use Rattle.shapes.specs.Sets as set
-use Rattle.shapes.specs.SetLaws.{contains-empty, contains-insert}
-use Rattle.shapes.specs.Maps.{Layers, Features, features_at, with_layer, with_feature}
+use Rattle.shapes.specs.SetLaws.{contains-empty, contains-union}
+use Rattle.shapes.specs.Maps.{Layers, Features, features_at, with_features}
 use Rattle.shapes.specs.Order.{feature_cmp}
-use Rattle.shapes.specs.OrderLaws.{feature_cmp_total, feature_tied, same_text}
+use Rattle.shapes.specs.OrderLaws.{feature_cmp_total, same_text}
 use Rattle.shapes.specs.declared.feature.Feature.{Feature}
 use Rattle.reading.specs.Meant.{AreFeatures, AreLayers}
 use Rattle.reading.specs.Plain.{Plain, plain}
 use Rattle.reading.proofs.Plains.{has_plain, plain_has}
-use Rattle.topo.specs.Features.{with_features}
+use Rattle.shapes.proofs.Members.{either, has_listed, left_true, right_true}
 use Rattle.topo_io.specs.Layers.{plain_layer, layer_read, names_read, with_layers}
 
 -- ---- one more entry
@@ -58,90 +58,38 @@ insert_names : (m : Layers) (n : List ℕ) (s : Features) (q : List ℕ) → (q 
 insert_names m n s q (inl e) = elim (found m n s q) [ inl k ↦ ap is_some k.1 | inr k ↦ absurd (k.0 e) ]
 insert_names m n s q (inr h) = elim (found m n s q) [ inl k ↦ ap is_some k.1 | inr k ↦ ap is_some k.1 ∙ h ]
 
--- a new layer has no features
-same_features : (m : Layers) (n q : List ℕ) → features_at (with_layer m n) q ≡ features_at m q
-same_features m n q =
-    elim (found m n (features_at m n) q) [
-      | inl k ↦ ap (λ o. unwrap_or o set.empty) k.1 ∙ sym (ap (features_at m) k.0)
-      | inr k ↦ ap (λ o. unwrap_or o set.empty) k.1
-    ]
+-- ---- more features under a name
 
-either : (a b : Bool) → (a || b) ≡ true → (a ≡ true) ⊎ (b ≡ true)
-either true b e = inl refl
-either false b e = inr e
+-- the features that then stand under the name
+abbrev whole : Layers → List ℕ → List Feature → Features
+whole m n fs = set.union (set.from_list {R = feature_cmp} fs) (features_at m n)
 
-left_true : (a b : Bool) → a ≡ true → (a || b) ≡ true
-left_true true b e = refl
-left_true false b e = cc
+at_whole : (m : Layers) (n : List ℕ) (fs : List Feature) (f : Feature) → set.contains (whole m n fs) f ≡ (set.contains (set.from_list {R = feature_cmp} fs) f || set.contains (features_at m n) f)
+at_whole m n fs f = contains-union feature_cmp_total (set.from_list fs) (features_at m n) f
 
-right_true : (a b : Bool) → b ≡ true → (a || b) ≡ true
-right_true true b e = refl
-right_true false b e = e
-
-set_has : (s : Features) (g f : Feature) → IsTrue (set.contains (set.insert s g) f) → (f ≡ g) ⊎ IsTrue (set.contains s f)
-set_has s g f h =
-    elim (either (eq_by_cmp feature_cmp f g) (set.contains s f) (sym (contains-insert feature_cmp_total s g f) ∙ h)) [
-      | inl e ↦ inl ((feature_tied f g).0 e)
-      | inr k ↦ inr k
-    ]
-
-has_set : (s : Features) (g f : Feature) → (f ≡ g) ⊎ IsTrue (set.contains s f) → IsTrue (set.contains (set.insert s g) f)
-has_set s g f (inl e) = contains-insert feature_cmp_total s g f ∙ left_true (eq_by_cmp feature_cmp f g) (set.contains s f) ((feature_tied f g).1 e)
-has_set s g f (inr h) = contains-insert feature_cmp_total s g f ∙ right_true (eq_by_cmp feature_cmp f g) (set.contains s f) h
-
-feature_in : (m : Layers) (n : List ℕ) (g : Feature) (q : List ℕ) (f : Feature) → In (with_feature m n g) q f → ((q ≡ n) × (f ≡ g)) ⊎ In m q f
-feature_in m n g q f h =
-    elim (found m n (set.insert (features_at m n) g) q) [
-      | inl k ↦ elim (set_has (features_at m n) g f (sym (ap (λ o. set.contains (unwrap_or o set.empty) f) k.1) ∙ h)) [
-        | inl e ↦ inl (k.0, e)
+features_in : (m : Layers) (n : List ℕ) (fs : List Feature) (q : List ℕ) (f : Feature) → In (with_features m n (set.from_list fs)) q f → ((q ≡ n) × Has f fs) ⊎ In m q f
+features_in m n fs q f h =
+    elim (found m n (whole m n fs) q) [
+      | inl k ↦ elim (either (set.contains (set.from_list fs) f) (set.contains (features_at m n) f) (sym (ap (λ o. set.contains (unwrap_or o set.empty) f) k.1 ∙ at_whole m n fs f) ∙ h)) [
+        | inl e ↦ inl (k.0, (has_listed fs f).0 e)
         | inr j ↦ inr (ap (λ x. set.contains (features_at m x) f) k.0 ∙ j)
       ]
       | inr k ↦ inr (sym (ap (λ o. set.contains (unwrap_or o set.empty) f) k.1) ∙ h)
     ]
 
-in_feature : (m : Layers) (n : List ℕ) (g : Feature) (q : List ℕ) (f : Feature) → ((q ≡ n) × (f ≡ g)) ⊎ In m q f → In (with_feature m n g) q f
-in_feature m n g q f (inl h) =
-    elim (found m n (set.insert (features_at m n) g) q) [
-      | inl k ↦ ap (λ o. set.contains (unwrap_or o set.empty) f) k.1 ∙ has_set (features_at m n) g f (inl h.1)
+in_features : (m : Layers) (n : List ℕ) (fs : List Feature) (q : List ℕ) (f : Feature) → ((q ≡ n) × Has f fs) ⊎ In m q f → In (with_features m n (set.from_list fs)) q f
+in_features m n fs q f (inl h) =
+    elim (found m n (whole m n fs) q) [
+      | inl k ↦ ap (λ o. set.contains (unwrap_or o set.empty) f) k.1 ∙ at_whole m n fs f
+          ∙ left_true (set.contains (set.from_list fs) f) (set.contains (features_at m n) f) ((has_listed fs f).1 h.1)
       | inr k ↦ absurd (k.0 h.0)
     ]
-in_feature m n g q f (inr h) =
-    elim (found m n (set.insert (features_at m n) g) q) [
-      | inl k ↦ ap (λ o. set.contains (unwrap_or o set.empty) f) k.1 ∙ has_set (features_at m n) g f (inr (sym (ap (λ x. set.contains (features_at m x) f) k.0) ∙ h))
+in_features m n fs q f (inr h) =
+    elim (found m n (whole m n fs) q) [
+      | inl k ↦ ap (λ o. set.contains (unwrap_or o set.empty) f) k.1 ∙ at_whole m n fs f
+          ∙ right_true (set.contains (set.from_list fs) f) (set.contains (features_at m n) f) (sym (ap (λ x. set.contains (features_at m x) f) k.0) ∙ h)
       | inr k ↦ ap (λ o. set.contains (unwrap_or o set.empty) f) k.1 ∙ h
     ]
-
--- ---- more features under a name
-
-features_in : (m : Layers) (n : List ℕ) (fs : List Feature) (q : List ℕ) (f : Feature) → In (with_features m n fs) q f → ((q ≡ n) × Has f fs) ⊎ In m q f
-features_in m n [] q f h = inr h
-features_in m n (g ∷ fs) q f h =
-    elim (features_in (with_feature m n g) n fs q f h) [
-      | inl k ↦ inl (k.0, inr k.1)
-      | inr k ↦ elim (feature_in m n g q f k) [ inl e ↦ inl (e.0, inl e.1) | inr j ↦ inr j ]
-    ]
-
-in_features : (m : Layers) (n : List ℕ) (fs : List Feature) (q : List ℕ) (f : Feature) → ((q ≡ n) × Has f fs) ⊎ In m q f → In (with_features m n fs) q f
-in_features m n [] q f (inl h) = absurd h.1
-in_features m n [] q f (inr h) = h
-in_features m n (g ∷ fs) q f (inl h) =
-    elim h.1 [
-      | inl e ↦ in_features (with_feature m n g) n fs q f (inr (in_feature m n g q f (inl (h.0, e))))
-      | inr k ↦ in_features (with_feature m n g) n fs q f (inl (h.0, k))
-    ]
-in_features m n (g ∷ fs) q f (inr h) = in_features (with_feature m n g) n fs q f (inr (in_feature m n g q f (inr h)))
-
-features_name : (m : Layers) (n : List ℕ) (fs : List Feature) (q : List ℕ) → Names (with_features m n fs) q → (q ≡ n) ⊎ Names m q
-features_name m n [] q h = inr h
-features_name m n (g ∷ fs) q h =
-    elim (features_name (with_feature m n g) n fs q h) [
-      | inl e ↦ inl e
-      | inr k ↦ names_insert m n (set.insert (features_at m n) g) q k
-    ]
-
-name_features : (m : Layers) (n : List ℕ) (fs : List Feature) (q : List ℕ) → Names m q → Names (with_features m n fs) q
-name_features m n [] q h = h
-name_features m n (g ∷ fs) q h = name_features (with_feature m n g) n fs q (insert_names m n (set.insert (features_at m n) g) q (inr h))
 
 -- ---- layers
 
@@ -153,12 +101,9 @@ AtLayer (l ∷ ls) q f = ((q ≡ l.0) × Has f l.1) ⊎ AtLayer ls q f
 layers_in : (m : Layers) (ls : List (List ℕ × List Feature)) (q : List ℕ) (f : Feature) → In (with_layers m ls) q f → AtLayer ls q f ⊎ In m q f
 layers_in m [] q f h = inr h
 layers_in m (l ∷ ls) q f h =
-    elim (layers_in (with_features (with_layer m l.0) l.0 l.1) ls q f h) [
+    elim (layers_in (with_features m l.0 (set.from_list l.1)) ls q f h) [
       | inl k ↦ inl (inr k)
-      | inr k ↦ elim (features_in (with_layer m l.0) l.0 l.1 q f k) [
-        | inl j ↦ inl (inl j)
-        | inr j ↦ inr (subst (λ s. IsTrue (set.contains s f)) (same_features m l.0 q) j)
-      ]
+      | inr k ↦ elim (features_in m l.0 l.1 q f k) [ inl j ↦ inl (inl j) | inr j ↦ inr j ]
     ]
 
 in_layers : (m : Layers) (ls : List (List ℕ × List Feature)) (q : List ℕ) (f : Feature) → AtLayer ls q f ⊎ In m q f → In (with_layers m ls) q f
@@ -166,12 +111,10 @@ in_layers m [] q f (inl h) = absurd h
 in_layers m [] q f (inr h) = h
 in_layers m (l ∷ ls) q f (inl h) =
     elim h [
-      | inl k ↦ in_layers (with_features (with_layer m l.0) l.0 l.1) ls q f (inr (in_features (with_layer m l.0) l.0 l.1 q f (inl k)))
-      | inr k ↦ in_layers (with_features (with_layer m l.0) l.0 l.1) ls q f (inl k)
+      | inl k ↦ in_layers (with_features m l.0 (set.from_list l.1)) ls q f (inr (in_features m l.0 l.1 q f (inl k)))
+      | inr k ↦ in_layers (with_features m l.0 (set.from_list l.1)) ls q f (inl k)
     ]
-in_layers m (l ∷ ls) q f (inr h) =
-    in_layers (with_features (with_layer m l.0) l.0 l.1) ls q f
-    (inr (in_features (with_layer m l.0) l.0 l.1 q f (inr (subst (λ s. IsTrue (set.contains s f)) (sym (same_features m l.0 q)) h))))
+in_layers m (l ∷ ls) q f (inr h) = in_layers (with_features m l.0 (set.from_list l.1)) ls q f (inr (in_features m l.0 l.1 q f (inr h)))
 
 abbrev names_of : List (List ℕ × List Feature) → List (List ℕ)
 names_of ls = map_list (λ l. l.0) ls
@@ -179,12 +122,9 @@ names_of ls = map_list (λ l. l.0) ls
 layers_name : (m : Layers) (ls : List (List ℕ × List Feature)) (q : List ℕ) → Names (with_layers m ls) q → Has q (names_of ls) ⊎ Names m q
 layers_name m [] q h = inr h
 layers_name m (l ∷ ls) q h =
-    elim (layers_name (with_features (with_layer m l.0) l.0 l.1) ls q h) [
+    elim (layers_name (with_features m l.0 (set.from_list l.1)) ls q h) [
       | inl k ↦ inl (inr k)
-      | inr k ↦ elim (features_name (with_layer m l.0) l.0 l.1 q k) [
-        | inl e ↦ inl (inl e)
-        | inr j ↦ elim (names_insert m l.0 (features_at m l.0) q j) [ inl e ↦ inl (inl e) | inr i ↦ inr i ]
-      ]
+      | inr k ↦ elim (names_insert m l.0 (whole m l.0 l.1) q k) [ inl e ↦ inl (inl e) | inr j ↦ inr j ]
     ]
 
 name_layers : (m : Layers) (ls : List (List ℕ × List Feature)) (q : List ℕ) → Has q (names_of ls) ⊎ Names m q → Names (with_layers m ls) q
@@ -192,11 +132,10 @@ name_layers m [] q (inl h) = absurd h
 name_layers m [] q (inr h) = h
 name_layers m (l ∷ ls) q (inl h) =
     elim h [
-      | inl e ↦ name_layers (with_features (with_layer m l.0) l.0 l.1) ls q (inr (name_features (with_layer m l.0) l.0 l.1 q (insert_names m l.0 (features_at m l.0) q (inl e))))
-      | inr k ↦ name_layers (with_features (with_layer m l.0) l.0 l.1) ls q (inl k)
+      | inl e ↦ name_layers (with_features m l.0 (set.from_list l.1)) ls q (inr (insert_names m l.0 (whole m l.0 l.1) q (inl e)))
+      | inr k ↦ name_layers (with_features m l.0 (set.from_list l.1)) ls q (inl k)
     ]
-name_layers m (l ∷ ls) q (inr h) =
-    name_layers (with_features (with_layer m l.0) l.0 l.1) ls q (inr (name_features (with_layer m l.0) l.0 l.1 q (insert_names m l.0 (features_at m l.0) q (inr h))))
+name_layers m (l ∷ ls) q (inr h) = name_layers (with_features m l.0 (set.from_list l.1)) ls q (inr (insert_names m l.0 (whole m l.0 l.1) q (inr h)))
 
 -- ---- layers as plain data
 
@@ -277,7 +216,3 @@ read_layers ls made meant is distinct means =
     subst (λ m. AreLayers m meant) (sym is)
     (subst (AreLayers (with_layers map.empty (map_list layer_read ls))) (plain_read ls ∙ means)
     (are_layers (map_list layer_read ls) (subst Distinct (sym (same_read ls)) distinct)))
-
--- a layer that is there is no missing one
-pub not_missing : (m : Layers) (n : List ℕ) → IsTrue (map.contains_key m n) → map.get m n ≡ None → ⊥
-not_missing m n h none = nothing (sym (ap is_some none) ∙ h)

@@ -9,3 +9,4 @@ pub mod Geometries
 pub mod Filling
 pub mod Fitting
 pub mod Once
+pub mod SinkLemmas

@@ -8,4 +8,4 @@ pub mod writer;
 
 pub use reader::read;
 pub use same::{is_canonical, is_text_of};
-pub use writer::write;
+pub use writer::{text_of, write};

@@ -11,7 +11,6 @@ ghost use Rattle.reading.specs.Fault.{LeastOrWant, under};
 ghost use Rattle.reading.specs.Parts.{named, type_text, member_faults};
 ghost use Rattle.reading.specs.Info.{member_or_null};
 ghost use Rattle.topo_io.specs.Arcs.{known};
-ghost use Rattle.topo.specs.Features.{with_features};
 ghost use Rattle.shapes.specs.Fitting.{MapFits};
 ghost use Rattle.topo_io.specs.Means.{Means};
 ghost use Rattle.topo_io.specs.Layers.{plain_layer, layer_read, names_read, with_layers};
@@ -31,6 +30,7 @@ use crate::reader::geometry::Ground;
 use crate::reader::layer::LayerOf;
 use crate::reader::position::Limits;
 use crate::reader::transform::read_transform;
+use faults::OutOfMemory;
 use faults::fault::{Fault, FaultKind};
 use grid::transform::Grid;
 use reading::document::document;
@@ -38,7 +38,7 @@ use reading::part::{Listed, Part, read_each_member, read_member, type_fault, typ
 use serde_json::Value;
 use shapes::feature::Feature;
 use shapes::feature_map::FeatureMap;
-use shapes::insert_fault::InsertFault;
+use shapes::layer::feature_set;
 use std::alloc::Global;
 
 /// Layers by name, each with the features that its geometries mean.
@@ -178,39 +178,26 @@ fn read_text(alloc: Global, bytes: &[u8]) -> Result<(Grid, Layers), Fault>
     read_root(alloc, &value)
 }
 
-// Puts features into a layer that is there.
-fn fill(
-    alloc: Global,
-    map: &mut FeatureMap,
-    name: &str,
-    features: Vec<Feature>,
-) -> Result<(), Fault>
-    requires { IsTrue (finite.contains_key map.old name.now) }
-    ensures made { OnOk result (map.new ≡ with_features map.old name.now features.items) }
-    ensures err { IfErr result IsWant }
+// The map of the layers, each put under its name.
+fn put_layers(alloc: Global, layers: Layers) -> Result<FeatureMap, OutOfMemory>
+    ensures { IfOk result (λ m. m ≡ with_layers finite.empty (map_list layer_read layers.items)) }
 {
-    for feature in features {
-        match map.insert(name, feature) {
-            Ok(_) => {}
-            Err(InsertFault::NoLayer) => unreachable!(),
-            Err(InsertFault::OutOfMemory) => return Err(Fault::here(alloc, FaultKind::OutOfMemory)),
-        }
+    let mut map = FeatureMap::new(alloc);
+    for (name, features) in layers {
+        let features = feature_set(alloc, features)?;
+        map = map.with_features(name.as_str(), features)?;
     }
-    Ok(())
+    Ok(map)
 }
 
 fn map_of(alloc: Global, layers: Layers) -> Result<FeatureMap, Fault>
     ensures made { IfOk result (λ m. m ≡ with_layers finite.empty (map_list layer_read layers.items)) }
     ensures err { IfErr result IsWant }
 {
-    let mut map = FeatureMap::new(alloc);
-    for (name, features) in layers {
-        match map.add_layer(name.as_str()) {
-            Ok(_) => fill(alloc, &mut map, name.as_str(), features)?,
-            Err(_) => return Err(Fault::here(alloc, FaultKind::OutOfMemory)),
-        }
+    match put_layers(alloc, layers) {
+        Ok(map) => Ok(map),
+        Err(_) => Err(Fault::here(alloc, FaultKind::OutOfMemory)),
     }
-    Ok(map)
 }
 
 /// The grid of a topology's text, and its features: what its arcs stitch to (TopoJSON, section 2).

@@ -1,6 +1,6 @@
 //! Writing the canonical text of a topology (TopoJSON, section 2), piece by piece and with no memory:
 //! compact JSON, members in byte order of their names, no newline at the end.
-ghost use Rattle.std.specs.Prelude.{◌≡◌, ℕ, ℤ, ◌-ℤ◌, List, [], ◌++◌, codes, OnErr, OnOk};
+ghost use Rattle.std.specs.Prelude.{◌≡◌, ℕ, ℤ, ◌-ℤ◌, List, [], ◌++◌, codes, IfOk, OnErr, OnOk};
 ghost use Rattle.std.specs.Fmt.{signed_decimal};
 ghost use Rattle.sinks.specs.Texts.{list_text, joined, option_text};
 ghost use Rattle.sinks.specs.Writes.{TookAll, TookPart};
@@ -10,13 +10,15 @@ ghost use Rattle.topo.specs.OfMap.{body_of, item_of, layer_of, seen_parts};
 ghost use Rattle.topo_io.specs.TopologyText.{position_text, difference_text, differences_text, arc_positions, arc_text, index_text, content_text, type_text, properties_member, geometry_text, layer_text, bbox_text, transform_of, transform_text, topology_text};
 
 use chains::table::{ArcRef, ArcTable};
+use faults::OutOfMemory;
 use grid::Pos;
 use itoa::Buffer;
 use shapes::props::Props;
 use sinks::written::{
     Bracketed, Each, Joined, Listed, Notation, Noted, Number, Pair, Text, Then, Written,
 };
-use sinks::{Sink, WriteFault, put};
+use sinks::{Kept, Sink, WriteFault, put};
+use std::alloc::Global;
 use topo::geom::{Body, Geom};
 use topo::topology::{Layer, Topology};
 use writing::{IdMember, Lists};
@@ -314,4 +316,19 @@ pub fn write<W: Sink>(topology: &Topology, sink: &mut W) -> Result<(), WriteFaul
     ensures limits { IsTransform topology.now.grid }
 {
     Canonical(topology).write(sink)
+}
+
+/// The canonical text of a topology, in memory.
+///
+/// # Errors
+/// Where memory is refused.
+pub fn text_of(alloc: Global, topology: &Topology) -> Result<Vec<u8>, OutOfMemory>
+    ensures text { IfOk result (λ t. t.items ≡ topology_text (seen_parts topology.now)) }
+    ensures limits { IsTransform topology.now.grid }
+{
+    let mut kept = Kept::new(alloc);
+    match write(topology, &mut kept) {
+        Ok(()) => Ok(kept.into_bytes()),
+        Err(_) => Err(OutOfMemory),
+    }
 }

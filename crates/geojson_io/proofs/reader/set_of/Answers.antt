@@ -1,15 +1,8 @@
-use Rattle.std.proofs.Common.{◌≡◌, ◌∙◌}
-use Rattle.std.proofs.lemmas.Iterator.Adapters.{fact_from_collect, YieldsList-from_vec}
-use Rattle.std.proofs.lemmas.Result.{IfOk-at_ok}
-use Rattle.std.specs.BTreeSet as sorted
-use Rattle.shapes.specs.Order.{feature_cmp}
-use Rattle.geojson_io.proofs.Sets.{collected}
+use Rattle.std.proofs.Common.{◌↔◌, IsTrue, sym, subst}
+use Rattle.shapes.specs.Sets as set
+use Rattle.theory.specs.Lists.{Has}
+use Rattle.shapes.proofs.Members.{has_listed}
 use Rattle.geojson_io.proofs.reader.set_of.Goals as goal
 
 pub returns-in-Ok-clause-ok : goal.returns-in-Ok-clause-ok
-returns-in-Ok-clause-ok c =
-    let given = c.args.features in
-    let gives = c.into_iter.ensures in
-    let road = YieldsList-from_vec {s = c.into_iter.result} given.items gives.rest (gives.len ∙ given.ok.0) in
-    let made = IfOk-at_ok (sorted.IsFromIterResult feature_cmp given.items) c.in-Ok.is (fact_from_collect (sorted.IsFromIterResult feature_cmp) c.collect.result c.collect.ensures.ran road) in
-    λ f. collected c.in-Ok.features given.items made f
+returns-in-Ok-clause-ok c = λ f. subst (λ s. IsTrue (set.contains s f) ↔ Has f c.args.features.items) (sym c.in-Ok.ensures) (has_listed c.args.features.items f)

@@ -12,8 +12,8 @@ put_layer-requires c =
 
 pub loop-layer-preserved : goal.loop-layer-preserved
 loop-layer-preserved c = λ m h.
-    layer_step c.args.self.now c.layers-layer-items.result.now c.layers-layer-items.ensures.layers c.loop-layer.layer-index m c.loop-layer.map c.put_layer.new.map
-    (with_entries empty (entries m)) c.layer-item.result h c.loop-layer-test.true c.layer-item.is c.in_ok-put_layer.ensures (c.loop-layer.invariant m h)
+    layer_step c.args.self.now c.layers-layer-items.result.now c.layers-layer-items.ensures.layers c.loop-layer.layer-index m c.loop-layer.map c.in_ok-map.map
+    (with_entries empty (entries m)) c.layer-item.result h c.loop-layer-test.true c.layer-item.is c.in_ok-map.ensures (c.loop-layer.invariant m h)
 
 pub returns-clause-of_map : goal.returns-clause-of_map
 returns-clause-of_map c =
