@@ -1,6 +1,6 @@
 //! Topology texts that are refused, each with the least of its faults.
-use acceptance_harness::run_words;
-use std::alloc::Global;
+use crate::harness::run_words;
+use std::process::Abort;
 use std::test::Fail;
 
 /// A text, and the fault that its refusal names.
@@ -12,12 +12,12 @@ struct Row {
 }
 
 /// `check` and `merge` refuse each text with its fault, and print nothing.
-fn expect_refused(alloc: Global, rows: &[Row]) -> Result<(), Fail> {
+fn assert_refused<R: Abort + AllocGlobal>(rt: &R, rows: &[Row]) -> Result<(), Fail> {
     for row in rows {
-        let line = format!(in alloc; "topotool: t.json: {}\n", row.fault)?;
+        let line = format!(in rt.alloc(); "topotool: t.json: {}\n", row.fault)?;
         for command in ["check", "merge"] {
-            let outcome = run_words(alloc, &[command, "t.json"], &[("t.json", row.text)])?;
-            outcome.expect_refused(row.title, 4, line.as_str())?;
+            let outcome = run_words(rt.alloc(), &[command, "t.json"], &[("t.json", row.text)])?;
+            outcome.assert_refused(rt, row.title, 4, line.as_str());
         }
     }
     Ok(())
@@ -133,7 +133,7 @@ const ROOTS: &[Row] = &[
 
 #[test]
 fn roots_and_transforms(rt: HostRuntime) -> Result<(), Fail> {
-    expect_refused(rt.alloc(), ROOTS)
+    assert_refused(&rt, ROOTS)
 }
 
 const ARCS: &[Row] = &[
@@ -191,7 +191,7 @@ const ARCS: &[Row] = &[
 
 #[test]
 fn arcs(rt: HostRuntime) -> Result<(), Fail> {
-    expect_refused(rt.alloc(), ARCS)
+    assert_refused(&rt, ARCS)
 }
 
 const LAYERS: &[Row] = &[
@@ -279,7 +279,7 @@ const LAYERS: &[Row] = &[
 
 #[test]
 fn layers(rt: HostRuntime) -> Result<(), Fail> {
-    expect_refused(rt.alloc(), LAYERS)
+    assert_refused(&rt, LAYERS)
 }
 
 const STITCHING: &[Row] = &[
@@ -367,5 +367,5 @@ const STITCHING: &[Row] = &[
 
 #[test]
 fn stitching(rt: HostRuntime) -> Result<(), Fail> {
-    expect_refused(rt.alloc(), STITCHING)
+    assert_refused(&rt, STITCHING)
 }

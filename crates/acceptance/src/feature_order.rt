@@ -1,6 +1,7 @@
 //! The order of features: by id (none, numbers, texts), then by the bytes of the properties' text,
 //! then by type, then by positions.
-use acceptance_harness::{build_all, topology};
+use crate::harness::build_all;
+use crate::inputs::topology;
 use std::test::Fail;
 
 /// Features from the last to the first.
@@ -23,6 +24,6 @@ const TOPOLOGY: &str = topology!(
 
 #[test]
 fn features_are_printed_in_order(rt: HostRuntime) -> Result<(), Fail> {
-    build_all(rt.alloc(), "a", FEATURES)?.expect_printed("order of features", TOPOLOGY)?;
+    build_all(rt.alloc(), "a", FEATURES)?.assert_printed(&rt, "order of features", TOPOLOGY);
     Ok(())
 }

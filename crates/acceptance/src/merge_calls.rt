@@ -1,6 +1,6 @@
 //! `merge_texts` by plans of any form: its answers, and its faults in their order.
-use acceptance_harness::inputs::{B, EMPTY, FREE_LOOP, ONE_SQUARE, OTHER_TOOL, SHARED_EDGE};
-use acceptance_harness::{build, topology};
+use crate::harness::build;
+use crate::inputs::{A, B, EMPTY, FREE_LOOP, ONE_SQUARE, OTHER_TOOL, SHARED_EDGE, topology};
 use refine::{MergeFault, Plan, merge_texts};
 use shapes::{Fault, Step};
 use std::alloc::{AllocError, Global};
@@ -13,25 +13,19 @@ enum Make {
     Node,
 }
 
-fn node(alloc: Global, left: Plan, right: Plan) -> Result<Plan, Fail> {
-    Ok(Plan::Node(Box::new(alloc, left)?, Box::new(alloc, right)?))
-}
-
-/// The node of the two plans made last.
-fn node_of_last(alloc: Global, made: &mut Vec<Plan>) -> Result<Plan, Fail> {
-    let right = made.pop().ok_or("no right plan")?;
-    let left = made.pop().ok_or("no left plan")?;
-    node(alloc, left, right)
-}
-
 fn plan(alloc: Global, steps: &[Make]) -> Result<Plan, Fail> {
     let mut made = Vec::new(alloc);
     for step in steps {
         let next = match step {
             Make::Leaf(place) => Plan::Leaf(*place),
-            Make::Node => node_of_last(alloc, &mut made)?,
+            Make::Node => {
+                let right = made.pop().ok_or("no right plan")?;
+                let left = made.pop().ok_or("no left plan")?;
+                let left = Box::new(alloc, left).map_err(AllocError::from)?;
+                Plan::Node(left, Box::new(alloc, right).map_err(AllocError::from)?)
+            }
         };
-        made.push(next)?;
+        made.push(next).map_err(AllocError::from)?;
     }
     Ok(made.pop().ok_or("no plan")?)
 }
@@ -49,34 +43,23 @@ fn fault_text(alloc: Global, fault: &Fault) -> Result<String, AllocError> {
     Ok(text)
 }
 
-/// The fault in words.
-fn merge_fault_text(alloc: Global, fault: &MergeFault) -> Result<String, AllocError> {
-    match fault {
-        MergeFault::BadPlan(leaf) => format!(in alloc; "BadPlan {leaf}"),
-        MergeFault::Text(place, fault) => {
-            let fault = fault_text(alloc, fault)?;
-            format!(in alloc; "Text {place}: {fault}")
-        }
-        MergeFault::OtherGrid(place) => format!(in alloc; "OtherGrid {place}"),
-        MergeFault::OutOfMemory => String::from_str(alloc, "OutOfMemory"),
-    }
-}
-
-fn bytes_of(alloc: Global, texts: &[&str]) -> Result<Vec<Vec<u8>>, Fail> {
-    let mut bytes = Vec::new(alloc);
-    for text in texts {
-        bytes.push(text.as_bytes().to_vec(alloc)?)?;
-    }
-    Ok(bytes)
-}
-
 /// The merged text, or the fault in words.
 fn merged(alloc: Global, texts: &[&str], steps: &[Make]) -> Result<String, Fail> {
-    let texts = bytes_of(alloc, texts)?;
-    let plan = plan(alloc, steps)?;
-    match merge_texts(alloc, texts.as_slice(), &plan) {
+    let mut bytes = Vec::new(alloc);
+    for text in texts {
+        bytes
+            .push(Vec::from_slice(alloc, text.as_bytes())?)
+            .map_err(AllocError::from)?;
+    }
+    match merge_texts(alloc, bytes.as_slice(), &plan(alloc, steps)?) {
         Ok(text) => Ok(String::from_utf8(text)?),
-        Err(fault) => Ok(merge_fault_text(alloc, &fault)?),
+        Err(MergeFault::BadPlan(leaf)) => Ok(format!(in alloc; "BadPlan {leaf}")?),
+        Err(MergeFault::Text(place, fault)) => {
+            let fault = fault_text(alloc, &fault)?;
+            Ok(format!(in alloc; "Text {place}: {fault}")?)
+        }
+        Err(MergeFault::OtherGrid(place)) => Ok(format!(in alloc; "OtherGrid {place}")?),
+        Err(MergeFault::OutOfMemory) => Ok(String::from_str(alloc, "OutOfMemory")?),
     }
 }
 
@@ -173,7 +156,7 @@ const ROWS: &[Row] = &[
 fn answers_and_faults(rt: HostRuntime) -> Result<(), Fail> {
     for row in ROWS {
         let answer = merged(rt.alloc(), row.texts, row.plan)?;
-        assert!(rt; answer.as_str() == row.answer, "{}: {answer}", row.title);
+        assert_eq!(rt; answer.as_str(), row.answer, "{}", row.title);
     }
     Ok(())
 }
@@ -200,10 +183,12 @@ const PLANS: &[&[Make]] = &[
 
 #[test]
 fn plans_that_name_the_same_texts(rt: HostRuntime) -> Result<(), Fail> {
-    let second = build(rt.alloc(), "1,1,0,0", &[("a", B)])?.out;
+    let first = build(rt.alloc(), "1,1,0,0", &[("a", A)])?;
+    let second = build(rt.alloc(), "1,1,0,0", &[("a", B)])?;
     for steps in PLANS {
-        let answer = merged(rt.alloc(), &[ONE_SQUARE, second.as_str()], steps)?;
-        assert!(rt; answer.as_str() == SHARED_EDGE, "{answer}");
+        let texts = [first.out.as_str(), second.out.as_str()];
+        let answer = merged(rt.alloc(), &texts, steps)?;
+        assert_eq!(rt; answer.as_str(), SHARED_EDGE);
     }
     Ok(())
 }

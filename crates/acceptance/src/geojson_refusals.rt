@@ -1,6 +1,7 @@
 //! GeoJSON texts that `build` refuses, each with the least of its faults.
-use acceptance_harness::{Outcome, run_words};
+use crate::harness::{Outcome, run_words};
 use std::alloc::Global;
+use std::process::Abort;
 use std::test::Fail;
 
 /// A text, and the fault that its refusal names.
@@ -18,16 +19,21 @@ fn build_file(alloc: Global, grid: &str, text: &str) -> Result<Outcome, Fail> {
 }
 
 /// The text is refused with this fault, and nothing is printed.
-fn expect_fault(alloc: Global, title: &str, outcome: &Outcome, fault: &str) -> Result<(), Fail> {
-    let line = format!(in alloc; "topotool: p.json: {fault}\n")?;
-    outcome.expect_refused(title, 4, line.as_str())?;
+fn assert_fault<R: Abort + AllocGlobal>(
+    rt: &R,
+    title: &str,
+    outcome: &Outcome,
+    fault: &str,
+) -> Result<(), Fail> {
+    let line = format!(in rt.alloc(); "topotool: p.json: {fault}\n")?;
+    outcome.assert_refused(rt, title, 4, line.as_str());
     Ok(())
 }
 
-fn expect_refused(alloc: Global, rows: &[Row]) -> Result<(), Fail> {
+fn assert_refused<R: Abort + AllocGlobal>(rt: &R, rows: &[Row]) -> Result<(), Fail> {
     for row in rows {
-        let outcome = build_file(alloc, "1,1,0,0", row.text)?;
-        expect_fault(alloc, row.title, &outcome, row.fault)?;
+        let outcome = build_file(rt.alloc(), "1,1,0,0", row.text)?;
+        assert_fault(rt, row.title, &outcome, row.fault)?;
     }
     Ok(())
 }
@@ -122,7 +128,7 @@ const GEOJSON: &[Row] = &[
 
 #[test]
 fn texts_and_points(rt: HostRuntime) -> Result<(), Fail> {
-    expect_refused(rt.alloc(), GEOJSON)
+    assert_refused(&rt, GEOJSON)
 }
 
 const LINES_AND_RINGS: &[Row] = &[
@@ -225,7 +231,7 @@ const LINES_AND_RINGS: &[Row] = &[
 
 #[test]
 fn lines_and_rings(rt: HostRuntime) -> Result<(), Fail> {
-    expect_refused(rt.alloc(), LINES_AND_RINGS)
+    assert_refused(&rt, LINES_AND_RINGS)
 }
 
 const FEATURES: &[Row] = &[
@@ -343,7 +349,7 @@ const FEATURES: &[Row] = &[
 
 #[test]
 fn features(rt: HostRuntime) -> Result<(), Fail> {
-    expect_refused(rt.alloc(), FEATURES)
+    assert_refused(&rt, FEATURES)
 }
 
 /// A coordinate off the grid, or past it, on a grid of its own.
@@ -398,7 +404,7 @@ const GRIDS: &[GridRow] = &[
 fn grids(rt: HostRuntime) -> Result<(), Fail> {
     for row in GRIDS {
         let outcome = build_file(rt.alloc(), row.grid, row.text)?;
-        expect_fault(rt.alloc(), row.title, &outcome, row.fault)?;
+        assert_fault(&rt, row.title, &outcome, row.fault)?;
     }
     Ok(())
 }

@@ -1,5 +1,6 @@
 //! Properties nest at most 64 containers, of which the properties object is the first.
-use acceptance_harness::{build, run_words, topology};
+use crate::harness::{build, run_words};
+use crate::inputs::topology;
 use std::alloc::{AllocError, Global};
 use std::test::Fail;
 
@@ -23,33 +24,24 @@ fn feature(alloc: Global, depth: usize) -> Result<String, AllocError> {
     )
 }
 
-const TAIL: &str = topology!("");
-
-/// The topology of the feature with 63 arrays.
-fn deepest_topology(alloc: Global) -> Result<String, AllocError> {
-    let arrays = arrays(alloc, 63)?;
-    format!(in alloc;
-        "{{\"arcs\":[],\"objects\":{{\"a\":{{\"geometries\":[{{\"properties\":{{\"p\":{arrays}}},\"type\":null}}],\"type\":\"GeometryCollection\"}}}},{TAIL}"
-    )
-}
-
 #[test]
 fn the_deepest_properties(rt: HostRuntime) -> Result<(), Fail> {
-    let text = feature(rt.alloc(), 63)?;
-    let want = deepest_topology(rt.alloc())?;
-    build(rt.alloc(), "1,1,0,0", &[("a", text.as_str())])?.expect_printed(
-        "63 arrays",
-        want.as_str(),
-    )
+    let alloc = rt.alloc();
+    let arrays = arrays(alloc, 63)?;
+    let front = format!(in alloc;
+        "{{\"arcs\":[],\"objects\":{{\"a\":{{\"geometries\":[{{\"properties\":{{\"p\":{arrays}}},\"type\":null}}],\"type\":\"GeometryCollection\"}}}},"
+    )?;
+    let want = format!(in alloc; "{front}{TAIL}")?;
+    let text = feature(alloc, 63)?;
+    let built = build(alloc, "1,1,0,0", &[("a", text.as_str())])?;
+    built.assert_printed(&rt, "63 arrays", want.as_str());
+    let file = [("t.json", built.out.as_str())];
+    run_words(alloc, &["check", "t.json"], &file)?.assert_printed(&rt, "checked", "canonical\n");
+    run_words(alloc, &["merge", "t.json"], &file)?.assert_printed(&rt, "merged", want.as_str());
+    Ok(())
 }
 
-#[test]
-fn the_deepest_topology(rt: HostRuntime) -> Result<(), Fail> {
-    let text = deepest_topology(rt.alloc())?;
-    let files = [("t.json", text.as_str())];
-    run_words(rt.alloc(), &["check", "t.json"], &files)?.expect_printed("checked", "canonical\n")?;
-    run_words(rt.alloc(), &["merge", "t.json"], &files)?.expect_printed("merged", text.as_str())
-}
+const TAIL: &str = topology!("");
 
 #[test]
 fn properties_too_deep(rt: HostRuntime) -> Result<(), Fail> {
@@ -57,7 +49,7 @@ fn properties_too_deep(rt: HostRuntime) -> Result<(), Fail> {
     let words = ["build", "--grid", "1,1,0,0", "a=p.json"];
     let outcome = run_words(rt.alloc(), &words, &[("p.json", text.as_str())])?;
     let line = "topotool: p.json: 14 PropertyDepth $/properties\n";
-    outcome.expect_refused("64 arrays", 4, line)?;
+    outcome.assert_refused(&rt, "64 arrays", 4, line);
     Ok(())
 }
 
@@ -66,6 +58,6 @@ fn a_text_too_deep_to_be_read(rt: HostRuntime) -> Result<(), Fail> {
     let text = arrays(rt.alloc(), 200)?;
     let words = ["build", "--grid", "1,1,0,0", "a=p.json"];
     let outcome = run_words(rt.alloc(), &words, &[("p.json", text.as_str())])?;
-    outcome.expect_refused("200 arrays", 4, "topotool: p.json: 1 NotJson $\n")?;
+    outcome.assert_refused(&rt, "200 arrays", 4, "topotool: p.json: 1 NotJson $\n");
     Ok(())
 }

@@ -1,6 +1,7 @@
 //! Runs of the command over files in memory and sinks that keep what they are given.
 use sinks::{Kept, Sink};
 use std::alloc::{AllocError, Global};
+use std::process::Abort;
 use std::test::Fail;
 use tool::{FileFault, Files, run};
 
@@ -91,27 +92,20 @@ pub struct Outcome {
 
 impl Outcome {
     /// The run printed this text, and ended with status 0.
-    pub fn expect_printed(&self, title: &str, text: &str) -> Result<(), Fail> {
-        self.expect_ended(title, 0, text, "")
+    pub fn assert_printed(&self, rt: &impl Abort, title: &str, text: &str) {
+        self.assert_ended(rt, title, 0, text, "");
     }
 
     /// The run printed nothing, told this line and ended with this status.
-    pub fn expect_refused(&self, title: &str, status: u8, line: &str) -> Result<(), Fail> {
-        self.expect_ended(title, status, "", line)
+    pub fn assert_refused(&self, rt: &impl Abort, title: &str, status: u8, line: &str) {
+        self.assert_ended(rt, title, status, "", line);
     }
 
-    /// The run ended with this status, and wrote these texts; else a failure that names the title.
-    pub fn expect_ended(&self, title: &str, status: u8, out: &str, err: &str) -> Result<(), Fail> {
-        if self.status == status && self.out.as_str() == out && self.err.as_str() == err {
-            Ok(())
-        } else {
-            Err(Fail::new(format_args!(
-                "{title}: status {}, standard error {:?}, output {:?}",
-                self.status,
-                self.err.as_str(),
-                self.out.as_str()
-            )))
-        }
+    /// The run ended with this status, and wrote these texts.
+    pub fn assert_ended(&self, rt: &impl Abort, title: &str, status: u8, out: &str, err: &str) {
+        assert_eq!(rt; self.err.as_str(), err, "{title}");
+        assert_eq!(rt; self.out.as_str(), out, "{title}");
+        assert_eq!(rt; self.status, status, "{title}");
     }
 }
 

@@ -1,6 +1,6 @@
 //! Writers that fail, and writers that take little.
-use acceptance_harness::Run;
-use acceptance_harness::inputs::{SHARED_EDGE, SQUARES};
+use crate::harness::Run;
+use crate::inputs::{SHARED_EDGE, SQUARES};
 use sinks::{Answer, Kept, Script, Tap};
 use std::alloc::{AllocError, Global};
 use std::io;

@@ -1,11 +1,11 @@
 //! Topology texts of other tools, and of this one: what `check` says of them, and their canonical
 //! text by `merge`.
-use acceptance_harness::inputs::{
+use crate::harness::run_words;
+use crate::inputs::{
     BOW_TIE_TOPOLOGY, EMPTY, FREE_LOOP, LOOPED_LINE_TOPOLOGY, ONE_SQUARE, OTHER_TOOL, SHARED_EDGE,
-    UNIONS,
+    UNIONS, topology,
 };
-use acceptance_harness::{run_words, topology};
-use std::alloc::Global;
+use std::process::Abort;
 use std::test::Fail;
 
 /// A text that is not canonical, and the canonical text of what it means.
@@ -78,27 +78,31 @@ const OTHERS: &[Row] = &[
 fn texts_of_other_tools(rt: HostRuntime) -> Result<(), Fail> {
     for row in OTHERS {
         let files = [("t.json", row.text)];
-        run_words(rt.alloc(), &["check", "t.json"], &files)?.expect_ended(
+        run_words(rt.alloc(), &["check", "t.json"], &files)?.assert_ended(
+            &rt,
             row.title,
             1,
             "not canonical\n",
             "",
-        )?;
-        run_words(rt.alloc(), &["merge", "t.json"], &files)?.expect_printed(row.title, row.canon)?;
-        run_words(rt.alloc(), &["merge", "t.json", "t.json"], &files)?.expect_printed(
-            row.title, row.canon,
-        )?;
-        expect_canonical(rt.alloc(), row.canon)?;
+        );
+        run_words(rt.alloc(), &["merge", "t.json"], &files)?.assert_printed(
+            &rt, row.title, row.canon,
+        );
+        run_words(rt.alloc(), &["merge", "t.json", "t.json"], &files)?.assert_printed(
+            &rt, row.title, row.canon,
+        );
+        assert_canonical(&rt, row.canon)?;
     }
     Ok(())
 }
 
 /// `check` says that the text is canonical.
-fn expect_canonical(alloc: Global, text: &str) -> Result<(), Fail> {
-    run_words(alloc, &["check", "t.json"], &[("t.json", text)])?.expect_printed(
+fn assert_canonical<R: Abort + AllocGlobal>(rt: &R, text: &str) -> Result<(), Fail> {
+    run_words(rt.alloc(), &["check", "t.json"], &[("t.json", text)])?.assert_printed(
+        rt,
         text,
         "canonical\n",
-    )?;
+    );
     Ok(())
 }
 
@@ -114,10 +118,10 @@ const CANONICAL: &[&str] = &[
 #[test]
 fn canonical_texts(rt: HostRuntime) -> Result<(), Fail> {
     for text in CANONICAL {
-        expect_canonical(rt.alloc(), text)?;
+        assert_canonical(&rt, text)?;
     }
     for union in UNIONS {
-        expect_canonical(rt.alloc(), union.topology)?;
+        assert_canonical(&rt, union.topology)?;
     }
     Ok(())
 }

@@ -1,28 +1,27 @@
 //! Topology texts that are cut off, or have a byte replaced.
-use acceptance_harness::inputs::{OTHER_TOOL, SHARED_EDGE};
-use acceptance_harness::{Run, run_on_bytes};
+use crate::harness::{Run, run_on_bytes};
+use crate::inputs::{OTHER_TOOL, SHARED_EDGE};
 use sinks::Kept;
-use std::alloc::Global;
 use std::process::Abort;
 use std::test::Fail;
 
 /// Each proper beginning of the text is refused by `merge`.
-fn expect_beginnings_refused(alloc: Global, text: &[u8]) -> Result<(), Fail> {
+fn assert_beginnings_refused<R: Abort + AllocGlobal>(rt: &R, text: &[u8]) -> Result<(), Fail> {
     for length in 0..text.len() {
-        let outcome = run_on_bytes(alloc, &["merge", "t.json"], "t.json", &text[..length])?;
-        outcome.expect_refused("cut off", 4, "topotool: t.json: 1 NotJson $\n")?;
+        let outcome = run_on_bytes(rt.alloc(), &["merge", "t.json"], "t.json", &text[..length])?;
+        outcome.assert_refused(rt, "cut off", 4, "topotool: t.json: 1 NotJson $\n");
     }
     Ok(())
 }
 
 #[test]
 fn beginnings_of_a_canonical_text(rt: HostRuntime) -> Result<(), Fail> {
-    expect_beginnings_refused(rt.alloc(), SHARED_EDGE.as_bytes())
+    assert_beginnings_refused(&rt, SHARED_EDGE.as_bytes())
 }
 
 #[test]
 fn beginnings_of_another_tools_text(rt: HostRuntime) -> Result<(), Fail> {
-    expect_beginnings_refused(rt.alloc(), OTHER_TOOL.as_bytes())
+    assert_beginnings_refused(&rt, OTHER_TOOL.as_bytes())
 }
 
 /// With each byte replaced by the given one, `merge` prints a text or refuses and prints nothing.

@@ -1,7 +1,7 @@
 //! What `feature`, `mesh` and `neighbors` print.
-use acceptance_harness::inputs::{A, B, BOTH_SQUARES, C, NOTHING, S, SHARED_EDGE, SQUARES, T};
-use acceptance_harness::{build, run_words};
-use std::alloc::Global;
+use crate::harness::{build, run_words};
+use crate::inputs::{A, B, BOTH_SQUARES, C, NOTHING, S, SHARED_EDGE, SQUARES, T};
+use std::process::Abort;
 use std::test::Fail;
 
 /// GeoJSON texts, each after its layer, and what a command prints of their topology `t.json`.
@@ -14,12 +14,12 @@ struct Row {
     out: &'static str,
 }
 
-fn expect_rows(alloc: Global, rows: &[Row]) -> Result<(), Fail> {
+fn assert_rows<R: Abort + AllocGlobal>(rt: &R, rows: &[Row]) -> Result<(), Fail> {
     for row in rows {
-        let built = build(alloc, row.grid, row.sources)?;
-        run_words(alloc, row.words, &[("t.json", built.out.as_str())])?.expect_printed(
-            row.title, row.out,
-        )?;
+        let built = build(rt.alloc(), row.grid, row.sources)?;
+        run_words(rt.alloc(), row.words, &[("t.json", built.out.as_str())])?.assert_printed(
+            rt, row.title, row.out,
+        );
     }
     Ok(())
 }
@@ -108,7 +108,7 @@ const FEATURES: &[Row] = &[
 
 #[test]
 fn features_of_a_layer(rt: HostRuntime) -> Result<(), Fail> {
-    expect_rows(rt.alloc(), FEATURES)
+    assert_rows(&rt, FEATURES)
 }
 
 const MESHES: &[Row] = &[
@@ -214,7 +214,7 @@ const MESHES: &[Row] = &[
 
 #[test]
 fn borders(rt: HostRuntime) -> Result<(), Fail> {
-    expect_rows(rt.alloc(), MESHES)
+    assert_rows(&rt, MESHES)
 }
 
 const NEIGHBORS: &[Row] = &[
@@ -257,16 +257,17 @@ const NEIGHBORS: &[Row] = &[
 
 #[test]
 fn neighbors_of_features(rt: HostRuntime) -> Result<(), Fail> {
-    expect_rows(rt.alloc(), NEIGHBORS)
+    assert_rows(&rt, NEIGHBORS)
 }
 
 #[test]
 fn a_layer_that_was_printed_is_built_again(rt: HostRuntime) -> Result<(), Fail> {
     let words = ["feature", "--layer", "a", "t.json"];
     let printed = run_words(rt.alloc(), &words, &[("t.json", SHARED_EDGE)])?;
-    build(rt.alloc(), "1,1,0,0", &[("a", printed.out.as_str())])?.expect_printed(
+    build(rt.alloc(), "1,1,0,0", &[("a", printed.out.as_str())])?.assert_printed(
+        &rt,
         "shared edge",
         SHARED_EDGE,
-    )?;
+    );
     Ok(())
 }

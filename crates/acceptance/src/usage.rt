@@ -1,6 +1,6 @@
 //! The words of the command: usage, the grid's word, layers' words, files that can't be read.
-use acceptance_harness::inputs::{A, EMPTY, NOTHING, SHARED_EDGE};
-use acceptance_harness::{Outcome, run_words};
+use crate::harness::{Outcome, run_words};
+use crate::inputs::{A, EMPTY, NOTHING, SHARED_EDGE};
 use std::test::Fail;
 
 const FILES: &[(&str, &str)] = &[
@@ -165,7 +165,7 @@ const REFUSED: &[Row] = &[
 fn lines_of_the_command(rt: HostRuntime) -> Result<(), Fail> {
     for row in REFUSED {
         let outcome = run_words(rt.alloc(), row.words, FILES)?;
-        outcome.expect_refused(row.line, row.status, row.line)?;
+        outcome.assert_refused(&rt, row.line, row.status, row.line);
     }
     Ok(())
 }
@@ -234,6 +234,6 @@ fn help(rt: HostRuntime) -> Result<(), Fail> {
 #[test]
 fn a_grid_that_begins_with_a_minus(rt: HostRuntime) -> Result<(), Fail> {
     let words = ["build", "--grid=1,1,-0,0", "a=empty.json"];
-    run_words(rt.alloc(), &words, FILES)?.expect_printed("minus", EMPTY)?;
+    run_words(rt.alloc(), &words, FILES)?.assert_printed(&rt, "minus", EMPTY);
     Ok(())
 }
