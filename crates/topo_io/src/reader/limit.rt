@@ -16,6 +16,9 @@ use std::alloc::Global;
 /// No difference of two grid numbers is greater, in steps of the grid.
 const GREATEST_DIFFERENCE: i64 = GREATEST_GRID_NUMBER - LEAST_GRID_NUMBER;
 
+/// No difference of two grid numbers is less, in steps of the grid.
+const LEAST_DIFFERENCE: i64 = LEAST_GRID_NUMBER - GREATEST_GRID_NUMBER;
+
 /// Whether a number is within the limits of grid numbers and, where the transform has no fault, of
 /// absolute numbers.
 fn is_allowed(axis: &Option<Axis>, n: i64) -> bool
@@ -34,7 +37,7 @@ fn sum_within(alloc: Global, axis: &Option<Axis>, from: i64, a: i64) -> Result<i
     ensures inside { IfOk result IsGridNumber }
     ensures err { IfErr result (λ f. LeastOrWant (limit_faults axis.now (Some from) a) f) }
 {
-    if a < -GREATEST_DIFFERENCE {
+    if a < LEAST_DIFFERENCE {
         return Err(Fault::here(alloc, FaultKind::OutOfRange));
     }
     if a > GREATEST_DIFFERENCE {

@@ -4,14 +4,13 @@ use Rattle.topo_io.specs.Limits.{allows}
 use Rattle.topo_io.proofs.Steps.{not_allowed, out_of_range}
 use Rattle.topo_io.proofs.reader.limit.sum_within.Goals as goal
 
-pub returns-then-a-ltminus2199023255552-clause-err :
-    goal.returns-then-a-ltminus2199023255552-clause-err
-returns-then-a-ltminus2199023255552-clause-err c =
+pub returns-then-a-lt-LEAST_DIFFERENCE-clause-err : goal.returns-then-a-lt-LEAST_DIFFERENCE-clause-err
+returns-then-a-lt-LEAST_DIFFERENCE-clause-err c =
     out_of_range c.args.axis.now c.args.from c.args.a c.here.result c.here.ensures (not_allowed c.args.axis.now (c.args.from +ℤ c.args.a) (grind (arith, ints)))
 
-pub returns-then-a-gt2199023255552-clause-err : goal.returns-then-a-gt2199023255552-clause-err
-returns-then-a-gt2199023255552-clause-err c =
-    out_of_range c.args.axis.now c.args.from c.args.a c.here-then-a-gt2199023255552.result c.here-then-a-gt2199023255552.ensures (not_allowed c.args.axis.now (c.args.from +ℤ c.args.a) (grind (arith, ints)))
+pub returns-then-a-gt-GREATEST_DIFFERENCE-clause-err : goal.returns-then-a-gt-GREATEST_DIFFERENCE-clause-err
+returns-then-a-gt-GREATEST_DIFFERENCE-clause-err c =
+    out_of_range c.args.axis.now c.args.from c.args.a c.here-then-a-gt-GREATEST_DIFFERENCE.result c.here-then-a-gt-GREATEST_DIFFERENCE.ensures (not_allowed c.args.axis.now (c.args.from +ℤ c.args.a) (grind (arith, ints)))
 
 pub returns-else-is_allowed-clause-err : goal.returns-else-is_allowed-clause-err
 returns-else-is_allowed-clause-err c =
