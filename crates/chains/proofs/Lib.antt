@@ -27,3 +27,4 @@ pub mod Dealt
 pub mod Crowding
 pub mod TablesAsMap
 pub mod ArcsCut
+pub mod Located
