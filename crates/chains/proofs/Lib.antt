@@ -25,3 +25,4 @@ pub mod Dealt
 pub mod Crowding
 pub mod TablesAsMap
 pub mod ArcsCut
+pub mod Located

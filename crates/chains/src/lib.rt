@@ -12,10 +12,12 @@ mod starts;
 mod stop_set;
 mod stored;
 pub mod table;
+pub mod used_arcs;
 pub mod visits;
 
 pub use cutting::{Piece, cut_arc, cut_line, cut_ring};
 pub use joining::{maximal, maximal_with};
 pub use segment::Segment;
 pub use table::{ArcRef, ArcTable};
+pub use used_arcs::refs_of;
 pub use visits::VisitIndex;

@@ -2,11 +2,9 @@
 //! memory: positions are lent from the arcs.
 ghost use Rattle.std.specs.Prelude.{◌≡◌, ◌↔◌, Err, IfErr, IsTrue, OnOk};
 ghost use Rattle.std.specs.FinMap as map;
-ghost use Rattle.shapes.specs.Maps.{Layers, features_at};
-ghost use Rattle.shapes.specs.Sets as set;
 ghost use Rattle.sinks.specs.Writes.{TookAll, TookPart};
-ghost use Rattle.geojson_io.specs.CollectionText.{collection_text};
-ghost use Rattle.topo.specs.OfMap.{IsOf};
+ghost use Rattle.layer_text.specs.Collections.{layer_collection};
+ghost use Rattle.topo.specs.ItsMap.{ForItsMap};
 ghost use Rattle.layer_text.specs.ByArcs.{line_along, ring_along, body_text, geom_text};
 ghost use Rattle.layer_text.specs.declared.fault.LayerFault.TheVariants.{NoLayer, Write};
 
@@ -113,9 +111,9 @@ pub fn write_layer<W: Sink>(
     layer: &str,
     sink: &mut W,
 ) -> Result<(), LayerFault>
-    ensures whole { OnOk result ((m : Layers) → IsOf m topology.now → TookAll (W.seen sink.old) (W.seen sink.new) (collection_text topology.now.grid (set.items (features_at m layer.now)))) }
-    ensures part { IfErr result (λ f. f ≡ Write → (m : Layers) → IsOf m topology.now → TookPart (W.seen sink.old) (W.seen sink.new) (collection_text topology.now.grid (set.items (features_at m layer.now)))) }
-    ensures no_layer { (m : Layers) → IsOf m topology.now → (result ≡ Err NoLayer) ↔ (¬ IsTrue (map.contains_key m layer.now)) }
+    ensures whole { OnOk result (ForItsMap topology.now (λ m. TookAll (W.seen sink.old) (W.seen sink.new) (layer_collection topology.now.grid m layer.now))) }
+    ensures part { IfErr result (λ f. f ≡ Write → ForItsMap topology.now (λ m. TookPart (W.seen sink.old) (W.seen sink.new) (layer_collection topology.now.grid m layer.now))) }
+    ensures no_layer { ForItsMap topology.now (λ m. (result ≡ Err NoLayer) ↔ (¬ IsTrue (map.contains_key m layer.now))) }
     ensures untouched { result ≡ Err NoLayer → sink.new ≡ sink.old }
 {
     let Some(geometries) = topology.geometries(layer) else {

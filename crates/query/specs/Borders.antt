@@ -15,6 +15,8 @@ use Rattle.chains.specs.declared.segment.Segment.{Segment}
 use Rattle.theory.specs.Geometry.{AtMost}
 use Rattle.theory.specs.Lists.{Has}
 use Rattle.theory.specs.Users.{HasSegment}
+use Rattle.topo.specs.ItsMap.{ForItsMap}
+use Rattle.topo.specs.Parts.{TopologyParts}
 use Rattle.query.specs.Stops.{AreStops}
 
 -- the feature is one of the layer, or without a layer one of any layer
@@ -30,6 +32,10 @@ IsMissing m None = ⊥
 -- f may be called on references to a and b
 abbrev pub MayAsk : {F : Type 0} → Shared F (Bor Feature × (Bor Feature × Unit {0})) Bool → F → Feature → Feature → Type 0
 MayAsk g f a b = (v w : Bor Feature) → v.now ≡ a → w.now ≡ b → g.pre f (v, (w, tt))
+
+-- f may be called on references to any two features in scope
+abbrev pub MayAskWithin : {F : Type 0} → Shared F (Bor Feature × (Bor Feature × Unit {0})) Bool → F → (Feature → Type 0) → Type 0
+MayAskWithin g f In = (a b : Feature) → In a → In b → MayAsk g f a b
 
 -- u and v are neighbours on a line or a ring of the feature
 abbrev pub HasSide : Pos → Pos → Feature → Type 0
@@ -57,3 +63,7 @@ pub record AreLinesOver (segs : List Segment) (lines : Arcs) : Type 0 where
   pub stops : List Pos
   pub exact : AreStops segs stops
   pub maximal : AreMaximal segs stops lines
+
+-- the lines are those over the segments that the answers select among the features in scope
+abbrev pub AreBorders : TopologyParts → Option (List ℕ) → (Feature → Feature → Bool → Type 0) → Arcs → Type 0
+AreBorders t name Says lines = (segments : List Segment) × AreLinesOver segments lines × ForItsMap t (λ m. AreSelected (InScope m name) Says segments)

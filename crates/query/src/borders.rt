@@ -1,17 +1,15 @@
 //! The borders between features: lines over the segments that a filter selects.
-ghost use Rattle.std.specs.Prelude.{◌≡◌, ◌↔◌, ◌⊎◌, IfOk, OnOk, Err, List};
+ghost use Rattle.std.specs.Prelude.{◌≡◌, ◌↔◌, ◌⊎◌, IfOk, OnOk, Err};
 ghost use Rattle.std.specs.Fn.{FnReturnsAtPair};
 ghost use Rattle.std.specs.Option.{option_map};
 ghost use Rattle.grid.specs.declared.pos.Pos.{Pos};
-ghost use Rattle.shapes.specs.Maps.{Layers};
 ghost use Rattle.shapes.specs.declared.feature.Feature.{Feature};
-ghost use Rattle.theory.specs.Lists.{Has};
 ghost use Rattle.chains.specs.Joined.{AmongSegments};
 ghost use Rattle.chains.specs.declared.segment.Segment.{Segment};
-ghost use Rattle.topo.specs.OfMap.{IsOf};
+ghost use Rattle.topo.specs.ItsMap.{ForItsMap};
 ghost use Rattle.topo.specs.Points.{arc_at};
 ghost use Rattle.query.specs.Along.{Joins, SidesOf, HasArcs};
-ghost use Rattle.query.specs.Borders.{InScope, IsMissing, MayAsk, AreSelected, AreLinesOver};
+ghost use Rattle.query.specs.Borders.{InScope, IsMissing, MayAskWithin, AreBorders};
 ghost use Rattle.query.specs.declared.fault.QueryFault.TheVariants.{NoLayer as MissingLayer};
 
 use crate::fault::QueryFault;
@@ -92,9 +90,9 @@ pub fn mesh<F: Fn(&Feature, &Feature) -> bool>(
     layer: Option<&str>,
     filter: F,
 ) -> Result<ArcTable, QueryFault>
-    requires { (m : Layers) → IsOf m topology.now → (a b : Feature) → InScope m (option_map (λ n. n.now) layer) a → InScope m (option_map (λ n. n.now) layer) b → MayAsk F.Fn filter a b }
-    ensures layer { (m : Layers) → IsOf m topology.now → (result ≡ Err MissingLayer) ↔ IsMissing m (option_map (λ n. n.now) layer.entry) }
-    ensures lines { IfOk result (λ lines. (segments : List Segment) × AreLinesOver segments lines × ((m : Layers) → IsOf m topology.now → AreSelected (InScope m (option_map (λ n. n.now) layer.entry)) (FnReturnsAtPair F.Fn filter) segments)) }
+    requires { ForItsMap topology.now (λ m. MayAskWithin F.Fn filter (InScope m (option_map (λ n. n.now) layer))) }
+    ensures layer { ForItsMap topology.now (λ m. (result ≡ Err MissingLayer) ↔ IsMissing m (option_map (λ n. n.now) layer.entry)) }
+    ensures lines { IfOk result (AreBorders topology.now (option_map (λ n. n.now) layer.entry) (FnReturnsAtPair F.Fn filter)) }
 {
     let arcs = topology.arcs();
     let members = members_of(alloc, topology, layer)?;

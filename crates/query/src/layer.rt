@@ -1,11 +1,11 @@
 //! The features of a layer.
 ghost use Rattle.std.specs.Prelude.{◌≡◌, ◌↔◌, Err, IfOk, IsTrue, List};
 ghost use Rattle.std.specs.FinMap as map;
-ghost use Rattle.shapes.specs.Maps.{Layers, features_at};
+ghost use Rattle.shapes.specs.Maps.{features_at};
 ghost use Rattle.shapes.specs.Sets as set;
 ghost use Rattle.shapes.specs.declared.feature.Feature as features;
 ghost use Rattle.topo.specs.Features.{AreFeaturesOf};
-ghost use Rattle.topo.specs.OfMap.{IsOf};
+ghost use Rattle.topo.specs.ItsMap.{ForItsMap};
 ghost use Rattle.query.specs.declared.fault.QueryFault.TheVariants.{NoLayer as MissingLayer};
 
 use crate::fault::QueryFault;
@@ -35,8 +35,8 @@ fn stitched(
 /// # Errors
 /// `NoLayer` exactly where the topology has no layer of that name; `OutOfMemory`.
 pub fn feature(alloc: Global, topology: &Topology, layer: &str) -> Result<Vec<Feature>, QueryFault>
-    ensures layer { (m : Layers) → IsOf m topology.now → (result ≡ Err MissingLayer) ↔ (¬ IsTrue (map.contains_key m layer.now)) }
-    ensures features { IfOk result (λ made. (m : Layers) → IsOf m topology.now → made.items ≡ set.items (features_at m layer.now)) }
+    ensures layer { ForItsMap topology.now (λ m. (result ≡ Err MissingLayer) ↔ (¬ IsTrue (map.contains_key m layer.now))) }
+    ensures features { IfOk result (λ made. ForItsMap topology.now (λ m. made.items ≡ set.items (features_at m layer.now))) }
 {
     let Some(geometries) = topology.geometries(layer) else {
         return Err(QueryFault::NoLayer);

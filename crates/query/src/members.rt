@@ -2,11 +2,11 @@
 ghost use Rattle.std.specs.Prelude.{◌≡◌, ◌↔◌, ◌++◌, IfOk, OnOk, Err, Some, None, List, map as map_list};
 ghost use Rattle.std.specs.List.Sorted.{IsPermutation, IsSorted};
 ghost use Rattle.std.specs.Option.{option_map};
-ghost use Rattle.shapes.specs.Maps.{Layers};
 ghost use Rattle.shapes.specs.declared.feature.Feature as features;
 ghost use Rattle.theory.specs.Lists.{gathered};
 ghost use Rattle.topo.specs.Features.{AreFeaturesOf};
-ghost use Rattle.topo.specs.OfMap.{IsOf, IsOfSomeMap};
+ghost use Rattle.topo.specs.ItsMap.{ForItsMap};
+ghost use Rattle.topo.specs.OfMap.{IsOfSomeMap};
 ghost use Rattle.query.specs.Borders.{IsMissing};
 ghost use Rattle.query.specs.Members.{held, paired, layer_pairs, by_feature, AreMembers};
 ghost use Rattle.query.specs.declared.fault.QueryFault.TheVariants.{NoLayer as MissingLayer};
@@ -48,7 +48,7 @@ fn note_layers<'a>(
     members: &mut Vec<Member<'a>>,
     topology: &'a Topology,
 ) -> Result<(), OutOfMemory>
-    ensures { OnOk result ((m : Layers) → IsOf m topology.now → map_list held members.new.items ≡ map_list held members.old.items ++ gathered (layer_pairs m) topology.now.layers) }
+    ensures { OnOk result (ForItsMap topology.now (λ m. map_list held members.new.items ≡ map_list held members.old.items ++ gathered (layer_pairs m) topology.now.layers)) }
 {
     for layer in topology.layers() {
         note_layer(alloc, members, topology, layer.geometries())?;
@@ -69,8 +69,8 @@ fn members_named<'a>(
     name: &str,
 ) -> Result<Vec<Member<'a>>, QueryFault>
     requires { IsOfSomeMap topology.now }
-    ensures layer { (m : Layers) → IsOf m topology.now → (result ≡ Err MissingLayer) ↔ IsMissing m (Some name.now) }
-    ensures members { IfOk result (λ v. (m : Layers) → IsOf m topology.now → AreMembers m topology.now (Some name.now) v.items) }
+    ensures layer { ForItsMap topology.now (λ m. (result ≡ Err MissingLayer) ↔ IsMissing m (Some name.now)) }
+    ensures members { IfOk result (λ v. ForItsMap topology.now (λ m. AreMembers m topology.now (Some name.now) v.items)) }
 {
     let Some(geometries) = topology.geometries(name) else {
         return Err(QueryFault::NoLayer);
@@ -82,7 +82,7 @@ fn members_named<'a>(
 }
 
 fn members_of_all<'a>(alloc: Global, topology: &'a Topology) -> Result<Vec<Member<'a>>, OutOfMemory>
-    ensures { IfOk result (λ v. (m : Layers) → IsOf m topology.now → AreMembers m topology.now None v.items) }
+    ensures { IfOk result (λ v. ForItsMap topology.now (λ m. AreMembers m topology.now None v.items)) }
 {
     let mut members = Vec::new(alloc);
     note_layers(alloc, &mut members, topology)?;
@@ -97,8 +97,8 @@ pub(crate) fn members_of<'a>(
     layer: Option<&str>,
 ) -> Result<Vec<Member<'a>>, QueryFault>
     requires { IsOfSomeMap topology.now }
-    ensures layer { (m : Layers) → IsOf m topology.now → (result ≡ Err MissingLayer) ↔ IsMissing m (option_map (λ n. n.now) layer.entry) }
-    ensures members { IfOk result (λ v. (m : Layers) → IsOf m topology.now → AreMembers m topology.now (option_map (λ n. n.now) layer.entry) v.items) }
+    ensures layer { ForItsMap topology.now (λ m. (result ≡ Err MissingLayer) ↔ IsMissing m (option_map (λ n. n.now) layer.entry)) }
+    ensures members { IfOk result (λ v. ForItsMap topology.now (λ m. AreMembers m topology.now (option_map (λ n. n.now) layer.entry) v.items)) }
 {
     match layer {
         Some(name) => members_named(alloc, topology, name),

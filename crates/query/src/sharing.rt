@@ -1,10 +1,11 @@
 //! Which features of a layer are neighbours: those that share a segment, so an arc.
 ghost use Rattle.std.specs.Prelude.{◌≡◌, ◌↔◌, ◌++◌, IfOk, OnOk, Err, IsTrue, [], map as map_list, replicate};
 ghost use Rattle.std.specs.FinMap as map;
-ghost use Rattle.shapes.specs.Maps.{Layers, features_at};
+ghost use Rattle.shapes.specs.Maps.{features_at};
 ghost use Rattle.shapes.specs.Sets as set;
 ghost use Rattle.theory.specs.Arcs.{AreSortedOnce};
-ghost use Rattle.topo.specs.OfMap.{body_of, IsOf};
+ghost use Rattle.topo.specs.ItsMap.{ForItsMap};
+ghost use Rattle.topo.specs.OfMap.{body_of};
 ghost use Rattle.query.specs.Neighbors.{ListsNeighbors};
 ghost use Rattle.query.specs.Pairs.{pairs_behind, pairs_among, pair_cmp, with_other, with_others};
 ghost use Rattle.query.specs.Uses.{bodies_uses, use_cmp};
@@ -123,8 +124,8 @@ pub fn neighbors(
     topology: &Topology,
     layer: &str,
 ) -> Result<Vec<Vec<usize>>, QueryFault>
-    ensures layer { (m : Layers) → IsOf m topology.now → (result ≡ Err MissingLayer) ↔ (¬ IsTrue (map.contains_key m layer.now)) }
-    ensures neighbors { IfOk result (λ lists. (m : Layers) → IsOf m topology.now → ListsNeighbors (set.items (features_at m layer.now)) (map_list (λ l. l.items) lists.items)) }
+    ensures layer { ForItsMap topology.now (λ m. (result ≡ Err MissingLayer) ↔ (¬ IsTrue (map.contains_key m layer.now))) }
+    ensures neighbors { IfOk result (λ lists. ForItsMap topology.now (λ m. ListsNeighbors (set.items (features_at m layer.now)) (map_list (λ l. l.items) lists.items))) }
 {
     let Some(geometries) = topology.geometries(layer) else {
         return Err(QueryFault::NoLayer);

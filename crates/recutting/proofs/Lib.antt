@@ -1,7 +1,6 @@
 pub mod Stepped
 pub mod Staying
 pub mod TwoTables
-pub mod Located
 pub mod Turned
 pub mod Lists
 pub mod ProvedLaws

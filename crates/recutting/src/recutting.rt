@@ -6,12 +6,13 @@ ghost use Rattle.theory.specs.Geometry.{Geometry, IsSound};
 ghost use Rattle.theory.specs.Lists.{gathered};
 ghost use Rattle.theory.specs.Refinement.{IsUnionOf};
 ghost use Rattle.chains.specs.OfArcs.{arc_pieces};
-ghost use Rattle.chains.specs.Table.{located, IsTableOf};
+ghost use Rattle.chains.specs.Table.{IsTableOf};
 ghost use Rattle.recutting.specs.Cutting.{arc_used, used_if, IsRecutOf};
 
 use crate::refined::Recut;
 use chains::cutting::{Piece, cut_arc};
 use chains::table::{ArcRef, ArcTable};
+use chains::used_arcs::refs_of;
 use chains::visits::VisitIndex;
 use faults::OutOfMemory;
 use lines::items::Items;
@@ -31,30 +32,6 @@ fn add_table(
         pieces.append(&mut cut)?;
     }
     Ok(())
-}
-
-/// The arc that a piece is; past the last arc where it is none.
-fn ref_of(table: &ArcTable, piece: &Piece) -> ArcRef
-    ensures { result ≡ located table.now.arcs piece.now }
-{
-    match table.find(piece) {
-        Some(used) => used,
-        None => ArcRef {
-            arc: table.len(),
-            reversed: piece.reversed(),
-        },
-    }
-}
-
-/// The arcs that pieces are.
-fn refs_of(alloc: Global, table: &ArcTable, pieces: &[Piece]) -> Result<Items<ArcRef>, OutOfMemory>
-    ensures { IfOk result (λ v. v ≡ map_list (located table.now.arcs) pieces.now) }
-{
-    let mut refs = Vec::with_capacity(alloc, pieces.len())?;
-    for piece in pieces {
-        refs.push(ref_of(table, piece))?;
-    }
-    Ok(Items::from_vec(refs))
 }
 
 /// The new arcs of an old one. One that was not cut is looked up as it is, first where it is

@@ -5,7 +5,6 @@ pub mod Sound
 pub mod OfParts
 pub mod ArcsLeft
 pub mod Gathered
-pub mod Located
 pub mod BuiltParts
 pub mod TopologyLaws
 pub mod LayersNamed

@@ -7,3 +7,4 @@ pub mod Points
 pub mod Inside
 pub mod Building
 pub mod Features
+pub mod ItsMap

@@ -8,7 +8,6 @@ ghost use Rattle.shapes.specs.Maps.{set_of};
 ghost use Rattle.shapes.specs.Sets as set;
 ghost use Rattle.chains.specs.Pieces.{line_pieces, ring_pieces};
 ghost use Rattle.chains.specs.Seen.{line_of, ring_of, form_of, geometry_of, seen};
-ghost use Rattle.chains.specs.Table.{located};
 ghost use Rattle.theory.specs.Arcs.{EachSegmentOnce};
 ghost use Rattle.theory.specs.Lists.{gathered, joined};
 ghost use Rattle.theory.specs.Topology.{forms_of};
@@ -19,6 +18,7 @@ use crate::geom::{Body, Geom, copy_positions};
 use crate::topology::{Layer, Topology};
 use chains::cutting::{Piece, cut_line, cut_ring};
 use chains::table::{ArcRef, ArcTable};
+use chains::used_arcs::refs_of;
 use chains::visits::VisitIndex;
 use faults::OutOfMemory;
 use grid::Grid;
@@ -145,30 +145,6 @@ fn all_pieces(
         add_features(alloc, &mut pieces, index, &layer.features)?;
     }
     Ok(pieces)
-}
-
-/// The arc that a piece is; past the last arc where it is none.
-fn ref_of(table: &ArcTable, piece: &Piece) -> ArcRef
-    ensures { result ≡ located table.now.arcs piece.now }
-{
-    match table.find(piece) {
-        Some(used) => used,
-        None => ArcRef {
-            arc: table.len(),
-            reversed: piece.reversed(),
-        },
-    }
-}
-
-/// The arcs that pieces are.
-fn refs_of(alloc: Global, table: &ArcTable, pieces: &[Piece]) -> Result<Items<ArcRef>, OutOfMemory>
-    ensures { IfOk result (λ v. v ≡ map_list (located table.now.arcs) pieces.now) }
-{
-    let mut refs = Vec::with_capacity(alloc, pieces.len())?;
-    for piece in pieces {
-        refs.push(ref_of(table, piece))?;
-    }
-    Ok(Items::from_vec(refs))
 }
 
 /// The arcs of a map with the index of its visits, by which lines and rings become lists of arcs.

@@ -1,6 +1,7 @@
 use Rattle.std.proofs.Common.{◌≡◌, ◌++◌, drop, map}
+use Rattle.theory.specs.Lists.{gathered, joined}
 use Rattle.chains.specs.Table.{located}
-use Rattle.recutting.proofs.recutting.refs_of.Given as goal
+use Rattle.chains.proofs.used_arcs.refs_of.Given as goal
 
 abbrev pub invariant-loop-piece : goal.invariant-loop-piece
 invariant-loop-piece l =
