@@ -13,19 +13,18 @@ use Rattle.grid.specs.Place.{Transform}
 use Rattle.theory.specs.Lists.{Has}
 use Rattle.theory.proofs.Lists.{Has-append_left, Has-append_right, Has-append}
 use Rattle.shapes.specs.Sets as set
-use Rattle.shapes.specs.SetLaws.{same_set, contains-empty, contains-insert, contains-union, or_swaps, or_groups}
-use Rattle.shapes.specs.Maps.{Features, Layers, features_at, with_layer, with_feature}
+use Rattle.shapes.specs.SetLaws.{contains-empty, contains-union}
+use Rattle.shapes.specs.Maps.{Features, Layers, features_at, with_features}
 use Rattle.shapes.specs.Order.{feature_cmp}
 use Rattle.shapes.specs.OrderLaws.{feature_cmp_total, same_feature, same_text}
 use Rattle.shapes.specs.declared.feature.Feature.{Feature}
-use Rattle.shapes.proofs.MapLemmas.{layer_stays}
-use Rattle.shapes.proofs.UnionLemmas.{set_union_empty}
+use Rattle.shapes.specs.Union.{set_union_commutes}
 use Rattle.reading.specs.Meant.{AreFeatures}
 use Rattle.reading.specs.Plain.{Plain, plain}
 use Rattle.geojson_io.specs.Features.{features_of_text}
-use Rattle.tool.specs.Maps.{features_under, IsMapOfTexts, with_features}
+use Rattle.tool.specs.Maps.{features_under, IsMapOfTexts}
 
--- ---- a layer and its features
+-- ---- a name and its features
 
 abbrev tied : List ℕ → List ℕ → Bool
 tied q n = eq_by_cmp (slice_cmp nat_cmp) q n
@@ -36,56 +35,11 @@ tied_is q n e = same_text q n ((Equal-is (slice_cmp nat_cmp q n)).0 e)
 tied_self : (n : List ℕ) → tied n n ≡ true
 tied_self n = ap is_eq (tied_itself nat_list_cmp_total n)
 
--- a name put twice has its last features
-put_twice : (m : Layers) (n : List ℕ) (s u : Features) → finite.insert (finite.insert m n s) n u ≡ finite.insert m n u
-put_twice m n s u =
-    finite.same_map nat_list_cmp_total same_text _ _ (λ q.
-    finite.get-insert nat_list_cmp_total (finite.insert m n s) n u q
-    ∙ ap (cond (tied q n) (Some u)) (finite.get-insert nat_list_cmp_total m n s q)
-    ∙ twice (tied q n) (finite.get m q)
-    ∙ sym (finite.get-insert nat_list_cmp_total m n u q))
-  where
-    twice : (b : Bool) (o : Option Features) → cond b (Some u) (cond b (Some s) o) ≡ cond b (Some u) o
-    twice true o = refl
-    twice false o = refl
-
 get_put : (m : Layers) (n : List ℕ) (s : Features) → finite.get (finite.insert m n s) n ≡ Some s
 get_put m n s = finite.get-insert nat_list_cmp_total m n s n ∙ ap (λ b. cond b (Some s) (finite.get m n)) (tied_self n)
 
 features_put : (m : Layers) (n : List ℕ) (s : Features) → features_at (finite.insert m n s) n ≡ s
 features_put m n s = ap (λ o. unwrap_or o set.empty) (get_put m n s)
-
-there_put : (m : Layers) (n : List ℕ) (s : Features) → finite.contains_key (finite.insert m n s) n ≡ true
-there_put m n s = ap is_some (get_put m n s)
-
--- a layer that was made is there, and has the features that it had
-pub layer_made : (m : Layers) (n : List ℕ) → finite.contains_key (with_layer m n) n ≡ true
-layer_made m n = there_put m n (features_at m n)
-
-pub features_to_come : (m : Layers) (n : List ℕ) (s : Features) → with_features (with_layer m n) n s ≡ with_features m n s
-features_to_come m n s =
-    put_twice m n (features_at m n) _ ∙ ap (λ u. finite.insert m n (set.union u s)) (features_put m n (features_at m n))
-
-pub layer_keeps : (m : Layers) (n : List ℕ) (f : Feature) → finite.contains_key (with_feature m n f) n ≡ true
-layer_keeps m n f = there_put m n (set.insert (features_at m n) f)
-
-moves : (s u : Features) (f : Feature) → set.union (set.insert s f) u ≡ set.union s (set.insert u f)
-moves s u f =
-    same_set feature_cmp_total same_feature _ _ (λ q.
-    contains-union feature_cmp_total (set.insert s f) u q
-    ∙ ap (λ c. c || set.contains u q) (contains-insert feature_cmp_total s f q ∙ or_swaps (eq_by_cmp feature_cmp q f) (set.contains s q))
-    ∙ or_groups (set.contains s q) (eq_by_cmp feature_cmp q f) (set.contains u q)
-    ∙ sym (contains-union feature_cmp_total s (set.insert u f) q ∙ ap (λ c. set.contains s q || c) (contains-insert feature_cmp_total u f q)))
-
--- a feature of those to come is put
-pub feature_put : (m : Layers) (n : List ℕ) (f : Feature) (fs : List Feature) → with_features (with_feature m n f) n (set.from_list fs) ≡ with_features m n (set.from_list (f ∷ fs))
-feature_put m n f fs =
-    put_twice m n (set.insert (features_at m n) f) _
-    ∙ ap (λ u. finite.insert m n (set.union u (set.from_list fs))) (features_put m n (set.insert (features_at m n) f))
-    ∙ ap (finite.insert m n) (moves (features_at m n) (set.from_list fs) f)
-
-pub none_to_come : (m : Layers) (n : List ℕ) → finite.contains_key m n ≡ true → with_features m n set.empty ≡ m
-none_to_come m n there = ap (finite.insert m n) (set_union_empty (features_at m n)) ∙ sym (layer_stays m n there)
 
 -- ---- texts
 
@@ -163,9 +117,10 @@ are_union s u ps qs a b = record {
 module _ (t : Transform) (texts : List (List ℕ × List ℕ)) (n bytes : List ℕ) (m : Layers) (s : Features) (old : Collected t texts m) (are : AreFeatures s (features_of_text t bytes)) where
   at_name : AreFeatures (features_at (with_features m n s) n) (features_under t n (texts ++ (n, bytes) ∷ []))
   at_name =
-      subst (λ u. AreFeatures u (features_under t n (texts ++ (n, bytes) ∷ []))) (sym (features_put m n (set.union (features_at m n) s)))
-      (subst (AreFeatures (set.union (features_at m n) s)) (sym (under_more t n texts (n, bytes) ∙ ap (λ b. features_under t n texts ++ cond b (features_of_text t bytes) []) ((bytes_eq-Decides n n).1 refl)))
-      (are_union (features_at m n) s (features_under t n texts) (features_of_text t bytes) (old.features n) are))
+      subst (λ u. AreFeatures u (features_under t n (texts ++ (n, bytes) ∷ []))) (sym (features_put m n (set.union s (features_at m n))))
+      (subst (AreFeatures (set.union s (features_at m n))) (sym (under_more t n texts (n, bytes) ∙ ap (λ b. features_under t n texts ++ cond b (features_of_text t bytes) []) ((bytes_eq-Decides n n).1 refl)))
+      (subst (λ u. AreFeatures u (features_under t n texts ++ features_of_text t bytes)) (set_union_commutes feature_cmp_total same_feature (features_at m n) s)
+      (are_union (features_at m n) s (features_under t n texts) (features_of_text t bytes) (old.features n) are)))
 
   other_bytes : (q : List ℕ) → tied q n ≡ false → bytes_eq q n ≡ false
   other_bytes q e = false_from_ne_true _ (λ same. false≢true (sym e ∙ ap (λ w. tied w n) ((bytes_eq-Decides q n).0 same) ∙ tied_self n))
@@ -173,19 +128,19 @@ module _ (t : Transform) (texts : List (List ℕ × List ℕ)) (n bytes : List �
   at_other : (q : List ℕ) → tied q n ≡ false → AreFeatures (features_at (with_features m n s) q) (features_under t q (texts ++ (n, bytes) ∷ []))
   at_other q e =
       subst (λ u. AreFeatures u (features_under t q (texts ++ (n, bytes) ∷ [])))
-      (sym (ap (λ o. unwrap_or o set.empty) (finite.get-insert nat_list_cmp_total m n (set.union (features_at m n) s) q ∙ ap (λ b. cond b (Some (set.union (features_at m n) s)) (finite.get m q)) e)))
+      (sym (ap (λ o. unwrap_or o set.empty) (finite.get-insert nat_list_cmp_total m n (set.union s (features_at m n)) q ∙ ap (λ b. cond b (Some (set.union s (features_at m n))) (finite.get m q)) e)))
       (subst (AreFeatures (features_at m q))
       (sym (under_more t q texts (n, bytes) ∙ ap (λ b. features_under t q texts ++ cond b (features_of_text t bytes) []) (other_bytes q e) ∙ append-nil _))
       (old.features q))
 
-  key_is : (q : List ℕ) → finite.contains_key (with_features m n s) q ≡ is_some (cond (tied q n) (Some (set.union (features_at m n) s)) (finite.get m q))
-  key_is q = ap is_some (finite.get-insert nat_list_cmp_total m n (set.union (features_at m n) s) q)
+  key_is : (q : List ℕ) → finite.contains_key (with_features m n s) q ≡ is_some (cond (tied q n) (Some (set.union s (features_at m n))) (finite.get m q))
+  key_is q = ap is_some (finite.get-insert nat_list_cmp_total m n (set.union s (features_at m n)) q)
 
-  key_there : (q : List ℕ) (b : Bool) → tied q n ≡ b → IsTrue (is_some (cond b (Some (set.union (features_at m n) s)) (finite.get m q))) → Has q (map (λ x. x.0) texts) ⊎ (q ≡ n)
+  key_there : (q : List ℕ) (b : Bool) → tied q n ≡ b → IsTrue (is_some (cond b (Some (set.union s (features_at m n))) (finite.get m q))) → Has q (map (λ x. x.0) texts) ⊎ (q ≡ n)
   key_there q true e h = inr (tied_is q n e)
   key_there q false e h = inl ((old.names q).0 h)
 
-  there_key : (q : List ℕ) (b : Bool) → tied q n ≡ b → Has q (map (λ x. x.0) texts) ⊎ (q ≡ n) → IsTrue (is_some (cond b (Some (set.union (features_at m n) s)) (finite.get m q)))
+  there_key : (q : List ℕ) (b : Bool) → tied q n ≡ b → Has q (map (λ x. x.0) texts) ⊎ (q ≡ n) → IsTrue (is_some (cond b (Some (set.union s (features_at m n))) (finite.get m q)))
   there_key q true e h = refl
   there_key q false e (inl h) = (old.names q).1 h
   there_key q false e (inr same) = absurd (false≢true (sym e ∙ ap (λ w. tied w n) same ∙ tied_self n))

@@ -52,7 +52,3 @@ pub record IsTopologyOfTexts (t : Transform) (texts : List (List ℕ × List ℕ
   pub topology : IsTopology t map (seen_parts parts)
   pub of_map : IsOf map parts
   pub few : length parts.arcs.arcs < 2 ^ 63
-
--- the map with these features under a name
-abbrev pub with_features : Layers → List ℕ → Features → Layers
-with_features m n s = map.insert m n (set.union (features_at m n) s)

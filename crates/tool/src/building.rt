@@ -1,23 +1,19 @@
 //! From GeoJSON texts to a topology: `build_text` and the command `build`.
 ghost use Rattle.std.specs.Prelude.{◌≡◌, map, OnOk, IfOk, IfErr};
-ghost use Rattle.grid.specs.Place.{IsTransform};
-ghost use Rattle.shapes.specs.Maps.{set_of};
 ghost use Rattle.tool.specs.declared.building.BuildFault.TheVariants.{OutOfMemory as WantOfMemory};
-ghost use Rattle.tool.specs.Maps.{named_texts, IsMapOfTexts, IsTextOfTexts, IsTopologyOfTexts, MeansTexts, with_features};
+ghost use Rattle.tool.specs.Maps.{named_texts, IsMapOfTexts, IsTextOfTexts, IsTopologyOfTexts, MeansTexts};
 ghost use Rattle.tool.specs.Sources.{AreAccepted, IsRefusal, IsFaultAt};
-ghost use Rattle.topo.specs.OfMap.{seen_parts};
-ghost use Rattle.topo_io.specs.TopologyText.{topology_text};
 
 use crate::files::{Files, name_at, read_named};
 use crate::grid_word::parse_grid;
 use crate::refusal::Refusal;
+use crate::status::Status;
 use clap::ArgMatches;
 use faults::{Fault, FaultKind, OutOfMemory};
 use grid::Grid;
-use shapes::{Feature, FeatureMap, InsertFault};
-use sinks::{Kept, Sink};
+use shapes::FeatureMap;
+use sinks::Sink;
 use std::alloc::Global;
-use std::collections::BTreeSet;
 use topo::Topology;
 
 /// Why texts were not built into a topology.
@@ -54,20 +50,8 @@ pub fn build_text(
     ensures refused { IfErr result (IsRefusal grid.now (map (λ s. s.1.items) texts.now)) }
 {
     let topology = build_topology(alloc, grid, texts)?;
-    let text = text_of(alloc, &topology)?;
+    let text = topo_io::text_of(alloc, &topology)?;
     Ok(text)
-}
-
-// The canonical text of a topology, in memory.
-fn text_of(alloc: Global, topology: &Topology) -> Result<Vec<u8>, OutOfMemory>
-    ensures text { IfOk result (λ t. t.items ≡ topology_text (seen_parts topology.now)) }
-    ensures limits { IsTransform topology.now.grid }
-{
-    let mut kept = Kept::new(alloc);
-    match topo_io::write(topology, &mut kept) {
-        Ok(()) => Ok(kept.into_bytes()),
-        Err(_) => Err(OutOfMemory),
-    }
 }
 
 /// The topology of GeoJSON texts, each after its layer's name.
@@ -99,32 +83,13 @@ fn read_layers(
     let mut left = texts;
     while let Some((source, after)) = left.split_first() {
         match geojson_io::read(alloc, source.1.as_slice(), grid) {
-            Ok(features) => add_features(&mut map, source.0.as_str(), features)?,
+            Ok(features) => map = map.with_features(source.0.as_str(), features)?,
             Err(fault) => return Err(refused(place, fault)),
         }
         place += 1;
         left = after;
     }
     Ok(map)
-}
-
-/// Puts features into a layer, which is made where it is not there.
-fn add_features(
-    map: &mut FeatureMap,
-    layer: &str,
-    features: BTreeSet<Feature>,
-) -> Result<(), OutOfMemory>
-    ensures { OnOk result (map.new ≡ with_features map.old layer.now (set_of features)) }
-{
-    map.add_layer(layer)?;
-    for feature in features {
-        match map.insert(layer, feature) {
-            Ok(_) => {}
-            Err(InsertFault::OutOfMemory) => return Err(OutOfMemory),
-            Err(InsertFault::NoLayer) => unreachable!(),
-        }
-    }
-    Ok(())
 }
 
 fn refused(place: usize, fault: Fault) -> BuildFault
@@ -142,7 +107,7 @@ pub(crate) fn run_build<'a, F: Files, O: Sink>(
     found: &ArgMatches<'a>,
     files: &mut F,
     out: &mut O,
-) -> Result<u8, Refusal<'a>> {
+) -> Result<Status, Refusal<'a>> {
     let word = found.get_str("grid").unwrap_or("");
     let Some(grid) = parse_grid(word) else {
         return Err(Refusal::BadGrid(word));
@@ -152,7 +117,7 @@ pub(crate) fn run_build<'a, F: Files, O: Sink>(
     match build_topology(alloc, &grid, texts.as_slice()) {
         Ok(topology) => {
             topo_io::write(&topology, out)?;
-            Ok(0)
+            Ok(Status::Done)
         }
         Err(BuildFault::Text(place, fault)) => {
             Err(Refusal::of_text(name_at(names.as_slice(), place), fault))

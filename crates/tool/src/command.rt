@@ -5,6 +5,7 @@ use crate::files::Files;
 use crate::merging::run_merge;
 use crate::queries::{run_check, run_feature, run_mesh, run_neighbors};
 use crate::refusal::Refusal;
+use crate::status::Status;
 use clap::error::ErrorKind;
 use clap::{ArgMatches, Error};
 use sinks::{Sink, put};
@@ -21,22 +22,23 @@ pub fn run<F: Files, O: Sink, E: Sink>(
     out: &mut O,
     err: &mut E,
 ) -> u8 {
-    match parse(alloc, words) {
+    let status = match parse(alloc, words) {
         Ok(matches) => match perform(alloc, &matches, files, out) {
             Ok(status) => finish(status, out, err),
             Err(refusal) => refuse(&refusal, err),
         },
         Err(error) => explain(alloc, &error, out, err),
-    }
+    };
+    status.number()
 }
 
-/// Does what the words ask for. Answers 0, or 1 where `check` says no.
+/// Does what the words ask for. Answers `Done`, or `NotCanonical` where `check` says no.
 fn perform<'a, F: Files, O: Sink>(
     alloc: Global,
     matches: &ArgMatches<'a>,
     files: &mut F,
     out: &mut O,
-) -> Result<u8, Refusal<'a>> {
+) -> Result<Status, Refusal<'a>> {
     match matches.subcommand() {
         Some(("build", found)) => run_build(alloc, found, files, out),
         Some(("check", found)) => run_check(alloc, found, files, out),
@@ -44,12 +46,12 @@ fn perform<'a, F: Files, O: Sink>(
         Some(("feature", found)) => run_feature(alloc, found, files, out),
         Some(("mesh", found)) => run_mesh(alloc, found, files, out),
         Some(("neighbors", found)) => run_neighbors(alloc, found, files, out),
-        _ => Ok(2),
+        _ => Ok(Status::Usage),
     }
 }
 
 /// Flushes the output, which may fail until then.
-fn finish<O: Sink, E: Sink>(status: u8, out: &mut O, err: &mut E) -> u8 {
+fn finish<O: Sink, E: Sink>(status: Status, out: &mut O, err: &mut E) -> Status {
     match out.flush() {
         Ok(()) => status,
         Err(_) => refuse(&Refusal::Write, err),
@@ -57,13 +59,13 @@ fn finish<O: Sink, E: Sink>(status: u8, out: &mut O, err: &mut E) -> u8 {
 }
 
 /// Says why, and answers the status. A failure of standard error changes nothing.
-fn refuse<E: Sink>(refusal: &Refusal<'_>, err: &mut E) -> u8 {
+fn refuse<E: Sink>(refusal: &Refusal<'_>, err: &mut E) -> Status {
     let _ = refusal.write_line(err);
     refusal.status()
 }
 
 /// Prints the help that was asked for, or what is wrong with the words.
-fn explain<O: Sink, E: Sink>(alloc: Global, error: &Error, out: &mut O, err: &mut E) -> u8 {
+fn explain<O: Sink, E: Sink>(alloc: Global, error: &Error, out: &mut O, err: &mut E) -> Status {
     if matches!(error.kind(), ErrorKind::OutOfMemory) {
         return refuse(&Refusal::OutOfMemory, err);
     }
@@ -72,10 +74,10 @@ fn explain<O: Sink, E: Sink>(alloc: Global, error: &Error, out: &mut O, err: &mu
     };
     if error.use_stderr() {
         let _ = put(err, text.as_bytes());
-        return 2;
+        return Status::Usage;
     }
     match put(out, text.as_bytes()) {
-        Ok(()) => finish(0, out, err),
+        Ok(()) => finish(Status::Done, out, err),
         Err(_) => refuse(&Refusal::Write, err),
     }
 }

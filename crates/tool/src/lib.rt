@@ -12,6 +12,7 @@ pub mod laws;
 mod merging;
 mod queries;
 mod refusal;
+mod status;
 
 pub use building::{BuildFault, build_text};
 pub use command::run;

@@ -1,6 +1,7 @@
 //! The command `merge`.
 use crate::files::{Files, name_at, read_all};
 use crate::refusal::Refusal;
+use crate::status::Status;
 use clap::ArgMatches;
 use faults::OutOfMemory;
 use refine::{MergeFault, Plan, merge_texts};
@@ -41,7 +42,7 @@ pub(crate) fn run_merge<'a, F: Files, O: Sink>(
     found: &ArgMatches<'a>,
     files: &mut F,
     out: &mut O,
-) -> Result<u8, Refusal<'a>> {
+) -> Result<Status, Refusal<'a>> {
     let names = found.get_strs("FILE").unwrap_or(&[]);
     let texts = read_all(alloc, files, names)?;
     let shape = Shape::of_word(found.get_str("shape").unwrap_or("left"));
@@ -51,7 +52,7 @@ pub(crate) fn run_merge<'a, F: Files, O: Sink>(
     match merge_texts(alloc, texts.as_slice(), &plan) {
         Ok(text) => {
             put(out, text.as_slice())?;
-            Ok(0)
+            Ok(Status::Done)
         }
         Err(fault) => Err(refused(names, fault)),
     }

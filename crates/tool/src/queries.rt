@@ -1,6 +1,7 @@
 //! The commands that ask one topology: `check`, `feature`, `mesh` and `neighbors`.
 use crate::files::{Files, read_named};
 use crate::refusal::Refusal;
+use crate::status::Status;
 use chains::ArcTable;
 use clap::ArgMatches;
 use grid::Grid;
@@ -10,23 +11,23 @@ use sinks::{Sink, put};
 use std::alloc::Global;
 use topo::Topology;
 
-/// Prints whether a text is canonical. Answers 0, or 1 where it is not.
+/// Prints whether a text is canonical. Answers `Done`, or `NotCanonical` where it is not.
 pub(crate) fn run_check<'a, F: Files, O: Sink>(
     alloc: Global,
     found: &ArgMatches<'a>,
     files: &mut F,
     out: &mut O,
-) -> Result<u8, Refusal<'a>> {
+) -> Result<Status, Refusal<'a>> {
     let file = word(found, "FILE");
     let text = read_named(alloc, files, file)?;
     match topo_io::is_canonical(alloc, text.as_slice()) {
         Ok(true) => {
             put(out, b"canonical\n")?;
-            Ok(0)
+            Ok(Status::Done)
         }
         Ok(false) => {
             put(out, b"not canonical\n")?;
-            Ok(1)
+            Ok(Status::NotCanonical)
         }
         Err(fault) => Err(Refusal::of_text(file, fault)),
     }
@@ -38,11 +39,11 @@ pub(crate) fn run_feature<'a, F: Files, O: Sink>(
     found: &ArgMatches<'a>,
     files: &mut F,
     out: &mut O,
-) -> Result<u8, Refusal<'a>> {
+) -> Result<Status, Refusal<'a>> {
     let layer = word(found, "layer");
     let topology = read_topology(alloc, files, word(found, "FILE"))?;
     match write_layer(&topology, layer, out) {
-        Ok(()) => Ok(0),
+        Ok(()) => Ok(Status::Done),
         Err(LayerFault::NoLayer) => Err(Refusal::NoLayer(layer)),
         Err(LayerFault::Write) => Err(Refusal::Write),
     }
@@ -54,14 +55,14 @@ pub(crate) fn run_mesh<'a, F: Files, O: Sink>(
     found: &ArgMatches<'a>,
     files: &mut F,
     out: &mut O,
-) -> Result<u8, Refusal<'a>> {
+) -> Result<Status, Refusal<'a>> {
     let layer = found.get_str("layer");
     let topology = read_topology(alloc, files, word(found, "FILE"))?;
     let edges = Edges::of_word(word(found, "edges"));
     match mesh_of(alloc, &topology, layer, edges) {
         Ok(lines) => {
             write_mesh(&topology.grid(), &lines, out)?;
-            Ok(0)
+            Ok(Status::Done)
         }
         Err(fault) => Err(refused(layer.unwrap_or(""), fault)),
     }
@@ -107,13 +108,13 @@ pub(crate) fn run_neighbors<'a, F: Files, O: Sink>(
     found: &ArgMatches<'a>,
     files: &mut F,
     out: &mut O,
-) -> Result<u8, Refusal<'a>> {
+) -> Result<Status, Refusal<'a>> {
     let layer = word(found, "layer");
     let topology = read_topology(alloc, files, word(found, "FILE"))?;
     match neighbors(alloc, &topology, layer) {
         Ok(lists) => {
             write_neighbors(lists.as_slice(), out)?;
-            Ok(0)
+            Ok(Status::Done)
         }
         Err(fault) => Err(refused(layer, fault)),
     }

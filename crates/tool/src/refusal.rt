@@ -1,4 +1,5 @@
 //! How a command says that it did not do its work: an exit status and a line on standard error.
+use crate::status::Status;
 use faults::{Fault, FaultKind, OutOfMemory, Step};
 use itoa::Buffer;
 use sinks::{Sink, WriteFault, put};
@@ -37,13 +38,15 @@ impl<'a> Refusal<'a> {
     }
 
     /// The exit status.
-    pub(crate) fn status(&self) -> u8 {
+    pub(crate) fn status(&self) -> Status {
         match self {
-            Refusal::BadGrid(_) | Refusal::BadLayer(_) => 2,
-            Refusal::Unreadable(_) => 3,
-            Refusal::Text(..) | Refusal::OtherGrid(_) | Refusal::NoLayer(_) | Refusal::BadPlan => 4,
-            Refusal::OutOfMemory => 5,
-            Refusal::Write => 6,
+            Refusal::BadGrid(_) | Refusal::BadLayer(_) => Status::Usage,
+            Refusal::Unreadable(_) => Status::Unreadable,
+            Refusal::Text(..) | Refusal::OtherGrid(_) | Refusal::NoLayer(_) | Refusal::BadPlan => {
+                Status::Refused
+            }
+            Refusal::OutOfMemory => Status::OutOfMemory,
+            Refusal::Write => Status::Write,
         }
     }
 

@@ -14,38 +14,17 @@ use grid::{Grid, Pos};
 /// Least x, least y, greatest x and greatest y, in absolute numbers.
 type Corners = (i64, i64, i64, i64);
 
-fn west(corners: Corners, x: i64) -> i64
-    ensures { result ≡ int_min corners.0 x }
-{
-    corners.0.min(x)
-}
-
-fn south(corners: Corners, y: i64) -> i64
-    ensures { result ≡ int_min corners.1 y }
-{
-    corners.1.min(y)
-}
-
-fn east(corners: Corners, x: i64) -> i64
-    ensures { result ≡ int_max corners.2 x }
-{
-    corners.2.max(x)
-}
-
-fn north(corners: Corners, y: i64) -> i64
-    ensures { result ≡ int_max corners.3 y }
-{
-    corners.3.max(y)
-}
-
 fn wider(corners: Corners, x: i64, y: i64) -> Corners
-    ensures { result ≡ widened_at (Some corners) (x, y) }
+    ensures west { result.0 ≡ int_min corners.0 x }
+    ensures south { result.1 ≡ int_min corners.1 y }
+    ensures east { result.2 ≡ int_max corners.2 x }
+    ensures north { result.3 ≡ int_max corners.3 y }
 {
     (
-        west(corners, x),
-        south(corners, y),
-        east(corners, x),
-        north(corners, y),
+        corners.0.min(x),
+        corners.1.min(y),
+        corners.2.max(x),
+        corners.3.max(y),
     )
 }
 

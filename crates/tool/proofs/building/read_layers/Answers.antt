@@ -1,8 +1,8 @@
 use Rattle.std.proofs.Common.{◌≡◌, List, [], ◌∷◌, length, refl, arith, ap, ◌∙◌, sym, map, subst, string_bytes}
-use Rattle.shapes.specs.Maps.{set_of}
+use Rattle.shapes.specs.Maps.{set_of, with_features}
 use Rattle.reading.specs.Meant.{AreFeatures}
 use Rattle.geojson_io.specs.Features.{features_of_text}
-use Rattle.tool.specs.Maps.{named_texts, with_features}
+use Rattle.tool.specs.Maps.{named_texts}
 use Rattle.tool.proofs.Layers.{SoFarMap, map_begun, map_more, map_done}
 use Rattle.tool.proofs.Refusals.{begun, one_more, refusal_at}
 use Rattle.tool.proofs.building.read_layers.Goals as goal
@@ -28,7 +28,7 @@ loop-source-preserved c =
     let s = set_of c.in-Ok.features in
     let split = c.in-Some.ensures.cases.0 in
     let are : AreFeatures s (features_of_text t source.1.items) = rw c.as_slice.ensures.value at c.in-Ok.ensures.made in
-    let added = c.in_ok-add_features-in-Ok.ensures ∙ ap (λ n. with_features m n s) c.as_str.ensures.value in
+    let added = c.in_ok-map-in-Ok.ensures ∙ ap (λ n. with_features m n s) c.as_str.ensures.value in
     record {
       judged = one_more _ _ _ _ _ _ c.loop-source.invariant.judged (ap (map (λ s. s.1.items)) split) (rw c.as_slice.ensures.value at c.in-Ok.ensures.ok);
       collected =

@@ -1,0 +1,35 @@
+//! The exit statuses of the command.
+
+/// How a command ended.
+#[derive(Clone, Copy, PartialEq, Eq, Debug)]
+pub(crate) enum Status {
+    /// The work is done, or help was asked for.
+    Done,
+    /// `check` says no.
+    NotCanonical,
+    /// Wrong usage, a bad grid or a bad layer.
+    Usage,
+    /// A file can't be read.
+    Unreadable,
+    /// An input is refused.
+    Refused,
+    /// A growth of memory was refused.
+    OutOfMemory,
+    /// The output failed.
+    Write,
+}
+
+impl Status {
+    /// The number that the program exits with.
+    pub(crate) fn number(self) -> u8 {
+        match self {
+            Status::Done => 0,
+            Status::NotCanonical => 1,
+            Status::Usage => 2,
+            Status::Unreadable => 3,
+            Status::Refused => 4,
+            Status::OutOfMemory => 5,
+            Status::Write => 6,
+        }
+    }
+}
