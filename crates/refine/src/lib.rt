@@ -17,6 +17,3 @@ pub use plan::{Plan, run_plan};
 pub use recutting::{Recut, Side, recut};
 pub use shard::Shard;
 pub use whole::Whole;
-
-#[cfg(test)]
-mod tests;

@@ -1,0 +1,5 @@
+//! Tests of the public calls of `refine`.
+#![tactic(auto)]
+
+#[cfg(test)]
+mod tests;
