@@ -2,6 +2,6 @@
 #![tactic(auto)]
 
 #[cfg(test)]
-mod reading;
+mod texts_read;
 #[cfg(test)]
-mod writing;
+mod texts_written;

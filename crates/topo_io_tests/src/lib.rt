@@ -2,9 +2,9 @@
 #![tactic(auto)]
 
 #[cfg(test)]
-mod reading;
+mod texts_read;
 #[cfg(test)]
-mod writing;
+mod texts_written;
 
 /// The topology of the unit square at the origin as another tool may write it.
 #[cfg(test)]
