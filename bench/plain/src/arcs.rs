@@ -170,11 +170,10 @@ impl Topology {
             if list.form != Form::Points {
                 let last = list.places.end - if list.form == Form::Line { 1 } else { 0 };
                 let mut start = list.places.start;
-                for place in start + 1..=last {
-                    if is_junction[place] || place == last {
-                        indexes.push(finder.index(map, start..place + 1));
-                        start = place;
-                    }
+                let cuts = (start + 1..=last).filter(|&place| is_junction[place] || place == last);
+                for place in cuts {
+                    indexes.push(finder.index(map, start..place + 1));
+                    start = place;
                 }
             }
             of_lists.push(begun..indexes.len());
