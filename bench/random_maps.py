@@ -77,6 +77,14 @@ class Maker:
         ring = [(corner[0] + x, corner[1] + y) for x, y in ways]
         return [*ring, ring[0]]
 
+    def knot(self):
+        """A closed list that comes to its least position twice or three times."""
+        least, *others = sorted({self.anywhere() for _ in range(9)})
+        self.rng.shuffle(others)
+        loops = zip(others[::2], others[1::2])
+        way = [p for loop in list(loops)[: self.rng.randint(2, 3)] for p in (least, *loop)]
+        return [*way, least]
+
     def turned(self, closed):
         """The same ring, begun elsewhere."""
         start = self.rng.randrange(len(closed) - 1)
@@ -112,6 +120,8 @@ class Maker:
             ring = self.turned(self.rng.choice(self.rings))[:: self.rng.choice([1, -1])]
         elif kind < 0.55:
             ring = self.alone()[:: self.rng.choice([1, -1])]
+        elif kind < 0.65:
+            ring = self.knot()
         else:
             ring = self.closed_trail() or self.alone()
         self.rings.append(ring)
