@@ -55,7 +55,8 @@ def compile_plain(folder, registry):
     words = ["cargo", "build", "--quiet", "--release", "--offline", "--target-dir", target]
     words += ["--config", 'source.crates-io.replace-with="debian"']
     words += ["--config", f"source.debian.directory={json.dumps(os.path.abspath(registry))}"]
-    if subprocess.run(words, cwd=copy).returncode != 0:
+    home = {**os.environ, "CARGO_HOME": os.path.join(folder, "home")}
+    if subprocess.run(words, cwd=copy, env=home).returncode != 0:
         stop(f"cargo doesn't build {SOURCE}")
     return os.path.join(target, "release", "plain")
 
