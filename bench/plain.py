@@ -125,27 +125,32 @@ class Programs:
         print(f"{maps} random maps, {geometries} geometries and {arcs} arcs: same bytes")
 
 
-def print_table(rows):
+def print_head():
     print("| GeoJSON, MB | Positions | `topotool`, seconds | Plain, seconds | Times the plain "
           "| Memory times the plain | Doubled: times the plain | `topotool` grows by | Plain grows by |")
-    print("|---|---|---|---|---|---|---|---|---|")
-    for (size, count, tool, plain), (_, _, more_tool, more_plain) in rows:
-        print(
-            f"| {size / 1e6:.1f} | {count} | {tool.seconds:.3f} | {plain.seconds:.3f} "
-            f"| {tool.seconds / plain.seconds:.2f} | {tool.megabytes / plain.megabytes:.2f} "
-            f"| {more_tool.seconds / more_plain.seconds:.2f} "
-            f"| {more_tool.seconds / tool.seconds:.2f} "
-            f"| {more_plain.seconds / plain.seconds:.2f} |"
-        )
+    print("|---|---|---|---|---|---|---|---|---|", flush=True)
+
+
+def print_size(single, double):
+    """A line of the table: a size, and its double."""
+    size, count, tool, plain = single
+    _, _, more_tool, more_plain = double
+    print(
+        f"| {size / 1e6:.1f} | {count} | {tool.seconds:.3f} | {plain.seconds:.3f} "
+        f"| {tool.seconds / plain.seconds:.2f} | {tool.megabytes / plain.megabytes:.2f} "
+        f"| {more_tool.seconds / more_plain.seconds:.2f} "
+        f"| {more_tool.seconds / tool.seconds:.2f} "
+        f"| {more_plain.seconds / plain.seconds:.2f} |",
+        flush=True,
+    )
 
 
 def measure_sizes(programs, sizes, seed, runs):
-    """Measures each size and its double."""
-    rows = []
+    """Measures each size and its double, and prints each line as soon as it is known."""
+    print_head()
     for megabytes in sizes:
         positions = max(1, round(megabytes * 1e6 / BYTES_PER_POSITION))
-        rows.append([programs.measure(times * positions, seed, runs) for times in (1, 2)])
-    return rows
+        print_size(*(programs.measure(times * positions, seed, runs) for times in (1, 2)))
 
 
 def main():
@@ -169,7 +174,7 @@ def main():
             programs.check_tilings(words.seed)
             programs.check_maps(words.maps, words.seed)
         else:
-            print_table(measure_sizes(programs, words.megabytes, words.seed, words.runs))
+            measure_sizes(programs, words.megabytes, words.seed, words.runs)
 
 
 if __name__ == "__main__":
