@@ -23,18 +23,12 @@ import tempfile
 sys.dont_write_bytecode = True
 
 from generate import write_collection
-from run import GRID, TOOL, measure_both, run_once
+from measuring import GRID, HERE, TOOL, measure_both, need_tool, run_once, stop
 
-SOURCE = os.path.join(os.path.dirname(os.path.abspath(__file__)), "chosen_hashes.c")
+SOURCE = os.path.join(HERE, "chosen_hashes.c")
 COMPILERS = ["cc", "gcc", "clang"]
 GREATEST_RATIO = 1.5
 ENDS_LIMIT = 1 << 20  # the chosen ends have y below this
-
-
-def stop(why):
-    """Ends with status 2: nothing can be measured."""
-    print(f"chosen_hashes.py: {why}", file=sys.stderr)
-    sys.exit(2)
 
 
 def compile_finder(folder):
@@ -141,8 +135,7 @@ def main():
     words = parser.parse_args()
     if words.lines < 2 or words.runs < 1:
         stop("at least two lines and one run are needed")
-    if not os.access(words.tool, os.X_OK):
-        stop(f"{words.tool} is not there: build it by rt run in crates/topotool")
+    need_tool(words.tool)
     with tempfile.TemporaryDirectory() as folder:
         results = measure(folder, words.tool, words.lines, words.seed, words.runs)
     print_table(words.lines, results)

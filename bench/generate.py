@@ -91,9 +91,12 @@ def features(rows):
 
 def write_collection(path, members):
     with open(path, "w") as file:
-        json.dump(
-            {"type": "FeatureCollection", "features": members}, file, separators=(",", ":")
-        )
+        file.write('{"type":"FeatureCollection","features":[')
+        for place, member in enumerate(members):
+            # a whole feature at once: `json.dump` would write number by number
+            text = json.dumps(member, separators=(",", ":"))
+            file.write("," + text if place > 0 else text)
+        file.write("]}")
 
 
 def write_tiling(folder, positions, seed, shards):

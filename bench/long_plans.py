@@ -11,7 +11,6 @@ with status 1 where a text differs or the program fails.
 """
 
 import argparse
-import filecmp
 import json
 import os
 import resource
@@ -19,9 +18,10 @@ import subprocess
 import sys
 import tempfile
 
-TOP = os.path.dirname(os.path.dirname(os.path.abspath(__file__)))
-TOOL = os.path.join(TOP, "crates", "topotool", "out", "topotool")
-GRID = ["--grid", "1,1,0,0"]
+sys.dont_write_bytecode = True
+
+from measuring import GRID, TOOL, same_bytes
+
 SHAPES = ["left", "right", "halves"]
 DIGITS = "0123456789abcdefghijklmnopqrstuvwxyz"
 
@@ -98,9 +98,7 @@ def judge_shape(shape, names, folder, kilobytes):
     if status != 0:
         print(f"{shape}: ended with {status}")
         return False
-    same = filecmp.cmp(
-        os.path.join(folder, out), os.path.join(folder, "whole.topo.json"), shallow=False
-    )
+    same = same_bytes(os.path.join(folder, out), os.path.join(folder, "whole.topo.json"))
     print(f"{shape}: {seconds:.2f} s, {'the bytes' if same else 'NOT the bytes'} of the whole")
     return same
 

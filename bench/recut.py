@@ -12,24 +12,20 @@ system), taken by turns, and the least of some runs counts. It also compares the
 
 import argparse
 import os
-import subprocess
 import sys
 import tempfile
 
-from run import run_once
+sys.dont_write_bytecode = True
 
-HERE = os.path.dirname(os.path.abspath(__file__))
-GENERATE = os.path.join(HERE, "generate.py")
-PROGRAM = os.path.join(os.path.dirname(HERE), "crates", "bench_recut", "out", "bench_recut")
+from measuring import TOP, run_once, write_tiling
+
+PROGRAM = os.path.join(TOP, "crates", "bench_recut", "out", "bench_recut")
 
 
 def write_halves(folder, positions, seed):
     """Writes the halves of a tiling, and answers how many positions it has and their files."""
-    words = [sys.executable, GENERATE, folder, "--positions", str(positions), "--seed", str(seed)]
-    told = subprocess.run(
-        [*words, "--shards", "2"], check=True, capture_output=True, text=True
-    ).stdout
-    return int(told.split()[0]), [os.path.join(folder, f"shard_{half:02}.json") for half in (0, 1)]
+    count = write_tiling(folder, positions, seed, 2)
+    return count, [os.path.join(folder, f"shard_{half:02}.json") for half in (0, 1)]
 
 
 def seconds_of(mode, count, halves, out):

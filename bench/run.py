@@ -11,67 +11,18 @@ merges of shards, in several orders and shapes, with the build of the whole, byt
 """
 
 import argparse
-import filecmp
 import os
 import random
-import subprocess
 import sys
 import tempfile
 
-TOP = os.path.dirname(os.path.dirname(os.path.abspath(__file__)))
-TOOL = os.path.join(TOP, "crates", "topotool", "out", "topotool")
+sys.dont_write_bytecode = True
+
+from measuring import GRID, TOOL, TOP, measure_both, run_once, same_bytes, write_tiling
+
 VALUE = os.path.join(TOP, "crates", "value_alone", "out", "value_alone")
 FEATURES = os.path.join(TOP, "crates", "features_alone", "out", "features_alone")
 SHARDS = 16
-GRID = ["--grid", "1,1,0,0"]
-GENERATE = os.path.join(os.path.dirname(os.path.abspath(__file__)), "generate.py")
-
-
-class Measure:
-    """Processor seconds and peak megabytes."""
-
-    def __init__(self, seconds, megabytes):
-        self.seconds = seconds
-        self.megabytes = megabytes
-
-
-def run_once(words, out):
-    """Runs a program to its end, with its output in a file."""
-    with open(out, "wb") as file:
-        child = subprocess.Popen(words, stdout=file)
-        _, status, usage = os.wait4(child.pid, 0)
-        child.returncode = os.waitstatus_to_exitcode(status)
-    if child.returncode != 0:
-        sys.exit(f"{' '.join(words[:3])} ended with {child.returncode}")
-    return Measure(usage.ru_utime + usage.ru_stime, usage.ru_maxrss / 1024)
-
-
-def least(measures):
-    """The least time and the greatest memory of some runs."""
-    return Measure(
-        min(each.seconds for each in measures), max(each.megabytes for each in measures)
-    )
-
-
-def measure_both(command, value, out, runs):
-    """Runs two programs by turns, so that both meet the same hours of a shared machine."""
-    pairs = [(run_once(command, out), run_once(value, out)) for _ in range(runs)]
-    return least([pair[0] for pair in pairs]), least([pair[1] for pair in pairs])
-
-
-def write_tiling(folder, positions, seed):
-    """Writes a tiling and its shards, and answers how many positions it has.
-
-    Another process makes it: a measured program's peak memory counts from its parent's.
-    """
-    words = [sys.executable, GENERATE, folder, "--positions", str(positions), "--seed", str(seed)]
-    words += ["--shards", str(SHARDS)]
-    told = subprocess.run(words, check=True, capture_output=True, text=True).stdout
-    return int(told.split()[0])
-
-
-def same_bytes(left, right):
-    return filecmp.cmp(left, right, shallow=False)
 
 
 def make_topologies(folder):
@@ -117,7 +68,7 @@ def commands(folder, whole, shards):
 
 def measure_size(folder, positions, seed, runs):
     """Measures each command at one size: title, of the command and of the values."""
-    count = write_tiling(folder, positions, seed)
+    count = write_tiling(folder, positions, seed, SHARDS)
     whole, shards = make_topologies(folder)
     compare_merges(folder, whole, shards, seed)
     out = os.path.join(folder, "out")
