@@ -3,9 +3,9 @@
     python3 tests/documents.py [DOCUMENT...]
 
 An example is a line that begins with `$ `, in a fenced block or indented by four spaces, and the lines below
-it. They run in turn at the top of the repository, `topotool` being crates/topotool/out/topotool, which has to
-be built before; files that they name relatively are made in a folder of this run. Ends with a line of counts,
-and with status 1 where an example prints something else.
+it. Those of a document run in turn in a folder of its own, where `examples` is that of the repository and
+`topotool` is crates/topotool/out/topotool, or the program that TOPOTOOL names, which has to be built before. Ends
+with a line of counts, and with status 1 where an example prints something else.
 """
 
 import os
@@ -15,7 +15,7 @@ import sys
 import tempfile
 
 TOP = os.path.dirname(os.path.dirname(os.path.abspath(__file__)))
-PROGRAM = os.environ.get("TOPOTOOL", f"{TOP}/crates/topotool/out/topotool")
+PROGRAM = os.path.abspath(os.environ.get("TOPOTOOL", f"{TOP}/crates/topotool/out/topotool"))
 DOCUMENTS = ["README.md", "docs/FAULTS.md"]
 
 
@@ -39,22 +39,26 @@ def examples(text):
 
 def run(command, folder):
     """Returns what a command of a document prints, on either output."""
-    path = f"{os.path.dirname(PROGRAM)}:{os.environ['PATH']}"
-    ran = subprocess.run(["bash", "-c", command], cwd=folder, env={**os.environ, "PATH": path},
+    env = {**os.environ, "PATH": f"{folder}/bin:{os.environ['PATH']}", "TOPOTOOL": PROGRAM}
+    ran = subprocess.run(["bash", "-c", command], cwd=folder, env=env,
                          stdin=subprocess.DEVNULL, stdout=subprocess.PIPE, stderr=subprocess.STDOUT, text=True)
     return [it for it in re.sub(r"\n\Z", "", ran.stdout).split("\n") if it or ran.stdout]
 
 
-def tried(document, folder):
+def tried(document):
     """Runs the examples of a document; returns how many there are, and how many print something else."""
     with open(f"{TOP}/{document}", encoding="utf-8") as file:
         found = [*examples(file.read())]
     wrong = 0
-    for command, printed in found:
-        got = run(command, folder)
-        if got != printed and not (got == [] and printed == []):
-            wrong += 1
-            print(f"{document}: $ {command}\n  is to print {printed}\n  and printed {got}")
+    with tempfile.TemporaryDirectory() as folder:
+        os.symlink(f"{TOP}/examples", f"{folder}/examples")
+        os.mkdir(f"{folder}/bin")
+        os.symlink(PROGRAM, f"{folder}/bin/topotool")
+        for command, printed in found:
+            got = run(command, folder)
+            if got != printed:
+                wrong += 1
+                print(f"{document}: $ {command}\n  is to print {printed}\n  and printed {got}")
     return len(found), wrong
 
 
@@ -62,11 +66,9 @@ def main(documents):
     if not os.path.isfile(PROGRAM):
         sys.exit(f"{PROGRAM} is not there: rt run in crates/topotool builds it")
     count = wrong = 0
-    with tempfile.TemporaryDirectory() as folder:
-        os.symlink(f"{TOP}/examples", f"{folder}/examples")
-        for document in documents:
-            more, bad = tried(document, folder)
-            count, wrong = count + more, wrong + bad
+    for document in documents:
+        more, bad = tried(document)
+        count, wrong = count + more, wrong + bad
     print(f"{count} examples, {wrong} wrong")
     return 1 if wrong else 0
 
