@@ -16,7 +16,7 @@ import tempfile
 
 TOP = os.path.dirname(os.path.dirname(os.path.abspath(__file__)))
 PROGRAM = os.path.abspath(os.environ.get("TOPOTOOL", f"{TOP}/crates/topotool/out/topotool"))
-DOCUMENTS = ["README.md", "docs/FAULTS.md"]
+DOCUMENTS = ["README.md", "docs/FAULTS.md", "docs/LIBRARY.md"]
 
 
 def examples(text):

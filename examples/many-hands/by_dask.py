@@ -2,7 +2,7 @@
 
     python3 by_dask.py [--address SCHEDULER] [--workers N] GRID LAYER SHARD... > WHOLE
 
-Without an address a cluster of N workers is made on this machine. A shard is read here, and travels as bytes; so
+Without an address N workers are made in this process. A shard is read here, and travels as bytes; so
 do the texts of topologies between the workers, each of which needs `topotool` and nothing else: the variable
 TOPOTOOL names it, for each worker on its own machine. A task whose worker is lost runs again on another.
 """
@@ -62,7 +62,7 @@ def main():
     words.add_argument("layer")
     words.add_argument("shards", nargs="+")
     words = words.parse_args()
-    place = words.address or LocalCluster(n_workers=words.workers, threads_per_worker=1, dashboard_address=None)
+    place = words.address or LocalCluster(n_workers=words.workers, threads_per_worker=1, processes=False, dashboard_address=None)
     with Client(place) as client:
         built = [client.submit(build, words.grid, words.layer, contents(it), pure=False) for it in words.shards]
         sys.stdout.buffer.write(merged(client, built).result())
