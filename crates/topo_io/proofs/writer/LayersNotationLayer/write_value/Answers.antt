@@ -1,15 +1,13 @@
-use Rattle.std.proofs.Common.{◌≡◌, ℕ, List, ◌∙◌, subst, ap}
-use Rattle.std.specs.Result.{OnOk, OnErr}
+use Rattle.std.proofs.Common.{◌∙◌, ap}
 use Rattle.shapes.specs.Parts.{spelled_text}
 use Rattle.shapes.specs.Spelling.{spelling_of}
-use Rattle.sinks.specs.Writes.{TookAll, TookPart}
 use Rattle.topo_io.proofs.Parts.{layer_is}
+use Rattle.writing.proofs.Same.{whole_as, part_as}
 use Rattle.topo_io.proofs.writer.LayersNotationLayer.write_value.Goals as goal
 
 pub returns-clause-whole : goal.returns-clause-whole
 returns-clause-whole g c =
-    let P : List ℕ → Type 0 = λ l. OnOk c.write.result (TookAll (g.W.Sink.seen c.args.sink.now) (g.W.Sink.seen c.write.new.sink) l) in
-    subst P
+    whole_as c.write.result (g.W.Sink.seen c.args.sink.now) (g.W.Sink.seen c.write.new.sink) _ _
     (layer_is c.args.value.now c.as_bytes.result.now c.geometries.result.now
     (c.as_bytes.ensures.value ∙ (c.spelling.ensures ∙ ap (λ n. spelling_of (spelled_text n)) c.name.ensures))
     c.geometries.ensures)
@@ -17,8 +15,7 @@ returns-clause-whole g c =
 
 pub returns-clause-part : goal.returns-clause-part
 returns-clause-part g c =
-    let P : List ℕ → Type 0 = λ l. OnErr c.write.result (TookPart (g.W.Sink.seen c.args.sink.now) (g.W.Sink.seen c.write.new.sink) l) in
-    subst P
+    part_as c.write.result (g.W.Sink.seen c.args.sink.now) (g.W.Sink.seen c.write.new.sink) _ _
     (layer_is c.args.value.now c.as_bytes.result.now c.geometries.result.now
     (c.as_bytes.ensures.value ∙ (c.spelling.ensures ∙ ap (λ n. spelling_of (spelled_text n)) c.name.ensures))
     c.geometries.ensures)
