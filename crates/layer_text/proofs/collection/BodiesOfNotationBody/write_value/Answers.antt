@@ -1,16 +1,14 @@
-use Rattle.std.proofs.Common.{ℕ, List, ◌∙◌, subst, sym, ap, codes}
-use Rattle.std.specs.Result.{OnOk, OnErr}
+use Rattle.std.proofs.Common.{◌∙◌, sym, ap, codes}
 use Rattle.sinks.specs.Texts.{list_text}
-use Rattle.sinks.specs.Writes.{TookAll, TookPart}
 use Rattle.geojson_io.specs.CollectionText.{place_text, geometry_text}
 use Rattle.layer_text.specs.ByArcs.{line_along, ring_along, body_text}
+use Rattle.writing.proofs.Same.{whole_as, part_as}
 use Rattle.layer_text.proofs.collection.BodiesOfNotationBody.write_value.Goals as goal
 
 pub returns-in-MultiPoint-clause-whole : goal.returns-in-MultiPoint-clause-whole
 returns-in-MultiPoint-clause-whole g c =
     let t = c.args.self.now.0.now in
-    let P : List ℕ → Type 0 = λ l. OnOk c.write-in-MultiPoint.result (TookAll (g.W.Sink.seen c.args.sink.now) (g.W.Sink.seen c.write-in-MultiPoint.new.sink) l) in
-    subst P
+    whole_as c.write-in-MultiPoint.result (g.W.Sink.seen c.args.sink.now) (g.W.Sink.seen c.write-in-MultiPoint.new.sink) _ _
     (ap (λ on. geometry_text (list_text (place_text on) c.as_slice.result.now) (codes "MultiPoint")) c.grid-grid.ensures
     ∙ ap (λ qs. geometry_text (list_text (place_text t.grid) qs) (codes "MultiPoint")) c.as_slice.ensures ∙ sym (ap (body_text t) c.in-MultiPoint.is))
     c.write-in-MultiPoint.ensures.whole
@@ -18,8 +16,7 @@ returns-in-MultiPoint-clause-whole g c =
 pub returns-in-MultiPoint-clause-part : goal.returns-in-MultiPoint-clause-part
 returns-in-MultiPoint-clause-part g c =
     let t = c.args.self.now.0.now in
-    let P : List ℕ → Type 0 = λ l. OnErr c.write-in-MultiPoint.result (TookPart (g.W.Sink.seen c.args.sink.now) (g.W.Sink.seen c.write-in-MultiPoint.new.sink) l) in
-    subst P
+    part_as c.write-in-MultiPoint.result (g.W.Sink.seen c.args.sink.now) (g.W.Sink.seen c.write-in-MultiPoint.new.sink) _ _
     (ap (λ on. geometry_text (list_text (place_text on) c.as_slice.result.now) (codes "MultiPoint")) c.grid-grid.ensures
     ∙ ap (λ qs. geometry_text (list_text (place_text t.grid) qs) (codes "MultiPoint")) c.as_slice.ensures ∙ sym (ap (body_text t) c.in-MultiPoint.is))
     c.write-in-MultiPoint.ensures.part
@@ -27,15 +24,13 @@ returns-in-MultiPoint-clause-part g c =
 pub returns-in-MultiLine-clause-whole : goal.returns-in-MultiLine-clause-whole
 returns-in-MultiLine-clause-whole g c =
     let t = c.args.self.now.0.now in
-    let P : List ℕ → Type 0 = λ l. OnOk c.write-in-MultiLine.result (TookAll (g.W.Sink.seen c.args.sink.now) (g.W.Sink.seen c.write-in-MultiLine.new.sink) l) in
-    subst P
+    whole_as c.write-in-MultiLine.result (g.W.Sink.seen c.args.sink.now) (g.W.Sink.seen c.write-in-MultiLine.new.sink) _ _
     (ap (λ qs. geometry_text (list_text (line_along t) qs) (codes "MultiLineString")) c.as_slice-in-MultiLine.ensures ∙ sym (ap (body_text t) c.in-MultiLine.is))
     c.write-in-MultiLine.ensures.whole
 
 pub returns-in-MultiPolygon-clause-whole : goal.returns-in-MultiPolygon-clause-whole
 returns-in-MultiPolygon-clause-whole g c =
     let t = c.args.self.now.0.now in
-    let P : List ℕ → Type 0 = λ l. OnOk c.write-in-MultiPolygon.result (TookAll (g.W.Sink.seen c.args.sink.now) (g.W.Sink.seen c.write-in-MultiPolygon.new.sink) l) in
-    subst P
+    whole_as c.write-in-MultiPolygon.result (g.W.Sink.seen c.args.sink.now) (g.W.Sink.seen c.write-in-MultiPolygon.new.sink) _ _
     (ap (λ qs. geometry_text (list_text (list_text (ring_along t)) qs) (codes "MultiPolygon")) c.as_slice-in-MultiPolygon.ensures ∙ sym (ap (body_text t) c.in-MultiPolygon.is))
     c.write-in-MultiPolygon.ensures.whole
