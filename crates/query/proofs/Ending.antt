@@ -5,14 +5,11 @@ use Rattle.theory.specs.Lists.{BeginsTwo}
 use Rattle.topo.specs.Points.{arc_at}
 use Rattle.query.specs.declared.ends.End.{End}
 use Rattle.query.specs.Ends.{AmongEnds, EndStep, IsEnd, OnEnds, begin_of}
+use Rattle.query.proofs.Stepping.{first_put, behind_first, step_on, all_put}
 
 among_put : (v w : Pos) (es : List End) (e : End) → AmongEnds v w (es ++ (e ∷ [])) ↔ (AmongEnds v w es ⊎ IsEnd v w (Some e))
-among_put v w [] e = ((λ h. elim h [ inl k ↦ inr k | inr z ↦ absurd z ]), (λ h. elim h [ inl z ↦ absurd z | inr k ↦ inl k ]))
-among_put v w (d ∷ es) e =
-    let r = among_put v w es e in (
-      (λ h. elim h [ inl k ↦ inl (inl k) | inr k ↦ elim (r.0 k) [ inl j ↦ inl (inr j) | inr j ↦ inr j ] ]),
-      (λ h. elim h [ inl k ↦ elim k [ inl j ↦ inl j | inr j ↦ inr (r.1 (inl j)) ] | inr k ↦ inr (r.1 (inr k)) ]),
-    )
+among_put v w [] e = first_put (IsEnd v w (Some e))
+among_put v w (d ∷ es) e = behind_first (IsEnd v w (Some d)) (AmongEnds v w es) (AmongEnds v w (es ++ (e ∷ []))) (IsEnd v w (Some e)) (among_put v w es e)
 
 -- one end more
 pub put_end : (es new : List End) (end : Option End) (e : End) → end ≡ Some e → new ≡ es ++ (e ∷ []) → (v w : Pos) →
@@ -52,20 +49,10 @@ two_ends (Ok a) old mid new arc first last f l one two = λ v w. (
 pub step_ends : (old new : List End) (arcs : List (List Pos)) (k : ℕ) (ks rest : List ℕ) (All : Type 0) (v w : Pos) → ks ≡ k ∷ rest →
     AmongEnds v w new ↔ (AmongEnds v w old ⊎ EndStep v w (arc_at arcs k)) → (AmongEnds v w old ⊎ OnEnds arcs ks v w) ↔ All →
     (AmongEnds v w new ⊎ OnEnds arcs rest v w) ↔ All
-step_ends old new arcs k ks rest All v w e put left = (
-  (λ h. left.0 (elim h [
-    | inl i ↦ elim (put.0 i) [ inl j ↦ inl j | inr j ↦ inr (subst (λ l. OnEnds arcs l v w) (sym e) (inl j)) ]
-    | inr i ↦ inr (subst (λ l. OnEnds arcs l v w) (sym e) (inr i))
-  ])),
-  (λ a. elim (left.1 a) [
-    | inl j ↦ inl (put.1 (inl j))
-    | inr i ↦ elim (subst (λ l. OnEnds arcs l v w) e i) [ inl j ↦ inl (put.1 (inr j)) | inr j ↦ inr j ]
-  ]),
-)
+step_ends old new arcs k ks rest All v w e put left =
+    step_on (AmongEnds v w old) (AmongEnds v w new) (EndStep v w (arc_at arcs k)) (OnEnds arcs ks v w) (OnEnds arcs rest v w) All
+    (subst (λ l. OnEnds arcs l v w) e) (subst (λ l. OnEnds arcs l v w) (sym e)) put left
 
 -- nothing is left
 pub done_ends : (es : List End) (arcs : List (List Pos)) (ks : List ℕ) (All : Type 0) (v w : Pos) → ks ≡ [] → (AmongEnds v w es ⊎ OnEnds arcs ks v w) ↔ All → AmongEnds v w es ↔ All
-done_ends es arcs ks All v w e left = (
-  (λ h. left.0 (inl h)),
-  (λ a. elim (left.1 a) [ inl h ↦ h | inr k ↦ absurd (subst (λ l. OnEnds arcs l v w) e k) ]),
-)
+done_ends es arcs ks All v w e left = all_put (AmongEnds v w es) (OnEnds arcs ks v w) All (λ k. subst (λ l. OnEnds arcs l v w) e k) left

@@ -169,6 +169,13 @@ pub layer_stands : {A : Type 0} (r : Result A QueryFault) (Q : Type 0) → IsErr
 layer_stands (Ok a) Q h q = absurd h
 layer_stands (Err f) Q h q = ((λ k. absurd (let j : f ≡ NoLayer = cc in cc)), λ n. absurd (n q))
 
+-- a layer that is not there is told so, and one that was found is not told missing
+pub layer_missing : {A : Type 0} (Q : Type 0) → (¬ Q) → (◌≡◌ {A = Result A QueryFault} (Err NoLayer) (Err NoLayer)) ↔ (¬ Q)
+layer_missing Q n = ((λ e. n), λ k. refl)
+
+pub layer_found : {A : Type 0} (a : A) (Q : Type 0) → Q → (◌≡◌ {A = Result A QueryFault} (Ok a) (Err NoLayer)) ↔ (¬ Q)
+layer_found a Q q = ((λ e. cc), λ n. absurd (n q))
+
 -- nor after the features were found
 pub found_stands : {A B : Type 0} (r : Result A QueryFault) (made : Result B QueryFault) (b : B) (P : Type 0) → ((made ≡ Err NoLayer) ↔ P) → made ≡ Ok b →
     IsErrAnd r (λ f. f ≡ WantOfMemory) → (r ≡ Err NoLayer) ↔ P

@@ -7,6 +7,7 @@ pub mod UsesOfBodies
 pub mod LayerFeatures
 pub mod Neighboring
 pub mod Spanning
+pub mod Stepping
 pub mod Siding
 pub mod Choosing
 pub mod Holding

@@ -24,26 +24,22 @@ pair_total = then_total (on_total (λ (p : Pair). p.place) nat_cmp_total) (on_to
 pub span_total : IsTotalOrder span_cmp
 span_total = then_total (on_total (λ (s : Span). s.least) nat_cmp_total) (on_total (λ (s : Span). s.greatest) nat_cmp_total)
 
+-- two pairs of numbers that tie are the same
+both_same : (a b c d : ℕ) → ordering_then (nat_cmp a b) (nat_cmp c d) ≡ Equal → (a ≡ b) × (c ≡ d)
+both_same a b c d e =
+    let h = then_equal (nat_cmp a b) (nat_cmp c d) e in (nat_cmp-IsAntisymmetric a b h.0, nat_cmp-IsAntisymmetric c d h.1)
+
 pub span_same : IsAntisymmetric span_cmp
 span_same s t e =
-    let h = then_equal (nat_cmp s.least t.least) (nat_cmp s.greatest t.greatest) e in
-    let a : s.least ≡ t.least = nat_cmp-IsAntisymmetric s.least t.least h.0 in
-    let b : s.greatest ≡ t.greatest = nat_cmp-IsAntisymmetric s.greatest t.greatest h.1 in
-    λ i. record { least = a i; greatest = b i }
+    let h = both_same s.least t.least s.greatest t.greatest e in λ i. record { least = h.0 i; greatest = h.1 i }
 
 pub use_same : IsAntisymmetric use_cmp
 use_same u v e =
-    let h = then_equal (nat_cmp u.arc v.arc) (nat_cmp u.place v.place) e in
-    let a : u.arc ≡ v.arc = nat_cmp-IsAntisymmetric u.arc v.arc h.0 in
-    let b : u.place ≡ v.place = nat_cmp-IsAntisymmetric u.place v.place h.1 in
-    λ i. record { arc = a i; place = b i }
+    let h = both_same u.arc v.arc u.place v.place e in λ i. record { arc = h.0 i; place = h.1 i }
 
 pub pair_same : IsAntisymmetric pair_cmp
 pair_same p q e =
-    let h = then_equal (nat_cmp p.place q.place) (nat_cmp p.other q.other) e in
-    let a : p.place ≡ q.place = nat_cmp-IsAntisymmetric p.place q.place h.0 in
-    let b : p.other ≡ q.other = nat_cmp-IsAntisymmetric p.other q.other h.1 in
-    λ i. record { place = a i; other = b i }
+    let h = both_same p.place q.place p.other q.other e in λ i. record { place = h.0 i; other = h.1 i }
 
 -- the derived tests are those of the orders
 pub use_ties : (u v : Use) → use_eq.eq-value.it u v ≡ eq_by_cmp use_cmp u v

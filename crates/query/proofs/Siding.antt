@@ -8,6 +8,7 @@ use Rattle.chains.proofs.Slices.{drop_item}
 use Rattle.theory.specs.Lists.{Beside, Begins, Has, Steps}
 use Rattle.topo.specs.Points.{arc_at}
 use Rattle.query.specs.Along.{Joins, SidesFrom, SidesOf, OnArcs}
+use Rattle.query.proofs.Stepping.{first_put, behind_first, step_on, all_put}
 
 -- past the end nothing is left
 pub none_left : {A : Type 0} (xs : List A) (i : ℕ) → length xs ≤ i → drop i xs ≡ []
@@ -16,14 +17,13 @@ none_left [] (suc i) k = refl
 none_left (x ∷ xs) zero k = absurd (omega (arith, k))
 none_left (x ∷ xs) (suc i) k = none_left xs i (omega (arith, k))
 
-among_push : (u v : Pos) (l : List Segment) (s : Segment) →
-    AmongSegments u v (l ++ (s ∷ [])) ↔ (AmongSegments u v l ⊎ (((u ≡ s.ends.lesser) × (v ≡ s.ends.greater)) ⊎ ((u ≡ s.ends.greater) × (v ≡ s.ends.lesser))))
-among_push u v [] s = ((λ h. elim h [ inl k ↦ inr k | inr z ↦ absurd z ]), (λ h. elim h [ inl z ↦ absurd z | inr k ↦ inl k ]))
-among_push u v (t ∷ l) s =
-    let r = among_push u v l s in (
-      (λ h. elim h [ inl k ↦ inl (inl k) | inr k ↦ elim (r.0 k) [ inl j ↦ inl (inr j) | inr j ↦ inr j ] ]),
-      (λ h. elim h [ inl k ↦ elim k [ inl j ↦ inl j | inr j ↦ inr (r.1 (inl j)) ] | inr k ↦ inr (r.1 (inr k)) ]),
-    )
+-- u and v are the ends of a segment, in one order or the other
+abbrev Ends : Pos → Pos → Segment → Type 0
+Ends u v s = ((u ≡ s.ends.lesser) × (v ≡ s.ends.greater)) ⊎ ((u ≡ s.ends.greater) × (v ≡ s.ends.lesser))
+
+among_push : (u v : Pos) (l : List Segment) (s : Segment) → AmongSegments u v (l ++ (s ∷ [])) ↔ (AmongSegments u v l ⊎ Ends u v s)
+among_push u v [] s = first_put (Ends u v s)
+among_push u v (t ∷ l) s = behind_first (Ends u v t) (AmongSegments u v l) (AmongSegments u v (l ++ (s ∷ []))) (Ends u v s) (among_push u v l s)
 
 -- one segment more
 pub put_segment : (a b : Pos) (l new : List Segment) (s : Segment) → IsBetween a b s → ¬ (a ≡ b) → new ≡ l ++ (s ∷ []) → (u v : Pos) →
@@ -34,7 +34,7 @@ put_segment a b l new s is n e u v =
       (λ h. subst (AmongSegments u v) (sym e) (r.1 (elim h [ inl k ↦ inl k | inr k ↦ inr (from is k) ]))),
     )
   where
-    to : IsBetween a b s → ((u ≡ s.ends.lesser) × (v ≡ s.ends.greater)) ⊎ ((u ≡ s.ends.greater) × (v ≡ s.ends.lesser)) → Joins a b u v
+    to : IsBetween a b s → Ends u v s → Joins a b u v
     to (inl p) k =
         let x : s.ends.lesser ≡ a = ap (λ w. w.0) p in
         let y : s.ends.greater ≡ b = ap (λ w. w.1) p in
@@ -44,7 +44,7 @@ put_segment a b l new s is n e u v =
         let y : s.ends.greater ≡ a = ap (λ w. w.1) p in
         (n, elim k [ inl q ↦ inr (q.0 ∙ x, q.1 ∙ y) | inr q ↦ inl (q.0 ∙ y, q.1 ∙ x) ])
 
-    from : IsBetween a b s → Joins a b u v → ((u ≡ s.ends.lesser) × (v ≡ s.ends.greater)) ⊎ ((u ≡ s.ends.greater) × (v ≡ s.ends.lesser))
+    from : IsBetween a b s → Joins a b u v → Ends u v s
     from (inl p) k =
         let x : s.ends.lesser ≡ a = ap (λ w. w.0) p in
         let y : s.ends.greater ≡ b = ap (λ w. w.1) p in
@@ -62,44 +62,24 @@ put_none a b l e u v = ((λ h. inl h), (λ h. elim h [ inl k ↦ k | inr k ↦ a
 pub step_along : (old new : List Segment) (x y : Pos) (r rest : List Pos) (All : Type 0) (u v : Pos) → r ≡ y ∷ rest →
     AmongSegments u v new ↔ (AmongSegments u v old ⊎ Joins x y u v) → (AmongSegments u v old ⊎ SidesFrom x r u v) ↔ All →
     (AmongSegments u v new ⊎ SidesFrom y rest u v) ↔ All
-step_along old new x y r rest All u v e put left = (
-  (λ h. left.0 (elim h [
-    | inl k ↦ elim (put.0 k) [ inl j ↦ inl j | inr j ↦ inr (subst (λ w. SidesFrom x w u v) (sym e) (inl j)) ]
-    | inr k ↦ inr (subst (λ w. SidesFrom x w u v) (sym e) (inr k))
-  ])),
-  (λ a. elim (left.1 a) [
-    | inl j ↦ inl (put.1 (inl j))
-    | inr k ↦ elim (subst (λ w. SidesFrom x w u v) e k) [ inl j ↦ inl (put.1 (inr j)) | inr j ↦ inr j ]
-  ]),
-)
+step_along old new x y r rest All u v e put left =
+    step_on (AmongSegments u v old) (AmongSegments u v new) (Joins x y u v) (SidesFrom x r u v) (SidesFrom y rest u v) All
+    (subst (λ w. SidesFrom x w u v) e) (subst (λ w. SidesFrom x w u v) (sym e)) put left
 
 -- one arc more
 pub step_arcs : (old new : List Segment) (arcs : List (List Pos)) (k : ℕ) (ks rest : List ℕ) (All : Type 0) (u v : Pos) → ks ≡ k ∷ rest →
     AmongSegments u v new ↔ (AmongSegments u v old ⊎ SidesOf (arc_at arcs k) u v) → (AmongSegments u v old ⊎ OnArcs arcs ks u v) ↔ All →
     (AmongSegments u v new ⊎ OnArcs arcs rest u v) ↔ All
-step_arcs old new arcs k ks rest All u v e put left = (
-  (λ h. left.0 (elim h [
-    | inl i ↦ elim (put.0 i) [ inl j ↦ inl j | inr j ↦ inr (subst (λ w. OnArcs arcs w u v) (sym e) (inl j)) ]
-    | inr i ↦ inr (subst (λ w. OnArcs arcs w u v) (sym e) (inr i))
-  ])),
-  (λ a. elim (left.1 a) [
-    | inl j ↦ inl (put.1 (inl j))
-    | inr i ↦ elim (subst (λ w. OnArcs arcs w u v) e i) [ inl j ↦ inl (put.1 (inr j)) | inr j ↦ inr j ]
-  ]),
-)
+step_arcs old new arcs k ks rest All u v e put left =
+    step_on (AmongSegments u v old) (AmongSegments u v new) (SidesOf (arc_at arcs k) u v) (OnArcs arcs ks u v) (OnArcs arcs rest u v) All
+    (subst (λ w. OnArcs arcs w u v) e) (subst (λ w. OnArcs arcs w u v) (sym e)) put left
 
 -- nothing is left
 pub done_along : (l : List Segment) (x : Pos) (r : List Pos) (All : Type 0) (u v : Pos) → r ≡ [] → (AmongSegments u v l ⊎ SidesFrom x r u v) ↔ All → AmongSegments u v l ↔ All
-done_along l x r All u v e left = (
-  (λ h. left.0 (inl h)),
-  (λ a. elim (left.1 a) [ inl h ↦ h | inr k ↦ absurd (subst (λ w. SidesFrom x w u v) e k) ]),
-)
+done_along l x r All u v e left = all_put (AmongSegments u v l) (SidesFrom x r u v) All (λ k. subst (λ w. SidesFrom x w u v) e k) left
 
 pub done_arcs : (l : List Segment) (arcs : List (List Pos)) (ks : List ℕ) (All : Type 0) (u v : Pos) → ks ≡ [] → (AmongSegments u v l ⊎ OnArcs arcs ks u v) ↔ All → AmongSegments u v l ↔ All
-done_arcs l arcs ks All u v e left = (
-  (λ h. left.0 (inl h)),
-  (λ a. elim (left.1 a) [ inl h ↦ h | inr k ↦ absurd (subst (λ w. OnArcs arcs w u v) e k) ]),
-)
+done_arcs l arcs ks All u v e left = all_put (AmongSegments u v l) (OnArcs arcs ks u v) All (λ k. subst (λ w. OnArcs arcs w u v) e k) left
 
 -- neighbours that differ
 sides_from : (x : Pos) (r : List Pos) (u v : Pos) → SidesFrom x r u v → Beside u v (x ∷ r)

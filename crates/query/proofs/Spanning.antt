@@ -49,27 +49,20 @@ spans_iff : (o : Option Span) (H G : ℕ → Type 0) → ((p : ℕ) → H p → 
 spans_iff None H G f g h = λ p k. h p (g p k)
 spans_iff (Some s) H G f g h = (f s.least h.0, f s.greatest h.1, λ p k. h.2 p (g p k))
 
-least_of : (a b : ℕ) → (min a b ≡ a) ⊎ (min a b ≡ b)
-least_of a b = go (nat_cmp a b) (ranks a b)
+-- the lesser and the greater of two numbers
+both_of : (a b : ℕ) → ((min a b ≡ a) × (max a b ≡ b)) ⊎ ((min a b ≡ b) × (max a b ≡ a))
+both_of a b = go (nat_cmp a b) (ranks a b)
   where
-    go : (r : Ordering) → MatchOrdering r (a < b) (a ≡ b) (b < a) → (min a b ≡ a) ⊎ (min a b ≡ b)
-    go Less h = inl (omega (arith, h))
-    go Equal h = inl (omega (arith, h))
-    go Greater h = inr (omega (arith, h))
-
-greatest_of : (a b : ℕ) → (max a b ≡ a) ⊎ (max a b ≡ b)
-greatest_of a b = go (nat_cmp a b) (ranks a b)
-  where
-    go : (r : Ordering) → MatchOrdering r (a < b) (a ≡ b) (b < a) → (max a b ≡ a) ⊎ (max a b ≡ b)
-    go Less h = inr (omega (arith, h))
-    go Equal h = inl (omega (arith, h))
-    go Greater h = inl (omega (arith, h))
+    go : (r : Ordering) → MatchOrdering r (a < b) (a ≡ b) (b < a) → ((min a b ≡ a) × (max a b ≡ b)) ⊎ ((min a b ≡ b) × (max a b ≡ a))
+    go Less h = inl (omega (arith, h), omega (arith, h))
+    go Equal h = inl (omega (arith, h), omega (arith, h))
+    go Greater h = inr (omega (arith, h), omega (arith, h))
 
 spans_widened : (o : Option Span) (H : ℕ → Type 0) (p : ℕ) → Spans o H → Spans (Some (widened o p)) (λ q. (q ≡ p) ⊎ H q)
 spans_widened None H p h = (inl refl, inl refl, λ q k. elim k [ inl e ↦ (omega (arith, e), omega (arith, e)) | inr i ↦ absurd (h q i) ])
 spans_widened (Some s) H p h = (
-  elim (least_of s.least p) [ inl e ↦ inr (subst H (sym e) h.0) | inr e ↦ inl e ],
-  elim (greatest_of s.greatest p) [ inl e ↦ inr (subst H (sym e) h.1) | inr e ↦ inl e ],
+  elim (both_of s.least p) [ inl e ↦ inr (subst H (sym e.0) h.0) | inr e ↦ inl e.0 ],
+  elim (both_of s.greatest p) [ inl e ↦ inl e.1 | inr e ↦ inr (subst H (sym e.1) h.1) ],
   λ q k. elim k [
     | inl e ↦ (omega (arith, e), omega (arith, e))
     | inr i ↦ (let t = h.2 q i in (omega (arith, t.0), omega (arith, t.1)))

@@ -1,12 +1,11 @@
-use Rattle.std.proofs.Common.{refl}
 use Rattle.shapes.specs.Maps.{features_at}
 use Rattle.shapes.specs.Sets as set
 use Rattle.topo.proofs.Stitched.{geometries_of}
-use Rattle.query.proofs.LayerFeatures.{layer_stands, named_features, not_named}
+use Rattle.query.proofs.LayerFeatures.{layer_found, layer_missing, layer_stands, named_features, not_named}
 use Rattle.query.proofs.layer.feature.Goals as goal
 
 pub returns-in_default-clause-layer : goal.returns-in_default-clause-layer
-returns-in_default-clause-layer c = λ m of. ((λ e. not_named m c.args.topology.now of c.args.layer.now c.in_default.ensures.none), λ n. refl)
+returns-in_default-clause-layer c = λ m of. layer_missing _ (not_named m c.args.topology.now of c.args.layer.now c.in_default.ensures.none)
 
 pub stitched-requires : goal.stitched-requires
 stitched-requires c =
@@ -14,15 +13,10 @@ stitched-requires c =
     (set.items (features_at m c.args.layer.now), geometries_of m c.args.topology.now c.args.layer.now c.in-Some.geometries.now of c.in-Some.ensures.found)
 
 pub returns-in_err-stitched-clause-layer : goal.returns-in_err-stitched-clause-layer
-returns-in_err-stitched-clause-layer c = λ m of.
-    layer_stands c.from_residual.result _ c.from_residual.ensures.1
-    (named_features m c.args.topology.now of c.args.layer.now c.in-Some.geometries.now c.in-Some.ensures.found).0
+returns-in_err-stitched-clause-layer c = λ m of. layer_stands c.from_residual.result _ c.from_residual.ensures.1 (named_features m c.args.topology.now of c.args.layer.now c.in-Some.geometries.now c.in-Some.ensures.found).0
 
 pub returns-clause-layer : goal.returns-clause-layer
-returns-clause-layer c = λ m of. (
-  (λ e. cc),
-  λ n. absurd (n (named_features m c.args.topology.now of c.args.layer.now c.in-Some.geometries.now c.in-Some.ensures.found).0),
-)
+returns-clause-layer c = λ m of. layer_found _ _ (named_features m c.args.topology.now of c.args.layer.now c.in-Some.geometries.now c.in-Some.ensures.found).0
 
 pub returns-clause-features : goal.returns-clause-features
 returns-clause-features c = λ m of.

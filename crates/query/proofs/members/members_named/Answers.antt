@@ -1,14 +1,13 @@
-use Rattle.std.proofs.Common.{refl}
 use Rattle.shapes.specs.Maps.{features_at}
 use Rattle.shapes.specs.Sets as set
 use Rattle.topo.proofs.Stitched.{geometries_of}
 use Rattle.query.specs.Members.{paired}
 use Rattle.query.proofs.Holding.{begun, layer_members}
-use Rattle.query.proofs.LayerFeatures.{layer_stands, not_named, named_features}
+use Rattle.query.proofs.LayerFeatures.{layer_found, layer_missing, layer_stands, not_named, named_features}
 use Rattle.query.proofs.members.members_named.Goals as goal
 
 pub returns-in_default-clause-layer : goal.returns-in_default-clause-layer
-returns-in_default-clause-layer c = λ m of. ((λ e. not_named m c.args.topology.now of c.args.name.now c.in_default.ensures.none), λ n. refl)
+returns-in_default-clause-layer c = λ m of. layer_missing _ (not_named m c.args.topology.now of c.args.name.now c.in_default.ensures.none)
 
 pub note_layer-requires : goal.note_layer-requires
 note_layer-requires c =
@@ -23,12 +22,7 @@ returns-clause-members c = λ m of.
     c.sort_members.ensures.permutation c.sort_members.ensures.sorted
 
 pub returns-in_err-note_layer-clause-layer : goal.returns-in_err-note_layer-clause-layer
-returns-in_err-note_layer-clause-layer c = λ m of.
-    layer_stands c.from_residual.result _ c.from_residual.ensures.1
-    (named_features m c.args.topology.now of c.args.name.now c.in-Some.geometries.now c.in-Some.ensures.found).0
+returns-in_err-note_layer-clause-layer c = λ m of. layer_stands c.from_residual.result _ c.from_residual.ensures.1 (named_features m c.args.topology.now of c.args.name.now c.in-Some.geometries.now c.in-Some.ensures.found).0
 
 pub returns-clause-layer : goal.returns-clause-layer
-returns-clause-layer c = λ m of. (
-  (λ e. cc),
-  λ n. absurd (n (named_features m c.args.topology.now of c.args.name.now c.in-Some.geometries.now c.in-Some.ensures.found).0),
-)
+returns-clause-layer c = λ m of. layer_found _ _ (named_features m c.args.topology.now of c.args.name.now c.in-Some.geometries.now c.in-Some.ensures.found).0

@@ -1,34 +1,25 @@
-use Rattle.std.proofs.Common.{[], refl, ap, ◌∙◌, subst, replicate, length}
+use Rattle.std.proofs.Common.{[], ap, ◌∙◌, subst, replicate, length}
 use Rattle.theory.specs.Arcs.{AreSortedOnce}
 use Rattle.query.specs.Pairs.{pair_cmp, pairs_among, with_others}
 use Rattle.query.specs.Uses.{use_cmp}
 use Rattle.query.proofs.Neighboring.{lists_neighbors}
-use Rattle.query.proofs.LayerFeatures.{layer_stands, not_named, named_features}
+use Rattle.query.proofs.LayerFeatures.{layer_found, layer_missing, layer_stands, not_named, named_features}
 use Rattle.query.proofs.sharing.neighbors.Goals as goal
 
 pub returns-in_default-clause-layer : goal.returns-in_default-clause-layer
-returns-in_default-clause-layer c = λ m of. ((λ e. not_named m c.args.topology.now of c.args.layer.now c.in_default.ensures.none), λ n. refl)
+returns-in_default-clause-layer c = λ m of. layer_missing _ (not_named m c.args.topology.now of c.args.layer.now c.in_default.ensures.none)
 
 pub returns-in_err-uses-clause-layer : goal.returns-in_err-uses-clause-layer
-returns-in_err-uses-clause-layer c = λ m of.
-    layer_stands c.from_residual.result _ c.from_residual.ensures.1
-    (named_features m c.args.topology.now of c.args.layer.now c.in-Some.geometries.now c.in-Some.ensures.found).0
+returns-in_err-uses-clause-layer c = λ m of. layer_stands c.from_residual.result _ c.from_residual.ensures.1 (named_features m c.args.topology.now of c.args.layer.now c.in-Some.geometries.now c.in-Some.ensures.found).0
 
 pub returns-in_err-pairs-clause-layer : goal.returns-in_err-pairs-clause-layer
-returns-in_err-pairs-clause-layer c = λ m of.
-    layer_stands c.from_residual-in_err-pairs.result _ c.from_residual-in_err-pairs.ensures.1
-    (named_features m c.args.topology.now of c.args.layer.now c.in-Some.geometries.now c.in-Some.ensures.found).0
+returns-in_err-pairs-clause-layer c = λ m of. layer_stands c.from_residual-in_err-pairs.result _ c.from_residual-in_err-pairs.ensures.1 (named_features m c.args.topology.now of c.args.layer.now c.in-Some.geometries.now c.in-Some.ensures.found).0
 
 pub returns-in_err-lists_of-clause-layer : goal.returns-in_err-lists_of-clause-layer
-returns-in_err-lists_of-clause-layer c = λ m of.
-    layer_stands c.from_residual-in_err-lists_of.result _ c.from_residual-in_err-lists_of.ensures.1
-    (named_features m c.args.topology.now of c.args.layer.now c.in-Some.geometries.now c.in-Some.ensures.found).0
+returns-in_err-lists_of-clause-layer c = λ m of. layer_stands c.from_residual-in_err-lists_of.result _ c.from_residual-in_err-lists_of.ensures.1 (named_features m c.args.topology.now of c.args.layer.now c.in-Some.geometries.now c.in-Some.ensures.found).0
 
 pub returns-clause-layer : goal.returns-clause-layer
-returns-clause-layer c = λ m of. (
-  (λ e. cc),
-  λ n. absurd (n (named_features m c.args.topology.now of c.args.layer.now c.in-Some.geometries.now c.in-Some.ensures.found).0),
-)
+returns-clause-layer c = λ m of. layer_found _ _ (named_features m c.args.topology.now of c.args.layer.now c.in-Some.geometries.now c.in-Some.ensures.found).0
 
 pub returns-clause-neighbors : goal.returns-clause-neighbors
 returns-clause-neighbors c = λ m of.
