@@ -27,6 +27,8 @@ mod merge_rows;
 #[cfg(test)]
 mod query_rows;
 #[cfg(test)]
+mod shard_rows;
+#[cfg(test)]
 mod topology_refusals;
 #[cfg(test)]
 mod topology_texts;

@@ -6,7 +6,7 @@ use std::process::Abort;
 use std::test::Fail;
 
 /// All orders of two and of three files.
-const ORDERS: &[&[usize]] = &[
+pub(crate) const ORDERS: &[&[usize]] = &[
     &[0, 1],
     &[1, 0],
     &[0, 1, 2],
