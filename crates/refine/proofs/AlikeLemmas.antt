@@ -10,7 +10,7 @@ use Rattle.refine.specs.Laws.{union_commutes, union_associates, union_itself, un
 use Rattle.refine.specs.Plans.{union_all, first_outside}
 use Rattle.refine.specs.Alike.{IsIn, Names, PlansAlike}
 
-abbrev Among : Layers → List Layers → Type 0
+abbrev pub Among : Layers → List Layers → Type 0
 Among m [] = ⊥
 Among m (n ∷ ns) = (m ≡ n) ⊎ Among m ns
 
@@ -29,13 +29,13 @@ all_absorbed (m ∷ ms) ns h =
     union_associates m (union_all ms) (union_all ns) ∙ ap (union m) (all_absorbed ms ns (λ n k. h n (inr k)))
     ∙ absorbed m ns (h m (inl refl))
 
-same_union : (ms ns : List Layers) → ((m : Layers) → Among m ms → Among m ns) → ((m : Layers) → Among m ns → Among m ms) → union_all ms ≡ union_all ns
+pub same_union : (ms ns : List Layers) → ((m : Layers) → Among m ms → Among m ns) → ((m : Layers) → Among m ns → Among m ms) → union_all ms ≡ union_all ns
 same_union ms ns f g = sym (all_absorbed ns ms g) ∙ union_commutes (union_all ns) (union_all ms) ∙ all_absorbed ms ns f
 
-abbrev at : List Layers → ℕ → Layers
+abbrev pub at : List Layers → ℕ → Layers
 at ms i = unwrap_or (slice_get ms i) map.empty
 
-named_among : (ms : List Layers) (is : List ℕ) (m : Layers) (i : ℕ) → IsIn i is → slice_get ms i ≡ Some m → Among m (map_list (at ms) is)
+pub named_among : (ms : List Layers) (is : List ℕ) (m : Layers) (i : ℕ) → IsIn i is → slice_get ms i ≡ Some m → Among m (map_list (at ms) is)
 named_among ms [] m i h e = absurd h
 named_among ms (j ∷ js) m i (inl k) e = inl (sym (ap (at ms) (sym k) ∙ ap (λ o. unwrap_or o map.empty) e))
 named_among ms (j ∷ js) m i (inr k) e = inr (named_among ms js m i k e)
@@ -47,7 +47,7 @@ lower n i o = go (nat_lt i n)
     go true e = (refl, e)
     go false e = absurd cc
 
-among_named : (ms : List Layers) (is : List ℕ) → first_outside (length ms) is ≡ None → (m : Layers) → Among m (map_list (at ms) is) → Names ms is m
+pub among_named : (ms : List Layers) (is : List ℕ) → first_outside (length ms) is ≡ None → (m : Layers) → Among m (map_list (at ms) is) → Names ms is m
 among_named ms [] none m h = absurd h
 among_named ms (j ∷ js) none m (inl e) =
     let low = lower (length ms) j (first_outside (length ms) js) none in

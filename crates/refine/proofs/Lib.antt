@@ -8,3 +8,6 @@ pub mod MergeLemmas
 pub mod MergedTexts
 pub mod UnionFits
 pub mod ThroughTexts
+pub mod NamingLemmas
+pub mod JoiningLemmas
+pub mod KeptTexts

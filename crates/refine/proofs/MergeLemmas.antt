@@ -1,13 +1,11 @@
 -- Texts that are read one after the other, and what their merge answers.
-use Rattle.std.proofs.Common.{◌≡◌, ℕ, suc, ◌+◌, List, [], ◌∷◌, ◌++◌, Bool, Option, Some, None, length, refl, sym, ◌∙◌, ap, subst, arith, append_assoc, append-nil, ◌<◌, ◌⊎◌, inl, inr}
-use Rattle.std.specs.Prelude.{map, option_map, All, cond, nat_lt, not}
-use Rattle.std.specs.Option.{option_or}
+use Rattle.std.proofs.Common.{◌≡◌, ℕ, suc, ◌+◌, List, [], ◌∷◌, ◌++◌, Bool, Some, None, length, refl, sym, ◌∙◌, ap, subst, arith, append_assoc, append-nil, ◌<◌}
+use Rattle.std.specs.Prelude.{map, All, cond, nat_lt, not}
 use Rattle.std.specs.List.{prefix_len}
 use Rattle.std.proofs.lemmas.List.{length-append}
-use Rattle.std.proofs.lemmas.List.Elements.{All-append, All-cons, All-nil}
+use Rattle.std.proofs.lemmas.List.Elements.{All-cons, All-nil}
 use Rattle.faults.specs.declared.fault.Fault.{Fault}
 use Rattle.grid.specs.Place.{Transform}
-use Rattle.theory.specs.Lists.{Pairwise}
 use Rattle.shapes.specs.Maps.{Layers}
 use Rattle.reading.specs.Fault.{LeastOrWant}
 use Rattle.topo_io.specs.Means.{Means}
@@ -15,12 +13,10 @@ use Rattle.topo_io.specs.Roots.{faults_of_text, grid_of_text}
 use Rattle.refine.specs.Meaning.{same_grid}
 use Rattle.refine.specs.declared.fault.MergeFault.{MergeFault}
 use Rattle.refine.specs.declared.fault.MergeFault.TheVariants.{BadPlan, Text, OtherGrid, OutOfMemory}
-use Rattle.refine.specs.declared.fault.PlanFault.{PlanFault}
-use Rattle.refine.specs.declared.fault.PlanFault.TheVariants as plan
-use Rattle.refine.specs.Plans.{first_outside, first_other, off_grid, plan_fault}
+use Rattle.refine.specs.Plans.{first_outside, first_other, off_grid}
 use Rattle.std.specs.declared.vec.Vec.{Vec}
 use Rattle.std.specs.declared.alloc.Global.{Global}
-use Rattle.refine.specs.Merge.{bytes_of, AreAccepted, AreMeant, AreRead, IsFirstRefused, IsFaultOf, IsReadFault, IsMergeFault, as_merge}
+use Rattle.refine.specs.Merge.{bytes_of, AreAccepted, AreMeant, AreRead, IsFaultOf, IsReadFault, IsMergeFault}
 
 -- the texts before that number were read, and these are left
 pub record SoFar {S : Type 0} (grid : S → Transform) (map_of : S → Layers) (texts left : List (List ℕ)) (number : ℕ) (shards : List S) : Type 0 where
@@ -130,7 +126,7 @@ off_mapped : {S : Type 0} (f : S → Transform) (g : Transform) (ss : List S) �
 off_mapped f g ss =
     (λ i. cond (nat_lt (prefix_mapped (λ h. not (not (same_grid h g))) f ss i) (length_mapped f ss i)) (Some (prefix_mapped (λ h. not (not (same_grid h g))) f ss i)) None)
 
-other_mapped : {S : Type 0} (f : S → Transform) (ss : List S) → first_other (λ h. h) (map f ss) ≡ first_other f ss
+pub other_mapped : {S : Type 0} (f : S → Transform) (ss : List S) → first_other (λ h. h) (map f ss) ≡ first_other f ss
 other_mapped f [] = refl
 other_mapped f (s ∷ ss) = off_mapped f (f s) (s ∷ ss)
 
@@ -145,20 +141,14 @@ read_merge texts is (Text k f) none h = (none, h)
 read_merge texts is (OtherGrid k) none h = absurd h
 read_merge texts is OutOfMemory none h = tt
 
--- a plan with places over shards that were read is refused for its grids alone
-pub plan_merge : {S : Type 0} (f : S → Transform) (h : S → Layers) (texts : List (List ℕ)) (ss : List S) (is : List ℕ) (p : PlanFault)
-    → first_outside (length texts) is ≡ None → AreRead f h texts ss → (p ≡ plan.OutOfMemory) ⊎ (plan_fault f ss is ≡ Some p) → IsMergeFault texts is (as_merge p)
-plan_merge f h texts ss is p none read (inl e) = subst (λ q. IsMergeFault texts is (as_merge q)) (sym e) tt
-plan_merge f h texts ss is p none read (inr e) =
-    told (first_other f ss) refl
-    (sym (ap (λ o. option_or (option_map plan.BadPlan o) (option_map plan.OtherGrid (first_other f ss))) (ap (λ k. first_outside k is) (read_length f h texts ss read) ∙ none)) ∙ e)
-  where
-    told : (o : Option ℕ) → first_other f ss ≡ o → option_map plan.OtherGrid o ≡ Some p → IsMergeFault texts is (as_merge p)
-    told None k e = absurd cc
-    told (Some n) k e =
-        let q : plan.OtherGrid n ≡ p = cc in
-        let other : first_other grid_of_text texts ≡ Some n = sym (same_others f grid_of_text ss texts (read_grids f h texts ss read)) ∙ k in
-        subst (λ r. IsMergeFault texts is (as_merge r)) q (none, read_accepted f h texts ss read, other)
+-- a text on another grid, where the texts are read
+pub grids_merge : {S : Type 0} (f : S → Transform) (h : S → Layers) (texts : List (List ℕ)) (ss : List S) (grids : List Transform) (is : List ℕ) (n : ℕ)
+    → first_outside (length texts) is ≡ None → AreRead f h texts ss → grids ≡ map f ss → first_other (λ g. g) grids ≡ Some n → IsMergeFault texts is (OtherGrid n)
+grids_merge f h texts ss grids is n none read same other = (
+  none,
+  read_accepted f h texts ss read,
+  sym (same_others f grid_of_text ss texts (read_grids f h texts ss read)) ∙ sym (other_mapped f ss) ∙ ap (first_other (λ g. g)) (sym same) ∙ other,
+)
 
 pub length_bytes : {A B : Type 0} (f : A → B) (xs : List A) → length (map f xs) ≡ length xs
 length_bytes f xs = length_mapped f xs

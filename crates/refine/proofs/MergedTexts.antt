@@ -1,5 +1,5 @@
 -- The laws of merging, from bytes to bytes.
-use Rattle.std.proofs.Common.{◌≡◌, ℕ, zero, suc, ◌<◌, ◌+◌, List, [], ◌∷◌, ◌++◌, length, Bool, true, false, cond, Option, Some, None, refl, sym, ◌∙◌, ap, subst, inl, inr, ◌⊎◌, arith}
+use Rattle.std.proofs.Common.{◌≡◌, ℕ, zero, suc, ◌<◌, List, [], ◌∷◌, ◌++◌, length, Bool, true, false, cond, Some, None, refl, sym, ◌∙◌, ap, subst, inl, inr, arith}
 use Rattle.std.specs.Prelude.{nat_lt, slice_get}
 use Rattle.std.proofs.lemmas.Bool.{ltb-true}
 use Rattle.grid.specs.Place.{Transform}
@@ -14,14 +14,14 @@ use Rattle.topo.proofs.TopologyLaws.{has_topology}
 use Rattle.topo.specs.OfMap.{the_topology}
 use Rattle.topo_io.specs.Canon.{canon}
 use Rattle.topo_io.specs.Means.{Means}
-use Rattle.topo_io.specs.Roots.{grid_of_text, layers_of_text}
+use Rattle.topo_io.specs.Roots.{layers_of_text}
 use Rattle.reading.proofs.Plains.{layers_once}
 use Rattle.refine.specs.declared.plan.Plan.{Plan}
 use Rattle.refine.specs.declared.plan.Plan.TheVariants.{Leaf, Node'}
 use Rattle.refine.specs.Plans.{leaves, first_outside, union_at}
-use Rattle.refine.specs.Alike.{IsIn, Names, NameTheSame}
+use Rattle.refine.specs.Alike.{IsIn, Names}
 use Rattle.refine.specs.Merge.{AreMeant, IsMergeOf}
-use Rattle.refine.specs.MergeLaws.{MergeOfAllMeanings, MergesAlike, IsCanonOf, OneCanon, MergeOfOneText, SegmentsOfMergeOnce}
+use Rattle.refine.specs.MergeLaws.{MergeOfAllMeanings, MergesAlike, OneCanon, MergeOfOneText, SegmentsOfMergeOnce}
 use Rattle.refine.specs.Laws.{union_empty}
 use Rattle.refine.proofs.AlikeLemmas.{plans_alike}
 
@@ -57,7 +57,7 @@ map_at g (u ∷ ts) (n ∷ ns) h (suc i) t e = map_at g ts ns h.1 i t e
 
 -- ---- leaves
 
-some_leaf : (p : Plan) → (i : ℕ) × IsIn i (leaves p)
+pub some_leaf : (p : Plan) → (i : ℕ) × IsIn i (leaves p)
 some_leaf (Leaf i) = (i, inl refl)
 some_leaf (Node' p left q right) = let (i, h) = some_leaf left in (i, further (leaves left) (leaves right) i h)
   where
@@ -66,7 +66,7 @@ some_leaf (Node' p left q right) = let (i, h) = some_leaf left in (i, further (l
     further (k ∷ ks) js i (inl e) = inl e
     further (k ∷ ks) js i (inr h) = inr (further ks js i h)
 
-inside : (n : ℕ) (is : List ℕ) (i : ℕ) → first_outside n is ≡ None → IsIn i is → i < n
+pub inside : (n : ℕ) (is : List ℕ) (i : ℕ) → first_outside n is ≡ None → IsIn i is → i < n
 inside n [] i none h = absurd h
 inside n (j ∷ js) i none h = go (nat_lt j n) refl none (inside n js i) h
   where

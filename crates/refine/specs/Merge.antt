@@ -1,5 +1,5 @@
 -- What a merge of texts answers.
-use Rattle.std.specs.Prelude.{◌≡◌, ℕ, List, [], ◌∷◌, ◌++◌, Some, None, length, map, All}
+use Rattle.std.specs.Prelude.{◌≡◌, ℕ, Bool, List, [], ◌∷◌, ◌++◌, Some, None, length, map, All}
 use Rattle.std.specs.declared.vec.Vec.{Vec}
 use Rattle.std.specs.declared.alloc.Global.{Global}
 use Rattle.faults.specs.Fault.{pair_of, IsWant}
@@ -10,8 +10,7 @@ use Rattle.shapes.specs.Maps.{Layers}
 use Rattle.reading.specs.Fault.{IsLeast}
 use Rattle.refine.specs.declared.fault.MergeFault.{MergeFault}
 use Rattle.refine.specs.declared.fault.MergeFault.TheVariants.{BadPlan, Text, OtherGrid, OutOfMemory}
-use Rattle.refine.specs.declared.fault.PlanFault.{PlanFault}
-use Rattle.refine.specs.declared.fault.PlanFault.TheVariants as plan
+use Rattle.refine.specs.Naming.{kept}
 use Rattle.refine.specs.Plans.{first_outside, first_other, union_at}
 use Rattle.topo_io.specs.Canon.{canon}
 use Rattle.topo_io.specs.Means.{Means}
@@ -32,6 +31,21 @@ AreMeant texts g maps = Pairwise (λ t m. Means t g m) texts maps
 -- each text means the grid and the map of the shard beside it
 abbrev pub AreRead : {S : Type 0} → (S → Transform) → (S → Layers) → List (List ℕ) → List S → Type 0
 AreRead grid map texts shards = Pairwise (λ t s. Means t (grid s) (map s)) texts shards
+
+-- what a text means
+pub record Meaning : Type 0 where
+  pub grid : Transform
+  pub layers : Layers
+
+abbrev pub as_meaning : Transform → Layers → Meaning
+as_meaning g m = record { grid = g; layers = m }
+
+-- the texts mean these grids and some maps, and the shards are those of the texts whose marks are set
+pub record AreKept {S : Type 0} (grid : S → Transform) (map_of : S → Layers) (texts : List (List ℕ)) (marks : List Bool) (grids : List Transform) (shards : List S) : Type 0 where
+  pub meanings : List Meaning
+  pub read : AreRead (λ m. m.grid) (λ m. m.layers) texts meanings
+  pub grids_of : grids ≡ map (λ m. m.grid) meanings
+  pub shards_of : map (λ s. as_meaning (grid s) (map_of s)) shards ≡ kept marks meanings
 
 -- the text of that number is refused with its least fault, and those before it are accepted
 pub record IsFirstRefused (texts : List (List ℕ)) (number : ℕ) (f : Fault) : Type 0 where
@@ -77,9 +91,3 @@ IsFaultOf number fault (BadPlan k) = ⊥
 IsFaultOf number fault (Text n f) = (n ≡ number) × (f ≡ fault) × (IsWant fault → ⊥)
 IsFaultOf number fault (OtherGrid n) = ⊥
 IsFaultOf number fault OutOfMemory = Unit {0}
-
--- a plan's fault as a merge's
-abbrev pub as_merge : PlanFault → MergeFault
-as_merge (plan.BadPlan n) = BadPlan n
-as_merge (plan.OtherGrid n) = OtherGrid n
-as_merge plan.OutOfMemory = OutOfMemory

@@ -4,8 +4,10 @@
 mod canonical;
 pub mod fault;
 pub mod grouping;
+mod joining;
 pub mod laws;
 pub mod merge;
+mod naming;
 pub mod plan;
 mod running;
 pub mod shard;

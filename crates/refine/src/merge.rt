@@ -1,14 +1,18 @@
 //! Merging texts of topologies.
 ghost use Rattle.std.specs.Prelude.{◌≡◌, ℕ, IfOk, IfErr, Some, Err, length};
 ghost use Rattle.refine.specs.declared.fault.MergeFault.TheVariants.{BadPlan};
-ghost use Rattle.refine.specs.Plans.{leaves, first_outside};
-ghost use Rattle.refine.specs.Merge.{bytes_of, AreRead, IsFaultOf, IsReadFault, IsMergeFault, IsMergeOf, MeansUnion, as_merge};
+ghost use Rattle.refine.specs.Plans.{leaves, first_outside, off_grid};
+ghost use Rattle.refine.specs.Plans as plans;
+ghost use Rattle.refine.specs.Merge.{bytes_of, AreKept, IsFaultOf, IsReadFault, IsMergeFault, IsMergeOf, MeansUnion};
 
-use crate::fault::{MergeFault, PlanFault};
-use crate::plan::{Plan, first_bad_leaf, run_plan};
+use crate::fault::MergeFault;
+use crate::joining::join_all;
+use crate::naming::named_places;
+use crate::plan::{Plan, first_bad_leaf, same_grid};
 use crate::shard::Shard;
 use crate::whole::Whole;
 use faults::{Fault, FaultKind};
+use grid::transform::Grid;
 use std::alloc::Global;
 
 // The reader's fault of the text of that number.
@@ -21,34 +25,52 @@ fn text_refused(number: usize, fault: Fault) -> MergeFault
     }
 }
 
-// The shards of texts, in their order.
-fn read_shards<S: Shard>(alloc: Global, texts: &[Vec<u8>]) -> Result<Vec<S>, MergeFault>
+// The grids of texts, in their order, and the shards of those that are marked. A text that is not marked is read, and
+// what it means is dropped at once.
+fn read_marked<S: Shard>(
+    alloc: Global,
+    texts: &[Vec<u8>],
+    marks: &[bool],
+) -> Result<(Vec<Grid>, Vec<S>), MergeFault>
+    requires marks { length marks.now ≡ length texts.now }
     ensures fault { IfErr result (IsReadFault (bytes_of texts.now)) }
-    ensures read { IfOk result (λ v. AreRead S.grid_of S.map_of (bytes_of texts.now) v.items) }
+    ensures read { IfOk result (λ p. AreKept S.grid_of S.map_of (bytes_of texts.now) marks.now p.0.items p.1.items) }
 {
+    let mut grids = Vec::new(alloc);
     let mut shards = Vec::new(alloc);
     let mut number = 0;
     let mut left = texts;
     while let Some((text, after)) = left.split_first() {
         match topo_io::read(alloc, text.as_slice()) {
-            Ok((grid, map)) => shards.push(S::of_map(alloc, &grid, map)?)?,
+            Ok((grid, map)) => {
+                grids.push(grid)?;
+                if marks[number] {
+                    shards.push(S::of_map(alloc, &grid, map)?)?;
+                }
+            }
             Err(fault) => return Err(text_refused(number, fault)),
         }
         number += 1;
         left = after;
     }
-    Ok(shards)
+    Ok((grids, shards))
 }
 
-// A plan's fault as a merge's.
-fn plan_refused(fault: PlanFault) -> MergeFault
-    ensures { result ≡ as_merge fault }
+// The number of the first grid that is not this one.
+fn first_off(grids: &[Grid], common: &Grid) -> Option<usize>
+    ensures { result ≡ off_grid (λ g. g) common.now grids.now }
 {
-    match fault {
-        PlanFault::BadPlan(leaf) => MergeFault::BadPlan(leaf),
-        PlanFault::OtherGrid(number) => MergeFault::OtherGrid(number),
-        PlanFault::OutOfMemory => MergeFault::OutOfMemory,
-    }
+    grids.iter().position(|grid| !same_grid(grid, common))
+}
+
+// The number of the first grid that is not the first one's.
+fn first_other(grids: &[Grid]) -> Option<usize>
+    ensures { result ≡ plans.first_other (λ g. g) grids.now }
+{
+    let Some(first) = grids.first() else {
+        return None;
+    };
+    first_off(grids, first)
 }
 
 /// Merges texts over shards of a chosen kind: see `merge_texts`.
@@ -65,10 +87,14 @@ pub fn merge_as<S: Shard>(
     if let Some(leaf) = first_bad_leaf(alloc, plan, texts.len()) {
         return Err(MergeFault::BadPlan(leaf));
     }
-    let shards: Vec<S> = read_shards(alloc, texts)?;
-    match run_plan(alloc, &shards, plan) {
+    let named = named_places(alloc, plan, texts.len())?;
+    let (grids, shards): (Vec<Grid>, Vec<S>) = read_marked(alloc, texts, &named)?;
+    if let Some(number) = first_other(&grids) {
+        return Err(MergeFault::OtherGrid(number));
+    }
+    match join_all(alloc, shards) {
         Ok(shard) => Ok(shard.text(alloc)?),
-        Err(fault) => Err(plan_refused(fault)),
+        Err(_) => Err(MergeFault::OutOfMemory),
     }
 }
 
@@ -78,7 +104,7 @@ pub fn merge_as<S: Shard>(
 /// `BadPlan` with the first leaf from the left that is no place of the list; otherwise `Text` with
 /// the first text of the list that is refused, and its least fault; otherwise `OtherGrid` with the
 /// first text whose transform differs from that of text 0. All texts are read, also those that the
-/// plan does not name.
+/// plan does not name. Texts that are named are joined by halves, each once, whatever the plan's grouping.
 pub fn merge_texts(alloc: Global, texts: &[Vec<u8>], plan: &Plan) -> Result<Vec<u8>, MergeFault>
     ensures bad_plan { (k : ℕ) → first_outside (length texts.now) (leaves plan.now) ≡ Some k → result ≡ Err (BadPlan k) }
     ensures fault { IfErr result (IsMergeFault (bytes_of texts.now) (leaves plan.now)) }

@@ -252,6 +252,60 @@ fn plans_over_shards_that_are_refused(rt: HostRuntime) -> Result<(), Fail> {
     Ok(())
 }
 
+/// Texts of which plans name some.
+const FIVE: [&str; 5] = [FIRST, SECOND, THIRD, ENDS, TWO_LAYERS];
+
+/// The places of `FIVE` that stand for the binary digits 1 of a number, the last digit for place 0.
+fn places_of(alloc: Global, number: usize) -> Result<Vec<usize>, Fail> {
+    let mut places = Vec::new(alloc);
+    let mut rest = number;
+    for place in 0..FIVE.len() {
+        if rest % 2 == 1 {
+            places.push(place)?;
+        }
+        rest /= 2;
+    }
+    Ok(places)
+}
+
+/// The plan that joins these leaves from left to right; none of no leaf.
+fn in_a_row(alloc: Global, leaves: &[usize]) -> Result<Option<Plan>, Fail> {
+    let mut plan = None;
+    for leaf in leaves {
+        plan = Some(match plan {
+            None => Plan::Leaf(*leaf),
+            Some(before) => node(alloc, before, Plan::Leaf(*leaf))?,
+        });
+    }
+    Ok(plan)
+}
+
+fn wholes(alloc: Global, list: &[Vec<u8>]) -> Result<Vec<Whole>, Fail> {
+    let mut made = Vec::new(alloc);
+    for text in list {
+        let (grid, map) = topo_io::read(alloc, text.as_slice())
+            .ok()
+            .ok_or("refused")?;
+        made.push(Whole::of_map(alloc, &grid, map)?)?;
+    }
+    Ok(made)
+}
+
+#[test]
+fn each_choice_of_texts_as_by_its_plan(rt: HostRuntime) -> Result<(), Fail> {
+    let list = texts(rt.alloc(), &FIVE)?;
+    let shards = wholes(rt.alloc(), &list)?;
+    assert!(rt; in_a_row(rt.alloc(), &places_of(rt.alloc(), 0)?)?.is_none());
+    for number in 1..32 {
+        let places = places_of(rt.alloc(), number)?;
+        let plan = in_a_row(rt.alloc(), &places)?.ok_or("no plan")?;
+        let merged = merge_texts(rt.alloc(), &list, &plan)?;
+        let joined = run_plan(rt.alloc(), &shards, &plan)?.text(rt.alloc())?;
+        assert!(rt; merged == joined);
+    }
+    Ok(())
+}
+
 // How deep the deep plans are.
 const LEVELS: usize = 2_000;
 
