@@ -18,3 +18,4 @@ pub mod ArcSegments
 pub mod Parted
 pub mod Wholes
 pub mod LinesLeft
+pub mod Counting
