@@ -126,9 +126,7 @@ fn mesh<'a>(alloc: Global) -> Result<Command<'a>, AllocError> {
         .hide_possible_values(true)
         .default_value("all")
         .action(ArgAction::Set)
-        .help(
-            "Which borders: all, interior for those between two\nfeatures, exterior for those of one feature alone",
-        );
+        .help("all, or interior for those between two\nfeatures, or exterior for those of one");
     Ok(
         Command::new(alloc, "mesh")
             .about("Prints borders as a GeoJSON MultiLineString, each stretch once")
