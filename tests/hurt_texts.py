@@ -101,9 +101,9 @@ def is_refusal(ran):
 
 def complaints(file):
     """What is wrong with the runs on one text."""
-    check, merge, mesh = topotool("check", file), topotool("merge", file), topotool("mesh", file)
+    check, merge, mesh, info = (topotool(it, file) for it in ("check", "merge", "mesh", "info"))
     layered = [topotool(it, "--layer", "a", file) for it in ("feature", "neighbors")]
-    runs = [check, merge, mesh, *layered]
+    runs = [check, merge, mesh, info, *layered]
     if any(it.returncode not in (0, 4) and not (it is check and it.returncode == 1) for it in runs):
         yield f"statuses {[it.returncode for it in runs]}"
     if any(it.returncode == 4 and not is_refusal(it) for it in runs):

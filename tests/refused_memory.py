@@ -39,10 +39,12 @@ def inputs(folder):
     one, seam, west, east = "0.topo.json", "3.topo.json", "5.topo.json", "6.topo.json"
     queries = [["check", one], ["check", seam], ["feature", "--layer", "a", one], ["feature", "--layer", "no", one],
                ["mesh", one], ["mesh", "--edges", "interior", one], ["mesh", "--layer", "a", "--edges", "exterior", one],
-               ["mesh", "--layer", "no", one], ["neighbors", "--layer", "a", one], ["neighbors", "--layer", "no", one]]
+               ["mesh", "--layer", "no", one], ["neighbors", "--layer", "a", one], ["neighbors", "--layer", "no", one],
+               ["neighbors", "--ids", "--layer", "d", west], ["neighbors", "--ids", "--layer", "a", one],
+               ["info", seam], ["info", "--json", seam]]
     merges = [["merge", west, east], ["merge", "--shape", "halves", west, east, west], ["merge", "--shape", "right", west, east, west],
               ["merge", west, one], ["merge", "broken.json"]]
-    usages = [["--help"], ["merge"], ["build", "--grid", "x", "a=b"], ["check", "nowhere.json"]]
+    usages = [["--help"], ["--version"], ["merge"], ["merge", "-", "-"], ["build", "--grid", "x", "a=b"], ["check", "nowhere.json"]]
     return [*builds, *queries, *merges, *usages]
 
 

@@ -16,25 +16,23 @@ import tempfile
 from dask.distributed import Client, LocalCluster, as_completed
 
 
-def topotool(texts, words):
-    """What topotool prints, given files of the texts: `words` makes its words of their names."""
-    with tempfile.TemporaryDirectory() as folder:
-        names = [f"{folder}/{number}.json" for number in range(len(texts))]
-        for name, text in zip(names, texts):
-            with open(name, "wb") as file:
-                file.write(text)
-        ran = subprocess.run([os.environ.get("TOPOTOOL", "topotool"), *words(names)], capture_output=True)
+def topotool(*words, given):
+    """What topotool prints, given a text as its standard input, `-` among the words."""
+    ran = subprocess.run([os.environ.get("TOPOTOOL", "topotool"), *words], input=given, capture_output=True)
     if ran.returncode:
         raise RuntimeError(ran.stderr.decode())
     return ran.stdout
 
 
 def build(grid, layer, text):
-    return topotool([text], lambda names: ["build", "--grid", grid, f"{layer}={names[0]}"])
+    return topotool("build", "--grid", grid, f"{layer}=-", given=text)
 
 
-def merge(*texts):
-    return topotool(texts, lambda names: ["merge", *names])
+def merge(text, other):
+    with tempfile.NamedTemporaryFile() as file:
+        file.write(other)
+        file.flush()
+        return topotool("merge", "-", file.name, given=text)
 
 
 def merged(client, texts):

@@ -5,23 +5,35 @@ use std::process::Abort;
 use std::test::Fail;
 use tool::{FileFault, Files, run};
 
-/// Files in memory, by name.
+/// Files in memory, by name, and standard input, which is there until it is read.
 #[derive(Drop)]
 struct Memory<'a> {
     files: &'a [(String, Vec<u8>)],
+    input: Option<&'a [u8]>,
+}
+
+fn copied(alloc: Global, bytes: &[u8]) -> Result<Vec<u8>, FileFault> {
+    match Vec::from_slice(alloc, bytes) {
+        Ok(copy) => Ok(copy),
+        Err(_) => Err(FileFault::OutOfMemory),
+    }
 }
 
 impl Files for Memory<'_> {
     fn read_file(&mut self, alloc: Global, name: &str) -> Result<Vec<u8>, FileFault> {
         for (known, bytes) in self.files {
             if known.as_str() == name {
-                return match Vec::from_slice(alloc, bytes.as_slice()) {
-                    Ok(copy) => Ok(copy),
-                    Err(_) => Err(FileFault::OutOfMemory),
-                };
+                return copied(alloc, bytes.as_slice());
             }
         }
         Err(FileFault::Unreadable)
+    }
+
+    fn read_input(&mut self, alloc: Global) -> Result<Vec<u8>, FileFault> {
+        match self.input.take() {
+            Some(bytes) => copied(alloc, bytes),
+            None => Err(FileFault::Unreadable),
+        }
     }
 }
 
@@ -31,6 +43,7 @@ pub struct Run {
     alloc: Global,
     words: Vec<String>,
     files: Vec<(String, Vec<u8>)>,
+    input: Option<Vec<u8>>,
 }
 
 impl Run {
@@ -40,6 +53,7 @@ impl Run {
             alloc,
             words: Vec::new(alloc),
             files: Vec::new(alloc),
+            input: None,
         };
         run.add_word("topotool")?;
         for word in words {
@@ -61,10 +75,20 @@ impl Run {
         Ok(())
     }
 
+    /// Gives the run a standard input; without it there is none that can be read.
+    pub fn set_input(&mut self, bytes: &[u8]) -> Result<(), AllocError> {
+        self.input = Some(Vec::from_slice(self.alloc, bytes)?);
+        Ok(())
+    }
+
     /// Runs the command over sinks of the caller's, and answers its status.
     pub fn over<O: Sink, E: Sink>(&self, out: &mut O, err: &mut E) -> u8 {
         let mut files = Memory {
             files: self.files.as_slice(),
+            input: match &self.input {
+                Some(bytes) => Some(bytes.as_slice()),
+                None => None,
+            },
         };
         run(self.alloc, self.words.as_slice(), &mut files, out, err)
     }

@@ -17,6 +17,8 @@ mod hostile_geojson;
 #[cfg(test)]
 mod hostile_topologies;
 #[cfg(test)]
+mod info_rows;
+#[cfg(test)]
 mod inputs;
 #[cfg(test)]
 mod layer_calls;
@@ -28,6 +30,8 @@ mod merge_rows;
 mod query_rows;
 #[cfg(test)]
 mod shard_rows;
+#[cfg(test)]
+mod standard_input;
 #[cfg(test)]
 mod topology_refusals;
 #[cfg(test)]

@@ -189,6 +189,12 @@ const USAGE: &[&[&str]] = &[
     &["mesh", "--edges", "some", "shared.json"],
     &["neighbors", "shared.json"],
     &["check", "--layer", "a", "shared.json"],
+    &["info"],
+    &["info", "--layer", "a", "shared.json"],
+    &["info", "--json", "--json", "shared.json"],
+    &["neighbors", "--ids=1", "--layer", "a", "shared.json"],
+    &["mesh", "--ids", "shared.json"],
+    &["check", "--version"],
 ];
 
 #[test]
@@ -218,7 +224,15 @@ const HELP: &[(&[&str], &str)] = &[
         &["neighbors", "--help"],
         "Example: topotool neighbors --layer",
     ),
+    (&["info", "--help"], "Example: topotool info"),
+    (&["--help"], "docs/FAULTS.md"),
+    (&["build", "--help"], "docs/FAULTS.md"),
 ];
+
+const STATUSES: &str = "
+Status: 0 done, 1 `check` says no, 2 wrong usage, 3 a file can't be read,
+4 an input is refused, 5 out of memory, 6 the output failed
+";
 
 #[test]
 fn help(rt: HostRuntime) -> Result<(), Fail> {
@@ -226,7 +240,28 @@ fn help(rt: HostRuntime) -> Result<(), Fail> {
         let Outcome { status, out, err } = run_words(rt.alloc(), words, FILES)?;
         assert_eq!(rt; status, 0, "{part}");
         assert!(rt; out.contains(*part), "{part}");
+        assert!(rt; out.lines().all(|line| line.len() < 80), "{out}");
         assert_eq!(rt; err.as_str(), "", "{part}");
+    }
+    Ok(())
+}
+
+#[test]
+fn help_ends_with_the_statuses(rt: HostRuntime) -> Result<(), Fail> {
+    let Outcome {
+        status,
+        out,
+        err: _,
+    } = run_words(rt.alloc(), &["--help"], FILES)?;
+    assert_eq!(rt; status, 0);
+    assert!(rt; out.ends_with(STATUSES), "{out}");
+    Ok(())
+}
+
+#[test]
+fn version(rt: HostRuntime) -> Result<(), Fail> {
+    for word in ["--version", "-V"] {
+        run_words(rt.alloc(), &[word], FILES)?.assert_printed(&rt, word, "topotool 0.1.0\n");
     }
     Ok(())
 }

@@ -105,6 +105,9 @@ const COMMANDS: &[&[&str]] = &[
     &["feature", "--layer", "a", "shared.json"],
     &["mesh", "shared.json"],
     &["neighbors", "--layer", "a", "shared.json"],
+    &["info", "shared.json"],
+    &["info", "--json", "shared.json"],
+    &["--version"],
     &["--help"],
     &["build", "--help"],
 ];

@@ -19,3 +19,4 @@ pub mod ArcSegments
 pub mod Parted
 pub mod Wholes
 pub mod LinesLeft
+pub mod Counting

@@ -10,3 +10,4 @@ pub mod Parting
 pub mod Borders
 pub mod Members
 pub mod AnswerTexts
+pub mod Info

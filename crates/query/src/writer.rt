@@ -1,22 +1,24 @@
 //! Writing meshes and neighbours as JSON, piece by piece and with no memory.
-ghost use Rattle.std.specs.Prelude.{◌≡◌, ℕ, List, map, OnErr, OnOk};
+ghost use Rattle.std.specs.Prelude.{◌≡◌, ℕ, List, map, slice_get, OnErr, OnOk};
 ghost use Rattle.std.specs.Fmt.{decimal};
 ghost use Rattle.grid.specs.declared.pos.Pos.{Pos};
 ghost use Rattle.sinks.specs.Texts.{joined, list_text};
 ghost use Rattle.sinks.specs.Writes.{TookAll, TookPart};
 ghost use Rattle.geojson_io.specs.CollectionText.{line_text};
 ghost use Rattle.topo.specs.Points.{arc_at};
-ghost use Rattle.query.specs.AnswerTexts.{mesh_text, neighbors_text};
+ghost use Rattle.query.specs.AnswerTexts.{id_text_of, id_value_text, mesh_text, neighbor_ids_text, neighbors_text};
 
 use chains::ArcTable;
 use geojson_io::writer::{Geometry, Places};
 use grid::{Grid, Pos};
 use itoa::Buffer;
-use sinks::written::{Bracketed, Listed, Notation, Text, Then, Written};
+use shapes::shape::Id;
+use sinks::written::{Bracketed, Listed, Notation, Number, Text, Then, Written};
 use sinks::{Sink, WriteFault, put};
+use topo::Geom;
 
 /// The line of a number, empty past the last.
-fn line_at(lines: &ArcTable, number: usize) -> &[Pos]
+pub(crate) fn line_at(lines: &ArcTable, number: usize) -> &[Pos]
     ensures { result.now ≡ arc_at lines.now.arcs number }
 {
     match lines.arc(number) {
@@ -94,4 +96,60 @@ pub fn write_neighbors<W: Sink>(lists: &[Vec<usize>], sink: &mut W) -> Result<()
     ensures part { OnErr result (TookPart (W.seen sink.old) (W.seen sink.new) (neighbors_text (map (λ l. l.items) lists.now))) }
 {
     Listed(lists, &DecimalLists).write(sink)
+}
+
+/// Writes an id as a JSON value.
+fn write_id<W: Sink>(id: &Id, sink: &mut W) -> Result<(), WriteFault>
+    ensures whole { OnOk result (TookAll (W.seen sink.old) (W.seen sink.new) (id_value_text id.now)) }
+    ensures part { OnErr result (TookPart (W.seen sink.old) (W.seen sink.new) (id_value_text id.now)) }
+{
+    match id {
+        Id::None => Text(b"null").write(sink),
+        Id::Number(number) => Number(*number).write(sink),
+        Id::Text(text) => Text(text.spelling().as_bytes()).write(sink),
+    }
+}
+
+/// Places of geometries, each as the id of its geometry.
+#[derive(Clone, Copy)]
+struct IdsOf<'a>(&'a [Geom]);
+
+impl<'a> Notation<usize> for IdsOf<'a> {
+    ghost text = { λ ids place. id_text_of (slice_get ids.0.now place) };
+
+    fn write_value<W: Sink>(&self, value: &usize, sink: &mut W) -> Result<(), WriteFault> {
+        match self.0.get(*value) {
+            Some(geometry) => write_id(&geometry.id, sink),
+            None => Text(b"null").write(sink),
+        }
+    }
+}
+
+/// Lists of such places, each in brackets.
+#[derive(Clone, Copy)]
+struct IdListsOf<'a>(&'a [Geom]);
+
+impl<'a> Notation<Vec<usize>> for IdListsOf<'a> {
+    ghost text = { λ ids list. list_text (λ p. id_text_of (slice_get ids.0.now p)) list.items };
+
+    fn write_value<W: Sink>(&self, value: &Vec<usize>, sink: &mut W) -> Result<(), WriteFault> {
+        Listed(value.as_slice(), &IdsOf(self.0)).write(sink)
+    }
+}
+
+/// Writes lists of places of a layer's geometries, as `neighbors` answers them, as `write_neighbors` does, with
+/// the ids of the geometries in place of their places: a number or a text, or `null` where there is none. It
+/// takes no memory.
+///
+/// # Errors
+/// `Write` where the sink failed; it then took a beginning of the text.
+pub fn write_neighbor_ids<W: Sink>(
+    geometries: &[Geom],
+    lists: &[Vec<usize>],
+    sink: &mut W,
+) -> Result<(), WriteFault>
+    ensures whole { OnOk result (TookAll (W.seen sink.old) (W.seen sink.new) (neighbor_ids_text geometries.now (map (λ l. l.items) lists.now))) }
+    ensures part { OnErr result (TookPart (W.seen sink.old) (W.seen sink.new) (neighbor_ids_text geometries.now (map (λ l. l.items) lists.now))) }
+{
+    Listed(lists, &IdListsOf(geometries)).write(sink)
 }

@@ -4,13 +4,20 @@ use std::alloc::{AllocError, Global};
 
 const ABOUT: &str = "Builds, checks, merges and queries TopoJSON topologies on whole-number grids
 
-A topology stores each border of a map once, as an arc, and each geometry as a list
-of arc numbers. The same features get the same bytes, whatever the order of the files.";
+A topology stores each border of a map once, as an arc, and each geometry as a
+list of arc numbers. The same features get the same bytes, whatever the order
+of the files.";
 
-const AFTER: &str = "Status: 0 done, 1 `check` says no, 2 wrong usage, 3 a file can't be read,
-4 an input is refused, 5 out of memory, 6 the output failed
+const AFTER: &str = "FILE is the name of a file, or - for standard input, which can be read once.
 
-Example: topotool build --grid 1,1,0,0 districts=east.json districts=west.json";
+Example: topotool build --grid 1,1,0,0 districts=east.json districts=west.json
+
+docs/FAULTS.md says what to do about each fault that a text is refused for.
+Status: 0 done, 1 `check` says no, 2 wrong usage, 3 a file can't be read,
+4 an input is refused, 5 out of memory, 6 the output failed";
+
+/// What `--version` prints behind the program's name.
+const VERSION: &str = "0.1.0";
 
 /// The name of a layer, after `--layer`.
 fn layer<'a>(alloc: Global, help: &'a str) -> Arg<'a> {
@@ -26,7 +33,15 @@ fn file<'a>(alloc: Global) -> Arg<'a> {
     Arg::new(alloc, "FILE")
         .required(true)
         .action(ArgAction::Set)
-        .help("A TopoJSON topology with a transform")
+        .help("A TopoJSON topology with a transform, or - for standard input")
+}
+
+/// A choice that is made by its name alone.
+fn flag<'a>(alloc: Global, name: &'a str, help: &'a str) -> Arg<'a> {
+    Arg::new(alloc, name)
+        .long(name)
+        .action(ArgAction::SetTrue)
+        .help(help)
 }
 
 fn build<'a>(alloc: Global) -> Result<Command<'a>, AllocError> {
@@ -35,21 +50,25 @@ fn build<'a>(alloc: Global) -> Result<Command<'a>, AllocError> {
         .value_name("SX,SY,TX,TY")
         .required(true)
         .action(ArgAction::Set)
-        .help("The transform: the scales of x and y, then their translations, whole numbers");
+        .help("The transform: the scales of x and y, then\ntheir translations, whole numbers");
     let files = Arg::new(alloc, "NAME=FILE")
         .required(true)
         .num_args(1..)
         .action(ArgAction::Append)
-        .help("A layer's name, up to the first `=`, and a GeoJSON file of its features");
+        .help(
+            "A layer's name, up to the first `=`, and a GeoJSON file\nof its features, or - for standard input",
+        );
     Ok(
         Command::new(alloc, "build")
             .about("Builds the topology of GeoJSON files and prints it")
             .after_help(
-                "Every coordinate has to be a whole number on the grid, which is position * scale +\n\
-                 translation. Scales are from 1 to 1000000, translations from -1000000000000 to\n\
-                 1000000000000. A name\n\
-                 given again gets the features of both files.\n\n\
-                 Example: topotool build --grid 1,1,0,0 a=squares.json",
+                "Every coordinate has to be a whole number on the grid, which is\n\
+                 position * scale + translation. Scales are from 1 to 1000000, translations\n\
+                 from -1000000000000 to 1000000000000. A name that is given again gets the\n\
+                 features of both files.\n\n\
+                 Example: topotool build --grid 1,1,0,0 a=squares.json\n\n\
+                 examples/own-map has the way from degrees and metres to a grid,\n\
+                 docs/FAULTS.md what to do about a file that is refused.",
             )
             .arg(grid)?
             .arg(files)?,
@@ -61,21 +80,25 @@ fn merge<'a>(alloc: Global) -> Result<Command<'a>, AllocError> {
         .long("shape")
         .value_name("SHAPE")
         .value_parser(["left", "right", "halves"].as_slice())
+        .hide_possible_values(true)
         .default_value("left")
         .action(ArgAction::Set)
-        .help("How the files are grouped: ((0,1),2), (0,(1,2)) or by halves");
+        .help("How the files are grouped: left as ((0,1),2),\nright as (0,(1,2)), or by halves");
     let files = Arg::new(alloc, "FILE")
         .required(true)
         .num_args(1..)
         .action(ArgAction::Append)
-        .help("Topologies, all with the same transform");
+        .help(
+            "Topologies, all with the same transform;\n- is standard input, which can be read once",
+        );
     Ok(
         Command::new(alloc, "merge")
             .about("Merges topologies and prints the topology of all their features")
             .after_help(
                 "The printed bytes depend on the features alone: not on the order of the files,\n\
                  their grouping, or repeats.\n\n\
-                 Example: topotool merge east.topo.json west.topo.json",
+                 Example: topotool merge east.topo.json west.topo.json\n\n\
+                 docs/FAULTS.md says what to do about a file that is refused.",
             )
             .arg(shape)?
             .arg(files)?,
@@ -86,7 +109,10 @@ fn feature<'a>(alloc: Global) -> Result<Command<'a>, AllocError> {
     Ok(
         Command::new(alloc, "feature")
             .about("Prints a layer as a GeoJSON FeatureCollection")
-            .after_help("Example: topotool feature --layer districts country.topo.json")
+            .after_help(
+                "Example: topotool feature --layer districts country.topo.json\n\n\
+                 docs/FAULTS.md says what to do about a file that is refused.",
+            )
             .arg(layer(alloc, "The layer to print").required(true))?
             .arg(file(alloc))?,
     )
@@ -97,16 +123,20 @@ fn mesh<'a>(alloc: Global) -> Result<Command<'a>, AllocError> {
         .long("edges")
         .value_name("EDGES")
         .value_parser(["all", "interior", "exterior"].as_slice())
+        .hide_possible_values(true)
         .default_value("all")
         .action(ArgAction::Set)
-        .help("Every border, those between two features, or those of one feature alone");
+        .help("all, or interior for those between two\nfeatures, or exterior for those of one");
     Ok(
         Command::new(alloc, "mesh")
             .about("Prints borders as a GeoJSON MultiLineString, each stretch once")
-            .after_help("Example: topotool mesh --edges interior country.topo.json")
+            .after_help(
+                "Example: topotool mesh --edges interior country.topo.json\n\n\
+                 docs/FAULTS.md says what to do about a file that is refused.",
+            )
             .arg(layer(
                 alloc,
-                "Only this layer's features; without it, those of all layers",
+                "Only this layer's features;\nwithout it, those of all layers",
             ))?
             .arg(edges)?
             .arg(file(alloc))?,
@@ -114,15 +144,23 @@ fn mesh<'a>(alloc: Global) -> Result<Command<'a>, AllocError> {
 }
 
 fn neighbors<'a>(alloc: Global) -> Result<Command<'a>, AllocError> {
+    let ids = flag(
+        alloc,
+        "ids",
+        "Their ids in place of their numbers;\neach feature of the layer has to have one",
+    );
     Ok(
         Command::new(alloc, "neighbors")
-            .about("Prints, for each feature of a layer, which others share a border with it")
+            .about("Prints which features of a layer share a border")
             .after_help(
-                "Prints a list for each feature, in the order in which `feature` prints them, of the\n\
-                 numbers of the others, from 0. To touch in single points is not to share a border.\n\n\
-                 Example: topotool neighbors --layer districts country.topo.json",
+                "Prints a list for each feature, in the order in which `feature` prints them,\n\
+                 of the numbers of the others, from 0. To touch in single points is not to\n\
+                 share a border.\n\n\
+                 Example: topotool neighbors --layer districts country.topo.json\n\n\
+                 docs/FAULTS.md says what to do about a file that is refused.",
             )
             .arg(layer(alloc, "The layer to look at").required(true))?
+            .arg(ids)?
             .arg(file(alloc))?,
     )
 }
@@ -133,8 +171,24 @@ fn check<'a>(alloc: Global) -> Result<Command<'a>, AllocError> {
             .about("Says whether a topology is the canonical text of what it means")
             .after_help(
                 "Prints `canonical` with status 0, or `not canonical` with status 1.\n\n\
-                 Example: topotool check country.topo.json",
+                 Example: topotool check country.topo.json\n\n\
+                 docs/FAULTS.md says what to do about a file that is refused.",
             )
+            .arg(file(alloc))?,
+    )
+}
+
+fn info<'a>(alloc: Global) -> Result<Command<'a>, AllocError> {
+    Ok(
+        Command::new(alloc, "info")
+            .about("Prints the grid, the bbox and the counts of a topology")
+            .after_help(
+                "Prints lines for people, or one JSON object. What is counted is the canonical\n\
+                 topology of the file's features, as `merge` of the one file prints it.\n\n\
+                 Example: topotool info country.topo.json\n\n\
+                 docs/FAULTS.md says what to do about a file that is refused.",
+            )
+            .arg(flag(alloc, "json", "One JSON object in place of lines"))?
             .arg(file(alloc))?,
     )
 }
@@ -142,6 +196,7 @@ fn check<'a>(alloc: Global) -> Result<Command<'a>, AllocError> {
 fn topotool<'a>(alloc: Global) -> Result<Command<'a>, AllocError> {
     Ok(
         Command::new(alloc, "topotool")
+            .version(VERSION)
             .about(ABOUT)
             .after_help(AFTER)
             .subcommand_required(true)
@@ -151,7 +206,8 @@ fn topotool<'a>(alloc: Global) -> Result<Command<'a>, AllocError> {
             .subcommand(merge(alloc)?)?
             .subcommand(feature(alloc)?)?
             .subcommand(mesh(alloc)?)?
-            .subcommand(neighbors(alloc)?)?,
+            .subcommand(neighbors(alloc)?)?
+            .subcommand(info(alloc)?)?,
     )
 }
 

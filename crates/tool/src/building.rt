@@ -4,7 +4,7 @@ ghost use Rattle.tool.specs.declared.building.BuildFault.TheVariants.{OutOfMemor
 ghost use Rattle.tool.specs.Maps.{named_texts, IsMapOfTexts, IsTextOfTexts, IsTopologyOfTexts, MeansTexts};
 ghost use Rattle.tool.specs.Sources.{AreAccepted, IsRefusal, IsFaultAt};
 
-use crate::files::{Files, name_at, read_named};
+use crate::files::{Files, input_once, name_at, read_named};
 use crate::grid_word::parse_grid;
 use crate::refusal::Refusal;
 use crate::status::Status;
@@ -113,6 +113,7 @@ pub(crate) fn run_build<'a, F: Files, O: Sink>(
         return Err(Refusal::BadGrid(word));
     };
     let (layers, names) = split_words(alloc, found.get_strs("NAME=FILE").unwrap_or(&[]))?;
+    input_once(names.as_slice())?;
     let texts = read_texts(alloc, files, layers.as_slice(), names.as_slice())?;
     match build_topology(alloc, &grid, texts.as_slice()) {
         Ok(topology) => {

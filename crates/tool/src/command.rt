@@ -3,7 +3,7 @@ use crate::arguments::parse;
 use crate::building::run_build;
 use crate::files::Files;
 use crate::merging::run_merge;
-use crate::queries::{run_check, run_feature, run_mesh, run_neighbors};
+use crate::queries::{run_check, run_feature, run_info, run_mesh, run_neighbors};
 use crate::refusal::Refusal;
 use crate::status::Status;
 use clap::error::ErrorKind;
@@ -46,6 +46,7 @@ fn perform<'a, F: Files, O: Sink>(
         Some(("feature", found)) => run_feature(alloc, found, files, out),
         Some(("mesh", found)) => run_mesh(alloc, found, files, out),
         Some(("neighbors", found)) => run_neighbors(alloc, found, files, out),
+        Some(("info", found)) => run_info(alloc, found, files, out),
         _ => Ok(Status::Usage),
     }
 }

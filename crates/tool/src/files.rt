@@ -2,6 +2,9 @@
 use crate::refusal::Refusal;
 use std::alloc::Global;
 
+/// The file word that stands for standard input.
+const STANDARD_INPUT: &str = "-";
+
 /// Why a file gave no bytes.
 #[derive(Clone, Copy, Debug, PartialEq, Eq)]
 pub enum FileFault {
@@ -15,18 +18,35 @@ pub enum FileFault {
 pub trait Files {
     /// The bytes of the file of this name.
     fn read_file(&mut self, alloc: Global, name: &str) -> Result<Vec<u8>, FileFault>;
+
+    /// The bytes of standard input up to its end. A run asks for them at most once.
+    fn read_input(&mut self, alloc: Global) -> Result<Vec<u8>, FileFault>;
 }
 
-/// The bytes of a file, or the refusal that names it.
+/// The bytes of a file, or of standard input for the word `-`; or the refusal that names it.
 pub(crate) fn read_named<'a, F: Files>(
     alloc: Global,
     files: &mut F,
     file: &'a str,
 ) -> Result<Vec<u8>, Refusal<'a>> {
-    match files.read_file(alloc, file) {
+    let read = if file == STANDARD_INPUT {
+        files.read_input(alloc)
+    } else {
+        files.read_file(alloc, file)
+    };
+    match read {
         Ok(bytes) => Ok(bytes),
         Err(FileFault::Unreadable) => Err(Refusal::Unreadable(file)),
         Err(FileFault::OutOfMemory) => Err(Refusal::OutOfMemory),
+    }
+}
+
+/// Standard input can be read once only, so at most one of the files may be it.
+pub(crate) fn input_once<'a>(names: &[&'a str]) -> Result<(), Refusal<'a>> {
+    let mut others = names.iter().filter(|name| **name == STANDARD_INPUT).skip(1);
+    match others.next() {
+        None => Ok(()),
+        Some(_) => Err(Refusal::InputTwice),
     }
 }
 
@@ -36,6 +56,7 @@ pub(crate) fn read_all<'a, F: Files>(
     files: &mut F,
     names: &[&'a str],
 ) -> Result<Vec<Vec<u8>>, Refusal<'a>> {
+    input_once(names)?;
     let mut texts = Vec::new(alloc);
     for name in names {
         texts.push(read_named(alloc, files, *name)?)?;

@@ -8,6 +8,7 @@ mod building;
 mod command;
 mod files;
 mod grid_word;
+mod info_text;
 pub mod laws;
 mod merging;
 mod queries;

@@ -1,15 +1,19 @@
-//! The commands that ask one topology: `check`, `feature`, `mesh` and `neighbors`.
+//! The commands that ask one topology: `check`, `feature`, `mesh`, `neighbors` and `info`.
 use crate::files::{Files, read_named};
+use crate::info_text::{write_json, write_lines};
 use crate::refusal::Refusal;
 use crate::status::Status;
 use chains::ArcTable;
 use clap::ArgMatches;
 use grid::Grid;
-use query::{LayerFault, QueryFault, mesh, neighbors, write_layer, write_mesh, write_neighbors};
-use shapes::{Feature, FeatureMap};
+use query::{
+    LayerFault, QueryFault, mesh, neighbors, write_layer, write_mesh, write_neighbor_ids,
+    write_neighbors,
+};
+use shapes::{Feature, FeatureMap, Id};
 use sinks::{Sink, put};
 use std::alloc::Global;
-use topo::Topology;
+use topo::{Geom, Topology};
 
 /// Prints whether a text is canonical. Answers `Done`, or `NotCanonical` where it is not.
 pub(crate) fn run_check<'a, F: Files, O: Sink>(
@@ -111,13 +115,46 @@ pub(crate) fn run_neighbors<'a, F: Files, O: Sink>(
 ) -> Result<Status, Refusal<'a>> {
     let layer = word(found, "layer");
     let topology = read_topology(alloc, files, word(found, "FILE"))?;
-    match neighbors(alloc, &topology, layer) {
-        Ok(lists) => {
-            write_neighbors(lists.as_slice(), out)?;
-            Ok(Status::Done)
-        }
-        Err(fault) => Err(refused(layer, fault)),
+    let lists = match neighbors(alloc, &topology, layer) {
+        Ok(lists) => lists,
+        Err(fault) => return Err(refused(layer, fault)),
+    };
+    if found.get_flag("ids") {
+        let geometries = geometries_with_ids(&topology, layer)?;
+        write_neighbor_ids(geometries, lists.as_slice(), out)?;
+    } else {
+        write_neighbors(lists.as_slice(), out)?;
     }
+    Ok(Status::Done)
+}
+
+/// The geometries of a layer, each of which has to have an id.
+fn geometries_with_ids<'a, 't>(
+    topology: &'t Topology,
+    layer: &'a str,
+) -> Result<&'t [Geom], Refusal<'a>> {
+    let geometries = topology.geometries(layer).unwrap_or(&[]);
+    if geometries.iter().all(|geometry| geometry.id != Id::None) {
+        Ok(geometries)
+    } else {
+        Err(Refusal::NoId(layer))
+    }
+}
+
+/// Prints what a topology is made of.
+pub(crate) fn run_info<'a, F: Files, O: Sink>(
+    alloc: Global,
+    found: &ArgMatches<'a>,
+    files: &mut F,
+    out: &mut O,
+) -> Result<Status, Refusal<'a>> {
+    let topology = read_topology(alloc, files, word(found, "FILE"))?;
+    if found.get_flag("json") {
+        write_json(&topology, out)?;
+    } else {
+        write_lines(&topology, out)?;
+    }
+    Ok(Status::Done)
 }
 
 fn refused<'a>(layer: &'a str, fault: QueryFault) -> Refusal<'a> {

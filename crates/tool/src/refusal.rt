@@ -12,6 +12,8 @@ pub(crate) enum Refusal<'a> {
     BadGrid(&'a str),
     /// A file word of `build` has no `=`.
     BadLayer(&'a str),
+    /// Two files are standard input.
+    InputTwice,
     /// A file can't be read.
     Unreadable(&'a str),
     /// The text of a file is refused.
@@ -20,6 +22,8 @@ pub(crate) enum Refusal<'a> {
     OtherGrid(&'a str),
     /// The topology has no layer of this name.
     NoLayer(&'a str),
+    /// Ids are asked for, and a feature of the layer of this name has none.
+    NoId(&'a str),
     /// A plan names a file that is not there.
     BadPlan,
     /// A growth of memory was refused.
@@ -40,7 +44,8 @@ impl<'a> Refusal<'a> {
     /// The exit status.
     pub(crate) fn status(&self) -> Status {
         match self {
-            Refusal::BadGrid(_) | Refusal::BadLayer(_) => Status::Usage,
+            Refusal::BadGrid(_) | Refusal::BadLayer(_) | Refusal::InputTwice | Refusal::NoId(_) =>
+                Status::Usage,
             Refusal::Unreadable(_) => Status::Unreadable,
             Refusal::Text(..) | Refusal::OtherGrid(_) | Refusal::NoLayer(_) | Refusal::BadPlan => {
                 Status::Refused
@@ -56,6 +61,7 @@ impl<'a> Refusal<'a> {
         match self {
             Refusal::BadGrid(word) => put_words(err, "bad grid ", word)?,
             Refusal::BadLayer(word) => put_words(err, "bad layer ", word)?,
+            Refusal::InputTwice => put(err, b"standard input can be read once only")?,
             Refusal::Unreadable(file) => put_words(err, "cannot read ", file)?,
             Refusal::Text(file, fault) => {
                 put_words(err, file, ": ")?;
@@ -71,6 +77,11 @@ impl<'a> Refusal<'a> {
                 put_kind(err, FaultKind::NoLayer)?;
                 put_words(err, " ", name)?;
             }
+            Refusal::NoId(name) => put_words(
+                err,
+                "--ids: a feature without an id in layer ",
+                name,
+            )?,
             Refusal::BadPlan => put_kind(err, FaultKind::BadPlan)?,
             Refusal::OutOfMemory => put_kind(err, FaultKind::OutOfMemory)?,
             Refusal::Write => put_kind(err, FaultKind::Write)?,

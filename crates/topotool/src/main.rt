@@ -3,7 +3,7 @@
 
 use sinks::{Tap, put};
 use std::alloc::Global;
-use std::io::BufWriter;
+use std::io::{BufWriter, Read};
 use std::process::ExitCode;
 use std::{env, fs, io};
 use tool::{FileFault, Files, run};
@@ -19,13 +19,22 @@ struct Machine<'a> {
 
 impl Files for Machine<'_> {
     fn read_file(&mut self, _alloc: Global, name: &str) -> Result<Vec<u8>, FileFault> {
-        match fs::read(self.rt, name) {
-            Ok(bytes) => Ok(bytes),
-            Err(error) => match error.kind() {
-                io::ErrorKind::OutOfMemory => Err(FileFault::OutOfMemory),
-                _ => Err(FileFault::Unreadable),
-            },
+        fs::read(self.rt, name).map_err(fault_of)
+    }
+
+    fn read_input(&mut self, alloc: Global) -> Result<Vec<u8>, FileFault> {
+        let mut bytes = Vec::new(alloc);
+        match self.rt.stdin().read_to_end(&mut bytes) {
+            Ok(_) => Ok(bytes),
+            Err(error) => Err(fault_of(error)),
         }
+    }
+}
+
+fn fault_of(error: io::Error) -> FileFault {
+    match error.kind() {
+        io::ErrorKind::OutOfMemory => FileFault::OutOfMemory,
+        _ => FileFault::Unreadable,
     }
 }
 

@@ -1,0 +1,17 @@
+use Rattle.std.proofs.Common.{ℕ, List, slice_get, sym, subst}
+use Rattle.std.specs.Result.{OnOk, OnErr}
+use Rattle.sinks.specs.Texts.{list_text}
+use Rattle.sinks.specs.Writes.{TookAll, TookPart}
+use Rattle.writing.proofs.Joined.{list_text_map}
+use Rattle.query.specs.AnswerTexts.{id_text_of}
+use Rattle.query.proofs.writer.write_neighbor_ids.Goals as goal
+
+pub returns-clause-whole : goal.returns-clause-whole
+returns-clause-whole g c =
+    let P : List ℕ → Type 0 = λ l. OnOk c.write.result (TookAll (g.W.Sink.seen c.args.sink.now) (g.W.Sink.seen c.write.new.sink) l) in
+    subst P (sym (list_text_map (list_text (λ p. id_text_of (slice_get c.args.geometries.now p))) (λ l. l.items) c.args.lists.now)) c.write.ensures.whole
+
+pub returns-clause-part : goal.returns-clause-part
+returns-clause-part g c =
+    let P : List ℕ → Type 0 = λ l. OnErr c.write.result (TookPart (g.W.Sink.seen c.args.sink.now) (g.W.Sink.seen c.write.new.sink) l) in
+    subst P (sym (list_text_map (list_text (λ p. id_text_of (slice_get c.args.geometries.now p))) (λ l. l.items) c.args.lists.now)) c.write.ensures.part
