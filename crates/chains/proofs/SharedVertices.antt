@@ -20,6 +20,7 @@ use Rattle.theory.proofs.StandingLists.{middle_has}
 use Rattle.grid.specs.declared.pos.Pos.{Pos}
 use Rattle.lines.specs.Turned.{position_cmp}
 use Rattle.lines.specs.Positions.{position_total, position_same}
+use Rattle.lines.proofs.Positions.{true_false}
 use Rattle.chains.specs.Among.{among}
 use Rattle.chains.specs.Arcs.{Arcs}
 use Rattle.chains.specs.Index.{IsIndexOf, AreVisitsOf}
@@ -29,7 +30,7 @@ use Rattle.chains.specs.Shared.{arc_shared, has_some, may_hold, whole, HoldAll, 
 use Rattle.chains.specs.Starts.{start_of, start_cmp, starts_from, least_from, start_place}
 use Rattle.chains.specs.Table.{is_loop, IsTableOf}
 use Rattle.chains.specs.Visits.{around_of, inner_of, visit_of}
-use Rattle.chains.specs.declared.shared.VertexSlots.{VertexSlots}
+use Rattle.chains.specs.declared.shared.VertexBits.{VertexBits}
 use Rattle.chains.specs.declared.starts.Start.{Start}
 use Rattle.chains.specs.declared.visits.Visit.{Visit}
 use Rattle.chains.proofs.Among.{among_has, has_among}
@@ -246,30 +247,30 @@ mapped_at f [] i x e = absurd cc
 mapped_at f (y ∷ l) zero x e = ap f cc
 mapped_at f (y ∷ l) (suc i) x e = mapped_at f l i x e
 
--- what is noted of one table, where the slots are those of the other
+-- what is noted of one table, where the bits are those of the other
 module _ (m n : Geometry Pos) (sm : IsSound m) (s t : Arcs) (ms : IsTableOf m s) (a : Geometry Pos) (am : AreArcsAsMap m n s.arcs t.arcs a)
-    (slots : VertexSlots) (hold : HoldAll slots t.arcs) where
-  pub side_whole : (js : List Pos) → IsIndexOf js a → (marks : List Bool) → marks ≡ map (λ c. has_some (arc_shared (may_hold slots) s.loops c)) s.arcs → StayWhole js s marks
+    (bits : VertexBits) (hold : HoldAll bits t.arcs) where
+  pub side_whole : (js : List Pos) → IsIndexOf js a → (marks : List Bool) → marks ≡ map (λ c. has_some (arc_shared (may_hold bits) s.loops c)) s.arcs → StayWhole js s marks
   side_whole js index marks e i c g f =
       let h = get_has s.arcs i c g in
-      let unmet : has_some (arc_shared (may_hold slots) s.loops c) ≡ false =
-        sym (mapped_at (λ d. has_some (arc_shared (may_hold slots) s.loops d)) s.arcs i c g) ∙ sym (ap (λ w. get_or w i true) e) ∙ f in
+      let unmet : has_some (arc_shared (may_hold bits) s.loops c) ≡ false =
+        sym (mapped_at (λ d. has_some (arc_shared (may_hold bits) s.loops d)) s.arcs i c g) ∙ sym (ap (λ w. get_or w i true) e) ∙ f in
       stays_whole m sm s ms a js index am.open_left c h
-      (λ w k. alone m n sm s t ms a am c h w k (λ d j. hold w.vertex (none_shared (may_hold slots) (arc_visits s.loops c) unmet w k) d j))
+      (λ w k. alone m n sm s t ms a am c h w k (λ d j i. true_false (may_hold bits w.vertex) (hold d j w.vertex i) (none_shared (may_hold bits) (arc_visits s.loops c) unmet w k)))
 
-  pub side_kept : (v : Visit) → Has v (gathered (arc_visits s.loops) s.arcs) → JunctionOf a v.vertex → Has v (gathered (arc_shared (may_hold slots) s.loops) s.arcs)
+  pub side_kept : (v : Visit) → Has v (gathered (arc_visits s.loops) s.arcs) → JunctionOf a v.vertex → Has v (gathered (arc_shared (may_hold bits) s.loops) s.arcs)
   side_kept v h j =
       let q = gathered_from (arc_visits s.loops) s.arcs v h in
-      Has-gathered (arc_shared (may_hold slots) s.loops) s.arcs q.0 v q.1 (shared_has (may_hold slots) v (arc_visits s.loops q.0) q.2 (go q.0 q.1 q.2 (may_hold slots v.vertex) refl))
+      Has-gathered (arc_shared (may_hold bits) s.loops) s.arcs q.0 v q.1 (shared_has (may_hold bits) v (arc_visits s.loops q.0) q.2 (go q.0 q.1 q.2 (may_hold bits v.vertex) refl))
     where
-      go : (c : List Pos) → Has c s.arcs → Has v (arc_visits s.loops c) → (b : Bool) → may_hold slots v.vertex ≡ b → may_hold slots v.vertex ≡ true
+      go : (c : List Pos) → Has c s.arcs → Has v (arc_visits s.loops c) → (b : Bool) → may_hold bits v.vertex ≡ b → may_hold bits v.vertex ≡ true
       go c k l true e = e
-      go c k l false e = absurd (alone m n sm s t ms a am c k v l (λ d i. hold v.vertex e d i) j)
+      go c k l false e = absurd (alone m n sm s t ms a am c k v l (λ d i z. true_false (may_hold bits v.vertex) (hold d i v.vertex z) e) j)
 
-  pub side_only : (v : Visit) → Has v (gathered (arc_shared (may_hold slots) s.loops) s.arcs) → Has v (gathered (arc_visits s.loops) s.arcs)
+  pub side_only : (v : Visit) → Has v (gathered (arc_shared (may_hold bits) s.loops) s.arcs) → Has v (gathered (arc_visits s.loops) s.arcs)
   side_only v h =
-      let q = gathered_from (arc_shared (may_hold slots) s.loops) s.arcs v h in
-      Has-gathered (arc_visits s.loops) s.arcs q.0 v q.1 (has_shared (may_hold slots) v (arc_visits s.loops q.0) q.2)
+      let q = gathered_from (arc_shared (may_hold bits) s.loops) s.arcs v h in
+      Has-gathered (arc_visits s.loops) s.arcs q.0 v q.1 (has_shared (may_hold bits) v (arc_visits s.loops q.0) q.2)
 
 pub other_way : (m n : Geometry Pos) (s t : List (List Pos)) (a : Geometry Pos) → AreArcsAsMap m n s t a → AreArcsAsMap n m t s a
 other_way m n s t a am = record {
@@ -283,7 +284,7 @@ other_way m n s t a am = record {
 
 -- what is noted of both
 module _ (m n : Geometry Pos) (sm : IsSound m) (sn : IsSound n) (s t : Arcs) (ms : IsTableOf m s) (nt : IsTableOf n t)
-    (of_s of_t : VertexSlots) (hold_s : HoldAll of_s s.arcs) (hold_t : HoldAll of_t t.arcs) where
+    (of_s of_t : VertexBits) (hold_s : HoldAll of_s s.arcs) (hold_t : HoldAll of_t t.arcs) where
   abbrev pub all_visits : List Visit
   all_visits = gathered (arc_visits s.loops) s.arcs ++ gathered (arc_visits t.loops) t.arcs
 

@@ -1,53 +1,95 @@
--- Vertices dealt to slots, whatever the slot of a vertex is, and the visits in slots that are marked.
-use Rattle.std.proofs.Common.{◌≡◌, ℕ, ◌+◌, ◌<◌, ◌≤◌, Bool, true, false, cond, List, [], ◌∷◌, ◌++◌, inl, inr, length, drop, get_or, slice_set, slice_get, Option, Some, None, refl, sym, ap, ◌∙◌, subst, arith, suc, zero, append_assoc}
-use Rattle.std.proofs.lemmas.Bool.Decides.{eqb_tells}
-use Rattle.std.proofs.lemmas.List.{get_or-set_other, drop_all, length-append}
-use Rattle.std.proofs.lemmas.Grind.{get_or-set_at}
+-- Vertices dealt to words, whatever the word and the bits of a vertex are, and the visits that find their bits set.
+use Rattle.std.proofs.Common.{◌≡◌, ℕ, ◌+◌, ◌<◌, ◌≤◌, Bool, true, false, cond, List, [], ◌∷◌, ◌++◌, inl, inr, length, drop, get_or, bit_and, bit_or, nat_eq, min, max, ◌⊎◌, slice_set, slice_get, Option, Some, None, refl, sym, ap, ◌∙◌, subst, arith, suc, zero, append_assoc}
+use Rattle.std.specs.Int.{bit_at}
+use Rattle.std.proofs.lemmas.List.{drop_all, length-append}
+use Rattle.std.proofs.lemmas.Bool.{eqb-true, eq-eqb}
+use Rattle.std.proofs.lemmas.Nat.{and_or_self}
+use Rattle.std.proofs.lemmas.Nat.Bits.{same_from_bits, bit_at_and, bit_at_or}
 use Rattle.theory.specs.Lists.{Has}
 use Rattle.grid.specs.declared.pos.Pos.{Pos}
-use Rattle.chains.specs.Shared.{slot_among, arc_shared, shared_if, shared_in, has_some, AreDealtTo, IsMarked, KeepsClashes}
+use Rattle.chains.specs.Shared.{arc_shared, mask_at, mask_of, word_among, shared_if, shared_in, has_some, AreDealtTo, IsMarked, Keeps, KeepsClashes}
 use Rattle.chains.specs.declared.visits.Visit.{Visit}
 use Rattle.chains.proofs.Slices.{drop_item, drop_next}
 use Rattle.chains.proofs.TablesAsMap.{given, answered}
-use Rattle.lines.proofs.Positions.{true_false}
 
-pub marked_set : (slots : List Bool) (at : ℕ) → at < length slots → IsMarked at slots (slice_set slots at true)
-marked_set slots at w n h = elim (eqb_tells n at) [
-  | inl t ↦ absurd (true_false (get_or (slice_set slots at true) n true) (get_or-set_at slots at n true true t.1 w) h)
-  | inr t ↦ (t.1, sym (get_or-set_other slots at n true true t.1) ∙ h)
-]
+more_bits : (a k m : ℕ) → bit_and a m ≡ m → bit_and (bit_or a k) m ≡ m
+more_bits a k m e = same_from_bits (bit_and (bit_or a k) m) m
+    (λ i.
+      (let p : min (bit_at a i) (bit_at m i) ≡ bit_at m i = sym (bit_at_and a m i) ∙ ap (λ w. bit_at w i) e in
+      bit_at_and (bit_or a k) m i ∙ ap (λ w. min w (bit_at m i)) (bit_at_or a k i) ∙ least (bit_at a i) (bit_at k i) (bit_at m i) p))
+  where
+    least : (x y z : ℕ) → min x z ≡ z → min (max x y) z ≡ z
+    least x y z p = omega (arith, p)
 
--- of the positions those that share an unmarked slot are still to come
-abbrev pub AreLeft : ℕ → List Bool → List Bool → List Pos → List Pos → Type 0
-AreLeft count old new all left = (n : ℕ) → get_or new n true ≡ false → ((p : Pos) → Has p all → slot_among count p ≡ n → Has p left) × (get_or old n true ≡ false)
+equal_is : (a b : ℕ) → nat_eq a b ≡ true → a ≡ b
+equal_is a b e = eqb-true a b e
 
-pub one_marked : (count : ℕ) (old slots new : List Bool) (all : List Pos) (i : ℕ) (x : Pos) (at : ℕ) → i < length all → x ≡ get_or all i x → at ≡ slot_among count x →
-    IsMarked at slots new → AreLeft count old slots all (drop i all) → AreLeft count old new all (drop (i + 1) all)
-one_marked count old slots new all i x at h e f m before n k =
-    let b = before n (m n k).1 in (
-      (λ p j s. elim (subst (Has p) (drop_item all i x h e) (b.0 p j s)) [
-        | inl q ↦ absurd ((m n k).0 (sym s ∙ ap (slot_among count) q ∙ sym f))
-        | inr q ↦ q
-      ]),
-      b.1,
+is_equal : (a b : ℕ) → a ≡ b → nat_eq a b ≡ true
+is_equal a b e = eq-eqb a b e
+
+-- bits set in a word of the list
+pub mask_set : (words : List ℕ) (at w mask : ℕ) → slice_get words at ≡ Some w → IsMarked at mask words (slice_set words at (bit_or w mask))
+mask_set [] at w mask e = absurd cc
+mask_set (x ∷ words) zero w mask e =
+    let h : x ≡ w = cc in (
+      (λ n m k. keeps n m k h),
+      is_equal (bit_and (bit_or w mask) mask) mask (and_or_self mask w),
     )
+  where
+    keeps : (n m : ℕ) → mask_at (x ∷ words) n m ≡ true → x ≡ w → mask_at (bit_or w mask ∷ words) n m ≡ true
+    keeps zero m k h = is_equal (bit_and (bit_or w mask) m) m (more_bits w mask m (equal_is (bit_and w m) m (subst (λ u. nat_eq (bit_and u m) m ≡ true) h k)))
+    keeps (suc n) m k h = k
+mask_set (x ∷ words) (suc at) w mask e =
+    let t = mask_set words at w mask e in (
+      (λ n m k. keeps t.0 n m k),
+      t.1,
+    )
+  where
+    keeps : Keeps words (slice_set words at (bit_or w mask)) → (n m : ℕ) → mask_at (x ∷ words) n m ≡ true → mask_at (x ∷ slice_set words at (bit_or w mask)) n m ≡ true
+    keeps f zero m k = k
+    keeps f (suc n) m k = f n m k
 
--- of the arcs those of which a vertex has an unmarked slot are still to come
-abbrev pub ArcsAreLeft : ℕ → List Bool → List (List Pos) → List (List Pos) → Type 0
-ArcsAreLeft count slots all left = (n : ℕ) → get_or slots n true ≡ false → (c : List Pos) → Has c all → (p : Pos) → Has p c → slot_among count p ≡ n → Has c left
+pub past_words : (words : List ℕ) (at mask : ℕ) → length words ≤ at → mask_at words at mask ≡ true
+past_words [] at mask h = refl
+past_words (x ∷ words) zero mask h = absurd (omega arith)
+past_words (x ∷ words) (suc at) mask h = past_words words at mask (omega (arith, h))
+
+-- of the positions those whose bits are not set are still to come
+abbrev pub AreLeft : ℕ → List ℕ → List ℕ → List Pos → List Pos → Type 0
+AreLeft count old new all left = Keeps old new × ((p : Pos) → Has p all → Has p left ⊎ (mask_at new (word_among count p) (mask_of p) ≡ true))
+
+pub one_marked : (count : ℕ) (old words new : List ℕ) (all : List Pos) (i : ℕ) (x : Pos) → i < length all → x ≡ get_or all i x →
+    IsMarked (word_among count x) (mask_of x) words new → AreLeft count old words all (drop i all) → AreLeft count old new all (drop (i + 1) all)
+one_marked count old words new all i x h e m before = (
+  (λ n k f. m.0 n k (before.0 n k f)),
+  (λ p j. elim (before.1 p j) [
+    | inl k ↦ elim (subst (Has p) (drop_item all i x h e) k) [
+      | inl q ↦ inr (subst (λ w. mask_at new (word_among count w) (mask_of w) ≡ true) (sym q) m.1)
+      | inr q ↦ inl q
+    ]
+    | inr k ↦ inr (m.0 (word_among count p) (mask_of p) k)
+  ]),
+)
+
+-- of the arcs those whose vertices' bits are not all set are still to come
+abbrev pub ArcsAreLeft : ℕ → List ℕ → List (List Pos) → List (List Pos) → Type 0
+ArcsAreLeft count new all left = (c : List Pos) → Has c all → Has c left ⊎ ((p : Pos) → Has p c → mask_at new (word_among count p) (mask_of p) ≡ true)
 
 there : {A : Type 0} (l : List A) (i : ℕ) → i < length l → (x : A) × (slice_get l i ≡ Some x)
 there [] i h = absurd (omega arith)
 there (x ∷ l) zero h = (x, refl)
 there (x ∷ l) (suc i) h = there l i (omega (arith, h))
 
-pub arc_marked : (count : ℕ) (slots new : List Bool) (arcs : List (List Pos)) (i : ℕ) → i < length arcs → AreDealtTo count slots new arcs i →
-    ArcsAreLeft count slots arcs (drop i arcs) → ArcsAreLeft count new arcs (drop (i + 1) arcs)
-arc_marked count slots new arcs i h m before n k c j p q s =
+pub arc_marked : (count : ℕ) (words new : List ℕ) (arcs : List (List Pos)) (i : ℕ) → i < length arcs → AreDealtTo count words new arcs i →
+    ArcsAreLeft count words arcs (drop i arcs) → ArcsAreLeft count new arcs (drop (i + 1) arcs)
+arc_marked count words new arcs i h m before c j =
     let t = there arcs i h in
-    elim (subst (Has c) (drop_next arcs i t.0 t.1) (before n (m n k).1 c j p q s)) [
-      | inl e ↦ absurd ((m n k).0 c (t.1 ∙ ap Some (sym e)) p q s)
-      | inr r ↦ r
+    elim (before c j) [
+      | inl k ↦ elim (subst (Has c) (drop_next arcs i t.0 t.1) k) [
+        | inl e ↦ inr (m.1 c (t.1 ∙ ap Some (sym e)))
+        | inr r ↦ inl r
+      ]
+      | inr k ↦ inr (λ p q. m.0 (word_among count p) (mask_of p) (k p q))
     ]
 
 pub none_left : {A : Type 0} (x : A) (l : List A) (i : ℕ) → length l ≤ i → ¬ Has x (drop i l)

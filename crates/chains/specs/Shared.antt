@@ -1,5 +1,5 @@
--- The slots of the vertices of a table's arcs, and the visits of another table in them.
-use Rattle.std.specs.Prelude.{◌≡◌, ℕ, ◌+◌, ◌*◌, ◌/◌, ◌%◌, ◌^◌, Bool, true, false, cond, List, [], ◌∷◌, get_or, Option, Some, None, slice_get}
+-- The bits of the vertices of a table's arcs, and the visits of another table that find them set.
+use Rattle.std.specs.Prelude.{◌≡◌, ℕ, ◌+◌, ◌*◌, ◌/◌, ◌%◌, ◌^◌, Bool, true, false, cond, List, [], ◌∷◌, get_or, bit_and, bit_or, nat_eq, Option, Some, None, slice_get}
 use Rattle.std.specs.Int.{cast_unsigned}
 use Rattle.theory.specs.Lists.{Has}
 use Rattle.grid.specs.declared.pos.Pos.{Pos}
@@ -7,39 +7,59 @@ use Rattle.chains.specs.Arcs.{Arcs}
 use Rattle.chains.specs.OfArcs.{arc_pieces, arc_visits}
 use Rattle.chains.specs.Table.{is_loop}
 use Rattle.chains.specs.declared.cutting.Piece.{Piece}
-use Rattle.chains.specs.declared.shared.VertexSlots.{VertexSlots}
+use Rattle.chains.specs.declared.shared.VertexBits.{VertexBits}
 use Rattle.chains.specs.declared.visits.Visit.{Visit}
 use mir.Syntax.{w64}
 
--- a number below 2^32 for a position
-abbrev pub spread : Pos → ℕ
-spread p = ((((cast_unsigned w64 p.x * 11400714819323198485) % 2 ^ 64) + ((cast_unsigned w64 p.y * 14029467366897019727) % 2 ^ 64)) % 2 ^ 64) / 2 ^ 32
+-- a number for a position
+abbrev pub hash : Pos → ℕ
+hash p = (((cast_unsigned w64 p.x * 11400714819323198485) % 2 ^ 64) + ((cast_unsigned w64 p.y * 14029467366897019727) % 2 ^ 64)) % 2 ^ 64
 
--- the slot of a position, of so many
-abbrev pub slot_among : ℕ → Pos → ℕ
-slot_among count p = ((spread p * count) % 2 ^ 64) / 2 ^ 32
+-- the word of a position, of so many
+abbrev pub word_among : ℕ → Pos → ℕ
+word_among count p = (((hash p / 2 ^ 32) * count) % 2 ^ 64) / 2 ^ 32
 
--- one more slot is marked
-abbrev pub IsMarked : ℕ → List Bool → List Bool → Type 0
-IsMarked at old new = (n : ℕ) → get_or new n true ≡ false → (¬ (n ≡ at)) × (get_or old n true ≡ false)
+-- one bit of a word
+abbrev pub bit : ℕ → ℕ
+bit n = 1 * 2 ^ (n % 64) % 2 ^ 64
 
--- the slots of the positions are marked, and what was marked stays so
-abbrev pub AreDealt : ℕ → List Bool → List Bool → List Pos → Type 0
-AreDealt count old new ps = (n : ℕ) → get_or new n true ≡ false → ((p : Pos) → Has p ps → ¬ (slot_among count p ≡ n)) × (get_or old n true ≡ false)
+-- the bits of a position
+abbrev pub mask_of : Pos → ℕ
+mask_of p = bit_or (bit_or (bit (hash p / 2 ^ 14)) (bit (hash p / 2 ^ 20))) (bit (hash p / 2 ^ 26))
+
+-- whether the word, where there is one, has the bits
+abbrev pub mask_in : Option ℕ → ℕ → Bool
+mask_in None mask = true
+mask_in (Some word) mask = nat_eq (bit_and word mask) mask
+
+-- whether the word of a number has the bits
+abbrev pub mask_at : List ℕ → ℕ → ℕ → Bool
+mask_at words at mask = mask_in (slice_get words at) mask
+
+-- what was set stays so
+abbrev pub Keeps : List ℕ → List ℕ → Type 0
+Keeps old new = (n m : ℕ) → mask_at old n m ≡ true → mask_at new n m ≡ true
+
+-- the bits are set in a word
+abbrev pub IsMarked : ℕ → ℕ → List ℕ → List ℕ → Type 0
+IsMarked at mask old new = Keeps old new × (mask_at new at mask ≡ true)
+
+-- the bits of the positions are set
+abbrev pub AreDealt : ℕ → List ℕ → List ℕ → List Pos → Type 0
+AreDealt count old new ps = Keeps old new × ((p : Pos) → Has p ps → mask_at new (word_among count p) (mask_of p) ≡ true)
 
 -- the same for the positions of an arc, where there is one
-abbrev pub AreDealtTo : ℕ → List Bool → List Bool → List (List Pos) → ℕ → Type 0
+abbrev pub AreDealtTo : ℕ → List ℕ → List ℕ → List (List Pos) → ℕ → Type 0
 AreDealtTo count old new arcs i =
-    (n : ℕ) → get_or new n true ≡ false →
-    ((c : List Pos) → slice_get arcs i ≡ Some c → (p : Pos) → Has p c → ¬ (slot_among count p ≡ n)) × (get_or old n true ≡ false)
+    Keeps old new × ((c : List Pos) → slice_get arcs i ≡ Some c → (p : Pos) → Has p c → mask_at new (word_among count p) (mask_of p) ≡ true)
 
--- whether the slot of a position is marked
-abbrev pub may_hold : VertexSlots → Pos → Bool
-may_hold s p = get_or s.taken.items (slot_among s.count p) true
+-- whether the bits of a position are set
+abbrev pub may_hold : VertexBits → Pos → Bool
+may_hold s p = mask_at s.words.items (word_among s.count p) (mask_of p)
 
--- where a slot is not marked, no vertex of the arcs has it
-abbrev pub HoldAll : VertexSlots → List (List Pos) → Type 0
-HoldAll s arcs = (p : Pos) → may_hold s p ≡ false → (c : List Pos) → Has c arcs → ¬ Has p c
+-- the bits of all vertices of the arcs are set
+abbrev pub HoldAll : VertexBits → List (List Pos) → Type 0
+HoldAll s arcs = (c : List Pos) → Has c arcs → (p : Pos) → Has p c → may_hold s p ≡ true
 
 -- the visits at vertices that the other table may have
 abbrev pub shared_in : (Pos → Bool) → List Visit → List Visit

@@ -1,57 +1,89 @@
-//! Slots that the vertices of a table's arcs are dealt to. Most vertices of another table have slots
-//! that hold none, and so are known to be no vertices of the first.
-ghost use Rattle.std.specs.Prelude.{◌≡◌, IfOk, List};
+//! Words that the vertices of a table's arcs are dealt to, each with a few bits of its own. Most
+//! vertices of another table find other bits in their words, and so are known to be no vertices of
+//! the first.
+ghost use Rattle.std.specs.Prelude.{◌≡◌, IfOk, List, true};
 ghost use Rattle.chains.specs.Shared as spec;
-ghost use Rattle.chains.specs.Shared.{AreDealt, AreDealtTo, HoldAll, IsMarked};
+ghost use Rattle.chains.specs.Shared.{AreDealt, AreDealtTo, HoldAll, IsMarked, mask_at};
 
-use crate::slots::is_marked;
 use crate::table::ArcTable;
 use grid::pos::Pos;
 use std::alloc::{AllocError, Global};
 
-/// The number of slots for each position.
-const SLOTS_EACH: usize = 16;
+/// A vertex sets three of the 64 bits of its word, and two vertices share a word.
+const VERTICES_EACH: usize = 2;
 
-/// How many slots there are, and which of them hold a vertex.
+/// How many words there are, and the bits that vertices set in them.
 #[derive(Drop)]
-pub(crate) struct VertexSlots {
+pub(crate) struct VertexBits {
     count: usize,
-    taken: Vec<bool>,
+    words: Vec<u64>,
 }
 
-/// The slot of a position, of so many. Positions near one another mostly have different ones.
-fn slot_among(count: usize, p: Pos) -> usize
-    ensures { result ≡ spec.slot_among count p }
+/// A number for a position. Positions near one another mostly have quite different ones.
+fn hash(p: Pos) -> u64
+    ensures { result ≡ spec.hash p }
 {
     let across = p.x().cast_unsigned().wrapping_mul(11400714819323198485);
     let up = p.y().cast_unsigned().wrapping_mul(14029467366897019727);
-    let spread = across.wrapping_add(up) >> 32;
-    (spread.wrapping_mul(count as u64) >> 32) as usize
+    across.wrapping_add(up)
 }
 
-fn mark(slots: &mut Vec<bool>, at: usize)
-    ensures { IsMarked at slots.old.items slots.new.items }
+/// The word of a position, of so many.
+fn word_among(count: usize, p: Pos) -> usize
+    ensures { result ≡ spec.word_among count p }
 {
-    if at < slots.len() {
-        slots[at] = true;
+    ((hash(p) >> 32).wrapping_mul(count as u64) >> 32) as usize
+}
+
+/// One bit of a word.
+fn bit(n: u64) -> u64
+    ensures { result ≡ spec.bit n }
+{
+    1 << (n % 64)
+}
+
+/// The bits of a position.
+fn mask_of(p: Pos) -> u64
+    ensures { result ≡ spec.mask_of p }
+{
+    let number = hash(p);
+    bit(number >> 14) | bit(number >> 20) | bit(number >> 26)
+}
+
+/// Whether bits are set in a word; in what is no word all are.
+fn has_mask(words: &[u64], at: usize, mask: u64) -> bool
+    ensures { result ≡ mask_at words.now at mask }
+{
+    match words.get(at) {
+        Some(word) => *word & mask == mask,
+        None => true,
     }
 }
 
-/// Marks the slots of an arc's vertices.
-fn mark_arc(slots: &mut Vec<bool>, count: usize, arc: &[Pos])
-    ensures { AreDealt count slots.old.items slots.new.items arc.now }
+/// Sets bits in a word.
+fn mark(words: &mut Vec<u64>, at: usize, mask: u64)
+    ensures { IsMarked at mask words.old.items words.new.items }
+{
+    if at < words.len() {
+        words[at] = words[at] | mask;
+    }
+}
+
+/// Sets the bits of an arc's vertices.
+fn mark_arc(words: &mut Vec<u64>, count: usize, arc: &[Pos])
+    ensures { AreDealt count words.old.items words.new.items arc.now }
 {
     for position in arc {
-        mark(slots, slot_among(count, *position));
+        mark(words, word_among(count, *position), mask_of(*position));
     }
 }
 
-/// Marks the slots of the vertices of an arc of a table.
-fn mark_numbered(slots: &mut Vec<bool>, count: usize, table: &ArcTable, number: usize)
-    ensures { AreDealtTo count slots.old.items slots.new.items table.now.arcs number }
+/// Sets the bits of the vertices of an arc of a table.
+fn mark_numbered(words: &mut Vec<u64>, count: usize, table: &ArcTable, number: usize)
+    ensures { AreDealtTo count words.old.items words.new.items table.now.arcs number }
 {
     if let Some(arc) = table.arc(number) {
-        mark_arc(slots, count, arc);
+        mark_arc(words, count, arc);
     }
 }
 
@@ -66,25 +98,23 @@ fn position_count(table: &ArcTable) -> usize {
     count
 }
 
-impl VertexSlots {
-    /// The slots of all vertices of a table's arcs.
-    pub(crate) fn of(alloc: Global, table: &ArcTable) -> Result<VertexSlots, AllocError>
+impl VertexBits {
+    /// The bits of all vertices of a table's arcs.
+    pub(crate) fn of(alloc: Global, table: &ArcTable) -> Result<VertexBits, AllocError>
         ensures { IfOk result (λ s. HoldAll s table.now.arcs) }
     {
-        let count = position_count(table)
-            .saturating_mul(SLOTS_EACH)
-            .saturating_add(1);
-        let mut taken = vec![in alloc; false; count]?;
+        let count = (position_count(table) / VERTICES_EACH).saturating_add(1);
+        let mut words = vec![in alloc; 0; count]?;
         for number in 0..table.len() {
-            mark_numbered(&mut taken, count, table, number);
+            mark_numbered(&mut words, count, table, number);
         }
-        Ok(VertexSlots { count, taken })
+        Ok(VertexBits { count, words })
     }
 
-    /// Whether the slot of a position holds a vertex. Where it holds none, the position is no vertex.
+    /// Whether the bits of a position are set. Where they are not, the position is no vertex.
     pub(crate) fn may_hold(&self, p: Pos) -> bool
         ensures { result ≡ spec.may_hold self.now p }
     {
-        is_marked(&self.taken, slot_among(self.count, p))
+        has_mask(&self.words, word_among(self.count, p), mask_of(p))
     }
 }

@@ -17,7 +17,7 @@ ghost use Rattle.theory.specs.Refinement.{IsUnionOf, unclosed};
 ghost use Rattle.shapes.specs.Maps.{set_of};
 ghost use Rattle.shapes.specs.Sets as set;
 
-use crate::shared::VertexSlots;
+use crate::shared::VertexBits;
 use crate::slots::{is_marked, slot, slots_of};
 use crate::table::ArcTable;
 use faults::OutOfMemory;
@@ -127,7 +127,7 @@ impl Seen {
     /// Notes a visit where the other table may have its vertex.
     fn note_shared(
         &mut self,
-        other: &VertexSlots,
+        other: &VertexBits,
         before: Pos,
         here: Pos,
         next: Pos,
@@ -143,7 +143,7 @@ impl Seen {
 
     /// Notes the ends of an arc that is no free loop, and its visits at vertices that the other table
     /// may have.
-    fn see_open(&mut self, other: &VertexSlots, arc: &[Pos]) -> Result<(), AllocError>
+    fn see_open(&mut self, other: &VertexBits, arc: &[Pos]) -> Result<(), AllocError>
         ensures ends { OnOk result (self.new.ends.items ≡ self.old.ends.items ++ ends_of arc.now) }
         ensures visits { OnOk result (self.new.visits.items ≡ self.old.visits.items ++ shared_in (may_hold other.now) (inner_of arc.now)) }
     {
@@ -166,7 +166,7 @@ impl Seen {
     }
 
     /// Notes the visits of a free loop at vertices that the other table may have.
-    fn see_loop(&mut self, other: &VertexSlots, ring: &[Pos]) -> Result<(), AllocError>
+    fn see_loop(&mut self, other: &VertexBits, ring: &[Pos]) -> Result<(), AllocError>
         ensures ends { OnOk result (self.new.ends.items ≡ self.old.ends.items) }
         ensures visits { OnOk result (self.new.visits.items ≡ self.old.visits.items ++ shared_in (may_hold other.now) (around_of ring.now)) }
     {
@@ -189,7 +189,7 @@ impl Seen {
     }
 
     /// Notes what an arc visits: a free loop is a ring, each other arc a line.
-    fn see_arc(&mut self, other: &VertexSlots, arc: &[Pos], free: bool) -> Result<(), AllocError>
+    fn see_arc(&mut self, other: &VertexBits, arc: &[Pos], free: bool) -> Result<(), AllocError>
         ensures ends { OnOk result (self.new.ends.items ≡ self.old.ends.items ++ cond free [] (ends_of arc.now)) }
         ensures visits { OnOk result (self.new.visits.items ≡ self.old.visits.items ++ shared_in (may_hold other.now) (cond free (around_of (unclosed arc.now)) (inner_of arc.now))) }
     {
@@ -204,7 +204,7 @@ impl Seen {
 
     fn see_numbered(
         &mut self,
-        other: &VertexSlots,
+        other: &VertexBits,
         table: &ArcTable,
         number: usize,
     ) -> Result<(), AllocError>
@@ -220,7 +220,7 @@ impl Seen {
     /// The same, and answers whether a visit was noted.
     fn meets_other(
         &mut self,
-        other: &VertexSlots,
+        other: &VertexBits,
         table: &ArcTable,
         number: usize,
     ) -> Result<bool, AllocError>
@@ -238,7 +238,7 @@ impl Seen {
     fn see_arcs(
         &mut self,
         alloc: Global,
-        other: &VertexSlots,
+        other: &VertexBits,
         table: &ArcTable,
     ) -> Result<Vec<bool>, AllocError>
         ensures ends { OnOk result (self.new.ends.items ≡ self.old.ends.items ++ gathered (arc_ends table.now.loops) table.now.arcs) }
@@ -415,8 +415,8 @@ impl VisitIndex {
         ensures left { IfOk result (λ i. (m n : Geometry Pos) → IsSound m → IsSound n → IsTableOf m left.now → IsTableOf n right.now → StayWhole i.index left.now i.left.items) }
         ensures right { IfOk result (λ i. (m n : Geometry Pos) → IsSound m → IsSound n → IsTableOf m left.now → IsTableOf n right.now → StayWhole i.index right.now i.right.items) }
     {
-        let of_left = VertexSlots::of(alloc, left)?;
-        let of_right = VertexSlots::of(alloc, right)?;
+        let of_left = VertexBits::of(alloc, left)?;
+        let of_right = VertexBits::of(alloc, right)?;
         let mut seen = Seen {
             ends: Vec::new(alloc),
             visits: Vec::new(alloc),
