@@ -1,5 +1,5 @@
 -- The steps of finding all chains.
-use Rattle.std.proofs.Common.{◌≡◌, ◌≤◌, ℕ, false, List, [], ◌∷◌, ◌++◌, drop, length, ◌⊎◌, inl, inr, refl, sym, ◌∙◌, subst, arith, Option, Some, None, suc, zero, ◌<◌, ◌+◌}
+use Rattle.std.proofs.Common.{◌≡◌, ◌≤◌, ℕ, false, List, [], ◌∷◌, ◌++◌, drop, length, ◌⊎◌, inl, inr, refl, sym, ◌∙◌, subst, arith, Option, Some, None, suc, zero, ◌<◌}
 use Rattle.std.specs.BTreeMap.{BTreeMap, IsLowerBound, is_at}
 use Rattle.std.specs.Map.{lookup}
 use Rattle.std.specs.Option.{IsSome}

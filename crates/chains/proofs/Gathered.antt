@@ -14,7 +14,7 @@ use Rattle.grid.specs.declared.pos.Pos.{Pos}
 use Rattle.lines.specs.Turned.{position_cmp}
 use Rattle.shapes.specs.Maps.{Layers}
 use Rattle.chains.specs.Visits.{HaveSame, visit_of, inner_from, inner_of, around_of, ends_of, clashes_of}
-use Rattle.chains.specs.Crowds.{KeepsClashes}
+use Rattle.chains.specs.Shared.{KeepsClashes}
 use Rattle.chains.specs.Seen.{seen, geometry_of}
 use Rattle.chains.specs.Index.{IsIndexOf, AreVisitsOf, form_ends, form_visits}
 use Rattle.chains.specs.declared.visits.Visit.{Visit}
@@ -91,7 +91,7 @@ module _ (g : Geometry Pos) (ends : List Pos) (visits : List Visit) (are : AreVi
   Seen_so : Pos → Seen Pos → Type 0
   Seen_so = Visits (IsLineOf g) (IsRingOf g)
 
-  clash_seen : (v : Pos) → Clash v visits → JunctionOf g v
+  pub clash_seen : (v : Pos) → Clash v visits → JunctionOf g v
   unfolding Seen_so
   clash_seen v c =
       let k = are.pairs_only c.one c.has_one in

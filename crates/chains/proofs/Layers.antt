@@ -1,15 +1,14 @@
 -- What is gathered layer by layer, and what is gathered from the forms of a map.
-use Rattle.std.proofs.Common.{◌≡◌, ℕ, List, [], ◌∷◌, ◌++◌, inl, inr, refl, sym, ap, ◌∙◌, append_assoc, None, length, arith}
+use Rattle.std.proofs.Common.{◌≡◌, ℕ, List, [], ◌∷◌, ◌++◌, refl, sym, ap, ◌∙◌, append_assoc, None, length, arith}
 use Rattle.std.specs.Prelude.{map as map_list, unwrap_or}
 use Rattle.std.specs.FinMap as map
-use Rattle.theory.specs.Lists.{Has, gathered}
+use Rattle.theory.specs.Lists.{gathered}
 use Rattle.theory.specs.Topology.{Shape, forms_of}
 use Rattle.grid.specs.declared.pos.Pos.{Pos}
 use Rattle.shapes.specs.Maps.{Layers, features_at, layer_entry, set_of}
 use Rattle.shapes.specs.Order.{feature_cmp}
 use Rattle.shapes.specs.Sets as set
 use Rattle.shapes.specs.declared.feature.Feature.{Feature}
-use Rattle.shapes.proofs.Entries.{at_entry}
 use Rattle.shapes.specs.declared.layer.FeatureLayer.{FeatureLayer}
 use Rattle.chains.specs.Seen.{form_of, item_of, layer_of, seen}
 

@@ -22,7 +22,8 @@ pub mod Found
 pub mod AllChains
 pub mod Slices
 pub mod Dealt
-pub mod Crowding
+pub mod Sharing
+pub mod SharedVertices
 pub mod TablesAsMap
 pub mod ArcsCut
 pub mod Located

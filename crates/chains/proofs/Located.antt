@@ -1,8 +1,8 @@
 -- The used arc along a piece, from what a search finds.
-use Rattle.std.proofs.Common.{◌≡◌, ℕ, suc, ◌+◌, ◌<◌, ◌≤◌, Bool, true, false, cond, not, List, [], ◌∷◌, length, refl, sym, ap, ◌∙◌, Option, Some, None, nat_lt, arith}
+use Rattle.std.proofs.Common.{◌≡◌, ℕ, suc, ◌+◌, ◌≤◌, Bool, true, false, cond, not, List, [], ◌∷◌, length, refl, Some, None, nat_lt, arith}
 use Rattle.std.specs.Option.{option_map}
-use Rattle.std.specs.List.{position, position_or_len}
-use borrow.Author.Tests.{ltb-true, ltb-false}
+use Rattle.std.specs.List.{position_or_len}
+use borrow.Author.Tests.{ltb-false}
 use Rattle.grid.specs.declared.pos.Pos.{Pos}
 use Rattle.chains.specs.Table.{same_list, located, found_in}
 use Rattle.chains.specs.declared.cutting.Piece.{Piece}

@@ -16,7 +16,7 @@ use Rattle.grid.specs.declared.pos.Pos.{Pos}
 use Rattle.lines.specs.Turned.{position_cmp}
 use Rattle.chains.specs.Arcs.{Arcs}
 use Rattle.chains.specs.Index.{IsIndexOf, AreVisitsOf}
-use Rattle.chains.specs.OfArcs.{open_in, loops_in, tables_as_map, arc_ends, arc_visits, ends_if, visits_if}
+use Rattle.chains.specs.OfArcs.{open_in, loops_in, tables_as_map, arc_ends, arc_visits, ends_if}
 use Rattle.chains.specs.Among.{Tells}
 use Rattle.chains.specs.Table.{is_loop, is_loop_if, IsTableOf}
 use Rattle.chains.specs.Visits.{HaveSame, visit_of, inner_of, around_of, ends_of}
@@ -244,10 +244,22 @@ left_step f l i before y h s =
     ∙ ap (λ w. before ++ (w ++ gathered f (drop (i + 1) l))) (sym (s ∙ ap (given f) t.1))
     ∙ sym (append_assoc before y (gathered f (drop (i + 1) l)))
 
+-- what f gives for the member, where there is one, and otherwise d
+abbrev pub answered : {A B : Type 0} → B → (A → B) → Option A → B
+answered d f None = d
+answered d f (Some x) = f x
+
+-- one more member mapped
+pub map_step : {A B : Type 0} (d : B) (f : A → B) (l : List A) (i : ℕ) (before now : List B) (y : B) (all : List B) → i < length l → y ≡ answered d f (slice_get l i) →
+    now ≡ before ++ (y ∷ []) → before ++ map f (drop i l) ≡ all → now ++ map f (drop (i + 1) l) ≡ all
+map_step d f l i before now y all h s e k =
+    let t = there l i h in
+    let z : y ≡ f t.0 = s ∙ ap (answered d f) t.1 in
+    ap (λ w. w ++ map f (drop (i + 1) l)) (e ∙ ap (λ w. before ++ (w ∷ [])) z)
+    ∙ append_assoc before (f t.0 ∷ []) (map f (drop (i + 1) l))
+    ∙ ap (λ w. before ++ map f w) (sym (drop_next l i t.0 t.1))
+    ∙ k
+
 pub ends_given : (loops : List (List Pos)) (o : Option (List Pos)) → ends_if loops o ≡ given (arc_ends loops) o
 ends_given loops None = refl
 ends_given loops (Some c) = refl
-
-pub visits_given : (loops : List (List Pos)) (o : Option (List Pos)) → visits_if loops o ≡ given (arc_visits loops) o
-visits_given loops None = refl
-visits_given loops (Some c) = refl

@@ -1,5 +1,5 @@
 -- The index of a map's junctions.
-use Rattle.std.specs.Prelude.{◌≡◌, ℕ, List, [], ◌∷◌, ◌++◌}
+use Rattle.std.specs.Prelude.{◌≡◌, List, ◌++◌}
 use Rattle.theory.specs.Lists.{Has, EndOf, gathered}
 use Rattle.theory.specs.Topology.{Shape, lines_in, rings_in}
 use Rattle.theory.specs.Junction.{Visits}

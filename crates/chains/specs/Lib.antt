@@ -1,6 +1,6 @@
 pub mod Among
 pub mod Visits
-pub mod Crowds
+pub mod Shared
 pub mod Slots
 pub mod Seen
 pub mod Index

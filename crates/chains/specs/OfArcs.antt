@@ -1,5 +1,5 @@
 -- The arcs of tables as lines and rings: those that are not free are lines, the free loops are rings.
-use Rattle.std.specs.Prelude.{◌≡◌, ℕ, not, cond, List, [], ◌∷◌, Option, Some, None, map, ◌⊎◌}
+use Rattle.std.specs.Prelude.{◌≡◌, not, cond, List, [], Option, Some, None, map, ◌⊎◌}
 use Rattle.theory.specs.Chain.{Free}
 use Rattle.theory.specs.Geometry.{Geometry, JunctionOf}
 use Rattle.theory.specs.LinesAndRings.{closed}

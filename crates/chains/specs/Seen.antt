@@ -1,5 +1,5 @@
 -- A feature map as the definitions of the topology see it, and its lines and rings.
-use Rattle.std.specs.Prelude.{ℕ, List, [], ◌∷◌, ◌++◌, map as map_list}
+use Rattle.std.specs.Prelude.{ℕ, List, map as map_list}
 use Rattle.shapes.specs.Sets as set
 use Rattle.std.specs.FinMap as map
 use Rattle.grid.specs.declared.pos.Pos.{Pos}
@@ -15,7 +15,6 @@ use Rattle.shapes.specs.declared.feature.Feature.{Feature}
 use Rattle.theory.specs.Geometry.{Geometry}
 use Rattle.theory.specs.Topology as topology
 use Rattle.theory.specs.Topology.{Form, Shape, Item, Layer, Map, null, point, points, line, lines, polygon, polygons}
-use Rattle.theory.specs.Lists.{gathered, joined}
 
 -- what a feature keeps beside its shape: its id and its properties
 abbrev pub Info : Type 0

@@ -1,5 +1,6 @@
 //! Cutting lines and rings at junctions.
-ghost use Rattle.std.specs.Prelude.{◌≡◌, ◌∷◌, ◌<◌, ◌≤◌, ◌+◌, [], List, cond, Some, IfOk, map, reverse, length, slice_get};
+ghost use Rattle.std.specs.Prelude.{◌≡◌, ◌∷◌, ◌++◌, ◌<◌, ◌≤◌, ◌+◌, [], List, cond, false, Some, IfOk, OnOk, map, reverse, length, slice_get};
+ghost use Rattle.chains.specs.Shared.{whole_if};
 ghost use Rattle.theory.specs.Refinement.{IsPartOf, unclosed};
 ghost use Rattle.chains.specs.OfArcs.{pieces_if, ArePiecesUnder};
 ghost use Rattle.chains.specs.Table.{IsTableOf};
@@ -214,6 +215,56 @@ pub fn cut_arc(
         }
         None => Ok(Vec::new(alloc)),
     }
+}
+
+/// An arc as its own one piece.
+fn whole_piece(alloc: Global, arc: &[Pos], free: bool) -> Result<Piece, AllocError>
+    ensures { IfOk result (λ p. p ≡ record { chain = arc.now; reversed = false; free = free }) }
+{
+    Ok(Piece {
+        chain: Items::from_vec(arc.to_vec(alloc)?),
+        reversed: false,
+        free,
+    })
+}
+
+/// Adds an arc of a table as its own one piece.
+fn add_whole(
+    alloc: Global,
+    pieces: &mut Vec<Piece>,
+    table: &ArcTable,
+    number: usize,
+) -> Result<(), AllocError>
+    ensures { OnOk result (pieces.new.items ≡ pieces.old.items ++ whole_if table.now.loops (slice_get table.now.arcs number)) }
+{
+    if let Some(arc) = table.arc(number) {
+        pieces.push(whole_piece(alloc, arc, table.is_free(number))?)?;
+    }
+    Ok(())
+}
+
+/// Adds the pieces of an arc of a table where it is cut, and else the arc.
+///
+/// # Errors
+/// Where memory is refused.
+pub fn add_pieces(
+    alloc: Global,
+    pieces: &mut Vec<Piece>,
+    index: &VisitIndex,
+    table: &ArcTable,
+    number: usize,
+    is_cut: bool,
+) -> Result<(), OutOfMemory>
+    requires { number < length table.now.arcs }
+    ensures { OnOk result (pieces.new.items ≡ pieces.old.items ++ cond is_cut (pieces_if index.now table.now.loops (slice_get table.now.arcs number)) (whole_if table.now.loops (slice_get table.now.arcs number))) }
+{
+    if !is_cut {
+        add_whole(alloc, pieces, table, number)?;
+        return Ok(());
+    }
+    let mut cut = cut_arc(alloc, index, table, number)?;
+    pieces.append(&mut cut)?;
+    Ok(())
 }
 
 /// The pieces of a line of the map, in order along it.

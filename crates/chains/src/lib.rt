@@ -2,11 +2,12 @@
 //! the maximal chains over any segments.
 #![tactic(auto)]
 
-mod crowds;
+
 pub mod cutting;
 pub mod joining;
 mod merging;
 pub mod segment;
+mod shared;
 mod slots;
 mod starts;
 mod stop_set;
@@ -15,9 +16,9 @@ pub mod table;
 pub mod used_arcs;
 pub mod visits;
 
-pub use cutting::{Piece, cut_arc, cut_line, cut_ring};
+pub use cutting::{Piece, add_pieces, cut_arc, cut_line, cut_ring};
 pub use joining::{maximal, maximal_with};
 pub use segment::Segment;
 pub use table::{ArcRef, ArcTable};
 pub use used_arcs::refs_of;
-pub use visits::VisitIndex;
+pub use visits::{ArcsIndex, VisitIndex};

@@ -5,19 +5,19 @@ ghost use Rattle.theory.specs.Segments.{OnThree};
 ghost use Rattle.theory.specs.Lists.{gathered, joined};
 ghost use Rattle.theory.specs.Topology.{forms_of};
 ghost use Rattle.grid.specs.declared.pos.Pos.{Pos};
-ghost use Rattle.chains.specs.Crowds.{KeepsClashes};
+ghost use Rattle.chains.specs.Shared.{KeepsClashes, StayWhole, arc_shared, has_some, may_hold, shared_if, shared_in};
 ghost use Rattle.chains.specs.Among.{among};
 ghost use Rattle.chains.specs.Visits.{visit_of, inner_of, ends_of, around_of, clash, clashes_of, HaveSame};
 ghost use Rattle.chains.specs.Seen.{line_of, ring_of, form_of, geometry_of, seen};
 ghost use Rattle.chains.specs.Index.{IsIndexOf, EndsALine, AreVisitsOf, feature_ends, feature_visits, form_ends, form_visits};
-ghost use Rattle.chains.specs.OfArcs.{arc_ends, arc_visits, ends_if, visits_if, tables_as_map};
+ghost use Rattle.chains.specs.OfArcs.{arc_ends, ends_if, tables_as_map};
 ghost use Rattle.chains.specs.Table.{IsTableOf};
 ghost use Rattle.chains.specs.declared.visits.Visit.{Visit as Visiting};
 ghost use Rattle.theory.specs.Refinement.{IsUnionOf, unclosed};
 ghost use Rattle.shapes.specs.Maps.{set_of};
 ghost use Rattle.shapes.specs.Sets as set;
 
-use crate::crowds::crowded_visits;
+use crate::shared::VertexBits;
 use crate::slots::{is_marked, slot, slots_of};
 use crate::table::ArcTable;
 use faults::OutOfMemory;
@@ -124,38 +124,132 @@ impl Seen {
         Ok(())
     }
 
-    /// Notes what an arc visits: a free loop is a ring, each other arc a line.
-    fn see_arc(&mut self, arc: &[Pos], free: bool) -> Result<(), AllocError>
-        ensures ends { OnOk result (self.new.ends.items ≡ self.old.ends.items ++ cond free [] (ends_of arc.now)) }
-        ensures visits { OnOk result (HaveSame self.new.visits.items (self.old.visits.items ++ cond free (around_of (unclosed arc.now)) (inner_of arc.now))) }
+    /// Notes a visit where the other table may have its vertex.
+    fn note_shared(
+        &mut self,
+        other: &VertexBits,
+        before: Pos,
+        here: Pos,
+        next: Pos,
+    ) -> Result<(), AllocError>
+        ensures ends { self.new.ends.items ≡ self.old.ends.items }
+        ensures visits { OnOk result (self.new.visits.items ≡ self.old.visits.items ++ shared_in (may_hold other.now) (visit_of before here next ∷ [])) }
     {
-        if !free {
-            return self.see_line(arc);
-        }
-        match arc.split_last() {
-            Some((_, ring)) => self.see_ring(ring),
-            None => Ok(()),
-        }
-    }
-
-    fn see_numbered(&mut self, table: &ArcTable, number: usize) -> Result<(), AllocError>
-        ensures ends { OnOk result (self.new.ends.items ≡ self.old.ends.items ++ ends_if table.now.loops (slice_get table.now.arcs number)) }
-        ensures visits { OnOk result (HaveSame self.new.visits.items (self.old.visits.items ++ visits_if table.now.loops (slice_get table.now.arcs number))) }
-    {
-        match table.arc(number) {
-            Some(arc) => self.see_arc(arc, table.is_free(number)),
-            None => Ok(()),
-        }
-    }
-
-    fn see_arcs(&mut self, table: &ArcTable) -> Result<(), AllocError>
-        ensures ends { OnOk result (self.new.ends.items ≡ self.old.ends.items ++ gathered (arc_ends table.now.loops) table.now.arcs) }
-        ensures visits { OnOk result (HaveSame self.new.visits.items (self.old.visits.items ++ gathered (arc_visits table.now.loops) table.now.arcs)) }
-    {
-        for number in 0..table.len() {
-            self.see_numbered(table, number)?;
+        if other.may_hold(here) {
+            self.visits.push(visit_between(before, here, next))?;
         }
         Ok(())
+    }
+
+    /// Notes the ends of an arc that is no free loop, and its visits at vertices that the other table
+    /// may have.
+    fn see_open(&mut self, other: &VertexBits, arc: &[Pos]) -> Result<(), AllocError>
+        ensures ends { OnOk result (self.new.ends.items ≡ self.old.ends.items ++ ends_of arc.now) }
+        ensures visits { OnOk result (self.new.visits.items ≡ self.old.visits.items ++ shared_in (may_hold other.now) (inner_of arc.now)) }
+    {
+        let Some((first, others)) = arc.split_first() else {
+            return Ok(());
+        };
+        self.ends.push(*first)?;
+        let Some((second, rest)) = others.split_first() else {
+            return Ok(());
+        };
+        let mut before = *first;
+        let mut here = *second;
+        for next in rest {
+            self.note_shared(other, before, here, *next)?;
+            before = here;
+            here = *next;
+        }
+        self.ends.push(here)?;
+        Ok(())
+    }
+
+    /// Notes the visits of a free loop at vertices that the other table may have.
+    fn see_loop(&mut self, other: &VertexBits, ring: &[Pos]) -> Result<(), AllocError>
+        ensures ends { OnOk result (self.new.ends.items ≡ self.old.ends.items) }
+        ensures visits { OnOk result (self.new.visits.items ≡ self.old.visits.items ++ shared_in (may_hold other.now) (around_of ring.now)) }
+    {
+        let Some((first, others)) = ring.split_first() else {
+            return Ok(());
+        };
+        let Some((second, rest)) = others.split_first() else {
+            return Ok(());
+        };
+        let mut before = *first;
+        let mut here = *second;
+        for next in rest {
+            self.note_shared(other, before, here, *next)?;
+            before = here;
+            here = *next;
+        }
+        self.note_shared(other, before, here, *first)?;
+        self.note_shared(other, here, *first, *second)?;
+        Ok(())
+    }
+
+    /// Notes what an arc visits: a free loop is a ring, each other arc a line.
+    fn see_arc(&mut self, other: &VertexBits, arc: &[Pos], free: bool) -> Result<(), AllocError>
+        ensures ends { OnOk result (self.new.ends.items ≡ self.old.ends.items ++ cond free [] (ends_of arc.now)) }
+        ensures visits { OnOk result (self.new.visits.items ≡ self.old.visits.items ++ shared_in (may_hold other.now) (cond free (around_of (unclosed arc.now)) (inner_of arc.now))) }
+    {
+        if !free {
+            return self.see_open(other, arc);
+        }
+        match arc.split_last() {
+            Some((_, ring)) => self.see_loop(other, ring),
+            None => Ok(()),
+        }
+    }
+
+    fn see_numbered(
+        &mut self,
+        other: &VertexBits,
+        table: &ArcTable,
+        number: usize,
+    ) -> Result<(), AllocError>
+        ensures ends { OnOk result (self.new.ends.items ≡ self.old.ends.items ++ ends_if table.now.loops (slice_get table.now.arcs number)) }
+        ensures visits { OnOk result (self.new.visits.items ≡ self.old.visits.items ++ shared_if (may_hold other.now) table.now.loops (slice_get table.now.arcs number)) }
+    {
+        match table.arc(number) {
+            Some(arc) => self.see_arc(other, arc, table.is_free(number)),
+            None => Ok(()),
+        }
+    }
+
+    /// The same, and answers whether a visit was noted.
+    fn meets_other(
+        &mut self,
+        other: &VertexBits,
+        table: &ArcTable,
+        number: usize,
+    ) -> Result<bool, AllocError>
+        ensures ends { OnOk result (self.new.ends.items ≡ self.old.ends.items ++ ends_if table.now.loops (slice_get table.now.arcs number)) }
+        ensures visits { OnOk result (self.new.visits.items ≡ self.old.visits.items ++ shared_if (may_hold other.now) table.now.loops (slice_get table.now.arcs number)) }
+        ensures met { IfOk result (λ b. b ≡ has_some (shared_if (may_hold other.now) table.now.loops (slice_get table.now.arcs number))) }
+    {
+        let before = self.visits.len();
+        self.see_numbered(other, table, number)?;
+        Ok(self.visits.len() > before)
+    }
+
+    /// Notes the ends of a table's arcs and their visits at vertices that the other table may have,
+    /// and answers for each arc whether it has such a visit.
+    fn see_arcs(
+        &mut self,
+        alloc: Global,
+        other: &VertexBits,
+        table: &ArcTable,
+    ) -> Result<Vec<bool>, AllocError>
+        ensures ends { OnOk result (self.new.ends.items ≡ self.old.ends.items ++ gathered (arc_ends table.now.loops) table.now.arcs) }
+        ensures visits { OnOk result (self.new.visits.items ≡ self.old.visits.items ++ gathered (arc_shared (may_hold other.now) table.now.loops) table.now.arcs) }
+        ensures marks { IfOk result (λ v. v.items ≡ map_list (λ c. has_some (arc_shared (may_hold other.now) table.now.loops c)) table.now.arcs) }
+    {
+        let mut marks = Vec::with_capacity(alloc, table.len())?;
+        for number in 0..table.len() {
+            marks.push(self.meets_other(other, table, number)?)?;
+        }
+        Ok(marks)
     }
 
     fn see_lines(&mut self, lines: &[Line]) -> Result<(), AllocError>
@@ -222,17 +316,6 @@ impl Seen {
     }
 }
 
-/// How many positions the arcs of a table have, and so visits at most.
-fn position_count(table: &ArcTable) -> usize {
-    let mut count: usize = 0;
-    for number in 0..table.len() {
-        if let Some(arc) = table.arc(number) {
-            count = count.saturating_add(arc.len());
-        }
-    }
-    count
-}
-
 fn is_clash(a: Visit, b: Visit) -> bool
     ensures { result ≡ clash a b }
 {
@@ -279,6 +362,15 @@ impl Model for VisitIndex {
     ghost invariant = { λ a. IsLookUp a.slots.items a.junctions.items };
 }
 
+/// The index over the arcs of two tables, and for each arc of either whether it may be cut: one that is
+/// not marked is its own one piece.
+#[derive(Drop)]
+pub struct ArcsIndex {
+    pub index: VisitIndex,
+    pub left: Vec<bool>,
+    pub right: Vec<bool>,
+}
+
 impl VisitIndex {
     fn of_seen(alloc: Global, seen: Seen) -> Result<VisitIndex, AllocError>
         ensures { IfOk result (λ i. (g : Geometry Pos) (all : List Visiting) → KeepsClashes seen.visits.items all → AreVisitsOf seen.ends.items all g → IsIndexOf i g) }
@@ -307,8 +399,9 @@ impl VisitIndex {
         Ok(index)
     }
 
-    /// The index of all arcs of two tables: the free loops are rings, the other arcs lines. It is the
-    /// index of the maps that the tables are of, taken together.
+    /// The index over all arcs of two tables, each that of a map: the free loops are rings, the other
+    /// arcs lines. It is the index of both maps taken together. Within one map's arcs only ends of
+    /// arcs are junctions, so the others are at vertices that both tables have.
     ///
     /// # Errors
     /// Where memory is refused.
@@ -316,23 +409,28 @@ impl VisitIndex {
         alloc: Global,
         left: &ArcTable,
         right: &ArcTable,
-    ) -> Result<VisitIndex, OutOfMemory>
-        ensures arcs { IfOk result (λ i. IsIndexOf i (tables_as_map left.now right.now)) }
-        ensures union { IfOk result (λ i. (m n u : Geometry Pos) → IsSound m → IsSound n → IsTableOf m left.now → IsTableOf n right.now → IsUnionOf m n u → IsIndexOf i u) }
+    ) -> Result<ArcsIndex, OutOfMemory>
+        ensures arcs { IfOk result (λ i. (m n : Geometry Pos) → IsSound m → IsSound n → IsTableOf m left.now → IsTableOf n right.now → IsIndexOf i.index (tables_as_map left.now right.now)) }
+        ensures union { IfOk result (λ i. (m n u : Geometry Pos) → IsSound m → IsSound n → IsTableOf m left.now → IsTableOf n right.now → IsUnionOf m n u → IsIndexOf i.index u) }
+        ensures left { IfOk result (λ i. (m n : Geometry Pos) → IsSound m → IsSound n → IsTableOf m left.now → IsTableOf n right.now → StayWhole i.index left.now i.left.items) }
+        ensures right { IfOk result (λ i. (m n : Geometry Pos) → IsSound m → IsSound n → IsTableOf m left.now → IsTableOf n right.now → StayWhole i.index right.now i.right.items) }
     {
-        let count = position_count(left).saturating_add(position_count(right));
+        let of_left = VertexBits::of(alloc, left)?;
+        let of_right = VertexBits::of(alloc, right)?;
         let mut seen = Seen {
             ends: Vec::new(alloc),
-            visits: Vec::with_capacity(alloc, count)?,
+            visits: Vec::new(alloc),
             // Arcs of a table visit no vertex twice in the same way: a hint would miss.
             recent: Vec::new(alloc),
         };
-        seen.see_arcs(left)?;
-        seen.see_arcs(right)?;
-        let kept = crowded_visits(alloc, &seen.visits)?;
-        seen.visits = kept;
+        let left_marks = seen.see_arcs(alloc, &of_right, left)?;
+        let right_marks = seen.see_arcs(alloc, &of_left, right)?;
         let index = VisitIndex::of_seen(alloc, seen)?;
-        Ok(index)
+        Ok(ArcsIndex {
+            index,
+            left: left_marks,
+            right: right_marks,
+        })
     }
 
     fn has(&self, p: Pos) -> bool

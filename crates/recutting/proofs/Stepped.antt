@@ -1,8 +1,10 @@
 -- Steps of loops over the numbers of a list, and what is read at a number.
-use Rattle.std.proofs.Common.{◌≡◌, ℕ, zero, suc, ◌+◌, ◌<◌, List, [], ◌∷◌, ◌++◌, map, length, drop, refl, sym, ap, ◌∙◌, subst, arith, append_assoc, Option, Some, None, slice_get}
+use Rattle.std.proofs.Common.{Bool, true, false, cond, get_or, ◌≡◌, ℕ, zero, suc, ◌+◌, ◌<◌, List, [], ◌∷◌, ◌++◌, map, length, drop, refl, sym, ap, ◌∙◌, subst, arith, append_assoc, Option, Some, None, slice_get}
 use Rattle.theory.specs.Lists.{gathered}
 use Rattle.grid.specs.declared.pos.Pos.{Pos}
+use Rattle.chains.specs.Arcs.{Arcs}
 use Rattle.chains.specs.OfArcs.{arc_pieces, pieces_if}
+use Rattle.chains.specs.Shared.{whole_if, StayWhole}
 use Rattle.recutting.specs.Cutting.{arc_used, used_if}
 use Rattle.chains.proofs.Slices.{drop_next}
 
@@ -50,3 +52,13 @@ pieces_given js loops (Some c) = refl
 pub used_answered : (js : List Pos) (loops new : List (List Pos)) (o : Option (List Pos)) → used_if js loops new o ≡ answered [] (arc_used js loops new) o
 used_answered js loops new None = refl
 used_answered js loops new (Some c) = refl
+
+-- the pieces of an arc that is cut, or of one that stays whole
+pub cut_or_whole : (js : List Pos) (t : Arcs) (marks : List Bool) (i : ℕ) (b : Bool) → b ≡ get_or marks i true → StayWhole js t marks →
+    cond b (pieces_if js t.loops (slice_get t.arcs i)) (whole_if t.loops (slice_get t.arcs i)) ≡ pieces_if js t.loops (slice_get t.arcs i)
+cut_or_whole js t marks i true e stay = refl
+cut_or_whole js t marks i false e stay = go (slice_get t.arcs i) refl
+  where
+    go : (o : Option (List Pos)) → slice_get t.arcs i ≡ o → whole_if t.loops o ≡ pieces_if js t.loops o
+    go None f = refl
+    go (Some c) f = sym (stay i c f (sym e))

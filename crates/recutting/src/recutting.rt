@@ -1,16 +1,17 @@
 //! Cutting the arcs of two tables again: the index of visits over the arcs gives the junctions of
 //! both maps together, all arcs are cut there, and the pieces are the new table.
-ghost use Rattle.std.specs.Prelude.{◌≡◌, ◌<◌, ◌++◌, IfOk, OnOk, List, map as map_list, length, slice_get, Option};
+ghost use Rattle.std.specs.Prelude.{◌≡◌, ◌<◌, ◌++◌, IfOk, OnOk, List, map as map_list, length, slice_get, get_or, true, Option};
 ghost use Rattle.grid.specs.declared.pos.Pos.{Pos};
 ghost use Rattle.theory.specs.Geometry.{Geometry, IsSound};
 ghost use Rattle.theory.specs.Lists.{gathered};
 ghost use Rattle.theory.specs.Refinement.{IsUnionOf};
 ghost use Rattle.chains.specs.OfArcs.{arc_pieces};
+ghost use Rattle.chains.specs.Shared.{StayWhole};
 ghost use Rattle.chains.specs.Table.{IsTableOf};
 ghost use Rattle.recutting.specs.Cutting.{arc_used, used_if, IsRecutOf};
 
 use crate::refined::Recut;
-use chains::cutting::{Piece, cut_arc};
+use chains::cutting::{Piece, add_pieces, cut_arc};
 use chains::table::{ArcRef, ArcTable};
 use chains::used_arcs::refs_of;
 use chains::visits::VisitIndex;
@@ -18,18 +19,29 @@ use faults::OutOfMemory;
 use lines::items::Items;
 use std::alloc::Global;
 
-/// Adds the pieces of all arcs of a table.
+/// Whether an arc may be cut; one that nothing is told of may be.
+fn is_marked(marks: &[bool], number: usize) -> bool
+    ensures { result ≡ get_or marks.now number true }
+{
+    match marks.get(number) {
+        Some(marked) => *marked,
+        None => true,
+    }
+}
+
+/// Adds the pieces of all arcs of a table, of which those that are not marked are not cut.
 fn add_table(
     alloc: Global,
     pieces: &mut Vec<Piece>,
     index: &VisitIndex,
     table: &ArcTable,
+    marks: &[bool],
 ) -> Result<(), OutOfMemory>
-    ensures { OnOk result (pieces.new.items ≡ pieces.old.items ++ gathered (arc_pieces index.now table.now.loops) table.now.arcs) }
+    ensures { OnOk result (StayWhole index.now table.now marks.now → pieces.new.items ≡ pieces.old.items ++ gathered (arc_pieces index.now table.now.loops) table.now.arcs) }
 {
     for number in 0..table.len() {
-        let mut cut = cut_arc(alloc, index, table, number)?;
-        pieces.append(&mut cut)?;
+        let is_cut = is_marked(marks, number);
+        add_pieces(alloc, pieces, index, table, number, is_cut)?;
     }
     Ok(())
 }
@@ -101,12 +113,12 @@ pub fn recut(alloc: Global, left: &ArcTable, right: &ArcTable) -> Result<Recut, 
     ensures left { IfOk result (λ r. length r.left ≡ length left.now.arcs) }
     ensures right { IfOk result (λ r. length r.right ≡ length right.now.arcs) }
 {
-    let index = VisitIndex::over_arcs(alloc, left, right)?;
+    let cuts = VisitIndex::over_arcs(alloc, left, right)?;
     let mut pieces = Vec::with_capacity(alloc, left.len() + right.len())?;
-    add_table(alloc, &mut pieces, &index, left)?;
-    add_table(alloc, &mut pieces, &index, right)?;
+    add_table(alloc, &mut pieces, &cuts.index, left, &cuts.left)?;
+    add_table(alloc, &mut pieces, &cuts.index, right, &cuts.right)?;
     let arcs = ArcTable::from_pieces(alloc, pieces)?;
-    let of_left = refs_of_table(alloc, &index, left, &arcs)?;
-    let of_right = refs_of_table(alloc, &index, right, &arcs)?;
+    let of_left = refs_of_table(alloc, &cuts.index, left, &arcs)?;
+    let of_right = refs_of_table(alloc, &cuts.index, right, &arcs)?;
     Ok(Recut::from_parts(arcs, of_left, of_right))
 }

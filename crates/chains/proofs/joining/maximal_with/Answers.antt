@@ -1,6 +1,6 @@
-use Rattle.std.proofs.Common.{◌≡◌, ◌++◌, ◌∷◌, List, map, sym, ap, ◌∙◌, subst}
+use Rattle.std.proofs.Common.{◌≡◌, ◌++◌, map, sym, ap, ◌∙◌, subst}
 use Rattle.std.proofs.lemmas.List.{map-append}
-use Rattle.chains.specs.Joined.{AreMaximal, AreCovering, AreParted, AreAllChains, MeetsTwo}
+use Rattle.chains.specs.Joined.{AreMaximal, AreParted, AreAllChains, MeetsTwo}
 use Rattle.chains.proofs.AllChains.{all_maximal}
 use Rattle.chains.proofs.Parted.{parted_chains}
 use Rattle.chains.proofs.joining.maximal_with.Goals as goal

@@ -1,5 +1,4 @@
 use Rattle.std.proofs.Common.{◌≡◌, ◌++◌, drop, map}
-use Rattle.theory.specs.Lists.{gathered, joined}
 use Rattle.chains.specs.Table.{located}
 use Rattle.chains.proofs.used_arcs.refs_of.Given as goal
 

@@ -1,6 +1,5 @@
-use Rattle.std.proofs.Common.{arith, ◌≡◌, ◌++◌, ◌∙◌, ap, sym, append-nil, map as map_list}
+use Rattle.std.proofs.Common.{arith, ◌++◌, ◌∙◌, ap, sym, append-nil, map as map_list}
 use Rattle.std.proofs.lemmas.Grind.{common_steps}
-use Rattle.std.specs.FinMap.{entries}
 use Rattle.theory.specs.Lists.{gathered}
 use Rattle.shapes.specs.Maps.{layer_entry}
 use Rattle.chains.specs.Index.{form_ends, form_visits, layer_ends, layer_visits}

@@ -1,8 +1,9 @@
-use Rattle.std.proofs.Common.{◌≡◌, ◌++◌, ◌∙◌, [], ap, sym, cond, subst, OnOk, slice_get}
+use Rattle.std.proofs.Common.{◌≡◌, ◌++◌, ◌∙◌, [], ap, sym, cond, subst, OnOk}
 use Rattle.theory.specs.Refinement.{unclosed}
-use Rattle.chains.specs.OfArcs.{ends_if, visits_if}
+use Rattle.chains.specs.OfArcs.{ends_if}
+use Rattle.chains.specs.Shared.{may_hold, shared_if, shared_in}
 use Rattle.chains.specs.Table.{is_loop_if}
-use Rattle.chains.specs.Visits.{HaveSame, inner_of, around_of, ends_of}
+use Rattle.chains.specs.Visits.{inner_of, around_of, ends_of}
 use Rattle.chains.proofs.visits.Seen.see_numbered.Goals as goal
 
 pub returns-in-Some-clause-ends : goal.returns-in-Some-clause-ends
@@ -17,6 +18,8 @@ pub returns-in-Some-clause-visits : goal.returns-in-Some-clause-visits
 returns-in-Some-clause-visits c =
     let t = c.args.table.now in
     let arc = c.in-Some.arc.now in
-    subst (λ w. OnOk c.see_arc.result (HaveSame c.see_arc.new.self.visits.items (c.args.self.now.visits.items ++ w)))
-    (ap (λ b. cond b (around_of (unclosed arc)) (inner_of arc)) (c.is_free.ensures ∙ ap (is_loop_if t.loops) (sym c.in-Some.ensures)) ∙ ap (visits_if t.loops) c.in-Some.ensures)
+    let may = may_hold c.args.other.now in
+    subst (λ w. OnOk c.see_arc.result (c.see_arc.new.self.visits.items ≡ c.args.self.now.visits.items ++ w))
+    (ap (λ b. shared_in may (cond b (around_of (unclosed arc)) (inner_of arc))) (c.is_free.ensures ∙ ap (is_loop_if t.loops) (sym c.in-Some.ensures))
+    ∙ ap (shared_if may t.loops) c.in-Some.ensures)
     c.see_arc.ensures.visits

@@ -3,7 +3,7 @@ use Rattle.theory.specs.Lists.{gathered}
 use Rattle.theory.specs.Topology.{forms_of}
 use Rattle.chains.specs.Seen.{geometry_of, seen}
 use Rattle.chains.specs.Index.{form_ends, form_visits}
-use Rattle.chains.proofs.Crowding.{keeps_all}
+use Rattle.chains.proofs.Sharing.{keeps_all}
 use Rattle.chains.proofs.Gathered.{visits_are}
 use Rattle.chains.proofs.Same.{same_equal, same_trans}
 use Rattle.chains.proofs.visits.VisitIndex.of.Goals as goal

@@ -1,4 +1,4 @@
-use Rattle.std.proofs.Common.{sym, ◌∙◌, ap, rules}
+use Rattle.std.proofs.Common.{rules}
 use Rattle.std.proofs.lemmas.List.Sorted.{answers_always}
 use Rattle.chains.proofs.Gathered.{junctions_kept}
 use Rattle.chains.proofs.visits.VisitIndex.of_seen.Goals as goal

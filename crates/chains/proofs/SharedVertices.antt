@@ -1,0 +1,319 @@
+-- Two tables of arcs: a vertex that stands in one of them alone is a junction of both maps together only where it is an end of an arc that is not free.
+use Rattle.std.proofs.Common.{◌≡◌, ℕ, ◌+◌, Bool, true, false, cond, not, List, [], ◌∷◌, ◌++◌, map, reverse, inl, inr, refl, sym, ap, ◌∙◌, subst, arith, append_assoc, Some, slice_get, get_or, ◌≤◌, zero, suc}
+use Rattle.std.specs.Cmp.Lexicographic.{slice_cmp, lists_total}
+use Rattle.std.specs.Ordering.{is_lt, is_gt, bool_cmp, ordering_reverse, ordering_then}
+use Rattle.std.specs.declared.cmp.Ordering.{Ordering}
+use Rattle.std.specs.declared.cmp.Ordering.TheVariants.{Less, Equal, Greater}
+use Rattle.theory.specs.Arcs.{IsArcOf}
+use Rattle.theory.specs.Chain.{Free}
+use Rattle.theory.specs.Cutting.{cut_from}
+use Rattle.theory.specs.Geometry.{AtMost, Geometry, IsChainOf, IsLineOf, IsRingOf, IsSound, JunctionOf}
+use Rattle.theory.specs.Junction.{Visit as Seen, Visits}
+use Rattle.theory.specs.Junction.Visit.{end, pair}
+use Rattle.theory.specs.LinesAndRings.{around, closed}
+use Rattle.theory.specs.Lists.{Between, EndOf, Has, Passes, front_of, gathered, last_of}
+use Rattle.theory.specs.Refinement.{AreArcsAsMap, IsUnionOf, OpenArc, unclosed}
+use Rattle.theory.proofs.ClosedLists.{closed_around}
+use Rattle.theory.proofs.Lists.{Has-append, Has-append_left, Has-append_right, append_nil, front-snoc}
+use Rattle.theory.proofs.ListsOfLists.{Has-gathered, gathered_from, get_has}
+use Rattle.theory.proofs.StandingLists.{middle_has}
+use Rattle.grid.specs.declared.pos.Pos.{Pos}
+use Rattle.lines.specs.Turned.{position_cmp}
+use Rattle.lines.specs.Positions.{position_total, position_same}
+use Rattle.lines.proofs.Positions.{true_false}
+use Rattle.chains.specs.Among.{among}
+use Rattle.chains.specs.Arcs.{Arcs}
+use Rattle.chains.specs.Index.{IsIndexOf, AreVisitsOf}
+use Rattle.chains.specs.OfArcs.{arc_pieces, arc_visits, tables_as_map}
+use Rattle.chains.specs.Pieces.{begins_free, cut_list, is_backwards_less, line_pieces, opened_at, oriented, parts_at, ring_parts, ring_pieces}
+use Rattle.chains.specs.Shared.{arc_shared, has_some, may_hold, whole, HoldAll, KeepsClashes, StayWhole}
+use Rattle.chains.specs.Starts.{start_of, start_cmp, starts_from, least_from, start_place}
+use Rattle.chains.specs.Table.{is_loop, IsTableOf}
+use Rattle.chains.specs.Visits.{around_of, inner_of, visit_of}
+use Rattle.chains.specs.declared.shared.VertexBits.{VertexBits}
+use Rattle.chains.specs.declared.starts.Start.{Start}
+use Rattle.chains.specs.declared.visits.Visit.{Visit}
+use Rattle.chains.proofs.Among.{among_has, has_among}
+use Rattle.chains.proofs.Gathered.{between_has, clash_seen, found_in}
+use Rattle.chains.proofs.Sharing.{has_shared, none_shared, shared_has}
+use Rattle.chains.proofs.TablesAsMap.{free_loop, told, tables_alike, tables_are}
+
+last_has : (x : Pos) (r : List Pos) → Has (last_of x r) (x ∷ r)
+last_has x [] = inl refl
+last_has x (y ∷ r) = inr (last_has y r)
+
+end_has : (v : Pos) (l : List Pos) → EndOf v l → Has v l
+end_has v [] h = absurd h
+end_has v (x ∷ r) (inl e) = inl e
+end_has v (x ∷ r) (inr e) = subst (λ w. Has w (x ∷ r)) (sym e) (last_has x r)
+
+begins_has : (a v b : Pos) (l : List Pos) → Passes a v b l → Has v l
+begins_has a v b [] h = absurd h
+begins_has a v b (x ∷ []) (inl h) = absurd h.1
+begins_has a v b (x ∷ (y ∷ l)) (inl h) = inr (inl h.1.0)
+begins_has a v b (x ∷ l) (inr h) = inr (begins_has a v b l h)
+
+between_there : (a v b : Pos) (l : List Pos) → Between a v b l → Has v l
+between_there a v b l (inl h) = begins_has a v b l h
+between_there a v b l (inr h) = begins_has b v a l h
+
+round_has : (a v b : Pos) (r : List Pos) → Passes a v b (around r) → Has v (closed r)
+round_has a v b [] h = absurd h
+round_has a v b (x ∷ []) h = absurd h
+round_has a v b (x ∷ (y ∷ l)) h = inr (middle_has x a v b y ((y ∷ l) ++ (x ∷ [])) (subst (Passes a v b) (closed_around x y l) h))
+
+around_has : (a v b : Pos) (r : List Pos) → Between a v b (around r) → Has v (closed r)
+around_has a v b r (inl h) = round_has a v b r h
+around_has a v b r (inr h) = round_has b v a r h
+
+-- a visit of an arc of a map is at no junction of it
+inner : (m : Geometry Pos) (sm : IsSound m) (s : Arcs) (ms : IsTableOf m s) (c : List Pos) → Has c s.arcs → (w : Visit) → Has w (arc_visits s.loops c) → ¬ JunctionOf m w.vertex
+inner m sm s ms c h w = go (is_loop s.loops c) refl
+  where
+    passed : (l : List Pos) → IsChainOf position_cmp m l → (a b : Pos) → Passes a w.vertex b l → ¬ JunctionOf m w.vertex
+    passed [] k a b p = absurd k
+    passed (x ∷ r) k a b p = k.inner_free a w.vertex b p
+
+    go : (b : Bool) → is_loop s.loops c ≡ b → Has w (cond b (around_of (unclosed c)) (inner_of c)) → ¬ JunctionOf m w.vertex
+    go true e k =
+        let f = found_in w (around (unclosed c)) k in
+        (told m sm s ms c h).yes e w.vertex
+        (subst (Has w.vertex) (sym (free_loop m sm s ms c h e).0) (round_has f.before w.vertex f.next (unclosed c) f.there))
+    go false e k = let f = found_in w c k in passed c (ms.arcs.arcs_only c h).chain f.before f.next f.there
+
+module _ (m n : Geometry Pos) (sm : IsSound m) (s t : Arcs) (ms : IsTableOf m s) (a : Geometry Pos) (am : AreArcsAsMap m n s.arcs t.arcs a) where
+  -- the vertex stands in no arc of the other table
+  abbrev pub Apart : Pos → Type 0
+  Apart v = (c : List Pos) → Has c t.arcs → ¬ Has v c
+
+  both : IsUnionOf m m m
+  both = record {
+    left = record { lines = λ l h. h; rings = λ r h. h };
+    right = record { lines = λ l h. h; rings = λ r h. h };
+    lines = λ l h. inl h;
+    rings = λ r h. inl h;
+  }
+
+  own : AreArcsAsMap m m s.arcs s.arcs (tables_as_map s s)
+  own = tables_are m m sm sm s s ms ms
+
+  line : (v : Pos) → Apart v → (l : List Pos) → IsLineOf a l → Has v l → IsLineOf (tables_as_map s s) l
+  line v apart l h k = elim (am.lines l h) [ inl o ↦ own.open_left l o | inr o ↦ absurd (apart l o.0 k) ]
+
+  ring : (v : Pos) → Apart v → (r : List Pos) → IsRingOf a r → Has v (closed r) → IsRingOf (tables_as_map s s) r
+  ring v apart r h k = elim (am.rings r h) [ inl o ↦ own.loop_left r o | inr o ↦ absurd (apart (closed r) o.0 k) ]
+
+  moved : (v : Pos) → Apart v → (p : Seen Pos) → Visits (IsLineOf a) (IsRingOf a) v p → Visits (IsLineOf (tables_as_map s s)) (IsRingOf (tables_as_map s s)) v p
+  moved v apart end h = (h.0, line v apart h.0 h.1 (end_has v h.0 h.2), h.2)
+  moved v apart (pair x y) (inl h) = inl (h.0, line v apart h.0 h.1 (between_there x v y h.0 h.2), h.2)
+  moved v apart (pair x y) (inr h) = inr (h.0, ring v apart h.0 h.1 (around_has x v y h.0 h.2), h.2)
+
+  own_junction : (v : Pos) → Apart v → JunctionOf a v → JunctionOf m v
+  own_junction v apart j = (tables_alike m m sm sm s s ms ms m both).junctions v (elim j [
+    | inl h ↦ inl (moved v apart end h)
+    | inr h ↦ inr (h.0, h.1, moved v apart h.0 h.2, moved v apart h.1 h.3, h.4)
+  ])
+
+  -- a visit of an arc whose vertex is in this table alone is at no junction
+  pub alone : (c : List Pos) → Has c s.arcs → (w : Visit) → Has w (arc_visits s.loops c) → Apart w.vertex → ¬ JunctionOf a w.vertex
+  alone c h w k apart j = inner m sm s ms c h w k (own_junction w.vertex apart j)
+
+-- the starts of a ring are those of its vertices
+start_from : (stop : Pos → Bool) (first here : Pos) (rest : List Pos) (k : Start) → Has k (starts_from stop first here rest) →
+    (v : Pos) × (w : Pos) × Has v (here ∷ rest) × (k ≡ start_of stop v w)
+start_from stop first here [] k (inl e) = (here, first, inl refl, e)
+start_from stop first here [] k (inr h) = absurd h
+start_from stop first here (next ∷ rest) k (inl e) = (here, next, inl refl, e)
+start_from stop first here (next ∷ rest) k (inr h) = let t = start_from stop first next rest k h in (t.0, t.1, inr t.2, t.3)
+
+none_before : (m : Start) (best i : ℕ) (l : List Start) → ((k : Start) → Has k l → is_lt (start_cmp k m) ≡ false) → least_from best m i l ≡ best
+none_before m best i [] h = refl
+none_before m best i (k ∷ l) h =
+    ap (λ b. least_from (cond b i best) (cond b k m) (i + 1) l) (h k (inl refl)) ∙ none_before m best (i + 1) l (λ j g. h j (inr g))
+
+later : (stop : Pos → Bool) (x y v w : Pos) → stop x ≡ false → stop v ≡ false → AtMost position_cmp x v → ¬ (v ≡ x) → is_lt (start_cmp (start_of stop v w) (start_of stop x y)) ≡ false
+later stop x y v w e f most d = go (stop x) (stop v) (position_cmp v x) e f refl
+  where
+    go : (s t : Bool) (r : Ordering) → s ≡ false → t ≡ false → position_cmp v x ≡ r → is_lt (ordering_then (bool_cmp (not t) (not s)) (ordering_then r (position_cmp w y))) ≡ false
+    go true t r e f g = absurd cc
+    go false true r e f g = absurd cc
+    go false false Less e f g =
+        let z : is_gt (ordering_reverse Less) ≡ false = subst (λ q. is_gt q ≡ false) (position_total.antisymm x v ∙ ap ordering_reverse g) most in absurd cc
+    go false false Equal e f g = absurd (d (position_same v x g))
+    go false false Greater e f g = refl
+
+first_place : (stop : Pos → Bool) (x y : Pos) (q : List Pos) → ((v : Pos) → Has v (x ∷ (y ∷ q)) → stop v ≡ false) → ((v : Pos) → Has v (y ∷ q) → AtMost position_cmp x v) →
+    ¬ Has x (y ∷ q) → start_place stop (x ∷ (y ∷ q)) ≡ 0
+first_place stop x y q none most d =
+    none_before (start_of stop x y) 0 1 (starts_from stop x y q)
+    (λ k h.
+      (let t = start_from stop x y q k h in
+      subst (λ w. is_lt (start_cmp w (start_of stop x y)) ≡ false) (sym t.3)
+      (later stop x y t.0 t.1 (none x (inl refl)) (none t.0 (inr t.2)) (most t.0 t.2) (λ e. d (subst (λ w. Has w (y ∷ q)) e t.2)))))
+
+ring_uncut : (stop : Pos → Bool) (x y : Pos) (q : List Pos) → stop x ≡ false → start_place stop (x ∷ (y ∷ q)) ≡ 0 → ring_parts stop (x ∷ (y ∷ q)) ≡ closed (x ∷ (y ∷ q)) ∷ []
+ring_uncut stop x y q e p =
+    ap (λ i. parts_at stop i (x ∷ (y ∷ q))) p
+    ∙ ap (λ b. cond b (cut_list stop (opened_at 0 (x ∷ (y ∷ q)))) (opened_at 0 (x ∷ (y ∷ q)) ∷ [])) e
+    ∙ ap (λ w. (w ++ (x ∷ [])) ∷ []) (append_nil (x ∷ (y ∷ q)))
+
+-- a list with a stop at its end alone is not cut
+line_uncut : (stop : Pos → Bool) (c : List Pos) (y : Pos) (r : List Pos) → ((v : Pos) → Has v (front_of y r) → stop v ≡ false) → stop (last_of y r) ≡ true →
+    cut_from stop c (y ∷ r) ≡ (c ++ (y ∷ r)) ∷ []
+line_uncut stop c y [] none last = ap (λ w. cond w ((c ++ (y ∷ [])) ∷ []) []) last
+line_uncut stop c y (z ∷ r) none last =
+    ap (λ w. cond w ((c ++ (y ∷ [])) ∷ cut_from stop (y ∷ []) (z ∷ r)) (cut_from stop (c ++ (y ∷ [])) (z ∷ r))) (none y (inl refl))
+    ∙ line_uncut stop (c ++ (y ∷ [])) z r (λ v h. none v (inr h)) last
+    ∙ ap (λ w. w ∷ []) (append_assoc c (y ∷ []) (z ∷ r))
+
+front_passes : (v x y : Pos) (r : List Pos) → Has v (front_of y r) → (a : Pos) × (b : Pos) × Passes a v b (x ∷ (y ∷ r))
+front_passes v x y [] h = absurd h
+front_passes v x y (z ∷ r) (inl e) = (x, z, inl (refl, (e, refl)))
+front_passes v x y (z ∷ r) (inr h) = let t = front_passes v y z r h in (t.0, t.1, inr t.2)
+
+-- an arc is a piece in its own direction
+own_piece : (stop : Pos → Bool) (c : List Pos) → slice_cmp position_cmp c (reverse c) ≡ Less → (f : Bool) → begins_free stop c ≡ f →
+    oriented stop c ≡ record { chain = c; reversed = false; free = f }
+own_piece stop c e f g =
+    let b : is_backwards_less c ≡ false = ap is_lt ((lists_total position_total).antisymm (reverse c) c ∙ ap ordering_reverse e) in
+    λ i. record { chain = cond (b i) (reverse c) c; reversed = b i; free = g i }
+
+module _ (m : Geometry Pos) (sm : IsSound m) (s : Arcs) (ms : IsTableOf m s) (a : Geometry Pos) (js : List Pos) (index : IsIndexOf js a)
+    (opens : (l : List Pos) → OpenArc m s.arcs l → IsLineOf a l) where
+  no_stop : (v : Pos) → ¬ JunctionOf a v → among js v ≡ false
+  no_stop v none = go (among js v) refl
+    where
+      go : (b : Bool) → among js v ≡ b → b ≡ false
+      go true e = absurd (none (index.only v (among_has js v e)))
+      go false e = refl
+
+  end_stop : (l : List Pos) → IsLineOf a l → (v : Pos) → EndOf v l → among js v ≡ true
+  end_stop l h v e = has_among js v (index.all v (inl (l, h, e)))
+
+  visited : (c : List Pos) (a' v b : Pos) → ((w : Visit) → Has w (inner_of c) → ¬ JunctionOf a w.vertex) → Passes a' v b c → among js v ≡ false
+  visited c a' v b none p = no_stop v (none (visit_of a' v b) (between_has a' v b c (inl p)))
+
+  open_whole : (c : List Pos) → IsArcOf position_cmp m c → IsLineOf a c → ((w : Visit) → Has w (inner_of c) → ¬ JunctionOf a w.vertex) →
+      line_pieces js c ≡ record { chain = c; reversed = false; free = false } ∷ []
+  open_whole [] k h none = absurd k.chain
+  open_whole (x ∷ []) k h none = let z : 1 ≤ 0 = k.chain.long in absurd (omega arith)
+  open_whole (x ∷ (y ∷ r)) k h none =
+      ap (map (oriented (among js)))
+      (line_uncut (among js) (x ∷ []) y r
+      (λ v f. (let p = front_passes v x y r f in visited (x ∷ (y ∷ r)) p.0 v p.1 none p.2))
+      (end_stop (x ∷ (y ∷ r)) h (last_of y r) (inr refl)))
+      ∙ ap (λ w. w ∷ []) (own_piece (among js) (x ∷ (y ∷ r)) k.forward false (ap not (end_stop (x ∷ (y ∷ r)) h x (inl refl))))
+
+  -- each vertex of a ring is visited
+  loop_none : (x y : Pos) (l : List Pos) → ((w : Visit) → Has w (around_of (x ∷ (y ∷ l))) → ¬ JunctionOf a w.vertex) → (v : Pos) → Has v (x ∷ (y ∷ l)) → among js v ≡ false
+  loop_none x y l none v h =
+      let f = front_passes v x y (l ++ (x ∷ (y ∷ []))) (subst (Has v) (sym (ap (front_of y) (sym (append_assoc l (x ∷ []) (y ∷ []))) ∙ front-snoc y y (l ++ (x ∷ [])))) (there h)) in
+      no_stop v (none (visit_of f.0 v f.1) (between_has f.0 v f.1 (around (x ∷ (y ∷ l))) (inl f.2)))
+    where
+      there : Has v (x ∷ (y ∷ l)) → Has v (y ∷ (l ++ (x ∷ [])))
+      there (inl e) = inr (Has-append_right v l (x ∷ []) (inl e))
+      there (inr (inl e)) = inl e
+      there (inr (inr k)) = inr (Has-append_left v l (x ∷ []) k)
+
+  loop_whole : (c : List Pos) → IsArcOf position_cmp m c → Free (JunctionOf m) c → c ≡ closed (unclosed c) →
+      ((w : Visit) → Has w (around_of (unclosed c)) → ¬ JunctionOf a w.vertex) →
+      ring_pieces js (unclosed c) ≡ record { chain = c; reversed = false; free = true } ∷ []
+  loop_whole [] k f e none = absurd k.chain
+  loop_whole (x ∷ []) k f e none = let z : 1 ≤ 0 = k.chain.long in absurd (omega arith)
+  loop_whole (x ∷ (y ∷ [])) k f e none = let p : x ≡ y = cc in let z : 3 ≤ 1 = k.chain.closed_long p in absurd (omega arith)
+  loop_whole (x ∷ (y ∷ (z ∷ q))) k f e none =
+      ap (map (oriented (among js)))
+      (ring_uncut (among js) x y (front_of z q) (free x (inl refl))
+      (first_place (among js) x y (front_of z q) free (λ v h. most v (subst (Has v) (sym e) (Has-append_left v (x ∷ (y ∷ front_of z q)) (x ∷ []) (inr h)))) k.chain.front_simple.0))
+      ∙ ap (λ w. oriented (among js) w ∷ []) (sym e)
+      ∙ ap (λ w. w ∷ []) (own_piece (among js) (x ∷ (y ∷ (z ∷ q))) k.forward true (ap not (free x (inl refl))))
+    where
+      free : (v : Pos) → Has v (x ∷ (y ∷ front_of z q)) → among js v ≡ false
+      free = loop_none x y (front_of z q) none
+
+      most : (v : Pos) → Has v (x ∷ (y ∷ (z ∷ q))) → AtMost position_cmp x v
+      most v h = elim k.chain.ends [ inl t ↦ absurd (f x (inl refl) t.0) | inr t ↦ t.2 v h ]
+
+  pub stays_whole : (c : List Pos) → Has c s.arcs → ((w : Visit) → Has w (arc_visits s.loops c) → ¬ JunctionOf a w.vertex) → arc_pieces js s.loops c ≡ whole s.loops c
+  stays_whole c h none = go (is_loop s.loops c) refl none
+    where
+      go : (b : Bool) → is_loop s.loops c ≡ b → ((w : Visit) → Has w (cond b (around_of (unclosed c)) (inner_of c)) → ¬ JunctionOf a w.vertex) →
+          cond b (ring_pieces js (unclosed c)) (line_pieces js c) ≡ record { chain = c; reversed = false; free = b } ∷ []
+      go true e f = loop_whole c (ms.arcs.arcs_only c h) ((told m sm s ms c h).yes e) (free_loop m sm s ms c h e).0 f
+      go false e f = open_whole c (ms.arcs.arcs_only c h) (opens c (h, (told m sm s ms c h).no e)) f
+
+mapped_at : {A : Type 0} (f : A → Bool) (l : List A) (i : ℕ) (x : A) → slice_get l i ≡ Some x → get_or (map f l) i true ≡ f x
+mapped_at f [] i x e = absurd cc
+mapped_at f (y ∷ l) zero x e = ap f cc
+mapped_at f (y ∷ l) (suc i) x e = mapped_at f l i x e
+
+-- what is noted of one table, where the bits are those of the other
+module _ (m n : Geometry Pos) (sm : IsSound m) (s t : Arcs) (ms : IsTableOf m s) (a : Geometry Pos) (am : AreArcsAsMap m n s.arcs t.arcs a)
+    (bits : VertexBits) (hold : HoldAll bits t.arcs) where
+  pub side_whole : (js : List Pos) → IsIndexOf js a → (marks : List Bool) → marks ≡ map (λ c. has_some (arc_shared (may_hold bits) s.loops c)) s.arcs → StayWhole js s marks
+  side_whole js index marks e i c g f =
+      let h = get_has s.arcs i c g in
+      let unmet : has_some (arc_shared (may_hold bits) s.loops c) ≡ false =
+        sym (mapped_at (λ d. has_some (arc_shared (may_hold bits) s.loops d)) s.arcs i c g) ∙ sym (ap (λ w. get_or w i true) e) ∙ f in
+      stays_whole m sm s ms a js index am.open_left c h
+      (λ w k. alone m n sm s t ms a am c h w k (λ d j i. true_false (may_hold bits w.vertex) (hold d j w.vertex i) (none_shared (may_hold bits) (arc_visits s.loops c) unmet w k)))
+
+  pub side_kept : (v : Visit) → Has v (gathered (arc_visits s.loops) s.arcs) → JunctionOf a v.vertex → Has v (gathered (arc_shared (may_hold bits) s.loops) s.arcs)
+  side_kept v h j =
+      let q = gathered_from (arc_visits s.loops) s.arcs v h in
+      Has-gathered (arc_shared (may_hold bits) s.loops) s.arcs q.0 v q.1 (shared_has (may_hold bits) v (arc_visits s.loops q.0) q.2 (go q.0 q.1 q.2 (may_hold bits v.vertex) refl))
+    where
+      go : (c : List Pos) → Has c s.arcs → Has v (arc_visits s.loops c) → (b : Bool) → may_hold bits v.vertex ≡ b → may_hold bits v.vertex ≡ true
+      go c k l true e = e
+      go c k l false e = absurd (alone m n sm s t ms a am c k v l (λ d i z. true_false (may_hold bits v.vertex) (hold d i v.vertex z) e) j)
+
+  pub side_only : (v : Visit) → Has v (gathered (arc_shared (may_hold bits) s.loops) s.arcs) → Has v (gathered (arc_visits s.loops) s.arcs)
+  side_only v h =
+      let q = gathered_from (arc_shared (may_hold bits) s.loops) s.arcs v h in
+      Has-gathered (arc_visits s.loops) s.arcs q.0 v q.1 (has_shared (may_hold bits) v (arc_visits s.loops q.0) q.2)
+
+pub other_way : (m n : Geometry Pos) (s t : List (List Pos)) (a : Geometry Pos) → AreArcsAsMap m n s t a → AreArcsAsMap n m t s a
+other_way m n s t a am = record {
+  lines = λ l h. elim (am.lines l h) [ inl k ↦ inr k | inr k ↦ inl k ];
+  rings = λ r h. elim (am.rings r h) [ inl k ↦ inr k | inr k ↦ inl k ];
+  open_left = am.open_right;
+  open_right = am.open_left;
+  loop_left = am.loop_right;
+  loop_right = am.loop_left;
+}
+
+-- what is noted of both
+module _ (m n : Geometry Pos) (sm : IsSound m) (sn : IsSound n) (s t : Arcs) (ms : IsTableOf m s) (nt : IsTableOf n t)
+    (of_s of_t : VertexBits) (hold_s : HoldAll of_s s.arcs) (hold_t : HoldAll of_t t.arcs) where
+  abbrev pub all_visits : List Visit
+  all_visits = gathered (arc_visits s.loops) s.arcs ++ gathered (arc_visits t.loops) t.arcs
+
+  am : AreArcsAsMap m n s.arcs t.arcs (tables_as_map s t)
+  am = tables_are m n sm sn s t ms nt
+
+  back : AreArcsAsMap n m t.arcs s.arcs (tables_as_map s t)
+  back = other_way m n s.arcs t.arcs (tables_as_map s t) am
+
+  pub met_visits : (ends : List Pos) (kept : List Visit) → AreVisitsOf ends all_visits (tables_as_map s t) →
+      kept ≡ gathered (arc_shared (may_hold of_t) s.loops) s.arcs ++ gathered (arc_shared (may_hold of_s) t.loops) t.arcs → KeepsClashes kept all_visits
+  met_visits ends kept are e = record {
+    only = λ v h. elim (Has-append v (gathered (arc_shared (may_hold of_t) s.loops) s.arcs) (gathered (arc_shared (may_hold of_s) t.loops) t.arcs) (subst (Has v) e h)) [
+      | inl k ↦ Has-append_left v (gathered (arc_visits s.loops) s.arcs) (gathered (arc_visits t.loops) t.arcs) (side_only m n sm s t ms (tables_as_map s t) am of_t hold_t v k)
+      | inr k ↦ Has-append_right v (gathered (arc_visits s.loops) s.arcs) (gathered (arc_visits t.loops) t.arcs) (side_only n m sn t s nt (tables_as_map s t) back of_s hold_s v k)
+    ];
+    clashing = λ v w h k f d.
+        let j = clash_seen (tables_as_map s t) ends all_visits are v.vertex
+          (record { one = v; other = w; has_one = h; has_other = k; at_one = refl; at_other = sym f; differ = d }) in
+        subst (Has v) (sym e) (elim (Has-append v (gathered (arc_visits s.loops) s.arcs) (gathered (arc_visits t.loops) t.arcs) h) [
+          | inl i ↦ Has-append_left v (gathered (arc_shared (may_hold of_t) s.loops) s.arcs) (gathered (arc_shared (may_hold of_s) t.loops) t.arcs)
+              (side_kept m n sm s t ms (tables_as_map s t) am of_t hold_t v i j)
+          | inr i ↦ Has-append_right v (gathered (arc_shared (may_hold of_t) s.loops) s.arcs) (gathered (arc_shared (may_hold of_s) t.loops) t.arcs)
+              (side_kept n m sn t s nt (tables_as_map s t) back of_s hold_s v i j)
+        ]);
+  }
+
+  pub left_whole : (js : List Pos) → IsIndexOf js (tables_as_map s t) → (marks : List Bool) → marks ≡ map (λ c. has_some (arc_shared (may_hold of_t) s.loops c)) s.arcs → StayWhole js s marks
+  left_whole = side_whole m n sm s t ms (tables_as_map s t) am of_t hold_t
+
+  pub right_whole : (js : List Pos) → IsIndexOf js (tables_as_map s t) → (marks : List Bool) → marks ≡ map (λ c. has_some (arc_shared (may_hold of_s) t.loops c)) t.arcs → StayWhole js t marks
+  right_whole = side_whole n m sn t s nt (tables_as_map s t) back of_s hold_s

@@ -1,0 +1,14 @@
+use Rattle.std.proofs.Common.{◌<◌, ◌≤◌, inl, inr, subst}
+use Rattle.chains.proofs.Sharing.{arc_marked, none_left}
+use Rattle.chains.proofs.shared.VertexBits.of.Goals as goal
+
+pub loop-number-preserved : goal.loop-number-preserved
+loop-number-preserved c =
+    arc_marked _ c.loop-number.words.items c.mark_numbered.new.words.items c.args.table.now.arcs c.loop-number.number
+    (subst (λ w. c.loop-number.number < w) c.len-number-end.ensures.len c.loop-number-test.true) c.mark_numbered.ensures c.loop-number.invariant
+
+pub returns : goal.returns
+returns c = λ arc h p k. elim (c.loop-number.invariant arc h) [
+  | inl j ↦ absurd (none_left arc c.args.table.now.arcs c.loop-number.number (subst (λ w. w ≤ c.loop-number.number) c.len-number-end.ensures.len c.loop-number-test.false) j)
+  | inr f ↦ f p k
+]
