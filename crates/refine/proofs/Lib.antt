@@ -8,3 +8,5 @@ pub mod MergeLemmas
 pub mod MergedTexts
 pub mod UnionFits
 pub mod ThroughTexts
+pub mod Ascending
+pub mod UnitedGeometry
