@@ -5,3 +5,4 @@ pub mod Groupings
 pub mod Alike
 pub mod Merge
 pub mod MergeLaws
+pub mod Cuts
