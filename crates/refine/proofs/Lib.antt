@@ -9,4 +9,7 @@ pub mod MergedTexts
 pub mod UnionFits
 pub mod ThroughTexts
 pub mod Ascending
+pub mod MergedSets
+pub mod MergedLayers
 pub mod UnitedGeometry
+pub mod RecutGeometries
