@@ -13,3 +13,4 @@ pub mod MergedSets
 pub mod MergedLayers
 pub mod UnitedGeometry
 pub mod RecutGeometries
+pub mod JoinedLayers
