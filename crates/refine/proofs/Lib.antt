@@ -8,3 +8,9 @@ pub mod MergeLemmas
 pub mod MergedTexts
 pub mod UnionFits
 pub mod ThroughTexts
+pub mod Ascending
+pub mod MergedSets
+pub mod MergedLayers
+pub mod UnitedGeometry
+pub mod RecutGeometries
+pub mod JoinedLayers
