@@ -6,3 +6,4 @@ pub mod Alike
 pub mod Merge
 pub mod MergeLaws
 pub mod Cuts
+pub mod CutLayers
