@@ -6,7 +6,7 @@ use Rattle.std.specs.Cmp.Lexicographic.{slice_cmp}
 use Rattle.std.specs.Ordering.{is_ne, nat_cmp, ordering_then}
 use Rattle.std.specs.declared.cmp.Ordering.{Ordering}
 use Rattle.std.specs.declared.cmp.Ordering.TheVariants.{Less, Equal, Greater}
-use Rattle.std.proofs.Common.{Bool, true, false}
+use Rattle.std.proofs.Common.{Bool, true, false, rules}
 use Rattle.grid.specs.declared.pos.Pos.{Pos}
 use Rattle.lines.specs.Reading.{ring_of}
 use Rattle.lines.specs.Seen.{positions_of, vertices_of}
@@ -14,8 +14,10 @@ use Rattle.lines.specs.Turned.{position_cmp, list_cmp}
 use Rattle.lines.specs.declared.line.Line as the_line
 use Rattle.lines.specs.declared.ring.Ring as the_ring
 use Rattle.lines.proofs.ReadsItself.{ring_reads}
-use Rattle.shapes.specs.Order.{feature_cmp, id_cmp, line_cmp, ring_cmp, shape_cmp}
+use Rattle.shapes.specs.Order.{feature_cmp, id_cmp, line_cmp, ring_cmp, shape_cmp, shape_rank}
+use Rattle.shapes.specs.contracts.shape.IdOrd.TheImpl as id
 use Rattle.shapes.specs.declared.feature.Feature.{Feature}
+use Rattle.shapes.specs.declared.shape.Id.{Id}
 use Rattle.shapes.specs.declared.shape.Shape as shapes
 use Rattle.shapes.specs.declared.shape.Shape.TheVariants as of
 use Rattle.chains.specs.Seen.{form_of, line_of, ring_of as vertices_seen}
@@ -29,7 +31,7 @@ use Rattle.topo.specs.Walked.{walked}
 use Rattle.topo.specs.declared.geom.Body as bodies
 use Rattle.topo.specs.declared.geom.Body.TheVariants as to
 use Rattle.topo.specs.declared.geom.Geom.{Geom}
-use Rattle.refine.specs.CutLayers.{body_form, form_cmp, geometry_cmp, info_cmp, vertices_used}
+use Rattle.refine.specs.CutLayers.{body_form, form_cmp, form_rank, geometry_cmp, info_cmp, vertices_used}
 
 module _ (arcs : List (List Pos)) where
   line_form : (l : the_line.Line) (used : List ArcRef) → IsLineOf arcs l used → line_of l ≡ walked arcs used
@@ -63,6 +65,15 @@ module _ (arcs : List (List Pos)) where
       ap polygons (each_same (Pairwise (IsRingOf arcs)) (map_list vertices_seen) (map_list (vertices_used arcs)) rings_form ps lists h)
   shape_form s b h = absurd h
 
+kind_rank : (s : shapes.Shape) → shape_rank s ≡ form_rank (form_of s)
+kind_rank of.Null = refl
+kind_rank (of.Point p) = refl
+kind_rank (of.MultiPoint ps) = refl
+kind_rank (of.Line l) = refl
+kind_rank (of.MultiLine ls) = refl
+kind_rank (of.Polygon rs) = refl
+kind_rank (of.MultiPolygon ps) = refl
+
 shapes_by_form : (s t : shapes.Shape) → shape_cmp s t ≡ form_cmp (form_of s) (form_of t)
 shapes_by_form (of.Point p) (of.Point q) = refl
 shapes_by_form (of.MultiPoint ps) (of.MultiPoint qs) = refl
@@ -78,7 +89,7 @@ shapes_by_form (of.MultiPolygon ps) (of.MultiPolygon qs) =
     same_within R S e [] (b ∷ bs) = refl
     same_within R S e (a ∷ as') [] = refl
     same_within R S e (a ∷ as') (b ∷ bs) = (λ i. ordering_then (e a b i) (same_within R S e as' bs i))
-shapes_by_form s t = refl
+shapes_by_form s t = (λ i. nat_cmp (kind_rank s i) (kind_rank t i))
 
 then_groups : (a b c : Ordering) → ordering_then a (ordering_then b c) ≡ ordering_then (ordering_then a b) c
 then_groups Less b c = refl
@@ -103,3 +114,10 @@ info_decides arcs a b r e n =
     decided Less y k = refl
     decided Equal y k = absurd cc
     decided Greater y k = refl
+
+id_derived_is : (a b : Id) → id.cmp-value.it a b ≡ id_cmp a b
+id_derived_is a b = search rules
+
+-- from what the comparisons of ids and of properties answer
+pub info_from : (a b : Geom) (r x y : Ordering) → r ≡ ordering_then x y → x ≡ id.cmp-value.it a.id b.id → y ≡ slice_cmp nat_cmp a.props.text b.props.text → r ≡ info_cmp a b
+info_from a b r x y e p q = e ∙ (λ i. ordering_then ((p ∙ id_derived_is a.id b.id) i) (q i))

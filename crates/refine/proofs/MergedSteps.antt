@@ -1,5 +1,5 @@
 -- How lists are merged step by step.
-use Rattle.std.proofs.Common.{◌≡◌, ℕ, ◌<◌, ◌+◌, List, [], ◌∷◌, ◌++◌, length, take, drop, get_or, Option, Some, None, refl, sym, ap, ◌∙◌, subst, append_assoc, append-nil, arith}
+use Rattle.std.proofs.Common.{◌≡◌, ℕ, ◌<◌, ◌+◌, List, [], ◌∷◌, ◌++◌, length, take, drop, get_or, Option, Some, None, IfSome, refl, sym, ap, ◌∙◌, subst, append_assoc, append-nil, arith}
 use Rattle.std.specs.Prelude.{option_to_list}
 use Rattle.std.specs.List.{AllByRecursion}
 use Rattle.std.specs.declared.cmp.Ordering.{Ordering}
@@ -12,25 +12,27 @@ module _ {A : Type 0} (cmp : A → A → Ordering) (x : A) where
   -- what is merged, by what stands before x and behind it
   pub into_parts : (rest : List A → List A) (ys : List A) → merged_into cmp x rest ys ≡ before cmp x ys ++ (x ∷ rest (behind cmp x ys))
   into_parts rest [] = refl
-  into_parts rest (y ∷ ys) = go (cmp x y)
+  into_parts rest (y ∷ ys) = go (into_parts rest ys) (cmp x y)
     where
-      go : (r : Ordering) → by_order r (x ∷ rest (y ∷ ys)) (x ∷ rest ys) (y ∷ merged_into cmp x rest ys) ≡
+      go : merged_into cmp x rest ys ≡ before cmp x ys ++ (x ∷ rest (behind cmp x ys)) →
+          (r : Ordering) → by_order r (x ∷ rest (y ∷ ys)) (x ∷ rest ys) (y ∷ merged_into cmp x rest ys) ≡
           by_order r [] [] (y ∷ before cmp x ys) ++ (x ∷ rest (by_order r (y ∷ ys) ys (behind cmp x ys)))
-      go Less = refl
-      go Equal = refl
-      go Greater = ap (λ t. y ∷ t) (into_parts rest ys)
+      go more Less = refl
+      go more Equal = refl
+      go more Greater = ap (λ t. y ∷ t) more
 
   -- the same, where what ties with x becomes one with it
   pub united_parts : (both : A → A → A) (rest : List A → List A) (ys : List A) →
       united_into cmp both x rest ys ≡ before cmp x ys ++ (with_other both x (tied cmp x ys) ∷ rest (behind cmp x ys))
   united_parts both rest [] = refl
-  united_parts both rest (y ∷ ys) = go (cmp x y)
+  united_parts both rest (y ∷ ys) = go (united_parts both rest ys) (cmp x y)
     where
-      go : (r : Ordering) → by_order r (x ∷ rest (y ∷ ys)) (both x y ∷ rest ys) (y ∷ united_into cmp both x rest ys) ≡
+      go : united_into cmp both x rest ys ≡ before cmp x ys ++ (with_other both x (tied cmp x ys) ∷ rest (behind cmp x ys)) →
+          (r : Ordering) → by_order r (x ∷ rest (y ∷ ys)) (both x y ∷ rest ys) (y ∷ united_into cmp both x rest ys) ≡
           by_order r [] [] (y ∷ before cmp x ys) ++ (with_other both x (by_order r None (Some y) (tied cmp x ys)) ∷ rest (by_order r (y ∷ ys) ys (behind cmp x ys)))
-      go Less = refl
-      go Equal = refl
-      go Greater = ap (λ t. y ∷ t) (united_parts both rest ys)
+      go more Less = refl
+      go more Equal = refl
+      go more Greater = ap (λ t. y ∷ t) more
 
   -- x comes after the first, which is moved
   pub record IsMoved (ys zs ms ns : List A) : Type 0 where
@@ -94,13 +96,11 @@ module _ {A : Type 0} (cmp : A → A → Ordering) (x : A) where
   all_behind P [] h = tt
   all_behind P (y ∷ ys) h = picked (AllByRecursion P) (cmp x y) _ _ _ (λ _. h) (λ _. h.1) (λ _. all_behind P ys h.1)
 
-module _ {A : Type 0} where
-  -- an item and what is behind it, as a queue gives them
-  pub popped : (r : Option A) (old new : List A) → old ≡ option_to_list r ++ new → (r ≡ None → length old ≡ 0) → (option_to_list r ≡ take 1 old) × (new ≡ drop 1 old)
-  popped None [] new e n = (refl, sym e)
-  popped None (y ∷ ys) new e n = absurd (omega (arith, n refl))
-  popped (Some x) old new e n = (sym (ap (take 1) e), sym (ap (drop 1) e))
+  pub tied_has : (P : A → Type 0) (ys : List A) → AllByRecursion P ys → IfSome (tied cmp x ys) P
+  tied_has P [] h = tt
+  tied_has P (y ∷ ys) h = picked (λ o. IfSome o P) (cmp x y) _ _ _ (λ _. tt) (λ _. h.0) (λ _. tied_has P ys h.1)
 
+module _ {A : Type 0} where
   -- the first of a list
   pub first_is : (ys : List A) (y : A) → 0 < length ys → y ≡ get_or ys 0 y → ys ≡ y ∷ drop 1 ys
   first_is [] y h e = absurd (omega arith)
