@@ -16,3 +16,4 @@ pub mod RecutGeometries
 pub mod JoinedLayers
 pub mod FeatureOrder
 pub mod MergedSteps
+pub mod JoinedParts

@@ -455,8 +455,8 @@ fn layers_of_both(
     Ok(merged)
 }
 
-/// The topology of the features of both on the grid of the left one, where both are handed over. No
-/// position is compared that does not lie on an arc of both.
+/// The topology of the features of both on the left grid. Both are handed over: their geometries
+/// are moved, and none is stitched but where ids and properties tie.
 ///
 /// # Errors
 /// Where memory is refused.
