@@ -6,3 +6,5 @@ pub mod Naming
 pub mod Alike
 pub mod Merge
 pub mod MergeLaws
+pub mod Cuts
+pub mod CutLayers

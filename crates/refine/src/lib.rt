@@ -2,6 +2,7 @@
 #![tactic(auto)]
 
 mod canonical;
+mod cut;
 pub mod fault;
 pub mod grouping;
 mod joining;
