@@ -6,3 +6,6 @@ pub mod Alike
 pub mod Merge
 pub mod MergeLaws
 pub mod Cuts
+pub mod OneMap
+pub mod ItsMap
+pub mod OnGrid
