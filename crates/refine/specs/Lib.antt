@@ -8,3 +8,6 @@ pub mod Merge
 pub mod MergeLaws
 pub mod Cuts
 pub mod CutLayers
+pub mod OneMap
+pub mod ItsMap
+pub mod OnGrid

@@ -3,6 +3,10 @@
 
 mod canonical;
 mod cut;
+<<<<<<< HEAD
+=======
+pub mod cut_shard;
+>>>>>>> a2
 pub mod fault;
 pub mod grouping;
 mod joining;
@@ -14,6 +18,7 @@ mod running;
 pub mod shard;
 pub mod whole;
 
+pub use cut_shard::Cut;
 pub use fault::{JoinFault, MergeFault, PlanFault};
 pub use merge::merge_texts;
 pub use plan::{Plan, run_plan};
