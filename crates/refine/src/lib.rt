@@ -3,10 +3,7 @@
 
 mod canonical;
 mod cut;
-<<<<<<< HEAD
-=======
 pub mod cut_shard;
->>>>>>> a2
 pub mod fault;
 pub mod grouping;
 mod joining;

@@ -10,7 +10,7 @@ use crate::joining::join_all;
 use crate::naming::named_places;
 use crate::plan::{Plan, first_bad_leaf, same_grid};
 use crate::shard::Shard;
-use crate::whole::Whole;
+use crate::cut_shard::Cut;
 use faults::{Fault, FaultKind};
 use grid::transform::Grid;
 use std::alloc::Global;
@@ -111,5 +111,5 @@ pub fn merge_texts(alloc: Global, texts: &[Vec<u8>], plan: &Plan) -> Result<Vec<
     ensures merged { IfOk result (λ t. IsMergeOf (bytes_of texts.now) (leaves plan.now) t.items) }
     ensures accepted { IfOk result (λ t. MeansUnion (bytes_of texts.now) (leaves plan.now) t.items) }
 {
-    merge_as::<Whole>(alloc, texts, plan)
+    merge_as::<Cut>(alloc, texts, plan)
 }
