@@ -1,5 +1,5 @@
 -- The numbers of the marks that are set: each once, and no others.
-use Rattle.std.proofs.Common.{◌≡◌, ◌↔◌, ◌≤◌, ◌<◌, ◌+◌, ℕ, zero, suc, Bool, true, false, List, [], ◌∷◌, inl, inr, refl, sym, ap, ◌∙◌, subst, arith, Some, slice_get}
+use Rattle.std.proofs.Common.{◌≡◌, ◌↔◌, ◌≤◌, ◌+◌, ℕ, zero, suc, Bool, true, false, List, [], ◌∷◌, inl, inr, refl, subst, arith, Some, slice_get}
 use Rattle.theory.specs.Lists.{Distinct, Has}
 use Rattle.rejoining.specs.Choosing.{kept_numbers}
 

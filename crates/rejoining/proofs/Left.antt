@@ -1,10 +1,8 @@
 -- What is left of a map, by the marks of its arcs and the ends of its lines.
-use Rattle.std.proofs.Common.{◌≡◌, ◌↔◌, ℕ, Bool, true, List, [], ◌∷◌, inl, inr, sym, ◌∙◌, subst, Result, Ok, Err, IfOk, None}
+use Rattle.std.proofs.Common.{◌≡◌, ◌↔◌, ℕ, Bool, List, [], inl, inr, sym, ◌∙◌, subst, Result, Ok, Err, IfOk, None}
 use Rattle.theory.specs.Geometry.{Geometry, IsSound, JunctionOf, SegmentOf}
-use Rattle.theory.specs.Laws.{IsOrder}
 use Rattle.theory.specs.Lists.{Has}
 use Rattle.theory.specs.Removing.{IsKept, KeptLaws}
-use Rattle.theory.specs.RemovingLaws.{IsLeft}
 use Rattle.theory.proofs.Pieces.{SegmentOf-apart}
 use Rattle.theory.proofs.RemovingKept.{part_sound}
 use Rattle.theory.proofs.RemovingProved.{kept_arcs_tell}

@@ -1,5 +1,5 @@
 -- What is counted at a vertex: whether no end, one, two, or three and more ends of arcs meet there.
-use Rattle.std.proofs.Common.{◌≡◌, ◌↔◌, ℕ, Bool, true, false, cond, List, [], ◌∷◌, ◌⊎◌, inl, inr, refl, sym, ap, ◌∙◌, subst, Option, Some, None, slice_get, option_map, reverse}
+use Rattle.std.proofs.Common.{◌≡◌, ◌↔◌, ℕ, Bool, true, false, cond, List, [], ◌∷◌, ◌⊎◌, inl, inr, refl, sym, ap, ◌∙◌, subst, Option, Some, None}
 use Rattle.std.specs.Ordering.{is_eq}
 use Rattle.theory.specs.ArcNumbers.{ArcRef, along}
 use Rattle.theory.specs.Lists.{Distinct, Has}

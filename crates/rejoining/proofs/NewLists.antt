@@ -1,12 +1,11 @@
 -- The new lists along the old ones, by the table of starts.
-use Rattle.std.proofs.Common.{◌≡◌, ℕ, zero, suc, ◌+◌, ◌-◌, ◌<◌, ◌≤◌, Bool, true, false, cond, List, [], ◌∷◌, ◌++◌, length, drop, take, refl, sym, ap, ◌∙◌, subst, arith, append_assoc, Option, Some, None}
+use Rattle.std.proofs.Common.{◌≡◌, ℕ, suc, ◌+◌, Bool, true, false, cond, List, [], ◌∷◌, ◌++◌, drop, take, refl, sym, ap, ◌∙◌, subst, arith, append_assoc, Some, None}
 use Rattle.theory.specs.ArcNumbers.{ArcRef, StitchTo}
 use Rattle.theory.specs.Geometry.{Geometry, IsSound, IsLineOf, IsRingOf, JunctionOf}
-use Rattle.theory.specs.Refinement.{IsPartOf, IsRefinementOf, turned_used}
+use Rattle.theory.specs.Refinement.{IsPartOf, IsRefinementOf}
 use Rattle.theory.specs.Removing.{AreStarts, Starts, before_start, from_start, is_start, rejoined, ring_rejoined, skipped, written}
 use Rattle.theory.specs.RemovingLaws.{IsLeft}
 use Rattle.theory.specs.Topology.{IsRingList}
-use Rattle.theory.proofs.Lists.{append_nil}
 use Rattle.theory.proofs.RemovingLists.{starts_once}
 use Rattle.theory.proofs.RemovingProved.{new_lists_along_old_ones}
 use Rattle.grid.specs.declared.pos.Pos.{Pos}

@@ -1,12 +1,12 @@
 -- The steps by which the starts of new arcs are noted.
-use Rattle.std.proofs.Common.{◌≡◌, ℕ, ◌+◌, Bool, true, false, cond, not, List, [], ◌∷◌, ◌++◌, length, map, reverse, refl, sym, ap, ◌∙◌, subst, Option, Some, None}
+use Rattle.std.proofs.Common.{◌≡◌, ℕ, ◌+◌, Bool, true, false, cond, not, List, [], ◌∷◌, ◌++◌, length, refl, sym, ap, ◌∙◌, Option, Some}
 use Rattle.std.proofs.lemmas.List.{length-map, length-reverse}
 use Rattle.std.specs.Option.{option_map}
 use Rattle.std.specs.Ordering.{is_eq, nat_cmp}
 use Rattle.theory.specs.ArcNumbers.{ArcRef, backwards, flipped}
 use Rattle.theory.specs.Removing.{Starts}
 use Rattle.rejoining.specs.declared.start_table.Start.{Start}
-use Rattle.rejoining.specs.Starts.{noted_start, same_way, with_arcs, with_head, with_start}
+use Rattle.rejoining.specs.Starts.{noted_start, with_arcs, with_head, with_start}
 use Rattle.rejoining.proofs.Turned.{back_step}
 
 abbrev seen_in : (ℕ → Option Start) → (ℕ → Option Start) → Starts

@@ -1,34 +1,20 @@
 -- The maximal chains over the segments of the arcs that stay, with these stops, are the arcs of what is left.
-use Rattle.std.proofs.Common.{◌≡◌, ◌↔◌, ℕ, Bool, true, false, List, [], ◌∷◌, ◌⊎◌, inl, inr, refl, sym, ap, ◌∙◌, subst, Some, slice_get}
-use Rattle.std.specs.declared.cmp.Ordering.TheVariants.{Less}
+use Rattle.std.proofs.Common.{◌≡◌, ◌↔◌, List, [], ◌∷◌, inl, inr, sym, subst}
 use Rattle.theory.specs.Arcs.{AreArcsOf}
-use Rattle.theory.specs.Chain.{Chain, Free, IsChain}
+use Rattle.theory.specs.Chain.{IsChain}
 use Rattle.theory.specs.Geometry.{AtMost, Geometry, IsSound, IsChainOf, JunctionOf, SegmentOf}
 use Rattle.theory.specs.Laws.{IsOrder}
-use Rattle.theory.specs.Lists.{Has, last_of}
-use Rattle.theory.specs.Removing.{IsKept, KeptLaws}
-use Rattle.theory.specs.RemovingLaws.{IsLeft}
-use Rattle.theory.specs.Segments.{TwoSegments}
-use Rattle.theory.proofs.Pieces.{SegmentOf-apart, two_segments_of}
+use Rattle.theory.specs.Lists.{last_of}
+use Rattle.theory.proofs.Pieces.{two_segments_of}
 use Rattle.theory.proofs.ProvedLaws.{each_segment_once}
-use Rattle.theory.proofs.RemovingKept.{part_sound}
-use Rattle.theory.proofs.RemovingProved.{kept_arcs_tell}
 use Rattle.grid.specs.declared.pos.Pos.{Pos}
-use Rattle.lines.specs.Turned.{position_cmp, list_cmp}
+use Rattle.lines.specs.Turned.{position_cmp}
 use Rattle.lines.specs.Positions.{position_total, position_same}
 use Rattle.lines.proofs.Positions.{position_dec}
-use Rattle.chains.specs.Among.{among, Tells}
 use Rattle.chains.specs.Arcs.{Arcs}
 use Rattle.chains.specs.Joined.{AmongSegments, SegmentsOf, StopAt, MeetsTwo, IsChainOver, AreParted, AreMaximal}
-use Rattle.chains.specs.Table.{free_at, IsTableOf}
+use Rattle.chains.specs.Table.{IsTableOf}
 use Rattle.chains.specs.declared.segment.Segment.{Segment}
-use Rattle.rejoining.specs.Along.{HasArcs}
-use Rattle.rejoining.specs.Choosing.{kept_numbers}
-use Rattle.rejoining.specs.Meeting.{noted_all, stop_all}
-use Rattle.rejoining.specs.Rejoining.{IsLeftBy}
-use Rattle.rejoining.proofs.Choices.{numbers_are, numbers_once}
-use Rattle.rejoining.proofs.Meetings.{stop_told, told_stop}
-use Rattle.rejoining.proofs.Siding.{arc_on, beside_sides, on_arc, sides_beside}
 
 order : IsOrder position_cmp
 order = record { total = position_total; same = position_same }

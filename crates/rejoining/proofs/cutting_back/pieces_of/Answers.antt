@@ -1,4 +1,3 @@
-use Rattle.std.proofs.Common.{IfOk, ◌≡◌, List, map, Result, Ok, Err}
 use Rattle.rejoining.proofs.CutBacks.{no_pieces, nothing, nothing_sound, refined_told, with_nothing}
 use Rattle.rejoining.proofs.cutting_back.pieces_of.Goals as goal
 

@@ -1,4 +1,4 @@
-use Rattle.std.proofs.Common.{◌≡◌, ap, sym, ◌∙◌}
+use Rattle.std.proofs.Common.{ap, sym, ◌∙◌}
 use Rattle.rejoining.specs.Meeting.{met_in, noted}
 use Rattle.rejoining.proofs.Stopping.{noted_step}
 use Rattle.rejoining.proofs.meeting.note_begin.Goals as goal

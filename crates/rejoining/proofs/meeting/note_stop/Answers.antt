@@ -1,4 +1,4 @@
-use Rattle.std.proofs.Common.{◌≡◌, ap, sym, ◌∙◌}
+use Rattle.std.proofs.Common.{ap, sym, ◌∙◌}
 use Rattle.chains.specs.Among.{among}
 use Rattle.rejoining.specs.Meeting.{is_more, met_in, stop_step}
 use Rattle.rejoining.proofs.Stopping.{stop_put, stop_left}

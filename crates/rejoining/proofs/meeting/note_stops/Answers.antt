@@ -1,4 +1,4 @@
-use Rattle.std.proofs.Common.{ap, sym, ◌∙◌, drop, get_or, ◌+◌, true, false}
+use Rattle.std.proofs.Common.{ap, sym, ◌∙◌, drop, get_or, ◌+◌, true}
 use Rattle.std.proofs.lemmas.List.{drop_more}
 use Rattle.chains.specs.Among.{among}
 use Rattle.rejoining.specs.Meeting.{begin_at, stop_step, stop_all, met_in}

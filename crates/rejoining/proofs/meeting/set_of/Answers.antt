@@ -1,4 +1,4 @@
-use Rattle.std.proofs.Common.{◌≡◌, ◌||◌, ap, sym, ◌∙◌, drop, ◌+◌}
+use Rattle.std.proofs.Common.{drop, ◌+◌}
 use Rattle.chains.specs.Among.{among}
 use Rattle.chains.proofs.Slices.{drop_item}
 use Rattle.rejoining.proofs.Siding.{none_left}

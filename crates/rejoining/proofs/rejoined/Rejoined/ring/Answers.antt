@@ -1,4 +1,4 @@
-use Rattle.std.proofs.Common.{◌≡◌, ◌≤◌, ◌∙◌, length, subst, sym, ap}
+use Rattle.std.proofs.Common.{◌≤◌, ◌∙◌, length, subst, sym, ap}
 use Rattle.theory.specs.Removing.{rejoined}
 use Rattle.rejoining.specs.RingStarts.{least_place}
 use Rattle.rejoining.specs.Starts.{starts_by}
