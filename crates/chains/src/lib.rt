@@ -17,7 +17,7 @@ pub mod used_arcs;
 pub mod visits;
 
 pub use cutting::{Piece, add_pieces, cut_arc, cut_line, cut_ring};
-pub use joining::{maximal, maximal_with};
+pub use joining::{maximal, maximal_over, maximal_with};
 pub use segment::Segment;
 pub use table::{ArcRef, ArcTable};
 pub use used_arcs::refs_of;

@@ -1,0 +1,12 @@
+pub mod Siding
+pub mod Stopping
+pub mod Choices
+pub mod Meetings
+pub mod Stepped
+pub mod CutBacks
+pub mod Tables
+pub mod Left
+pub mod Turned
+pub mod Begun
+pub mod NewLists
+pub mod Noting

@@ -1,0 +1,235 @@
+-- What is counted at a vertex: whether no end, one, two, or three and more ends of arcs meet there.
+use Rattle.std.proofs.Common.{◌≡◌, ◌↔◌, ℕ, Bool, true, false, cond, List, [], ◌∷◌, ◌⊎◌, inl, inr, refl, sym, ap, ◌∙◌, subst, Option, Some, None}
+use Rattle.std.specs.Ordering.{is_eq}
+use Rattle.theory.specs.ArcNumbers.{ArcRef, along}
+use Rattle.theory.specs.Lists.{Distinct, Has}
+use Rattle.theory.specs.Removing.{ThreeMeet}
+use Rattle.theory.specs.Standing.{BeginsAt}
+use Rattle.grid.specs.declared.pos.Pos.{Pos}
+use Rattle.lines.specs.Turned.{position_cmp}
+use Rattle.lines.proofs.Positions.{position_tied, tied_position, true_false}
+use Rattle.rejoining.specs.declared.meeting.Met.{Met}
+use Rattle.rejoining.specs.declared.meeting.Met.TheVariants.{One, Two, More}
+use Rattle.rejoining.specs.Meeting.{begin_at, first_if, is_more, met_again, noted, noted_all, stop_step, stop_all}
+
+abbrev ahead : ℕ → ArcRef
+ahead k = record { arc = k; reversed = false }
+
+abbrev against : ℕ → ArcRef
+against k = record { arc = k; reversed = true }
+
+-- what is counted says of the ends H
+abbrev Means : Option Met → (ArcRef → Type 0) → Type 0
+Means None H = (p : ArcRef) → ¬ H p
+Means (Some One) H = (a : ArcRef) × H a × ((p : ArcRef) → H p → p ≡ a)
+Means (Some Two) H = (a : ArcRef) × (b : ArcRef) × (¬ (a ≡ b)) × H a × H b × ((p : ArcRef) → H p → (p ≡ a) ⊎ (p ≡ b))
+Means (Some More) H = (a : ArcRef) × (b : ArcRef) × (c : ArcRef) × H a × H b × H c × (¬ (a ≡ b)) × (¬ (a ≡ c)) × (¬ (b ≡ c))
+
+Means-iff : (o : Option Met) (H G : ArcRef → Type 0) → ((p : ArcRef) → H p → G p) → ((p : ArcRef) → G p → H p) → Means o H → Means o G
+Means-iff None H G f g h = λ p k. h p (g p k)
+Means-iff (Some One) H G f g h = (h.0, f h.0 h.1, λ p k. h.2 p (g p k))
+Means-iff (Some Two) H G f g h = (h.0, h.1, h.2, f h.0 h.3, f h.1 h.4, λ p k. h.5 p (g p k))
+Means-iff (Some More) H G f g h = (h.0, h.1, h.2, f h.0 h.3, f h.1 h.4, f h.2 h.5, h.6, h.7, h.8)
+
+-- one end more, which is none of H
+Means-again : (o : Option Met) (H : ArcRef → Type 0) (n : ArcRef) → ¬ H n → Means o H → Means (Some (met_again o)) (λ p. (p ≡ n) ⊎ H p)
+Means-again None H n fresh h = (n, inl refl, λ p k. elim k [ inl e ↦ e | inr e ↦ absurd (h p e) ])
+Means-again (Some One) H n fresh h =
+    (h.0, n, (λ e. fresh (subst H e h.1)), inr h.1, inl refl, λ p k. elim k [ inl e ↦ inr e | inr e ↦ inl (h.2 p e) ])
+Means-again (Some Two) H n fresh h =
+    (h.0, h.1, n, inr h.3, inr h.4, inl refl, h.2, (λ e. fresh (subst H e h.3)), (λ e. fresh (subst H e h.4)))
+Means-again (Some More) H n fresh h = (h.0, h.1, h.2, inr h.3, inr h.4, inr h.5, h.6, h.7, h.8)
+
+some_same : (v q : Pos) → Some v ≡ Some q → v ≡ q
+some_same v q e = cc
+
+Means-noted : (q : Pos) (o : Option Met) (H : ArcRef → Type 0) (n : ArcRef) (at : Option Pos) → ¬ H n → Means o H →
+    Means (noted q o at) (λ p. ((p ≡ n) × (at ≡ Some q)) ⊎ H p)
+Means-noted q o H n None fresh h =
+    Means-iff o H (λ p. ((p ≡ n) × (None ≡ Some q)) ⊎ H p) (λ p k. inr k) (λ p k. elim k [ inl e ↦ absurd (let f = e.1 in cc) | inr e ↦ e ]) h
+Means-noted q o H n (Some v) fresh h = go (is_eq (position_cmp v q)) refl
+  where
+    go : (b : Bool) → is_eq (position_cmp v q) ≡ b → Means (cond b (Some (met_again o)) o) (λ p. ((p ≡ n) × (Some v ≡ Some q)) ⊎ H p)
+    go true e =
+        Means-iff (Some (met_again o)) (λ p. (p ≡ n) ⊎ H p) (λ p. ((p ≡ n) × (Some v ≡ Some q)) ⊎ H p)
+        (λ p k. elim k [ inl f ↦ inl (f, ap Some (position_tied v q e)) | inr f ↦ inr f ])
+        (λ p k. elim k [ inl f ↦ inl f.0 | inr f ↦ inr f ]) (Means-again o H n fresh h)
+    go false e =
+        Means-iff o H (λ p. ((p ≡ n) × (Some v ≡ Some q)) ⊎ H p) (λ p k. inr k)
+        (λ p k. elim k [ inl f ↦ absurd (true_false (is_eq (position_cmp v q)) (tied_position v q (some_same v q f.1)) e) | inr f ↦ f ]) h
+
+module _ (arcs : List (List Pos)) (q : Pos) where
+  -- a used arc of one of the numbers begins at q
+  abbrev Begins : List ℕ → ArcRef → Type 0
+  Begins ks p = Has p.arc ks × (begin_at arcs p.arc p.reversed ≡ Some q)
+
+  -- one end of arc k more, and both
+  abbrev First : (ArcRef → Type 0) → ℕ → ArcRef → Type 0
+  First H k p = ((p ≡ ahead k) × (begin_at arcs k false ≡ Some q)) ⊎ H p
+
+  abbrev Both : (ArcRef → Type 0) → ℕ → ArcRef → Type 0
+  Both H k p = ((p ≡ against k) × (begin_at arcs k true ≡ Some q)) ⊎ First H k p
+
+  Means-all : (o : Option Met) (H : ArcRef → Type 0) (ks : List ℕ) → Distinct ks → ((k : ℕ) → Has k ks → (r : Bool) → ¬ H (record { arc = k; reversed = r })) →
+      Means o H → Means (noted_all arcs q o ks) (λ p. Begins ks p ⊎ H p)
+  Means-all o H [] once fresh h = Means-iff o H (λ p. Begins [] p ⊎ H p) (λ p k. inr k) (λ p k. elim k [ inl z ↦ absurd z.0 | inr f ↦ f ]) h
+  Means-all o H (k ∷ ks) once fresh h =
+      Means-iff (noted_all arcs q o (k ∷ ks)) (λ p. Begins ks p ⊎ Both H k p) (λ p. Begins (k ∷ ks) p ⊎ H p) to back
+      (Means-all (noted q (noted q o (begin_at arcs k false)) (begin_at arcs k true)) (Both H k) ks once.1 later
+      (Means-noted q (noted q o (begin_at arcs k false)) (First H k) (against k) (begin_at arcs k true)
+      (λ f. elim f [ inl e ↦ absurd (let g : true ≡ false = ap (λ w. w.reversed) e.0 in cc) | inr e ↦ fresh k (inl refl) true e ])
+      (Means-noted q o H (ahead k) (begin_at arcs k false) (fresh k (inl refl) false) h)))
+    where
+      later : (j : ℕ) → Has j ks → (r : Bool) → ¬ Both H k (record { arc = j; reversed = r })
+      later j i r (inl e) = once.0 (subst (λ n. Has n ks) (ap (λ w. w.arc) e.0) i)
+      later j i r (inr (inl e)) = once.0 (subst (λ n. Has n ks) (ap (λ w. w.arc) e.0) i)
+      later j i r (inr (inr e)) = fresh j (inr i) r e
+
+      to : (p : ArcRef) → Begins ks p ⊎ Both H k p → Begins (k ∷ ks) p ⊎ H p
+      to p (inl b) = inl (inr b.0, b.1)
+      to p (inr (inl e)) = inl (inl (ap (λ w. w.arc) e.0), (λ i. begin_at arcs (e.0 i).arc (e.0 i).reversed) ∙ e.1)
+      to p (inr (inr (inl e))) = inl (inl (ap (λ w. w.arc) e.0), (λ i. begin_at arcs (e.0 i).arc (e.0 i).reversed) ∙ e.1)
+      to p (inr (inr (inr e))) = inr e
+
+      same : (p : ArcRef) (r : Bool) → p.arc ≡ k → p.reversed ≡ r → p ≡ record { arc = k; reversed = r }
+      same p r e f = λ i. record { arc = e i; reversed = f i }
+
+      way : (p : ArcRef) (r : Bool) → p.reversed ≡ r → p.arc ≡ k → begin_at arcs p.arc p.reversed ≡ Some q → Begins ks p ⊎ Both H k p
+      way p false e f b = inr (inr (inl (same p false f e, (λ i. begin_at arcs (sym f i) (sym e i)) ∙ b)))
+      way p true e f b = inr (inl (same p true f e, (λ i. begin_at arcs (sym f i) (sym e i)) ∙ b))
+
+      back : (p : ArcRef) → Begins (k ∷ ks) p ⊎ H p → Begins ks p ⊎ Both H k p
+      back p (inl (inl e, b)) = way p p.reversed refl e b
+      back p (inl (inr i, b)) = inl (i, b)
+      back p (inr e) = inr (inr (inr e))
+
+  -- what is counted in the end
+  pub counted : (ks : List ℕ) → Distinct ks → Means (noted_all arcs q None ks) (Begins ks)
+  counted ks once =
+      Means-iff (noted_all arcs q None ks) (λ p. Begins ks p ⊎ ⊥) (Begins ks) (λ p k. elim k [ inl b ↦ b | inr z ↦ absurd z ]) (λ p k. inl k)
+      (Means-all None (λ p. ⊥) ks once (λ k h r z. z) (λ p z. z))
+
+  begins_at : (p : ArcRef) → begin_at arcs p.arc p.reversed ≡ Some q → BeginsAt arcs q p
+  begins_at p e = go (along arcs p) refl e
+    where
+      go : (o : Option (List Pos)) → along arcs p ≡ o → first_if o ≡ Some q → BeginsAt arcs q p
+      go None f k = absurd cc
+      go (Some []) f k = absurd cc
+      go (Some (x ∷ l)) f k = (l, f ∙ ap (λ w. Some (w ∷ l)) (some_same x q k))
+
+  at_begins : (p : ArcRef) → BeginsAt arcs q p → begin_at arcs p.arc p.reversed ≡ Some q
+  at_begins p t = ap first_if t.1
+
+  -- three meet where so many are counted
+  module _ (kept : ℕ → Type 0) (ks : List ℕ) (once : Distinct ks) (are : (k : ℕ) → Has k ks ↔ kept k) where
+    three_counted : is_more (noted_all arcs q None ks) ≡ true → ThreeMeet kept arcs q
+    three_counted e = go (noted_all arcs q None ks) (counted ks once) e
+      where
+        go : (o : Option Met) → Means o (Begins ks) → is_more o ≡ true → ThreeMeet kept arcs q
+        go None m k = absurd cc
+        go (Some One) m k = absurd cc
+        go (Some Two) m k = absurd cc
+        go (Some More) m k = (
+          m.0,
+          m.1,
+          m.2,
+          (are m.0.arc).0 m.3.0,
+          (are m.1.arc).0 m.4.0,
+          (are m.2.arc).0 m.5.0,
+          begins_at m.0 m.3.1,
+          begins_at m.1 m.4.1,
+          begins_at m.2 m.5.1,
+          m.6,
+          m.7,
+          m.8,
+        )
+
+    counted_three : ThreeMeet kept arcs q → is_more (noted_all arcs q None ks) ≡ true
+    counted_three t = go (noted_all arcs q None ks) (counted ks once)
+      where
+        a : Begins ks t.0
+        a = ((are t.0.arc).1 t.3, at_begins t.0 t.6)
+
+        b : Begins ks t.1
+        b = ((are t.1.arc).1 t.4, at_begins t.1 t.7)
+
+        c : Begins ks t.2
+        c = ((are t.2.arc).1 t.5, at_begins t.2 t.8)
+
+        go : (o : Option Met) → Means o (Begins ks) → is_more o ≡ true
+        go None m = absurd (m t.0 a)
+        go (Some One) m = absurd (t.9 (m.2 t.0 a ∙ sym (m.2 t.1 b)))
+        go (Some More) m = refl
+        go (Some Two) m =
+            absurd (elim (m.5 t.0 a) [
+              | inl e ↦ elim (m.5 t.1 b) [
+                | inl f ↦ t.9 (e ∙ sym f)
+                | inr f ↦ elim (m.5 t.2 c) [ inl g ↦ t.10 (e ∙ sym g) | inr g ↦ t.11 (f ∙ sym g) ]
+              ]
+              | inr e ↦ elim (m.5 t.1 b) [
+                | inr f ↦ t.9 (e ∙ sym f)
+                | inl f ↦ elim (m.5 t.2 c) [ inr g ↦ t.10 (e ∙ sym g) | inl g ↦ t.11 (f ∙ sym g) ]
+              ]
+            ])
+
+-- the stops that the code notes
+module _ (arcs : List (List Pos)) (f : Pos → Option Met) (q : Pos) where
+  step_kept : (o : Option Pos) → stop_step f q true o ≡ true
+  step_kept None = refl
+  step_kept (Some v) = go (is_more (f v)) (is_eq (position_cmp v q))
+    where
+      go : (a b : Bool) → cond a (cond b true true) true ≡ true
+      go true true = refl
+      go true false = refl
+      go false b = refl
+
+  all_kept : (ks : List ℕ) → stop_all arcs f q true ks ≡ true
+  all_kept [] = refl
+  all_kept (k ∷ ks) =
+      (λ i. stop_all arcs f q (stop_step f q (step_kept (begin_at arcs k false) i) (begin_at arcs k true)) ks)
+      ∙ ap (λ b. stop_all arcs f q b ks) (step_kept (begin_at arcs k true)) ∙ all_kept ks
+
+  step_met : (b : Bool) (o : Option Pos) → is_more (f q) ≡ true → o ≡ Some q → stop_step f q b o ≡ true
+  step_met b o h e = ap (stop_step f q b) e ∙ rw (h, tied_position q q refl) refl
+
+  all_met : (b : Bool) (ks : List ℕ) (k : ℕ) (r : Bool) → is_more (f q) ≡ true → Has k ks → begin_at arcs k r ≡ Some q → stop_all arcs f q b ks ≡ true
+  all_met b [] k r h i e = absurd i
+  all_met b (j ∷ ks) k r h (inr i) e = all_met (stop_step f q (stop_step f q b (begin_at arcs j false)) (begin_at arcs j true)) ks k r h i e
+  all_met b (j ∷ ks) k true h (inl i) e =
+      ap (λ w. stop_all arcs f q w ks) (step_met (stop_step f q b (begin_at arcs j false)) (begin_at arcs j true) h (ap (λ n. begin_at arcs n true) (sym i) ∙ e)) ∙ all_kept ks
+  all_met b (j ∷ ks) k false h (inl i) e =
+      ap (λ w. stop_all arcs f q (stop_step f q w (begin_at arcs j true)) ks) (step_met b (begin_at arcs j false) h (ap (λ n. begin_at arcs n false) (sym i) ∙ e))
+      ∙ ap (λ w. stop_all arcs f q w ks) (step_kept (begin_at arcs j true)) ∙ all_kept ks
+
+  step_from : (b : Bool) (o : Option Pos) → stop_step f q b o ≡ true → (b ≡ true) ⊎ (is_more (f q) ≡ true)
+  step_from b None e = inl e
+  step_from b (Some v) e = go (is_more (f v)) refl (is_eq (position_cmp v q)) refl e
+    where
+      go : (a : Bool) → is_more (f v) ≡ a → (c : Bool) → is_eq (position_cmp v q) ≡ c → cond a (cond c true b) b ≡ true → (b ≡ true) ⊎ (is_more (f q) ≡ true)
+      go true h true g k = inr (subst (λ w. is_more (f w) ≡ true) (position_tied v q g) h)
+      go true h false g k = inl k
+      go false h c g k = inl k
+
+  all_from : (b : Bool) (ks : List ℕ) → stop_all arcs f q b ks ≡ true → (b ≡ true) ⊎ (is_more (f q) ≡ true)
+  all_from b [] e = inl e
+  all_from b (k ∷ ks) e =
+      elim (all_from (stop_step f q (stop_step f q b (begin_at arcs k false)) (begin_at arcs k true)) ks e) [
+        | inr h ↦ inr h
+        | inl h ↦ elim (step_from (stop_step f q b (begin_at arcs k false)) (begin_at arcs k true) h) [
+          | inr i ↦ inr i
+          | inl i ↦ step_from b (begin_at arcs k false) i
+        ]
+      ]
+
+-- the stops: those that were there, and where three ends of these arcs meet
+module _ (arcs : List (List Pos)) (kept : ℕ → Type 0) (ks : List ℕ) (once : Distinct ks) (are : (k : ℕ) → Has k ks ↔ kept k) (q : Pos) (b : Bool) where
+  abbrev met : Pos → Option Met
+  met v = noted_all arcs v None ks
+
+  pub stop_told : stop_all arcs met q b ks ≡ true → (b ≡ true) ⊎ ThreeMeet kept arcs q
+  stop_told e = elim (all_from arcs met q b ks e) [ inl h ↦ inl h | inr h ↦ inr (three_counted arcs q kept ks once are h) ]
+
+  pub told_stop : (b ≡ true) ⊎ ThreeMeet kept arcs q → stop_all arcs met q b ks ≡ true
+  told_stop (inl e) = ap (λ w. stop_all arcs met q w ks) e ∙ all_kept arcs met q ks
+  told_stop (inr t) =
+      all_met arcs met q b ks t.0.arc t.0.reversed (counted_three arcs q kept ks once are t) ((are t.0.arc).1 t.3) (at_begins arcs q t.0 t.6)

@@ -1,0 +1,14 @@
+//! The arcs that are left of a table when some are taken out, joined again.
+#![tactic(auto)]
+
+mod choosing;
+mod cutting_back;
+mod meeting;
+pub mod rejoined;
+pub mod rejoining;
+mod sides;
+mod start_table;
+mod starting;
+
+pub use rejoined::Rejoined;
+pub use rejoining::rejoin;

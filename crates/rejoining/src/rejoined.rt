@@ -1,0 +1,149 @@
+//! What is left of a table of arcs.
+ghost use Rattle.std.specs.Prelude.{◌≡◌, ◌≤◌, ◌++◌, ◌∷◌, List, IfOk, length, slice_get};
+ghost use Rattle.std.specs.Option.{option_map};
+ghost use Rattle.grid.specs.declared.pos.Pos.{Pos};
+ghost use Rattle.lines.specs.Turned.{position_cmp};
+ghost use Rattle.theory.specs.ArcNumbers as numbers;
+ghost use Rattle.theory.specs.ArcNumbers.{StitchTo};
+ghost use Rattle.theory.specs.Geometry.{Geometry, IsSound, IsLineOf, IsRingOf, JunctionOf};
+ghost use Rattle.theory.specs.Refinement.{IsPartOf, IsRefinementOf};
+ghost use Rattle.theory.specs.Removing.{before_start, from_start, rejoined, ring_rejoined};
+ghost use Rattle.theory.specs.Topology.{IsRingList};
+ghost use Rattle.rejoining.specs.Starts.{first_place, starts_by};
+
+use crate::start_table::StartTable;
+use crate::starting::place_of_start;
+use chains::table::{ArcRef, ArcTable};
+use faults::OutOfMemory;
+use lines::items::Items;
+use std::alloc::{AllocError, Global};
+use std::marker::Model;
+
+/// The arcs of what is left, and for each of them the old arcs that it was joined of.
+#[derive(Drop)]
+pub struct Rejoined {
+    arcs: ArcTable,
+    pieces: Vec<Items<ArcRef>>,
+    starts: StartTable,
+}
+
+impl Model for Rejoined {
+    ghost use Rattle.rejoining.specs.Parts.{RejoinedParts};
+    ghost use Rattle.rejoining.specs.Starts.{AreNotedIn};
+
+    ghost Value = { RejoinedParts };
+
+    ghost view = { λ a. record { arcs = a.arcs; pieces = a.pieces.items } };
+
+    ghost invariant = { λ a. AreNotedIn a.starts a.pieces.items };
+}
+
+impl Rejoined {
+    pub(crate) fn from_parts(
+        alloc: Global,
+        arcs: ArcTable,
+        pieces: Vec<Items<ArcRef>>,
+    ) -> Result<Rejoined, AllocError>
+        ensures { IfOk result (λ r. r ≡ record { arcs = arcs; pieces = pieces.items }) }
+    {
+        let starts = StartTable::of(alloc, &pieces)?;
+        Ok(Rejoined {
+            arcs,
+            pieces,
+            starts,
+        })
+    }
+
+    /// The arcs of what is left.
+    pub fn arcs(&self) -> &ArcTable
+        ensures { result.now ≡ self.now.arcs }
+    {
+        &self.arcs
+    }
+
+    /// The old arcs that a new one was joined of, in order along it; those of a free loop that met a
+    /// junction are read from its least one. `None` exactly past the new arcs.
+    pub fn pieces(&self, number: usize) -> Option<&[ArcRef]>
+        ensures { option_map (λ r. r.now) result ≡ slice_get self.now.pieces number }
+    {
+        match self.pieces.get(number) {
+            Some(pieces) => Some(pieces.as_slice()),
+            None => None,
+        }
+    }
+
+    /// Reads one used old arc: it is skipped, or the new arc that it begins is added. Answers how many
+    /// are to be skipped behind it.
+    fn read(&self, refs: &mut Vec<ArcRef>, skip: usize, used: &ArcRef) -> Result<usize, AllocError>
+        ensures { IfOk result (λ n. (rest : List numbers.ArcRef) → refs.new.items ++ rejoined (starts_by self.now.pieces) n rest ≡ refs.old.items ++ rejoined (starts_by self.now.pieces) skip (used.now ∷ rest)) }
+    {
+        if skip > 0 {
+            return Ok(skip - 1);
+        }
+        match self.starts.get(used) {
+            None => Ok(0),
+            Some(start) => {
+                refs.push(ArcRef {
+                    arc: start.arc,
+                    reversed: start.reversed,
+                })?;
+                Ok(start.others)
+            }
+        }
+    }
+
+    /// The list of a line of what is left, from its list by the old arcs.
+    ///
+    /// # Errors
+    /// Where memory is refused.
+    pub fn line(&self, alloc: Global, used: &[ArcRef]) -> Result<Vec<ArcRef>, OutOfMemory>
+        ensures computed { IfOk result (λ v. v.items ≡ rejoined (starts_by self.now.pieces) 0 used.now) }
+        ensures stitches { IfOk result (λ v. (g u : Geometry Pos) (old : List (List Pos)) (l : List Pos) → IsSound u → IsPartOf g u → IsRefinementOf position_cmp g u self.now.arcs.arcs old self.now.pieces → IsLineOf g l → StitchTo old used.now l → StitchTo self.now.arcs.arcs v.items l) }
+    {
+        let mut refs = Vec::new(alloc);
+        let mut skip = 0;
+        for arc in used {
+            skip = self.read(&mut refs, skip, arc)?;
+        }
+        Ok(refs)
+    }
+
+    /// The place of the first used old arc that begins a new one.
+    fn first_start(&self, used: &[ArcRef]) -> usize
+        ensures place { result ≡ first_place (starts_by self.now.pieces) used.now }
+        ensures within { result ≤ length used.now }
+    {
+        for (i, arc) in used.iter().enumerate() {
+            if self.starts.get(arc).is_some() {
+                return i;
+            }
+        }
+        used.len()
+    }
+
+    /// The list from the first used old arc that begins a new one on, and then those before it.
+    fn turned(&self, alloc: Global, used: &[ArcRef]) -> Result<Vec<ArcRef>, AllocError>
+        ensures { IfOk result (λ v. v.items ≡ from_start (starts_by self.now.pieces) used.now ++ before_start (starts_by self.now.pieces) used.now) }
+    {
+        let place = self.first_start(used);
+        let mut refs = Vec::with_capacity(alloc, used.len())?;
+        refs.extend_from_slice(used)?;
+        refs.rotate_left(place);
+        Ok(refs)
+    }
+
+    /// The list of a ring of what is left, from its list by the old arcs.
+    ///
+    /// # Errors
+    /// Where memory is refused.
+    pub fn ring(&self, alloc: Global, used: &[ArcRef]) -> Result<Vec<ArcRef>, OutOfMemory>
+        ensures computed { IfOk result (λ v. v.items ≡ ring_rejoined position_cmp self.now.arcs.arcs (starts_by self.now.pieces) used.now) }
+        ensures stitches { IfOk result (λ v. (g u : Geometry Pos) (old : List (List Pos)) (r : List Pos) → IsSound u → IsPartOf g u → IsRefinementOf position_cmp g u self.now.arcs.arcs old self.now.pieces → IsRingOf g r → IsRingList position_cmp (JunctionOf u) old r used.now → IsRingList position_cmp (JunctionOf g) self.now.arcs.arcs r v.items) }
+    {
+        let turned = self.turned(alloc, used)?;
+        let mut refs = self.line(alloc, &turned)?;
+        let place = place_of_start(&self.arcs, &refs);
+        refs.rotate_left(place);
+        Ok(refs)
+    }
+}

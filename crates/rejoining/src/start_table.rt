@@ -1,0 +1,96 @@
+//! Which new arc begins with which old one.
+ghost use Rattle.std.specs.Prelude.{◌≡◌, IfOk, OnOk, true, false};
+ghost use Rattle.std.specs.Option.{option_map};
+ghost use Rattle.theory.specs.ArcNumbers as numbers;
+ghost use Rattle.theory.specs.ArcNumbers.{backwards};
+ghost use Rattle.rejoining.specs.Starts.{AreNotedIn, noted_start, starts_in, with_head, with_start};
+
+use chains::table::ArcRef;
+use lines::items::Items;
+use std::alloc::{AllocError, Global};
+use std::collections::BTreeMap;
+
+/// A used new arc, and how many old ones it takes behind its first.
+#[derive(Clone, Copy, PartialEq, Eq, Debug)]
+pub(crate) struct Start {
+    pub(crate) arc: usize,
+    pub(crate) reversed: bool,
+    pub(crate) others: usize,
+}
+
+/// The used new arcs by the used old ones that they begin with: by the numbers of those that are used
+/// ahead, and of those that are used reversed.
+#[derive(Drop)]
+pub(crate) struct StartTable {
+    ahead: BTreeMap<usize, Start>,
+    against: BTreeMap<usize, Start>,
+}
+
+impl StartTable {
+    fn note(&mut self, arc: usize, reversed: bool, start: Start) -> Result<(), AllocError>
+        ensures { OnOk result ((q : numbers.ArcRef) → starts_in self.new q ≡ with_start (record { arc = arc; reversed = reversed }) (noted_start start) (starts_in self.old) q) }
+    {
+        if reversed {
+            self.against.insert(arc, start)?;
+            return Ok(());
+        }
+        self.ahead.insert(arc, start)?;
+        Ok(())
+    }
+
+    /// Notes a new arc at the old one that it begins with.
+    fn note_ahead(&mut self, number: usize, pieces: &[ArcRef]) -> Result<(), AllocError>
+        ensures { OnOk result ((q : numbers.ArcRef) → starts_in self.new q ≡ with_head (record { arc = number; reversed = false }) pieces.now (starts_in self.old) q) }
+    {
+        let Some((first, rest)) = pieces.split_first() else {
+            return Ok(());
+        };
+        let start = Start {
+            arc: number,
+            reversed: false,
+            others: rest.len(),
+        };
+        self.note(first.arc, first.reversed, start)
+    }
+
+    /// Notes a reversed new arc at the old one that it begins with.
+    fn note_against(&mut self, number: usize, pieces: &[ArcRef]) -> Result<(), AllocError>
+        ensures { OnOk result ((q : numbers.ArcRef) → starts_in self.new q ≡ with_head (record { arc = number; reversed = true }) (backwards pieces.now) (starts_in self.old) q) }
+    {
+        let Some((last, rest)) = pieces.split_last() else {
+            return Ok(());
+        };
+        let start = Start {
+            arc: number,
+            reversed: true,
+            others: rest.len(),
+        };
+        self.note(last.arc, !last.reversed, start)
+    }
+
+    /// The table of all new arcs, each with its pieces.
+    pub(crate) fn of(alloc: Global, pieces: &[Items<ArcRef>]) -> Result<StartTable, AllocError>
+        ensures { IfOk result (λ t. AreNotedIn t pieces.now) }
+    {
+        let mut table = StartTable {
+            ahead: BTreeMap::new(alloc),
+            against: BTreeMap::new(alloc),
+        };
+        for (i, list) in pieces.iter().enumerate() {
+            table.note_ahead(i, list.as_slice())?;
+            table.note_against(i, list.as_slice())?;
+        }
+        Ok(table)
+    }
+
+    /// The used new arc that begins with a used old one.
+    pub(crate) fn get(&self, used: &ArcRef) -> Option<Start>
+        ensures { option_map noted_start result ≡ starts_in self.now used.now }
+    {
+        if used.reversed {
+            self.against.get(&used.arc).copied()
+        } else {
+            self.ahead.get(&used.arc).copied()
+        }
+    }
+}

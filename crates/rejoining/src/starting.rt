@@ -1,0 +1,76 @@
+//! Where the list of a ring begins: at the used arc that starts least.
+ghost use Rattle.std.specs.Prelude.{◌≡◌, Some, reverse};
+ghost use Rattle.std.specs.Ordering.{is_gt};
+ghost use Rattle.theory.specs.ArcNumbers.{along};
+ghost use Rattle.rejoining.specs.RingStarts.{start_of, key_of, key_cmp, least_place};
+
+use chains::table::{ArcRef, ArcTable};
+use grid::pos::Pos;
+
+/// The first two vertices along a used arc.
+#[derive(Clone, Copy, PartialEq, Eq, PartialOrd, Ord, Debug)]
+struct Key {
+    first: Option<Pos>,
+    second: Option<Pos>,
+}
+
+fn key_against(arc: &[Pos]) -> Key
+    ensures { result ≡ key_of (reverse arc.now) }
+{
+    let Some((first, others)) = arc.split_last() else {
+        return Key {
+            first: None,
+            second: None,
+        };
+    };
+    Key {
+        first: Some(*first),
+        second: others.last().copied(),
+    }
+}
+
+fn key_along(arcs: &ArcTable, used: &ArcRef) -> Key
+    ensures { result ≡ start_of arcs.now.arcs used.now }
+{
+    match arcs.arc(used.arc) {
+        Some(arc) => {
+            if used.reversed {
+                key_against(arc)
+            } else {
+                Key {
+                    first: arc.get(0).copied(),
+                    second: arc.get(1).copied(),
+                }
+            }
+        }
+        None => Key {
+            first: None,
+            second: None,
+        },
+    }
+}
+
+fn comes_after(a: &Key, b: &Key) -> bool
+    ensures { result ≡ is_gt (key_cmp a.now b.now) }
+{
+    a > b
+}
+
+/// The place of the first used arc that starts least.
+pub(crate) fn place_of_start(arcs: &ArcTable, used: &[ArcRef]) -> usize
+    ensures { result ≡ least_place arcs.now.arcs used.now }
+{
+    let Some((first, others)) = used.split_first() else {
+        return 0;
+    };
+    let mut place = 0;
+    let mut least = key_along(arcs, first);
+    for (i, arc) in others.iter().enumerate() {
+        let key = key_along(arcs, arc);
+        if comes_after(&least, &key) {
+            place = i + 1;
+            least = key;
+        }
+    }
+    place
+}
