@@ -147,9 +147,9 @@ first_place : (stop : Pos → Bool) (x y : Pos) (q : List Pos) → ((v : Pos) �
 first_place stop x y q none most d =
     none_before (start_of stop x y) 0 1 (starts_from stop x y q)
     (λ k h.
-      (let t = start_from stop x y q k h in
-      subst (λ w. is_lt (start_cmp w (start_of stop x y)) ≡ false) (sym t.3)
-      (later stop x y t.0 t.1 (none x (inl refl)) (none t.0 (inr t.2)) (most t.0 t.2) (λ e. d (subst (λ w. Has w (y ∷ q)) e t.2)))))
+    (let t = start_from stop x y q k h in
+    subst (λ w. is_lt (start_cmp w (start_of stop x y)) ≡ false) (sym t.3)
+    (later stop x y t.0 t.1 (none x (inl refl)) (none t.0 (inr t.2)) (most t.0 t.2) (λ e. d (subst (λ w. Has w (y ∷ q)) e t.2)))))
 
 ring_uncut : (stop : Pos → Bool) (x y : Pos) (q : List Pos) → stop x ≡ false → start_place stop (x ∷ (y ∷ q)) ≡ 0 → ring_parts stop (x ∷ (y ∷ q)) ≡ closed (x ∷ (y ∷ q)) ∷ []
 ring_uncut stop x y q e p =
@@ -254,7 +254,7 @@ module _ (m n : Geometry Pos) (sm : IsSound m) (s t : Arcs) (ms : IsTableOf m s)
   side_whole js index marks e i c g f =
       let h = get_has s.arcs i c g in
       let unmet : has_some (arc_shared (may_hold bits) s.loops c) ≡ false =
-        sym (mapped_at (λ d. has_some (arc_shared (may_hold bits) s.loops d)) s.arcs i c g) ∙ sym (ap (λ w. get_or w i true) e) ∙ f in
+      sym (mapped_at (λ d. has_some (arc_shared (may_hold bits) s.loops d)) s.arcs i c g) ∙ sym (ap (λ w. get_or w i true) e) ∙ f in
       stays_whole m sm s ms a js index am.open_left c h
       (λ w k. alone m n sm s t ms a am c h w k (λ d j i. true_false (may_hold bits w.vertex) (hold d j w.vertex i) (none_shared (may_hold bits) (arc_visits s.loops c) unmet w k)))
 
@@ -303,7 +303,7 @@ module _ (m n : Geometry Pos) (sm : IsSound m) (sn : IsSound n) (s t : Arcs) (ms
     ];
     clashing = λ v w h k f d.
         let j = clash_seen (tables_as_map s t) ends all_visits are v.vertex
-          (record { one = v; other = w; has_one = h; has_other = k; at_one = refl; at_other = sym f; differ = d }) in
+        (record { one = v; other = w; has_one = h; has_other = k; at_one = refl; at_other = sym f; differ = d }) in
         subst (Has v) (sym e) (elim (Has-append v (gathered (arc_visits s.loops) s.arcs) (gathered (arc_visits t.loops) t.arcs) h) [
           | inl i ↦ Has-append_left v (gathered (arc_shared (may_hold of_t) s.loops) s.arcs) (gathered (arc_shared (may_hold of_s) t.loops) t.arcs)
               (side_kept m n sm s t ms (tables_as_map s t) am of_t hold_t v i j)

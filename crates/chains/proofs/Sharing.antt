@@ -15,8 +15,8 @@ use Rattle.chains.proofs.TablesAsMap.{given, answered}
 more_bits : (a k m : ℕ) → bit_and a m ≡ m → bit_and (bit_or a k) m ≡ m
 more_bits a k m e = same_from_bits (bit_and (bit_or a k) m) m
     (λ i.
-      (let p : min (bit_at a i) (bit_at m i) ≡ bit_at m i = sym (bit_at_and a m i) ∙ ap (λ w. bit_at w i) e in
-      bit_at_and (bit_or a k) m i ∙ ap (λ w. min w (bit_at m i)) (bit_at_or a k i) ∙ least (bit_at a i) (bit_at k i) (bit_at m i) p))
+    (let p : min (bit_at a i) (bit_at m i) ≡ bit_at m i = sym (bit_at_and a m i) ∙ ap (λ w. bit_at w i) e in
+    bit_at_and (bit_or a k) m i ∙ ap (λ w. min w (bit_at m i)) (bit_at_or a k i) ∙ least (bit_at a i) (bit_at k i) (bit_at m i) p))
   where
     least : (x y z : ℕ) → min x z ≡ z → min (max x y) z ≡ z
     least x y z p = omega (arith, p)

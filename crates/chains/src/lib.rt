@@ -2,7 +2,6 @@
 //! the maximal chains over any segments.
 #![tactic(auto)]
 
-
 pub mod cutting;
 pub mod joining;
 mod merging;
