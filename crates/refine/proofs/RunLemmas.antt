@@ -1,7 +1,7 @@
 -- What is left to do of a plan that is run over a stack of shards.
-use Rattle.std.proofs.Common.{◌≡◌, ℕ, ◌+◌, ◌*◌, ◌<◌, List, [], ◌∷◌, ◌++◌, Bor, length, refl, sym, ◌∙◌, ap, subst}
+use Rattle.std.proofs.Common.{◌≡◌, ℕ, ◌+◌, ◌*◌, ◌<◌, ◌≤◌, List, [], ◌∷◌, ◌++◌, Bor, length, refl, sym, ◌∙◌, ap, subst, arith}
 use Rattle.std.specs.Prelude.{map as map_list, reverse, All, Some, Result, Err, ◌↔◌}
-use Rattle.std.proofs.lemmas.List.{reverse-append}
+use Rattle.std.proofs.lemmas.List.{reverse-append, length-reverse}
 use Rattle.std.proofs.lemmas.List.Elements.{All-pop}
 use Rattle.grid.specs.Place.{Transform}
 use Rattle.shapes.specs.Maps.{Layers}
@@ -13,6 +13,7 @@ use Rattle.refine.specs.declared.plan.Plan.TheVariants.{Leaf}
 use Rattle.refine.specs.declared.running.Task.{Task}
 use Rattle.refine.specs.declared.running.Task.TheVariants.{Run, Join}
 use Rattle.refine.specs.Plans.{leaves, HasPlaces, union_at}
+use Rattle.refine.specs.Running.{LastJoined}
 use Rattle.refine.proofs.PlanSizes.{size}
 use Rattle.refine.proofs.PlanLemmas.{union_at-append}
 
@@ -72,18 +73,21 @@ module _ {S : Type 0} (map_of : S → Layers) (shards : List S) where
       subst (λ w. Gives map_of shards w stack m) (sym order) apart
 
   -- the two shards made last are joined
-  pub two_joined : (tasks : List Task) (made first second more : List S) (a b s : S) (m : Layers) → Gives map_of shards (Join ∷ tasks) (reverse made) m →
-      made ≡ first ++ (b ∷ []) → first ≡ second ++ (a ∷ []) → more ≡ second ++ (s ∷ []) → map_of s ≡ union (map_of a) (map_of b) → Gives map_of shards tasks (reverse more) m
-  two_joined tasks made first second more a b s m h e f g is =
-      let stack : reverse made ≡ b ∷ (a ∷ reverse second) = last_first made first b e ∙ ap (λ w. b ∷ w) (last_first first second a f) in
-      let ready : Gives map_of shards (Join ∷ tasks) (b ∷ (a ∷ reverse second)) m = subst (λ w. Gives map_of shards (Join ∷ tasks) w m) stack h in
-      subst (λ w. Gives map_of shards tasks w m) (sym (last_first more second s g)) (ready s is)
+  pub two_joined : (tasks : List Task) (made more : List S) (m : Layers) → Gives map_of shards (Join ∷ tasks) (reverse made) m → LastJoined map_of made more → Gives map_of shards tasks (reverse more) m
+  two_joined tasks made more m h j =
+      let stack : reverse made ≡ j.second ∷ (j.first ∷ reverse j.all_but_two) =
+      last_first made j.all_but_one j.second j.takes_second ∙ ap (λ w. j.second ∷ w) (last_first j.all_but_one j.all_but_two j.first j.takes_first) in
+      let ready : Gives map_of shards (Join ∷ tasks) (j.second ∷ (j.first ∷ reverse j.all_but_two)) m = subst (λ w. Gives map_of shards (Join ∷ tasks) w m) stack h in
+      subst (λ w. Gives map_of shards tasks w m) (sym (last_first more j.all_but_two j.joined j.puts)) (ready j.joined j.union_of)
 
-  pub some_made : (tasks : List Task) (made : List S) (m : Layers) → Gives map_of shards (Join ∷ tasks) (reverse made) m → made ≡ [] → ⊥
-  some_made tasks made m h e = subst (λ w. Gives map_of shards (Join ∷ tasks) w m) (ap reverse e) h
-
-  pub two_made : (tasks : List Task) (made first : List S) (b : S) (m : Layers) → Gives map_of shards (Join ∷ tasks) (reverse made) m → made ≡ first ++ (b ∷ []) → first ≡ [] → ⊥
-  two_made tasks made first b m h e f = subst (λ w. Gives map_of shards (Join ∷ tasks) w m) (last_first made first b e ∙ ap (λ w. b ∷ reverse w) f) h
+  -- two shards are made
+  pub two_made : (tasks : List Task) (made : List S) (m : Layers) → Gives map_of shards (Join ∷ tasks) (reverse made) m → 2 ≤ length made
+  two_made tasks made m h = let e = length-reverse made in go (reverse made) e h
+    where
+      go : (stack : List S) → length stack ≡ length made → Gives map_of shards (Join ∷ tasks) stack m → 2 ≤ length made
+      go [] e h = absurd h
+      go (b ∷ []) e h = absurd h
+      go (b ∷ a ∷ stack) e h = omega arith
 
   -- nothing is left to do
   pub last_made : (made before : List S) (s : S) (m : Layers) → Gives map_of shards [] (reverse made) m → made ≡ before ++ (s ∷ []) → map_of s ≡ m

@@ -3,6 +3,7 @@ pub mod Laws
 pub mod Plans
 pub mod Groupings
 pub mod Naming
+pub mod Running
 pub mod Alike
 pub mod Merge
 pub mod MergeLaws

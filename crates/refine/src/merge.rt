@@ -98,13 +98,14 @@ pub fn merge_as<S: Shard>(
     }
 }
 
-/// The canonical text of the union of the features of the texts that the plan names.
+/// The canonical text of the union of the features of the texts that the plan names. These are joined
+/// each once and by halves, whatever the plan's grouping, which makes no difference to the bytes.
 ///
 /// # Errors
 /// `BadPlan` with the first leaf from the left that is no place of the list; otherwise `Text` with
 /// the first text of the list that is refused, and its least fault; otherwise `OtherGrid` with the
 /// first text whose transform differs from that of text 0. All texts are read, also those that the
-/// plan does not name. Texts that are named are joined by halves, each once, whatever the plan's grouping.
+/// plan does not name.
 pub fn merge_texts(alloc: Global, texts: &[Vec<u8>], plan: &Plan) -> Result<Vec<u8>, MergeFault>
     ensures bad_plan { (k : ℕ) → first_outside (length texts.now) (leaves plan.now) ≡ Some k → result ≡ Err (BadPlan k) }
     ensures fault { IfErr result (IsMergeFault (bytes_of texts.now) (leaves plan.now)) }

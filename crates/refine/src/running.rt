@@ -1,7 +1,9 @@
 //! Running a plan over a stack of shards.
-ghost use Rattle.std.specs.Prelude.{◌≡◌, All, IfOk, IsOkUnless, length, map};
+ghost use Rattle.std.specs.Prelude.{◌≡◌, ◌≤◌, All, IfOk, IsOkUnless, length, map};
+ghost use Rattle.grid.specs.Place.{Transform};
 ghost use Rattle.refine.specs.declared.fault.JoinFault.TheVariants.{OutOfMemory};
 ghost use Rattle.refine.specs.Plans.{leaves, HasPlaces, union_at};
+ghost use Rattle.refine.specs.Running.{LastJoined};
 
 use crate::fault::JoinFault;
 use crate::plan::Plan;
@@ -14,6 +16,23 @@ use std::alloc::Global;
 enum Task<'a> {
     Run(&'a Plan),
     Join,
+}
+
+// Joins the two shards made last, and puts their join in their place.
+fn join_last<S: Shard>(alloc: Global, made: &mut Vec<S>) -> Result<(), JoinFault>
+    requires two { 2 ≤ length made.old.items }
+    ensures joined { IfOk result (λ _. LastJoined S.map_of made.old.items made.new.items) }
+    ensures grid { (g : Transform) → All (λ s. S.grid_of s ≡ g) made.old.items → IfOk result (λ _. All (λ s. S.grid_of s ≡ g) made.new.items) }
+    ensures memory { (g : Transform) → All (λ s. S.grid_of s ≡ g) made.old.items → IsOkUnless result OutOfMemory }
+{
+    let Some(second) = made.pop() else {
+        unreachable!();
+    };
+    let Some(first) = made.pop() else {
+        unreachable!();
+    };
+    made.push(first.join_owned(alloc, second)?)?;
+    Ok(())
 }
 
 // The join of the shards at the leaves, in the plan's grouping. What is left to do and the shards made so far
@@ -43,15 +62,7 @@ pub(crate) fn join_leaves<S: Shard>(
                     tasks.push(Task::Run(&**left))?;
                 }
             },
-            Task::Join => {
-                let Some(second) = made.pop() else {
-                    unreachable!();
-                };
-                let Some(first) = made.pop() else {
-                    unreachable!();
-                };
-                made.push(first.join_owned(alloc, second)?)?;
-            }
+            Task::Join => join_last(alloc, &mut made)?,
         }
     }
     let Some(shard) = made.pop() else {

@@ -7,7 +7,7 @@ use Rattle.refine.specs.declared.plan.Plan.TheVariants.{Leaf}
 use Rattle.refine.specs.declared.running.Task.TheVariants.{Run, Join}
 use Rattle.refine.specs.Plans.{leaves, HasPlaces}
 use Rattle.refine.proofs.PlanLemmas.{union_at_one}
-use Rattle.refine.proofs.RunLemmas.{taken, leaf_place, leaf_made, parts_left, two_joined, all_but_two, only_memory}
+use Rattle.refine.proofs.RunLemmas.{taken, leaf_place, leaf_made, parts_left, two_made, two_joined}
 use Rattle.refine.proofs.running.join_leaves.Goals as goal
 
 pub loop-task-preserved-in_ok-push-in-Leaf : goal.loop-task-preserved-in_ok-push-in-Leaf
@@ -47,25 +47,27 @@ loop-task-preserved-in_ok-push-in-Node-3 g c =
       one_grid = c.loop-task.invariant.one_grid;
     }
 
-pub returns-in_err-join_owned-in-Join-clause-memory : goal.returns-in_err-join_owned-in-Join-clause-memory
-returns-in_err-join_owned-in-Join-clause-memory g c =
-    let on_grid = all_but_two (λ s. g.S.Shard.grid_of s ≡ c.args.grid) c.loop-task.made.items _ _ c.in-Some-pop-2.first c.in-Some-pop.second c.loop-task.invariant.one_grid c.in-Some-pop.ensures.items c.in-Some-pop-2.ensures.items in
-    let p = err_from_is_err_and c.from_residual-in_err-join_owned-in-Join.result c.from_residual-in_err-join_owned-in-Join.ensures.1 in
-    rw p.1 (p.2 ∙ only_memory _ _ c.in_err-join_owned-in-Join.field-0.0 _ refl c.in_err-join_owned-in-Join.ensures.other_grid (on_grid.1 ∙ sym on_grid.2))
+pub join_last-requires : goal.join_last-requires
+join_last-requires g c =
+    let left = c.pop.new.self.items in
+    let next : c.loop-task.tasks.items ≡ left ++ (Join ∷ []) = c.in-Some.ensures.items ∙ ap (λ t. left ++ (t ∷ [])) c.in-Join.is in
+    let todo = taken g.S.Shard.map_of c.args.shards.now c.loop-task.tasks.items left Join (reverse c.loop-task.made.items) _ next c.loop-task.invariant.left in
+    record { two = two_made g.S.Shard.map_of c.args.shards.now (reverse left) c.loop-task.made.items _ todo }
+
+pub returns-in_err-join_last-in-Join-clause-memory : goal.returns-in_err-join_last-in-Join-clause-memory
+returns-in_err-join_last-in-Join-clause-memory g c =
+    let p = err_from_is_err_and c.from_residual-in_err-join_last-in-Join.result c.from_residual-in_err-join_last-in-Join.ensures.1 in
+    rw p.1 (p.2 ∙ c.in_err-join_last-in-Join.ensures.memory c.args.grid c.loop-task.invariant.one_grid)
 
 pub loop-task-preserved : goal.loop-task-preserved
 loop-task-preserved g c =
-    let shards = c.args.shards.now in
-    let map_of = g.S.Shard.map_of in
     let left = c.pop.new.self.items in
     let next : c.loop-task.tasks.items ≡ left ++ (Join ∷ []) = c.in-Some.ensures.items ∙ ap (λ t. left ++ (t ∷ [])) c.in-Join.is in
-    let todo = taken map_of shards c.loop-task.tasks.items left Join (reverse c.loop-task.made.items) _ next c.loop-task.invariant.left in
-    let on_grid = all_but_two (λ s. g.S.Shard.grid_of s ≡ c.args.grid) c.loop-task.made.items c.pop-in-Join.new.self.items c.pop-in-Join-2.new.self.items c.in-Some-pop-2.first c.in-Some-pop.second c.loop-task.invariant.one_grid c.in-Some-pop.ensures.items c.in-Some-pop-2.ensures.items in
+    let todo = taken g.S.Shard.map_of c.args.shards.now c.loop-task.tasks.items left Join (reverse c.loop-task.made.items) _ next c.loop-task.invariant.left in
     record {
-      left = two_joined map_of shards (reverse left) c.loop-task.made.items c.pop-in-Join.new.self.items c.pop-in-Join-2.new.self.items _ c.in-Some-pop-2.first c.in-Some-pop.second c.in_ok-join_owned-in-Join.field-0 _ todo
-          c.in-Some-pop.ensures.items c.in-Some-pop-2.ensures.items c.in_ok-push-in-Join.ensures.items c.in_ok-join_owned-in-Join.ensures.map;
-      one_grid = rw c.in_ok-push-in-Join.ensures.items (All-push (λ s. g.S.Shard.grid_of s ≡ c.args.grid) c.pop-in-Join-2.new.self.items c.in_ok-join_owned-in-Join.field-0 on_grid.0 (c.in_ok-join_owned-in-Join.ensures.grid ∙ on_grid.1));
+      left = two_joined g.S.Shard.map_of c.args.shards.now (reverse left) c.loop-task.made.items _ _ todo c.in_ok-join_last-in-Join.ensures.joined;
+      one_grid = c.in_ok-join_last-in-Join.ensures.grid c.args.grid c.loop-task.invariant.one_grid;
     }
 
 pub returns-clause-grid : goal.returns-clause-grid
-returns-clause-grid g c = (All-pop (λ s. g.S.Shard.grid_of s ≡ c.args.grid) c.loop-task.made.items c.pop-2.new.self.items (Some c.in-Some-pop-3.shard) c.in-Some-pop-3.ensures.items c.loop-task.invariant.one_grid).1
+returns-clause-grid g c = (All-pop (λ s. g.S.Shard.grid_of s ≡ c.args.grid) c.loop-task.made.items c.pop-2.new.self.items (Some c.in-Some-pop.shard) c.in-Some-pop.ensures.items c.loop-task.invariant.one_grid).1
