@@ -1,6 +1,6 @@
 //! The join of two topologies: their arcs are cut again, their geometries follow the pieces, and
 //! the sorted layers and geometries of both are merged in one pass.
-ghost use Rattle.std.specs.Prelude.{◌≡◌, ◌++◌, ◌∷◌, IfOk, IfSome, OnOk, List, Option, None, take, drop, map as map_list};
+ghost use Rattle.std.specs.Prelude.{◌≡◌, ◌<◌, ◌^◌, ◌++◌, length, IfOk, IfSome, OnOk, List, Option, None, take, drop, map as map_list};
 ghost use Rattle.shapes.specs.Maps.{Layers};
 ghost use Rattle.shapes.specs.Union.{union};
 ghost use Rattle.recutting.specs.Parts.{of_side};
@@ -467,6 +467,7 @@ pub(crate) fn joined_owned(
 ) -> Result<Topology, OutOfMemory>
     ensures grid { IfOk result (λ t. t.grid ≡ left.grid) }
     ensures of_map { IfOk result (λ t. (m n : Layers) → IsOf m left → IsOf n right → IsOf (union m n) t) }
+    ensures few { IfOk result (λ t. length t.arcs.arcs < 2 ^ 63) }
 {
     let grid = left.grid();
     let (left_arcs, left_layers) = left.into_parts();
@@ -490,6 +491,7 @@ pub(crate) fn joined(
 ) -> Result<Topology, OutOfMemory>
     ensures grid { IfOk result (λ t. t.grid ≡ left.now.grid) }
     ensures of_map { IfOk result (λ t. (m n : Layers) → IsOf m left.now → IsOf n right.now → IsOf (union m n) t) }
+    ensures few { IfOk result (λ t. length t.arcs.arcs < 2 ^ 63) }
 {
     joined_owned(alloc, left.copy(alloc)?, right.copy(alloc)?)
 }
