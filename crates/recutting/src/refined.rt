@@ -58,6 +58,13 @@ impl Recut {
         &self.arcs
     }
 
+    /// The arcs of both maps together, where no list is asked for any more.
+    pub fn into_arcs(self) -> ArcTable
+        ensures { result ≡ self.arcs }
+    {
+        self.arcs
+    }
+
     fn lists(&self, side: Side) -> &[Items<ArcRef>]
         ensures { result.now ≡ of_side side self.now }
     {

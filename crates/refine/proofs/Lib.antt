@@ -14,3 +14,6 @@ pub mod MergedLayers
 pub mod UnitedGeometry
 pub mod RecutGeometries
 pub mod JoinedLayers
+pub mod FeatureOrder
+pub mod MergedSteps
+pub mod JoinedParts

@@ -9,3 +9,4 @@ pub mod Cuts
 pub mod OneMap
 pub mod ItsMap
 pub mod OnGrid
+pub mod CutLayers

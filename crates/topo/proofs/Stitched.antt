@@ -88,7 +88,7 @@ module _ (J : Pos → Type 0) (arcs : List (List Pos)) where
   shape_of (of.MultiPolygon ps) (to.MultiPolygon lists) h = polygons_of ps lists h
   shape_of s b h = absurd h
 
-  feature_of : (f : Feature) (g : Geom) → IsGeometryOf position_cmp J arcs (seen_by.item_of f) (item_of g) → IsFeatureOf arcs f g
+  pub feature_of : (f : Feature) (g : Geom) → IsGeometryOf position_cmp J arcs (seen_by.item_of f) (item_of g) → IsFeatureOf arcs f g
   feature_of f g h = record { id = ap (λ i. i.0) h.info; props = ap (λ i. i.1) h.info; shape = shape_of f.shape g.body h.form }
 
 -- the layer has the entry's name, and its geometries stitch to the entry's features

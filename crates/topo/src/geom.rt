@@ -12,7 +12,7 @@ use std::alloc::Global;
 /// What a geometry is made of (TopoJSON section 2.2).
 ///
 /// Points hold grid positions. A line, and a ring, is the list of the arcs that stitch to it.
-#[derive(Drop, Debug)]
+#[derive(PartialEq, Eq, Drop, Debug)]
 pub enum Body {
     /// A feature without a shape.
     Null,

@@ -6,6 +6,7 @@ mod bounds;
 mod building;
 mod expanding;
 pub mod geom;
+pub mod stitching;
 pub mod topology;
 pub mod walk;
 

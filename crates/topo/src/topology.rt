@@ -60,6 +60,14 @@ impl Layer {
         self.geometries.as_slice()
     }
 
+    /// The layer's name, and its geometries in the order of the features.
+    pub fn into_parts(self) -> (Spelled, Vec<Geom>)
+        ensures name { result.0 ≡ self.name }
+        ensures geometries { result.1.items ≡ self.geometries }
+    {
+        (self.name, self.geometries.into_vec())
+    }
+
     /// An equal layer.
     pub fn copy(&self, alloc: Global) -> Result<Layer, OutOfMemory>
         ensures { IfOk result (λ l. l ≡ self.now) }
@@ -196,6 +204,15 @@ impl Topology {
         ensures stitched { (l : List Pos) → StitchTo self.now.arcs.arcs refs.now l → result ≡ l }
     {
         Walk::over(&self.arcs, refs)
+    }
+
+    /// The arcs, sorted, and the layers in the byte order of their names.
+    pub fn into_parts(self) -> (ArcTable, Vec<Layer>)
+        ensures arcs { result.0 ≡ self.arcs }
+        ensures layers { result.1.items ≡ self.layers }
+        ensures of_map { IsOfSomeMap self }
+    {
+        (self.arcs, self.layers.into_vec())
     }
 
     /// An equal topology.

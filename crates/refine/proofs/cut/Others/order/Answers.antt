@@ -1,0 +1,10 @@
+use Rattle.std.proofs.Common.{subst}
+use Rattle.std.specs.List.{AllByRecursion}
+use Rattle.refine.specs.CutLayers.{HasFeature}
+use Rattle.refine.proofs.MergedSteps.{first_is}
+use Rattle.refine.proofs.cut.Others.order.Goals as goal
+
+pub order_of-requires-clause-other_there : goal.order_of-requires-clause-other_there
+order_of-requires-clause-other_there c =
+    let e = first_is c.args.self.now.geometries.items c.in-Some.other.now c.in-Some.ensures.item.3.0 c.in-Some.ensures.lookup in
+    (subst (AllByRecursion (HasFeature c.args.arcs.now.arcs)) e c.requires.others_there).0

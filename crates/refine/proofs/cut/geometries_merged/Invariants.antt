@@ -1,0 +1,14 @@
+use Rattle.std.proofs.Common.{◌≡◌, ◌++◌}
+use Rattle.std.specs.Vec.Iter.{into_iter_items}
+use Rattle.refine.specs.Cuts.{merged}
+use Rattle.refine.specs.CutLayers.{HaveFeatures, IsKnownOfFirst, geometry_cmp}
+use Rattle.refine.proofs.cut.geometries_merged.Given as goal
+
+abbrev pub invariant-loop-geometry : goal.invariant-loop-geometry
+invariant-loop-geometry l = record {
+  left : HaveFeatures l.fn.arcs.arcs (into_iter_items l.geometry-iterator);
+  right : HaveFeatures l.fn.arcs.arcs l.others.geometries.items;
+  first : IsKnownOfFirst l.fn.arcs.arcs l.others.geometries.items l.others.first;
+  all : l.merged.items ++ merged (geometry_cmp l.fn.arcs.arcs) (into_iter_items l.geometry-iterator) l.others.geometries.items
+      ≡ merged (geometry_cmp l.fn.arcs.arcs) l.fn.left.items l.fn.right.items;
+}

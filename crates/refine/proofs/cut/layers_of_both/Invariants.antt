@@ -1,0 +1,12 @@
+use Rattle.std.proofs.Common.{◌≡◌, ◌++◌}
+use Rattle.std.specs.Vec.Iter.{into_iter_items}
+use Rattle.refine.specs.CutLayers.{LayersHaveFeatures, layers_merged}
+use Rattle.refine.proofs.cut.layers_of_both.Given as goal
+
+abbrev pub invariant-loop-layer : goal.invariant-loop-layer
+invariant-loop-layer l = record {
+  left : LayersHaveFeatures l.fn.arcs.arcs (into_iter_items l.layer-iterator);
+  right : LayersHaveFeatures l.fn.arcs.arcs l.others.items;
+  all : l.merged.items ++ layers_merged l.fn.arcs.arcs (into_iter_items l.layer-iterator) l.others.items
+      ≡ layers_merged l.fn.arcs.arcs l.fn.left.items l.fn.right.items;
+}

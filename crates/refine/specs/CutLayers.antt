@@ -1,0 +1,125 @@
+-- How a join of two topologies goes through their layers: what stands before a member of the one list among those of the other,
+-- and the order of geometries by the features that they stitch to.
+use Rattle.std.specs.Prelude.{ℕ, List, [], ◌∷◌, Option, Some, None}
+use Rattle.std.specs.Cmp.Lexicographic.{slice_cmp}
+use Rattle.std.specs.List.{AllByRecursion}
+use Rattle.std.specs.Ordering.{nat_cmp, ordering_then}
+use Rattle.std.specs.declared.cmp.Ordering.{Ordering}
+use Rattle.std.specs.declared.cmp.Ordering.TheVariants.{Less, Equal, Greater}
+use Rattle.grid.specs.declared.pos.Pos.{Pos}
+use Rattle.lines.specs.Reading.{ring_of}
+use Rattle.lines.specs.Turned.{position_cmp, list_cmp}
+use Rattle.shapes.specs.Order.{id_cmp}
+use Rattle.shapes.specs.Parts.{spelled_text}
+use Rattle.shapes.specs.declared.feature.Feature.{Feature}
+use Rattle.theory.specs.ArcNumbers.{ArcRef}
+use Rattle.theory.specs.Topology.{Shape, null, point, points, line, lines, polygon, polygons}
+use Rattle.topo.specs.Features.{IsFeatureOf}
+use Rattle.topo.specs.Parts.{LayerParts}
+use Rattle.topo.specs.Walked.{walked}
+use Rattle.topo.specs.declared.geom.Body.{Body}
+use Rattle.topo.specs.declared.geom.Body.TheVariants.{Null, Point, MultiPoint, Line, MultiLine, Polygon, MultiPolygon}
+use Rattle.topo.specs.declared.geom.Geom.{Geom}
+use Rattle.refine.specs.Cuts.{by_order, geometry_recut, merged, united}
+use Rattle.std.specs.Prelude.{map as map_list}
+
+-- what stands before x
+abbrev pub before : {A : Type 0} → (A → A → Ordering) → A → List A → List A
+before cmp x [] = []
+before cmp x (y ∷ ys) = by_order (cmp x y) [] [] (y ∷ before cmp x ys)
+
+-- what stands behind x, without what ties with it
+abbrev pub behind : {A : Type 0} → (A → A → Ordering) → A → List A → List A
+behind cmp x [] = []
+behind cmp x (y ∷ ys) = by_order (cmp x y) (y ∷ ys) ys (behind cmp x ys)
+
+-- what ties with x
+abbrev pub tied : {A : Type 0} → (A → A → Ordering) → A → List A → Option A
+tied cmp x [] = None
+tied cmp x (y ∷ ys) = by_order (cmp x y) None (Some y) (tied cmp x ys)
+
+-- x alone, or what `both` makes of it and another one
+abbrev pub with_other : {A : Type 0} → (A → A → A) → A → Option A → A
+with_other both x None = x
+with_other both x (Some y) = both x y
+
+-- how x stands to the first of a list
+abbrev pub to_first : {A : Type 0} → (A → A → Ordering) → A → List A → Option Ordering
+to_first cmp x [] = None
+to_first cmp x (y ∷ ys) = Some (cmp x y)
+
+-- the vertices of a ring of used arcs, from the least rotation
+abbrev pub vertices_used : List (List Pos) → List ArcRef → List Pos
+vertices_used arcs used = ring_of position_cmp (walked arcs used)
+
+-- a body with its lines as the positions that they stitch to, and its rings as their vertices from the least rotation
+abbrev pub body_form : List (List Pos) → Body → Shape Pos
+body_form arcs Null = null
+body_form arcs (Point p) = point p
+body_form arcs (MultiPoint ps) = points ps
+body_form arcs (Line used) = line (walked arcs used)
+body_form arcs (MultiLine lists) = lines (map_list (walked arcs) lists)
+body_form arcs (Polygon lists) = polygon (map_list (vertices_used arcs) lists)
+body_form arcs (MultiPolygon ps) = polygons (map_list (map_list (vertices_used arcs)) ps)
+
+abbrev pub form_rank : Shape Pos → ℕ
+form_rank null = 0
+form_rank (point p) = 1
+form_rank (points ps) = 2
+form_rank (line l) = 3
+form_rank (lines ls) = 4
+form_rank (polygon rs) = 5
+form_rank (polygons ps) = 6
+
+-- by kind, then by the lists of positions
+abbrev pub form_cmp : Shape Pos → Shape Pos → Ordering
+form_cmp (point p) (point q) = position_cmp p q
+form_cmp (points ps) (points qs) = list_cmp ps qs
+form_cmp (line k) (line l) = list_cmp k l
+form_cmp (lines ks) (lines ls) = slice_cmp list_cmp ks ls
+form_cmp (polygon rs) (polygon qs) = slice_cmp list_cmp rs qs
+form_cmp (polygons ps) (polygons qs) = slice_cmp (slice_cmp list_cmp) ps qs
+form_cmp f h = nat_cmp (form_rank f) (form_rank h)
+
+-- by id and properties, then by what the bodies stitch to
+abbrev pub info_cmp : Geom → Geom → Ordering
+info_cmp a b = ordering_then (id_cmp a.id b.id) (slice_cmp nat_cmp a.props.text b.props.text)
+
+unfoldable pub geometry_cmp : List (List Pos) → Geom → Geom → Ordering
+geometry_cmp arcs a b = ordering_then (info_cmp a b) (form_cmp (body_form arcs a.body) (body_form arcs b.body))
+
+-- the geometry stitches to a feature
+abbrev pub HasFeature : List (List Pos) → Geom → Type 0
+HasFeature arcs g = (f : Feature) × IsFeatureOf arcs f g
+
+abbrev pub HaveFeatures : List (List Pos) → List Geom → Type 0
+HaveFeatures arcs gs = AllByRecursion (HasFeature arcs) gs
+
+abbrev pub LayersHaveFeatures : List (List Pos) → List LayerParts → Type 0
+LayersHaveFeatures arcs ls = AllByRecursion (λ l. HaveFeatures arcs l.geometries) ls
+
+-- what is known is the feature that the geometry stitches to
+abbrev pub IsKnownOf : List (List Pos) → Geom → Option Feature → Type 0
+IsKnownOf arcs g None = Unit {0}
+IsKnownOf arcs g (Some f) = IsFeatureOf arcs f g
+
+-- what is known is the feature of the first of the geometries
+abbrev pub IsKnownOfFirst : List (List Pos) → List Geom → Option Feature → Type 0
+IsKnownOfFirst arcs [] known = Unit {0}
+IsKnownOfFirst arcs (g ∷ gs) known = IsKnownOf arcs g known
+
+-- a layer by the arcs that the old ones are cut into
+abbrev pub layer_recut : List (List Pos) → List (List ArcRef) → LayerParts → LayerParts
+layer_recut table pieces l = record { name = l.name; geometries = map_list (geometry_recut table pieces) l.geometries }
+
+-- layers by the bytes of their names
+abbrev pub layer_cmp : LayerParts → LayerParts → Ordering
+layer_cmp a b = slice_cmp nat_cmp (spelled_text a.name) (spelled_text b.name)
+
+-- the layer of the geometries of both
+abbrev pub layers_as_one : List (List Pos) → LayerParts → LayerParts → LayerParts
+layers_as_one arcs a b = record { name = a.name; geometries = merged (geometry_cmp arcs) a.geometries b.geometries }
+
+-- the layers of both, and under one name the geometries of both
+abbrev pub layers_merged : List (List Pos) → List LayerParts → List LayerParts → List LayerParts
+layers_merged arcs = united layer_cmp (layers_as_one arcs)
