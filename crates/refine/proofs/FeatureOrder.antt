@@ -6,15 +6,15 @@ use Rattle.std.specs.Cmp.Lexicographic.{slice_cmp}
 use Rattle.std.specs.Ordering.{is_ne, nat_cmp, ordering_then}
 use Rattle.std.specs.declared.cmp.Ordering.{Ordering}
 use Rattle.std.specs.declared.cmp.Ordering.TheVariants.{Less, Equal, Greater}
-use Rattle.std.proofs.Common.{Bool, true, false, rules}
+use Rattle.std.proofs.Common.{true, rules}
 use Rattle.grid.specs.declared.pos.Pos.{Pos}
 use Rattle.lines.specs.Reading.{ring_of}
-use Rattle.lines.specs.Seen.{positions_of, vertices_of}
+use Rattle.lines.specs.Seen.{positions_of}
 use Rattle.lines.specs.Turned.{position_cmp, list_cmp}
 use Rattle.lines.specs.declared.line.Line as the_line
 use Rattle.lines.specs.declared.ring.Ring as the_ring
 use Rattle.lines.proofs.ReadsItself.{ring_reads}
-use Rattle.shapes.specs.Order.{feature_cmp, id_cmp, line_cmp, ring_cmp, shape_cmp, shape_rank}
+use Rattle.shapes.specs.Order.{feature_cmp, id_cmp, ring_cmp, shape_cmp, shape_rank}
 use Rattle.shapes.specs.contracts.shape.IdOrd.TheImpl as id
 use Rattle.shapes.specs.declared.feature.Feature.{Feature}
 use Rattle.shapes.specs.declared.shape.Id.{Id}

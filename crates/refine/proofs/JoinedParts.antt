@@ -3,34 +3,31 @@ use Rattle.std.proofs.Common.{◌≡◌, ℕ, List, [], ◌∷◌, refl, sym, ap
 use Rattle.std.specs.Prelude.{map as map_list}
 use Rattle.std.specs.Cmp.Lexicographic.{slice_cmp}
 use Rattle.std.specs.FinMap as map
-use Rattle.std.specs.List.{AllByRecursion}
 use Rattle.std.specs.Ordering.{nat_cmp}
 use Rattle.std.specs.declared.cmp.Ordering.{Ordering}
 use Rattle.std.specs.declared.cmp.Ordering.TheVariants.{Less, Equal, Greater}
 use Rattle.grid.specs.declared.pos.Pos.{Pos}
-use Rattle.lines.specs.Turned.{position_cmp}
 use Rattle.shapes.specs.Maps.{Features, Layers}
 use Rattle.shapes.specs.Order.{feature_cmp}
 use Rattle.shapes.specs.Sets as set
 use Rattle.shapes.specs.Union.{union}
 use Rattle.shapes.specs.declared.feature.Feature.{Feature}
 use Rattle.chains.specs.Arcs.{Arcs}
-use Rattle.chains.specs.Seen.{geometry_of, seen}
+use Rattle.chains.specs.Seen.{geometry_of}
 use Rattle.chains.specs.Table.{IsTableOf}
 use Rattle.theory.specs.ArcNumbers.{ArcRef}
 use Rattle.theory.specs.Geometry.{Geometry, IsSound, JunctionOf}
 use Rattle.theory.specs.Lists.{Pairwise}
 use Rattle.theory.specs.Refinement.{IsUnionOf}
-use Rattle.theory.specs.Topology.{IsLayerOf}
 use Rattle.recutting.specs.Cutting.{IsRecutOf}
 use Rattle.recutting.specs.Parts.{RecutParts}
-use Rattle.topo.specs.OfMap.{ArePartsOf, IsOf, layer_of}
+use Rattle.topo.specs.OfMap.{ArePartsOf, IsOf}
 use Rattle.topo.specs.Parts.{LayerParts, TopologyParts}
 use Rattle.topo.specs.declared.geom.Geom.{Geom}
 use Rattle.topo.proofs.Sound.{are_sound}
 use Rattle.topo.proofs.Stitched.{feature_of}
-use Rattle.refine.specs.Cuts.{by_order, entries_united, features_merged, merged, merged_into, name_cmp, united, united_into}
-use Rattle.refine.specs.CutLayers.{HasFeature, HaveFeatures, LayersHaveFeatures, geometry_cmp, layer_cmp, layer_recut, layers_as_one, layers_merged}
+use Rattle.refine.specs.Cuts.{by_order, entries_united, merged, merged_into, name_cmp, united, united_into}
+use Rattle.refine.specs.CutLayers.{HaveFeatures, LayersHaveFeatures, geometry_cmp, layer_cmp, layer_recut, layers_as_one, layers_merged}
 use Rattle.refine.proofs.FeatureOrder.{features_stand}
 use Rattle.refine.proofs.JoinedLayers.{IsJoinedLayer, IsNewFor, joined_alone, joined_of_both, parts_joined}
 use Rattle.refine.proofs.RecutGeometries.{IsLayerRecut, left_after_recut, right_after_recut}

@@ -1,6 +1,6 @@
 //! The join of two topologies: their arcs are cut again, their geometries follow the pieces, and
 //! the sorted layers and geometries of both are merged in one pass.
-ghost use Rattle.std.specs.Prelude.{◌≡◌, ◌<◌, ◌^◌, length, ◌++◌, ◌∷◌, IfOk, IfSome, OnOk, List, Option, None, take, drop, map as map_list};
+ghost use Rattle.std.specs.Prelude.{◌≡◌, ◌<◌, ◌^◌, ◌++◌, length, IfOk, IfSome, OnOk, List, Option, None, take, drop, map as map_list};
 ghost use Rattle.shapes.specs.Maps.{Layers};
 ghost use Rattle.shapes.specs.Union.{union};
 ghost use Rattle.recutting.specs.Parts.{of_side};

@@ -1,5 +1,4 @@
 use Rattle.std.proofs.Common.{◌≡◌, ◌++◌, sym, subst}
-use Rattle.std.specs.List.{AllByRecursion}
 use Rattle.std.specs.Vec.Iter.{into_iter_items}
 use Rattle.refine.specs.Cuts.{merged}
 use Rattle.refine.specs.CutLayers.{HasFeature, HaveFeatures, geometry_cmp}

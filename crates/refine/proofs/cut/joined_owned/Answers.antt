@@ -1,16 +1,5 @@
-use Rattle.std.proofs.Common.{◌≡◌, ◌∙◌, sym, ap, subst, List}
-use Rattle.std.specs.Prelude.{map as map_list}
 use Rattle.shapes.specs.Union.{union}
-use Rattle.chains.specs.Arcs.{Arcs}
-use Rattle.chains.specs.Table.{IsTableOf}
-use Rattle.recutting.specs.Cutting.{IsRecutOf}
-use Rattle.recutting.specs.Parts.{RecutParts}
-use Rattle.theory.specs.Geometry.{IsSound}
-use Rattle.theory.specs.Refinement.{IsUnionOf}
-use Rattle.topo.specs.OfMap.{ArePartsOf}
-use Rattle.topo.specs.Parts.{LayerParts, TopologyParts}
-use Rattle.refine.specs.CutLayers.{layer_recut}
-use Rattle.refine.proofs.JoinedParts.{AreCut, are_cut, left_has, parts_are, right_has}
+use Rattle.refine.proofs.JoinedParts.{are_cut, left_has, parts_are, right_has}
 use Rattle.refine.proofs.cut.joined_owned.Goals as goal
 
 pub layers_of_both-requires-clause-left : goal.layers_of_both-requires-clause-left

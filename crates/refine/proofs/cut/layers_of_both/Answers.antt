@@ -1,5 +1,4 @@
 use Rattle.std.proofs.Common.{◌≡◌, ◌++◌, sym, subst, IfSome}
-use Rattle.std.specs.List.{AllByRecursion}
 use Rattle.std.specs.Vec.Iter.{into_iter_items}
 use Rattle.refine.specs.CutLayers.{HaveFeatures, LayersHaveFeatures, layer_cmp, layers_as_one, layers_merged, with_other}
 use Rattle.refine.proofs.MergedSteps.{all_behind, next_united, tied_has}

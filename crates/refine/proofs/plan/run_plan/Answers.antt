@@ -1,4 +1,4 @@
-use Rattle.std.proofs.Common.{sym, ◌∙◌, refl, subst}
+use Rattle.std.proofs.Common.{sym, ◌∙◌, subst}
 use Rattle.refine.specs.Plans.{HasPlaces}
 use Rattle.refine.proofs.PlanLemmas.{one_grid, no_first, no_places}
 use Rattle.refine.proofs.LeafLemmas.{has_places}
