@@ -2,4 +2,6 @@
 #![tactic(auto)]
 
 #[cfg(test)]
+mod shards;
+#[cfg(test)]
 mod tests;

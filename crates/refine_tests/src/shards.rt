@@ -1,0 +1,128 @@
+//! Maps joined by plans over each kind of shard. Expected texts are worked out by hand.
+use grid::Pos;
+use grid::transform::Grid;
+use refine::cut_shard::Cut;
+use refine::plan::{Plan, run_plan};
+use refine::shard::Shard;
+use refine::whole::Whole;
+use shapes::{Feature, FeatureMap, Id, Items, Line, Props, Ring, Shape};
+use std::alloc::Global;
+use std::process::Abort;
+use std::test::Fail;
+
+const FIRST: &[(i64, i64)] = &[(0, 0), (1, 0), (1, 1), (0, 1), (0, 0)];
+
+const SECOND: &[(i64, i64)] = &[(1, 0), (2, 0), (2, 1), (1, 1), (1, 0)];
+
+const THIRD: &[(i64, i64)] = &[(2, 0), (3, 0), (3, 1), (2, 1), (2, 0)];
+
+const FROM_CORNER: &[(i64, i64)] = &[(1, 1), (2, 2)];
+
+const SQUARES: &str =
+    "{\"arcs\":[[[1,0],[-1,0],[0,1],[1,0]],[[1,0],[0,1]],[[1,0],[1,0]],[[1,1],[1,0]],[[2,0],[0,1]],[[2,0],[1,0],[0,1],[-1,0]]],\"bbox\":[0,0,3,1],\"objects\":{\"a\":{\"geometries\":[{\"arcs\":[[1,-1]],\"type\":\"Polygon\"},{\"arcs\":[[2,4,-4,-2]],\"type\":\"Polygon\"},{\"arcs\":[[5,-5]],\"type\":\"Polygon\"}],\"type\":\"GeometryCollection\"}},\"transform\":{\"scale\":[1,1],\"translate\":[0,0]},\"type\":\"Topology\"}";
+
+const CORNER: &str =
+    "{\"arcs\":[[[1,1],[-1,0],[0,-1],[1,0],[0,1]],[[1,1],[1,1]]],\"bbox\":[0,0,2,2],\"objects\":{\"a\":{\"geometries\":[{\"arcs\":[[0]],\"type\":\"Polygon\"}],\"type\":\"GeometryCollection\"},\"b\":{\"geometries\":[{\"arcs\":[1],\"type\":\"LineString\"},{\"arcs\":[[0]],\"type\":\"Polygon\"}],\"type\":\"GeometryCollection\"}},\"transform\":{\"scale\":[1,1],\"translate\":[0,0]},\"type\":\"Topology\"}";
+
+fn positions(alloc: Global, places: &[(i64, i64)]) -> Result<Vec<Pos>, Fail> {
+    let mut made = Vec::new(alloc);
+    for (x, y) in places {
+        made.push(Pos::new(*x, *y).ok_or("outside the limits")?)?;
+    }
+    Ok(made)
+}
+
+fn line(alloc: Global, places: &[(i64, i64)]) -> Result<Shape, Fail> {
+    let positions = positions(alloc, places)?;
+    Ok(Shape::Line(Line::from_positions(alloc, positions)?))
+}
+
+fn polygon(alloc: Global, places: &[(i64, i64)]) -> Result<Shape, Fail> {
+    let mut rings = Vec::new(alloc);
+    rings.push(Ring::from_closed(alloc, positions(alloc, places)?)?)?;
+    Ok(Shape::Polygon(Items::from_vec(rings)))
+}
+
+/// The map of one layer with one feature.
+fn map_of(alloc: Global, layer: &str, shape: Shape) -> Result<FeatureMap, Fail> {
+    let props = Props::empty(alloc)?;
+    let feature = Feature {
+        id: Id::None,
+        props,
+        shape,
+    };
+    let mut map = FeatureMap::new(alloc);
+    map.add_layer(layer)?;
+    map.insert(layer, feature)?;
+    Ok(map)
+}
+
+fn shards<S: Shard>(alloc: Global, maps: &[FeatureMap]) -> Result<Vec<S>, Fail> {
+    let grid = Grid::new(1, 1, 0, 0).ok_or("no grid")?;
+    let mut made = Vec::new(alloc);
+    for map in maps {
+        made.push(S::from_map(alloc, &grid, map)?)?;
+    }
+    Ok(made)
+}
+
+fn plans(alloc: Global, count: usize) -> Result<Vec<Plan>, Fail> {
+    let mut made = Vec::new(alloc);
+    made.push(Plan::left(alloc, count)?.ok_or("no plan")?)?;
+    made.push(Plan::right(alloc, count)?.ok_or("no plan")?)?;
+    made.push(Plan::halves(alloc, count)?.ok_or("no plan")?)?;
+    Ok(made)
+}
+
+/// Joins the maps as shards of a kind in each grouping, and compares the text.
+fn check_shards<S: Shard>(
+    rt: &impl Abort,
+    alloc: Global,
+    maps: &[FeatureMap],
+    text: &str,
+) -> Result<(), Fail> {
+    let shards: Vec<S> = shards(alloc, maps)?;
+    for plan in &plans(alloc, maps.len())? {
+        let written = run_plan(alloc, &shards, plan)?.text(alloc)?;
+        assert!(rt; written.as_slice() == text.as_bytes());
+    }
+    Ok(())
+}
+
+/// The same of each kind of shard.
+fn check_each_kind(
+    rt: &impl Abort,
+    alloc: Global,
+    maps: &[FeatureMap],
+    text: &str,
+) -> Result<(), Fail> {
+    check_shards::<Whole>(rt, alloc, maps, text)?;
+    check_shards::<Cut>(rt, alloc, maps, text)
+}
+
+fn squares(alloc: Global, rings: &[&[(i64, i64)]]) -> Result<Vec<FeatureMap>, Fail> {
+    let mut maps = Vec::new(alloc);
+    for places in rings {
+        maps.push(map_of(alloc, "a", polygon(alloc, places)?)?)?;
+    }
+    Ok(maps)
+}
+
+#[test]
+fn squares_in_a_row(rt: HostRuntime) -> Result<(), Fail> {
+    let alloc = rt.alloc();
+    let maps = squares(alloc, &[FIRST, SECOND, THIRD])?;
+    check_each_kind(&rt, alloc, &maps, SQUARES)?;
+    let maps = squares(alloc, &[THIRD, FIRST, SECOND, FIRST])?;
+    check_each_kind(&rt, alloc, &maps, SQUARES)
+}
+
+/// A square in two layers, and in one of them a line from a corner of it, which becomes its seam.
+#[test]
+fn a_line_from_a_corner(rt: HostRuntime) -> Result<(), Fail> {
+    let alloc = rt.alloc();
+    let mut maps = squares(alloc, &[FIRST, FIRST])?;
+    maps.push(map_of(alloc, "b", polygon(alloc, FIRST)?)?)?;
+    maps.push(map_of(alloc, "b", line(alloc, FROM_CORNER)?)?)?;
+    check_each_kind(&rt, alloc, &maps, CORNER)
+}
