@@ -11,3 +11,9 @@ pub mod ThroughTexts
 pub mod NamingLemmas
 pub mod JoiningLemmas
 pub mod KeptTexts
+pub mod Ascending
+pub mod MergedSets
+pub mod MergedLayers
+pub mod UnitedGeometry
+pub mod RecutGeometries
+pub mod JoinedLayers

@@ -3,6 +3,11 @@ pub mod Laws
 pub mod Plans
 pub mod Groupings
 pub mod Naming
+pub mod Less
 pub mod Alike
 pub mod Merge
 pub mod MergeLaws
+pub mod Cuts
+pub mod OneMap
+pub mod ItsMap
+pub mod OnGrid

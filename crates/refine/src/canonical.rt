@@ -1,6 +1,8 @@
-//! The canonical text of a map.
-ghost use Rattle.std.specs.Prelude.{◌≡◌, IfOk};
+//! Canonical texts.
+ghost use Rattle.std.specs.Prelude.{◌≡◌, ◌<◌, ◌^◌, IfOk, length};
 ghost use Rattle.shapes.specs.Fitting.{MapFits};
+ghost use Rattle.shapes.specs.Maps.{Layers};
+ghost use Rattle.topo.specs.OfMap.{IsOf};
 ghost use Rattle.topo_io.specs.Canon.{canon};
 ghost use Rattle.topo_io.specs.Means.{Means};
 
@@ -9,6 +11,15 @@ use grid::transform::Grid;
 use shapes::feature_map::FeatureMap;
 use std::alloc::Global;
 use topo::topology::Topology;
+
+// The canonical text of the map that a topology is of, which is read back as the grid and the map.
+pub(crate) fn text_of_topology(alloc: Global, topology: &Topology) -> Result<Vec<u8>, OutOfMemory>
+    requires few { length topology.now.arcs.arcs < 2 ^ 63 }
+    ensures text { IfOk result (λ t. (m : Layers) → IsOf m topology.now → t.items ≡ canon topology.now.grid m) }
+    ensures accepted { IfOk result (λ t. (m : Layers) → IsOf m topology.now → MapFits topology.now.grid m → Means t.items topology.now.grid m) }
+{
+    topo_io::text_of(alloc, topology)
+}
 
 // The canonical text of a map on a grid, which is read back as the grid and the map.
 pub(crate) fn canonical_text(
@@ -20,5 +31,5 @@ pub(crate) fn canonical_text(
     ensures accepted { IfOk result (λ t. MapFits grid.now map.now → Means t.items grid.now map.now) }
 {
     let topology = Topology::build(alloc, grid, map)?;
-    topo_io::text_of(alloc, &topology)
+    text_of_topology(alloc, &topology)
 }

@@ -2,6 +2,8 @@
 #![tactic(auto)]
 
 mod canonical;
+mod cut;
+pub mod cut_shard;
 pub mod fault;
 pub mod grouping;
 mod joining;
@@ -13,6 +15,7 @@ mod running;
 pub mod shard;
 pub mod whole;
 
+pub use cut_shard::Cut;
 pub use fault::{JoinFault, MergeFault, PlanFault};
 pub use merge::merge_texts;
 pub use plan::{Plan, run_plan};

@@ -1,0 +1,18 @@
+use Rattle.std.proofs.Common.{◌≡◌, ◌∙◌, ap, sym, subst}
+use Rattle.std.proofs.lemmas.Result.{IfOk-weaker}
+use Rattle.shapes.specs.Fitting.{MapFits}
+use Rattle.topo_io.specs.Canon.{canon}
+use Rattle.topo_io.specs.Means.{Means}
+use Rattle.refine.proofs.cut_shard.CutShard.text.Goals as goal
+
+pub returns-clause-text : goal.returns-clause-text
+returns-clause-text c =
+    IfOk-weaker c.text_of_topology.result _ _
+    (λ t is. is c.self.inside.of_map.0 c.self.invariant.of_map ∙ ap (λ s. canon s.grid s.map) c.self.view_is) c.text_of_topology.ensures.text
+
+pub returns-clause-accepted : goal.returns-clause-accepted
+returns-clause-accepted c =
+    IfOk-weaker c.text_of_topology.result _ _
+    (λ t is fits. subst (λ s. Means t.items s.grid s.map) c.self.view_is
+    (is c.self.inside.of_map.0 c.self.invariant.of_map (subst (λ s. MapFits s.grid s.map) (sym c.self.view_is) fits)))
+    c.text_of_topology.ensures.accepted
