@@ -17,3 +17,7 @@ pub mod MergedLayers
 pub mod UnitedGeometry
 pub mod RecutGeometries
 pub mod JoinedLayers
+pub mod LessEntries
+pub mod LeftGeometries
+pub mod RejoinedLayers
+pub mod JoinUndone
