@@ -20,3 +20,7 @@ pub mod JoinedLayers
 pub mod FeatureOrder
 pub mod MergedSteps
 pub mod JoinedParts
+pub mod LessEntries
+pub mod LeftGeometries
+pub mod RejoinedLayers
+pub mod JoinUndone

@@ -31,7 +31,8 @@ use Rattle.topo.proofs.Sound.{are_sound}
 use Rattle.refine.specs.Cuts.{body_recut, geometry_recut}
 use Rattle.refine.proofs.UnitedGeometry.{geometries_unite, gives}
 
-order : IsOrder position_cmp
+-- positions have an order
+pub order : IsOrder position_cmp
 order = record { total = position_total; same = position_same }
 
 body_seen : (table : List (List Pos)) (pieces : List (List ArcRef)) (b : bodies.Body) → body_of (body_recut table pieces b) ≡ recut_body position_cmp table pieces (body_of b)

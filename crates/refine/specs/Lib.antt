@@ -4,6 +4,7 @@ pub mod Plans
 pub mod Groupings
 pub mod Naming
 pub mod Running
+pub mod Less
 pub mod Alike
 pub mod Merge
 pub mod MergeLaws
