@@ -1,7 +1,7 @@
 #!/usr/bin/env python3
 """Measures merging over shards that keep their map and over shards that keep their topology.
 
-    (cd crates/topotool && rt run) && (cd crates/bench_merge && rt run) && (cd crates/value_alone && rt run)
+    (cd crates/topotool && rt run) && (cd crates/bench_merge && rt run) && (cd crates/bench_value && rt run)
     python3 bench/merges.py
 
 builds the programs and prints, for tilings that are spread over 16 and over 256 shards, what merging
@@ -21,7 +21,7 @@ sys.dont_write_bytecode = True
 from measuring import TOOL, TOP, least, need_tool, run_once, same_bytes, write_tiling
 
 PROGRAM = os.path.join(TOP, "crates", "bench_merge", "out", "bench_merge")
-VALUE = os.path.join(TOP, "crates", "value_alone", "out", "value_alone")
+VALUE = os.path.join(TOP, "crates", "bench_value", "out", "bench_value")
 SHAPES = ["left", "right", "halves"]
 
 

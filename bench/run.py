@@ -1,7 +1,7 @@
 #!/usr/bin/env python3
 """Measures the command on tilings of districts, against reading the same files as JSON values.
 
-    for p in topotool features_alone value_alone; do (cd crates/$p && rt run); done
+    for p in topotool bench_features bench_value; do (cd crates/$p && rt run); done
     python3 bench/run.py
 
 builds the programs and prints a table: for each command its time, how many times the time and the
@@ -20,8 +20,8 @@ sys.dont_write_bytecode = True
 
 from measuring import GRID, TOOL, TOP, measure_both, run_once, same_bytes, write_tiling
 
-VALUE = os.path.join(TOP, "crates", "value_alone", "out", "value_alone")
-FEATURES = os.path.join(TOP, "crates", "features_alone", "out", "features_alone")
+VALUE = os.path.join(TOP, "crates", "bench_value", "out", "bench_value")
+FEATURES = os.path.join(TOP, "crates", "bench_features", "out", "bench_features")
 SHARDS = 16
 
 

@@ -53,6 +53,6 @@ pub(crate) fn pieces_of(
     ensures { IfOk result (λ v. (g u : Geometry Pos) → IsSound u → IsPartOf g u → IsTableOf u old.now → IsTableOf g arcs.now → IsRefinementOf position_cmp g u arcs.now.arcs old.now.arcs v.items) }
 {
     let none = ArcTable::from_pieces(alloc, Vec::new(alloc))?;
-    let index = VisitIndex::over_arcs(alloc, old, &none)?;
-    refs_of_table(alloc, &index, arcs, old)
+    let over = VisitIndex::over_arcs(alloc, old, &none)?;
+    refs_of_table(alloc, &over.index, arcs, old)
 }

@@ -3,6 +3,6 @@ use Rattle.rejoining.proofs.cutting_back.pieces_of.Goals as goal
 
 pub returns : goal.returns
 returns c =
-    refined_told (λ v. v.items) c.args.old.now c.args.arcs.now c.in_ok-index.index c.refs_of_table.result c.refs_of_table.ensures
-    (λ u su ot. c.in_ok-index.ensures.union u nothing u su nothing_sound ot (c.in_ok-none.ensures.of_map nothing nothing_sound (no_pieces c.new.result.items c.new.ensures.items))
+    refined_told (λ v. v.items) c.args.old.now c.args.arcs.now c.in_ok-over.over.index c.refs_of_table.result c.refs_of_table.ensures
+    (λ u su ot. c.in_ok-over.ensures.union u nothing u su nothing_sound ot (c.in_ok-none.ensures.of_map nothing nothing_sound (no_pieces c.new.result.items c.new.ensures.items))
     (with_nothing u))
