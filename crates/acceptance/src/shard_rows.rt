@@ -30,11 +30,7 @@ fn shards<S: Shard>(alloc: Global, texts: &[&str], order: &[usize]) -> Result<Ve
 }
 
 /// The text of a plan that is run.
-fn text_of<S: Shard>(
-    alloc: Global,
-    shards: &[S],
-    plan: Option<Plan>,
-) -> Result<Vec<u8>, Fail> {
+fn text_of<S: Shard>(alloc: Global, shards: &[S], plan: Option<Plan>) -> Result<Vec<u8>, Fail> {
     let plan = plan.ok_or("no plan")?;
     let joined = run_plan(alloc, shards, &plan)?;
     Ok(joined.text(alloc)?)

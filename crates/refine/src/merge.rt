@@ -5,12 +5,12 @@ ghost use Rattle.refine.specs.Plans.{leaves, first_outside, off_grid};
 ghost use Rattle.refine.specs.Plans as plans;
 ghost use Rattle.refine.specs.Merge.{bytes_of, AreKept, IsFaultOf, IsReadFault, IsMergeFault, IsMergeOf, MeansUnion};
 
+use crate::cut_shard::Cut;
 use crate::fault::MergeFault;
 use crate::joining::join_all;
 use crate::naming::named_places;
 use crate::plan::{Plan, first_bad_leaf, same_grid};
 use crate::shard::Shard;
-use crate::cut_shard::Cut;
 use faults::{Fault, FaultKind};
 use grid::transform::Grid;
 use std::alloc::Global;

@@ -283,9 +283,7 @@ fn in_a_row(alloc: Global, leaves: &[usize]) -> Result<Option<Plan>, Fail> {
 fn wholes(alloc: Global, list: &[Vec<u8>]) -> Result<Vec<Whole>, Fail> {
     let mut made = Vec::new(alloc);
     for text in list {
-        let (grid, map) = topo_io::read(alloc, text.as_slice())
-            .ok()
-            .ok_or("refused")?;
+        let (grid, map) = topo_io::read(alloc, text.as_slice()).ok().ok_or("refused")?;
         made.push(Whole::of_map(alloc, &grid, map)?)?;
     }
     Ok(made)
