@@ -214,7 +214,7 @@ fn order_stitched(
 }
 
 /// The order of the features of two geometries. They are stitched only where their ids and their
-/// properties tie and their lists of arcs differ.
+/// properties tie.
 fn order_of(
     alloc: Global,
     arcs: &ArcTable,

@@ -28,7 +28,8 @@ fn join_pairs<S: Shard>(alloc: Global, shards: Vec<S>) -> Result<Vec<S>, JoinFau
     Ok(joined)
 }
 
-// The join of all shards, by halves: a round joins neighbours, until one is left. Each shard is moved, and none copied.
+// The join of all shards, by halves: a round joins neighbours, until one is left. Each shard is handed over to the
+// join that takes it.
 pub(crate) fn join_all<S: Shard>(alloc: Global, shards: Vec<S>) -> Result<S, JoinFault>
     requires some { 0 < length shards.items }
     ensures union { IfOk result (λ s. S.map_of s ≡ union_all (map S.map_of shards.items)) }
