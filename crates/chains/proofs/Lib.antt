@@ -21,7 +21,6 @@ pub mod Noting
 pub mod Found
 pub mod AllChains
 pub mod Slices
-pub mod Dealt
 pub mod Sharing
 pub mod SharedVertices
 pub mod TablesAsMap

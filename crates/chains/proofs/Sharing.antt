@@ -7,8 +7,13 @@ use Rattle.std.proofs.lemmas.Nat.{and_or_self}
 use Rattle.std.proofs.lemmas.Nat.Bits.{same_from_bits, bit_at_and, bit_at_or}
 use Rattle.theory.specs.Lists.{Has}
 use Rattle.grid.specs.declared.pos.Pos.{Pos}
-use Rattle.chains.specs.Shared.{arc_shared, mask_at, mask_of, word_among, shared_if, shared_in, has_some, AreDealtTo, IsMarked, Keeps, KeepsClashes}
+use Rattle.lines.proofs.Positions.{true_false}
+use Rattle.chains.specs.Among.{among}
+use Rattle.chains.specs.Bits.{mask_at, may_hold, AreSet, Holds, IsMarked, Keeps}
+use Rattle.chains.specs.Shared.{arc_shared, shared_if, shared_in, has_some, AreDealtTo, KeepsClashes}
+use Rattle.chains.specs.declared.bits.PositionBits.{PositionBits}
 use Rattle.chains.specs.declared.visits.Visit.{Visit}
+use Rattle.chains.proofs.Among.{among_has}
 use Rattle.chains.proofs.Slices.{drop_item, drop_next}
 use Rattle.chains.proofs.TablesAsMap.{given, answered}
 
@@ -28,7 +33,7 @@ is_equal : (a b : ℕ) → a ≡ b → nat_eq a b ≡ true
 is_equal a b e = eq-eqb a b e
 
 -- bits set in a word of the list
-pub mask_set : (words : List ℕ) (at w mask : ℕ) → slice_get words at ≡ Some w → IsMarked at mask words (slice_set words at (bit_or w mask))
+pub mask_set : (words : List ℕ) (at w mask : ℕ) → slice_get words at ≡ Some w → AreSet at mask words (slice_set words at (bit_or w mask))
 mask_set [] at w mask e = absurd cc
 mask_set (x ∷ words) zero w mask e =
     let h : x ≡ w = cc in (
@@ -45,7 +50,7 @@ mask_set (x ∷ words) (suc at) w mask e =
       t.1,
     )
   where
-    keeps : Keeps words (slice_set words at (bit_or w mask)) → (n m : ℕ) → mask_at (x ∷ words) n m ≡ true → mask_at (x ∷ slice_set words at (bit_or w mask)) n m ≡ true
+    keeps : ((n m : ℕ) → mask_at words n m ≡ true → mask_at (slice_set words at (bit_or w mask)) n m ≡ true) → (n m : ℕ) → mask_at (x ∷ words) n m ≡ true → mask_at (x ∷ slice_set words at (bit_or w mask)) n m ≡ true
     keeps f zero m k = k
     keeps f (suc n) m k = f n m k
 
@@ -55,41 +60,49 @@ past_words (x ∷ words) zero mask h = absurd (omega arith)
 past_words (x ∷ words) (suc at) mask h = past_words words at mask (omega (arith, h))
 
 -- of the positions those whose bits are not set are still to come
-abbrev pub AreLeft : ℕ → List ℕ → List ℕ → List Pos → List Pos → Type 0
-AreLeft count old new all left = Keeps old new × ((p : Pos) → Has p all → Has p left ⊎ (mask_at new (word_among count p) (mask_of p) ≡ true))
+abbrev pub AreLeft : PositionBits → PositionBits → List Pos → List Pos → Type 0
+AreLeft old new all left = Keeps old new × ((p : Pos) → Has p all → Has p left ⊎ (may_hold new p ≡ true))
 
-pub one_marked : (count : ℕ) (old words new : List ℕ) (all : List Pos) (i : ℕ) (x : Pos) → i < length all → x ≡ get_or all i x →
-    IsMarked (word_among count x) (mask_of x) words new → AreLeft count old words all (drop i all) → AreLeft count old new all (drop (i + 1) all)
-one_marked count old words new all i x h e m before = (
-  (λ n k f. m.0 n k (before.0 n k f)),
+pub one_marked : (old bits new : PositionBits) (all : List Pos) (i : ℕ) (x : Pos) → i < length all → x ≡ get_or all i x →
+    IsMarked x bits new → AreLeft old bits all (drop i all) → AreLeft old new all (drop (i + 1) all)
+one_marked old bits new all i x h e m before = (
+  (λ p f. m.0 p (before.0 p f)),
   (λ p j. elim (before.1 p j) [
     | inl k ↦ elim (subst (Has p) (drop_item all i x h e) k) [
-      | inl q ↦ inr (subst (λ w. mask_at new (word_among count w) (mask_of w) ≡ true) (sym q) m.1)
+      | inl q ↦ inr (subst (λ w. may_hold new w ≡ true) (sym q) m.1)
       | inr q ↦ inl q
     ]
-    | inr k ↦ inr (m.0 (word_among count p) (mask_of p) k)
+    | inr k ↦ inr (m.0 p k)
   ]),
 )
 
+-- what finds a bit not set is none of the list
+pub not_held : (bits : PositionBits) (js ks : List Pos) (p : Pos) (b : Bool) → ks ≡ js → b ≡ may_hold bits p → b ≡ false → Holds bits ks → b ≡ among js p
+not_held bits js ks p b v e f h = f ∙ sym (go (among ks p) refl) ∙ ap (λ l. among l p) v
+  where
+    go : (a : Bool) → among ks p ≡ a → among ks p ≡ false
+    go true t = absurd (true_false (may_hold bits p) (h p (among_has ks p t)) (sym e ∙ f))
+    go false t = t
+
 -- of the arcs those whose vertices' bits are not all set are still to come
-abbrev pub ArcsAreLeft : ℕ → List ℕ → List (List Pos) → List (List Pos) → Type 0
-ArcsAreLeft count new all left = (c : List Pos) → Has c all → Has c left ⊎ ((p : Pos) → Has p c → mask_at new (word_among count p) (mask_of p) ≡ true)
+abbrev pub ArcsAreLeft : PositionBits → List (List Pos) → List (List Pos) → Type 0
+ArcsAreLeft bits all left = (c : List Pos) → Has c all → Has c left ⊎ Holds bits c
 
 there : {A : Type 0} (l : List A) (i : ℕ) → i < length l → (x : A) × (slice_get l i ≡ Some x)
 there [] i h = absurd (omega arith)
 there (x ∷ l) zero h = (x, refl)
 there (x ∷ l) (suc i) h = there l i (omega (arith, h))
 
-pub arc_marked : (count : ℕ) (words new : List ℕ) (arcs : List (List Pos)) (i : ℕ) → i < length arcs → AreDealtTo count words new arcs i →
-    ArcsAreLeft count words arcs (drop i arcs) → ArcsAreLeft count new arcs (drop (i + 1) arcs)
-arc_marked count words new arcs i h m before c j =
+pub arc_marked : (bits new : PositionBits) (arcs : List (List Pos)) (i : ℕ) → i < length arcs → AreDealtTo bits new arcs i →
+    ArcsAreLeft bits arcs (drop i arcs) → ArcsAreLeft new arcs (drop (i + 1) arcs)
+arc_marked bits new arcs i h m before c j =
     let t = there arcs i h in
     elim (before c j) [
       | inl k ↦ elim (subst (Has c) (drop_next arcs i t.0 t.1) k) [
         | inl e ↦ inr (m.1 c (t.1 ∙ ap Some (sym e)))
         | inr r ↦ inl r
       ]
-      | inr k ↦ inr (λ p q. m.0 (word_among count p) (mask_of p) (k p q))
+      | inr k ↦ inr (λ p q. m.0 p (k p q))
     ]
 
 pub none_left : {A : Type 0} (x : A) (l : List A) (i : ℕ) → length l ≤ i → ¬ Has x (drop i l)

@@ -1,7 +1,7 @@
 pub mod Among
 pub mod Visits
+pub mod Bits
 pub mod Shared
-pub mod Slots
 pub mod Seen
 pub mod Index
 pub mod Starts

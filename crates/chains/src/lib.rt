@@ -2,12 +2,12 @@
 //! the maximal chains over any segments.
 #![tactic(auto)]
 
+mod bits;
 pub mod cutting;
 pub mod joining;
 mod merging;
 pub mod segment;
 mod shared;
-mod slots;
 mod starts;
 mod stop_set;
 mod stored;

@@ -1,30 +1,30 @@
-//! The stops of chains, with most look-ups ended by a table of slots.
+//! The stops of chains, with most look-ups ended by bits that the stops set.
 ghost use Rattle.std.specs.Prelude.{◌≡◌, IfOk};
 ghost use Rattle.chains.specs.Among.{among};
 
-use crate::slots::{is_marked, slot, slots_of};
+use crate::bits::PositionBits;
 use grid::pos::Pos;
 use std::alloc::{AllocError, Global};
 use std::collections::BTreeSet;
 use std::marker::Model;
 
-/// A set of stops. Most vertices are none, and have a slot that holds none: they need no look-up.
+/// A set of stops. Most vertices are none, and find their bits not set: they need no look-up.
 #[derive(Drop)]
 pub(crate) struct StopSet<'a> {
     stops: &'a BTreeSet<Pos>,
-    slots: Vec<bool>,
+    bits: PositionBits,
 }
 
 impl<'a> Model for StopSet<'a> {
     ghost use Rattle.std.specs.Prelude.{List};
     ghost use Rattle.grid.specs.declared.pos.Pos.{Pos};
-    ghost use Rattle.chains.specs.Slots.{AreSlotsOf};
+    ghost use Rattle.chains.specs.Bits.{Holds};
 
     ghost Value = { List Pos };
 
     ghost view = { λ a. a.stops.now.keys };
 
-    ghost invariant = { λ a. AreSlotsOf a.slots.items a.stops.now.keys };
+    ghost invariant = { λ a. Holds a.bits a.stops.now.keys };
 }
 
 fn listed(alloc: Global, stops: &BTreeSet<Pos>) -> Result<Vec<Pos>, AllocError>
@@ -42,14 +42,14 @@ impl<'a> StopSet<'a> {
         ensures { IfOk result (λ s. s ≡ stops.now.keys) }
     {
         let list = listed(alloc, stops)?;
-        let slots = slots_of(alloc, &list)?;
-        Ok(StopSet { stops, slots })
+        let bits = PositionBits::of(alloc, &list)?;
+        Ok(StopSet { stops, bits })
     }
 
     /// Whether a position is one of the stops.
     pub(crate) fn has(&self, p: Pos) -> bool
         ensures { result ≡ among self.now p }
     {
-        is_marked(&self.slots, slot(p)) && self.stops.contains(&p)
+        self.bits.may_hold(p) && self.stops.contains(&p)
     }
 }

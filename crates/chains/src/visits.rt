@@ -17,8 +17,8 @@ ghost use Rattle.theory.specs.Refinement.{IsUnionOf, unclosed};
 ghost use Rattle.shapes.specs.Maps.{set_of};
 ghost use Rattle.shapes.specs.Sets as set;
 
+use crate::bits::{PositionBits, place_among};
 use crate::shared::VertexBits;
-use crate::slots::{is_marked, slot, slots_of};
 use crate::table::ArcTable;
 use faults::OutOfMemory;
 use grid::pos::Pos;
@@ -49,7 +49,7 @@ fn visit_between(before: Pos, here: Pos, next: Pos) -> Visit
     }
 }
 
-/// The number of places in the table of recent visits.
+/// The most places in the table of recent visits.
 const RECENT: usize = 65536;
 
 /// What lines and rings are seen to visit: the ends of the lines apart from the other visits.
@@ -63,12 +63,25 @@ struct Seen {
 }
 
 impl Seen {
+    /// Widens the table of recent visits, where fewer are noted in it than will be after so many more.
+    fn widen_recent(&mut self, more: usize) -> Result<(), AllocError>
+        ensures ends { self.new.ends.items ≡ self.old.ends.items }
+        ensures visits { self.new.visits.items ≡ self.old.visits.items }
+    {
+        let wanted = self.visits.len().saturating_add(more).min(RECENT);
+        if self.recent.len() < wanted {
+            self.recent.resize(wanted.saturating_mul(2).min(RECENT), 0)?;
+        }
+        Ok(())
+    }
+
     /// Notes a visit, unless an equal one stands where the table of recent visits points.
     fn note(&mut self, visit: Visit) -> Result<(), AllocError>
         ensures ends { self.new.ends.items ≡ self.old.ends.items }
         ensures visits { OnOk result (HaveSame self.new.visits.items (self.old.visits.items ++ visit ∷ [])) }
     {
-        if let Some(place) = self.recent.get_mut(slot(visit.vertex) % RECENT) {
+        let at = place_among(self.recent.len(), visit.vertex);
+        if let Some(place) = self.recent.get_mut(at) {
             if let Some(noted) = self.visits.get(*place) {
                 if *noted == visit {
                     return Ok(());
@@ -84,6 +97,7 @@ impl Seen {
         ensures ends { OnOk result (self.new.ends.items ≡ self.old.ends.items ++ ends_of line.now) }
         ensures visits { OnOk result (HaveSame self.new.visits.items (self.old.visits.items ++ inner_of line.now)) }
     {
+        self.widen_recent(line.len())?;
         let Some((first, others)) = line.split_first() else {
             return Ok(());
         };
@@ -106,6 +120,7 @@ impl Seen {
         ensures ends { OnOk result (self.new.ends.items ≡ self.old.ends.items) }
         ensures visits { OnOk result (HaveSame self.new.visits.items (self.old.visits.items ++ around_of ring.now)) }
     {
+        self.widen_recent(ring.len())?;
         let Some((first, others)) = ring.split_first() else {
             return Ok(());
         };
@@ -346,20 +361,20 @@ fn keep_clashes(kept: &mut Vec<Pos>, visits: &[Visit]) -> Result<(), AllocError>
 #[derive(Drop)]
 pub struct VisitIndex {
     junctions: Vec<Pos>,
-    /// Most positions are no junctions, and have a slot that holds none: they need no look-up.
-    slots: Vec<bool>,
+    /// Most positions are no junctions, and find their bits not set: they need no look-up.
+    bits: PositionBits,
 }
 
 impl Model for VisitIndex {
     ghost use Rattle.std.specs.Prelude.{List};
     ghost use Rattle.grid.specs.declared.pos.Pos.{Pos};
-    ghost use Rattle.chains.specs.Slots.{IsLookUp};
+    ghost use Rattle.chains.specs.Bits.{IsLookUp};
 
     ghost Value = { List Pos };
 
     ghost view = { λ a. a.junctions.items };
 
-    ghost invariant = { λ a. IsLookUp a.slots.items a.junctions.items };
+    ghost invariant = { λ a. IsLookUp a.bits a.junctions.items };
 }
 
 /// The index over the arcs of two tables, and for each arc of either whether it may be cut: one that is
@@ -381,8 +396,8 @@ impl VisitIndex {
         let mut junctions = ends;
         keep_clashes(&mut junctions, &sorted_visits)?;
         junctions.sort_unstable();
-        let slots = slots_of(alloc, &junctions)?;
-        Ok(VisitIndex { junctions, slots })
+        let bits = PositionBits::of(alloc, &junctions)?;
+        Ok(VisitIndex { junctions, bits })
     }
 
     /// The index of all lines and rings of a map.
@@ -392,7 +407,7 @@ impl VisitIndex {
         let mut seen = Seen {
             ends: Vec::new(alloc),
             visits: Vec::new(alloc),
-            recent: vec![in alloc; 0; RECENT]?,
+            recent: Vec::new(alloc),
         };
         seen.see_layers(map)?;
         let index = VisitIndex::of_seen(alloc, seen)?;
@@ -420,7 +435,6 @@ impl VisitIndex {
         let mut seen = Seen {
             ends: Vec::new(alloc),
             visits: Vec::new(alloc),
-            // Arcs of a table visit no vertex twice in the same way: a hint would miss.
             recent: Vec::new(alloc),
         };
         let left_marks = seen.see_arcs(alloc, &of_right, left)?;
@@ -436,7 +450,7 @@ impl VisitIndex {
     fn has(&self, p: Pos) -> bool
         ensures { result ≡ among self.now p }
     {
-        is_marked(&self.slots, slot(p)) && self.junctions.binary_search(&p).is_ok()
+        self.bits.may_hold(p) && self.junctions.binary_search(&p).is_ok()
     }
 
     /// Whether a position is a junction.

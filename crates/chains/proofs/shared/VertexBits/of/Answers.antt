@@ -4,7 +4,7 @@ use Rattle.chains.proofs.shared.VertexBits.of.Goals as goal
 
 pub loop-number-preserved : goal.loop-number-preserved
 loop-number-preserved c =
-    arc_marked _ c.loop-number.words.items c.mark_numbered.new.words.items c.args.table.now.arcs c.loop-number.number
+    arc_marked c.loop-number.bits c.mark_numbered.new.bits c.args.table.now.arcs c.loop-number.number
     (subst (λ w. c.loop-number.number < w) c.len-number-end.ensures.len c.loop-number-test.true) c.mark_numbered.ensures c.loop-number.invariant
 
 pub returns : goal.returns

@@ -1,7 +1,7 @@
 use Rattle.std.proofs.Common.{◌<◌, ◌≤◌, ◌∙◌, subst}
 use Rattle.chains.proofs.Sharing.{mask_set, past_words}
 use Rattle.chains.proofs.Slices.{item_at}
-use Rattle.chains.proofs.shared.mark.Goals as goal
+use Rattle.chains.proofs.bits.set_mask.Goals as goal
 
 pub returns-then-at-len : goal.returns-then-at-len
 returns-then-at-len c =

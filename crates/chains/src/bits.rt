@@ -1,0 +1,112 @@
+//! Words in which positions set bits, so that most look-ups of a position end at once: most positions
+//! that are not among those dealt find a bit of theirs not set.
+ghost use Rattle.std.specs.Prelude.{◌≡◌, IfOk, true};
+ghost use Rattle.chains.specs.Bits as spec;
+ghost use Rattle.chains.specs.Bits.{AreMarked, AreSet, Holds, IsMarked, mask_at};
+
+use grid::pos::Pos;
+use std::alloc::{AllocError, Global};
+
+/// A position sets three of the 64 bits of its word, and about two positions share a word.
+const POSITIONS_EACH: usize = 2;
+
+/// How many words there are, and the bits that positions set in them.
+#[derive(Drop)]
+pub(crate) struct PositionBits {
+    count: usize,
+    words: Vec<u64>,
+}
+
+/// A number for a position. Positions near one another mostly have quite different ones.
+fn hash(p: Pos) -> u64
+    ensures { result ≡ spec.hash p }
+{
+    let across = p.x().cast_unsigned().wrapping_mul(11400714819323198485);
+    let up = p.y().cast_unsigned().wrapping_mul(14029467366897019727);
+    across.wrapping_add(up)
+}
+
+/// The place of a position, of so many.
+pub(crate) fn place_among(count: usize, p: Pos) -> usize
+    ensures { result ≡ spec.place_among count p }
+{
+    ((hash(p) >> 32).wrapping_mul(count as u64) >> 32) as usize
+}
+
+/// One bit of a word.
+fn bit(n: u64) -> u64
+    ensures { result ≡ spec.bit n }
+{
+    1 << (n % 64)
+}
+
+/// The bits of a position.
+fn mask_of(p: Pos) -> u64
+    ensures { result ≡ spec.mask_of p }
+{
+    let number = hash(p);
+    bit(number >> 14) | bit(number >> 20) | bit(number >> 26)
+}
+
+/// Whether bits are set in a word; in what is no word all are.
+fn has_mask(words: &[u64], at: usize, mask: u64) -> bool
+    ensures { result ≡ mask_at words.now at mask }
+{
+    match words.get(at) {
+        Some(word) => *word & mask == mask,
+        None => true,
+    }
+}
+
+/// Sets bits in a word.
+fn set_mask(words: &mut Vec<u64>, at: usize, mask: u64)
+    ensures { AreSet at mask words.old.items words.new.items }
+{
+    if at < words.len() {
+        words[at] = words[at] | mask;
+    }
+}
+
+impl PositionBits {
+    /// Words for so many positions, with no bits set.
+    pub(crate) fn for_positions(
+        alloc: Global,
+        positions: usize,
+    ) -> Result<PositionBits, AllocError> {
+        let count = (positions / POSITIONS_EACH).saturating_add(1);
+        let words = vec![in alloc; 0; count]?;
+        Ok(PositionBits { count, words })
+    }
+
+    /// Sets the bits of a position.
+    fn mark(&mut self, p: Pos)
+        ensures { IsMarked p self.old self.new }
+    {
+        set_mask(&mut self.words, place_among(self.count, p), mask_of(p));
+    }
+
+    /// Sets the bits of positions.
+    pub(crate) fn mark_all(&mut self, positions: &[Pos])
+        ensures { AreMarked positions.now self.old self.new }
+    {
+        for position in positions {
+            self.mark(*position);
+        }
+    }
+
+    /// The bits of positions.
+    pub(crate) fn of(alloc: Global, positions: &[Pos]) -> Result<PositionBits, AllocError>
+        ensures { IfOk result (λ s. Holds s positions.now) }
+    {
+        let mut bits = PositionBits::for_positions(alloc, positions.len())?;
+        bits.mark_all(positions);
+        Ok(bits)
+    }
+
+    /// Whether the bits of a position are set. Where they are not, it is none of those dealt.
+    pub(crate) fn may_hold(&self, p: Pos) -> bool
+        ensures { result ≡ spec.may_hold self.now p }
+    {
+        has_mask(&self.words, place_among(self.count, p), mask_of(p))
+    }
+}
