@@ -21,6 +21,7 @@ pub mod Noting
 pub mod Found
 pub mod AllChains
 pub mod Slices
+pub mod Extents
 pub mod Sharing
 pub mod SharedVertices
 pub mod TablesAsMap

@@ -23,19 +23,22 @@ use Rattle.lines.specs.Positions.{position_total, position_same}
 use Rattle.lines.proofs.Positions.{true_false}
 use Rattle.chains.specs.Among.{among}
 use Rattle.chains.specs.Arcs.{Arcs}
+use Rattle.chains.specs.Extents.{within}
+use Rattle.chains.specs.Holding.{HoldAll}
 use Rattle.chains.specs.Index.{IsIndexOf, AreVisitsOf}
 use Rattle.chains.specs.OfArcs.{arc_pieces, arc_visits, tables_as_map}
 use Rattle.chains.specs.Pieces.{begins_free, cut_list, is_backwards_less, line_pieces, opened_at, oriented, parts_at, ring_parts, ring_pieces}
-use Rattle.chains.specs.Shared.{arc_shared, has_some, may_hold, whole, HoldAll, KeepsClashes, StayWhole}
+use Rattle.chains.specs.Shared.{arc_meets, arc_shared, inside, may_hold, whole, HoldCommon, HoldShared, KeepsClashes, StayWhole}
 use Rattle.chains.specs.Starts.{start_of, start_cmp, starts_from, least_from, start_place}
 use Rattle.chains.specs.Table.{is_loop, IsTableOf}
-use Rattle.chains.specs.Visits.{around_of, inner_of, visit_of}
+use Rattle.chains.specs.Visits.{around_of, inner_of, visit_of, HaveSame}
+use Rattle.chains.specs.declared.extent.Extent.{Extent}
 use Rattle.chains.specs.declared.shared.VertexBits.{VertexBits}
 use Rattle.chains.specs.declared.starts.Start.{Start}
 use Rattle.chains.specs.declared.visits.Visit.{Visit}
 use Rattle.chains.proofs.Among.{among_has, has_among}
 use Rattle.chains.proofs.Gathered.{between_has, clash_seen, found_in}
-use Rattle.chains.proofs.Sharing.{has_shared, none_shared, shared_has}
+use Rattle.chains.proofs.Sharing.{none_met}
 use Rattle.chains.proofs.TablesAsMap.{free_loop, told, tables_alike, tables_are}
 
 last_has : (x : Pos) (r : List Pos) → Has (last_of x r) (x ∷ r)
@@ -65,6 +68,38 @@ round_has a v b (x ∷ (y ∷ l)) h = inr (middle_has x a v b y ((y ∷ l) ++ (x
 around_has : (a v b : Pos) (r : List Pos) → Between a v b (around r) → Has v (closed r)
 around_has a v b r (inl h) = round_has a v b r h
 around_has a v b r (inr h) = round_has b v a r h
+
+front_has : (v x : Pos) (r : List Pos) → Has v (front_of x r) → Has v (x ∷ r)
+front_has v x [] h = absurd h
+front_has v x (y ∷ r) (inl e) = inl e
+front_has v x (y ∷ r) (inr h) = inr (front_has v y r h)
+
+-- the inner vertices of an arc stand in it
+inside_has : (v : Pos) (b : Bool) (c : List Pos) → Has v (inside b c) → Has v c
+inside_has v true c h = h
+inside_has v false [] h = absurd h
+inside_has v false (x ∷ []) h = absurd h
+inside_has v false (x ∷ (y ∷ r)) h = inr (front_has v y r h)
+
+passes_inside : (a v b : Pos) (l : List Pos) → Passes a v b l → Has v (inside false l)
+passes_inside a v b [] h = absurd h
+passes_inside a v b (x ∷ []) (inl h) = absurd h.1
+passes_inside a v b (x ∷ []) (inr h) = absurd h
+passes_inside a v b (x ∷ (y ∷ [])) (inl h) = absurd h.1.1
+passes_inside a v b (x ∷ (y ∷ [])) (inr (inl h)) = absurd h.1
+passes_inside a v b (x ∷ (y ∷ [])) (inr (inr h)) = absurd h
+passes_inside a v b (x ∷ (y ∷ (z ∷ r))) (inl h) = inl h.1.0
+passes_inside a v b (x ∷ (y ∷ (z ∷ r))) (inr h) = inr (passes_inside a v b (y ∷ (z ∷ r)) h)
+
+-- the visits of an arc are at its inner vertices
+visit_inside : (m : Geometry Pos) (sm : IsSound m) (s : Arcs) (ms : IsTableOf m s) (c : List Pos) → Has c s.arcs → (w : Visit) → Has w (arc_visits s.loops c) → Has w.vertex (inside (is_loop s.loops c) c)
+visit_inside m sm s ms c h w = go (is_loop s.loops c) refl
+  where
+    go : (b : Bool) → is_loop s.loops c ≡ b → Has w (cond b (around_of (unclosed c)) (inner_of c)) → Has w.vertex (inside b c)
+    go true e k =
+        let f = found_in w (around (unclosed c)) k in
+        subst (Has w.vertex) (sym (free_loop m sm s ms c h e).0) (round_has f.before w.vertex f.next (unclosed c) f.there)
+    go false e k = let f = found_in w c k in passes_inside f.before w.vertex f.next c f.there
 
 -- a visit of an arc of a map is at no junction of it
 inner : (m : Geometry Pos) (sm : IsSound m) (s : Arcs) (ms : IsTableOf m s) (c : List Pos) → Has c s.arcs → (w : Visit) → Has w (arc_visits s.loops c) → ¬ JunctionOf m w.vertex
@@ -249,28 +284,41 @@ mapped_at f (y ∷ l) (suc i) x e = mapped_at f l i x e
 
 -- what is noted of one table, where the bits are those of the other
 module _ (m n : Geometry Pos) (sm : IsSound m) (s t : Arcs) (ms : IsTableOf m s) (a : Geometry Pos) (am : AreArcsAsMap m n s.arcs t.arcs a)
-    (bits : VertexBits) (hold : HoldAll bits t.arcs) where
-  pub side_whole : (js : List Pos) → IsIndexOf js a → (marks : List Bool) → marks ≡ map (λ c. has_some (arc_shared (may_hold bits) s.loops c)) s.arcs → StayWhole js s marks
+    (bits : VertexBits) (hold : HoldShared bits t.arcs s.arcs) where
+  -- an arc of which no inner vertex may be the other table's has no junction at a visit
+  unmet : (c : List Pos) → Has c s.arcs → arc_meets (may_hold bits) s.loops c ≡ false → (w : Visit) → Has w (arc_visits s.loops c) → ¬ JunctionOf a w.vertex
+  unmet c h e w k =
+      let i = visit_inside m sm s ms c h w k in
+      alone m n sm s t ms a am c h w k (λ d j o. true_false (may_hold bits w.vertex) (hold d j c h w.vertex o (inside_has w.vertex (is_loop s.loops c) c i))
+      (none_met (may_hold bits) (inside (is_loop s.loops c) c) e w.vertex i))
+
+  pub side_whole : (js : List Pos) → IsIndexOf js a → (marks : List Bool) → marks ≡ map (arc_meets (may_hold bits) s.loops) s.arcs → StayWhole js s marks
   side_whole js index marks e i c g f =
       let h = get_has s.arcs i c g in
-      let unmet : has_some (arc_shared (may_hold bits) s.loops c) ≡ false =
-      sym (mapped_at (λ d. has_some (arc_shared (may_hold bits) s.loops d)) s.arcs i c g) ∙ sym (ap (λ w. get_or w i true) e) ∙ f in
       stays_whole m sm s ms a js index am.open_left c h
-      (λ w k. alone m n sm s t ms a am c h w k (λ d j i. true_false (may_hold bits w.vertex) (hold d j w.vertex i) (none_shared (may_hold bits) (arc_visits s.loops c) unmet w k)))
+      (unmet c h (sym (mapped_at (arc_meets (may_hold bits) s.loops) s.arcs i c g) ∙ sym (ap (λ w. get_or w i true) e) ∙ f))
 
   pub side_kept : (v : Visit) → Has v (gathered (arc_visits s.loops) s.arcs) → JunctionOf a v.vertex → Has v (gathered (arc_shared (may_hold bits) s.loops) s.arcs)
   side_kept v h j =
       let q = gathered_from (arc_visits s.loops) s.arcs v h in
-      Has-gathered (arc_shared (may_hold bits) s.loops) s.arcs q.0 v q.1 (shared_has (may_hold bits) v (arc_visits s.loops q.0) q.2 (go q.0 q.1 q.2 (may_hold bits v.vertex) refl))
+      Has-gathered (arc_shared (may_hold bits) s.loops) s.arcs q.0 v q.1 (go q.0 q.1 (arc_meets (may_hold bits) s.loops q.0) refl q.2)
     where
-      go : (c : List Pos) → Has c s.arcs → Has v (arc_visits s.loops c) → (b : Bool) → may_hold bits v.vertex ≡ b → may_hold bits v.vertex ≡ true
-      go c k l true e = e
-      go c k l false e = absurd (alone m n sm s t ms a am c k v l (λ d i z. true_false (may_hold bits v.vertex) (hold d i v.vertex z) e) j)
+      go : (c : List Pos) → Has c s.arcs → (b : Bool) → arc_meets (may_hold bits) s.loops c ≡ b → Has v (arc_visits s.loops c) → Has v (cond b (arc_visits s.loops c) [])
+      go c i true e k = k
+      go c i false e k = absurd (unmet c i e v k j)
 
   pub side_only : (v : Visit) → Has v (gathered (arc_shared (may_hold bits) s.loops) s.arcs) → Has v (gathered (arc_visits s.loops) s.arcs)
   side_only v h =
       let q = gathered_from (arc_shared (may_hold bits) s.loops) s.arcs v h in
-      Has-gathered (arc_visits s.loops) s.arcs q.0 v q.1 (has_shared (may_hold bits) v (arc_visits s.loops q.0) q.2)
+      Has-gathered (arc_visits s.loops) s.arcs q.0 v q.1 (go q.0 (arc_meets (may_hold bits) s.loops q.0) q.2)
+    where
+      go : (c : List Pos) (b : Bool) → Has v (cond b (arc_visits s.loops c) []) → Has v (arc_visits s.loops c)
+      go c true k = k
+      go c false k = absurd k
+
+-- vertices that lie in both extents are held, and those of both tables do
+pub shared_held : (s t : Arcs) (a b : Extent) (bits : VertexBits) → HoldAll (within a) s.arcs → HoldAll (within b) t.arcs → HoldCommon a b bits s.arcs → HoldShared bits s.arcs t.arcs
+shared_held s t a b bits own other common c h d k p i j = common c h p i (own c h p i) (other d k p j)
 
 pub other_way : (m n : Geometry Pos) (s t : List (List Pos)) (a : Geometry Pos) → AreArcsAsMap m n s t a → AreArcsAsMap n m t s a
 other_way m n s t a am = record {
@@ -284,7 +332,7 @@ other_way m n s t a am = record {
 
 -- what is noted of both
 module _ (m n : Geometry Pos) (sm : IsSound m) (sn : IsSound n) (s t : Arcs) (ms : IsTableOf m s) (nt : IsTableOf n t)
-    (of_s of_t : VertexBits) (hold_s : HoldAll of_s s.arcs) (hold_t : HoldAll of_t t.arcs) where
+    (of_s of_t : VertexBits) (hold_s : HoldShared of_s s.arcs t.arcs) (hold_t : HoldShared of_t t.arcs s.arcs) where
   abbrev pub all_visits : List Visit
   all_visits = gathered (arc_visits s.loops) s.arcs ++ gathered (arc_visits t.loops) t.arcs
 
@@ -294,17 +342,17 @@ module _ (m n : Geometry Pos) (sm : IsSound m) (sn : IsSound n) (s t : Arcs) (ms
   back : AreArcsAsMap n m t.arcs s.arcs (tables_as_map s t)
   back = other_way m n s.arcs t.arcs (tables_as_map s t) am
 
-  pub met_visits : (ends : List Pos) (kept : List Visit) → AreVisitsOf ends all_visits (tables_as_map s t) →
-      kept ≡ gathered (arc_shared (may_hold of_t) s.loops) s.arcs ++ gathered (arc_shared (may_hold of_s) t.loops) t.arcs → KeepsClashes kept all_visits
-  met_visits ends kept are e = record {
-    only = λ v h. elim (Has-append v (gathered (arc_shared (may_hold of_t) s.loops) s.arcs) (gathered (arc_shared (may_hold of_s) t.loops) t.arcs) (subst (Has v) e h)) [
+  pub met_kept : (ends : List Pos) (kept : List Visit) → AreVisitsOf ends all_visits (tables_as_map s t) →
+      HaveSame kept (gathered (arc_shared (may_hold of_t) s.loops) s.arcs ++ gathered (arc_shared (may_hold of_s) t.loops) t.arcs) → KeepsClashes kept all_visits
+  met_kept ends kept are e = record {
+    only = λ v h. elim (Has-append v (gathered (arc_shared (may_hold of_t) s.loops) s.arcs) (gathered (arc_shared (may_hold of_s) t.loops) t.arcs) ((e.members v).0 h)) [
       | inl k ↦ Has-append_left v (gathered (arc_visits s.loops) s.arcs) (gathered (arc_visits t.loops) t.arcs) (side_only m n sm s t ms (tables_as_map s t) am of_t hold_t v k)
       | inr k ↦ Has-append_right v (gathered (arc_visits s.loops) s.arcs) (gathered (arc_visits t.loops) t.arcs) (side_only n m sn t s nt (tables_as_map s t) back of_s hold_s v k)
     ];
     clashing = λ v w h k f d.
         let j = clash_seen (tables_as_map s t) ends all_visits are v.vertex
         (record { one = v; other = w; has_one = h; has_other = k; at_one = refl; at_other = sym f; differ = d }) in
-        subst (Has v) (sym e) (elim (Has-append v (gathered (arc_visits s.loops) s.arcs) (gathered (arc_visits t.loops) t.arcs) h) [
+        (e.members v).1 (elim (Has-append v (gathered (arc_visits s.loops) s.arcs) (gathered (arc_visits t.loops) t.arcs) h) [
           | inl i ↦ Has-append_left v (gathered (arc_shared (may_hold of_t) s.loops) s.arcs) (gathered (arc_shared (may_hold of_s) t.loops) t.arcs)
               (side_kept m n sm s t ms (tables_as_map s t) am of_t hold_t v i j)
           | inr i ↦ Has-append_right v (gathered (arc_shared (may_hold of_t) s.loops) s.arcs) (gathered (arc_shared (may_hold of_s) t.loops) t.arcs)
@@ -312,8 +360,8 @@ module _ (m n : Geometry Pos) (sm : IsSound m) (sn : IsSound n) (s t : Arcs) (ms
         ]);
   }
 
-  pub left_whole : (js : List Pos) → IsIndexOf js (tables_as_map s t) → (marks : List Bool) → marks ≡ map (λ c. has_some (arc_shared (may_hold of_t) s.loops c)) s.arcs → StayWhole js s marks
+  pub left_whole : (js : List Pos) → IsIndexOf js (tables_as_map s t) → (marks : List Bool) → marks ≡ map (arc_meets (may_hold of_t) s.loops) s.arcs → StayWhole js s marks
   left_whole = side_whole m n sm s t ms (tables_as_map s t) am of_t hold_t
 
-  pub right_whole : (js : List Pos) → IsIndexOf js (tables_as_map s t) → (marks : List Bool) → marks ≡ map (λ c. has_some (arc_shared (may_hold of_s) t.loops c)) t.arcs → StayWhole js t marks
+  pub right_whole : (js : List Pos) → IsIndexOf js (tables_as_map s t) → (marks : List Bool) → marks ≡ map (arc_meets (may_hold of_s) t.loops) t.arcs → StayWhole js t marks
   right_whole = side_whole n m sn t s nt (tables_as_map s t) back of_s hold_s

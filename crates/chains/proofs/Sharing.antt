@@ -1,16 +1,21 @@
--- Vertices dealt to words, whatever the word and the bits of a vertex are, and the visits that find their bits set.
-use Rattle.std.proofs.Common.{◌≡◌, ℕ, ◌+◌, ◌<◌, ◌≤◌, Bool, true, false, cond, List, [], ◌∷◌, ◌++◌, inl, inr, length, drop, get_or, bit_and, bit_or, nat_eq, min, max, ◌⊎◌, slice_set, slice_get, Option, Some, None, refl, sym, ap, ◌∙◌, subst, arith, suc, zero, append_assoc}
+-- Positions dealt to words, whatever the word and the bits of a position are, and what a test of positions says of lists of them.
+use Rattle.std.proofs.Common.{◌≡◌, ℕ, ◌+◌, ◌<◌, ◌≤◌, Bool, true, false, cond, ◌||◌, List, [], ◌∷◌, ◌++◌, inl, inr, length, drop, get_or, bit_and, bit_or, nat_eq, min, max, ◌⊎◌, slice_set, slice_get, Option, Some, None, refl, sym, ap, ◌∙◌, subst, arith, suc, zero, append_assoc}
 use Rattle.std.specs.Int.{bit_at}
+use Rattle.std.specs.List.{list_any}
 use Rattle.std.proofs.lemmas.List.{drop_all, length-append}
 use Rattle.std.proofs.lemmas.Bool.{eqb-true, eq-eqb}
 use Rattle.std.proofs.lemmas.Nat.{and_or_self}
 use Rattle.std.proofs.lemmas.Nat.Bits.{same_from_bits, bit_at_and, bit_at_or}
 use Rattle.theory.specs.Lists.{Has}
+use Rattle.theory.specs.TopologyFunction.{keep}
+use Rattle.theory.proofs.Lists.{last-snoc}
 use Rattle.grid.specs.declared.pos.Pos.{Pos}
 use Rattle.lines.proofs.Positions.{true_false}
 use Rattle.chains.specs.Among.{among}
-use Rattle.chains.specs.Bits.{mask_at, may_hold, AreSet, Holds, IsMarked, Keeps}
-use Rattle.chains.specs.Shared.{arc_shared, shared_if, shared_in, has_some, AreDealtTo, KeepsClashes}
+use Rattle.chains.specs.Bits.{mask_at, may_hold, AreSet}
+use Rattle.chains.specs.Holding.{AreDealtTo, AreMarked, Holds, IsMarked, Keeps}
+use Rattle.chains.specs.Shared.{arc_meets, arc_shared, kept_if, meets_if, shared_if, KeepsClashes}
+use Rattle.chains.specs.Visits.{ends_of}
 use Rattle.chains.specs.declared.bits.PositionBits.{PositionBits}
 use Rattle.chains.specs.declared.visits.Visit.{Visit}
 use Rattle.chains.proofs.Among.{among_has}
@@ -59,43 +64,59 @@ past_words [] at mask h = refl
 past_words (x ∷ words) zero mask h = absurd (omega arith)
 past_words (x ∷ words) (suc at) mask h = past_words words at mask (omega (arith, h))
 
--- of the positions those whose bits are not set are still to come
-abbrev pub AreLeft : PositionBits → PositionBits → List Pos → List Pos → Type 0
-AreLeft old new all left = Keeps old new × ((p : Pos) → Has p all → Has p left ⊎ (may_hold new p ≡ true))
+pub none_left : {A : Type 0} (x : A) (l : List A) (i : ℕ) → length l ≤ i → ¬ Has x (drop i l)
+none_left x l i h k = subst (Has x) (drop_all i l h) k
 
-pub one_marked : (old bits new : PositionBits) (all : List Pos) (i : ℕ) (x : Pos) → i < length all → x ≡ get_or all i x →
-    IsMarked x bits new → AreLeft old bits all (drop i all) → AreLeft old new all (drop (i + 1) all)
-one_marked old bits new all i x h e m before = (
+-- of the positions those of which it does not hold are still to come
+abbrev pub AreLeft : (Pos → Bool) → (Pos → Bool) → List Pos → List Pos → Type 0
+AreLeft old new all left = Keeps old new × ((p : Pos) → Has p all → Has p left ⊎ (new p ≡ true))
+
+pub one_marked : (old now new : Pos → Bool) (all : List Pos) (i : ℕ) (x : Pos) → i < length all → x ≡ get_or all i x →
+    IsMarked x now new → AreLeft old now all (drop i all) → AreLeft old new all (drop (i + 1) all)
+one_marked old now new all i x h e m before = (
   (λ p f. m.0 p (before.0 p f)),
   (λ p j. elim (before.1 p j) [
     | inl k ↦ elim (subst (Has p) (drop_item all i x h e) k) [
-      | inl q ↦ inr (subst (λ w. may_hold new w ≡ true) (sym q) m.1)
+      | inl q ↦ inr (subst (λ w. new w ≡ true) (sym q) m.1)
       | inr q ↦ inl q
     ]
     | inr k ↦ inr (m.0 p k)
   ]),
 )
 
+-- before the first, and behind the last
+pub none_marked : (old : Pos → Bool) (all : List Pos) → AreLeft old old all (drop 0 all)
+none_marked old all = (λ p f. f, λ p j. inl j)
+
+pub all_marked : (old new : Pos → Bool) (all : List Pos) (i : ℕ) → length all ≤ i → AreLeft old new all (drop i all) → AreMarked all old new
+all_marked old new all i h m = (
+  m.0,
+  (λ p j. elim (m.1 p j) [
+    | inl k ↦ absurd (none_left p all i h k)
+    | inr k ↦ k
+  ]),
+)
+
 -- what finds a bit not set is none of the list
-pub not_held : (bits : PositionBits) (js ks : List Pos) (p : Pos) (b : Bool) → ks ≡ js → b ≡ may_hold bits p → b ≡ false → Holds bits ks → b ≡ among js p
+pub not_held : (bits : PositionBits) (js ks : List Pos) (p : Pos) (b : Bool) → ks ≡ js → b ≡ may_hold bits p → b ≡ false → Holds (may_hold bits) ks → b ≡ among js p
 not_held bits js ks p b v e f h = f ∙ sym (go (among ks p) refl) ∙ ap (λ l. among l p) v
   where
     go : (a : Bool) → among ks p ≡ a → among ks p ≡ false
     go true t = absurd (true_false (may_hold bits p) (h p (among_has ks p t)) (sym e ∙ f))
     go false t = t
 
--- of the arcs those whose vertices' bits are not all set are still to come
-abbrev pub ArcsAreLeft : PositionBits → List (List Pos) → List (List Pos) → Type 0
-ArcsAreLeft bits all left = (c : List Pos) → Has c all → Has c left ⊎ Holds bits c
+-- of the arcs those of whose vertices it does not hold are still to come
+abbrev pub ArcsAreLeft : (Pos → Bool) → List (List Pos) → List (List Pos) → Type 0
+ArcsAreLeft may all left = (c : List Pos) → Has c all → Has c left ⊎ Holds may c
 
 there : {A : Type 0} (l : List A) (i : ℕ) → i < length l → (x : A) × (slice_get l i ≡ Some x)
 there [] i h = absurd (omega arith)
 there (x ∷ l) zero h = (x, refl)
 there (x ∷ l) (suc i) h = there l i (omega (arith, h))
 
-pub arc_marked : (bits new : PositionBits) (arcs : List (List Pos)) (i : ℕ) → i < length arcs → AreDealtTo bits new arcs i →
-    ArcsAreLeft bits arcs (drop i arcs) → ArcsAreLeft new arcs (drop (i + 1) arcs)
-arc_marked bits new arcs i h m before c j =
+pub arc_marked : (now new : Pos → Bool) (arcs : List (List Pos)) (i : ℕ) → i < length arcs → AreDealtTo now new arcs i →
+    ArcsAreLeft now arcs (drop i arcs) → ArcsAreLeft new arcs (drop (i + 1) arcs)
+arc_marked now new arcs i h m before c j =
     let t = there arcs i h in
     elim (before c j) [
       | inl k ↦ elim (subst (Has c) (drop_next arcs i t.0 t.1) k) [
@@ -105,69 +126,15 @@ arc_marked bits new arcs i h m before c j =
       | inr k ↦ inr (λ p q. m.0 p (k p q))
     ]
 
-pub none_left : {A : Type 0} (x : A) (l : List A) (i : ℕ) → length l ≤ i → ¬ Has x (drop i l)
-none_left x l i h k = subst (Has x) (drop_all i l h) k
-
-more_some : (l : List Visit) → 0 < length l → true ≡ has_some l
-more_some [] h = absurd (omega arith)
-more_some (x ∷ l) h = refl
-
-more_none : (l : List Visit) → length l ≤ 0 → false ≡ has_some l
-more_none [] h = refl
-more_none (x ∷ l) h = absurd (omega arith)
-
--- more visits than before: some were noted
-pub some_noted : (before now more : List Visit) → now ≡ before ++ more → (b : Bool) → (b ≡ true → length before < length now) → (b ≡ false → length now ≤ length before) → b ≡ has_some more
-some_noted before now more e true f g = more_some more (let q = ap length e ∙ length-append before more in let r = f refl in omega (arith, q, r))
-some_noted before now more e false f g = more_none more (let q = ap length e ∙ length-append before more in let r = g refl in omega (arith, q, r))
-
-module _ (may : Pos → Bool) where
-  pub shared_has : (w : Visit) (l : List Visit) → Has w l → may w.vertex ≡ true → Has w (shared_in may l)
-  shared_has w [] h e = h
-  shared_has w (x ∷ l) (inl i) e =
-      subst (λ b. Has w (cond b (x ∷ shared_in may l) (shared_in may l))) (sym (ap (λ (q : Visit). may q.vertex) (sym i) ∙ e)) (inl i)
-  shared_has w (x ∷ l) (inr h) e = go (may x.vertex) (shared_has w l h e)
-    where
-      go : (b : Bool) → Has w (shared_in may l) → Has w (cond b (x ∷ shared_in may l) (shared_in may l))
-      go true k = inr k
-      go false k = k
-
-  pub has_shared : (w : Visit) (l : List Visit) → Has w (shared_in may l) → Has w l
-  has_shared w [] h = h
-  has_shared w (x ∷ l) h = go (may x.vertex) h (has_shared w l)
-    where
-      go : (b : Bool) → Has w (cond b (x ∷ shared_in may l) (shared_in may l)) → (Has w (shared_in may l) → Has w l) → Has w (x ∷ l)
-      go true (inl i) f = inl i
-      go true (inr k) f = inr (f k)
-      go false k f = inr (f k)
-
-  pub shared_more : (w : Visit) (l : List Visit) → shared_in may (w ∷ []) ++ shared_in may l ≡ shared_in may (w ∷ l)
-  shared_more w l = go (may w.vertex)
-    where
-      go : (b : Bool) → cond b (w ∷ []) [] ++ shared_in may l ≡ cond b (w ∷ shared_in may l) (shared_in may l)
-      go true = refl
-      go false = refl
-
-  -- one more visit is noted, or not
-  pub note_step : (now seen : List Visit) (w : Visit) (l left all : List Visit) → now ≡ seen ++ shared_in may (w ∷ []) → left ≡ w ∷ l → seen ++ shared_in may left ≡ all → now ++ shared_in may l ≡ all
-  note_step now seen w l left all e f h =
-      ap (λ k. k ++ shared_in may l) e
-      ∙ append_assoc seen (shared_in may (w ∷ [])) (shared_in may l)
-      ∙ ap (λ k. seen ++ k) (shared_more w l)
-      ∙ ap (λ k. seen ++ shared_in may k) (sym f)
-      ∙ h
-
-  -- where none is noted, no visit is at a vertex that the other table may have
-  pub none_shared : (l : List Visit) → has_some (shared_in may l) ≡ false → (w : Visit) → Has w l → may w.vertex ≡ false
-  none_shared l e w h = go (may w.vertex) refl
-    where
-      none : (k : List Visit) → has_some k ≡ false → Has w k → ⊥
-      none [] f m = m
-      none (x ∷ k) f m = cc
-
-      go : (b : Bool) → may w.vertex ≡ b → b ≡ false
-      go true f = absurd (none (shared_in may l) e (shared_has w l h f))
-      go false f = refl
+-- what is said of none holds of no member
+pub none_met : (may : Pos → Bool) (l : List Pos) → list_any may l ≡ false → (v : Pos) → Has v l → may v ≡ false
+none_met may [] e v h = absurd h
+none_met may (x ∷ l) e v h = go (may x) refl e h (λ z k. none_met may l z v k)
+  where
+    go : (b : Bool) → may x ≡ b → (b || list_any may l) ≡ false → Has v (x ∷ l) → (list_any may l ≡ false → Has v l → may v ≡ false) → may v ≡ false
+    go true f z k rest = absurd cc
+    go false f z (inl q) rest = ap may q ∙ f
+    go false f z (inr q) rest = rest z q
 
 pub keeps_all : (visits : List Visit) → KeepsClashes visits visits
 keeps_all visits = record { only = λ w h. h; clashing = λ v w h k s d. h }
@@ -176,7 +143,15 @@ pub shared_given : (may : Pos → Bool) (loops : List (List Pos)) (o : Option (L
 shared_given may loops None = refl
 shared_given may loops (Some c) = refl
 
-pub some_answered : (may : Pos → Bool) (loops : List (List Pos)) (o : Option (List Pos)) →
-    has_some (shared_if may loops o) ≡ answered false (λ c. has_some (arc_shared may loops c)) o
-some_answered may loops None = refl
-some_answered may loops (Some c) = refl
+pub meets_answered : (may : Pos → Bool) (loops : List (List Pos)) (o : Option (List Pos)) → meets_if may loops o ≡ answered false (arc_meets may loops) o
+meets_answered may loops None = refl
+meets_answered may loops (Some c) = refl
+
+pub kept_given : (f : Pos → Bool) (o : Option (List Pos)) → kept_if f o ≡ given (keep f) o
+kept_given f None = refl
+kept_given f (Some c) = refl
+
+-- the first and the last of a list
+pub ends_split : (x : Pos) (others front : List Pos) (last : Pos) → others ≡ front ++ (last ∷ []) → ends_of (x ∷ others) ≡ x ∷ (last ∷ [])
+ends_split x others [] last e = ap (λ w. ends_of (x ∷ w)) e
+ends_split x others (y ∷ s) last e = ap (λ w. ends_of (x ∷ w)) e ∙ ap (λ w. x ∷ (w ∷ [])) (last-snoc y last s)

@@ -2,9 +2,9 @@
 use Rattle.std.specs.Prelude.{◌≡◌, ℕ, ◌+◌, ◌*◌, ◌/◌, ◌%◌, ◌^◌, Bool, true, List, bit_and, bit_or, nat_eq, Option, Some, None, slice_get}
 use Rattle.std.specs.Int.{cast_unsigned}
 use Rattle.std.specs.List.Sorted.{IsSorted}
-use Rattle.theory.specs.Lists.{Has}
 use Rattle.grid.specs.declared.pos.Pos.{Pos}
 use Rattle.lines.specs.Turned.{position_cmp}
+use Rattle.chains.specs.Holding.{Holds}
 use Rattle.chains.specs.declared.bits.PositionBits.{PositionBits}
 use mir.Syntax.{w64}
 
@@ -41,23 +41,7 @@ AreSet at mask old new = ((n m : ℕ) → mask_at old n m ≡ true → mask_at n
 abbrev pub may_hold : PositionBits → Pos → Bool
 may_hold s p = mask_at s.words.items (place_among s.count p) (mask_of p)
 
--- what was set stays so
-abbrev pub Keeps : PositionBits → PositionBits → Type 0
-Keeps old new = (p : Pos) → may_hold old p ≡ true → may_hold new p ≡ true
-
--- the bits of a position are set
-abbrev pub IsMarked : Pos → PositionBits → PositionBits → Type 0
-IsMarked p old new = Keeps old new × (may_hold new p ≡ true)
-
--- the bits of all positions are set
-abbrev pub Holds : PositionBits → List Pos → Type 0
-Holds s ps = (p : Pos) → Has p ps → may_hold s p ≡ true
-
--- the same, and what was set stays so
-abbrev pub AreMarked : List Pos → PositionBits → PositionBits → Type 0
-AreMarked ps old new = Keeps old new × Holds new ps
-
 -- a sorted list and its bits
 pub record IsLookUp (bits : PositionBits) (js : List Pos) : Type 0 where
   pub sorted : IsSorted position_cmp js
-  pub held : Holds bits js
+  pub held : Holds (may_hold bits) js

@@ -1,6 +1,8 @@
 pub mod Among
 pub mod Visits
+pub mod Holding
 pub mod Bits
+pub mod Extents
 pub mod Shared
 pub mod Seen
 pub mod Index

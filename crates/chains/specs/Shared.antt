@@ -1,47 +1,65 @@
--- The bits of the vertices of a table's arcs, and the visits of another table that find them set.
-use Rattle.std.specs.Prelude.{◌≡◌, ℕ, Bool, true, false, cond, List, [], ◌∷◌, get_or, Option, Some, None, slice_get}
+-- The vertices that two tables of arcs may share, and the arcs that have some.
+use Rattle.std.specs.Prelude.{◌≡◌, ℕ, Bool, true, false, ◌&&◌, cond, drop, List, [], ◌∷◌, get_or, Option, Some, None, slice_get}
+use Rattle.std.specs.List.{list_any}
 use Rattle.theory.specs.Lists.{Has}
+use Rattle.theory.specs.Refinement.{unclosed}
+use Rattle.theory.specs.TopologyFunction.{keep}
 use Rattle.grid.specs.declared.pos.Pos.{Pos}
 use Rattle.chains.specs.Arcs.{Arcs}
 use Rattle.chains.specs.Bits as bits
-use Rattle.chains.specs.Bits.{Holds, Keeps}
-use Rattle.chains.specs.OfArcs.{arc_pieces, arc_visits}
+use Rattle.chains.specs.Extents.{within}
+use Rattle.chains.specs.OfArcs.{arc_pieces}
 use Rattle.chains.specs.Table.{is_loop}
-use Rattle.chains.specs.declared.bits.PositionBits.{PositionBits}
+use Rattle.chains.specs.Visits.{inner_of, around_of}
 use Rattle.chains.specs.declared.cutting.Piece.{Piece}
+use Rattle.chains.specs.declared.extent.Extent.{Extent}
 use Rattle.chains.specs.declared.shared.VertexBits.{VertexBits}
 use Rattle.chains.specs.declared.visits.Visit.{Visit}
 
--- the bits of the positions of an arc are set, where there is one, and what was set stays so
-abbrev pub AreDealtTo : PositionBits → PositionBits → List (List Pos) → ℕ → Type 0
-AreDealtTo old new arcs i = Keeps old new × ((c : List Pos) → slice_get arcs i ≡ Some c → Holds new c)
+-- those of an arc's vertices of which f holds, where there is an arc
+abbrev pub kept_if : (Pos → Bool) → Option (List Pos) → List Pos
+kept_if f None = []
+kept_if f (Some c) = keep f c
 
--- whether the bits of a position are set
+-- whether a position may be a vertex of both tables
 abbrev pub may_hold : VertexBits → Pos → Bool
-may_hold s p = bits.may_hold s.bits p
+may_hold s p = within s.extent p && bits.may_hold s.bits p
 
--- the bits of all vertices of the arcs are set
-abbrev pub HoldAll : VertexBits → List (List Pos) → Type 0
-HoldAll s arcs = (c : List Pos) → Has c arcs → Holds s.bits c
+-- the vertices of the arcs that lie in both extents may be vertices of both tables
+abbrev pub HoldCommon : Extent → Extent → VertexBits → List (List Pos) → Type 0
+HoldCommon own other s arcs = (c : List Pos) → Has c arcs → (p : Pos) → Has p c → within own p ≡ true → within other p ≡ true → may_hold s p ≡ true
 
--- the visits at vertices that the other table may have
-abbrev pub shared_in : (Pos → Bool) → List Visit → List Visit
-shared_in may [] = []
-shared_in may (w ∷ l) = cond (may w.vertex) (w ∷ shared_in may l) (shared_in may l)
+-- the vertices of the arcs of both tables may be
+abbrev pub HoldShared : VertexBits → List (List Pos) → List (List Pos) → Type 0
+HoldShared s arcs others = (c : List Pos) → Has c arcs → (d : List Pos) → Has d others → (p : Pos) → Has p c → Has p d → may_hold s p ≡ true
 
--- those of an arc
+-- the inner vertices of an arc: of a free loop all, otherwise all but the ends
+abbrev pub inside : Bool → List Pos → List Pos
+inside free c = cond free c (unclosed (drop 1 c))
+
+-- whether the other table may have an inner vertex of an arc
+abbrev pub meets : (Pos → Bool) → Bool → List Pos → Bool
+meets may free c = list_any may (inside free c)
+
+-- the visits of an arc that are no ends, if the other table may have an inner vertex of it
+abbrev pub met_visits : (Pos → Bool) → Bool → List Pos → List Visit
+met_visits may free c = cond (meets may free c) (cond free (around_of (unclosed c)) (inner_of c)) []
+
+-- the same of an arc of a table
+abbrev pub arc_meets : (Pos → Bool) → List (List Pos) → List Pos → Bool
+arc_meets may loops c = meets may (is_loop loops c) c
+
 abbrev pub arc_shared : (Pos → Bool) → List (List Pos) → List Pos → List Visit
-arc_shared may loops c = shared_in may (arc_visits loops c)
+arc_shared may loops c = met_visits may (is_loop loops c) c
 
--- those of an arc, where there is one
+-- the same, where there is an arc
+abbrev pub meets_if : (Pos → Bool) → List (List Pos) → Option (List Pos) → Bool
+meets_if may loops None = false
+meets_if may loops (Some c) = arc_meets may loops c
+
 abbrev pub shared_if : (Pos → Bool) → List (List Pos) → Option (List Pos) → List Visit
 shared_if may loops None = []
 shared_if may loops (Some c) = arc_shared may loops c
-
--- whether there are any
-abbrev pub has_some : List Visit → Bool
-has_some [] = false
-has_some (w ∷ l) = true
 
 -- an arc as its own one piece
 abbrev pub whole : List (List Pos) → List Pos → List Piece

@@ -2,7 +2,8 @@
 //! that are not among those dealt find a bit of theirs not set.
 ghost use Rattle.std.specs.Prelude.{◌≡◌, IfOk, true};
 ghost use Rattle.chains.specs.Bits as spec;
-ghost use Rattle.chains.specs.Bits.{AreMarked, AreSet, Holds, IsMarked, mask_at};
+ghost use Rattle.chains.specs.Bits.{AreSet, mask_at, may_hold};
+ghost use Rattle.chains.specs.Holding.{AreMarked, Holds, IsMarked};
 
 use grid::pos::Pos;
 use std::alloc::{AllocError, Global};
@@ -68,26 +69,16 @@ fn set_mask(words: &mut Vec<u64>, at: usize, mask: u64)
 }
 
 impl PositionBits {
-    /// Words for so many positions, with no bits set.
-    pub(crate) fn for_positions(
-        alloc: Global,
-        positions: usize,
-    ) -> Result<PositionBits, AllocError> {
-        let count = (positions / POSITIONS_EACH).saturating_add(1);
-        let words = vec![in alloc; 0; count]?;
-        Ok(PositionBits { count, words })
-    }
-
     /// Sets the bits of a position.
     fn mark(&mut self, p: Pos)
-        ensures { IsMarked p self.old self.new }
+        ensures { IsMarked p (may_hold self.old) (may_hold self.new) }
     {
         set_mask(&mut self.words, place_among(self.count, p), mask_of(p));
     }
 
     /// Sets the bits of positions.
-    pub(crate) fn mark_all(&mut self, positions: &[Pos])
-        ensures { AreMarked positions.now self.old self.new }
+    fn mark_all(&mut self, positions: &[Pos])
+        ensures { AreMarked positions.now (may_hold self.old) (may_hold self.new) }
     {
         for position in positions {
             self.mark(*position);
@@ -96,16 +87,18 @@ impl PositionBits {
 
     /// The bits of positions.
     pub(crate) fn of(alloc: Global, positions: &[Pos]) -> Result<PositionBits, AllocError>
-        ensures { IfOk result (λ s. Holds s positions.now) }
+        ensures { IfOk result (λ s. Holds (may_hold s) positions.now) }
     {
-        let mut bits = PositionBits::for_positions(alloc, positions.len())?;
+        let count = (positions.len() / POSITIONS_EACH).saturating_add(1);
+        let words = vec![in alloc; 0; count]?;
+        let mut bits = PositionBits { count, words };
         bits.mark_all(positions);
         Ok(bits)
     }
 
     /// Whether the bits of a position are set. Where they are not, it is none of those dealt.
     pub(crate) fn may_hold(&self, p: Pos) -> bool
-        ensures { result ≡ spec.may_hold self.now p }
+        ensures { result ≡ may_hold self.now p }
     {
         has_mask(&self.words, place_among(self.count, p), mask_of(p))
     }

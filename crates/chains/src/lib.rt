@@ -4,6 +4,7 @@
 
 mod bits;
 pub mod cutting;
+mod extent;
 pub mod joining;
 mod merging;
 pub mod segment;

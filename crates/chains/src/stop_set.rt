@@ -18,13 +18,14 @@ pub(crate) struct StopSet<'a> {
 impl<'a> Model for StopSet<'a> {
     ghost use Rattle.std.specs.Prelude.{List};
     ghost use Rattle.grid.specs.declared.pos.Pos.{Pos};
-    ghost use Rattle.chains.specs.Bits.{Holds};
+    ghost use Rattle.chains.specs.Bits.{may_hold};
+    ghost use Rattle.chains.specs.Holding.{Holds};
 
     ghost Value = { List Pos };
 
     ghost view = { λ a. a.stops.now.keys };
 
-    ghost invariant = { λ a. Holds a.bits a.stops.now.keys };
+    ghost invariant = { λ a. Holds (may_hold a.bits) a.stops.now.keys };
 }
 
 fn listed(alloc: Global, stops: &BTreeSet<Pos>) -> Result<Vec<Pos>, AllocError>

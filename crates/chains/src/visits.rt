@@ -5,7 +5,7 @@ ghost use Rattle.theory.specs.Segments.{OnThree};
 ghost use Rattle.theory.specs.Lists.{gathered, joined};
 ghost use Rattle.theory.specs.Topology.{forms_of};
 ghost use Rattle.grid.specs.declared.pos.Pos.{Pos};
-ghost use Rattle.chains.specs.Shared.{KeepsClashes, StayWhole, arc_shared, has_some, may_hold, shared_if, shared_in};
+ghost use Rattle.chains.specs.Shared.{KeepsClashes, StayWhole, arc_meets, arc_shared, may_hold, meets, meets_if, met_visits, shared_if};
 ghost use Rattle.chains.specs.Among.{among};
 ghost use Rattle.chains.specs.Visits.{visit_of, inner_of, ends_of, around_of, clash, clashes_of, HaveSame};
 ghost use Rattle.chains.specs.Seen.{line_of, ring_of, form_of, geometry_of, seen};
@@ -18,7 +18,8 @@ ghost use Rattle.shapes.specs.Maps.{set_of};
 ghost use Rattle.shapes.specs.Sets as set;
 
 use crate::bits::{PositionBits, place_among};
-use crate::shared::VertexBits;
+use crate::extent::Extent;
+use crate::shared::{VertexBits, inside};
 use crate::table::ArcTable;
 use faults::OutOfMemory;
 use grid::pos::Pos;
@@ -93,15 +94,30 @@ impl Seen {
         Ok(())
     }
 
-    fn see_line(&mut self, line: &[Pos]) -> Result<(), AllocError>
+    /// Notes the first and the last place of a line.
+    fn see_ends(&mut self, line: &[Pos]) -> Result<(), AllocError>
         ensures ends { OnOk result (self.new.ends.items ≡ self.old.ends.items ++ ends_of line.now) }
+        ensures visits { self.new.visits.items ≡ self.old.visits.items }
+    {
+        let Some((first, others)) = line.split_first() else {
+            return Ok(());
+        };
+        self.ends.push(*first)?;
+        if let Some((last, _)) = others.split_last() {
+            self.ends.push(*last)?;
+        }
+        Ok(())
+    }
+
+    /// Notes the visits of a line that are no ends.
+    fn see_inside(&mut self, line: &[Pos]) -> Result<(), AllocError>
+        ensures ends { OnOk result (self.new.ends.items ≡ self.old.ends.items) }
         ensures visits { OnOk result (HaveSame self.new.visits.items (self.old.visits.items ++ inner_of line.now)) }
     {
         self.widen_recent(line.len())?;
         let Some((first, others)) = line.split_first() else {
             return Ok(());
         };
-        self.ends.push(*first)?;
         let Some((second, rest)) = others.split_first() else {
             return Ok(());
         };
@@ -112,8 +128,15 @@ impl Seen {
             before = here;
             here = *next;
         }
-        self.ends.push(here)?;
         Ok(())
+    }
+
+    fn see_line(&mut self, line: &[Pos]) -> Result<(), AllocError>
+        ensures ends { OnOk result (self.new.ends.items ≡ self.old.ends.items ++ ends_of line.now) }
+        ensures visits { OnOk result (HaveSame self.new.visits.items (self.old.visits.items ++ inner_of line.now)) }
+    {
+        self.see_ends(line)?;
+        self.see_inside(line)
     }
 
     fn see_ring(&mut self, ring: &[Pos]) -> Result<(), AllocError>
@@ -139,82 +162,53 @@ impl Seen {
         Ok(())
     }
 
-    /// Notes a visit where the other table may have its vertex.
-    fn note_shared(
-        &mut self,
-        other: &VertexBits,
-        before: Pos,
-        here: Pos,
-        next: Pos,
-    ) -> Result<(), AllocError>
-        ensures ends { self.new.ends.items ≡ self.old.ends.items }
-        ensures visits { OnOk result (self.new.visits.items ≡ self.old.visits.items ++ shared_in (may_hold other.now) (visit_of before here next ∷ [])) }
-    {
-        if other.may_hold(here) {
-            self.visits.push(visit_between(before, here, next))?;
-        }
-        Ok(())
-    }
-
-    /// Notes the ends of an arc that is no free loop, and its visits at vertices that the other table
-    /// may have.
-    fn see_open(&mut self, other: &VertexBits, arc: &[Pos]) -> Result<(), AllocError>
-        ensures ends { OnOk result (self.new.ends.items ≡ self.old.ends.items ++ ends_of arc.now) }
-        ensures visits { OnOk result (self.new.visits.items ≡ self.old.visits.items ++ shared_in (may_hold other.now) (inner_of arc.now)) }
-    {
-        let Some((first, others)) = arc.split_first() else {
-            return Ok(());
-        };
-        self.ends.push(*first)?;
-        let Some((second, rest)) = others.split_first() else {
-            return Ok(());
-        };
-        let mut before = *first;
-        let mut here = *second;
-        for next in rest {
-            self.note_shared(other, before, here, *next)?;
-            before = here;
-            here = *next;
-        }
-        self.ends.push(here)?;
-        Ok(())
-    }
-
-    /// Notes the visits of a free loop at vertices that the other table may have.
-    fn see_loop(&mut self, other: &VertexBits, ring: &[Pos]) -> Result<(), AllocError>
-        ensures ends { OnOk result (self.new.ends.items ≡ self.old.ends.items) }
-        ensures visits { OnOk result (self.new.visits.items ≡ self.old.visits.items ++ shared_in (may_hold other.now) (around_of ring.now)) }
-    {
-        let Some((first, others)) = ring.split_first() else {
-            return Ok(());
-        };
-        let Some((second, rest)) = others.split_first() else {
-            return Ok(());
-        };
-        let mut before = *first;
-        let mut here = *second;
-        for next in rest {
-            self.note_shared(other, before, here, *next)?;
-            before = here;
-            here = *next;
-        }
-        self.note_shared(other, before, here, *first)?;
-        self.note_shared(other, here, *first, *second)?;
-        Ok(())
-    }
-
-    /// Notes what an arc visits: a free loop is a ring, each other arc a line.
-    fn see_arc(&mut self, other: &VertexBits, arc: &[Pos], free: bool) -> Result<(), AllocError>
+    /// Notes the ends of an arc; a free loop has none.
+    fn see_arc_ends(&mut self, arc: &[Pos], free: bool) -> Result<(), AllocError>
         ensures ends { OnOk result (self.new.ends.items ≡ self.old.ends.items ++ cond free [] (ends_of arc.now)) }
-        ensures visits { OnOk result (self.new.visits.items ≡ self.old.visits.items ++ shared_in (may_hold other.now) (cond free (around_of (unclosed arc.now)) (inner_of arc.now))) }
+        ensures visits { self.new.visits.items ≡ self.old.visits.items }
+    {
+        if free {
+            return Ok(());
+        }
+        self.see_ends(arc)
+    }
+
+    /// Notes the other visits of an arc: a free loop is a ring, each other arc a line.
+    fn see_arc_inside(&mut self, arc: &[Pos], free: bool) -> Result<(), AllocError>
+        ensures ends { OnOk result (self.new.ends.items ≡ self.old.ends.items) }
+        ensures visits { OnOk result (HaveSame self.new.visits.items (self.old.visits.items ++ cond free (around_of (unclosed arc.now)) (inner_of arc.now))) }
     {
         if !free {
-            return self.see_open(other, arc);
+            return self.see_inside(arc);
         }
         match arc.split_last() {
-            Some((_, ring)) => self.see_loop(other, ring),
+            Some((_, ring)) => self.see_ring(ring),
             None => Ok(()),
         }
+    }
+
+    /// The same for an arc of which the other table may have an inner vertex.
+    fn see_met(&mut self, other: &VertexBits, arc: &[Pos], free: bool) -> Result<bool, AllocError>
+        ensures ends { OnOk result (self.new.ends.items ≡ self.old.ends.items) }
+        ensures visits { OnOk result (HaveSame self.new.visits.items (self.old.visits.items ++ met_visits (may_hold other.now) free arc.now)) }
+        ensures met { IfOk result (λ b. b ≡ meets (may_hold other.now) free arc.now) }
+    {
+        if !other.may_meet(inside(arc, free)) {
+            return Ok(false);
+        }
+        self.see_arc_inside(arc, free)?;
+        Ok(true)
+    }
+
+    /// Notes the ends of an arc, and its other visits where the other table may have an inner vertex of
+    /// it; and answers whether it may.
+    fn see_arc(&mut self, other: &VertexBits, arc: &[Pos], free: bool) -> Result<bool, AllocError>
+        ensures ends { OnOk result (self.new.ends.items ≡ self.old.ends.items ++ cond free [] (ends_of arc.now)) }
+        ensures visits { OnOk result (HaveSame self.new.visits.items (self.old.visits.items ++ met_visits (may_hold other.now) free arc.now)) }
+        ensures met { IfOk result (λ b. b ≡ meets (may_hold other.now) free arc.now) }
+    {
+        self.see_arc_ends(arc, free)?;
+        self.see_met(other, arc, free)
     }
 
     fn see_numbered(
@@ -222,34 +216,19 @@ impl Seen {
         other: &VertexBits,
         table: &ArcTable,
         number: usize,
-    ) -> Result<(), AllocError>
+    ) -> Result<bool, AllocError>
         ensures ends { OnOk result (self.new.ends.items ≡ self.old.ends.items ++ ends_if table.now.loops (slice_get table.now.arcs number)) }
-        ensures visits { OnOk result (self.new.visits.items ≡ self.old.visits.items ++ shared_if (may_hold other.now) table.now.loops (slice_get table.now.arcs number)) }
+        ensures visits { OnOk result (HaveSame self.new.visits.items (self.old.visits.items ++ shared_if (may_hold other.now) table.now.loops (slice_get table.now.arcs number))) }
+        ensures met { IfOk result (λ b. b ≡ meets_if (may_hold other.now) table.now.loops (slice_get table.now.arcs number)) }
     {
         match table.arc(number) {
             Some(arc) => self.see_arc(other, arc, table.is_free(number)),
-            None => Ok(()),
+            None => Ok(false),
         }
     }
 
-    /// The same, and answers whether a visit was noted.
-    fn meets_other(
-        &mut self,
-        other: &VertexBits,
-        table: &ArcTable,
-        number: usize,
-    ) -> Result<bool, AllocError>
-        ensures ends { OnOk result (self.new.ends.items ≡ self.old.ends.items ++ ends_if table.now.loops (slice_get table.now.arcs number)) }
-        ensures visits { OnOk result (self.new.visits.items ≡ self.old.visits.items ++ shared_if (may_hold other.now) table.now.loops (slice_get table.now.arcs number)) }
-        ensures met { IfOk result (λ b. b ≡ has_some (shared_if (may_hold other.now) table.now.loops (slice_get table.now.arcs number))) }
-    {
-        let before = self.visits.len();
-        self.see_numbered(other, table, number)?;
-        Ok(self.visits.len() > before)
-    }
-
-    /// Notes the ends of a table's arcs and their visits at vertices that the other table may have,
-    /// and answers for each arc whether it has such a visit.
+    /// Notes the ends of a table's arcs, and the other visits of those of which the other table may
+    /// have an inner vertex; and answers for each arc whether it may.
     fn see_arcs(
         &mut self,
         alloc: Global,
@@ -257,12 +236,12 @@ impl Seen {
         table: &ArcTable,
     ) -> Result<Vec<bool>, AllocError>
         ensures ends { OnOk result (self.new.ends.items ≡ self.old.ends.items ++ gathered (arc_ends table.now.loops) table.now.arcs) }
-        ensures visits { OnOk result (self.new.visits.items ≡ self.old.visits.items ++ gathered (arc_shared (may_hold other.now) table.now.loops) table.now.arcs) }
-        ensures marks { IfOk result (λ v. v.items ≡ map_list (λ c. has_some (arc_shared (may_hold other.now) table.now.loops c)) table.now.arcs) }
+        ensures visits { OnOk result (HaveSame self.new.visits.items (self.old.visits.items ++ gathered (arc_shared (may_hold other.now) table.now.loops) table.now.arcs)) }
+        ensures marks { IfOk result (λ v. v.items ≡ map_list (arc_meets (may_hold other.now) table.now.loops) table.now.arcs) }
     {
         let mut marks = Vec::with_capacity(alloc, table.len())?;
         for number in 0..table.len() {
-            marks.push(self.meets_other(other, table, number)?)?;
+            marks.push(self.see_numbered(other, table, number)?)?;
         }
         Ok(marks)
     }
@@ -430,8 +409,10 @@ impl VisitIndex {
         ensures left { IfOk result (λ i. (m n : Geometry Pos) → IsSound m → IsSound n → IsTableOf m left.now → IsTableOf n right.now → StayWhole i.index left.now i.left.items) }
         ensures right { IfOk result (λ i. (m n : Geometry Pos) → IsSound m → IsSound n → IsTableOf m left.now → IsTableOf n right.now → StayWhole i.index right.now i.right.items) }
     {
-        let of_left = VertexBits::of(alloc, left)?;
-        let of_right = VertexBits::of(alloc, right)?;
+        let left_extent = Extent::around(left);
+        let right_extent = Extent::around(right);
+        let of_left = VertexBits::of(alloc, left, left_extent, &right_extent)?;
+        let of_right = VertexBits::of(alloc, right, right_extent, &left_extent)?;
         let mut seen = Seen {
             ends: Vec::new(alloc),
             visits: Vec::new(alloc),

@@ -1,14 +1,15 @@
-use Rattle.std.proofs.Common.{◌<◌, ◌≤◌, inl, inr, subst}
-use Rattle.chains.proofs.Sharing.{arc_marked, none_left}
+use Rattle.std.proofs.Common.{◌∙◌, subst, sym}
+use Rattle.theory.proofs.ListsOfLists.{Has-gathered}
+use Rattle.theory.proofs.Turning.{has_keep}
+use Rattle.theory.specs.TopologyFunction.{keep}
+use Rattle.theory.specs.Lists.{Has}
+use Rattle.chains.specs.Bits.{may_hold}
+use Rattle.chains.specs.Extents.{within}
+use Rattle.chains.proofs.Extents.{both_true}
 use Rattle.chains.proofs.shared.VertexBits.of.Goals as goal
 
-pub loop-number-preserved : goal.loop-number-preserved
-loop-number-preserved c =
-    arc_marked c.loop-number.bits c.mark_numbered.new.bits c.args.table.now.arcs c.loop-number.number
-    (subst (λ w. c.loop-number.number < w) c.len-number-end.ensures.len c.loop-number-test.true) c.mark_numbered.ensures c.loop-number.invariant
-
 pub returns : goal.returns
-returns c = λ arc h p k. elim (c.loop-number.invariant arc h) [
-  | inl j ↦ absurd (none_left arc c.args.table.now.arcs c.loop-number.number (subst (λ w. w ≤ c.loop-number.number) c.len-number-end.ensures.len c.loop-number-test.false) j)
-  | inr f ↦ f p k
-]
+returns c = λ arc h p k own other.
+    both_true (within c.args.extent p) (may_hold c.in_ok-bits.bits p) own
+    (c.in_ok-bits.ensures p (subst (Has p) (sym (c.deref.ensures.value ∙ c.in_ok-list.ensures))
+    (Has-gathered (keep (within c.args.other.now)) c.args.table.now.arcs arc p h (has_keep (within c.args.other.now) arc p k other))))

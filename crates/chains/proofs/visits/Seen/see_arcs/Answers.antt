@@ -1,8 +1,9 @@
 use Rattle.std.proofs.Common.{◌++◌, ◌∙◌, ◌<◌, ◌+◌, false, ap, sym, subst, drop, length, map, slice_get}
 use Rattle.theory.specs.Lists.{gathered}
 use Rattle.chains.specs.OfArcs.{arc_ends, ends_if}
-use Rattle.chains.specs.Shared.{arc_shared, has_some, may_hold, shared_if}
-use Rattle.chains.proofs.Sharing.{shared_given, some_answered}
+use Rattle.chains.specs.Shared.{arc_meets, arc_shared, may_hold, shared_if}
+use Rattle.chains.proofs.Same.{same_step}
+use Rattle.chains.proofs.Sharing.{meets_answered, shared_given}
 use Rattle.chains.proofs.TablesAsMap.{left_step, map_step, ends_given}
 use Rattle.chains.proofs.visits.Seen.see_arcs.Goals as goal
 
@@ -14,16 +15,15 @@ loop-number-preserved c =
     let h : i < length t.arcs = subst (λ w. i < w) c.len-number-end.ensures.len c.loop-number-test.true in
     record {
       ends =
-          ap (λ w. w ++ gathered (arc_ends t.loops) (drop (i + 1) t.arcs)) c.in_ok-meets_other.ensures.ends
+          ap (λ w. w ++ gathered (arc_ends t.loops) (drop (i + 1) t.arcs)) c.in_ok-see_numbered.ensures.ends
           ∙ sym (left_step (arc_ends t.loops) t.arcs i c.loop-number.self.ends.items (ends_if t.loops (slice_get t.arcs i)) h (ends_given t.loops (slice_get t.arcs i)))
           ∙ c.loop-number.invariant.ends;
       visits =
-          ap (λ w. w ++ gathered (arc_shared may t.loops) (drop (i + 1) t.arcs)) c.in_ok-meets_other.ensures.visits
-          ∙ sym (left_step (arc_shared may t.loops) t.arcs i c.loop-number.self.visits.items (shared_if may t.loops (slice_get t.arcs i)) h (shared_given may t.loops (slice_get t.arcs i)))
-          ∙ c.loop-number.invariant.visits;
+          same_step (gathered (arc_shared may t.loops) (drop (i + 1) t.arcs)) c.in_ok-see_numbered.ensures.visits c.loop-number.invariant.visits
+          (left_step (arc_shared may t.loops) t.arcs i c.loop-number.self.visits.items (shared_if may t.loops (slice_get t.arcs i)) h (shared_given may t.loops (slice_get t.arcs i)));
       marks =
-          map_step false (λ d. has_some (arc_shared may t.loops d)) t.arcs i c.loop-number.marks.items c.push.new.self.items c.in_ok-meets_other.field-0
-          (map (λ d. has_some (arc_shared may t.loops d)) t.arcs) h
-          (c.in_ok-meets_other.ensures.met ∙ some_answered may t.loops (slice_get t.arcs i))
+          map_step false (arc_meets may t.loops) t.arcs i c.loop-number.marks.items c.push.new.self.items c.in_ok-see_numbered.field-0
+          (map (arc_meets may t.loops) t.arcs) h
+          (c.in_ok-see_numbered.ensures.met ∙ meets_answered may t.loops (slice_get t.arcs i))
           c.in_ok-push.ensures.items c.loop-number.invariant.marks;
     }

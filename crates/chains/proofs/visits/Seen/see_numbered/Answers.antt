@@ -1,9 +1,8 @@
-use Rattle.std.proofs.Common.{◌≡◌, ◌++◌, ◌∙◌, [], ap, sym, cond, subst, OnOk}
-use Rattle.theory.specs.Refinement.{unclosed}
+use Rattle.std.proofs.Common.{◌≡◌, ◌++◌, ◌∙◌, [], ap, sym, cond, subst, OnOk, IfOk}
 use Rattle.chains.specs.OfArcs.{ends_if}
-use Rattle.chains.specs.Shared.{may_hold, shared_if, shared_in}
+use Rattle.chains.specs.Shared.{may_hold, meets, meets_if, met_visits, shared_if}
 use Rattle.chains.specs.Table.{is_loop_if}
-use Rattle.chains.specs.Visits.{inner_of, around_of, ends_of}
+use Rattle.chains.specs.Visits.{HaveSame, ends_of}
 use Rattle.chains.proofs.visits.Seen.see_numbered.Goals as goal
 
 pub returns-in-Some-clause-ends : goal.returns-in-Some-clause-ends
@@ -19,7 +18,15 @@ returns-in-Some-clause-visits c =
     let t = c.args.table.now in
     let arc = c.in-Some.arc.now in
     let may = may_hold c.args.other.now in
-    subst (λ w. OnOk c.see_arc.result (c.see_arc.new.self.visits.items ≡ c.args.self.now.visits.items ++ w))
-    (ap (λ b. shared_in may (cond b (around_of (unclosed arc)) (inner_of arc))) (c.is_free.ensures ∙ ap (is_loop_if t.loops) (sym c.in-Some.ensures))
-    ∙ ap (shared_if may t.loops) c.in-Some.ensures)
+    subst (λ w. OnOk c.see_arc.result (HaveSame c.see_arc.new.self.visits.items (c.args.self.now.visits.items ++ w)))
+    (ap (λ b. met_visits may b arc) (c.is_free.ensures ∙ ap (is_loop_if t.loops) (sym c.in-Some.ensures)) ∙ ap (shared_if may t.loops) c.in-Some.ensures)
     c.see_arc.ensures.visits
+
+pub returns-in-Some-clause-met : goal.returns-in-Some-clause-met
+returns-in-Some-clause-met c =
+    let t = c.args.table.now in
+    let arc = c.in-Some.arc.now in
+    let may = may_hold c.args.other.now in
+    subst (λ w. IfOk c.see_arc.result (λ b. b ≡ w))
+    (ap (λ b. meets may b arc) (c.is_free.ensures ∙ ap (is_loop_if t.loops) (sym c.in-Some.ensures)) ∙ ap (meets_if may t.loops) c.in-Some.ensures)
+    c.see_arc.ensures.met

@@ -2,8 +2,8 @@ use Rattle.std.proofs.Common.{◌++◌, ◌∙◌, ap}
 use Rattle.theory.specs.Lists.{gathered}
 use Rattle.chains.specs.OfArcs.{arc_ends, tables_as_map}
 use Rattle.chains.specs.Shared.{arc_shared, may_hold}
-use Rattle.chains.proofs.Same.{same_refl}
-use Rattle.chains.proofs.SharedVertices.{all_visits, met_visits, left_whole, right_whole}
+use Rattle.chains.proofs.Same.{same_before, same_equal, same_refl, same_trans}
+use Rattle.chains.proofs.SharedVertices.{all_visits, left_whole, met_kept, right_whole, shared_held}
 use Rattle.chains.proofs.TablesAsMap.{visits_of_tables, tables_alike, index_alike}
 use Rattle.chains.proofs.visits.VisitIndex.over_arcs.Goals as goal
 
@@ -13,17 +13,19 @@ returns-clause-arcs c = λ m n sm sn ms nt.
     let t = c.args.right.now in
     let of_s = c.in_ok-of_left.of_left in
     let of_t = c.in_ok-of_right.of_right in
+    let hold_s = shared_held s t c.around-left_extent.result c.around-right_extent.result of_s c.around-left_extent.ensures c.around-right_extent.ensures c.in_ok-of_left.ensures in
+    let hold_t = shared_held t s c.around-right_extent.result c.around-left_extent.result of_t c.around-right_extent.ensures c.around-left_extent.ensures c.in_ok-of_right.ensures in
     let ends = c.see_arcs-2.new.self.ends.items in
-    let all = all_visits m n sm sn s t ms nt of_s of_t c.in_ok-of_left.ensures c.in_ok-of_right.ensures in
+    let all = all_visits m n sm sn s t ms nt of_s of_t hold_s hold_t in
     let are =
     visits_of_tables s t ends all
     (c.in_ok-right_marks.ensures.ends ∙ ap (λ w. w ++ gathered (arc_ends t.loops) t.arcs)
     (c.in_ok-left_marks.ensures.ends ∙ ap (λ w. w ++ gathered (arc_ends s.loops) s.arcs) c.new.ensures.items))
     (same_refl all) in
     c.in_ok-index.ensures (tables_as_map s t) all
-    (met_visits m n sm sn s t ms nt of_s of_t c.in_ok-of_left.ensures c.in_ok-of_right.ensures ends c.see_arcs-2.new.self.visits.items are
-    (c.in_ok-right_marks.ensures.visits ∙ ap (λ w. w ++ gathered (arc_shared (may_hold of_s) t.loops) t.arcs)
-    (c.in_ok-left_marks.ensures.visits ∙ ap (λ w. w ++ gathered (arc_shared (may_hold of_t) s.loops) s.arcs) c.new-2.ensures.items)))
+    (met_kept m n sm sn s t ms nt of_s of_t hold_s hold_t ends c.see_arcs-2.new.self.visits.items are
+    (same_trans c.in_ok-right_marks.ensures.visits (same_before (gathered (arc_shared (may_hold of_s) t.loops) t.arcs)
+    (same_trans c.in_ok-left_marks.ensures.visits (same_equal (ap (λ w. w ++ gathered (arc_shared (may_hold of_t) s.loops) s.arcs) c.new-2.ensures.items))))))
     are
 
 pub returns-clause-union : goal.returns-clause-union
@@ -33,10 +35,14 @@ returns-clause-union c = λ m n u sm sn ms nt un.
 
 pub returns-clause-left : goal.returns-clause-left
 returns-clause-left c = λ m n sm sn ms nt.
-    left_whole m n sm sn c.args.left.now c.args.right.now ms nt c.in_ok-of_left.of_left c.in_ok-of_right.of_right c.in_ok-of_left.ensures c.in_ok-of_right.ensures
+    left_whole m n sm sn c.args.left.now c.args.right.now ms nt c.in_ok-of_left.of_left c.in_ok-of_right.of_right
+    (shared_held c.args.left.now c.args.right.now c.around-left_extent.result c.around-right_extent.result c.in_ok-of_left.of_left c.around-left_extent.ensures c.around-right_extent.ensures c.in_ok-of_left.ensures)
+    (shared_held c.args.right.now c.args.left.now c.around-right_extent.result c.around-left_extent.result c.in_ok-of_right.of_right c.around-right_extent.ensures c.around-left_extent.ensures c.in_ok-of_right.ensures)
     c.in_ok-index.index (returns-clause-arcs c m n sm sn ms nt) c.in_ok-left_marks.left_marks.items c.in_ok-left_marks.ensures.marks
 
 pub returns-clause-right : goal.returns-clause-right
 returns-clause-right c = λ m n sm sn ms nt.
-    right_whole m n sm sn c.args.left.now c.args.right.now ms nt c.in_ok-of_left.of_left c.in_ok-of_right.of_right c.in_ok-of_left.ensures c.in_ok-of_right.ensures
+    right_whole m n sm sn c.args.left.now c.args.right.now ms nt c.in_ok-of_left.of_left c.in_ok-of_right.of_right
+    (shared_held c.args.left.now c.args.right.now c.around-left_extent.result c.around-right_extent.result c.in_ok-of_left.of_left c.around-left_extent.ensures c.around-right_extent.ensures c.in_ok-of_left.ensures)
+    (shared_held c.args.right.now c.args.left.now c.around-right_extent.result c.around-left_extent.result c.in_ok-of_right.of_right c.around-right_extent.ensures c.around-left_extent.ensures c.in_ok-of_right.ensures)
     c.in_ok-index.index (returns-clause-arcs c m n sm sn ms nt) c.in_ok-right_marks.right_marks.items c.in_ok-right_marks.ensures.marks

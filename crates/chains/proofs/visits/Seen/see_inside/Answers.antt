@@ -1,7 +1,7 @@
 use Rattle.std.proofs.Common.{arith}
 use Rattle.std.proofs.lemmas.Grind.{common_steps}
 use Rattle.chains.proofs.Same.{same_step}
-use Rattle.chains.proofs.visits.Seen.see_line.Goals as goal
+use Rattle.chains.proofs.visits.Seen.see_inside.Goals as goal
 
 pub loop-next-preserved : goal.loop-next-preserved
 loop-next-preserved c = record {

@@ -1,0 +1,7 @@
+use Rattle.std.proofs.Common.{◌≡◌, ◌++◌, drop}
+use Rattle.theory.specs.TopologyFunction.{keep}
+use Rattle.chains.specs.Extents.{within}
+use Rattle.chains.proofs.shared.add_within.Given as goal
+
+abbrev pub invariant-loop-position : goal.invariant-loop-position
+invariant-loop-position l = l.list.items ++ keep (within l.fn.extent) (drop l.position-index l.arc) ≡ l.fn.list.items ++ keep (within l.fn.extent) l.fn.arc
