@@ -1,8 +1,8 @@
 -- Positions dealt to words, whatever the word and the bits of a position are, and what a test of positions says of lists of them.
-use Rattle.std.proofs.Common.{◌≡◌, ℕ, ◌+◌, ◌<◌, ◌≤◌, Bool, true, false, cond, ◌||◌, List, [], ◌∷◌, ◌++◌, inl, inr, length, drop, get_or, bit_and, bit_or, nat_eq, min, max, ◌⊎◌, slice_set, slice_get, Option, Some, None, refl, sym, ap, ◌∙◌, subst, arith, suc, zero, append_assoc}
+use Rattle.std.proofs.Common.{◌≡◌, ℕ, ◌+◌, ◌<◌, ◌≤◌, Bool, true, false, ◌||◌, List, [], ◌∷◌, ◌++◌, inl, inr, length, drop, get_or, bit_and, bit_or, nat_eq, min, max, ◌⊎◌, slice_set, slice_get, Option, Some, None, refl, sym, ap, ◌∙◌, subst, arith, suc, zero}
 use Rattle.std.specs.Int.{bit_at}
 use Rattle.std.specs.List.{list_any}
-use Rattle.std.proofs.lemmas.List.{drop_all, length-append}
+use Rattle.std.proofs.lemmas.List.{drop_all}
 use Rattle.std.proofs.lemmas.Bool.{eqb-true, eq-eqb}
 use Rattle.std.proofs.lemmas.Nat.{and_or_self}
 use Rattle.std.proofs.lemmas.Nat.Bits.{same_from_bits, bit_at_and, bit_at_or}
@@ -84,10 +84,7 @@ one_marked old now new all i x h e m before = (
   ]),
 )
 
--- before the first, and behind the last
-pub none_marked : (old : Pos → Bool) (all : List Pos) → AreLeft old old all (drop 0 all)
-none_marked old all = (λ p f. f, λ p j. inl j)
-
+-- behind the last
 pub all_marked : (old new : Pos → Bool) (all : List Pos) (i : ℕ) → length all ≤ i → AreLeft old new all (drop i all) → AreMarked all old new
 all_marked old new all i h m = (
   m.0,

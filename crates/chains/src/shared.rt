@@ -1,6 +1,6 @@
 //! The bits of the vertices that two tables of arcs may share. Most vertices of the other table find a
 //! bit of theirs not set, and so are known to be no vertices of the first.
-ghost use Rattle.std.specs.Prelude.{◌≡◌, ◌++◌, cond, drop, IfOk, OnOk, List, slice_get};
+ghost use Rattle.std.specs.Prelude.{◌≡◌, ◌++◌, IfOk, OnOk, slice_get};
 ghost use Rattle.std.specs.List.{list_any};
 ghost use Rattle.theory.specs.Lists.{gathered};
 ghost use Rattle.theory.specs.TopologyFunction.{keep};

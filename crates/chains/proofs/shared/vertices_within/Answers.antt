@@ -1,4 +1,4 @@
-use Rattle.std.proofs.Common.{◌++◌, ◌∙◌, ◌<◌, ◌+◌, ap, sym, subst, drop, length, slice_get}
+use Rattle.std.proofs.Common.{◌++◌, ◌∙◌, ◌<◌, ◌+◌, ap, sym, subst, drop, slice_get}
 use Rattle.theory.specs.Lists.{gathered}
 use Rattle.theory.specs.TopologyFunction.{keep}
 use Rattle.chains.specs.Extents.{within}
