@@ -48,7 +48,7 @@ both_true true true e = (refl, refl)
 both_true true false e = cc
 both_true false b e = cc
 
-pub not_false : (b : Bool) → not b ≡ false → b ≡ true
+not_false : (b : Bool) → not b ≡ false → b ≡ true
 not_false true e = refl
 not_false false e = cc
 

@@ -11,13 +11,14 @@ ghost use Rattle.topo.specs.OfMap.{IsOf};
 ghost use Rattle.refine.specs.Cuts as cuts;
 ghost use Rattle.refine.specs.CutLayers as cut_layers;
 ghost use Rattle.refine.specs.CutLayers.{HasFeature, HaveFeatures, IsKnownOf, IsKnownOfFirst, LayersHaveFeatures, before, behind, body_rank, geometry_cmp, layer_cmp, layers_as_one, layers_merged, tied, to_first, with_other};
+ghost use Rattle.refine.specs.Meaning.{same_grid};
 ghost use Rattle.refine.specs.declared.fault.JoinFault.TheVariants.{OtherGrid};
 
 use crate::fault::JoinFault;
 use chains::table::{ArcRef, ArcTable};
 use faults::OutOfMemory;
 use lines::items::Items;
-use recutting::{Recut, Side, recut};
+use recutting::{Recut, Side, recut_owned};
 use shapes::feature::Feature;
 use std::alloc::Global;
 use std::cmp::Ordering;
@@ -478,7 +479,7 @@ fn layers_of_both(
 }
 
 /// The topology of the features of both on the left grid. Both are handed over: their geometries
-/// are moved.
+/// and the arcs that are not cut are moved.
 fn united(alloc: Global, left: Topology, right: Topology) -> Result<Topology, OutOfMemory>
     ensures grid { IfOk result (λ t. t.grid ≡ left.grid) }
     ensures of_map { IfOk result (λ t. (m n : Layers) → IsOf m left → IsOf n right → IsOf (union m n) t) }
@@ -487,7 +488,7 @@ fn united(alloc: Global, left: Topology, right: Topology) -> Result<Topology, Ou
     let grid = left.grid();
     let (left_arcs, left_layers) = left.into_parts();
     let (right_arcs, right_layers) = right.into_parts();
-    let cut = recut(alloc, &left_arcs, &right_arcs)?;
+    let cut = recut_owned(alloc, left_arcs, right_arcs)?;
     let left_layers = layers_recut(alloc, &cut, Side::Left, left_layers)?;
     let right_layers = layers_recut(alloc, &cut, Side::Right, right_layers)?;
     let arcs = cut.into_arcs();
@@ -504,8 +505,14 @@ fn united_copies(alloc: Global, left: &Topology, right: &Topology) -> Result<Top
     united(alloc, left.copy(alloc)?, right.copy(alloc)?)
 }
 
-/// The topology of the features of both, which are handed over and on one grid: their geometries
-/// are moved, and few are stitched.
+fn on_one_grid(left: &Topology, right: &Topology) -> bool
+    ensures { result ≡ same_grid left.now.grid right.now.grid }
+{
+    left.grid() == right.grid()
+}
+
+/// The topology of the features of both, which are handed over: their geometries and the arcs that
+/// are not cut are moved, and few features are stitched.
 ///
 /// # Errors
 /// `OtherGrid` exactly where the grids differ; want of memory.
@@ -519,7 +526,7 @@ pub(crate) fn joined_owned(
     ensures few { IfOk result (λ t. length t.arcs.arcs < 2 ^ 63) }
     ensures other_grid { IsErrOf result OtherGrid ↔ ¬ (left.grid ≡ right.grid) }
 {
-    if left.grid() != right.grid() {
+    if !on_one_grid(&left, &right) {
         return Err(JoinFault::OtherGrid);
     }
     let topology = united(alloc, left, right)?;
@@ -540,7 +547,7 @@ pub(crate) fn joined(
     ensures few { IfOk result (λ t. length t.arcs.arcs < 2 ^ 63) }
     ensures other_grid { IsErrOf result OtherGrid ↔ ¬ (left.now.grid ≡ right.now.grid) }
 {
-    if left.grid() != right.grid() {
+    if !on_one_grid(left, right) {
         return Err(JoinFault::OtherGrid);
     }
     let topology = united_copies(alloc, left, right)?;
