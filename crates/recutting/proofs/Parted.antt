@@ -8,9 +8,9 @@ use Rattle.theory.specs.Lists.{gathered, joined}
 use Rattle.grid.specs.declared.pos.Pos.{Pos}
 use Rattle.chains.specs.Arcs.{Arcs}
 use Rattle.chains.specs.OfArcs.{arc_pieces}
-use Rattle.chains.specs.Placing.{pieces_under, whole_pieces}
+use Rattle.chains.specs.Placing.{whole_pieces}
 use Rattle.chains.specs.Shared.{StayWhole, whole}
-use Rattle.chains.specs.Table.{is_loop, located}
+use Rattle.chains.specs.Table.{located}
 use Rattle.chains.specs.declared.cutting.Piece.{Piece}
 use Rattle.recutting.specs.Cutting.{arc_used, parted, pieces_from}
 use Rattle.recutting.specs.Parts.{RecutParts}

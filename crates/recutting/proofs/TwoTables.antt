@@ -1,15 +1,12 @@
 -- The arcs of two tables, cut again: the table of both maps together, and its arcs in place of the old ones.
-use Rattle.std.proofs.Common.{◌≡◌, ℕ, Bool, true, false, cond, List, [], ◌∷◌, ◌++◌, map, reverse, ◌⊎◌, inl, inr, refl, sym, ap, ◌∙◌, subst, Option, Some, None}
-use Rattle.std.specs.List.{position}
-use Rattle.theory.specs.ArcNumbers.{ArcRef, StitchTo, along}
+use Rattle.std.proofs.Common.{◌≡◌, Bool, true, false, cond, List, ◌++◌, map, ◌⊎◌, inl, inr, refl, sym, subst}
 use Rattle.theory.specs.Arcs.{AreSortedOnce}
 use Rattle.theory.specs.Chain.{Free}
-use Rattle.theory.specs.Geometry.{Geometry, IsSound, IsLineOf, IsRingOf, JunctionOf, IsChainOf}
+use Rattle.theory.specs.Geometry.{Geometry, IsSound, IsLineOf, IsRingOf, JunctionOf}
 use Rattle.theory.specs.Lists.{Has, gathered}
 use Rattle.theory.specs.Refinement.{Alike, ArePiecesOfArc, IsRefinementOf, IsUnionOf, unclosed}
-use Rattle.theory.specs.Topology.{IsRingList}
 use Rattle.theory.proofs.ArcsAsMap.{turned_alike}
-use Rattle.theory.proofs.Lists.{Has-append, Has-append_left, Has-append_right, append_nil}
+use Rattle.theory.proofs.Lists.{Has-append, Has-append_left, Has-append_right}
 use Rattle.theory.proofs.ListsOfLists.{Has-gathered, gathered_from, Pairwise-map}
 use Rattle.grid.specs.declared.pos.Pos.{Pos}
 use Rattle.lines.specs.Turned.{position_cmp, list_cmp}
@@ -17,12 +14,11 @@ use Rattle.chains.specs.Arcs.{Arcs}
 use Rattle.chains.specs.Index.{IsIndexOf}
 use Rattle.chains.specs.OfArcs.{open_in, loops_in, tables_as_map, arc_pieces}
 use Rattle.chains.specs.Pieces.{chain_of, line_pieces, ring_pieces}
-use Rattle.chains.specs.Table.{same_list, is_loop, located, ArePiecesOfMap, IsTableOf}
+use Rattle.chains.specs.Table.{is_loop, located, ArePiecesOfMap, IsTableOf}
 use Rattle.chains.specs.declared.cutting.Piece.{Piece}
 use Rattle.chains.proofs.ArcsCut.{table_alike}
 use Rattle.lines.specs.Positions.{position_total, position_same}
 use Rattle.lines.proofs.Positions.{position_dec}
-use Rattle.chains.proofs.Places.{along_found}
 use Rattle.chains.proofs.TableOfMap.{are_pieces, line_list, ring_list}
 use Rattle.chains.proofs.TablesAsMap.{open_has, has_open, loop_has, has_loop, told, free_loop, tables_sound, tables_alike}
 use Rattle.recutting.specs.Cutting.{arc_used, IsRecutOf}

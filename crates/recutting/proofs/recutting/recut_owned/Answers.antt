@@ -1,4 +1,4 @@
-use Rattle.std.proofs.Common.{◌≡◌, ◌≤◌, ◌++◌, ◌∙◌, ap, drop, length, map, subst, sym, take}
+use Rattle.std.proofs.Common.{◌≤◌, ◌++◌, ◌∙◌, ap, drop, length, map, subst, sym, take}
 use Rattle.theory.specs.Lists.{joined}
 use Rattle.chains.specs.Shared.{StayWhole}
 use Rattle.recutting.specs.Cutting.{parted, pieces_from}
