@@ -15,6 +15,7 @@ pub mod Merged
 pub mod Marks
 pub mod Looking
 pub mod Numbered
+pub mod PlacedPieces
 pub mod TableOfMap
 pub mod WalkSteps
 pub mod Noting

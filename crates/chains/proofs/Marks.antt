@@ -51,7 +51,7 @@ alone (x ∷ l) s a b (inr h) (inl k) e =
     (subst (λ w. list_cmp x.positions w ≡ Less) (e ∙ ap positions_of k) (s.0 a.positions (Has-map positions_of l a h))))
 alone (x ∷ l) s a b (inr h) (inr k) e = alone l s.1 a b h k e
 
-mark_of : (l : List StoredArc) → Ascends list_cmp (map positions_of l) → (a : StoredArc) → Has a l → a.free ≡ is_loop (loops_of l) a.positions
+pub mark_of : (l : List StoredArc) → Ascends list_cmp (map positions_of l) → (a : StoredArc) → Has a l → a.free ≡ is_loop (loops_of l) a.positions
 mark_of l s a h = go a.free refl (is_loop (loops_of l) a.positions) refl
   where
     go : (f : Bool) → a.free ≡ f → (t : Bool) → is_loop (loops_of l) a.positions ≡ t → f ≡ t

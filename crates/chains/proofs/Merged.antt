@@ -56,7 +56,7 @@ rising_behind c a (b ∷ l) h k =
     go false e f g =
         both_intro (is_lt (list_cmp c a.positions)) (rises (a.positions ∷ map positions_of (merged_from b l))) h (g (before a.positions b.positions k.0 e) k.1)
 
-rising_from : (a : StoredArc) (l : List StoredArc) → Climbs a.positions l → rises (map positions_of (merged_from a l)) ≡ true
+pub rising_from : (a : StoredArc) (l : List StoredArc) → Climbs a.positions l → rises (map positions_of (merged_from a l)) ≡ true
 rising_from a [] k = refl
 rising_from a (b ∷ l) k = go (same_list b.positions a.positions) refl (rising_from (with_mark a b) l)
   where
@@ -71,7 +71,7 @@ pub merged_rises : (R : Piece → Piece → Ordering) → ((p q : Piece) → is_
 merged_rises R by_chain [] s = refl
 merged_rises R by_chain (p ∷ ps) s = rising_from (stored_of p) (map stored_of ps) (climbs_sorted R by_chain p ps s)
 
-then_less : (r s : Ordering) → is_lt (ordering_then r s) ≡ false → is_lt r ≡ false
+pub then_less : (r s : Ordering) → is_lt (ordering_then r s) ≡ false → is_lt r ≡ false
 then_less Less s e = absurd cc
 then_less Equal s e = refl
 then_less Greater s e = refl

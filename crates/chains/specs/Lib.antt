@@ -11,6 +11,7 @@ pub mod Pieces
 pub mod Arcs
 pub mod Table
 pub mod Stored
+pub mod Placing
 pub mod Links
 pub mod Walk
 pub mod Segments

@@ -1,6 +1,6 @@
 //! Cutting lines and rings at junctions.
 ghost use Rattle.std.specs.Prelude.{◌≡◌, ◌∷◌, ◌++◌, ◌<◌, ◌≤◌, ◌+◌, [], List, cond, false, Some, IfOk, OnOk, map, reverse, length, slice_get};
-ghost use Rattle.chains.specs.Shared.{whole_if};
+ghost use Rattle.chains.specs.Placing.{pieces_under};
 ghost use Rattle.theory.specs.Refinement.{IsPartOf, unclosed};
 ghost use Rattle.chains.specs.OfArcs.{pieces_if, ArePiecesUnder};
 ghost use Rattle.chains.specs.Table.{IsTableOf};
@@ -60,6 +60,17 @@ fn least_direction(mut chain: Vec<Pos>) -> (Vec<Pos>, bool)
 }
 
 impl Piece {
+    /// An arc as its own one piece.
+    pub(crate) fn whole(chain: Items<Pos>, free: bool) -> Piece
+        ensures { result ≡ record { chain = chain; reversed = false; free = free } }
+    {
+        Piece {
+            chain,
+            reversed: false,
+            free,
+        }
+    }
+
     pub(crate) fn new(chain: Vec<Pos>, free: bool) -> Piece
         ensures { result ≡ record { chain = spec.least_direction chain.items; reversed = spec.is_backwards_less chain.items; free = free } }
     {
@@ -217,33 +228,7 @@ pub fn cut_arc(
     }
 }
 
-/// An arc as its own one piece.
-fn whole_piece(alloc: Global, arc: &[Pos], free: bool) -> Result<Piece, AllocError>
-    ensures { IfOk result (λ p. p ≡ record { chain = arc.now; reversed = false; free = free }) }
-{
-    Ok(Piece {
-        chain: Items::from_vec(arc.to_vec(alloc)?),
-        reversed: false,
-        free,
-    })
-}
-
-/// Adds an arc of a table as its own one piece.
-fn add_whole(
-    alloc: Global,
-    pieces: &mut Vec<Piece>,
-    table: &ArcTable,
-    number: usize,
-) -> Result<(), AllocError>
-    ensures { OnOk result (pieces.new.items ≡ pieces.old.items ++ whole_if table.now.loops (slice_get table.now.arcs number)) }
-{
-    if let Some(arc) = table.arc(number) {
-        pieces.push(whole_piece(alloc, arc, table.is_free(number))?)?;
-    }
-    Ok(())
-}
-
-/// Adds the pieces of an arc of a table where it is cut, and else the arc.
+/// Adds the pieces of an arc that is its own one piece where it is cut, and else the arc as it is.
 ///
 /// # Errors
 /// Where memory is refused.
@@ -251,18 +236,16 @@ pub fn add_pieces(
     alloc: Global,
     pieces: &mut Vec<Piece>,
     index: &VisitIndex,
-    table: &ArcTable,
-    number: usize,
+    arc: Piece,
     is_cut: bool,
 ) -> Result<(), OutOfMemory>
-    requires { number < length table.now.arcs }
-    ensures { OnOk result (pieces.new.items ≡ pieces.old.items ++ cond is_cut (pieces_if index.now table.now.loops (slice_get table.now.arcs number)) (whole_if table.now.loops (slice_get table.now.arcs number))) }
+    ensures { OnOk result (pieces.new.items ≡ pieces.old.items ++ cond is_cut (pieces_under index.now arc) (arc ∷ [])) }
 {
     if !is_cut {
-        add_whole(alloc, pieces, table, number)?;
+        pieces.push(arc)?;
         return Ok(());
     }
-    let mut cut = cut_arc(alloc, index, table, number)?;
+    let mut cut = arc_cut(alloc, index, arc.chain(), arc.is_free())?;
     pieces.append(&mut cut)?;
     Ok(())
 }

@@ -7,6 +7,7 @@ pub mod cutting;
 mod extent;
 pub mod joining;
 mod merging;
+mod numbering;
 pub mod segment;
 mod shared;
 mod starts;

@@ -16,7 +16,8 @@ fn either(a: bool, b: bool) -> bool
 /// Of two arcs one after the other: one arc where they are equal, free where one of them is;
 /// otherwise the second, and the first is put into the list.
 fn next_arc(arcs: &mut ArcList, last: StoredArc, next: StoredArc) -> Result<StoredArc, AllocError>
-    ensures { IfOk result (λ a. (rest : List Stored) → arcs.new ++ merged_from a rest ≡ arcs.old ++ merged_from last (next ∷ rest)) }
+    ensures all { IfOk result (λ a. (rest : List Stored) → arcs.new ++ merged_from a rest ≡ arcs.old ++ merged_from last (next ∷ rest)) }
+    ensures positions { IfOk result (λ a. a.positions ≡ next.positions) }
 {
     if next.positions == last.positions {
         let free = either(last.free, next.free);
@@ -30,12 +31,13 @@ fn next_arc(arcs: &mut ArcList, last: StoredArc, next: StoredArc) -> Result<Stor
 }
 
 /// The same, where there may be no first.
-fn arc_behind(
+pub(crate) fn arc_behind(
     arcs: &mut ArcList,
     last: Option<StoredArc>,
     next: StoredArc,
 ) -> Result<StoredArc, AllocError>
-    ensures { IfOk result (λ a. (rest : List Stored) → arcs.new ++ merged_from a rest ≡ arcs.old ++ merged_behind last (next ∷ rest)) }
+    ensures all { IfOk result (λ a. (rest : List Stored) → arcs.new ++ merged_from a rest ≡ arcs.old ++ merged_behind last (next ∷ rest)) }
+    ensures positions { IfOk result (λ a. a.positions ≡ next.positions) }
 {
     match last {
         Some(arc) => next_arc(arcs, arc, next),
@@ -43,7 +45,7 @@ fn arc_behind(
     }
 }
 
-fn ended(arcs: ArcList, last: Option<StoredArc>) -> Result<ArcList, AllocError>
+pub(crate) fn ended(arcs: ArcList, last: Option<StoredArc>) -> Result<ArcList, AllocError>
     ensures { IfOk result (λ l. l ≡ arcs ++ merged_behind last []) }
 {
     let mut all = arcs;

@@ -2,6 +2,7 @@
 ghost use Rattle.std.specs.Prelude.{◌≡◌, ◌↔◌, ◌++◌, ◌∷◌, ◌<◌, ◌^◌, [], true, OnOk, IfOk, IsTrue, Some, length, slice_get, map as map_list};
 ghost use Rattle.std.specs.List.{position};
 ghost use Rattle.std.specs.Option.{option_map};
+ghost use Rattle.chains.specs.Placing.{own_piece};
 ghost use Rattle.chains.specs.Table.{same_list};
 ghost use Rattle.chains.specs.Stored.{positions_of, stored_of, rises};
 
@@ -11,9 +12,6 @@ use indexmap::IndexMap;
 use lines::items::Items;
 use std::alloc::{AllocError, Global};
 use std::marker::Model;
-
-/// How many arcs from the expected place on are compared before all are searched.
-const COMPARED: usize = 8;
 
 /// An arc, and whether it is a free loop.
 #[derive(Drop)]
@@ -31,6 +29,12 @@ impl StoredArc {
             positions: piece.into_chain(),
             free,
         }
+    }
+
+    fn into_piece(self) -> Piece
+        ensures { result ≡ own_piece self }
+    {
+        Piece::whole(self.positions, self.free)
     }
 
     fn copy(&self, alloc: Global) -> Result<StoredArc, AllocError>
@@ -117,28 +121,15 @@ impl ArcList {
             .ok()
     }
 
-    /// Whether an arc stands at a place.
-    fn has_at(&self, place: usize, positions: &Items<Pos>) -> bool
-        ensures { IsTrue result ↔ (slice_get (map_list positions_of self.now) place ≡ Some positions.now) }
+    /// Each arc as its own one piece.
+    pub(crate) fn into_pieces(self, alloc: Global) -> Result<Vec<Piece>, AllocError>
+        ensures { IfOk result (λ v. v.items ≡ map_list own_piece self) }
     {
-        match self.get(place) {
-            Some(arc) => arc.positions == *positions,
-            None => false,
+        let mut pieces = Vec::with_capacity(alloc, self.len())?;
+        for arc in self.arcs.into_values() {
+            pieces.push(arc.into_piece())?;
         }
-    }
-
-    /// The place of an arc, where the arcs rise. It is looked for where it is expected and a few
-    /// places on, and only then among all: who asks for rising arcs one after the other mostly knows
-    /// about where the next one stands.
-    pub(crate) fn place_near(&self, positions: &Items<Pos>, expected: usize) -> Option<usize>
-        ensures { rises (map_list positions_of self.now) ≡ true → result ≡ position (same_list positions.now) (map_list positions_of self.now) }
-    {
-        for place in expected..expected.saturating_add(COMPARED) {
-            if self.has_at(place, positions) {
-                return Some(place);
-            }
-        }
-        self.place_of(positions)
+        Ok(pieces)
     }
 }
 

@@ -9,10 +9,12 @@ ghost use Rattle.theory.specs.ArcNumbers.{along, index_of};
 ghost use Rattle.grid.specs.declared.pos.Pos.{Pos};
 ghost use Rattle.chains.specs.declared.cutting.Piece.{Piece as Part};
 ghost use Rattle.chains.specs.Pieces.{used, chain_of};
-ghost use Rattle.chains.specs.Table.{located, found_in, number_in, place_if, free_at, AreAlike, AreLoopsOf, ArePiecesOfMap, IsTableOf};
+ghost use Rattle.chains.specs.Placing.{whole_pieces};
+ghost use Rattle.chains.specs.Table.{located, found_in, number_in, free_at, AreAlike, AreLoopsOf, ArePiecesOfMap, IsTableOf};
 
 use crate::cutting::Piece;
 use crate::merging::merged_arcs;
+use crate::numbering::{numbered_arcs, with_places};
 use crate::stored::ArcList;
 use faults::OutOfMemory;
 use grid::pos::Pos;
@@ -109,6 +111,25 @@ impl ArcTable {
         Ok(ArcTable { arcs })
     }
 
+    /// `from_pieces`, and for each piece the used arc that it is.
+    ///
+    /// # Errors
+    /// Where memory is refused.
+    pub fn numbered(
+        alloc: Global,
+        pieces: Vec<Piece>,
+    ) -> Result<(ArcTable, Vec<ArcRef>), OutOfMemory>
+        ensures arcs { IfOk result (λ t. AreSortedOnce list_cmp (map chain_of pieces.items) t.0.arcs) }
+        ensures loops { IfOk result (λ t. AreLoopsOf pieces.items t.0.loops) }
+        ensures of_map { IfOk result (λ t. (g : Geometry Pos) → IsSound g → ArePiecesOfMap g pieces.items → IsTableOf g t.0) }
+        ensures refs { IfOk result (λ t. t.1.items ≡ map (located t.0.arcs) pieces.items) }
+    {
+        let mut sorted = with_places(alloc, pieces)?;
+        sorted.sort_unstable();
+        let (arcs, refs) = numbered_arcs(alloc, sorted)?;
+        Ok((ArcTable { arcs }, refs))
+    }
+
     /// The number of arcs.
     pub fn len(&self) -> usize
         ensures len { result ≡ length self.now.arcs }
@@ -153,15 +174,15 @@ impl ArcTable {
         }
     }
 
-    /// The number of the arc that is an arc of another table, by its number there. It is looked for
-    /// first where it is expected, and a little behind it.
-    pub fn number_near(&self, other: &ArcTable, number: usize, expected: usize) -> Option<usize>
-        ensures { result ≡ place_if self.now.arcs (slice_get other.now.arcs number) }
+    /// Each arc as its own one piece.
+    ///
+    /// # Errors
+    /// Where memory is refused.
+    pub fn into_pieces(self, alloc: Global) -> Result<Vec<Piece>, OutOfMemory>
+        ensures { IfOk result (λ v. v.items ≡ whole_pieces self) }
     {
-        match other.arcs.get(number) {
-            None => None,
-            Some(arc) => self.arcs.place_near(&arc.positions, expected),
-        }
+        let pieces = self.arcs.into_pieces(alloc)?;
+        Ok(pieces)
     }
 
     /// An equal table.

@@ -1,9 +1,8 @@
 -- Replaced lists, turned to begin where they start least.
-use Rattle.std.proofs.Common.{◌≡◌, ℕ, zero, suc, ◌+◌, ◌<◌, ◌≤◌, Bool, true, false, cond, List, [], ◌∷◌, ◌++◌, map, reverse, length, take, drop, refl, sym, ap, ◌∙◌, subst, arith, append_assoc, Option, Some, None, slice_get}
+use Rattle.std.proofs.Common.{◌≡◌, ℕ, zero, suc, ◌+◌, ◌≤◌, Bool, true, false, cond, List, [], ◌∷◌, ◌++◌, map, reverse, length, take, drop, refl, sym, ap, ◌∙◌, arith, append_assoc, Option, Some, None, slice_get}
 use Rattle.std.proofs.lemmas.List.{map-append, reverse-append, length-append}
 use Rattle.std.proofs.Math.Seq.{drop-append_seam, take-append_seam}
 use Rattle.std.specs.Cmp.Lexicographic.{slice_cmp}
-use Rattle.std.specs.Option.{option_cmp}
 use Rattle.std.specs.Ordering.{is_gt, ordering_then}
 use Rattle.std.specs.declared.cmp.Ordering.{Ordering}
 use Rattle.std.specs.declared.cmp.Ordering.TheVariants.{Less, Equal, Greater}
@@ -14,7 +13,7 @@ use Rattle.theory.specs.TopologyFunction.{least_from, lesser, rotations_from}
 use Rattle.theory.proofs.Lists.{append_nil}
 use Rattle.grid.specs.declared.pos.Pos.{Pos}
 use Rattle.lines.specs.Turned.{position_cmp}
-use Rattle.recutting.specs.Starts.{key_of, key_if, key_cmp, start_of, least_place, least_place_from}
+use Rattle.recutting.specs.Starts.{key_if, key_cmp, start_of, least_place, least_place_from}
 use Rattle.recutting.specs.declared.starting.Key.{Key}
 
 -- the last of a list of used arcs is the first of it read backwards

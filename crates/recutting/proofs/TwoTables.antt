@@ -1,15 +1,12 @@
 -- The arcs of two tables, cut again: the table of both maps together, and its arcs in place of the old ones.
-use Rattle.std.proofs.Common.{◌≡◌, ℕ, Bool, true, false, cond, List, [], ◌∷◌, ◌++◌, map, reverse, ◌⊎◌, inl, inr, refl, sym, ap, ◌∙◌, subst, Option, Some, None}
-use Rattle.std.specs.List.{position}
-use Rattle.theory.specs.ArcNumbers.{ArcRef, StitchTo, along}
+use Rattle.std.proofs.Common.{◌≡◌, Bool, true, false, cond, List, ◌++◌, map, ◌⊎◌, inl, inr, refl, sym, subst}
 use Rattle.theory.specs.Arcs.{AreSortedOnce}
 use Rattle.theory.specs.Chain.{Free}
-use Rattle.theory.specs.Geometry.{Geometry, IsSound, IsLineOf, IsRingOf, JunctionOf, IsChainOf}
+use Rattle.theory.specs.Geometry.{Geometry, IsSound, IsLineOf, IsRingOf, JunctionOf}
 use Rattle.theory.specs.Lists.{Has, gathered}
 use Rattle.theory.specs.Refinement.{Alike, ArePiecesOfArc, IsRefinementOf, IsUnionOf, unclosed}
-use Rattle.theory.specs.Topology.{IsRingList}
 use Rattle.theory.proofs.ArcsAsMap.{turned_alike}
-use Rattle.theory.proofs.Lists.{Has-append, Has-append_left, Has-append_right, append_nil}
+use Rattle.theory.proofs.Lists.{Has-append, Has-append_left, Has-append_right}
 use Rattle.theory.proofs.ListsOfLists.{Has-gathered, gathered_from, Pairwise-map}
 use Rattle.grid.specs.declared.pos.Pos.{Pos}
 use Rattle.lines.specs.Turned.{position_cmp, list_cmp}
@@ -17,16 +14,14 @@ use Rattle.chains.specs.Arcs.{Arcs}
 use Rattle.chains.specs.Index.{IsIndexOf}
 use Rattle.chains.specs.OfArcs.{open_in, loops_in, tables_as_map, arc_pieces}
 use Rattle.chains.specs.Pieces.{chain_of, line_pieces, ring_pieces}
-use Rattle.chains.specs.Table.{same_list, is_loop, located, ArePiecesOfMap, IsTableOf}
+use Rattle.chains.specs.Table.{is_loop, located, ArePiecesOfMap, IsTableOf}
 use Rattle.chains.specs.declared.cutting.Piece.{Piece}
 use Rattle.chains.proofs.ArcsCut.{table_alike}
 use Rattle.lines.specs.Positions.{position_total, position_same}
 use Rattle.lines.proofs.Positions.{position_dec}
-use Rattle.chains.proofs.Places.{along_found}
 use Rattle.chains.proofs.TableOfMap.{are_pieces, line_list, ring_list}
 use Rattle.chains.proofs.TablesAsMap.{open_has, has_open, loop_has, has_loop, told, free_loop, tables_sound, tables_alike}
-use Rattle.recutting.proofs.Staying.{found_has, stays}
-use Rattle.recutting.specs.Cutting.{whole_or, arc_used, IsRecutOf}
+use Rattle.recutting.specs.Cutting.{arc_used, IsRecutOf}
 use Rattle.recutting.specs.Parts.{RecutParts}
 
 in_first : {A : Type 0} (x : A) (a b : List A) (t : Bool) → t ≡ true → Has x a → Has x (cond t a b)
@@ -63,18 +58,6 @@ module _ (js : List Pos) (t : Arcs) where
           ((l : List Pos) × Has l (open_in t.loops t.arcs) × Has p (line_pieces js l)) ⊎ ((r : List Pos) × Has r (loops_in t.loops t.arcs) × Has p (ring_pieces js r))
       go c h true e k = inr (unclosed c, has_loop t.loops t.arcs c h e, k)
       go c h false e k = inl (c, has_open t.loops t.arcs c h e, k)
-
--- an arc that is found among others stitches to itself
-found_stitches : (g : Geometry Pos) (arcs : List (List Pos)) (c : List Pos) (n : ℕ) → IsChainOf position_cmp g c → Some n ≡ position (same_list c) arcs →
-    StitchTo arcs (record { arc = n; reversed = false } ∷ []) c
-found_stitches g arcs [] n k e = absurd k
-found_stitches g arcs (x ∷ q) n k e = (
-  q,
-  [],
-  along_found arcs (record { chain = x ∷ q; reversed = false; free = false }) (x ∷ q) n false e refl refl,
-  sym (append_nil q),
-  refl,
-)
 
 module _ (s t : Arcs) (js : List Pos) (index : IsIndexOf js (tables_as_map s t)) (m n u : Geometry Pos) (sm : IsSound m) (sn : IsSound n)
     (ms : IsTableOf m s) (nt : IsTableOf n t) (union : IsUnionOf m n u) (ps : List Piece)
@@ -130,26 +113,17 @@ module _ (s t : Arcs) (js : List Pos) (index : IsIndexOf js (tables_as_map s t))
           not_free : is_loop old.loops c ≡ false → ¬ Free (JunctionOf g) c
           not_free e = (told g sg old og c h).no e
 
-          uncut : is_loop old.loops c ≡ false → (o : Option ℕ) → o ≡ position (same_list c) new.arcs →
-              StitchTo new.arcs (whole_or o (map (located new.arcs) (line_pieces js c))) c
-          uncut e None p = line_list a sound js index ps of_lines of_rings new.arcs sorted c (opens c (has_open old.loops old.arcs c h e))
-          uncut e (Some k) p = found_stitches g new.arcs c k (og.arcs.arcs_only c h).chain p
-
-          looped : is_loop old.loops c ≡ true → (o : Option ℕ) → o ≡ position (same_list c) new.arcs →
-              IsRingList position_cmp (JunctionOf u) new.arcs (unclosed c) (whole_or o (map (located new.arcs) (ring_pieces js (unclosed c))))
-          looped e None p =
-              let k = ring_list a sound js index ps of_lines of_rings new.arcs sorted (unclosed c) (loops (unclosed c) (has_loop old.loops old.arcs c h e)) in
-              (k.0, k.1, turned_alike position_cmp position_total position_same position_dec a u alike (unclosed c) k.0 k.1 k.2, k.3)
-          looped e (Some n) p =
-              stays g u new.arcs (record { arc = n; reversed = false } ∷ []) c (unclosed c) (free_loop g sg old og c h e).0 (og.arcs.arcs_only c h).chain
-              ((told g sg old og c h).yes e) (table.arcs.arcs_only c (found_has new.arcs c n p)).chain
-              (found_stitches g new.arcs c n (og.arcs.arcs_only c h).chain p)
-
           go : (b : Bool) → is_loop old.loops c ≡ b →
-              ArePiecesOfArc position_cmp (JunctionOf g) (JunctionOf u) new.arcs c
-              (whole_or (position (same_list c) new.arcs) (map (located new.arcs) (cond b (ring_pieces js (unclosed c)) (line_pieces js c))))
-          go true e = inr (unclosed c, (free_loop g sg old og c h e).0, (told g sg old og c h).yes e, looped e (position (same_list c) new.arcs) refl)
-          go false e = inl (not_free e, uncut e (position (same_list c) new.arcs) refl)
+              ArePiecesOfArc position_cmp (JunctionOf g) (JunctionOf u) new.arcs c (map (located new.arcs) (cond b (ring_pieces js (unclosed c)) (line_pieces js c)))
+          go true e =
+              let k = ring_list a sound js index ps of_lines of_rings new.arcs sorted (unclosed c) (loops (unclosed c) (has_loop old.loops old.arcs c h e)) in
+              inr (
+                unclosed c,
+                (free_loop g sg old og c h e).0,
+                (told g sg old og c h).yes e,
+                (k.0, k.1, turned_alike position_cmp position_total position_same position_dec a u alike (unclosed c) k.0 k.1 k.2, k.3),
+              )
+          go false e = inl (not_free e, line_list a sound js index ps of_lines of_rings new.arcs sorted c (opens c (has_open old.loops old.arcs c h e)))
 
       refines : IsRefinementOf position_cmp g u old.arcs new.arcs (map (arc_used js old.loops new.arcs) old.arcs)
       refines = record {

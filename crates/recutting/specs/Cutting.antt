@@ -1,6 +1,5 @@
 -- Which new arcs an old one becomes.
-use Rattle.std.specs.Prelude.{ℕ, false, List, [], ◌∷◌, map, Option, Some, None}
-use Rattle.std.specs.List.{position}
+use Rattle.std.specs.Prelude.{ℕ, ◌+◌, Bool, true, cond, List, [], ◌∷◌, map, length, take, drop, get_or, min}
 use Rattle.theory.specs.ArcNumbers.{ArcRef}
 use Rattle.theory.specs.Geometry.{Geometry}
 use Rattle.theory.specs.Refinement.{IsRefinementOf}
@@ -8,22 +7,24 @@ use Rattle.grid.specs.declared.pos.Pos.{Pos}
 use Rattle.lines.specs.Turned.{position_cmp}
 use Rattle.chains.specs.Arcs.{Arcs}
 use Rattle.chains.specs.OfArcs.{arc_pieces}
-use Rattle.chains.specs.Table.{same_list, located, IsTableOf}
+use Rattle.chains.specs.Placing.{pieces_under}
+use Rattle.chains.specs.Table.{located, IsTableOf}
+use Rattle.chains.specs.declared.cutting.Piece.{Piece}
 use Rattle.recutting.specs.Parts.{RecutParts}
 
--- one new arc, or else the others
-abbrev pub whole_or : Option ℕ → List ArcRef → List ArcRef
-whole_or None others = others
-whole_or (Some n) others = record { arc = n; reversed = false } ∷ []
-
--- the new arcs of an old one, where these are the junctions: it alone, or its pieces
+-- the new arcs of an old one, where these are the junctions: its pieces
 abbrev pub arc_used : List Pos → List (List Pos) → List (List Pos) → List Pos → List ArcRef
-arc_used junctions loops new c = whole_or (position (same_list c) new) (map (located new) (arc_pieces junctions loops c))
+arc_used junctions loops new c = map (located new) (arc_pieces junctions loops c)
 
--- the same, where there is an old arc
-abbrev pub used_if : List Pos → List (List Pos) → List (List Pos) → Option (List Pos) → List ArcRef
-used_if junctions loops new None = []
-used_if junctions loops new (Some c) = arc_used junctions loops new c
+-- the pieces of arcs from that of number n on, each of which is its own one piece: an arc that is not marked stays so
+abbrev pub pieces_from : List Pos → List Bool → ℕ → List Piece → List (List Piece)
+pieces_from junctions marks n [] = []
+pieces_from junctions marks n (p ∷ ps) = cond (get_or marks n true) (pieces_under junctions p) (p ∷ []) ∷ pieces_from junctions marks (n + 1) ps
+
+-- a list parted into lists of so many each
+abbrev pub parted : {A : Type 0} → List ℕ → List A → List (List A)
+parted [] l = []
+parted (n ∷ ns) l = take (min n (length l)) l ∷ parted ns (drop (min n (length l)) l)
 
 -- the table is that of u, which m and n make together, and the arcs of both are cut into its arcs
 pub record IsRecutOf (m n u : Geometry Pos) (left right : Arcs) (r : RecutParts) : Type 0 where

@@ -7,5 +7,5 @@ pub mod refined;
 mod replacing;
 mod starting;
 
-pub use recutting::recut;
+pub use recutting::{recut, recut_owned};
 pub use refined::{Recut, Side};

@@ -1,19 +1,16 @@
 //! Cutting the arcs of two tables again: the index of visits over the arcs gives the junctions of
 //! both maps together, all arcs are cut there, and the pieces are the new table.
-ghost use Rattle.std.specs.Prelude.{◌≡◌, ◌<◌, ◌++◌, IfOk, OnOk, List, map as map_list, length, slice_get, get_or, true, Option};
+ghost use Rattle.std.specs.Prelude.{◌≡◌, ◌++◌, IfOk, OnOk, length, map as map_list, get_or, true};
 ghost use Rattle.grid.specs.declared.pos.Pos.{Pos};
 ghost use Rattle.theory.specs.Geometry.{Geometry, IsSound};
-ghost use Rattle.theory.specs.Lists.{gathered};
+ghost use Rattle.theory.specs.Lists.{joined};
 ghost use Rattle.theory.specs.Refinement.{IsUnionOf};
-ghost use Rattle.chains.specs.OfArcs.{arc_pieces};
-ghost use Rattle.chains.specs.Shared.{StayWhole};
 ghost use Rattle.chains.specs.Table.{IsTableOf};
-ghost use Rattle.recutting.specs.Cutting.{arc_used, used_if, IsRecutOf};
+ghost use Rattle.recutting.specs.Cutting.{pieces_from, parted, IsRecutOf};
 
 use crate::refined::Recut;
-use chains::cutting::{Piece, add_pieces, cut_arc};
+use chains::cutting::{Piece, add_pieces};
 use chains::table::{ArcRef, ArcTable};
-use chains::used_arcs::refs_of;
 use chains::visits::VisitIndex;
 use faults::OutOfMemory;
 use lines::items::Items;
@@ -29,82 +26,87 @@ fn is_marked(marks: &[bool], number: usize) -> bool
     }
 }
 
-/// Adds the pieces of all arcs of a table, of which those that are not marked are not cut.
+/// Adds the pieces of the arcs of a table, of which those that are not marked are not cut, and how
+/// many pieces each arc has.
 fn add_table(
     alloc: Global,
     pieces: &mut Vec<Piece>,
+    counts: &mut Vec<usize>,
     index: &VisitIndex,
-    table: &ArcTable,
+    arcs: Vec<Piece>,
     marks: &[bool],
 ) -> Result<(), OutOfMemory>
-    ensures { OnOk result (StayWhole index.now table.now marks.now → pieces.new.items ≡ pieces.old.items ++ gathered (arc_pieces index.now table.now.loops) table.now.arcs) }
+    ensures pieces { OnOk result (pieces.new.items ≡ pieces.old.items ++ joined (pieces_from index.now marks.now 0 arcs.items)) }
+    ensures counts { OnOk result (counts.new.items ≡ counts.old.items ++ map_list length (pieces_from index.now marks.now 0 arcs.items)) }
 {
-    for number in 0..table.len() {
-        let is_cut = is_marked(marks, number);
-        add_pieces(alloc, pieces, index, table, number, is_cut)?;
+    let mut number = 0;
+    for arc in arcs {
+        let before = pieces.len();
+        add_pieces(alloc, pieces, index, arc, is_marked(marks, number))?;
+        counts.push(pieces.len() - before)?;
+        number += 1;
     }
     Ok(())
 }
 
-/// The new arcs of an old one. One that was not cut is looked up as it is, first where it is
-/// expected.
-fn refs_of_arc(
+/// A list parted into lists of so many each.
+fn lists_of(
     alloc: Global,
-    index: &VisitIndex,
-    old: &ArcTable,
-    number: usize,
-    arcs: &ArcTable,
-    expected: usize,
-) -> Result<Items<ArcRef>, OutOfMemory>
-    requires { number < length old.now.arcs }
-    ensures { IfOk result (λ v. v ≡ used_if index.now old.now.loops arcs.now.arcs (slice_get old.now.arcs number)) }
-{
-    match arcs.number_near(old, number, expected) {
-        Some(arc) => {
-            let mut refs = Vec::with_capacity(alloc, 1)?;
-            refs.push(ArcRef {
-                arc,
-                reversed: false,
-            })?;
-            Ok(Items::from_vec(refs))
-        }
-        None => {
-            let pieces = cut_arc(alloc, index, old, number)?;
-            refs_of(alloc, arcs, &pieces)
-        }
-    }
-}
-
-/// The number behind the last of some arcs, or the one given where there are none.
-fn number_behind(refs: &Items<ArcRef>, otherwise: usize) -> usize {
-    match refs.as_slice().last() {
-        Some(used) => used.arc.saturating_add(1),
-        None => otherwise,
-    }
-}
-
-/// The new arcs of each old one. Both tables are sorted, so the arcs that stay stand in one order in
-/// both, and each is expected behind the one before it.
-fn refs_of_table(
-    alloc: Global,
-    index: &VisitIndex,
-    old: &ArcTable,
-    arcs: &ArcTable,
+    refs: &[ArcRef],
+    counts: &[usize],
 ) -> Result<Vec<Items<ArcRef>>, OutOfMemory>
-    ensures { IfOk result (λ v. v.items ≡ map_list (arc_used index.now old.now.loops arcs.now.arcs) old.now.arcs) }
+    ensures { IfOk result (λ v. v.items ≡ parted counts.now refs.now) }
 {
-    let mut lists = Vec::with_capacity(alloc, old.len())?;
-    let mut expected = 0;
-    for number in 0..old.len() {
-        let refs = refs_of_arc(alloc, index, old, number, arcs, expected)?;
-        expected = number_behind(&refs, expected);
-        lists.push(refs)?;
+    let mut lists = Vec::with_capacity(alloc, counts.len())?;
+    let mut left = refs;
+    for count in counts {
+        let (these, others) = left.split_at((*count).min(left.len()));
+        lists.push(Items::from_vec(these.to_vec(alloc)?))?;
+        left = others;
     }
     Ok(lists)
 }
 
 /// The arcs of two tables, each that of a map, cut again under the junctions of both maps together.
-/// The junctions are known from the tables alone.
+/// The junctions are known from the tables alone. Both tables are handed over: the positions of arcs
+/// that are not cut are moved.
+///
+/// # Errors
+/// Where memory is refused.
+pub fn recut_owned(alloc: Global, left: ArcTable, right: ArcTable) -> Result<Recut, OutOfMemory>
+    ensures refined { IfOk result (λ r. (m n u : Geometry Pos) → IsSound m → IsSound n → IsTableOf m left → IsTableOf n right → IsUnionOf m n u → IsRecutOf m n u left right r) }
+    ensures left { IfOk result (λ r. length r.left ≡ length left.arcs) }
+    ensures right { IfOk result (λ r. length r.right ≡ length right.arcs) }
+{
+    let cuts = VisitIndex::over_arcs(alloc, &left, &right)?;
+    let left_arcs = left.into_pieces(alloc)?;
+    let right_arcs = right.into_pieces(alloc)?;
+    let left_count = left_arcs.len();
+    let mut pieces = Vec::with_capacity(alloc, left_count)?;
+    let mut counts = Vec::with_capacity(alloc, left_count)?;
+    add_table(
+        alloc,
+        &mut pieces,
+        &mut counts,
+        &cuts.index,
+        left_arcs,
+        &cuts.left,
+    )?;
+    add_table(
+        alloc,
+        &mut pieces,
+        &mut counts,
+        &cuts.index,
+        right_arcs,
+        &cuts.right,
+    )?;
+    let (arcs, refs) = ArcTable::numbered(alloc, pieces)?;
+    let mut left_lists = lists_of(alloc, &refs, &counts)?;
+    let right_lists = left_lists.split_off(left_count)?;
+    Ok(Recut::from_parts(arcs, left_lists, right_lists))
+}
+
+/// `recut_owned` of two tables that stay.
 ///
 /// # Errors
 /// Where memory is refused.
@@ -113,12 +115,5 @@ pub fn recut(alloc: Global, left: &ArcTable, right: &ArcTable) -> Result<Recut, 
     ensures left { IfOk result (λ r. length r.left ≡ length left.now.arcs) }
     ensures right { IfOk result (λ r. length r.right ≡ length right.now.arcs) }
 {
-    let cuts = VisitIndex::over_arcs(alloc, left, right)?;
-    let mut pieces = Vec::with_capacity(alloc, left.len() + right.len())?;
-    add_table(alloc, &mut pieces, &cuts.index, left, &cuts.left)?;
-    add_table(alloc, &mut pieces, &cuts.index, right, &cuts.right)?;
-    let arcs = ArcTable::from_pieces(alloc, pieces)?;
-    let of_left = refs_of_table(alloc, &cuts.index, left, &arcs)?;
-    let of_right = refs_of_table(alloc, &cuts.index, right, &arcs)?;
-    Ok(Recut::from_parts(arcs, of_left, of_right))
+    recut_owned(alloc, left.copy(alloc)?, right.copy(alloc)?)
 }

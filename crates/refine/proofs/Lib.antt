@@ -18,8 +18,10 @@ pub mod UnitedGeometry
 pub mod RecutGeometries
 pub mod JoinedLayers
 pub mod FeatureOrder
+pub mod SameBodies
 pub mod MergedSteps
 pub mod JoinedParts
+pub mod EqualLists
 pub mod LessEntries
 pub mod LeftGeometries
 pub mod RejoinedLayers

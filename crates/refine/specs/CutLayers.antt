@@ -70,6 +70,16 @@ form_rank (lines ls) = 4
 form_rank (polygon rs) = 5
 form_rank (polygons ps) = 6
 
+-- the number of a body's kind, in the order of kinds
+abbrev pub body_rank : Body → ℕ
+body_rank Null = 0
+body_rank (Point p) = 1
+body_rank (MultiPoint ps) = 2
+body_rank (Line used) = 3
+body_rank (MultiLine lists) = 4
+body_rank (Polygon lists) = 5
+body_rank (MultiPolygon ps) = 6
+
 -- by kind, then by the lists of positions
 abbrev pub form_cmp : Shape Pos → Shape Pos → Ordering
 form_cmp (point p) (point q) = position_cmp p q

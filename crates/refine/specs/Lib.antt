@@ -10,6 +10,7 @@ pub mod Merge
 pub mod MergeLaws
 pub mod Cuts
 pub mod CutLayers
+pub mod CutLaws
 pub mod OneMap
 pub mod ItsMap
 pub mod OnGrid

@@ -102,7 +102,7 @@ module _ (arcs : List (List Pos)) where
       let (l, f, q) = is_polygons t lists i in
       e ∙ ap of.MultiPolygon (beside_one (Pairwise (IsRingOf arcs)) (beside_one (IsRingOf arcs) one_ring_of) k l lists p q) ∙ sym f
 
-  one_feature : (f g : Feature) (h : Geom) → IsFeatureOf arcs f h → IsFeatureOf arcs g h → f ≡ g
+  pub one_feature : (f g : Feature) (h : Geom) → IsFeatureOf arcs f h → IsFeatureOf arcs g h → f ≡ g
   one_feature f g h p q =
       (feature_alike f g).1
       (p.id ∙ sym q.id, ap (λ x. x.text) (p.props ∙ sym q.props), one_shape f.shape g.shape h.body p.shape q.shape)

@@ -1,6 +1,6 @@
 //! The join of two topologies: their arcs are cut again, their geometries follow the pieces, and
 //! the sorted layers and geometries of both are merged in one pass.
-ghost use Rattle.std.specs.Prelude.{◌≡◌, ◌<◌, ◌^◌, ◌++◌, length, IfOk, IfSome, OnOk, List, Option, None, take, drop, map as map_list};
+ghost use Rattle.std.specs.Prelude.{◌≡◌, ◌↔◌, ◌<◌, ◌^◌, ◌++◌, length, IfOk, IfSome, IsErrOf, OnOk, List, Option, None, take, drop, map as map_list};
 ghost use Rattle.shapes.specs.Maps.{Layers};
 ghost use Rattle.shapes.specs.Union.{union};
 ghost use Rattle.recutting.specs.Parts.{of_side};
@@ -10,12 +10,15 @@ ghost use Rattle.topo.specs.declared.geom.Geom.{Geom};
 ghost use Rattle.topo.specs.OfMap.{IsOf};
 ghost use Rattle.refine.specs.Cuts as cuts;
 ghost use Rattle.refine.specs.CutLayers as cut_layers;
-ghost use Rattle.refine.specs.CutLayers.{HasFeature, HaveFeatures, IsKnownOf, IsKnownOfFirst, LayersHaveFeatures, before, behind, geometry_cmp, info_cmp, layer_cmp, layers_as_one, layers_merged, tied, to_first, with_other};
+ghost use Rattle.refine.specs.CutLayers.{HasFeature, HaveFeatures, IsKnownOf, IsKnownOfFirst, LayersHaveFeatures, before, behind, body_rank, geometry_cmp, layer_cmp, layers_as_one, layers_merged, tied, to_first, with_other};
+ghost use Rattle.refine.specs.Meaning.{same_grid};
+ghost use Rattle.refine.specs.declared.fault.JoinFault.TheVariants.{OtherGrid};
 
+use crate::fault::JoinFault;
 use chains::table::{ArcRef, ArcTable};
 use faults::OutOfMemory;
 use lines::items::Items;
-use recutting::{Recut, Side, recut};
+use recutting::{Recut, Side, recut_owned};
 use shapes::feature::Feature;
 use std::alloc::Global;
 use std::cmp::Ordering;
@@ -213,8 +216,24 @@ fn order_stitched(
     Ok(order)
 }
 
-/// The order of the features of two geometries. They are stitched only where their ids and their
-/// properties tie.
+/// The number of a body's kind, in the order of kinds.
+fn rank(body: &Body) -> u8
+    ensures { result ≡ body_rank body.now }
+{
+    match body {
+        Body::Null => 0,
+        Body::Point(_) => 1,
+        Body::MultiPoint(_) => 2,
+        Body::Line(_) => 3,
+        Body::MultiLine(_) => 4,
+        Body::Polygon(_) => 5,
+        Body::MultiPolygon(_) => 6,
+    }
+}
+
+/// The order of the features of two geometries. They are stitched only where their ids, their
+/// properties and their kinds tie, and their lists of arcs differ: equal lists stitch to equal
+/// shapes.
 fn order_of(
     alloc: Global,
     arcs: &ArcTable,
@@ -234,9 +253,13 @@ fn order_of(
     let order = geometry
         .id
         .cmp(&other.id)
-        .then(geometry.props.cmp(&other.props));
+        .then(geometry.props.cmp(&other.props))
+        .then(rank(&geometry.body).cmp(&rank(&other.body)));
     if order.is_ne() {
         return Ok(order);
+    }
+    if geometry.body == other.body {
+        return Ok(Ordering::Equal);
     }
     order_stitched(alloc, arcs, geometry, known, other, other_known)
 }
@@ -456,15 +479,8 @@ fn layers_of_both(
 }
 
 /// The topology of the features of both on the left grid. Both are handed over: their geometries
-/// are moved, and none is stitched but where ids and properties tie.
-///
-/// # Errors
-/// Where memory is refused.
-pub(crate) fn joined_owned(
-    alloc: Global,
-    left: Topology,
-    right: Topology,
-) -> Result<Topology, OutOfMemory>
+/// and the arcs that are not cut are moved.
+fn united(alloc: Global, left: Topology, right: Topology) -> Result<Topology, OutOfMemory>
     ensures grid { IfOk result (λ t. t.grid ≡ left.grid) }
     ensures of_map { IfOk result (λ t. (m n : Layers) → IsOf m left → IsOf n right → IsOf (union m n) t) }
     ensures few { IfOk result (λ t. length t.arcs.arcs < 2 ^ 63) }
@@ -472,7 +488,7 @@ pub(crate) fn joined_owned(
     let grid = left.grid();
     let (left_arcs, left_layers) = left.into_parts();
     let (right_arcs, right_layers) = right.into_parts();
-    let cut = recut(alloc, &left_arcs, &right_arcs)?;
+    let cut = recut_owned(alloc, left_arcs, right_arcs)?;
     let left_layers = layers_recut(alloc, &cut, Side::Left, left_layers)?;
     let right_layers = layers_recut(alloc, &cut, Side::Right, right_layers)?;
     let arcs = cut.into_arcs();
@@ -480,18 +496,60 @@ pub(crate) fn joined_owned(
     Ok(Topology::from_parts(grid, arcs, layers))
 }
 
-/// `joined_owned` of two topologies that stay.
-///
-/// # Errors
-/// Where memory is refused.
-pub(crate) fn joined(
-    alloc: Global,
-    left: &Topology,
-    right: &Topology,
-) -> Result<Topology, OutOfMemory>
+/// `united` of two topologies that stay.
+fn united_copies(alloc: Global, left: &Topology, right: &Topology) -> Result<Topology, OutOfMemory>
     ensures grid { IfOk result (λ t. t.grid ≡ left.now.grid) }
     ensures of_map { IfOk result (λ t. (m n : Layers) → IsOf m left.now → IsOf n right.now → IsOf (union m n) t) }
     ensures few { IfOk result (λ t. length t.arcs.arcs < 2 ^ 63) }
 {
-    joined_owned(alloc, left.copy(alloc)?, right.copy(alloc)?)
+    united(alloc, left.copy(alloc)?, right.copy(alloc)?)
+}
+
+fn on_one_grid(left: &Topology, right: &Topology) -> bool
+    ensures { result ≡ same_grid left.now.grid right.now.grid }
+{
+    left.grid() == right.grid()
+}
+
+/// The topology of the features of both, which are handed over: their geometries and the arcs that
+/// are not cut are moved, and few features are stitched.
+///
+/// # Errors
+/// `OtherGrid` exactly where the grids differ; want of memory.
+pub(crate) fn joined_owned(
+    alloc: Global,
+    left: Topology,
+    right: Topology,
+) -> Result<Topology, JoinFault>
+    ensures grid { IfOk result (λ t. t.grid ≡ left.grid) }
+    ensures of_map { IfOk result (λ t. (m n : Layers) → IsOf m left → IsOf n right → IsOf (union m n) t) }
+    ensures few { IfOk result (λ t. length t.arcs.arcs < 2 ^ 63) }
+    ensures other_grid { IsErrOf result OtherGrid ↔ ¬ (left.grid ≡ right.grid) }
+{
+    if !on_one_grid(&left, &right) {
+        return Err(JoinFault::OtherGrid);
+    }
+    let topology = united(alloc, left, right)?;
+    Ok(topology)
+}
+
+/// `joined_owned` of two topologies that stay.
+///
+/// # Errors
+/// `OtherGrid` exactly where the grids differ; want of memory.
+pub(crate) fn joined(
+    alloc: Global,
+    left: &Topology,
+    right: &Topology,
+) -> Result<Topology, JoinFault>
+    ensures grid { IfOk result (λ t. t.grid ≡ left.now.grid) }
+    ensures of_map { IfOk result (λ t. (m n : Layers) → IsOf m left.now → IsOf n right.now → IsOf (union m n) t) }
+    ensures few { IfOk result (λ t. length t.arcs.arcs < 2 ^ 63) }
+    ensures other_grid { IsErrOf result OtherGrid ↔ ¬ (left.now.grid ≡ right.now.grid) }
+{
+    if !on_one_grid(left, right) {
+        return Err(JoinFault::OtherGrid);
+    }
+    let topology = united_copies(alloc, left, right)?;
+    Ok(topology)
 }

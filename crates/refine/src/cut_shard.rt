@@ -9,7 +9,6 @@ ghost use Rattle.refine.specs.Laws.{union-Commutes, union-Associates, union-IsId
 use crate::canonical::text_of_topology;
 use crate::cut::{joined, joined_owned};
 use crate::fault::JoinFault;
-use crate::plan::same_grid;
 use crate::shard::Shard;
 use faults::OutOfMemory;
 use grid::transform::Grid;
@@ -71,17 +70,11 @@ impl Shard for Cut {
     }
 
     fn join(&self, alloc: Global, other: &Cut) -> Result<Cut, JoinFault> {
-        if !same_grid(&self.grid(), &other.grid()) {
-            return Err(JoinFault::OtherGrid);
-        }
         let topology = joined(alloc, &self.topology, &other.topology)?;
         Ok(Cut::of_topology(topology))
     }
 
     fn join_owned(self, alloc: Global, other: Cut) -> Result<Cut, JoinFault> {
-        if !same_grid(&self.grid(), &other.grid()) {
-            return Err(JoinFault::OtherGrid);
-        }
         let topology = joined_owned(alloc, self.topology, other.topology)?;
         Ok(Cut::of_topology(topology))
     }

@@ -1,5 +1,6 @@
 //! The laws of merging, as contracts of functions that do nothing.
 ghost use Rattle.refine.specs.Alike.{PlansAlike};
+ghost use Rattle.refine.specs.CutLaws.{EqualFeaturesEqualLists};
 ghost use Rattle.refine.specs.MergeLaws.{MergeOfAllMeanings, MergesAlike, MergeOfOneText, MergedTextsMeanUnions, MergesThroughTexts, OneCanon, SegmentsOfMergeOnce};
 
 /// Plans that name the same maps, in any order, with repeats and in any grouping, give the same union.
@@ -44,4 +45,11 @@ pub fn merge_of_one_text()
 /// no other segment.
 pub fn segments_of_merge_once()
     ensures { SegmentsOfMergeOnce }
+{}
+
+/// By the arcs of one map, features are equal exactly where the ids, the properties and the lists of
+/// arcs of their geometries are: so a join, which has both sides by the arcs of both together, finds
+/// the features that both have by their lists alone.
+pub fn equal_features_equal_lists()
+    ensures { EqualFeaturesEqualLists }
 {}

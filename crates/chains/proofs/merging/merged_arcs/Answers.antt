@@ -5,7 +5,7 @@ use Rattle.chains.proofs.merging.merged_arcs.Goals as goal
 
 pub loop-piece-preserved : goal.loop-piece-preserved
 loop-piece-preserved c =
-    c.in_ok-arc_behind.ensures (map stored_of c.next.new.self.rest.items)
+    c.in_ok-arc_behind.ensures.all (map stored_of c.next.new.self.rest.items)
     ∙ ap (λ w. c.loop-piece.arcs ++ merged_behind c.loop-piece.last (w ∷ map stored_of c.next.new.self.rest.items)) c.of.ensures
     ∙ ap (λ w. c.loop-piece.arcs ++ merged_behind c.loop-piece.last (map stored_of w)) (sym c.in-Some.ensures.steps.0)
     ∙ c.loop-piece.invariant

@@ -1,16 +1,20 @@
 use Rattle.std.proofs.Common.{◌++◌, ◌∷◌, [], cond, ap, sym, ◌∙◌, append_assoc}
 use Rattle.chains.specs.Stored.{with_mark, merged_from}
+use Rattle.chains.proofs.Places.{list_true}
 use Rattle.chains.proofs.merging.next_arc.Goals as goal
 
-pub returns-then-eq : goal.returns-then-eq
-returns-then-eq c = λ rest.
+pub returns-then-eq-clause-all : goal.returns-then-eq-clause-all
+returns-then-eq-clause-all c = λ rest.
     let last = c.args.last in
     let next = c.args.next in
     ap (λ b. c.args.arcs.now ++ merged_from (record { positions = last.positions; free = b }) rest) c.either-free.ensures
     ∙ ap (λ b. c.args.arcs.now ++ cond b (merged_from (with_mark last next) rest) (last ∷ merged_from next rest)) (sym c.if-eq.true ∙ c.eq.ensures)
 
-pub returns : goal.returns
-returns c = λ rest.
+pub returns-then-eq-clause-positions : goal.returns-then-eq-clause-positions
+returns-then-eq-clause-positions c = sym (list_true c.args.next.positions c.args.last.positions (sym c.eq.ensures ∙ c.if-eq.true))
+
+pub returns-clause-all : goal.returns-clause-all
+returns-clause-all c = λ rest.
     let last = c.args.last in
     let next = c.args.next in
     ap (λ w. w ++ merged_from next rest) c.in_ok-push.ensures

@@ -1,11 +1,12 @@
-use Rattle.std.proofs.Common.{◌≡◌, ◌++◌, drop}
-use Rattle.theory.specs.Lists.{gathered}
-use Rattle.chains.specs.OfArcs.{arc_pieces}
-use Rattle.chains.specs.Shared.{StayWhole}
+use Rattle.std.proofs.Common.{◌≡◌, ◌+◌, ◌++◌, length, map}
+use Rattle.theory.specs.Lists.{joined}
+use Rattle.recutting.specs.Cutting.{pieces_from}
 use Rattle.recutting.proofs.recutting.add_table.Given as goal
 
-abbrev pub invariant-loop-number : goal.invariant-loop-number
-invariant-loop-number l =
-    StayWhole l.fn.index l.fn.table l.fn.marks →
-    l.pieces.items ++ gathered (arc_pieces l.fn.index l.fn.table.loops) (drop l.number l.fn.table.arcs)
-    ≡ l.fn.pieces.items ++ gathered (arc_pieces l.fn.index l.fn.table.loops) l.fn.table.arcs
+abbrev pub invariant-loop-arc : goal.invariant-loop-arc
+invariant-loop-arc l = record {
+  left : l.number + length l.arc-iterator.rest.items ≡ length l.fn.arcs.items;
+  pieces : l.pieces.items ++ joined (pieces_from l.fn.index l.fn.marks l.number l.arc-iterator.rest.items) ≡ l.fn.pieces.items ++ joined (pieces_from l.fn.index l.fn.marks 0 l.fn.arcs.items);
+  counts : l.counts.items ++ map length (pieces_from l.fn.index l.fn.marks l.number l.arc-iterator.rest.items)
+      ≡ l.fn.counts.items ++ map length (pieces_from l.fn.index l.fn.marks 0 l.fn.arcs.items);
+}

@@ -1,4 +1,4 @@
-use Rattle.std.proofs.Common.{◌≡◌, ◌≤◌, ◌∙◌, length, subst, sym, ap}
+use Rattle.std.proofs.Common.{◌≤◌, ◌∙◌, length, subst, sym, ap}
 use Rattle.theory.specs.Refinement.{replaced}
 use Rattle.recutting.specs.Parts.{of_side}
 use Rattle.recutting.specs.Starts.{least_place}

@@ -1,6 +1,5 @@
-use Rattle.std.proofs.Common.{◌≡◌, ◌∙◌, rules, sym}
+use Rattle.std.proofs.Common.{◌∙◌}
 use Rattle.shapes.specs.Union.{union}
-use Rattle.refine.proofs.PlanLemmas.{same_grid_true}
 use Rattle.refine.proofs.cut_shard.CutShard.join_owned.Goals as goal
 
 pub of_topology-requires-clause-of_map : goal.of_topology-requires-clause-of_map
@@ -22,15 +21,3 @@ returns-clause-map c =
     let n = c.other.inside.of_map.0 in
     c.of_topology.ensures.map (union m n) (c.in_ok-topology.ensures.of_map m n c.self.invariant.of_map c.other.invariant.of_map)
     ∙ (λ i. union (c.self.view_is i).map (c.other.view_is i).map)
-
-pub returns-clause-other_grid : goal.returns-clause-other_grid
-returns-clause-other_grid c =
-    let same : c.args.self.grid ≡ c.args.other.grid =
-    sym c.grid.ensures ∙ same_grid_true c.grid.result c.grid-2.result (sym c.same_grid.ensures ∙ c.if-not-same_grid.false) ∙ c.grid-2.ensures in
-    (search rules, λ other. absurd (other same))
-
-pub returns-in_err-topology-clause-other_grid : goal.returns-in_err-topology-clause-other_grid
-returns-in_err-topology-clause-other_grid c =
-    let same : c.args.self.grid ≡ c.args.other.grid =
-    sym c.grid.ensures ∙ same_grid_true c.grid.result c.grid-2.result (sym c.same_grid.ensures ∙ c.if-not-same_grid.false) ∙ c.grid-2.ensures in
-    (search rules, λ other. absurd (other same))

@@ -1,0 +1,15 @@
+use Rattle.std.proofs.Common.{◌≡◌, ◌++◌, length, map}
+use Rattle.theory.specs.Lists.{Has}
+use Rattle.chains.specs.Placing.{arcs_of, piece_of}
+use Rattle.chains.specs.Stored.{merged, merged_behind, stored_of}
+use Rattle.chains.specs.declared.numbering.Placed.{Placed}
+use Rattle.chains.proofs.PlacedPieces.{LeftOrPut}
+use Rattle.chains.proofs.numbering.numbered_arcs.Given as goal
+
+abbrev pub invariant-loop-placed : goal.invariant-loop-placed
+invariant-loop-placed l = record {
+  all : l.arcs ++ merged_behind l.last (map stored_of (map piece_of l.placed-iterator.rest.items)) ≡ merged (map stored_of (map piece_of l.fn.pieces.items));
+  len : length l.refs.items ≡ length l.fn.pieces.items;
+  there : (y : Placed) → Has y l.placed-iterator.rest.items → Has y l.fn.pieces.items;
+  put : (y : Placed) → Has y l.fn.pieces.items → LeftOrPut (arcs_of l.fn.pieces.items) l.placed-iterator.rest.items l.refs.items y;
+}

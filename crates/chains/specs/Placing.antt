@@ -1,0 +1,47 @@
+-- Pieces with their places, and the arcs that they are.
+use Rattle.std.specs.Prelude.{◌≡◌, ℕ, cond, false, ◌+◌, ◌<◌, List, [], ◌∷◌, map, length, Some, slice_get}
+use Rattle.theory.specs.ArcNumbers.{ArcRef}
+use Rattle.theory.specs.Lists.{Has, gathered}
+use Rattle.theory.specs.Refinement.{unclosed}
+use Rattle.grid.specs.declared.pos.Pos.{Pos}
+use Rattle.chains.specs.Arcs.{Arcs}
+use Rattle.chains.specs.Pieces.{line_pieces, ring_pieces}
+use Rattle.chains.specs.Shared.{whole}
+use Rattle.chains.specs.Stored.{positions_of, stored_of, merged}
+use Rattle.chains.specs.Table.{located}
+use Rattle.chains.specs.declared.cutting.Piece.{Piece}
+use Rattle.chains.specs.declared.numbering.Placed.{Placed}
+use Rattle.chains.specs.declared.stored.StoredArc.{StoredArc}
+
+abbrev pub piece_of : Placed → Piece
+piece_of x = x.piece
+
+-- pieces with their places, where the first has place n
+abbrev pub placed_from : ℕ → List Piece → List Placed
+placed_from n [] = []
+placed_from n (p ∷ ps) = record { piece = p; place = n } ∷ placed_from (n + 1) ps
+
+-- the arcs of pieces, of which those with one chain stand together
+abbrev pub arcs_of : List Placed → List (List Pos)
+arcs_of l = map positions_of (merged (map stored_of (map piece_of l)))
+
+-- one piece stands at each place, and the places are less than how many pieces there are
+pub record ArePlaced (l : List Placed) : Type 0 where
+  pub one : (x y : Placed) → Has x l → Has y l → x.place ≡ y.place → x.piece ≡ y.piece
+  pub within : (x : Placed) → Has x l → x.place < length l
+
+-- at the place of each piece stands the used arc that it is
+abbrev pub AreRefsOf : List (List Pos) → List Placed → List ArcRef → Type 0
+AreRefsOf arcs l refs = (x : Placed) → Has x l → slice_get refs x.place ≡ Some (located arcs x.piece)
+
+-- a kept arc as its own one piece
+abbrev pub own_piece : StoredArc → Piece
+own_piece a = record { chain = a.positions; reversed = false; free = a.free }
+
+-- each arc of a table as its own one piece
+abbrev pub whole_pieces : Arcs → List Piece
+whole_pieces t = gathered (whole t.loops) t.arcs
+
+-- the pieces of an arc that is its own one piece, where these are the junctions
+abbrev pub pieces_under : List Pos → Piece → List Piece
+pieces_under junctions p = cond p.free (ring_pieces junctions (unclosed p.chain)) (line_pieces junctions p.chain)

@@ -1,0 +1,59 @@
+//! Sorted pieces made into arcs, and for each piece the arc that it is.
+ghost use Rattle.std.specs.Prelude.{◌≡◌, IfOk, true, length, map as map_list};
+ghost use Rattle.chains.specs.Placing.{piece_of, placed_from, arcs_of, ArePlaced, AreRefsOf};
+ghost use Rattle.chains.specs.Stored.{stored_of, merged, rises};
+
+use crate::cutting::Piece;
+use crate::merging::{arc_behind, ended};
+use crate::stored::{ArcList, StoredArc};
+use crate::table::ArcRef;
+use std::alloc::{AllocError, Global};
+
+/// A piece, and its place among all.
+#[derive(PartialEq, Eq, PartialOrd, Ord, Drop)]
+pub(crate) struct Placed {
+    piece: Piece,
+    place: usize,
+}
+
+/// Pieces with their places.
+pub(crate) fn with_places(alloc: Global, pieces: Vec<Piece>) -> Result<Vec<Placed>, AllocError>
+    ensures { IfOk result (λ v. v.items ≡ placed_from 0 pieces.items) }
+{
+    let mut all = Vec::with_capacity(alloc, pieces.len())?;
+    for piece in pieces {
+        let place = all.len();
+        all.push(Placed { piece, place })?;
+    }
+    Ok(all)
+}
+
+/// The arcs of sorted pieces, and at the place of each piece the arc that it is.
+pub(crate) fn numbered_arcs(
+    alloc: Global,
+    pieces: Vec<Placed>,
+) -> Result<(ArcList, Vec<ArcRef>), AllocError>
+    requires placed { ArePlaced pieces.items }
+    requires rises { rises (arcs_of pieces.items) ≡ true }
+    ensures arcs { IfOk result (λ r. r.0 ≡ merged (map_list stored_of (map_list piece_of pieces.items))) }
+    ensures len { IfOk result (λ r. length r.1.items ≡ length pieces.items) }
+    ensures refs { IfOk result (λ r. AreRefsOf (arcs_of pieces.items) pieces.items r.1.items) }
+{
+    let mut arcs = ArcList::new(alloc);
+    let mut refs = vec![in alloc; ArcRef {
+        arc: 0,
+        reversed: false
+    }; pieces.len()]?;
+    let mut last = None;
+    for placed in pieces {
+        let Placed { piece, place } = placed;
+        let reversed = piece.reversed();
+        last = Some(arc_behind(&mut arcs, last, StoredArc::of(piece))?);
+        refs[place] = ArcRef {
+            arc: arcs.len(),
+            reversed,
+        };
+    }
+    let all = ended(arcs, last)?;
+    Ok((all, refs))
+}
