@@ -14,3 +14,4 @@ pub mod Walk
 pub mod Segments
 pub mod Joined
 pub mod OfArcs
+pub mod Along

@@ -1,5 +1,4 @@
 pub mod Stepped
-pub mod Staying
 pub mod TwoTables
 pub mod Turned
 pub mod Lists

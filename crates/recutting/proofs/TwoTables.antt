@@ -25,7 +25,7 @@ use Rattle.lines.proofs.Positions.{position_dec}
 use Rattle.chains.proofs.Places.{along_found}
 use Rattle.chains.proofs.TableOfMap.{are_pieces, line_list, ring_list}
 use Rattle.chains.proofs.TablesAsMap.{open_has, has_open, loop_has, has_loop, told, free_loop, tables_sound, tables_alike}
-use Rattle.recutting.proofs.Staying.{found_has, stays}
+use Rattle.chains.proofs.Staying.{found_has, found_stitches, stays}
 use Rattle.recutting.specs.Cutting.{whole_or, arc_used, IsRecutOf}
 use Rattle.recutting.specs.Parts.{RecutParts}
 
@@ -63,18 +63,6 @@ module _ (js : List Pos) (t : Arcs) where
           ((l : List Pos) × Has l (open_in t.loops t.arcs) × Has p (line_pieces js l)) ⊎ ((r : List Pos) × Has r (loops_in t.loops t.arcs) × Has p (ring_pieces js r))
       go c h true e k = inr (unclosed c, has_loop t.loops t.arcs c h e, k)
       go c h false e k = inl (c, has_open t.loops t.arcs c h e, k)
-
--- an arc that is found among others stitches to itself
-found_stitches : (g : Geometry Pos) (arcs : List (List Pos)) (c : List Pos) (n : ℕ) → IsChainOf position_cmp g c → Some n ≡ position (same_list c) arcs →
-    StitchTo arcs (record { arc = n; reversed = false } ∷ []) c
-found_stitches g arcs [] n k e = absurd k
-found_stitches g arcs (x ∷ q) n k e = (
-  q,
-  [],
-  along_found arcs (record { chain = x ∷ q; reversed = false; free = false }) (x ∷ q) n false e refl refl,
-  sym (append_nil q),
-  refl,
-)
 
 module _ (s t : Arcs) (js : List Pos) (index : IsIndexOf js (tables_as_map s t)) (m n u : Geometry Pos) (sm : IsSound m) (sn : IsSound n)
     (ms : IsTableOf m s) (nt : IsTableOf n t) (union : IsUnionOf m n u) (ps : List Piece)

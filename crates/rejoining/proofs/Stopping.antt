@@ -18,7 +18,7 @@ eq_is p q = search rules
 eq_back : (p q : Pos) → is_eq (position_cmp p q) ≡ position_eq q p
 eq_back p q = search rules
 
-contains_among : (s : BTreeSet Pos) (q : Pos) → contains position_cmp s q ≡ among s.keys q
+pub contains_among : (s : BTreeSet Pos) (q : Pos) → contains position_cmp s q ≡ among s.keys q
 contains_among s q = go s.keys
   where
     go : (ks : List Pos) → list_any (λ k. is_eq (position_cmp q k)) ks ≡ list_any (position_eq q) ks

@@ -4,9 +4,9 @@
 mod choosing;
 mod cutting_back;
 mod meeting;
+mod parts;
 pub mod rejoined;
 pub mod rejoining;
-mod sides;
 mod start_table;
 mod starting;
 

@@ -1,8 +1,8 @@
 use Rattle.std.proofs.Common.{[], ◌↔◌, ◌⊎◌, OnOk, ap, subst, unwrap_or}
 use Rattle.grid.specs.declared.pos.Pos.{Pos}
 use Rattle.chains.specs.Joined.{AmongSegments}
-use Rattle.query.specs.Along.{SidesOf}
-use Rattle.query.proofs.borders.note_number.Goals as goal
+use Rattle.chains.specs.Along.{SidesOf}
+use Rattle.chains.proofs.sides.note_number.Goals as goal
 
 pub returns-in-Some : goal.returns-in-Some
 returns-in-Some c =

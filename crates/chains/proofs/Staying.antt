@@ -28,6 +28,18 @@ found_has arcs c n p =
     let t = along_get arcs (record { arc = n; reversed = false }) c (along_found arcs (record { chain = c; reversed = false; free = false }) c n false p refl refl) in
     get_has arcs n c (t.1 ∙ ap Some (sym t.2))
 
+-- an arc that is found among others stitches to itself
+pub found_stitches : (g : Geometry Pos) (arcs : List (List Pos)) (c : List Pos) (n : ℕ) → IsChainOf position_cmp g c → Some n ≡ position (same_list c) arcs →
+    StitchTo arcs (record { arc = n; reversed = false } ∷ []) c
+found_stitches g arcs [] n k e = absurd k
+found_stitches g arcs (x ∷ q) n k e = (
+  q,
+  [],
+  along_found arcs (record { chain = x ∷ q; reversed = false; free = false }) (x ∷ q) n false e refl refl,
+  sym (append_nil q),
+  refl,
+)
+
 module _ (g u : Geometry Pos) where
   turned : (x : Pos) (l : List Pos) → IsChainOf position_cmp g (closed (x ∷ l)) → Free (JunctionOf g) (closed (x ∷ l)) → IsChainOf position_cmp u (closed (x ∷ l)) →
       IsTurned position_cmp (JunctionOf u) (x ∷ l) x l

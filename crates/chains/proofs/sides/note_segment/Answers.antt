@@ -1,6 +1,6 @@
 use Rattle.std.proofs.Common.{refl}
-use Rattle.rejoining.proofs.Siding.{put_segment, put_none}
-use Rattle.rejoining.proofs.sides.note_segment.Goals as goal
+use Rattle.chains.proofs.Siding.{put_segment, put_none}
+use Rattle.chains.proofs.sides.note_segment.Goals as goal
 
 pub returns-in_default : goal.returns-in_default
 returns-in_default c = put_none c.args.a c.args.b c.args.segments.now.items (c.in_default.ensures.none.0 refl)

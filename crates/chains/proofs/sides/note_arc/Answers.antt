@@ -1,7 +1,7 @@
 use Rattle.std.proofs.Common.{drop, ◌+◌}
 use Rattle.chains.proofs.Slices.{drop_item}
-use Rattle.rejoining.proofs.Siding.{done_along, none_left, step_along}
-use Rattle.rejoining.proofs.sides.note_arc.Goals as goal
+use Rattle.chains.proofs.Siding.{done_along, none_left, step_along}
+use Rattle.chains.proofs.sides.note_arc.Goals as goal
 
 pub loop-next-preserved : goal.loop-next-preserved
 loop-next-preserved c = λ u v.

@@ -1,8 +1,8 @@
 use Rattle.std.proofs.Common.{◌↔◌, ◌⊎◌, drop}
 use Rattle.grid.specs.declared.pos.Pos.{Pos}
 use Rattle.chains.specs.Joined.{AmongSegments}
-use Rattle.query.specs.Along.{SidesFrom, SidesOf}
-use Rattle.query.proofs.borders.note_arc.Given as goal
+use Rattle.chains.specs.Along.{SidesFrom, SidesOf}
+use Rattle.chains.proofs.sides.note_arc.Given as goal
 
 abbrev pub invariant-loop-next : goal.invariant-loop-next
 invariant-loop-next l =

@@ -7,8 +7,7 @@ use Rattle.chains.specs.Segments.{IsBetween}
 use Rattle.chains.specs.declared.segment.Segment.{Segment}
 use Rattle.lines.proofs.Pairs.{pair_ordered, pair_between}
 use Rattle.lines.proofs.Positions.{position_decide}
-use Rattle.topo.specs.Points.{arc_at}
-use Rattle.query.specs.Along.{Joins, SidesFrom, SidesOf, HasArcs}
+use Rattle.chains.specs.Along.{arc_at, Joins, SidesFrom, SidesOf, HasArcs}
 
 -- two positions that differ are the ends of a segment
 segment_between : (a b : Pos) → ¬ (a ≡ b) → (s : Segment) × IsBetween a b s

@@ -1,7 +1,7 @@
 use Rattle.std.proofs.Common.{drop, get_or, ◌+◌}
 use Rattle.std.proofs.lemmas.List.{drop_more}
-use Rattle.query.proofs.Siding.{done_arcs, none_left, step_arcs}
-use Rattle.query.proofs.borders.segments_of.Goals as goal
+use Rattle.chains.proofs.Siding.{done_arcs, none_left, step_arcs}
+use Rattle.chains.proofs.sides.segments_of.Goals as goal
 
 pub loop-number-preserved : goal.loop-number-preserved
 loop-number-preserved c = λ u v.

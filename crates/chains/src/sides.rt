@@ -2,9 +2,10 @@
 ghost use Rattle.std.specs.Prelude.{◌↔◌, ◌⊎◌, IfOk, OnOk};
 ghost use Rattle.grid.specs.declared.pos.Pos.{Pos};
 ghost use Rattle.chains.specs.Joined.{AmongSegments};
-ghost use Rattle.rejoining.specs.Along.{arc_at, Joins, SidesOf, HasArcs};
+ghost use Rattle.chains.specs.Along.{arc_at, Joins, SidesOf, HasArcs};
 
-use chains::{ArcTable, Segment};
+use crate::segment::Segment;
+use crate::table::ArcTable;
 use grid::pos::Pos;
 use std::alloc::{AllocError, Global};
 
@@ -48,7 +49,7 @@ fn note_number(
 }
 
 /// The segments of the arcs of these numbers.
-pub(crate) fn segments_of(
+pub fn segments_of(
     alloc: Global,
     arcs: &ArcTable,
     chosen: &[usize],

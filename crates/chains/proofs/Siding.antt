@@ -6,9 +6,8 @@ use Rattle.chains.specs.Segments.{IsBetween}
 use Rattle.chains.specs.declared.segment.Segment.{Segment}
 use Rattle.chains.proofs.Slices.{drop_item}
 use Rattle.theory.specs.Lists.{Beside, Begins, Has, Steps}
-use Rattle.topo.specs.Points.{arc_at}
-use Rattle.query.specs.Along.{Joins, SidesFrom, SidesOf, OnArcs}
-use Rattle.query.proofs.Stepping.{first_put, behind_first, step_on, all_put}
+use Rattle.chains.specs.Along.{arc_at, Joins, SidesFrom, SidesOf, OnArcs}
+use Rattle.chains.proofs.Stepping.{first_put, behind_first, step_on, all_put}
 
 -- past the end nothing is left
 pub none_left : {A : Type 0} (xs : List A) (i : ℕ) → length xs ≤ i → drop i xs ≡ []

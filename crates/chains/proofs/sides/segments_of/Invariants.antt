@@ -1,8 +1,8 @@
 use Rattle.std.proofs.Common.{◌↔◌, ◌⊎◌, drop}
 use Rattle.grid.specs.declared.pos.Pos.{Pos}
 use Rattle.chains.specs.Joined.{AmongSegments}
-use Rattle.rejoining.specs.Along.{OnArcs}
-use Rattle.rejoining.proofs.sides.segments_of.Given as goal
+use Rattle.chains.specs.Along.{OnArcs}
+use Rattle.chains.proofs.sides.segments_of.Given as goal
 
 abbrev pub invariant-loop-number : goal.invariant-loop-number
 invariant-loop-number l =
