@@ -13,3 +13,4 @@ pub mod Wholes
 pub mod Parted
 pub mod Agreeing
 pub mod EndsMet
+pub mod ProvedLaws

@@ -6,3 +6,4 @@ pub mod Rejoining
 pub mod Starts
 pub mod RingStarts
 pub mod Parting
+pub mod Laws

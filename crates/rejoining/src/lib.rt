@@ -3,6 +3,7 @@
 
 mod choosing;
 mod cutting_back;
+pub mod laws;
 mod meeting;
 mod parts;
 pub mod rejoined;
