@@ -1,5 +1,5 @@
 -- What is left of a map, by the marks of its arcs and the ends of its lines: its arcs, and where old junctions are on those that were joined.
-use Rattle.std.proofs.Common.{◌≡◌, ◌↔◌, ℕ, Bool, List, inl, inr, sym, ap, ◌∙◌, subst, None}
+use Rattle.std.proofs.Common.{◌≡◌, ◌↔◌, ℕ, Bool, ◌||◌, List, inl, inr, sym, ap, ◌∙◌, subst, None}
 use Rattle.theory.specs.Geometry.{Geometry, IsSound, JunctionOf, SegmentOf}
 use Rattle.theory.specs.Lists.{Has}
 use Rattle.theory.specs.Removing.{IsKept, KeptLaws}
@@ -21,7 +21,7 @@ use Rattle.chains.specs.Along.{HasArcs}
 use Rattle.rejoining.specs.CutBack.{MeetAtEnds}
 use Rattle.rejoining.specs.Parting.{others, wholes}
 use Rattle.rejoining.specs.Choosing.{kept_numbers}
-use Rattle.rejoining.specs.Meeting.{noted_all, stop_all}
+use Rattle.rejoining.specs.Meeting.{is_more, noted_all}
 use Rattle.rejoining.specs.Rejoining.{IsLeftBy}
 use Rattle.rejoining.proofs.Choices.{numbers_are, numbers_once}
 use Rattle.rejoining.proofs.Meetings.{stop_told, told_stop}
@@ -63,7 +63,7 @@ module _ (g u : Geometry Pos) (old : Arcs) (marks : List Bool) (ending : List Po
           (left_laws.segments a b).1 (t.0, t.1, (kept_are t.0).0 t.2, t.3, sides_beside t.1 a b t.4)),
     )
 
-  module _ (stops : List Pos) (made : (q : Pos) → among stops q ≡ stop_all old.arcs (λ v. noted_all old.arcs v None ks) q (among ending q) ks) where
+  module _ (stops : List Pos) (made : (q : Pos) → among stops q ≡ (among ending q || is_more (noted_all old.arcs q None ks))) where
     pub junctions : (v : Pos) → JunctionOf g v ↔ StopAt stops v
     junctions v = (
       (λ j. made v ∙ told_stop old.arcs Kept ks (numbers_once 0 marks) kept_are v (among ending v) (elim ((left_laws.junctions v).0 j) [
@@ -78,7 +78,7 @@ module _ (g u : Geometry Pos) (old : Arcs) (marks : List Bool) (ending : List Po
 
 -- in the form of the code
 module _ (old : Arcs) (marks : List Bool) (ending : List Pos) (numbers these those : List ℕ) (chosen : numbers ≡ kept_numbers 0 marks) (first : these ≡ numbers) (second : those ≡ numbers)
-    (stops : List Pos) (made : (q : Pos) → among stops q ≡ stop_all old.arcs (λ v. noted_all old.arcs v None these) q (among ending q) these)
+    (stops : List Pos) (made : (q : Pos) → among stops q ≡ (among ending q || is_more (noted_all old.arcs q None these)))
     (joined numbered : List ℕ) (are_others : joined ≡ others stops old those) (again : numbered ≡ joined) where
   module _ (g u : Geometry Pos) (left : IsLeftBy g u old marks ending) where
     abbrev kept : List ℕ
@@ -87,7 +87,7 @@ module _ (old : Arcs) (marks : List Bool) (ending : List Pos) (numbers these tho
     stops_are : (v : Pos) → JunctionOf g v ↔ StopAt stops v
     stops_are =
         junctions g u old marks ending left stops
-        (subst (λ l. (q : Pos) → among stops q ≡ stop_all old.arcs (λ v. noted_all old.arcs v None l) q (among ending q) l) (first ∙ chosen) made)
+        (subst (λ l. (q : Pos) → among stops q ≡ (among ending q || is_more (noted_all old.arcs q None l))) (first ∙ chosen) made)
 
     all : (segs : List Segment) × HasArcs old.arcs (kept_numbers 0 marks) segs
     all = segments_on old.arcs (kept_numbers 0 marks)
