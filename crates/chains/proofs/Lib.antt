@@ -28,3 +28,7 @@ pub mod SharedVertices
 pub mod TablesAsMap
 pub mod ArcsCut
 pub mod Located
+pub mod Stepping
+pub mod Siding
+pub mod ArcSegments
+pub mod Staying

@@ -17,3 +17,4 @@ pub mod Walk
 pub mod Segments
 pub mod Joined
 pub mod OfArcs
+pub mod Along

@@ -2,7 +2,7 @@
 ghost use Rattle.std.specs.Prelude.{◌≡◌, cond, [], ◌∷◌, ◌++◌, ◌↔◌, ◌⊎◌, map as map_list, slice_get, IfOk, List, OnOk, IsTrue};
 ghost use Rattle.theory.specs.Geometry.{Geometry, IsSound, JunctionOf, SegmentOf};
 ghost use Rattle.theory.specs.Segments.{OnThree};
-ghost use Rattle.theory.specs.Lists.{gathered, joined};
+ghost use Rattle.theory.specs.Lists.{Has, gathered, joined};
 ghost use Rattle.theory.specs.Topology.{forms_of};
 ghost use Rattle.grid.specs.declared.pos.Pos.{Pos};
 ghost use Rattle.chains.specs.Shared.{KeepsClashes, StayWhole, arc_meets, arc_shared, may_hold, meets, meets_if, met_visits, shared_if};
@@ -377,6 +377,22 @@ impl VisitIndex {
         junctions.sort_unstable();
         let bits = PositionBits::of(alloc, &junctions)?;
         Ok(VisitIndex { junctions, bits })
+    }
+
+    /// The index that has these positions for junctions.
+    ///
+    /// # Errors
+    /// Where memory is refused.
+    pub fn from_junctions(alloc: Global, junctions: Vec<Pos>) -> Result<VisitIndex, OutOfMemory>
+        ensures { IfOk result (λ i. (p : Pos) → Has p i ↔ Has p junctions.items) }
+    {
+        let mut sorted = junctions;
+        sorted.sort_unstable();
+        let bits = PositionBits::of(alloc, &sorted)?;
+        Ok(VisitIndex {
+            junctions: sorted,
+            bits,
+        })
     }
 
     /// The index of all lines and rings of a map.

@@ -5,7 +5,7 @@ use Rattle.theory.specs.Lists.{BeginsTwo}
 use Rattle.topo.specs.Points.{arc_at}
 use Rattle.query.specs.declared.ends.End.{End}
 use Rattle.query.specs.Ends.{AmongEnds, EndStep, IsEnd, OnEnds, begin_of}
-use Rattle.query.proofs.Stepping.{first_put, behind_first, step_on, all_put}
+use Rattle.chains.proofs.Stepping.{first_put, behind_first, step_on, all_put}
 
 among_put : (v w : Pos) (es : List End) (e : End) → AmongEnds v w (es ++ (e ∷ [])) ↔ (AmongEnds v w es ⊎ IsEnd v w (Some e))
 among_put v w [] e = first_put (IsEnd v w (Some e))

@@ -3,7 +3,7 @@ use Rattle.std.proofs.Common.{ℕ, List, inl, inr}
 use Rattle.grid.specs.declared.pos.Pos.{Pos}
 use Rattle.chains.specs.Joined.{MeetsTwo}
 use Rattle.chains.specs.declared.segment.Segment.{Segment}
-use Rattle.query.specs.Along.{HasArcs}
+use Rattle.chains.specs.Along.{HasArcs}
 use Rattle.query.specs.Stops.{AreHalts, AreStops}
 
 -- the halts of arcs are the stops of their segments

@@ -33,7 +33,7 @@ use Rattle.topo.proofs.Stitched.{geometries_of}
 use Rattle.query.specs.Borders.{InScope}
 use Rattle.query.specs.Members.{held, paired, layer_pairs, Holds, InOrder, AreMembers}
 use Rattle.query.specs.declared.members.Member.{Member}
-use Rattle.query.proofs.Siding.{none_left}
+use Rattle.chains.proofs.Siding.{none_left}
 use Rattle.query.proofs.LayerFeatures.{OfFeatures, entry_layer, key_entry, layer_form, named_features}
 
 -- a feature and its body put behind the others

@@ -7,15 +7,12 @@ pub mod UsesOfBodies
 pub mod LayerFeatures
 pub mod Neighboring
 pub mod Spanning
-pub mod Stepping
-pub mod Siding
 pub mod Choosing
 pub mod Holding
 pub mod Meshing
 pub mod Vertices
 pub mod Ending
 pub mod Halting
-pub mod ArcSegments
 pub mod Parted
 pub mod Wholes
 pub mod LinesLeft

@@ -25,7 +25,7 @@ use Rattle.theory.proofs.UsersOfArcs.{users}
 use Rattle.topo.specs.OfMap.{IsOf, body_of}
 use Rattle.topo.specs.Parts.{TopologyParts}
 use Rattle.topo.proofs.Sound.{are_sound}
-use Rattle.query.specs.Along.{HasArcs}
+use Rattle.chains.specs.Along.{HasArcs}
 use Rattle.query.specs.Borders.{InScope, HasSide, IsLeastWith, IsGreatestWith, AreSelected}
 use Rattle.query.specs.Members.{AreMembers, InOrder}
 use Rattle.query.specs.Selecting.{AreChosen}
@@ -35,7 +35,7 @@ use Rattle.query.specs.declared.members.Member.{Member}
 use Rattle.query.specs.declared.spans.Span.{Span}
 use Rattle.query.specs.declared.uses.Use.{Use}
 use Rattle.query.proofs.LayerFeatures.{form_rings, form_segment}
-use Rattle.query.proofs.Siding.{arc_on, beside_sides, on_arc, sides_beside}
+use Rattle.chains.proofs.Siding.{arc_on, beside_sides, on_arc, sides_beside}
 use Rattle.query.proofs.Spanning.{Spans, span_of}
 use Rattle.query.proofs.UsesOfBodies.{bodies_from, has_bodies, use_at}
 

@@ -18,13 +18,13 @@ use Rattle.topo.specs.Points.{arc_at}
 use Rattle.topo.specs.OfMap.{IsOfSomeMap}
 use Rattle.topo.specs.Parts.{TopologyParts}
 use Rattle.topo.proofs.Sound.{are_sound}
-use Rattle.query.specs.Along.{OnArcs, HasArcs}
+use Rattle.chains.specs.Along.{OnArcs, HasArcs}
 use Rattle.query.specs.Borders.{AreLinesOver}
 use Rattle.query.specs.Parting.{is_whole, whole_at, other_at, wholes, others}
 use Rattle.query.specs.Stops.{AreHalts}
-use Rattle.query.proofs.ArcSegments.{segments_on}
+use Rattle.chains.proofs.ArcSegments.{segments_on}
 use Rattle.query.proofs.Halting.{halts_stops}
-use Rattle.query.proofs.Siding.{arc_on, on_arc, sides_beside}
+use Rattle.chains.proofs.Siding.{arc_on, on_arc, sides_beside}
 use Rattle.query.proofs.Sides.{two_only}
 use Rattle.query.proofs.Vertices.{at_place, beside_on, end_of, inner_two}
 

@@ -17,7 +17,7 @@ use Rattle.query.specs.declared.ends.End.{End}
 use Rattle.query.specs.declared.stops.Sides.{Sides}
 use Rattle.query.specs.declared.stops.Sides.TheVariants.{One, Two, More}
 use Rattle.query.specs.Stops.{sided, noted, noted_all, halts, stop_step, stop_all, OnOne, OnThreeOf, AreHalts}
-use Rattle.query.specs.Along.{OnArcs}
+use Rattle.chains.specs.Along.{OnArcs}
 use Rattle.query.specs.Ends.{AmongEnds, HasEnds}
 use Rattle.query.proofs.Vertices.{end_side, end_sides, end_or_two}
 

@@ -15,9 +15,9 @@ use Rattle.theory.proofs.Lists.{BeginsTwo-Steps, Passes-after, Passes-before, St
 use Rattle.theory.proofs.ListsOfLists.{get_has}
 use Rattle.theory.proofs.Pieces.{SegmentOf-flip, two_segments_of}
 use Rattle.theory.proofs.Reversing.{Passes-reverse, reverse-last, Steps-reverse}
-use Rattle.query.specs.Along.{OnArcs}
+use Rattle.chains.specs.Along.{OnArcs}
 use Rattle.query.specs.Ends.{EndStep, OnEnds}
-use Rattle.query.proofs.Siding.{arc_on, beside_sides, on_arc, sides_beside}
+use Rattle.chains.proofs.Siding.{arc_on, beside_sides, on_arc, sides_beside}
 use Rattle.query.proofs.Meshing.{beside_differ}
 
 -- a neighbour on a list: at an inner place, or at an end

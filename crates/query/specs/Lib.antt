@@ -5,7 +5,6 @@ pub mod Neighbors
 pub mod Pairs
 pub mod Spans
 pub mod Selecting
-pub mod Along
 pub mod Parting
 pub mod Borders
 pub mod Members

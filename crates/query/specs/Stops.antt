@@ -8,7 +8,7 @@ use Rattle.lines.specs.Pairs.{position_eq}
 use Rattle.chains.specs.Joined.{SegmentsOf, StopAt}
 use Rattle.chains.specs.declared.segment.Segment.{Segment}
 use Rattle.theory.specs.Segments.{TwoSegments}
-use Rattle.query.specs.Along.{OnArcs}
+use Rattle.chains.specs.Along.{OnArcs}
 use Rattle.query.specs.declared.ends.End.{End}
 use Rattle.query.specs.declared.stops.Sides.{Sides}
 use Rattle.query.specs.declared.stops.Sides.TheVariants.{One, Two, More}

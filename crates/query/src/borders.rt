@@ -8,7 +8,7 @@ ghost use Rattle.chains.specs.Joined.{AmongSegments};
 ghost use Rattle.chains.specs.declared.segment.Segment.{Segment};
 ghost use Rattle.topo.specs.ItsMap.{ForItsMap};
 ghost use Rattle.topo.specs.Points.{arc_at};
-ghost use Rattle.query.specs.Along.{Joins, SidesOf, HasArcs};
+ghost use Rattle.chains.specs.Along.{Joins, SidesOf, HasArcs};
 ghost use Rattle.query.specs.Borders.{InScope, IsMissing, MayAskWithin, AreBorders};
 ghost use Rattle.query.specs.declared.fault.QueryFault.TheVariants.{NoLayer as MissingLayer};
 
@@ -18,61 +18,11 @@ use crate::parts::part;
 use crate::selecting::choose;
 use crate::spans::spans_of;
 use crate::stops::stops_of;
-use chains::{ArcTable, Segment, maximal_with};
+use chains::{ArcTable, maximal_with, segments_of};
 use grid::pos::Pos;
 use shapes::feature::Feature;
 use std::alloc::{AllocError, Global};
 use topo::Topology;
-
-/// Puts the segment between two positions behind the others.
-fn note_segment(segments: &mut Vec<Segment>, a: Pos, b: Pos) -> Result<(), AllocError>
-    ensures { OnOk result ((u v : Pos) → AmongSegments u v segments.new.items ↔ (AmongSegments u v segments.old.items ⊎ Joins a b u v)) }
-{
-    let Some(segment) = Segment::new(a, b) else {
-        return Ok(());
-    };
-    segments.push(segment)?;
-    Ok(())
-}
-
-/// Puts the segments of an arc behind the others.
-fn note_arc(segments: &mut Vec<Segment>, arc: &[Pos]) -> Result<(), AllocError>
-    ensures { OnOk result ((u v : Pos) → AmongSegments u v segments.new.items ↔ (AmongSegments u v segments.old.items ⊎ SidesOf arc.now u v)) }
-{
-    let Some((first, others)) = arc.split_first() else {
-        return Ok(());
-    };
-    let mut here = *first;
-    for next in others {
-        note_segment(segments, here, *next)?;
-        here = *next;
-    }
-    Ok(())
-}
-
-fn note_number(
-    segments: &mut Vec<Segment>,
-    arcs: &ArcTable,
-    number: usize,
-) -> Result<(), AllocError>
-    ensures { OnOk result ((u v : Pos) → AmongSegments u v segments.new.items ↔ (AmongSegments u v segments.old.items ⊎ SidesOf (arc_at arcs.now.arcs number) u v)) }
-{
-    match arcs.arc(number) {
-        Some(arc) => note_arc(segments, arc),
-        None => Ok(()),
-    }
-}
-
-/// The segments of the arcs of these numbers.
-fn segments_of(alloc: Global, arcs: &ArcTable, chosen: &[usize]) -> Result<Vec<Segment>, AllocError>
-    ensures { IfOk result (λ v. HasArcs arcs.now.arcs chosen.now v.items) }
-{
-    let mut segments = Vec::new(alloc);
-    for number in chosen {
-        note_number(&mut segments, arcs, *number)?;
-    }
-    Ok(segments)
-}
 
 /// The borders of a layer's features, or without a layer of the features of all layers: the maximal
 /// lines over the segments for which the filter says yes to the least and the greatest feature that

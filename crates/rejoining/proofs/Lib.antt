@@ -1,4 +1,3 @@
-pub mod Siding
 pub mod Stopping
 pub mod Choices
 pub mod Meetings
@@ -10,3 +9,8 @@ pub mod Turned
 pub mod Begun
 pub mod NewLists
 pub mod Noting
+pub mod Wholes
+pub mod Parted
+pub mod Agreeing
+pub mod EndsMet
+pub mod ProvedLaws

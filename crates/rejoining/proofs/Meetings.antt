@@ -1,5 +1,5 @@
 -- What is counted at a vertex: whether no end, one, two, or three and more ends of arcs meet there.
-use Rattle.std.proofs.Common.{◌≡◌, ◌↔◌, ℕ, Bool, true, false, cond, List, [], ◌∷◌, ◌⊎◌, inl, inr, refl, sym, ap, ◌∙◌, subst, Option, Some, None}
+use Rattle.std.proofs.Common.{◌≡◌, ◌↔◌, ℕ, Bool, true, false, cond, ◌||◌, List, [], ◌∷◌, ◌⊎◌, inl, inr, refl, sym, ap, ◌∙◌, subst, Option, Some, None}
 use Rattle.std.specs.Ordering.{is_eq}
 use Rattle.theory.specs.ArcNumbers.{ArcRef, along}
 use Rattle.theory.specs.Lists.{Distinct, Has}
@@ -10,7 +10,7 @@ use Rattle.lines.specs.Turned.{position_cmp}
 use Rattle.lines.proofs.Positions.{position_tied, tied_position, true_false}
 use Rattle.rejoining.specs.declared.meeting.Met.{Met}
 use Rattle.rejoining.specs.declared.meeting.Met.TheVariants.{One, Two, More}
-use Rattle.rejoining.specs.Meeting.{begin_at, first_if, is_more, met_again, noted, noted_all, stop_step, stop_all}
+use Rattle.rejoining.specs.Meeting.{begin_at, first_if, is_more, met_again, noted, noted_all}
 
 abbrev ahead : ℕ → ArcRef
 ahead k = record { arc = k; reversed = false }
@@ -172,64 +172,13 @@ module _ (arcs : List (List Pos)) (q : Pos) where
               ]
             ])
 
--- the stops that the code notes
-module _ (arcs : List (List Pos)) (f : Pos → Option Met) (q : Pos) where
-  step_kept : (o : Option Pos) → stop_step f q true o ≡ true
-  step_kept None = refl
-  step_kept (Some v) = go (is_more (f v)) (is_eq (position_cmp v q))
-    where
-      go : (a b : Bool) → cond a (cond b true true) true ≡ true
-      go true true = refl
-      go true false = refl
-      go false b = refl
-
-  all_kept : (ks : List ℕ) → stop_all arcs f q true ks ≡ true
-  all_kept [] = refl
-  all_kept (k ∷ ks) =
-      (λ i. stop_all arcs f q (stop_step f q (step_kept (begin_at arcs k false) i) (begin_at arcs k true)) ks)
-      ∙ ap (λ b. stop_all arcs f q b ks) (step_kept (begin_at arcs k true)) ∙ all_kept ks
-
-  step_met : (b : Bool) (o : Option Pos) → is_more (f q) ≡ true → o ≡ Some q → stop_step f q b o ≡ true
-  step_met b o h e = ap (stop_step f q b) e ∙ rw (h, tied_position q q refl) refl
-
-  all_met : (b : Bool) (ks : List ℕ) (k : ℕ) (r : Bool) → is_more (f q) ≡ true → Has k ks → begin_at arcs k r ≡ Some q → stop_all arcs f q b ks ≡ true
-  all_met b [] k r h i e = absurd i
-  all_met b (j ∷ ks) k r h (inr i) e = all_met (stop_step f q (stop_step f q b (begin_at arcs j false)) (begin_at arcs j true)) ks k r h i e
-  all_met b (j ∷ ks) k true h (inl i) e =
-      ap (λ w. stop_all arcs f q w ks) (step_met (stop_step f q b (begin_at arcs j false)) (begin_at arcs j true) h (ap (λ n. begin_at arcs n true) (sym i) ∙ e)) ∙ all_kept ks
-  all_met b (j ∷ ks) k false h (inl i) e =
-      ap (λ w. stop_all arcs f q (stop_step f q w (begin_at arcs j true)) ks) (step_met b (begin_at arcs j false) h (ap (λ n. begin_at arcs n false) (sym i) ∙ e))
-      ∙ ap (λ w. stop_all arcs f q w ks) (step_kept (begin_at arcs j true)) ∙ all_kept ks
-
-  step_from : (b : Bool) (o : Option Pos) → stop_step f q b o ≡ true → (b ≡ true) ⊎ (is_more (f q) ≡ true)
-  step_from b None e = inl e
-  step_from b (Some v) e = go (is_more (f v)) refl (is_eq (position_cmp v q)) refl e
-    where
-      go : (a : Bool) → is_more (f v) ≡ a → (c : Bool) → is_eq (position_cmp v q) ≡ c → cond a (cond c true b) b ≡ true → (b ≡ true) ⊎ (is_more (f q) ≡ true)
-      go true h true g k = inr (subst (λ w. is_more (f w) ≡ true) (position_tied v q g) h)
-      go true h false g k = inl k
-      go false h c g k = inl k
-
-  all_from : (b : Bool) (ks : List ℕ) → stop_all arcs f q b ks ≡ true → (b ≡ true) ⊎ (is_more (f q) ≡ true)
-  all_from b [] e = inl e
-  all_from b (k ∷ ks) e =
-      elim (all_from (stop_step f q (stop_step f q b (begin_at arcs k false)) (begin_at arcs k true)) ks e) [
-        | inr h ↦ inr h
-        | inl h ↦ elim (step_from (stop_step f q b (begin_at arcs k false)) (begin_at arcs k true) h) [
-          | inr i ↦ inr i
-          | inl i ↦ step_from b (begin_at arcs k false) i
-        ]
-      ]
-
 -- the stops: those that were there, and where three ends of these arcs meet
-module _ (arcs : List (List Pos)) (kept : ℕ → Type 0) (ks : List ℕ) (once : Distinct ks) (are : (k : ℕ) → Has k ks ↔ kept k) (q : Pos) (b : Bool) where
-  abbrev met : Pos → Option Met
-  met v = noted_all arcs v None ks
+module _ (arcs : List (List Pos)) (kept : ℕ → Type 0) (ks : List ℕ) (once : Distinct ks) (are : (k : ℕ) → Has k ks ↔ kept k) (q : Pos) where
+  pub stop_told : (b : Bool) → (b || is_more (noted_all arcs q None ks)) ≡ true → (b ≡ true) ⊎ ThreeMeet kept arcs q
+  stop_told true e = inl refl
+  stop_told false e = inr (three_counted arcs q kept ks once are e)
 
-  pub stop_told : stop_all arcs met q b ks ≡ true → (b ≡ true) ⊎ ThreeMeet kept arcs q
-  stop_told e = elim (all_from arcs met q b ks e) [ inl h ↦ inl h | inr h ↦ inr (three_counted arcs q kept ks once are h) ]
-
-  pub told_stop : (b ≡ true) ⊎ ThreeMeet kept arcs q → stop_all arcs met q b ks ≡ true
-  told_stop (inl e) = ap (λ w. stop_all arcs met q w ks) e ∙ all_kept arcs met q ks
-  told_stop (inr t) =
-      all_met arcs met q b ks t.0.arc t.0.reversed (counted_three arcs q kept ks once are t) ((are t.0.arc).1 t.3) (at_begins arcs q t.0 t.6)
+  pub told_stop : (b : Bool) → (b ≡ true) ⊎ ThreeMeet kept arcs q → (b || is_more (noted_all arcs q None ks)) ≡ true
+  told_stop true h = refl
+  told_stop false (inl e) = absurd cc
+  told_stop false (inr t) = counted_three arcs q kept ks once are t

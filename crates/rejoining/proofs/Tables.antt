@@ -44,7 +44,7 @@ module _ (g : Geometry Pos) (sg : IsSound g) (segs : List Segment) (stops : List
   chain_from : (c : List Pos) → IsChainOver segs stops c → IsChainOf position_cmp g c
   chain_from c k = same_chains (SegmentsOf segs) (SegmentOf g) (StopAt stops) (JunctionOf g) (AtMost position_cmp) (λ a b. (segments a b).1) (λ v. (junctions v).1) (λ v. (junctions v).0) c k
 
-  chain_to : (c : List Pos) → IsChainOf position_cmp g c → IsChainOver segs stops c
+  pub chain_to : (c : List Pos) → IsChainOf position_cmp g c → IsChainOver segs stops c
   chain_to c k = same_chains (SegmentOf g) (SegmentsOf segs) (JunctionOf g) (StopAt stops) (AtMost position_cmp) (λ a b. (segments a b).0) (λ v. (junctions v).0) (λ v. (junctions v).1) c k
 
   arcs_are : (t : Arcs) → AreMaximal segs stops t → AreArcsOf position_cmp g t.arcs
@@ -64,9 +64,6 @@ module _ (g : Geometry Pos) (sg : IsSound g) (segs : List Segment) (stops : List
     once = each_segment_once position_cmp g order sg t.arcs (arcs_are t m);
   }
 
-  none_stood : (whole : List (List Pos)) → whole ≡ [] → AreParted segs stops whole segs
-  none_stood whole e = subst (λ w. AreParted segs stops w segs) (sym e) (record { chains = λ d h. absurd h; within = λ u v h. h; every = λ u v h. inr h })
-
-  pub table_told : (whole : List (List Pos)) → whole ≡ [] → (t : Arcs) →
-      (MeetsTwo segs stops → (all : List Segment) → MeetsTwo all stops → AreParted all stops whole segs → AreMaximal all stops t) → IsTableOf g t
-  table_told whole e t maximal = table_is t (maximal meets_two segs meets_two (none_stood whole e))
+  pub table_told : (whole : List (List Pos)) (rest : List Segment) → MeetsTwo rest stops → AreParted segs stops whole rest → (t : Arcs) →
+      (MeetsTwo rest stops → (all : List Segment) → MeetsTwo all stops → AreParted all stops whole rest → AreMaximal all stops t) → IsTableOf g t
+  table_told whole rest meets parted t maximal = table_is t (maximal meets segs meets_two parted)

@@ -1,8 +1,9 @@
 pub mod Parts
 pub mod Choosing
-pub mod Along
 pub mod Meeting
 pub mod CutBack
 pub mod Rejoining
 pub mod Starts
 pub mod RingStarts
+pub mod Parting
+pub mod Laws

@@ -1,5 +1,5 @@
 -- Where the arcs that stay have to stop.
-use Rattle.std.specs.Prelude.{ℕ, Bool, true, false, cond, List, [], ◌∷◌, Option, Some, None, slice_get}
+use Rattle.std.specs.Prelude.{ℕ, Bool, true, false, cond, ◌||◌, List, [], ◌∷◌, Option, Some, None, slice_get}
 use Rattle.std.specs.Ordering.{is_eq}
 use Rattle.std.specs.BTreeMap.{BTreeMap, get}
 use Rattle.theory.specs.ArcNumbers.{along}
@@ -44,12 +44,7 @@ is_more (Some One) = false
 is_more (Some Two) = false
 is_more (Some More) = true
 
--- whether q is a stop, once an end is looked at
-abbrev pub stop_step : (Pos → Option Met) → Pos → Bool → Option Pos → Bool
-stop_step f q b None = b
-stop_step f q b (Some v) = cond (is_more (f v)) (cond (is_eq (position_cmp v q)) true b) b
-
--- whether q is a stop, once both ends of the arcs of these numbers are looked at
-abbrev pub stop_all : List (List Pos) → (Pos → Option Met) → Pos → Bool → List ℕ → Bool
-stop_all arcs f q b [] = b
-stop_all arcs f q b (k ∷ ks) = stop_all arcs f q (stop_step f q (stop_step f q b (begin_at arcs k false)) (begin_at arcs k true)) ks
+-- whether q is a stop, once so many ends are counted at it, the last of them at v
+abbrev pub stop_step : Pos → Bool → Option Met → Option Pos → Bool
+stop_step q b count None = b
+stop_step q b count (Some v) = cond (is_eq (position_cmp v q)) (b || is_more count) b

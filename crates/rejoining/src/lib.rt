@@ -3,10 +3,11 @@
 
 mod choosing;
 mod cutting_back;
+pub mod laws;
 mod meeting;
+mod parts;
 pub mod rejoined;
 pub mod rejoining;
-mod sides;
 mod start_table;
 mod starting;
 

@@ -1,9 +1,9 @@
 //! The vertices at which the arcs that stay have to stop: the ends of lines, and those at which three
 //! ends of arcs meet.
-ghost use Rattle.std.specs.Prelude.{◌≡◌, IfOk, OnOk, None, reverse, slice_get};
+ghost use Rattle.std.specs.Prelude.{◌≡◌, ◌||◌, IfOk, OnOk, None, Some, reverse, slice_get};
 ghost use Rattle.grid.specs.declared.pos.Pos.{Pos};
 ghost use Rattle.chains.specs.Among.{among};
-ghost use Rattle.rejoining.specs.Meeting.{begin_at, is_more, met_again, met_in, noted, noted_all, stop_step, stop_all};
+ghost use Rattle.rejoining.specs.Meeting.{begin_at, is_more, met_again, met_in, noted, noted_all, stop_step};
 
 use chains::ArcTable;
 use grid::pos::Pos;
@@ -54,34 +54,6 @@ fn with_one(old: Option<Met>) -> Met
     }
 }
 
-/// Counts one more end of an arc at a vertex.
-fn note_begin(met: &mut BTreeMap<Pos, Met>, begin: Option<Pos>) -> Result<(), AllocError>
-    ensures { OnOk result ((q : Pos) → met_in met.new q ≡ noted q (met_in met.old q) begin) }
-{
-    let Some(at) = begin else {
-        return Ok(());
-    };
-    let old = met.get(&at).copied();
-    met.insert(at, with_one(old))?;
-    Ok(())
-}
-
-/// How many ends of the arcs of these numbers meet at each vertex.
-fn meetings_of(
-    alloc: Global,
-    arcs: &ArcTable,
-    chosen: &[usize],
-) -> Result<BTreeMap<Pos, Met>, AllocError>
-    ensures { IfOk result (λ m. (q : Pos) → met_in m q ≡ noted_all arcs.now.arcs q None chosen.now) }
-{
-    let mut met = BTreeMap::new(alloc);
-    for number in chosen {
-        note_begin(&mut met, begin_of(arcs, *number, false))?;
-        note_begin(&mut met, begin_of(arcs, *number, true))?;
-    }
-    Ok(met)
-}
-
 fn is_many(met: Option<Met>) -> bool
     ensures { result ≡ is_more met }
 {
@@ -93,37 +65,33 @@ fn is_many(met: Option<Met>) -> bool
     }
 }
 
-/// Puts a vertex among the stops where three ends of arcs meet.
-fn note_stop(
-    stops: &mut BTreeSet<Pos>,
-    met: &BTreeMap<Pos, Met>,
-    begin: Option<Pos>,
-) -> Result<(), AllocError>
-    ensures { OnOk result ((q : Pos) → among stops.new.keys q ≡ stop_step (met_in met.now) q (among stops.old.keys q) begin) }
+/// Puts a vertex among the stops where so many ends of arcs make it one.
+fn note_stop(stops: &mut BTreeSet<Pos>, at: Pos, count: Met) -> Result<(), AllocError>
+    ensures { OnOk result ((q : Pos) → among stops.new.keys q ≡ stop_step q (among stops.old.keys q) (Some count) (Some at)) }
 {
-    let Some(at) = begin else {
-        return Ok(());
-    };
-    let known = met.get(&at).copied();
-    if !is_many(known) {
+    if !is_many(Some(count)) {
         return Ok(());
     }
     stops.insert(at)?;
     Ok(())
 }
 
-fn note_stops(
+/// Counts one more end of an arc at a vertex, which is a stop from the third on.
+fn note_begin(
+    met: &mut BTreeMap<Pos, Met>,
     stops: &mut BTreeSet<Pos>,
-    met: &BTreeMap<Pos, Met>,
-    arcs: &ArcTable,
-    chosen: &[usize],
+    begin: Option<Pos>,
 ) -> Result<(), AllocError>
-    ensures { OnOk result ((q : Pos) → among stops.new.keys q ≡ stop_all arcs.now.arcs (met_in met.now) q (among stops.old.keys q) chosen.now) }
+    ensures met { OnOk result ((q : Pos) → met_in met.new q ≡ noted q (met_in met.old q) begin) }
+    ensures stops { OnOk result ((q : Pos) → among stops.new.keys q ≡ stop_step q (among stops.old.keys q) (noted q (met_in met.old q) begin) begin) }
 {
-    for number in chosen {
-        note_stop(stops, met, begin_of(arcs, *number, false))?;
-        note_stop(stops, met, begin_of(arcs, *number, true))?;
-    }
+    let Some(at) = begin else {
+        return Ok(());
+    };
+    let old = met.get(&at).copied();
+    let count = with_one(old);
+    met.insert(at, count)?;
+    note_stop(stops, at, count)?;
     Ok(())
 }
 
@@ -144,10 +112,13 @@ pub(crate) fn stops_of(
     chosen: &[usize],
     ends: &[Pos],
 ) -> Result<BTreeSet<Pos>, AllocError>
-    ensures { IfOk result (λ s. (q : Pos) → among s.keys q ≡ stop_all arcs.now.arcs (λ v. noted_all arcs.now.arcs v None chosen.now) q (among ends.now q) chosen.now) }
+    ensures { IfOk result (λ s. (q : Pos) → among s.keys q ≡ (among ends.now q || is_more (noted_all arcs.now.arcs q None chosen.now))) }
 {
-    let met = meetings_of(alloc, arcs, chosen)?;
+    let mut met = BTreeMap::new(alloc);
     let mut stops = set_of(alloc, ends)?;
-    note_stops(&mut stops, &met, arcs, chosen)?;
+    for number in chosen {
+        note_begin(&mut met, &mut stops, begin_of(arcs, *number, false))?;
+        note_begin(&mut met, &mut stops, begin_of(arcs, *number, true))?;
+    }
     Ok(stops)
 }

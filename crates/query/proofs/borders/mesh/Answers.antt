@@ -3,7 +3,7 @@ use Rattle.std.specs.Prelude.{map as map_list}
 use Rattle.std.specs.Fn.{FnReturnsAtPair}
 use Rattle.query.specs.Borders.{MayAsk}
 use Rattle.query.specs.Selecting.{MayAskAmong}
-use Rattle.query.proofs.ArcSegments.{segments_on}
+use Rattle.chains.proofs.ArcSegments.{segments_on}
 use Rattle.query.proofs.Meshing.{selected_by}
 use Rattle.query.proofs.Parted.{joined_meet, lines_over}
 use Rattle.query.proofs.borders.mesh.Goals as goal

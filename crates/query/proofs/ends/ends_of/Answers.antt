@@ -1,7 +1,7 @@
 use Rattle.std.proofs.Common.{drop, get_or, ◌+◌}
 use Rattle.std.proofs.lemmas.List.{drop_more}
 use Rattle.query.proofs.Ending.{done_ends, step_ends}
-use Rattle.query.proofs.Siding.{none_left}
+use Rattle.chains.proofs.Siding.{none_left}
 use Rattle.query.proofs.ends.ends_of.Goals as goal
 
 pub loop-number-preserved : goal.loop-number-preserved

@@ -1,7 +1,7 @@
 use Rattle.std.proofs.Common.{drop, ◌+◌}
 use Rattle.chains.specs.Among.{among}
 use Rattle.chains.proofs.Slices.{drop_item}
-use Rattle.rejoining.proofs.Siding.{none_left}
+use Rattle.chains.proofs.Siding.{none_left}
 use Rattle.rejoining.proofs.Stopping.{set_step, set_done}
 use Rattle.rejoining.proofs.meeting.set_of.Goals as goal
 
