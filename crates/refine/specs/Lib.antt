@@ -13,3 +13,6 @@ pub mod CutLayers
 pub mod OneMap
 pub mod ItsMap
 pub mod OnGrid
+pub mod Leaving
+pub mod LeftLists
+pub mod Removals
