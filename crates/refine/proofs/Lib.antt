@@ -24,3 +24,7 @@ pub mod LessEntries
 pub mod LeftGeometries
 pub mod RejoinedLayers
 pub mod JoinUndone
+mod LeftMarks
+mod Passing
+mod LeftEnds
+mod LeftTold

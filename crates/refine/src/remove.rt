@@ -1,14 +1,15 @@
 //! Taking features out of a topology: the geometries that stay keep their arcs, which are joined again
 //! where no junction is left. No feature is stitched but where ids and properties tie.
-ghost use Rattle.std.specs.Prelude.{◌≡◌, ◌<◌, ◌≤◌, ◌^◌, ◌++◌, ◌↔◌, length, false, not, replicate, IfOk, IsNone, OnOk, List, drop, map as map_list, slice_get};
+ghost use Rattle.std.specs.Prelude.{◌≡◌, ◌<◌, ◌≤◌, ◌^◌, ◌++◌, ◌↔◌, length, false, true, not, replicate, IfOk, IsNone, OnOk, List, drop, map as map_list, set as with_mark, slice_get};
 ghost use Rattle.std.specs.Option.{option_map};
 ghost use Rattle.lines.specs.Turned.{position_cmp};
-ghost use Rattle.shapes.specs.Maps.{Layers, features_at};
+ghost use Rattle.shapes.specs.Maps.{Layers, features_at, set_of};
 ghost use Rattle.shapes.specs.Parts.{spelled_text};
 ghost use Rattle.shapes.specs.Sets as set;
 ghost use Rattle.theory.specs.Lists.{gathered, joined};
 ghost use Rattle.theory.specs.Removing as joining;
 ghost use Rattle.rejoining.specs.Starts.{starts_by};
+ghost use Rattle.topo.specs.Features.{IsFeatureOf};
 ghost use Rattle.topo.specs.OfMap.{IsOf};
 ghost use Rattle.topo.specs.Walked.{walked};
 ghost use Rattle.refine.specs.CutLayers.{HasFeature, HaveFeatures, IsKnownOf};
@@ -29,7 +30,7 @@ use shapes::feature_map::FeatureMap;
 use shapes::spelled::Spelled;
 use std::alloc::Global;
 use std::cmp::Ordering;
-use std::collections::VecDeque;
+use std::collections::{BTreeSet, VecDeque};
 use std::marker::Model;
 use topo::{Body, Geom, Layer, Topology, stitching};
 
@@ -86,6 +87,23 @@ struct LayerLeft<'a> {
     geometries: Vec<&'a Geom>,
 }
 
+/// The feature of a geometry, which may be known already.
+fn feature_of(
+    alloc: Global,
+    arcs: &ArcTable,
+    geometry: &Geom,
+    known: Option<Feature>,
+) -> Result<Feature, OutOfMemory>
+    requires there { HasFeature arcs.now.arcs geometry.now }
+    requires known { IsKnownOf arcs.now.arcs geometry.now known }
+    ensures { IfOk result (λ f. IsFeatureOf arcs.now.arcs f geometry.now) }
+{
+    match known {
+        Some(feature) => Ok(feature),
+        None => stitching::feature(alloc, arcs, geometry),
+    }
+}
+
 /// The order of a geometry's feature to another one. It is kept once it had to be stitched.
 fn order_stitched(
     alloc: Global,
@@ -99,10 +117,7 @@ fn order_stitched(
     ensures known { IsKnownOf arcs.now.arcs geometry.now known.new }
     ensures order { IfOk result (λ o. o ≡ order_to arcs.now.arcs geometry.now other.now) }
 {
-    let feature = match known.take() {
-        Some(feature) => feature,
-        None => stitching::feature(alloc, arcs, geometry)?,
-    };
+    let feature = feature_of(alloc, arcs, geometry, known.take())?;
     let order = feature.cmp(other);
     *known = Some(feature);
     Ok(order)
@@ -173,6 +188,20 @@ fn geometries_left<'a>(
     Ok(left)
 }
 
+/// The features of a set, in their order.
+fn listed<'a>(
+    alloc: Global,
+    features: &'a BTreeSet<Feature>,
+) -> Result<VecDeque<&'a Feature>, OutOfMemory>
+    ensures { IfOk result (λ v. map_list (λ f. f.now) v.items ≡ set.items (set_of features.now)) }
+{
+    let mut list = VecDeque::new(alloc);
+    for feature in features.iter() {
+        list.push_back(feature)?;
+    }
+    Ok(list)
+}
+
 /// The features that a map has under a name, in their order; none where it is no layer.
 fn features_under<'a>(
     alloc: Global,
@@ -181,14 +210,11 @@ fn features_under<'a>(
 ) -> Result<VecDeque<&'a Feature>, OutOfMemory>
     ensures { IfOk result (λ v. map_list (λ f. f.now) v.items ≡ set.items (features_at map.now name.now)) }
 {
-    let mut features = VecDeque::new(alloc);
-    let Some(layer) = map.layer(name) else {
-        return Ok(features);
+    let none = VecDeque::new(alloc);
+    let Some(features) = map.layer(name) else {
+        return Ok(none);
     };
-    for feature in layer.iter() {
-        features.push_back(feature)?;
-    }
-    Ok(features)
+    listed(alloc, features)
 }
 
 /// A layer without the features that a map has under its name.
@@ -224,13 +250,19 @@ fn layers_left<'a>(
     Ok(layers)
 }
 
+fn mark(kept: &mut [bool], arc: usize)
+    ensures { kept.new ≡ with_mark kept.old arc true }
+{
+    if arc < kept.len() {
+        kept[arc] = true;
+    }
+}
+
 fn mark_list(kept: &mut [bool], used: &[ArcRef])
     ensures { kept.new ≡ marked_by kept.old used.now }
 {
     for arc in used {
-        if let Some(mark) = kept.get_mut(arc.arc) {
-            *mark = true;
-        }
+        mark(kept, arc.arc);
     }
 }
 
@@ -270,14 +302,20 @@ fn mark_layer(kept: &mut [bool], layer: &LayerLeft)
     }
 }
 
+fn mark_layers(kept: &mut [bool], layers: &[LayerLeft])
+    ensures { kept.new ≡ marked_by kept.old (layers_refs (all_lent layers.now)) }
+{
+    for layer in layers {
+        mark_layer(kept, layer);
+    }
+}
+
 /// A mark for each arc, set where a geometry that stays uses it.
 fn arcs_kept(alloc: Global, arcs: &ArcTable, layers: &[LayerLeft]) -> Result<Vec<bool>, OutOfMemory>
     ensures { IfOk result (λ v. v.items ≡ marked_by (replicate (length arcs.now.arcs) false) (layers_refs (all_lent layers.now))) }
 {
     let mut kept = vec![in alloc; false; arcs.len()]?;
-    for layer in layers {
-        mark_layer(&mut kept, layer);
-    }
+    mark_layers(&mut kept, layers);
     Ok(kept)
 }
 
@@ -285,12 +323,14 @@ fn note_line(ends: &mut Vec<Pos>, topology: &Topology, used: &[ArcRef]) -> Resul
     ensures { OnOk result (ends.new.items ≡ ends.old.items ++ left_lists.line_ends topology.now.arcs.arcs used.now) }
 {
     let mut walk = topology.walk(used);
-    if let Some(first) = walk.next() {
-        ends.push(*first)?;
-    }
-    if let Some(last) = walk.next_back() {
-        ends.push(*last)?;
-    }
+    let Some(first) = walk.next() else {
+        return Ok(());
+    };
+    ends.push(*first)?;
+    let Some(last) = walk.next_back() else {
+        return Ok(());
+    };
+    ends.push(*last)?;
     Ok(())
 }
 
