@@ -1,5 +1,5 @@
 -- The marks and the ends that are noted of the geometries that stay tell what is left of a topology, and the joined arcs are its parts.
-use Rattle.std.proofs.Common.{◌≡◌, ℕ, zero, suc, ◌<◌, Bool, true, false, List, [], ◌∷◌, ◌++◌, ◌⊎◌, inl, inr, ◌↔◌, Some, length, replicate, refl, sym, ap, ◌∙◌, subst}
+use Rattle.std.proofs.Common.{◌≡◌, ℕ, zero, suc, ◌<◌, Bool, true, false, List, [], ◌∷◌, ◌++◌, inl, inr, ◌↔◌, Some, length, replicate, refl, sym, ap, ◌∙◌, subst}
 use Rattle.std.specs.Prelude.{map as map_list, slice_get}
 use Rattle.std.proofs.lemmas.Option.{slice_get_within}
 use Rattle.grid.specs.declared.pos.Pos.{Pos}
@@ -10,12 +10,12 @@ use Rattle.shapes.specs.Maps.{Layers}
 use Rattle.chains.specs.Arcs.{Arcs}
 use Rattle.chains.specs.Seen.{geometry_of, seen}
 use Rattle.theory.specs.ArcNumbers.{ArcRef, StitchTo, Uses}
-use Rattle.theory.specs.Geometry.{Geometry, IsSound, JunctionOf}
-use Rattle.theory.specs.Lists.{EndOf, Has, Pairwise, gathered, joined, last_of}
-use Rattle.theory.specs.Refinement.{ArePiecesOfArc, IsPartOf, IsRefinementOf}
+use Rattle.theory.specs.Geometry.{Geometry, JunctionOf}
+use Rattle.theory.specs.Lists.{EndOf, Has, Pairwise, gathered, joined}
+use Rattle.theory.specs.Refinement.{ArePiecesOfArc, IsPartOf}
 use Rattle.theory.specs.Removing.{AreStarts, EndsInLayers, IsKept, IsLineEnd}
-use Rattle.theory.specs.Standing.{EndsList, InLayers}
-use Rattle.theory.specs.Topology.{IsGeometryOf, IsLayerOf, IsRingList, lines_in, rings_in}
+use Rattle.theory.specs.Standing.{InLayers}
+use Rattle.theory.specs.Topology.{IsGeometryOf, IsLayerOf, IsRingList, lines_in}
 use Rattle.theory.specs.Users.{UsesArc}
 use Rattle.theory.proofs.ArcNumbers.{taken_of, to_from, uses_along}
 use Rattle.theory.proofs.GroupedPieces.{uses_parts}
@@ -39,7 +39,7 @@ use Rattle.topo.specs.declared.geom.Geom.{Geom}
 use Rattle.topo.proofs.Sound.{are_sound}
 use Rattle.topo.proofs.Walks.{walked_stitched}
 use Rattle.refine.specs.Leaving.{all_lent, layer_less}
-use Rattle.refine.specs.LeftLists.{body_ends, body_refs, both_ends, last_alone, layer_ends, layer_refs, layers_ends, layers_refs, line_ends, marked_by}
+use Rattle.refine.specs.LeftLists.{body_ends, body_refs, both_ends, layer_ends, layer_refs, layers_ends, layers_refs, line_ends, marked_by}
 use Rattle.refine.specs.declared.remove.LayerLeft.{LayerLeft}
 use Rattle.refine.specs.Less.{layer_rejoined, layers_left, less, marks_of}
 use Rattle.refine.specs.Removals.{AreJoinedOf}

@@ -28,3 +28,4 @@ mod LeftMarks
 mod Passing
 mod LeftEnds
 mod LeftTold
+mod JoinedTexts

@@ -1,5 +1,5 @@
 -- Which geometries stay: one pass over the geometries of a layer and the features that are taken out leaves those whose features are none of these.
-use Rattle.std.proofs.Common.{◌≡◌, ℕ, zero, suc, ◌<◌, length, get_or, Option, Some, None, option_map, arith, Bool, true, false, cond, not, ◌||◌, List, [], ◌∷◌, refl, sym, ap, ◌∙◌, subst}
+use Rattle.std.proofs.Common.{◌≡◌, ℕ, zero, suc, ◌<◌, length, get_or, Option, None, option_map, arith, Bool, true, false, cond, not, ◌||◌, List, [], ◌∷◌, refl, sym, ap, ◌∙◌}
 use Rattle.std.specs.Prelude.{map as map_list, unwrap_or}
 use Rattle.std.specs.Cmp.{IsTotalOrder}
 use Rattle.std.specs.Cmp.Lexicographic.{slice_cmp}
@@ -13,7 +13,6 @@ use Rattle.grid.specs.declared.pos.Pos.{Pos}
 use Rattle.shapes.specs.Maps.{Features, Layers, features_at}
 use Rattle.shapes.specs.Order.{feature_cmp, id_cmp, shape_cmp}
 use Rattle.shapes.specs.OrderLaws.{feature_cmp_total}
-use Rattle.shapes.specs.Parts.{spelled_text}
 use Rattle.shapes.specs.SetLaws.{contains-items, items-from_list}
 use Rattle.shapes.specs.Sets as set
 use Rattle.shapes.specs.contracts.shape.IdOrd.TheImpl as id

@@ -1,5 +1,5 @@
 -- Which geometries of a topology's layers stay when the features of a map are taken out: one pass over both, each in the order of features.
-use Rattle.std.specs.Prelude.{ℕ, Bool, false, cond, List, [], ◌∷◌, map as map_list}
+use Rattle.std.specs.Prelude.{Bool, false, cond, List, [], ◌∷◌, map as map_list}
 use Rattle.std.specs.Cmp.Lexicographic.{slice_cmp}
 use Rattle.std.specs.Ordering.{is_eq, is_gt, nat_cmp, ordering_then}
 use Rattle.std.specs.declared.cmp.Ordering.{Ordering}

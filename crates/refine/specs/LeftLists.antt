@@ -1,5 +1,5 @@
 -- Which arcs the geometries that stay use, and where their lines begin and end.
-use Rattle.std.specs.Prelude.{ℕ, Bool, true, List, [], ◌∷◌, set}
+use Rattle.std.specs.Prelude.{Bool, true, List, [], ◌∷◌, set}
 use Rattle.grid.specs.declared.pos.Pos.{Pos}
 use Rattle.theory.specs.ArcNumbers.{ArcRef}
 use Rattle.theory.specs.Lists.{gathered, joined, last_of}
@@ -7,7 +7,6 @@ use Rattle.topo.specs.Parts.{LayerParts}
 use Rattle.topo.specs.Walked.{walked}
 use Rattle.topo.specs.declared.geom.Body.{Body}
 use Rattle.topo.specs.declared.geom.Body.TheVariants.{Null, Point, MultiPoint, Line, MultiLine, Polygon, MultiPolygon}
-use Rattle.topo.specs.declared.geom.Geom.{Geom}
 
 -- the used arcs of a body
 abbrev pub body_refs : Body → List ArcRef

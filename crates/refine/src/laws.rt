@@ -1,6 +1,7 @@
-//! The laws of merging, as contracts of functions that do nothing.
+//! The laws of merging and of taking features out, as contracts of functions that do nothing.
 ghost use Rattle.refine.specs.Alike.{PlansAlike};
 ghost use Rattle.refine.specs.MergeLaws.{MergeOfAllMeanings, MergesAlike, MergeOfOneText, MergedTextsMeanUnions, MergesThroughTexts, OneCanon, SegmentsOfMergeOnce};
+ghost use Rattle.refine.specs.Removals.{JoinsAreUndone};
 
 /// Plans that name the same maps, in any order, with repeats and in any grouping, give the same union.
 pub fn plans_alike()
@@ -44,4 +45,11 @@ pub fn merge_of_one_text()
 /// no other segment.
 pub fn segments_of_merge_once()
     ensures { SegmentsOfMergeOnce }
+{}
+
+/// A join is undone to the byte: where the second map has only names of the first and under each no
+/// feature of the first, what is left of the topology of both without the second's features is that of
+/// the first, and has its canonical text.
+pub fn joins_are_undone()
+    ensures { JoinsAreUndone }
 {}
