@@ -56,7 +56,7 @@ module _ (arcs : List (List Pos)) where
   rings_form : (rs : List the_ring.Ring) (lists : List (List ArcRef)) → Pairwise (IsRingOf arcs) rs lists → map_list vertices_seen rs ≡ map_list (vertices_used arcs) lists
   rings_form = each_same (IsRingOf arcs) vertices_seen (vertices_used arcs) ring_form
 
-  shape_form : (s : shapes.Shape) (b : bodies.Body) → IsShapeOf arcs s b → form_of s ≡ body_form arcs b
+  pub shape_form : (s : shapes.Shape) (b : bodies.Body) → IsShapeOf arcs s b → form_of s ≡ body_form arcs b
   shape_form of.Null to.Null h = refl
   shape_form (of.Point p) (to.Point q) h = cc
   shape_form (of.MultiPoint ps) (to.MultiPoint qs) h = cc
@@ -76,7 +76,7 @@ kind_rank (of.MultiLine ls) = refl
 kind_rank (of.Polygon rs) = refl
 kind_rank (of.MultiPolygon ps) = refl
 
-shapes_by_form : (s t : shapes.Shape) → shape_cmp s t ≡ form_cmp (form_of s) (form_of t)
+pub shapes_by_form : (s t : shapes.Shape) → shape_cmp s t ≡ form_cmp (form_of s) (form_of t)
 shapes_by_form (of.Point p) (of.Point q) = refl
 shapes_by_form (of.MultiPoint ps) (of.MultiPoint qs) = refl
 shapes_by_form (of.Line k) (of.Line l) = refl
@@ -93,7 +93,7 @@ shapes_by_form (of.MultiPolygon ps) (of.MultiPolygon qs) =
     same_within R S e (a ∷ as') (b ∷ bs) = (λ i. ordering_then (e a b i) (same_within R S e as' bs i))
 shapes_by_form s t = (λ i. nat_cmp (kind_rank s i) (kind_rank t i))
 
-then_groups : (a b c : Ordering) → ordering_then a (ordering_then b c) ≡ ordering_then (ordering_then a b) c
+pub then_groups : (a b c : Ordering) → ordering_then a (ordering_then b c) ≡ ordering_then (ordering_then a b) c
 then_groups Less b c = refl
 then_groups Equal b c = refl
 then_groups Greater b c = refl
@@ -167,7 +167,7 @@ equal_bodies_tie arcs f a b r h e n same =
     let other = sym same in
     sym ((λ i. ordering_then (info i) (form_cmp (body_form arcs a.body) (body_form arcs (other i)))) ∙ form)
 
-id_derived_is : (a b : Id) → id.cmp-value.it a b ≡ id_cmp a b
+pub id_derived_is : (a b : Id) → id.cmp-value.it a b ≡ id_cmp a b
 id_derived_is a b = search rules
 
 -- from what the comparisons of ids, of properties and of kinds answer

@@ -26,3 +26,8 @@ pub mod LessEntries
 pub mod LeftGeometries
 pub mod RejoinedLayers
 pub mod JoinUndone
+mod LeftMarks
+mod Passing
+mod LeftEnds
+mod LeftTold
+mod JoinedTexts

@@ -8,7 +8,7 @@ use Rattle.std.specs.declared.cmp.Ordering.{Ordering}
 use Rattle.std.specs.declared.cmp.Ordering.TheVariants.{Less, Equal, Greater}
 use Rattle.std.specs.FinMap.{IsAntisymmetric}
 use Rattle.shapes.specs.Sets as set
-use Rattle.shapes.specs.SetLaws.{contains-items, contains-union, or-false}
+use Rattle.shapes.specs.SetLaws.{contains-items, contains-union}
 use Rattle.refine.specs.Cuts.{by_order, merged, merged_into}
 use Rattle.refine.proofs.Ascending.{are_items, items_ascend}
 

@@ -14,7 +14,7 @@ use Rattle.chains.specs.Arcs.{Arcs}
 use Rattle.chains.specs.Seen as seen_by
 use Rattle.chains.specs.Seen.{geometry_of, seen}
 use Rattle.theory.specs.ArcNumbers.{ArcRef, StitchTo}
-use Rattle.theory.specs.Geometry.{Geometry, JunctionOf}
+use Rattle.theory.specs.Geometry.{JunctionOf}
 use Rattle.theory.specs.Laws.{IsOrder}
 use Rattle.theory.specs.Lists.{Has, Pairwise}
 use Rattle.theory.specs.Refinement.{IsPartOf, IsRefinementOf, recut_body}

@@ -1,12 +1,12 @@
 -- What texts mean fits their grid, and so does each union of it.
 use Rattle.std.proofs.Common.{◌≡◌, ℕ, zero, suc, List, [], ◌∷◌, Bool, true, false, ◌||◌, Option, Some, None, refl, sym, ◌∙◌, ap}
-use Rattle.std.specs.Prelude.{slice_get, unwrap_or, map as map_list}
+use Rattle.std.specs.Prelude.{slice_get, unwrap_or}
 use Rattle.std.specs.FinMap as map
 use Rattle.std.specs.Ordering.{nat_cmp}
 use Rattle.std.specs.Cmp.Lexicographic.{slice_cmp, nat_list_cmp_total}
 use Rattle.grid.specs.Place.{Transform}
 use Rattle.shapes.specs.Fitting.{MapFits, ShapeFits}
-use Rattle.shapes.specs.Maps.{Features, Layers, features_at}
+use Rattle.shapes.specs.Maps.{Features, Layers}
 use Rattle.shapes.specs.Order.{feature_cmp}
 use Rattle.shapes.specs.OrderLaws.{feature_cmp_total, same_text}
 use Rattle.shapes.specs.Sets as set

@@ -2,14 +2,13 @@
 use Rattle.std.proofs.Common.{◌≡◌, ℕ, Bool, true, false, ◌||◌, ◌⊎◌, inl, inr, List, [], ◌∷◌, Option, Some, None, refl, sym, ap, ◌∙◌, subst, cond}
 use Rattle.std.specs.Prelude.{unwrap_or, map as map_list}
 use Rattle.std.specs.List.{list_any}
-use Rattle.std.specs.Ordering.{eq_by_cmp, is_eq, nat_cmp}
-use Rattle.std.specs.Cmp.{Equal-is, eq_by_cmp_equiv, tied_itself}
+use Rattle.std.specs.Ordering.{eq_by_cmp, nat_cmp}
 use Rattle.std.specs.Cmp.Lexicographic.{slice_cmp, nat_list_cmp_total}
 use Rattle.std.specs.FinMap as map
 use Rattle.grid.specs.declared.pos.Pos.{Pos}
 use Rattle.shapes.specs.Maps.{Features, Layers, features_at}
 use Rattle.shapes.specs.Order.{feature_cmp}
-use Rattle.shapes.specs.OrderLaws.{feature_cmp_total, feature_tied, same_feature, same_text}
+use Rattle.shapes.specs.OrderLaws.{feature_cmp_total, feature_tied, same_text}
 use Rattle.shapes.specs.Sets as set
 use Rattle.shapes.specs.SetLaws.{contains-empty, contains-items, contains-union, or-false}
 use Rattle.shapes.specs.Union.{both, union, get-union}
@@ -17,7 +16,7 @@ use Rattle.shapes.specs.declared.feature.Feature.{Feature}
 use Rattle.shapes.proofs.Entries.{at_entry}
 use Rattle.chains.specs.Seen.{form_of, geometry_of, item_of, layer_of, seen}
 use Rattle.theory.specs.Lists.{Has, gathered}
-use Rattle.theory.specs.Refinement.{IsPartOf, IsUnionOf}
+use Rattle.theory.specs.Refinement.{IsUnionOf}
 use Rattle.theory.specs.Topology.{Shape, forms_of, lines_in, rings_in}
 use Rattle.theory.proofs.ListsOfLists.{Has-gathered, Has-map, gathered_from, map_has}
 

@@ -4,7 +4,7 @@ use Rattle.std.specs.FinMap as map
 use Rattle.std.proofs.Common.{refl, sym, ap, ◌∙◌}
 use Rattle.grid.specs.declared.pos.Pos.{Pos}
 use Rattle.lines.specs.Reading.{ring_of}
-use Rattle.lines.specs.Seen.{positions_of, vertices_of}
+use Rattle.lines.specs.Seen.{positions_of}
 use Rattle.lines.specs.Turned.{position_cmp}
 use Rattle.lines.specs.declared.line.Line as the_line
 use Rattle.lines.specs.declared.ring.Ring as the_ring
@@ -18,7 +18,7 @@ use Rattle.shapes.specs.declared.shape.Shape.TheVariants as of
 use Rattle.theory.specs.ArcNumbers.{ArcRef}
 use Rattle.theory.specs.LinesAndRings.{closed}
 use Rattle.theory.specs.Lists.{Pairwise}
-use Rattle.topo.specs.Features.{AreFeaturesOf, IsFeatureOf, IsLineOf, IsRingOf, IsShapeOf}
+use Rattle.topo.specs.Features.{IsFeatureOf, IsLineOf, IsRingOf, IsShapeOf}
 use Rattle.topo.specs.OfMap.{IsOf}
 use Rattle.topo.specs.Parts.{LayerParts, TopologyParts}
 use Rattle.topo.specs.declared.geom.Body as bodies

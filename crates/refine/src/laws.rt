@@ -1,7 +1,8 @@
-//! The laws of merging, as contracts of functions that do nothing.
+//! The laws of merging and of taking features out, as contracts of functions that do nothing.
 ghost use Rattle.refine.specs.Alike.{PlansAlike};
 ghost use Rattle.refine.specs.CutLaws.{EqualFeaturesEqualLists};
 ghost use Rattle.refine.specs.MergeLaws.{MergeOfAllMeanings, MergesAlike, MergeOfOneText, MergedTextsMeanUnions, MergesThroughTexts, OneCanon, SegmentsOfMergeOnce};
+ghost use Rattle.refine.specs.Removals.{JoinsAreUndone};
 
 /// Plans that name the same maps, in any order, with repeats and in any grouping, give the same union.
 pub fn plans_alike()
@@ -52,4 +53,11 @@ pub fn segments_of_merge_once()
 /// the features that both have by their lists alone.
 pub fn equal_features_equal_lists()
     ensures { EqualFeaturesEqualLists }
+{}
+
+/// A join is undone to the byte: where the second map has only names of the first and under each no
+/// feature of the first, what is left of the topology of both without the second's features is that of
+/// the first, and has its canonical text.
+pub fn joins_are_undone()
+    ensures { JoinsAreUndone }
 {}

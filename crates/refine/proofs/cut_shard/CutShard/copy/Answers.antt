@@ -1,4 +1,4 @@
-use Rattle.std.proofs.Common.{◌≡◌, ◌∙◌, ap, sym, subst}
+use Rattle.std.proofs.Common.{◌∙◌, ap, sym, subst}
 use Rattle.topo.specs.OfMap.{IsOf}
 use Rattle.refine.proofs.cut_shard.CutShard.copy.Goals as goal
 

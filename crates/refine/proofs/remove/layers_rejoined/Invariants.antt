@@ -1,0 +1,10 @@
+use Rattle.std.proofs.Common.{◌≡◌, ◌++◌, drop, map}
+use Rattle.rejoining.specs.Starts.{starts_by}
+use Rattle.refine.specs.Leaving.{all_lent}
+use Rattle.refine.specs.Less.{layer_rejoined}
+use Rattle.refine.proofs.remove.layers_rejoined.Given as goal
+
+abbrev pub invariant-loop-layer : goal.invariant-loop-layer
+invariant-loop-layer l =
+    l.made.items ++ map (layer_rejoined l.fn.arcs.arcs.arcs (starts_by l.fn.arcs.pieces)) (all_lent (drop l.layer-index l.fn.layers))
+    ≡ map (layer_rejoined l.fn.arcs.arcs.arcs (starts_by l.fn.arcs.pieces)) (all_lent l.fn.layers)

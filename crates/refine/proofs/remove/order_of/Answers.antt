@@ -1,0 +1,9 @@
+use Rattle.std.proofs.Common.{◌∙◌, sym}
+use Rattle.refine.proofs.Passing.{info_tells, info_told}
+use Rattle.refine.proofs.remove.order_of.Goals as goal
+
+pub returns-then-is_ne-clause-order : goal.returns-then-is_ne-clause-order
+returns-then-is_ne-clause-order c =
+    info_tells c.args.arcs.now.arcs c.args.geometry.now c.args.other.now c.then-order.result
+    (info_told c.args.geometry.now c.args.other.now c.then-order.result c.cmp.result c.cmp-2.result c.then-order.ensures c.cmp.ensures c.cmp-2.ensures)
+    (sym c.is_ne.ensures ∙ c.if-is_ne.true)
