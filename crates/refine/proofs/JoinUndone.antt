@@ -18,11 +18,7 @@ use Rattle.shapes.specs.SetLaws.{contains-empty, contains-from_list, contains-it
 use Rattle.shapes.specs.Union.{both, union, get-union}
 use Rattle.shapes.specs.declared.feature.Feature.{Feature}
 use Rattle.refine.specs.Less.{entries_less, features_less, less, without}
-
--- each layer of r is one of m, and no feature of r's is there
-pub record IsApart (m r : Layers) : Type 0 where
-  pub names : (q : List ℕ) → map.contains_key r q ≡ true → map.contains_key m q ≡ true
-  pub features : (q : List ℕ) (f : Feature) → set.contains (features_at r q) f ≡ true → set.contains (features_at m q) f ≡ false
+use Rattle.refine.specs.Removals.{IsApart}
 
 -- a list without some members holds the others
 has_without : (p : Feature → Bool) (q : Feature) (xs : List Feature) →

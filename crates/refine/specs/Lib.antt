@@ -14,3 +14,6 @@ pub mod CutLaws
 pub mod OneMap
 pub mod ItsMap
 pub mod OnGrid
+pub mod Leaving
+pub mod LeftLists
+pub mod Removals

@@ -2,6 +2,8 @@
 #![tactic(auto)]
 
 #[cfg(test)]
+mod removals;
+#[cfg(test)]
 mod shards;
 #[cfg(test)]
 mod tests;

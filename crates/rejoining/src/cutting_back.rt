@@ -50,7 +50,8 @@ pub(crate) fn pieces_of(
     arcs: &ArcTable,
     old: &ArcTable,
 ) -> Result<Vec<Items<ArcRef>>, OutOfMemory>
-    ensures { IfOk result (λ v. (g u : Geometry Pos) → IsSound u → IsPartOf g u → IsTableOf u old.now → IsTableOf g arcs.now → IsRefinementOf position_cmp g u arcs.now.arcs old.now.arcs v.items) }
+    ensures refined { IfOk result (λ v. (g u : Geometry Pos) → IsSound u → IsPartOf g u → IsTableOf u old.now → IsTableOf g arcs.now → IsRefinementOf position_cmp g u arcs.now.arcs old.now.arcs v.items) }
+    ensures count { IfOk result (λ v. length v.items ≡ length arcs.now.arcs) }
 {
     let none = ArcTable::from_pieces(alloc, Vec::new(alloc))?;
     let over = VisitIndex::over_arcs(alloc, old, &none)?;

@@ -72,6 +72,14 @@ impl Rejoined {
         }
     }
 
+    /// The arcs, and the old arcs of each, where no list is asked for any more.
+    pub fn into_parts(self) -> (ArcTable, Vec<Items<ArcRef>>)
+        ensures arcs { result.0 ≡ self.arcs }
+        ensures pieces { result.1.items ≡ self.pieces }
+    {
+        (self.arcs, self.pieces)
+    }
+
     /// Reads one used old arc: it is skipped, or the new arc that it begins is added. Answers how many
     /// are to be skipped behind it.
     fn read(&self, refs: &mut Vec<ArcRef>, skip: usize, used: &ArcRef) -> Result<usize, AllocError>

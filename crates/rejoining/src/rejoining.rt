@@ -44,7 +44,8 @@ pub fn rejoin(
     kept: &[bool],
     ends: &[Pos],
 ) -> Result<Rejoined, OutOfMemory>
-    ensures { IfOk result (λ r. (g u : Geometry Pos) → IsLeftBy g u old.now kept.now ends.now → IsRejoinedOf g u old.now r) }
+    ensures refined { IfOk result (λ r. (g u : Geometry Pos) → IsLeftBy g u old.now kept.now ends.now → IsRejoinedOf g u old.now r) }
+    ensures pieces { IfOk result (λ r. length r.pieces ≡ length r.arcs.arcs) }
 {
     let arcs = arcs_left(alloc, old, kept, ends)?;
     let pieces = pieces_of(alloc, &arcs, old)?;

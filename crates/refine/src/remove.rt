@@ -1,0 +1,491 @@
+//! Taking features out of a topology: the geometries that stay keep their arcs, which are joined again
+//! where no junction is left. No feature is stitched but where ids and properties tie.
+ghost use Rattle.std.specs.Prelude.{◌≡◌, ◌<◌, ◌≤◌, ◌^◌, ◌++◌, ◌↔◌, length, false, not, replicate, IfOk, IsNone, OnOk, List, drop, map as map_list, slice_get};
+ghost use Rattle.std.specs.Option.{option_map};
+ghost use Rattle.lines.specs.Turned.{position_cmp};
+ghost use Rattle.shapes.specs.Maps.{Layers, features_at};
+ghost use Rattle.shapes.specs.Parts.{spelled_text};
+ghost use Rattle.shapes.specs.Sets as set;
+ghost use Rattle.theory.specs.Lists.{gathered, joined};
+ghost use Rattle.theory.specs.Removing as joining;
+ghost use Rattle.rejoining.specs.Starts.{starts_by};
+ghost use Rattle.topo.specs.OfMap.{IsOf};
+ghost use Rattle.topo.specs.Walked.{walked};
+ghost use Rattle.refine.specs.CutLayers.{HasFeature, HaveFeatures, IsKnownOf};
+ghost use Rattle.refine.specs.Leaving.{all_lent, from_on, is_first, layer_less, lent, order_to, others};
+ghost use Rattle.refine.specs.LeftLists as left_lists;
+ghost use Rattle.refine.specs.LeftLists.{both_ends, layers_refs, marked_by};
+ghost use Rattle.refine.specs.Less as rejoined;
+ghost use Rattle.refine.specs.Less.{less};
+ghost use Rattle.refine.specs.Removals.{IsWithoutBy};
+
+use chains::table::{ArcRef, ArcTable};
+use faults::OutOfMemory;
+use grid::Pos;
+use lines::items::Items;
+use rejoining::{Rejoined, rejoin};
+use shapes::feature::Feature;
+use shapes::feature_map::FeatureMap;
+use shapes::spelled::Spelled;
+use std::alloc::Global;
+use std::cmp::Ordering;
+use std::collections::VecDeque;
+use std::marker::Model;
+use topo::{Body, Geom, Layer, Topology, stitching};
+
+/// What is left of a topology, and the old arcs that each of its arcs is joined of.
+#[derive(Drop)]
+pub struct Removal {
+    topology: Topology,
+    pieces: Vec<Items<ArcRef>>,
+}
+
+impl Model for Removal {
+    ghost use Rattle.std.specs.Prelude.{◌≡◌, length};
+    ghost use Rattle.refine.specs.Removals.{RemovalParts};
+
+    ghost Value = { RemovalParts };
+
+    ghost view = { λ a. record { topology = a.topology; pieces = a.pieces.items } };
+
+    ghost invariant = { λ a. length a.pieces.items ≡ length a.topology.arcs.arcs };
+}
+
+impl Removal {
+    /// What is left.
+    pub fn topology(&self) -> &Topology
+        ensures { result.now ≡ self.now.topology }
+    {
+        &self.topology
+    }
+
+    /// What is left, where no pieces are asked for any more.
+    pub fn into_topology(self) -> Topology
+        ensures { result ≡ self.topology }
+    {
+        self.topology
+    }
+
+    /// The old arcs that a new one is joined of, in order along it; those of a free loop that met a
+    /// junction are read from its least one. `None` exactly past the new arcs.
+    pub fn pieces(&self, number: usize) -> Option<&[ArcRef]>
+        ensures pieces { option_map (λ r. r.now) result ≡ slice_get self.now.pieces number }
+        ensures none { IsNone result ↔ (length self.now.topology.arcs.arcs ≤ number) }
+    {
+        match self.pieces.get(number) {
+            Some(pieces) => Some(pieces.as_slice()),
+            None => None,
+        }
+    }
+}
+
+/// A layer, and those of its geometries that stay.
+#[derive(Drop)]
+struct LayerLeft<'a> {
+    name: &'a Spelled,
+    geometries: Vec<&'a Geom>,
+}
+
+/// The order of a geometry's feature to another one. It is kept once it had to be stitched.
+fn order_stitched(
+    alloc: Global,
+    arcs: &ArcTable,
+    geometry: &Geom,
+    known: &mut Option<Feature>,
+    other: &Feature,
+) -> Result<Ordering, OutOfMemory>
+    requires there { HasFeature arcs.now.arcs geometry.now }
+    requires known { IsKnownOf arcs.now.arcs geometry.now known.old }
+    ensures known { IsKnownOf arcs.now.arcs geometry.now known.new }
+    ensures order { IfOk result (λ o. o ≡ order_to arcs.now.arcs geometry.now other.now) }
+{
+    let feature = match known.take() {
+        Some(feature) => feature,
+        None => stitching::feature(alloc, arcs, geometry)?,
+    };
+    let order = feature.cmp(other);
+    *known = Some(feature);
+    Ok(order)
+}
+
+/// The order of a geometry's feature to another one. It is stitched only where ids and properties tie.
+fn order_of(
+    alloc: Global,
+    arcs: &ArcTable,
+    geometry: &Geom,
+    known: &mut Option<Feature>,
+    other: &Feature,
+) -> Result<Ordering, OutOfMemory>
+    requires there { HasFeature arcs.now.arcs geometry.now }
+    requires known { IsKnownOf arcs.now.arcs geometry.now known.old }
+    ensures known { IsKnownOf arcs.now.arcs geometry.now known.new }
+    ensures order { IfOk result (λ o. o ≡ order_to arcs.now.arcs geometry.now other.now) }
+{
+    let order = geometry
+        .id
+        .cmp(&other.id)
+        .then(geometry.props.cmp(&other.props));
+    if order.is_ne() {
+        return Ok(order);
+    }
+    order_stitched(alloc, arcs, geometry, known, other)
+}
+
+/// Passes over the features that stand before a geometry's, and answers whether that is the next.
+fn is_next(
+    alloc: Global,
+    arcs: &ArcTable,
+    geometry: &Geom,
+    features: &mut VecDeque<&Feature>,
+) -> Result<bool, OutOfMemory>
+    requires there { HasFeature arcs.now.arcs geometry.now }
+    ensures rest { OnOk result (map_list (λ f. f.now) features.new.items ≡ from_on (order_to arcs.now.arcs) geometry.now (map_list (λ f. f.now) features.old.items)) }
+    ensures next { IfOk result (λ b. b ≡ is_first (order_to arcs.now.arcs) geometry.now (from_on (order_to arcs.now.arcs) geometry.now (map_list (λ f. f.now) features.old.items))) }
+{
+    let mut known = None;
+    while let Some(other) = features.front() {
+        let order = order_of(alloc, arcs, geometry, &mut known, *other)?;
+        if order.is_le() {
+            return Ok(order.is_eq());
+        }
+        features.pop_front();
+    }
+    Ok(false)
+}
+
+/// Those geometries of a sorted list whose features are none of the others.
+fn geometries_left<'a>(
+    alloc: Global,
+    arcs: &ArcTable,
+    geometries: &'a [Geom],
+    features: VecDeque<&Feature>,
+) -> Result<Vec<&'a Geom>, OutOfMemory>
+    requires there { HaveFeatures arcs.now.arcs geometries.now }
+    ensures { IfOk result (λ v. map_list (λ g. g.now) v.items ≡ others (order_to arcs.now.arcs) geometries.now (map_list (λ f. f.now) features.entry.items)) }
+{
+    let mut left = Vec::new(alloc);
+    let mut removed = features;
+    for geometry in geometries {
+        if !is_next(alloc, arcs, geometry, &mut removed)? {
+            left.push(geometry)?;
+        }
+    }
+    Ok(left)
+}
+
+/// The features that a map has under a name, in their order; none where it is no layer.
+fn features_under<'a>(
+    alloc: Global,
+    map: &'a FeatureMap,
+    name: &str,
+) -> Result<VecDeque<&'a Feature>, OutOfMemory>
+    ensures { IfOk result (λ v. map_list (λ f. f.now) v.items ≡ set.items (features_at map.now name.now)) }
+{
+    let mut features = VecDeque::new(alloc);
+    let Some(layer) = map.layer(name) else {
+        return Ok(features);
+    };
+    for feature in layer.iter() {
+        features.push_back(feature)?;
+    }
+    Ok(features)
+}
+
+/// A layer without the features that a map has under its name.
+fn layer_left<'a>(
+    alloc: Global,
+    arcs: &ArcTable,
+    layer: &'a Layer,
+    removed: &FeatureMap,
+) -> Result<LayerLeft<'a>, OutOfMemory>
+    requires there { HaveFeatures arcs.now.arcs layer.now.geometries }
+    ensures { IfOk result (λ l. lent l ≡ layer_less arcs.now.arcs removed.now layer.now) }
+{
+    let features = features_under(alloc, removed, layer.name().text())?;
+    let geometries = geometries_left(alloc, arcs, layer.geometries(), features)?;
+    Ok(LayerLeft {
+        name: layer.name(),
+        geometries,
+    })
+}
+
+/// The layers of a topology without the features of a map.
+fn layers_left<'a>(
+    alloc: Global,
+    topology: &'a Topology,
+    removed: &FeatureMap,
+) -> Result<Vec<LayerLeft<'a>>, OutOfMemory>
+    ensures { IfOk result (λ v. all_lent v.items ≡ map_list (layer_less topology.now.arcs.arcs removed.now) topology.now.layers) }
+{
+    let mut layers = Vec::with_capacity(alloc, topology.layers().len())?;
+    for layer in topology.layers() {
+        layers.push(layer_left(alloc, topology.arcs(), layer, removed)?)?;
+    }
+    Ok(layers)
+}
+
+fn mark_list(kept: &mut [bool], used: &[ArcRef])
+    ensures { kept.new ≡ marked_by kept.old used.now }
+{
+    for arc in used {
+        if let Some(mark) = kept.get_mut(arc.arc) {
+            *mark = true;
+        }
+    }
+}
+
+fn mark_lists(kept: &mut [bool], lists: &[Items<ArcRef>])
+    ensures { kept.new ≡ marked_by kept.old (joined lists.now) }
+{
+    for used in lists {
+        mark_list(kept, used.as_slice());
+    }
+}
+
+fn mark_polygons(kept: &mut [bool], polygons: &[Items<Items<ArcRef>>])
+    ensures { kept.new ≡ marked_by kept.old (joined (joined polygons.now)) }
+{
+    for rings in polygons {
+        mark_lists(kept, rings.as_slice());
+    }
+}
+
+fn mark_body(kept: &mut [bool], body: &Body)
+    ensures { kept.new ≡ marked_by kept.old (left_lists.body_refs body.now) }
+{
+    match body {
+        Body::Null | Body::Point(_) | Body::MultiPoint(_) => (),
+        Body::Line(used) => mark_list(kept, used.as_slice()),
+        Body::MultiLine(lists) => mark_lists(kept, lists.as_slice()),
+        Body::Polygon(rings) => mark_lists(kept, rings.as_slice()),
+        Body::MultiPolygon(polygons) => mark_polygons(kept, polygons.as_slice()),
+    }
+}
+
+fn mark_layer(kept: &mut [bool], layer: &LayerLeft)
+    ensures { kept.new ≡ marked_by kept.old (left_lists.layer_refs (lent layer.now)) }
+{
+    for geometry in &layer.geometries {
+        mark_body(kept, &geometry.body);
+    }
+}
+
+/// A mark for each arc, set where a geometry that stays uses it.
+fn arcs_kept(alloc: Global, arcs: &ArcTable, layers: &[LayerLeft]) -> Result<Vec<bool>, OutOfMemory>
+    ensures { IfOk result (λ v. v.items ≡ marked_by (replicate (length arcs.now.arcs) false) (layers_refs (all_lent layers.now))) }
+{
+    let mut kept = vec![in alloc; false; arcs.len()]?;
+    for layer in layers {
+        mark_layer(&mut kept, layer);
+    }
+    Ok(kept)
+}
+
+fn note_line(ends: &mut Vec<Pos>, topology: &Topology, used: &[ArcRef]) -> Result<(), OutOfMemory>
+    ensures { OnOk result (ends.new.items ≡ ends.old.items ++ left_lists.line_ends topology.now.arcs.arcs used.now) }
+{
+    let mut walk = topology.walk(used);
+    if let Some(first) = walk.next() {
+        ends.push(*first)?;
+    }
+    if let Some(last) = walk.next_back() {
+        ends.push(*last)?;
+    }
+    Ok(())
+}
+
+fn note_lines(
+    ends: &mut Vec<Pos>,
+    topology: &Topology,
+    lists: &[Items<ArcRef>],
+) -> Result<(), OutOfMemory>
+    ensures { OnOk result (ends.new.items ≡ ends.old.items ++ gathered (left_lists.line_ends topology.now.arcs.arcs) lists.now) }
+{
+    for used in lists {
+        note_line(ends, topology, used.as_slice())?;
+    }
+    Ok(())
+}
+
+fn note_body(ends: &mut Vec<Pos>, topology: &Topology, body: &Body) -> Result<(), OutOfMemory>
+    ensures { OnOk result (ends.new.items ≡ ends.old.items ++ left_lists.body_ends topology.now.arcs.arcs body.now) }
+{
+    match body {
+        Body::Line(used) => note_line(ends, topology, used.as_slice()),
+        Body::MultiLine(lists) => note_lines(ends, topology, lists.as_slice()),
+        Body::Null | Body::Point(_) | Body::MultiPoint(_) => Ok(()),
+        Body::Polygon(_) | Body::MultiPolygon(_) => Ok(()),
+    }
+}
+
+fn note_layer(
+    ends: &mut Vec<Pos>,
+    topology: &Topology,
+    layer: &LayerLeft,
+) -> Result<(), OutOfMemory>
+    ensures { OnOk result (ends.new.items ≡ ends.old.items ++ left_lists.layer_ends topology.now.arcs.arcs (lent layer.now)) }
+{
+    for geometry in &layer.geometries {
+        note_body(ends, topology, &geometry.body)?;
+    }
+    Ok(())
+}
+
+/// Where the lines that stay begin and end.
+fn line_ends(
+    alloc: Global,
+    topology: &Topology,
+    layers: &[LayerLeft],
+) -> Result<Vec<Pos>, OutOfMemory>
+    ensures { IfOk result (λ v. v.items ≡ left_lists.layers_ends topology.now.arcs.arcs (all_lent layers.now)) }
+{
+    let mut ends = Vec::new(alloc);
+    for layer in layers {
+        note_layer(&mut ends, topology, layer)?;
+    }
+    Ok(ends)
+}
+
+fn line_rejoined(
+    alloc: Global,
+    arcs: &Rejoined,
+    used: &Items<ArcRef>,
+) -> Result<Items<ArcRef>, OutOfMemory>
+    ensures { IfOk result (λ v. v ≡ joining.rejoined (starts_by arcs.now.pieces) 0 used.now) }
+{
+    Ok(Items::from_vec(arcs.line(alloc, used.as_slice())?))
+}
+
+fn ring_rejoined(
+    alloc: Global,
+    arcs: &Rejoined,
+    used: &Items<ArcRef>,
+) -> Result<Items<ArcRef>, OutOfMemory>
+    ensures { IfOk result (λ v. v ≡ joining.ring_rejoined position_cmp arcs.now.arcs.arcs (starts_by arcs.now.pieces) used.now) }
+{
+    Ok(Items::from_vec(arcs.ring(alloc, used.as_slice())?))
+}
+
+fn lines_rejoined(
+    alloc: Global,
+    arcs: &Rejoined,
+    lists: &[Items<ArcRef>],
+) -> Result<Items<Items<ArcRef>>, OutOfMemory>
+    ensures { IfOk result (λ v. v ≡ map_list (joining.rejoined (starts_by arcs.now.pieces) 0) lists.now) }
+{
+    let mut lines = Vec::with_capacity(alloc, lists.len())?;
+    for used in lists {
+        lines.push(line_rejoined(alloc, arcs, used)?)?;
+    }
+    Ok(Items::from_vec(lines))
+}
+
+fn rings_rejoined(
+    alloc: Global,
+    arcs: &Rejoined,
+    lists: &[Items<ArcRef>],
+) -> Result<Items<Items<ArcRef>>, OutOfMemory>
+    ensures { IfOk result (λ v. v ≡ map_list (joining.ring_rejoined position_cmp arcs.now.arcs.arcs (starts_by arcs.now.pieces)) lists.now) }
+{
+    let mut rings = Vec::with_capacity(alloc, lists.len())?;
+    for used in lists {
+        rings.push(ring_rejoined(alloc, arcs, used)?)?;
+    }
+    Ok(Items::from_vec(rings))
+}
+
+fn polygons_rejoined(
+    alloc: Global,
+    arcs: &Rejoined,
+    polygons: &[Items<Items<ArcRef>>],
+) -> Result<Items<Items<Items<ArcRef>>>, OutOfMemory>
+    ensures { IfOk result (λ v. v ≡ map_list (map_list (joining.ring_rejoined position_cmp arcs.now.arcs.arcs (starts_by arcs.now.pieces))) polygons.now) }
+{
+    let mut lists = Vec::with_capacity(alloc, polygons.len())?;
+    for rings in polygons {
+        lists.push(rings_rejoined(alloc, arcs, rings.as_slice())?)?;
+    }
+    Ok(Items::from_vec(lists))
+}
+
+fn body_rejoined(alloc: Global, arcs: &Rejoined, body: &Body) -> Result<Body, OutOfMemory>
+    ensures { IfOk result (λ b. b ≡ rejoined.body_rejoined arcs.now.arcs.arcs (starts_by arcs.now.pieces) body.now) }
+{
+    match body {
+        Body::Line(used) => Ok(Body::Line(line_rejoined(alloc, arcs, used)?)),
+        Body::MultiLine(lists) => Ok(Body::MultiLine(lines_rejoined(
+            alloc,
+            arcs,
+            lists.as_slice(),
+        )?)),
+        Body::Polygon(rings) => Ok(Body::Polygon(rings_rejoined(alloc, arcs, rings.as_slice())?)),
+        Body::MultiPolygon(polygons) => Ok(Body::MultiPolygon(polygons_rejoined(
+            alloc,
+            arcs,
+            polygons.as_slice(),
+        )?)),
+        Body::Null | Body::Point(_) | Body::MultiPoint(_) => body.copy(alloc),
+    }
+}
+
+/// A geometry by the new arcs.
+fn geometry_rejoined(alloc: Global, arcs: &Rejoined, geometry: &Geom) -> Result<Geom, OutOfMemory>
+    ensures { IfOk result (λ g. g ≡ rejoined.geometry_rejoined arcs.now.arcs.arcs (starts_by arcs.now.pieces) geometry.now) }
+{
+    let id = geometry.id.copy(alloc)?;
+    let props = geometry.props.copy(alloc)?;
+    let body = body_rejoined(alloc, arcs, &geometry.body)?;
+    Ok(Geom { id, props, body })
+}
+
+fn layer_rejoined(alloc: Global, arcs: &Rejoined, layer: &LayerLeft) -> Result<Layer, OutOfMemory>
+    ensures { IfOk result (λ l. l ≡ rejoined.layer_rejoined arcs.now.arcs.arcs (starts_by arcs.now.pieces) (lent layer.now)) }
+{
+    let name = layer.name.copy(alloc)?;
+    let mut geometries = Vec::with_capacity(alloc, layer.geometries.len())?;
+    for geometry in &layer.geometries {
+        geometries.push(geometry_rejoined(alloc, arcs, geometry)?)?;
+    }
+    Ok(Layer::new(name, geometries))
+}
+
+/// The layers that stay by the new arcs.
+fn layers_rejoined(
+    alloc: Global,
+    arcs: &Rejoined,
+    layers: &[LayerLeft],
+) -> Result<Vec<Layer>, OutOfMemory>
+    ensures { IfOk result (λ v. v.items ≡ map_list (rejoined.layer_rejoined arcs.now.arcs.arcs (starts_by arcs.now.pieces)) (all_lent layers.now)) }
+{
+    let mut made = Vec::with_capacity(alloc, layers.len())?;
+    for layer in layers {
+        made.push(layer_rejoined(alloc, arcs, layer)?)?;
+    }
+    Ok(made)
+}
+
+/// The topology without the features that a map has under the same layer names. Layers keep their
+/// names, also when they are empty; a feature or a layer that the topology doesn't have changes
+/// nothing.
+///
+/// # Errors
+/// Where memory is refused.
+pub fn remove(
+    alloc: Global,
+    topology: &Topology,
+    removed: &FeatureMap,
+) -> Result<Removal, OutOfMemory>
+    ensures grid { IfOk result (λ r. r.topology.grid ≡ topology.now.grid) }
+    ensures of_map { IfOk result (λ r. (m : Layers) → IsOf m topology.now → IsOf (less m removed.now) r.topology) }
+    ensures pieces { IfOk result (λ r. (m : Layers) → IsOf m topology.now → IsWithoutBy m removed.now topology.now r) }
+    ensures few { IfOk result (λ r. length r.topology.arcs.arcs < 2 ^ 63) }
+{
+    let left = layers_left(alloc, topology, removed)?;
+    let kept = arcs_kept(alloc, topology.arcs(), &left)?;
+    let ends = line_ends(alloc, topology, &left)?;
+    let joined = rejoin(alloc, topology.arcs(), &kept, &ends)?;
+    let layers = layers_rejoined(alloc, &joined, &left)?;
+    let (arcs, pieces) = joined.into_parts();
+    let topology = Topology::from_parts(topology.grid(), arcs, layers);
+    Ok(Removal { topology, pieces })
+}
