@@ -26,3 +26,4 @@ pub mod LessEntries
 pub mod LeftGeometries
 pub mod RejoinedLayers
 pub mod JoinUndone
+pub mod EditsDone
