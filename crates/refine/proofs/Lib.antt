@@ -27,3 +27,4 @@ pub mod LeftGeometries
 pub mod RejoinedLayers
 pub mod JoinUndone
 pub mod EditsDone
+pub mod EditsUndone

@@ -1,6 +1,7 @@
 //! The laws of merging, as contracts of functions that do nothing.
 ghost use Rattle.refine.specs.Alike.{PlansAlike};
 ghost use Rattle.refine.specs.CutLaws.{EqualFeaturesEqualLists};
+ghost use Rattle.refine.specs.EditLaws.{JoinsAreUndoneByEdits, OneEditIsAList};
 ghost use Rattle.refine.specs.MergeLaws.{MergeOfAllMeanings, MergesAlike, MergeOfOneText, MergedTextsMeanUnions, MergesThroughTexts, OneCanon, SegmentsOfMergeOnce};
 
 /// Plans that name the same maps, in any order, with repeats and in any grouping, give the same union.
@@ -52,4 +53,17 @@ pub fn segments_of_merge_once()
 /// the features that both have by their lists alone.
 pub fn equal_features_equal_lists()
     ensures { EqualFeaturesEqualLists }
+{}
+
+/// One edit is the list of it alone: `Session::apply` does what `Session::apply_all` does with such a list.
+#[tactic(auto, using(crate::proofs::EditsUndone::one_edit))]
+pub fn one_edit_is_a_list()
+    ensures { OneEditIsAList }
+{}
+
+/// What is joined in a session, and then removed, leaves the map that was there before, where none of
+/// its features was there and no layer was new; so the text is the same, byte by byte.
+#[tactic(auto, using(crate::proofs::EditsUndone::undone))]
+pub fn joins_are_undone_by_edits()
+    ensures { JoinsAreUndoneByEdits }
 {}
