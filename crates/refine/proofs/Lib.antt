@@ -31,3 +31,5 @@ mod Passing
 mod LeftEnds
 mod LeftTold
 mod JoinedTexts
+pub mod EditsDone
+pub mod EditsUndone

@@ -5,6 +5,8 @@ pub mod Groupings
 pub mod Naming
 pub mod Running
 pub mod Less
+pub mod Edits
+pub mod EditLaws
 pub mod Alike
 pub mod Merge
 pub mod MergeLaws

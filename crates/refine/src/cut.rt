@@ -7,7 +7,7 @@ ghost use Rattle.recutting.specs.Parts.{of_side};
 ghost use Rattle.topo.specs.Features.{IsFeatureOf};
 ghost use Rattle.topo.specs.Parts.{LayerParts};
 ghost use Rattle.topo.specs.declared.geom.Geom.{Geom};
-ghost use Rattle.topo.specs.OfMap.{IsOf};
+ghost use Rattle.topo.specs.OfMap.{IsOf, IsOfSomeMap};
 ghost use Rattle.refine.specs.Cuts as cuts;
 ghost use Rattle.refine.specs.CutLayers as cut_layers;
 ghost use Rattle.refine.specs.CutLayers.{HasFeature, HaveFeatures, IsKnownOf, IsKnownOfFirst, LayersHaveFeatures, before, behind, body_rank, geometry_cmp, layer_cmp, layers_as_one, layers_merged, tied, to_first, with_other};
@@ -483,6 +483,7 @@ fn layers_of_both(
 fn united(alloc: Global, left: Topology, right: Topology) -> Result<Topology, OutOfMemory>
     ensures grid { IfOk result (λ t. t.grid ≡ left.grid) }
     ensures of_map { IfOk result (λ t. (m n : Layers) → IsOf m left → IsOf n right → IsOf (union m n) t) }
+    ensures right { IfOk result (λ _. IsOfSomeMap right) }
     ensures few { IfOk result (λ t. length t.arcs.arcs < 2 ^ 63) }
 {
     let grid = left.grid();
@@ -500,6 +501,7 @@ fn united(alloc: Global, left: Topology, right: Topology) -> Result<Topology, Ou
 fn united_copies(alloc: Global, left: &Topology, right: &Topology) -> Result<Topology, OutOfMemory>
     ensures grid { IfOk result (λ t. t.grid ≡ left.now.grid) }
     ensures of_map { IfOk result (λ t. (m n : Layers) → IsOf m left.now → IsOf n right.now → IsOf (union m n) t) }
+    ensures right { IfOk result (λ _. IsOfSomeMap right.now) }
     ensures few { IfOk result (λ t. length t.arcs.arcs < 2 ^ 63) }
 {
     united(alloc, left.copy(alloc)?, right.copy(alloc)?)
@@ -544,6 +546,7 @@ pub(crate) fn joined(
 ) -> Result<Topology, JoinFault>
     ensures grid { IfOk result (λ t. t.grid ≡ left.now.grid) }
     ensures of_map { IfOk result (λ t. (m n : Layers) → IsOf m left.now → IsOf n right.now → IsOf (union m n) t) }
+    ensures right { IfOk result (λ _. IsOfSomeMap right.now) }
     ensures few { IfOk result (λ t. length t.arcs.arcs < 2 ^ 63) }
     ensures other_grid { IsErrOf result OtherGrid ↔ ¬ (left.now.grid ≡ right.now.grid) }
 {

@@ -38,13 +38,21 @@ impl Model for Cut {
 
 impl Cut {
     // The shard of a topology.
-    fn of_topology(topology: Topology) -> Cut
+    pub(crate) fn of_topology(topology: Topology) -> Cut
         requires few { length topology.arcs.arcs < 2 ^ 63 }
         requires of_map { IsOfSomeMap topology }
         ensures grid { result.grid ≡ topology.grid }
         ensures map { (m : Layers) → IsOf m topology → result.map ≡ m }
     {
         Cut { topology }
+    }
+
+    // The topology that the shard keeps.
+    pub(crate) fn topology(&self) -> &Topology
+        ensures grid { result.now.grid ≡ self.now.grid }
+        ensures of_map { IsOf self.now.map result.now }
+    {
+        &self.topology
     }
 }
 

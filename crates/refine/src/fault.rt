@@ -34,6 +34,16 @@ impl<T: Drop> From<AllocFailed<T>> for JoinFault {
     }
 }
 
+/// Why a list of edits is not done to its end.
+#[derive(Clone, Copy, PartialEq, Eq, Debug, Error)]
+#[error("edit {place}: {fault}")]
+pub struct EditsFault {
+    /// The place of the first edit that is refused.
+    pub place: usize,
+    /// Why it is refused.
+    pub fault: JoinFault,
+}
+
 /// Why a plan is not run.
 #[derive(Clone, Copy, PartialEq, Eq, Debug, Error)]
 pub enum PlanFault {

@@ -1,6 +1,7 @@
-//! The laws of merging and of taking features out, as contracts of functions that do nothing.
+//! The laws of merging, of taking features out and of edits, as contracts of functions that do nothing.
 ghost use Rattle.refine.specs.Alike.{PlansAlike};
 ghost use Rattle.refine.specs.CutLaws.{EqualFeaturesEqualLists};
+ghost use Rattle.refine.specs.EditLaws.{JoinsAreUndoneByEdits, OneEditIsAList};
 ghost use Rattle.refine.specs.MergeLaws.{MergeOfAllMeanings, MergesAlike, MergeOfOneText, MergedTextsMeanUnions, MergesThroughTexts, OneCanon, SegmentsOfMergeOnce};
 ghost use Rattle.refine.specs.Removals.{JoinsAreUndone};
 
@@ -60,4 +61,17 @@ pub fn equal_features_equal_lists()
 /// the first, and has its canonical text.
 pub fn joins_are_undone()
     ensures { JoinsAreUndone }
+{}
+
+/// One edit is the list of it alone: `Session::apply` does what `Session::apply_all` does with such a list.
+#[tactic(auto, using(crate::proofs::EditsUndone::one_edit))]
+pub fn one_edit_is_a_list()
+    ensures { OneEditIsAList }
+{}
+
+/// What is joined in a session, and then removed, leaves the map that was there before, where none of
+/// its features was there and no layer was new; so the text is the same, byte by byte.
+#[tactic(auto, using(crate::proofs::EditsUndone::undone))]
+pub fn joins_are_undone_by_edits()
+    ensures { JoinsAreUndoneByEdits }
 {}

@@ -4,6 +4,7 @@
 mod canonical;
 mod cut;
 pub mod cut_shard;
+pub mod edit;
 pub mod fault;
 pub mod grouping;
 mod joining;
@@ -13,14 +14,17 @@ mod naming;
 pub mod plan;
 pub mod remove;
 mod running;
+pub mod session;
 pub mod shard;
 pub mod whole;
 
 pub use cut_shard::Cut;
-pub use fault::{JoinFault, MergeFault, PlanFault};
+pub use edit::Edit;
+pub use fault::{EditsFault, JoinFault, MergeFault, PlanFault};
 pub use merge::merge_texts;
 pub use plan::{Plan, run_plan};
 pub use recutting::{Recut, Side, recut};
 pub use remove::Removal;
+pub use session::Session;
 pub use shard::Shard;
 pub use whole::Whole;

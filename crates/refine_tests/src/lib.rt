@@ -4,6 +4,10 @@
 #[cfg(test)]
 mod removals;
 #[cfg(test)]
+mod sessions;
+#[cfg(test)]
 mod shards;
 #[cfg(test)]
 mod tests;
+#[cfg(test)]
+mod texts;

@@ -1,21 +1,12 @@
 //! Features taken out of topologies: the text that is left, and the old arcs of each new one. Expected
 //! texts and indexes are worked out by hand.
+use crate::texts::{FIRST, SECOND, SHARED_EDGE, topology};
 use chains::ArcRef;
 use refine::remove::{Removal, remove};
 use std::alloc::Global;
 use std::process::Abort;
 use std::test::Fail;
 use topo::Topology;
-
-/// A topology on the grid 1,1,0,0, of which the part before `transform` is given.
-macro_rules! topology {
-    ($front:literal) => {
-        concat!(
-            $front,
-            r#""transform":{"scale":[1,1],"translate":[0,0]},"type":"Topology"}"#
-        )
-    };
-}
 
 /// A topology, another one whose features are taken out, what is left, and for each of its arcs the
 /// indexes of the old ones.
@@ -30,18 +21,6 @@ struct Row {
 
 const EMPTY: &str = topology!(
     r#"{"arcs":[],"objects":{"a":{"geometries":[],"type":"GeometryCollection"}},"#
-);
-
-const FIRST: &str = topology!(
-    r#"{"arcs":[[[0,0],[0,1],[1,0],[0,-1],[-1,0]]],"bbox":[0,0,1,1],"objects":{"a":{"geometries":[{"arcs":[[-1]],"type":"Polygon"}],"type":"GeometryCollection"}},"#
-);
-
-const SECOND: &str = topology!(
-    r#"{"arcs":[[[1,0],[0,1],[1,0],[0,-1],[-1,0]]],"bbox":[1,0,2,1],"objects":{"a":{"geometries":[{"arcs":[[-1]],"type":"Polygon"}],"type":"GeometryCollection"}},"#
-);
-
-const SHARED_EDGE: &str = topology!(
-    r#"{"arcs":[[[1,0],[-1,0],[0,1],[1,0]],[[1,0],[0,1]],[[1,0],[1,0],[0,1],[-1,0]]],"bbox":[0,0,2,1],"objects":{"a":{"geometries":[{"arcs":[[1,-1]],"type":"Polygon"},{"arcs":[[2,-2]],"type":"Polygon"}],"type":"GeometryCollection"}},"#
 );
 
 const THREE: &str = topology!(
