@@ -83,7 +83,9 @@ fn merge<'a>(alloc: Global) -> Result<Command<'a>, AllocError> {
         .hide_possible_values(true)
         .default_value("left")
         .action(ArgAction::Set)
-        .help("How the files are grouped: left as ((0,1),2),\nright as (0,(1,2)), or by halves");
+        .help(
+            "The grouping of the files: left as ((0,1),2), right as\n(0,(1,2)), or halves. The bytes are the same: files\nare joined by halves, whatever it says",
+        );
     let files = Arg::new(alloc, "FILE")
         .required(true)
         .num_args(1..)
