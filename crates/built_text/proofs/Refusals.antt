@@ -6,9 +6,9 @@ use Rattle.faults.specs.declared.fault.Fault.{Fault}
 use Rattle.grid.specs.Place.{Transform}
 use Rattle.reading.specs.Fault.{LeastOrWant}
 use Rattle.geojson_io.specs.Features.{faults_of_text}
-use Rattle.tool.specs.Sources.{AreAccepted, IsRefusal, IsFaultAt}
-use Rattle.tool.specs.declared.building.BuildFault.{BuildFault}
-use Rattle.tool.specs.declared.building.BuildFault.TheVariants.{Text, OutOfMemory}
+use Rattle.built_text.specs.Sources.{AreAccepted, IsRefusal, IsFaultAt}
+use Rattle.built_text.specs.declared.building.BuildFault.{BuildFault}
+use Rattle.built_text.specs.declared.building.BuildFault.TheVariants.{Text, OutOfMemory}
 
 -- the texts before the place are accepted, and these are left
 pub record SoFar (t : Transform) (texts left : List (List ℕ)) (place : ℕ) : Type 0 where

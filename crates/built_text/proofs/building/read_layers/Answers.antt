@@ -2,10 +2,10 @@ use Rattle.std.proofs.Common.{◌≡◌, List, [], ◌∷◌, length, refl, arit
 use Rattle.shapes.specs.Maps.{set_of, with_features}
 use Rattle.reading.specs.Meant.{AreFeatures}
 use Rattle.geojson_io.specs.Features.{features_of_text}
-use Rattle.tool.specs.Maps.{named_texts}
-use Rattle.tool.proofs.Layers.{SoFarMap, map_begun, map_more, map_done}
-use Rattle.tool.proofs.Refusals.{begun, one_more, refusal_at}
-use Rattle.tool.proofs.building.read_layers.Goals as goal
+use Rattle.built_text.specs.Maps.{named_texts}
+use Rattle.built_text.proofs.Layers.{SoFarMap, map_begun, map_more, map_done}
+use Rattle.built_text.proofs.Refusals.{begun, one_more, refusal_at}
+use Rattle.built_text.proofs.building.read_layers.Goals as goal
 
 nothing_left : {X : Type 0} (xs : List X) → length xs ≡ 0 → xs ≡ []
 nothing_left [] e = refl

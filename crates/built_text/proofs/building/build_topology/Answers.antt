@@ -1,8 +1,8 @@
 use Rattle.std.proofs.Common.{subst}
-use Rattle.tool.specs.Maps.{named_texts}
-use Rattle.tool.specs.Sources.{AreAccepted}
-use Rattle.tool.proofs.Fitting.{map_of_texts_fits, same_texts}
-use Rattle.tool.proofs.building.build_topology.Goals as goal
+use Rattle.built_text.specs.Maps.{named_texts}
+use Rattle.built_text.specs.Sources.{AreAccepted}
+use Rattle.built_text.proofs.Fitting.{map_of_texts_fits, same_texts}
+use Rattle.built_text.proofs.building.build_topology.Goals as goal
 
 pub returns-clause-topology : goal.returns-clause-topology
 returns-clause-topology c =

@@ -14,8 +14,8 @@ use Rattle.reading.proofs.Fits.{all_append}
 use Rattle.reading.proofs.Plains.{layers_fit}
 use Rattle.geojson_io.specs.Features.{faults_of_text, features_of_text}
 use Rattle.geojson_io.proofs.Fitting.{text_fits}
-use Rattle.tool.specs.Maps.{named_texts, features_under, layers_of_texts, IsMapOfTexts}
-use Rattle.tool.specs.Sources.{AreAccepted}
+use Rattle.built_text.specs.Maps.{named_texts, features_under, layers_of_texts, IsMapOfTexts}
+use Rattle.built_text.specs.Sources.{AreAccepted}
 
 module _ (t : Transform) where
   one_fits : (b : Bool) (bytes : List ℕ) → faults_of_text t bytes ≡ [] → AllByRecursion (PlainFits t) (cond b (features_of_text t bytes) [])

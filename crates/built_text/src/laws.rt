@@ -1,5 +1,5 @@
 //! The laws of lists of GeoJSON texts, each promised by a function that does nothing.
-ghost use Rattle.tool.specs.Laws as law;
+ghost use Rattle.built_text.specs.Laws as law;
 
 /// The texts, each after its layer's name, have only one map.
 #[tactic(auto, using(crate::proofs::ProvedLaws::one_map_of_texts))]

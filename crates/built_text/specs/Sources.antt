@@ -5,8 +5,8 @@ use Rattle.faults.specs.declared.fault.Fault.{Fault}
 use Rattle.grid.specs.Place.{Transform}
 use Rattle.reading.specs.Fault.{IsLeast}
 use Rattle.geojson_io.specs.Features.{faults_of_text}
-use Rattle.tool.specs.declared.building.BuildFault.{BuildFault}
-use Rattle.tool.specs.declared.building.BuildFault.TheVariants.{Text, OutOfMemory}
+use Rattle.built_text.specs.declared.building.BuildFault.{BuildFault}
+use Rattle.built_text.specs.declared.building.BuildFault.TheVariants.{Text, OutOfMemory}
 
 -- none of the texts has a fault on the grid
 abbrev pub AreAccepted : Transform → List (List ℕ) → Type 0

@@ -2,7 +2,7 @@
 use Rattle.std.specs.Prelude.{◌≡◌, ℕ, List}
 use Rattle.grid.specs.Place.{Transform}
 use Rattle.shapes.specs.Maps.{Layers}
-use Rattle.tool.specs.Maps.{IsMapOfTexts, IsTextOfTexts}
+use Rattle.built_text.specs.Maps.{IsMapOfTexts, IsTextOfTexts}
 
 -- texts have only one map
 abbrev pub OneMapOfTexts : Type 0

@@ -1,18 +1,12 @@
-//! From GeoJSON texts to a topology: `build_text` and the command `build`.
+//! From GeoJSON texts to a topology and to its text.
 ghost use Rattle.std.specs.Prelude.{◌≡◌, map, OnOk, IfOk, IfErr};
-ghost use Rattle.tool.specs.declared.building.BuildFault.TheVariants.{OutOfMemory as WantOfMemory};
-ghost use Rattle.tool.specs.Maps.{named_texts, IsMapOfTexts, IsTextOfTexts, IsTopologyOfTexts, MeansTexts};
-ghost use Rattle.tool.specs.Sources.{AreAccepted, IsRefusal, IsFaultAt};
+ghost use Rattle.built_text.specs.declared.building.BuildFault.TheVariants.{OutOfMemory as WantOfMemory};
+ghost use Rattle.built_text.specs.Maps.{named_texts, IsMapOfTexts, IsTextOfTexts, IsTopologyOfTexts, MeansTexts};
+ghost use Rattle.built_text.specs.Sources.{AreAccepted, IsRefusal, IsFaultAt};
 
-use crate::files::{Files, input_once, name_at, read_named};
-use crate::grid_word::parse_grid;
-use crate::refusal::Refusal;
-use crate::status::Status;
-use clap::ArgMatches;
 use faults::{Fault, FaultKind, OutOfMemory};
 use grid::Grid;
 use shapes::FeatureMap;
-use sinks::Sink;
 use std::alloc::Global;
 use topo::Topology;
 
@@ -55,7 +49,10 @@ pub fn build_text(
 }
 
 /// The topology of GeoJSON texts, each after its layer's name.
-fn build_topology(
+///
+/// # Errors
+/// As `build_text`.
+pub fn build_topology(
     alloc: Global,
     grid: &Grid,
     texts: &[(String, Vec<u8>)],
@@ -99,62 +96,4 @@ fn refused(place: usize, fault: Fault) -> BuildFault
         FaultKind::OutOfMemory => BuildFault::OutOfMemory,
         _ => BuildFault::Text(place, fault),
     }
-}
-
-/// Prints the topology of GeoJSON files.
-pub(crate) fn run_build<'a, F: Files, O: Sink>(
-    alloc: Global,
-    found: &ArgMatches<'a>,
-    files: &mut F,
-    out: &mut O,
-) -> Result<Status, Refusal<'a>> {
-    let word = found.get_str("grid").unwrap_or("");
-    let Some(grid) = parse_grid(word) else {
-        return Err(Refusal::BadGrid(word));
-    };
-    let (layers, names) = split_words(alloc, found.get_strs("NAME=FILE").unwrap_or(&[]))?;
-    input_once(names.as_slice())?;
-    let texts = read_texts(alloc, files, layers.as_slice(), names.as_slice())?;
-    match build_topology(alloc, &grid, texts.as_slice()) {
-        Ok(topology) => {
-            topo_io::write(&topology, out)?;
-            Ok(Status::Done)
-        }
-        Err(BuildFault::Text(place, fault)) => {
-            Err(Refusal::of_text(name_at(names.as_slice(), place), fault))
-        }
-        Err(BuildFault::OutOfMemory) => Err(Refusal::OutOfMemory),
-    }
-}
-
-/// The names of layers and of files in words `NAME=FILE`, split at the first `=`.
-fn split_words<'a>(
-    alloc: Global,
-    words: &[&'a str],
-) -> Result<(Vec<&'a str>, Vec<&'a str>), Refusal<'a>> {
-    let mut layers = Vec::new(alloc);
-    let mut names = Vec::new(alloc);
-    for word in words {
-        let Some((layer, name)) = word.split_once('=') else {
-            return Err(Refusal::BadLayer(*word));
-        };
-        layers.push(layer)?;
-        names.push(name)?;
-    }
-    Ok((layers, names))
-}
-
-/// Reads the files in order, each after its layer's name.
-fn read_texts<'a, F: Files>(
-    alloc: Global,
-    files: &mut F,
-    layers: &[&'a str],
-    names: &[&'a str],
-) -> Result<Vec<(String, Vec<u8>)>, Refusal<'a>> {
-    let mut texts = Vec::new(alloc);
-    for (layer, name) in layers.iter().zip(names) {
-        let layer = String::from_str(alloc, *layer)?;
-        texts.push((layer, read_named(alloc, files, *name)?))?;
-    }
-    Ok(texts)
 }

@@ -2,8 +2,8 @@
 use Rattle.std.proofs.Common.{sym, ap, ◌∙◌}
 use Rattle.reading.proofs.Plains.{layers_once}
 use Rattle.topo_io.specs.Canon.{canon}
-use Rattle.tool.specs.Laws as law
-use Rattle.tool.specs.Maps.{layers_of_texts}
+use Rattle.built_text.specs.Laws as law
+use Rattle.built_text.specs.Maps.{layers_of_texts}
 
 pub one_map_of_texts : law.OneMapOfTexts
 one_map_of_texts t texts m n a b = layers_once m n (layers_of_texts t texts) a.layers b.layers

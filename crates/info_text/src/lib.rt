@@ -1,4 +1,6 @@
 //! What a topology is made of, as lines for people and as a JSON object.
+#![tactic(auto)]
+
 use itoa::{Buffer, Integer};
 use query::{Kinds, count_arcs, count_kinds};
 use sinks::{Sink, WriteFault, put};
@@ -19,7 +21,7 @@ fn named(kinds: Kinds) -> [(&'static str, usize); 7] {
 
 /// Writes a line for each fact: the grid in the form of the word after `--grid`, the bbox where there is one, the
 /// counts of the arcs, and each layer with the kinds that its features have.
-pub(crate) fn write_lines<W: Sink>(topology: &Topology, sink: &mut W) -> Result<(), WriteFault> {
+pub fn write_lines<W: Sink>(topology: &Topology, sink: &mut W) -> Result<(), WriteFault> {
     let counts = count_arcs(topology);
     put(sink, b"grid: ")?;
     put_grid(sink, topology)?;
@@ -60,7 +62,7 @@ fn put_layer_line<W: Sink>(sink: &mut W, layer: &Layer) -> Result<(), WriteFault
 
 /// Writes the same as one JSON object, compact and with its members in byte order. Each layer has the counts of all
 /// kinds. Without a position there is no bbox.
-pub(crate) fn write_json<W: Sink>(topology: &Topology, sink: &mut W) -> Result<(), WriteFault> {
+pub fn write_json<W: Sink>(topology: &Topology, sink: &mut W) -> Result<(), WriteFault> {
     let counts = count_arcs(topology);
     put_count(sink, "{\"arcs\":", counts.arcs)?;
     if let Some(corners) = topology.bbox() {

@@ -1,4 +1,6 @@
-//! The words of the command line, read with clap.
+//! The words of the command line, read with clap: the commands, what each takes, and their help.
+#![tactic(auto)]
+
 use clap::{Arg, ArgAction, ArgMatches, Command, Error};
 use std::alloc::{AllocError, Global};
 
@@ -214,6 +216,6 @@ fn topotool<'a>(alloc: Global) -> Result<Command<'a>, AllocError> {
 }
 
 /// What the words ask for. The first word is the program's name.
-pub(crate) fn parse<'a>(alloc: Global, words: &'a [String]) -> Result<ArgMatches<'a>, Error> {
+pub fn parse<'a>(alloc: Global, words: &'a [String]) -> Result<ArgMatches<'a>, Error> {
     topotool(alloc)?.try_get_matches_from(words)
 }

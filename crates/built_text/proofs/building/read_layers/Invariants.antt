@@ -1,8 +1,8 @@
 use Rattle.std.proofs.Common.{length, map}
-use Rattle.tool.specs.Maps.{named_texts}
-use Rattle.tool.proofs.Layers.{SoFarMap}
-use Rattle.tool.proofs.Refusals.{SoFar}
-use Rattle.tool.proofs.building.read_layers.Given as goal
+use Rattle.built_text.specs.Maps.{named_texts}
+use Rattle.built_text.proofs.Layers.{SoFarMap}
+use Rattle.built_text.proofs.Refusals.{SoFar}
+use Rattle.built_text.proofs.building.read_layers.Given as goal
 
 abbrev pub invariant-loop-source : goal.invariant-loop-source
 invariant-loop-source l = record {

@@ -22,7 +22,7 @@ use Rattle.shapes.specs.Union.{set_union_commutes}
 use Rattle.reading.specs.Meant.{AreFeatures}
 use Rattle.reading.specs.Plain.{Plain, plain}
 use Rattle.geojson_io.specs.Features.{features_of_text}
-use Rattle.tool.specs.Maps.{features_under, IsMapOfTexts}
+use Rattle.built_text.specs.Maps.{features_under, IsMapOfTexts}
 
 -- ---- a name and its features
 

@@ -3,7 +3,7 @@ use Rattle.topo.specs.OfMap.{seen_parts}
 use Rattle.topo.proofs.TopologyLaws.{is_computed}
 use Rattle.topo_io.specs.TopologyText.{topology_text}
 use Rattle.round_trip.proofs.OfMap.{built_topology_is_read}
-use Rattle.tool.proofs.building.build_text.Goals as goal
+use Rattle.built_text.proofs.building.build_text.Goals as goal
 
 pub returns-clause-canonical : goal.returns-clause-canonical
 returns-clause-canonical c =
