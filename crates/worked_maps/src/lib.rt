@@ -1,4 +1,7 @@
-//! Maps drawn as lines and rings of places, and their topologies.
+//! Maps drawn as lines and rings of places, and their topologies: what the tests of arcs that are cut
+//! and joined again share.
+#![tactic(auto)]
+
 use grid::{Grid, Pos};
 use shapes::{Feature, FeatureMap, Id, Items, Line, Props, Ring, Shape};
 use std::alloc::Global;
@@ -15,11 +18,13 @@ pub struct Drawn {
     pub rings: &'static [Places],
 }
 
-/// The unit square at the origin, and the two squares to the right of it, one after the other.
+/// The unit square at the origin.
 pub const FIRST: Places = &[(0, 0), (1, 0), (1, 1), (0, 1), (0, 0)];
 
+/// The unit square to the right of `FIRST`.
 pub const SECOND: Places = &[(1, 0), (2, 0), (2, 1), (1, 1), (1, 0)];
 
+/// The unit square to the right of `SECOND`.
 pub const THIRD: Places = &[(2, 0), (3, 0), (3, 1), (2, 1), (2, 0)];
 
 /// A triangle whose ring runs against the direction of its arc.
@@ -34,7 +39,11 @@ pub const SHARED_EDGE: Drawn = Drawn {
     rings: &[FIRST, SECOND],
 };
 
-fn positions(alloc: Global, places: &[(i64, i64)]) -> Result<Vec<Pos>, Fail> {
+/// The positions of places.
+///
+/// # Errors
+/// Where a place is outside the limits of grid numbers, or memory is refused.
+pub fn positions(alloc: Global, places: &[(i64, i64)]) -> Result<Vec<Pos>, Fail> {
     let mut made = Vec::new(alloc);
     for (x, y) in places {
         made.push(Pos::new(*x, *y).ok_or("outside the limits")?)?;
@@ -81,6 +90,10 @@ fn put_rings(alloc: Global, map: &mut FeatureMap, rings: &[Places]) -> Result<()
 }
 
 /// The topology of all these maps in one layer.
+///
+/// # Errors
+/// Where a place is outside the limits of grid numbers, a list of places is no line or ring, or
+/// memory is refused.
 pub fn topology_of(alloc: Global, maps: &[Drawn]) -> Result<Topology, Fail> {
     let grid = Grid::new(1, 1, 0, 0).ok_or("no grid")?;
     let mut map = FeatureMap::new(alloc);
