@@ -1,9 +1,9 @@
 //! What `build` prints.
-use crate::harness::{build, build_all};
-use crate::inputs::{
+use command_runs::inputs::{
     A, B, BOTH_SQUARES, BOW_TIE, BOW_TIE_TOPOLOGY, EMPTY, FREE_LOOP, LOOPED_LINE,
-    LOOPED_LINE_TOPOLOGY, NOTHING, ONE_SQUARE, SHARED_EDGE, SQUARES, T, UNIONS, topology,
+    LOOPED_LINE_TOPOLOGY, NOTHING, ONE_SQUARE, SHARED_EDGE, SQUARES, T, UNIONS,
 };
+use command_runs::{build, build_all, topology};
 use std::test::Fail;
 
 /// A GeoJSON text, and the topology that is built from it in the layer `a`.
@@ -113,11 +113,7 @@ const MAPS: &[Row] = &[
 #[test]
 fn maps(rt: HostRuntime) -> Result<(), Fail> {
     for row in MAPS {
-        build(rt.alloc(), "1,1,0,0", &[("a", row.text)])?.assert_printed(
-            &rt,
-            row.title,
-            row.topology,
-        );
+        build(rt.alloc(), "1,1,0,0", &[("a", row.text)])?.printed(row.title, row.topology)?;
     }
     Ok(())
 }
@@ -125,7 +121,7 @@ fn maps(rt: HostRuntime) -> Result<(), Fail> {
 #[test]
 fn files_of_one_layer(rt: HostRuntime) -> Result<(), Fail> {
     for union in UNIONS {
-        build_all(rt.alloc(), "a", union.texts)?.assert_printed(&rt, union.title, union.topology);
+        build_all(rt.alloc(), "a", union.texts)?.printed(union.title, union.topology)?;
     }
     Ok(())
 }
@@ -213,11 +209,7 @@ const SINGLE_GEOMETRIES: &[Row] = &[
 #[test]
 fn single_geometries(rt: HostRuntime) -> Result<(), Fail> {
     for row in SINGLE_GEOMETRIES {
-        build(rt.alloc(), "1,1,0,0", &[("a", row.text)])?.assert_printed(
-            &rt,
-            row.title,
-            row.topology,
-        );
+        build(rt.alloc(), "1,1,0,0", &[("a", row.text)])?.printed(row.title, row.topology)?;
     }
     Ok(())
 }
@@ -305,7 +297,7 @@ const LAYERS: &[LayersRow] = &[
 #[test]
 fn layers_and_grids(rt: HostRuntime) -> Result<(), Fail> {
     for row in LAYERS {
-        build(rt.alloc(), row.grid, row.sources)?.assert_printed(&rt, row.title, row.topology);
+        build(rt.alloc(), row.grid, row.sources)?.printed(row.title, row.topology)?;
     }
     Ok(())
 }

@@ -1,6 +1,5 @@
 //! Topology texts that are refused, each with the least of its faults.
-use crate::harness::run_words;
-use std::process::Abort;
+use command_runs::run_words;
 use std::test::Fail;
 
 /// A text, and the fault that its refusal names.
@@ -12,12 +11,12 @@ struct Row {
 }
 
 /// `check` and `merge` refuse each text with its fault, and print nothing.
-fn assert_refused<R: Abort + AllocGlobal>(rt: &R, rows: &[Row]) -> Result<(), Fail> {
+fn assert_refused<R: AllocGlobal>(rt: &R, rows: &[Row]) -> Result<(), Fail> {
     for row in rows {
         let line = format!(in rt.alloc(); "topotool: t.json: {}\n", row.fault)?;
         for command in ["check", "merge"] {
             let outcome = run_words(rt.alloc(), &[command, "t.json"], &[("t.json", row.text)])?;
-            outcome.assert_refused(rt, row.title, 4, line.as_str());
+            outcome.refused(row.title, 4, line.as_str())?;
         }
     }
     Ok(())

@@ -1,6 +1,6 @@
 //! The words of the command: usage, the grid's word, layers' words, files that can't be read.
-use crate::harness::{Outcome, run_words};
-use crate::inputs::{A, EMPTY, NOTHING, SHARED_EDGE};
+use command_runs::inputs::{A, EMPTY, NOTHING, SHARED_EDGE};
+use command_runs::{Outcome, run_words};
 use std::test::Fail;
 
 const FILES: &[(&str, &str)] = &[
@@ -165,7 +165,7 @@ const REFUSED: &[Row] = &[
 fn lines_of_the_command(rt: HostRuntime) -> Result<(), Fail> {
     for row in REFUSED {
         let outcome = run_words(rt.alloc(), row.words, FILES)?;
-        outcome.assert_refused(&rt, row.line, row.status, row.line);
+        outcome.refused(row.line, row.status, row.line)?;
     }
     Ok(())
 }
@@ -261,7 +261,7 @@ fn help_ends_with_the_statuses(rt: HostRuntime) -> Result<(), Fail> {
 #[test]
 fn version(rt: HostRuntime) -> Result<(), Fail> {
     for word in ["--version", "-V"] {
-        run_words(rt.alloc(), &[word], FILES)?.assert_printed(&rt, word, "topotool 0.1.0\n");
+        run_words(rt.alloc(), &[word], FILES)?.printed(word, "topotool 0.1.0\n")?;
     }
     Ok(())
 }
@@ -269,6 +269,6 @@ fn version(rt: HostRuntime) -> Result<(), Fail> {
 #[test]
 fn a_grid_that_begins_with_a_minus(rt: HostRuntime) -> Result<(), Fail> {
     let words = ["build", "--grid=1,1,-0,0", "a=empty.json"];
-    run_words(rt.alloc(), &words, FILES)?.assert_printed(&rt, "minus", EMPTY);
+    run_words(rt.alloc(), &words, FILES)?.printed("minus", EMPTY)?;
     Ok(())
 }

@@ -1,6 +1,6 @@
 //! `write_layer`, `feature`, `mesh`, `neighbors` and the writers of their answers, called on topologies.
-use crate::harness::build;
-use crate::inputs::{BOW_TIE_TOPOLOGY, EMPTY, SHARED_EDGE, SQUARES};
+use command_runs::build;
+use command_runs::inputs::{BOW_TIE_TOPOLOGY, EMPTY, SHARED_EDGE, SQUARES};
 use query::{
     LayerFault, QueryFault, feature, mesh, neighbors, write_layer, write_mesh, write_neighbors,
 };
@@ -68,18 +68,14 @@ fn a_layer_is_written_as_its_features_are(rt: HostRuntime) -> Result<(), Fail> {
 #[test]
 fn what_is_built_expands_prints_and_builds_again(rt: HostRuntime) -> Result<(), Fail> {
     let alloc = rt.alloc();
-    build(alloc, "1,1,0,0", &[("a", SQUARES)])?.assert_printed(&rt, "built", SHARED_EDGE);
+    build(alloc, "1,1,0,0", &[("a", SQUARES)])?.printed("built", SHARED_EDGE)?;
     let topology = topology(alloc, SHARED_EDGE)?;
     let map = topology.expand(alloc).ok().expect(&rt, "a map");
     let features = map.layer("a").expect(&rt, "the layer");
     let mut written = Kept::new(alloc);
     assert!(rt; geojson_io::write(&topology.grid(), features.iter(), &mut written).is_ok());
     assert_eq!(rt; written.into_bytes().as_slice(), SQUARES_PRINTED.as_bytes());
-    build(alloc, "1,1,0,0", &[("a", SQUARES_PRINTED)])?.assert_printed(
-        &rt,
-        "built again",
-        SHARED_EDGE,
-    );
+    build(alloc, "1,1,0,0", &[("a", SQUARES_PRINTED)])?.printed("built again", SHARED_EDGE)?;
     Ok(())
 }
 

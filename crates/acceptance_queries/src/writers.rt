@@ -1,6 +1,6 @@
 //! Writers that fail, and writers that take little.
-use crate::harness::Run;
-use crate::inputs::{SHARED_EDGE, SQUARES};
+use command_runs::Run;
+use command_runs::inputs::{SHARED_EDGE, SQUARES};
 use sinks::{Answer, Kept, Script, Tap};
 use std::alloc::{AllocError, Global};
 use std::io;

@@ -1,6 +1,6 @@
 //! The file word `-`, which stands for standard input.
-use crate::harness::{Outcome, Run};
-use crate::inputs::{SHARED_EDGE, SQUARES};
+use command_runs::inputs::{SHARED_EDGE, SQUARES};
+use command_runs::{Outcome, Run};
 use std::alloc::Global;
 use std::test::Fail;
 
@@ -79,14 +79,14 @@ fn outcome(alloc: Global, words: &[&str], input: &str) -> Result<Outcome, Fail> 
 #[test]
 fn every_command_reads_it(rt: HostRuntime) -> Result<(), Fail> {
     for row in READ {
-        outcome(rt.alloc(), row.words, row.input)?.assert_printed(&rt, row.input, row.out);
+        outcome(rt.alloc(), row.words, row.input)?.printed(row.input, row.out)?;
     }
     Ok(())
 }
 
 #[test]
 fn a_file_of_that_name(rt: HostRuntime) -> Result<(), Fail> {
-    outcome(rt.alloc(), &["merge", "./-"], "bad")?.assert_printed(&rt, "a path", SHARED_EDGE);
+    outcome(rt.alloc(), &["merge", "./-"], "bad")?.printed("a path", SHARED_EDGE)?;
     Ok(())
 }
 
@@ -100,12 +100,11 @@ const TWICE: &[&[&str]] = &[
 #[test]
 fn two_files_cannot_be_it(rt: HostRuntime) -> Result<(), Fail> {
     for words in TWICE {
-        outcome(rt.alloc(), words, SHARED_EDGE)?.assert_refused(
-            &rt,
+        outcome(rt.alloc(), words, SHARED_EDGE)?.refused(
             "twice",
             2,
             "topotool: standard input can be read once only\n",
-        );
+        )?;
     }
     Ok(())
 }
@@ -117,26 +116,24 @@ fn bad_words_are_told_before(rt: HostRuntime) -> Result<(), Fail> {
         &["build", "--grid", "1,1,0,0", "a=-", "b=-", "x"],
         SQUARES,
     )?
-    .assert_refused(&rt, "a bad layer", 2, "topotool: bad layer x\n");
-    outcome(rt.alloc(), &["build", "--grid", "1", "a=-", "b=-"], SQUARES)?.assert_refused(
-        &rt,
+    .refused("a bad layer", 2, "topotool: bad layer x\n")?;
+    outcome(rt.alloc(), &["build", "--grid", "1", "a=-", "b=-"], SQUARES)?.refused(
         "a bad grid",
         2,
         "topotool: bad grid 1\n",
-    );
+    )?;
     Ok(())
 }
 
 #[test]
 fn refusals_name_it_by_its_word(rt: HostRuntime) -> Result<(), Fail> {
-    outcome(rt.alloc(), &["check", "-"], "bad")?.assert_refused(
-        &rt,
+    outcome(rt.alloc(), &["check", "-"], "bad")?.refused(
         "a bad text",
         4,
         "topotool: -: 1 NotJson $\n",
-    );
+    )?;
     run_of(rt.alloc(), &["check", "-"])?
         .outcome()?
-        .assert_refused(&rt, "no input", 3, "topotool: cannot read -\n");
+        .refused("no input", 3, "topotool: cannot read -\n")?;
     Ok(())
 }

@@ -1,15 +1,14 @@
 //! GeoJSON texts that are cut off, that say a member twice, and numbers as `serde_json` reads them.
-use crate::harness::{build, run_on_bytes, run_words};
-use crate::inputs::{A, SQUARES, topology};
-use std::process::Abort;
+use command_runs::inputs::{A, SQUARES};
+use command_runs::{build, run_on_bytes, run_words, topology};
 use std::test::Fail;
 
 /// Each proper beginning of the text is no JSON, and nothing is printed.
-fn assert_beginnings_refused<R: Abort + AllocGlobal>(rt: &R, text: &[u8]) -> Result<(), Fail> {
+fn assert_beginnings_refused<R: AllocGlobal>(rt: &R, text: &[u8]) -> Result<(), Fail> {
     let words = ["build", "--grid", "1,1,0,0", "a=p.json"];
     for length in 0..text.len() {
         let outcome = run_on_bytes(rt.alloc(), &words, "p.json", &text[..length])?;
-        outcome.assert_refused(rt, "cut off", 4, "topotool: p.json: 1 NotJson $\n");
+        outcome.refused("cut off", 4, "topotool: p.json: 1 NotJson $\n")?;
     }
     Ok(())
 }
@@ -29,16 +28,16 @@ const POINT: &str = topology!(
 fn the_last_of_two_members_stays(rt: HostRuntime) -> Result<(), Fail> {
     let text =
         r#"{"type":"Point","type":"Feature","properties":{"n":1.5},"properties":{"n":1,"n":2},"geometry":5,"geometry":{"type":"Point","coordinates":"far","coordinates":[3,4]}}"#;
-    build(rt.alloc(), "1,1,0,0", &[("a", text)])?.assert_printed(&rt, "members twice", POINT);
+    build(rt.alloc(), "1,1,0,0", &[("a", text)])?.printed("members twice", POINT)?;
     Ok(())
 }
 
 /// Builds the text, which is refused with this fault.
-fn assert_fault<R: Abort + AllocGlobal>(rt: &R, text: &str, fault: &str) -> Result<(), Fail> {
+fn assert_fault<R: AllocGlobal>(rt: &R, text: &str, fault: &str) -> Result<(), Fail> {
     let words = ["build", "--grid", "1,1,0,0", "a=p.json"];
     let outcome = run_words(rt.alloc(), &words, &[("p.json", text)])?;
     let line = format!(in rt.alloc(); "topotool: p.json: {fault}\n")?;
-    outcome.assert_refused(rt, text, 4, line.as_str());
+    outcome.refused(text, 4, line.as_str())?;
     Ok(())
 }
 

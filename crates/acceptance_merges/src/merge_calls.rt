@@ -1,6 +1,6 @@
 //! `merge_texts` by plans of any form: its answers, and its faults in their order.
-use crate::harness::build;
-use crate::inputs::{A, B, EMPTY, FREE_LOOP, ONE_SQUARE, OTHER_TOOL, SHARED_EDGE, topology};
+use command_runs::inputs::{A, B, EMPTY, FREE_LOOP, ONE_SQUARE, OTHER_TOOL, SHARED_EDGE};
+use command_runs::{build, topology};
 use refine::{MergeFault, Plan, merge_texts};
 use shapes::{Fault, Step};
 use std::alloc::{AllocError, Global};

@@ -1,7 +1,6 @@
 //! What `feature`, `mesh` and `neighbors` print.
-use crate::harness::{build, run_words};
-use crate::inputs::{A, B, BOTH_SQUARES, C, NOTHING, S, SHARED_EDGE, SQUARES, T};
-use std::process::Abort;
+use command_runs::inputs::{A, B, BOTH_SQUARES, C, NOTHING, S, SHARED_EDGE, SQUARES, T};
+use command_runs::{build, run_words};
 use std::test::Fail;
 
 /// GeoJSON texts, each after its layer, and what a command prints of their topology `t.json`.
@@ -14,12 +13,12 @@ struct Row {
     out: &'static str,
 }
 
-fn assert_rows<R: Abort + AllocGlobal>(rt: &R, rows: &[Row]) -> Result<(), Fail> {
+fn assert_rows<R: AllocGlobal>(rt: &R, rows: &[Row]) -> Result<(), Fail> {
     for row in rows {
         let built = build(rt.alloc(), row.grid, row.sources)?;
-        run_words(rt.alloc(), row.words, &[("t.json", built.out.as_str())])?.assert_printed(
-            rt, row.title, row.out,
-        );
+        run_words(rt.alloc(), row.words, &[("t.json", built.out.as_str())])?.printed(
+            row.title, row.out,
+        )?;
     }
     Ok(())
 }
@@ -264,10 +263,9 @@ fn neighbors_of_features(rt: HostRuntime) -> Result<(), Fail> {
 fn a_layer_that_was_printed_is_built_again(rt: HostRuntime) -> Result<(), Fail> {
     let words = ["feature", "--layer", "a", "t.json"];
     let printed = run_words(rt.alloc(), &words, &[("t.json", SHARED_EDGE)])?;
-    build(rt.alloc(), "1,1,0,0", &[("a", printed.out.as_str())])?.assert_printed(
-        &rt,
+    build(rt.alloc(), "1,1,0,0", &[("a", printed.out.as_str())])?.printed(
         "shared edge",
         SHARED_EDGE,
-    );
+    )?;
     Ok(())
 }

@@ -1,8 +1,7 @@
 //! What `merge` prints: the topology of all features, whatever the order and grouping of the files.
-use crate::harness::{Outcome, Run, build, run_words};
-use crate::inputs::{A, B, C, SHARED_EDGE, UNIONS, Union};
+use command_runs::inputs::{A, B, C, SHARED_EDGE, UNIONS, Union};
+use command_runs::{Outcome, Run, build, run_words};
 use std::alloc::Global;
-use std::process::Abort;
 use std::test::Fail;
 
 /// All orders of two and of three files.
@@ -48,16 +47,15 @@ fn merge(
     run.outcome()
 }
 
-fn assert_merges<R: Abort + AllocGlobal>(rt: &R, union: &Union) -> Result<(), Fail> {
+fn assert_merges<R: AllocGlobal>(rt: &R, union: &Union) -> Result<(), Fail> {
     let topologies = topologies(rt.alloc(), union.texts)?;
     for order in ORDERS {
         if order.len() == topologies.len() {
             for shape in SHAPES {
-                merge(rt.alloc(), shape, order, topologies.as_slice())?.assert_printed(
-                    rt,
+                merge(rt.alloc(), shape, order, topologies.as_slice())?.printed(
                     union.title,
                     union.topology,
-                );
+                )?;
             }
         }
     }
@@ -77,15 +75,14 @@ fn a_merged_text_is_merged_again(rt: HostRuntime) -> Result<(), Fail> {
     let alloc = rt.alloc();
     let shards = topologies(alloc, &[A, B, C])?;
     let pair = merge(alloc, "left", &[0, 1], shards.as_slice())?;
-    pair.assert_printed(&rt, "shared edge", SHARED_EDGE);
+    pair.printed("shared edge", SHARED_EDGE)?;
     let at_once = merge(alloc, "left", &[0, 1, 2], shards.as_slice())?;
     let third = build(alloc, "1,1,0,0", &[("a", C)])?;
     let in_steps = [pair.out, third.out];
-    merge(alloc, "left", &[1, 0], &in_steps)?.assert_printed(
-        &rt,
+    merge(alloc, "left", &[1, 0], &in_steps)?.printed(
         "three shards in two steps",
         at_once.out.as_str(),
-    );
+    )?;
     Ok(())
 }
 
@@ -101,9 +98,9 @@ fn another_transform(rt: HostRuntime) -> Result<(), Fail> {
     ];
     let words = ["merge", "first.json", "second.json", "first.json"];
     let outcome = run_words(alloc, &words, &files)?;
-    outcome.assert_refused(&rt, "grid", 4, "topotool: second.json: 17 OtherGrid\n");
+    outcome.refused("grid", 4, "topotool: second.json: 17 OtherGrid\n")?;
     let words = ["merge", "first.json", "second.json", "bad.json"];
     let outcome = run_words(alloc, &words, &files)?;
-    outcome.assert_refused(&rt, "text", 4, "topotool: bad.json: 2 Missing $/type\n");
+    outcome.refused("text", 4, "topotool: bad.json: 2 Missing $/type\n")?;
     Ok(())
 }

@@ -1,7 +1,7 @@
 //! Plans that are run as they stand, over shards that keep their map and over shards that keep
 //! their topology: the same text in each order and grouping.
-use crate::inputs::{UNIONS, Union};
 use crate::merge_rows::ORDERS;
+use command_runs::inputs::{UNIONS, Union};
 use grid::Grid;
 use refine::{Cut, Plan, Shard, Whole, run_plan};
 use shapes::FeatureMap;

@@ -1,6 +1,6 @@
 //! Topology texts that are cut off, or have a byte replaced.
-use crate::harness::{Run, run_on_bytes};
-use crate::inputs::{OTHER_TOOL, SHARED_EDGE};
+use command_runs::inputs::{OTHER_TOOL, SHARED_EDGE};
+use command_runs::{Run, run_on_bytes};
 use sinks::Kept;
 use std::process::Abort;
 use std::test::Fail;
@@ -9,7 +9,7 @@ use std::test::Fail;
 fn assert_beginnings_refused<R: Abort + AllocGlobal>(rt: &R, text: &[u8]) -> Result<(), Fail> {
     for length in 0..text.len() {
         let outcome = run_on_bytes(rt.alloc(), &["merge", "t.json"], "t.json", &text[..length])?;
-        outcome.assert_refused(rt, "cut off", 4, "topotool: t.json: 1 NotJson $\n");
+        outcome.refused("cut off", 4, "topotool: t.json: 1 NotJson $\n")?;
     }
     Ok(())
 }

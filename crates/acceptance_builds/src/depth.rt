@@ -1,6 +1,5 @@
 //! Properties nest at most 64 containers, of which the properties object is the first.
-use crate::harness::{build, run_words};
-use crate::inputs::topology;
+use command_runs::{build, run_words, topology};
 use std::alloc::{AllocError, Global};
 use std::test::Fail;
 
@@ -34,10 +33,10 @@ fn the_deepest_properties(rt: HostRuntime) -> Result<(), Fail> {
     let want = format!(in alloc; "{front}{TAIL}")?;
     let text = feature(alloc, 63)?;
     let built = build(alloc, "1,1,0,0", &[("a", text.as_str())])?;
-    built.assert_printed(&rt, "63 arrays", want.as_str());
+    built.printed("63 arrays", want.as_str())?;
     let file = [("t.json", built.out.as_str())];
-    run_words(alloc, &["check", "t.json"], &file)?.assert_printed(&rt, "checked", "canonical\n");
-    run_words(alloc, &["merge", "t.json"], &file)?.assert_printed(&rt, "merged", want.as_str());
+    run_words(alloc, &["check", "t.json"], &file)?.printed("checked", "canonical\n")?;
+    run_words(alloc, &["merge", "t.json"], &file)?.printed("merged", want.as_str())?;
     Ok(())
 }
 
@@ -49,7 +48,7 @@ fn properties_too_deep(rt: HostRuntime) -> Result<(), Fail> {
     let words = ["build", "--grid", "1,1,0,0", "a=p.json"];
     let outcome = run_words(rt.alloc(), &words, &[("p.json", text.as_str())])?;
     let line = "topotool: p.json: 14 PropertyDepth $/properties\n";
-    outcome.assert_refused(&rt, "64 arrays", 4, line);
+    outcome.refused("64 arrays", 4, line)?;
     Ok(())
 }
 
@@ -58,6 +57,6 @@ fn a_text_too_deep_to_be_read(rt: HostRuntime) -> Result<(), Fail> {
     let text = arrays(rt.alloc(), 200)?;
     let words = ["build", "--grid", "1,1,0,0", "a=p.json"];
     let outcome = run_words(rt.alloc(), &words, &[("p.json", text.as_str())])?;
-    outcome.assert_refused(&rt, "200 arrays", 4, "topotool: p.json: 1 NotJson $\n");
+    outcome.refused("200 arrays", 4, "topotool: p.json: 1 NotJson $\n")?;
     Ok(())
 }

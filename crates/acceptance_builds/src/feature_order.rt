@@ -1,7 +1,6 @@
 //! The order of features: by id (none, numbers, texts), then by the bytes of the properties' text,
 //! then by type, then by positions.
-use crate::harness::build_all;
-use crate::inputs::topology;
+use command_runs::{build_all, topology};
 use std::test::Fail;
 
 /// Features from the last to the first.
@@ -24,6 +23,6 @@ const TOPOLOGY: &str = topology!(
 
 #[test]
 fn features_are_printed_in_order(rt: HostRuntime) -> Result<(), Fail> {
-    build_all(rt.alloc(), "a", FEATURES)?.assert_printed(&rt, "order of features", TOPOLOGY);
+    build_all(rt.alloc(), "a", FEATURES)?.printed("order of features", TOPOLOGY)?;
     Ok(())
 }

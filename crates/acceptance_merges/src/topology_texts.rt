@@ -1,11 +1,10 @@
 //! Topology texts of other tools, and of this one: what `check` says of them, and their canonical
 //! text by `merge`.
-use crate::harness::run_words;
-use crate::inputs::{
+use command_runs::inputs::{
     BOW_TIE_TOPOLOGY, EMPTY, FREE_LOOP, LOOPED_LINE_TOPOLOGY, ONE_SQUARE, OTHER_TOOL, SHARED_EDGE,
-    UNIONS, topology,
+    UNIONS,
 };
-use std::process::Abort;
+use command_runs::{run_words, topology};
 use std::test::Fail;
 
 /// A text that is not canonical, and the canonical text of what it means.
@@ -78,31 +77,24 @@ const OTHERS: &[Row] = &[
 fn texts_of_other_tools(rt: HostRuntime) -> Result<(), Fail> {
     for row in OTHERS {
         let files = [("t.json", row.text)];
-        run_words(rt.alloc(), &["check", "t.json"], &files)?.assert_ended(
-            &rt,
+        run_words(rt.alloc(), &["check", "t.json"], &files)?.ended(
             row.title,
             1,
             "not canonical\n",
             "",
-        );
-        run_words(rt.alloc(), &["merge", "t.json"], &files)?.assert_printed(
-            &rt, row.title, row.canon,
-        );
-        run_words(rt.alloc(), &["merge", "t.json", "t.json"], &files)?.assert_printed(
-            &rt, row.title, row.canon,
-        );
+        )?;
+        run_words(rt.alloc(), &["merge", "t.json"], &files)?.printed(row.title, row.canon)?;
+        run_words(rt.alloc(), &["merge", "t.json", "t.json"], &files)?.printed(
+            row.title, row.canon,
+        )?;
         assert_canonical(&rt, row.canon)?;
     }
     Ok(())
 }
 
 /// `check` says that the text is canonical.
-fn assert_canonical<R: Abort + AllocGlobal>(rt: &R, text: &str) -> Result<(), Fail> {
-    run_words(rt.alloc(), &["check", "t.json"], &[("t.json", text)])?.assert_printed(
-        rt,
-        text,
-        "canonical\n",
-    );
+fn assert_canonical<R: AllocGlobal>(rt: &R, text: &str) -> Result<(), Fail> {
+    run_words(rt.alloc(), &["check", "t.json"], &[("t.json", text)])?.printed(text, "canonical\n")?;
     Ok(())
 }
 

@@ -1,6 +1,7 @@
 //! Named inputs, and the texts of the maps that several tests build or merge.
 
 /// The text of a topology on the grid 1,1,0,0, of which the part before `transform` is given.
+#[macro_export]
 macro_rules! topology {
     ($front:literal) => {
         concat!(
@@ -9,8 +10,6 @@ macro_rules! topology {
         )
     };
 }
-
-pub(crate) use topology;
 
 /// The unit square at the origin.
 pub const A: &str = r#"{"type":"Polygon","coordinates":[[[0,0],[1,0],[1,1],[0,1],[0,0]]]}"#;

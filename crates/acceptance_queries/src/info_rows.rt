@@ -1,6 +1,6 @@
 //! What `info` prints, and `neighbors` with ids.
-use crate::harness::{Outcome, build, run_words};
-use crate::inputs::{A, B, C, EMPTY, NOTHING, S, SHARED_EDGE};
+use command_runs::inputs::{A, B, C, EMPTY, NOTHING, S, SHARED_EDGE};
+use command_runs::{Outcome, build, run_words};
 use std::alloc::Global;
 use std::test::Fail;
 
@@ -62,32 +62,22 @@ const KINDS_IN_JSON: &str =
 fn counts_of_every_kind(rt: HostRuntime) -> Result<(), Fail> {
     let built = build(rt.alloc(), "10,10,-500,3", KINDS)?;
     let files = [("t.json", built.out.as_str())];
-    run_words(rt.alloc(), &["info", "t.json"], &files)?.assert_printed(
-        &rt,
-        "lines",
-        KINDS_IN_LINES,
-    );
-    run_words(rt.alloc(), &["info", "--json", "t.json"], &files)?.assert_printed(
-        &rt,
-        "json",
-        KINDS_IN_JSON,
-    );
+    run_words(rt.alloc(), &["info", "t.json"], &files)?.printed("lines", KINDS_IN_LINES)?;
+    run_words(rt.alloc(), &["info", "--json", "t.json"], &files)?.printed("json", KINDS_IN_JSON)?;
     Ok(())
 }
 
 #[test]
 fn without_positions_there_is_no_bbox(rt: HostRuntime) -> Result<(), Fail> {
     let files = [("t.json", EMPTY)];
-    run_words(rt.alloc(), &["info", "t.json"], &files)?.assert_printed(
-        &rt,
+    run_words(rt.alloc(), &["info", "t.json"], &files)?.printed(
         "lines",
         "grid: 1,1,0,0\narcs: 0\npositions of arcs: 0\nfree loops: 0\nlayer \"a\": 0 features\n",
-    );
-    run_words(rt.alloc(), &["info", "--json", "t.json"], &files)?.assert_printed(
-        &rt,
+    )?;
+    run_words(rt.alloc(), &["info", "--json", "t.json"], &files)?.printed(
         "json",
         r#"{"arcs":0,"freeLoops":0,"layers":[{"features":0,"kinds":{"LineString":0,"MultiLineString":0,"MultiPoint":0,"MultiPolygon":0,"Point":0,"Polygon":0,"null":0},"name":"a"}],"positions":0,"transform":{"scale":[1,1],"translate":[0,0]}}"#,
-    );
+    )?;
     Ok(())
 }
 
@@ -97,11 +87,10 @@ const OTHER_ARCS: &str =
 
 #[test]
 fn the_canonical_topology_is_counted(rt: HostRuntime) -> Result<(), Fail> {
-    run_words(rt.alloc(), &["info", "t.json"], &[("t.json", OTHER_ARCS)])?.assert_printed(
-        &rt,
+    run_words(rt.alloc(), &["info", "t.json"], &[("t.json", OTHER_ARCS)])?.printed(
         "arcs of another tool",
         "grid: 1,1,0,0\nbbox: 0,0,2,0\narcs: 1\npositions of arcs: 3\nfree loops: 0\nlayer \"a\": 1 feature, 1 LineString\n",
-    );
+    )?;
     Ok(())
 }
 
@@ -127,32 +116,26 @@ fn neighbors_of(alloc: Global, squares: &[(&str, &str)]) -> Result<Outcome, Fail
 #[test]
 fn neighbors_by_their_ids(rt: HostRuntime) -> Result<(), Fail> {
     let in_a_row = [("\"m\\\"\"", B), ("-7", C), ("\"b\"", A)];
-    neighbors_of(rt.alloc(), &in_a_row)?.assert_printed(
-        &rt,
+    neighbors_of(rt.alloc(), &in_a_row)?.printed(
         "numbers before texts, texts by bytes",
         r#"[["m\""],["m\""],[-7,"b"]]"#,
-    );
+    )?;
     let one_id = [("5", A), ("5", B), ("5", C)];
-    neighbors_of(rt.alloc(), &one_id)?.assert_printed(&rt, "one id", "[[5],[5,5],[5]]");
+    neighbors_of(rt.alloc(), &one_id)?.printed("one id", "[[5],[5,5],[5]]")?;
     let apart = [("1", A), ("2", S)];
-    neighbors_of(rt.alloc(), &apart)?.assert_printed(&rt, "none", "[[],[]]");
-    neighbors_of(rt.alloc(), &[])?.assert_printed(&rt, "no feature", "[]");
+    neighbors_of(rt.alloc(), &apart)?.printed("none", "[[],[]]")?;
+    neighbors_of(rt.alloc(), &[])?.printed("no feature", "[]")?;
     Ok(())
 }
 
 #[test]
 fn each_feature_has_to_have_an_id(rt: HostRuntime) -> Result<(), Fail> {
     let line = "topotool: --ids: a feature without an id in layer a\n";
-    neighbors_of(rt.alloc(), &[("1", A), ("null", B)])?.assert_refused(&rt, "null", 2, line);
+    neighbors_of(rt.alloc(), &[("1", A), ("null", B)])?.refused("null", 2, line)?;
     let words = ["neighbors", "--ids", "--layer", "a", "t.json"];
     let files = [("t.json", SHARED_EDGE)];
-    run_words(rt.alloc(), &words, &files)?.assert_refused(&rt, "no member", 2, line);
+    run_words(rt.alloc(), &words, &files)?.refused("no member", 2, line)?;
     let words = ["neighbors", "--ids", "--layer", "q", "t.json"];
-    run_words(rt.alloc(), &words, &files)?.assert_refused(
-        &rt,
-        "no layer",
-        4,
-        "topotool: 19 NoLayer q\n",
-    );
+    run_words(rt.alloc(), &words, &files)?.refused("no layer", 4, "topotool: 19 NoLayer q\n")?;
     Ok(())
 }

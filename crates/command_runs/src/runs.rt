@@ -1,7 +1,6 @@
 //! Runs of the command over files in memory and sinks that keep what they are given.
 use sinks::{Kept, Sink};
 use std::alloc::{AllocError, Global};
-use std::process::Abort;
 use std::test::Fail;
 use tool::{FileFault, Files, run};
 
@@ -62,12 +61,14 @@ impl Run {
         Ok(run)
     }
 
+    /// Puts a word last.
     pub fn add_word(&mut self, word: &str) -> Result<(), AllocError> {
         let word = String::from_str(self.alloc, word)?;
         self.words.push(word)?;
         Ok(())
     }
 
+    /// Puts a file of this name and these bytes beside the others.
     pub fn add_file(&mut self, name: &str, bytes: &[u8]) -> Result<(), AllocError> {
         let name = String::from_str(self.alloc, name)?;
         let bytes = Vec::from_slice(self.alloc, bytes)?;
@@ -116,20 +117,31 @@ pub struct Outcome {
 
 impl Outcome {
     /// The run printed this text, and ended with status 0.
-    pub fn assert_printed(&self, rt: &impl Abort, title: &str, text: &str) {
-        self.assert_ended(rt, title, 0, text, "");
+    ///
+    /// # Errors
+    /// The title, and what the run ended with.
+    pub fn printed(&self, title: &str, text: &str) -> Result<(), Fail> {
+        self.ended(title, 0, text, "")
     }
 
     /// The run printed nothing, told this line and ended with this status.
-    pub fn assert_refused(&self, rt: &impl Abort, title: &str, status: u8, line: &str) {
-        self.assert_ended(rt, title, status, "", line);
+    ///
+    /// # Errors
+    /// The title, and what the run ended with.
+    pub fn refused(&self, title: &str, status: u8, line: &str) -> Result<(), Fail> {
+        self.ended(title, status, "", line)
     }
 
     /// The run ended with this status, and wrote these texts.
-    pub fn assert_ended(&self, rt: &impl Abort, title: &str, status: u8, out: &str, err: &str) {
-        assert_eq!(rt; self.err.as_str(), err, "{title}");
-        assert_eq!(rt; self.out.as_str(), out, "{title}");
-        assert_eq!(rt; self.status, status, "{title}");
+    ///
+    /// # Errors
+    /// The title, and what the run ended with.
+    pub fn ended(&self, title: &str, status: u8, out: &str, err: &str) -> Result<(), Fail> {
+        if self.status == status && self.out.as_str() == out && self.err.as_str() == err {
+            return Ok(());
+        }
+        let (told, printed) = (self.err.as_str(), self.out.as_str());
+        Err(Fail::new(format_args!("{title}: status {}\n{told}{printed}", self.status)))
     }
 }
 

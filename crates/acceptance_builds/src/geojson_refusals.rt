@@ -1,7 +1,6 @@
 //! GeoJSON texts that `build` refuses, each with the least of its faults.
-use crate::harness::{Outcome, run_words};
+use command_runs::{Outcome, run_words};
 use std::alloc::Global;
-use std::process::Abort;
 use std::test::Fail;
 
 /// A text, and the fault that its refusal names.
@@ -19,18 +18,18 @@ fn build_file(alloc: Global, grid: &str, text: &str) -> Result<Outcome, Fail> {
 }
 
 /// The text is refused with this fault, and nothing is printed.
-fn assert_fault<R: Abort + AllocGlobal>(
+fn assert_fault<R: AllocGlobal>(
     rt: &R,
     title: &str,
     outcome: &Outcome,
     fault: &str,
 ) -> Result<(), Fail> {
     let line = format!(in rt.alloc(); "topotool: p.json: {fault}\n")?;
-    outcome.assert_refused(rt, title, 4, line.as_str());
+    outcome.refused(title, 4, line.as_str())?;
     Ok(())
 }
 
-fn assert_refused<R: Abort + AllocGlobal>(rt: &R, rows: &[Row]) -> Result<(), Fail> {
+fn assert_refused<R: AllocGlobal>(rt: &R, rows: &[Row]) -> Result<(), Fail> {
     for row in rows {
         let outcome = build_file(rt.alloc(), "1,1,0,0", row.text)?;
         assert_fault(rt, row.title, &outcome, row.fault)?;
