@@ -1,12 +1,12 @@
 //! Pairs of maps, and what the arcs of each become.
-use crate::maps::{
-    Drawn, FIRST, SECOND, SHARED_EDGE, THIRD, TRIANGLE, TURNED_TRIANGLE, topology_of,
-};
 use chains::{ArcRef, ArcTable};
 use recutting::{Recut, Side, recut};
 use std::alloc::Global;
 use std::process::Abort;
 use std::test::Fail;
+use worked_maps::{
+    Drawn, FIRST, SECOND, SHARED_EDGE, THIRD, TRIANGLE, TURNED_TRIANGLE, topology_of,
+};
 
 /// Two maps, and for each arc of each the indexes of the arcs that it is cut into.
 #[derive(Clone, Copy)]

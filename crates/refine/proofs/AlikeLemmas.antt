@@ -7,7 +7,8 @@ use Rattle.std.proofs.lemmas.Bool.{ltb-true}
 use Rattle.shapes.specs.Maps.{Layers}
 use Rattle.shapes.specs.Union.{union}
 use Rattle.refine.specs.Laws.{union_commutes, union_associates, union_itself, union_empty}
-use Rattle.refine.specs.Plans.{union_all, first_outside}
+use Rattle.plans.specs.Leaves.{first_outside}
+use Rattle.refine.specs.Plans.{union_all}
 use Rattle.refine.specs.Alike.{IsIn, Names, PlansAlike}
 
 abbrev pub Among : Layers → List Layers → Type 0

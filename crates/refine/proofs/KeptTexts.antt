@@ -6,9 +6,10 @@ use Rattle.std.proofs.lemmas.List.Elements.{All-nil, All-cons, All-head, All-tai
 use Rattle.grid.specs.Place.{Transform}
 use Rattle.shapes.specs.Maps.{Layers}
 use Rattle.topo_io.specs.Means.{Means}
-use Rattle.refine.specs.declared.plan.Plan.{Plan}
-use Rattle.refine.specs.Naming.{kept}
-use Rattle.refine.specs.Plans.{leaves, first_outside, first_other, union_all, union_at}
+use Rattle.plans.specs.declared.plan.Plan.{Plan}
+use Rattle.plans.specs.Naming.{kept}
+use Rattle.plans.specs.Leaves.{leaves, first_outside}
+use Rattle.refine.specs.Plans.{first_other, union_all, union_at}
 use Rattle.refine.specs.Merge.{Meaning, as_meaning, AreKept}
 use Rattle.refine.proofs.PlanLemmas.{off_grid_none}
 use Rattle.refine.proofs.MergeLemmas.{SoFar, one_more, all_read, none_read, read_length, length_bytes, other_mapped}

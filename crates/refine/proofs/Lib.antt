@@ -1,8 +1,5 @@
-pub mod PlanSizes
 pub mod PlanLemmas
-pub mod LeafLemmas
 pub mod RunLemmas
-pub mod GroupingLemmas
 pub mod AlikeLemmas
 pub mod MergeLemmas
 pub mod MergedTexts

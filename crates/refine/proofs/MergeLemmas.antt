@@ -13,7 +13,8 @@ use Rattle.topo_io.specs.Roots.{faults_of_text, grid_of_text}
 use Rattle.refine.specs.Meaning.{same_grid}
 use Rattle.refine.specs.declared.fault.MergeFault.{MergeFault}
 use Rattle.refine.specs.declared.fault.MergeFault.TheVariants.{BadPlan, Text, OtherGrid, OutOfMemory}
-use Rattle.refine.specs.Plans.{first_outside, first_other, off_grid}
+use Rattle.plans.specs.Leaves.{first_outside}
+use Rattle.refine.specs.Plans.{first_other, off_grid}
 use Rattle.std.specs.declared.vec.Vec.{Vec}
 use Rattle.std.specs.declared.alloc.Global.{Global}
 use Rattle.refine.specs.Merge.{bytes_of, AreAccepted, AreMeant, AreRead, IsFaultOf, IsReadFault, IsMergeFault}

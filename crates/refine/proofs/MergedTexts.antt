@@ -16,9 +16,10 @@ use Rattle.topo_io.specs.Canon.{canon}
 use Rattle.topo_io.specs.Means.{Means}
 use Rattle.topo_io.specs.Roots.{layers_of_text}
 use Rattle.reading.proofs.Plains.{layers_once}
-use Rattle.refine.specs.declared.plan.Plan.{Plan}
-use Rattle.refine.specs.declared.plan.Plan.TheVariants.{Leaf, Node'}
-use Rattle.refine.specs.Plans.{leaves, first_outside, union_at}
+use Rattle.plans.specs.declared.plan.Plan.{Plan}
+use Rattle.plans.specs.declared.plan.Plan.TheVariants.{Leaf, Node'}
+use Rattle.plans.specs.Leaves.{leaves, first_outside}
+use Rattle.refine.specs.Plans.{union_at}
 use Rattle.refine.specs.Alike.{IsIn, Names}
 use Rattle.refine.specs.Merge.{AreMeant, IsMergeOf}
 use Rattle.refine.specs.MergeLaws.{MergeOfAllMeanings, MergesAlike, OneCanon, MergeOfOneText, SegmentsOfMergeOnce}

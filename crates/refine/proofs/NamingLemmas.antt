@@ -6,18 +6,15 @@ use Rattle.std.proofs.lemmas.Bool.Decides.{eqb_tells}
 use Rattle.std.proofs.lemmas.List.{length-set, get_or-set_same, get_or-set_other, get_or-replicate, length-replicate}
 use Rattle.std.proofs.lemmas.Option.{slice_get_within}
 use Rattle.shapes.specs.Maps.{Layers}
-use Rattle.refine.specs.declared.plan.Plan.{Plan}
-use Rattle.refine.specs.Plans.{leaves, first_outside, union_all, union_at}
+use Rattle.plans.specs.declared.plan.Plan.{Plan}
+use Rattle.plans.specs.Leaves.{leaves, first_outside}
+use Rattle.refine.specs.Plans.{union_all, union_at}
 use Rattle.refine.specs.Alike.{IsIn}
-use Rattle.refine.specs.Naming.{marked, kept}
+use Rattle.plans.specs.Naming.{marked, kept}
 use Rattle.refine.proofs.AlikeLemmas.{Among, same_union, at, named_among, among_named}
 use Rattle.refine.proofs.MergedTexts.{some_leaf, inside}
 
 -- ---- marks
-
-pub marked-append : (marks : List Bool) (is js : List ℕ) → marked marks (is ++ js) ≡ marked (marked marks js) is
-marked-append marks [] js = refl
-marked-append marks (i ∷ is) js = ap (λ m. set m i true) (marked-append marks is js)
 
 pub length-marked : (marks : List Bool) (is : List ℕ) → length (marked marks is) ≡ length marks
 length-marked marks [] = refl
@@ -46,12 +43,6 @@ in_marked marks (j ∷ js) i lt h = go (eqb_tells i j) h (in_marked marks js i l
     go (inl (_, e)) k rest = here e
     go (inr (_, ne)) (inl e) rest = here e
     go (inr (_, ne)) (inr k) rest = get_or-set_other (marked marks js) j i true false ne ∙ rest k
-
--- the place is marked, and what waits on its left is left
-pub place_marked : {X : Type 0} (f : X → List ℕ) (marks start : List Bool) (waiting : List X) (here : List ℕ) (i : ℕ) (all : List ℕ)
-    → marked marks (flat_map f waiting ++ here) ≡ marked start all → here ≡ i ∷ [] → marked (set marks i true) (flat_map f waiting) ≡ marked start all
-place_marked f marks start waiting here i all h e =
-    ap (λ m. marked m (flat_map f waiting)) (sym (ap (marked marks) e)) ∙ sym (marked-append marks (flat_map f waiting) here) ∙ h
 
 -- ---- what marks keep
 

@@ -12,9 +12,10 @@ use Rattle.shapes.specs.Union.{union}
 use Rattle.std.specs.Ordering.{int_eq}
 use Rattle.refine.specs.Laws.{union_commutes, union_associates, union_empty}
 use Rattle.refine.specs.Meaning.{same_grid, same_scaling}
-use Rattle.refine.specs.declared.plan.Plan.{Plan}
-use Rattle.refine.specs.declared.plan.Plan.TheVariants.{Leaf, Node'}
-use Rattle.refine.specs.Plans.{first_outside, union_all, union_at, HasPlaces, off_grid, first_other}
+use Rattle.plans.specs.declared.plan.Plan.{Plan}
+use Rattle.plans.specs.declared.plan.Plan.TheVariants.{Leaf, Node'}
+use Rattle.plans.specs.Leaves.{first_outside, HasPlaces}
+use Rattle.refine.specs.Plans.{union_all, union_at, off_grid, first_other}
 use Rattle.std.specs.Prelude.{not, ◌&&◌}
 use Rattle.std.specs.List.{position_or_len}
 use Rattle.std.proofs.lemmas.List.Sums.{fails_before_first}
@@ -22,15 +23,6 @@ use Rattle.std.proofs.Common.{◌≤◌}
 use Rattle.std.proofs.lemmas.Bool.{ltb-false}
 use Rattle.std.proofs.lemmas.Bool.Decides.{Decides-int_eq}
 use Rattle.refine.specs.Plans.{other_than}
-
-pub first_outside-append : (n : ℕ) (xs ys : List ℕ) → first_outside n (xs ++ ys) ≡ option_or (first_outside n xs) (first_outside n ys)
-first_outside-append n [] ys = refl
-first_outside-append n (x ∷ xs) ys = go (nat_lt x n) (first_outside-append n xs ys)
-  where
-    go : (b : Bool) → first_outside n (xs ++ ys) ≡ option_or (first_outside n xs) (first_outside n ys) →
-        cond b (first_outside n (xs ++ ys)) (Some x) ≡ option_or (cond b (first_outside n xs) (Some x)) (first_outside n ys)
-    go true e = e
-    go false e = refl
 
 pub union_all-append : (ms ns : List Layers) → union_all (ms ++ ns) ≡ union (union_all ms) (union_all ns)
 union_all-append [] ns = sym (union_empty (union_all ns)) ∙ union_commutes (union_all ns) map.empty

@@ -8,13 +8,14 @@ use Rattle.shapes.specs.Maps.{Layers}
 use Rattle.shapes.specs.Union.{union}
 use Rattle.refine.specs.declared.fault.JoinFault.{JoinFault}
 use Rattle.refine.specs.declared.fault.JoinFault.TheVariants.{OtherGrid, OutOfMemory}
-use Rattle.refine.specs.declared.plan.Plan.{Plan}
-use Rattle.refine.specs.declared.plan.Plan.TheVariants.{Leaf}
+use Rattle.plans.specs.declared.plan.Plan.{Plan}
+use Rattle.plans.specs.declared.plan.Plan.TheVariants.{Leaf}
 use Rattle.refine.specs.declared.running.Task.{Task}
 use Rattle.refine.specs.declared.running.Task.TheVariants.{Run, Join}
-use Rattle.refine.specs.Plans.{leaves, HasPlaces, union_at}
+use Rattle.plans.specs.Leaves.{leaves, HasPlaces}
+use Rattle.refine.specs.Plans.{union_at}
 use Rattle.refine.specs.Running.{LastJoined}
-use Rattle.refine.proofs.PlanSizes.{size}
+use Rattle.plans.proofs.PlanSizes.{size}
 use Rattle.refine.proofs.PlanLemmas.{union_at-append}
 
 -- less for the tasks that a task is taken apart into

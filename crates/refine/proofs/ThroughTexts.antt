@@ -14,14 +14,16 @@ use Rattle.topo.proofs.TopologyLaws.{is_computed}
 use Rattle.topo_io.specs.TopologyText.{topology_text}
 use Rattle.topo_io.specs.Canon.{canon}
 use Rattle.topo_io.specs.Means.{Means}
-use Rattle.refine.specs.Plans.{leaves, first_outside, union_at}
+use Rattle.plans.specs.Leaves.{leaves, first_outside}
+use Rattle.refine.specs.Plans.{union_at}
 use Rattle.refine.specs.Laws.{union_empty}
-use Rattle.refine.specs.declared.plan.Plan.{Plan}
+use Rattle.plans.specs.declared.plan.Plan.{Plan}
 use Rattle.refine.specs.Merge.{AreMeant, IsMergeOf, MeansUnion}
 use Rattle.refine.specs.MergeLaws.{instead, through, MergedTextsMeanUnions, MergesThroughTexts}
 use Rattle.round_trip.proofs.OfMap.{written_topologies_are_read}
 use Rattle.refine.proofs.UnionFits.{union_at_fits}
-use Rattle.refine.proofs.PlanLemmas.{first_outside-append, union_at-append}
+use Rattle.plans.proofs.LeafLemmas.{first_outside-append}
+use Rattle.refine.proofs.PlanLemmas.{union_at-append}
 use Rattle.refine.proofs.MergedTexts.{same_grids, same_maps, meant_length}
 
 -- ---- places

@@ -1,7 +1,8 @@
 -- Plans that name the same maps or texts.
 use Rattle.std.specs.Prelude.{◌≡◌, ℕ, ◌↔◌, ◌⊎◌, List, [], ◌∷◌, Some, None, length, slice_get}
 use Rattle.shapes.specs.Maps.{Layers}
-use Rattle.refine.specs.Plans.{first_outside, union_at}
+use Rattle.plans.specs.Leaves.{first_outside}
+use Rattle.refine.specs.Plans.{union_at}
 
 -- the number is in the list
 abbrev pub IsIn : ℕ → List ℕ → Type 0

@@ -1,8 +1,6 @@
 pub mod Meaning
 pub mod Laws
 pub mod Plans
-pub mod Groupings
-pub mod Naming
 pub mod Running
 pub mod Less
 pub mod Edits

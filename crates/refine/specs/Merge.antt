@@ -10,8 +10,9 @@ use Rattle.shapes.specs.Maps.{Layers}
 use Rattle.reading.specs.Fault.{IsLeast}
 use Rattle.refine.specs.declared.fault.MergeFault.{MergeFault}
 use Rattle.refine.specs.declared.fault.MergeFault.TheVariants.{BadPlan, Text, OtherGrid, OutOfMemory}
-use Rattle.refine.specs.Naming.{kept}
-use Rattle.refine.specs.Plans.{first_outside, first_other, union_at}
+use Rattle.plans.specs.Naming.{kept}
+use Rattle.plans.specs.Leaves.{first_outside}
+use Rattle.refine.specs.Plans.{first_other, union_at}
 use Rattle.topo_io.specs.Canon.{canon}
 use Rattle.topo_io.specs.Means.{Means}
 use Rattle.topo_io.specs.Roots.{faults_of_text, grid_of_text}

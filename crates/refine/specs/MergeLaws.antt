@@ -9,8 +9,8 @@ use Rattle.topo.specs.OfMap.{the_topology}
 use Rattle.topo.specs.Parts.{TopologyParts}
 use Rattle.topo_io.specs.Canon.{canon}
 use Rattle.topo_io.specs.Means.{Means}
-use Rattle.refine.specs.declared.plan.Plan.{Plan}
-use Rattle.refine.specs.Plans.{leaves}
+use Rattle.plans.specs.declared.plan.Plan.{Plan}
+use Rattle.plans.specs.Leaves.{leaves}
 use Rattle.refine.specs.Alike.{Names, NameTheSame}
 use Rattle.refine.specs.Merge.{AreMeant, IsMergeOf, MeansUnion}
 use Rattle.refine.specs.Plans.{union_at}

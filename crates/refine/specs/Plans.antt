@@ -1,30 +1,14 @@
 -- What plans mean.
-use Rattle.std.specs.Prelude.{ℕ, ◌<◌, List, [], ◌∷◌, ◌++◌, Option, Some, None, cond, nat_lt, not, length, position, map as map_list, slice_get, unwrap_or, option_map}
+use Rattle.std.specs.Prelude.{ℕ, List, [], ◌∷◌, Option, Some, None, not, length, position, map as map_list, slice_get, unwrap_or, option_map}
 use Rattle.std.specs.Option.{option_or}
 use Rattle.std.specs.FinMap as map
 use Rattle.grid.specs.Place.{Transform}
 use Rattle.shapes.specs.Maps.{Layers}
 use Rattle.shapes.specs.Union.{union}
 use Rattle.refine.specs.Meaning.{same_grid}
-use Rattle.refine.specs.declared.plan.Plan.{Plan}
-use Rattle.refine.specs.declared.plan.Plan.TheVariants.{Leaf, Node'}
+use Rattle.plans.specs.Leaves.{first_outside}
 use Rattle.refine.specs.declared.fault.PlanFault.{PlanFault}
 use Rattle.refine.specs.declared.fault.PlanFault.TheVariants.{BadPlan, OtherGrid}
-
--- the leaves from left to right
-abbrev pub leaves : Plan → List ℕ
-leaves (Leaf i) = i ∷ []
-leaves (Node' p left q right) = leaves left ++ leaves right
-
--- each leaf is a place of a list of n
-abbrev pub HasPlaces : ℕ → Plan → Type 0
-HasPlaces n (Leaf i) = i < n
-HasPlaces n (Node' p left q right) = HasPlaces n left × HasPlaces n right
-
--- the first number of the list that is no place of a list of n
-abbrev pub first_outside : ℕ → List ℕ → Option ℕ
-first_outside n [] = None
-first_outside n (i ∷ is) = cond (nat_lt i n) (first_outside n is) (Some i)
 
 -- the place of the first item that isn't on the grid
 abbrev pub off_grid : {S : Type 0} → (S → Transform) → Transform → List S → Option ℕ

@@ -1,18 +1,19 @@
 //! Merging texts of topologies.
 ghost use Rattle.std.specs.Prelude.{◌≡◌, ℕ, IfOk, IfErr, Some, Err, length};
 ghost use Rattle.refine.specs.declared.fault.MergeFault.TheVariants.{BadPlan};
-ghost use Rattle.refine.specs.Plans.{leaves, first_outside, off_grid};
-ghost use Rattle.refine.specs.Plans as plans;
+ghost use Rattle.plans.specs.Leaves.{leaves, first_outside};
+ghost use Rattle.refine.specs.Plans.{off_grid};
+ghost use Rattle.refine.specs.Plans as stated;
 ghost use Rattle.refine.specs.Merge.{bytes_of, AreKept, IsFaultOf, IsReadFault, IsMergeFault, IsMergeOf, MeansUnion};
 
 use crate::cut_shard::Cut;
 use crate::fault::MergeFault;
 use crate::joining::join_all;
-use crate::naming::named_places;
-use crate::plan::{Plan, first_bad_leaf, same_grid};
+use crate::plan::same_grid;
 use crate::shard::Shard;
 use faults::{Fault, FaultKind};
 use grid::transform::Grid;
+use plans::{Plan, first_bad_leaf, named_places};
 use std::alloc::Global;
 
 // The reader's fault of the text of that number.
@@ -65,7 +66,7 @@ fn first_off(grids: &[Grid], common: &Grid) -> Option<usize>
 
 // The number of the first grid that is not the first one's.
 fn first_other(grids: &[Grid]) -> Option<usize>
-    ensures { result ≡ plans.first_other (λ g. g) grids.now }
+    ensures { result ≡ stated.first_other (λ g. g) grids.now }
 {
     let Some(first) = grids.first() else {
         return None;

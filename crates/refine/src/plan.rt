@@ -1,84 +1,17 @@
-//! Plans: which shards are joined, and in what grouping.
+//! Running a plan over a list of shards.
 ghost use Rattle.std.specs.Prelude.{◌≡◌, ◌⊎◌, All, IfOk, IfErr, None, Some, Err, length, map};
 ghost use Rattle.refine.specs.declared.fault.PlanFault.{PlanFault};
 ghost use Rattle.refine.specs.declared.fault.PlanFault.TheVariants.{OutOfMemory};
 ghost use Rattle.refine.specs.Meaning as meaning;
-ghost use Rattle.refine.specs.Plans.{leaves, first_outside, first_other, off_grid, union_at, plan_fault};
+ghost use Rattle.plans.specs.Leaves.{leaves};
+ghost use Rattle.refine.specs.Plans.{first_other, off_grid, union_at, plan_fault};
 
 use crate::fault::PlanFault;
 use crate::running::join_leaves;
 use crate::shard::Shard;
 use grid::transform::Grid;
+use plans::{Plan, first_bad_leaf};
 use std::alloc::Global;
-use std::mem;
-
-/// Which places of a list of shards are joined, from left to right, and in what grouping. A plan of
-/// any depth is run and given up without a call for each level of it.
-pub enum Plan {
-    /// The shard at a place of the list.
-    Leaf(usize),
-    /// The join of what two plans give.
-    Node(Box<Plan>, Box<Plan>),
-}
-
-impl Drop for Plan {
-    // Turns a plan to the right until its left plan is a leaf, gives that up, and goes on with the right plan.
-    // So no call goes down the plan, and no memory is asked for.
-    fn drop(mut self) {
-        loop {
-            match self {
-                Plan::Leaf(_) => return,
-                Plan::Node(mut left, mut right) => {
-                    if let Plan::Node(first, second) = &mut *left {
-                        mem::swap(first, second);
-                        mem::swap(second, &mut right);
-                        self = Plan::Node(right, left);
-                    } else {
-                        self = Box::into_inner(left);
-                        let Plan::Leaf(_) = self else {
-                            unreachable!();
-                        };
-                        self = Box::into_inner(right);
-                    }
-                }
-            }
-        }
-    }
-}
-
-// The first leaf from the left that is no place of a list of `count`. It looks at the plan from the right; what
-// waits on the left stands on the heap. Only where memory for that is refused is the right told by a call.
-pub(crate) fn first_bad_leaf(alloc: Global, plan: &Plan, count: usize) -> Option<usize>
-    ensures first { result ≡ first_outside count (leaves plan.now) }
-{
-    let mut waiting = Vec::new(alloc);
-    let mut rest = plan;
-    let mut found = None;
-    loop {
-        match rest {
-            Plan::Leaf(place) => {
-                if *place >= count {
-                    found = Some(*place);
-                }
-                let Some(before) = waiting.pop() else {
-                    return found;
-                };
-                rest = before;
-            }
-            Plan::Node(left, right) => match &**left {
-                Plan::Leaf(place) if *place < count => rest = right,
-                Plan::Leaf(_) => rest = left,
-                Plan::Node(..) => match waiting.push(&**left) {
-                    Ok(()) => rest = right,
-                    Err(_) => {
-                        found = first_bad_leaf(alloc, right, count).or(found);
-                        rest = left;
-                    }
-                },
-            },
-        }
-    }
-}
 
 // Whether two grids have the same numbers.
 pub(crate) fn same_grid(these: &Grid, those: &Grid) -> bool

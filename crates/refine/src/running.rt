@@ -2,13 +2,14 @@
 ghost use Rattle.std.specs.Prelude.{◌≡◌, ◌≤◌, All, IfOk, IsOkUnless, length, map};
 ghost use Rattle.grid.specs.Place.{Transform};
 ghost use Rattle.refine.specs.declared.fault.JoinFault.TheVariants.{OutOfMemory};
-ghost use Rattle.refine.specs.Plans.{leaves, HasPlaces, union_at};
+ghost use Rattle.plans.specs.Leaves.{leaves, HasPlaces};
+ghost use Rattle.refine.specs.Plans.{union_at};
 ghost use Rattle.refine.specs.Running.{LastJoined};
 
 use crate::fault::JoinFault;
-use crate::plan::Plan;
 use crate::shard::Shard;
 use grid::transform::Grid;
+use plans::Plan;
 use std::alloc::Global;
 
 // What is left to do: to run a plan, or to join the two shards made last.

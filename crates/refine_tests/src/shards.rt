@@ -2,9 +2,9 @@
 use grid::Pos;
 use grid::transform::Grid;
 use refine::cut_shard::Cut;
-use refine::plan::{Plan, run_plan};
 use refine::shard::Shard;
 use refine::whole::Whole;
+use refine::{Plan, run_plan};
 use shapes::{Feature, FeatureMap, Id, Items, Line, Props, Ring, Shape};
 use std::alloc::Global;
 use std::process::Abort;

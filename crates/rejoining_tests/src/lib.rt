@@ -3,6 +3,4 @@
 #![tactic(auto)]
 
 #[cfg(test)]
-mod maps;
-#[cfg(test)]
 mod rows;

@@ -1,12 +1,12 @@
 //! Maps of which something is taken out, and what is left of their arcs.
-use crate::maps::{
-    Drawn, FIRST, Places, SECOND, SHARED_EDGE, THIRD, TRIANGLE, positions, topology_of,
-};
 use chains::{ArcRef, ArcTable};
 use rejoining::{Rejoined, rejoin};
 use std::alloc::Global;
 use std::process::Abort;
 use std::test::Fail;
+use worked_maps::{
+    Drawn, FIRST, Places, SECOND, SHARED_EDGE, THIRD, TRIANGLE, positions, topology_of,
+};
 
 /// A map, what is left of it, which of its arcs are used by that, and where the lines that are left
 /// begin and end; for each new arc the indexes of the old ones that it is joined of; and lists of
@@ -120,7 +120,7 @@ const ROWS: &[Row] = &[
 
 /// Joins what is left of a row's map.
 fn rejoin_row(alloc: Global, row: &Row) -> Result<Rejoined, Fail> {
-    let whole = topology_of(alloc, &row.whole)?;
+    let whole = topology_of(alloc, &[row.whole])?;
     let ends = positions(alloc, row.ends)?;
     Ok(rejoin(alloc, whole.arcs(), row.kept, &ends)?)
 }
@@ -173,7 +173,7 @@ fn pieces_of_rows(rt: HostRuntime) -> Result<(), Fail> {
 fn arcs_are_those_of_what_is_left(rt: HostRuntime) -> Result<(), Fail> {
     for row in ROWS {
         let made = rejoin_row(rt.alloc(), row)?;
-        let left = topology_of(rt.alloc(), &row.left)?;
+        let left = topology_of(rt.alloc(), &[row.left])?;
         assert_same_arcs(&rt, made.arcs(), left.arcs(), row.title);
     }
     Ok(())

@@ -1,11 +1,11 @@
 //! The whole command, over files and sinks that are handed in.
-use crate::arguments::parse;
-use crate::building::run_build;
+use crate::build_command::run_build;
 use crate::files::Files;
 use crate::merging::run_merge;
 use crate::queries::{run_check, run_feature, run_info, run_mesh, run_neighbors};
 use crate::refusal::Refusal;
 use crate::status::Status;
+use arguments::parse;
 use clap::error::ErrorKind;
 use clap::{ArgMatches, Error};
 use sinks::{Sink, put};

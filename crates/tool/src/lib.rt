@@ -3,18 +3,15 @@
 //! whole command.
 #![tactic(auto)]
 
-mod arguments;
-mod building;
+mod build_command;
 mod command;
 mod files;
 mod grid_word;
-mod info_text;
-pub mod laws;
 mod merging;
 mod queries;
 mod refusal;
 mod status;
 
-pub use building::{BuildFault, build_text};
+pub use built_text::{BuildFault, build_text, laws};
 pub use command::run;
 pub use files::{FileFault, Files};

@@ -1,11 +1,11 @@
 //! The commands that ask one topology: `check`, `feature`, `mesh`, `neighbors` and `info`.
 use crate::files::{Files, read_named};
-use crate::info_text::{write_json, write_lines};
 use crate::refusal::Refusal;
 use crate::status::Status;
 use chains::ArcTable;
 use clap::ArgMatches;
 use grid::Grid;
+use info_text::{write_json, write_lines};
 use query::{
     LayerFault, QueryFault, mesh, neighbors, write_layer, write_mesh, write_neighbor_ids,
     write_neighbors,

@@ -3,11 +3,12 @@
 /// How a command ended.
 #[derive(Clone, Copy, PartialEq, Eq, Debug)]
 pub(crate) enum Status {
-    /// The work is done, or help was asked for.
+    /// The work is done, or help or the version was asked for.
     Done,
     /// `check` says no.
     NotCanonical,
-    /// Wrong usage, a bad grid or a bad layer.
+    /// Wrong usage, a bad grid, a bad layer, standard input named twice, or a feature without an id
+    /// for `--ids`.
     Usage,
     /// A file can't be read.
     Unreadable,

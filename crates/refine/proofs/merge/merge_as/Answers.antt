@@ -1,10 +1,11 @@
 use Rattle.std.proofs.Common.{◌≡◌, All, length, ap, sym, ◌∙◌, subst, false, replicate}
 use Rattle.std.specs.Prelude.{map}
 use Rattle.std.proofs.lemmas.List.{length-replicate}
-use Rattle.refine.specs.Plans.{leaves, first_outside, first_other}
+use Rattle.plans.specs.Leaves.{leaves, first_outside}
+use Rattle.refine.specs.Plans.{first_other}
 use Rattle.refine.specs.Merge.{bytes_of}
 use Rattle.topo_io.specs.Canon.{canon}
-use Rattle.refine.proofs.LeafLemmas.{has_places}
+use Rattle.plans.proofs.LeafLemmas.{has_places}
 use Rattle.refine.proofs.MergeLemmas.{grids_merge, read_meant, length_bytes}
 use Rattle.refine.proofs.NamingLemmas.{named, length-marked}
 use Rattle.refine.proofs.KeptTexts.{some_kept, kept_union, one_grid_kept}

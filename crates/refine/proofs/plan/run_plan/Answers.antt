@@ -1,7 +1,7 @@
 use Rattle.std.proofs.Common.{sym, ◌∙◌, subst}
-use Rattle.refine.specs.Plans.{HasPlaces}
+use Rattle.plans.specs.Leaves.{HasPlaces}
 use Rattle.refine.proofs.PlanLemmas.{one_grid, no_first, no_places}
-use Rattle.refine.proofs.LeafLemmas.{has_places}
+use Rattle.plans.proofs.LeafLemmas.{has_places}
 use Rattle.refine.proofs.plan.run_plan.Goals as goal
 
 pub returns-in_default-first-clause-faults : goal.returns-in_default-first-clause-faults

@@ -3,9 +3,9 @@ use Rattle.std.specs.Prelude.{reverse}
 use Rattle.std.proofs.lemmas.Result.{err_from_is_err_and}
 use Rattle.std.proofs.lemmas.List.Elements.{All-push, All-pop}
 use Rattle.std.specs.Prelude.{Some}
-use Rattle.refine.specs.declared.plan.Plan.TheVariants.{Leaf}
+use Rattle.plans.specs.declared.plan.Plan.TheVariants.{Leaf}
 use Rattle.refine.specs.declared.running.Task.TheVariants.{Run, Join}
-use Rattle.refine.specs.Plans.{leaves, HasPlaces}
+use Rattle.plans.specs.Leaves.{leaves, HasPlaces}
 use Rattle.refine.proofs.PlanLemmas.{union_at_one}
 use Rattle.refine.proofs.RunLemmas.{taken, leaf_place, leaf_made, parts_left, two_made, two_joined}
 use Rattle.refine.proofs.running.join_leaves.Goals as goal

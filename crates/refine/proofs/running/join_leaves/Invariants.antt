@@ -1,7 +1,8 @@
 use Rattle.std.proofs.Common.{◌≡◌, All, map}
 use Rattle.std.specs.Prelude.{reverse}
 use Rattle.std.specs.List.{sum_by}
-use Rattle.refine.specs.Plans.{leaves, union_at}
+use Rattle.plans.specs.Leaves.{leaves}
+use Rattle.refine.specs.Plans.{union_at}
 use Rattle.refine.proofs.RunLemmas.{Gives, task_size}
 use Rattle.refine.proofs.running.join_leaves.Given as goal
 

@@ -1,0 +1,191 @@
+//! Named inputs, and the texts of the maps that several tests build or merge.
+
+/// The text of a topology on the grid 1,1,0,0, of which the part before `transform` is given.
+#[macro_export]
+macro_rules! topology {
+    ($front:literal) => {
+        concat!(
+            $front,
+            r#""transform":{"scale":[1,1],"translate":[0,0]},"type":"Topology"}"#
+        )
+    };
+}
+
+/// The unit square at the origin.
+pub const A: &str = r#"{"type":"Polygon","coordinates":[[[0,0],[1,0],[1,1],[0,1],[0,0]]]}"#;
+
+/// The unit square to the right of `A`, with which it shares an edge.
+pub const B: &str = r#"{"type":"Polygon","coordinates":[[[1,0],[2,0],[2,1],[1,1],[1,0]]]}"#;
+
+/// The unit square to the right of `B`.
+pub const C: &str = r#"{"type":"Polygon","coordinates":[[[2,0],[3,0],[3,1],[2,1],[2,0]]]}"#;
+
+/// The unit square that touches `A` in the point (1,1).
+pub const S: &str = r#"{"type":"Polygon","coordinates":[[[1,1],[2,1],[2,2],[1,2],[1,1]]]}"#;
+
+/// A triangle whose ring runs against the direction of its arc.
+pub const T: &str = r#"{"type":"Polygon","coordinates":[[[0,0],[2,0],[0,2],[0,0]]]}"#;
+
+/// A map without features.
+pub const NOTHING: &str = r#"{"type":"FeatureCollection","features":[]}"#;
+
+/// A collection of `A` and `B`.
+pub const SQUARES: &str = concat!(
+    r#"{"type":"FeatureCollection","features":[{"type":"Feature","properties":null,"geometry":"#,
+    r#"{"type":"Polygon","coordinates":[[[0,0],[1,0],[1,1],[0,1],[0,0]]]}},"#,
+    r#"{"type":"Feature","properties":null,"geometry":"#,
+    r#"{"type":"Polygon","coordinates":[[[1,0],[2,0],[2,1],[1,1],[1,0]]]}}]}"#
+);
+
+/// The rings of `A` and `B` as one feature.
+pub const BOTH_SQUARES: &str = concat!(
+    r#"{"type":"Feature","id":"m","properties":{},"geometry":{"type":"MultiPolygon","#,
+    r#""coordinates":[[[[0,0],[1,0],[1,1],[0,1],[0,0]]],[[[1,0],[2,0],[2,1],[1,1],[1,0]]]]}}"#
+);
+
+/// A ring that visits (1,1) twice.
+pub const BOW_TIE: &str =
+    r#"{"type":"Polygon","coordinates":[[[0,0],[2,0],[1,1],[0,2],[2,2],[1,1],[0,0]]]}"#;
+
+/// A line that visits (1,1) twice.
+pub const LOOPED_LINE: &str =
+    r#"{"type":"LineString","coordinates":[[0,0],[1,1],[2,2],[2,0],[1,1],[0,2]]}"#;
+
+/// The topology of no feature.
+pub const EMPTY: &str = topology!(
+    r#"{"arcs":[],"objects":{"a":{"geometries":[],"type":"GeometryCollection"}},"#
+);
+
+/// The topology of `A`.
+pub const ONE_SQUARE: &str = topology!(
+    r#"{"arcs":[[[0,0],[0,1],[1,0],[0,-1],[-1,0]]],"bbox":[0,0,1,1],"objects":{"a":{"geometries":[{"arcs":[[-1]],"type":"Polygon"}],"type":"GeometryCollection"}},"#
+);
+
+/// The topology of `A` and `B`, which share an edge.
+pub const SHARED_EDGE: &str = topology!(
+    r#"{"arcs":[[[1,0],[-1,0],[0,1],[1,0]],[[1,0],[0,1]],[[1,0],[1,0],[0,1],[-1,0]]],"bbox":[0,0,2,1],"objects":{"a":{"geometries":[{"arcs":[[1,-1]],"type":"Polygon"},{"arcs":[[2,-2]],"type":"Polygon"}],"type":"GeometryCollection"}},"#
+);
+
+/// The topology of `T`.
+pub const FREE_LOOP: &str = topology!(
+    r#"{"arcs":[[[0,0],[0,2],[2,-2],[-2,0]]],"bbox":[0,0,2,2],"objects":{"a":{"geometries":[{"arcs":[[-1]],"type":"Polygon"}],"type":"GeometryCollection"}},"#
+);
+
+/// The topology of `BOW_TIE`.
+pub const BOW_TIE_TOPOLOGY: &str = topology!(
+    r#"{"arcs":[[[1,1],[-1,-1],[2,0],[-1,1]],[[1,1],[-1,1],[2,0],[-1,-1]]],"bbox":[0,0,2,2],"objects":{"a":{"geometries":[{"arcs":[[0,1]],"type":"Polygon"}],"type":"GeometryCollection"}},"#
+);
+
+/// The topology of `LOOPED_LINE`.
+pub const LOOPED_LINE_TOPOLOGY: &str = topology!(
+    r#"{"arcs":[[[0,0],[1,1]],[[0,2],[1,-1]],[[1,1],[1,-1],[0,2],[-1,-1]]],"bbox":[0,0,2,2],"objects":{"a":{"geometries":[{"arcs":[0,-3,-2],"type":"LineString"}],"type":"GeometryCollection"}},"#
+);
+
+/// The topology of `A` as another tool may write it.
+pub const OTHER_TOOL: &str =
+    r#"{"type":"Topology","transform":{"scale":[1,1],"translate":[0,0]},"bbox":[0.5,0,1,1],"x":0,"objects":{"a":{"type":"Polygon","arcs":[[0,1]]}},"arcs":[[[0,0],[1,0],[0,1]],[[1,1],[-1,0],[0,-1]],[[5,5],[1,1]]]}"#;
+
+/// Texts, and the topology of all of them in one layer.
+#[derive(Clone, Copy)]
+pub struct Union {
+    pub title: &'static str,
+    pub texts: &'static [&'static str],
+    pub topology: &'static str,
+}
+
+/// Maps of two or three texts.
+pub const UNIONS: &[Union] = &[
+    Union {
+        title: "shared edge",
+        texts: &[A, B],
+        topology: SHARED_EDGE,
+    },
+    Union {
+        title: "order and repeats",
+        texts: &[A, B, A],
+        topology: SHARED_EDGE,
+    },
+    Union {
+        title: "the seam at (0,0) vanishes",
+        texts: &[T, r#"{"type":"LineString","coordinates":[[2,0],[3,0]]}"#],
+        topology: topology!(
+            r#"{"arcs":[[[2,0],[-2,0],[0,2],[2,-2]],[[2,0],[1,0]]],"bbox":[0,0,3,2],"objects":{"a":{"geometries":[{"arcs":[1],"type":"LineString"},{"arcs":[[-1]],"type":"Polygon"}],"type":"GeometryCollection"}},"#
+        ),
+    },
+    Union {
+        title: "a junction from an end alone",
+        texts: &[
+            T,
+            r#"{"type":"LineString","coordinates":[[0,2],[0,0],[2,0],[0,2]]}"#,
+        ],
+        topology: topology!(
+            r#"{"arcs":[[[0,2],[0,-2],[2,0],[-2,2]]],"bbox":[0,0,2,2],"objects":{"a":{"geometries":[{"arcs":[0],"type":"LineString"},{"arcs":[[0]],"type":"Polygon"}],"type":"GeometryCollection"}},"#
+        ),
+    },
+    Union {
+        title: "two users, no junction",
+        texts: &[
+            T,
+            r#"{"type":"Feature","id":7,"geometry":{"type":"Polygon","coordinates":[[[0,0],[0,2],[2,0],[0,0]]]}}"#,
+        ],
+        topology: topology!(
+            r#"{"arcs":[[[0,0],[0,2],[2,-2],[-2,0]]],"bbox":[0,0,2,2],"objects":{"a":{"geometries":[{"arcs":[[-1]],"type":"Polygon"},{"arcs":[[0]],"id":7,"type":"Polygon"}],"type":"GeometryCollection"}},"#
+        ),
+    },
+    Union {
+        title: "three shards",
+        texts: &[A, B, C],
+        topology: topology!(
+            r#"{"arcs":[[[1,0],[-1,0],[0,1],[1,0]],[[1,0],[0,1]],[[1,0],[1,0]],[[1,1],[1,0]],[[2,0],[0,1]],[[2,0],[1,0],[0,1],[-1,0]]],"bbox":[0,0,3,1],"objects":{"a":{"geometries":[{"arcs":[[1,-1]],"type":"Polygon"},{"arcs":[[2,4,-4,-2]],"type":"Polygon"},{"arcs":[[5,-5]],"type":"Polygon"}],"type":"GeometryCollection"}},"#
+        ),
+    },
+    Union {
+        title: "a junction of the union alone",
+        texts: &[
+            r#"{"type":"LineString","coordinates":[[0,0],[1,0],[2,0]]}"#,
+            r#"{"type":"LineString","coordinates":[[0,0],[1,0],[1,1]]}"#,
+        ],
+        topology: topology!(
+            r#"{"arcs":[[[0,0],[1,0]],[[1,0],[0,1]],[[1,0],[1,0]]],"bbox":[0,0,2,1],"objects":{"a":{"geometries":[{"arcs":[0,1],"type":"LineString"},{"arcs":[0,2],"type":"LineString"}],"type":"GeometryCollection"}},"#
+        ),
+    },
+    Union {
+        title: "one ring twice",
+        texts: &[
+            T,
+            r#"{"type":"Polygon","coordinates":[[[2,0],[0,2],[0,0],[2,0]]]}"#,
+        ],
+        topology: FREE_LOOP,
+    },
+    Union {
+        title: "two squares that touch",
+        texts: &[A, S],
+        topology: topology!(
+            r#"{"arcs":[[[1,1],[-1,0],[0,-1],[1,0],[0,1]],[[1,1],[0,1],[1,0],[0,-1],[-1,0]]],"bbox":[0,0,2,2],"objects":{"a":{"geometries":[{"arcs":[[0]],"type":"Polygon"},{"arcs":[[-2]],"type":"Polygon"}],"type":"GeometryCollection"}},"#
+        ),
+    },
+    Union {
+        title: "a ring that visits a vertex twice, given twice",
+        texts: &[BOW_TIE, BOW_TIE],
+        topology: BOW_TIE_TOPOLOGY,
+    },
+    Union {
+        title: "a line that visits a vertex twice, given twice",
+        texts: &[LOOPED_LINE, LOOPED_LINE],
+        topology: LOOPED_LINE_TOPOLOGY,
+    },
+    Union {
+        title: "a ring that visits a vertex twice, and a square",
+        texts: &[BOW_TIE, A],
+        topology: topology!(
+            r#"{"arcs":[[[0,0],[0,1],[1,0]],[[0,0],[1,0],[0,1]],[[0,0],[1,1]],[[0,0],[2,0],[-1,1]],[[1,1],[-1,1],[2,0],[-1,-1]]],"bbox":[0,0,2,2],"objects":{"a":{"geometries":[{"arcs":[[1,-1]],"type":"Polygon"},{"arcs":[[3,4,-3]],"type":"Polygon"}],"type":"GeometryCollection"}},"#
+        ),
+    },
+    Union {
+        title: "a line that visits a vertex twice, and a square",
+        texts: &[LOOPED_LINE, A],
+        topology: topology!(
+            r#"{"arcs":[[[0,0],[0,1],[1,0]],[[0,0],[1,0],[0,1]],[[0,0],[1,1]],[[0,2],[1,-1]],[[1,1],[1,-1],[0,2],[-1,-1]]],"bbox":[0,0,2,2],"objects":{"a":{"geometries":[{"arcs":[2,-5,-4],"type":"LineString"},{"arcs":[[1,-1]],"type":"Polygon"}],"type":"GeometryCollection"}},"#
+        ),
+    },
+];

@@ -1,0 +1,8 @@
+//! Runs of the whole command over files in memory, and the inputs that several tests name: what the
+//! crates of acceptance tests share.
+#![tactic(auto)]
+
+pub mod inputs;
+mod runs;
+
+pub use runs::{Outcome, Run, build, build_all, run_on_bytes, run_words};

@@ -1,0 +1,4 @@
+pub mod PlanSizes
+pub mod LeafLemmas
+pub mod GroupingLemmas
+pub mod NamingLemmas

@@ -1,0 +1,106 @@
+//! Maps drawn as lines and rings of places, and their topologies: what the tests of arcs that are cut
+//! and joined again share.
+#![tactic(auto)]
+
+use grid::{Grid, Pos};
+use shapes::{Feature, FeatureMap, Id, Items, Line, Props, Ring, Shape};
+use std::alloc::Global;
+use std::test::Fail;
+use topo::Topology;
+
+/// The places of a line, or of a ring that is closed by its first place.
+pub type Places = &'static [(i64, i64)];
+
+/// A map: each line and each polygon of one ring is a feature of its own.
+#[derive(Clone, Copy)]
+pub struct Drawn {
+    pub lines: &'static [Places],
+    pub rings: &'static [Places],
+}
+
+/// The unit square at the origin.
+pub const FIRST: Places = &[(0, 0), (1, 0), (1, 1), (0, 1), (0, 0)];
+
+/// The unit square to the right of `FIRST`.
+pub const SECOND: Places = &[(1, 0), (2, 0), (2, 1), (1, 1), (1, 0)];
+
+/// The unit square to the right of `SECOND`.
+pub const THIRD: Places = &[(2, 0), (3, 0), (3, 1), (2, 1), (2, 0)];
+
+/// A triangle whose ring runs against the direction of its arc.
+pub const TRIANGLE: Places = &[(0, 0), (2, 0), (0, 2), (0, 0)];
+
+/// The same triangle, run along the direction of its arc.
+pub const TURNED_TRIANGLE: Places = &[(0, 0), (0, 2), (2, 0), (0, 0)];
+
+/// The first two squares.
+pub const SHARED_EDGE: Drawn = Drawn {
+    lines: &[],
+    rings: &[FIRST, SECOND],
+};
+
+/// The positions of places.
+///
+/// # Errors
+/// Where a place is outside the limits of grid numbers, or memory is refused.
+pub fn positions(alloc: Global, places: &[(i64, i64)]) -> Result<Vec<Pos>, Fail> {
+    let mut made = Vec::new(alloc);
+    for (x, y) in places {
+        made.push(Pos::new(*x, *y).ok_or("outside the limits")?)?;
+    }
+    Ok(made)
+}
+
+fn put(alloc: Global, map: &mut FeatureMap, shape: Shape) -> Result<(), Fail> {
+    let props = Props::empty(alloc)?;
+    map.insert(
+        "a",
+        Feature {
+            id: Id::None,
+            props,
+            shape,
+        },
+    )?;
+    Ok(())
+}
+
+fn put_line(alloc: Global, map: &mut FeatureMap, places: Places) -> Result<(), Fail> {
+    let line = Line::from_positions(alloc, positions(alloc, places)?)?;
+    put(alloc, map, Shape::Line(line))
+}
+
+fn put_ring(alloc: Global, map: &mut FeatureMap, places: Places) -> Result<(), Fail> {
+    let mut rings = Vec::new(alloc);
+    rings.push(Ring::from_closed(alloc, positions(alloc, places)?)?)?;
+    put(alloc, map, Shape::Polygon(Items::from_vec(rings)))
+}
+
+fn put_lines(alloc: Global, map: &mut FeatureMap, lines: &[Places]) -> Result<(), Fail> {
+    for places in lines {
+        put_line(alloc, map, *places)?;
+    }
+    Ok(())
+}
+
+fn put_rings(alloc: Global, map: &mut FeatureMap, rings: &[Places]) -> Result<(), Fail> {
+    for places in rings {
+        put_ring(alloc, map, *places)?;
+    }
+    Ok(())
+}
+
+/// The topology of all these maps in one layer.
+///
+/// # Errors
+/// Where a place is outside the limits of grid numbers, a list of places is no line or ring, or
+/// memory is refused.
+pub fn topology_of(alloc: Global, maps: &[Drawn]) -> Result<Topology, Fail> {
+    let grid = Grid::new(1, 1, 0, 0).ok_or("no grid")?;
+    let mut map = FeatureMap::new(alloc);
+    map.add_layer("a")?;
+    for drawn in maps {
+        put_lines(alloc, &mut map, drawn.lines)?;
+        put_rings(alloc, &mut map, drawn.rings)?;
+    }
+    Ok(Topology::build(alloc, &grid, &map)?)
+}
