@@ -1,11 +1,12 @@
-"""Runs the examples of the documents as they are printed there, and compares what they print.
+"""Runs the examples of the documents as they are printed there, and compares what they print; looks for quoted code.
 
     python3 tests/documents.py [DOCUMENT...]
 
 An example is a line that begins with `$ `, in a fenced block or indented by four spaces, and the lines below
 it. Those of a document run in turn in a folder of its own, where `examples` is that of the repository and
-`topotool` is crates/topotool/out/topotool, or the program that TOPOTOOL names, which has to be built before. Ends
-with a line of counts, and with status 1 where an example prints something else.
+`topotool` is crates/topotool/out/topotool, or the program that TOPOTOOL names, which has to be built before. A fenced
+block whose first line names a file of the repository has to stand in that file, line by line. Ends with a line of
+counts, and with status 1 where an example prints something else or a quotation doesn't stand in its file.
 """
 
 import os
@@ -37,6 +38,22 @@ def examples(text):
             printed.append(inside)
 
 
+def quotations(text):
+    """Gives each fenced block that names a file, with that name."""
+    return re.findall(r"^```[a-z]+ (\S+)\n(.*?)^```$", text, re.MULTILINE | re.DOTALL)
+
+
+def misquoted(document, text):
+    """How many of the document's quotations don't stand in their files."""
+    wrong = 0
+    for name, block in quotations(text):
+        with open(f"{TOP}/{name}", encoding="utf-8") as file:
+            if "\n" + block not in "\n" + file.read():
+                wrong += 1
+                print(f"{document}: this doesn't stand in {name}:\n{block}")
+    return wrong
+
+
 def run(command, folder):
     """Returns what a command of a document prints, on either output."""
     env = {**os.environ, "PATH": f"{folder}/bin:{os.environ['PATH']}", "TOPOTOOL": PROGRAM}
@@ -46,10 +63,10 @@ def run(command, folder):
 
 
 def tried(document):
-    """Runs the examples of a document; returns how many there are, and how many print something else."""
+    """Runs the examples of a document; returns how many there are, with its quotations, and how many are wrong."""
     with open(f"{TOP}/{document}", encoding="utf-8") as file:
-        found = [*examples(file.read())]
-    wrong = 0
+        text = file.read()
+    found, wrong = [*examples(text)], misquoted(document, text)
     with tempfile.TemporaryDirectory() as folder:
         os.symlink(f"{TOP}/examples", f"{folder}/examples")
         os.mkdir(f"{folder}/bin")
@@ -59,7 +76,7 @@ def tried(document):
             if got != printed:
                 wrong += 1
                 print(f"{document}: $ {command}\n  is to print {printed}\n  and printed {got}")
-    return len(found), wrong
+    return len(found) + len(quotations(text)), wrong
 
 
 def main(documents):

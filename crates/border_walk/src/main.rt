@@ -1,0 +1,76 @@
+//! An example of a program that stands on the libraries: merges two shards by a plan, prints which
+//! features of a layer share a border, and walks the rings of the layer's first polygon.
+//!
+//!     border_walk LEFT RIGHT LAYER
+#![tactic(auto)]
+
+use chains::ArcRef;
+use refine::{Plan, merge_texts};
+use std::process::ExitCode;
+use std::{env, fs};
+use topo::{Body, Topology};
+
+/// The topology of the shards in two files; none where a file can't be read, a text is refused, their
+/// grids differ, or memory is wanting.
+fn merge_files(rt: &HostRuntime, left: &str, right: &str) -> Option<Topology> {
+    let alloc = rt.alloc();
+    let mut texts = Vec::new(alloc);
+    texts.push(fs::read(rt, left).ok()?).ok()?;
+    texts.push(fs::read(rt, right).ok()?).ok()?;
+    let plan = Plan::halves(alloc, texts.len()).ok()??;
+    let text = merge_texts(alloc, texts.as_slice(), &plan).ok()?;
+    let (grid, map) = topo_io::read(alloc, text.as_slice()).ok()?;
+    Topology::build(alloc, &grid, &map).ok()
+}
+
+/// Prints which others each feature of the layer shares a border with.
+fn print_neighbors(rt: &HostRuntime, topology: &Topology, layer: &str) -> Option<()> {
+    let lists = query::neighbors(rt.alloc(), topology, layer).ok()?;
+    for (place, others) in lists.iter().enumerate() {
+        println!(rt; "feature {place} shares a border with {others:?}").ok()?;
+    }
+    Some(())
+}
+
+/// Prints the absolute positions that a list of arcs stitches to.
+fn print_walk(rt: &HostRuntime, topology: &Topology, refs: &[ArcRef]) -> Option<()> {
+    let grid = topology.grid();
+    for position in topology.walk(refs) {
+        let (x, y) = grid.to_absolute(*position);
+        println!(rt; "{x},{y}").ok()?;
+    }
+    Some(())
+}
+
+/// Walks the rings of the first polygon of the layer, if there is one.
+fn print_polygon(rt: &HostRuntime, topology: &Topology, layer: &str) -> Option<()> {
+    for (place, geometry) in topology.geometries(layer)?.iter().enumerate() {
+        if let Body::Polygon(rings) = &geometry.body {
+            for ring in rings.as_slice() {
+                println!(rt;
+                    "a ring of feature {place}, along {} arcs:",
+                    ring.as_slice().len()
+                )
+                .ok()?;
+                print_walk(rt, topology, ring.as_slice())?;
+            }
+            return Some(());
+        }
+    }
+    Some(())
+}
+
+fn run(rt: &HostRuntime) -> Option<()> {
+    let mut words = env::args(rt).ok()?.skip(1);
+    let (left, right, layer) = (words.next()?, words.next()?, words.next()?);
+    let topology = merge_files(rt, left.as_str(), right.as_str())?;
+    print_neighbors(rt, &topology, layer.as_str())?;
+    print_polygon(rt, &topology, layer.as_str())
+}
+
+fn main(rt: HostRuntime) -> ExitCode {
+    match run(&rt) {
+        Some(()) => ExitCode::from(0),
+        None => ExitCode::from(1),
+    }
+}

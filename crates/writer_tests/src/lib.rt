@@ -1,0 +1,7 @@
+//! Tests of writers that fail: every command, at each place of what it prints.
+#![tactic(auto)]
+
+#[cfg(test)]
+mod files;
+#[cfg(test)]
+mod rows;
