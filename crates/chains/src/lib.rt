@@ -5,6 +5,7 @@
 pub mod cutting;
 pub mod joining;
 mod merging;
+mod ordered;
 pub mod segment;
 mod shared;
 mod slots;
