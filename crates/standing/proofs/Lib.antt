@@ -1,0 +1,4 @@
+pub mod Steps
+pub mod Twins
+pub mod Insides
+pub mod ApartArcs
