@@ -30,7 +30,7 @@ fn is_forward(arc: &[Pos]) -> bool
 }
 
 /// Whether an arc ends where it begins.
-fn is_closed(arc: &[Pos]) -> bool
+pub(crate) fn is_closed(arc: &[Pos]) -> bool
     ensures { result ≡ list.is_closed position_cmp arc.now }
 {
     arc.first() == arc.last()
@@ -138,7 +138,7 @@ fn has_twins(vertices: &[Pos]) -> bool
     false
 }
 
-fn has(sorted: &[Pos], vertex: Pos) -> bool
+pub(crate) fn has(sorted: &[Pos], vertex: Pos) -> bool
     requires { IsSorted position_cmp sorted.now }
     ensures { result ≡ among sorted.now vertex }
 {
