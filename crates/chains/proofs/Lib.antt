@@ -11,6 +11,7 @@ pub mod Cuts
 pub mod Parted
 pub mod Places
 pub mod Rising
+pub mod AsTheyStand
 pub mod Merged
 pub mod Marks
 pub mod Looking

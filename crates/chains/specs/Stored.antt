@@ -1,5 +1,5 @@
 -- Arcs as the table keeps them: in order, each once, with a mark where it is a free loop.
-use Rattle.std.specs.Prelude.{ℕ, ◌<◌, Bool, true, cond, ◌&&◌, ◌||◌, List, [], ◌∷◌, map, length, Contains, Option, Some, None}
+use Rattle.std.specs.Prelude.{ℕ, ◌<◌, Bool, true, false, cond, ◌&&◌, ◌||◌, List, [], ◌∷◌, drop, map, length, Contains, Option, Some, None}
 use Rattle.std.specs.Ordering.{is_lt}
 use Rattle.theory.specs.TopologyFunction.{keep}
 use Rattle.grid.specs.declared.pos.Pos.{Pos}
@@ -29,6 +29,16 @@ abbrev pub rises : List (List Pos) → Bool
 rises [] = true
 rises (c ∷ []) = true
 rises (c ∷ (d ∷ l)) = is_lt (list_cmp c d) && rises (d ∷ l)
+
+-- the first of some marks; where there is none, it is not set
+abbrev pub first_of : List Bool → Bool
+first_of [] = false
+first_of (b ∷ marks) = b
+
+-- lists as arcs, each with its mark
+abbrev pub with_marks : List (List Pos) → List Bool → List StoredArc
+with_marks [] marks = []
+with_marks (c ∷ arcs) marks = record { positions = c; free = first_of marks } ∷ with_marks arcs (drop 1 marks)
 
 -- an arc, marked where one of the two is
 abbrev pub with_mark : StoredArc → StoredArc → StoredArc

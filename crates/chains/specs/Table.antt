@@ -1,5 +1,5 @@
 -- The table of arcs.
-use Rattle.std.specs.Prelude.{◌≡◌, ℕ, Bool, true, false, List, map, Option, Some, None, slice_get}
+use Rattle.std.specs.Prelude.{◌≡◌, ℕ, Bool, true, false, cond, List, [], ◌∷◌, map, Option, Some, None, slice_get}
 use Rattle.std.specs.Option.{option_map}
 use Rattle.std.specs.List.{position, position_or_len, list_any}
 use Rattle.theory.specs.Lists.{Has}
@@ -50,6 +50,12 @@ is_loop_if loops (Some c) = is_loop loops c
 -- whether the arc of a number is marked as a free loop
 abbrev pub free_at : Arcs → ℕ → Bool
 free_at t n = is_loop_if t.loops (slice_get t.arcs n)
+
+-- the arcs that are marked; where a mark is missing, it is not set
+abbrev pub marked : List (List Pos) → List Bool → List (List Pos)
+marked [] marks = []
+marked (c ∷ arcs) [] = []
+marked (c ∷ arcs) (b ∷ marks) = cond b (c ∷ marked arcs marks) (marked arcs marks)
 
 -- the free loops are the chains of the pieces that are marked as free
 pub record AreLoopsOf (ps : List Piece) (loops : List (List Pos)) : Type 0 where

@@ -8,6 +8,7 @@ mod extent;
 pub mod joining;
 mod merging;
 mod numbering;
+mod ordered;
 pub mod segment;
 mod shared;
 pub mod sides;

@@ -4,20 +4,22 @@ ghost use Rattle.std.specs.Option.{option_map};
 ghost use Rattle.lines.specs.Turned.{list_cmp};
 ghost use Rattle.theory.specs.Lists.{Has};
 ghost use Rattle.theory.specs.Geometry.{Geometry, IsSound};
-ghost use Rattle.theory.specs.Arcs.{AreSortedOnce};
+ghost use Rattle.theory.specs.Arcs.{Ascends, AreSortedOnce};
 ghost use Rattle.theory.specs.ArcNumbers.{along, index_of};
 ghost use Rattle.grid.specs.declared.pos.Pos.{Pos};
 ghost use Rattle.chains.specs.declared.cutting.Piece.{Piece as Part};
 ghost use Rattle.chains.specs.Pieces.{used, chain_of};
 ghost use Rattle.chains.specs.Placing.{whole_pieces};
-ghost use Rattle.chains.specs.Table.{located, found_in, number_in, place_if, free_at, AreAlike, AreLoopsOf, ArePiecesOfMap, IsTableOf};
+ghost use Rattle.chains.specs.Table.{located, found_in, marked, number_in, place_if, free_at, AreAlike, AreLoopsOf, ArePiecesOfMap, IsTableOf};
 
 use crate::cutting::Piece;
 use crate::merging::merged_arcs;
 use crate::numbering::{numbered_arcs, with_places};
+use crate::ordered::{is_rising, marked_arcs};
 use crate::stored::ArcList;
 use faults::OutOfMemory;
 use grid::pos::Pos;
+use lines::items::Items;
 use std::alloc::Global;
 use std::marker::Model;
 
@@ -128,6 +130,26 @@ impl ArcTable {
         sorted.sort_unstable();
         let (arcs, refs) = numbered_arcs(alloc, sorted)?;
         Ok((ArcTable { arcs }, refs))
+    }
+
+    /// The table of arcs that stand in order, of which those that are marked are free loops; `None`
+    /// exactly where some arc doesn't come before the next. Where a mark is missing, it is not set.
+    ///
+    /// # Errors
+    /// Where memory is refused.
+    pub fn from_sorted(
+        alloc: Global,
+        arcs: Vec<Items<Pos>>,
+        free: &[bool],
+    ) -> Result<Option<ArcTable>, OutOfMemory>
+        ensures table { IfOk result (λ o. IfSome o (λ t. t ≡ record { arcs = arcs.items; loops = marked arcs.items free.now })) }
+        ensures sorted { IfOk result (λ o. IsSome o ↔ Ascends list_cmp arcs.items) }
+    {
+        if !is_rising(&arcs) {
+            return Ok(None);
+        }
+        let arcs = marked_arcs(alloc, arcs, free)?;
+        Ok(Some(ArcTable { arcs }))
     }
 
     /// The number of arcs.

@@ -1,0 +1,54 @@
+//! Arcs that stand in order already, with marks beside them.
+ghost use Rattle.std.specs.Prelude.{◌≡◌, IfOk, drop};
+ghost use Rattle.chains.specs.Stored.{first_of, rises, with_marks};
+
+use crate::stored::{ArcList, StoredArc};
+use grid::pos::Pos;
+use lines::items::Items;
+use std::alloc::{AllocError, Global};
+
+/// Whether each arc comes before the next.
+pub(crate) fn is_rising(arcs: &[Items<Pos>]) -> bool
+    ensures { result ≡ rises arcs.now }
+{
+    let Some((first, others)) = arcs.split_first() else {
+        return true;
+    };
+    let mut last = first;
+    for arc in others {
+        if !last.cmp(arc).is_lt() {
+            return false;
+        }
+        last = arc;
+    }
+    true
+}
+
+/// The first of some marks, and the others. Where there is none, it is not set.
+fn first_mark(marks: &[bool]) -> (bool, &[bool])
+    ensures first { result.0 ≡ first_of marks.now }
+    ensures others { result.1.now ≡ drop 1 marks.now }
+{
+    match marks.split_first() {
+        Some((mark, others)) => (*mark, others),
+        None => (false, marks),
+    }
+}
+
+/// The arcs, each with its mark.
+pub(crate) fn marked_arcs(
+    alloc: Global,
+    arcs: Vec<Items<Pos>>,
+    marks: &[bool],
+) -> Result<ArcList, AllocError>
+    ensures { IfOk result (λ l. l ≡ with_marks arcs.items marks.now) }
+{
+    let mut made = ArcList::new(alloc);
+    let mut left = marks;
+    for positions in arcs {
+        let (free, others) = first_mark(left);
+        made.push(StoredArc { positions, free })?;
+        left = others;
+    }
+    Ok(made)
+}

@@ -1,0 +1,12 @@
+use Rattle.std.proofs.Common.{◌∙◌, ap, map}
+use Rattle.standing.specs.Seams.{goes_free}
+use Rattle.standing.proofs.Once.{all_made, marks_moved}
+use Rattle.standing.proofs.seams.free_loops.Goals as goal
+
+pub returns : goal.returns
+returns c =
+    let arcs = c.args.arcs.now in
+    let sorted = c.sort_unstable.new.self.items in
+    all_made (goes_free sorted) arcs c.loop-arc.arc-index c.loop-arc.marks.items (map (goes_free sorted) arcs) c.loop-arc-test.false c.loop-arc.invariant
+    ∙ marks_moved c.add_all_ends.new.ends.items sorted c.sort_unstable.ensures.permutation arcs
+    ∙ ap (λ w. map (goes_free w) arcs) c.in_ok-add_all_ends.ensures

@@ -1,0 +1,223 @@
+//! Arcs as a text has them, checked: in order, each before its own reverse, and no vertex inside one at
+//! another place.
+ghost use Rattle.std.specs.Prelude.{◌≡◌, ◌↔◌, ◌++◌, cond, slice_get, IfOk, IfSome, IsSome, IsTrue, OnOk};
+ghost use Rattle.std.specs.List.Sorted.{IsSorted};
+ghost use Rattle.grid.specs.declared.pos.Pos.{Pos};
+ghost use Rattle.lines.specs.Reading as list;
+ghost use Rattle.lines.specs.Turned.{list_cmp, position_cmp};
+ghost use Rattle.theory.specs.Arcs.{Ascends};
+ghost use Rattle.theory.specs.Geometry.{IsSound};
+ghost use Rattle.theory.specs.Lists.{gathered};
+ghost use Rattle.theory.specs.Refinement.{unclosed};
+ghost use Rattle.theory.specs.Standing.{ArcsApart, inner_of};
+ghost use Rattle.chains.specs.Among.{among};
+ghost use Rattle.chains.specs.OfArcs.{table_as_map};
+ghost use Rattle.chains.specs.Table.{IsTableOf, marked};
+ghost use Rattle.standing.specs.Apart as spec;
+ghost use Rattle.standing.specs.Apart.{IsApart, arc_inside, inside_if, table_read};
+
+use chains::table::ArcTable;
+use faults::OutOfMemory;
+use grid::pos::Pos;
+use lines::items::Items;
+use std::alloc::{AllocError, Global};
+
+/// Whether an arc comes before its own reverse.
+fn is_forward(arc: &[Pos]) -> bool
+    ensures { result ≡ spec.is_forward arc.now }
+{
+    arc.iter().rev().cmp(arc.iter()).is_gt()
+}
+
+/// Whether an arc ends where it begins.
+pub(crate) fn is_closed(arc: &[Pos]) -> bool
+    ensures { result ≡ list.is_closed position_cmp arc.now }
+{
+    arc.first() == arc.last()
+}
+
+/// Whether no vertex of an arc comes before its first.
+fn begins_least(arc: &[Pos]) -> bool
+    ensures { result ≡ spec.begins_least arc.now }
+{
+    let Some((first, others)) = arc.split_first() else {
+        return true;
+    };
+    for vertex in others {
+        if *vertex < *first {
+            return false;
+        }
+    }
+    true
+}
+
+/// Whether an arc comes before its own reverse and, where it is a free loop, goes round from its least
+/// vertex.
+fn stands_alone(arc: &[Pos], free: bool) -> bool
+    ensures { result ≡ spec.stands_alone free arc.now }
+{
+    if !is_forward(arc) {
+        return false;
+    }
+    if !free {
+        return true;
+    }
+    is_closed(arc) && begins_least(arc)
+}
+
+fn numbered_stands(table: &ArcTable, number: usize) -> bool
+    ensures { result ≡ spec.stands_if table.now.loops (slice_get table.now.arcs number) }
+{
+    match table.arc(number) {
+        Some(arc) => stands_alone(arc, table.is_free(number)),
+        None => true,
+    }
+}
+
+fn each_stands(table: &ArcTable) -> bool
+    ensures { result ≡ spec.each_stands table.now.loops table.now.arcs }
+{
+    for number in 0..table.len() {
+        if !numbered_stands(table, number) {
+            return false;
+        }
+    }
+    true
+}
+
+/// Adds the vertices inside an arc, those of a free loop all.
+fn add_inside(inside: &mut Vec<Pos>, arc: &[Pos], free: bool) -> Result<(), AllocError>
+    ensures { OnOk result (inside.new.items ≡ inside.old.items ++ cond free (unclosed arc.now) (inner_of arc.now)) }
+{
+    let Some((_, front)) = arc.split_last() else {
+        return Ok(());
+    };
+    if free {
+        return inside.extend_from_slice(front);
+    }
+    match front.split_first() {
+        Some((_, inner)) => inside.extend_from_slice(inner),
+        None => Ok(()),
+    }
+}
+
+fn add_numbered(inside: &mut Vec<Pos>, table: &ArcTable, number: usize) -> Result<(), AllocError>
+    ensures { OnOk result (inside.new.items ≡ inside.old.items ++ inside_if table.now.loops (slice_get table.now.arcs number)) }
+{
+    match table.arc(number) {
+        Some(arc) => add_inside(inside, arc, table.is_free(number)),
+        None => Ok(()),
+    }
+}
+
+/// The vertices inside all arcs.
+fn all_inside(alloc: Global, table: &ArcTable) -> Result<Vec<Pos>, AllocError>
+    ensures { IfOk result (λ v. v.items ≡ gathered (arc_inside table.now.loops) table.now.arcs) }
+{
+    let mut inside = Vec::new(alloc);
+    for number in 0..table.len() {
+        add_numbered(&mut inside, table, number)?;
+    }
+    Ok(inside)
+}
+
+/// Whether two neighbours are equal.
+fn has_twins(vertices: &[Pos]) -> bool
+    ensures { result ≡ spec.has_twins vertices.now }
+{
+    let Some((first, others)) = vertices.split_first() else {
+        return false;
+    };
+    let mut before = *first;
+    for vertex in others {
+        if *vertex == before {
+            return true;
+        }
+        before = *vertex;
+    }
+    false
+}
+
+pub(crate) fn has(sorted: &[Pos], vertex: Pos) -> bool
+    requires { IsSorted position_cmp sorted.now }
+    ensures { result ≡ among sorted.now vertex }
+{
+    sorted.binary_search(&vertex).is_ok()
+}
+
+/// Whether no end of an arc is among some vertices.
+fn ends_apart(inside: &[Pos], arc: &[Pos]) -> bool
+    requires { IsSorted position_cmp inside.now }
+    ensures { result ≡ spec.ends_apart inside.now arc.now }
+{
+    match (arc.first(), arc.last()) {
+        (Some(first), Some(last)) => !has(inside, *first) && !has(inside, *last),
+        _ => true,
+    }
+}
+
+/// The same for an arc of a table; a free loop has no ends.
+fn numbered_apart(inside: &[Pos], table: &ArcTable, number: usize) -> bool
+    requires { IsSorted position_cmp inside.now }
+    ensures { result ≡ spec.apart_if inside.now table.now.loops (slice_get table.now.arcs number) }
+{
+    match table.arc(number) {
+        Some(arc) => table.is_free(number) || ends_apart(inside, arc),
+        None => true,
+    }
+}
+
+fn each_apart(inside: &[Pos], table: &ArcTable) -> bool
+    requires { IsSorted position_cmp inside.now }
+    ensures { result ≡ spec.each_apart inside.now table.now.loops table.now.arcs }
+{
+    for number in 0..table.len() {
+        if !numbered_apart(inside, table, number) {
+            return false;
+        }
+    }
+    true
+}
+
+/// Whether the arcs of a table are those of the map that they make, where they are in order.
+fn is_apart(alloc: Global, table: &ArcTable) -> Result<bool, AllocError>
+    ensures { IfOk result (λ b. IsApart b table.now) }
+{
+    if !each_stands(table) {
+        return Ok(false);
+    }
+    let mut inside = all_inside(alloc, table)?;
+    inside.sort_unstable();
+    if has_twins(&inside) {
+        return Ok(false);
+    }
+    Ok(each_apart(&inside, table))
+}
+
+/// The table of arcs as they stand, of which those that are marked are free loops; `None` exactly where
+/// they don't stand. They stand where they are in order, each once and before its own reverse; each
+/// vertex inside an arc, and each of a free loop, is at one place of all arcs, and no end of an arc that
+/// is no free loop; and a free loop goes round from its least vertex. Then they are the arcs of the map
+/// that has the free loops as its rings and the other arcs as its lines. Where a mark is missing, the
+/// arc is no free loop.
+///
+/// # Errors
+/// Where memory is refused.
+pub fn arcs_as_read(
+    alloc: Global,
+    arcs: Vec<Items<Pos>>,
+    free: &[bool],
+) -> Result<Option<ArcTable>, OutOfMemory>
+    ensures table { IfOk result (λ o. IfSome o (λ t. t ≡ table_read arcs.items free.now)) }
+    ensures stand { IfOk result (λ o. IsSome o ↔ ArcsApart position_cmp arcs.items (table_as_map (table_read arcs.items free.now))) }
+    ensures of_map { IfOk result (λ o. IfSome o (λ t. IsTableOf (table_as_map t) t)) }
+    ensures sound { IfOk result (λ o. IfSome o (λ t. IsSound (table_as_map t))) }
+{
+    let Some(table) = ArcTable::from_sorted(alloc, arcs, free)? else {
+        return Ok(None);
+    };
+    if is_apart(alloc, &table)? {
+        return Ok(Some(table));
+    }
+    Ok(None)
+}

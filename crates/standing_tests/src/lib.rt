@@ -1,0 +1,7 @@
+//! Tests of the public calls of `standing`.
+#![tactic(auto)]
+
+#[cfg(test)]
+mod arcs;
+#[cfg(test)]
+mod lists;
