@@ -116,7 +116,7 @@ in_layers m (l ∷ ls) q f (inl h) =
     ]
 in_layers m (l ∷ ls) q f (inr h) = in_layers (with_features m l.0 (set.from_list l.1)) ls q f (inr (in_features m l.0 l.1 q f (inr h)))
 
-abbrev names_of : List (List ℕ × List Feature) → List (List ℕ)
+abbrev pub names_of : List (List ℕ × List Feature) → List (List ℕ)
 names_of ls = map_list (λ l. l.0) ls
 
 layers_name : (m : Layers) (ls : List (List ℕ × List Feature)) (q : List ℕ) → Names (with_layers m ls) q → Has q (names_of ls) ⊎ Names m q
@@ -139,7 +139,7 @@ name_layers m (l ∷ ls) q (inr h) = name_layers (with_features m l.0 (set.from_
 
 -- ---- layers as plain data
 
-abbrev plain_of : List ℕ × List Feature → List ℕ × List Plain
+abbrev pub plain_of : List ℕ × List Feature → List ℕ × List Plain
 plain_of l = (l.0, map_list plain l.1)
 
 same_names : (ls : List (List ℕ × List Feature)) → map_list (λ l. l.0) (map_list plain_of ls) ≡ names_of ls
@@ -186,7 +186,7 @@ no_feature q f h =
     nothing (sym (ap (λ s. set.contains s f) none ∙ contains-empty feature_cmp f) ∙ h)
 
 -- the map of layers whose names differ has these layers
-are_layers : (ls : List (List ℕ × List Feature)) → Distinct (names_of ls) → AreLayers (with_layers map.empty ls) (map_list plain_of ls)
+pub are_layers : (ls : List (List ℕ × List Feature)) → Distinct (names_of ls) → AreLayers (with_layers map.empty ls) (map_list plain_of ls)
 are_layers ls distinct = record {
   names = λ n. (
     λ h. subst (Has n) (sym (same_names ls)) (elim (layers_name map.empty ls n h) [ inl k ↦ k | inr k ↦ absurd (no_name n k) ]),

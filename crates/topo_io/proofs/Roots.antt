@@ -32,7 +32,7 @@ pub under_none : (t : Turn) (ps : List Pair) → under t ps ≡ [] → ps ≡ []
 under_none t [] e = refl
 under_none t (p ∷ ps) e = cc
 
-array_known : (l : Limits) (d : Data) (o : Option Items) → as_array d ≡ o → list_faults (arc_faults l) d ≡ [] → arcs_if_array l d o ≡ known (arcs_of d)
+pub array_known : (l : Limits) (d : Data) (o : Option Items) → as_array d ≡ o → list_faults (arc_faults l) d ≡ [] → arcs_if_array l d o ≡ known (arcs_of d)
 array_known l d None is none = cc
 array_known l d (Some ds) is none = ap (λ ps. arcs_by ps d) none
 

@@ -7,4 +7,6 @@ pub mod Geometries
 pub mod Roots
 pub mod Layers
 pub mod Means
+pub mod Parts
+pub mod Stitching
 pub mod Laws

@@ -21,6 +21,7 @@ pub mod geometry;
 pub mod layer;
 pub mod layer_type;
 pub mod limit;
+pub mod parts;
 pub mod position;
 pub mod stitching;
 pub mod transform;
@@ -44,7 +45,7 @@ use std::alloc::Global;
 /// Layers by name, each with the features that its geometries mean.
 type Layers = Vec<(String, Vec<Feature>)>;
 
-fn topology_type(value: &Value) -> Result<(), FaultKind>
+pub(crate) fn topology_type(value: &Value) -> Result<(), FaultKind>
     ensures { result ≡ named topology_named (type_text (view value.now)) }
 {
     match type_name(value) {

@@ -56,7 +56,7 @@ pub struct BodyOf<'g, 'a> {
 }
 
 /// The name of the member that holds the body.
-fn body_name(kind: GeometryType) -> &'static str
+pub(crate) fn body_name(kind: GeometryType) -> &'static str
     ensures { result.now ≡ name_of_body kind }
 {
     match kind {
@@ -138,7 +138,7 @@ pub fn read_as(
     Ok(Feature { id, props, shape })
 }
 
-fn geometry_type(value: &Value) -> Result<Option<GeometryType>, FaultKind>
+pub(crate) fn geometry_type(value: &Value) -> Result<Option<GeometryType>, FaultKind>
     ensures { result ≡ type_of_geometry (view value.now) }
 {
     match type_or_null(value) {

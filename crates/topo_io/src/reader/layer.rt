@@ -30,7 +30,7 @@ fn layer_named(text: &str) -> Result<LayerType, FaultKind>
     }
 }
 
-fn layer_type(value: &Value) -> Result<LayerType, FaultKind>
+pub(crate) fn layer_type(value: &Value) -> Result<LayerType, FaultKind>
     ensures { result ≡ type_of_layer (view value.now) }
 {
     match type_or_null(value) {

@@ -1,6 +1,7 @@
 //! Lists of indexes of arcs, and what they stitch to (TopoJSON, section 2.1.4).
 ghost use Rattle.std.specs.Prelude.{◌≡◌, ◌≢◌, [], ◌∷◌, ◌++◌, List, map, reverse, length, true, false, Some, None, IfOk, IfErr, OnOk};
 ghost use Rattle.serde_json.specs.View.{view};
+ghost use Rattle.theory.specs.ArcNumbers.{index_of};
 ghost use Rattle.lines.specs.Pairs.{position_eq};
 ghost use Rattle.lines.specs.Seen.{positions_of, vertices_of};
 ghost use Rattle.grid.specs.declared.pos.Pos.{Pos};
@@ -30,8 +31,9 @@ pub struct IndexOf<'a> {
 }
 
 #[tactic(auto, using(crate::proofs::Indexes::number_of_index, crate::proofs::Indexes::along_index))]
-fn used(alloc: Global, count: usize, index: i64) -> Result<ArcRef, Fault>
+pub(crate) fn used(alloc: Global, count: usize, index: i64) -> Result<ArcRef, Fault>
     ensures ok { OnOk result (no_arc_faults count index ≡ []) }
+    ensures index { IfOk result (λ u. index_of u ≡ index) }
     ensures made { IfOk result (λ u. (arcs : List (List Pos)) → along arcs u ≡ used_arc arcs index) }
     ensures err { IfErr result (λ f. LeastOrWant (no_arc_faults count index) f) }
 {

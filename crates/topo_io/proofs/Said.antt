@@ -1,0 +1,99 @@
+-- What the parts of a topology's text are read as.
+use Rattle.std.proofs.Common.{◌≡◌, Result, Ok, Err, OnOk, ℕ, ◌+◌, ℤ, pos, negsuc, Bool, true, false, cond, List, [], ◌∷◌, ◌++◌, length, map, Option, Some, String, Global, Vec, string_bytes, codes, refl, sym, ap, ◌∙◌, subst, arith}
+use Rattle.std.specs.List.{AllByRecursion, AllZip}
+use Rattle.serde_json.specs.Data.{Data, Members, no_members, member}
+use Rattle.theory.specs.ArcNumbers.{ArcRef, index_of}
+use Rattle.theory.specs.Lists.{Distinct}
+use Rattle.faults.specs.Fault.{Pair, IsWant}
+use Rattle.faults.specs.Path.{Turn}
+use Rattle.faults.specs.declared.fault.Fault.{Fault}
+use Rattle.shapes.specs.Ids.{HasI64}
+use Rattle.shapes.specs.declared.shape.Id as ids
+use Rattle.shapes.specs.declared.shape.Id.TheVariants as id
+use Rattle.reading.specs.Plain.{plain_id}
+use Rattle.shapes.specs.Parts.{spelled_text}
+use Rattle.reading.specs.Fault.{LeastOrWant, under, unless_faulty}
+use Rattle.reading.specs.Parts.{MeanMembers}
+use Rattle.reading.proofs.Entries.{named}
+use Rattle.topo.specs.Parts.{LayerParts}
+use Rattle.topo.specs.declared.geom.Geom.{Geom}
+use Rattle.topo_io.specs.Parts.{plain_geom, ref_at, layer_geoms, geoms_in, named_geoms, layer_of_geoms, names_of_geoms, PlainGeom, IdStored, GeomStored, LayerStored, FaultyOrWant}
+
+-- where nothing more is asked
+pub unless_nothing : (ps : List Pair) → unless_faulty ps [] ≡ ps
+unless_nothing [] = refl
+unless_nothing (p ∷ ps) = refl
+
+by_direction : (b : Bool) (n : ℕ) → record { arc = n; reversed = b } ≡ ref_at (cond b (negsuc n) (pos n))
+by_direction true n = refl
+by_direction false n = refl
+
+-- the used arc of an index
+pub ref_of_index : (a : ArcRef) (i : ℤ) → index_of a ≡ i → a ≡ ref_at i
+ref_of_index a i e = by_direction a.reversed a.arc ∙ ap ref_at e
+
+-- ---- ids
+
+pub stored_plain : (i : ids.Id) → HasI64 i → IdStored (plain_id i)
+stored_plain id.None h = tt
+stored_plain (id.Number n) h = h
+stored_plain (id.Text s) h = tt
+
+pub plain_stored : (i : ids.Id) → IdStored (plain_id i) → HasI64 i
+plain_stored id.None h = tt
+plain_stored (id.Number n) h = h
+plain_stored (id.Text s) h = tt
+
+-- what each element has
+pub zip_all : {X Y : Type 0} (f : Data → Y) (P : Y → Type 0) (ds : List Data) (xs : List X) → AllZip (λ d x. P (f d)) ds xs → AllByRecursion P (map f ds)
+zip_all f P [] [] h = tt
+zip_all f P [] (x ∷ xs) h = absurd h
+zip_all f P (d ∷ ds) [] h = absurd h
+zip_all f P (d ∷ ds) (x ∷ xs) h = (h.0, zip_all f P ds xs h.1)
+
+-- ---- layers
+
+-- what a layer's value means
+abbrev pub IsLayer : Data → Vec Geom Global → Type 0
+IsLayer d gs = (map plain_geom gs.items ≡ layer_geoms d) × AllByRecursion GeomStored (layer_geoms d)
+
+pub mean_ids : (ms : Members) (ls : List (String Global × Vec Geom Global)) → MeanMembers IsLayer ms (map named ls) → AllByRecursion LayerStored (geoms_in ms)
+mean_ids no_members [] h = tt
+mean_ids no_members (m ∷ ls) h = absurd h
+mean_ids (member k d ms) [] h = absurd h
+mean_ids (member k d ms) (m ∷ ls) h = (h.0.1.1, mean_ids ms ls h.1)
+
+-- what members mean, as layers of geometries
+pub mean_geoms : (ms : Members) (ls : List (String Global × Vec Geom Global)) → MeanMembers IsLayer ms (map named ls) → map named_geoms ls ≡ geoms_in ms
+mean_geoms no_members [] h = refl
+mean_geoms no_members (m ∷ ls) h = absurd h
+mean_geoms (member k d ms) [] h = absurd h
+mean_geoms (member k d ms) (m ∷ ls) h = λ i. (h.0.0 i, h.0.1.0 i) ∷ mean_geoms ms ls h.1 i
+
+-- the layers have the names that were read
+pub names_same : (ls : List LayerParts) (ms : List (String Global × Vec Geom Global)) → map layer_of_geoms ls ≡ map named_geoms ms → map (λ l. spelled_text l.name) ls ≡ names_of_geoms ms
+names_same ls ms e = sym (firsts layer_of_geoms (λ l. spelled_text l.name) ls (λ l. refl)) ∙ ap (map (λ (l : List ℕ × List PlainGeom). l.0)) e ∙ firsts named_geoms (λ m. string_bytes m.0) ms (λ m. refl)
+  where
+    firsts : {X : Type 0} (f : X → List ℕ × List PlainGeom) (g : X → List ℕ) (xs : List X) → ((x : X) → (f x).0 ≡ g x) → map (λ l. l.0) (map f xs) ≡ map g xs
+    firsts f g [] h = refl
+    firsts f g (x ∷ xs) h = λ i. h x i ∷ firsts f g xs h i
+
+-- ---- faults
+
+pub faulty_least : (ps : List Pair) (f : Fault) → LeastOrWant ps f → FaultyOrWant ps f
+faulty_least [] f h = record { some = λ real _. let none = (h.least real).present in absurd (omega (arith, none.1)) }
+faulty_least (p ∷ ps) f h = record { some = λ real e. absurd (not_none e) }
+  where
+    not_none : (p ∷ ps) ≡ [] → ⊥
+    not_none e = cc
+
+pub faulty_want : (ps : List Pair) (f : Fault) → IsWant f → FaultyOrWant ps f
+faulty_want ps f want = record { some = λ real _. absurd (real want) }
+
+pub faulty_by : (ps qs : List Pair) (f : Fault) → (qs ≡ [] → ps ≡ []) → FaultyOrWant ps f → FaultyOrWant qs f
+faulty_by ps qs f none h = record { some = λ real e. h.some real (none e) }
+
+-- what holds anyway
+pub on_ok : {X E : Type 0} (r : Result X E) (A : Type 0) → A → OnOk r A
+on_ok (Ok x) A a = a
+on_ok (Err e) A a = tt

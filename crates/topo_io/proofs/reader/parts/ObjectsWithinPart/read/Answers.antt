@@ -1,0 +1,11 @@
+use Rattle.std.proofs.Common.{◌≡◌}
+use Rattle.serde_json.specs.View.{view, members_view}
+use Rattle.reading.proofs.Results.{ok_both, ok_with}
+use Rattle.topo_io.proofs.Said.{mean_geoms, mean_ids}
+use Rattle.topo_io.proofs.reader.parts.ObjectsWithinPart.read.Goals as goal
+
+pub returns-in-Some-clause-ok : goal.returns-in-Some-clause-ok
+returns-in-Some-clause-ok c =
+    let result = c.read_each_member.result in
+    ok_with result _ _ _ c.read_each_member.ensures.ok (ok_both result _ _ c.read_each_member.ensures.made c.read_each_member.ensures.distinct)
+    (λ a ls b. (rw (← c.in-Some.ensures) a, (rw (← c.in-Some.ensures) (mean_geoms (members_view c.in-Some.members.now.entries) ls.items b.0), rw (← c.in-Some.ensures) (mean_ids (members_view c.in-Some.members.now.entries) ls.items b.0), b.1)))
