@@ -147,7 +147,8 @@ impl ArcList {
         }
         self.place_of(positions)
     }
-}    /// Each arc as its own one piece.
+
+    /// Each arc as its own one piece.
     pub(crate) fn into_pieces(self, alloc: Global) -> Result<Vec<Piece>, AllocError>
         ensures { IfOk result (λ v. v.items ≡ map_list own_piece self) }
     {

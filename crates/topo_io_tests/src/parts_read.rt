@@ -132,17 +132,15 @@ fn geometries_of_each_kind(rt: HostRuntime) -> Result<(), Fail> {
     )?;
     let parts = parts_of(rt.alloc(), text.as_str())?.ok_or("refused")?;
     let geometries = geometries_of(&parts, "b").ok_or("no layer")?;
+    let [polygons, points, lines, none, point] = geometries else {
+        return Err(Fail::from("not five"));
+    };
+    assert!(rt; matches!(&polygons.body, Body::MultiPolygon(of) if of.as_slice().len() == 1));
+    assert!(rt; matches!(&points.body, Body::MultiPoint(of) if of.as_slice().len() == 1));
     assert!(rt;
-        matches!(&geometries[0].body, Body::MultiPolygon(polygons) if polygons.as_slice().len() == 1)
+        matches!(&lines.body, Body::MultiLine(of) if of.as_slice().first().is_some_and(|used| is_used(used.as_slice(), &[-1])))
     );
-    assert!(rt;
-        matches!(&geometries[1].body, Body::MultiPoint(points) if points.as_slice().len() == 1)
-    );
-    assert!(rt;
-        matches!(&geometries[2].body, Body::MultiLine(lines) if is_used(lines.as_slice()[0].as_slice(), &[-1]))
-    );
-    assert!(rt; matches!(&geometries[3].body, Body::Null));
-    assert!(rt; matches!(&geometries[4].body, Body::Point(p) if (p.x(), p.y()) == (1, 2)));
-    assert!(rt; geometries.len() == 5);
+    assert!(rt; matches!(&none.body, Body::Null));
+    assert!(rt; matches!(&point.body, Body::Point(p) if (p.x(), p.y()) == (1, 2)));
     Ok(())
 }
