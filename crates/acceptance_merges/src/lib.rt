@@ -1,4 +1,4 @@
-//! Tests across crates: merges, topologies of other tools, and topologies that are refused. Expected
+//! Tests across crates: merges and removals, topologies of other tools, and topologies that are refused. Expected
 //! texts are worked out by hand from the formats.
 #![tactic(auto)]
 
@@ -8,6 +8,8 @@ mod hostile_topologies;
 mod merge_calls;
 #[cfg(test)]
 mod merge_rows;
+#[cfg(test)]
+mod removal_rows;
 #[cfg(test)]
 mod shard_rows;
 #[cfg(test)]

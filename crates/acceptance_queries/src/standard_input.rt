@@ -1,6 +1,6 @@
 //! The file word `-`, which stands for standard input.
-use command_runs::inputs::{SHARED_EDGE, SQUARES};
-use command_runs::{Outcome, Run};
+use command_runs::inputs::{EMPTY, ONE_SQUARE, SHARED_EDGE, SQUARES};
+use command_runs::{Outcome, Run, topology};
 use std::alloc::Global;
 use std::test::Fail;
 
@@ -39,6 +39,18 @@ const READ: &[Row] = &[
         out: SHARED_EDGE,
     },
     Row {
+        words: &["remove", "-", "square.json"],
+        input: SHARED_EDGE,
+        out: topology!(
+            r#"{"arcs":[[[1,0],[0,1],[1,0],[0,-1],[-1,0]]],"bbox":[1,0,2,1],"objects":{"a":{"geometries":[{"arcs":[[-1]],"type":"Polygon"}],"type":"GeometryCollection"}},"#
+        ),
+    },
+    Row {
+        words: &["remove", "square.json", "-"],
+        input: SHARED_EDGE,
+        out: EMPTY,
+    },
+    Row {
         words: &["feature", "--layer", "none", "-"],
         input: r#"{"type":"Topology","transform":{"scale":[1,1],"translate":[0,0]},"arcs":[],"objects":{"none":{"type":"GeometryCollection","geometries":[]}}}"#,
         out: r#"{"features":[],"type":"FeatureCollection"}"#,
@@ -65,6 +77,7 @@ fn run_of(alloc: Global, words: &[&str]) -> Result<Run, Fail> {
     let mut run = Run::new(alloc, words)?;
     run.add_file("squares.json", SQUARES.as_bytes())?;
     run.add_file("shared.json", SHARED_EDGE.as_bytes())?;
+    run.add_file("square.json", ONE_SQUARE.as_bytes())?;
     run.add_file("-", b"the file of that name")?;
     run.add_file("./-", SHARED_EDGE.as_bytes())?;
     Ok(run)
@@ -94,6 +107,7 @@ fn a_file_of_that_name(rt: HostRuntime) -> Result<(), Fail> {
 const TWICE: &[&[&str]] = &[
     &["merge", "-", "-"],
     &["merge", "nowhere.json", "-", "shared.json", "-"],
+    &["remove", "-", "-"],
     &["build", "--grid", "1,1,0,0", "a=-", "b=-"],
 ];
 

@@ -173,7 +173,7 @@ fn lines_of_the_command(rt: HostRuntime) -> Result<(), Fail> {
 /// Words that are against the usage.
 const USAGE: &[&[&str]] = &[
     &[],
-    &["remove", "shared.json", "shared.json"],
+    &["split", "shared.json", "shared.json"],
     &["build"],
     &["build", "a=A.json"],
     &["build", "--grid", "1,1,0,0"],
@@ -185,6 +185,9 @@ const USAGE: &[&[&str]] = &[
     &["check", "shared.json", "shared.json"],
     &["merge"],
     &["merge", "--shape", "middle", "shared.json"],
+    &["remove"],
+    &["remove", "shared.json"],
+    &["remove", "shared.json", "shared.json", "shared.json"],
     &["feature", "shared.json"],
     &["mesh", "--edges", "some", "shared.json"],
     &["neighbors", "shared.json"],
@@ -218,6 +221,11 @@ const HELP: &[(&[&str], &str)] = &[
     ),
     (&["check", "--help"], "Example: topotool check"),
     (&["merge", "--help"], "Example: topotool merge"),
+    (&["remove", "--help"], "Example: topotool remove"),
+    (
+        &["--help"],
+        "remove     Prints a topology without the features of another one",
+    ),
     (&["feature", "--help"], "Example: topotool feature --layer"),
     (&["mesh", "--help"], "Example: topotool mesh --edges"),
     (

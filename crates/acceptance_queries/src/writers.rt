@@ -102,6 +102,7 @@ const COMMANDS: &[&[&str]] = &[
     BUILD,
     &["check", "shared.json"],
     &["merge", "shared.json", "shared.json"],
+    &["remove", "shared.json", "shared.json"],
     &["feature", "--layer", "a", "shared.json"],
     &["mesh", "shared.json"],
     &["neighbors", "--layer", "a", "shared.json"],

@@ -30,7 +30,7 @@ fn layer<'a>(alloc: Global, help: &'a str) -> Arg<'a> {
         .help(help)
 }
 
-/// The one file of a command.
+/// The topology of a command.
 fn file<'a>(alloc: Global) -> Arg<'a> {
     Arg::new(alloc, "FILE")
         .required(true)
@@ -106,6 +106,28 @@ fn merge<'a>(alloc: Global) -> Result<Command<'a>, AllocError> {
             )
             .arg(shape)?
             .arg(files)?,
+    )
+}
+
+fn remove<'a>(alloc: Global) -> Result<Command<'a>, AllocError> {
+    let removed = Arg::new(alloc, "REMOVED")
+        .required(true)
+        .action(ArgAction::Set)
+        .help(
+            "A topology with the same transform, of the features to\ntake out, or - for standard input",
+        );
+    Ok(
+        Command::new(alloc, "remove")
+            .about("Prints a topology without the features of another one")
+            .after_help(
+                "A feature goes where REMOVED has one under the same layer's name with the same\n\
+                 id, properties and geometry. Others of REMOVED change nothing. Layers keep\n\
+                 their names, also when they are empty.\n\n\
+                 Example: topotool remove country.topo.json east.topo.json\n\n\
+                 docs/FAULTS.md says what to do about a file that is refused.",
+            )
+            .arg(file(alloc))?
+            .arg(removed)?,
     )
 }
 
@@ -208,6 +230,7 @@ fn topotool<'a>(alloc: Global) -> Result<Command<'a>, AllocError> {
             .subcommand(build(alloc)?)?
             .subcommand(check(alloc)?)?
             .subcommand(merge(alloc)?)?
+            .subcommand(remove(alloc)?)?
             .subcommand(feature(alloc)?)?
             .subcommand(mesh(alloc)?)?
             .subcommand(neighbors(alloc)?)?

@@ -4,6 +4,7 @@ use crate::files::Files;
 use crate::merging::run_merge;
 use crate::queries::{run_check, run_feature, run_info, run_mesh, run_neighbors};
 use crate::refusal::Refusal;
+use crate::removing::run_remove;
 use crate::status::Status;
 use arguments::parse;
 use clap::error::ErrorKind;
@@ -43,6 +44,7 @@ fn perform<'a, F: Files, O: Sink>(
         Some(("build", found)) => run_build(alloc, found, files, out),
         Some(("check", found)) => run_check(alloc, found, files, out),
         Some(("merge", found)) => run_merge(alloc, found, files, out),
+        Some(("remove", found)) => run_remove(alloc, found, files, out),
         Some(("feature", found)) => run_feature(alloc, found, files, out),
         Some(("mesh", found)) => run_mesh(alloc, found, files, out),
         Some(("neighbors", found)) => run_neighbors(alloc, found, files, out),

@@ -10,7 +10,9 @@ mod grid_word;
 mod merging;
 mod queries;
 mod refusal;
+mod removing;
 mod status;
+mod topologies;
 
 pub use built_text::{BuildFault, build_text, laws};
 pub use command::run;

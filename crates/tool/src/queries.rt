@@ -2,15 +2,15 @@
 use crate::files::{Files, read_named};
 use crate::refusal::Refusal;
 use crate::status::Status;
+use crate::topologies::{read_topology, word};
 use chains::ArcTable;
 use clap::ArgMatches;
-use grid::Grid;
 use info_text::{write_json, write_lines};
 use query::{
     LayerFault, QueryFault, mesh, neighbors, write_layer, write_mesh, write_neighbor_ids,
     write_neighbors,
 };
-use shapes::{Feature, FeatureMap, Id};
+use shapes::{Feature, Id};
 use sinks::{Sink, put};
 use std::alloc::Global;
 use topo::{Geom, Topology};
@@ -162,32 +162,4 @@ fn refused<'a>(layer: &'a str, fault: QueryFault) -> Refusal<'a> {
         QueryFault::NoLayer => Refusal::NoLayer(layer),
         QueryFault::OutOfMemory => Refusal::OutOfMemory,
     }
-}
-
-/// The topology of a file.
-fn read_topology<'a, F: Files>(
-    alloc: Global,
-    files: &mut F,
-    file: &'a str,
-) -> Result<Topology, Refusal<'a>> {
-    let (grid, map) = read_map(alloc, files, file)?;
-    Ok(Topology::build(alloc, &grid, &map)?)
-}
-
-/// What a file's text means. The text is given up before the topology is built.
-fn read_map<'a, F: Files>(
-    alloc: Global,
-    files: &mut F,
-    file: &'a str,
-) -> Result<(Grid, FeatureMap), Refusal<'a>> {
-    let text = read_named(alloc, files, file)?;
-    match topo_io::read(alloc, text.as_slice()) {
-        Ok(meaning) => Ok(meaning),
-        Err(fault) => Err(Refusal::of_text(file, fault)),
-    }
-}
-
-/// The value of an argument, empty where it has none.
-fn word<'a>(found: &ArgMatches<'a>, name: &str) -> &'a str {
-    found.get_str(name).unwrap_or("")
 }

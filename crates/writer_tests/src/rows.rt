@@ -137,6 +137,11 @@ fn info_to_one_that_fails_after_a_byte(rt: HostRuntime) -> Result<(), Fail> {
 }
 
 #[test]
+fn remove(rt: HostRuntime) -> Result<(), Fail> {
+    assert_all_failed(&rt, &["remove", "shared.json", "shared.json"])
+}
+
+#[test]
 fn check(rt: HostRuntime) -> Result<(), Fail> {
     assert_all_failed(&rt, &["check", "shared.json"])
 }

@@ -1,0 +1,44 @@
+//! The topologies that a command is given, each by the word of its file.
+use crate::files::{Files, read_named};
+use crate::refusal::Refusal;
+use clap::ArgMatches;
+use grid::Grid;
+use shapes::FeatureMap;
+use std::alloc::Global;
+use topo::Topology;
+
+/// The value of an argument, empty where it has none.
+pub(crate) fn word<'a>(found: &ArgMatches<'a>, name: &str) -> &'a str {
+    found.get_str(name).unwrap_or("")
+}
+
+/// The topology of a file.
+pub(crate) fn read_topology<'a, F: Files>(
+    alloc: Global,
+    files: &mut F,
+    file: &'a str,
+) -> Result<Topology, Refusal<'a>> {
+    topology_of(alloc, file, read_named(alloc, files, file)?)
+}
+
+/// The topology of what a file's text means.
+pub(crate) fn topology_of<'a>(
+    alloc: Global,
+    file: &'a str,
+    text: Vec<u8>,
+) -> Result<Topology, Refusal<'a>> {
+    let (grid, map) = map_of(alloc, file, text)?;
+    Ok(Topology::build(alloc, &grid, &map)?)
+}
+
+/// What a file's text means. The text is given up.
+pub(crate) fn map_of<'a>(
+    alloc: Global,
+    file: &'a str,
+    text: Vec<u8>,
+) -> Result<(Grid, FeatureMap), Refusal<'a>> {
+    match topo_io::read(alloc, text.as_slice()) {
+        Ok(meaning) => Ok(meaning),
+        Err(fault) => Err(Refusal::of_text(file, fault)),
+    }
+}
