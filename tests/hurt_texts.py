@@ -3,8 +3,9 @@
     python3 tests/hurt_texts.py [--seed N] [--texts N]
 
 Each run has to end with status 0, 1 (`check` alone) or 4; with 4 nothing is printed, and standard error has one
-line; all commands refuse the same texts, for the same fault; and what `merge` prints is canonical by `check`, and
-is printed again by a second merge. Ends with a line of counts, and with status 1 where a run did anything else.
+line; all commands refuse the same texts, for the same fault; what `merge` prints is canonical by `check`, and is
+printed again by a second merge; and so is what `remove` leaves of a text without its own features, which are put
+back by a merge. Ends with a line of counts, and with status 1 where a run did anything else.
 """
 
 import argparse
@@ -102,8 +103,9 @@ def is_refusal(ran):
 def complaints(file):
     """What is wrong with the runs on one text."""
     check, merge, mesh, info = (topotool(it, file) for it in ("check", "merge", "mesh", "info"))
+    remove = topotool("remove", file, file)
     layered = [topotool(it, "--layer", "a", file) for it in ("feature", "neighbors")]
-    runs = [check, merge, mesh, info, *layered]
+    runs = [check, merge, remove, mesh, info, *layered]
     if any(it.returncode not in (0, 4) and not (it is check and it.returncode == 1) for it in runs):
         yield f"statuses {[it.returncode for it in runs]}"
     if any(it.returncode == 4 and not is_refusal(it) for it in runs):
@@ -112,11 +114,14 @@ def complaints(file):
         if {it.stderr for it in runs} != {merge.stderr}:
             yield f"other faults {[it.stderr for it in runs]}"
         return
-    with tempfile.NamedTemporaryFile() as merged:
-        merged.write(merge.stdout)
-        merged.flush()
+    with tempfile.NamedTemporaryFile() as merged, tempfile.NamedTemporaryFile() as left:
+        for held, ran in ((merged, merge), (left, remove)):
+            held.write(ran.stdout)
+            held.flush()
         if topotool("check", merged.name).returncode or topotool("merge", merged.name).stdout != merge.stdout:
             yield "a merge that is not canonical"
+        if topotool("check", left.name).returncode or topotool("merge", left.name, file).stdout != merge.stdout:
+            yield "a removal that is not canonical, or is not undone by a merge"
     if any(it.returncode == 4 and it.stderr != b"topotool: 19 NoLayer a\n" for it in layered):
         yield "a layer that is refused"
 

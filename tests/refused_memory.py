@@ -23,20 +23,22 @@ TWINS = """{"type":"FeatureCollection","features":[
 LOOP = """{"type":"FeatureCollection","features":[
 {"type":"Feature","geometry":{"type":"Polygon","coordinates":[[[0,0],[2,0],[0,2],[0,0]]]},"properties":{}},
 {"type":"Feature","geometry":{"type":"LineString","coordinates":[[2,0],[3,0]]},"properties":{}}]}"""
+LINE = '{"type":"LineString","coordinates":[[2,0],[3,0]]}'
 
 
 def inputs(folder):
     """Puts the texts of the runs into the folder, and gives the command lines."""
-    for name, text in [("deep.json", DEEP), ("twins.json", TWINS), ("loop.json", LOOP), ("broken.json", "{")]:
+    for name, text in [("deep.json", DEEP), ("twins.json", TWINS), ("loop.json", LOOP), ("line.json", LINE), ("broken.json", "{")]:
         with open(f"{folder}/{name}", "w", encoding="utf-8") as file:
             file.write(text)
     squares, west, east = (f"{TOP}/examples/{it}.json" for it in ("squares", "west", "east"))
     builds = [["build", "--grid", "1,1,0,0", f"a={it}"] for it in (squares, "deep.json", "twins.json", "loop.json", "broken.json")]
     builds += [["build", "--grid", "10,10,0,0", f"d={it}"] for it in (west, east)]
+    builds += [["build", "--grid", "1,1,0,0", "a=line.json"]]
     for number, words in enumerate(builds):
         with open(f"{folder}/{number}.topo.json", "wb") as file:
             file.write(subprocess.run([PROGRAM, *words], cwd=folder, stdout=subprocess.PIPE, stderr=subprocess.DEVNULL).stdout)
-    one, seam, west, east = "0.topo.json", "3.topo.json", "5.topo.json", "6.topo.json"
+    one, seam, west, east, line = "0.topo.json", "3.topo.json", "5.topo.json", "6.topo.json", "7.topo.json"
     queries = [["check", one], ["check", seam], ["feature", "--layer", "a", one], ["feature", "--layer", "no", one],
                ["mesh", one], ["mesh", "--edges", "interior", one], ["mesh", "--layer", "a", "--edges", "exterior", one],
                ["mesh", "--layer", "no", one], ["neighbors", "--layer", "a", one], ["neighbors", "--layer", "no", one],
@@ -44,8 +46,9 @@ def inputs(folder):
                ["info", seam], ["info", "--json", seam]]
     merges = [["merge", west, east], ["merge", "--shape", "halves", west, east, west], ["merge", "--shape", "right", west, east, west],
               ["merge", west, one], ["merge", "broken.json"]]
-    usages = [["--help"], ["--version"], ["merge"], ["merge", "-", "-"], ["build", "--grid", "x", "a=b"], ["check", "nowhere.json"]]
-    return [*builds, *queries, *merges, *usages]
+    removals = [["remove", seam, line], ["remove", one, one], ["remove", west, east], ["remove", west, one], ["remove", one, "broken.json"]]
+    usages = [["--help"], ["--version"], ["merge"], ["merge", "-", "-"], ["remove", "-", "-"], ["build", "--grid", "x", "a=b"], ["check", "nowhere.json"]]
+    return [*builds, *queries, *merges, *removals, *usages]
 
 
 class Runs:
