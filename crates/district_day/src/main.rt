@@ -22,7 +22,9 @@ const LAYER: &str = "districts";
 fn read_districts(rt: &HostRuntime, grid: &Grid, name: &str) -> Option<FeatureMap> {
     let bytes = fs::read(rt, name).ok()?;
     let districts = geojson_io::read(rt.alloc(), bytes.as_slice(), grid).ok()?;
-    FeatureMap::new(rt.alloc()).with_features(LAYER, districts).ok()
+    FeatureMap::new(rt.alloc())
+        .with_features(LAYER, districts)
+        .ok()
 }
 
 /// The edit that adds the districts of a file.
@@ -60,11 +62,15 @@ fn edit_map(rt: &HostRuntime) -> Option<()> {
     session.apply(&removing(rt, &grid, "mill_hill.json")?).ok()?;
     print_map("without Mill Hill", &session, &mut out)?;
 
-    session.apply(&joining(rt, &grid, "mill_hill_again.json")?).ok()?;
+    session
+        .apply(&joining(rt, &grid, "mill_hill_again.json")?)
+        .ok()?;
     print_map("with its new version", &session, &mut out)?;
     write_borders(rt.alloc(), session.topology(), LAYER, &mut out)?;
 
-    session.apply(&removing(rt, &grid, "mill_hill_again.json")?).ok()?;
+    session
+        .apply(&removing(rt, &grid, "mill_hill_again.json")?)
+        .ok()?;
     print_map("the last join undone", &session, &mut out)
 }
 

@@ -1,11 +1,8 @@
 -- Lists of one edit, and joins that are undone.
-use Rattle.std.proofs.Common.{◌≡◌, ◌∙◌, [], ◌∷◌, refl, sym, ap, subst}
-use Rattle.shapes.specs.Maps.{Layers}
+use Rattle.std.proofs.Common.{◌∙◌, refl, sym, ap, subst}
 use Rattle.shapes.specs.Union.{union}
-use Rattle.topo.specs.OfMap.{IsOf}
-use Rattle.topo.specs.Parts.{TopologyParts}
 use Rattle.refine.specs.EditLaws.{JoinsAreUndoneByEdits, OneEditIsAList}
-use Rattle.refine.specs.Edits.{AreEditedTo, IsEditedTo}
+use Rattle.refine.specs.Edits.{IsEditedTo}
 use Rattle.refine.specs.Less.{less}
 use Rattle.refine.specs.OneMap.{one_map}
 use Rattle.refine.proofs.JoinUndone.{join_undone}
@@ -14,5 +11,5 @@ pub one_edit : OneEditIsAList
 one_edit m e n = (λ (k, done, is). subst (IsEditedTo m e) (sym is) done, λ done. (n, done, refl))
 
 pub undone : JoinsAreUndoneByEdits
-undone m n k t apart of_n (l, (o, of_o, is), after, removed, same) =
+undone m n k t apart of_n (l, (o, of_o, is), (after, removed, same)) =
     same ∙ removed ∙ ap (λ x. less x n) (is ∙ ap (union m) (one_map t o n of_o of_n)) ∙ join_undone m n apart

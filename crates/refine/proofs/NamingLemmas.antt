@@ -1,7 +1,6 @@
 -- The marks of the places that a plan names, and the union of what they keep.
 use Rattle.std.proofs.Common.{◌≡◌, ℕ, zero, suc, ◌<◌, Bool, true, false, List, [], ◌∷◌, ◌++◌, length, get_or, set, replicate, Some, None, refl, sym, ◌∙◌, ap, arith, ◌⊎◌, inl, inr, ◌≢◌, eqb}
 use Rattle.std.specs.Prelude.{map as map_list, slice_get}
-use Rattle.std.specs.List.{flat_map}
 use Rattle.std.proofs.lemmas.Bool.Decides.{eqb_tells}
 use Rattle.std.proofs.lemmas.List.{length-set, get_or-set_same, get_or-set_other, get_or-replicate, length-replicate}
 use Rattle.std.proofs.lemmas.Option.{slice_get_within}

@@ -1,7 +1,6 @@
 -- Plans' leaves, and unions over them.
 use Rattle.std.proofs.Common.{◌≡◌, ℕ, ℤ, ◌<◌, Bool, true, false, cond, List, [], ◌∷◌, ◌++◌, length, get_or, Some, None, refl, sym, ◌∙◌, ap, arith}
 use Rattle.std.specs.Prelude.{All, map as map_list, nat_lt, slice_get, unwrap_or, option_map}
-use Rattle.std.specs.Option.{option_or}
 use Rattle.std.proofs.Common.{Result, Ok, Err, IfOk}
 use Rattle.std.proofs.lemmas.Option.{slice_get-map, slice_get-get_or}
 use Rattle.std.proofs.lemmas.List.{map-append}
@@ -14,7 +13,7 @@ use Rattle.refine.specs.Laws.{union_commutes, union_associates, union_empty}
 use Rattle.refine.specs.Meaning.{same_grid, same_scaling}
 use Rattle.plans.specs.declared.plan.Plan.{Plan}
 use Rattle.plans.specs.declared.plan.Plan.TheVariants.{Leaf, Node'}
-use Rattle.plans.specs.Leaves.{first_outside, HasPlaces}
+use Rattle.plans.specs.Leaves.{HasPlaces}
 use Rattle.refine.specs.Plans.{union_all, union_at, off_grid, first_other}
 use Rattle.std.specs.Prelude.{not, ◌&&◌}
 use Rattle.std.specs.List.{position_or_len}

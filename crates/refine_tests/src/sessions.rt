@@ -8,9 +8,11 @@ use std::process::Abort;
 use std::test::Fail;
 use topo::Topology;
 
-const NO_LAYERS: &str = r#"{"arcs":[],"objects":{},"transform":{"scale":[1,1],"translate":[0,0]},"type":"Topology"}"#;
+const NO_LAYERS: &str =
+    r#"{"arcs":[],"objects":{},"transform":{"scale":[1,1],"translate":[0,0]},"type":"Topology"}"#;
 
-const ON_SCALE_TWO: &str = r#"{"arcs":[],"objects":{},"transform":{"scale":[2,2],"translate":[0,0]},"type":"Topology"}"#;
+const ON_SCALE_TWO: &str =
+    r#"{"arcs":[],"objects":{},"transform":{"scale":[2,2],"translate":[0,0]},"type":"Topology"}"#;
 
 fn start(alloc: Global) -> Result<Session, Fail> {
     let grid = Grid::new(1, 1, 0, 0).ok_or("a grid")?;
@@ -34,7 +36,10 @@ fn assert_text(
     session: &Session,
     expected: &str,
 ) -> Result<(), Fail> {
-    assert!(rt; session.text()?.as_slice() == expected.as_bytes(), "{expected}");
+    assert!(rt;
+        session.text()?.as_slice() == expected.as_bytes(),
+        "{expected}"
+    );
     let text = topo_io::text_of(alloc, session.topology())?;
     assert!(rt; text.as_slice() == expected.as_bytes(), "{expected}");
     Ok(())
