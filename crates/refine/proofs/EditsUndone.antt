@@ -14,5 +14,5 @@ pub one_edit : OneEditIsAList
 one_edit m e n = (λ (k, done, is). subst (IsEditedTo m e) (sym is) done, λ done. (n, done, refl))
 
 pub undone : JoinsAreUndoneByEdits
-undone m n k t apart of_n (l, (o, of_o, is), after, removed, same) =
+undone m n k t apart of_n (l, (o, of_o, is), (after, removed, same)) =
     same ∙ removed ∙ ap (λ x. less x n) (is ∙ ap (union m) (one_map t o n of_o of_n)) ∙ join_undone m n apart

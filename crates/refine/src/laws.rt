@@ -64,14 +64,12 @@ pub fn joins_are_undone()
 {}
 
 /// One edit is the list of it alone: `Session::apply` does what `Session::apply_all` does with such a list.
-#[tactic(auto, using(crate::proofs::EditsUndone::one_edit))]
 pub fn one_edit_is_a_list()
     ensures { OneEditIsAList }
 {}
 
 /// What is joined in a session, and then removed, leaves the map that was there before, where none of
 /// its features was there and no layer was new; so the text is the same, byte by byte.
-#[tactic(auto, using(crate::proofs::EditsUndone::undone))]
 pub fn joins_are_undone_by_edits()
     ensures { JoinsAreUndoneByEdits }
 {}
