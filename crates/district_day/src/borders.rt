@@ -1,9 +1,8 @@
-//! Which arcs neighbours share.
+//! The borders of neighbours, as a map maker reads them.
 
 use chains::table::ArcRef;
-use itoa::Buffer;
 use query::neighbors;
-use sinks::{Sink, put};
+use serde_json::Value;
 use std::alloc::Global;
 use std::collections::BTreeSet;
 use topo::{Body, Geom, Topology};
@@ -16,9 +15,9 @@ fn add_arcs(used: &mut BTreeSet<usize>, ring: &[ArcRef]) -> Option<()> {
 }
 
 /// The arcs that a district's rings use, by their numbers in the table.
-fn arcs_used(alloc: Global, geometry: &Geom) -> Option<BTreeSet<usize>> {
+fn arcs_used(alloc: Global, district: &Geom) -> Option<BTreeSet<usize>> {
     let mut used = BTreeSet::new(alloc);
-    if let Body::Polygon(rings) = &geometry.body {
+    if let Body::Polygon(rings) = &district.body {
         for ring in rings.as_slice() {
             add_arcs(&mut used, ring.as_slice())?;
         }
@@ -26,45 +25,39 @@ fn arcs_used(alloc: Global, geometry: &Geom) -> Option<BTreeSet<usize>> {
     Some(used)
 }
 
-fn write_number<W: Sink>(before: &str, number: usize, out: &mut W) -> Option<()> {
-    let mut buffer = Buffer::new();
-    put(out, before.as_bytes()).ok()?;
-    put(out, buffer.format(number).as_bytes()).ok()
-}
-
-/// Prints the arcs of the border of two districts.
-fn write_border<W: Sink>(
-    alloc: Global,
-    district: (usize, &Geom),
-    other: (usize, &Geom),
-    out: &mut W,
-) -> Option<()> {
-    let used = arcs_used(alloc, district.1)?;
-    write_number("districts ", district.0, out)?;
-    write_number(" and ", other.0, out)?;
-    put(out, b" share the arcs").ok()?;
-    for arc in arcs_used(alloc, other.1)?.iter() {
+/// The arcs that two districts share, ascending.
+fn border(alloc: Global, district: &Geom, other: &Geom) -> Option<Vec<usize>> {
+    let used = arcs_used(alloc, district)?;
+    let mut shared = Vec::new(alloc);
+    for arc in arcs_used(alloc, other)?.iter() {
         if used.contains(arc) {
-            write_number(" ", *arc, out)?;
+            shared.push(*arc).ok()?;
         }
     }
-    put(out, b"\n").ok()
+    Some(shared)
 }
 
-/// Prints a line for each two neighbours of a layer: their places, and the arcs of their border.
-pub fn write_borders<W: Sink>(
-    alloc: Global,
-    topology: &Topology,
-    layer: &str,
-    out: &mut W,
-) -> Option<()> {
-    let geometries = topology.geometries(layer)?;
-    let lists = neighbors(alloc, topology, layer).ok()?;
+/// A district's name, which its properties have.
+fn name_of(alloc: Global, district: &Geom) -> Option<String> {
+    let properties = Value::from_str(alloc, district.props.text()).ok()?;
+    String::from_str(alloc, properties.get("name")?.as_str()?).ok()
+}
+
+fn print_border(rt: &HostRuntime, district: &Geom, other: &Geom) -> Option<()> {
+    let name = name_of(rt.alloc(), district)?;
+    let other_name = name_of(rt.alloc(), other)?;
+    let arcs = border(rt.alloc(), district, other)?;
+    println!(rt; "{name} and {other_name} share the arcs {arcs:?}").ok()
+}
+
+/// Prints a line for each two neighbours of a layer: their names, and the arcs of their border.
+pub fn print_borders(rt: &HostRuntime, topology: &Topology, layer: &str) -> Option<()> {
+    let districts = topology.geometries(layer)?;
+    let lists = neighbors(rt.alloc(), topology, layer).ok()?;
     for (place, others) in lists.iter().enumerate() {
         for other in others {
             if place < *other {
-                let district = (place, geometries.get(place)?);
-                write_border(alloc, district, (*other, geometries.get(*other)?), out)?;
+                print_border(rt, districts.get(place)?, districts.get(*other)?)?;
             }
         }
     }

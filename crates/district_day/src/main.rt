@@ -1,16 +1,16 @@
 //! A district's day: one map is edited in a session, as an editor would over a long day.
 //!
 //! Three districts are joined. Mill Hill is then taken out, and its new version is joined. The
-//! program prints which arcs neighbours share, and undoes the last join.
+//! program prints the map after each step, and which arcs neighbours share. At the end the last join
+//! is undone, and the text is again that of the map before it.
 #![tactic(auto)]
 
 mod borders;
 
-use borders::write_borders;
+use borders::print_borders;
 use grid::Grid;
 use refine::{Edit, Session};
 use shapes::FeatureMap;
-use sinks::{Sink, Tap, put};
 use std::fs;
 use std::process::ExitCode;
 use topo::Topology;
@@ -40,38 +40,35 @@ fn removing(rt: &HostRuntime, grid: &Grid, name: &str) -> Option<Edit> {
 }
 
 /// Prints a heading and the session's text.
-fn print_map<W: Sink>(heading: &str, session: &Session, out: &mut W) -> Option<()> {
-    let text = session.text().ok()?;
-    put(out, heading.as_bytes()).ok()?;
-    put(out, b":\n").ok()?;
-    put(out, text.as_slice()).ok()?;
-    put(out, b"\n").ok()
+fn print_map(rt: &HostRuntime, heading: &str, session: &Session) -> Option<()> {
+    let text = String::from_utf8(session.text().ok()?).ok()?;
+    println!(rt; "{heading}:\n{text}").ok()
 }
 
 /// The day, from the first join to the one that is undone.
 fn edit_map(rt: &HostRuntime) -> Option<()> {
     let grid = Grid::new(1, 1, 0, 0)?;
-    let mut out = Tap::new(rt.stdout());
     let mut session = Session::start(rt.alloc(), &grid).ok()?;
 
     session.apply(&joining(rt, &grid, "harbour.json")?).ok()?;
     session.apply(&joining(rt, &grid, "old_town.json")?).ok()?;
     session.apply(&joining(rt, &grid, "mill_hill.json")?).ok()?;
-    print_map("three districts", &session, &mut out)?;
+    print_map(rt, "three districts", &session)?;
+    print_borders(rt, session.topology(), LAYER)?;
 
     session.apply(&removing(rt, &grid, "mill_hill.json")?).ok()?;
-    print_map("without Mill Hill", &session, &mut out)?;
+    print_map(rt, "without Mill Hill", &session)?;
 
     session
         .apply(&joining(rt, &grid, "mill_hill_again.json")?)
         .ok()?;
-    print_map("with its new version", &session, &mut out)?;
-    write_borders(rt.alloc(), session.topology(), LAYER, &mut out)?;
+    print_map(rt, "with its new version", &session)?;
+    print_borders(rt, session.topology(), LAYER)?;
 
     session
         .apply(&removing(rt, &grid, "mill_hill_again.json")?)
         .ok()?;
-    print_map("the last join undone", &session, &mut out)
+    print_map(rt, "the last join undone", &session)
 }
 
 fn main(rt: HostRuntime) -> ExitCode {
