@@ -27,16 +27,17 @@ fn read_districts(rt: &HostRuntime, grid: &Grid, name: &str) -> Option<FeatureMa
         .ok()
 }
 
-/// The edit that adds the districts of a file.
-fn joining(rt: &HostRuntime, grid: &Grid, name: &str) -> Option<Edit> {
+/// Adds the districts of a file.
+fn join(rt: &HostRuntime, grid: &Grid, session: &mut Session, name: &str) -> Option<()> {
     let districts = read_districts(rt, grid, name)?;
     let topology = Topology::build(rt.alloc(), grid, &districts).ok()?;
-    Some(Edit::Join(topology))
+    session.apply(&Edit::Join(topology)).ok()
 }
 
-/// The edit that takes the districts of a file away.
-fn removing(rt: &HostRuntime, grid: &Grid, name: &str) -> Option<Edit> {
-    Some(Edit::Remove(read_districts(rt, grid, name)?))
+/// Takes the districts of a file away.
+fn remove(rt: &HostRuntime, grid: &Grid, session: &mut Session, name: &str) -> Option<()> {
+    let districts = read_districts(rt, grid, name)?;
+    session.apply(&Edit::Remove(districts)).ok()
 }
 
 /// Prints a heading and the session's text.
@@ -45,30 +46,37 @@ fn print_map(rt: &HostRuntime, heading: &str, session: &Session) -> Option<()> {
     println!(rt; "{heading}:\n{text}").ok()
 }
 
+/// Three districts are joined.
+fn morning(rt: &HostRuntime, grid: &Grid, session: &mut Session) -> Option<()> {
+    join(rt, grid, session, "harbour.json")?;
+    join(rt, grid, session, "old_town.json")?;
+    join(rt, grid, session, "mill_hill.json")?;
+    print_map(rt, "three districts", session)?;
+    print_borders(rt, session.topology(), LAYER)
+}
+
+/// Mill Hill is taken out, and its new version is joined.
+fn afternoon(rt: &HostRuntime, grid: &Grid, session: &mut Session) -> Option<()> {
+    remove(rt, grid, session, "mill_hill.json")?;
+    print_map(rt, "without Mill Hill", session)?;
+    join(rt, grid, session, "mill_hill_again.json")?;
+    print_map(rt, "with its new version", session)?;
+    print_borders(rt, session.topology(), LAYER)
+}
+
+/// The last join is undone.
+fn evening(rt: &HostRuntime, grid: &Grid, session: &mut Session) -> Option<()> {
+    remove(rt, grid, session, "mill_hill_again.json")?;
+    print_map(rt, "the last join undone", session)
+}
+
 /// The day, from the first join to the one that is undone.
 fn edit_map(rt: &HostRuntime) -> Option<()> {
     let grid = Grid::new(1, 1, 0, 0)?;
     let mut session = Session::start(rt.alloc(), &grid).ok()?;
-
-    session.apply(&joining(rt, &grid, "harbour.json")?).ok()?;
-    session.apply(&joining(rt, &grid, "old_town.json")?).ok()?;
-    session.apply(&joining(rt, &grid, "mill_hill.json")?).ok()?;
-    print_map(rt, "three districts", &session)?;
-    print_borders(rt, session.topology(), LAYER)?;
-
-    session.apply(&removing(rt, &grid, "mill_hill.json")?).ok()?;
-    print_map(rt, "without Mill Hill", &session)?;
-
-    session
-        .apply(&joining(rt, &grid, "mill_hill_again.json")?)
-        .ok()?;
-    print_map(rt, "with its new version", &session)?;
-    print_borders(rt, session.topology(), LAYER)?;
-
-    session
-        .apply(&removing(rt, &grid, "mill_hill_again.json")?)
-        .ok()?;
-    print_map(rt, "the last join undone", &session)
+    morning(rt, &grid, &mut session)?;
+    afternoon(rt, &grid, &mut session)?;
+    evening(rt, &grid, &mut session)
 }
 
 fn main(rt: HostRuntime) -> ExitCode {
