@@ -65,11 +65,6 @@ shared_if may loops (Some c) = arc_shared may loops c
 abbrev pub whole : List (List Pos) → List Pos → List Piece
 whole loops c = record { chain = c; reversed = false; free = is_loop loops c } ∷ []
 
--- the same, where there is an arc
-abbrev pub whole_if : List (List Pos) → Option (List Pos) → List Piece
-whole_if loops None = []
-whole_if loops (Some c) = whole loops c
-
 -- an arc that is not marked is its own one piece, where these are the junctions
 abbrev pub StayWhole : List Pos → Arcs → List Bool → Type 0
 StayWhole junctions t marks = (i : ℕ) (c : List Pos) → slice_get t.arcs i ≡ Some c → get_or marks i true ≡ false → arc_pieces junctions t.loops c ≡ whole t.loops c
