@@ -1,16 +1,12 @@
 -- The table of a map's pieces, and the layers built by it, are the parts of the map's topology.
-use Rattle.std.proofs.Common.{◌≡◌, ℕ, List, [], ◌∷◌, ◌++◌, ◌⊎◌, inl, inr, refl, sym, ap, ◌∙◌, subst, T, Bool, true, false, cond, ◌&&◌, Some, Option}
-use Rattle.std.specs.Prelude.{map as map_list, unwrap_or}
+use Rattle.std.proofs.Common.{◌≡◌, ℕ, List, [], ◌∷◌, ◌⊎◌, inl, inr, refl, sym, ap, subst}
+use Rattle.std.specs.Prelude.{map as map_list}
 use Rattle.std.specs.FinMap as map
-use Rattle.std.specs.Ordering.{nat_cmp}
-use Rattle.std.specs.Cmp.Lexicographic.{slice_cmp}
 use Rattle.grid.specs.declared.pos.Pos.{Pos}
 use Rattle.lines.specs.Turned.{position_cmp, list_cmp}
-use Rattle.shapes.specs.Maps.{Layers, Features, layer_entry}
-use Rattle.shapes.specs.Parts.{spelled_text}
+use Rattle.shapes.specs.Maps.{Layers, Features}
 use Rattle.shapes.specs.Sets as set
 use Rattle.shapes.specs.declared.feature.Feature.{Feature}
-use Rattle.shapes.specs.declared.layer.FeatureLayer.{FeatureLayer}
 use Rattle.shapes.specs.declared.shape.Shape as shapes
 use Rattle.shapes.specs.declared.shape.Shape.TheVariants as of
 use Rattle.lines.specs.declared.line.Line as the_line
@@ -20,7 +16,7 @@ use Rattle.chains.specs.Index.{IsIndexOf}
 use Rattle.chains.specs.Pieces.{chain_of, line_pieces, ring_pieces}
 use Rattle.chains.specs.Seen as seen_by
 use Rattle.chains.specs.Seen.{line_of, ring_of, form_of, seen, geometry_of}
-use Rattle.chains.specs.Table.{located, ArePiecesOfMap, IsTableOf}
+use Rattle.chains.specs.Table.{ArePiecesOfMap, IsTableOf}
 use Rattle.chains.specs.declared.cutting.Piece.{Piece}
 use Rattle.chains.proofs.TableOfMap.{are_pieces, line_list, ring_list}
 use Rattle.theory.specs.ArcNumbers.{ArcRef, StitchTo}
@@ -31,11 +27,10 @@ use Rattle.theory.specs.Topology as topology
 use Rattle.theory.specs.Topology.{Shape, Item, IsFormOf, IsGeometryOf, IsLayerOf, IsRingList, forms_of, lines_in, rings_in}
 use Rattle.theory.proofs.Lists.{Has-append, Has-append_left, Has-append_right}
 use Rattle.theory.proofs.ListsOfLists.{Has-gathered, gathered_from}
-use Rattle.topo.specs.Building.{entry_built, form_pieces, line_used, ring_used, body_built, geometry_built, layer_built, parts_entry}
+use Rattle.topo.specs.Building.{entry_built, form_pieces, line_used, ring_used, body_built, geometry_built, parts_entry}
 use Rattle.topo.specs.OfMap.{ArePartsOf, body_of, item_of, layer_of}
 use Rattle.topo.specs.Parts.{LayerParts}
 use Rattle.topo.proofs.Sound.{are_sound}
-use Rattle.shapes.proofs.Entries.{at_entry}
 
 module _ {A : Type 0} (B : A → List Pos) (u : A → List ArcRef) (R : List Pos → List ArcRef → Type 0) where
   pairs : (xs : List A) → ((x : A) → Has x xs → R (B x) (u x)) → Pairwise R (map_list B xs) (map_list u xs)
@@ -142,12 +137,6 @@ module _ (m : Layers) (i : List Pos) (index : IsIndexOf i (geometry_of m)) (ps :
           },
           layers_good es ls (λ k q. h k (inr q)) rest,
         )
-
--- what is built of layers, by their entries
-pub entries_built : (i : List Pos) (arcs : List (List Pos)) (ls : List FeatureLayer) →
-    map_list parts_entry (map_list (layer_built i arcs) ls) ≡ map_list (entry_built i arcs) (map_list layer_entry ls)
-entries_built i arcs [] = refl
-entries_built i arcs (l ∷ ls) = ap (λ es. entry_built i arcs (layer_entry l) ∷ es) (entries_built i arcs ls)
 
 pub built_parts : (m : Layers) (i : List Pos) (ps : List Piece) (t : Arcs) (ls : List LayerParts) →
     IsIndexOf i (geometry_of m) →

@@ -6,6 +6,7 @@ pub mod OfParts
 pub mod ArcsLeft
 pub mod Gathered
 pub mod BuiltParts
+pub mod TakenInOrder
 pub mod TopologyLaws
 pub mod LayersNamed
 pub mod Pairs

@@ -1,5 +1,5 @@
 -- What is built of a map: its pieces, and its layers by the arcs of a table. The list `i` holds the junctions.
-use Rattle.std.specs.Prelude.{ℕ, List, [], ◌++◌, map as map_list}
+use Rattle.std.specs.Prelude.{ℕ, List, [], ◌∷◌, ◌++◌, length, map as map_list}
 use Rattle.grid.specs.declared.pos.Pos.{Pos}
 use Rattle.lines.specs.declared.line.Line as the_line
 use Rattle.lines.specs.declared.ring.Ring as the_ring
@@ -33,6 +33,24 @@ feature_pieces i f = form_pieces i (form_of f.shape)
 abbrev pub layer_pieces : List Pos → FeatureLayer → List Piece
 layer_pieces i l = gathered (feature_pieces i) (set.items (set_of l.features))
 
+-- how many pieces a line has, and a ring, as a list of one number
+abbrev pub line_count : List Pos → List Pos → List ℕ
+line_count i l = length (line_pieces i l) ∷ []
+
+abbrev pub ring_count : List Pos → List Pos → List ℕ
+ring_count i r = length (ring_pieces i r) ∷ []
+
+-- how many pieces each line and each ring of a form has
+abbrev pub form_counts : List Pos → Shape Pos → List ℕ
+form_counts i f = gathered (line_count i) (lines_in f) ++ gathered (ring_count i) (rings_in f)
+
+abbrev pub feature_counts : List Pos → Feature → List ℕ
+feature_counts i f = form_counts i (form_of f.shape)
+
+-- how many pieces each line and each ring of a layer has
+abbrev pub layer_counts : List Pos → FeatureLayer → List ℕ
+layer_counts i l = gathered (feature_counts i) (set.items (set_of l.features))
+
 -- the used arcs of a line, and of a ring
 abbrev pub line_used : List Pos → List (List Pos) → the_line.Line → List ArcRef
 line_used i arcs l = map_list (located arcs) (line_pieces i (line_of l))
@@ -51,9 +69,6 @@ body_built i arcs (of.MultiPolygon ps) = to.MultiPolygon (map_list (map_list (ri
 
 abbrev pub geometry_built : List Pos → List (List Pos) → Feature → Geom
 geometry_built i arcs f = record { id = f.id; props = f.props; body = body_built i arcs f.shape }
-
-abbrev pub layer_built : List Pos → List (List Pos) → FeatureLayer → LayerParts
-layer_built i arcs l = record { name = l.name; geometries = map_list (geometry_built i arcs) (set.items (set_of l.features)) }
 
 -- an entry of a map, its features as geometries
 abbrev pub entry_built : List Pos → List (List Pos) → List ℕ × Features → List ℕ × List Geom

@@ -6,5 +6,7 @@ pub mod OfMap
 pub mod Points
 pub mod Inside
 pub mod Building
+pub mod Cuts
+pub mod Taken
 pub mod Features
 pub mod ItsMap

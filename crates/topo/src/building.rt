@@ -1,29 +1,22 @@
-//! The topology of a map: all pieces are cut and put into the table of arcs, and each line and ring
-//! becomes the list of the arcs that its pieces are.
-ghost use Rattle.std.specs.Prelude.{◌≡◌, ◌++◌, ◌<◌, ◌^◌, IfOk, OnOk, length, map as map_list};
+//! The topology of a map: its lines and rings are cut, all pieces are put into the table of arcs, and
+//! each line and ring becomes the list of the arcs that its pieces are.
+ghost use Rattle.std.specs.Prelude.{◌≡◌, ◌<◌, ◌^◌, List, IfOk, OnOk, drop, length, map as map_list};
 ghost use Rattle.std.specs.FinMap.{entries};
-ghost use Rattle.grid.specs.declared.pos.Pos.{Pos};
-ghost use Rattle.lines.specs.Turned.{position_cmp};
 ghost use Rattle.shapes.specs.Maps.{set_of};
 ghost use Rattle.shapes.specs.Sets as set;
-ghost use Rattle.chains.specs.Pieces.{line_pieces, ring_pieces};
-ghost use Rattle.chains.specs.Seen.{line_of, ring_of, form_of, geometry_of, seen};
+ghost use Rattle.chains.specs.Seen.{geometry_of};
 ghost use Rattle.theory.specs.Arcs.{EachSegmentOnce};
-ghost use Rattle.theory.specs.Lists.{gathered, joined};
-ghost use Rattle.theory.specs.Topology.{forms_of};
-ghost use Rattle.topo.specs.Building.{entry_built, form_pieces, feature_pieces, line_used, ring_used, body_built, geometry_built, layer_built, parts_entry};
+ghost use Rattle.topo.specs.Building.{parts_entry};
 ghost use Rattle.topo.specs.OfMap.{ArePartsOf, IsTopology, seen_parts, the_topology, IsOf};
+ghost use Rattle.topo.specs.Taken.{first_list, taken, polygons_taken, polygons_left, body_taken, shape_left, geometry_taken, geometries_taken, features_left, layer_taken, entries_taken};
 
+use crate::cuts::Cuts;
 use crate::geom::{Body, Geom, copy_positions};
 use crate::topology::{Layer, Topology};
-use chains::cutting::{Piece, cut_line, cut_ring};
 use chains::table::{ArcRef, ArcTable};
-use chains::used_arcs::refs_of;
-use chains::visits::VisitIndex;
 use faults::OutOfMemory;
 use grid::Grid;
 use lines::items::Items;
-use lines::line::Line;
 use lines::ring::Ring;
 use shapes::feature::Feature;
 use shapes::feature_map::FeatureMap;
@@ -31,197 +24,97 @@ use shapes::layer::FeatureLayer;
 use shapes::shape::Shape;
 use std::alloc::Global;
 use std::collections::BTreeSet;
+use std::marker::Model;
 
-fn add_line(
-    alloc: Global,
-    pieces: &mut Vec<Piece>,
-    index: &VisitIndex,
-    line: &Line,
-) -> Result<(), OutOfMemory>
-    ensures { OnOk result (pieces.new.items ≡ pieces.old.items ++ line_pieces index.now (line_of line.now)) }
-{
-    let mut cut = cut_line(alloc, index, line)?;
-    pieces.append(&mut cut)?;
-    Ok(())
+/// The lists of used arcs of the lines and rings of a map that are not taken yet, in the map's order:
+/// the used arcs of all, and how many each has.
+#[derive(Drop)]
+struct UsedLists<'a> {
+    refs: &'a [ArcRef],
+    counts: &'a [usize],
 }
 
-fn add_ring(
-    alloc: Global,
-    pieces: &mut Vec<Piece>,
-    index: &VisitIndex,
-    ring: &Ring,
-) -> Result<(), OutOfMemory>
-    ensures { OnOk result (pieces.new.items ≡ pieces.old.items ++ ring_pieces index.now (ring_of ring.now)) }
-{
-    let mut cut = cut_ring(alloc, index, ring)?;
-    pieces.append(&mut cut)?;
-    Ok(())
+impl<'a> Model for UsedLists<'a> {
+    ghost use Rattle.std.specs.Prelude.{List};
+    ghost use Rattle.theory.specs.ArcNumbers.{ArcRef};
+    ghost use Rattle.topo.specs.Taken.{parted};
+
+    ghost Value = { List (List ArcRef) };
+
+    ghost view = { λ a. parted a.counts.now a.refs.now };
 }
 
-fn add_lines(
-    alloc: Global,
-    pieces: &mut Vec<Piece>,
-    index: &VisitIndex,
-    lines: &[Line],
-) -> Result<(), OutOfMemory>
-    ensures { OnOk result (pieces.new.items ≡ pieces.old.items ++ gathered (line_pieces index.now) (map_list line_of lines.now)) }
-{
-    for line in lines {
-        add_line(alloc, pieces, index, line)?;
-    }
-    Ok(())
-}
-
-fn add_rings(
-    alloc: Global,
-    pieces: &mut Vec<Piece>,
-    index: &VisitIndex,
-    rings: &[Ring],
-) -> Result<(), OutOfMemory>
-    ensures { OnOk result (pieces.new.items ≡ pieces.old.items ++ gathered (ring_pieces index.now) (map_list ring_of rings.now)) }
-{
-    for ring in rings {
-        add_ring(alloc, pieces, index, ring)?;
-    }
-    Ok(())
-}
-
-#[tactic(auto, using(crate::proofs::Gathered::gathered_join))]
-fn add_polygons(
-    alloc: Global,
-    pieces: &mut Vec<Piece>,
-    index: &VisitIndex,
-    polygons: &[Items<Ring>],
-) -> Result<(), OutOfMemory>
-    ensures { OnOk result (pieces.new.items ≡ pieces.old.items ++ gathered (ring_pieces index.now) (joined (map_list (map_list ring_of) polygons.now))) }
-{
-    for rings in polygons {
-        add_rings(alloc, pieces, index, rings.as_slice())?;
-    }
-    Ok(())
-}
-
-fn add_shape(
-    alloc: Global,
-    pieces: &mut Vec<Piece>,
-    index: &VisitIndex,
-    shape: &Shape,
-) -> Result<(), OutOfMemory>
-    ensures { OnOk result (pieces.new.items ≡ pieces.old.items ++ form_pieces index.now (form_of shape.now)) }
-{
-    match shape {
-        Shape::Null | Shape::Point(_) | Shape::MultiPoint(_) => Ok(()),
-        Shape::Line(line) => add_line(alloc, pieces, index, line),
-        Shape::MultiLine(lines) => add_lines(alloc, pieces, index, lines.as_slice()),
-        Shape::Polygon(rings) => add_rings(alloc, pieces, index, rings.as_slice()),
-        Shape::MultiPolygon(polygons) => add_polygons(alloc, pieces, index, polygons.as_slice()),
-    }
-}
-
-fn add_features(
-    alloc: Global,
-    pieces: &mut Vec<Piece>,
-    index: &VisitIndex,
-    features: &BTreeSet<Feature>,
-) -> Result<(), OutOfMemory>
-    ensures { OnOk result (pieces.new.items ≡ pieces.old.items ++ gathered (feature_pieces index.now) (set.items (set_of features.now))) }
-{
-    for feature in features.iter() {
-        add_shape(alloc, pieces, index, &feature.shape)?;
-    }
-    Ok(())
-}
-
-/// The pieces of all lines and rings of the map, in its order.
-fn all_pieces(
-    alloc: Global,
-    index: &VisitIndex,
-    map: &FeatureMap,
-) -> Result<Vec<Piece>, OutOfMemory>
-    ensures { IfOk result (λ v. v.items ≡ gathered (form_pieces index.now) (forms_of (seen map.now))) }
-{
-    let mut pieces = Vec::new(alloc);
-    for layer in map.layers() {
-        add_features(alloc, &mut pieces, index, &layer.features)?;
-    }
-    Ok(pieces)
-}
-
-/// The arcs of a map with the index of its visits, by which lines and rings become lists of arcs.
-#[derive(Clone, Copy)]
-struct ArcLists<'a> {
-    index: &'a VisitIndex,
-    table: &'a ArcTable,
-}
-
-impl ArcLists<'_> {
-    fn line(&self, alloc: Global, line: &Line) -> Result<Items<ArcRef>, OutOfMemory>
-        ensures { IfOk result (λ v. v ≡ line_used self.now.index.now self.now.table.now.arcs line.now) }
+impl<'a> UsedLists<'a> {
+    /// Takes the list of the next line or ring.
+    fn next_list(&mut self, alloc: Global) -> Result<Items<ArcRef>, OutOfMemory>
+        ensures list { IfOk result (λ v. v ≡ first_list self.old) }
+        ensures left { OnOk result (self.new ≡ drop 1 self.old) }
     {
-        let pieces = cut_line(alloc, self.index, line)?;
-        refs_of(alloc, self.table, &pieces)
+        let Some((count, counts)) = self.counts.split_first() else {
+            return Ok(Items::from_vec(Vec::new(alloc)));
+        };
+        let (these, others) = self.refs.split_at((*count).min(self.refs.len()));
+        let list = these.to_vec(alloc)?;
+        self.refs = others;
+        self.counts = counts;
+        Ok(Items::from_vec(list))
     }
 
-    fn ring(&self, alloc: Global, ring: &Ring) -> Result<Items<ArcRef>, OutOfMemory>
-        ensures { IfOk result (λ v. v ≡ ring_used self.now.index.now self.now.table.now.arcs ring.now) }
+    /// Takes the lists of so many lines or rings.
+    fn next_lists(
+        &mut self,
+        alloc: Global,
+        count: usize,
+    ) -> Result<Items<Items<ArcRef>>, OutOfMemory>
+        ensures lists { IfOk result (λ v. v ≡ taken count self.old) }
+        ensures left { OnOk result (self.new ≡ drop count self.old) }
     {
-        let pieces = cut_ring(alloc, self.index, ring)?;
-        refs_of(alloc, self.table, &pieces)
-    }
-
-    fn lines(&self, alloc: Global, lines: &[Line]) -> Result<Items<Items<ArcRef>>, OutOfMemory>
-        ensures { IfOk result (λ v. v ≡ map_list (line_used self.now.index.now self.now.table.now.arcs) lines.now) }
-    {
-        let mut lists = Vec::with_capacity(alloc, lines.len())?;
-        for line in lines {
-            lists.push(self.line(alloc, line)?)?;
-        }
-        Ok(Items::from_vec(lists))
-    }
-
-    fn rings(&self, alloc: Global, rings: &[Ring]) -> Result<Items<Items<ArcRef>>, OutOfMemory>
-        ensures { IfOk result (λ v. v ≡ map_list (ring_used self.now.index.now self.now.table.now.arcs) rings.now) }
-    {
-        let mut lists = Vec::with_capacity(alloc, rings.len())?;
-        for ring in rings {
-            lists.push(self.ring(alloc, ring)?)?;
+        let mut lists = Vec::with_capacity(alloc, count)?;
+        for _ in 0..count {
+            lists.push(self.next_list(alloc)?)?;
         }
         Ok(Items::from_vec(lists))
     }
 
     fn polygons(
-        &self,
+        &mut self,
         alloc: Global,
         polygons: &[Items<Ring>],
     ) -> Result<Items<Items<Items<ArcRef>>>, OutOfMemory>
-        ensures { IfOk result (λ v. v ≡ map_list (map_list (ring_used self.now.index.now self.now.table.now.arcs)) polygons.now) }
+        ensures lists { IfOk result (λ v. v ≡ polygons_taken polygons.now self.old) }
+        ensures left { OnOk result (self.new ≡ polygons_left polygons.now self.old) }
     {
         let mut lists = Vec::with_capacity(alloc, polygons.len())?;
         for rings in polygons {
-            lists.push(self.rings(alloc, rings.as_slice())?)?;
+            lists.push(self.next_lists(alloc, rings.as_slice().len())?)?;
         }
         Ok(Items::from_vec(lists))
     }
 
-    fn body(&self, alloc: Global, shape: &Shape) -> Result<Body, OutOfMemory>
-        ensures { IfOk result (λ b. b ≡ body_built self.now.index.now self.now.table.now.arcs shape.now) }
+    fn body(&mut self, alloc: Global, shape: &Shape) -> Result<Body, OutOfMemory>
+        ensures body { IfOk result (λ b. b ≡ body_taken shape.now self.old) }
+        ensures left { OnOk result (self.new ≡ shape_left shape.now self.old) }
     {
         match shape {
             Shape::Null => Ok(Body::Null),
             Shape::Point(p) => Ok(Body::Point(*p)),
             Shape::MultiPoint(ps) => Ok(Body::MultiPoint(copy_positions(alloc, ps.as_slice())?)),
-            Shape::Line(line) => Ok(Body::Line(self.line(alloc, line)?)),
-            Shape::MultiLine(lines) => Ok(Body::MultiLine(self.lines(alloc, lines.as_slice())?)),
-            Shape::Polygon(rings) => Ok(Body::Polygon(self.rings(alloc, rings.as_slice())?)),
-            Shape::MultiPolygon(polygons) => Ok(Body::MultiPolygon(self.polygons(
-                alloc,
-                polygons.as_slice(),
-            )?)),
+            Shape::Line(_) => Ok(Body::Line(self.next_list(alloc)?)),
+            Shape::MultiLine(lines) => {
+                Ok(Body::MultiLine(self.next_lists(alloc, lines.as_slice().len())?))
+            }
+            Shape::Polygon(rings) => {
+                Ok(Body::Polygon(self.next_lists(alloc, rings.as_slice().len())?))
+            }
+            Shape::MultiPolygon(polygons) => {
+                Ok(Body::MultiPolygon(self.polygons(alloc, polygons.as_slice())?))
+            }
         }
     }
 
-    fn geometry(&self, alloc: Global, feature: &Feature) -> Result<Geom, OutOfMemory>
-        ensures { IfOk result (λ g. g ≡ geometry_built self.now.index.now self.now.table.now.arcs feature.now) }
+    fn geometry(&mut self, alloc: Global, feature: &Feature) -> Result<Geom, OutOfMemory>
+        ensures geometry { IfOk result (λ g. g ≡ geometry_taken feature.now self.old) }
+        ensures left { OnOk result (self.new ≡ shape_left feature.now.shape self.old) }
     {
         let id = feature.id.copy(alloc)?;
         let props = feature.props.copy(alloc)?;
@@ -230,11 +123,12 @@ impl ArcLists<'_> {
     }
 
     fn geometries(
-        &self,
+        &mut self,
         alloc: Global,
         features: &BTreeSet<Feature>,
     ) -> Result<Vec<Geom>, OutOfMemory>
-        ensures { IfOk result (λ v. v.items ≡ map_list (geometry_built self.now.index.now self.now.table.now.arcs) (set.items (set_of features.now))) }
+        ensures geometries { IfOk result (λ v. v.items ≡ geometries_taken (set.items (set_of features.now)) self.old) }
+        ensures left { OnOk result (self.new ≡ features_left (set.items (set_of features.now)) self.old) }
     {
         let mut geometries = Vec::with_capacity(alloc, features.len())?;
         for feature in features.iter() {
@@ -243,16 +137,17 @@ impl ArcLists<'_> {
         Ok(geometries)
     }
 
-    fn layer(&self, alloc: Global, layer: &FeatureLayer) -> Result<Layer, OutOfMemory>
-        ensures { IfOk result (λ l. l ≡ layer_built self.now.index.now self.now.table.now.arcs layer.now) }
+    fn layer(&mut self, alloc: Global, layer: &FeatureLayer) -> Result<Layer, OutOfMemory>
+        ensures layer { IfOk result (λ l. l ≡ layer_taken layer.now self.old) }
+        ensures left { OnOk result (self.new ≡ features_left (set.items (set_of layer.now.features)) self.old) }
     {
         let name = layer.name.copy(alloc)?;
         let geometries = self.geometries(alloc, &layer.features)?;
         Ok(Layer::new(name, geometries))
     }
 
-    fn layers(&self, alloc: Global, map: &FeatureMap) -> Result<Vec<Layer>, OutOfMemory>
-        ensures { IfOk result (λ v. map_list parts_entry v.items ≡ map_list (entry_built self.now.index.now self.now.table.now.arcs) (entries map.now)) }
+    fn layers(&mut self, alloc: Global, map: &FeatureMap) -> Result<Vec<Layer>, OutOfMemory>
+        ensures { IfOk result (λ v. map_list parts_entry v.items ≡ entries_taken (entries map.now) self.old) }
     {
         let mut layers = Vec::new(alloc);
         for layer in map.layers() {
@@ -272,12 +167,11 @@ struct Parts {
 fn parts_of(alloc: Global, map: &FeatureMap) -> Result<Parts, OutOfMemory>
     ensures { IfOk result (λ p. ArePartsOf map.now p.table p.layers.items) }
 {
-    let index = VisitIndex::of(alloc, map)?;
-    let pieces = all_pieces(alloc, &index, map)?;
-    let table = ArcTable::from_pieces(alloc, pieces)?;
-    let lists = ArcLists {
-        index: &index,
-        table: &table,
+    let Cuts { pieces, counts } = Cuts::of(alloc, map)?;
+    let (table, refs) = ArcTable::numbered(alloc, pieces)?;
+    let mut lists = UsedLists {
+        refs: &refs,
+        counts: &counts,
     };
     let layers = lists.layers(alloc, map)?;
     Ok(Parts { table, layers })

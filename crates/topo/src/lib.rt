@@ -4,6 +4,7 @@
 
 mod bounds;
 mod building;
+mod cuts;
 mod expanding;
 pub mod geom;
 pub mod stitching;

@@ -1,0 +1,175 @@
+//! The lines and rings of a map, each cut once: all pieces, and how many each line and ring has.
+ghost use Rattle.std.specs.Prelude.{◌≡◌, ◌++◌, ◌∷◌, [], IfOk, OnOk, length, map as map_list};
+ghost use Rattle.shapes.specs.Maps.{set_of};
+ghost use Rattle.shapes.specs.Sets as set;
+ghost use Rattle.chains.specs.Pieces.{line_pieces, ring_pieces};
+ghost use Rattle.chains.specs.Seen.{line_of, ring_of, form_of, seen};
+ghost use Rattle.theory.specs.Lists.{gathered, joined};
+ghost use Rattle.theory.specs.Topology.{forms_of};
+ghost use Rattle.topo.specs.Building.{form_pieces, feature_pieces, line_count, ring_count, form_counts, feature_counts};
+ghost use Rattle.topo.specs.Cuts.{AreCutsOf};
+
+use chains::cutting::{Piece, cut_line, cut_ring};
+use chains::visits::VisitIndex;
+use faults::OutOfMemory;
+use lines::items::Items;
+use lines::line::Line;
+use lines::ring::Ring;
+use shapes::feature::Feature;
+use shapes::feature_map::FeatureMap;
+use shapes::shape::Shape;
+use std::alloc::{AllocError, Global};
+use std::collections::BTreeSet;
+
+/// The pieces of lines and rings, one after the other, and how many pieces each line and ring has.
+#[derive(Drop)]
+pub(crate) struct Cuts {
+    pub(crate) pieces: Vec<Piece>,
+    pub(crate) counts: Vec<usize>,
+}
+
+impl Cuts {
+    /// Puts the pieces of a line or ring last.
+    fn add(&mut self, cut: Vec<Piece>) -> Result<(), AllocError>
+        ensures pieces { OnOk result (self.new.pieces.items ≡ self.old.pieces.items ++ cut.items) }
+        ensures counts { OnOk result (self.new.counts.items ≡ self.old.counts.items ++ length cut.items ∷ []) }
+    {
+        let mut added = cut;
+        self.counts.push(added.len())?;
+        self.pieces.append(&mut added)?;
+        Ok(())
+    }
+
+    fn add_line(
+        &mut self,
+        alloc: Global,
+        index: &VisitIndex,
+        line: &Line,
+    ) -> Result<(), OutOfMemory>
+        ensures pieces { OnOk result (self.new.pieces.items ≡ self.old.pieces.items ++ line_pieces index.now (line_of line.now)) }
+        ensures counts { OnOk result (self.new.counts.items ≡ self.old.counts.items ++ line_count index.now (line_of line.now)) }
+    {
+        self.add(cut_line(alloc, index, line)?)?;
+        Ok(())
+    }
+
+    fn add_ring(
+        &mut self,
+        alloc: Global,
+        index: &VisitIndex,
+        ring: &Ring,
+    ) -> Result<(), OutOfMemory>
+        ensures pieces { OnOk result (self.new.pieces.items ≡ self.old.pieces.items ++ ring_pieces index.now (ring_of ring.now)) }
+        ensures counts { OnOk result (self.new.counts.items ≡ self.old.counts.items ++ ring_count index.now (ring_of ring.now)) }
+    {
+        self.add(cut_ring(alloc, index, ring)?)?;
+        Ok(())
+    }
+
+    fn add_lines(
+        &mut self,
+        alloc: Global,
+        index: &VisitIndex,
+        lines: &[Line],
+    ) -> Result<(), OutOfMemory>
+        ensures pieces { OnOk result (self.new.pieces.items ≡ self.old.pieces.items ++ gathered (line_pieces index.now) (map_list line_of lines.now)) }
+        ensures counts { OnOk result (self.new.counts.items ≡ self.old.counts.items ++ gathered (line_count index.now) (map_list line_of lines.now)) }
+    {
+        for line in lines {
+            self.add_line(alloc, index, line)?;
+        }
+        Ok(())
+    }
+
+    fn add_rings(
+        &mut self,
+        alloc: Global,
+        index: &VisitIndex,
+        rings: &[Ring],
+    ) -> Result<(), OutOfMemory>
+        ensures pieces { OnOk result (self.new.pieces.items ≡ self.old.pieces.items ++ gathered (ring_pieces index.now) (map_list ring_of rings.now)) }
+        ensures counts { OnOk result (self.new.counts.items ≡ self.old.counts.items ++ gathered (ring_count index.now) (map_list ring_of rings.now)) }
+    {
+        for ring in rings {
+            self.add_ring(alloc, index, ring)?;
+        }
+        Ok(())
+    }
+
+    #[tactic(auto, using(crate::proofs::Gathered::gathered_join))]
+    fn add_polygons(
+        &mut self,
+        alloc: Global,
+        index: &VisitIndex,
+        polygons: &[Items<Ring>],
+    ) -> Result<(), OutOfMemory>
+        ensures pieces { OnOk result (self.new.pieces.items ≡ self.old.pieces.items ++ gathered (ring_pieces index.now) (joined (map_list (map_list ring_of) polygons.now))) }
+        ensures counts { OnOk result (self.new.counts.items ≡ self.old.counts.items ++ gathered (ring_count index.now) (joined (map_list (map_list ring_of) polygons.now))) }
+    {
+        for rings in polygons {
+            self.add_rings(alloc, index, rings.as_slice())?;
+        }
+        Ok(())
+    }
+
+    fn add_shape(
+        &mut self,
+        alloc: Global,
+        index: &VisitIndex,
+        shape: &Shape,
+    ) -> Result<(), OutOfMemory>
+        ensures pieces { OnOk result (self.new.pieces.items ≡ self.old.pieces.items ++ form_pieces index.now (form_of shape.now)) }
+        ensures counts { OnOk result (self.new.counts.items ≡ self.old.counts.items ++ form_counts index.now (form_of shape.now)) }
+    {
+        match shape {
+            Shape::Null | Shape::Point(_) | Shape::MultiPoint(_) => Ok(()),
+            Shape::Line(line) => self.add_line(alloc, index, line),
+            Shape::MultiLine(lines) => self.add_lines(alloc, index, lines.as_slice()),
+            Shape::Polygon(rings) => self.add_rings(alloc, index, rings.as_slice()),
+            Shape::MultiPolygon(polygons) => self.add_polygons(alloc, index, polygons.as_slice()),
+        }
+    }
+
+    fn add_features(
+        &mut self,
+        alloc: Global,
+        index: &VisitIndex,
+        features: &BTreeSet<Feature>,
+    ) -> Result<(), OutOfMemory>
+        ensures pieces { OnOk result (self.new.pieces.items ≡ self.old.pieces.items ++ gathered (feature_pieces index.now) (set.items (set_of features.now))) }
+        ensures counts { OnOk result (self.new.counts.items ≡ self.old.counts.items ++ gathered (feature_counts index.now) (set.items (set_of features.now))) }
+    {
+        for feature in features.iter() {
+            self.add_shape(alloc, index, &feature.shape)?;
+        }
+        Ok(())
+    }
+
+    fn add_layers(
+        &mut self,
+        alloc: Global,
+        index: &VisitIndex,
+        map: &FeatureMap,
+    ) -> Result<(), OutOfMemory>
+        ensures pieces { OnOk result (self.new.pieces.items ≡ self.old.pieces.items ++ gathered (form_pieces index.now) (forms_of (seen map.now))) }
+        ensures counts { OnOk result (self.new.counts.items ≡ self.old.counts.items ++ gathered (form_counts index.now) (forms_of (seen map.now))) }
+    {
+        for layer in map.layers() {
+            self.add_features(alloc, index, &layer.features)?;
+        }
+        Ok(())
+    }
+
+    /// All lines and rings of the map, in its order, cut at its junctions.
+    pub(crate) fn of(alloc: Global, map: &FeatureMap) -> Result<Cuts, OutOfMemory>
+        ensures { IfOk result (λ c. AreCutsOf map.now c) }
+    {
+        let index = VisitIndex::of(alloc, map)?;
+        let mut cuts = Cuts {
+            pieces: Vec::new(alloc),
+            counts: Vec::new(alloc),
+        };
+        cuts.add_layers(alloc, &index, map)?;
+        Ok(cuts)
+    }
+}
