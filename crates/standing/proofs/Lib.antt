@@ -4,3 +4,9 @@ pub mod Insides
 pub mod ApartArcs
 pub mod Running
 pub mod Once
+pub mod Marking
+pub mod Listing
+pub mod Starting
+pub mod Threes
+pub mod Meets
+pub mod Together

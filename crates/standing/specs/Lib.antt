@@ -1,3 +1,8 @@
 pub mod Apart
 pub mod Seams
 pub mod Runs
+pub mod Marks
+pub mod Starts
+pub mod Lists
+pub mod Meeting
+pub mod Stands

@@ -3,9 +3,17 @@
 #![tactic(auto)]
 
 pub mod apart;
+pub mod laws;
+pub mod lists;
+pub mod marks;
+pub mod meeting;
 pub mod runs;
 pub mod seams;
+mod starts;
 
 pub use apart::arcs_as_read;
+pub use lists::{line_stands, ring_stands};
+pub use marks::ArcsUsed;
+pub use meeting::{add_line_ends, ends_meet};
 pub use runs::run;
 pub use seams::free_loops;

@@ -19,7 +19,7 @@ pub(crate) fn last_from(first: Pos, others: &[Pos]) -> Pos
 }
 
 /// The first and the last vertex of an arc, in the direction in which it is used.
-fn ends_in(arc: &[Pos], reversed: bool) -> Option<(Pos, Pos)>
+pub(crate) fn ends_in(arc: &[Pos], reversed: bool) -> Option<(Pos, Pos)>
     ensures { result ≡ spec.ends_in reversed arc.now }
 {
     let Some((first, others)) = arc.split_first() else {

@@ -1,4 +1,4 @@
-use Rattle.std.proofs.Common.{◌≡◌, ◌∙◌, ◌&&◌, ◌+◌, ◌-◌, ap, drop, length, not, sym, take}
+use Rattle.std.proofs.Common.{◌∙◌, ◌&&◌, ◌+◌, ◌-◌, ap, drop, length, not, sym, take}
 use Rattle.std.specs.Result.{is_ok}
 use Rattle.chains.specs.Among.{among}
 use Rattle.chains.proofs.Among.{told_among}

@@ -1,0 +1,18 @@
+use Rattle.std.proofs.Common.{◌++◌, ◌∙◌, ap, subst}
+use Rattle.std.specs.List.Sorted.{IsPermutation}
+use Rattle.standing.specs.Meeting.{again, each_meets}
+use Rattle.standing.proofs.Meets.{meeting_told}
+use Rattle.standing.proofs.meeting.ends_meet.Goals as goal
+
+pub returns : goal.returns
+returns c =
+    let t = c.args.table.now in
+    let lines = c.args.line_ends.now in
+    let sorted = c.sort_unstable.new.self.items in
+    let meeting = c.sort_unstable-2.new.self.items in
+    meeting_told t lines c.in_ok-ends.ends.items sorted meeting c.in_ok-ends.ensures c.sort_unstable.ensures.permutation c.sort_unstable.ensures.sorted
+    (subst (λ w. IsPermutation w meeting)
+    (c.in_ok-extend_from_slice.ensures.items ∙ ap (λ w. w ++ lines)
+    (c.in_ok-meeting.ensures ∙ ap again (c.deref-2.ensures.value ∙ c.in_ok-twice.ensures ∙ ap again c.deref.ensures.value)))
+    c.sort_unstable-2.ensures.permutation)
+    c.each_meets.result (c.each_meets.ensures ∙ ap (λ w. each_meets w t.loops t.arcs) c.deref-3.ensures.value)

@@ -1,0 +1,67 @@
+//! Lists of used arcs: which stand as a line's, and which as a ring's.
+ghost use Rattle.std.specs.Prelude.{◌≡◌, ◌↔◌, length, true};
+ghost use Rattle.lines.specs.Turned.{position_cmp};
+ghost use Rattle.chains.specs.OfArcs.{table_as_map};
+ghost use Rattle.standing.specs.Lists.{LineStands, RingStands};
+ghost use Rattle.standing.specs.Lists as spec;
+ghost use Rattle.standing.specs.Marks.{marks_set};
+
+use crate::marks::ArcsUsed;
+use crate::runs::run;
+use crate::starts::starts_least;
+use chains::table::{ArcRef, ArcTable};
+
+fn none_free(table: &ArcTable, refs: &[ArcRef]) -> bool
+    ensures { result ≡ spec.none_free table.now refs.now }
+{
+    for used in refs {
+        if table.is_free(used.arc) {
+            return false;
+        }
+    }
+    true
+}
+
+/// Whether a list of used arcs stands as a line's: it is not empty, each arc begins where the one
+/// before it ends, none stands in it twice, and none is a free loop. Its arcs are added to those that
+/// are used.
+pub fn line_stands(table: &ArcTable, used: &mut ArcsUsed, refs: &[ArcRef]) -> bool
+    requires { length used.old ≡ length table.now.arcs }
+    ensures stands { (result ≡ true) ↔ LineStands table.now.arcs (table_as_map table.now) refs.now }
+    ensures used { used.new ≡ marks_set true used.old refs.now }
+{
+    if !used.add(refs) {
+        return false;
+    }
+    match run(table, refs) {
+        Some(_) => none_free(table, refs),
+        None => false,
+    }
+}
+
+/// Whether used arcs run back to where they begin.
+fn goes_round(table: &ArcTable, refs: &[ArcRef]) -> bool
+    ensures { (result ≡ true) ↔ spec.GoesRound table.now.arcs refs.now }
+{
+    match run(table, refs) {
+        Some((start, end)) => start == end,
+        None => false,
+    }
+}
+
+/// Whether a list of used arcs stands as a ring's: each arc begins where the one before it ends, and
+/// the first where the last does, none stands in it twice, and none starts, by its first two vertices,
+/// before the first. Its arcs are added to those that are used.
+pub fn ring_stands(table: &ArcTable, used: &mut ArcsUsed, refs: &[ArcRef]) -> bool
+    requires { length used.old ≡ length table.now.arcs }
+    ensures stands { (result ≡ true) ↔ RingStands position_cmp table.now.arcs refs.now }
+    ensures used { used.new ≡ marks_set true used.old refs.now }
+{
+    if !used.add(refs) {
+        return false;
+    }
+    if !goes_round(table, refs) {
+        return false;
+    }
+    starts_least(table, refs)
+}
