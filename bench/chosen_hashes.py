@@ -3,6 +3,7 @@
 
     (cd crates/topotool && rt run)
     python3 bench/chosen_hashes.py
+    python3 bench/chosen_hashes.py --limit 10 --seconds 100
 
 The hash of the kit's `indexmap` has no secret, so whoever writes a text can choose its arcs by their hashes:
 bench/chosen_hashes.c finds lines whose arcs all begin their look-ups at one place of such a table. Names of layers,
@@ -10,9 +11,14 @@ members of properties and features are in trees and sorted lists, by their bytes
 chosen to agree.
 
 The script makes a map of chosen arcs, layers, members or features, and one of as many others of the same size, runs
-each command on both by turns, and prints a table of the processor times (the least of some runs) and their ratio. It
-ends with a line of counts, with status 1 where a ratio is above 1.5 or a command fails, and with 2 where no C
-compiler or no program is there.
+each command on both by turns, looks whether each text is right, and prints a table of the processor times (the least of
+some runs) and their ratio; where it is above 1.5, both are run more often. It ends with a line of counts, with status 1
+where a ratio is above the limit (1.5, where no other is given), a text is wrong or a command fails, and with 2 where no
+program is there. Without a C compiler it says that it was skipped.
+
+How long a run takes moves with what else the machine does, but a table whose entries all meet at one place takes
+hundreds of times as long: so the second line, of a gate, has a limit that no neighbour on the machine comes near. With
+a limit of time it stops there.
 """
 
 import argparse
@@ -23,23 +29,24 @@ import shutil
 import subprocess
 import sys
 import tempfile
+import time
 
 sys.dont_write_bytecode = True
 
 from generate import write_collection
-from measuring import GRID, HERE, TOOL, measure_both, need_tool, run_once, stop
+from measuring import GRID, HERE, TOOL, need_tool, run_once, same_bytes, stop
 
 SOURCE = os.path.join(HERE, "chosen_hashes.c")
 COMPILERS = ["cc", "gcc", "clang"]
 GREATEST_RATIO = 1.5
+LEAST_COMMANDS = 6  # those on arcs, which come first
+MOST_SECONDS = 60  # of one run on 200,000 of anything, which takes half a second
 ENDS_LIMIT = 1 << 20  # the chosen ends have y below this
 
 
 def compile_finder(folder):
     """Compiles the program that finds lines, and answers its path."""
-    compiler = next(filter(None, map(shutil.which, COMPILERS)), None)
-    if compiler is None:
-        stop("no C compiler is there (" + ", ".join(COMPILERS) + ")")
+    compiler = next(filter(None, map(shutil.which, COMPILERS)))
     finder = os.path.join(folder, "chosen_hashes")
     words = [compiler, "-O2", "-pthread", SOURCE, "-o", finder]
     if subprocess.run(words).returncode != 0:
@@ -105,6 +112,7 @@ class Files:
     def __init__(self, folder, title, tool):
         self.name, self.tool = os.path.join(folder, title), tool
         self.geojson = self.whole = self.halves = None
+        self.lines = []
 
     def of_features(self, members):
         half = len(members) // 2
@@ -112,40 +120,76 @@ class Files:
         self.whole = self.build(self.geojson, ".topo.json")
         parts = [("first", members[:half]), ("second", members[half:])]
         self.halves = [self.build(self.write(f".{part}.json", some), f".{part}.topo.json") for part, some in parts]
+        geometries = [it["geometry"] for it in members]
+        self.lines = sorted(sorted(map(tuple, it["coordinates"])) for it in geometries if it["type"] == "LineString")
         return self
 
     def of_layers(self, names):
-        half = len(names) // 2
-        self.whole = self.write_layers(".topo.json", names)
-        self.halves = [self.write_layers(".first.topo.json", names[:half]), self.write_layers(".second.topo.json", names[half:])]
+        placed, half = [*enumerate(names)], len(names) // 2
+        self.whole = self.write_layers(".topo.json", placed)
+        self.halves = [self.write_layers(".first.topo.json", placed[:half]), self.write_layers(".second.topo.json", placed[half:])]
         return self
 
     def write(self, ending, members):
         write_collection(self.name + ending, members)
         return self.name + ending
 
-    def write_layers(self, ending, names):
-        objects = {name: {"type": "Point", "coordinates": [place, 0]} for place, name in enumerate(names)}
+    def write_layers(self, ending, placed):
+        objects = {name: {"type": "Point", "coordinates": [place, 0]} for place, name in placed}
         transform = {"scale": [1, 1], "translate": [0, 0]}
         with open(self.name + ".given.json", "w") as file:
             file.write(json.dumps({"type": "Topology", "transform": transform, "objects": objects, "arcs": []}))
-        run_once([self.tool, "merge", self.name + ".given.json"], self.name + ending)
-        return self.name + ending
+        return self.run(["merge", self.name + ".given.json"], ending)
 
     def build(self, geojson, ending):
-        run_once([self.tool, "build", *GRID, "a=" + geojson], self.name + ending)
+        return self.run(["build", *GRID, "a=" + geojson], ending)
+
+    def run(self, words, ending):
+        run_once([self.tool, *words], self.name + ending, MOST_SECONDS)
         return self.name + ending
 
+    # Whether the text that a command printed is right.
 
-def commands(tool, files):
-    """The measured commands: title and words."""
-    builds = [("build", [tool, "build", *GRID, "a=" + files.geojson])] if files.geojson else []
-    return builds + [
-        ("check", [tool, "check", files.whole]),
-        ("merge of one file", [tool, "merge", files.whole]),
-        ("merge of two halves", [tool, "merge", *files.halves]),
-        ("mesh", [tool, "mesh", files.whole]),
-    ]
+    def is_whole(self, out):
+        return same_bytes(out, self.whole)
+
+    def is_rest(self, out):
+        """What is left without the first half, and the first half, are the whole."""
+        return self.is_whole(self.run(["merge", out, self.halves[0]], ".again.topo.json"))
+
+    def is_mesh(self, out):
+        with open(out, encoding="utf-8") as file:
+            return sorted(sorted(map(tuple, it)) for it in json.load(file)["coordinates"]) == self.lines
+
+    def commands(self):
+        """The measured commands: title, words, and what tells whether the text is right."""
+        builds = [("build", ["build", *GRID, "a=" + self.geojson], self.is_whole)] if self.geojson else []
+        return builds + [
+            ("check", ["check", self.whole], lambda out: os.path.getsize(out) == len("canonical\n")),
+            ("merge of one file", ["merge", self.whole], self.is_whole),
+            ("merge of two halves", ["merge", *self.halves], self.is_whole),
+            ("remove of a half", ["remove", self.whole, self.halves[0]], self.is_rest),
+            ("mesh", ["mesh", self.whole], self.is_mesh),
+        ]
+
+
+class Command:
+    """A command on what was chosen and on the others, with the least seconds of each so far."""
+
+    def __init__(self, title, tool, out, both):
+        self.title, self.tool, self.out, self.both = title, tool, out, both
+        self.seconds = [float("inf")] * len(both)
+        self.is_right = True
+
+    def run(self, is_judged=False):
+        for place, (words, is_right) in enumerate(self.both):
+            taken = run_once([self.tool, *words], self.out, MOST_SECONDS).seconds
+            self.seconds[place] = min(self.seconds[place], taken)
+            if is_judged:
+                self.is_right = self.is_right and is_right(self.out)
+
+    def ratio(self):
+        return self.seconds[0] / self.seconds[1]
 
 
 def maps(folder, tool, count, seed):
@@ -158,23 +202,46 @@ def maps(folder, tool, count, seed):
     yield "layers", *(Files(folder, it, tool).of_layers(given) for it, given in zip(("chosen", "others"), names))
 
 
-def measure(folder, tool, count, seed, runs):
-    """Measures each command: its title, and the seconds of what was chosen and of the others."""
-    out = os.path.join(folder, "out")
-    results = []
-    for kind, chosen, others in maps(folder, tool, count, seed):
-        for (title, words), (_, other_words) in zip(commands(tool, chosen), commands(tool, others)):
-            one, other = measure_both(words, other_words, out, runs)
-            results.append((f"{title}, {kind}", one.seconds, other.seconds))
-    return results
+COMMANDS = 23  # six on arcs, on members and on features, and five on layers, which `build` takes one by one
 
 
-def print_table(lines, results):
+def measure(folder, words, is_over):
+    """Runs each command once on both, and looks at the texts; and then more often, until the time is over."""
+    measured = []
+    for kind, *both in maps(folder, words.tool, words.lines, words.seed):
+        for (title, chosen, is_right), (_, others, are_right) in zip(*(it.commands() for it in both)):
+            if len(measured) >= LEAST_COMMANDS and is_over():
+                return measured
+            pair = [(chosen, is_right), (others, are_right)]
+            measured.append(Command(f"{title}, {kind}", words.tool, os.path.join(folder, "out"), pair))
+            measured[-1].run(is_judged=True)
+    for number in range(1, 2 * words.runs):
+        for it in measured:
+            if not is_over() and (number < words.runs or it.ratio() > GREATEST_RATIO):
+                it.run()
+    return measured
+
+
+def print_table(lines, measured):
     print(f"\n{lines} arcs of two positions, members of properties, features and layers\n")
     print("| Command | Seconds, chosen | Seconds, others | Ratio |")
     print("|---|---|---|---|")
-    for title, one, other in results:
-        print(f"| `{title}` | {one:.2f} | {other:.2f} | {one / other:.2f} |")
+    for it in measured:
+        print(f"| `{it.title}` | {it.seconds[0]:.2f} | {it.seconds[1]:.2f} | {it.ratio():.2f} |")
+
+
+def tell(measured, limit, seconds):
+    """Prints what is wrong, and the line of counts; answers the status."""
+    texts = [it.title for it in measured if not it.is_right]
+    above = [it.title for it in measured if it.ratio() > limit]
+    if texts:
+        print("another text: " + ", ".join(texts))
+    if above:
+        print(f"more than {limit} times as long: " + ", ".join(above))
+    done = f"{len(measured)} commands" if len(measured) == COMMANDS else f"stopped after {seconds} s: {len(measured)} of {COMMANDS} commands"
+    greatest = max(it.ratio() for it in measured)
+    print(f"\n{done}, at most {greatest:.2f} times as long, {len({*texts, *above})} wrong")
+    return 1 if texts or above else 0
 
 
 def main():
@@ -182,19 +249,22 @@ def main():
     parser.add_argument("--lines", type=int, default=200_000)
     parser.add_argument("--seed", type=int, default=1)
     parser.add_argument("--runs", type=int, default=3)
+    parser.add_argument("--limit", type=float, default=GREATEST_RATIO, help="the greatest ratio that is not wrong")
+    parser.add_argument("--seconds", type=float, help="stop after so long")
     parser.add_argument("--tool", default=TOOL)
     words = parser.parse_args()
     if words.lines < 2 or words.runs < 1:
         stop("at least two lines and one run are needed")
     need_tool(words.tool)
+    if not any(map(shutil.which, COMPILERS)):
+        print(f"skipped: there is no C compiler ({', '.join(COMPILERS)}; Debian: gcc); 0 commands, 0 wrong")
+        return 0
+    end = time.monotonic() + (words.seconds or float("inf"))
     with tempfile.TemporaryDirectory() as folder:
-        results = measure(folder, words.tool, words.lines, words.seed, words.runs)
-    print_table(words.lines, results)
-    above = [title for title, one, other in results if one / other > GREATEST_RATIO]
-    print(f"\n{len(results)} commands, {len(above)} wrong")
-    if above:
-        sys.exit(f"more than {GREATEST_RATIO} times as long: " + ", ".join(above))
+        measured = measure(folder, words, lambda: time.monotonic() > end)
+    print_table(words.lines, measured)
+    return tell(measured, words.limit, words.seconds)
 
 
 if __name__ == "__main__":
-    main()
+    sys.exit(main())

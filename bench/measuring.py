@@ -2,6 +2,7 @@
 
 import filecmp
 import os
+import resource
 import subprocess
 import sys
 
@@ -31,10 +32,11 @@ def need_tool(tool):
         stop(f"{tool} is not there: build it by rt run in crates/topotool")
 
 
-def run_once(words, out):
-    """Runs a program to its end, with its output in a file."""
+def run_once(words, out, most_seconds=None):
+    """Runs a program to its end, with its output in a file; one that takes more processor seconds is ended."""
+    limit = most_seconds and (lambda: resource.setrlimit(resource.RLIMIT_CPU, (most_seconds, most_seconds)))
     with open(out, "wb") as file:
-        child = subprocess.Popen(words, stdout=file)
+        child = subprocess.Popen(words, stdout=file, preexec_fn=limit)
         _, status, usage = os.wait4(child.pid, 0)
         child.returncode = os.waitstatus_to_exitcode(status)
     if child.returncode != 0:

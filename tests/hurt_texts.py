@@ -1,11 +1,12 @@
 """Runs every command on topologies that were hurt at random: bytes, members and elements changed.
 
-    python3 tests/hurt_texts.py [--seed N] [--texts N]
+    python3 tests/hurt_texts.py [--seed N] [--texts N] [--seconds N]
 
 Each run has to end with status 0, 1 (`check` alone) or 4; with 4 nothing is printed, and standard error has one
 line; all commands refuse the same texts, for the same fault; what `merge` prints is canonical by `check`, and is
 printed again by a second merge; and so is what `remove` leaves of a text without its own features, which are put
-back by a merge. Ends with a line of counts, and with status 1 where a run did anything else.
+back by a merge. With a limit of time it stops there. Ends with a line of counts, and with status 1 where a run did
+anything else, or fewer texts were tried than a slow machine tries in a minute.
 """
 
 import argparse
@@ -15,10 +16,14 @@ import random
 import subprocess
 import sys
 import tempfile
-from concurrent.futures import ThreadPoolExecutor
+
+sys.dont_write_bytecode = True
+
+from many_runs import judged, told
 
 TOP = os.path.dirname(os.path.dirname(os.path.abspath(__file__)))
 PROGRAM = os.environ.get("TOPOTOOL", f"{TOP}/crates/topotool/out/topotool")
+LEAST_TEXTS = 500
 LOOP = {"type": "FeatureCollection", "features": [
     {"type": "Feature", "id": "loop", "geometry": {"type": "Polygon", "coordinates": [[[0, 0], [2, 0], [0, 2], [0, 0]]]}, "properties": {"n": 1}},
     {"type": "Feature", "geometry": {"type": "LineString", "coordinates": [[2, 0], [3, 0]]}, "properties": {}},
@@ -100,9 +105,16 @@ def is_refusal(ran):
     return ran.returncode == 4 and not ran.stdout and ran.stderr.count(b"\n") == 1
 
 
-def complaints(file):
-    """What is wrong with the runs on one text."""
-    check, merge, mesh, info = (topotool(it, file) for it in ("check", "merge", "mesh", "info"))
+def judge(file):
+    """Runs the commands on one text; gives whether it is accepted, and what is wrong with the runs."""
+    merge = topotool("merge", file)
+    with open(file, "rb") as text:
+        return merge.returncode == 0, [f"{it}: {text.read()!r}" for it in complaints(file, merge)]
+
+
+def complaints(file, merge):
+    """What is wrong with the runs on one text, of which that of `merge` is done."""
+    check, mesh, info = (topotool(it, file) for it in ("check", "mesh", "info"))
     remove = topotool("remove", file, file)
     layered = [topotool(it, "--layer", "a", file) for it in ("feature", "neighbors")]
     runs = [check, merge, remove, mesh, info, *layered]
@@ -130,25 +142,23 @@ def main():
     words = argparse.ArgumentParser()
     words.add_argument("--seed", type=int, default=1)
     words.add_argument("--texts", type=int, default=10000)
+    words.add_argument("--seconds", type=float, help="stop after so long")
     words = words.parse_args()
     if not os.path.isfile(PROGRAM):
         sys.exit(f"{PROGRAM} is not there: rt run in crates/topotool builds it")
-    chance, wrong, accepted = random.Random(words.seed), 0, 0
-    with tempfile.TemporaryDirectory() as folder, ThreadPoolExecutor(len(os.sched_getaffinity(0))) as pool:
+    chance, wrong, done, accepted = random.Random(words.seed), 0, 0, 0
+    with tempfile.TemporaryDirectory() as folder:
         texts = whole_texts(folder)
-        files = []
-        for number in range(words.texts):
-            files.append(f"{folder}/{number}.json")
-            with open(files[-1], "wb") as file:
+        files = [f"{folder}/{number}.json" for number in range(words.texts)]
+        for name in files:
+            with open(name, "wb") as file:
                 file.write(hurt(chance, texts))
-        for file, found in zip(files, pool.map(lambda it: [*complaints(it)], files)):
+        for is_accepted, found in judged(judge, files, words.seconds):
+            done, accepted, wrong = done + 1, accepted + is_accepted, wrong + len(found)
             for it in found:
-                wrong += 1
-                with open(file, "rb") as text:
-                    print(f"{it}: {text.read()!r}")
-            accepted += not found and topotool("merge", file).returncode == 0
-    print(f"{words.texts} texts with seed {words.seed}, {accepted} accepted, {wrong} wrong")
-    return 1 if wrong or not accepted else 0
+                print(it)
+    print(f"seed {words.seed}: {told(done, words.texts, 'texts', words.seconds)}, {accepted:,} accepted, {wrong} wrong")
+    return 1 if wrong or not accepted or done < min(LEAST_TEXTS, words.texts) else 0
 
 
 if __name__ == "__main__":

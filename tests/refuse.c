@@ -1,5 +1,6 @@
 /* Refuses requests for memory: the one that REFUSE_AT names, counted from 1, or, where REFUSE_ON is set, that and all
- * behind it. Each refusal writes a byte to the descriptor that REFUSE_TOLD names. Loaded before the C library. */
+ * behind it; none where REFUSE_AT is not set. Each refusal writes a byte to the descriptor that REFUSE_TOLD names, and
+ * each request one to that of REFUSE_ASKED. Loaded before the C library. */
 #include <errno.h>
 #include <stddef.h>
 #include <stdlib.h>
@@ -10,21 +11,30 @@ extern void *__libc_calloc(size_t, size_t);
 extern void *__libc_realloc(void *, size_t);
 extern void *__libc_memalign(size_t, size_t);
 
-static long asked, at = -1, on, told = -1;
+static long asked, at = -1, on, told = -1, noted = -1;
+
+static long number(const char *name, long otherwise) {
+    const char *text = getenv(name);
+    return text ? atol(text) : otherwise;
+}
 
 static void begin(void) {
-    const char *text = getenv("REFUSE_AT");
-    at = text ? atol(text) : 0;
+    at = number("REFUSE_AT", 0);
     on = getenv("REFUSE_ON") != NULL;
-    text = getenv("REFUSE_TOLD");
-    told = text ? atol(text) : -1;
+    told = number("REFUSE_TOLD", -1);
+    noted = number("REFUSE_ASKED", -1);
+}
+
+static void tell(long descriptor, const char *byte) {
+    if (descriptor >= 0 && write((int)descriptor, byte, 1) < 0) _exit(99);
 }
 
 static int is_refused(void) {
     if (at < 0) begin();
     asked++;
+    tell(noted, "a");
     if (at == 0 || (on ? asked < at : asked != at)) return 0;
-    if (told >= 0 && write((int)told, "r", 1) < 0) _exit(99);
+    tell(told, "r");
     errno = ENOMEM;
     return 1;
 }

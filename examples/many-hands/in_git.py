@@ -1,0 +1,218 @@
+"""Keeps a map in git, on branches that change, add and remove districts, and lets by_git.py merge them.
+
+    TOPOTOOL=FOLDER/topotool python3 in_git.py
+
+All is done in a repository in a temporary folder. Each text that git merges is compared with one build of what is
+wanted, which is told below by the ids of districts, and not by merging. Ends with status 1 where a text is another one,
+or git ends otherwise than it should.
+"""
+
+import json
+import os
+import subprocess
+import sys
+import tempfile
+
+sys.dont_write_bytecode = True
+
+from shards import STEP, across, district
+
+HERE = os.path.dirname(os.path.abspath(__file__))
+TOPOTOOL = os.environ["TOPOTOOL"]
+GRID = "10,10,0,0"
+SIDE = 5
+MAP = "country.topo.json"
+
+# The versions of the country: districts by their ids
+
+
+def named(feature, name):
+    return {**feature, "properties": {"name": name}}
+
+
+def moved(feature, vertex):
+    """The district with this vertex of its border moved by a step of the grid."""
+    x, y = vertex
+    (ring,) = feature["geometry"]["coordinates"]
+    ring = [[x + 10, y + 10] if tuple(it) == vertex else it for it in ring]
+    return {**feature, "geometry": {"type": "Polygon", "coordinates": [ring]}}
+
+
+def without(districts, *ids):
+    return {id: it for id, it in districts.items() if id not in ids}
+
+
+WHOLE = {id: district(id % SIDE, id // SIDE, SIDE) for id in range(SIDE * SIDE)}
+BASE = without(WHOLE, 24)
+# A border that two districts share is moved for both: that of 2 and 7 in the north, that of 17 and 22 in the south.
+NORTH_EDITED = {**BASE, 2: moved(BASE[2], across(2, 1)[2]), 7: moved(BASE[7], across(2, 1)[2]), 20: named(BASE[20], "Twenty"), 21: named(BASE[21], "Lea")}
+NORTH_GROWN = {**NORTH_EDITED, 24: WHOLE[24]}
+NORTH = without(NORTH_GROWN, 0, 14, 23)
+SOUTH_EDITED = {**BASE, 17: moved(BASE[17], across(2, 4)[3]), 22: moved(BASE[22], across(2, 4)[3]), 8: named(BASE[8], "Eight"), 21: named(BASE[21], "Lea")}
+SOUTH_GROWN = {**SOUTH_EDITED, 30: {**district(8, 8, SIDE), "id": 30}}
+SOUTH = without(SOUTH_GROWN, 4, 10, 23)
+# Both named 21 alike and took 23 away. Of the other changes each has one author.
+WANTED = [
+    *(BASE[id] for id in (1, 3, 5, 6, 9, 11, 12, 13, 15, 16, 18, 19)),
+    *(NORTH[id] for id in (2, 7, 20, 24)),
+    *(SOUTH[id] for id in (8, 17, 22, 30)),
+    named(WHOLE[21], "Lea"),
+]
+
+
+# The repository
+
+
+class Repository:
+    """A repository with the driver, and the folder beside it for other files."""
+
+    def __init__(self, folder):
+        self.folder, self.top = folder, f"{folder}/map"
+        inherited = {name: it for name, it in os.environ.items() if not name.startswith("GIT_")}
+        self.env = {**inherited, "TOPOTOOL": TOPOTOOL, "GIT_CONFIG_GLOBAL": os.devnull, "GIT_CONFIG_NOSYSTEM": "1", "GIT_EDITOR": "true"}
+        subprocess.run(["git", "init", "-q", self.top], check=True, env=self.env)
+        self.git("checkout", "-q", "-b", "main")
+        self.git("config", "user.name", "Many Hands")
+        self.git("config", "user.email", "hands@example.org")
+        self.git("config", "merge.topotool.driver", f"'{sys.executable}' '{HERE}/by_git.py' %O %A %B %P")
+        with open(f"{self.top}/.gitattributes", "w", encoding="utf-8") as file:
+            file.write("*.topo.json merge=topotool\n")
+        self.git("add", ".gitattributes")
+        self.git("commit", "-q", "-m", "Maps are merged by topotool")
+
+    def git(self, *words, status=0):
+        """Runs git, which has to end with this status; gives what it printed, on both outputs."""
+        ran = subprocess.run(["git", *words], cwd=self.top, env=self.env, stdin=subprocess.DEVNULL, stdout=subprocess.PIPE, stderr=subprocess.STDOUT, text=True)
+        if ran.returncode != status:
+            sys.exit(f"many-hands: git {' '.join(words)} ended with {ran.returncode}:\n{ran.stdout}")
+        return ran.stdout
+
+    def branch(self, name, start):
+        self.git("checkout", "-q", "-b", name, start)
+
+    def build(self, districts, file=MAP):
+        """Puts the topology of these districts into a file of the work tree."""
+        with open(f"{self.folder}/given.json", "w", encoding="utf-8") as given:
+            json.dump({"type": "FeatureCollection", "features": districts}, given)
+        with open(f"{self.top}/{file}", "wb") as out:
+            subprocess.run([TOPOTOOL, "build", "--grid", GRID, f"districts={self.folder}/given.json"], check=True, stdout=out)
+
+    def commit(self, districts, message, file=MAP):
+        self.build([*districts.values()], file)
+        self.git("add", file)
+        self.git("commit", "-q", "-m", message)
+
+    def same(self, districts, how):
+        """Compares the map with one build of these districts."""
+        self.build(districts, "wanted")
+        subprocess.run(["cmp", MAP, "wanted"], cwd=self.top, check=True)
+        os.remove(f"{self.top}/wanted")
+        self.git("diff", "--exit-code")
+        print(f"many-hands: git, {how}: the bytes of one build of what is wanted")
+
+    def conflict(self, words, districts, told):
+        """A merge in which both sides changed something: what git tells, and what it leaves."""
+        printed = self.git(*words, status=1)
+        if told not in printed.splitlines() or "CONFLICT" not in printed or self.git("status", "--short") != f"UU {MAP}\n":
+            sys.exit(f"many-hands: git {' '.join(words)} should tell a conflict:\n{told}\nand told\n{printed}")
+        self.build(districts, "both")
+        subprocess.run(["cmp", MAP, "both"], cwd=self.top, check=True)
+        os.remove(f"{self.top}/both")
+
+
+# The day
+
+
+def day(it):
+    """The country, and a branch for the north and one for the south of it, of three commits each."""
+    it.commit(BASE, "The country")
+    for name, versions in (("north", (NORTH_EDITED, NORTH_GROWN, NORTH)), ("south", (SOUTH_EDITED, SOUTH_GROWN, SOUTH))):
+        it.branch(name, "main")
+        for number, districts in enumerate(versions):
+            it.commit(districts, f"{name} {number}")
+
+
+def merges(it):
+    for name, ours, theirs in (("north-south", "north", "south"), ("south-north", "south", "north")):
+        it.branch(name, ours)
+        it.git("merge", "-q", "-m", f"{theirs} into {ours}", theirs)
+        it.same(WANTED, f"{theirs} merged into {ours}")
+    it.branch("third", "main")
+    it.git("merge", "-q", "--no-ff", "-m", "north", "north")
+    it.git("merge", "-q", "--no-ff", "-m", "south", "south")
+    it.same(WANTED, "both merged into a third branch")
+
+
+def other_ways(it):
+    it.branch("rebased", "north")
+    it.git("rebase", "-q", "south")
+    it.same(WANTED, "north rebased onto south")
+    it.branch("picked", "south")
+    it.git("cherry-pick", "main..north")
+    it.same(WANTED, "north cherry-picked onto south")
+
+
+def crossed(it):
+    """Each side has merged the other, and goes on: there are two common bases, which git merges first."""
+    found = {it["id"]: it for it in WANTED}
+    it.git("checkout", "-q", "north-south")
+    it.commit(without(found, 24), "24 goes again")
+    it.git("checkout", "-q", "south-north")
+    it.commit({**found, 12: named(found[12], "Twelve")}, "12 has a name")
+    it.git("merge", "-q", "-m", "both again", "north-south")
+    it.same([*without({**found, 12: named(found[12], "Twelve")}, 24).values()], "branches that had merged each other")
+
+
+def added_by_both(it):
+    """A file that both sides add has no common base."""
+    for name, ids in (("west", (0, 1, 2, 5)), ("east", (2, 3, 4))):
+        it.branch(name, "main")
+        it.commit({id: BASE[id] for id in ids}, f"The {name}", "coast.topo.json")
+    it.git("merge", "-q", "-m", "The coast", "west")
+    it.build([BASE[id] for id in range(6)], "wanted")
+    subprocess.run(["cmp", "coast.topo.json", "wanted"], cwd=it.top, check=True)
+    os.remove(f"{it.top}/wanted")
+    print("many-hands: git, a file that both added: the bytes of one build of what is wanted")
+
+
+def conflicts(it):
+    """Both sides name 6, one changes 12 and the other takes it away, and both add 24."""
+    mine = {**BASE, 6: named(BASE[6], "Six"), 12: named(BASE[12], "Twelve"), 24: WHOLE[24]}
+    yours = {**without(BASE, 12, 18), 6: named(BASE[6], "Sixth"), 24: named(WHOLE[24], "New")}
+    for name, districts in (("mine", mine), ("yours", yours)):
+        it.branch(name, "main")
+        it.commit(districts, name)
+    both = [*without(mine, 18).values(), yours[6], yours[24]]
+    it.conflict(["merge", "mine"], both, f'{MAP}: both sides changed, and not alike, in layer "districts": 6, 12, 24')
+    print("many-hands: git, three districts that both changed: a conflict, and the map with both versions")
+    it.git("merge", "--abort")
+
+
+def refusals(it):
+    """A side that is no topology, or is on another grid: git marks the file, which stays as it was."""
+    it.branch("broken", "main")
+    with open(f"{it.top}/{MAP}", "w", encoding="utf-8") as file:
+        file.write("no map\n")
+    it.git("commit", "-q", "-a", "-m", "No map")
+    it.git("checkout", "-q", "mine")
+    printed = it.git("merge", "broken", status=1)
+    for line in ("topotool: theirs: 1 NotJson $", f"{MAP}: not merged: it is as our side has it"):
+        if line not in printed.splitlines():
+            sys.exit(f"many-hands: git should tell {line}, and told\n{printed}")
+    with open(f"{it.top}/{MAP}", encoding="utf-8") as file:
+        is_mine = file.read() == it.git("show", f"mine:{MAP}")
+    if not is_mine or it.git("status", "--short") != f"UU {MAP}\n":
+        sys.exit("many-hands: git changed the map, or did not mark it, although a side is no topology")
+    it.git("merge", "--abort")
+    print("many-hands: git, a side that is no topology: refused, and the map as it was")
+
+
+def main():
+    with tempfile.TemporaryDirectory() as folder:
+        it = Repository(folder)
+        for part in (day, merges, other_ways, crossed, added_by_both, conflicts, refusals):
+            part(it)
+
+
+if __name__ == "__main__":
+    main()
