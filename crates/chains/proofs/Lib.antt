@@ -33,3 +33,6 @@ pub mod Stepping
 pub mod Siding
 pub mod ArcSegments
 pub mod Staying
+pub mod TurnedLists
+pub mod Backwards
+pub mod Paired

@@ -18,3 +18,4 @@ pub mod Segments
 pub mod Joined
 pub mod OfArcs
 pub mod Along
+pub mod Turning

@@ -16,6 +16,7 @@ mod starts;
 mod stop_set;
 mod stored;
 pub mod table;
+pub mod turning;
 pub mod used_arcs;
 pub mod visits;
 
@@ -24,5 +25,6 @@ pub use joining::{maximal, maximal_over, maximal_with};
 pub use segment::Segment;
 pub use sides::segments_of;
 pub use table::{ArcRef, ArcTable};
+pub use turning::turn_ring;
 pub use used_arcs::refs_of;
 pub use visits::{ArcsIndex, VisitIndex};

@@ -1,10 +1,8 @@
 //! The features of a layer.
-ghost use Rattle.std.specs.Prelude.{◌≡◌, ◌↔◌, Err, IfOk, IsTrue, List};
+ghost use Rattle.std.specs.Prelude.{◌≡◌, ◌↔◌, Err, IfOk, IsTrue};
 ghost use Rattle.std.specs.FinMap as map;
 ghost use Rattle.shapes.specs.Maps.{features_at};
 ghost use Rattle.shapes.specs.Sets as set;
-ghost use Rattle.shapes.specs.declared.feature.Feature as features;
-ghost use Rattle.topo.specs.Features.{AreFeaturesOf};
 ghost use Rattle.topo.specs.ItsMap.{ForItsMap};
 ghost use Rattle.query.specs.declared.fault.QueryFault.TheVariants.{NoLayer as MissingLayer};
 
@@ -12,23 +10,7 @@ use crate::fault::QueryFault;
 use faults::OutOfMemory;
 use shapes::feature::Feature;
 use std::alloc::Global;
-use topo::{Geom, Topology};
-
-/// The features that geometries of a topology stitch to, in order.
-fn stitched(
-    alloc: Global,
-    topology: &Topology,
-    geometries: &[Geom],
-) -> Result<Vec<Feature>, OutOfMemory>
-    requires { (fs : List features.Feature) × AreFeaturesOf topology.now.arcs.arcs fs geometries.now }
-    ensures { IfOk result (λ made. (fs : List features.Feature) → AreFeaturesOf topology.now.arcs.arcs fs geometries.now → made.items ≡ fs) }
-{
-    let mut made = Vec::with_capacity(alloc, geometries.len())?;
-    for geometry in geometries {
-        made.push(topology.feature(alloc, geometry)?)?;
-    }
-    Ok(made)
-}
+use topo::Topology;
 
 /// The features of a layer, in their order, stitched from the arcs of the layer's geometries alone.
 ///
@@ -41,5 +23,5 @@ pub fn feature(alloc: Global, topology: &Topology, layer: &str) -> Result<Vec<Fe
     let Some(geometries) = topology.geometries(layer) else {
         return Err(QueryFault::NoLayer);
     };
-    Ok(stitched(alloc, topology, geometries)?)
+    Ok(topology.features(alloc, geometries)?)
 }

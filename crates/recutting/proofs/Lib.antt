@@ -1,5 +1,5 @@
 pub mod Parted
 pub mod TwoTables
-pub mod Turned
+pub mod Replaced
 pub mod Lists
 pub mod ProvedLaws

@@ -1,9 +1,9 @@
 -- The laws of arcs that are cut again, from those of theory.
-use Rattle.std.proofs.Common.{◌≡◌, ℕ, zero, suc, List, [], ◌∷◌, Some, slice_get, inl, inr, refl, ap, ◌∙◌, subst}
+use Rattle.std.proofs.Common.{◌≡◌, ℕ, List, Some, slice_get, inl, inr, ap, ◌∙◌}
 use Rattle.theory.specs.ArcNumbers.{ArcRef, Uses}
 use Rattle.theory.specs.Geometry.{Geometry, IsSound, JunctionOf, SegmentOf}
 use Rattle.theory.specs.Laws.{IsOrder}
-use Rattle.theory.specs.Lists.{Beside, Pairwise}
+use Rattle.theory.specs.Lists.{Beside}
 use Rattle.theory.specs.Refinement.{ArePiecesOfArc, IsPartOf, IsRefinementOf, pieces_at}
 use Rattle.theory.proofs.ListsOfLists.{get_has}
 use Rattle.theory.proofs.ProvedLaws as law
@@ -14,6 +14,7 @@ use Rattle.chains.specs.Arcs.{Arcs}
 use Rattle.lines.specs.Positions.{position_total, position_same}
 use Rattle.lines.proofs.Positions.{position_dec}
 use Rattle.chains.proofs.TablesAsMap.{union_sound}
+use Rattle.chains.proofs.Paired.{paired}
 use Rattle.recutting.specs.Laws.{ArcsOfOneArc, HaveOnePieces, IsOfOneArc, JunctionsOfBoth, NoOtherArcs, OnePieces}
 
 order : IsOrder position_cmp
@@ -22,14 +23,6 @@ order = record { total = position_total; same = position_same }
 pub junctions_of_both : JunctionsOfBoth
 junctions_of_both m n u union v (inl j) = law.junctions_only_grow m u union.left v j
 junctions_of_both m n u union v (inr j) = law.junctions_only_grow n u union.right v j
-
--- what stands at a place of the second list
-paired : {A : Type 0} (R : A → List ArcRef → Type 0) (xs : List A) (ys : List (List ArcRef)) → Pairwise R xs ys →
-    (i : ℕ) (x : A) → slice_get xs i ≡ Some x → (y : List ArcRef) × (slice_get ys i ≡ Some y) × R x y
-paired R [] ys p i x e = absurd cc
-paired R (z ∷ xs) [] p i x e = absurd p
-paired R (z ∷ xs) (y ∷ ys) p zero x e = let k : Some z ≡ Some x = e in (y, refl, subst (λ w. R w y) (let m : z ≡ x = cc in m) p.0)
-paired R (z ∷ xs) (y ∷ ys) p (suc i) x e = paired R xs ys p.1 i x e
 
 module _ (g u : Geometry Pos) (sg : IsSound g) (su : IsSound u) (part : IsPartOf g u) (old : Arcs) (table : List (List Pos)) (pieces : List (List ArcRef))
     (ref : IsRefinementOf position_cmp g u old.arcs table pieces) where

@@ -5,7 +5,6 @@ pub mod laws;
 pub mod recutting;
 pub mod refined;
 mod replacing;
-mod starting;
 
 pub use recutting::{recut, recut_owned};
 pub use refined::{Recut, Side};

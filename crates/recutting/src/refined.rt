@@ -10,8 +10,8 @@ ghost use Rattle.theory.specs.Topology.{IsRingList};
 ghost use Rattle.recutting.specs.Parts.{of_side};
 
 use crate::replacing::add_pieces;
-use crate::starting::place_of_start;
 use chains::table::{ArcRef, ArcTable};
+use chains::turning::turn_ring;
 use faults::OutOfMemory;
 use lines::items::Items;
 use std::alloc::{AllocError, Global};
@@ -129,8 +129,7 @@ impl Recut {
         ensures stitches { IfOk result (λ v. (g u : Geometry Pos) (old : List (List Pos)) (r : List Pos) → IsSound g → IsSound u → IsPartOf g u → IsRefinementOf position_cmp g u old self.now.arcs.arcs (of_side side self.now) → IsRingOf g r → IsRingList position_cmp (JunctionOf g) old r used.now → IsRingList position_cmp (JunctionOf u) self.now.arcs.arcs r v.items) }
     {
         let mut refs = self.line(alloc, side, used)?;
-        let place = place_of_start(&self.arcs, &refs);
-        refs.rotate_left(place);
+        turn_ring(&self.arcs, &mut refs);
         Ok(refs)
     }
 }

@@ -5,7 +5,6 @@ pub mod Stepped
 pub mod CutBacks
 pub mod Tables
 pub mod Left
-pub mod Turned
 pub mod Begun
 pub mod NewLists
 pub mod Noting

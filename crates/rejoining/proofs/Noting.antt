@@ -7,7 +7,7 @@ use Rattle.theory.specs.ArcNumbers.{ArcRef, backwards, flipped}
 use Rattle.theory.specs.Removing.{Starts}
 use Rattle.rejoining.specs.declared.start_table.Start.{Start}
 use Rattle.rejoining.specs.Starts.{noted_start, with_arcs, with_head, with_start}
-use Rattle.rejoining.proofs.Turned.{back_step}
+use Rattle.chains.proofs.Backwards.{back_step}
 
 abbrev seen_in : (ℕ → Option Start) → (ℕ → Option Start) → Starts
 seen_in ahead against q = option_map noted_start (cond q.reversed (against q.arc) (ahead q.arc))

@@ -4,6 +4,5 @@ pub mod Meeting
 pub mod CutBack
 pub mod Rejoining
 pub mod Starts
-pub mod RingStarts
 pub mod Parting
 pub mod Laws

@@ -9,7 +9,6 @@ mod parts;
 pub mod rejoined;
 pub mod rejoining;
 mod start_table;
-mod starting;
 
 pub use rejoined::Rejoined;
 pub use rejoining::rejoin;

@@ -12,8 +12,8 @@ ghost use Rattle.theory.specs.Topology.{IsRingList};
 ghost use Rattle.rejoining.specs.Starts.{first_place, starts_by};
 
 use crate::start_table::StartTable;
-use crate::starting::place_of_start;
 use chains::table::{ArcRef, ArcTable};
+use chains::turning::turn_ring;
 use faults::OutOfMemory;
 use lines::items::Items;
 use std::alloc::{AllocError, Global};
@@ -150,8 +150,7 @@ impl Rejoined {
     {
         let turned = self.turned(alloc, used)?;
         let mut refs = self.line(alloc, &turned)?;
-        let place = place_of_start(&self.arcs, &refs);
-        refs.rotate_left(place);
+        turn_ring(&self.arcs, &mut refs);
         Ok(refs)
     }
 }

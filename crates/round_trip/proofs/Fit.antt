@@ -30,6 +30,7 @@ use Rattle.shapes.specs.Ids.{IsI64}
 use Rattle.compact.proofs.Numbers.{IsI64-between}
 use Rattle.round_trip.proofs.Entries.{holds_item}
 use Rattle.round_trip.proofs.Standing.{BoxStands}
+use Rattle.topo.proofs.Positions.{around_has}
 
 -- ---- shapes
 
@@ -99,15 +100,6 @@ module _ (g : Transform) (m : Layers) (fits : MapFits g m) where
   all_fit p h = let (s, there, k) = gathered_from places_in (forms_of (seen m)) p h in place_fits s there p k
 
   -- ---- arcs
-
-  around_has : (v : Pos) (r : List Pos) → Has v (around r) → Has v r
-  around_has v [] h = absurd h
-  around_has v (a ∷ []) h = absurd h
-  around_has v (a ∷ (b ∷ r)) h =
-      elim (Has-append v (a ∷ (b ∷ r)) (a ∷ (b ∷ [])) h) [
-        | inl k ↦ k
-        | inr k ↦ elim k [ inl e ↦ inl e | inr j ↦ elim j [ inl e ↦ inr (inl e) | inr n ↦ absurd n ] ]
-      ]
 
   segment_fits : (u v : Pos) → SegmentOf (geometry_of m) u v → Fits g u × Fits g v
   segment_fits u v (inl (l, is, b)) =

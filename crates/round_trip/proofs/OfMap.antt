@@ -35,6 +35,7 @@ use Rattle.chains.specs.Seen.{Info, line_of, ring_of, form_of, item_of, layer_of
 use Rattle.topo.specs.OfMap.{Seen, IsOf, IsTopology, seen_parts}
 use Rattle.topo.specs.Parts.{TopologyParts}
 use Rattle.topo.proofs.Stitched.{IsEntryOf, entries_of}
+use Rattle.topo.proofs.Positions.{same_points}
 use Rattle.topo_io.specs.TopologyText.{topology_text}
 use Rattle.topo_io.specs.Means.{Means}
 use Rattle.topo_io.specs.Roots.{grid_of_text, layers_of_text}
@@ -73,17 +74,6 @@ module _ (J : Pos → Type 0) (arcs : List (List Pos)) where
   form_stands (of.Polygon rs) (polygon us) h = rings_stand rs us h
   form_stands (of.MultiPolygon ps) (polygons us) h = pairs_stand (Pairwise (IsRingList position_cmp J arcs)) (Pairwise (RingStands arcs)) (map_list ring_of) rings_stand ps us h
   form_stands s b h = absurd h
-
--- forms of one kind have the same points
-same_points : {L R M Q : Type 0} (A : L → M → Type 0) (B : R → Q → Type 0) (f : _) (h : _) → IsFormOf {V = Pos} A B f h → points_in f ≡ points_in h
-same_points A B null null e = refl
-same_points A B (point p) (point q) e = ap (λ w. w ∷ []) e
-same_points A B (points ps) (points qs) e = e
-same_points A B (line l) (line k) e = refl
-same_points A B (lines l) (lines k) e = refl
-same_points A B (polygon l) (polygon k) e = refl
-same_points A B (polygons l) (polygons k) e = refl
-same_points A B f h e = absurd e
 
 -- ---- features and layers
 

@@ -16,6 +16,7 @@ use Rattle.reading.specs.Parts.{list_faults}
 use Rattle.topo_io.specs.Arcs.{known, no_arc_faults, index_faults, used_arc, used_arcs, same_as, meets, stitched_onto, stitched, stitched_faults, stitching_faults, stitched_of, list_or_none}
 use Rattle.topo_io.proofs.Indexes.{number_of_index, along_index}
 use Rattle.topo_io.proofs.Stitching.{stitched_passed}
+use Rattle.topo_io.proofs.Stitched.{meets_last}
 use Rattle.compact.specs.Good.{Good}
 use Rattle.shapes.specs.Ids.{IsI64}
 use Rattle.compact.specs.Values.{list_data}
@@ -50,21 +51,6 @@ to_within arcs (b ∷ used) [] h a k = absurd h
 to_within arcs (b ∷ used) (x ∷ r) h a k = used_within arcs x (b ∷ used) r h a k
 
 -- ---- stitching
-
-last_get : (x : Pos) (w : List Pos) → slice_get (x ∷ w) (length w) ≡ Some (last_of x w)
-last_get x [] = refl
-last_get x (y ∷ w) = last_get y w
-
-int_eq-self : (z : ℤ) → int_eq z z ≡ true
-int_eq-self z = grind (arith, ints)
-
-position_eq-self : (p : Pos) → position_eq p p ≡ true
-position_eq-self p = rw (int_eq-self p.x, int_eq-self p.y) refl
-
-meets_last : (x : Pos) (w : List Pos) (y : Pos) (q : List Pos) → last_of x w ≡ y → meets (x ∷ w) (y ∷ q) ≡ true
-meets_last x w y q e =
-    let n : length (x ∷ w) - 1 ≡ length w = omega arith in
-    ap (λ i. same_as (slice_get (x ∷ w) i) y) n ∙ ap (λ o. same_as o y) (last_get x w ∙ ap Some e) ∙ position_eq-self y
 
 module _ (arcs : List (List Pos)) where
   abbrev lists_of : List ArcRef → List (List Pos)

@@ -57,7 +57,7 @@ around_beside v (a ∷ []) long h = absurd (omega arith)
 around_beside v (a ∷ (b ∷ r)) long h =
     has_beside v ((a ∷ (b ∷ r)) ++ (a ∷ (b ∷ []))) (omega arith) (Has-append_left v (a ∷ (b ∷ r)) (a ∷ (b ∷ [])) h)
 
-around_has : (v : Pos) (r : List Pos) → Has v (around r) → Has v r
+pub around_has : (v : Pos) (r : List Pos) → Has v (around r) → Has v r
 around_has v [] h = absurd h
 around_has v (a ∷ []) h = absurd h
 around_has v (a ∷ (b ∷ r)) h =
@@ -71,7 +71,7 @@ chain_beside g v [] k h = absurd k
 chain_beside g v (x ∷ r) k h = let n = k.long in has_beside v (x ∷ r) (omega arith) h
 
 -- forms of one kind have the same points
-same_points : {L R M Q : Type 0} (A : L → M → Type 0) (B : R → Q → Type 0) (f : Form Pos L R) (h : Form Pos M Q) → IsFormOf A B f h → points_in f ≡ points_in h
+pub same_points : {L R M Q : Type 0} (A : L → M → Type 0) (B : R → Q → Type 0) (f : Form Pos L R) (h : Form Pos M Q) → IsFormOf A B f h → points_in f ≡ points_in h
 same_points A B null null e = refl
 same_points A B (point p) (point q) e = ap (λ w. w ∷ []) e
 same_points A B (points ps) (points qs) e = e

@@ -1,5 +1,5 @@
 -- The features that geometries stitch to (TopoJSON section 2.1.4).
-use Rattle.std.specs.Prelude.{◌≡◌, List}
+use Rattle.std.specs.Prelude.{◌≡◌, List, Option, Some, None}
 use Rattle.grid.specs.declared.pos.Pos.{Pos}
 use Rattle.lines.specs.Seen.{positions_of, vertices_of}
 use Rattle.lines.specs.declared.line.Line as the_line
@@ -42,3 +42,12 @@ pub record IsFeatureOf (arcs : List (List Pos)) (f : Feature) (g : Geom) : Type 
 -- the geometries stitch to the features, one by one
 abbrev pub AreFeaturesOf : List (List Pos) → List Feature → List Geom → Type 0
 AreFeaturesOf arcs = Pairwise (IsFeatureOf arcs)
+
+-- the geometry stitches to a feature
+abbrev pub HasFeature : List (List Pos) → Geom → Type 0
+HasFeature arcs g = (f : Feature) × IsFeatureOf arcs f g
+
+-- what is known is the feature that the geometry stitches to
+abbrev pub IsKnownOf : List (List Pos) → Geom → Option Feature → Type 0
+IsKnownOf arcs g None = Unit {0}
+IsKnownOf arcs g (Some f) = IsFeatureOf arcs f g

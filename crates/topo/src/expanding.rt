@@ -29,7 +29,11 @@ impl Topology {
         feature(alloc, self.arcs(), geometry)
     }
 
-    fn features(&self, alloc: Global, geometries: &[Geom]) -> Result<Vec<Feature>, OutOfMemory>
+    /// The features that geometries of this topology stitch to, in order.
+    ///
+    /// # Errors
+    /// Where memory is refused.
+    pub fn features(&self, alloc: Global, geometries: &[Geom]) -> Result<Vec<Feature>, OutOfMemory>
         requires { (fs : List features.Feature) × AreFeaturesOf self.now.arcs.arcs fs geometries.now }
         ensures { IfOk result (λ made. (fs : List features.Feature) → AreFeaturesOf self.now.arcs.arcs fs geometries.now → made.items ≡ fs) }
     {

@@ -5,7 +5,7 @@ ghost use Rattle.lines.specs.declared.ring.Ring as the_ring;
 ghost use Rattle.shapes.specs.declared.feature.Feature as features;
 ghost use Rattle.shapes.specs.declared.shape.Shape as shapes;
 ghost use Rattle.theory.specs.Lists.{Pairwise};
-ghost use Rattle.topo.specs.Features.{IsFeatureOf, IsLineOf, IsRingOf, IsShapeOf};
+ghost use Rattle.topo.specs.Features.{HasFeature, IsFeatureOf, IsKnownOf, IsLineOf, IsRingOf, IsShapeOf};
 ghost use Rattle.topo.specs.Walked.{walked};
 
 use crate::geom::{Body, Geom, copy_positions};
@@ -126,4 +126,24 @@ pub fn feature(alloc: Global, arcs: &ArcTable, geometry: &Geom) -> Result<Featur
     let props = geometry.props.copy(alloc)?;
     let shape = stitched_shape(alloc, arcs, &geometry.body)?;
     Ok(Feature { id, props, shape })
+}
+
+/// The feature of a geometry, which may be known already: then it is not stitched again.
+///
+/// # Errors
+/// Where memory is refused.
+pub fn known_feature(
+    alloc: Global,
+    arcs: &ArcTable,
+    geometry: &Geom,
+    known: Option<Feature>,
+) -> Result<Feature, OutOfMemory>
+    requires there { HasFeature arcs.now.arcs geometry.now }
+    requires known { IsKnownOf arcs.now.arcs geometry.now known }
+    ensures { IfOk result (λ f. IsFeatureOf arcs.now.arcs f geometry.now) }
+{
+    match known {
+        Some(made) => Ok(made),
+        None => feature(alloc, arcs, geometry),
+    }
 }

@@ -50,17 +50,17 @@ along_is arcs a c e =
     let at : get_or arcs a.arc [] ≡ d = get_or_from_slice_get arcs a.arc d [] there in
     ap (λ w. cond a.reversed (reverse w) w) at ∙ sym is
 
-last_get : (x : Pos) (w : List Pos) → slice_get (x ∷ w) (length w) ≡ Some (last_of x w)
+pub last_get : (x : Pos) (w : List Pos) → slice_get (x ∷ w) (length w) ≡ Some (last_of x w)
 last_get x [] = refl
 last_get x (y ∷ w) = last_get y w
 
-int_eq-self : (z : ℤ) → int_eq z z ≡ true
+pub int_eq-self : (z : ℤ) → int_eq z z ≡ true
 int_eq-self z = grind (arith, ints)
 
-position_eq-self : (p : Pos) → position_eq p p ≡ true
+pub position_eq-self : (p : Pos) → position_eq p p ≡ true
 position_eq-self p = rw (int_eq-self p.x, int_eq-self p.y) refl
 
-meets_last : (x : Pos) (w : List Pos) (y : Pos) (q : List Pos) → last_of x w ≡ y → meets (x ∷ w) (y ∷ q) ≡ true
+pub meets_last : (x : Pos) (w : List Pos) (y : Pos) (q : List Pos) → last_of x w ≡ y → meets (x ∷ w) (y ∷ q) ≡ true
 meets_last x w y q e =
     let n : length (x ∷ w) - 1 ≡ length w = omega arith in
     ap (λ i. same_as (slice_get (x ∷ w) i) y) n ∙ ap (λ o. same_as o y) (last_get x w ∙ ap Some e) ∙ position_eq-self y

@@ -1,6 +1,7 @@
 use Rattle.std.proofs.Common.{◌<◌, ◌∙◌, [], map, subst, slice_get}
 use Rattle.rejoining.specs.CutBack.{arc_refs}
-use Rattle.rejoining.proofs.Stepped.{map_step, refs_answered}
+use Rattle.chains.proofs.TablesAsMap.{map_step}
+use Rattle.rejoining.proofs.Stepped.{refs_answered}
 use Rattle.rejoining.proofs.cutting_back.refs_of_table.Goals as goal
 
 pub loop-number-preserved : goal.loop-number-preserved

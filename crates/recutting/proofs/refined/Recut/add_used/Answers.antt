@@ -1,7 +1,7 @@
 use Rattle.std.proofs.Common.{◌≡◌, ◌++◌, ◌∙◌, OnOk, ap, subst, slice_get}
 use Rattle.theory.specs.ArcNumbers.{ArcRef}
 use Rattle.recutting.specs.Parts.{of_side}
-use Rattle.recutting.proofs.Turned.{none_used, used_by_code}
+use Rattle.recutting.proofs.Replaced.{none_used, used_by_code}
 use Rattle.recutting.proofs.refined.Recut.add_used.Goals as goal
 
 pub returns-in-Some : goal.returns-in-Some

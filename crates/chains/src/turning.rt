@@ -1,10 +1,12 @@
-//! Where the list of a ring begins: at the used arc that starts least.
+//! Turning the list of a ring to begin at the used arc that starts least.
 ghost use Rattle.std.specs.Prelude.{◌≡◌, Some, reverse};
 ghost use Rattle.std.specs.Ordering.{is_gt};
+ghost use Rattle.lines.specs.Turned.{position_cmp};
 ghost use Rattle.theory.specs.ArcNumbers.{along};
-ghost use Rattle.recutting.specs.Starts.{start_of, key_of, key_cmp, least_place};
+ghost use Rattle.theory.specs.Refinement.{turned_used};
+ghost use Rattle.chains.specs.Turning.{used_key, key_of, key_cmp, least_place};
 
-use chains::table::{ArcRef, ArcTable};
+use crate::table::{ArcRef, ArcTable};
 use grid::pos::Pos;
 
 /// The first two vertices along a used arc.
@@ -30,7 +32,7 @@ fn key_against(arc: &[Pos]) -> Key
 }
 
 fn key_along(arcs: &ArcTable, used: &ArcRef) -> Key
-    ensures { result ≡ start_of arcs.now.arcs used.now }
+    ensures { result ≡ used_key arcs.now.arcs used.now }
 {
     match arcs.arc(used.arc) {
         Some(arc) => {
@@ -57,7 +59,7 @@ fn comes_after(a: &Key, b: &Key) -> bool
 }
 
 /// The place of the first used arc that starts least.
-pub(crate) fn place_of_start(arcs: &ArcTable, used: &[ArcRef]) -> usize
+fn place_of_least(arcs: &ArcTable, used: &[ArcRef]) -> usize
     ensures { result ≡ least_place arcs.now.arcs used.now }
 {
     let Some((first, others)) = used.split_first() else {
@@ -73,4 +75,13 @@ pub(crate) fn place_of_start(arcs: &ArcTable, used: &[ArcRef]) -> usize
         }
     }
     place
+}
+
+/// Turns the list of a ring to begin at the first used arc that starts least: by its first vertex, then
+/// by its second.
+pub fn turn_ring(arcs: &ArcTable, used: &mut [ArcRef])
+    ensures { used.new ≡ turned_used position_cmp arcs.now.arcs used.old }
+{
+    let place = place_of_least(arcs, used);
+    used.rotate_left(place);
 }

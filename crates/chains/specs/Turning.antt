@@ -6,7 +6,7 @@ use Rattle.std.specs.declared.cmp.Ordering.{Ordering}
 use Rattle.theory.specs.ArcNumbers.{ArcRef, along}
 use Rattle.grid.specs.declared.pos.Pos.{Pos}
 use Rattle.lines.specs.Turned.{position_cmp}
-use Rattle.rejoining.specs.declared.starting.Key.{Key}
+use Rattle.chains.specs.declared.turning.Key.{Key}
 
 -- the first two vertices of a list
 abbrev pub key_of : List Pos → Key
@@ -18,8 +18,8 @@ key_if None = record { first = None; second = None }
 key_if (Some l) = key_of l
 
 -- the first two vertices along a used arc
-abbrev pub start_of : List (List Pos) → ArcRef → Key
-start_of arcs a = key_if (along arcs a)
+abbrev pub used_key : List (List Pos) → ArcRef → Key
+used_key arcs a = key_if (along arcs a)
 
 -- by the first vertex, then by the second
 abbrev pub key_cmp : Key → Key → Ordering
@@ -29,9 +29,9 @@ key_cmp a b = ordering_then (option_cmp position_cmp a.first b.first) (option_cm
 abbrev pub least_place_from : List (List Pos) → ℕ → Key → ℕ → List ArcRef → ℕ
 least_place_from arcs place least i [] = place
 least_place_from arcs place least i (a ∷ l) =
-    least_place_from arcs (cond (is_gt (key_cmp least (start_of arcs a))) i place) (cond (is_gt (key_cmp least (start_of arcs a))) (start_of arcs a) least) (i + 1) l
+    least_place_from arcs (cond (is_gt (key_cmp least (used_key arcs a))) i place) (cond (is_gt (key_cmp least (used_key arcs a))) (used_key arcs a) least) (i + 1) l
 
 -- the place of the first used arc that starts least
 abbrev pub least_place : List (List Pos) → List ArcRef → ℕ
 least_place arcs [] = 0
-least_place arcs (a ∷ l) = least_place_from arcs 0 (start_of arcs a) 1 l
+least_place arcs (a ∷ l) = least_place_from arcs 0 (used_key arcs a) 1 l

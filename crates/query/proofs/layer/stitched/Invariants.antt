@@ -1,8 +1,0 @@
-use Rattle.std.proofs.Common.{◌≡◌, ◌++◌, List, drop}
-use Rattle.shapes.specs.declared.feature.Feature.{Feature}
-use Rattle.topo.specs.Features.{AreFeaturesOf}
-use Rattle.query.proofs.layer.stitched.Given as goal
-
-abbrev pub invariant-loop-geometry : goal.invariant-loop-geometry
-invariant-loop-geometry l =
-    (fs : List Feature) → AreFeaturesOf l.fn.topology.arcs.arcs fs l.fn.geometries → l.made.items ++ drop l.geometry-index fs ≡ fs
