@@ -3,7 +3,7 @@
 
     (cd crates/topotool && rt run)
     python3 bench/chosen_hashes.py
-    python3 bench/chosen_hashes.py --limit 10 --seconds 130
+    python3 bench/chosen_hashes.py --limit 10 --seconds 160
 
 The hash of the kit's `indexmap` has no secret, so whoever writes a text can choose its arcs by their hashes:
 bench/chosen_hashes.c finds lines whose arcs all begin their look-ups at one place of such a table. Names of layers,
