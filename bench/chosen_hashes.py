@@ -3,7 +3,7 @@
 
     (cd crates/topotool && rt run)
     python3 bench/chosen_hashes.py
-    python3 bench/chosen_hashes.py --limit 10 --seconds 100
+    python3 bench/chosen_hashes.py --limit 10 --seconds 160
 
 The hash of the kit's `indexmap` has no secret, so whoever writes a text can choose its arcs by their hashes:
 bench/chosen_hashes.c finds lines whose arcs all begin their look-ups at one place of such a table. Names of layers,
@@ -23,6 +23,7 @@ a limit of time it stops there.
 
 import argparse
 import json
+import multiprocessing
 import os
 import random
 import shutil
@@ -121,7 +122,7 @@ class Files:
         parts = [("first", members[:half]), ("second", members[half:])]
         self.halves = [self.build(self.write(f".{part}.json", some), f".{part}.topo.json") for part, some in parts]
         geometries = [it["geometry"] for it in members]
-        self.lines = sorted(sorted(map(tuple, it["coordinates"])) for it in geometries if it["type"] == "LineString")
+        self.lines = sorted(tuple(sorted(map(tuple, it["coordinates"]))) for it in geometries if it["type"] == "LineString")
         return self
 
     def of_layers(self, names):
@@ -159,7 +160,7 @@ class Files:
 
     def is_mesh(self, out):
         with open(out, encoding="utf-8") as file:
-            return sorted(sorted(map(tuple, it)) for it in json.load(file)["coordinates"]) == self.lines
+            return sorted(tuple(sorted(map(tuple, it))) for it in json.load(file)["coordinates"]) == self.lines
 
     def commands(self):
         """The measured commands: title, words, and what tells whether the text is right."""
@@ -192,14 +193,21 @@ class Command:
         return self.seconds[0] / self.seconds[1]
 
 
+def prepared(job):
+    folder, title, tool, features, given = job
+    files = Files(folder, title, tool)
+    return files.of_layers(given) if features is None else files.of_features(features(given))
+
+
 def maps(folder, tool, count, seed):
-    """What is measured: a title, the files of what was chosen, and those of the others."""
+    """What is measured: kinds, and for each the files of what was chosen, and those of the others."""
     ends = chosen_ends(folder, count)
     names = chosen_names(count, seed), other_names(count, seed)
-    made = [("arcs", lines_to, (ends, other_ends(ends, seed))), ("members", points_with_members, names), ("features", points_of_features, names)]
-    for title, features, both in made:
-        yield title, *(Files(folder, it, tool).of_features(features(given)) for it, given in zip(("chosen", "others"), both))
-    yield "layers", *(Files(folder, it, tool).of_layers(given) for it, given in zip(("chosen", "others"), names))
+    kinds = {"arcs": (lines_to, (ends, other_ends(ends, seed))), "members": (points_with_members, names), "features": (points_of_features, names), "layers": (None, names)}
+    jobs = [(folder, f"{kind}.{which}", tool, features, given) for kind, (features, both) in kinds.items() for which, given in zip(("chosen", "others"), both)]
+    with multiprocessing.Pool(min(len(jobs), len(os.sched_getaffinity(0)))) as pool:
+        files = pool.map(prepared, jobs, chunksize=1)
+    return [*zip(kinds, files[::2], files[1::2])]
 
 
 COMMANDS = 23  # six on arcs, on members and on features, and five on layers, which `build` takes one by one
