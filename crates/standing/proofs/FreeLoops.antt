@@ -110,8 +110,8 @@ only_one : (v : Pos) (c : List Pos) (arcs : List (List Pos)) → Distinct arcs �
 only_one v c [] dis h n u = absurd h
 only_one v c (d ∷ arcs) dis (inl e) n u =
     let none : count v (gathered ends_once arcs) ≡ 0 = count_none v (gathered ends_once arcs) (λ h.
-        let t = gathered_from ends_once arcs v h in
-        dis.0 (subst (λ w. Has w arcs) (u t.0 (inr t.1) t.2 ∙ e) t.1)) in
+    let t = gathered_from ends_once arcs v h in
+    dis.0 (subst (λ w. Has w arcs) (u t.0 (inr t.1) t.2 ∙ e) t.1)) in
     let m : count v (ends_once d) ≡ 1 = ap (λ w. count v (ends_once w)) (sym e) ∙ n in
     omega (arith, none, m, count-append v (ends_once d) (gathered ends_once arcs))
 only_one v c (d ∷ arcs) dis (inr h) n u =
