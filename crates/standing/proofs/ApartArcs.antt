@@ -65,7 +65,7 @@ closes (x ∷ (y ∷ r)) f e =
     let k : x ≡ last_of y r = same_vertex-equal position_cmp position_total position_same x (last_of y r) e in
     ap (λ w. x ∷ w) (front_last y r ∙ ap (λ w. front_of y r ++ (w ∷ [])) (sym k))
 
-closed_closes : (r : List Pos) → is_closed position_cmp (closed r) ≡ true
+pub closed_closes : (r : List Pos) → is_closed position_cmp (closed r) ≡ true
 closed_closes [] = refl
 closed_closes (x ∷ l) = equal-same_vertex position_cmp position_total position_same x (last_of x (l ++ (x ∷ []))) (sym (last-snoc x x l))
 

@@ -10,3 +10,4 @@ pub mod Starting
 pub mod Threes
 pub mod Meets
 pub mod Together
+pub mod FreeLoops

@@ -36,9 +36,9 @@ within_or i zero = inr (omega arith)
 within_or zero (suc n) = inl (omega arith)
 within_or (suc i) (suc n) = elim (within_or i n) [ inl h ↦ inl (omega (arith, h)) | inr h ↦ inr (omega (arith, h)) ]
 
-pub length-marks_set : (v : Bool) (bs : List Bool) (us : List ArcRef) → length (marks_set v bs us) ≡ length bs
-length-marks_set v bs [] = refl
-length-marks_set v bs (a ∷ us) = length-marks_set v (set bs a.arc v) us ∙ length-set bs a.arc v
+pub marks_set_long : (v : Bool) (bs : List Bool) (us : List ArcRef) → length (marks_set v bs us) ≡ length bs
+marks_set_long v bs [] = refl
+marks_set_long v bs (a ∷ us) = marks_set_long v (set bs a.arc v) us ∙ length-set bs a.arc v
 
 -- what is not used keeps its mark
 other_mark : (v : Bool) (bs : List Bool) (us : List ArcRef) (k : ℕ) (d : Bool) → ¬ Uses k us → get_or (marks_set v bs us) k d ≡ get_or bs k d
@@ -71,10 +71,10 @@ pub marks_back : (n : ℕ) (us : List ArcRef) → marks_set false (marks_set tru
 marks_back n us = same_places (marks_set false (marks_set true (replicate n false) us) us) (replicate n false) false size each
   where
     one : length (marks_set true (replicate n false) us) ≡ n
-    one = length-marks_set true (replicate n false) us ∙ length-replicate n false
+    one = marks_set_long true (replicate n false) us ∙ length-replicate n false
 
     size : length (marks_set false (marks_set true (replicate n false) us) us) ≡ length (replicate n false)
-    size = length-marks_set false (marks_set true (replicate n false) us) us ∙ length-marks_set true (replicate n false) us
+    size = marks_set_long false (marks_set true (replicate n false) us) us ∙ marks_set_long true (replicate n false) us
 
     each : (k : ℕ) → k < length (marks_set false (marks_set true (replicate n false) us) us) →
         get_or (marks_set false (marks_set true (replicate n false) us) us) k false ≡ get_or (replicate n false) k false
@@ -144,11 +144,11 @@ pub added : (n m : ℕ) (here used now back all r s t : List Bool) (us : List Ar
     take n (back ++ drop (length back) (take n (now ++ drop (length now) here))) ≡ replicate (length (take m (all ++ drop (length all) used))) false
 added n m here used now back all r s t us h hn um rh nr sn bs tu at =
     let e : now ≡ marks_set true here us = nr ∙ ap (λ w. marks_set true w us) rh in
-    let ln : length now ≡ n = ap length e ∙ length-marks_set true here us ∙ hn in
+    let ln : length now ≡ n = ap length e ∙ marks_set_long true here us ∙ hn in
     let f : s ≡ marks_set true (replicate (length used) false) us = sn ∙ whole n now (drop (length now) here) ln ∙ e ∙ ap (λ w. marks_set true w us) h in
     let g : back ≡ replicate (length used) false = bs ∙ ap (λ w. marks_set false w us) f ∙ marks_back (length used) us in
     let lb : length back ≡ n = ap length g ∙ sym (ap length h) ∙ hn in
-    let la : length all ≡ length used = ap length at ∙ length-marks_set true t us ∙ ap length tu in
+    let la : length all ≡ length used = ap length at ∙ marks_set_long true t us ∙ ap length tu in
     whole n back (drop (length back) (take n (now ++ drop (length now) here))) lb
     ∙ g
     ∙ ap (λ w. replicate w false) (sym (ap length (whole m all (drop (length all) used) (la ∙ um)) ∙ la))

@@ -64,7 +64,7 @@ count_has v (x ∷ l) h = go (position_eq v x) refl h (count_has v l)
     go true p h k = inl (position_true v x p)
     go false p h k = inr (k h)
 
-count_none : (v : Pos) (l : List Pos) → ¬ Has v l → count v l ≡ 0
+pub count_none : (v : Pos) (l : List Pos) → ¬ Has v l → count v l ≡ 0
 count_none v l n = go (count v l) refl
   where
     go : (m : ℕ) → count v l ≡ m → m ≡ 0

@@ -25,10 +25,12 @@ fn none_free(table: &ArcTable, refs: &[ArcRef]) -> bool
 /// Whether a list of used arcs stands as a line's: it is not empty, each arc begins where the one
 /// before it ends, none stands in it twice, and none is a free loop. Its arcs are added to those that
 /// are used.
+#[tactic(auto, using(crate::proofs::Marking::marks_set_long))]
 pub fn line_stands(table: &ArcTable, used: &mut ArcsUsed, refs: &[ArcRef]) -> bool
     requires { length used.old ≡ length table.now.arcs }
     ensures stands { (result ≡ true) ↔ LineStands table.now.arcs (table_as_map table.now) refs.now }
     ensures used { used.new ≡ marks_set true used.old refs.now }
+    ensures len { length used.new ≡ length used.old }
 {
     if !used.add(refs) {
         return false;
@@ -52,10 +54,12 @@ fn goes_round(table: &ArcTable, refs: &[ArcRef]) -> bool
 /// Whether a list of used arcs stands as a ring's: each arc begins where the one before it ends, and
 /// the first where the last does, none stands in it twice, and none starts, by its first two vertices,
 /// before the first. Its arcs are added to those that are used.
+#[tactic(auto, using(crate::proofs::Marking::marks_set_long))]
 pub fn ring_stands(table: &ArcTable, used: &mut ArcsUsed, refs: &[ArcRef]) -> bool
     requires { length used.old ≡ length table.now.arcs }
     ensures stands { (result ≡ true) ↔ RingStands position_cmp table.now.arcs refs.now }
     ensures used { used.new ≡ marks_set true used.old refs.now }
+    ensures len { length used.new ≡ length used.old }
 {
     if !used.add(refs) {
         return false;

@@ -2,9 +2,14 @@
 ghost use Rattle.std.specs.Prelude.{◌≡◌, ◌++◌, IfOk, OnOk, map as map_list};
 ghost use Rattle.std.specs.List.Sorted.{IsSorted};
 ghost use Rattle.lines.specs.Reading as list;
+ghost use Rattle.grid.specs.declared.pos.Pos.{Pos};
 ghost use Rattle.lines.specs.Turned.{position_cmp};
+ghost use Rattle.theory.specs.Arcs.{AreArcsOf};
+ghost use Rattle.theory.specs.Geometry.{Geometry, IsSound};
 ghost use Rattle.theory.specs.Lists.{gathered};
-ghost use Rattle.standing.specs.Seams.{ends_once, goes_free, stands_once};
+ghost use Rattle.chains.specs.Table.{IsTableOf};
+ghost use Rattle.standing.specs.Apart.{table_read};
+ghost use Rattle.standing.specs.Seams.{AreLineEnds, ends_once, goes_free, stands_once};
 
 use crate::apart::{has, is_closed};
 use crate::runs::last_from;
@@ -59,7 +64,8 @@ fn is_free(ends: &[Pos], arc: &[Pos]) -> bool
 }
 
 /// Which arcs are free loops: those that are closed, and at whose seam neither another arc ends nor
-/// one of the lines, whose ends are given.
+/// one of the lines, whose ends are given. Of each map whose arcs these are, and whose lines end there,
+/// they are the free loops.
 ///
 /// # Errors
 /// Where memory is refused.
@@ -68,7 +74,8 @@ pub fn free_loops(
     arcs: &[Items<Pos>],
     line_ends: Vec<Pos>,
 ) -> Result<Vec<bool>, OutOfMemory>
-    ensures { IfOk result (λ v. v.items ≡ map_list (goes_free (line_ends.items ++ gathered ends_once arcs.now)) arcs.now) }
+    ensures marks { IfOk result (λ v. v.items ≡ map_list (goes_free (line_ends.items ++ gathered ends_once arcs.now)) arcs.now) }
+    ensures of_map { IfOk result (λ v. (g : Geometry Pos) → IsSound g → AreArcsOf position_cmp g arcs.now → AreLineEnds line_ends.items g → IsTableOf g (table_read arcs.now v.items)) }
 {
     let mut ends = line_ends;
     add_all_ends(&mut ends, arcs)?;

@@ -5,5 +5,3 @@
 mod arcs;
 #[cfg(test)]
 mod lists;
-#[cfg(test)]
-mod standing_lists;
