@@ -1,9 +1,9 @@
 -- The laws of arcs that are joined again, from those of theory.
-use Rattle.std.proofs.Common.{◌≡◌, ◌↔◌, ℕ, zero, suc, List, [], ◌∷◌, Some, slice_get, inl, refl, sym, ap, ◌∙◌, subst}
+use Rattle.std.proofs.Common.{◌≡◌, ◌↔◌, ◌≤◌, ℕ, zero, suc, List, [], ◌∷◌, length, Some, slice_get, inl, inr, refl, sym, ap, ◌∙◌, subst, arith}
 use Rattle.theory.specs.ArcNumbers.{ArcRef, Uses}
 use Rattle.theory.specs.Geometry.{Geometry, IsChainOf, IsSound, JunctionOf, SegmentOf}
 use Rattle.theory.specs.Laws.{IsOrder}
-use Rattle.theory.specs.Lists.{Beside, Pairwise}
+use Rattle.theory.specs.Lists.{Beside, Has, Pairwise}
 use Rattle.theory.specs.Refinement.{ArePiecesOfArc, IsPartOf, RemovalLaws, pieces_at}
 use Rattle.theory.proofs.ListsOfLists.{get_has}
 use Rattle.theory.proofs.ProvedLaws.{pieces_of_what_is_left}
@@ -17,7 +17,15 @@ use Rattle.chains.specs.Arcs.{Arcs}
 use Rattle.rejoining.specs.Laws.{KeptStandOnce, OnePieces, OthersStandNowhere, StandsOnce}
 use Rattle.rejoining.specs.Parts.{RejoinedParts}
 use Rattle.rejoining.specs.Rejoining.{IsRejoinedOf}
-use Rattle.rejoining.proofs.EndsMet.{beside_some}
+
+-- each vertex of a list of two or more has a neighbour
+beside_some : (x : Pos) (r : List Pos) → 1 ≤ length r → (v : Pos) → Has v (x ∷ r) → (w : Pos) × Beside v w (x ∷ r)
+beside_some x [] n v h = absurd (omega (arith, n))
+beside_some x (y ∷ r) n v (inl e) = (y, inl (inl (e, refl)))
+beside_some x (y ∷ []) n v (inr (inl e)) = (x, inr (inl (refl, e)))
+beside_some x (y ∷ []) n v (inr (inr z)) = absurd z
+beside_some x (y ∷ (z ∷ r)) n v (inr h) =
+    let t = beside_some y (z ∷ r) (omega arith) v h in (t.0, elim t.1 [ inl s ↦ inl (inr s) | inr s ↦ inr (inr s) ])
 
 order : IsOrder position_cmp
 order = record { total = position_total; same = position_same }

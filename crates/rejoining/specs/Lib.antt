@@ -1,9 +1,9 @@
 pub mod Parts
 pub mod Choosing
 pub mod Meeting
-pub mod CutBack
+pub mod Walks
 pub mod Rejoining
-pub mod Starts
 pub mod RingStarts
-pub mod Parting
+pub mod Joined
+pub mod Starts
 pub mod Laws
