@@ -1,9 +1,8 @@
 -- What is noted at a vertex: which ends of arcs meet there.
-use Rattle.std.proofs.Common.{◌≡◌, ◌↔◌, ℕ, Bool, true, false, cond, ◌||◌, List, [], ◌∷◌, ◌⊎◌, inl, inr, refl, sym, ap, ◌∙◌, subst, Option, Some, None}
+use Rattle.std.proofs.Common.{◌≡◌, ℕ, Bool, true, false, cond, List, [], ◌∷◌, ◌⊎◌, inl, inr, refl, sym, ap, ◌∙◌, subst, Option, Some, None}
 use Rattle.std.specs.Ordering.{is_eq}
 use Rattle.theory.specs.ArcNumbers.{ArcRef, along}
 use Rattle.theory.specs.Lists.{Distinct, Has}
-use Rattle.theory.specs.Removing.{ThreeMeet}
 use Rattle.theory.specs.Standing.{BeginsAt}
 use Rattle.grid.specs.declared.pos.Pos.{Pos}
 use Rattle.lines.specs.Turned.{position_cmp}

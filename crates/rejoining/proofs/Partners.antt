@@ -1,11 +1,11 @@
 -- Which used arc goes on from another, told by the ends of arcs that meet at vertices.
-use Rattle.std.proofs.Common.{eqb-true, eq-eqb, ◌≡◌, ◌↔◌, ℕ, zero, suc, Bool, true, false, cond, ◌&&◌, not, nat_eq, List, [], ◌∷◌, reverse, ◌⊎◌, inl, inr, refl, sym, ap, ◌∙◌, subst, get_or, option_map, Option, Some, None, slice_get}
+use Rattle.std.proofs.Common.{eqb-true, eq-eqb, ◌≡◌, ◌↔◌, ℕ, zero, suc, Bool, true, false, cond, nat_eq, List, [], ◌∷◌, reverse, inl, inr, refl, sym, ap, ◌∙◌, subst, option_map, Option, Some, None, slice_get}
 use Rattle.grid.specs.declared.pos.Pos.{Pos}
 use Rattle.lines.specs.Turned.{position_cmp}
 use Rattle.lines.specs.Positions.{position_total, position_same}
 use Rattle.lines.proofs.Positions.{bool_split, both_true, both_intro, position_dec, true_false}
-use Rattle.theory.specs.ArcNumbers.{ArcRef, StitchTo, Uses, along, flipped}
-use Rattle.theory.specs.Geometry.{Geometry, IsChainOf, IsSound, JunctionOf}
+use Rattle.theory.specs.ArcNumbers.{ArcRef, StitchTo, Uses, along}
+use Rattle.theory.specs.Geometry.{Geometry, IsChainOf, JunctionOf}
 use Rattle.theory.specs.LinesAndRings.{closed}
 use Rattle.theory.specs.Lists.{Has}
 use Rattle.theory.specs.Removing.{IsKept, KeptLaws, ThreeMeet}
@@ -20,7 +20,7 @@ use Rattle.chains.specs.Among.{among}
 use Rattle.chains.specs.Arcs.{Arcs}
 use Rattle.chains.proofs.Among.{among_has, has_among}
 use Rattle.rejoining.specs.Choosing.{kept_numbers}
-use Rattle.rejoining.specs.Meeting.{begin_at, first_if, met_in, noted_all, other_than, partner_at, partner_in, same_ref, same_way, used_at}
+use Rattle.rejoining.specs.Meeting.{begin_at, met_in, noted_all, other_than, partner_at, partner_in, same_ref, same_way, used_at}
 use Rattle.rejoining.specs.Rejoining.{IsLeftBy}
 use Rattle.rejoining.specs.Walks.{ArePaired, is_left}
 use Rattle.rejoining.specs.declared.meeting.End.{End}

@@ -1,15 +1,12 @@
 -- What runs are joined to is what is left of the table.
-use Rattle.std.proofs.Common.{◌≡◌, ◌≤◌, ℕ, zero, suc, Bool, true, false, cond, not, List, [], ◌∷◌, ◌++◌, take, drop, length, map, replicate, reverse, slice_get, ◌⊎◌, inl, inr, refl, sym, ap, ◌∙◌, subst, arith, Option, Some, None}
-use Rattle.std.proofs.lemmas.List.{reverse-reverse}
-use Rattle.std.specs.Ordering.{is_lt}
-use Rattle.std.specs.declared.cmp.Ordering.{Ordering}
+use Rattle.std.proofs.Common.{◌≡◌, ◌≤◌, ℕ, zero, suc, Bool, true, false, cond, List, [], ◌∷◌, ◌++◌, take, drop, length, map, replicate, reverse, slice_get, ◌⊎◌, inl, inr, refl, sym, ap, ◌∙◌, subst, arith, Option, Some, None}
 use Rattle.std.specs.declared.cmp.Ordering.TheVariants.{Less}
 use Rattle.grid.specs.declared.pos.Pos.{Pos}
 use Rattle.lines.specs.Turned.{list_cmp, position_cmp}
 use Rattle.lines.specs.Positions.{position_total, position_same}
-use Rattle.lines.proofs.Positions.{bool_split, position_dec}
-use Rattle.theory.specs.ArcNumbers.{ArcRef, StitchTo, Uses, along, backwards, flipped}
-use Rattle.theory.specs.Arcs.{AreArcsOf, AreSortedOnce}
+use Rattle.lines.proofs.Positions.{position_dec}
+use Rattle.theory.specs.ArcNumbers.{ArcRef, StitchTo, Uses, backwards, flipped}
+use Rattle.theory.specs.Arcs.{AreSortedOnce}
 use Rattle.theory.specs.Chain.{Free}
 use Rattle.theory.specs.Geometry.{Geometry, IsChainOf, IsSound, JunctionOf}
 use Rattle.theory.specs.LinesAndRings.{closed}
@@ -18,7 +15,7 @@ use Rattle.theory.specs.Refinement.{ArePiecesOfArc, IsRefinementOf, pieces_at}
 use Rattle.theory.specs.Removing.{AreJoined, IsKept, IsLoopRun, IsOpenRun}
 use Rattle.theory.specs.Standing.{BeginsAt}
 use Rattle.theory.proofs.GroupedPieces.{uses_parts}
-use Rattle.theory.proofs.ListsOfLists.{Has-map, get_has, has_get, map_has}
+use Rattle.theory.proofs.ListsOfLists.{Has-map, get_has, map_has}
 use Rattle.theory.proofs.ProvedLaws.{each_segment_once}
 use Rattle.theory.proofs.RefinementLaws.{pairwise_at}
 use Rattle.theory.proofs.RemovingKept.{part_sound}
@@ -28,7 +25,7 @@ use Rattle.theory.proofs.Reversing.{Has-reverse, reverse-snoc}
 use Rattle.chains.specs.Among.{Tells}
 use Rattle.chains.specs.Arcs.{Arcs}
 use Rattle.chains.specs.Pieces.{chain_of, is_backwards_less, least_direction}
-use Rattle.chains.specs.Table.{AreLoopsOf, IsTableOf, located, number_in}
+use Rattle.chains.specs.Table.{AreLoopsOf, located, number_in}
 use Rattle.chains.specs.declared.cutting.Piece.{Piece}
 use Rattle.chains.proofs.AllChains.{is_less, least_first}
 use Rattle.chains.proofs.Marks.{all_marked}
@@ -38,7 +35,7 @@ use Rattle.rejoining.specs.Meeting.{met_in, noted_all, partner_in}
 use Rattle.rejoining.specs.Parts.{RejoinedParts}
 use Rattle.rejoining.specs.Rejoining.{IsLeftBy, IsRejoinedOf}
 use Rattle.rejoining.specs.RingStarts.{least_place}
-use Rattle.rejoining.specs.Walks.{ArePaired, AreRuns, IsRun, IsWalked, is_left}
+use Rattle.rejoining.specs.Walks.{ArePaired, AreRuns, IsRun, IsWalked}
 use Rattle.rejoining.specs.declared.meeting.Meeting.{Meeting}
 use Rattle.rejoining.proofs.Partners as partners
 use Rattle.rejoining.proofs.Placed as placed

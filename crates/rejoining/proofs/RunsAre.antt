@@ -1,6 +1,6 @@
 -- Runs are such as the arcs of what is left are joined of: open runs from stop to stop, and runs that go round.
-use Rattle.std.proofs.Common.{◌≡◌, ◌≤◌, ◌+◌, ℕ, zero, suc, Bool, true, false, cond, not, List, [], ◌∷◌, ◌++◌, take, drop, length, map, reverse, ◌⊎◌, inl, inr, refl, sym, ap, ◌∙◌, subst, arith, append_assoc, Option, Some, None}
-use Rattle.std.proofs.lemmas.List.{reverse-reverse, length-append}
+use Rattle.std.proofs.Common.{◌≡◌, ◌≤◌, ◌+◌, ℕ, Bool, true, false, cond, List, [], ◌∷◌, ◌++◌, take, drop, length, map, reverse, inl, inr, refl, sym, ap, ◌∙◌, subst, arith, append_assoc, Option, Some, None}
+use Rattle.std.proofs.lemmas.List.{length-append}
 use Rattle.std.specs.Cmp.{tied_itself, upto}
 use Rattle.std.specs.Ordering.{is_gt, is_lt}
 use Rattle.std.specs.declared.cmp.Ordering.{Ordering}
@@ -10,7 +10,7 @@ use Rattle.lines.specs.Turned.{position_cmp}
 use Rattle.lines.specs.Positions.{position_total, position_same}
 use Rattle.lines.proofs.Positions.{position_dec}
 use Rattle.lines.proofs.SortedLists.{not_less}
-use Rattle.theory.specs.ArcNumbers.{ArcRef, StitchFrom, StitchTo, Uses, UsesOnce, along, backwards, flipped}
+use Rattle.theory.specs.ArcNumbers.{ArcRef, StitchTo, Uses, backwards, flipped}
 use Rattle.theory.specs.Geometry.{AtMost, Geometry, JunctionOf}
 use Rattle.theory.specs.LinesAndRings.{IsLine, IsRing, IsRotation, Trail, closed}
 use Rattle.theory.specs.Lists.{EndOf, Has, Steps, front_of, last_of}
@@ -23,18 +23,17 @@ use Rattle.theory.proofs.ReplacedNumbers.{rotation_reverse}
 use Rattle.theory.proofs.Rotations.{rotation_ring, rotation_trans}
 use Rattle.theory.proofs.StandingMaps.{list_line, list_ring}
 use Rattle.chains.specs.Arcs.{Arcs}
-use Rattle.chains.specs.Pieces.{is_backwards_less}
 use Rattle.rejoining.specs.Choosing.{kept_numbers}
-use Rattle.rejoining.specs.Joined.{begun_at, chain_by, directed, from_least, goes_round, is_there, least_vertex, least_vertex_from, list_by, run_along, without_last}
+use Rattle.rejoining.specs.Joined.{begun_at, directed, from_least, least_vertex, least_vertex_from, list_by, run_along, without_last}
 use Rattle.rejoining.specs.Meeting.{met_in, noted_all, partner_in}
 use Rattle.rejoining.specs.Rejoining.{IsLeftBy}
-use Rattle.rejoining.specs.Walks.{IsRun, IsWalked, Linked, is_left}
+use Rattle.rejoining.specs.Walks.{IsWalked, Linked, is_left}
 use Rattle.rejoining.specs.declared.meeting.Meeting.{Meeting}
 use Rattle.rejoining.proofs.Partners as partners
 use Rattle.rejoining.proofs.Stitches as stitches
 use Rattle.rejoining.proofs.Stitches.{follow_back, front_is, once_back, one_begin, run_stitched, stitch_reverse, uses_has}
 use Rattle.rejoining.proofs.Turned.{turned_at}
-use Rattle.rejoining.proofs.WalkedRuns.{flip_flip, uses_last}
+use Rattle.rejoining.proofs.WalkedRuns.{uses_last}
 
 -- the least vertex of a list
 abbrev pub Least : Pos → List Pos → Type 0
@@ -257,34 +256,40 @@ module _ (g u : Geometry Pos) (old : Arcs) (marks : List Bool) (ending : List Po
       pub loop_run : (b : Bool) →
           (k : IsLoopRun position_cmp Kept J old.arcs (cond b (reverse (closed (turn.0 ∷ turn.1))) (closed (turn.0 ∷ turn.1))) (list_by old.arcs true (directed b (a ∷ more)))) ×
           ((n : ℕ) → Uses n k.from → Uses n (a ∷ more))
-      loop_run false = (record {
-        from = a ∷ more;
-        round = s.begin ∷ ring.0;
-        first = turn.0;
-        rest = turn.1;
-        run = record { some = λ e. cc; stitch = subst (StitchTo old.arcs (a ∷ more)) ring.2 s.stitch; once = w.once; stays = stays };
-        meets = λ b v h begins. free_begin b v (stays b.arc (uses_has b (a ∷ more) h)) (all_linking b h).0 begins;
-        turned = turn.3;
-        least = turn.4;
-        arc = refl;
-        list = sym (turned_at old.arcs (a ∷ more));
-      }, λ n h. h)
-      loop_run true = (record {
-        from = backwards (a ∷ more);
-        round = s.begin ∷ reverse ring.0;
-        first = turn.0;
-        rest = reverse turn.1;
-        run = record {
-          some = stitches.back_full a more;
-          stitch = subst (StitchTo old.arcs (backwards (a ∷ more))) (ap reverse ring.2 ∙ closed_back s.begin ring.0) back_stitch;
-          once = once_back (a ∷ more) w.once;
-          stays = back_stays;
-        };
-        meets = λ b v h begins.
-            let c = map_has flipped (a ∷ more) b (Has-unreverse b (map flipped (a ∷ more)) h) in
-            free_begin b v (back_stays b.arc (uses_has b (backwards (a ∷ more)) h)) (subst Linking (sym c.2) (all_linking c.0 c.1).1) begins;
-        turned = rotation_back_way s.begin ring.0 turn.0 turn.1 turn.3;
-        least = λ v h. turn.4 v (elim h [ inl e ↦ inl e | inr i ↦ inr (Has-unreverse v ring.0 i) ]);
-        arc = closed_back turn.0 turn.1;
-        list = sym (turned_at old.arcs (backwards (a ∷ more)));
-      }, λ n h. stitches.uses_again n (a ∷ more) h)
+      loop_run false = (
+        record {
+          from = a ∷ more;
+          round = s.begin ∷ ring.0;
+          first = turn.0;
+          rest = turn.1;
+          run = record { some = λ e. cc; stitch = subst (StitchTo old.arcs (a ∷ more)) ring.2 s.stitch; once = w.once; stays = stays };
+          meets = λ b v h begins. free_begin b v (stays b.arc (uses_has b (a ∷ more) h)) (all_linking b h).0 begins;
+          turned = turn.3;
+          least = turn.4;
+          arc = refl;
+          list = sym (turned_at old.arcs (a ∷ more));
+        },
+        λ n h. h,
+      )
+      loop_run true = (
+        record {
+          from = backwards (a ∷ more);
+          round = s.begin ∷ reverse ring.0;
+          first = turn.0;
+          rest = reverse turn.1;
+          run = record {
+            some = stitches.back_full a more;
+            stitch = subst (StitchTo old.arcs (backwards (a ∷ more))) (ap reverse ring.2 ∙ closed_back s.begin ring.0) back_stitch;
+            once = once_back (a ∷ more) w.once;
+            stays = back_stays;
+          };
+          meets = λ b v h begins.
+              let c = map_has flipped (a ∷ more) b (Has-unreverse b (map flipped (a ∷ more)) h) in
+              free_begin b v (back_stays b.arc (uses_has b (backwards (a ∷ more)) h)) (subst Linking (sym c.2) (all_linking c.0 c.1).1) begins;
+          turned = rotation_back_way s.begin ring.0 turn.0 turn.1 turn.3;
+          least = λ v h. turn.4 v (elim h [ inl e ↦ inl e | inr i ↦ inr (Has-unreverse v ring.0 i) ]);
+          arc = closed_back turn.0 turn.1;
+          list = sym (turned_at old.arcs (backwards (a ∷ more)));
+        },
+        λ n h. stitches.uses_again n (a ∷ more) h,
+      )

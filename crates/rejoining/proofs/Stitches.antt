@@ -1,13 +1,12 @@
 -- What runs run along: lists that stitch, which end at stops or go round.
-use Rattle.std.proofs.Common.{◌≡◌, ◌≤◌, ◌-◌, ℕ, zero, suc, Bool, true, false, cond, not, List, [], ◌∷◌, ◌++◌, take, drop, length, map, reverse, ◌⊎◌, inl, inr, refl, sym, ap, ◌∙◌, subst, arith, append_assoc, unwrap_or, Option, Some, None}
+use Rattle.std.proofs.Common.{◌≡◌, ◌-◌, ℕ, Bool, true, List, [], ◌∷◌, ◌++◌, take, length, map, reverse, inl, inr, refl, sym, ap, ◌∙◌, subst, arith, append_assoc, unwrap_or, Option, Some, None}
 use Rattle.std.proofs.lemmas.List.{append-nil}
 use Rattle.grid.specs.declared.pos.Pos.{Pos}
 use Rattle.lines.specs.Turned.{position_cmp}
 use Rattle.theory.specs.ArcNumbers.{ArcRef, StitchFrom, StitchTo, Uses, UsesOnce, along, backwards, flipped}
 use Rattle.theory.specs.Geometry.{Geometry, JunctionOf}
-use Rattle.theory.specs.LinesAndRings.{closed}
-use Rattle.theory.specs.Lists.{EndOf, Has, front_of, last_of}
-use Rattle.theory.specs.Removing.{Behind, IsKept, IsOpenRun, IsRun as IsRunOf}
+use Rattle.theory.specs.Lists.{Has, front_of, last_of}
+use Rattle.theory.specs.Removing.{Behind, IsKept, IsRun as IsRunOf}
 use Rattle.theory.specs.Standing.{BeginsAt}
 use Rattle.theory.proofs.ArcNumbers.{along_flipped, taken_back, taken_of, taken_stitch}
 use Rattle.theory.proofs.GroupedPieces.{uses_back, uses_parts}
@@ -19,10 +18,10 @@ use Rattle.rejoining.specs.Choosing.{kept_numbers}
 use Rattle.rejoining.specs.Joined.{on_along, positions_along, run_along, without_last}
 use Rattle.rejoining.specs.Meeting.{met_in, noted_all, partner_in}
 use Rattle.rejoining.specs.Rejoining.{IsLeftBy}
-use Rattle.rejoining.specs.Walks.{ArePaired, IsRun, IsWalked, Linked, is_left}
+use Rattle.rejoining.specs.Walks.{ArePaired, Linked, is_left}
 use Rattle.rejoining.specs.declared.meeting.Meeting.{Meeting}
 use Rattle.rejoining.proofs.Partners as partners
-use Rattle.rejoining.proofs.WalkedRuns.{flip_flip, uses_last}
+use Rattle.rejoining.proofs.WalkedRuns.{flip_flip}
 
 -- a list without its last
 take_front : {A : Type 0} (x : A) (r : List A) → take (length r) (x ∷ r) ≡ front_of x r

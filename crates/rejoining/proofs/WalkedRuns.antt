@@ -1,11 +1,11 @@
 -- What walks along used arcs find: runs, none of which uses an arc twice, and which together use each arc.
-use Rattle.std.proofs.Common.{◌≡◌, ◌≤◌, ℕ, zero, suc, ◌+◌, Bool, true, false, cond, not, List, [], ◌∷◌, ◌++◌, length, ◌⊎◌, inl, inr, refl, sym, ap, ◌∙◌, subst, arith, append_assoc, get_or, slice_set, Option, Some, None}
+use Rattle.std.proofs.Common.{◌≡◌, ◌≤◌, ℕ, zero, suc, ◌+◌, Bool, true, false, not, List, [], ◌∷◌, ◌++◌, length, ◌⊎◌, inl, inr, refl, sym, ap, ◌∙◌, subst, arith, Option, Some, None}
 use Rattle.std.proofs.lemmas.List.{append-nil}
 use Rattle.theory.specs.ArcNumbers.{ArcRef, Uses, UsesOnce, flipped}
-use Rattle.theory.specs.Lists.{Has, last_of}
+use Rattle.theory.specs.Lists.{last_of}
 use Rattle.theory.proofs.Lists.{Has-append, Has-append_left, Has-append_right}
 use Rattle.lines.proofs.Positions.{bool_split, true_false}
-use Rattle.rejoining.specs.Walks.{Adds, AddsBegun, ArePaired, AreRuns, AreWalked, Goes, GoesOn, IsRun, IsWalked, Linked, Walk, count_left, is_left, some_one, without}
+use Rattle.rejoining.specs.Walks.{Adds, AddsBegun, ArePaired, AreRuns, AreWalked, Goes, GoesOn, IsRun, Linked, Walk, count_left, is_left, without}
 
 -- taking an arc
 left_gone : (left : List Bool) (k : ℕ) → is_left (without left k) k ≡ false
@@ -144,10 +144,10 @@ module _ (marks : List Bool) (partner : ArcRef → Option ArcRef) (paired : AreP
   comes_round a (c ∷ more) l once stays b e (inl h) = elim (one_or_flipped b a h) [
     | inl f ↦ f
     | inr f ↦ absurd (
-      let z : ArcRef = last_of c more in
-      let p = (paired (flipped z) b (stays z.arc (inr (uses_last c more))) e).1 in
-      let same : c ≡ flipped z = some_same c (flipped z) (sym l.0 ∙ ap partner (sym f) ∙ p) in
-      turn c more once.1 same)
+        let z : ArcRef = last_of c more in
+        let p = (paired (flipped z) b (stays z.arc (inr (uses_last c more))) e).1 in
+        let same : c ≡ flipped z = some_same c (flipped z) (sym l.0 ∙ ap partner (sym f) ∙ p) in
+        turn c more once.1 same)
   ]
     where
       turn : (c : ArcRef) (more : List ArcRef) → UsesOnce (c ∷ more) → ¬ (c ≡ flipped (last_of c more))

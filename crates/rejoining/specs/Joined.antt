@@ -1,5 +1,5 @@
 -- What runs are joined to: for each run a new arc, and its old ones in order along it.
-use Rattle.std.specs.Prelude.{ℕ, ◌+◌, ◌-◌, Bool, true, false, cond, List, [], ◌∷◌, ◌++◌, take, drop, length, map, slice_set, Option, Some, None, unwrap_or}
+use Rattle.std.specs.Prelude.{ℕ, ◌+◌, ◌-◌, Bool, true, false, cond, List, [], ◌∷◌, ◌++◌, take, drop, length, slice_set, Option, Some, None, unwrap_or}
 use Rattle.std.specs.Ordering.{is_lt}
 use Rattle.theory.specs.ArcNumbers.{ArcRef, along, backwards}
 use Rattle.theory.specs.LinesAndRings.{closed}
@@ -7,9 +7,7 @@ use Rattle.grid.specs.declared.pos.Pos.{Pos}
 use Rattle.lines.specs.Turned.{position_cmp}
 use Rattle.chains.specs.Pieces.{is_backwards_less, least_direction}
 use Rattle.chains.specs.declared.cutting.Piece.{Piece}
-use Rattle.rejoining.specs.Meeting.{partner_in}
 use Rattle.rejoining.specs.RingStarts.{least_place}
-use Rattle.rejoining.specs.declared.meeting.Meeting.{Meeting}
 
 -- the positions along a used arc; none where there is no arc
 abbrev pub positions_along : List (List Pos) → ArcRef → List Pos
