@@ -31,7 +31,7 @@ use Rattle.chains.proofs.Found.{Among-turn}
 lists_same : (xs ys : List Pos) → list_cmp xs ys ≡ Equal → xs ≡ ys
 lists_same = slice_cmp-IsAntisymmetric position_same
 
-is_less : (r : Ordering) → is_lt r ≡ true → r ≡ Less
+pub is_less : (r : Ordering) → is_lt r ≡ true → r ≡ Less
 is_less Less e = refl
 is_less Equal e = cc
 is_less Greater e = cc
@@ -56,7 +56,7 @@ not_both Greater s e f = cc
 backward : (d : List Pos) → list_cmp d (reverse d) ≡ ordering_reverse (list_cmp (reverse d) d)
 backward d = (lists_total position_total).antisymm d (reverse d)
 
-least_first : (d : List Pos) → ¬ (d ≡ reverse d) → is_lt (list_cmp (least_direction d) (reverse (least_direction d))) ≡ true
+pub least_first : (d : List Pos) → ¬ (d ≡ reverse d) → is_lt (list_cmp (least_direction d) (reverse (least_direction d))) ≡ true
 least_first d n = go (is_backwards_less d) refl
   where
     go : (b : Bool) → is_backwards_less d ≡ b → is_lt (list_cmp (cond b (reverse d) d) (reverse (cond b (reverse d) d))) ≡ true

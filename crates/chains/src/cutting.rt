@@ -71,7 +71,8 @@ impl Piece {
         }
     }
 
-    pub(crate) fn new(chain: Vec<Pos>, free: bool) -> Piece
+    /// The piece of a chain that is read in some direction.
+    pub fn new(chain: Vec<Pos>, free: bool) -> Piece
         ensures { result ≡ record { chain = spec.least_direction chain.items; reversed = spec.is_backwards_less chain.items; free = free } }
     {
         let (least, reversed) = least_direction(chain);

@@ -176,30 +176,6 @@ fn pieces_of(
 }
 
 /// The maximal chains over segments, of which some stand in `whole` as chains already: these, and
-/// those found over the other segments, each in its least direction, sorted. It may be asked for any
-/// segments and stops, and promises the chains where each vertex that is no stop lies on exactly two
-/// of the other segments, or on none.
-///
-/// # Errors
-/// Where memory is refused.
-pub fn maximal_over(
-    alloc: Global,
-    whole: Vec<Vec<Pos>>,
-    segments: &[Segment],
-    stops: &BTreeSet<Pos>,
-) -> Result<ArcTable, OutOfMemory>
-    ensures { IfOk result (λ t. MeetsTwo segments.now stops.now.keys → (all : List Segment) → MeetsTwo all stops.now.keys → AreParted all stops.now.keys (map (λ c. c.items) whole.items) segments.now → AreMaximal all stops.now.keys t) }
-{
-    let stops = StopSet::of(alloc, stops)?;
-    let mut found = chains_of(alloc, segments, &stops)?;
-    let mut chains = whole;
-    chains.append(&mut found)?;
-    let pieces = pieces_of(alloc, chains, &stops)?;
-    let table = ArcTable::from_pieces(alloc, pieces)?;
-    Ok(table)
-}
-
-/// The maximal chains over segments, of which some stand in `whole` as chains already: these, and
 /// those found over the other segments, each in its least direction, sorted. The caller's condition:
 /// each vertex that is no stop lies on exactly two of the other segments, or on none.
 ///
@@ -214,7 +190,13 @@ pub fn maximal_with(
     requires { MeetsTwo segments.now stops.now.keys }
     ensures { IfOk result (λ t. (all : List Segment) → MeetsTwo all stops.now.keys → AreParted all stops.now.keys (map (λ c. c.items) whole.items) segments.now → AreMaximal all stops.now.keys t) }
 {
-    maximal_over(alloc, whole, segments, stops)
+    let stops = StopSet::of(alloc, stops)?;
+    let mut found = chains_of(alloc, segments, &stops)?;
+    let mut chains = whole;
+    chains.append(&mut found)?;
+    let pieces = pieces_of(alloc, chains, &stops)?;
+    let table = ArcTable::from_pieces(alloc, pieces)?;
+    Ok(table)
 }
 
 /// The maximal chains over a set of segments, which run from stop to stop, each in its least

@@ -21,7 +21,7 @@ pub mod used_arcs;
 pub mod visits;
 
 pub use cutting::{Piece, add_pieces, cut_arc, cut_line, cut_ring};
-pub use joining::{maximal, maximal_over, maximal_with};
+pub use joining::{maximal, maximal_with};
 pub use segment::Segment;
 pub use sides::segments_of;
 pub use table::{ArcRef, ArcTable};

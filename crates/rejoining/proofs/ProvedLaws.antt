@@ -1,9 +1,9 @@
 -- The laws of arcs that are joined again, from those of theory.
-use Rattle.std.proofs.Common.{◌≡◌, ◌↔◌, ℕ, List, [], ◌∷◌, Some, slice_get, inl, refl, sym, ap, ◌∙◌, subst}
+use Rattle.std.proofs.Common.{◌≡◌, ◌↔◌, ◌≤◌, ℕ, zero, suc, List, [], ◌∷◌, length, Some, slice_get, inl, inr, refl, sym, ap, ◌∙◌, subst, arith}
 use Rattle.theory.specs.ArcNumbers.{ArcRef, Uses}
 use Rattle.theory.specs.Geometry.{Geometry, IsChainOf, IsSound, JunctionOf, SegmentOf}
 use Rattle.theory.specs.Laws.{IsOrder}
-use Rattle.theory.specs.Lists.{Beside}
+use Rattle.theory.specs.Lists.{Beside, Has, Pairwise}
 use Rattle.theory.specs.Refinement.{ArePiecesOfArc, IsPartOf, RemovalLaws, pieces_at}
 use Rattle.theory.proofs.ListsOfLists.{get_has}
 use Rattle.theory.proofs.ProvedLaws.{pieces_of_what_is_left}
@@ -14,14 +14,29 @@ use Rattle.lines.specs.Turned.{position_cmp}
 use Rattle.lines.specs.Positions.{position_total, position_same}
 use Rattle.lines.proofs.Positions.{position_dec}
 use Rattle.chains.specs.Arcs.{Arcs}
-use Rattle.chains.proofs.Paired.{paired}
 use Rattle.rejoining.specs.Laws.{KeptStandOnce, OnePieces, OthersStandNowhere, StandsOnce}
 use Rattle.rejoining.specs.Parts.{RejoinedParts}
 use Rattle.rejoining.specs.Rejoining.{IsRejoinedOf}
-use Rattle.rejoining.proofs.EndsMet.{beside_some}
+
+-- each vertex of a list of two or more has a neighbour
+beside_some : (x : Pos) (r : List Pos) → 1 ≤ length r → (v : Pos) → Has v (x ∷ r) → (w : Pos) × Beside v w (x ∷ r)
+beside_some x [] n v h = absurd (omega (arith, n))
+beside_some x (y ∷ r) n v (inl e) = (y, inl (inl (e, refl)))
+beside_some x (y ∷ []) n v (inr (inl e)) = (x, inr (inl (refl, e)))
+beside_some x (y ∷ []) n v (inr (inr z)) = absurd z
+beside_some x (y ∷ (z ∷ r)) n v (inr h) =
+    let t = beside_some y (z ∷ r) (omega arith) v h in (t.0, elim t.1 [ inl s ↦ inl (inr s) | inr s ↦ inr (inr s) ])
 
 order : IsOrder position_cmp
 order = record { total = position_total; same = position_same }
+
+-- what stands at a place of the second list
+paired : {A : Type 0} (R : A → List ArcRef → Type 0) (xs : List A) (ys : List (List ArcRef)) → Pairwise R xs ys →
+    (i : ℕ) (x : A) → slice_get xs i ≡ Some x → (y : List ArcRef) × (slice_get ys i ≡ Some y) × R x y
+paired R [] ys p i x e = absurd cc
+paired R (z ∷ xs) [] p i x e = absurd p
+paired R (z ∷ xs) (y ∷ ys) p zero x e = let k : Some z ≡ Some x = e in (y, refl, subst (λ w. R w y) (let m : z ≡ x = cc in m) p.0)
+paired R (z ∷ xs) (y ∷ ys) p (suc i) x e = paired R xs ys p.1 i x e
 
 module _ (g u : Geometry Pos) (su : IsSound u) (part : IsPartOf g u) (old : Arcs) (r : RejoinedParts) (is : IsRejoinedOf g u old r) where
   laws : RemovalLaws g u old.arcs r.pieces

@@ -1,8 +1,8 @@
 pub mod Parts
 pub mod Choosing
 pub mod Meeting
-pub mod CutBack
+pub mod Walks
 pub mod Rejoining
+pub mod Joined
 pub mod Starts
-pub mod Parting
 pub mod Laws

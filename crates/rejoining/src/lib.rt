@@ -2,13 +2,13 @@
 #![tactic(auto)]
 
 mod choosing;
-mod cutting_back;
+mod joined;
 pub mod laws;
 mod meeting;
-mod parts;
 pub mod rejoined;
 pub mod rejoining;
 mod start_table;
+mod walking;
 
 pub use rejoined::Rejoined;
 pub use rejoining::rejoin;

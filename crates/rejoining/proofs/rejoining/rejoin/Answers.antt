@@ -1,12 +1,22 @@
-use Rattle.std.proofs.Common.{subst, sym}
-use Rattle.rejoining.specs.CutBack.{MeetAtEnds}
-use Rattle.rejoining.specs.Rejoining.{IsRejoinedOf}
+use Rattle.rejoining.proofs.Rejoins.{rejoin_count, rejoin_told}
 use Rattle.rejoining.proofs.rejoining.rejoin.Goals as goal
 
 pub returns-clause-refined : goal.returns-clause-refined
-returns-clause-refined c = λ g u left.
-    let old = c.args.old.now in
-    let table = c.in_ok-arcs.ensures.table g u left in
-    let meet = subst (λ w. MeetAtEnds u old.arcs w c.in_ok-arcs.field-0.arcs.arcs) (sym c.deref.ensures.value) (c.in_ok-arcs.ensures.ends g u left) in
-    subst (IsRejoinedOf g u old) (sym c.in_ok-from_parts.ensures)
-    (record { table = table; refined = c.in_ok-pieces.ensures.refined g u left.sound left.part left.table table meet })
+returns-clause-refined c =
+    rejoin_told c.args.old.now c.args.kept.now c.args.ends.now c.in_ok-chosen.chosen.items c.deref.result.now c.in_ok-chosen.ensures c.deref.ensures.value
+    c.in_ok-meeting.meeting c.in_ok-meeting.ensures.met c.in_ok-meeting.ensures.ends
+    c.in_ok-runs.runs.items c.deref-2.result.now c.deref-2.ensures.value c.in_ok-runs.ensures
+    c.in_ok-pieces.field-0.pieces.items c.in_ok-pieces.field-0.lists.items c.in_ok-pieces.ensures.pieces c.in_ok-pieces.ensures.lists
+    c.in_ok-arcs.arcs c.in_ok-arcs.ensures.arcs c.in_ok-arcs.ensures.loops
+    c.in_ok-arcs.refs.items c.deref-3.result.now c.in_ok-arcs.ensures.refs c.deref-3.ensures.value c.len.result c.len.ensures.len
+    c.in_ok-lists.lists.items c.in_ok-lists.ensures c.in_ok-from_parts.field-0 c.in_ok-from_parts.ensures
+
+pub returns-clause-pieces : goal.returns-clause-pieces
+returns-clause-pieces c =
+    rejoin_count c.args.old.now c.args.kept.now c.args.ends.now c.in_ok-chosen.chosen.items c.deref.result.now c.in_ok-chosen.ensures c.deref.ensures.value
+    c.in_ok-meeting.meeting c.in_ok-meeting.ensures.met c.in_ok-meeting.ensures.ends
+    c.in_ok-runs.runs.items c.deref-2.result.now c.deref-2.ensures.value c.in_ok-runs.ensures
+    c.in_ok-pieces.field-0.pieces.items c.in_ok-pieces.field-0.lists.items c.in_ok-pieces.ensures.pieces c.in_ok-pieces.ensures.lists
+    c.in_ok-arcs.arcs c.in_ok-arcs.ensures.arcs c.in_ok-arcs.ensures.loops
+    c.in_ok-arcs.refs.items c.deref-3.result.now c.in_ok-arcs.ensures.refs c.deref-3.ensures.value c.len.result c.len.ensures.len
+    c.in_ok-lists.lists.items c.in_ok-lists.ensures c.in_ok-from_parts.field-0 c.in_ok-from_parts.ensures

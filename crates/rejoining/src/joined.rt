@@ -1,0 +1,227 @@
+//! What runs are joined to: for each run a new arc, and its old ones in order along it.
+ghost use Rattle.std.specs.Prelude.{◌≡◌, ◌++◌, ◌∷◌, [], IfOk, OnOk, map as map_list, replicate, slice_set};
+ghost use Rattle.std.specs.Ordering.{is_lt};
+ghost use Rattle.theory.specs.ArcNumbers.{backwards};
+ghost use Rattle.lines.specs.Turned.{position_cmp};
+ghost use Rattle.rejoining.specs.Joined as spec;
+ghost use Rattle.rejoining.specs.Joined.{chain_by, from_least, least_vertex, list_by, list_of_run, piece_of_run, positions_along, put_all, run_along};
+ghost use Rattle.rejoining.specs.Meeting.{partner_in};
+
+use crate::meeting::Meeting;
+use crate::walking::turned_back;
+use chains::cutting::Piece;
+use chains::table::{ArcRef, ArcTable};
+use chains::turning::turn_ring;
+use grid::pos::Pos;
+use lines::items::Items;
+use std::alloc::{AllocError, Global};
+
+/// The new arcs of runs as pieces, and the old arcs of each.
+#[derive(Drop)]
+pub(crate) struct Joined {
+    pub(crate) pieces: Vec<Piece>,
+    pub(crate) lists: Vec<Items<ArcRef>>,
+}
+
+fn along(alloc: Global, arcs: &ArcTable, used: &ArcRef) -> Result<Vec<Pos>, AllocError>
+    ensures { IfOk result (λ v. v.items ≡ positions_along arcs.now.arcs used.now) }
+{
+    let Some(arc) = arcs.arc(used.arc) else {
+        return Ok(Vec::new(alloc));
+    };
+    let mut positions = arc.to_vec(alloc)?;
+    if used.reversed {
+        positions.reverse();
+    }
+    Ok(positions)
+}
+
+/// What a run runs along; the position at which two of its arcs meet stands once.
+fn chain_of(alloc: Global, arcs: &ArcTable, run: &[ArcRef]) -> Result<Vec<Pos>, AllocError>
+    ensures { IfOk result (λ v. v.items ≡ run_along arcs.now.arcs run.now) }
+{
+    let Some((first, others)) = run.split_first() else {
+        return Ok(Vec::new(alloc));
+    };
+    let mut chain = along(alloc, arcs, first)?;
+    for used in others {
+        let mut more = along(alloc, arcs, used)?;
+        chain.pop();
+        chain.append(&mut more)?;
+    }
+    Ok(chain)
+}
+
+fn comes_before(a: &Pos, b: &Pos) -> bool
+    ensures { result ≡ is_lt (position_cmp a.now b.now) }
+{
+    a < b
+}
+
+/// The place of the least vertex of a ring.
+fn place_of_least(ring: &[Pos]) -> usize
+    ensures { result ≡ least_vertex ring.now }
+{
+    let Some((first, others)) = ring.split_first() else {
+        return 0;
+    };
+    let mut place = 0;
+    let mut least = *first;
+    for (i, vertex) in others.iter().enumerate() {
+        if comes_before(vertex, &least) {
+            place = i + 1;
+            least = *vertex;
+        }
+    }
+    place
+}
+
+/// A closed chain, read from its least vertex.
+fn read_from_least(chain: Vec<Pos>) -> Result<Vec<Pos>, AllocError>
+    ensures { IfOk result (λ v. v.items ≡ from_least chain.items) }
+{
+    let mut ring = chain;
+    ring.pop();
+    let place = place_of_least(&ring);
+    ring.rotate_left(place);
+    if let Some(first) = ring.first().copied() {
+        ring.push(first)?;
+    }
+    Ok(ring)
+}
+
+/// The chain of a run, which may go round.
+fn joined_chain(
+    alloc: Global,
+    arcs: &ArcTable,
+    run: &[ArcRef],
+    round: bool,
+) -> Result<Vec<Pos>, AllocError>
+    ensures { IfOk result (λ v. v.items ≡ chain_by arcs.now.arcs round run.now) }
+{
+    let chain = chain_of(alloc, arcs, run)?;
+    if round {
+        return read_from_least(chain);
+    }
+    Ok(chain)
+}
+
+/// A run read backwards.
+fn read_backwards(alloc: Global, run: &[ArcRef]) -> Result<Vec<ArcRef>, AllocError>
+    ensures { IfOk result (λ v. v.items ≡ backwards run.now) }
+{
+    let mut refs = Vec::with_capacity(alloc, run.len())?;
+    for used in run {
+        refs.push(turned_back(*used))?;
+    }
+    refs.reverse();
+    Ok(refs)
+}
+
+/// A run in one of its directions.
+fn directed(alloc: Global, run: &[ArcRef], reversed: bool) -> Result<Vec<ArcRef>, AllocError>
+    ensures { IfOk result (λ v. v.items ≡ spec.directed reversed run.now) }
+{
+    if reversed {
+        return read_backwards(alloc, run);
+    }
+    Ok(run.to_vec(alloc)?)
+}
+
+/// The list of a run; that of one which goes round begins where it starts least.
+fn listed(arcs: &ArcTable, run: Vec<ArcRef>, round: bool) -> Items<ArcRef>
+    ensures { result ≡ list_by arcs.now.arcs round run.items }
+{
+    let mut refs = run;
+    if round {
+        turn_ring(arcs, &mut refs);
+    }
+    Items::from_vec(refs)
+}
+
+fn goes_round(arcs: &ArcTable, meeting: &Meeting, run: &[ArcRef]) -> bool
+    ensures { result ≡ spec.goes_round (partner_in arcs.now.arcs meeting.now) run.now }
+{
+    match run.first() {
+        Some(first) => meeting.partner(arcs, *first).is_some(),
+        None => false,
+    }
+}
+
+/// Adds what a run is joined to.
+fn add_joined(
+    alloc: Global,
+    arcs: &ArcTable,
+    meeting: &Meeting,
+    joined: &mut Joined,
+    run: &[ArcRef],
+) -> Result<(), AllocError>
+    ensures pieces { OnOk result (joined.new.pieces.items ≡ joined.old.pieces.items ++ (piece_of_run arcs.now.arcs (partner_in arcs.now.arcs meeting.now) run.now ∷ [])) }
+    ensures lists { OnOk result (joined.new.lists.items ≡ joined.old.lists.items ++ (list_of_run arcs.now.arcs (partner_in arcs.now.arcs meeting.now) run.now ∷ [])) }
+{
+    let round = goes_round(arcs, meeting, run);
+    let piece = Piece::new(joined_chain(alloc, arcs, run, round)?, round);
+    let refs = directed(alloc, run, piece.reversed())?;
+    joined.pieces.push(piece)?;
+    joined.lists.push(listed(arcs, refs, round))?;
+    Ok(())
+}
+
+/// What runs are joined to.
+pub(crate) fn joined_of(
+    alloc: Global,
+    arcs: &ArcTable,
+    meeting: &Meeting,
+    runs: &[Items<ArcRef>],
+) -> Result<Joined, AllocError>
+    ensures pieces { IfOk result (λ j. j.pieces.items ≡ map_list (piece_of_run arcs.now.arcs (partner_in arcs.now.arcs meeting.now)) runs.now) }
+    ensures lists { IfOk result (λ j. j.lists.items ≡ map_list (list_of_run arcs.now.arcs (partner_in arcs.now.arcs meeting.now)) runs.now) }
+{
+    let mut joined = Joined {
+        pieces: Vec::with_capacity(alloc, runs.len())?,
+        lists: Vec::with_capacity(alloc, runs.len())?,
+    };
+    for run in runs {
+        add_joined(alloc, arcs, meeting, &mut joined, run.as_slice())?;
+    }
+    Ok(joined)
+}
+
+/// Puts a list at a place, where there is one.
+fn put(lists: &mut Vec<Items<ArcRef>>, place: usize, list: Items<ArcRef>)
+    ensures { lists.new.items ≡ slice_set lists.old.items place list }
+{
+    if place < lists.len() {
+        lists[place] = list;
+    }
+}
+
+fn empty_lists(alloc: Global, count: usize) -> Result<Vec<Items<ArcRef>>, AllocError>
+    ensures { IfOk result (λ v. v.items ≡ replicate count []) }
+{
+    let mut lists = Vec::with_capacity(alloc, count)?;
+    for _ in 0..count {
+        lists.push(Items::from_vec(Vec::new(alloc)))?;
+    }
+    Ok(lists)
+}
+
+/// Lists by the numbers of their arcs.
+pub(crate) fn by_numbers(
+    alloc: Global,
+    refs: &[ArcRef],
+    lists: Vec<Items<ArcRef>>,
+    count: usize,
+) -> Result<Vec<Items<ArcRef>>, AllocError>
+    ensures { IfOk result (λ v. v.items ≡ put_all refs.now lists.items (replicate count [])) }
+{
+    let mut placed = empty_lists(alloc, count)?;
+    let mut left = refs;
+    for list in lists {
+        if let Some((used, others)) = left.split_first() {
+            put(&mut placed, used.arc, list);
+            left = others;
+        }
+    }
+    Ok(placed)
+}

@@ -1,0 +1,140 @@
+//! Walks along arcs that go on from one another.
+ghost use Rattle.std.specs.Prelude.{◌≡◌, ◌≤◌, ◌+◌, IfOk, OnOk, List, Bool};
+ghost use Rattle.theory.specs.ArcNumbers as numbers;
+ghost use Rattle.theory.specs.ArcNumbers.{flipped};
+ghost use Rattle.rejoining.specs.Meeting.{partner_in};
+ghost use Rattle.rejoining.specs.Walks.{Adds, AddsBegun, ArePaired, AreRuns, Goes, GoesOn, Walk, count_left, is_left, some_one, without};
+
+use crate::meeting::Meeting;
+use chains::table::{ArcRef, ArcTable};
+use lines::items::Items;
+use std::alloc::{AllocError, Global};
+
+pub(crate) fn turned_back(used: ArcRef) -> ArcRef
+    ensures { result ≡ flipped used }
+{
+    ArcRef {
+        arc: used.arc,
+        reversed: !used.reversed,
+    }
+}
+
+/// Takes an arc, and answers whether it was left.
+fn take(left: &mut Vec<bool>, arc: usize) -> bool
+    ensures was { result ≡ is_left left.old.items arc }
+    ensures taken { left.new.items ≡ without left.old.items arc }
+{
+    if arc >= left.len() {
+        return false;
+    }
+    let was = left[arc];
+    left[arc] = false;
+    was
+}
+
+/// Takes the used arc that goes on from another, if it is left.
+fn take_next(
+    arcs: &ArcTable,
+    meeting: &Meeting,
+    left: &mut Vec<bool>,
+    used: ArcRef,
+) -> Option<ArcRef>
+    ensures goes { (run : List numbers.ArcRef) (after : List Bool) → GoesOn (partner_in arcs.now.arcs meeting.now) left.new.items result run after → Goes (partner_in arcs.now.arcs meeting.now) left.old.items used run after }
+    ensures fewer { count_left left.new.items + some_one result ≤ count_left left.old.items }
+{
+    let next = meeting.partner(arcs, turned_back(used))?;
+    if take(left, next.arc) {
+        Some(next)
+    } else {
+        None
+    }
+}
+
+/// The used arcs that go on from one that is taken already, with it in front.
+fn walk(
+    alloc: Global,
+    arcs: &ArcTable,
+    meeting: &Meeting,
+    left: &mut Vec<bool>,
+    from: ArcRef,
+) -> Result<Vec<ArcRef>, AllocError>
+    ensures { IfOk result (λ r. Walk (partner_in arcs.now.arcs meeting.now) left.old.items from r.items left.new.items) }
+{
+    let mut run = Vec::new(alloc);
+    run.push(from)?;
+    let mut next = take_next(arcs, meeting, left, from);
+    while let Some(used) = next {
+        run.push(used)?;
+        next = take_next(arcs, meeting, left, used);
+    }
+    Ok(run)
+}
+
+/// Walks from a used arc that is left.
+fn add_run(
+    alloc: Global,
+    arcs: &ArcTable,
+    meeting: &Meeting,
+    left: &mut Vec<bool>,
+    runs: &mut Vec<Items<ArcRef>>,
+    from: ArcRef,
+) -> Result<(), AllocError>
+    ensures { OnOk result (Adds (partner_in arcs.now.arcs meeting.now) left.old.items runs.old.items from left.new.items runs.new.items) }
+{
+    if !take(left, from.arc) {
+        return Ok(());
+    }
+    let run = walk(alloc, arcs, meeting, left, from)?;
+    runs.push(Items::from_vec(run))?;
+    Ok(())
+}
+
+/// Walks from a used arc that is left and has no arc before it.
+fn add_begun(
+    alloc: Global,
+    arcs: &ArcTable,
+    meeting: &Meeting,
+    left: &mut Vec<bool>,
+    runs: &mut Vec<Items<ArcRef>>,
+    from: ArcRef,
+) -> Result<(), AllocError>
+    ensures { OnOk result (AddsBegun (partner_in arcs.now.arcs meeting.now) left.old.items runs.old.items from left.new.items runs.new.items) }
+{
+    if meeting.partner(arcs, from).is_some() {
+        return Ok(());
+    }
+    add_run(alloc, arcs, meeting, left, runs, from)
+}
+
+/// All runs of the marked arcs: first those from end to end, then those that go round.
+pub(crate) fn runs_of(
+    alloc: Global,
+    arcs: &ArcTable,
+    meeting: &Meeting,
+    kept: &[bool],
+) -> Result<Vec<Items<ArcRef>>, AllocError>
+    ensures { IfOk result (λ v. ArePaired kept.now (partner_in arcs.now.arcs meeting.now) → AreRuns kept.now (partner_in arcs.now.arcs meeting.now) v.items) }
+{
+    let mut left = kept.to_vec(alloc)?;
+    let mut runs = Vec::new(alloc);
+    for arc in 0..kept.len() {
+        let ahead = ArcRef {
+            arc,
+            reversed: false,
+        };
+        let against = ArcRef {
+            arc,
+            reversed: true,
+        };
+        add_begun(alloc, arcs, meeting, &mut left, &mut runs, ahead)?;
+        add_begun(alloc, arcs, meeting, &mut left, &mut runs, against)?;
+    }
+    for arc in 0..kept.len() {
+        let ahead = ArcRef {
+            arc,
+            reversed: false,
+        };
+        add_run(alloc, arcs, meeting, &mut left, &mut runs, ahead)?;
+    }
+    Ok(runs)
+}
