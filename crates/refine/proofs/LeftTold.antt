@@ -9,6 +9,7 @@ use Rattle.lines.proofs.Positions.{position_dec}
 use Rattle.shapes.specs.Maps.{Layers}
 use Rattle.chains.specs.Arcs.{Arcs}
 use Rattle.chains.specs.Seen.{geometry_of, seen}
+use Rattle.chains.proofs.Paired.{paired}
 use Rattle.theory.specs.ArcNumbers.{ArcRef, StitchTo, Uses}
 use Rattle.theory.specs.Geometry.{Geometry, JunctionOf}
 use Rattle.theory.specs.Lists.{EndOf, Has, Pairwise, gathered, joined}
@@ -285,13 +286,6 @@ module _ (t : TopologyParts) (r : Layers) (ls : List LayerParts) (kept : List Bo
       subst (λ a. ArePartsOf (less m r) a layers) (sym e)
       (subst (ArePartsOf (less m r) j.arcs) (sym (f ∙ ap (map_list (layer_rejoined j.arcs.arcs (starts_by j.pieces))) same))
       (parts_left m r t.arcs j.arcs t.layers j.pieces (starts_by j.pieces) (record { table = h.table; layers = h.topology.layers }) joined_is.table joined_is.refined starts))
-
-  paired : {A : Type 0} (R : A → List ArcRef → Type 0) (xs : List A) (ys : List (List ArcRef)) → Pairwise R xs ys →
-      (i : ℕ) (x : A) → slice_get xs i ≡ Some x → (y : List ArcRef) × (slice_get ys i ≡ Some y) × R x y
-  paired R [] ys p i x e = absurd cc
-  paired R (z ∷ xs) [] p i x e = absurd p
-  paired R (z ∷ xs) (y ∷ ys) p zero x e = let k : Some z ≡ Some x = e in (y, refl, subst (λ w. R w y) (let n : z ≡ x = cc in n) p.0)
-  paired R (z ∷ xs) (y ∷ ys) p (suc i) x e = paired R xs ys p.1 i x e
 
   -- the pieces are the old arcs of the new ones
   pub pieces_made : (arcs : List (List Pos)) (pieces : List (List ArcRef)) → arcs ≡ j.arcs.arcs → pieces ≡ j.pieces → AreJoinedOf g u arcs t.arcs.arcs pieces

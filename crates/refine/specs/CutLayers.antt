@@ -13,7 +13,7 @@ use Rattle.shapes.specs.Parts.{spelled_text}
 use Rattle.shapes.specs.declared.feature.Feature.{Feature}
 use Rattle.theory.specs.ArcNumbers.{ArcRef}
 use Rattle.theory.specs.Topology.{Shape, null, point, points, line, lines, polygon, polygons}
-use Rattle.topo.specs.Features.{IsFeatureOf}
+use Rattle.topo.specs.Features.{HasFeature, IsKnownOf}
 use Rattle.topo.specs.Parts.{LayerParts}
 use Rattle.topo.specs.Walked.{walked}
 use Rattle.topo.specs.declared.geom.Body.{Body}
@@ -97,20 +97,11 @@ info_cmp a b = ordering_then (id_cmp a.id b.id) (slice_cmp nat_cmp a.props.text 
 unfoldable pub geometry_cmp : List (List Pos) → Geom → Geom → Ordering
 geometry_cmp arcs a b = ordering_then (info_cmp a b) (form_cmp (body_form arcs a.body) (body_form arcs b.body))
 
--- the geometry stitches to a feature
-abbrev pub HasFeature : List (List Pos) → Geom → Type 0
-HasFeature arcs g = (f : Feature) × IsFeatureOf arcs f g
-
 abbrev pub HaveFeatures : List (List Pos) → List Geom → Type 0
 HaveFeatures arcs gs = AllByRecursion (HasFeature arcs) gs
 
 abbrev pub LayersHaveFeatures : List (List Pos) → List LayerParts → Type 0
 LayersHaveFeatures arcs ls = AllByRecursion (λ l. HaveFeatures arcs l.geometries) ls
-
--- what is known is the feature that the geometry stitches to
-abbrev pub IsKnownOf : List (List Pos) → Geom → Option Feature → Type 0
-IsKnownOf arcs g None = Unit {0}
-IsKnownOf arcs g (Some f) = IsFeatureOf arcs f g
 
 -- what is known is the feature of the first of the geometries
 abbrev pub IsKnownOfFirst : List (List Pos) → List Geom → Option Feature → Type 0

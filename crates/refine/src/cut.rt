@@ -4,13 +4,13 @@ ghost use Rattle.std.specs.Prelude.{◌≡◌, ◌↔◌, ◌<◌, ◌^◌, ◌+
 ghost use Rattle.shapes.specs.Maps.{Layers};
 ghost use Rattle.shapes.specs.Union.{union};
 ghost use Rattle.recutting.specs.Parts.{of_side};
-ghost use Rattle.topo.specs.Features.{IsFeatureOf};
+ghost use Rattle.topo.specs.Features.{HasFeature, IsKnownOf};
 ghost use Rattle.topo.specs.Parts.{LayerParts};
 ghost use Rattle.topo.specs.declared.geom.Geom.{Geom};
 ghost use Rattle.topo.specs.OfMap.{IsOf, IsOfSomeMap};
 ghost use Rattle.refine.specs.Cuts as cuts;
 ghost use Rattle.refine.specs.CutLayers as cut_layers;
-ghost use Rattle.refine.specs.CutLayers.{HasFeature, HaveFeatures, IsKnownOf, IsKnownOfFirst, LayersHaveFeatures, before, behind, body_rank, geometry_cmp, layer_cmp, layers_as_one, layers_merged, tied, to_first, with_other};
+ghost use Rattle.refine.specs.CutLayers.{HaveFeatures, IsKnownOfFirst, LayersHaveFeatures, before, behind, body_rank, geometry_cmp, layer_cmp, layers_as_one, layers_merged, tied, to_first, with_other};
 ghost use Rattle.refine.specs.Meaning.{same_grid};
 ghost use Rattle.refine.specs.declared.fault.JoinFault.TheVariants.{OtherGrid};
 
@@ -174,48 +174,6 @@ fn layers_recut(
     Ok(made)
 }
 
-/// The feature of a geometry, which may be known already.
-fn feature_of(
-    alloc: Global,
-    arcs: &ArcTable,
-    geometry: &Geom,
-    known: Option<Feature>,
-) -> Result<Feature, OutOfMemory>
-    requires there { HasFeature arcs.now.arcs geometry.now }
-    requires known { IsKnownOf arcs.now.arcs geometry.now known }
-    ensures { IfOk result (λ f. IsFeatureOf arcs.now.arcs f geometry.now) }
-{
-    match known {
-        Some(feature) => Ok(feature),
-        None => stitching::feature(alloc, arcs, geometry),
-    }
-}
-
-/// The order of the features of two geometries, which are kept when they had to be stitched.
-fn order_stitched(
-    alloc: Global,
-    arcs: &ArcTable,
-    geometry: &Geom,
-    known: &mut Option<Feature>,
-    other: &Geom,
-    other_known: &mut Option<Feature>,
-) -> Result<Ordering, OutOfMemory>
-    requires there { HasFeature arcs.now.arcs geometry.now }
-    requires other_there { HasFeature arcs.now.arcs other.now }
-    requires known { IsKnownOf arcs.now.arcs geometry.now known.old }
-    requires other_known { IsKnownOf arcs.now.arcs other.now other_known.old }
-    ensures known { IsKnownOf arcs.now.arcs geometry.now known.new }
-    ensures other_known { IsKnownOf arcs.now.arcs other.now other_known.new }
-    ensures order { IfOk result (λ o. o ≡ geometry_cmp arcs.now.arcs geometry.now other.now) }
-{
-    let feature = feature_of(alloc, arcs, geometry, known.take())?;
-    let other_feature = feature_of(alloc, arcs, other, other_known.take())?;
-    let order = feature.cmp(&other_feature);
-    *known = Some(feature);
-    *other_known = Some(other_feature);
-    Ok(order)
-}
-
 /// The number of a body's kind, in the order of kinds.
 fn rank(body: &Body) -> u8
     ensures { result ≡ body_rank body.now }
@@ -233,7 +191,7 @@ fn rank(body: &Body) -> u8
 
 /// The order of the features of two geometries. They are stitched only where their ids, their
 /// properties and their kinds tie, and their lists of arcs differ: equal lists stitch to equal
-/// shapes.
+/// shapes. Then they are kept.
 fn order_of(
     alloc: Global,
     arcs: &ArcTable,
@@ -261,7 +219,12 @@ fn order_of(
     if geometry.body == other.body {
         return Ok(Ordering::Equal);
     }
-    order_stitched(alloc, arcs, geometry, known, other, other_known)
+    let feature = stitching::known_feature(alloc, arcs, geometry, known.take())?;
+    let other_feature = stitching::known_feature(alloc, arcs, other, other_known.take())?;
+    let stitched = feature.cmp(&other_feature);
+    *known = Some(feature);
+    *other_known = Some(other_feature);
+    Ok(stitched)
 }
 
 /// Moves the first of some items to the end of a list.

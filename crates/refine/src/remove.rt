@@ -9,10 +9,10 @@ ghost use Rattle.shapes.specs.Sets as set;
 ghost use Rattle.theory.specs.Lists.{gathered, joined};
 ghost use Rattle.theory.specs.Removing as joining;
 ghost use Rattle.rejoining.specs.Starts.{starts_by};
-ghost use Rattle.topo.specs.Features.{IsFeatureOf};
+ghost use Rattle.topo.specs.Features.{HasFeature, IsKnownOf};
 ghost use Rattle.topo.specs.OfMap.{IsOf};
 ghost use Rattle.topo.specs.Walked.{walked};
-ghost use Rattle.refine.specs.CutLayers.{HasFeature, HaveFeatures, IsKnownOf};
+ghost use Rattle.refine.specs.CutLayers.{HaveFeatures};
 ghost use Rattle.refine.specs.Leaving.{all_lent, from_on, is_first, layer_less, lent, order_to, others};
 ghost use Rattle.refine.specs.LeftLists as left_lists;
 ghost use Rattle.refine.specs.LeftLists.{both_ends, layers_refs, marked_by};
@@ -87,43 +87,8 @@ struct LayerLeft<'a> {
     geometries: Vec<&'a Geom>,
 }
 
-/// The feature of a geometry, which may be known already.
-fn feature_of(
-    alloc: Global,
-    arcs: &ArcTable,
-    geometry: &Geom,
-    known: Option<Feature>,
-) -> Result<Feature, OutOfMemory>
-    requires there { HasFeature arcs.now.arcs geometry.now }
-    requires known { IsKnownOf arcs.now.arcs geometry.now known }
-    ensures { IfOk result (λ f. IsFeatureOf arcs.now.arcs f geometry.now) }
-{
-    match known {
-        Some(feature) => Ok(feature),
-        None => stitching::feature(alloc, arcs, geometry),
-    }
-}
-
-/// The order of a geometry's feature to another one. It is kept once it had to be stitched.
-fn order_stitched(
-    alloc: Global,
-    arcs: &ArcTable,
-    geometry: &Geom,
-    known: &mut Option<Feature>,
-    other: &Feature,
-) -> Result<Ordering, OutOfMemory>
-    requires there { HasFeature arcs.now.arcs geometry.now }
-    requires known { IsKnownOf arcs.now.arcs geometry.now known.old }
-    ensures known { IsKnownOf arcs.now.arcs geometry.now known.new }
-    ensures order { IfOk result (λ o. o ≡ order_to arcs.now.arcs geometry.now other.now) }
-{
-    let feature = feature_of(alloc, arcs, geometry, known.take())?;
-    let order = feature.cmp(other);
-    *known = Some(feature);
-    Ok(order)
-}
-
-/// The order of a geometry's feature to another one. It is stitched only where ids and properties tie.
+/// The order of a geometry's feature to another one. It is stitched only where ids and properties
+/// tie, and then kept.
 fn order_of(
     alloc: Global,
     arcs: &ArcTable,
@@ -143,7 +108,10 @@ fn order_of(
     if order.is_ne() {
         return Ok(order);
     }
-    order_stitched(alloc, arcs, geometry, known, other)
+    let feature = stitching::known_feature(alloc, arcs, geometry, known.take())?;
+    let stitched = feature.cmp(other);
+    *known = Some(feature);
+    Ok(stitched)
 }
 
 /// Passes over the features that stand before a geometry's, and answers whether that is the next.

@@ -1,7 +1,8 @@
 use Rattle.std.proofs.Common.{◌≡◌, ◌++◌, sym, subst}
 use Rattle.std.specs.Vec.Iter.{into_iter_items}
 use Rattle.refine.specs.Cuts.{merged}
-use Rattle.refine.specs.CutLayers.{HasFeature, HaveFeatures, geometry_cmp}
+use Rattle.topo.specs.Features.{HasFeature}
+use Rattle.refine.specs.CutLayers.{HaveFeatures, geometry_cmp}
 use Rattle.refine.proofs.MergedSteps.{all_behind, next_merged}
 use Rattle.refine.proofs.cut.geometries_merged.Goals as goal
 

@@ -1,5 +1,5 @@
 use Rattle.std.proofs.Common.{◌∙◌, nat_cmp, sym}
-use Rattle.refine.proofs.FeatureOrder.{equal_bodies_tie, kind_decides, kind_from}
+use Rattle.refine.proofs.FeatureOrder.{equal_bodies_tie, features_stand, kind_decides, kind_from}
 use Rattle.refine.proofs.SameBodies.{body_same}
 use Rattle.refine.proofs.cut.order_of.Goals as goal
 
@@ -17,3 +17,9 @@ returns-then-eq-clause-order c =
     c.cmp-2.ensures (c.cmp-3.ensures ∙ (λ i. nat_cmp (c.rank.ensures i) (c.rank-2.ensures i))))
     (sym c.is_ne.ensures ∙ c.if-is_ne.false)
     (body_same c.args.geometry.now.body c.args.other.now.body (sym c.eq.ensures ∙ c.if-eq.true))
+
+pub returns-clause-order : goal.returns-clause-order
+returns-clause-order c =
+    c.cmp-stitched.ensures
+    ∙ features_stand c.args.arcs.now.arcs c.in_ok-feature.feature c.in_ok-other_feature.other_feature c.args.geometry.now c.args.other.now c.in_ok-feature.ensures
+    c.in_ok-other_feature.ensures

@@ -1,5 +1,6 @@
 use Rattle.std.proofs.Common.{◌≡◌, ◌++◌, length}
-use Rattle.refine.specs.CutLayers.{HaveFeatures, IsKnownOf, IsKnownOfFirst, before, behind, geometry_cmp}
+use Rattle.topo.specs.Features.{IsKnownOf}
+use Rattle.refine.specs.CutLayers.{HaveFeatures, IsKnownOfFirst, before, behind, geometry_cmp}
 use Rattle.refine.proofs.cut.put_before.Given as goal
 
 abbrev pub invariant-loop-known : goal.invariant-loop-known

@@ -1,5 +1,5 @@
 use Rattle.std.proofs.Common.{subst, sym}
-use Rattle.refine.specs.CutLayers.{HasFeature}
+use Rattle.topo.specs.Features.{HasFeature}
 use Rattle.refine.proofs.Passing.{at_place}
 use Rattle.refine.proofs.remove.geometries_left.Goals as goal
 

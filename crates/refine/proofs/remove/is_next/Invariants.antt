@@ -1,5 +1,5 @@
 use Rattle.std.proofs.Common.{◌≡◌, length, map}
-use Rattle.refine.specs.CutLayers.{IsKnownOf}
+use Rattle.topo.specs.Features.{IsKnownOf}
 use Rattle.refine.specs.Leaving.{from_on, order_to}
 use Rattle.refine.proofs.remove.is_next.Given as goal
 

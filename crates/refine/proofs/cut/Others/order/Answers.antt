@@ -1,6 +1,6 @@
 use Rattle.std.proofs.Common.{subst}
 use Rattle.std.specs.List.{AllByRecursion}
-use Rattle.refine.specs.CutLayers.{HasFeature}
+use Rattle.topo.specs.Features.{HasFeature}
 use Rattle.refine.proofs.MergedSteps.{first_is}
 use Rattle.refine.proofs.cut.Others.order.Goals as goal
 

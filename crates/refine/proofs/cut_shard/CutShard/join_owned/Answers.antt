@@ -16,8 +16,4 @@ returns-clause-joined c =
     ∙ (λ i. union (c.self.view_is i).map (c.other.view_is i).map)
 
 pub returns-clause-map : goal.returns-clause-map
-returns-clause-map c =
-    let m = c.self.inside.of_map.0 in
-    let n = c.other.inside.of_map.0 in
-    c.of_topology.ensures.map (union m n) (c.in_ok-topology.ensures.of_map m n c.self.invariant.of_map c.other.invariant.of_map)
-    ∙ (λ i. union (c.self.view_is i).map (c.other.view_is i).map)
+returns-clause-map c = returns-clause-joined c
