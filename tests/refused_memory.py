@@ -4,8 +4,7 @@
 
 A run has to give the right answer, or status 5, nothing on standard output and the line for want of memory;
 while the words of the command are read, it may also be status 2 with the reader's text. Needs a C compiler
-(cc), since what refuses is a small library that is loaded before the C library. Ends with a line of counts, and
-with status 1 where a run did anything else.
+(cc). Ends with a line of counts, and with status 1 where a run did anything else.
 """
 
 import os
@@ -13,7 +12,9 @@ import subprocess
 import sys
 import tempfile
 
-TOP = os.path.dirname(os.path.dirname(os.path.abspath(__file__)))
+import refusing
+from refusing import TOP
+
 PROGRAM = os.environ.get("TOPOTOOL", f"{TOP}/crates/topotool/out/topotool")
 WANT = b"topotool: 20 OutOfMemory\n"
 DEEP = '{"type":"Feature","geometry":null,"properties":{"a":' + "[" * 63 + "]" * 63 + "}}"
@@ -55,18 +56,6 @@ class Runs:
     def __init__(self, library, folder):
         self.library, self.folder, self.count, self.wrong = library, folder, 0, 0
 
-    def refused(self, words, place, on):
-        """Runs the command with a request refused; returns its end, and whether a refusal was met."""
-        heard, told = os.pipe()
-        env = {**os.environ, "LD_PRELOAD": self.library, "REFUSE_AT": str(place), "REFUSE_TOLD": str(told)}
-        if on:
-            env["REFUSE_ON"] = "1"
-        ran = subprocess.run([PROGRAM, *words], cwd=self.folder, env=env, pass_fds=[told], capture_output=True)
-        os.close(told)
-        met = os.read(heard, 1) != b""
-        os.close(heard)
-        return ran, met
-
     def judge(self, words, place, right, ran):
         self.count += 1
         end = (ran.returncode, ran.stdout, ran.stderr)
@@ -79,20 +68,16 @@ class Runs:
     def each(self, words, on):
         """Refuses the first request, the second and so on, until a run meets no refusal."""
         ample = subprocess.run([PROGRAM, *words], cwd=self.folder, capture_output=True)
-        right, place, met = (ample.returncode, ample.stdout, ample.stderr), 1, True
-        while met:
-            ran, met = self.refused(words, place, on)
+        right = (ample.returncode, ample.stdout, ample.stderr)
+        for place, ran in refusing.each(self.library, [PROGRAM, *words], self.folder, on):
             self.judge(words, place, right, ran)
-            place += 1
 
 
 def main():
     if not os.path.isfile(PROGRAM):
         sys.exit(f"{PROGRAM} is not there: rt run in crates/topotool builds it")
     with tempfile.TemporaryDirectory() as folder:
-        library = f"{folder}/refuse.so"
-        subprocess.run(["cc", "-O2", "-shared", "-fPIC", "-fno-builtin", "-o", library, f"{TOP}/tests/refuse.c"], check=True)
-        runs = Runs(library, folder)
+        runs = Runs(refusing.library(folder), folder)
         lines = inputs(folder)
         for words in lines:
             runs.each(words, on=False)
