@@ -2,7 +2,7 @@
 
     python3 tests/refused_growth.py
 
-The program makes each call of the libraries on worked maps. Where a call answers want of memory, it compares what was
+The program makes calls of the libraries on worked maps. Where a call answers want of memory, it compares what was
 lent with a copy, and asks again. With one request refused, each call has to be right, at once or when asked again, so the
 counts have to be those of a run with no refusal, but for one that was refused. With all from one on, the program has to
 end by itself with the status for want of memory, after all calls were made, and none of them may go wrong; the calls
@@ -17,36 +17,46 @@ import sys
 import tempfile
 from concurrent.futures import ThreadPoolExecutor
 
+sys.dont_write_bytecode = True
+
 import refusing
 from refusing import TOP
 
 PROGRAM = os.environ.get("REFUSED_GROWTH", f"{TOP}/crates/refused_growth/out/refused_growth")
-COUNTS = re.compile(rb"calls (\d+), refused (\d+), wrong 0\n")
+COUNTS = re.compile(rb"calls (\d+), (\d+) without memory, refused (\d+), wrong 0\n")
 WORKERS = 4
 
 
+def counts_of(ran):
+    """The calls of a run, those without memory and those that told want of memory; None where it told anything else."""
+    told = COUNTS.fullmatch(ran.stdout)
+    return tuple(int(it) for it in told.groups()) if told and not ran.stderr else None
+
+
 class Runs:
-    """Runs of one mode, and how many of them met a call that answered want of memory."""
+    """Runs of one mode: how many there were, in how many a call told want of memory, and how many ended otherwise than
+    they have to."""
 
     def __init__(self, library, folder, on):
         self.library, self.folder, self.on = library, folder, on
-        self.count, self.wanting, self.wrong = 0, 0, 0
+        self.count, self.wanting, self.lean, self.wrong = 0, 0, 0, 0
         ample = subprocess.run([PROGRAM], cwd=folder, capture_output=True)
-        self.ample = (ample.returncode, ample.stdout, ample.stderr)
+        self.calls = counts_of(ample) if ample.returncode == 0 else None
 
-    def is_right(self, ran, counts):
+    def is_right(self, status, counts):
         """Whether a run with a refusal ended as it has to."""
-        if ran.stderr or not counts:
+        if not counts or not self.calls:
             return False
-        if ran.returncode == 0:
-            return ran.stdout == self.ample[1] or (not self.on and counts[2] == b"1" and counts[1] in self.ample[1])
-        return self.on and ran.returncode == 5
+        if status == 0:
+            return counts == self.calls or (not self.on and counts == (*self.calls[:2], 1))
+        return self.on and status == 5 and counts[1] in (0, self.calls[1])
 
     def judge(self, place, ran):
+        counts = counts_of(ran)
         self.count += 1
-        counts = COUNTS.fullmatch(ran.stdout)
-        self.wanting += bool(counts) and (counts[2] != b"0" or ran.returncode == 5)
-        if not self.is_right(ran, counts):
+        self.wanting += bool(counts and counts[2])
+        self.lean += bool(counts and ran.returncode == 5 and counts[1])
+        if not self.is_right(ran.returncode, counts):
             self.wrong += 1
             print(f"request {place} refused{' and all behind it' if self.on else ''}: {ran.returncode} {ran.stdout} {ran.stderr}")
 
@@ -73,12 +83,14 @@ def main():
         modes = [Runs(library, folder, on) for on in (False, True)]
         for runs in modes:
             runs.each()
-    alone, all_behind = modes
-    wrong = alone.wrong + all_behind.wrong
-    calls = COUNTS.fullmatch(alone.ample[1])
-    print(f"{int(calls[1]) if calls else 0} calls, {alone.count} runs with one request refused, in {alone.wanting} of which a call told want of memory, "
-          f"{all_behind.count} with all from one on, {wrong} wrong")
-    return 1 if wrong or alone.ample[0] or not calls or alone.wanting < int(calls[1]) else 0
+    alone, behind = modes
+    if not alone.calls:
+        sys.exit("the program goes wrong with no request refused")
+    calls, lean, _ = alone.calls
+    print(f"{calls} calls: {alone.count} runs with one request refused, in {alone.wanting} of which a call told want of memory; "
+          f"{behind.count} with all from one on, in {behind.lean} of which the {lean} calls without memory gave their answers; "
+          f"{alone.wrong + behind.wrong} wrong")
+    return 1 if alone.wrong or behind.wrong or alone.wanting < calls - lean or not behind.lean else 0
 
 
 if __name__ == "__main__":

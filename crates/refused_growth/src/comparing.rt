@@ -6,7 +6,8 @@ use grid::Pos;
 use shapes::{Feature, FeatureMap};
 use topo::Geom;
 
-fn stand_at(positions: &[Pos], places: &[(i64, i64)]) -> bool {
+/// Whether positions are at these places, in their order.
+pub(crate) fn stand_at(positions: &[Pos], places: &[(i64, i64)]) -> bool {
     for (position, place) in positions.iter().zip(places) {
         if (position.x(), position.y()) != *place {
             return false;

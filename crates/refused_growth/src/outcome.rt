@@ -78,6 +78,7 @@ impl Outcome {
 #[derive(Clone, Copy, PartialEq, Eq, Debug)]
 pub(crate) struct Tally {
     calls: usize,
+    without_memory: usize,
     refused: usize,
     wanting: usize,
     wrong: usize,
@@ -87,6 +88,7 @@ impl Tally {
     pub(crate) fn new() -> Tally {
         Tally {
             calls: 0,
+            without_memory: 0,
             refused: 0,
             wanting: 0,
             wrong: 0,
@@ -109,16 +111,26 @@ impl Tally {
         }
     }
 
+    /// Counts a call that takes no memory, and names it where it went wrong.
+    pub(crate) fn note_without_memory(&mut self, rt: &HostRuntime, call: &str, outcome: Outcome) {
+        self.without_memory = self.without_memory.saturating_add(1);
+        self.note(rt, "without memory", call, outcome);
+    }
+
     /// Prints the counts. The status is 1 where a call went wrong, 5 where memory was wanting to the
     /// end, and 6 where the counts can't be printed.
     pub(crate) fn report(&self, rt: &HostRuntime) -> ExitCode {
         let Tally {
             calls,
+            without_memory,
             refused,
             wanting,
             wrong,
         } = *self;
-        if println!(rt; "calls {calls}, refused {refused}, wrong {wrong}").is_err() {
+        if println!(rt;
+            "calls {calls}, {without_memory} without memory, refused {refused}, wrong {wrong}"
+        )
+        .is_err() {
             return ExitCode::from(6);
         }
         if wrong > 0 {

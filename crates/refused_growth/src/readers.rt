@@ -1,12 +1,14 @@
 //! Readers, and from texts to topologies and back to maps.
 
 use crate::comparing::{same_geometries, same_map};
+use crate::inputs::is_of;
 use crate::outcome::Answer;
 use crate::worked::Worked;
+use built_text::BuildFault;
 use chains::ArcTable;
 use faults::OutOfMemory;
-use grid::Pos;
 use lines::items::Items;
+use grid::Pos;
 use std::alloc::Global;
 use topo::{Layer, Topology};
 use topo_io::TextParts;
@@ -72,8 +74,16 @@ pub(crate) fn is_canonical(alloc: Global, worked: &Worked) -> Answer {
 
 pub(crate) fn build(alloc: Global, worked: &Worked) -> Answer {
     match Topology::build(alloc, &worked.grid, &worked.map) {
-        Ok(topology) => Answer::of(topo_io::is_text_of(&topology, worked.row.topology.as_bytes())),
+        Ok(topology) => Answer::of(is_of(&topology, worked.row.topology)),
         Err(OutOfMemory) => Answer::Wanting,
+    }
+}
+
+pub(crate) fn build_text(alloc: Global, worked: &Worked) -> Answer {
+    match built_text::build_text(alloc, &worked.grid, worked.sources.as_slice()) {
+        Ok(text) => Answer::of(text.as_slice() == worked.row.topology.as_bytes()),
+        Err(BuildFault::OutOfMemory) => Answer::Wanting,
+        Err(BuildFault::Text(_, _)) => Answer::Wrong,
     }
 }
 

@@ -1,9 +1,12 @@
 //! The calls that are made of each worked map, which take memory and are lent what they need.
 
+use crate::asking;
 use crate::comparing::same_map;
+use crate::inputs::is_of;
 use crate::outcome::{Answer, Outcome, Tally};
 use crate::readers;
 use crate::texts::{ROWS, Row};
+use crate::writers;
 use grid::Grid;
 use shapes::FeatureMap;
 use std::alloc::Global;
@@ -71,7 +74,7 @@ impl Worked {
         self.geojson() == self.row.geojson.as_bytes()
             && self.text.as_slice() == self.row.topology.as_bytes()
             && same_map(&self.map, &self.copy)
-            && topo_io::is_text_of(&self.topology, self.row.topology.as_bytes())
+            && is_of(&self.topology, self.row.topology)
     }
 }
 
@@ -83,7 +86,20 @@ enum Call {
     ReadParts,
     IsCanonical,
     Build,
+    BuildText,
     Expand,
+    Features,
+    Neighbors,
+    Borders,
+    Interior,
+    Exterior,
+    TextOf,
+    Write,
+    OfferToKept,
+    OfferToScript,
+    CopyTopology,
+    CopyMap,
+    Union,
 }
 
 const CALLS: &[Call] = &[
@@ -92,7 +108,20 @@ const CALLS: &[Call] = &[
     Call::ReadParts,
     Call::IsCanonical,
     Call::Build,
+    Call::BuildText,
     Call::Expand,
+    Call::Features,
+    Call::Neighbors,
+    Call::Borders,
+    Call::Interior,
+    Call::Exterior,
+    Call::TextOf,
+    Call::Write,
+    Call::OfferToKept,
+    Call::OfferToScript,
+    Call::CopyTopology,
+    Call::CopyMap,
+    Call::Union,
 ];
 
 impl Call {
@@ -103,7 +132,20 @@ impl Call {
             Call::ReadParts => "topo_io::read_parts",
             Call::IsCanonical => "topo_io::is_canonical",
             Call::Build => "Topology::build",
+            Call::BuildText => "built_text::build_text",
             Call::Expand => "Topology::expand",
+            Call::Features => "query::feature",
+            Call::Neighbors => "query::neighbors",
+            Call::Borders => "query::mesh of all borders",
+            Call::Interior => "query::mesh of interior borders",
+            Call::Exterior => "query::mesh of exterior borders",
+            Call::TextOf => "topo_io::text_of",
+            Call::Write => "topo_io::write",
+            Call::OfferToKept => "Kept::offer",
+            Call::OfferToScript => "Script::offer",
+            Call::CopyTopology => "Topology::copy",
+            Call::CopyMap => "FeatureMap::copy",
+            Call::Union => "FeatureMap::union",
         }
     }
 
@@ -114,7 +156,20 @@ impl Call {
             Call::ReadParts => readers::read_parts(alloc, worked),
             Call::IsCanonical => readers::is_canonical(alloc, worked),
             Call::Build => readers::build(alloc, worked),
+            Call::BuildText => readers::build_text(alloc, worked),
             Call::Expand => readers::expand(alloc, worked),
+            Call::Features => asking::features(alloc, worked),
+            Call::Neighbors => asking::neighbors(alloc, worked),
+            Call::Borders => asking::borders(alloc, worked),
+            Call::Interior => asking::interior(alloc, worked),
+            Call::Exterior => asking::exterior(alloc, worked),
+            Call::TextOf => writers::text_of(alloc, worked),
+            Call::Write => writers::write(alloc, worked),
+            Call::OfferToKept => writers::offer_to_kept(alloc, worked),
+            Call::OfferToScript => writers::offer_to_script(alloc, worked),
+            Call::CopyTopology => writers::copy_topology(alloc, worked),
+            Call::CopyMap => writers::copy_map(worked),
+            Call::Union => writers::union(worked),
         }
     }
 
