@@ -129,8 +129,8 @@ impl Tally {
         } = *self;
         if println!(rt;
             "calls {calls}, {without_memory} without memory, refused {refused}, wrong {wrong}"
-        )
-        .is_err() {
+        ).is_err()
+        {
             return ExitCode::from(6);
         }
         if wrong > 0 {

@@ -1,12 +1,10 @@
 //! The calls that are made of each worked map, which take memory and are lent what they need.
 
-use crate::asking;
 use crate::comparing::same_map;
 use crate::inputs::is_of;
 use crate::outcome::{Answer, Outcome, Tally};
-use crate::readers;
 use crate::texts::{ROWS, Row};
-use crate::writers;
+use crate::{asking, readers, writers};
 use grid::Grid;
 use shapes::FeatureMap;
 use std::alloc::Global;
