@@ -1,0 +1,158 @@
+//! Arcs taken as they stand, and which of them are free loops.
+
+use crate::comparing::same_arcs;
+use crate::inputs::{built, is_of};
+use crate::outcome::{Answer, Outcome, Tally};
+use crate::texts::{FREE_LOOP, LOOP_AND_LINE, SHARED_EDGE};
+use chains::ArcTable;
+use faults::OutOfMemory;
+use grid::Pos;
+use lines::items::Items;
+use standing::{arcs_as_read, free_loops};
+use std::alloc::Global;
+use topo::Topology;
+
+/// A map, the ends of its lines, and for each of its arcs whether it is a free loop.
+#[derive(Clone, Copy)]
+struct Row {
+    title: &'static str,
+    topology: &'static str,
+    line_ends: &'static [(i64, i64)],
+    free: &'static [bool],
+}
+
+const ROWS: &[Row] = &[
+    Row {
+        title: "shared edge",
+        topology: SHARED_EDGE,
+        line_ends: &[],
+        free: &[false, false, false],
+    },
+    Row {
+        title: "a free loop",
+        topology: FREE_LOOP,
+        line_ends: &[],
+        free: &[true],
+    },
+    Row {
+        title: "the seam vanishes",
+        topology: LOOP_AND_LINE,
+        line_ends: &[(2, 0), (3, 0)],
+        free: &[false, false],
+    },
+];
+
+/// The arcs of a row as lists, and its topology.
+#[derive(Drop)]
+struct Standing {
+    row: &'static Row,
+    topology: Topology,
+    arcs: Vec<Items<Pos>>,
+}
+
+fn listed(alloc: Global, arc: &[Pos]) -> Option<Items<Pos>> {
+    Some(Items::from_vec(arc.to_vec(alloc).ok()?))
+}
+
+/// The arcs of a table as lists.
+fn lists(alloc: Global, table: &ArcTable) -> Option<Vec<Items<Pos>>> {
+    let mut made = Vec::new(alloc);
+    for number in 0..table.len() {
+        made.push(listed(alloc, table.arc(number)?)?).ok()?;
+    }
+    Some(made)
+}
+
+fn are_lists_of(arcs: &[Items<Pos>], table: &ArcTable) -> bool {
+    for (number, arc) in arcs.iter().enumerate() {
+        if table.arc(number) != Some(arc.as_slice()) {
+            return false;
+        }
+    }
+    arcs.len() == table.len()
+}
+
+fn positions(alloc: Global, places: &[(i64, i64)]) -> Option<Vec<Pos>> {
+    let mut made = Vec::new(alloc);
+    for (x, y) in places {
+        made.push(Pos::new(*x, *y)?).ok()?;
+    }
+    Some(made)
+}
+
+impl Standing {
+    fn of(alloc: Global, row: &'static Row) -> Option<Standing> {
+        let topology = built(alloc, row.topology)?;
+        let arcs = lists(alloc, topology.arcs())?;
+        Some(Standing {
+            row,
+            topology,
+            arcs,
+        })
+    }
+
+    fn is_as_before(&self) -> bool {
+        is_of(&self.topology, self.row.topology)
+            && are_lists_of(self.arcs.as_slice(), self.topology.arcs())
+    }
+}
+
+fn read(alloc: Global, standing: &Standing) -> Answer {
+    let Some(arcs) = lists(alloc, standing.topology.arcs()) else {
+        return Answer::Unasked;
+    };
+    match arcs_as_read(alloc, arcs, standing.row.free) {
+        Ok(Some(table)) => Answer::of(same_arcs(&table, standing.topology.arcs())),
+        Ok(None) => Answer::Wrong,
+        Err(OutOfMemory) => Answer::Wanting,
+    }
+}
+
+fn mark(alloc: Global, standing: &Standing) -> Answer {
+    let Some(line_ends) = positions(alloc, standing.row.line_ends) else {
+        return Answer::Unasked;
+    };
+    match free_loops(alloc, standing.arcs.as_slice(), line_ends) {
+        Ok(marks) => Answer::of(marks.as_slice() == standing.row.free),
+        Err(OutOfMemory) => Answer::Wanting,
+    }
+}
+
+fn settle_read(alloc: Global, standing: &Standing) -> Outcome {
+    let outcome = Outcome::of_first(read(alloc, standing), standing.is_as_before());
+    match outcome {
+        Outcome::Wanting => Outcome::of_second(read(alloc, standing)),
+        Outcome::Unprepared => Outcome::of_first(read(alloc, standing), standing.is_as_before()),
+        _ => outcome,
+    }
+}
+
+fn settle_mark(alloc: Global, standing: &Standing) -> Outcome {
+    let outcome = Outcome::of_first(mark(alloc, standing), standing.is_as_before());
+    match outcome {
+        Outcome::Wanting => Outcome::of_second(mark(alloc, standing)),
+        Outcome::Unprepared => Outcome::of_first(mark(alloc, standing), standing.is_as_before()),
+        _ => outcome,
+    }
+}
+
+fn settle_standing(rt: &HostRuntime, tally: &mut Tally, standing: &Standing) {
+    let read = settle_read(rt.alloc(), standing);
+    tally.note(rt, standing.row.title, "arcs_as_read", read);
+    let marked = settle_mark(rt.alloc(), standing);
+    tally.note(rt, standing.row.title, "free_loops", marked);
+}
+
+fn settle_row(rt: &HostRuntime, tally: &mut Tally, row: &'static Row) {
+    match Standing::of(rt.alloc(), row).or_else(|| Standing::of(rt.alloc(), row)) {
+        Some(standing) => settle_standing(rt, tally, &standing),
+        None => tally.note(rt, row.title, "its arcs", Outcome::Unprepared),
+    }
+}
+
+/// Takes the arcs of each row as they stand.
+pub(crate) fn settle(rt: &HostRuntime, tally: &mut Tally) {
+    for row in ROWS {
+        settle_row(rt, tally, row);
+    }
+}

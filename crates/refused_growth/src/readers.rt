@@ -1,0 +1,95 @@
+//! Readers, and from texts to topologies and back to maps.
+
+use crate::comparing::{same_geometries, same_map};
+use crate::inputs::is_of;
+use crate::outcome::Answer;
+use crate::worked::Worked;
+use built_text::BuildFault;
+use chains::ArcTable;
+use faults::OutOfMemory;
+use grid::Pos;
+use lines::items::Items;
+use std::alloc::Global;
+use topo::{Layer, Topology};
+use topo_io::TextParts;
+
+pub(crate) fn read_geojson(alloc: Global, worked: &Worked) -> Answer {
+    match geojson_io::read(alloc, worked.geojson(), &worked.grid) {
+        Ok(features) => match worked.copy.layer("a") {
+            Some(expected) => Answer::of(features == *expected),
+            None => Answer::Wrong,
+        },
+        Err(fault) => Answer::of_fault(&fault),
+    }
+}
+
+pub(crate) fn read_topology(alloc: Global, worked: &Worked) -> Answer {
+    match topo_io::read(alloc, worked.text.as_slice()) {
+        Ok((grid, map)) => Answer::of(grid == worked.grid && same_map(&map, &worked.copy)),
+        Err(fault) => Answer::of_fault(&fault),
+    }
+}
+
+fn are_listed(arcs: &[Items<Pos>], table: &ArcTable) -> bool {
+    for (number, arc) in arcs.iter().enumerate() {
+        if table.arc(number) != Some(arc.as_slice()) {
+            return false;
+        }
+    }
+    arcs.len() == table.len()
+}
+
+fn same_layers(layers: &[Layer], others: &[Layer]) -> bool {
+    for (layer, other) in layers.iter().zip(others) {
+        if layer.name().text() != other.name().text() {
+            return false;
+        }
+        if !same_geometries(layer.geometries(), other.geometries()) {
+            return false;
+        }
+    }
+    layers.len() == others.len()
+}
+
+fn are_parts_of(parts: &TextParts, topology: &Topology) -> bool {
+    parts.grid == topology.grid()
+        && are_listed(parts.arcs.as_slice(), topology.arcs())
+        && same_layers(parts.layers.as_slice(), topology.layers())
+}
+
+pub(crate) fn read_parts(alloc: Global, worked: &Worked) -> Answer {
+    match topo_io::read_parts(alloc, worked.text.as_slice()) {
+        Ok(Some(parts)) => Answer::of(are_parts_of(&parts, &worked.topology)),
+        Ok(None) => Answer::Wrong,
+        Err(fault) => Answer::of_fault(&fault),
+    }
+}
+
+pub(crate) fn is_canonical(alloc: Global, worked: &Worked) -> Answer {
+    match topo_io::is_canonical(alloc, worked.text.as_slice()) {
+        Ok(is_canonical) => Answer::of(is_canonical),
+        Err(fault) => Answer::of_fault(&fault),
+    }
+}
+
+pub(crate) fn build(alloc: Global, worked: &Worked) -> Answer {
+    match Topology::build(alloc, &worked.grid, &worked.map) {
+        Ok(topology) => Answer::of(is_of(&topology, worked.row.topology)),
+        Err(OutOfMemory) => Answer::Wanting,
+    }
+}
+
+pub(crate) fn build_text(alloc: Global, worked: &Worked) -> Answer {
+    match built_text::build_text(alloc, &worked.grid, worked.sources.as_slice()) {
+        Ok(text) => Answer::of(text.as_slice() == worked.row.topology.as_bytes()),
+        Err(BuildFault::OutOfMemory) => Answer::Wanting,
+        Err(BuildFault::Text(_, _)) => Answer::Wrong,
+    }
+}
+
+pub(crate) fn expand(alloc: Global, worked: &Worked) -> Answer {
+    match worked.topology.expand(alloc) {
+        Ok(map) => Answer::of(same_map(&map, &worked.copy)),
+        Err(OutOfMemory) => Answer::Wanting,
+    }
+}

@@ -1,0 +1,117 @@
+//! Arcs of two maps cut again.
+
+use crate::comparing::{are_used, same_arcs};
+use crate::inputs::{built, is_of};
+use crate::outcome::{Answer, Outcome, Tally};
+use crate::texts::{FREE_LOOP, LINE, LOOP_AND_LINE, SHARED_EDGE, THIRD, THREE};
+use faults::OutOfMemory;
+use recutting::{Recut, Side, recut};
+use std::alloc::Global;
+use topo::Topology;
+
+/// Two maps, the map of both, and for each arc of each the indexes of the arcs that it is cut into.
+#[derive(Clone, Copy)]
+struct Row {
+    title: &'static str,
+    left: &'static str,
+    right: &'static str,
+    both: &'static str,
+    left_pieces: &'static [&'static [i64]],
+    right_pieces: &'static [&'static [i64]],
+}
+
+const ROWS: &[Row] = &[
+    Row {
+        title: "two squares, and the third",
+        left: SHARED_EDGE,
+        right: THIRD,
+        both: THREE,
+        left_pieces: &[&[0], &[1], &[2, 4, -4]],
+        right_pieces: &[&[4, -6]],
+    },
+    Row {
+        title: "a free loop, and a line from its side",
+        left: FREE_LOOP,
+        right: LINE,
+        both: LOOP_AND_LINE,
+        left_pieces: &[&[0]],
+        right_pieces: &[&[1]],
+    },
+];
+
+/// The topologies of a row.
+#[derive(Drop)]
+struct Pair {
+    row: &'static Row,
+    left: Topology,
+    right: Topology,
+    both: Topology,
+}
+
+impl Pair {
+    fn of(alloc: Global, row: &'static Row) -> Option<Pair> {
+        let left = built(alloc, row.left)?;
+        let right = built(alloc, row.right)?;
+        let both = built(alloc, row.both)?;
+        Some(Pair {
+            row,
+            left,
+            right,
+            both,
+        })
+    }
+
+    fn is_as_before(&self) -> bool {
+        is_of(&self.left, self.row.left) && is_of(&self.right, self.row.right)
+    }
+}
+
+fn are_pieces(made: &Recut, side: Side, lists: &[&[i64]]) -> bool {
+    for (number, indexes) in lists.iter().enumerate() {
+        match made.pieces(side, number) {
+            Some(pieces) => {
+                if !are_used(pieces, indexes) {
+                    return false;
+                }
+            }
+            None => return false,
+        }
+    }
+    made.pieces(side, lists.len()).is_none()
+}
+
+fn ask(alloc: Global, pair: &Pair) -> Answer {
+    match recut(alloc, pair.left.arcs(), pair.right.arcs()) {
+        Ok(made) => Answer::of(
+            are_pieces(&made, Side::Left, pair.row.left_pieces)
+                && are_pieces(&made, Side::Right, pair.row.right_pieces)
+                && same_arcs(made.arcs(), pair.both.arcs()),
+        ),
+        Err(OutOfMemory) => Answer::Wanting,
+    }
+}
+
+/// Asks, and asks again after want of memory.
+fn settle_pair(alloc: Global, pair: &Pair) -> Outcome {
+    let first = ask(alloc, pair);
+    let outcome = Outcome::of_first(first, pair.is_as_before());
+    match outcome {
+        Outcome::Wanting => Outcome::of_second(ask(alloc, pair)),
+        _ => outcome,
+    }
+}
+
+fn settle_row(alloc: Global, row: &'static Row) -> Outcome {
+    match Pair::of(alloc, row).or_else(|| Pair::of(alloc, row)) {
+        Some(pair) => settle_pair(alloc, &pair),
+        None => Outcome::Unprepared,
+    }
+}
+
+/// Cuts the arcs of each row again.
+pub(crate) fn settle(rt: &HostRuntime, tally: &mut Tally) {
+    for row in ROWS {
+        let outcome = settle_row(rt.alloc(), row);
+        tally.note(rt, row.title, "recut", outcome);
+    }
+}
