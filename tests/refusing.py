@@ -1,37 +1,122 @@
-"""Runs of a program with one of its requests for memory refused, or all from one on. What refuses is refuse.c, a small
-library that is loaded before the C library, so a C compiler (cc) is needed."""
+"""What the scripts share that refuse a program its requests for memory, each alone and each with all behind it.
 
+What refuses is refuse.c, a small library that is loaded before the C library, so a C compiler (cc) is needed; without one
+a script says that it was skipped. With a limit of time the runs stop there, in no order of the requests. Fewer runs than
+a slow machine makes in a minute are too few.
+"""
+
+import argparse
+import contextlib
 import os
+import random
+import shutil
 import subprocess
+import sys
+import tempfile
+from collections import Counter
+from typing import NamedTuple
+
+from many_runs import judged, told
 
 TOP = os.path.dirname(os.path.dirname(os.path.abspath(__file__)))
+LEAST_RUNS = 1000
+WRONG = "wrong"
 
 
-def library(folder):
-    """Compiles the library that refuses into the folder, and gives its name."""
-    name = f"{folder}/refuse.so"
-    subprocess.run(["cc", "-O2", "-shared", "-fPIC", "-fno-builtin", "-o", name, f"{TOP}/tests/refuse.c"], check=True)
-    return name
+class Task(NamedTuple):
+    """A run of a command with the request of a place refused, counted from 1, and, where `on` is true, all behind it;
+    how the command ends where none is refused (its status, and what it prints on either output), and how many requests
+    it makes then."""
+    words: list
+    place: int
+    on: bool
+    right: tuple
+    count: int
 
 
-def refused(name, command, folder, place, on):
-    """Runs the command in the folder with the request of this place refused, counted from 1, or, where on is true, that
-    and all behind it; gives its end, and whether a refusal was met."""
-    heard, told = os.pipe()
-    env = {**os.environ, "LD_PRELOAD": name, "REFUSE_AT": str(place), "REFUSE_TOLD": str(told)}
-    if on:
-        env["REFUSE_ON"] = "1"
-    ran = subprocess.run(command, cwd=folder, env=env, pass_fds=[told], capture_output=True)
-    os.close(told)
-    met = os.read(heard, 1) != b""
-    os.close(heard)
-    return ran, met
+class Tally(NamedTuple):
+    """How many runs there were of each kind, and how many there are to make."""
+    kinds: Counter
+    total: int
+    seconds: float
+
+    def is_wrong(self):
+        return self.kinds[WRONG] > 0 or self.kinds.total() < LEAST_RUNS
+
+    def share(self):
+        return self.kinds.total() / self.total
+
+    def __str__(self):
+        kinds = ", ".join(f"{count:,} {kind}" for kind, count in sorted(self.kinds.items()) if kind != WRONG)
+        return f"{told(self.kinds.total(), self.total, 'runs', self.seconds)} ({kinds}), {self.kinds[WRONG]} wrong"
 
 
-def each(name, command, folder, on):
-    """Refuses the first request, the second and so on, until a run meets no refusal; gives each place and its run."""
-    place, met = 1, True
-    while met:
-        ran, met = refused(name, command, folder, place, on)
-        yield place, ran
-        place += 1
+class Program:
+    """A program under the library that refuses, run in a folder, with a file of it as standard input where one is named."""
+
+    def __init__(self, name, library, folder, seconds):
+        self.name, self.library, self.folder, self.seconds, self.given = name, library, folder, seconds, None
+
+    def run(self, words, settings, folder=None):
+        """Gives how a command ended, and how many bytes the library wrote to the descriptor that a setting of None names."""
+        given = f"{self.folder}/{self.given}" if self.given and folder is None else os.devnull
+        with tempfile.TemporaryFile() as heard, open(given, "rb") as given:
+            named = {name: str(heard.fileno() if it is None else it) for name, it in settings.items()}
+            how = {"cwd": folder or self.folder, "env": {**os.environ, "LD_PRELOAD": self.library, **named}}
+            ran = subprocess.run([self.name, *words], stdin=given, pass_fds=[heard.fileno()], capture_output=True, **how)
+            return (ran.returncode, ran.stdout, ran.stderr), heard.seek(0, os.SEEK_END)
+
+    def asked(self, words, folder=None):
+        """How a command ends where no request is refused, and how many it makes."""
+        return self.run(words, {"REFUSE_ASKED": None}, folder)
+
+    def tasks(self, words):
+        """Each request of the command refused; and the one behind the last, which is none."""
+        right, count = self.asked(words)
+        return [Task(words, place, on, right, count) for on in (False, True) for place in range(1, count + 2)]
+
+    def refused(self, task):
+        """Does a task; gives it, how the command ended, and how many requests were refused."""
+        return task, *self.run(task.words, {"REFUSE_AT": task.place, "REFUSE_TOLD": None, **({"REFUSE_ON": 1} if task.on else {})})
+
+    def judge(self, commands, kind_of):
+        """Does all tasks of the commands, or those that the time is enough for. `kind_of` tells by a task and its end what
+        kind of run it was; where it is WRONG, or a request was not refused that had to be, the run is shown."""
+        tasks = [it for words in commands for it in self.tasks(words)]
+        random.Random(1).shuffle(tasks)
+        tally = Tally(Counter(), len(tasks), self.seconds)
+        for task, end, refusals in judged(self.refused, tasks, self.seconds):
+            kind = kind_of(task, end) if (refusals > 0) == (task.place <= task.count) else WRONG
+            tally.kinds[kind] += 1
+            if kind == WRONG:
+                behind = " and all behind it" * task.on
+                print(f"{' '.join([os.path.basename(self.name), *task.words])}: with request {task.place}{behind} refused, {refusals} times: {end}")
+        return tally
+
+
+def compiled(folder):
+    """The library, or None where there is no compiler."""
+    compiler = next(filter(None, map(shutil.which, ("cc", "gcc", "clang"))), None)
+    if compiler is None:
+        return None
+    library = f"{folder}/refuse.so"
+    subprocess.run([compiler, "-O2", "-shared", "-fPIC", "-fno-builtin", "-o", library, f"{TOP}/tests/refuse.c"], check=True)
+    return library
+
+
+@contextlib.contextmanager
+def program(variable, crate):
+    """The program of a crate, or the one that a variable names, in a folder of its own. Reads the words of the script,
+    and ends it where there is no program or no compiler."""
+    words = argparse.ArgumentParser()
+    words.add_argument("--seconds", type=float, help="stop after so long")
+    words = words.parse_args()
+    name = os.path.abspath(os.environ.get(variable, f"{TOP}/crates/{crate}/out/{crate}"))
+    if not os.path.isfile(name):
+        sys.exit(f"{name} is not there: rt run in crates/{crate} builds it")
+    with tempfile.TemporaryDirectory() as folder:
+        library = compiled(folder)
+        if library is None:
+            print("skipped: there is no C compiler (Debian: gcc); 0 runs, 0 wrong")
+            sys.exit(0)
+        yield Program(name, library, folder, words.seconds)
