@@ -1,6 +1,6 @@
 //! Writers that fail, and writers that take little.
-use command_runs::Run;
 use command_runs::inputs::{SHARED_EDGE, SQUARES};
+use command_runs::{Run, script};
 use sinks::{Answer, Kept, Script, Tap};
 use std::alloc::{AllocError, Global};
 use std::io;
@@ -15,16 +15,6 @@ fn run_of(alloc: Global, words: &[&str]) -> Result<Run, AllocError> {
     run.add_file("squares.json", SQUARES.as_bytes())?;
     run.add_file("shared.json", SHARED_EDGE.as_bytes())?;
     Ok(run)
-}
-
-/// One byte a call for some calls, then one other answer.
-fn script(alloc: Global, calls: usize, last: Answer) -> Result<Script, AllocError> {
-    let mut answers = Vec::new(alloc);
-    for _ in 0..calls {
-        answers.push(Answer::Take(1))?;
-    }
-    answers.push(last)?;
-    Ok(Script::new(alloc, answers))
 }
 
 /// The run took a beginning of the text, and told that the output failed.

@@ -4,5 +4,7 @@
 
 pub mod inputs;
 mod runs;
+mod scripts;
 
 pub use runs::{Outcome, Run, build, build_all, run_on_bytes, run_words};
+pub use scripts::script;

@@ -2,19 +2,17 @@
 use crate::files::{Files, input_once, name_at, read_named};
 use crate::grid_word::parse_grid;
 use crate::refusal::Refusal;
-use crate::status::Status;
 use built_text::{BuildFault, build_topology};
 use clap::ArgMatches;
-use sinks::Sink;
 use std::alloc::Global;
+use topo::Topology;
 
-/// Prints the topology of GeoJSON files.
-pub(crate) fn run_build<'a, F: Files, O: Sink>(
+/// The topology of GeoJSON files.
+pub(crate) fn topology_built<'a, F: Files>(
     alloc: Global,
     found: &ArgMatches<'a>,
     files: &mut F,
-    out: &mut O,
-) -> Result<Status, Refusal<'a>> {
+) -> Result<Topology, Refusal<'a>> {
     let word = found.get_str("grid").unwrap_or("");
     let Some(grid) = parse_grid(word) else {
         return Err(Refusal::BadGrid(word));
@@ -23,10 +21,7 @@ pub(crate) fn run_build<'a, F: Files, O: Sink>(
     input_once(names.as_slice())?;
     let texts = read_texts(alloc, files, layers.as_slice(), names.as_slice())?;
     match build_topology(alloc, &grid, texts.as_slice()) {
-        Ok(topology) => {
-            topo_io::write(&topology, out)?;
-            Ok(Status::Done)
-        }
+        Ok(topology) => Ok(topology),
         Err(BuildFault::Text(place, fault)) => {
             Err(Refusal::of_text(name_at(names.as_slice(), place), fault))
         }

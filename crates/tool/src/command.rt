@@ -1,16 +1,17 @@
 //! The whole command, over files and sinks that are handed in.
-use crate::build_command::run_build;
+use crate::build_command::topology_built;
 use crate::files::Files;
-use crate::merging::run_merge;
-use crate::queries::{run_check, run_feature, run_info, run_mesh, run_neighbors};
+use crate::merging::merged_text;
+use crate::queries::{is_canonical, print_answer};
 use crate::refusal::Refusal;
-use crate::removing::run_remove;
+use crate::removing::topology_left;
 use crate::status::Status;
 use arguments::parse;
 use clap::error::ErrorKind;
 use clap::{ArgMatches, Error};
 use sinks::{Sink, put};
 use std::alloc::Global;
+use topo::Topology;
 
 /// Runs the command that the words ask for, of which the first is the program's name, and answers
 /// the exit status: 0 done, 1 `check` says no, 2 usage, 3 a file can't be read, 4 an input is
@@ -41,15 +42,33 @@ fn perform<'a, F: Files, O: Sink>(
     out: &mut O,
 ) -> Result<Status, Refusal<'a>> {
     match matches.subcommand() {
-        Some(("build", found)) => run_build(alloc, found, files, out),
-        Some(("check", found)) => run_check(alloc, found, files, out),
-        Some(("merge", found)) => run_merge(alloc, found, files, out),
-        Some(("remove", found)) => run_remove(alloc, found, files, out),
-        Some(("feature", found)) => run_feature(alloc, found, files, out),
-        Some(("mesh", found)) => run_mesh(alloc, found, files, out),
-        Some(("neighbors", found)) => run_neighbors(alloc, found, files, out),
-        Some(("info", found)) => run_info(alloc, found, files, out),
-        _ => Ok(Status::Usage),
+        Some(("build", found)) => print_topology(&topology_built(alloc, found, files)?, out),
+        Some(("check", found)) => print_verdict(is_canonical(alloc, found, files)?, out),
+        Some(("merge", found)) => print_text(&merged_text(alloc, found, files)?, out),
+        Some(("remove", found)) => print_topology(&topology_left(alloc, found, files)?, out),
+        Some((name, found)) => print_answer(alloc, name, found, files, out),
+        None => Ok(Status::Usage),
+    }
+}
+
+fn print_topology<'a, O: Sink>(topology: &Topology, out: &mut O) -> Result<Status, Refusal<'a>> {
+    topo_io::write(topology, out)?;
+    Ok(Status::Done)
+}
+
+fn print_text<'a, O: Sink>(text: &[u8], out: &mut O) -> Result<Status, Refusal<'a>> {
+    put(out, text)?;
+    Ok(Status::Done)
+}
+
+/// Prints whether a text is canonical.
+fn print_verdict<'a, O: Sink>(canonical: bool, out: &mut O) -> Result<Status, Refusal<'a>> {
+    if canonical {
+        put(out, b"canonical\n")?;
+        Ok(Status::Done)
+    } else {
+        put(out, b"not canonical\n")?;
+        Ok(Status::NotCanonical)
     }
 }
 

@@ -1,11 +1,9 @@
 //! The command `merge`.
 use crate::files::{Files, name_at, read_all};
 use crate::refusal::Refusal;
-use crate::status::Status;
 use clap::ArgMatches;
 use faults::OutOfMemory;
 use refine::{MergeFault, Plan, merge_texts};
-use sinks::{Sink, put};
 use std::alloc::Global;
 
 /// In what grouping files are merged.
@@ -36,13 +34,12 @@ impl Shape {
     }
 }
 
-/// Prints the topology of all files' features.
-pub(crate) fn run_merge<'a, F: Files, O: Sink>(
+/// The text of the topology of all files' features.
+pub(crate) fn merged_text<'a, F: Files>(
     alloc: Global,
     found: &ArgMatches<'a>,
     files: &mut F,
-    out: &mut O,
-) -> Result<Status, Refusal<'a>> {
+) -> Result<Vec<u8>, Refusal<'a>> {
     let names = found.get_strs("FILE").unwrap_or(&[]);
     let texts = read_all(alloc, files, names)?;
     let shape = Shape::of_word(found.get_str("shape").unwrap_or("left"));
@@ -50,10 +47,7 @@ pub(crate) fn run_merge<'a, F: Files, O: Sink>(
         return Err(Refusal::BadPlan);
     };
     match merge_texts(alloc, texts.as_slice(), &plan) {
-        Ok(text) => {
-            put(out, text.as_slice())?;
-            Ok(Status::Done)
-        }
+        Ok(text) => Ok(text),
         Err(fault) => Err(refused(names, fault)),
     }
 }

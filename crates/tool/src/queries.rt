@@ -11,63 +11,67 @@ use query::{
     write_neighbors,
 };
 use shapes::{Feature, Id};
-use sinks::{Sink, put};
+use sinks::{Sink, WriteFault};
 use std::alloc::Global;
 use topo::{Geom, Topology};
 
-/// Prints whether a text is canonical. Answers `Done`, or `NotCanonical` where it is not.
-pub(crate) fn run_check<'a, F: Files, O: Sink>(
+/// Whether the text of a file is canonical.
+pub(crate) fn is_canonical<'a, F: Files>(
     alloc: Global,
     found: &ArgMatches<'a>,
     files: &mut F,
-    out: &mut O,
-) -> Result<Status, Refusal<'a>> {
+) -> Result<bool, Refusal<'a>> {
     let file = word(found, "FILE");
     let text = read_named(alloc, files, file)?;
     match topo_io::is_canonical(alloc, text.as_slice()) {
-        Ok(true) => {
-            put(out, b"canonical\n")?;
-            Ok(Status::Done)
-        }
-        Ok(false) => {
-            put(out, b"not canonical\n")?;
-            Ok(Status::NotCanonical)
-        }
+        Ok(canonical) => Ok(canonical),
         Err(fault) => Err(Refusal::of_text(file, fault)),
     }
 }
 
-/// Prints a layer as GeoJSON.
-pub(crate) fn run_feature<'a, F: Files, O: Sink>(
+/// Reads a topology, and prints what the command of this name asks of it.
+pub(crate) fn print_answer<'a, F: Files, O: Sink>(
     alloc: Global,
+    name: &str,
     found: &ArgMatches<'a>,
     files: &mut F,
     out: &mut O,
 ) -> Result<Status, Refusal<'a>> {
-    let layer = word(found, "layer");
     let topology = read_topology(alloc, files, word(found, "FILE"))?;
-    match write_layer(&topology, layer, out) {
-        Ok(()) => Ok(Status::Done),
+    match name {
+        "feature" => print_feature(&topology, word(found, "layer"), out)?,
+        "mesh" => print_mesh(alloc, &topology, found, out)?,
+        "neighbors" => print_neighbors(alloc, &topology, found, out)?,
+        "info" => print_info(&topology, found.get_flag("json"), out)?,
+        _ => return Ok(Status::Usage),
+    }
+    Ok(Status::Done)
+}
+
+/// Prints a layer as GeoJSON.
+fn print_feature<'a, O: Sink>(
+    topology: &Topology,
+    layer: &'a str,
+    out: &mut O,
+) -> Result<(), Refusal<'a>> {
+    match write_layer(topology, layer, out) {
+        Ok(()) => Ok(()),
         Err(LayerFault::NoLayer) => Err(Refusal::NoLayer(layer)),
         Err(LayerFault::Write) => Err(Refusal::Write),
     }
 }
 
 /// Prints the borders of a layer, or of all layers.
-pub(crate) fn run_mesh<'a, F: Files, O: Sink>(
+fn print_mesh<'a, O: Sink>(
     alloc: Global,
+    topology: &Topology,
     found: &ArgMatches<'a>,
-    files: &mut F,
     out: &mut O,
-) -> Result<Status, Refusal<'a>> {
+) -> Result<(), Refusal<'a>> {
     let layer = found.get_str("layer");
-    let topology = read_topology(alloc, files, word(found, "FILE"))?;
     let edges = Edges::of_word(word(found, "edges"));
-    match mesh_of(alloc, &topology, layer, edges) {
-        Ok(lines) => {
-            write_mesh(&topology.grid(), &lines, out)?;
-            Ok(Status::Done)
-        }
+    match mesh_of(alloc, topology, layer, edges) {
+        Ok(lines) => Ok(write_mesh(&topology.grid(), &lines, out)?),
         Err(fault) => Err(refused(layer.unwrap_or(""), fault)),
     }
 }
@@ -107,25 +111,24 @@ fn mesh_of(
 }
 
 /// Prints which features of a layer share a border.
-pub(crate) fn run_neighbors<'a, F: Files, O: Sink>(
+fn print_neighbors<'a, O: Sink>(
     alloc: Global,
+    topology: &Topology,
     found: &ArgMatches<'a>,
-    files: &mut F,
     out: &mut O,
-) -> Result<Status, Refusal<'a>> {
+) -> Result<(), Refusal<'a>> {
     let layer = word(found, "layer");
-    let topology = read_topology(alloc, files, word(found, "FILE"))?;
-    let lists = match neighbors(alloc, &topology, layer) {
+    let lists = match neighbors(alloc, topology, layer) {
         Ok(lists) => lists,
         Err(fault) => return Err(refused(layer, fault)),
     };
     if found.get_flag("ids") {
-        let geometries = geometries_with_ids(&topology, layer)?;
+        let geometries = geometries_with_ids(topology, layer)?;
         write_neighbor_ids(geometries, lists.as_slice(), out)?;
     } else {
         write_neighbors(lists.as_slice(), out)?;
     }
-    Ok(Status::Done)
+    Ok(())
 }
 
 /// The geometries of a layer, each of which has to have an id.
@@ -142,19 +145,12 @@ fn geometries_with_ids<'a, 't>(
 }
 
 /// Prints what a topology is made of.
-pub(crate) fn run_info<'a, F: Files, O: Sink>(
-    alloc: Global,
-    found: &ArgMatches<'a>,
-    files: &mut F,
-    out: &mut O,
-) -> Result<Status, Refusal<'a>> {
-    let topology = read_topology(alloc, files, word(found, "FILE"))?;
-    if found.get_flag("json") {
-        write_json(&topology, out)?;
+fn print_info<O: Sink>(topology: &Topology, as_json: bool, out: &mut O) -> Result<(), WriteFault> {
+    if as_json {
+        write_json(topology, out)
     } else {
-        write_lines(&topology, out)?;
+        write_lines(topology, out)
     }
-    Ok(Status::Done)
 }
 
 fn refused<'a>(layer: &'a str, fault: QueryFault) -> Refusal<'a> {

@@ -1,20 +1,18 @@
 //! The command `remove`.
 use crate::files::{Files, input_once, read_named};
 use crate::refusal::Refusal;
-use crate::status::Status;
 use crate::topologies::{map_of, topology_of, word};
 use clap::ArgMatches;
 use refine::remove::remove;
-use sinks::Sink;
 use std::alloc::Global;
+use topo::Topology;
 
-/// Prints the topology of a file without the features of another one.
-pub(crate) fn run_remove<'a, F: Files, O: Sink>(
+/// The topology of a file without the features of another one.
+pub(crate) fn topology_left<'a, F: Files>(
     alloc: Global,
     found: &ArgMatches<'a>,
     files: &mut F,
-    out: &mut O,
-) -> Result<Status, Refusal<'a>> {
+) -> Result<Topology, Refusal<'a>> {
     let file = word(found, "FILE");
     let removed = word(found, "REMOVED");
     input_once(&[file, removed])?;
@@ -25,7 +23,5 @@ pub(crate) fn run_remove<'a, F: Files, O: Sink>(
     if grid != topology.grid() {
         return Err(Refusal::OtherGrid(removed));
     }
-    let left = remove(alloc, &topology, &map)?;
-    topo_io::write(left.topology(), out)?;
-    Ok(Status::Done)
+    Ok(remove(alloc, &topology, &map)?.into_topology())
 }
