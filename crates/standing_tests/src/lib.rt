@@ -5,3 +5,5 @@
 mod arcs;
 #[cfg(test)]
 mod lists;
+#[cfg(test)]
+mod standing_lists;

@@ -1,0 +1,185 @@
+use crate::arcs::{A, B, C, D, E, lists, read};
+use chains::{ArcRef, ArcTable};
+use grid::pos::Pos;
+use standing::{
+    ArcsUsed, add_line_ends, arcs_as_read, ends_meet, free_loops, line_stands, ring_stands,
+};
+use std::alloc::Global;
+use std::process::Abort;
+use std::test::Fail;
+
+fn refs(alloc: Global, indexes: &[i64]) -> Result<Vec<ArcRef>, Fail> {
+    let mut made = Vec::new(alloc);
+    for index in indexes {
+        made.push(ArcRef::from_index(*index))?;
+    }
+    Ok(made)
+}
+
+fn places(alloc: Global, vertices: &[(i64, i64)]) -> Result<Vec<Pos>, Fail> {
+    let mut made = Vec::new(alloc);
+    for (x, y) in vertices {
+        made.push(Pos::new(*x, *y).ok_or("outside the limits")?)?;
+    }
+    Ok(made)
+}
+
+fn table(alloc: Global, arcs: &[&[(i64, i64)]], free: &[bool]) -> Result<ArcTable, Fail> {
+    match read(alloc, arcs, free)? {
+        Some(table) => Ok(table),
+        None => Err("refused".into()),
+    }
+}
+
+fn line(alloc: Global, table: &ArcTable, indexes: &[i64]) -> Result<bool, Fail> {
+    let mut used = ArcsUsed::none(alloc, table.len())?;
+    let list = refs(alloc, indexes)?;
+    Ok(line_stands(table, &mut used, &list))
+}
+
+fn ring(alloc: Global, table: &ArcTable, indexes: &[i64]) -> Result<bool, Fail> {
+    let mut used = ArcsUsed::none(alloc, table.len())?;
+    let list = refs(alloc, indexes)?;
+    Ok(ring_stands(table, &mut used, &list))
+}
+
+#[test]
+fn lists_of_lines(rt: HostRuntime) -> Result<(), Fail> {
+    let alloc = rt.alloc();
+    let arcs = table(alloc, &[&[A, D, C], &[A, B], &[B, C]], &[])?;
+    assert!(rt; line(alloc, &arcs, &[0])?);
+    assert!(rt; line(alloc, &arcs, &[1, 2])?);
+    assert!(rt; line(alloc, &arcs, &[0, -3])?);
+    // It is empty, doesn't run on, names no arc, or uses one twice.
+    assert!(rt; !line(alloc, &arcs, &[])?);
+    assert!(rt; !line(alloc, &arcs, &[1, 0])?);
+    assert!(rt; !line(alloc, &arcs, &[1, 3])?);
+    assert!(rt; !line(alloc, &arcs, &[1, -2])?);
+    Ok(())
+}
+
+#[test]
+fn a_line_over_a_free_loop(rt: HostRuntime) -> Result<(), Fail> {
+    let alloc = rt.alloc();
+    let marked = table(alloc, &[&[A, D, C, A]], &[true])?;
+    assert!(rt; !line(alloc, &marked, &[0])?);
+    assert!(rt; ring(alloc, &marked, &[0])?);
+    let unmarked = table(alloc, &[&[A, D, C, A]], &[])?;
+    assert!(rt; line(alloc, &unmarked, &[0])?);
+    Ok(())
+}
+
+#[test]
+fn lists_of_rings(rt: HostRuntime) -> Result<(), Fail> {
+    let alloc = rt.alloc();
+    let arcs = table(alloc, &[&[A, D, C], &[A, B], &[B, C]], &[])?;
+    assert!(rt; ring(alloc, &arcs, &[0, -3, -2])?);
+    assert!(rt; ring(alloc, &arcs, &[1, 2, -1])?);
+    // It begins elsewhere.
+    assert!(rt; !ring(alloc, &arcs, &[2, -1, 1])?);
+    assert!(rt; !ring(alloc, &arcs, &[-3, -2, 0])?);
+    // It is empty, doesn't close, or goes forth and back.
+    assert!(rt; !ring(alloc, &arcs, &[])?);
+    assert!(rt; !ring(alloc, &arcs, &[0])?);
+    assert!(rt; !ring(alloc, &arcs, &[1, -2])?);
+    Ok(())
+}
+
+#[test]
+fn rings_that_come_to_their_seam_again(rt: HostRuntime) -> Result<(), Fail> {
+    let alloc = rt.alloc();
+    let arcs = table(alloc, &[&[A, D, C, A], &[A, B, E, A]], &[])?;
+    // From A the next vertex is D or B, or, where the first loop is reversed, C or B.
+    assert!(rt; ring(alloc, &arcs, &[0, 1])?);
+    assert!(rt; !ring(alloc, &arcs, &[1, 0])?);
+    assert!(rt; ring(alloc, &arcs, &[1, -1])?);
+    assert!(rt; !ring(alloc, &arcs, &[-1, 1])?);
+    Ok(())
+}
+
+#[test]
+fn arcs_that_lists_use(rt: HostRuntime) -> Result<(), Fail> {
+    let alloc = rt.alloc();
+    let arcs = table(alloc, &[&[A, D, C], &[A, B], &[B, C]], &[])?;
+    let mut used = ArcsUsed::none(alloc, arcs.len())?;
+    assert!(rt; !used.all());
+    assert!(rt; line_stands(&arcs, &mut used, &refs(alloc, &[1, 2])?));
+    assert!(rt; !used.all());
+    // An arc may be used again by another list.
+    assert!(rt; ring_stands(&arcs, &mut used, &refs(alloc, &[0, -3, -2])?));
+    assert!(rt; used.all());
+    Ok(())
+}
+
+fn meet(
+    alloc: Global,
+    arcs: &[&[(i64, i64)]],
+    free: &[bool],
+    ends: &[(i64, i64)],
+) -> Result<bool, Fail> {
+    let table = table(alloc, arcs, free)?;
+    Ok(ends_meet(alloc, &table, &places(alloc, ends)?)?)
+}
+
+#[test]
+fn ends_of_arcs(rt: HostRuntime) -> Result<(), Fail> {
+    let alloc = rt.alloc();
+    // Two arcs meet at each end.
+    let round: [&[(i64, i64)]; 3] = [&[A, D, C], &[A, B], &[B, C]];
+    assert!(rt; !meet(alloc, &round, &[], &[])?);
+    assert!(rt; !meet(alloc, &round, &[], &[A, C])?);
+    assert!(rt; meet(alloc, &round, &[], &[C, A, B])?);
+    // Three meet at A.
+    let star: [&[(i64, i64)]; 3] = [&[A, D, C], &[A, B], &[A, E]];
+    assert!(rt; meet(alloc, &star, &[], &[E, B, C])?);
+    assert!(rt; !meet(alloc, &star, &[], &[E, C, A])?);
+    Ok(())
+}
+
+#[test]
+fn ends_of_closed_arcs(rt: HostRuntime) -> Result<(), Fail> {
+    let alloc = rt.alloc();
+    // A closed arc has two ends at its seam, a free loop none.
+    assert!(rt; meet(alloc, &[&[A, D, C, A], &[A, B]], &[], &[B])?);
+    assert!(rt; !meet(alloc, &[&[A, D, C, A]], &[], &[])?);
+    assert!(rt; meet(alloc, &[&[A, D, C, A]], &[], &[A])?);
+    assert!(rt; meet(alloc, &[&[A, D, C, A]], &[true], &[])?);
+    Ok(())
+}
+
+#[test]
+fn ends_of_lines(rt: HostRuntime) -> Result<(), Fail> {
+    let alloc = rt.alloc();
+    let arcs = lists(alloc, &[&[A, D, C], &[A, B], &[B, C]])?;
+    let mut ends = Vec::new(alloc);
+    add_line_ends(&mut ends, &arcs, &refs(alloc, &[])?)?;
+    add_line_ends(&mut ends, &arcs, &refs(alloc, &[1, 2])?)?;
+    add_line_ends(&mut ends, &arcs, &refs(alloc, &[-2])?)?;
+    assert_eq!(rt; ends.as_slice(), places(alloc, &[A, C, B, A])?.as_slice());
+    Ok(())
+}
+
+/// A loop of which a line takes a part, and a loop alone.
+#[test]
+fn a_whole_topology(rt: HostRuntime) -> Result<(), Fail> {
+    let alloc = rt.alloc();
+    let f = (20, 0);
+    let g = (20, 4);
+    let h = (24, 0);
+    let arcs: [&[(i64, i64)]; 3] = [&[A, D, C], &[A, B, C], &[f, g, h, f]];
+    let line = refs(alloc, &[1])?;
+    let mut ends = Vec::new(alloc);
+    add_line_ends(&mut ends, &lists(alloc, &arcs)?, &line)?;
+    let free = free_loops(alloc, &lists(alloc, &arcs)?, places(alloc, &[A, C])?)?;
+    assert_eq!(rt; free.as_slice(), [false, false, true].as_slice());
+    let Some(table) = arcs_as_read(alloc, lists(alloc, &arcs)?, &free)? else {
+        return Err("refused".into());
+    };
+    let mut used = ArcsUsed::none(alloc, table.len())?;
+    assert!(rt; line_stands(&table, &mut used, &line));
+    assert!(rt; ring_stands(&table, &mut used, &refs(alloc, &[0, -2])?));
+    assert!(rt; ring_stands(&table, &mut used, &refs(alloc, &[2])?));
+    assert!(rt; used.all());
+    assert!(rt; ends_meet(alloc, &table, &ends)?);
+    Ok(())
+}
