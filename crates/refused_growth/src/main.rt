@@ -7,22 +7,16 @@
 
 mod arcs;
 mod asking;
-mod comparing;
-mod inputs;
-mod joins;
 mod maps;
-mod outcome;
 mod parts;
 mod readers;
 mod recuts;
-mod removals;
-mod sessions;
 mod streams;
 mod texts;
 mod worked;
 mod writers;
 
-use outcome::Tally;
+use refused_calls::outcome::Tally;
 use std::process::ExitCode;
 use streams::Squares;
 
@@ -32,10 +26,7 @@ fn main(rt: HostRuntime) -> ExitCode {
     let lent = Squares::of(alloc).or_else(|| Squares::of(alloc));
     parts::settle(&rt, &mut tally);
     worked::settle(&rt, &mut tally);
-    joins::settle(&rt, &mut tally);
     recuts::settle(&rt, &mut tally);
-    removals::settle(&rt, &mut tally);
-    sessions::settle(&rt, &mut tally);
     maps::settle(&rt, &mut tally);
     arcs::settle(&rt, &mut tally);
     streams::settle(&rt, &mut tally, &lent);

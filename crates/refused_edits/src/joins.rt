@@ -1,9 +1,9 @@
 //! Three squares merged as texts and as shards, and the plans of it.
 
-use crate::outcome::{Answer, Outcome, Tally};
-use crate::texts::{FIRST, SECOND, THIRD, THREE};
 use faults::OutOfMemory;
 use refine::{Cut, MergeFault, Plan, PlanFault, Shard, Whole, merge_texts, run_plan};
+use refused_calls::outcome::{Answer, Outcome, Tally};
+use refused_calls::texts::{FIRST, SECOND, THIRD, THREE};
 use std::alloc::Global;
 
 const TEXTS: &[&str] = &[FIRST, SECOND, THIRD];

@@ -1,12 +1,12 @@
 //! Sessions: an edit for which memory is refused leaves them as they were.
 
-use crate::comparing::same_map;
-use crate::inputs::{built, is_of, read};
-use crate::outcome::{Answer, Outcome, Tally};
-use crate::texts::{FIRST, NO_LAYERS, SECOND, SHARED_EDGE};
 use faults::OutOfMemory;
 use grid::Grid;
 use refine::{Edit, EditsFault, JoinFault, Session};
+use refused_calls::comparing::same_map;
+use refused_calls::inputs::{built, is_of, read};
+use refused_calls::outcome::{Answer, Outcome, Tally};
+use refused_calls::texts::{FIRST, NO_LAYERS, SECOND, SHARED_EDGE};
 use shapes::FeatureMap;
 use std::alloc::Global;
 

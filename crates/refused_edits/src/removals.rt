@@ -1,12 +1,14 @@
 //! Features taken out of topologies.
 
-use crate::comparing::{are_used, same_map};
-use crate::inputs::{built, is_of, read};
-use crate::outcome::{Answer, Outcome, Tally};
-use crate::texts::{EMPTY, ENDS, FIRST, FREE_LOOP, LINE, LOOP_AND_LINE, SECOND, SHARED_EDGE, THREE};
 use faults::OutOfMemory;
 use refine::Removal;
 use refine::remove::remove;
+use refused_calls::comparing::{are_used, same_map};
+use refused_calls::inputs::{built, is_of, read};
+use refused_calls::outcome::{Answer, Outcome, Tally};
+use refused_calls::texts::{
+    EMPTY, ENDS, FIRST, FREE_LOOP, LINE, LOOP_AND_LINE, SECOND, SHARED_EDGE, THREE,
+};
 use shapes::FeatureMap;
 use std::alloc::Global;
 use topo::Topology;
@@ -75,8 +77,7 @@ impl Removing {
     }
 
     fn is_as_before(&self) -> bool {
-        is_of(&self.whole, self.row.whole)
-            && same_map(&self.removed, &self.copy)
+        is_of(&self.whole, self.row.whole) && same_map(&self.removed, &self.copy)
     }
 }
 
@@ -97,8 +98,7 @@ fn are_pieces(made: &Removal, lists: &[&[i64]]) -> bool {
 fn ask(alloc: Global, removing: &Removing) -> Answer {
     match remove(alloc, &removing.whole, &removing.removed) {
         Ok(made) => Answer::of(
-            is_of(made.topology(), removing.row.left)
-                && are_pieces(&made, removing.row.pieces),
+            is_of(made.topology(), removing.row.left) && are_pieces(&made, removing.row.pieces),
         ),
         Err(OutOfMemory) => Answer::Wanting,
     }
