@@ -1,13 +1,13 @@
 //! Arcs taken as they stand, and which of them are free loops.
 
-use crate::comparing::same_arcs;
-use crate::inputs::{built, is_of};
-use crate::outcome::{Answer, Outcome, Tally};
-use crate::texts::{FREE_LOOP, LOOP_AND_LINE, SHARED_EDGE};
 use chains::ArcTable;
 use faults::OutOfMemory;
 use grid::Pos;
 use lines::items::Items;
+use refused_calls::comparing::same_arcs;
+use refused_calls::inputs::{built, is_of};
+use refused_calls::outcome::{Answer, Outcome, Tally};
+use refused_calls::texts::{FREE_LOOP, LOOP_AND_LINE, SHARED_EDGE};
 use standing::{arcs_as_read, free_loops};
 use std::alloc::Global;
 use topo::Topology;

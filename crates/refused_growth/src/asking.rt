@@ -1,11 +1,11 @@
 //! Questions to topologies.
 
-use crate::comparing::{are_arcs, are_features, are_neighbors};
-use crate::outcome::Answer;
-use crate::texts::Places;
 use crate::worked::Worked;
 use chains::ArcTable;
 use query::QueryFault;
+use refused_calls::comparing::{are_arcs, are_features, are_neighbors};
+use refused_calls::outcome::Answer;
+use refused_calls::texts::Places;
 use shapes::Feature;
 use std::alloc::Global;
 

@@ -7,10 +7,7 @@
 
 mod arcs;
 mod asking;
-mod comparing;
-mod inputs;
 mod maps;
-mod outcome;
 mod parts;
 mod readers;
 mod recuts;
@@ -19,7 +16,7 @@ mod texts;
 mod worked;
 mod writers;
 
-use outcome::Tally;
+use refused_calls::outcome::Tally;
 use std::process::ExitCode;
 use streams::Squares;
 

@@ -1,10 +1,10 @@
 //! Maps that take features and layers: where memory is refused they are as they were.
 
-use crate::comparing::same_map;
-use crate::inputs::read;
-use crate::outcome::{Answer, Outcome, Tally};
-use crate::texts::{FIRST, SECOND, SHARED_EDGE};
 use faults::OutOfMemory;
+use refused_calls::comparing::same_map;
+use refused_calls::inputs::read;
+use refused_calls::outcome::{Answer, Outcome, Tally};
+use refused_calls::texts::{FIRST, SECOND, SHARED_EDGE};
 use shapes::{Feature, FeatureMap, InsertFault};
 use std::alloc::Global;
 use std::collections::BTreeSet;

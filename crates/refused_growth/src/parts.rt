@@ -1,9 +1,9 @@
 //! What features are made of.
 
-use crate::comparing::stand_at;
-use crate::outcome::{Answer, Outcome, Tally};
 use faults::OutOfMemory;
 use grid::Pos;
+use refused_calls::comparing::stand_at;
+use refused_calls::outcome::{Answer, Outcome, Tally};
 use shapes::{Line, Props, Ring, ShapeFault, Spelled};
 use std::alloc::Global;
 

@@ -1,14 +1,14 @@
 //! Readers, and from texts to topologies and back to maps.
 
-use crate::comparing::{same_geometries, same_map};
-use crate::inputs::is_of;
-use crate::outcome::Answer;
 use crate::worked::Worked;
 use built_text::BuildFault;
 use chains::ArcTable;
 use faults::OutOfMemory;
 use grid::Pos;
 use lines::items::Items;
+use refused_calls::comparing::{same_geometries, same_map};
+use refused_calls::inputs::is_of;
+use refused_calls::outcome::Answer;
 use std::alloc::Global;
 use topo::{Layer, Topology};
 use topo_io::TextParts;

@@ -1,11 +1,11 @@
 //! Arcs of two maps cut again.
 
-use crate::comparing::{are_used, same_arcs};
-use crate::inputs::{built, is_of};
-use crate::outcome::{Answer, Outcome, Tally};
-use crate::texts::{FREE_LOOP, LINE, LOOP_AND_LINE, SHARED_EDGE, THIRD, THREE};
 use faults::OutOfMemory;
 use recutting::{Recut, Side, recut};
+use refused_calls::comparing::{are_used, same_arcs};
+use refused_calls::inputs::{built, is_of};
+use refused_calls::outcome::{Answer, Outcome, Tally};
+use refused_calls::texts::{FREE_LOOP, LINE, LOOP_AND_LINE, SHARED_EDGE, THIRD, THREE};
 use std::alloc::Global;
 use topo::Topology;
 

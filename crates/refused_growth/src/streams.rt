@@ -1,12 +1,13 @@
 //! The calls that take no memory. What they are lent is made first; they are made last, also where all
 //! requests for memory are refused by then, and have to give their answers.
 
-use crate::comparing::{are_arcs, same_map};
-use crate::inputs::{built, is_of, read};
-use crate::outcome::{Outcome, Tally};
-use crate::texts::{SHARED_EDGE, SQUARES};
+use crate::texts::SQUARES;
 use chains::ArcTable;
 use query::{ArcCounts, Kinds};
+use refused_calls::comparing::{are_arcs, same_map};
+use refused_calls::inputs::{built, is_of, read};
+use refused_calls::outcome::{Outcome, Tally};
+use refused_calls::texts::SHARED_EDGE;
 use shapes::{Feature, FeatureMap};
 use sinks::Tap;
 use std::alloc::Global;

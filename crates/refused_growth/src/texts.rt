@@ -1,17 +1,7 @@
 //! Worked maps: their texts, and the answers to questions about them, worked out by hand.
 
-/// A topology on the grid 1,1,0,0, of which the part before `transform` is given.
-macro_rules! topology {
-    ($front:literal) => {
-        concat!(
-            $front,
-            r#""transform":{"scale":[1,1],"translate":[0,0]},"type":"Topology"}"#
-        )
-    };
-}
-
-/// The places of a line.
-pub(crate) type Places = &'static [(i64, i64)];
+use refused_calls::texts::{LOOP_AND_LINE, Places, SHARED_EDGE, THREE};
+use refused_calls::topology;
 
 /// A map of the one layer `a`.
 #[derive(Clone, Copy)]
@@ -106,56 +96,3 @@ const DEEP: Row = Row {
     exterior: &[],
     neighbors: &[&[]],
 };
-
-/// The unit square at the origin.
-pub(crate) const FIRST: &str = topology!(
-    r#"{"arcs":[[[0,0],[0,1],[1,0],[0,-1],[-1,0]]],"bbox":[0,0,1,1],"objects":{"a":{"geometries":[{"arcs":[[-1]],"type":"Polygon"}],"type":"GeometryCollection"}},"#
-);
-
-/// The unit square to the right of `FIRST`.
-pub(crate) const SECOND: &str = topology!(
-    r#"{"arcs":[[[1,0],[0,1],[1,0],[0,-1],[-1,0]]],"bbox":[1,0,2,1],"objects":{"a":{"geometries":[{"arcs":[[-1]],"type":"Polygon"}],"type":"GeometryCollection"}},"#
-);
-
-/// The unit square to the right of `SECOND`.
-pub(crate) const THIRD: &str = topology!(
-    r#"{"arcs":[[[2,0],[0,1],[1,0],[0,-1],[-1,0]]],"bbox":[2,0,3,1],"objects":{"a":{"geometries":[{"arcs":[[-1]],"type":"Polygon"}],"type":"GeometryCollection"}},"#
-);
-
-/// The first two squares.
-pub(crate) const SHARED_EDGE: &str = topology!(
-    r#"{"arcs":[[[1,0],[-1,0],[0,1],[1,0]],[[1,0],[0,1]],[[1,0],[1,0],[0,1],[-1,0]]],"bbox":[0,0,2,1],"objects":{"a":{"geometries":[{"arcs":[[1,-1]],"type":"Polygon"},{"arcs":[[2,-2]],"type":"Polygon"}],"type":"GeometryCollection"}},"#
-);
-
-/// All three squares.
-pub(crate) const THREE: &str = topology!(
-    r#"{"arcs":[[[1,0],[-1,0],[0,1],[1,0]],[[1,0],[0,1]],[[1,0],[1,0]],[[1,1],[1,0]],[[2,0],[0,1]],[[2,0],[1,0],[0,1],[-1,0]]],"bbox":[0,0,3,1],"objects":{"a":{"geometries":[{"arcs":[[1,-1]],"type":"Polygon"},{"arcs":[[2,4,-4,-2]],"type":"Polygon"},{"arcs":[[5,-5]],"type":"Polygon"}],"type":"GeometryCollection"}},"#
-);
-
-/// The first and the third square.
-pub(crate) const ENDS: &str = topology!(
-    r#"{"arcs":[[[0,0],[0,1],[1,0],[0,-1],[-1,0]],[[2,0],[0,1],[1,0],[0,-1],[-1,0]]],"bbox":[0,0,3,1],"objects":{"a":{"geometries":[{"arcs":[[-1]],"type":"Polygon"},{"arcs":[[-2]],"type":"Polygon"}],"type":"GeometryCollection"}},"#
-);
-
-/// A triangle alone, which is a free loop.
-pub(crate) const FREE_LOOP: &str = topology!(
-    r#"{"arcs":[[[0,0],[0,2],[2,-2],[-2,0]]],"bbox":[0,0,2,2],"objects":{"a":{"geometries":[{"arcs":[[-1]],"type":"Polygon"}],"type":"GeometryCollection"}},"#
-);
-
-/// A line from a corner of the triangle.
-pub(crate) const LINE: &str = topology!(
-    r#"{"arcs":[[[2,0],[1,0]]],"bbox":[2,0,3,0],"objects":{"a":{"geometries":[{"arcs":[0],"type":"LineString"}],"type":"GeometryCollection"}},"#
-);
-
-/// The triangle and the line.
-pub(crate) const LOOP_AND_LINE: &str = topology!(
-    r#"{"arcs":[[[2,0],[-2,0],[0,2],[2,-2]],[[2,0],[1,0]]],"bbox":[0,0,3,2],"objects":{"a":{"geometries":[{"arcs":[1],"type":"LineString"},{"arcs":[[-1]],"type":"Polygon"}],"type":"GeometryCollection"}},"#
-);
-
-/// No features.
-pub(crate) const EMPTY: &str = topology!(
-    r#"{"arcs":[],"objects":{"a":{"geometries":[],"type":"GeometryCollection"}},"#
-);
-
-/// No layers.
-pub(crate) const NO_LAYERS: &str = topology!(r#"{"arcs":[],"objects":{},"#);

@@ -1,11 +1,11 @@
 //! The calls that are made of each worked map, which take memory and are lent what they need.
 
-use crate::comparing::same_map;
-use crate::inputs::is_of;
-use crate::outcome::{Answer, Outcome, Tally};
 use crate::texts::{ROWS, Row};
 use crate::{asking, readers, writers};
 use grid::Grid;
+use refused_calls::comparing::same_map;
+use refused_calls::inputs::is_of;
+use refused_calls::outcome::{Answer, Outcome, Tally};
 use shapes::FeatureMap;
 use std::alloc::Global;
 use topo::Topology;

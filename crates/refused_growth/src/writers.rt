@@ -1,10 +1,10 @@
 //! Texts into memory, copies, and maps put together.
 
-use crate::comparing::same_map;
-use crate::inputs::is_of;
-use crate::outcome::Answer;
 use crate::worked::Worked;
 use faults::OutOfMemory;
+use refused_calls::comparing::same_map;
+use refused_calls::inputs::is_of;
+use refused_calls::outcome::Answer;
 use shapes::FeatureMap;
 use sinks::{Kept, Refused, Script, Sink, WriteFault};
 use std::alloc::Global;

@@ -7,7 +7,7 @@ use shapes::{Feature, FeatureMap};
 use topo::Geom;
 
 /// Whether positions are at these places, in their order.
-pub(crate) fn stand_at(positions: &[Pos], places: &[(i64, i64)]) -> bool {
+pub fn stand_at(positions: &[Pos], places: &[(i64, i64)]) -> bool {
     for (position, place) in positions.iter().zip(places) {
         if (position.x(), position.y()) != *place {
             return false;
@@ -17,7 +17,7 @@ pub(crate) fn stand_at(positions: &[Pos], places: &[(i64, i64)]) -> bool {
 }
 
 /// Whether the arcs of a table are these lines, in their order.
-pub(crate) fn are_arcs(table: &ArcTable, lines: &[Places]) -> bool {
+pub fn are_arcs(table: &ArcTable, lines: &[Places]) -> bool {
     for (number, places) in lines.iter().enumerate() {
         match table.arc(number) {
             Some(arc) => {
@@ -32,7 +32,7 @@ pub(crate) fn are_arcs(table: &ArcTable, lines: &[Places]) -> bool {
 }
 
 /// Whether two tables have the same arcs, of which the same are free loops.
-pub(crate) fn same_arcs(table: &ArcTable, other: &ArcTable) -> bool {
+pub fn same_arcs(table: &ArcTable, other: &ArcTable) -> bool {
     for number in 0..table.len() {
         if table.arc(number) != other.arc(number) {
             return false;
@@ -45,7 +45,7 @@ pub(crate) fn same_arcs(table: &ArcTable, other: &ArcTable) -> bool {
 }
 
 /// Whether used arcs are those of the indexes.
-pub(crate) fn are_used(used: &[ArcRef], indexes: &[i64]) -> bool {
+pub fn are_used(used: &[ArcRef], indexes: &[i64]) -> bool {
     for (arc, index) in used.iter().zip(indexes) {
         if *arc != ArcRef::from_index(*index) {
             return false;
@@ -70,12 +70,12 @@ fn has_layers(map: &FeatureMap, other: &FeatureMap) -> bool {
 }
 
 /// Whether two maps have the same layers and features.
-pub(crate) fn same_map(map: &FeatureMap, other: &FeatureMap) -> bool {
+pub fn same_map(map: &FeatureMap, other: &FeatureMap) -> bool {
     has_layers(map, other) && has_layers(other, map)
 }
 
 /// Whether features are those of the layer `a` of a map, in their order.
-pub(crate) fn are_features(features: &[Feature], map: &FeatureMap) -> bool {
+pub fn are_features(features: &[Feature], map: &FeatureMap) -> bool {
     let Some(layer) = map.layer("a") else {
         return false;
     };
@@ -88,7 +88,7 @@ pub(crate) fn are_features(features: &[Feature], map: &FeatureMap) -> bool {
 }
 
 /// Whether two lists of geometries are the same.
-pub(crate) fn same_geometries(geometries: &[Geom], others: &[Geom]) -> bool {
+pub fn same_geometries(geometries: &[Geom], others: &[Geom]) -> bool {
     for (geometry, other) in geometries.iter().zip(others) {
         if geometry.id != other.id || geometry.props != other.props {
             return false;
@@ -101,7 +101,7 @@ pub(crate) fn same_geometries(geometries: &[Geom], others: &[Geom]) -> bool {
 }
 
 /// Whether lists of neighbours are those that are expected.
-pub(crate) fn are_neighbors(lists: &[Vec<usize>], expected: &[&[usize]]) -> bool {
+pub fn are_neighbors(lists: &[Vec<usize>], expected: &[&[usize]]) -> bool {
     for (list, numbers) in lists.iter().zip(expected) {
         if list.as_slice() != *numbers {
             return false;

@@ -5,7 +5,7 @@ use std::process::ExitCode;
 
 /// What a call answered.
 #[derive(Clone, Copy, PartialEq, Eq, Debug)]
-pub(crate) enum Answer {
+pub enum Answer {
     /// What is right.
     Right,
     /// Another answer.
@@ -18,7 +18,7 @@ pub(crate) enum Answer {
 
 impl Answer {
     /// The answer of a call that answered, and not that memory is wanting.
-    pub(crate) fn of(is_right: bool) -> Answer {
+    pub fn of(is_right: bool) -> Answer {
         if is_right {
             Answer::Right
         } else {
@@ -27,7 +27,7 @@ impl Answer {
     }
 
     /// The answer of a call that refused a text.
-    pub(crate) fn of_fault(fault: &Fault) -> Answer {
+    pub fn of_fault(fault: &Fault) -> Answer {
         match fault.kind {
             FaultKind::OutOfMemory => Answer::Wanting,
             _ => Answer::Wrong,
@@ -37,7 +37,7 @@ impl Answer {
 
 /// What came of a call.
 #[derive(Clone, Copy, PartialEq, Eq, Debug)]
-pub(crate) enum Outcome {
+pub enum Outcome {
     /// It was right.
     Right,
     /// It answered want of memory, what was lent was as before, and it was right when asked again.
@@ -52,7 +52,7 @@ pub(crate) enum Outcome {
 
 impl Outcome {
     /// What came of a call that was asked once, and where what was lent is as before or not.
-    pub(crate) fn of_first(answer: Answer, is_as_before: bool) -> Outcome {
+    pub fn of_first(answer: Answer, is_as_before: bool) -> Outcome {
         if !is_as_before {
             return Outcome::Wrong;
         }
@@ -65,7 +65,7 @@ impl Outcome {
     }
 
     /// What came of a call that was asked again after want of memory.
-    pub(crate) fn of_second(answer: Answer) -> Outcome {
+    pub fn of_second(answer: Answer) -> Outcome {
         match answer {
             Answer::Right => Outcome::Survived,
             Answer::Wrong => Outcome::Wrong,
@@ -76,7 +76,7 @@ impl Outcome {
 
 /// How many calls there were, and what came of them.
 #[derive(Clone, Copy, PartialEq, Eq, Debug)]
-pub(crate) struct Tally {
+pub struct Tally {
     calls: usize,
     without_memory: usize,
     refused: usize,
@@ -85,7 +85,7 @@ pub(crate) struct Tally {
 }
 
 impl Tally {
-    pub(crate) fn new() -> Tally {
+    pub fn new() -> Tally {
         Tally {
             calls: 0,
             without_memory: 0,
@@ -96,7 +96,7 @@ impl Tally {
     }
 
     /// Counts a call, and names it where it went wrong.
-    pub(crate) fn note(&mut self, rt: &HostRuntime, title: &str, call: &str, outcome: Outcome) {
+    pub fn note(&mut self, rt: &HostRuntime, title: &str, call: &str, outcome: Outcome) {
         self.calls = self.calls.saturating_add(1);
         match outcome {
             Outcome::Right => {}
@@ -112,14 +112,14 @@ impl Tally {
     }
 
     /// Counts a call that takes no memory, and names it where it went wrong.
-    pub(crate) fn note_without_memory(&mut self, rt: &HostRuntime, call: &str, outcome: Outcome) {
+    pub fn note_without_memory(&mut self, rt: &HostRuntime, call: &str, outcome: Outcome) {
         self.without_memory = self.without_memory.saturating_add(1);
         self.note(rt, "without memory", call, outcome);
     }
 
     /// Prints the counts. The status is 1 where a call went wrong, 5 where memory was wanting to the
     /// end, and 6 where the counts can't be printed.
-    pub(crate) fn report(&self, rt: &HostRuntime) -> ExitCode {
+    pub fn report(&self, rt: &HostRuntime) -> ExitCode {
         let Tally {
             calls,
             without_memory,

@@ -5,18 +5,18 @@ use std::alloc::Global;
 use topo::Topology;
 
 /// The features of a topology's text; none where memory is wanting.
-pub(crate) fn read(alloc: Global, text: &str) -> Option<FeatureMap> {
+pub fn read(alloc: Global, text: &str) -> Option<FeatureMap> {
     let (_, map) = topo_io::read(alloc, text.as_bytes()).ok()?;
     Some(map)
 }
 
 /// The topology of a text; none where memory is wanting.
-pub(crate) fn built(alloc: Global, text: &str) -> Option<Topology> {
+pub fn built(alloc: Global, text: &str) -> Option<Topology> {
     let (grid, map) = topo_io::read(alloc, text.as_bytes()).ok()?;
     Topology::build(alloc, &grid, &map).ok()
 }
 
 /// Whether a topology is that of a text.
-pub(crate) fn is_of(topology: &Topology, text: &str) -> bool {
+pub fn is_of(topology: &Topology, text: &str) -> bool {
     topo_io::is_text_of(topology, text.as_bytes())
 }

@@ -1,0 +1,221 @@
+//! Three squares merged as texts and as shards, and the plans of it.
+
+use faults::OutOfMemory;
+use refine::{Cut, MergeFault, Plan, PlanFault, Shard, Whole, merge_texts, run_plan};
+use refused_calls::outcome::{Answer, Outcome, Tally};
+use refused_calls::texts::{FIRST, SECOND, THIRD, THREE};
+use std::alloc::Global;
+
+const TEXTS: &[&str] = &[FIRST, SECOND, THIRD];
+
+/// The squares in each form in which they are lent.
+#[derive(Drop)]
+struct Squares {
+    texts: Vec<Vec<u8>>,
+    wholes: Vec<Whole>,
+    cuts: Vec<Cut>,
+    plan: Plan,
+}
+
+fn texts(alloc: Global) -> Option<Vec<Vec<u8>>> {
+    let mut made = Vec::new(alloc);
+    for text in TEXTS {
+        made.push(text.as_bytes().to_vec(alloc).ok()?).ok()?;
+    }
+    Some(made)
+}
+
+fn read_shard<S: Shard>(alloc: Global, text: &str) -> Option<S> {
+    let (grid, map) = topo_io::read(alloc, text.as_bytes()).ok()?;
+    S::of_map(alloc, &grid, map).ok()
+}
+
+fn read_shards<S: Shard>(alloc: Global) -> Option<Vec<S>> {
+    let mut made = Vec::new(alloc);
+    for text in TEXTS {
+        made.push(read_shard(alloc, text)?).ok()?;
+    }
+    Some(made)
+}
+
+impl Squares {
+    fn of(alloc: Global) -> Option<Squares> {
+        let texts = texts(alloc)?;
+        let wholes = read_shards(alloc)?;
+        let cuts = read_shards(alloc)?;
+        let plan = Plan::halves(alloc, TEXTS.len()).ok()??;
+        Some(Squares {
+            texts,
+            wholes,
+            cuts,
+            plan,
+        })
+    }
+
+    /// Whether all that is lent is as it was made.
+    fn is_as_before(&self, alloc: Global) -> Answer {
+        if !are_texts(self.texts.as_slice()) || !is_to_the_right(&self.plan) {
+            return Answer::Wrong;
+        }
+        match are_shards(alloc, self.wholes.as_slice()) {
+            Answer::Right => are_shards(alloc, self.cuts.as_slice()),
+            other => other,
+        }
+    }
+}
+
+fn are_texts(texts: &[Vec<u8>]) -> bool {
+    for (text, expected) in texts.iter().zip(TEXTS) {
+        if text.as_slice() != expected.as_bytes() {
+            return false;
+        }
+    }
+    true
+}
+
+fn is_shard<S: Shard>(alloc: Global, shard: &S, expected: &str) -> Answer {
+    match shard.text(alloc) {
+        Ok(text) => Answer::of(text.as_slice() == expected.as_bytes()),
+        Err(OutOfMemory) => Answer::Wanting,
+    }
+}
+
+fn are_shards<S: Shard>(alloc: Global, shards: &[S]) -> Answer {
+    for (shard, expected) in shards.iter().zip(TEXTS) {
+        match is_shard(alloc, shard, expected) {
+            Answer::Right => {}
+            other => return other,
+        }
+    }
+    Answer::Right
+}
+
+fn is_leaf(plan: &Plan, place: usize) -> bool {
+    match plan {
+        Plan::Leaf(leaf) => *leaf == place,
+        Plan::Node(_, _) => false,
+    }
+}
+
+/// Whether a plan joins two places.
+fn is_join(plan: &Plan, left: usize, right: usize) -> bool {
+    match plan {
+        Plan::Leaf(_) => false,
+        Plan::Node(first, second) => is_leaf(&**first, left) && is_leaf(&**second, right),
+    }
+}
+
+fn is_to_the_left(plan: &Plan) -> bool {
+    match plan {
+        Plan::Leaf(_) => false,
+        Plan::Node(first, second) => is_join(&**first, 0, 1) && is_leaf(&**second, 2),
+    }
+}
+
+/// Three places in halves are grouped so, too.
+fn is_to_the_right(plan: &Plan) -> bool {
+    match plan {
+        Plan::Leaf(_) => false,
+        Plan::Node(first, second) => is_leaf(&**first, 0) && is_join(&**second, 1, 2),
+    }
+}
+
+fn judge_plan(made: Result<Option<Plan>, OutOfMemory>, is_left: bool) -> Answer {
+    match made {
+        Ok(Some(plan)) => {
+            if is_left {
+                return Answer::of(is_to_the_left(&plan));
+            }
+            Answer::of(is_to_the_right(&plan))
+        }
+        Ok(None) => Answer::Wrong,
+        Err(OutOfMemory) => Answer::Wanting,
+    }
+}
+
+fn merge(alloc: Global, squares: &Squares) -> Answer {
+    match merge_texts(alloc, squares.texts.as_slice(), &squares.plan) {
+        Ok(text) => Answer::of(text.as_slice() == THREE.as_bytes()),
+        Err(MergeFault::OutOfMemory) => Answer::Wanting,
+        Err(_) => Answer::Wrong,
+    }
+}
+
+fn run<S: Shard>(alloc: Global, shards: &[S], plan: &Plan) -> Answer {
+    match run_plan(alloc, shards, plan) {
+        Ok(shard) => is_shard(alloc, &shard, THREE),
+        Err(PlanFault::OutOfMemory) => Answer::Wanting,
+        Err(_) => Answer::Wrong,
+    }
+}
+
+/// The calls.
+#[derive(Clone, Copy, PartialEq, Eq, Debug)]
+enum Call {
+    Merge,
+    RunWhole,
+    RunCut,
+    Left,
+    Right,
+    Halves,
+}
+
+const CALLS: &[Call] = &[
+    Call::Merge,
+    Call::RunWhole,
+    Call::RunCut,
+    Call::Left,
+    Call::Right,
+    Call::Halves,
+];
+
+impl Call {
+    fn name(self) -> &'static str {
+        match self {
+            Call::Merge => "merge_texts",
+            Call::RunWhole => "run_plan over Whole",
+            Call::RunCut => "run_plan over Cut",
+            Call::Left => "Plan::left",
+            Call::Right => "Plan::right",
+            Call::Halves => "Plan::halves",
+        }
+    }
+
+    fn ask(self, alloc: Global, squares: &Squares) -> Answer {
+        match self {
+            Call::Merge => merge(alloc, squares),
+            Call::RunWhole => run(alloc, squares.wholes.as_slice(), &squares.plan),
+            Call::RunCut => run(alloc, squares.cuts.as_slice(), &squares.plan),
+            Call::Left => judge_plan(Plan::left(alloc, TEXTS.len()), true),
+            Call::Right => judge_plan(Plan::right(alloc, TEXTS.len()), false),
+            Call::Halves => judge_plan(Plan::halves(alloc, TEXTS.len()), false),
+        }
+    }
+
+    /// Asks, and asks again after want of memory.
+    fn settle(self, alloc: Global, squares: &Squares) -> Outcome {
+        let first = Outcome::of_first(self.ask(alloc, squares), true);
+        match first {
+            Outcome::Wanting => match squares.is_as_before(alloc) {
+                Answer::Right => Outcome::of_second(self.ask(alloc, squares)),
+                other => Outcome::of_first(other, true),
+            },
+            _ => first,
+        }
+    }
+}
+
+fn settle_all(rt: &HostRuntime, tally: &mut Tally, squares: &Squares) {
+    for call in CALLS {
+        let outcome = call.settle(rt.alloc(), squares);
+        tally.note(rt, "three squares", call.name(), outcome);
+    }
+}
+
+/// Makes each call of the three squares.
+pub(crate) fn settle(rt: &HostRuntime, tally: &mut Tally) {
+    match Squares::of(rt.alloc()).or_else(|| Squares::of(rt.alloc())) {
+        Some(squares) => settle_all(rt, tally, &squares),
+        None => tally.note(rt, "three squares", "their shards", Outcome::Unprepared),
+    }
+}
