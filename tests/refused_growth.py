@@ -1,14 +1,15 @@
-"""Runs crates/refused_growth with each of its requests for memory refused in turn, and with all from each on.
+"""Runs crates/refused_growth and crates/refused_edits with each request for memory refused in turn, and with all from each on.
 
     python3 tests/refused_growth.py [--seconds N]
 
-The program makes calls of the libraries on worked maps. Where a call answers want of memory, it compares what was
-lent with a copy, and asks again. With one request refused, each call has to be right, at once or when asked again, so the
-counts have to be those of a run with no refusal, but for one that was refused. With all from one on, the program has to
-end by itself with the status for want of memory, and none of its calls may go wrong; those that take no memory give
-their answers then, too, where what they are lent was made before. tests/refusing.py tells what is needed, and how the runs
-stop. Ends with a line of counts, and with status 1 where a run did anything else, where they were too few, or where
-fewer of them told want of memory than there are calls that take memory.
+The programs make calls of the libraries on worked maps: the second merges, removes and edits. Where a call answers
+want of memory, it compares what was lent with a copy, and asks again. With one request refused, each call has to be
+right, at once or when asked again, so the counts have to be those of a run with no refusal, but for one that was
+refused. With all from one on, the program has to end by itself with the status for want of memory, and none of its
+calls may go wrong; those that take no memory give their answers then, too, where what they are lent was made before.
+tests/refusing.py tells what is needed, and how the runs stop. Prints a line of counts for each, and ends with status
+1 where a run did anything else, where they were too few, or where fewer of them told want of memory than there are
+calls that take memory.
 """
 
 import re
@@ -18,6 +19,7 @@ sys.dont_write_bytecode = True
 
 import refusing
 
+PROGRAMS = {"REFUSED_GROWTH": "refused_growth", "REFUSED_EDITS": "refused_edits"}
 COUNTS = re.compile(rb"calls (\d+), (\d+) without memory, refused (\d+), wrong 0\n")
 AGAIN = "right when asked again"
 LEAN = "status 5 with the answers that take no memory"
@@ -44,16 +46,22 @@ def kind_of(task, end):
     return refusing.WRONG
 
 
-def main():
-    with refusing.program("REFUSED_GROWTH", "refused_growth") as program:
+def is_well(variable, crate):
+    """Runs a program, prints a line of counts, and tells whether all was right."""
+    with refusing.program(variable, crate) as program:
         right, _ = program.asked([])
         if right[0] != 0 or not counts_of(right):
-            sys.exit(f"the program goes wrong with no request refused: {right}")
+            sys.exit(f"{crate} goes wrong with no request refused: {right}")
         tally = program.judge([[]], kind_of)
     calls, lean, _ = counts_of(right)
-    print(f"{calls} calls, {lean} of them without memory: {tally}")
-    is_enough = tally.kinds[AGAIN] >= (calls - lean) * tally.share() and tally.kinds[LEAN] > 0
-    return 0 if is_enough and not tally.is_wrong() else 1
+    print(f"{crate}: {calls} calls, {lean} of them without memory: {tally}")
+    is_enough = tally.kinds[AGAIN] >= (calls - lean) * tally.share() and (lean == 0 or tally.kinds[LEAN] > 0)
+    return is_enough and not tally.is_wrong()
+
+
+def main():
+    each = [is_well(variable, crate) for variable, crate in PROGRAMS.items()]
+    return 0 if all(each) else 1
 
 
 if __name__ == "__main__":
