@@ -14,11 +14,11 @@ The script makes a map of chosen arcs, layers, members or features, and one of a
 each command on both by turns, looks whether each text is right, and prints a table of the processor times (the least of
 some runs) and their ratio; where it is above 1.5, both are run more often. It ends with a line of counts, with status 1
 where a ratio is above the limit (1.5, where no other is given), a text is wrong or a command fails, and with 2 where no
-program is there. Without a C compiler it says that it was skipped.
+program is there. Where no C compiler compiles what finds the lines, it says that it was skipped.
 
 How long a run takes moves with what else the machine does, but a table whose entries all meet at one place takes
 hundreds of times as long: so the second line, of a gate, has a limit that no neighbour on the machine comes near. With
-a limit of time it stops there.
+a limit of time it stops there, also while the maps are made; the commands on arcs, which come first, run to their end.
 """
 
 import argparse
@@ -27,6 +27,7 @@ import multiprocessing
 import os
 import random
 import shutil
+import signal
 import subprocess
 import sys
 import tempfile
@@ -35,29 +36,52 @@ import time
 sys.dont_write_bytecode = True
 
 from generate import write_collection
-from measuring import GRID, HERE, TOOL, need_tool, run_once, same_bytes, stop
+from measuring import GRID, HERE, TOOL, Failed, end_with, need_tool, run_once, same_bytes, stop
 
 SOURCE = os.path.join(HERE, "chosen_hashes.c")
 COMPILERS = ["cc", "gcc", "clang"]
 GREATEST_RATIO = 1.5
 LEAST_COMMANDS = 6  # those on arcs, which come first
 MOST_SECONDS = 60  # of one run on 200,000 of anything, which takes half a second
+MOST_PREPARING = 1200  # seconds that the maps may take where no limit of time is given
 ENDS_LIMIT = 1 << 20  # the chosen ends have y below this
 
 
-def compile_finder(folder):
-    """Compiles the program that finds lines, and answers its path."""
-    compiler = next(filter(None, map(shutil.which, COMPILERS)))
+class Late(Exception):
+    """The time was over before the maps were made."""
+
+
+class Clock:
+    """Tells what is left of the seconds since it was made; None is no limit."""
+
+    def __init__(self, seconds):
+        self.seconds, self.end = seconds, time.monotonic() + (seconds or float("inf"))
+
+    def is_over(self):
+        return time.monotonic() > self.end
+
+    def left_to_prepare(self):
+        return max(0, min(self.end - time.monotonic(), MOST_PREPARING))
+
+    def late(self, what):
+        return Late() if self.seconds else Failed(f"{what}: not done after {MOST_PREPARING} seconds")
+
+
+def compiled_finder(folder):
+    """Compiles the program that finds lines, and answers its path; None where no compiler compiles it."""
     finder = os.path.join(folder, "chosen_hashes")
-    words = [compiler, "-O2", "-pthread", SOURCE, "-o", finder]
-    if subprocess.run(words).returncode != 0:
-        stop(f"{compiler} doesn't compile {SOURCE}")
-    return finder
+    for compiler in filter(None, map(shutil.which, COMPILERS)):
+        if subprocess.run([compiler, "-O2", "-pthread", SOURCE, "-o", finder]).returncode == 0:
+            return finder
+    return None
 
 
-def chosen_ends(folder, lines):
+def chosen_ends(finder, lines, clock):
     """The ends of lines from (0,0) whose hashes agree."""
-    ran = subprocess.run([compile_finder(folder), str(lines)], stdout=subprocess.PIPE, text=True)
+    try:
+        ran = subprocess.run([finder, str(lines)], stdout=subprocess.PIPE, text=True, timeout=clock.left_to_prepare())
+    except subprocess.TimeoutExpired:
+        raise clock.late("finding lines") from None
     if ran.returncode != 0:
         stop("no lines were found")
     return [tuple(map(int, line.split())) for line in ran.stdout.splitlines()]
@@ -65,11 +89,11 @@ def chosen_ends(folder, lines):
 
 def other_ends(chosen, seed):
     """As many other ends, from the same box, each once."""
-    rng = random.Random(seed)
+    chance = random.Random(seed)
     width = max(x for x, _ in chosen)
     ends = set()
     while len(ends) < len(chosen):
-        ends.add((rng.randint(1, width), rng.randrange(ENDS_LIMIT)))
+        ends.add((chance.randint(1, width), chance.randrange(ENDS_LIMIT)))
     return sorted(ends)
 
 
@@ -82,8 +106,8 @@ def chosen_names(count, seed):
 
 def other_names(count, seed):
     """As many names of as many bytes, in which the first bytes differ."""
-    rng = random.Random(seed)
-    return [f"{rng.randrange(16**8):08x}" + f"{number:08d}" + "n" * 32 for number in range(count)]
+    chance = random.Random(seed)
+    return [f"{chance.randrange(16**8):08x}" + f"{number:08d}" + "n" * 32 for number in range(count)]
 
 
 def point(number, **members):
@@ -199,33 +223,47 @@ def prepared(job):
     return files.of_layers(given) if features is None else files.of_features(features(given))
 
 
-def maps(folder, tool, count, seed):
+def end_on_request():
+    """Has a worker that is ended end what it runs, too."""
+    signal.signal(signal.SIGTERM, lambda *_: sys.exit(1))
+
+
+def maps(folder, finder, tool, count, seed, clock):
     """What is measured: kinds, and for each the files of what was chosen, and those of the others."""
-    ends = chosen_ends(folder, count)
+    ends = chosen_ends(finder, count, clock)
     names = chosen_names(count, seed), other_names(count, seed)
     kinds = {"arcs": (lines_to, (ends, other_ends(ends, seed))), "members": (points_with_members, names), "features": (points_of_features, names), "layers": (None, names)}
     jobs = [(folder, f"{kind}.{which}", tool, features, given) for kind, (features, both) in kinds.items() for which, given in zip(("chosen", "others"), both)]
-    with multiprocessing.Pool(min(len(jobs), len(os.sched_getaffinity(0)))) as pool:
-        files = pool.map(prepared, jobs, chunksize=1)
+    with multiprocessing.Pool(min(len(jobs), len(os.sched_getaffinity(0))), end_on_request) as pool:
+        answers = pool.imap(prepared, jobs)
+        try:
+            # A worker that is killed gives no answer, so the wait has an end in any case.
+            files = [answers.next(clock.left_to_prepare()) for _ in jobs]
+        except multiprocessing.TimeoutError:
+            raise clock.late("making maps") from None
     return [*zip(kinds, files[::2], files[1::2])]
 
 
 COMMANDS = 23  # six on arcs, on members and on features, and five on layers, which `build` takes one by one
 
 
-def measure(folder, words, is_over):
+def measure(folder, finder, words, clock):
     """Runs each command once on both, and looks at the texts; and then more often, until the time is over."""
     measured = []
-    for kind, *both in maps(folder, words.tool, words.lines, words.seed):
+    try:
+        found = maps(folder, finder, words.tool, words.lines, words.seed, clock)
+    except Late:
+        return measured
+    for kind, *both in found:
         for (title, chosen, is_right), (_, others, are_right) in zip(*(it.commands() for it in both)):
-            if len(measured) >= LEAST_COMMANDS and is_over():
+            if len(measured) >= LEAST_COMMANDS and clock.is_over():
                 return measured
             pair = [(chosen, is_right), (others, are_right)]
             measured.append(Command(f"{title}, {kind}", words.tool, os.path.join(folder, "out"), pair))
             measured[-1].run(is_judged=True)
     for number in range(1, 2 * words.runs):
         for it in measured:
-            if not is_over() and (number < words.runs or it.ratio() > GREATEST_RATIO):
+            if not clock.is_over() and (number < words.runs or it.ratio() > GREATEST_RATIO):
                 it.run()
     return measured
 
@@ -264,15 +302,19 @@ def main():
     if words.lines < 2 or words.runs < 1:
         stop("at least two lines and one run are needed")
     need_tool(words.tool)
-    if not any(map(shutil.which, COMPILERS)):
-        print(f"skipped: there is no C compiler ({', '.join(COMPILERS)}; Debian: gcc); 0 commands, 0 wrong")
-        return 0
-    end = time.monotonic() + (words.seconds or float("inf"))
+    clock = Clock(words.seconds)
     with tempfile.TemporaryDirectory() as folder:
-        measured = measure(folder, words, lambda: time.monotonic() > end)
+        finder = compiled_finder(folder)
+        if finder is None:
+            print(f"skipped: no C compiler compiles {SOURCE} ({', '.join(COMPILERS)}; Debian: gcc, libc6-dev); 0 commands, 0 wrong")
+            return 0
+        measured = measure(folder, finder, words, clock)
+    if not measured:
+        print(f"stopped after {words.seconds} s, when the maps were not made: 0 of {COMMANDS} commands, 0 wrong")
+        return 0
     print_table(words.lines, measured)
     return tell(measured, words.limit, words.seconds)
 
 
 if __name__ == "__main__":
-    sys.exit(main())
+    end_with(main)

@@ -21,6 +21,18 @@ class Measure:
         self.megabytes = megabytes
 
 
+class Failed(Exception):
+    """A program that has to succeed did not."""
+
+
+def end_with(main):
+    """Ends a script with the status that its `main` answers, or with 1 and a message where a program failed."""
+    try:
+        sys.exit(main())
+    except Failed as fault:
+        sys.exit(str(fault))
+
+
 def stop(why):
     """Ends with status 2: nothing can be measured."""
     print(f"{os.path.basename(sys.argv[0])}: {why}", file=sys.stderr)
@@ -37,10 +49,14 @@ def run_once(words, out, most_seconds=None):
     limit = most_seconds and (lambda: resource.setrlimit(resource.RLIMIT_CPU, (most_seconds, most_seconds)))
     with open(out, "wb") as file:
         child = subprocess.Popen(words, stdout=file, preexec_fn=limit)
-        _, status, usage = os.wait4(child.pid, 0)
+        try:
+            _, status, usage = os.wait4(child.pid, 0)
+        except BaseException:
+            child.kill()
+            raise
         child.returncode = os.waitstatus_to_exitcode(status)
     if child.returncode != 0:
-        sys.exit(f"{' '.join(words[:3])} ended with {child.returncode}")
+        raise Failed(f"{' '.join(words[:3])} ended with {child.returncode}")
     return Measure(usage.ru_utime + usage.ru_stime, usage.ru_maxrss / 1024)
 
 

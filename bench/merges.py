@@ -18,7 +18,7 @@ import tempfile
 
 sys.dont_write_bytecode = True
 
-from measuring import TOOL, TOP, least, need_tool, run_once, same_bytes, write_tiling
+from measuring import TOOL, TOP, end_with, least, need_tool, run_once, same_bytes, write_tiling
 
 PROGRAM = os.path.join(TOP, "crates", "bench_merge", "out", "bench_merge")
 VALUE = os.path.join(TOP, "crates", "bench_value", "out", "bench_value")
@@ -95,4 +95,4 @@ def main():
 
 
 if __name__ == "__main__":
-    main()
+    end_with(main)

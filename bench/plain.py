@@ -8,7 +8,8 @@
 bench/plain is a program of some hundred lines over the crate `serde_json`: what one would write for
 speed, but for sound files only, and with nothing proved. The script builds it in a folder of its own
 with `cargo`, without a network, from the sources that Debian's package librust-serde-json-dev puts
-into /usr/share/cargo/registry; where no Rust or no such sources are there, it says that it was skipped.
+into /usr/share/cargo/registry; where no Rust or no such sources are there, or cargo doesn't build it of
+them, it says that it was skipped.
 
 It runs both programs by turns on tilings of about 2, 8 and 75 megabytes and on ones twice as large,
 and prints processor times (user and system, the least of some runs), the ratios of times and of peak
@@ -29,7 +30,7 @@ import tempfile
 sys.dont_write_bytecode = True
 
 from measuring import (
-    GRID, HERE, TOOL, TOP, measure_both, need_tool, run_once, same_bytes, stop, write_tiling
+    GRID, HERE, TOOL, TOP, end_with, measure_both, need_tool, run_once, same_bytes, stop, write_tiling
 )
 from random_maps import random_map
 
@@ -62,7 +63,7 @@ def compile_plain(folder, registry):
     words += ["--config", f"source.debian.directory={json.dumps(os.path.abspath(registry))}"]
     home = {**os.environ, "CARGO_HOME": os.path.join(folder, "home")}
     if subprocess.run(words, cwd=copy, env=home).returncode != 0:
-        stop(f"cargo doesn't build {SOURCE}")
+        skip(f"cargo doesn't build {SOURCE} from what is in {registry} (Debian: librust-serde-json-dev)")
     return os.path.join(target, "release", "plain")
 
 
@@ -184,4 +185,4 @@ def main():
 
 
 if __name__ == "__main__":
-    main()
+    end_with(main)

@@ -17,7 +17,7 @@ import tempfile
 
 sys.dont_write_bytecode = True
 
-from measuring import TOP, run_once, write_tiling
+from measuring import TOP, end_with, run_once, write_tiling
 
 PROGRAM = os.path.join(TOP, "crates", "bench_recut", "out", "bench_recut")
 
@@ -70,4 +70,4 @@ def main():
 
 
 if __name__ == "__main__":
-    main()
+    end_with(main)

@@ -21,7 +21,7 @@ import tempfile
 sys.dont_write_bytecode = True
 
 from generate import features, tiling, write_collection
-from measuring import TOP, run_once, same_bytes
+from measuring import TOP, end_with, run_once, same_bytes
 
 PROGRAM = os.path.join(TOP, "crates", "bench_remove", "out", "bench_remove")
 GREATEST_RATIO = 0.4
@@ -103,4 +103,4 @@ def main():
 
 
 if __name__ == "__main__":
-    main()
+    end_with(main)

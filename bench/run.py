@@ -18,7 +18,7 @@ import tempfile
 
 sys.dont_write_bytecode = True
 
-from measuring import GRID, TOOL, TOP, measure_both, run_once, same_bytes, write_tiling
+from measuring import GRID, TOOL, TOP, end_with, measure_both, run_once, same_bytes, write_tiling
 
 VALUE = os.path.join(TOP, "crates", "bench_value", "out", "bench_value")
 FEATURES = os.path.join(TOP, "crates", "bench_features", "out", "bench_features")
@@ -107,4 +107,4 @@ def main():
 
 
 if __name__ == "__main__":
-    main()
+    end_with(main)

@@ -56,7 +56,8 @@ def misquoted(document, text):
 
 def run(command, folder):
     """Returns what a command of a document prints, on either output."""
-    env = {**os.environ, "PATH": f"{folder}/bin:{os.environ['PATH']}", "TOPOTOOL": PROGRAM, "GIT_CONFIG_GLOBAL": os.devnull}
+    inherited = {name: it for name, it in os.environ.items() if not name.startswith("GIT_")}
+    env = {**inherited, "PATH": f"{folder}/bin:{os.environ['PATH']}", "TOPOTOOL": PROGRAM, "GIT_CONFIG_GLOBAL": os.devnull, "GIT_CONFIG_NOSYSTEM": "1"}
     ran = subprocess.run(["bash", "-c", command], cwd=folder, env=env,
                          stdin=subprocess.DEVNULL, stdout=subprocess.PIPE, stderr=subprocess.STDOUT, text=True)
     return [it for it in re.sub(r"\n\Z", "", ran.stdout).split("\n") if it or ran.stdout]

@@ -2,13 +2,20 @@
 
 import multiprocessing
 import os
+import signal
+import sys
 import time
+
+
+def end_on_request():
+    """Has a worker that is ended end what it runs, too."""
+    signal.signal(signal.SIGTERM, lambda *_: sys.exit(1))
 
 
 def judged(judge, tasks, seconds):
     """Gives what `judge` answers for each task, as they are done, until the seconds are over; None is no limit."""
     end = None if seconds is None else time.monotonic() + seconds
-    with multiprocessing.Pool(len(os.sched_getaffinity(0))) as pool:
+    with multiprocessing.Pool(len(os.sched_getaffinity(0)), end_on_request) as pool:
         answers = pool.imap_unordered(judge, tasks)
         for _ in tasks:
             try:

@@ -1,8 +1,8 @@
 """What the scripts share that refuse a program its requests for memory, each alone and each with all behind it.
 
-What refuses is refuse.c, a small library that is loaded before the C library, so a C compiler (cc) is needed; without one
-a script says that it was skipped. With a limit of time the runs stop there, in no order of the requests. Fewer runs than
-a slow machine makes in a minute are too few.
+What refuses is refuse.c, a small library that is loaded before the C library, so a C compiler is needed; where none
+compiles it, a script says that it was skipped. With a limit of time the runs stop there, in no order of the requests. Only
+almost none are too few.
 """
 
 import argparse
@@ -19,7 +19,7 @@ from typing import NamedTuple
 from many_runs import judged, told
 
 TOP = os.path.dirname(os.path.dirname(os.path.abspath(__file__)))
-LEAST_RUNS = 1000
+LEAST_RUNS = 20
 WRONG = "wrong"
 
 
@@ -95,19 +95,19 @@ class Program:
 
 
 def compiled(folder):
-    """The library, or None where there is no compiler."""
-    compiler = next(filter(None, map(shutil.which, ("cc", "gcc", "clang"))), None)
-    if compiler is None:
-        return None
+    """The library, or None where no compiler compiles it."""
     library = f"{folder}/refuse.so"
-    subprocess.run([compiler, "-O2", "-shared", "-fPIC", "-fno-builtin", "-o", library, f"{TOP}/tests/refuse.c"], check=True)
-    return library
+    words = ["-O2", "-shared", "-fPIC", "-fno-builtin", "-o", library, f"{TOP}/tests/refuse.c"]
+    for compiler in filter(None, map(shutil.which, ("cc", "gcc", "clang"))):
+        if subprocess.run([compiler, *words]).returncode == 0:
+            return library
+    return None
 
 
 @contextlib.contextmanager
 def program(variable, crate):
     """The program of a crate, or the one that a variable names, in a folder of its own. Reads the words of the script,
-    and ends it where there is no program or no compiler."""
+    and ends it where there is no program, or no compiler for the library."""
     words = argparse.ArgumentParser()
     words.add_argument("--seconds", type=float, help="stop after so long")
     words = words.parse_args()
@@ -117,6 +117,6 @@ def program(variable, crate):
     with tempfile.TemporaryDirectory() as folder:
         library = compiled(folder)
         if library is None:
-            print("skipped: there is no C compiler (Debian: gcc); 0 runs, 0 wrong")
+            print("skipped: no C compiler compiles tests/refuse.c (Debian: gcc, libc6-dev); 0 runs, 0 wrong")
             sys.exit(0)
         yield Program(name, library, folder, words.seconds)
