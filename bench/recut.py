@@ -57,7 +57,7 @@ def main():
     parser.add_argument("--positions", type=int, default=1_000_000)
     parser.add_argument("--seed", type=int, default=1)
     parser.add_argument("--runs", type=int, default=5)
-    parser.add_argument("--times", type=int, default=4)
+    parser.add_argument("--times", type=int, default=20)
     words = parser.parse_args()
     before = None
     for positions in [words.positions, 2 * words.positions]:
