@@ -1,7 +1,7 @@
 #!/usr/bin/env python3
 """Measures merging over shards that keep their map and over shards that keep their topology.
 
-    (cd crates/topotool && rt run) && (cd crates/bench_merge && rt run) && (cd crates/bench_value && rt run)
+    (cd crates/topotool && rt run) && (cd crates/bench_runs && rt run)
     python3 bench/merges.py
 
 builds the programs and prints, for tilings that are spread over 16 and over 256 shards, what merging
@@ -18,10 +18,8 @@ import tempfile
 
 sys.dont_write_bytecode = True
 
-from measuring import TOOL, TOP, end_with, least, need_tool, run_once, same_bytes, write_tiling
+from measuring import BENCH, TOOL, end_with, least, need_tool, run_once, same_bytes, write_tiling
 
-PROGRAM = os.path.join(TOP, "crates", "bench_merge", "out", "bench_merge")
-VALUE = os.path.join(TOP, "crates", "bench_value", "out", "bench_value")
 SHAPES = ["left", "right", "halves"]
 
 
@@ -38,11 +36,11 @@ def make_shards(folder, positions, seed, shards):
 
 def rows(names):
     """What is measured: its title and its words."""
-    told = [("value alone", [VALUE, *names])]
+    told = [("value alone", [BENCH, "values", *names])]
     told.append(("merge", [TOOL, "merge", *names]))
     for kind in ["whole", "cut"]:
         for shape in SHAPES:
-            told.append((f"{kind}, {shape}", [PROGRAM, kind, shape, *names]))
+            told.append((f"{kind}, {shape}", [BENCH, "merge", kind, shape, *names]))
     return told
 
 
@@ -81,7 +79,7 @@ def main():
     parser.add_argument("--seed", type=int, default=1)
     parser.add_argument("--runs", type=int, default=3)
     words = parser.parse_args()
-    for path in [TOOL, PROGRAM, VALUE]:
+    for path in [TOOL, BENCH]:
         need_tool(path)
     for shards in [16, 256]:
         before = None

@@ -1,25 +1,24 @@
 #!/usr/bin/env python3
 """Measures cutting arcs again, against building the topology of both maps together.
 
-    (cd crates/bench_recut && rt run)
+    (cd crates/bench_runs && rt run)
     python3 bench/recut.py
 
 builds the program and prints, for tilings of two sizes, what cutting the arcs of their two halves
-again takes, and what building the whole takes, each without reading the files: a program that does
-it several times is compared with one that doesn't do it. Times are processor times (user and
+again takes, and what building the whole takes, each without reading the files or writing the text: a
+program that does it several times is compared with one that does it once. Times are processor times (user and
 system), taken by turns, and the least of some runs counts. It also compares the numbers of arcs.
 """
 
 import argparse
+import json
 import os
 import sys
 import tempfile
 
 sys.dont_write_bytecode = True
 
-from measuring import TOP, end_with, run_once, write_tiling
-
-PROGRAM = os.path.join(TOP, "crates", "bench_recut", "out", "bench_recut")
+from measuring import BENCH, end_with, run_once, write_tiling
 
 
 def write_halves(folder, positions, seed):
@@ -28,11 +27,10 @@ def write_halves(folder, positions, seed):
     return count, [os.path.join(folder, f"shard_{half:02}.json") for half in (0, 1)]
 
 
-def seconds_of(mode, count, halves, out):
-    """The processor seconds of a run, and what it printed."""
-    measure = run_once([PROGRAM, mode, str(count), *halves], out)
-    with open(out, "rb") as file:
-        return measure.seconds, file.read()
+def arcs_told(mode, out):
+    """How many arcs a run has told: by their number, or by the text of the topology."""
+    with open(out, encoding="utf-8") as file:
+        return int(file.read().split()[0]) if mode == "recut" else len(json.load(file)["arcs"])
 
 
 def seconds_each(halves, folder, runs, times):
@@ -43,10 +41,9 @@ def seconds_each(halves, folder, runs, times):
         told = set()
         for mode in ["recut", "build"]:
             for count in [0, times]:
-                seconds, text = seconds_of(mode, count, halves, out)
+                seconds = run_once([BENCH, mode, str(count), *halves], out).seconds
                 least[mode, count] = min(seconds, least.get((mode, count), seconds))
-                if count > 0:
-                    told.add(text)
+            told.add(arcs_told(mode, out))
         if len(told) != 1:
             sys.exit("the numbers of arcs differ")
     return [(least[mode, times] - least[mode, 0]) / times for mode in ["recut", "build"]]

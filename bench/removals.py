@@ -1,7 +1,7 @@
 #!/usr/bin/env python3
 """Measures taking features out of a topology, against building the topology of what is left.
 
-    (cd crates/bench_remove && rt run)
+    (cd crates/bench_runs && rt run)
     python3 bench/removals.py
 
 builds the program and prints, for tilings of two sizes, what it takes to take out one district, the
@@ -21,9 +21,8 @@ import tempfile
 sys.dont_write_bytecode = True
 
 from generate import features, tiling, write_collection
-from measuring import TOP, end_with, run_once, same_bytes
+from measuring import BENCH, end_with, run_once, same_bytes
 
-PROGRAM = os.path.join(TOP, "crates", "bench_remove", "out", "bench_remove")
 GREATEST_RATIO = 0.4
 GREATEST_GROWTH = 2.2
 
@@ -60,7 +59,7 @@ def least_seconds(folder, runs, times):
     for _ in range(runs):
         for mode, words in modes.items():
             for count in (0, times):
-                seconds = run_once([PROGRAM, mode, str(count), *words], outs[mode]).seconds
+                seconds = run_once([BENCH, mode, str(count), *words], outs[mode]).seconds
                 least[mode, count] = min(seconds, least.get((mode, count), seconds))
         if not same_bytes(outs["remove"], outs["build"]):
             sys.exit("the texts differ")

@@ -1,7 +1,7 @@
 #!/usr/bin/env python3
 """Measures the command on tilings of districts, against reading the same files as JSON values.
 
-    for p in topotool bench_features bench_value; do (cd crates/$p && rt run); done
+    for p in topotool bench_runs; do (cd crates/$p && rt run); done
     python3 bench/run.py
 
 builds the programs and prints a table: for each command its time, how many times the time and the
@@ -18,10 +18,8 @@ import tempfile
 
 sys.dont_write_bytecode = True
 
-from measuring import GRID, TOOL, TOP, end_with, measure_both, run_once, same_bytes, write_tiling
+from measuring import BENCH, GRID, TOOL, end_with, measure_both, run_once, same_bytes, write_tiling
 
-VALUE = os.path.join(TOP, "crates", "bench_value", "out", "bench_value")
-FEATURES = os.path.join(TOP, "crates", "bench_features", "out", "bench_features")
 SHARDS = 16
 
 
@@ -54,7 +52,7 @@ def commands(folder, whole, shards):
     """The measured commands: title, words, and the files whose values are read for comparison."""
     tiling = os.path.join(folder, "tiling.json")
     return [
-        ("features of GeoJSON", [FEATURES, tiling], [tiling]),
+        ("features of GeoJSON", [BENCH, "features", tiling], [tiling]),
         ("build", [TOOL, "build", *GRID, "a=" + tiling], [tiling]),
         ("check", [TOOL, "check", whole], [whole]),
         ("merge of one file", [TOOL, "merge", whole], [whole]),
@@ -74,7 +72,7 @@ def measure_size(folder, positions, seed, runs):
     out = os.path.join(folder, "out")
     results = []
     for title, words, files in commands(folder, whole, shards):
-        command, value = measure_both(words, [VALUE, *files], out, runs)
+        command, value = measure_both(words, [BENCH, "values", *files], out, runs)
         results.append((title, command, value))
     return count, results
 

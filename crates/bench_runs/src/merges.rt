@@ -1,16 +1,10 @@
-//! What the measurements of merging run: reads topology texts, joins their shards, of one kind, in
-//! one grouping, and prints the canonical text. `whole` keeps maps, `cut` keeps topologies and cuts
-//! arcs again.
-//!
-//!     bench_merge whole|cut left|right|halves FILE ..
-#![tactic(auto)]
+//! Joining shards, which keep maps (`whole`) or keep topologies and cut arcs again (`cut`).
 
 use grid::Grid;
 use refine::{Cut, Plan, Shard, Whole, run_plan};
 use shapes::FeatureMap;
 use std::alloc::Global;
-use std::process::ExitCode;
-use std::{env, fs};
+use std::fs;
 
 /// The grouping that a word names, for so many shards.
 fn plan_of(alloc: Global, shape: &str, count: usize) -> Option<Plan> {
@@ -41,23 +35,13 @@ fn merged<S: Shard>(rt: &HostRuntime, shape: &str, names: &[String]) -> Option<V
     shard.text(alloc).ok()
 }
 
-fn run(rt: &HostRuntime) -> Option<Vec<u8>> {
-    let words: Vec<String> = env::args(rt).ok()?.skip(1).collect(rt.alloc()).ok()?;
-    let (kind, others) = words.as_slice().split_first()?;
+/// The text of what topology texts make together.
+pub fn merge(rt: &HostRuntime, words: &[String]) -> Option<Vec<u8>> {
+    let (kind, others) = words.split_first()?;
     let (shape, names) = others.split_first()?;
     match kind.as_str() {
         "whole" => merged::<Whole>(rt, shape.as_str(), names),
         "cut" => merged::<Cut>(rt, shape.as_str(), names),
         _ => None,
-    }
-}
-
-fn main(rt: HostRuntime) -> ExitCode {
-    match run(&rt) {
-        Some(text) => match rt.stdout().write_all(text.as_slice()) {
-            Ok(()) => ExitCode::from(0),
-            Err(_) => ExitCode::from(1),
-        },
-        None => ExitCode::from(1),
     }
 }

@@ -1,0 +1,90 @@
+//! Building topologies, cutting their arcs again and taking features out, each once and then so many
+//! times again.
+
+use crate::inputs::{read_map, unit_grid};
+use grid::Grid;
+use recutting::recut;
+use refine::remove::remove;
+use shapes::FeatureMap;
+use std::alloc::Global;
+use topo::Topology;
+
+/// How many times more, and the files.
+fn counted(words: &[String]) -> Option<(usize, &[String])> {
+    let (count, names) = words.split_first()?;
+    Some((count.as_str().parse::<usize>().ok()?, names))
+}
+
+fn built_again(alloc: Global, grid: &Grid, map: &FeatureMap, count: usize) -> Option<Topology> {
+    let mut topology = Topology::build(alloc, grid, map).ok()?;
+    for _ in 0..count {
+        topology = Topology::build(alloc, grid, map).ok()?;
+    }
+    Some(topology)
+}
+
+/// The text of the topology of GeoJSON files.
+pub fn build(rt: &HostRuntime, words: &[String]) -> Option<Vec<u8>> {
+    let (count, names) = counted(words)?;
+    let grid = unit_grid()?;
+    let mut map = FeatureMap::new(rt.alloc());
+    for name in names {
+        map = map.united(read_map(rt, &grid, name.as_str())?).ok()?;
+    }
+    let topology = built_again(rt.alloc(), &grid, &map, count)?;
+    topo_io::text_of(rt.alloc(), &topology).ok()
+}
+
+/// The topology of a GeoJSON file.
+fn read_topology(rt: &HostRuntime, grid: &Grid, name: &str) -> Option<Topology> {
+    let map = read_map(rt, grid, name)?;
+    Topology::build(rt.alloc(), grid, &map).ok()
+}
+
+fn arcs_again(alloc: Global, left: &Topology, right: &Topology, count: usize) -> Option<usize> {
+    let mut made = recut(alloc, left.arcs(), right.arcs()).ok()?;
+    for _ in 0..count {
+        made = recut(alloc, left.arcs(), right.arcs()).ok()?;
+    }
+    Some(made.arcs().len())
+}
+
+/// How many arcs those of two GeoJSON files are cut into.
+pub fn cut_again(rt: &HostRuntime, words: &[String]) -> Option<Vec<u8>> {
+    let (count, names) = counted(words)?;
+    let [left, right] = names else {
+        return None;
+    };
+    let grid = unit_grid()?;
+    let left = read_topology(rt, &grid, left.as_str())?;
+    let right = read_topology(rt, &grid, right.as_str())?;
+    let arcs = arcs_again(rt.alloc(), &left, &right, count)?;
+    let text = format!(in rt.alloc(); "{arcs} arcs\n").ok()?;
+    Some(text.into_bytes())
+}
+
+fn left_again(
+    alloc: Global,
+    whole: &Topology,
+    removed: &FeatureMap,
+    count: usize,
+) -> Option<Topology> {
+    let mut removal = remove(alloc, whole, removed).ok()?;
+    for _ in 0..count {
+        removal = remove(alloc, whole, removed).ok()?;
+    }
+    Some(removal.into_topology())
+}
+
+/// The text of the topology of a GeoJSON file without the features of another.
+pub fn take_out(rt: &HostRuntime, words: &[String]) -> Option<Vec<u8>> {
+    let (count, names) = counted(words)?;
+    let [whole, removed] = names else {
+        return None;
+    };
+    let grid = unit_grid()?;
+    let removed = read_map(rt, &grid, removed.as_str())?;
+    let whole = read_topology(rt, &grid, whole.as_str())?;
+    let left = left_again(rt.alloc(), &whole, &removed, count)?;
+    topo_io::text_of(rt.alloc(), &left).ok()
+}
