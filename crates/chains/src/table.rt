@@ -127,7 +127,7 @@ impl ArcTable {
         ensures refs { IfOk result (λ t. t.1.items ≡ map (located t.0.arcs) pieces.items) }
     {
         let mut sorted = with_places(alloc, pieces)?;
-        sorted.sort_unstable();
+        sorted.sort()?;
         let (arcs, refs) = numbered_arcs(alloc, sorted)?;
         Ok((ArcTable { arcs }, refs))
     }

@@ -5,7 +5,7 @@ use Rattle.theory.specs.ArcNumbers.{ArcRef, Uses, UsesOnce, flipped}
 use Rattle.theory.specs.Lists.{last_of}
 use Rattle.theory.proofs.Lists.{Has-append, Has-append_left, Has-append_right}
 use Rattle.lines.proofs.Positions.{bool_split, true_false}
-use Rattle.rejoining.specs.Walks.{Adds, AddsBegun, ArePaired, AreRuns, AreWalked, Goes, GoesOn, IsRun, Linked, Walk, count_left, is_left, without}
+use Rattle.rejoining.specs.Walks.{Adds, AddsBegun, ArePaired, AreRuns, AreWalked, EndsGone, Goes, GoesOn, IsRun, Linked, Walk, count_left, is_left, without}
 
 -- taking an arc
 left_gone : (left : List Bool) (k : ℕ) → is_left (without left k) k ≡ false
@@ -341,17 +341,13 @@ module _ (marks : List Bool) (partner : ArcRef → Option ArcRef) (paired : AreP
   walked_same left after runs more k e f m w =
       subst (λ v. AreWalked marks partner v more) (sym (f ∙ same_left left k e)) (subst (AreWalked marks partner left) (sym m) w)
 
-  -- the arcs at which nothing goes on are gone
-  abbrev EndsGone : List Bool → Type 0
-  EndsGone left = (b : ArcRef) → is_left marks b.arc ≡ true → partner b ≡ None → is_left left b.arc ≡ false
-
   -- what one walk keeps
   record Kept (left : List Bool) (from : ArcRef) (after : List Bool) (more : List (List ArcRef)) : Type 0 where
     walked : AreWalked marks partner after more
     gone : (k : ℕ) → is_left left k ≡ false → is_left after k ≡ false
     taken : is_left after from.arc ≡ false
 
-  adds_with : (left after : List Bool) (runs more : List (List ArcRef)) (from : ArcRef) → (partner from ≡ None) ⊎ EndsGone left → AreWalked marks partner left runs →
+  adds_with : (left after : List Bool) (runs more : List (List ArcRef)) (from : ArcRef) → (partner from ≡ None) ⊎ EndsGone marks partner left → AreWalked marks partner left runs →
       Adds partner left runs from after more → Kept left from after more
   adds_with left after runs more from how w (inl a) = record {
     walked = walked_same left after runs more from.arc a.0 a.1 a.2 w;
@@ -370,10 +366,13 @@ module _ (marks : List Bool) (partner : ArcRef → Option ArcRef) (paired : AreP
 
   begun_with : (left after : List Bool) (runs more : List (List ArcRef)) (from : ArcRef) → AreWalked marks partner left runs →
       AddsBegun partner left runs from after more → AreWalked marks partner after more × ((k : ℕ) → is_left left k ≡ false → is_left after k ≡ false) × (partner from ≡ None → is_left after from.arc ≡ false)
-  begun_with left after runs more from w (inl (b, e, f, m)) = (
+  begun_with left after runs more from w (inl (why, f, m)) = (
     subst (λ v. AreWalked marks partner v more) (sym f) (subst (AreWalked marks partner left) (sym m) w),
     (λ k g. ap (λ v. is_left v k) f ∙ g),
-    (λ n. let z : None ≡ Some b = sym n ∙ e in absurd cc),
+    (λ n. elim why [
+      | inl g ↦ ap (λ v. is_left v from.arc) f ∙ g
+      | inr (b, e) ↦ (let z : None ≡ Some b = sym n ∙ e in absurd cc)
+    ]),
   )
   begun_with left after runs more from w (inr (n, a)) =
       let t = adds_with left after runs more from (inl n) w a in (t.walked, t.gone, λ e. t.taken)
@@ -408,6 +407,12 @@ module _ (marks : List Bool) (partner : ArcRef → Option ArcRef) (paired : AreP
           let same : r ≡ record { arc = i; reversed = true } = λ j. record { arc = e j; reversed = w j } in
           subst (λ k. is_left after k ≡ false) (sym e) (two.2 (ap partner (sym same) ∙ n))
 
+  pub begun_start : (left : List Bool) (runs : List (List ArcRef)) → left ≡ marks → runs ≡ [] → Begun 0 left runs
+  begun_start left runs e f = record {
+    walked = subst (λ w. AreWalked marks partner w runs) (sym e) (subst (AreWalked marks partner marks) (sym f) walked_none);
+    gone = λ b h n. absurd (omega (arith, h));
+  }
+
   -- what holds once the arcs before number i are walked
   pub record Rounded (i : ℕ) (left : List Bool) (runs : List (List ArcRef)) : Type 0 where
     pub walked : AreWalked marks partner left runs
@@ -419,12 +424,11 @@ module _ (marks : List Bool) (partner : ArcRef → Option ArcRef) (paired : AreP
   within_marks (b ∷ marks) zero e = omega arith
   within_marks (b ∷ marks) (suc k) e = let h = within_marks marks k e in omega (arith, h)
 
-  pub rounded_start : (i : ℕ) (left : List Bool) (runs : List (List ArcRef)) → length marks ≤ i → Begun i left runs → Rounded 0 left runs
-  rounded_start i left runs n b = record {
-    walked = b.walked;
-    ends = λ r m e. let h = within_marks marks r.arc m in b.gone r (omega (arith, h, n)) e;
-    gone = λ k h. absurd (omega (arith, h));
-  }
+  pub all_begun : (i : ℕ) (left : List Bool) (runs : List (List ArcRef)) → length marks ≤ i → Begun i left runs → AreWalked marks partner left runs × EndsGone marks partner left
+  all_begun i left runs n b = (b.walked, λ r m e. let h = within_marks marks r.arc m in b.gone r (omega (arith, h, n)) e)
+
+  pub rounded_start : (left : List Bool) (runs : List (List ArcRef)) → AreWalked marks partner left runs → EndsGone marks partner left → Rounded 0 left runs
+  rounded_start left runs w e = record { walked = w; ends = e; gone = λ k h. absurd (omega (arith, h)) }
 
   pub rounded_step : (i : ℕ) (left after : List Bool) (runs more : List (List ArcRef)) → Rounded i left runs →
       Adds partner left runs (record { arc = i; reversed = false }) after more → Rounded (i + 1) after more

@@ -41,10 +41,11 @@ Adds partner left runs a after more =
     ((is_left left a.arc ≡ false) × (after ≡ without left a.arc) × (more ≡ runs))
     ⊎ ((is_left left a.arc ≡ true) × (run : List ArcRef) × Walk partner (without left a.arc) a run after × (more ≡ runs ++ (run ∷ [])))
 
--- the same, where no arc goes on to it
+-- the same, where it is left and no arc goes on to it; else nothing changes
 abbrev pub AddsBegun : (ArcRef → Option ArcRef) → List Bool → List (List ArcRef) → ArcRef → List Bool → List (List ArcRef) → Type 0
 AddsBegun partner left runs a after more =
-    ((b : ArcRef) × (partner a ≡ Some b) × (after ≡ left) × (more ≡ runs)) ⊎ ((partner a ≡ None) × Adds partner left runs a after more)
+    (((is_left left a.arc ≡ false) ⊎ ((b : ArcRef) × (partner a ≡ Some b))) × (after ≡ left) × (more ≡ runs))
+    ⊎ ((partner a ≡ None) × Adds partner left runs a after more)
 
 -- each goes on to the next
 abbrev pub Linked : (ArcRef → Option ArcRef) → ArcRef → List ArcRef → Type 0
@@ -75,6 +76,10 @@ pub record AreWalked (marks : List Bool) (partner : ArcRef → Option ArcRef) (l
   pub all : (k : ℕ) → is_left marks k ≡ true → is_left left k ≡ false → (r : List ArcRef) × Has r runs × Uses k r
   pub taken : (k : ℕ) (r : List ArcRef) → Has r runs → Uses k r → is_left left k ≡ false
   pub apart : (k : ℕ) (r q : List ArcRef) → Has r runs → Has q runs → Uses k r → Uses k q → r ≡ q
+
+-- the arcs at which nothing goes on are gone
+abbrev pub EndsGone : List Bool → (ArcRef → Option ArcRef) → List Bool → Type 0
+EndsGone marks partner left = (b : ArcRef) → is_left marks b.arc ≡ true → partner b ≡ None → is_left left b.arc ≡ false
 
 -- runs that use each marked arc, each by one run
 pub record AreRuns (marks : List Bool) (partner : ArcRef → Option ArcRef) (runs : List (List ArcRef)) : Type 0 where

@@ -1,9 +1,9 @@
 //! Walks along arcs that go on from one another.
-ghost use Rattle.std.specs.Prelude.{◌≡◌, ◌≤◌, ◌+◌, IfOk, OnOk, List, Bool};
+ghost use Rattle.std.specs.Prelude.{◌≡◌, ◌≤◌, ◌+◌, [], IfOk, OnOk, List, Bool};
 ghost use Rattle.theory.specs.ArcNumbers as numbers;
 ghost use Rattle.theory.specs.ArcNumbers.{flipped};
 ghost use Rattle.rejoining.specs.Meeting.{partner_in};
-ghost use Rattle.rejoining.specs.Walks.{Adds, AddsBegun, ArePaired, AreRuns, Goes, GoesOn, Walk, count_left, is_left, some_one, without};
+ghost use Rattle.rejoining.specs.Walks.{Adds, AddsBegun, ArePaired, AreRuns, AreWalked, EndsGone, Goes, GoesOn, Walk, count_left, is_left, some_one, without};
 
 use crate::meeting::Meeting;
 use chains::table::{ArcRef, ArcTable};
@@ -17,6 +17,13 @@ pub(crate) fn turned_back(used: ArcRef) -> ArcRef
         arc: used.arc,
         reversed: !used.reversed,
     }
+}
+
+/// Whether an arc is left.
+fn stays(left: &[bool], arc: usize) -> bool
+    ensures { result ≡ is_left left.now arc }
+{
+    arc < left.len() && left[arc]
 }
 
 /// Takes an arc, and answers whether it was left.
@@ -100,10 +107,57 @@ fn add_begun(
 ) -> Result<(), AllocError>
     ensures { OnOk result (AddsBegun (partner_in arcs.now.arcs meeting.now) left.old.items runs.old.items from left.new.items runs.new.items) }
 {
-    if meeting.partner(arcs, from).is_some() {
+    if !stays(left, from.arc) || meeting.partner(arcs, from).is_some() {
         return Ok(());
     }
     add_run(alloc, arcs, meeting, left, runs, from)
+}
+
+/// Adds the runs from end to end.
+fn add_open_runs(
+    alloc: Global,
+    arcs: &ArcTable,
+    meeting: &Meeting,
+    kept: &[bool],
+    left: &mut Vec<bool>,
+    runs: &mut Vec<Items<ArcRef>>,
+) -> Result<(), AllocError>
+    ensures { OnOk result (ArePaired kept.now (partner_in arcs.now.arcs meeting.now) → left.old.items ≡ kept.now → runs.old.items ≡ [] → AreWalked kept.now (partner_in arcs.now.arcs meeting.now) left.new.items runs.new.items × EndsGone kept.now (partner_in arcs.now.arcs meeting.now) left.new.items) }
+{
+    for arc in 0..kept.len() {
+        let ahead = ArcRef {
+            arc,
+            reversed: false,
+        };
+        let against = ArcRef {
+            arc,
+            reversed: true,
+        };
+        add_begun(alloc, arcs, meeting, left, runs, ahead)?;
+        add_begun(alloc, arcs, meeting, left, runs, against)?;
+    }
+    Ok(())
+}
+
+/// Adds the runs that go round, once those from end to end are taken.
+fn add_round_runs(
+    alloc: Global,
+    arcs: &ArcTable,
+    meeting: &Meeting,
+    kept: &[bool],
+    left: &mut Vec<bool>,
+    runs: &mut Vec<Items<ArcRef>>,
+) -> Result<(), AllocError>
+    ensures { OnOk result (ArePaired kept.now (partner_in arcs.now.arcs meeting.now) → AreWalked kept.now (partner_in arcs.now.arcs meeting.now) left.old.items runs.old.items → EndsGone kept.now (partner_in arcs.now.arcs meeting.now) left.old.items → AreRuns kept.now (partner_in arcs.now.arcs meeting.now) runs.new.items) }
+{
+    for arc in 0..kept.len() {
+        let ahead = ArcRef {
+            arc,
+            reversed: false,
+        };
+        add_run(alloc, arcs, meeting, left, runs, ahead)?;
+    }
+    Ok(())
 }
 
 /// All runs of the marked arcs: first those from end to end, then those that go round.
@@ -117,24 +171,7 @@ pub(crate) fn runs_of(
 {
     let mut left = kept.to_vec(alloc)?;
     let mut runs = Vec::new(alloc);
-    for arc in 0..kept.len() {
-        let ahead = ArcRef {
-            arc,
-            reversed: false,
-        };
-        let against = ArcRef {
-            arc,
-            reversed: true,
-        };
-        add_begun(alloc, arcs, meeting, &mut left, &mut runs, ahead)?;
-        add_begun(alloc, arcs, meeting, &mut left, &mut runs, against)?;
-    }
-    for arc in 0..kept.len() {
-        let ahead = ArcRef {
-            arc,
-            reversed: false,
-        };
-        add_run(alloc, arcs, meeting, &mut left, &mut runs, ahead)?;
-    }
+    add_open_runs(alloc, arcs, meeting, kept, &mut left, &mut runs)?;
+    add_round_runs(alloc, arcs, meeting, kept, &mut left, &mut runs)?;
     Ok(runs)
 }

@@ -17,10 +17,11 @@ use Rattle.chains.specs.Table.{free_at, is_loop_if}
 use Rattle.chains.proofs.TablesAsMap.{has_open, open_has}
 use Rattle.standing.specs.Lists.{GoesRound, LineStands, RingStands, none_free}
 use Rattle.standing.specs.Marks.{each_unmarked}
-use Rattle.standing.specs.Runs.{run_from}
+use Rattle.standing.specs.Meeting.{from_to, line_ends}
+use Rattle.standing.specs.Runs.{ends_along, run_from}
 use Rattle.standing.specs.Starts.{starts_least}
 use Rattle.standing.proofs.Marking.{once_told, told_once}
-use Rattle.standing.proofs.Running.{runs_from, starts_there}
+use Rattle.standing.proofs.Running.{run_ends, runs_from, starts_there}
 use Rattle.standing.proofs.Starting.{least_told, told_least}
 
 -- what runs uses arcs that there are
@@ -39,6 +40,17 @@ one_run arcs us n v w y z h k =
     let q : Some w ≡ Some z = sym (runs_from arcs v us w h) ∙ ap (λ x. run_from arcs x us) e ∙ runs_from arcs y us z k in
     let f : w ≡ z = cc in
     (e, f)
+
+-- where a list that runs begins and ends
+last_ends : (arcs : List (List Pos)) (v : Pos) (a : ArcRef) (us : List ArcRef) (w : Pos) → Runs arcs v (a ∷ us) w → (x : Pos) × (ends_along arcs (last_of a us) ≡ Some (x, w))
+last_ends arcs v a [] w (q, e, h) = (v, run_ends arcs a v q e ∙ ap (λ z. Some (v, z)) h)
+last_ends arcs v a (b ∷ us) w (q, e, h) = last_ends arcs (last_of v q) b us w h
+
+pub run_line_ends : (arcs : List (List Pos)) (us : List ArcRef) (v w : Pos) → ¬ (us ≡ []) → Runs arcs v us w → line_ends arcs us ≡ v ∷ (w ∷ [])
+run_line_ends arcs [] v w n h = absurd (n refl)
+run_line_ends arcs (a ∷ us) v w n h =
+    let t = last_ends arcs v a us w h in
+    λ i. from_to (run_ends arcs a v h.0 h.1 i) (t.1 i)
 
 -- a list that ends where it begins
 pub goes_told : (arcs : List (List Pos)) (us : List ArcRef) (v w : Pos) (b : Bool) → Runs arcs v us w → ¬ (us ≡ []) → b ≡ position_eq v w → (b ≡ true) ↔ GoesRound arcs us

@@ -41,11 +41,11 @@ marks_set_long v bs [] = refl
 marks_set_long v bs (a ∷ us) = marks_set_long v (set bs a.arc v) us ∙ length-set bs a.arc v
 
 -- what is not used keeps its mark
-other_mark : (v : Bool) (bs : List Bool) (us : List ArcRef) (k : ℕ) (d : Bool) → ¬ Uses k us → get_or (marks_set v bs us) k d ≡ get_or bs k d
+pub other_mark : (v : Bool) (bs : List Bool) (us : List ArcRef) (k : ℕ) (d : Bool) → ¬ Uses k us → get_or (marks_set v bs us) k d ≡ get_or bs k d
 other_mark v bs [] k d n = refl
 other_mark v bs (a ∷ us) k d n = other_mark v (set bs a.arc v) us k d (λ h. n (inr h)) ∙ get_or-set_other bs a.arc k v d (λ e. n (inl e))
 
-uses_or : (k : ℕ) (us : List ArcRef) → Uses k us ⊎ (¬ Uses k us)
+pub uses_or : (k : ℕ) (us : List ArcRef) → Uses k us ⊎ (¬ Uses k us)
 uses_or k [] = inr (λ h. h)
 uses_or k (a ∷ us) = elim (uses_or k us) [ inl h ↦ inl (inr h) | inr n ↦ go n (eqb_tells k a.arc) ]
   where
@@ -54,7 +54,7 @@ uses_or k (a ∷ us) = elim (uses_or k us) [ inl h ↦ inl (inr h) | inr n ↦ g
     go n (inr (_, f)) = inr (λ h. elim h [ inl e ↦ f e | inr i ↦ n i ])
 
 -- what is used has the mark that is set
-set_mark : (v : Bool) (bs : List Bool) (us : List ArcRef) (k : ℕ) (d : Bool) → k < length bs → Uses k us → get_or (marks_set v bs us) k d ≡ v
+pub set_mark : (v : Bool) (bs : List Bool) (us : List ArcRef) (k : ℕ) (d : Bool) → k < length bs → Uses k us → get_or (marks_set v bs us) k d ≡ v
 set_mark v bs [] k d lt u = absurd u
 set_mark v bs (a ∷ us) k d lt u =
     elim (uses_or k us) [

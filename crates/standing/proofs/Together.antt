@@ -31,7 +31,7 @@ use Rattle.standing.specs.Lists.{LineStands, RingStands}
 use Rattle.standing.specs.Meeting.{from_to, line_ends}
 use Rattle.standing.specs.Runs.{ends_along}
 use Rattle.standing.specs.Stands as law
-use Rattle.standing.specs.Stands.{AreListsOf, ListsStand}
+use Rattle.standing.specs.Stands.{AreListsOf, AreTurnedListsOf, ListsStand, StitchAround}
 use Rattle.standing.proofs.ApartArcs.{is_table}
 use Rattle.standing.proofs.Running.{ends_run}
 
@@ -60,7 +60,8 @@ Pairwise-both R T [] (y ∷ ys) p k = absurd p
 Pairwise-both R T (x ∷ xs) [] p k = absurd p
 Pairwise-both R T (x ∷ xs) (y ∷ ys) p k = (k x y (inl refl) (inl refl) p.0, Pairwise-both R T xs ys p.1 (λ z w h i. k z w (inr h) (inr i)))
 
-made : {A B : Type 0} (R : A → B → Type 0) (ys : List B) → ((y : B) → Has y ys → (x : A) × R x y) → (xs : List A) × Pairwise R xs ys
+-- a list that is made one by one
+pub made : {A B : Type 0} (R : A → B → Type 0) (ys : List B) → ((y : B) → Has y ys → (x : A) × R x y) → (xs : List A) × Pairwise R xs ys
 made R [] h = ([], tt)
 made R (y ∷ ys) h =
     let t = h y (inl refl) in
@@ -87,12 +88,8 @@ module _ (t : Arcs) (st : ArcsApart position_cmp t.arcs (table_as_map t)) where
   ring_some [] k e = k.least
   ring_some (b ∷ us) k e = absurd cc
 
-  ring_list : (us : List ArcRef) (r : List Pos) → RingStands position_cmp t.arcs us → StitchTo t.arcs us (closed r) → IsListOfRing t.arcs r us
-  ring_list us r k s = record {
-    some = ring_some us k;
-    around = (r, ([], r, refl, sym (append-nil r)), s);
-    once = k.once;
-  }
+  ring_list : (us : List ArcRef) (r : List Pos) → RingStands position_cmp t.arcs us → StitchAround t.arcs us r → IsListOfRing t.arcs r us
+  ring_list us r k s = record { some = ring_some us k; around = s; once = k.once }
 
   turned : (us : List ArcRef) (r : List Pos) → RingStands position_cmp t.arcs us → StitchTo t.arcs us (closed r) → turned_used position_cmp t.arcs us ≡ us
   turned us r k s = least_turned position_cmp position_total position_same position_dec a sound t.arcs all us r s k.once k.least
@@ -108,7 +105,7 @@ module _ (t : Arcs) (st : ArcsApart position_cmp t.arcs (table_as_map t)) where
         runs_ring position_cmp position_total position_same position_dec a sound t.arcs all k.round.0 us (ring_some us k) k.round.1) in
         (record { lines = ls.0; rings = rs.0 }, record { of_lines = ls.1; of_rings = rs.1 })
 
-    module _ (g : Geometry Pos) (are : AreListsOf t.arcs lines rings g) where
+    module _ (g : Geometry Pos) (are : AreTurnedListsOf t.arcs lines rings g) where
       stands : Stands position_cmp t.arcs a g
       stands = record {
         alone = alone;
@@ -116,7 +113,7 @@ module _ (t : Arcs) (st : ArcsApart position_cmp t.arcs (table_as_map t)) where
             let p = partner (λ l us. StitchTo t.arcs us l) g.lines lines are.of_lines l h in
             (p.0, line_list p.0 l (ok.each_line p.0 p.1) p.2);
         rings = λ r h.
-            let p = partner (λ r us. StitchTo t.arcs us (closed r)) g.rings rings are.of_rings r h in
+            let p = partner (λ r us. StitchAround t.arcs us r) g.rings rings are.of_rings r h in
             (p.0, ring_list p.0 r (ok.each_ring p.0 p.1) p.2);
         used = λ k c e. (let u = ok.used k c e in user k u.0 u.1 u.2);
         ends = λ l h v i. elim (ok.ends l h v i) [
@@ -133,7 +130,7 @@ module _ (t : Arcs) (st : ArcsApart position_cmp t.arcs (table_as_map t)) where
               let p = partner_back (λ l us. StitchTo t.arcs us l) g.lines lines are.of_lines us h in
               inl (p.0, us, p.1, line_list us p.0 (ok.each_line us h) p.2, u)
           user k us (inr h) u =
-              let p = partner_back (λ r us. StitchTo t.arcs us (closed r)) g.rings rings are.of_rings us h in
+              let p = partner_back (λ r us. StitchAround t.arcs us r) g.rings rings are.of_rings us h in
               inr (p.0, us, p.1, ring_list us p.0 (ok.each_ring us h) p.2, u)
 
       told : IsSound g × AreArcsOf position_cmp g t.arcs × Alike a g
@@ -153,10 +150,10 @@ module _ (t : Arcs) (st : ArcsApart position_cmp t.arcs (table_as_map t)) where
 
       ring_lists : Pairwise (IsRingList position_cmp (JunctionOf g) t.arcs) g.rings rings
       ring_lists =
-          Pairwise-both (λ r us. StitchTo t.arcs us (closed r)) (IsRingList position_cmp (JunctionOf g) t.arcs) g.rings rings are.of_rings
+          Pairwise-both (λ r us. StitchAround t.arcs us r) (IsRingList position_cmp (JunctionOf g) t.arcs) g.rings rings are.of_rings
           (λ r us h i s.
           let k = ok.each_ring us i in
-          subst (λ w. IsRingList position_cmp (JunctionOf g) t.arcs r w) (turned us r k s)
+          subst (λ w. IsRingList position_cmp (JunctionOf g) t.arcs r w) (turned us s.0 k s.2)
           (ring_lists_that_stand position_cmp order g told.0 t.arcs told.1 r h us (ring_list us r k s)))
 
 pub lists_make_a_map : law.ListsMakeAMap
@@ -168,5 +165,6 @@ lists_are_the_maps t st lines rings ok g are = ((told t st lines rings ok g are)
 pub lists_are_read : law.ListsAreRead
 lists_are_read t st us = (
   (λ l k s. line_list t st us l k s),
-  (λ r k s. ring_as_read position_cmp position_total position_same position_dec (a t st) (sound t st) t.arcs (all t st) r us (ring_list t st us r k s) k.least),
+  (λ r k s. ring_as_read position_cmp position_total position_same position_dec (a t st) (sound t st) t.arcs (all t st) r us
+      (ring_list t st us r k (r, ([], r, refl, sym (append-nil r)), s)) k.least),
 )

@@ -4,7 +4,7 @@ use Rattle.grid.specs.declared.pos.Pos.{Pos}
 use Rattle.lines.specs.Turned.{position_cmp}
 use Rattle.theory.specs.ArcNumbers.{ArcRef, StitchTo, Uses}
 use Rattle.theory.specs.Geometry.{Geometry, IsSound, JunctionOf}
-use Rattle.theory.specs.LinesAndRings.{closed}
+use Rattle.theory.specs.LinesAndRings.{IsRotation, closed}
 use Rattle.theory.specs.Lists.{Has, Pairwise, gathered}
 use Rattle.theory.specs.Standing.{ArcsApart, IsListOfLine, IsReadRing}
 use Rattle.theory.specs.Topology.{IsRingList}
@@ -27,17 +27,27 @@ pub record AreListsOf (arcs : List (List Pos)) (lines rings : List (List ArcRef)
   pub of_lines : Pairwise (λ l us. StitchTo arcs us l) g.lines lines
   pub of_rings : Pairwise (λ r us. StitchTo arcs us (closed r)) g.rings rings
 
+-- the list stitches to the ring, begun at one of its vertices, and closed
+abbrev pub StitchAround : List (List Pos) → List ArcRef → List Pos → Type 0
+StitchAround arcs us r = (q : List Pos) × IsRotation r q × StitchTo arcs us (closed q)
+
+-- the same, each ring begun at one of its vertices
+pub record AreTurnedListsOf (arcs : List (List Pos)) (lines rings : List (List ArcRef)) (g : Geometry Pos) : Type 0 where
+  pub of_lines : Pairwise (λ l us. StitchTo arcs us l) g.lines lines
+  pub of_rings : Pairwise (λ r us. StitchAround arcs us r) g.rings rings
+
 -- lists that stand are those of a map
 abbrev pub ListsMakeAMap : Type 0
 ListsMakeAMap =
     (t : Arcs) → ArcsApart position_cmp t.arcs (table_as_map t) → (lines rings : List (List ArcRef)) → ListsStand t lines rings →
     (g : Geometry Pos) × AreListsOf t.arcs lines rings g
 
--- the arcs are those of the map, with its free loops, and each list is the one that the map's topology has
+-- the arcs are those of the map, with its free loops, and each list is the one that the map's topology has, from whichever
+-- of its vertices the map has a ring
 abbrev pub ListsAreTheMaps : Type 0
 ListsAreTheMaps =
     (t : Arcs) → ArcsApart position_cmp t.arcs (table_as_map t) → (lines rings : List (List ArcRef)) → ListsStand t lines rings →
-    (g : Geometry Pos) → AreListsOf t.arcs lines rings g →
+    (g : Geometry Pos) → AreTurnedListsOf t.arcs lines rings g →
     IsSound g × IsTableOf g t × Pairwise (IsRingList position_cmp (JunctionOf g) t.arcs) g.rings rings
 
 -- a line's or a ring's list that stands is read as it is, whatever line or ring it stitches to

@@ -12,7 +12,7 @@ pub mod seams;
 mod starts;
 
 pub use apart::arcs_as_read;
-pub use lists::{line_stands, ring_stands};
+pub use lists::{line_run, ring_stands};
 pub use marks::ArcsUsed;
 pub use meeting::{add_line_ends, ends_meet};
 pub use runs::run;

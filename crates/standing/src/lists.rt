@@ -1,15 +1,17 @@
 //! Lists of used arcs: which stand as a line's, and which as a ring's.
-ghost use Rattle.std.specs.Prelude.{◌≡◌, ◌↔◌, length, true};
+ghost use Rattle.std.specs.Prelude.{◌≡◌, ◌↔◌, [], ◌∷◌, length, true, IfSome, IsSome};
 ghost use Rattle.lines.specs.Turned.{position_cmp};
 ghost use Rattle.chains.specs.OfArcs.{table_as_map};
 ghost use Rattle.standing.specs.Lists.{LineStands, RingStands};
 ghost use Rattle.standing.specs.Lists as spec;
 ghost use Rattle.standing.specs.Marks.{marks_set};
+ghost use Rattle.standing.specs.Meeting.{line_ends};
 
 use crate::marks::ArcsUsed;
 use crate::runs::run;
 use crate::starts::starts_least;
 use chains::table::{ArcRef, ArcTable};
+use grid::pos::Pos;
 
 fn none_free(table: &ArcTable, refs: &[ArcRef]) -> bool
     ensures { result ≡ spec.none_free table.now refs.now }
@@ -22,23 +24,27 @@ fn none_free(table: &ArcTable, refs: &[ArcRef]) -> bool
     true
 }
 
-/// Whether a list of used arcs stands as a line's: it is not empty, each arc begins where the one
-/// before it ends, none stands in it twice, and none is a free loop. Its arcs are added to those that
-/// are used.
+/// Where a line begins and ends whose list of used arcs stands; `None` exactly where it doesn't. It
+/// stands where it is not empty, each arc begins where the one before it ends, none stands in it twice,
+/// and none is a free loop. Its arcs are added to those that are used.
 #[tactic(auto, using(crate::proofs::Marking::marks_set_long))]
-pub fn line_stands(table: &ArcTable, used: &mut ArcsUsed, refs: &[ArcRef]) -> bool
+pub fn line_run(table: &ArcTable, used: &mut ArcsUsed, refs: &[ArcRef]) -> Option<(Pos, Pos)>
     requires { length used.old ≡ length table.now.arcs }
-    ensures stands { (result ≡ true) ↔ LineStands table.now.arcs (table_as_map table.now) refs.now }
+    ensures stands { IsSome result ↔ LineStands table.now.arcs (table_as_map table.now) refs.now }
+    ensures ends { IfSome result (λ e. line_ends table.now.arcs refs.now ≡ e.0 ∷ (e.1 ∷ [])) }
     ensures used { used.new ≡ marks_set true used.old refs.now }
     ensures len { length used.new ≡ length used.old }
 {
     if !used.add(refs) {
-        return false;
+        return None;
     }
-    match run(table, refs) {
-        Some(_) => none_free(table, refs),
-        None => false,
+    let Some(ends) = run(table, refs) else {
+        return None;
+    };
+    if none_free(table, refs) {
+        return Some(ends);
     }
+    None
 }
 
 /// Whether used arcs run back to where they begin.

@@ -2,7 +2,7 @@ use crate::arcs::{A, B, C, D, E, lists, read};
 use chains::{ArcRef, ArcTable};
 use grid::pos::Pos;
 use standing::{
-    ArcsUsed, add_line_ends, arcs_as_read, ends_meet, free_loops, line_stands, ring_stands,
+    ArcsUsed, add_line_ends, arcs_as_read, ends_meet, free_loops, line_run, ring_stands,
 };
 use std::alloc::Global;
 use std::process::Abort;
@@ -34,7 +34,7 @@ fn table(alloc: Global, arcs: &[&[(i64, i64)]], free: &[bool]) -> Result<ArcTabl
 fn line(alloc: Global, table: &ArcTable, indexes: &[i64]) -> Result<bool, Fail> {
     let mut used = ArcsUsed::none(alloc, table.len())?;
     let list = refs(alloc, indexes)?;
-    Ok(line_stands(table, &mut used, &list))
+    Ok(line_run(table, &mut used, &list).is_some())
 }
 
 fn ring(alloc: Global, table: &ArcTable, indexes: &[i64]) -> Result<bool, Fail> {
@@ -103,7 +103,11 @@ fn arcs_that_lists_use(rt: HostRuntime) -> Result<(), Fail> {
     let arcs = table(alloc, &[&[A, D, C], &[A, B], &[B, C]], &[])?;
     let mut used = ArcsUsed::none(alloc, arcs.len())?;
     assert!(rt; !used.all());
-    assert!(rt; line_stands(&arcs, &mut used, &refs(alloc, &[1, 2])?));
+    let ends = line_run(&arcs, &mut used, &refs(alloc, &[1, 2])?).ok_or("refused")?;
+    assert_eq!(rt;
+        [ends.0, ends.1].as_slice(),
+        places(alloc, &[A, C])?.as_slice()
+    );
     assert!(rt; !used.all());
     // An arc may be used again by another list.
     assert!(rt; ring_stands(&arcs, &mut used, &refs(alloc, &[0, -3, -2])?));
@@ -176,7 +180,7 @@ fn a_whole_topology(rt: HostRuntime) -> Result<(), Fail> {
         return Err("refused".into());
     };
     let mut used = ArcsUsed::none(alloc, table.len())?;
-    assert!(rt; line_stands(&table, &mut used, &line));
+    assert!(rt; line_run(&table, &mut used, &line).is_some());
     assert!(rt; ring_stands(&table, &mut used, &refs(alloc, &[0, -2])?));
     assert!(rt; ring_stands(&table, &mut used, &refs(alloc, &[2])?));
     assert!(rt; used.all());
