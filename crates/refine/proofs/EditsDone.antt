@@ -10,13 +10,13 @@ use Rattle.shapes.specs.Union.{union}
 use Rattle.topo.specs.OfMap.{IsOf, IsOfSomeMap}
 use Rattle.topo.specs.Parts.{TopologyParts}
 use Rattle.topo.specs.declared.topology.Topology as the_topology
-use Rattle.refine.proofs.PlanLemmas.{same_grid_true}
+use Rattle.merging.proofs.PlanLemmas.{same_grid_true}
 use Rattle.refine.specs.Edits.{AreEditedTo, AreRefusedAt, IsEditedTo, IsOnGrid}
-use Rattle.refine.specs.Meaning.{same_grid}
+use Rattle.merging.specs.Meaning.{same_grid}
 use Rattle.refine.specs.declared.edit.Edit.{Edit}
 use Rattle.refine.specs.declared.edit.Edit.TheVariants.{Join}
-use Rattle.refine.specs.declared.fault.JoinFault.{JoinFault}
-use Rattle.refine.specs.declared.fault.JoinFault.TheVariants.{OtherGrid}
+use Rattle.merging.specs.declared.fault.JoinFault.{JoinFault}
+use Rattle.merging.specs.declared.fault.JoinFault.TheVariants.{OtherGrid}
 
 -- the edits before the place are on the grid and are done: what is done next is done after them
 pub record AreDone (g : Transform) (m : Layers) (es : List Edit) (place : ℕ) (n : Layers) : Type 0 where

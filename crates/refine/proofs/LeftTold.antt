@@ -39,16 +39,17 @@ use Rattle.topo.specs.declared.geom.Body.TheVariants as to
 use Rattle.topo.specs.declared.geom.Geom.{Geom}
 use Rattle.topo.proofs.Sound.{are_sound}
 use Rattle.topo.proofs.Walks.{walked_stitched}
-use Rattle.refine.specs.Leaving.{all_lent, layer_less}
-use Rattle.refine.specs.LeftLists.{body_ends, body_refs, both_ends, layer_ends, layer_refs, layers_ends, layers_refs, line_ends, marked_by}
+use Rattle.layer_laws.specs.Leaving.{layer_less}
+use Rattle.refine.specs.Lent.{all_lent}
+use Rattle.layer_laws.specs.LeftLists.{body_ends, body_refs, both_ends, layer_ends, layer_refs, layers_ends, layers_refs, line_ends, marked_by}
 use Rattle.refine.specs.declared.remove.LayerLeft.{LayerLeft}
-use Rattle.refine.specs.Less.{layer_rejoined, layers_left, less, marks_of}
+use Rattle.layer_laws.specs.Less.{layer_rejoined, layers_left, less, marks_of}
 use Rattle.refine.specs.Removals.{AreJoinedOf}
-use Rattle.refine.proofs.LeftGeometries as left
-use Rattle.refine.proofs.LeftMarks.{marks_tell}
-use Rattle.refine.proofs.Passing.{pass_marks}
-use Rattle.refine.proofs.RecutGeometries.{order}
-use Rattle.refine.proofs.RejoinedLayers.{parts_left}
+use Rattle.layer_laws.proofs.LeftGeometries as left
+use Rattle.layer_laws.proofs.LeftMarks.{marks_tell}
+use Rattle.layer_laws.proofs.Passing.{pass_marks}
+use Rattle.layer_laws.proofs.RecutGeometries.{order}
+use Rattle.layer_laws.proofs.RejoinedLayers.{parts_left}
 
 -- ---- used arcs
 

@@ -4,11 +4,11 @@ use Rattle.grid.specs.Place.{Transform}
 use Rattle.shapes.specs.Maps.{Layers}
 use Rattle.shapes.specs.Union.{union}
 use Rattle.topo.specs.OfMap.{IsOf}
-use Rattle.refine.specs.Less.{less}
+use Rattle.layer_laws.specs.Less.{less}
 use Rattle.refine.specs.declared.edit.Edit.{Edit}
 use Rattle.refine.specs.declared.edit.Edit.TheVariants.{Join, Remove}
-use Rattle.refine.specs.declared.fault.JoinFault.{JoinFault}
-use Rattle.refine.specs.declared.fault.JoinFault.TheVariants.{OtherGrid}
+use Rattle.merging.specs.declared.fault.JoinFault.{JoinFault}
+use Rattle.merging.specs.declared.fault.JoinFault.TheVariants.{OtherGrid}
 
 -- what a map becomes by an edit: a join adds the features of the joined map, a removal takes away those that it names
 abbrev pub IsEditedTo : Layers → Edit → Layers → Type 0

@@ -1,12 +1,9 @@
 -- What is left of a topology, and the old arcs that the new ones are joined of.
-use Rattle.std.specs.Prelude.{◌≡◌, ℕ, true, false, List, Some, slice_get}
-use Rattle.std.specs.FinMap as map
+use Rattle.std.specs.Prelude.{◌≡◌, ℕ, List, Some, slice_get}
 use Rattle.grid.specs.declared.pos.Pos.{Pos}
 use Rattle.lines.specs.Turned.{position_cmp}
-use Rattle.shapes.specs.Maps.{Layers, features_at}
-use Rattle.shapes.specs.Sets as set
+use Rattle.shapes.specs.Maps.{Layers}
 use Rattle.shapes.specs.Union.{union}
-use Rattle.shapes.specs.declared.feature.Feature.{Feature}
 use Rattle.chains.specs.Seen.{geometry_of}
 use Rattle.theory.specs.ArcNumbers.{ArcRef}
 use Rattle.theory.specs.Geometry.{Geometry, JunctionOf}
@@ -15,7 +12,7 @@ use Rattle.topo.specs.OfMap.{IsOf, seen_parts}
 use Rattle.topo.specs.Parts.{TopologyParts}
 use Rattle.topo_io.specs.Canon.{canon}
 use Rattle.topo_io.specs.TopologyText.{topology_text}
-use Rattle.refine.specs.Less.{less}
+use Rattle.layer_laws.specs.Less.{IsApart, less}
 
 -- the new topology, and for each of its arcs the old ones that it is joined of
 pub record RemovalParts : Type 0 where
@@ -35,11 +32,6 @@ pub record AreJoinedOf (g u : Geometry Pos) (new table : List (List Pos)) (piece
 -- the new arcs are joined of the old ones of m, as what is left of it without r
 abbrev pub IsWithoutBy : Layers → Layers → TopologyParts → RemovalParts → Type 0
 IsWithoutBy m r t removal = AreJoinedOf (geometry_of (less m r)) (geometry_of m) removal.topology.arcs.arcs t.arcs.arcs removal.pieces
-
--- each layer of r is one of m, and no feature of r's is there
-pub record IsApart (m r : Layers) : Type 0 where
-  pub names : (q : List ℕ) → map.contains_key r q ≡ true → map.contains_key m q ≡ true
-  pub features : (q : List ℕ) (f : Feature) → set.contains (features_at r q) f ≡ true → set.contains (features_at m q) f ≡ false
 
 -- a join is undone to the byte: what is left of the join of m and n without n's features has the canonical text of m
 abbrev pub JoinsAreUndone : Type 0

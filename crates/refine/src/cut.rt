@@ -8,11 +8,12 @@ ghost use Rattle.topo.specs.Features.{HasFeature, IsKnownOf};
 ghost use Rattle.topo.specs.Parts.{LayerParts};
 ghost use Rattle.topo.specs.declared.geom.Geom.{Geom};
 ghost use Rattle.topo.specs.OfMap.{IsOf, IsOfSomeMap};
-ghost use Rattle.refine.specs.Cuts as cuts;
-ghost use Rattle.refine.specs.CutLayers as cut_layers;
-ghost use Rattle.refine.specs.CutLayers.{HaveFeatures, IsKnownOfFirst, LayersHaveFeatures, before, behind, body_rank, geometry_cmp, layer_cmp, layers_as_one, layers_merged, tied, to_first, with_other};
-ghost use Rattle.refine.specs.Meaning.{same_grid};
-ghost use Rattle.refine.specs.declared.fault.JoinFault.TheVariants.{OtherGrid};
+ghost use Rattle.layer_laws.specs.Cuts as cuts;
+ghost use Rattle.layer_laws.specs.CutLayers as cut_layers;
+ghost use Rattle.topo.specs.GeometryOrder.{HaveFeatures, LayersHaveFeatures, geometry_cmp};
+ghost use Rattle.layer_laws.specs.CutLayers.{IsKnownOfFirst, before, behind, layer_cmp, layers_as_one, layers_merged, tied, to_first, with_other};
+ghost use Rattle.merging.specs.Meaning.{same_grid};
+ghost use Rattle.merging.specs.declared.fault.JoinFault.TheVariants.{OtherGrid};
 
 use crate::fault::JoinFault;
 use chains::table::{ArcRef, ArcTable};
@@ -23,7 +24,7 @@ use shapes::feature::Feature;
 use std::alloc::Global;
 use std::cmp::Ordering;
 use std::collections::VecDeque;
-use topo::{Body, Geom, Layer, Topology, stitching};
+use topo::{Body, Geom, Layer, Topology, order_of};
 
 fn line_recut(
     alloc: Global,
@@ -172,59 +173,6 @@ fn layers_recut(
         made.push(layer_recut(alloc, recut, side, layer)?)?;
     }
     Ok(made)
-}
-
-/// The number of a body's kind, in the order of kinds.
-fn rank(body: &Body) -> u8
-    ensures { result ≡ body_rank body.now }
-{
-    match body {
-        Body::Null => 0,
-        Body::Point(_) => 1,
-        Body::MultiPoint(_) => 2,
-        Body::Line(_) => 3,
-        Body::MultiLine(_) => 4,
-        Body::Polygon(_) => 5,
-        Body::MultiPolygon(_) => 6,
-    }
-}
-
-/// The order of the features of two geometries. They are stitched only where their ids, their
-/// properties and their kinds tie, and their lists of arcs differ: equal lists stitch to equal
-/// shapes. Then they are kept.
-fn order_of(
-    alloc: Global,
-    arcs: &ArcTable,
-    geometry: &Geom,
-    known: &mut Option<Feature>,
-    other: &Geom,
-    other_known: &mut Option<Feature>,
-) -> Result<Ordering, OutOfMemory>
-    requires there { HasFeature arcs.now.arcs geometry.now }
-    requires other_there { HasFeature arcs.now.arcs other.now }
-    requires known { IsKnownOf arcs.now.arcs geometry.now known.old }
-    requires other_known { IsKnownOf arcs.now.arcs other.now other_known.old }
-    ensures known { IsKnownOf arcs.now.arcs geometry.now known.new }
-    ensures other_known { IsKnownOf arcs.now.arcs other.now other_known.new }
-    ensures order { IfOk result (λ o. o ≡ geometry_cmp arcs.now.arcs geometry.now other.now) }
-{
-    let order = geometry
-        .id
-        .cmp(&other.id)
-        .then(geometry.props.cmp(&other.props))
-        .then(rank(&geometry.body).cmp(&rank(&other.body)));
-    if order.is_ne() {
-        return Ok(order);
-    }
-    if geometry.body == other.body {
-        return Ok(Ordering::Equal);
-    }
-    let feature = stitching::known_feature(alloc, arcs, geometry, known.take())?;
-    let other_feature = stitching::known_feature(alloc, arcs, other, other_known.take())?;
-    let stitched = feature.cmp(&other_feature);
-    *known = Some(feature);
-    *other_known = Some(other_feature);
-    Ok(stitched)
 }
 
 /// Moves the first of some items to the end of a list.

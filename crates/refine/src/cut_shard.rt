@@ -3,15 +3,15 @@ ghost use Rattle.std.specs.Prelude.{◌≡◌, ◌<◌, ◌^◌, length};
 ghost use Rattle.shapes.specs.Maps.{Layers};
 ghost use Rattle.shapes.specs.Union.{union};
 ghost use Rattle.topo.specs.OfMap.{IsOf, IsOfSomeMap};
-ghost use Rattle.refine.specs.ItsMap.{ItsMap, ItsMap-prop};
-ghost use Rattle.refine.specs.Laws.{union-Commutes, union-Associates, union-IsIdempotent};
+ghost use Rattle.layer_laws.specs.ItsMap.{ItsMap, ItsMap-prop};
+ghost use Rattle.merging.specs.Laws.{union-Commutes, union-Associates, union-IsIdempotent};
 
 use crate::canonical::text_of_topology;
 use crate::cut::{joined, joined_owned};
 use crate::fault::JoinFault;
-use crate::shard::Shard;
 use faults::OutOfMemory;
 use grid::transform::Grid;
+use merging::Shard;
 use shapes::feature_map::FeatureMap;
 use std::alloc::Global;
 use std::marker::Model;

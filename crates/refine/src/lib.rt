@@ -1,4 +1,5 @@
-//! Merging shards: a shard is a grid and a map of features, a plan says which are joined and in what grouping.
+//! Joining and editing topologies: arcs are cut again where new borders meet them, and joined again where
+//! borders go. The two kinds of shard, merges of texts, removals and sessions.
 #![tactic(auto)]
 
 mod canonical;
@@ -6,24 +7,19 @@ mod cut;
 pub mod cut_shard;
 pub mod edit;
 pub mod fault;
-mod joining;
 pub mod laws;
 pub mod merge;
-pub mod plan;
 pub mod remove;
-mod running;
 pub mod session;
-pub mod shard;
 pub mod whole;
 
 pub use cut_shard::Cut;
 pub use edit::Edit;
 pub use fault::{EditsFault, JoinFault, MergeFault, PlanFault};
 pub use merge::merge_texts;
-pub use plan::run_plan;
+pub use merging::{Shard, plan, run_plan, shard};
 pub use plans::Plan;
 pub use recutting::{Recut, Side, recut};
 pub use remove::Removal;
 pub use session::Session;
-pub use shard::Shard;
 pub use whole::Whole;

@@ -1,103 +1,14 @@
 //! Merging texts of topologies.
 ghost use Rattle.std.specs.Prelude.{◌≡◌, ℕ, IfOk, IfErr, Some, Err, length};
-ghost use Rattle.refine.specs.declared.fault.MergeFault.TheVariants.{BadPlan};
 ghost use Rattle.plans.specs.Leaves.{leaves, first_outside};
-ghost use Rattle.refine.specs.Plans.{off_grid};
-ghost use Rattle.refine.specs.Plans as stated;
-ghost use Rattle.refine.specs.Merge.{bytes_of, AreKept, IsFaultOf, IsReadFault, IsMergeFault, IsMergeOf, MeansUnion};
+ghost use Rattle.merging.specs.Merge.{bytes_of, IsMergeFault, IsMergeOf, MeansUnion};
+ghost use Rattle.merging.specs.declared.fault.MergeFault.TheVariants.{BadPlan};
 
 use crate::cut_shard::Cut;
 use crate::fault::MergeFault;
-use crate::joining::join_all;
-use crate::plan::same_grid;
-use crate::shard::Shard;
-use faults::{Fault, FaultKind};
-use grid::transform::Grid;
-use plans::{Plan, first_bad_leaf, named_places};
+pub use merging::merge::merge_as;
+use plans::Plan;
 use std::alloc::Global;
-
-// The reader's fault of the text of that number.
-fn text_refused(number: usize, fault: Fault) -> MergeFault
-    ensures { IsFaultOf number fault result }
-{
-    match fault.kind {
-        FaultKind::OutOfMemory => MergeFault::OutOfMemory,
-        _ => MergeFault::Text(number, fault),
-    }
-}
-
-// The grids of texts, in their order, and the shards of those that are marked. A text that is not marked is read, and
-// what it means is dropped at once.
-fn read_marked<S: Shard>(
-    alloc: Global,
-    texts: &[Vec<u8>],
-    marks: &[bool],
-) -> Result<(Vec<Grid>, Vec<S>), MergeFault>
-    requires marks { length marks.now ≡ length texts.now }
-    ensures fault { IfErr result (IsReadFault (bytes_of texts.now)) }
-    ensures read { IfOk result (λ p. AreKept S.grid_of S.map_of (bytes_of texts.now) marks.now p.0.items p.1.items) }
-{
-    let mut grids = Vec::new(alloc);
-    let mut shards = Vec::new(alloc);
-    let mut number = 0;
-    let mut left = texts;
-    while let Some((text, after)) = left.split_first() {
-        match topo_io::read(alloc, text.as_slice()) {
-            Ok((grid, map)) => {
-                grids.push(grid)?;
-                if marks[number] {
-                    shards.push(S::of_map(alloc, &grid, map)?)?;
-                }
-            }
-            Err(fault) => return Err(text_refused(number, fault)),
-        }
-        number += 1;
-        left = after;
-    }
-    Ok((grids, shards))
-}
-
-// The number of the first grid that is not this one.
-fn first_off(grids: &[Grid], common: &Grid) -> Option<usize>
-    ensures { result ≡ off_grid (λ g. g) common.now grids.now }
-{
-    grids.iter().position(|grid| !same_grid(grid, common))
-}
-
-// The number of the first grid that is not the first one's.
-fn first_other(grids: &[Grid]) -> Option<usize>
-    ensures { result ≡ stated.first_other (λ g. g) grids.now }
-{
-    let Some(first) = grids.first() else {
-        return None;
-    };
-    first_off(grids, first)
-}
-
-/// Merges texts over shards of a chosen kind: see `merge_texts`.
-pub fn merge_as<S: Shard>(
-    alloc: Global,
-    texts: &[Vec<u8>],
-    plan: &Plan,
-) -> Result<Vec<u8>, MergeFault>
-    ensures bad_plan { (k : ℕ) → first_outside (length texts.now) (leaves plan.now) ≡ Some k → result ≡ Err (BadPlan k) }
-    ensures fault { IfErr result (IsMergeFault (bytes_of texts.now) (leaves plan.now)) }
-    ensures merged { IfOk result (λ t. IsMergeOf (bytes_of texts.now) (leaves plan.now) t.items) }
-    ensures accepted { IfOk result (λ t. MeansUnion (bytes_of texts.now) (leaves plan.now) t.items) }
-{
-    if let Some(leaf) = first_bad_leaf(alloc, plan, texts.len()) {
-        return Err(MergeFault::BadPlan(leaf));
-    }
-    let named = named_places(alloc, plan, texts.len())?;
-    let (grids, shards): (Vec<Grid>, Vec<S>) = read_marked(alloc, texts, &named)?;
-    if let Some(number) = first_other(&grids) {
-        return Err(MergeFault::OtherGrid(number));
-    }
-    match join_all(alloc, shards) {
-        Ok(shard) => Ok(shard.text(alloc)?),
-        Err(_) => Err(MergeFault::OutOfMemory),
-    }
-}
 
 /// The canonical text of the union of the features of the texts that the plan names. These are joined
 /// each once and by halves, whatever the plan's grouping, which makes no difference to the bytes.

@@ -7,16 +7,16 @@ ghost use Rattle.topo.specs.OfMap.{IsOf, IsOfSomeMap};
 ghost use Rattle.topo_io.specs.Canon.{canon};
 ghost use Rattle.topo_io.specs.Means.{Means};
 ghost use Rattle.refine.specs.Edits.{AreEditedTo, AreRefusedAt, IsEditedTo, IsOnGrid};
-ghost use Rattle.refine.specs.declared.fault.JoinFault.TheVariants.{OtherGrid};
+ghost use Rattle.merging.specs.declared.fault.JoinFault.TheVariants.{OtherGrid};
 
 use crate::cut::joined;
 use crate::cut_shard::Cut;
 use crate::edit::Edit;
 use crate::fault::{EditsFault, JoinFault};
 use crate::remove::remove;
-use crate::shard::Shard;
 use faults::OutOfMemory;
 use grid::transform::Grid;
+use merging::Shard;
 use shapes::feature_map::FeatureMap;
 use std::alloc::Global;
 use std::marker::Model;

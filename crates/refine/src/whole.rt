@@ -1,14 +1,14 @@
 //! A shard that keeps its map.
 ghost use Rattle.std.specs.Prelude.{◌≡◌};
 ghost use Rattle.shapes.specs.Union.{union};
-ghost use Rattle.refine.specs.Laws.{union-Commutes, union-Associates, union-IsIdempotent};
+ghost use Rattle.merging.specs.Laws.{union-Commutes, union-Associates, union-IsIdempotent};
 
 use crate::canonical::canonical_text;
 use crate::fault::JoinFault;
-use crate::plan::same_grid;
-use crate::shard::Shard;
 use faults::OutOfMemory;
 use grid::transform::Grid;
+use merging::Shard;
+use merging::plan::same_grid;
 use shapes::feature_map::FeatureMap;
 use std::alloc::Global;
 

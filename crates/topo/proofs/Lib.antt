@@ -14,3 +14,5 @@ pub mod Filling
 pub mod Stitched
 pub mod Shapes
 pub mod Expanded
+pub mod SameBodies
+pub mod FeatureOrder

@@ -123,7 +123,7 @@ module _ {X : Type 0} (f : Shape Pos → List X) where
   abbrev of_entries : List (List ℕ × Features) → List X
   of_entries es = gathered (λ (e : List ℕ × Features). of_features (set.items e.1)) es
 
-  entries_forms : (es : List (List ℕ × Features)) → of_entries es ≡ gathered f (forms_of (map_list layer_of es))
+  pub entries_forms : (es : List (List ℕ × Features)) → of_entries es ≡ gathered f (forms_of (map_list layer_of es))
   entries_forms [] = refl
   entries_forms (e ∷ es) =
       let items = gathered (λ x. x.form ∷ []) (map_list item_of (set.items e.1)) in

@@ -10,3 +10,4 @@ pub mod Cuts
 pub mod Taken
 pub mod Features
 pub mod ItsMap
+pub mod GeometryOrder

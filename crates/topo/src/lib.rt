@@ -7,10 +7,12 @@ mod building;
 mod cuts;
 mod expanding;
 pub mod geom;
+pub mod order;
 pub mod stitching;
 pub mod topology;
 pub mod walk;
 
 pub use geom::{Body, Geom};
+pub use order::order_of;
 pub use topology::{Layer, Topology};
 pub use walk::Walk;

@@ -1,7 +1,8 @@
 use Rattle.std.proofs.Common.{◌≡◌, ◌++◌}
 use Rattle.std.specs.Vec.Iter.{into_iter_items}
-use Rattle.refine.specs.Cuts.{merged}
-use Rattle.refine.specs.CutLayers.{HaveFeatures, IsKnownOfFirst, geometry_cmp}
+use Rattle.layer_laws.specs.Cuts.{merged}
+use Rattle.topo.specs.GeometryOrder.{HaveFeatures, geometry_cmp}
+use Rattle.layer_laws.specs.CutLayers.{IsKnownOfFirst}
 use Rattle.refine.proofs.cut.geometries_merged.Given as goal
 
 abbrev pub invariant-loop-geometry : goal.invariant-loop-geometry

@@ -1,7 +1,7 @@
 use Rattle.std.proofs.Common.{◌≡◌, ◌++◌, map}
 use Rattle.std.specs.Vec.Iter.{into_iter_items}
 use Rattle.recutting.specs.Parts.{of_side}
-use Rattle.refine.specs.Cuts.{geometry_recut}
+use Rattle.layer_laws.specs.Cuts.{geometry_recut}
 use Rattle.refine.proofs.cut.geometries_recut.Given as goal
 
 abbrev pub invariant-loop-geometry : goal.invariant-loop-geometry

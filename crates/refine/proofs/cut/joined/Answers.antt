@@ -1,5 +1,5 @@
 use Rattle.std.proofs.Common.{◌≡◌, ◌∙◌, rules, sym}
-use Rattle.refine.proofs.PlanLemmas.{same_grid_true}
+use Rattle.merging.proofs.PlanLemmas.{same_grid_true}
 use Rattle.refine.proofs.cut.joined.Goals as goal
 
 pub returns-clause-other_grid : goal.returns-clause-other_grid

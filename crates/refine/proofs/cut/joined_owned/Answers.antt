@@ -1,5 +1,5 @@
 use Rattle.std.proofs.Common.{◌≡◌, ◌∙◌, rules, sym}
-use Rattle.refine.proofs.PlanLemmas.{same_grid_true}
+use Rattle.merging.proofs.PlanLemmas.{same_grid_true}
 use Rattle.refine.proofs.cut.joined_owned.Goals as goal
 
 pub returns-in_err-topology-clause-other_grid : goal.returns-in_err-topology-clause-other_grid

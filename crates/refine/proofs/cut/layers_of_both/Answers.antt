@@ -1,7 +1,8 @@
 use Rattle.std.proofs.Common.{◌≡◌, ◌++◌, sym, subst, IfSome}
 use Rattle.std.specs.Vec.Iter.{into_iter_items}
-use Rattle.refine.specs.CutLayers.{HaveFeatures, LayersHaveFeatures, layer_cmp, layers_as_one, layers_merged, with_other}
-use Rattle.refine.proofs.MergedSteps.{all_behind, next_united, tied_has}
+use Rattle.topo.specs.GeometryOrder.{HaveFeatures, LayersHaveFeatures}
+use Rattle.layer_laws.specs.CutLayers.{layer_cmp, layers_as_one, layers_merged, with_other}
+use Rattle.layer_laws.proofs.MergedSteps.{all_behind, next_united, tied_has}
 use Rattle.refine.proofs.cut.layers_of_both.Goals as goal
 
 pub layer_with-requires-clause-other : goal.layer_with-requires-clause-other

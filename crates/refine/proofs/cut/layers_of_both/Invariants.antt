@@ -1,6 +1,7 @@
 use Rattle.std.proofs.Common.{◌≡◌, ◌++◌}
 use Rattle.std.specs.Vec.Iter.{into_iter_items}
-use Rattle.refine.specs.CutLayers.{LayersHaveFeatures, layers_merged}
+use Rattle.topo.specs.GeometryOrder.{LayersHaveFeatures}
+use Rattle.layer_laws.specs.CutLayers.{layers_merged}
 use Rattle.refine.proofs.cut.layers_of_both.Given as goal
 
 abbrev pub invariant-loop-layer : goal.invariant-loop-layer

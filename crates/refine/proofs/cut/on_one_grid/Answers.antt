@@ -1,5 +1,5 @@
 use Rattle.std.proofs.Common.{◌∙◌}
-use Rattle.refine.specs.Meaning.{same_grid}
+use Rattle.merging.specs.Meaning.{same_grid}
 use Rattle.refine.proofs.cut.on_one_grid.Goals as goal
 
 pub returns : goal.returns

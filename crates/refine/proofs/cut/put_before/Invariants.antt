@@ -1,6 +1,7 @@
 use Rattle.std.proofs.Common.{◌≡◌, ◌++◌, length}
 use Rattle.topo.specs.Features.{IsKnownOf}
-use Rattle.refine.specs.CutLayers.{HaveFeatures, IsKnownOfFirst, before, behind, geometry_cmp}
+use Rattle.topo.specs.GeometryOrder.{HaveFeatures, geometry_cmp}
+use Rattle.layer_laws.specs.CutLayers.{IsKnownOfFirst, before, behind}
 use Rattle.refine.proofs.cut.put_before.Given as goal
 
 abbrev pub invariant-loop-known : goal.invariant-loop-known

@@ -1,6 +1,6 @@
 use Rattle.std.proofs.Common.{◌≡◌, ◌++◌, drop, map}
 use Rattle.recutting.specs.Parts.{of_side}
-use Rattle.refine.specs.Cuts.{ring_recut}
+use Rattle.layer_laws.specs.Cuts.{ring_recut}
 use Rattle.refine.proofs.cut.rings_recut.Given as goal
 
 abbrev pub invariant-loop-used : goal.invariant-loop-used

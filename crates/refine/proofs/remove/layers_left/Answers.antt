@@ -1,6 +1,7 @@
 use Rattle.std.proofs.Common.{◌++◌, ap, map}
-use Rattle.refine.specs.Leaving.{all_lent, layer_less}
-use Rattle.refine.proofs.Passing.{all_have}
+use Rattle.layer_laws.specs.Leaving.{layer_less}
+use Rattle.refine.specs.Lent.{all_lent}
+use Rattle.layer_laws.proofs.Passing.{all_have}
 use Rattle.refine.proofs.remove.layers_left.Goals as goal
 
 pub loop-layer-init : goal.loop-layer-init

@@ -1,6 +1,7 @@
 use Rattle.std.proofs.Common.{◌≡◌, ◌++◌, drop, map}
-use Rattle.refine.specs.CutLayers.{LayersHaveFeatures}
-use Rattle.refine.specs.Leaving.{all_lent, layer_less}
+use Rattle.topo.specs.GeometryOrder.{LayersHaveFeatures}
+use Rattle.layer_laws.specs.Leaving.{layer_less}
+use Rattle.refine.specs.Lent.{all_lent}
 use Rattle.refine.proofs.remove.layers_left.Given as goal
 
 abbrev pub invariant-loop-layer : goal.invariant-loop-layer

@@ -1,5 +1,5 @@
 use Rattle.std.proofs.Common.{◌∙◌, sym}
-use Rattle.refine.proofs.Passing.{info_tells, info_told, order_told}
+use Rattle.layer_laws.proofs.Passing.{info_tells, info_told, order_told}
 use Rattle.refine.proofs.remove.order_of.Goals as goal
 
 pub returns-then-is_ne-clause-order : goal.returns-then-is_ne-clause-order

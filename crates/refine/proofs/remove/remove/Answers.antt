@@ -1,7 +1,7 @@
 use Rattle.std.proofs.Common.{◌∙◌, ap, map}
 use Rattle.rejoining.specs.Starts.{starts_by}
-use Rattle.refine.specs.Leaving.{all_lent}
-use Rattle.refine.specs.Less.{layer_rejoined, less}
+use Rattle.refine.specs.Lent.{all_lent}
+use Rattle.layer_laws.specs.Less.{layer_rejoined, less}
 use Rattle.refine.proofs.LeftTold.{made_of, parts_made, pieces_made}
 use Rattle.refine.proofs.remove.remove.Goals as goal
 

@@ -2,7 +2,7 @@ use Rattle.std.proofs.Common.{IfOk, OnOk, refl, sym, subst}
 use Rattle.shapes.specs.Maps.{Layers}
 use Rattle.topo.specs.OfMap.{IsOf}
 use Rattle.refine.specs.Edits.{IsEditedTo, IsOnGrid}
-use Rattle.refine.specs.Less.{less}
+use Rattle.layer_laws.specs.Less.{less}
 use Rattle.refine.proofs.EditsDone.{joined_is_edit, joined_on_grid}
 use Rattle.refine.proofs.session.edited.Goals as goal
 

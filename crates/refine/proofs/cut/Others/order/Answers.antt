@@ -1,7 +1,7 @@
 use Rattle.std.proofs.Common.{subst}
 use Rattle.std.specs.List.{AllByRecursion}
 use Rattle.topo.specs.Features.{HasFeature}
-use Rattle.refine.proofs.MergedSteps.{first_is}
+use Rattle.layer_laws.proofs.MergedSteps.{first_is}
 use Rattle.refine.proofs.cut.Others.order.Goals as goal
 
 pub order_of-requires-clause-other_there : goal.order_of-requires-clause-other_there

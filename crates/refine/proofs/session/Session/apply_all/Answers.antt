@@ -1,7 +1,7 @@
 use Rattle.std.proofs.Common.{◌↔◌, ◌∙◌, All, Err, IsErrOf, ap, refl, sym, subst, arith}
 use Rattle.std.proofs.lemmas.List.{take_all}
 use Rattle.refine.specs.Edits.{AreEditedTo, IsOnGrid}
-use Rattle.refine.specs.declared.fault.JoinFault.TheVariants.{OtherGrid}
+use Rattle.merging.specs.declared.fault.JoinFault.TheVariants.{OtherGrid}
 use Rattle.refine.proofs.EditsDone.{AreDone, done_before, none_done, one_more_done, refused_at}
 use Rattle.refine.proofs.session.Session.apply_all.Goals as goal
 

@@ -1,0 +1,16 @@
+pub mod Ascending
+pub mod MergedSets
+pub mod MergedLayers
+pub mod UnitedGeometry
+pub mod RecutGeometries
+pub mod JoinedLayers
+pub mod MergedSteps
+pub mod JoinedPairs
+pub mod EqualLists
+pub mod LessEntries
+pub mod LeftGeometries
+pub mod RejoinedLayers
+pub mod JoinUndone
+pub mod LeftMarks
+pub mod Passing
+pub mod LeftEnds

@@ -1,0 +1,10 @@
+pub mod PlanLemmas
+pub mod RunLemmas
+pub mod AlikeLemmas
+pub mod MergeLemmas
+pub mod MergedTexts
+pub mod UnionFits
+pub mod ThroughTexts
+pub mod NamingLemmas
+pub mod JoiningLemmas
+pub mod KeptTexts

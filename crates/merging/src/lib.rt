@@ -1,0 +1,16 @@
+//! Merging shards: a shard is a grid and a map of features, a plan says which are joined and in what
+//! grouping. What is here holds for every kind of shard.
+#![tactic(auto)]
+
+pub mod fault;
+mod joining;
+pub mod laws;
+pub mod merge;
+pub mod plan;
+mod running;
+pub mod shard;
+
+pub use fault::{JoinFault, MergeFault, PlanFault};
+pub use merge::merge_as;
+pub use plan::run_plan;
+pub use shard::Shard;

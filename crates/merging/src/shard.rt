@@ -1,0 +1,79 @@
+//! What a merge needs of a shard.
+ghost use Rattle.std.specs.Prelude.{◌≡◌, ◌↔◌, IfOk, IsErrOf};
+ghost use Rattle.grid.specs.Place.{Transform};
+ghost use Rattle.shapes.specs.Fitting.{MapFits};
+ghost use Rattle.shapes.specs.Maps.{Layers};
+ghost use Rattle.shapes.specs.Union.{union};
+ghost use Rattle.merging.specs.Meaning.{Commutes, Associates, IsIdempotent};
+ghost use Rattle.topo_io.specs.Canon.{canon};
+ghost use Rattle.topo_io.specs.Means.{Means};
+ghost use Rattle.merging.specs.declared.fault.JoinFault.TheVariants.{OtherGrid};
+
+use crate::fault::JoinFault;
+use faults::OutOfMemory;
+use grid::transform::Grid;
+use shapes::feature_map::FeatureMap;
+use std::alloc::Global;
+
+/// A shard: a grid and a map of features, kept in one form or another. Each implementation proves
+/// that its join commutes, associates and is idempotent on what shards mean.
+pub trait Shard: Sized + Drop {
+    // The shard's grid.
+    ghost grid_of: { Self → Transform };
+
+    // The shard's features.
+    ghost map_of: { Self → Layers };
+
+    // What a join of two shards may answer.
+    ghost joined: { Self → Self → Self → Type 0 };
+
+    /// The shard's grid.
+    fn grid(&self) -> Grid
+        ensures { result ≡ grid_of self.now };
+
+    /// The shard of a map on a grid.
+    fn from_map(alloc: Global, grid: &Grid, map: &FeatureMap) -> Result<Self, OutOfMemory>
+        ensures grid { IfOk result (λ s. grid_of s ≡ grid.now) }
+        ensures map { IfOk result (λ s. map_of s ≡ map.now) };
+
+    /// `from_map` of a map that is handed over.
+    fn of_map(alloc: Global, grid: &Grid, map: FeatureMap) -> Result<Self, OutOfMemory>
+        ensures grid { IfOk result (λ s. grid_of s ≡ grid.now) }
+        ensures map { IfOk result (λ s. map_of s ≡ map) }
+    {
+        Self::from_map(alloc, grid, &map)
+    }
+
+    /// A shard of the same meaning.
+    fn copy(&self, alloc: Global) -> Result<Self, OutOfMemory>
+        ensures grid { IfOk result (λ s. grid_of s ≡ grid_of self.now) }
+        ensures map { IfOk result (λ s. map_of s ≡ map_of self.now) };
+
+    /// The shard of the common grid and the union of both maps, refused where the grids differ.
+    fn join(&self, alloc: Global, other: &Self) -> Result<Self, JoinFault>
+        ensures joined { IfOk result (λ s. joined self.now other.now s) }
+        ensures grid { IfOk result (λ s. grid_of s ≡ grid_of self.now) }
+        ensures map { IfOk result (λ s. map_of s ≡ union (map_of self.now) (map_of other.now)) }
+        ensures other_grid { IsErrOf result OtherGrid ↔ ¬ (grid_of self.now ≡ grid_of other.now) };
+
+    /// `join` of two shards that are handed over.
+    fn join_owned(self, alloc: Global, other: Self) -> Result<Self, JoinFault>
+        ensures joined { IfOk result (λ s. joined self other s) }
+        ensures grid { IfOk result (λ s. grid_of s ≡ grid_of self) }
+        ensures map { IfOk result (λ s. map_of s ≡ union (map_of self) (map_of other)) }
+        ensures other_grid { IsErrOf result OtherGrid ↔ ¬ (grid_of self ≡ grid_of other) }
+    {
+        self.join(alloc, &other)
+    }
+
+    /// The canonical text of the shard's topology. Where the map fits the grid, it is read back as both.
+    fn text(&self, alloc: Global) -> Result<Vec<u8>, OutOfMemory>
+        ensures text { IfOk result (λ t. t.items ≡ canon (grid_of self.now) (map_of self.now)) }
+        ensures accepted { IfOk result (λ t. MapFits (grid_of self.now) (map_of self.now) → Means t.items (grid_of self.now) (map_of self.now)) };
+
+    ghost commutes: { Commutes joined map_of };
+
+    ghost associates: { Associates joined map_of };
+
+    ghost idempotent: { IsIdempotent joined map_of };
+}

@@ -1,5 +1,0 @@
-use Rattle.refine.proofs.MergedTexts.{merge_of_one_text}
-use Rattle.refine.proofs.laws.merge_of_one_text.Goals as goal
-
-pub returns : goal.returns
-returns c = merge_of_one_text

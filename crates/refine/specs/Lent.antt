@@ -1,0 +1,11 @@
+-- What a removal is lent of the layers of a topology.
+use Rattle.std.specs.Prelude.{List, map as map_list}
+use Rattle.topo.specs.Parts.{LayerParts}
+use Rattle.refine.specs.declared.remove.LayerLeft.{LayerLeft}
+
+-- what is lent of a layer, as its parts
+abbrev pub lent : LayerLeft → LayerParts
+lent l = record { name = l.name.now; geometries = map_list (λ g. g.now) l.geometries.items }
+
+abbrev pub all_lent : List LayerLeft → List LayerParts
+all_lent ls = map_list lent ls

@@ -1,0 +1,78 @@
+-- The order of geometries: that of the features that they stitch to.
+use Rattle.std.specs.Prelude.{ℕ, List, map as map_list}
+use Rattle.std.specs.Cmp.Lexicographic.{slice_cmp}
+use Rattle.std.specs.List.{AllByRecursion}
+use Rattle.std.specs.Ordering.{nat_cmp, ordering_then}
+use Rattle.std.specs.declared.cmp.Ordering.{Ordering}
+use Rattle.grid.specs.declared.pos.Pos.{Pos}
+use Rattle.lines.specs.Reading.{ring_of}
+use Rattle.lines.specs.Turned.{position_cmp, list_cmp}
+use Rattle.shapes.specs.Order.{id_cmp}
+use Rattle.theory.specs.ArcNumbers.{ArcRef}
+use Rattle.theory.specs.Topology.{Shape, null, point, points, line, lines, polygon, polygons}
+use Rattle.topo.specs.Features.{HasFeature}
+use Rattle.topo.specs.Parts.{LayerParts}
+use Rattle.topo.specs.Walked.{walked}
+use Rattle.topo.specs.declared.geom.Body.{Body}
+use Rattle.topo.specs.declared.geom.Body.TheVariants.{Null, Point, MultiPoint, Line, MultiLine, Polygon, MultiPolygon}
+use Rattle.topo.specs.declared.geom.Geom.{Geom}
+
+-- the vertices of a ring of used arcs, from the least rotation
+abbrev pub vertices_used : List (List Pos) → List ArcRef → List Pos
+vertices_used arcs used = ring_of position_cmp (walked arcs used)
+
+-- a body with its lines as the positions that they stitch to, and its rings as their vertices from the least rotation
+abbrev pub body_form : List (List Pos) → Body → Shape Pos
+body_form arcs Null = null
+body_form arcs (Point p) = point p
+body_form arcs (MultiPoint ps) = points ps
+body_form arcs (Line used) = line (walked arcs used)
+body_form arcs (MultiLine lists) = lines (map_list (walked arcs) lists)
+body_form arcs (Polygon lists) = polygon (map_list (vertices_used arcs) lists)
+body_form arcs (MultiPolygon ps) = polygons (map_list (map_list (vertices_used arcs)) ps)
+
+-- the number of a form's kind, in the order of kinds
+abbrev pub form_rank : Shape Pos → ℕ
+form_rank null = 0
+form_rank (point p) = 1
+form_rank (points ps) = 2
+form_rank (line l) = 3
+form_rank (lines ls) = 4
+form_rank (polygon rs) = 5
+form_rank (polygons ps) = 6
+
+-- the number of a body's kind, in the order of kinds
+abbrev pub body_rank : Body → ℕ
+body_rank Null = 0
+body_rank (Point p) = 1
+body_rank (MultiPoint ps) = 2
+body_rank (Line used) = 3
+body_rank (MultiLine lists) = 4
+body_rank (Polygon lists) = 5
+body_rank (MultiPolygon ps) = 6
+
+-- by kind, then by the lists of positions
+abbrev pub form_cmp : Shape Pos → Shape Pos → Ordering
+form_cmp (point p) (point q) = position_cmp p q
+form_cmp (points ps) (points qs) = list_cmp ps qs
+form_cmp (line k) (line l) = list_cmp k l
+form_cmp (lines ks) (lines ls) = slice_cmp list_cmp ks ls
+form_cmp (polygon rs) (polygon qs) = slice_cmp list_cmp rs qs
+form_cmp (polygons ps) (polygons qs) = slice_cmp (slice_cmp list_cmp) ps qs
+form_cmp f h = nat_cmp (form_rank f) (form_rank h)
+
+-- by id and properties
+abbrev pub info_cmp : Geom → Geom → Ordering
+info_cmp a b = ordering_then (id_cmp a.id b.id) (slice_cmp nat_cmp a.props.text b.props.text)
+
+-- then by what the bodies stitch to
+unfoldable pub geometry_cmp : List (List Pos) → Geom → Geom → Ordering
+geometry_cmp arcs a b = ordering_then (info_cmp a b) (form_cmp (body_form arcs a.body) (body_form arcs b.body))
+
+-- each geometry stitches to a feature
+abbrev pub HaveFeatures : List (List Pos) → List Geom → Type 0
+HaveFeatures arcs gs = AllByRecursion (HasFeature arcs) gs
+
+-- the same of the geometries of each layer
+abbrev pub LayersHaveFeatures : List (List Pos) → List LayerParts → Type 0
+LayersHaveFeatures arcs ls = AllByRecursion (λ l. HaveFeatures arcs l.geometries) ls
