@@ -1,7 +1,7 @@
 //! The whole command, over files and sinks that are handed in.
 use crate::build_command::topology_built;
 use crate::files::Files;
-use crate::merging::merged_text;
+use crate::merge_command::merged_text;
 use crate::queries::{is_canonical, print_answer};
 use crate::refusal::Refusal;
 use crate::removing::topology_left;

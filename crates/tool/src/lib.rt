@@ -7,7 +7,7 @@ mod build_command;
 mod command;
 mod files;
 mod grid_word;
-mod merging;
+mod merge_command;
 mod queries;
 mod refusal;
 mod removing;

@@ -1,0 +1,5 @@
+pub mod Rising
+pub mod StitchedFeatures
+pub mod StitchedMaps
+pub mod PartsOfMaps
+pub mod PairsGathered

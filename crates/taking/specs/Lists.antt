@@ -1,0 +1,41 @@
+-- The lists of used arcs that layers have, of their lines and of their rings.
+use Rattle.std.specs.Prelude.{List, [], ◌∷◌}
+use Rattle.theory.specs.ArcNumbers.{ArcRef}
+use Rattle.theory.specs.Lists.{gathered, joined}
+use Rattle.topo.specs.Parts.{LayerParts}
+use Rattle.topo.specs.declared.geom.Body.{Body}
+use Rattle.topo.specs.declared.geom.Body.TheVariants.{Null, Point, MultiPoint, Line, MultiLine, Polygon, MultiPolygon}
+
+-- the list of each line of a body
+abbrev pub body_lines : Body → List (List ArcRef)
+body_lines Null = []
+body_lines (Point p) = []
+body_lines (MultiPoint ps) = []
+body_lines (Line used) = used ∷ []
+body_lines (MultiLine lists) = lists
+body_lines (Polygon lists) = []
+body_lines (MultiPolygon ps) = []
+
+-- the list of each ring of a body
+abbrev pub body_rings : Body → List (List ArcRef)
+body_rings Null = []
+body_rings (Point p) = []
+body_rings (MultiPoint ps) = []
+body_rings (Line used) = []
+body_rings (MultiLine lists) = []
+body_rings (Polygon lists) = lists
+body_rings (MultiPolygon ps) = joined ps
+
+-- those of a layer's geometries
+abbrev pub layer_lines : LayerParts → List (List ArcRef)
+layer_lines l = gathered (λ g. body_lines g.body) l.geometries
+
+abbrev pub layer_rings : LayerParts → List (List ArcRef)
+layer_rings l = gathered (λ g. body_rings g.body) l.geometries
+
+-- those of all layers
+abbrev pub layers_lines : List LayerParts → List (List ArcRef)
+layers_lines ls = gathered layer_lines ls
+
+abbrev pub layers_rings : List LayerParts → List (List ArcRef)
+layers_rings ls = gathered layer_rings ls

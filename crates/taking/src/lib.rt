@@ -1,0 +1,8 @@
+//! Topologies of texts taken as they stand: the lists and layers of a text, checked over its arcs, so that
+//! nothing is stitched or built anew.
+#![tactic(auto)]
+
+pub mod laws;
+pub mod order;
+
+pub use order::in_order;
