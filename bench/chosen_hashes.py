@@ -18,16 +18,14 @@ program is there. Where no C compiler compiles what finds the lines, it says tha
 
 How long a run takes moves with what else the machine does, but a table whose entries all meet at one place takes
 hundreds of times as long: so the second line, of a gate, has a limit that no neighbour on the machine comes near. With
-a limit of time it stops there, also while the maps are made; the commands on arcs, which come first, run to their end.
+a limit of time it stops there, also while lines are looked for; once they are found, each command on arcs is run once.
 """
 
 import argparse
 import json
-import multiprocessing
 import os
 import random
 import shutil
-import signal
 import subprocess
 import sys
 import tempfile
@@ -41,14 +39,13 @@ from measuring import GRID, HERE, TOOL, Failed, end_with, need_tool, run_once, s
 SOURCE = os.path.join(HERE, "chosen_hashes.c")
 COMPILERS = ["cc", "gcc", "clang"]
 GREATEST_RATIO = 1.5
-LEAST_COMMANDS = 6  # those on arcs, which come first
 MOST_SECONDS = 60  # of one run on 200,000 of anything, which takes half a second
-MOST_PREPARING = 1200  # seconds that the maps may take where no limit of time is given
+MOST_FINDING = 1200  # seconds that finding the lines may take where no limit of time is given
 ENDS_LIMIT = 1 << 20  # the chosen ends have y below this
 
 
 class Late(Exception):
-    """The time was over before the maps were made."""
+    """The time was over before the lines were found."""
 
 
 class Clock:
@@ -60,11 +57,11 @@ class Clock:
     def is_over(self):
         return time.monotonic() > self.end
 
-    def left_to_prepare(self):
-        return max(0, min(self.end - time.monotonic(), MOST_PREPARING))
+    def left_to_find(self):
+        return max(0, min(self.end - time.monotonic(), MOST_FINDING))
 
-    def late(self, what):
-        return Late() if self.seconds else Failed(f"{what}: not done after {MOST_PREPARING} seconds")
+    def late(self):
+        return Late() if self.seconds else Failed(f"no lines were found in {MOST_FINDING} seconds")
 
 
 def compiled_finder(folder):
@@ -79,9 +76,9 @@ def compiled_finder(folder):
 def chosen_ends(finder, lines, clock):
     """The ends of lines from (0,0) whose hashes agree."""
     try:
-        ran = subprocess.run([finder, str(lines)], stdout=subprocess.PIPE, text=True, timeout=clock.left_to_prepare())
+        ran = subprocess.run([finder, str(lines)], stdout=subprocess.PIPE, text=True, timeout=clock.left_to_find())
     except subprocess.TimeoutExpired:
-        raise clock.late("finding lines") from None
+        raise clock.late() from None
     if ran.returncode != 0:
         stop("no lines were found")
     return [tuple(map(int, line.split())) for line in ran.stdout.splitlines()]
@@ -217,50 +214,50 @@ class Command:
         return self.seconds[0] / self.seconds[1]
 
 
-def prepared(job):
-    folder, title, tool, features, given = job
-    files = Files(folder, title, tool)
-    return files.of_layers(given) if features is None else files.of_features(features(given))
+def given_names(count, seed):
+    return chosen_names(count, seed), other_names(count, seed)
 
 
-def end_on_request():
-    """Has a worker that is ended end what it runs, too."""
-    signal.signal(signal.SIGTERM, lambda *_: sys.exit(1))
-
-
-def maps(folder, finder, tool, count, seed, clock):
-    """What is measured: kinds, and for each the files of what was chosen, and those of the others."""
+def given_ends(finder, count, seed, clock):
     ends = chosen_ends(finder, count, clock)
-    names = chosen_names(count, seed), other_names(count, seed)
-    kinds = {"arcs": (lines_to, (ends, other_ends(ends, seed))), "members": (points_with_members, names), "features": (points_of_features, names), "layers": (None, names)}
-    jobs = [(folder, f"{kind}.{which}", tool, features, given) for kind, (features, both) in kinds.items() for which, given in zip(("chosen", "others"), both)]
-    with multiprocessing.Pool(min(len(jobs), len(os.sched_getaffinity(0))), end_on_request) as pool:
-        answers = pool.imap(prepared, jobs)
-        try:
-            # A worker that is killed gives no answer, so the wait has an end in any case.
-            files = [answers.next(clock.left_to_prepare()) for _ in jobs]
-        except multiprocessing.TimeoutError:
-            raise clock.late("making maps") from None
-    return [*zip(kinds, files[::2], files[1::2])]
+    return ends, other_ends(ends, seed)
+
+
+def made(folder, tool, kind, both, features=None):
+    """The files of what was chosen, and those of the others."""
+    files = [Files(folder, f"{kind}.{which}", tool) for which in ("chosen", "others")]
+    return kind, [it.of_features(features(given)) if features else it.of_layers(given) for it, given in zip(files, both)]
+
+
+def maps(folder, finder, words, clock):
+    """What is measured, one kind after the other: each is made when it is asked for."""
+    yield made(folder, words.tool, "arcs", given_ends(finder, words.lines, words.seed, clock), lines_to)
+    names = given_names(words.lines, words.seed)
+    yield made(folder, words.tool, "members", names, points_with_members)
+    yield made(folder, words.tool, "features", names, points_of_features)
+    yield made(folder, words.tool, "layers", names)
 
 
 COMMANDS = 23  # six on arcs, on members and on features, and five on layers, which `build` takes one by one
 
 
-def measure(folder, finder, words, clock):
-    """Runs each command once on both, and looks at the texts; and then more often, until the time is over."""
-    measured = []
+def measured_once(folder, finder, words, clock):
+    """Runs each command once on both, and looks at the texts; where the time is over, those on arcs alone."""
     try:
-        found = maps(folder, finder, words.tool, words.lines, words.seed, clock)
+        for kind, both in maps(folder, finder, words, clock):
+            for (title, chosen, is_right), (_, others, are_right) in zip(*(it.commands() for it in both)):
+                if kind != "arcs" and clock.is_over():
+                    return
+                command = Command(f"{title}, {kind}", words.tool, os.path.join(folder, "out"), [(chosen, is_right), (others, are_right)])
+                command.run(is_judged=True)
+                yield command
     except Late:
-        return measured
-    for kind, *both in found:
-        for (title, chosen, is_right), (_, others, are_right) in zip(*(it.commands() for it in both)):
-            if len(measured) >= LEAST_COMMANDS and clock.is_over():
-                return measured
-            pair = [(chosen, is_right), (others, are_right)]
-            measured.append(Command(f"{title}, {kind}", words.tool, os.path.join(folder, "out"), pair))
-            measured[-1].run(is_judged=True)
+        return
+
+
+def measure(folder, finder, words, clock):
+    """Runs each command once on both, and then more often, until the time is over."""
+    measured = [*measured_once(folder, finder, words, clock)]
     for number in range(1, 2 * words.runs):
         for it in measured:
             if not clock.is_over() and (number < words.runs or it.ratio() > GREATEST_RATIO):
@@ -310,7 +307,7 @@ def main():
             return 0
         measured = measure(folder, finder, words, clock)
     if not measured:
-        print(f"stopped after {words.seconds} s, when the maps were not made: 0 of {COMMANDS} commands, 0 wrong")
+        print(f"stopped after {words.seconds} s, when the lines were not found: 0 of {COMMANDS} commands, 0 wrong")
         return 0
     print_table(words.lines, measured)
     return tell(measured, words.limit, words.seconds)
