@@ -25,6 +25,7 @@ pub mod AllChains
 pub mod Slices
 pub mod Extents
 pub mod Sharing
+pub mod Recurring
 pub mod SharedVertices
 pub mod TablesAsMap
 pub mod ArcsCut

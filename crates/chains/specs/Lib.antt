@@ -4,6 +4,7 @@ pub mod Holding
 pub mod Bits
 pub mod Extents
 pub mod Shared
+pub mod Repeats
 pub mod Seen
 pub mod Index
 pub mod Starts

@@ -1,6 +1,6 @@
 //! Words in which positions set bits, so that most look-ups of a position end at once: most positions
 //! that are not among those dealt find a bit of theirs not set.
-ghost use Rattle.std.specs.Prelude.{◌≡◌, IfOk, true};
+ghost use Rattle.std.specs.Prelude.{◌≡◌, IfOk, max, replicate, true};
 ghost use Rattle.chains.specs.Bits as spec;
 ghost use Rattle.chains.specs.Bits.{AreSet, mask_at, may_hold};
 ghost use Rattle.chains.specs.Holding.{AreMarked, Holds, IsMarked};
@@ -69,8 +69,18 @@ fn set_mask(words: &mut Vec<u64>, at: usize, mask: u64)
 }
 
 impl PositionBits {
+    /// So many words, or one where that is none, in which no bits are set.
+    pub(crate) fn clear(alloc: Global, count: usize) -> Result<PositionBits, AllocError>
+        ensures count { IfOk result (λ s. s.count ≡ max count 1) }
+        ensures words { IfOk result (λ s. s.words.items ≡ replicate s.count 0) }
+    {
+        let count = count.max(1);
+        let words = vec![in alloc; 0; count]?;
+        Ok(PositionBits { count, words })
+    }
+
     /// Sets the bits of a position.
-    fn mark(&mut self, p: Pos)
+    pub(crate) fn mark(&mut self, p: Pos)
         ensures { IsMarked p (may_hold self.old) (may_hold self.new) }
     {
         set_mask(&mut self.words, place_among(self.count, p), mask_of(p));
@@ -89,9 +99,7 @@ impl PositionBits {
     pub(crate) fn of(alloc: Global, positions: &[Pos]) -> Result<PositionBits, AllocError>
         ensures { IfOk result (λ s. Holds (may_hold s) positions.now) }
     {
-        let count = (positions.len() / POSITIONS_EACH).saturating_add(1);
-        let words = vec![in alloc; 0; count]?;
-        let mut bits = PositionBits { count, words };
+        let mut bits = PositionBits::clear(alloc, positions.len() / POSITIONS_EACH)?;
         bits.mark_all(positions);
         Ok(bits)
     }

@@ -9,6 +9,7 @@ pub mod joining;
 mod merging;
 mod numbering;
 mod ordered;
+mod repeats;
 pub mod segment;
 mod shared;
 pub mod sides;

@@ -19,6 +19,7 @@ ghost use Rattle.shapes.specs.Sets as set;
 
 use crate::bits::{PositionBits, place_among};
 use crate::extent::Extent;
+use crate::repeats::repeated;
 use crate::shared::{VertexBits, inside};
 use crate::table::ArcTable;
 use faults::OutOfMemory;
@@ -370,10 +371,10 @@ impl VisitIndex {
         ensures { IfOk result (λ i. (g : Geometry Pos) (all : List Visiting) → KeepsClashes seen.visits.items all → AreVisitsOf seen.ends.items all g → IsIndexOf i g) }
     {
         let Seen { ends, visits, .. } = seen;
-        let mut sorted_visits = visits;
-        sorted_visits.sort_unstable_by_key(|v| v.vertex);
+        let mut repeats = repeated(alloc, &visits)?;
+        repeats.sort_unstable_by_key(|v| v.vertex);
         let mut junctions = ends;
-        keep_clashes(&mut junctions, &sorted_visits)?;
+        keep_clashes(&mut junctions, &repeats)?;
         junctions.sort_unstable();
         let bits = PositionBits::of(alloc, &junctions)?;
         Ok(VisitIndex { junctions, bits })

@@ -1,0 +1,19 @@
+-- The vertices that come again among visits.
+use Rattle.std.specs.Prelude.{◌≡◌, Bool, true, List}
+use Rattle.theory.specs.Lists.{Has}
+use Rattle.grid.specs.declared.pos.Pos.{Pos}
+use Rattle.chains.specs.Bits.{may_hold}
+use Rattle.chains.specs.Holding.{Keeps}
+use Rattle.chains.specs.declared.repeats.Repeats.{Repeats}
+use Rattle.chains.specs.declared.visits.Visit.{Visit}
+
+-- one more vertex is noted: it is met, and it came again where it was met; what was noted stays so
+pub record IsNoted (p : Pos) (old new : Repeats) : Type 0 where
+  pub met : Keeps (may_hold old.met) (may_hold new.met)
+  pub again : Keeps (may_hold old.again) (may_hold new.again)
+  pub here : may_hold new.met p ≡ true
+  pub twice : may_hold old.met p ≡ true → may_hold new.again p ≡ true
+
+-- it holds of each vertex where visits clash
+abbrev pub HoldsClashing : (Pos → Bool) → List Visit → Type 0
+HoldsClashing may visits = (v w : Visit) → Has v visits → Has w visits → v.vertex ≡ w.vertex → ¬ (v ≡ w) → may v.vertex ≡ true
