@@ -8,7 +8,8 @@ use Rattle.std.specs.declared.cmp.Ordering.TheVariants.{Less, Equal, Greater}
 use Rattle.theory.specs.ArcNumbers.{ArcRef, backwards}
 use Rattle.theory.specs.Refinement.{pieces_at, pieces_of_used}
 use Rattle.theory.specs.Removing.{AreStarts, Starts}
-use Rattle.rejoining.specs.Starts.{no_starts, same_way, starts_by, with_arcs, with_head, with_start}
+use Rattle.rejoining.specs.ByUse.{same_way}
+use Rattle.rejoining.specs.Starts.{no_starts, starts_by, with_arcs, with_head, with_start}
 
 tied : (a b : ℕ) → is_eq (nat_cmp a b) ≡ true → a ≡ b
 tied a b = go (nat_cmp a b) refl

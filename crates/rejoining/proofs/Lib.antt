@@ -1,3 +1,4 @@
+pub mod ByUses
 pub mod Choices
 pub mod WalkedRuns
 pub mod Meetings

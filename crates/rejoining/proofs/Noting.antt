@@ -1,39 +1,24 @@
 -- The steps by which the starts of new arcs are noted.
-use Rattle.std.proofs.Common.{◌≡◌, ℕ, ◌+◌, Bool, true, false, cond, not, List, [], ◌∷◌, ◌++◌, length, refl, sym, ap, ◌∙◌, Option, Some}
+use Rattle.std.proofs.Common.{◌≡◌, ℕ, ◌+◌, Bool, true, false, cond, List, [], ◌∷◌, ◌++◌, length, refl, sym, ap, ◌∙◌, Option, Some}
 use Rattle.std.proofs.lemmas.List.{length-map, length-reverse}
 use Rattle.std.specs.Option.{option_map}
 use Rattle.std.specs.Ordering.{is_eq, nat_cmp}
 use Rattle.theory.specs.ArcNumbers.{ArcRef, backwards, flipped}
 use Rattle.theory.specs.Removing.{Starts}
+use Rattle.rejoining.specs.ByUse.{same_way, with_noted}
 use Rattle.rejoining.specs.declared.start_table.Start.{Start}
 use Rattle.rejoining.specs.Starts.{noted_start, with_arcs, with_head, with_start}
 use Rattle.chains.proofs.Backwards.{back_step}
 
-abbrev seen_in : (ℕ → Option Start) → (ℕ → Option Start) → Starts
-seen_in ahead against q = option_map noted_start (cond q.reversed (against q.arc) (ahead q.arc))
-
 -- one start more
-pub note_step : (ahead against new : ℕ → Option Start) (arc : ℕ) (start : Start) → ((k : ℕ) → new k ≡ cond (is_eq (nat_cmp arc k)) (Some start) (against k)) → (q : ArcRef) →
-    seen_in ahead new q ≡ with_start (record { arc = arc; reversed = true }) (noted_start start) (seen_in ahead against) q
-note_step ahead against new arc start e q = go q.reversed (is_eq (nat_cmp arc q.arc)) (e q.arc)
+pub note_step : (old new : ArcRef → Option Start) (used : ArcRef) (start : Start) → ((q : ArcRef) → new q ≡ with_noted used start old q) → (q : ArcRef) →
+    option_map noted_start (new q) ≡ with_start used (noted_start start) (λ x. option_map noted_start (old x)) q
+note_step old new used start e q = ap (option_map noted_start) (e q) ∙ go (same_way used.reversed q.reversed) (is_eq (nat_cmp used.arc q.arc)) (old q)
   where
-    go : (r b : Bool) → new q.arc ≡ cond b (Some start) (against q.arc) →
-        option_map noted_start (cond r (new q.arc) (ahead q.arc))
-        ≡ cond r (cond b (Some (noted_start start)) (option_map noted_start (cond r (against q.arc) (ahead q.arc)))) (option_map noted_start (cond r (against q.arc) (ahead q.arc)))
-    go true true f = ap (option_map noted_start) f
-    go true false f = ap (option_map noted_start) f
-    go false b f = refl
-
-pub note_ahead_step : (ahead against new : ℕ → Option Start) (arc : ℕ) (start : Start) → ((k : ℕ) → new k ≡ cond (is_eq (nat_cmp arc k)) (Some start) (ahead k)) → (q : ArcRef) →
-    seen_in new against q ≡ with_start (record { arc = arc; reversed = false }) (noted_start start) (seen_in ahead against) q
-note_ahead_step ahead against new arc start e q = go q.reversed (is_eq (nat_cmp arc q.arc)) (e q.arc)
-  where
-    go : (r b : Bool) → new q.arc ≡ cond b (Some start) (ahead q.arc) →
-        option_map noted_start (cond r (against q.arc) (new q.arc))
-        ≡ cond (not r) (cond b (Some (noted_start start)) (option_map noted_start (cond r (against q.arc) (ahead q.arc)))) (option_map noted_start (cond r (against q.arc) (ahead q.arc)))
-    go true b f = refl
-    go false true f = ap (option_map noted_start) f
-    go false false f = ap (option_map noted_start) f
+    go : (b c : Bool) (o : Option Start) → option_map noted_start (cond b (cond c (Some start) o) o) ≡ cond b (cond c (Some (noted_start start)) (option_map noted_start o)) (option_map noted_start o)
+    go true true o = refl
+    go true false o = refl
+    go false c o = refl
 
 -- the first of the pieces, and the first of them read backwards
 pub head_step : (b first : ArcRef) (pieces rest : List ArcRef) (n : ℕ) (s : Starts) (q : ArcRef) → pieces ≡ first ∷ rest → n ≡ length rest →

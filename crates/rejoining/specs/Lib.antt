@@ -1,5 +1,6 @@
 pub mod Parts
 pub mod Choosing
+pub mod ByUse
 pub mod Meeting
 pub mod Walks
 pub mod Rejoining

@@ -1,10 +1,9 @@
 -- Which new arc begins with which old one.
-use Rattle.std.specs.Prelude.{◌≡◌, ℕ, ◌+◌, Bool, true, false, cond, not, List, [], ◌∷◌, length, Some, None}
-use Rattle.std.specs.Ordering.{is_eq, nat_cmp}
+use Rattle.std.specs.Prelude.{◌≡◌, ℕ, ◌+◌, true, false, cond, List, [], ◌∷◌, length, None}
 use Rattle.std.specs.Option.{option_map}
-use Rattle.std.specs.BTreeMap.{get}
 use Rattle.theory.specs.ArcNumbers.{ArcRef, backwards}
 use Rattle.theory.specs.Removing.{Starts, is_start}
+use Rattle.rejoining.specs.ByUse.{noted_of, with_noted}
 use Rattle.rejoining.specs.declared.start_table.Start.{Start}
 use Rattle.rejoining.specs.declared.start_table.StartTable.{StartTable}
 
@@ -14,16 +13,11 @@ noted_start s = (record { arc = s.arc; reversed = s.reversed }, s.others)
 
 -- what is noted of a used old arc
 abbrev pub starts_in : StartTable → Starts
-starts_in t q = option_map noted_start (cond q.reversed (get nat_cmp t.against q.arc) (get nat_cmp t.ahead q.arc))
-
--- whether both are used in one direction
-abbrev pub same_way : Bool → Bool → Bool
-same_way true b = b
-same_way false b = not b
+starts_in t q = option_map noted_start (noted_of t.starts q)
 
 -- the same, and this noted of a
 abbrev pub with_start : ArcRef → ArcRef × ℕ → Starts → Starts
-with_start a v s q = cond (same_way a.reversed q.reversed) (cond (is_eq (nat_cmp a.arc q.arc)) (Some v) (s q)) (s q)
+with_start = with_noted
 
 -- the same, and b noted at the first of its pieces
 abbrev pub with_head : ArcRef → List ArcRef → Starts → Starts

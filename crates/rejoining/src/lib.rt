@@ -1,6 +1,7 @@
 //! The arcs that are left of a table when some are taken out, joined again.
 #![tactic(auto)]
 
+mod by_use;
 mod choosing;
 mod joined;
 pub mod laws;

@@ -39,14 +39,16 @@ impl Model for Rejoined {
 }
 
 impl Rejoined {
+    /// What is left, with its lists of pieces, of a table of so many arcs.
     pub(crate) fn from_parts(
         alloc: Global,
         arcs: ArcTable,
         pieces: Vec<Items<ArcRef>>,
+        count: usize,
     ) -> Result<Rejoined, AllocError>
         ensures { IfOk result (λ r. r ≡ record { arcs = arcs; pieces = pieces.items }) }
     {
-        let starts = StartTable::of(alloc, &pieces)?;
+        let starts = StartTable::of(alloc, &pieces, count)?;
         Ok(Rejoined {
             arcs,
             pieces,

@@ -36,5 +36,5 @@ pub fn rejoin(
     let Joined { pieces, lists } = joined_of(alloc, old, &meeting, &runs)?;
     let (arcs, refs) = ArcTable::numbered(alloc, pieces)?;
     let lists = by_numbers(alloc, &refs, lists, arcs.len())?;
-    Ok(Rejoined::from_parts(alloc, arcs, lists)?)
+    Ok(Rejoined::from_parts(alloc, arcs, lists, old.len())?)
 }

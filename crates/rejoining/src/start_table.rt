@@ -5,10 +5,11 @@ ghost use Rattle.theory.specs.ArcNumbers as numbers;
 ghost use Rattle.theory.specs.ArcNumbers.{backwards};
 ghost use Rattle.rejoining.specs.Starts.{AreNotedIn, noted_start, starts_in, with_head, with_start};
 
+use crate::by_use::ByUse;
+use crate::walking::turned_back;
 use chains::table::ArcRef;
 use lines::items::Items;
 use std::alloc::{AllocError, Global};
-use std::collections::BTreeMap;
 
 /// A used new arc, and how many old ones it takes behind its first.
 #[derive(Clone, Copy, PartialEq, Eq, Debug)]
@@ -18,24 +19,17 @@ pub(crate) struct Start {
     pub(crate) others: usize,
 }
 
-/// The used new arcs by the used old ones that they begin with: by the numbers of those that are used
-/// ahead, and of those that are used reversed.
+/// The used new arcs by the used old ones that they begin with.
 #[derive(Drop)]
 pub(crate) struct StartTable {
-    ahead: BTreeMap<usize, Start>,
-    against: BTreeMap<usize, Start>,
+    starts: ByUse<Start>,
 }
 
 impl StartTable {
-    fn note(&mut self, arc: usize, reversed: bool, start: Start) -> Result<(), AllocError>
-        ensures { OnOk result ((q : numbers.ArcRef) → starts_in self.new q ≡ with_start (record { arc = arc; reversed = reversed }) (noted_start start) (starts_in self.old) q) }
+    fn note(&mut self, used: ArcRef, start: Start) -> Result<(), AllocError>
+        ensures { OnOk result ((q : numbers.ArcRef) → starts_in self.new q ≡ with_start used (noted_start start) (starts_in self.old) q) }
     {
-        if reversed {
-            self.against.insert(arc, start)?;
-            return Ok(());
-        }
-        self.ahead.insert(arc, start)?;
-        Ok(())
+        self.starts.set(used, start)
     }
 
     /// Notes a new arc at the old one that it begins with.
@@ -50,7 +44,7 @@ impl StartTable {
             reversed: false,
             others: rest.len(),
         };
-        self.note(first.arc, first.reversed, start)
+        self.note(*first, start)
     }
 
     /// Notes a reversed new arc at the old one that it begins with.
@@ -65,16 +59,19 @@ impl StartTable {
             reversed: true,
             others: rest.len(),
         };
-        self.note(last.arc, !last.reversed, start)
+        self.note(turned_back(*last), start)
     }
 
-    /// The table of all new arcs, each with its pieces.
-    pub(crate) fn of(alloc: Global, pieces: &[Items<ArcRef>]) -> Result<StartTable, AllocError>
+    /// The table of all new arcs, each with its pieces, with room for so many old arcs.
+    pub(crate) fn of(
+        alloc: Global,
+        pieces: &[Items<ArcRef>],
+        count: usize,
+    ) -> Result<StartTable, AllocError>
         ensures { IfOk result (λ t. AreNotedIn t pieces.now) }
     {
         let mut table = StartTable {
-            ahead: BTreeMap::new(alloc),
-            against: BTreeMap::new(alloc),
+            starts: ByUse::with_capacity(alloc, count)?,
         };
         for (i, list) in pieces.iter().enumerate() {
             table.note_ahead(i, list.as_slice())?;
@@ -87,10 +84,6 @@ impl StartTable {
     pub(crate) fn get(&self, used: &ArcRef) -> Option<Start>
         ensures { option_map noted_start result ≡ starts_in self.now used.now }
     {
-        if used.reversed {
-            self.against.get(&used.arc).copied()
-        } else {
-            self.ahead.get(&used.arc).copied()
-        }
+        self.starts.get(*used)
     }
 }

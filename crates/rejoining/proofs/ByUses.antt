@@ -1,0 +1,74 @@
+-- The steps by which something is noted of a used arc.
+use Rattle.std.proofs.Common.{◌≡◌, ◌≤◌, ◌<◌, ◌+◌, ℕ, zero, suc, Bool, true, false, cond, not, List, [], ◌∷◌, ◌++◌, length, replicate, slice_get, slice_set, take, refl, sym, ap, ◌∙◌, subst, arith, Option, Some, None}
+use Rattle.std.specs.Cmp.{nat_cmp_total, tied_itself}
+use Rattle.std.specs.FinMap.{nat_cmp-IsAntisymmetric}
+use Rattle.std.specs.Ordering.{is_eq, nat_cmp}
+use Rattle.theory.specs.ArcNumbers.{ArcRef}
+use Rattle.rejoining.specs.ByUse.{noted_at, same_way, with_noted}
+
+module _ {T : Type 0} where
+  -- nothing is noted at the places that are added
+  pub noted_more : (l : List (Option T)) (n k : ℕ) → noted_at (l ++ replicate n None) k ≡ noted_at l k
+  noted_more [] zero k = refl
+  noted_more [] (suc n) zero = refl
+  noted_more [] (suc n) (suc k) = noted_more [] n k
+  noted_more (o ∷ l) n zero = refl
+  noted_more (o ∷ l) n (suc k) = noted_more l n k
+
+  same_number : (k : ℕ) → is_eq (nat_cmp k k) ≡ true
+  same_number k = ap is_eq (tied_itself nat_cmp_total k)
+
+  -- a value is noted at a place, and the others stay
+  pub noted_set : (l : List (Option T)) (place : ℕ) (o : Option T) (k : ℕ) → place < length l →
+      noted_at (slice_set l place o) k ≡ cond (is_eq (nat_cmp place k)) o (noted_at l k)
+  noted_set [] place o k h = absurd (omega (arith, h))
+  noted_set (x ∷ l) zero o zero h = refl
+  noted_set (x ∷ l) zero o (suc k) h = refl
+  noted_set (x ∷ l) (suc place) o zero h = refl
+  noted_set (x ∷ l) (suc place) o (suc k) h = noted_set l place o k (omega (arith, h))
+
+  -- nothing is noted at a place that is not there
+  pub noted_missing : (l : List (Option T)) (k : ℕ) → slice_get l k ≡ None → noted_at l k ≡ None
+  noted_missing [] k e = refl
+  noted_missing (o ∷ l) zero e = absurd cc
+  noted_missing (o ∷ l) (suc k) e = noted_missing l k e
+
+  pub noted_there : (l : List (Option T)) (k : ℕ) (o : Option T) → slice_get l k ≡ Some o → noted_at l k ≡ o
+  noted_there [] k o e = absurd cc
+  noted_there (x ∷ l) zero o e = cc
+  noted_there (x ∷ l) (suc k) o e = noted_there l k o e
+
+  take_whole : (l : List (Option T)) (n : ℕ) → length l ≤ n → take n l ≡ l
+  take_whole [] zero h = refl
+  take_whole [] (suc n) h = refl
+  take_whole (o ∷ l) zero h = absurd (omega (arith, h))
+  take_whole (o ∷ l) (suc n) h = ap (λ w. o ∷ w) (take_whole l n (omega (arith, h)))
+
+  -- places are added up to one
+  pub noted_reached : (l new : List (Option T)) (n more k : ℕ) → length l ≤ n → new ≡ take n l ++ replicate more None → noted_at new k ≡ noted_at l k
+  noted_reached l new n more k h e = ap (λ w. noted_at w k) (e ∙ ap (λ w. w ++ replicate more None) (take_whole l n h)) ∙ noted_more l more k
+
+  -- one more is noted, of a reversed use and of one ahead
+  pub set_against : (ahead against new : List (Option T)) (used : ArcRef) (v : T) → used.reversed ≡ true →
+      ((k : ℕ) → noted_at new k ≡ cond (is_eq (nat_cmp used.arc k)) (Some v) (noted_at against k)) → (q : ArcRef) →
+      cond q.reversed (noted_at new q.arc) (noted_at ahead q.arc) ≡ with_noted used v (λ r. cond r.reversed (noted_at against r.arc) (noted_at ahead r.arc)) q
+  set_against ahead against new used v w e q = go used.reversed q.reversed (is_eq (nat_cmp used.arc q.arc)) w (e q.arc)
+    where
+      go : (u r c : Bool) → u ≡ true → noted_at new q.arc ≡ cond c (Some v) (noted_at against q.arc) →
+          cond r (noted_at new q.arc) (noted_at ahead q.arc)
+          ≡ cond (same_way u r) (cond c (Some v) (cond r (noted_at against q.arc) (noted_at ahead q.arc))) (cond r (noted_at against q.arc) (noted_at ahead q.arc))
+      go true true c i f = f
+      go true false c i f = refl
+      go false r c i f = absurd cc
+
+  pub set_ahead : (ahead against new : List (Option T)) (used : ArcRef) (v : T) → used.reversed ≡ false →
+      ((k : ℕ) → noted_at new k ≡ cond (is_eq (nat_cmp used.arc k)) (Some v) (noted_at ahead k)) → (q : ArcRef) →
+      cond q.reversed (noted_at against q.arc) (noted_at new q.arc) ≡ with_noted used v (λ r. cond r.reversed (noted_at against r.arc) (noted_at ahead r.arc)) q
+  set_ahead ahead against new used v w e q = go used.reversed q.reversed (is_eq (nat_cmp used.arc q.arc)) w (e q.arc)
+    where
+      go : (u r c : Bool) → u ≡ false → noted_at new q.arc ≡ cond c (Some v) (noted_at ahead q.arc) →
+          cond r (noted_at against q.arc) (noted_at new q.arc)
+          ≡ cond (same_way u r) (cond c (Some v) (cond r (noted_at against q.arc) (noted_at ahead q.arc))) (cond r (noted_at against q.arc) (noted_at ahead q.arc))
+      go false false c i f = f
+      go false true c i f = refl
+      go true r c i f = absurd cc
