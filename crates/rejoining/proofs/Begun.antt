@@ -1,32 +1,13 @@
 -- What the table of starts notes: each used new arc at the used old one that it begins with, and nothing else.
 use Rattle.std.proofs.Common.{◌≡◌, ℕ, zero, suc, ◌+◌, Bool, true, false, cond, List, [], ◌∷◌, length, ◌⊎◌, inl, inr, refl, sym, ap, ◌∙◌, subst, arith, Some}
-use Rattle.std.specs.FinMap.{nat_cmp-IsAntisymmetric}
 use Rattle.std.specs.Cmp.{nat_cmp_total, tied_itself}
 use Rattle.std.specs.Ordering.{is_eq, nat_cmp}
-use Rattle.std.specs.declared.cmp.Ordering.{Ordering}
-use Rattle.std.specs.declared.cmp.Ordering.TheVariants.{Less, Equal, Greater}
 use Rattle.theory.specs.ArcNumbers.{ArcRef, backwards}
 use Rattle.theory.specs.Refinement.{pieces_at, pieces_of_used}
 use Rattle.theory.specs.Removing.{AreStarts, Starts}
 use Rattle.rejoining.specs.ByUse.{same_way}
+use Rattle.rejoining.proofs.ByUses.{same_use}
 use Rattle.rejoining.specs.Starts.{no_starts, starts_by, with_arcs, with_head, with_start}
-
-tied : (a b : ℕ) → is_eq (nat_cmp a b) ≡ true → a ≡ b
-tied a b = go (nat_cmp a b) refl
-  where
-    go : (r : Ordering) → nat_cmp a b ≡ r → is_eq r ≡ true → a ≡ b
-    go Less e h = absurd cc
-    go Equal e h = nat_cmp-IsAntisymmetric a b e
-    go Greater e h = absurd cc
-
-same_ref : (a q : ArcRef) → same_way a.reversed q.reversed ≡ true → is_eq (nat_cmp a.arc q.arc) ≡ true → a ≡ q
-same_ref a q e f = λ i. record { arc = tied a.arc q.arc f i; reversed = way a.reversed q.reversed e i }
-  where
-    way : (s t : Bool) → same_way s t ≡ true → s ≡ t
-    way true true e = refl
-    way true false e = absurd cc
-    way false true e = absurd cc
-    way false false e = refl
 
 -- what is noted of q was noted there before, or is what was put there
 start_from : (a : ArcRef) (v : ArcRef × ℕ) (s : Starts) (q : ArcRef) (w : ArcRef × ℕ) → with_start a v s q ≡ Some w → (s q ≡ Some w) ⊎ ((a ≡ q) × (v ≡ w))
@@ -34,7 +15,7 @@ start_from a v s q w e = go (same_way a.reversed q.reversed) refl (is_eq (nat_cm
   where
     go : (b : Bool) → same_way a.reversed q.reversed ≡ b → (c : Bool) → is_eq (nat_cmp a.arc q.arc) ≡ c → cond b (cond c (Some v) (s q)) (s q) ≡ Some w →
         (s q ≡ Some w) ⊎ ((a ≡ q) × (v ≡ w))
-    go true f true g k = inr (same_ref a q f g, let m : v ≡ w = cc in m)
+    go true f true g k = inr (same_use a q f g, let m : v ≡ w = cc in m)
     go true f false g k = inl k
     go false f c g k = inl k
 

@@ -3,8 +3,27 @@ use Rattle.std.proofs.Common.{◌≡◌, ◌≤◌, ◌<◌, ◌+◌, ℕ, zero,
 use Rattle.std.specs.Cmp.{nat_cmp_total, tied_itself}
 use Rattle.std.specs.FinMap.{nat_cmp-IsAntisymmetric}
 use Rattle.std.specs.Ordering.{is_eq, nat_cmp}
+use Rattle.std.specs.declared.cmp.Ordering.{Ordering}
+use Rattle.std.specs.declared.cmp.Ordering.TheVariants.{Less, Equal, Greater}
 use Rattle.theory.specs.ArcNumbers.{ArcRef}
 use Rattle.rejoining.specs.ByUse.{noted_at, same_way, with_noted}
+
+tied : (a b : ℕ) → is_eq (nat_cmp a b) ≡ true → a ≡ b
+tied a b = go (nat_cmp a b) refl
+  where
+    go : (r : Ordering) → nat_cmp a b ≡ r → is_eq r ≡ true → a ≡ b
+    go Less e h = absurd cc
+    go Equal e h = nat_cmp-IsAntisymmetric a b e
+    go Greater e h = absurd cc
+
+pub same_use : (a q : ArcRef) → same_way a.reversed q.reversed ≡ true → is_eq (nat_cmp a.arc q.arc) ≡ true → a ≡ q
+same_use a q e f = λ i. record { arc = tied a.arc q.arc f i; reversed = way a.reversed q.reversed e i }
+  where
+    way : (s t : Bool) → same_way s t ≡ true → s ≡ t
+    way true true e = refl
+    way true false e = absurd cc
+    way false true e = absurd cc
+    way false false e = refl
 
 module _ {T : Type 0} where
   -- nothing is noted at the places that are added
@@ -72,3 +91,19 @@ module _ {T : Type 0} where
       go false false c i f = f
       go false true c i f = refl
       go true r c i f = absurd cc
+
+  -- what is noted of a, and of others
+  pub noted_here : (a : ArcRef) (v : T) (s : ArcRef → Option T) → with_noted a v s a ≡ Some v
+  noted_here a v s = rw (way a.reversed, same_number a.arc) refl
+    where
+      way : (b : Bool) → same_way b b ≡ true
+      way true = refl
+      way false = refl
+
+  pub noted_other : (a : ArcRef) (v : T) (s : ArcRef → Option T) (q : ArcRef) → ¬ (a ≡ q) → with_noted a v s q ≡ s q
+  noted_other a v s q n = go (same_way a.reversed q.reversed) refl (is_eq (nat_cmp a.arc q.arc)) refl
+    where
+      go : (b : Bool) → same_way a.reversed q.reversed ≡ b → (c : Bool) → is_eq (nat_cmp a.arc q.arc) ≡ c → cond b (cond c (Some v) (s q)) (s q) ≡ s q
+      go true f true g = absurd (n (same_use a q f g))
+      go true f false g = refl
+      go false f c g = refl
