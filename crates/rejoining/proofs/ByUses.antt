@@ -6,6 +6,7 @@ use Rattle.std.specs.Ordering.{is_eq, nat_cmp}
 use Rattle.std.specs.declared.cmp.Ordering.{Ordering}
 use Rattle.std.specs.declared.cmp.Ordering.TheVariants.{Less, Equal, Greater}
 use Rattle.theory.specs.ArcNumbers.{ArcRef}
+use Rattle.lines.proofs.Positions.{true_false}
 use Rattle.rejoining.specs.ByUse.{noted_at, same_way, with_noted}
 
 tied : (a b : ℕ) → is_eq (nat_cmp a b) ≡ true → a ≡ b
@@ -37,14 +38,26 @@ module _ {T : Type 0} where
   same_number : (k : ℕ) → is_eq (nat_cmp k k) ≡ true
   same_number k = ap is_eq (tied_itself nat_cmp_total k)
 
+  set_same : (l : List (Option T)) (place : ℕ) (o : Option T) → place < length l → noted_at (slice_set l place o) place ≡ o
+  set_same [] place o h = absurd (omega (arith, h))
+  set_same (x ∷ l) zero o h = refl
+  set_same (x ∷ l) (suc place) o h = set_same l place o (omega (arith, h))
+
+  set_else : (l : List (Option T)) (place : ℕ) (o : Option T) (k : ℕ) → ¬ (place ≡ k) → noted_at (slice_set l place o) k ≡ noted_at l k
+  set_else [] place o k n = refl
+  set_else (x ∷ l) zero o zero n = absurd (n refl)
+  set_else (x ∷ l) zero o (suc k) n = refl
+  set_else (x ∷ l) (suc place) o zero n = refl
+  set_else (x ∷ l) (suc place) o (suc k) n = set_else l place o k (λ e. n (ap suc e))
+
   -- a value is noted at a place, and the others stay
   pub noted_set : (l : List (Option T)) (place : ℕ) (o : Option T) (k : ℕ) → place < length l →
       noted_at (slice_set l place o) k ≡ cond (is_eq (nat_cmp place k)) o (noted_at l k)
-  noted_set [] place o k h = absurd (omega (arith, h))
-  noted_set (x ∷ l) zero o zero h = refl
-  noted_set (x ∷ l) zero o (suc k) h = refl
-  noted_set (x ∷ l) (suc place) o zero h = refl
-  noted_set (x ∷ l) (suc place) o (suc k) h = noted_set l place o k (omega (arith, h))
+  noted_set l place o k h = go (is_eq (nat_cmp place k)) refl
+    where
+      go : (b : Bool) → is_eq (nat_cmp place k) ≡ b → noted_at (slice_set l place o) k ≡ cond b o (noted_at l k)
+      go true e = subst (λ n. noted_at (slice_set l place o) n ≡ o) (tied place k e) (set_same l place o h)
+      go false e = set_else l place o k (λ f. true_false (is_eq (nat_cmp k k)) (same_number k) (subst (λ n. is_eq (nat_cmp n k) ≡ false) f e))
 
   -- nothing is noted at a place that is not there
   pub noted_missing : (l : List (Option T)) (k : ℕ) → slice_get l k ≡ None → noted_at l k ≡ None

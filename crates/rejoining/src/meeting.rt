@@ -1,5 +1,5 @@
 //! The ends of arcs that meet at a vertex, and which arc goes on from another.
-ghost use Rattle.std.specs.Prelude.{◌≡◌, ◌++◌, ℕ, IfOk, OnOk, List, reverse, slice_get};
+ghost use Rattle.std.specs.Prelude.{◌≡◌, ◌≤◌, ◌++◌, IfOk, OnOk, length, reverse, slice_get};
 ghost use Rattle.grid.specs.declared.pos.Pos.{Pos};
 ghost use Rattle.lines.specs.Pairs.{position_eq};
 ghost use Rattle.theory.specs.ArcNumbers as numbers;
@@ -106,7 +106,8 @@ fn ends_of(alloc: Global, arcs: &ArcTable, chosen: &[usize]) -> Result<Vec<End>,
 
 /// How many of the first ends are at a vertex.
 fn count_of(ends: &[End], vertex: Pos) -> usize
-    ensures { result ≡ count_at vertex ends.now }
+    ensures count { result ≡ count_at vertex ends.now }
+    ensures within { result ≤ length ends.now }
 {
     for (i, end) in ends.iter().enumerate() {
         if !end.is_at(vertex) {
