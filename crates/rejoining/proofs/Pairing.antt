@@ -1,5 +1,5 @@
 -- Sorted ends, vertex by vertex: which used arcs are noted as partners.
-use Rattle.std.proofs.Common.{◌≡◌, ◌↔◌, ℕ, ◌+◌, Bool, true, false, cond, List, [], ◌∷◌, ◌++◌, take, drop, ◌⊎◌, inl, inr, refl, sym, ap, ◌∙◌, subst, Option, Some, None}
+use Rattle.std.proofs.Common.{◌≡◌, ◌↔◌, ℕ, zero, suc, Bool, true, false, cond, List, [], ◌∷◌, ◌++◌, take, drop, ◌⊎◌, inl, inr, refl, sym, ap, ◌∙◌, subst, Option, Some, None}
 use Rattle.std.proofs.lemmas.List.{append_assoc, append-nil, take-append-drop}
 use Rattle.std.proofs.lemmas.List.Sorted.{IsPermutation-sym}
 use Rattle.std.specs.List.Sorted.{IsPermutation, IsSorted}
@@ -56,7 +56,7 @@ here_at : (v : Pos) (l : List End) (x : End) → Has x (take (count_at v l) l) �
 here_at v [] x h = absurd h
 here_at v (e ∷ l) x h = go (position_eq e.vertex v) refl h
   where
-    go : (b : Bool) → position_eq e.vertex v ≡ b → Has x (take (cond b (1 + count_at v l) 0) (e ∷ l)) → x.vertex ≡ v
+    go : (b : Bool) → position_eq e.vertex v ≡ b → Has x (take (cond b (suc (count_at v l)) zero) (e ∷ l)) → x.vertex ≡ v
     go true f (inl i) = ap (λ w. w.vertex) i ∙ position_true e.vertex v f
     go true f (inr i) = here_at v l x i
     go false f i = absurd i
@@ -73,7 +73,7 @@ behind_at v (e ∷ l) up g x h = go (position_eq e.vertex v) refl h
             (subst (λ w. is_gt (position_cmp e.vertex w) ≡ false) k (g.0 x i).0) (up e (inl refl))) in
         true_false (position_eq e.vertex v) (subst (λ w. position_eq w v ≡ true) (sym same) (position_refl v)) f
 
-    go : (b : Bool) → position_eq e.vertex v ≡ b → Has x (drop (cond b (1 + count_at v l) 0) (e ∷ l)) → ¬ (x.vertex ≡ v)
+    go : (b : Bool) → position_eq e.vertex v ≡ b → Has x (drop (cond b (suc (count_at v l)) zero) (e ∷ l)) → ¬ (x.vertex ≡ v)
     go true f i = behind_at v l (λ y k. up y (inr k)) g.1 x i
     go false f i = not_here f i
 

@@ -1,5 +1,5 @@
 -- The ends of arcs that meet at a vertex, and which arc goes on from another.
-use Rattle.std.specs.Prelude.{◌≡◌, ℕ, ◌+◌, true, false, cond, List, [], ◌∷◌, ◌++◌, ◌⊎◌, Option, Some, None, slice_get}
+use Rattle.std.specs.Prelude.{◌≡◌, ℕ, zero, suc, true, false, cond, List, [], ◌∷◌, ◌++◌, ◌⊎◌, Option, Some, None, slice_get}
 use Rattle.std.specs.Ordering.{is_gt}
 use Rattle.theory.specs.ArcNumbers.{ArcRef, along}
 use Rattle.theory.specs.Lists.{Has}
@@ -44,8 +44,8 @@ all_ends arcs (k ∷ ks) = end_if (begin_at arcs (ahead k)) (ahead k) ++ (end_if
 
 -- how many of the first ends are at v
 abbrev pub count_at : Pos → List End → ℕ
-count_at v [] = 0
-count_at v (e ∷ l) = cond (position_eq e.vertex v) (1 + count_at v l) 0
+count_at v [] = zero
+count_at v (e ∷ l) = cond (position_eq e.vertex v) (suc (count_at v l)) zero
 
 -- no end comes before one of a lesser vertex, and no used arc has two
 abbrev pub AreGrouped : List End → Type 0
