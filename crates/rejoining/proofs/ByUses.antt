@@ -26,6 +26,9 @@ same_use a q e f = λ i. record { arc = tied a.arc q.arc f i; reversed = way a.r
     way false true e = absurd cc
     way false false e = refl
 
+same_number : (k : ℕ) → is_eq (nat_cmp k k) ≡ true
+same_number k = ap is_eq (tied_itself nat_cmp_total k)
+
 module _ {T : Type 0} where
   -- nothing is noted at the places that are added
   pub noted_more : (l : List (Option T)) (n k : ℕ) → noted_at (l ++ replicate n None) k ≡ noted_at l k
@@ -34,9 +37,6 @@ module _ {T : Type 0} where
   noted_more [] (suc n) (suc k) = noted_more [] n k
   noted_more (o ∷ l) n zero = refl
   noted_more (o ∷ l) n (suc k) = noted_more l n k
-
-  same_number : (k : ℕ) → is_eq (nat_cmp k k) ≡ true
-  same_number k = ap is_eq (tied_itself nat_cmp_total k)
 
   set_same : (l : List (Option T)) (place : ℕ) (o : Option T) → place < length l → noted_at (slice_set l place o) place ≡ o
   set_same [] place o h = absurd (omega (arith, h))
