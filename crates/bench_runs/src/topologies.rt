@@ -1,5 +1,5 @@
-//! Building topologies, cutting their arcs again and taking features out, each once and then so many
-//! times again.
+//! Building topologies, cutting their arcs again and taking features out, each so many times, of which
+//! what is made is given up before the next, and then once more.
 
 use crate::inputs::{read_map, unit_grid};
 use grid::Grid;
@@ -15,12 +15,11 @@ fn counted(words: &[String]) -> Option<(usize, &[String])> {
     Some((count.as_str().parse::<usize>().ok()?, names))
 }
 
-fn built_again(alloc: Global, grid: &Grid, map: &FeatureMap, count: usize) -> Option<Topology> {
-    let mut topology = Topology::build(alloc, grid, map).ok()?;
+fn built_last(alloc: Global, grid: &Grid, map: &FeatureMap, count: usize) -> Option<Topology> {
     for _ in 0..count {
-        topology = Topology::build(alloc, grid, map).ok()?;
+        Topology::build(alloc, grid, map).ok()?;
     }
-    Some(topology)
+    Topology::build(alloc, grid, map).ok()
 }
 
 /// The text of the topology of GeoJSON files.
@@ -31,7 +30,7 @@ pub fn build(rt: &HostRuntime, words: &[String]) -> Option<Vec<u8>> {
     for name in names {
         map = map.united(read_map(rt, &grid, name.as_str())?).ok()?;
     }
-    let topology = built_again(rt.alloc(), &grid, &map, count)?;
+    let topology = built_last(rt.alloc(), &grid, &map, count)?;
     topo_io::text_of(rt.alloc(), &topology).ok()
 }
 
@@ -41,11 +40,11 @@ fn read_topology(rt: &HostRuntime, grid: &Grid, name: &str) -> Option<Topology> 
     Topology::build(rt.alloc(), grid, &map).ok()
 }
 
-fn arcs_again(alloc: Global, left: &Topology, right: &Topology, count: usize) -> Option<usize> {
-    let mut made = recut(alloc, left.arcs(), right.arcs()).ok()?;
+fn arcs_of_last(alloc: Global, left: &Topology, right: &Topology, count: usize) -> Option<usize> {
     for _ in 0..count {
-        made = recut(alloc, left.arcs(), right.arcs()).ok()?;
+        recut(alloc, left.arcs(), right.arcs()).ok()?;
     }
+    let made = recut(alloc, left.arcs(), right.arcs()).ok()?;
     Some(made.arcs().len())
 }
 
@@ -58,21 +57,21 @@ pub fn cut_again(rt: &HostRuntime, words: &[String]) -> Option<Vec<u8>> {
     let grid = unit_grid()?;
     let left = read_topology(rt, &grid, left.as_str())?;
     let right = read_topology(rt, &grid, right.as_str())?;
-    let arcs = arcs_again(rt.alloc(), &left, &right, count)?;
+    let arcs = arcs_of_last(rt.alloc(), &left, &right, count)?;
     let text = format!(in rt.alloc(); "{arcs} arcs\n").ok()?;
     Some(text.into_bytes())
 }
 
-fn left_again(
+fn left_last(
     alloc: Global,
     whole: &Topology,
     removed: &FeatureMap,
     count: usize,
 ) -> Option<Topology> {
-    let mut removal = remove(alloc, whole, removed).ok()?;
     for _ in 0..count {
-        removal = remove(alloc, whole, removed).ok()?;
+        remove(alloc, whole, removed).ok()?;
     }
+    let removal = remove(alloc, whole, removed).ok()?;
     Some(removal.into_topology())
 }
 
@@ -85,6 +84,6 @@ pub fn take_out(rt: &HostRuntime, words: &[String]) -> Option<Vec<u8>> {
     let grid = unit_grid()?;
     let removed = read_map(rt, &grid, removed.as_str())?;
     let whole = read_topology(rt, &grid, whole.as_str())?;
-    let left = left_again(rt.alloc(), &whole, &removed, count)?;
+    let left = left_last(rt.alloc(), &whole, &removed, count)?;
     topo_io::text_of(rt.alloc(), &left).ok()
 }
