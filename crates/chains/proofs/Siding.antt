@@ -4,7 +4,7 @@ use Rattle.grid.specs.declared.pos.Pos.{Pos}
 use Rattle.chains.specs.Joined.{AmongSegments}
 use Rattle.chains.specs.Segments.{IsBetween}
 use Rattle.chains.specs.declared.segment.Segment.{Segment}
-use Rattle.chains.proofs.Slices.{drop_item}
+use Rattle.lines.proofs.Dropping.{drop_item}
 use Rattle.theory.specs.Lists.{Beside, Begins, Has, Steps}
 use Rattle.chains.specs.Along.{arc_at, Joins, SidesFrom, SidesOf, OnArcs}
 use Rattle.chains.proofs.Stepping.{first_put, behind_first, step_on, all_put}

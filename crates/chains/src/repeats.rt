@@ -1,10 +1,10 @@
 //! Which visits stand at a vertex that others visit too: only these can clash.
 ghost use Rattle.std.specs.Prelude.{IfOk};
-ghost use Rattle.chains.specs.Bits.{may_hold};
+ghost use Rattle.lines.specs.Bits.{may_hold};
 ghost use Rattle.chains.specs.Repeats.{HoldsClashing, IsNoted};
 ghost use Rattle.chains.specs.Shared.{KeepsClashes};
 
-use crate::bits::PositionBits;
+use lines::bits::PositionBits;
 use crate::visits::Visit;
 use grid::pos::Pos;
 use std::alloc::{AllocError, Global};

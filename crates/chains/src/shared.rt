@@ -8,7 +8,7 @@ ghost use Rattle.chains.specs.Extents.{within};
 ghost use Rattle.chains.specs.Shared as spec;
 ghost use Rattle.chains.specs.Shared.{HoldCommon, kept_if, may_hold};
 
-use crate::bits::PositionBits;
+use lines::bits::PositionBits;
 use crate::extent::Extent;
 use crate::table::ArcTable;
 use grid::pos::Pos;

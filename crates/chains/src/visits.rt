@@ -17,7 +17,7 @@ ghost use Rattle.theory.specs.Refinement.{IsUnionOf, unclosed};
 ghost use Rattle.shapes.specs.Maps.{set_of};
 ghost use Rattle.shapes.specs.Sets as set;
 
-use crate::bits::{PositionBits, place_among};
+use lines::bits::{PositionBits, place_among};
 use crate::extent::Extent;
 use crate::repeats::repeated;
 use crate::shared::{VertexBits, inside};
@@ -348,7 +348,7 @@ pub struct VisitIndex {
 impl Model for VisitIndex {
     ghost use Rattle.std.specs.Prelude.{List};
     ghost use Rattle.grid.specs.declared.pos.Pos.{Pos};
-    ghost use Rattle.chains.specs.Bits.{IsLookUp};
+    ghost use Rattle.chains.specs.LookUp.{IsLookUp};
 
     ghost Value = { List Pos };
 

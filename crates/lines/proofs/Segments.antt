@@ -4,6 +4,9 @@ use Rattle.std.specs.List.Sorted.{IsPermutation, IsSorted}
 use Rattle.std.proofs.lemmas.List.Sorted.{IsPermutation-sym}
 use Rattle.grid.specs.declared.pos.Pos.{Pos}
 use Rattle.theory.specs.Lists.{Has, Steps, Beside}
+use Rattle.theory.specs.TopologyFunction.{keep}
+use Rattle.lines.specs.Again.{HoldEnds, joins}
+use Rattle.lines.specs.Holding.{Holds}
 use Rattle.lines.specs.Turned.{position_cmp}
 use Rattle.lines.specs.Positions.{position_total, position_same}
 use Rattle.lines.specs.Pairs.{pair_eq, pair_cmp, pair_of}
@@ -11,8 +14,9 @@ use Rattle.lines.specs.Reading.{repeats}
 use Rattle.lines.specs.Segments.{segments_from, segments_of, equal_from, equal_neighbours}
 use Rattle.lines.specs.declared.pair.Pair.{Pair}
 use Rattle.lines.proofs.SortedLists.{up_from_sorted}
-use Rattle.lines.proofs.Doubles.{Doubled, EqualFrom, equal_from_doubled, doubled_from_equal, Doubled-permutation}
+use Rattle.lines.proofs.Doubles.{Doubled, EqualFrom, doubled_twice, twice_doubled, twice_kept, kept_doubled, equal_from_doubled, doubled_from_equal, Doubled-permutation}
 use Rattle.lines.proofs.Pairs.{pair_total, pair_tied, pair_true, pair_refl, pair_same, pair_flip, pair_at}
+use Rattle.lines.proofs.Positions.{both_intro}
 use Rattle.lines.proofs.Trails.{Repeats, repeats_told, told_repeats}
 
 equal_yes : (s : Pair) (l : List Pair) → equal_from s l ≡ true → EqualFrom s l
@@ -72,27 +76,45 @@ one_test true t f g = sym (f refl)
 one_test false true f g = g refl
 one_test false false f g = refl
 
--- neighbours in a sorted list of the segments tell whether one stands twice
-told_by_sorting : (l : List Pos) (ys : List Pair) → IsPermutation (segments_of l) ys → IsSorted pair_cmp ys →
-    equal_neighbours ys ≡ repeats position_cmp l
-told_by_sorting l [] p s =
+-- neighbours in a sorted list tell whether a segment stands twice, where one does so in the list only if one does so among the segments
+told_by_sorting : (l : List Pos) (xs ys : List Pair) → (Doubled (segments_of l) → Doubled xs) → (Doubled xs → Doubled (segments_of l)) →
+    IsPermutation xs ys → IsSorted pair_cmp ys → equal_neighbours ys ≡ repeats position_cmp l
+told_by_sorting l xs [] f g p s =
     one_test false (repeats position_cmp l) (λ e. absurd cc)
-    (λ e. absurd (Doubled-permutation pair_cmp pair_total pair_tied (segments_of l) [] p (repeats_all l (repeats_told position_cmp position_total position_same l e))))
-told_by_sorting l (y ∷ ys) p s =
+    (λ e. absurd (Doubled-permutation pair_cmp pair_total pair_tied xs [] p (f (repeats_all l (repeats_told position_cmp position_total position_same l e)))))
+told_by_sorting l xs (y ∷ ys) f g p s =
     one_test (equal_from y ys) (repeats position_cmp l)
     (λ e. told_repeats position_cmp position_total position_same l
-    (all_repeats l (Doubled-permutation pair_cmp pair_total pair_tied (y ∷ ys) (segments_of l) (IsPermutation-sym (segments_of l) (y ∷ ys) p)
-    (doubled_from_equal pair_cmp pair_total pair_tied y ys (equal_yes y ys e)))))
-    (λ e. no_no (equal_from y ys) (λ f. equal_no y ys f
+    (all_repeats l (g (Doubled-permutation pair_cmp pair_total pair_tied (y ∷ ys) xs (IsPermutation-sym xs (y ∷ ys) p)
+    (doubled_from_equal pair_cmp pair_total pair_tied y ys (equal_yes y ys e))))))
+    (λ e. no_no (equal_from y ys) (λ n. equal_no y ys n
     (equal_from_doubled pair_cmp pair_total pair_tied y ys (up_from_sorted pair_cmp pair_total (y ∷ ys) s)
-    (Doubled-permutation pair_cmp pair_total pair_tied (segments_of l) (y ∷ ys) p (repeats_all l (repeats_told position_cmp position_total position_same l e))))))
+    (Doubled-permutation pair_cmp pair_total pair_tied xs (y ∷ ys) p (f (repeats_all l (repeats_told position_cmp position_total position_same l e)))))))
   where
     no_no : (b : Bool) → ¬ (b ≡ false) → b ≡ true
     no_no true n = refl
     no_no false n = absurd (n refl)
 
+-- a segment that stands twice does so among those whose ends may be among the noted ones
+doubled_between : (l ends : List Pos) (may : Pos → Bool) → HoldEnds ends l → Holds may ends → Doubled (segments_of l) → Doubled (keep (joins may) (segments_of l))
+doubled_between l ends may noted held h =
+    let t = doubled_twice (segments_of l) h in
+    let k = noted t.0 t.1 in
+    let m : joins may t.0 ≡ true = both_intro (may t.0.lesser) (may t.0.greater) (held t.0.lesser k.0) (held t.0.greater k.1) in
+    twice_doubled t.0 (keep (joins may) (segments_of l)) (twice_kept (joins may) (segments_of l) t.0 m t.1)
+
 -- the same in the form of the code: made, sorted, looked through
-pub told_by_code : (l : List Pos) (xs ys zs : List Pair) (b : Bool) → xs ≡ segments_of l → IsPermutation xs ys → IsSorted pair_cmp ys →
-    zs ≡ ys → b ≡ equal_neighbours zs → b ≡ repeats position_cmp l
-told_by_code l xs ys zs b e p s f g =
-    g ∙ ap equal_neighbours f ∙ told_by_sorting l ys (subst (λ w. IsPermutation w ys) e p) s
+pub told_by_code : (l ends marked : List Pos) (may : Pos → Bool) (xs ys zs : List Pair) (b : Bool) → HoldEnds ends l → marked ≡ ends → Holds may marked →
+    xs ≡ keep (joins may) (segments_of l) → IsPermutation xs ys → IsSorted pair_cmp ys → zs ≡ ys → b ≡ equal_neighbours zs → b ≡ repeats position_cmp l
+told_by_code l ends marked may xs ys zs b noted same held e p s f g =
+    g ∙ ap equal_neighbours f
+    ∙ told_by_sorting l (keep (joins may) (segments_of l)) ys (doubled_between l ends may noted (subst (Holds may) same held))
+    (kept_doubled (joins may) (segments_of l)) (subst (λ w. IsPermutation w ys) e p) s
+
+-- where no ends are noted no segment stands twice
+pub none_told : (l ends : List Pos) → HoldEnds ends l → ends ≡ [] → false ≡ repeats position_cmp l
+none_told l ends noted e =
+    one_test false (repeats position_cmp l) (λ f. absurd cc)
+    (λ f.
+    (let t = doubled_twice (segments_of l) (repeats_all l (repeats_told position_cmp position_total position_same l f)) in
+    absurd (subst (Has t.0.lesser) e (noted t.0 t.1).0)))
