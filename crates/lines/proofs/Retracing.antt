@@ -137,7 +137,7 @@ gone_next : (old new : Way) (ends more all others : List Pos) (i : ℕ) (next : 
     IsStep next b old new → ((p : Pos) → Has p ends → Has p more) →
     ((gone : List Pair) → IsGoneOver old ends gone → Has (pair_of old.here next) gone → Has old.here more × Has next more) →
     IsGone old ends all (drop i others) → IsGone new more all (drop (i + 1) others)
-gone_next old new ends more all others i next b h e step kept noted (gone, (parted, over)) = (
+gone_next old new ends more all others i next b h e step kept noted (gone, parted, over) = (
   gone ++ (pair_of old.here next ∷ []),
   parted ∙ ap (λ l. gone ++ segments_from old.here l) (drop_item others i next h e)
     ∙ sym (append_assoc gone (pair_of old.here next ∷ []) (segments_from next (drop (i + 1) others)))
@@ -169,5 +169,5 @@ step_new old new ends more all others i next b h e step f m before =
 
 -- behind the last
 pub all_gone : (w : Way) (ends all others : List Pos) (i : ℕ) → length others ≤ i → IsGone w ends all (drop i others) → HoldEnds ends all
-all_gone w ends all others i h (gone, (parted, over)) s k =
+all_gone w ends all others i h (gone, parted, over) s k =
     over.noted s (subst (Twice s) (parted ∙ ap (λ l. gone ++ segments_from w.here l) (drop_all i others h) ∙ append_nil gone) k)

@@ -1,5 +1,6 @@
 -- Whether a segment stands twice, as sorting tells it.
-use Rattle.std.proofs.Common.{◌≡◌, Bool, true, false, cond, List, [], ◌∷◌, ◌⊎◌, inl, inr, refl, sym, ap, ◌∙◌, subst}
+use Rattle.std.proofs.Common.{◌≡◌, ℕ, ◌+◌, ◌<◌, Bool, true, false, cond, List, [], ◌∷◌, ◌++◌, ◌⊎◌, inl, inr, length, drop, get_or, nat_eq, refl, sym, ap, ◌∙◌, subst, arith, append_assoc}
+use Rattle.std.proofs.lemmas.Bool.{eqb-true}
 use Rattle.std.specs.List.Sorted.{IsPermutation, IsSorted}
 use Rattle.std.proofs.lemmas.List.Sorted.{IsPermutation-sym}
 use Rattle.grid.specs.declared.pos.Pos.{Pos}
@@ -14,6 +15,7 @@ use Rattle.lines.specs.Reading.{repeats}
 use Rattle.lines.specs.Segments.{segments_from, segments_of, equal_from, equal_neighbours}
 use Rattle.lines.specs.declared.pair.Pair.{Pair}
 use Rattle.lines.proofs.SortedLists.{up_from_sorted}
+use Rattle.lines.proofs.Dropping.{drop_item}
 use Rattle.lines.proofs.Doubles.{Doubled, EqualFrom, doubled_twice, twice_doubled, twice_kept, kept_doubled, equal_from_doubled, doubled_from_equal, Doubled-permutation}
 use Rattle.lines.proofs.Pairs.{pair_total, pair_tied, pair_true, pair_refl, pair_same, pair_flip, pair_at}
 use Rattle.lines.proofs.Positions.{both_intro}
@@ -112,9 +114,36 @@ told_by_code l ends marked may xs ys zs b noted same held e p s f g =
     (kept_doubled (joins may) (segments_of l)) (subst (λ w. IsPermutation w ys) e p) s
 
 -- where no ends are noted no segment stands twice
-pub none_told : (l ends : List Pos) → HoldEnds ends l → ends ≡ [] → false ≡ repeats position_cmp l
-none_told l ends noted e =
+pub none_told : (l ends : List Pos) (n : ℕ) (b : Bool) → HoldEnds ends l → n ≡ length ends → b ≡ nat_eq n 0 → b ≡ true → false ≡ repeats position_cmp l
+none_told l ends n b noted m e t =
     one_test false (repeats position_cmp l) (λ f. absurd cc)
     (λ f.
-    (let t = doubled_twice (segments_of l) (repeats_all l (repeats_told position_cmp position_total position_same l f)) in
-    absurd (subst (Has t.0.lesser) e (noted t.0 t.1).0)))
+    (let d = doubled_twice (segments_of l) (repeats_all l (repeats_told position_cmp position_total position_same l f)) in
+    absurd (nothing ends (sym m ∙ eqb-true n 0 (sym e ∙ t)) d.0.lesser (noted d.0 d.1).0)))
+  where
+    nothing : (ps : List Pos) → length ps ≡ 0 → (p : Pos) → ¬ Has p ps
+    nothing [] z p h = h
+    nothing (x ∷ ps) z p h = absurd (omega (arith, z))
+
+-- one more segment is kept, or left out
+kept_from : (f : Pair → Bool) (here next : Pos) (others : List Pos) (i : ℕ) (b : Bool) → i < length others → next ≡ get_or others i next → f (pair_of here next) ≡ b →
+    keep f (segments_from here (drop i others))
+    ≡ cond b (pair_of here next ∷ keep f (segments_from next (drop (i + 1) others))) (keep f (segments_from next (drop (i + 1) others)))
+kept_from f here next others i b h e t =
+    ap (λ l. keep f (segments_from here l)) (drop_item others i next h e)
+    ∙ ap (λ t. cond t (pair_of here next ∷ keep f (segments_from next (drop (i + 1) others))) (keep f (segments_from next (drop (i + 1) others)))) t
+
+pub segment_kept : (f : Pair → Bool) (made more whole : List Pair) (segment : Pair) (here next : Pos) (others : List Pos) (i : ℕ) (b : Bool) →
+    i < length others → next ≡ get_or others i next → segment ≡ pair_of here next → b ≡ f segment → b ≡ true → more ≡ made ++ (segment ∷ []) →
+    made ++ keep f (segments_from here (drop i others)) ≡ whole → more ++ keep f (segments_from next (drop (i + 1) others)) ≡ whole
+segment_kept f made more whole segment here next others i b h e s t y m before =
+    let rest = keep f (segments_from next (drop (i + 1) others)) in
+    ap (λ l. l ++ rest) m ∙ append_assoc made (segment ∷ []) rest ∙ ap (λ w. made ++ (w ∷ rest)) s
+    ∙ sym (ap (λ l. made ++ l) (kept_from f here next others i true h e (ap f (sym s) ∙ sym t ∙ y))) ∙ before
+
+pub segment_left_out : (f : Pair → Bool) (made more whole : List Pair) (segment : Pair) (here next : Pos) (others : List Pos) (i : ℕ) (b : Bool) →
+    i < length others → next ≡ get_or others i next → segment ≡ pair_of here next → b ≡ f segment → b ≡ false → more ≡ made →
+    made ++ keep f (segments_from here (drop i others)) ≡ whole → more ++ keep f (segments_from next (drop (i + 1) others)) ≡ whole
+segment_left_out f made more whole segment here next others i b h e s t n m before =
+    ap (λ l. l ++ keep f (segments_from next (drop (i + 1) others))) m
+    ∙ sym (ap (λ l. made ++ l) (kept_from f here next others i false h e (ap f (sym s) ∙ sym t ∙ n))) ∙ before
