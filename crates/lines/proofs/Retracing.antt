@@ -140,8 +140,8 @@ gone_next : (old new : Way) (ends more all others : List Pos) (i : ℕ) (next : 
 gone_next old new ends more all others i next b h e step kept noted (gone, parted, over) = (
   gone ++ (pair_of old.here next ∷ []),
   parted ∙ ap (λ l. gone ++ segments_from old.here l) (drop_item others i next h e)
-    ∙ sym (append_assoc gone (pair_of old.here next ∷ []) (segments_from next (drop (i + 1) others)))
-    ∙ ap (λ p. (gone ++ (pair_of old.here next ∷ [])) ++ segments_from p (drop (i + 1) others)) (sym step.here),
+      ∙ sym (append_assoc gone (pair_of old.here next ∷ []) (segments_from next (drop (i + 1) others)))
+      ∙ ap (λ p. (gone ++ (pair_of old.here next ∷ [])) ++ segments_from p (drop (i + 1) others)) (sym step.here),
   over_next old new ends more gone next b step over kept (noted gone over),
 )
 

@@ -115,7 +115,13 @@ fn long_lists(rt: HostRuntime) -> Result<(), Fail> {
     places.push((11, 1))?;
     check(&rt, alloc, places.as_slice(), None, open)?;
     places.push((10, 0))?;
-    check(&rt, alloc, places.as_slice(), Some(ShapeFault::Revisit), open)
+    check(
+        &rt,
+        alloc,
+        places.as_slice(),
+        Some(ShapeFault::Revisit),
+        open,
+    )
 }
 
 #[test]
