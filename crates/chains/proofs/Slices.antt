@@ -4,6 +4,7 @@ use Rattle.theory.specs.Cutting.{cut_from}
 use Rattle.grid.specs.declared.pos.Pos.{Pos}
 use Rattle.chains.specs.Pieces.{oriented, cut_list}
 use Rattle.chains.specs.declared.cutting.Piece.{Piece}
+use Rattle.lines.proofs.Dropping.{drop_next}
 
 module _ {A : Type 0} where
   take_more : (m : List A) (k : ℕ) (p : A) → slice_get m k ≡ Some p → take (suc k) m ≡ take k m ++ (p ∷ [])

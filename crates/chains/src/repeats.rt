@@ -4,9 +4,9 @@ ghost use Rattle.lines.specs.Bits.{may_hold};
 ghost use Rattle.chains.specs.Repeats.{HoldsClashing, IsNoted};
 ghost use Rattle.chains.specs.Shared.{KeepsClashes};
 
-use lines::bits::PositionBits;
 use crate::visits::Visit;
 use grid::pos::Pos;
+use lines::bits::PositionBits;
 use std::alloc::{AllocError, Global};
 
 /// How many visits share a word of the bits of all vertices.

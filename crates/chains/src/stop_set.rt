@@ -2,8 +2,8 @@
 ghost use Rattle.std.specs.Prelude.{◌≡◌, IfOk};
 ghost use Rattle.chains.specs.Among.{among};
 
-use lines::bits::PositionBits;
 use grid::pos::Pos;
+use lines::bits::PositionBits;
 use std::alloc::{AllocError, Global};
 use std::collections::BTreeSet;
 use std::marker::Model;
