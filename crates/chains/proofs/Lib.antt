@@ -29,7 +29,6 @@ pub mod Recurring
 pub mod SharedVertices
 pub mod TablesAsMap
 pub mod ArcsCut
-pub mod Located
 pub mod Stepping
 pub mod Siding
 pub mod ArcSegments

@@ -44,11 +44,6 @@ abbrev pub ends_if : List (List Pos) → Option (List Pos) → List Pos
 ends_if loops None = []
 ends_if loops (Some c) = arc_ends loops c
 
--- the visits of an arc, where there is one
-abbrev pub visits_if : List (List Pos) → Option (List Pos) → List Visit
-visits_if loops None = []
-visits_if loops (Some c) = arc_visits loops c
-
 -- the pieces of an arc, where these are the junctions
 abbrev pub arc_pieces : List Pos → List (List Pos) → List Pos → List Piece
 arc_pieces junctions loops c = cond (is_loop loops c) (ring_pieces junctions (unclosed c)) (line_pieces junctions c)

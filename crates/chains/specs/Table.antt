@@ -33,11 +33,6 @@ located arcs p = record { arc = number_in arcs p; reversed = p.reversed }
 abbrev pub found_in : List (List Pos) → Piece → Option ArcRef
 found_in arcs p = option_map (λ n. record { arc = n; reversed = p.reversed }) (position (same_list p.chain) arcs)
 
--- the number of a list among the arcs, where there is a list
-abbrev pub place_if : List (List Pos) → Option (List Pos) → Option ℕ
-place_if arcs None = None
-place_if arcs (Some c) = position (same_list c) arcs
-
 -- whether the list is one of the free loops
 abbrev pub is_loop : List (List Pos) → List Pos → Bool
 is_loop loops c = list_any (same_list c) loops

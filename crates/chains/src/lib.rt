@@ -17,7 +17,6 @@ mod stop_set;
 mod stored;
 pub mod table;
 pub mod turning;
-pub mod used_arcs;
 pub mod visits;
 
 pub use cutting::{Piece, add_pieces, cut_arc, cut_line, cut_ring};
@@ -26,5 +25,4 @@ pub use segment::Segment;
 pub use sides::segments_of;
 pub use table::{ArcRef, ArcTable};
 pub use turning::turn_ring;
-pub use used_arcs::refs_of;
 pub use visits::{ArcsIndex, VisitIndex};

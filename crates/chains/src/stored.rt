@@ -1,5 +1,5 @@
 //! Arcs as the table keeps them.
-ghost use Rattle.std.specs.Prelude.{◌≡◌, ◌↔◌, ◌++◌, ◌∷◌, ◌<◌, ◌^◌, [], true, OnOk, IfOk, IsTrue, Some, length, slice_get, map as map_list};
+ghost use Rattle.std.specs.Prelude.{◌≡◌, ◌++◌, ◌∷◌, ◌<◌, ◌^◌, [], true, OnOk, IfOk, length, slice_get, map as map_list};
 ghost use Rattle.std.specs.List.{position};
 ghost use Rattle.std.specs.Option.{option_map};
 ghost use Rattle.chains.specs.Placing.{own_piece};
@@ -12,9 +12,6 @@ use indexmap::IndexMap;
 use lines::items::Items;
 use std::alloc::{AllocError, Global};
 use std::marker::Model;
-
-/// How many arcs from the expected place on are compared before all are searched.
-const COMPARED: usize = 8;
 
 /// An arc, and whether it is a free loop.
 #[derive(Drop)]
@@ -122,30 +119,6 @@ impl ArcList {
         self.as_slice()
             .binary_search_by(|arc| arc.positions.cmp(positions))
             .ok()
-    }
-
-    /// Whether an arc stands at a place.
-    fn has_at(&self, place: usize, positions: &Items<Pos>) -> bool
-        ensures { IsTrue result ↔ (slice_get (map_list positions_of self.now) place ≡ Some positions.now) }
-    {
-        match self.get(place) {
-            Some(arc) => arc.positions == *positions,
-            None => false,
-        }
-    }
-
-    /// The place of an arc, where the arcs rise. It is looked for where it is expected and a few
-    /// places on, and only then among all: who asks for rising arcs one after the other mostly knows
-    /// about where the next one stands.
-    pub(crate) fn place_near(&self, positions: &Items<Pos>, expected: usize) -> Option<usize>
-        ensures { rises (map_list positions_of self.now) ≡ true → result ≡ position (same_list positions.now) (map_list positions_of self.now) }
-    {
-        for place in expected..expected.saturating_add(COMPARED) {
-            if self.has_at(place, positions) {
-                return Some(place);
-            }
-        }
-        self.place_of(positions)
     }
 
     /// Each arc as its own one piece.

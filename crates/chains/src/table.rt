@@ -10,7 +10,7 @@ ghost use Rattle.grid.specs.declared.pos.Pos.{Pos};
 ghost use Rattle.chains.specs.declared.cutting.Piece.{Piece as Part};
 ghost use Rattle.chains.specs.Pieces.{used, chain_of};
 ghost use Rattle.chains.specs.Placing.{whole_pieces};
-ghost use Rattle.chains.specs.Table.{located, found_in, marked, number_in, place_if, free_at, AreAlike, AreLoopsOf, ArePiecesOfMap, IsTableOf};
+ghost use Rattle.chains.specs.Table.{located, found_in, marked, number_in, free_at, AreAlike, AreLoopsOf, ArePiecesOfMap, IsTableOf};
 
 use crate::cutting::Piece;
 use crate::merging::merged_arcs;
@@ -183,17 +183,6 @@ impl ArcTable {
                 arc,
                 reversed: piece.reversed(),
             }),
-        }
-    }
-
-    /// The number of the arc that is an arc of another table, by its number there. It is looked for
-    /// first where it is expected, and a little behind it.
-    pub fn number_near(&self, other: &ArcTable, number: usize, expected: usize) -> Option<usize>
-        ensures { result ≡ place_if self.now.arcs (slice_get other.now.arcs number) }
-    {
-        match other.arcs.get(number) {
-            None => None,
-            Some(arc) => self.arcs.place_near(&arc.positions, expected),
         }
     }
 
