@@ -1,10 +1,19 @@
 -- Lists that stand one after another in one list, and what stands between their bounds.
-use Rattle.std.proofs.Common.{◌≡◌, ◌≤◌, ℕ, zero, suc, ◌+◌, ◌-◌, List, [], ◌∷◌, ◌++◌, map, length, take, drop, Some, None, slice_get, refl, sym, subst, ap, ◌∙◌, arith, append_assoc}
+use Rattle.std.proofs.Common.{◌≡◌, ◌≤◌, ℕ, zero, suc, ◌+◌, ◌-◌, List, [], ◌∷◌, ◌++◌, map, length, take, drop, Some, None, slice_get, refl, sym, subst, ap, ◌∙◌, arith, append_assoc, get_or, true, false, ltb}
+use Rattle.std.proofs.lemmas.Bool.{ltb-true, ltb-false}
+use Rattle.std.proofs.lemmas.Option.{slice_get_read, slice_get_past}
 use Rattle.std.proofs.lemmas.List.{length-append, length-map, map-append}
 use Rattle.std.proofs.Math.Seq.{drop-append_seam, take-append_seam}
 use Rattle.std.specs.List.{between}
 use Rattle.theory.specs.Lists.{joined}
 use Rattle.recutting.specs.Bounds.{AreBounds, AreEnds, bounds_of, ends_from, parts_between, parts_from}
+
+-- what a look-up finds in a list that is another one
+pub stands : (l bs : List ℕ) (i k a : ℕ) → l ≡ bs → true ≡ ltb i (length l) → a ≡ get_or l i a → i ≡ k → slice_get bs k ≡ Some a
+stands l bs i k a e h f g = subst (λ w. slice_get bs w ≡ Some a) g (subst (λ w. slice_get w i ≡ Some a) e (slice_get_read l (length l) i a refl (ltb-true i (length l) (sym h)) f))
+
+pub past : (l bs : List ℕ) (i k : ℕ) → l ≡ bs → false ≡ ltb i (length l) → i ≡ k → slice_get bs k ≡ None
+past l bs i k e h g = subst (λ w. slice_get bs w ≡ None) g (subst (λ w. slice_get w i ≡ None) e (slice_get_past l i (ltb-false i (length l) (sym h))))
 
 no_next : (n : ℕ) (es : List ℕ) (i : ℕ) → slice_get (n ∷ es) i ≡ None → slice_get es i ≡ None
 no_next n [] i e = refl

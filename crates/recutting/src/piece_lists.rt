@@ -1,10 +1,20 @@
 //! Lists of used arcs, kept one after another in one list.
-ghost use Rattle.std.specs.Prelude.{◌≡◌, length, slice_get};
+ghost use Rattle.std.specs.Prelude.{◌≡◌, ◌≤◌, length, slice_get};
+ghost use Rattle.std.specs.List.{between};
 ghost use Rattle.std.specs.Option.{option_map};
 ghost use Rattle.recutting.specs.Bounds.{AreBounds, parts_between};
 
 use chains::table::ArcRef;
 use std::marker::Model;
+
+/// The used arcs from a place up to another.
+fn part(refs: &[ArcRef], from: usize, to: usize) -> &[ArcRef]
+    requires order { from ≤ to }
+    requires bound { to ≤ length refs.now }
+    ensures { result.now ≡ between from to refs.now }
+{
+    &refs[from..to]
+}
 
 /// Lists of used arcs: one list of all, and the places where each begins. There is no place in memory
 /// for each list, of which there are as many as arcs.
@@ -40,8 +50,12 @@ impl PieceLists {
     pub(crate) fn get(&self, number: usize) -> Option<&[ArcRef]>
         ensures { option_map (λ r. r.now) result ≡ slice_get self.now number }
     {
-        let from = self.bounds.get(number)?;
-        let to = self.bounds.get(number + 1)?;
-        Some(&self.refs[*from..*to])
+        match self.bounds.get(number) {
+            Some(from) => match self.bounds.get(number + 1) {
+                Some(to) => Some(part(&self.refs, *from, *to)),
+                None => None,
+            },
+            None => None,
+        }
     }
 }
