@@ -104,15 +104,3 @@ parts_again f n before (l ∷ ls) e =
 -- what stands between the bounds of lists, where each element is replaced
 pub between_again : {A B : Type 0} (f : A → B) (ls : List (List A)) → parts_between (bounds_of ls) (map f (joined ls)) ≡ map (map f) ls
 between_again f ls = parts_again f 0 [] ls refl
-
--- one more list is added
-pub one_more : {A : Type 0} (bounds now all : List ℕ) (old new l : List A) (ls : List (List A)) (before m : ℕ) → before ≤ length old → new ≡ old ++ l → m ≡ length new →
-    now ≡ bounds ++ (m - before) ∷ [] → bounds ++ ends_from (length old - before) (l ∷ ls) ≡ all → now ++ ends_from (length new - before) ls ≡ all
-one_more bounds now all old new l ls before m h e f g k =
-    let a : length (old ++ l) ≡ length old + length l = length-append old l in
-    let end : length new - before ≡ length old - before + length l = omega (arith, h, a, ap length e) in
-    let here : m - before ≡ length old - before + length l = omega (arith, f, end) in
-    ap (λ w. w ++ ends_from (length new - before) ls) g
-    ∙ append_assoc bounds ((m - before) ∷ []) (ends_from (length new - before) ls)
-    ∙ (λ i. bounds ++ here i ∷ ends_from (end i) ls)
-    ∙ k

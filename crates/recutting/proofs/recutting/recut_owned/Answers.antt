@@ -20,8 +20,8 @@ split_off-requires c =
     subst (λ w. c.len-left_count.result ≤ w) (sym c.in_ok-arcs.refs.ok.0)
     (enough (located c.in_ok-arcs.arcs.arcs) ls rs c.add_table-2.new.pieces.items c.in_ok-arcs.refs.items c.len-left_count.result count all c.in_ok-arcs.ensures.refs)
 
-pub between-requires : goal.between-requires
-between-requires c =
+pub between-left_lists-requires : goal.between-left_lists-requires
+between-left_lists-requires c =
     let js = c.in_ok-cuts.cuts.index in
     let new = c.in_ok-arcs.arcs in
     let of_left = pieces_from js c.deref.result.now 0 c.in_ok-left_arcs.left_arcs.items in
@@ -34,8 +34,8 @@ between-requires c =
     ∙ first_refs new ls rs c.add_table-2.new.pieces.items c.in_ok-arcs.refs.items c.len-left_count.result count all c.in_ok-arcs.ensures.refs in
     bounds_are (located new.arcs) of_left c.in_ok-left_bounds.left_bounds.items _ c.in_ok-left_bounds.ensures.bounds refs
 
-pub between-2-requires : goal.between-2-requires
-between-2-requires c =
+pub between-right_lists-requires : goal.between-right_lists-requires
+between-right_lists-requires c =
     let js = c.in_ok-cuts.cuts.index in
     let new = c.in_ok-arcs.arcs in
     let of_right = pieces_from js c.deref-2.result.now 0 c.in_ok-right_arcs.right_arcs.items in
@@ -68,8 +68,8 @@ are_numbered c =
       pieces_are = c.in_ok-right_bounds.ensures.pieces ∙ ap (λ w. w ++ rs) first;
       refs_are = c.in_ok-arcs.ensures.refs;
       arcs_are = ap (λ r. r.arcs) c.from_parts.ensures;
-      lists_left = ap (λ r. r.left) c.from_parts.ensures ∙ c.between.ensures ∙ (λ i. parts_between (c.in_ok-left_bounds.ensures.bounds i) (c.in_ok-right_refs.ensures.items i));
-      lists_right = ap (λ r. r.right) c.from_parts.ensures ∙ c.between-2.ensures
+      lists_left = ap (λ r. r.left) c.from_parts.ensures ∙ c.between-left_lists.ensures ∙ (λ i. parts_between (c.in_ok-left_bounds.ensures.bounds i) (c.in_ok-right_refs.ensures.items i));
+      lists_right = ap (λ r. r.right) c.from_parts.ensures ∙ c.between-right_lists.ensures
           ∙ (λ i. parts_between (c.in_ok-right_bounds.ensures.bounds i) (c.in_ok-right_refs.ensures.tail i));
     }
 pub returns-clause-refined : goal.returns-clause-refined

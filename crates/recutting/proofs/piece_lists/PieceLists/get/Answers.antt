@@ -3,29 +3,31 @@ use Rattle.std.specs.List.{between}
 use Rattle.recutting.proofs.Bounds.{between_bounds, bounds_within, no_begin, no_end, past, stands}
 use Rattle.recutting.proofs.piece_lists.PieceLists.get.Goals as goal
 
-within : (c : goal.After-deref-in-Some-get) → (c.in-Some.from.now ≤ c.in-Some-get.to.now) × (c.in-Some-get.to.now ≤ length c.self.inside.refs.items)
-within c =
+pub part-requires-clause-order : goal.part-requires-clause-order
+part-requires-clause-order c =
     let bs = c.self.inside.bounds.items in
     let n = c.args.number in
-    bounds_within bs (length c.self.inside.refs.items) n c.in-Some.from.now c.in-Some-get.to.now c.self.invariant
-    (stands c.deref.result.now bs n n _ c.deref.ensures.value c.in-Some.ensures.lookup.0 c.in-Some.ensures.lookup.1 refl)
-    (stands c.deref-in-Some.result.now bs _ (suc n) _ c.deref-in-Some.ensures.value c.in-Some-get.ensures.lookup.0 c.in-Some-get.ensures.lookup.1 (omega arith))
-
-pub part-requires-clause-order : goal.part-requires-clause-order
-part-requires-clause-order c = (within c).0
+    let from = stands c.deref.result.now bs n n _ c.deref.ensures.value c.in-Some.ensures.lookup.0 c.in-Some.ensures.lookup.1 refl in
+    let to = stands c.deref-in-Some.result.now bs _ (suc n) _ c.deref-in-Some.ensures.value c.in-Some-get.ensures.lookup.0 c.in-Some-get.ensures.lookup.1 (omega arith) in
+    (bounds_within bs (length c.self.inside.refs.items) n c.in-Some.from.now c.in-Some-get.to.now c.self.invariant from to).0
 
 pub part-requires-clause-bound : goal.part-requires-clause-bound
-part-requires-clause-bound c = subst (λ l. c.in-Some-get.to.now ≤ length l) (sym c.deref-in-Some-get.ensures.value) (within c).1
+part-requires-clause-bound c =
+    let bs = c.self.inside.bounds.items in
+    let n = c.args.number in
+    let from = stands c.deref.result.now bs n n _ c.deref.ensures.value c.in-Some.ensures.lookup.0 c.in-Some.ensures.lookup.1 refl in
+    let to = stands c.deref-in-Some.result.now bs _ (suc n) _ c.deref-in-Some.ensures.value c.in-Some-get.ensures.lookup.0 c.in-Some-get.ensures.lookup.1 (omega arith) in
+    subst (λ l. c.in-Some-get.to.now ≤ length l) (sym c.deref-in-Some-get.ensures.value) (bounds_within bs (length c.self.inside.refs.items) n c.in-Some.from.now c.in-Some-get.to.now c.self.invariant from to).1
 
 pub returns-in-Some-get : goal.returns-in-Some-get
 returns-in-Some-get c =
     let bs = c.self.inside.bounds.items in
     let n = c.args.number in
+    let from = stands c.deref.result.now bs n n _ c.deref.ensures.value c.in-Some.ensures.lookup.0 c.in-Some.ensures.lookup.1 refl in
+    let to = stands c.deref-in-Some.result.now bs _ (suc n) _ c.deref-in-Some.ensures.value c.in-Some-get.ensures.lookup.0 c.in-Some-get.ensures.lookup.1 (omega arith) in
     ap Some c.part.ensures
     ∙ ap (λ l. Some (between c.in-Some.from.now c.in-Some-get.to.now l)) c.deref-in-Some-get.ensures.value
-    ∙ sym (between_bounds bs c.self.inside.refs.items n c.in-Some.from.now c.in-Some-get.to.now
-    (stands c.deref.result.now bs n n _ c.deref.ensures.value c.in-Some.ensures.lookup.0 c.in-Some.ensures.lookup.1 refl)
-    (stands c.deref-in-Some.result.now bs _ (suc n) _ c.deref-in-Some.ensures.value c.in-Some-get.ensures.lookup.0 c.in-Some-get.ensures.lookup.1 (omega arith)))
+    ∙ sym (between_bounds bs c.self.inside.refs.items n c.in-Some.from.now c.in-Some-get.to.now from to)
     ∙ ap (λ ls. slice_get ls n) c.self.view_is
 
 pub returns-in-None-get : goal.returns-in-None-get
