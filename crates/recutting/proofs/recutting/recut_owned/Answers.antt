@@ -1,4 +1,4 @@
-use Rattle.std.proofs.Common.{◌≤◌, ◌++◌, ◌∙◌, ap, drop, length, subst, sym, take}
+use Rattle.std.proofs.Common.{◌≤◌, ◌++◌, ◌∙◌, ap, length, subst, sym}
 use Rattle.theory.specs.Lists.{joined}
 use Rattle.chains.specs.Shared.{StayWhole}
 use Rattle.chains.specs.Table.{located}

@@ -1,4 +1,4 @@
-use Rattle.std.proofs.Common.{◌≡◌, ◌≤◌, ◌∙◌, Some, None, ap, arith, length, refl, slice_get, subst, suc, sym}
+use Rattle.std.proofs.Common.{◌≤◌, ◌∙◌, Some, ap, arith, length, refl, slice_get, subst, suc, sym}
 use Rattle.std.specs.List.{between}
 use Rattle.recutting.proofs.Bounds.{between_bounds, bounds_within, no_begin, no_end, past, stands}
 use Rattle.recutting.proofs.piece_lists.PieceLists.get.Goals as goal
