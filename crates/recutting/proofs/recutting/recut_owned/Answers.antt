@@ -72,6 +72,7 @@ are_numbered c =
       lists_right = ap (λ r. r.right) c.from_parts.ensures ∙ c.between-right_lists.ensures
           ∙ (λ i. parts_between (c.in_ok-right_bounds.ensures.bounds i) (c.in_ok-right_refs.ensures.tail i));
     }
+
 pub returns-clause-refined : goal.returns-clause-refined
 returns-clause-refined c = λ m n u sm sn ms nt union.
     let s = c.args.left in
