@@ -1,3 +1,4 @@
+pub mod Bounds
 pub mod Parted
 pub mod TwoTables
 pub mod Replaced

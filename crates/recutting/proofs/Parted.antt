@@ -1,5 +1,5 @@
--- The pieces of all arcs in one list, and their numbers parted again.
-use Rattle.std.proofs.Common.{◌≡◌, ◌≤◌, ℕ, suc, ◌+◌, Bool, true, false, cond, get_or, List, [], ◌∷◌, ◌++◌, map, length, take, drop, min, slice_get, Some, refl, sym, ap, ◌∙◌, subst, arith, append_assoc}
+-- The pieces of all arcs in one list, and their numbers between the bounds again.
+use Rattle.std.proofs.Common.{◌≡◌, ◌≤◌, ℕ, suc, ◌+◌, Bool, true, false, cond, get_or, List, [], ◌∷◌, ◌++◌, map, length, take, drop, slice_get, Some, refl, sym, ap, ◌∙◌, subst, arith}
 use Rattle.std.proofs.lemmas.List.{length-append, length-map, map-append}
 use Rattle.std.proofs.lemmas.Simd.{map-map}
 use Rattle.std.proofs.Math.Seq.{drop-append_seam, take-append_seam}
@@ -12,29 +12,14 @@ use Rattle.chains.specs.Placing.{whole_pieces}
 use Rattle.chains.specs.Shared.{StayWhole, whole}
 use Rattle.chains.specs.Table.{located}
 use Rattle.chains.specs.declared.cutting.Piece.{Piece}
-use Rattle.recutting.specs.Cutting.{arc_used, parted, pieces_from}
+use Rattle.recutting.specs.Bounds.{bounds_of, parts_between}
+use Rattle.recutting.specs.Cutting.{arc_used, pieces_from}
 use Rattle.recutting.specs.Parts.{RecutParts}
-
-joined_append : {A : Type 0} (ks ls : List (List A)) → joined (ks ++ ls) ≡ joined ks ++ joined ls
-joined_append [] ls = refl
-joined_append (k ∷ ks) ls = ap (λ w. k ++ w) (joined_append ks ls) ∙ sym (append_assoc k (joined ks) (joined ls))
+use Rattle.recutting.proofs.Bounds.{between_again}
 
 joined_map : {A B : Type 0} (f : A → List B) (l : List A) → joined (map f l) ≡ gathered f l
 joined_map f [] = refl
 joined_map f (x ∷ l) = ap (λ w. f x ++ w) (joined_map f l)
-
--- lists in one list, parted again
-parted_again : {A B : Type 0} (f : A → B) (ls : List (List A)) → parted (map length ls) (map f (joined ls)) ≡ map (map f) ls
-parted_again f [] = refl
-parted_again f (l ∷ ls) =
-    let more = map f (joined ls) in
-    let n : min (length l) (length (map f l ++ more)) ≡ length (map f l) =
-    (let a : length (map f l ++ more) ≡ length (map f l) + length more = length-append (map f l) more in
-    let b : length (map f l) ≡ length l = length-map l f in omega (arith, a, b)) in
-    ap (parted (length l ∷ map length ls)) (map-append f l (joined ls))
-    ∙ (λ i. take (n i) (map f l ++ more) ∷ parted (map length ls) (drop (n i) (map f l ++ more)))
-    ∙ (λ i. take-append_seam (map f l) more i ∷ parted (map length ls) (drop-append_seam (map f l) more i))
-    ∙ ap (λ w. map f l ∷ w) (parted_again f ls)
 
 length_from : (js : List Pos) (marks : List Bool) (n : ℕ) (ps : List Piece) → length (pieces_from js marks n ps) ≡ length ps
 length_from js marks n [] = refl
@@ -60,20 +45,35 @@ kept js t marks stay = go 0 t.arcs (λ i c e f. stay i c e (subst (λ m. get_or 
         let more = go (n + 1) cs (λ i d e f. h (suc i) d e (subst (λ m. get_or marks m true ≡ false) (omega arith) f)) in
         λ i. first i ∷ more i
 
--- what is made of two tables: all pieces, how many each arc has, the arcs that they are, and these parted
+-- what is made of two tables: all pieces, the arcs that they are, and these in two, each between the bounds of a table
 pub record AreNumbered (js : List Pos) (s t : Arcs) (ms mt : List Bool) (ps : List Piece) (new : Arcs) (r : RecutParts) : Type 0 where
   pub left_arcs : List Piece
   pub right_arcs : List Piece
-  pub counts : List ℕ
+  pub count : ℕ
   pub refs : List ArcRef
   pub left_is : left_arcs ≡ whole_pieces s
   pub right_is : right_arcs ≡ whole_pieces t
+  pub count_is : count ≡ length (joined (pieces_from js ms 0 left_arcs))
   pub pieces_are : ps ≡ joined (pieces_from js ms 0 left_arcs) ++ joined (pieces_from js mt 0 right_arcs)
-  pub counts_are : counts ≡ map length (pieces_from js ms 0 left_arcs) ++ map length (pieces_from js mt 0 right_arcs)
   pub refs_are : refs ≡ map (located new.arcs) ps
   pub arcs_are : r.arcs ≡ new
-  pub lists_left : r.left ≡ take (length left_arcs) (parted counts refs)
-  pub lists_right : r.right ≡ drop (length left_arcs) (parted counts refs)
+  pub lists_left : r.left ≡ parts_between (bounds_of (pieces_from js ms 0 left_arcs)) (take count refs)
+  pub lists_right : r.right ≡ parts_between (bounds_of (pieces_from js mt 0 right_arcs)) (drop count refs)
+
+module _ (new : Arcs) (ls rs ps : List Piece) (refs : List ArcRef) (n : ℕ) (count : n ≡ length ls) (pieces : ps ≡ ls ++ rs) (located_are : refs ≡ map (located new.arcs) ps) where
+  all_refs : refs ≡ map (located new.arcs) ls ++ map (located new.arcs) rs
+  all_refs = located_are ∙ ap (map (located new.arcs)) pieces ∙ map-append (located new.arcs) ls rs
+
+  seam : n ≡ length (map (located new.arcs) ls)
+  seam = count ∙ sym (length-map ls (located new.arcs))
+
+  -- the arcs that the pieces of the left table are
+  pub first_refs : take n refs ≡ map (located new.arcs) ls
+  first_refs = (λ i. take (seam i) (all_refs i)) ∙ take-append_seam (map (located new.arcs) ls) (map (located new.arcs) rs)
+
+  -- and those that the pieces of the right table are
+  pub other_refs : drop n refs ≡ map (located new.arcs) rs
+  other_refs = (λ i. drop (seam i) (all_refs i)) ∙ drop-append_seam (map (located new.arcs) ls) (map (located new.arcs) rs)
 
 module _ (js : List Pos) (s t : Arcs) (ms mt : List Bool) (ps : List Piece) (new : Arcs) (r : RecutParts) (are : AreNumbered js s t ms mt ps new r) where
   abbrev of_left : List (List Piece)
@@ -85,24 +85,20 @@ module _ (js : List Pos) (s t : Arcs) (ms mt : List Bool) (ps : List Piece) (new
   abbrev by_number : List (List Piece) → List (List ArcRef)
   by_number = map (map (located new.arcs))
 
-  lists_are : parted are.counts are.refs ≡ by_number of_left ++ by_number of_right
-  lists_are =
-      let counts = are.counts_are ∙ sym (map-append length of_left of_right) in
-      let pieces = are.pieces_are ∙ sym (joined_append of_left of_right) in
-      let refs = are.refs_are ∙ ap (map (located new.arcs)) pieces in
-      (λ i. parted (counts i) (refs i)) ∙ parted_again (located new.arcs) (of_left ++ of_right) ∙ map-append (map (located new.arcs)) of_left of_right
-
-  count_is : length are.left_arcs ≡ length (by_number of_left)
-  count_is = sym (length-map of_left (map (located new.arcs)) ∙ length_from js ms 0 are.left_arcs)
-
   left_are : r.left ≡ by_number of_left
-  left_are = are.lists_left ∙ (λ i. take (count_is i) (lists_are i)) ∙ take-append_seam (by_number of_left) (by_number of_right)
+  left_are =
+      are.lists_left
+      ∙ ap (parts_between (bounds_of of_left)) (first_refs new (joined of_left) (joined of_right) ps are.refs are.count are.count_is are.pieces_are are.refs_are)
+      ∙ between_again (located new.arcs) of_left
 
   right_are : r.right ≡ by_number of_right
-  right_are = are.lists_right ∙ (λ i. drop (count_is i) (lists_are i)) ∙ drop-append_seam (by_number of_left) (by_number of_right)
+  right_are =
+      are.lists_right
+      ∙ ap (parts_between (bounds_of of_right)) (other_refs new (joined of_left) (joined of_right) ps are.refs are.count are.count_is are.pieces_are are.refs_are)
+      ∙ between_again (located new.arcs) of_right
 
   pub left_length : length r.left ≡ length s.arcs
-  left_length = ap length left_are ∙ sym count_is ∙ ap length are.left_is ∙ length_whole s.loops s.arcs
+  left_length = ap length left_are ∙ length-map of_left (map (located new.arcs)) ∙ length_from js ms 0 are.left_arcs ∙ ap length are.left_is ∙ length_whole s.loops s.arcs
 
   pub right_length : length r.right ≡ length t.arcs
   right_length =
@@ -126,16 +122,9 @@ module _ (js : List Pos) (s t : Arcs) (ms mt : List Bool) (ps : List Piece) (new
     pub right_used : r.right ≡ map (arc_used js t.loops new.arcs) t.arcs
     right_used = right_are ∙ ap by_number right_kept ∙ map-map (map (located new.arcs)) (arc_pieces js t.loops) t.arcs
 
-length_parted : {A : Type 0} (ns : List ℕ) (l : List A) → length (parted ns l) ≡ length ns
-length_parted [] l = refl
-length_parted (n ∷ ns) l = ap suc (length_parted ns (drop (min n (length l)) l))
-
--- there is a list for each arc of the left table
-pub enough : (js : List Pos) (ms mt : List Bool) (ls rs : List Piece) (counts : List ℕ) (refs : List ArcRef) →
-    counts ≡ map length (pieces_from js ms 0 ls) ++ map length (pieces_from js mt 0 rs) → length ls ≤ length (parted counts refs)
-enough js ms mt ls rs counts refs e =
-    let left = map length (pieces_from js ms 0 ls) in
-    let right = map length (pieces_from js mt 0 rs) in
-    let a : length (parted counts refs) ≡ length left + length right = length_parted counts refs ∙ ap length e ∙ length-append left right in
-    let b : length left ≡ length ls = length-map (pieces_from js ms 0 ls) length ∙ length_from js ms 0 ls in
-    omega (arith, a, b)
+-- the pieces of the left table are not more than all
+pub enough : (f : Piece → ArcRef) (before more all : List Piece) (refs : List ArcRef) (n : ℕ) → n ≡ length before → all ≡ before ++ more → refs ≡ map f all → n ≤ length refs
+enough f before more all refs n e g h =
+    let a : length (before ++ more) ≡ length before + length more = length-append before more in
+    let b : length (map f all) ≡ length all = length-map all f in
+    omega (arith, a, b, e, ap length g, ap length h)

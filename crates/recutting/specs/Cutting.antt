@@ -1,5 +1,5 @@
 -- Which new arcs an old one becomes.
-use Rattle.std.specs.Prelude.{ℕ, ◌+◌, Bool, true, cond, List, [], ◌∷◌, map, length, take, drop, get_or, min}
+use Rattle.std.specs.Prelude.{ℕ, ◌+◌, Bool, true, cond, List, [], ◌∷◌, map, get_or}
 use Rattle.theory.specs.ArcNumbers.{ArcRef}
 use Rattle.theory.specs.Geometry.{Geometry}
 use Rattle.theory.specs.Refinement.{IsRefinementOf}
@@ -20,11 +20,6 @@ arc_used junctions loops new c = map (located new) (arc_pieces junctions loops c
 abbrev pub pieces_from : List Pos → List Bool → ℕ → List Piece → List (List Piece)
 pieces_from junctions marks n [] = []
 pieces_from junctions marks n (p ∷ ps) = cond (get_or marks n true) (pieces_under junctions p) (p ∷ []) ∷ pieces_from junctions marks (n + 1) ps
-
--- a list parted into lists of so many each
-abbrev pub parted : {A : Type 0} → List ℕ → List A → List (List A)
-parted [] l = []
-parted (n ∷ ns) l = take (min n (length l)) l ∷ parted ns (drop (min n (length l)) l)
 
 -- the table is that of u, which m and n make together, and the arcs of both are cut into its arcs
 pub record IsRecutOf (m n u : Geometry Pos) (left right : Arcs) (r : RecutParts) : Type 0 where

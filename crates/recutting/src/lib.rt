@@ -2,6 +2,7 @@
 #![tactic(auto)]
 
 pub mod laws;
+mod piece_lists;
 pub mod recutting;
 pub mod refined;
 mod replacing;

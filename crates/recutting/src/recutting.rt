@@ -1,19 +1,20 @@
 //! Cutting the arcs of two tables again: the index of visits over the arcs gives the junctions of
 //! both maps together, all arcs are cut there, and the pieces are the new table.
-ghost use Rattle.std.specs.Prelude.{◌≡◌, ◌++◌, IfOk, OnOk, length, map as map_list, get_or, true};
+ghost use Rattle.std.specs.Prelude.{◌≡◌, ◌++◌, IfOk, OnOk, length, get_or, true};
 ghost use Rattle.grid.specs.declared.pos.Pos.{Pos};
 ghost use Rattle.theory.specs.Geometry.{Geometry, IsSound};
 ghost use Rattle.theory.specs.Lists.{joined};
 ghost use Rattle.theory.specs.Refinement.{IsUnionOf};
 ghost use Rattle.chains.specs.Table.{IsTableOf};
-ghost use Rattle.recutting.specs.Cutting.{pieces_from, parted, IsRecutOf};
+ghost use Rattle.recutting.specs.Bounds.{bounds_of};
+ghost use Rattle.recutting.specs.Cutting.{pieces_from, IsRecutOf};
 
+use crate::piece_lists::PieceLists;
 use crate::refined::Recut;
 use chains::cutting::{Piece, add_pieces};
-use chains::table::{ArcRef, ArcTable};
+use chains::table::ArcTable;
 use chains::visits::VisitIndex;
 use faults::OutOfMemory;
-use lines::items::Items;
 use std::alloc::Global;
 
 /// Whether an arc may be cut; one that nothing is told of may be.
@@ -26,45 +27,28 @@ fn is_marked(marks: &[bool], number: usize) -> bool
     }
 }
 
-/// Adds the pieces of the arcs of a table, of which those that are not marked are not cut, and how
-/// many pieces each arc has.
+/// Adds the pieces of the arcs of a table, of which those that are not marked are not cut; and answers
+/// where the pieces of each arc begin among those that are added, and last how many are added.
 fn add_table(
     alloc: Global,
     pieces: &mut Vec<Piece>,
-    counts: &mut Vec<usize>,
     index: &VisitIndex,
     arcs: Vec<Piece>,
     marks: &[bool],
-) -> Result<(), OutOfMemory>
+) -> Result<Vec<usize>, OutOfMemory>
     ensures pieces { OnOk result (pieces.new.items ≡ pieces.old.items ++ joined (pieces_from index.now marks.now 0 arcs.items)) }
-    ensures counts { OnOk result (counts.new.items ≡ counts.old.items ++ map_list length (pieces_from index.now marks.now 0 arcs.items)) }
+    ensures bounds { IfOk result (λ b. b.items ≡ bounds_of (pieces_from index.now marks.now 0 arcs.items)) }
 {
+    let before = pieces.len();
+    let mut bounds = Vec::with_capacity(alloc, arcs.len() + 1)?;
+    bounds.push(0)?;
     let mut number = 0;
     for arc in arcs {
-        let before = pieces.len();
         add_pieces(alloc, pieces, index, arc, is_marked(marks, number))?;
-        counts.push(pieces.len() - before)?;
+        bounds.push(pieces.len() - before)?;
         number += 1;
     }
-    Ok(())
-}
-
-/// A list parted into lists of so many each.
-fn lists_of(
-    alloc: Global,
-    refs: &[ArcRef],
-    counts: &[usize],
-) -> Result<Vec<Items<ArcRef>>, OutOfMemory>
-    ensures { IfOk result (λ v. v.items ≡ parted counts.now refs.now) }
-{
-    let mut lists = Vec::with_capacity(alloc, counts.len())?;
-    let mut left = refs;
-    for count in counts {
-        let (these, others) = left.split_at((*count).min(left.len()));
-        lists.push(Items::from_vec(these.to_vec(alloc)?))?;
-        left = others;
-    }
-    Ok(lists)
+    Ok(bounds)
 }
 
 /// The arcs of two tables, each that of a map, cut again under the junctions of both maps together.
@@ -81,28 +65,15 @@ pub fn recut_owned(alloc: Global, left: ArcTable, right: ArcTable) -> Result<Rec
     let cuts = VisitIndex::over_arcs(alloc, &left, &right)?;
     let left_arcs = left.into_pieces(alloc)?;
     let right_arcs = right.into_pieces(alloc)?;
-    let left_count = left_arcs.len();
-    let mut pieces = Vec::with_capacity(alloc, left_count)?;
-    let mut counts = Vec::with_capacity(alloc, left_count)?;
-    add_table(
-        alloc,
-        &mut pieces,
-        &mut counts,
-        &cuts.index,
-        left_arcs,
-        &cuts.left,
-    )?;
-    add_table(
-        alloc,
-        &mut pieces,
-        &mut counts,
-        &cuts.index,
-        right_arcs,
-        &cuts.right,
-    )?;
+    let mut pieces = Vec::with_capacity(alloc, left_arcs.len() + right_arcs.len())?;
+    let left_bounds = add_table(alloc, &mut pieces, &cuts.index, left_arcs, &cuts.left)?;
+    let left_count = pieces.len();
+    let right_bounds = add_table(alloc, &mut pieces, &cuts.index, right_arcs, &cuts.right)?;
     let (arcs, refs) = ArcTable::numbered(alloc, pieces)?;
-    let mut left_lists = lists_of(alloc, &refs, &counts)?;
-    let right_lists = left_lists.split_off(left_count)?;
+    let mut left_refs = refs;
+    let right_refs = left_refs.split_off(left_count)?;
+    let left_lists = PieceLists::between(left_refs, left_bounds);
+    let right_lists = PieceLists::between(right_refs, right_bounds);
     Ok(Recut::from_parts(arcs, left_lists, right_lists))
 }
 

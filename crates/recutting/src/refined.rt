@@ -9,11 +9,11 @@ ghost use Rattle.theory.specs.Refinement.{IsPartOf, IsRefinementOf, pieces_of_us
 ghost use Rattle.theory.specs.Topology.{IsRingList};
 ghost use Rattle.recutting.specs.Parts.{of_side};
 
+use crate::piece_lists::PieceLists;
 use crate::replacing::add_pieces;
 use chains::table::{ArcRef, ArcTable};
 use chains::turning::turn_ring;
 use faults::OutOfMemory;
-use lines::items::Items;
 use std::alloc::{AllocError, Global};
 use std::marker::Model;
 
@@ -28,8 +28,8 @@ pub enum Side {
 #[derive(Drop)]
 pub struct Recut {
     arcs: ArcTable,
-    left: Vec<Items<ArcRef>>,
-    right: Vec<Items<ArcRef>>,
+    left: PieceLists,
+    right: PieceLists,
 }
 
 impl Model for Recut {
@@ -37,16 +37,12 @@ impl Model for Recut {
 
     ghost Value = { RecutParts };
 
-    ghost view = { λ a. record { arcs = a.arcs; left = a.left.items; right = a.right.items } };
+    ghost view = { λ a. record { arcs = a.arcs; left = a.left; right = a.right } };
 }
 
 impl Recut {
-    pub(crate) fn from_parts(
-        arcs: ArcTable,
-        left: Vec<Items<ArcRef>>,
-        right: Vec<Items<ArcRef>>,
-    ) -> Recut
-        ensures { result ≡ record { arcs = arcs; left = left.items; right = right.items } }
+    pub(crate) fn from_parts(arcs: ArcTable, left: PieceLists, right: PieceLists) -> Recut
+        ensures { result ≡ record { arcs = arcs; left = left; right = right } }
     {
         Recut { arcs, left, right }
     }
@@ -65,7 +61,7 @@ impl Recut {
         self.arcs
     }
 
-    fn lists(&self, side: Side) -> &[Items<ArcRef>]
+    fn lists(&self, side: Side) -> &PieceLists
         ensures { result.now ≡ of_side side self.now }
     {
         match side {
@@ -79,10 +75,7 @@ impl Recut {
     pub fn pieces(&self, side: Side, number: usize) -> Option<&[ArcRef]>
         ensures { option_map (λ r. r.now) result ≡ slice_get (of_side side self.now) number }
     {
-        match self.lists(side).get(number) {
-            Some(pieces) => Some(pieces.as_slice()),
-            None => None,
-        }
+        self.lists(side).get(number)
     }
 
     /// Adds the pieces of a used arc of a side.

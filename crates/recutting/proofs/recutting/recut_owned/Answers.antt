@@ -1,48 +1,76 @@
-use Rattle.std.proofs.Common.{◌≤◌, ◌++◌, ◌∙◌, ap, drop, length, map, subst, sym, take}
+use Rattle.std.proofs.Common.{◌≤◌, ◌++◌, ◌∙◌, ap, length, subst, sym}
 use Rattle.theory.specs.Lists.{joined}
 use Rattle.chains.specs.Shared.{StayWhole}
-use Rattle.recutting.specs.Cutting.{parted, pieces_from}
-use Rattle.recutting.proofs.Parted.{AreNumbered, all_pieces, enough, left_length, left_used, right_length, right_used}
+use Rattle.chains.specs.Table.{located}
+use Rattle.recutting.specs.Bounds.{parts_between}
+use Rattle.recutting.specs.Cutting.{pieces_from}
+use Rattle.recutting.proofs.Bounds.{bounds_are}
+use Rattle.recutting.proofs.Parted.{AreNumbered, all_pieces, enough, first_refs, left_length, left_used, other_refs, right_length, right_used}
 use Rattle.recutting.proofs.TwoTables.{recut_is}
 use Rattle.recutting.proofs.recutting.recut_owned.Goals as goal
 
 pub split_off-requires : goal.split_off-requires
 split_off-requires c =
     let js = c.in_ok-cuts.cuts.index in
-    let ls = c.in_ok-left_arcs.left_arcs.items in
-    let rs = c.in_ok-right_arcs.right_arcs.items in
-    let counts =
-    c.deref-4.ensures.value ∙ c.in_ok-add_table-2.ensures.counts ∙ ap (λ w. w ++ map length (pieces_from js c.deref-2.result.now 0 rs))
-    (c.in_ok-add_table.ensures.counts ∙ ap (λ w. w ++ map length (pieces_from js c.deref.result.now 0 ls)) c.in_ok-counts.ensures.items) in
-    subst (λ w. c.len-left_count.result ≤ w) (sym (c.in_ok-left_lists.left_lists.ok.0 ∙ ap length c.in_ok-left_lists.ensures))
-    (subst (λ w. w ≤ length (parted c.deref-4.result.now c.deref-3.result.now)) (sym (c.len-left_count.ensures ∙ c.in_ok-left_arcs.left_arcs.ok.0))
-    (enough js c.deref.result.now c.deref-2.result.now ls rs c.deref-4.result.now c.deref-3.result.now counts))
+    let ls = joined (pieces_from js c.deref.result.now 0 c.in_ok-left_arcs.left_arcs.items) in
+    let rs = joined (pieces_from js c.deref-2.result.now 0 c.in_ok-right_arcs.right_arcs.items) in
+    let first = c.in_ok-left_bounds.ensures.pieces ∙ ap (λ w. w ++ ls) c.in_ok-pieces.ensures.items in
+    let count = c.len-left_count.ensures ∙ c.add_table.new.pieces.ok.0 ∙ ap length first in
+    let all = c.in_ok-right_bounds.ensures.pieces ∙ ap (λ w. w ++ rs) first in
+    subst (λ w. c.len-left_count.result ≤ w) (sym c.in_ok-arcs.refs.ok.0)
+    (enough (located c.in_ok-arcs.arcs.arcs) ls rs c.add_table-2.new.pieces.items c.in_ok-arcs.refs.items c.len-left_count.result count all c.in_ok-arcs.ensures.refs)
+
+pub between-left_lists-requires : goal.between-left_lists-requires
+between-left_lists-requires c =
+    let js = c.in_ok-cuts.cuts.index in
+    let new = c.in_ok-arcs.arcs in
+    let of_left = pieces_from js c.deref.result.now 0 c.in_ok-left_arcs.left_arcs.items in
+    let ls = joined of_left in
+    let rs = joined (pieces_from js c.deref-2.result.now 0 c.in_ok-right_arcs.right_arcs.items) in
+    let first = c.in_ok-left_bounds.ensures.pieces ∙ ap (λ w. w ++ ls) c.in_ok-pieces.ensures.items in
+    let count = c.len-left_count.ensures ∙ c.add_table.new.pieces.ok.0 ∙ ap length first in
+    let all = c.in_ok-right_bounds.ensures.pieces ∙ ap (λ w. w ++ rs) first in
+    let refs = c.in_ok-right_refs.ensures.items
+    ∙ first_refs new ls rs c.add_table-2.new.pieces.items c.in_ok-arcs.refs.items c.len-left_count.result count all c.in_ok-arcs.ensures.refs in
+    bounds_are (located new.arcs) of_left c.in_ok-left_bounds.left_bounds.items _ c.in_ok-left_bounds.ensures.bounds refs
+
+pub between-right_lists-requires : goal.between-right_lists-requires
+between-right_lists-requires c =
+    let js = c.in_ok-cuts.cuts.index in
+    let new = c.in_ok-arcs.arcs in
+    let of_right = pieces_from js c.deref-2.result.now 0 c.in_ok-right_arcs.right_arcs.items in
+    let ls = joined (pieces_from js c.deref.result.now 0 c.in_ok-left_arcs.left_arcs.items) in
+    let rs = joined of_right in
+    let first = c.in_ok-left_bounds.ensures.pieces ∙ ap (λ w. w ++ ls) c.in_ok-pieces.ensures.items in
+    let count = c.len-left_count.ensures ∙ c.add_table.new.pieces.ok.0 ∙ ap length first in
+    let all = c.in_ok-right_bounds.ensures.pieces ∙ ap (λ w. w ++ rs) first in
+    let refs = c.in_ok-right_refs.ensures.tail
+    ∙ other_refs new ls rs c.add_table-2.new.pieces.items c.in_ok-arcs.refs.items c.len-left_count.result count all c.in_ok-arcs.ensures.refs in
+    bounds_are (located new.arcs) of_right c.in_ok-right_bounds.right_bounds.items _ c.in_ok-right_bounds.ensures.bounds refs
 
 are_numbered : (c : goal.After-drop-cuts-5) →
     AreNumbered c.in_ok-cuts.cuts.index c.args.left c.args.right c.deref.result.now c.deref-2.result.now c.add_table-2.new.pieces.items c.in_ok-arcs.arcs c.from_parts.result
 are_numbered c =
     let js = c.in_ok-cuts.cuts.index in
-    let ls = c.in_ok-left_arcs.left_arcs.items in
-    let rs = c.in_ok-right_arcs.right_arcs.items in
-    let count = c.len-left_count.ensures ∙ c.in_ok-left_arcs.left_arcs.ok.0 in
-    let lists = c.in_ok-left_lists.ensures in
+    let left_arcs = c.in_ok-left_arcs.left_arcs.items in
+    let right_arcs = c.in_ok-right_arcs.right_arcs.items in
+    let ls = joined (pieces_from js c.deref.result.now 0 left_arcs) in
+    let rs = joined (pieces_from js c.deref-2.result.now 0 right_arcs) in
+    let first = c.in_ok-left_bounds.ensures.pieces ∙ ap (λ w. w ++ ls) c.in_ok-pieces.ensures.items in
     record {
-      left_arcs = ls;
-      right_arcs = rs;
-      counts = c.deref-4.result.now;
-      refs = c.deref-3.result.now;
+      left_arcs = left_arcs;
+      right_arcs = right_arcs;
+      count = c.len-left_count.result;
+      refs = c.in_ok-arcs.refs.items;
       left_is = c.in_ok-left_arcs.ensures;
       right_is = c.in_ok-right_arcs.ensures;
-      pieces_are = c.in_ok-add_table-2.ensures.pieces
-          ∙ ap (λ w. w ++ joined (pieces_from js c.deref-2.result.now 0 rs))
-          (c.in_ok-add_table.ensures.pieces ∙ ap (λ w. w ++ joined (pieces_from js c.deref.result.now 0 ls)) c.in_ok-pieces.ensures.items);
-      counts_are = c.deref-4.ensures.value
-          ∙ c.in_ok-add_table-2.ensures.counts ∙ ap (λ w. w ++ map length (pieces_from js c.deref-2.result.now 0 rs))
-          (c.in_ok-add_table.ensures.counts ∙ ap (λ w. w ++ map length (pieces_from js c.deref.result.now 0 ls)) c.in_ok-counts.ensures.items);
-      refs_are = c.deref-3.ensures.value ∙ c.in_ok-arcs.ensures.refs;
+      count_is = c.len-left_count.ensures ∙ c.add_table.new.pieces.ok.0 ∙ ap length first;
+      pieces_are = c.in_ok-right_bounds.ensures.pieces ∙ ap (λ w. w ++ rs) first;
+      refs_are = c.in_ok-arcs.ensures.refs;
       arcs_are = ap (λ r. r.arcs) c.from_parts.ensures;
-      lists_left = ap (λ r. r.left) c.from_parts.ensures ∙ c.in_ok-right_lists.ensures.items ∙ (λ i. take (count i) (lists i));
-      lists_right = ap (λ r. r.right) c.from_parts.ensures ∙ c.in_ok-right_lists.ensures.tail ∙ (λ i. drop (count i) (lists i));
+      lists_left = ap (λ r. r.left) c.from_parts.ensures ∙ c.between-left_lists.ensures ∙ (λ i. parts_between (c.in_ok-left_bounds.ensures.bounds i) (c.in_ok-right_refs.ensures.items i));
+      lists_right = ap (λ r. r.right) c.from_parts.ensures ∙ c.between-right_lists.ensures
+          ∙ (λ i. parts_between (c.in_ok-right_bounds.ensures.bounds i) (c.in_ok-right_refs.ensures.tail i));
     }
 
 pub returns-clause-refined : goal.returns-clause-refined
