@@ -4,7 +4,7 @@ use Rattle.std.proofs.lemmas.Int.{ints, clamps}
 use Rattle.std.specs.Int.{int_min, int_max}
 use Rattle.grid.specs.declared.pos.Pos.{Pos}
 use Rattle.chains.specs.Extents.{between, within}
-use Rattle.chains.specs.Holding.{IsMarked}
+use Rattle.lines.specs.Holding.{IsMarked}
 use Rattle.chains.specs.declared.extent.Extent.{Extent}
 
 pub both_true : (a b : Bool) → a ≡ true → b ≡ true → (a && b) ≡ true

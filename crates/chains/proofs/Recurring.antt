@@ -1,16 +1,16 @@
 -- Vertices that come again are noted, visit by visit, and the visits at them kept.
-use Rattle.std.proofs.Common.{◌≡◌, ℕ, zero, suc, ◌+◌, ◌<◌, ◌≤◌, Bool, true, false, List, [], ◌∷◌, ◌++◌, ◌⊎◌, inl, inr, length, drop, get_or, refl, sym, ap, ◌∙◌, subst, arith}
+use Rattle.std.proofs.Common.{◌≡◌, ℕ, zero, suc, ◌+◌, ◌<◌, ◌≤◌, Bool, true, false, List, [], ◌∷◌, ◌++◌, ◌⊎◌, inl, inr, length, drop, get_or, sym, ap, ◌∙◌, subst, arith}
 use Rattle.theory.specs.Lists.{Has}
 use Rattle.theory.proofs.Lists.{Has-append, Has-append_left, Has-append_right}
 use Rattle.grid.specs.declared.pos.Pos.{Pos}
 use Rattle.lines.proofs.Positions.{true_false}
-use Rattle.chains.specs.Bits.{may_hold}
+use Rattle.lines.specs.Bits.{may_hold}
 use Rattle.chains.specs.Repeats.{HoldsClashing, IsNoted}
 use Rattle.chains.specs.Shared.{KeepsClashes}
 use Rattle.chains.specs.declared.repeats.Repeats.{Repeats}
 use Rattle.chains.specs.declared.visits.Visit.{Visit}
-use Rattle.chains.proofs.Sharing.{none_left}
-use Rattle.chains.proofs.Slices.{drop_item}
+use Rattle.lines.proofs.Dropping.{none_left}
+use Rattle.lines.proofs.Dropping.{drop_item}
 
 -- of all visits, those whose vertex is not met are still to come; of two that clash one is, or their vertex came again
 pub record AreNoted (r : Repeats) (all left : List Visit) : Type 0 where

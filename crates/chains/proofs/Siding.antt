@@ -1,11 +1,10 @@
 -- The segments that are put behind others, one by one.
-use Rattle.std.proofs.Common.{◌≡◌, ◌↔◌, ◌<◌, ◌≤◌, ◌+◌, ℕ, zero, suc, List, [], ◌∷◌, ◌++◌, length, get_or, drop, ◌⊎◌, inl, inr, refl, sym, ap, ◌∙◌, subst, Option, Some, None, slice_get, unwrap_or, arith}
+use Rattle.std.proofs.Common.{◌≡◌, ◌↔◌, ◌≤◌, ◌+◌, ℕ, zero, suc, List, [], ◌∷◌, ◌++◌, length, drop, ◌⊎◌, inl, inr, refl, sym, ap, ◌∙◌, subst, Option, Some, None, slice_get, unwrap_or, arith}
 use Rattle.grid.specs.declared.pos.Pos.{Pos}
 use Rattle.chains.specs.Joined.{AmongSegments}
 use Rattle.chains.specs.Segments.{IsBetween}
 use Rattle.chains.specs.declared.segment.Segment.{Segment}
-use Rattle.chains.proofs.Slices.{drop_item}
-use Rattle.theory.specs.Lists.{Beside, Begins, Has, Steps}
+use Rattle.theory.specs.Lists.{Beside, Has}
 use Rattle.chains.specs.Along.{arc_at, Joins, SidesFrom, SidesOf, OnArcs}
 use Rattle.chains.proofs.Stepping.{first_put, behind_first, step_on, all_put}
 

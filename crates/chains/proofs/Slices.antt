@@ -1,9 +1,10 @@
 -- Cutting a list by slices of it.
-use Rattle.std.proofs.Common.{◌≡◌, ℕ, zero, suc, ◌+◌, ◌-◌, ◌<◌, ◌≤◌, Bool, true, false, cond, List, [], ◌∷◌, ◌++◌, map, take, drop, slice_get, slice_range, length, get_or, Some, refl, sym, ap, ◌∙◌, subst, arith, append_assoc}
+use Rattle.std.proofs.Common.{◌≡◌, ℕ, zero, suc, ◌+◌, ◌-◌, ◌<◌, ◌≤◌, Bool, true, false, cond, List, [], ◌∷◌, ◌++◌, map, take, drop, slice_get, slice_range, Some, refl, sym, ap, ◌∙◌, arith, append_assoc}
 use Rattle.theory.specs.Cutting.{cut_from}
 use Rattle.grid.specs.declared.pos.Pos.{Pos}
 use Rattle.chains.specs.Pieces.{oriented, cut_list}
 use Rattle.chains.specs.declared.cutting.Piece.{Piece}
+use Rattle.lines.proofs.Dropping.{drop_next}
 
 module _ {A : Type 0} where
   take_more : (m : List A) (k : ℕ) (p : A) → slice_get m k ≡ Some p → take (suc k) m ≡ take k m ++ (p ∷ [])
@@ -11,32 +12,12 @@ module _ {A : Type 0} where
   take_more (x ∷ m) zero p e = let h : x ≡ p = cc in ap (λ w. w ∷ []) h
   take_more (x ∷ m) (suc k) p e = ap (λ w. x ∷ w) (take_more m k p e)
 
-  drop_more : (l : List A) (k : ℕ) (p : A) → slice_get l k ≡ Some p → drop k l ≡ p ∷ drop (suc k) l
-  drop_more [] k p e = absurd cc
-  drop_more (x ∷ l) zero p e = let h : x ≡ p = cc in ap (λ w. w ∷ l) h
-  drop_more (x ∷ l) (suc k) p e = drop_more l k p e
-
   get_drop : (l : List A) (b k : ℕ) → slice_get (drop b l) k ≡ slice_get l (b + k)
   get_drop l zero k = ap (slice_get l) (let e : k ≡ zero + k = omega arith in e)
   get_drop [] (suc b) k = refl
   get_drop (x ∷ l) (suc b) k =
       let e : suc b + k ≡ suc (b + k) = omega arith in
       get_drop l b k ∙ sym (ap (slice_get (x ∷ l)) e)
-
-  -- an item of a loop
-  pub item_at : (l : List A) (i : ℕ) (x : A) → i < length l → x ≡ get_or l i x → slice_get l i ≡ Some x
-  item_at [] i x h e = absurd (omega arith)
-  item_at (y ∷ l) zero x h e = ap Some (sym e)
-  item_at (y ∷ l) (suc i) x h e = item_at l i x (omega (arith, h)) e
-
-  -- what stands at a place comes first among what is left
-  pub drop_next : (l : List A) (i : ℕ) (p : A) → slice_get l i ≡ Some p → drop i l ≡ p ∷ drop (i + 1) l
-  drop_next l i p e =
-      let n : suc i ≡ i + 1 = omega arith in
-      subst (λ k. drop i l ≡ p ∷ drop k l) n (drop_more l i p e)
-
-  pub drop_item : (l : List A) (i : ℕ) (x : A) → i < length l → x ≡ get_or l i x → drop i l ≡ x ∷ drop (i + 1) l
-  drop_item l i x h e = drop_next l i x (item_at l i x h e)
 
   -- a slice of one more
   pub range_more : (l : List A) (b i : ℕ) (p : A) → b ≤ i → slice_get l i ≡ Some p → slice_range l b (i + 1) ≡ slice_range l b i ++ (p ∷ [])

@@ -23,7 +23,7 @@ use Rattle.chains.specs.Visits.{HaveSame, visit_of, inner_of, around_of, ends_of
 use Rattle.chains.specs.declared.visits.Visit.{Visit}
 use Rattle.lines.specs.Positions.{position_total, position_same}
 use Rattle.lines.proofs.Positions.{position_dec}
-use Rattle.chains.proofs.Slices.{drop_next}
+use Rattle.lines.proofs.Dropping.{drop_next}
 use Rattle.chains.proofs.Gathered.{Found, ends_has, has_ends, between_has, found_in}
 
 pub unclosed_rest : (c r : List Pos) (x : Pos) → c ≡ r ++ (x ∷ []) → unclosed c ≡ r

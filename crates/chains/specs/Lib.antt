@@ -1,7 +1,7 @@
 pub mod Among
 pub mod Visits
 pub mod Holding
-pub mod Bits
+pub mod LookUp
 pub mod Extents
 pub mod Shared
 pub mod Repeats

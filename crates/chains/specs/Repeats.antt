@@ -2,8 +2,8 @@
 use Rattle.std.specs.Prelude.{◌≡◌, Bool, true, List}
 use Rattle.theory.specs.Lists.{Has}
 use Rattle.grid.specs.declared.pos.Pos.{Pos}
-use Rattle.chains.specs.Bits.{may_hold}
-use Rattle.chains.specs.Holding.{Keeps}
+use Rattle.lines.specs.Bits.{may_hold}
+use Rattle.lines.specs.Holding.{Keeps}
 use Rattle.chains.specs.declared.repeats.Repeats.{Repeats}
 use Rattle.chains.specs.declared.visits.Visit.{Visit}
 

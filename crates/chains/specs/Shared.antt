@@ -6,7 +6,7 @@ use Rattle.theory.specs.Refinement.{unclosed}
 use Rattle.theory.specs.TopologyFunction.{keep}
 use Rattle.grid.specs.declared.pos.Pos.{Pos}
 use Rattle.chains.specs.Arcs.{Arcs}
-use Rattle.chains.specs.Bits as bits
+use Rattle.lines.specs.Bits as bits
 use Rattle.chains.specs.Extents.{within}
 use Rattle.chains.specs.OfArcs.{arc_pieces}
 use Rattle.chains.specs.Table.{is_loop}

@@ -2,7 +2,8 @@
 ghost use Rattle.std.specs.Prelude.{◌≡◌};
 ghost use Rattle.std.specs.Int.{int_min, int_max};
 ghost use Rattle.chains.specs.Extents.{between, within};
-ghost use Rattle.chains.specs.Holding.{AreDealtTo, AreMarked, HoldAll};
+ghost use Rattle.lines.specs.Holding.{AreMarked};
+ghost use Rattle.chains.specs.Holding.{AreDealtTo, HoldAll};
 
 use crate::table::ArcTable;
 use grid::limits::{GREATEST_GRID_NUMBER, LEAST_GRID_NUMBER};

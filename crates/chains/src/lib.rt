@@ -2,7 +2,6 @@
 //! the maximal chains over any segments.
 #![tactic(auto)]
 
-mod bits;
 pub mod cutting;
 mod extent;
 pub mod joining;

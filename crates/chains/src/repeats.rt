@@ -1,12 +1,12 @@
 //! Which visits stand at a vertex that others visit too: only these can clash.
 ghost use Rattle.std.specs.Prelude.{IfOk};
-ghost use Rattle.chains.specs.Bits.{may_hold};
+ghost use Rattle.lines.specs.Bits.{may_hold};
 ghost use Rattle.chains.specs.Repeats.{HoldsClashing, IsNoted};
 ghost use Rattle.chains.specs.Shared.{KeepsClashes};
 
-use crate::bits::PositionBits;
 use crate::visits::Visit;
 use grid::pos::Pos;
+use lines::bits::PositionBits;
 use std::alloc::{AllocError, Global};
 
 /// How many visits share a word of the bits of all vertices.

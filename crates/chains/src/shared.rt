@@ -8,10 +8,10 @@ ghost use Rattle.chains.specs.Extents.{within};
 ghost use Rattle.chains.specs.Shared as spec;
 ghost use Rattle.chains.specs.Shared.{HoldCommon, kept_if, may_hold};
 
-use crate::bits::PositionBits;
 use crate::extent::Extent;
 use crate::table::ArcTable;
 use grid::pos::Pos;
+use lines::bits::PositionBits;
 use std::alloc::{AllocError, Global};
 
 /// The extent of a table's arcs, and the bits of those vertices that lie in the extent of the other

@@ -2,8 +2,8 @@
 ghost use Rattle.std.specs.Prelude.{◌≡◌, IfOk};
 ghost use Rattle.chains.specs.Among.{among};
 
-use crate::bits::PositionBits;
 use grid::pos::Pos;
+use lines::bits::PositionBits;
 use std::alloc::{AllocError, Global};
 use std::collections::BTreeSet;
 use std::marker::Model;
@@ -18,8 +18,8 @@ pub(crate) struct StopSet<'a> {
 impl<'a> Model for StopSet<'a> {
     ghost use Rattle.std.specs.Prelude.{List};
     ghost use Rattle.grid.specs.declared.pos.Pos.{Pos};
-    ghost use Rattle.chains.specs.Bits.{may_hold};
-    ghost use Rattle.chains.specs.Holding.{Holds};
+    ghost use Rattle.lines.specs.Bits.{may_hold};
+    ghost use Rattle.lines.specs.Holding.{Holds};
 
     ghost Value = { List Pos };
 

@@ -17,13 +17,13 @@ ghost use Rattle.theory.specs.Refinement.{IsUnionOf, unclosed};
 ghost use Rattle.shapes.specs.Maps.{set_of};
 ghost use Rattle.shapes.specs.Sets as set;
 
-use crate::bits::{PositionBits, place_among};
 use crate::extent::Extent;
 use crate::repeats::repeated;
 use crate::shared::{VertexBits, inside};
 use crate::table::ArcTable;
 use faults::OutOfMemory;
 use grid::pos::Pos;
+use lines::bits::{PositionBits, place_among};
 use lines::items::Items;
 use lines::line::Line;
 use lines::pair::Pair;
@@ -348,7 +348,7 @@ pub struct VisitIndex {
 impl Model for VisitIndex {
     ghost use Rattle.std.specs.Prelude.{List};
     ghost use Rattle.grid.specs.declared.pos.Pos.{Pos};
-    ghost use Rattle.chains.specs.Bits.{IsLookUp};
+    ghost use Rattle.chains.specs.LookUp.{IsLookUp};
 
     ghost Value = { List Pos };
 

@@ -1,5 +1,5 @@
 -- Lists with an element at two places, in order and before they are sorted.
-use Rattle.std.proofs.Common.{◌≡◌, ℕ, ◌+◌, ◌≤◌, cond, List, [], ◌∷◌, ◌⊎◌, inl, inr, refl, sym, ap, subst, arith}
+use Rattle.std.proofs.Common.{◌≡◌, ℕ, ◌+◌, ◌≤◌, Bool, true, false, cond, List, [], ◌∷◌, ◌⊎◌, inl, inr, refl, sym, ap, ◌∙◌, subst, arith}
 use Rattle.std.specs.List.{sum_by}
 use Rattle.std.specs.List.Sorted.{IsPermutation}
 use Rattle.std.specs.Cmp.{IsTotalOrder, tied_itself}
@@ -8,13 +8,45 @@ use Rattle.std.specs.declared.cmp.Ordering.{Ordering}
 use Rattle.std.specs.declared.cmp.Ordering.TheVariants.{Less, Equal, Greater}
 use Rattle.std.proofs.lemmas.List.Sums.{sum_by-cons}
 use Rattle.std.proofs.lemmas.List.Sorted.{sum_by-IsPermutation}
-use Rattle.theory.specs.Lists.{Has}
+use Rattle.theory.specs.Lists.{Has, Twice}
+use Rattle.theory.specs.TopologyFunction.{keep}
+use Rattle.theory.proofs.Turning.{keep_has, has_keep}
 use Rattle.lines.proofs.SortedLists.{Up, squeezed}
 
 -- an element stands at two places
 abbrev pub Doubled : {X : Type 0} → List X → Type 0
 Doubled [] = ⊥
 Doubled (x ∷ l) = Has x l ⊎ Doubled l
+
+pub doubled_twice : {X : Type 0} (l : List X) → Doubled l → (x : X) × Twice x l
+doubled_twice [] h = absurd h
+doubled_twice (x ∷ l) (inl h) = (x, inl (refl, h))
+doubled_twice (x ∷ l) (inr h) = let t = doubled_twice l h in (t.0, inr t.1)
+
+pub twice_doubled : {X : Type 0} (x : X) (l : List X) → Twice x l → Doubled l
+twice_doubled x [] h = absurd h
+twice_doubled x (y ∷ l) (inl h) = inl (subst (λ w. Has w l) h.0 h.1)
+twice_doubled x (y ∷ l) (inr h) = inr (twice_doubled x l h)
+
+-- what stands twice does so among those that are kept, where it is one of them
+pub twice_kept : {X : Type 0} (f : X → Bool) (l : List X) (x : X) → f x ≡ true → Twice x l → Twice x (keep f l)
+twice_kept f [] x e h = absurd h
+twice_kept {X} f (y ∷ l) x e h = go (f y) refl h (λ k. twice_kept f l x e k)
+  where
+    go : (b : Bool) → f y ≡ b → Twice x (y ∷ l) → (Twice x l → Twice x (keep f l)) → Twice x (cond b (y ∷ keep f l) (keep f l))
+    go true q (inl k) ih = inl (k.0, has_keep f l x k.1 e)
+    go true q (inr k) ih = inr (ih k)
+    go false q (inl k) ih = absurd (let z : true ≡ false = sym e ∙ ap f k.0 ∙ q in cc)
+    go false q (inr k) ih = ih k
+
+pub kept_doubled : {X : Type 0} (f : X → Bool) (l : List X) → Doubled (keep f l) → Doubled l
+kept_doubled f [] h = absurd h
+kept_doubled {X} f (y ∷ l) h = go (f y) h (λ k. kept_doubled f l k)
+  where
+    go : (b : Bool) → Doubled (cond b (y ∷ keep f l) (keep f l)) → (Doubled (keep f l) → Doubled l) → Doubled (y ∷ l)
+    go true (inl k) ih = inl (keep_has f l y k).0
+    go true (inr k) ih = inr (ih k)
+    go false k ih = inr (ih k)
 
 -- two neighbours are equal, where x stands before the list
 abbrev pub EqualFrom : {X : Type 0} → X → List X → Type 0

@@ -8,3 +8,6 @@ pub mod Least
 pub mod Windows
 pub mod Codes
 pub mod ReadsItself
+pub mod Dropping
+pub mod Marking
+pub mod Retracing

@@ -1,9 +1,13 @@
 -- Whether a segment stands twice, as sorting tells it.
-use Rattle.std.proofs.Common.{◌≡◌, Bool, true, false, cond, List, [], ◌∷◌, ◌⊎◌, inl, inr, refl, sym, ap, ◌∙◌, subst}
+use Rattle.std.proofs.Common.{◌≡◌, ℕ, ◌+◌, ◌<◌, Bool, true, false, cond, List, [], ◌∷◌, ◌++◌, ◌⊎◌, inl, inr, length, drop, get_or, nat_eq, refl, sym, ap, ◌∙◌, subst, arith, append_assoc}
+use Rattle.std.proofs.lemmas.Bool.{eqb-true}
 use Rattle.std.specs.List.Sorted.{IsPermutation, IsSorted}
 use Rattle.std.proofs.lemmas.List.Sorted.{IsPermutation-sym}
 use Rattle.grid.specs.declared.pos.Pos.{Pos}
 use Rattle.theory.specs.Lists.{Has, Steps, Beside}
+use Rattle.theory.specs.TopologyFunction.{keep}
+use Rattle.lines.specs.Again.{HoldEnds, joins}
+use Rattle.lines.specs.Holding.{Holds}
 use Rattle.lines.specs.Turned.{position_cmp}
 use Rattle.lines.specs.Positions.{position_total, position_same}
 use Rattle.lines.specs.Pairs.{pair_eq, pair_cmp, pair_of}
@@ -11,8 +15,10 @@ use Rattle.lines.specs.Reading.{repeats}
 use Rattle.lines.specs.Segments.{segments_from, segments_of, equal_from, equal_neighbours}
 use Rattle.lines.specs.declared.pair.Pair.{Pair}
 use Rattle.lines.proofs.SortedLists.{up_from_sorted}
-use Rattle.lines.proofs.Doubles.{Doubled, EqualFrom, equal_from_doubled, doubled_from_equal, Doubled-permutation}
+use Rattle.lines.proofs.Dropping.{drop_item}
+use Rattle.lines.proofs.Doubles.{Doubled, EqualFrom, doubled_twice, twice_doubled, twice_kept, kept_doubled, equal_from_doubled, doubled_from_equal, Doubled-permutation}
 use Rattle.lines.proofs.Pairs.{pair_total, pair_tied, pair_true, pair_refl, pair_same, pair_flip, pair_at}
+use Rattle.lines.proofs.Positions.{both_intro}
 use Rattle.lines.proofs.Trails.{Repeats, repeats_told, told_repeats}
 
 equal_yes : (s : Pair) (l : List Pair) → equal_from s l ≡ true → EqualFrom s l
@@ -72,27 +78,72 @@ one_test true t f g = sym (f refl)
 one_test false true f g = g refl
 one_test false false f g = refl
 
--- neighbours in a sorted list of the segments tell whether one stands twice
-told_by_sorting : (l : List Pos) (ys : List Pair) → IsPermutation (segments_of l) ys → IsSorted pair_cmp ys →
-    equal_neighbours ys ≡ repeats position_cmp l
-told_by_sorting l [] p s =
+-- neighbours in a sorted list tell whether a segment stands twice, where one does so in the list only if one does so among the segments
+told_by_sorting : (l : List Pos) (xs ys : List Pair) → (Doubled (segments_of l) → Doubled xs) → (Doubled xs → Doubled (segments_of l)) →
+    IsPermutation xs ys → IsSorted pair_cmp ys → equal_neighbours ys ≡ repeats position_cmp l
+told_by_sorting l xs [] f g p s =
     one_test false (repeats position_cmp l) (λ e. absurd cc)
-    (λ e. absurd (Doubled-permutation pair_cmp pair_total pair_tied (segments_of l) [] p (repeats_all l (repeats_told position_cmp position_total position_same l e))))
-told_by_sorting l (y ∷ ys) p s =
+    (λ e. absurd (Doubled-permutation pair_cmp pair_total pair_tied xs [] p (f (repeats_all l (repeats_told position_cmp position_total position_same l e)))))
+told_by_sorting l xs (y ∷ ys) f g p s =
     one_test (equal_from y ys) (repeats position_cmp l)
     (λ e. told_repeats position_cmp position_total position_same l
-    (all_repeats l (Doubled-permutation pair_cmp pair_total pair_tied (y ∷ ys) (segments_of l) (IsPermutation-sym (segments_of l) (y ∷ ys) p)
-    (doubled_from_equal pair_cmp pair_total pair_tied y ys (equal_yes y ys e)))))
-    (λ e. no_no (equal_from y ys) (λ f. equal_no y ys f
+    (all_repeats l (g (Doubled-permutation pair_cmp pair_total pair_tied (y ∷ ys) xs (IsPermutation-sym xs (y ∷ ys) p)
+    (doubled_from_equal pair_cmp pair_total pair_tied y ys (equal_yes y ys e))))))
+    (λ e. no_no (equal_from y ys) (λ n. equal_no y ys n
     (equal_from_doubled pair_cmp pair_total pair_tied y ys (up_from_sorted pair_cmp pair_total (y ∷ ys) s)
-    (Doubled-permutation pair_cmp pair_total pair_tied (segments_of l) (y ∷ ys) p (repeats_all l (repeats_told position_cmp position_total position_same l e))))))
+    (Doubled-permutation pair_cmp pair_total pair_tied xs (y ∷ ys) p (f (repeats_all l (repeats_told position_cmp position_total position_same l e)))))))
   where
     no_no : (b : Bool) → ¬ (b ≡ false) → b ≡ true
     no_no true n = refl
     no_no false n = absurd (n refl)
 
+-- a segment that stands twice does so among those whose ends may be among the noted ones
+doubled_between : (l ends : List Pos) (may : Pos → Bool) → HoldEnds ends l → Holds may ends → Doubled (segments_of l) → Doubled (keep (joins may) (segments_of l))
+doubled_between l ends may noted held h =
+    let t = doubled_twice (segments_of l) h in
+    let k = noted t.0 t.1 in
+    let m : joins may t.0 ≡ true = both_intro (may t.0.lesser) (may t.0.greater) (held t.0.lesser k.0) (held t.0.greater k.1) in
+    twice_doubled t.0 (keep (joins may) (segments_of l)) (twice_kept (joins may) (segments_of l) t.0 m t.1)
+
 -- the same in the form of the code: made, sorted, looked through
-pub told_by_code : (l : List Pos) (xs ys zs : List Pair) (b : Bool) → xs ≡ segments_of l → IsPermutation xs ys → IsSorted pair_cmp ys →
-    zs ≡ ys → b ≡ equal_neighbours zs → b ≡ repeats position_cmp l
-told_by_code l xs ys zs b e p s f g =
-    g ∙ ap equal_neighbours f ∙ told_by_sorting l ys (subst (λ w. IsPermutation w ys) e p) s
+pub told_by_code : (l ends marked : List Pos) (may : Pos → Bool) (xs ys zs : List Pair) (b : Bool) → HoldEnds ends l → marked ≡ ends → Holds may marked →
+    xs ≡ keep (joins may) (segments_of l) → IsPermutation xs ys → IsSorted pair_cmp ys → zs ≡ ys → b ≡ equal_neighbours zs → b ≡ repeats position_cmp l
+told_by_code l ends marked may xs ys zs b noted same held e p s f g =
+    g ∙ ap equal_neighbours f
+    ∙ told_by_sorting l (keep (joins may) (segments_of l)) ys (doubled_between l ends may noted (subst (Holds may) same held))
+    (kept_doubled (joins may) (segments_of l)) (subst (λ w. IsPermutation w ys) e p) s
+
+-- where no ends are noted no segment stands twice
+pub none_told : (l ends : List Pos) (n : ℕ) (b : Bool) → HoldEnds ends l → n ≡ length ends → b ≡ nat_eq n 0 → b ≡ true → false ≡ repeats position_cmp l
+none_told l ends n b noted m e t =
+    one_test false (repeats position_cmp l) (λ f. absurd cc)
+    (λ f.
+    (let d = doubled_twice (segments_of l) (repeats_all l (repeats_told position_cmp position_total position_same l f)) in
+    absurd (nothing ends (sym m ∙ eqb-true n 0 (sym e ∙ t)) d.0.lesser (noted d.0 d.1).0)))
+  where
+    nothing : (ps : List Pos) → length ps ≡ 0 → (p : Pos) → ¬ Has p ps
+    nothing [] z p h = h
+    nothing (x ∷ ps) z p h = absurd (omega (arith, z))
+
+-- one more segment is kept, or left out
+kept_from : (f : Pair → Bool) (here next : Pos) (others : List Pos) (i : ℕ) (b : Bool) → i < length others → next ≡ get_or others i next → f (pair_of here next) ≡ b →
+    keep f (segments_from here (drop i others))
+    ≡ cond b (pair_of here next ∷ keep f (segments_from next (drop (i + 1) others))) (keep f (segments_from next (drop (i + 1) others)))
+kept_from f here next others i b h e t =
+    ap (λ l. keep f (segments_from here l)) (drop_item others i next h e)
+    ∙ ap (λ t. cond t (pair_of here next ∷ keep f (segments_from next (drop (i + 1) others))) (keep f (segments_from next (drop (i + 1) others)))) t
+
+pub segment_kept : (f : Pair → Bool) (made more whole : List Pair) (segment : Pair) (here next : Pos) (others : List Pos) (i : ℕ) (b : Bool) →
+    i < length others → next ≡ get_or others i next → segment ≡ pair_of here next → b ≡ f segment → b ≡ true → more ≡ made ++ (segment ∷ []) →
+    made ++ keep f (segments_from here (drop i others)) ≡ whole → more ++ keep f (segments_from next (drop (i + 1) others)) ≡ whole
+segment_kept f made more whole segment here next others i b h e s t y m before =
+    let rest = keep f (segments_from next (drop (i + 1) others)) in
+    ap (λ l. l ++ rest) m ∙ append_assoc made (segment ∷ []) rest ∙ ap (λ w. made ++ (w ∷ rest)) s
+    ∙ sym (ap (λ l. made ++ l) (kept_from f here next others i true h e (ap f (sym s) ∙ sym t ∙ y))) ∙ before
+
+pub segment_left_out : (f : Pair → Bool) (made more whole : List Pair) (segment : Pair) (here next : Pos) (others : List Pos) (i : ℕ) (b : Bool) →
+    i < length others → next ≡ get_or others i next → segment ≡ pair_of here next → b ≡ f segment → b ≡ false → more ≡ made →
+    made ++ keep f (segments_from here (drop i others)) ≡ whole → more ++ keep f (segments_from next (drop (i + 1) others)) ≡ whole
+segment_left_out f made more whole segment here next others i b h e s t n m before =
+    ap (λ l. l ++ keep f (segments_from next (drop (i + 1) others))) m
+    ∙ sym (ap (λ l. made ++ l) (kept_from f here next others i false h e (ap f (sym s) ∙ sym t ∙ n))) ∙ before

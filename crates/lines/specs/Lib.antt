@@ -5,3 +5,6 @@ pub mod Positions
 pub mod Pairs
 pub mod Segments
 pub mod Seen
+pub mod Holding
+pub mod Bits
+pub mod Again

@@ -1,6 +1,8 @@
 //! Lines and rings: lists of positions that use no segment twice.
 #![tactic(auto)]
 
+mod again;
+pub mod bits;
 pub mod items;
 pub mod line;
 pub mod pair;

@@ -1,3 +1,4 @@
+use crate::bits::{PositionBits, place_among};
 use crate::items::Items;
 use crate::line::Line;
 use crate::ring::Ring;
@@ -88,6 +89,55 @@ fn closed_lists(rt: HostRuntime) -> Result<(), Fail> {
     check(&rt, alloc, &[A, B, C, A, D, E, A], None, None)?;
     check(&rt, alloc, &[A, B, A, B, A], again, again)?;
     check(&rt, alloc, &[A, B, C, B, A], again, again)
+}
+
+#[test]
+fn segments_used_again(rt: HostRuntime) -> Result<(), Fail> {
+    let again = Some(ShapeFault::Revisit);
+    let open = Some(ShapeFault::NotClosed);
+    let alloc = rt.alloc();
+    check(&rt, alloc, &[A, B, C, A, B, D], again, open)?;
+    check(&rt, alloc, &[A, B, C, D, B, A], again, again)?;
+    check(&rt, alloc, &[D, A, B, A, C], again, open)?;
+    check(&rt, alloc, &[A, B, C, A, D, B, E], None, open)?;
+    check(&rt, alloc, &[A, B, C, D, A, C], None, open)
+}
+
+#[test]
+fn long_lists(rt: HostRuntime) -> Result<(), Fail> {
+    let alloc = rt.alloc();
+    let mut places = Vec::new(alloc);
+    for across in 0i64..300 {
+        places.push((across, across % 2))?;
+    }
+    let open = Some(ShapeFault::NotClosed);
+    check(&rt, alloc, places.as_slice(), None, open)?;
+    places.push((11, 1))?;
+    check(&rt, alloc, places.as_slice(), None, open)?;
+    places.push((10, 0))?;
+    check(
+        &rt,
+        alloc,
+        places.as_slice(),
+        Some(ShapeFault::Revisit),
+        open,
+    )
+}
+
+#[test]
+fn bits_of_positions(rt: HostRuntime) -> Result<(), Fail> {
+    let alloc = rt.alloc();
+    let dealt = positions(alloc, &[A, B, C])?;
+    let bits = PositionBits::of(alloc, &dealt)?;
+    let mut marked = PositionBits::clear(alloc, 0)?;
+    for position in &dealt {
+        assert!(rt; bits.may_hold(*position));
+        assert!(rt; place_among(7, *position) < 7);
+        assert!(rt; !PositionBits::clear(alloc, 9)?.may_hold(*position));
+        marked.mark(*position);
+        assert!(rt; marked.may_hold(*position));
+    }
+    Ok(())
 }
 
 #[test]

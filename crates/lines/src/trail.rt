@@ -1,23 +1,44 @@
 //! What makes a list of positions a trail: neighbours differ, and no segment stands twice.
 ghost use Rattle.std.specs.Prelude.{◌≡◌, IfOk};
+ghost use Rattle.theory.specs.TopologyFunction.{keep};
+ghost use Rattle.lines.specs.Again.{joins};
+ghost use Rattle.lines.specs.Bits.{may_hold};
 ghost use Rattle.lines.specs.Reading.{collapsed, is_closed as closes, repeats};
 ghost use Rattle.lines.specs.Segments.{segments_of, equal_neighbours};
 ghost use Rattle.lines.specs.Turned.{position_cmp};
 
+use crate::again::ends_again;
+use crate::bits::PositionBits;
 use crate::pair::Pair;
 use grid::pos::Pos;
 use std::alloc::{AllocError, Global};
 
-fn all_segments(alloc: Global, positions: &[Pos]) -> Result<Vec<Pair>, AllocError>
-    ensures { IfOk result (λ made. made.items ≡ segments_of positions.now) }
+/// Whether both ends of a segment may be among some positions.
+fn may_join(ends: &PositionBits, segment: Pair) -> bool
+    ensures { result ≡ joins (may_hold ends.now) segment }
 {
-    let mut made = Vec::with_capacity(alloc, positions.len())?;
+    let (lesser, greater) = segment.ends();
+    ends.may_hold(lesser) && ends.may_hold(greater)
+}
+
+/// The segments both of whose ends may be among some positions, in the list's order.
+fn segments_between(
+    alloc: Global,
+    ends: &PositionBits,
+    positions: &[Pos],
+) -> Result<Vec<Pair>, AllocError>
+    ensures { IfOk result (λ made. made.items ≡ keep (joins (may_hold ends.now)) (segments_of positions.now)) }
+{
+    let mut made = Vec::new(alloc);
     let Some((first, others)) = positions.split_first() else {
         return Ok(made);
     };
     let mut here = *first;
     for next in others {
-        made.push(Pair::of(here, *next))?;
+        let segment = Pair::of(here, *next);
+        if may_join(ends, segment) {
+            made.push(segment)?;
+        }
         here = *next;
     }
     Ok(made)
@@ -39,11 +60,17 @@ fn has_equal_neighbours(segments: &[Pair]) -> bool
     false
 }
 
-/// Whether some unordered pair of neighbours stands at two places, in time n log n.
+/// Whether some unordered pair of neighbours stands at two places, in time n log n. Only segments are sorted
+/// whose ends may both be met again; in most lists there are none.
 pub(crate) fn repeats_segment(alloc: Global, positions: &[Pos]) -> Result<bool, AllocError>
     ensures { IfOk result (λ found. found ≡ repeats position_cmp positions.now) }
 {
-    let mut segments = all_segments(alloc, positions)?;
+    let ends = ends_again(alloc, positions)?;
+    if ends.is_empty() {
+        return Ok(false);
+    }
+    let bits = PositionBits::of(alloc, &ends)?;
+    let mut segments = segments_between(alloc, &bits, positions)?;
     segments.sort_unstable();
     Ok(has_equal_neighbours(&segments))
 }

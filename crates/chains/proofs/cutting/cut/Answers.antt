@@ -1,6 +1,7 @@
 use Rattle.std.proofs.Common.{sym, ap, ◌∙◌, arith}
 use Rattle.chains.specs.Among.{among}
-use Rattle.chains.proofs.Slices.{item_at, cut_stop, cut_pass}
+use Rattle.lines.proofs.Dropping.{item_at}
+use Rattle.chains.proofs.Slices.{cut_stop, cut_pass}
 use Rattle.chains.proofs.cutting.cut.Goals as goal
 use Rattle.chains.proofs.cutting.cut.Goals.{then-is_junction+in_ok-piece_of+in_ok-push, else-is_junction}
 

@@ -5,7 +5,7 @@ use Rattle.chains.specs.Joined.{AmongSegments, IsJoining, Took}
 use Rattle.chains.proofs.Noting.{joining_start}
 use Rattle.chains.proofs.WalkSteps.{removed}
 use Rattle.chains.proofs.Found.{two_steps, looped, all_found, Among-drop, Among-past, empty_links, none_below}
-use Rattle.chains.proofs.Slices.{drop_item}
+use Rattle.lines.proofs.Dropping.{drop_item}
 use Rattle.grid.specs.declared.pos.Pos.{Pos}
 use Rattle.chains.proofs.joining.chains_of.Goals as goal
 

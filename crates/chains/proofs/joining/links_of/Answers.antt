@@ -2,7 +2,7 @@ use Rattle.std.proofs.Common.{◌≡◌, ap, sym, ◌∙◌, drop, ◌+◌, subs
 use Rattle.grid.specs.declared.pos.Pos.{Pos}
 use Rattle.chains.specs.Walk.{links_in}
 use Rattle.chains.specs.Links.{noted, noted_all}
-use Rattle.chains.proofs.Slices.{drop_item}
+use Rattle.lines.proofs.Dropping.{drop_item}
 use Rattle.chains.proofs.joining.links_of.Goals as goal
 
 pub loop-segment-preserved : goal.loop-segment-preserved

@@ -1,7 +1,7 @@
 use Rattle.std.proofs.Common.{◌+◌, ◌∷◌, drop, ap, sym, ◌∙◌}
 use Rattle.std.specs.Ordering.{is_lt}
 use Rattle.chains.specs.Stored.{rises}
-use Rattle.chains.proofs.Slices.{drop_item}
+use Rattle.lines.proofs.Dropping.{drop_item}
 use Rattle.chains.proofs.AsTheyStand.{rising_step, rising_stop}
 use Rattle.chains.proofs.ordered.is_rising.Goals as goal
 

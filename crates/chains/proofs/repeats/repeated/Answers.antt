@@ -1,5 +1,5 @@
 use Rattle.std.proofs.Common.{sym, ap, ◌∙◌}
-use Rattle.chains.specs.Bits.{may_hold}
+use Rattle.lines.specs.Bits.{may_hold}
 use Rattle.chains.proofs.Recurring.{all_kept, one_kept, one_left_out}
 use Rattle.chains.proofs.repeats.repeated.Goals.{then-may_hold+in_ok-push, else-may_hold}
 use Rattle.chains.proofs.repeats.repeated.Goals as goal

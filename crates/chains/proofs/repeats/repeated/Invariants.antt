@@ -1,5 +1,5 @@
 use Rattle.std.proofs.Common.{drop}
-use Rattle.chains.specs.Bits.{may_hold}
+use Rattle.lines.specs.Bits.{may_hold}
 use Rattle.chains.proofs.Recurring.{AreKept}
 use Rattle.chains.proofs.repeats.repeated.Given as goal
 

@@ -1,5 +1,5 @@
 use Rattle.std.proofs.Common.{drop, ◌+◌}
-use Rattle.chains.proofs.Slices.{drop_item}
+use Rattle.lines.proofs.Dropping.{drop_item}
 use Rattle.chains.proofs.Siding.{done_along, none_left, step_along}
 use Rattle.chains.proofs.sides.note_arc.Goals as goal
 

@@ -1,6 +1,7 @@
 use Rattle.std.proofs.Common.{◌<◌, ◌≤◌, inl, inr, subst}
 use Rattle.chains.specs.Extents.{within}
-use Rattle.chains.proofs.Sharing.{arc_marked, none_left}
+use Rattle.chains.proofs.Sharing.{arc_marked}
+use Rattle.lines.proofs.Dropping.{none_left}
 use Rattle.chains.proofs.extent.Extent.around.Goals as goal
 
 pub loop-number-preserved : goal.loop-number-preserved

@@ -1,6 +1,6 @@
 use Rattle.chains.specs.Extents.{within}
 use Rattle.chains.proofs.Extents.{widened}
-use Rattle.chains.proofs.Sharing.{all_marked, one_marked}
+use Rattle.lines.proofs.Marking.{all_marked, one_marked}
 use Rattle.chains.proofs.extent.Extent.widen_all.Goals as goal
 
 pub loop-position-preserved : goal.loop-position-preserved

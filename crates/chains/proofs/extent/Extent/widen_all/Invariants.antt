@@ -1,6 +1,6 @@
 use Rattle.std.proofs.Common.{drop}
 use Rattle.chains.specs.Extents.{within}
-use Rattle.chains.proofs.Sharing.{AreLeft}
+use Rattle.lines.proofs.Marking.{AreLeft}
 use Rattle.chains.proofs.extent.Extent.widen_all.Given as goal
 
 abbrev pub invariant-loop-position : goal.invariant-loop-position

@@ -3,7 +3,7 @@ use Rattle.theory.proofs.ListsOfLists.{Has-gathered}
 use Rattle.theory.proofs.Turning.{has_keep}
 use Rattle.theory.specs.TopologyFunction.{keep}
 use Rattle.theory.specs.Lists.{Has}
-use Rattle.chains.specs.Bits.{may_hold}
+use Rattle.lines.specs.Bits.{may_hold}
 use Rattle.chains.specs.Extents.{within}
 use Rattle.chains.proofs.Extents.{both_true}
 use Rattle.chains.proofs.shared.VertexBits.of.Goals as goal

@@ -1,6 +1,6 @@
-use Rattle.chains.specs.Bits.{may_hold}
-use Rattle.chains.proofs.Sharing.{all_marked, one_marked}
-use Rattle.chains.proofs.bits.PositionBits.mark_all.Goals as goal
+use Rattle.lines.specs.Bits.{may_hold}
+use Rattle.lines.proofs.Marking.{all_marked, one_marked}
+use Rattle.lines.proofs.bits.PositionBits.mark_all.Goals as goal
 
 pub loop-position-preserved : goal.loop-position-preserved
 loop-position-preserved c =

@@ -1,7 +1,7 @@
 use Rattle.std.proofs.Common.{◌<◌, ◌≤◌, ◌∙◌, subst}
-use Rattle.chains.proofs.Sharing.{mask_set, past_words}
-use Rattle.chains.proofs.Slices.{item_at}
-use Rattle.chains.proofs.bits.set_mask.Goals as goal
+use Rattle.lines.proofs.Marking.{mask_set, past_words}
+use Rattle.lines.proofs.Dropping.{item_at}
+use Rattle.lines.proofs.bits.set_mask.Goals as goal
 
 pub returns-then-at-len : goal.returns-then-at-len
 returns-then-at-len c =

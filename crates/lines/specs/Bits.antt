@@ -1,11 +1,8 @@
 -- The bits that positions set in words.
 use Rattle.std.specs.Prelude.{◌≡◌, ℕ, ◌+◌, ◌*◌, ◌/◌, ◌%◌, ◌^◌, Bool, true, List, bit_and, bit_or, nat_eq, Option, Some, None, slice_get}
 use Rattle.std.specs.Int.{cast_unsigned}
-use Rattle.std.specs.List.Sorted.{IsSorted}
 use Rattle.grid.specs.declared.pos.Pos.{Pos}
-use Rattle.lines.specs.Turned.{position_cmp}
-use Rattle.chains.specs.Holding.{Holds}
-use Rattle.chains.specs.declared.bits.PositionBits.{PositionBits}
+use Rattle.lines.specs.declared.bits.PositionBits.{PositionBits}
 use mir.Syntax.{w64}
 
 -- a number for a position
@@ -40,8 +37,3 @@ AreSet at mask old new = ((n m : ℕ) → mask_at old n m ≡ true → mask_at n
 -- whether the bits of a position are set
 abbrev pub may_hold : PositionBits → Pos → Bool
 may_hold s p = mask_at s.words.items (place_among s.count p) (mask_of p)
-
--- a sorted list and its bits
-pub record IsLookUp (bits : PositionBits) (js : List Pos) : Type 0 where
-  pub sorted : IsSorted position_cmp js
-  pub held : Holds (may_hold bits) js

@@ -1,9 +1,9 @@
 //! Words in which positions set bits, so that most look-ups of a position end at once: most positions
 //! that are not among those dealt find a bit of theirs not set.
 ghost use Rattle.std.specs.Prelude.{◌≡◌, IfOk, max, replicate, true};
-ghost use Rattle.chains.specs.Bits as spec;
-ghost use Rattle.chains.specs.Bits.{AreSet, mask_at, may_hold};
-ghost use Rattle.chains.specs.Holding.{AreMarked, Holds, IsMarked};
+ghost use Rattle.lines.specs.Bits as spec;
+ghost use Rattle.lines.specs.Bits.{AreSet, mask_at, may_hold};
+ghost use Rattle.lines.specs.Holding.{AreMarked, Holds, IsMarked};
 
 use grid::pos::Pos;
 use std::alloc::{AllocError, Global};
@@ -13,7 +13,7 @@ const POSITIONS_EACH: usize = 2;
 
 /// How many words there are, and the bits that positions set in them.
 #[derive(Drop)]
-pub(crate) struct PositionBits {
+pub struct PositionBits {
     count: usize,
     words: Vec<u64>,
 }
@@ -28,7 +28,7 @@ fn hash(p: Pos) -> u64
 }
 
 /// The place of a position, of so many.
-pub(crate) fn place_among(count: usize, p: Pos) -> usize
+pub fn place_among(count: usize, p: Pos) -> usize
     ensures { result ≡ spec.place_among count p }
 {
     ((hash(p) >> 32).wrapping_mul(count as u64) >> 32) as usize
@@ -70,7 +70,7 @@ fn set_mask(words: &mut Vec<u64>, at: usize, mask: u64)
 
 impl PositionBits {
     /// So many words, or one where that is none, in which no bits are set.
-    pub(crate) fn clear(alloc: Global, count: usize) -> Result<PositionBits, AllocError>
+    pub fn clear(alloc: Global, count: usize) -> Result<PositionBits, AllocError>
         ensures count { IfOk result (λ s. s.count ≡ max count 1) }
         ensures words { IfOk result (λ s. s.words.items ≡ replicate s.count 0) }
     {
@@ -80,7 +80,7 @@ impl PositionBits {
     }
 
     /// Sets the bits of a position.
-    pub(crate) fn mark(&mut self, p: Pos)
+    pub fn mark(&mut self, p: Pos)
         ensures { IsMarked p (may_hold self.old) (may_hold self.new) }
     {
         set_mask(&mut self.words, place_among(self.count, p), mask_of(p));
@@ -96,7 +96,7 @@ impl PositionBits {
     }
 
     /// The bits of positions.
-    pub(crate) fn of(alloc: Global, positions: &[Pos]) -> Result<PositionBits, AllocError>
+    pub fn of(alloc: Global, positions: &[Pos]) -> Result<PositionBits, AllocError>
         ensures { IfOk result (λ s. Holds (may_hold s) positions.now) }
     {
         let mut bits = PositionBits::clear(alloc, positions.len() / POSITIONS_EACH)?;
@@ -105,7 +105,7 @@ impl PositionBits {
     }
 
     /// Whether the bits of a position are set. Where they are not, it is none of those dealt.
-    pub(crate) fn may_hold(&self, p: Pos) -> bool
+    pub fn may_hold(&self, p: Pos) -> bool
         ensures { result ≡ may_hold self.now p }
     {
         has_mask(&self.words, place_among(self.count, p), mask_of(p))
