@@ -22,9 +22,7 @@ fn canonical(alloc: Global, grid: &Grid, map: &FeatureMap) -> Result<Vec<u8>, Fa
 
 /// Whether the parts stitch to the map that the whole text means.
 fn is_stitched(alloc: Global, text: &str) -> Result<bool, Fail> {
-    let (grid, meant) = topo_io::read(alloc, text.as_bytes())
-        .ok()
-        .ok_or("refused")?;
+    let (grid, meant) = topo_io::read(alloc, text.as_bytes()).ok().ok_or("refused")?;
     let Some(map) = map_of(alloc, text)? else {
         return Ok(false);
     };
