@@ -182,11 +182,7 @@ fn layers_of(
     Ok(named)
 }
 
-fn stitched_map(
-    alloc: Global,
-    arcs: &[Items<Pos>],
-    layers: Vec<Layer>,
-) -> Result<FeatureMap, Fault>
+fn stitched_map(alloc: Global, arcs: &[Items<Pos>], layers: Vec<Layer>) -> Result<FeatureMap, Fault>
     ensures ok { IfOk result (λ m. (bytes : List ℕ) (g : Transform) → AreSaid bytes g arcs.now layers.items → Means bytes g m) }
     ensures err { IfErr result (NotOrWant (AllByRecursion (LayerStitches arcs.now) (map_list layer_of_geoms layers.items))) }
 {
