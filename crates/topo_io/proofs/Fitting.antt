@@ -207,7 +207,7 @@ module _ (g : Transform) (arcs : List (List Pos)) (arcs_fit : AllByRecursion (Al
 abbrev LayersFit : Transform → List (List ℕ × List Plain) → Type 0
 LayersFit g ls = AllByRecursion (λ l. AllByRecursion (PlainFits g) l.1) ls
 
-arcs_are_known : (l : Limits) (v : Data) → member_faults (codes "arcs") (list_faults (arc_faults l)) v ≡ [] → arcs_in l v ≡ known (arcs_of (member_or_null (codes "arcs") v))
+pub arcs_are_known : (l : Limits) (v : Data) → member_faults (codes "arcs") (list_faults (arc_faults l)) v ≡ [] → arcs_in l v ≡ known (arcs_of (member_or_null (codes "arcs") v))
 arcs_are_known l v none = by (get (codes "arcs") v) refl
   where
     by : (o : Option Data) → get (codes "arcs") v ≡ o → arcs_in l v ≡ known (arcs_of (member_or_null (codes "arcs") v))

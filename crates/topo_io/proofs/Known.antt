@@ -72,7 +72,7 @@ module _ (arcs : List (List Pos)) where
   along_ref (pos i) = refl
   along_ref (negsuc i) = refl
 
-  used_same : (d : Data) → used_arcs arcs d ≡ map (along arcs) (refs_of d)
+  pub used_same : (d : Data) → used_arcs arcs d ≡ map (along arcs) (refs_of d)
   used_same d = map_two (λ i. used_arc arcs (whole_of i)) (along arcs) (λ i. ref_at (whole_of i)) (λ i. along_ref (whole_of i)) (elements d)
 
   line_known : (d : Data) → line_list_faults (counted (length arcs)) d ≡ [] → StitchToLine arcs (refs_of d) → line_list_faults (known arcs) d ≡ []

@@ -13,3 +13,6 @@ pub mod SinkLemmas
 pub mod Said
 pub mod Known
 pub mod Stitched
+pub mod Needed
+pub mod Each
+pub mod Features

@@ -70,13 +70,13 @@ mean_geoms no_members (m ∷ ls) h = absurd h
 mean_geoms (member k d ms) [] h = absurd h
 mean_geoms (member k d ms) (m ∷ ls) h = λ i. (h.0.0 i, h.0.1.0 i) ∷ mean_geoms ms ls h.1 i
 
+pub firsts : {X Y : Type 0} (f : X → List ℕ × Y) (g : X → List ℕ) (xs : List X) → ((x : X) → (f x).0 ≡ g x) → map (λ l. l.0) (map f xs) ≡ map g xs
+firsts f g [] h = refl
+firsts f g (x ∷ xs) h = λ i. h x i ∷ firsts f g xs h i
+
 -- the layers have the names that were read
 pub names_same : (ls : List LayerParts) (ms : List (String Global × Vec Geom Global)) → map layer_of_geoms ls ≡ map named_geoms ms → map (λ l. spelled_text l.name) ls ≡ names_of_geoms ms
 names_same ls ms e = sym (firsts layer_of_geoms (λ l. spelled_text l.name) ls (λ l. refl)) ∙ ap (map (λ (l : List ℕ × List PlainGeom). l.0)) e ∙ firsts named_geoms (λ m. string_bytes m.0) ms (λ m. refl)
-  where
-    firsts : {X : Type 0} (f : X → List ℕ × List PlainGeom) (g : X → List ℕ) (xs : List X) → ((x : X) → (f x).0 ≡ g x) → map (λ l. l.0) (map f xs) ≡ map g xs
-    firsts f g [] h = refl
-    firsts f g (x ∷ xs) h = λ i. h x i ∷ firsts f g xs h i
 
 -- ---- faults
 

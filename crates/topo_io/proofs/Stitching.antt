@@ -15,7 +15,7 @@ meets_empty (y ∷ c) = refl
 pub meets_first : (l : List Pos) (y : Pos) (c : List Pos) → meets l (y ∷ c) ≡ meets l (y ∷ [])
 meets_first l y c = refl
 
-pub none_left : (c : List Pos) → length c ≡ 0 → c ≡ []
+pub none_left : {X : Type 0} (c : List X) → length c ≡ 0 → c ≡ []
 none_left [] e = refl
 none_left (y ∷ c) e = absurd (omega (arith, e))
 

@@ -6,6 +6,7 @@ pub mod reader;
 pub mod same;
 pub mod writer;
 
+pub use reader::parts::features::map_of_parts;
 pub use reader::parts::{TextParts, read_parts};
 pub use reader::read;
 pub use same::{is_canonical, is_text_of};

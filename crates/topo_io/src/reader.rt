@@ -191,7 +191,7 @@ fn put_layers(alloc: Global, layers: Layers) -> Result<FeatureMap, OutOfMemory>
     Ok(map)
 }
 
-fn map_of(alloc: Global, layers: Layers) -> Result<FeatureMap, Fault>
+pub(crate) fn map_of(alloc: Global, layers: Layers) -> Result<FeatureMap, Fault>
     ensures made { IfOk result (λ m. m ≡ with_layers finite.empty (map_list layer_read layers.items)) }
     ensures err { IfErr result IsWant }
 {

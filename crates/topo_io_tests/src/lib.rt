@@ -4,6 +4,8 @@
 #[cfg(test)]
 mod parts_read;
 #[cfg(test)]
+mod parts_stitched;
+#[cfg(test)]
 mod texts_read;
 #[cfg(test)]
 mod texts_written;

@@ -8,13 +8,13 @@ use topo::{Body, Geom};
 use topo_io::{TextParts, read_parts};
 
 /// The text of a topology on the unit grid with these arcs and layers.
-fn text_of(alloc: Global, arcs: &str, objects: &str) -> Result<String, Fail> {
+pub(crate) fn text_of(alloc: Global, arcs: &str, objects: &str) -> Result<String, Fail> {
     Ok(format!(in alloc;
         "{{\"type\":\"Topology\",\"transform\":{{\"scale\":[1,1],\"translate\":[0,0]}},\"arcs\":{arcs},\"objects\":{objects}}}"
     )?)
 }
 
-fn parts_of(alloc: Global, text: &str) -> Result<Option<TextParts>, Fail> {
+pub(crate) fn parts_of(alloc: Global, text: &str) -> Result<Option<TextParts>, Fail> {
     Ok(read_parts(alloc, text.as_bytes()).ok().ok_or("no memory")?)
 }
 

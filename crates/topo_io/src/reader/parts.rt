@@ -18,6 +18,7 @@ ghost use Rattle.topo_io.specs.Roots.{objects_faults, limits_of, transform_of, t
 ghost use Rattle.topo_io.specs.Parts.{named_geoms, layer_of_geoms, names_of_geoms, LayerStored, geoms_if_object, geoms_of, loose_content, loose_transformed, loose_topology, loose_faults, AreSaid, FaultyOrWant};
 
 pub mod body;
+pub mod features;
 pub mod layer;
 
 use crate::reader::arc::ArcOf;

@@ -7,10 +7,11 @@ ghost use Rattle.lines.specs.Seen.{positions_of, vertices_of};
 ghost use Rattle.grid.specs.declared.pos.Pos.{Pos};
 ghost use Rattle.faults.specs.Fault.{Pair, IsWant};
 ghost use Rattle.faults.specs.declared.fault.FaultKind.TheVariants.{OutOfMemory, Broken};
-ghost use Rattle.reading.specs.Fault.{LeastOrWant, here, unless_faulty};
-ghost use Rattle.reading.specs.Parts.{list_faults};
+ghost use Rattle.reading.specs.Fault.{LeastOrWant, here};
+ghost use Rattle.reading.specs.Outlines.{line_faults, ring_faults};
 ghost use Rattle.reading.specs.Numbers.{whole_of};
-ghost use Rattle.topo_io.specs.Arcs.{known, used_arc, along, no_arc_faults, index_faults, meets, onto, stitched, stitched_faults, stitching_faults, used_arcs, stitched_of, line_list_faults, ring_list_faults, line_at, ring_at};
+ghost use Rattle.topo_io.specs.Arcs.{known, used_arc, along, no_arc_faults, index_faults, meets, onto, stitched, stitched_faults, line_list_faults, ring_list_faults, line_at, ring_at};
+ghost use Rattle.topo_io.specs.Stitching.{StitchToLine, StitchToRing, line_along, ring_along};
 
 use chains::ArcRef;
 use faults::fault::{Fault, FaultKind};
@@ -173,13 +174,32 @@ fn stitch(alloc: Global, arcs: &[Items<Pos>], used: &[ArcRef]) -> Result<Vec<Pos
     Ok(list)
 }
 
-fn read_stitched(alloc: Global, of: &IndexOf, value: &Value) -> Result<Vec<Pos>, Fault>
-    ensures ok { OnOk result (list_faults (index_faults (known of.now.arcs.now)) (view value.now) ≡ []) }
-    ensures stitched { IfOk result (λ l. stitched (used_arcs of.now.arcs.now (view value.now)) ≡ Some l.items) }
-    ensures err { IfErr result (λ f. (more : List Pos → List Pair) → LeastOrWant (unless_faulty (list_faults (index_faults (known of.now.arcs.now)) (view value.now)) (stitching_faults more (known of.now.arcs.now) (view value.now))) f) }
+/// The line that used arcs stitch to.
+pub(crate) fn stitched_line(
+    alloc: Global,
+    arcs: &[Items<Pos>],
+    used: &[ArcRef],
+) -> Result<Line, Fault>
+    ensures ok { OnOk result (StitchToLine arcs.now used.now) }
+    ensures made { IfOk result (λ l. positions_of l ≡ line_along arcs.now used.now) }
+    ensures err { IfErr result (λ f. LeastOrWant (stitched_faults line_faults (stitched (map (along arcs.now) used.now))) f) }
 {
-    let used = read_list(alloc, of, value)?;
-    stitch(alloc, of.arcs, &used)
+    let positions = stitch(alloc, arcs, used)?;
+    outline::line(alloc, positions)
+}
+
+/// The ring that used arcs stitch to, closed.
+pub(crate) fn stitched_ring(
+    alloc: Global,
+    arcs: &[Items<Pos>],
+    used: &[ArcRef],
+) -> Result<Ring, Fault>
+    ensures ok { OnOk result (StitchToRing arcs.now used.now) }
+    ensures made { IfOk result (λ r. vertices_of r ≡ ring_along arcs.now used.now) }
+    ensures err { IfErr result (λ f. LeastOrWant (stitched_faults ring_faults (stitched (map (along arcs.now) used.now))) f) }
+{
+    let positions = stitch(alloc, arcs, used)?;
+    outline::ring(alloc, positions)
 }
 
 /// A line: the list of indexes that stitches to it.
@@ -196,8 +216,8 @@ impl Part for LineOf<'_> {
     ghost means = { λ p d l. positions_of l ≡ line_at p.of.arcs.now d };
 
     fn read(&self, alloc: Global, value: &Value) -> Result<Line, Fault> {
-        let positions = read_stitched(alloc, &self.of, value)?;
-        outline::line(alloc, positions)
+        let used = read_list(alloc, &self.of, value)?;
+        stitched_line(alloc, self.of.arcs, &used)
     }
 }
 
@@ -215,7 +235,7 @@ impl Part for RingOf<'_> {
     ghost means = { λ p d r. vertices_of r ≡ ring_at p.of.arcs.now d };
 
     fn read(&self, alloc: Global, value: &Value) -> Result<Ring, Fault> {
-        let positions = read_stitched(alloc, &self.of, value)?;
-        outline::ring(alloc, positions)
+        let used = read_list(alloc, &self.of, value)?;
+        stitched_ring(alloc, self.of.arcs, &used)
     }
 }

@@ -1,16 +1,20 @@
-use Rattle.std.proofs.Common.{sym}
+use Rattle.std.proofs.Common.{◌≡◌, List, ap}
+use Rattle.serde_json.specs.View.{view}
 use Rattle.lines.specs.Seen.{vertices_of}
 use Rattle.reading.specs.Outlines.{ring_faults, ring_of}
 use Rattle.reading.proofs.Outlined.{outlined, outline_fault}
-use Rattle.topo_io.specs.Arcs.{stitched_faults, list_or_none}
+use Rattle.topo_io.specs.Arcs.{along, stitched, stitched_faults, list_or_none}
+use Rattle.topo_io.proofs.Indexes.{used_along}
 use Rattle.topo_io.proofs.reader.stitching.RingOfPart.read.Goals as goal
 
 pub returns-clause-ok : goal.returns-clause-ok
 returns-clause-ok c =
-    outlined (stitched_faults ring_faults) _ c.in_ok-positions.ensures.ok _ _ (sym c.in_ok-positions.ensures.stitched)
-    c.ring.result vertices_of (λ o. ring_of (list_or_none o)) c.ring.ensures.ok c.ring.ensures.made
+    let all = used_along c.args.self.now.of.arcs.now c.in_ok-used.used.items c.deref.result.now (view c.args.value.now) c.deref.ensures.value c.in_ok-used.ensures.ok.1 in
+    outlined (stitched_faults ring_faults) _ c.in_ok-used.ensures.ok.0 _ _ (ap stitched all)
+    c.stitched_ring.result vertices_of (λ o. ring_of (list_or_none o)) c.stitched_ring.ensures.ok c.stitched_ring.ensures.made
 
 pub returns-clause-err : goal.returns-clause-err
 returns-clause-err c =
-    outline_fault (stitched_faults ring_faults) _ c.in_ok-positions.ensures.ok _ _ (sym c.in_ok-positions.ensures.stitched)
-    c.ring.result c.ring.ensures.err
+    let all = used_along c.args.self.now.of.arcs.now c.in_ok-used.used.items c.deref.result.now (view c.args.value.now) c.deref.ensures.value c.in_ok-used.ensures.ok.1 in
+    outline_fault (stitched_faults ring_faults) _ c.in_ok-used.ensures.ok.0 _ _ (ap stitched all)
+    c.stitched_ring.result c.stitched_ring.ensures.err

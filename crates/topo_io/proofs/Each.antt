@@ -1,0 +1,46 @@
+-- Lists that are stitched item by item, and what was stitched so far.
+use Rattle.std.proofs.Common.{◌≡◌, ◌↔◌, ℕ, ◌+◌, ◌<◌, ◌≤◌, length, get_or, drop, List, [], ◌∷◌, ◌++◌, map, refl, sym, ap, ◌∙◌, subst, append_assoc, append-nil}
+use Rattle.std.specs.List.{AllByRecursion}
+use Rattle.std.proofs.lemmas.List.{drop_more, drop_all, map-append}
+use Rattle.faults.specs.Fault.{Pair, IsWant}
+use Rattle.faults.specs.declared.fault.Fault.{Fault}
+use Rattle.reading.specs.Fault.{LeastOrWant}
+use Rattle.topo_io.specs.Stitching.{NotOrWant}
+use Rattle.topo_io.proofs.Said.{faulty_least}
+
+-- ---- refusals
+
+pub refused_least : (ps : List Pair) (f : Fault) → LeastOrWant ps f → NotOrWant (ps ≡ []) f
+refused_least ps f h = record { not = (faulty_least ps f h).some }
+
+pub refused_want : (A : Type 0) (f : Fault) → IsWant f → NotOrWant A f
+refused_want A f want = record { not = λ real _. real want }
+
+-- ---- one more item
+
+-- the items that are left, the first apart
+pub item_left : {X : Type 0} (xs : List X) (i : ℕ) (x : X) → i < length xs → x ≡ get_or xs i x → drop i xs ≡ x ∷ drop (i + 1) xs
+item_left xs i x less is = rw (drop_more xs i x less, ← is) refl
+
+module _ {X : Type 0} (P : X → Type 0) (whole : Type 0) (old : List X) (x : X) (left : List X) (is : old ≡ x ∷ left) (same : AllByRecursion P old ↔ whole) where
+  pub one_holds : P x → AllByRecursion P left ↔ whole
+  one_holds p = (λ all. same.0 (subst (AllByRecursion P) (sym is) (p, all)), λ w. (subst (AllByRecursion P) is (same.1 w)).1)
+
+  pub one_refused : (f : Fault) → NotOrWant (P x) f → NotOrWant whole f
+  one_refused f h = record { not = λ real w. h.not real (subst (AllByRecursion P) is (same.1 w)).0 }
+
+pub all_hold : {X : Type 0} (P : X → Type 0) (whole : Type 0) (left : List X) → left ≡ [] → AllByRecursion P left ↔ whole → whole
+all_hold P whole left none same = same.0 (subst (AllByRecursion P) (sym none) tt)
+
+module _ {X Y Z : Type 0} (f : Y → Z) (g : X → Z) (whole : List Z) (made : List Y) where
+  pub one_made : (old : List X) (x : X) (left : List X) (y : Y) (new : List Y) → old ≡ x ∷ left → f y ≡ g x → new ≡ made ++ y ∷ [] → map f made ++ map g old ≡ whole → map f new ++ map g left ≡ whole
+  one_made old x left y new is same grown before =
+      ap (λ l. map f l ++ map g left) grown
+      ∙ ap (λ l. l ++ map g left) (map-append f made (y ∷ []))
+      ∙ append_assoc (map f made) (f y ∷ []) (map g left)
+      ∙ ap (λ z. map f made ++ z ∷ map g left) same
+      ∙ ap (λ l. map f made ++ map g l) (sym is)
+      ∙ before
+
+  pub all_made : (left : List X) → left ≡ [] → map f made ++ map g left ≡ whole → map f made ≡ whole
+  all_made left none before = sym (append-nil (map f made)) ∙ ap (λ l. map f made ++ map g l) (sym none) ∙ before
