@@ -13,3 +13,5 @@ pub mod SinkLemmas
 pub mod Said
 pub mod Known
 pub mod Stitched
+pub mod Entries
+pub mod AsItStands
