@@ -28,7 +28,7 @@ use Rattle.topo.specs.Parts.{Corners}
 use Rattle.shapes.proofs.Entries.{at_entry}
 use Rattle.shapes.specs.Ids.{IsI64}
 use Rattle.compact.proofs.Numbers.{IsI64-between}
-use Rattle.round_trip.proofs.Entries.{holds_item}
+use Rattle.topo_io.proofs.Entries.{holds_item}
 use Rattle.round_trip.proofs.Standing.{BoxStands}
 use Rattle.topo.proofs.Positions.{around_has}
 

@@ -5,6 +5,5 @@ pub mod Positions
 pub mod Geometries
 pub mod Readable
 pub mod Root
-pub mod Entries
 pub mod Fit
 pub mod OfMap

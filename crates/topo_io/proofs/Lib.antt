@@ -16,3 +16,5 @@ pub mod Stitched
 pub mod Needed
 pub mod Each
 pub mod Features
+pub mod Entries
+pub mod AsItStands

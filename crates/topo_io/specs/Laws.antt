@@ -2,8 +2,20 @@
 use Rattle.std.specs.Prelude.{◌≡◌, ℕ, List}
 use Rattle.grid.specs.Place.{Transform}
 use Rattle.shapes.specs.Maps.{Layers}
+use Rattle.chains.specs.Arcs.{Arcs}
+use Rattle.topo.specs.OfMap.{ArePartsOf}
+use Rattle.topo.specs.Parts.{LayerParts}
+use Rattle.taking.specs.Laws.{LayersStand}
+use Rattle.taking.specs.Order.{InOrder}
 use Rattle.topo_io.specs.Means.{Means}
+use Rattle.topo_io.specs.Parts.{AreSaid}
 
 -- a text means at most one grid and one map
 abbrev pub OneMeaning : Type 0
 OneMeaning = (bytes : List ℕ) (g h : Transform) (m n : Layers) → Means bytes g m → Means bytes h n → (g ≡ h) × (m ≡ n)
+
+-- where the layers that a text has stand over its arcs, in order, the text means a map, and they are the parts of that map's topology
+abbrev pub AsItStands : Type 0
+AsItStands =
+    (bytes : List ℕ) (g : Transform) (t : Arcs) (ls : List LayerParts) → AreSaid bytes g t.arcs ls → LayersStand t ls → InOrder t.arcs ls →
+    (m : Layers) × Means bytes g m × ArePartsOf m t ls

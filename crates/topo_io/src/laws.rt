@@ -1,7 +1,13 @@
 //! The laws of what texts mean, as contracts of functions that do nothing.
-ghost use Rattle.topo_io.specs.Laws.{OneMeaning};
+ghost use Rattle.topo_io.specs.Laws.{AsItStands, OneMeaning};
 
 /// A text means at most one grid and one feature map.
 pub fn one_meaning()
     ensures { OneMeaning }
+{}
+
+/// Where the layers of a text stand over its arcs, in order, the text means a feature map, and its
+/// arcs and layers are those of that map's topology.
+pub fn as_it_stands()
+    ensures { AsItStands }
 {}
