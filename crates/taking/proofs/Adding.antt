@@ -40,27 +40,27 @@ used_parted l k m n i (us, h, u) =
 module _ (t : Arcs) where
   stand_before : (l k m n : List (List ArcRef)) → EachStands t (l ++ k) (m ++ n) → EachStands t l m
   stand_before l k m n st = record {
-    lines = λ us h. st.lines us (Has-append_left us l k h);
-    rings = λ us h. st.rings us (Has-append_left us m n h);
+    each_line = λ us h. st.each_line us (Has-append_left us l k h);
+    each_ring = λ us h. st.each_ring us (Has-append_left us m n h);
   }
 
   stand_behind : (l k m n : List (List ArcRef)) → EachStands t (l ++ k) (m ++ n) → EachStands t k n
   stand_behind l k m n st = record {
-    lines = λ us h. st.lines us (Has-append_right us l k h);
-    rings = λ us h. st.rings us (Has-append_right us m n h);
+    each_line = λ us h. st.each_line us (Has-append_right us l k h);
+    each_ring = λ us h. st.each_ring us (Has-append_right us m n h);
   }
 
   stand_both : (l k m n : List (List ArcRef)) → EachStands t l m → EachStands t k n → EachStands t (l ++ k) (m ++ n)
   stand_both l k m n st su = record {
-    lines = λ us h. elim (Has-append us l k h) [ inl a ↦ st.lines us a | inr a ↦ su.lines us a ];
-    rings = λ us h. elim (Has-append us m n h) [ inl a ↦ st.rings us a | inr a ↦ su.rings us a ];
+    each_line = λ us h. elim (Has-append us l k h) [ inl a ↦ st.each_line us a | inr a ↦ su.each_line us a ];
+    each_ring = λ us h. elim (Has-append us m n h) [ inl a ↦ st.each_ring us a | inr a ↦ su.each_ring us a ];
   }
 
   -- nothing is added
   pub added_none : (s : ListsSeen) → AreAdded t [] [] true s s
   added_none s = record {
     len = refl;
-    stand = ((λ e. record { lines = λ us h. absurd h; rings = λ us h. absurd h }), (λ st. refl));
+    stand = ((λ e. record { each_line = λ us h. absurd h; each_ring = λ us h. absurd h }), (λ st. refl));
     used = λ e k lt. ((λ f. inl f), (λ x. elim x [ inl f ↦ f | inr y ↦ elim y.1 [ inl a ↦ absurd a | inr a ↦ absurd a ] ]));
     ends = λ e. sym (append-nil s.ends.items);
   }
@@ -81,10 +81,10 @@ module _ (t : Arcs) where
       ])),
     );
     ends = λ f.
-      g.ends f
-      ∙ ap (λ z. z ++ gathered (line_ends t.arcs) k) (h.ends e)
-      ∙ append_assoc s.ends.items (gathered (line_ends t.arcs) l) (gathered (line_ends t.arcs) k)
-      ∙ ap (λ z. s.ends.items ++ z) (sym (gathered-append (line_ends t.arcs) l k));
+        g.ends f
+        ∙ ap (λ z. z ++ gathered (line_ends t.arcs) k) (h.ends e)
+        ∙ append_assoc s.ends.items (gathered (line_ends t.arcs) l) (gathered (line_ends t.arcs) k)
+        ∙ ap (λ z. s.ends.items ++ z) (sym (gathered-append (line_ends t.arcs) l k));
   }
 
   -- some list doesn't stand, whatever others there are
@@ -112,10 +112,10 @@ module _ (t : Arcs) where
   alone us vs (inr h) = absurd h
 
   one_line : (us : List ArcRef) → LineStands t.arcs (table_as_map t) us → EachStands t (us ∷ []) []
-  one_line us st = record { lines = λ vs h. subst (LineStands t.arcs (table_as_map t)) (sym (alone us vs h)) st; rings = λ vs h. absurd h }
+  one_line us st = record { each_line = λ vs h. subst (LineStands t.arcs (table_as_map t)) (sym (alone us vs h)) st; each_ring = λ vs h. absurd h }
 
   one_ring : (us : List ArcRef) → RingStands position_cmp t.arcs us → EachStands t [] (us ∷ [])
-  one_ring us st = record { lines = λ vs h. absurd h; rings = λ vs h. subst (RingStands position_cmp t.arcs) (sym (alone us vs h)) st }
+  one_ring us st = record { each_line = λ vs h. absurd h; each_ring = λ vs h. subst (RingStands position_cmp t.arcs) (sym (alone us vs h)) st }
 
   -- one line's list is added, or it doesn't stand
   pub line_added : (us : List ArcRef) (p q : Pos) (s u : ListsSeen) → LineStands t.arcs (table_as_map t) us → line_ends t.arcs us ≡ p ∷ (q ∷ []) → u.used ≡ marks_set true s.used us →
@@ -124,18 +124,18 @@ module _ (t : Arcs) where
     len = ap length is ∙ marks_set_long true s.used us;
     stand = ((λ e. one_line us st), (λ _. refl));
     used = λ e k lt.
-      subst (λ z. (get_or z k false ≡ true) ↔ ((get_or s.used k false ≡ true) ⊎ IsUsed (us ∷ []) [] k)) (sym is)
-      (marked s.used (us ∷ []) [] us (inl (inl refl)) (λ vs h. elim h [ inl a ↦ alone us vs a | inr a ↦ absurd a ]) k lt);
+        subst (λ z. (get_or z k false ≡ true) ↔ ((get_or s.used k false ≡ true) ⊎ IsUsed (us ∷ []) [] k)) (sym is)
+        (marked s.used (us ∷ []) [] us (inl (inl refl)) (λ vs h. elim h [ inl a ↦ alone us vs a | inr a ↦ absurd a ]) k lt);
     ends = λ e.
-      told
-      ∙ append_assoc s.ends.items (p ∷ []) (q ∷ [])
-      ∙ ap (λ z. s.ends.items ++ z) (sym run ∙ sym (append-nil (line_ends t.arcs us)));
+        told
+        ∙ append_assoc s.ends.items (p ∷ []) (q ∷ [])
+        ∙ ap (λ z. s.ends.items ++ z) (sym run ∙ sym (append-nil (line_ends t.arcs us)));
   }
 
   pub line_not : (us : List ArcRef) (s u : ListsSeen) → ((false ≡ true) ↔ LineStands t.arcs (table_as_map t) us) → length u.used ≡ length s.used → AreAdded t (us ∷ []) [] false s u
   line_not us s u n size = record {
     len = size;
-    stand = ((λ f. absurd cc), (λ st. n.1 (st.lines us (inl refl))));
+    stand = ((λ f. absurd cc), (λ st. n.1 (st.each_line us (inl refl))));
     used = λ f i lt. absurd cc;
     ends = λ f. absurd cc;
   }
@@ -145,10 +145,10 @@ module _ (t : Arcs) where
       AreAdded t [] (us ∷ []) b s u
   ring_added us b s u st is same = record {
     len = ap length is ∙ marks_set_long true s.used us;
-    stand = ((λ e. one_ring us (st.0 e)), (λ h. st.1 (h.rings us (inl refl))));
+    stand = ((λ e. one_ring us (st.0 e)), (λ h. st.1 (h.each_ring us (inl refl))));
     used = λ e k lt.
-      subst (λ z. (get_or z k false ≡ true) ↔ ((get_or s.used k false ≡ true) ⊎ IsUsed [] (us ∷ []) k)) (sym is)
-      (marked s.used [] (us ∷ []) us (inr (inl refl)) (λ vs h. elim h [ inl a ↦ absurd a | inr a ↦ alone us vs a ]) k lt);
+        subst (λ z. (get_or z k false ≡ true) ↔ ((get_or s.used k false ≡ true) ⊎ IsUsed [] (us ∷ []) k)) (sym is)
+        (marked s.used [] (us ∷ []) us (inr (inl refl)) (λ vs h. elim h [ inl a ↦ absurd a | inr a ↦ alone us vs a ]) k lt);
     ends = λ e. same ∙ sym (append-nil s.ends.items);
   }
 
@@ -210,12 +210,12 @@ module _ (t : Arcs) where
     unmarked : (k : ℕ) → k < length s.used → ¬ (get_or s.used k false ≡ true)
     unmarked k lt e =
         let f : false ≡ true =
-          sym (get_or-replicate n k false false (omega (arith, lt, old_size, size))) ∙ sym (ap (λ z. get_or z k false) none) ∙ e in cc
+        sym (get_or-replicate n k false false (omega (arith, lt, old_size, size))) ∙ sym (ap (λ z. get_or z k false) none) ∙ e in cc
 
     pub some_not : (b : Bool) → b ≡ false → AreAdded t ls ms b s u → (false ≡ true) ↔ ListsStand t ls ms
     some_not b e h = (
       (λ f. absurd cc),
-      (λ st. absurd (let f : false ≡ true = sym e ∙ h.stand.1 (record { lines = st.each_line; rings = st.each_ring }) in cc)),
+      (λ st. absurd (let f : false ≡ true = sym e ∙ h.stand.1 (record { each_line = st.each_line; each_ring = st.each_ring }) in cc)),
     )
 
     -- each arc is used where all are marked
@@ -234,19 +234,19 @@ module _ (t : Arcs) where
             (h.used e k old).1 (inr (each_used k g.0 g.1))
 
     pub not_used : (b all : Bool) → b ≡ true → AreAdded t ls ms b s u → all ≡ list_all (λ b. b) u.used → all ≡ false → (false ≡ true) ↔ ListsStand t ls ms
-    not_used b all e h is no = (
+    not_used b all e h is unset = (
       (λ f. absurd cc),
-      (λ st. absurd (let f : false ≡ true = sym no ∙ is ∙ used_all b e h st.used in cc)),
+      (λ st. absurd (let f : false ≡ true = sym unset ∙ is ∙ used_all b e h st.used in cc)),
     )
 
     pub all_told : (b all meet : Bool) (ps : List Pos) → b ≡ true → AreAdded t ls ms b s u → s.ends.items ≡ [] → all ≡ list_all (λ b. b) u.used → all ≡ true →
         ps ≡ u.ends.items → ((meet ≡ true) ↔ EndsMeet t.arcs (table_as_map t) ps) → (meet ≡ true) ↔ ListsStand t ls ms
-    all_told b all meet ps e h begun is yes lent told =
+    all_told b all meet ps e h begun is each_set lent told =
         let same : ps ≡ gathered (line_ends t.arcs) ls = lent ∙ h.ends e ∙ ap (λ z. z ++ gathered (line_ends t.arcs) ls) begun in (
           (λ f. record {
-            each_line = (h.stand.0 e).lines;
-            each_ring = (h.stand.0 e).rings;
-            used = all_used b e h (sym is ∙ yes);
+            each_line = (h.stand.0 e).each_line;
+            each_ring = (h.stand.0 e).each_ring;
+            used = all_used b e h (sym is ∙ each_set);
             ends = subst (EndsMeet t.arcs (table_as_map t)) same (told.0 f);
           }),
           (λ st. told.1 (subst (EndsMeet t.arcs (table_as_map t)) (sym same) st.ends)),

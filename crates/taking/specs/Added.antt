@@ -11,8 +11,8 @@ use Rattle.taking.specs.declared.lists.ListsSeen.{ListsSeen}
 
 -- each list stands for itself
 pub record EachStands (t : Arcs) (lines rings : List (List ArcRef)) : Type 0 where
-  pub lines : (us : List ArcRef) → Has us lines → LineStands t.arcs (table_as_map t) us
-  pub rings : (us : List ArcRef) → Has us rings → RingStands position_cmp t.arcs us
+  pub each_line : (us : List ArcRef) → Has us lines → LineStands t.arcs (table_as_map t) us
+  pub each_ring : (us : List ArcRef) → Has us rings → RingStands position_cmp t.arcs us
 
 -- one of the lists uses the arc of a number
 abbrev pub IsUsed : List (List ArcRef) → List (List ArcRef) → ℕ → Type 0

@@ -22,7 +22,7 @@ pub returns : goal.returns
 returns c =
     IfOk-weaker c.ends_meet.result _ _
     (λ meet told.
-      all_told c.args.table.now (layers_lines c.args.layers.now) (layers_rings c.args.layers.now) (record { used = c.in_ok-used.used; ends = c.new.result }) c.add_layers.new.self
-      c.len.result c.len.ensures.len c.in_ok-used.ensures c.in_ok-add_layers.field-0 c.all.result meet c.deref.result.now c.if-not-branch.false c.in_ok-add_layers.ensures
-      c.new.ensures.items c.all.ensures c.if-not-all.false c.deref.ensures.value told)
+    all_told c.args.table.now (layers_lines c.args.layers.now) (layers_rings c.args.layers.now) (record { used = c.in_ok-used.used; ends = c.new.result }) c.add_layers.new.self
+    c.len.result c.len.ensures.len c.in_ok-used.ensures c.in_ok-add_layers.field-0 c.all.result meet c.deref.result.now c.if-not-branch.false c.in_ok-add_layers.ensures
+    c.new.ensures.items c.all.ensures c.if-not-all.false c.deref.ensures.value told)
     c.ends_meet.ensures

@@ -15,7 +15,7 @@ loop-geometry-preserved c =
     record {
       len = added.len ∙ c.loop-geometry.invariant.len;
       rest = loop_on c.args.table.now lines_of rings_of (λ g. body_lines g.body) (λ g. body_rings g.body) (λ x xs. refl) (λ x xs. refl) c.args.geometries.now c.loop-geometry.geometry-index c.args.self.now c.loop-geometry.self
-    c.loop-geometry.invariant.rest c.geometry-item.result c.in_ok-add_body.field-0 c.add_body.new.self c.loop-geometry-test.true c.geometry-item.is c.if-not-branch.false added;
+          c.loop-geometry.invariant.rest c.geometry-item.result c.in_ok-add_body.field-0 c.add_body.new.self c.loop-geometry-test.true c.geometry-item.is c.if-not-branch.false added;
     }
 
 pub returns : goal.returns

@@ -16,7 +16,7 @@ loop-layer-preserved c =
     record {
       len = added.len ∙ c.loop-layer.invariant.len;
       rest = loop_on c.args.table.now layers_lines layers_rings layer_lines layer_rings (λ x xs. refl) (λ x xs. refl) c.args.layers.now c.loop-layer.layer-index c.args.self.now c.loop-layer.self
-    c.loop-layer.invariant.rest c.layer-item.result c.in_ok-add_geometries.field-0 c.add_geometries.new.self c.loop-layer-test.true c.layer-item.is c.if-not-branch.false added;
+          c.loop-layer.invariant.rest c.layer-item.result c.in_ok-add_geometries.field-0 c.add_geometries.new.self c.loop-layer-test.true c.layer-item.is c.if-not-branch.false added;
     }
 
 pub returns : goal.returns

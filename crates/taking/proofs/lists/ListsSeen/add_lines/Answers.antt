@@ -15,7 +15,7 @@ loop-refs-preserved c =
     record {
       len = added.len ∙ c.loop-refs.invariant.len;
       rest = loop_on c.args.table.now (λ xs. xs) (λ _. []) (λ us. us ∷ []) (λ _. []) (λ x xs. refl) (λ x xs. refl) c.args.lists.now c.loop-refs.refs-index c.args.self.now c.loop-refs.self
-    c.loop-refs.invariant.rest c.refs-item.result c.in_ok-add_line.field-0 c.add_line.new.self c.loop-refs-test.true c.refs-item.is c.if-not-branch.false added;
+          c.loop-refs.invariant.rest c.refs-item.result c.in_ok-add_line.field-0 c.add_line.new.self c.loop-refs-test.true c.refs-item.is c.if-not-branch.false added;
     }
 
 pub returns : goal.returns

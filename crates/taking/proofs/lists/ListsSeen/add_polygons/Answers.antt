@@ -16,7 +16,7 @@ loop-lists-preserved c =
     record {
       len = added.len ∙ c.loop-lists.invariant.len;
       rest = loop_on c.args.table.now (λ _. []) joined (λ _. []) (λ x. x) (λ x xs. refl) (λ x xs. refl) c.args.polygons.now c.loop-lists.lists-index c.args.self.now c.loop-lists.self
-    c.loop-lists.invariant.rest c.lists-item.result c.add_rings.result c.add_rings.new.self c.loop-lists-test.true c.lists-item.is c.if-not-add_rings.false added;
+          c.loop-lists.invariant.rest c.lists-item.result c.add_rings.result c.add_rings.new.self c.loop-lists-test.true c.lists-item.is c.if-not-add_rings.false added;
     }
 
 pub returns : goal.returns

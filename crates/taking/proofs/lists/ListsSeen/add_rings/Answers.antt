@@ -15,7 +15,7 @@ loop-refs-preserved c =
     record {
       len = added.len ∙ c.loop-refs.invariant.len;
       rest = loop_on c.args.table.now (λ _. []) (λ xs. xs) (λ _. []) (λ us. us ∷ []) (λ x xs. refl) (λ x xs. refl) c.args.lists.now c.loop-refs.refs-index c.args.self.now c.loop-refs.self
-    c.loop-refs.invariant.rest c.refs-item.result c.add_ring.result c.add_ring.new.self c.loop-refs-test.true c.refs-item.is c.if-not-add_ring.false added;
+          c.loop-refs.invariant.rest c.refs-item.result c.add_ring.result c.add_ring.new.self c.loop-refs-test.true c.refs-item.is c.if-not-add_ring.false added;
     }
 
 pub returns : goal.returns
