@@ -1,5 +1,5 @@
 -- Lists that are added to those that were seen, one after the other, and what is told of all of them.
-use Rattle.std.proofs.Common.{◌≡◌, ◌↔◌, ℕ, zero, suc, ◌+◌, ◌<◌, ◌≤◌, Bool, true, false, List, [], ◌∷◌, ◌++◌, ◌⊎◌, ◌&&◌, drop, get_or, length, replicate, inl, inr, refl, sym, ap, ◌∙◌, subst, arith, append_assoc, append-nil, Option, Some, slice_get}
+use Rattle.std.proofs.Common.{◌≡◌, ◌↔◌, ℕ, zero, suc, ◌+◌, ◌<◌, ◌≤◌, Bool, true, false, List, [], ◌∷◌, ◌++◌, ◌⊎◌, ◌&&◌, drop, get_or, length, replicate, inl, inr, refl, sym, ap, ◌∙◌, subst, arith, append_assoc, append-nil, Some, slice_get}
 use Rattle.std.proofs.lemmas.List.{get_or-replicate, length-replicate}
 use Rattle.std.proofs.lemmas.Option.{slice_get_within}
 use Rattle.std.specs.List.{list_all}

@@ -1,4 +1,4 @@
-use Rattle.std.proofs.Common.{◌∙◌, ap, length, false, subst}
+use Rattle.std.proofs.Common.{◌∙◌, ap, length, false}
 use Rattle.std.proofs.lemmas.List.{length-replicate}
 use Rattle.std.proofs.lemmas.Result.{IfOk-weaker}
 use Rattle.taking.specs.Lists.{layers_lines, layers_rings}
