@@ -251,7 +251,12 @@ fn lists_of_layers(rt: HostRuntime) -> Result<(), Fail> {
     for row in STANDING {
         let table = table(alloc, row.arcs)?;
         let layers = layers(alloc, row.layers)?;
-        assert_eq!(rt; lists_stand(alloc, &table, &layers)?, row.answer, "{}", row.title);
+        assert_eq!(rt;
+            lists_stand(alloc, &table, &layers)?,
+            row.answer,
+            "{}",
+            row.title
+        );
     }
     Ok(())
 }
@@ -421,7 +426,12 @@ fn order(alloc: Global, arcs: DrawnArcs, drawn: &[DrawnLayer]) -> Result<bool, F
 fn order_of_layers(rt: HostRuntime) -> Result<(), Fail> {
     let alloc = rt.alloc();
     for row in ORDERED {
-        assert_eq!(rt; order(alloc, row.arcs, row.layers)?, row.answer, "{}", row.title);
+        assert_eq!(rt;
+            order(alloc, row.arcs, row.layers)?,
+            row.answer,
+            "{}",
+            row.title
+        );
     }
     Ok(())
 }
