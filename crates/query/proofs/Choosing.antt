@@ -7,7 +7,7 @@ use Rattle.std.specs.Ordering.{MatchOrdering, is_eq, nat_cmp}
 use Rattle.std.specs.declared.cmp.Ordering.{Ordering}
 use Rattle.std.specs.declared.cmp.Ordering.TheVariants.{Less, Equal, Greater}
 use Rattle.shapes.specs.declared.feature.Feature.{Feature}
-use Rattle.chains.proofs.Slices.{item_at}
+use Rattle.lines.proofs.Dropping.{item_at}
 use Rattle.theory.specs.Lists.{Has}
 use Rattle.theory.proofs.Lists.{Has-append, Has-append_left, Has-append_right}
 use Rattle.theory.proofs.ListsOfLists.{get_has}

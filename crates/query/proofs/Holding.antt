@@ -18,7 +18,7 @@ use Rattle.shapes.specs.Sets as set
 use Rattle.shapes.specs.declared.feature.Feature.{Feature}
 use Rattle.chains.specs.Seen.{form_of, seen}
 use Rattle.chains.proofs.Layers.{no_features}
-use Rattle.chains.proofs.Slices.{drop_item, item_at}
+use Rattle.lines.proofs.Dropping.{drop_item, item_at}
 use Rattle.lines.proofs.SortedLists.{Up, up_from_sorted, Has-permutation}
 use Rattle.theory.specs.Lists.{Has, gathered}
 use Rattle.theory.specs.Topology.{forms_of}

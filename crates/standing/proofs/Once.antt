@@ -13,7 +13,7 @@ use Rattle.lines.specs.Turned.{position_cmp}
 use Rattle.lines.specs.Positions.{position_same}
 use Rattle.lines.proofs.Positions.{position_refl}
 use Rattle.chains.specs.Among.{among}
-use Rattle.chains.proofs.Slices.{drop_item}
+use Rattle.lines.proofs.Dropping.{drop_item}
 use Rattle.standing.specs.Seams.{goes_free, stands_once}
 
 abbrev one : Pos → Pos → ℕ

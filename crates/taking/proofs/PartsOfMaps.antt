@@ -1,5 +1,5 @@
 -- The table and the layers that stand over it are the parts of the topology of the map that the layers stitch to.
-use Rattle.std.proofs.Common.{◌≡◌, ℕ, List, [], ◌∷◌, ◌++◌, refl, sym, subst}
+use Rattle.std.proofs.Common.{ℕ, List, sym, subst}
 use Rattle.std.specs.Prelude.{map as map_list}
 use Rattle.std.specs.FinMap as map
 use Rattle.grid.specs.declared.pos.Pos.{Pos}
@@ -10,15 +10,14 @@ use Rattle.shapes.specs.Sets as set
 use Rattle.shapes.specs.declared.feature.Feature.{Feature}
 use Rattle.shapes.specs.declared.shape.Shape as shapes
 use Rattle.shapes.specs.declared.shape.Shape.TheVariants as of
-use Rattle.chains.specs.Arcs.{Arcs}
 use Rattle.chains.specs.Seen as seen_by
 use Rattle.chains.specs.Seen.{form_of, geometry_of, line_of, ring_of, seen}
 use Rattle.theory.specs.ArcNumbers.{ArcRef, StitchTo}
 use Rattle.theory.specs.Geometry.{JunctionOf}
-use Rattle.theory.specs.Lists.{Pairwise, gathered, joined}
+use Rattle.theory.specs.Lists.{Pairwise, gathered}
 use Rattle.theory.specs.Topology.{IsFormOf, IsGeometryOf, IsLayerOf, IsRingList, lines_in, rings_in}
 use Rattle.topo.specs.Features.{IsFeatureOf, IsLineOf, IsRingOf, IsShapeOf}
-use Rattle.topo.specs.OfMap.{ArePartsOf, body_of, item_of, layer_of}
+use Rattle.topo.specs.OfMap.{body_of, item_of, layer_of}
 use Rattle.topo.specs.Parts.{LayerParts}
 use Rattle.topo.specs.declared.geom.Body as bodies
 use Rattle.topo.specs.declared.geom.Body.TheVariants as to

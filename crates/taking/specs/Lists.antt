@@ -5,6 +5,7 @@ use Rattle.theory.specs.Lists.{gathered, joined}
 use Rattle.topo.specs.Parts.{LayerParts}
 use Rattle.topo.specs.declared.geom.Body.{Body}
 use Rattle.topo.specs.declared.geom.Body.TheVariants.{Null, Point, MultiPoint, Line, MultiLine, Polygon, MultiPolygon}
+use Rattle.topo.specs.declared.geom.Geom.{Geom}
 
 -- the list of each line of a body
 abbrev pub body_lines : Body → List (List ArcRef)
@@ -26,12 +27,19 @@ body_rings (MultiLine lists) = []
 body_rings (Polygon lists) = lists
 body_rings (MultiPolygon ps) = joined ps
 
+-- those of geometries
+abbrev pub lines_of : List Geom → List (List ArcRef)
+lines_of gs = gathered (λ g. body_lines g.body) gs
+
+abbrev pub rings_of : List Geom → List (List ArcRef)
+rings_of gs = gathered (λ g. body_rings g.body) gs
+
 -- those of a layer's geometries
 abbrev pub layer_lines : LayerParts → List (List ArcRef)
-layer_lines l = gathered (λ g. body_lines g.body) l.geometries
+layer_lines l = lines_of l.geometries
 
 abbrev pub layer_rings : LayerParts → List (List ArcRef)
-layer_rings l = gathered (λ g. body_rings g.body) l.geometries
+layer_rings l = rings_of l.geometries
 
 -- those of all layers
 abbrev pub layers_lines : List LayerParts → List (List ArcRef)

@@ -3,6 +3,8 @@
 #![tactic(auto)]
 
 pub mod laws;
+pub mod lists;
 pub mod order;
 
+pub use lists::lists_stand;
 pub use order::in_order;

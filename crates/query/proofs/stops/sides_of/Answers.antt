@@ -1,5 +1,5 @@
 use Rattle.std.proofs.Common.{ap, sym, ◌∙◌, drop, ◌+◌}
-use Rattle.chains.proofs.Slices.{drop_item}
+use Rattle.lines.proofs.Dropping.{drop_item}
 use Rattle.query.specs.Stops.{noted_all, sides_in}
 use Rattle.query.proofs.stops.sides_of.Goals as goal
 

@@ -1,6 +1,6 @@
 use Rattle.std.proofs.Common.{ap, sym, ◌∙◌, drop, ◌+◌}
 use Rattle.chains.specs.Among.{among}
-use Rattle.chains.proofs.Slices.{drop_item}
+use Rattle.lines.proofs.Dropping.{drop_item}
 use Rattle.query.specs.Stops.{sides_in, stop_all}
 use Rattle.query.proofs.stops.stops_by.Goals as goal
 

@@ -1,6 +1,6 @@
 use Rattle.std.proofs.Common.{◌+◌, ◌∷◌, drop, ap, sym, subst, ◌∙◌}
 use Rattle.std.specs.Ordering.{is_lt}
-use Rattle.chains.proofs.Slices.{drop_item}
+use Rattle.lines.proofs.Dropping.{drop_item}
 use Rattle.topo.specs.GeometryOrder.{HaveFeatures, geometry_cmp}
 use Rattle.taking.specs.Order.{rises}
 use Rattle.taking.proofs.Rising.{rising_step, rising_stop}

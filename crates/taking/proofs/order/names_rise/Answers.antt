@@ -1,6 +1,6 @@
 use Rattle.std.proofs.Common.{◌+◌, ◌∷◌, drop, ap, sym, ◌∙◌}
 use Rattle.std.specs.Ordering.{is_lt}
-use Rattle.chains.proofs.Slices.{drop_item}
+use Rattle.lines.proofs.Dropping.{drop_item}
 use Rattle.taking.specs.Order.{name_cmp, rises}
 use Rattle.taking.proofs.Rising.{rising_step, rising_stop}
 use Rattle.taking.proofs.order.names_rise.Goals as goal

@@ -1,6 +1,6 @@
 use Rattle.std.proofs.Common.{◌+◌, ◌∙◌, ap, drop, true, false}
 use Rattle.theory.specs.ArcNumbers.{backwards}
-use Rattle.chains.proofs.Slices.{drop_item}
+use Rattle.lines.proofs.Dropping.{drop_item}
 use Rattle.rejoining.specs.Starts.{starts_by, starts_in, with_head}
 use Rattle.rejoining.proofs.Noting.{arc_step}
 use Rattle.rejoining.proofs.start_table.StartTable.of.Goals as goal
