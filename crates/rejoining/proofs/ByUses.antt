@@ -104,3 +104,19 @@ module _ {T : Type 0} where
       go false false c i f = f
       go false true c i f = refl
       go true r c i f = absurd cc
+
+  -- what is noted of a, and of others
+  pub noted_here : (a : ArcRef) (v : T) (s : ArcRef → Option T) → with_noted a v s a ≡ Some v
+  noted_here a v s = rw (way a.reversed, same_number a.arc) refl
+    where
+      way : (b : Bool) → same_way b b ≡ true
+      way true = refl
+      way false = refl
+
+  pub noted_other : (a : ArcRef) (v : T) (s : ArcRef → Option T) (q : ArcRef) → ¬ (a ≡ q) → with_noted a v s q ≡ s q
+  noted_other a v s q n = go (same_way a.reversed q.reversed) refl (is_eq (nat_cmp a.arc q.arc)) refl
+    where
+      go : (b : Bool) → same_way a.reversed q.reversed ≡ b → (c : Bool) → is_eq (nat_cmp a.arc q.arc) ≡ c → cond b (cond c (Some v) (s q)) (s q) ≡ s q
+      go true f true g = absurd (n (same_use a q f g))
+      go true f false g = refl
+      go false f c g = refl
