@@ -18,7 +18,7 @@ use Rattle.lines.proofs.SortedLists.{Rises, Up, rises_from_sorted, up_from_rises
 use Rattle.chains.proofs.Merged.{then_less}
 use Rattle.rejoining.specs.ByUse.{same_way}
 use Rattle.rejoining.specs.declared.meeting.End.{End}
-use Rattle.rejoining.specs.Meeting.{AreGrouped, Begins, against, ahead, all_ends, begin_at, end_at, end_if, first_if, used_at}
+use Rattle.rejoining.specs.Meeting.{AreGrouped, Begins, all_ends, begin_at, end_at, end_if, ends_from, first_if, use_of, used_at}
 
 pos_same : (v q : Pos) → Some v ≡ Some q → v ≡ q
 pos_same v q e = cc
@@ -34,35 +34,43 @@ if_in (Some w) a p v e f = let g : v ≡ w = pos_same v w (sym e) in inl (λ i. 
 
 module _ (arcs : List (List Pos)) where
   -- an end is the begin of a used arc of one of the numbers
+  from_begins : (r : Bool) (ks : List ℕ) (e : End) → Has e (ends_from arcs r ks) → Begins arcs e.vertex ks (used_at e)
+  from_begins r [] e h = absurd h
+  from_begins r (k ∷ ks) e h = elim (Has-append e (end_if (begin_at arcs (use_of r k)) (use_of r k)) (ends_from arcs r ks) h) [
+    | inl i ↦ (let t = in_if (begin_at arcs (use_of r k)) (use_of r k) e i in (inl (ap (λ w. w.arc) t.1), ap (begin_at arcs) t.1 ∙ t.0))
+    | inr i ↦ (let t = from_begins r ks e i in (inr t.0, t.1))
+  ]
+
+  -- used in this direction
+  from_way : (r : Bool) (ks : List ℕ) (e : End) → Has e (ends_from arcs r ks) → e.reversed ≡ r
+  from_way r [] e h = absurd h
+  from_way r (k ∷ ks) e h = elim (Has-append e (end_if (begin_at arcs (use_of r k)) (use_of r k)) (ends_from arcs r ks) h) [
+    | inl i ↦ ap (λ w. w.reversed) (in_if (begin_at arcs (use_of r k)) (use_of r k) e i).1
+    | inr i ↦ from_way r ks e i
+  ]
+
   pub ends_begin : (ks : List ℕ) (e : End) → Has e (all_ends arcs ks) → Begins arcs e.vertex ks (used_at e)
-  ends_begin [] e h = absurd h
-  ends_begin (k ∷ ks) e h =
-      elim (Has-append e (end_if (begin_at arcs (ahead k)) (ahead k)) (end_if (begin_at arcs (against k)) (against k) ++ all_ends arcs ks) h) [
-        | inl i ↦ (let t = in_if (begin_at arcs (ahead k)) (ahead k) e i in (inl (ap (λ w. w.arc) t.1), ap (begin_at arcs) t.1 ∙ t.0))
-        | inr i ↦ elim (Has-append e (end_if (begin_at arcs (against k)) (against k)) (all_ends arcs ks) i) [
-          | inl j ↦ (let t = in_if (begin_at arcs (against k)) (against k) e j in (inl (ap (λ w. w.arc) t.1), ap (begin_at arcs) t.1 ∙ t.0))
-          | inr j ↦ (let t = ends_begin ks e j in (inr t.0, t.1))
-        ]
-      ]
+  ends_begin ks e h = elim (Has-append e (ends_from arcs false ks) (ends_from arcs true ks) h) [
+    | inl i ↦ from_begins false ks e i
+    | inr i ↦ from_begins true ks e i
+  ]
 
   -- and each that begins is one
+  begins_from : (ks : List ℕ) (v : Pos) (p : ArcRef) → Begins arcs v ks p → Has (end_at v p) (ends_from arcs p.reversed ks)
+  begins_from [] v p b = absurd b.0
+  begins_from (k ∷ ks) v p (inr i, b) =
+      Has-append_right (end_at v p) (end_if (begin_at arcs (use_of p.reversed k)) (use_of p.reversed k)) (ends_from arcs p.reversed ks) (begins_from ks v p (i, b))
+  begins_from (k ∷ ks) v p (inl q, b) =
+      let same : p ≡ use_of p.reversed k = (λ i. record { arc = q i; reversed = p.reversed }) in
+      Has-append_left (end_at v p) (end_if (begin_at arcs (use_of p.reversed k)) (use_of p.reversed k)) (ends_from arcs p.reversed ks)
+      (if_in (begin_at arcs (use_of p.reversed k)) (use_of p.reversed k) p v (ap (begin_at arcs) (sym same) ∙ b) same)
+
   pub begins_end : (ks : List ℕ) (v : Pos) (p : ArcRef) → Begins arcs v ks p → Has (end_at v p) (all_ends arcs ks)
-  begins_end [] v p b = absurd b.0
-  begins_end (k ∷ ks) v p (inr i, b) =
-      Has-append_right (end_at v p) (end_if (begin_at arcs (ahead k)) (ahead k)) (end_if (begin_at arcs (against k)) (against k) ++ all_ends arcs ks)
-      (Has-append_right (end_at v p) (end_if (begin_at arcs (against k)) (against k)) (all_ends arcs ks) (begins_end ks v p (i, b)))
-  begins_end (k ∷ ks) v p (inl q, b) = way p.reversed refl
+  begins_end ks v p b = way p.reversed (begins_from ks v p b)
     where
-      way : (r : Bool) → p.reversed ≡ r → Has (end_at v p) (all_ends arcs (k ∷ ks))
-      way false f =
-          let same : p ≡ ahead k = (λ i. record { arc = q i; reversed = f i }) in
-          Has-append_left (end_at v p) (end_if (begin_at arcs (ahead k)) (ahead k)) (end_if (begin_at arcs (against k)) (against k) ++ all_ends arcs ks)
-          (if_in (begin_at arcs (ahead k)) (ahead k) p v (ap (begin_at arcs) (sym same) ∙ b) same)
-      way true f =
-          let same : p ≡ against k = (λ i. record { arc = q i; reversed = f i }) in
-          Has-append_right (end_at v p) (end_if (begin_at arcs (ahead k)) (ahead k)) (end_if (begin_at arcs (against k)) (against k) ++ all_ends arcs ks)
-          (Has-append_left (end_at v p) (end_if (begin_at arcs (against k)) (against k)) (all_ends arcs ks)
-          (if_in (begin_at arcs (against k)) (against k) p v (ap (begin_at arcs) (sym same) ∙ b) same))
+      way : (r : Bool) → Has (end_at v p) (ends_from arcs r ks) → Has (end_at v p) (all_ends arcs ks)
+      way false h = Has-append_left (end_at v p) (ends_from arcs false ks) (ends_from arcs true ks) h
+      way true h = Has-append_right (end_at v p) (ends_from arcs false ks) (ends_from arcs true ks) h
 
   pub begins_at : (q : Pos) (p : ArcRef) → begin_at arcs p ≡ Some q → BeginsAt arcs q p
   begins_at q p e = go (along arcs p) refl e
@@ -91,23 +99,17 @@ differ_if : (o : Option Pos) (a : ArcRef) → AllDiffer (end_if o a)
 differ_if None a = tt
 differ_if (Some v) a = ((λ d h. absurd h), tt)
 
-ends_differ : (arcs : List (List Pos)) (ks : List ℕ) → Distinct ks → AllDiffer (all_ends arcs ks)
-ends_differ arcs [] once = tt
-ends_differ arcs (k ∷ ks) once =
-    AllDiffer-append (end_if (begin_at arcs (ahead k)) (ahead k)) (end_if (begin_at arcs (against k)) (against k) ++ all_ends arcs ks)
-    (differ_if (begin_at arcs (ahead k)) (ahead k))
-    (AllDiffer-append (end_if (begin_at arcs (against k)) (against k)) (all_ends arcs ks) (differ_if (begin_at arcs (against k)) (against k)) (ends_differ arcs ks once.1)
-    (λ x y h i. later (against k) x y refl (in_if (begin_at arcs (against k)) (against k) x h).1 i))
-    (λ x y h i. elim (Has-append y (end_if (begin_at arcs (against k)) (against k)) (all_ends arcs ks) i) [
-      | inl j ↦ (λ e. ways (sym (in_if (begin_at arcs (ahead k)) (ahead k) x h).1 ∙ e ∙ (in_if (begin_at arcs (against k)) (against k) y j).1))
-      | inr j ↦ later (ahead k) x y refl (in_if (begin_at arcs (ahead k)) (ahead k) x h).1 j
-    ])
-  where
-    ways : ¬ (ahead k ≡ against k)
-    ways e = let f : false ≡ true = ap (λ w. w.reversed) e in cc
+from_differ : (arcs : List (List Pos)) (r : Bool) (ks : List ℕ) → Distinct ks → AllDiffer (ends_from arcs r ks)
+from_differ arcs r [] once = tt
+from_differ arcs r (k ∷ ks) once =
+    AllDiffer-append (end_if (begin_at arcs (use_of r k)) (use_of r k)) (ends_from arcs r ks) (differ_if (begin_at arcs (use_of r k)) (use_of r k)) (from_differ arcs r ks once.1)
+    (λ x y h i e. once.0
+    (subst (λ w. Has w ks) (ap (λ w. w.arc) (sym e ∙ (in_if (begin_at arcs (use_of r k)) (use_of r k) x h).1)) (from_begins arcs r ks y i).0))
 
-    later : (a : ArcRef) (x y : End) → a.arc ≡ k → used_at x ≡ a → Has y (all_ends arcs ks) → ¬ (used_at x ≡ used_at y)
-    later a x y n f h e = once.0 (subst (λ w. Has w ks) (ap (λ w. w.arc) (sym e ∙ f) ∙ n) (ends_begin arcs ks y h).0)
+ends_differ : (arcs : List (List Pos)) (ks : List ℕ) → Distinct ks → AllDiffer (all_ends arcs ks)
+ends_differ arcs ks once =
+    AllDiffer-append (ends_from arcs false ks) (ends_from arcs true ks) (from_differ arcs false ks once) (from_differ arcs true ks once)
+    (λ x y h i e. let f : false ≡ true = sym (from_way arcs false ks x h) ∙ ap (λ w. w.reversed) e ∙ from_way arcs true ks y i in cc)
 
 abbrev same_used : End → End → Bool
 same_used x y = nat_eq x.arc y.arc && same_way x.reversed y.reversed

@@ -46,7 +46,7 @@ told_alike S T H G f a st ts hg gh (inr (b, k)) = inr (b, record {
   there = k.there;
   back = k.back;
   apart = k.apart;
-  open = λ t. k.open (ts t);
+  no_end = λ t. k.no_end (ts t);
   meets = hg b k.meets;
   only = λ p h. k.only p (gh p h);
 })
@@ -153,13 +153,13 @@ module _ (stops : List Pos) (ends : List End) where
       go false t k =
           let ahead : g a ≡ Some b = k a ∙ noted_other b a (with_noted a b f) a (λ z. differ (sym z)) ∙ noted_here a b f in
           let back : g b ≡ Some a = k b ∙ noted_here b a (with_noted a b f) in
-          let open : ¬ Has first.vertex stops = (λ i. true_false (among stops first.vertex) (has_among stops first.vertex i) t) in
+          let no_end : ¬ Has first.vertex stops = (λ i. true_false (among stops first.vertex) (has_among stops first.vertex i) t) in
           elim h [
             | inl i ↦ subst (Told g first.vertex) (sym (ap used_at i)) (inr (b, record {
               there = ahead;
               back = back;
               apart = differ;
-              open = open;
+              no_end = open;
               meets = meet d (inr (inl refl));
               only = two;
             }))
@@ -167,7 +167,7 @@ module _ (stops : List Pos) (ends : List End) where
               there = back;
               back = ahead;
               apart = λ z. differ (sym z);
-              open = open;
+              no_end = open;
               meets = meet first (inl refl);
               only = λ p m. elim (two p m) [ inl j ↦ inr j | inr j ↦ inl j ];
             }))
@@ -242,7 +242,7 @@ module _ (stops : List Pos) (ends : List End) where
       there = same e a (λ x i z. p.apart (end_at w a) x h (in_here x i) (sym z)) ∙ k.there;
       back = same e b (λ x i z. p.apart (end_at w b) x done_too (in_here x i) (sym z)) ∙ k.back;
       apart = k.apart;
-      open = k.open;
+      no_end = k.no_end;
       meets = k.meets;
       only = k.only;
     })

@@ -104,7 +104,7 @@ module _ (g u : Geometry Pos) (old : Arcs) (marks : List Bool) (ending : List Po
 
   -- no junction where two ends meet
   two_open : (v : Pos) (a b : ArcRef) → ArePartners (Has v ending) (Begins old.arcs v ks) P a b → ¬ JunctionOf g v
-  two_open v a b w j = elim ((laws.junctions v).0 j) [ inl h ↦ w.open ((left.ends v).1 h) | inr h ↦ three h ]
+  two_open v a b w j = elim ((laws.junctions v).0 j) [ inl h ↦ w.no_end ((left.ends v).1 h) | inr h ↦ three h ]
     where
       three : ¬ ThreeMeet Kept old.arcs v
       three t =

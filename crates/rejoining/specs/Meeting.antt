@@ -1,5 +1,5 @@
 -- The ends of arcs that meet at a vertex, and which arc goes on from another.
-use Rattle.std.specs.Prelude.{◌≡◌, ℕ, zero, suc, true, false, cond, List, [], ◌∷◌, ◌++◌, ◌⊎◌, Option, Some, None, slice_get}
+use Rattle.std.specs.Prelude.{◌≡◌, ℕ, zero, suc, Bool, true, false, cond, List, [], ◌∷◌, ◌++◌, ◌⊎◌, Option, Some, None, slice_get}
 use Rattle.std.specs.Ordering.{is_gt}
 use Rattle.theory.specs.ArcNumbers.{ArcRef, along}
 use Rattle.theory.specs.Lists.{Has}
@@ -20,11 +20,9 @@ first_if (Some l) = slice_get l 0
 abbrev pub begin_at : List (List Pos) → ArcRef → Option Pos
 begin_at arcs a = first_if (along arcs a)
 
-abbrev pub ahead : ℕ → ArcRef
-ahead k = record { arc = k; reversed = false }
-
-abbrev pub against : ℕ → ArcRef
-against k = record { arc = k; reversed = true }
+-- arc k used in this direction
+abbrev pub use_of : Bool → ℕ → ArcRef
+use_of r k = record { arc = k; reversed = r }
 
 abbrev pub used_at : End → ArcRef
 used_at e = record { arc = e.arc; reversed = e.reversed }
@@ -37,10 +35,14 @@ abbrev pub end_if : Option Pos → ArcRef → List End
 end_if None a = []
 end_if (Some v) a = end_at v a ∷ []
 
--- the ends of the arcs of these numbers
+-- the ends of the arcs of these numbers, each used in this direction
+abbrev pub ends_from : List (List Pos) → Bool → List ℕ → List End
+ends_from arcs r [] = []
+ends_from arcs r (k ∷ ks) = end_if (begin_at arcs (use_of r k)) (use_of r k) ++ ends_from arcs r ks
+
+-- the first ends of the arcs of these numbers, and then their last ones
 abbrev pub all_ends : List (List Pos) → List ℕ → List End
-all_ends arcs [] = []
-all_ends arcs (k ∷ ks) = end_if (begin_at arcs (ahead k)) (ahead k) ++ (end_if (begin_at arcs (against k)) (against k) ++ all_ends arcs ks)
+all_ends arcs ks = ends_from arcs false ks ++ ends_from arcs true ks
 
 -- how many of the first ends are at v
 abbrev pub count_at : Pos → List End → ℕ
@@ -88,7 +90,7 @@ pub record ArePartners (stop : Type 0) (H : ArcRef → Type 0) (partner : ArcRef
   pub there : partner a ≡ Some b
   pub back : partner b ≡ Some a
   pub apart : ¬ (a ≡ b)
-  pub open : ¬ stop
+  pub no_end : ¬ stop
   pub meets : H b
   pub only : (p : ArcRef) → H p → (p ≡ a) ⊎ (p ≡ b)
 

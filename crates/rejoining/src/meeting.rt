@@ -5,7 +5,7 @@ ghost use Rattle.lines.specs.Pairs.{position_eq};
 ghost use Rattle.theory.specs.ArcNumbers as numbers;
 ghost use Rattle.theory.specs.Lists.{Distinct, Has};
 ghost use Rattle.rejoining.specs.ByUse.{noted_of};
-ghost use Rattle.rejoining.specs.Meeting.{AreGrouped, Begins, IsTold, all_ends, begin_at, count_at, end_at, end_if, paired, partner_in, used_at, with_pair};
+ghost use Rattle.rejoining.specs.Meeting.{AreGrouped, Begins, IsTold, all_ends, begin_at, count_at, end_at, end_if, ends_from, paired, partner_in, used_at, with_pair};
 
 use crate::by_use::ByUse;
 use chains::table::{ArcRef, ArcTable};
@@ -84,23 +84,33 @@ fn add_end(ends: &mut Vec<End>, arcs: &ArcTable, used: ArcRef) -> Result<(), All
     Ok(())
 }
 
-/// The ends of the arcs of these numbers.
+/// Adds the ends of the arcs of these numbers, each used in this direction.
+fn add_ends(
+    ends: &mut Vec<End>,
+    arcs: &ArcTable,
+    chosen: &[usize],
+    reversed: bool,
+) -> Result<(), AllocError>
+    ensures { OnOk result (ends.new.items ≡ ends.old.items ++ ends_from arcs.now.arcs reversed chosen.now) }
+{
+    for number in chosen {
+        let used = ArcRef {
+            arc: *number,
+            reversed,
+        };
+        add_end(ends, arcs, used)?;
+    }
+    Ok(())
+}
+
+/// The ends of the arcs of these numbers. The first ends of arcs in their order are sorted already, so
+/// they stand before the last ones, and a sort that looks for runs finds one of them.
 fn ends_of(alloc: Global, arcs: &ArcTable, chosen: &[usize]) -> Result<Vec<End>, AllocError>
     ensures { IfOk result (λ v. v.items ≡ all_ends arcs.now.arcs chosen.now) }
 {
     let mut ends = Vec::with_capacity(alloc, chosen.len().saturating_mul(2))?;
-    for number in chosen {
-        let ahead = ArcRef {
-            arc: *number,
-            reversed: false,
-        };
-        let against = ArcRef {
-            arc: *number,
-            reversed: true,
-        };
-        add_end(&mut ends, arcs, ahead)?;
-        add_end(&mut ends, arcs, against)?;
-    }
+    add_ends(&mut ends, arcs, chosen, false)?;
+    add_ends(&mut ends, arcs, chosen, true)?;
     Ok(ends)
 }
 
