@@ -151,6 +151,7 @@ apart_false x y n = go (same_used x y) refl
     go false e = refl
 
 to_distinct : (l : List End) → AllDiffer l → IsDistinct same_used l
+unfolding IsDistinct
 to_distinct [] d = tt
 to_distinct (x ∷ l) d = (each l d.0, to_distinct l d.1)
   where
@@ -159,6 +160,7 @@ to_distinct (x ∷ l) d = (each l d.0, to_distinct l d.1)
     each (y ∷ l) f = (apart_false x y (f y (inl refl)), each l (λ z h. f z (inr h)))
 
 from_distinct : (l : List End) → IsDistinct same_used l → AllDiffer l
+unfolding IsDistinct
 from_distinct [] d = tt
 from_distinct (x ∷ l) d = (each l d.0, from_distinct l d.1)
   where

@@ -54,16 +54,16 @@ told_alike S T H G f a st ts hg gh (inr (b, k)) = inr (b, record {
 -- the first ends that are at v, and those behind
 here_at : (v : Pos) (l : List End) (x : End) → Has x (take (count_at v l) l) → x.vertex ≡ v
 here_at v [] x h = absurd h
-here_at v (e ∷ l) x h = go (position_eq e.vertex v) refl h
+here_at v (e ∷ l) x h = go (position_eq e.vertex v) refl (here_at v l x) h
   where
-    go : (b : Bool) → position_eq e.vertex v ≡ b → Has x (take (cond b (suc (count_at v l)) zero) (e ∷ l)) → x.vertex ≡ v
-    go true f (inl i) = ap (λ w. w.vertex) i ∙ position_true e.vertex v f
-    go true f (inr i) = here_at v l x i
-    go false f i = absurd i
+    go : (b : Bool) → position_eq e.vertex v ≡ b → (Has x (take (count_at v l) l) → x.vertex ≡ v) → Has x (take (cond b (suc (count_at v l)) zero) (e ∷ l)) → x.vertex ≡ v
+    go true f on (inl i) = ap (λ w. w.vertex) i ∙ position_true e.vertex v f
+    go true f on (inr i) = on i
+    go false f on i = absurd i
 
 behind_at : (v : Pos) (l : List End) → ((x : End) → Has x l → is_gt (position_cmp v x.vertex) ≡ false) → AreGrouped l → (x : End) → Has x (drop (count_at v l) l) → ¬ (x.vertex ≡ v)
 behind_at v [] up g x h = absurd h
-behind_at v (e ∷ l) up g x h = go (position_eq e.vertex v) refl h
+behind_at v (e ∷ l) up g x h = go (position_eq e.vertex v) refl (behind_at v l (λ y k. up y (inr k)) g.1 x) h
   where
     not_here : position_eq e.vertex v ≡ false → Has x (e ∷ l) → ¬ (x.vertex ≡ v)
     not_here f (inl i) k = true_false (position_eq e.vertex v) (subst (λ w. position_eq w v ≡ true) (sym k ∙ ap (λ w. w.vertex) i) (position_refl v)) f
@@ -73,9 +73,10 @@ behind_at v (e ∷ l) up g x h = go (position_eq e.vertex v) refl h
             (subst (λ w. is_gt (position_cmp e.vertex w) ≡ false) k (g.0 x i).0) (up e (inl refl))) in
         true_false (position_eq e.vertex v) (subst (λ w. position_eq w v ≡ true) (sym same) (position_refl v)) f
 
-    go : (b : Bool) → position_eq e.vertex v ≡ b → Has x (drop (cond b (suc (count_at v l)) zero) (e ∷ l)) → ¬ (x.vertex ≡ v)
-    go true f i = behind_at v l (λ y k. up y (inr k)) g.1 x i
-    go false f i = not_here f i
+    go : (b : Bool) → position_eq e.vertex v ≡ b → (Has x (drop (count_at v l) l) → ¬ (x.vertex ≡ v)) →
+        Has x (drop (cond b (suc (count_at v l)) zero) (e ∷ l)) → ¬ (x.vertex ≡ v)
+    go true f on i = on i
+    go false f on i = not_here f i
 
 Grouped-behind : (xs ys : List End) → AreGrouped (xs ++ ys) → AreGrouped ys
 Grouped-behind [] ys g = g
@@ -159,7 +160,7 @@ module _ (stops : List Pos) (ends : List End) where
               there = ahead;
               back = back;
               apart = differ;
-              no_end = open;
+              no_end = no_end;
               meets = meet d (inr (inl refl));
               only = two;
             }))
@@ -167,7 +168,7 @@ module _ (stops : List Pos) (ends : List End) where
               there = back;
               back = ahead;
               apart = λ z. differ (sym z);
-              no_end = open;
+              no_end = no_end;
               meets = meet first (inl refl);
               only = λ p m. elim (two p m) [ inl j ↦ inr j | inr j ↦ inl j ];
             }))
