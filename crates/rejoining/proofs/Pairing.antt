@@ -42,14 +42,17 @@ told_alike S T H G f a st ts hg gh (inl s) = inl (record {
     }))
   ];
 })
-told_alike S T H G f a st ts hg gh (inr (b, k)) = inr (b, record {
-  there = k.there;
-  back = k.back;
-  apart = k.apart;
-  no_end = λ t. k.no_end (ts t);
-  meets = hg b k.meets;
-  only = λ p h. k.only p (gh p h);
-})
+told_alike S T H G f a st ts hg gh (inr (b, k)) = inr (
+  b,
+  record {
+    there = k.there;
+    back = k.back;
+    apart = k.apart;
+    no_end = λ t. k.no_end (ts t);
+    meets = hg b k.meets;
+    only = λ p h. k.only p (gh p h);
+  },
+)
 
 -- the first ends that are at v, and those behind
 here_at : (v : Pos) (l : List End) (x : End) → Has x (take (count_at v l) l) → x.vertex ≡ v
@@ -69,8 +72,8 @@ behind_at v (e ∷ l) up g x h = go (position_eq e.vertex v) refl (behind_at v l
     not_here f (inl i) k = true_false (position_eq e.vertex v) (subst (λ w. position_eq w v ≡ true) (sym k ∙ ap (λ w. w.vertex) i) (position_refl v)) f
     not_here f (inr i) k =
         let same : e.vertex ≡ v = position_same e.vertex v
-            (squeezed position_cmp position_total (position_cmp e.vertex v) (position_cmp v e.vertex) (position_total.antisymm e.vertex v)
-            (subst (λ w. is_gt (position_cmp e.vertex w) ≡ false) k (g.0 x i).0) (up e (inl refl))) in
+        (squeezed position_cmp position_total (position_cmp e.vertex v) (position_cmp v e.vertex) (position_total.antisymm e.vertex v)
+        (subst (λ w. is_gt (position_cmp e.vertex w) ≡ false) k (g.0 x i).0) (up e (inl refl))) in
         true_false (position_eq e.vertex v) (subst (λ w. position_eq w v ≡ true) (sym same) (position_refl v)) f
 
     go : (b : Bool) → position_eq e.vertex v ≡ b → (Has x (drop (count_at v l) l) → ¬ (x.vertex ≡ v)) →
@@ -156,22 +159,28 @@ module _ (stops : List Pos) (ends : List End) where
           let back : g b ≡ Some a = k b ∙ noted_here b a (with_noted a b f) in
           let no_end : ¬ Has first.vertex stops = (λ i. true_false (among stops first.vertex) (has_among stops first.vertex i) t) in
           elim h [
-            | inl i ↦ subst (Told g first.vertex) (sym (ap used_at i)) (inr (b, record {
-              there = ahead;
-              back = back;
-              apart = differ;
-              no_end = no_end;
-              meets = meet d (inr (inl refl));
-              only = two;
-            }))
-            | inr (inl i) ↦ subst (Told g first.vertex) (sym (ap used_at i)) (inr (a, record {
-              there = back;
-              back = ahead;
-              apart = λ z. differ (sym z);
-              no_end = no_end;
-              meets = meet first (inl refl);
-              only = λ p m. elim (two p m) [ inl j ↦ inr j | inr j ↦ inl j ];
-            }))
+            | inl i ↦ subst (Told g first.vertex) (sym (ap used_at i)) (inr (
+              b,
+              record {
+                there = ahead;
+                back = back;
+                apart = differ;
+                no_end = no_end;
+                meets = meet d (inr (inl refl));
+                only = two;
+              },
+            ))
+            | inr (inl i) ↦ subst (Told g first.vertex) (sym (ap used_at i)) (inr (
+              a,
+              record {
+                there = back;
+                back = ahead;
+                apart = λ z. differ (sym z);
+                no_end = no_end;
+                meets = meet first (inl refl);
+                only = λ p m. elim (two p m) [ inl j ↦ inr j | inr j ↦ inl j ];
+              },
+            ))
             | inr (inr z) ↦ absurd z
           ]
 
@@ -239,14 +248,17 @@ module _ (stops : List Pos) (ends : List End) where
       none = same e a (λ x i k. p.apart (end_at w a) x h (in_here x i) (sym k)) ∙ s.none;
       why = s.why;
     })
-    told_still e w a h (inr (b, k)) = inr (b, record {
-      there = same e a (λ x i z. p.apart (end_at w a) x h (in_here x i) (sym z)) ∙ k.there;
-      back = same e b (λ x i z. p.apart (end_at w b) x done_too (in_here x i) (sym z)) ∙ k.back;
-      apart = k.apart;
-      no_end = k.no_end;
-      meets = k.meets;
-      only = k.only;
-    })
+    told_still e w a h (inr (b, k)) = inr (
+      b,
+      record {
+        there = same e a (λ x i z. p.apart (end_at w a) x h (in_here x i) (sym z)) ∙ k.there;
+        back = same e b (λ x i z. p.apart (end_at w b) x done_too (in_here x i) (sym z)) ∙ k.back;
+        apart = k.apart;
+        no_end = k.no_end;
+        meets = k.meets;
+        only = k.only;
+      },
+    )
       where
         done_too : Has (end_at w b) p.done
         done_too = elim (Has-append (end_at w b) p.done (first ∷ (here ++ behind)) (subst (Has (end_at w b)) p.is k.meets)) [

@@ -369,7 +369,7 @@ module _ (old : Arcs) (marks : List Bool) (ending : List Pos) (numbers slice : L
   pub rejoin_told : (g u : Geometry Pos) → IsLeftBy g u old marks ending → IsRejoinedOf g u old result
   rejoin_told g u left =
       let met' : (v : Pos) (a : ArcRef) → Begins old.arcs v (kept_numbers 0 marks) a → IsTold (Has v ending) (Begins old.arcs v (kept_numbers 0 marks)) (partner_in m) a =
-          subst (λ w. Distinct w → (v : Pos) (a : ArcRef) → Begins old.arcs v w a → IsTold (Has v ending) (Begins old.arcs v w) (partner_in m) a) (lent ∙ chosen) met (numbers_once 0 marks) in
+      subst (λ w. Distinct w → (v : Pos) (a : ArcRef) → Begins old.arcs v w a → IsTold (Has v ending) (Begins old.arcs v w) (partner_in m) a) (lent ∙ chosen) met (numbers_once 0 marks) in
       let whole = pieces ∙ ap (map (piece_of_run old.arcs (partner_in m))) lent_runs in
       let same : made ≡ put_all (map (located t.arcs) (map (piece_of_run old.arcs (partner_in m)) runs)) (map (list_of_run old.arcs (partner_in m)) runs) (replicate (length t.arcs) []) =
       put ∙ (λ i. put_all ((lent_refs ∙ numbered ∙ ap (map (located t.arcs)) whole) i) ((lists ∙ ap (map (list_of_run old.arcs (partner_in m))) lent_runs) i) (replicate (count i) [])) in

@@ -1,5 +1,5 @@
 -- What runs run along: lists that stitch, which end at stops or go round.
-use Rattle.std.proofs.Common.{◌≡◌, ◌-◌, ℕ, Bool, true, List, [], ◌∷◌, ◌++◌, take, length, map, reverse, inl, inr, refl, sym, ap, ◌∙◌, subst, arith, append_assoc, unwrap_or, Option, Some, None}
+use Rattle.std.proofs.Common.{◌≡◌, ◌-◌, ℕ, Bool, true, List, [], ◌∷◌, ◌++◌, take, length, map, reverse, inl, inr, refl, sym, ap, ◌∙◌, subst, arith, append_assoc, unwrap_or, Option, Some}
 use Rattle.std.proofs.lemmas.List.{append-nil}
 use Rattle.grid.specs.declared.pos.Pos.{Pos}
 use Rattle.lines.specs.Turned.{position_cmp}

@@ -128,11 +128,7 @@ fn count_of(ends: &[End], vertex: Pos) -> usize
 }
 
 /// Notes of each of two used arcs that the other goes on from it.
-fn note_pair(
-    partners: &mut ByUse<ArcRef>,
-    first: ArcRef,
-    second: ArcRef,
-) -> Result<(), AllocError>
+fn note_pair(partners: &mut ByUse<ArcRef>, first: ArcRef, second: ArcRef) -> Result<(), AllocError>
     ensures { OnOk result ((q : numbers.ArcRef) → noted_of partners.new q ≡ paired first second (noted_of partners.old) q) }
 {
     partners.set(first, second)?;

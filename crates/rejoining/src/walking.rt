@@ -40,11 +40,7 @@ fn take(left: &mut Vec<bool>, arc: usize) -> bool
 }
 
 /// Takes the used arc that goes on from another, if it is left.
-fn take_next(
-    meeting: &Meeting,
-    left: &mut Vec<bool>,
-    used: ArcRef,
-) -> Option<ArcRef>
+fn take_next(meeting: &Meeting, left: &mut Vec<bool>, used: ArcRef) -> Option<ArcRef>
     ensures goes { (run : List numbers.ArcRef) (after : List Bool) → GoesOn (partner_in meeting.now) left.new.items result run after → Goes (partner_in meeting.now) left.old.items used run after }
     ensures fewer { count_left left.new.items + some_one result ≤ count_left left.old.items }
 {
