@@ -1,5 +1,6 @@
 -- The steps by which something is noted of a used arc.
-use Rattle.std.proofs.Common.{◌≡◌, ◌≤◌, ◌<◌, ◌+◌, ℕ, zero, suc, Bool, true, false, cond, not, List, [], ◌∷◌, ◌++◌, length, replicate, slice_get, slice_set, take, refl, sym, ap, ◌∙◌, subst, arith, Option, Some, None}
+use Rattle.std.proofs.Common.{◌≡◌, ◌≤◌, ◌<◌, ℕ, zero, suc, Bool, true, false, cond, List, [], ◌∷◌, ◌++◌, length, replicate, slice_get, slice_set, take, refl, sym, ap, ◌∙◌, subst, arith, Option, Some, None}
+use Rattle.std.proofs.lemmas.List.{take_all}
 use Rattle.std.specs.Cmp.{nat_cmp_total, tied_itself}
 use Rattle.std.specs.FinMap.{nat_cmp-IsAntisymmetric}
 use Rattle.std.specs.Ordering.{is_eq, nat_cmp}
@@ -70,37 +71,48 @@ module _ {T : Type 0} where
   noted_there (x ∷ l) zero o e = cc
   noted_there (x ∷ l) (suc k) o e = noted_there l k o e
 
-  take_whole : (l : List (Option T)) (n : ℕ) → length l ≤ n → take n l ≡ l
-  take_whole [] zero h = refl
-  take_whole [] (suc n) h = refl
-  take_whole (o ∷ l) zero h = absurd (omega (arith, h))
-  take_whole (o ∷ l) (suc n) h = ap (λ w. o ∷ w) (take_whole l n (omega (arith, h)))
-
   -- places are added up to one
   pub noted_reached : (l new : List (Option T)) (n more k : ℕ) → length l ≤ n → new ≡ take n l ++ replicate more None → noted_at new k ≡ noted_at l k
-  noted_reached l new n more k h e = ap (λ w. noted_at w k) (e ∙ ap (λ w. w ++ replicate more None) (take_whole l n h)) ∙ noted_more l more k
+  noted_reached l new n more k h e = ap (λ w. noted_at w k) (e ∙ ap (λ w. w ++ replicate more None) (take_all n l h)) ∙ noted_more l more k
 
-  -- one more is noted, of a reversed use and of one ahead
+  -- one more is noted, of a use in either direction
+  set_one : (u r c : Bool) (one x y against ahead : Option T) → x ≡ cond u (cond c one against) against → y ≡ cond u ahead (cond c one ahead) →
+      cond r x y ≡ cond (same_way u r) (cond c one (cond r against ahead)) (cond r against ahead)
+  set_one true true c one x y against ahead e f = e
+  set_one true false c one x y against ahead e f = f
+  set_one false true c one x y against ahead e f = e
+  set_one false false c one x y against ahead e f = f
+
   pub set_against : (ahead against new : List (Option T)) (used : ArcRef) (v : T) → used.reversed ≡ true →
       ((k : ℕ) → noted_at new k ≡ cond (is_eq (nat_cmp used.arc k)) (Some v) (noted_at against k)) → (q : ArcRef) →
       cond q.reversed (noted_at new q.arc) (noted_at ahead q.arc) ≡ with_noted used v (λ r. cond r.reversed (noted_at against r.arc) (noted_at ahead r.arc)) q
-  set_against ahead against new used v w e q = go used.reversed q.reversed (is_eq (nat_cmp used.arc q.arc)) w (e q.arc)
-    where
-      go : (u r c : Bool) → u ≡ true → noted_at new q.arc ≡ cond c (Some v) (noted_at against q.arc) →
-          cond r (noted_at new q.arc) (noted_at ahead q.arc)
-          ≡ cond (same_way u r) (cond c (Some v) (cond r (noted_at against q.arc) (noted_at ahead q.arc))) (cond r (noted_at against q.arc) (noted_at ahead q.arc))
-      go true true c i f = f
-      go true false c i f = refl
-      go false r c i f = absurd cc
+  set_against ahead against new used v w e q =
+      let here : Bool = is_eq (nat_cmp used.arc q.arc) in
+      set_one used.reversed q.reversed here (Some v) (noted_at new q.arc) (noted_at ahead q.arc) (noted_at against q.arc) (noted_at ahead q.arc)
+      (e q.arc ∙ ap (λ u. cond u (cond here (Some v) (noted_at against q.arc)) (noted_at against q.arc)) (sym w))
+      (ap (λ u. cond u (noted_at ahead q.arc) (cond here (Some v) (noted_at ahead q.arc))) (sym w))
 
   pub set_ahead : (ahead against new : List (Option T)) (used : ArcRef) (v : T) → used.reversed ≡ false →
       ((k : ℕ) → noted_at new k ≡ cond (is_eq (nat_cmp used.arc k)) (Some v) (noted_at ahead k)) → (q : ArcRef) →
       cond q.reversed (noted_at against q.arc) (noted_at new q.arc) ≡ with_noted used v (λ r. cond r.reversed (noted_at against r.arc) (noted_at ahead r.arc)) q
-  set_ahead ahead against new used v w e q = go used.reversed q.reversed (is_eq (nat_cmp used.arc q.arc)) w (e q.arc)
+  set_ahead ahead against new used v w e q =
+      let here : Bool = is_eq (nat_cmp used.arc q.arc) in
+      set_one used.reversed q.reversed here (Some v) (noted_at against q.arc) (noted_at new q.arc) (noted_at against q.arc) (noted_at ahead q.arc)
+      (ap (λ u. cond u (cond here (Some v) (noted_at against q.arc)) (noted_at against q.arc)) (sym w))
+      (e q.arc ∙ ap (λ u. cond u (noted_at ahead q.arc) (cond here (Some v) (noted_at ahead q.arc))) (sym w))
+
+  -- what is noted of a, and of others
+  pub noted_here : (a : ArcRef) (v : T) (s : ArcRef → Option T) → with_noted a v s a ≡ Some v
+  noted_here a v s = rw (way a.reversed, same_number a.arc) refl
     where
-      go : (u r c : Bool) → u ≡ false → noted_at new q.arc ≡ cond c (Some v) (noted_at ahead q.arc) →
-          cond r (noted_at against q.arc) (noted_at new q.arc)
-          ≡ cond (same_way u r) (cond c (Some v) (cond r (noted_at against q.arc) (noted_at ahead q.arc))) (cond r (noted_at against q.arc) (noted_at ahead q.arc))
-      go false false c i f = f
-      go false true c i f = refl
-      go true r c i f = absurd cc
+      way : (b : Bool) → same_way b b ≡ true
+      way true = refl
+      way false = refl
+
+  pub noted_other : (a : ArcRef) (v : T) (s : ArcRef → Option T) (q : ArcRef) → ¬ (a ≡ q) → with_noted a v s q ≡ s q
+  noted_other a v s q n = go (same_way a.reversed q.reversed) refl (is_eq (nat_cmp a.arc q.arc)) refl
+    where
+      go : (b : Bool) → same_way a.reversed q.reversed ≡ b → (c : Bool) → is_eq (nat_cmp a.arc q.arc) ≡ c → cond b (cond c (Some v) (s q)) (s q) ≡ s q
+      go true f true g = absurd (n (same_use a q f g))
+      go true f false g = refl
+      go false f c g = refl

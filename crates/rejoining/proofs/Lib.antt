@@ -2,6 +2,7 @@ pub mod ByUses
 pub mod Choices
 pub mod WalkedRuns
 pub mod Meetings
+pub mod Pairing
 pub mod Partners
 pub mod Stitches
 pub mod RunsAre

@@ -1,123 +1,197 @@
--- What is noted at a vertex: which ends of arcs meet there.
-use Rattle.std.proofs.Common.{◌≡◌, ℕ, Bool, true, false, cond, List, [], ◌∷◌, ◌⊎◌, inl, inr, refl, sym, ap, ◌∙◌, subst, Option, Some, None}
-use Rattle.std.specs.Ordering.{is_eq}
+-- The ends of the arcs of a list of numbers, in their order and sorted.
+use Rattle.std.proofs.Common.{eqb-true, eq-eqb, ◌≡◌, ℕ, Bool, true, false, nat_eq, ◌&&◌, List, [], ◌∷◌, ◌++◌, inl, inr, refl, sym, ap, ◌∙◌, subst, Option, Some, None}
+use Rattle.std.specs.Cmp.{IsTotalOrder, on_total}
+use Rattle.std.specs.List.{AllByRecursion, IsDistinct}
+use Rattle.std.specs.List.Sorted.{IsPermutation, IsSorted}
+use Rattle.std.specs.Ordering.{bool_cmp, nat_cmp, ordering_then}
+use Rattle.std.specs.declared.cmp.Ordering.{Ordering}
+use Rattle.std.proofs.lemmas.Map.Keys.{IsDistinct-IsPermutation}
 use Rattle.theory.specs.ArcNumbers.{ArcRef, along}
 use Rattle.theory.specs.Lists.{Distinct, Has}
 use Rattle.theory.specs.Standing.{BeginsAt}
+use Rattle.theory.proofs.Lists.{Has-append, Has-append_left, Has-append_right}
 use Rattle.grid.specs.declared.pos.Pos.{Pos}
+use Rattle.lines.specs.Positions.{position_total}
 use Rattle.lines.specs.Turned.{position_cmp}
-use Rattle.lines.proofs.Positions.{position_tied, tied_position, true_false}
-use Rattle.rejoining.specs.declared.meeting.Met.{Met}
-use Rattle.rejoining.specs.declared.meeting.Met.TheVariants.{One, Two, More}
-use Rattle.rejoining.specs.Meeting.{against, ahead, begin_at, first_if, met_again, noted, noted_all, used_at}
-
--- what is counted says of the ends H
-abbrev pub Means : Option Met → (ArcRef → Type 0) → Type 0
-Means None H = (p : ArcRef) → ¬ H p
-Means (Some (One x)) H = H (used_at x) × ((p : ArcRef) → H p → p ≡ used_at x)
-Means (Some (Two x y)) H = (¬ (used_at x ≡ used_at y)) × H (used_at x) × H (used_at y) × ((p : ArcRef) → H p → (p ≡ used_at x) ⊎ (p ≡ used_at y))
-Means (Some More) H = (a : ArcRef) × (b : ArcRef) × (c : ArcRef) × H a × H b × H c × (¬ (a ≡ b)) × (¬ (a ≡ c)) × (¬ (b ≡ c))
-
-Means-iff : (o : Option Met) (H G : ArcRef → Type 0) → ((p : ArcRef) → H p → G p) → ((p : ArcRef) → G p → H p) → Means o H → Means o G
-Means-iff None H G f g h = λ p k. h p (g p k)
-Means-iff (Some (One x)) H G f g h = (f (used_at x) h.0, λ p k. h.1 p (g p k))
-Means-iff (Some (Two x y)) H G f g h = (h.0, f (used_at x) h.1, f (used_at y) h.2, λ p k. h.3 p (g p k))
-Means-iff (Some More) H G f g h = (h.0, h.1, h.2, f h.0 h.3, f h.1 h.4, f h.2 h.5, h.6, h.7, h.8)
-
--- one end more, which is none of H
-Means-again : (o : Option Met) (H : ArcRef → Type 0) (n : ArcRef) → ¬ H n → Means o H → Means (Some (met_again o n)) (λ p. (p ≡ n) ⊎ H p)
-Means-again None H n fresh h = (inl refl, λ p k. elim k [ inl e ↦ e | inr e ↦ absurd (h p e) ])
-Means-again (Some (One x)) H n fresh h =
-    ((λ e. fresh (subst H e h.0)), inr h.0, inl refl, λ p k. elim k [ inl e ↦ inr e | inr e ↦ inl (h.1 p e) ])
-Means-again (Some (Two x y)) H n fresh h =
-    (used_at x, used_at y, n, inr h.1, inr h.2, inl refl, h.0, (λ e. fresh (subst H e h.1)), (λ e. fresh (subst H e h.2)))
-Means-again (Some More) H n fresh h = (h.0, h.1, h.2, inr h.3, inr h.4, inr h.5, h.6, h.7, h.8)
+use Rattle.lines.proofs.Positions.{both_intro, both_true, true_false}
+use Rattle.lines.proofs.SortedLists.{Rises, Up, rises_from_sorted, up_from_rises}
+use Rattle.chains.proofs.Merged.{then_less}
+use Rattle.rejoining.specs.ByUse.{same_way}
+use Rattle.rejoining.specs.declared.meeting.End.{End}
+use Rattle.rejoining.specs.Meeting.{AreGrouped, Begins, all_ends, begin_at, end_at, end_if, ends_from, first_if, use_of, used_at}
 
 pos_same : (v q : Pos) → Some v ≡ Some q → v ≡ q
 pos_same v q e = cc
 
-Means-noted : (q : Pos) (o : Option Met) (H : ArcRef → Type 0) (n : ArcRef) (at : Option Pos) → ¬ H n → Means o H →
-    Means (noted q o at n) (λ p. ((p ≡ n) × (at ≡ Some q)) ⊎ H p)
-Means-noted q o H n None fresh h =
-    Means-iff o H (λ p. ((p ≡ n) × (None ≡ Some q)) ⊎ H p) (λ p k. inr k) (λ p k. elim k [ inl e ↦ absurd (let f = e.1 in cc) | inr e ↦ e ]) h
-Means-noted q o H n (Some v) fresh h = go (is_eq (position_cmp v q)) refl
-  where
-    go : (b : Bool) → is_eq (position_cmp v q) ≡ b → Means (cond b (Some (met_again o n)) o) (λ p. ((p ≡ n) × (Some v ≡ Some q)) ⊎ H p)
-    go true e =
-        Means-iff (Some (met_again o n)) (λ p. (p ≡ n) ⊎ H p) (λ p. ((p ≡ n) × (Some v ≡ Some q)) ⊎ H p)
-        (λ p k. elim k [ inl f ↦ inl (f, ap Some (position_tied v q e)) | inr f ↦ inr f ])
-        (λ p k. elim k [ inl f ↦ inl f.0 | inr f ↦ inr f ]) (Means-again o H n fresh h)
-    go false e =
-        Means-iff o H (λ p. ((p ≡ n) × (Some v ≡ Some q)) ⊎ H p) (λ p k. inr k)
-        (λ p k. elim k [ inl f ↦ absurd (true_false (is_eq (position_cmp v q)) (tied_position v q (pos_same v q f.1)) e) | inr f ↦ f ]) h
+in_if : (o : Option Pos) (a : ArcRef) (e : End) → Has e (end_if o a) → (o ≡ Some e.vertex) × (used_at e ≡ a)
+in_if None a e h = absurd h
+in_if (Some v) a e (inl i) = (ap (λ w. Some w.vertex) (sym i), ap used_at i)
+in_if (Some v) a e (inr z) = absurd z
 
-module _ (arcs : List (List Pos)) (q : Pos) where
-  -- a used arc of one of the numbers begins at q
-  abbrev pub Begins : List ℕ → ArcRef → Type 0
-  Begins ks p = Has p.arc ks × (begin_at arcs p ≡ Some q)
+if_in : (o : Option Pos) (a p : ArcRef) (v : Pos) → o ≡ Some v → p ≡ a → Has (end_at v p) (end_if o a)
+if_in None a p v e f = absurd cc
+if_in (Some w) a p v e f = let g : v ≡ w = pos_same v w (sym e) in inl (λ i. end_at (g i) (f i))
 
-  -- one end of arc k more, and both
-  abbrev First : (ArcRef → Type 0) → ℕ → ArcRef → Type 0
-  First H k p = ((p ≡ ahead k) × (begin_at arcs (ahead k) ≡ Some q)) ⊎ H p
+module _ (arcs : List (List Pos)) where
+  -- an end is the begin of a used arc of one of the numbers
+  from_begins : (r : Bool) (ks : List ℕ) (e : End) → Has e (ends_from arcs r ks) → Begins arcs e.vertex ks (used_at e)
+  from_begins r [] e h = absurd h
+  from_begins r (k ∷ ks) e h = elim (Has-append e (end_if (begin_at arcs (use_of r k)) (use_of r k)) (ends_from arcs r ks) h) [
+    | inl i ↦ (let t = in_if (begin_at arcs (use_of r k)) (use_of r k) e i in (inl (ap (λ w. w.arc) t.1), ap (begin_at arcs) t.1 ∙ t.0))
+    | inr i ↦ (let t = from_begins r ks e i in (inr t.0, t.1))
+  ]
 
-  abbrev Both : (ArcRef → Type 0) → ℕ → ArcRef → Type 0
-  Both H k p = ((p ≡ against k) × (begin_at arcs (against k) ≡ Some q)) ⊎ First H k p
+  -- used in this direction
+  from_way : (r : Bool) (ks : List ℕ) (e : End) → Has e (ends_from arcs r ks) → e.reversed ≡ r
+  from_way r [] e h = absurd h
+  from_way r (k ∷ ks) e h = elim (Has-append e (end_if (begin_at arcs (use_of r k)) (use_of r k)) (ends_from arcs r ks) h) [
+    | inl i ↦ ap (λ w. w.reversed) (in_if (begin_at arcs (use_of r k)) (use_of r k) e i).1
+    | inr i ↦ from_way r ks e i
+  ]
 
-  Means-all : (o : Option Met) (H : ArcRef → Type 0) (ks : List ℕ) → Distinct ks → ((k : ℕ) → Has k ks → (r : Bool) → ¬ H (record { arc = k; reversed = r })) →
-      Means o H → Means (noted_all arcs q o ks) (λ p. Begins ks p ⊎ H p)
-  Means-all o H [] once fresh h = Means-iff o H (λ p. Begins [] p ⊎ H p) (λ p k. inr k) (λ p k. elim k [ inl z ↦ absurd z.0 | inr f ↦ f ]) h
-  Means-all o H (k ∷ ks) once fresh h =
-      Means-iff (noted_all arcs q o (k ∷ ks)) (λ p. Begins ks p ⊎ Both H k p) (λ p. Begins (k ∷ ks) p ⊎ H p) to back
-      (Means-all (noted q (noted q o (begin_at arcs (ahead k)) (ahead k)) (begin_at arcs (against k)) (against k)) (Both H k) ks once.1 later
-      (Means-noted q (noted q o (begin_at arcs (ahead k)) (ahead k)) (First H k) (against k) (begin_at arcs (against k))
-      (λ f. elim f [ inl e ↦ absurd (let g : true ≡ false = ap (λ w. w.reversed) e.0 in cc) | inr e ↦ fresh k (inl refl) true e ])
-      (Means-noted q o H (ahead k) (begin_at arcs (ahead k)) (fresh k (inl refl) false) h)))
+  pub ends_begin : (ks : List ℕ) (e : End) → Has e (all_ends arcs ks) → Begins arcs e.vertex ks (used_at e)
+  ends_begin ks e h = elim (Has-append e (ends_from arcs false ks) (ends_from arcs true ks) h) [
+    | inl i ↦ from_begins false ks e i
+    | inr i ↦ from_begins true ks e i
+  ]
+
+  -- and each that begins is one
+  begins_from : (ks : List ℕ) (v : Pos) (p : ArcRef) → Begins arcs v ks p → Has (end_at v p) (ends_from arcs p.reversed ks)
+  begins_from [] v p b = absurd b.0
+  begins_from (k ∷ ks) v p (inr i, b) =
+      Has-append_right (end_at v p) (end_if (begin_at arcs (use_of p.reversed k)) (use_of p.reversed k)) (ends_from arcs p.reversed ks) (begins_from ks v p (i, b))
+  begins_from (k ∷ ks) v p (inl q, b) =
+      let same : p ≡ use_of p.reversed k = (λ i. record { arc = q i; reversed = p.reversed }) in
+      Has-append_left (end_at v p) (end_if (begin_at arcs (use_of p.reversed k)) (use_of p.reversed k)) (ends_from arcs p.reversed ks)
+      (if_in (begin_at arcs (use_of p.reversed k)) (use_of p.reversed k) p v (ap (begin_at arcs) (sym same) ∙ b) same)
+
+  pub begins_end : (ks : List ℕ) (v : Pos) (p : ArcRef) → Begins arcs v ks p → Has (end_at v p) (all_ends arcs ks)
+  begins_end ks v p b = way p.reversed (begins_from ks v p b)
     where
-      later : (j : ℕ) → Has j ks → (r : Bool) → ¬ Both H k (record { arc = j; reversed = r })
-      later j i r (inl e) = once.0 (subst (λ n. Has n ks) (ap (λ w. w.arc) e.0) i)
-      later j i r (inr (inl e)) = once.0 (subst (λ n. Has n ks) (ap (λ w. w.arc) e.0) i)
-      later j i r (inr (inr e)) = fresh j (inr i) r e
+      way : (r : Bool) → Has (end_at v p) (ends_from arcs r ks) → Has (end_at v p) (all_ends arcs ks)
+      way false h = Has-append_left (end_at v p) (ends_from arcs false ks) (ends_from arcs true ks) h
+      way true h = Has-append_right (end_at v p) (ends_from arcs false ks) (ends_from arcs true ks) h
 
-      to : (p : ArcRef) → Begins ks p ⊎ Both H k p → Begins (k ∷ ks) p ⊎ H p
-      to p (inl b) = inl (inr b.0, b.1)
-      to p (inr (inl e)) = inl (inl (ap (λ w. w.arc) e.0), (λ i. begin_at arcs (e.0 i)) ∙ e.1)
-      to p (inr (inr (inl e))) = inl (inl (ap (λ w. w.arc) e.0), (λ i. begin_at arcs (e.0 i)) ∙ e.1)
-      to p (inr (inr (inr e))) = inr e
-
-      same : (p : ArcRef) (r : Bool) → p.arc ≡ k → p.reversed ≡ r → p ≡ record { arc = k; reversed = r }
-      same p r e f = λ i. record { arc = e i; reversed = f i }
-
-      way : (p : ArcRef) (r : Bool) → p.reversed ≡ r → p.arc ≡ k → begin_at arcs p ≡ Some q → Begins ks p ⊎ Both H k p
-      way p false e f b = inr (inr (inl (same p false f e, (λ i. begin_at arcs (record { arc = sym f i; reversed = sym e i })) ∙ b)))
-      way p true e f b = inr (inl (same p true f e, (λ i. begin_at arcs (record { arc = sym f i; reversed = sym e i })) ∙ b))
-
-      back : (p : ArcRef) → Begins (k ∷ ks) p ⊎ H p → Begins ks p ⊎ Both H k p
-      back p (inl (inl e, b)) = way p p.reversed refl e b
-      back p (inl (inr i, b)) = inl (i, b)
-      back p (inr e) = inr (inr (inr e))
-
-  -- what is counted in the end
-  pub counted : (ks : List ℕ) → Distinct ks → Means (noted_all arcs q None ks) (Begins ks)
-  counted ks once =
-      Means-iff (noted_all arcs q None ks) (λ p. Begins ks p ⊎ ⊥) (Begins ks) (λ p k. elim k [ inl b ↦ b | inr z ↦ absurd z ]) (λ p k. inl k)
-      (Means-all None (λ p. ⊥) ks once (λ k h r z. z) (λ p z. z))
-
-  pub begins_at : (p : ArcRef) → begin_at arcs p ≡ Some q → BeginsAt arcs q p
-  begins_at p e = go (along arcs p) refl e
+  pub begins_at : (q : Pos) (p : ArcRef) → begin_at arcs p ≡ Some q → BeginsAt arcs q p
+  begins_at q p e = go (along arcs p) refl e
     where
       go : (o : Option (List Pos)) → along arcs p ≡ o → first_if o ≡ Some q → BeginsAt arcs q p
       go None f k = absurd cc
       go (Some []) f k = absurd cc
       go (Some (x ∷ l)) f k = (l, f ∙ ap (λ w. Some (w ∷ l)) (pos_same x q k))
 
-  pub at_begins : (p : ArcRef) → BeginsAt arcs q p → begin_at arcs p ≡ Some q
-  at_begins p t = ap first_if t.1
+  pub at_begins : (q : Pos) (p : ArcRef) → BeginsAt arcs q p → begin_at arcs p ≡ Some q
+  at_begins q p t = ap first_if t.1
 
--- one end more is noted
-pub noted_step : (q at : Pos) (n : ArcRef) (f : Pos → Option Met) (new : Option Met) (old : Option Met) (v : Met) →
-    new ≡ cond (is_eq (position_cmp at q)) (Some v) (f q) → v ≡ met_again old n → old ≡ f at → new ≡ noted q (f q) (Some at) n
-noted_step q at n f new old v e g h = e ∙ go (is_eq (position_cmp at q)) refl
+-- no used arc has two of the ends
+abbrev AllDiffer : List End → Type 0
+AllDiffer [] = Unit {0}
+AllDiffer (e ∷ l) = ((d : End) → Has d l → ¬ (used_at e ≡ used_at d)) × AllDiffer l
+
+AllDiffer-append : (xs ys : List End) → AllDiffer xs → AllDiffer ys → ((x y : End) → Has x xs → Has y ys → ¬ (used_at x ≡ used_at y)) → AllDiffer (xs ++ ys)
+AllDiffer-append [] ys p q f = q
+AllDiffer-append (x ∷ xs) ys p q f = (
+  (λ d h. elim (Has-append d xs ys h) [ inl i ↦ p.0 d i | inr i ↦ f x d (inl refl) i ]),
+  AllDiffer-append xs ys p.1 q (λ y d h i. f y d (inr h) i),
+)
+
+differ_if : (o : Option Pos) (a : ArcRef) → AllDiffer (end_if o a)
+differ_if None a = tt
+differ_if (Some v) a = ((λ d h. absurd h), tt)
+
+from_differ : (arcs : List (List Pos)) (r : Bool) (ks : List ℕ) → Distinct ks → AllDiffer (ends_from arcs r ks)
+from_differ arcs r [] once = tt
+from_differ arcs r (k ∷ ks) once =
+    AllDiffer-append (end_if (begin_at arcs (use_of r k)) (use_of r k)) (ends_from arcs r ks) (differ_if (begin_at arcs (use_of r k)) (use_of r k)) (from_differ arcs r ks once.1)
+    (λ x y h i e. once.0
+    (subst (λ w. Has w ks) (ap (λ w. w.arc) (sym e ∙ (in_if (begin_at arcs (use_of r k)) (use_of r k) x h).1)) (from_begins arcs r ks y i).0))
+
+ends_differ : (arcs : List (List Pos)) (ks : List ℕ) → Distinct ks → AllDiffer (all_ends arcs ks)
+ends_differ arcs ks once =
+    AllDiffer-append (ends_from arcs false ks) (ends_from arcs true ks) (from_differ arcs false ks once) (from_differ arcs true ks once)
+    (λ x y h i e. let f : false ≡ true = sym (from_way arcs false ks x h) ∙ ap (λ w. w.reversed) e ∙ from_way arcs true ks y i in cc)
+
+abbrev same_used : End → End → Bool
+same_used x y = nat_eq x.arc y.arc && same_way x.reversed y.reversed
+
+same_is : (x y : End) → same_used x y ≡ true → used_at x ≡ used_at y
+same_is x y e =
+    let t = both_true (nat_eq x.arc y.arc) (same_way x.reversed y.reversed) e in
+    λ i. record { arc = eqb-true x.arc y.arc t.0 i; reversed = way x.reversed y.reversed t.1 i }
   where
-    go : (b : Bool) → is_eq (position_cmp at q) ≡ b → cond b (Some v) (f q) ≡ cond b (Some (met_again (f q) n)) (f q)
-    go true i = ap Some (g ∙ ap (λ o. met_again o n) (h ∙ ap f (position_tied at q i)))
-    go false i = refl
+    way : (s t : Bool) → same_way s t ≡ true → s ≡ t
+    way true true e = refl
+    way true false e = absurd cc
+    way false true e = absurd cc
+    way false false e = refl
+
+is_same : (x y : End) → used_at x ≡ used_at y → same_used x y ≡ true
+is_same x y e =
+    both_intro (nat_eq x.arc y.arc) (same_way x.reversed y.reversed) (eq-eqb x.arc y.arc (ap (λ w. w.arc) e))
+    (subst (λ r. same_way x.reversed r ≡ true) (ap (λ w. w.reversed) e) (way x.reversed))
+  where
+    way : (s : Bool) → same_way s s ≡ true
+    way true = refl
+    way false = refl
+
+flips : (x y : End) → same_used x y ≡ same_used y x
+flips x y = go (same_used x y) refl (same_used y x) refl
+  where
+    go : (b : Bool) → same_used x y ≡ b → (c : Bool) → same_used y x ≡ c → b ≡ c
+    go true e true f = refl
+    go true e false f = absurd (true_false (same_used y x) (is_same y x (sym (same_is x y e))) f)
+    go false e true f = absurd (true_false (same_used x y) (is_same x y (sym (same_is y x f))) e)
+    go false e false f = refl
+
+apart_false : (x y : End) → ¬ (used_at x ≡ used_at y) → same_used x y ≡ false
+apart_false x y n = go (same_used x y) refl
+  where
+    go : (b : Bool) → same_used x y ≡ b → b ≡ false
+    go true e = absurd (n (same_is x y e))
+    go false e = refl
+
+to_distinct : (l : List End) → AllDiffer l → IsDistinct same_used l
+unfolding IsDistinct
+to_distinct [] d = tt
+to_distinct (x ∷ l) d = (each l d.0, to_distinct l d.1)
+  where
+    each : (l : List End) → ((y : End) → Has y l → ¬ (used_at x ≡ used_at y)) → AllByRecursion (λ y. same_used x y ≡ false) l
+    each [] f = tt
+    each (y ∷ l) f = (apart_false x y (f y (inl refl)), each l (λ z h. f z (inr h)))
+
+from_distinct : (l : List End) → IsDistinct same_used l → AllDiffer l
+unfolding IsDistinct
+from_distinct [] d = tt
+from_distinct (x ∷ l) d = (each l d.0, from_distinct l d.1)
+  where
+    each : (l : List End) → AllByRecursion (λ y. same_used x y ≡ false) l → (y : End) → Has y l → ¬ (used_at x ≡ used_at y)
+    each [] f y h e = h
+    each (z ∷ l) f y (inl i) e = true_false (same_used x z) (is_same x z (e ∙ ap used_at i)) f.0
+    each (z ∷ l) f y (inr h) e = each l f.1 y h e
+
+-- the order of ends
+abbrev pub end_cmp : End → End → Ordering
+end_cmp x y = ordering_then (position_cmp x.vertex y.vertex) (ordering_then (nat_cmp x.arc y.arc) (bool_cmp x.reversed y.reversed))
+
+abbrev by_vertex : End → End → Ordering
+by_vertex x y = position_cmp x.vertex y.vertex
+
+by_vertex_total : IsTotalOrder by_vertex
+by_vertex_total = on_total (λ (e : End). e.vertex) position_total
+
+rise : (x : End) (l : List End) → Rises end_cmp x l → Rises by_vertex x l
+rise x [] r = tt
+rise x (y ∷ l) r = (then_less (position_cmp y.vertex x.vertex) (ordering_then (nat_cmp y.arc x.arc) (bool_cmp y.reversed x.reversed)) r.0, rise y l r.1)
+
+both : (l : List End) → Up by_vertex l → AllDiffer l → AreGrouped l
+both [] u d = tt
+both (e ∷ l) u d = ((λ y h. (u.0 y h, d.0 y h)), both l u.1 d.1)
+
+-- sorted ends are grouped
+pub sorted_grouped : (arcs : List (List Pos)) (ks : List ℕ) (l : List End) → Distinct ks → IsPermutation (all_ends arcs ks) l → IsSorted end_cmp l → AreGrouped l
+sorted_grouped arcs ks l once p s =
+    both l (up l s) (from_distinct l (IsDistinct-IsPermutation same_used flips (all_ends arcs ks) l p (to_distinct (all_ends arcs ks) (ends_differ arcs ks once))))
+  where
+    up : (l : List End) → IsSorted end_cmp l → Up by_vertex l
+    up [] s = tt
+    up (x ∷ l) s = up_from_rises by_vertex by_vertex_total x l (rise x l (rises_from_sorted end_cmp x l s))

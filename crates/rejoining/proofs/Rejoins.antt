@@ -10,7 +10,7 @@ use Rattle.theory.specs.Arcs.{AreSortedOnce}
 use Rattle.theory.specs.Chain.{Free}
 use Rattle.theory.specs.Geometry.{Geometry, IsChainOf, IsSound, JunctionOf}
 use Rattle.theory.specs.LinesAndRings.{closed}
-use Rattle.theory.specs.Lists.{Has, Pairwise, last_of}
+use Rattle.theory.specs.Lists.{Distinct, Has, Pairwise, last_of}
 use Rattle.theory.specs.Refinement.{ArePiecesOfArc, IsRefinementOf, pieces_at}
 use Rattle.theory.specs.Removing.{AreJoined, IsKept, IsLoopRun, IsOpenRun}
 use Rattle.theory.specs.Standing.{BeginsAt}
@@ -33,11 +33,12 @@ use Rattle.chains.specs.Turning.{least_place}
 use Rattle.chains.proofs.TurnedLists.{turned_at}
 use Rattle.rejoining.specs.Choosing.{kept_numbers}
 use Rattle.rejoining.specs.Joined.{begun_at, chain_by, directed, from_least, goes_round, is_there, list_by, list_of_run, piece_by, piece_of_run, put_all, run_along}
-use Rattle.rejoining.specs.Meeting.{met_in, noted_all, partner_in}
+use Rattle.rejoining.specs.Meeting.{Begins, IsTold, partner_in}
 use Rattle.rejoining.specs.Parts.{RejoinedParts}
 use Rattle.rejoining.specs.Rejoining.{IsLeftBy, IsRejoinedOf}
 use Rattle.rejoining.specs.Walks.{ArePaired, AreRuns, IsRun, IsWalked}
 use Rattle.rejoining.specs.declared.meeting.Meeting.{Meeting}
+use Rattle.rejoining.proofs.Choices.{numbers_once}
 use Rattle.rejoining.proofs.Partners as partners
 use Rattle.rejoining.proofs.Placed as placed
 use Rattle.rejoining.proofs.Placed.{length_put, length_same}
@@ -114,12 +115,12 @@ common (x ∷ a) b = elim (uses_or_not x.arc b) [
 ]
 
 module _ (g u : Geometry Pos) (old : Arcs) (marks : List Bool) (ending : List Pos) (left : IsLeftBy g u old marks ending)
-    (m : Meeting) (met : (q : Pos) → met_in m.met q ≡ noted_all old.arcs q None (kept_numbers 0 marks)) (ends : (q : Pos) → (Has q m.ends → Has q ending) × (Has q ending → Has q m.ends)) where
+    (m : Meeting) (met : (v : Pos) (a : ArcRef) → Begins old.arcs v (kept_numbers 0 marks) a → IsTold (Has v ending) (Begins old.arcs v (kept_numbers 0 marks)) (partner_in m) a) where
   abbrev Kept : ℕ → Type 0
   Kept = IsKept position_cmp g u old.arcs
 
   abbrev pub P : ArcRef → Option ArcRef
-  P = partner_in old.arcs m
+  P = partner_in m
 
   abbrev J : Pos → Type 0
   J = JunctionOf g
@@ -148,24 +149,24 @@ module _ (g u : Geometry Pos) (old : Arcs) (marks : List Bool) (ending : List Po
 
   module _ (a : ArcRef) (more : List ArcRef) (w : IsWalked marks P a more) where
     abbrev x : Pos
-    x = (runs_are.s g u old marks ending left m met ends a more w).begin
+    x = (runs_are.s g u old marks ending left m met a more w).begin
 
     abbrev rest : List Pos
-    rest = (runs_are.s g u old marks ending left m met ends a more w).rest
+    rest = (runs_are.s g u old marks ending left m met a more w).rest
 
     abbrev r : List ArcRef
     r = a ∷ more
 
     is : run_along old.arcs r ≡ x ∷ rest
-    is = runs_are.chain_is g u old marks ending left m met ends a more w
+    is = runs_are.chain_is g u old marks ending left m met a more w
 
     told_open : P a ≡ None → P (flipped (last_of a more)) ≡ None → Told r false
     told_open n e = record {
-      joint = inl (subst (λ v. IsOpenRun Kept J old.arcs (cond b (reverse v) v) (directed b r)) (sym is) (runs_are.open_run g u old marks ending left m met ends a more w n e b));
+      joint = inl (subst (λ v. IsOpenRun Kept J old.arcs (cond b (reverse v) v) (directed b r)) (sym is) (runs_are.open_run g u old marks ending left m met a more w n e b));
       from = λ k h. directed_uses b k r h;
       turns = subst (λ v. ¬ (v ≡ reverse v)) (sym is)
-          (trail_turns (x ∷ rest) (runs_are.line g u old marks ending left m met ends a more w).long (runs_are.line g u old marks ending left m met ends a more w).once);
-      stops = λ z. (x, subst (λ v. Has x (cond b (reverse v) v)) (sym is) (on b), runs_are.end_stop g u old marks ending left m met ends a more w n e x (inl refl));
+          (trail_turns (x ∷ rest) (runs_are.line g u old marks ending left m met a more w).long (runs_are.line g u old marks ending left m met a more w).once);
+      stops = λ z. (x, subst (λ v. Has x (cond b (reverse v) v)) (sym is) (on b), runs_are.end_stop g u old marks ending left m met a more w n e x (inl refl));
       loop = λ z. absurd (let f : false ≡ true = z in cc);
     }
       where
@@ -180,19 +181,19 @@ module _ (g u : Geometry Pos) (old : Arcs) (marks : List Bool) (ending : List Po
     told_loop e = record {
       joint = inr both.0;
       from = both.1;
-      turns = subst (λ v. ¬ (v ≡ reverse v)) (sym same) (trail_turns (closed (f ∷ s)) long (runs_are.loop_trail g u old marks ending left m met ends a more w e).once);
+      turns = subst (λ v. ¬ (v ≡ reverse v)) (sym same) (trail_turns (closed (f ∷ s)) long (runs_are.loop_trail g u old marks ending left m met a more w e).once);
       stops = λ z. absurd (let h : true ≡ false = z in cc);
       loop = λ z. both.0;
     }
       where
         f : Pos
-        f = (runs_are.turn g u old marks ending left m met ends a more w e).0
+        f = (runs_are.turn g u old marks ending left m met a more w e).0
 
         s : List Pos
-        s = (runs_are.turn g u old marks ending left m met ends a more w e).1
+        s = (runs_are.turn g u old marks ending left m met a more w e).1
 
         same : from_least (run_along old.arcs r) ≡ closed (f ∷ s)
-        same = ap from_least is ∙ runs_are.loop_is g u old marks ending left m met ends a more w e
+        same = ap from_least is ∙ runs_are.loop_is g u old marks ending left m met a more w e
 
         b : Bool
         b = is_backwards_less (from_least (run_along old.arcs r))
@@ -208,11 +209,11 @@ module _ (g u : Geometry Pos) (old : Arcs) (marks : List Bool) (ending : List Po
             ((n : ℕ) → Uses n k.from → Uses n r)
         both =
             subst (λ v. (k : IsLoopRun position_cmp Kept J old.arcs (cond b (reverse v) v) (list_by old.arcs true (directed b r))) × ((n : ℕ) → Uses n k.from → Uses n r)) (sym same)
-            (runs_are.loop_run g u old marks ending left m met ends a more w e b)
+            (runs_are.loop_run g u old marks ending left m met a more w e b)
 
     paired_first : P (flipped (last_of a more)) ≡ Some a → (y : ArcRef) × (P a ≡ Some y)
     paired_first e =
-        (flipped (last_of a more), (partners.paired g u old marks ending left m met ends (flipped (last_of a more)) a (w.stays (last_of a more).arc (uses_last a more)) e).1)
+        (flipped (last_of a more), (partners.paired g u old marks ending left m met (flipped (last_of a more)) a (w.stays (last_of a more).arc (uses_last a more)) e).1)
 
     told_walked : (round : Bool) → is_there (P a) ≡ round → Told r round
     told_walked false e = elim w.ends [
@@ -300,7 +301,7 @@ module _ (g u : Geometry Pos) (old : Arcs) (marks : List Bool) (ending : List Po
       each = pairwise_with Made Joint t.arcs made (λ c l d.
           let (r, i, e, f) = d in subst (λ w. Joint w l) (sym e) (subst (Joint (piece r).chain) (sym f) (told r (are.each r i)).joint)) all_made;
       all = λ k h.
-          let (r, i, w) = are.all k (partners.kept_marked g u old marks ending left m met ends k h) in
+          let (r, i, w) = are.all k (partners.kept_marked g u old marks ending left m met k h) in
           (number r, subst (Uses k) (sym (list_made r i)) (in_list k r w));
     }
       where
@@ -315,7 +316,7 @@ module _ (g u : Geometry Pos) (old : Arcs) (marks : List Bool) (ending : List Po
                 (uses_begun (least_place old.arcs d) k d (uses_directed (is_backwards_less (chain_by old.arcs (goes_round P r) r)) k r h))
 
     refined : IsRefinementOf position_cmp g u t.arcs old.arcs made
-    refined = (joined_arcs_are_the_arcs position_cmp g u old.arcs (partners.is_part g u old marks ending left m met ends) t.arcs made).0 joined
+    refined = (joined_arcs_are_the_arcs position_cmp g u old.arcs (partners.is_part g u old marks ending left m met) t.arcs made).0 joined
 
     loop_free : (r : List ArcRef) → Has r runs → goes_round P r ≡ true → Free J (piece r).chain
     loop_free r h e =
@@ -359,20 +360,21 @@ module _ (g u : Geometry Pos) (old : Arcs) (marks : List Bool) (ending : List Po
 
 -- in the form of the code
 module _ (old : Arcs) (marks : List Bool) (ending : List Pos) (numbers slice : List ℕ) (chosen : numbers ≡ kept_numbers 0 marks) (lent : slice ≡ numbers)
-    (m : Meeting) (met : (q : Pos) → met_in m.met q ≡ noted_all old.arcs q None slice) (ends : (q : Pos) → (Has q m.ends → Has q ending) × (Has q ending → Has q m.ends))
-    (runs rs : List (List ArcRef)) (lent_runs : rs ≡ runs) (are : ArePaired marks (partner_in old.arcs m) → AreRuns marks (partner_in old.arcs m) runs)
-    (ps : List Piece) (ls : List (List ArcRef)) (pieces : ps ≡ map (piece_of_run old.arcs (partner_in old.arcs m)) rs) (lists : ls ≡ map (list_of_run old.arcs (partner_in old.arcs m)) rs)
+    (m : Meeting) (met : Distinct slice → (v : Pos) (a : ArcRef) → Begins old.arcs v slice a → IsTold (Has v ending) (Begins old.arcs v slice) (partner_in m) a)
+    (runs rs : List (List ArcRef)) (lent_runs : rs ≡ runs) (are : ArePaired marks (partner_in m) → AreRuns marks (partner_in m) runs)
+    (ps : List Piece) (ls : List (List ArcRef)) (pieces : ps ≡ map (piece_of_run old.arcs (partner_in m)) rs) (lists : ls ≡ map (list_of_run old.arcs (partner_in m)) rs)
     (t : Arcs) (once : AreSortedOnce list_cmp (map chain_of ps) t.arcs) (loops : AreLoopsOf ps t.loops)
     (refs those : List ArcRef) (numbered : refs ≡ map (located t.arcs) ps) (lent_refs : those ≡ refs) (n : ℕ) (count : n ≡ length t.arcs)
     (made : List (List ArcRef)) (put : made ≡ put_all those ls (replicate n [])) (result : RejoinedParts) (is : result ≡ record { arcs = t; pieces = made }) where
   pub rejoin_told : (g u : Geometry Pos) → IsLeftBy g u old marks ending → IsRejoinedOf g u old result
   rejoin_told g u left =
-      let met' : (q : Pos) → met_in m.met q ≡ noted_all old.arcs q None (kept_numbers 0 marks) = λ q. met q ∙ ap (noted_all old.arcs q None) (lent ∙ chosen) in
-      let whole = pieces ∙ ap (map (piece_of_run old.arcs (partner_in old.arcs m))) lent_runs in
-      let same : made ≡ put_all (map (located t.arcs) (map (piece_of_run old.arcs (partner_in old.arcs m)) runs)) (map (list_of_run old.arcs (partner_in old.arcs m)) runs) (replicate (length t.arcs) []) =
-      put ∙ (λ i. put_all ((lent_refs ∙ numbered ∙ ap (map (located t.arcs)) whole) i) ((lists ∙ ap (map (list_of_run old.arcs (partner_in old.arcs m))) lent_runs) i) (replicate (count i) [])) in
+      let met' : (v : Pos) (a : ArcRef) → Begins old.arcs v (kept_numbers 0 marks) a → IsTold (Has v ending) (Begins old.arcs v (kept_numbers 0 marks)) (partner_in m) a =
+      subst (λ w. Distinct w → (v : Pos) (a : ArcRef) → Begins old.arcs v w a → IsTold (Has v ending) (Begins old.arcs v w) (partner_in m) a) (lent ∙ chosen) met (numbers_once 0 marks) in
+      let whole = pieces ∙ ap (map (piece_of_run old.arcs (partner_in m))) lent_runs in
+      let same : made ≡ put_all (map (located t.arcs) (map (piece_of_run old.arcs (partner_in m)) runs)) (map (list_of_run old.arcs (partner_in m)) runs) (replicate (length t.arcs) []) =
+      put ∙ (λ i. put_all ((lent_refs ∙ numbered ∙ ap (map (located t.arcs)) whole) i) ((lists ∙ ap (map (list_of_run old.arcs (partner_in m))) lent_runs) i) (replicate (count i) [])) in
       subst (IsRejoinedOf g u old) (sym (is ∙ (λ i. record { arcs = t; pieces = same i })))
-      (rejoins g u old marks ending left m met' ends runs (are (partners.paired g u old marks ending left m met' ends)) t
+      (rejoins g u old marks ending left m met' runs (are (partners.paired g u old marks ending left m met')) t
       (subst (λ w. AreSortedOnce list_cmp (map chain_of w) t.arcs) whole once) (subst (λ w. AreLoopsOf w t.loops) whole loops))
 
   pub rejoin_count : length result.pieces ≡ length result.arcs.arcs

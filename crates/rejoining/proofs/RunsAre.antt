@@ -25,7 +25,7 @@ use Rattle.theory.proofs.StandingMaps.{list_line, list_ring}
 use Rattle.chains.specs.Arcs.{Arcs}
 use Rattle.rejoining.specs.Choosing.{kept_numbers}
 use Rattle.rejoining.specs.Joined.{begun_at, directed, from_least, least_vertex, least_vertex_from, list_by, run_along, without_last}
-use Rattle.rejoining.specs.Meeting.{met_in, noted_all, partner_in}
+use Rattle.rejoining.specs.Meeting.{Begins, IsTold, partner_in}
 use Rattle.rejoining.specs.Rejoining.{IsLeftBy}
 use Rattle.rejoining.specs.Walks.{IsWalked, Linked, is_left}
 use Rattle.rejoining.specs.declared.meeting.Meeting.{Meeting}
@@ -142,12 +142,12 @@ least_within [] = omega arith
 least_within (x ∷ t) = let k = least_within_from t 0 x 1 (omega arith) in omega (arith, k)
 
 module _ (g u : Geometry Pos) (old : Arcs) (marks : List Bool) (ending : List Pos) (left : IsLeftBy g u old marks ending)
-    (m : Meeting) (met : (q : Pos) → met_in m.met q ≡ noted_all old.arcs q None (kept_numbers 0 marks)) (ends : (q : Pos) → (Has q m.ends → Has q ending) × (Has q ending → Has q m.ends)) where
+    (m : Meeting) (met : (v : Pos) (a : ArcRef) → Begins old.arcs v (kept_numbers 0 marks) a → IsTold (Has v ending) (Begins old.arcs v (kept_numbers 0 marks)) (partner_in m) a) where
   abbrev pub Kept : ℕ → Type 0
   Kept = IsKept position_cmp g u old.arcs
 
   abbrev pub P : ArcRef → Option ArcRef
-  P = partner_in old.arcs m
+  P = partner_in m
 
   abbrev pub J : Pos → Type 0
   J = JunctionOf g
@@ -157,10 +157,10 @@ module _ (g u : Geometry Pos) (old : Arcs) (marks : List Bool) (ending : List Po
     last = last_of a more
 
     pub stays : (k : ℕ) → Uses k (a ∷ more) → Kept k
-    stays k h = partners.marked_kept g u old marks ending left m met ends k (w.stays k h)
+    stays k h = partners.marked_kept g u old marks ending left m met k (w.stays k h)
 
-    abbrev pub s : stitches.Stitches g u old marks ending left m met ends a more
-    s = stitches.stitches g u old marks ending left m met ends a more w.linked stays
+    abbrev pub s : stitches.Stitches g u old marks ending left m met a more
+    s = stitches.stitches g u old marks ending left m met a more w.linked stays
 
     abbrev pub x : Pos
     x = s.begin
@@ -184,23 +184,23 @@ module _ (g u : Geometry Pos) (old : Arcs) (marks : List Bool) (ending : List Po
     module _ (first_none : P a ≡ None) (last_none : P (flipped last) ≡ None) where
       pub end_stop : (v : Pos) → EndOf v (s.begin ∷ s.rest) → J v
       end_stop v (inl e) =
-          let (z, b, j) = partners.alone g u old marks ending left m met ends a (stays a.arc (inl refl)) first_none in
+          let (z, b, j) = partners.alone g u old marks ending left m met a (stays a.arc (inl refl)) first_none in
           subst J (one_begin old.arcs a z s.begin b s.first ∙ sym e) j
       end_stop v (inr e) =
-          let (z, b, j) = partners.alone g u old marks ending left m met ends (flipped last) (stays last.arc (uses_last a more)) last_none in
+          let (z, b, j) = partners.alone g u old marks ending left m met (flipped last) (stays last.arc (uses_last a more)) last_none in
           subst J (one_begin old.arcs (flipped last) z (last_of s.begin s.rest) b s.last ∙ sym e) j
 
       pub open_run : (b : Bool) → IsOpenRun Kept J old.arcs (cond b (reverse (s.begin ∷ s.rest)) (s.begin ∷ s.rest)) (directed b (a ∷ more))
       open_run false = record {
         run = record { some = λ e. cc; stitch = s.stitch; once = w.once; stays = stays };
         ends = end_stop;
-        meets = stitches.no_stop g u old marks ending left m met ends (a ∷ more) w.linked stays;
+        meets = stitches.no_stop g u old marks ending left m met (a ∷ more) w.linked stays;
       }
       open_run true = record {
         run = record { some = stitches.back_full a more; stitch = back_stitch; once = once_back (a ∷ more) w.once; stays = back_stays };
         ends = λ v h. back_end v (subst (EndOf v) (reverse-last s.begin s.rest) h);
-        meets = stitches.no_stop g u old marks ending left m met ends (backwards (a ∷ more))
-            (follow_back marks P (partners.paired g u old marks ending left m met ends) a more w.linked w.stays) back_stays;
+        meets = stitches.no_stop g u old marks ending left m met (backwards (a ∷ more))
+            (follow_back marks P (partners.paired g u old marks ending left m met) a more w.linked w.stays) back_stays;
       }
         where
           back_end : (v : Pos) → EndOf v (last_of s.begin s.rest ∷ reverse (front_of s.begin s.rest)) → J v
@@ -218,20 +218,20 @@ module _ (g u : Geometry Pos) (old : Arcs) (marks : List Bool) (ending : List Po
       linking b [] l k one two c (inr z) = absurd z
       linking b (d ∷ more) l k one two c (inl e) = (subst Linking (sym e) one, subst Linking (ap flipped (sym e)) (d, l.0))
       linking b (d ∷ more) l k one two c (inr h) =
-          linking d more l.1 (λ j i. k j (inr i)) (flipped b, (partners.paired g u old marks ending left m met ends (flipped b) d (k b.arc (inl refl)) l.0).1) two c h
+          linking d more l.1 (λ j i. k j (inr i)) (flipped b, (partners.paired g u old marks ending left m met (flipped b) d (k b.arc (inl refl)) l.0).1) two c h
 
       all_linking : (c : ArcRef) → Has c (a ∷ more) → Linking c × Linking (flipped c)
       all_linking =
-          linking a more w.linked w.stays (flipped last, (partners.paired g u old marks ending left m met ends (flipped last) a (w.stays last.arc (uses_last a more)) round).1) (a, round)
+          linking a more w.linked w.stays (flipped last, (partners.paired g u old marks ending left m met (flipped last) a (w.stays last.arc (uses_last a more)) round).1) (a, round)
 
       free_begin : (b : ArcRef) (v : Pos) → Kept b.arc → Linking b → BeginsAt old.arcs v b → ¬ J v
       free_begin b v k (y, e) begins j =
-          let (z, t) = partners.meets g u old marks ending left m met ends b y k e in
+          let (z, t) = partners.meets g u old marks ending left m met b y k e in
           t.no_stop (subst J (one_begin old.arcs b v z begins t.here) j)
 
       pub comes_back : last_of s.begin s.rest ≡ s.begin
       comes_back =
-          let (z, t) = partners.meets g u old marks ending left m met ends (flipped last) a (stays last.arc (uses_last a more)) round in
+          let (z, t) = partners.meets g u old marks ending left m met (flipped last) a (stays last.arc (uses_last a more)) round in
           one_begin old.arcs (flipped last) (last_of s.begin s.rest) z s.last t.here ∙ one_begin old.arcs a z s.begin t.there s.first
 
       abbrev pub ring : (t : List Pos) × (without_last (s.begin ∷ s.rest) ≡ s.begin ∷ t) × (s.begin ∷ s.rest ≡ closed (s.begin ∷ t))

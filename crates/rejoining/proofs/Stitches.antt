@@ -1,5 +1,5 @@
 -- What runs run along: lists that stitch, which end at stops or go round.
-use Rattle.std.proofs.Common.{◌≡◌, ◌-◌, ℕ, Bool, true, List, [], ◌∷◌, ◌++◌, take, length, map, reverse, inl, inr, refl, sym, ap, ◌∙◌, subst, arith, append_assoc, unwrap_or, Option, Some, None}
+use Rattle.std.proofs.Common.{◌≡◌, ◌-◌, ℕ, Bool, true, List, [], ◌∷◌, ◌++◌, take, length, map, reverse, inl, inr, refl, sym, ap, ◌∙◌, subst, arith, append_assoc, unwrap_or, Option, Some}
 use Rattle.std.proofs.lemmas.List.{append-nil}
 use Rattle.grid.specs.declared.pos.Pos.{Pos}
 use Rattle.lines.specs.Turned.{position_cmp}
@@ -16,7 +16,7 @@ use Rattle.theory.proofs.Stitching.{stitched_reverse}
 use Rattle.chains.specs.Arcs.{Arcs}
 use Rattle.rejoining.specs.Choosing.{kept_numbers}
 use Rattle.rejoining.specs.Joined.{on_along, positions_along, run_along, without_last}
-use Rattle.rejoining.specs.Meeting.{met_in, noted_all, partner_in}
+use Rattle.rejoining.specs.Meeting.{Begins, IsTold, partner_in}
 use Rattle.rejoining.specs.Rejoining.{IsLeftBy}
 use Rattle.rejoining.specs.Walks.{ArePaired, Linked, is_left}
 use Rattle.rejoining.specs.declared.meeting.Meeting.{Meeting}
@@ -130,15 +130,15 @@ pub one_begin : (arcs : List (List Pos)) (a : ArcRef) (v w : Pos) → BeginsAt a
 one_begin arcs a v w s t = let e : Some (v ∷ s.0) ≡ Some (w ∷ t.0) = sym s.1 ∙ t.1 in cc
 
 module _ (g u : Geometry Pos) (old : Arcs) (marks : List Bool) (ending : List Pos) (left : IsLeftBy g u old marks ending)
-    (m : Meeting) (met : (q : Pos) → met_in m.met q ≡ noted_all old.arcs q None (kept_numbers 0 marks)) (ends : (q : Pos) → (Has q m.ends → Has q ending) × (Has q ending → Has q m.ends)) where
+    (m : Meeting) (met : (v : Pos) (a : ArcRef) → Begins old.arcs v (kept_numbers 0 marks) a → IsTold (Has v ending) (Begins old.arcs v (kept_numbers 0 marks)) (partner_in m) a) where
   abbrev pub Kept : ℕ → Type 0
   Kept = IsKept position_cmp g u old.arcs
 
   abbrev pub P : ArcRef → Option ArcRef
-  P = partner_in old.arcs m
+  P = partner_in m
 
-  pub meets : (a b : ArcRef) → Kept a.arc → P a ≡ Some b → (v : Pos) × partners.Meets g u old marks ending left m met ends a b v
-  meets = partners.meets g u old marks ending left m met ends
+  pub meets : (a b : ArcRef) → Kept a.arc → P a ≡ Some b → (v : Pos) × partners.Meets g u old marks ending left m met a b v
+  meets = partners.meets g u old marks ending left m met
 
   -- the last position along a used arc begins its reverse
   flipped_begins : (a : ArcRef) (x : Pos) (q : List Pos) → along old.arcs a ≡ Some (x ∷ q) → BeginsAt old.arcs (last_of x q) (flipped a)
@@ -153,10 +153,10 @@ module _ (g u : Geometry Pos) (old : Arcs) (marks : List Bool) (ending : List Po
 
   pub stitches : (a : ArcRef) (more : List ArcRef) → Linked P a more → ((k : ℕ) → Uses k (a ∷ more) → Kept k) → Stitches a more
   stitches a [] l k =
-      let (v, q, e) = partners.first g u old marks ending left m met ends a (k a.arc (inl refl)) in
+      let (v, q, e) = partners.first g u old marks ending left m met a (k a.arc (inl refl)) in
       record { begin = v; rest = q; stitch = (q, [], e, sym (append-nil q), refl); first = (q, e); last = flipped_begins a v q e }
   stitches a (b ∷ more) l k =
-      let (v, q, e) = partners.first g u old marks ending left m met ends a (k a.arc (inl refl)) in
+      let (v, q, e) = partners.first g u old marks ending left m met a (k a.arc (inl refl)) in
       let s = stitches b more l.1 (λ j h. k j (inr h)) in
       let (w, t) = meets (flipped a) b (k a.arc (inl refl)) l.0 in
       let here : last_of v q ≡ s.begin = one_begin old.arcs (flipped a) (last_of v q) w (flipped_begins a v q e) t.here ∙ one_begin old.arcs b w s.begin t.there s.first in

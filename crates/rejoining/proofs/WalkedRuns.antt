@@ -77,6 +77,19 @@ one_or_flipped a b e = elim (go a.reversed b.reversed) [
     go false true = inr refl
     go false false = inl refl
 
+ref_dec : (a b : ArcRef) → (a ≡ b) ⊎ (¬ (a ≡ b))
+ref_dec a b = elim (number_dec a.arc b.arc) [
+  | inr n ↦ inr (λ e. n (ap (λ w. w.arc) e))
+  | inl e ↦ elim (one_or_flipped a b e) [
+    | inl f ↦ inl f
+    | inr f ↦ inr (λ i. differ b.reversed (ap (λ w. w.reversed) (sym i ∙ f)))
+  ]
+]
+  where
+    differ : (b : Bool) → ¬ (b ≡ not b)
+    differ true e = cc
+    differ false e = cc
+
 some_same : (a b : ArcRef) → Some a ≡ Some b → a ≡ b
 some_same a b e = cc
 
@@ -219,26 +232,13 @@ module _ (marks : List Bool) (partner : ArcRef → Option ArcRef) (paired : AreP
           let same : q ≡ y = some_same q y (sym e ∙ ap partner i ∙ l.0) in
           used_gone q.arc (sub q.arc (inr (inl (ap (λ w. w.arc) same))))
     ]
-    link_gone x (y ∷ rest) l sub z p q (inr h) e f = link_gone y rest l.1 (λ k u. sub k (inr u)) z p q h e (elim (same_ref_dec p y) [
+    link_gone x (y ∷ rest) l sub z p q (inr h) e f = link_gone y rest l.1 (λ k u. sub k (inr u)) z p q h e (elim (ref_dec p y) [
       | inr n ↦ inl n
       | inl i ↦
           let back = (paired (flipped x) y (stays x.arc (sub x.arc (inl refl))) l.0).1 in
           let same : q ≡ flipped x = some_same q (flipped x) (sym e ∙ ap partner i ∙ back) in
           inr (subst (λ w. Uses w (a ∷ more)) (sym (ap (λ w. w.arc) same)) (sub x.arc (inl refl)))
     ])
-      where
-        same_ref_dec : (p y : ArcRef) → (p ≡ y) ⊎ (¬ (p ≡ y))
-        same_ref_dec p y = elim (number_dec p.arc y.arc) [
-          | inr n ↦ inr (λ e. n (ap (λ w. w.arc) e))
-          | inl e ↦ elim (one_or_flipped p y e) [
-            | inl f ↦ inl f
-            | inr f ↦ inr (λ i. differ y.reversed (ap (λ w. w.reversed) (sym i ∙ f)))
-          ]
-        ]
-          where
-            differ : (b : Bool) → ¬ (b ≡ not b)
-            differ true e = cc
-            differ false e = cc
 
     -- from an end, or round
     abbrev Ends : Type 0
@@ -310,19 +310,6 @@ module _ (marks : List Bool) (partner : ArcRef → Option ArcRef) (paired : AreP
                 inr (subst (λ w. Uses w (a ∷ more)) (sym (ap (λ w. w.arc) same)) (uses_last a more))
           ]
         ]
-          where
-            ref_dec : (p y : ArcRef) → (p ≡ y) ⊎ (¬ (p ≡ y))
-            ref_dec p y = elim (number_dec p.arc y.arc) [
-              | inr n ↦ inr (λ e. n (ap (λ w. w.arc) e))
-              | inl e ↦ elim (one_or_flipped p y e) [
-                | inl f ↦ inl f
-                | inr f ↦ inr (λ i. differ y.reversed (ap (λ w. w.reversed) (sym i ∙ f)))
-              ]
-            ]
-              where
-                differ : (b : Bool) → ¬ (b ≡ not b)
-                differ true e = cc
-                differ false e = cc
 
   -- what is left when nothing is walked yet
   pub walked_none : AreWalked marks partner marks []

@@ -1,14 +1,14 @@
 -- The ends of arcs that meet at a vertex, and which arc goes on from another.
-use Rattle.std.specs.Prelude.{ℕ, Bool, true, false, cond, ◌&&◌, not, nat_eq, List, [], ◌∷◌, Option, Some, None, slice_get}
-use Rattle.std.specs.Ordering.{is_eq}
-use Rattle.std.specs.BTreeMap.{BTreeMap, get}
+use Rattle.std.specs.Prelude.{◌≡◌, ℕ, zero, suc, Bool, true, false, cond, List, [], ◌∷◌, ◌++◌, ◌⊎◌, Option, Some, None, slice_get}
+use Rattle.std.specs.Ordering.{is_gt}
 use Rattle.theory.specs.ArcNumbers.{ArcRef, along}
+use Rattle.theory.specs.Lists.{Has}
 use Rattle.grid.specs.declared.pos.Pos.{Pos}
+use Rattle.lines.specs.Pairs.{position_eq}
 use Rattle.lines.specs.Turned.{position_cmp}
 use Rattle.chains.specs.Among.{among}
+use Rattle.rejoining.specs.ByUse.{noted_of, with_noted}
 use Rattle.rejoining.specs.declared.meeting.End.{End}
-use Rattle.rejoining.specs.declared.meeting.Met.{Met}
-use Rattle.rejoining.specs.declared.meeting.Met.TheVariants.{One, Two, More}
 use Rattle.rejoining.specs.declared.meeting.Meeting.{Meeting}
 
 -- the first vertex of a list, where there is one
@@ -20,58 +20,84 @@ first_if (Some l) = slice_get l 0
 abbrev pub begin_at : List (List Pos) → ArcRef → Option Pos
 begin_at arcs a = first_if (along arcs a)
 
-abbrev pub ahead : ℕ → ArcRef
-ahead k = record { arc = k; reversed = false }
-
-abbrev pub against : ℕ → ArcRef
-against k = record { arc = k; reversed = true }
-
-abbrev pub end_of : ArcRef → End
-end_of a = record { arc = a.arc; reversed = a.reversed }
+-- arc k used in this direction
+abbrev pub use_of : Bool → ℕ → ArcRef
+use_of r k = record { arc = k; reversed = r }
 
 abbrev pub used_at : End → ArcRef
 used_at e = record { arc = e.arc; reversed = e.reversed }
 
--- one end more than before
-abbrev pub met_again : Option Met → ArcRef → Met
-met_again None a = One (end_of a)
-met_again (Some (One x)) a = Two x (end_of a)
-met_again (Some (Two x y)) a = More
-met_again (Some More) a = More
+-- the end of a used arc that begins at v
+abbrev pub end_at : Pos → ArcRef → End
+end_at v a = record { vertex = v; arc = a.arc; reversed = a.reversed }
 
--- what is noted for q, once an end is met
-abbrev pub noted : Pos → Option Met → Option Pos → ArcRef → Option Met
-noted q o None a = o
-noted q o (Some v) a = cond (is_eq (position_cmp v q)) (Some (met_again o a)) o
+abbrev pub end_if : Option Pos → ArcRef → List End
+end_if None a = []
+end_if (Some v) a = end_at v a ∷ []
 
--- what is noted for q, once both ends of the arcs of these numbers are met
-abbrev pub noted_all : List (List Pos) → Pos → Option Met → List ℕ → Option Met
-noted_all arcs q o [] = o
-noted_all arcs q o (k ∷ ks) = noted_all arcs q (noted q (noted q o (begin_at arcs (ahead k)) (ahead k)) (begin_at arcs (against k)) (against k)) ks
+-- the ends of the arcs of these numbers, each used in this direction
+abbrev pub ends_from : List (List Pos) → Bool → List ℕ → List End
+ends_from arcs r [] = []
+ends_from arcs r (k ∷ ks) = end_if (begin_at arcs (use_of r k)) (use_of r k) ++ ends_from arcs r ks
 
-abbrev pub met_in : BTreeMap Pos Met → Pos → Option Met
-met_in m q = get position_cmp m q
+-- the first ends of the arcs of these numbers, and then their last ones
+abbrev pub all_ends : List (List Pos) → List ℕ → List End
+all_ends arcs ks = ends_from arcs false ks ++ ends_from arcs true ks
 
--- whether both run one way
-abbrev pub same_way : Bool → Bool → Bool
-same_way true b = b
-same_way false b = not b
+-- how many of the first ends are at v
+abbrev pub count_at : Pos → List End → ℕ
+count_at v [] = zero
+count_at v (e ∷ l) = cond (position_eq e.vertex v) (suc (count_at v l)) zero
 
-abbrev pub same_ref : End → ArcRef → Bool
-same_ref e a = nat_eq e.arc a.arc && same_way e.reversed a.reversed
+-- no end comes before one of a lesser vertex, and no used arc has two
+abbrev pub AreGrouped : List End → Type 0
+AreGrouped [] = Unit {0}
+AreGrouped (e ∷ l) = ((d : End) → Has d l → (is_gt (position_cmp e.vertex d.vertex) ≡ false) × (¬ (used_at e ≡ used_at d))) × AreGrouped l
 
--- the other of two ends
-abbrev pub other_than : Option Met → ArcRef → Option ArcRef
-other_than None a = None
-other_than (Some (One x)) a = None
-other_than (Some (Two x y)) a = cond (same_ref x a) (Some (used_at y)) (Some (used_at x))
-other_than (Some More) a = None
+-- the same, and each of two used arcs noted of the other
+abbrev pub paired : ArcRef → ArcRef → (ArcRef → Option ArcRef) → ArcRef → Option ArcRef
+paired a b f = with_noted b a (with_noted a b f)
 
--- the other end at a vertex, where no line ends there, and two ends meet
-abbrev pub partner_at : Meeting → Option Pos → ArcRef → Option ArcRef
-partner_at m None a = None
-partner_at m (Some v) a = cond (among m.ends v) None (other_than (met_in m.met v) a)
+-- the same, and what is noted where an end and these others are all that meet
+abbrev pub with_pair : List Pos → End → List End → (ArcRef → Option ArcRef) → ArcRef → Option ArcRef
+with_pair stops e [] f = f
+with_pair stops e (d ∷ []) f = cond (among stops e.vertex) f (paired (used_at e) (used_at d) f)
+with_pair stops e (d ∷ (c ∷ l)) f = f
+
+-- a used arc of one of the numbers begins at v
+abbrev pub Begins : List (List Pos) → Pos → List ℕ → ArcRef → Type 0
+Begins arcs v ks p = Has p.arc ks × (begin_at arcs p ≡ Some v)
+
+-- three different ones are among those that meet
+pub record ThreeOf (H : ArcRef → Type 0) : Type 0 where
+  pub one : ArcRef
+  pub two : ArcRef
+  pub three : ArcRef
+  pub has_one : H one
+  pub has_two : H two
+  pub has_three : H three
+  pub one_two : ¬ (one ≡ two)
+  pub one_three : ¬ (one ≡ three)
+  pub two_three : ¬ (two ≡ three)
+
+-- none goes on from a, which is among those that meet: a line ends there, or no other meets it, or three do
+pub record IsStopped (stop : Type 0) (H : ArcRef → Type 0) (partner : ArcRef → Option ArcRef) (a : ArcRef) : Type 0 where
+  pub none : partner a ≡ None
+  pub why : stop ⊎ (((p : ArcRef) → H p → p ≡ a) ⊎ ThreeOf H)
+
+-- a and b go on from one another: no line ends there, and these two are all that meet
+pub record ArePartners (stop : Type 0) (H : ArcRef → Type 0) (partner : ArcRef → Option ArcRef) (a b : ArcRef) : Type 0 where
+  pub there : partner a ≡ Some b
+  pub back : partner b ≡ Some a
+  pub apart : ¬ (a ≡ b)
+  pub no_end : ¬ stop
+  pub meets : H b
+  pub only : (p : ArcRef) → H p → (p ≡ a) ⊎ (p ≡ b)
+
+-- it is told right of a, which is among those that meet at a vertex, which of them goes on from it
+abbrev pub IsTold : Type 0 → (ArcRef → Type 0) → (ArcRef → Option ArcRef) → ArcRef → Type 0
+IsTold stop H partner a = IsStopped stop H partner a ⊎ ((b : ArcRef) × ArePartners stop H partner a b)
 
 -- the one other used arc that begins where a used arc begins, if it goes on there
-abbrev pub partner_in : List (List Pos) → Meeting → ArcRef → Option ArcRef
-partner_in arcs m a = partner_at m (begin_at arcs a) a
+abbrev pub partner_in : Meeting → ArcRef → Option ArcRef
+partner_in m a = noted_of m.partners a

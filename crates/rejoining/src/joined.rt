@@ -139,11 +139,11 @@ fn listed(arcs: &ArcTable, run: Vec<ArcRef>, round: bool) -> Items<ArcRef>
     Items::from_vec(refs)
 }
 
-fn goes_round(arcs: &ArcTable, meeting: &Meeting, run: &[ArcRef]) -> bool
-    ensures { result ≡ spec.goes_round (partner_in arcs.now.arcs meeting.now) run.now }
+fn goes_round(meeting: &Meeting, run: &[ArcRef]) -> bool
+    ensures { result ≡ spec.goes_round (partner_in meeting.now) run.now }
 {
     match run.first() {
-        Some(first) => meeting.partner(arcs, *first).is_some(),
+        Some(first) => meeting.partner(*first).is_some(),
         None => false,
     }
 }
@@ -156,10 +156,10 @@ fn add_joined(
     joined: &mut Joined,
     run: &[ArcRef],
 ) -> Result<(), AllocError>
-    ensures pieces { OnOk result (joined.new.pieces.items ≡ joined.old.pieces.items ++ (piece_of_run arcs.now.arcs (partner_in arcs.now.arcs meeting.now) run.now ∷ [])) }
-    ensures lists { OnOk result (joined.new.lists.items ≡ joined.old.lists.items ++ (list_of_run arcs.now.arcs (partner_in arcs.now.arcs meeting.now) run.now ∷ [])) }
+    ensures pieces { OnOk result (joined.new.pieces.items ≡ joined.old.pieces.items ++ (piece_of_run arcs.now.arcs (partner_in meeting.now) run.now ∷ [])) }
+    ensures lists { OnOk result (joined.new.lists.items ≡ joined.old.lists.items ++ (list_of_run arcs.now.arcs (partner_in meeting.now) run.now ∷ [])) }
 {
-    let round = goes_round(arcs, meeting, run);
+    let round = goes_round(meeting, run);
     let piece = Piece::new(joined_chain(alloc, arcs, run, round)?, round);
     let refs = directed(alloc, run, piece.reversed())?;
     joined.pieces.push(piece)?;
@@ -174,8 +174,8 @@ pub(crate) fn joined_of(
     meeting: &Meeting,
     runs: &[Items<ArcRef>],
 ) -> Result<Joined, AllocError>
-    ensures pieces { IfOk result (λ j. j.pieces.items ≡ map_list (piece_of_run arcs.now.arcs (partner_in arcs.now.arcs meeting.now)) runs.now) }
-    ensures lists { IfOk result (λ j. j.lists.items ≡ map_list (list_of_run arcs.now.arcs (partner_in arcs.now.arcs meeting.now)) runs.now) }
+    ensures pieces { IfOk result (λ j. j.pieces.items ≡ map_list (piece_of_run arcs.now.arcs (partner_in meeting.now)) runs.now) }
+    ensures lists { IfOk result (λ j. j.lists.items ≡ map_list (list_of_run arcs.now.arcs (partner_in meeting.now)) runs.now) }
 {
     let mut joined = Joined {
         pieces: Vec::with_capacity(alloc, runs.len())?,

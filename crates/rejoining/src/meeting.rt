@@ -1,56 +1,48 @@
 //! The ends of arcs that meet at a vertex, and which arc goes on from another.
-ghost use Rattle.std.specs.Prelude.{◌≡◌, ◌↔◌, IfOk, OnOk, None, Some, reverse, slice_get};
+ghost use Rattle.std.specs.Prelude.{◌≡◌, ◌≤◌, ◌++◌, IfOk, OnOk, length, reverse, slice_get};
 ghost use Rattle.grid.specs.declared.pos.Pos.{Pos};
-ghost use Rattle.theory.specs.Lists.{Has};
-ghost use Rattle.rejoining.specs.Meeting.{begin_at, end_of, met_again, met_in, noted, noted_all, other_than, partner_in, same_ref, used_at};
+ghost use Rattle.lines.specs.Pairs.{position_eq};
+ghost use Rattle.theory.specs.ArcNumbers as numbers;
+ghost use Rattle.theory.specs.Lists.{Distinct, Has};
+ghost use Rattle.rejoining.specs.ByUse.{noted_of};
+ghost use Rattle.rejoining.specs.Meeting.{AreGrouped, Begins, IsTold, all_ends, begin_at, count_at, end_at, end_if, ends_from, paired, partner_in, used_at, with_pair};
 
+use crate::by_use::ByUse;
 use chains::table::{ArcRef, ArcTable};
 use chains::visits::VisitIndex;
 use faults::OutOfMemory;
 use grid::pos::Pos;
 use std::alloc::{AllocError, Global};
-use std::collections::BTreeMap;
 
-/// An end of an arc: the used arc that begins there.
-#[derive(Clone, Copy)]
+/// An end of an arc: the vertex at which a used arc begins. Ends are ordered by their vertices first.
+#[derive(Clone, Copy, PartialEq, Eq, PartialOrd, Ord)]
 pub(crate) struct End {
+    vertex: Pos,
     arc: usize,
     reversed: bool,
 }
 
 impl End {
-    fn of(used: ArcRef) -> End
-        ensures { result ≡ end_of used }
-    {
-        End {
-            arc: used.arc,
-            reversed: used.reversed,
-        }
-    }
-
-    fn used(self) -> ArcRef
-        ensures { result ≡ used_at self }
+    fn used(&self) -> ArcRef
+        ensures { result ≡ used_at self.now }
     {
         ArcRef {
             arc: self.arc,
             reversed: self.reversed,
         }
     }
+
+    fn is_at(&self, vertex: Pos) -> bool
+        ensures { result ≡ position_eq self.now.vertex vertex }
+    {
+        self.vertex == vertex
+    }
 }
 
-/// The ends of arcs that meet at a vertex.
-#[derive(Clone, Copy)]
-pub(crate) enum Met {
-    One(End),
-    Two(End, End),
-    More,
-}
-
-/// The ends of arcs at each vertex, and the vertices at which lines end.
+/// For each used arc the one other that begins where it begins, if one goes on there.
 #[derive(Drop)]
 pub(crate) struct Meeting {
-    met: BTreeMap<Pos, Met>,
-    ends: VisitIndex,
+    partners: ByUse<ArcRef>,
 }
 
 fn first_of(arc: &[Pos]) -> Option<Pos>
@@ -78,104 +70,132 @@ fn begin_of(arcs: &ArcTable, used: ArcRef) -> Option<Pos>
     }
 }
 
-fn with_one(old: Option<Met>, used: ArcRef) -> Met
-    ensures { result ≡ met_again old used }
+/// Adds the end of a used arc, where there is such an arc.
+fn add_end(ends: &mut Vec<End>, arcs: &ArcTable, used: ArcRef) -> Result<(), AllocError>
+    ensures { OnOk result (ends.new.items ≡ ends.old.items ++ end_if (begin_at arcs.now.arcs used) used) }
 {
-    match old {
-        None => Met::One(End::of(used)),
-        Some(Met::One(first)) => Met::Two(first, End::of(used)),
-        Some(Met::Two(_, _)) => Met::More,
-        Some(Met::More) => Met::More,
+    if let Some(vertex) = begin_of(arcs, used) {
+        ends.push(End {
+            vertex,
+            arc: used.arc,
+            reversed: used.reversed,
+        })?;
     }
-}
-
-fn is_same(end: End, used: ArcRef) -> bool
-    ensures { result ≡ same_ref end used }
-{
-    end.arc == used.arc && end.reversed == used.reversed
-}
-
-fn other_of(met: Option<Met>, used: ArcRef) -> Option<ArcRef>
-    ensures { result ≡ other_than met used }
-{
-    match met {
-        None => None,
-        Some(Met::One(_)) => None,
-        Some(Met::Two(first, second)) => {
-            if is_same(first, used) {
-                Some(second.used())
-            } else {
-                Some(first.used())
-            }
-        }
-        Some(Met::More) => None,
-    }
-}
-
-/// Notes one more end of an arc at a vertex.
-fn note_begin(
-    met: &mut BTreeMap<Pos, Met>,
-    begin: Option<Pos>,
-    used: ArcRef,
-) -> Result<(), AllocError>
-    ensures { OnOk result ((q : Pos) → met_in met.new q ≡ noted q (met_in met.old q) begin used) }
-{
-    let Some(at) = begin else {
-        return Ok(());
-    };
-    let old = met.get(&at).copied();
-    met.insert(at, with_one(old, used))?;
     Ok(())
 }
 
-/// The ends of the arcs of these numbers.
-fn met_of(
-    alloc: Global,
+/// Adds the ends of the arcs of these numbers, each used in this direction.
+fn add_ends(
+    ends: &mut Vec<End>,
     arcs: &ArcTable,
     chosen: &[usize],
-) -> Result<BTreeMap<Pos, Met>, AllocError>
-    ensures { IfOk result (λ m. (q : Pos) → met_in m q ≡ noted_all arcs.now.arcs q None chosen.now) }
+    reversed: bool,
+) -> Result<(), AllocError>
+    ensures { OnOk result (ends.new.items ≡ ends.old.items ++ ends_from arcs.now.arcs reversed chosen.now) }
 {
-    let mut met = BTreeMap::new(alloc);
     for number in chosen {
-        let ahead = ArcRef {
+        let used = ArcRef {
             arc: *number,
-            reversed: false,
+            reversed,
         };
-        let against = ArcRef {
-            arc: *number,
-            reversed: true,
-        };
-        note_begin(&mut met, begin_of(arcs, ahead), ahead)?;
-        note_begin(&mut met, begin_of(arcs, against), against)?;
+        add_end(ends, arcs, used)?;
     }
-    Ok(met)
+    Ok(())
+}
+
+/// The ends of the arcs of these numbers. The first ends of arcs in their order are sorted already, so
+/// they stand before the last ones, and a sort that looks for runs finds one of them.
+fn ends_of(alloc: Global, arcs: &ArcTable, chosen: &[usize]) -> Result<Vec<End>, AllocError>
+    ensures { IfOk result (λ v. v.items ≡ all_ends arcs.now.arcs chosen.now) }
+{
+    let mut ends = Vec::with_capacity(alloc, chosen.len().saturating_mul(2))?;
+    add_ends(&mut ends, arcs, chosen, false)?;
+    add_ends(&mut ends, arcs, chosen, true)?;
+    Ok(ends)
+}
+
+/// How many of the first ends are at a vertex.
+fn count_of(ends: &[End], vertex: Pos) -> usize
+    ensures count { result ≡ count_at vertex ends.now }
+    ensures within { result ≤ length ends.now }
+{
+    for (i, end) in ends.iter().enumerate() {
+        if !end.is_at(vertex) {
+            return i;
+        }
+    }
+    ends.len()
+}
+
+/// Notes of each of two used arcs that the other goes on from it.
+fn note_pair(partners: &mut ByUse<ArcRef>, first: ArcRef, second: ArcRef) -> Result<(), AllocError>
+    ensures { OnOk result ((q : numbers.ArcRef) → noted_of partners.new q ≡ paired first second (noted_of partners.old) q) }
+{
+    partners.set(first, second)?;
+    partners.set(second, first)
+}
+
+/// Notes the used arcs of the ends at a vertex, which are these, where two meet and no line ends.
+fn note_met(
+    partners: &mut ByUse<ArcRef>,
+    stops: &VisitIndex,
+    first: &End,
+    others: &[End],
+) -> Result<(), AllocError>
+    ensures { OnOk result ((q : numbers.ArcRef) → noted_of partners.new q ≡ with_pair stops.now first.now others.now (noted_of partners.old) q) }
+{
+    let Some((second, more)) = others.split_first() else {
+        return Ok(());
+    };
+    if !more.is_empty() {
+        return Ok(());
+    }
+    if stops.is_junction(first.vertex) {
+        return Ok(());
+    }
+    note_pair(partners, first.used(), second.used())
+}
+
+/// The partners of the used arcs of sorted ends, with room for so many arcs.
+fn partners_of(
+    alloc: Global,
+    ends: &[End],
+    stops: &VisitIndex,
+    count: usize,
+) -> Result<ByUse<ArcRef>, AllocError>
+    ensures { IfOk result (λ p. AreGrouped ends.now → (v : Pos) (a : numbers.ArcRef) → Has (end_at v a) ends.now → IsTold (Has v stops.now) (λ b. Has (end_at v b) ends.now) (noted_of p) a) }
+{
+    let mut partners = ByUse::with_capacity(alloc, count)?;
+    let mut left = ends;
+    while let Some((first, others)) = left.split_first() {
+        let (here, behind) = others.split_at(count_of(others, first.vertex));
+        note_met(&mut partners, stops, first, here)?;
+        left = behind;
+    }
+    Ok(partners)
 }
 
 impl Meeting {
-    /// The ends of the arcs of these numbers, and the vertices at which lines end.
+    /// Which of the arcs of these numbers go on from one another, where lines end at these vertices.
     pub(crate) fn of(
         alloc: Global,
         arcs: &ArcTable,
         chosen: &[usize],
         ends: &[Pos],
     ) -> Result<Meeting, OutOfMemory>
-        ensures met { IfOk result (λ m. (q : Pos) → met_in m.met q ≡ noted_all arcs.now.arcs q None chosen.now) }
-        ensures ends { IfOk result (λ m. (q : Pos) → Has q m.ends ↔ Has q ends.now) }
+        ensures { IfOk result (λ m. Distinct chosen.now → (v : Pos) (a : numbers.ArcRef) → Begins arcs.now.arcs v chosen.now a → IsTold (Has v ends.now) (Begins arcs.now.arcs v chosen.now) (partner_in m) a) }
     {
-        let met = met_of(alloc, arcs, chosen)?;
-        let ends = VisitIndex::from_junctions(alloc, ends.to_vec(alloc)?)?;
-        Ok(Meeting { met, ends })
+        let stops = VisitIndex::from_junctions(alloc, ends.to_vec(alloc)?)?;
+        let mut sorted = ends_of(alloc, arcs, chosen)?;
+        sorted.sort()?;
+        let partners = partners_of(alloc, &sorted, &stops, arcs.len())?;
+        Ok(Meeting { partners })
     }
 
     /// The one other used arc that begins where a used arc begins, if one goes on there.
-    pub(crate) fn partner(&self, arcs: &ArcTable, used: ArcRef) -> Option<ArcRef>
-        ensures { result ≡ partner_in arcs.now.arcs self.now used }
+    pub(crate) fn partner(&self, used: ArcRef) -> Option<ArcRef>
+        ensures { result ≡ partner_in self.now used }
     {
-        let at = begin_of(arcs, used)?;
-        if self.ends.is_junction(at) {
-            return None;
-        }
-        other_of(self.met.get(&at).copied(), used)
+        self.partners.get(used)
     }
 }

@@ -6,7 +6,7 @@ ghost use Rattle.rejoining.specs.Meeting.{partner_in};
 ghost use Rattle.rejoining.specs.Walks.{Adds, AddsBegun, ArePaired, AreRuns, AreWalked, EndsGone, Goes, GoesOn, Walk, count_left, is_left, some_one, without};
 
 use crate::meeting::Meeting;
-use chains::table::{ArcRef, ArcTable};
+use chains::table::ArcRef;
 use lines::items::Items;
 use std::alloc::{AllocError, Global};
 
@@ -40,16 +40,11 @@ fn take(left: &mut Vec<bool>, arc: usize) -> bool
 }
 
 /// Takes the used arc that goes on from another, if it is left.
-fn take_next(
-    arcs: &ArcTable,
-    meeting: &Meeting,
-    left: &mut Vec<bool>,
-    used: ArcRef,
-) -> Option<ArcRef>
-    ensures goes { (run : List numbers.ArcRef) (after : List Bool) → GoesOn (partner_in arcs.now.arcs meeting.now) left.new.items result run after → Goes (partner_in arcs.now.arcs meeting.now) left.old.items used run after }
+fn take_next(meeting: &Meeting, left: &mut Vec<bool>, used: ArcRef) -> Option<ArcRef>
+    ensures goes { (run : List numbers.ArcRef) (after : List Bool) → GoesOn (partner_in meeting.now) left.new.items result run after → Goes (partner_in meeting.now) left.old.items used run after }
     ensures fewer { count_left left.new.items + some_one result ≤ count_left left.old.items }
 {
-    let next = meeting.partner(arcs, turned_back(used))?;
+    let next = meeting.partner(turned_back(used))?;
     if take(left, next.arc) {
         Some(next)
     } else {
@@ -60,19 +55,18 @@ fn take_next(
 /// The used arcs that go on from one that is taken already, with it in front.
 fn walk(
     alloc: Global,
-    arcs: &ArcTable,
     meeting: &Meeting,
     left: &mut Vec<bool>,
     from: ArcRef,
 ) -> Result<Vec<ArcRef>, AllocError>
-    ensures { IfOk result (λ r. Walk (partner_in arcs.now.arcs meeting.now) left.old.items from r.items left.new.items) }
+    ensures { IfOk result (λ r. Walk (partner_in meeting.now) left.old.items from r.items left.new.items) }
 {
     let mut run = Vec::new(alloc);
     run.push(from)?;
-    let mut next = take_next(arcs, meeting, left, from);
+    let mut next = take_next(meeting, left, from);
     while let Some(used) = next {
         run.push(used)?;
-        next = take_next(arcs, meeting, left, used);
+        next = take_next(meeting, left, used);
     }
     Ok(run)
 }
@@ -80,18 +74,17 @@ fn walk(
 /// Walks from a used arc that is left.
 fn add_run(
     alloc: Global,
-    arcs: &ArcTable,
     meeting: &Meeting,
     left: &mut Vec<bool>,
     runs: &mut Vec<Items<ArcRef>>,
     from: ArcRef,
 ) -> Result<(), AllocError>
-    ensures { OnOk result (Adds (partner_in arcs.now.arcs meeting.now) left.old.items runs.old.items from left.new.items runs.new.items) }
+    ensures { OnOk result (Adds (partner_in meeting.now) left.old.items runs.old.items from left.new.items runs.new.items) }
 {
     if !take(left, from.arc) {
         return Ok(());
     }
-    let run = walk(alloc, arcs, meeting, left, from)?;
+    let run = walk(alloc, meeting, left, from)?;
     runs.push(Items::from_vec(run))?;
     Ok(())
 }
@@ -99,30 +92,28 @@ fn add_run(
 /// Walks from a used arc that is left and has no arc before it.
 fn add_begun(
     alloc: Global,
-    arcs: &ArcTable,
     meeting: &Meeting,
     left: &mut Vec<bool>,
     runs: &mut Vec<Items<ArcRef>>,
     from: ArcRef,
 ) -> Result<(), AllocError>
-    ensures { OnOk result (AddsBegun (partner_in arcs.now.arcs meeting.now) left.old.items runs.old.items from left.new.items runs.new.items) }
+    ensures { OnOk result (AddsBegun (partner_in meeting.now) left.old.items runs.old.items from left.new.items runs.new.items) }
 {
-    if !stays(left, from.arc) || meeting.partner(arcs, from).is_some() {
+    if !stays(left, from.arc) || meeting.partner(from).is_some() {
         return Ok(());
     }
-    add_run(alloc, arcs, meeting, left, runs, from)
+    add_run(alloc, meeting, left, runs, from)
 }
 
 /// Adds the runs from end to end.
 fn add_open_runs(
     alloc: Global,
-    arcs: &ArcTable,
     meeting: &Meeting,
     kept: &[bool],
     left: &mut Vec<bool>,
     runs: &mut Vec<Items<ArcRef>>,
 ) -> Result<(), AllocError>
-    ensures { OnOk result (ArePaired kept.now (partner_in arcs.now.arcs meeting.now) → left.old.items ≡ kept.now → runs.old.items ≡ [] → AreWalked kept.now (partner_in arcs.now.arcs meeting.now) left.new.items runs.new.items × EndsGone kept.now (partner_in arcs.now.arcs meeting.now) left.new.items) }
+    ensures { OnOk result (ArePaired kept.now (partner_in meeting.now) → left.old.items ≡ kept.now → runs.old.items ≡ [] → AreWalked kept.now (partner_in meeting.now) left.new.items runs.new.items × EndsGone kept.now (partner_in meeting.now) left.new.items) }
 {
     for arc in 0..kept.len() {
         let ahead = ArcRef {
@@ -133,8 +124,8 @@ fn add_open_runs(
             arc,
             reversed: true,
         };
-        add_begun(alloc, arcs, meeting, left, runs, ahead)?;
-        add_begun(alloc, arcs, meeting, left, runs, against)?;
+        add_begun(alloc, meeting, left, runs, ahead)?;
+        add_begun(alloc, meeting, left, runs, against)?;
     }
     Ok(())
 }
@@ -142,20 +133,19 @@ fn add_open_runs(
 /// Adds the runs that go round, once those from end to end are taken.
 fn add_round_runs(
     alloc: Global,
-    arcs: &ArcTable,
     meeting: &Meeting,
     kept: &[bool],
     left: &mut Vec<bool>,
     runs: &mut Vec<Items<ArcRef>>,
 ) -> Result<(), AllocError>
-    ensures { OnOk result (ArePaired kept.now (partner_in arcs.now.arcs meeting.now) → AreWalked kept.now (partner_in arcs.now.arcs meeting.now) left.old.items runs.old.items → EndsGone kept.now (partner_in arcs.now.arcs meeting.now) left.old.items → AreRuns kept.now (partner_in arcs.now.arcs meeting.now) runs.new.items) }
+    ensures { OnOk result (ArePaired kept.now (partner_in meeting.now) → AreWalked kept.now (partner_in meeting.now) left.old.items runs.old.items → EndsGone kept.now (partner_in meeting.now) left.old.items → AreRuns kept.now (partner_in meeting.now) runs.new.items) }
 {
     for arc in 0..kept.len() {
         let ahead = ArcRef {
             arc,
             reversed: false,
         };
-        add_run(alloc, arcs, meeting, left, runs, ahead)?;
+        add_run(alloc, meeting, left, runs, ahead)?;
     }
     Ok(())
 }
@@ -163,15 +153,14 @@ fn add_round_runs(
 /// All runs of the marked arcs: first those from end to end, then those that go round.
 pub(crate) fn runs_of(
     alloc: Global,
-    arcs: &ArcTable,
     meeting: &Meeting,
     kept: &[bool],
 ) -> Result<Vec<Items<ArcRef>>, AllocError>
-    ensures { IfOk result (λ v. ArePaired kept.now (partner_in arcs.now.arcs meeting.now) → AreRuns kept.now (partner_in arcs.now.arcs meeting.now) v.items) }
+    ensures { IfOk result (λ v. ArePaired kept.now (partner_in meeting.now) → AreRuns kept.now (partner_in meeting.now) v.items) }
 {
     let mut left = kept.to_vec(alloc)?;
     let mut runs = Vec::new(alloc);
-    add_open_runs(alloc, arcs, meeting, kept, &mut left, &mut runs)?;
-    add_round_runs(alloc, arcs, meeting, kept, &mut left, &mut runs)?;
+    add_open_runs(alloc, meeting, kept, &mut left, &mut runs)?;
+    add_round_runs(alloc, meeting, kept, &mut left, &mut runs)?;
     Ok(runs)
 }

@@ -4,7 +4,7 @@ use Rattle.rejoining.proofs.rejoining.rejoin.Goals as goal
 pub returns-clause-refined : goal.returns-clause-refined
 returns-clause-refined c =
     rejoin_told c.args.old.now c.args.kept.now c.args.ends.now c.in_ok-chosen.chosen.items c.deref.result.now c.in_ok-chosen.ensures c.deref.ensures.value
-    c.in_ok-meeting.meeting c.in_ok-meeting.ensures.met c.in_ok-meeting.ensures.ends
+    c.in_ok-meeting.meeting c.in_ok-meeting.ensures
     c.in_ok-runs.runs.items c.deref-2.result.now c.deref-2.ensures.value c.in_ok-runs.ensures
     c.in_ok-pieces.field-0.pieces.items c.in_ok-pieces.field-0.lists.items c.in_ok-pieces.ensures.pieces c.in_ok-pieces.ensures.lists
     c.in_ok-arcs.arcs c.in_ok-arcs.ensures.arcs c.in_ok-arcs.ensures.loops
@@ -14,7 +14,7 @@ returns-clause-refined c =
 pub returns-clause-pieces : goal.returns-clause-pieces
 returns-clause-pieces c =
     rejoin_count c.args.old.now c.args.kept.now c.args.ends.now c.in_ok-chosen.chosen.items c.deref.result.now c.in_ok-chosen.ensures c.deref.ensures.value
-    c.in_ok-meeting.meeting c.in_ok-meeting.ensures.met c.in_ok-meeting.ensures.ends
+    c.in_ok-meeting.meeting c.in_ok-meeting.ensures
     c.in_ok-runs.runs.items c.deref-2.result.now c.deref-2.ensures.value c.in_ok-runs.ensures
     c.in_ok-pieces.field-0.pieces.items c.in_ok-pieces.field-0.lists.items c.in_ok-pieces.ensures.pieces c.in_ok-pieces.ensures.lists
     c.in_ok-arcs.arcs c.in_ok-arcs.ensures.arcs c.in_ok-arcs.ensures.loops

@@ -4,13 +4,13 @@ use Rattle.rejoining.proofs.walking.add_open_runs.Goals as goal
 
 pub loop-arc-init : goal.loop-arc-init
 loop-arc-init c = λ p e f.
-    begun_start c.args.kept.now (partner_in c.args.arcs.now.arcs c.args.meeting.now) p c.args.left.now.items c.args.runs.now.items e f
+    begun_start c.args.kept.now (partner_in c.args.meeting.now) p c.args.left.now.items c.args.runs.now.items e f
 
 pub loop-arc-preserved : goal.loop-arc-preserved
 loop-arc-preserved c = λ p e f.
-    begun_step c.args.kept.now (partner_in c.args.arcs.now.arcs c.args.meeting.now) p c.loop-arc.arc c.loop-arc.left.items c.add_begun.new.left.items c.add_begun-in-loop-arc.new.left.items
+    begun_step c.args.kept.now (partner_in c.args.meeting.now) p c.loop-arc.arc c.loop-arc.left.items c.add_begun.new.left.items c.add_begun-in-loop-arc.new.left.items
     c.loop-arc.runs.items c.add_begun.new.runs.items c.add_begun-in-loop-arc.new.runs.items (c.loop-arc.invariant p e f) c.in_ok-add_begun.ensures c.in_ok-add_begun-2.ensures
 
 pub returns : goal.returns
 returns c = λ p e f.
-    all_begun c.args.kept.now (partner_in c.args.arcs.now.arcs c.args.meeting.now) p c.loop-arc.arc c.loop-arc.left.items c.loop-arc.runs.items c.loop-arc-test.false (c.loop-arc.invariant p e f)
+    all_begun c.args.kept.now (partner_in c.args.meeting.now) p c.loop-arc.arc c.loop-arc.left.items c.loop-arc.runs.items c.loop-arc-test.false (c.loop-arc.invariant p e f)

@@ -6,5 +6,5 @@ use Rattle.rejoining.proofs.walking.add_open_runs.Given as goal
 
 abbrev pub invariant-loop-arc : goal.invariant-loop-arc
 invariant-loop-arc l =
-    (p : ArePaired l.fn.kept (partner_in l.fn.arcs.arcs l.fn.meeting)) → l.fn.left.items ≡ l.fn.kept → l.fn.runs.items ≡ [] →
-    Begun l.fn.kept (partner_in l.fn.arcs.arcs l.fn.meeting) p l.arc l.left.items l.runs.items
+    (p : ArePaired l.fn.kept (partner_in l.fn.meeting)) → l.fn.left.items ≡ l.fn.kept → l.fn.runs.items ≡ [] →
+    Begun l.fn.kept (partner_in l.fn.meeting) p l.arc l.left.items l.runs.items

@@ -4,13 +4,13 @@ use Rattle.rejoining.proofs.walking.add_round_runs.Goals as goal
 
 pub loop-arc-init : goal.loop-arc-init
 loop-arc-init c = λ p w e.
-    rounded_start c.args.kept.now (partner_in c.args.arcs.now.arcs c.args.meeting.now) p c.args.left.now.items c.args.runs.now.items w e
+    rounded_start c.args.kept.now (partner_in c.args.meeting.now) p c.args.left.now.items c.args.runs.now.items w e
 
 pub loop-arc-preserved : goal.loop-arc-preserved
 loop-arc-preserved c = λ p w e.
-    rounded_step c.args.kept.now (partner_in c.args.arcs.now.arcs c.args.meeting.now) p c.loop-arc.arc c.loop-arc.left.items c.add_run.new.left.items
+    rounded_step c.args.kept.now (partner_in c.args.meeting.now) p c.loop-arc.arc c.loop-arc.left.items c.add_run.new.left.items
     c.loop-arc.runs.items c.add_run.new.runs.items (c.loop-arc.invariant p w e) c.in_ok-add_run.ensures
 
 pub returns : goal.returns
 returns c = λ p w e.
-    all_walked c.args.kept.now (partner_in c.args.arcs.now.arcs c.args.meeting.now) p c.loop-arc.arc c.loop-arc.left.items c.loop-arc.runs.items c.loop-arc-test.false (c.loop-arc.invariant p w e)
+    all_walked c.args.kept.now (partner_in c.args.meeting.now) p c.loop-arc.arc c.loop-arc.left.items c.loop-arc.runs.items c.loop-arc-test.false (c.loop-arc.invariant p w e)

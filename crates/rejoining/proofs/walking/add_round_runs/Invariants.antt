@@ -5,6 +5,6 @@ use Rattle.rejoining.proofs.walking.add_round_runs.Given as goal
 
 abbrev pub invariant-loop-arc : goal.invariant-loop-arc
 invariant-loop-arc l =
-    (p : ArePaired l.fn.kept (partner_in l.fn.arcs.arcs l.fn.meeting)) → AreWalked l.fn.kept (partner_in l.fn.arcs.arcs l.fn.meeting) l.fn.left.items l.fn.runs.items →
-    EndsGone l.fn.kept (partner_in l.fn.arcs.arcs l.fn.meeting) l.fn.left.items →
-    Rounded l.fn.kept (partner_in l.fn.arcs.arcs l.fn.meeting) p l.arc l.left.items l.runs.items
+    (p : ArePaired l.fn.kept (partner_in l.fn.meeting)) → AreWalked l.fn.kept (partner_in l.fn.meeting) l.fn.left.items l.fn.runs.items →
+    EndsGone l.fn.kept (partner_in l.fn.meeting) l.fn.left.items →
+    Rounded l.fn.kept (partner_in l.fn.meeting) p l.arc l.left.items l.runs.items

@@ -5,4 +5,4 @@ use Rattle.rejoining.proofs.walking.walk.Goals as goal
 
 pub returns : goal.returns
 returns c =
-    walk_over (partner_in c.args.arcs.now.arcs c.args.meeting.now) c.args.left.now.items c.loop-next.left.items c.args.from c.loop-next.run.items c.loop-next.next (search rules) c.loop-next.invariant
+    walk_over (partner_in c.args.meeting.now) c.args.left.now.items c.loop-next.left.items c.args.from c.loop-next.run.items c.loop-next.next (search rules) c.loop-next.invariant
