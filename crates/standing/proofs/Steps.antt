@@ -8,7 +8,7 @@ use Rattle.theory.specs.Standing.{inner_of}
 use Rattle.theory.proofs.Lists.{front-snoc}
 use Rattle.chains.specs.Among.{among}
 use Rattle.chains.specs.Table.{is_loop}
-use Rattle.chains.proofs.Slices.{drop_next}
+use Rattle.lines.proofs.Dropping.{drop_next}
 use Rattle.chains.proofs.TablesAsMap.{answered, given, unclosed_rest}
 use Rattle.standing.specs.Apart.{apart_if, arc_apart, arc_inside, ends_apart, inside_if, stands_alone, stands_if}
 
