@@ -37,12 +37,12 @@ module _ (arcs : List (List Pos)) where
   pub are_line_ends : (ends : List Pos) (lists : List (List ArcRef)) → ends ≡ gathered (line_ends arcs) lists → (g : Geometry Pos) → LinesStitch arcs lists g → AreLineEnds ends g
   are_line_ends ends lists e g p v = (
     (λ k.
-      let u = gathered_from (line_ends arcs) lists v (subst (Has v) e k) in
-      let w = partner_back (λ l us. StitchTo arcs us l) g.lines lists p u.0 u.1 in
-      (w.0, w.1, (stitched_ends u.0 w.0 w.2 v).0 u.2)),
+        let u = gathered_from (line_ends arcs) lists v (subst (Has v) e k) in
+        let w = partner_back (λ l us. StitchTo arcs us l) g.lines lists p u.0 u.1 in
+        (w.0, w.1, (stitched_ends u.0 w.0 w.2 v).0 u.2)),
     (λ (l, h, i).
-      let w = partner (λ l us. StitchTo arcs us l) g.lines lists p l h in
-      subst (Has v) (sym e) (Has-gathered (line_ends arcs) lists w.0 v w.1 ((stitched_ends w.0 l w.2 v).1 i))),
+        let w = partner (λ l us. StitchTo arcs us l) g.lines lists p l h in
+        subst (Has v) (sym e) (Has-gathered (line_ends arcs) lists w.0 v w.1 ((stitched_ends w.0 l w.2 v).1 i))),
   )
 
   -- a loop that adds the ends of what has lists: `l` tells the lists of each
