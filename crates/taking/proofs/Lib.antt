@@ -4,3 +4,4 @@ pub mod StitchedMaps
 pub mod PartsOfMaps
 pub mod PairsGathered
 pub mod Adding
+pub mod Ending

@@ -2,3 +2,4 @@ pub mod Lists
 pub mod Order
 pub mod Laws
 pub mod Added
+pub mod Ends

@@ -2,9 +2,11 @@
 //! nothing is stitched or built anew.
 #![tactic(auto)]
 
+pub mod ends;
 pub mod laws;
 pub mod lists;
 pub mod order;
 
+pub use ends::line_ends;
 pub use lists::lists_stand;
 pub use order::in_order;
