@@ -3,3 +3,4 @@ pub mod StitchedFeatures
 pub mod StitchedMaps
 pub mod PartsOfMaps
 pub mod PairsGathered
+pub mod StandingParts

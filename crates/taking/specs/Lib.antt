@@ -1,3 +1,4 @@
 pub mod Lists
 pub mod Order
 pub mod Laws
+pub mod Whole

@@ -4,5 +4,9 @@
 
 pub mod laws;
 pub mod order;
+pub mod stub;
+pub mod whole;
 
 pub use order::in_order;
+pub use stub::{line_ends, lists_stand};
+pub use whole::take;
