@@ -11,7 +11,7 @@ use Rattle.theory.proofs.ListsOfLists.{Has-gathered, gathered_from}
 use Rattle.theory.proofs.UsersOfArcs.{partner, partner_back}
 use Rattle.chains.proofs.Layers.{gathered-append}
 use Rattle.chains.proofs.Siding.{none_left}
-use Rattle.chains.proofs.Slices.{drop_item}
+use Rattle.lines.proofs.Dropping.{drop_item}
 use Rattle.standing.specs.Meeting.{line_ends}
 use Rattle.standing.specs.Seams.{AreLineEnds}
 use Rattle.standing.proofs.Listing.{run_line_ends}

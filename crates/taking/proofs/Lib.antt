@@ -5,3 +5,4 @@ pub mod PartsOfMaps
 pub mod PairsGathered
 pub mod Adding
 pub mod Ending
+pub mod StandingParts

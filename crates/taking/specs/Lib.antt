@@ -3,3 +3,4 @@ pub mod Order
 pub mod Laws
 pub mod Added
 pub mod Ends
+pub mod Whole

@@ -6,7 +6,9 @@ pub mod ends;
 pub mod laws;
 pub mod lists;
 pub mod order;
+pub mod whole;
 
 pub use ends::line_ends;
 pub use lists::lists_stand;
 pub use order::in_order;
+pub use whole::take;

@@ -1,0 +1,48 @@
+-- Layers that stand in order are the parts of the topology of a map.
+use Rattle.std.proofs.Common.{◌≡◌, ◌↔◌, Bool, true, false, List, ◌++◌, map as map_list, sym, ap, ◌∙◌}
+use Rattle.grid.specs.declared.pos.Pos.{Pos}
+use Rattle.lines.specs.Turned.{position_cmp}
+use Rattle.shapes.specs.Maps.{Layers}
+use Rattle.theory.specs.Lists.{gathered}
+use Rattle.theory.specs.Standing.{ArcsApart}
+use Rattle.chains.specs.Arcs.{Arcs}
+use Rattle.chains.specs.OfArcs.{table_as_map}
+use Rattle.standing.specs.Apart.{table_read}
+use Rattle.standing.specs.Meeting.{line_ends}
+use Rattle.standing.specs.Seams.{ends_once, goes_free}
+use Rattle.standing.specs.Stands.{ListsStand}
+use Rattle.topo.specs.OfMap.{ArePartsOf}
+use Rattle.topo.specs.Parts.{LayerParts}
+use Rattle.taking.specs.Laws.{HaveI64}
+use Rattle.taking.specs.Lists.{layers_lines, layers_rings}
+use Rattle.taking.specs.Order.{InOrder}
+use Rattle.taking.specs.Whole.{StandInOrder, table_of}
+use Rattle.taking.proofs.PartsOfMaps.{layers_are_the_maps}
+use Rattle.taking.proofs.StitchedMaps.{layers_make_a_map}
+
+pub parts_of_a_map : (t : Arcs) (ls : List LayerParts) → HaveI64 ls → StandInOrder t ls → (m : Layers) × ArePartsOf m t ls
+parts_of_a_map t ls b h = let (m, is) = layers_make_a_map t ls h.stand b h.order in (m, layers_are_the_maps t ls h.stand m is)
+
+-- the marks that are computed, of ends and arcs as the code has them
+pub table_made : (arcs seen again : List (List Pos)) (ls : List LayerParts) (ends : List Pos) (free marks : List Bool) →
+    ends ≡ gathered (line_ends seen) (layers_lines ls) → seen ≡ arcs → again ≡ arcs →
+    free ≡ map_list (goes_free (ends ++ gathered ends_once again)) again → marks ≡ free → table_read arcs marks ≡ table_of arcs ls
+table_made arcs seen again ls ends free marks e s a f m =
+    ap (table_read arcs)
+    (m ∙ f ∙ (λ i. map_list (goes_free (e i ++ gathered ends_once (a i))) (a i))
+    ∙ ap (λ w. map_list (goes_free (gathered (line_ends w) (layers_lines ls) ++ gathered ends_once arcs)) arcs) s)
+
+module _ (t : Arcs) (ls : List LayerParts) (apart : ArcsApart position_cmp t.arcs (table_as_map t)) where
+  -- where the lists stand, the order decides
+  pub order_decides : (b c : Bool) → (b ≡ true) ↔ ListsStand t (layers_lines ls) (layers_rings ls) → b ≡ true → (c ≡ true) ↔ InOrder t.arcs ls → (c ≡ true) ↔ StandInOrder t ls
+  order_decides b c lists e order = (
+    (λ h. record { stand = record { apart = apart; lists = lists.0 e }; order = order.0 h }),
+    (λ h. order.1 h.order),
+  )
+
+  -- where they don't, nothing does
+  pub lists_decide : (b : Bool) → (b ≡ true) ↔ ListsStand t (layers_lines ls) (layers_rings ls) → b ≡ false → (false ≡ true) ↔ StandInOrder t ls
+  lists_decide b lists e = ((λ h. absurd (no h)), (λ h. sym e ∙ lists.1 h.stand.lists))
+    where
+      no : false ≡ true → ⊥
+      no h = cc

@@ -1,0 +1,21 @@
+-- Arcs and layers as a text has them.
+use Rattle.std.specs.Prelude.{List, ◌++◌, map}
+use Rattle.grid.specs.declared.pos.Pos.{Pos}
+use Rattle.theory.specs.Lists.{gathered}
+use Rattle.chains.specs.Arcs.{Arcs}
+use Rattle.standing.specs.Apart.{table_read}
+use Rattle.standing.specs.Meeting.{line_ends}
+use Rattle.standing.specs.Seams.{ends_once, goes_free}
+use Rattle.topo.specs.Parts.{LayerParts}
+use Rattle.taking.specs.Laws.{LayersStand}
+use Rattle.taking.specs.Lists.{layers_lines}
+use Rattle.taking.specs.Order.{InOrder}
+
+-- the table of arcs as they stand: a closed arc is a free loop where no other arc ends at its seam, and no line
+abbrev pub table_of : List (List Pos) → List LayerParts → Arcs
+table_of arcs ls = table_read arcs (map (goes_free (gathered (line_ends arcs) (layers_lines ls) ++ gathered ends_once arcs)) arcs)
+
+-- the layers stand over the table's arcs, in order
+pub record StandInOrder (t : Arcs) (ls : List LayerParts) : Type 0 where
+  pub stand : LayersStand t ls
+  pub order : InOrder t.arcs ls
