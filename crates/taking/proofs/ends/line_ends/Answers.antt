@@ -1,14 +1,16 @@
-use Rattle.std.proofs.Common.{◌∙◌, ap}
+use Rattle.std.proofs.Common.{◌≡◌, ◌++◌, subst}
 use Rattle.theory.specs.Lists.{gathered}
 use Rattle.standing.specs.Meeting.{line_ends}
-use Rattle.taking.specs.Lists.{layer_lines, layers_lines}
+use Rattle.taking.specs.Lists.{layer_lines, layers_lines, lines_of}
 use Rattle.taking.proofs.Ending.{are_line_ends, more_ends, no_more_ends}
 use Rattle.taking.proofs.ends.line_ends.Goals as goal
 
 pub loop-layer-preserved : goal.loop-layer-preserved
 loop-layer-preserved c =
     more_ends c.args.arcs.now layer_lines c.args.layers.now c.loop-layer.layer-index c.layer-item.result c.loop-layer.ends.items c.add_geometries.new.ends.items
-    (gathered (line_ends c.args.arcs.now) (layers_lines c.args.layers.now)) c.loop-layer-test.true c.layer-item.is c.in_ok-add_geometries.ensures c.loop-layer.invariant
+    (gathered (line_ends c.args.arcs.now) (layers_lines c.args.layers.now)) c.loop-layer-test.true c.layer-item.is
+    (subst (λ w. c.add_geometries.new.ends.items ≡ c.loop-layer.ends.items ++ gathered (line_ends c.args.arcs.now) (lines_of w)) c.geometries.ensures c.in_ok-add_geometries.ensures)
+    c.loop-layer.invariant
 
 pub returns-clause-of_map : goal.returns-clause-of_map
 returns-clause-of_map c =

@@ -9,12 +9,12 @@ pub returns-clause-table : goal.returns-clause-table
 returns-clause-table c =
     subst (λ w. IfOk c.arcs_as_read.result (λ o. IfSome o (λ t. t ≡ w)))
     (table_made c.args.arcs.items c.deref.result.now c.deref-2.result.now c.args.layers.now c.in_ok-ends.ends.items c.in_ok-free.free.items c.deref-3.result.now
-    c.in_ok-ends.ensures c.deref.ensures.value c.deref-2.ensures.value c.in_ok-free.ensures.marks c.deref-3.ensures.value)
+    c.in_ok-ends.ensures.ends c.deref.ensures.value c.deref-2.ensures.value c.in_ok-free.ensures.marks c.deref-3.ensures.value)
     c.arcs_as_read.ensures.table
 
 pub returns-clause-stand : goal.returns-clause-stand
 returns-clause-stand c =
     subst (λ w. IfOk c.arcs_as_read.result (λ o. IsSome o ↔ ArcsApart position_cmp c.args.arcs.items (table_as_map w)))
     (table_made c.args.arcs.items c.deref.result.now c.deref-2.result.now c.args.layers.now c.in_ok-ends.ends.items c.in_ok-free.free.items c.deref-3.result.now
-    c.in_ok-ends.ensures c.deref.ensures.value c.deref-2.ensures.value c.in_ok-free.ensures.marks c.deref-3.ensures.value)
+    c.in_ok-ends.ensures.ends c.deref.ensures.value c.deref-2.ensures.value c.in_ok-free.ensures.marks c.deref-3.ensures.value)
     c.arcs_as_read.ensures.stand
