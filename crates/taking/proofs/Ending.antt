@@ -1,9 +1,9 @@
 -- Where lists of used arcs begin and end, and the lines that they stitch to.
-use Rattle.std.proofs.Common.{◌≡◌, ◌↔◌, ℕ, ◌+◌, ◌<◌, ◌≤◌, List, [], ◌∷◌, ◌++◌, ◌⊎◌, drop, get_or, length, inl, inr, sym, ap, ◌∙◌, subst, append_assoc}
+use Rattle.std.proofs.Common.{◌≡◌, ◌↔◌, ℕ, ◌+◌, ◌<◌, ◌≤◌, List, [], ◌∷◌, ◌++◌, drop, get_or, length, inl, inr, sym, ap, ◌∙◌, subst, append_assoc}
 use Rattle.std.proofs.lemmas.List.{append-nil}
 use Rattle.grid.specs.declared.pos.Pos.{Pos}
 use Rattle.theory.specs.ArcNumbers.{ArcRef, StitchFrom, StitchTo}
-use Rattle.theory.specs.Geometry.{Geometry, IsLineOf}
+use Rattle.theory.specs.Geometry.{Geometry}
 use Rattle.theory.specs.Lists.{EndOf, Has, gathered, last_of}
 use Rattle.theory.specs.Standing.{Runs}
 use Rattle.theory.proofs.Lists.{last_join}
@@ -37,12 +37,12 @@ module _ (arcs : List (List Pos)) where
   pub are_line_ends : (ends : List Pos) (lists : List (List ArcRef)) → ends ≡ gathered (line_ends arcs) lists → (g : Geometry Pos) → LinesStitch arcs lists g → AreLineEnds ends g
   are_line_ends ends lists e g p v = (
     (λ k.
-      let u = gathered_from (line_ends arcs) lists v (subst (Has v) e k) in
-      let w = partner_back (λ l us. StitchTo arcs us l) g.lines lists p u.0 u.1 in
-      (w.0, w.1, (stitched_ends u.0 w.0 w.2 v).0 u.2)),
+        let u = gathered_from (line_ends arcs) lists v (subst (Has v) e k) in
+        let w = partner_back (λ l us. StitchTo arcs us l) g.lines lists p u.0 u.1 in
+        (w.0, w.1, (stitched_ends u.0 w.0 w.2 v).0 u.2)),
     (λ (l, h, i).
-      let w = partner (λ l us. StitchTo arcs us l) g.lines lists p l h in
-      subst (Has v) (sym e) (Has-gathered (line_ends arcs) lists w.0 v w.1 ((stitched_ends w.0 l w.2 v).1 i))),
+        let w = partner (λ l us. StitchTo arcs us l) g.lines lists p l h in
+        subst (Has v) (sym e) (Has-gathered (line_ends arcs) lists w.0 v w.1 ((stitched_ends w.0 l w.2 v).1 i))),
   )
 
   -- a loop that adds the ends of what has lists: `l` tells the lists of each

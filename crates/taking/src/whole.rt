@@ -9,8 +9,8 @@ ghost use Rattle.taking.specs.Laws.{HaveI64};
 ghost use Rattle.taking.specs.Whole as spec;
 ghost use Rattle.taking.specs.Whole.{StandInOrder};
 
-use crate::{line_ends, lists_stand};
 use crate::order::in_order;
+use crate::{line_ends, lists_stand};
 use chains::table::ArcTable;
 use faults::OutOfMemory;
 use grid::Grid;
@@ -36,11 +36,7 @@ fn table_of(
 }
 
 /// Whether layers stand in order over arcs that are apart.
-fn stand_in_order(
-    alloc: Global,
-    table: &ArcTable,
-    layers: &[Layer],
-) -> Result<bool, OutOfMemory>
+fn stand_in_order(alloc: Global, table: &ArcTable, layers: &[Layer]) -> Result<bool, OutOfMemory>
     requires apart { ArcsApart position_cmp table.now.arcs (table_as_map table.now) }
     requires ids { HaveI64 layers.now }
     ensures { IfOk result (λ b. (b ≡ true) ↔ StandInOrder table.now layers.now) }

@@ -1,4 +1,4 @@
-use Rattle.std.proofs.Common.{◌++◌, ap}
+use Rattle.std.proofs.Common.{◌++◌}
 use Rattle.theory.specs.Lists.{gathered}
 use Rattle.standing.specs.Meeting.{line_ends}
 use Rattle.taking.specs.Lists.{body_lines, lines_of}

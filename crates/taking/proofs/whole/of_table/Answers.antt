@@ -1,4 +1,4 @@
-use Rattle.std.proofs.Common.{◌≡◌, ◌↔◌, true, false, refl, sym, ◌∙◌, subst}
+use Rattle.std.proofs.Common.{◌≡◌, true, false, refl, sym, ◌∙◌, subst}
 use Rattle.taking.specs.Whole.{StandInOrder}
 use Rattle.taking.proofs.StandingParts.{parts_of_a_map}
 use Rattle.taking.proofs.whole.of_table.Goals as goal
