@@ -1,5 +1,5 @@
 -- A text whose layers stand over its arcs, in order, means a map.
-use Rattle.std.proofs.Common.{◌≡◌, ℕ, List, [], ◌∷◌, map as map_list, refl, sym, subst}
+use Rattle.std.proofs.Common.{◌≡◌, ◌↔◌, ℕ, List, [], ◌∷◌, Option, Some, None, Result, Ok, Err, IfOk, IfSome, IsSome, map as map_list, refl, sym, subst}
 use Rattle.std.specs.FinMap as map
 use Rattle.std.specs.List.{AllByRecursion}
 use Rattle.grid.specs.Place.{Transform}
@@ -9,8 +9,10 @@ use Rattle.shapes.specs.Maps.{Features, Layers}
 use Rattle.shapes.specs.Sets as set
 use Rattle.shapes.specs.declared.feature.Feature.{Feature}
 use Rattle.theory.specs.Lists.{Pairwise}
+use Rattle.faults.specs.declared.fault.Fault.{Fault}
 use Rattle.reading.specs.Meant.{AreLayers}
 use Rattle.reading.specs.Plain.{plain}
+use Rattle.chains.specs.Arcs.{Arcs}
 use Rattle.topo.specs.Features.{AreFeaturesOf}
 use Rattle.topo.specs.OfMap.{ArePartsOf, IsOf}
 use Rattle.topo.specs.Parts.{LayerParts, TopologyParts}
@@ -74,3 +76,18 @@ taken_means bytes g arcs ls t s same_grid same_arcs same_layers stand of_map =
     let said : AreSaid bytes t.grid t.arcs.arcs t.layers = subst (λ w. w) (λ i. AreSaid bytes (sym same_grid i) (sym same_arcs i) (sym same_layers i)) s in
     let (m, means, parts) = as_it_stands bytes t.grid t.arcs t.layers said stand.stand stand.order in
     (m, means, of_map m parts)
+
+-- the same of what is told where there is one
+pub taken_means_if : (bytes : List ℕ) (g : Transform) (arcs : List (List Pos)) (ls : List LayerParts) → AreSaid bytes g arcs ls → (r : Result (Option TopologyParts) Fault) →
+    IfOk r (λ o. IfSome o (λ t. t.grid ≡ g)) → IfOk r (λ o. IfSome o (λ t. t.arcs.arcs ≡ arcs)) → IfOk r (λ o. IfSome o (λ t. t.layers ≡ ls)) →
+    IfOk r (λ o. IfSome o (λ t. (m : Layers) → ArePartsOf m t.arcs t.layers → IsOf m t)) → IfOk r (λ o. IfSome o (λ t. StandInOrder t.arcs t.layers)) →
+    IfOk r (λ o. IfSome o (MeansTopology bytes))
+taken_means_if bytes g arcs ls s (Ok (Some t)) same_grid same_arcs same_layers of_map stand = taken_means bytes g arcs ls t s same_grid same_arcs same_layers stand of_map
+taken_means_if bytes g arcs ls s (Ok None) same_grid same_arcs same_layers of_map stand = tt
+taken_means_if bytes g arcs ls s (Err e) same_grid same_arcs same_layers of_map stand = tt
+
+-- a topology that is taken stands in order
+pub taken_stands : (arcs : Arcs) (ls : List LayerParts) (o : Option TopologyParts) → IfSome o (λ t. t.arcs ≡ arcs) → IfSome o (λ t. t.layers ≡ ls) →
+    IsSome o ↔ StandInOrder arcs ls → IfSome o (λ t. StandInOrder t.arcs t.layers)
+taken_stands arcs ls (Some t) same_arcs same_layers stand = subst (λ w. w) (λ i. StandInOrder (sym same_arcs i) (sym same_layers i)) (stand.0 refl)
+taken_stands arcs ls None same_arcs same_layers stand = tt

@@ -1,8 +1,11 @@
-use Rattle.std.proofs.Common.{subst}
-use Rattle.std.proofs.lemmas.Result.{IfOk-weaker}
-use Rattle.topo_io.proofs.AsItStands.{said_ids, taken_means}
+use Rattle.topo_io.proofs.AsItStands.{said_ids, taken_means_if}
 use Rattle.topo_io.proofs.topology.read_as_it_stands.Goals as goal
 
 pub taken-requires : goal.taken-requires
 taken-requires c =
     said_ids c.args.bytes.now c.in-Some.parts.grid c.in-Some.parts.arcs.items c.in-Some.parts.layers.items c.in_ok-read_parts.ensures.some
+
+pub returns-in-Some-clause-means : goal.returns-in-Some-clause-means
+returns-in-Some-clause-means c =
+    taken_means_if c.args.bytes.now c.in-Some.parts.grid c.in-Some.parts.arcs.items c.in-Some.parts.layers.items c.in_ok-read_parts.ensures.some c.taken.result
+    c.taken.ensures.grid c.taken.ensures.arcs c.taken.ensures.layers c.taken.ensures.of_map c.taken.ensures.stand
