@@ -1,5 +1,5 @@
 -- A text whose layers stand over its arcs, in order, means a map.
-use Rattle.std.proofs.Common.{◌≡◌, ◌↔◌, ℕ, List, [], ◌∷◌, Option, Some, None, Result, Ok, Err, IfOk, IfSome, IsSome, map as map_list, refl, sym, subst}
+use Rattle.std.proofs.Common.{◌≡◌, ℕ, List, [], ◌∷◌, Option, Some, None, Result, Ok, Err, IfOk, IfSome, map as map_list, refl, sym, subst}
 use Rattle.std.specs.FinMap as map
 use Rattle.std.specs.List.{AllByRecursion}
 use Rattle.grid.specs.Place.{Transform}
@@ -12,7 +12,6 @@ use Rattle.theory.specs.Lists.{Pairwise}
 use Rattle.faults.specs.declared.fault.Fault.{Fault}
 use Rattle.reading.specs.Meant.{AreLayers}
 use Rattle.reading.specs.Plain.{plain}
-use Rattle.chains.specs.Arcs.{Arcs}
 use Rattle.topo.specs.Features.{AreFeaturesOf}
 use Rattle.topo.specs.OfMap.{ArePartsOf, IsOf}
 use Rattle.topo.specs.Parts.{LayerParts, TopologyParts}
@@ -85,9 +84,3 @@ pub taken_means_if : (bytes : List ℕ) (g : Transform) (arcs : List (List Pos))
 taken_means_if bytes g arcs ls s (Ok (Some t)) same_grid same_arcs same_layers of_map stand = taken_means bytes g arcs ls t s same_grid same_arcs same_layers stand of_map
 taken_means_if bytes g arcs ls s (Ok None) same_grid same_arcs same_layers of_map stand = tt
 taken_means_if bytes g arcs ls s (Err e) same_grid same_arcs same_layers of_map stand = tt
-
--- a topology that is taken stands in order
-pub taken_stands : (arcs : Arcs) (ls : List LayerParts) (o : Option TopologyParts) → IfSome o (λ t. t.arcs ≡ arcs) → IfSome o (λ t. t.layers ≡ ls) →
-    IsSome o ↔ StandInOrder arcs ls → IfSome o (λ t. StandInOrder t.arcs t.layers)
-taken_stands arcs ls (Some t) same_arcs same_layers stand = subst (λ w. w) (λ i. StandInOrder (sym same_arcs i) (sym same_layers i)) (stand.0 refl)
-taken_stands arcs ls None same_arcs same_layers stand = tt
