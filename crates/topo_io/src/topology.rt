@@ -5,7 +5,7 @@ ghost use Rattle.reading.specs.Fault.{LeastOrWant};
 ghost use Rattle.topo.specs.OfMap.{ArePartsOf, IsOf};
 ghost use Rattle.shapes.specs.Maps.{Layers};
 ghost use Rattle.taking.specs.Laws.{HaveI64};
-ghost use Rattle.taking.specs.Whole.{StandInOrder, table_of};
+ghost use Rattle.taking.specs.Whole.{StandInOrder};
 ghost use Rattle.topo_io.specs.Means.{MeansTopology};
 ghost use Rattle.topo_io.specs.Roots.{faults_of_text};
 
