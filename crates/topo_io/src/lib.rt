@@ -4,10 +4,12 @@
 pub mod laws;
 pub mod reader;
 pub mod same;
+pub mod topology;
 pub mod writer;
 
 pub use reader::parts::features::map_of_parts;
 pub use reader::parts::{TextParts, read_parts};
 pub use reader::read;
 pub use same::{is_canonical, is_text_of};
+pub use topology::read_topology;
 pub use writer::{text_of, write};
