@@ -16,6 +16,7 @@ ghost use Rattle.chains.specs.Table.{IsTableOf, marked};
 ghost use Rattle.standing.specs.Apart as spec;
 ghost use Rattle.standing.specs.Apart.{IsApart, arc_inside, inside_if, table_read};
 
+use crate::elsewhere::elsewhere_too;
 use chains::table::ArcTable;
 use faults::OutOfMemory;
 use grid::pos::Pos;
@@ -186,12 +187,13 @@ fn is_apart(alloc: Global, table: &ArcTable) -> Result<bool, AllocError>
     if !each_stands(table) {
         return Ok(false);
     }
-    let mut inside = all_inside(alloc, table)?;
-    inside.sort_unstable();
-    if has_twins(&inside) {
+    let inside = all_inside(alloc, table)?;
+    let mut few = elsewhere_too(alloc, table, &inside)?;
+    few.sort_unstable();
+    if has_twins(&few) {
         return Ok(false);
     }
-    Ok(each_apart(&inside, table))
+    Ok(each_apart(&few, table))
 }
 
 /// The table of arcs as they stand, of which those that are marked are free loops; `None` exactly where

@@ -3,6 +3,7 @@
 #![tactic(auto)]
 
 pub mod apart;
+mod elsewhere;
 pub mod laws;
 pub mod lists;
 pub mod marks;
