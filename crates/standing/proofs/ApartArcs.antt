@@ -1,5 +1,5 @@
 -- What the checks tell: whether arcs in order are apart, and that they are then the arcs of their map.
-use Rattle.std.proofs.Common.{◌≡◌, Bool, true, false, cond, not, ◌&&◌, ◌||◌, ◌⊎◌, List, [], ◌∷◌, ◌++◌, reverse, inl, inr, refl, sym, ap, ◌∙◌, subst, arith}
+use Rattle.std.proofs.Common.{◌≡◌, ◌↔◌, Bool, true, false, cond, not, ◌&&◌, ◌||◌, ◌⊎◌, List, [], ◌∷◌, ◌++◌, reverse, inl, inr, refl, sym, ap, ◌∙◌, subst, arith}
 use Rattle.std.specs.List.Sorted.{IsPermutation, IsSorted}
 use Rattle.std.specs.Ordering.{is_lt, is_gt, ordering_reverse}
 use Rattle.std.specs.Cmp.{tied_itself}
@@ -33,9 +33,11 @@ use Rattle.chains.specs.Among.{Tells, among}
 use Rattle.chains.specs.Arcs.{Arcs}
 use Rattle.chains.specs.OfArcs.{table_as_map}
 use Rattle.chains.specs.Table.{IsTableOf, is_loop, is_loop_if}
+use Rattle.chains.specs.Stored.{rises}
 use Rattle.chains.proofs.Among.{among_has, has_among}
+use Rattle.chains.proofs.AsTheyStand.{sorted_told}
 use Rattle.chains.proofs.TablesAsMap.{has_loop, has_open, loop_has, open_has}
-use Rattle.standing.specs.Apart.{arc_apart, arc_inside, begins_least, each_apart, each_stands, ends_apart, has_twins, is_forward, none_before, stands_alone}
+use Rattle.standing.specs.Apart.{AreInOrder, arc_apart, arc_inside, begins_least, each_apart, each_forward, each_stands, ends_apart, has_twins, is_forward, none_before, stands_alone}
 use Rattle.standing.specs.Elsewhere.{KeepsElsewhere}
 use Rattle.standing.proofs.Insides.{insides_of_table}
 use Rattle.standing.proofs.Steps.{all_from, all_has}
@@ -56,6 +58,22 @@ forward_less c e =
 
 less_forward : (c : List Pos) → list_cmp c (reverse c) ≡ Less → is_forward c ≡ true
 less_forward c e = ap is_gt (less_back list_cmp (lists_total position_total) (slice_cmp-IsAntisymmetric position_same) c (reverse c) e)
+
+-- what is told of the order of all arcs
+pub order_told : (arcs : List (List Pos)) (b d : Bool) → b ≡ rises arcs → d ≡ each_forward arcs → b ≡ true → (d ≡ true) ↔ AreInOrder arcs
+order_told arcs b d rising forward e = (
+  (λ h. record {
+      sorted = (sorted_told arcs b rising).0 e;
+      forward = λ c i. forward_less c (all_has is_forward arcs (sym forward ∙ h) c i);
+    }),
+  (λ o. forward ∙ all_from is_forward arcs (λ c i. less_forward c (o.forward c i))),
+)
+
+pub disorder_told : (arcs : List (List Pos)) (b : Bool) → b ≡ rises arcs → b ≡ false → (b ≡ true) ↔ AreInOrder arcs
+disorder_told arcs b rising e = (
+  (λ h. let no : true ≡ false = sym h ∙ e in absurd cc),
+  (λ o. (sorted_told arcs b rising).1 o.sorted),
+)
 
 -- it has two vertices or more, so, closed, it is the ring that it goes round, closed
 closes : (c : List Pos) → is_forward c ≡ true → is_closed position_cmp c ≡ true → c ≡ closed (unclosed c)
