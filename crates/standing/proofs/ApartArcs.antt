@@ -63,9 +63,9 @@ less_forward c e = ap is_gt (less_back list_cmp (lists_total position_total) (sl
 pub order_told : (arcs : List (List Pos)) (b d : Bool) → b ≡ rises arcs → d ≡ each_forward arcs → b ≡ true → (d ≡ true) ↔ AreInOrder arcs
 order_told arcs b d rising forward e = (
   (λ h. record {
-      sorted = (sorted_told arcs b rising).0 e;
-      forward = λ c i. forward_less c (all_has is_forward arcs (sym forward ∙ h) c i);
-    }),
+    sorted = (sorted_told arcs b rising).0 e;
+    forward = λ c i. forward_less c (all_has is_forward arcs (sym forward ∙ h) c i);
+  }),
   (λ o. forward ∙ all_from is_forward arcs (λ c i. less_forward c (o.forward c i))),
 )
 
