@@ -1,5 +1,5 @@
 -- What the checks tell: whether arcs in order are apart, and that they are then the arcs of their map.
-use Rattle.std.proofs.Common.{◌≡◌, Bool, true, false, cond, not, ◌&&◌, ◌||◌, ◌⊎◌, List, [], ◌∷◌, ◌++◌, reverse, inl, inr, refl, sym, ap, ◌∙◌, subst, arith}
+use Rattle.std.proofs.Common.{◌≡◌, ◌↔◌, Bool, true, false, cond, not, ◌&&◌, ◌||◌, ◌⊎◌, List, [], ◌∷◌, ◌++◌, reverse, inl, inr, refl, sym, ap, ◌∙◌, subst, arith}
 use Rattle.std.specs.List.Sorted.{IsPermutation, IsSorted}
 use Rattle.std.specs.Ordering.{is_lt, is_gt, ordering_reverse}
 use Rattle.std.specs.Cmp.{tied_itself}
@@ -7,11 +7,12 @@ use Rattle.std.specs.Cmp.Lexicographic.{lists_total}
 use Rattle.std.specs.FinMap.{slice_cmp-IsAntisymmetric}
 use Rattle.std.specs.declared.cmp.Ordering.{Ordering}
 use Rattle.std.specs.declared.cmp.Ordering.TheVariants.{Less, Equal, Greater}
-use Rattle.std.proofs.lemmas.List.Sorted.{IsPermutation-sym, IsPermutation-trans}
+use Rattle.std.proofs.lemmas.List.Sorted.{IsPermutation-sym}
 use Rattle.grid.specs.declared.pos.Pos.{Pos}
 use Rattle.lines.specs.Positions.{position_total, position_same}
 use Rattle.lines.specs.Reading.{is_closed}
 use Rattle.lines.specs.Turned.{list_cmp, position_cmp}
+use Rattle.lines.proofs.Doubles.{Doubled, doubled_twice, twice_doubled}
 use Rattle.lines.proofs.Positions.{both_intro, both_true}
 use Rattle.lines.proofs.SortedLists.{Has-permutation}
 use Rattle.theory.proofs.Ascending.{at_most_self, greater_back, less_back}
@@ -32,9 +33,12 @@ use Rattle.chains.specs.Among.{Tells, among}
 use Rattle.chains.specs.Arcs.{Arcs}
 use Rattle.chains.specs.OfArcs.{table_as_map}
 use Rattle.chains.specs.Table.{IsTableOf, is_loop, is_loop_if}
+use Rattle.chains.specs.Stored.{rises}
 use Rattle.chains.proofs.Among.{among_has, has_among}
+use Rattle.chains.proofs.AsTheyStand.{sorted_told}
 use Rattle.chains.proofs.TablesAsMap.{has_loop, has_open, loop_has, open_has}
-use Rattle.standing.specs.Apart.{arc_apart, arc_inside, begins_least, each_apart, each_stands, ends_apart, has_twins, is_forward, none_before, stands_alone}
+use Rattle.standing.specs.Apart.{AreInOrder, arc_apart, arc_inside, begins_least, each_apart, each_forward, each_stands, ends_apart, has_twins, is_forward, none_before, stands_alone}
+use Rattle.standing.specs.Elsewhere.{KeepsElsewhere}
 use Rattle.standing.proofs.Insides.{insides_of_table}
 use Rattle.standing.proofs.Steps.{all_from, all_has}
 use Rattle.standing.proofs.Twins.{distinct_from, doubled_moved, not_doubled, twins_doubled, twins_sorted}
@@ -54,6 +58,22 @@ forward_less c e =
 
 less_forward : (c : List Pos) → list_cmp c (reverse c) ≡ Less → is_forward c ≡ true
 less_forward c e = ap is_gt (less_back list_cmp (lists_total position_total) (slice_cmp-IsAntisymmetric position_same) c (reverse c) e)
+
+-- what is told of the order of all arcs
+pub order_told : (arcs : List (List Pos)) (b d : Bool) → b ≡ rises arcs → d ≡ each_forward arcs → b ≡ true → (d ≡ true) ↔ AreInOrder arcs
+order_told arcs b d rising forward e = (
+  (λ h. record {
+    sorted = (sorted_told arcs b rising).0 e;
+    forward = λ c i. forward_less c (all_has is_forward arcs (sym forward ∙ h) c i);
+  }),
+  (λ o. forward ∙ all_from is_forward arcs (λ c i. less_forward c (o.forward c i))),
+)
+
+pub disorder_told : (arcs : List (List Pos)) (b : Bool) → b ≡ rises arcs → b ≡ false → (b ≡ true) ↔ AreInOrder arcs
+disorder_told arcs b rising e = (
+  (λ h. let no : true ≡ false = sym h ∙ e in absurd cc),
+  (λ o. (sorted_told arcs b rising).1 o.sorted),
+)
 
 -- it has two vertices or more, so, closed, it is the ring that it goes round, closed
 closes : (c : List Pos) → is_forward c ≡ true → is_closed position_cmp c ≡ true → c ≡ closed (unclosed c)
@@ -190,19 +210,32 @@ module _ (t : Arcs) where
     pub looked_at : each_stands t.loops t.arcs ≡ true
     looked_at = all_from (λ c. stands_alone (free c) c) t.arcs (λ c h. alone_intro (free c) c (less_forward c (st.forward c h)) (goes_round c h))
 
-  -- the vertices inside, sorted
-  module _ (inside sorted : List Pos) (same : inside ≡ gathered (arc_inside t.loops) t.arcs) (moved : IsPermutation inside sorted) (up : IsSorted position_cmp sorted) where
-    of_map : IsPermutation sorted (insides m)
-    of_map =
-        IsPermutation-trans sorted inside (insides m) (IsPermutation-sym inside sorted moved)
-        (subst (λ w. IsPermutation w (insides m)) (sym same) (insides_of_table t))
+  -- of the vertices inside, those that may stand elsewhere too, sorted
+  module _ (inside few sorted : List Pos) (same : inside ≡ gathered (arc_inside t.loops) t.arcs) (kept : KeepsElsewhere few inside t.arcs) (moved : IsPermutation few sorted)
+      (up : IsSorted position_cmp sorted) where
+    of_map : IsPermutation inside (insides m)
+    of_map = subst (λ w. IsPermutation w (insides m)) (sym same) (insides_of_table t)
+
+    from_map : (v : Pos) → Has v (insides m) → Has v inside
+    from_map v h = Has-permutation (insides m) inside v (IsPermutation-sym inside (insides m) of_map) h
+
+    doubled_few : Doubled (insides m) → Doubled few
+    doubled_few h =
+        let k = doubled_twice inside (doubled_moved (insides m) inside (IsPermutation-sym inside (insides m) of_map) h) in
+        twice_doubled k.0 few (kept.twice k.0 k.1)
+
+    few_doubled : Doubled few → Doubled (insides m)
+    few_doubled h =
+        let k = doubled_twice few h in
+        doubled_moved inside (insides m) of_map (twice_doubled k.0 inside (kept.only_twice k.0 k.1))
 
     pub twins_not_apart : has_twins sorted ≡ true → ¬ ArcsApart position_cmp t.arcs m
-    twins_not_apart e st = not_doubled (insides m) st.once (doubled_moved sorted (insides m) of_map (twins_doubled sorted e))
+    twins_not_apart e st =
+        not_doubled (insides m) st.once (few_doubled (doubled_moved sorted few (IsPermutation-sym few sorted moved) (twins_doubled sorted e)))
 
     no_twins : has_twins sorted ≡ false → Distinct (insides m)
     no_twins e = distinct_from (insides m) (λ h.
-        let k : has_twins sorted ≡ true = twins_sorted sorted up (doubled_moved (insides m) sorted (IsPermutation-sym sorted (insides m) of_map) h) in
+        let k : has_twins sorted ≡ true = twins_sorted sorted up (doubled_moved few sorted moved (doubled_few h)) in
         let q : true ≡ false = sym k ∙ e in absurd cc)
 
     pub apart_intro : Ascends list_cmp t.arcs → each_stands t.loops t.arcs ≡ true → has_twins sorted ≡ false → each_apart sorted t.loops t.arcs ≡ true →
@@ -215,7 +248,7 @@ module _ (t : Arcs) where
       no_end = λ l h v i k.
           let o = open_has t.loops t.arcs l h in
           let q : ends_apart sorted l ≡ true = sym (ap (λ w. w || ends_apart sorted l) o.1) ∙ all_has (arc_apart sorted t.loops) t.arcs a l o.0 in
-          ends_out sorted l q v i (has_among sorted v (Has-permutation (insides m) sorted v (IsPermutation-sym sorted (insides m) of_map) k));
+          ends_out sorted l q v i (has_among sorted v (Has-permutation few sorted v moved (kept.ends l o.0 v i (from_map v k))));
       first = least e;
     }
 
@@ -225,7 +258,7 @@ module _ (t : Arcs) where
         go : (c : List Pos) → Has c t.arcs → (b : Bool) → free c ≡ b → (b || ends_apart sorted c) ≡ true
         go c h true f = refl
         go c h false f = out_ends sorted c (λ v i k. st.no_end c (has_open t.loops t.arcs c h f) v i
-            (Has-permutation sorted (insides m) v of_map (among_has sorted v k)))
+            (Has-permutation inside (insides m) v of_map (kept.only v (Has-permutation sorted few v (IsPermutation-sym few sorted moved) (among_has sorted v k)))))
 
   -- arcs that are apart are those of their map, of which the marked ones are free
   module _ (st : ArcsApart position_cmp t.arcs m) where

@@ -1,6 +1,7 @@
 pub mod Steps
 pub mod Twins
 pub mod Insides
+pub mod ComingAgain
 pub mod ApartArcs
 pub mod Running
 pub mod Once

@@ -2,18 +2,20 @@
 use Rattle.std.specs.Prelude.{◌≡◌, Bool, true, false, cond, not, ◌&&◌, ◌||◌, ◌↔◌, List, [], ◌∷◌, reverse, Option, Some, None}
 use Rattle.std.specs.List.{list_all}
 use Rattle.std.specs.Ordering.{is_lt, is_gt}
+use Rattle.std.specs.declared.cmp.Ordering.TheVariants.{Less}
 use Rattle.grid.specs.declared.pos.Pos.{Pos}
 use Rattle.lines.specs.Pairs.{position_eq}
 use Rattle.lines.specs.Reading.{is_closed}
 use Rattle.lines.specs.Turned.{list_cmp, position_cmp}
 use Rattle.theory.specs.Arcs.{Ascends}
-use Rattle.theory.specs.Lists.{last_of}
+use Rattle.theory.specs.Geometry.{IsSound}
+use Rattle.theory.specs.Lists.{Has, last_of}
 use Rattle.theory.specs.Refinement.{unclosed}
 use Rattle.theory.specs.Standing.{ArcsApart, inner_of}
 use Rattle.chains.specs.Among.{among}
 use Rattle.chains.specs.Arcs.{Arcs}
 use Rattle.chains.specs.OfArcs.{table_as_map}
-use Rattle.chains.specs.Table.{is_loop, marked}
+use Rattle.chains.specs.Table.{IsTableOf, is_loop, marked}
 
 -- arcs as they stand, of which those that are marked are free loops
 abbrev pub table_read : List (List Pos) → List Bool → Arcs
@@ -22,6 +24,15 @@ table_read arcs free = record { arcs = arcs; loops = marked arcs free }
 -- whether the arc comes before its own reverse
 abbrev pub is_forward : List Pos → Bool
 is_forward c = is_gt (list_cmp (reverse c) c)
+
+-- the same of each arc
+abbrev pub each_forward : List (List Pos) → Bool
+each_forward arcs = list_all is_forward arcs
+
+-- each arc comes before those behind it, and before its own reverse
+pub record AreInOrder (arcs : List (List Pos)) : Type 0 where
+  pub sorted : Ascends list_cmp arcs
+  pub forward : (c : List Pos) → Has c arcs → list_cmp c (reverse c) ≡ Less
 
 -- whether no vertex of the list comes before x
 abbrev pub none_before : Pos → List Pos → Bool
@@ -86,3 +97,7 @@ each_apart inside loops arcs = list_all (arc_apart inside loops) arcs
 -- the answer is whether the arcs, where they are in order, are apart
 abbrev pub IsApart : Bool → Arcs → Type 0
 IsApart b t = Ascends list_cmp t.arcs → (b ≡ true) ↔ ArcsApart position_cmp t.arcs (table_as_map t)
+
+-- arcs that are apart are those of the map that has the free loops as its rings and the other arcs as its lines
+abbrev pub ApartArcsAreTheirMaps : Type 0
+ApartArcsAreTheirMaps = (t : Arcs) → ArcsApart position_cmp t.arcs (table_as_map t) → IsSound (table_as_map t) × IsTableOf (table_as_map t) t

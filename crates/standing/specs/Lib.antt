@@ -6,3 +6,4 @@ pub mod Starts
 pub mod Lists
 pub mod Meeting
 pub mod Stands
+pub mod Elsewhere

@@ -1,21 +1,19 @@
 //! Arcs as a text has them, checked: in order, each before its own reverse, and no vertex inside one at
 //! another place.
-ghost use Rattle.std.specs.Prelude.{◌≡◌, ◌↔◌, ◌++◌, cond, slice_get, IfOk, IfSome, IsSome, IsTrue, OnOk};
+ghost use Rattle.std.specs.Prelude.{◌≡◌, ◌↔◌, ◌++◌, cond, slice_get, true, IfOk, OnOk};
 ghost use Rattle.std.specs.List.Sorted.{IsSorted};
 ghost use Rattle.grid.specs.declared.pos.Pos.{Pos};
 ghost use Rattle.lines.specs.Reading as list;
-ghost use Rattle.lines.specs.Turned.{list_cmp, position_cmp};
-ghost use Rattle.theory.specs.Arcs.{Ascends};
-ghost use Rattle.theory.specs.Geometry.{IsSound};
+ghost use Rattle.lines.specs.Turned.{position_cmp};
 ghost use Rattle.theory.specs.Lists.{gathered};
 ghost use Rattle.theory.specs.Refinement.{unclosed};
-ghost use Rattle.theory.specs.Standing.{ArcsApart, inner_of};
+ghost use Rattle.theory.specs.Standing.{inner_of};
 ghost use Rattle.chains.specs.Among.{among};
-ghost use Rattle.chains.specs.OfArcs.{table_as_map};
-ghost use Rattle.chains.specs.Table.{IsTableOf, marked};
+ghost use Rattle.chains.specs.Stored.{rises};
 ghost use Rattle.standing.specs.Apart as spec;
-ghost use Rattle.standing.specs.Apart.{IsApart, arc_inside, inside_if, table_read};
+ghost use Rattle.standing.specs.Apart.{AreInOrder, IsApart, arc_inside, inside_if};
 
+use crate::elsewhere::elsewhere_too;
 use chains::table::ArcTable;
 use faults::OutOfMemory;
 use grid::pos::Pos;
@@ -27,6 +25,43 @@ fn is_forward(arc: &[Pos]) -> bool
     ensures { result ≡ spec.is_forward arc.now }
 {
     arc.iter().rev().cmp(arc.iter()).is_gt()
+}
+
+/// Whether each arc comes before the next.
+fn each_before_next(arcs: &[Items<Pos>]) -> bool
+    ensures { result ≡ rises arcs.now }
+{
+    let Some((first, others)) = arcs.split_first() else {
+        return true;
+    };
+    let mut last = first;
+    for arc in others {
+        if !last.cmp(arc).is_lt() {
+            return false;
+        }
+        last = arc;
+    }
+    true
+}
+
+/// Whether each arc comes before its own reverse.
+fn each_forward(arcs: &[Items<Pos>]) -> bool
+    ensures { result ≡ spec.each_forward arcs.now }
+{
+    for arc in arcs {
+        if !is_forward(arc.as_slice()) {
+            return false;
+        }
+    }
+    true
+}
+
+/// Whether arcs are in order: each before the next, so that each is there once, and before its own
+/// reverse. It is told by their ends alone where no two begin or end alike, and takes no memory.
+pub fn arcs_in_order(arcs: &[Items<Pos>]) -> bool
+    ensures { (result ≡ true) ↔ AreInOrder arcs.now }
+{
+    each_before_next(arcs) && each_forward(arcs)
 }
 
 /// Whether an arc ends where it begins.
@@ -179,45 +214,24 @@ fn each_apart(inside: &[Pos], table: &ArcTable) -> bool
     true
 }
 
-/// Whether the arcs of a table are those of the map that they make, where they are in order.
-fn is_apart(alloc: Global, table: &ArcTable) -> Result<bool, AllocError>
+/// Whether the arcs of a table are apart: each comes before its own reverse; each vertex inside an arc,
+/// and each of a free loop, is at one place of all arcs, and no end of an arc that is no free loop; and
+/// a free loop goes round from its least vertex. Where they are in order too, they are then the arcs of
+/// the map that has the free loops as its rings and the other arcs as its lines.
+///
+/// # Errors
+/// Where memory is refused.
+pub fn is_apart(alloc: Global, table: &ArcTable) -> Result<bool, OutOfMemory>
     ensures { IfOk result (λ b. IsApart b table.now) }
 {
     if !each_stands(table) {
         return Ok(false);
     }
-    let mut inside = all_inside(alloc, table)?;
-    inside.sort_unstable();
-    if has_twins(&inside) {
+    let inside = all_inside(alloc, table)?;
+    let mut few = elsewhere_too(alloc, table, &inside)?;
+    few.sort_unstable();
+    if has_twins(&few) {
         return Ok(false);
     }
-    Ok(each_apart(&inside, table))
-}
-
-/// The table of arcs as they stand, of which those that are marked are free loops; `None` exactly where
-/// they don't stand. They stand where they are in order, each once and before its own reverse; each
-/// vertex inside an arc, and each of a free loop, is at one place of all arcs, and no end of an arc that
-/// is no free loop; and a free loop goes round from its least vertex. Then they are the arcs of the map
-/// that has the free loops as its rings and the other arcs as its lines. Where a mark is missing, the
-/// arc is no free loop.
-///
-/// # Errors
-/// Where memory is refused.
-pub fn arcs_as_read(
-    alloc: Global,
-    arcs: Vec<Items<Pos>>,
-    free: &[bool],
-) -> Result<Option<ArcTable>, OutOfMemory>
-    ensures table { IfOk result (λ o. IfSome o (λ t. t ≡ table_read arcs.items free.now)) }
-    ensures stand { IfOk result (λ o. IsSome o ↔ ArcsApart position_cmp arcs.items (table_as_map (table_read arcs.items free.now))) }
-    ensures of_map { IfOk result (λ o. IfSome o (λ t. IsTableOf (table_as_map t) t)) }
-    ensures sound { IfOk result (λ o. IfSome o (λ t. IsSound (table_as_map t))) }
-{
-    let Some(table) = ArcTable::from_sorted(alloc, arcs, free)? else {
-        return Ok(None);
-    };
-    if is_apart(alloc, &table)? {
-        return Ok(Some(table));
-    }
-    Ok(None)
+    Ok(each_apart(&few, table))
 }

@@ -1,5 +1,12 @@
-//! Laws of lists that stand, each promised by a function that does nothing.
+//! Laws of arcs and lists that stand, each promised by a function that does nothing.
+ghost use Rattle.standing.specs.Apart.{ApartArcsAreTheirMaps};
 ghost use Rattle.standing.specs.Stands as law;
+
+/// Arcs that are apart are those of the map that has the free loops as its rings and the other arcs as
+/// its lines.
+pub fn apart_arcs_are_their_maps()
+    ensures { ApartArcsAreTheirMaps }
+{}
 
 /// Lists that stand over arcs that are apart stitch to the lines and rings of a map.
 #[tactic(auto, using(crate::proofs::Together::lists_make_a_map))]

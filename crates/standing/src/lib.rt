@@ -3,6 +3,7 @@
 #![tactic(auto)]
 
 pub mod apart;
+mod elsewhere;
 pub mod laws;
 pub mod lists;
 pub mod marks;
@@ -11,7 +12,7 @@ pub mod runs;
 pub mod seams;
 mod starts;
 
-pub use apart::arcs_as_read;
+pub use apart::{arcs_in_order, is_apart};
 pub use lists::{line_run, ring_stands};
 pub use marks::ArcsUsed;
 pub use meeting::{add_line_ends, ends_meet};

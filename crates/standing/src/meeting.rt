@@ -78,7 +78,7 @@ fn add_numbered(ends: &mut Vec<Pos>, table: &ArcTable, number: usize) -> Result<
 }
 
 /// The ends of all arcs.
-fn all_ends(alloc: Global, table: &ArcTable) -> Result<Vec<Pos>, AllocError>
+pub(crate) fn all_ends(alloc: Global, table: &ArcTable) -> Result<Vec<Pos>, AllocError>
     ensures { IfOk result (λ v. v.items ≡ gathered both_ends table.now.arcs) }
 {
     let mut ends = Vec::new(alloc);

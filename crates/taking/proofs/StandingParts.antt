@@ -1,13 +1,14 @@
 -- Layers that stand in order are the parts of the topology of a map.
 use Rattle.std.proofs.Common.{◌≡◌, ◌↔◌, Bool, true, false, List, ◌++◌, map as map_list, sym, ap, ◌∙◌}
 use Rattle.grid.specs.declared.pos.Pos.{Pos}
-use Rattle.lines.specs.Turned.{position_cmp}
+use Rattle.lines.specs.Turned.{list_cmp, position_cmp}
 use Rattle.shapes.specs.Maps.{Layers}
+use Rattle.theory.specs.Arcs.{Ascends}
 use Rattle.theory.specs.Lists.{gathered}
 use Rattle.theory.specs.Standing.{ArcsApart}
 use Rattle.chains.specs.Arcs.{Arcs}
 use Rattle.chains.specs.OfArcs.{table_as_map}
-use Rattle.standing.specs.Apart.{table_read}
+use Rattle.standing.specs.Apart.{AreInOrder, IsApart, table_read}
 use Rattle.standing.specs.Meeting.{line_ends}
 use Rattle.standing.specs.Seams.{ends_once, goes_free}
 use Rattle.standing.specs.Stands.{ListsStand}
@@ -31,6 +32,20 @@ table_made arcs seen again ls ends free marks e s a f m =
     ap (table_read arcs)
     (m ∙ f ∙ (λ i. map_list (goes_free (e i ++ gathered ends_once (a i))) (a i))
     ∙ ap (λ w. map_list (goes_free (gathered (line_ends w) (layers_lines ls) ++ gathered ends_once arcs)) arcs) s)
+
+-- where the arcs are not apart, nothing stands
+pub apart_decides : (t : Arcs) (ls : List LayerParts) (b : Bool) → IsApart b t → Ascends list_cmp t.arcs → b ≡ false → (false ≡ true) ↔ StandInOrder t ls
+apart_decides t ls b is sorted e = ((λ h. absurd (no h)), (λ h. sym e ∙ (is sorted).1 h.stand.apart))
+  where
+    no : false ≡ true → ⊥
+    no h = cc
+
+-- where the arcs are not in order, nothing does
+pub order_refuses : (arcs : List (List Pos)) (ls : List LayerParts) (b : Bool) → (b ≡ true) ↔ AreInOrder arcs → b ≡ false → ¬ StandInOrder (table_of arcs ls) ls
+order_refuses arcs ls b told e h =
+    let t : b ≡ true = told.1 (record { sorted = h.stand.apart.sorted; forward = h.stand.apart.forward }) in
+    let no : true ≡ false = sym t ∙ e in
+    cc
 
 module _ (t : Arcs) (ls : List LayerParts) (apart : ArcsApart position_cmp t.arcs (table_as_map t)) where
   -- where the lists stand, the order decides

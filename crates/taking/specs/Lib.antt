@@ -4,3 +4,5 @@ pub mod Laws
 pub mod Added
 pub mod Ends
 pub mod Whole
+pub mod Arcs
+pub mod Taken

@@ -2,13 +2,15 @@
 //! nothing is stitched or built anew.
 #![tactic(auto)]
 
+pub mod arcs;
 pub mod ends;
 pub mod laws;
 pub mod lists;
 pub mod order;
 pub mod whole;
 
+pub use arcs::TextArcs;
 pub use ends::line_ends;
 pub use lists::lists_stand;
 pub use order::in_order;
-pub use whole::take;
+pub use whole::{Taken, take};

@@ -1,14 +1,15 @@
 //! The topology of arcs and layers as a text has them.
-ghost use Rattle.std.specs.Prelude.{◌≡◌, ◌↔◌, ◌<◌, ◌^◌, length, true, IfOk, IfSome, IsSome};
-ghost use Rattle.lines.specs.Turned.{position_cmp};
-ghost use Rattle.theory.specs.Standing.{ArcsApart};
-ghost use Rattle.chains.specs.OfArcs.{table_as_map};
+ghost use Rattle.std.specs.Prelude.{◌≡◌, ◌↔◌, ◌<◌, ◌^◌, length, true, IfOk};
+ghost use Rattle.lines.specs.Turned.{list_cmp};
+ghost use Rattle.theory.specs.Arcs.{Ascends};
 ghost use Rattle.shapes.specs.Maps.{Layers};
 ghost use Rattle.topo.specs.OfMap.{ArePartsOf, IsOf};
 ghost use Rattle.taking.specs.Laws.{HaveI64};
+ghost use Rattle.taking.specs.Taken.{IfNot, IfWhole, IsWhole};
 ghost use Rattle.taking.specs.Whole as spec;
 ghost use Rattle.taking.specs.Whole.{StandInOrder};
 
+use crate::arcs::TextArcs;
 use crate::order::in_order;
 use crate::{line_ends, lists_stand};
 use chains::table::ArcTable;
@@ -16,62 +17,80 @@ use faults::OutOfMemory;
 use grid::Grid;
 use grid::pos::Pos;
 use lines::items::Items;
-use standing::{arcs_as_read, free_loops};
+use standing::{arcs_in_order, free_loops, is_apart};
 use std::alloc::Global;
 use topo::{Layer, Topology};
 
-/// The table of arcs as they stand, of which those are free loops at whose seam no other arc ends and
-/// none of the layers' lines; `None` exactly where the arcs don't stand.
+/// What comes of arcs and layers as a text has them.
+#[derive(Drop)]
+pub enum Taken {
+    /// The topology, where they stand in order.
+    Whole(Topology),
+    /// The arcs and the layers, as they were, where they don't.
+    Not { arcs: TextArcs, layers: Vec<Layer> },
+}
+
+/// The table of arcs in order, of which those are free loops at whose seam no other arc ends and none of
+/// the layers' lines.
 fn table_of(
     alloc: Global,
     arcs: Vec<Items<Pos>>,
     layers: &[Layer],
-) -> Result<Option<ArcTable>, OutOfMemory>
-    ensures table { IfOk result (λ o. IfSome o (λ t. t ≡ spec.table_of arcs.items layers.now)) }
-    ensures stand { IfOk result (λ o. IsSome o ↔ ArcsApart position_cmp arcs.items (table_as_map (spec.table_of arcs.items layers.now))) }
+) -> Result<ArcTable, OutOfMemory>
+    requires { Ascends list_cmp arcs.items }
+    ensures { IfOk result (λ t. t ≡ spec.table_of arcs.items layers.now) }
 {
     let ends = line_ends(alloc, &arcs, layers)?;
     let free = free_loops(alloc, &arcs, ends)?;
-    arcs_as_read(alloc, arcs, &free)
+    match ArcTable::from_sorted(alloc, arcs, &free)? {
+        Some(table) => Ok(table),
+        None => unreachable!(),
+    }
 }
 
-/// Whether layers stand in order over arcs that are apart.
+/// Whether layers stand in order over the arcs of a table, which are in order.
 fn stand_in_order(alloc: Global, table: &ArcTable, layers: &[Layer]) -> Result<bool, OutOfMemory>
-    requires apart { ArcsApart position_cmp table.now.arcs (table_as_map table.now) }
+    requires sorted { Ascends list_cmp table.now.arcs }
     requires ids { HaveI64 layers.now }
     ensures { IfOk result (λ b. (b ≡ true) ↔ StandInOrder table.now layers.now) }
 {
+    if !is_apart(alloc, table)? {
+        return Ok(false);
+    }
     if !lists_stand(alloc, table, layers)? {
         return Ok(false);
     }
     in_order(alloc, table, layers)
 }
 
-/// The topology of a table of arcs that are apart and of layers, where these stand in order over it.
+/// The topology of a table of arcs in order and of layers, where these stand in order over it.
 fn of_table(
     alloc: Global,
     grid: Grid,
     table: ArcTable,
     layers: Vec<Layer>,
-) -> Result<Option<Topology>, OutOfMemory>
-    requires apart { ArcsApart position_cmp table.arcs (table_as_map table) }
+) -> Result<Taken, OutOfMemory>
+    requires sorted { Ascends list_cmp table.arcs }
     requires ids { HaveI64 layers.items }
-    ensures grid { IfOk result (λ o. IfSome o (λ t. t.grid ≡ grid)) }
-    ensures arcs { IfOk result (λ o. IfSome o (λ t. t.arcs ≡ table)) }
-    ensures layers { IfOk result (λ o. IfSome o (λ t. t.layers ≡ layers.items)) }
-    ensures of_map { IfOk result (λ o. IfSome o (λ t. (m : Layers) → ArePartsOf m t.arcs t.layers → IsOf m t)) }
-    ensures few { IfOk result (λ o. IfSome o (λ t. length t.arcs.arcs < 2 ^ 63)) }
-    ensures stand { IfOk result (λ o. IsSome o ↔ StandInOrder table layers.items) }
+    ensures grid { IfOk result (λ o. IfWhole o (λ t. t.grid ≡ grid)) }
+    ensures arcs { IfOk result (λ o. IfWhole o (λ t. t.arcs ≡ table)) }
+    ensures layers { IfOk result (λ o. IfWhole o (λ t. t.layers ≡ layers.items)) }
+    ensures of_map { IfOk result (λ o. IfWhole o (λ t. (m : Layers) → ArePartsOf m t.arcs t.layers → IsOf m t)) }
+    ensures few { IfOk result (λ o. IfWhole o (λ t. length t.arcs.arcs < 2 ^ 63)) }
+    ensures stand { IfOk result (λ o. IsWhole o ↔ StandInOrder table layers.items) }
+    ensures back { IfOk result (λ o. IfNot o (λ cs ls. (cs ≡ table.arcs) × (ls ≡ layers.items))) }
 {
     if !stand_in_order(alloc, &table, &layers)? {
-        return Ok(None);
+        let arcs = TextArcs::from_table(table);
+        return Ok(Taken::Not { arcs, layers });
     }
-    Ok(Some(Topology::from_parts(grid, table, layers)))
+    Ok(Taken::Whole(Topology::from_parts(grid, table, layers)))
 }
 
 /// The topology of arcs and layers as a text has them, where they stand in order: then they are those
-/// of the map that the layers stitch to, and nothing is stitched or built anew. `None` exactly where
-/// they don't stand, or not in order.
+/// of the map that the layers stitch to, and nothing is stitched or built anew. Where they don't stand,
+/// or not in order, they are given back as they were. What takes no memory is asked first: whether the
+/// arcs are in order.
 ///
 /// # Errors
 /// Where memory is refused.
@@ -80,17 +99,20 @@ pub fn take(
     grid: Grid,
     arcs: Vec<Items<Pos>>,
     layers: Vec<Layer>,
-) -> Result<Option<Topology>, OutOfMemory>
+) -> Result<Taken, OutOfMemory>
     requires { HaveI64 layers.items }
-    ensures grid { IfOk result (λ o. IfSome o (λ t. t.grid ≡ grid)) }
-    ensures arcs { IfOk result (λ o. IfSome o (λ t. t.arcs ≡ spec.table_of arcs.items layers.items)) }
-    ensures layers { IfOk result (λ o. IfSome o (λ t. t.layers ≡ layers.items)) }
-    ensures of_map { IfOk result (λ o. IfSome o (λ t. (m : Layers) → ArePartsOf m t.arcs t.layers → IsOf m t)) }
-    ensures few { IfOk result (λ o. IfSome o (λ t. length t.arcs.arcs < 2 ^ 63)) }
-    ensures stand { IfOk result (λ o. IsSome o ↔ StandInOrder (spec.table_of arcs.items layers.items) layers.items) }
+    ensures grid { IfOk result (λ o. IfWhole o (λ t. t.grid ≡ grid)) }
+    ensures arcs { IfOk result (λ o. IfWhole o (λ t. t.arcs ≡ spec.table_of arcs.items layers.items)) }
+    ensures layers { IfOk result (λ o. IfWhole o (λ t. t.layers ≡ layers.items)) }
+    ensures of_map { IfOk result (λ o. IfWhole o (λ t. (m : Layers) → ArePartsOf m t.arcs t.layers → IsOf m t)) }
+    ensures few { IfOk result (λ o. IfWhole o (λ t. length t.arcs.arcs < 2 ^ 63)) }
+    ensures stand { IfOk result (λ o. IsWhole o ↔ StandInOrder (spec.table_of arcs.items layers.items) layers.items) }
+    ensures back { IfOk result (λ o. IfNot o (λ cs ls. (cs ≡ arcs.items) × (ls ≡ layers.items))) }
 {
-    match table_of(alloc, arcs, &layers)? {
-        Some(table) => of_table(alloc, grid, table, layers),
-        None => Ok(None),
+    if !arcs_in_order(&arcs) {
+        let arcs = TextArcs::from_list(arcs);
+        return Ok(Taken::Not { arcs, layers });
     }
+    let table = table_of(alloc, arcs, &layers)?;
+    of_table(alloc, grid, table, layers)
 }

@@ -1,5 +1,6 @@
-use Rattle.std.proofs.Common.{◌≡◌, ◌∙◌, ap, sym}
+use Rattle.std.proofs.Common.{◌≡◌, ◌∙◌, ap, subst, sym}
 use Rattle.standing.specs.Apart.{each_apart, has_twins}
+use Rattle.standing.specs.Elsewhere.{KeepsElsewhere}
 use Rattle.standing.proofs.ApartArcs.{apart_ends, apart_intro, looked_at, twins_not_apart}
 use Rattle.standing.proofs.apart.is_apart.Goals as goal
 
@@ -12,18 +13,19 @@ returns-then-not-each_stands c = λ asc. (
 pub returns-then-has_twins : goal.returns-then-has_twins
 returns-then-has_twins c = λ asc. (
   (λ h. absurd cc),
-  (λ st. absurd (twins_not_apart c.args.table.now c.in_ok-inside.inside.items c.sort_unstable.new.self.items c.in_ok-inside.ensures
+  (λ st. absurd (twins_not_apart c.args.table.now c.in_ok-inside.inside.items c.in_ok-few.few.items c.sort_unstable.new.self.items c.in_ok-inside.ensures (subst (λ l. KeepsElsewhere c.in_ok-few.few.items l c.args.table.now.arcs) c.deref.ensures.value c.in_ok-few.ensures)
       c.sort_unstable.ensures.permutation c.sort_unstable.ensures.sorted
-      (sym (c.has_twins.ensures ∙ ap has_twins c.deref.ensures.value) ∙ c.if-has_twins.true) st)),
+      (sym (c.has_twins.ensures ∙ ap has_twins c.deref-2.ensures.value) ∙ c.if-has_twins.true) st)),
 )
 
 pub returns : goal.returns
 returns c = λ asc.
     let t = c.args.table.now in
     let sorted = c.sort_unstable.new.self.items in
-    let told : c.each_apart.result ≡ each_apart sorted t.loops t.arcs = c.each_apart.ensures ∙ ap (λ w. each_apart w t.loops t.arcs) c.deref-2.ensures.value in (
-      (λ h. apart_intro t c.in_ok-inside.inside.items sorted c.in_ok-inside.ensures c.sort_unstable.ensures.permutation c.sort_unstable.ensures.sorted asc
+    let few : KeepsElsewhere c.in_ok-few.few.items c.in_ok-inside.inside.items t.arcs = subst (λ l. KeepsElsewhere c.in_ok-few.few.items l t.arcs) c.deref.ensures.value c.in_ok-few.ensures in
+    let told : c.each_apart.result ≡ each_apart sorted t.loops t.arcs = c.each_apart.ensures ∙ ap (λ w. each_apart w t.loops t.arcs) c.deref-3.ensures.value in (
+      (λ h. apart_intro t c.in_ok-inside.inside.items c.in_ok-few.few.items sorted c.in_ok-inside.ensures few c.sort_unstable.ensures.permutation c.sort_unstable.ensures.sorted asc
           (sym c.each_stands.ensures ∙ c.if-not-each_stands.false)
-          (sym (c.has_twins.ensures ∙ ap has_twins c.deref.ensures.value) ∙ c.if-has_twins.false) (sym told ∙ h)),
-      (λ st. told ∙ apart_ends t c.in_ok-inside.inside.items sorted c.in_ok-inside.ensures c.sort_unstable.ensures.permutation c.sort_unstable.ensures.sorted st),
+          (sym (c.has_twins.ensures ∙ ap has_twins c.deref-2.ensures.value) ∙ c.if-has_twins.false) (sym told ∙ h)),
+      (λ st. told ∙ apart_ends t c.in_ok-inside.inside.items c.in_ok-few.few.items sorted c.in_ok-inside.ensures few c.sort_unstable.ensures.permutation c.sort_unstable.ensures.sorted st),
     )
