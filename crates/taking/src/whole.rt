@@ -32,11 +32,7 @@ pub enum Taken {
 
 /// The table of arcs in order, of which those are free loops at whose seam no other arc ends and none of
 /// the layers' lines.
-fn table_of(
-    alloc: Global,
-    arcs: Vec<Items<Pos>>,
-    layers: &[Layer],
-) -> Result<ArcTable, OutOfMemory>
+fn table_of(alloc: Global, arcs: Vec<Items<Pos>>, layers: &[Layer]) -> Result<ArcTable, OutOfMemory>
     requires { Ascends list_cmp arcs.items }
     ensures { IfOk result (λ t. t ≡ spec.table_of arcs.items layers.now) }
 {

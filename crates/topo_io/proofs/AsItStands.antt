@@ -1,5 +1,5 @@
 -- A text whose layers stand over its arcs, in order, means a map.
-use Rattle.std.proofs.Common.{◌≡◌, ℕ, List, [], ◌∷◌, Option, Some, None, Result, Ok, Err, IfOk, IfSome, map as map_list, refl, sym, subst}
+use Rattle.std.proofs.Common.{◌≡◌, ◌↔◌, ℕ, List, [], ◌∷◌, map as map_list, refl, sym, subst}
 use Rattle.std.specs.FinMap as map
 use Rattle.std.specs.List.{AllByRecursion}
 use Rattle.grid.specs.Place.{Transform}
@@ -9,7 +9,6 @@ use Rattle.shapes.specs.Maps.{Features, Layers}
 use Rattle.shapes.specs.Sets as set
 use Rattle.shapes.specs.declared.feature.Feature.{Feature}
 use Rattle.theory.specs.Lists.{Pairwise}
-use Rattle.faults.specs.declared.fault.Fault.{Fault}
 use Rattle.reading.specs.Meant.{AreLayers}
 use Rattle.reading.specs.Plain.{plain}
 use Rattle.topo.specs.Features.{AreFeaturesOf}
@@ -17,7 +16,10 @@ use Rattle.topo.specs.OfMap.{ArePartsOf, IsOf}
 use Rattle.topo.specs.Parts.{LayerParts, TopologyParts}
 use Rattle.topo.specs.declared.geom.Geom.{Geom}
 use Rattle.taking.specs.Laws.{HaveI64, IsStitched}
-use Rattle.taking.specs.Whole.{StandInOrder}
+use Rattle.taking.specs.Taken.{IfWhole, IsWhole}
+use Rattle.taking.specs.Whole.{StandInOrder, table_of}
+use Rattle.taking.specs.declared.whole.Taken.{Taken}
+use Rattle.taking.specs.declared.whole.Taken.TheVariants.{Whole}
 use Rattle.taking.proofs.PairsGathered.{pairs_with}
 use Rattle.taking.proofs.PartsOfMaps.{layers_are_the_maps}
 use Rattle.taking.proofs.StitchedMaps.{layers_make_a_map}
@@ -70,17 +72,17 @@ as_it_stands bytes g t ls s stand order =
 
 -- a topology of a text's parts, which stand in order, is what the text means
 pub taken_means : (bytes : List ℕ) (g : Transform) (arcs : List (List Pos)) (ls : List LayerParts) (t : TopologyParts) → AreSaid bytes g arcs ls →
-    t.grid ≡ g → t.arcs.arcs ≡ arcs → t.layers ≡ ls → StandInOrder t.arcs t.layers → ((m : Layers) → ArePartsOf m t.arcs t.layers → IsOf m t) → MeansTopology bytes t
-taken_means bytes g arcs ls t s same_grid same_arcs same_layers stand of_map =
-    let said : AreSaid bytes t.grid t.arcs.arcs t.layers = subst (λ w. w) (λ i. AreSaid bytes (sym same_grid i) (sym same_arcs i) (sym same_layers i)) s in
-    let (m, means, parts) = as_it_stands bytes t.grid t.arcs t.layers said stand.stand stand.order in
+    t.grid ≡ g → t.arcs ≡ table_of arcs ls → t.layers ≡ ls → StandInOrder (table_of arcs ls) ls → ((m : Layers) → ArePartsOf m t.arcs t.layers → IsOf m t) → MeansTopology bytes t
+taken_means bytes g arcs ls t s same_grid same_table same_layers stand of_map =
+    let said : AreSaid bytes t.grid t.arcs.arcs t.layers = subst (λ w. w) (λ i. AreSaid bytes (sym same_grid i) (sym same_table i).arcs (sym same_layers i)) s in
+    let stands : StandInOrder t.arcs t.layers = subst (λ w. w) (λ i. StandInOrder (sym same_table i) (sym same_layers i)) stand in
+    let (m, means, parts) = as_it_stands bytes t.grid t.arcs t.layers said stands.stand stands.order in
     (m, means, of_map m parts)
 
--- the same of what is told where there is one
-pub taken_means_if : (bytes : List ℕ) (g : Transform) (arcs : List (List Pos)) (ls : List LayerParts) → AreSaid bytes g arcs ls → (r : Result (Option TopologyParts) Fault) →
-    IfOk r (λ o. IfSome o (λ t. t.grid ≡ g)) → IfOk r (λ o. IfSome o (λ t. t.arcs.arcs ≡ arcs)) → IfOk r (λ o. IfSome o (λ t. t.layers ≡ ls)) →
-    IfOk r (λ o. IfSome o (λ t. (m : Layers) → ArePartsOf m t.arcs t.layers → IsOf m t)) → IfOk r (λ o. IfSome o (λ t. StandInOrder t.arcs t.layers)) →
-    IfOk r (λ o. IfSome o (MeansTopology bytes))
-taken_means_if bytes g arcs ls s (Ok (Some t)) same_grid same_arcs same_layers of_map stand = taken_means bytes g arcs ls t s same_grid same_arcs same_layers stand of_map
-taken_means_if bytes g arcs ls s (Ok None) same_grid same_arcs same_layers of_map stand = tt
-taken_means_if bytes g arcs ls s (Err e) same_grid same_arcs same_layers of_map stand = tt
+-- the same of what is answered, where that is a topology
+pub whole_means : (bytes : List ℕ) (g : Transform) (arcs : List (List Pos)) (ls : List LayerParts) → AreSaid bytes g arcs ls → (o : Taken) (t : TopologyParts) → o ≡ Whole t →
+    IfWhole o (λ t. t.grid ≡ g) → IfWhole o (λ t. t.arcs ≡ table_of arcs ls) → IfWhole o (λ t. t.layers ≡ ls) → IsWhole o ↔ StandInOrder (table_of arcs ls) ls →
+    IfWhole o (λ t. (m : Layers) → ArePartsOf m t.arcs t.layers → IsOf m t) → MeansTopology bytes t
+whole_means bytes g arcs ls s o t e grid table layers stand of_map =
+    taken_means bytes g arcs ls t s (subst (λ w. IfWhole w (λ t. t.grid ≡ g)) e grid) (subst (λ w. IfWhole w (λ t. t.arcs ≡ table_of arcs ls)) e table)
+    (subst (λ w. IfWhole w (λ t. t.layers ≡ ls)) e layers) (stand.0 (subst IsWhole (sym e) tt)) (subst (λ w. IfWhole w (λ t. (m : Layers) → ArePartsOf m t.arcs t.layers → IsOf m t)) e of_map)

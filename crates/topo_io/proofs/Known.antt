@@ -53,7 +53,7 @@ module _ (loose all : Data → List Pair) (P : Data → Type 0) (more : (d : Dat
   member_known : (n : List ℕ) (d : Data) → member_faults n loose d ≡ [] → P (member_or_null n d) → member_faults n all d ≡ []
   member_known n d e h = ap (under (name n)) (there_known (get n d) (under_none (name n) _ e) h)
 
-object_known : (loose all : List Pair) (o : Option Members) → object_faults loose o ≡ [] → (loose ≡ [] → all ≡ []) → object_faults all o ≡ []
+pub object_known : (loose all : List Pair) (o : Option Members) → object_faults loose o ≡ [] → (loose ≡ [] → all ≡ []) → object_faults all o ≡ []
 object_known loose all None e more = e
 object_known loose all (Some ms) e more = more e
 
@@ -183,7 +183,7 @@ module _ (arcs : List (List Pos)) where
 
 -- ---- the root
 
-arcs_there : (l : Limits) (o : Option Data) → there (list_faults (arc_faults l)) o ≡ [] → arcs_if_there l o ≡ known (arcs_of (unwrap_or o null))
+pub arcs_there : (l : Limits) (o : Option Data) → there (list_faults (arc_faults l)) o ≡ [] → arcs_if_there l o ≡ known (arcs_of (unwrap_or o null))
 arcs_there l None e = cc
 arcs_there l (Some d) e = array_known l d (as_array d) refl e
 

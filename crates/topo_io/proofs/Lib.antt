@@ -18,3 +18,4 @@ pub mod Each
 pub mod Features
 pub mod Entries
 pub mod AsItStands
+pub mod Loose

@@ -1,12 +1,13 @@
 -- Arcs put one after the other.
-use Rattle.std.proofs.Common.{◌≡◌, ℕ, ◌<◌, ◌+◌, Bool, true, false, List, [], ◌∷◌, ◌++◌, length, map, drop, get_or, reverse, Option, Some, None, OnOk, if◌then◌else◌, refl, sym, ap, ◌∙◌, subst, arith}
+use Rattle.std.proofs.Common.{◌≡◌, ℕ, zero, suc, cond, slice_get, ◌<◌, ◌+◌, Bool, true, false, List, [], ◌∷◌, ◌++◌, length, map, drop, get_or, reverse, Option, Some, None, OnOk, if◌then◌else◌, refl, sym, ap, ◌∙◌, subst, arith}
 use Rattle.std.proofs.lemmas.List.{reverse-append, drop_more, drop_all}
 use Rattle.faults.specs.Fault.{Pair}
 use Rattle.faults.specs.declared.fault.Fault.{Fault}
 use Rattle.faults.specs.declared.fault.FaultKind.TheVariants.{OutOfMemory, Broken}
 use Rattle.grid.specs.declared.pos.Pos.{Pos}
 use Rattle.reading.specs.Fault.{LeastOrWant, here}
-use Rattle.topo_io.specs.Arcs.{meets, onto, stitched_onto, stitched_faults}
+use Rattle.theory.specs.ArcNumbers.{ArcRef}
+use Rattle.topo_io.specs.Arcs.{along, meets, onto, stitched_onto, stitched_faults}
 
 pub meets_empty : (c : List Pos) → meets [] c ≡ true
 meets_empty [] = refl
@@ -51,3 +52,16 @@ broken_at of l c cs f apart told = record {
 -- the used arcs that are left, the first apart
 pub used_more : {U : Type 0} (g : U → List Pos) (us : List U) (i : ℕ) (u : U) → i < length us → u ≡ get_or us i u → map g (drop i us) ≡ g u ∷ map g (drop (i + 1) us)
 used_more g us i u less is = rw (drop_more us i u less, ← is) refl
+
+-- past the last arc there are no positions
+past_last : (arcs : List (List Pos)) (n : ℕ) → None ≡ slice_get arcs n → get_or arcs n [] ≡ []
+past_last [] n e = refl
+past_last (c ∷ arcs) zero e = absurd cc
+past_last (c ∷ arcs) (suc n) e = past_last arcs n e
+
+pub along_none : (arcs : List (List Pos)) (u : ArcRef) → None ≡ slice_get arcs u.arc → along arcs u ≡ []
+along_none arcs u e = go u.reversed
+  where
+    go : (b : Bool) → cond b (reverse (get_or arcs u.arc [])) (get_or arcs u.arc []) ≡ []
+    go true = ap reverse (past_last arcs u.arc e)
+    go false = past_last arcs u.arc e

@@ -41,6 +41,7 @@ use shapes::feature::Feature;
 use shapes::feature_map::FeatureMap;
 use shapes::layer::feature_set;
 use std::alloc::Global;
+use taking::TextArcs;
 
 /// Layers by name, each with the features that its geometries mean.
 type Layers = Vec<(String, Vec<Feature>)>;
@@ -99,9 +100,10 @@ fn read_layers(alloc: Global, limits: &Limits, value: &Value) -> Result<Layers, 
     ensures err { IfErr result (λ f. LeastOrWant (content_faults limits.now (view value.now)) f) }
 {
     let of = ArcOf { limits: *limits };
-    let arcs = read_member(alloc, &Listed { of }, value, "arcs")?;
+    let listed = read_member(alloc, &Listed { of }, value, "arcs")?;
+    let arcs = TextArcs::from_list(listed.into_vec());
     let on = Ground {
-        arcs: arcs.as_slice(),
+        arcs: &arcs,
         limits: *limits,
     };
     read_objects(alloc, &on, value)
@@ -151,7 +153,7 @@ fn read_members(alloc: Global, value: &Value) -> Result<(Grid, Layers), Fault>
     }
 }
 
-fn read_root(alloc: Global, value: &Value) -> Result<(Grid, Layers), Fault>
+pub(crate) fn read_root(alloc: Global, value: &Value) -> Result<(Grid, Layers), Fault>
     ensures ok { OnOk result (topology_faults (view value.now) ≡ []) }
     ensures grid { IfOk result (λ made. made.0 ≡ grid_of (view value.now)) }
     ensures layers { IfOk result (λ made. map_list plain_layer made.1.items ≡ layers_of (view value.now)) }
@@ -168,7 +170,7 @@ fn read_root(alloc: Global, value: &Value) -> Result<(Grid, Layers), Fault>
 }
 
 // The value is dropped at the end, before the map is made.
-fn read_text(alloc: Global, bytes: &[u8]) -> Result<(Grid, Layers), Fault>
+pub(crate) fn read_text(alloc: Global, bytes: &[u8]) -> Result<(Grid, Layers), Fault>
     ensures ok { OnOk result (faults_of_text bytes.now ≡ []) }
     ensures grid { IfOk result (λ made. made.0 ≡ grid_of_text bytes.now) }
     ensures layers { IfOk result (λ made. map_list plain_layer made.1.items ≡ layers_of_text bytes.now) }

@@ -1,4 +1,4 @@
-//! Whether bytes are the canonical text of a topology, with no memory.
+//! Whether bytes are the canonical text of a topology; the comparison takes no memory.
 
 ghost use Rattle.std.specs.Prelude.{◌≡◌, ◌≢◌, ◌↔◌, ℕ, ◌<◌, ◌≤◌, ◌++◌, length, take, drop, List, [], IfOk, IfErr, OnErr, OnOk, Some, None, IsTrue, slice_index, true, false};
 ghost use Rattle.sinks.specs.Seen.{Seen};
@@ -13,9 +13,9 @@ ghost use Rattle.topo_io.specs.Means.{Means};
 ghost use Rattle.topo_io.specs.Roots.{faults_of_text};
 ghost use Rattle.topo_io.specs.Front.{taken, is_next, may_have_failed, IsCommon};
 
-use crate::read;
+use crate::topology::read_topology;
 use crate::writer::Canonical;
-use faults::{Fault, FaultKind, OutOfMemory};
+use faults::Fault;
 use sinks::written::Written;
 use sinks::{Refused, Sink, WriteFault};
 use std::alloc::Global;
@@ -106,9 +106,6 @@ pub fn is_canonical(alloc: Global, bytes: &[u8]) -> Result<bool, Fault>
     ensures ok { OnOk result (faults_of_text bytes.now ≡ []) }
     ensures err { IfErr result (λ f. LeastOrWant (faults_of_text bytes.now) f) }
 {
-    let (grid, map) = read(alloc, bytes)?;
-    match Topology::build(alloc, &grid, &map) {
-        Ok(topology) => Ok(is_text_of(&topology, bytes)),
-        Err(OutOfMemory) => Err(Fault::here(alloc, FaultKind::OutOfMemory)),
-    }
+    let topology = read_topology(alloc, bytes)?;
+    Ok(is_text_of(&topology, bytes))
 }

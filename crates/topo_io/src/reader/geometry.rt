@@ -9,8 +9,6 @@ ghost use Rattle.topo_io.specs.Geometries.{body_name as name_of_body, body_fault
 use crate::reader::position::{Limits, Position};
 use crate::reader::stitching::{IndexOf, LineOf, RingOf};
 use faults::fault::{Fault, FaultKind};
-use grid::pos::Pos;
-use lines::items::Items;
 use reading::geometry::GeometryType;
 use reading::info::read_info;
 use reading::part::{Listed, Part, read_member, type_fault};
@@ -18,6 +16,7 @@ use serde_json::Value;
 use shapes::feature::Feature;
 use shapes::shape::Shape;
 use std::alloc::Global;
+use taking::TextArcs;
 
 fn text_or_null(value: &Value) -> Result<Option<&str>, FaultKind>
     ensures ok { IfOk result (λ s. text_or_null_of (view value.now) ≡ Ok (option_map (λ t. t.now) s)) }
@@ -44,7 +43,7 @@ pub fn type_or_null(value: &Value) -> Result<Option<&str>, FaultKind>
 /// What geometries stand on: the topology's arcs, and the limits of positions.
 #[derive(Clone, Copy)]
 pub struct Ground<'a> {
-    pub arcs: &'a [Items<Pos>],
+    pub arcs: &'a TextArcs,
     pub limits: Limits,
 }
 

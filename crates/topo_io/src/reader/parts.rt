@@ -1,6 +1,6 @@
 //! The parts of a topology as its text has them: its grid, its arcs, and its geometries with their
 //! lists of arcs, before these are stitched.
-ghost use Rattle.std.specs.Prelude.{◌≡◌, ◌≢◌, [], ◌++◌, length, map as map_list, IfOk, IfErr, OnOk, IfSome, IfNone, codes};
+ghost use Rattle.std.specs.Prelude.{◌≡◌, ◌≢◌, [], ◌++◌, length, map as map_list, IfOk, IfErr, OnOk, codes};
 ghost use Rattle.std.specs.List.{AllByRecursion};
 ghost use Rattle.theory.specs.Lists.{Distinct};
 ghost use Rattle.serde_json.specs.Data.{Data};
@@ -14,13 +14,14 @@ ghost use Rattle.reading.specs.Parts.{member_faults, list_faults};
 ghost use Rattle.reading.specs.Info.{member_or_null};
 ghost use Rattle.topo_io.specs.Limits.{limits_on};
 ghost use Rattle.topo_io.specs.Arcs.{counted, arc_faults, arcs_of};
-ghost use Rattle.topo_io.specs.Roots.{objects_faults, limits_of, transform_of, transform_faults, grid_of};
+ghost use Rattle.topo_io.specs.Roots.{objects_faults, limits_of, transform_of, transform_faults, topology_faults, grid_of, faults_of_text};
 ghost use Rattle.topo_io.specs.Parts.{named_geoms, layer_of_geoms, names_of_geoms, LayerStored, geoms_if_object, geoms_of, loose_content, loose_transformed, loose_topology, loose_faults, AreSaid, FaultyOrWant};
 
 pub mod body;
 pub mod features;
 pub mod layer;
 
+use crate::reader;
 use crate::reader::arc::ArcOf;
 use crate::reader::parts::body::Extent;
 use crate::reader::parts::layer::LayerWithin;
@@ -182,30 +183,47 @@ fn read_root(alloc: Global, value: &Value) -> Result<TextParts, Fault>
     }
 }
 
-// The value is dropped at the end.
-fn read_text(alloc: Global, bytes: &[u8]) -> Result<TextParts, Fault>
-    ensures ok { IfOk result (λ p. AreSaid bytes.now p.grid p.arcs.items p.layers.items) }
-    ensures err { IfErr result (FaultyOrWant (loose_faults bytes.now)) }
+// Where a text's parts have a fault, its features have one: the least of these is told.
+fn least_fault(alloc: Global, value: &Value) -> Fault
+    requires { topology_faults (view value.now) ≢ [] }
+    ensures { LeastOrWant (topology_faults (view value.now)) result }
 {
-    let value = document(alloc, bytes)?;
-    read_root(alloc, &value)
+    match reader::read_root(alloc, value) {
+        Ok(_) => unreachable!(),
+        Err(fault) => fault,
+    }
+}
+
+fn read_value(alloc: Global, value: &Value) -> Result<TextParts, Fault>
+    ensures ok { OnOk result (loose_topology (view value.now) ≡ []) }
+    ensures grid { IfOk result (λ p. p.grid ≡ grid_of (view value.now)) }
+    ensures arcs { IfOk result (λ p. p.arcs.items ≡ arcs_of (member_or_null (codes "arcs") (view value.now))) }
+    ensures layers { IfOk result (λ p. map_list layer_of_geoms p.layers.items ≡ geoms_of (view value.now)) }
+    ensures ids { OnOk result (AllByRecursion LayerStored (geoms_of (view value.now))) }
+    ensures distinct { IfOk result (λ p. Distinct (map_list (λ l. spelled_text l.name) p.layers.items)) }
+    ensures loose { IfErr result (FaultyOrWant (loose_topology (view value.now))) }
+    ensures err { IfErr result (λ f. LeastOrWant (topology_faults (view value.now)) f) }
+{
+    match read_root(alloc, value) {
+        Ok(parts) => Ok(parts),
+        Err(fault) => match fault.kind {
+            FaultKind::OutOfMemory => Err(fault),
+            _ => Err(least_fault(alloc, value)),
+        },
+    }
 }
 
 /// The parts of a topology's text, where all that is not known of it is what its lists of arcs stitch
-/// to; `None` exactly where the text has a fault that is known without stitching.
+/// to. The value that the text is read to is given up before the parts are answered.
 ///
 /// # Errors
-/// `OutOfMemory` at the root.
-pub fn read_parts(alloc: Global, bytes: &[u8]) -> Result<Option<TextParts>, Fault>
-    ensures some { IfOk result (λ o. IfSome o (λ p. AreSaid bytes.now p.grid p.arcs.items p.layers.items)) }
-    ensures none { IfOk result (λ o. IfNone o (loose_faults bytes.now ≢ [])) }
-    ensures err { IfErr result IsWant }
+/// Exactly where the text has a fault that is known without stitching; then it is the least fault of
+/// the text, by path and then by number. `OutOfMemory` at the root.
+pub fn read_parts(alloc: Global, bytes: &[u8]) -> Result<TextParts, Fault>
+    ensures ok { IfOk result (λ p. AreSaid bytes.now p.grid p.arcs.items p.layers.items) }
+    ensures loose { IfErr result (FaultyOrWant (loose_faults bytes.now)) }
+    ensures err { IfErr result (λ f. LeastOrWant (faults_of_text bytes.now) f) }
 {
-    match read_text(alloc, bytes) {
-        Ok(parts) => Ok(Some(parts)),
-        Err(fault) => match fault.kind {
-            FaultKind::OutOfMemory => Err(fault),
-            _ => Ok(None),
-        },
-    }
+    let value = document(alloc, bytes)?;
+    read_value(alloc, &value)
 }

@@ -16,7 +16,6 @@ ghost use Rattle.topo_io.specs.Stitching.{StitchToLine, StitchToRing, line_along
 use chains::ArcRef;
 use faults::fault::{Fault, FaultKind};
 use grid::pos::Pos;
-use lines::items::Items;
 use lines::line::Line;
 use lines::ring::Ring;
 use reading::number::whole_number;
@@ -24,11 +23,12 @@ use reading::outline;
 use reading::part::{Part, keep, read_list};
 use serde_json::Value;
 use std::alloc::Global;
+use taking::TextArcs;
 
 /// An index of one of the arcs.
 #[derive(Clone, Copy)]
 pub struct IndexOf<'a> {
-    pub arcs: &'a [Items<Pos>],
+    pub arcs: &'a TextArcs,
 }
 
 #[tactic(auto, using(crate::proofs::Indexes::number_of_index, crate::proofs::Indexes::along_index))]
@@ -142,7 +142,7 @@ fn append_reversed(alloc: Global, list: &mut Vec<Pos>, arc: &[Pos]) -> Result<()
 fn append_used(
     alloc: Global,
     list: &mut Vec<Pos>,
-    arcs: &[Items<Pos>],
+    arcs: &TextArcs,
     used: ArcRef,
 ) -> Result<(), Fault>
     ensures meets { OnOk result (meets list.old.items (along arcs.now used) ≡ true) }
@@ -150,12 +150,12 @@ fn append_used(
     ensures broken { IfErr result (λ f. f.kind ≢ OutOfMemory → meets list.old.items (along arcs.now used) ≡ false) }
     ensures err { IfErr result (λ f. LeastOrWant (here Broken) f) }
 {
-    match arcs.get(used.arc) {
+    match arcs.arc(used.arc) {
         Some(arc) => {
             if used.reversed {
-                append_reversed(alloc, list, arc.as_slice())
+                append_reversed(alloc, list, arc)
             } else {
-                append(alloc, list, arc.as_slice())
+                append(alloc, list, arc)
             }
         }
         None => Ok(()),
@@ -163,7 +163,7 @@ fn append_used(
 }
 
 /// The arcs one after the other, one of two equal ends dropped.
-fn stitch(alloc: Global, arcs: &[Items<Pos>], used: &[ArcRef]) -> Result<Vec<Pos>, Fault>
+fn stitch(alloc: Global, arcs: &TextArcs, used: &[ArcRef]) -> Result<Vec<Pos>, Fault>
     ensures made { IfOk result (λ l. stitched (map (along arcs.now) used.now) ≡ Some l.items) }
     ensures err { IfErr result (λ f. (of : List Pos → List Pair) → LeastOrWant (stitched_faults of (stitched (map (along arcs.now) used.now))) f) }
 {
@@ -175,11 +175,7 @@ fn stitch(alloc: Global, arcs: &[Items<Pos>], used: &[ArcRef]) -> Result<Vec<Pos
 }
 
 /// The line that used arcs stitch to.
-pub(crate) fn stitched_line(
-    alloc: Global,
-    arcs: &[Items<Pos>],
-    used: &[ArcRef],
-) -> Result<Line, Fault>
+pub(crate) fn stitched_line(alloc: Global, arcs: &TextArcs, used: &[ArcRef]) -> Result<Line, Fault>
     ensures ok { OnOk result (StitchToLine arcs.now used.now) }
     ensures made { IfOk result (λ l. positions_of l ≡ line_along arcs.now used.now) }
     ensures err { IfErr result (λ f. LeastOrWant (stitched_faults line_faults (stitched (map (along arcs.now) used.now))) f) }
@@ -189,11 +185,7 @@ pub(crate) fn stitched_line(
 }
 
 /// The ring that used arcs stitch to, closed.
-pub(crate) fn stitched_ring(
-    alloc: Global,
-    arcs: &[Items<Pos>],
-    used: &[ArcRef],
-) -> Result<Ring, Fault>
+pub(crate) fn stitched_ring(alloc: Global, arcs: &TextArcs, used: &[ArcRef]) -> Result<Ring, Fault>
     ensures ok { OnOk result (StitchToRing arcs.now used.now) }
     ensures made { IfOk result (λ r. vertices_of r ≡ ring_along arcs.now used.now) }
     ensures err { IfErr result (λ f. LeastOrWant (stitched_faults ring_faults (stitched (map (along arcs.now) used.now))) f) }

@@ -14,32 +14,32 @@ use Rattle.topo_io.specs.Roots.{arcs_in, objects_faults, content_faults, layers_
 use Rattle.topo_io.proofs.Roots.{arcs_known, append_none}
 use Rattle.topo_io.proofs.reader.read_layers.Goals as goal
 
-pub returns-in_err-arcs-clause-err : goal.returns-in_err-arcs-clause-err
-returns-in_err-arcs-clause-err c =
-    let part : LeastOrWant (content_faults c.args.limits.now (view c.args.value.now)) c.in_err-arcs.field-0.0 = first_of (name (codes "arcs")) _ _ c.in_err-arcs.field-0.0 c.in_err-arcs.ensures.err (after_under _ (name (codes "objects")) _ refl) in
+pub returns-in_err-listed-clause-err : goal.returns-in_err-listed-clause-err
+returns-in_err-listed-clause-err c =
+    let part : LeastOrWant (content_faults c.args.limits.now (view c.args.value.now)) c.in_err-listed.field-0.0 = first_of (name (codes "arcs")) _ _ c.in_err-listed.field-0.0 c.in_err-listed.ensures.err (after_under _ (name (codes "objects")) _ refl) in
     search (rules, part)
 
 pub returns-clause-ok : goal.returns-clause-ok
 returns-clause-ok c =
     let l = c.args.limits.now in
     let v = view c.args.value.now in
-    let m = c.in_ok-arcs.ensures.made in
-    let arcs = c.as_slice.ensures ∙ zip_is arc_of (elements m.0) c.in_ok-arcs.arcs m.2 in
-    let is : arcs_in l v ≡ known c.as_slice.result.now = arcs_known l v m.0 m.1 c.in_ok-arcs.ensures.ok ∙ ap known (sym arcs) in
-    on_ok_map c.read_objects.result _ _ c.read_objects.ensures.ok (λ a. append_none _ _ c.in_ok-arcs.ensures.ok (subst (λ k. member_faults (codes "objects") (objects_faults l k) v ≡ []) (sym is) a))
+    let m = c.in_ok-listed.ensures.made in
+    let arcs = c.from_list-arcs.ensures ∙ c.into_vec.ensures ∙ zip_is arc_of (elements m.0) c.in_ok-listed.listed m.2 in
+    let is : arcs_in l v ≡ known c.from_list-arcs.result = arcs_known l v m.0 m.1 c.in_ok-listed.ensures.ok ∙ ap known (sym arcs) in
+    on_ok_map c.read_objects.result _ _ c.read_objects.ensures.ok (λ a. append_none _ _ c.in_ok-listed.ensures.ok (subst (λ k. member_faults (codes "objects") (objects_faults l k) v ≡ []) (sym is) a))
 
 pub returns-clause-made : goal.returns-clause-made
 returns-clause-made c =
     let v = view c.args.value.now in
-    let m = c.in_ok-arcs.ensures.made in
-    let arcs = c.as_slice.ensures ∙ zip_is arc_of (elements m.0) c.in_ok-arcs.arcs m.2 ∙ ap arcs_of (sym (member_there (codes "arcs") v m.0 m.1)) in
+    let m = c.in_ok-listed.ensures.made in
+    let arcs = c.from_list-arcs.ensures ∙ c.into_vec.ensures ∙ zip_is arc_of (elements m.0) c.in_ok-listed.listed m.2 ∙ ap arcs_of (sym (member_there (codes "arcs") v m.0 m.1)) in
     ok_map c.read_objects.result _ _ c.read_objects.ensures.made (λ ls b. b ∙ ap (λ arcs. layers_if_object arcs (as_object (member_or_null (codes "objects") v))) arcs)
 
 pub returns-clause-err : goal.returns-clause-err
 returns-clause-err c =
     let l = c.args.limits.now in
     let v = view c.args.value.now in
-    let m = c.in_ok-arcs.ensures.made in
-    let arcs = c.as_slice.ensures ∙ zip_is arc_of (elements m.0) c.in_ok-arcs.arcs m.2 in
-    let is : arcs_in l v ≡ known c.as_slice.result.now = arcs_known l v m.0 m.1 c.in_ok-arcs.ensures.ok ∙ ap known (sym arcs) in
-    err_map c.read_objects.result _ _ c.read_objects.ensures.err (λ f h. rest_of _ _ f c.in_ok-arcs.ensures.ok (subst (λ k. LeastOrWant (member_faults (codes "objects") (objects_faults l k) v) f) (sym is) h))
+    let m = c.in_ok-listed.ensures.made in
+    let arcs = c.from_list-arcs.ensures ∙ c.into_vec.ensures ∙ zip_is arc_of (elements m.0) c.in_ok-listed.listed m.2 in
+    let is : arcs_in l v ≡ known c.from_list-arcs.result = arcs_known l v m.0 m.1 c.in_ok-listed.ensures.ok ∙ ap known (sym arcs) in
+    err_map c.read_objects.result _ _ c.read_objects.ensures.err (λ f h. rest_of _ _ f c.in_ok-listed.ensures.ok (subst (λ k. LeastOrWant (member_faults (codes "objects") (objects_faults l k) v) f) (sym is) h))

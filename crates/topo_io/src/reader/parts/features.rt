@@ -21,7 +21,6 @@ use crate::reader::stitching::{stitched_line, stitched_ring};
 use chains::ArcRef;
 use faults::OutOfMemory;
 use faults::fault::{Fault, FaultKind};
-use grid::pos::Pos;
 use lines::items::Items;
 use lines::line::Line;
 use lines::ring::Ring;
@@ -30,13 +29,10 @@ use shapes::feature::Feature;
 use shapes::feature_map::FeatureMap;
 use shapes::shape::{Id, Shape};
 use std::alloc::Global;
+use taking::TextArcs;
 use topo::{Body, Geom, Layer};
 
-fn lines_of(
-    alloc: Global,
-    arcs: &[Items<Pos>],
-    lists: &[Items<ArcRef>],
-) -> Result<Items<Line>, Fault>
+fn lines_of(alloc: Global, arcs: &TextArcs, lists: &[Items<ArcRef>]) -> Result<Items<Line>, Fault>
     ensures ok { OnOk result (AllByRecursion (StitchToLine arcs.now) lists.now) }
     ensures made { IfOk result (λ ls. map_list positions_of ls ≡ map_list (line_along arcs.now) lists.now) }
     ensures err { IfErr result (NotOrWant (AllByRecursion (StitchToLine arcs.now) lists.now)) }
@@ -49,11 +45,7 @@ fn lines_of(
     Ok(Items::from_vec(lines))
 }
 
-fn rings_of(
-    alloc: Global,
-    arcs: &[Items<Pos>],
-    lists: &[Items<ArcRef>],
-) -> Result<Items<Ring>, Fault>
+fn rings_of(alloc: Global, arcs: &TextArcs, lists: &[Items<ArcRef>]) -> Result<Items<Ring>, Fault>
     ensures ok { OnOk result (AllByRecursion (StitchToRing arcs.now) lists.now) }
     ensures made { IfOk result (λ rs. map_list vertices_of rs ≡ map_list (ring_along arcs.now) lists.now) }
     ensures err { IfErr result (NotOrWant (AllByRecursion (StitchToRing arcs.now) lists.now)) }
@@ -68,7 +60,7 @@ fn rings_of(
 
 fn polygons_of(
     alloc: Global,
-    arcs: &[Items<Pos>],
+    arcs: &TextArcs,
     polygons: &[Items<Items<ArcRef>>],
 ) -> Result<Items<Items<Ring>>, Fault>
     ensures ok { OnOk result (AllByRecursion (AllByRecursion (StitchToRing arcs.now)) polygons.now) }
@@ -83,7 +75,7 @@ fn polygons_of(
     Ok(Items::from_vec(made))
 }
 
-fn shape_of(alloc: Global, arcs: &[Items<Pos>], body: Body) -> Result<Shape, Fault>
+fn shape_of(alloc: Global, arcs: &TextArcs, body: Body) -> Result<Shape, Fault>
     ensures ok { OnOk result (BodyStitches arcs.now (body_of body)) }
     ensures made { IfOk result (λ s. plain_form s ≡ form_along arcs.now (body_of body)) }
     ensures err { IfErr result (NotOrWant (BodyStitches arcs.now (body_of body))) }
@@ -112,7 +104,7 @@ fn judge_id(id: &Id)
     }
 }
 
-fn feature_of(alloc: Global, arcs: &[Items<Pos>], geometry: Geom) -> Result<Feature, Fault>
+fn feature_of(alloc: Global, arcs: &TextArcs, geometry: Geom) -> Result<Feature, Fault>
     ensures ok { OnOk result (GeomStitches arcs.now (plain_geom geometry)) }
     ensures made { IfOk result (λ f. plain f ≡ feature_along arcs.now (plain_geom geometry)) }
     ensures err { IfErr result (NotOrWant (GeomStitches arcs.now (plain_geom geometry))) }
@@ -123,11 +115,7 @@ fn feature_of(alloc: Global, arcs: &[Items<Pos>], geometry: Geom) -> Result<Feat
     Ok(Feature { id, props, shape })
 }
 
-fn features_of(
-    alloc: Global,
-    arcs: &[Items<Pos>],
-    geometries: Vec<Geom>,
-) -> Result<Vec<Feature>, Fault>
+fn features_of(alloc: Global, arcs: &TextArcs, geometries: Vec<Geom>) -> Result<Vec<Feature>, Fault>
     ensures ok { OnOk result (AllByRecursion (GeomStitches arcs.now) (map_list plain_geom geometries.items)) }
     ensures made { IfOk result (λ fs. map_list plain fs.items ≡ map_list (feature_along arcs.now) (map_list plain_geom geometries.items)) }
     ensures err { IfErr result (NotOrWant (AllByRecursion (GeomStitches arcs.now) (map_list plain_geom geometries.items))) }
@@ -150,11 +138,7 @@ fn name_of(alloc: Global, text: &str) -> Result<String, Fault>
     }
 }
 
-fn layer_of(
-    alloc: Global,
-    arcs: &[Items<Pos>],
-    layer: Layer,
-) -> Result<(String, Vec<Feature>), Fault>
+fn layer_of(alloc: Global, arcs: &TextArcs, layer: Layer) -> Result<(String, Vec<Feature>), Fault>
     ensures ok { OnOk result (LayerStitches arcs.now (layer_of_geoms layer)) }
     ensures made { IfOk result (λ l. plain_layer l ≡ layer_along arcs.now (layer_of_geoms layer)) }
     ensures err { IfErr result (NotOrWant (LayerStitches arcs.now (layer_of_geoms layer))) }
@@ -167,7 +151,7 @@ fn layer_of(
 
 fn layers_of(
     alloc: Global,
-    arcs: &[Items<Pos>],
+    arcs: &TextArcs,
     layers: Vec<Layer>,
 ) -> Result<Vec<(String, Vec<Feature>)>, Fault>
     ensures ok { OnOk result (AllByRecursion (LayerStitches arcs.now) (map_list layer_of_geoms layers.items)) }
@@ -182,7 +166,7 @@ fn layers_of(
     Ok(named)
 }
 
-fn stitched_map(alloc: Global, arcs: &[Items<Pos>], layers: Vec<Layer>) -> Result<FeatureMap, Fault>
+fn stitched_map(alloc: Global, arcs: &TextArcs, layers: Vec<Layer>) -> Result<FeatureMap, Fault>
     ensures ok { IfOk result (λ m. (bytes : List ℕ) (g : Transform) → AreSaid bytes g arcs.now layers.items → Means bytes g m) }
     ensures err { IfErr result (NotOrWant (AllByRecursion (LayerStitches arcs.now) (map_list layer_of_geoms layers.items))) }
 {
@@ -198,7 +182,7 @@ fn stitched_map(alloc: Global, arcs: &[Items<Pos>], layers: Vec<Layer>) -> Resul
 /// Where memory is refused.
 pub fn map_of_parts(
     alloc: Global,
-    arcs: &[Items<Pos>],
+    arcs: &TextArcs,
     layers: Vec<Layer>,
 ) -> Result<Option<FeatureMap>, OutOfMemory>
     ensures some { IfOk result (λ o. IfSome o (λ m. (bytes : List ℕ) (g : Transform) → AreSaid bytes g arcs.now layers.items → Means bytes g m)) }
