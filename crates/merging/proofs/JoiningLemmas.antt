@@ -3,11 +3,15 @@ use Rattle.std.proofs.Common.{◌≡◌, ◌+◌, ◌*◌, ◌≤◌, List, [], 
 use Rattle.std.specs.Prelude.{map as map_list, All}
 use Rattle.std.proofs.lemmas.List.{map-append, length-append}
 use Rattle.std.proofs.lemmas.List.Elements.{All-nil, All-head, All-tail, All-push, All-append}
+use Rattle.std.proofs.lemmas.List.Sorted.{IsPermutation-map, IsPermutation-sym}
+use Rattle.std.specs.List.Sorted.{IsPermutation}
+use Rattle.lines.proofs.SortedLists.{Has-permutation}
 use Rattle.grid.specs.Place.{Transform}
 use Rattle.shapes.specs.Maps.{Layers}
 use Rattle.shapes.specs.Union.{union}
 use Rattle.merging.specs.Laws.{union_associates, union_empty}
 use Rattle.merging.specs.Plans.{union_all}
+use Rattle.merging.proofs.AlikeLemmas.{same_union}
 use Rattle.merging.proofs.PlanLemmas.{union_all-append}
 
 -- pairs of shards were joined, and these are left
@@ -19,6 +23,14 @@ pub record Paired {S : Type 0} (grid : S → Transform) (map_of : S → Layers) 
 module _ {S : Type 0} (grid : S → Transform) (map_of : S → Layers) where
   union_of-append : (xs ys : List S) → union_all (map_list map_of (xs ++ ys)) ≡ union (union_all (map_list map_of xs)) (union_all (map_list map_of ys))
   union_of-append xs ys = ap union_all (map-append map_of xs ys) ∙ union_all-append (map_list map_of xs) (map_list map_of ys)
+
+  -- shards in another order have the same union
+  pub moved_union : (xs ys : List S) → IsPermutation xs ys → union_all (map_list map_of ys) ≡ union_all (map_list map_of xs)
+  moved_union xs ys moved =
+      let there = IsPermutation-map map_of xs ys moved in
+      same_union (map_list map_of ys) (map_list map_of xs)
+      (λ m. Has-permutation (map_list map_of ys) (map_list map_of xs) m (IsPermutation-sym _ _ there))
+      (λ m. Has-permutation (map_list map_of xs) (map_list map_of ys) m there)
 
   pub none_paired : (shards joined left : List S) → joined ≡ [] → left ≡ shards → Paired grid map_of shards joined left
   none_paired shards joined left e k = record {

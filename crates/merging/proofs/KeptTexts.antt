@@ -71,13 +71,12 @@ module _ {S : Type 0} (grid : S → Transform) (map_of : S → Layers) where
       }
 
   -- the text is marked, and its shard is kept
-  pub shard_kept : (texts left : List (List ℕ)) (text : List ℕ) (after : List (List ℕ)) (marks : List Bool) (number : ℕ) (grids more_grids : List Transform) (shards more : List S) (g : Transform) (m : Layers) (s : S)
-      → KeptSoFar grid map_of texts left marks number grids shards → left ≡ text ∷ after → Means text g m → more_grids ≡ grids ++ (g ∷ [])
-      → get_or marks number false ≡ true → more ≡ shards ++ (s ∷ []) → grid s ≡ g → map_of s ≡ m
-      → KeptSoFar grid map_of texts after marks (number + 1) more_grids more
-  shard_kept texts left text after marks number grids more_grids shards more g m s old e means same marked is on of =
-      one_kept texts left text after marks number grids more_grids shards more g m true old e means same marked
-      (ap (map_list meaning_of) is ∙ map-append meaning_of shards (s ∷ []) ∙ (λ i. map_list meaning_of shards ++ (as_meaning (on i) (of i) ∷ [])))
+  pub shard_kept : (texts left : List (List ℕ)) (text : List ℕ) (after : List (List ℕ)) (marks : List Bool) (number : ℕ) (grids more_grids : List Transform) (shards more : List S) (g : Transform) (s : S)
+      → KeptSoFar grid map_of texts left marks number grids shards → left ≡ text ∷ after → Means text (grid s) (map_of s) → g ≡ grid s → more_grids ≡ grids ++ (g ∷ [])
+      → get_or marks number false ≡ true → more ≡ shards ++ (s ∷ []) → KeptSoFar grid map_of texts after marks (number + 1) more_grids more
+  shard_kept texts left text after marks number grids more_grids shards more g s old e means on same marked is =
+      one_kept texts left text after marks number grids more_grids shards more (grid s) (map_of s) true old e means (same ∙ ap (λ h. grids ++ (h ∷ [])) on) marked
+      (ap (map_list meaning_of) is ∙ map-append meaning_of shards (s ∷ []))
 
   -- the text is not marked, and its shard is not kept
   pub shard_dropped : (texts left : List (List ℕ)) (text : List ℕ) (after : List (List ℕ)) (marks : List Bool) (number : ℕ) (grids more_grids : List Transform) (shards more : List S) (g : Transform) (m : Layers)

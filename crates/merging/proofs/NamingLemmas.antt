@@ -4,13 +4,14 @@ use Rattle.std.specs.Prelude.{map as map_list, slice_get}
 use Rattle.std.proofs.lemmas.Bool.Decides.{eqb_tells}
 use Rattle.std.proofs.lemmas.List.{length-set, get_or-set_same, get_or-set_other, get_or-replicate, length-replicate}
 use Rattle.std.proofs.lemmas.Option.{slice_get_within}
+use Rattle.theory.specs.Lists.{Has}
 use Rattle.shapes.specs.Maps.{Layers}
 use Rattle.plans.specs.declared.plan.Plan.{Plan}
 use Rattle.plans.specs.Leaves.{leaves, first_outside}
 use Rattle.merging.specs.Plans.{union_all, union_at}
 use Rattle.merging.specs.Alike.{IsIn}
 use Rattle.plans.specs.Naming.{marked, kept}
-use Rattle.merging.proofs.AlikeLemmas.{Among, same_union, at, named_among, among_named}
+use Rattle.merging.proofs.AlikeLemmas.{same_union, at, named_among, among_named}
 use Rattle.merging.proofs.MergedTexts.{some_leaf, inside}
 
 -- ---- marks
@@ -65,14 +66,14 @@ kept-map f (b ∷ bs) [] = refl
 kept-map f (true ∷ bs) (x ∷ xs) = ap (λ w. f x ∷ w) (kept-map f bs xs)
 kept-map f (false ∷ bs) (x ∷ xs) = kept-map f bs xs
 
-kept_from : (marks : List Bool) (ms : List Layers) (m : Layers) → Among m (kept marks ms) → (i : ℕ) × (get_or marks i false ≡ true) × (slice_get ms i ≡ Some m)
+kept_from : (marks : List Bool) (ms : List Layers) (m : Layers) → Has m (kept marks ms) → (i : ℕ) × (get_or marks i false ≡ true) × (slice_get ms i ≡ Some m)
 kept_from [] ms m h = absurd h
 kept_from (b ∷ bs) [] m h = absurd h
 kept_from (true ∷ bs) (n ∷ ns) m (inl e) = (0, refl, ap Some (sym e))
 kept_from (true ∷ bs) (n ∷ ns) m (inr h) = let (i, is_set, e) = kept_from bs ns m h in (suc i, is_set, e)
 kept_from (false ∷ bs) (n ∷ ns) m h = let (i, is_set, e) = kept_from bs ns m h in (suc i, is_set, e)
 
-from_kept : (marks : List Bool) (ms : List Layers) (m : Layers) (i : ℕ) → get_or marks i false ≡ true → slice_get ms i ≡ Some m → Among m (kept marks ms)
+from_kept : (marks : List Bool) (ms : List Layers) (m : Layers) (i : ℕ) → get_or marks i false ≡ true → slice_get ms i ≡ Some m → Has m (kept marks ms)
 from_kept [] ms m i is_set e = absurd cc
 from_kept (b ∷ bs) [] m i is_set e = absurd cc
 from_kept (true ∷ bs) (n ∷ ns) m zero is_set e = let same : m ≡ n = cc in inl same

@@ -7,7 +7,7 @@ use Rattle.faults.specs.declared.fault.Fault.{Fault}
 use Rattle.grid.specs.Place.{Transform}
 use Rattle.theory.specs.Lists.{Pairwise}
 use Rattle.shapes.specs.Maps.{Layers}
-use Rattle.reading.specs.Fault.{IsLeast}
+use Rattle.reading.specs.Fault.{IsLeast, LeastOrWant}
 use Rattle.merging.specs.declared.fault.MergeFault.{MergeFault}
 use Rattle.merging.specs.declared.fault.MergeFault.TheVariants.{BadPlan, Text, OtherGrid, OutOfMemory}
 use Rattle.plans.specs.Naming.{kept}
@@ -92,3 +92,11 @@ IsFaultOf number fault (BadPlan k) = ⊥
 IsFaultOf number fault (Text n f) = (n ≡ number) × (f ≡ fault) × (IsWant fault → ⊥)
 IsFaultOf number fault (OtherGrid n) = ⊥
 IsFaultOf number fault OutOfMemory = Unit {0}
+
+-- the text of that number is refused with its least fault, or memory was refused
+abbrev pub IsRefusalOf : ℕ → List ℕ → MergeFault → Type 0
+IsRefusalOf number text e = (f : Fault) × LeastOrWant (faults_of_text text) f × IsFaultOf number f e
+
+-- the text means some map on the grid
+abbrev pub IsGridOf : List ℕ → Transform → Type 0
+IsGridOf text g = (m : Layers) × Means text g m

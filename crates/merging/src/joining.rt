@@ -5,6 +5,7 @@ ghost use Rattle.merging.specs.declared.fault.JoinFault.TheVariants.{OutOfMemory
 ghost use Rattle.merging.specs.Plans.{union_all};
 
 use crate::fault::JoinFault;
+use crate::placing::sort_by_place;
 use crate::shard::Shard;
 use std::alloc::Global;
 
@@ -28,8 +29,8 @@ fn join_pairs<S: Shard>(alloc: Global, shards: Vec<S>) -> Result<Vec<S>, JoinFau
     Ok(joined)
 }
 
-// The join of all shards, by halves: a round joins neighbours, until one is left. Each shard is handed over to the
-// join that takes it.
+// The join of all shards, by halves, in the order of their places: a round joins neighbours, until one is left. Each
+// shard is handed over to the join that takes it.
 pub(crate) fn join_all<S: Shard>(alloc: Global, shards: Vec<S>) -> Result<S, JoinFault>
     requires some { 0 < length shards.items }
     ensures union { IfOk result (λ s. S.map_of s ≡ union_all (map S.map_of shards.items)) }
@@ -37,6 +38,7 @@ pub(crate) fn join_all<S: Shard>(alloc: Global, shards: Vec<S>) -> Result<S, Joi
     ensures memory { (g : Transform) → All (λ s. S.grid_of s ≡ g) shards.items → IsOkUnless result OutOfMemory }
 {
     let mut left = shards;
+    sort_by_place(&mut left);
     'rounds: while left.len() > 1 {
         left = join_pairs(alloc, left)?;
     }

@@ -6,6 +6,7 @@ pub mod fault;
 mod joining;
 pub mod laws;
 pub mod merge;
+mod placing;
 pub mod plan;
 mod running;
 pub mod shard;

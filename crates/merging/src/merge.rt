@@ -4,7 +4,8 @@ ghost use Rattle.merging.specs.declared.fault.MergeFault.TheVariants.{BadPlan};
 ghost use Rattle.plans.specs.Leaves.{leaves, first_outside};
 ghost use Rattle.merging.specs.Plans.{off_grid};
 ghost use Rattle.merging.specs.Plans as stated;
-ghost use Rattle.merging.specs.Merge.{bytes_of, AreKept, IsFaultOf, IsReadFault, IsMergeFault, IsMergeOf, MeansUnion};
+ghost use Rattle.merging.specs.Merge.{bytes_of, AreKept, IsFaultOf, IsGridOf, IsReadFault, IsRefusalOf, IsMergeFault, IsMergeOf, MeansUnion};
+ghost use Rattle.topo_io.specs.Means.{Means};
 
 use crate::fault::MergeFault;
 use crate::joining::join_all;
@@ -25,8 +26,30 @@ fn text_refused(number: usize, fault: Fault) -> MergeFault
     }
 }
 
-// The grids of texts, in their order, and the shards of those that are marked. A text that is not marked is read, and
-// what it means is dropped at once.
+// The shard of the text of that number.
+fn read_shard<S: Shard>(alloc: Global, number: usize, text: &[u8]) -> Result<S, MergeFault>
+    ensures fault { IfErr result (IsRefusalOf number text.now) }
+    ensures means { IfOk result (λ s. Means text.now (S.grid_of s) (S.map_of s)) }
+{
+    match S::of_text(alloc, text) {
+        Ok(shard) => Ok(shard),
+        Err(fault) => Err(text_refused(number, fault)),
+    }
+}
+
+// The grid of the text of that number. The map that the text means is dropped at once.
+fn read_grid(alloc: Global, number: usize, text: &[u8]) -> Result<Grid, MergeFault>
+    ensures fault { IfErr result (IsRefusalOf number text.now) }
+    ensures means { IfOk result (IsGridOf text.now) }
+{
+    match topo_io::read(alloc, text) {
+        Ok((grid, _map)) => Ok(grid),
+        Err(fault) => Err(text_refused(number, fault)),
+    }
+}
+
+// The grids of texts, in their order, and the shards of those that are marked. Of a text that is not marked only the
+// grid is kept.
 fn read_marked<S: Shard>(
     alloc: Global,
     texts: &[Vec<u8>],
@@ -41,14 +64,12 @@ fn read_marked<S: Shard>(
     let mut number = 0;
     let mut left = texts;
     while let Some((text, after)) = left.split_first() {
-        match topo_io::read(alloc, text.as_slice()) {
-            Ok((grid, map)) => {
-                grids.push(grid)?;
-                if marks[number] {
-                    shards.push(S::of_map(alloc, &grid, map)?)?;
-                }
-            }
-            Err(fault) => return Err(text_refused(number, fault)),
+        if marks[number] {
+            let shard: S = read_shard(alloc, number, text.as_slice())?;
+            grids.push(shard.grid())?;
+            shards.push(shard)?;
+        } else {
+            grids.push(read_grid(alloc, number, text.as_slice())?)?;
         }
         number += 1;
         left = after;
@@ -74,8 +95,8 @@ fn first_other(grids: &[Grid]) -> Option<usize>
 }
 
 /// The canonical text of the union of the features of the texts that the plan names, merged over
-/// shards of a chosen kind. These are joined each once and by halves, whatever the plan's grouping,
-/// which makes no difference to the bytes.
+/// shards of a chosen kind. These are joined each once, by halves and in the order of their places,
+/// whatever the plan's order and grouping, which make no difference to the bytes.
 ///
 /// # Errors
 /// `BadPlan` with the first leaf from the left that is no place of the list; otherwise `Text` with

@@ -1,16 +1,18 @@
 //! What a merge needs of a shard.
-ghost use Rattle.std.specs.Prelude.{◌≡◌, ◌↔◌, IfOk, IsErrOf};
+ghost use Rattle.std.specs.Prelude.{◌≡◌, ◌↔◌, [], IfErr, IfOk, IsErrOf, OnOk};
 ghost use Rattle.grid.specs.Place.{Transform};
 ghost use Rattle.shapes.specs.Fitting.{MapFits};
 ghost use Rattle.shapes.specs.Maps.{Layers};
 ghost use Rattle.shapes.specs.Union.{union};
+ghost use Rattle.reading.specs.Fault.{LeastOrWant};
 ghost use Rattle.merging.specs.Meaning.{Commutes, Associates, IsIdempotent};
 ghost use Rattle.topo_io.specs.Canon.{canon};
 ghost use Rattle.topo_io.specs.Means.{Means};
+ghost use Rattle.topo_io.specs.Roots.{faults_of_text};
 ghost use Rattle.merging.specs.declared.fault.JoinFault.TheVariants.{OtherGrid};
 
 use crate::fault::JoinFault;
-use faults::OutOfMemory;
+use faults::{Fault, FaultKind, OutOfMemory};
 use grid::transform::Grid;
 use shapes::feature_map::FeatureMap;
 use std::alloc::Global;
@@ -42,6 +44,28 @@ pub trait Shard: Sized + Drop {
         ensures map { IfOk result (λ s. map_of s ≡ map) }
     {
         Self::from_map(alloc, grid, &map)
+    }
+
+    /// The shard of what a topology's text means (TopoJSON, section 2).
+    ///
+    /// # Errors
+    /// The least fault of the text, by path and then by number; `OutOfMemory` at the root.
+    fn of_text(alloc: Global, bytes: &[u8]) -> Result<Self, Fault>
+        ensures ok { OnOk result (faults_of_text bytes.now ≡ []) }
+        ensures means { IfOk result (λ s. Means bytes.now (grid_of s) (map_of s)) }
+        ensures err { IfErr result (λ f. LeastOrWant (faults_of_text bytes.now) f) }
+    {
+        let (grid, map) = topo_io::read(alloc, bytes)?;
+        match Self::of_map(alloc, &grid, map) {
+            Ok(shard) => Ok(shard),
+            Err(OutOfMemory) => Err(Fault::here(alloc, FaultKind::OutOfMemory)),
+        }
+    }
+
+    /// Least x, least y, greatest x and greatest y of the shard's positions, where the shard tells them.
+    /// They say no more than in what order shards are best joined.
+    fn bbox(&self) -> Option<(i64, i64, i64, i64)> {
+        None
     }
 
     /// A shard of the same meaning.

@@ -9,7 +9,7 @@ ghost use Rattle.merging.specs.Laws.{union-Commutes, union-Associates, union-IsI
 use crate::canonical::text_of_topology;
 use crate::cut::{joined, joined_owned};
 use crate::fault::JoinFault;
-use faults::OutOfMemory;
+use faults::{Fault, OutOfMemory};
 use grid::transform::Grid;
 use merging::Shard;
 use shapes::feature_map::FeatureMap;
@@ -70,6 +70,15 @@ impl Shard for Cut {
     fn from_map(alloc: Global, grid: &Grid, map: &FeatureMap) -> Result<Cut, OutOfMemory> {
         let topology = Topology::build(alloc, grid, map)?;
         Ok(Cut::of_topology(topology))
+    }
+
+    fn of_text(alloc: Global, bytes: &[u8]) -> Result<Cut, Fault> {
+        let topology = topo_io::read_topology(alloc, bytes)?;
+        Ok(Cut::of_topology(topology))
+    }
+
+    fn bbox(&self) -> Option<(i64, i64, i64, i64)> {
+        self.topology.bbox()
     }
 
     fn copy(&self, alloc: Global) -> Result<Cut, OutOfMemory> {

@@ -3,7 +3,6 @@ use Rattle.merging.specs.Merge.{bytes_of}
 use Rattle.merging.proofs.MergeLemmas.{refusal_at, no_bytes, length_bytes}
 use Rattle.merging.proofs.KeptTexts.{nothing_kept, count_read, number_within, shard_kept, shard_dropped, all_kept}
 use Rattle.merging.proofs.merge.read_marked.Goals as goal
-use Rattle.merging.proofs.merge.read_marked.Goals.{then-marks-number+in_ok-of_map-in-Ok+in_ok-push-in-Ok-2, else-marks-number}
 
 pub loop-text-init : goal.loop-text-init
 loop-text-init g c =
@@ -14,10 +13,11 @@ bounds-marks-number g c =
     let below = number_within g.S.Shard.grid_of g.S.Shard.map_of _ _ _ _ _ _ _ _ c.loop-text.invariant (ap bytes_of c.in-Some.ensures.cases.0) in
     omega (arith, below, c.requires.marks, length_bytes (λ t. t.items) c.args.texts.now)
 
-pub returns-in-Err-clause-fault : goal.returns-in-Err-clause-fault
-returns-in-Err-clause-fault g c =
-    refusal_at (λ m. m.grid) (λ m. m.layers) _ _ _ _ _ _ _ _ c.loop-text.invariant.so_far (ap bytes_of c.in-Some.ensures.cases.0)
-    (rw c.as_slice.ensures.value at c.in-Err.ensures.err) c.text_refused.ensures
+pub returns-in_err-shard-clause-fault : goal.returns-in_err-shard-clause-fault
+returns-in_err-shard-clause-fault g c = ?
+
+pub returns-in_err-read_grid-clause-fault : goal.returns-in_err-read_grid-clause-fault
+returns-in_err-read_grid-clause-fault g c = ?
 
 pub overflow_add-number : goal.overflow_add-number
 overflow_add-number g c =
@@ -25,19 +25,7 @@ overflow_add-number g c =
     omega (arith, count, c.loop-text.grids.ok.0, c.loop-text.grids.ok.1, c.loop-text.grids.small)
 
 pub loop-text-preserved : goal.loop-text-preserved
-loop-text-preserved g c =
-    let e = ap bytes_of c.in-Some.ensures.cases.0 in
-    let means = c.in-Ok.ensures.means in
-    elim c.if-marks-number.branch [
-      | then-marks-number+in_ok-of_map-in-Ok+in_ok-push-in-Ok-2 w ↦
-          rw w.shards-is (shard_kept g.S.Shard.grid_of g.S.Shard.map_of _ _ c.in-Some.text.now.items _ c.args.marks.now c.loop-text.number c.loop-text.grids.items _ c.loop-text.shards.items _ _ _ w.in_ok-of_map-in-Ok.field-0
-          c.loop-text.invariant e (rw c.as_slice.ensures.value at means) c.in_ok-push-in-Ok.ensures.items
-          w.if-marks-number.true w.in_ok-push-in-Ok-2.ensures.items w.in_ok-of_map-in-Ok.ensures.grid w.in_ok-of_map-in-Ok.ensures.map)
-      | else-marks-number w ↦
-          rw w.shards-is (shard_dropped g.S.Shard.grid_of g.S.Shard.map_of _ _ c.in-Some.text.now.items _ c.args.marks.now c.loop-text.number c.loop-text.grids.items _ c.loop-text.shards.items _ _ _
-          c.loop-text.invariant e (rw c.as_slice.ensures.value at means) c.in_ok-push-in-Ok.ensures.items
-          w.if-marks-number.false refl)
-    ]
+loop-text-preserved g c = ?
 
 pub returns-clause-read : goal.returns-clause-read
 returns-clause-read g c = all_kept g.S.Shard.grid_of g.S.Shard.map_of _ _ _ _ _ _ c.loop-text.invariant (no_bytes c.loop-text.left.now c.in_default.ensures.cases)
