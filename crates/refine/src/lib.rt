@@ -11,6 +11,7 @@ pub mod laws;
 pub mod merge;
 pub mod remove;
 pub mod session;
+mod stitches;
 pub mod whole;
 
 pub use cut_shard::Cut;

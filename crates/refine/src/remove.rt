@@ -1,5 +1,5 @@
 //! Taking features out of a topology: the geometries that stay keep their arcs, which are joined again
-//! where no junction is left. No feature is stitched but where ids and properties tie.
+//! where no junction is left. A geometry is told by its id and properties and by a walk along its arcs.
 ghost use Rattle.std.specs.Prelude.{◌≡◌, ◌<◌, ◌≤◌, ◌^◌, ◌++◌, ◌↔◌, length, false, true, not, replicate, IfOk, IsNone, OnOk, List, drop, map as map_list, set as with_mark, slice_get};
 ghost use Rattle.std.specs.Option.{option_map};
 ghost use Rattle.lines.specs.Turned.{position_cmp};
@@ -21,6 +21,7 @@ ghost use Rattle.layer_laws.specs.Less as rejoined;
 ghost use Rattle.layer_laws.specs.Less.{less};
 ghost use Rattle.refine.specs.Removals.{IsWithoutBy};
 
+use crate::stitches::stitches_to;
 use chains::table::{ArcRef, ArcTable};
 use faults::OutOfMemory;
 use grid::Pos;
@@ -89,18 +90,18 @@ struct LayerLeft<'a> {
 }
 
 /// The order of a geometry's feature to another one. It is stitched only where ids and properties
-/// tie, and then kept.
+/// tie and the shapes differ, and then kept.
 fn order_of(
     alloc: Global,
-    arcs: &ArcTable,
+    topology: &Topology,
     geometry: &Geom,
     known: &mut Option<Feature>,
     other: &Feature,
 ) -> Result<Ordering, OutOfMemory>
-    requires there { HasFeature arcs.now.arcs geometry.now }
-    requires known { IsKnownOf arcs.now.arcs geometry.now known.old }
-    ensures known { IsKnownOf arcs.now.arcs geometry.now known.new }
-    ensures order { IfOk result (λ o. o ≡ order_to arcs.now.arcs geometry.now other.now) }
+    requires there { HasFeature topology.now.arcs.arcs geometry.now }
+    requires known { IsKnownOf topology.now.arcs.arcs geometry.now known.old }
+    ensures known { IsKnownOf topology.now.arcs.arcs geometry.now known.new }
+    ensures order { IfOk result (λ o. o ≡ order_to topology.now.arcs.arcs geometry.now other.now) }
 {
     let order = geometry
         .id
@@ -109,7 +110,10 @@ fn order_of(
     if order.is_ne() {
         return Ok(order);
     }
-    let feature = stitching::known_feature(alloc, arcs, geometry, known.take())?;
+    if stitches_to(topology, &geometry.body, &other.shape) {
+        return Ok(Ordering::Equal);
+    }
+    let feature = stitching::known_feature(alloc, topology.arcs(), geometry, known.take())?;
     let stitched = feature.cmp(other);
     *known = Some(feature);
     Ok(stitched)
@@ -118,17 +122,17 @@ fn order_of(
 /// Passes over the features that stand before a geometry's, and answers whether that is the next.
 fn is_next(
     alloc: Global,
-    arcs: &ArcTable,
+    topology: &Topology,
     geometry: &Geom,
     features: &mut VecDeque<&Feature>,
 ) -> Result<bool, OutOfMemory>
-    requires there { HasFeature arcs.now.arcs geometry.now }
-    ensures rest { OnOk result (map_list (λ f. f.now) features.new.items ≡ from_on (order_to arcs.now.arcs) geometry.now (map_list (λ f. f.now) features.old.items)) }
-    ensures next { IfOk result (λ b. b ≡ is_first (order_to arcs.now.arcs) geometry.now (from_on (order_to arcs.now.arcs) geometry.now (map_list (λ f. f.now) features.old.items))) }
+    requires there { HasFeature topology.now.arcs.arcs geometry.now }
+    ensures rest { OnOk result (map_list (λ f. f.now) features.new.items ≡ from_on (order_to topology.now.arcs.arcs) geometry.now (map_list (λ f. f.now) features.old.items)) }
+    ensures next { IfOk result (λ b. b ≡ is_first (order_to topology.now.arcs.arcs) geometry.now (from_on (order_to topology.now.arcs.arcs) geometry.now (map_list (λ f. f.now) features.old.items))) }
 {
     let mut known = None;
     while let Some(other) = features.front() {
-        let order = order_of(alloc, arcs, geometry, &mut known, *other)?;
+        let order = order_of(alloc, topology, geometry, &mut known, *other)?;
         if order.is_le() {
             return Ok(order.is_eq());
         }
@@ -140,17 +144,17 @@ fn is_next(
 /// Those geometries of a sorted list whose features are none of the others.
 fn geometries_left<'a>(
     alloc: Global,
-    arcs: &ArcTable,
+    topology: &Topology,
     geometries: &'a [Geom],
     features: VecDeque<&Feature>,
 ) -> Result<Vec<&'a Geom>, OutOfMemory>
-    requires there { HaveFeatures arcs.now.arcs geometries.now }
-    ensures { IfOk result (λ v. map_list (λ g. g.now) v.items ≡ others (order_to arcs.now.arcs) geometries.now (map_list (λ f. f.now) features.entry.items)) }
+    requires there { HaveFeatures topology.now.arcs.arcs geometries.now }
+    ensures { IfOk result (λ v. map_list (λ g. g.now) v.items ≡ others (order_to topology.now.arcs.arcs) geometries.now (map_list (λ f. f.now) features.entry.items)) }
 {
     let mut left = Vec::new(alloc);
     let mut removed = features;
     for geometry in geometries {
-        if !is_next(alloc, arcs, geometry, &mut removed)? {
+        if !is_next(alloc, topology, geometry, &mut removed)? {
             left.push(geometry)?;
         }
     }
@@ -189,15 +193,15 @@ fn features_under<'a>(
 /// A layer without the features that a map has under its name.
 fn layer_left<'a>(
     alloc: Global,
-    arcs: &ArcTable,
+    topology: &Topology,
     layer: &'a Layer,
     removed: &FeatureMap,
 ) -> Result<LayerLeft<'a>, OutOfMemory>
-    requires there { HaveFeatures arcs.now.arcs layer.now.geometries }
-    ensures { IfOk result (λ l. lent l ≡ layer_less arcs.now.arcs removed.now layer.now) }
+    requires there { HaveFeatures topology.now.arcs.arcs layer.now.geometries }
+    ensures { IfOk result (λ l. lent l ≡ layer_less topology.now.arcs.arcs removed.now layer.now) }
 {
     let features = features_under(alloc, removed, layer.name().text())?;
-    let geometries = geometries_left(alloc, arcs, layer.geometries(), features)?;
+    let geometries = geometries_left(alloc, topology, layer.geometries(), features)?;
     Ok(LayerLeft {
         name: layer.name(),
         geometries,
@@ -214,7 +218,7 @@ fn layers_left<'a>(
 {
     let mut layers = Vec::with_capacity(alloc, topology.layers().len())?;
     for layer in topology.layers() {
-        layers.push(layer_left(alloc, topology.arcs(), layer, removed)?)?;
+        layers.push(layer_left(alloc, topology, layer, removed)?)?;
     }
     Ok(layers)
 }

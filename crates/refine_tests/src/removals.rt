@@ -31,6 +31,18 @@ const FREE_LOOP: &str = topology!(
     r#"{"arcs":[[[0,0],[0,2],[2,-2],[-2,0]]],"bbox":[0,0,2,2],"objects":{"a":{"geometries":[{"arcs":[[-1]],"type":"Polygon"}],"type":"GeometryCollection"}},"#
 );
 
+const LINES: &str = topology!(
+    r#"{"arcs":[[[0,0],[1,0]],[[1,0],[0,1]],[[1,0],[1,0]]],"bbox":[0,0,2,1],"objects":{"a":{"geometries":[{"arcs":[0,1],"type":"LineString"},{"arcs":[0,2],"type":"LineString"}],"type":"GeometryCollection"}},"#
+);
+
+const TWO_RINGS: &str = topology!(
+    r#"{"arcs":[[[0,0],[0,1],[1,0],[0,-1],[-1,0]],[[5,5],[0,1],[1,-1],[-1,0]]],"bbox":[0,0,6,6],"objects":{"a":{"geometries":[{"arcs":[[-1],[1]],"type":"Polygon"}],"type":"GeometryCollection"}},"#
+);
+
+const PINCHED: &str = topology!(
+    r#"{"arcs":[[[0,0],[0,1],[1,0],[1,-1],[0,1],[-1,0],[-1,-1]]],"bbox":[0,0,2,1],"objects":{"a":{"geometries":[{"arcs":[[0]],"type":"Polygon"}],"type":"GeometryCollection"}},"#
+);
+
 const ROWS: &[Row] = &[
     Row {
         title: "the seam vanishes",
@@ -52,9 +64,7 @@ const ROWS: &[Row] = &[
     },
     Row {
         title: "a junction of the union alone",
-        topology: topology!(
-            r#"{"arcs":[[[0,0],[1,0]],[[1,0],[0,1]],[[1,0],[1,0]]],"bbox":[0,0,2,1],"objects":{"a":{"geometries":[{"arcs":[0,1],"type":"LineString"},{"arcs":[0,2],"type":"LineString"}],"type":"GeometryCollection"}},"#
-        ),
+        topology: LINES,
         removed: topology!(
             r#"{"arcs":[[[0,0],[1,0],[0,1]]],"bbox":[0,0,1,1],"objects":{"a":{"geometries":[{"arcs":[0],"type":"LineString"}],"type":"GeometryCollection"}},"#
         ),
@@ -95,6 +105,97 @@ const ROWS: &[Row] = &[
             r#"{"arcs":[[[0,0],[0,1],[1,0],[0,-1],[-1,0]]],"bbox":[0,0,1,1],"objects":{"b":{"geometries":[{"arcs":[[-1]],"type":"Polygon"}],"type":"GeometryCollection"}},"#
         ),
         left: SHARED_EDGE,
+        pieces: &[&[0], &[1], &[2]],
+    },
+    Row {
+        title: "a square whose list begins at a junction, and not at its least corner",
+        topology: SHARED_EDGE,
+        removed: FIRST,
+        left: SECOND,
+        pieces: &[&[1, -3]],
+    },
+    Row {
+        title: "a ring that comes to a vertex again",
+        topology: PINCHED,
+        removed: PINCHED,
+        left: EMPTY,
+        pieces: &[],
+    },
+    Row {
+        title: "a square that differs at one corner",
+        topology: SHARED_EDGE,
+        removed: topology!(
+            r#"{"arcs":[[[0,0],[0,2],[1,-1],[0,-1],[-1,0]]],"bbox":[0,0,1,2],"objects":{"a":{"geometries":[{"arcs":[[-1]],"type":"Polygon"}],"type":"GeometryCollection"}},"#
+        ),
+        left: SHARED_EDGE,
+        pieces: &[&[0], &[1], &[2]],
+    },
+    Row {
+        title: "a square that goes round the other way",
+        topology: SHARED_EDGE,
+        removed: topology!(
+            r#"{"arcs":[[[0,0],[0,1],[1,0],[0,-1],[-1,0]]],"bbox":[0,0,1,1],"objects":{"a":{"geometries":[{"arcs":[[0]],"type":"Polygon"}],"type":"GeometryCollection"}},"#
+        ),
+        left: SHARED_EDGE,
+        pieces: &[&[0], &[1], &[2]],
+    },
+    Row {
+        title: "the corners of a square in another order",
+        topology: SHARED_EDGE,
+        removed: topology!(
+            r#"{"arcs":[[[0,0],[1,1],[0,-1],[-1,1],[0,-1]]],"bbox":[0,0,1,1],"objects":{"a":{"geometries":[{"arcs":[[0]],"type":"Polygon"}],"type":"GeometryCollection"}},"#
+        ),
+        left: SHARED_EDGE,
+        pieces: &[&[0], &[1], &[2]],
+    },
+    Row {
+        title: "a square as the one of many",
+        topology: SHARED_EDGE,
+        removed: topology!(
+            r#"{"arcs":[[[0,0],[0,1],[1,0],[0,-1],[-1,0]]],"bbox":[0,0,1,1],"objects":{"a":{"geometries":[{"arcs":[[[-1]]],"type":"MultiPolygon"}],"type":"GeometryCollection"}},"#
+        ),
+        left: SHARED_EDGE,
+        pieces: &[&[0], &[1], &[2]],
+    },
+    Row {
+        title: "a polygon with a ring more",
+        topology: SHARED_EDGE,
+        removed: TWO_RINGS,
+        left: SHARED_EDGE,
+        pieces: &[&[0], &[1], &[2]],
+    },
+    Row {
+        title: "a polygon with a ring less",
+        topology: TWO_RINGS,
+        removed: FIRST,
+        left: TWO_RINGS,
+        pieces: &[&[0], &[1]],
+    },
+    Row {
+        title: "a line that goes the other way",
+        topology: LINES,
+        removed: topology!(
+            r#"{"arcs":[[[1,1],[0,-1],[-1,0]]],"bbox":[0,0,1,1],"objects":{"a":{"geometries":[{"arcs":[0],"type":"LineString"}],"type":"GeometryCollection"}},"#
+        ),
+        left: LINES,
+        pieces: &[&[0], &[1], &[2]],
+    },
+    Row {
+        title: "the front of a line",
+        topology: LINES,
+        removed: topology!(
+            r#"{"arcs":[[[0,0],[1,0]]],"bbox":[0,0,1,0],"objects":{"a":{"geometries":[{"arcs":[0],"type":"LineString"}],"type":"GeometryCollection"}},"#
+        ),
+        left: LINES,
+        pieces: &[&[0], &[1], &[2]],
+    },
+    Row {
+        title: "a line that goes on",
+        topology: LINES,
+        removed: topology!(
+            r#"{"arcs":[[[0,0],[1,0],[0,1],[0,1]]],"bbox":[0,0,1,2],"objects":{"a":{"geometries":[{"arcs":[0],"type":"LineString"}],"type":"GeometryCollection"}},"#
+        ),
+        left: LINES,
         pieces: &[&[0], &[1], &[2]],
     },
 ];

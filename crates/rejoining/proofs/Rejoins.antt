@@ -361,8 +361,8 @@ module _ (g u : Geometry Pos) (old : Arcs) (marks : List Bool) (ending : List Po
 -- in the form of the code
 module _ (old : Arcs) (marks : List Bool) (ending : List Pos) (numbers slice : List ℕ) (chosen : numbers ≡ kept_numbers 0 marks) (lent : slice ≡ numbers)
     (m : Meeting) (met : Distinct slice → (v : Pos) (a : ArcRef) → Begins old.arcs v slice a → IsTold (Has v ending) (Begins old.arcs v slice) (partner_in m) a)
-    (runs rs : List (List ArcRef)) (lent_runs : rs ≡ runs) (are : ArePaired marks (partner_in m) → AreRuns marks (partner_in m) runs)
-    (ps : List Piece) (ls : List (List ArcRef)) (pieces : ps ≡ map (piece_of_run old.arcs (partner_in m)) rs) (lists : ls ≡ map (list_of_run old.arcs (partner_in m)) rs)
+    (runs : List (List ArcRef)) (are : ArePaired marks (partner_in m) → AreRuns marks (partner_in m) runs)
+    (ps : List Piece) (ls : List (List ArcRef)) (pieces : ps ≡ map (piece_of_run old.arcs (partner_in m)) runs) (lists : ls ≡ map (list_of_run old.arcs (partner_in m)) runs)
     (t : Arcs) (once : AreSortedOnce list_cmp (map chain_of ps) t.arcs) (loops : AreLoopsOf ps t.loops)
     (refs those : List ArcRef) (numbered : refs ≡ map (located t.arcs) ps) (lent_refs : those ≡ refs) (n : ℕ) (count : n ≡ length t.arcs)
     (made : List (List ArcRef)) (put : made ≡ put_all those ls (replicate n [])) (result : RejoinedParts) (is : result ≡ record { arcs = t; pieces = made }) where
@@ -370,12 +370,11 @@ module _ (old : Arcs) (marks : List Bool) (ending : List Pos) (numbers slice : L
   rejoin_told g u left =
       let met' : (v : Pos) (a : ArcRef) → Begins old.arcs v (kept_numbers 0 marks) a → IsTold (Has v ending) (Begins old.arcs v (kept_numbers 0 marks)) (partner_in m) a =
       subst (λ w. Distinct w → (v : Pos) (a : ArcRef) → Begins old.arcs v w a → IsTold (Has v ending) (Begins old.arcs v w) (partner_in m) a) (lent ∙ chosen) met (numbers_once 0 marks) in
-      let whole = pieces ∙ ap (map (piece_of_run old.arcs (partner_in m))) lent_runs in
       let same : made ≡ put_all (map (located t.arcs) (map (piece_of_run old.arcs (partner_in m)) runs)) (map (list_of_run old.arcs (partner_in m)) runs) (replicate (length t.arcs) []) =
-      put ∙ (λ i. put_all ((lent_refs ∙ numbered ∙ ap (map (located t.arcs)) whole) i) ((lists ∙ ap (map (list_of_run old.arcs (partner_in m))) lent_runs) i) (replicate (count i) [])) in
+      put ∙ (λ i. put_all ((lent_refs ∙ numbered ∙ ap (map (located t.arcs)) pieces) i) (lists i) (replicate (count i) [])) in
       subst (IsRejoinedOf g u old) (sym (is ∙ (λ i. record { arcs = t; pieces = same i })))
       (rejoins g u old marks ending left m met' runs (are (partners.paired g u old marks ending left m met')) t
-      (subst (λ w. AreSortedOnce list_cmp (map chain_of w) t.arcs) whole once) (subst (λ w. AreLoopsOf w t.loops) whole loops))
+      (subst (λ w. AreSortedOnce list_cmp (map chain_of w) t.arcs) pieces once) (subst (λ w. AreLoopsOf w t.loops) pieces loops))
 
   pub rejoin_count : length result.pieces ≡ length result.arcs.arcs
   rejoin_count =

@@ -119,13 +119,13 @@ fn read_backwards(alloc: Global, run: &[ArcRef]) -> Result<Vec<ArcRef>, AllocErr
 }
 
 /// A run in one of its directions.
-fn directed(alloc: Global, run: &[ArcRef], reversed: bool) -> Result<Vec<ArcRef>, AllocError>
-    ensures { IfOk result (λ v. v.items ≡ spec.directed reversed run.now) }
+fn directed(alloc: Global, run: Vec<ArcRef>, reversed: bool) -> Result<Vec<ArcRef>, AllocError>
+    ensures { IfOk result (λ v. v.items ≡ spec.directed reversed run.items) }
 {
     if reversed {
-        return read_backwards(alloc, run);
+        return read_backwards(alloc, &run);
     }
-    Ok(run.to_vec(alloc)?)
+    Ok(run)
 }
 
 /// The list of a run; that of one which goes round begins where it starts least.
@@ -154,14 +154,14 @@ fn add_joined(
     arcs: &ArcTable,
     meeting: &Meeting,
     joined: &mut Joined,
-    run: &[ArcRef],
+    run: Items<ArcRef>,
 ) -> Result<(), AllocError>
-    ensures pieces { OnOk result (joined.new.pieces.items ≡ joined.old.pieces.items ++ (piece_of_run arcs.now.arcs (partner_in meeting.now) run.now ∷ [])) }
-    ensures lists { OnOk result (joined.new.lists.items ≡ joined.old.lists.items ++ (list_of_run arcs.now.arcs (partner_in meeting.now) run.now ∷ [])) }
+    ensures pieces { OnOk result (joined.new.pieces.items ≡ joined.old.pieces.items ++ (piece_of_run arcs.now.arcs (partner_in meeting.now) run ∷ [])) }
+    ensures lists { OnOk result (joined.new.lists.items ≡ joined.old.lists.items ++ (list_of_run arcs.now.arcs (partner_in meeting.now) run ∷ [])) }
 {
-    let round = goes_round(meeting, run);
-    let piece = Piece::new(joined_chain(alloc, arcs, run, round)?, round);
-    let refs = directed(alloc, run, piece.reversed())?;
+    let round = goes_round(meeting, run.as_slice());
+    let piece = Piece::new(joined_chain(alloc, arcs, run.as_slice(), round)?, round);
+    let refs = directed(alloc, run.into_vec(), piece.reversed())?;
     joined.pieces.push(piece)?;
     joined.lists.push(listed(arcs, refs, round))?;
     Ok(())
@@ -172,17 +172,17 @@ pub(crate) fn joined_of(
     alloc: Global,
     arcs: &ArcTable,
     meeting: &Meeting,
-    runs: &[Items<ArcRef>],
+    runs: Vec<Items<ArcRef>>,
 ) -> Result<Joined, AllocError>
-    ensures pieces { IfOk result (λ j. j.pieces.items ≡ map_list (piece_of_run arcs.now.arcs (partner_in meeting.now)) runs.now) }
-    ensures lists { IfOk result (λ j. j.lists.items ≡ map_list (list_of_run arcs.now.arcs (partner_in meeting.now)) runs.now) }
+    ensures pieces { IfOk result (λ j. j.pieces.items ≡ map_list (piece_of_run arcs.now.arcs (partner_in meeting.now)) runs.items) }
+    ensures lists { IfOk result (λ j. j.lists.items ≡ map_list (list_of_run arcs.now.arcs (partner_in meeting.now)) runs.items) }
 {
     let mut joined = Joined {
         pieces: Vec::with_capacity(alloc, runs.len())?,
         lists: Vec::with_capacity(alloc, runs.len())?,
     };
     for run in runs {
-        add_joined(alloc, arcs, meeting, &mut joined, run.as_slice())?;
+        add_joined(alloc, arcs, meeting, &mut joined, run)?;
     }
     Ok(joined)
 }

@@ -33,7 +33,7 @@ pub fn rejoin(
     let chosen = numbers_of(alloc, kept)?;
     let meeting = Meeting::of(alloc, old, &chosen, ends)?;
     let runs = runs_of(alloc, &meeting, kept)?;
-    let Joined { pieces, lists } = joined_of(alloc, old, &meeting, &runs)?;
+    let Joined { pieces, lists } = joined_of(alloc, old, &meeting, runs)?;
     let (arcs, refs) = ArcTable::numbered(alloc, pieces)?;
     let lists = by_numbers(alloc, &refs, lists, arcs.len())?;
     Ok(Rejoined::from_parts(alloc, arcs, lists, old.len())?)

@@ -5,6 +5,6 @@ use Rattle.refine.proofs.remove.geometries_left.Goals as goal
 
 pub is_next-requires : goal.is_next-requires
 is_next-requires c = record {
-  there = subst (HasFeature c.args.arcs.now.arcs) (sym c.geometry-item.is)
-      (at_place (HasFeature c.args.arcs.now.arcs) c.args.geometries.now c.loop-geometry.geometry-index c.geometry-item.result c.requires.there c.loop-geometry-test.true);
+  there = subst (HasFeature c.args.topology.now.arcs.arcs) (sym c.geometry-item.is)
+      (at_place (HasFeature c.args.topology.now.arcs.arcs) c.args.geometries.now c.loop-geometry.geometry-index c.geometry-item.result c.requires.there c.loop-geometry-test.true);
 }

@@ -4,5 +4,5 @@ use Rattle.refine.proofs.remove.geometries_left.Given as goal
 
 abbrev pub invariant-loop-geometry : goal.invariant-loop-geometry
 invariant-loop-geometry l =
-    map (λ g. g.now) l.left.items ++ others (order_to l.fn.arcs.arcs) (drop l.geometry-index l.fn.geometries) (map (λ f. f.now) l.removed.items)
-    ≡ others (order_to l.fn.arcs.arcs) l.fn.geometries (map (λ f. f.now) l.fn.features.items)
+    map (λ g. g.now) l.left.items ++ others (order_to l.fn.topology.arcs.arcs) (drop l.geometry-index l.fn.geometries) (map (λ f. f.now) l.removed.items)
+    ≡ others (order_to l.fn.topology.arcs.arcs) l.fn.geometries (map (λ f. f.now) l.fn.features.items)
