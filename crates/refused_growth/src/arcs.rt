@@ -8,7 +8,7 @@ use refused_calls::comparing::same_arcs;
 use refused_calls::inputs::{built, is_of};
 use refused_calls::outcome::{Answer, Outcome, Tally};
 use refused_calls::texts::{FREE_LOOP, LOOP_AND_LINE, SHARED_EDGE};
-use standing::{arcs_as_read, free_loops};
+use standing::{free_loops, is_apart};
 use std::alloc::Global;
 use topo::Topology;
 
@@ -97,12 +97,19 @@ impl Standing {
     }
 }
 
+fn apart(alloc: Global, table: &ArcTable, standing: &Standing) -> Answer {
+    match is_apart(alloc, table) {
+        Ok(apart) => Answer::of(apart && same_arcs(table, standing.topology.arcs())),
+        Err(OutOfMemory) => Answer::Wanting,
+    }
+}
+
 fn read(alloc: Global, standing: &Standing) -> Answer {
     let Some(arcs) = lists(alloc, standing.topology.arcs()) else {
         return Answer::Unasked;
     };
-    match arcs_as_read(alloc, arcs, standing.row.free) {
-        Ok(Some(table)) => Answer::of(same_arcs(&table, standing.topology.arcs())),
+    match ArcTable::from_sorted(alloc, arcs, standing.row.free) {
+        Ok(Some(table)) => apart(alloc, &table, standing),
         Ok(None) => Answer::Wrong,
         Err(OutOfMemory) => Answer::Wanting,
     }
@@ -138,7 +145,7 @@ fn settle_mark(alloc: Global, standing: &Standing) -> Outcome {
 
 fn settle_standing(rt: &HostRuntime, tally: &mut Tally, standing: &Standing) {
     let read = settle_read(rt.alloc(), standing);
-    tally.note(rt, standing.row.title, "arcs_as_read", read);
+    tally.note(rt, standing.row.title, "is_apart", read);
     let marked = settle_mark(rt.alloc(), standing);
     tally.note(rt, standing.row.title, "free_loops", marked);
 }

@@ -59,8 +59,7 @@ fn are_parts_of(parts: &TextParts, topology: &Topology) -> bool {
 
 pub(crate) fn read_parts(alloc: Global, worked: &Worked) -> Answer {
     match topo_io::read_parts(alloc, worked.text.as_slice()) {
-        Ok(Some(parts)) => Answer::of(are_parts_of(&parts, &worked.topology)),
-        Ok(None) => Answer::Wrong,
+        Ok(parts) => Answer::of(are_parts_of(&parts, &worked.topology)),
         Err(fault) => Answer::of_fault(&fault),
     }
 }

@@ -1,7 +1,7 @@
 use chains::ArcTable;
 use grid::pos::Pos;
 use lines::items::Items;
-use standing::arcs_as_read;
+use standing::{arcs_in_order, is_apart};
 use std::alloc::Global;
 use std::process::Abort;
 use std::test::Fail;
@@ -23,13 +23,19 @@ pub(crate) fn lists(alloc: Global, arcs: &[&[(i64, i64)]]) -> Result<Vec<Items<P
     Ok(made)
 }
 
-/// The table of arcs as they stand, of which those that are marked are free loops.
+/// The table of arcs that are in order and apart, of which those that are marked are free loops.
 pub(crate) fn read(
     alloc: Global,
     arcs: &[&[(i64, i64)]],
     free: &[bool],
 ) -> Result<Option<ArcTable>, Fail> {
-    Ok(arcs_as_read(alloc, lists(alloc, arcs)?, free)?)
+    let Some(table) = ArcTable::from_sorted(alloc, lists(alloc, arcs)?, free)? else {
+        return Ok(None);
+    };
+    if is_apart(alloc, &table)? {
+        return Ok(Some(table));
+    }
+    Ok(None)
 }
 
 fn stand(alloc: Global, arcs: &[&[(i64, i64)]], free: &[bool]) -> Result<bool, Fail> {

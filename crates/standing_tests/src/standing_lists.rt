@@ -1,9 +1,7 @@
 use crate::arcs::{A, B, C, D, E, lists, read};
 use chains::{ArcRef, ArcTable};
 use grid::pos::Pos;
-use standing::{
-    ArcsUsed, add_line_ends, arcs_as_read, ends_meet, free_loops, line_run, ring_stands,
-};
+use standing::{ArcsUsed, add_line_ends, ends_meet, free_loops, line_run, ring_stands};
 use std::alloc::Global;
 use std::process::Abort;
 use std::test::Fail;
@@ -176,9 +174,7 @@ fn a_whole_topology(rt: HostRuntime) -> Result<(), Fail> {
     add_line_ends(&mut ends, &lists(alloc, &arcs)?, &line)?;
     let free = free_loops(alloc, &lists(alloc, &arcs)?, places(alloc, &[A, C])?)?;
     assert_eq!(rt; free.as_slice(), [false, false, true].as_slice());
-    let Some(table) = arcs_as_read(alloc, lists(alloc, &arcs)?, &free)? else {
-        return Err("refused".into());
-    };
+    let table = read(alloc, &arcs, &free)?.ok_or("refused")?;
     let mut used = ArcsUsed::none(alloc, table.len())?;
     assert!(rt; line_run(&table, &mut used, &line).is_some());
     assert!(rt; ring_stands(&table, &mut used, &refs(alloc, &[0, -2])?));

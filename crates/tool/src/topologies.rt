@@ -21,14 +21,16 @@ pub(crate) fn read_topology<'a, F: Files>(
     topology_of(alloc, file, read_named(alloc, files, file)?)
 }
 
-/// The topology of what a file's text means.
+/// The topology of what a file's text means. The text is given up.
 pub(crate) fn topology_of<'a>(
     alloc: Global,
     file: &'a str,
     text: Vec<u8>,
 ) -> Result<Topology, Refusal<'a>> {
-    let (grid, map) = map_of(alloc, file, text)?;
-    Ok(Topology::build(alloc, &grid, &map)?)
+    match topo_io::read_topology(alloc, text.as_slice()) {
+        Ok(topology) => Ok(topology),
+        Err(fault) => Err(Refusal::of_text(file, fault)),
+    }
 }
 
 /// What a file's text means. The text is given up.

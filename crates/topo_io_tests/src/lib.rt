@@ -9,6 +9,8 @@ mod parts_stitched;
 mod texts_read;
 #[cfg(test)]
 mod texts_written;
+#[cfg(test)]
+mod whole_texts;
 
 /// The topology of the unit square at the origin as another tool may write it.
 #[cfg(test)]

@@ -1,6 +1,7 @@
 //! Topology texts as their parts, before lists of arcs are stitched.
 use crate::OTHER_TOOL;
 use chains::ArcRef;
+use faults::FaultKind;
 use lines::items::Items;
 use std::alloc::Global;
 use std::test::Fail;
@@ -14,8 +15,15 @@ pub(crate) fn text_of(alloc: Global, arcs: &str, objects: &str) -> Result<String
     )?)
 }
 
+/// The parts of a text; none where they have a fault.
 pub(crate) fn parts_of(alloc: Global, text: &str) -> Result<Option<TextParts>, Fail> {
-    Ok(read_parts(alloc, text.as_bytes()).ok().ok_or("no memory")?)
+    match read_parts(alloc, text.as_bytes()) {
+        Ok(parts) => Ok(Some(parts)),
+        Err(fault) => match fault.kind {
+            FaultKind::OutOfMemory => Err("no memory".into()),
+            _ => Ok(None),
+        },
+    }
 }
 
 fn is_used(used: &[ArcRef], indexes: &[i64]) -> bool {

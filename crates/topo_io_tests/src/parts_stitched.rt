@@ -5,13 +5,14 @@ use grid::Grid;
 use shapes::FeatureMap;
 use std::alloc::Global;
 use std::test::Fail;
+use taking::TextArcs;
 use topo::Topology;
 use topo_io::{TextParts, map_of_parts};
 
 /// The map of the text's parts, where they stitch.
 fn map_of(alloc: Global, text: &str) -> Result<Option<FeatureMap>, Fail> {
     let TextParts { arcs, layers, .. } = parts_of(alloc, text)?.ok_or("refused")?;
-    Ok(map_of_parts(alloc, &arcs, layers)?)
+    Ok(map_of_parts(alloc, &TextArcs::from_list(arcs), layers)?)
 }
 
 /// The canonical text of the map on the grid.

@@ -8,7 +8,7 @@ use std::test::Fail;
 use topo_io::read;
 
 /// The fault of a text, as it is printed but for its name; or that the text is accepted.
-fn told(alloc: Global, fault: Option<&Fault>) -> Result<String, AllocError> {
+pub(crate) fn told(alloc: Global, fault: Option<&Fault>) -> Result<String, AllocError> {
     let Some(fault) = fault else {
         return String::from_str(alloc, "accepted");
     };
