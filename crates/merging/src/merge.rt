@@ -65,11 +65,18 @@ fn read_marked<S: Shard>(
     let mut left = texts;
     while let Some((text, after)) = left.split_first() {
         if marks[number] {
-            let shard: S = read_shard(alloc, number, text.as_slice())?;
-            grids.push(shard.grid())?;
-            shards.push(shard)?;
+            match read_shard::<S>(alloc, number, text.as_slice()) {
+                Ok(shard) => {
+                    grids.push(shard.grid())?;
+                    shards.push(shard)?;
+                }
+                Err(fault) => return Err(fault),
+            }
         } else {
-            grids.push(read_grid(alloc, number, text.as_slice())?)?;
+            match read_grid(alloc, number, text.as_slice()) {
+                Ok(grid) => grids.push(grid)?,
+                Err(fault) => return Err(fault),
+            }
         }
         number += 1;
         left = after;

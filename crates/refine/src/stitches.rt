@@ -89,7 +89,11 @@ fn goes_round(topology: &Topology, used: &[ArcRef], vertices: &[Pos], place: usi
     requires { place < length vertices.now }
     ensures { (result ≡ true) ↔ (walked topology.now.arcs.arcs used.now ≡ drop place vertices.now ++ take (place + 1) vertices.now) }
 {
-    goes_along(topology.walk(used), &vertices[place..], &vertices[..place + 1])
+    goes_along(
+        topology.walk(used),
+        &vertices[place..],
+        &vertices[..place + 1],
+    )
 }
 
 /// Looks for the place of the ring at which the used arcs begin. No step stands twice round a ring, so

@@ -14,8 +14,8 @@ pub returns-then-goes_round : goal.returns-then-goes_round
 returns-then-goes_round c =
     let round : c.goes_round.result ≡ true = search rules in (
       (λ _. ring_there c.args.topology.now.arcs.arcs c.args.ring.now c.args.used.now c.loop-place.place c.in-Some.first.now c.requires
-      (subst (λ v. c.loop-place.place < length v) c.vertices-vertices.ensures.vertices c.loop-place-test.true)
-      (subst (λ v. GoesRound c.args.topology.now.arcs.arcs c.args.used.now v c.loop-place.place) c.vertices-vertices.ensures.vertices (c.goes_round.ensures.0 round))),
+          (subst (λ v. c.loop-place.place < length v) c.vertices-vertices.ensures.vertices c.loop-place-test.true)
+          (subst (λ v. GoesRound c.args.topology.now.arcs.arcs c.args.used.now v c.loop-place.place) c.vertices-vertices.ensures.vertices (c.goes_round.ensures.0 round))),
       (λ _. refl),
     )
 
@@ -37,7 +37,7 @@ pub returns : goal.returns
 returns c =
     let arcs = c.args.topology.now.arcs.arcs in
     let over : length (vertices_of c.args.ring.now) ≤ c.loop-place.place =
-        subst (λ v. length v ≤ c.loop-place.place) c.vertices-vertices.ensures.vertices c.loop-place-test.false in (
+    subst (λ v. length v ≤ c.loop-place.place) c.vertices-vertices.ensures.vertices c.loop-place-test.false in (
       (λ e. absurd cc),
       (λ h. absurd (none_there arcs c.args.ring.now c.args.used.now c.in-Some.first.now (long_ring c.args.ring.now) (λ k b. c.loop-place.invariant k (omega (arith, over, b))) h)),
     )
