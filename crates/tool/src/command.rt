@@ -2,10 +2,11 @@
 use crate::build_command::topology_built;
 use crate::files::Files;
 use crate::merge_command::merged_text;
-use crate::queries::{is_canonical, print_answer};
+use crate::queries::{is_canonical, print_feature, print_info, print_mesh, print_neighbors};
 use crate::refusal::Refusal;
 use crate::removing::topology_left;
 use crate::status::Status;
+use crate::topologies::read_topology;
 use arguments::parse;
 use clap::error::ErrorKind;
 use clap::{ArgMatches, Error};
@@ -46,8 +47,13 @@ fn perform<'a, F: Files, O: Sink>(
         Some(("check", found)) => print_verdict(is_canonical(alloc, found, files)?, out),
         Some(("merge", found)) => print_text(&merged_text(alloc, found, files)?, out),
         Some(("remove", found)) => print_topology(&topology_left(alloc, found, files)?, out),
-        Some((name, found)) => print_answer(alloc, name, found, files, out),
-        None => Ok(Status::Usage),
+        Some(("feature", found)) => print_feature(&read_topology(alloc, found, files)?, found, out),
+        Some(("mesh", found)) => print_mesh(alloc, &read_topology(alloc, found, files)?, found, out),
+        Some(("neighbors", found)) => {
+            print_neighbors(alloc, &read_topology(alloc, found, files)?, found, out)
+        }
+        Some(("info", found)) => print_info(&read_topology(alloc, found, files)?, found, out),
+        _ => Ok(Status::Usage),
     }
 }
 

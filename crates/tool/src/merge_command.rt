@@ -8,28 +8,28 @@ use std::alloc::Global;
 
 /// In what grouping files are merged.
 #[derive(Clone, Copy)]
-enum Shape {
+enum Grouping {
     Left,
     Right,
     Halves,
 }
 
-impl Shape {
+impl Grouping {
     /// The grouping that the word after `--shape` names. clap lets no word through that names none.
-    fn of_word(word: &str) -> Shape {
+    fn of_word(word: &str) -> Grouping {
         match word {
-            "right" => Shape::Right,
-            "halves" => Shape::Halves,
-            _ => Shape::Left,
+            "right" => Grouping::Right,
+            "halves" => Grouping::Halves,
+            _ => Grouping::Left,
         }
     }
 
     /// The plan over that many files. None where there is no file.
     fn plan(self, alloc: Global, count: usize) -> Result<Option<Plan>, OutOfMemory> {
         match self {
-            Shape::Left => Plan::left(alloc, count),
-            Shape::Right => Plan::right(alloc, count),
-            Shape::Halves => Plan::halves(alloc, count),
+            Grouping::Left => Plan::left(alloc, count),
+            Grouping::Right => Plan::right(alloc, count),
+            Grouping::Halves => Plan::halves(alloc, count),
         }
     }
 }
@@ -42,8 +42,8 @@ pub(crate) fn merged_text<'a, F: Files>(
 ) -> Result<Vec<u8>, Refusal<'a>> {
     let names = found.get_strs("FILE").unwrap_or(&[]);
     let texts = read_all(alloc, files, names)?;
-    let shape = Shape::of_word(found.get_str("shape").unwrap_or("left"));
-    let Some(plan) = shape.plan(alloc, texts.len())? else {
+    let grouping = Grouping::of_word(found.get_str("shape").unwrap_or("left"));
+    let Some(plan) = grouping.plan(alloc, texts.len())? else {
         return Err(Refusal::BadPlan);
     };
     match merge_texts(alloc, texts.as_slice(), &plan) {

@@ -2,7 +2,7 @@
 use crate::files::{Files, read_named};
 use crate::refusal::Refusal;
 use crate::status::Status;
-use crate::topologies::{read_topology, word};
+use crate::topologies::word;
 use chains::ArcTable;
 use clap::ArgMatches;
 use info_text::{write_json, write_lines};
@@ -11,7 +11,7 @@ use query::{
     write_neighbors,
 };
 use shapes::{Feature, Id};
-use sinks::{Sink, WriteFault};
+use sinks::Sink;
 use std::alloc::Global;
 use topo::{Geom, Topology};
 
@@ -29,51 +29,35 @@ pub(crate) fn is_canonical<'a, F: Files>(
     }
 }
 
-/// Reads a topology, and prints what the command of this name asks of it.
-pub(crate) fn print_answer<'a, F: Files, O: Sink>(
-    alloc: Global,
-    name: &str,
+/// Prints a layer as GeoJSON.
+pub(crate) fn print_feature<'a, O: Sink>(
+    topology: &Topology,
     found: &ArgMatches<'a>,
-    files: &mut F,
     out: &mut O,
 ) -> Result<Status, Refusal<'a>> {
-    let topology = read_topology(alloc, files, word(found, "FILE"))?;
-    match name {
-        "feature" => print_feature(&topology, word(found, "layer"), out)?,
-        "mesh" => print_mesh(alloc, &topology, found, out)?,
-        "neighbors" => print_neighbors(alloc, &topology, found, out)?,
-        "info" => print_info(&topology, found.get_flag("json"), out)?,
-        _ => return Ok(Status::Usage),
-    }
-    Ok(Status::Done)
-}
-
-/// Prints a layer as GeoJSON.
-fn print_feature<'a, O: Sink>(
-    topology: &Topology,
-    layer: &'a str,
-    out: &mut O,
-) -> Result<(), Refusal<'a>> {
+    let layer = word(found, "layer");
     match write_layer(topology, layer, out) {
-        Ok(()) => Ok(()),
+        Ok(()) => Ok(Status::Done),
         Err(LayerFault::NoLayer) => Err(Refusal::NoLayer(layer)),
         Err(LayerFault::Write) => Err(Refusal::Write),
     }
 }
 
 /// Prints the borders of a layer, or of all layers.
-fn print_mesh<'a, O: Sink>(
+pub(crate) fn print_mesh<'a, O: Sink>(
     alloc: Global,
     topology: &Topology,
     found: &ArgMatches<'a>,
     out: &mut O,
-) -> Result<(), Refusal<'a>> {
+) -> Result<Status, Refusal<'a>> {
     let layer = found.get_str("layer");
     let edges = Edges::of_word(word(found, "edges"));
-    match mesh_of(alloc, topology, layer, edges) {
-        Ok(lines) => Ok(write_mesh(&topology.grid(), &lines, out)?),
-        Err(fault) => Err(refused(layer.unwrap_or(""), fault)),
-    }
+    let lines = match mesh_of(alloc, topology, layer, edges) {
+        Ok(lines) => lines,
+        Err(fault) => return Err(refused(layer.unwrap_or(""), fault)),
+    };
+    write_mesh(&topology.grid(), &lines, out)?;
+    Ok(Status::Done)
 }
 
 /// Which borders are asked for.
@@ -111,12 +95,12 @@ fn mesh_of(
 }
 
 /// Prints which features of a layer share a border.
-fn print_neighbors<'a, O: Sink>(
+pub(crate) fn print_neighbors<'a, O: Sink>(
     alloc: Global,
     topology: &Topology,
     found: &ArgMatches<'a>,
     out: &mut O,
-) -> Result<(), Refusal<'a>> {
+) -> Result<Status, Refusal<'a>> {
     let layer = word(found, "layer");
     let lists = match neighbors(alloc, topology, layer) {
         Ok(lists) => lists,
@@ -128,7 +112,7 @@ fn print_neighbors<'a, O: Sink>(
     } else {
         write_neighbors(lists.as_slice(), out)?;
     }
-    Ok(())
+    Ok(Status::Done)
 }
 
 /// The geometries of a layer, each of which has to have an id.
@@ -145,12 +129,17 @@ fn geometries_with_ids<'a, 't>(
 }
 
 /// Prints what a topology is made of.
-fn print_info<O: Sink>(topology: &Topology, as_json: bool, out: &mut O) -> Result<(), WriteFault> {
-    if as_json {
-        write_json(topology, out)
+pub(crate) fn print_info<'a, O: Sink>(
+    topology: &Topology,
+    found: &ArgMatches<'a>,
+    out: &mut O,
+) -> Result<Status, Refusal<'a>> {
+    if found.get_flag("json") {
+        write_json(topology, out)?;
     } else {
-        write_lines(topology, out)
+        write_lines(topology, out)?;
     }
+    Ok(Status::Done)
 }
 
 fn refused<'a>(layer: &'a str, fault: QueryFault) -> Refusal<'a> {

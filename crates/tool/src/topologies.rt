@@ -12,12 +12,13 @@ pub(crate) fn word<'a>(found: &ArgMatches<'a>, name: &str) -> &'a str {
     found.get_str(name).unwrap_or("")
 }
 
-/// The topology of a file.
+/// The topology of the one file that a question is asked about.
 pub(crate) fn read_topology<'a, F: Files>(
     alloc: Global,
+    found: &ArgMatches<'a>,
     files: &mut F,
-    file: &'a str,
 ) -> Result<Topology, Refusal<'a>> {
+    let file = word(found, "FILE");
     topology_of(alloc, file, read_named(alloc, files, file)?)
 }
 
