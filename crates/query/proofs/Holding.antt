@@ -30,7 +30,7 @@ use Rattle.topo.specs.declared.geom.Body.{Body}
 use Rattle.topo.specs.declared.geom.Geom.{Geom}
 use Rattle.topo.proofs.Pairs.{none_behind, pair_at}
 use Rattle.topo.proofs.Stitched.{geometries_of}
-use Rattle.query.specs.Borders.{InScope}
+use Rattle.query.specs.Mesh.{InScope}
 use Rattle.query.specs.Members.{held, paired, layer_pairs, Holds, InOrder, AreMembers}
 use Rattle.query.specs.declared.members.Member.{Member}
 use Rattle.chains.proofs.Siding.{none_left}

@@ -26,7 +26,7 @@ use Rattle.topo.specs.OfMap.{IsOf, body_of}
 use Rattle.topo.specs.Parts.{TopologyParts}
 use Rattle.topo.proofs.Sound.{are_sound}
 use Rattle.chains.specs.Along.{HasArcs}
-use Rattle.query.specs.Borders.{InScope, HasSide, IsLeastWith, IsGreatestWith, AreSelected}
+use Rattle.query.specs.Mesh.{InScope, HasSide, IsLeastWith, IsGreatestWith, AreSelected}
 use Rattle.query.specs.Members.{AreMembers, InOrder}
 use Rattle.query.specs.Selecting.{AreChosen}
 use Rattle.query.specs.Spans.{with_uses}

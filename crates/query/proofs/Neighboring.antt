@@ -21,7 +21,7 @@ use Rattle.query.specs.Neighbors.{AreNeighbors, ListsNeighbors}
 use Rattle.query.specs.Pairs.{pairs_among, pair_cmp, with_others}
 use Rattle.query.specs.Uses.{bodies_uses, use_cmp}
 use Rattle.query.specs.declared.uses.Use.{Use}
-use Rattle.query.specs.declared.sharing.Pair.{Pair}
+use Rattle.query.specs.declared.questions.neighbors.Pair.{Pair}
 use Rattle.query.proofs.LayerFeatures.{pair_at, pair_back, pair_length, named_features, layer_form, features_share, OfFeature, OfFeatures}
 use Rattle.query.proofs.Others.{others_at, lists_hold, lists_length, other_paired, paired_other, others_increase}
 use Rattle.query.proofs.Pairing.{among_from, has_among, paired}

@@ -7,9 +7,9 @@ use Rattle.std.specs.declared.cmp.Ordering.{Ordering}
 use Rattle.std.specs.declared.cmp.Ordering.TheVariants.{Less, Equal, Greater}
 use Rattle.lines.specs.Positions.{then_equal}
 use Rattle.query.specs.declared.uses.Use.{Use}
-use Rattle.query.specs.declared.sharing.Pair.{Pair}
+use Rattle.query.specs.declared.questions.neighbors.Pair.{Pair}
 use Rattle.query.specs.contracts.uses.UsePartialEq.TheImpl as use_eq
-use Rattle.query.specs.contracts.sharing.PairPartialEq.TheImpl as pair_eq
+use Rattle.query.specs.contracts.questions.neighbors.PairPartialEq.TheImpl as pair_eq
 use Rattle.query.specs.Uses.{use_cmp}
 use Rattle.query.specs.Pairs.{pair_cmp}
 use Rattle.query.specs.Spans.{span_cmp}

@@ -7,7 +7,7 @@ use Rattle.std.proofs.lemmas.List.{map-set, get_or-set_same, get_or-set_other, l
 use Rattle.theory.specs.Arcs.{Ascends}
 use Rattle.theory.specs.Lists.{Has}
 use Rattle.query.specs.Pairs.{pair_cmp, with_other, with_others}
-use Rattle.query.specs.declared.sharing.Pair.{Pair}
+use Rattle.query.specs.declared.questions.neighbors.Pair.{Pair}
 use Rattle.query.proofs.Orders.{others_rise}
 
 get_map : {A : Type 0} (f : A → List ℕ) (ls : List A) (i : ℕ) (d : A) (e : List ℕ) → i < length ls → get_or (map f ls) i e ≡ f (get_or ls i d)

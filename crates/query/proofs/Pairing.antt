@@ -7,7 +7,7 @@ use Rattle.theory.proofs.Lists.{Has-append, Has-append_left, Has-append_right}
 use Rattle.query.specs.Uses.{use_cmp}
 use Rattle.query.specs.Pairs.{pairs_behind, pairs_among}
 use Rattle.query.specs.declared.uses.Use.{Use}
-use Rattle.query.specs.declared.sharing.Pair.{Pair}
+use Rattle.query.specs.declared.questions.neighbors.Pair.{Pair}
 use Rattle.query.proofs.Orders.{arcs_rise, places_rise}
 
 abbrev pub paired : Use → Use → Pair

@@ -19,7 +19,7 @@ use Rattle.topo.specs.OfMap.{IsOfSomeMap}
 use Rattle.topo.specs.Parts.{TopologyParts}
 use Rattle.topo.proofs.Sound.{are_sound}
 use Rattle.chains.specs.Along.{OnArcs, HasArcs}
-use Rattle.query.specs.Borders.{AreLinesOver}
+use Rattle.query.specs.Mesh.{AreLinesOver}
 use Rattle.query.specs.Parting.{is_whole, whole_at, other_at, wholes, others}
 use Rattle.query.specs.Stops.{AreHalts}
 use Rattle.chains.proofs.ArcSegments.{segments_on}

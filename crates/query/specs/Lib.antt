@@ -6,7 +6,7 @@ pub mod Pairs
 pub mod Spans
 pub mod Selecting
 pub mod Parting
-pub mod Borders
+pub mod Mesh
 pub mod Members
 pub mod AnswerTexts
 pub mod Info

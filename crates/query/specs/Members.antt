@@ -17,7 +17,7 @@ use Rattle.topo.specs.OfMap.{body_of}
 use Rattle.topo.specs.Parts.{LayerParts, TopologyParts}
 use Rattle.topo.specs.declared.geom.Body.{Body}
 use Rattle.topo.specs.declared.geom.Geom.{Geom}
-use Rattle.query.specs.Borders.{InScope}
+use Rattle.query.specs.Mesh.{InScope}
 use Rattle.query.specs.declared.members.Member.{Member}
 
 -- a feature and its body

@@ -3,7 +3,7 @@ use Rattle.std.specs.Prelude.{ℕ, cond, ◌==◌, List, [], ◌∷◌, ◌++◌
 use Rattle.std.specs.Ordering.{nat_cmp, ordering_then}
 use Rattle.std.specs.declared.cmp.Ordering.{Ordering}
 use Rattle.query.specs.declared.uses.Use.{Use}
-use Rattle.query.specs.declared.sharing.Pair.{Pair}
+use Rattle.query.specs.declared.questions.neighbors.Pair.{Pair}
 
 -- the use with each of those right behind it that are of its arc, either way round
 abbrev pub pairs_behind : Use → List Use → List Pair

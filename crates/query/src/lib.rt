@@ -3,24 +3,22 @@
 //! text, which is written with no memory. And how many arcs and geometries there are.
 #![tactic(auto)]
 
-pub mod borders;
 mod ends;
-pub mod fault;
-pub mod info;
-pub mod layer;
+mod fault;
+mod info;
 mod members;
 mod parts;
+mod questions;
 mod selecting;
-pub mod sharing;
 mod spans;
 mod stops;
 mod uses;
-pub mod writer;
+mod writer;
 
-pub use borders::mesh;
 pub use fault::QueryFault;
 pub use info::{ArcCounts, Kinds, count_arcs, count_kinds};
-pub use layer::feature;
 pub use layer_text::{LayerFault, write_layer};
-pub use sharing::neighbors;
+pub use questions::feature::feature;
+pub use questions::mesh::mesh;
+pub use questions::neighbors::neighbors;
 pub use writer::{write_mesh, write_neighbor_ids, write_neighbors};

@@ -7,7 +7,7 @@ ghost use Rattle.theory.specs.Lists.{gathered};
 ghost use Rattle.topo.specs.Features.{AreFeaturesOf};
 ghost use Rattle.topo.specs.ItsMap.{ForItsMap};
 ghost use Rattle.topo.specs.OfMap.{IsOfSomeMap};
-ghost use Rattle.query.specs.Borders.{IsMissing};
+ghost use Rattle.query.specs.Mesh.{IsMissing};
 ghost use Rattle.query.specs.Members.{held, paired, layer_pairs, by_feature, AreMembers};
 ghost use Rattle.query.specs.declared.fault.QueryFault.TheVariants.{NoLayer as MissingLayer};
 

@@ -1,7 +1,7 @@
 //! Which arcs a filter selects.
 ghost use Rattle.std.specs.Prelude.{IfOk, OnOk};
 ghost use Rattle.std.specs.Fn.{FnReturnsAtPair};
-ghost use Rattle.query.specs.Borders.{MayAsk};
+ghost use Rattle.query.specs.Mesh.{MayAsk};
 ghost use Rattle.query.specs.Selecting.{MayAskAmong, Answered, Decided, Known, AreChosen};
 
 use crate::members::Member;

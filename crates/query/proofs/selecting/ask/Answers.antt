@@ -1,6 +1,6 @@
 use Rattle.std.proofs.Common.{refl, of_calls}
 use Rattle.std.specs.Fn.{FnReturnsAtPair}
-use Rattle.query.specs.Borders.{MayAsk}
+use Rattle.query.specs.Mesh.{MayAsk}
 use Rattle.query.proofs.Choosing.{asked, may_ask, not_there}
 use Rattle.query.proofs.selecting.ask.Goals as goal
 

@@ -2,7 +2,7 @@ use Rattle.query.specs.Uses.{use_cmp}
 use Rattle.query.specs.contracts.uses.UsePartialEq.TheImpl as use_eq
 use Rattle.query.proofs.Orders.{use_total, use_same, use_ties}
 use Rattle.query.proofs.SortedOnce.{sorted_once}
-use Rattle.query.proofs.sharing.sort_uses.Goals as goal
+use Rattle.query.proofs.questions.neighbors.sort_uses.Goals as goal
 
 pub returns : goal.returns
 returns c =

@@ -1,12 +1,12 @@
 use Rattle.std.proofs.Common.{refl, sym, subst}
 use Rattle.std.specs.Prelude.{map as map_list}
 use Rattle.std.specs.Fn.{FnReturnsAtPair}
-use Rattle.query.specs.Borders.{MayAsk}
+use Rattle.query.specs.Mesh.{MayAsk}
 use Rattle.query.specs.Selecting.{MayAskAmong}
 use Rattle.chains.proofs.ArcSegments.{segments_on}
 use Rattle.query.proofs.Meshing.{selected_by}
 use Rattle.query.proofs.Parted.{joined_meet, lines_over}
-use Rattle.query.proofs.borders.mesh.Goals as goal
+use Rattle.query.proofs.questions.mesh.mesh.Goals as goal
 
 pub choose-requires : goal.choose-requires
 choose-requires g c =

@@ -1,6 +1,6 @@
 use Rattle.std.proofs.Common.{◌≡◌, map, replicate, drop, []}
 use Rattle.query.specs.Pairs.{with_others}
-use Rattle.query.proofs.sharing.lists_of.Given as goal
+use Rattle.query.proofs.questions.neighbors.lists_of.Given as goal
 
 abbrev pub invariant-loop-pair : goal.invariant-loop-pair
 invariant-loop-pair l =

@@ -2,7 +2,7 @@ use Rattle.shapes.specs.Maps.{features_at}
 use Rattle.shapes.specs.Sets as set
 use Rattle.topo.proofs.Stitched.{geometries_of}
 use Rattle.query.proofs.LayerFeatures.{layer_found, layer_missing, layer_stands, named_features, not_named}
-use Rattle.query.proofs.layer.feature.Goals as goal
+use Rattle.query.proofs.questions.feature.feature.Goals as goal
 
 pub returns-in_default-clause-layer : goal.returns-in_default-clause-layer
 returns-in_default-clause-layer c = λ m of. layer_missing _ (not_named m c.args.topology.now of c.args.layer.now c.in_default.ensures.none)

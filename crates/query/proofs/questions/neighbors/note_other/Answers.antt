@@ -1,5 +1,5 @@
 use Rattle.query.proofs.Others.{put_other}
-use Rattle.query.proofs.sharing.note_other.Goals as goal
+use Rattle.query.proofs.questions.neighbors.note_other.Goals as goal
 
 pub returns-in_ok-push-in-Some : goal.returns-in_ok-push-in-Some
 returns-in_ok-push-in-Some c =

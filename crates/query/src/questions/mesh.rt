@@ -9,7 +9,7 @@ ghost use Rattle.chains.specs.declared.segment.Segment.{Segment};
 ghost use Rattle.topo.specs.ItsMap.{ForItsMap};
 ghost use Rattle.topo.specs.Points.{arc_at};
 ghost use Rattle.chains.specs.Along.{Joins, SidesOf, HasArcs};
-ghost use Rattle.query.specs.Borders.{InScope, IsMissing, MayAskWithin, AreBorders};
+ghost use Rattle.query.specs.Mesh.{InScope, IsMissing, MayAskWithin, AreBorders};
 ghost use Rattle.query.specs.declared.fault.QueryFault.TheVariants.{NoLayer as MissingLayer};
 
 use crate::fault::QueryFault;

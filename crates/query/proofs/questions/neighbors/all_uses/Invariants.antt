@@ -1,7 +1,7 @@
 use Rattle.std.proofs.Common.{◌≡◌, ◌++◌, drop, map}
 use Rattle.topo.specs.OfMap.{body_of}
 use Rattle.query.specs.Uses.{bodies_uses}
-use Rattle.query.proofs.sharing.all_uses.Given as goal
+use Rattle.query.proofs.questions.neighbors.all_uses.Given as goal
 
 abbrev pub invariant-loop-place : goal.invariant-loop-place
 invariant-loop-place l =

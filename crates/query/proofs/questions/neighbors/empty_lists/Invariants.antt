@@ -1,5 +1,5 @@
 use Rattle.std.proofs.Common.{◌≡◌, map, replicate, []}
-use Rattle.query.proofs.sharing.empty_lists.Given as goal
+use Rattle.query.proofs.questions.neighbors.empty_lists.Given as goal
 
 abbrev pub invariant-loop : goal.invariant-loop
 invariant-loop l = map (λ v. v.items) l.lists.items ≡ replicate l.counter []

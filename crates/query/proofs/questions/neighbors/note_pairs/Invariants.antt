@@ -1,6 +1,6 @@
 use Rattle.std.proofs.Common.{◌≡◌, ◌++◌, drop}
 use Rattle.query.specs.Pairs.{pairs_behind}
-use Rattle.query.proofs.sharing.note_pairs.Given as goal
+use Rattle.query.proofs.questions.neighbors.note_pairs.Given as goal
 
 abbrev pub invariant-loop-other : goal.invariant-loop-other
 invariant-loop-other l =

@@ -4,7 +4,7 @@ use Rattle.query.specs.Pairs.{pair_cmp, pairs_among, with_others}
 use Rattle.query.specs.Uses.{use_cmp}
 use Rattle.query.proofs.Neighboring.{lists_neighbors}
 use Rattle.query.proofs.LayerFeatures.{layer_found, layer_missing, layer_stands, not_named, named_features}
-use Rattle.query.proofs.sharing.neighbors.Goals as goal
+use Rattle.query.proofs.questions.neighbors.neighbors.Goals as goal
 
 pub returns-in_default-clause-layer : goal.returns-in_default-clause-layer
 returns-in_default-clause-layer c = λ m of. layer_missing _ (not_named m c.args.topology.now of c.args.layer.now c.in_default.ensures.none)
