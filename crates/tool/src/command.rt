@@ -48,7 +48,12 @@ fn perform<'a, F: Files, O: Sink>(
         Some(("merge", found)) => print_text(&merged_text(alloc, found, files)?, out),
         Some(("remove", found)) => print_topology(&topology_left(alloc, found, files)?, out),
         Some(("feature", found)) => print_feature(&read_topology(alloc, found, files)?, found, out),
-        Some(("mesh", found)) => print_mesh(alloc, &read_topology(alloc, found, files)?, found, out),
+        Some(("mesh", found)) => print_mesh(
+            alloc,
+            &read_topology(alloc, found, files)?,
+            found,
+            out,
+        ),
         Some(("neighbors", found)) => {
             print_neighbors(alloc, &read_topology(alloc, found, files)?, found, out)
         }
