@@ -4,8 +4,8 @@ use std::alloc::Global;
 use std::process::Abort;
 use std::test::Fail;
 use worked_maps::{
-    Drawn, FIRST, SECOND, SHARED_EDGE, THIRD, TRIANGLE, TURNED_TRIANGLE, assert_same_arcs, assert_used,
-    refs_of, topology_of,
+    Drawn, FIRST, SECOND, SHARED_EDGE, THIRD, TRIANGLE, TURNED_TRIANGLE, assert_same_arcs,
+    assert_used, refs_of, topology_of,
 };
 
 /// Two maps, and for each arc of each the indexes of the arcs that it is cut into.

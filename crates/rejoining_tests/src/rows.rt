@@ -4,8 +4,8 @@ use std::alloc::Global;
 use std::process::Abort;
 use std::test::Fail;
 use worked_maps::{
-    Drawn, FIRST, Places, SECOND, SHARED_EDGE, THIRD, TRIANGLE, assert_same_arcs, assert_used, positions,
-    refs_of, topology_of,
+    Drawn, FIRST, Places, SECOND, SHARED_EDGE, THIRD, TRIANGLE, assert_same_arcs, assert_used,
+    positions, refs_of, topology_of,
 };
 
 /// A map, what is left of it, which of its arcs are used by that, and where the lines that are left

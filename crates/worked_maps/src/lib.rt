@@ -5,7 +5,6 @@
 mod comparing;
 
 pub use comparing::{assert_same_arcs, assert_used, refs_of};
-
 use grid::{Grid, Pos};
 use shapes::{Feature, FeatureMap, Id, Items, Line, Props, Ring, Shape};
 use std::alloc::Global;
