@@ -99,43 +99,40 @@ const ROWS: &[Row] = &[
     },
 ];
 
-/// A topology, the numbers of its arcs, and another topology of which no feature is among its own, so
-/// that each arc stays.
-#[derive(Clone, Copy)]
-struct Kept {
-    title: &'static str,
-    topology: &'static str,
-    arcs: &'static [i64],
-    removed: &'static str,
-}
-
-/// Rows of the next table, each a title, and behind it the other fields.
+/// Rows in which no feature is taken out: a title, a topology, the indexes of its arcs, each alone, and
+/// another topology, none of whose features is among its own.
 macro_rules! kept {
-    ($($title:literal: $topology:expr, $arcs:expr, $removed:expr;)+) => {
-        &[$(Kept { title: $title, topology: $topology, arcs: $arcs, removed: $removed }),+]
+    ($($title:literal: $topology:expr, $pieces:expr, $removed:expr;)+) => {
+        &[$(Row {
+            title: $title,
+            topology: $topology,
+            removed: $removed,
+            left: $topology,
+            pieces: $pieces,
+        }),+]
     };
 }
 
-const KEPT: &[Kept] = kept![
-    "a feature with another id": SHARED_EDGE, &[0, 1, 2],
+const KEPT: &[Row] = kept![
+    "a feature with another id": SHARED_EDGE, &[&[0], &[1], &[2]],
         topology!(r#"{"arcs":[[[0,0],[0,1],[1,0],[0,-1],[-1,0]]],"bbox":[0,0,1,1],"objects":{"a":{"geometries":[{"arcs":[[-1]],"id":1,"type":"Polygon"}],"type":"GeometryCollection"}},"#);
-    "a feature of another layer": SHARED_EDGE, &[0, 1, 2],
+    "a feature of another layer": SHARED_EDGE, &[&[0], &[1], &[2]],
         topology!(r#"{"arcs":[[[0,0],[0,1],[1,0],[0,-1],[-1,0]]],"bbox":[0,0,1,1],"objects":{"b":{"geometries":[{"arcs":[[-1]],"type":"Polygon"}],"type":"GeometryCollection"}},"#);
-    "a square that differs at one corner": SHARED_EDGE, &[0, 1, 2],
+    "a square that differs at one corner": SHARED_EDGE, &[&[0], &[1], &[2]],
         topology!(r#"{"arcs":[[[0,0],[0,2],[1,-1],[0,-1],[-1,0]]],"bbox":[0,0,1,2],"objects":{"a":{"geometries":[{"arcs":[[-1]],"type":"Polygon"}],"type":"GeometryCollection"}},"#);
-    "a square that goes round the other way": SHARED_EDGE, &[0, 1, 2],
+    "a square that goes round the other way": SHARED_EDGE, &[&[0], &[1], &[2]],
         topology!(r#"{"arcs":[[[0,0],[0,1],[1,0],[0,-1],[-1,0]]],"bbox":[0,0,1,1],"objects":{"a":{"geometries":[{"arcs":[[0]],"type":"Polygon"}],"type":"GeometryCollection"}},"#);
-    "the corners of a square in another order": SHARED_EDGE, &[0, 1, 2],
+    "the corners of a square in another order": SHARED_EDGE, &[&[0], &[1], &[2]],
         topology!(r#"{"arcs":[[[0,0],[1,1],[0,-1],[-1,1],[0,-1]]],"bbox":[0,0,1,1],"objects":{"a":{"geometries":[{"arcs":[[0]],"type":"Polygon"}],"type":"GeometryCollection"}},"#);
-    "a square as the one of many": SHARED_EDGE, &[0, 1, 2],
+    "a square as the one of many": SHARED_EDGE, &[&[0], &[1], &[2]],
         topology!(r#"{"arcs":[[[0,0],[0,1],[1,0],[0,-1],[-1,0]]],"bbox":[0,0,1,1],"objects":{"a":{"geometries":[{"arcs":[[[-1]]],"type":"MultiPolygon"}],"type":"GeometryCollection"}},"#);
-    "a polygon with a ring more": SHARED_EDGE, &[0, 1, 2], TWO_RINGS;
-    "a polygon with a ring less": TWO_RINGS, &[0, 1], FIRST;
-    "a line that goes the other way": LINES, &[0, 1, 2],
+    "a polygon with a ring more": SHARED_EDGE, &[&[0], &[1], &[2]], TWO_RINGS;
+    "a polygon with a ring less": TWO_RINGS, &[&[0], &[1]], FIRST;
+    "a line that goes the other way": LINES, &[&[0], &[1], &[2]],
         topology!(r#"{"arcs":[[[1,1],[0,-1],[-1,0]]],"bbox":[0,0,1,1],"objects":{"a":{"geometries":[{"arcs":[0],"type":"LineString"}],"type":"GeometryCollection"}},"#);
-    "the front of a line": LINES, &[0, 1, 2],
+    "the front of a line": LINES, &[&[0], &[1], &[2]],
         topology!(r#"{"arcs":[[[0,0],[1,0]]],"bbox":[0,0,1,0],"objects":{"a":{"geometries":[{"arcs":[0],"type":"LineString"}],"type":"GeometryCollection"}},"#);
-    "a line that goes on": LINES, &[0, 1, 2],
+    "a line that goes on": LINES, &[&[0], &[1], &[2]],
         topology!(r#"{"arcs":[[[0,0],[1,0],[0,1],[0,1]]],"bbox":[0,0,1,2],"objects":{"a":{"geometries":[{"arcs":[0],"type":"LineString"}],"type":"GeometryCollection"}},"#);
 ];
 
@@ -155,46 +152,25 @@ fn assert_pieces(rt: &impl Abort, row: &Row, made: &Removal) -> Result<(), Fail>
     Ok(())
 }
 
-/// What is left is a text, whether it is lent or handed out.
-fn assert_left<R: Abort + AllocGlobal>(
-    rt: &R,
-    made: Removal,
-    left: &str,
-    title: &str,
-) -> Result<(), Fail> {
-    let text = topo_io::text_of(rt.alloc(), made.topology())?;
-    assert!(rt; text.as_slice() == left.as_bytes(), "{title}");
-    let text = topo_io::text_of(rt.alloc(), &made.into_topology())?;
-    assert!(rt; text.as_slice() == left.as_bytes(), "{title}");
+/// What is left, lent and handed out, and the old arcs of each new one, are those of each row.
+fn assert_rows<R: Abort + AllocGlobal>(rt: &R, rows: &[Row]) -> Result<(), Fail> {
+    for row in rows {
+        let made = removal(rt.alloc(), row.topology, row.removed)?;
+        assert_pieces(rt, row, &made)?;
+        let text = topo_io::text_of(rt.alloc(), made.topology())?;
+        assert!(rt; text.as_slice() == row.left.as_bytes(), "{}", row.title);
+        let text = topo_io::text_of(rt.alloc(), &made.into_topology())?;
+        assert!(rt; text.as_slice() == row.left.as_bytes(), "{}", row.title);
+    }
     Ok(())
 }
 
 #[test]
 fn features_taken_out(rt: HostRuntime) -> Result<(), Fail> {
-    for row in ROWS {
-        let made = removal(rt.alloc(), row.topology, row.removed)?;
-        assert_pieces(&rt, row, &made)?;
-        assert_left(&rt, made, row.left, row.title)?;
-    }
-    Ok(())
-}
-
-/// Each new arc is the old one of its number.
-fn assert_arcs_stay(rt: &impl Abort, row: &Kept, made: &Removal) -> Result<(), Fail> {
-    for (number, index) in row.arcs.iter().enumerate() {
-        let pieces = made.pieces(number).ok_or("no pieces")?;
-        assert_used(rt, pieces, &[*index], row.title);
-    }
-    assert_eq!(rt; made.pieces(row.arcs.len()), None, "{}", row.title);
-    Ok(())
+    assert_rows(&rt, ROWS)
 }
 
 #[test]
 fn features_that_are_not_there(rt: HostRuntime) -> Result<(), Fail> {
-    for row in KEPT {
-        let made = removal(rt.alloc(), row.topology, row.removed)?;
-        assert_arcs_stay(&rt, row, &made)?;
-        assert_left(&rt, made, row.topology, row.title)?;
-    }
-    Ok(())
+    assert_rows(&rt, KEPT)
 }
