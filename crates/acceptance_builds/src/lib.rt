@@ -3,4 +3,12 @@
 #![tactic(auto)]
 
 #[cfg(test)]
-mod tests;
+mod build_rows;
+#[cfg(test)]
+mod depth;
+#[cfg(test)]
+mod feature_order;
+#[cfg(test)]
+mod geojson_refusals;
+#[cfg(test)]
+mod hostile_geojson;

@@ -1,6 +1,6 @@
 //! `merge_texts` by plans of any form: its answers, and its faults in their order.
 use command_runs::inputs::{A, B, EMPTY, FREE_LOOP, ONE_SQUARE, OTHER_TOOL, SHARED_EDGE};
-use command_runs::{build, rows, topology};
+use command_runs::{build, topology};
 use refine::{MergeFault, Plan, merge_texts};
 use shapes::{Fault, Step};
 use std::alloc::{AllocError, Global};
@@ -63,30 +63,100 @@ fn merged(alloc: Global, texts: &[&str], steps: &[Make]) -> Result<String, Fail>
     }
 }
 
+/// Texts and a plan over them, and the merged text or the fault.
+#[derive(Clone, Copy)]
+struct Row {
+    title: &'static str,
+    texts: &'static [&'static str],
+    plan: &'static [Make],
+    answer: &'static str,
+}
+
 /// The topology of `B`, with scales of 2.
 const OTHER_SCALE: &str =
     r#"{"arcs":[[[1,0],[0,1],[1,0],[0,-1],[-1,0]]],"objects":{"a":{"geometries":[{"arcs":[[-1]],"type":"Polygon"}],"type":"GeometryCollection"}},"transform":{"scale":[2,2],"translate":[0,0]},"type":"Topology"}"#;
 
-/// Each row is a title, texts, a plan over them, and the merged text or the fault.
-const ROWS: &[(&str, &[&str], &[Make], &str)] = rows![
-    "a refused text that the plan does not name", &[ONE_SQUARE, "{}"], &[Make::Leaf(0)], "Text 1: Missing $/type";
-    "a refused text comes before another transform", &[ONE_SQUARE, OTHER_SCALE, "{}"], &[Make::Leaf(0)], "Text 2: Missing $/type";
-    "another transform that the plan does not name", &[ONE_SQUARE, OTHER_SCALE], &[Make::Leaf(0)], "OtherGrid 1";
-    "a leaf that is no place comes before a refused text", &["{}"], &[Make::Leaf(0), Make::Leaf(3), Make::Node], "BadPlan 3";
-    "the first leaf from the left", &[ONE_SQUARE, ONE_SQUARE], &[Make::Leaf(7), Make::Leaf(9), Make::Node, Make::Leaf(8), Make::Node], "BadPlan 7";
-    "a leaf past two texts", &[ONE_SQUARE, ONE_SQUARE], &[Make::Leaf(7)], "BadPlan 7";
-    "no texts", &[], &[Make::Leaf(0)], "BadPlan 0";
-    "one text of two", &[ONE_SQUARE, FREE_LOOP], &[Make::Leaf(1)], FREE_LOOP;
-    "layers of one text and of the other", &[EMPTY, topology!(r#"{"arcs":[],"objects":{"b":{"geometries":[],"type":"GeometryCollection"}},"#)], &[Make::Leaf(1), Make::Leaf(0), Make::Node],
-        topology!(r#"{"arcs":[],"objects":{"a":{"geometries":[],"type":"GeometryCollection"},"b":{"geometries":[],"type":"GeometryCollection"}},"#);
-    "a text merged with itself", &[OTHER_TOOL], &[Make::Leaf(0), Make::Leaf(0), Make::Node], ONE_SQUARE;
+const ROWS: &[Row] = &[
+    Row {
+        title: "a refused text that the plan does not name",
+        texts: &[ONE_SQUARE, "{}"],
+        plan: &[Make::Leaf(0)],
+        answer: "Text 1: Missing $/type",
+    },
+    Row {
+        title: "a refused text comes before another transform",
+        texts: &[ONE_SQUARE, OTHER_SCALE, "{}"],
+        plan: &[Make::Leaf(0)],
+        answer: "Text 2: Missing $/type",
+    },
+    Row {
+        title: "another transform that the plan does not name",
+        texts: &[ONE_SQUARE, OTHER_SCALE],
+        plan: &[Make::Leaf(0)],
+        answer: "OtherGrid 1",
+    },
+    Row {
+        title: "a leaf that is no place comes before a refused text",
+        texts: &["{}"],
+        plan: &[Make::Leaf(0), Make::Leaf(3), Make::Node],
+        answer: "BadPlan 3",
+    },
+    Row {
+        title: "the first leaf from the left",
+        texts: &[ONE_SQUARE, ONE_SQUARE],
+        plan: &[
+            Make::Leaf(7),
+            Make::Leaf(9),
+            Make::Node,
+            Make::Leaf(8),
+            Make::Node,
+        ],
+        answer: "BadPlan 7",
+    },
+    Row {
+        title: "a leaf past two texts",
+        texts: &[ONE_SQUARE, ONE_SQUARE],
+        plan: &[Make::Leaf(7)],
+        answer: "BadPlan 7",
+    },
+    Row {
+        title: "no texts",
+        texts: &[],
+        plan: &[Make::Leaf(0)],
+        answer: "BadPlan 0",
+    },
+    Row {
+        title: "one text of two",
+        texts: &[ONE_SQUARE, FREE_LOOP],
+        plan: &[Make::Leaf(1)],
+        answer: FREE_LOOP,
+    },
+    Row {
+        title: "layers of one text and of the other",
+        texts: &[
+            EMPTY,
+            topology!(
+                r#"{"arcs":[],"objects":{"b":{"geometries":[],"type":"GeometryCollection"}},"#
+            ),
+        ],
+        plan: &[Make::Leaf(1), Make::Leaf(0), Make::Node],
+        answer: topology!(
+            r#"{"arcs":[],"objects":{"a":{"geometries":[],"type":"GeometryCollection"},"b":{"geometries":[],"type":"GeometryCollection"}},"#
+        ),
+    },
+    Row {
+        title: "a text merged with itself",
+        texts: &[OTHER_TOOL],
+        plan: &[Make::Leaf(0), Make::Leaf(0), Make::Node],
+        answer: ONE_SQUARE,
+    },
 ];
 
 #[test]
 fn answers_and_faults(rt: HostRuntime) -> Result<(), Fail> {
-    for (title, texts, plan, expected) in ROWS {
-        let answer = merged(rt.alloc(), *texts, *plan)?;
-        assert_eq!(rt; answer.as_str(), *expected, "{title}");
+    for row in ROWS {
+        let answer = merged(rt.alloc(), row.texts, row.plan)?;
+        assert_eq!(rt; answer.as_str(), row.answer, "{}", row.title);
     }
     Ok(())
 }

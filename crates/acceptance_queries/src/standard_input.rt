@@ -1,24 +1,75 @@
 //! The file word `-`, which stands for standard input.
 use command_runs::inputs::{EMPTY, ONE_SQUARE, SHARED_EDGE, SQUARES};
-use command_runs::{Outcome, Run, rows, topology};
+use command_runs::{Outcome, Run, topology};
 use std::alloc::Global;
 use std::test::Fail;
 
-/// Each row is words, the text of standard input, and what is printed.
-const READ: &[(&[&str], &str, &str)] = rows![
-    &["build", "--grid", "1,1,0,0", "a=-"], SQUARES, SHARED_EDGE;
-    &["build", "--grid", "1,1,0,0", "a=squares.json", "a=-"], SQUARES, SHARED_EDGE;
-    &["check", "-"], SHARED_EDGE, "canonical\n";
-    &["merge", "-"], SHARED_EDGE, SHARED_EDGE;
-    &["merge", "shared.json", "-", "shared.json"], SHARED_EDGE, SHARED_EDGE;
-    &["remove", "-", "square.json"], SHARED_EDGE,
-        topology!(r#"{"arcs":[[[1,0],[0,1],[1,0],[0,-1],[-1,0]]],"bbox":[1,0,2,1],"objects":{"a":{"geometries":[{"arcs":[[-1]],"type":"Polygon"}],"type":"GeometryCollection"}},"#);
-    &["remove", "square.json", "-"], SHARED_EDGE, EMPTY;
-    &["feature", "--layer", "none", "-"], r#"{"type":"Topology","transform":{"scale":[1,1],"translate":[0,0]},"arcs":[],"objects":{"none":{"type":"GeometryCollection","geometries":[]}}}"#,
-        r#"{"features":[],"type":"FeatureCollection"}"#;
-    &["mesh", "--edges", "interior", "-"], SHARED_EDGE, r#"{"coordinates":[[[1,0],[1,1]]],"type":"MultiLineString"}"#;
-    &["neighbors", "--layer", "a", "-"], SHARED_EDGE, "[[1],[0]]";
-    &["info", "-"], SHARED_EDGE, "grid: 1,1,0,0\nbbox: 0,0,2,1\narcs: 3\npositions of arcs: 10\nfree loops: 0\nlayer \"a\": 2 features, 2 Polygon\n";
+/// Words, the text of standard input, and what is printed.
+#[derive(Clone, Copy)]
+struct Row {
+    words: &'static [&'static str],
+    input: &'static str,
+    out: &'static str,
+}
+
+const READ: &[Row] = &[
+    Row {
+        words: &["build", "--grid", "1,1,0,0", "a=-"],
+        input: SQUARES,
+        out: SHARED_EDGE,
+    },
+    Row {
+        words: &["build", "--grid", "1,1,0,0", "a=squares.json", "a=-"],
+        input: SQUARES,
+        out: SHARED_EDGE,
+    },
+    Row {
+        words: &["check", "-"],
+        input: SHARED_EDGE,
+        out: "canonical\n",
+    },
+    Row {
+        words: &["merge", "-"],
+        input: SHARED_EDGE,
+        out: SHARED_EDGE,
+    },
+    Row {
+        words: &["merge", "shared.json", "-", "shared.json"],
+        input: SHARED_EDGE,
+        out: SHARED_EDGE,
+    },
+    Row {
+        words: &["remove", "-", "square.json"],
+        input: SHARED_EDGE,
+        out: topology!(
+            r#"{"arcs":[[[1,0],[0,1],[1,0],[0,-1],[-1,0]]],"bbox":[1,0,2,1],"objects":{"a":{"geometries":[{"arcs":[[-1]],"type":"Polygon"}],"type":"GeometryCollection"}},"#
+        ),
+    },
+    Row {
+        words: &["remove", "square.json", "-"],
+        input: SHARED_EDGE,
+        out: EMPTY,
+    },
+    Row {
+        words: &["feature", "--layer", "none", "-"],
+        input: r#"{"type":"Topology","transform":{"scale":[1,1],"translate":[0,0]},"arcs":[],"objects":{"none":{"type":"GeometryCollection","geometries":[]}}}"#,
+        out: r#"{"features":[],"type":"FeatureCollection"}"#,
+    },
+    Row {
+        words: &["mesh", "--edges", "interior", "-"],
+        input: SHARED_EDGE,
+        out: r#"{"coordinates":[[[1,0],[1,1]]],"type":"MultiLineString"}"#,
+    },
+    Row {
+        words: &["neighbors", "--layer", "a", "-"],
+        input: SHARED_EDGE,
+        out: "[[1],[0]]",
+    },
+    Row {
+        words: &["info", "-"],
+        input: SHARED_EDGE,
+        out: "grid: 1,1,0,0\nbbox: 0,0,2,1\narcs: 3\npositions of arcs: 10\nfree loops: 0\nlayer \"a\": 2 features, 2 Polygon\n",
+    },
 ];
 
 /// A run with files on which every command can be tried, one of them named `-`.
@@ -40,8 +91,8 @@ fn outcome(alloc: Global, words: &[&str], input: &str) -> Result<Outcome, Fail> 
 
 #[test]
 fn every_command_reads_it(rt: HostRuntime) -> Result<(), Fail> {
-    for (words, input, out) in READ {
-        outcome(rt.alloc(), *words, *input)?.printed(*input, *out)?;
+    for row in READ {
+        outcome(rt.alloc(), row.words, row.input)?.printed(row.input, row.out)?;
     }
     Ok(())
 }

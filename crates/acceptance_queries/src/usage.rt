@@ -1,0 +1,282 @@
+//! The words of the command: usage, the grid's word, layers' words, files that can't be read.
+use command_runs::inputs::{A, EMPTY, NOTHING, SHARED_EDGE};
+use command_runs::{Outcome, run_words};
+use std::test::Fail;
+
+const FILES: &[(&str, &str)] = &[
+    ("A.json", A),
+    ("empty.json", NOTHING),
+    ("shared.json", SHARED_EDGE),
+    ("bad.json", "bad"),
+];
+
+/// Words that are refused by a line of the command's own.
+#[derive(Clone, Copy)]
+struct Row {
+    words: &'static [&'static str],
+    status: u8,
+    line: &'static str,
+}
+
+const REFUSED: &[Row] = &[
+    Row {
+        words: &["build", "--grid", "1,1,0", "a=A.json"],
+        status: 2,
+        line: "topotool: bad grid 1,1,0\n",
+    },
+    Row {
+        words: &["build", "--grid", "1,1,0,0,0", "a=A.json"],
+        status: 2,
+        line: "topotool: bad grid 1,1,0,0,0\n",
+    },
+    Row {
+        words: &["build", "--grid", "+1,1,0,0", "a=A.json"],
+        status: 2,
+        line: "topotool: bad grid +1,1,0,0\n",
+    },
+    Row {
+        words: &["build", "--grid", "1,1,,0", "a=A.json"],
+        status: 2,
+        line: "topotool: bad grid 1,1,,0\n",
+    },
+    Row {
+        words: &["build", "--grid", "1,1,-,0", "a=A.json"],
+        status: 2,
+        line: "topotool: bad grid 1,1,-,0\n",
+    },
+    Row {
+        words: &["build", "--grid", "1,1,--1,0", "a=A.json"],
+        status: 2,
+        line: "topotool: bad grid 1,1,--1,0\n",
+    },
+    Row {
+        words: &["build", "--grid", "1, 1,0,0", "a=A.json"],
+        status: 2,
+        line: "topotool: bad grid 1, 1,0,0\n",
+    },
+    Row {
+        words: &["build", "--grid", "1.0,1,0,0", "a=A.json"],
+        status: 2,
+        line: "topotool: bad grid 1.0,1,0,0\n",
+    },
+    Row {
+        words: &["build", "--grid", "١,1,0,0", "a=A.json"],
+        status: 2,
+        line: "topotool: bad grid ١,1,0,0\n",
+    },
+    Row {
+        words: &["build", "--grid=", "a=A.json"],
+        status: 2,
+        line: "topotool: bad grid \n",
+    },
+    Row {
+        words: &["build", "--grid", "0,1,0,0", "a=A.json"],
+        status: 2,
+        line: "topotool: bad grid 0,1,0,0\n",
+    },
+    Row {
+        words: &["build", "--grid=-1,1,0,0", "a=A.json"],
+        status: 2,
+        line: "topotool: bad grid -1,1,0,0\n",
+    },
+    Row {
+        words: &["build", "--grid", "1,1000001,0,0", "a=A.json"],
+        status: 2,
+        line: "topotool: bad grid 1,1000001,0,0\n",
+    },
+    Row {
+        words: &["build", "--grid", "1,1,-1000000000001,0", "a=A.json"],
+        status: 2,
+        line: "topotool: bad grid 1,1,-1000000000001,0\n",
+    },
+    Row {
+        words: &["build", "--grid", "1,1,0,1000000000001", "a=A.json"],
+        status: 2,
+        line: "topotool: bad grid 1,1,0,1000000000001\n",
+    },
+    Row {
+        words: &["build", "--grid", "1,1,0,9223372036854775808", "a=A.json"],
+        status: 2,
+        line: "topotool: bad grid 1,1,0,9223372036854775808\n",
+    },
+    Row {
+        words: &["build", "--grid", "1,1,0,0", "a=A.json", "A.json", "B.json"],
+        status: 2,
+        line: "topotool: bad layer A.json\n",
+    },
+    Row {
+        words: &["build", "--grid", "x", "A.json"],
+        status: 2,
+        line: "topotool: bad grid x\n",
+    },
+    Row {
+        words: &["build", "--grid", "1,1,0,0", "a=nowhere.json", "A.json"],
+        status: 2,
+        line: "topotool: bad layer A.json\n",
+    },
+    Row {
+        words: &["build", "--grid", "1,1,0,0", "a=bad.json", "a=b=c"],
+        status: 3,
+        line: "topotool: cannot read b=c\n",
+    },
+    Row {
+        words: &["build", "--grid", "1,1,0,0", "a=first", "b=second"],
+        status: 3,
+        line: "topotool: cannot read first\n",
+    },
+    Row {
+        words: &["check", "nowhere.json"],
+        status: 3,
+        line: "topotool: cannot read nowhere.json\n",
+    },
+    Row {
+        words: &["merge", "bad.json", "nowhere.json"],
+        status: 3,
+        line: "topotool: cannot read nowhere.json\n",
+    },
+    Row {
+        words: &["feature", "--layer", "a", "nowhere.json"],
+        status: 3,
+        line: "topotool: cannot read nowhere.json\n",
+    },
+    Row {
+        words: &["feature", "--layer", "q", "shared.json"],
+        status: 4,
+        line: "topotool: 19 NoLayer q\n",
+    },
+    Row {
+        words: &["feature", "--layer", "q", "bad.json"],
+        status: 4,
+        line: "topotool: bad.json: 1 NotJson $\n",
+    },
+    Row {
+        words: &["mesh", "--layer", "x/y~z", "shared.json"],
+        status: 4,
+        line: "topotool: 19 NoLayer x/y~z\n",
+    },
+    Row {
+        words: &["neighbors", "--layer=", "shared.json"],
+        status: 4,
+        line: "topotool: 19 NoLayer \n",
+    },
+];
+
+#[test]
+fn lines_of_the_command(rt: HostRuntime) -> Result<(), Fail> {
+    for row in REFUSED {
+        let outcome = run_words(rt.alloc(), row.words, FILES)?;
+        outcome.refused(row.line, row.status, row.line)?;
+    }
+    Ok(())
+}
+
+/// Words that are against the usage.
+const USAGE: &[&[&str]] = &[
+    &[],
+    &["split", "shared.json", "shared.json"],
+    &["build"],
+    &["build", "a=A.json"],
+    &["build", "--grid", "1,1,0,0"],
+    &["build", "--grid", "-1,1,0,0", "a=A.json"],
+    &[
+        "build", "--grid", "1,1,0,0", "--grid", "1,1,0,0", "a=A.json",
+    ],
+    &["check"],
+    &["check", "shared.json", "shared.json"],
+    &["merge"],
+    &["merge", "--shape", "middle", "shared.json"],
+    &["remove"],
+    &["remove", "shared.json"],
+    &["remove", "shared.json", "shared.json", "shared.json"],
+    &["feature", "shared.json"],
+    &["mesh", "--edges", "some", "shared.json"],
+    &["neighbors", "shared.json"],
+    &["check", "--layer", "a", "shared.json"],
+    &["info"],
+    &["info", "--layer", "a", "shared.json"],
+    &["info", "--json", "--json", "shared.json"],
+    &["neighbors", "--ids=1", "--layer", "a", "shared.json"],
+    &["mesh", "--ids", "shared.json"],
+    &["check", "--version"],
+];
+
+#[test]
+fn wrong_usage(rt: HostRuntime) -> Result<(), Fail> {
+    for words in USAGE {
+        let Outcome { status, out, err } = run_words(rt.alloc(), words, FILES)?;
+        assert_eq!(rt; status, 2, "{words:?}");
+        assert_eq!(rt; out.as_str(), "", "{words:?}");
+        assert!(rt; !err.is_empty(), "{words:?}");
+    }
+    Ok(())
+}
+
+/// Words that ask for help, and a part of what is printed.
+const HELP: &[(&[&str], &str)] = &[
+    (&["--help"], "Usage: topotool <COMMAND>"),
+    (&["help"], "Usage: topotool <COMMAND>"),
+    (
+        &["build", "--help"],
+        "Example: topotool build --grid 1,1,0,0",
+    ),
+    (&["check", "--help"], "Example: topotool check"),
+    (&["merge", "--help"], "Example: topotool merge"),
+    (&["remove", "--help"], "Example: topotool remove"),
+    (
+        &["--help"],
+        "remove     Prints a topology without the features of another one",
+    ),
+    (&["feature", "--help"], "Example: topotool feature --layer"),
+    (&["mesh", "--help"], "Example: topotool mesh --edges"),
+    (
+        &["neighbors", "--help"],
+        "Example: topotool neighbors --layer",
+    ),
+    (&["info", "--help"], "Example: topotool info"),
+    (&["--help"], "docs/FAULTS.md"),
+    (&["build", "--help"], "docs/FAULTS.md"),
+];
+
+const STATUSES: &str = "
+Status: 0 done, 1 `check` says no, 2 wrong usage, 3 a file can't be read,
+4 an input is refused, 5 out of memory, 6 the output failed
+";
+
+#[test]
+fn help(rt: HostRuntime) -> Result<(), Fail> {
+    for (words, part) in HELP {
+        let Outcome { status, out, err } = run_words(rt.alloc(), words, FILES)?;
+        assert_eq!(rt; status, 0, "{part}");
+        assert!(rt; out.contains(*part), "{part}");
+        assert!(rt; out.lines().all(|line| line.len() < 80), "{out}");
+        assert_eq!(rt; err.as_str(), "", "{part}");
+    }
+    Ok(())
+}
+
+#[test]
+fn help_ends_with_the_statuses(rt: HostRuntime) -> Result<(), Fail> {
+    let Outcome {
+        status,
+        out,
+        err: _,
+    } = run_words(rt.alloc(), &["--help"], FILES)?;
+    assert_eq!(rt; status, 0);
+    assert!(rt; out.ends_with(STATUSES), "{out}");
+    Ok(())
+}
+
+#[test]
+fn version(rt: HostRuntime) -> Result<(), Fail> {
+    for word in ["--version", "-V"] {
+        run_words(rt.alloc(), &[word], FILES)?.printed(word, "topotool 0.1.0\n")?;
+    }
+    Ok(())
+}
+
+#[test]
+fn a_grid_that_begins_with_a_minus(rt: HostRuntime) -> Result<(), Fail> {
+    let words = ["build", "--grid=1,1,-0,0", "a=empty.json"];
+    run_words(rt.alloc(), &words, FILES)?.printed("minus", EMPTY)?;
+    Ok(())
+}
