@@ -1,6 +1,6 @@
 //! Sessions: a topology that is edited by joins and removals, and its text. Expected texts are worked
 //! out by hand.
-use crate::tests::texts::{FIRST, ON_SCALE_TWO, SECOND, SHARED_EDGE};
+use crate::texts::{FIRST, SECOND, SHARED_EDGE};
 use grid::Grid;
 use refine::{Edit, EditsFault, JoinFault, Session};
 use std::alloc::Global;
@@ -10,6 +10,9 @@ use topo::Topology;
 
 const NO_LAYERS: &str =
     r#"{"arcs":[],"objects":{},"transform":{"scale":[1,1],"translate":[0,0]},"type":"Topology"}"#;
+
+const ON_SCALE_TWO: &str =
+    r#"{"arcs":[],"objects":{},"transform":{"scale":[2,2],"translate":[0,0]},"type":"Topology"}"#;
 
 fn start(alloc: Global) -> Result<Session, Fail> {
     let grid = Grid::new(1, 1, 0, 0).ok_or("a grid")?;

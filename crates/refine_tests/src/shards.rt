@@ -1,20 +1,47 @@
 //! Maps joined by plans over each kind of shard. Expected texts are worked out by hand.
-use crate::tests::texts::THREE;
+use grid::Pos;
 use grid::transform::Grid;
 use refine::cut_shard::Cut;
 use refine::shard::Shard;
 use refine::whole::Whole;
 use refine::{Plan, run_plan};
-use shapes::{Feature, FeatureMap, Id, Props, Shape};
+use shapes::{Feature, FeatureMap, Id, Items, Line, Props, Ring, Shape};
 use std::alloc::Global;
 use std::process::Abort;
 use std::test::Fail;
-use worked_maps::{FIRST, SECOND, THIRD, line, polygon};
+
+const FIRST: &[(i64, i64)] = &[(0, 0), (1, 0), (1, 1), (0, 1), (0, 0)];
+
+const SECOND: &[(i64, i64)] = &[(1, 0), (2, 0), (2, 1), (1, 1), (1, 0)];
+
+const THIRD: &[(i64, i64)] = &[(2, 0), (3, 0), (3, 1), (2, 1), (2, 0)];
 
 const FROM_CORNER: &[(i64, i64)] = &[(1, 1), (2, 2)];
 
+const SQUARES: &str =
+    "{\"arcs\":[[[1,0],[-1,0],[0,1],[1,0]],[[1,0],[0,1]],[[1,0],[1,0]],[[1,1],[1,0]],[[2,0],[0,1]],[[2,0],[1,0],[0,1],[-1,0]]],\"bbox\":[0,0,3,1],\"objects\":{\"a\":{\"geometries\":[{\"arcs\":[[1,-1]],\"type\":\"Polygon\"},{\"arcs\":[[2,4,-4,-2]],\"type\":\"Polygon\"},{\"arcs\":[[5,-5]],\"type\":\"Polygon\"}],\"type\":\"GeometryCollection\"}},\"transform\":{\"scale\":[1,1],\"translate\":[0,0]},\"type\":\"Topology\"}";
+
 const CORNER: &str =
     "{\"arcs\":[[[1,1],[-1,0],[0,-1],[1,0],[0,1]],[[1,1],[1,1]]],\"bbox\":[0,0,2,2],\"objects\":{\"a\":{\"geometries\":[{\"arcs\":[[0]],\"type\":\"Polygon\"}],\"type\":\"GeometryCollection\"},\"b\":{\"geometries\":[{\"arcs\":[1],\"type\":\"LineString\"},{\"arcs\":[[0]],\"type\":\"Polygon\"}],\"type\":\"GeometryCollection\"}},\"transform\":{\"scale\":[1,1],\"translate\":[0,0]},\"type\":\"Topology\"}";
+
+fn positions(alloc: Global, places: &[(i64, i64)]) -> Result<Vec<Pos>, Fail> {
+    let mut made = Vec::new(alloc);
+    for (x, y) in places {
+        made.push(Pos::new(*x, *y).ok_or("outside the limits")?)?;
+    }
+    Ok(made)
+}
+
+fn line(alloc: Global, places: &[(i64, i64)]) -> Result<Shape, Fail> {
+    let positions = positions(alloc, places)?;
+    Ok(Shape::Line(Line::from_positions(alloc, positions)?))
+}
+
+fn polygon(alloc: Global, places: &[(i64, i64)]) -> Result<Shape, Fail> {
+    let mut rings = Vec::new(alloc);
+    rings.push(Ring::from_closed(alloc, positions(alloc, places)?)?)?;
+    Ok(Shape::Polygon(Items::from_vec(rings)))
+}
 
 /// The map of one layer with one feature.
 fn map_of(alloc: Global, layer: &str, shape: Shape) -> Result<FeatureMap, Fail> {
@@ -85,9 +112,9 @@ fn squares(alloc: Global, rings: &[&[(i64, i64)]]) -> Result<Vec<FeatureMap>, Fa
 fn squares_in_a_row(rt: HostRuntime) -> Result<(), Fail> {
     let alloc = rt.alloc();
     let maps = squares(alloc, &[FIRST, SECOND, THIRD])?;
-    check_each_kind(&rt, alloc, &maps, THREE)?;
+    check_each_kind(&rt, alloc, &maps, SQUARES)?;
     let maps = squares(alloc, &[THIRD, FIRST, SECOND, FIRST])?;
-    check_each_kind(&rt, alloc, &maps, THREE)
+    check_each_kind(&rt, alloc, &maps, SQUARES)
 }
 
 /// A square in two layers, and in one of them a line from a corner of it, which becomes its seam.
