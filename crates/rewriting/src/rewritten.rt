@@ -71,11 +71,7 @@ fn polygons_rewritten<L: NewLists>(
     Ok(Items::from_vec(made))
 }
 
-fn body_copied<L: NewLists>(
-    alloc: Global,
-    lists: &L,
-    body: &Body,
-) -> Result<Body, OutOfMemory>
+fn body_copied<L: NewLists>(alloc: Global, lists: &L, body: &Body) -> Result<Body, OutOfMemory>
     ensures { IfOk result (λ b. b ≡ rewritten.body_rewritten (L.line_of lists.now) (L.ring_of lists.now) body.now) }
 {
     match body {
@@ -85,11 +81,7 @@ fn body_copied<L: NewLists>(
             lists,
             lines.as_slice(),
         )?)),
-        Body::Polygon(rings) => Ok(Body::Polygon(rings_rewritten(
-            alloc,
-            lists,
-            rings.as_slice(),
-        )?)),
+        Body::Polygon(rings) => Ok(Body::Polygon(rings_rewritten(alloc, lists, rings.as_slice())?)),
         Body::MultiPolygon(polygons) => Ok(Body::MultiPolygon(polygons_rewritten(
             alloc,
             lists,
@@ -100,11 +92,7 @@ fn body_copied<L: NewLists>(
 }
 
 /// The body by its new lists; points, which have none, are moved.
-fn body_rewritten<L: NewLists>(
-    alloc: Global,
-    lists: &L,
-    body: Body,
-) -> Result<Body, OutOfMemory>
+fn body_rewritten<L: NewLists>(alloc: Global, lists: &L, body: Body) -> Result<Body, OutOfMemory>
     ensures { IfOk result (λ b. b ≡ rewritten.body_rewritten (L.line_of lists.now) (L.ring_of lists.now) body) }
 {
     match body {
