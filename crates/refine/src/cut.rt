@@ -27,6 +27,7 @@ use std::collections::VecDeque;
 use topo::{Geom, Layer, Topology, order_of};
 
 /// The lists of a side by the new arcs.
+#[derive(Drop)]
 struct SideLists<'a> {
     recut: &'a Recut,
     side: Side,

@@ -361,6 +361,7 @@ fn line_ends(
 }
 
 /// The lists of what stays by the arcs that are joined again.
+#[derive(Drop)]
 struct JoinedLists<'a> {
     joined: &'a Rejoined,
 }
