@@ -1,0 +1,4 @@
+pub mod RoundAgain
+pub mod Turning
+pub mod Kept
+pub mod Along

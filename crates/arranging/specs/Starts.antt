@@ -20,7 +20,7 @@ least_place (x ∷ l) = least_from 0 x 1 l
 
 -- the place at which an arc has to begin: a free loop at its least vertex, any other where it does
 abbrev pub start_of : Bool → List Pos → ℕ
-start_of free c = cond free (least_place c) 0
+start_of free c = cond free (least_place (unclosed c)) 0
 
 -- the arc begun at a place; only a closed one is begun elsewhere
 abbrev pub begun_at : ℕ → List Pos → List Pos

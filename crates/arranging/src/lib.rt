@@ -7,4 +7,4 @@ mod images;
 mod starts;
 pub mod whole;
 
-pub use whole::{Arranged, arranged};
+pub use whole::{Arranged, arrange};

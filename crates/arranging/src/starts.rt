@@ -33,13 +33,18 @@ fn place_of_least(vertices: &[Pos]) -> usize
 fn start_of(arc: &[Pos], free: bool) -> usize
     ensures { result ≡ spec.start_of free arc.now }
 {
-    if free { place_of_least(arc) } else { 0 }
+    if !free {
+        return 0;
+    }
+    match arc.split_last() {
+        Some((_, ring)) => place_of_least(ring),
+        None => 0,
+    }
 }
 
-/// A closed arc, begun at another place.
+/// A closed arc, begun at another of its vertices.
 fn turned(mut arc: Vec<Pos>, place: usize) -> Result<Vec<Pos>, AllocError>
-    requires behind { 0 < place }
-    requires within { place < length arc.items }
+    requires { place < length (unclosed arc.items) }
     ensures { IfOk result (λ v. v.items ≡ opened_at place (unclosed arc.items)) }
 {
     arc.truncate(arc.len() - 1);
@@ -51,7 +56,7 @@ fn turned(mut arc: Vec<Pos>, place: usize) -> Result<Vec<Pos>, AllocError>
 
 /// An arc begun at a place.
 fn begun(arc: Vec<Pos>, place: usize) -> Result<Vec<Pos>, AllocError>
-    requires { 0 < place → place < length arc.items }
+    requires { 0 < place → place < length (unclosed arc.items) }
     ensures { IfOk result (λ v. v.items ≡ spec.begun_at place arc.items) }
 {
     if place == 0 {
@@ -74,8 +79,8 @@ impl Begun {
     {
         let vertices = arc.into_vec();
         let start = start_of(&vertices, free);
-        let begun = begun(vertices, start)?;
-        self.pieces.push(Piece::new(begun, free))?;
+        let positions = begun(vertices, start)?;
+        self.pieces.push(Piece::new(positions, free))?;
         self.starts.push(start)?;
         Ok(())
     }

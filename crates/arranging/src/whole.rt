@@ -58,7 +58,7 @@ fn begun(alloc: Global, arcs: &TextArcs, layers: &[Layer]) -> Result<Begun, OutO
 ///
 /// # Errors
 /// Where memory is refused.
-pub fn arranged(
+pub fn arrange(
     alloc: Global,
     arcs: &TextArcs,
     layers: &[Layer],
