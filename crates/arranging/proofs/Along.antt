@@ -31,7 +31,9 @@ use Rattle.arranging.proofs.RoundAgain.{begun_around, begun_same}
 
 get_map : {A B : Type 0} (f : A → B) (l : List A) (k : ℕ) (x : A) → slice_get l k ≡ Some x → slice_get (map f l) k ≡ Some (f x)
 get_map f [] k x e = absurd cc
-get_map f (y ∷ l) zero x e = let s : y ≡ x = cc in ap (λ w. Some (f w)) s
+get_map f (y ∷ l) zero x e =
+    let t : Some y ≡ Some x = e in
+    let s : y ≡ x = cc in ap (λ w. Some (f w)) s
 get_map f (y ∷ l) (suc k) x e = get_map f l k x e
 
 has_map : {A B : Type 0} (f : A → B) (x : A) (l : List A) → Has x l → Has (f x) (map f l)
@@ -58,17 +60,19 @@ located_runs new_arcs b c h =
     (found_place (least_direction (begun b c)) new_arcs h) refl refl ∙ ap Some (used_is b c)
 
 -- what stands at a number
-at : (f : List Pos → Bool) (arcs : List (List Pos)) (k n : ℕ) → slice_get (starts_of arcs (map f arcs)) k ≡ Some n →
+stands_at : (f : List Pos → Bool) (arcs : List (List Pos)) (k n : ℕ) → slice_get (starts_of arcs (map f arcs)) k ≡ Some n →
     (c : List Pos) × (slice_get arcs k ≡ Some c) × (n ≡ start_of (f c) c) × (slice_get (pieces_of arcs (map f arcs)) k ≡ Some (piece_of (f c) c))
-at f [] k n e = absurd cc
-at f (c ∷ arcs) zero n e = let s : start_of (f c) c ≡ n = cc in (c, refl, sym s, refl)
-at f (c ∷ arcs) (suc k) n e = at f arcs k n e
+stands_at f [] k n e = absurd cc
+stands_at f (c ∷ arcs) zero n e =
+    let t : Some (start_of (f c) c) ≡ Some n = e in
+    let s : start_of (f c) c ≡ n = cc in (c, refl, sym s, refl)
+stands_at f (c ∷ arcs) (suc k) n e = stands_at f arcs k n e
 
 module _ (f : List Pos → Bool) (shut : (c : List Pos) → f c ≡ true → is_closed position_cmp c ≡ true) (arcs new_arcs : List (List Pos))
     (there : (c : List Pos) → Has c (map chain_of (pieces_of arcs (map f arcs))) → Has c new_arcs) where
   pub are_along : AreAlong arcs new_arcs (map (located new_arcs) (pieces_of arcs (map f arcs))) (starts_of arcs (map f arcs))
   are_along k n e =
-      let t = at f arcs k n e in
+      let t = stands_at f arcs k n e in
       let p : Piece = piece_of (f t.0) t.0 in
       let h : Has (least_direction (begun (f t.0) t.0)) new_arcs =
       there (least_direction (begun (f t.0) t.0)) (has_map chain_of p (pieces_of arcs (map f arcs)) (get_has (pieces_of arcs (map f arcs)) k p t.3)) in

@@ -163,10 +163,7 @@ module _ (arcs new_arcs : List (List Pos)) (refs : List ArcRef) (starts : List �
   shape_kept (of.MultiPolygon ps) (to.MultiPolygon lists) e h =
       mapped_pairs (Pairwise (IsRingOf new_arcs)) (Pairwise (IsRingOf arcs)) (map (ring_image new_arcs refs)) (list_all (ring_fits starts)) rings_kept ps lists
       (all_has (list_all (ring_fits starts)) lists e) h
-  shape_kept s b e h = other s b h
-    where
-      other : (s : shapes.Shape) (b : bodies.Body) → IsShapeOf new_arcs s (body_image new_arcs refs b) → IsShapeOf arcs s b
-      other s b h = absurd h
+  shape_kept s b e h = absurd h
 
   geometry_kept : (g : Geom) → geometry_fits starts g ≡ true → KeepsFeature arcs new_arcs g (geometry_image new_arcs refs g)
   geometry_kept g e f h = record { id = h.id; props = h.props; shape = shape_kept f.shape g.body e h.shape }

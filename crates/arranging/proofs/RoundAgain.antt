@@ -102,7 +102,7 @@ place_within (x ∷ l) h = let m = least_within 0 x 1 l (omega arith) in omega (
 
 pub start_within : (free : Bool) (c : List Pos) → 0 < start_of free c → start_of free c < length (unclosed c)
 start_within true c h = place_within (unclosed c) h
-start_within false c h = absurd (omega (arith, h))
+start_within false c h = let k : 0 < 0 = h in absurd (omega (arith, k))
 
 -- an arc that is begun elsewhere goes round alike
 pub begun_around : (free : Bool) (c : List Pos) → (free ≡ true → is_closed position_cmp c ≡ true) → (start_of free c ≡ 0) ⊎ Around c (begun free c)

@@ -1,7 +1,6 @@
 -- Lists of used arcs that are the same by the new arcs, though some free loops begin at other places.
-use Rattle.std.specs.Prelude.{ℕ, Bool, true, false, ◌&&◌, List, [], ◌∷◌, Option, Some, None, slice_get}
+use Rattle.std.specs.Prelude.{ℕ, Bool, true, false, ◌&&◌, List, [], ◌∷◌, nat_eq, Option, Some, None, slice_get}
 use Rattle.std.specs.List.{list_all}
-use Rattle.std.specs.Ordering.{nat_eq}
 use Rattle.theory.specs.ArcNumbers.{ArcRef}
 use Rattle.topo.specs.Parts.{LayerParts}
 use Rattle.topo.specs.declared.geom.Body.{Body}

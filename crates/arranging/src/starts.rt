@@ -67,12 +67,12 @@ fn begun(arc: Vec<Pos>, place: usize) -> Result<Vec<Pos>, AllocError>
 
 /// Arcs as pieces, each begun where it has to, and the places at which they were begun.
 #[derive(Drop)]
-pub(crate) struct Begun {
+pub(crate) struct PlacedArcs {
     pub(crate) pieces: Vec<Piece>,
     pub(crate) starts: Vec<usize>,
 }
 
-impl Begun {
+impl PlacedArcs {
     fn add(&mut self, arc: Items<Pos>, free: bool) -> Result<(), AllocError>
         ensures pieces { OnOk result (self.new.pieces.items ≡ self.old.pieces.items ++ spec.piece_of free arc ∷ []) }
         ensures starts { OnOk result (self.new.starts.items ≡ self.old.starts.items ++ spec.start_of free arc ∷ []) }
@@ -102,11 +102,11 @@ pub(crate) fn all_begun(
     alloc: Global,
     arcs: Vec<Items<Pos>>,
     free: &[bool],
-) -> Result<Begun, OutOfMemory>
+) -> Result<PlacedArcs, OutOfMemory>
     ensures pieces { IfOk result (λ b. b.pieces.items ≡ spec.pieces_of arcs.items free.now) }
     ensures starts { IfOk result (λ b. b.starts.items ≡ spec.starts_of arcs.items free.now) }
 {
-    let mut made = Begun {
+    let mut made = PlacedArcs {
         pieces: Vec::with_capacity(alloc, arcs.len())?,
         starts: Vec::with_capacity(alloc, arcs.len())?,
     };

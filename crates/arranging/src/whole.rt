@@ -1,5 +1,5 @@
 //! Arcs and layers as other tools write them, put into order.
-ghost use Rattle.std.specs.Prelude.{◌≡◌, ◌↔◌, IfNone, IfOk, IfSome, List};
+ghost use Rattle.std.specs.Prelude.{◌≡◌, IfNone, IfOk, IfSome, List};
 ghost use Rattle.grid.specs.declared.pos.Pos.{Pos};
 ghost use Rattle.lines.specs.Turned.{list_cmp};
 ghost use Rattle.theory.specs.Arcs.{Ascends};
@@ -9,7 +9,7 @@ ghost use Rattle.arranging.specs.Whole.{CanStandFor, layers_by, pieces_in, start
 
 use crate::fitting::layers_fit;
 use crate::images::NewArcs;
-use crate::starts::{Begun, all_begun};
+use crate::starts::{PlacedArcs, all_begun};
 use chains::ArcTable;
 use faults::OutOfMemory;
 use grid::pos::Pos;
@@ -40,7 +40,7 @@ fn copied(alloc: Global, arcs: &TextArcs) -> Result<Vec<Items<Pos>>, OutOfMemory
 }
 
 /// The arcs, each begun where it has to.
-fn begun(alloc: Global, arcs: &TextArcs, layers: &[Layer]) -> Result<Begun, OutOfMemory>
+fn begun(alloc: Global, arcs: &TextArcs, layers: &[Layer]) -> Result<PlacedArcs, OutOfMemory>
     ensures pieces { IfOk result (λ b. b.pieces.items ≡ pieces_in arcs.now layers.now) }
     ensures starts { IfOk result (λ b. b.starts.items ≡ starts_in arcs.now layers.now) }
 {
@@ -70,7 +70,7 @@ pub fn arrange(
     ensures layers { IfOk result (λ o. IfSome o (λ a. a.layers.items ≡ layers_by arcs.now layers.now a.arcs.items)) }
     ensures none { IfOk result (λ o. IfNone o ((new_arcs : List (List Pos)) → ¬ CanStandFor arcs.now layers.now new_arcs)) }
 {
-    let Begun { pieces, starts } = begun(alloc, arcs, layers)?;
+    let PlacedArcs { pieces, starts } = begun(alloc, arcs, layers)?;
     if !layers_fit(&starts, layers) {
         return Ok(None);
     }

@@ -2,7 +2,7 @@ use crate::texts::{
     A, B, C, D, E, F, G, H, I, J, is_made, layer, line, lists, refs, ring, text_arcs,
 };
 use arranging::{Arranged, arrange};
-use chains::ArcTable;
+use chains::{ArcRef, ArcTable};
 use grid::Grid;
 use lines::items::Items;
 use std::alloc::Global;
@@ -119,16 +119,14 @@ fn bodies_of_all_kinds(rt: HostRuntime) -> Result<(), Fail> {
     Ok(())
 }
 
-type Lists = Items<Items<chains::ArcRef>>;
-
-fn both(alloc: Global, one: &[i64], other: &[i64]) -> Result<Lists, Fail> {
+fn both(alloc: Global, one: &[i64], other: &[i64]) -> Result<Items<Items<ArcRef>>, Fail> {
     let mut lists = Vec::new(alloc);
     lists.push(refs(alloc, one)?)?;
     lists.push(refs(alloc, other)?)?;
     Ok(Items::from_vec(lists))
 }
 
-fn once(alloc: Global, lists: Lists) -> Result<Items<Lists>, Fail> {
+fn once(alloc: Global, lists: Items<Items<ArcRef>>) -> Result<Items<Items<Items<ArcRef>>>, Fail> {
     let mut polygons = Vec::new(alloc);
     polygons.push(lists)?;
     Ok(Items::from_vec(polygons))
