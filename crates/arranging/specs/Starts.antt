@@ -1,5 +1,5 @@
 -- Arcs begun where they have to.
-use Rattle.std.specs.Prelude.{ℕ, zero, suc, ◌+◌, Bool, cond, List, [], ◌∷◌, drop}
+use Rattle.std.specs.Prelude.{ℕ, zero, suc, ◌+◌, Bool, cond, List, [], ◌∷◌, drop, Option, Some, None}
 use Rattle.std.specs.Ordering.{is_lt}
 use Rattle.grid.specs.declared.pos.Pos.{Pos}
 use Rattle.lines.specs.Turned.{position_cmp}
@@ -44,3 +44,8 @@ pieces_of (c ∷ arcs) marks = piece_of (first_of marks) c ∷ pieces_of arcs (d
 abbrev pub starts_of : List (List Pos) → List Bool → List ℕ
 starts_of [] marks = []
 starts_of (c ∷ arcs) marks = start_of (first_of marks) c ∷ starts_of arcs (drop 1 marks)
+
+-- an arc alone, where there is one
+abbrev pub arc_if : {A : Type 0} → Option (List A) → List (List A)
+arc_if None = []
+arc_if (Some c) = c ∷ []

@@ -1,10 +1,11 @@
 //! Arcs and layers as other tools write them, put into order.
-ghost use Rattle.std.specs.Prelude.{◌≡◌, IfNone, IfOk, IfSome, List};
+ghost use Rattle.std.specs.Prelude.{◌≡◌, ◌++◌, IfNone, IfOk, IfSome, List, OnOk, slice_get};
 ghost use Rattle.grid.specs.declared.pos.Pos.{Pos};
 ghost use Rattle.lines.specs.Turned.{list_cmp};
 ghost use Rattle.theory.specs.Arcs.{Ascends};
 ghost use Rattle.taking.specs.Kept.{KeepLayers};
 ghost use Rattle.taking.specs.Laws.{HaveI64};
+ghost use Rattle.arranging.specs.Starts.{arc_if};
 ghost use Rattle.arranging.specs.Whole.{CanStandFor, layers_by, pieces_in, starts_in};
 
 use crate::fitting::layers_fit;
@@ -27,14 +28,30 @@ pub struct Arranged {
     pub layers: Vec<Layer>,
 }
 
+/// Adds a copy of an arc, where there is one of that number.
+fn add_copy(
+    alloc: Global,
+    copies: &mut Vec<Items<Pos>>,
+    arcs: &TextArcs,
+    number: usize,
+) -> Result<(), OutOfMemory>
+    ensures { OnOk result (copies.new.items ≡ copies.old.items ++ arc_if (slice_get arcs.now number)) }
+{
+    match arcs.arc(number) {
+        Some(arc) => {
+            copies.push(Items::from_vec(arc.to_vec(alloc)?))?;
+            Ok(())
+        }
+        None => Ok(()),
+    }
+}
+
 fn copied(alloc: Global, arcs: &TextArcs) -> Result<Vec<Items<Pos>>, OutOfMemory>
     ensures { IfOk result (λ v. v.items ≡ arcs.now) }
 {
     let mut copies = Vec::with_capacity(alloc, arcs.len())?;
     for number in 0..arcs.len() {
-        if let Some(arc) = arcs.arc(number) {
-            copies.push(Items::from_vec(arc.to_vec(alloc)?))?;
-        }
+        add_copy(alloc, &mut copies, arcs, number)?;
     }
     Ok(copies)
 }
