@@ -6,7 +6,7 @@ use Rattle.theory.specs.Lists.{front_of}
 use Rattle.theory.specs.Refinement.{unclosed}
 use Rattle.chains.specs.Pieces.{opened_at}
 use Rattle.arranging.specs.Starts.{arc_if, least_place, start_of}
-use Rattle.arranging.proofs.RoundAgain.{drop_some}
+use Rattle.arranging.proofs.RoundAgain.{drop_some, start_within}
 
 unclosed_snoc : (ring : List Pos) (x : Pos) → unclosed (ring ++ (x ∷ [])) ≡ ring
 unclosed_snoc [] x = refl
@@ -16,6 +16,11 @@ pub start_told : (free : Bool) (c ring : List Pos) (x : Pos) (n : ℕ) → free 
 start_told free c ring x n t e is =
     let u : ring ≡ unclosed c = sym (ap unclosed e ∙ unclosed_snoc ring x) in
     is ∙ ap least_place u ∙ ap (λ b. start_of b c) (sym t)
+
+pub begun_within : (free : Bool) (c d : List Pos) (n : ℕ) → d ≡ c → n ≡ start_of free d → 0 < n → n < length (unclosed c)
+begun_within free c d n e is h =
+    let k : n ≡ start_of free c = is ∙ ap (start_of free) e in
+    subst (λ m. m < length (unclosed c)) (sym k) (start_within free c (subst (λ m. 0 < m) k h))
 
 take_front : (x : Pos) (r : List Pos) → take (length r) (x ∷ r) ≡ front_of x r
 take_front x [] = refl

@@ -1,5 +1,5 @@
 -- What the code has made: arcs that can stand for the others, and layers by them; or there are none.
-use Rattle.std.proofs.Common.{◌≡◌, ℕ, Bool, true, false, List, map, length, refl, sym, ap, ◌∙◌, subst}
+use Rattle.std.proofs.Common.{◌≡◌, ◌↔◌, ℕ, Bool, true, false, List, ◌++◌, map, length, refl, sym, ap, ◌∙◌, subst}
 use Rattle.std.proofs.lemmas.List.{length-map}
 use Rattle.grid.specs.declared.pos.Pos.{Pos}
 use Rattle.lines.specs.Turned.{list_cmp}
@@ -8,6 +8,10 @@ use Rattle.theory.specs.Arcs.{AreSortedOnce, Ascends}
 use Rattle.chains.specs.Pieces.{chain_of}
 use Rattle.chains.specs.Table.{located}
 use Rattle.chains.specs.declared.cutting.Piece.{Piece}
+use Rattle.standing.specs.Meeting.{line_ends}
+use Rattle.standing.specs.Seams.{ends_once, goes_free}
+use Rattle.theory.specs.Lists.{gathered}
+use Rattle.taking.specs.Lists.{layers_lines}
 use Rattle.topo.specs.Parts.{LayerParts}
 use Rattle.taking.specs.Kept.{KeepLayers}
 use Rattle.taking.specs.Laws.{HaveI64}
@@ -16,6 +20,15 @@ use Rattle.arranging.specs.Images.{layer_image}
 use Rattle.arranging.specs.Whole.{CanStandFor, free_marks, layers_by, pieces_in, refs_in, starts_in}
 use Rattle.arranging.proofs.Along.{length_pieces, one_order, stand_kept}
 use Rattle.arranging.proofs.Kept.{ids_kept}
+
+-- the marks that the code has are those of the free loops
+pub marks_are : (arcs : List (List Pos)) (ls : List LayerParts) (copies lent lent_too : List (List Pos)) (ends : List Pos) (marks : List Bool) → copies ≡ arcs → lent ≡ copies → lent_too ≡ copies →
+    ends ≡ gathered (line_ends lent) (layers_lines ls) → marks ≡ map (goes_free (ends ++ gathered ends_once lent_too)) lent_too → marks ≡ free_marks arcs ls
+marks_are arcs ls copies lent lent_too ends marks e f g h k =
+    let a : lent ≡ arcs = f ∙ e in
+    let b : lent_too ≡ arcs = g ∙ e in
+    k ∙ (λ i. map (goes_free (h i ++ gathered ends_once (b i))) (b i))
+    ∙ ap (λ w. map (goes_free (gathered (line_ends w) (layers_lines ls) ++ gathered ends_once arcs)) arcs) a
 
 -- where the lists don't fit, none can stand
 pub none_fits : (arcs : List (List Pos)) (ls : List LayerParts) (starts : List ℕ) (b : Bool) → starts ≡ starts_in arcs ls → b ≡ layers_fit starts ls → b ≡ false →
@@ -37,9 +50,10 @@ module _ (arcs : List (List Pos)) (ls : List LayerParts) (pieces : List Piece) (
   refs_are = all ∙ ap (map (located table)) are
 
   -- where two arcs agree, none can stand
-  pub none_differ : ¬ (length table ≡ length refs) → (new_arcs : List (List Pos)) → ¬ CanStandFor arcs ls new_arcs
-  none_differ n new_arcs h =
-      n (ap length (one_order (map chain_of (pieces_in arcs ls)) table new_arcs sorted_in h.sorted) ∙ h.differ ∙ sym long)
+  pub none_differ : (b : Bool) → (b ≡ true) ↔ (length table ≡ length refs) → b ≡ false → (new_arcs : List (List Pos)) → ¬ CanStandFor arcs ls new_arcs
+  none_differ b told f new_arcs h =
+      let k : true ≡ false = sym (told.1 (ap length (one_order (map chain_of (pieces_in arcs ls)) table new_arcs sorted_in h.sorted) ∙ h.differ ∙ sym long)) ∙ f in
+      absurd cc
 
   module _ (starts : List ℕ) (begin : starts ≡ starts_in arcs ls) (fit : layers_fit starts ls ≡ true) (differ : length table ≡ length refs) where
     -- else those that were made can

@@ -60,7 +60,7 @@ closed_is x y r e =
     let same : x ≡ last_of y r = position_true x (last_of y r) (position_eq_is x (last_of y r) ∙ e) in
     front_last x (y ∷ r) ∙ ap (λ w. front_of x (y ∷ r) ++ (w ∷ [])) (sym same)
 
-drop_some : {V : Type 0} (i : ℕ) (q : List V) → i < length q → (y : V) × (r : List V) × (drop i q ≡ y ∷ r)
+pub drop_some : {V : Type 0} (i : ℕ) (q : List V) → i < length q → (y : V) × (r : List V) × (drop i q ≡ y ∷ r)
 drop_some i [] h = absurd (omega (arith, h))
 drop_some zero (x ∷ q) h = (x, q, refl)
 drop_some (suc i) (x ∷ q) h = drop_some i q (omega (arith, h))

@@ -1,5 +1,5 @@
 //! Arcs and layers as other tools write them, put into order.
-ghost use Rattle.std.specs.Prelude.{◌≡◌, ◌++◌, IfNone, IfOk, IfSome, List, OnOk, slice_get};
+ghost use Rattle.std.specs.Prelude.{◌≡◌, ◌↔◌, ◌++◌, IfNone, IfOk, IfSome, List, OnOk, length, slice_get, true};
 ghost use Rattle.grid.specs.declared.pos.Pos.{Pos};
 ghost use Rattle.lines.specs.Turned.{list_cmp};
 ghost use Rattle.theory.specs.Arcs.{Ascends};
@@ -11,7 +11,7 @@ ghost use Rattle.arranging.specs.Whole.{CanStandFor, layers_by, pieces_in, start
 use crate::fitting::layers_fit;
 use crate::images::NewArcs;
 use crate::starts::{PlacedArcs, all_begun};
-use chains::ArcTable;
+use chains::{ArcRef, ArcTable};
 use faults::OutOfMemory;
 use grid::pos::Pos;
 use lines::items::Items;
@@ -67,6 +67,13 @@ fn begun(alloc: Global, arcs: &TextArcs, layers: &[Layer]) -> Result<PlacedArcs,
     all_begun(alloc, copies, &free)
 }
 
+/// Whether there is an arc for each of the used arcs that were made, so that no two agree.
+fn all_differ(table: &ArcTable, refs: &[ArcRef]) -> bool
+    ensures { (result ≡ true) ↔ (length table.now.arcs ≡ length refs.now) }
+{
+    table.len() == refs.len()
+}
+
 /// The arcs of a text in order, each in its lesser direction, a free loop begun at its least vertex, and
 /// the layers by these arcs: the list of each line and ring names the new arcs, and a ring's begins where
 /// it starts least. Each geometry then stitches only to what it stitched to. `None` exactly where two
@@ -92,7 +99,7 @@ pub fn arrange(
         return Ok(None);
     }
     let (table, refs) = ArcTable::numbered(alloc, pieces)?;
-    if table.len() != refs.len() {
+    if !all_differ(&table, &refs) {
         return Ok(None);
     }
     let new_arcs = NewArcs { table, refs };

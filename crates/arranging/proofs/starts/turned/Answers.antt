@@ -16,4 +16,4 @@ index-first-requires c =
 pub returns : goal.returns
 returns c =
     turned_by_code c.args.arc.items c.truncate.new.self.items c.len.result c.args.place c.requires (c.len.ensures ∙ c.args.arc.ok.0) c.truncate.ensures.items
-    c.rotate_left.new.self.items c.rotate_left.ensures.items c.index-first.result c.push.new.self.items c.index-first.is c.in_ok-push.ensures.items
+    c.rotate_left.new.self.items c.rotate_left.ensures.items c.index-first.result.now c.push.new.self.items c.index-first.ensures c.in_ok-push.ensures.items
