@@ -32,7 +32,7 @@ module _ (c t : List Pos) (n place : ℕ) (within : place < length (unclosed c))
   ring_is = go c within long cut
     where
       go : (c : List Pos) → place < length (unclosed c) → n ≡ length c → t ≡ take (n - 1) c → t ≡ unclosed c
-      go [] w l e = absurd (omega (arith, w))
+      go [] w l e = let k : place < 0 = w in absurd (omega (arith, k))
       go (x ∷ r) w l e =
           let k : n - 1 ≡ length r = omega (arith, l) in
           e ∙ ap (λ m. take m (x ∷ r)) k ∙ take_front x r

@@ -55,13 +55,13 @@ module _ (arcs : List (List Pos)) (ls : List LayerParts) (pieces : List Piece) (
       let k : true ≡ false = sym (told.1 (ap length (one_order (map chain_of (pieces_in arcs ls)) table new_arcs sorted_in h.sorted) ∙ h.differ ∙ sym long)) ∙ f in
       absurd cc
 
-  module _ (starts : List ℕ) (begin : starts ≡ starts_in arcs ls) (fit : layers_fit starts ls ≡ true) (differ : length table ≡ length refs) where
+  module _ (starts : List ℕ) (starts_are : starts ≡ starts_in arcs ls) (fit : layers_fit starts ls ≡ true) (differ : length table ≡ length refs) where
     -- else those that were made can
     pub can_stand : CanStandFor arcs ls table
     can_stand = record {
       sorted = sorted_in;
       differ = differ ∙ long;
-      fit = ap (λ w. layers_fit w ls) (sym begin) ∙ fit;
+      fit = ap (λ w. layers_fit w ls) (sym starts_are) ∙ fit;
     }
 
     module _ (new_arcs : List (List Pos)) (same : new_arcs ≡ table) (new_layers : List LayerParts) (made : new_layers ≡ map (layer_image table refs) ls) where
