@@ -1,5 +1,5 @@
 -- The used arc of each piece runs along the arc as it was begun.
-use Rattle.std.proofs.Common.{◌≡◌, ℕ, zero, suc, Bool, true, false, cond, List, [], ◌∷◌, ◌++◌, map, reverse, length, slice_get, Some, None, ◌⊎◌, inl, inr, refl, sym, ap, ◌∙◌, subst}
+use Rattle.std.proofs.Common.{◌≡◌, ℕ, zero, suc, Bool, true, false, cond, List, [], ◌∷◌, ◌++◌, map, reverse, length, slice_get, Some, inl, inr, refl, sym, ap, ◌∙◌}
 use Rattle.std.proofs.lemmas.Cmp.{lists_total}
 use Rattle.std.proofs.lemmas.List.{reverse-reverse}
 use Rattle.std.specs.FinMap.{slice_cmp-IsAntisymmetric}
@@ -13,7 +13,7 @@ use Rattle.standing.specs.Meeting.{line_ends}
 use Rattle.standing.specs.Seams.{ends_once, goes_free, stands_once}
 use Rattle.theory.proofs.Ascending.{same_members}
 use Rattle.theory.proofs.ListsOfLists.{get_has}
-use Rattle.theory.specs.ArcNumbers.{ArcRef, along}
+use Rattle.theory.specs.ArcNumbers.{along}
 use Rattle.theory.specs.Arcs.{AreSortedOnce}
 use Rattle.theory.specs.Lists.{Has, gathered}
 use Rattle.chains.proofs.Places.{along_found, found_place}
@@ -23,10 +23,9 @@ use Rattle.chains.specs.declared.cutting.Piece.{Piece}
 use Rattle.topo.specs.Parts.{LayerParts}
 use Rattle.taking.specs.Kept.{KeepLayers}
 use Rattle.taking.specs.Lists.{layers_lines}
-use Rattle.arranging.specs.Fitting.{layers_fit}
 use Rattle.arranging.specs.Starts.{begun, piece_of, pieces_of, start_of, starts_of}
-use Rattle.arranging.specs.Whole.{CanStandFor, layers_by, pieces_in, refs_in, starts_in}
-use Rattle.arranging.proofs.Kept.{AreAlong, IsAlong, layers_kept}
+use Rattle.arranging.specs.Whole.{CanStandFor, layers_by, refs_in, starts_in}
+use Rattle.arranging.proofs.Kept.{AreAlong, layers_kept}
 use Rattle.arranging.proofs.RoundAgain.{begun_around, begun_same}
 
 get_map : {A B : Type 0} (f : A → B) (l : List A) (k : ℕ) (x : A) → slice_get l k ≡ Some x → slice_get (map f l) k ≡ Some (f x)

@@ -1,12 +1,11 @@
 -- Layers by the new arcs stitch only to what they stitched to.
-use Rattle.std.proofs.Common.{◌≡◌, ℕ, Bool, true, false, cond, List, [], ◌∷◌, ◌++◌, map, reverse, length, slice_get, option_map, Option, Some, None, ◌⊎◌, inl, inr, refl, sym, ap, ◌∙◌, subst, arith, nat_eq}
+use Rattle.std.proofs.Common.{◌≡◌, ℕ, Bool, true, false, cond, List, [], ◌∷◌, ◌++◌, map, reverse, slice_get, option_map, Option, Some, None, ◌⊎◌, inl, inr, refl, sym, ap, ◌∙◌, subst, arith}
 use Rattle.std.proofs.lemmas.Bool.{eqb-true}
 use Rattle.std.proofs.lemmas.List.{append-nil}
 use Rattle.std.specs.List.{AllByRecursion, list_all}
 use Rattle.grid.specs.declared.pos.Pos.{Pos}
 use Rattle.lines.proofs.Positions.{both_true}
 use Rattle.lines.specs.Seen.{positions_of, vertices_of}
-use Rattle.lines.specs.Turned.{position_cmp}
 use Rattle.lines.specs.declared.line.Line as the_line
 use Rattle.lines.specs.declared.ring.Ring as the_ring
 use Rattle.shapes.specs.Ids.{HasI64}

@@ -2,7 +2,6 @@
 use Rattle.std.proofs.Common.{◌≡◌, ◌<◌, ◌+◌, ℕ, zero, suc, Bool, true, false, cond, List, [], ◌∷◌, ◌++◌, drop, take, length, reverse, ◌⊎◌, inl, inr, refl, sym, ap, ◌∙◌, subst, arith}
 use Rattle.std.specs.Ordering.{is_lt}
 use Rattle.grid.specs.declared.pos.Pos.{Pos}
-use Rattle.lines.specs.Pairs.{position_eq}
 use Rattle.lines.specs.Reading.{is_closed}
 use Rattle.lines.specs.Turned.{position_cmp}
 use Rattle.lines.proofs.Positions.{position_eq_is, position_true}

@@ -1,5 +1,3 @@
-use Rattle.std.proofs.Common.{◌<◌, ◌∙◌, length, ap, subst, sym}
-use Rattle.theory.specs.Refinement.{unclosed}
 use Rattle.arranging.proofs.Coded.{begun_within}
 use Rattle.arranging.proofs.starts.PlacedArcs.add.Goals as goal
 
