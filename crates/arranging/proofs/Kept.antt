@@ -112,12 +112,11 @@ module _ (arcs new_arcs : List (List Pos)) (refs : List ArcRef) (starts : List �
       let both : Some (cond a.reversed (reverse t.new) t.new) ≡ Some (closed (x ∷ l)) = sym (image_runs a k.0 t) ∙ al ∙ ap (λ w. Some (x ∷ w)) (sym whole) in
       let is : cond a.reversed (reverse t.new) t.new ≡ closed (x ∷ l) = cc in
       elim t.round [
-        | inl z ↦
-            (
-              x ∷ l,
-              ro,
-              alone arcs a x (l ++ (x ∷ [])) (old_runs a k.0 t ∙ ap (λ w. Some (cond a.reversed (reverse w) w)) (sym (t.same z)) ∙ ap Some is),
-            )
+        | inl z ↦ (
+          x ∷ l,
+          ro,
+          alone arcs a x (l ++ (x ∷ [])) (old_runs a k.0 t ∙ ap (λ w. Some (cond a.reversed (reverse w) w)) (sym (t.same z)) ∙ ap Some is),
+        )
         | inr z ↦ loop (around_in a.reversed t.old t.new z) (old_runs a k.0 t) is
       ]
     where
@@ -138,8 +137,7 @@ module _ (arcs new_arcs : List (List Pos)) (refs : List ArcRef) (starts : List �
       loop_kept (vertices_of r) a e k.0 (rotation_trans (vertices_of r) q k.0 ro k.1) k.2
   ring_kept r (a ∷ (b ∷ used)) e (q, ro, h) =
       let k = unturned new_arcs (map (image refs) (a ∷ (b ∷ used))) q h in
-      let t = both_true (stays starts a) (line_fits starts (b ∷ used)) e in
-      (
+      let t = both_true (stays starts a) (line_fits starts (b ∷ used)) e in (
         k.0,
         rotation_trans (vertices_of r) q k.0 ro k.1,
         list_kept (a ∷ (b ∷ used)) (closed k.0)

@@ -55,10 +55,7 @@ fn two_squares_and_a_lake(rt: HostRuntime) -> Result<(), Fail> {
     assert_eq!(rt; made.layers[2].name().text(), "water");
     // So it is taken as it stands.
     let grid = Grid::new(1, 1, 0, 0).ok_or("no grid")?;
-    assert!(rt; matches!(
-        take(alloc, grid, made.arcs, made.layers)?,
-        Taken::Whole(_)
-    ));
+    assert!(rt; matches!(take(alloc, grid, made.arcs, made.layers)?, Taken::Whole(_)));
     Ok(())
 }
 
@@ -102,19 +99,13 @@ fn bodies_of_all_kinds(rt: HostRuntime) -> Result<(), Fail> {
     let mut bodies = Vec::new(alloc);
     bodies.push(Body::Null)?;
     bodies.push(Body::MultiLine(both(alloc, &[0], &[-1])?))?;
-    bodies.push(Body::MultiPolygon(once(
-        alloc,
-        both(alloc, &[1], &[-2])?,
-    )?))?;
+    bodies.push(Body::MultiPolygon(once(alloc, both(alloc, &[1], &[-2])?)?))?;
     let made = of_bodies(alloc, &arcs, bodies)?.ok_or("refused")?;
     // From G the loop goes to J and then to H, as it is used.
     let mut expected = Vec::new(alloc);
     expected.push(Body::Null)?;
     expected.push(Body::MultiLine(both(alloc, &[-1], &[0])?))?;
-    expected.push(Body::MultiPolygon(once(
-        alloc,
-        both(alloc, &[1], &[-2])?,
-    )?))?;
+    expected.push(Body::MultiPolygon(once(alloc, both(alloc, &[1], &[-2])?)?))?;
     assert!(rt; is_made(alloc, &made, &[&[A, B], &[G, J, H, G]], &expected)?);
     Ok(())
 }
