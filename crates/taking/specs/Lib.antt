@@ -6,3 +6,4 @@ pub mod Ends
 pub mod Whole
 pub mod Arcs
 pub mod Taken
+pub mod Kept
