@@ -3,10 +3,12 @@ use Rattle.std.proofs.Common.{◌≡◌, List, [], ◌∷◌, ◌++◌, append_a
 use Rattle.std.specs.Cmp.{IsTotalOrder, then_total, on_total, nat_cmp_total}
 use Rattle.std.specs.Cmp.Lexicographic.{nat_list_cmp_total}
 use Rattle.std.specs.List.{AllByRecursion}
+use Rattle.std.specs.List.Sorted.{IsPermutation, IsSorted, IsStable}
 use Rattle.std.proofs.lemmas.List.Sorted.{IsPermutation-sym}
 use Rattle.lines.proofs.SortedLists.{Has-permutation}
 use Rattle.shapes.specs.Ids.{HasI64}
 use Rattle.shapes.specs.Order.{id_cmp}
+use Rattle.shapes.specs.declared.spelled.Spelled.{Spelled}
 use Rattle.shapes.specs.contracts.shape.IdOrd.TheImpl.Laws.{total-law}
 use Rattle.theory.specs.Lists.{Has}
 use Rattle.topo.specs.GeometryOrder.{body_rank, kind_cmp}
@@ -23,6 +25,16 @@ pub kind_total : IsTotalOrder kind_cmp
 kind_total =
     then_total (then_total (on_total (λ (g : Geom). g.id) id_total) (on_total (λ (g : Geom). g.props.text) nat_list_cmp_total))
     (on_total (λ (g : Geom). body_rank g.body) nat_cmp_total)
+
+-- a layer put together of its name and of its geometries, sorted
+pub layer_made : (l k : LayerParts) (name : Spelled) (old gs : List Geom) → k ≡ record { name = name; geometries = gs } → name ≡ l.name → old ≡ l.geometries →
+    IsPermutation old gs → IsSorted kind_cmp gs → IsStable kind_cmp old gs → IsSortedLayer l k
+layer_made l k name old gs e n o same sorted stable =
+    subst (IsSortedLayer l) (sym e) (record {
+      reordered = record { name = n; geometries = subst (λ w. IsPermutation w gs) o same };
+      sorted = sorted;
+      stable = subst (λ w. IsStable kind_cmp w gs) o stable;
+    })
 
 -- ---- layers, one after the other
 
