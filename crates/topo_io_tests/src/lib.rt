@@ -2,8 +2,6 @@
 #![tactic(auto)]
 
 #[cfg(test)]
-mod other_forms;
-#[cfg(test)]
 mod parts_read;
 #[cfg(test)]
 mod parts_stitched;
