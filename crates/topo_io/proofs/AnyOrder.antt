@@ -95,17 +95,20 @@ module _ (arcs new_arcs : List (List Pos)) where
 
     pub features_kept : (hs : List Feature) × AreFeaturesOf arcs hs gs × ((p : Plain) → Has p (map_list plain fs) ↔ Has p (map_list plain hs))
     features_kept =
-        let (hs, of_old, all, of_new) = picked fs gs ks keep each in
-        (hs, of_old, λ p. (
-          (λ i.
-              let (f, there, e) = map_has plain fs p i in
-              let (m, at, is) = partner (IsFeatureOf new_arcs) fs ms are f there in
-              let (h, among, also) = partner_back (IsFeatureOf new_arcs) hs ks of_new m (Has-permutation ms ks m (IsPermutation-sym ks ms moved) at) in
-              subst (λ w. Has w (map_list plain hs)) (sym (e ∙ ap plain (one_feature f h m is also))) (Has-map plain hs h among)),
-          (λ i.
-              let (h, there, e) = map_has plain hs p i in
-              subst (λ w. Has w (map_list plain fs)) (sym e) (Has-map plain fs h (all h there))),
-        ))
+        let (hs, of_old, all, of_new) = picked fs gs ks keep each in (
+          hs,
+          of_old,
+          λ p. (
+            (λ i.
+                let (f, there, e) = map_has plain fs p i in
+                let (m, at, is) = partner (IsFeatureOf new_arcs) fs ms are f there in
+                let (h, among, also) = partner_back (IsFeatureOf new_arcs) hs ks of_new m (Has-permutation ms ks m (IsPermutation-sym ks ms moved) at) in
+                subst (λ w. Has w (map_list plain hs)) (sym (e ∙ ap plain (one_feature f h m is also))) (Has-map plain hs h among)),
+            (λ i.
+                let (h, there, e) = map_has plain hs p i in
+                subst (λ w. Has w (map_list plain fs)) (sym e) (Has-map plain fs h (all h there))),
+          ),
+        )
 
   -- the same of all layers
   abbrev StitchedAs : List (List ℕ × Features) → List LayerParts → Type 0

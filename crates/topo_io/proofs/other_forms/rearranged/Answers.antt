@@ -16,6 +16,6 @@ returns-in-Whole-clause-means c =
     let ids = subst (λ o. IfSome o (λ a. HaveI64 c.args.layers.now → HaveI64 a.layers.items)) c.in-Some.is c.in_ok-ordered.ensures.ids in
     let moved = sorted_reordered c.in-Some.ordered.layers.items c.in_ok-sorted.sorted.items c.in_ok-sorted.ensures in
     λ bytes.
-        arranged_means bytes c.args.grid c.args.arcs.now c.in-Some.ordered.arcs.items c.args.layers.now c.in-Some.ordered.layers.items c.in_ok-sorted.sorted.items kept moved
-        (ids_stay c.in-Some.ordered.layers.items c.in_ok-sorted.sorted.items moved (ids c.requires)) c.in_ok-topology.field-0 c.in-Whole.topology c.in-Whole.is
-        c.in_ok-topology.ensures.grid c.in_ok-topology.ensures.arcs c.in_ok-topology.ensures.layers c.in_ok-topology.ensures.stand c.in_ok-topology.ensures.of_map
+    arranged_means bytes c.args.grid c.args.arcs.now c.in-Some.ordered.arcs.items c.args.layers.now c.in-Some.ordered.layers.items c.in_ok-sorted.sorted.items kept moved
+    (ids_stay c.in-Some.ordered.layers.items c.in_ok-sorted.sorted.items moved (ids c.requires)) c.in_ok-topology.field-0 c.in-Whole.topology c.in-Whole.is
+    c.in_ok-topology.ensures.grid c.in_ok-topology.ensures.arcs c.in_ok-topology.ensures.layers c.in_ok-topology.ensures.stand c.in_ok-topology.ensures.of_map
