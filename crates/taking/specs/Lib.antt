@@ -7,3 +7,4 @@ pub mod Whole
 pub mod Arcs
 pub mod Taken
 pub mod Kept
+pub mod Sorting
