@@ -1,9 +1,9 @@
 -- Lists of the parts of a shard: what they are together, as parts are put behind others or joined with them.
-use Rattle.std.proofs.Common.{◌≡◌, ◌+◌, ◌<◌, List, [], ◌∷◌, ◌++◌, length, sym, ◌∙◌, ap, subst, arith}
-use Rattle.std.specs.Prelude.{All, map as map_list}
-use Rattle.std.proofs.lemmas.List.{map-append}
-use Rattle.std.proofs.lemmas.List.Elements.{All-nil, All-head, All-tail, All-push, All-append}
-use Rattle.std.proofs.lemmas.List.Sorted.{All-permutation}
+use Rattle.std.proofs.Common.{◌≡◌, ℕ, ◌+◌, ◌<◌, ◌≤◌, List, [], ◌∷◌, ◌++◌, length, get_or, drop, sym, ◌∙◌, ap, subst, arith}
+use Rattle.std.proofs.Math.Seq.{drop-cons}
+use Rattle.std.specs.Prelude.{Some, map as map_list}
+use Rattle.std.proofs.lemmas.List.{drop_all, map-append}
+use Rattle.std.proofs.lemmas.List.Elements.{All-head, All-pop, All-push, All-tail}
 use Rattle.std.specs.List.Sorted.{IsPermutation}
 use Rattle.grid.specs.Place.{Transform}
 use Rattle.shapes.specs.Union.{union}
@@ -39,6 +39,15 @@ joined_with_last old before more last p both e is m =
     ap united_map m ∙ united-push before both ∙ ap (union (united_map before)) is ∙ sym (union_associates (united_map before) last.map p.map)
     ∙ ap (λ u. union u p.map) (sym (united-push before last) ∙ ap united_map (sym e))
 
+-- the grid of the last part, and the others
+pub last_on : (old before : List MapOnGrid) (last : MapOnGrid) (g : Transform) → old ≡ before ++ (last ∷ []) → AreOn g old → AreOn g before × (last.grid ≡ g)
+last_on old before last g e h = All-pop (λ p. p.grid ≡ g) old before (Some last) e h
+
+pub joined_on : (old before more : List MapOnGrid) (last both : MapOnGrid) (g : Transform) → old ≡ before ++ (last ∷ []) → both.grid ≡ last.grid → more ≡ before ++ (both ∷ []) → AreOn g old → AreOn g more
+joined_on old before more last both g e same m h =
+    let both_on = last_on old before last g e h in
+    subst (AreOn g) (sym m) (All-push (λ p. p.grid ≡ g) before both both_on.0 (same ∙ both_on.1))
+
 -- the parts made so far and those that are left are together what all are
 pub record AreCounted (all made left : List MapOnGrid) : Type 0 where
   pub map : united_map (made ++ left) ≡ united_map all
@@ -56,3 +65,15 @@ one_counted all made more left rest p was e is on some = record {
       (on g both.0 (All-head (λ q. q.grid ≡ g) p rest left_on), All-tail (λ q. q.grid ≡ g) p rest left_on);
   some = λ _. omega (arith, some);
 }
+
+-- one more of some parts is joined with what was joined before
+pub one_more_joined : (whole more p : MapOnGrid) (ps : List MapOnGrid) (i : ℕ) → i < length ps → p ≡ get_or ps i p → more.map ≡ union whole.map p.map →
+    union more.map (united_map (drop (i + 1) ps)) ≡ union whole.map (united_map (drop i ps))
+one_more_joined whole more p ps i lt is joined =
+    let e : suc i ≡ i + 1 = omega arith in
+    let next : drop i ps ≡ p ∷ drop (i + 1) ps = drop-cons ps i p lt ∙ ap (λ k. get_or ps i p ∷ drop k ps) e ∙ ap (λ q. q ∷ drop (i + 1) ps) (sym is) in
+    ap (λ m. union m (united_map (drop (i + 1) ps))) joined ∙ union_associates whole.map p.map (united_map (drop (i + 1) ps)) ∙ ap (λ qs. union whole.map (united_map qs)) (sym next)
+
+-- all of them are
+pub all_joined : (whole : MapOnGrid) (ps : List MapOnGrid) (i : ℕ) → length ps ≤ i → union whole.map (united_map (drop i ps)) ≡ whole.map
+all_joined whole ps i le = ap (λ qs. union whole.map (united_map qs)) (drop_all i ps le) ∙ union_empty whole.map

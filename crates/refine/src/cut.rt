@@ -1,7 +1,7 @@
 //! The join of two topologies: their arcs are cut again, their geometries follow the pieces, and
 //! the sorted layers and geometries of both are merged in one pass. The join of two shards, each of
 //! topologies whose sizes are far apart: those are joined whose sizes come near each other.
-ghost use Rattle.std.specs.Prelude.{◌≡◌, ◌↔◌, ◌<◌, ◌^◌, ◌++◌, length, IfOk, IfSome, IsErrOf, IsPermutation, OnOk, List, Option, None, take, drop, map as map_list};
+ghost use Rattle.std.specs.Prelude.{◌≡◌, ◌↔◌, ◌<◌, ◌^◌, ◌∷◌, ◌++◌, length, IfOk, IfSome, IsErrOf, IsPermutation, OnOk, List, Option, None, take, drop, map as map_list};
 ghost use Rattle.grid.specs.Place.{Transform};
 ghost use Rattle.shapes.specs.Maps.{Layers};
 ghost use Rattle.shapes.specs.Union.{union};
@@ -584,6 +584,18 @@ fn copy_parts(alloc: Global, parts: &[Part]) -> Result<Vec<Part>, OutOfMemory>
     Ok(copies)
 }
 
+/// The topology of the features of a part and of larger ones, on the grid of the first.
+fn joined_copies(alloc: Global, first: &Part, larger: &[Part]) -> Result<Kept, OutOfMemory>
+    ensures grid { IfOk result (λ k. k.grid ≡ first.now.grid) }
+    ensures map { IfOk result (λ k. k.map ≡ united_map (first.now ∷ larger.now)) }
+{
+    let mut whole = first.kept().copy(alloc)?;
+    for part in larger {
+        whole = whole.united(alloc, part.kept().copy(alloc)?)?;
+    }
+    Ok(whole)
+}
+
 /// A shard that keeps topologies and joins by cutting arcs again. It has few topologies, on one grid,
 /// each at least twice as large as the one before, and its features are those of all of them.
 #[derive(Drop)]
@@ -632,11 +644,7 @@ impl Cut {
     pub(crate) fn one_topology(&self, alloc: Global) -> Result<Kept, OutOfMemory>
         ensures { IfOk result (λ k. k ≡ self.now) }
     {
-        let mut whole = self.least.kept.copy(alloc)?;
-        for part in &self.larger {
-            whole = whole.united(alloc, part.kept().copy(alloc)?)?;
-        }
-        Ok(whole)
+        joined_copies(alloc, &self.least, &self.larger)
     }
 
     // The topologies, in no order.
@@ -664,10 +672,10 @@ fn put_part(alloc: Global, parts: &mut Vec<Part>, part: Part) -> Result<(), OutO
     };
     if last.is_near(&part) {
         parts.push(last.united(alloc, part)?)?;
-    } else {
-        parts.push(last)?;
-        parts.push(part)?;
+        return Ok(());
     }
+    parts.push(last)?;
+    parts.push(part)?;
     Ok(())
 }
 
