@@ -1,9 +1,11 @@
 -- Lists of the parts of a shard: what they are together, as parts are put behind others or joined with them.
-use Rattle.std.proofs.Common.{◌≡◌, ℕ, ◌+◌, ◌<◌, ◌≤◌, List, [], ◌∷◌, ◌++◌, length, get_or, drop, sym, ◌∙◌, ap, subst, arith}
+use Rattle.std.proofs.Common.{◌≡◌, ℕ, ◌+◌, ◌<◌, ◌≤◌, List, [], ◌∷◌, ◌++◌, length, get_or, drop, sym, ◌∙◌, ap, subst, append-nil, arith}
 use Rattle.std.proofs.Math.Seq.{drop-cons}
 use Rattle.std.specs.Prelude.{Some, map as map_list}
-use Rattle.std.proofs.lemmas.List.{drop_all, map-append}
-use Rattle.std.proofs.lemmas.List.Elements.{All-head, All-pop, All-push, All-tail}
+use Rattle.std.specs.List.{remove}
+use Rattle.std.proofs.lemmas.List.{drop_all, length-append, map-append}
+use Rattle.std.proofs.lemmas.List.Elements.{All-append, All-head, All-nil, All-pop, All-push, All-tail}
+use Rattle.std.proofs.lemmas.List.Sorted.{All-permutation, length_permutation}
 use Rattle.std.specs.List.Sorted.{IsPermutation}
 use Rattle.grid.specs.Place.{Transform}
 use Rattle.shapes.specs.Union.{union}
@@ -77,3 +79,40 @@ one_more_joined whole more p ps i lt is joined =
 -- all of them are
 pub all_joined : (whole : MapOnGrid) (ps : List MapOnGrid) (i : ℕ) → length ps ≤ i → union whole.map (united_map (drop i ps)) ≡ whole.map
 all_joined whole ps i le = ap (λ qs. union whole.map (united_map qs)) (drop_all i ps le) ∙ union_empty whole.map
+
+-- nothing is made yet of the parts in the order of their sizes
+pub none_counted : (all sorted made left : List MapOnGrid) → IsPermutation all sorted → made ≡ [] → left ≡ sorted → AreCounted all made left
+none_counted all sorted made left moved e k = record {
+  map = (λ i. united_map (e i ++ k i)) ∙ united-permutation all sorted moved;
+  grid = λ g h. (subst (AreOn g) (sym e) (All-nil (λ p. p.grid ≡ g)), subst (AreOn g) (sym k) (All-permutation (λ p. p.grid ≡ g) all sorted moved h));
+  some = λ lt. omega (arith, length_permutation all sorted moved, ap length k, lt);
+}
+
+-- a part is put into a list with nothing in it
+pub put_first : (old before more : List MapOnGrid) (p : MapOnGrid) → old ≡ before ++ [] → more ≡ before ++ (p ∷ []) → united_map more ≡ union (united_map old) p.map
+put_first old before more p e m = ap united_map m ∙ united-push before p ∙ ap (λ ps. union (united_map ps) p.map) (sym (e ∙ append-nil before))
+
+first_out : (old rest : List MapOnGrid) (p : MapOnGrid) → 0 < length old → p ≡ get_or old 0 p → rest ≡ remove old 0 → old ≡ p ∷ rest
+first_out [] rest p lt is e = absurd (omega (arith, lt))
+first_out (q ∷ qs) rest p lt is e = (λ i. sym is i ∷ sym e i)
+
+-- a part and those behind it are what two shards are together
+pub record ArePutTogether (l r p : MapOnGrid) (rest : List MapOnGrid) : Type 0 where
+  pub grid : p.grid ≡ l.grid
+  pub on : AreOn p.grid rest
+  pub map : united_map (p ∷ rest) ≡ union l.map r.map
+
+pub put_together : (parts others all made rest : List MapOnGrid) (p l r : MapOnGrid) → l.grid ≡ r.grid → united_map parts ≡ l.map → AreOn l.grid parts → 0 < length parts →
+    united_map others ≡ r.map → AreOn r.grid others → all ≡ parts ++ others → united_map made ≡ united_map all → ((g : Transform) → AreOn g all → AreOn g made) →
+    (0 < length all → 0 < length made) → p ≡ get_or made 0 p → rest ≡ remove made 0 → ArePutTogether l r p rest
+put_together parts others all made rest p l r one l_map l_on l_some r_map r_on e m on some is out =
+    let many : 0 < length made = some (omega (arith, ap length e, length-append parts others, l_some)) in
+    let split : made ≡ p ∷ rest = first_out made rest p many is out in
+    let all_on : AreOn l.grid all = subst (AreOn l.grid) (sym e) (All-append (λ q. q.grid ≡ l.grid) parts others l_on (subst (λ g. AreOn g others) (sym one) r_on)) in
+    let made_on : AreOn l.grid (p ∷ rest) = subst (AreOn l.grid) split (on l.grid all_on) in
+    let first : p.grid ≡ l.grid = All-head (λ q. q.grid ≡ l.grid) p rest made_on in
+    record {
+      grid = first;
+      on = subst (λ g. AreOn g rest) (sym first) (All-tail (λ q. q.grid ≡ l.grid) p rest made_on);
+      map = ap united_map (sym split) ∙ m ∙ ap united_map e ∙ united-append parts others ∙ (λ i. union (l_map i) (r_map i));
+    }
