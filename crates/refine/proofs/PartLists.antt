@@ -116,3 +116,8 @@ put_together parts others all made rest p l r one l_map l_on l_some r_map r_on e
       on = subst (λ g. AreOn g rest) (sym first) (All-tail (λ q. q.grid ≡ l.grid) p rest made_on);
       map = ap united_map (sym split) ∙ m ∙ ap united_map e ∙ united-append parts others ∙ (λ i. union (l_map i) (r_map i));
     }
+
+-- a part with no larger ones is what all are together
+pub alone : (p s : MapOnGrid) (ps : List MapOnGrid) → length ps ≡ 0 → p.grid ≡ s.grid → united_map (p ∷ ps) ≡ s.map → p ≡ s
+alone p s [] z g m = (λ i. record { grid = g i; map = (sym (union_empty p.map) ∙ m) i })
+alone p s (q ∷ qs) z g m = absurd (omega (arith, z))
