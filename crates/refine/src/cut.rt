@@ -22,146 +22,34 @@ ghost use Rattle.refine.specs.OnGrid.{AreOn, united_map};
 use crate::fault::JoinFault;
 use chains::table::{ArcRef, ArcTable};
 use faults::OutOfMemory;
-use lines::items::Items;
 use recutting::{Recut, Side, recut_owned};
+use rewriting::{NewLists, layers_rewritten};
 use shapes::feature::Feature;
 use std::alloc::Global;
 use std::cmp::Ordering;
 use std::collections::VecDeque;
 use std::marker::Model;
-use topo::{Body, Geom, Layer, Topology, order_of};
+use topo::{Geom, Layer, Topology, order_of};
 
-fn line_recut(
-    alloc: Global,
-    recut: &Recut,
+/// The lists of a side by the new arcs.
+#[derive(Drop)]
+struct SideLists<'a> {
+    recut: &'a Recut,
     side: Side,
-    used: &Items<ArcRef>,
-) -> Result<Items<ArcRef>, OutOfMemory>
-    ensures { IfOk result (λ v. v ≡ cuts.line_recut (of_side side recut.now) used.now) }
-{
-    Ok(Items::from_vec(recut.line(alloc, side, used.as_slice())?))
 }
 
-fn ring_recut(
-    alloc: Global,
-    recut: &Recut,
-    side: Side,
-    used: &Items<ArcRef>,
-) -> Result<Items<ArcRef>, OutOfMemory>
-    ensures { IfOk result (λ v. v ≡ cuts.ring_recut recut.now.arcs.arcs (of_side side recut.now) used.now) }
-{
-    Ok(Items::from_vec(recut.ring(alloc, side, used.as_slice())?))
-}
+impl NewLists for SideLists<'_> {
+    ghost line_of = { λ s. cuts.line_recut (of_side s.side s.recut.now) };
 
-fn lines_recut(
-    alloc: Global,
-    recut: &Recut,
-    side: Side,
-    lists: &[Items<ArcRef>],
-) -> Result<Items<Items<ArcRef>>, OutOfMemory>
-    ensures { IfOk result (λ v. v ≡ map_list (cuts.line_recut (of_side side recut.now)) lists.now) }
-{
-    let mut lines = Vec::with_capacity(alloc, lists.len())?;
-    for used in lists {
-        lines.push(line_recut(alloc, recut, side, used)?)?;
+    ghost ring_of = { λ s. cuts.ring_recut s.recut.now.arcs.arcs (of_side s.side s.recut.now) };
+
+    fn line(&self, alloc: Global, used: &[ArcRef]) -> Result<Vec<ArcRef>, OutOfMemory> {
+        self.recut.line(alloc, self.side, used)
     }
-    Ok(Items::from_vec(lines))
-}
 
-fn rings_recut(
-    alloc: Global,
-    recut: &Recut,
-    side: Side,
-    lists: &[Items<ArcRef>],
-) -> Result<Items<Items<ArcRef>>, OutOfMemory>
-    ensures { IfOk result (λ v. v ≡ map_list (cuts.ring_recut recut.now.arcs.arcs (of_side side recut.now)) lists.now) }
-{
-    let mut rings = Vec::with_capacity(alloc, lists.len())?;
-    for used in lists {
-        rings.push(ring_recut(alloc, recut, side, used)?)?;
+    fn ring(&self, alloc: Global, used: &[ArcRef]) -> Result<Vec<ArcRef>, OutOfMemory> {
+        self.recut.ring(alloc, self.side, used)
     }
-    Ok(Items::from_vec(rings))
-}
-
-fn polygons_recut(
-    alloc: Global,
-    recut: &Recut,
-    side: Side,
-    polygons: &[Items<Items<ArcRef>>],
-) -> Result<Items<Items<Items<ArcRef>>>, OutOfMemory>
-    ensures { IfOk result (λ v. v ≡ map_list (map_list (cuts.ring_recut recut.now.arcs.arcs (of_side side recut.now))) polygons.now) }
-{
-    let mut lists = Vec::with_capacity(alloc, polygons.len())?;
-    for rings in polygons {
-        lists.push(rings_recut(alloc, recut, side, rings.as_slice())?)?;
-    }
-    Ok(Items::from_vec(lists))
-}
-
-fn body_recut(alloc: Global, recut: &Recut, side: Side, body: Body) -> Result<Body, OutOfMemory>
-    ensures { IfOk result (λ b. b ≡ cuts.body_recut recut.now.arcs.arcs (of_side side recut.now) body) }
-{
-    match body {
-        Body::Line(used) => Ok(Body::Line(line_recut(alloc, recut, side, &used)?)),
-        Body::MultiLine(lists) => Ok(Body::MultiLine(lines_recut(
-            alloc,
-            recut,
-            side,
-            lists.as_slice(),
-        )?)),
-        Body::Polygon(lists) => Ok(Body::Polygon(rings_recut(
-            alloc,
-            recut,
-            side,
-            lists.as_slice(),
-        )?)),
-        Body::MultiPolygon(polygons) => Ok(Body::MultiPolygon(polygons_recut(
-            alloc,
-            recut,
-            side,
-            polygons.as_slice(),
-        )?)),
-        Body::Null => Ok(Body::Null),
-        Body::Point(p) => Ok(Body::Point(p)),
-        Body::MultiPoint(ps) => Ok(Body::MultiPoint(ps)),
-    }
-}
-
-/// A geometry of a side by the new arcs.
-fn geometry_recut(
-    alloc: Global,
-    recut: &Recut,
-    side: Side,
-    geometry: Geom,
-) -> Result<Geom, OutOfMemory>
-    ensures { IfOk result (λ g. g ≡ cuts.geometry_recut recut.now.arcs.arcs (of_side side recut.now) geometry) }
-{
-    let Geom { id, props, body } = geometry;
-    let body = body_recut(alloc, recut, side, body)?;
-    Ok(Geom { id, props, body })
-}
-
-fn geometries_recut(
-    alloc: Global,
-    recut: &Recut,
-    side: Side,
-    geometries: Vec<Geom>,
-) -> Result<Vec<Geom>, OutOfMemory>
-    ensures { IfOk result (λ v. v.items ≡ map_list (cuts.geometry_recut recut.now.arcs.arcs (of_side side recut.now)) geometries.items) }
-{
-    let mut made = Vec::with_capacity(alloc, geometries.len())?;
-    for geometry in geometries {
-        made.push(geometry_recut(alloc, recut, side, geometry)?)?;
-    }
-    Ok(made)
-}
-
-fn layer_recut(alloc: Global, recut: &Recut, side: Side, layer: Layer) -> Result<Layer, OutOfMemory>
-    ensures { IfOk result (λ l. l ≡ cut_layers.layer_recut recut.now.arcs.arcs (of_side side recut.now) layer) }
-{
-    let (name, geometries) = layer.into_parts();
-    let geometries = geometries_recut(alloc, recut, side, geometries)?;
-    Ok(Layer::new(name, geometries))
 }
 
 /// The layers of a side by the new arcs.
@@ -173,15 +61,11 @@ fn layers_recut(
 ) -> Result<Vec<Layer>, OutOfMemory>
     ensures { IfOk result (λ v. v.items ≡ map_list (cut_layers.layer_recut recut.now.arcs.arcs (of_side side recut.now)) layers.items) }
 {
-    let mut made = Vec::with_capacity(alloc, layers.len())?;
-    for layer in layers {
-        made.push(layer_recut(alloc, recut, side, layer)?)?;
-    }
-    Ok(made)
+    layers_rewritten(alloc, &SideLists { recut, side }, layers)
 }
 
 /// Moves the first of some items to the end of a list.
-fn move_first<T: Drop>(items: &mut VecDeque<T>, list: &mut Vec<T>) -> Result<(), OutOfMemory>
+fn put_first<T: Drop>(items: &mut VecDeque<T>, list: &mut Vec<T>) -> Result<(), OutOfMemory>
     ensures rest { items.new.items ≡ drop 1 items.old.items }
     ensures moved { OnOk result (list.new.items ≡ list.old.items ++ take 1 items.old.items) }
 {
@@ -253,7 +137,7 @@ impl Others {
         ensures moved { OnOk result (merged.new.items ≡ merged.old.items ++ take 1 self.old.geometries.items) }
     {
         self.first = None;
-        move_first(&mut self.geometries, merged)
+        put_first(&mut self.geometries, merged)
     }
 
     /// Drops the first.
@@ -345,7 +229,7 @@ fn put_layers_before(
 {
     loop {
         match order_to_first(layer, others) {
-            Some(Ordering::Greater) => move_first(others, merged)?,
+            Some(Ordering::Greater) => put_first(others, merged)?,
             Some(Ordering::Equal) => return Ok(others.pop_front()),
             Some(Ordering::Less) => return Ok(None),
             None => return Ok(None),
