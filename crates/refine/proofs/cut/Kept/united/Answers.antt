@@ -1,4 +1,4 @@
-use Rattle.std.proofs.Common.{◌∙◌, ap}
+use Rattle.std.proofs.Common.{◌∙◌}
 use Rattle.shapes.specs.Union.{union}
 use Rattle.refine.proofs.cut.Kept.united.Goals as goal
 
