@@ -3,12 +3,4 @@
 #![tactic(auto)]
 
 #[cfg(test)]
-mod build_rows;
-#[cfg(test)]
-mod depth;
-#[cfg(test)]
-mod feature_order;
-#[cfg(test)]
-mod geojson_refusals;
-#[cfg(test)]
-mod hostile_geojson;
+mod tests;

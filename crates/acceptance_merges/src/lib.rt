@@ -3,16 +3,4 @@
 #![tactic(auto)]
 
 #[cfg(test)]
-mod hostile_topologies;
-#[cfg(test)]
-mod merge_calls;
-#[cfg(test)]
-mod merge_rows;
-#[cfg(test)]
-mod removal_rows;
-#[cfg(test)]
-mod shard_rows;
-#[cfg(test)]
-mod topology_refusals;
-#[cfg(test)]
-mod topology_texts;
+mod tests;

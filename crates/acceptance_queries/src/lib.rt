@@ -3,14 +3,4 @@
 #![tactic(auto)]
 
 #[cfg(test)]
-mod info_rows;
-#[cfg(test)]
-mod layer_calls;
-#[cfg(test)]
-mod query_rows;
-#[cfg(test)]
-mod standard_input;
-#[cfg(test)]
-mod usage;
-#[cfg(test)]
-mod writers;
+mod tests;

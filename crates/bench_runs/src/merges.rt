@@ -1,8 +1,6 @@
 //! Joining shards, which keep maps (`whole`) or keep topologies and cut arcs again (`cut`).
 
-use grid::Grid;
 use refine::{Cut, Plan, Shard, Whole, run_plan};
-use shapes::FeatureMap;
 use std::alloc::Global;
 use std::fs;
 
@@ -19,8 +17,7 @@ fn plan_of(alloc: Global, shape: &str, count: usize) -> Option<Plan> {
 /// The shard of a file's topology.
 fn read_shard<S: Shard>(rt: &HostRuntime, name: &str) -> Option<S> {
     let bytes = fs::read(rt, name).ok()?;
-    let (grid, map): (Grid, FeatureMap) = topo_io::read(rt.alloc(), bytes.as_slice()).ok()?;
-    S::of_map(rt.alloc(), &grid, map).ok()
+    S::of_text(rt.alloc(), bytes.as_slice()).ok()
 }
 
 /// The text of the shards' join in a grouping.

@@ -131,6 +131,17 @@ impl ArcList {
         }
         Ok(pieces)
     }
+
+    /// The positions of each arc.
+    pub(crate) fn into_lists(self, alloc: Global) -> Result<Vec<Items<Pos>>, AllocError>
+        ensures { IfOk result (λ v. v.items ≡ map_list positions_of self) }
+    {
+        let mut lists = Vec::with_capacity(alloc, self.len())?;
+        for arc in self.arcs.into_values() {
+            lists.push(arc.positions)?;
+        }
+        Ok(lists)
+    }
 }
 
 fn copies(alloc: Global, arcs: &[StoredArc]) -> Result<ArcList, AllocError>

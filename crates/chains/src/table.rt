@@ -207,6 +207,17 @@ impl ArcTable {
         Ok(pieces)
     }
 
+    /// The arcs, in order.
+    ///
+    /// # Errors
+    /// Where memory is refused.
+    pub fn into_arcs(self, alloc: Global) -> Result<Vec<Items<Pos>>, OutOfMemory>
+        ensures { IfOk result (λ v. v.items ≡ self.arcs) }
+    {
+        let lists = self.arcs.into_lists(alloc)?;
+        Ok(lists)
+    }
+
     /// An equal table.
     ///
     /// # Errors

@@ -76,6 +76,14 @@ impl Run {
         Ok(())
     }
 
+    /// Puts a text in a file that is named by its place, and the word that builds it in a layer.
+    fn add_source(&mut self, place: usize, layer: &str, text: &str) -> Result<(), AllocError> {
+        let name = format!(in self.alloc; "{place}.json")?;
+        let word = format!(in self.alloc; "{layer}={name}")?;
+        self.add_word(word.as_str())?;
+        self.add_file(name.as_str(), text.as_bytes())
+    }
+
     /// Gives the run a standard input; without it there is none that can be read.
     pub fn set_input(&mut self, bytes: &[u8]) -> Result<(), AllocError> {
         self.input = Some(Vec::from_slice(self.alloc, bytes)?);
@@ -132,6 +140,21 @@ impl Outcome {
         self.ended(title, status, "", line)
     }
 
+    /// The run printed nothing, and refused the text of a file with this fault.
+    ///
+    /// # Errors
+    /// The title, and what the run ended with.
+    pub fn refused_text(
+        &self,
+        alloc: Global,
+        title: &str,
+        file: &str,
+        fault: &str,
+    ) -> Result<(), Fail> {
+        let line = format!(in alloc; "topotool: {file}: {fault}\n")?;
+        self.refused(title, 4, line.as_str())
+    }
+
     /// The run ended with this status, and wrote these texts.
     ///
     /// # Errors
@@ -171,10 +194,7 @@ pub fn build(alloc: Global, grid: &str, sources: &[(&str, &str)]) -> Result<Outc
     let mut run = Run::new(alloc, &["build", "--grid"])?;
     run.add_word(grid)?;
     for (place, (layer, text)) in sources.iter().enumerate() {
-        let name = format!(in alloc; "{place}.json")?;
-        let word = format!(in alloc; "{layer}={name}")?;
-        run.add_word(word.as_str())?;
-        run.add_file(name.as_str(), text.as_bytes())?;
+        run.add_source(place, *layer, *text)?;
     }
     run.outcome()
 }
@@ -183,10 +203,7 @@ pub fn build(alloc: Global, grid: &str, sources: &[(&str, &str)]) -> Result<Outc
 pub fn build_all(alloc: Global, layer: &str, texts: &[&str]) -> Result<Outcome, Fail> {
     let mut run = Run::new(alloc, &["build", "--grid", "1,1,0,0"])?;
     for (place, text) in texts.iter().enumerate() {
-        let name = format!(in alloc; "{place}.json")?;
-        let word = format!(in alloc; "{layer}={name}")?;
-        run.add_word(word.as_str())?;
-        run.add_file(name.as_str(), text.as_bytes())?;
+        run.add_source(place, layer, *text)?;
     }
     run.outcome()
 }

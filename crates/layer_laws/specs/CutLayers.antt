@@ -11,8 +11,8 @@ use Rattle.topo.specs.Features.{IsKnownOf}
 use Rattle.topo.specs.GeometryOrder.{geometry_cmp}
 use Rattle.topo.specs.Parts.{LayerParts}
 use Rattle.topo.specs.declared.geom.Geom.{Geom}
-use Rattle.layer_laws.specs.Cuts.{by_order, geometry_recut, merged, united}
-use Rattle.std.specs.Prelude.{map as map_list}
+use Rattle.rewriting.specs.Rewritten.{layer_rewritten}
+use Rattle.layer_laws.specs.Cuts.{by_order, line_recut, merged, ring_recut, united}
 
 -- what stands before x
 abbrev pub before : {A : Type 0} → (A → A → Ordering) → A → List A → List A
@@ -46,7 +46,7 @@ IsKnownOfFirst arcs (g ∷ gs) known = IsKnownOf arcs g known
 
 -- a layer by the arcs that the old ones are cut into
 abbrev pub layer_recut : List (List Pos) → List (List ArcRef) → LayerParts → LayerParts
-layer_recut table pieces l = record { name = l.name; geometries = map_list (geometry_recut table pieces) l.geometries }
+layer_recut table pieces = layer_rewritten (line_recut pieces) (ring_recut table pieces)
 
 -- layers by the bytes of their names
 abbrev pub layer_cmp : LayerParts → LayerParts → Ordering

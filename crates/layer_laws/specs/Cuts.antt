@@ -1,5 +1,5 @@
 -- What a join of two topologies makes of their layers: geometries by the arcs that they are cut into, and sorted lists merged.
-use Rattle.std.specs.Prelude.{ℕ, List, [], ◌∷◌, map}
+use Rattle.std.specs.Prelude.{ℕ, List, [], ◌∷◌}
 use Rattle.std.specs.Cmp.Lexicographic.{slice_cmp}
 use Rattle.std.specs.Ordering.{nat_cmp}
 use Rattle.std.specs.declared.cmp.Ordering.{Ordering}
@@ -13,8 +13,8 @@ use Rattle.shapes.specs.declared.feature.Feature.{Feature}
 use Rattle.theory.specs.ArcNumbers.{ArcRef}
 use Rattle.theory.specs.Refinement.{replaced, turned_used}
 use Rattle.topo.specs.declared.geom.Body.{Body}
-use Rattle.topo.specs.declared.geom.Body.TheVariants.{Null, Point, MultiPoint, Line, MultiLine, Polygon, MultiPolygon}
 use Rattle.topo.specs.declared.geom.Geom.{Geom}
+use Rattle.rewriting.specs.Rewritten.{body_rewritten, geometry_rewritten}
 
 -- the first, the second or the third, as the order is
 abbrev pub by_order : {A : Type 0} → Ordering → A → A → A → A
@@ -65,14 +65,8 @@ abbrev pub ring_recut : List (List Pos) → List (List ArcRef) → List ArcRef �
 ring_recut table pieces used = turned_used position_cmp table (replaced pieces used)
 
 abbrev pub body_recut : List (List Pos) → List (List ArcRef) → Body → Body
-body_recut table pieces Null = Null
-body_recut table pieces (Point p) = Point p
-body_recut table pieces (MultiPoint ps) = MultiPoint ps
-body_recut table pieces (Line used) = Line (line_recut pieces used)
-body_recut table pieces (MultiLine lists) = MultiLine (map (line_recut pieces) lists)
-body_recut table pieces (Polygon lists) = Polygon (map (ring_recut table pieces) lists)
-body_recut table pieces (MultiPolygon ps) = MultiPolygon (map (map (ring_recut table pieces)) ps)
+body_recut table pieces = body_rewritten (line_recut pieces) (ring_recut table pieces)
 
 -- a geometry by the arcs that the old ones are cut into: its id and its properties stay
 abbrev pub geometry_recut : List (List Pos) → List (List ArcRef) → Geom → Geom
-geometry_recut table pieces g = record { id = g.id; props = g.props; body = body_recut table pieces g.body }
+geometry_recut table pieces = geometry_rewritten (line_recut pieces) (ring_recut table pieces)

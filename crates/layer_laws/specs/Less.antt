@@ -9,8 +9,8 @@ use Rattle.shapes.specs.declared.feature.Feature.{Feature}
 use Rattle.theory.specs.Removing.{Starts, marked, rejoined, ring_rejoined}
 use Rattle.topo.specs.Parts.{LayerParts}
 use Rattle.topo.specs.declared.geom.Body.{Body}
-use Rattle.topo.specs.declared.geom.Body.TheVariants.{Null, Point, MultiPoint, Line, MultiLine, Polygon, MultiPolygon}
 use Rattle.topo.specs.declared.geom.Geom.{Geom}
+use Rattle.rewriting.specs.Rewritten.{body_rewritten, geometry_rewritten, layer_rewritten}
 
 -- the members of a list for which the answer is no
 abbrev pub without : {A : Type 0} → (A → Bool) → List A → List A
@@ -53,17 +53,11 @@ layers_left (marks ∷ more) (l ∷ ls) = record { name = l.name; geometries = m
 
 -- a geometry by the arcs that the old ones are joined to: its id and its properties stay
 abbrev pub body_rejoined : List (List Pos) → Starts → Body → Body
-body_rejoined arcs starts Null = Null
-body_rejoined arcs starts (Point p) = Point p
-body_rejoined arcs starts (MultiPoint ps) = MultiPoint ps
-body_rejoined arcs starts (Line used) = Line (rejoined starts 0 used)
-body_rejoined arcs starts (MultiLine lists) = MultiLine (map_list (rejoined starts 0) lists)
-body_rejoined arcs starts (Polygon lists) = Polygon (map_list (ring_rejoined position_cmp arcs starts) lists)
-body_rejoined arcs starts (MultiPolygon ps) = MultiPolygon (map_list (map_list (ring_rejoined position_cmp arcs starts)) ps)
+body_rejoined arcs starts = body_rewritten (rejoined starts 0) (ring_rejoined position_cmp arcs starts)
 
 abbrev pub geometry_rejoined : List (List Pos) → Starts → Geom → Geom
-geometry_rejoined arcs starts g = record { id = g.id; props = g.props; body = body_rejoined arcs starts g.body }
+geometry_rejoined arcs starts = geometry_rewritten (rejoined starts 0) (ring_rejoined position_cmp arcs starts)
 
 -- a layer of such geometries
 abbrev pub layer_rejoined : List (List Pos) → Starts → LayerParts → LayerParts
-layer_rejoined arcs starts l = record { name = l.name; geometries = map_list (geometry_rejoined arcs starts) l.geometries }
+layer_rejoined arcs starts = layer_rewritten (rejoined starts 0) (ring_rejoined position_cmp arcs starts)

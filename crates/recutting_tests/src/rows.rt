@@ -1,11 +1,11 @@
 //! Pairs of maps, and what the arcs of each become.
-use chains::{ArcRef, ArcTable};
 use recutting::{Recut, Side, recut};
 use std::alloc::Global;
 use std::process::Abort;
 use std::test::Fail;
 use worked_maps::{
-    Drawn, FIRST, SECOND, SHARED_EDGE, THIRD, TRIANGLE, TURNED_TRIANGLE, topology_of,
+    Drawn, FIRST, SECOND, SHARED_EDGE, THIRD, TRIANGLE, TURNED_TRIANGLE, assert_same_arcs,
+    assert_used, refs_of, topology_of,
 };
 
 /// Two maps, and for each arc of each the indexes of the arcs that it is cut into.
@@ -115,14 +115,6 @@ fn recut_row(alloc: Global, row: &Row) -> Result<Recut, Fail> {
     Ok(recut(alloc, left.arcs(), right.arcs())?)
 }
 
-/// Used arcs are those of the indexes.
-fn assert_used(rt: &impl Abort, used: &[ArcRef], indexes: &[i64], title: &str) {
-    assert_eq!(rt; used.len(), indexes.len(), "{title}");
-    for (arc, index) in used.iter().zip(indexes) {
-        assert_eq!(rt; *arc, ArcRef::from_index(*index), "{title}");
-    }
-}
-
 /// The arcs of a side are cut into those of the indexes, and the side has no more arcs.
 fn assert_pieces(
     rt: &impl Abort,
@@ -137,23 +129,6 @@ fn assert_pieces(
     }
     assert_eq!(rt; made.pieces(side, lists.len()), None, "{title}");
     Ok(())
-}
-
-/// Two tables have the same arcs, and the same ones are free.
-fn assert_same_arcs(rt: &impl Abort, made: &ArcTable, whole: &ArcTable, title: &str) {
-    assert_eq!(rt; made.len(), whole.len(), "{title}");
-    for number in 0..whole.len() {
-        assert_eq!(rt;
-            made.arc(number),
-            whole.arc(number),
-            "{title}: arc {number}"
-        );
-        assert_eq!(rt;
-            made.is_free(number),
-            whole.is_free(number),
-            "{title}: arc {number}"
-        );
-    }
 }
 
 #[test]
@@ -179,15 +154,6 @@ fn arcs_are_those_of_both_maps_together(rt: HostRuntime) -> Result<(), Fail> {
 /// Lists of the rings of the two squares, and what they become.
 const RINGS: &[(&[i64], &[i64])] = &[(&[1, -1], &[2, 3, -2]), (&[2, -2], &[4, -4])];
 
-/// The arcs of these indexes.
-fn refs_of(alloc: Global, indexes: &[i64]) -> Result<Vec<ArcRef>, Fail> {
-    let mut refs = Vec::new(alloc);
-    for index in indexes {
-        refs.push(ArcRef::from_index(*index))?;
-    }
-    Ok(refs)
-}
-
 #[test]
 fn the_list_of_a_ring_is_turned(rt: HostRuntime) -> Result<(), Fail> {
     let made = recut_row(rt.alloc(), &LINE_TO_A_CORNER)?;
@@ -202,7 +168,8 @@ fn the_list_of_a_ring_is_turned(rt: HostRuntime) -> Result<(), Fail> {
 #[test]
 fn the_list_of_a_line(rt: HostRuntime) -> Result<(), Fail> {
     let made = recut_row(rt.alloc(), &LINE_TO_A_CORNER)?;
-    let line = made.line(rt.alloc(), Side::Right, &[ArcRef::from_index(0)])?;
+    let refs = refs_of(rt.alloc(), &[0])?;
+    let line = made.line(rt.alloc(), Side::Right, &refs)?;
     assert_used(&rt, &line, &[0], LINE_TO_A_CORNER.title);
     Ok(())
 }

@@ -1,5 +1,6 @@
 pub mod MeantTexts
 pub mod JoinedParts
+pub mod PartLists
 mod LeftTold
 mod Stitching
 mod JoinedTexts

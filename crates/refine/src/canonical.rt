@@ -6,6 +6,7 @@ ghost use Rattle.topo.specs.OfMap.{IsOf};
 ghost use Rattle.topo_io.specs.Canon.{canon};
 ghost use Rattle.topo_io.specs.Means.{Means};
 
+use crate::cut::Kept;
 use faults::OutOfMemory;
 use grid::transform::Grid;
 use shapes::feature_map::FeatureMap;
@@ -19,6 +20,14 @@ pub(crate) fn text_of_topology(alloc: Global, topology: &Topology) -> Result<Vec
     ensures accepted { IfOk result (λ t. (m : Layers) → IsOf m topology.now → MapFits topology.now.grid m → Means t.items topology.now.grid m) }
 {
     topo_io::text_of(alloc, topology)
+}
+
+// The canonical text of a kept topology's map, which is read back as the grid and the map.
+pub(crate) fn text_of_kept(alloc: Global, kept: &Kept) -> Result<Vec<u8>, OutOfMemory>
+    ensures text { IfOk result (λ t. t.items ≡ canon kept.now.grid kept.now.map) }
+    ensures accepted { IfOk result (λ t. MapFits kept.now.grid kept.now.map → Means t.items kept.now.grid kept.now.map) }
+{
+    text_of_topology(alloc, kept.topology())
 }
 
 // The canonical text of a map on a grid, which is read back as the grid and the map.

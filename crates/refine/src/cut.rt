@@ -1,6 +1,8 @@
 //! The join of two topologies: their arcs are cut again, their geometries follow the pieces, and
-//! the sorted layers and geometries of both are merged in one pass.
-ghost use Rattle.std.specs.Prelude.{◌≡◌, ◌↔◌, ◌<◌, ◌^◌, ◌++◌, length, IfOk, IfSome, IsErrOf, OnOk, List, Option, None, take, drop, map as map_list};
+//! the sorted layers and geometries of both are merged in one pass. The join of two shards, each of
+//! topologies whose sizes are far apart: those are joined whose sizes come near each other.
+ghost use Rattle.std.specs.Prelude.{◌≡◌, ◌↔◌, ◌<◌, ◌^◌, ◌∷◌, ◌++◌, length, IfOk, IfSome, IsErrOf, IsPermutation, OnOk, List, Option, None, take, drop, map as map_list};
+ghost use Rattle.grid.specs.Place.{Transform};
 ghost use Rattle.shapes.specs.Maps.{Layers};
 ghost use Rattle.shapes.specs.Union.{union};
 ghost use Rattle.recutting.specs.Parts.{of_side};
@@ -8,155 +10,46 @@ ghost use Rattle.topo.specs.Features.{HasFeature, IsKnownOf};
 ghost use Rattle.topo.specs.Parts.{LayerParts};
 ghost use Rattle.topo.specs.declared.geom.Geom.{Geom};
 ghost use Rattle.topo.specs.OfMap.{IsOf, IsOfSomeMap};
+ghost use Rattle.layer_laws.specs.ItsMap.{ItsMap, ItsMap-prop};
 ghost use Rattle.layer_laws.specs.Cuts as cuts;
 ghost use Rattle.layer_laws.specs.CutLayers as cut_layers;
 ghost use Rattle.topo.specs.GeometryOrder.{HaveFeatures, LayersHaveFeatures, geometry_cmp};
 ghost use Rattle.layer_laws.specs.CutLayers.{IsKnownOfFirst, before, behind, layer_cmp, layers_as_one, layers_merged, tied, to_first, with_other};
 ghost use Rattle.merging.specs.Meaning.{same_grid};
 ghost use Rattle.merging.specs.declared.fault.JoinFault.TheVariants.{OtherGrid};
+ghost use Rattle.refine.specs.OnGrid.{AreOn, united_map};
 
 use crate::fault::JoinFault;
 use chains::table::{ArcRef, ArcTable};
 use faults::OutOfMemory;
-use lines::items::Items;
 use recutting::{Recut, Side, recut_owned};
+use rewriting::{NewLists, layers_rewritten};
 use shapes::feature::Feature;
 use std::alloc::Global;
 use std::cmp::Ordering;
 use std::collections::VecDeque;
-use topo::{Body, Geom, Layer, Topology, order_of};
+use std::marker::Model;
+use topo::{Geom, Layer, Topology, order_of};
 
-fn line_recut(
-    alloc: Global,
-    recut: &Recut,
+/// The lists of a side by the new arcs.
+#[derive(Drop)]
+struct SideLists<'a> {
+    recut: &'a Recut,
     side: Side,
-    used: &Items<ArcRef>,
-) -> Result<Items<ArcRef>, OutOfMemory>
-    ensures { IfOk result (λ v. v ≡ cuts.line_recut (of_side side recut.now) used.now) }
-{
-    Ok(Items::from_vec(recut.line(alloc, side, used.as_slice())?))
 }
 
-fn ring_recut(
-    alloc: Global,
-    recut: &Recut,
-    side: Side,
-    used: &Items<ArcRef>,
-) -> Result<Items<ArcRef>, OutOfMemory>
-    ensures { IfOk result (λ v. v ≡ cuts.ring_recut recut.now.arcs.arcs (of_side side recut.now) used.now) }
-{
-    Ok(Items::from_vec(recut.ring(alloc, side, used.as_slice())?))
-}
+impl NewLists for SideLists<'_> {
+    ghost line_of = { λ s. cuts.line_recut (of_side s.side s.recut.now) };
 
-fn lines_recut(
-    alloc: Global,
-    recut: &Recut,
-    side: Side,
-    lists: &[Items<ArcRef>],
-) -> Result<Items<Items<ArcRef>>, OutOfMemory>
-    ensures { IfOk result (λ v. v ≡ map_list (cuts.line_recut (of_side side recut.now)) lists.now) }
-{
-    let mut lines = Vec::with_capacity(alloc, lists.len())?;
-    for used in lists {
-        lines.push(line_recut(alloc, recut, side, used)?)?;
+    ghost ring_of = { λ s. cuts.ring_recut s.recut.now.arcs.arcs (of_side s.side s.recut.now) };
+
+    fn line(&self, alloc: Global, used: &[ArcRef]) -> Result<Vec<ArcRef>, OutOfMemory> {
+        self.recut.line(alloc, self.side, used)
     }
-    Ok(Items::from_vec(lines))
-}
 
-fn rings_recut(
-    alloc: Global,
-    recut: &Recut,
-    side: Side,
-    lists: &[Items<ArcRef>],
-) -> Result<Items<Items<ArcRef>>, OutOfMemory>
-    ensures { IfOk result (λ v. v ≡ map_list (cuts.ring_recut recut.now.arcs.arcs (of_side side recut.now)) lists.now) }
-{
-    let mut rings = Vec::with_capacity(alloc, lists.len())?;
-    for used in lists {
-        rings.push(ring_recut(alloc, recut, side, used)?)?;
+    fn ring(&self, alloc: Global, used: &[ArcRef]) -> Result<Vec<ArcRef>, OutOfMemory> {
+        self.recut.ring(alloc, self.side, used)
     }
-    Ok(Items::from_vec(rings))
-}
-
-fn polygons_recut(
-    alloc: Global,
-    recut: &Recut,
-    side: Side,
-    polygons: &[Items<Items<ArcRef>>],
-) -> Result<Items<Items<Items<ArcRef>>>, OutOfMemory>
-    ensures { IfOk result (λ v. v ≡ map_list (map_list (cuts.ring_recut recut.now.arcs.arcs (of_side side recut.now))) polygons.now) }
-{
-    let mut lists = Vec::with_capacity(alloc, polygons.len())?;
-    for rings in polygons {
-        lists.push(rings_recut(alloc, recut, side, rings.as_slice())?)?;
-    }
-    Ok(Items::from_vec(lists))
-}
-
-fn body_recut(alloc: Global, recut: &Recut, side: Side, body: Body) -> Result<Body, OutOfMemory>
-    ensures { IfOk result (λ b. b ≡ cuts.body_recut recut.now.arcs.arcs (of_side side recut.now) body) }
-{
-    match body {
-        Body::Line(used) => Ok(Body::Line(line_recut(alloc, recut, side, &used)?)),
-        Body::MultiLine(lists) => Ok(Body::MultiLine(lines_recut(
-            alloc,
-            recut,
-            side,
-            lists.as_slice(),
-        )?)),
-        Body::Polygon(lists) => Ok(Body::Polygon(rings_recut(
-            alloc,
-            recut,
-            side,
-            lists.as_slice(),
-        )?)),
-        Body::MultiPolygon(polygons) => Ok(Body::MultiPolygon(polygons_recut(
-            alloc,
-            recut,
-            side,
-            polygons.as_slice(),
-        )?)),
-        Body::Null => Ok(Body::Null),
-        Body::Point(p) => Ok(Body::Point(p)),
-        Body::MultiPoint(ps) => Ok(Body::MultiPoint(ps)),
-    }
-}
-
-/// A geometry of a side by the new arcs.
-fn geometry_recut(
-    alloc: Global,
-    recut: &Recut,
-    side: Side,
-    geometry: Geom,
-) -> Result<Geom, OutOfMemory>
-    ensures { IfOk result (λ g. g ≡ cuts.geometry_recut recut.now.arcs.arcs (of_side side recut.now) geometry) }
-{
-    let Geom { id, props, body } = geometry;
-    let body = body_recut(alloc, recut, side, body)?;
-    Ok(Geom { id, props, body })
-}
-
-fn geometries_recut(
-    alloc: Global,
-    recut: &Recut,
-    side: Side,
-    geometries: Vec<Geom>,
-) -> Result<Vec<Geom>, OutOfMemory>
-    ensures { IfOk result (λ v. v.items ≡ map_list (cuts.geometry_recut recut.now.arcs.arcs (of_side side recut.now)) geometries.items) }
-{
-    let mut made = Vec::with_capacity(alloc, geometries.len())?;
-    for geometry in geometries {
-        made.push(geometry_recut(alloc, recut, side, geometry)?)?;
-    }
-    Ok(made)
-}
-
-fn layer_recut(alloc: Global, recut: &Recut, side: Side, layer: Layer) -> Result<Layer, OutOfMemory>
-    ensures { IfOk result (λ l. l ≡ cut_layers.layer_recut recut.now.arcs.arcs (of_side side recut.now) layer) }
-{
-    let (name, geometries) = layer.into_parts();
-    let geometries = geometries_recut(alloc, recut, side, geometries)?;
-    Ok(Layer::new(name, geometries))
 }
 
 /// The layers of a side by the new arcs.
@@ -168,15 +61,11 @@ fn layers_recut(
 ) -> Result<Vec<Layer>, OutOfMemory>
     ensures { IfOk result (λ v. v.items ≡ map_list (cut_layers.layer_recut recut.now.arcs.arcs (of_side side recut.now)) layers.items) }
 {
-    let mut made = Vec::with_capacity(alloc, layers.len())?;
-    for layer in layers {
-        made.push(layer_recut(alloc, recut, side, layer)?)?;
-    }
-    Ok(made)
+    layers_rewritten(alloc, &SideLists { recut, side }, layers)
 }
 
 /// Moves the first of some items to the end of a list.
-fn move_first<T: Drop>(items: &mut VecDeque<T>, list: &mut Vec<T>) -> Result<(), OutOfMemory>
+fn put_first<T: Drop>(items: &mut VecDeque<T>, list: &mut Vec<T>) -> Result<(), OutOfMemory>
     ensures rest { items.new.items ≡ drop 1 items.old.items }
     ensures moved { OnOk result (list.new.items ≡ list.old.items ++ take 1 items.old.items) }
 {
@@ -248,7 +137,7 @@ impl Others {
         ensures moved { OnOk result (merged.new.items ≡ merged.old.items ++ take 1 self.old.geometries.items) }
     {
         self.first = None;
-        move_first(&mut self.geometries, merged)
+        put_first(&mut self.geometries, merged)
     }
 
     /// Drops the first.
@@ -340,7 +229,7 @@ fn put_layers_before(
 {
     loop {
         match order_to_first(layer, others) {
-            Some(Ordering::Greater) => move_first(others, merged)?,
+            Some(Ordering::Greater) => put_first(others, merged)?,
             Some(Ordering::Equal) => return Ok(others.pop_front()),
             Some(Ordering::Less) => return Ok(None),
             None => return Ok(None),
@@ -424,29 +313,7 @@ fn on_one_grid(left: &Topology, right: &Topology) -> bool
     left.grid() == right.grid()
 }
 
-/// The topology of the features of both, which are handed over: their geometries and the arcs that
-/// are not cut are moved, and few features are stitched.
-///
-/// # Errors
-/// `OtherGrid` exactly where the grids differ; want of memory.
-pub(crate) fn joined_owned(
-    alloc: Global,
-    left: Topology,
-    right: Topology,
-) -> Result<Topology, JoinFault>
-    ensures grid { IfOk result (λ t. t.grid ≡ left.grid) }
-    ensures of_map { IfOk result (λ t. (m n : Layers) → IsOf m left → IsOf n right → IsOf (union m n) t) }
-    ensures few { IfOk result (λ t. length t.arcs.arcs < 2 ^ 63) }
-    ensures other_grid { IsErrOf result OtherGrid ↔ ¬ (left.grid ≡ right.grid) }
-{
-    if !on_one_grid(&left, &right) {
-        return Err(JoinFault::OtherGrid);
-    }
-    let topology = united(alloc, left, right)?;
-    Ok(topology)
-}
-
-/// `joined_owned` of two topologies that stay.
+/// The topology of the features of both, which stay.
 ///
 /// # Errors
 /// `OtherGrid` exactly where the grids differ; want of memory.
@@ -466,4 +333,300 @@ pub(crate) fn joined(
     }
     let topology = united_copies(alloc, left, right)?;
     Ok(topology)
+}
+
+/// A topology with the map that it is of.
+#[derive(Drop)]
+pub(crate) struct Kept {
+    topology: Topology,
+    ghost of_map: { ItsMap topology } by { ItsMap-prop topology },
+}
+
+impl Model for Kept {
+    ghost use Rattle.refine.specs.OnGrid.{IsKeptFor, MapOnGrid, map_on_grid_code};
+
+    ghost Value = { MapOnGrid };
+
+    ghost coded = { map_on_grid_code };
+
+    ghost view = { λ a. record { grid = a.topology.grid; map = a.of_map.0 } };
+
+    ghost invariant = { λ a. IsKeptFor a.of_map.0 a.topology };
+}
+
+impl Kept {
+    pub(crate) fn of_topology(topology: Topology) -> Kept
+        requires few { length topology.arcs.arcs < 2 ^ 63 }
+        requires of_map { IsOfSomeMap topology }
+        ensures grid { result.grid ≡ topology.grid }
+        ensures map { (m : Layers) → IsOf m topology → result.map ≡ m }
+    {
+        Kept { topology }
+    }
+
+    pub(crate) fn topology(&self) -> &Topology
+        ensures grid { result.now.grid ≡ self.now.grid }
+        ensures of_map { IsOf self.now.map result.now }
+        ensures few { length result.now.arcs.arcs < 2 ^ 63 }
+    {
+        &self.topology
+    }
+
+    /// An equal topology.
+    fn copy(&self, alloc: Global) -> Result<Kept, OutOfMemory>
+        ensures { IfOk result (λ k. k ≡ self.now) }
+    {
+        let topology = self.topology.copy(alloc)?;
+        Ok(Kept::of_topology(topology))
+    }
+
+    /// The topology of the features of both, on the grid of the first.
+    fn united(self, alloc: Global, other: Kept) -> Result<Kept, OutOfMemory>
+        ensures grid { IfOk result (λ k. k.grid ≡ self.grid) }
+        ensures map { IfOk result (λ k. k.map ≡ union self.map other.map) }
+    {
+        let topology = united(alloc, self.topology, other.topology)?;
+        Ok(Kept::of_topology(topology))
+    }
+}
+
+/// One of the topologies of a shard. Its size counts the arcs of the topologies that were joined
+/// into it, and these topologies.
+#[derive(Drop)]
+pub(crate) struct Part {
+    kept: Kept,
+    size: usize,
+}
+
+impl Model for Part {
+    ghost use Rattle.refine.specs.OnGrid.{MapOnGrid, map_on_grid_code};
+
+    ghost Value = { MapOnGrid };
+
+    ghost coded = { map_on_grid_code };
+
+    ghost view = { λ a. a.kept };
+}
+
+impl Part {
+    fn of_topology(topology: Topology) -> Part
+        requires few { length topology.arcs.arcs < 2 ^ 63 }
+        requires of_map { IsOfSomeMap topology }
+        ensures grid { result.grid ≡ topology.grid }
+        ensures map { (m : Layers) → IsOf m topology → result.map ≡ m }
+    {
+        let size = topology.arcs().len() + 1;
+        let kept = Kept::of_topology(topology);
+        Part { kept, size }
+    }
+
+    pub(crate) fn kept(&self) -> &Kept
+        ensures { result.now ≡ self.now }
+    {
+        &self.kept
+    }
+
+    pub(crate) fn topology(&self) -> &Topology
+        ensures { result.now.grid ≡ self.now.grid }
+    {
+        self.kept.topology()
+    }
+
+    fn copy(&self, alloc: Global) -> Result<Part, OutOfMemory>
+        ensures { IfOk result (λ p. p ≡ self.now) }
+    {
+        let kept = self.kept.copy(alloc)?;
+        Ok(Part {
+            kept,
+            size: self.size,
+        })
+    }
+
+    /// The features of both, on the grid of the first.
+    fn united(self, alloc: Global, other: Part) -> Result<Part, OutOfMemory>
+        ensures grid { IfOk result (λ p. p.grid ≡ self.grid) }
+        ensures map { IfOk result (λ p. p.map ≡ union self.map other.map) }
+    {
+        let size = self.size.saturating_add(other.size);
+        let kept = self.kept.united(alloc, other.kept)?;
+        Ok(Part { kept, size })
+    }
+
+    /// Whether another part is less than twice as large.
+    fn is_near(&self, other: &Part) -> bool {
+        other.size / 2 < self.size
+    }
+}
+
+fn copy_parts(alloc: Global, parts: &[Part]) -> Result<Vec<Part>, OutOfMemory>
+    ensures { IfOk result (λ v. v.items ≡ parts.now) }
+{
+    let mut copies = Vec::with_capacity(alloc, parts.len())?;
+    for part in parts {
+        copies.push(part.copy(alloc)?)?;
+    }
+    Ok(copies)
+}
+
+/// The topology of the features of a part and of larger ones, on the grid of the first.
+fn joined_copies(alloc: Global, first: &Part, larger: &[Part]) -> Result<Kept, OutOfMemory>
+    ensures grid { IfOk result (λ k. k.grid ≡ first.now.grid) }
+    ensures map { IfOk result (λ k. k.map ≡ united_map (first.now ∷ larger.now)) }
+{
+    let mut whole = first.kept().copy(alloc)?;
+    for part in larger {
+        whole = whole.united(alloc, part.kept().copy(alloc)?)?;
+    }
+    Ok(whole)
+}
+
+/// A shard that keeps topologies and joins by cutting arcs again. It has few topologies, on one grid,
+/// each at least twice as large as the one before, and its features are those of all of them.
+#[derive(Drop)]
+pub struct Cut {
+    pub(crate) least: Part,
+    pub(crate) larger: Vec<Part>,
+}
+
+impl Model for Cut {
+    ghost use Rattle.std.specs.Prelude.{◌∷◌};
+    ghost use Rattle.refine.specs.OnGrid.{AreOn, MapOnGrid, map_on_grid_code, united_map};
+
+    ghost Value = { MapOnGrid };
+
+    ghost coded = { map_on_grid_code };
+
+    ghost view = { λ a. record { grid = a.least.grid; map = united_map (a.least ∷ a.larger.items) } };
+
+    ghost invariant = { λ a. AreOn a.least.grid a.larger.items };
+}
+
+impl Cut {
+    // The shard of a topology.
+    pub(crate) fn of_topology(alloc: Global, topology: Topology) -> Cut
+        requires few { length topology.arcs.arcs < 2 ^ 63 }
+        requires of_map { IsOfSomeMap topology }
+        ensures grid { result.grid ≡ topology.grid }
+        ensures map { (m : Layers) → IsOf m topology → result.map ≡ m }
+    {
+        Cut {
+            least: Part::of_topology(topology),
+            larger: Vec::new(alloc),
+        }
+    }
+
+    // A shard of equal topologies.
+    pub(crate) fn copied(&self, alloc: Global) -> Result<Cut, OutOfMemory>
+        ensures { IfOk result (λ s. s ≡ self.now) }
+    {
+        let least = self.least.copy(alloc)?;
+        let larger = copy_parts(alloc, &self.larger)?;
+        Ok(Cut { least, larger })
+    }
+
+    // One topology of all features.
+    pub(crate) fn one_topology(&self, alloc: Global) -> Result<Kept, OutOfMemory>
+        ensures { IfOk result (λ k. k ≡ self.now) }
+    {
+        joined_copies(alloc, &self.least, &self.larger)
+    }
+
+    // The topologies, in no order.
+    fn into_parts(self) -> Result<Vec<Part>, OutOfMemory>
+        ensures map { IfOk result (λ v. united_map v.items ≡ self.map) }
+        ensures grid { IfOk result (λ v. AreOn self.grid v.items) }
+        ensures some { IfOk result (λ v. 0 < length v.items) }
+    {
+        let Cut { least, larger } = self;
+        let mut parts = larger;
+        parts.push(least)?;
+        Ok(parts)
+    }
+}
+
+/// Puts a part to the end of a list of smaller ones, joined with the last of them where that is near.
+fn put_part(alloc: Global, parts: &mut Vec<Part>, part: Part) -> Result<(), OutOfMemory>
+    ensures map { OnOk result (united_map parts.new.items ≡ union (united_map parts.old.items) part.map) }
+    ensures grid { (g : Transform) → AreOn g parts.old.items → part.grid ≡ g → OnOk result (AreOn g parts.new.items) }
+    ensures some { OnOk result (0 < length parts.new.items) }
+{
+    let Some(last) = parts.pop() else {
+        parts.push(part)?;
+        return Ok(());
+    };
+    if last.is_near(&part) {
+        parts.push(last.united(alloc, part)?)?;
+        return Ok(());
+    }
+    parts.push(last)?;
+    parts.push(part)?;
+    Ok(())
+}
+
+fn sort_by_size(parts: &mut Vec<Part>)
+    ensures { IsPermutation parts.old.items parts.new.items }
+{
+    parts.sort_unstable_by_key(|part| part.size);
+}
+
+/// The parts from the least to the largest, those joined whose sizes are near each other.
+fn joined_where_near(alloc: Global, parts: Vec<Part>) -> Result<Vec<Part>, OutOfMemory>
+    ensures map { IfOk result (λ v. united_map v.items ≡ united_map parts.items) }
+    ensures grid { (g : Transform) → AreOn g parts.items → IfOk result (λ v. AreOn g v.items) }
+    ensures some { 0 < length parts.items → IfOk result (λ v. 0 < length v.items) }
+{
+    let mut left = parts;
+    sort_by_size(&mut left);
+    let mut made = Vec::new(alloc);
+    for part in left {
+        put_part(alloc, &mut made, part)?;
+    }
+    Ok(made)
+}
+
+/// The shard of the features of both, which are on one grid.
+fn put_together(alloc: Global, left: Cut, right: Cut) -> Result<Cut, OutOfMemory>
+    requires { left.grid ≡ right.grid }
+    ensures grid { IfOk result (λ s. s.grid ≡ left.grid) }
+    ensures map { IfOk result (λ s. s.map ≡ union left.map right.map) }
+{
+    let mut parts = left.into_parts()?;
+    let mut others = right.into_parts()?;
+    parts.append(&mut others)?;
+    let mut larger = joined_where_near(alloc, parts)?;
+    let least = larger.remove(0);
+    Ok(Cut { least, larger })
+}
+
+/// The shard of the features of both, which are handed over: the geometries of the topologies that
+/// are joined, and the arcs of them that are not cut, are moved, and few features are stitched.
+///
+/// # Errors
+/// `OtherGrid` exactly where the grids differ; want of memory.
+pub(crate) fn shards_joined_owned(alloc: Global, left: Cut, right: Cut) -> Result<Cut, JoinFault>
+    ensures grid { IfOk result (λ s. s.grid ≡ left.grid) }
+    ensures map { IfOk result (λ s. s.map ≡ union left.map right.map) }
+    ensures other_grid { IsErrOf result OtherGrid ↔ ¬ (left.grid ≡ right.grid) }
+{
+    if !on_one_grid(left.least.topology(), right.least.topology()) {
+        return Err(JoinFault::OtherGrid);
+    }
+    let shard = put_together(alloc, left, right)?;
+    Ok(shard)
+}
+
+/// `shards_joined_owned` of two shards that stay.
+///
+/// # Errors
+/// `OtherGrid` exactly where the grids differ; want of memory.
+pub(crate) fn shards_joined(alloc: Global, left: &Cut, right: &Cut) -> Result<Cut, JoinFault>
+    ensures grid { IfOk result (λ s. s.grid ≡ left.now.grid) }
+    ensures map { IfOk result (λ s. s.map ≡ union left.now.map right.now.map) }
+    ensures other_grid { IsErrOf result OtherGrid ↔ ¬ (left.now.grid ≡ right.now.grid) }
+{
+    if !on_one_grid(left.least.topology(), right.least.topology()) {
+        return Err(JoinFault::OtherGrid);
+    }
+    let shard = put_together(alloc, left.copied(alloc)?, right.copied(alloc)?)?;
+    Ok(shard)
 }

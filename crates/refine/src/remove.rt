@@ -27,6 +27,7 @@ use faults::OutOfMemory;
 use grid::Pos;
 use lines::items::Items;
 use rejoining::{Rejoined, rejoin};
+use rewriting::{NewLists, copy_rewritten};
 use shapes::feature::Feature;
 use shapes::feature_map::FeatureMap;
 use shapes::spelled::Spelled;
@@ -359,85 +360,23 @@ fn line_ends(
     Ok(ends)
 }
 
-fn line_rejoined(
-    alloc: Global,
-    arcs: &Rejoined,
-    used: &Items<ArcRef>,
-) -> Result<Items<ArcRef>, OutOfMemory>
-    ensures { IfOk result (λ v. v ≡ joining.rejoined (starts_by arcs.now.pieces) 0 used.now) }
-{
-    Ok(Items::from_vec(arcs.line(alloc, used.as_slice())?))
+/// The lists of what stays by the arcs that are joined again.
+#[derive(Drop)]
+struct JoinedLists<'a> {
+    joined: &'a Rejoined,
 }
 
-fn ring_rejoined(
-    alloc: Global,
-    arcs: &Rejoined,
-    used: &Items<ArcRef>,
-) -> Result<Items<ArcRef>, OutOfMemory>
-    ensures { IfOk result (λ v. v ≡ joining.ring_rejoined position_cmp arcs.now.arcs.arcs (starts_by arcs.now.pieces) used.now) }
-{
-    Ok(Items::from_vec(arcs.ring(alloc, used.as_slice())?))
-}
+impl NewLists for JoinedLists<'_> {
+    ghost line_of = { λ l. joining.rejoined (starts_by l.joined.now.pieces) 0 };
 
-fn lines_rejoined(
-    alloc: Global,
-    arcs: &Rejoined,
-    lists: &[Items<ArcRef>],
-) -> Result<Items<Items<ArcRef>>, OutOfMemory>
-    ensures { IfOk result (λ v. v ≡ map_list (joining.rejoined (starts_by arcs.now.pieces) 0) lists.now) }
-{
-    let mut lines = Vec::with_capacity(alloc, lists.len())?;
-    for used in lists {
-        lines.push(line_rejoined(alloc, arcs, used)?)?;
+    ghost ring_of = { λ l. joining.ring_rejoined position_cmp l.joined.now.arcs.arcs (starts_by l.joined.now.pieces) };
+
+    fn line(&self, alloc: Global, used: &[ArcRef]) -> Result<Vec<ArcRef>, OutOfMemory> {
+        self.joined.line(alloc, used)
     }
-    Ok(Items::from_vec(lines))
-}
 
-fn rings_rejoined(
-    alloc: Global,
-    arcs: &Rejoined,
-    lists: &[Items<ArcRef>],
-) -> Result<Items<Items<ArcRef>>, OutOfMemory>
-    ensures { IfOk result (λ v. v ≡ map_list (joining.ring_rejoined position_cmp arcs.now.arcs.arcs (starts_by arcs.now.pieces)) lists.now) }
-{
-    let mut rings = Vec::with_capacity(alloc, lists.len())?;
-    for used in lists {
-        rings.push(ring_rejoined(alloc, arcs, used)?)?;
-    }
-    Ok(Items::from_vec(rings))
-}
-
-fn polygons_rejoined(
-    alloc: Global,
-    arcs: &Rejoined,
-    polygons: &[Items<Items<ArcRef>>],
-) -> Result<Items<Items<Items<ArcRef>>>, OutOfMemory>
-    ensures { IfOk result (λ v. v ≡ map_list (map_list (joining.ring_rejoined position_cmp arcs.now.arcs.arcs (starts_by arcs.now.pieces))) polygons.now) }
-{
-    let mut lists = Vec::with_capacity(alloc, polygons.len())?;
-    for rings in polygons {
-        lists.push(rings_rejoined(alloc, arcs, rings.as_slice())?)?;
-    }
-    Ok(Items::from_vec(lists))
-}
-
-fn body_rejoined(alloc: Global, arcs: &Rejoined, body: &Body) -> Result<Body, OutOfMemory>
-    ensures { IfOk result (λ b. b ≡ rejoined.body_rejoined arcs.now.arcs.arcs (starts_by arcs.now.pieces) body.now) }
-{
-    match body {
-        Body::Line(used) => Ok(Body::Line(line_rejoined(alloc, arcs, used)?)),
-        Body::MultiLine(lists) => Ok(Body::MultiLine(lines_rejoined(
-            alloc,
-            arcs,
-            lists.as_slice(),
-        )?)),
-        Body::Polygon(rings) => Ok(Body::Polygon(rings_rejoined(alloc, arcs, rings.as_slice())?)),
-        Body::MultiPolygon(polygons) => Ok(Body::MultiPolygon(polygons_rejoined(
-            alloc,
-            arcs,
-            polygons.as_slice(),
-        )?)),
-        Body::Null | Body::Point(_) | Body::MultiPoint(_) => body.copy(alloc),
+    fn ring(&self, alloc: Global, used: &[ArcRef]) -> Result<Vec<ArcRef>, OutOfMemory> {
+        self.joined.ring(alloc, used)
     }
 }
 
@@ -445,10 +384,7 @@ fn body_rejoined(alloc: Global, arcs: &Rejoined, body: &Body) -> Result<Body, Ou
 fn geometry_rejoined(alloc: Global, arcs: &Rejoined, geometry: &Geom) -> Result<Geom, OutOfMemory>
     ensures { IfOk result (λ g. g ≡ rejoined.geometry_rejoined arcs.now.arcs.arcs (starts_by arcs.now.pieces) geometry.now) }
 {
-    let id = geometry.id.copy(alloc)?;
-    let props = geometry.props.copy(alloc)?;
-    let body = body_rejoined(alloc, arcs, &geometry.body)?;
-    Ok(Geom { id, props, body })
+    copy_rewritten(alloc, &JoinedLists { joined: arcs }, geometry)
 }
 
 fn layer_rejoined(alloc: Global, arcs: &Rejoined, layer: &LayerLeft) -> Result<Layer, OutOfMemory>

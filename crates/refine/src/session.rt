@@ -9,14 +9,13 @@ ghost use Rattle.topo_io.specs.Means.{Means};
 ghost use Rattle.refine.specs.Edits.{AreEditedTo, AreRefusedAt, IsEditedTo, IsOnGrid};
 ghost use Rattle.merging.specs.declared.fault.JoinFault.TheVariants.{OtherGrid};
 
-use crate::cut::joined;
-use crate::cut_shard::Cut;
+use crate::canonical::text_of_kept;
+use crate::cut::{Kept, joined};
 use crate::edit::Edit;
 use crate::fault::{EditsFault, JoinFault};
 use crate::remove::remove;
 use faults::OutOfMemory;
 use grid::transform::Grid;
-use merging::Shard;
 use shapes::feature_map::FeatureMap;
 use std::alloc::Global;
 use std::marker::Model;
@@ -41,7 +40,7 @@ fn edited(alloc: Global, topology: &Topology, edit: &Edit) -> Result<Topology, J
 #[derive(Drop)]
 pub struct Session {
     alloc: Global,
-    shard: Cut,
+    kept: Kept,
 }
 
 impl Model for Session {
@@ -51,7 +50,7 @@ impl Model for Session {
 
     ghost coded = { map_on_grid_code };
 
-    ghost view = { λ a. a.shard };
+    ghost view = { λ a. a.kept };
 }
 
 impl Session {
@@ -63,8 +62,9 @@ impl Session {
         ensures grid { IfOk result (λ s. s.grid ≡ grid.now) }
         ensures map { IfOk result (λ s. s.map ≡ map.empty) }
     {
-        let shard = Cut::from_map(alloc, grid, &FeatureMap::new(alloc))?;
-        Ok(Session { alloc, shard })
+        let topology = Topology::build(alloc, grid, &FeatureMap::new(alloc))?;
+        let kept = Kept::of_topology(topology);
+        Ok(Session { alloc, kept })
     }
 
     /// Edits the topology. After a refusal it is as it was.
@@ -78,8 +78,8 @@ impl Session {
         ensures on_grid { OnOk result (IsOnGrid self.old.grid edit.now) }
         ensures other_grid { IsErrOf result OtherGrid ↔ ¬ IsOnGrid self.old.grid edit.now }
     {
-        let topology = edited(self.alloc, self.shard.topology(), edit)?;
-        self.shard = Cut::of_topology(topology);
+        let topology = edited(self.alloc, self.kept.topology(), edit)?;
+        self.kept = Kept::of_topology(topology);
         Ok(())
     }
 
@@ -111,7 +111,7 @@ impl Session {
         ensures text { IfOk result (λ t. t.items ≡ canon self.now.grid self.now.map) }
         ensures accepted { IfOk result (λ t. MapFits self.now.grid self.now.map → Means t.items self.now.grid self.now.map) }
     {
-        self.shard.text(self.alloc)
+        text_of_kept(self.alloc, &self.kept)
     }
 
     /// The topology as it is now.
@@ -119,6 +119,6 @@ impl Session {
         ensures grid { result.now.grid ≡ self.now.grid }
         ensures of_map { IsOf self.now.map result.now }
     {
-        self.shard.topology()
+        self.kept.topology()
     }
 }

@@ -1,11 +1,11 @@
 //! Maps of which something is taken out, and what is left of their arcs.
-use chains::{ArcRef, ArcTable};
 use rejoining::{Rejoined, rejoin};
 use std::alloc::Global;
 use std::process::Abort;
 use std::test::Fail;
 use worked_maps::{
-    Drawn, FIRST, Places, SECOND, SHARED_EDGE, THIRD, TRIANGLE, positions, topology_of,
+    Drawn, FIRST, Places, SECOND, SHARED_EDGE, THIRD, TRIANGLE, assert_same_arcs, assert_used,
+    positions, refs_of, topology_of,
 };
 
 /// A map, what is left of it, which of its arcs are used by that, and where the lines that are left
@@ -125,14 +125,6 @@ fn rejoin_row(alloc: Global, row: &Row) -> Result<Rejoined, Fail> {
     Ok(rejoin(alloc, whole.arcs(), row.kept, &ends)?)
 }
 
-/// Used arcs are those of the indexes.
-fn assert_used(rt: &impl Abort, used: &[ArcRef], indexes: &[i64], title: &str) {
-    assert_eq!(rt; used.len(), indexes.len(), "{title}");
-    for (arc, index) in used.iter().zip(indexes) {
-        assert_eq!(rt; *arc, ArcRef::from_index(*index), "{title}");
-    }
-}
-
 /// The new arcs are joined of those of the indexes, and there are no more.
 fn assert_pieces(rt: &impl Abort, made: &Rejoined, row: &Row) -> Result<(), Fail> {
     for (number, indexes) in row.pieces.iter().enumerate() {
@@ -141,23 +133,6 @@ fn assert_pieces(rt: &impl Abort, made: &Rejoined, row: &Row) -> Result<(), Fail
     }
     assert_eq!(rt; made.pieces(row.pieces.len()), None, "{}", row.title);
     Ok(())
-}
-
-/// Two tables have the same arcs, and the same ones are free.
-fn assert_same_arcs(rt: &impl Abort, made: &ArcTable, whole: &ArcTable, title: &str) {
-    assert_eq!(rt; made.len(), whole.len(), "{title}");
-    for number in 0..whole.len() {
-        assert_eq!(rt;
-            made.arc(number),
-            whole.arc(number),
-            "{title}: arc {number}"
-        );
-        assert_eq!(rt;
-            made.is_free(number),
-            whole.is_free(number),
-            "{title}: arc {number}"
-        );
-    }
 }
 
 #[test]
@@ -177,15 +152,6 @@ fn arcs_are_those_of_what_is_left(rt: HostRuntime) -> Result<(), Fail> {
         assert_same_arcs(&rt, made.arcs(), left.arcs(), row.title);
     }
     Ok(())
-}
-
-/// The arcs of these indexes.
-fn refs_of(alloc: Global, indexes: &[i64]) -> Result<Vec<ArcRef>, Fail> {
-    let mut refs = Vec::new(alloc);
-    for index in indexes {
-        refs.push(ArcRef::from_index(*index))?;
-    }
-    Ok(refs)
 }
 
 fn assert_lines(rt: &impl Abort, alloc: Global, made: &Rejoined, row: &Row) -> Result<(), Fail> {

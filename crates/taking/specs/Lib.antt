@@ -6,3 +6,5 @@ pub mod Ends
 pub mod Whole
 pub mod Arcs
 pub mod Taken
+pub mod Kept
+pub mod Sorting

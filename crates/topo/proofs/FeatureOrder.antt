@@ -33,7 +33,7 @@ use Rattle.topo.specs.Walked.{walked}
 use Rattle.topo.specs.declared.geom.Body as bodies
 use Rattle.topo.specs.declared.geom.Body.TheVariants as to
 use Rattle.topo.specs.declared.geom.Geom.{Geom}
-use Rattle.topo.specs.GeometryOrder.{body_form, body_rank, form_cmp, form_rank, geometry_cmp, info_cmp, vertices_used}
+use Rattle.topo.specs.GeometryOrder.{body_form, body_rank, form_cmp, form_rank, geometry_cmp, info_cmp, kind_cmp, vertices_used}
 
 module _ (arcs : List (List Pos)) where
   line_form : (l : the_line.Line) (used : List ArcRef) → IsLineOf arcs l used → line_of l ≡ walked arcs used
@@ -125,10 +125,6 @@ kinds_decide (lines ks) (lines ls) n = absurd cc
 kinds_decide (polygon rs) (polygon qs) n = absurd cc
 kinds_decide (polygons ps) (polygons qs) n = absurd cc
 kinds_decide f h n = refl
-
--- by id and properties, then by kind
-abbrev pub kind_cmp : Geom → Geom → Ordering
-kind_cmp a b = ordering_then (info_cmp a b) (nat_cmp (body_rank a.body) (body_rank b.body))
 
 -- where ids, properties or kinds differ, they alone say how geometries stand
 pub kind_decides : (arcs : List (List Pos)) (a b : Geom) (r : Ordering) → r ≡ kind_cmp a b → is_ne r ≡ true → r ≡ geometry_cmp arcs a b

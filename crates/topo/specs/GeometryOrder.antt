@@ -65,7 +65,11 @@ form_cmp f h = nat_cmp (form_rank f) (form_rank h)
 abbrev pub info_cmp : Geom → Geom → Ordering
 info_cmp a b = ordering_then (id_cmp a.id b.id) (slice_cmp nat_cmp a.props.text b.props.text)
 
--- then by what the bodies stitch to
+-- then by kind
+abbrev pub kind_cmp : Geom → Geom → Ordering
+kind_cmp a b = ordering_then (info_cmp a b) (nat_cmp (body_rank a.body) (body_rank b.body))
+
+-- by id, properties, and what the bodies stitch to
 unfoldable pub geometry_cmp : List (List Pos) → Geom → Geom → Ordering
 geometry_cmp arcs a b = ordering_then (info_cmp a b) (form_cmp (body_form arcs a.body) (body_form arcs b.body))
 

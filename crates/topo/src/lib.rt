@@ -13,6 +13,6 @@ pub mod topology;
 pub mod walk;
 
 pub use geom::{Body, Geom};
-pub use order::order_of;
+pub use order::{kind_order, order_of};
 pub use topology::{Layer, Topology};
 pub use walk::Walk;

@@ -1,7 +1,7 @@
 //! The order of geometries: that of the features that they stitch to.
 ghost use Rattle.std.specs.Prelude.{◌≡◌, IfOk};
 ghost use Rattle.topo.specs.Features.{HasFeature, IsKnownOf};
-ghost use Rattle.topo.specs.GeometryOrder.{body_rank, geometry_cmp};
+ghost use Rattle.topo.specs.GeometryOrder.{body_rank, geometry_cmp, kind_cmp};
 
 use crate::geom::{Body, Geom};
 use crate::stitching;
@@ -26,6 +26,18 @@ fn rank(body: &Body) -> u8
     }
 }
 
+/// The order of two geometries by what they have without their arcs: by id, then by properties, then by
+/// kind. Where it doesn't tie, it is the order of their features.
+pub fn kind_order(geometry: &Geom, other: &Geom) -> Ordering
+    ensures { result ≡ kind_cmp geometry.now other.now }
+{
+    geometry
+        .id
+        .cmp(&other.id)
+        .then(geometry.props.cmp(&other.props))
+        .then(rank(&geometry.body).cmp(&rank(&other.body)))
+}
+
 /// The order of the features of two geometries. They are stitched only where their ids, their
 /// properties and their kinds tie, and their lists of arcs differ: equal lists stitch to equal
 /// shapes. Then they are kept.
@@ -48,11 +60,7 @@ pub fn order_of(
     ensures other_known { IsKnownOf arcs.now.arcs other.now other_known.new }
     ensures order { IfOk result (λ o. o ≡ geometry_cmp arcs.now.arcs geometry.now other.now) }
 {
-    let order = geometry
-        .id
-        .cmp(&other.id)
-        .then(geometry.props.cmp(&other.props))
-        .then(rank(&geometry.body).cmp(&rank(&other.body)));
+    let order = kind_order(geometry, other);
     if order.is_ne() {
         return Ok(order);
     }

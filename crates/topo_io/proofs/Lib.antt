@@ -19,3 +19,4 @@ pub mod Features
 pub mod Entries
 pub mod AsItStands
 pub mod Loose
+pub mod AnyOrder

@@ -1,5 +1,5 @@
 //! The laws of what texts mean, as contracts of functions that do nothing.
-ghost use Rattle.topo_io.specs.Laws.{AsItStands, OneMeaning};
+ghost use Rattle.topo_io.specs.Laws.{AsItStands, InAnyOrder, OneMeaning};
 
 /// A text means at most one grid and one feature map.
 pub fn one_meaning()
@@ -10,4 +10,10 @@ pub fn one_meaning()
 /// arcs and layers are those of that map's topology.
 pub fn as_it_stands()
     ensures { AsItStands }
+{}
+
+/// The same where other layers over other arcs stand for those of the text, feature by feature, and their
+/// geometries are in another order.
+pub fn in_any_order()
+    ensures { InAnyOrder }
 {}

@@ -2,6 +2,7 @@
 #![tactic(auto)]
 
 pub mod laws;
+mod other_forms;
 pub mod reader;
 pub mod same;
 pub mod topology;

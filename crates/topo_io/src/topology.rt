@@ -1,10 +1,12 @@
-//! Topologies in: the arcs and the layers of a text taken as they stand, where they do.
+//! Topologies in: the arcs and the layers of a text taken as they stand, where they do, or once they are put
+//! into order.
 ghost use Rattle.std.specs.Prelude.{◌≡◌, ◌≢◌, ◌<◌, ◌^◌, [], length, IfOk, IfErr, OnOk};
 ghost use Rattle.reading.specs.Fault.{LeastOrWant};
 ghost use Rattle.topo_io.specs.Means.{Means, MeansTopology};
 ghost use Rattle.topo_io.specs.Parts.{AreSaid};
 ghost use Rattle.topo_io.specs.Roots.{faults_of_text};
 
+use crate::other_forms::rearranged;
 use crate::reader::parts::features::map_of_parts;
 use crate::reader::parts::read_parts;
 use crate::reader::read_text;
@@ -68,9 +70,33 @@ fn built(
     }
 }
 
+/// The topology of a text whose arcs and layers don't stand as they are: theirs, where they do once they are
+/// put into order, else it is built.
+fn ordered_or_built(
+    alloc: Global,
+    bytes: &[u8],
+    grid: &Grid,
+    arcs: TextArcs,
+    layers: Vec<Layer>,
+) -> Result<Topology, Fault>
+    requires { AreSaid bytes.now grid.now arcs layers.items }
+    ensures ok { OnOk result (faults_of_text bytes.now ≡ []) }
+    ensures means { IfOk result (MeansTopology bytes.now) }
+    ensures few { IfOk result (λ t. length t.arcs.arcs < 2 ^ 63) }
+    ensures err { IfErr result (λ f. LeastOrWant (faults_of_text bytes.now) f) }
+{
+    match rearranged(alloc, *grid, &arcs, &layers) {
+        Ok(Some(topology)) => Ok(topology),
+        Ok(None) => built(alloc, bytes, grid, arcs, layers),
+        Err(OutOfMemory) => Err(Fault::here(alloc, FaultKind::OutOfMemory)),
+    }
+}
+
 /// The topology of what a topology's text means, on its grid (TopoJSON, section 2). A text whose arcs
-/// and layers are those of that topology is taken as it stands, so that nothing is stitched or built
-/// anew; of all others the topology is built, of the features that their arcs stitch to.
+/// and layers are those of that topology is taken as it stands, and so is one where they are but for the
+/// order of the arcs and their directions, where free loops begin, and the order of the features: nothing
+/// is stitched or built anew. Of all others the topology is built, of the features that their arcs stitch
+/// to.
 ///
 /// # Errors
 /// The least fault of the text, by path and then by number; `OutOfMemory` at the root.
@@ -84,7 +110,7 @@ pub fn read_topology(alloc: Global, bytes: &[u8]) -> Result<Topology, Fault>
     let grid = parts.grid;
     match take(alloc, grid, parts.arcs, parts.layers) {
         Ok(Taken::Whole(topology)) => Ok(topology),
-        Ok(Taken::Not { arcs, layers }) => built(alloc, bytes, &grid, arcs, layers),
+        Ok(Taken::Not { arcs, layers }) => ordered_or_built(alloc, bytes, &grid, arcs, layers),
         Err(OutOfMemory) => Err(Fault::here(alloc, FaultKind::OutOfMemory)),
     }
 }

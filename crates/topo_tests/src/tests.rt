@@ -1,36 +1,12 @@
 //! Topologies of small maps: their arcs, lists of arcs and boxes, and the maps that they expand to.
 use chains::ArcRef;
 use grid::{Grid, Pos};
-use shapes::{Feature, FeatureMap, Id, Items, Line, Props, Ring, Shape};
+use shapes::{Feature, FeatureMap, Id, Props, Shape};
 use std::alloc::Global;
 use std::process::Abort;
 use std::test::Fail;
 use topo::{Body, Topology};
-
-const LEFT: &[(i64, i64)] = &[(0, 0), (1, 0), (1, 1), (0, 1), (0, 0)];
-
-const RIGHT: &[(i64, i64)] = &[(1, 0), (2, 0), (2, 1), (1, 1), (1, 0)];
-
-const LOOP: &[(i64, i64)] = &[(0, 0), (2, 0), (0, 2), (0, 0)];
-
-fn positions(alloc: Global, places: &[(i64, i64)]) -> Result<Vec<Pos>, Fail> {
-    let mut made = Vec::new(alloc);
-    for (x, y) in places {
-        made.push(Pos::new(*x, *y).ok_or("outside the limits")?)?;
-    }
-    Ok(made)
-}
-
-fn line(alloc: Global, places: &[(i64, i64)]) -> Result<Shape, Fail> {
-    let positions = positions(alloc, places)?;
-    Ok(Shape::Line(Line::from_positions(alloc, positions)?))
-}
-
-fn polygon(alloc: Global, places: &[(i64, i64)]) -> Result<Shape, Fail> {
-    let mut rings = Vec::new(alloc);
-    rings.push(Ring::from_closed(alloc, positions(alloc, places)?)?)?;
-    Ok(Shape::Polygon(Items::from_vec(rings)))
-}
+use worked_maps::{FIRST, SECOND, TRIANGLE, line, polygon};
 
 fn feature(alloc: Global, shape: Shape) -> Result<Feature, Fail> {
     let props = Props::empty(alloc)?;
@@ -161,7 +137,7 @@ fn check_case(rt: &impl Abort, alloc: Global, case: &Case) -> Result<(), Fail> {
 }
 
 const SHARED_EDGE: Case = Case {
-    rings: &[LEFT, RIGHT],
+    rings: &[FIRST, SECOND],
     arcs: &[
         &[(1, 0), (0, 0), (0, 1), (1, 1)],
         &[(1, 0), (1, 1)],
@@ -177,7 +153,7 @@ fn shared_edge(rt: HostRuntime) -> Result<(), Fail> {
 }
 
 const FREE_LOOP: Case = Case {
-    rings: &[LOOP],
+    rings: &[TRIANGLE],
     arcs: &[&[(0, 0), (0, 2), (2, 0), (0, 0)]],
     lists: &[&[-1]],
     bbox: (0, 0, 2, 2),
@@ -210,7 +186,7 @@ fn empty(rt: HostRuntime) -> Result<(), Fail> {
 
 /// A square in the layer `a`, and one of its edges in the layer `b`.
 fn square_and_edge(alloc: Global) -> Result<FeatureMap, Fail> {
-    let mut map = map_of_rings(alloc, &[LEFT])?;
+    let mut map = map_of_rings(alloc, &[FIRST])?;
     insert(alloc, &mut map, "b", line(alloc, &[(1, 0), (1, 1)])?)?;
     Ok(map)
 }
@@ -259,7 +235,7 @@ fn walks_both_ways(topology: &Topology, refs: &[ArcRef], places: &[(i64, i64)]) 
 
 #[test]
 fn walks_from_both_ends(rt: HostRuntime) -> Result<(), Fail> {
-    let map = map_of_rings(rt.alloc(), &[LEFT, RIGHT])?;
+    let map = map_of_rings(rt.alloc(), &[FIRST, SECOND])?;
     let topology = topology_of(rt.alloc(), &map)?;
     let refs = [ArcRef::from_index(1), ArcRef::from_index(-1)];
     let places = [(1, 0), (1, 1), (0, 1), (0, 0), (1, 0)];

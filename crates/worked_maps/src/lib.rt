@@ -1,7 +1,10 @@
-//! Maps drawn as lines and rings of places, and their topologies: what the tests of arcs that are cut
-//! and joined again share.
+//! Maps drawn as lines and rings of places, their topologies, and comparisons of arcs: what several
+//! crates of tests share.
 #![tactic(auto)]
 
+mod comparing;
+
+pub use comparing::{assert_same_arcs, assert_used, refs_of};
 use grid::{Grid, Pos};
 use shapes::{Feature, FeatureMap, Id, Items, Line, Props, Ring, Shape};
 use std::alloc::Global;
@@ -64,27 +67,35 @@ fn put(alloc: Global, map: &mut FeatureMap, shape: Shape) -> Result<(), Fail> {
     Ok(())
 }
 
-fn put_line(alloc: Global, map: &mut FeatureMap, places: Places) -> Result<(), Fail> {
-    let line = Line::from_positions(alloc, positions(alloc, places)?)?;
-    put(alloc, map, Shape::Line(line))
+/// The line of places.
+///
+/// # Errors
+/// Where the places are those of no line, or memory is refused.
+pub fn line(alloc: Global, places: &[(i64, i64)]) -> Result<Shape, Fail> {
+    let positions = positions(alloc, places)?;
+    Ok(Shape::Line(Line::from_positions(alloc, positions)?))
 }
 
-fn put_ring(alloc: Global, map: &mut FeatureMap, places: Places) -> Result<(), Fail> {
+/// The polygon of the one ring of places.
+///
+/// # Errors
+/// Where the places are those of no ring, or memory is refused.
+pub fn polygon(alloc: Global, places: &[(i64, i64)]) -> Result<Shape, Fail> {
     let mut rings = Vec::new(alloc);
     rings.push(Ring::from_closed(alloc, positions(alloc, places)?)?)?;
-    put(alloc, map, Shape::Polygon(Items::from_vec(rings)))
+    Ok(Shape::Polygon(Items::from_vec(rings)))
 }
 
 fn put_lines(alloc: Global, map: &mut FeatureMap, lines: &[Places]) -> Result<(), Fail> {
     for places in lines {
-        put_line(alloc, map, *places)?;
+        put(alloc, map, line(alloc, *places)?)?;
     }
     Ok(())
 }
 
 fn put_rings(alloc: Global, map: &mut FeatureMap, rings: &[Places]) -> Result<(), Fail> {
     for places in rings {
-        put_ring(alloc, map, *places)?;
+        put(alloc, map, polygon(alloc, *places)?)?;
     }
     Ok(())
 }

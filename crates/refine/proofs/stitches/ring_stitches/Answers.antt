@@ -1,6 +1,5 @@
-use Rattle.std.proofs.Common.{◌≡◌, ℕ, ◌<◌, ◌≤◌, true, false, below_more, length, arith, sym, subst, refl, rules, ◌∙◌, ap, ◌∷◌, []}
+use Rattle.std.proofs.Common.{◌≡◌, ◌<◌, ◌≤◌, true, false, below_more, length, arith, sym, subst, refl, rules, ◌∙◌, ap}
 use Rattle.lines.specs.Seen.{vertices_of}
-use Rattle.topo.specs.Walked.{walked}
 use Rattle.lines.specs.Pairs.{position_eq}
 use Rattle.lines.proofs.Positions.{position_refl}
 use Rattle.refine.proofs.Stitching.{GoesRound, long_ring, none_there, not_here, no_walk, ring_there}

@@ -1,4 +1,4 @@
-use Rattle.std.proofs.Common.{◌≡◌, ◌∷◌, ◌∙◌, [], ap, subst, sym, rules, true}
+use Rattle.std.proofs.Common.{◌≡◌, subst, sym, rules, true}
 use Rattle.topo.specs.Features.{IsRingOf}
 use Rattle.refine.proofs.Stitching.{first_there, one_passed}
 use Rattle.refine.proofs.stitches.rings_stitch.Goals as goal

@@ -1,22 +1,16 @@
-use Rattle.std.proofs.Common.{◌∙◌, nat_cmp, sym}
-use Rattle.topo.proofs.FeatureOrder.{equal_bodies_tie, features_stand, kind_decides, kind_from}
+use Rattle.std.proofs.Common.{◌∙◌, sym}
+use Rattle.topo.proofs.FeatureOrder.{equal_bodies_tie, features_stand, kind_decides}
 use Rattle.topo.proofs.SameBodies.{body_same}
 use Rattle.topo.proofs.order.order_of.Goals as goal
 
 pub returns-then-is_ne-clause-order : goal.returns-then-is_ne-clause-order
 returns-then-is_ne-clause-order c =
-    kind_decides c.args.arcs.now.arcs c.args.geometry.now c.args.other.now c.then-order.result
-    (kind_from c.args.geometry.now c.args.other.now c.then-order.result c.then.result c.cmp.result c.cmp-2.result c.cmp-3.result c.then-order.ensures c.then.ensures c.cmp.ensures
-    c.cmp-2.ensures (c.cmp-3.ensures ∙ (λ i. nat_cmp (c.rank.ensures i) (c.rank-2.ensures i))))
-    (sym c.is_ne.ensures ∙ c.if-is_ne.true)
+    kind_decides c.args.arcs.now.arcs c.args.geometry.now c.args.other.now c.kind_order-order.result c.kind_order-order.ensures (sym c.is_ne.ensures ∙ c.if-is_ne.true)
 
 pub returns-then-eq-clause-order : goal.returns-then-eq-clause-order
 returns-then-eq-clause-order c =
-    equal_bodies_tie c.args.arcs.now.arcs c.requires.there.0 c.args.geometry.now c.args.other.now c.then-order.result c.requires.there.1
-    (kind_from c.args.geometry.now c.args.other.now c.then-order.result c.then.result c.cmp.result c.cmp-2.result c.cmp-3.result c.then-order.ensures c.then.ensures c.cmp.ensures
-    c.cmp-2.ensures (c.cmp-3.ensures ∙ (λ i. nat_cmp (c.rank.ensures i) (c.rank-2.ensures i))))
-    (sym c.is_ne.ensures ∙ c.if-is_ne.false)
-    (body_same c.args.geometry.now.body c.args.other.now.body (sym c.eq.ensures ∙ c.if-eq.true))
+    equal_bodies_tie c.args.arcs.now.arcs c.requires.there.0 c.args.geometry.now c.args.other.now c.kind_order-order.result c.requires.there.1 c.kind_order-order.ensures
+    (sym c.is_ne.ensures ∙ c.if-is_ne.false) (body_same c.args.geometry.now.body c.args.other.now.body (sym c.eq.ensures ∙ c.if-eq.true))
 
 pub returns-clause-order : goal.returns-clause-order
 returns-clause-order c =

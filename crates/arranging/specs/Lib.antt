@@ -1,0 +1,4 @@
+pub mod Starts
+pub mod Fitting
+pub mod Images
+pub mod Whole

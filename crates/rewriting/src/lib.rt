@@ -1,0 +1,10 @@
+//! Geometries and layers of a topology whose lists of used arcs become lists of other arcs.
+#![tactic(auto)]
+
+mod new_lists;
+mod rewritten;
+
+pub use new_lists::NewLists;
+pub use rewritten::{
+    copy_rewritten, geometries_rewritten, geometry_rewritten, layer_rewritten, layers_rewritten,
+};
