@@ -12,6 +12,7 @@ mod parts;
 mod readers;
 mod recuts;
 mod streams;
+mod taken;
 mod texts;
 mod worked;
 mod writers;
@@ -26,6 +27,7 @@ fn main(rt: HostRuntime) -> ExitCode {
     let lent = Squares::of(alloc).or_else(|| Squares::of(alloc));
     parts::settle(&rt, &mut tally);
     worked::settle(&rt, &mut tally);
+    taken::settle(&rt, &mut tally);
     recuts::settle(&rt, &mut tally);
     maps::settle(&rt, &mut tally);
     arcs::settle(&rt, &mut tally);
