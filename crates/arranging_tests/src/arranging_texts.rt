@@ -3,12 +3,11 @@ use crate::texts::{
 };
 use arranging::{Arranged, arrange};
 use chains::{ArcRef, ArcTable};
-use grid::Grid;
 use lines::items::Items;
 use std::alloc::Global;
 use std::process::Abort;
 use std::test::Fail;
-use taking::{Taken, TextArcs, take};
+use taking::TextArcs;
 use topo::{Body, Layer};
 
 /// What comes of arcs and bodies, each the one geometry of a layer.
@@ -52,10 +51,10 @@ fn two_squares_and_a_lake(rt: HostRuntime) -> Result<(), Fail> {
     bodies.push(ring(alloc, &[1, -3])?)?;
     bodies.push(ring(alloc, &[3])?)?;
     assert!(rt; is_made(alloc, &made, &ordered, &bodies)?);
-    assert_eq!(rt; made.layers[2].name().text(), "water");
-    // So it is taken as it stands.
-    let grid = Grid::new(1, 1, 0, 0).ok_or("no grid")?;
-    assert!(rt; matches!(take(alloc, grid, made.arcs, made.layers)?, Taken::Whole(_)));
+    let [_, _, water] = made.layers.as_slice() else {
+        return Err("not three layers".into());
+    };
+    assert_eq!(rt; water.name().text(), "water");
     Ok(())
 }
 

@@ -4,8 +4,8 @@ use std::alloc::Global;
 use std::process::Abort;
 use std::test::Fail;
 use worked_maps::{
-    Drawn, FIRST, SECOND, SHARED_EDGE, THIRD, TRIANGLE, TURNED_TRIANGLE, assert_same_arcs,
-    assert_used, refs_of, topology_of,
+    Drawn, FIRST, SECOND, SHARED_EDGE, THIRD, TRIANGLE, TURNED_TRIANGLE, are_used, refs_of,
+    same_arcs, topology_of,
 };
 
 /// Two maps, and for each arc of each the indexes of the arcs that it is cut into.
@@ -125,7 +125,7 @@ fn assert_pieces(
 ) -> Result<(), Fail> {
     for (number, indexes) in lists.iter().enumerate() {
         let pieces = made.pieces(side, number).ok_or("no such arc")?;
-        assert_used(rt, pieces, indexes, title);
+        assert!(rt; are_used(pieces, indexes), "{title}");
     }
     assert_eq!(rt; made.pieces(side, lists.len()), None, "{title}");
     Ok(())
@@ -146,7 +146,7 @@ fn arcs_are_those_of_both_maps_together(rt: HostRuntime) -> Result<(), Fail> {
     for row in ROWS {
         let made = recut_row(rt.alloc(), row)?;
         let whole = topology_of(rt.alloc(), &[row.left, row.right])?;
-        assert_same_arcs(&rt, made.arcs(), whole.arcs(), row.title);
+        assert!(rt; same_arcs(made.arcs(), whole.arcs()), "{}", row.title);
     }
     Ok(())
 }
@@ -160,7 +160,7 @@ fn the_list_of_a_ring_is_turned(rt: HostRuntime) -> Result<(), Fail> {
     for (used, indexes) in RINGS {
         let refs = refs_of(rt.alloc(), used)?;
         let ring = made.ring(rt.alloc(), Side::Left, &refs)?;
-        assert_used(&rt, &ring, indexes, LINE_TO_A_CORNER.title);
+        assert!(rt; are_used(&ring, indexes), "{}", LINE_TO_A_CORNER.title);
     }
     Ok(())
 }
@@ -170,6 +170,6 @@ fn the_list_of_a_line(rt: HostRuntime) -> Result<(), Fail> {
     let made = recut_row(rt.alloc(), &LINE_TO_A_CORNER)?;
     let refs = refs_of(rt.alloc(), &[0])?;
     let line = made.line(rt.alloc(), Side::Right, &refs)?;
-    assert_used(&rt, &line, &[0], LINE_TO_A_CORNER.title);
+    assert!(rt; are_used(&line, &[0]), "{}", LINE_TO_A_CORNER.title);
     Ok(())
 }

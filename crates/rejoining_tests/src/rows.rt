@@ -4,8 +4,8 @@ use std::alloc::Global;
 use std::process::Abort;
 use std::test::Fail;
 use worked_maps::{
-    Drawn, FIRST, Places, SECOND, SHARED_EDGE, THIRD, TRIANGLE, assert_same_arcs, assert_used,
-    positions, refs_of, topology_of,
+    Drawn, FIRST, Places, SECOND, SHARED_EDGE, THIRD, TRIANGLE, are_used, positions, refs_of,
+    same_arcs, topology_of,
 };
 
 /// A map, what is left of it, which of its arcs are used by that, and where the lines that are left
@@ -129,7 +129,7 @@ fn rejoin_row(alloc: Global, row: &Row) -> Result<Rejoined, Fail> {
 fn assert_pieces(rt: &impl Abort, made: &Rejoined, row: &Row) -> Result<(), Fail> {
     for (number, indexes) in row.pieces.iter().enumerate() {
         let pieces = made.pieces(number).ok_or("no such arc")?;
-        assert_used(rt, pieces, indexes, row.title);
+        assert!(rt; are_used(pieces, indexes), "{}", row.title);
     }
     assert_eq!(rt; made.pieces(row.pieces.len()), None, "{}", row.title);
     Ok(())
@@ -149,7 +149,7 @@ fn arcs_are_those_of_what_is_left(rt: HostRuntime) -> Result<(), Fail> {
     for row in ROWS {
         let made = rejoin_row(rt.alloc(), row)?;
         let left = topology_of(rt.alloc(), &[row.left])?;
-        assert_same_arcs(&rt, made.arcs(), left.arcs(), row.title);
+        assert!(rt; same_arcs(made.arcs(), left.arcs()), "{}", row.title);
     }
     Ok(())
 }
@@ -158,7 +158,7 @@ fn assert_lines(rt: &impl Abort, alloc: Global, made: &Rejoined, row: &Row) -> R
     for (old, new) in row.lines {
         let refs = refs_of(alloc, old)?;
         let line = made.line(alloc, &refs)?;
-        assert_used(rt, &line, new, row.title);
+        assert!(rt; are_used(&line, new), "{}", row.title);
     }
     Ok(())
 }
@@ -167,7 +167,7 @@ fn assert_rings(rt: &impl Abort, alloc: Global, made: &Rejoined, row: &Row) -> R
     for (old, new) in row.rings {
         let refs = refs_of(alloc, old)?;
         let ring = made.ring(alloc, &refs)?;
-        assert_used(rt, &ring, new, row.title);
+        assert!(rt; are_used(&ring, new), "{}", row.title);
     }
     Ok(())
 }

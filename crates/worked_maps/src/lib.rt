@@ -4,7 +4,7 @@
 
 mod comparing;
 
-pub use comparing::{assert_same_arcs, assert_used, refs_of};
+pub use comparing::{are_used, refs_of, same_arcs};
 use grid::{Grid, Pos};
 use shapes::{Feature, FeatureMap, Id, Items, Line, Props, Ring, Shape};
 use std::alloc::Global;

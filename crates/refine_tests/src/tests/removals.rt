@@ -6,7 +6,7 @@ use std::alloc::Global;
 use std::process::Abort;
 use std::test::Fail;
 use topo::Topology;
-use worked_maps::assert_used;
+use worked_maps::are_used;
 
 /// A topology, another one whose features are taken out, what is left, and for each of its arcs the
 /// indexes of the old ones.
@@ -146,7 +146,7 @@ fn removal(alloc: Global, topology: &str, removed: &str) -> Result<Removal, Fail
 fn assert_pieces(rt: &impl Abort, row: &Row, made: &Removal) -> Result<(), Fail> {
     for (number, indexes) in row.pieces.iter().enumerate() {
         let pieces = made.pieces(number).ok_or("no pieces")?;
-        assert_used(rt, pieces, indexes, row.title);
+        assert!(rt; are_used(pieces, indexes), "{}", row.title);
     }
     assert_eq!(rt; made.pieces(row.pieces.len()), None, "{}", row.title);
     Ok(())
