@@ -5,7 +5,6 @@
 pub mod inputs;
 mod runs;
 mod scripts;
-mod tables;
 
 pub use runs::{Outcome, Run, build, build_all, run_on_bytes, run_words};
 pub use scripts::script;

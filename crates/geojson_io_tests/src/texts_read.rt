@@ -1,28 +1,13 @@
 //! GeoJSON texts as they are read: their least faults, and the features of a collection.
-use faults::{Fault, Step};
 use geojson_io::read;
 use grid::{Grid, Pos};
 use shapes::{Feature, Items, Ring, Shape};
-use std::alloc::{AllocError, Global};
+use std::alloc::Global;
 use std::test::Fail;
+use worked_texts::{rows, told};
 
 fn grid(scale: i64) -> Result<Grid, Fail> {
     Ok(Grid::new(scale, scale, 0, 0).ok_or("no grid")?)
-}
-
-/// The fault of a text, as it is printed but for its name; or that the text is accepted.
-fn told(alloc: Global, fault: Option<&Fault>) -> Result<String, AllocError> {
-    let Some(fault) = fault else {
-        return String::from_str(alloc, "accepted");
-    };
-    let mut line = format!(in alloc; "{} $", fault.kind.number())?;
-    for step in &fault.path {
-        match step {
-            Step::Name(name) => write!(line, "/{name}")?,
-            Step::Index(index) => write!(line, "/{index}")?,
-        }
-    }
-    Ok(line)
 }
 
 /// Reads each text on a grid of this scale; its least fault stands beside it.
@@ -37,21 +22,15 @@ fn expect_told(alloc: Global, scale: i64, rows: &[(&str, &str)]) -> Result<(), F
     Ok(())
 }
 
-const LEAST_FAULTS: &[(&str, &str)] = &[
-    (
-        r#"{"features":[{"properties":{"a":1.5},"id":true,"geometry":{"type":"Point","coordinates":[1.5,2]},"type":"Feature"}],"type":"FeatureCollection"}"#,
-        "5 $/features/0/geometry/coordinates/0",
-    ),
-    (
-        r#"{"type":"LineString","coordinates":[[0,0],[1,0],[true,0],[3,0],[4,0],[5,0],[6,0],[7,0],[8,0],[9,0],[1]]}"#,
-        "3 $/coordinates/2/0",
-    ),
-    (
-        r#"{"type":"Feature","geometry":{"type":"Circle","coordinates":5},"id":1.5}"#,
-        "4 $/geometry/type",
-    ),
-    (r#"{"type":"Point"}"#, "2 $/coordinates"),
-    (r#""#, "1 $"),
+const LEAST_FAULTS: &[(&str, &str)] = rows![
+    r#"{"features":[{"properties":{"a":1.5},"id":true,"geometry":{"type":"Point","coordinates":[1.5,2]},"type":"Feature"}],"type":"FeatureCollection"}"#,
+        "5 $/features/0/geometry/coordinates/0";
+    r#"{"type":"LineString","coordinates":[[0,0],[1,0],[true,0],[3,0],[4,0],[5,0],[6,0],[7,0],[8,0],[9,0],[1]]}"#,
+        "3 $/coordinates/2/0";
+    r#"{"type":"Feature","geometry":{"type":"Circle","coordinates":5},"id":1.5}"#,
+        "4 $/geometry/type";
+    r#"{"type":"Point"}"#, "2 $/coordinates";
+    r#""#, "1 $";
 ];
 
 #[test]
@@ -59,44 +38,17 @@ fn least_faults(rt: HostRuntime) -> Result<(), Fail> {
     expect_told(rt.alloc(), 1, LEAST_FAULTS)
 }
 
-const REFUSALS: &[(&str, &str)] = &[
-    (
-        r#"{"type":"Point","coordinates":[1.0,2]}"#,
-        "5 $/coordinates/0",
-    ),
-    (
-        r#"{"type":"Point","coordinates":[1099511627777,0]}"#,
-        "6 $/coordinates/0",
-    ),
-    (
-        r#"{"type":"Point","coordinates":[1099511627776,0]}"#,
-        "accepted",
-    ),
-    (
-        r#"{"type":"Point","coordinates":[1,2,3]}"#,
-        "16 $/coordinates",
-    ),
-    (
-        r#"{"type":"Polygon","coordinates":[[[0,0],[1,0],[1,1]]]}"#,
-        "9 $/coordinates/0",
-    ),
-    (
-        r#"{"type":"LineString","coordinates":[[3,3],[3,3]]}"#,
-        "8 $/coordinates",
-    ),
-    (
-        r#"{"type":"LineString","coordinates":[[0,0],[1,0],[0,0],[2,0]]}"#,
-        "10 $/coordinates",
-    ),
-    (
-        r#"{"type":"GeometryCollection","geometries":[]}"#,
-        "4 $/type",
-    ),
-    (r#"{"type":"Feature","id":1.5,"properties":[]}"#, "5 $/id"),
-    (
-        r#"{"type":"Feature","properties":{"a":1.5}}"#,
-        "13 $/properties",
-    ),
+const REFUSALS: &[(&str, &str)] = rows![
+    r#"{"type":"Point","coordinates":[1.0,2]}"#, "5 $/coordinates/0";
+    r#"{"type":"Point","coordinates":[1099511627777,0]}"#, "6 $/coordinates/0";
+    r#"{"type":"Point","coordinates":[1099511627776,0]}"#, "accepted";
+    r#"{"type":"Point","coordinates":[1,2,3]}"#, "16 $/coordinates";
+    r#"{"type":"Polygon","coordinates":[[[0,0],[1,0],[1,1]]]}"#, "9 $/coordinates/0";
+    r#"{"type":"LineString","coordinates":[[3,3],[3,3]]}"#, "8 $/coordinates";
+    r#"{"type":"LineString","coordinates":[[0,0],[1,0],[0,0],[2,0]]}"#, "10 $/coordinates";
+    r#"{"type":"GeometryCollection","geometries":[]}"#, "4 $/type";
+    r#"{"type":"Feature","id":1.5,"properties":[]}"#, "5 $/id";
+    r#"{"type":"Feature","properties":{"a":1.5}}"#, "13 $/properties";
 ];
 
 #[test]
@@ -104,10 +56,9 @@ fn refusals(rt: HostRuntime) -> Result<(), Fail> {
     expect_told(rt.alloc(), 1, REFUSALS)
 }
 
-const OFF_THE_GRID: &[(&str, &str)] = &[(
-    r#"{"type":"Point","coordinates":[5,10]}"#,
-    "7 $/coordinates/0",
-)];
+const OFF_THE_GRID: &[(&str, &str)] = rows![
+    r#"{"type":"Point","coordinates":[5,10]}"#, "7 $/coordinates/0";
+];
 
 #[test]
 fn refusals_on_a_coarse_grid(rt: HostRuntime) -> Result<(), Fail> {

@@ -3,4 +3,3 @@ mod merges;
 mod removals;
 mod sessions;
 mod shards;
-mod texts;

@@ -6,65 +6,22 @@ use refine::remove::remove;
 use refused_calls::comparing::{are_used, same_map};
 use refused_calls::inputs::{built, is_of, read};
 use refused_calls::outcome::{Answer, Outcome, Tally};
-use refused_calls::texts::{
-    EMPTY, ENDS, FIRST, FREE_LOOP, LINE, LOOP_AND_LINE, SECOND, SHARED_EDGE, THREE,
-};
 use shapes::FeatureMap;
 use std::alloc::Global;
 use topo::Topology;
-
-/// A map, what is taken out of it, what is left, and for each of its arcs the indexes of the old ones.
-#[derive(Clone, Copy)]
-struct Row {
-    title: &'static str,
-    whole: &'static str,
-    removed: &'static str,
-    left: &'static str,
-    pieces: &'static [&'static [i64]],
-}
-
-const ROWS: &[Row] = &[
-    Row {
-        title: "the seam vanishes",
-        whole: LOOP_AND_LINE,
-        removed: LINE,
-        left: FREE_LOOP,
-        pieces: &[&[0]],
-    },
-    Row {
-        title: "one of two squares with a shared edge",
-        whole: SHARED_EDGE,
-        removed: SECOND,
-        left: FIRST,
-        pieces: &[&[0, -2]],
-    },
-    Row {
-        title: "the middle one of three squares",
-        whole: THREE,
-        removed: SECOND,
-        left: ENDS,
-        pieces: &[&[0, -2], &[4, -6]],
-    },
-    Row {
-        title: "all of two squares",
-        whole: SHARED_EDGE,
-        removed: SHARED_EDGE,
-        left: EMPTY,
-        pieces: &[],
-    },
-];
+use worked_texts::{REMOVALS, Removed};
 
 /// The map of a row and what is taken out of it, with a copy.
 #[derive(Drop)]
 struct Removing {
-    row: &'static Row,
+    row: &'static Removed,
     whole: Topology,
     removed: FeatureMap,
     copy: FeatureMap,
 }
 
 impl Removing {
-    fn of(alloc: Global, row: &'static Row) -> Option<Removing> {
+    fn of(alloc: Global, row: &'static Removed) -> Option<Removing> {
         let whole = built(alloc, row.whole)?;
         let removed = read(alloc, row.removed)?;
         let copy = removed.copy().ok()?;
@@ -114,7 +71,7 @@ fn settle_removing(alloc: Global, removing: &Removing) -> Outcome {
     }
 }
 
-fn settle_row(alloc: Global, row: &'static Row) -> Outcome {
+fn settle_row(alloc: Global, row: &'static Removed) -> Outcome {
     match Removing::of(alloc, row).or_else(|| Removing::of(alloc, row)) {
         Some(removing) => settle_removing(alloc, &removing),
         None => Outcome::Unprepared,
@@ -123,7 +80,7 @@ fn settle_row(alloc: Global, row: &'static Row) -> Outcome {
 
 /// Takes out what each row says.
 pub(crate) fn settle(rt: &HostRuntime, tally: &mut Tally) {
-    for row in ROWS {
+    for row in REMOVALS {
         let outcome = settle_row(rt.alloc(), row);
         tally.note(rt, row.title, "remove", outcome);
     }

@@ -1,27 +1,10 @@
 use chains::ArcTable;
-use grid::pos::Pos;
-use lines::items::Items;
 use standing::{arcs_in_order, is_apart};
 use std::alloc::Global;
 use std::process::Abort;
 use std::test::Fail;
-
-fn positions(alloc: Global, places: &[(i64, i64)]) -> Result<Items<Pos>, Fail> {
-    let mut made = Vec::new(alloc);
-    for (x, y) in places {
-        made.push(Pos::new(*x, *y).ok_or("outside the limits")?)?;
-    }
-    Ok(Items::from_vec(made))
-}
-
-/// The arcs as lists.
-pub(crate) fn lists(alloc: Global, arcs: &[&[(i64, i64)]]) -> Result<Vec<Items<Pos>>, Fail> {
-    let mut made = Vec::new(alloc);
-    for places in arcs {
-        made.push(positions(alloc, places)?)?;
-    }
-    Ok(made)
-}
+use worked_maps::corners::{A, B, C, D, E};
+use worked_maps::{lists, positions};
 
 /// The table of arcs that are in order and apart, of which those that are marked are free loops.
 pub(crate) fn read(
@@ -41,16 +24,6 @@ pub(crate) fn read(
 fn stand(alloc: Global, arcs: &[&[(i64, i64)]], free: &[bool]) -> Result<bool, Fail> {
     Ok(read(alloc, arcs, free)?.is_some())
 }
-
-pub(crate) const A: (i64, i64) = (0, 0);
-
-pub(crate) const B: (i64, i64) = (4, 0);
-
-pub(crate) const C: (i64, i64) = (4, 4);
-
-pub(crate) const D: (i64, i64) = (0, 4);
-
-pub(crate) const E: (i64, i64) = (8, 0);
 
 #[test]
 fn arcs_that_meet_at_their_ends(rt: HostRuntime) -> Result<(), Fail> {

@@ -1,17 +1,15 @@
-use crate::arcs::{A, B, C, D, E, lists, read};
-use chains::ArcRef;
+use crate::arcs::read;
 use grid::pos::Pos;
 use standing::{free_loops, run};
 use std::alloc::Global;
 use std::process::Abort;
 use std::test::Fail;
+use worked_maps::corners::{A, B, C, D, E};
+use worked_maps::{lists, positions, refs_of};
 
 /// Which of the arcs go free, where lines end at some places.
 fn marks(alloc: Global, arcs: &[&[(i64, i64)]], ends: &[(i64, i64)]) -> Result<Vec<bool>, Fail> {
-    let mut line_ends = Vec::new(alloc);
-    for (x, y) in ends {
-        line_ends.push(Pos::new(*x, *y).ok_or("outside the limits")?)?;
-    }
+    let line_ends = positions(alloc, ends)?;
     Ok(free_loops(alloc, &lists(alloc, arcs)?, line_ends)?)
 }
 
@@ -49,11 +47,7 @@ fn ends(alloc: Global, indexes: &[i64]) -> Result<Option<(Pos, Pos)>, Fail> {
     let Some(table) = read(alloc, &[&[A, D, C], &[A, B], &[B, C]], &[])? else {
         return Err("refused".into());
     };
-    let mut refs = Vec::new(alloc);
-    for index in indexes {
-        refs.push(ArcRef::from_index(*index))?;
-    }
-    Ok(run(&table, &refs))
+    Ok(run(&table, &refs_of(alloc, indexes)?))
 }
 
 #[test]

@@ -1,26 +1,11 @@
-use crate::arcs::{A, B, C, D, E, lists, read};
-use chains::{ArcRef, ArcTable};
-use grid::pos::Pos;
+use crate::arcs::read;
+use chains::ArcTable;
 use standing::{ArcsUsed, add_line_ends, ends_meet, free_loops, line_run, ring_stands};
 use std::alloc::Global;
 use std::process::Abort;
 use std::test::Fail;
-
-fn refs(alloc: Global, indexes: &[i64]) -> Result<Vec<ArcRef>, Fail> {
-    let mut made = Vec::new(alloc);
-    for index in indexes {
-        made.push(ArcRef::from_index(*index))?;
-    }
-    Ok(made)
-}
-
-fn places(alloc: Global, vertices: &[(i64, i64)]) -> Result<Vec<Pos>, Fail> {
-    let mut made = Vec::new(alloc);
-    for (x, y) in vertices {
-        made.push(Pos::new(*x, *y).ok_or("outside the limits")?)?;
-    }
-    Ok(made)
-}
+use worked_maps::corners::{A, B, C, D, E};
+use worked_maps::{lists, positions, refs_of};
 
 fn table(alloc: Global, arcs: &[&[(i64, i64)]], free: &[bool]) -> Result<ArcTable, Fail> {
     match read(alloc, arcs, free)? {
@@ -31,13 +16,13 @@ fn table(alloc: Global, arcs: &[&[(i64, i64)]], free: &[bool]) -> Result<ArcTabl
 
 fn line(alloc: Global, table: &ArcTable, indexes: &[i64]) -> Result<bool, Fail> {
     let mut used = ArcsUsed::none(alloc, table.len())?;
-    let list = refs(alloc, indexes)?;
+    let list = refs_of(alloc, indexes)?;
     Ok(line_run(table, &mut used, &list).is_some())
 }
 
 fn ring(alloc: Global, table: &ArcTable, indexes: &[i64]) -> Result<bool, Fail> {
     let mut used = ArcsUsed::none(alloc, table.len())?;
-    let list = refs(alloc, indexes)?;
+    let list = refs_of(alloc, indexes)?;
     Ok(ring_stands(table, &mut used, &list))
 }
 
@@ -101,14 +86,14 @@ fn arcs_that_lists_use(rt: HostRuntime) -> Result<(), Fail> {
     let arcs = table(alloc, &[&[A, D, C], &[A, B], &[B, C]], &[])?;
     let mut used = ArcsUsed::none(alloc, arcs.len())?;
     assert!(rt; !used.all());
-    let ends = line_run(&arcs, &mut used, &refs(alloc, &[1, 2])?).ok_or("refused")?;
+    let ends = line_run(&arcs, &mut used, &refs_of(alloc, &[1, 2])?).ok_or("refused")?;
     assert_eq!(rt;
         [ends.0, ends.1].as_slice(),
-        places(alloc, &[A, C])?.as_slice()
+        positions(alloc, &[A, C])?.as_slice()
     );
     assert!(rt; !used.all());
     // An arc may be used again by another list.
-    assert!(rt; ring_stands(&arcs, &mut used, &refs(alloc, &[0, -3, -2])?));
+    assert!(rt; ring_stands(&arcs, &mut used, &refs_of(alloc, &[0, -3, -2])?));
     assert!(rt; used.all());
     Ok(())
 }
@@ -120,7 +105,7 @@ fn meet(
     ends: &[(i64, i64)],
 ) -> Result<bool, Fail> {
     let table = table(alloc, arcs, free)?;
-    Ok(ends_meet(alloc, &table, &places(alloc, ends)?)?)
+    Ok(ends_meet(alloc, &table, &positions(alloc, ends)?)?)
 }
 
 #[test]
@@ -154,10 +139,13 @@ fn ends_of_lines(rt: HostRuntime) -> Result<(), Fail> {
     let alloc = rt.alloc();
     let arcs = lists(alloc, &[&[A, D, C], &[A, B], &[B, C]])?;
     let mut ends = Vec::new(alloc);
-    add_line_ends(&mut ends, &arcs, &refs(alloc, &[])?)?;
-    add_line_ends(&mut ends, &arcs, &refs(alloc, &[1, 2])?)?;
-    add_line_ends(&mut ends, &arcs, &refs(alloc, &[-2])?)?;
-    assert_eq!(rt; ends.as_slice(), places(alloc, &[A, C, B, A])?.as_slice());
+    add_line_ends(&mut ends, &arcs, &refs_of(alloc, &[])?)?;
+    add_line_ends(&mut ends, &arcs, &refs_of(alloc, &[1, 2])?)?;
+    add_line_ends(&mut ends, &arcs, &refs_of(alloc, &[-2])?)?;
+    assert_eq!(rt;
+        ends.as_slice(),
+        positions(alloc, &[A, C, B, A])?.as_slice()
+    );
     Ok(())
 }
 
@@ -169,16 +157,16 @@ fn a_whole_topology(rt: HostRuntime) -> Result<(), Fail> {
     let g = (20, 4);
     let h = (24, 0);
     let arcs: [&[(i64, i64)]; 3] = [&[A, D, C], &[A, B, C], &[f, g, h, f]];
-    let line = refs(alloc, &[1])?;
+    let line = refs_of(alloc, &[1])?;
     let mut ends = Vec::new(alloc);
     add_line_ends(&mut ends, &lists(alloc, &arcs)?, &line)?;
-    let free = free_loops(alloc, &lists(alloc, &arcs)?, places(alloc, &[A, C])?)?;
+    let free = free_loops(alloc, &lists(alloc, &arcs)?, positions(alloc, &[A, C])?)?;
     assert_eq!(rt; free.as_slice(), [false, false, true].as_slice());
     let table = read(alloc, &arcs, &free)?.ok_or("refused")?;
     let mut used = ArcsUsed::none(alloc, table.len())?;
     assert!(rt; line_run(&table, &mut used, &line).is_some());
-    assert!(rt; ring_stands(&table, &mut used, &refs(alloc, &[0, -2])?));
-    assert!(rt; ring_stands(&table, &mut used, &refs(alloc, &[2])?));
+    assert!(rt; ring_stands(&table, &mut used, &refs_of(alloc, &[0, -2])?));
+    assert!(rt; ring_stands(&table, &mut used, &refs_of(alloc, &[2])?));
     assert!(rt; used.all());
     assert!(rt; ends_meet(alloc, &table, &ends)?);
     Ok(())

@@ -5,6 +5,7 @@ use std::test::Fail;
 use taking::{Taken, TextArcs, layers_sorted, take};
 use topo::Topology;
 use topo_io::{read, read_parts, read_topology, text_of};
+use worked_texts::rows;
 
 /// The text of a topology on the unit grid with these arcs and these geometries, in the order in which
 /// topojson-server writes its members.
@@ -52,43 +53,27 @@ fn expect(alloc: Global, text: &str, taken: bool) -> Result<(), Fail> {
 /// Two squares that share an edge, the left one first, and the right one first; an island with a lake, both
 /// begun elsewhere and the lake first against its direction; a lake that touches a junction; a line that is used
 /// against the direction of its arcs.
-const OTHER_ORDERS: &[(&str, &str)] = &[
-    (
-        "[[[1,0],[0,1]],[[1,1],[-1,0],[0,-1],[1,0]],[[1,0],[1,0],[0,1],[-1,0]]]",
-        r#"[{"type":"Polygon","arcs":[[0,1]],"id":"left"},{"type":"Polygon","arcs":[[2,-1]],"id":"right"}]"#,
-    ),
-    (
-        "[[[1,0],[1,0],[0,1],[-1,0]],[[1,1],[0,-1]],[[1,1],[-1,0],[0,-1],[1,0]]]",
-        r#"[{"type":"Polygon","arcs":[[0,1]],"id":"right"},{"type":"Polygon","arcs":[[-2,2]],"id":"left"}]"#,
-    ),
-    (
-        "[[[4,0],[0,4],[-4,0],[0,-4],[4,0]],[[1,3],[2,0],[0,-2],[-2,0],[0,2]]]",
-        r#"[{"type":"Polygon","arcs":[[0],[1]],"properties":{"name":"island"}}]"#,
-    ),
-    (
-        "[[[4,0],[0,4]],[[4,4],[-4,0],[0,-4],[4,0]],[[4,4],[-2,-1],[1,-1],[1,2]],[[4,0],[4,0],[0,4],[-4,0]]]",
-        r#"[{"type":"Polygon","arcs":[[0,1],[2]],"id":1},{"type":"Polygon","arcs":[[3,-1]],"id":2}]"#,
-    ),
-    (
-        "[[[2,0],[-1,0]],[[1,0],[-1,0]],[[1,0],[0,1]]]",
-        r#"[{"type":"LineString","arcs":[0,1],"id":"b"},{"type":"LineString","arcs":[2],"id":"a"}]"#,
-    ),
+const OTHER_ORDERS: &[(&str, &str)] = rows![
+    "[[[1,0],[0,1]],[[1,1],[-1,0],[0,-1],[1,0]],[[1,0],[1,0],[0,1],[-1,0]]]",
+        r#"[{"type":"Polygon","arcs":[[0,1]],"id":"left"},{"type":"Polygon","arcs":[[2,-1]],"id":"right"}]"#;
+    "[[[1,0],[1,0],[0,1],[-1,0]],[[1,1],[0,-1]],[[1,1],[-1,0],[0,-1],[1,0]]]",
+        r#"[{"type":"Polygon","arcs":[[0,1]],"id":"right"},{"type":"Polygon","arcs":[[-2,2]],"id":"left"}]"#;
+    "[[[4,0],[0,4],[-4,0],[0,-4],[4,0]],[[1,3],[2,0],[0,-2],[-2,0],[0,2]]]",
+        r#"[{"type":"Polygon","arcs":[[0],[1]],"properties":{"name":"island"}}]"#;
+    "[[[4,0],[0,4]],[[4,4],[-4,0],[0,-4],[4,0]],[[4,4],[-2,-1],[1,-1],[1,2]],[[4,0],[4,0],[0,4],[-4,0]]]",
+        r#"[{"type":"Polygon","arcs":[[0,1],[2]],"id":1},{"type":"Polygon","arcs":[[3,-1]],"id":2}]"#;
+    "[[[2,0],[-1,0]],[[1,0],[-1,0]],[[1,0],[0,1]]]",
+        r#"[{"type":"LineString","arcs":[0,1],"id":"b"},{"type":"LineString","arcs":[2],"id":"a"}]"#;
 ];
 
 /// Features out of order: by id, where numbers come before texts and none before both; by properties; by kind.
-const OTHER_FEATURES: &[(&str, &str)] = &[
-    (
-        "[[[0,0],[1,0]],[[2,0],[1,0]],[[4,0],[1,0]],[[6,0],[1,0]],[[8,0],[1,0]]]",
-        r#"[{"type":"LineString","arcs":[0],"id":"b"},{"type":"LineString","arcs":[1],"id":10},{"type":"LineString","arcs":[2],"id":"a"},{"type":"LineString","arcs":[3],"id":-9},{"type":"LineString","arcs":[4]}]"#,
-    ),
-    (
-        "[[[0,0],[1,0]],[[2,0],[1,0]],[[4,0],[1,0]]]",
-        r#"[{"type":"LineString","arcs":[0],"properties":{"n":2}},{"type":"LineString","arcs":[1],"properties":{"n":10}},{"type":"LineString","arcs":[2],"properties":{"m":3}}]"#,
-    ),
-    (
-        "[[[0,0],[1,0]],[[2,0],[0,1],[1,0],[-1,-1]]]",
-        r#"[{"type":"Polygon","arcs":[[1]]},{"type":"MultiLineString","arcs":[[0]]},{"type":"Point","coordinates":[5,5]},{"type":null}]"#,
-    ),
+const OTHER_FEATURES: &[(&str, &str)] = rows![
+    "[[[0,0],[1,0]],[[2,0],[1,0]],[[4,0],[1,0]],[[6,0],[1,0]],[[8,0],[1,0]]]",
+        r#"[{"type":"LineString","arcs":[0],"id":"b"},{"type":"LineString","arcs":[1],"id":10},{"type":"LineString","arcs":[2],"id":"a"},{"type":"LineString","arcs":[3],"id":-9},{"type":"LineString","arcs":[4]}]"#;
+    "[[[0,0],[1,0]],[[2,0],[1,0]],[[4,0],[1,0]]]",
+        r#"[{"type":"LineString","arcs":[0],"properties":{"n":2}},{"type":"LineString","arcs":[1],"properties":{"n":10}},{"type":"LineString","arcs":[2],"properties":{"m":3}}]"#;
+    "[[[0,0],[1,0]],[[2,0],[0,1],[1,0],[-1,-1]]]",
+        r#"[{"type":"Polygon","arcs":[[1]]},{"type":"MultiLineString","arcs":[[0]]},{"type":"Point","coordinates":[5,5]},{"type":null}]"#;
 ];
 
 #[test]
@@ -123,27 +108,17 @@ fn both_orders_of_two_squares_are_one_topology(rt: HostRuntime) -> Result<(), Fa
 
 /// What is built anew: a border that is cut at a vertex of two, a border that stands twice among the arcs, an arc
 /// that no list uses, a line that goes on across a junction, and a feature that is there twice.
-const BUILT: &[(&str, &str)] = &[
-    (
-        "[[[1,0],[0,1]],[[1,1],[-1,0],[0,-1]],[[0,0],[1,0]],[[1,0],[1,0],[0,1],[-1,0]]]",
-        r#"[{"type":"Polygon","arcs":[[0,1,2]],"id":"left"},{"type":"Polygon","arcs":[[3,-1]],"id":"right"}]"#,
-    ),
-    (
-        "[[[1,0],[0,1]],[[1,1],[-1,0],[0,-1],[1,0]],[[1,0],[1,0],[0,1],[-1,0]],[[1,1],[0,-1]]]",
-        r#"[{"type":"Polygon","arcs":[[0,1]],"id":"left"},{"type":"Polygon","arcs":[[2,3]],"id":"right"}]"#,
-    ),
-    (
-        "[[[1,0],[0,1]],[[1,1],[-1,0],[0,-1],[1,0]],[[7,7],[1,1]]]",
-        r#"[{"type":"Polygon","arcs":[[0,1]],"id":"left"}]"#,
-    ),
-    (
-        "[[[0,1],[1,0],[1,0]],[[1,0],[0,1],[0,1]]]",
-        r#"[{"type":"LineString","arcs":[0],"id":1},{"type":"LineString","arcs":[1],"id":2}]"#,
-    ),
-    (
-        "[[[1,0],[0,1]],[[1,1],[-1,0],[0,-1],[1,0]],[[1,0],[1,0],[0,1],[-1,0]]]",
-        r#"[{"type":"Polygon","arcs":[[0,1]],"id":"left"},{"type":"Polygon","arcs":[[2,-1]],"id":"right"},{"type":"Polygon","arcs":[[0,1]],"id":"left"}]"#,
-    ),
+const BUILT: &[(&str, &str)] = rows![
+    "[[[1,0],[0,1]],[[1,1],[-1,0],[0,-1]],[[0,0],[1,0]],[[1,0],[1,0],[0,1],[-1,0]]]",
+        r#"[{"type":"Polygon","arcs":[[0,1,2]],"id":"left"},{"type":"Polygon","arcs":[[3,-1]],"id":"right"}]"#;
+    "[[[1,0],[0,1]],[[1,1],[-1,0],[0,-1],[1,0]],[[1,0],[1,0],[0,1],[-1,0]],[[1,1],[0,-1]]]",
+        r#"[{"type":"Polygon","arcs":[[0,1]],"id":"left"},{"type":"Polygon","arcs":[[2,3]],"id":"right"}]"#;
+    "[[[1,0],[0,1]],[[1,1],[-1,0],[0,-1],[1,0]],[[7,7],[1,1]]]",
+        r#"[{"type":"Polygon","arcs":[[0,1]],"id":"left"}]"#;
+    "[[[0,1],[1,0],[1,0]],[[1,0],[0,1],[0,1]]]",
+        r#"[{"type":"LineString","arcs":[0],"id":1},{"type":"LineString","arcs":[1],"id":2}]"#;
+    "[[[1,0],[0,1]],[[1,1],[-1,0],[0,-1],[1,0]],[[1,0],[1,0],[0,1],[-1,0]]]",
+        r#"[{"type":"Polygon","arcs":[[0,1]],"id":"left"},{"type":"Polygon","arcs":[[2,-1]],"id":"right"},{"type":"Polygon","arcs":[[0,1]],"id":"left"}]"#;
 ];
 
 #[test]

@@ -1,5 +1,4 @@
 //! Topology texts as their parts, before lists of arcs are stitched.
-use crate::OTHER_TOOL;
 use chains::ArcRef;
 use faults::FaultKind;
 use lines::items::Items;
@@ -7,6 +6,7 @@ use std::alloc::Global;
 use std::test::Fail;
 use topo::{Body, Geom};
 use topo_io::{TextParts, read_parts};
+use worked_texts::{OTHER_TOOL, rows};
 
 /// The text of a topology on the unit grid with these arcs and layers.
 pub(crate) fn text_of(alloc: Global, arcs: &str, objects: &str) -> Result<String, Fail> {
@@ -66,59 +66,20 @@ fn lists_as_they_stand(rt: HostRuntime) -> Result<(), Fail> {
     Ok(())
 }
 
-/// Texts whose only faults are those of what lists stitch to.
-const STITCHED: &[(&str, &str)] = &[
-    (
-        "[[[0,0],[1,0]],[[2,0],[1,0]]]",
-        r#"{"a":{"type":"LineString","arcs":[0,1]}}"#,
-    ),
-    (
-        "[[[0,0],[1,0]]]",
-        r#"{"a":{"type":"Polygon","arcs":[[0]]}}"#,
-    ),
-    (
-        "[[[0,0],[1,0]]]",
-        r#"{"a":{"type":"LineString","arcs":[0,-1]}}"#,
-    ),
-    (
-        "[[[0,0],[1,0]]]",
-        r#"{"a":{"type":"LineString","arcs":[]}}"#,
-    ),
-];
-
-#[test]
-fn faults_of_stitched_lists_are_left(rt: HostRuntime) -> Result<(), Fail> {
-    for (arcs, objects) in STITCHED {
-        let text = text_of(rt.alloc(), arcs, objects)?;
-        assert!(rt; parts_of(rt.alloc(), text.as_str())?.is_some());
-        assert!(rt; topo_io::read(rt.alloc(), text.as_bytes()).is_err());
-    }
-    Ok(())
-}
-
 /// Texts with a fault that is known without stitching.
-const REFUSED: &[(&str, &str)] = &[
-    ("[[[0,0]]]", "{}"),
-    ("[[[0,0],[1.5,0]]]", "{}"),
-    ("5", "{}"),
-    (
-        "[[[0,0],[1,0]]]",
-        r#"{"a":{"type":"LineString","arcs":[1]}}"#,
-    ),
-    (
-        "[[[0,0],[1,0]]]",
-        r#"{"a":{"type":"LineString","arcs":[-2]}}"#,
-    ),
-    (
-        "[[[0,0],[1,0]]]",
-        r#"{"a":{"type":"LineString","arcs":[0.5]}}"#,
-    ),
-    ("[[[0,0],[1,0]]]", r#"{"a":{"type":"Polygon","arcs":[0]}}"#),
-    ("[]", r#"{"a":{"type":"Line","arcs":[]}}"#),
-    ("[]", r#"{"a":{"type":"Point","coordinates":[0]}}"#),
-    ("[]", r#"{"a":{"type":null,"id":[]}}"#),
-    ("[]", r#"{"a":{"type":"GeometryCollection"}}"#),
-    ("[]", "[]"),
+const REFUSED: &[(&str, &str)] = rows![
+    "[[[0,0]]]", "{}";
+    "[[[0,0],[1.5,0]]]", "{}";
+    "5", "{}";
+    "[[[0,0],[1,0]]]", r#"{"a":{"type":"LineString","arcs":[1]}}"#;
+    "[[[0,0],[1,0]]]", r#"{"a":{"type":"LineString","arcs":[-2]}}"#;
+    "[[[0,0],[1,0]]]", r#"{"a":{"type":"LineString","arcs":[0.5]}}"#;
+    "[[[0,0],[1,0]]]", r#"{"a":{"type":"Polygon","arcs":[0]}}"#;
+    "[]", r#"{"a":{"type":"Line","arcs":[]}}"#;
+    "[]", r#"{"a":{"type":"Point","coordinates":[0]}}"#;
+    "[]", r#"{"a":{"type":null,"id":[]}}"#;
+    "[]", r#"{"a":{"type":"GeometryCollection"}}"#;
+    "[]", "[]";
 ];
 
 #[test]

@@ -1,5 +1,4 @@
 //! Parts of topology texts that are stitched: the map that the whole text means, or none.
-use crate::OTHER_TOOL;
 use crate::parts_read::{parts_of, text_of};
 use grid::Grid;
 use shapes::FeatureMap;
@@ -8,6 +7,7 @@ use std::test::Fail;
 use taking::TextArcs;
 use topo::Topology;
 use topo_io::{TextParts, map_of_parts};
+use worked_texts::{OTHER_TOOL, rows};
 
 /// The map of the text's parts, where they stitch.
 fn map_of(alloc: Global, text: &str) -> Result<Option<FeatureMap>, Fail> {
@@ -31,24 +31,15 @@ fn is_stitched(alloc: Global, text: &str) -> Result<bool, Fail> {
 }
 
 /// The arcs and layers of texts whose lists stitch.
-const ACCEPTED: &[(&str, &str)] = &[
-    ("[]", "{}"),
-    (
-        "[[[0,0],[1,0],[0,1]],[[5,5],[1,1]],[[1,1],[-1,0],[0,-1]]]",
-        r#"{"a":{"type":"Polygon","arcs":[[-3,-1]]}}"#,
-    ),
-    (
-        "[[[1,0],[0,1],[-1,0],[0,-1],[1,0]]]",
-        r#"{"a":{"type":"Polygon","arcs":[[0]]}}"#,
-    ),
-    (
-        "[[[0,0],[1,0]],[[1,0],[0,1],[-1,-1]],[[9,9],[-9,-9]]]",
-        r#"{"b":{"type":"GeometryCollection","geometries":[{"type":"MultiPolygon","arcs":[[[0,1]],[[1,0]]],"id":7},{"type":"MultiPoint","coordinates":[[3,4]]},{"type":"MultiLineString","arcs":[[-1],[2,0]]},{"type":null,"id":"n","properties":{"x":1}},{"type":"Point","coordinates":[1,2]}]},"a":{"type":"LineString","arcs":[-2]},"":{"type":"GeometryCollection","geometries":[]}}"#,
-    ),
-    (
-        "[[[0,0],[1,0]]]",
-        r#"{"a":{"type":"GeometryCollection","geometries":[{"type":"LineString","arcs":[0],"id":2},{"type":"LineString","arcs":[0],"id":1},{"type":"LineString","arcs":[0],"id":2}]}}"#,
-    ),
+const ACCEPTED: &[(&str, &str)] = rows![
+    "[]", "{}";
+    "[[[0,0],[1,0],[0,1]],[[5,5],[1,1]],[[1,1],[-1,0],[0,-1]]]",
+        r#"{"a":{"type":"Polygon","arcs":[[-3,-1]]}}"#;
+    "[[[1,0],[0,1],[-1,0],[0,-1],[1,0]]]", r#"{"a":{"type":"Polygon","arcs":[[0]]}}"#;
+    "[[[0,0],[1,0]],[[1,0],[0,1],[-1,-1]],[[9,9],[-9,-9]]]",
+        r#"{"b":{"type":"GeometryCollection","geometries":[{"type":"MultiPolygon","arcs":[[[0,1]],[[1,0]]],"id":7},{"type":"MultiPoint","coordinates":[[3,4]]},{"type":"MultiLineString","arcs":[[-1],[2,0]]},{"type":null,"id":"n","properties":{"x":1}},{"type":"Point","coordinates":[1,2]}]},"a":{"type":"LineString","arcs":[-2]},"":{"type":"GeometryCollection","geometries":[]}}"#;
+    "[[[0,0],[1,0]]]",
+        r#"{"a":{"type":"GeometryCollection","geometries":[{"type":"LineString","arcs":[0],"id":2},{"type":"LineString","arcs":[0],"id":1},{"type":"LineString","arcs":[0],"id":2}]}}"#;
 ];
 
 #[test]
@@ -61,32 +52,16 @@ fn parts_that_stitch(rt: HostRuntime) -> Result<(), Fail> {
     Ok(())
 }
 
-/// The arcs and layers of texts with a list that stitches to no line or ring.
-const REFUSED: &[(&str, &str)] = &[
-    (
-        "[[[0,0],[1,0]],[[2,0],[1,0]]]",
-        r#"{"a":{"type":"LineString","arcs":[0,1]}}"#,
-    ),
-    (
-        "[[[0,0],[1,0]]]",
-        r#"{"a":{"type":"LineString","arcs":[0,-1]}}"#,
-    ),
-    (
-        "[[[0,0],[1,0]]]",
-        r#"{"a":{"type":"LineString","arcs":[]}}"#,
-    ),
-    (
-        "[[[0,0],[1,0],[0,1]]]",
-        r#"{"a":{"type":"MultiLineString","arcs":[[0],[0,0]]}}"#,
-    ),
-    (
-        "[[[0,0],[1,0],[0,1],[-1,0]]]",
-        r#"{"a":{"type":"Polygon","arcs":[[0]]}}"#,
-    ),
-    (
-        "[[[0,0],[1,0],[0,1]],[[1,1],[-1,-1]]]",
-        r#"{"a":{"type":"Point","coordinates":[0,0]},"b":{"type":"GeometryCollection","geometries":[{"type":null},{"type":"MultiPolygon","arcs":[[[0,1]],[[0,1],[0]]]}]}}"#,
-    ),
+/// The arcs and layers of texts with a list that stitches to no line or ring, and no other fault.
+const REFUSED: &[(&str, &str)] = rows![
+    "[[[0,0],[1,0]],[[2,0],[1,0]]]", r#"{"a":{"type":"LineString","arcs":[0,1]}}"#;
+    "[[[0,0],[1,0]]]", r#"{"a":{"type":"Polygon","arcs":[[0]]}}"#;
+    "[[[0,0],[1,0]]]", r#"{"a":{"type":"LineString","arcs":[0,-1]}}"#;
+    "[[[0,0],[1,0]]]", r#"{"a":{"type":"LineString","arcs":[]}}"#;
+    "[[[0,0],[1,0],[0,1]]]", r#"{"a":{"type":"MultiLineString","arcs":[[0],[0,0]]}}"#;
+    "[[[0,0],[1,0],[0,1],[-1,0]]]", r#"{"a":{"type":"Polygon","arcs":[[0]]}}"#;
+    "[[[0,0],[1,0],[0,1]],[[1,1],[-1,-1]]]",
+        r#"{"a":{"type":"Point","coordinates":[0,0]},"b":{"type":"GeometryCollection","geometries":[{"type":null},{"type":"MultiPolygon","arcs":[[[0,1]],[[0,1],[0]]]}]}}"#;
 ];
 
 #[test]

@@ -1,26 +1,10 @@
 //! Topology texts as they are read: their least faults, and the features that arcs stitch to.
-use crate::OTHER_TOOL;
-use faults::{Fault, Step};
 use grid::{Grid, Pos};
 use shapes::{FeatureMap, Shape};
-use std::alloc::{AllocError, Global};
+use std::alloc::Global;
 use std::test::Fail;
 use topo_io::read;
-
-/// The fault of a text, as it is printed but for its name; or that the text is accepted.
-pub(crate) fn told(alloc: Global, fault: Option<&Fault>) -> Result<String, AllocError> {
-    let Some(fault) = fault else {
-        return String::from_str(alloc, "accepted");
-    };
-    let mut line = format!(in alloc; "{} $", fault.kind.number())?;
-    for step in &fault.path {
-        match step {
-            Step::Name(name) => write!(line, "/{name}")?,
-            Step::Index(index) => write!(line, "/{index}")?,
-        }
-    }
-    Ok(line)
-}
+use worked_texts::{OTHER_TOOL, rows, told, topology};
 
 /// Reads each text, whose least fault stands beside it.
 fn expect_told(alloc: Global, rows: &[(&str, &str)]) -> Result<(), Fail> {
@@ -33,40 +17,22 @@ fn expect_told(alloc: Global, rows: &[(&str, &str)]) -> Result<(), Fail> {
     Ok(())
 }
 
-const REFUSALS: &[(&str, &str)] = &[
-    (
-        r#"{"arcs":[[[0,0],[1,0]]],"objects":{"a":{"type":"LineString","arcs":[1]}},"transform":{"scale":[1,1],"translate":[0,0]},"type":"Topology"}"#,
-        "11 $/objects/a/arcs/0",
-    ),
-    (
-        r#"{"arcs":[],"objects":{"a":{"type":"LineString","arcs":[-1]}},"transform":{"scale":[1,1],"translate":[0,0]},"type":"Topology"}"#,
-        "11 $/objects/a/arcs/0",
-    ),
-    (
-        r#"{"arcs":[[[0,0],[1,0]],[[2,0],[1,0]]],"objects":{"a":{"type":"LineString","arcs":[0,1]}},"transform":{"scale":[1,1],"translate":[0,0]},"type":"Topology"}"#,
-        "12 $/objects/a/arcs",
-    ),
-    (
-        r#"{"arcs":[[[0,0],[1,0]]],"objects":{"a":{"type":"LineString","arcs":[-9223372036854775808]}},"transform":{"scale":[1,1],"translate":[0,0]},"type":"Topology"}"#,
-        "11 $/objects/a/arcs/0",
-    ),
-    (
-        r#"{"arcs":[[[0,0],[1,0]]],"objects":{"a":{"type":"LineString","arcs":[9223372036854775808]}},"transform":{"scale":[1,1],"translate":[0,0]},"type":"Topology"}"#,
-        "5 $/objects/a/arcs/0",
-    ),
-    (
-        r#"{"arcs":[[[0,0],[0,0],[1,0]]],"objects":{"a":{"type":"LineString","arcs":[0]}},"transform":{"scale":[1,1],"translate":[0,0]},"type":"Topology"}"#,
-        "accepted",
-    ),
-    (
-        r#"{"type":"Topology","objects":{},"arcs":[]}"#,
-        "15 $/transform",
-    ),
-    (r#"{"type":"topology","arcs":5}"#, "4 $/type"),
-    (
-        r#"{"type":"Topology","transform":null,"objects":{},"arcs":[]}"#,
-        "3 $/transform",
-    ),
+const REFUSALS: &[(&str, &str)] = rows![
+    topology!(r#"{"arcs":[[[0,0],[1,0]]],"objects":{"a":{"type":"LineString","arcs":[1]}},"#),
+        "11 $/objects/a/arcs/0";
+    topology!(r#"{"arcs":[],"objects":{"a":{"type":"LineString","arcs":[-1]}},"#),
+        "11 $/objects/a/arcs/0";
+    topology!(r#"{"arcs":[[[0,0],[1,0]],[[2,0],[1,0]]],"objects":{"a":{"type":"LineString","arcs":[0,1]}},"#),
+        "12 $/objects/a/arcs";
+    topology!(r#"{"arcs":[[[0,0],[1,0]]],"objects":{"a":{"type":"LineString","arcs":[-9223372036854775808]}},"#),
+        "11 $/objects/a/arcs/0";
+    topology!(r#"{"arcs":[[[0,0],[1,0]]],"objects":{"a":{"type":"LineString","arcs":[9223372036854775808]}},"#),
+        "5 $/objects/a/arcs/0";
+    topology!(r#"{"arcs":[[[0,0],[0,0],[1,0]]],"objects":{"a":{"type":"LineString","arcs":[0]}},"#),
+        "accepted";
+    r#"{"type":"Topology","objects":{},"arcs":[]}"#, "15 $/transform";
+    r#"{"type":"topology","arcs":5}"#, "4 $/type";
+    r#"{"type":"Topology","transform":null,"objects":{},"arcs":[]}"#, "3 $/transform";
 ];
 
 #[test]
@@ -74,35 +40,21 @@ fn refusals(rt: HostRuntime) -> Result<(), Fail> {
     expect_told(rt.alloc(), REFUSALS)
 }
 
-const ARCS_AND_LAYERS: &[(&str, &str)] = &[
-    (
-        r#"{"arcs":[[[0,0]]],"objects":{"a":{"type":"Point","coordinates":[1.0,0]}},"transform":{"scale":[1,1],"translate":[0,0]},"type":"Topology"}"#,
-        "8 $/arcs/0",
-    ),
-    (
-        r#"{"arcs":[[[1099511627776,0],[1,0]]],"objects":{},"transform":{"scale":[1,1],"translate":[0,0]},"type":"Topology"}"#,
-        "6 $/arcs/0/1/0",
-    ),
-    (
-        r#"{"arcs":[[[0,0],[9223372036854775807,0],[9223372036854775807,0]]],"objects":{},"transform":{"scale":[1,1],"translate":[0,0]},"type":"Topology"}"#,
-        "6 $/arcs/0/1/0",
-    ),
-    (
-        r#"{"arcs":[],"objects":{"x/y~z":5},"transform":{"scale":[1,1],"translate":[0,0]},"type":"Topology"}"#,
-        "3 $/objects/x/y~z",
-    ),
-    (
-        r#"{"arcs":[],"objects":{"a":{"type":null,"arcs":[99],"id":"n"}},"transform":{"scale":[1,1],"translate":[0,0]},"type":"Topology"}"#,
-        "accepted",
-    ),
-    (
-        r#"{"arcs":[],"objects":{"b":{"type":"Point"},"a":{"type":"Polygon","arcs":[[0],[0.5]]}},"transform":{"scale":[1,1],"translate":[0,0]},"type":"Topology"}"#,
-        "11 $/objects/a/arcs/0/0",
-    ),
-    (
-        r#"{"arcs":[],"objects":{"a":{"type":"Point","coordinates":[9007199255,0]}},"transform":{"scale":[1000000,1],"translate":[0,0]},"type":"Topology"}"#,
-        "6 $/objects/a/coordinates/0",
-    ),
+const ARCS_AND_LAYERS: &[(&str, &str)] = rows![
+    topology!(r#"{"arcs":[[[0,0]]],"objects":{"a":{"type":"Point","coordinates":[1.0,0]}},"#),
+        "8 $/arcs/0";
+    topology!(r#"{"arcs":[[[1099511627776,0],[1,0]]],"objects":{},"#),
+        "6 $/arcs/0/1/0";
+    topology!(r#"{"arcs":[[[0,0],[9223372036854775807,0],[9223372036854775807,0]]],"objects":{},"#),
+        "6 $/arcs/0/1/0";
+    topology!(r#"{"arcs":[],"objects":{"x/y~z":5},"#),
+        "3 $/objects/x/y~z";
+    topology!(r#"{"arcs":[],"objects":{"a":{"type":null,"arcs":[99],"id":"n"}},"#),
+        "accepted";
+    topology!(r#"{"arcs":[],"objects":{"b":{"type":"Point"},"a":{"type":"Polygon","arcs":[[0],[0.5]]}},"#),
+        "11 $/objects/a/arcs/0/0";
+    r#"{"arcs":[],"objects":{"a":{"type":"Point","coordinates":[9007199255,0]}},"transform":{"scale":[1000000,1],"translate":[0,0]},"type":"Topology"}"#,
+        "6 $/objects/a/coordinates/0";
 ];
 
 #[test]

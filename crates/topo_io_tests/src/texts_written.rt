@@ -1,5 +1,4 @@
 //! Topologies as they are written, and which texts are canonical.
-use crate::OTHER_TOOL;
 use grid::Grid;
 use shapes::FeatureMap;
 use sinks::Kept;
@@ -7,18 +6,11 @@ use std::alloc::Global;
 use std::test::Fail;
 use topo::Topology;
 use topo_io::{is_canonical, is_text_of, read, write};
+use worked_texts::{FIRST, NO_LAYERS, OTHER_TOOL, SHARED_EDGE};
 
-const SQUARES: &str =
-    r#"{"arcs":[[[1,0],[-1,0],[0,1],[1,0]],[[1,0],[0,1]],[[1,0],[1,0],[0,1],[-1,0]]],"bbox":[0,0,2,1],"objects":{"a":{"geometries":[{"arcs":[[1,-1]],"type":"Polygon"},{"arcs":[[2,-2]],"type":"Polygon"}],"type":"GeometryCollection"}},"transform":{"scale":[1,1],"translate":[0,0]},"type":"Topology"}"#;
-
-const POINTS: &str =
+/// Points and the null shape, in two layers.
+pub(crate) const POINTS: &str =
     r#"{"arcs":[],"bbox":[-7,30,93,45],"objects":{"":{"geometries":[],"type":"GeometryCollection"},"b":{"geometries":[{"id":"x","properties":{"a":null,"b":1},"type":null},{"coordinates":[[1,2],[1,2]],"id":"y","type":"MultiPoint"},{"coordinates":[-9,-1],"id":"z","type":"Point"}],"type":"GeometryCollection"}},"transform":{"scale":[10,5],"translate":[83,35]},"type":"Topology"}"#;
-
-const NO_LAYERS: &str =
-    r#"{"arcs":[],"objects":{},"transform":{"scale":[1,1],"translate":[0,0]},"type":"Topology"}"#;
-
-const ONE_SQUARE: &str =
-    r#"{"arcs":[[[0,0],[0,1],[1,0],[0,-1],[-1,0]]],"bbox":[0,0,1,1],"objects":{"a":{"geometries":[{"arcs":[[-1]],"type":"Polygon"}],"type":"GeometryCollection"}},"transform":{"scale":[1,1],"translate":[0,0]},"type":"Topology"}"#;
 
 fn built(alloc: Global, text: &str) -> Result<Topology, Fail> {
     let (grid, map) = read(alloc, text.as_bytes()).ok().ok_or("refused")?;
@@ -33,9 +25,9 @@ fn writes(alloc: Global, topology: &Topology, text: &str) -> bool {
 
 #[test]
 fn shared_edge(rt: HostRuntime) -> Result<(), Fail> {
-    let topology = built(rt.alloc(), SQUARES)?;
-    let text = SQUARES.as_bytes();
-    assert!(rt; writes(rt.alloc(), &topology, SQUARES));
+    let topology = built(rt.alloc(), SHARED_EDGE)?;
+    let text = SHARED_EDGE.as_bytes();
+    assert!(rt; writes(rt.alloc(), &topology, SHARED_EDGE));
     assert!(rt; is_text_of(&topology, text));
     assert!(rt; !is_text_of(&topology, &text[..text.len() - 1]));
     assert!(rt; !is_text_of(&topology, b"{}\n"));
@@ -46,7 +38,7 @@ fn shared_edge(rt: HostRuntime) -> Result<(), Fail> {
 fn points_and_the_null_shape(rt: HostRuntime) -> Result<(), Fail> {
     let topology = built(rt.alloc(), POINTS)?;
     assert!(rt; writes(rt.alloc(), &topology, POINTS));
-    assert!(rt; !is_text_of(&topology, SQUARES.as_bytes()));
+    assert!(rt; !is_text_of(&topology, SHARED_EDGE.as_bytes()));
     Ok(())
 }
 
@@ -65,7 +57,7 @@ fn canonical(alloc: Global, text: &[u8]) -> Option<bool> {
 
 #[test]
 fn another_tools_text_is_not_canonical(rt: HostRuntime) {
-    let text = ONE_SQUARE.as_bytes();
+    let text = FIRST.as_bytes();
     assert!(rt; canonical(rt.alloc(), OTHER_TOOL.as_bytes()) == Some(false));
     assert!(rt; canonical(rt.alloc(), text) == Some(true));
     assert!(rt; canonical(rt.alloc(), &text[1..]).is_none());

@@ -1,21 +1,18 @@
 //! Topologies of texts: those that are taken as they stand, and those that are read and built.
-use crate::texts_read::told;
+use crate::texts_written::POINTS;
 use std::alloc::Global;
 use std::test::Fail;
 use taking::{Taken, take};
 use topo_io::{read_parts, read_topology, text_of};
+use worked_texts::{FIRST, NO_LAYERS, SHARED_EDGE, rows, told, topology};
 
-const SQUARES: &str =
-    r#"{"arcs":[[[1,0],[-1,0],[0,1],[1,0]],[[1,0],[0,1]],[[1,0],[1,0],[0,1],[-1,0]]],"bbox":[0,0,2,1],"objects":{"a":{"geometries":[{"arcs":[[1,-1]],"type":"Polygon"},{"arcs":[[2,-2]],"type":"Polygon"}],"type":"GeometryCollection"}},"transform":{"scale":[1,1],"translate":[0,0]},"type":"Topology"}"#;
+const LINES: &str = topology!(
+    r#"{"arcs":[[[0,0],[1,0]],[[1,0],[0,1]],[[1,0],[1,0]]],"bbox":[0,0,2,1],"objects":{"a":{"geometries":[{"arcs":[0,2],"type":"LineString"},{"arcs":[1],"type":"LineString"}],"type":"GeometryCollection"}},"#
+);
 
-const ONE_SQUARE: &str =
-    r#"{"arcs":[[[0,0],[0,1],[1,0],[0,-1],[-1,0]]],"bbox":[0,0,1,1],"objects":{"a":{"geometries":[{"arcs":[[-1]],"type":"Polygon"}],"type":"GeometryCollection"}},"transform":{"scale":[1,1],"translate":[0,0]},"type":"Topology"}"#;
-
-const LINES: &str =
-    r#"{"arcs":[[[0,0],[1,0]],[[1,0],[0,1]],[[1,0],[1,0]]],"bbox":[0,0,2,1],"objects":{"a":{"geometries":[{"arcs":[0,2],"type":"LineString"},{"arcs":[1],"type":"LineString"}],"type":"GeometryCollection"}},"transform":{"scale":[1,1],"translate":[0,0]},"type":"Topology"}"#;
-
-const CROSSING: &str =
-    r#"{"arcs":[[[0,1],[1,0]],[[1,0],[0,1]],[[1,1],[0,1]],[[1,1],[1,0]]],"bbox":[0,0,2,2],"objects":{"a":{"geometries":[{"arcs":[0,3],"type":"LineString"},{"arcs":[1,2],"type":"LineString"}],"type":"GeometryCollection"}},"transform":{"scale":[1,1],"translate":[0,0]},"type":"Topology"}"#;
+const CROSSING: &str = topology!(
+    r#"{"arcs":[[[0,1],[1,0]],[[1,0],[0,1]],[[1,1],[0,1]],[[1,1],[1,0]]],"bbox":[0,0,2,2],"objects":{"a":{"geometries":[{"arcs":[0,3],"type":"LineString"},{"arcs":[1,2],"type":"LineString"}],"type":"GeometryCollection"}},"#
+);
 
 /// The text of a topology on the unit grid with these arcs, and with these geometries in its only layer.
 fn text_with(alloc: Global, arcs: &str, geometries: &str) -> Result<String, Fail> {
@@ -52,12 +49,14 @@ fn expect(alloc: Global, text: &str, expected: &str) -> Result<(), Fail> {
 /// Canonical texts: districts that share a border, a square, lines that cross, a line round a square from its
 /// greatest vertex, points and the null shape, and no layers.
 const CANONICAL: &[&str] = &[
-    SQUARES,
-    ONE_SQUARE,
+    SHARED_EDGE,
+    FIRST,
     LINES,
-    r#"{"arcs":[[[1,1],[-1,0],[0,-1],[1,0],[0,1]]],"bbox":[0,0,1,1],"objects":{"l":{"geometries":[{"arcs":[0],"type":"LineString"}],"type":"GeometryCollection"},"p":{"geometries":[{"arcs":[[0]],"type":"Polygon"}],"type":"GeometryCollection"}},"transform":{"scale":[1,1],"translate":[0,0]},"type":"Topology"}"#,
-    r#"{"arcs":[],"bbox":[-7,30,93,45],"objects":{"":{"geometries":[],"type":"GeometryCollection"},"b":{"geometries":[{"id":"x","properties":{"a":null,"b":1},"type":null},{"coordinates":[[1,2],[1,2]],"id":"y","type":"MultiPoint"},{"coordinates":[-9,-1],"id":"z","type":"Point"}],"type":"GeometryCollection"}},"transform":{"scale":[10,5],"translate":[83,35]},"type":"Topology"}"#,
-    r#"{"arcs":[],"objects":{},"transform":{"scale":[1,1],"translate":[0,0]},"type":"Topology"}"#,
+    topology!(
+        r#"{"arcs":[[[1,1],[-1,0],[0,-1],[1,0],[0,1]]],"bbox":[0,0,1,1],"objects":{"l":{"geometries":[{"arcs":[0],"type":"LineString"}],"type":"GeometryCollection"},"p":{"geometries":[{"arcs":[[0]],"type":"Polygon"}],"type":"GeometryCollection"}},"#
+    ),
+    POINTS,
+    NO_LAYERS,
 ];
 
 #[test]
@@ -77,63 +76,33 @@ fn another_spelling_and_a_wrong_bbox_are_taken(rt: HostRuntime) -> Result<(), Fa
         r#"[{"type":"Polygon","arcs":[[1,-1]]}, {"type":"Polygon","arcs":[[2,-2]]}]"#,
     )?;
     assert!(rt; is_taken(rt.alloc(), text.as_str())?);
-    expect(rt.alloc(), text.as_str(), SQUARES)
+    expect(rt.alloc(), text.as_str(), SHARED_EDGE)
 }
 
 /// Arcs and geometries that fail one check each, and the canonical text of what they mean: arcs out of order, an
 /// arc against its direction, an arc that no list uses, a border cut at a vertex of two, a line that goes on across
 /// a junction, a loop begun elsewhere, a ring begun elsewhere, features out of order, and a feature twice.
-const OTHERS: &[(&str, &str, &str)] = &[
-    (
-        "[[[1,0],[0,1]],[[1,0],[-1,0],[0,1],[1,0]],[[1,0],[1,0],[0,1],[-1,0]]]",
-        r#"[{"type":"Polygon","arcs":[[0,-2]]},{"type":"Polygon","arcs":[[2,-1]]}]"#,
-        SQUARES,
-    ),
-    (
-        "[[[1,0],[-1,0],[0,1],[1,0]],[[1,0],[1,0],[0,1],[-1,0]],[[1,1],[0,-1]]]",
-        r#"[{"type":"Polygon","arcs":[[-3,-1]]},{"type":"Polygon","arcs":[[1,2]]}]"#,
-        SQUARES,
-    ),
-    (
-        "[[[1,0],[-1,0],[0,1],[1,0]],[[1,0],[0,1]],[[1,0],[1,0],[0,1],[-1,0]],[[3,3],[1,1]]]",
-        r#"[{"type":"Polygon","arcs":[[1,-1]]},{"type":"Polygon","arcs":[[2,-2]]}]"#,
-        SQUARES,
-    ),
-    (
-        "[[[0,0],[0,1],[1,0]],[[0,0],[1,0]],[[1,0],[0,1]],[[1,0],[1,0],[0,1],[-1,0]]]",
-        r#"[{"type":"Polygon","arcs":[[1,2,-1]]},{"type":"Polygon","arcs":[[3,-3]]}]"#,
-        SQUARES,
-    ),
-    (
-        "[[[0,0],[1,0],[1,0]],[[1,0],[0,1]]]",
-        r#"[{"type":"LineString","arcs":[0]},{"type":"LineString","arcs":[1]}]"#,
-        LINES,
-    ),
-    (
-        "[[[0,1],[1,0],[1,0]],[[1,0],[0,1],[0,1]]]",
-        r#"[{"type":"LineString","arcs":[0]},{"type":"LineString","arcs":[1]}]"#,
-        CROSSING,
-    ),
-    (
-        "[[[1,0],[-1,0],[0,1],[1,0],[0,-1]]]",
-        r#"[{"type":"Polygon","arcs":[[-1]]}]"#,
-        ONE_SQUARE,
-    ),
-    (
-        "[[[1,0],[-1,0],[0,1],[1,0]],[[1,0],[0,1]],[[1,0],[1,0],[0,1],[-1,0]]]",
-        r#"[{"type":"Polygon","arcs":[[-1,1]]},{"type":"Polygon","arcs":[[2,-2]]}]"#,
-        SQUARES,
-    ),
-    (
-        "[[[1,0],[-1,0],[0,1],[1,0]],[[1,0],[0,1]],[[1,0],[1,0],[0,1],[-1,0]]]",
-        r#"[{"type":"Polygon","arcs":[[2,-2]]},{"type":"Polygon","arcs":[[1,-1]]}]"#,
-        SQUARES,
-    ),
-    (
-        "[[[1,0],[-1,0],[0,1],[1,0]],[[1,0],[0,1]],[[1,0],[1,0],[0,1],[-1,0]]]",
+const OTHERS: &[(&str, &str, &str)] = rows![
+    "[[[1,0],[0,1]],[[1,0],[-1,0],[0,1],[1,0]],[[1,0],[1,0],[0,1],[-1,0]]]",
+        r#"[{"type":"Polygon","arcs":[[0,-2]]},{"type":"Polygon","arcs":[[2,-1]]}]"#, SHARED_EDGE;
+    "[[[1,0],[-1,0],[0,1],[1,0]],[[1,0],[1,0],[0,1],[-1,0]],[[1,1],[0,-1]]]",
+        r#"[{"type":"Polygon","arcs":[[-3,-1]]},{"type":"Polygon","arcs":[[1,2]]}]"#, SHARED_EDGE;
+    "[[[1,0],[-1,0],[0,1],[1,0]],[[1,0],[0,1]],[[1,0],[1,0],[0,1],[-1,0]],[[3,3],[1,1]]]",
+        r#"[{"type":"Polygon","arcs":[[1,-1]]},{"type":"Polygon","arcs":[[2,-2]]}]"#, SHARED_EDGE;
+    "[[[0,0],[0,1],[1,0]],[[0,0],[1,0]],[[1,0],[0,1]],[[1,0],[1,0],[0,1],[-1,0]]]",
+        r#"[{"type":"Polygon","arcs":[[1,2,-1]]},{"type":"Polygon","arcs":[[3,-3]]}]"#, SHARED_EDGE;
+    "[[[0,0],[1,0],[1,0]],[[1,0],[0,1]]]",
+        r#"[{"type":"LineString","arcs":[0]},{"type":"LineString","arcs":[1]}]"#, LINES;
+    "[[[0,1],[1,0],[1,0]],[[1,0],[0,1],[0,1]]]",
+        r#"[{"type":"LineString","arcs":[0]},{"type":"LineString","arcs":[1]}]"#, CROSSING;
+    "[[[1,0],[-1,0],[0,1],[1,0],[0,-1]]]", r#"[{"type":"Polygon","arcs":[[-1]]}]"#, FIRST;
+    "[[[1,0],[-1,0],[0,1],[1,0]],[[1,0],[0,1]],[[1,0],[1,0],[0,1],[-1,0]]]",
+        r#"[{"type":"Polygon","arcs":[[-1,1]]},{"type":"Polygon","arcs":[[2,-2]]}]"#, SHARED_EDGE;
+    "[[[1,0],[-1,0],[0,1],[1,0]],[[1,0],[0,1]],[[1,0],[1,0],[0,1],[-1,0]]]",
+        r#"[{"type":"Polygon","arcs":[[2,-2]]},{"type":"Polygon","arcs":[[1,-1]]}]"#, SHARED_EDGE;
+    "[[[1,0],[-1,0],[0,1],[1,0]],[[1,0],[0,1]],[[1,0],[1,0],[0,1],[-1,0]]]",
         r#"[{"type":"Polygon","arcs":[[1,-1]]},{"type":"Polygon","arcs":[[1,-1]]},{"type":"Polygon","arcs":[[2,-2]]}]"#,
-        SQUARES,
-    ),
+        SHARED_EDGE;
 ];
 
 #[test]
@@ -149,38 +118,21 @@ fn others_are_read_and_built(rt: HostRuntime) -> Result<(), Fail> {
 /// Arcs and geometries that are refused, and the least fault: a line that uses an arc twice, a line twice round a
 /// square, a line that is broken off, a ring that doesn't close, an arc that there isn't, an arc of one position, and a
 /// list that doesn't stitch before a number that is no id.
-const REFUSED: &[(&str, &str, &str)] = &[
-    (
-        "[[[0,0],[1,0],[0,1]]]",
-        r#"[{"type":"LineString","arcs":[0,-1]}]"#,
-        "10 $/objects/a/geometries/0/arcs",
-    ),
-    (
-        "[[[0,0],[0,1],[1,0],[0,-1],[-1,0]]]",
+const REFUSED: &[(&str, &str, &str)] = rows![
+    "[[[0,0],[1,0],[0,1]]]", r#"[{"type":"LineString","arcs":[0,-1]}]"#,
+        "10 $/objects/a/geometries/0/arcs";
+    "[[[0,0],[0,1],[1,0],[0,-1],[-1,0]]]",
         r#"[{"type":"LineString","arcs":[0,0]},{"type":"Polygon","arcs":[[0]]}]"#,
-        "10 $/objects/a/geometries/0/arcs",
-    ),
-    (
-        "[[[0,0],[1,0]],[[2,0],[1,0]]]",
-        r#"[{"type":"LineString","arcs":[0,1]}]"#,
-        "12 $/objects/a/geometries/0/arcs",
-    ),
-    (
-        "[[[0,0],[1,0],[0,1]]]",
-        r#"[{"type":"Polygon","arcs":[[0]]}]"#,
-        "9 $/objects/a/geometries/0/arcs/0",
-    ),
-    (
-        "[[[0,0],[1,0]]]",
-        r#"[{"type":"LineString","arcs":[1]}]"#,
-        "11 $/objects/a/geometries/0/arcs/0",
-    ),
-    ("[[[0,0]]]", "[]", "8 $/arcs/0"),
-    (
-        "[[[0,0],[1,0]],[[2,0],[1,0]]]",
+        "10 $/objects/a/geometries/0/arcs";
+    "[[[0,0],[1,0]],[[2,0],[1,0]]]", r#"[{"type":"LineString","arcs":[0,1]}]"#,
+        "12 $/objects/a/geometries/0/arcs";
+    "[[[0,0],[1,0],[0,1]]]", r#"[{"type":"Polygon","arcs":[[0]]}]"#,
+        "9 $/objects/a/geometries/0/arcs/0";
+    "[[[0,0],[1,0]]]", r#"[{"type":"LineString","arcs":[1]}]"#, "11 $/objects/a/geometries/0/arcs/0";
+    "[[[0,0]]]", "[]", "8 $/arcs/0";
+    "[[[0,0],[1,0]],[[2,0],[1,0]]]",
         r#"[{"type":"LineString","arcs":[0,1]},{"type":"LineString","arcs":[0],"id":true}]"#,
-        "12 $/objects/a/geometries/0/arcs",
-    ),
+        "12 $/objects/a/geometries/0/arcs";
 ];
 
 #[test]

@@ -1,8 +1,9 @@
-//! Maps drawn as lines and rings of places, their topologies, and comparisons of arcs: what several
-//! crates of tests share.
+//! Maps drawn as lines and rings of places, their topologies, corners with names, and comparisons of
+//! arcs: what several crates of tests share.
 #![tactic(auto)]
 
 mod comparing;
+pub mod corners;
 
 pub use comparing::{are_used, refs_of, same_arcs};
 use grid::{Grid, Pos};
@@ -50,6 +51,18 @@ pub fn positions(alloc: Global, places: &[(i64, i64)]) -> Result<Vec<Pos>, Fail>
     let mut made = Vec::new(alloc);
     for (x, y) in places {
         made.push(Pos::new(*x, *y).ok_or("outside the limits")?)?;
+    }
+    Ok(made)
+}
+
+/// The arcs of places, as lists.
+///
+/// # Errors
+/// Where a place is outside the limits of grid numbers, or memory is refused.
+pub fn lists(alloc: Global, arcs: &[&[(i64, i64)]]) -> Result<Vec<Items<Pos>>, Fail> {
+    let mut made = Vec::new(alloc);
+    for places in arcs {
+        made.push(Items::from_vec(positions(alloc, places)?))?;
     }
     Ok(made)
 }

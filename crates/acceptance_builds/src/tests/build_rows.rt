@@ -1,16 +1,17 @@
 //! What `build` prints.
 use command_runs::inputs::{
-    A, B, BOTH_SQUARES, BOW_TIE, BOW_TIE_TOPOLOGY, EMPTY, FREE_LOOP, LOOPED_LINE,
-    LOOPED_LINE_TOPOLOGY, NOTHING, ONE_SQUARE, SHARED_EDGE, SQUARES, T, UNIONS,
+    A, B, BOTH_SQUARES, BOW_TIE, BOW_TIE_TOPOLOGY, LOOPED_LINE, LOOPED_LINE_TOPOLOGY, NOTHING,
+    SQUARES, T, UNIONS,
 };
-use command_runs::{build, build_all, rows, topology};
+use command_runs::{build, build_all};
 use std::test::Fail;
+use worked_texts::{EMPTY, FIRST, FREE_LOOP, SHARED_EDGE, rows, topology};
 
 /// Each row is a title, a GeoJSON text, and the topology that is built from it in the layer `a`.
 const TEXTS: &[(&str, &str, &str)] = rows![
     // Maps.
     "empty", NOTHING, EMPTY;
-    "one square", A, ONE_SQUARE;
+    "one square", A, FIRST;
     "shared edge", SQUARES, SHARED_EDGE;
     "free loop, used reversed", T, FREE_LOOP;
     "one feature with both squares", BOTH_SQUARES,

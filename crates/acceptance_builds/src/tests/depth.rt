@@ -1,7 +1,8 @@
 //! Properties nest at most 64 containers, of which the properties object is the first.
-use command_runs::{build, run_words, topology};
+use command_runs::{build, run_words};
 use std::alloc::{AllocError, Global};
 use std::test::Fail;
+use worked_texts::topology;
 
 /// Arrays in one another, the innermost empty.
 fn arrays(alloc: Global, depth: usize) -> Result<String, AllocError> {

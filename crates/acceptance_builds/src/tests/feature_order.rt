@@ -1,7 +1,8 @@
 //! The order of features: by id (none, numbers, texts), then by the bytes of the properties' text,
 //! then by type, then by positions.
-use command_runs::{build_all, topology};
+use command_runs::build_all;
 use std::test::Fail;
+use worked_texts::topology;
 
 /// Features from the last to the first.
 const FEATURES: &[&str] = &[

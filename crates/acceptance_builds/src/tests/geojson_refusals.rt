@@ -1,6 +1,7 @@
 //! GeoJSON texts that `build` refuses, each with the least of its faults.
-use command_runs::{rows, run_words};
+use command_runs::run_words;
 use std::test::Fail;
+use worked_texts::rows;
 
 /// Builds the text as a file on a grid, which refuses it with this fault and prints nothing.
 fn assert_refused<R: AllocGlobal>(

@@ -1,7 +1,8 @@
 //! GeoJSON texts that are cut off, and one that says members twice.
 use command_runs::inputs::{A, SQUARES};
-use command_runs::{build, run_on_bytes, topology};
+use command_runs::{build, run_on_bytes};
 use std::test::Fail;
+use worked_texts::topology;
 
 /// Each proper beginning of the text is no JSON, and nothing is printed.
 fn assert_beginnings_refused<R: AllocGlobal>(rt: &R, text: &[u8]) -> Result<(), Fail> {

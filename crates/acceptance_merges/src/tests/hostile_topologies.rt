@@ -1,9 +1,9 @@
 //! Topology texts that are cut off, or have a byte replaced.
-use command_runs::inputs::{OTHER_TOOL, SHARED_EDGE};
 use command_runs::{Run, run_on_bytes};
 use sinks::Kept;
 use std::process::Abort;
 use std::test::Fail;
+use worked_texts::{OTHER_TOOL, SHARED_EDGE};
 
 /// Each proper beginning of the text is refused by `merge`.
 fn assert_beginnings_refused<R: Abort + AllocGlobal>(rt: &R, text: &[u8]) -> Result<(), Fail> {

@@ -1,10 +1,11 @@
 //! `merge_texts` by plans of any form: its answers, and its faults in their order.
-use command_runs::inputs::{A, B, EMPTY, FREE_LOOP, ONE_SQUARE, OTHER_TOOL, SHARED_EDGE};
-use command_runs::{build, rows, topology};
+use command_runs::build;
+use command_runs::inputs::{A, B};
 use refine::{MergeFault, Plan, merge_texts};
 use shapes::{Fault, Step};
 use std::alloc::{AllocError, Global};
 use std::test::Fail;
+use worked_texts::{EMPTY, FIRST, FREE_LOOP, OTHER_TOOL, SHARED_EDGE, rows, topology};
 
 /// A step of making a plan: a leaf, or a node of the two plans made last.
 #[derive(Clone, Copy)]
@@ -69,17 +70,17 @@ const OTHER_SCALE: &str =
 
 /// Each row is a title, texts, a plan over them, and the merged text or the fault.
 const ROWS: &[(&str, &[&str], &[Make], &str)] = rows![
-    "a refused text that the plan does not name", &[ONE_SQUARE, "{}"], &[Make::Leaf(0)], "Text 1: Missing $/type";
-    "a refused text comes before another transform", &[ONE_SQUARE, OTHER_SCALE, "{}"], &[Make::Leaf(0)], "Text 2: Missing $/type";
-    "another transform that the plan does not name", &[ONE_SQUARE, OTHER_SCALE], &[Make::Leaf(0)], "OtherGrid 1";
+    "a refused text that the plan does not name", &[FIRST, "{}"], &[Make::Leaf(0)], "Text 1: Missing $/type";
+    "a refused text comes before another transform", &[FIRST, OTHER_SCALE, "{}"], &[Make::Leaf(0)], "Text 2: Missing $/type";
+    "another transform that the plan does not name", &[FIRST, OTHER_SCALE], &[Make::Leaf(0)], "OtherGrid 1";
     "a leaf that is no place comes before a refused text", &["{}"], &[Make::Leaf(0), Make::Leaf(3), Make::Node], "BadPlan 3";
-    "the first leaf from the left", &[ONE_SQUARE, ONE_SQUARE], &[Make::Leaf(7), Make::Leaf(9), Make::Node, Make::Leaf(8), Make::Node], "BadPlan 7";
-    "a leaf past two texts", &[ONE_SQUARE, ONE_SQUARE], &[Make::Leaf(7)], "BadPlan 7";
+    "the first leaf from the left", &[FIRST, FIRST], &[Make::Leaf(7), Make::Leaf(9), Make::Node, Make::Leaf(8), Make::Node], "BadPlan 7";
+    "a leaf past two texts", &[FIRST, FIRST], &[Make::Leaf(7)], "BadPlan 7";
     "no texts", &[], &[Make::Leaf(0)], "BadPlan 0";
-    "one text of two", &[ONE_SQUARE, FREE_LOOP], &[Make::Leaf(1)], FREE_LOOP;
+    "one text of two", &[FIRST, FREE_LOOP], &[Make::Leaf(1)], FREE_LOOP;
     "layers of one text and of the other", &[EMPTY, topology!(r#"{"arcs":[],"objects":{"b":{"geometries":[],"type":"GeometryCollection"}},"#)], &[Make::Leaf(1), Make::Leaf(0), Make::Node],
         topology!(r#"{"arcs":[],"objects":{"a":{"geometries":[],"type":"GeometryCollection"},"b":{"geometries":[],"type":"GeometryCollection"}},"#);
-    "a text merged with itself", &[OTHER_TOOL], &[Make::Leaf(0), Make::Leaf(0), Make::Node], ONE_SQUARE;
+    "a text merged with itself", &[OTHER_TOOL], &[Make::Leaf(0), Make::Leaf(0), Make::Node], FIRST;
 ];
 
 #[test]

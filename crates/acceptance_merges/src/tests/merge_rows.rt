@@ -1,8 +1,9 @@
 //! What `merge` prints: the topology of all features, whatever the order and grouping of the files.
-use command_runs::inputs::{A, B, C, SHARED_EDGE, UNIONS, Union};
+use command_runs::inputs::{A, B, C, UNIONS, Union};
 use command_runs::{Outcome, Run, build, run_words};
 use std::alloc::Global;
 use std::test::Fail;
+use worked_texts::SHARED_EDGE;
 
 /// All orders of two and of three files.
 pub(crate) const ORDERS: &[&[usize]] = &[

@@ -1,10 +1,9 @@
 //! What `remove` prints: the topology of the features that stay; and its faults in their order.
-use command_runs::inputs::{
-    A, B, C, EMPTY, FREE_LOOP, NOTHING, ONE_SQUARE, SHARED_EDGE, SQUARES, T,
-};
-use command_runs::{Outcome, build, build_all, rows, run_words, topology};
+use command_runs::inputs::{A, B, C, NOTHING, SQUARES, T};
+use command_runs::{Outcome, build, build_all, run_words};
 use std::alloc::Global;
 use std::test::Fail;
+use worked_texts::{EMPTY, ENDS, FIRST, FREE_LOOP, SHARED_EDGE, rows, topology};
 
 /// Runs `remove` on the texts of two topologies.
 fn remove(alloc: Global, whole: &str, gone: &str) -> Result<Outcome, Fail> {
@@ -20,9 +19,9 @@ fn remove(alloc: Global, whole: &str, gone: &str) -> Result<Outcome, Fail> {
 const ROWS: &[(&str, &[&str], &str, &str, &str)] = rows![
     "the seam comes back", &[T, r#"{"type":"LineString","coordinates":[[2,0],[3,0]]}"#], "a", r#"{"type":"LineString","coordinates":[[2,0],[3,0]]}"#,
         FREE_LOOP;
-    "one of two squares", &[A, B], "a", B, ONE_SQUARE;
+    "one of two squares", &[A, B], "a", B, FIRST;
     "the middle one of three squares", &[A, B, C], "a", B,
-        topology!(r#"{"arcs":[[[0,0],[0,1],[1,0],[0,-1],[-1,0]],[[2,0],[0,1],[1,0],[0,-1],[-1,0]]],"bbox":[0,0,3,1],"objects":{"a":{"geometries":[{"arcs":[[-1]],"type":"Polygon"},{"arcs":[[-2]],"type":"Polygon"}],"type":"GeometryCollection"}},"#);
+        ENDS;
     "a line that a junction cut is whole again", &[r#"{"type":"LineString","coordinates":[[0,0],[1,0],[2,0]]}"#, r#"{"type":"LineString","coordinates":[[0,0],[1,0],[1,1]]}"#], "a", r#"{"type":"LineString","coordinates":[[0,0],[1,0],[1,1]]}"#,
         topology!(r#"{"arcs":[[[0,0],[1,0],[1,0]]],"bbox":[0,0,2,0],"objects":{"a":{"geometries":[{"arcs":[0],"type":"LineString"}],"type":"GeometryCollection"}},"#);
     "all features of a layer", &[A, B], "a", SQUARES, EMPTY;
@@ -45,7 +44,7 @@ fn what_is_left(rt: HostRuntime) -> Result<(), Fail> {
 #[test]
 fn a_merge_is_undone(rt: HostRuntime) -> Result<(), Fail> {
     let alone = build_all(rt.alloc(), "a", &[A])?;
-    let left = remove(rt.alloc(), SHARED_EDGE, ONE_SQUARE)?;
+    let left = remove(rt.alloc(), SHARED_EDGE, FIRST)?;
     let files = [
         ("left.json", left.out.as_str()),
         ("alone.json", alone.out.as_str()),

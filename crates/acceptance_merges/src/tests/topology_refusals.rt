@@ -1,6 +1,7 @@
 //! Topology texts that are refused, each with the least of its faults.
-use command_runs::{rows, run_words};
+use command_runs::run_words;
 use std::test::Fail;
+use worked_texts::rows;
 
 /// The text of a topology with these arcs, and one layer `a`.
 macro_rules! layer {

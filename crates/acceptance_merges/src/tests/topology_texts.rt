@@ -1,18 +1,16 @@
 //! Topology texts of other tools, and of this one: what `check` says of them, and their canonical
 //! text by `merge`.
-use command_runs::inputs::{
-    BOW_TIE_TOPOLOGY, EMPTY, FREE_LOOP, LOOPED_LINE_TOPOLOGY, ONE_SQUARE, OTHER_TOOL, SHARED_EDGE,
-    UNIONS,
-};
-use command_runs::{rows, run_words, topology};
+use command_runs::inputs::{BOW_TIE_TOPOLOGY, LOOPED_LINE_TOPOLOGY, UNIONS};
+use command_runs::run_words;
 use std::test::Fail;
+use worked_texts::{EMPTY, FIRST, FREE_LOOP, NO_LAYERS, OTHER_TOOL, SHARED_EDGE, rows, topology};
 
 /// Each row is a title, a text that is not canonical, and the canonical text of what it means.
 const OTHERS: &[(&str, &str, &str)] = rows![
-    "another tool's text", OTHER_TOOL, ONE_SQUARE;
+    "another tool's text", OTHER_TOOL, FIRST;
     "a newline at the end", concat!(r#"{"arcs":[],"objects":{"a":{"geometries":[],"type":"GeometryCollection"}},"transform":{"scale":[1,1],"translate":[0,0]},"type":"Topology"}"#, "\n"),
         EMPTY;
-    "an arc that nothing uses", topology!(r#"{"arcs":[[[1000000000,0],[1,0]]],"objects":{},"#), topology!(r#"{"arcs":[],"objects":{},"#);
+    "an arc that nothing uses", topology!(r#"{"arcs":[[[1000000000,0],[1,0]]],"objects":{},"#), NO_LAYERS;
     "a null shape with arcs", topology!(r#"{"arcs":[],"objects":{"a":{"type":null,"arcs":[99],"id":"n"}},"#),
         topology!(r#"{"arcs":[],"objects":{"a":{"geometries":[{"id":"n","type":null}],"type":"GeometryCollection"}},"#);
     "an arc with equal neighbours", topology!(r#"{"arcs":[[[0,0],[0,0],[1,0]]],"objects":{"a":{"type":"LineString","arcs":[0]}},"#),
@@ -50,7 +48,7 @@ fn assert_canonical<R: AllocGlobal>(rt: &R, text: &str) -> Result<(), Fail> {
 
 const CANONICAL: &[&str] = &[
     EMPTY,
-    ONE_SQUARE,
+    FIRST,
     SHARED_EDGE,
     FREE_LOOP,
     BOW_TIE_TOPOLOGY,

@@ -1,8 +1,9 @@
 //! What `info` prints, and `neighbors` with ids.
-use command_runs::inputs::{A, B, C, EMPTY, NOTHING, S, SHARED_EDGE};
+use command_runs::inputs::{A, B, C, NOTHING, S};
 use command_runs::{Outcome, build, run_words};
 use std::alloc::Global;
 use std::test::Fail;
+use worked_texts::{EMPTY, SHARED_EDGE};
 
 const NULL: &str = r#"{"type":"Feature","geometry":null,"properties":null}"#;
 

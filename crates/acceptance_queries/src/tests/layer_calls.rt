@@ -1,6 +1,6 @@
 //! `write_layer`, `feature`, `mesh`, `neighbors` and the writers of their answers, called on topologies.
 use command_runs::build;
-use command_runs::inputs::{BOW_TIE_TOPOLOGY, EMPTY, SHARED_EDGE, SQUARES};
+use command_runs::inputs::{BOW_TIE_TOPOLOGY, SQUARES};
 use query::{
     LayerFault, QueryFault, feature, mesh, neighbors, write_layer, write_mesh, write_neighbors,
 };
@@ -9,6 +9,7 @@ use sinks::{Answer, Kept, Script};
 use std::alloc::{AllocError, Global};
 use std::test::Fail;
 use topo::Topology;
+use worked_texts::{EMPTY, SHARED_EDGE};
 
 /// Two squares that share an edge, and the collection that they are printed as.
 const SQUARES_PRINTED: &str =

@@ -1,7 +1,8 @@
 //! What `feature`, `mesh` and `neighbors` print.
-use command_runs::inputs::{A, B, BOTH_SQUARES, C, NOTHING, S, SHARED_EDGE, SQUARES, T};
-use command_runs::{build, rows, run_words};
+use command_runs::inputs::{A, B, BOTH_SQUARES, C, NOTHING, S, SQUARES, T};
+use command_runs::{build, run_words};
 use std::test::Fail;
+use worked_texts::{SHARED_EDGE, rows};
 
 /// The right edge of `A`.
 const EDGE: &str = r#"{"type":"LineString","coordinates":[[1,0],[1,1]]}"#;

@@ -1,8 +1,9 @@
 //! The file word `-`, which stands for standard input.
-use command_runs::inputs::{EMPTY, ONE_SQUARE, SHARED_EDGE, SQUARES};
-use command_runs::{Outcome, Run, rows, topology};
+use command_runs::inputs::SQUARES;
+use command_runs::{Outcome, Run};
 use std::alloc::Global;
 use std::test::Fail;
+use worked_texts::{EMPTY, FIRST, SECOND, SHARED_EDGE, rows};
 
 /// Each row is words, the text of standard input, and what is printed.
 const READ: &[(&[&str], &str, &str)] = rows![
@@ -12,7 +13,7 @@ const READ: &[(&[&str], &str, &str)] = rows![
     &["merge", "-"], SHARED_EDGE, SHARED_EDGE;
     &["merge", "shared.json", "-", "shared.json"], SHARED_EDGE, SHARED_EDGE;
     &["remove", "-", "square.json"], SHARED_EDGE,
-        topology!(r#"{"arcs":[[[1,0],[0,1],[1,0],[0,-1],[-1,0]]],"bbox":[1,0,2,1],"objects":{"a":{"geometries":[{"arcs":[[-1]],"type":"Polygon"}],"type":"GeometryCollection"}},"#);
+        SECOND;
     &["remove", "square.json", "-"], SHARED_EDGE, EMPTY;
     &["feature", "--layer", "none", "-"], r#"{"type":"Topology","transform":{"scale":[1,1],"translate":[0,0]},"arcs":[],"objects":{"none":{"type":"GeometryCollection","geometries":[]}}}"#,
         r#"{"features":[],"type":"FeatureCollection"}"#;
@@ -26,7 +27,7 @@ fn run_of(alloc: Global, words: &[&str]) -> Result<Run, Fail> {
     let mut run = Run::new(alloc, words)?;
     run.add_file("squares.json", SQUARES.as_bytes())?;
     run.add_file("shared.json", SHARED_EDGE.as_bytes())?;
-    run.add_file("square.json", ONE_SQUARE.as_bytes())?;
+    run.add_file("square.json", FIRST.as_bytes())?;
     run.add_file("-", b"the file of that name")?;
     run.add_file("./-", SHARED_EDGE.as_bytes())?;
     Ok(run)

@@ -1,7 +1,8 @@
 //! The words of the command: usage, the grid's word, layers' words, files that can't be read.
-use command_runs::inputs::{A, EMPTY, NOTHING, SHARED_EDGE};
-use command_runs::{Outcome, rows, run_words};
+use command_runs::inputs::{A, NOTHING};
+use command_runs::{Outcome, run_words};
 use std::test::Fail;
+use worked_texts::{EMPTY, SHARED_EDGE, rows};
 
 const FILES: &[(&str, &str)] = &[
     ("A.json", A),

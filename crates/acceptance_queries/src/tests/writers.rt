@@ -1,11 +1,12 @@
 //! Writers that fail, and writers that take little.
-use command_runs::inputs::{SHARED_EDGE, SQUARES};
+use command_runs::inputs::SQUARES;
 use command_runs::{Run, script};
 use sinks::{Answer, Kept, Script, Tap};
 use std::alloc::{AllocError, Global};
 use std::io;
 use std::process::Abort;
 use std::test::Fail;
+use worked_texts::SHARED_EDGE;
 
 const BUILD: &[&str] = &["build", "--grid", "1,1,0,0", "a=squares.json"];
 

@@ -1,5 +1,4 @@
 //! Merging of texts and shards by plans: answers, faults in their order, and deep plans.
-use crate::tests::texts::{ENDS, FIRST, ON_SCALE_TWO, SECOND, THIRD, THREE};
 use faults::{Fault, FaultKind};
 use grid::transform::Grid;
 use refine::fault::{MergeFault, PlanFault};
@@ -11,6 +10,7 @@ use shapes::feature_map::FeatureMap;
 use std::alloc::Global;
 use std::process::Abort;
 use std::test::Fail;
+use worked_texts::{EMPTY, ENDS, FIRST, ON_SCALE_TWO, SECOND, THIRD, THREE};
 
 fn texts(alloc: Global, list: &[&str]) -> Result<Vec<Vec<u8>>, Fail> {
     let mut made = Vec::new(alloc);
@@ -303,9 +303,6 @@ fn deep_plan(alloc: Global, sides: (bool, bool)) -> Result<Plan, Fail> {
     Ok(plan)
 }
 
-const ONE_LAYER: &str =
-    "{\"arcs\":[],\"objects\":{\"a\":{\"geometries\":[],\"type\":\"GeometryCollection\"}},\"transform\":{\"scale\":[1,1],\"translate\":[0,0]},\"type\":\"Topology\"}";
-
 fn check_deep(
     rt: &impl Abort,
     alloc: Global,
@@ -313,7 +310,7 @@ fn check_deep(
     sides: (bool, bool),
 ) -> Result<(), Fail> {
     let plan = deep_plan(alloc, sides)?;
-    check_joined(rt, alloc, shards, &plan, ONE_LAYER)?;
+    check_joined(rt, alloc, shards, &plan, EMPTY)?;
     let past = node(alloc, plan, Plan::Leaf(1))?;
     assert!(rt; run_plan(alloc, shards, &past).err() == Some(PlanFault::BadPlan(1)));
     Ok(())

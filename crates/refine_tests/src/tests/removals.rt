@@ -1,31 +1,12 @@
 //! Features taken out of topologies: the text that is left, and the old arcs of each new one. Expected
 //! texts and indexes are worked out by hand.
-use crate::tests::texts::{ENDS, FIRST, SECOND, SHARED_EDGE, THREE, topology};
 use refine::remove::{Removal, remove};
 use std::alloc::Global;
 use std::process::Abort;
 use std::test::Fail;
 use topo::Topology;
 use worked_maps::are_used;
-
-/// A topology, another one whose features are taken out, what is left, and for each of its arcs the
-/// indexes of the old ones.
-#[derive(Clone, Copy)]
-struct Row {
-    title: &'static str,
-    topology: &'static str,
-    removed: &'static str,
-    left: &'static str,
-    pieces: &'static [&'static [i64]],
-}
-
-const EMPTY: &str = topology!(
-    r#"{"arcs":[],"objects":{"a":{"geometries":[],"type":"GeometryCollection"}},"#
-);
-
-const FREE_LOOP: &str = topology!(
-    r#"{"arcs":[[[0,0],[0,2],[2,-2],[-2,0]]],"bbox":[0,0,2,2],"objects":{"a":{"geometries":[{"arcs":[[-1]],"type":"Polygon"}],"type":"GeometryCollection"}},"#
-);
+use worked_texts::{EMPTY, FIRST, REMOVALS, Removed, SECOND, SHARED_EDGE, topology};
 
 const LINES: &str = topology!(
     r#"{"arcs":[[[0,0],[1,0]],[[1,0],[0,1]],[[1,0],[1,0]]],"bbox":[0,0,2,1],"objects":{"a":{"geometries":[{"arcs":[0,1],"type":"LineString"},{"arcs":[0,2],"type":"LineString"}],"type":"GeometryCollection"}},"#
@@ -39,28 +20,11 @@ const PINCHED: &str = topology!(
     r#"{"arcs":[[[0,0],[0,1],[1,0],[1,-1],[0,1],[-1,0],[-1,-1]]],"bbox":[0,0,2,1],"objects":{"a":{"geometries":[{"arcs":[[0]],"type":"Polygon"}],"type":"GeometryCollection"}},"#
 );
 
-const ROWS: &[Row] = &[
-    Row {
-        title: "the seam vanishes",
-        topology: topology!(
-            r#"{"arcs":[[[2,0],[-2,0],[0,2],[2,-2]],[[2,0],[1,0]]],"bbox":[0,0,3,2],"objects":{"a":{"geometries":[{"arcs":[1],"type":"LineString"},{"arcs":[[-1]],"type":"Polygon"}],"type":"GeometryCollection"}},"#
-        ),
-        removed: topology!(
-            r#"{"arcs":[[[2,0],[1,0]]],"bbox":[2,0,3,0],"objects":{"a":{"geometries":[{"arcs":[0],"type":"LineString"}],"type":"GeometryCollection"}},"#
-        ),
-        left: FREE_LOOP,
-        pieces: &[&[0]],
-    },
-    Row {
-        title: "one of two squares with a shared edge",
-        topology: SHARED_EDGE,
-        removed: SECOND,
-        left: FIRST,
-        pieces: &[&[0, -2]],
-    },
-    Row {
+/// Removals with a junction that goes, or a list that does not begin at the least corner.
+const OTHERS: &[Removed] = &[
+    Removed {
         title: "a junction of the union alone",
-        topology: LINES,
+        whole: LINES,
         removed: topology!(
             r#"{"arcs":[[[0,0],[1,0],[0,1]]],"bbox":[0,0,1,1],"objects":{"a":{"geometries":[{"arcs":[0],"type":"LineString"}],"type":"GeometryCollection"}},"#
         ),
@@ -69,30 +33,16 @@ const ROWS: &[Row] = &[
         ),
         pieces: &[&[0, 2]],
     },
-    Row {
-        title: "the middle one of three squares",
-        topology: THREE,
-        removed: SECOND,
-        left: ENDS,
-        pieces: &[&[0, -2], &[4, -6]],
-    },
-    Row {
-        title: "all of two squares: the layer keeps its name",
-        topology: SHARED_EDGE,
-        removed: SHARED_EDGE,
-        left: EMPTY,
-        pieces: &[],
-    },
-    Row {
+    Removed {
         title: "a square whose list begins at a junction, and not at its least corner",
-        topology: SHARED_EDGE,
+        whole: SHARED_EDGE,
         removed: FIRST,
         left: SECOND,
         pieces: &[&[1, -3]],
     },
-    Row {
+    Removed {
         title: "a ring that comes to a vertex again",
-        topology: PINCHED,
+        whole: PINCHED,
         removed: PINCHED,
         left: EMPTY,
         pieces: &[],
@@ -103,9 +53,9 @@ const ROWS: &[Row] = &[
 /// another topology, none of whose features is among its own.
 macro_rules! kept {
     ($($title:literal: $topology:expr, $pieces:expr, $removed:expr;)+) => {
-        &[$(Row {
+        &[$(Removed {
             title: $title,
-            topology: $topology,
+            whole: $topology,
             removed: $removed,
             left: $topology,
             pieces: $pieces,
@@ -113,7 +63,7 @@ macro_rules! kept {
     };
 }
 
-const KEPT: &[Row] = kept![
+const KEPT: &[Removed] = kept![
     "a feature with another id": SHARED_EDGE, &[&[0], &[1], &[2]],
         topology!(r#"{"arcs":[[[0,0],[0,1],[1,0],[0,-1],[-1,0]]],"bbox":[0,0,1,1],"objects":{"a":{"geometries":[{"arcs":[[-1]],"id":1,"type":"Polygon"}],"type":"GeometryCollection"}},"#);
     "a feature of another layer": SHARED_EDGE, &[&[0], &[1], &[2]],
@@ -143,7 +93,7 @@ fn removal(alloc: Global, topology: &str, removed: &str) -> Result<Removal, Fail
     Ok(remove(alloc, &topology, &others)?)
 }
 
-fn assert_pieces(rt: &impl Abort, row: &Row, made: &Removal) -> Result<(), Fail> {
+fn assert_pieces(rt: &impl Abort, row: &Removed, made: &Removal) -> Result<(), Fail> {
     for (number, indexes) in row.pieces.iter().enumerate() {
         let pieces = made.pieces(number).ok_or("no pieces")?;
         assert!(rt; are_used(pieces, indexes), "{}", row.title);
@@ -153,9 +103,9 @@ fn assert_pieces(rt: &impl Abort, row: &Row, made: &Removal) -> Result<(), Fail>
 }
 
 /// What is left, lent and handed out, and the old arcs of each new one, are those of each row.
-fn assert_rows<R: Abort + AllocGlobal>(rt: &R, rows: &[Row]) -> Result<(), Fail> {
+fn assert_rows<R: Abort + AllocGlobal>(rt: &R, rows: &[Removed]) -> Result<(), Fail> {
     for row in rows {
-        let made = removal(rt.alloc(), row.topology, row.removed)?;
+        let made = removal(rt.alloc(), row.whole, row.removed)?;
         assert_pieces(rt, row, &made)?;
         let text = topo_io::text_of(rt.alloc(), made.topology())?;
         assert!(rt; text.as_slice() == row.left.as_bytes(), "{}", row.title);
@@ -167,7 +117,8 @@ fn assert_rows<R: Abort + AllocGlobal>(rt: &R, rows: &[Row]) -> Result<(), Fail>
 
 #[test]
 fn features_taken_out(rt: HostRuntime) -> Result<(), Fail> {
-    assert_rows(&rt, ROWS)
+    assert_rows(&rt, REMOVALS)?;
+    assert_rows(&rt, OTHERS)
 }
 
 #[test]

@@ -1,15 +1,12 @@
 //! Sessions: a topology that is edited by joins and removals, and its text. Expected texts are worked
 //! out by hand.
-use crate::tests::texts::{FIRST, ON_SCALE_TWO, SECOND, SHARED_EDGE};
 use grid::Grid;
 use refine::{Edit, EditsFault, JoinFault, Session};
 use std::alloc::Global;
 use std::process::Abort;
 use std::test::Fail;
 use topo::Topology;
-
-const NO_LAYERS: &str =
-    r#"{"arcs":[],"objects":{},"transform":{"scale":[1,1],"translate":[0,0]},"type":"Topology"}"#;
+use worked_texts::{FIRST, NO_LAYERS, ON_SCALE_TWO, SECOND, SHARED_EDGE};
 
 fn start(alloc: Global) -> Result<Session, Fail> {
     let grid = Grid::new(1, 1, 0, 0).ok_or("a grid")?;

@@ -1,5 +1,4 @@
 //! Maps joined by plans over each kind of shard. Expected texts are worked out by hand.
-use crate::tests::texts::THREE;
 use grid::transform::Grid;
 use refine::cut_shard::Cut;
 use refine::shard::Shard;
@@ -10,6 +9,7 @@ use std::alloc::Global;
 use std::process::Abort;
 use std::test::Fail;
 use worked_maps::{FIRST, SECOND, THIRD, line, polygon};
+use worked_texts::THREE;
 
 const FROM_CORNER: &[(i64, i64)] = &[(1, 1), (2, 2)];
 
