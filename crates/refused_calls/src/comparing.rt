@@ -1,10 +1,12 @@
 //! Values compared with copies of them and with what is worked out by hand, without memory.
 
-use crate::texts::Places;
 use chains::{ArcRef, ArcTable};
 use grid::Pos;
-use shapes::{Feature, FeatureMap};
+use shapes::{Feature, FeatureMap, Items};
 use topo::Geom;
+
+/// The places of a line.
+pub type Places = &'static [(i64, i64)];
 
 /// Whether positions are at these places, in their order.
 pub fn stand_at(positions: &[Pos], places: &[(i64, i64)]) -> bool {
@@ -29,6 +31,16 @@ pub fn are_arcs(table: &ArcTable, lines: &[Places]) -> bool {
         }
     }
     table.len() == lines.len()
+}
+
+/// Whether lists are the arcs of a table, in their order.
+pub fn are_listed(arcs: &[Items<Pos>], table: &ArcTable) -> bool {
+    for (number, arc) in arcs.iter().enumerate() {
+        if table.arc(number) != Some(arc.as_slice()) {
+            return false;
+        }
+    }
+    arcs.len() == table.len()
 }
 
 /// Whether two tables have the same arcs, of which the same are free loops.

@@ -2,9 +2,10 @@
 
 use faults::OutOfMemory;
 use refine::{Cut, MergeFault, Plan, PlanFault, Shard, Whole, merge_texts, run_plan};
+use refused_calls::asking::{Lent, Named, settle_each};
 use refused_calls::outcome::{Answer, Outcome, Tally};
-use refused_calls::texts::{FIRST, SECOND, THIRD, THREE};
 use std::alloc::Global;
+use worked_texts::{FIRST, SECOND, THIRD, THREE};
 
 const TEXTS: &[&str] = &[FIRST, SECOND, THIRD];
 
@@ -169,8 +170,8 @@ const CALLS: &[Call] = &[
     Call::Halves,
 ];
 
-impl Call {
-    fn name(self) -> &'static str {
+impl Named for Call {
+    fn name(&self) -> &'static str {
         match self {
             Call::Merge => "merge_texts",
             Call::RunWhole => "run_plan over Whole",
@@ -180,24 +181,30 @@ impl Call {
             Call::Halves => "Plan::halves",
         }
     }
+}
 
-    fn ask(self, alloc: Global, squares: &Squares) -> Answer {
-        match self {
-            Call::Merge => merge(alloc, squares),
-            Call::RunWhole => run(alloc, squares.wholes.as_slice(), &squares.plan),
-            Call::RunCut => run(alloc, squares.cuts.as_slice(), &squares.plan),
+impl Squares {
+    fn ask(&self, alloc: Global, call: &Call) -> Answer {
+        match call {
+            Call::Merge => merge(alloc, self),
+            Call::RunWhole => run(alloc, self.wholes.as_slice(), &self.plan),
+            Call::RunCut => run(alloc, self.cuts.as_slice(), &self.plan),
             Call::Left => judge_plan(Plan::left(alloc, TEXTS.len()), true),
             Call::Right => judge_plan(Plan::right(alloc, TEXTS.len()), false),
             Call::Halves => judge_plan(Plan::halves(alloc, TEXTS.len()), false),
         }
     }
+}
+
+impl Lent for Squares {
+    type Call = Call;
 
     /// Asks, and asks again after want of memory.
-    fn settle(self, alloc: Global, squares: &Squares) -> Outcome {
-        let first = Outcome::of_first(self.ask(alloc, squares), true);
+    fn settle(&self, alloc: Global, call: &Call) -> Outcome {
+        let first = Outcome::of_first(self.ask(alloc, call), true);
         match first {
-            Outcome::Wanting => match squares.is_as_before(alloc) {
-                Answer::Right => Outcome::of_second(self.ask(alloc, squares)),
+            Outcome::Wanting => match self.is_as_before(alloc) {
+                Answer::Right => Outcome::of_second(self.ask(alloc, call)),
                 other => Outcome::of_first(other, true),
             },
             _ => first,
@@ -205,17 +212,8 @@ impl Call {
     }
 }
 
-fn settle_all(rt: &HostRuntime, tally: &mut Tally, squares: &Squares) {
-    for call in CALLS {
-        let outcome = call.settle(rt.alloc(), squares);
-        tally.note(rt, "three squares", call.name(), outcome);
-    }
-}
-
 /// Makes each call of the three squares.
 pub(crate) fn settle(rt: &HostRuntime, tally: &mut Tally) {
-    match Squares::of(rt.alloc()).or_else(|| Squares::of(rt.alloc())) {
-        Some(squares) => settle_all(rt, tally, &squares),
-        None => tally.note(rt, "three squares", "their shards", Outcome::Unprepared),
-    }
+    let lent = Squares::of(rt.alloc()).or_else(|| Squares::of(rt.alloc()));
+    settle_each(rt, tally, "three squares", CALLS, lent);
 }

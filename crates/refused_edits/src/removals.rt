@@ -3,6 +3,7 @@
 use faults::OutOfMemory;
 use refine::Removal;
 use refine::remove::remove;
+use refused_calls::asking::{Asked, Lent, Named, settle_asked, settle_each};
 use refused_calls::comparing::{are_used, same_map};
 use refused_calls::inputs::{built, is_of, read};
 use refused_calls::outcome::{Answer, Outcome, Tally};
@@ -32,10 +33,6 @@ impl Removing {
             copy,
         })
     }
-
-    fn is_as_before(&self) -> bool {
-        is_of(&self.whole, self.row.whole) && same_map(&self.removed, &self.copy)
-    }
 }
 
 fn are_pieces(made: &Removal, lists: &[&[i64]]) -> bool {
@@ -52,36 +49,42 @@ fn are_pieces(made: &Removal, lists: &[&[i64]]) -> bool {
     made.pieces(lists.len()).is_none()
 }
 
-fn ask(alloc: Global, removing: &Removing) -> Answer {
-    match remove(alloc, &removing.whole, &removing.removed) {
-        Ok(made) => Answer::of(
-            is_of(made.topology(), removing.row.left) && are_pieces(&made, removing.row.pieces),
-        ),
-        Err(OutOfMemory) => Answer::Wanting,
+/// The one call.
+struct Remove;
+
+impl Named for Remove {
+    fn name(&self) -> &'static str {
+        "remove"
     }
 }
 
-/// Asks, and asks again after want of memory.
-fn settle_removing(alloc: Global, removing: &Removing) -> Outcome {
-    let first = ask(alloc, removing);
-    let outcome = Outcome::of_first(first, removing.is_as_before());
-    match outcome {
-        Outcome::Wanting => Outcome::of_second(ask(alloc, removing)),
-        _ => outcome,
+impl Lent for Removing {
+    type Call = Remove;
+
+    fn settle(&self, alloc: Global, call: &Remove) -> Outcome {
+        settle_asked(alloc, self, call)
     }
 }
 
-fn settle_row(alloc: Global, row: &'static Removed) -> Outcome {
-    match Removing::of(alloc, row).or_else(|| Removing::of(alloc, row)) {
-        Some(removing) => settle_removing(alloc, &removing),
-        None => Outcome::Unprepared,
+impl Asked for Removing {
+    fn is_as_before(&self) -> bool {
+        is_of(&self.whole, self.row.whole) && same_map(&self.removed, &self.copy)
+    }
+
+    fn ask(&self, alloc: Global, _call: &Remove) -> Answer {
+        match remove(alloc, &self.whole, &self.removed) {
+            Ok(made) => Answer::of(
+                is_of(made.topology(), self.row.left) && are_pieces(&made, self.row.pieces),
+            ),
+            Err(OutOfMemory) => Answer::Wanting,
+        }
     }
 }
 
 /// Takes out what each row says.
 pub(crate) fn settle(rt: &HostRuntime, tally: &mut Tally) {
     for row in REMOVALS {
-        let outcome = settle_row(rt.alloc(), row);
-        tally.note(rt, row.title, "remove", outcome);
+        let lent = Removing::of(rt.alloc(), row).or_else(|| Removing::of(rt.alloc(), row));
+        settle_each(rt, tally, row.title, &[Remove], lent);
     }
 }

@@ -3,12 +3,13 @@
 use faults::OutOfMemory;
 use grid::Grid;
 use refine::{Edit, EditsFault, JoinFault, Session};
+use refused_calls::asking::{Lent, Named, settle_each};
 use refused_calls::comparing::same_map;
 use refused_calls::inputs::{built, is_of, read};
 use refused_calls::outcome::{Answer, Outcome, Tally};
-use refused_calls::texts::{FIRST, NO_LAYERS, SECOND, SHARED_EDGE};
 use shapes::FeatureMap;
 use std::alloc::Global;
+use worked_texts::{FIRST, NO_LAYERS, SECOND, SHARED_EDGE};
 
 /// The texts of a session after none, one, two and three edits.
 const TEXTS: [&str; 4] = [NO_LAYERS, FIRST, SHARED_EDGE, SECOND];
@@ -191,8 +192,8 @@ const CALLS: &[Call] = &[
     Call::Text,
 ];
 
-impl Call {
-    fn name(self) -> &'static str {
+impl Named for Call {
+    fn name(&self) -> &'static str {
         match self {
             Call::Start => "Session::start",
             Call::Join => "Session::apply of a first join",
@@ -202,38 +203,25 @@ impl Call {
             Call::Text => "Session::text",
         }
     }
-
-    fn settle(self, alloc: Global, edits: &Edits) -> Outcome {
-        match self {
-            Call::Start => settle_start(alloc, edits),
-            Call::Join => settle_apply(alloc, edits, 0),
-            Call::JoinBeside => settle_apply(alloc, edits, 1),
-            Call::Remove => settle_apply(alloc, edits, 2),
-            Call::All => settle_all_edits(alloc, edits),
-            Call::Text => settle_text(alloc, edits),
-        }
-    }
-
-    /// Once more where its session could not be made.
-    fn settle_prepared(self, alloc: Global, edits: &Edits) -> Outcome {
-        match self.settle(alloc, edits) {
-            Outcome::Unprepared => self.settle(alloc, edits),
-            outcome => outcome,
-        }
-    }
 }
 
-fn settle_calls(rt: &HostRuntime, tally: &mut Tally, edits: &Edits) {
-    for call in CALLS {
-        let outcome = call.settle_prepared(rt.alloc(), edits);
-        tally.note(rt, "a session", call.name(), outcome);
+impl Lent for Edits {
+    type Call = Call;
+
+    fn settle(&self, alloc: Global, call: &Call) -> Outcome {
+        match call {
+            Call::Start => settle_start(alloc, self),
+            Call::Join => settle_apply(alloc, self, 0),
+            Call::JoinBeside => settle_apply(alloc, self, 1),
+            Call::Remove => settle_apply(alloc, self, 2),
+            Call::All => settle_all_self(alloc, self),
+            Call::Text => settle_text(alloc, self),
+        }
     }
 }
 
 /// Makes each call of sessions.
 pub(crate) fn settle(rt: &HostRuntime, tally: &mut Tally) {
-    match Edits::of(rt.alloc()).or_else(|| Edits::of(rt.alloc())) {
-        Some(edits) => settle_calls(rt, tally, &edits),
-        None => tally.note(rt, "a session", "its edits", Outcome::Unprepared),
-    }
+    let lent = Edits::of(rt.alloc()).or_else(|| Edits::of(rt.alloc()));
+    settle_each(rt, tally, "a session", CALLS, lent);
 }

@@ -4,13 +4,14 @@ use chains::ArcTable;
 use faults::OutOfMemory;
 use grid::Pos;
 use lines::items::Items;
-use refused_calls::comparing::same_arcs;
+use refused_calls::asking::{Asked, Lent, Named, settle_asked, settle_each};
+use refused_calls::comparing::{are_listed, same_arcs};
 use refused_calls::inputs::{built, is_of};
 use refused_calls::outcome::{Answer, Outcome, Tally};
-use refused_calls::texts::{FREE_LOOP, LOOP_AND_LINE, SHARED_EDGE};
 use standing::{free_loops, is_apart};
 use std::alloc::Global;
 use topo::Topology;
+use worked_texts::{FREE_LOOP, LOOP_AND_LINE, SHARED_EDGE};
 
 /// A map, the ends of its lines, and for each of its arcs whether it is a free loop.
 #[derive(Clone, Copy)]
@@ -63,15 +64,6 @@ fn lists(alloc: Global, table: &ArcTable) -> Option<Vec<Items<Pos>>> {
     Some(made)
 }
 
-fn are_lists_of(arcs: &[Items<Pos>], table: &ArcTable) -> bool {
-    for (number, arc) in arcs.iter().enumerate() {
-        if table.arc(number) != Some(arc.as_slice()) {
-            return false;
-        }
-    }
-    arcs.len() == table.len()
-}
-
 fn positions(alloc: Global, places: &[(i64, i64)]) -> Option<Vec<Pos>> {
     let mut made = Vec::new(alloc);
     for (x, y) in places {
@@ -89,11 +81,6 @@ impl Standing {
             topology,
             arcs,
         })
-    }
-
-    fn is_as_before(&self) -> bool {
-        is_of(&self.topology, self.row.topology)
-            && are_lists_of(self.arcs.as_slice(), self.topology.arcs())
     }
 }
 
@@ -125,41 +112,47 @@ fn mark(alloc: Global, standing: &Standing) -> Answer {
     }
 }
 
-fn settle_read(alloc: Global, standing: &Standing) -> Outcome {
-    let outcome = Outcome::of_first(read(alloc, standing), standing.is_as_before());
-    match outcome {
-        Outcome::Wanting => Outcome::of_second(read(alloc, standing)),
-        Outcome::Unprepared => Outcome::of_first(read(alloc, standing), standing.is_as_before()),
-        _ => outcome,
+/// The calls.
+enum Call {
+    Read,
+    Mark,
+}
+
+impl Named for Call {
+    fn name(&self) -> &'static str {
+        match self {
+            Call::Read => "is_apart",
+            Call::Mark => "free_loops",
+        }
     }
 }
 
-fn settle_mark(alloc: Global, standing: &Standing) -> Outcome {
-    let outcome = Outcome::of_first(mark(alloc, standing), standing.is_as_before());
-    match outcome {
-        Outcome::Wanting => Outcome::of_second(mark(alloc, standing)),
-        Outcome::Unprepared => Outcome::of_first(mark(alloc, standing), standing.is_as_before()),
-        _ => outcome,
+impl Lent for Standing {
+    type Call = Call;
+
+    fn settle(&self, alloc: Global, call: &Call) -> Outcome {
+        settle_asked(alloc, self, call)
     }
 }
 
-fn settle_standing(rt: &HostRuntime, tally: &mut Tally, standing: &Standing) {
-    let read = settle_read(rt.alloc(), standing);
-    tally.note(rt, standing.row.title, "is_apart", read);
-    let marked = settle_mark(rt.alloc(), standing);
-    tally.note(rt, standing.row.title, "free_loops", marked);
-}
+impl Asked for Standing {
+    fn is_as_before(&self) -> bool {
+        is_of(&self.topology, self.row.topology)
+            && are_listed(self.arcs.as_slice(), self.topology.arcs())
+    }
 
-fn settle_row(rt: &HostRuntime, tally: &mut Tally, row: &'static Row) {
-    match Standing::of(rt.alloc(), row).or_else(|| Standing::of(rt.alloc(), row)) {
-        Some(standing) => settle_standing(rt, tally, &standing),
-        None => tally.note(rt, row.title, "its arcs", Outcome::Unprepared),
+    fn ask(&self, alloc: Global, call: &Call) -> Answer {
+        match call {
+            Call::Read => read(alloc, self),
+            Call::Mark => mark(alloc, self),
+        }
     }
 }
 
 /// Takes the arcs of each row as they stand.
 pub(crate) fn settle(rt: &HostRuntime, tally: &mut Tally) {
     for row in ROWS {
-        settle_row(rt, tally, row);
+        let lent = Standing::of(rt.alloc(), row).or_else(|| Standing::of(rt.alloc(), row));
+        settle_each(rt, tally, row.title, &[Call::Read, Call::Mark], lent);
     }
 }

@@ -3,9 +3,8 @@
 use crate::worked::Worked;
 use chains::ArcTable;
 use query::QueryFault;
-use refused_calls::comparing::{are_arcs, are_features, are_neighbors};
+use refused_calls::comparing::{Places, are_arcs, are_features, are_neighbors};
 use refused_calls::outcome::Answer;
-use refused_calls::texts::Places;
 use shapes::Feature;
 use std::alloc::Global;
 

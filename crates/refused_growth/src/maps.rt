@@ -1,13 +1,14 @@
 //! Maps that take features and layers: where memory is refused they are as they were.
 
 use faults::OutOfMemory;
+use refused_calls::asking::{Asked, Lent, Named, settle_asked, settle_each};
 use refused_calls::comparing::same_map;
 use refused_calls::inputs::read;
 use refused_calls::outcome::{Answer, Outcome, Tally};
-use refused_calls::texts::{FIRST, SECOND, SHARED_EDGE};
 use shapes::{Feature, FeatureMap, InsertFault};
 use std::alloc::Global;
 use std::collections::BTreeSet;
+use worked_texts::{FIRST, SECOND, SHARED_EDGE};
 
 /// A map of one square, the same with an empty layer `b` beside it, the map of another square and a copy
 /// of that, and the map of both squares.
@@ -40,11 +41,6 @@ impl Maps {
             other_copy,
             both,
         })
-    }
-
-    /// Whether all that is lent is as it was made.
-    fn is_as_before(&self) -> bool {
-        has(&self.with_layer, self, 0) && same_map(&self.other, &self.other_copy)
     }
 
     /// The other square as a feature.
@@ -165,8 +161,8 @@ const CALLS: &[Call] = &[
     Call::Union,
 ];
 
-impl Call {
-    fn name(self) -> &'static str {
+impl Named for Call {
+    fn name(&self) -> &'static str {
         match self {
             Call::AddLayer => "FeatureMap::add_layer",
             Call::Insert => "FeatureMap::insert",
@@ -175,51 +171,36 @@ impl Call {
             Call::Union => "FeatureMap::union",
         }
     }
+}
 
-    fn ask(self, alloc: Global, maps: &Maps) -> Answer {
-        match self {
-            Call::WithFeatures => with_features(alloc, maps),
-            Call::United => united(maps),
-            _ => union(maps),
-        }
-    }
+impl Lent for Maps {
+    type Call = Call;
 
-    fn settle_lent(self, alloc: Global, maps: &Maps) -> Outcome {
-        let outcome = Outcome::of_first(self.ask(alloc, maps), maps.is_as_before());
-        match outcome {
-            Outcome::Wanting => Outcome::of_second(self.ask(alloc, maps)),
-            _ => outcome,
-        }
-    }
-
-    fn settle(self, alloc: Global, maps: &Maps) -> Outcome {
-        match self {
-            Call::AddLayer => settle_add_layer(maps),
-            Call::Insert => settle_insert(alloc, maps),
-            _ => self.settle_lent(alloc, maps),
-        }
-    }
-
-    /// Once more where what it is handed could not be made.
-    fn settle_prepared(self, alloc: Global, maps: &Maps) -> Outcome {
-        match self.settle(alloc, maps) {
-            Outcome::Unprepared => self.settle(alloc, maps),
-            outcome => outcome,
+    fn settle(&self, alloc: Global, call: &Call) -> Outcome {
+        match call {
+            Call::AddLayer => settle_add_layer(self),
+            Call::Insert => settle_insert(alloc, self),
+            _ => settle_asked(alloc, self, call),
         }
     }
 }
 
-fn settle_calls(rt: &HostRuntime, tally: &mut Tally, maps: &Maps) {
-    for call in CALLS {
-        let outcome = call.settle_prepared(rt.alloc(), maps);
-        tally.note(rt, "maps of squares", call.name(), outcome);
+impl Asked for Maps {
+    fn is_as_before(&self) -> bool {
+        has(&self.with_layer, self, 0) && same_map(&self.other, &self.other_copy)
+    }
+
+    fn ask(&self, alloc: Global, call: &Call) -> Answer {
+        match call {
+            Call::WithFeatures => with_features(alloc, self),
+            Call::United => united(self),
+            _ => union(self),
+        }
     }
 }
 
 /// Makes each call of maps.
 pub(crate) fn settle(rt: &HostRuntime, tally: &mut Tally) {
-    match Maps::of(rt.alloc()).or_else(|| Maps::of(rt.alloc())) {
-        Some(maps) => settle_calls(rt, tally, &maps),
-        None => tally.note(rt, "maps of squares", "its maps", Outcome::Unprepared),
-    }
+    let lent = Maps::of(rt.alloc()).or_else(|| Maps::of(rt.alloc()));
+    settle_each(rt, tally, "maps of squares", CALLS, lent);
 }

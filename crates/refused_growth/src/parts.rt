@@ -2,6 +2,7 @@
 
 use faults::OutOfMemory;
 use grid::Pos;
+use refused_calls::asking::{Asked, Lent, Named, settle_asked, settle_each};
 use refused_calls::comparing::stand_at;
 use refused_calls::outcome::{Answer, Outcome, Tally};
 use shapes::{Line, Props, Ring, ShapeFault, Spelled};
@@ -73,8 +74,8 @@ enum Call {
 
 const CALLS: &[Call] = &[Call::Ring, Call::Line, Call::Name, Call::Properties];
 
-impl Call {
-    fn name(self) -> &'static str {
+impl Named for Call {
+    fn name(&self) -> &'static str {
         match self {
             Call::Ring => "Ring::from_closed",
             Call::Line => "Line::from_positions",
@@ -82,30 +83,36 @@ impl Call {
             Call::Properties => "Props::empty",
         }
     }
+}
 
-    fn ask(self, alloc: Global) -> Answer {
-        match self {
+/// Nothing: the calls are handed what they need.
+#[derive(Drop)]
+struct Nothing;
+
+impl Lent for Nothing {
+    type Call = Call;
+
+    fn settle(&self, alloc: Global, call: &Call) -> Outcome {
+        settle_asked(alloc, self, call)
+    }
+}
+
+impl Asked for Nothing {
+    fn is_as_before(&self) -> bool {
+        true
+    }
+
+    fn ask(&self, alloc: Global, call: &Call) -> Answer {
+        match call {
             Call::Ring => ring(alloc),
             Call::Line => line(alloc),
             Call::Name => name(alloc),
             Call::Properties => properties(alloc),
         }
     }
-
-    /// Asks, and asks again after want of memory, or where what the call is handed could not be made.
-    fn settle(self, alloc: Global) -> Outcome {
-        match self.ask(alloc) {
-            Answer::Wanting => Outcome::of_second(self.ask(alloc)),
-            Answer::Unasked => Outcome::of_first(self.ask(alloc), true),
-            first => Outcome::of_first(first, true),
-        }
-    }
 }
 
 /// Makes each of these parts.
 pub(crate) fn settle(rt: &HostRuntime, tally: &mut Tally) {
-    for call in CALLS {
-        let outcome = call.settle(rt.alloc());
-        tally.note(rt, "parts of features", call.name(), outcome);
-    }
+    settle_each(rt, tally, "parts of features", CALLS, Some(Nothing));
 }

@@ -2,11 +2,8 @@
 
 use crate::worked::Worked;
 use built_text::BuildFault;
-use chains::ArcTable;
 use faults::OutOfMemory;
-use grid::Pos;
-use lines::items::Items;
-use refused_calls::comparing::{same_geometries, same_map};
+use refused_calls::comparing::{are_listed, same_geometries, same_map};
 use refused_calls::inputs::is_of;
 use refused_calls::outcome::Answer;
 use std::alloc::Global;
@@ -28,15 +25,6 @@ pub(crate) fn read_topology(alloc: Global, worked: &Worked) -> Answer {
         Ok((grid, map)) => Answer::of(grid == worked.grid && same_map(&map, &worked.copy)),
         Err(fault) => Answer::of_fault(&fault),
     }
-}
-
-fn are_listed(arcs: &[Items<Pos>], table: &ArcTable) -> bool {
-    for (number, arc) in arcs.iter().enumerate() {
-        if table.arc(number) != Some(arc.as_slice()) {
-            return false;
-        }
-    }
-    arcs.len() == table.len()
 }
 
 fn same_layers(layers: &[Layer], others: &[Layer]) -> bool {

@@ -2,12 +2,13 @@
 
 use faults::OutOfMemory;
 use recutting::{Recut, Side, recut};
+use refused_calls::asking::{Asked, Lent, Named, settle_asked, settle_each};
 use refused_calls::comparing::{are_used, same_arcs};
 use refused_calls::inputs::{built, is_of};
 use refused_calls::outcome::{Answer, Outcome, Tally};
-use refused_calls::texts::{FREE_LOOP, LINE, LOOP_AND_LINE, SHARED_EDGE, THIRD, THREE};
 use std::alloc::Global;
 use topo::Topology;
+use worked_texts::{FREE_LOOP, LINE, LOOP_AND_LINE, SHARED_EDGE, THIRD, THREE};
 
 /// Two maps, the map of both, and for each arc of each the indexes of the arcs that it is cut into.
 #[derive(Clone, Copy)]
@@ -60,10 +61,6 @@ impl Pair {
             both,
         })
     }
-
-    fn is_as_before(&self) -> bool {
-        is_of(&self.left, self.row.left) && is_of(&self.right, self.row.right)
-    }
 }
 
 fn are_pieces(made: &Recut, side: Side, lists: &[&[i64]]) -> bool {
@@ -80,38 +77,44 @@ fn are_pieces(made: &Recut, side: Side, lists: &[&[i64]]) -> bool {
     made.pieces(side, lists.len()).is_none()
 }
 
-fn ask(alloc: Global, pair: &Pair) -> Answer {
-    match recut(alloc, pair.left.arcs(), pair.right.arcs()) {
-        Ok(made) => Answer::of(
-            are_pieces(&made, Side::Left, pair.row.left_pieces)
-                && are_pieces(&made, Side::Right, pair.row.right_pieces)
-                && same_arcs(made.arcs(), pair.both.arcs()),
-        ),
-        Err(OutOfMemory) => Answer::Wanting,
+/// The one call.
+struct CutAgain;
+
+impl Named for CutAgain {
+    fn name(&self) -> &'static str {
+        "recut"
     }
 }
 
-/// Asks, and asks again after want of memory.
-fn settle_pair(alloc: Global, pair: &Pair) -> Outcome {
-    let first = ask(alloc, pair);
-    let outcome = Outcome::of_first(first, pair.is_as_before());
-    match outcome {
-        Outcome::Wanting => Outcome::of_second(ask(alloc, pair)),
-        _ => outcome,
+impl Lent for Pair {
+    type Call = CutAgain;
+
+    fn settle(&self, alloc: Global, call: &CutAgain) -> Outcome {
+        settle_asked(alloc, self, call)
     }
 }
 
-fn settle_row(alloc: Global, row: &'static Row) -> Outcome {
-    match Pair::of(alloc, row).or_else(|| Pair::of(alloc, row)) {
-        Some(pair) => settle_pair(alloc, &pair),
-        None => Outcome::Unprepared,
+impl Asked for Pair {
+    fn is_as_before(&self) -> bool {
+        is_of(&self.left, self.row.left) && is_of(&self.right, self.row.right)
+    }
+
+    fn ask(&self, alloc: Global, _call: &CutAgain) -> Answer {
+        match recut(alloc, self.left.arcs(), self.right.arcs()) {
+            Ok(made) => Answer::of(
+                are_pieces(&made, Side::Left, self.row.left_pieces)
+                    && are_pieces(&made, Side::Right, self.row.right_pieces)
+                    && same_arcs(made.arcs(), self.both.arcs()),
+            ),
+            Err(OutOfMemory) => Answer::Wanting,
+        }
     }
 }
 
 /// Cuts the arcs of each row again.
 pub(crate) fn settle(rt: &HostRuntime, tally: &mut Tally) {
     for row in ROWS {
-        let outcome = settle_row(rt.alloc(), row);
-        tally.note(rt, row.title, "recut", outcome);
+        let lent = Pair::of(rt.alloc(), row).or_else(|| Pair::of(rt.alloc(), row));
+        settle_each(rt, tally, row.title, &[CutAgain], lent);
     }
 }

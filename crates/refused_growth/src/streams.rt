@@ -7,12 +7,12 @@ use query::{ArcCounts, Kinds};
 use refused_calls::comparing::{are_arcs, same_map};
 use refused_calls::inputs::{built, is_of, read};
 use refused_calls::outcome::{Outcome, Tally};
-use refused_calls::texts::SHARED_EDGE;
 use shapes::{Feature, FeatureMap};
 use sinks::Tap;
 use std::alloc::Global;
 use std::io::Cursor;
 use topo::Topology;
+use worked_texts::SHARED_EDGE;
 
 /// The features of the two squares as GeoJSON.
 const FEATURES: &str =

@@ -1,7 +1,7 @@
 //! Worked maps: their texts, and the answers to questions about them, worked out by hand.
 
-use refused_calls::texts::{LOOP_AND_LINE, Places, SHARED_EDGE, THREE};
-use refused_calls::topology;
+use refused_calls::comparing::Places;
+use worked_texts::{LOOP_AND_LINE, SHARED_EDGE, THREE, topology};
 
 /// A map of the one layer `a`.
 #[derive(Clone, Copy)]

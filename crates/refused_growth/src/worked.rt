@@ -3,6 +3,7 @@
 use crate::texts::{ROWS, Row};
 use crate::{asking, readers, writers};
 use grid::Grid;
+use refused_calls::asking::{Asked, Lent, Named, settle_asked, settle_each};
 use refused_calls::comparing::same_map;
 use refused_calls::inputs::is_of;
 use refused_calls::outcome::{Answer, Outcome, Tally};
@@ -66,14 +67,6 @@ impl Worked {
             _ => b"",
         }
     }
-
-    /// Whether all that is lent is as it was made.
-    fn is_as_before(&self) -> bool {
-        self.geojson() == self.row.geojson.as_bytes()
-            && self.text.as_slice() == self.row.topology.as_bytes()
-            && same_map(&self.map, &self.copy)
-            && is_of(&self.topology, self.row.topology)
-    }
 }
 
 /// The calls.
@@ -122,8 +115,8 @@ const CALLS: &[Call] = &[
     Call::Union,
 ];
 
-impl Call {
-    fn name(self) -> &'static str {
+impl Named for Call {
+    fn name(&self) -> &'static str {
         match self {
             Call::ReadGeojson => "geojson_io::read",
             Call::ReadTopology => "topo_io::read",
@@ -146,59 +139,53 @@ impl Call {
             Call::Union => "FeatureMap::union",
         }
     }
+}
 
-    fn ask(self, alloc: Global, worked: &Worked) -> Answer {
-        match self {
-            Call::ReadGeojson => readers::read_geojson(alloc, worked),
-            Call::ReadTopology => readers::read_topology(alloc, worked),
-            Call::ReadParts => readers::read_parts(alloc, worked),
-            Call::IsCanonical => readers::is_canonical(alloc, worked),
-            Call::Build => readers::build(alloc, worked),
-            Call::BuildText => readers::build_text(alloc, worked),
-            Call::Expand => readers::expand(alloc, worked),
-            Call::Features => asking::features(alloc, worked),
-            Call::Neighbors => asking::neighbors(alloc, worked),
-            Call::Borders => asking::borders(alloc, worked),
-            Call::Interior => asking::interior(alloc, worked),
-            Call::Exterior => asking::exterior(alloc, worked),
-            Call::TextOf => writers::text_of(alloc, worked),
-            Call::Write => writers::write(alloc, worked),
-            Call::OfferToKept => writers::offer_to_kept(alloc, worked),
-            Call::OfferToScript => writers::offer_to_script(alloc, worked),
-            Call::CopyTopology => writers::copy_topology(alloc, worked),
-            Call::CopyMap => writers::copy_map(worked),
-            Call::Union => writers::union(worked),
-        }
-    }
+impl Lent for Worked {
+    type Call = Call;
 
-    /// Asks, and asks again after want of memory.
-    fn settle(self, alloc: Global, worked: &Worked) -> Outcome {
-        let first = self.ask(alloc, worked);
-        let outcome = Outcome::of_first(first, worked.is_as_before());
-        match outcome {
-            Outcome::Wanting => Outcome::of_second(self.ask(alloc, worked)),
-            _ => outcome,
-        }
+    fn settle(&self, alloc: Global, call: &Call) -> Outcome {
+        settle_asked(alloc, self, call)
     }
 }
 
-fn settle_all(rt: &HostRuntime, tally: &mut Tally, worked: &Worked) {
-    for call in CALLS {
-        let outcome = call.settle(rt.alloc(), worked);
-        tally.note(rt, worked.row.title, call.name(), outcome);
+impl Asked for Worked {
+    fn is_as_before(&self) -> bool {
+        self.geojson() == self.row.geojson.as_bytes()
+            && self.text.as_slice() == self.row.topology.as_bytes()
+            && same_map(&self.map, &self.copy)
+            && is_of(&self.topology, self.row.topology)
     }
-}
 
-fn settle_row(rt: &HostRuntime, tally: &mut Tally, row: &'static Row) {
-    match Worked::of(rt.alloc(), row).or_else(|| Worked::of(rt.alloc(), row)) {
-        Some(worked) => settle_all(rt, tally, &worked),
-        None => tally.note(rt, row.title, "its map", Outcome::Unprepared),
+    fn ask(&self, alloc: Global, call: &Call) -> Answer {
+        match call {
+            Call::ReadGeojson => readers::read_geojson(alloc, self),
+            Call::ReadTopology => readers::read_topology(alloc, self),
+            Call::ReadParts => readers::read_parts(alloc, self),
+            Call::IsCanonical => readers::is_canonical(alloc, self),
+            Call::Build => readers::build(alloc, self),
+            Call::BuildText => readers::build_text(alloc, self),
+            Call::Expand => readers::expand(alloc, self),
+            Call::Features => asking::features(alloc, self),
+            Call::Neighbors => asking::neighbors(alloc, self),
+            Call::Borders => asking::borders(alloc, self),
+            Call::Interior => asking::interior(alloc, self),
+            Call::Exterior => asking::exterior(alloc, self),
+            Call::TextOf => writers::text_of(alloc, self),
+            Call::Write => writers::write(alloc, self),
+            Call::OfferToKept => writers::offer_to_kept(alloc, self),
+            Call::OfferToScript => writers::offer_to_script(alloc, self),
+            Call::CopyTopology => writers::copy_topology(alloc, self),
+            Call::CopyMap => writers::copy_map(self),
+            Call::Union => writers::union(self),
+        }
     }
 }
 
 /// Makes each call of each worked map.
 pub(crate) fn settle(rt: &HostRuntime, tally: &mut Tally) {
     for row in ROWS {
-        settle_row(rt, tally, row);
+        let lent = Worked::of(rt.alloc(), row).or_else(|| Worked::of(rt.alloc(), row));
+        settle_each(rt, tally, row.title, CALLS, lent);
     }
 }

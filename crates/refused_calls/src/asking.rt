@@ -1,0 +1,70 @@
+//! Calls that are lent what they need, and are made again after want of memory.
+
+use crate::outcome::{Answer, Outcome, Tally};
+use std::alloc::Global;
+
+/// A call, by its name.
+pub trait Named {
+    fn name(&self) -> &'static str;
+}
+
+/// What is lent to calls.
+pub trait Lent: Drop {
+    type Call: Named;
+
+    /// What comes of a call. It is unprepared where what it is handed besides could not be made.
+    fn settle(&self, alloc: Global, call: &Self::Call) -> Outcome;
+}
+
+/// What is lent to calls that leave it as it is.
+pub trait Asked: Lent {
+    /// Whether all that is lent is as it was made.
+    fn is_as_before(&self) -> bool;
+
+    /// What a call answers.
+    fn ask(&self, alloc: Global, call: &Self::Call) -> Answer;
+}
+
+/// Asks, and asks again after want of memory.
+pub fn settle_asked<A: Asked>(alloc: Global, lent: &A, call: &A::Call) -> Outcome {
+    let outcome = Outcome::of_first(lent.ask(alloc, call), lent.is_as_before());
+    match outcome {
+        Outcome::Wanting => Outcome::of_second(lent.ask(alloc, call)),
+        _ => outcome,
+    }
+}
+
+/// Makes a call, and once more where what it is handed could not be made.
+fn settle_prepared<L: Lent>(alloc: Global, lent: &L, call: &L::Call) -> Outcome {
+    match lent.settle(alloc, call) {
+        Outcome::Unprepared => lent.settle(alloc, call),
+        outcome => outcome,
+    }
+}
+
+fn settle_calls<L: Lent>(
+    rt: &HostRuntime,
+    tally: &mut Tally,
+    title: &str,
+    calls: &[L::Call],
+    lent: &L,
+) {
+    for call in calls {
+        let outcome = settle_prepared(rt.alloc(), lent, call);
+        tally.note(rt, title, call.name(), outcome);
+    }
+}
+
+/// Makes each call, where what is lent to them could be made.
+pub fn settle_each<L: Lent>(
+    rt: &HostRuntime,
+    tally: &mut Tally,
+    title: &str,
+    calls: &[L::Call],
+    lent: Option<L>,
+) {
+    match lent {
+        Some(lent) => settle_calls(rt, tally, title, calls, &lent),
+        None => tally.note(rt, title, "what is lent", Outcome::Unprepared),
+    }
+}
