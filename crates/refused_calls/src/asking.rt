@@ -12,25 +12,24 @@ pub trait Named {
 pub trait Lent: Drop {
     type Call: Named;
 
-    /// What comes of a call. It is unprepared where what it is handed besides could not be made.
-    fn settle(&self, alloc: Global, call: &Self::Call) -> Outcome;
-}
-
-/// What is lent to calls that leave it as it is.
-pub trait Asked: Lent {
     /// Whether all that is lent is as it was made.
     fn is_as_before(&self) -> bool;
 
-    /// What a call answers.
+    /// What a call answers that leaves what is lent as it is.
     fn ask(&self, alloc: Global, call: &Self::Call) -> Answer;
-}
 
-/// Asks, and asks again after want of memory.
-pub fn settle_asked<A: Asked>(alloc: Global, lent: &A, call: &A::Call) -> Outcome {
-    let outcome = Outcome::of_first(lent.ask(alloc, call), lent.is_as_before());
-    match outcome {
-        Outcome::Wanting => Outcome::of_second(lent.ask(alloc, call)),
-        _ => outcome,
+    /// Asks, and asks again after want of memory.
+    fn settle_asked(&self, alloc: Global, call: &Self::Call) -> Outcome {
+        let outcome = Outcome::of_first(self.ask(alloc, call), self.is_as_before());
+        match outcome {
+            Outcome::Wanting => Outcome::of_second(self.ask(alloc, call)),
+            _ => outcome,
+        }
+    }
+
+    /// What comes of a call. It is unprepared where what it is handed besides could not be made.
+    fn settle(&self, alloc: Global, call: &Self::Call) -> Outcome {
+        self.settle_asked(alloc, call)
     }
 }
 

@@ -21,13 +21,8 @@ pub fn stand_at(positions: &[Pos], places: &[(i64, i64)]) -> bool {
 /// Whether the arcs of a table are these lines, in their order.
 pub fn are_arcs(table: &ArcTable, lines: &[Places]) -> bool {
     for (number, places) in lines.iter().enumerate() {
-        match table.arc(number) {
-            Some(arc) => {
-                if !stand_at(arc, places) {
-                    return false;
-                }
-            }
-            None => return false,
+        if !table.arc(number).is_some_and(|arc| stand_at(arc, places)) {
+            return false;
         }
     }
     table.len() == lines.len()
@@ -69,13 +64,8 @@ pub fn are_used(used: &[ArcRef], indexes: &[i64]) -> bool {
 /// Whether a map has each layer of another one, with the same features.
 fn has_layers(map: &FeatureMap, other: &FeatureMap) -> bool {
     for layer in other.layers() {
-        match map.layer(layer.name.text()) {
-            Some(features) => {
-                if *features != layer.features {
-                    return false;
-                }
-            }
-            None => return false,
+        if map.layer(layer.name.text()) != Some(&layer.features) {
+            return false;
         }
     }
     true

@@ -53,11 +53,8 @@ impl Squares {
         })
     }
 
-    /// Whether all that is lent is as it was made.
-    fn is_as_before(&self, alloc: Global) -> Answer {
-        if !are_texts(self.texts.as_slice()) || !is_to_the_right(&self.plan) {
-            return Answer::Wrong;
-        }
+    /// Whether the shards are as they were made.
+    fn are_shards(&self, alloc: Global) -> Answer {
         match are_shards(alloc, self.wholes.as_slice()) {
             Answer::Right => are_shards(alloc, self.cuts.as_slice()),
             other => other,
@@ -183,7 +180,14 @@ impl Named for Call {
     }
 }
 
-impl Squares {
+impl Lent for Squares {
+    type Call = Call;
+
+    /// But for the shards, which are compared where memory was wanting.
+    fn is_as_before(&self) -> bool {
+        are_texts(self.texts.as_slice()) && is_to_the_right(&self.plan)
+    }
+
     fn ask(&self, alloc: Global, call: &Call) -> Answer {
         match call {
             Call::Merge => merge(alloc, self),
@@ -194,16 +198,11 @@ impl Squares {
             Call::Halves => judge_plan(Plan::halves(alloc, TEXTS.len()), false),
         }
     }
-}
 
-impl Lent for Squares {
-    type Call = Call;
-
-    /// Asks, and asks again after want of memory.
     fn settle(&self, alloc: Global, call: &Call) -> Outcome {
-        let first = Outcome::of_first(self.ask(alloc, call), true);
+        let first = Outcome::of_first(self.ask(alloc, call), self.is_as_before());
         match first {
-            Outcome::Wanting => match self.is_as_before(alloc) {
+            Outcome::Wanting => match self.are_shards(alloc) {
                 Answer::Right => Outcome::of_second(self.ask(alloc, call)),
                 other => Outcome::of_first(other, true),
             },

@@ -3,10 +3,10 @@
 use faults::OutOfMemory;
 use refine::Removal;
 use refine::remove::remove;
-use refused_calls::asking::{Asked, Lent, Named, settle_asked, settle_each};
+use refused_calls::asking::{Lent, Named, settle_each};
 use refused_calls::comparing::{are_used, same_map};
 use refused_calls::inputs::{built, is_of, read};
-use refused_calls::outcome::{Answer, Outcome, Tally};
+use refused_calls::outcome::{Answer, Tally};
 use shapes::FeatureMap;
 use std::alloc::Global;
 use topo::Topology;
@@ -37,13 +37,11 @@ impl Removing {
 
 fn are_pieces(made: &Removal, lists: &[&[i64]]) -> bool {
     for (number, indexes) in lists.iter().enumerate() {
-        match made.pieces(number) {
-            Some(pieces) => {
-                if !are_used(pieces, indexes) {
-                    return false;
-                }
-            }
-            None => return false,
+        if !made
+            .pieces(number)
+            .is_some_and(|pieces| are_used(pieces, indexes))
+        {
+            return false;
         }
     }
     made.pieces(lists.len()).is_none()
@@ -61,12 +59,6 @@ impl Named for Remove {
 impl Lent for Removing {
     type Call = Remove;
 
-    fn settle(&self, alloc: Global, call: &Remove) -> Outcome {
-        settle_asked(alloc, self, call)
-    }
-}
-
-impl Asked for Removing {
     fn is_as_before(&self) -> bool {
         is_of(&self.whole, self.row.whole) && same_map(&self.removed, &self.copy)
     }

@@ -43,16 +43,6 @@ impl Edits {
         Some(Edits { grid, list, copy })
     }
 
-    /// Whether all that is lent is as it was made.
-    fn is_as_before(&self) -> bool {
-        match self.list.as_slice() {
-            [Edit::Join(first), Edit::Join(second), Edit::Remove(map)] => {
-                is_of(first, FIRST) && is_of(second, SECOND) && same_map(map, &self.copy)
-            }
-            _ => false,
-        }
-    }
-
     /// A session after so many of the edits.
     fn session_after(&self, alloc: Global, count: usize) -> Option<Session> {
         let mut session = Session::start(alloc, &self.grid).ok()?;
@@ -75,13 +65,6 @@ fn start(alloc: Global, edits: &Edits) -> Answer {
     match Session::start(alloc, &edits.grid) {
         Ok(session) => Answer::of(is_after(&session, 0)),
         Err(OutOfMemory) => Answer::Wanting,
-    }
-}
-
-fn settle_start(alloc: Global, edits: &Edits) -> Outcome {
-    match start(alloc, edits) {
-        Answer::Wanting => Outcome::of_second(start(alloc, edits)),
-        first => Outcome::of_first(first, edits.is_as_before()),
     }
 }
 
@@ -208,9 +191,24 @@ impl Named for Call {
 impl Lent for Edits {
     type Call = Call;
 
+    /// Whether all that is lent is as it was made.
+    fn is_as_before(&self) -> bool {
+        match self.list.as_slice() {
+            [Edit::Join(first), Edit::Join(second), Edit::Remove(map)] => {
+                is_of(first, FIRST) && is_of(second, SECOND) && same_map(map, &self.copy)
+            }
+            _ => false,
+        }
+    }
+
+    /// The start; the other calls are made of sessions.
+    fn ask(&self, alloc: Global, _call: &Call) -> Answer {
+        start(alloc, self)
+    }
+
     fn settle(&self, alloc: Global, call: &Call) -> Outcome {
         match call {
-            Call::Start => settle_start(alloc, self),
+            Call::Start => self.settle_asked(alloc, call),
             Call::Join => settle_apply(alloc, self, 0),
             Call::JoinBeside => settle_apply(alloc, self, 1),
             Call::Remove => settle_apply(alloc, self, 2),

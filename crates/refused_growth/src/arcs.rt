@@ -4,10 +4,10 @@ use chains::ArcTable;
 use faults::OutOfMemory;
 use grid::Pos;
 use lines::items::Items;
-use refused_calls::asking::{Asked, Lent, Named, settle_asked, settle_each};
+use refused_calls::asking::{Lent, Named, settle_each};
 use refused_calls::comparing::{are_listed, same_arcs};
 use refused_calls::inputs::{built, is_of};
-use refused_calls::outcome::{Answer, Outcome, Tally};
+use refused_calls::outcome::{Answer, Tally};
 use standing::{free_loops, is_apart};
 use std::alloc::Global;
 use topo::Topology;
@@ -130,12 +130,6 @@ impl Named for Call {
 impl Lent for Standing {
     type Call = Call;
 
-    fn settle(&self, alloc: Global, call: &Call) -> Outcome {
-        settle_asked(alloc, self, call)
-    }
-}
-
-impl Asked for Standing {
     fn is_as_before(&self) -> bool {
         is_of(&self.topology, self.row.topology)
             && are_listed(self.arcs.as_slice(), self.topology.arcs())

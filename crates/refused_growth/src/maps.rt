@@ -1,7 +1,7 @@
 //! Maps that take features and layers: where memory is refused they are as they were.
 
 use faults::OutOfMemory;
-use refused_calls::asking::{Asked, Lent, Named, settle_asked, settle_each};
+use refused_calls::asking::{Lent, Named, settle_each};
 use refused_calls::comparing::same_map;
 use refused_calls::inputs::read;
 use refused_calls::outcome::{Answer, Outcome, Tally};
@@ -176,25 +176,24 @@ impl Named for Call {
 impl Lent for Maps {
     type Call = Call;
 
-    fn settle(&self, alloc: Global, call: &Call) -> Outcome {
-        match call {
-            Call::AddLayer => settle_add_layer(self),
-            Call::Insert => settle_insert(alloc, self),
-            _ => settle_asked(alloc, self, call),
-        }
-    }
-}
-
-impl Asked for Maps {
     fn is_as_before(&self) -> bool {
         has(&self.with_layer, self, 0) && same_map(&self.other, &self.other_copy)
     }
 
+    /// The other calls are made of maps that take something.
     fn ask(&self, alloc: Global, call: &Call) -> Answer {
         match call {
             Call::WithFeatures => with_features(alloc, self),
             Call::United => united(self),
             _ => union(self),
+        }
+    }
+
+    fn settle(&self, alloc: Global, call: &Call) -> Outcome {
+        match call {
+            Call::AddLayer => settle_add_layer(self),
+            Call::Insert => settle_insert(alloc, self),
+            _ => self.settle_asked(alloc, call),
         }
     }
 }

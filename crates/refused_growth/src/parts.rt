@@ -2,9 +2,9 @@
 
 use faults::OutOfMemory;
 use grid::Pos;
-use refused_calls::asking::{Asked, Lent, Named, settle_asked, settle_each};
+use refused_calls::asking::{Lent, Named, settle_each};
 use refused_calls::comparing::stand_at;
-use refused_calls::outcome::{Answer, Outcome, Tally};
+use refused_calls::outcome::{Answer, Tally};
 use shapes::{Line, Props, Ring, ShapeFault, Spelled};
 use std::alloc::Global;
 
@@ -92,12 +92,6 @@ struct Nothing;
 impl Lent for Nothing {
     type Call = Call;
 
-    fn settle(&self, alloc: Global, call: &Call) -> Outcome {
-        settle_asked(alloc, self, call)
-    }
-}
-
-impl Asked for Nothing {
     fn is_as_before(&self) -> bool {
         true
     }

@@ -2,10 +2,10 @@
 
 use faults::OutOfMemory;
 use recutting::{Recut, Side, recut};
-use refused_calls::asking::{Asked, Lent, Named, settle_asked, settle_each};
+use refused_calls::asking::{Lent, Named, settle_each};
 use refused_calls::comparing::{are_used, same_arcs};
 use refused_calls::inputs::{built, is_of};
-use refused_calls::outcome::{Answer, Outcome, Tally};
+use refused_calls::outcome::{Answer, Tally};
 use std::alloc::Global;
 use topo::Topology;
 use worked_texts::{FREE_LOOP, LINE, LOOP_AND_LINE, SHARED_EDGE, THIRD, THREE};
@@ -65,13 +65,11 @@ impl Pair {
 
 fn are_pieces(made: &Recut, side: Side, lists: &[&[i64]]) -> bool {
     for (number, indexes) in lists.iter().enumerate() {
-        match made.pieces(side, number) {
-            Some(pieces) => {
-                if !are_used(pieces, indexes) {
-                    return false;
-                }
-            }
-            None => return false,
+        if !made
+            .pieces(side, number)
+            .is_some_and(|pieces| are_used(pieces, indexes))
+        {
+            return false;
         }
     }
     made.pieces(side, lists.len()).is_none()
@@ -89,12 +87,6 @@ impl Named for CutAgain {
 impl Lent for Pair {
     type Call = CutAgain;
 
-    fn settle(&self, alloc: Global, call: &CutAgain) -> Outcome {
-        settle_asked(alloc, self, call)
-    }
-}
-
-impl Asked for Pair {
     fn is_as_before(&self) -> bool {
         is_of(&self.left, self.row.left) && is_of(&self.right, self.row.right)
     }

@@ -3,10 +3,10 @@
 use crate::texts::{ROWS, Row};
 use crate::{asking, readers, writers};
 use grid::Grid;
-use refused_calls::asking::{Asked, Lent, Named, settle_asked, settle_each};
+use refused_calls::asking::{Lent, Named, settle_each};
 use refused_calls::comparing::same_map;
 use refused_calls::inputs::is_of;
-use refused_calls::outcome::{Answer, Outcome, Tally};
+use refused_calls::outcome::{Answer, Tally};
 use shapes::FeatureMap;
 use std::alloc::Global;
 use topo::Topology;
@@ -144,12 +144,6 @@ impl Named for Call {
 impl Lent for Worked {
     type Call = Call;
 
-    fn settle(&self, alloc: Global, call: &Call) -> Outcome {
-        settle_asked(alloc, self, call)
-    }
-}
-
-impl Asked for Worked {
     fn is_as_before(&self) -> bool {
         self.geojson() == self.row.geojson.as_bytes()
             && self.text.as_slice() == self.row.topology.as_bytes()

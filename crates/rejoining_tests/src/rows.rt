@@ -154,20 +154,23 @@ fn arcs_are_those_of_what_is_left(rt: HostRuntime) -> Result<(), Fail> {
     Ok(())
 }
 
-fn assert_lines(rt: &impl Abort, alloc: Global, made: &Rejoined, row: &Row) -> Result<(), Fail> {
-    for (old, new) in row.lines {
+/// The lists of rings or of lines become those of the indexes.
+fn assert_lists(
+    rt: &impl Abort,
+    alloc: Global,
+    made: &Rejoined,
+    row: &Row,
+    of_rings: bool,
+) -> Result<(), Fail> {
+    let lists = if of_rings { row.rings } else { row.lines };
+    for (old, new) in lists {
         let refs = refs_of(alloc, old)?;
-        let line = made.line(alloc, &refs)?;
-        assert!(rt; are_used(&line, new), "{}", row.title);
-    }
-    Ok(())
-}
-
-fn assert_rings(rt: &impl Abort, alloc: Global, made: &Rejoined, row: &Row) -> Result<(), Fail> {
-    for (old, new) in row.rings {
-        let refs = refs_of(alloc, old)?;
-        let ring = made.ring(alloc, &refs)?;
-        assert!(rt; are_used(&ring, new), "{}", row.title);
+        let list = if of_rings {
+            made.ring(alloc, &refs)?
+        } else {
+            made.line(alloc, &refs)?
+        };
+        assert!(rt; are_used(&list, new), "{}", row.title);
     }
     Ok(())
 }
@@ -176,8 +179,8 @@ fn assert_rings(rt: &impl Abort, alloc: Global, made: &Rejoined, row: &Row) -> R
 fn lists_of_lines_and_rings(rt: HostRuntime) -> Result<(), Fail> {
     for row in ROWS {
         let made = rejoin_row(rt.alloc(), row)?;
-        assert_lines(&rt, rt.alloc(), &made, row)?;
-        assert_rings(&rt, rt.alloc(), &made, row)?;
+        assert_lists(&rt, rt.alloc(), &made, row, false)?;
+        assert_lists(&rt, rt.alloc(), &made, row, true)?;
     }
     Ok(())
 }

@@ -104,14 +104,14 @@ fn ordered(alloc: Global) -> Result<Vec<Feature>, Fail> {
     Ok(list)
 }
 
-/// Compares the feature of a place with each of the list.
-fn check_place(rt: &impl Abort, list: &[Feature], feature: &Feature, place: usize) {
+/// Compares the value of a place with each of the list, which is in order.
+fn check_place<T: Ord>(rt: &impl Abort, list: &[T], value: &T, place: usize) {
     for (other_place, other) in list.iter().enumerate() {
         assert!(rt;
-            feature.cmp(other) == place.cmp(&other_place),
+            value.cmp(other) == place.cmp(&other_place),
             "{place} and {other_place}"
         );
-        assert!(rt; (feature == other) == (place == other_place));
+        assert!(rt; (value == other) == (place == other_place));
     }
 }
 
@@ -398,21 +398,11 @@ fn kinds(alloc: Global) -> Result<Vec<Shape>, Fail> {
     Ok(list)
 }
 
-/// Compares the order of the shape of a number with each of the list.
-fn check_order(rt: &impl Abort, list: &[Shape], shape: &Shape, number: usize) {
-    for (place, other) in list.iter().enumerate() {
-        assert!(rt;
-            shape.cmp(other) == number.cmp(&place),
-            "{number} and {place}"
-        );
-    }
-}
-
 #[test]
 fn shapes_of_each_kind(rt: HostRuntime) -> Result<(), Fail> {
     let list = kinds(rt.alloc())?;
     for (number, shape) in list.iter().enumerate() {
-        check_order(&rt, list.as_slice(), shape, number);
+        check_place(&rt, list.as_slice(), shape, number);
         assert!(rt; shape.copy(rt.alloc())? == *shape);
     }
     Ok(())

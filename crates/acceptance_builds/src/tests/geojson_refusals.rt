@@ -115,23 +115,11 @@ fn assert_each_refused<R: AllocGlobal>(rt: &R, texts: Refusals) -> Result<(), Fa
 }
 
 #[test]
-fn points(rt: HostRuntime) -> Result<(), Fail> {
-    assert_each_refused(&rt, POINTS)
-}
-
-#[test]
-fn lines(rt: HostRuntime) -> Result<(), Fail> {
-    assert_each_refused(&rt, LINES)
-}
-
-#[test]
-fn features(rt: HostRuntime) -> Result<(), Fail> {
-    assert_each_refused(&rt, FEATURES)
-}
-
-#[test]
-fn numbers(rt: HostRuntime) -> Result<(), Fail> {
-    assert_each_refused(&rt, NUMBERS)
+fn texts_on_whole_numbers(rt: HostRuntime) -> Result<(), Fail> {
+    for texts in [POINTS, LINES, FEATURES, NUMBERS] {
+        assert_each_refused(&rt, texts)?;
+    }
+    Ok(())
 }
 
 /// The same of coordinates off the grid, or past it, after the grid.

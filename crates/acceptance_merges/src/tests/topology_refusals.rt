@@ -118,21 +118,9 @@ fn assert_refused<R: AllocGlobal>(rt: &R, texts: Refusals) -> Result<(), Fail> {
 }
 
 #[test]
-fn roots(rt: HostRuntime) -> Result<(), Fail> {
-    assert_refused(&rt, ROOTS)
-}
-
-#[test]
-fn arcs(rt: HostRuntime) -> Result<(), Fail> {
-    assert_refused(&rt, ARCS)
-}
-
-#[test]
-fn layers(rt: HostRuntime) -> Result<(), Fail> {
-    assert_refused(&rt, LAYERS)
-}
-
-#[test]
-fn stitching(rt: HostRuntime) -> Result<(), Fail> {
-    assert_refused(&rt, STITCHING)
+fn texts(rt: HostRuntime) -> Result<(), Fail> {
+    for texts in [ROOTS, ARCS, LAYERS, STITCHING] {
+        assert_refused(&rt, texts)?;
+    }
+    Ok(())
 }

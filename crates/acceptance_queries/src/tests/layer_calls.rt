@@ -1,12 +1,12 @@
 //! `write_layer`, `feature`, `mesh`, `neighbors` and the writers of their answers, called on topologies.
-use command_runs::build;
 use command_runs::inputs::{BOW_TIE_TOPOLOGY, SQUARES};
+use command_runs::{build, script};
 use query::{
     LayerFault, QueryFault, feature, mesh, neighbors, write_layer, write_mesh, write_neighbors,
 };
 use shapes::Feature;
-use sinks::{Answer, Kept, Script};
-use std::alloc::{AllocError, Global};
+use sinks::{Answer, Kept};
+use std::alloc::Global;
 use std::test::Fail;
 use topo::Topology;
 use worked_texts::{EMPTY, SHARED_EDGE};
@@ -37,16 +37,6 @@ fn topology(alloc: Global, text: &str) -> Result<Topology, Fail> {
         .ok()
         .ok_or("a topology that is refused")?;
     Ok(Topology::build(alloc, &grid, &map).ok().ok_or("no memory")?)
-}
-
-/// A sink that takes one byte a call for some calls, and then answers once more by the script.
-fn slow_sink(alloc: Global, calls: usize, last: Answer) -> Result<Script, AllocError> {
-    let mut answers = Vec::new(alloc);
-    for _ in 0..calls {
-        answers.push(Answer::Take(1))?;
-    }
-    answers.push(last)?;
-    Ok(Script::new(alloc, answers))
 }
 
 #[test]
@@ -112,7 +102,7 @@ fn neighbors_are_written_feature_by_feature(rt: HostRuntime) -> Result<(), Fail>
 #[test]
 fn a_layer_is_written_a_byte_a_call(rt: HostRuntime) -> Result<(), Fail> {
     let topology = topology(rt.alloc(), SHARED_EDGE)?;
-    let mut sink = slow_sink(rt.alloc(), SQUARES_PRINTED.len(), Answer::Fail)?;
+    let mut sink = script(rt.alloc(), SQUARES_PRINTED.len(), Answer::Fail)?;
     assert_eq!(rt; write_layer(&topology, "a", &mut sink), Ok(()));
     assert_eq!(rt; sink.taken(), SQUARES_PRINTED.as_bytes());
     assert_eq!(rt; sink.failures(), 0);
@@ -123,7 +113,7 @@ fn a_layer_is_written_a_byte_a_call(rt: HostRuntime) -> Result<(), Fail> {
 fn a_layer_stops_at_each_failure(rt: HostRuntime) -> Result<(), Fail> {
     let topology = topology(rt.alloc(), SHARED_EDGE)?;
     for calls in 0..SQUARES_PRINTED.len() {
-        let mut sink = slow_sink(rt.alloc(), calls, Answer::FailAfter(1))?;
+        let mut sink = script(rt.alloc(), calls, Answer::FailAfter(1))?;
         assert_eq!(rt;
             write_layer(&topology, "a", &mut sink),
             Err(LayerFault::Write)
@@ -138,7 +128,7 @@ fn a_layer_stops_at_each_failure(rt: HostRuntime) -> Result<(), Fail> {
 #[test]
 fn a_layer_that_is_not_there(rt: HostRuntime) -> Result<(), Fail> {
     let topology = topology(rt.alloc(), SHARED_EDGE)?;
-    let mut sink = slow_sink(rt.alloc(), 0, Answer::Fail)?;
+    let mut sink = script(rt.alloc(), 0, Answer::Fail)?;
     assert_eq!(rt;
         write_layer(&topology, "b", &mut sink),
         Err(LayerFault::NoLayer)

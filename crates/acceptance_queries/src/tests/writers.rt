@@ -35,34 +35,25 @@ fn assert_failed<R: Abort + AllocGlobal>(
     Ok(())
 }
 
+/// A writer that answers so after each number of bytes has taken so many bytes more.
+fn assert_each_failed<R: Abort + AllocGlobal>(
+    rt: &R,
+    last: Answer,
+    more: usize,
+) -> Result<(), Fail> {
+    for calls in 0..SHARED_EDGE.len() {
+        let mut script = script(rt.alloc(), calls, last)?;
+        assert_failed(rt, BUILD, SHARED_EDGE, &mut script)?;
+        assert_eq!(rt; script.taken().len(), calls.saturating_add(more));
+    }
+    Ok(())
+}
+
 #[test]
 fn a_writer_that_fails_at_each_call(rt: HostRuntime) -> Result<(), Fail> {
-    for calls in 0..SHARED_EDGE.len() {
-        let mut script = script(rt.alloc(), calls, Answer::Fail)?;
-        assert_failed(&rt, BUILD, SHARED_EDGE, &mut script)?;
-        assert_eq!(rt; script.taken().len(), calls);
-    }
-    Ok(())
-}
-
-#[test]
-fn a_writer_that_takes_a_byte_and_fails(rt: HostRuntime) -> Result<(), Fail> {
-    for calls in 0..SHARED_EDGE.len() {
-        let mut script = script(rt.alloc(), calls, Answer::FailAfter(1))?;
-        assert_failed(&rt, BUILD, SHARED_EDGE, &mut script)?;
-        assert_eq!(rt; script.taken().len(), calls + 1);
-    }
-    Ok(())
-}
-
-#[test]
-fn a_writer_that_takes_nothing(rt: HostRuntime) -> Result<(), Fail> {
-    for calls in 0..SHARED_EDGE.len() {
-        let mut script = script(rt.alloc(), calls, Answer::Take(0))?;
-        assert_failed(&rt, BUILD, SHARED_EDGE, &mut script)?;
-        assert_eq!(rt; script.taken().len(), calls);
-    }
-    Ok(())
+    assert_each_failed(&rt, Answer::Fail, 0)?;
+    assert_each_failed(&rt, Answer::FailAfter(1), 1)?;
+    assert_each_failed(&rt, Answer::Take(0), 0)
 }
 
 #[test]

@@ -59,10 +59,14 @@ fn edits_one_by_one(rt: HostRuntime) -> Result<(), Fail> {
 fn edits_up_to_a_refusal(rt: HostRuntime) -> Result<(), Fail> {
     let alloc = rt.alloc();
     let mut session = start(alloc)?;
-    let mut edits = Vec::new(alloc);
-    edits.push(joining(alloc, FIRST)?)?;
-    edits.push(joining(alloc, ON_SCALE_TWO)?)?;
-    edits.push(joining(alloc, SECOND)?)?;
+    let edits = Vec::from_array(
+        alloc,
+        [
+            joining(alloc, FIRST)?,
+            joining(alloc, ON_SCALE_TWO)?,
+            joining(alloc, SECOND)?,
+        ],
+    )?;
     let fault = EditsFault {
         place: 1,
         fault: JoinFault::OtherGrid,
@@ -75,10 +79,14 @@ fn edits_up_to_a_refusal(rt: HostRuntime) -> Result<(), Fail> {
 fn a_removal_is_on_any_grid(rt: HostRuntime) -> Result<(), Fail> {
     let alloc = rt.alloc();
     let mut session = start(alloc)?;
-    let mut edits = Vec::new(alloc);
-    edits.push(joining(alloc, SHARED_EDGE)?)?;
-    edits.push(removing(alloc, ON_SCALE_TWO)?)?;
-    edits.push(removing(alloc, SECOND)?)?;
+    let edits = Vec::from_array(
+        alloc,
+        [
+            joining(alloc, SHARED_EDGE)?,
+            removing(alloc, ON_SCALE_TWO)?,
+            removing(alloc, SECOND)?,
+        ],
+    )?;
     session.apply_all(edits.as_slice())?;
     assert_text(&rt, alloc, &session, FIRST)
 }
