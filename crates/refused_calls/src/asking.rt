@@ -3,14 +3,9 @@
 use crate::outcome::{Answer, Outcome, Tally};
 use std::alloc::Global;
 
-/// A call, by its name.
-pub trait Named {
-    fn name(&self) -> &'static str;
-}
-
 /// What is lent to calls.
 pub trait Lent: Drop {
-    type Call: Named;
+    type Call;
 
     /// Whether all that is lent is as it was made.
     fn is_as_before(&self) -> bool;
@@ -45,21 +40,21 @@ fn settle_calls<L: Lent>(
     rt: &HostRuntime,
     tally: &mut Tally,
     title: &str,
-    calls: &[L::Call],
+    calls: &[(&str, L::Call)],
     lent: &L,
 ) {
-    for call in calls {
+    for (name, call) in calls {
         let outcome = settle_prepared(rt.alloc(), lent, call);
-        tally.note(rt, title, call.name(), outcome);
+        tally.note(rt, title, name, outcome);
     }
 }
 
-/// Makes each call, where what is lent to them could be made.
+/// Makes each call, told with its name, where what is lent to them could be made.
 pub fn settle_each<L: Lent>(
     rt: &HostRuntime,
     tally: &mut Tally,
     title: &str,
-    calls: &[L::Call],
+    calls: &[(&str, L::Call)],
     lent: Option<L>,
 ) {
     match lent {

@@ -2,10 +2,10 @@
 
 use faults::OutOfMemory;
 use refine::{Cut, MergeFault, Plan, PlanFault, Shard, Whole, merge_texts, run_plan};
-use refused_calls::asking::{Lent, Named, settle_each};
+use refused_calls::asking::{Lent, settle_each};
 use refused_calls::outcome::{Answer, Outcome, Tally};
 use std::alloc::Global;
-use worked_texts::{FIRST, SECOND, THIRD, THREE};
+use worked_texts::{FIRST, SECOND, THIRD, THREE, rows};
 
 const TEXTS: &[&str] = &[FIRST, SECOND, THIRD];
 
@@ -158,27 +158,14 @@ enum Call {
     Halves,
 }
 
-const CALLS: &[Call] = &[
-    Call::Merge,
-    Call::RunWhole,
-    Call::RunCut,
-    Call::Left,
-    Call::Right,
-    Call::Halves,
+const CALLS: &[(&str, Call)] = rows![
+    "merge_texts", Call::Merge;
+    "run_plan over Whole", Call::RunWhole;
+    "run_plan over Cut", Call::RunCut;
+    "Plan::left", Call::Left;
+    "Plan::right", Call::Right;
+    "Plan::halves", Call::Halves;
 ];
-
-impl Named for Call {
-    fn name(&self) -> &'static str {
-        match self {
-            Call::Merge => "merge_texts",
-            Call::RunWhole => "run_plan over Whole",
-            Call::RunCut => "run_plan over Cut",
-            Call::Left => "Plan::left",
-            Call::Right => "Plan::right",
-            Call::Halves => "Plan::halves",
-        }
-    }
-}
 
 impl Lent for Squares {
     type Call = Call;

@@ -3,7 +3,7 @@
 use faults::OutOfMemory;
 use refine::Removal;
 use refine::remove::remove;
-use refused_calls::asking::{Lent, Named, settle_each};
+use refused_calls::asking::{Lent, settle_each};
 use refused_calls::comparing::{are_used, same_map};
 use refused_calls::inputs::{built, is_of, read};
 use refused_calls::outcome::{Answer, Tally};
@@ -47,23 +47,15 @@ fn are_pieces(made: &Removal, lists: &[&[i64]]) -> bool {
     made.pieces(lists.len()).is_none()
 }
 
-/// The one call.
-struct Remove;
-
-impl Named for Remove {
-    fn name(&self) -> &'static str {
-        "remove"
-    }
-}
-
 impl Lent for Removing {
-    type Call = Remove;
+    /// There is one.
+    type Call = ();
 
     fn is_as_before(&self) -> bool {
         is_of(&self.whole, self.row.whole) && same_map(&self.removed, &self.copy)
     }
 
-    fn ask(&self, alloc: Global, _call: &Remove) -> Answer {
+    fn ask(&self, alloc: Global, _call: &()) -> Answer {
         match remove(alloc, &self.whole, &self.removed) {
             Ok(made) => Answer::of(
                 is_of(made.topology(), self.row.left) && are_pieces(&made, self.row.pieces),
@@ -77,6 +69,6 @@ impl Lent for Removing {
 pub(crate) fn settle(rt: &HostRuntime, tally: &mut Tally) {
     for row in REMOVALS {
         let lent = Removing::of(rt.alloc(), row).or_else(|| Removing::of(rt.alloc(), row));
-        settle_each(rt, tally, row.title, &[Remove], lent);
+        settle_each(rt, tally, row.title, &[("remove", ())], lent);
     }
 }

@@ -3,13 +3,13 @@
 use faults::OutOfMemory;
 use grid::Grid;
 use refine::{Edit, EditsFault, JoinFault, Session};
-use refused_calls::asking::{Lent, Named, settle_each};
+use refused_calls::asking::{Lent, settle_each};
 use refused_calls::comparing::same_map;
 use refused_calls::inputs::{built, is_of, read};
 use refused_calls::outcome::{Answer, Outcome, Tally};
 use shapes::FeatureMap;
 use std::alloc::Global;
-use worked_texts::{FIRST, NO_LAYERS, SECOND, SHARED_EDGE};
+use worked_texts::{FIRST, NO_LAYERS, SECOND, SHARED_EDGE, rows};
 
 /// The texts of a session after none, one, two and three edits.
 const TEXTS: [&str; 4] = [NO_LAYERS, FIRST, SHARED_EDGE, SECOND];
@@ -166,27 +166,14 @@ enum Call {
     Text,
 }
 
-const CALLS: &[Call] = &[
-    Call::Start,
-    Call::Join,
-    Call::JoinBeside,
-    Call::Remove,
-    Call::All,
-    Call::Text,
+const CALLS: &[(&str, Call)] = rows![
+    "Session::start", Call::Start;
+    "Session::apply of a first join", Call::Join;
+    "Session::apply of a second join", Call::JoinBeside;
+    "Session::apply of a removal", Call::Remove;
+    "Session::apply_all", Call::All;
+    "Session::text", Call::Text;
 ];
-
-impl Named for Call {
-    fn name(&self) -> &'static str {
-        match self {
-            Call::Start => "Session::start",
-            Call::Join => "Session::apply of a first join",
-            Call::JoinBeside => "Session::apply of a second join",
-            Call::Remove => "Session::apply of a removal",
-            Call::All => "Session::apply_all",
-            Call::Text => "Session::text",
-        }
-    }
-}
 
 impl Lent for Edits {
     type Call = Call;

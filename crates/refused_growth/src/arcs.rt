@@ -4,14 +4,14 @@ use chains::ArcTable;
 use faults::OutOfMemory;
 use grid::Pos;
 use lines::items::Items;
-use refused_calls::asking::{Lent, Named, settle_each};
+use refused_calls::asking::{Lent, settle_each};
 use refused_calls::comparing::{are_listed, same_arcs};
 use refused_calls::inputs::{built, is_of};
 use refused_calls::outcome::{Answer, Tally};
 use standing::{free_loops, is_apart};
 use std::alloc::Global;
 use topo::Topology;
-use worked_texts::{FREE_LOOP, LOOP_AND_LINE, SHARED_EDGE};
+use worked_texts::{FREE_LOOP, LOOP_AND_LINE, SHARED_EDGE, rows};
 
 /// A map, the ends of its lines, and for each of its arcs whether it is a free loop.
 #[derive(Clone, Copy)]
@@ -113,19 +113,16 @@ fn mark(alloc: Global, standing: &Standing) -> Answer {
 }
 
 /// The calls.
+#[derive(Clone, Copy, PartialEq, Eq, Debug)]
 enum Call {
     Read,
     Mark,
 }
 
-impl Named for Call {
-    fn name(&self) -> &'static str {
-        match self {
-            Call::Read => "is_apart",
-            Call::Mark => "free_loops",
-        }
-    }
-}
+const CALLS: &[(&str, Call)] = rows![
+    "is_apart", Call::Read;
+    "free_loops", Call::Mark;
+];
 
 impl Lent for Standing {
     type Call = Call;
@@ -147,6 +144,6 @@ impl Lent for Standing {
 pub(crate) fn settle(rt: &HostRuntime, tally: &mut Tally) {
     for row in ROWS {
         let lent = Standing::of(rt.alloc(), row).or_else(|| Standing::of(rt.alloc(), row));
-        settle_each(rt, tally, row.title, &[Call::Read, Call::Mark], lent);
+        settle_each(rt, tally, row.title, CALLS, lent);
     }
 }

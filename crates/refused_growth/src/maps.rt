@@ -1,14 +1,14 @@
 //! Maps that take features and layers: where memory is refused they are as they were.
 
 use faults::OutOfMemory;
-use refused_calls::asking::{Lent, Named, settle_each};
+use refused_calls::asking::{Lent, settle_each};
 use refused_calls::comparing::same_map;
 use refused_calls::inputs::read;
 use refused_calls::outcome::{Answer, Outcome, Tally};
 use shapes::{Feature, FeatureMap, InsertFault};
 use std::alloc::Global;
 use std::collections::BTreeSet;
-use worked_texts::{FIRST, SECOND, SHARED_EDGE};
+use worked_texts::{FIRST, SECOND, SHARED_EDGE, rows};
 
 /// A map of one square, the same with an empty layer `b` beside it, the map of another square and a copy
 /// of that, and the map of both squares.
@@ -153,25 +153,13 @@ enum Call {
     Union,
 }
 
-const CALLS: &[Call] = &[
-    Call::AddLayer,
-    Call::Insert,
-    Call::WithFeatures,
-    Call::United,
-    Call::Union,
+const CALLS: &[(&str, Call)] = rows![
+    "FeatureMap::add_layer", Call::AddLayer;
+    "FeatureMap::insert", Call::Insert;
+    "FeatureMap::with_features", Call::WithFeatures;
+    "FeatureMap::united", Call::United;
+    "FeatureMap::union", Call::Union;
 ];
-
-impl Named for Call {
-    fn name(&self) -> &'static str {
-        match self {
-            Call::AddLayer => "FeatureMap::add_layer",
-            Call::Insert => "FeatureMap::insert",
-            Call::WithFeatures => "FeatureMap::with_features",
-            Call::United => "FeatureMap::united",
-            Call::Union => "FeatureMap::union",
-        }
-    }
-}
 
 impl Lent for Maps {
     type Call = Call;

@@ -2,11 +2,12 @@
 
 use faults::OutOfMemory;
 use grid::Pos;
-use refused_calls::asking::{Lent, Named, settle_each};
+use refused_calls::asking::{Lent, settle_each};
 use refused_calls::comparing::stand_at;
 use refused_calls::outcome::{Answer, Tally};
 use shapes::{Line, Props, Ring, ShapeFault, Spelled};
 use std::alloc::Global;
+use worked_texts::rows;
 
 /// The unit square, which comes back to its first place.
 const SQUARE: [(i64, i64); 5] = [(1, 0), (1, 1), (0, 1), (0, 0), (1, 0)];
@@ -72,18 +73,12 @@ enum Call {
     Properties,
 }
 
-const CALLS: &[Call] = &[Call::Ring, Call::Line, Call::Name, Call::Properties];
-
-impl Named for Call {
-    fn name(&self) -> &'static str {
-        match self {
-            Call::Ring => "Ring::from_closed",
-            Call::Line => "Line::from_positions",
-            Call::Name => "Spelled::new",
-            Call::Properties => "Props::empty",
-        }
-    }
-}
+const CALLS: &[(&str, Call)] = rows![
+    "Ring::from_closed", Call::Ring;
+    "Line::from_positions", Call::Line;
+    "Spelled::new", Call::Name;
+    "Props::empty", Call::Properties;
+];
 
 /// Nothing: the calls are handed what they need.
 #[derive(Drop)]

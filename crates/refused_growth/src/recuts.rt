@@ -2,7 +2,7 @@
 
 use faults::OutOfMemory;
 use recutting::{Recut, Side, recut};
-use refused_calls::asking::{Lent, Named, settle_each};
+use refused_calls::asking::{Lent, settle_each};
 use refused_calls::comparing::{are_used, same_arcs};
 use refused_calls::inputs::{built, is_of};
 use refused_calls::outcome::{Answer, Tally};
@@ -75,23 +75,15 @@ fn are_pieces(made: &Recut, side: Side, lists: &[&[i64]]) -> bool {
     made.pieces(side, lists.len()).is_none()
 }
 
-/// The one call.
-struct CutAgain;
-
-impl Named for CutAgain {
-    fn name(&self) -> &'static str {
-        "recut"
-    }
-}
-
 impl Lent for Pair {
-    type Call = CutAgain;
+    /// There is one.
+    type Call = ();
 
     fn is_as_before(&self) -> bool {
         is_of(&self.left, self.row.left) && is_of(&self.right, self.row.right)
     }
 
-    fn ask(&self, alloc: Global, _call: &CutAgain) -> Answer {
+    fn ask(&self, alloc: Global, _call: &()) -> Answer {
         match recut(alloc, self.left.arcs(), self.right.arcs()) {
             Ok(made) => Answer::of(
                 are_pieces(&made, Side::Left, self.row.left_pieces)
@@ -107,6 +99,6 @@ impl Lent for Pair {
 pub(crate) fn settle(rt: &HostRuntime, tally: &mut Tally) {
     for row in ROWS {
         let lent = Pair::of(rt.alloc(), row).or_else(|| Pair::of(rt.alloc(), row));
-        settle_each(rt, tally, row.title, &[CutAgain], lent);
+        settle_each(rt, tally, row.title, &[("recut", ())], lent);
     }
 }

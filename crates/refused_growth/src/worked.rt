@@ -3,13 +3,14 @@
 use crate::texts::{ROWS, Row};
 use crate::{asking, readers, writers};
 use grid::Grid;
-use refused_calls::asking::{Lent, Named, settle_each};
+use refused_calls::asking::{Lent, settle_each};
 use refused_calls::comparing::same_map;
 use refused_calls::inputs::is_of;
 use refused_calls::outcome::{Answer, Tally};
 use shapes::FeatureMap;
 use std::alloc::Global;
 use topo::Topology;
+use worked_texts::rows;
 
 /// A worked map in each form in which it is lent, and a copy of its features.
 #[derive(Drop)]
@@ -93,53 +94,27 @@ enum Call {
     Union,
 }
 
-const CALLS: &[Call] = &[
-    Call::ReadGeojson,
-    Call::ReadTopology,
-    Call::ReadParts,
-    Call::IsCanonical,
-    Call::Build,
-    Call::BuildText,
-    Call::Expand,
-    Call::Features,
-    Call::Neighbors,
-    Call::Borders,
-    Call::Interior,
-    Call::Exterior,
-    Call::TextOf,
-    Call::Write,
-    Call::OfferToKept,
-    Call::OfferToScript,
-    Call::CopyTopology,
-    Call::CopyMap,
-    Call::Union,
+const CALLS: &[(&str, Call)] = rows![
+    "geojson_io::read", Call::ReadGeojson;
+    "topo_io::read", Call::ReadTopology;
+    "topo_io::read_parts", Call::ReadParts;
+    "topo_io::is_canonical", Call::IsCanonical;
+    "Topology::build", Call::Build;
+    "built_text::build_text", Call::BuildText;
+    "Topology::expand", Call::Expand;
+    "query::feature", Call::Features;
+    "query::neighbors", Call::Neighbors;
+    "query::mesh of all borders", Call::Borders;
+    "query::mesh of interior borders", Call::Interior;
+    "query::mesh of exterior borders", Call::Exterior;
+    "topo_io::text_of", Call::TextOf;
+    "topo_io::write", Call::Write;
+    "Kept::offer", Call::OfferToKept;
+    "Script::offer", Call::OfferToScript;
+    "Topology::copy", Call::CopyTopology;
+    "FeatureMap::copy", Call::CopyMap;
+    "FeatureMap::union", Call::Union;
 ];
-
-impl Named for Call {
-    fn name(&self) -> &'static str {
-        match self {
-            Call::ReadGeojson => "geojson_io::read",
-            Call::ReadTopology => "topo_io::read",
-            Call::ReadParts => "topo_io::read_parts",
-            Call::IsCanonical => "topo_io::is_canonical",
-            Call::Build => "Topology::build",
-            Call::BuildText => "built_text::build_text",
-            Call::Expand => "Topology::expand",
-            Call::Features => "query::feature",
-            Call::Neighbors => "query::neighbors",
-            Call::Borders => "query::mesh of all borders",
-            Call::Interior => "query::mesh of interior borders",
-            Call::Exterior => "query::mesh of exterior borders",
-            Call::TextOf => "topo_io::text_of",
-            Call::Write => "topo_io::write",
-            Call::OfferToKept => "Kept::offer",
-            Call::OfferToScript => "Script::offer",
-            Call::CopyTopology => "Topology::copy",
-            Call::CopyMap => "FeatureMap::copy",
-            Call::Union => "FeatureMap::union",
-        }
-    }
-}
 
 impl Lent for Worked {
     type Call = Call;
