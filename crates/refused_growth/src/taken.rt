@@ -2,8 +2,8 @@
 
 use refused_calls::inputs::is_of;
 use refused_calls::outcome::{Answer, Outcome, Tally};
-use refused_calls::texts::{FIRST, FREE_LOOP, SHARED_EDGE, THREE};
 use std::alloc::Global;
+use worked_texts::{FIRST, FREE_LOOP, SHARED_EDGE, THREE};
 
 /// A text of a topology, and the canonical text of the same features.
 #[derive(Clone, Copy)]
