@@ -7,11 +7,8 @@ use Rattle.theory.specs.Topology.{Body, null, point, points, line, lines, polygo
 use Rattle.theory.specs.Users.{UsesArc}
 use Rattle.theory.proofs.Lists.{Has-append, Has-append_left, Has-append_right}
 use Rattle.theory.proofs.ListsOfLists.{Has-gathered, gathered_from, Has-joined, joined_from}
-use Rattle.query.specs.Uses.{refs_uses, body_uses, bodies_uses}
+use Rattle.query.specs.Uses.{use_at, refs_uses, body_uses, bodies_uses}
 use Rattle.query.specs.declared.uses.Use.{Use}
-
-abbrev pub use_at : ℕ → ℕ → Use
-use_at k p = record { arc = k; place = p }
 
 refs_from : (p : ℕ) (us : List ArcRef) (u : Use) → Has u (refs_uses p us) → (u.place ≡ p) × Uses u.arc us
 refs_from p [] u h = absurd h
