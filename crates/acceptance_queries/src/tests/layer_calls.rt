@@ -1,8 +1,10 @@
-//! `write_layer`, `feature`, `mesh`, `neighbors` and the writers of their answers, called on topologies.
+//! `write_layer`, `feature`, `mesh`, `borders`, `neighbors` and the writers of their answers, called on topologies.
+use chains::ArcTable;
 use command_runs::build;
 use command_runs::inputs::{BOW_TIE_TOPOLOGY, EMPTY, SHARED_EDGE, SQUARES};
 use query::{
-    LayerFault, QueryFault, feature, mesh, neighbors, write_layer, write_mesh, write_neighbors,
+    Edges, LayerFault, QueryFault, borders, feature, mesh, neighbors, write_layer, write_mesh,
+    write_neighbors,
 };
 use shapes::Feature;
 use sinks::{Answer, Kept, Script};
@@ -21,6 +23,29 @@ const BOW_TIE_PRINTED: &str =
 /// The borders of the two squares, each stretch once.
 const SQUARES_BORDERS: &str =
     r#"{"coordinates":[[[1,0],[0,0],[0,1],[1,1]],[[1,0],[1,1]],[[1,0],[2,0],[2,1],[1,1]]],"type":"MultiLineString"}"#;
+
+/// The edge that both have, and the outline of both.
+const SQUARES_EDGE: &str = r#"{"coordinates":[[[1,0],[1,1]]],"type":"MultiLineString"}"#;
+const SQUARES_OUTLINE: &str =
+    r#"{"coordinates":[[[0,0],[0,1],[1,1],[2,1],[2,0],[1,0],[0,0]]],"type":"MultiLineString"}"#;
+
+/// The bow tie, whose vertex (1,1) is on four segments.
+const BOW_TIE_BORDERS: &str =
+    r#"{"coordinates":[[[1,1],[0,0],[2,0],[1,1]],[[1,1],[0,2],[2,2],[1,1]]],"type":"MultiLineString"}"#;
+
+/// No line.
+const NO_LINES: &str = r#"{"coordinates":[],"type":"MultiLineString"}"#;
+
+/// Each row is a topology, edges, and the borders of layer `a`.
+const BORDERS: &[(&str, Edges, &str)] = &[
+    (SHARED_EDGE, Edges::All, SQUARES_BORDERS),
+    (SHARED_EDGE, Edges::Interior, SQUARES_EDGE),
+    (SHARED_EDGE, Edges::Exterior, SQUARES_OUTLINE),
+    (BOW_TIE_TOPOLOGY, Edges::All, BOW_TIE_BORDERS),
+    (BOW_TIE_TOPOLOGY, Edges::Interior, NO_LINES),
+    (BOW_TIE_TOPOLOGY, Edges::Exterior, BOW_TIE_BORDERS),
+    (EMPTY, Edges::All, NO_LINES),
+];
 
 /// A collection without features.
 const NOTHING_PRINTED: &str = r#"{"features":[],"type":"FeatureCollection"}"#;
@@ -79,20 +104,51 @@ fn what_is_built_expands_prints_and_builds_again(rt: HostRuntime) -> Result<(), 
     Ok(())
 }
 
+/// The mesh by the filter that the edges stand for.
+fn filtered(
+    alloc: Global,
+    topology: &Topology,
+    layer: Option<&str>,
+    edges: Edges,
+) -> Result<ArcTable, QueryFault> {
+    match edges {
+        Edges::All => mesh(alloc, topology, layer, |_: &Feature, _: &Feature| true),
+        Edges::Interior => mesh(alloc, topology, layer, |a: &Feature, b: &Feature| a != b),
+        Edges::Exterior => mesh(alloc, topology, layer, |a: &Feature, b: &Feature| a == b),
+    }
+}
+
 #[test]
-fn borders_are_written_in_the_order_of_the_mesh(rt: HostRuntime) -> Result<(), Fail> {
+fn borders_and_meshes_are_written_in_their_order(rt: HostRuntime) -> Result<(), Fail> {
+    for (text, edges, printed) in BORDERS {
+        let topology = topology(rt.alloc(), text)?;
+        for layer in [None, Some("a")] {
+            let told = borders(rt.alloc(), &topology, layer, *edges)
+                .ok()
+                .expect(&rt, "borders");
+            let mut written = Kept::new(rt.alloc());
+            assert_eq!(rt; write_mesh(&topology.grid(), &told, &mut written), Ok(()));
+            assert_eq!(rt; written.into_bytes().as_slice(), printed.as_bytes());
+            let lines = filtered(rt.alloc(), &topology, layer, *edges)
+                .ok()
+                .expect(&rt, "a mesh");
+            let mut again = Kept::new(rt.alloc());
+            assert_eq!(rt; write_mesh(&topology.grid(), &lines, &mut again), Ok(()));
+            assert_eq!(rt; again.into_bytes().as_slice(), printed.as_bytes());
+        }
+    }
+    Ok(())
+}
+
+#[test]
+fn borders_of_a_layer_that_is_not_there(rt: HostRuntime) -> Result<(), Fail> {
     let topology = topology(rt.alloc(), SHARED_EDGE)?;
-    let lines = mesh(
-        rt.alloc(),
-        &topology,
-        Some("a"),
-        |_: &Feature, _: &Feature| true,
-    )
-    .ok()
-    .expect(&rt, "a mesh");
-    let mut written = Kept::new(rt.alloc());
-    assert_eq!(rt; write_mesh(&topology.grid(), &lines, &mut written), Ok(()));
-    assert_eq!(rt; written.into_bytes().as_slice(), SQUARES_BORDERS.as_bytes());
+    for edges in [Edges::All, Edges::Interior, Edges::Exterior] {
+        let told = borders(rt.alloc(), &topology, Some("b"), edges);
+        assert_eq!(rt; told.err(), Some(QueryFault::NoLayer));
+        let lines = filtered(rt.alloc(), &topology, Some("b"), edges);
+        assert_eq!(rt; lines.err(), Some(QueryFault::NoLayer));
+    }
     Ok(())
 }
 

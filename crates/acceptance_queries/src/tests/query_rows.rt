@@ -70,6 +70,16 @@ const ROWS: &[(&str, &str, &[(&str, &str)], &[&str], &str)] = rows![
     "one feature in two layers", "1,1,0,0", &[("a", A), ("b", A)], &["mesh", "--edges", "interior", "t.json"],
         r#"{"coordinates":[],"type":"MultiLineString"}"#;
     "absolute numbers", "10,10,-500,3", &[("a", FAR_LINE)], &["mesh", "t.json"], r#"{"coordinates":[[[-500,3],[500,-7]]],"type":"MultiLineString"}"#;
+    "all borders of one of two layers", "1,1,0,0", &[("a", A), ("b", EDGE)], &["mesh", "--layer", "a", "t.json"],
+        r#"{"coordinates":[[[0,0],[0,1],[1,1],[1,0],[0,0]]],"type":"MultiLineString"}"#;
+    "all borders of the other", "1,1,0,0", &[("a", A), ("b", EDGE)], &["mesh", "--layer", "b", "t.json"],
+        r#"{"coordinates":[[[1,0],[1,1]]],"type":"MultiLineString"}"#;
+    "all borders of two layers", "1,1,0,0", &[("a", A), ("b", C)], &["mesh", "t.json"],
+        r#"{"coordinates":[[[0,0],[0,1],[1,1],[1,0],[0,0]],[[2,0],[2,1],[3,1],[3,0],[2,0]]],"type":"MultiLineString"}"#;
+    "each stretch of one feature in two layers once", "1,1,0,0", &[("a", A), ("b", A)], &["mesh", "t.json"],
+        r#"{"coordinates":[[[0,0],[0,1],[1,1],[1,0],[0,0]]],"type":"MultiLineString"}"#;
+    "points have no border, lines have", "1,1,0,0", &[("a", POINTS), ("a", LINES)], &["mesh", "t.json"],
+        r#"{"coordinates":[[[0,0],[1,0]],[[5,5],[6,5]]],"type":"MultiLineString"}"#;
     // Neighbours.
     "two squares", "1,1,0,0", &[("a", SQUARES)], &["neighbors", "--layer", "a", "t.json"], r#"[[1],[0]]"#;
     "squares that touch in a point", "1,1,0,0", &[("a", A), ("a", S)], &["neighbors", "--layer", "a", "t.json"], r#"[[],[]]"#;
