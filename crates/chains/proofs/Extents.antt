@@ -2,6 +2,7 @@
 use Rattle.std.proofs.Common.{◌≡◌, ℤ, Bool, true, false, ◌&&◌, ◌≤ℤ◌, int_le, refl, ap, ◌∙◌, arith}
 use Rattle.std.proofs.lemmas.Int.{ints, clamps}
 use Rattle.std.specs.Int.{int_min, int_max}
+use Rattle.grid.specs.declared.limits.TheConstants.{LEAST_GRID_NUMBER, GREATEST_GRID_NUMBER}
 use Rattle.grid.specs.declared.pos.Pos.{Pos}
 use Rattle.chains.specs.Extents.{between, within}
 use Rattle.lines.specs.Holding.{IsMarked}
@@ -58,3 +59,13 @@ widened e w p a b c d = (
   both_true (between w.west p.x w.east) (between w.south p.y w.north)
       (reached e.west e.east w.west w.east p.x a c) (reached e.south e.north w.south w.north p.y b d),
 )
+
+-- all positions lie within the limits
+pub all_within : (e : Extent) (p : Pos) → e.west ≡ LEAST_GRID_NUMBER → e.south ≡ LEAST_GRID_NUMBER → e.east ≡ GREATEST_GRID_NUMBER → e.north ≡ GREATEST_GRID_NUMBER →
+    within e p ≡ true
+all_within e p a b c d =
+    both_true (between e.west p.x e.east) (between e.south p.y e.north)
+    (both_true (int_le e.west p.x) (int_le p.x e.east)
+    (ap (λ w. int_le w p.x) a ∙ test_of LEAST_GRID_NUMBER p.x p.across.low) (ap (int_le p.x) c ∙ test_of p.x GREATEST_GRID_NUMBER p.across.high))
+    (both_true (int_le e.south p.y) (int_le p.y e.north)
+    (ap (λ w. int_le w p.y) b ∙ test_of LEAST_GRID_NUMBER p.y p.along.low) (ap (int_le p.y) d ∙ test_of p.y GREATEST_GRID_NUMBER p.along.high))

@@ -28,6 +28,8 @@ pub mod Sharing
 pub mod Recurring
 pub mod SharedVertices
 pub mod TablesAsMap
+pub mod Coming
+pub mod ManyTables
 pub mod ArcsCut
 pub mod Stepping
 pub mod Siding

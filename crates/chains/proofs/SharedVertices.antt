@@ -45,7 +45,7 @@ last_has : (x : Pos) (r : List Pos) → Has (last_of x r) (x ∷ r)
 last_has x [] = inl refl
 last_has x (y ∷ r) = inr (last_has y r)
 
-end_has : (v : Pos) (l : List Pos) → EndOf v l → Has v l
+pub end_has : (v : Pos) (l : List Pos) → EndOf v l → Has v l
 end_has v [] h = absurd h
 end_has v (x ∷ r) (inl e) = inl e
 end_has v (x ∷ r) (inr e) = subst (λ w. Has w (x ∷ r)) (sym e) (last_has x r)
@@ -56,7 +56,7 @@ begins_has a v b (x ∷ []) (inl h) = absurd h.1
 begins_has a v b (x ∷ (y ∷ l)) (inl h) = inr (inl h.1.0)
 begins_has a v b (x ∷ l) (inr h) = inr (begins_has a v b l h)
 
-between_there : (a v b : Pos) (l : List Pos) → Between a v b l → Has v l
+pub between_there : (a v b : Pos) (l : List Pos) → Between a v b l → Has v l
 between_there a v b l (inl h) = begins_has a v b l h
 between_there a v b l (inr h) = begins_has b v a l h
 
@@ -65,7 +65,7 @@ round_has a v b [] h = absurd h
 round_has a v b (x ∷ []) h = absurd h
 round_has a v b (x ∷ (y ∷ l)) h = inr (middle_has x a v b y ((y ∷ l) ++ (x ∷ [])) (subst (Passes a v b) (closed_around x y l) h))
 
-around_has : (a v b : Pos) (r : List Pos) → Between a v b (around r) → Has v (closed r)
+pub around_has : (a v b : Pos) (r : List Pos) → Between a v b (around r) → Has v (closed r)
 around_has a v b r (inl h) = round_has a v b r h
 around_has a v b r (inr h) = round_has b v a r h
 
@@ -75,7 +75,7 @@ front_has v x (y ∷ r) (inl e) = inl e
 front_has v x (y ∷ r) (inr h) = inr (front_has v y r h)
 
 -- the inner vertices of an arc stand in it
-inside_has : (v : Pos) (b : Bool) (c : List Pos) → Has v (inside b c) → Has v c
+pub inside_has : (v : Pos) (b : Bool) (c : List Pos) → Has v (inside b c) → Has v c
 inside_has v true c h = h
 inside_has v false [] h = absurd h
 inside_has v false (x ∷ []) h = absurd h
@@ -92,7 +92,7 @@ passes_inside a v b (x ∷ (y ∷ (z ∷ r))) (inl h) = inl h.1.0
 passes_inside a v b (x ∷ (y ∷ (z ∷ r))) (inr h) = inr (passes_inside a v b (y ∷ (z ∷ r)) h)
 
 -- the visits of an arc are at its inner vertices
-visit_inside : (m : Geometry Pos) (sm : IsSound m) (s : Arcs) (ms : IsTableOf m s) (c : List Pos) → Has c s.arcs → (w : Visit) → Has w (arc_visits s.loops c) → Has w.vertex (inside (is_loop s.loops c) c)
+pub visit_inside : (m : Geometry Pos) (sm : IsSound m) (s : Arcs) (ms : IsTableOf m s) (c : List Pos) → Has c s.arcs → (w : Visit) → Has w (arc_visits s.loops c) → Has w.vertex (inside (is_loop s.loops c) c)
 visit_inside m sm s ms c h w = go (is_loop s.loops c) refl
   where
     go : (b : Bool) → is_loop s.loops c ≡ b → Has w (cond b (around_of (unclosed c)) (inner_of c)) → Has w.vertex (inside b c)
@@ -102,7 +102,7 @@ visit_inside m sm s ms c h w = go (is_loop s.loops c) refl
     go false e k = let f = found_in w c k in passes_inside f.before w.vertex f.next c f.there
 
 -- a visit of an arc of a map is at no junction of it
-inner : (m : Geometry Pos) (sm : IsSound m) (s : Arcs) (ms : IsTableOf m s) (c : List Pos) → Has c s.arcs → (w : Visit) → Has w (arc_visits s.loops c) → ¬ JunctionOf m w.vertex
+pub inner : (m : Geometry Pos) (sm : IsSound m) (s : Arcs) (ms : IsTableOf m s) (c : List Pos) → Has c s.arcs → (w : Visit) → Has w (arc_visits s.loops c) → ¬ JunctionOf m w.vertex
 inner m sm s ms c h w = go (is_loop s.loops c) refl
   where
     passed : (l : List Pos) → IsChainOf position_cmp m l → (a b : Pos) → Passes a w.vertex b l → ¬ JunctionOf m w.vertex
@@ -282,39 +282,48 @@ mapped_at f [] i x e = absurd cc
 mapped_at f (y ∷ l) zero x e = ap f cc
 mapped_at f (y ∷ l) (suc i) x e = mapped_at f l i x e
 
--- what is noted of one table, where the bits are those of the other
+-- what is noted of one table, where an arc that is not met has no junction of the whole map at a visit
+module _ (m : Geometry Pos) (sm : IsSound m) (s : Arcs) (ms : IsTableOf m s) (a : Geometry Pos) (opens : (l : List Pos) → OpenArc m s.arcs l → IsLineOf a l)
+    (may : Pos → Bool)
+    (unmet : (c : List Pos) → Has c s.arcs → arc_meets may s.loops c ≡ false → (w : Visit) → Has w (arc_visits s.loops c) → ¬ JunctionOf a w.vertex) where
+  pub side_whole : (js : List Pos) → IsIndexOf js a → (marks : List Bool) → marks ≡ map (arc_meets may s.loops) s.arcs → StayWhole js s marks
+  side_whole js index marks e i c g f =
+      let h = get_has s.arcs i c g in
+      stays_whole m sm s ms a js index opens c h
+      (unmet c h (sym (mapped_at (arc_meets may s.loops) s.arcs i c g) ∙ sym (ap (λ w. get_or w i true) e) ∙ f))
+
+  pub side_kept : (v : Visit) → Has v (gathered (arc_visits s.loops) s.arcs) → JunctionOf a v.vertex → Has v (gathered (arc_shared may s.loops) s.arcs)
+  side_kept v h j =
+      let q = gathered_from (arc_visits s.loops) s.arcs v h in
+      Has-gathered (arc_shared may s.loops) s.arcs q.0 v q.1 (go q.0 q.1 (arc_meets may s.loops q.0) refl q.2)
+    where
+      go : (c : List Pos) → Has c s.arcs → (b : Bool) → arc_meets may s.loops c ≡ b → Has v (arc_visits s.loops c) → Has v (cond b (arc_visits s.loops c) [])
+      go c i true e k = k
+      go c i false e k = absurd (unmet c i e v k j)
+
+pub side_only : (s : Arcs) (may : Pos → Bool) (v : Visit) → Has v (gathered (arc_shared may s.loops) s.arcs) → Has v (gathered (arc_visits s.loops) s.arcs)
+side_only s may v h =
+    let q = gathered_from (arc_shared may s.loops) s.arcs v h in
+    Has-gathered (arc_visits s.loops) s.arcs q.0 v q.1 (go q.0 (arc_meets may s.loops q.0) q.2)
+  where
+    go : (c : List Pos) (b : Bool) → Has v (cond b (arc_visits s.loops c) []) → Has v (arc_visits s.loops c)
+    go c true k = k
+    go c false k = absurd k
+
+-- where the bits are those of the other table, an arc of which no inner vertex may be the other's is not met
 module _ (m n : Geometry Pos) (sm : IsSound m) (s t : Arcs) (ms : IsTableOf m s) (a : Geometry Pos) (am : AreArcsAsMap m n s.arcs t.arcs a)
     (bits : VertexBits) (hold : HoldShared bits t.arcs s.arcs) where
-  -- an arc of which no inner vertex may be the other table's has no junction at a visit
-  unmet : (c : List Pos) → Has c s.arcs → arc_meets (may_hold bits) s.loops c ≡ false → (w : Visit) → Has w (arc_visits s.loops c) → ¬ JunctionOf a w.vertex
-  unmet c h e w k =
+  unmet_by : (c : List Pos) → Has c s.arcs → arc_meets (may_hold bits) s.loops c ≡ false → (w : Visit) → Has w (arc_visits s.loops c) → ¬ JunctionOf a w.vertex
+  unmet_by c h e w k =
       let i = visit_inside m sm s ms c h w k in
       alone m n sm s t ms a am c h w k (λ d j o. true_false (may_hold bits w.vertex) (hold d j c h w.vertex o (inside_has w.vertex (is_loop s.loops c) c i))
       (none_met (may_hold bits) (inside (is_loop s.loops c) c) e w.vertex i))
 
-  pub side_whole : (js : List Pos) → IsIndexOf js a → (marks : List Bool) → marks ≡ map (arc_meets (may_hold bits) s.loops) s.arcs → StayWhole js s marks
-  side_whole js index marks e i c g f =
-      let h = get_has s.arcs i c g in
-      stays_whole m sm s ms a js index am.open_left c h
-      (unmet c h (sym (mapped_at (arc_meets (may_hold bits) s.loops) s.arcs i c g) ∙ sym (ap (λ w. get_or w i true) e) ∙ f))
+  whole_by : (js : List Pos) → IsIndexOf js a → (marks : List Bool) → marks ≡ map (arc_meets (may_hold bits) s.loops) s.arcs → StayWhole js s marks
+  whole_by = side_whole m sm s ms a am.open_left (may_hold bits) unmet_by
 
-  pub side_kept : (v : Visit) → Has v (gathered (arc_visits s.loops) s.arcs) → JunctionOf a v.vertex → Has v (gathered (arc_shared (may_hold bits) s.loops) s.arcs)
-  side_kept v h j =
-      let q = gathered_from (arc_visits s.loops) s.arcs v h in
-      Has-gathered (arc_shared (may_hold bits) s.loops) s.arcs q.0 v q.1 (go q.0 q.1 (arc_meets (may_hold bits) s.loops q.0) refl q.2)
-    where
-      go : (c : List Pos) → Has c s.arcs → (b : Bool) → arc_meets (may_hold bits) s.loops c ≡ b → Has v (arc_visits s.loops c) → Has v (cond b (arc_visits s.loops c) [])
-      go c i true e k = k
-      go c i false e k = absurd (unmet c i e v k j)
-
-  pub side_only : (v : Visit) → Has v (gathered (arc_shared (may_hold bits) s.loops) s.arcs) → Has v (gathered (arc_visits s.loops) s.arcs)
-  side_only v h =
-      let q = gathered_from (arc_shared (may_hold bits) s.loops) s.arcs v h in
-      Has-gathered (arc_visits s.loops) s.arcs q.0 v q.1 (go q.0 (arc_meets (may_hold bits) s.loops q.0) q.2)
-    where
-      go : (c : List Pos) (b : Bool) → Has v (cond b (arc_visits s.loops c) []) → Has v (arc_visits s.loops c)
-      go c true k = k
-      go c false k = absurd k
+  kept_by : (v : Visit) → Has v (gathered (arc_visits s.loops) s.arcs) → JunctionOf a v.vertex → Has v (gathered (arc_shared (may_hold bits) s.loops) s.arcs)
+  kept_by = side_kept m sm s ms a am.open_left (may_hold bits) unmet_by
 
 -- vertices that lie in both extents are held, and those of both tables do
 pub shared_held : (s t : Arcs) (a b : Extent) (bits : VertexBits) → HoldAll (within a) s.arcs → HoldAll (within b) t.arcs → HoldCommon a b bits s.arcs → HoldShared bits s.arcs t.arcs
@@ -346,22 +355,22 @@ module _ (m n : Geometry Pos) (sm : IsSound m) (sn : IsSound n) (s t : Arcs) (ms
       HaveSame kept (gathered (arc_shared (may_hold of_t) s.loops) s.arcs ++ gathered (arc_shared (may_hold of_s) t.loops) t.arcs) → KeepsClashes kept all_visits
   met_kept ends kept are e = record {
     only = λ v h. elim (Has-append v (gathered (arc_shared (may_hold of_t) s.loops) s.arcs) (gathered (arc_shared (may_hold of_s) t.loops) t.arcs) ((e.members v).0 h)) [
-      | inl k ↦ Has-append_left v (gathered (arc_visits s.loops) s.arcs) (gathered (arc_visits t.loops) t.arcs) (side_only m n sm s t ms (tables_as_map s t) am of_t hold_t v k)
-      | inr k ↦ Has-append_right v (gathered (arc_visits s.loops) s.arcs) (gathered (arc_visits t.loops) t.arcs) (side_only n m sn t s nt (tables_as_map s t) back of_s hold_s v k)
+      | inl k ↦ Has-append_left v (gathered (arc_visits s.loops) s.arcs) (gathered (arc_visits t.loops) t.arcs) (side_only s (may_hold of_t) v k)
+      | inr k ↦ Has-append_right v (gathered (arc_visits s.loops) s.arcs) (gathered (arc_visits t.loops) t.arcs) (side_only t (may_hold of_s) v k)
     ];
     clashing = λ v w h k f d.
         let j = clash_seen (tables_as_map s t) ends all_visits are v.vertex
         (record { one = v; other = w; has_one = h; has_other = k; at_one = refl; at_other = sym f; differ = d }) in
         (e.members v).1 (elim (Has-append v (gathered (arc_visits s.loops) s.arcs) (gathered (arc_visits t.loops) t.arcs) h) [
           | inl i ↦ Has-append_left v (gathered (arc_shared (may_hold of_t) s.loops) s.arcs) (gathered (arc_shared (may_hold of_s) t.loops) t.arcs)
-              (side_kept m n sm s t ms (tables_as_map s t) am of_t hold_t v i j)
+              (kept_by m n sm s t ms (tables_as_map s t) am of_t hold_t v i j)
           | inr i ↦ Has-append_right v (gathered (arc_shared (may_hold of_t) s.loops) s.arcs) (gathered (arc_shared (may_hold of_s) t.loops) t.arcs)
-              (side_kept n m sn t s nt (tables_as_map s t) back of_s hold_s v i j)
+              (kept_by n m sn t s nt (tables_as_map s t) back of_s hold_s v i j)
         ]);
   }
 
   pub left_whole : (js : List Pos) → IsIndexOf js (tables_as_map s t) → (marks : List Bool) → marks ≡ map (arc_meets (may_hold of_t) s.loops) s.arcs → StayWhole js s marks
-  left_whole = side_whole m n sm s t ms (tables_as_map s t) am of_t hold_t
+  left_whole = whole_by m n sm s t ms (tables_as_map s t) am of_t hold_t
 
   pub right_whole : (js : List Pos) → IsIndexOf js (tables_as_map s t) → (marks : List Bool) → marks ≡ map (arc_meets (may_hold of_s) t.loops) t.arcs → StayWhole js t marks
-  right_whole = side_whole n m sn t s nt (tables_as_map s t) back of_s hold_s
+  right_whole = whole_by n m sn t s nt (tables_as_map s t) back of_s hold_s

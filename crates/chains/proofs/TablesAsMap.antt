@@ -67,12 +67,12 @@ module _ (loops : List (List Pos)) (arcs : List (List Pos)) where
   pub has_loop : (c : List Pos) → Has c arcs → is_loop loops c ≡ true → Has (unclosed c) (loops_in loops arcs)
   has_loop c h e = Has-map unclosed (keep (is_loop loops) arcs) c (has_keep (is_loop loops) arcs c h e)
 
-  ends_there : (v : Pos) (l : List Pos) → Has l (open_in loops arcs) → EndOf v l → Has v (gathered (arc_ends loops) arcs)
+  pub ends_there : (v : Pos) (l : List Pos) → Has l (open_in loops arcs) → EndOf v l → Has v (gathered (arc_ends loops) arcs)
   ends_there v l h e =
       let k = open_has l h in
       Has-gathered (arc_ends loops) arcs l v k.0 (in_second v [] (ends_of l) (is_loop loops l) k.1 (ends_has v l e))
 
-  ends_from : (v : Pos) → Has v (gathered (arc_ends loops) arcs) → (l : List Pos) × Has l (open_in loops arcs) × EndOf v l
+  pub ends_from : (v : Pos) → Has v (gathered (arc_ends loops) arcs) → (l : List Pos) × Has l (open_in loops arcs) × EndOf v l
   ends_from v h =
       let t = gathered_from (arc_ends loops) arcs v h in
       go t.0 t.1 (is_loop loops t.0) refl t.2
@@ -81,20 +81,20 @@ module _ (loops : List (List Pos)) (arcs : List (List Pos)) where
       go l k true e h = absurd h
       go l k false e h = (l, has_open l k e, has_ends v l h)
 
-  line_there : (a v b : Pos) (l : List Pos) → Has l (open_in loops arcs) → Between a v b l → Has (visit_of a v b) (gathered (arc_visits loops) arcs)
+  pub line_there : (a v b : Pos) (l : List Pos) → Has l (open_in loops arcs) → Between a v b l → Has (visit_of a v b) (gathered (arc_visits loops) arcs)
   line_there a v b l h p =
       let k = open_has l h in
       Has-gathered (arc_visits loops) arcs l (visit_of a v b) k.0
       (in_second (visit_of a v b) (around_of (unclosed l)) (inner_of l) (is_loop loops l) k.1 (between_has a v b l p))
 
-  ring_there : (a v b : Pos) (r : List Pos) → Has r (loops_in loops arcs) → Between a v b (around r) → Has (visit_of a v b) (gathered (arc_visits loops) arcs)
+  pub ring_there : (a v b : Pos) (r : List Pos) → Has r (loops_in loops arcs) → Between a v b (around r) → Has (visit_of a v b) (gathered (arc_visits loops) arcs)
   ring_there a v b r h p =
       let k = loop_has r h in
       Has-gathered (arc_visits loops) arcs k.0 (visit_of a v b) k.1
       (in_first (visit_of a v b) (around_of (unclosed k.0)) (inner_of k.0) (is_loop loops k.0) k.2
       (subst (λ w. Has (visit_of a v b) (around_of w)) k.3 (between_has a v b (around r) p)))
 
-  visits_from : (w : Visit) → Has w (gathered (arc_visits loops) arcs) →
+  pub visits_from : (w : Visit) → Has w (gathered (arc_visits loops) arcs) →
       ((l : List Pos) × Has l (open_in loops arcs) × Found w l) ⊎ ((r : List Pos) × Has r (loops_in loops arcs) × Found w (around r))
   visits_from w h =
       let t = gathered_from (arc_visits loops) arcs w h in

@@ -18,5 +18,6 @@ pub mod Walk
 pub mod Segments
 pub mod Joined
 pub mod OfArcs
+pub mod Many
 pub mod Along
 pub mod Turning

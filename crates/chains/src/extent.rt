@@ -1,6 +1,7 @@
 //! The box that the positions of a table's arcs lie in.
-ghost use Rattle.std.specs.Prelude.{◌≡◌};
+ghost use Rattle.std.specs.Prelude.{◌≡◌, true};
 ghost use Rattle.std.specs.Int.{int_min, int_max};
+ghost use Rattle.grid.specs.declared.pos.Pos.{Pos};
 ghost use Rattle.chains.specs.Extents.{between, within};
 ghost use Rattle.lines.specs.Holding.{AreMarked};
 ghost use Rattle.chains.specs.Holding.{AreDealtTo, HoldAll};
@@ -34,6 +35,18 @@ fn is_between(least: i64, number: i64, greatest: i64) -> bool
 }
 
 impl Extent {
+    /// That of all positions.
+    pub(crate) fn everywhere() -> Extent
+        ensures { (p : Pos) → within result p ≡ true }
+    {
+        Extent {
+            west: LEAST_GRID_NUMBER,
+            south: LEAST_GRID_NUMBER,
+            east: GREATEST_GRID_NUMBER,
+            north: GREATEST_GRID_NUMBER,
+        }
+    }
+
     /// Whether a position lies within.
     pub(crate) fn has(&self, p: Pos) -> bool
         ensures { result ≡ within self.now p }

@@ -4,6 +4,8 @@ ghost use Rattle.std.specs.Prelude.{◌≡◌, ◌++◌, IfOk, OnOk, slice_get};
 ghost use Rattle.std.specs.List.{list_any};
 ghost use Rattle.theory.specs.Lists.{gathered};
 ghost use Rattle.theory.specs.TopologyFunction.{keep};
+ghost use Rattle.grid.specs.declared.pos.Pos.{Pos};
+ghost use Rattle.lines.specs.Bits as bits_of;
 ghost use Rattle.chains.specs.Extents.{within};
 ghost use Rattle.chains.specs.Shared as spec;
 ghost use Rattle.chains.specs.Shared.{HoldCommon, kept_if, may_hold};
@@ -48,7 +50,7 @@ fn add_numbered(
 }
 
 /// The vertices of a table's arcs that lie in an extent.
-fn vertices_within(alloc: Global, table: &ArcTable, extent: &Extent) -> Result<Vec<Pos>, AllocError>
+pub(crate) fn vertices_within(alloc: Global, table: &ArcTable, extent: &Extent) -> Result<Vec<Pos>, AllocError>
     ensures { IfOk result (λ v. v.items ≡ gathered (keep (within extent.now)) table.now.arcs) }
 {
     let mut list = Vec::new(alloc);
@@ -72,6 +74,14 @@ impl VertexBits {
         let list = vertices_within(alloc, table, other)?;
         let bits = PositionBits::of(alloc, &list)?;
         Ok(VertexBits { extent, bits })
+    }
+
+    /// Bits of positions that may lie anywhere.
+    pub(crate) fn anywhere(bits: PositionBits) -> VertexBits
+        ensures { (p : Pos) → may_hold result p ≡ bits_of.may_hold bits p }
+    {
+        let extent = Extent::everywhere();
+        VertexBits { extent, bits }
     }
 
     /// Whether a position may be a vertex of both tables. Where a vertex of the other table may not,

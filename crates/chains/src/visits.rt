@@ -7,6 +7,7 @@ ghost use Rattle.theory.specs.Topology.{forms_of};
 ghost use Rattle.grid.specs.declared.pos.Pos.{Pos};
 ghost use Rattle.chains.specs.Shared.{KeepsClashes, StayWhole, arc_meets, arc_shared, may_hold, meets, meets_if, met_visits, shared_if};
 ghost use Rattle.chains.specs.Among.{among};
+ghost use Rattle.chains.specs.Many.{AreTablesOf, StandWhole, all_as_map, table_ends, table_marks, table_shared};
 ghost use Rattle.chains.specs.Visits.{visit_of, inner_of, ends_of, around_of, clash, clashes_of, HaveSame};
 ghost use Rattle.chains.specs.Seen.{line_of, ring_of, form_of, geometry_of, seen};
 ghost use Rattle.chains.specs.Index.{IsIndexOf, EndsALine, AreVisitsOf, feature_ends, feature_visits, form_ends, form_visits};
@@ -14,11 +15,13 @@ ghost use Rattle.chains.specs.OfArcs.{arc_ends, ends_if, tables_as_map};
 ghost use Rattle.chains.specs.Table.{IsTableOf};
 ghost use Rattle.chains.specs.declared.visits.Visit.{Visit as Visiting};
 ghost use Rattle.theory.specs.Refinement.{IsUnionOf, unclosed};
+ghost use Rattle.theory.specs.Unions.{IsUnionOfAll};
 ghost use Rattle.shapes.specs.Maps.{set_of};
 ghost use Rattle.shapes.specs.Sets as set;
 
 use crate::extent::Extent;
 use crate::repeats::repeated;
+use crate::several::held_by_several;
 use crate::shared::{VertexBits, inside};
 use crate::table::ArcTable;
 use faults::OutOfMemory;
@@ -247,6 +250,24 @@ impl Seen {
         Ok(marks)
     }
 
+    /// `see_arcs` of many tables, of which each takes `several` for the others.
+    fn see_tables(
+        &mut self,
+        alloc: Global,
+        several: &VertexBits,
+        tables: &[ArcTable],
+    ) -> Result<Vec<Vec<bool>>, AllocError>
+        ensures ends { OnOk result (self.new.ends.items ≡ self.old.ends.items ++ gathered table_ends tables.now) }
+        ensures visits { OnOk result (HaveSame self.new.visits.items (self.old.visits.items ++ gathered (table_shared (may_hold several.now)) tables.now)) }
+        ensures marks { IfOk result (λ v. map_list (λ w. w.items) v.items ≡ map_list (table_marks (may_hold several.now)) tables.now) }
+    {
+        let mut marks = Vec::with_capacity(alloc, tables.len())?;
+        for table in tables {
+            marks.push(self.see_arcs(alloc, several, table)?)?;
+        }
+        Ok(marks)
+    }
+
     fn see_lines(&mut self, lines: &[Line]) -> Result<(), AllocError>
         ensures ends { OnOk result (self.new.ends.items ≡ self.old.ends.items ++ gathered ends_of (map_list line_of lines.now)) }
         ensures visits { OnOk result (HaveSame self.new.visits.items (self.old.visits.items ++ gathered inner_of (map_list line_of lines.now))) }
@@ -366,6 +387,14 @@ pub struct ArcsIndex {
     pub right: Vec<bool>,
 }
 
+/// The index over the arcs of many tables, and for each table's arcs whether they may be cut: one that is
+/// not marked is its own one piece.
+#[derive(Drop)]
+pub struct ManyCuts {
+    pub index: VisitIndex,
+    pub marks: Vec<Vec<bool>>,
+}
+
 impl VisitIndex {
     fn of_seen(alloc: Global, seen: Seen) -> Result<VisitIndex, AllocError>
         ensures { IfOk result (λ i. (g : Geometry Pos) (all : List Visiting) → KeepsClashes seen.visits.items all → AreVisitsOf seen.ends.items all g → IsIndexOf i g) }
@@ -443,6 +472,27 @@ impl VisitIndex {
             left: left_marks,
             right: right_marks,
         })
+    }
+
+    /// The index over all arcs of many tables, each that of a map. It is the index of all maps taken
+    /// together.
+    ///
+    /// # Errors
+    /// Where memory is refused.
+    pub fn over_tables(alloc: Global, tables: &[ArcTable]) -> Result<ManyCuts, OutOfMemory>
+        ensures arcs { IfOk result (λ r. (ms : List (Geometry Pos)) → AreTablesOf ms tables.now → IsIndexOf r.index (all_as_map tables.now)) }
+        ensures union { IfOk result (λ r. (ms : List (Geometry Pos)) (u : Geometry Pos) → AreTablesOf ms tables.now → IsUnionOfAll ms u → IsIndexOf r.index u) }
+        ensures whole { IfOk result (λ r. (ms : List (Geometry Pos)) → AreTablesOf ms tables.now → StandWhole r.index tables.now (map_list (λ w. w.items) r.marks.items)) }
+    {
+        let several = held_by_several(alloc, tables)?;
+        let mut seen = Seen {
+            ends: Vec::new(alloc),
+            visits: Vec::new(alloc),
+            recent: Vec::new(alloc),
+        };
+        let marks = seen.see_tables(alloc, &several, tables)?;
+        let index = VisitIndex::of_seen(alloc, seen)?;
+        Ok(ManyCuts { index, marks })
     }
 
     fn has(&self, p: Pos) -> bool

@@ -65,7 +65,7 @@ pub bounds_within : (bs : List ℕ) (end i a b : ℕ) → AreBounds bs end → s
 bounds_within [] end i a b h e f = absurd cc
 bounds_within (n ∷ es) end i a b h e f = ends_within n es end i a b h e f
 
-ends_are : {A : Type 0} (n : ℕ) (ls : List (List A)) → AreEnds n (ends_from n ls) (n + length (joined ls))
+pub ends_are : {A : Type 0} (n : ℕ) (ls : List (List A)) → AreEnds n (ends_from n ls) (n + length (joined ls))
 ends_are n [] = omega arith
 ends_are n (l ∷ ls) =
     let a : length (l ++ joined ls) ≡ length l + length (joined ls) = length-append l (joined ls) in
@@ -79,7 +79,7 @@ bounds_are f ls bs l e g =
     let k : 0 + length (joined ls) ≡ length l = omega (arith, a, ap length g) in
     subst (λ w. AreBounds w (length l)) (sym e) (subst (AreEnds 0 (ends_from 0 ls)) k (ends_are 0 ls))
 
-between_middle : {A : Type 0} (before middle after : List A) (n k : ℕ) → n ≡ length before → k ≡ length middle → between n (n + k) (before ++ (middle ++ after)) ≡ middle
+pub between_middle : {A : Type 0} (before middle after : List A) (n k : ℕ) → n ≡ length before → k ≡ length middle → between n (n + k) (before ++ (middle ++ after)) ≡ middle
 between_middle before middle after n k e f =
     let all = before ++ (middle ++ after) in
     let g : n + k - n ≡ length middle = omega (arith, f) in

@@ -1,6 +1,9 @@
 pub mod Bounds
 pub mod Parted
+pub mod Refining
 pub mod TwoTables
+pub mod ManyBounds
+pub mod ManyTables
 pub mod Replaced
 pub mod Lists
 pub mod ProvedLaws

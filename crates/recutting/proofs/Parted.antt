@@ -17,20 +17,20 @@ use Rattle.recutting.specs.Cutting.{arc_used, pieces_from}
 use Rattle.recutting.specs.Parts.{RecutParts}
 use Rattle.recutting.proofs.Bounds.{between_again}
 
-joined_map : {A B : Type 0} (f : A → List B) (l : List A) → joined (map f l) ≡ gathered f l
+pub joined_map : {A B : Type 0} (f : A → List B) (l : List A) → joined (map f l) ≡ gathered f l
 joined_map f [] = refl
 joined_map f (x ∷ l) = ap (λ w. f x ++ w) (joined_map f l)
 
-length_from : (js : List Pos) (marks : List Bool) (n : ℕ) (ps : List Piece) → length (pieces_from js marks n ps) ≡ length ps
+pub length_from : (js : List Pos) (marks : List Bool) (n : ℕ) (ps : List Piece) → length (pieces_from js marks n ps) ≡ length ps
 length_from js marks n [] = refl
 length_from js marks n (p ∷ ps) = ap suc (length_from js marks (n + 1) ps)
 
-length_whole : (loops cs : List (List Pos)) → length (gathered (whole loops) cs) ≡ length cs
+pub length_whole : (loops cs : List (List Pos)) → length (gathered (whole loops) cs) ≡ length cs
 length_whole loops [] = refl
 length_whole loops (c ∷ cs) = ap suc (length_whole loops cs)
 
 -- the pieces of the arcs of a table, of which those that are not marked stay whole
-kept : (js : List Pos) (t : Arcs) (marks : List Bool) → StayWhole js t marks → pieces_from js marks 0 (whole_pieces t) ≡ map (arc_pieces js t.loops) t.arcs
+pub kept : (js : List Pos) (t : Arcs) (marks : List Bool) → StayWhole js t marks → pieces_from js marks 0 (whole_pieces t) ≡ map (arc_pieces js t.loops) t.arcs
 kept js t marks stay = go 0 t.arcs (λ i c e f. stay i c e (subst (λ m. get_or marks m true ≡ false) (omega arith) f))
   where
     one : (b : Bool) (c : List Pos) → (b ≡ false → arc_pieces js t.loops c ≡ whole t.loops c) → cond b (arc_pieces js t.loops c) (whole t.loops c) ≡ arc_pieces js t.loops c

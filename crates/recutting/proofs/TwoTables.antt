@@ -1,28 +1,23 @@
 -- The arcs of two tables, cut again: the table of both maps together, and its arcs in place of the old ones.
 use Rattle.std.proofs.Common.{◌≡◌, Bool, true, false, cond, List, ◌++◌, map, ◌⊎◌, inl, inr, refl, sym, subst}
 use Rattle.theory.specs.Arcs.{AreSortedOnce}
-use Rattle.theory.specs.Chain.{Free}
-use Rattle.theory.specs.Geometry.{Geometry, IsSound, IsLineOf, IsRingOf, JunctionOf}
+use Rattle.theory.specs.Geometry.{Geometry, IsSound, IsLineOf, IsRingOf}
 use Rattle.theory.specs.Lists.{Has, gathered}
-use Rattle.theory.specs.Refinement.{Alike, ArePiecesOfArc, IsRefinementOf, IsUnionOf, unclosed}
-use Rattle.theory.proofs.ArcsAsMap.{turned_alike}
+use Rattle.theory.specs.Refinement.{Alike, IsUnionOf, unclosed}
 use Rattle.theory.proofs.Lists.{Has-append, Has-append_left, Has-append_right}
-use Rattle.theory.proofs.ListsOfLists.{Has-gathered, gathered_from, Pairwise-map}
+use Rattle.theory.proofs.ListsOfLists.{Has-gathered, gathered_from}
 use Rattle.grid.specs.declared.pos.Pos.{Pos}
-use Rattle.lines.specs.Turned.{position_cmp, list_cmp}
+use Rattle.lines.specs.Turned.{list_cmp}
 use Rattle.chains.specs.Arcs.{Arcs}
 use Rattle.chains.specs.Index.{IsIndexOf}
 use Rattle.chains.specs.OfArcs.{open_in, loops_in, tables_as_map, arc_pieces}
 use Rattle.chains.specs.Pieces.{chain_of, line_pieces, ring_pieces}
-use Rattle.chains.specs.Table.{is_loop, located, ArePiecesOfMap, IsTableOf}
+use Rattle.chains.specs.Table.{is_loop, ArePiecesOfMap, IsTableOf}
 use Rattle.chains.specs.declared.cutting.Piece.{Piece}
-use Rattle.chains.proofs.ArcsCut.{table_alike}
-use Rattle.lines.specs.Positions.{position_total, position_same}
-use Rattle.lines.proofs.Positions.{position_dec}
-use Rattle.chains.proofs.TableOfMap.{are_pieces, line_list, ring_list}
-use Rattle.chains.proofs.TablesAsMap.{open_has, has_open, loop_has, has_loop, told, free_loop, tables_sound, tables_alike}
+use Rattle.chains.proofs.TablesAsMap.{open_has, has_open, loop_has, has_loop, tables_sound, tables_alike}
 use Rattle.recutting.specs.Cutting.{arc_used, IsRecutOf}
 use Rattle.recutting.specs.Parts.{RecutParts}
+use Rattle.recutting.proofs.Refining.{refines, table_of_pieces}
 
 in_first : {A : Type 0} (x : A) (a b : List A) (t : Bool) → t ≡ true → Has x a → Has x (cond t a b)
 in_first x a b t e h = subst (λ w. Has x (cond w a b)) (sym e) h
@@ -35,20 +30,20 @@ module _ (js : List Pos) (t : Arcs) where
   abbrev pub pieces_in : List Piece
   pieces_in = gathered (arc_pieces js t.loops) t.arcs
 
-  open_there : (l : List Pos) → Has l (open_in t.loops t.arcs) → (p : Piece) → Has p (line_pieces js l) → Has p (gathered (arc_pieces js t.loops) t.arcs)
+  pub open_there : (l : List Pos) → Has l (open_in t.loops t.arcs) → (p : Piece) → Has p (line_pieces js l) → Has p (gathered (arc_pieces js t.loops) t.arcs)
   open_there l h p k =
       let o = open_has t.loops t.arcs l h in
       Has-gathered (arc_pieces js t.loops) t.arcs l p o.0
       (in_second p (ring_pieces js (unclosed l)) (line_pieces js l) (is_loop t.loops l) o.1 k)
 
-  loop_there : (r : List Pos) → Has r (loops_in t.loops t.arcs) → (p : Piece) → Has p (ring_pieces js r) → Has p (gathered (arc_pieces js t.loops) t.arcs)
+  pub loop_there : (r : List Pos) → Has r (loops_in t.loops t.arcs) → (p : Piece) → Has p (ring_pieces js r) → Has p (gathered (arc_pieces js t.loops) t.arcs)
   loop_there r h p k =
       let o = loop_has t.loops t.arcs r h in
       Has-gathered (arc_pieces js t.loops) t.arcs o.0 p o.1
       (in_first p (ring_pieces js (unclosed o.0)) (line_pieces js o.0) (is_loop t.loops o.0) o.2
       (subst (λ w. Has p (ring_pieces js w)) o.3 k))
 
-  from : (p : Piece) → Has p (gathered (arc_pieces js t.loops) t.arcs) →
+  pub from : (p : Piece) → Has p (gathered (arc_pieces js t.loops) t.arcs) →
       ((l : List Pos) × Has l (open_in t.loops t.arcs) × Has p (line_pieces js l)) ⊎ ((r : List Pos) × Has r (loops_in t.loops t.arcs) × Has p (ring_pieces js r))
   from p h =
       let k = gathered_from (arc_pieces js t.loops) t.arcs p h in
@@ -96,48 +91,16 @@ module _ (s t : Arcs) (js : List Pos) (index : IsIndexOf js (tables_as_map s t))
     ]
   ]
 
-  all_pieces : ArePiecesOfMap a ps
-  all_pieces = are_pieces a sound js index ps of_lines of_rings only
-
   module _ (new : Arcs) (sorted : AreSortedOnce list_cmp (map chain_of ps) new.arcs)
       (of_map : (g : Geometry Pos) → IsSound g → ArePiecesOfMap g ps → IsTableOf g new) where
-    table : IsTableOf u new
-    table = table_alike a u alike new (of_map a sound all_pieces)
-
-    -- of the arcs of one map
-    module _ (g : Geometry Pos) (sg : IsSound g) (old : Arcs) (og : IsTableOf g old)
-        (opens : (l : List Pos) → Has l (open_in old.loops old.arcs) → IsLineOf a l) (loops : (r : List Pos) → Has r (loops_in old.loops old.arcs) → IsRingOf a r) where
-      cut : (c : List Pos) → Has c old.arcs → ArePiecesOfArc position_cmp (JunctionOf g) (JunctionOf u) new.arcs c (arc_used js old.loops new.arcs c)
-      cut c h = go (is_loop old.loops c) refl
-        where
-          not_free : is_loop old.loops c ≡ false → ¬ Free (JunctionOf g) c
-          not_free e = (told g sg old og c h).no e
-
-          go : (b : Bool) → is_loop old.loops c ≡ b →
-              ArePiecesOfArc position_cmp (JunctionOf g) (JunctionOf u) new.arcs c (map (located new.arcs) (cond b (ring_pieces js (unclosed c)) (line_pieces js c)))
-          go true e =
-              let k = ring_list a sound js index ps of_lines of_rings new.arcs sorted (unclosed c) (loops (unclosed c) (has_loop old.loops old.arcs c h e)) in
-              inr (
-                unclosed c,
-                (free_loop g sg old og c h e).0,
-                (told g sg old og c h).yes e,
-                (k.0, k.1, turned_alike position_cmp position_total position_same position_dec a u alike (unclosed c) k.0 k.1 k.2, k.3),
-              )
-          go false e = inl (not_free e, line_list a sound js index ps of_lines of_rings new.arcs sorted c (opens c (has_open old.loops old.arcs c h e)))
-
-      refines : IsRefinementOf position_cmp g u old.arcs new.arcs (map (arc_used js old.loops new.arcs) old.arcs)
-      refines = record {
-        old = og.arcs;
-        new = table.arcs;
-        cut = Pairwise-map (ArePiecesOfArc position_cmp (JunctionOf g) (JunctionOf u) new.arcs) (arc_used js old.loops new.arcs) old.arcs cut;
-      }
-
     pub recut_is : (r : RecutParts) → r ≡ record { arcs = new; left = map (arc_used js s.loops new.arcs) s.arcs; right = map (arc_used js t.loops new.arcs) t.arcs } →
         IsRecutOf m n u s t r
     recut_is r e = subst (IsRecutOf m n u s t) (sym e) (record {
-      table = table;
-      of_left = refines m sm s ms (λ l h. Has-append_left l (open_in s.loops s.arcs) (open_in t.loops t.arcs) h)
+      table = table_of_pieces a u sound alike js index ps of_lines of_rings only new sorted of_map;
+      of_left = refines a u sound alike js index ps of_lines of_rings only new sorted of_map m sm s ms
+          (λ l h. Has-append_left l (open_in s.loops s.arcs) (open_in t.loops t.arcs) h)
           (λ l h. Has-append_left l (loops_in s.loops s.arcs) (loops_in t.loops t.arcs) h);
-      of_right = refines n sn t nt (λ l h. Has-append_right l (open_in s.loops s.arcs) (open_in t.loops t.arcs) h)
+      of_right = refines a u sound alike js index ps of_lines of_rings only new sorted of_map n sn t nt
+          (λ l h. Has-append_right l (open_in s.loops s.arcs) (open_in t.loops t.arcs) h)
           (λ l h. Has-append_right l (loops_in s.loops s.arcs) (loops_in t.loops t.arcs) h);
     })

@@ -1,4 +1,5 @@
 pub mod Bounds
 pub mod Parts
 pub mod Cutting
+pub mod Many
 pub mod Laws

@@ -16,6 +16,24 @@ fn part(refs: &[ArcRef], from: usize, to: usize) -> &[ArcRef]
     &refs[from..to]
 }
 
+/// The used arcs between two neighbouring bounds.
+pub(crate) fn part_between<'a>(
+    bounds: &[usize],
+    refs: &'a [ArcRef],
+    number: usize,
+) -> Option<&'a [ArcRef]>
+    requires { AreBounds bounds.now (length refs.now) }
+    ensures { option_map (λ r. r.now) result ≡ slice_get (parts_between bounds.now refs.now) number }
+{
+    match bounds.get(number) {
+        Some(from) => match bounds.get(number + 1) {
+            Some(to) => Some(part(refs, *from, *to)),
+            None => None,
+        },
+        None => None,
+    }
+}
+
 /// Lists of used arcs: one list of all, and the places where each begins. There is no place in memory
 /// for each list, of which there are as many as arcs.
 #[derive(Drop)]
@@ -50,12 +68,6 @@ impl PieceLists {
     pub(crate) fn get(&self, number: usize) -> Option<&[ArcRef]>
         ensures { option_map (λ r. r.now) result ≡ slice_get self.now number }
     {
-        match self.bounds.get(number) {
-            Some(from) => match self.bounds.get(number + 1) {
-                Some(to) => Some(part(&self.refs, *from, *to)),
-                None => None,
-            },
-            None => None,
-        }
+        part_between(&self.bounds, &self.refs, number)
     }
 }

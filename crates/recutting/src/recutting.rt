@@ -18,7 +18,7 @@ use faults::OutOfMemory;
 use std::alloc::Global;
 
 /// Whether an arc may be cut; one that nothing is told of may be.
-fn is_marked(marks: &[bool], number: usize) -> bool
+pub(crate) fn is_marked(marks: &[bool], number: usize) -> bool
     ensures { result ≡ get_or marks.now number true }
 {
     match marks.get(number) {

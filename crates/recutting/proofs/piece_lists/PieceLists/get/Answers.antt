@@ -1,45 +1,14 @@
-use Rattle.std.proofs.Common.{◌≤◌, ◌∙◌, Some, ap, arith, length, refl, slice_get, subst, suc, sym}
-use Rattle.std.specs.List.{between}
-use Rattle.recutting.proofs.Bounds.{between_bounds, bounds_within, no_begin, no_end, past, stands}
+use Rattle.std.proofs.Common.{◌∙◌, ap, length, slice_get, subst, sym}
+use Rattle.recutting.specs.Bounds.{AreBounds, parts_between}
 use Rattle.recutting.proofs.piece_lists.PieceLists.get.Goals as goal
 
-pub part-requires-clause-order : goal.part-requires-clause-order
-part-requires-clause-order c =
-    let bs = c.self.inside.bounds.items in
-    let n = c.args.number in
-    let from = stands c.deref.result.now bs n n _ c.deref.ensures.value c.in-Some.ensures.lookup.0 c.in-Some.ensures.lookup.1 refl in
-    let to = stands c.deref-in-Some.result.now bs _ (suc n) _ c.deref-in-Some.ensures.value c.in-Some-get.ensures.lookup.0 c.in-Some-get.ensures.lookup.1 (omega arith) in
-    (bounds_within bs (length c.self.inside.refs.items) n c.in-Some.from.now c.in-Some-get.to.now c.self.invariant from to).0
+pub part_between-requires : goal.part_between-requires
+part_between-requires c =
+    subst (λ bs. AreBounds bs (length c.deref-2.result.now)) (sym c.deref.ensures.value)
+    (subst (λ refs. AreBounds c.self.inside.bounds.items (length refs)) (sym c.deref-2.ensures.value) c.self.invariant)
 
-pub part-requires-clause-bound : goal.part-requires-clause-bound
-part-requires-clause-bound c =
-    let bs = c.self.inside.bounds.items in
-    let n = c.args.number in
-    let from = stands c.deref.result.now bs n n _ c.deref.ensures.value c.in-Some.ensures.lookup.0 c.in-Some.ensures.lookup.1 refl in
-    let to = stands c.deref-in-Some.result.now bs _ (suc n) _ c.deref-in-Some.ensures.value c.in-Some-get.ensures.lookup.0 c.in-Some-get.ensures.lookup.1 (omega arith) in
-    subst (λ l. c.in-Some-get.to.now ≤ length l) (sym c.deref-in-Some-get.ensures.value) (bounds_within bs (length c.self.inside.refs.items) n c.in-Some.from.now c.in-Some-get.to.now c.self.invariant from to).1
-
-pub returns-in-Some-get : goal.returns-in-Some-get
-returns-in-Some-get c =
-    let bs = c.self.inside.bounds.items in
-    let n = c.args.number in
-    let from = stands c.deref.result.now bs n n _ c.deref.ensures.value c.in-Some.ensures.lookup.0 c.in-Some.ensures.lookup.1 refl in
-    let to = stands c.deref-in-Some.result.now bs _ (suc n) _ c.deref-in-Some.ensures.value c.in-Some-get.ensures.lookup.0 c.in-Some-get.ensures.lookup.1 (omega arith) in
-    ap Some c.part.ensures
-    ∙ ap (λ l. Some (between c.in-Some.from.now c.in-Some-get.to.now l)) c.deref-in-Some-get.ensures.value
-    ∙ sym (between_bounds bs c.self.inside.refs.items n c.in-Some.from.now c.in-Some-get.to.now from to)
-    ∙ ap (λ ls. slice_get ls n) c.self.view_is
-
-pub returns-in-None-get : goal.returns-in-None-get
-returns-in-None-get c =
-    let bs = c.self.inside.bounds.items in
-    let n = c.args.number in
-    sym (no_end bs c.self.inside.refs.items n (past c.deref-in-Some.result.now bs _ (suc n) c.deref-in-Some.ensures.value c.in-None-get.ensures.lookup.0 (omega arith)))
-    ∙ ap (λ ls. slice_get ls n) c.self.view_is
-
-pub returns-in-None : goal.returns-in-None
-returns-in-None c =
-    let bs = c.self.inside.bounds.items in
-    let n = c.args.number in
-    sym (no_begin bs c.self.inside.refs.items n (past c.deref.result.now bs n n c.deref.ensures.value c.in-None.ensures.lookup.0 refl))
-    ∙ ap (λ ls. slice_get ls n) c.self.view_is
+pub returns : goal.returns
+returns c =
+    c.part_between.ensures
+    ∙ (λ i. slice_get (parts_between (c.deref.ensures.value i) (c.deref-2.ensures.value i)) c.args.number)
+    ∙ ap (λ ls. slice_get ls c.args.number) c.self.view_is
