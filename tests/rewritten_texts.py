@@ -162,8 +162,12 @@ class Rewriter:
         if self.chance.random() < 0.5:
             del self.topology["bbox"]
 
-    def text(self):
+    def write_arcs(self):
+        """Puts the arcs as they are now into the topology, by their steps."""
         self.topology["arcs"] = [encoded(arc) for arc in self.arcs]
+
+    def text(self):
+        self.write_arcs()
         members = self.chance.sample(list(self.topology.items()), len(self.topology))
         layers = self.topology["objects"]
         shuffled = {**dict(members), "objects": dict(self.chance.sample(list(layers.items()), len(layers)))}

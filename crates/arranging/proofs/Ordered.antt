@@ -36,6 +36,14 @@ pub none_fits : (arcs : List (List Pos)) (ls : List LayerParts) (starts : List �
 none_fits arcs ls starts b s e f new_arcs h =
     let k : true ≡ false = sym h.fit ∙ ap (λ w. layers_fit w ls) (sym s) ∙ sym e ∙ f in absurd cc
 
+-- what comes of arcs and layers that are put into order
+pub record IsArranged (arcs : List (List Pos)) (ls : List LayerParts) (new_arcs : List (List Pos)) (new_layers : List LayerParts) : Type 0 where
+  pub kept : KeepLayers arcs new_arcs ls new_layers
+  pub ids : HaveI64 ls → HaveI64 new_layers
+  pub order : Ascends list_cmp new_arcs
+  pub stand : CanStandFor arcs ls new_arcs
+  pub layers : new_layers ≡ layers_by arcs ls new_arcs
+
 module _ (arcs : List (List Pos)) (ls : List LayerParts) (pieces : List Piece) (table : List (List Pos)) (refs : List ArcRef) (are : pieces ≡ pieces_in arcs ls)
     (sorted : AreSortedOnce list_cmp (map chain_of pieces) table) (all : refs ≡ map (located table) pieces) where
   sorted_in : AreSortedOnce list_cmp (map chain_of (pieces_in arcs ls)) table
@@ -65,17 +73,20 @@ module _ (arcs : List (List Pos)) (ls : List LayerParts) (pieces : List Piece) (
     }
 
     module _ (new_arcs : List (List Pos)) (same : new_arcs ≡ table) (new_layers : List LayerParts) (made : new_layers ≡ map (layer_image table refs) ls) where
-      pub stand_made : CanStandFor arcs ls new_arcs
+      stand_made : CanStandFor arcs ls new_arcs
       stand_made = subst (CanStandFor arcs ls) (sym same) can_stand
 
-      pub layers_made : new_layers ≡ layers_by arcs ls new_arcs
+      layers_made : new_layers ≡ layers_by arcs ls new_arcs
       layers_made = made ∙ ap (λ w. map (layer_image table w) ls) refs_are ∙ ap (layers_by arcs ls) (sym same)
 
-      pub kept_made : KeepLayers arcs new_arcs ls new_layers
+      kept_made : KeepLayers arcs new_arcs ls new_layers
       kept_made = subst (KeepLayers arcs new_arcs ls) (sym layers_made) (stand_kept arcs ls new_arcs stand_made)
 
-      pub ids_made : HaveI64 ls → HaveI64 new_layers
+      ids_made : HaveI64 ls → HaveI64 new_layers
       ids_made h = subst HaveI64 (sym made) (ids_kept table refs ls h)
 
-      pub order_made : Ascends list_cmp new_arcs
+      order_made : Ascends list_cmp new_arcs
       order_made = stand_made.sorted.ascends
+
+      pub all_made : IsArranged arcs ls new_arcs new_layers
+      all_made = record { kept = kept_made; ids = ids_made; order = order_made; stand = stand_made; layers = layers_made }

@@ -6,8 +6,8 @@ use Rattle.theory.specs.ArcNumbers.{ArcRef, flipped}
 use Rattle.theory.specs.Refinement.{turned_used}
 use Rattle.topo.specs.Parts.{LayerParts}
 use Rattle.topo.specs.declared.geom.Body.{Body}
-use Rattle.topo.specs.declared.geom.Body.TheVariants.{Null, Point, MultiPoint, Line, MultiLine, Polygon, MultiPolygon}
 use Rattle.topo.specs.declared.geom.Geom.{Geom}
+use Rattle.rewriting.specs.Rewritten.{body_rewritten, geometry_rewritten, layer_rewritten}
 
 -- the used arc along which a used arc runs whose arc, in its direction, runs along r
 abbrev pub image_if : ArcRef → Option ArcRef → ArcRef
@@ -26,18 +26,10 @@ abbrev pub ring_image : List (List Pos) → List ArcRef → List ArcRef → List
 ring_image table refs used = turned_used position_cmp table (map (image refs) used)
 
 abbrev pub body_image : List (List Pos) → List ArcRef → Body → Body
-body_image table refs Null = Null
-body_image table refs (Point p) = Point p
-body_image table refs (MultiPoint ps) = MultiPoint ps
-body_image table refs (Line used) = Line (line_image refs used)
-body_image table refs (MultiLine lists) = MultiLine (map (line_image refs) lists)
-body_image table refs (Polygon lists) = Polygon (map (ring_image table refs) lists)
-body_image table refs (MultiPolygon ps) = MultiPolygon (map (map (ring_image table refs)) ps)
+body_image table refs = body_rewritten (line_image refs) (ring_image table refs)
 
--- a geometry: its id and its properties stay
 abbrev pub geometry_image : List (List Pos) → List ArcRef → Geom → Geom
-geometry_image table refs g = record { id = g.id; props = g.props; body = body_image table refs g.body }
+geometry_image table refs = geometry_rewritten (line_image refs) (ring_image table refs)
 
--- a layer: its name and the order of its geometries stay
 abbrev pub layer_image : List (List Pos) → List ArcRef → LayerParts → LayerParts
-layer_image table refs l = record { name = l.name; geometries = map (geometry_image table refs) l.geometries }
+layer_image table refs = layer_rewritten (line_image refs) (ring_image table refs)

@@ -5,10 +5,9 @@ ghost use Rattle.arranging.specs.Images as spec;
 use chains::table::{ArcRef, ArcTable};
 use chains::turn_ring;
 use faults::OutOfMemory;
-use grid::pos::Pos;
-use lines::items::Items;
+use rewriting::{NewLists, copy_rewritten};
 use std::alloc::Global;
-use topo::{Body, Geom, Layer};
+use topo::{Geom, Layer};
 
 /// The new arcs, and for each old one the used arc that runs along it.
 #[derive(Drop)]
@@ -46,103 +45,30 @@ fn images(alloc: Global, refs: &[ArcRef], used: &[ArcRef]) -> Result<Vec<ArcRef>
     Ok(made)
 }
 
-fn copied_positions(alloc: Global, positions: &[Pos]) -> Result<Items<Pos>, OutOfMemory>
-    ensures { IfOk result (λ v. v ≡ positions.now) }
-{
-    Ok(Items::from_vec(positions.to_vec(alloc)?))
+impl NewLists for NewArcs {
+    ghost line_of = { λ arcs. spec.line_image arcs.refs.items };
+
+    ghost ring_of = { λ arcs. spec.ring_image arcs.table.arcs arcs.refs.items };
+
+    fn line(&self, alloc: Global, used: &[ArcRef]) -> Result<Vec<ArcRef>, OutOfMemory> {
+        images(alloc, &self.refs, used)
+    }
+
+    /// A ring's list is turned to begin at the used arc that starts least.
+    fn ring(&self, alloc: Global, used: &[ArcRef]) -> Result<Vec<ArcRef>, OutOfMemory> {
+        let mut list = images(alloc, &self.refs, used)?;
+        turn_ring(&self.table, &mut list);
+        Ok(list)
+    }
 }
 
 impl NewArcs {
-    fn line(&self, alloc: Global, used: &Items<ArcRef>) -> Result<Items<ArcRef>, OutOfMemory>
-        ensures { IfOk result (λ v. v ≡ spec.line_image self.now.refs.items used.now) }
-    {
-        Ok(Items::from_vec(images(alloc, &self.refs, used.as_slice())?))
-    }
-
-    /// A ring's list by the new arcs, turned to begin at the used arc that starts least.
-    fn ring(&self, alloc: Global, used: &Items<ArcRef>) -> Result<Items<ArcRef>, OutOfMemory>
-        ensures { IfOk result (λ v. v ≡ spec.ring_image self.now.table.arcs self.now.refs.items used.now) }
-    {
-        let mut list = images(alloc, &self.refs, used.as_slice())?;
-        turn_ring(&self.table, &mut list);
-        Ok(Items::from_vec(list))
-    }
-
-    fn lines(
-        &self,
-        alloc: Global,
-        lists: &[Items<ArcRef>],
-    ) -> Result<Items<Items<ArcRef>>, OutOfMemory>
-        ensures { IfOk result (λ v. v ≡ map_list (spec.line_image self.now.refs.items) lists.now) }
-    {
-        let mut lines = Vec::with_capacity(alloc, lists.len())?;
-        for used in lists {
-            lines.push(self.line(alloc, used)?)?;
-        }
-        Ok(Items::from_vec(lines))
-    }
-
-    fn rings(
-        &self,
-        alloc: Global,
-        lists: &[Items<ArcRef>],
-    ) -> Result<Items<Items<ArcRef>>, OutOfMemory>
-        ensures { IfOk result (λ v. v ≡ map_list (spec.ring_image self.now.table.arcs self.now.refs.items) lists.now) }
-    {
-        let mut rings = Vec::with_capacity(alloc, lists.len())?;
-        for used in lists {
-            rings.push(self.ring(alloc, used)?)?;
-        }
-        Ok(Items::from_vec(rings))
-    }
-
-    fn polygons(
-        &self,
-        alloc: Global,
-        polygons: &[Items<Items<ArcRef>>],
-    ) -> Result<Items<Items<Items<ArcRef>>>, OutOfMemory>
-        ensures { IfOk result (λ v. v ≡ map_list (map_list (spec.ring_image self.now.table.arcs self.now.refs.items)) polygons.now) }
-    {
-        let mut lists = Vec::with_capacity(alloc, polygons.len())?;
-        for rings in polygons {
-            lists.push(self.rings(alloc, rings.as_slice())?)?;
-        }
-        Ok(Items::from_vec(lists))
-    }
-
-    fn body(&self, alloc: Global, body: &Body) -> Result<Body, OutOfMemory>
-        ensures { IfOk result (λ b. b ≡ spec.body_image self.now.table.arcs self.now.refs.items body.now) }
-    {
-        match body {
-            Body::Null => Ok(Body::Null),
-            Body::Point(p) => Ok(Body::Point(*p)),
-            Body::MultiPoint(ps) => {
-                Ok(Body::MultiPoint(copied_positions(alloc, ps.as_slice())?))
-            }
-            Body::Line(used) => Ok(Body::Line(self.line(alloc, used)?)),
-            Body::MultiLine(lists) => Ok(Body::MultiLine(self.lines(alloc, lists.as_slice())?)),
-            Body::Polygon(lists) => Ok(Body::Polygon(self.rings(alloc, lists.as_slice())?)),
-            Body::MultiPolygon(polygons) => {
-                Ok(Body::MultiPolygon(self.polygons(alloc, polygons.as_slice())?))
-            }
-        }
-    }
-
-    fn geometry(&self, alloc: Global, geometry: &Geom) -> Result<Geom, OutOfMemory>
-        ensures { IfOk result (λ g. g ≡ spec.geometry_image self.now.table.arcs self.now.refs.items geometry.now) }
-    {
-        let id = geometry.id.copy(alloc)?;
-        let props = geometry.props.copy(alloc)?;
-        let body = self.body(alloc, &geometry.body)?;
-        Ok(Geom { id, props, body })
-    }
-
     fn geometries(&self, alloc: Global, geometries: &[Geom]) -> Result<Vec<Geom>, OutOfMemory>
         ensures { IfOk result (λ v. v.items ≡ map_list (spec.geometry_image self.now.table.arcs self.now.refs.items) geometries.now) }
     {
         let mut made = Vec::with_capacity(alloc, geometries.len())?;
         for geometry in geometries {
-            made.push(self.geometry(alloc, geometry)?)?;
+            made.push(copy_rewritten(alloc, self, geometry)?)?;
         }
         Ok(made)
     }

@@ -1,6 +1,4 @@
-use crate::texts::{
-    A, B, C, D, E, F, G, H, I, J, is_made, layer, line, lists, refs, ring, text_arcs,
-};
+use crate::texts::{A, B, C, D, E, F, G, H, I, J, is_made, layer, line, refs, ring, text_arcs};
 use arranging::{Arranged, arrange};
 use chains::{ArcRef, ArcTable};
 use lines::items::Items;
@@ -9,6 +7,7 @@ use std::process::Abort;
 use std::test::Fail;
 use taking::TextArcs;
 use topo::{Body, Layer};
+use worked_maps::lists;
 
 /// What comes of arcs and bodies, each the one geometry of a layer.
 fn of_bodies(

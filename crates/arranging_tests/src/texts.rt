@@ -1,6 +1,5 @@
 use arranging::Arranged;
 use chains::ArcRef;
-use grid::pos::Pos;
 use lines::items::Items;
 use shapes::props::Props;
 use shapes::shape::Id;
@@ -9,6 +8,7 @@ use std::alloc::Global;
 use std::test::Fail;
 use taking::TextArcs;
 use topo::{Body, Geom, Layer};
+use worked_maps::{lists, refs_of};
 
 pub(crate) const A: (i64, i64) = (0, 0);
 
@@ -30,32 +30,12 @@ pub(crate) const I: (i64, i64) = (12, 12);
 
 pub(crate) const J: (i64, i64) = (10, 12);
 
-fn positions(alloc: Global, places: &[(i64, i64)]) -> Result<Items<Pos>, Fail> {
-    let mut made = Vec::new(alloc);
-    for (x, y) in places {
-        made.push(Pos::new(*x, *y).ok_or("outside the limits")?)?;
-    }
-    Ok(Items::from_vec(made))
-}
-
-pub(crate) fn lists(alloc: Global, arcs: &[&[(i64, i64)]]) -> Result<Vec<Items<Pos>>, Fail> {
-    let mut made = Vec::new(alloc);
-    for places in arcs {
-        made.push(positions(alloc, places)?)?;
-    }
-    Ok(made)
-}
-
 pub(crate) fn text_arcs(alloc: Global, arcs: &[&[(i64, i64)]]) -> Result<TextArcs, Fail> {
     Ok(TextArcs::from_list(lists(alloc, arcs)?))
 }
 
 pub(crate) fn refs(alloc: Global, indexes: &[i64]) -> Result<Items<ArcRef>, Fail> {
-    let mut made = Vec::new(alloc);
-    for index in indexes {
-        made.push(ArcRef::from_index(*index))?;
-    }
-    Ok(Items::from_vec(made))
+    Ok(Items::from_vec(refs_of(alloc, indexes)?))
 }
 
 /// One ring, as a polygon's.

@@ -129,7 +129,7 @@ pub fn merge_as<S: Shard>(
         return Err(MergeFault::OtherGrid(number));
     }
     match join_all(alloc, shards) {
-        Ok(shard) => Ok(shard.text(alloc)?),
+        Ok(shard) => Ok(shard.into_text(alloc)?),
         Err(_) => Err(MergeFault::OutOfMemory),
     }
 }

@@ -95,6 +95,14 @@ pub trait Shard: Sized + Drop {
         ensures text { IfOk result (λ t. t.items ≡ canon (grid_of self.now) (map_of self.now)) }
         ensures accepted { IfOk result (λ t. MapFits (grid_of self.now) (map_of self.now) → Means t.items (grid_of self.now) (map_of self.now)) };
 
+    /// `text` of a shard that is handed over.
+    fn into_text(self, alloc: Global) -> Result<Vec<u8>, OutOfMemory>
+        ensures text { IfOk result (λ t. t.items ≡ canon (grid_of self) (map_of self)) }
+        ensures accepted { IfOk result (λ t. MapFits (grid_of self) (map_of self) → Means t.items (grid_of self) (map_of self)) }
+    {
+        self.text(alloc)
+    }
+
     ghost commutes: { Commutes joined map_of };
 
     ghost associates: { Associates joined map_of };

@@ -1,12 +1,9 @@
 -- Features beside the bodies that hold them, in order.
-use Rattle.std.proofs.Common.{◌≡◌, ◌↔◌, ◌<◌, ◌≤◌, ◌+◌, ℕ, zero, suc, false, List, [], ◌∷◌, ◌++◌, length, get_or, drop, inl, inr, refl, sym, ap, ◌∙◌, subst, Option, Some, None, append_assoc, append-nil, is_some, IsTrue, arith}
+use Rattle.std.proofs.Common.{◌≡◌, ◌<◌, ◌≤◌, ◌+◌, ℕ, List, [], ◌∷◌, ◌++◌, length, get_or, drop, inl, inr, refl, sym, ap, ◌∙◌, subst, Option, Some, None, append_assoc, append-nil, is_some, IsTrue}
 use Rattle.std.specs.Prelude.{map as map_list}
-use Rattle.std.specs.Cmp.{IsTotalOrder, on_total}
+use Rattle.std.specs.Cmp.{on_total}
 use Rattle.std.specs.FinMap as map
 use Rattle.std.specs.List.Sorted.{IsPermutation, IsSorted}
-use Rattle.std.specs.Ordering.{is_gt}
-use Rattle.std.specs.Result.{IsErrAnd}
-use Rattle.std.specs.declared.cmp.Ordering.{Ordering}
 use Rattle.std.proofs.lemmas.List.{map-append}
 use Rattle.std.proofs.lemmas.List.Sorted.{IsPermutation-sym}
 use Rattle.grid.specs.declared.pos.Pos.{Pos}
@@ -16,12 +13,10 @@ use Rattle.shapes.specs.OrderLaws.{feature_cmp_total}
 use Rattle.shapes.specs.Parts.{spelled_text}
 use Rattle.shapes.specs.Sets as set
 use Rattle.shapes.specs.declared.feature.Feature.{Feature}
-use Rattle.chains.specs.Seen.{form_of, seen}
 use Rattle.chains.proofs.Layers.{no_features}
 use Rattle.lines.proofs.Dropping.{drop_item, item_at}
 use Rattle.lines.proofs.SortedLists.{Up, up_from_sorted, Has-permutation}
 use Rattle.theory.specs.Lists.{Has, gathered}
-use Rattle.theory.specs.Topology.{forms_of}
 use Rattle.theory.proofs.ListsOfLists.{Has-map, map_has, Has-gathered, gathered_from, get_has}
 use Rattle.topo.specs.Features.{AreFeaturesOf, IsFeatureOf}
 use Rattle.topo.specs.OfMap.{IsOf}
@@ -30,8 +25,7 @@ use Rattle.topo.specs.declared.geom.Body.{Body}
 use Rattle.topo.specs.declared.geom.Geom.{Geom}
 use Rattle.topo.proofs.Pairs.{none_behind, pair_at}
 use Rattle.topo.proofs.Stitched.{geometries_of}
-use Rattle.query.specs.Mesh.{InScope}
-use Rattle.query.specs.Members.{held, paired, layer_pairs, Holds, InOrder, AreMembers}
+use Rattle.query.specs.Members.{held, paired, layer_pairs, Holds, InOrder, AreMembers, ArePairs}
 use Rattle.query.specs.declared.members.Member.{Member}
 use Rattle.chains.proofs.Siding.{none_left}
 use Rattle.query.proofs.LayerFeatures.{OfFeatures, entry_layer, key_entry, layer_form, named_features}
@@ -101,30 +95,31 @@ module _ (m : Layers) (t : TopologyParts) (of : IsOf m t) where
   in_order [] u = tt
   in_order (p ∷ ps) u = (u.0, in_order ps u.1)
 
-  members_by : (scope : Option (List ℕ)) (pairs : List (Feature × Body)) →
-      ((f : Feature) (b : Body) → Has (f, b) pairs → InScope m scope f × Has (form_of f.shape) (forms_of (seen m)) × Holds m t f b) →
-      ((f : Feature) → InScope m scope f → (b : Body) × Has (f, b) pairs) →
+  members_by : (scope : Option (List ℕ)) (pairs : List (Feature × Body)) → ArePairs m t scope pairs →
       (ps qs : List Member) → map_list held ps ≡ pairs → IsPermutation ps qs → IsSorted (λ p q. feature_cmp p.feature q.feature) qs → AreMembers m t scope qs
-  members_by scope pairs from to ps qs is moved sorted = record {
+  members_by scope pairs are ps qs is moved sorted = record {
     only = λ p h.
-        let k = from p.feature p.body.now (subst (Has (held p)) is (Has-map held ps p (Has-permutation qs ps p (IsPermutation-sym ps qs moved) h))) in
+        let k = are.only p.feature p.body.now (subst (Has (held p)) is (Has-map held ps p (Has-permutation qs ps p (IsPermutation-sym ps qs moved) h))) in
         record { within = k.0; form = k.1; body = k.2 };
     all = λ f i.
-        let (b, h) = to f i in
+        let (b, h) = are.all f i in
         let (p, there, e) = map_has held ps (f, b) (subst (Has (f, b)) (sym is) h) in
         (p, Has-permutation ps qs p moved there, ap (λ w. w.0) (sym e));
     ordered = in_order qs (up_from_sorted (λ p q. feature_cmp p.feature q.feature) (on_total (λ (p : Member). p.feature) feature_cmp_total) qs sorted);
   }
 
   -- the features of one layer
+  pub named_pairs : (name : List ℕ) (gs : List Geom) → IsOfLayerNamed t.layers name gs → ArePairs m t (Some name) (paired (set.items (features_at m name)) gs)
+  named_pairs name gs under =
+      let (there, all) = named_features m t of name gs under in
+      record {
+        only = λ f b h. let r = pair_members (set.items (features_at m name)) gs all f b h in (r.0, layer_form m name there f r.0, r.1);
+        all = λ f i. members_pair (set.items (features_at m name)) gs all f i;
+      }
+
   pub layer_members : (name : List ℕ) (gs : List Geom) → IsOfLayerNamed t.layers name gs → (ps qs : List Member) →
       map_list held ps ≡ paired (set.items (features_at m name)) gs → IsPermutation ps qs → IsSorted (λ p q. feature_cmp p.feature q.feature) qs → AreMembers m t (Some name) qs
-  layer_members name gs under ps qs is moved sorted =
-      let (there, all) = named_features m t of name gs under in
-      members_by (Some name) (paired (set.items (features_at m name)) gs)
-      (λ f b h. let r = pair_members (set.items (features_at m name)) gs all f b h in (r.0, layer_form m name there f r.0, r.1))
-      (λ f i. members_pair (set.items (features_at m name)) gs all f i)
-      ps qs is moved sorted
+  layer_members name gs under ps qs is moved sorted = members_by (Some name) (paired (set.items (features_at m name)) gs) (named_pairs name gs under) ps qs is moved sorted
 
   -- a name with features is that of a layer
   has_key : (name : List ℕ) (f : Feature) → Has f (set.items (features_at m name)) → IsTrue (map.contains_key m name)
@@ -135,20 +130,22 @@ module _ (m : Layers) (t : TopologyParts) (of : IsOf m t) where
       go None e = absurd (subst (Has f) (no_features m name (sym e)) h)
 
   -- the features of all layers
+  pub gathered_pairs : ArePairs m t None (gathered (layer_pairs m) t.layers)
+  gathered_pairs = record {
+    only = λ f b h.
+        let (l, there, k) = gathered_from (layer_pairs m) t.layers (f, b) h in
+        let (key, all) = named_features m t of (spelled_text l.name) l.geometries (l, there, refl, refl) in
+        let r = pair_members (set.items (features_at m (spelled_text l.name))) l.geometries all f b k in
+        ((spelled_text l.name, r.0), layer_form m (spelled_text l.name) key f r.0, r.1);
+    all = λ f i.
+        let (e, at, named) = key_entry m i.0 (has_key i.0 f i.1) in
+        let (l, there, same) = entry_layer m t of e at in
+        let (key, all) = named_features m t of (spelled_text l.name) l.geometries (l, there, refl, refl) in
+        let here = subst (λ n. Has f (set.items (features_at m n))) (sym (same ∙ named)) i.1 in
+        let r = members_pair (set.items (features_at m (spelled_text l.name))) l.geometries all f here in
+        (r.0, Has-gathered (layer_pairs m) t.layers l (f, r.0) there r.1);
+  }
+
   pub all_members : (ps qs : List Member) →
       map_list held ps ≡ gathered (layer_pairs m) t.layers → IsPermutation ps qs → IsSorted (λ p q. feature_cmp p.feature q.feature) qs → AreMembers m t None qs
-  all_members ps qs is moved sorted =
-      members_by None (gathered (layer_pairs m) t.layers)
-      (λ f b h.
-      let (l, there, k) = gathered_from (layer_pairs m) t.layers (f, b) h in
-      let (key, all) = named_features m t of (spelled_text l.name) l.geometries (l, there, refl, refl) in
-      let r = pair_members (set.items (features_at m (spelled_text l.name))) l.geometries all f b k in
-      ((spelled_text l.name, r.0), layer_form m (spelled_text l.name) key f r.0, r.1))
-      (λ f i.
-      let (e, at, named) = key_entry m i.0 (has_key i.0 f i.1) in
-      let (l, there, same) = entry_layer m t of e at in
-      let (key, all) = named_features m t of (spelled_text l.name) l.geometries (l, there, refl, refl) in
-      let here = subst (λ n. Has f (set.items (features_at m n))) (sym (same ∙ named)) i.1 in
-      let r = members_pair (set.items (features_at m (spelled_text l.name))) l.geometries all f here in
-      (r.0, Has-gathered (layer_pairs m) t.layers l (f, r.0) there r.1))
-      ps qs is moved sorted
+  all_members ps qs is moved sorted = members_by None (gathered (layer_pairs m) t.layers) gathered_pairs ps qs is moved sorted

@@ -1,5 +1,5 @@
 -- The geometries of a layer, and the features of the map that they are of.
-use Rattle.std.proofs.Common.{◌≡◌, ◌↔◌, ℕ, zero, suc, Bool, true, false, ◌||◌, IsTrue, List, [], ◌∷◌, length, inl, inr, refl, sym, ap, ◌∙◌, subst, Some, slice_get, is_some, Result, Ok, Err}
+use Rattle.std.proofs.Common.{◌≡◌, ◌↔◌, ℕ, zero, suc, true, ◌||◌, IsTrue, List, [], ◌∷◌, length, inl, inr, refl, sym, ap, ◌∙◌, subst, Some, slice_get, is_some, Result, Ok, Err}
 use Rattle.std.specs.Prelude.{map as map_list}
 use Rattle.std.specs.Cmp.Lexicographic.{slice_cmp, nat_list_cmp_total}
 use Rattle.std.specs.FinMap as map
@@ -18,13 +18,12 @@ use Rattle.shapes.specs.Sets as set
 use Rattle.shapes.specs.declared.feature.Feature.{Feature}
 use Rattle.chains.specs.Seen as seen_by
 use Rattle.chains.specs.Seen.{form_of, seen, geometry_of}
-use Rattle.theory.specs.ArcNumbers.{StitchTo}
 use Rattle.theory.specs.Geometry.{IsRingOf, JunctionOf, SegmentOf}
 use Rattle.theory.specs.Lists.{Has, Pairwise, gathered}
-use Rattle.theory.specs.Topology.{IsGeometryOf, IsLayerOf, IsRingList, forms_of, lines_in, rings_in}
+use Rattle.theory.specs.Topology.{IsGeometryOf, IsLayerOf, forms_of, lines_in, rings_in}
 use Rattle.theory.specs.Users.{HasSegment, ShareArc, ShareSegment}
 use Rattle.theory.proofs.Ascending.{dec_by}
-use Rattle.theory.proofs.ListsOfLists.{Has-map, map_has, Has-gathered, get_has}
+use Rattle.theory.proofs.ListsOfLists.{Has-map, map_has, Has-gathered}
 use Rattle.theory.proofs.UsersOfArcs.{share}
 use Rattle.topo.specs.OfMap.{IsOf, body_of, item_of, layer_of}
 use Rattle.topo.specs.Parts.{IsOfLayerNamed, LayerParts, TopologyParts}

@@ -1,5 +1,5 @@
 -- The segments that a filter selects, from the spans of the arcs.
-use Rattle.std.proofs.Common.{◌≡◌, ◌↔◌, ◌<◌, ◌≤◌, ◌+◌, ℕ, zero, suc, Bool, true, false, List, [], ◌∷◌, length, get_or, ◌⊎◌, inl, inr, refl, sym, ap, ◌∙◌, subst, Option, Some, None, slice_get, arith, replicate}
+use Rattle.std.proofs.Common.{◌≡◌, ◌↔◌, ◌<◌, ◌≤◌, ◌+◌, ℕ, zero, suc, Bool, true, false, List, [], ◌∷◌, length, ◌⊎◌, inl, inr, refl, sym, ap, ◌∙◌, subst, Option, Some, None, slice_get, arith, replicate}
 use Rattle.std.specs.Prelude.{map as map_list}
 use Rattle.std.specs.Cmp.{tied_itself}
 use Rattle.std.specs.Ordering.{is_gt}
@@ -16,7 +16,7 @@ use Rattle.chains.specs.Seen.{form_of, geometry_of}
 use Rattle.chains.specs.declared.segment.Segment.{Segment}
 use Rattle.theory.specs.Geometry.{AtMost}
 use Rattle.theory.specs.LinesAndRings.{Trail}
-use Rattle.theory.specs.Lists.{Begins, Beside, Has, Steps}
+use Rattle.theory.specs.Lists.{Beside, Has, Steps}
 use Rattle.theory.specs.Topology.{Body}
 use Rattle.theory.specs.Users.{UsesArc}
 use Rattle.theory.proofs.Ascending.{at_most_same, dec_by}
@@ -30,26 +30,26 @@ use Rattle.query.specs.Mesh.{InScope, HasSide, IsLeastWith, IsGreatestWith, AreS
 use Rattle.query.specs.Members.{AreMembers, InOrder}
 use Rattle.query.specs.Selecting.{AreChosen}
 use Rattle.query.specs.Spans.{with_uses}
-use Rattle.query.specs.Uses.{bodies_uses}
+use Rattle.query.specs.Uses.{bodies_uses, use_at}
 use Rattle.query.specs.declared.members.Member.{Member}
 use Rattle.query.specs.declared.spans.Span.{Span}
 use Rattle.query.specs.declared.uses.Use.{Use}
 use Rattle.query.proofs.LayerFeatures.{form_rings, form_segment}
 use Rattle.chains.proofs.Siding.{arc_on, beside_sides, on_arc, sides_beside}
 use Rattle.query.proofs.Spanning.{Spans, span_of}
-use Rattle.query.proofs.UsesOfBodies.{bodies_from, has_bodies, use_at}
+use Rattle.query.proofs.UsesOfBodies.{bodies_from, has_bodies}
 
-get_less : {A : Type 0} (l : List A) (k : ℕ) (x : A) → slice_get l k ≡ Some x → k < length l
+pub get_less : {A : Type 0} (l : List A) (k : ℕ) (x : A) → slice_get l k ≡ Some x → k < length l
 get_less [] k x e = absurd cc
 get_less (y ∷ l) zero x e = omega arith
 get_less (y ∷ l) (suc k) x e = let h = get_less l k x e in omega (arith, h)
 
-map_get : {A B : Type 0} (f : A → B) (l : List A) (i : ℕ) (y : B) → slice_get (map_list f l) i ≡ Some y → (x : A) × (slice_get l i ≡ Some x) × (y ≡ f x)
+pub map_get : {A B : Type 0} (f : A → B) (l : List A) (i : ℕ) (y : B) → slice_get (map_list f l) i ≡ Some y → (x : A) × (slice_get l i ≡ Some x) × (y ≡ f x)
 map_get f [] i y e = absurd cc
 map_get f (x ∷ l) zero y e = let same : f x ≡ y = cc in (x, refl, sym same)
 map_get f (x ∷ l) (suc i) y e = map_get f l i y e
 
-get_map : {A B : Type 0} (f : A → B) (l : List A) (i : ℕ) (x : A) → slice_get l i ≡ Some x → slice_get (map_list f l) i ≡ Some (f x)
+pub get_map : {A B : Type 0} (f : A → B) (l : List A) (i : ℕ) (x : A) → slice_get l i ≡ Some x → slice_get (map_list f l) i ≡ Some (f x)
 get_map f [] i x e = absurd cc
 get_map f (y ∷ l) zero x e = let same : y ≡ x = cc in ap (λ w. Some (f w)) same
 get_map f (y ∷ l) (suc i) x e = get_map f l i x e

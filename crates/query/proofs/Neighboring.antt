@@ -1,5 +1,5 @@
 -- The lists of neighbours, from the uses and the pairs.
-use Rattle.std.proofs.Common.{◌≡◌, ◌↔◌, ◌<◌, ◌+◌, ℕ, zero, suc, List, [], ◌∷◌, length, get_or, map, replicate, refl, sym, ap, ◌∙◌, subst, Some, slice_get, arith}
+use Rattle.std.proofs.Common.{◌≡◌, ◌<◌, ◌+◌, ℕ, zero, suc, List, [], ◌∷◌, length, get_or, map, replicate, refl, sym, ap, ◌∙◌, subst, Some, slice_get, arith}
 use Rattle.std.specs.List.Sorted.{IsStrictlyIncreasing}
 use Rattle.grid.specs.declared.pos.Pos.{Pos}
 use Rattle.lines.specs.Turned.{position_cmp}
@@ -19,25 +19,25 @@ use Rattle.topo.specs.Parts.{IsOfLayerNamed, TopologyParts}
 use Rattle.topo.specs.declared.geom.Geom.{Geom}
 use Rattle.query.specs.Neighbors.{AreNeighbors, ListsNeighbors}
 use Rattle.query.specs.Pairs.{pairs_among, pair_cmp, with_others}
-use Rattle.query.specs.Uses.{bodies_uses, use_cmp}
+use Rattle.query.specs.Uses.{bodies_uses, use_at, use_cmp}
 use Rattle.query.specs.declared.uses.Use.{Use}
 use Rattle.query.specs.declared.questions.neighbors.Pair.{Pair}
 use Rattle.query.proofs.LayerFeatures.{pair_at, pair_back, pair_length, named_features, layer_form, features_share, OfFeature, OfFeatures}
 use Rattle.query.proofs.Others.{others_at, lists_hold, lists_length, other_paired, paired_other, others_increase}
 use Rattle.query.proofs.Pairing.{among_from, has_among, paired}
-use Rattle.query.proofs.UsesOfBodies.{bodies_from, has_bodies, use_at}
+use Rattle.query.proofs.UsesOfBodies.{bodies_from, has_bodies}
 
 get_there : (ls : List (List ℕ)) (i : ℕ) (l : List ℕ) → slice_get ls i ≡ Some l → (i < length ls) × (get_or ls i [] ≡ l)
 get_there [] i l e = absurd cc
 get_there (k ∷ ls) zero l e = let same : k ≡ l = cc in (omega arith, same)
 get_there (k ∷ ls) (suc i) l e = let t = get_there ls i l e in (omega (arith, t.0), t.1)
 
-body_at : (gs : List Geom) (i : ℕ) (b : Body Pos) → slice_get (map (λ g. body_of g.body) gs) i ≡ Some b → (g : Geom) × (slice_get gs i ≡ Some g) × (b ≡ body_of g.body)
+pub body_at : (gs : List Geom) (i : ℕ) (b : Body Pos) → slice_get (map (λ g. body_of g.body) gs) i ≡ Some b → (g : Geom) × (slice_get gs i ≡ Some g) × (b ≡ body_of g.body)
 body_at [] i b e = absurd cc
 body_at (g ∷ gs) zero b e = let same : body_of g.body ≡ b = cc in (g, refl, sym same)
 body_at (g ∷ gs) (suc i) b e = body_at gs i b e
 
-at_body : (gs : List Geom) (i : ℕ) (g : Geom) → slice_get gs i ≡ Some g → slice_get (map (λ g. body_of g.body) gs) i ≡ Some (body_of g.body)
+pub at_body : (gs : List Geom) (i : ℕ) (g : Geom) → slice_get gs i ≡ Some g → slice_get (map (λ g. body_of g.body) gs) i ≡ Some (body_of g.body)
 at_body [] i g e = absurd cc
 at_body (h ∷ gs) zero g e = let same : h ≡ g = cc in ap (λ w. Some (body_of w.body)) same
 at_body (h ∷ gs) (suc i) g e = at_body gs i g e

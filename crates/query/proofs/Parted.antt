@@ -173,19 +173,19 @@ module _ (g : Geometry Pos) (sound : IsSound g) (t : Arcs) (table : IsTableOf g 
               ]
 
 -- in the form of the code
-module _ (t : TopologyParts) (some : IsOfSomeMap t) (arcs : Arcs) (at : arcs ≡ t.arcs) (ks these those : List ℕ) (first : these ≡ ks) (second : those ≡ ks) (stops : List Pos)
-    (halting : (g : Geometry Pos) → IsSound g → IsTableOf g arcs → AreHalts arcs.arcs these stops)
-    (joined numbers : List ℕ) (taken : joined ≡ others stops arcs.arcs those) (again : numbers ≡ joined)
+module _ (t : TopologyParts) (some : IsOfSomeMap t) (arcs : Arcs) (at : arcs ≡ t.arcs) (ks : List ℕ) (stops : List Pos)
+    (halting : (g : Geometry Pos) → IsSound g → IsTableOf g arcs → AreHalts arcs.arcs ks stops)
+    (joined numbers : List ℕ) (taken : joined ≡ others stops arcs.arcs ks) (again : numbers ≡ joined)
     (rest segs : List Segment) (has : HasArcs arcs.arcs numbers rest) (same : segs ≡ rest) where
   of_some : IsTableOf (geometry_of some.0) arcs
   of_some = subst (IsTableOf (geometry_of some.0)) (sym at) some.1.table
 
   halts_at : AreHalts arcs.arcs ks stops
-  halts_at = subst (λ w. AreHalts arcs.arcs w stops) first (halting (geometry_of some.0) (are_sound some.0) of_some)
+  halts_at = halting (geometry_of some.0) (are_sound some.0) of_some
 
   left_at : HasArcs arcs.arcs (others stops arcs.arcs ks) segs
   left_at =
-      subst (λ w. HasArcs arcs.arcs w segs) (again ∙ taken ∙ ap (others stops arcs.arcs) second) (subst (HasArcs arcs.arcs numbers) (sym same) has)
+      subst (λ w. HasArcs arcs.arcs w segs) (again ∙ taken) (subst (HasArcs arcs.arcs numbers) (sym same) has)
 
   all_at : (all : List Segment) × HasArcs arcs.arcs ks all
   all_at = segments_on arcs.arcs ks
@@ -193,13 +193,13 @@ module _ (t : TopologyParts) (some : IsOfSomeMap t) (arcs : Arcs) (at : arcs ≡
   pub joined_meet : MeetsTwo segs stops
   joined_meet = rest_meets (geometry_of some.0) (are_sound some.0) arcs of_some ks stops halts_at all_at.0 all_at.1 segs left_at
 
-  pub lines_over : (whole : List (List Pos)) → whole ≡ wholes stops arcs.arcs those → (lines : Arcs) →
+  pub lines_over : (whole : List (List Pos)) → whole ≡ wholes stops arcs.arcs ks → (lines : Arcs) →
       ((all : List Segment) → MeetsTwo all stops → AreParted all stops whole segs → AreMaximal all stops lines) → AreLinesOver (segments_on arcs.arcs ks).0 lines
   unfolding all_at
   lines_over whole are lines maximal = record {
     stops = stops;
     exact = (halts_stops arcs.arcs ks all_at.0 stops all_at.1 halts_at).1;
     maximal = maximal all_at.0 (halts_stops arcs.arcs ks all_at.0 stops all_at.1 halts_at).0
-        (subst (λ w. AreParted all_at.0 stops w segs) (sym (are ∙ ap (wholes stops arcs.arcs) second))
+        (subst (λ w. AreParted all_at.0 stops w segs) (sym are)
         (are_parted (geometry_of some.0) (are_sound some.0) arcs of_some ks stops halts_at all_at.0 all_at.1 segs left_at));
   }

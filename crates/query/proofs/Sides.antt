@@ -1,121 +1,226 @@
--- What is noted of the other ends of a vertex's segments, and which vertices are stops.
-use Rattle.std.proofs.Common.{◌≡◌, ℕ, Bool, true, false, cond, ◌||◌, rules, List, [], ◌∷◌, ◌⊎◌, inl, inr, refl, sym, ap, ◌∙◌, subst, Option, Some, None, Result, Ok, Err, IfOk}
-use Rattle.std.specs.Ordering.{is_eq}
+-- The sides of a vertex's segments, and which vertices are stops.
+use Rattle.std.proofs.Common.{◌≡◌, ℕ, zero, suc, Bool, true, false, cond, ◌||◌, rules, List, [], ◌∷◌, ◌++◌, take, drop, ◌⊎◌, inl, inr, refl, sym, ap, ◌∙◌, subst, Result, Ok, Err, IfOk}
+use Rattle.std.proofs.lemmas.List.{append_assoc, append-nil, take-append-drop}
+use Rattle.std.proofs.lemmas.List.Sorted.{IsPermutation-sym}
+use Rattle.std.specs.Cmp.{IsTotalOrder, on_total}
+use Rattle.std.specs.List.Sorted.{IsPermutation, IsSorted}
+use Rattle.std.specs.Ordering.{is_eq, is_gt}
 use Rattle.std.specs.List.{list_any}
 use Rattle.std.specs.BTreeSet.{BTreeSet, contains}
 use Rattle.theory.specs.Geometry.{Geometry, IsSound}
+use Rattle.theory.specs.Lists.{Has}
 use Rattle.theory.specs.Segments.{OnTwo, TwoSegments}
+use Rattle.theory.proofs.Lists.{Has-append, Has-append_left, Has-append_right}
 use Rattle.lines.specs.Turned.{position_cmp}
+use Rattle.lines.specs.Positions.{position_total, position_same}
 use Rattle.grid.specs.declared.pos.Pos.{Pos}
 use Rattle.lines.specs.Pairs.{position_eq}
 use Rattle.chains.specs.Among.{among}
 use Rattle.chains.specs.Arcs.{Arcs}
 use Rattle.chains.specs.Joined.{StopAt}
 use Rattle.chains.specs.Table.{IsTableOf}
-use Rattle.lines.proofs.Positions.{position_tied, tied_position, position_true, true_position, true_false}
+use Rattle.lines.proofs.Positions.{position_apart, position_decide, position_refl, position_true, tied_position, true_false, true_position}
+use Rattle.lines.proofs.SortedLists.{Has-permutation, Up, squeezed, up_from_sorted}
 use Rattle.query.specs.declared.ends.End.{End}
 use Rattle.query.specs.declared.stops.Sides.{Sides}
 use Rattle.query.specs.declared.stops.Sides.TheVariants.{One, Two, More}
-use Rattle.query.specs.Stops.{sided, noted, noted_all, halts, stop_step, stop_all, OnOne, OnThreeOf, AreHalts}
+use Rattle.query.specs.Stops.{AreHalts, AreJudged, IsJudged, Means, OnOne, OnThreeOf, beside, halts, sided, sided_all, sides_at, stop_step}
 use Rattle.chains.specs.Along.{OnArcs}
-use Rattle.query.specs.Ends.{AmongEnds, HasEnds}
+use Rattle.query.specs.Ends.{AmongEnds, HasEnds, StandByVertex, by_vertex, count_at}
 use Rattle.query.proofs.Vertices.{end_side, end_sides, end_or_two}
 
--- what is noted says of the other ends H
-abbrev Means : Option Sides → (Pos → Type 0) → Type 0
-Means None H = (p : Pos) → ¬ H p
-Means (Some (One a)) H = H a × ((p : Pos) → H p → p ≡ a)
-Means (Some (Two a b)) H = (¬ (a ≡ b)) × H a × H b × ((p : Pos) → H p → (p ≡ a) ⊎ (p ≡ b))
-Means (Some More) H = (a : Pos) × (b : Pos) × (c : Pos) × H a × H b × H c × (¬ (a ≡ b)) × (¬ (a ≡ c)) × (¬ (b ≡ c))
+Means-iff : (s : Sides) (H G : Pos → Type 0) → ((p : Pos) → H p → G p) → ((p : Pos) → G p → H p) → Means s H → Means s G
+Means-iff (One a) H G f g h = (f a h.0, λ p k. h.1 p (g p k))
+Means-iff (Two a b) H G f g h = (h.0, f a h.1, f b h.2, λ p k. h.3 p (g p k))
+Means-iff More H G f g h = (h.0, h.1, h.2, f h.0 h.3, f h.1 h.4, f h.2 h.5, h.6, h.7, h.8)
 
-Means-iff : (o : Option Sides) (H G : Pos → Type 0) → ((p : Pos) → H p → G p) → ((p : Pos) → G p → H p) → Means o H → Means o G
-Means-iff None H G f g h = λ p k. h p (g p k)
-Means-iff (Some (One a)) H G f g h = (f a h.0, λ p k. h.1 p (g p k))
-Means-iff (Some (Two a b)) H G f g h = (h.0, f a h.1, f b h.2, λ p k. h.3 p (g p k))
-Means-iff (Some More) H G f g h = (h.0, h.1, h.2, f h.0 h.3, f h.1 h.4, f h.2 h.5, h.6, h.7, h.8)
+-- some position has H
+Means-some : (s : Sides) (H : Pos → Type 0) → Means s H → (p : Pos) × H p
+Means-some (One a) H h = (a, h.0)
+Means-some (Two a b) H h = (a, h.1)
+Means-some More H h = (h.0, h.3)
 
 apart_false : (a n : Pos) → position_eq a n ≡ false → ¬ (a ≡ n)
 apart_false a n e k = true_false (position_eq a n) (true_position a n k) e
 
-Means-sided : (o : Option Sides) (H : Pos → Type 0) (n : Pos) → Means o H → Means (Some (sided o n)) (λ p. (p ≡ n) ⊎ H p)
-Means-sided None H n h = (inl refl, λ p k. elim k [ inl f ↦ f | inr f ↦ absurd (h p f) ])
-Means-sided (Some (One a)) H n h = go (position_eq a n) refl
+Means-sided : (s : Sides) (H : Pos → Type 0) (n : Pos) → Means s H → Means (sided s n) (λ p. (p ≡ n) ⊎ H p)
+Means-sided (One a) H n h = go (position_eq a n) refl
   where
-    go : (b : Bool) → position_eq a n ≡ b → Means (Some (cond b (One a) (Two a n))) (λ p. (p ≡ n) ⊎ H p)
+    go : (b : Bool) → position_eq a n ≡ b → Means (cond b (One a) (Two a n)) (λ p. (p ≡ n) ⊎ H p)
     go true e = (inr h.0, λ p k. elim k [ inl f ↦ f ∙ sym (position_true a n e) | inr f ↦ h.1 p f ])
     go false e = (apart_false a n e, inr h.0, inl refl, λ p k. elim k [ inl f ↦ inr f | inr f ↦ inl (h.1 p f) ])
-Means-sided (Some (Two a b)) H n h = go (position_eq a n) refl (position_eq b n) refl
+Means-sided (Two a b) H n h = go (position_eq a n) refl (position_eq b n) refl
   where
-    go : (s : Bool) → position_eq a n ≡ s → (t : Bool) → position_eq b n ≡ t → Means (Some (cond s (Two a b) (cond t (Two a b) More))) (λ p. (p ≡ n) ⊎ H p)
+    go : (s : Bool) → position_eq a n ≡ s → (t : Bool) → position_eq b n ≡ t → Means (cond s (Two a b) (cond t (Two a b) More)) (λ p. (p ≡ n) ⊎ H p)
     go true e t f = (h.0, inr h.1, inr h.2, λ p k. elim k [ inl g ↦ inl (g ∙ sym (position_true a n e)) | inr g ↦ h.3 p g ])
     go false e true f = (h.0, inr h.1, inr h.2, λ p k. elim k [ inl g ↦ inr (g ∙ sym (position_true b n f)) | inr g ↦ h.3 p g ])
     go false e false f = (a, b, n, inr h.1, inr h.2, inl refl, h.0, apart_false a n e, apart_false b n f)
-Means-sided (Some More) H n h = (h.0, h.1, h.2, inr h.3, inr h.4, inr h.5, h.6, h.7, h.8)
+Means-sided More H n h = (h.0, h.1, h.2, inr h.3, inr h.4, inr h.5, h.6, h.7, h.8)
 
-Means-noted : (q : Pos) (o : Option Sides) (H : Pos → Type 0) (at to : Pos) → Means o H → Means (noted q o at to) (λ p. ((q ≡ at) × (p ≡ to)) ⊎ H p)
-Means-noted q o H at to h = go (is_eq (position_cmp at q)) refl
-  where
-    go : (b : Bool) → is_eq (position_cmp at q) ≡ b → Means (cond b (Some (sided o to)) o) (λ p. ((q ≡ at) × (p ≡ to)) ⊎ H p)
-    go true e =
-        Means-iff (Some (sided o to)) (λ p. (p ≡ to) ⊎ H p) (λ p. ((q ≡ at) × (p ≡ to)) ⊎ H p)
-        (λ p k. elim k [ inl f ↦ inl (sym (position_tied at q e), f) | inr f ↦ inr f ])
-        (λ p k. elim k [ inl f ↦ inl f.1 | inr f ↦ inr f ]) (Means-sided o H to h)
-    go false e =
-        Means-iff o H (λ p. ((q ≡ at) × (p ≡ to)) ⊎ H p) (λ p k. inr k)
-        (λ p k. elim k [ inl f ↦ absurd (true_false (is_eq (position_cmp at q)) (tied_position at q (sym f.0)) e) | inr f ↦ f ]) h
+-- p is beside the vertex of one of the ends
+abbrev IsSideOf : Pos → List End → Type 0
+IsSideOf p [] = ⊥
+IsSideOf p (e ∷ es) = (p ≡ e.to) ⊎ IsSideOf p es
 
-Means-all : (q : Pos) (o : Option Sides) (H : Pos → Type 0) (es : List End) → Means o H → Means (noted_all q o es) (λ p. AmongEnds q p es ⊎ H p)
-Means-all q o H [] h = Means-iff o H (λ p. ⊥ ⊎ H p) (λ p k. inr k) (λ p k. elim k [ inl z ↦ absurd z | inr f ↦ f ]) h
-Means-all q o H (e ∷ es) h =
-    Means-iff (noted_all q o (e ∷ es))
-    (λ p. AmongEnds q p es ⊎ (((q ≡ e.at) × (p ≡ e.to)) ⊎ H p))
-    (λ p. AmongEnds q p (e ∷ es) ⊎ H p)
+Means-all : (s : Sides) (H : Pos → Type 0) (es : List End) → Means s H → Means (sided_all s es) (λ p. IsSideOf p es ⊎ H p)
+Means-all s H [] h = Means-iff s H (λ p. ⊥ ⊎ H p) (λ p k. inr k) (λ p k. elim k [ inl z ↦ absurd z | inr f ↦ f ]) h
+Means-all s H (e ∷ es) h =
+    Means-iff (sided_all (sided s e.to) es) (λ p. IsSideOf p es ⊎ ((p ≡ e.to) ⊎ H p)) (λ p. IsSideOf p (e ∷ es) ⊎ H p)
     (λ p k. elim k [ inl f ↦ inl (inr f) | inr f ↦ elim f [ inl i ↦ inl (inl i) | inr i ↦ inr i ] ])
     (λ p k. elim k [ inl f ↦ elim f [ inl i ↦ inr (inl i) | inr i ↦ inl i ] | inr f ↦ inr (inr f) ])
-    (Means-all q (noted q o e.at e.to) (λ p. ((q ≡ e.at) × (p ≡ e.to)) ⊎ H p) es (Means-noted q o H e.at e.to h))
+    (Means-all (sided s e.to) (λ p. (p ≡ e.to) ⊎ H p) es (Means-sided s H e.to h))
 
--- what is noted of all ends
-Means-ends : (q : Pos) (es : List End) → Means (noted_all q None es) (λ p. AmongEnds q p es)
-Means-ends q es =
-    Means-iff (noted_all q None es) (λ p. AmongEnds q p es ⊎ ⊥) (λ p. AmongEnds q p es)
-    (λ p k. elim k [ inl f ↦ f | inr z ↦ absurd z ]) (λ p k. inl k) (Means-all q None (λ p. ⊥) es (λ p z. z))
+side_has : (v w : Pos) (es : List End) → ((x : End) → Has x es → x.at ≡ v) → IsSideOf w es → Has (beside v w) es
+side_has v w [] at h = absurd h
+side_has v w (e ∷ es) at (inl k) = let here = at e (inl refl) in inl (λ i. record { at = sym here i; to = k i })
+side_has v w (e ∷ es) at (inr h) = inr (side_has v w es (λ x i. at x (inr i)) h)
 
--- the stops that the code notes
-module _ (f : Pos → Option Sides) (q : Pos) where
-  step_kept : (v : Pos) → stop_step f q true v ≡ true
-  step_kept v = go (halts (f v)) (is_eq (position_cmp v q))
+has_side : (v w : Pos) (es : List End) → Has (beside v w) es → IsSideOf w es
+has_side v w [] h = absurd h
+has_side v w (e ∷ es) (inl k) = inl (ap (λ z. z.to) k)
+has_side v w (e ∷ es) (inr h) = inr (has_side v w es h)
+
+-- what is told of the ends at one vertex
+Means-here : (first : End) (here : List End) → ((x : End) → Has x (first ∷ here) → x.at ≡ first.at) →
+    Means (sides_at first here) (λ w. Has (beside first.at w) (first ∷ here))
+Means-here first here at =
+    Means-iff (sides_at first here) (λ p. IsSideOf p here ⊎ (p ≡ first.to)) (λ w. Has (beside first.at w) (first ∷ here))
+    (λ p k. side_has first.at p (first ∷ here) at (elim k [ inl f ↦ inr f | inr f ↦ inl f ]))
+    (λ p k. elim (has_side first.at p (first ∷ here) k) [ inl f ↦ inr f | inr f ↦ inl f ])
+    (Means-all (One first.to) (λ p. p ≡ first.to) here (refl, λ p k. k))
+
+-- the first ends that are at v, and those behind
+here_at : (v : Pos) (es : List End) (x : End) → Has x (take (count_at v es) es) → x.at ≡ v
+here_at v [] x h = absurd h
+here_at v (e ∷ es) x h = go (position_eq e.at v) refl (here_at v es x) h
+  where
+    go : (b : Bool) → position_eq e.at v ≡ b → (Has x (take (count_at v es) es) → x.at ≡ v) → Has x (take (cond b (suc (count_at v es)) zero) (e ∷ es)) → x.at ≡ v
+    go true f on (inl i) = ap (λ w. w.at) i ∙ position_true e.at v f
+    go true f on (inr i) = on i
+    go false f on i = absurd i
+
+behind_at : (v : Pos) (es : List End) → ((x : End) → Has x es → is_gt (position_cmp v x.at) ≡ false) → StandByVertex es → (x : End) → Has x (drop (count_at v es) es) → ¬ (x.at ≡ v)
+behind_at v [] up g x h = absurd h
+behind_at v (e ∷ es) up g x h = go (position_eq e.at v) refl (behind_at v es (λ y k. up y (inr k)) g.1 x) h
+  where
+    not_here : position_eq e.at v ≡ false → Has x (e ∷ es) → ¬ (x.at ≡ v)
+    not_here f (inl i) k = true_false (position_eq e.at v) (subst (λ w. position_eq w v ≡ true) (sym k ∙ ap (λ w. w.at) i) (position_refl v)) f
+    not_here f (inr i) k =
+        let same : e.at ≡ v = position_same e.at v
+        (squeezed position_cmp position_total (position_cmp e.at v) (position_cmp v e.at) (position_total.antisymm e.at v)
+        (subst (λ w. is_gt (position_cmp e.at w) ≡ false) k (g.0 x i)) (up e (inl refl))) in
+        true_false (position_eq e.at v) (subst (λ w. position_eq w v ≡ true) (sym same) (position_refl v)) f
+
+    go : (b : Bool) → position_eq e.at v ≡ b → (Has x (drop (count_at v es) es) → ¬ (x.at ≡ v)) →
+        Has x (drop (cond b (suc (count_at v es)) zero) (e ∷ es)) → ¬ (x.at ≡ v)
+    go true f on i = on i
+    go false f on i = not_here f i
+
+Stand-behind : (xs ys : List End) → StandByVertex (xs ++ ys) → StandByVertex ys
+Stand-behind [] ys g = g
+Stand-behind (x ∷ xs) ys g = Stand-behind xs ys g.1
+
+-- the vertices of the ends before these are judged
+pub record Judging (ends left : List End) (stops : List Pos) : Type 0 where
+  pub done : List End
+  pub is : ends ≡ done ++ left
+  pub stand : StandByVertex left
+  pub other : (x y : End) → Has x done → Has y left → ¬ (x.at ≡ y.at)
+  pub judged : AreJudged done stops
+
+pub judging_starts : (ends : List End) (stops : List Pos) → stops ≡ [] → StandByVertex ends → Judging ends ends stops
+judging_starts ends stops e g = record {
+  done = [];
+  is = refl;
+  stand = g;
+  other = λ x y h. absurd h;
+  judged = λ v. inl ((λ w h. h), ap (λ l. among l v) e);
+}
+
+pub judging_over : (ends left : List End) (stops : List Pos) → left ≡ [] → Judging ends left stops → AreJudged ends stops
+judging_over ends left stops e p v =
+    subst (λ es. IsJudged es v (among stops v)) (sym (p.is ∙ ap (λ w. p.done ++ w) e ∙ append-nil p.done)) (p.judged v)
+
+-- the ends at one vertex: the first of those that are left, and those that follow it there
+module _ (ends : List End) (first : End) (here behind : List End) (stops new : List Pos) (p : Judging ends (first ∷ (here ++ behind)) stops)
+    (at : (x : End) → Has x here → x.at ≡ first.at) (past : (x : End) → Has x behind → ¬ (x.at ≡ first.at))
+    (made : (q : Pos) → among new q ≡ stop_step (halts (sides_at first here)) q (among stops q) first.at) where
+  at_first : (x : End) → Has x (first ∷ here) → x.at ≡ first.at
+  at_first x (inl e) = ap (λ w. w.at) e
+  at_first x (inr h) = at x h
+
+  in_behind : (x : End) → Has x behind → Has x (first ∷ (here ++ behind))
+  in_behind x h = inr (Has-append_right x here behind h)
+
+  abbrev now : List End
+  now = p.done ++ (first ∷ here)
+
+  -- at its vertex no end stood before
+  none_before : (v : Pos) → v ≡ first.at → (w : Pos) → ¬ Has (beside v w) p.done
+  none_before v e w h = p.other (beside v w) first h (inl refl) e
+
+  no_stop_yet : (v : Pos) → v ≡ first.at → among stops v ≡ false
+  no_stop_yet v e = elim (p.judged v) [
+    | inl k ↦ k.1
+    | inr k ↦ (let some = Means-some k.0 (λ w. Has (beside v w) p.done) k.1 in absurd (none_before v e some.0 some.1))
+  ]
+
+  judged_here : (v : Pos) → v ≡ first.at → IsJudged now v (among new v)
+  judged_here v e = inr (
+    sides_at first here,
+    Means-iff (sides_at first here) (λ w. Has (beside first.at w) (first ∷ here)) (λ w. Has (beside v w) now)
+        (λ w h. Has-append_right (beside v w) p.done (first ∷ here) (subst (λ u. Has (beside u w) (first ∷ here)) (sym e) h))
+        (λ w h. elim (Has-append (beside v w) p.done (first ∷ here) h) [
+          | inl k ↦ absurd (none_before v e w k)
+          | inr k ↦ subst (λ u. Has (beside u w) (first ∷ here)) e k
+        ])
+        (Means-here first here at_first),
+    go (halts (sides_at first here)) ∙ sym (ap (λ o. stop_step (halts (sides_at first here)) v o first.at) (no_stop_yet v e)) ∙ sym (made v),
+  )
     where
-      go : (a b : Bool) → cond a (cond b true true) true ≡ true
-      go true true = refl
-      go true false = refl
-      go false b = refl
+      go : (b : Bool) → b ≡ cond b (cond (is_eq (position_cmp first.at v)) true false) false
+      go true = sym (ap (λ c. cond c true false) (tied_position first.at v (sym e)))
+      go false = refl
 
-  all_kept : (es : List End) → stop_all f q true es ≡ true
-  all_kept [] = refl
-  all_kept (e ∷ es) = ap (λ b. stop_all f q b es) (step_kept e.at) ∙ all_kept es
-
-  step_met : (b : Bool) (v : Pos) → halts (f q) ≡ true → q ≡ v → stop_step f q b v ≡ true
-  step_met b v h e = rw (ap (λ w. halts (f w)) (sym e) ∙ h, tied_position v q (sym e)) refl
-
-  -- where arcs end is a stop, if it halts
-  all_met : (b : Bool) (w : Pos) (es : List End) → halts (f q) ≡ true → AmongEnds q w es → stop_all f q b es ≡ true
-  all_met b w [] h k = absurd k
-  all_met b w (e ∷ es) h (inl k) = ap (λ c. stop_all f q c es) (step_met b e.at h k.0) ∙ all_kept es
-  all_met b w (e ∷ es) h (inr k) = all_met (stop_step f q b e.at) w es h k
-
-  step_from : (b : Bool) (v : Pos) → stop_step f q b v ≡ true → (b ≡ true) ⊎ (halts (f q) ≡ true)
-  step_from b v e = go (halts (f v)) refl (is_eq (position_cmp v q)) refl e
+  judged_there : (v : Pos) → ¬ (v ≡ first.at) → IsJudged now v (among new v)
+  judged_there v n = subst (IsJudged now v) (sym kept) (elim (p.judged v) [
+    | inl k ↦ inl ((λ w h. k.0 w (back w h)), k.1)
+    | inr k ↦ inr (k.0, Means-iff k.0 (λ w. Has (beside v w) p.done) (λ w. Has (beside v w) now) (λ w h. Has-append_left (beside v w) p.done (first ∷ here) h) back k.1, k.2)
+  ])
     where
-      go : (a : Bool) → halts (f v) ≡ a → (c : Bool) → is_eq (position_cmp v q) ≡ c → cond a (cond c true b) b ≡ true → (b ≡ true) ⊎ (halts (f q) ≡ true)
-      go true h true g k = inr (subst (λ w. halts (f w) ≡ true) (position_tied v q g) h)
-      go true h false g k = inl k
-      go false h c g k = inl k
+      back : (w : Pos) → Has (beside v w) now → Has (beside v w) p.done
+      back w h = elim (Has-append (beside v w) p.done (first ∷ here) h) [ inl k ↦ k | inr k ↦ absurd (n (at_first (beside v w) k)) ]
 
-  -- each stop halts
-  all_from : (b : Bool) (es : List End) → stop_all f q b es ≡ true → (b ≡ true) ⊎ (halts (f q) ≡ true)
-  all_from b [] e = inl e
-  all_from b (s ∷ es) e =
-      elim (all_from (stop_step f q b s.at) es e) [ inr h ↦ inr h | inl k ↦ step_from b s.at k ]
+      go : (b : Bool) → cond b (cond (is_eq (position_cmp first.at v)) true (among stops v)) (among stops v) ≡ among stops v
+      go true = ap (λ c. cond c true (among stops v)) (position_apart first.at v n)
+      go false = refl
+
+      kept : among new v ≡ among stops v
+      kept = made v ∙ go (halts (sides_at first here))
+
+  advance : Judging ends behind new
+  advance = record {
+    done = now;
+    is = p.is ∙ sym (append_assoc p.done (first ∷ here) behind);
+    stand = Stand-behind (first ∷ here) behind p.stand;
+    other = λ x y h i. elim (Has-append x p.done (first ∷ here) h) [
+      | inl j ↦ p.other x y j (in_behind y i)
+      | inr j ↦ (λ k. past y i (sym k ∙ at_first x j))
+    ];
+    judged = λ v. elim (position_decide v first.at) [ inl e ↦ judged_here v e | inr n ↦ judged_there v n ];
+  }
+
+-- in the form of the code
+pub judging_step : (ends left others : List End) (first : End) (n : ℕ) (here behind : List End) (s : Sides) (stops new : List Pos) → left ≡ first ∷ others → n ≡ count_at first.at others →
+    here ≡ take n others → behind ≡ drop n others → s ≡ sides_at first here → ((q : Pos) → among new q ≡ stop_step (halts s) q (among stops q) first.at) →
+    Judging ends left stops → Judging ends behind new
+judging_step ends left others first n here behind s stops new l c h b is made p =
+    let split : others ≡ here ++ behind = sym (take-append-drop n others) ∙ (λ i. sym h i ++ sym b i) in
+    let stand : StandByVertex (first ∷ others) = subst StandByVertex l p.stand in
+    advance ends first here behind stops new (subst (λ w. Judging ends w stops) (l ∙ ap (λ w. first ∷ w) split) p)
+    (λ x k. here_at first.at others x (subst (Has x) (h ∙ ap (λ m. take m others) c) k))
+    (λ x k. behind_at first.at others stand.0 stand.1 x (subst (Has x) (b ∙ ap (λ m. drop m others) c) k))
+    (λ q. made q ∙ ap (λ t. stop_step (halts t) q (among stops q) first.at) is)
 
 -- no vertex lies on two segments, and on one or three
 pub two_only : (S : Pos → Pos → Type 0) (v : Pos) → OnTwo S v → OnOne S v ⊎ OnThreeOf S v → ⊥
@@ -133,46 +238,40 @@ two_only S v t (inr o) =
     ]
 
 -- the segments S at a vertex where arcs end are those of the ends, and each other vertex lies on two
-module _ (S : Pos → Pos → Type 0) (ends : List End) (stops : List Pos) (f : Pos → Option Sides)
-    (on : (v w : Pos) → AmongEnds v w ends → S v w) (all : (v p w : Pos) → AmongEnds v p ends → S v w → AmongEnds v w ends)
-    (others : (v w : Pos) → S v w → AmongEnds v w ends ⊎ OnTwo S v)
-    (noting : (q : Pos) → f q ≡ noted_all q None ends) (made : (q : Pos) → among stops q ≡ stop_all f q false ends) where
-  means : (q : Pos) → Means (f q) (λ p. AmongEnds q p ends)
-  means q = subst (λ o. Means o (λ p. AmongEnds q p ends)) (sym (noting q)) (Means-ends q ends)
-
+module _ (S : Pos → Pos → Type 0) (ends : List End) (stops : List Pos)
+    (on : (v w : Pos) → Has (beside v w) ends → S v w) (all : (v p w : Pos) → Has (beside v p) ends → S v w → Has (beside v w) ends)
+    (others : (v w : Pos) → S v w → Has (beside v w) ends ⊎ OnTwo S v) (judged : AreJudged ends stops) where
   -- a vertex that is no stop lies on two segments
   stops_meet : TwoSegments S (StopAt stops)
-  stops_meet v w free s = elim (others v w s) [ inr t ↦ t | inl k ↦ go k (f v) (means v) (halting k) ]
+  stops_meet v w free s = elim (others v w s) [
+    | inr t ↦ t
+    | inl k ↦ elim (judged v) [ inl none ↦ absurd (none.0 w k) | inr told ↦ go k told.0 told.1 (λ h. free (sym told.2 ∙ h)) ]
+  ]
     where
-      halting : AmongEnds v w ends → ¬ (halts (f v) ≡ true)
-      halting k h = free (made v ∙ all_met f v false w ends h k)
-
-      go : AmongEnds v w ends → (o : Option Sides) → Means o (λ p. AmongEnds v p ends) → ¬ (halts o ≡ true) → OnTwo S v
-      go k None m n = absurd (m w k)
-      go k (Some (One a)) m n = absurd (n refl)
-      go k (Some (Two a b)) m n = (a, b, m.0, on v a m.1, on v b m.2, λ c h. m.3 c (all v w c k h))
-      go k (Some More) m n = absurd (n refl)
+      go : Has (beside v w) ends → (t : Sides) → Means t (λ p. Has (beside v p) ends) → ¬ (halts t ≡ true) → OnTwo S v
+      go k (One a) m n = absurd (n refl)
+      go k (Two a b) m n = (a, b, m.0, on v a m.1, on v b m.2, λ c h. m.3 c (all v w c k h))
+      go k More m n = absurd (n refl)
 
   -- a stop lies on one segment, or on three or more
   stops_lie : (v : Pos) → StopAt stops v → OnOne S v ⊎ OnThreeOf S v
-  stops_lie v k = go (f v) (means v) (elim (all_from f v false ends (sym (made v) ∙ k)) [ inl e ↦ absurd (true_false false e refl) | inr h ↦ h ])
+  stops_lie v k = elim (judged v) [ inl none ↦ absurd (true_false (among stops v) k none.1) | inr told ↦ go told.0 told.1 (told.2 ∙ k) ]
     where
-      go : (o : Option Sides) → Means o (λ p. AmongEnds v p ends) → halts o ≡ true → OnOne S v ⊎ OnThreeOf S v
-      go None m n = absurd cc
-      go (Some (One a)) m n = inl (a, on v a m.0, λ p h. m.1 p (all v a p m.0 h))
-      go (Some (Two a b)) m n = absurd cc
-      go (Some More) m n = inr (m.0, m.1, m.2, on v m.0 m.3, on v m.1 m.4, on v m.2 m.5, m.6, m.7, m.8)
+      go : (t : Sides) → Means t (λ p. Has (beside v p) ends) → halts t ≡ true → OnOne S v ⊎ OnThreeOf S v
+      go (One a) m n = inl (a, on v a m.0, λ p h. m.1 p (all v a p m.0 h))
+      go (Two a b) m n = absurd cc
+      go More m n = inr (m.0, m.1, m.2, on v m.0 m.3, on v m.1 m.4, on v m.2 m.5, m.6, m.7, m.8)
 
   -- and a vertex that lies so is a stop
   lies_stop : (v : Pos) → OnOne S v ⊎ OnThreeOf S v → StopAt stops v
   lies_stop v h = go (among stops v) refl
     where
-      beside : (w : Pos) × S v w
-      beside = elim h [ inl o ↦ (o.0, o.1) | inr t ↦ (t.0, t.3) ]
+      segment : (w : Pos) × S v w
+      segment = elim h [ inl o ↦ (o.0, o.1) | inr t ↦ (t.0, t.3) ]
 
       go : (b : Bool) → among stops v ≡ b → b ≡ true
       go true e = refl
-      go false e = absurd (two_only S v (stops_meet v beside.0 (λ k. true_false (among stops v) k e) beside.1) h)
+      go false e = absurd (two_only S v (stops_meet v segment.0 (λ k. true_false (among stops v) k e) segment.1) h)
 
 -- whether a set has a position
 eq_is : (p q : Pos) → is_eq (position_cmp p q) ≡ position_eq p q
@@ -185,49 +284,66 @@ contains_among s q = go s.keys
     go [] = refl
     go (k ∷ ks) = let p = eq_is q k in let r = go ks in λ i. p i || r i
 
--- one vertex more is noted
-pub noted_step : (q at to : Pos) (f : Pos → Option Sides) (new : Option Sides) (old : Option Sides) (v : Sides) →
-    new ≡ cond (is_eq (position_cmp at q)) (Some v) (f q) → v ≡ sided old to → old ≡ f at → new ≡ noted q (f q) at to
-noted_step q at to f new old v e g h = e ∙ go (is_eq (position_cmp at q)) refl
-  where
-    go : (b : Bool) → is_eq (position_cmp at q) ≡ b → cond b (Some v) (f q) ≡ cond b (Some (sided (f q) to)) (f q)
-    go true i = ap Some (g ∙ ap (λ u. sided u to) (h ∙ ap f (position_tied at q i)))
-    go false i = refl
-
 -- a vertex is put among the stops
-pub stop_put : (s t : BTreeSet Pos) (f : Pos → Option Sides) (v q : Pos) → halts (f v) ≡ true →
-    contains position_cmp t q ≡ cond (is_eq (position_cmp v q)) true (contains position_cmp s q) → among t.keys q ≡ stop_step f q (among s.keys q) v
-stop_put s t f v q h e =
-    sym (contains_among t q) ∙ e ∙ ap (λ b. cond (is_eq (position_cmp v q)) true b) (contains_among s q)
+pub stop_put : (s t : BTreeSet Pos) (b : Bool) (v q : Pos) → b ≡ true →
+    contains position_cmp t q ≡ cond (is_eq (position_cmp v q)) true (contains position_cmp s q) → among t.keys q ≡ stop_step b q (among s.keys q) v
+stop_put s t b v q h e =
+    sym (contains_among t q) ∙ e ∙ ap (λ c. cond (is_eq (position_cmp v q)) true c) (contains_among s q)
     ∙ sym (ap (λ a. cond a (cond (is_eq (position_cmp v q)) true (among s.keys q)) (among s.keys q)) h)
 
 -- it is not put there
-pub stop_left : (keys : List Pos) (f : Pos → Option Sides) (v q : Pos) → halts (f v) ≡ false → among keys q ≡ stop_step f q (among keys q) v
-stop_left keys f v q h = sym (ap (λ a. cond a (cond (is_eq (position_cmp v q)) true (among keys q)) (among keys q)) h)
+pub stop_left : (keys : List Pos) (b : Bool) (v q : Pos) → b ≡ false → among keys q ≡ stop_step b q (among keys q) v
+stop_left keys b v q h = sym (ap (λ a. cond a (cond (is_eq (position_cmp v q)) true (among keys q)) (among keys q)) h)
+
+among_has : (v w : Pos) (es : List End) → AmongEnds v w es → Has (beside v w) es
+among_has v w [] h = absurd h
+among_has v w (e ∷ es) (inl k) = inl (λ i. record { at = k.0 i; to = k.1 i })
+among_has v w (e ∷ es) (inr h) = inr (among_has v w es h)
+
+has_among : (v w : Pos) (es : List End) → Has (beside v w) es → AmongEnds v w es
+has_among v w [] h = absurd h
+has_among v w (e ∷ es) (inl k) = inl (ap (λ z. z.at) k, ap (λ z. z.to) k)
+has_among v w (e ∷ es) (inr h) = inr (has_among v w es h)
 
 -- the stops that are noted at the ends of arcs of a map
-are_halts : (g : Geometry Pos) → IsSound g → (t : Arcs) → IsTableOf g t → (ks : List ℕ) (ends : List End) → HasEnds t.arcs ks ends →
-    (stops : List Pos) (f : Pos → Option Sides) → ((q : Pos) → f q ≡ noted_all q None ends) → ((q : Pos) → among stops q ≡ stop_all f q false ends) →
-    AreHalts t.arcs ks stops
-are_halts g sound t table ks ends has stops f noting made = record {
-  exact = λ v. (stops_lie (OnArcs t.arcs ks) ends stops f on all others noting made v, lies_stop (OnArcs t.arcs ks) ends stops f on all others noting made v);
-  meets = stops_meet (OnArcs t.arcs ks) ends stops f on all others noting made;
+are_halts : (g : Geometry Pos) → IsSound g → (t : Arcs) → IsTableOf g t → (ks : List ℕ) (ends sorted : List End) → HasEnds t.arcs ks ends → IsPermutation ends sorted →
+    (stops : List Pos) → AreJudged sorted stops → AreHalts t.arcs ks stops
+are_halts g sound t table ks ends sorted has moved stops judged = record {
+  exact = λ v. (stops_lie (OnArcs t.arcs ks) sorted stops on all others judged v, lies_stop (OnArcs t.arcs ks) sorted stops on all others judged v);
+  meets = stops_meet (OnArcs t.arcs ks) sorted stops on all others judged;
 }
   where
-    on : (v w : Pos) → AmongEnds v w ends → OnArcs t.arcs ks v w
-    on v w h = end_side g sound t table ks v w ((has v w).0 h)
+    back : (v w : Pos) → Has (beside v w) sorted → AmongEnds v w ends
+    back v w h = has_among v w ends (Has-permutation sorted ends (beside v w) (IsPermutation-sym ends sorted moved) h)
 
-    all : (v p w : Pos) → AmongEnds v p ends → OnArcs t.arcs ks v w → AmongEnds v w ends
-    all v p w h s = (has v w).1 (end_sides g sound t table ks v p w ((has v p).0 h) s)
+    to : (v w : Pos) → AmongEnds v w ends → Has (beside v w) sorted
+    to v w h = Has-permutation ends sorted (beside v w) moved (among_has v w ends h)
 
-    others : (v w : Pos) → OnArcs t.arcs ks v w → AmongEnds v w ends ⊎ OnTwo (OnArcs t.arcs ks) v
-    others v w s = elim (end_or_two g sound t table ks v w s) [ inl h ↦ inl ((has v w).1 h) | inr h ↦ inr h ]
+    on : (v w : Pos) → Has (beside v w) sorted → OnArcs t.arcs ks v w
+    on v w h = end_side g sound t table ks v w ((has v w).0 (back v w h))
+
+    all : (v p w : Pos) → Has (beside v p) sorted → OnArcs t.arcs ks v w → Has (beside v w) sorted
+    all v p w h s = to v w ((has v w).1 (end_sides g sound t table ks v p w ((has v p).0 (back v p h)) s))
+
+    others : (v w : Pos) → OnArcs t.arcs ks v w → Has (beside v w) sorted ⊎ OnTwo (OnArcs t.arcs ks) v
+    others v w s = elim (end_or_two g sound t table ks v w s) [ inl h ↦ inl (to v w ((has v w).1 h)) | inr h ↦ inr h ]
+
+by_vertex_total : IsTotalOrder by_vertex
+by_vertex_total = on_total (λ (e : End). e.at) position_total
+
+-- sorted ends stand vertex by vertex
+sorted_stand : (es : List End) → IsSorted by_vertex es → StandByVertex es
+sorted_stand es s = go es (up_from_sorted by_vertex by_vertex_total es s)
+  where
+    go : (es : List End) → Up by_vertex es → StandByVertex es
+    go [] u = tt
+    go (e ∷ es) u = (u.0, go es u.1)
 
 -- in the form of the code
-pub stops_told : {E : Type 0} (t : Arcs) (ks : List ℕ) (ends xs ys : List End) (f : Pos → Option Sides) (r : Result (BTreeSet Pos) E) →
-    HasEnds t.arcs ks ends → xs ≡ ends → ys ≡ ends →
-    ((q : Pos) → f q ≡ noted_all q None xs) → IfOk r (λ s. (q : Pos) → among s.keys q ≡ stop_all f q false ys) →
+pub stops_told : {E : Type 0} (t : Arcs) (ks : List ℕ) (ends sorted slice : List End) (r : Result (BTreeSet Pos) E) →
+    HasEnds t.arcs ks ends → IsPermutation ends sorted → IsSorted by_vertex sorted → slice ≡ sorted → IfOk r (λ s. StandByVertex slice → AreJudged slice s.keys) →
     IfOk r (λ s. (g : Geometry Pos) → IsSound g → IsTableOf g t → AreHalts t.arcs ks s.keys)
-stops_told t ks ends xs ys f (Ok s) has p q noting made = λ g sound table.
-    are_halts g sound t table ks ends has s.keys f (λ v. noting v ∙ ap (noted_all v None) p) (λ v. made v ∙ ap (stop_all f v false) q)
-stops_told t ks ends xs ys f (Err e) has p q noting made = tt
+stops_told t ks ends sorted slice (Ok s) has moved order e judged = λ g sound table.
+    are_halts g sound t table ks ends sorted has moved s.keys
+    (subst (λ w. StandByVertex w → AreJudged w s.keys) e judged (sorted_stand sorted order))
+stops_told t ks ends sorted slice (Err f) has moved order e judged = tt

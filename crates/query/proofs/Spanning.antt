@@ -8,13 +8,13 @@ use Rattle.std.proofs.lemmas.List.{get_or-set_same, get_or-set_other, length-set
 use Rattle.theory.specs.Lists.{Has}
 use Rattle.query.specs.Spans.{widened, with_use, with_uses}
 use Rattle.query.specs.declared.spans.Span.{Span}
+use Rattle.query.specs.Uses.{use_at}
 use Rattle.query.specs.declared.uses.Use.{Use}
-use Rattle.query.proofs.UsesOfBodies.{use_at}
 
-same_number : (a b : ℕ) (t : Bool) → (a == b) ≡ t → t ≡ true → a ≡ b
+pub same_number : (a b : ℕ) (t : Bool) → (a == b) ≡ t → t ≡ true → a ≡ b
 same_number a b t e h = (unsigned_Decides a b).0 (e ∙ h)
 
-other_number : (a b : ℕ) (t : Bool) → (a == b) ≡ t → t ≡ false → ¬ (a ≡ b)
+pub other_number : (a b : ℕ) (t : Bool) → (a == b) ≡ t → t ≡ false → ¬ (a ≡ b)
 other_number a b t e h = λ k. let p : true ≡ false = sym ((unsigned_Decides a b).1 k) ∙ e ∙ h in cc
 
 -- the span of arc k, once the uses are met

@@ -1,17 +1,14 @@
 -- What is noted as used, and what bodies use.
-use Rattle.std.proofs.Common.{◌≡◌, ◌+◌, ℕ, zero, suc, List, [], ◌∷◌, ◌++◌, ◌⊎◌, inl, inr, refl, sym, ap, ◌∙◌, subst, Some, slice_get, arith}
+use Rattle.std.proofs.Common.{◌≡◌, ◌+◌, ℕ, zero, suc, List, [], ◌∷◌, inl, inr, refl, sym, ap, subst, Some, slice_get, arith}
 use Rattle.grid.specs.declared.pos.Pos.{Pos}
 use Rattle.theory.specs.ArcNumbers.{ArcRef, Uses}
 use Rattle.theory.specs.Lists.{Has, gathered}
-use Rattle.theory.specs.Topology.{Body, null, point, points, line, lines, polygon, polygons, lines_in, rings_in}
+use Rattle.theory.specs.Topology.{Body, null, point, points, line, lines, polygon, polygons}
 use Rattle.theory.specs.Users.{UsesArc}
 use Rattle.theory.proofs.Lists.{Has-append, Has-append_left, Has-append_right}
 use Rattle.theory.proofs.ListsOfLists.{Has-gathered, gathered_from, Has-joined, joined_from}
-use Rattle.query.specs.Uses.{refs_uses, body_uses, bodies_uses}
+use Rattle.query.specs.Uses.{use_at, refs_uses, body_uses, bodies_uses}
 use Rattle.query.specs.declared.uses.Use.{Use}
-
-abbrev pub use_at : ℕ → ℕ → Use
-use_at k p = record { arc = k; place = p }
 
 refs_from : (p : ℕ) (us : List ArcRef) (u : Use) → Has u (refs_uses p us) → (u.place ≡ p) × Uses u.arc us
 refs_from p [] u h = absurd h

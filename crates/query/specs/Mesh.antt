@@ -1,5 +1,5 @@
 -- The borders between features: the segments that a filter selects, and the lines over them.
-use Rattle.std.specs.Prelude.{◌≡◌, ◌⊎◌, ℕ, Bool, true, false, IsTrue, List, Option, Some, None}
+use Rattle.std.specs.Prelude.{◌≡◌, ◌↔◌, ◌⊎◌, ℕ, Bool, true, false, IsTrue, List, Option, Some, None}
 use Rattle.std.specs.Borrow.{Bor}
 use Rattle.std.specs.FinMap as map
 use Rattle.std.specs.Fn.{Shared}
@@ -18,6 +18,8 @@ use Rattle.theory.specs.Users.{HasSegment}
 use Rattle.topo.specs.ItsMap.{ForItsMap}
 use Rattle.topo.specs.Parts.{TopologyParts}
 use Rattle.query.specs.Stops.{AreStops}
+use Rattle.query.specs.declared.edges.Edges.{Edges}
+use Rattle.query.specs.declared.edges.Edges.TheVariants.{All, Interior, Exterior}
 
 -- the feature is one of the layer, or without a layer one of any layer
 abbrev pub InScope : Layers → Option (List ℕ) → Feature → Type 0
@@ -36,6 +38,12 @@ MayAsk g f a b = (v w : Bor Feature) → v.now ≡ a → w.now ≡ b → g.pre f
 -- f may be called on references to any two features in scope
 abbrev pub MayAskWithin : {F : Type 0} → Shared F (Bor Feature × (Bor Feature × Unit {0})) Bool → F → (Feature → Type 0) → Type 0
 MayAskWithin g f In = (a b : Feature) → In a → In b → MayAsk g f a b
+
+-- the answer of the edges to the least and the greatest feature that have a segment: yes to any, to two, or to one
+abbrev pub Answers : Edges → Feature → Feature → Bool → Type 0
+Answers All f g b = b ≡ true
+Answers Interior f g b = IsTrue b ↔ (¬ (f ≡ g))
+Answers Exterior f g b = IsTrue b ↔ (f ≡ g)
 
 -- u and v are neighbours on a line or a ring of the feature
 abbrev pub HasSide : Pos → Pos → Feature → Type 0

@@ -1,5 +1,5 @@
 -- The least and the greatest place of the features that use each arc.
-use Rattle.std.specs.Prelude.{ℕ, min, max, List, [], ◌∷◌, Option, Some, None, get_or, set}
+use Rattle.std.specs.Prelude.{ℕ, ◌+◌, min, max, List, [], ◌∷◌, ◌++◌, Option, Some, None, get_or, set}
 use Rattle.std.specs.Ordering.{nat_cmp, ordering_then}
 use Rattle.std.specs.declared.cmp.Ordering.{Ordering}
 use Rattle.query.specs.declared.spans.Span.{Span}
@@ -22,3 +22,13 @@ with_uses ss (u ∷ us) = with_uses (with_use ss u) us
 -- by least places, then by greatest
 abbrev pub span_cmp : Span → Span → Ordering
 span_cmp s t = ordering_then (nat_cmp s.least t.least) (nat_cmp s.greatest t.greatest)
+
+-- the number, where there is a span
+abbrev pub number_if : ℕ → Option Span → List ℕ
+number_if n None = []
+number_if n (Some s) = n ∷ []
+
+-- the numbers of those of the arcs that have a span, the first of which has the number n
+abbrev pub numbers_from : ℕ → List (Option Span) → List ℕ
+numbers_from n [] = []
+numbers_from n (o ∷ os) = number_if n o ++ numbers_from (n + 1) os

@@ -1,12 +1,13 @@
 -- The vertices at which lines over segments stop.
-use Rattle.std.specs.Prelude.{◌≡◌, ℕ, Bool, true, false, cond, List, [], ◌∷◌, ◌⊎◌, ◌↔◌, Option, Some, None}
+use Rattle.std.specs.Prelude.{◌≡◌, ℕ, Bool, true, false, cond, List, [], ◌∷◌, ◌⊎◌, ◌↔◌}
 use Rattle.std.specs.Ordering.{is_eq}
-use Rattle.std.specs.BTreeMap.{BTreeMap, get}
 use Rattle.grid.specs.declared.pos.Pos.{Pos}
 use Rattle.lines.specs.Turned.{position_cmp}
 use Rattle.lines.specs.Pairs.{position_eq}
+use Rattle.chains.specs.Among.{among}
 use Rattle.chains.specs.Joined.{SegmentsOf, StopAt}
 use Rattle.chains.specs.declared.segment.Segment.{Segment}
+use Rattle.theory.specs.Lists.{Has}
 use Rattle.theory.specs.Segments.{TwoSegments}
 use Rattle.chains.specs.Along.{OnArcs}
 use Rattle.query.specs.declared.ends.End.{End}
@@ -14,38 +15,47 @@ use Rattle.query.specs.declared.stops.Sides.{Sides}
 use Rattle.query.specs.declared.stops.Sides.TheVariants.{One, Two, More}
 
 -- the other ends noted before, and one more
-abbrev pub sided : Option Sides → Pos → Sides
-sided None n = One n
-sided (Some (One a)) n = cond (position_eq a n) (One a) (Two a n)
-sided (Some (Two a b)) n = cond (position_eq a n) (Two a b) (cond (position_eq b n) (Two a b) More)
-sided (Some More) n = More
+abbrev pub sided : Sides → Pos → Sides
+sided (One a) n = cond (position_eq a n) (One a) (Two a n)
+sided (Two a b) n = cond (position_eq a n) (Two a b) (cond (position_eq b n) (Two a b) More)
+sided More n = More
 
--- what is noted for q, once `to` is met as another end at `at`
-abbrev pub noted : Pos → Option Sides → Pos → Pos → Option Sides
-noted q o at to = cond (is_eq (position_cmp at q)) (Some (sided o to)) o
+-- and those of each of the ends in turn
+abbrev pub sided_all : Sides → List End → Sides
+sided_all s [] = s
+sided_all s (e ∷ es) = sided_all (sided s e.to) es
 
--- what is noted for q, once the ends are met
-abbrev pub noted_all : Pos → Option Sides → List End → Option Sides
-noted_all q o [] = o
-noted_all q o (e ∷ es) = noted_all q (noted q o e.at e.to) es
-
-abbrev pub sides_in : BTreeMap Pos Sides → Pos → Option Sides
-sides_in m q = get position_cmp m q
+-- the sides of the vertex of an end, where these are the others there
+abbrev pub sides_at : End → List End → Sides
+sides_at e es = sided_all (One e.to) es
 
 -- whether lines stop there
-abbrev pub halts : Option Sides → Bool
-halts None = false
-halts (Some (One a)) = true
-halts (Some (Two a b)) = false
-halts (Some More) = true
+abbrev pub halts : Sides → Bool
+halts (One a) = true
+halts (Two a b) = false
+halts More = true
 
--- whether q is a stop, once the vertex v is looked at
-abbrev pub stop_step : (Pos → Option Sides) → Pos → Bool → Pos → Bool
-stop_step f q b v = cond (halts (f v)) (cond (is_eq (position_cmp v q)) true b) b
+-- whether q is a stop, once the vertex v is looked at, which is one if b
+abbrev pub stop_step : Bool → Pos → Bool → Pos → Bool
+stop_step b q old v = cond b (cond (is_eq (position_cmp v q)) true old) old
 
-abbrev pub stop_all : (Pos → Option Sides) → Pos → Bool → List End → Bool
-stop_all f q b [] = b
-stop_all f q b (e ∷ es) = stop_all f q (stop_step f q b e.at) es
+-- the vertex v beside w
+abbrev pub beside : Pos → Pos → End
+beside v w = record { at = v; to = w }
+
+-- the sides are those that have H
+abbrev pub Means : Sides → (Pos → Type 0) → Type 0
+Means (One a) H = H a × ((p : Pos) → H p → p ≡ a)
+Means (Two a b) H = (¬ (a ≡ b)) × H a × H b × ((p : Pos) → H p → (p ≡ a) ⊎ (p ≡ b))
+Means More H = (a : Pos) × (b : Pos) × (c : Pos) × H a × H b × H c × (¬ (a ≡ b)) × (¬ (a ≡ c)) × (¬ (b ≡ c))
+
+-- b tells of v whether lines stop there: where no end is they don't
+abbrev pub IsJudged : List End → Pos → Bool → Type 0
+IsJudged es v b = (((w : Pos) → ¬ Has (beside v w) es) × (b ≡ false)) ⊎ ((s : Sides) × Means s (λ w. Has (beside v w) es) × (halts s ≡ b))
+
+-- the stops are the vertices of ends at which lines stop
+abbrev pub AreJudged : List End → List Pos → Type 0
+AreJudged es stops = (v : Pos) → IsJudged es v (among stops v)
 
 -- v lies on exactly one of the segments
 abbrev pub OnOne : (Pos → Pos → Type 0) → Pos → Type 0

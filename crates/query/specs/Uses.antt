@@ -6,7 +6,13 @@ use Rattle.grid.specs.declared.pos.Pos.{Pos}
 use Rattle.theory.specs.ArcNumbers.{ArcRef}
 use Rattle.theory.specs.Lists.{gathered}
 use Rattle.theory.specs.Topology.{Body, line, lines, polygon, polygons}
+use Rattle.topo.specs.OfMap.{body_of}
+use Rattle.topo.specs.declared.geom.Geom.{Geom}
 use Rattle.query.specs.declared.uses.Use.{Use}
+
+-- the use of arc k by the feature at place p
+abbrev pub use_at : ℕ → ℕ → Use
+use_at k p = record { arc = k; place = p }
 
 -- the feature at the place uses each of the arcs
 abbrev pub refs_uses : ℕ → List ArcRef → List Use
@@ -24,6 +30,10 @@ body_uses p b = []
 abbrev pub bodies_uses : ℕ → List (Body Pos) → List Use
 bodies_uses p [] = []
 bodies_uses p (b ∷ bs) = body_uses p b ++ bodies_uses (p + 1) bs
+
+-- those of the bodies of geometries, from place 0 on
+abbrev pub geometries_uses : List Geom → List Use
+geometries_uses gs = bodies_uses 0 (map_list (λ g. body_of g.body) gs)
 
 -- by arcs, then by places
 abbrev pub use_cmp : Use → Use → Ordering

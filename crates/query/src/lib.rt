@@ -3,21 +3,26 @@
 //! text, which is written with no memory. And how many arcs and geometries there are.
 #![tactic(auto)]
 
+mod edges;
 mod ends;
 mod fault;
 mod info;
+mod joined;
 mod members;
 mod parts;
 mod questions;
 mod selecting;
 mod spans;
 mod stops;
+mod users;
 mod uses;
 mod writer;
 
+pub use edges::Edges;
 pub use fault::QueryFault;
 pub use info::{ArcCounts, Kinds, count_arcs, count_kinds};
 pub use layer_text::{LayerFault, write_layer};
+pub use questions::borders::borders;
 pub use questions::feature::feature;
 pub use questions::mesh::mesh;
 pub use questions::neighbors::neighbors;

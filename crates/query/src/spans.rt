@@ -59,7 +59,12 @@ fn no_spans(alloc: Global, arcs: usize) -> Result<Vec<Option<Span>>, AllocError>
     Ok(spans)
 }
 
-fn spans_by(alloc: Global, arcs: usize, uses: &[Use]) -> Result<Vec<Option<Span>>, AllocError>
+/// The same, by these uses.
+pub(crate) fn spans_by(
+    alloc: Global,
+    arcs: usize,
+    uses: &[Use],
+) -> Result<Vec<Option<Span>>, AllocError>
     ensures { IfOk result (λ v. v.items ≡ with_uses (replicate arcs None) uses.now) }
 {
     let mut spans = no_spans(alloc, arcs)?;

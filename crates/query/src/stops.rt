@@ -1,16 +1,18 @@
 //! The vertices at which lines over arcs stop.
-ghost use Rattle.std.specs.Prelude.{◌≡◌, IfOk, OnOk, None, false, List};
+ghost use Rattle.std.specs.Prelude.{◌≡◌, ◌≤◌, IfOk, OnOk, List, length};
+ghost use Rattle.std.specs.List.Sorted.{IsPermutation, IsSorted};
 ghost use Rattle.grid.specs.declared.pos.Pos.{Pos};
 ghost use Rattle.theory.specs.Geometry.{Geometry, IsSound};
 ghost use Rattle.chains.specs.Among.{among};
 ghost use Rattle.chains.specs.Table.{IsTableOf};
-ghost use Rattle.query.specs.Stops.{halts, sided, noted, noted_all, sides_in, stop_step, stop_all, AreHalts};
+ghost use Rattle.query.specs.Ends.{StandByVertex, by_vertex, count_at};
+ghost use Rattle.query.specs.Stops.{AreHalts, AreJudged, halts, sided, sided_all, sides_at, stop_step};
 
 use crate::ends::{End, ends_of};
 use chains::ArcTable;
 use grid::pos::Pos;
 use std::alloc::{AllocError, Global};
-use std::collections::{BTreeMap, BTreeSet};
+use std::collections::BTreeSet;
 
 /// The other ends of the segments on which a vertex lies.
 #[derive(Clone, Copy, PartialEq, Eq, Debug)]
@@ -20,19 +22,18 @@ pub(crate) enum Sides {
     More,
 }
 
-fn with_side(old: Option<Sides>, to: Pos) -> Sides
-    ensures { result ≡ sided old to }
+fn with_side(sides: Sides, to: Pos) -> Sides
+    ensures { result ≡ sided sides to }
 {
-    match old {
-        None => Sides::One(to),
-        Some(Sides::One(first)) => {
+    match sides {
+        Sides::One(first) => {
             if first == to {
                 Sides::One(first)
             } else {
                 Sides::Two(first, to)
             }
         }
-        Some(Sides::Two(first, second)) => {
+        Sides::Two(first, second) => {
             if first == to {
                 Sides::Two(first, second)
             } else if second == to {
@@ -41,68 +42,75 @@ fn with_side(old: Option<Sides>, to: Pos) -> Sides
                 Sides::More
             }
         }
-        Some(Sides::More) => Sides::More,
+        Sides::More => Sides::More,
     }
 }
 
-fn note_side(sides: &mut BTreeMap<Pos, Sides>, at: Pos, to: Pos) -> Result<(), AllocError>
-    ensures { OnOk result ((q : Pos) → sides_in sides.new q ≡ noted q (sides_in sides.old q) at to) }
+/// The sides of the vertex of an end and of the others there.
+fn sides_of(first: &End, others: &[End]) -> Sides
+    ensures { result ≡ sides_at first.now others.now }
 {
-    let old = sides.get(&at).copied();
-    sides.insert(at, with_side(old, to))?;
-    Ok(())
-}
-
-/// The sides of each vertex at which arcs end.
-fn sides_of(alloc: Global, ends: &[End]) -> Result<BTreeMap<Pos, Sides>, AllocError>
-    ensures { IfOk result (λ m. (q : Pos) → sides_in m q ≡ noted_all q None ends.now) }
-{
-    let mut sides = BTreeMap::new(alloc);
-    for end in ends {
-        note_side(&mut sides, end.at, end.to)?;
+    let mut sides = Sides::One(first.to);
+    for end in others {
+        sides = with_side(sides, end.to);
     }
-    Ok(sides)
+    sides
 }
 
-fn is_halt(sides: Option<Sides>) -> bool
+/// Whether lines stop at a vertex with these sides.
+fn is_halt(sides: Sides) -> bool
     ensures { result ≡ halts sides }
 {
     match sides {
-        None => false,
-        Some(Sides::One(_)) => true,
-        Some(Sides::Two(_, _)) => false,
-        Some(Sides::More) => true,
+        Sides::One(_) => true,
+        Sides::Two(_, _) => false,
+        Sides::More => true,
     }
 }
 
-/// Puts a vertex among the stops unless it lies on two segments.
-fn note_stop(
-    stops: &mut BTreeSet<Pos>,
-    sides: &BTreeMap<Pos, Sides>,
-    vertex: Pos,
-) -> Result<(), AllocError>
-    ensures { OnOk result ((q : Pos) → among stops.new.keys q ≡ stop_step (sides_in sides.now) q (among stops.old.keys q) vertex) }
+/// How many of the first ends are at a vertex.
+fn count_of(ends: &[End], vertex: Pos) -> usize
+    ensures count { result ≡ count_at vertex ends.now }
+    ensures within { result ≤ length ends.now }
 {
-    let known = sides.get(&vertex).copied();
-    if !is_halt(known) {
+    for (i, end) in ends.iter().enumerate() {
+        if end.at != vertex {
+            return i;
+        }
+    }
+    ends.len()
+}
+
+/// Puts a vertex among the stops unless it lies on two segments.
+fn note_stop(stops: &mut BTreeSet<Pos>, vertex: Pos, sides: Sides) -> Result<(), AllocError>
+    ensures { OnOk result ((q : Pos) → among stops.new.keys q ≡ stop_step (halts sides) q (among stops.old.keys q) vertex) }
+{
+    if !is_halt(sides) {
         return Ok(());
     }
     stops.insert(vertex)?;
     Ok(())
 }
 
-fn stops_by(
-    alloc: Global,
-    sides: &BTreeMap<Pos, Sides>,
-    ends: &[End],
-) -> Result<BTreeSet<Pos>, AllocError>
-    ensures { IfOk result (λ s. (q : Pos) → among s.keys q ≡ stop_all (sides_in sides.now) q false ends.now) }
+/// The vertices of ends, which stand vertex by vertex, that do not lie on two segments.
+fn stops_by(alloc: Global, ends: &[End]) -> Result<BTreeSet<Pos>, AllocError>
+    ensures { IfOk result (λ s. StandByVertex ends.now → AreJudged ends.now s.keys) }
 {
     let mut stops = BTreeSet::new(alloc);
-    for end in ends {
-        note_stop(&mut stops, sides, end.at)?;
+    let mut left = ends;
+    while let Some((first, others)) = left.split_first() {
+        let (here, behind) = others.split_at(count_of(others, first.at));
+        note_stop(&mut stops, first.at, sides_of(first, here))?;
+        left = behind;
     }
     Ok(stops)
+}
+
+fn sort_ends(ends: &mut Vec<End>)
+    ensures permutation { IsPermutation ends.old.items ends.new.items }
+    ensures sorted { IsSorted by_vertex ends.new.items }
+{
+    ends.sort_unstable_by(|a, b| a.at.cmp(&b.at));
 }
 
 /// The vertices that lie on a number of segments of the arcs other than two. A vertex inside an arc
@@ -114,7 +122,7 @@ pub(crate) fn stops_of(
 ) -> Result<BTreeSet<Pos>, AllocError>
     ensures { IfOk result (λ stops. (g : Geometry Pos) → IsSound g → IsTableOf g arcs.now → AreHalts arcs.now.arcs chosen.now stops.keys) }
 {
-    let ends = ends_of(alloc, arcs, chosen)?;
-    let sides = sides_of(alloc, &ends)?;
-    stops_by(alloc, &sides, &ends)
+    let mut ends = ends_of(alloc, arcs, chosen)?;
+    sort_ends(&mut ends);
+    stops_by(alloc, &ends)
 }

@@ -2,12 +2,12 @@
 ghost use Rattle.std.specs.Prelude.{◌++◌, ◌≡◌, OnOk};
 ghost use Rattle.theory.specs.Lists.{gathered};
 ghost use Rattle.topo.specs.OfMap.{body_of};
-ghost use Rattle.query.specs.Uses.{refs_uses, body_uses};
+ghost use Rattle.query.specs.Uses.{refs_uses, body_uses, geometries_uses};
 
 use chains::ArcRef;
 use lines::items::Items;
 use std::alloc::AllocError;
-use topo::Body;
+use topo::{Body, Geom};
 
 /// That the feature at a place uses an arc.
 #[derive(Clone, Copy, PartialEq, Eq, PartialOrd, Ord, Debug)]
@@ -61,4 +61,14 @@ pub(crate) fn note_body(uses: &mut Vec<Use>, place: usize, body: &Body) -> Resul
         Body::Polygon(lists) => note_lists(uses, place, lists.as_slice()),
         Body::MultiPolygon(polygons) => note_polygons(uses, place, polygons.as_slice()),
     }
+}
+
+/// Notes which of the geometries use which arc, place by place.
+pub(crate) fn note_geometries(uses: &mut Vec<Use>, geometries: &[Geom]) -> Result<(), AllocError>
+    ensures { OnOk result (uses.new.items ≡ uses.old.items ++ geometries_uses geometries.now) }
+{
+    for place in 0..geometries.len() {
+        note_body(uses, place, &geometries[place].body)?;
+    }
+    Ok(())
 }

@@ -3,6 +3,7 @@ pub mod JoinedParts
 pub mod PartLists
 mod LeftTold
 mod Stitching
+mod Ways
 mod JoinedTexts
 pub mod EditsDone
 pub mod EditsUndone

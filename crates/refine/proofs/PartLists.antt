@@ -68,17 +68,21 @@ one_counted all made more left rest p was e is on some = record {
   some = λ _. omega (arith, some);
 }
 
+-- the first of some parts is taken, and nothing is joined with it yet
+pub none_joined : (first whole : MapOnGrid) (larger left : List MapOnGrid) → whole ≡ first → left ≡ larger → union whole.map (united_map left) ≡ united_map (first ∷ larger)
+none_joined first whole larger left e k = (λ i. union (e i).map (united_map (k i))) ∙ sym (united-append (first ∷ []) larger ∙ ap (λ m. union m (united_map larger)) (union_empty first.map))
+
 -- one more of some parts is joined with what was joined before
-pub one_more_joined : (whole more p : MapOnGrid) (ps : List MapOnGrid) (i : ℕ) → i < length ps → p ≡ get_or ps i p → more.map ≡ union whole.map p.map →
-    union more.map (united_map (drop (i + 1) ps)) ≡ union whole.map (united_map (drop i ps))
-one_more_joined whole more p ps i lt is joined =
-    let e : suc i ≡ i + 1 = omega arith in
-    let next : drop i ps ≡ p ∷ drop (i + 1) ps = drop-cons ps i p lt ∙ ap (λ k. get_or ps i p ∷ drop k ps) e ∙ ap (λ q. q ∷ drop (i + 1) ps) (sym is) in
-    ap (λ m. union m (united_map (drop (i + 1) ps))) joined ∙ union_associates whole.map p.map (united_map (drop (i + 1) ps)) ∙ ap (λ qs. union whole.map (united_map qs)) (sym next)
+pub one_more_joined : (whole more p taken : MapOnGrid) (left rest : List MapOnGrid) → left ≡ p ∷ rest → taken ≡ p → more.map ≡ union whole.map taken.map →
+    union more.map (united_map rest) ≡ union whole.map (united_map left)
+one_more_joined whole more p taken left rest e same joined =
+    ap (λ m. union m (united_map rest)) (joined ∙ ap (λ q. union whole.map q.map) same) ∙ union_associates whole.map p.map (united_map rest)
+    ∙ ap (λ qs. union whole.map (united_map qs)) (sym e)
 
 -- all of them are
-pub all_joined : (whole : MapOnGrid) (ps : List MapOnGrid) (i : ℕ) → length ps ≤ i → union whole.map (united_map (drop i ps)) ≡ whole.map
-all_joined whole ps i le = ap (λ qs. union whole.map (united_map qs)) (drop_all i ps le) ∙ union_empty whole.map
+pub all_joined : (whole : MapOnGrid) (left : List MapOnGrid) → length left ≡ 0 → union whole.map (united_map left) ≡ whole.map
+all_joined whole [] none = union_empty whole.map
+all_joined whole (p ∷ ps) none = absurd (omega (arith, none))
 
 -- nothing is made yet of the parts in the order of their sizes
 pub none_counted : (all sorted made left : List MapOnGrid) → IsPermutation all sorted → made ≡ [] → left ≡ sorted → AreCounted all made left

@@ -1,6 +1,5 @@
 -- Walks along used arcs tell which lines and rings they stitch to.
-use Rattle.std.proofs.Common.{◌≡◌, ℕ, suc, ◌+◌, ◌<◌, ◌≤◌, arith, Bool, true, false, List, [], ◌∷◌, ◌++◌, length, take, drop, get_or, ◌↔◌, Option, Some, None, is_some, not, refl, sym, ap, ◌∙◌, subst, append_assoc}
-use Rattle.std.specs.Prelude.{MatchOption}
+use Rattle.std.proofs.Common.{◌≡◌, ℕ, suc, ◌+◌, ◌<◌, ◌≤◌, arith, Bool, true, false, List, [], ◌∷◌, ◌++◌, length, take, drop, get_or, ◌↔◌, refl, sym, ap, ◌∙◌, subst, append_assoc}
 use Rattle.std.proofs.Math.Seq.{drop-append_seam, drop-cons, take-append_seam}
 use Rattle.std.proofs.lemmas.List.{append-nil, length-append, take-append-drop, take_more}
 use Rattle.std.specs.Cmp.{tied_itself}
@@ -37,41 +36,11 @@ use Rattle.topo.proofs.FeatureOrder.{shape_form, shapes_by_form}
 use Rattle.topo.proofs.Walks.{walked_stitched}
 use Rattle.layer_laws.specs.Leaving.{info_to, order_to}
 
--- ---- positions that are passed
-
--- the list goes on with these positions exactly where what is left of it goes on with those that are left of them
-abbrev pub GoesOn : List Pos → List Pos → List Pos → List Pos → Type 0
-GoesOn whole positions left others = (rest : List Pos) → (whole ≡ positions ++ rest) ↔ (left ≡ others ++ rest)
-
 head_of : (x y : Pos) (l m : List Pos) → x ∷ l ≡ y ∷ m → x ≡ y
 head_of x y l m e = cc
 
-tail_of : (x y : Pos) (l m : List Pos) → x ∷ l ≡ y ∷ m → l ≡ m
-tail_of x y l m e = cc
-
 at_place : (ps : List Pos) (i : ℕ) (d : Pos) → i < length ps → drop i ps ≡ get_or ps i d ∷ drop (i + 1) ps
 at_place ps i d h = let e : suc i ≡ i + 1 = omega arith in drop-cons ps i d h ∙ ap (λ k. get_or ps i d ∷ drop k ps) e
-
-pub goes_on : (whole positions left after ps : List Pos) (i : ℕ) (p q : Pos) → i < length ps → p ≡ get_or ps i p → left ≡ q ∷ after → q ≡ p →
-    GoesOn whole positions left (drop i ps) → GoesOn whole positions after (drop (i + 1) ps)
-goes_on whole positions left after ps i p q h e f g on = λ rest.
-    let there : drop i ps ≡ p ∷ drop (i + 1) ps = at_place ps i p h ∙ ap (λ x. x ∷ drop (i + 1) ps) (sym e) in (
-      (λ w. tail_of q p after (drop (i + 1) ps ++ rest) (sym f ∙ (on rest).0 w ∙ ap (λ l. l ++ rest) there)),
-      (λ w. (on rest).1 (f ∙ (λ k. g k ∷ w k) ∙ sym (ap (λ l. l ++ rest) there))),
-    )
-
-pub parts_at : (whole positions left after ps : List Pos) (i : ℕ) (p q : Pos) → i < length ps → p ≡ get_or ps i p → left ≡ q ∷ after → ¬ (q ≡ p) →
-    GoesOn whole positions left (drop i ps) → (rest : List Pos) → ¬ (whole ≡ positions ++ rest)
-parts_at whole positions left after ps i p q h e f n on rest w =
-    let there : drop i ps ≡ p ∷ drop (i + 1) ps = at_place ps i p h ∙ ap (λ x. x ∷ drop (i + 1) ps) (sym e) in
-    n (head_of q p after (drop (i + 1) ps ++ rest) (sym f ∙ (on rest).0 w ∙ ap (λ l. l ++ rest) there))
-
-pub ends_before : (whole positions left ps : List Pos) (i : ℕ) (p : Pos) → i < length ps → p ≡ get_or ps i p → left ≡ [] →
-    GoesOn whole positions left (drop i ps) → (rest : List Pos) → ¬ (whole ≡ positions ++ rest)
-ends_before whole positions left ps i p h e f on rest w =
-    let there : drop i ps ≡ p ∷ drop (i + 1) ps = at_place ps i p h ∙ ap (λ x. x ∷ drop (i + 1) ps) (sym e) in
-    let c : [] ≡ p ∷ (drop (i + 1) ps ++ rest) = sym f ∙ (on rest).0 w ∙ ap (λ l. l ++ rest) there in
-    absurd cc
 
 -- ---- the one list, and then the other
 
@@ -82,14 +51,6 @@ pub parted_late : (whole first second left : List Pos) → whole ≡ first ++ le
     (false ≡ true) ↔ (whole ≡ first ++ second)
 parted_late whole first second left w n =
     ((λ e. absurd cc), (λ e. absurd (n [] (append_cancel first left second (sym w ∙ e) ∙ sym (append-nil second)))))
-
--- nothing is left where the next position is none
-pub none_next : {B : Type 0} (view : B → Pos) (left after : List Pos) (o : Option B) (b : Bool) → MatchOption o ((left ≡ []) × (after ≡ [])) (λ x. left ≡ view x ∷ after) →
-    is_some o ≡ not b → (b ≡ true) ↔ (left ≡ [])
-none_next view left after None true s e = ((λ t. s.0), (λ n. refl))
-none_next view left after None false s e = absurd cc
-none_next view left after (Some x) true s e = absurd cc
-none_next view left after (Some x) false s e = ((λ t. absurd cc), (λ n. absurd (let k : view x ∷ after ≡ [] = sym s ∙ n in cc)))
 
 pub both_passed : (whole first second left last : List Pos) (b : Bool) → whole ≡ first ++ left → left ≡ second ++ last → (b ≡ true) ↔ (last ≡ []) → (b ≡ true) ↔ (whole ≡ first ++ second)
 both_passed whole first second left last b w l t = (

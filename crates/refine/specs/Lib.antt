@@ -4,3 +4,4 @@ pub mod TextLaws
 pub mod OnGrid
 pub mod Lent
 pub mod Removals
+pub mod Ways

@@ -426,6 +426,12 @@ impl Part {
         &self.kept
     }
 
+    fn into_kept(self) -> Kept
+        ensures { result ≡ self }
+    {
+        self.kept
+    }
+
     pub(crate) fn topology(&self) -> &Topology
         ensures { result.now.grid ≡ self.now.grid }
     {
@@ -468,14 +474,15 @@ fn copy_parts(alloc: Global, parts: &[Part]) -> Result<Vec<Part>, OutOfMemory>
     Ok(copies)
 }
 
-/// The topology of the features of a part and of larger ones, on the grid of the first.
-fn joined_copies(alloc: Global, first: &Part, larger: &[Part]) -> Result<Kept, OutOfMemory>
-    ensures grid { IfOk result (λ k. k.grid ≡ first.now.grid) }
-    ensures map { IfOk result (λ k. k.map ≡ united_map (first.now ∷ larger.now)) }
+/// The topology of the features of a part and of larger ones, on the grid of the first. Each is given
+/// up as it is joined, the smaller ones first.
+fn all_united(alloc: Global, first: Part, larger: Vec<Part>) -> Result<Kept, OutOfMemory>
+    ensures grid { IfOk result (λ k. k.grid ≡ first.grid) }
+    ensures map { IfOk result (λ k. k.map ≡ united_map (first ∷ larger.items)) }
 {
-    let mut whole = first.kept().copy(alloc)?;
+    let mut whole = first.into_kept();
     for part in larger {
-        whole = whole.united(alloc, part.kept().copy(alloc)?)?;
+        whole = whole.united(alloc, part.into_kept())?;
     }
     Ok(whole)
 }
@@ -525,10 +532,11 @@ impl Cut {
     }
 
     // One topology of all features.
-    pub(crate) fn one_topology(&self, alloc: Global) -> Result<Kept, OutOfMemory>
-        ensures { IfOk result (λ k. k ≡ self.now) }
+    pub(crate) fn into_one(self, alloc: Global) -> Result<Kept, OutOfMemory>
+        ensures { IfOk result (λ k. k ≡ self) }
     {
-        joined_copies(alloc, &self.least, &self.larger)
+        let Cut { least, larger } = self;
+        all_united(alloc, least, larger)
     }
 
     // The topologies, in no order.

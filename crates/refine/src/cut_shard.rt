@@ -79,7 +79,11 @@ impl Shard for Cut {
         if self.larger.is_empty() {
             return text_of_kept(alloc, self.least.kept());
         }
-        let whole = self.one_topology(alloc)?;
+        self.copied(alloc)?.into_text(alloc)
+    }
+
+    fn into_text(self, alloc: Global) -> Result<Vec<u8>, OutOfMemory> {
+        let whole = self.into_one(alloc)?;
         text_of_kept(alloc, &whole)
     }
 

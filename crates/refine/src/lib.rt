@@ -12,6 +12,7 @@ pub mod merge;
 pub mod remove;
 pub mod session;
 mod stitches;
+mod way;
 pub mod whole;
 
 pub use cut_shard::Cut;

@@ -1,8 +1,7 @@
-//! Whether a geometry stitches to a feature that is given, told by walks along the arcs: nothing is put
+//! Whether a geometry stitches to a feature that is given, told by ways along the arcs: nothing is put
 //! together, and no memory is taken.
 ghost use Rattle.std.specs.Prelude.{◌≡◌, ◌<◌, ◌+◌, ◌++◌, ◌↔◌, List, false, true, length, drop, take};
 ghost use Rattle.grid.specs.declared.pos.Pos.{Pos as place};
-ghost use Rattle.lines.specs.Pairs.{position_eq};
 ghost use Rattle.lines.specs.declared.line.Line as the_line;
 ghost use Rattle.lines.specs.declared.ring.Ring as the_ring;
 ghost use Rattle.shapes.specs.declared.shape.Shape as shapes;
@@ -11,19 +10,14 @@ ghost use Rattle.theory.specs.Lists.{Pairwise};
 ghost use Rattle.topo.specs.Features.{IsLineOf, IsRingOf, IsShapeOf};
 ghost use Rattle.topo.specs.Walked.{walked};
 
+use crate::way::{Way, is_same};
 use chains::table::ArcRef;
 use grid::Pos;
 use lines::items::Items;
 use lines::line::Line;
 use lines::ring::Ring;
 use shapes::shape::Shape;
-use topo::{Body, Topology, Walk};
-
-fn is_same(position: &Pos, other: &Pos) -> bool
-    ensures { result ≡ position_eq position.now other.now }
-{
-    position == other
-}
+use topo::{Body, Topology};
 
 fn are_same(positions: &Items<Pos>, others: &Items<Pos>) -> bool
     ensures { result ≡ same_list positions.now others.now }
@@ -31,40 +25,25 @@ fn are_same(positions: &Items<Pos>, others: &Items<Pos>) -> bool
     positions == others
 }
 
-/// Whether a walk goes along these positions; then they are passed.
-fn passes(walk: &mut Walk, positions: &[Pos]) -> bool
-    ensures passed { result ≡ true → walk.old ≡ positions.now ++ walk.new }
-    ensures parts { result ≡ false → (rest : List place) → ¬ (walk.old ≡ positions.now ++ rest) }
+/// Whether used arcs go along the first positions, then the second, and end.
+fn goes_along(topology: &Topology, used: &[ArcRef], first: &[Pos], second: &[Pos]) -> bool
+    ensures { (result ≡ true) ↔ (walked topology.now.arcs.arcs used.now ≡ first.now ++ second.now) }
 {
-    for position in positions {
-        let Some(next) = walk.next() else {
-            return false;
-        };
-        if !is_same(next, position) {
-            return false;
-        }
-    }
-    true
-}
-
-/// Whether a walk goes along the first positions, then the second, and ends.
-fn goes_along(mut walk: Walk, first: &[Pos], second: &[Pos]) -> bool
-    ensures { (result ≡ true) ↔ (walk.entry ≡ first.now ++ second.now) }
-{
-    if !passes(&mut walk, first) {
+    let mut way = Way::over(topology.arcs(), used);
+    if !way.passes(first) {
         return false;
     }
-    if !passes(&mut walk, second) {
+    if !way.passes(second) {
         return false;
     }
-    walk.next().is_none()
+    way.is_over()
 }
 
 fn line_stitches(topology: &Topology, used: &[ArcRef], line: &Line) -> bool
     requires { (l : the_line.Line) × IsLineOf topology.now.arcs.arcs l used.now }
     ensures { (result ≡ true) ↔ IsLineOf topology.now.arcs.arcs line.now used.now }
 {
-    goes_along(topology.walk(used), line.positions(), &[])
+    goes_along(topology, used, line.positions(), &[])
 }
 
 fn lines_stitch(topology: &Topology, lists: &[Items<ArcRef>], lines: &[Line]) -> bool
@@ -89,11 +68,7 @@ fn goes_round(topology: &Topology, used: &[ArcRef], vertices: &[Pos], place: usi
     requires { place < length vertices.now }
     ensures { (result ≡ true) ↔ (walked topology.now.arcs.arcs used.now ≡ drop place vertices.now ++ take (place + 1) vertices.now) }
 {
-    goes_along(
-        topology.walk(used),
-        &vertices[place..],
-        &vertices[..place + 1],
-    )
+    goes_along(topology, used, &vertices[place..], &vertices[..place + 1])
 }
 
 /// Looks for the place of the ring at which the used arcs begin. No step stands twice round a ring, so

@@ -1,5 +1,7 @@
 -- The new lists along the old ones, by the table of starts.
-use Rattle.std.proofs.Common.{◌≡◌, ℕ, suc, ◌+◌, Bool, true, false, cond, List, [], ◌∷◌, ◌++◌, drop, take, refl, sym, ap, ◌∙◌, subst, arith, append_assoc, Some, None}
+use Rattle.std.proofs.Common.{◌≡◌, ℕ, suc, ◌+◌, Bool, true, false, cond, List, [], ◌∷◌, ◌++◌, ◌<◌, drop, take, length, get_or, refl, sym, ap, ◌∙◌, subst, arith, append_assoc, Some, None}
+use Rattle.std.proofs.Math.Seq.{drop-cons}
+use Rattle.std.proofs.lemmas.List.{append-nil}
 use Rattle.theory.specs.ArcNumbers.{ArcRef, StitchTo}
 use Rattle.theory.specs.Geometry.{Geometry, IsSound, IsLineOf, IsRingOf, JunctionOf}
 use Rattle.theory.specs.Refinement.{IsPartOf, IsRefinementOf}
@@ -50,11 +52,34 @@ before_is s (a ∷ l) = go (is_start (s a)) (before_is s l)
 pub from_place : (s : Starts) (used : List ArcRef) → from_start s used ++ before_start s used ≡ drop (first_place s used) used ++ take (first_place s used) used
 from_place s used = λ i. from_is s used i ++ before_is s used i
 
-pub turned_told : (s : Starts) (used : List ArcRef) (place : ℕ) (none all new : List ArcRef) → place ≡ first_place s used → none ≡ [] → all ≡ none ++ used →
-    new ≡ drop place all ++ take place all → new ≡ from_start s used ++ before_start s used
-turned_told s used place none all new p e f g =
-    let h : all ≡ used = f ∙ ap (λ w. w ++ used) e in
-    g ∙ (λ i. drop (p i) (h i) ++ take (p i) (h i)) ∙ sym (from_place s used)
+-- used old arcs are read one after the other
+module _ (s : Starts) where
+  pub one_read : (used : List ArcRef) (i : ℕ) (a : ArcRef) (start now next : List ArcRef) (skip left n : ℕ) → i < length used → a ≡ get_or used i a →
+      ((rest : List ArcRef) → next ++ rejoined s n rest ≡ now ++ rejoined s left (a ∷ rest)) →
+      ((rest : List ArcRef) → now ++ rejoined s left (drop i used ++ rest) ≡ start ++ rejoined s skip (used ++ rest)) →
+      (rest : List ArcRef) → next ++ rejoined s n (drop (i + 1) used ++ rest) ≡ start ++ rejoined s skip (used ++ rest)
+  one_read used i a start now next skip left n h e f g rest =
+      let k : suc i ≡ i + 1 = omega arith in
+      let there : drop i used ≡ a ∷ drop (i + 1) used = drop-cons used i a h ∙ (λ j. sym e j ∷ drop (k j) used) in
+      f (drop (i + 1) used ++ rest) ∙ ap (λ l. now ++ rejoined s left (l ++ rest)) (sym there) ∙ g rest
+
+  pub all_read : (used others : List ArcRef) (start now : List ArcRef) (skip left : ℕ) → others ≡ [] →
+      ((rest : List ArcRef) → now ++ rejoined s left (others ++ rest) ≡ start ++ rejoined s skip (used ++ rest)) →
+      (rest : List ArcRef) → now ++ rejoined s left rest ≡ start ++ rejoined s skip (used ++ rest)
+  all_read used others start now skip left e g rest = ap (λ l. now ++ rejoined s left (l ++ rest)) (sym e) ∙ g rest
+
+  none_read : (n : ℕ) → rejoined s n [] ≡ []
+  none_read n = refl
+
+  pub line_read : (used none refs : List ArcRef) (n : ℕ) → none ≡ [] → ((rest : List ArcRef) → refs ++ rejoined s n rest ≡ none ++ rejoined s 0 (used ++ rest)) → refs ≡ rejoined s 0 used
+  line_read used none refs n e f = sym (append-nil refs) ∙ ap (λ l. refs ++ l) (sym (none_read n)) ∙ f [] ∙ (λ i. e i ++ rejoined s 0 (append-nil used i))
+
+  pub round_read : (used before others none first refs : List ArcRef) (n m : ℕ) → before ≡ take (first_place s used) used → others ≡ drop (first_place s used) used → none ≡ [] →
+      ((rest : List ArcRef) → first ++ rejoined s n rest ≡ none ++ rejoined s 0 (others ++ rest)) →
+      ((rest : List ArcRef) → refs ++ rejoined s m rest ≡ first ++ rejoined s n (before ++ rest)) → refs ≡ rejoined s 0 (from_start s used ++ before_start s used)
+  round_read used before others none first refs n m b o e f g =
+      sym (append-nil refs) ∙ ap (λ l. refs ++ l) (sym (none_read m)) ∙ g [] ∙ ap (λ l. first ++ rejoined s n l) (append-nil before)
+      ∙ f before ∙ (λ i. e i ++ rejoined s 0 (o i ++ b i)) ∙ ap (rejoined s 0) (sym (from_place s used))
 
 -- the laws of theory, for these tables
 module _ (arcs : List (List Pos)) (pieces : List (List ArcRef)) (used list : List ArcRef) where

@@ -1,11 +1,11 @@
 -- What walks along used arcs find: runs, none of which uses an arc twice, and which together use each arc.
-use Rattle.std.proofs.Common.{◌≡◌, ◌≤◌, ℕ, zero, suc, ◌+◌, Bool, true, false, not, List, [], ◌∷◌, ◌++◌, length, ◌⊎◌, inl, inr, refl, sym, ap, ◌∙◌, subst, arith, Option, Some, None}
+use Rattle.std.proofs.Common.{◌≡◌, ◌≤◌, ℕ, zero, suc, ◌+◌, Bool, true, false, not, List, [], ◌∷◌, ◌++◌, length, ◌⊎◌, inl, inr, refl, sym, ap, ◌∙◌, subst, arith, Option, Some, None, is_some}
 use Rattle.std.proofs.lemmas.List.{append-nil}
 use Rattle.theory.specs.ArcNumbers.{ArcRef, Uses, UsesOnce, flipped}
 use Rattle.theory.specs.Lists.{last_of}
 use Rattle.theory.proofs.Lists.{Has-append, Has-append_left, Has-append_right}
 use Rattle.lines.proofs.Positions.{bool_split, true_false}
-use Rattle.rejoining.specs.Walks.{Adds, AddsBegun, ArePaired, AreRuns, AreWalked, EndsGone, Goes, GoesOn, IsRun, Linked, Walk, count_left, is_left, without}
+use Rattle.rejoining.specs.Walks.{Adds, AddsBegun, AddsSingle, ArePaired, AreRuns, AreWalked, EndsGone, Goes, GoesOn, IsRun, Linked, Walk, count_left, is_left, without}
 
 -- taking an arc
 left_gone : (left : List Bool) (k : ℕ) → is_left (without left k) k ≡ false
@@ -92,6 +92,10 @@ ref_dec a b = elim (number_dec a.arc b.arc) [
 
 some_same : (a b : ArcRef) → Some a ≡ Some b → a ≡ b
 some_same a b e = cc
+
+pub some_there : (o : Option ArcRef) → is_some o ≡ true → (b : ArcRef) × (o ≡ Some b)
+some_there None e = absurd (let f : false ≡ true = e in cc)
+some_there (Some b) e = (b, refl)
 
 pub uses_last : (a : ArcRef) (more : List ArcRef) → Uses (last_of a more).arc (a ∷ more)
 uses_last a [] = inl refl
@@ -312,7 +316,7 @@ module _ (marks : List Bool) (partner : ArcRef → Option ArcRef) (paired : AreP
         ]
 
   -- what is left when nothing is walked yet
-  pub walked_none : AreWalked marks partner marks []
+  walked_none : AreWalked marks partner marks []
   walked_none = record {
     within = λ k e. e;
     closed = λ a b m e f. absurd (true_false (is_left marks a.arc) m f);
@@ -394,11 +398,15 @@ module _ (marks : List Bool) (partner : ArcRef → Option ArcRef) (paired : AreP
           let same : r ≡ record { arc = i; reversed = true } = λ j. record { arc = e j; reversed = w j } in
           subst (λ k. is_left after k ≡ false) (sym e) (two.2 (ap partner (sym same) ∙ n))
 
-  pub begun_start : (left : List Bool) (runs : List (List ArcRef)) → left ≡ marks → runs ≡ [] → Begun 0 left runs
-  begun_start left runs e f = record {
-    walked = subst (λ w. AreWalked marks partner w runs) (sym e) (subst (AreWalked marks partner marks) (sym f) walked_none);
-    gone = λ b h n. absurd (omega (arith, h));
-  }
+  pub begun_start : (left : List Bool) (runs : List (List ArcRef)) → AreWalked marks partner left runs → Begun 0 left runs
+  begun_start left runs w = record { walked = w; gone = λ b h n. absurd (omega (arith, h)) }
+
+  -- one arc more may be begun
+  pub single_step : (left after : List Bool) (runs more : List (List ArcRef)) (from : ArcRef) → AreWalked marks partner left runs →
+      AddsSingle partner left runs from after more → AreWalked marks partner after more
+  single_step left after runs more from w (inl (why, e, f)) =
+      subst (λ v. AreWalked marks partner v more) (sym e) (subst (AreWalked marks partner left) (sym f) w)
+  single_step left after runs more from w (inr f) = (begun_with left after runs more from w f).0
 
   -- what holds once the arcs before number i are walked
   pub record Rounded (i : ℕ) (left : List Bool) (runs : List (List ArcRef)) : Type 0 where
@@ -436,6 +444,19 @@ module _ (marks : List Bool) (partner : ArcRef → Option ArcRef) (paired : AreP
     all = λ k m. let h = within_marks marks k m in r.walked.all k m (r.gone k (omega (arith, h, n)));
     apart = r.walked.apart;
   }
+
+-- all marked arcs, walked in three rounds
+pub runs_told : (marks : List Bool) (partner : ArcRef → Option ArcRef) (first second third : List Bool) (none single ends all : List (List ArcRef)) →
+    first ≡ marks → none ≡ [] →
+    (ArePaired marks partner → AreWalked marks partner first none → AreWalked marks partner second single) →
+    (ArePaired marks partner → AreWalked marks partner second single → AreWalked marks partner third ends × EndsGone marks partner third) →
+    (ArePaired marks partner → AreWalked marks partner third ends → EndsGone marks partner third → AreRuns marks partner all) →
+    ArePaired marks partner → AreRuns marks partner all
+runs_told marks partner first second third none single ends all e n f g h p =
+    let start : AreWalked marks partner first none =
+    subst (λ w. AreWalked marks partner w none) (sym e) (subst (AreWalked marks partner marks) (sym n) (walked_none marks partner p)) in
+    let t = g p (f p start) in
+    h p t.0 t.1
 
 -- a walk that is over
 pub walk_over : (partner : ArcRef → Option ArcRef) (left now : List Bool) (from : ArcRef) (run : List ArcRef) (next : Option ArcRef) → next ≡ None →

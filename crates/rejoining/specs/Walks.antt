@@ -47,6 +47,11 @@ AddsBegun partner left runs a after more =
     (((is_left left a.arc ≡ false) ⊎ ((b : ArcRef) × (partner a ≡ Some b))) × (after ≡ left) × (more ≡ runs))
     ⊎ ((partner a ≡ None) × Adds partner left runs a after more)
 
+-- the same, where none goes on from its other end either; else nothing changes
+abbrev pub AddsSingle : (ArcRef → Option ArcRef) → List Bool → List (List ArcRef) → ArcRef → List Bool → List (List ArcRef) → Type 0
+AddsSingle partner left runs a after more =
+    (((b : ArcRef) × (partner (flipped a) ≡ Some b)) × (after ≡ left) × (more ≡ runs)) ⊎ AddsBegun partner left runs a after more
+
 -- each goes on to the next
 abbrev pub Linked : (ArcRef → Option ArcRef) → ArcRef → List ArcRef → Type 0
 Linked partner a [] = Unit {0}

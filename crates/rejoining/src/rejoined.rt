@@ -102,6 +102,22 @@ impl Rejoined {
         }
     }
 
+    /// Reads used old arcs one after the other. Answers how many are to be skipped behind them.
+    fn read_each(
+        &self,
+        refs: &mut Vec<ArcRef>,
+        skip: usize,
+        used: &[ArcRef],
+    ) -> Result<usize, AllocError>
+        ensures { IfOk result (λ n. (rest : List numbers.ArcRef) → refs.new.items ++ rejoined (starts_by self.now.pieces) n rest ≡ refs.old.items ++ rejoined (starts_by self.now.pieces) skip (used.now ++ rest)) }
+    {
+        let mut left = skip;
+        for arc in used {
+            left = self.read(refs, left, arc)?;
+        }
+        Ok(left)
+    }
+
     /// The list of a line of what is left, from its list by the old arcs.
     ///
     /// # Errors
@@ -110,11 +126,8 @@ impl Rejoined {
         ensures computed { IfOk result (λ v. v.items ≡ rejoined (starts_by self.now.pieces) 0 used.now) }
         ensures stitches { IfOk result (λ v. (g u : Geometry Pos) (old : List (List Pos)) (l : List Pos) → IsSound u → IsPartOf g u → IsRefinementOf position_cmp g u self.now.arcs.arcs old self.now.pieces → IsLineOf g l → StitchTo old used.now l → StitchTo self.now.arcs.arcs v.items l) }
     {
-        let mut refs = Vec::new(alloc);
-        let mut skip = 0;
-        for arc in used {
-            skip = self.read(&mut refs, skip, arc)?;
-        }
+        let mut refs = Vec::with_capacity(alloc, used.len())?;
+        self.read_each(&mut refs, 0, used)?;
         Ok(refs)
     }
 
@@ -131,14 +144,15 @@ impl Rejoined {
         used.len()
     }
 
-    /// The list from the first used old arc that begins a new one on, and then those before it.
-    fn turned(&self, alloc: Global, used: &[ArcRef]) -> Result<Vec<ArcRef>, AllocError>
-        ensures { IfOk result (λ v. v.items ≡ from_start (starts_by self.now.pieces) used.now ++ before_start (starts_by self.now.pieces) used.now) }
+    /// What a ring's list is before it is turned: read from the first used old arc that begins a new one
+    /// on, and then along those before it.
+    fn read_round(&self, alloc: Global, used: &[ArcRef]) -> Result<Vec<ArcRef>, AllocError>
+        ensures { IfOk result (λ v. v.items ≡ rejoined (starts_by self.now.pieces) 0 (from_start (starts_by self.now.pieces) used.now ++ before_start (starts_by self.now.pieces) used.now)) }
     {
-        let place = self.first_start(used);
+        let (before, others) = used.split_at(self.first_start(used));
         let mut refs = Vec::with_capacity(alloc, used.len())?;
-        refs.extend_from_slice(used)?;
-        refs.rotate_left(place);
+        let skip = self.read_each(&mut refs, 0, others)?;
+        self.read_each(&mut refs, skip, before)?;
         Ok(refs)
     }
 
@@ -150,8 +164,7 @@ impl Rejoined {
         ensures computed { IfOk result (λ v. v.items ≡ ring_rejoined position_cmp self.now.arcs.arcs (starts_by self.now.pieces) used.now) }
         ensures stitches { IfOk result (λ v. (g u : Geometry Pos) (old : List (List Pos)) (r : List Pos) → IsSound u → IsPartOf g u → IsRefinementOf position_cmp g u self.now.arcs.arcs old self.now.pieces → IsRingOf g r → IsRingList position_cmp (JunctionOf u) old r used.now → IsRingList position_cmp (JunctionOf g) self.now.arcs.arcs r v.items) }
     {
-        let turned = self.turned(alloc, used)?;
-        let mut refs = self.line(alloc, &turned)?;
+        let mut refs = self.read_round(alloc, used)?;
         turn_ring(&self.arcs, &mut refs);
         Ok(refs)
     }

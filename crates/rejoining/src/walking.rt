@@ -1,9 +1,9 @@
 //! Walks along arcs that go on from one another.
-ghost use Rattle.std.specs.Prelude.{◌≡◌, ◌≤◌, ◌+◌, [], IfOk, OnOk, List, Bool};
+ghost use Rattle.std.specs.Prelude.{◌≡◌, ◌≤◌, ◌+◌, IfOk, OnOk, List, Bool};
 ghost use Rattle.theory.specs.ArcNumbers as numbers;
 ghost use Rattle.theory.specs.ArcNumbers.{flipped};
 ghost use Rattle.rejoining.specs.Meeting.{partner_in};
-ghost use Rattle.rejoining.specs.Walks.{Adds, AddsBegun, ArePaired, AreRuns, AreWalked, EndsGone, Goes, GoesOn, Walk, count_left, is_left, some_one, without};
+ghost use Rattle.rejoining.specs.Walks.{Adds, AddsBegun, AddsSingle, ArePaired, AreRuns, AreWalked, EndsGone, Goes, GoesOn, Walk, count_left, is_left, some_one, without};
 
 use crate::meeting::Meeting;
 use chains::table::ArcRef;
@@ -61,7 +61,7 @@ fn walk(
 ) -> Result<Vec<ArcRef>, AllocError>
     ensures { IfOk result (λ r. Walk (partner_in meeting.now) left.old.items from r.items left.new.items) }
 {
-    let mut run = Vec::new(alloc);
+    let mut run = Vec::with_capacity(alloc, 1)?;
     run.push(from)?;
     let mut next = take_next(meeting, left, from);
     while let Some(used) = next {
@@ -105,6 +105,43 @@ fn add_begun(
     add_run(alloc, meeting, left, runs, from)
 }
 
+/// Walks from a used arc that is left, where none goes on from either of its ends.
+fn add_single(
+    alloc: Global,
+    meeting: &Meeting,
+    left: &mut Vec<bool>,
+    runs: &mut Vec<Items<ArcRef>>,
+    from: ArcRef,
+) -> Result<(), AllocError>
+    ensures { OnOk result (AddsSingle (partner_in meeting.now) left.old.items runs.old.items from left.new.items runs.new.items) }
+{
+    if meeting.partner(turned_back(from)).is_some() {
+        return Ok(());
+    }
+    add_begun(alloc, meeting, left, runs, from)
+}
+
+/// Adds the runs of one arc each from end to end. They come first, so that a sort of what the runs are
+/// joined to finds them in order.
+fn add_single_runs(
+    alloc: Global,
+    meeting: &Meeting,
+    kept: &[bool],
+    left: &mut Vec<bool>,
+    runs: &mut Vec<Items<ArcRef>>,
+) -> Result<(), AllocError>
+    ensures { OnOk result (ArePaired kept.now (partner_in meeting.now) → AreWalked kept.now (partner_in meeting.now) left.old.items runs.old.items → AreWalked kept.now (partner_in meeting.now) left.new.items runs.new.items) }
+{
+    for arc in 0..kept.len() {
+        let ahead = ArcRef {
+            arc,
+            reversed: false,
+        };
+        add_single(alloc, meeting, left, runs, ahead)?;
+    }
+    Ok(())
+}
+
 /// Adds the runs from end to end.
 fn add_open_runs(
     alloc: Global,
@@ -113,7 +150,7 @@ fn add_open_runs(
     left: &mut Vec<bool>,
     runs: &mut Vec<Items<ArcRef>>,
 ) -> Result<(), AllocError>
-    ensures { OnOk result (ArePaired kept.now (partner_in meeting.now) → left.old.items ≡ kept.now → runs.old.items ≡ [] → AreWalked kept.now (partner_in meeting.now) left.new.items runs.new.items × EndsGone kept.now (partner_in meeting.now) left.new.items) }
+    ensures { OnOk result (ArePaired kept.now (partner_in meeting.now) → AreWalked kept.now (partner_in meeting.now) left.old.items runs.old.items → AreWalked kept.now (partner_in meeting.now) left.new.items runs.new.items × EndsGone kept.now (partner_in meeting.now) left.new.items) }
 {
     for arc in 0..kept.len() {
         let ahead = ArcRef {
@@ -150,7 +187,8 @@ fn add_round_runs(
     Ok(())
 }
 
-/// All runs of the marked arcs: first those from end to end, then those that go round.
+/// All runs of the marked arcs: first those of one arc from end to end, then the others from end to end,
+/// then those that go round.
 pub(crate) fn runs_of(
     alloc: Global,
     meeting: &Meeting,
@@ -160,6 +198,7 @@ pub(crate) fn runs_of(
 {
     let mut left = kept.to_vec(alloc)?;
     let mut runs = Vec::new(alloc);
+    add_single_runs(alloc, meeting, kept, &mut left, &mut runs)?;
     add_open_runs(alloc, meeting, kept, &mut left, &mut runs)?;
     add_round_runs(alloc, meeting, kept, &mut left, &mut runs)?;
     Ok(runs)

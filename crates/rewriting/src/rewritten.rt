@@ -1,6 +1,7 @@
 //! Geometries and layers by their new lists. Ids, properties, points, names and the order stay.
 ghost use Rattle.std.specs.Prelude.{◌≡◌, IfOk, map as map_list};
 ghost use Rattle.rewriting.specs.Rewritten as rewritten;
+ghost use Rattle.rewriting.specs.Rules.{rule_for};
 
 use crate::new_lists::NewLists;
 use chains::table::ArcRef;
@@ -9,50 +10,39 @@ use lines::items::Items;
 use std::alloc::Global;
 use topo::{Body, Geom, Layer};
 
-fn line_rewritten<L: NewLists>(
-    alloc: Global,
-    lists: &L,
-    used: &Items<ArcRef>,
-) -> Result<Items<ArcRef>, OutOfMemory>
-    ensures { IfOk result (λ v. v ≡ L.line_of lists.now used.now) }
-{
-    Ok(Items::from_vec(lists.line(alloc, used.as_slice())?))
+/// What a list of used arcs is of, which says by which rule it becomes another.
+#[derive(Clone, Copy)]
+enum ListOf {
+    Line,
+    Ring,
 }
 
-fn ring_rewritten<L: NewLists>(
+fn list_rewritten<L: NewLists>(
     alloc: Global,
     lists: &L,
+    of: ListOf,
     used: &Items<ArcRef>,
 ) -> Result<Items<ArcRef>, OutOfMemory>
-    ensures { IfOk result (λ v. v ≡ L.ring_of lists.now used.now) }
+    ensures { IfOk result (λ v. v ≡ rule_for (L.line_of lists.now) (L.ring_of lists.now) of used.now) }
 {
-    Ok(Items::from_vec(lists.ring(alloc, used.as_slice())?))
-}
-
-fn lines_rewritten<L: NewLists>(
-    alloc: Global,
-    lists: &L,
-    lines: &[Items<ArcRef>],
-) -> Result<Items<Items<ArcRef>>, OutOfMemory>
-    ensures { IfOk result (λ v. v ≡ map_list (L.line_of lists.now) lines.now) }
-{
-    let mut made = Vec::with_capacity(alloc, lines.len())?;
-    for used in lines {
-        made.push(line_rewritten(alloc, lists, used)?)?;
-    }
+    let made = match of {
+        ListOf::Line => lists.line(alloc, used.as_slice())?,
+        ListOf::Ring => lists.ring(alloc, used.as_slice())?,
+    };
     Ok(Items::from_vec(made))
 }
 
-fn rings_rewritten<L: NewLists>(
+fn lists_rewritten<L: NewLists>(
     alloc: Global,
     lists: &L,
-    rings: &[Items<ArcRef>],
+    of: ListOf,
+    all: &[Items<ArcRef>],
 ) -> Result<Items<Items<ArcRef>>, OutOfMemory>
-    ensures { IfOk result (λ v. v ≡ map_list (L.ring_of lists.now) rings.now) }
+    ensures { IfOk result (λ v. v ≡ map_list (rule_for (L.line_of lists.now) (L.ring_of lists.now) of) all.now) }
 {
-    let mut made = Vec::with_capacity(alloc, rings.len())?;
-    for used in rings {
-        made.push(ring_rewritten(alloc, lists, used)?)?;
+    let mut made = Vec::with_capacity(alloc, all.len())?;
+    for used in all {
+        made.push(list_rewritten(alloc, lists, of, used)?)?;
     }
     Ok(Items::from_vec(made))
 }
@@ -66,7 +56,7 @@ fn polygons_rewritten<L: NewLists>(
 {
     let mut made = Vec::with_capacity(alloc, polygons.len())?;
     for rings in polygons {
-        made.push(rings_rewritten(alloc, lists, rings.as_slice())?)?;
+        made.push(lists_rewritten(alloc, lists, ListOf::Ring, rings.as_slice())?)?;
     }
     Ok(Items::from_vec(made))
 }
@@ -75,13 +65,19 @@ fn body_copied<L: NewLists>(alloc: Global, lists: &L, body: &Body) -> Result<Bod
     ensures { IfOk result (λ b. b ≡ rewritten.body_rewritten (L.line_of lists.now) (L.ring_of lists.now) body.now) }
 {
     match body {
-        Body::Line(used) => Ok(Body::Line(line_rewritten(alloc, lists, used)?)),
-        Body::MultiLine(lines) => Ok(Body::MultiLine(lines_rewritten(
+        Body::Line(used) => Ok(Body::Line(list_rewritten(alloc, lists, ListOf::Line, used)?)),
+        Body::MultiLine(lines) => Ok(Body::MultiLine(lists_rewritten(
             alloc,
             lists,
+            ListOf::Line,
             lines.as_slice(),
         )?)),
-        Body::Polygon(rings) => Ok(Body::Polygon(rings_rewritten(alloc, lists, rings.as_slice())?)),
+        Body::Polygon(rings) => Ok(Body::Polygon(lists_rewritten(
+            alloc,
+            lists,
+            ListOf::Ring,
+            rings.as_slice(),
+        )?)),
         Body::MultiPolygon(polygons) => Ok(Body::MultiPolygon(polygons_rewritten(
             alloc,
             lists,

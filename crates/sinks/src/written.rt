@@ -8,6 +8,7 @@ ghost use Rattle.sinks.specs.Writes.{TookAll, TookPart};
 ghost use Rattle.sinks.specs.Stops.{StopsAtValue, StopsIn, WritesAll};
 ghost use Rattle.sinks.specs.Texts.{bracketed, joined, after_comma, after_commas, framed, list_text, option_text, pair_text};
 
+use crate::pair::{LONGEST_PAIR, write_pair};
 use crate::{Sink, WriteFault, put};
 use itoa::Buffer;
 
@@ -179,8 +180,9 @@ impl Written for Pair {
     ghost text = { λ p. pair_text p.0 p.1 };
 
     fn write<W: Sink>(&self, sink: &mut W) -> Result<(), WriteFault> {
-        let numbers = Then(Number(self.0), Then(Text(b","), Number(self.1)));
-        Bracketed(numbers).write(sink)
+        let mut bytes = [0; LONGEST_PAIR];
+        let start = write_pair(self.0, self.1, &mut bytes);
+        put(sink, &bytes[start..])
     }
 }
 

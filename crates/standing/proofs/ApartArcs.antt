@@ -37,7 +37,9 @@ use Rattle.chains.specs.Stored.{rises}
 use Rattle.chains.proofs.Among.{among_has, has_among}
 use Rattle.chains.proofs.AsTheyStand.{sorted_told}
 use Rattle.chains.proofs.TablesAsMap.{has_loop, has_open, loop_has, open_has}
-use Rattle.standing.specs.Apart.{AreInOrder, arc_apart, arc_inside, begins_least, each_apart, each_forward, each_stands, ends_apart, has_twins, is_forward, none_before, stands_alone}
+use Rattle.standing.specs.Apart.{AreInOrder, arc_inside, begins_least, each_forward, each_stands, has_twins, is_forward, none_before, stands_alone}
+use Rattle.standing.specs.Ends.{both_are, each_ends, ends_are}
+use Rattle.standing.specs.declared.ends.EndsAre.TheVariants.{Apart}
 use Rattle.standing.specs.Elsewhere.{KeepsElsewhere}
 use Rattle.standing.proofs.Insides.{insides_of_table}
 use Rattle.standing.proofs.Steps.{all_from, all_has}
@@ -148,13 +150,13 @@ alone_intro free c e f = ap (λ w. cond w (cond free (is_closed position_cmp c &
     go true f = f refl
     go false f = refl
 
-ends_out : (inside : List Pos) (c : List Pos) → ends_apart inside c ≡ true → (v : Pos) → EndOf v c → ¬ (among inside v ≡ true)
+ends_out : (inside : List Pos) (c : List Pos) → both_are Apart inside c ≡ true → (v : Pos) → EndOf v c → ¬ (among inside v ≡ true)
 ends_out inside [] e v h k = h
 ends_out inside (x ∷ r) e v (inl h) k = not_true (among inside x) (both_true (not (among inside x)) (not (among inside (last_of x r))) e).0 (ap (among inside) (sym h) ∙ k)
 ends_out inside (x ∷ r) e v (inr h) k =
     not_true (among inside (last_of x r)) (both_true (not (among inside x)) (not (among inside (last_of x r))) e).1 (ap (among inside) (sym h) ∙ k)
 
-out_ends : (inside : List Pos) (c : List Pos) → ((v : Pos) → EndOf v c → ¬ (among inside v ≡ true)) → ends_apart inside c ≡ true
+out_ends : (inside : List Pos) (c : List Pos) → ((v : Pos) → EndOf v c → ¬ (among inside v ≡ true)) → both_are Apart inside c ≡ true
 out_ends inside [] h = refl
 out_ends inside (x ∷ r) h =
     both_intro (not (among inside x)) (not (among inside (last_of x r))) (true_not (among inside x) (h x (inl refl)))
@@ -238,7 +240,7 @@ module _ (t : Arcs) where
         let k : has_twins sorted ≡ true = twins_sorted sorted up (doubled_moved few sorted moved (doubled_few h)) in
         let q : true ≡ false = sym k ∙ e in absurd cc)
 
-    pub apart_intro : Ascends list_cmp t.arcs → each_stands t.loops t.arcs ≡ true → has_twins sorted ≡ false → each_apart sorted t.loops t.arcs ≡ true →
+    pub apart_intro : Ascends list_cmp t.arcs → each_stands t.loops t.arcs ≡ true → has_twins sorted ≡ false → each_ends Apart sorted t.loops t.arcs ≡ true →
         ArcsApart position_cmp t.arcs m
     apart_intro asc e n a = record {
       parted = parted e;
@@ -247,15 +249,15 @@ module _ (t : Arcs) where
       once = no_twins n;
       no_end = λ l h v i k.
           let o = open_has t.loops t.arcs l h in
-          let q : ends_apart sorted l ≡ true = sym (ap (λ w. w || ends_apart sorted l) o.1) ∙ all_has (arc_apart sorted t.loops) t.arcs a l o.0 in
+          let q : both_are Apart sorted l ≡ true = sym (ap (λ w. w || both_are Apart sorted l) o.1) ∙ all_has (ends_are Apart sorted t.loops) t.arcs a l o.0 in
           ends_out sorted l q v i (has_among sorted v (Has-permutation few sorted v moved (kept.ends l o.0 v i (from_map v k))));
       first = least e;
     }
 
-    pub apart_ends : ArcsApart position_cmp t.arcs m → each_apart sorted t.loops t.arcs ≡ true
-    apart_ends st = all_from (arc_apart sorted t.loops) t.arcs (λ c h. go c h (free c) refl)
+    pub apart_ends : ArcsApart position_cmp t.arcs m → each_ends Apart sorted t.loops t.arcs ≡ true
+    apart_ends st = all_from (ends_are Apart sorted t.loops) t.arcs (λ c h. go c h (free c) refl)
       where
-        go : (c : List Pos) → Has c t.arcs → (b : Bool) → free c ≡ b → (b || ends_apart sorted c) ≡ true
+        go : (c : List Pos) → Has c t.arcs → (b : Bool) → free c ≡ b → (b || both_are Apart sorted c) ≡ true
         go c h true f = refl
         go c h false f = out_ends sorted c (λ v i k. st.no_end c (has_open t.loops t.arcs c h f) v i
             (Has-permutation inside (insides m) v of_map (kept.only v (Has-permutation sorted few v (IsPermutation-sym few sorted moved) (among_has sorted v k)))))

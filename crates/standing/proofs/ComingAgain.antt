@@ -1,6 +1,5 @@
 -- Vertices that come again in a list, found by what was met before, and what is kept of them.
-use Rattle.std.proofs.Common.{◌≡◌, ℕ, ◌+◌, ◌<◌, ◌≤◌, Bool, true, false, cond, List, [], ◌∷◌, ◌++◌, ◌⊎◌, inl, inr, length, drop, get_or, refl, sym, ap, ◌∙◌, subst}
-use Rattle.std.proofs.lemmas.List.{drop_all}
+use Rattle.std.proofs.Common.{◌≡◌, ℕ, ◌+◌, ◌<◌, ◌≤◌, Bool, true, false, cond, List, [], ◌∷◌, ◌++◌, ◌⊎◌, inl, inr, length, drop, get_or, refl, sym, ◌∙◌, subst}
 use Rattle.grid.specs.declared.pos.Pos.{Pos}
 use Rattle.lines.specs.Bits.{may_hold}
 use Rattle.lines.specs.Holding.{Holds, Keeps}
@@ -9,7 +8,7 @@ use Rattle.lines.proofs.Doubles.{twice_kept}
 use Rattle.lines.proofs.Dropping.{drop_item, none_left}
 use Rattle.theory.specs.Lists.{EndOf, Has, Twice, gathered}
 use Rattle.theory.specs.TopologyFunction.{keep}
-use Rattle.theory.proofs.Lists.{Has-append, Has-append_left, Has-append_right}
+use Rattle.theory.proofs.Lists.{Has-append_left, Has-append_right}
 use Rattle.theory.proofs.ListsOfLists.{Has-gathered}
 use Rattle.theory.proofs.Turning.{keep_has, has_keep}
 use Rattle.standing.specs.Elsewhere.{HasTwice, KeepsElsewhere}

@@ -1,5 +1,5 @@
 -- Ends that meet, as the code tells it.
-use Rattle.std.proofs.Common.{◌≡◌, ◌-◌, ◌≤◌, Bool, true, false, ◌&&◌, ◌||◌, ◌↔◌, List, [], ◌∷◌, ◌++◌, ◌⊎◌, length, inl, inr, refl, sym, ap, ◌∙◌, arith, Option, Some, None, slice_get}
+use Rattle.std.proofs.Common.{◌≡◌, ◌-◌, ◌≤◌, Bool, true, false, ◌||◌, ◌↔◌, List, [], ◌∷◌, ◌++◌, ◌⊎◌, length, inl, inr, refl, sym, ap, ◌∙◌, arith, Option, Some, None, slice_get}
 use Rattle.std.specs.List.Sorted.{IsPermutation, IsSorted}
 use Rattle.std.proofs.lemmas.List.Sorted.{IsPermutation-sym}
 use Rattle.grid.specs.declared.pos.Pos.{Pos}
@@ -15,41 +15,23 @@ use Rattle.chains.specs.Arcs.{Arcs}
 use Rattle.chains.specs.OfArcs.{table_as_map}
 use Rattle.chains.specs.Table.{is_loop}
 use Rattle.chains.proofs.Among.{among_has, has_among}
-use Rattle.chains.proofs.TablesAsMap.{answered, given, has_open, open_has}
-use Rattle.standing.specs.Meeting.{EndsMeet, again, arc_meets, both_ends, both_if, each_meets, ends_among, meets_if}
-use Rattle.standing.proofs.Steps.{all_from, all_has}
+use Rattle.chains.proofs.TablesAsMap.{given, has_open, open_has}
+use Rattle.standing.specs.Meeting.{EndsMeet, again, both_ends, both_if}
+use Rattle.standing.specs.Ends.{both_are, each_ends, ends_are}
+use Rattle.standing.specs.declared.ends.EndsAre.TheVariants.{Among}
+use Rattle.standing.proofs.Steps.{all_from, all_has, last_get}
 use Rattle.standing.proofs.Threes.{count, count_again, count_has, count_moved, has_count, three_told, up_again}
 
 pub both_given : (o : Option (List Pos)) → both_if o ≡ given both_ends o
 both_given None = refl
 both_given (Some c) = refl
 
-pub meets_given : (meeting : List Pos) (loops : List (List Pos)) (o : Option (List Pos)) → meets_if meeting loops o ≡ answered true (arc_meets meeting loops) o
-meets_given meeting loops None = refl
-meets_given meeting loops (Some c) = refl
-
--- the last of a list
-last_get : {V : Type 0} (x : V) (l : List V) → slice_get (x ∷ l) (length l) ≡ Some (last_of x l)
-last_get x [] = refl
-last_get x (y ∷ l) = last_get y l
-
--- the ends of a list, as the code has them
-pub among_told : (meeting l : List Pos) (a b : Pos) → Some a ≡ slice_get l 0 → Some b ≡ slice_get l (length l - 1) →
-    ends_among meeting l ≡ (among meeting a && among meeting b)
-among_told meeting [] a b p q = absurd cc
-among_told meeting (x ∷ l) a b p q =
-    let k : length (x ∷ l) - 1 ≡ length l = omega arith in
-    let e : a ≡ x = cc in
-    let m : Some b ≡ Some (last_of x l) = q ∙ ap (slice_get (x ∷ l)) k ∙ last_get x l in
-    let f : b ≡ last_of x l = cc in
-    λ i. among meeting (sym e i) && among meeting (sym f i)
-
-ends_in : (meeting c : List Pos) → ends_among meeting c ≡ true → (v : Pos) → EndOf v c → Has v meeting
+ends_in : (meeting c : List Pos) → both_are Among meeting c ≡ true → (v : Pos) → EndOf v c → Has v meeting
 ends_in meeting [] e v h = absurd h
 ends_in meeting (x ∷ r) e v (inl h) = among_has meeting v (ap (among meeting) h ∙ (both_true (among meeting x) (among meeting (last_of x r)) e).0)
 ends_in meeting (x ∷ r) e v (inr h) = among_has meeting v (ap (among meeting) h ∙ (both_true (among meeting x) (among meeting (last_of x r)) e).1)
 
-in_ends : (meeting c : List Pos) → ((v : Pos) → EndOf v c → Has v meeting) → ends_among meeting c ≡ true
+in_ends : (meeting c : List Pos) → ((v : Pos) → EndOf v c → Has v meeting) → both_are Among meeting c ≡ true
 in_ends meeting [] h = refl
 in_ends meeting (x ∷ r) h =
     both_intro (among meeting x) (among meeting (last_of x r)) (has_among meeting x (h x (inl refl))) (has_among meeting (last_of x r) (h (last_of x r) (inr refl)))
@@ -81,16 +63,16 @@ module _ (t : Arcs) (lines ends sorted meeting : List Pos) (made : ends ≡ gath
       let one : 1 ≤ count v (again (again sorted)) = (count_again v (again sorted) (up_again sorted rises) 0).1 two in
       Has-permutation (again (again sorted) ++ lines) meeting v all (Has-append_left v (again (again sorted)) lines (count_has v (again (again sorted)) one))
 
-  pub meeting_told : (b : Bool) → b ≡ each_meets meeting t.loops t.arcs → (b ≡ true) ↔ EndsMeet t.arcs (table_as_map t) lines
+  pub meeting_told : (b : Bool) → b ≡ each_ends Among meeting t.loops t.arcs → (b ≡ true) ↔ EndsMeet t.arcs (table_as_map t) lines
   meeting_told b e = (
     (λ h l k v i.
         let o = open_has t.loops t.arcs l k in
-        let q : ends_among meeting l ≡ true = sym (ap (λ w. w || ends_among meeting l) o.1) ∙ all_has (arc_meets meeting t.loops) t.arcs (sym e ∙ h) l o.0 in
+        let q : both_are Among meeting l ≡ true = sym (ap (λ w. w || both_are Among meeting l) o.1) ∙ all_has (ends_are Among meeting t.loops) t.arcs (sym e ∙ h) l o.0 in
         to v (ends_in meeting l q v i)),
-    (λ h. e ∙ all_from (arc_meets meeting t.loops) t.arcs (λ c k. go h c k (is_loop t.loops c) refl)),
+    (λ h. e ∙ all_from (ends_are Among meeting t.loops) t.arcs (λ c k. go h c k (is_loop t.loops c) refl)),
   )
     where
-      go : EndsMeet t.arcs (table_as_map t) lines → (c : List Pos) → Has c t.arcs → (d : Bool) → is_loop t.loops c ≡ d → (d || ends_among meeting c) ≡ true
+      go : EndsMeet t.arcs (table_as_map t) lines → (c : List Pos) → Has c t.arcs → (d : Bool) → is_loop t.loops c ≡ d → (d || both_are Among meeting c) ≡ true
       go h c k true f = refl
       go h c k false f = in_ends meeting c (λ v i. from v (h c (has_open t.loops t.arcs c k f) v i))
 

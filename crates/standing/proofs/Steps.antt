@@ -1,5 +1,5 @@
 -- Loops over the arcs of a table, and what is told of one arc.
-use Rattle.std.proofs.Common.{◌≡◌, ℕ, zero, suc, ◌+◌, ◌-◌, ◌<◌, Bool, true, false, cond, not, ◌&&◌, List, [], ◌∷◌, ◌++◌, length, drop, inl, inr, refl, sym, ap, ◌∙◌, arith, Option, Some, None, slice_get}
+use Rattle.std.proofs.Common.{◌≡◌, ℕ, zero, suc, ◌+◌, ◌-◌, ◌<◌, Bool, true, false, cond, ◌&&◌, List, [], ◌∷◌, ◌++◌, length, drop, inl, inr, refl, sym, ap, ◌∙◌, arith, Option, Some, None, slice_get}
 use Rattle.std.specs.List.{list_all}
 use Rattle.grid.specs.declared.pos.Pos.{Pos}
 use Rattle.theory.specs.Lists.{Has, last_of}
@@ -10,7 +10,9 @@ use Rattle.chains.specs.Among.{among}
 use Rattle.chains.specs.Table.{is_loop}
 use Rattle.lines.proofs.Dropping.{drop_next}
 use Rattle.chains.proofs.TablesAsMap.{answered, given, unclosed_rest}
-use Rattle.standing.specs.Apart.{apart_if, arc_apart, arc_inside, ends_apart, inside_if, stands_alone, stands_if}
+use Rattle.standing.specs.Apart.{arc_inside, inside_if, stands_alone, stands_if}
+use Rattle.standing.specs.Ends.{both_are, ends_are, ends_if, is_as}
+use Rattle.standing.specs.declared.ends.EndsAre.{EndsAre}
 
 there : {A : Type 0} (l : List A) (i : ℕ) → i < length l → (x : A) × (slice_get l i ≡ Some x)
 there [] i h = absurd (omega arith)
@@ -49,9 +51,9 @@ pub stands_given : (loops : List (List Pos)) (o : Option (List Pos)) → stands_
 stands_given loops None = refl
 stands_given loops (Some c) = refl
 
-pub apart_given : (inside : List Pos) (loops : List (List Pos)) (o : Option (List Pos)) → apart_if inside loops o ≡ answered true (arc_apart inside loops) o
-apart_given inside loops None = refl
-apart_given inside loops (Some c) = refl
+pub ends_given : (e : EndsAre) (sorted : List Pos) (loops : List (List Pos)) (o : Option (List Pos)) → ends_if e sorted loops o ≡ answered true (ends_are e sorted loops) o
+ends_given e sorted loops None = refl
+ends_given e sorted loops (Some c) = refl
 
 pub inside_given : (loops : List (List Pos)) (o : Option (List Pos)) → inside_if loops o ≡ given (arc_inside loops) o
 inside_given loops None = refl
@@ -70,17 +72,17 @@ open_inside b c front inner x y t e f =
     sym (ap (λ w. cond w (unclosed c) (inner_of c)) t ∙ ap inner_of (e ∙ ap (λ w. w ++ (x ∷ [])) f) ∙ inner_front y x inner)
 
 -- the last of a list
-last_get : {V : Type 0} (x : V) (l : List V) → slice_get (x ∷ l) (length l) ≡ Some (last_of x l)
+pub last_get : {V : Type 0} (x : V) (l : List V) → slice_get (x ∷ l) (length l) ≡ Some (last_of x l)
 last_get x [] = refl
 last_get x (y ∷ l) = last_get y l
 
 -- the ends of a list, as the code has them
-pub ends_told : (inside l : List Pos) (a b : Pos) → Some a ≡ slice_get l 0 → Some b ≡ slice_get l (length l - 1) →
-    ends_apart inside l ≡ (not (among inside a) && not (among inside b))
-ends_told inside [] a b p q = absurd cc
-ends_told inside (x ∷ l) a b p q =
+pub ends_told : (e : EndsAre) (sorted l : List Pos) (a b : Pos) → Some a ≡ slice_get l 0 → Some b ≡ slice_get l (length l - 1) →
+    both_are e sorted l ≡ (is_as e (among sorted a) && is_as e (among sorted b))
+ends_told e sorted [] a b p q = absurd cc
+ends_told e sorted (x ∷ l) a b p q =
     let k : length (x ∷ l) - 1 ≡ length l = omega arith in
-    let e : a ≡ x = cc in
+    let f : a ≡ x = cc in
     let m : Some b ≡ Some (last_of x l) = q ∙ ap (slice_get (x ∷ l)) k ∙ last_get x l in
-    let f : b ≡ last_of x l = cc in
-    λ i. not (among inside (sym e i)) && not (among inside (sym f i))
+    let g : b ≡ last_of x l = cc in
+    λ i. is_as e (among sorted (sym f i)) && is_as e (among sorted (sym g i))

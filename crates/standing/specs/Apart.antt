@@ -1,5 +1,5 @@
 -- What is checked of arcs as a text has them.
-use Rattle.std.specs.Prelude.{◌≡◌, Bool, true, false, cond, not, ◌&&◌, ◌||◌, ◌↔◌, List, [], ◌∷◌, reverse, Option, Some, None}
+use Rattle.std.specs.Prelude.{◌≡◌, Bool, true, false, cond, ◌&&◌, ◌↔◌, List, [], ◌∷◌, reverse, Option, Some, None}
 use Rattle.std.specs.List.{list_all}
 use Rattle.std.specs.Ordering.{is_lt, is_gt}
 use Rattle.std.specs.declared.cmp.Ordering.TheVariants.{Less}
@@ -9,10 +9,9 @@ use Rattle.lines.specs.Reading.{is_closed}
 use Rattle.lines.specs.Turned.{list_cmp, position_cmp}
 use Rattle.theory.specs.Arcs.{Ascends}
 use Rattle.theory.specs.Geometry.{IsSound}
-use Rattle.theory.specs.Lists.{Has, last_of}
+use Rattle.theory.specs.Lists.{Has}
 use Rattle.theory.specs.Refinement.{unclosed}
 use Rattle.theory.specs.Standing.{ArcsApart, inner_of}
-use Rattle.chains.specs.Among.{among}
 use Rattle.chains.specs.Arcs.{Arcs}
 use Rattle.chains.specs.OfArcs.{table_as_map}
 use Rattle.chains.specs.Table.{IsTableOf, is_loop, marked}
@@ -75,24 +74,6 @@ twins_from before (x ∷ l) = cond (position_eq x before) true (twins_from x l)
 abbrev pub has_twins : List Pos → Bool
 has_twins [] = false
 has_twins (x ∷ l) = twins_from x l
-
--- whether no end of the list is among some vertices
-abbrev pub ends_apart : List Pos → List Pos → Bool
-ends_apart inside [] = true
-ends_apart inside (x ∷ r) = not (among inside x) && not (among inside (last_of x r))
-
--- the same of an arc of a table; a free loop has no ends
-abbrev pub arc_apart : List Pos → List (List Pos) → List Pos → Bool
-arc_apart inside loops c = is_loop loops c || ends_apart inside c
-
--- the same, where there is one
-abbrev pub apart_if : List Pos → List (List Pos) → Option (List Pos) → Bool
-apart_if inside loops None = true
-apart_if inside loops (Some c) = arc_apart inside loops c
-
--- the same of each arc of a table
-abbrev pub each_apart : List Pos → List (List Pos) → List (List Pos) → Bool
-each_apart inside loops arcs = list_all (arc_apart inside loops) arcs
 
 -- the answer is whether the arcs, where they are in order, are apart
 abbrev pub IsApart : Bool → Arcs → Type 0

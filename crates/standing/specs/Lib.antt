@@ -1,3 +1,4 @@
+pub mod Ends
 pub mod Apart
 pub mod Seams
 pub mod Runs

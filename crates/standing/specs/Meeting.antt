@@ -1,14 +1,11 @@
 -- Where arcs and lines end, and where enough of them meet.
-use Rattle.std.specs.Prelude.{Bool, true, cond, ◌&&◌, ◌||◌, List, [], ◌∷◌, ◌⊎◌, Option, Some, None}
-use Rattle.std.specs.List.{list_all}
+use Rattle.std.specs.Prelude.{cond, List, [], ◌∷◌, ◌⊎◌, Option, Some, None}
 use Rattle.grid.specs.declared.pos.Pos.{Pos}
 use Rattle.lines.specs.Pairs.{position_eq}
 use Rattle.theory.specs.ArcNumbers.{ArcRef}
 use Rattle.theory.specs.Geometry.{Geometry, IsLineOf}
 use Rattle.theory.specs.Lists.{EndOf, Has, last_of}
 use Rattle.theory.specs.Standing.{ThreeBegin}
-use Rattle.chains.specs.Among.{among}
-use Rattle.chains.specs.Table.{is_loop}
 use Rattle.standing.specs.Runs.{ends_along}
 
 -- the first of two ends, and the last of two others, where there are such
@@ -41,24 +38,6 @@ again_from before (x ∷ l) = cond (position_eq x before) (x ∷ again_from x l)
 abbrev pub again : List Pos → List Pos
 again [] = []
 again (x ∷ l) = again_from x l
-
--- whether both ends of an arc are among some vertices
-abbrev pub ends_among : List Pos → List Pos → Bool
-ends_among meeting [] = true
-ends_among meeting (x ∷ r) = among meeting x && among meeting (last_of x r)
-
--- the same of an arc of a table; a free loop has no ends
-abbrev pub arc_meets : List Pos → List (List Pos) → List Pos → Bool
-arc_meets meeting loops c = is_loop loops c || ends_among meeting c
-
--- the same, where there is one
-abbrev pub meets_if : List Pos → List (List Pos) → Option (List Pos) → Bool
-meets_if meeting loops None = true
-meets_if meeting loops (Some c) = arc_meets meeting loops c
-
--- the same of each arc of a table
-abbrev pub each_meets : List Pos → List (List Pos) → List (List Pos) → Bool
-each_meets meeting loops arcs = list_all (arc_meets meeting loops) arcs
 
 -- each end of an arc that is not free is one of the lines' ends, or three ends of arcs meet there
 abbrev pub EndsMeet : {V : Type 0} → List (List V) → Geometry V → List V → Type 0

@@ -1,19 +1,18 @@
 //! Arcs as a text has them, checked: in order, each before its own reverse, and no vertex inside one at
 //! another place.
 ghost use Rattle.std.specs.Prelude.{◌≡◌, ◌↔◌, ◌++◌, cond, slice_get, true, IfOk, OnOk};
-ghost use Rattle.std.specs.List.Sorted.{IsSorted};
 ghost use Rattle.grid.specs.declared.pos.Pos.{Pos};
 ghost use Rattle.lines.specs.Reading as list;
 ghost use Rattle.lines.specs.Turned.{position_cmp};
 ghost use Rattle.theory.specs.Lists.{gathered};
 ghost use Rattle.theory.specs.Refinement.{unclosed};
 ghost use Rattle.theory.specs.Standing.{inner_of};
-ghost use Rattle.chains.specs.Among.{among};
 ghost use Rattle.chains.specs.Stored.{rises};
 ghost use Rattle.standing.specs.Apart as spec;
 ghost use Rattle.standing.specs.Apart.{AreInOrder, IsApart, arc_inside, inside_if};
 
 use crate::elsewhere::elsewhere_too;
+use crate::ends::{EndsAre, each_ends};
 use chains::table::ArcTable;
 use faults::OutOfMemory;
 use grid::pos::Pos;
@@ -173,47 +172,6 @@ fn has_twins(vertices: &[Pos]) -> bool
     false
 }
 
-pub(crate) fn has(sorted: &[Pos], vertex: Pos) -> bool
-    requires { IsSorted position_cmp sorted.now }
-    ensures { result ≡ among sorted.now vertex }
-{
-    sorted.binary_search(&vertex).is_ok()
-}
-
-/// Whether no end of an arc is among some vertices.
-fn ends_apart(inside: &[Pos], arc: &[Pos]) -> bool
-    requires { IsSorted position_cmp inside.now }
-    ensures { result ≡ spec.ends_apart inside.now arc.now }
-{
-    match (arc.first(), arc.last()) {
-        (Some(first), Some(last)) => !has(inside, *first) && !has(inside, *last),
-        _ => true,
-    }
-}
-
-/// The same for an arc of a table; a free loop has no ends.
-fn numbered_apart(inside: &[Pos], table: &ArcTable, number: usize) -> bool
-    requires { IsSorted position_cmp inside.now }
-    ensures { result ≡ spec.apart_if inside.now table.now.loops (slice_get table.now.arcs number) }
-{
-    match table.arc(number) {
-        Some(arc) => table.is_free(number) || ends_apart(inside, arc),
-        None => true,
-    }
-}
-
-fn each_apart(inside: &[Pos], table: &ArcTable) -> bool
-    requires { IsSorted position_cmp inside.now }
-    ensures { result ≡ spec.each_apart inside.now table.now.loops table.now.arcs }
-{
-    for number in 0..table.len() {
-        if !numbered_apart(inside, table, number) {
-            return false;
-        }
-    }
-    true
-}
-
 /// Whether the arcs of a table are apart: each comes before its own reverse; each vertex inside an arc,
 /// and each of a free loop, is at one place of all arcs, and no end of an arc that is no free loop; and
 /// a free loop goes round from its least vertex. Where they are in order too, they are then the arcs of
@@ -233,5 +191,5 @@ pub fn is_apart(alloc: Global, table: &ArcTable) -> Result<bool, OutOfMemory>
     if has_twins(&few) {
         return Ok(false);
     }
-    Ok(each_apart(&few, table))
+    Ok(each_ends(EndsAre::Apart, &few, table))
 }

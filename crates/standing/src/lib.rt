@@ -4,6 +4,7 @@
 
 pub mod apart;
 mod elsewhere;
+mod ends;
 pub mod laws;
 pub mod lists;
 pub mod marks;

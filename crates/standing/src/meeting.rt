@@ -1,14 +1,12 @@
 //! Whether each end of an arc is an end of a line, or meets two others.
 ghost use Rattle.std.specs.Prelude.{◌≡◌, ◌↔◌, ◌++◌, true, slice_get, IfOk, OnOk};
-ghost use Rattle.std.specs.List.Sorted.{IsSorted};
-ghost use Rattle.lines.specs.Turned.{position_cmp};
 ghost use Rattle.theory.specs.Lists.{gathered, last_of};
 ghost use Rattle.chains.specs.OfArcs.{table_as_map};
 ghost use Rattle.standing.specs.Meeting as spec;
 ghost use Rattle.standing.specs.Meeting.{EndsMeet, both_ends, both_if, line_ends};
 ghost use Rattle.standing.specs.Runs as list;
 
-use crate::apart::has;
+use crate::ends::{EndsAre, each_ends};
 use crate::runs::{ends_in, last_from};
 use chains::table::{ArcRef, ArcTable};
 use faults::OutOfMemory;
@@ -106,40 +104,6 @@ fn again(alloc: Global, sorted: &[Pos]) -> Result<Vec<Pos>, AllocError>
     Ok(found)
 }
 
-/// Whether both ends of an arc are among some vertices.
-fn ends_among(meeting: &[Pos], arc: &[Pos]) -> bool
-    requires { IsSorted position_cmp meeting.now }
-    ensures { result ≡ spec.ends_among meeting.now arc.now }
-{
-    match (arc.first(), arc.last()) {
-        (Some(first), Some(last)) => has(meeting, *first) && has(meeting, *last),
-        _ => true,
-    }
-}
-
-/// The same for an arc of a table; a free loop has no ends.
-fn numbered_meets(meeting: &[Pos], table: &ArcTable, number: usize) -> bool
-    requires { IsSorted position_cmp meeting.now }
-    ensures { result ≡ spec.meets_if meeting.now table.now.loops (slice_get table.now.arcs number) }
-{
-    match table.arc(number) {
-        Some(arc) => table.is_free(number) || ends_among(meeting, arc),
-        None => true,
-    }
-}
-
-fn each_meets(meeting: &[Pos], table: &ArcTable) -> bool
-    requires { IsSorted position_cmp meeting.now }
-    ensures { result ≡ spec.each_meets meeting.now table.now.loops table.now.arcs }
-{
-    for number in 0..table.len() {
-        if !numbered_meets(meeting, table, number) {
-            return false;
-        }
-    }
-    true
-}
-
 /// Whether each end of an arc that is no free loop is an end of a line, of which all are given, or
 /// three ends of arcs meet there.
 ///
@@ -154,5 +118,5 @@ pub fn ends_meet(alloc: Global, table: &ArcTable, line_ends: &[Pos]) -> Result<b
     let mut meeting = again(alloc, &twice)?;
     meeting.extend_from_slice(line_ends)?;
     meeting.sort_unstable();
-    Ok(each_meets(&meeting, table))
+    Ok(each_ends(EndsAre::Among, &meeting, table))
 }

@@ -11,7 +11,8 @@ ghost use Rattle.chains.specs.Table.{IsTableOf};
 ghost use Rattle.standing.specs.Apart.{table_read};
 ghost use Rattle.standing.specs.Seams.{AreLineEnds, ends_once, goes_free, stands_once};
 
-use crate::apart::{has, is_closed};
+use crate::apart::is_closed;
+use crate::ends::has;
 use crate::runs::last_from;
 use faults::OutOfMemory;
 use grid::pos::Pos;

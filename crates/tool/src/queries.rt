@@ -3,14 +3,13 @@ use crate::files::{Files, read_named};
 use crate::refusal::Refusal;
 use crate::status::Status;
 use crate::topologies::word;
-use chains::ArcTable;
 use clap::ArgMatches;
 use info_text::{write_json, write_lines};
 use query::{
-    LayerFault, QueryFault, mesh, neighbors, write_layer, write_mesh, write_neighbor_ids,
+    Edges, LayerFault, QueryFault, borders, neighbors, write_layer, write_mesh, write_neighbor_ids,
     write_neighbors,
 };
-use shapes::{Feature, Id};
+use shapes::Id;
 use sinks::Sink;
 use std::alloc::Global;
 use topo::{Geom, Topology};
@@ -51,8 +50,8 @@ pub(crate) fn print_mesh<'a, O: Sink>(
     out: &mut O,
 ) -> Result<Status, Refusal<'a>> {
     let layer = found.get_str("layer");
-    let edges = Edges::of_word(word(found, "edges"));
-    let lines = match mesh_of(alloc, topology, layer, edges) {
+    let edges = edges_of_word(word(found, "edges"));
+    let lines = match borders(alloc, topology, layer, edges) {
         Ok(lines) => lines,
         Err(fault) => return Err(refused(layer.unwrap_or(""), fault)),
     };
@@ -60,37 +59,12 @@ pub(crate) fn print_mesh<'a, O: Sink>(
     Ok(Status::Done)
 }
 
-/// Which borders are asked for.
-#[derive(Clone, Copy)]
-enum Edges {
-    All,
-    /// Those between two features.
-    Interior,
-    /// Those of one feature alone.
-    Exterior,
-}
-
-impl Edges {
-    /// What the word after `--edges` names; all where there is none.
-    fn of_word(word: &str) -> Edges {
-        match word {
-            "interior" => Edges::Interior,
-            "exterior" => Edges::Exterior,
-            _ => Edges::All,
-        }
-    }
-}
-
-fn mesh_of(
-    alloc: Global,
-    topology: &Topology,
-    layer: Option<&str>,
-    edges: Edges,
-) -> Result<ArcTable, QueryFault> {
-    match edges {
-        Edges::All => mesh(alloc, topology, layer, |_: &Feature, _: &Feature| true),
-        Edges::Interior => mesh(alloc, topology, layer, |a: &Feature, b: &Feature| a != b),
-        Edges::Exterior => mesh(alloc, topology, layer, |a: &Feature, b: &Feature| a == b),
+/// What the word after `--edges` names; all where there is none.
+fn edges_of_word(word: &str) -> Edges {
+    match word {
+        "interior" => Edges::Interior,
+        "exterior" => Edges::Exterior,
+        _ => Edges::All,
     }
 }
 

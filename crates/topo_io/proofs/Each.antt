@@ -44,3 +44,13 @@ module _ {X Y Z : Type 0} (f : Y → Z) (g : X → Z) (whole : List Z) (made : L
 
   pub all_made : (left : List X) → left ≡ [] → map f made ++ map g left ≡ whole → map f made ≡ whole
   all_made left none before = sym (append-nil (map f made)) ∙ ap (λ l. map f made ++ map g l) (sym none) ∙ before
+
+-- ---- what is said of what f makes of each item
+
+pub all_mapped : {X Y : Type 0} (P : Y → Type 0) (f : X → Y) (xs : List X) → AllByRecursion (λ x. P (f x)) xs ≡ AllByRecursion P (map f xs)
+all_mapped P f [] = refl
+all_mapped P f (x ∷ xs) = ap (λ A. P (f x) × A) (all_mapped P f xs)
+
+pub each_mapped : {X Y Z : Type 0} (g : Y → Z) (f : X → Y) (xs : List X) → map (λ x. g (f x)) xs ≡ map g (map f xs)
+each_mapped g f [] = refl
+each_mapped g f (x ∷ xs) = ap (λ l. g (f x) ∷ l) (each_mapped g f xs)

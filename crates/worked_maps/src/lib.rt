@@ -54,6 +54,18 @@ pub fn positions(alloc: Global, places: &[(i64, i64)]) -> Result<Vec<Pos>, Fail>
     Ok(made)
 }
 
+/// Arcs, each as the list of its positions.
+///
+/// # Errors
+/// Where a place is outside the limits of grid numbers, or memory is refused.
+pub fn lists(alloc: Global, arcs: &[&[(i64, i64)]]) -> Result<Vec<Items<Pos>>, Fail> {
+    let mut made = Vec::new(alloc);
+    for places in arcs {
+        made.push(Items::from_vec(positions(alloc, places)?))?;
+    }
+    Ok(made)
+}
+
 fn put(alloc: Global, map: &mut FeatureMap, shape: Shape) -> Result<(), Fail> {
     let props = Props::empty(alloc)?;
     map.insert(

@@ -13,12 +13,11 @@ ghost use Rattle.query.specs.Mesh.{InScope, IsMissing, MayAskWithin, AreBorders}
 ghost use Rattle.query.specs.declared.fault.QueryFault.TheVariants.{NoLayer as MissingLayer};
 
 use crate::fault::QueryFault;
+use crate::joined::lines_over;
 use crate::members::members_of;
-use crate::parts::part;
 use crate::selecting::choose;
 use crate::spans::spans_of;
-use crate::stops::stops_of;
-use chains::{ArcTable, maximal_with, segments_of};
+use chains::ArcTable;
 use grid::pos::Pos;
 use shapes::feature::Feature;
 use std::alloc::{AllocError, Global};
@@ -48,8 +47,5 @@ pub fn mesh<F: Fn(&Feature, &Feature) -> bool>(
     let members = members_of(alloc, topology, layer)?;
     let spans = spans_of(alloc, arcs.len(), &members)?;
     let chosen = choose(alloc, &spans, &members, &filter)?;
-    let stops = stops_of(alloc, arcs, &chosen)?;
-    let parts = part(alloc, arcs, &chosen, &stops)?;
-    let segments = segments_of(alloc, arcs, &parts.joined)?;
-    Ok(maximal_with(alloc, parts.whole, &segments, &stops)?)
+    Ok(lines_over(alloc, topology, &chosen)?)
 }

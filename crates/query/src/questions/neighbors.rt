@@ -5,14 +5,13 @@ ghost use Rattle.shapes.specs.Maps.{features_at};
 ghost use Rattle.shapes.specs.Sets as set;
 ghost use Rattle.theory.specs.Arcs.{AreSortedOnce};
 ghost use Rattle.topo.specs.ItsMap.{ForItsMap};
-ghost use Rattle.topo.specs.OfMap.{body_of};
 ghost use Rattle.query.specs.Neighbors.{ListsNeighbors};
 ghost use Rattle.query.specs.Pairs.{pairs_behind, pairs_among, pair_cmp, with_other, with_others};
-ghost use Rattle.query.specs.Uses.{bodies_uses, use_cmp};
+ghost use Rattle.query.specs.Uses.{geometries_uses, use_cmp};
 ghost use Rattle.query.specs.declared.fault.QueryFault.TheVariants.{NoLayer as MissingLayer};
 
 use crate::fault::QueryFault;
-use crate::uses::{Use, note_body};
+use crate::uses::{Use, note_geometries};
 use std::alloc::{AllocError, Global};
 use topo::{Geom, Topology};
 
@@ -25,12 +24,10 @@ struct Pair {
 
 /// Which features use which arc, place by place.
 fn all_uses(alloc: Global, geometries: &[Geom]) -> Result<Vec<Use>, AllocError>
-    ensures { IfOk result (λ v. v.items ≡ bodies_uses 0 (map_list (λ g. body_of g.body) geometries.now)) }
+    ensures { IfOk result (λ v. v.items ≡ geometries_uses geometries.now) }
 {
     let mut uses = Vec::new(alloc);
-    for place in 0..geometries.len() {
-        note_body(&mut uses, place, &geometries[place].body)?;
-    }
+    note_geometries(&mut uses, geometries)?;
     Ok(uses)
 }
 

@@ -56,7 +56,7 @@ returns-in-Ok-clause-merged g c =
       grid = grid;
       maps = map (λ m. m.layers) k.meanings;
       meant = read_meant (λ m. m.grid) (λ m. m.layers) grid texts k.meanings k.read (subst (λ h. All (λ m. m.grid ≡ h) k.meanings) (sym (c.in-Ok.ensures.grid common on)) meant);
-      text = c.in_ok-text-in-Ok.ensures.text
+      text = c.in_ok-into_text-in-Ok.ensures.text
           ∙ ap (canon grid) (c.in-Ok.ensures.union ∙ kept_union g.S.Shard.grid_of g.S.Shard.map_of texts marks grids shards k (leaves c.args.plan.now) named_are places);
     }
 
@@ -69,4 +69,4 @@ returns-in-Ok-clause-accepted g c =
     let named_are = c.deref.ensures.value ∙ c.in_ok-named.ensures ∙ ap (λ n. named n (leaves c.args.plan.now)) (sym count) in
     means_union texts c.args.plan.now _ (returns-in-Ok-clause-merged g c) (g.S.Shard.map_of c.in-Ok.shard)
     (c.in-Ok.ensures.union ∙ kept_union g.S.Shard.grid_of g.S.Shard.map_of texts c.deref.result.now c.in_ok-grids.grids.items c.in_ok-grids.shards.items c.in_ok-grids.ensures.read (leaves c.args.plan.now) named_are places)
-    c.in_ok-text-in-Ok.ensures.accepted
+    c.in_ok-into_text-in-Ok.ensures.accepted

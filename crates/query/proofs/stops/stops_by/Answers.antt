@@ -1,13 +1,15 @@
-use Rattle.std.proofs.Common.{ap, sym, ◌∙◌, drop, ◌+◌}
-use Rattle.chains.specs.Among.{among}
-use Rattle.lines.proofs.Dropping.{drop_item}
-use Rattle.query.specs.Stops.{sides_in, stop_all}
+use Rattle.chains.proofs.Merged.{emptied}
+use Rattle.query.proofs.Sides.{judging_over, judging_starts, judging_step}
 use Rattle.query.proofs.stops.stops_by.Goals as goal
 
-pub loop-end-preserved : goal.loop-end-preserved
-loop-end-preserved c = λ q.
-    let f = sides_in c.args.sides.now in
-    ap (λ b. stop_all f q b (drop (c.loop-end.end-index + 1) c.args.ends.now)) (c.in_ok-note_stop.ensures q)
-    ∙ ap (stop_all f q (among c.loop-end.stops.keys q))
-    (sym (drop_item c.args.ends.now c.loop-end.end-index c.end-item.result c.loop-end-test.true c.end-item.is))
-    ∙ c.loop-end.invariant q
+pub loop-first-init : goal.loop-first-init
+loop-first-init c = λ g. judging_starts c.args.ends.now c.new-stops.result.keys c.new-stops.ensures.empty g
+
+pub loop-first-preserved : goal.loop-first-preserved
+loop-first-preserved c = λ g.
+    judging_step c.args.ends.now c.loop-first.left.now c.in-Some.others.now c.in-Some.first.now c.count_of.result c.split_at.result.0.now c.split_at.result.1.now c.sides_of.result
+    c.loop-first.stops.keys c.note_stop.new.stops.keys c.in-Some.ensures.cases.0 c.count_of.ensures.count c.split_at.ensures.front c.split_at.ensures.back c.sides_of.ensures
+    c.in_ok-note_stop.ensures (c.loop-first.invariant g)
+
+pub returns : goal.returns
+returns c = λ g. judging_over c.args.ends.now c.loop-first.left.now c.loop-first.stops.keys (emptied c.loop-first.left.now c.in_default.ensures.cases) (c.loop-first.invariant g)

@@ -1,9 +1,10 @@
-use Rattle.std.proofs.Common.{◌≡◌, drop, false}
-use Rattle.grid.specs.declared.pos.Pos.{Pos}
-use Rattle.chains.specs.Among.{among}
-use Rattle.query.specs.Stops.{sides_in, stop_all}
+use Rattle.std.proofs.Common.{length}
+use Rattle.query.specs.Ends.{StandByVertex}
+use Rattle.query.proofs.Sides.{Judging}
 use Rattle.query.proofs.stops.stops_by.Given as goal
 
-abbrev pub invariant-loop-end : goal.invariant-loop-end
-invariant-loop-end l =
-    (q : Pos) → stop_all (sides_in l.sides) q (among l.stops.keys q) (drop l.end-index l.ends) ≡ stop_all (sides_in l.sides) q false l.ends
+abbrev pub invariant-loop-first : goal.invariant-loop-first
+invariant-loop-first l = StandByVertex l.fn.ends → Judging l.fn.ends l.left l.stops.keys
+
+abbrev pub decreases-loop-first : goal.decreases-loop-first
+decreases-loop-first l = length l.left

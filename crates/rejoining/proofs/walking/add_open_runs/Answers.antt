@@ -3,14 +3,14 @@ use Rattle.rejoining.proofs.WalkedRuns.{all_begun, begun_start, begun_step}
 use Rattle.rejoining.proofs.walking.add_open_runs.Goals as goal
 
 pub loop-arc-init : goal.loop-arc-init
-loop-arc-init c = λ p e f.
-    begun_start c.args.kept.now (partner_in c.args.meeting.now) p c.args.left.now.items c.args.runs.now.items e f
+loop-arc-init c = λ p w.
+    begun_start c.args.kept.now (partner_in c.args.meeting.now) p c.args.left.now.items c.args.runs.now.items w
 
 pub loop-arc-preserved : goal.loop-arc-preserved
-loop-arc-preserved c = λ p e f.
+loop-arc-preserved c = λ p w.
     begun_step c.args.kept.now (partner_in c.args.meeting.now) p c.loop-arc.arc c.loop-arc.left.items c.add_begun.new.left.items c.add_begun-in-loop-arc.new.left.items
-    c.loop-arc.runs.items c.add_begun.new.runs.items c.add_begun-in-loop-arc.new.runs.items (c.loop-arc.invariant p e f) c.in_ok-add_begun.ensures c.in_ok-add_begun-2.ensures
+    c.loop-arc.runs.items c.add_begun.new.runs.items c.add_begun-in-loop-arc.new.runs.items (c.loop-arc.invariant p w) c.in_ok-add_begun.ensures c.in_ok-add_begun-2.ensures
 
 pub returns : goal.returns
-returns c = λ p e f.
-    all_begun c.args.kept.now (partner_in c.args.meeting.now) p c.loop-arc.arc c.loop-arc.left.items c.loop-arc.runs.items c.loop-arc-test.false (c.loop-arc.invariant p e f)
+returns c = λ p w.
+    all_begun c.args.kept.now (partner_in c.args.meeting.now) p c.loop-arc.arc c.loop-arc.left.items c.loop-arc.runs.items c.loop-arc-test.false (c.loop-arc.invariant p w)

@@ -1,10 +1,9 @@
-use Rattle.std.proofs.Common.{◌≡◌, []}
 use Rattle.rejoining.specs.Meeting.{partner_in}
-use Rattle.rejoining.specs.Walks.{ArePaired}
+use Rattle.rejoining.specs.Walks.{ArePaired, AreWalked}
 use Rattle.rejoining.proofs.WalkedRuns.{Begun}
 use Rattle.rejoining.proofs.walking.add_open_runs.Given as goal
 
 abbrev pub invariant-loop-arc : goal.invariant-loop-arc
 invariant-loop-arc l =
-    (p : ArePaired l.fn.kept (partner_in l.fn.meeting)) → l.fn.left.items ≡ l.fn.kept → l.fn.runs.items ≡ [] →
+    (p : ArePaired l.fn.kept (partner_in l.fn.meeting)) → AreWalked l.fn.kept (partner_in l.fn.meeting) l.fn.left.items l.fn.runs.items →
     Begun l.fn.kept (partner_in l.fn.meeting) p l.arc l.left.items l.runs.items

@@ -1,5 +1,7 @@
 use Rattle.std.proofs.Common.{◌≡◌, ◌∙◌, ap, subst, sym}
-use Rattle.standing.specs.Apart.{each_apart, has_twins}
+use Rattle.standing.specs.Apart.{has_twins}
+use Rattle.standing.specs.Ends.{each_ends}
+use Rattle.standing.specs.declared.ends.EndsAre.TheVariants.{Apart}
 use Rattle.standing.specs.Elsewhere.{KeepsElsewhere}
 use Rattle.standing.proofs.ApartArcs.{apart_ends, apart_intro, looked_at, twins_not_apart}
 use Rattle.standing.proofs.apart.is_apart.Goals as goal
@@ -23,7 +25,7 @@ returns c = λ asc.
     let t = c.args.table.now in
     let sorted = c.sort_unstable.new.self.items in
     let few : KeepsElsewhere c.in_ok-few.few.items c.in_ok-inside.inside.items t.arcs = subst (λ l. KeepsElsewhere c.in_ok-few.few.items l t.arcs) c.deref.ensures.value c.in_ok-few.ensures in
-    let told : c.each_apart.result ≡ each_apart sorted t.loops t.arcs = c.each_apart.ensures ∙ ap (λ w. each_apart w t.loops t.arcs) c.deref-3.ensures.value in (
+    let told : c.each_ends.result ≡ each_ends Apart sorted t.loops t.arcs = c.each_ends.ensures ∙ ap (λ w. each_ends Apart w t.loops t.arcs) c.deref-3.ensures.value in (
       (λ h. apart_intro t c.in_ok-inside.inside.items c.in_ok-few.few.items sorted c.in_ok-inside.ensures few c.sort_unstable.ensures.permutation c.sort_unstable.ensures.sorted asc
           (sym c.each_stands.ensures ∙ c.if-not-each_stands.false)
           (sym (c.has_twins.ensures ∙ ap has_twins c.deref-2.ensures.value) ∙ c.if-has_twins.false) (sym told ∙ h)),

@@ -1,4 +1,4 @@
-use Rattle.std.proofs.Common.{◌≡◌, ◌++◌, ◌∙◌, ap, IfOk, List, Result, Ok, Err, subst, sym, Vec}
+use Rattle.std.proofs.Common.{◌≡◌, ◌++◌, ◌∙◌, ap, IfOk, List, Result, Ok, Err, subst, Vec}
 use Rattle.std.specs.declared.alloc.Global.{Global}
 use Rattle.grid.specs.declared.pos.Pos.{Pos}
 use Rattle.lines.specs.Bits.{may_hold}

@@ -1,6 +1,8 @@
 use Rattle.std.proofs.Common.{◌++◌, ◌∙◌, ap, subst}
 use Rattle.std.specs.List.Sorted.{IsPermutation}
-use Rattle.standing.specs.Meeting.{again, each_meets}
+use Rattle.standing.specs.Meeting.{again}
+use Rattle.standing.specs.Ends.{each_ends}
+use Rattle.standing.specs.declared.ends.EndsAre.TheVariants.{Among}
 use Rattle.standing.proofs.Meets.{meeting_told}
 use Rattle.standing.proofs.meeting.ends_meet.Goals as goal
 
@@ -15,4 +17,4 @@ returns c =
     (c.in_ok-extend_from_slice.ensures.items ∙ ap (λ w. w ++ lines)
     (c.in_ok-meeting.ensures ∙ ap again (c.deref-2.ensures.value ∙ c.in_ok-twice.ensures ∙ ap again c.deref.ensures.value)))
     c.sort_unstable-2.ensures.permutation)
-    c.each_meets.result (c.each_meets.ensures ∙ ap (λ w. each_meets w t.loops t.arcs) c.deref-3.ensures.value)
+    c.each_ends.result (c.each_ends.ensures ∙ ap (λ w. each_ends Among w t.loops t.arcs) c.deref-3.ensures.value)

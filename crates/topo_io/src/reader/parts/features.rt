@@ -8,7 +8,8 @@ ghost use Rattle.faults.specs.Fault.{IsWant};
 ghost use Rattle.shapes.specs.Fitting.{MapFits};
 ghost use Rattle.shapes.specs.Ids.{HasI64};
 ghost use Rattle.shapes.specs.Parts.{spelled_text};
-ghost use Rattle.reading.specs.Plain.{plain, plain_form};
+ghost use Rattle.grid.specs.declared.pos.Pos.{Pos};
+ghost use Rattle.reading.specs.Plain.{Plain, plain, plain_form};
 ghost use Rattle.topo.specs.OfMap.{body_of};
 ghost use Rattle.topo_io.specs.Layers.{plain_layer, layer_read, with_layers};
 ghost use Rattle.topo_io.specs.Means.{Means};
@@ -32,47 +33,92 @@ use std::alloc::Global;
 use taking::TextArcs;
 use topo::{Body, Geom, Layer};
 
-fn lines_of(alloc: Global, arcs: &TextArcs, lists: &[Items<ArcRef>]) -> Result<Items<Line>, Fault>
-    ensures ok { OnOk result (AllByRecursion (StitchToLine arcs.now) lists.now) }
-    ensures made { IfOk result (λ ls. map_list positions_of ls ≡ map_list (line_along arcs.now) lists.now) }
-    ensures err { IfErr result (NotOrWant (AllByRecursion (StitchToLine arcs.now) lists.now)) }
-{
-    let mut lines = room(alloc, lists.len())?;
-    for used in lists {
-        let line = stitched_line(alloc, arcs, used.as_slice())?;
-        keep(&mut lines, line)?;
-    }
-    Ok(Items::from_vec(lines))
+/// What is stitched together from the arcs of a text.
+trait Stitched: Sized + Drop {
+    /// What it is stitched from.
+    type From: Drop;
+
+    ghost Seen: { Type 0 };
+
+    // How it is seen.
+    ghost seen: { Self → Seen };
+
+    // Whether its lists stitch.
+    ghost stitches: { List (List Pos) → Self.From → Type 0 };
+
+    // What is seen of what they stitch to.
+    ghost along: { List (List Pos) → Self.From → Seen };
+
+    fn stitched(alloc: Global, arcs: &TextArcs, from: Self::From) -> Result<Self, Fault>
+        ensures ok { OnOk result (stitches arcs.now from) }
+        ensures made { IfOk result (λ made. seen made ≡ along arcs.now from) }
+        ensures err { IfErr result (NotOrWant (stitches arcs.now from)) };
 }
 
-fn rings_of(alloc: Global, arcs: &TextArcs, lists: &[Items<ArcRef>]) -> Result<Items<Ring>, Fault>
-    ensures ok { OnOk result (AllByRecursion (StitchToRing arcs.now) lists.now) }
-    ensures made { IfOk result (λ rs. map_list vertices_of rs ≡ map_list (ring_along arcs.now) lists.now) }
-    ensures err { IfErr result (NotOrWant (AllByRecursion (StitchToRing arcs.now) lists.now)) }
-{
-    let mut rings = room(alloc, lists.len())?;
-    for used in lists {
-        let ring = stitched_ring(alloc, arcs, used.as_slice())?;
-        keep(&mut rings, ring)?;
+impl Stitched for Line {
+    type From = Items<ArcRef>;
+
+    ghost Seen = { List Pos };
+
+    ghost seen = { positions_of };
+
+    ghost stitches = { StitchToLine };
+
+    ghost along = { line_along };
+
+    fn stitched(alloc: Global, arcs: &TextArcs, from: Items<ArcRef>) -> Result<Line, Fault> {
+        stitched_line(alloc, arcs, from.as_slice())
     }
-    Ok(Items::from_vec(rings))
 }
 
-fn polygons_of(
+impl Stitched for Ring {
+    type From = Items<ArcRef>;
+
+    ghost Seen = { List Pos };
+
+    ghost seen = { vertices_of };
+
+    ghost stitches = { StitchToRing };
+
+    ghost along = { ring_along };
+
+    fn stitched(alloc: Global, arcs: &TextArcs, from: Items<ArcRef>) -> Result<Ring, Fault> {
+        stitched_ring(alloc, arcs, from.as_slice())
+    }
+}
+
+/// What each part stitches to, in their order.
+fn each_stitched<S: Stitched>(
     alloc: Global,
     arcs: &TextArcs,
-    polygons: &[Items<Items<ArcRef>>],
-) -> Result<Items<Items<Ring>>, Fault>
-    ensures ok { OnOk result (AllByRecursion (AllByRecursion (StitchToRing arcs.now)) polygons.now) }
-    ensures made { IfOk result (λ ps. map_list (map_list vertices_of) ps ≡ map_list (map_list (ring_along arcs.now)) polygons.now) }
-    ensures err { IfErr result (NotOrWant (AllByRecursion (AllByRecursion (StitchToRing arcs.now)) polygons.now)) }
+    parts: Vec<S::From>,
+) -> Result<Vec<S>, Fault>
+    ensures ok { OnOk result (AllByRecursion (S.stitches arcs.now) parts.items) }
+    ensures made { IfOk result (λ v. map_list S.seen v.items ≡ map_list (S.along arcs.now) parts.items) }
+    ensures err { IfErr result (NotOrWant (AllByRecursion (S.stitches arcs.now) parts.items)) }
 {
-    let mut made = room(alloc, polygons.len())?;
-    for lists in polygons {
-        let rings = rings_of(alloc, arcs, lists.as_slice())?;
-        keep(&mut made, rings)?;
+    let mut made = room(alloc, parts.len())?;
+    for part in parts {
+        let stitched = S::stitched(alloc, arcs, part)?;
+        keep(&mut made, stitched)?;
     }
-    Ok(Items::from_vec(made))
+    Ok(made)
+}
+
+impl<S: Stitched> Stitched for Items<S> {
+    type From = Items<S::From>;
+
+    ghost Seen = { List S.Seen };
+
+    ghost seen = { map_list S.seen };
+
+    ghost stitches = { λ arcs. AllByRecursion (S.stitches arcs) };
+
+    ghost along = { λ arcs. map_list (S.along arcs) };
+
+    fn stitched(alloc: Global, arcs: &TextArcs, from: Items<S::From>) -> Result<Items<S>, Fault> {
+        Ok(Items::from_vec(each_stitched(alloc, arcs, from.into_vec())?))
+    }
 }
 
 fn shape_of(alloc: Global, arcs: &TextArcs, body: Body) -> Result<Shape, Fault>
@@ -84,14 +130,12 @@ fn shape_of(alloc: Global, arcs: &TextArcs, body: Body) -> Result<Shape, Fault>
         Body::Null => Ok(Shape::Null),
         Body::Point(p) => Ok(Shape::Point(p)),
         Body::MultiPoint(ps) => Ok(Shape::MultiPoint(ps)),
-        Body::Line(used) => Ok(Shape::Line(stitched_line(alloc, arcs, used.as_slice())?)),
-        Body::MultiLine(lists) => Ok(Shape::MultiLine(lines_of(alloc, arcs, lists.as_slice())?)),
-        Body::Polygon(lists) => Ok(Shape::Polygon(rings_of(alloc, arcs, lists.as_slice())?)),
-        Body::MultiPolygon(polygons) => Ok(Shape::MultiPolygon(polygons_of(
-            alloc,
-            arcs,
-            polygons.as_slice(),
-        )?)),
+        Body::Line(used) => Ok(Shape::Line(Line::stitched(alloc, arcs, used)?)),
+        Body::MultiLine(lists) => Ok(Shape::MultiLine(Items::stitched(alloc, arcs, lists)?)),
+        Body::Polygon(lists) => Ok(Shape::Polygon(Items::stitched(alloc, arcs, lists)?)),
+        Body::MultiPolygon(polygons) => {
+            Ok(Shape::MultiPolygon(Items::stitched(alloc, arcs, polygons)?))
+        }
     }
 }
 
@@ -104,15 +148,23 @@ fn judge_id(id: &Id)
     }
 }
 
-fn feature_of(alloc: Global, arcs: &TextArcs, geometry: Geom) -> Result<Feature, Fault>
-    ensures ok { OnOk result (GeomStitches arcs.now (plain_geom geometry)) }
-    ensures made { IfOk result (λ f. plain f ≡ feature_along arcs.now (plain_geom geometry)) }
-    ensures err { IfErr result (NotOrWant (GeomStitches arcs.now (plain_geom geometry))) }
-{
-    let Geom { id, props, body } = geometry;
-    judge_id(&id);
-    let shape = shape_of(alloc, arcs, body)?;
-    Ok(Feature { id, props, shape })
+impl Stitched for Feature {
+    type From = Geom;
+
+    ghost Seen = { Plain };
+
+    ghost seen = { plain };
+
+    ghost stitches = { λ arcs g. GeomStitches arcs (plain_geom g) };
+
+    ghost along = { λ arcs g. feature_along arcs (plain_geom g) };
+
+    fn stitched(alloc: Global, arcs: &TextArcs, from: Geom) -> Result<Feature, Fault> {
+        let Geom { id, props, body } = from;
+        judge_id(&id);
+        let shape = shape_of(alloc, arcs, body)?;
+        Ok(Feature { id, props, shape })
+    }
 }
 
 fn features_of(alloc: Global, arcs: &TextArcs, geometries: Vec<Geom>) -> Result<Vec<Feature>, Fault>
@@ -120,12 +172,7 @@ fn features_of(alloc: Global, arcs: &TextArcs, geometries: Vec<Geom>) -> Result<
     ensures made { IfOk result (λ fs. map_list plain fs.items ≡ map_list (feature_along arcs.now) (map_list plain_geom geometries.items)) }
     ensures err { IfErr result (NotOrWant (AllByRecursion (GeomStitches arcs.now) (map_list plain_geom geometries.items))) }
 {
-    let mut features = room(alloc, geometries.len())?;
-    for geometry in geometries {
-        let feature = feature_of(alloc, arcs, geometry)?;
-        keep(&mut features, feature)?;
-    }
-    Ok(features)
+    each_stitched(alloc, arcs, geometries)
 }
 
 fn name_of(alloc: Global, text: &str) -> Result<String, Fault>
@@ -138,32 +185,37 @@ fn name_of(alloc: Global, text: &str) -> Result<String, Fault>
     }
 }
 
-fn layer_of(alloc: Global, arcs: &TextArcs, layer: Layer) -> Result<(String, Vec<Feature>), Fault>
-    ensures ok { OnOk result (LayerStitches arcs.now (layer_of_geoms layer)) }
-    ensures made { IfOk result (λ l. plain_layer l ≡ layer_along arcs.now (layer_of_geoms layer)) }
-    ensures err { IfErr result (NotOrWant (LayerStitches arcs.now (layer_of_geoms layer))) }
-{
-    let (name, geometries) = layer.into_parts();
-    let features = features_of(alloc, arcs, geometries)?;
-    let name = name_of(alloc, name.text())?;
-    Ok((name, features))
+type NamedFeatures = (String, Vec<Feature>);
+
+impl Stitched for NamedFeatures {
+    type From = Layer;
+
+    ghost Seen = { List ℕ × List Plain };
+
+    ghost seen = { plain_layer };
+
+    ghost stitches = { λ arcs l. LayerStitches arcs (layer_of_geoms l) };
+
+    ghost along = { λ arcs l. layer_along arcs (layer_of_geoms l) };
+
+    fn stitched(alloc: Global, arcs: &TextArcs, from: Layer) -> Result<NamedFeatures, Fault> {
+        let (name, geometries) = from.into_parts();
+        let features = features_of(alloc, arcs, geometries)?;
+        let name = name_of(alloc, name.text())?;
+        Ok((name, features))
+    }
 }
 
 fn layers_of(
     alloc: Global,
     arcs: &TextArcs,
     layers: Vec<Layer>,
-) -> Result<Vec<(String, Vec<Feature>)>, Fault>
+) -> Result<Vec<NamedFeatures>, Fault>
     ensures ok { OnOk result (AllByRecursion (LayerStitches arcs.now) (map_list layer_of_geoms layers.items)) }
     ensures made { IfOk result (λ ls. map_list plain_layer ls.items ≡ map_list (layer_along arcs.now) (map_list layer_of_geoms layers.items)) }
     ensures err { IfErr result (NotOrWant (AllByRecursion (LayerStitches arcs.now) (map_list layer_of_geoms layers.items))) }
 {
-    let mut named = room(alloc, layers.len())?;
-    for layer in layers {
-        let layer = layer_of(alloc, arcs, layer)?;
-        keep(&mut named, layer)?;
-    }
-    Ok(named)
+    each_stitched(alloc, arcs, layers)
 }
 
 fn stitched_map(alloc: Global, arcs: &TextArcs, layers: Vec<Layer>) -> Result<FeatureMap, Fault>

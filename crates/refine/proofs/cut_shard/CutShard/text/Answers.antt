@@ -23,10 +23,10 @@ returns-then-is_empty-clause-accepted c =
     (λ t is fits. subst (λ s. Means t.items s.grid s.map) same (is (subst (λ s. MapFits s.grid s.map) (sym same) fits))) c.text_of_kept.ensures.accepted
 
 pub returns-clause-text : goal.returns-clause-text
-returns-clause-text c = IfOk-weaker c.text_of_kept-2.result _ _ (λ t is. is ∙ ap (λ s. canon s.grid s.map) c.in_ok-whole.ensures) c.text_of_kept-2.ensures.text
+returns-clause-text c = IfOk-weaker c.into_text.result _ _ (λ t is. is ∙ ap (λ s. canon s.grid s.map) c.in_ok-copied.ensures) c.into_text.ensures.text
 
 pub returns-clause-accepted : goal.returns-clause-accepted
 returns-clause-accepted c =
-    let same = c.in_ok-whole.ensures in
-    IfOk-weaker c.text_of_kept-2.result _ _
-    (λ t is fits. subst (λ s. Means t.items s.grid s.map) same (is (subst (λ s. MapFits s.grid s.map) (sym same) fits))) c.text_of_kept-2.ensures.accepted
+    let same = c.in_ok-copied.ensures in
+    IfOk-weaker c.into_text.result _ _
+    (λ t is fits. subst (λ s. Means t.items s.grid s.map) same (is (subst (λ s. MapFits s.grid s.map) (sym same) fits))) c.into_text.ensures.accepted

@@ -1,11 +1,12 @@
-use Rattle.std.proofs.Common.{◌≡◌, arith}
-use Rattle.std.proofs.lemmas.Grind.{common_steps}
-use Rattle.theory.specs.Removing.{rejoined}
 use Rattle.rejoining.specs.Starts.{starts_by}
-use Rattle.rejoining.proofs.NewLists.{line_rejoined}
+use Rattle.rejoining.proofs.NewLists.{line_read, line_rejoined}
 use Rattle.rejoining.proofs.rejoined.Rejoined.line.Goals as goal
+
+pub returns-clause-computed : goal.returns-clause-computed
+returns-clause-computed c =
+    line_read (starts_by c.args.self.now.pieces) c.args.used.now c.in_ok-refs.refs.items c.read_each.new.refs.items _ c.in_ok-refs.ensures.items c.in_ok-read_each.ensures
 
 pub returns-clause-stitches : goal.returns-clause-stitches
 returns-clause-stitches c =
-    let e : c.loop-arc.refs.items ≡ rejoined (starts_by c.args.self.now.pieces) 0 c.args.used.now = grind (arith, common_steps) in
-    line_rejoined c.args.self.now.arcs.arcs c.args.self.now.pieces c.args.used.now c.loop-arc.refs.items e
+    line_rejoined c.args.self.now.arcs.arcs c.args.self.now.pieces c.args.used.now c.read_each.new.refs.items
+    (line_read (starts_by c.args.self.now.pieces) c.args.used.now c.in_ok-refs.refs.items c.read_each.new.refs.items _ c.in_ok-refs.ensures.items c.in_ok-read_each.ensures)

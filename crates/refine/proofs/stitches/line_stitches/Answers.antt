@@ -1,0 +1,10 @@
+use Rattle.std.proofs.Common.{◌≡◌, ◌++◌, ◌↔◌, List, [], true, subst}
+use Rattle.grid.specs.declared.pos.Pos.{Pos}
+use Rattle.topo.specs.Walked.{walked}
+use Rattle.refine.proofs.Stitching.{line_told}
+use Rattle.refine.proofs.stitches.line_stitches.Goals as goal
+
+pub returns : goal.returns
+returns c =
+    let arcs : List (List Pos) = c.args.topology.now.arcs.arcs in
+    line_told arcs c.args.line.now c.args.used.now c.goes_along.result c.requires (subst (λ l. (c.goes_along.result ≡ true) ↔ (walked arcs c.args.used.now ≡ l ++ [])) c.positions.ensures.positions c.goes_along.ensures)
