@@ -34,7 +34,7 @@ import time
 sys.dont_write_bytecode = True
 
 from generate import write_collection
-from measuring import GRID, HERE, TOOL, Failed, end_with, need_tool, run_once, same_bytes, stop
+from measuring import GRID, HERE, TOOL, Failed, end_with, need, run_once, same_bytes, stop
 
 SOURCE = os.path.join(HERE, "chosen_hashes.c")
 COMPILERS = ["cc", "gcc", "clang"]
@@ -298,7 +298,7 @@ def main():
     words = parser.parse_args()
     if words.lines < 2 or words.runs < 1:
         stop("at least two lines and one run are needed")
-    need_tool(words.tool)
+    need(words.tool)
     clock = Clock(words.seconds)
     with tempfile.TemporaryDirectory() as folder:
         finder = compiled_finder(folder)

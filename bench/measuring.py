@@ -1,5 +1,6 @@
 """What the scripts share that measure programs: running one, comparing bytes, making tilings."""
 
+import argparse
 import filecmp
 import os
 import resource
@@ -40,9 +41,20 @@ def stop(why):
     sys.exit(2)
 
 
-def need_tool(tool):
-    if not os.access(tool, os.X_OK):
-        stop(f"{tool} is not there: build it by rt run in crates/topotool")
+def need(*programs):
+    """Ends where a program is not there."""
+    for program in programs:
+        if not os.access(program, os.X_OK):
+            stop(f"{program} is not there: build it by rt run in crates/{os.path.basename(program)}")
+
+
+def parser_of(description, runs=5):
+    """A parser of the words that most scripts take."""
+    parser = argparse.ArgumentParser(description=description)
+    parser.add_argument("--positions", type=int, default=1_000_000)
+    parser.add_argument("--seed", type=int, default=1)
+    parser.add_argument("--runs", type=int, default=runs)
+    return parser
 
 
 def run_once(words, out, most_seconds=None):
@@ -68,10 +80,22 @@ def least(measures):
     )
 
 
+def by_turns(programs, out, runs, look=None):
+    """The measures of programs, by their keys, that are run by turns, so that all meet the same hours of a shared
+    machine. After each run `look` is called with the program's key, while what it printed stands in `out`.
+    """
+    measures = {}
+    for _ in range(runs):
+        for key, words in programs.items():
+            measures.setdefault(key, []).append(run_once(words, out))
+            if look:
+                look(key)
+    return {key: least(each) for key, each in measures.items()}
+
+
 def measure_both(command, other, out, runs):
-    """Runs two programs by turns, so that both meet the same hours of a shared machine."""
-    pairs = [(run_once(command, out), run_once(other, out)) for _ in range(runs)]
-    return least([pair[0] for pair in pairs]), least([pair[1] for pair in pairs])
+    """The measures of two programs that are run by turns."""
+    return by_turns({"command": command, "other": other}, out, runs).values()
 
 
 def write_tiling(folder, positions, seed, shards):
@@ -83,6 +107,21 @@ def write_tiling(folder, positions, seed, shards):
     words += ["--shards", str(shards)]
     told = subprocess.run(words, check=True, capture_output=True, text=True).stdout
     return int(told.split()[0])
+
+
+def build_topology(source, to):
+    """Builds the topology of a GeoJSON file, as the layer `a`."""
+    run_once([TOOL, "build", *GRID, f"a={source}"], to)
+
+
+def make_topologies(folder, positions, seed, shards):
+    """Writes a tiling, its topology and those of its shards, and answers how many positions it has and the files."""
+    count = write_tiling(folder, positions, seed, shards)
+    names = [os.path.join(folder, name) for name in ("tiling", *[f"shard_{shard:02}" for shard in range(shards)])]
+    for name in names:
+        build_topology(f"{name}.json", f"{name}.topo.json")
+    whole, *parts = [f"{name}.topo.json" for name in names]
+    return count, whole, parts
 
 
 def same_bytes(left, right):

@@ -7,56 +7,42 @@
 builds the programs and prints, for tilings that are spread over 16 and over 256 shards, what merging
 takes in each grouping, with plans that are run as they stand, and what the command takes, which
 chooses its own grouping; each in times of reading the shards' values alone. Then the same for twice
-as many shards of the same size. Times are processor times (user and system), taken by turns, and the
-least of some runs counts. All texts are compared byte by byte.
+as many shards of the same size. Times are processor times (user and system), the least of some runs;
+both sizes are measured by the same turns. All texts are compared byte by byte with the build of the
+whole.
 """
 
-import argparse
 import os
 import sys
 import tempfile
 
 sys.dont_write_bytecode = True
 
-from measuring import BENCH, TOOL, end_with, least, need_tool, run_once, same_bytes, write_tiling
+from measuring import BENCH, TOOL, by_turns, end_with, make_topologies, need, parser_of, same_bytes
 
 SHAPES = ["left", "right", "halves"]
 
 
-def make_shards(folder, positions, seed, shards):
-    """Writes the shards' topologies, and answers how many positions there are and the files."""
-    count = write_tiling(folder, positions, seed, shards)
-    names = []
-    for number in range(shards):
-        name = os.path.join(folder, f"shard_{number:02}.json")
-        names.append(name + ".topo.json")
-        run_once([TOOL, "build", "--grid", "1,1,0,0", f"a={name}"], names[-1])
-    return count, names
-
-
-def rows(names):
-    """What is measured: its title and its words."""
-    told = [("value alone", [BENCH, "values", *names])]
-    told.append(("merge", [TOOL, "merge", *names]))
+def rows(shards):
+    """What is measured: titles and words."""
+    told = {"value alone": [BENCH, "values", *shards], "merge": [TOOL, "merge", *shards]}
     for kind in ["whole", "cut"]:
         for shape in SHAPES:
-            told.append((f"{kind}, {shape}", [BENCH, "merge", kind, shape, *names]))
+            told[f"{kind}, {shape}"] = [BENCH, "merge", kind, shape, *shards]
     return told
 
 
-def measure_rows(folder, names, runs):
-    """The least seconds and the most megabytes of each row, by turns."""
-    first = os.path.join(folder, "first")
-    out = os.path.join(folder, "out")
-    measures = {}
-    for _ in range(runs):
-        for title, words in rows(names):
-            measures.setdefault(title, []).append(run_once(words, out))
-            if title == "merge":
-                os.replace(out, first)
-            elif title != "value alone" and not same_bytes(first, out):
-                sys.exit(f"{title}: another text")
-    return {title: least(each) for title, each in measures.items()}
+def measure_sizes(sizes, out, runs):
+    """The measures of each row at each size, all by turns: every merge prints the topology of the whole."""
+    programs = {(size, title): words for size, (_, _, shards) in enumerate(sizes) for title, words in rows(shards).items()}
+
+    def look(key):
+        size, title = key
+        if title != "value alone" and not same_bytes(out, sizes[size][1]):
+            sys.exit(f"{title}: another text than that of the whole")
+
+    measures = by_turns(programs, out, runs, look)
+    return [{title: measures[size, title] for title in rows(shards)} for size, (_, _, shards) in enumerate(sizes)]
 
 
 def print_rows(count, shards, measures, before):
@@ -73,23 +59,25 @@ def print_rows(count, shards, measures, before):
         )
 
 
+def measure_shards(folder, shards, words):
+    """Prints the rows of a tiling over this many shards, and of one twice as large over twice as many."""
+    sizes = []
+    for times in (1, 2):
+        part = os.path.join(folder, str(times))
+        os.mkdir(part)
+        sizes.append(make_topologies(part, times * words.positions, words.seed, times * shards))
+    before = None
+    for (count, _, parts), measures in zip(sizes, measure_sizes(sizes, os.path.join(folder, "out"), words.runs)):
+        print_rows(count, len(parts), measures, before)
+        before = measures
+
+
 def main():
-    parser = argparse.ArgumentParser(description="Measures merging over both kinds of shards.")
-    parser.add_argument("--positions", type=int, default=1_000_000)
-    parser.add_argument("--seed", type=int, default=1)
-    parser.add_argument("--runs", type=int, default=3)
-    words = parser.parse_args()
-    for path in [TOOL, BENCH]:
-        need_tool(path)
-    for shards in [16, 256]:
-        before = None
-        for times in [1, 2]:
-            with tempfile.TemporaryDirectory() as folder:
-                size = times * words.positions
-                count, names = make_shards(folder, size, words.seed, times * shards)
-                measures = measure_rows(folder, names, words.runs)
-                print_rows(count, times * shards, measures, before)
-                before = measures
+    words = parser_of("Measures merging over both kinds of shards.", runs=3).parse_args()
+    need(TOOL, BENCH)
+    for shards in (16, 256):
+        with tempfile.TemporaryDirectory() as folder:
+            measure_shards(folder, shards, words)
 
 
 if __name__ == "__main__":

@@ -12,7 +12,6 @@ command did before topologies were taken as they stand, by turns in one run. Bot
 times (user and system), the least of some runs; a ratio above the goal of 1.15 is marked, and no test depends on it.
 """
 
-import argparse
 import json
 import os
 import random
@@ -21,7 +20,7 @@ import tempfile
 
 sys.dont_write_bytecode = True
 
-from measuring import BENCH, GRID, TOOL, TOP, end_with, measure_both, need_tool, run_once, same_bytes, stop, write_tiling
+from measuring import BENCH, TOOL, TOP, end_with, make_topologies, measure_both, need, parser_of, run_once, same_bytes
 
 sys.path.insert(0, os.path.join(TOP, "tests"))
 
@@ -71,18 +70,10 @@ def measure_form(folder, canonical, name, runs):
 
 
 def main():
-    parser = argparse.ArgumentParser(description="Measures topologies that are not in the canonical form.")
-    parser.add_argument("--positions", type=int, default=1_000_000)
-    parser.add_argument("--seed", type=int, default=1)
-    parser.add_argument("--runs", type=int, default=5)
-    words = parser.parse_args()
-    need_tool(TOOL)
-    if not os.access(BENCH, os.X_OK):
-        stop(f"{BENCH} is not there: build it by rt run in crates/bench_runs")
+    words = parser_of("Measures topologies that are not in the canonical form.").parse_args()
+    need(TOOL, BENCH)
     with tempfile.TemporaryDirectory() as folder:
-        count = write_tiling(folder, words.positions, words.seed, 1)
-        canonical = os.path.join(folder, "canonical")
-        run_once([TOOL, "build", *GRID, "a=" + os.path.join(folder, "tiling.json")], canonical)
+        count, canonical, _ = make_topologies(folder, words.positions, words.seed, 0)
         with open(canonical, encoding="utf-8") as file:
             text = file.read()
         print(f"{count} positions; goal: at most {GOAL} times\n")

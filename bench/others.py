@@ -11,7 +11,6 @@ What is not installed is left out, with a line (Debian: nodejs, node-vega, gdal-
 tests/outside/run.
 """
 
-import argparse
 import os
 import shutil
 import sys
@@ -19,7 +18,7 @@ import tempfile
 
 sys.dont_write_bytecode = True
 
-from measuring import GRID, HERE, TOOL, end_with, measure_both, need_tool, run_once, write_tiling
+from measuring import HERE, TOOL, end_with, make_topologies, measure_both, need, parser_of
 
 MODULES = "/usr/share/nodejs"
 
@@ -42,17 +41,11 @@ def is_there(other):
 
 
 def main():
-    parser = argparse.ArgumentParser(description="Measures commands against topojson-client and GDAL.")
-    parser.add_argument("--positions", type=int, default=1_000_000)
-    parser.add_argument("--seed", type=int, default=1)
-    parser.add_argument("--runs", type=int, default=5)
-    words = parser.parse_args()
-    need_tool(TOOL)
+    words = parser_of("Measures commands against topojson-client and GDAL.").parse_args()
+    need(TOOL)
     os.environ["NODE_PATH"] = MODULES
     with tempfile.TemporaryDirectory() as folder:
-        count = write_tiling(folder, words.positions, words.seed, 1)
-        topology = os.path.join(folder, "topology.json")
-        run_once([TOOL, "build", *GRID, f"a={os.path.join(folder, 'tiling.json')}"], topology)
+        count, topology, _ = make_topologies(folder, words.positions, words.seed, 0)
         print(f"{count} positions\n\n| Command | topotool | the other | topotool takes | memory |\n|---|---|---|---|---|")
         for command, other, ours, theirs in rows(topology):
             if not is_there(other):

@@ -30,7 +30,7 @@ import tempfile
 sys.dont_write_bytecode = True
 
 from measuring import (
-    GRID, HERE, TOOL, TOP, end_with, measure_both, need_tool, run_once, same_bytes, stop, write_tiling
+    GRID, HERE, TOOL, TOP, end_with, measure_both, need, run_once, same_bytes, stop, write_tiling
 )
 from random_maps import random_map
 
@@ -171,7 +171,7 @@ def main():
     words = parser.parse_args()
     if words.runs < 1:
         stop("at least one run is needed")
-    need_tool(words.tool)
+    need(words.tool)
     with tempfile.TemporaryDirectory() as folder:
         plain = compile_plain(folder, words.registry)
         programs = Programs(words.tool, plain, folder)

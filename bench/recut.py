@@ -10,7 +10,6 @@ program that does it several times is compared with one that does it once. Times
 system), taken by turns, and the least of some runs counts. It also compares the numbers of arcs.
 """
 
-import argparse
 import json
 import os
 import sys
@@ -18,7 +17,7 @@ import tempfile
 
 sys.dont_write_bytecode = True
 
-from measuring import BENCH, end_with, run_once, write_tiling
+from measuring import BENCH, end_with, need, parser_of, run_once, write_tiling
 
 
 def write_halves(folder, positions, seed):
@@ -50,12 +49,10 @@ def seconds_each(halves, folder, runs, times):
 
 
 def main():
-    parser = argparse.ArgumentParser(description="Measures cutting arcs again.")
-    parser.add_argument("--positions", type=int, default=1_000_000)
-    parser.add_argument("--seed", type=int, default=1)
-    parser.add_argument("--runs", type=int, default=5)
+    parser = parser_of("Measures cutting arcs again.")
     parser.add_argument("--times", type=int, default=20)
     words = parser.parse_args()
+    need(BENCH)
     before = None
     for positions in [words.positions, 2 * words.positions]:
         with tempfile.TemporaryDirectory() as folder:

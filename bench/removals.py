@@ -8,12 +8,11 @@ builds the program and prints, for tilings of two sizes, what it takes to take o
 first half of the rows, and every second district as on a chequered board, and what building the
 topology of what is left takes, each without reading files or writing the text: a program that does
 it several times is compared with one that does it once. Times are processor times (user and
-system), taken by turns, and the least of some runs counts. The texts of both are compared byte by
-byte. The goal, which no test asks for: at most 0.4 times the build, and at most 2.2 times as long
+system), the least of some runs; both sizes are measured by the same turns. The texts of both are
+compared byte by byte. The goal, which no test asks for: at most 0.4 times the build, and at most 2.2 times as long
 for the double.
 """
 
-import argparse
 import os
 import sys
 import tempfile
@@ -21,7 +20,7 @@ import tempfile
 sys.dont_write_bytecode = True
 
 from generate import features, tiling, write_collection
-from measuring import BENCH, end_with, run_once, same_bytes
+from measuring import BENCH, by_turns, end_with, need, parser_of, same_bytes
 
 GREATEST_RATIO = 0.4
 GREATEST_GROWTH = 2.2
@@ -50,28 +49,32 @@ def write_removal(folder, rows, is_removed):
         write_collection(os.path.join(folder, name), members)
 
 
-def least_seconds(folder, runs, times):
-    """The least seconds of each mode, run with no repetition and with some; both texts are equal."""
-    files = {name: os.path.join(folder, name) for name in ("whole", "removed", "left")}
-    modes = {"remove": [files["whole"], files["removed"]], "build": [files["left"]]}
-    outs = {mode: os.path.join(folder, f"{mode}.out") for mode in modes}
-    least = {}
-    for _ in range(runs):
-        for mode, words in modes.items():
-            for count in (0, times):
-                seconds = run_once([BENCH, mode, str(count), *words], outs[mode]).seconds
-                least[mode, count] = min(seconds, least.get((mode, count), seconds))
-        if not same_bytes(outs["remove"], outs["build"]):
-            sys.exit("the texts differ")
-    return least
+def programs(folder, count):
+    """The words of each mode that does its work so many times."""
+    whole, removed, left = [os.path.join(folder, name) for name in ("whole", "removed", "left")]
+    return {"remove": [BENCH, "remove", str(count), whole, removed], "build": [BENCH, "build", str(count), left]}
 
 
-def seconds_each(rows, is_removed, runs, times):
-    """The seconds of one removal and of one build of what is left."""
-    with tempfile.TemporaryDirectory() as folder:
-        write_removal(folder, rows, is_removed)
-        least = least_seconds(folder, runs, times)
-    return [(least[mode, times] - least[mode, 0]) / times for mode in ("remove", "build")]
+def measure_sizes(folders, runs, times):
+    """The seconds of one removal and of one build of what is left, for each size, all by turns; both texts are equal."""
+    with tempfile.TemporaryDirectory() as outs:
+        out, removed = os.path.join(outs, "out"), os.path.join(outs, "removed")
+
+        def look(key):
+            if key[-1] == "remove":
+                os.replace(out, removed)
+            elif not same_bytes(out, removed):
+                sys.exit("the texts differ")
+
+        words = {
+            (folder, count, mode): each
+            for folder in folders
+            for count in (0, times)
+            for mode, each in programs(folder, count).items()
+        }
+        measures = by_turns(words, out, runs, look)
+    seconds = lambda folder, mode: (measures[folder, times, mode].seconds - measures[folder, 0, mode].seconds) / times
+    return [[seconds(folder, mode) for mode in ("remove", "build")] for folder in folders]
 
 
 def tell(name, count, remove, build, before):
@@ -84,21 +87,30 @@ def tell(name, count, remove, build, before):
     print(f"{line} (past the goal)" if misses else line, flush=True)
 
 
+def measure_removal(name, tilings, words):
+    """Prints what one removal takes at each size."""
+    with tempfile.TemporaryDirectory() as top:
+        folders = [os.path.join(top, str(number)) for number in range(len(tilings))]
+        for folder, (_, rows) in zip(folders, tilings):
+            os.mkdir(folder)
+            write_removal(folder, rows, REMOVALS[name])
+        before = None
+        for (count, _), (remove, build) in zip(tilings, measure_sizes(folders, words.runs, words.times)):
+            tell(name, count, remove, build, before)
+            before = remove
+
+
 def main():
-    parser = argparse.ArgumentParser(description="Measures taking features out of a topology.")
-    parser.add_argument("--positions", type=int, default=1_000_000)
-    parser.add_argument("--seed", type=int, default=1)
-    parser.add_argument("--runs", type=int, default=5)
+    parser = parser_of("Measures taking features out of a topology.")
     parser.add_argument("--times", type=int, default=4)
     words = parser.parse_args()
-    before = {}
+    need(BENCH)
+    tilings = []
     for positions in (words.positions, 2 * words.positions):
         rows = features(tiling(positions, words.seed))
-        count = sum(len(each["geometry"]["coordinates"][0]) for row in rows for each in row)
-        for name, is_removed in REMOVALS.items():
-            remove, build = seconds_each(rows, is_removed, words.runs, words.times)
-            tell(name, count, remove, build, before.get(name))
-            before[name] = remove
+        tilings.append((sum(len(each["geometry"]["coordinates"][0]) for row in rows for each in row), rows))
+    for name in REMOVALS:
+        measure_removal(name, tilings, words)
 
 
 if __name__ == "__main__":

@@ -10,7 +10,6 @@ map doubles. Times are processor times (user and system), the least of some runs
 merges of shards, in several orders and shapes, with the build of the whole, byte by byte.
 """
 
-import argparse
 import os
 import random
 import sys
@@ -18,21 +17,9 @@ import tempfile
 
 sys.dont_write_bytecode = True
 
-from measuring import BENCH, GRID, TOOL, end_with, measure_both, run_once, same_bytes, write_tiling
+from measuring import BENCH, GRID, TOOL, end_with, make_topologies, measure_both, need, parser_of, run_once, same_bytes
 
 SHARDS = 16
-
-
-def make_topologies(folder):
-    """Builds the topology of the whole tiling and of each shard."""
-    whole = os.path.join(folder, "tiling.topo.json")
-    run_once([TOOL, "build", *GRID, "a=" + os.path.join(folder, "tiling.json")], whole)
-    shards = []
-    for shard in range(SHARDS):
-        name = os.path.join(folder, f"shard_{shard:02}")
-        run_once([TOOL, "build", *GRID, f"a={name}.json"], name + ".topo.json")
-        shards.append(name + ".topo.json")
-    return whole, shards
 
 
 def compare_merges(folder, whole, shards, seed):
@@ -66,8 +53,7 @@ def commands(folder, whole, shards):
 
 def measure_size(folder, positions, seed, runs):
     """Measures each command at one size: title, of the command and of the values."""
-    count = write_tiling(folder, positions, seed, SHARDS)
-    whole, shards = make_topologies(folder)
+    count, whole, shards = make_topologies(folder, positions, seed, SHARDS)
     compare_merges(folder, whole, shards, seed)
     out = os.path.join(folder, "out")
     results = []
@@ -92,11 +78,8 @@ def print_table(sizes):
 
 
 def main():
-    parser = argparse.ArgumentParser(description="Measures the command on tilings of districts.")
-    parser.add_argument("--positions", type=int, default=1_000_000)
-    parser.add_argument("--seed", type=int, default=1)
-    parser.add_argument("--runs", type=int, default=5)
-    words = parser.parse_args()
+    words = parser_of("Measures the command on tilings of districts.").parse_args()
+    need(TOOL, BENCH)
     sizes = []
     for positions in [words.positions, 2 * words.positions]:
         with tempfile.TemporaryDirectory() as folder:

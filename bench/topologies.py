@@ -7,11 +7,10 @@
 Each row is a command of topotool, the reading of the same files as JSON values alone, and, where node and Debian's
 package node-vega are installed, what topojson-client does with the same file, by turns in one run: whole processes with
 their start. Times are processor times (user and system), the least of some runs. The tilings have about 1,000,000
-positions, twice as many, and 4,500,000. Beside each ratio stands its goal, which no test asks for; a ratio that misses it
+positions and twice as many, which are measured by the same turns, and then 4,500,000. Beside each ratio stands its goal, which no test asks for; a ratio that misses it
 is marked by an exclamation mark. The merge of shards is that of the tiling spread over 256 files.
 """
 
-import argparse
 import os
 import shutil
 import sys
@@ -19,7 +18,7 @@ import tempfile
 
 sys.dont_write_bytecode = True
 
-from measuring import BENCH, GRID, HERE, TOOL, end_with, least, need_tool, run_once, same_bytes, stop, write_tiling
+from measuring import BENCH, HERE, TOOL, by_turns, end_with, make_topologies, need, parser_of, run_once, same_bytes
 
 MODULES = "/usr/share/nodejs"
 SHARDS = 256
@@ -44,38 +43,38 @@ def commands(whole, shards):
     }
 
 
-def make_topologies(folder):
-    """Builds the topology of the whole tiling and of each shard."""
-    whole = os.path.join(folder, "tiling.topo.json")
-    run_once([TOOL, "build", *GRID, "a=" + os.path.join(folder, "tiling.json")], whole)
-    shards = []
-    for shard in range(SHARDS):
-        name = os.path.join(folder, f"shard_{shard:02}")
-        shards.append(name + ".topo.json")
-        run_once([TOOL, "build", *GRID, f"a={name}.json"], shards[-1])
-    return whole, shards
-
-
-def measure_row(words, files, asked, out, runs):
-    """The command, the values alone, and topojson-client where it is asked, by turns."""
-    programs = [words, [BENCH, "values", *files]]
+def programs(words, files, asked):
+    """The command, the values alone, and topojson-client where it is asked and there."""
+    told = [words, [BENCH, "values", *files]]
     if asked and shutil.which("node") and os.path.isdir(f"{MODULES}/topojson-client"):
-        programs.append(["node", os.path.join(HERE, "others.js"), asked, files[0]])
-    turns = [[run_once(program, out) for program in programs] for _ in range(runs)]
-    return [least(measures) for measures in zip(*turns)]
+        told.append(["node", os.path.join(HERE, "others.js"), asked, files[0]])
+    return told
 
 
-def measure_size(folder, positions, seed, runs):
-    """The measures of each row at one size."""
-    count = write_tiling(folder, positions, seed, SHARDS)
-    whole, shards = make_topologies(folder)
+def check_merge(folder, whole, shards):
+    """The merge of the shards is the topology of the whole."""
     merged = os.path.join(folder, "merged")
     run_once([TOOL, "merge", *shards], merged)
     if not same_bytes(merged, whole):
         sys.exit("the merge of all shards differs from the build of the whole")
-    out = os.path.join(folder, "out")
-    rows = commands(whole, shards)
-    return count, {title: measure_row(*row, out, runs) for title, row in rows.items()}
+
+
+def measure_sizes(top, sizes, words):
+    """How many positions each size has, and the measures of its rows, all by turns."""
+    counts, told = [], {}
+    for positions in sizes:
+        folder = os.path.join(top, str(positions))
+        os.mkdir(folder)
+        count, whole, shards = make_topologies(folder, positions, words.seed, SHARDS)
+        check_merge(folder, whole, shards)
+        counts.append(count)
+        for title, row in commands(whole, shards).items():
+            told.update({(positions, title, place): each for place, each in enumerate(programs(*row))})
+    measures = by_turns(told, os.path.join(top, "out"), words.runs)
+    rows = [{title: [] for title in GOALS} for _ in sizes]
+    for (positions, title, _), measure in measures.items():
+        rows[sizes.index(positions)][title].append(measure)
+    return zip(counts, rows)
 
 
 def marked(ratio, goal):
@@ -99,22 +98,24 @@ def print_size(count, rows, before):
         )
 
 
+def measure_group(sizes, words):
+    """Prints the tables of a size and, where it is asked too, of its double."""
+    with tempfile.TemporaryDirectory() as top:
+        before = None
+        for count, rows in measure_sizes(top, sizes, words):
+            print_size(count, rows, before)
+            before = rows
+
+
 def main():
-    parser = argparse.ArgumentParser(description="Measures the commands on topologies against values and topojson-client.")
-    parser.add_argument("--positions", type=int, nargs="+", default=[1_000_000, 2_000_000, 4_500_000])
-    parser.add_argument("--seed", type=int, default=1)
-    parser.add_argument("--runs", type=int, default=5)
+    parser = parser_of("Measures the commands on topologies against values and topojson-client.")
+    parser.add_argument("--large", type=int, default=4_500_000, help="the positions of a tiling measured alone; 0 for none")
     words = parser.parse_args()
-    need_tool(TOOL)
-    if not os.access(BENCH, os.X_OK):
-        stop(f"{BENCH} is not there: build it by rt run in crates/bench_runs")
+    need(TOOL, BENCH)
     os.environ["NODE_PATH"] = MODULES
-    before = (0, None)
-    for positions in words.positions:
-        with tempfile.TemporaryDirectory() as folder:
-            count, rows = measure_size(folder, positions, words.seed, words.runs)
-        print_size(count, rows, before[1] if positions == 2 * before[0] else None)
-        before = (positions, rows)
+    measure_group([words.positions, 2 * words.positions], words)
+    if words.large:
+        measure_group([words.large], words)
 
 
 if __name__ == "__main__":
