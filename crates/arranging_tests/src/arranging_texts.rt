@@ -1,159 +1,191 @@
-use crate::texts::{A, B, C, D, E, F, G, H, I, J, is_made, layer, line, refs, ring, text_arcs};
-use arranging::{Arranged, arrange};
-use chains::{ArcRef, ArcTable};
-use lines::items::Items;
+//! Texts that are put into order, and texts that can't be.
+use crate::texts::{
+    A, Arcs, B, C, D, E, F, G, H, I, J, Layers, Listed, arranged, is_made, text_arcs,
+};
+use chains::ArcTable;
 use std::alloc::Global;
 use std::process::Abort;
 use std::test::Fail;
 use taking::TextArcs;
-use topo::{Body, Layer};
 use worked_maps::lists;
 
-/// What comes of arcs and bodies, each the one geometry of a layer.
-fn of_bodies(
-    alloc: Global,
-    arcs: &[&[(i64, i64)]],
-    bodies: Vec<Body>,
-) -> Result<Option<Arranged>, Fail> {
-    let mut layers = Vec::new(alloc);
-    for body in bodies {
-        layers.push(layer(alloc, "a", body)?)?;
+/// Arcs and layers of a text, and what is made of them.
+#[derive(Clone, Copy)]
+struct Row {
+    title: &'static str,
+    arcs: Arcs,
+    layers: Layers,
+    made_arcs: Arcs,
+    made_layers: Layers,
+}
+
+const ROWS: &[Row] = &[
+    Row {
+        title: "two squares that share the border from B to C, and a lake that begins at its greatest vertex",
+        arcs: &[&[C, B], &[B, A, D, C], &[C, F, E, B], &[I, J, G, H, I]],
+        layers: &[
+            ("left", Listed::Polygon(&[&[0, 1]])),
+            ("right", Listed::Polygon(&[&[-1, 2]])),
+            ("water", Listed::Polygon(&[&[-4]])),
+        ],
+        made_arcs: &[&[B, A, D, C], &[B, C], &[B, E, F, C], &[G, J, I, H, G]],
+        made_layers: &[
+            ("left", Listed::Polygon(&[&[0, -2]])),
+            ("right", Listed::Polygon(&[&[1, -3]])),
+            ("water", Listed::Polygon(&[&[3]])),
+        ],
+    },
+    Row {
+        title: "a lake at whose seam a line ends: D comes before B, but the loop from B is no free one",
+        arcs: &[&[E, B], &[B, C, D, B]],
+        layers: &[("a", Listed::Line(&[0])), ("a", Listed::Polygon(&[&[1]]))],
+        made_arcs: &[&[B, D, C, B], &[B, E]],
+        made_layers: &[("a", Listed::Line(&[-2])), ("a", Listed::Polygon(&[&[-1]]))],
+    },
+    Row {
+        title: "bodies of all kinds: from G the loop goes to J and then to H, as it is used",
+        arcs: &[&[B, A], &[H, G, J, H]],
+        layers: &[
+            ("a", Listed::Null),
+            ("a", Listed::Lines(&[&[0], &[-1]])),
+            ("a", Listed::Polygons(&[&[1], &[-2]])),
+        ],
+        made_arcs: &[&[A, B], &[G, J, H, G]],
+        made_layers: &[
+            ("a", Listed::Null),
+            ("a", Listed::Lines(&[&[-1], &[0]])),
+            ("a", Listed::Polygons(&[&[1], &[-2]])),
+        ],
+    },
+];
+
+/// Whether the arcs, and the layers of a row, make what the row says.
+fn makes(alloc: Global, arcs: &TextArcs, row: &Row) -> Result<bool, Fail> {
+    match arranged(alloc, arcs, row.layers)? {
+        Some(made) => is_made(alloc, &made, row.made_arcs, row.made_layers),
+        None => Ok(false),
     }
-    Ok(arrange(alloc, &text_arcs(alloc, arcs)?, &layers)?)
-}
-
-fn of_body(alloc: Global, arcs: &[&[(i64, i64)]], body: Body) -> Result<Option<Arranged>, Fail> {
-    let mut bodies = Vec::new(alloc);
-    bodies.push(body)?;
-    of_bodies(alloc, arcs, bodies)
-}
-
-/// Two squares that share the border from B to C, and a lake that begins at its greatest vertex, each
-/// in a layer.
-fn squares_and_lake(alloc: Global) -> Result<Vec<Layer>, Fail> {
-    let mut layers = Vec::new(alloc);
-    layers.push(layer(alloc, "left", ring(alloc, &[0, 1])?)?)?;
-    layers.push(layer(alloc, "right", ring(alloc, &[-1, 2])?)?)?;
-    layers.push(layer(alloc, "water", ring(alloc, &[-4])?)?)?;
-    Ok(layers)
 }
 
 #[test]
-fn two_squares_and_a_lake(rt: HostRuntime) -> Result<(), Fail> {
-    let alloc = rt.alloc();
-    let arcs: [&[(i64, i64)]; 4] = [&[C, B], &[B, A, D, C], &[C, F, E, B], &[I, J, G, H, I]];
-    let layers = squares_and_lake(alloc)?;
-    let made = arrange(alloc, &text_arcs(alloc, &arcs)?, &layers)?.ok_or("refused")?;
-    let ordered: [&[(i64, i64)]; 4] = [&[B, A, D, C], &[B, C], &[B, E, F, C], &[G, J, I, H, G]];
-    let mut bodies = Vec::new(alloc);
-    bodies.push(ring(alloc, &[0, -2])?)?;
-    bodies.push(ring(alloc, &[1, -3])?)?;
-    bodies.push(ring(alloc, &[3])?)?;
-    assert!(rt; is_made(alloc, &made, &ordered, &bodies)?);
-    let [_, _, water] = made.layers.as_slice() else {
-        return Err("not three layers".into());
-    };
-    assert_eq!(rt; water.name().text(), "water");
+fn texts_put_into_order(rt: HostRuntime) -> Result<(), Fail> {
+    for row in ROWS {
+        let arcs = text_arcs(rt.alloc(), row.arcs)?;
+        assert!(rt; makes(rt.alloc(), &arcs, row)?, "{}", row.title);
+    }
     Ok(())
 }
 
-#[test]
-fn a_lake_at_whose_seam_a_line_ends(rt: HostRuntime) -> Result<(), Fail> {
-    let alloc = rt.alloc();
-    // D comes before B, but the loop from B is no free one.
-    let arcs: [&[(i64, i64)]; 2] = [&[E, B], &[B, C, D, B]];
-    let mut bodies = Vec::new(alloc);
-    bodies.push(line(alloc, &[0])?)?;
-    bodies.push(ring(alloc, &[1])?)?;
-    let made = of_bodies(alloc, &arcs, bodies)?.ok_or("refused")?;
-    let mut expected = Vec::new(alloc);
-    expected.push(line(alloc, &[-2])?)?;
-    expected.push(ring(alloc, &[-1])?)?;
-    assert!(rt; is_made(alloc, &made, &[&[B, D, C, B], &[B, E]], &expected)?);
-    Ok(())
+/// A loop's arc and ring of a table. From A the loop goes to D and to B; backwards to B first.
+const TABLED: Row = Row {
+    title: "arcs of a table",
+    arcs: &[&[D, B, A, D]],
+    layers: &[("a", Listed::Polygon(&[&[0]]))],
+    made_arcs: &[&[A, D, B, A]],
+    made_layers: &[("a", Listed::Polygon(&[&[0]]))],
+};
+
+fn table_arcs(alloc: Global, arcs: Arcs) -> Result<TextArcs, Fail> {
+    match ArcTable::from_sorted(alloc, lists(alloc, arcs)?, &[])? {
+        Some(table) => Ok(TextArcs::from_table(table)),
+        None => Err("out of order".into()),
+    }
 }
 
 #[test]
 fn arcs_of_a_table(rt: HostRuntime) -> Result<(), Fail> {
-    let alloc = rt.alloc();
-    let arcs: [&[(i64, i64)]; 1] = [&[D, B, A, D]];
-    let Some(table) = ArcTable::from_sorted(alloc, lists(alloc, &arcs)?, &[])? else {
-        return Err("out of order".into());
-    };
-    let mut layers = Vec::new(alloc);
-    layers.push(layer(alloc, "a", ring(alloc, &[0])?)?)?;
-    let made = arrange(alloc, &TextArcs::from_table(table), &layers)?.ok_or("refused")?;
-    // From A the loop goes to D and to B; backwards to B first.
-    let mut expected = Vec::new(alloc);
-    expected.push(ring(alloc, &[0])?)?;
-    assert!(rt; is_made(alloc, &made, &[&[A, D, B, A]], &expected)?);
+    let arcs = table_arcs(rt.alloc(), TABLED.arcs)?;
+    assert!(rt; makes(rt.alloc(), &arcs, &TABLED)?, "{}", TABLED.title);
+    Ok(())
+}
+
+/// A line, a loop that begins elsewhere than at its least vertex, and another line.
+const ELSEWHERE: Arcs = &[&[A, B], &[H, G, J, H], &[E, F]];
+
+const ARRANGED: &[(&str, Arcs, Layers)] = &[
+    ("no arcs", &[], &[("a", Listed::Null)]),
+    ("a line", &[&[A, B]], &[("a", Listed::Line(&[0]))]),
+    (
+        "a ring of no arcs",
+        &[&[A, B]],
+        &[("a", Listed::Polygon(&[&[]]))],
+    ),
+    (
+        "a ring of the loop alone",
+        ELSEWHERE,
+        &[("a", Listed::Polygon(&[&[1]]))],
+    ),
+    (
+        "a line that ends at the loop's seam",
+        ELSEWHERE,
+        &[("a", Listed::Line(&[1]))],
+    ),
+    (
+        "inside a line a loop that begins at its least vertex",
+        &[&[A, B], &[G, J, H, G], &[E, F]],
+        &[("a", Listed::Line(&[0, 1, 2]))],
+    ),
+];
+
+const REFUSED: &[(&str, Arcs, Layers)] = &[
+    (
+        "an arc and its reverse",
+        &[&[A, B], &[B, A]],
+        &[("a", Listed::Line(&[0]))],
+    ),
+    (
+        "an arc twice",
+        &[&[A, B], &[A, B]],
+        &[("a", Listed::Line(&[0]))],
+    ),
+    (
+        "a line of an arc that is not there",
+        &[&[A, B]],
+        &[("a", Listed::Line(&[0, 1]))],
+    ),
+    (
+        "a ring of an arc that is not there",
+        &[&[A, B]],
+        &[("a", Listed::Polygon(&[&[1]]))],
+    ),
+    (
+        "a reversed arc that is not there",
+        &[&[A, B]],
+        &[("a", Listed::Polygon(&[&[0, -2]]))],
+    ),
+    (
+        "the loop inside a line, where no end of the line is at its seam",
+        ELSEWHERE,
+        &[("a", Listed::Line(&[0, 1, 2]))],
+    ),
+    (
+        "the loop last in a ring with others",
+        ELSEWHERE,
+        &[("a", Listed::Polygon(&[&[0, 1]]))],
+    ),
+    (
+        "the loop first in a ring with others",
+        ELSEWHERE,
+        &[("a", Listed::Polygon(&[&[1, 0]]))],
+    ),
+];
+
+fn is_arranged(alloc: Global, arcs: Arcs, layers: Layers) -> Result<bool, Fail> {
+    Ok(arranged(alloc, &text_arcs(alloc, arcs)?, layers)?.is_some())
+}
+
+#[test]
+fn texts_that_can_be_put_into_order(rt: HostRuntime) -> Result<(), Fail> {
+    for (title, arcs, layers) in ARRANGED {
+        assert!(rt; is_arranged(rt.alloc(), *arcs, *layers)?, "{title}");
+    }
     Ok(())
 }
 
 #[test]
-fn bodies_of_all_kinds(rt: HostRuntime) -> Result<(), Fail> {
-    let alloc = rt.alloc();
-    let arcs: [&[(i64, i64)]; 2] = [&[B, A], &[H, G, J, H]];
-    let mut bodies = Vec::new(alloc);
-    bodies.push(Body::Null)?;
-    bodies.push(Body::MultiLine(both(alloc, &[0], &[-1])?))?;
-    bodies.push(Body::MultiPolygon(once(alloc, both(alloc, &[1], &[-2])?)?))?;
-    let made = of_bodies(alloc, &arcs, bodies)?.ok_or("refused")?;
-    // From G the loop goes to J and then to H, as it is used.
-    let mut expected = Vec::new(alloc);
-    expected.push(Body::Null)?;
-    expected.push(Body::MultiLine(both(alloc, &[-1], &[0])?))?;
-    expected.push(Body::MultiPolygon(once(alloc, both(alloc, &[1], &[-2])?)?))?;
-    assert!(rt; is_made(alloc, &made, &[&[A, B], &[G, J, H, G]], &expected)?);
-    Ok(())
-}
-
-fn both(alloc: Global, one: &[i64], other: &[i64]) -> Result<Items<Items<ArcRef>>, Fail> {
-    let mut lists = Vec::new(alloc);
-    lists.push(refs(alloc, one)?)?;
-    lists.push(refs(alloc, other)?)?;
-    Ok(Items::from_vec(lists))
-}
-
-fn once(alloc: Global, lists: Items<Items<ArcRef>>) -> Result<Items<Items<Items<ArcRef>>>, Fail> {
-    let mut polygons = Vec::new(alloc);
-    polygons.push(lists)?;
-    Ok(Items::from_vec(polygons))
-}
-
-#[test]
-fn arcs_that_agree(rt: HostRuntime) -> Result<(), Fail> {
-    let alloc = rt.alloc();
-    assert!(rt; of_body(alloc, &[&[A, B], &[B, A]], line(alloc, &[0])?)?.is_none());
-    assert!(rt; of_body(alloc, &[&[A, B], &[A, B]], line(alloc, &[0])?)?.is_none());
-    assert!(rt; of_body(alloc, &[], Body::Null)?.is_some());
-    Ok(())
-}
-
-#[test]
-fn arcs_that_are_not_there(rt: HostRuntime) -> Result<(), Fail> {
-    let alloc = rt.alloc();
-    let arcs: [&[(i64, i64)]; 1] = [&[A, B]];
-    assert!(rt; of_body(alloc, &arcs, line(alloc, &[0])?)?.is_some());
-    assert!(rt; of_body(alloc, &arcs, line(alloc, &[0, 1])?)?.is_none());
-    assert!(rt; of_body(alloc, &arcs, ring(alloc, &[1])?)?.is_none());
-    assert!(rt; of_body(alloc, &arcs, ring(alloc, &[0, -2])?)?.is_none());
-    assert!(rt; of_body(alloc, &arcs, ring(alloc, &[])?)?.is_some());
-    Ok(())
-}
-
-#[test]
-fn loops_that_begin_elsewhere(rt: HostRuntime) -> Result<(), Fail> {
-    let alloc = rt.alloc();
-    let arcs: [&[(i64, i64)]; 3] = [&[A, B], &[H, G, J, H], &[E, F]];
-    // Inside a line, where no end of the line is at its seam; in a ring with others; in a ring alone.
-    assert!(rt; of_body(alloc, &arcs, line(alloc, &[0, 1, 2])?)?.is_none());
-    assert!(rt; of_body(alloc, &arcs, ring(alloc, &[0, 1])?)?.is_none());
-    assert!(rt; of_body(alloc, &arcs, ring(alloc, &[1, 0])?)?.is_none());
-    assert!(rt; of_body(alloc, &arcs, ring(alloc, &[1])?)?.is_some());
-    // It begins at its least vertex already, or a line ends at its seam.
-    let least: [&[(i64, i64)]; 3] = [&[A, B], &[G, J, H, G], &[E, F]];
-    assert!(rt; of_body(alloc, &least, line(alloc, &[0, 1, 2])?)?.is_some());
-    assert!(rt; of_body(alloc, &arcs, line(alloc, &[1])?)?.is_some());
+fn texts_that_cannot_be_put_into_order(rt: HostRuntime) -> Result<(), Fail> {
+    for (title, arcs, layers) in REFUSED {
+        assert!(rt; !is_arranged(rt.alloc(), *arcs, *layers)?, "{title}");
+    }
     Ok(())
 }

@@ -1,122 +1,105 @@
-use chains::ArcTable;
-use grid::pos::Pos;
-use lines::items::Items;
-use standing::{arcs_in_order, is_apart};
+//! Arcs that stand as those of a table, and arcs that don't.
+use crate::drawn::{A, Arcs, B, C, D, E, LOOP, Marks, ROUND, positions, read, table};
 use std::alloc::Global;
 use std::process::Abort;
 use std::test::Fail;
 
-fn positions(alloc: Global, places: &[(i64, i64)]) -> Result<Items<Pos>, Fail> {
-    let mut made = Vec::new(alloc);
-    for (x, y) in places {
-        made.push(Pos::new(*x, *y).ok_or("outside the limits")?)?;
-    }
-    Ok(Items::from_vec(made))
-}
+const STANDING: &[(&str, Arcs, Marks)] = &[
+    ("arcs that meet at their ends", ROUND, &[]),
+    ("no arcs", &[], &[]),
+    ("in order", &[&[A, B], &[B, C]], &[]),
+    ("a free loop", LOOP, &[true]),
+    ("closed, but no free loop", LOOP, &[]),
+    (
+        "closed, and an arc from its seam",
+        &[&[A, D, C, A], &[A, B]],
+        &[],
+    ),
+];
 
-/// The arcs as lists.
-pub(crate) fn lists(alloc: Global, arcs: &[&[(i64, i64)]]) -> Result<Vec<Items<Pos>>, Fail> {
-    let mut made = Vec::new(alloc);
-    for places in arcs {
-        made.push(positions(alloc, places)?)?;
-    }
-    Ok(made)
-}
+const NOT_STANDING: &[(&str, Arcs, Marks)] = &[
+    (
+        "the last from the greater end to the lesser one",
+        &[&[A, D, C], &[A, B], &[C, B]],
+        &[],
+    ),
+    ("out of order", &[&[B, C], &[A, B]], &[]),
+    ("twice", &[&[A, B], &[A, B]], &[]),
+    ("no vertex", &[&[]], &[]),
+    ("one vertex", &[&[A]], &[]),
+    ("one vertex twice", &[&[A, A]], &[]),
+    ("forth and back", &[&[A, B, A]], &[]),
+    ("from the greater end to the lesser one", &[&[B, A]], &[]),
+    (
+        "a vertex inside another arc",
+        &[&[A, C, E], &[B, C, D]],
+        &[],
+    ),
+    (
+        "a vertex inside the same arc again",
+        &[&[A, B, C, B, E]],
+        &[],
+    ),
+    (
+        "a vertex inside that is an end of another arc",
+        &[&[A, C, E], &[B, C]],
+        &[],
+    ),
+    (
+        "a vertex inside that is an end of the same arc",
+        &[&[A, C, B, A, D]],
+        &[],
+    ),
+    ("a free loop that is not closed", &[&[A, D, C]], &[true]),
+    (
+        "a free loop that begins elsewhere",
+        &[&[D, A, C, D]],
+        &[true],
+    ),
+    (
+        "a free loop, and an arc from its seam",
+        &[&[A, D, C, A], &[A, B]],
+        &[true],
+    ),
+    (
+        "a free loop, and an arc from elsewhere on it",
+        &[&[A, D, C, A], &[C, E]],
+        &[true],
+    ),
+];
 
-/// The table of arcs that are in order and apart, of which those that are marked are free loops.
-pub(crate) fn read(
-    alloc: Global,
-    arcs: &[&[(i64, i64)]],
-    free: &[bool],
-) -> Result<Option<ArcTable>, Fail> {
-    let Some(table) = ArcTable::from_sorted(alloc, lists(alloc, arcs)?, free)? else {
-        return Ok(None);
-    };
-    if is_apart(alloc, &table)? {
-        return Ok(Some(table));
-    }
-    Ok(None)
-}
-
-fn stand(alloc: Global, arcs: &[&[(i64, i64)]], free: &[bool]) -> Result<bool, Fail> {
+fn stand(alloc: Global, arcs: Arcs, free: Marks) -> Result<bool, Fail> {
     Ok(read(alloc, arcs, free)?.is_some())
 }
 
-pub(crate) const A: (i64, i64) = (0, 0);
-
-pub(crate) const B: (i64, i64) = (4, 0);
-
-pub(crate) const C: (i64, i64) = (4, 4);
-
-pub(crate) const D: (i64, i64) = (0, 4);
-
-pub(crate) const E: (i64, i64) = (8, 0);
-
 #[test]
-fn arcs_that_meet_at_their_ends(rt: HostRuntime) -> Result<(), Fail> {
-    let alloc = rt.alloc();
-    let arcs: [&[(i64, i64)]; 3] = [&[A, D, C], &[A, B], &[C, B]];
-    // The last runs from the greater end to the lesser one.
-    assert!(rt; !stand(alloc, &arcs, &[])?);
-    let arcs: [&[(i64, i64)]; 3] = [&[A, D, C], &[A, B], &[B, C]];
-    let Some(table) = read(alloc, &arcs, &[])? else {
-        return Err("refused".into());
-    };
-    assert_eq!(rt; table.len(), 3);
-    assert_eq!(rt;
-        table.arc(0),
-        Some(positions(alloc, &[A, D, C])?.as_slice())
-    );
-    assert!(rt; !table.is_free(1));
+fn arcs_that_stand(rt: HostRuntime) -> Result<(), Fail> {
+    for (title, arcs, free) in STANDING {
+        assert!(rt; stand(rt.alloc(), *arcs, *free)?, "{title}");
+    }
     Ok(())
 }
 
 #[test]
-fn arcs_out_of_order_or_twice(rt: HostRuntime) -> Result<(), Fail> {
-    let alloc = rt.alloc();
-    assert!(rt; stand(alloc, &[], &[])?);
-    assert!(rt; stand(alloc, &[&[A, B], &[B, C]], &[])?);
-    assert!(rt; !stand(alloc, &[&[B, C], &[A, B]], &[])?);
-    assert!(rt; !stand(alloc, &[&[A, B], &[A, B]], &[])?);
+fn arcs_that_do_not_stand(rt: HostRuntime) -> Result<(), Fail> {
+    for (title, arcs, free) in NOT_STANDING {
+        assert!(rt; !stand(rt.alloc(), *arcs, *free)?, "{title}");
+    }
     Ok(())
 }
 
 #[test]
-fn arcs_that_are_no_less_than_their_reverse(rt: HostRuntime) -> Result<(), Fail> {
-    let alloc = rt.alloc();
-    assert!(rt; !stand(alloc, &[&[]], &[])?);
-    assert!(rt; !stand(alloc, &[&[A]], &[])?);
-    assert!(rt; !stand(alloc, &[&[A, A]], &[])?);
-    assert!(rt; !stand(alloc, &[&[A, B, A]], &[])?);
-    assert!(rt; !stand(alloc, &[&[B, A]], &[])?);
+fn the_table_of_arcs(rt: HostRuntime) -> Result<(), Fail> {
+    let arcs = table(rt.alloc(), ROUND, &[])?;
+    let first = positions(rt.alloc(), ROUND[0])?;
+    assert!(rt; arcs.len() == 3 && arcs.arc(0) == Some(first.as_slice()));
+    assert!(rt; !arcs.is_free(1));
     Ok(())
 }
 
 #[test]
-fn vertices_inside_at_another_place(rt: HostRuntime) -> Result<(), Fail> {
-    let alloc = rt.alloc();
-    // Inside another arc, again inside the same arc, and at an end.
-    assert!(rt; !stand(alloc, &[&[A, C, E], &[B, C, D]], &[])?);
-    assert!(rt; !stand(alloc, &[&[A, B, C, B, E]], &[])?);
-    assert!(rt; !stand(alloc, &[&[A, C, E], &[B, C]], &[])?);
-    assert!(rt; !stand(alloc, &[&[A, C, B, A, D]], &[])?);
-    Ok(())
-}
-
-#[test]
-fn free_loops(rt: HostRuntime) -> Result<(), Fail> {
-    let alloc = rt.alloc();
-    let Some(table) = read(alloc, &[&[A, D, C, A]], &[true])? else {
-        return Err("refused".into());
-    };
-    assert!(rt; table.is_free(0) && !table.is_free(1));
-    // Closed, but no free loop.
-    assert!(rt; stand(alloc, &[&[A, D, C, A]], &[])?);
-    // It is not closed, begins elsewhere, or meets another arc at its seam or elsewhere.
-    assert!(rt; !stand(alloc, &[&[A, D, C]], &[true])?);
-    assert!(rt; !stand(alloc, &[&[D, A, C, D]], &[true])?);
-    assert!(rt; !stand(alloc, &[&[A, D, C, A], &[A, B]], &[true])?);
-    assert!(rt; stand(alloc, &[&[A, D, C, A], &[A, B]], &[])?);
-    assert!(rt; !stand(alloc, &[&[A, D, C, A], &[C, E]], &[true])?);
+fn the_table_of_a_free_loop(rt: HostRuntime) -> Result<(), Fail> {
+    let arcs = table(rt.alloc(), LOOP, &[true])?;
+    assert!(rt; arcs.is_free(0) && !arcs.is_free(1));
     Ok(())
 }

@@ -1,73 +1,74 @@
-use crate::arcs::{A, B, C, D, E, lists, read};
-use chains::ArcRef;
-use grid::pos::Pos;
+//! Where lists of arcs begin and end, and which closed arcs go free.
+use crate::drawn::{
+    A, Arcs, B, C, D, E, Marks, Place, Places, ROUND, are_ends, lists, positions, refs, table,
+};
 use standing::{free_loops, run};
 use std::alloc::Global;
 use std::process::Abort;
 use std::test::Fail;
 
-/// Which of the arcs go free, where lines end at some places.
-fn marks(alloc: Global, arcs: &[&[(i64, i64)]], ends: &[(i64, i64)]) -> Result<Vec<bool>, Fail> {
-    let mut line_ends = Vec::new(alloc);
-    for (x, y) in ends {
-        line_ends.push(Pos::new(*x, *y).ok_or("outside the limits")?)?;
-    }
-    Ok(free_loops(alloc, &lists(alloc, arcs)?, line_ends)?)
+/// A closed arc, and an open one elsewhere.
+const APART: Arcs = &[&[A, D, C, A], &[B, E]];
+
+/// Arcs, the ends of lines, and which of the arcs go free.
+const MARKED: &[(&str, Arcs, Places, Marks)] = &[
+    (
+        "closed, and nothing else at its seam",
+        APART,
+        &[],
+        &[true, false],
+    ),
+    ("a line ends at the seam", APART, &[A, A], &[false, false]),
+    ("a line ends elsewhere", APART, &[B, E], &[true, false]),
+    (
+        "another arc ends at the seam",
+        &[&[A, D, C, A], &[A, B]],
+        &[],
+        &[false, false],
+    ),
+    (
+        "another closed arc ends at the seam",
+        &[&[A, D, C, A], &[A, B, E, A]],
+        &[],
+        &[false, false],
+    ),
+];
+
+/// Whether these of the arcs go free.
+fn are_marks(alloc: Global, arcs: Arcs, ends: Places, marks: Marks) -> Result<bool, Fail> {
+    let free = free_loops(alloc, &lists(alloc, arcs)?, positions(alloc, ends)?)?;
+    Ok(free.as_slice() == marks)
 }
 
 #[test]
 fn closed_arcs_at_whose_seam_nothing_else_ends(rt: HostRuntime) -> Result<(), Fail> {
-    let alloc = rt.alloc();
-    let alone: [&[(i64, i64)]; 2] = [&[A, D, C, A], &[B, E]];
-    assert_eq!(rt;
-        marks(alloc, &alone, &[])?.as_slice(),
-        [true, false].as_slice()
-    );
-    // A line ends at the seam, or elsewhere.
-    assert_eq!(rt;
-        marks(alloc, &alone, &[A, A])?.as_slice(),
-        [false, false].as_slice()
-    );
-    assert_eq!(rt;
-        marks(alloc, &alone, &[B, E])?.as_slice(),
-        [true, false].as_slice()
-    );
-    // Another arc ends there, or another closed one.
-    assert_eq!(rt;
-        marks(alloc, &[&[A, D, C, A], &[A, B]], &[])?.as_slice(),
-        [false, false].as_slice()
-    );
-    assert_eq!(rt;
-        marks(alloc, &[&[A, D, C, A], &[A, B, E, A]], &[])?.as_slice(),
-        [false, false].as_slice()
-    );
+    for (title, arcs, ends, marks) in MARKED {
+        assert!(rt; are_marks(rt.alloc(), *arcs, *ends, *marks)?, "{title}");
+    }
     Ok(())
 }
 
-/// Where a list of arcs by TopoJSON's indexes begins and ends.
-fn ends(alloc: Global, indexes: &[i64]) -> Result<Option<(Pos, Pos)>, Fail> {
-    let Some(table) = read(alloc, &[&[A, D, C], &[A, B], &[B, C]], &[])? else {
-        return Err("refused".into());
-    };
-    let mut refs = Vec::new(alloc);
-    for index in indexes {
-        refs.push(ArcRef::from_index(*index))?;
-    }
-    Ok(run(&table, &refs))
+/// Lists of the arcs of `ROUND`, and where they begin and end.
+const RUNS: &[(&str, &[i64], Option<(Place, Place)>)] = &[
+    ("an arc", &[0], Some((A, C))),
+    ("an arc reversed", &[-1], Some((C, A))),
+    ("two arcs", &[1, 2], Some((A, C))),
+    ("a ring", &[0, -3, -2], Some((A, A))),
+    ("no arcs", &[], None),
+    ("an arc begins elsewhere", &[1, 0], None),
+    ("no arc of that number", &[1, 3], None),
+];
+
+/// Whether a list of the arcs of `ROUND` begins and ends at these places.
+fn runs(alloc: Global, indexes: &[i64], ends: Option<(Place, Place)>) -> Result<bool, Fail> {
+    let table = table(alloc, ROUND, &[])?;
+    Ok(are_ends(run(&table, &refs(alloc, indexes)?), ends))
 }
 
 #[test]
 fn lists_of_arcs(rt: HostRuntime) -> Result<(), Fail> {
-    let alloc = rt.alloc();
-    let a = Pos::new(0, 0).ok_or("outside the limits")?;
-    let c = Pos::new(4, 4).ok_or("outside the limits")?;
-    assert_eq!(rt; ends(alloc, &[0])?, Some((a, c)));
-    assert_eq!(rt; ends(alloc, &[-1])?, Some((c, a)));
-    assert_eq!(rt; ends(alloc, &[1, 2])?, Some((a, c)));
-    assert_eq!(rt; ends(alloc, &[0, -3, -2])?, Some((a, a)));
-    // It is empty, an arc begins elsewhere, or there is none of that number.
-    assert_eq!(rt; ends(alloc, &[])?, None);
-    assert_eq!(rt; ends(alloc, &[1, 0])?, None);
-    assert_eq!(rt; ends(alloc, &[1, 3])?, None);
+    for (title, indexes, ends) in RUNS {
+        assert!(rt; runs(rt.alloc(), *indexes, *ends)?, "{title}");
+    }
     Ok(())
 }

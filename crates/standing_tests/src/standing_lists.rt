@@ -1,185 +1,175 @@
-use crate::arcs::{A, B, C, D, E, lists, read};
-use chains::{ArcRef, ArcTable};
-use grid::pos::Pos;
-use standing::{ArcsUsed, add_line_ends, ends_meet, free_loops, line_run, ring_stands};
+//! Lists of lines and of rings that stand over a table of arcs, and ends that meet.
+use crate::drawn::{
+    A, Arcs, B, C, D, E, LOOP, Marks, Place, Places, ROUND, are_ends, lists, positions, refs, table,
+};
+use standing::{ArcsUsed, add_line_ends, ends_meet, line_run, ring_stands};
 use std::alloc::Global;
 use std::process::Abort;
 use std::test::Fail;
 
-fn refs(alloc: Global, indexes: &[i64]) -> Result<Vec<ArcRef>, Fail> {
-    let mut made = Vec::new(alloc);
-    for index in indexes {
-        made.push(ArcRef::from_index(*index))?;
-    }
-    Ok(made)
-}
+/// Arcs, a line's list of them, and where the line begins and ends; none where the list doesn't stand.
+const LINES: &[(&str, Arcs, Marks, &[i64], Option<(Place, Place)>)] = &[
+    ("an arc", ROUND, &[], &[0], Some((A, C))),
+    ("two arcs", ROUND, &[], &[1, 2], Some((A, C))),
+    (
+        "an arc, and one reversed",
+        ROUND,
+        &[],
+        &[0, -3],
+        Some((A, B)),
+    ),
+    ("no arcs", ROUND, &[], &[], None),
+    ("it doesn't run on", ROUND, &[], &[1, 0], None),
+    ("no arc of that number", ROUND, &[], &[1, 3], None),
+    ("an arc twice", ROUND, &[], &[1, -2], None),
+    ("a free loop", LOOP, &[true], &[0], None),
+    (
+        "a closed arc that is no free loop",
+        LOOP,
+        &[],
+        &[0],
+        Some((A, A)),
+    ),
+];
 
-fn places(alloc: Global, vertices: &[(i64, i64)]) -> Result<Vec<Pos>, Fail> {
-    let mut made = Vec::new(alloc);
-    for (x, y) in vertices {
-        made.push(Pos::new(*x, *y).ok_or("outside the limits")?)?;
-    }
-    Ok(made)
-}
-
-fn table(alloc: Global, arcs: &[&[(i64, i64)]], free: &[bool]) -> Result<ArcTable, Fail> {
-    match read(alloc, arcs, free)? {
-        Some(table) => Ok(table),
-        None => Err("refused".into()),
-    }
-}
-
-fn line(alloc: Global, table: &ArcTable, indexes: &[i64]) -> Result<bool, Fail> {
+/// Whether a line's list begins and ends at these places, where it stands.
+fn line_runs(
+    alloc: Global,
+    arcs: Arcs,
+    free: Marks,
+    indexes: &[i64],
+    ends: Option<(Place, Place)>,
+) -> Result<bool, Fail> {
+    let table = table(alloc, arcs, free)?;
     let mut used = ArcsUsed::none(alloc, table.len())?;
     let list = refs(alloc, indexes)?;
-    Ok(line_run(table, &mut used, &list).is_some())
-}
-
-fn ring(alloc: Global, table: &ArcTable, indexes: &[i64]) -> Result<bool, Fail> {
-    let mut used = ArcsUsed::none(alloc, table.len())?;
-    let list = refs(alloc, indexes)?;
-    Ok(ring_stands(table, &mut used, &list))
+    Ok(are_ends(line_run(&table, &mut used, &list), ends))
 }
 
 #[test]
 fn lists_of_lines(rt: HostRuntime) -> Result<(), Fail> {
-    let alloc = rt.alloc();
-    let arcs = table(alloc, &[&[A, D, C], &[A, B], &[B, C]], &[])?;
-    assert!(rt; line(alloc, &arcs, &[0])?);
-    assert!(rt; line(alloc, &arcs, &[1, 2])?);
-    assert!(rt; line(alloc, &arcs, &[0, -3])?);
-    // It is empty, doesn't run on, names no arc, or uses one twice.
-    assert!(rt; !line(alloc, &arcs, &[])?);
-    assert!(rt; !line(alloc, &arcs, &[1, 0])?);
-    assert!(rt; !line(alloc, &arcs, &[1, 3])?);
-    assert!(rt; !line(alloc, &arcs, &[1, -2])?);
+    for (title, arcs, free, indexes, ends) in LINES {
+        let runs = line_runs(rt.alloc(), *arcs, *free, *indexes, *ends)?;
+        assert!(rt; runs, "{title}");
+    }
     Ok(())
 }
 
-#[test]
-fn a_line_over_a_free_loop(rt: HostRuntime) -> Result<(), Fail> {
-    let alloc = rt.alloc();
-    let marked = table(alloc, &[&[A, D, C, A]], &[true])?;
-    assert!(rt; !line(alloc, &marked, &[0])?);
-    assert!(rt; ring(alloc, &marked, &[0])?);
-    let unmarked = table(alloc, &[&[A, D, C, A]], &[])?;
-    assert!(rt; line(alloc, &unmarked, &[0])?);
-    Ok(())
+/// Two closed arcs with the same seam.
+const LOOPS: Arcs = &[&[A, D, C, A], &[A, B, E, A]];
+
+/// Arcs, a ring's list of them, and whether it stands. From A of `LOOPS` the next vertex is D or B, or,
+/// where the first loop is reversed, C or B.
+const RINGS: &[(&str, Arcs, Marks, &[i64], bool)] = &[
+    ("a free loop", LOOP, &[true], &[0], true),
+    ("one way and back the other", ROUND, &[], &[0, -3, -2], true),
+    ("the other way and back", ROUND, &[], &[1, 2, -1], true),
+    ("it begins elsewhere", ROUND, &[], &[2, -1, 1], false),
+    (
+        "it begins elsewhere, reversed",
+        ROUND,
+        &[],
+        &[-3, -2, 0],
+        false,
+    ),
+    ("no arcs", ROUND, &[], &[], false),
+    ("it doesn't close", ROUND, &[], &[0], false),
+    ("forth and back", ROUND, &[], &[1, -2], false),
+    ("two loops, by D first", LOOPS, &[], &[0, 1], true),
+    (
+        "two loops, by B first, not by D",
+        LOOPS,
+        &[],
+        &[1, 0],
+        false,
+    ),
+    (
+        "two loops, by B first, not by C",
+        LOOPS,
+        &[],
+        &[1, -1],
+        true,
+    ),
+    ("two loops, by C first", LOOPS, &[], &[-1, 1], false),
+];
+
+fn ring(alloc: Global, arcs: Arcs, free: Marks, indexes: &[i64]) -> Result<bool, Fail> {
+    let table = table(alloc, arcs, free)?;
+    let mut used = ArcsUsed::none(alloc, table.len())?;
+    let list = refs(alloc, indexes)?;
+    Ok(ring_stands(&table, &mut used, &list))
 }
 
 #[test]
 fn lists_of_rings(rt: HostRuntime) -> Result<(), Fail> {
-    let alloc = rt.alloc();
-    let arcs = table(alloc, &[&[A, D, C], &[A, B], &[B, C]], &[])?;
-    assert!(rt; ring(alloc, &arcs, &[0, -3, -2])?);
-    assert!(rt; ring(alloc, &arcs, &[1, 2, -1])?);
-    // It begins elsewhere.
-    assert!(rt; !ring(alloc, &arcs, &[2, -1, 1])?);
-    assert!(rt; !ring(alloc, &arcs, &[-3, -2, 0])?);
-    // It is empty, doesn't close, or goes forth and back.
-    assert!(rt; !ring(alloc, &arcs, &[])?);
-    assert!(rt; !ring(alloc, &arcs, &[0])?);
-    assert!(rt; !ring(alloc, &arcs, &[1, -2])?);
+    for (title, arcs, free, indexes, stands) in RINGS {
+        let ring = ring(rt.alloc(), *arcs, *free, *indexes)?;
+        assert!(rt; ring == *stands, "{title}");
+    }
     Ok(())
 }
 
-#[test]
-fn rings_that_come_to_their_seam_again(rt: HostRuntime) -> Result<(), Fail> {
-    let alloc = rt.alloc();
-    let arcs = table(alloc, &[&[A, D, C, A], &[A, B, E, A]], &[])?;
-    // From A the next vertex is D or B, or, where the first loop is reversed, C or B.
-    assert!(rt; ring(alloc, &arcs, &[0, 1])?);
-    assert!(rt; !ring(alloc, &arcs, &[1, 0])?);
-    assert!(rt; ring(alloc, &arcs, &[1, -1])?);
-    assert!(rt; !ring(alloc, &arcs, &[-1, 1])?);
-    Ok(())
-}
-
+/// The arcs of `ROUND` are all used by a ring, and not by a line before it, whose arcs the ring uses again.
 #[test]
 fn arcs_that_lists_use(rt: HostRuntime) -> Result<(), Fail> {
-    let alloc = rt.alloc();
-    let arcs = table(alloc, &[&[A, D, C], &[A, B], &[B, C]], &[])?;
-    let mut used = ArcsUsed::none(alloc, arcs.len())?;
-    assert!(rt; !used.all());
-    let ends = line_run(&arcs, &mut used, &refs(alloc, &[1, 2])?).ok_or("refused")?;
-    assert_eq!(rt;
-        [ends.0, ends.1].as_slice(),
-        places(alloc, &[A, C])?.as_slice()
-    );
-    assert!(rt; !used.all());
-    // An arc may be used again by another list.
-    assert!(rt; ring_stands(&arcs, &mut used, &refs(alloc, &[0, -3, -2])?));
-    assert!(rt; used.all());
+    let arcs = table(rt.alloc(), ROUND, &[])?;
+    let line = refs(rt.alloc(), &[1, 2])?;
+    let ring = refs(rt.alloc(), &[0, -3, -2])?;
+    let mut used = ArcsUsed::none(rt.alloc(), arcs.len())?;
+    let all_before = used.all();
+    let line_runs = line_run(&arcs, &mut used, &line).is_some();
+    let all_between = used.all();
+    assert!(rt; line_runs && ring_stands(&arcs, &mut used, &ring));
+    assert!(rt; !all_before && !all_between && used.all());
     Ok(())
 }
 
-fn meet(
-    alloc: Global,
-    arcs: &[&[(i64, i64)]],
-    free: &[bool],
-    ends: &[(i64, i64)],
-) -> Result<bool, Fail> {
+/// Three arcs that meet at A.
+const STAR: Arcs = &[&[A, D, C], &[A, B], &[A, E]];
+
+/// Arcs, the ends of lines, and whether a line ends at each end of an arc, or three ends of arcs meet there.
+const ENDS: &[(&str, Arcs, Marks, Places, bool)] = &[
+    ("two arcs meet at each end", ROUND, &[], &[], false),
+    ("lines end at two of three ends", ROUND, &[], &[A, C], false),
+    ("lines end at all three ends", ROUND, &[], &[C, A, B], true),
+    ("three meet where no line ends", STAR, &[], &[E, B, C], true),
+    ("a line ends where three meet", STAR, &[], &[E, C, A], false),
+    (
+        "a closed arc has two ends at its seam",
+        &[&[A, D, C, A], &[A, B]],
+        &[],
+        &[B],
+        true,
+    ),
+    ("no line ends at the seam", LOOP, &[], &[], false),
+    ("a line ends at the seam", LOOP, &[], &[A], true),
+    ("a free loop has no end", LOOP, &[true], &[], true),
+];
+
+fn meet(alloc: Global, arcs: Arcs, free: Marks, ends: Places) -> Result<bool, Fail> {
     let table = table(alloc, arcs, free)?;
-    Ok(ends_meet(alloc, &table, &places(alloc, ends)?)?)
+    Ok(ends_meet(alloc, &table, &positions(alloc, ends)?)?)
 }
 
 #[test]
 fn ends_of_arcs(rt: HostRuntime) -> Result<(), Fail> {
-    let alloc = rt.alloc();
-    // Two arcs meet at each end.
-    let round: [&[(i64, i64)]; 3] = [&[A, D, C], &[A, B], &[B, C]];
-    assert!(rt; !meet(alloc, &round, &[], &[])?);
-    assert!(rt; !meet(alloc, &round, &[], &[A, C])?);
-    assert!(rt; meet(alloc, &round, &[], &[C, A, B])?);
-    // Three meet at A.
-    let star: [&[(i64, i64)]; 3] = [&[A, D, C], &[A, B], &[A, E]];
-    assert!(rt; meet(alloc, &star, &[], &[E, B, C])?);
-    assert!(rt; !meet(alloc, &star, &[], &[E, C, A])?);
+    for (title, arcs, free, ends, expected) in ENDS {
+        let meet = meet(rt.alloc(), *arcs, *free, *ends)?;
+        assert!(rt; meet == *expected, "{title}");
+    }
     Ok(())
 }
 
-#[test]
-fn ends_of_closed_arcs(rt: HostRuntime) -> Result<(), Fail> {
-    let alloc = rt.alloc();
-    // A closed arc has two ends at its seam, a free loop none.
-    assert!(rt; meet(alloc, &[&[A, D, C, A], &[A, B]], &[], &[B])?);
-    assert!(rt; !meet(alloc, &[&[A, D, C, A]], &[], &[])?);
-    assert!(rt; meet(alloc, &[&[A, D, C, A]], &[], &[A])?);
-    assert!(rt; meet(alloc, &[&[A, D, C, A]], &[true], &[])?);
-    Ok(())
-}
+/// Lists of lines over `ROUND`.
+const LINE_LISTS: &[&[i64]] = &[&[], &[1, 2], &[-2]];
 
 #[test]
 fn ends_of_lines(rt: HostRuntime) -> Result<(), Fail> {
-    let alloc = rt.alloc();
-    let arcs = lists(alloc, &[&[A, D, C], &[A, B], &[B, C]])?;
-    let mut ends = Vec::new(alloc);
-    add_line_ends(&mut ends, &arcs, &refs(alloc, &[])?)?;
-    add_line_ends(&mut ends, &arcs, &refs(alloc, &[1, 2])?)?;
-    add_line_ends(&mut ends, &arcs, &refs(alloc, &[-2])?)?;
-    assert_eq!(rt; ends.as_slice(), places(alloc, &[A, C, B, A])?.as_slice());
-    Ok(())
-}
-
-/// A loop of which a line takes a part, and a loop alone.
-#[test]
-fn a_whole_topology(rt: HostRuntime) -> Result<(), Fail> {
-    let alloc = rt.alloc();
-    let f = (20, 0);
-    let g = (20, 4);
-    let h = (24, 0);
-    let arcs: [&[(i64, i64)]; 3] = [&[A, D, C], &[A, B, C], &[f, g, h, f]];
-    let line = refs(alloc, &[1])?;
-    let mut ends = Vec::new(alloc);
-    add_line_ends(&mut ends, &lists(alloc, &arcs)?, &line)?;
-    let free = free_loops(alloc, &lists(alloc, &arcs)?, places(alloc, &[A, C])?)?;
-    assert_eq!(rt; free.as_slice(), [false, false, true].as_slice());
-    let table = read(alloc, &arcs, &free)?.ok_or("refused")?;
-    let mut used = ArcsUsed::none(alloc, table.len())?;
-    assert!(rt; line_run(&table, &mut used, &line).is_some());
-    assert!(rt; ring_stands(&table, &mut used, &refs(alloc, &[0, -2])?));
-    assert!(rt; ring_stands(&table, &mut used, &refs(alloc, &[2])?));
-    assert!(rt; used.all());
-    assert!(rt; ends_meet(alloc, &table, &ends)?);
+    let arcs = lists(rt.alloc(), ROUND)?;
+    let mut ends = Vec::new(rt.alloc());
+    for indexes in LINE_LISTS {
+        add_line_ends(&mut ends, &arcs, &refs(rt.alloc(), *indexes)?)?;
+    }
+    assert!(rt; ends == positions(rt.alloc(), &[A, C, B, A])?);
     Ok(())
 }

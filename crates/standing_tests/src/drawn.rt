@@ -1,0 +1,94 @@
+//! Arcs by their places, tables of them, and lists of used arcs by their indexes.
+use chains::{ArcRef, ArcTable};
+use grid::pos::Pos;
+use lines::items::Items;
+use standing::is_apart;
+use std::alloc::Global;
+use std::test::Fail;
+
+pub(crate) type Place = (i64, i64);
+
+pub(crate) type Places = &'static [Place];
+
+/// Arcs by their places.
+pub(crate) type Arcs = &'static [Places];
+
+/// Which arcs are marked as free loops; where a mark is missing, it is not set.
+pub(crate) type Marks = &'static [bool];
+
+pub(crate) const A: Place = (0, 0);
+
+pub(crate) const B: Place = (4, 0);
+
+pub(crate) const C: Place = (4, 4);
+
+pub(crate) const D: Place = (0, 4);
+
+pub(crate) const E: Place = (8, 0);
+
+/// Two ways from A to C, of which one is two arcs.
+pub(crate) const ROUND: Arcs = &[&[A, D, C], &[A, B], &[B, C]];
+
+/// A closed arc, which may be a free loop.
+pub(crate) const LOOP: Arcs = &[&[A, D, C, A]];
+
+pub(crate) fn positions(alloc: Global, places: &[Place]) -> Result<Vec<Pos>, Fail> {
+    let mut made = Vec::new(alloc);
+    for (x, y) in places {
+        made.push(Pos::new(*x, *y).ok_or("outside the limits")?)?;
+    }
+    Ok(made)
+}
+
+/// The arcs as lists.
+pub(crate) fn lists(alloc: Global, arcs: &[Places]) -> Result<Vec<Items<Pos>>, Fail> {
+    let mut made = Vec::new(alloc);
+    for places in arcs {
+        made.push(Items::from_vec(positions(alloc, *places)?))?;
+    }
+    Ok(made)
+}
+
+pub(crate) fn refs(alloc: Global, indexes: &[i64]) -> Result<Vec<ArcRef>, Fail> {
+    let mut made = Vec::new(alloc);
+    for index in indexes {
+        made.push(ArcRef::from_index(*index))?;
+    }
+    Ok(made)
+}
+
+/// The table of arcs that are in order and apart.
+pub(crate) fn read(
+    alloc: Global,
+    arcs: &[Places],
+    free: &[bool],
+) -> Result<Option<ArcTable>, Fail> {
+    let Some(table) = ArcTable::from_sorted(alloc, lists(alloc, arcs)?, free)? else {
+        return Ok(None);
+    };
+    if is_apart(alloc, &table)? {
+        return Ok(Some(table));
+    }
+    Ok(None)
+}
+
+/// The table of arcs that stand.
+pub(crate) fn table(alloc: Global, arcs: &[Places], free: &[bool]) -> Result<ArcTable, Fail> {
+    match read(alloc, arcs, free)? {
+        Some(table) => Ok(table),
+        None => Err("refused".into()),
+    }
+}
+
+pub(crate) fn is_at(position: Pos, place: Place) -> bool {
+    position.x() == place.0 && position.y() == place.1
+}
+
+/// The ends are those two places, or there are none.
+pub(crate) fn are_ends(ends: Option<(Pos, Pos)>, places: Option<(Place, Place)>) -> bool {
+    match (ends, places) {
+        (Some((first, last)), Some((start, end))) => is_at(first, start) && is_at(last, end),
+        (None, None) => true,
+        _ => false,
+    }
+}
