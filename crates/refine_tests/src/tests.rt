@@ -1,4 +1,5 @@
 //! Merges, shards, removals and sessions.
+mod inputs;
 mod merges;
 mod removals;
 mod sessions;

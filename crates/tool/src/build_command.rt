@@ -4,6 +4,7 @@ use crate::grid_word::parse_grid;
 use crate::refusal::Refusal;
 use built_text::{BuildFault, build_topology};
 use clap::ArgMatches;
+use grid::Grid;
 use std::alloc::Global;
 use topo::Topology;
 
@@ -13,50 +14,87 @@ pub(crate) fn topology_built<'a, F: Files>(
     found: &ArgMatches<'a>,
     files: &mut F,
 ) -> Result<Topology, Refusal<'a>> {
-    let word = found.get_str("grid").unwrap_or("");
-    let Some(grid) = parse_grid(word) else {
-        return Err(Refusal::BadGrid(word));
-    };
-    let (layers, names) = split_words(alloc, found.get_strs("NAME=FILE").unwrap_or(&[]))?;
+    let grid = grid_of(found.get_str("grid").unwrap_or(""))?;
+    topology_of_words(
+        alloc,
+        &grid,
+        files,
+        found.get_strs("NAME=FILE").unwrap_or(&[]),
+    )
+}
+
+/// The topology of the files that words `NAME=FILE` name, each in its layer.
+fn topology_of_words<'a, F: Files>(
+    alloc: Global,
+    grid: &Grid,
+    files: &mut F,
+    words: &[&'a str],
+) -> Result<Topology, Refusal<'a>> {
+    let names = file_names(alloc, words)?;
     input_once(names.as_slice())?;
-    let texts = read_texts(alloc, files, layers.as_slice(), names.as_slice())?;
-    match build_topology(alloc, &grid, texts.as_slice()) {
+    let texts = read_texts(alloc, files, words)?;
+    topology_of_texts(alloc, grid, names.as_slice(), texts.as_slice())
+}
+
+/// The transform that a word names.
+fn grid_of<'a>(word: &'a str) -> Result<Grid, Refusal<'a>> {
+    match parse_grid(word) {
+        Some(grid) => Ok(grid),
+        None => Err(Refusal::BadGrid(word)),
+    }
+}
+
+/// The topology of texts, each after its layer's name, which were read from the files of these names.
+fn topology_of_texts<'a>(
+    alloc: Global,
+    grid: &Grid,
+    names: &[&'a str],
+    texts: &[(String, Vec<u8>)],
+) -> Result<Topology, Refusal<'a>> {
+    match build_topology(alloc, grid, texts) {
         Ok(topology) => Ok(topology),
-        Err(BuildFault::Text(place, fault)) => {
-            Err(Refusal::of_text(name_at(names.as_slice(), place), fault))
-        }
+        Err(BuildFault::Text(place, fault)) => Err(Refusal::of_text(name_at(names, place), fault)),
         Err(BuildFault::OutOfMemory) => Err(Refusal::OutOfMemory),
     }
 }
 
-/// The names of layers and of files in words `NAME=FILE`, split at the first `=`.
-fn split_words<'a>(
-    alloc: Global,
-    words: &[&'a str],
-) -> Result<(Vec<&'a str>, Vec<&'a str>), Refusal<'a>> {
-    let mut layers = Vec::new(alloc);
+/// The names of a layer and of a file in a word `NAME=FILE`, split at the first `=`.
+fn split_word<'a>(word: &'a str) -> Result<(&'a str, &'a str), Refusal<'a>> {
+    match word.split_once('=') {
+        Some(names) => Ok(names),
+        None => Err(Refusal::BadLayer(word)),
+    }
+}
+
+fn file_names<'a>(alloc: Global, words: &[&'a str]) -> Result<Vec<&'a str>, Refusal<'a>> {
     let mut names = Vec::new(alloc);
     for word in words {
-        let Some((layer, name)) = word.split_once('=') else {
-            return Err(Refusal::BadLayer(*word));
-        };
-        layers.push(layer)?;
+        let (_, name) = split_word(*word)?;
         names.push(name)?;
     }
-    Ok((layers, names))
+    Ok(names)
 }
 
 /// Reads the files in order, each after its layer's name.
 fn read_texts<'a, F: Files>(
     alloc: Global,
     files: &mut F,
-    layers: &[&'a str],
-    names: &[&'a str],
+    words: &[&'a str],
 ) -> Result<Vec<(String, Vec<u8>)>, Refusal<'a>> {
     let mut texts = Vec::new(alloc);
-    for (layer, name) in layers.iter().zip(names) {
-        let layer = String::from_str(alloc, *layer)?;
-        texts.push((layer, read_named(alloc, files, *name)?))?;
+    for word in words {
+        texts.push(read_text(alloc, files, *word)?)?;
     }
     Ok(texts)
+}
+
+/// Reads a file, after its layer's name.
+fn read_text<'a, F: Files>(
+    alloc: Global,
+    files: &mut F,
+    word: &'a str,
+) -> Result<(String, Vec<u8>), Refusal<'a>> {
+    let (layer, name) = split_word(word)?;
+    let layer = String::from_str(alloc, layer)?;
+    Ok((layer, read_named(alloc, files, name)?))
 }

@@ -43,21 +43,93 @@ fn perform<'a, F: Files, O: Sink>(
     out: &mut O,
 ) -> Result<Status, Refusal<'a>> {
     match matches.subcommand() {
-        Some(("build", found)) => print_topology(&topology_built(alloc, found, files)?, out),
-        Some(("check", found)) => print_verdict(is_canonical(alloc, found, files)?, out),
-        Some(("merge", found)) => print_text(&merged_text(alloc, found, files)?, out),
-        Some(("remove", found)) => print_topology(&topology_left(alloc, found, files)?, out),
-        Some(("feature", found)) => print_feature(&read_topology(alloc, found, files)?, found, out),
-        Some(("mesh", found)) => print_mesh(
-            alloc,
-            &read_topology(alloc, found, files)?,
-            found,
-            out,
-        ),
-        Some(("neighbors", found)) => {
-            print_neighbors(alloc, &read_topology(alloc, found, files)?, found, out)
-        }
-        Some(("info", found)) => print_info(&read_topology(alloc, found, files)?, found, out),
+        Some((name, found)) => perform_named(alloc, name, found, files, out),
+        None => Ok(Status::Usage),
+    }
+}
+
+/// The same for the command of this name. The commands that are not named here ask one topology.
+fn perform_named<'a, F: Files, O: Sink>(
+    alloc: Global,
+    name: &str,
+    found: &ArgMatches<'a>,
+    files: &mut F,
+    out: &mut O,
+) -> Result<Status, Refusal<'a>> {
+    match name {
+        "build" => build(alloc, found, files, out),
+        "check" => check(alloc, found, files, out),
+        "merge" => merge(alloc, found, files, out),
+        "remove" => remove(alloc, found, files, out),
+        _ => ask(alloc, name, found, files, out),
+    }
+}
+
+fn build<'a, F: Files, O: Sink>(
+    alloc: Global,
+    found: &ArgMatches<'a>,
+    files: &mut F,
+    out: &mut O,
+) -> Result<Status, Refusal<'a>> {
+    let topology = topology_built(alloc, found, files)?;
+    print_topology(&topology, out)
+}
+
+fn check<'a, F: Files, O: Sink>(
+    alloc: Global,
+    found: &ArgMatches<'a>,
+    files: &mut F,
+    out: &mut O,
+) -> Result<Status, Refusal<'a>> {
+    let canonical = is_canonical(alloc, found, files)?;
+    print_verdict(canonical, out)
+}
+
+fn merge<'a, F: Files, O: Sink>(
+    alloc: Global,
+    found: &ArgMatches<'a>,
+    files: &mut F,
+    out: &mut O,
+) -> Result<Status, Refusal<'a>> {
+    let text = merged_text(alloc, found, files)?;
+    print_text(text.as_slice(), out)
+}
+
+fn remove<'a, F: Files, O: Sink>(
+    alloc: Global,
+    found: &ArgMatches<'a>,
+    files: &mut F,
+    out: &mut O,
+) -> Result<Status, Refusal<'a>> {
+    let topology = topology_left(alloc, found, files)?;
+    print_topology(&topology, out)
+}
+
+/// Reads the topology that a question is asked about, and prints the answer.
+fn ask<'a, F: Files, O: Sink>(
+    alloc: Global,
+    name: &str,
+    found: &ArgMatches<'a>,
+    files: &mut F,
+    out: &mut O,
+) -> Result<Status, Refusal<'a>> {
+    let topology = read_topology(alloc, found, files)?;
+    answer(alloc, name, found, &topology, out)
+}
+
+/// Prints the answer of the command of this name. clap lets no word through that names none.
+fn answer<'a, O: Sink>(
+    alloc: Global,
+    name: &str,
+    found: &ArgMatches<'a>,
+    topology: &Topology,
+    out: &mut O,
+) -> Result<Status, Refusal<'a>> {
+    match name {
+        "feature" => print_feature(topology, found, out),
+        "mesh" => print_mesh(alloc, topology, found, out),
+        "neighbors" => print_neighbors(alloc, topology, found, out),
+        "info" => print_info(topology, found, out),
         _ => Ok(Status::Usage),
     }
 }

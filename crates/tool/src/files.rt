@@ -43,11 +43,16 @@ pub(crate) fn read_named<'a, F: Files>(
 
 /// Standard input can be read once only, so at most one of the files may be it.
 pub(crate) fn input_once<'a>(names: &[&'a str]) -> Result<(), Refusal<'a>> {
-    let mut others = names.iter().filter(|name| **name == STANDARD_INPUT).skip(1);
-    match others.next() {
-        None => Ok(()),
-        Some(_) => Err(Refusal::InputTwice),
+    let mut is_named = false;
+    for name in names {
+        if *name == STANDARD_INPUT {
+            if is_named {
+                return Err(Refusal::InputTwice);
+            }
+            is_named = true;
+        }
     }
+    Ok(())
 }
 
 /// The bytes of all files, read in order.

@@ -51,12 +51,13 @@ pub(crate) fn print_mesh<'a, O: Sink>(
 ) -> Result<Status, Refusal<'a>> {
     let layer = found.get_str("layer");
     let edges = edges_of_word(word(found, "edges"));
-    let lines = match borders(alloc, topology, layer, edges) {
-        Ok(lines) => lines,
-        Err(fault) => return Err(refused(layer.unwrap_or(""), fault)),
-    };
-    write_mesh(&topology.grid(), &lines, out)?;
-    Ok(Status::Done)
+    match borders(alloc, topology, layer, edges) {
+        Ok(lines) => {
+            write_mesh(&topology.grid(), &lines, out)?;
+            Ok(Status::Done)
+        }
+        Err(fault) => Err(refused(layer.unwrap_or(""), fault)),
+    }
 }
 
 /// What the word after `--edges` names; all where there is none.
@@ -81,11 +82,21 @@ pub(crate) fn print_neighbors<'a, O: Sink>(
         Err(fault) => return Err(refused(layer, fault)),
     };
     if found.get_flag("ids") {
-        let geometries = geometries_with_ids(topology, layer)?;
-        write_neighbor_ids(geometries, lists.as_slice(), out)?;
-    } else {
-        write_neighbors(lists.as_slice(), out)?;
+        return print_ids(topology, layer, lists.as_slice(), out);
     }
+    write_neighbors(lists.as_slice(), out)?;
+    Ok(Status::Done)
+}
+
+/// Prints the ids of the neighbors of each feature of a layer.
+fn print_ids<'a, O: Sink>(
+    topology: &Topology,
+    layer: &'a str,
+    lists: &[Vec<usize>],
+    out: &mut O,
+) -> Result<Status, Refusal<'a>> {
+    let geometries = geometries_with_ids(topology, layer)?;
+    write_neighbor_ids(geometries, lists, out)?;
     Ok(Status::Done)
 }
 
@@ -95,11 +106,12 @@ fn geometries_with_ids<'a, 't>(
     layer: &'a str,
 ) -> Result<&'t [Geom], Refusal<'a>> {
     let geometries = topology.geometries(layer).unwrap_or(&[]);
-    if geometries.iter().all(|geometry| geometry.id != Id::None) {
-        Ok(geometries)
-    } else {
-        Err(Refusal::NoId(layer))
+    for geometry in geometries {
+        if geometry.id == Id::None {
+            return Err(Refusal::NoId(layer));
+        }
     }
+    Ok(geometries)
 }
 
 /// Prints what a topology is made of.

@@ -58,35 +58,24 @@ impl<'a> Refusal<'a> {
     /// Writes the line on standard error.
     pub(crate) fn write_line<E: Sink>(&self, err: &mut E) -> Result<(), WriteFault> {
         put(err, b"topotool: ")?;
-        match self {
-            Refusal::BadGrid(word) => put_words(err, "bad grid ", word)?,
-            Refusal::BadLayer(word) => put_words(err, "bad layer ", word)?,
-            Refusal::InputTwice => put(err, b"standard input can be read once only")?,
-            Refusal::Unreadable(file) => put_words(err, "cannot read ", file)?,
-            Refusal::Text(file, fault) => {
-                put_words(err, file, ": ")?;
-                put_kind(err, fault.kind)?;
-                put(err, b" ")?;
-                put_path(err, fault.path.as_slice())?;
-            }
-            Refusal::OtherGrid(file) => {
-                put_words(err, file, ": ")?;
-                put_kind(err, FaultKind::OtherGrid)?;
-            }
-            Refusal::NoLayer(name) => {
-                put_kind(err, FaultKind::NoLayer)?;
-                put_words(err, " ", name)?;
-            }
-            Refusal::NoId(name) => put_words(
-                err,
-                "--ids: a feature without an id in layer ",
-                name,
-            )?,
-            Refusal::BadPlan => put_kind(err, FaultKind::BadPlan)?,
-            Refusal::OutOfMemory => put_kind(err, FaultKind::OutOfMemory)?,
-            Refusal::Write => put_kind(err, FaultKind::Write)?,
-        }
+        self.put_reason(err)?;
         put(err, b"\n")
+    }
+
+    fn put_reason<E: Sink>(&self, err: &mut E) -> Result<(), WriteFault> {
+        match self {
+            Refusal::BadGrid(word) => put_words(err, "bad grid ", word),
+            Refusal::BadLayer(word) => put_words(err, "bad layer ", word),
+            Refusal::InputTwice => put(err, b"standard input can be read once only"),
+            Refusal::Unreadable(file) => put_words(err, "cannot read ", file),
+            Refusal::Text(file, fault) => put_fault(err, file, fault),
+            Refusal::OtherGrid(file) => put_kind_of(err, file, FaultKind::OtherGrid),
+            Refusal::NoLayer(name) => put_no_layer(err, name),
+            Refusal::NoId(name) => put_words(err, "--ids: a feature without an id in layer ", name),
+            Refusal::BadPlan => put_kind(err, FaultKind::BadPlan),
+            Refusal::OutOfMemory => put_kind(err, FaultKind::OutOfMemory),
+            Refusal::Write => put_kind(err, FaultKind::Write),
+        }
     }
 }
 
@@ -125,27 +114,53 @@ fn put_kind<E: Sink>(err: &mut E, kind: FaultKind) -> Result<(), WriteFault> {
     put_words(err, " ", kind.name())
 }
 
+/// A file's name, and the number and name of its fault.
+fn put_kind_of<E: Sink>(err: &mut E, file: &str, kind: FaultKind) -> Result<(), WriteFault> {
+    put_words(err, file, ": ")?;
+    put_kind(err, kind)
+}
+
+/// The same with the fault's path.
+fn put_fault<E: Sink>(err: &mut E, file: &str, fault: &Fault) -> Result<(), WriteFault> {
+    put_kind_of(err, file, fault.kind)?;
+    put(err, b" ")?;
+    put_path(err, fault.path.as_slice())
+}
+
+fn put_no_layer<E: Sink>(err: &mut E, name: &str) -> Result<(), WriteFault> {
+    put_kind(err, FaultKind::NoLayer)?;
+    put_words(err, " ", name)
+}
+
 /// A path is `$`, then `/` and the step for each step.
 fn put_path<E: Sink>(err: &mut E, path: &[Step]) -> Result<(), WriteFault> {
     put(err, b"$")?;
     for step in path {
         put(err, b"/")?;
-        match step {
-            Step::Name(name) => put_name(err, name.as_str())?,
-            Step::Index(index) => put(err, Buffer::new().format(*index).as_bytes())?,
-        }
+        put_step(err, step)?;
     }
     Ok(())
 }
 
+fn put_step<E: Sink>(err: &mut E, step: &Step) -> Result<(), WriteFault> {
+    match step {
+        Step::Name(name) => put_name(err, name.as_str()),
+        Step::Index(index) => put(err, Buffer::new().format(*index).as_bytes()),
+    }
+}
+
 /// A member's name, with `~0` for `~` and `~1` for `/`.
 fn put_name<E: Sink>(err: &mut E, name: &str) -> Result<(), WriteFault> {
-    for byte in name.bytes() {
-        match byte {
-            b'~' => put(err, b"~0")?,
-            b'/' => put(err, b"~1")?,
-            _ => put(err, &[byte])?,
-        }
+    for byte in name.as_bytes() {
+        put_byte(err, *byte)?;
     }
     Ok(())
+}
+
+fn put_byte<E: Sink>(err: &mut E, byte: u8) -> Result<(), WriteFault> {
+    match byte {
+        b'~' => put(err, b"~0"),
+        b'/' => put(err, b"~1"),
+        _ => put(err, &[byte]),
+    }
 }

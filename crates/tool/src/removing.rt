@@ -18,10 +18,31 @@ pub(crate) fn topology_left<'a, F: Files>(
     input_once(&[file, removed])?;
     let text = read_named(alloc, files, file)?;
     let removed_text = read_named(alloc, files, removed)?;
+    text_left(alloc, file, text, removed, removed_text)
+}
+
+/// The topology of a file's text without the features of another file's text. Both are given up.
+fn text_left<'a>(
+    alloc: Global,
+    file: &'a str,
+    text: Vec<u8>,
+    removed: &'a str,
+    removed_text: Vec<u8>,
+) -> Result<Topology, Refusal<'a>> {
     let topology = topology_of(alloc, file, text)?;
-    let (grid, map) = map_of(alloc, removed, removed_text)?;
+    without(alloc, &topology, removed, removed_text)
+}
+
+/// A topology without the features that the text of a file means. The text is given up.
+fn without<'a>(
+    alloc: Global,
+    topology: &Topology,
+    removed: &'a str,
+    text: Vec<u8>,
+) -> Result<Topology, Refusal<'a>> {
+    let (grid, map) = map_of(alloc, removed, text)?;
     if grid != topology.grid() {
         return Err(Refusal::OtherGrid(removed));
     }
-    Ok(remove(alloc, &topology, &map)?.into_topology())
+    Ok(remove(alloc, topology, &map)?.into_topology())
 }

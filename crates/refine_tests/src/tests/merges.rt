@@ -1,4 +1,5 @@
 //! Merging of texts and shards by plans: answers, faults in their order, and deep plans.
+use crate::tests::inputs::{GROUPINGS, grouped, plan_of};
 use crate::tests::texts::{ENDS, FIRST, ON_SCALE_TWO, SECOND, THIRD, THREE};
 use faults::{Fault, FaultKind};
 use grid::transform::Grid;
@@ -34,29 +35,15 @@ fn check_merged(
     Ok(())
 }
 
-#[derive(Clone, Copy)]
-enum Grouping {
-    Left,
-    Right,
-    Halves,
-}
-
-const GROUPINGS: [Grouping; 3] = [Grouping::Left, Grouping::Right, Grouping::Halves];
-
-fn grouped(alloc: Global, grouping: Grouping, count: usize) -> Result<Option<Plan>, Fail> {
-    Ok(match grouping {
-        Grouping::Left => Plan::left(alloc, count)?,
-        Grouping::Right => Plan::right(alloc, count)?,
-        Grouping::Halves => Plan::halves(alloc, count)?,
-    })
-}
+const ORDERS: &[&[&str]] = &[&[FIRST, SECOND, THIRD], &[THIRD, FIRST, SECOND]];
 
 #[test]
 fn three_squares_in_any_grouping(rt: HostRuntime) -> Result<(), Fail> {
     for grouping in GROUPINGS {
-        let plan = grouped(rt.alloc(), grouping, 3)?.ok_or("no plan")?;
-        check_merged(&rt, rt.alloc(), &[FIRST, SECOND, THIRD], &plan, THREE)?;
-        check_merged(&rt, rt.alloc(), &[THIRD, FIRST, SECOND], &plan, THREE)?;
+        let plan = plan_of(rt.alloc(), grouping, 3)?;
+        for order in ORDERS {
+            check_merged(&rt, rt.alloc(), order, &plan, THREE)?;
+        }
     }
     Ok(())
 }
@@ -218,19 +205,25 @@ fn plans_over_shards(rt: HostRuntime) -> Result<(), Fail> {
     check_joined(&rt, rt.alloc(), &shards, &both, TWO_LAYERS)
 }
 
-/// The fault of a plan that is refused.
-fn fault(alloc: Global, shards: &[Whole], leaves: &[usize]) -> Result<PlanFault, Fail> {
+/// Leaves that a plan joins to the first, and what it is refused for.
+const REFUSED_PLANS: &[(&[usize], PlanFault)] = &[
+    (&[3], PlanFault::BadPlan(3)),
+    (&[1], PlanFault::OtherGrid(2)),
+];
+
+/// The fault of a plan that joins these leaves to the first.
+fn fault(alloc: Global, shards: &[Whole], leaves: &[usize]) -> Result<Option<PlanFault>, Fail> {
     let plan = joined_to_first(alloc, leaves)?;
-    Ok(run_plan(alloc, shards, &plan).err().ok_or("joined")?)
+    Ok(run_plan(alloc, shards, &plan).err())
 }
 
 #[test]
 fn plans_over_shards_that_are_refused(rt: HostRuntime) -> Result<(), Fail> {
     let shards = shards(rt.alloc(), &[(1, "b"), (1, "a"), (2, "a")])?;
-    let past = fault(rt.alloc(), &shards, &[3])?;
-    assert!(rt; past == PlanFault::BadPlan(3));
-    let other = fault(rt.alloc(), &shards, &[1])?;
-    assert!(rt; other == PlanFault::OtherGrid(2));
+    for (leaves, expected) in REFUSED_PLANS {
+        let fault = fault(rt.alloc(), shards.as_slice(), *leaves)?;
+        assert!(rt; fault == Some(*expected));
+    }
     Ok(())
 }
 
@@ -262,26 +255,45 @@ fn in_a_row(alloc: Global, leaves: &[usize]) -> Result<Option<Plan>, Fail> {
     Ok(plan)
 }
 
+fn whole(alloc: Global, text: &[u8]) -> Result<Whole, Fail> {
+    let (grid, map) = topo_io::read(alloc, text)?;
+    Ok(Whole::of_map(alloc, &grid, map)?)
+}
+
 fn wholes(alloc: Global, list: &[Vec<u8>]) -> Result<Vec<Whole>, Fail> {
     let mut made = Vec::new(alloc);
     for text in list {
-        let (grid, map) = topo_io::read(alloc, text.as_slice()).ok().ok_or("refused")?;
-        made.push(Whole::of_map(alloc, &grid, map)?)?;
+        made.push(whole(alloc, text.as_slice())?)?;
     }
     Ok(made)
+}
+
+/// Whether the texts and their shards are joined to one text by a plan.
+fn are_joined_alike(
+    alloc: Global,
+    list: &[Vec<u8>],
+    shards: &[Whole],
+    plan: &Plan,
+) -> Result<bool, Fail> {
+    let merged = merge_texts(alloc, list, plan)?;
+    let joined = run_plan(alloc, shards, plan)?;
+    Ok(merged == joined.text(alloc)?)
+}
+
+/// The plan of the places that a number stands for.
+fn plan_of_number(alloc: Global, number: usize) -> Result<Option<Plan>, Fail> {
+    let places = places_of(alloc, number)?;
+    in_a_row(alloc, places.as_slice())
 }
 
 #[test]
 fn each_choice_of_texts_as_by_its_plan(rt: HostRuntime) -> Result<(), Fail> {
     let list = texts(rt.alloc(), &FIVE)?;
-    let shards = wholes(rt.alloc(), &list)?;
-    assert!(rt; in_a_row(rt.alloc(), &places_of(rt.alloc(), 0)?)?.is_none());
+    let shards = wholes(rt.alloc(), list.as_slice())?;
+    assert!(rt; plan_of_number(rt.alloc(), 0)?.is_none());
     for number in 1..32 {
-        let places = places_of(rt.alloc(), number)?;
-        let plan = in_a_row(rt.alloc(), &places)?.ok_or("no plan")?;
-        let merged = merge_texts(rt.alloc(), &list, &plan)?;
-        let joined = run_plan(rt.alloc(), &shards, &plan)?.text(rt.alloc())?;
-        assert!(rt; merged == joined);
+        let plan = plan_of_number(rt.alloc(), number)?.ok_or("no plan")?;
+        assert!(rt; are_joined_alike(rt.alloc(), list.as_slice(), shards.as_slice(), &plan)?);
     }
     Ok(())
 }
@@ -306,6 +318,14 @@ fn deep_plan(alloc: Global, sides: (bool, bool)) -> Result<Plan, Fail> {
 const ONE_LAYER: &str =
     "{\"arcs\":[],\"objects\":{\"a\":{\"geometries\":[],\"type\":\"GeometryCollection\"}},\"transform\":{\"scale\":[1,1],\"translate\":[0,0]},\"type\":\"Topology\"}";
 
+/// A plan with a leaf more, which is past the shards, is refused.
+fn check_past(rt: &impl Abort, alloc: Global, shards: &[Whole], plan: Plan) -> Result<(), Fail> {
+    let past = node(alloc, plan, Plan::Leaf(1))?;
+    let fault = run_plan(alloc, shards, &past).err();
+    assert!(rt; fault == Some(PlanFault::BadPlan(1)));
+    Ok(())
+}
+
 fn check_deep(
     rt: &impl Abort,
     alloc: Global,
@@ -314,9 +334,7 @@ fn check_deep(
 ) -> Result<(), Fail> {
     let plan = deep_plan(alloc, sides)?;
     check_joined(rt, alloc, shards, &plan, ONE_LAYER)?;
-    let past = node(alloc, plan, Plan::Leaf(1))?;
-    assert!(rt; run_plan(alloc, shards, &past).err() == Some(PlanFault::BadPlan(1)));
-    Ok(())
+    check_past(rt, alloc, shards, plan)
 }
 
 #[test]

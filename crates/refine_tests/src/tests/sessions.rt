@@ -1,12 +1,12 @@
 //! Sessions: a topology that is edited by joins and removals, and its text. Expected texts are worked
 //! out by hand.
+use crate::tests::inputs::{is_text_of, map_of, topology_of};
 use crate::tests::texts::{FIRST, ON_SCALE_TWO, SECOND, SHARED_EDGE};
 use grid::Grid;
 use refine::{Edit, EditsFault, JoinFault, Session};
 use std::alloc::Global;
 use std::process::Abort;
 use std::test::Fail;
-use topo::Topology;
 
 const NO_LAYERS: &str =
     r#"{"arcs":[],"objects":{},"transform":{"scale":[1,1],"translate":[0,0]},"type":"Topology"}"#;
@@ -16,14 +16,26 @@ fn start(alloc: Global) -> Result<Session, Fail> {
     Ok(Session::start(alloc, &grid)?)
 }
 
-fn joining(alloc: Global, text: &str) -> Result<Edit, Fail> {
-    let (grid, map) = topo_io::read(alloc, text.as_bytes())?;
-    Ok(Edit::Join(Topology::build(alloc, &grid, &map)?))
+/// An edit, by the text of the topology that is joined or taken out.
+#[derive(Clone, Copy)]
+enum Step {
+    Join(&'static str),
+    Remove(&'static str),
 }
 
-fn removing(alloc: Global, text: &str) -> Result<Edit, Fail> {
-    let (_, map) = topo_io::read(alloc, text.as_bytes())?;
-    Ok(Edit::Remove(map))
+fn edit(alloc: Global, step: Step) -> Result<Edit, Fail> {
+    match step {
+        Step::Join(text) => Ok(Edit::Join(topology_of(alloc, text)?)),
+        Step::Remove(text) => Ok(Edit::Remove(map_of(alloc, text)?)),
+    }
+}
+
+fn edits(alloc: Global, steps: &[Step]) -> Result<Vec<Edit>, Fail> {
+    let mut made = Vec::new(alloc);
+    for step in steps {
+        made.push(edit(alloc, *step)?)?;
+    }
+    Ok(made)
 }
 
 /// The session's text is as expected, and so is that of the topology that it lends.
@@ -33,55 +45,116 @@ fn assert_text(
     session: &Session,
     expected: &str,
 ) -> Result<(), Fail> {
-    assert!(rt;
-        session.text()?.as_slice() == expected.as_bytes(),
-        "{expected}"
-    );
-    let text = topo_io::text_of(alloc, session.topology())?;
+    let text = session.text()?;
     assert!(rt; text.as_slice() == expected.as_bytes(), "{expected}");
+    let is_lent = is_text_of(alloc, session.topology(), expected)?;
+    assert!(rt; is_lent, "{expected}");
     Ok(())
+}
+
+/// An edit, what it is refused for, and the text of the session after it.
+#[derive(Clone, Copy)]
+struct Row {
+    step: Step,
+    fault: Option<JoinFault>,
+    text: &'static str,
+}
+
+const ONE_BY_ONE: &[Row] = &[
+    Row {
+        step: Step::Join(FIRST),
+        fault: None,
+        text: FIRST,
+    },
+    Row {
+        step: Step::Join(SECOND),
+        fault: None,
+        text: SHARED_EDGE,
+    },
+    Row {
+        step: Step::Remove(FIRST),
+        fault: None,
+        text: SECOND,
+    },
+    Row {
+        step: Step::Join(ON_SCALE_TWO),
+        fault: Some(JoinFault::OtherGrid),
+        text: SECOND,
+    },
+];
+
+fn assert_row(
+    rt: &impl Abort,
+    alloc: Global,
+    session: &mut Session,
+    row: &Row,
+) -> Result<(), Fail> {
+    let fault = session.apply(&edit(alloc, row.step)?).err();
+    assert!(rt; fault == row.fault, "{}", row.text);
+    assert_text(rt, alloc, session, row.text)
 }
 
 #[test]
 fn edits_one_by_one(rt: HostRuntime) -> Result<(), Fail> {
-    let alloc = rt.alloc();
+    let mut session = start(rt.alloc())?;
+    assert_text(&rt, rt.alloc(), &session, NO_LAYERS)?;
+    for row in ONE_BY_ONE {
+        assert_row(&rt, rt.alloc(), &mut session, row)?;
+    }
+    Ok(())
+}
+
+/// A list of edits, the place and the reason of its refusal, and the text of the session after it.
+#[derive(Clone, Copy)]
+struct List {
+    steps: &'static [Step],
+    fault: Option<(usize, JoinFault)>,
+    text: &'static str,
+}
+
+/// The edits before the refused one stand.
+const UP_TO_A_REFUSAL: List = List {
+    steps: &[
+        Step::Join(FIRST),
+        Step::Join(ON_SCALE_TWO),
+        Step::Join(SECOND),
+    ],
+    fault: Some((1, JoinFault::OtherGrid)),
+    text: FIRST,
+};
+
+const REMOVAL_ON_ANOTHER_GRID: List = List {
+    steps: &[
+        Step::Join(SHARED_EDGE),
+        Step::Remove(ON_SCALE_TWO),
+        Step::Remove(SECOND),
+    ],
+    fault: None,
+    text: FIRST,
+};
+
+/// The place and the reason of a refusal.
+fn refusal(applied: Result<(), EditsFault>) -> Option<(usize, JoinFault)> {
+    match applied {
+        Ok(()) => None,
+        Err(EditsFault { place, fault }) => Some((place, fault)),
+    }
+}
+
+fn assert_list(rt: &impl Abort, alloc: Global, list: &List) -> Result<(), Fail> {
     let mut session = start(alloc)?;
-    assert_text(&rt, alloc, &session, NO_LAYERS)?;
-    session.apply(&joining(alloc, FIRST)?)?;
-    assert_text(&rt, alloc, &session, FIRST)?;
-    session.apply(&joining(alloc, SECOND)?)?;
-    assert_text(&rt, alloc, &session, SHARED_EDGE)?;
-    session.apply(&removing(alloc, FIRST)?)?;
-    assert_text(&rt, alloc, &session, SECOND)?;
-    let refused = session.apply(&joining(alloc, ON_SCALE_TWO)?);
-    assert_eq!(rt; refused, Err(JoinFault::OtherGrid));
-    assert_text(&rt, alloc, &session, SECOND)
+    let edits = edits(alloc, list.steps)?;
+    let fault = refusal(session.apply_all(edits.as_slice()));
+    assert!(rt; fault == list.fault);
+    assert_text(rt, alloc, &session, list.text)
 }
 
 #[test]
 fn edits_up_to_a_refusal(rt: HostRuntime) -> Result<(), Fail> {
-    let alloc = rt.alloc();
-    let mut session = start(alloc)?;
-    let mut edits = Vec::new(alloc);
-    edits.push(joining(alloc, FIRST)?)?;
-    edits.push(joining(alloc, ON_SCALE_TWO)?)?;
-    edits.push(joining(alloc, SECOND)?)?;
-    let fault = EditsFault {
-        place: 1,
-        fault: JoinFault::OtherGrid,
-    };
-    assert_eq!(rt; session.apply_all(edits.as_slice()), Err(fault));
-    assert_text(&rt, alloc, &session, FIRST)
+    assert_list(&rt, rt.alloc(), &UP_TO_A_REFUSAL)
 }
 
 #[test]
 fn a_removal_is_on_any_grid(rt: HostRuntime) -> Result<(), Fail> {
-    let alloc = rt.alloc();
-    let mut session = start(alloc)?;
-    let mut edits = Vec::new(alloc);
-    edits.push(joining(alloc, SHARED_EDGE)?)?;
-    edits.push(removing(alloc, ON_SCALE_TWO)?)?;
-    edits.push(removing(alloc, SECOND)?)?;
-    session.apply_all(edits.as_slice())?;
-    assert_text(&rt, alloc, &session, FIRST)
+    assert_list(&rt, rt.alloc(), &REMOVAL_ON_ANOTHER_GRID)
 }

@@ -1,15 +1,16 @@
 //! Maps joined by plans over each kind of shard. Expected texts are worked out by hand.
+use crate::tests::inputs::{GROUPINGS, Grouping, plan_of};
 use crate::tests::texts::THREE;
 use grid::transform::Grid;
 use refine::cut_shard::Cut;
+use refine::run_plan;
 use refine::shard::Shard;
 use refine::whole::Whole;
-use refine::{Plan, run_plan};
 use shapes::{Feature, FeatureMap, Id, Props, Shape};
 use std::alloc::Global;
 use std::process::Abort;
 use std::test::Fail;
-use worked_maps::{FIRST, SECOND, THIRD, line, polygon};
+use worked_maps::{FIRST, Places, SECOND, THIRD, line, polygon};
 
 const FROM_CORNER: &[(i64, i64)] = &[(1, 1), (2, 2)];
 
@@ -19,22 +20,29 @@ const CORNER: &str =
 /// How many squares each of some shards has.
 const COUNTS: &[i64] = &[1, 7, 1, 1, 3, 12, 2, 1, 1, 5, 9, 1, 4];
 
+/// A feature of this shape alone.
+fn feature(alloc: Global, shape: Shape) -> Result<Feature, Fail> {
+    Ok(Feature {
+        id: Id::None,
+        props: Props::empty(alloc)?,
+        shape,
+    })
+}
+
 /// The map of one layer with one feature.
 fn map_of(alloc: Global, layer: &str, shape: Shape) -> Result<FeatureMap, Fail> {
-    let props = Props::empty(alloc)?;
-    let feature = Feature {
-        id: Id::None,
-        props,
-        shape,
-    };
     let mut map = FeatureMap::new(alloc);
     map.add_layer(layer)?;
-    map.insert(layer, feature)?;
+    map.insert(layer, feature(alloc, shape)?)?;
     Ok(map)
 }
 
+fn grid() -> Result<Grid, Fail> {
+    Ok(Grid::new(1, 1, 0, 0).ok_or("no grid")?)
+}
+
 fn shards<S: Shard>(alloc: Global, maps: &[FeatureMap]) -> Result<Vec<S>, Fail> {
-    let grid = Grid::new(1, 1, 0, 0).ok_or("no grid")?;
+    let grid = grid()?;
     let mut made = Vec::new(alloc);
     for map in maps {
         made.push(S::from_map(alloc, &grid, map)?)?;
@@ -42,12 +50,11 @@ fn shards<S: Shard>(alloc: Global, maps: &[FeatureMap]) -> Result<Vec<S>, Fail> 
     Ok(made)
 }
 
-fn plans(alloc: Global, count: usize) -> Result<Vec<Plan>, Fail> {
-    let mut made = Vec::new(alloc);
-    made.push(Plan::left(alloc, count)?.ok_or("no plan")?)?;
-    made.push(Plan::right(alloc, count)?.ok_or("no plan")?)?;
-    made.push(Plan::halves(alloc, count)?.ok_or("no plan")?)?;
-    Ok(made)
+/// The text of shards that are joined in a grouping.
+fn joined<S: Shard>(alloc: Global, shards: &[S], grouping: Grouping) -> Result<Vec<u8>, Fail> {
+    let plan = plan_of(alloc, grouping, shards.len())?;
+    let joined = run_plan(alloc, shards, &plan)?;
+    Ok(joined.text(alloc)?)
 }
 
 /// Joins the maps as shards of a kind in each grouping, and compares the text.
@@ -58,8 +65,8 @@ fn check_shards<S: Shard>(
     text: &[u8],
 ) -> Result<(), Fail> {
     let shards: Vec<S> = shards(alloc, maps)?;
-    for plan in &plans(alloc, maps.len())? {
-        let written = run_plan(alloc, &shards, plan)?.text(alloc)?;
+    for grouping in GROUPINGS {
+        let written = joined(alloc, shards.as_slice(), grouping)?;
         assert!(rt; written.as_slice() == text);
     }
     Ok(())
@@ -70,37 +77,51 @@ fn check_each_kind(
     rt: &impl Abort,
     alloc: Global,
     maps: &[FeatureMap],
-    text: &str,
+    text: &[u8],
 ) -> Result<(), Fail> {
-    check_shards::<Whole>(rt, alloc, maps, text.as_bytes())?;
-    check_shards::<Cut>(rt, alloc, maps, text.as_bytes())
+    check_shards::<Whole>(rt, alloc, maps, text)?;
+    check_shards::<Cut>(rt, alloc, maps, text)
 }
 
-fn squares(alloc: Global, rings: &[&[(i64, i64)]]) -> Result<Vec<FeatureMap>, Fail> {
+fn squares(alloc: Global, rings: &[Places]) -> Result<Vec<FeatureMap>, Fail> {
     let mut maps = Vec::new(alloc);
     for places in rings {
-        maps.push(map_of(alloc, "a", polygon(alloc, places)?)?)?;
+        maps.push(map_of(alloc, "a", polygon(alloc, *places)?)?)?;
     }
     Ok(maps)
 }
 
+fn check_squares(rt: &impl Abort, alloc: Global, rings: &[Places]) -> Result<(), Fail> {
+    let maps = squares(alloc, rings)?;
+    check_each_kind(rt, alloc, maps.as_slice(), THREE.as_bytes())
+}
+
 #[test]
 fn squares_in_a_row(rt: HostRuntime) -> Result<(), Fail> {
-    let alloc = rt.alloc();
-    let maps = squares(alloc, &[FIRST, SECOND, THIRD])?;
-    check_each_kind(&rt, alloc, &maps, THREE)?;
-    let maps = squares(alloc, &[THIRD, FIRST, SECOND, FIRST])?;
-    check_each_kind(&rt, alloc, &maps, THREE)
+    check_squares(&rt, rt.alloc(), &[FIRST, SECOND, THIRD])?;
+    check_squares(&rt, rt.alloc(), &[THIRD, FIRST, SECOND, FIRST])
+}
+
+/// A square twice in the layer `a`, once in the layer `b`, and beside that a line from a corner of it.
+fn squares_and_line(alloc: Global) -> Result<Vec<FeatureMap>, Fail> {
+    let mut maps = squares(alloc, &[FIRST, FIRST])?;
+    maps.push(map_of(alloc, "b", polygon(alloc, FIRST)?)?)?;
+    maps.push(map_of(alloc, "b", line(alloc, FROM_CORNER)?)?)?;
+    Ok(maps)
 }
 
 /// A square in two layers, and in one of them a line from a corner of it, which becomes its seam.
 #[test]
 fn a_line_from_a_corner(rt: HostRuntime) -> Result<(), Fail> {
-    let alloc = rt.alloc();
-    let mut maps = squares(alloc, &[FIRST, FIRST])?;
-    maps.push(map_of(alloc, "b", polygon(alloc, FIRST)?)?)?;
-    maps.push(map_of(alloc, "b", line(alloc, FROM_CORNER)?)?)?;
-    check_each_kind(&rt, alloc, &maps, CORNER)
+    let maps = squares_and_line(rt.alloc())?;
+    check_each_kind(&rt, rt.alloc(), maps.as_slice(), CORNER.as_bytes())
+}
+
+/// The unit square that begins at this place of a row.
+fn square(alloc: Global, left: i64) -> Result<Feature, Fail> {
+    let right = left.saturating_add(1);
+    let places = [(left, 0), (right, 0), (right, 1), (left, 1), (left, 0)];
+    feature(alloc, polygon(alloc, &places)?)
 }
 
 /// The map of squares in a row, from a place of it to another.
@@ -108,17 +129,7 @@ fn row(alloc: Global, first: i64, end: i64) -> Result<FeatureMap, Fail> {
     let mut map = FeatureMap::new(alloc);
     map.add_layer("a")?;
     for left in first..end {
-        let right = left.saturating_add(1);
-        let shape = polygon(
-            alloc,
-            &[(left, 0), (right, 0), (right, 1), (left, 1), (left, 0)],
-        )?;
-        let feature = Feature {
-            id: Id::None,
-            props: Props::empty(alloc)?,
-            shape,
-        };
-        map.insert("a", feature)?;
+        map.insert("a", square(alloc, left)?)?;
     }
     Ok(map)
 }
@@ -135,20 +146,19 @@ fn rows(alloc: Global) -> Result<Vec<FeatureMap>, Fail> {
     Ok(maps)
 }
 
+/// The text of the map of all rows.
+fn text_of_rows(alloc: Global) -> Result<Vec<u8>, Fail> {
+    let whole = Whole::of_map(alloc, &grid()?, row(alloc, -1, 48)?)?;
+    Ok(whole.text(alloc)?)
+}
+
 /// Large shards joined with small ones, in each grouping and in both orders: the text of the join
 /// of their maps.
 #[test]
 fn shards_of_many_sizes(rt: HostRuntime) -> Result<(), Fail> {
-    let alloc = rt.alloc();
-    let mut maps = rows(alloc)?;
-    let whole = Whole::of_map(
-        alloc,
-        &Grid::new(1, 1, 0, 0).ok_or("no grid")?,
-        row(alloc, -1, 48)?,
-    )?;
-    let text = whole.text(alloc)?;
-    check_shards::<Whole>(&rt, alloc, &maps, &text)?;
-    check_shards::<Cut>(&rt, alloc, &maps, &text)?;
+    let mut maps = rows(rt.alloc())?;
+    let text = text_of_rows(rt.alloc())?;
+    check_each_kind(&rt, rt.alloc(), maps.as_slice(), text.as_slice())?;
     maps.reverse();
-    check_shards::<Cut>(&rt, alloc, &maps, &text)
+    check_shards::<Cut>(&rt, rt.alloc(), maps.as_slice(), text.as_slice())
 }
