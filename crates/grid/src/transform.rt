@@ -209,7 +209,8 @@ impl Axis {
     /// The absolute number of a grid number.
     pub fn to_absolute(&self, n: i64) -> i64
         requires { IsGridNumber n }
-        ensures { result ≡ absolute_number self.now n }
+        ensures value { result ≡ absolute_number self.now n }
+        ensures limits { IsScaling self.now }
     {
         absolute(self.scale, self.translate, n)
     }
@@ -297,7 +298,8 @@ impl Grid {
 
     /// The absolute place of a position.
     pub fn to_absolute(&self, p: Pos) -> (i64, i64)
-        ensures { result ≡ absolute_place self.now p }
+        ensures value { result ≡ absolute_place self.now p }
+        ensures limits { IsTransform self.now }
     {
         (self.x.to_absolute(p.x()), self.y.to_absolute(p.y()))
     }
