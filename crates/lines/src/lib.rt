@@ -8,7 +8,5 @@ pub mod line;
 pub mod pair;
 pub mod ring;
 pub mod shape_fault;
-#[cfg(test)]
-mod tests;
 pub mod text;
 mod trail;

@@ -1,10 +1,11 @@
-use crate::bits::{PositionBits, place_among};
-use crate::items::Items;
-use crate::line::Line;
-use crate::ring::Ring;
-use crate::shape_fault::ShapeFault;
-use crate::text::Text;
+//! Lists of positions that are lines or rings, and those that are not.
 use grid::pos::Pos;
+use lines::bits::{PositionBits, place_among};
+use lines::items::Items;
+use lines::line::Line;
+use lines::ring::Ring;
+use lines::shape_fault::ShapeFault;
+use lines::text::Text;
 use std::alloc::Global;
 use std::hash::{DefaultHasher, Hash, Hasher};
 use std::process::Abort;

@@ -1,5 +1,6 @@
-//! Sinks that answer from a list and that keep.
-use super::*;
+//! Sinks that answer from a list, that keep, and that write.
+use sinks::{Answer, Kept, Refused, Script, Sink, Tap, WriteFault, put};
+use std::io::Cursor;
 use std::test::Fail;
 
 #[test]
@@ -22,4 +23,15 @@ fn answers_from_its_list(rt: HostRuntime) -> Result<(), Fail> {
     assert_eq!(rt; kept.offer(b"mn"), Ok(2));
     assert!(rt; kept.flush().is_ok());
     Ok(())
+}
+
+#[test]
+fn writes_to_a_writer(rt: HostRuntime) {
+    let mut bytes = Vec::new(rt.alloc());
+    let mut tap = Tap::new(&mut bytes);
+    assert_eq!(rt; put(&mut tap, b"abc"), Ok(()));
+    assert!(rt; tap.flush().is_ok());
+    assert_eq!(rt; bytes.as_slice(), b"abc".as_slice());
+    let mut full = Tap::new(Cursor::new([0_u8; 2]));
+    assert_eq!(rt; put(&mut full, b"abc"), Err(WriteFault::Write));
 }
