@@ -59,6 +59,13 @@ pub record IsFirstRefused (texts : List (List ℕ)) (number : ℕ) (f : Fault) :
   pub least : IsLeast (faults_of_text text) (pair_of f)
   pub no_want : IsWant f → ⊥
 
+-- the texts are accepted, all on the grid g, and m is the union of the named maps
+pub record IsUnionOf (texts : List (List ℕ)) (is : List ℕ) (g : Transform) (m : Layers) : Type 0 where
+  pub places : first_outside (length texts) is ≡ None
+  pub maps : List Layers
+  pub meant : AreMeant texts g maps
+  pub union : m ≡ union_at maps is
+
 -- the texts are accepted, on one grid, and the text is the canonical text of the union of the named maps on it
 pub record IsMergeOf (texts : List (List ℕ)) (is t : List ℕ) : Type 0 where
   pub places : first_outside (length texts) is ≡ None

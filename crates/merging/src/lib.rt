@@ -12,6 +12,6 @@ mod running;
 pub mod shard;
 
 pub use fault::{JoinFault, MergeFault, PlanFault};
-pub use merge::merge_as;
+pub use merge::{merge_as, merge_shards};
 pub use plan::run_plan;
 pub use shard::Shard;

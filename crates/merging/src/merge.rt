@@ -4,7 +4,7 @@ ghost use Rattle.merging.specs.declared.fault.MergeFault.TheVariants.{BadPlan};
 ghost use Rattle.plans.specs.Leaves.{leaves, first_outside};
 ghost use Rattle.merging.specs.Plans.{off_grid};
 ghost use Rattle.merging.specs.Plans as stated;
-ghost use Rattle.merging.specs.Merge.{bytes_of, AreKept, IsFaultOf, IsGridOf, IsReadFault, IsRefusalOf, IsMergeFault, IsMergeOf, MeansUnion};
+ghost use Rattle.merging.specs.Merge.{bytes_of, AreKept, IsFaultOf, IsGridOf, IsReadFault, IsRefusalOf, IsMergeFault, IsMergeOf, IsUnionOf, MeansUnion};
 ghost use Rattle.topo_io.specs.Means.{Means};
 
 use crate::fault::MergeFault;
@@ -101,24 +101,23 @@ fn first_other(grids: &[Grid]) -> Option<usize>
     first_off(grids, first)
 }
 
-/// The canonical text of the union of the features of the texts that the plan names, merged over
-/// shards of a chosen kind. These are joined each once, by halves and in the order of their places,
-/// whatever the plan's order and grouping, which make no difference to the bytes.
+/// The shard of the union of the features of the texts that the plan names. These are joined each once,
+/// by halves and in the order of their places, whatever the plan's order and grouping, which make no
+/// difference to what the shard means.
 ///
 /// # Errors
 /// `BadPlan` with the first leaf from the left that is no place of the list; otherwise `Text` with
 /// the first text of the list that is refused, and its least fault; otherwise `OtherGrid` with the
 /// first text whose transform differs from that of text 0. All texts are read, also those that the
 /// plan does not name.
-pub fn merge_as<S: Shard>(
+pub fn merge_shards<S: Shard>(
     alloc: Global,
     texts: &[Vec<u8>],
     plan: &Plan,
-) -> Result<Vec<u8>, MergeFault>
+) -> Result<S, MergeFault>
     ensures bad_plan { (k : ℕ) → first_outside (length texts.now) (leaves plan.now) ≡ Some k → result ≡ Err (BadPlan k) }
     ensures fault { IfErr result (IsMergeFault (bytes_of texts.now) (leaves plan.now)) }
-    ensures merged { IfOk result (λ t. IsMergeOf (bytes_of texts.now) (leaves plan.now) t.items) }
-    ensures accepted { IfOk result (λ t. MeansUnion (bytes_of texts.now) (leaves plan.now) t.items) }
+    ensures merged { IfOk result (λ s. IsUnionOf (bytes_of texts.now) (leaves plan.now) (S.grid_of s) (S.map_of s)) }
 {
     if let Some(leaf) = first_bad_leaf(alloc, plan, texts.len()) {
         return Err(MergeFault::BadPlan(leaf));
@@ -129,7 +128,26 @@ pub fn merge_as<S: Shard>(
         return Err(MergeFault::OtherGrid(number));
     }
     match join_all(alloc, shards) {
-        Ok(shard) => Ok(shard.into_text(alloc)?),
+        Ok(shard) => Ok(shard),
         Err(_) => Err(MergeFault::OutOfMemory),
     }
+}
+
+/// The canonical text of the union of the features of the texts that the plan names, merged over
+/// shards of a chosen kind, as `merge_shards` does.
+///
+/// # Errors
+/// Those of `merge_shards`.
+pub fn merge_as<S: Shard>(
+    alloc: Global,
+    texts: &[Vec<u8>],
+    plan: &Plan,
+) -> Result<Vec<u8>, MergeFault>
+    ensures bad_plan { (k : ℕ) → first_outside (length texts.now) (leaves plan.now) ≡ Some k → result ≡ Err (BadPlan k) }
+    ensures fault { IfErr result (IsMergeFault (bytes_of texts.now) (leaves plan.now)) }
+    ensures merged { IfOk result (λ t. IsMergeOf (bytes_of texts.now) (leaves plan.now) t.items) }
+    ensures accepted { IfOk result (λ t. MeansUnion (bytes_of texts.now) (leaves plan.now) t.items) }
+{
+    let shard: S = merge_shards(alloc, texts, plan)?;
+    Ok(shard.into_text(alloc)?)
 }

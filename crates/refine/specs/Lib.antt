@@ -5,3 +5,4 @@ pub mod OnGrid
 pub mod Lent
 pub mod Removals
 pub mod Ways
+pub mod Merged

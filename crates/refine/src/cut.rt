@@ -372,6 +372,13 @@ impl Kept {
         &self.topology
     }
 
+    pub(crate) fn into_topology(self) -> Topology
+        ensures grid { result.grid ≡ self.grid }
+        ensures of_map { IsOf self.map result }
+    {
+        self.topology
+    }
+
     /// An equal topology.
     fn copy(&self, alloc: Global) -> Result<Kept, OutOfMemory>
         ensures { IfOk result (λ k. k ≡ self.now) }
@@ -537,6 +544,14 @@ impl Cut {
     {
         let Cut { least, larger } = self;
         all_united(alloc, least, larger)
+    }
+
+    // The topology of all features.
+    pub(crate) fn into_topology(self, alloc: Global) -> Result<Topology, OutOfMemory>
+        ensures grid { IfOk result (λ t. t.grid ≡ self.grid) }
+        ensures of_map { IfOk result (λ t. IsOf self.map t) }
+    {
+        Ok(self.into_one(alloc)?.into_topology())
     }
 
     // The topologies, in no order.

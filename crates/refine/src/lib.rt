@@ -18,7 +18,7 @@ pub mod whole;
 pub use cut_shard::Cut;
 pub use edit::Edit;
 pub use fault::{EditsFault, JoinFault, MergeFault, PlanFault};
-pub use merge::merge_texts;
+pub use merge::{merge_texts, merge_topologies};
 pub use merging::{Shard, plan, run_plan, shard};
 pub use plans::Plan;
 pub use recutting::{Recut, Side, recut};

@@ -2,13 +2,17 @@
 ghost use Rattle.std.specs.Prelude.{◌≡◌, ℕ, IfOk, IfErr, Some, Err, length};
 ghost use Rattle.plans.specs.Leaves.{leaves, first_outside};
 ghost use Rattle.merging.specs.Merge.{bytes_of, IsMergeFault, IsMergeOf, MeansUnion};
+ghost use Rattle.refine.specs.Merged.{IsTopologyOfUnion};
+ghost use Rattle.topo.specs.OfMap.{seen_parts};
+ghost use Rattle.topo_io.specs.TopologyText.{topology_text};
 ghost use Rattle.merging.specs.declared.fault.MergeFault.TheVariants.{BadPlan};
 
 use crate::cut_shard::Cut;
 use crate::fault::MergeFault;
-pub use merging::merge::merge_as;
+pub use merging::merge::{merge_as, merge_shards};
 use plans::Plan;
 use std::alloc::Global;
+use topo::Topology;
 
 /// The canonical text of the union of the features of the texts that the plan names. These are joined
 /// each once and by halves, whatever the plan's grouping, which makes no difference to the bytes.
@@ -25,4 +29,23 @@ pub fn merge_texts(alloc: Global, texts: &[Vec<u8>], plan: &Plan) -> Result<Vec<
     ensures accepted { IfOk result (λ t. MeansUnion (bytes_of texts.now) (leaves plan.now) t.items) }
 {
     merge_as::<Cut>(alloc, texts, plan)
+}
+
+/// The topology of the union of the features of the texts that the plan names, of which `merge_texts`
+/// answers the text. Whoever writes it to a sink needs no memory for that text.
+///
+/// # Errors
+/// Those of `merge_texts`.
+pub fn merge_topologies(
+    alloc: Global,
+    texts: &[Vec<u8>],
+    plan: &Plan,
+) -> Result<Topology, MergeFault>
+    ensures bad_plan { (k : ℕ) → first_outside (length texts.now) (leaves plan.now) ≡ Some k → result ≡ Err (BadPlan k) }
+    ensures fault { IfErr result (IsMergeFault (bytes_of texts.now) (leaves plan.now)) }
+    ensures merged { IfOk result (IsTopologyOfUnion (bytes_of texts.now) (leaves plan.now)) }
+    ensures text { IfOk result (λ t. IsMergeOf (bytes_of texts.now) (leaves plan.now) (topology_text (seen_parts t))) }
+{
+    let shard: Cut = merge_shards(alloc, texts, plan)?;
+    Ok(shard.into_topology(alloc)?)
 }

@@ -1,7 +1,7 @@
 //! The whole command, over files and sinks that are handed in.
 use crate::build_command::topology_built;
 use crate::files::Files;
-use crate::merge_command::merged_text;
+use crate::merge_command::topology_merged;
 use crate::queries::{is_canonical, print_feature, print_info, print_mesh, print_neighbors};
 use crate::refusal::Refusal;
 use crate::removing::topology_left;
@@ -91,8 +91,8 @@ fn merge<'a, F: Files, O: Sink>(
     files: &mut F,
     out: &mut O,
 ) -> Result<Status, Refusal<'a>> {
-    let text = merged_text(alloc, found, files)?;
-    print_text(text.as_slice(), out)
+    let topology = topology_merged(alloc, found, files)?;
+    print_topology(&topology, out)
 }
 
 fn remove<'a, F: Files, O: Sink>(
@@ -136,11 +136,6 @@ fn answer<'a, O: Sink>(
 
 fn print_topology<'a, O: Sink>(topology: &Topology, out: &mut O) -> Result<Status, Refusal<'a>> {
     topo_io::write(topology, out)?;
-    Ok(Status::Done)
-}
-
-fn print_text<'a, O: Sink>(text: &[u8], out: &mut O) -> Result<Status, Refusal<'a>> {
-    put(out, text)?;
     Ok(Status::Done)
 }
 

@@ -3,8 +3,9 @@ use crate::files::{Files, name_at, read_all};
 use crate::refusal::Refusal;
 use clap::ArgMatches;
 use faults::OutOfMemory;
-use refine::{MergeFault, Plan, merge_texts};
+use refine::{MergeFault, Plan, merge_topologies};
 use std::alloc::Global;
+use topo::Topology;
 
 /// In what grouping files are merged.
 #[derive(Clone, Copy)]
@@ -34,20 +35,20 @@ impl Grouping {
     }
 }
 
-/// The text of the topology of all files' features.
-pub(crate) fn merged_text<'a, F: Files>(
+/// The topology of all files' features. Their texts are given up.
+pub(crate) fn topology_merged<'a, F: Files>(
     alloc: Global,
     found: &ArgMatches<'a>,
     files: &mut F,
-) -> Result<Vec<u8>, Refusal<'a>> {
+) -> Result<Topology, Refusal<'a>> {
     let names = found.get_strs("FILE").unwrap_or(&[]);
     let texts = read_all(alloc, files, names)?;
     let grouping = Grouping::of_word(found.get_str("shape").unwrap_or("left"));
     let Some(plan) = grouping.plan(alloc, texts.len())? else {
         return Err(Refusal::BadPlan);
     };
-    match merge_texts(alloc, texts.as_slice(), &plan) {
-        Ok(text) => Ok(text),
+    match merge_topologies(alloc, texts.as_slice(), &plan) {
+        Ok(topology) => Ok(topology),
         Err(fault) => Err(refused(names, fault)),
     }
 }

@@ -2,8 +2,8 @@
 ghost use Rattle.std.specs.Prelude.{◌≡◌, ◌<◌, ◌^◌, Some, None, ◌++◌, length, map as map_list};
 ghost use Rattle.std.specs.Int.{int_min, int_max};
 ghost use Rattle.theory.specs.Lists.{gathered, joined};
-ghost use Rattle.topo.specs.Box as spec;
-ghost use Rattle.topo.specs.Box.{widened_at, box_from};
+ghost use Rattle.grid.specs.Place.{IsTransform, absolute as absolute_number};
+ghost use Rattle.topo.specs.Box.{widened_at, numbers_of, box_by, box_of, AreGridNumbers};
 ghost use Rattle.topo.specs.Points.{arc_at, body_points, geometry_points, layer_points};
 
 use crate::geom::{Body, Geom};
@@ -11,7 +11,7 @@ use crate::topology::Layer;
 use chains::table::ArcTable;
 use grid::{Grid, Pos};
 
-/// Least x, least y, greatest x and greatest y, in absolute numbers.
+/// Least x, least y, greatest x and greatest y: a box widened in grid numbers, and converted once.
 type Corners = (i64, i64, i64, i64);
 
 fn wider(corners: Corners, x: i64, y: i64) -> Corners
@@ -37,80 +37,98 @@ fn widened(corners: Option<Corners>, x: i64, y: i64) -> Corners
     }
 }
 
-fn widened_by(grid: &Grid, corners: Option<Corners>, p: Pos) -> Corners
-    ensures { result ≡ spec.widened grid.now corners p }
+fn widened_by(corners: Option<Corners>, p: Pos) -> Corners
+    ensures { result ≡ widened_at corners (numbers_of p) }
 {
-    let (x, y) = grid.to_absolute(p);
-    widened(corners, x, y)
+    widened(corners, p.x(), p.y())
 }
 
-fn around(grid: &Grid, mut corners: Option<Corners>, positions: &[Pos]) -> Option<Corners>
-    ensures { result ≡ box_from grid.now corners positions.now }
+fn around(mut corners: Option<Corners>, positions: &[Pos]) -> Option<Corners>
+    ensures { result ≡ box_by numbers_of corners positions.now }
 {
     for p in positions {
-        corners = Some(widened_by(grid, corners, *p));
+        corners = Some(widened_by(corners, *p));
     }
     corners
 }
 
-fn around_arc(
-    grid: &Grid,
-    corners: Option<Corners>,
-    arcs: &ArcTable,
-    number: usize,
-) -> Option<Corners>
-    ensures { result ≡ box_from grid.now corners (arc_at arcs.now.arcs number) }
+fn around_arc(corners: Option<Corners>, arcs: &ArcTable, number: usize) -> Option<Corners>
+    ensures { result ≡ box_by numbers_of corners (arc_at arcs.now.arcs number) }
 {
     match arcs.arc(number) {
-        Some(arc) => around(grid, corners, arc),
+        Some(arc) => around(corners, arc),
         None => corners,
     }
 }
 
 #[tactic(auto, using(crate::proofs::ArcsLeft::arcs_step))]
-fn around_arcs(grid: &Grid, arcs: &ArcTable) -> Option<Corners>
-    ensures corners { result ≡ box_from grid.now None (joined arcs.now.arcs) }
+fn around_arcs(arcs: &ArcTable) -> Option<Corners>
+    ensures corners { result ≡ box_by numbers_of None (joined arcs.now.arcs) }
     ensures few { length arcs.now.arcs < 2 ^ 63 }
 {
     let mut corners = None;
     for number in 0..arcs.len() {
-        corners = around_arc(grid, corners, arcs, number);
+        corners = around_arc(corners, arcs, number);
     }
     corners
 }
 
-fn around_body(grid: &Grid, corners: Option<Corners>, body: &Body) -> Option<Corners>
-    ensures { result ≡ box_from grid.now corners (body_points body.now) }
+fn around_body(corners: Option<Corners>, body: &Body) -> Option<Corners>
+    ensures { result ≡ box_by numbers_of corners (body_points body.now) }
 {
     match body {
-        Body::Point(p) => Some(widened_by(grid, corners, *p)),
-        Body::MultiPoint(ps) => around(grid, corners, ps.as_slice()),
+        Body::Point(p) => Some(widened_by(corners, *p)),
+        Body::MultiPoint(ps) => around(corners, ps.as_slice()),
         _ => corners,
     }
 }
 
-fn around_geometries(
-    grid: &Grid,
-    mut corners: Option<Corners>,
-    geometries: &[Geom],
-) -> Option<Corners>
-    ensures { result ≡ box_from grid.now corners (gathered geometry_points geometries.now) }
+fn around_geometries(mut corners: Option<Corners>, geometries: &[Geom]) -> Option<Corners>
+    ensures { result ≡ box_by numbers_of corners (gathered geometry_points geometries.now) }
 {
     for geometry in geometries {
-        corners = around_body(grid, corners, &geometry.body);
+        corners = around_body(corners, &geometry.body);
     }
     corners
 }
 
-/// The box around the arcs and the points of the layers; None where there are none.
-/// 64 bits number the arcs of a table.
-pub(crate) fn bounds(grid: &Grid, arcs: &ArcTable, layers: &[Layer]) -> Option<Corners>
-    ensures corners { result ≡ box_from grid.now None (joined arcs.now.arcs ++ gathered layer_points layers.now) }
+/// The box of grid numbers around the arcs and the points of the layers.
+fn around_all(arcs: &ArcTable, layers: &[Layer]) -> Option<Corners>
+    ensures corners { result ≡ box_by numbers_of None (joined arcs.now.arcs ++ gathered layer_points layers.now) }
     ensures few { length arcs.now.arcs < 2 ^ 63 }
 {
-    let mut corners = around_arcs(grid, arcs);
+    let mut corners = around_arcs(arcs);
     for layer in layers {
-        corners = around_geometries(grid, corners, layer.geometries());
+        corners = around_geometries(corners, layer.geometries());
     }
     corners
+}
+
+fn absolute(grid: &Grid, corners: Corners) -> Corners
+    requires { AreGridNumbers corners }
+    ensures west { result.0 ≡ absolute_number grid.now.x corners.0 }
+    ensures south { result.1 ≡ absolute_number grid.now.y corners.1 }
+    ensures east { result.2 ≡ absolute_number grid.now.x corners.2 }
+    ensures north { result.3 ≡ absolute_number grid.now.y corners.3 }
+    ensures limits { IsTransform grid.now }
+{
+    let (x, y) = (grid.x_axis(), grid.y_axis());
+    (
+        x.to_absolute(corners.0),
+        y.to_absolute(corners.1),
+        x.to_absolute(corners.2),
+        y.to_absolute(corners.3),
+    )
+}
+
+/// The box around the arcs and the points of the layers, in absolute numbers; None where there are none.
+/// 64 bits number the arcs of a table.
+pub(crate) fn bounds(grid: &Grid, arcs: &ArcTable, layers: &[Layer]) -> Option<Corners>
+    ensures corners { result ≡ box_of grid.now (joined arcs.now.arcs ++ gathered layer_points layers.now) }
+    ensures few { length arcs.now.arcs < 2 ^ 63 }
+{
+    match around_all(arcs, layers) {
+        Some(corners) => Some(absolute(grid, corners)),
+        None => None,
+    }
 }

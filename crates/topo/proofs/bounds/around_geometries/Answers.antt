@@ -1,9 +1,10 @@
 use Rattle.std.proofs.Common.{◌∙◌}
 use Rattle.topo.specs.Points.{geometry_points}
+use Rattle.topo.specs.Box.{numbers_of}
 use Rattle.topo.proofs.ArcsLeft.{gathered_step}
 use Rattle.topo.proofs.bounds.around_geometries.Goals as goal
 
 pub loop-geometry-preserved : goal.loop-geometry-preserved
 loop-geometry-preserved c =
-    gathered_step geometry_points c.args.grid.now c.loop-geometry.corners c.around_body-corners.result c.args.geometries.now c.loop-geometry.geometry-index
+    gathered_step geometry_points numbers_of c.loop-geometry.corners c.around_body-corners.result c.args.geometries.now c.loop-geometry.geometry-index
     c.geometry-item.result c.loop-geometry-test.true c.geometry-item.is c.around_body-corners.ensures ∙ c.loop-geometry.invariant

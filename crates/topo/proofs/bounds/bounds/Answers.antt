@@ -1,19 +1,17 @@
-use Rattle.std.proofs.Common.{◌∙◌, ap, sym}
-use Rattle.std.specs.Prelude.{None}
+use Rattle.std.proofs.Common.{◌++◌, ◌∙◌, sym, Some}
 use Rattle.theory.specs.Lists.{gathered, joined}
-use Rattle.topo.specs.Box.{box_from}
-use Rattle.topo.specs.Points.{geometry_points, layer_points}
-use Rattle.topo.proofs.Boxes.{box_append}
-use Rattle.topo.proofs.ArcsLeft.{gathered_step}
+use Rattle.topo.specs.Points.{layer_points}
+use Rattle.topo.proofs.Boxes.{are_grid_numbers, box_of_numbers, box_of_none}
 use Rattle.topo.proofs.bounds.bounds.Goals as goal
 
-pub loop-layer-init : goal.loop-layer-init
-loop-layer-init c =
-    ap (λ w. box_from c.args.grid.now w (gathered layer_points c.args.layers.now)) c.around_arcs-corners.ensures.corners
-    ∙ sym (box_append c.args.grid.now None (joined c.args.arcs.now.arcs) (gathered layer_points c.args.layers.now))
+pub absolute-requires : goal.absolute-requires
+absolute-requires c = are_grid_numbers (joined c.args.arcs.now.arcs ++ gathered layer_points c.args.layers.now) c.in-Some.corners (sym c.in-Some.ensures.corners)
 
-pub loop-layer-preserved : goal.loop-layer-preserved
-loop-layer-preserved c =
-    gathered_step layer_points c.args.grid.now c.loop-layer.corners c.around_geometries-corners.result c.args.layers.now c.loop-layer.layer-index
-    c.layer-item.result c.loop-layer-test.true c.layer-item.is
-    (c.around_geometries-corners.ensures ∙ ap (λ w. box_from c.args.grid.now c.loop-layer.corners (gathered geometry_points w)) c.geometries.ensures) ∙ c.loop-layer.invariant
+pub returns-in-Some-clause-corners : goal.returns-in-Some-clause-corners
+returns-in-Some-clause-corners c =
+    let box = c.absolute.ensures in
+    (λ i. Some (box.west i, box.south i, box.east i, box.north i))
+    ∙ box_of_numbers c.args.grid.now box.limits (joined c.args.arcs.now.arcs ++ gathered layer_points c.args.layers.now) c.in-Some.corners (sym c.in-Some.ensures.corners)
+
+pub returns-in-None-clause-corners : goal.returns-in-None-clause-corners
+returns-in-None-clause-corners c = box_of_none c.args.grid.now (joined c.args.arcs.now.arcs ++ gathered layer_points c.args.layers.now) (sym c.in-None.ensures.corners)
