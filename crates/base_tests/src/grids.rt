@@ -1,97 +1,235 @@
 //! Positions and transforms at their limits.
 use grid::{Axis, AxisFault, Grid, GridFault, Pos};
 
-fn grid(rt: &impl std::process::Abort, sx: i64, sy: i64, tx: i64, ty: i64) -> Grid {
-    Grid::new(sx, sy, tx, ty).expect(rt, "a grid")
+/// A grid by its scale and its translate: across and along.
+type Numbers = (i64, i64, i64, i64);
+
+type Place = (i64, i64);
+
+const ONE: Numbers = (1, 1, 0, 0);
+
+const WIDE: Numbers = (1_000_000, 1, 0, 0);
+
+/// Its last position is on the edge of the absolute numbers.
+const NEAR: Numbers = (8192, 1, -1, 0);
+
+/// Its last position is past the edge of the absolute numbers.
+const FAR: Numbers = (8192, 1, 0, 0);
+
+const TEN: Numbers = (10, 10, -500, 0);
+
+/// The greatest number of a position.
+const GREATEST: i64 = 1_099_511_627_776;
+
+fn grid(numbers: Numbers) -> Option<Grid> {
+    Grid::new(numbers.0, numbers.1, numbers.2, numbers.3)
 }
 
-fn position(rt: &impl std::process::Abort, x: i64, y: i64) -> Pos {
-    Pos::new(x, y).expect(rt, "a position")
+fn position(place: Place) -> Option<Pos> {
+    Pos::new(place.0, place.1)
+}
+
+/// Grids, absolute numbers, and the position that they are converted to.
+const CONVERTED: &[(&str, Numbers, Place, Result<Place, GridFault>)] = &[
+    ("the greatest", ONE, (GREATEST, 0), Ok((GREATEST, 0))),
+    (
+        "past the greatest",
+        ONE,
+        (1_099_511_627_777, 0),
+        Err(GridFault::OutOfRange(0)),
+    ),
+    ("the least", ONE, (-GREATEST, 7), Ok((-GREATEST, 7))),
+    (
+        "the last of a wide grid",
+        WIDE,
+        (9_007_199_254_000_000, 0),
+        Ok((9_007_199_254, 0)),
+    ),
+    (
+        "past a wide grid",
+        WIDE,
+        (9_007_199_255_000_000, 0),
+        Err(GridFault::OutOfRange(0)),
+    ),
+    (
+        "the greatest absolute number",
+        NEAR,
+        (9_007_199_254_740_991, 0),
+        Ok((GREATEST, 0)),
+    ),
+    (
+        "past the greatest absolute number",
+        FAR,
+        (9_007_199_254_740_992, 0),
+        Err(GridFault::OutOfRange(0)),
+    ),
+    (
+        "the least corner",
+        TEN,
+        (-10_000_000_500, -10_000_000_000),
+        Ok((-1_000_000_000, -1_000_000_000)),
+    ),
+    (
+        "the greatest corner",
+        TEN,
+        (9_999_999_500, 10_000_000_000),
+        Ok((1_000_000_000, 1_000_000_000)),
+    ),
+    (
+        "the greatest number of 64 bits, out of range",
+        (1, 1, -1_000_000_000_000, 0),
+        (i64::MAX, 0),
+        Err(GridFault::OutOfRange(0)),
+    ),
+    (
+        "the greatest number of 64 bits, off the grid",
+        (10, 10, -1_000_000_000_000, 0),
+        (i64::MAX, 0),
+        Err(GridFault::OffGrid(0)),
+    ),
+    (
+        "the least number of 64 bits, off the grid",
+        (10, 10, -1_000_000_000_000, 0),
+        (i64::MIN, 0),
+        Err(GridFault::OffGrid(0)),
+    ),
+    (
+        "off the grid along",
+        (10, 10, -1_000_000_000_000, 0),
+        (0, 5),
+        Err(GridFault::OffGrid(1)),
+    ),
+];
+
+fn converted(numbers: Numbers, place: Place) -> Option<Result<Place, GridFault>> {
+    match grid(numbers)?.to_grid(place.0, place.1) {
+        Ok(position) => Some(Ok((position.x(), position.y()))),
+        Err(fault) => Some(Err(fault)),
+    }
 }
 
 #[test]
-fn larger_grid(rt: HostRuntime) {
-    let one = grid(&rt, 1, 1, 0, 0);
-    assert_eq!(rt;
-        one.to_grid(1_099_511_627_776, 0),
-        Ok(position(&rt, 1_099_511_627_776, 0))
-    );
-    assert_eq!(rt;
-        one.to_grid(1_099_511_627_777, 0),
-        Err(GridFault::OutOfRange(0))
-    );
-    assert_eq!(rt;
-        one.to_grid(-1_099_511_627_776, 7),
-        Ok(position(&rt, -1_099_511_627_776, 7))
-    );
-    let wide = grid(&rt, 1_000_000, 1, 0, 0);
-    assert_eq!(rt;
-        wide.to_grid(9_007_199_254_000_000, 0),
-        Ok(position(&rt, 9_007_199_254, 0))
-    );
-    assert_eq!(rt;
-        wide.to_grid(9_007_199_255_000_000, 0),
-        Err(GridFault::OutOfRange(0))
-    );
-    assert!(rt; !wide.fits(position(&rt, 9_007_199_255, 0)));
+fn absolute_numbers_to_positions(rt: HostRuntime) {
+    for (title, numbers, place, expected) in CONVERTED {
+        assert!(rt; converted(*numbers, *place) == Some(*expected), "{title}");
+    }
+}
+
+/// Grids, positions, and their absolute numbers.
+const ABSOLUTE: &[(&str, Numbers, Place, Place)] = &[
+    (
+        "the greatest",
+        NEAR,
+        (GREATEST, 0),
+        (9_007_199_254_740_991, 0),
+    ),
+    (
+        "the least corner",
+        TEN,
+        (-1_000_000_000, -1_000_000_000),
+        (-10_000_000_500, -10_000_000_000),
+    ),
+];
+
+fn absolute(numbers: Numbers, place: Place) -> Option<Place> {
+    Some(grid(numbers)?.to_absolute(position(place)?))
 }
 
 #[test]
-fn edge_of_the_absolute_numbers(rt: HostRuntime) {
-    let near = grid(&rt, 8192, 1, -1, 0);
-    let p = position(&rt, 1_099_511_627_776, 0);
-    assert_eq!(rt; near.to_absolute(p), (9_007_199_254_740_991, 0));
-    assert!(rt; near.fits(p));
-    assert_eq!(rt; near.to_grid(9_007_199_254_740_991, 0), Ok(p));
-    let far = grid(&rt, 8192, 1, 0, 0);
-    assert!(rt; !far.fits(p));
-    assert_eq!(rt;
-        far.to_grid(9_007_199_254_740_992, 0),
-        Err(GridFault::OutOfRange(0))
-    );
+fn positions_to_absolute_numbers(rt: HostRuntime) {
+    for (title, numbers, place, expected) in ABSOLUTE {
+        assert!(rt; absolute(*numbers, *place) == Some(*expected), "{title}");
+    }
+}
+
+/// Grids, positions, and whether their absolute numbers are in range.
+const FITTED: &[(&str, Numbers, Place, bool)] = &[
+    ("past a wide grid", WIDE, (9_007_199_255, 0), false),
+    ("on the edge", NEAR, (GREATEST, 0), true),
+    ("past the edge", FAR, (GREATEST, 0), false),
+];
+
+fn fits(numbers: Numbers, place: Place) -> Option<bool> {
+    Some(grid(numbers)?.fits(position(place)?))
 }
 
 #[test]
-fn largest_and_least(rt: HostRuntime) {
-    let g = grid(&rt, 10, 10, -500, 0);
-    assert_eq!(rt; g.scale(), (10, 10));
-    assert_eq!(rt; g.translate(), (-500, 0));
-    let apart = position(&rt, 3, -4);
-    assert_eq!(rt; (apart.x(), apart.y()), (3, -4));
-    assert!(rt; position(&rt, 2, 9) < apart && apart < position(&rt, 3, 0));
-    let least = position(&rt, -1_000_000_000, -1_000_000_000);
-    assert_eq!(rt; g.to_grid(-10_000_000_500, -10_000_000_000), Ok(least));
-    assert_eq!(rt; g.to_absolute(least), (-10_000_000_500, -10_000_000_000));
-    let greatest = position(&rt, 1_000_000_000, 1_000_000_000);
-    assert_eq!(rt; g.to_grid(9_999_999_500, 10_000_000_000), Ok(greatest));
-    assert_eq!(rt; Pos::new(1_099_511_627_777, 0), None);
-    assert_eq!(rt; Pos::new(0, -1_099_511_627_777), None);
-    assert_eq!(rt; Grid::new(0, 1, 0, 0), None);
-    assert_eq!(rt; Grid::new(1, 1_000_001, 0, 0), None);
-    assert_eq!(rt; Grid::new(1, 1, 0, -1_000_000_000_001), None);
+fn positions_that_fit(rt: HostRuntime) {
+    for (title, numbers, place, expected) in FITTED {
+        assert!(rt; fits(*numbers, *place) == Some(*expected), "{title}");
+    }
+}
+
+const NO_POSITIONS: &[Place] = &[(1_099_511_627_777, 0), (0, -1_099_511_627_777)];
+
+#[test]
+fn no_positions(rt: HostRuntime) {
+    for place in NO_POSITIONS {
+        assert!(rt; position(*place).is_none());
+    }
+}
+
+const NO_GRIDS: &[(&str, Numbers)] = &[
+    ("no scale", (0, 1, 0, 0)),
+    ("past the greatest scale", (1, 1_000_001, 0, 0)),
+    ("past the least translate", (1, 1, 0, -1_000_000_000_001)),
+];
+
+#[test]
+fn no_grids(rt: HostRuntime) {
+    for (title, numbers) in NO_GRIDS {
+        assert!(rt; grid(*numbers).is_none(), "{title}");
+    }
 }
 
 #[test]
-fn far_numbers(rt: HostRuntime) {
-    let one = grid(&rt, 1, 1, -1_000_000_000_000, 0);
-    assert_eq!(rt; one.to_grid(i64::MAX, 0), Err(GridFault::OutOfRange(0)));
-    let ten = grid(&rt, 10, 10, -1_000_000_000_000, 0);
-    assert_eq!(rt; ten.to_grid(i64::MAX, 0), Err(GridFault::OffGrid(0)));
-    assert_eq!(rt; ten.to_grid(i64::MIN, 0), Err(GridFault::OffGrid(0)));
-    assert_eq!(rt; ten.to_grid(0, 5), Err(GridFault::OffGrid(1)));
+fn numbers_of_a_grid(rt: HostRuntime) {
+    let ten = grid(TEN).expect(&rt, "a grid");
+    assert!(rt; ten.scale() == (10, 10) && ten.translate() == (-500, 0));
 }
+
+#[test]
+fn numbers_of_a_position(rt: HostRuntime) {
+    let apart = position((3, -4)).expect(&rt, "a position");
+    assert!(rt; apart.x() == 3 && apart.y() == -4);
+}
+
+#[test]
+fn positions_are_ordered_across_first(rt: HostRuntime) {
+    let apart = position((3, -4));
+    assert!(rt; position((2, 9)) < apart && apart < position((3, 0)));
+}
+
+const AXIS: (i64, i64) = (1_000_000, 3);
 
 #[test]
 fn one_axis(rt: HostRuntime) {
-    let axis = Axis::new(1_000_000, 3).expect(&rt, "an axis");
-    assert_eq!(rt; axis.scale(), 1_000_000);
-    assert_eq!(rt; axis.translate(), 3);
-    assert_eq!(rt; grid(&rt, 1_000_000, 2, 3, 4).x_axis(), axis);
-    assert_eq!(rt; grid(&rt, 2, 1_000_000, 4, 3).y_axis(), axis);
-    assert_eq!(rt; axis.to_grid(2_000_003), Ok(2));
-    assert_eq!(rt; axis.to_grid(2), Err(AxisFault::OffGrid));
-    assert_eq!(rt; axis.to_absolute(-2), -1_999_997);
-    assert!(rt; axis.fits(9_007_199_254));
-    assert!(rt; !axis.fits(9_007_199_255));
-    assert!(rt; !axis.fits(i64::MIN));
+    let axis = Axis::new(AXIS.0, AXIS.1).expect(&rt, "an axis");
+    assert!(rt; axis.scale() == AXIS.0 && axis.translate() == AXIS.1);
+    assert!(rt; axis.to_grid(2_000_003) == Ok(2));
+    assert!(rt; axis.to_grid(2) == Err(AxisFault::OffGrid));
+    assert!(rt; axis.to_absolute(-2) == -1_999_997);
+}
+
+#[test]
+fn axes_of_grids(rt: HostRuntime) {
+    let axis = Axis::new(AXIS.0, AXIS.1);
+    let across = grid((AXIS.0, 2, AXIS.1, 4)).map(|grid| grid.x_axis());
+    let along = grid((2, AXIS.0, 4, AXIS.1)).map(|grid| grid.y_axis());
+    assert!(rt; axis.is_some() && across == axis && along == axis);
+}
+
+/// Numbers on the axis, and whether their absolute numbers are in range.
+const FITTED_ON_AXIS: &[(i64, bool)] = &[
+    (9_007_199_254, true),
+    (9_007_199_255, false),
+    (i64::MIN, false),
+];
+
+#[test]
+fn numbers_that_fit_an_axis(rt: HostRuntime) {
+    let axis = Axis::new(AXIS.0, AXIS.1).expect(&rt, "an axis");
+    for (number, fits) in FITTED_ON_AXIS {
+        assert!(rt; axis.fits(*number) == *fits, "{number}");
+    }
 }

@@ -2,6 +2,10 @@
 #![tactic(auto)]
 
 #[cfg(test)]
+mod drawn;
+#[cfg(test)]
+mod equal;
+#[cfg(test)]
 mod grids;
 #[cfg(test)]
 mod members;

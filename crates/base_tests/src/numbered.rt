@@ -1,36 +1,48 @@
 //! Faults, their numbers and their paths.
 use faults::{Fault, FaultKind, OutOfMemory, Step};
 use std::alloc::Global;
-use std::test::Fail;
+
+/// Kinds of faults, with their numbers and names.
+const KINDS: &[(FaultKind, u8, &str)] = &[
+    (FaultKind::NotJson, 1, "NotJson"),
+    (FaultKind::NotClosed, 9, "NotClosed"),
+    (FaultKind::NoArc, 11, "NoArc"),
+    (FaultKind::Write, 21, "Write"),
+];
 
 #[test]
 fn numbers_and_names(rt: HostRuntime) {
-    assert_eq!(rt; FaultKind::NotJson.number(), 1);
-    assert_eq!(rt; FaultKind::NotJson.name(), "NotJson");
-    assert_eq!(rt; FaultKind::NotClosed.number(), 9);
-    assert_eq!(rt; FaultKind::NoArc.number(), 11);
-    assert_eq!(rt; FaultKind::Write.number(), 21);
-    assert_eq!(rt; FaultKind::Write.name(), "Write");
+    for (kind, number, name) in KINDS {
+        assert!(rt; kind.number() == *number, "{name}");
+        assert!(rt; kind.name() == *name, "{name}");
+    }
+}
+
+fn is_name(step: &Step, name: &str) -> bool {
+    matches!(step, Step::Name(text) if text.as_str() == name)
+}
+
+/// Whether a path goes into a member and into an element of it.
+fn is_path(path: &[Step], name: &str, index: usize) -> bool {
+    match path {
+        [first, second] => is_name(first, name) && *second == Step::Index(index),
+        _ => false,
+    }
 }
 
 #[test]
-fn steps_are_put_in_front(rt: HostRuntime) -> Result<(), Fail> {
+fn steps_are_put_in_front(rt: HostRuntime) {
     let fault = Fault::here(rt.alloc(), FaultKind::NotWhole);
     let fault = fault.under_index(0).under_name(rt.alloc(), "coordinates");
-    assert_eq!(rt; fault.kind, FaultKind::NotWhole);
-    assert_eq!(rt; fault.path.len(), 2);
-    let name = String::from_str(rt.alloc(), "coordinates")?;
-    assert_eq!(rt; fault.path[0], Step::Name(name));
-    assert_eq!(rt; fault.path[1], Step::Index(0));
-    Ok(())
+    assert!(rt; fault.kind == FaultKind::NotWhole);
+    assert!(rt; is_path(fault.path.as_slice(), "coordinates", 0));
 }
 
 #[test]
 fn want_of_memory_stays_at_the_root(rt: HostRuntime) {
     let fault = Fault::here(rt.alloc(), FaultKind::OutOfMemory);
     let fault = fault.under_index(3).under_name(rt.alloc(), "arcs");
-    assert_eq!(rt; fault.kind, FaultKind::OutOfMemory);
-    assert!(rt; fault.path.is_empty());
+    assert!(rt; fault.kind == FaultKind::OutOfMemory && fault.path.is_empty());
 }
 
 fn refused(text: &str, alloc: Global) -> Result<String, OutOfMemory> {

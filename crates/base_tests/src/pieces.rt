@@ -5,40 +5,42 @@ use sinks::written::{
 use sinks::{Answer, Kept, Script, WriteFault};
 use std::test::Fail;
 
-#[test]
-fn joins_numbers(rt: HostRuntime) -> Result<(), Fail> {
-    let rows = [Number(1), Number(-20), Number(i64::MIN)];
-    let mut kept = Kept::new(rt.alloc());
-    assert!(rt; Bracketed(Joined(&rows)).write(&mut kept).is_ok());
-    assert!(rt; Option::<Number>::None.write(&mut kept).is_ok());
-    assert!(rt; Some(Text(b";")).write(&mut kept).is_ok());
-    assert!(rt; Pair(-3, 4).write(&mut kept).is_ok());
-    assert_eq!(rt;
-        kept.into_bytes().as_slice(),
-        b"[1,-20,-9223372036854775808];[-3,4]".as_slice()
-    );
-    Ok(())
+const NUMBERS: &[Number] = &[Number(1), Number(-20), Number(i64::MIN)];
+
+fn write_numbers(kept: &mut Kept) -> Result<(), WriteFault> {
+    Bracketed(Joined(NUMBERS)).write(kept)?;
+    Option::<Number>::None.write(kept)?;
+    Some(Text(b";")).write(kept)?;
+    Pair(-3, 4).write(kept)
 }
 
 #[test]
-fn joins_what_an_iterator_gives(rt: HostRuntime) -> Result<(), Fail> {
-    let rows = [Number(3), Number(0)];
+fn joins_numbers(rt: HostRuntime) {
     let mut kept = Kept::new(rt.alloc());
-    assert!(rt; write_framed(&mut kept, b"<", &Itself, &mut rows.iter(), b">").is_ok());
-    assert!(rt; Listed(&rows, &Itself).write(&mut kept).is_ok());
-    assert_eq!(rt; kept.into_bytes().as_slice(), b"<3,0>[3,0]".as_slice());
-    Ok(())
+    assert!(rt; write_numbers(&mut kept).is_ok());
+    assert!(rt; kept.into_bytes().as_slice() == b"[1,-20,-9223372036854775808];[-3,4]".as_slice());
+}
+
+const GIVEN: &[Number] = &[Number(3), Number(0)];
+
+fn write_given(kept: &mut Kept) -> Result<(), WriteFault> {
+    write_framed(kept, b"<", &Itself, &mut GIVEN.iter(), b">")?;
+    Listed(GIVEN, &Itself).write(kept)
+}
+
+#[test]
+fn joins_what_an_iterator_gives(rt: HostRuntime) {
+    let mut kept = Kept::new(rt.alloc());
+    assert!(rt; write_given(&mut kept).is_ok());
+    assert!(rt; kept.into_bytes().as_slice() == b"<3,0>[3,0]".as_slice());
 }
 
 #[test]
 fn stops_at_a_failure(rt: HostRuntime) -> Result<(), Fail> {
-    let mut answers = Vec::new(rt.alloc());
-    answers.push(Answer::Take(2))?;
-    answers.push(Answer::FailAfter(1))?;
+    let answers = Vec::from_array(rt.alloc(), [Answer::Take(2), Answer::FailAfter(1)])?;
     let mut script = Script::new(rt.alloc(), answers);
-    let rows = [Number(123), Number(4)];
-    assert_eq!(rt; Joined(&rows).write(&mut script), Err(WriteFault::Write));
-    assert_eq!(rt; script.taken(), b"123".as_slice());
-    assert_eq!(rt; script.failures(), 1);
+    let fault = Joined(&[Number(123), Number(4)]).write(&mut script).err();
+    assert!(rt; fault == Some(WriteFault::Write));
+    assert!(rt; script.taken() == b"123".as_slice() && script.failures() == 1);
     Ok(())
 }

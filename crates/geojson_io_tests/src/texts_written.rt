@@ -12,41 +12,47 @@ const SQUARES: &str =
 const KINDS: &str =
     r#"{"features":[{"geometry":null,"properties":{"a":1},"type":"Feature"},{"geometry":{"coordinates":[-20,7],"type":"Point"},"id":3,"properties":{},"type":"Feature"},{"geometry":{"coordinates":[],"type":"MultiPolygon"},"id":"m","properties":{},"type":"Feature"},{"geometry":{"coordinates":[[10,7],[0,8]],"type":"LineString"},"id":"n","properties":{},"type":"Feature"}],"type":"FeatureCollection"}"#;
 
-/// What is read from the text is written as the same text.
-fn is_written_again(alloc: Global, grid: &Grid, text: &str) -> Result<bool, Fail> {
-    let features = read(alloc, text.as_bytes(), grid).ok().ok_or("refused")?;
+/// A grid by its scale and its translate: across and along.
+type Numbers = (i64, i64, i64, i64);
+
+const UNIT: Numbers = (1, 1, 0, 0);
+
+fn grid(numbers: Numbers) -> Result<Grid, Fail> {
+    Ok(Grid::new(numbers.0, numbers.1, numbers.2, numbers.3).ok_or("no grid")?)
+}
+
+/// Texts that are written as they were read, on grids.
+const WRITTEN: &[(&str, Numbers, &str)] = &[
+    ("two squares", UNIT, SQUARES),
+    ("features of several kinds", (10, 1, 0, 7), KINDS),
+];
+
+/// Whether what is read from the text is written as the same text.
+fn is_written_again(alloc: Global, numbers: Numbers, text: &str) -> Result<bool, Fail> {
+    let grid = grid(numbers)?;
+    let features = read(alloc, text.as_bytes(), &grid)?;
     let mut kept = Kept::new(alloc);
-    let is_written = write(grid, features.iter(), &mut kept).is_ok();
+    let is_written = write(&grid, features.iter(), &mut kept).is_ok();
     Ok(is_written && kept.into_bytes().as_slice() == text.as_bytes())
 }
 
 #[test]
 fn writes_what_was_read(rt: HostRuntime) -> Result<(), Fail> {
-    let grid = Grid::new(1, 1, 0, 0).ok_or("no grid")?;
-    assert!(rt; is_written_again(rt.alloc(), &grid, SQUARES)?);
-    Ok(())
-}
-
-#[test]
-fn writes_each_kind_that_was_read(rt: HostRuntime) -> Result<(), Fail> {
-    let grid = Grid::new(10, 1, 0, 7).ok_or("no grid")?;
-    assert!(rt; is_written_again(rt.alloc(), &grid, KINDS)?);
+    for (title, numbers, text) in WRITTEN {
+        assert!(rt; is_written_again(rt.alloc(), *numbers, *text)?, "{title}");
+    }
     Ok(())
 }
 
 /// A sink that takes sixteen bytes and then fails.
 fn failing_sink(alloc: Global) -> Result<Script, Fail> {
-    let mut answers = Vec::new(alloc);
-    answers.push(Answer::Take(13))?;
-    answers.push(Answer::FailAfter(3))?;
+    let answers = Vec::from_array(alloc, [Answer::Take(13), Answer::FailAfter(3)])?;
     Ok(Script::new(alloc, answers))
 }
 
 fn write_squares(alloc: Global, script: &mut Script) -> Result<Option<WriteFault>, Fail> {
-    let grid = Grid::new(1, 1, 0, 0).ok_or("no grid")?;
-    let features = read(alloc, SQUARES.as_bytes(), &grid)
-        .ok()
-        .ok_or("refused")?;
+    let grid = grid(UNIT)?;
+    let features = read(alloc, SQUARES.as_bytes(), &grid)?;
     Ok(write(&grid, features.iter(), script).err())
 }
 

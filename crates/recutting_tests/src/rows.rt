@@ -1,7 +1,6 @@
 //! Pairs of maps, and what the arcs of each become.
 use recutting::{Recut, Side, recut};
 use std::alloc::Global;
-use std::process::Abort;
 use std::test::Fail;
 use worked_maps::{
     Drawn, FIRST, SECOND, SHARED_EDGE, THIRD, TRIANGLE, TURNED_TRIANGLE, are_used, refs_of,
@@ -115,52 +114,71 @@ fn recut_row(alloc: Global, row: &Row) -> Result<Recut, Fail> {
     Ok(recut(alloc, left.arcs(), right.arcs())?)
 }
 
-/// The arcs of a side are cut into those of the indexes, and the side has no more arcs.
-fn assert_pieces(
-    rt: &impl Abort,
-    made: &Recut,
-    side: Side,
-    lists: &[&[i64]],
-    title: &str,
-) -> Result<(), Fail> {
+/// Whether the arcs of a side are cut into those of the indexes, and the side has no more arcs.
+fn are_pieces(made: &Recut, side: Side, lists: &[&[i64]]) -> bool {
     for (number, indexes) in lists.iter().enumerate() {
-        let pieces = made.pieces(side, number).ok_or("no such arc")?;
-        assert!(rt; are_used(pieces, indexes), "{title}");
+        match made.pieces(side, number) {
+            Some(pieces) => {
+                if !are_used(pieces, *indexes) {
+                    return false;
+                }
+            }
+            None => return false,
+        }
     }
-    assert_eq!(rt; made.pieces(side, lists.len()), None, "{title}");
-    Ok(())
+    made.pieces(side, lists.len()).is_none()
 }
 
 #[test]
 fn pieces_of_rows(rt: HostRuntime) -> Result<(), Fail> {
     for row in ROWS {
         let made = recut_row(rt.alloc(), row)?;
-        assert_pieces(&rt, &made, Side::Left, row.left_pieces, row.title)?;
-        assert_pieces(&rt, &made, Side::Right, row.right_pieces, row.title)?;
+        assert!(rt;
+            are_pieces(&made, Side::Left, row.left_pieces),
+            "{}: left",
+            row.title
+        );
+        assert!(rt;
+            are_pieces(&made, Side::Right, row.right_pieces),
+            "{}: right",
+            row.title
+        );
     }
     Ok(())
+}
+
+/// Whether the arcs that a row's maps are cut into are those of the topology of both maps.
+fn are_arcs_of_both(alloc: Global, row: &Row) -> Result<bool, Fail> {
+    let made = recut_row(alloc, row)?;
+    let whole = topology_of(alloc, &[row.left, row.right])?;
+    Ok(same_arcs(made.arcs(), whole.arcs()))
 }
 
 #[test]
 fn arcs_are_those_of_both_maps_together(rt: HostRuntime) -> Result<(), Fail> {
     for row in ROWS {
-        let made = recut_row(rt.alloc(), row)?;
-        let whole = topology_of(rt.alloc(), &[row.left, row.right])?;
-        assert!(rt; same_arcs(made.arcs(), whole.arcs()), "{}", row.title);
+        assert!(rt; are_arcs_of_both(rt.alloc(), row)?, "{}", row.title);
     }
     Ok(())
 }
 
 /// Lists of the rings of the two squares, and what they become.
-const RINGS: &[(&[i64], &[i64])] = &[(&[1, -1], &[2, 3, -2]), (&[2, -2], &[4, -4])];
+const RINGS: &[(&str, &[i64], &[i64])] = &[
+    ("the first square", &[1, -1], &[2, 3, -2]),
+    ("the second square", &[2, -2], &[4, -4]),
+];
+
+fn becomes(alloc: Global, made: &Recut, used: &[i64], indexes: &[i64]) -> Result<bool, Fail> {
+    let refs = refs_of(alloc, used)?;
+    let ring = made.ring(alloc, Side::Left, refs.as_slice())?;
+    Ok(are_used(ring.as_slice(), indexes))
+}
 
 #[test]
 fn the_list_of_a_ring_is_turned(rt: HostRuntime) -> Result<(), Fail> {
     let made = recut_row(rt.alloc(), &LINE_TO_A_CORNER)?;
-    for (used, indexes) in RINGS {
-        let refs = refs_of(rt.alloc(), used)?;
-        let ring = made.ring(rt.alloc(), Side::Left, &refs)?;
-        assert!(rt; are_used(&ring, indexes), "{}", LINE_TO_A_CORNER.title);
+    for (title, used, indexes) in RINGS {
+        assert!(rt; becomes(rt.alloc(), &made, *used, *indexes)?, "{title}");
     }
     Ok(())
 }
@@ -169,7 +187,7 @@ fn the_list_of_a_ring_is_turned(rt: HostRuntime) -> Result<(), Fail> {
 fn the_list_of_a_line(rt: HostRuntime) -> Result<(), Fail> {
     let made = recut_row(rt.alloc(), &LINE_TO_A_CORNER)?;
     let refs = refs_of(rt.alloc(), &[0])?;
-    let line = made.line(rt.alloc(), Side::Right, &refs)?;
-    assert!(rt; are_used(&line, &[0]), "{}", LINE_TO_A_CORNER.title);
+    let line = made.line(rt.alloc(), Side::Right, refs.as_slice())?;
+    assert!(rt; are_used(line.as_slice(), &[0]));
     Ok(())
 }

@@ -2,4 +2,10 @@
 #![tactic(auto)]
 
 #[cfg(test)]
-mod tests;
+mod drawn;
+#[cfg(test)]
+mod maps;
+#[cfg(test)]
+mod ordered;
+#[cfg(test)]
+mod texts;

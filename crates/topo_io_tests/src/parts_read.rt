@@ -1,29 +1,123 @@
 //! Topology texts as their parts, before lists of arcs are stitched.
-use crate::OTHER_TOOL;
+use crate::texts::{OTHER_TOOL, is_refused, topology};
 use chains::ArcRef;
 use faults::FaultKind;
+use grid::Pos;
 use lines::items::Items;
 use std::alloc::Global;
+use std::process::Abort;
 use std::test::Fail;
 use topo::{Body, Geom};
 use topo_io::{TextParts, read_parts};
 
-/// The text of a topology on the unit grid with these arcs and layers.
-pub(crate) fn text_of(alloc: Global, arcs: &str, objects: &str) -> Result<String, Fail> {
-    Ok(format!(in alloc;
-        "{{\"type\":\"Topology\",\"transform\":{{\"scale\":[1,1],\"translate\":[0,0]}},\"arcs\":{arcs},\"objects\":{objects}}}"
-    )?)
+/// Whether the parts of a text have a fault; want of memory is none.
+fn are_parts_refused(alloc: Global, text: &str) -> bool {
+    match read_parts(alloc, text.as_bytes()) {
+        Ok(_) => false,
+        Err(fault) => fault.kind != FaultKind::OutOfMemory,
+    }
 }
 
-/// The parts of a text; none where they have a fault.
-pub(crate) fn parts_of(alloc: Global, text: &str) -> Result<Option<TextParts>, Fail> {
-    match read_parts(alloc, text.as_bytes()) {
-        Ok(parts) => Ok(Some(parts)),
-        Err(fault) => match fault.kind {
-            FaultKind::OutOfMemory => Err("no memory".into()),
-            _ => Ok(None),
-        },
+/// Texts whose only faults are those of what lists stitch to.
+const NOT_STITCHED: &[(&str, &str)] = &[
+    (
+        "a line that is broken off",
+        topology!(
+            "[[[0,0],[1,0]],[[2,0],[1,0]]]",
+            r#"{"a":{"type":"LineString","arcs":[0,1]}}"#
+        ),
+    ),
+    (
+        "a ring that doesn't close",
+        topology!(
+            "[[[0,0],[1,0]]]",
+            r#"{"a":{"type":"Polygon","arcs":[[0]]}}"#
+        ),
+    ),
+    (
+        "a line forth and back",
+        topology!(
+            "[[[0,0],[1,0]]]",
+            r#"{"a":{"type":"LineString","arcs":[0,-1]}}"#
+        ),
+    ),
+    (
+        "a line of no arcs",
+        topology!(
+            "[[[0,0],[1,0]]]",
+            r#"{"a":{"type":"LineString","arcs":[]}}"#
+        ),
+    ),
+];
+
+#[test]
+fn faults_of_stitched_lists_are_left(rt: HostRuntime) -> Result<(), Fail> {
+    for (title, text) in NOT_STITCHED {
+        assert!(rt; read_parts(rt.alloc(), text.as_bytes()).is_ok(), "{title}");
+        assert!(rt; is_refused(rt.alloc(), *text), "{title}");
     }
+    Ok(())
+}
+
+/// Texts with a fault that is known without stitching.
+const REFUSED: &[(&str, &str)] = &[
+    ("an arc of one position", topology!("[[[0,0]]]", "{}")),
+    (
+        "a number that is not whole",
+        topology!("[[[0,0],[1.5,0]]]", "{}"),
+    ),
+    ("arcs that are no list", topology!("5", "{}")),
+    (
+        "an index past the arcs",
+        topology!(
+            "[[[0,0],[1,0]]]",
+            r#"{"a":{"type":"LineString","arcs":[1]}}"#
+        ),
+    ),
+    (
+        "an index past the reversed arcs",
+        topology!(
+            "[[[0,0],[1,0]]]",
+            r#"{"a":{"type":"LineString","arcs":[-2]}}"#
+        ),
+    ),
+    (
+        "an index that is not whole",
+        topology!(
+            "[[[0,0],[1,0]]]",
+            r#"{"a":{"type":"LineString","arcs":[0.5]}}"#
+        ),
+    ),
+    (
+        "a ring that is no list",
+        topology!("[[[0,0],[1,0]]]", r#"{"a":{"type":"Polygon","arcs":[0]}}"#),
+    ),
+    (
+        "an unknown type",
+        topology!("[]", r#"{"a":{"type":"Line","arcs":[]}}"#),
+    ),
+    (
+        "a position of one number",
+        topology!("[]", r#"{"a":{"type":"Point","coordinates":[0]}}"#),
+    ),
+    (
+        "an id of the wrong kind",
+        topology!("[]", r#"{"a":{"type":null,"id":[]}}"#),
+    ),
+    (
+        "a collection without geometries",
+        topology!("[]", r#"{"a":{"type":"GeometryCollection"}}"#),
+    ),
+    ("layers that are no object", topology!("[]", "[]")),
+];
+
+#[test]
+fn other_faults_are_told(rt: HostRuntime) -> Result<(), Fail> {
+    for (title, text) in REFUSED {
+        assert!(rt; are_parts_refused(rt.alloc(), *text), "{title}: parts");
+        assert!(rt; is_refused(rt.alloc(), *text), "{title}");
+    }
+    Ok(())
 }
 
 fn is_used(used: &[ArcRef], indexes: &[i64]) -> bool {
@@ -35,6 +129,52 @@ fn is_used(used: &[ArcRef], indexes: &[i64]) -> bool {
     used.len() == indexes.len()
 }
 
+fn is_at(position: &Pos, place: &(i64, i64)) -> bool {
+    position.x() == place.0 && position.y() == place.1
+}
+
+/// A body by its only list of used arcs, or by its only place.
+#[derive(Clone, Copy)]
+enum Listed {
+    Null,
+    Point((i64, i64)),
+    Points((i64, i64)),
+    Lines(&'static [i64]),
+    Polygon(&'static [i64]),
+    Polygons(&'static [i64]),
+}
+
+/// Whether the only list is of these used arcs.
+fn is_only_list(lists: &[Items<ArcRef>], indexes: &[i64]) -> bool {
+    match lists {
+        [list] => is_used(list.as_slice(), indexes),
+        _ => false,
+    }
+}
+
+fn is_body(body: &Body, listed: Listed) -> bool {
+    match (body, listed) {
+        (Body::Null, Listed::Null) => true,
+        (Body::Point(position), Listed::Point(place)) => is_at(position, &place),
+        (Body::MultiPoint(positions), Listed::Points(place)) => {
+            matches!(positions.as_slice(), [position] if is_at(position, &place))
+        }
+        (Body::MultiLine(lists), Listed::Lines(indexes)) => is_only_list(lists.as_slice(), indexes),
+        (Body::Polygon(rings), Listed::Polygon(indexes)) => is_only_list(rings.as_slice(), indexes),
+        (Body::MultiPolygon(polygons), Listed::Polygons(indexes)) => {
+            matches!(polygons.as_slice(), [rings] if is_only_list(rings.as_slice(), indexes))
+        }
+        _ => false,
+    }
+}
+
+fn check_bodies(rt: &impl Abort, geometries: &[Geom], bodies: &[Listed]) {
+    for (place, (geometry, listed)) in geometries.iter().zip(bodies).enumerate() {
+        assert!(rt; is_body(&geometry.body, *listed), "geometry {place}");
+    }
+    assert!(rt; geometries.len() == bodies.len());
+}
+
 /// The geometries of the only layer, where it has that name.
 fn geometries_of<'a>(parts: &'a TextParts, name: &str) -> Option<&'a [Geom]> {
     match parts.layers.as_slice() {
@@ -43,112 +183,47 @@ fn geometries_of<'a>(parts: &'a TextParts, name: &str) -> Option<&'a [Geom]> {
     }
 }
 
-#[test]
-fn lists_as_they_stand(rt: HostRuntime) -> Result<(), Fail> {
-    let parts = parts_of(rt.alloc(), OTHER_TOOL)?.ok_or("refused")?;
-    assert!(rt; parts.grid.scale() == (1, 1));
-    assert!(rt; parts.arcs.len() == 3);
-    assert!(rt;
-        parts.arcs[1]
-            .as_slice()
-            .last()
-            .is_some_and(|p| (p.x(), p.y()) == (0, 0))
-    );
-    let geometries = geometries_of(&parts, "a").ok_or("no layer")?;
-    let [geometry] = geometries else {
-        return Err(Fail::from("not one"));
-    };
-    let Body::Polygon(rings) = &geometry.body else {
-        return Err(Fail::from("no polygon"));
-    };
-    let first: Option<&Items<ArcRef>> = rings.as_slice().first();
-    assert!(rt; first.is_some_and(|ring| is_used(ring.as_slice(), &[0, 1])));
-    Ok(())
-}
+/// A layer of five geometries, each of another kind.
+const EACH_KIND: &str = topology!(
+    "[[[0,0],[1,0]],[[1,0],[0,1],[-1,-1]]]",
+    r#"{"b":{"type":"GeometryCollection","geometries":[{"type":"MultiPolygon","arcs":[[[0,1]]],"id":7},{"type":"MultiPoint","coordinates":[[3,4]]},{"type":"MultiLineString","arcs":[[-1]]},{"type":null},{"type":"Point","coordinates":[1,2]}]}}"#
+);
 
-/// Texts whose only faults are those of what lists stitch to.
-const STITCHED: &[(&str, &str)] = &[
-    (
-        "[[[0,0],[1,0]],[[2,0],[1,0]]]",
-        r#"{"a":{"type":"LineString","arcs":[0,1]}}"#,
-    ),
-    (
-        "[[[0,0],[1,0]]]",
-        r#"{"a":{"type":"Polygon","arcs":[[0]]}}"#,
-    ),
-    (
-        "[[[0,0],[1,0]]]",
-        r#"{"a":{"type":"LineString","arcs":[0,-1]}}"#,
-    ),
-    (
-        "[[[0,0],[1,0]]]",
-        r#"{"a":{"type":"LineString","arcs":[]}}"#,
-    ),
+const BODIES: &[Listed] = &[
+    Listed::Polygons(&[0, 1]),
+    Listed::Points((3, 4)),
+    Listed::Lines(&[-1]),
+    Listed::Null,
+    Listed::Point((1, 2)),
 ];
-
-#[test]
-fn faults_of_stitched_lists_are_left(rt: HostRuntime) -> Result<(), Fail> {
-    for (arcs, objects) in STITCHED {
-        let text = text_of(rt.alloc(), arcs, objects)?;
-        assert!(rt; parts_of(rt.alloc(), text.as_str())?.is_some());
-        assert!(rt; topo_io::read(rt.alloc(), text.as_bytes()).is_err());
-    }
-    Ok(())
-}
-
-/// Texts with a fault that is known without stitching.
-const REFUSED: &[(&str, &str)] = &[
-    ("[[[0,0]]]", "{}"),
-    ("[[[0,0],[1.5,0]]]", "{}"),
-    ("5", "{}"),
-    (
-        "[[[0,0],[1,0]]]",
-        r#"{"a":{"type":"LineString","arcs":[1]}}"#,
-    ),
-    (
-        "[[[0,0],[1,0]]]",
-        r#"{"a":{"type":"LineString","arcs":[-2]}}"#,
-    ),
-    (
-        "[[[0,0],[1,0]]]",
-        r#"{"a":{"type":"LineString","arcs":[0.5]}}"#,
-    ),
-    ("[[[0,0],[1,0]]]", r#"{"a":{"type":"Polygon","arcs":[0]}}"#),
-    ("[]", r#"{"a":{"type":"Line","arcs":[]}}"#),
-    ("[]", r#"{"a":{"type":"Point","coordinates":[0]}}"#),
-    ("[]", r#"{"a":{"type":null,"id":[]}}"#),
-    ("[]", r#"{"a":{"type":"GeometryCollection"}}"#),
-    ("[]", "[]"),
-];
-
-#[test]
-fn other_faults_are_told(rt: HostRuntime) -> Result<(), Fail> {
-    for (arcs, objects) in REFUSED {
-        let text = text_of(rt.alloc(), arcs, objects)?;
-        assert!(rt; parts_of(rt.alloc(), text.as_str())?.is_none());
-        assert!(rt; topo_io::read(rt.alloc(), text.as_bytes()).is_err());
-    }
-    Ok(())
-}
 
 #[test]
 fn geometries_of_each_kind(rt: HostRuntime) -> Result<(), Fail> {
-    let text = text_of(
-        rt.alloc(),
-        "[[[0,0],[1,0]],[[1,0],[0,1],[-1,-1]]]",
-        r#"{"b":{"type":"GeometryCollection","geometries":[{"type":"MultiPolygon","arcs":[[[0,1]]],"id":7},{"type":"MultiPoint","coordinates":[[3,4]]},{"type":"MultiLineString","arcs":[[-1]]},{"type":null},{"type":"Point","coordinates":[1,2]}]}}"#,
-    )?;
-    let parts = parts_of(rt.alloc(), text.as_str())?.ok_or("refused")?;
+    let parts = read_parts(rt.alloc(), EACH_KIND.as_bytes())?;
     let geometries = geometries_of(&parts, "b").ok_or("no layer")?;
-    let [polygons, points, lines, none, point] = geometries else {
-        return Err(Fail::from("not five"));
-    };
-    assert!(rt; matches!(&polygons.body, Body::MultiPolygon(of) if of.as_slice().len() == 1));
-    assert!(rt; matches!(&points.body, Body::MultiPoint(of) if of.as_slice().len() == 1));
-    assert!(rt;
-        matches!(&lines.body, Body::MultiLine(of) if of.as_slice().first().is_some_and(|used| is_used(used.as_slice(), &[-1])))
-    );
-    assert!(rt; matches!(&none.body, Body::Null));
-    assert!(rt; matches!(&point.body, Body::Point(p) if (p.x(), p.y()) == (1, 2)));
+    check_bodies(&rt, geometries, BODIES);
+    Ok(())
+}
+
+/// Whether the parts are three arcs on the unit grid, of which the second ends at the origin.
+fn are_arcs_of_other_tool(parts: &TextParts) -> bool {
+    match parts.arcs.as_slice() {
+        [_, second, _] => {
+            parts.grid.scale() == (1, 1)
+                && second
+                    .as_slice()
+                    .last()
+                    .is_some_and(|position| is_at(position, &(0, 0)))
+        }
+        _ => false,
+    }
+}
+
+#[test]
+fn lists_as_they_stand(rt: HostRuntime) -> Result<(), Fail> {
+    let parts = read_parts(rt.alloc(), OTHER_TOOL.as_bytes())?;
+    assert!(rt; are_arcs_of_other_tool(&parts));
+    let geometries = geometries_of(&parts, "a").ok_or("no layer")?;
+    check_bodies(&rt, geometries, &[Listed::Polygon(&[0, 1])]);
     Ok(())
 }

@@ -1,113 +1,145 @@
 //! Topology texts as they are read: their least faults, and the features that arcs stitch to.
-use crate::OTHER_TOOL;
-use faults::{Fault, Step};
-use grid::{Grid, Pos};
+use crate::texts::OTHER_TOOL;
+use crate::told::told;
+use grid::Pos;
 use shapes::{FeatureMap, Shape};
-use std::alloc::{AllocError, Global};
+use std::alloc::Global;
 use std::test::Fail;
 use topo_io::read;
 
-/// The fault of a text, as it is printed but for its name; or that the text is accepted.
-pub(crate) fn told(alloc: Global, fault: Option<&Fault>) -> Result<String, AllocError> {
-    let Some(fault) = fault else {
-        return String::from_str(alloc, "accepted");
+/// The text of a topology on the unit grid with these arcs and layers, its members in order.
+macro_rules! topology {
+    ($arcs:literal, $objects:literal) => {
+        concat!(
+            r#"{"arcs":"#,
+            $arcs,
+            r#","objects":"#,
+            $objects,
+            r#","transform":{"scale":[1,1],"translate":[0,0]},"type":"Topology"}"#
+        )
     };
-    let mut line = format!(in alloc; "{} $", fault.kind.number())?;
-    for step in &fault.path {
-        match step {
-            Step::Name(name) => write!(line, "/{name}")?,
-            Step::Index(index) => write!(line, "/{index}")?,
-        }
-    }
-    Ok(line)
 }
 
-/// Reads each text, whose least fault stands beside it.
-fn expect_told(alloc: Global, rows: &[(&str, &str)]) -> Result<(), Fail> {
-    for (text, expected) in rows {
-        let line = told(alloc, read(alloc, text.as_bytes()).err().as_ref())?;
-        if line.as_str() != *expected {
-            return Err(Fail::new(line));
-        }
-    }
-    Ok(())
-}
-
-const REFUSALS: &[(&str, &str)] = &[
+/// Texts, and the least fault of each.
+const FAULTS: &[(&str, &str, &str)] = &[
     (
-        r#"{"arcs":[[[0,0],[1,0]]],"objects":{"a":{"type":"LineString","arcs":[1]}},"transform":{"scale":[1,1],"translate":[0,0]},"type":"Topology"}"#,
+        "an index past the arcs",
+        topology!(
+            "[[[0,0],[1,0]]]",
+            r#"{"a":{"type":"LineString","arcs":[1]}}"#
+        ),
         "11 $/objects/a/arcs/0",
     ),
     (
-        r#"{"arcs":[],"objects":{"a":{"type":"LineString","arcs":[-1]}},"transform":{"scale":[1,1],"translate":[0,0]},"type":"Topology"}"#,
+        "a reversed arc where there are none",
+        topology!("[]", r#"{"a":{"type":"LineString","arcs":[-1]}}"#),
         "11 $/objects/a/arcs/0",
     ),
     (
-        r#"{"arcs":[[[0,0],[1,0]],[[2,0],[1,0]]],"objects":{"a":{"type":"LineString","arcs":[0,1]}},"transform":{"scale":[1,1],"translate":[0,0]},"type":"Topology"}"#,
+        "a line that is broken off",
+        topology!(
+            "[[[0,0],[1,0]],[[2,0],[1,0]]]",
+            r#"{"a":{"type":"LineString","arcs":[0,1]}}"#
+        ),
         "12 $/objects/a/arcs",
     ),
     (
-        r#"{"arcs":[[[0,0],[1,0]]],"objects":{"a":{"type":"LineString","arcs":[-9223372036854775808]}},"transform":{"scale":[1,1],"translate":[0,0]},"type":"Topology"}"#,
+        "the least index of 64 bits",
+        topology!(
+            "[[[0,0],[1,0]]]",
+            r#"{"a":{"type":"LineString","arcs":[-9223372036854775808]}}"#
+        ),
         "11 $/objects/a/arcs/0",
     ),
     (
-        r#"{"arcs":[[[0,0],[1,0]]],"objects":{"a":{"type":"LineString","arcs":[9223372036854775808]}},"transform":{"scale":[1,1],"translate":[0,0]},"type":"Topology"}"#,
+        "an index past 64 bits",
+        topology!(
+            "[[[0,0],[1,0]]]",
+            r#"{"a":{"type":"LineString","arcs":[9223372036854775808]}}"#
+        ),
         "5 $/objects/a/arcs/0",
     ),
     (
-        r#"{"arcs":[[[0,0],[0,0],[1,0]]],"objects":{"a":{"type":"LineString","arcs":[0]}},"transform":{"scale":[1,1],"translate":[0,0]},"type":"Topology"}"#,
+        "an arc with a position twice in a row",
+        topology!(
+            "[[[0,0],[0,0],[1,0]]]",
+            r#"{"a":{"type":"LineString","arcs":[0]}}"#
+        ),
         "accepted",
     ),
     (
+        "no transform",
         r#"{"type":"Topology","objects":{},"arcs":[]}"#,
         "15 $/transform",
     ),
-    (r#"{"type":"topology","arcs":5}"#, "4 $/type"),
     (
+        "another type, before arcs of the wrong kind",
+        r#"{"type":"topology","arcs":5}"#,
+        "4 $/type",
+    ),
+    (
+        "a transform of the wrong kind",
         r#"{"type":"Topology","transform":null,"objects":{},"arcs":[]}"#,
         "3 $/transform",
     ),
-];
-
-#[test]
-fn refusals(rt: HostRuntime) -> Result<(), Fail> {
-    expect_told(rt.alloc(), REFUSALS)
-}
-
-const ARCS_AND_LAYERS: &[(&str, &str)] = &[
     (
-        r#"{"arcs":[[[0,0]]],"objects":{"a":{"type":"Point","coordinates":[1.0,0]}},"transform":{"scale":[1,1],"translate":[0,0]},"type":"Topology"}"#,
+        "an arc of one position, before a number that is not whole",
+        topology!(
+            "[[[0,0]]]",
+            r#"{"a":{"type":"Point","coordinates":[1.0,0]}}"#
+        ),
         "8 $/arcs/0",
     ),
     (
-        r#"{"arcs":[[[1099511627776,0],[1,0]]],"objects":{},"transform":{"scale":[1,1],"translate":[0,0]},"type":"Topology"}"#,
+        "a step past the greatest number",
+        topology!("[[[1099511627776,0],[1,0]]]", "{}"),
         "6 $/arcs/0/1/0",
     ),
     (
-        r#"{"arcs":[[[0,0],[9223372036854775807,0],[9223372036854775807,0]]],"objects":{},"transform":{"scale":[1,1],"translate":[0,0]},"type":"Topology"}"#,
+        "steps whose sum is past 64 bits",
+        topology!(
+            "[[[0,0],[9223372036854775807,0],[9223372036854775807,0]]]",
+            "{}"
+        ),
         "6 $/arcs/0/1/0",
     ),
     (
-        r#"{"arcs":[],"objects":{"x/y~z":5},"transform":{"scale":[1,1],"translate":[0,0]},"type":"Topology"}"#,
+        "a layer of the wrong kind, whose name has the signs of a path",
+        topology!("[]", r#"{"x/y~z":5}"#),
         "3 $/objects/x/y~z",
     ),
     (
-        r#"{"arcs":[],"objects":{"a":{"type":null,"arcs":[99],"id":"n"}},"transform":{"scale":[1,1],"translate":[0,0]},"type":"Topology"}"#,
+        "the null shape beside arcs that are not there",
+        topology!("[]", r#"{"a":{"type":null,"arcs":[99],"id":"n"}}"#),
         "accepted",
     ),
     (
-        r#"{"arcs":[],"objects":{"b":{"type":"Point"},"a":{"type":"Polygon","arcs":[[0],[0.5]]}},"transform":{"scale":[1,1],"translate":[0,0]},"type":"Topology"}"#,
+        "faults of two layers and of two rings",
+        topology!(
+            "[]",
+            r#"{"b":{"type":"Point"},"a":{"type":"Polygon","arcs":[[0],[0.5]]}}"#
+        ),
         "11 $/objects/a/arcs/0/0",
     ),
     (
+        "an absolute number past the greatest",
         r#"{"arcs":[],"objects":{"a":{"type":"Point","coordinates":[9007199255,0]}},"transform":{"scale":[1000000,1],"translate":[0,0]},"type":"Topology"}"#,
         "6 $/objects/a/coordinates/0",
     ),
 ];
 
+fn read_told(alloc: Global, text: &str) -> Result<String, Fail> {
+    let fault = read(alloc, text.as_bytes()).err();
+    Ok(told(alloc, fault.as_ref())?)
+}
+
 #[test]
-fn arcs_and_layers(rt: HostRuntime) -> Result<(), Fail> {
-    expect_told(rt.alloc(), ARCS_AND_LAYERS)
+fn least_faults(rt: HostRuntime) -> Result<(), Fail> {
+    for (title, text, fault) in FAULTS {
+        let line = read_told(rt.alloc(), *text)?;
+        assert!(rt; line.as_str() == *fault, "{title}: {line}");
+    }
+    Ok(())
 }
 
 /// The vertices of the first ring of the only feature of the layer `a`.
@@ -129,15 +161,13 @@ fn stand_at(positions: &[Pos], places: &[(i64, i64)]) -> bool {
     positions.len() == places.len()
 }
 
-fn read_accepted(alloc: Global, text: &str) -> Result<(Grid, FeatureMap), Fail> {
-    Ok(read(alloc, text.as_bytes()).ok().ok_or("refused")?)
-}
+/// The vertices of the unit square at the origin.
+const SQUARE: &[(i64, i64)] = &[(0, 0), (1, 0), (1, 1), (0, 1)];
 
 #[test]
 fn stitched_features(rt: HostRuntime) -> Result<(), Fail> {
-    let (grid, map) = read_accepted(rt.alloc(), OTHER_TOOL)?;
-    let places = [(0, 0), (1, 0), (1, 1), (0, 1)];
+    let (grid, map) = read(rt.alloc(), OTHER_TOOL.as_bytes())?;
     assert!(rt; grid.scale() == (1, 1));
-    assert!(rt; only_ring(&map).is_some_and(|ring| stand_at(ring, &places)));
+    assert!(rt; only_ring(&map).is_some_and(|ring| stand_at(ring, SQUARE)));
     Ok(())
 }

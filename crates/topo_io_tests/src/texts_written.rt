@@ -1,29 +1,12 @@
 //! Topologies as they are written, and which texts are canonical.
-use crate::OTHER_TOOL;
+use crate::texts::{NO_LAYERS, ONE_SQUARE, OTHER_TOOL, POINTS, SQUARES, built};
 use grid::Grid;
 use shapes::FeatureMap;
 use sinks::Kept;
 use std::alloc::Global;
 use std::test::Fail;
 use topo::Topology;
-use topo_io::{is_canonical, is_text_of, read, write};
-
-const SQUARES: &str =
-    r#"{"arcs":[[[1,0],[-1,0],[0,1],[1,0]],[[1,0],[0,1]],[[1,0],[1,0],[0,1],[-1,0]]],"bbox":[0,0,2,1],"objects":{"a":{"geometries":[{"arcs":[[1,-1]],"type":"Polygon"},{"arcs":[[2,-2]],"type":"Polygon"}],"type":"GeometryCollection"}},"transform":{"scale":[1,1],"translate":[0,0]},"type":"Topology"}"#;
-
-const POINTS: &str =
-    r#"{"arcs":[],"bbox":[-7,30,93,45],"objects":{"":{"geometries":[],"type":"GeometryCollection"},"b":{"geometries":[{"id":"x","properties":{"a":null,"b":1},"type":null},{"coordinates":[[1,2],[1,2]],"id":"y","type":"MultiPoint"},{"coordinates":[-9,-1],"id":"z","type":"Point"}],"type":"GeometryCollection"}},"transform":{"scale":[10,5],"translate":[83,35]},"type":"Topology"}"#;
-
-const NO_LAYERS: &str =
-    r#"{"arcs":[],"objects":{},"transform":{"scale":[1,1],"translate":[0,0]},"type":"Topology"}"#;
-
-const ONE_SQUARE: &str =
-    r#"{"arcs":[[[0,0],[0,1],[1,0],[0,-1],[-1,0]]],"bbox":[0,0,1,1],"objects":{"a":{"geometries":[{"arcs":[[-1]],"type":"Polygon"}],"type":"GeometryCollection"}},"transform":{"scale":[1,1],"translate":[0,0]},"type":"Topology"}"#;
-
-fn built(alloc: Global, text: &str) -> Result<Topology, Fail> {
-    let (grid, map) = read(alloc, text.as_bytes()).ok().ok_or("refused")?;
-    Ok(Topology::build(alloc, &grid, &map)?)
-}
+use topo_io::{is_canonical, is_text_of, write};
 
 fn writes(alloc: Global, topology: &Topology, text: &str) -> bool {
     let mut kept = Kept::new(alloc);
@@ -31,22 +14,38 @@ fn writes(alloc: Global, topology: &Topology, text: &str) -> bool {
     is_written && kept.into_bytes().as_slice() == text.as_bytes()
 }
 
+/// Canonical texts, and others that are not of the same topology.
+const WRITTEN: &[(&str, &str, &[&str])] = &[
+    ("two squares", SQUARES, &["{}\n", ONE_SQUARE]),
+    ("points and the null shape", POINTS, &[SQUARES]),
+];
+
+/// Whether the topology has one of these texts.
+fn has_one_of(topology: &Topology, texts: &[&str]) -> bool {
+    for text in texts {
+        if is_text_of(topology, text.as_bytes()) {
+            return true;
+        }
+    }
+    false
+}
+
 #[test]
-fn shared_edge(rt: HostRuntime) -> Result<(), Fail> {
-    let topology = built(rt.alloc(), SQUARES)?;
-    let text = SQUARES.as_bytes();
-    assert!(rt; writes(rt.alloc(), &topology, SQUARES));
-    assert!(rt; is_text_of(&topology, text));
-    assert!(rt; !is_text_of(&topology, &text[..text.len() - 1]));
-    assert!(rt; !is_text_of(&topology, b"{}\n"));
+fn topologies_of_canonical_texts(rt: HostRuntime) -> Result<(), Fail> {
+    for (title, text, others) in WRITTEN {
+        let topology = built(rt.alloc(), *text)?;
+        assert!(rt; writes(rt.alloc(), &topology, *text), "{title}");
+        assert!(rt; is_text_of(&topology, text.as_bytes()), "{title}");
+        assert!(rt; !has_one_of(&topology, *others), "{title}: others");
+    }
     Ok(())
 }
 
 #[test]
-fn points_and_the_null_shape(rt: HostRuntime) -> Result<(), Fail> {
-    let topology = built(rt.alloc(), POINTS)?;
-    assert!(rt; writes(rt.alloc(), &topology, POINTS));
-    assert!(rt; !is_text_of(&topology, SQUARES.as_bytes()));
+fn a_text_without_its_last_byte(rt: HostRuntime) -> Result<(), Fail> {
+    let topology = built(rt.alloc(), SQUARES)?;
+    let (_, front) = SQUARES.as_bytes().split_last().ok_or("empty")?;
+    assert!(rt; !is_text_of(&topology, front));
     Ok(())
 }
 
@@ -65,8 +64,13 @@ fn canonical(alloc: Global, text: &[u8]) -> Option<bool> {
 
 #[test]
 fn another_tools_text_is_not_canonical(rt: HostRuntime) {
-    let text = ONE_SQUARE.as_bytes();
     assert!(rt; canonical(rt.alloc(), OTHER_TOOL.as_bytes()) == Some(false));
-    assert!(rt; canonical(rt.alloc(), text) == Some(true));
-    assert!(rt; canonical(rt.alloc(), &text[1..]).is_none());
+    assert!(rt; canonical(rt.alloc(), ONE_SQUARE.as_bytes()) == Some(true));
+}
+
+#[test]
+fn a_text_without_its_first_byte_is_refused(rt: HostRuntime) -> Result<(), Fail> {
+    let (_, rest) = ONE_SQUARE.as_bytes().split_first().ok_or("empty")?;
+    assert!(rt; canonical(rt.alloc(), rest).is_none());
+    Ok(())
 }

@@ -3,39 +3,128 @@ use chains::ArcRef;
 use grid::{Grid, Pos};
 use shapes::{Feature, FeatureMap, Id, Props, Shape};
 use std::alloc::Global;
-use std::process::Abort;
 use std::test::Fail;
 use topo::{Body, Topology};
-use worked_maps::{FIRST, SECOND, TRIANGLE, line, polygon};
+use worked_maps::{FIRST, Places, SECOND, TRIANGLE, are_used, line, polygon, refs_of};
 
-fn feature(alloc: Global, shape: Shape) -> Result<Feature, Fail> {
-    let props = Props::empty(alloc)?;
-    Ok(Feature {
-        id: Id::None,
-        props,
-        shape,
-    })
+/// A layer by its lines and its polygons of one ring, and the used arcs of each of its geometries in order.
+#[derive(Clone, Copy)]
+struct Layer {
+    name: &'static str,
+    lines: &'static [Places],
+    rings: &'static [Places],
+    lists: &'static [&'static [i64]],
 }
 
+/// A map, the arcs of its topology, and the box around it.
+#[derive(Clone, Copy)]
+struct Case {
+    title: &'static str,
+    layers: &'static [Layer],
+    arcs: &'static [Places],
+    bbox: Option<(i64, i64, i64, i64)>,
+}
+
+const SQUARES: &[Layer] = &[Layer {
+    name: "a",
+    lines: &[],
+    rings: &[FIRST, SECOND],
+    lists: &[&[1, -1], &[2, -2]],
+}];
+
+const CASES: &[Case] = &[
+    Case {
+        title: "two squares with a shared edge",
+        layers: SQUARES,
+        arcs: &[
+            &[(1, 0), (0, 0), (0, 1), (1, 1)],
+            &[(1, 0), (1, 1)],
+            &[(1, 0), (2, 0), (2, 1), (1, 1)],
+        ],
+        bbox: Some((0, 0, 2, 1)),
+    },
+    Case {
+        title: "a free loop that is used reversed",
+        layers: &[Layer {
+            name: "a",
+            lines: &[],
+            rings: &[TRIANGLE],
+            lists: &[&[-1]],
+        }],
+        arcs: &[&[(0, 0), (0, 2), (2, 0), (0, 0)]],
+        bbox: Some((0, 0, 2, 2)),
+    },
+    Case {
+        title: "nothing in the only layer",
+        layers: &[Layer {
+            name: "a",
+            lines: &[],
+            rings: &[],
+            lists: &[],
+        }],
+        arcs: &[],
+        bbox: None,
+    },
+    Case {
+        title: "a square, and one of its edges in another layer",
+        layers: &[
+            Layer {
+                name: "a",
+                lines: &[],
+                rings: &[FIRST],
+                lists: &[&[1, -1]],
+            },
+            Layer {
+                name: "b",
+                lines: &[&[(1, 0), (1, 1)]],
+                rings: &[],
+                lists: &[&[1]],
+            },
+        ],
+        arcs: &[&[(1, 0), (0, 0), (0, 1), (1, 1)], &[(1, 0), (1, 1)]],
+        bbox: Some((0, 0, 1, 1)),
+    },
+];
+
 fn insert(alloc: Global, map: &mut FeatureMap, name: &str, shape: Shape) -> Result<(), Fail> {
-    let feature = feature(alloc, shape)?;
-    map.add_layer(name)?;
+    let feature = Feature {
+        id: Id::None,
+        props: Props::empty(alloc)?,
+        shape,
+    };
     map.insert(name, feature)?;
     Ok(())
 }
 
-fn map_of_rings(alloc: Global, rings: &[&[(i64, i64)]]) -> Result<FeatureMap, Fail> {
+fn insert_lines(alloc: Global, map: &mut FeatureMap, layer: &Layer) -> Result<(), Fail> {
+    for places in layer.lines {
+        insert(alloc, map, layer.name, line(alloc, *places)?)?;
+    }
+    Ok(())
+}
+
+fn insert_rings(alloc: Global, map: &mut FeatureMap, layer: &Layer) -> Result<(), Fail> {
+    for places in layer.rings {
+        insert(alloc, map, layer.name, polygon(alloc, *places)?)?;
+    }
+    Ok(())
+}
+
+fn map_of(alloc: Global, layers: &[Layer]) -> Result<FeatureMap, Fail> {
     let mut map = FeatureMap::new(alloc);
-    for places in rings {
-        insert(alloc, &mut map, "a", polygon(alloc, places)?)?;
+    for layer in layers {
+        map.add_layer(layer.name)?;
+        insert_lines(alloc, &mut map, layer)?;
+        insert_rings(alloc, &mut map, layer)?;
     }
     Ok(map)
 }
 
 /// The topology on the grid 1,1,0,0.
-fn topology_of(alloc: Global, map: &FeatureMap) -> Result<Topology, Fail> {
+fn topology_of(alloc: Global, layers: &[Layer]) -> Result<Topology, Fail> {
     let grid = Grid::new(1, 1, 0, 0).ok_or("no grid")?;
-    Ok(Topology::build(alloc, &grid, map)?)
+    let map = map_of(alloc, layers)?;
+    Ok(Topology::build(alloc, &grid, &map)?)
 }
 
 fn stands_at(position: &Pos, place: &(i64, i64)) -> bool {
@@ -58,147 +147,110 @@ fn is_arc(topology: &Topology, number: usize, places: &[(i64, i64)]) -> bool {
     }
 }
 
-/// Compares the arcs.
-fn check_arcs(rt: &impl Abort, topology: &Topology, arcs: &[&[(i64, i64)]]) {
-    assert!(rt; topology.arcs().len() == arcs.len());
+fn are_arcs(topology: &Topology, arcs: &[Places]) -> bool {
     for (number, places) in arcs.iter().enumerate() {
-        assert!(rt; is_arc(topology, number, places), "arc {number}");
-    }
-}
-
-fn are_indexes(refs: &[ArcRef], indexes: &[i64]) -> bool {
-    for (used, index) in refs.iter().zip(indexes) {
-        if *used != ArcRef::from_index(*index) {
+        if !is_arc(topology, number, *places) {
             return false;
         }
     }
-    refs.len() == indexes.len()
+    topology.arcs().len() == arcs.len()
 }
 
-/// The used arcs of the first ring of a polygon, or of a line, of a layer.
-fn list_of<'a>(topology: &'a Topology, name: &str, place: usize) -> Option<&'a [ArcRef]> {
-    match &topology.geometries(name)?.get(place)?.body {
+/// The used arcs of a line, or of the first ring of a polygon.
+fn list_of(body: &Body) -> Option<&[ArcRef]> {
+    match body {
         Body::Line(list) => Some(list.as_slice()),
         Body::Polygon(rings) => Some(rings.as_slice().first()?.as_slice()),
         _ => None,
     }
 }
 
-/// Compares the indexes of the lists of a layer.
-fn check_lists(rt: &impl Abort, topology: &Topology, name: &str, lists: &[&[i64]]) {
-    for (place, indexes) in lists.iter().enumerate() {
-        let list = list_of(topology, name, place).unwrap_or(&[]);
-        assert!(rt;
-            are_indexes(list, indexes),
-            "layer {name}, geometry {place}"
-        );
+fn is_list(body: &Body, indexes: &[i64]) -> bool {
+    match list_of(body) {
+        Some(list) => are_used(list, indexes),
+        None => false,
     }
-    assert!(rt; list_of(topology, name, lists.len()).is_none());
 }
 
-/// Expands the topology and compares the map with the one that was built.
-fn check_expanded(
-    rt: &impl Abort,
-    alloc: Global,
-    topology: &Topology,
-    map: &FeatureMap,
-) -> Result<(), Fail> {
-    let expanded = topology.expand(alloc)?;
-    let names = map.names()?;
-    assert!(rt; expanded.names()?.len() == names.len());
-    for name in &names {
-        assert!(rt; expanded.layer(name.text()) == map.layer(name.text()));
+fn is_layer(topology: &Topology, layer: &Layer) -> bool {
+    let Some(geometries) = topology.geometries(layer.name) else {
+        return false;
+    };
+    for (geometry, indexes) in geometries.iter().zip(layer.lists) {
+        if !is_list(&geometry.body, *indexes) {
+            return false;
+        }
+    }
+    geometries.len() == layer.lists.len()
+}
+
+fn are_layers(topology: &Topology, layers: &[Layer]) -> bool {
+    for layer in layers {
+        if !is_layer(topology, layer) {
+            return false;
+        }
+    }
+    topology.layers().len() == layers.len() && topology.geometries("none").is_none()
+}
+
+fn is_topology(topology: &Topology, case: &Case) -> bool {
+    are_arcs(topology, case.arcs)
+        && are_layers(topology, case.layers)
+        && topology.bbox() == case.bbox
+}
+
+#[test]
+fn topologies_of_maps(rt: HostRuntime) -> Result<(), Fail> {
+    for case in CASES {
+        let topology = topology_of(rt.alloc(), case.layers)?;
+        assert!(rt; is_topology(&topology, case), "{}", case.title);
     }
     Ok(())
 }
 
-/// Polygons of one ring in the layer `a`, and what their topology has.
-struct Case {
-    rings: &'static [&'static [(i64, i64)]],
-    arcs: &'static [&'static [(i64, i64)]],
-    lists: &'static [&'static [i64]],
-    bbox: (i64, i64, i64, i64),
-}
-
-fn check_topology(rt: &impl Abort, topology: &Topology, case: &Case) {
-    check_arcs(rt, topology, case.arcs);
-    check_lists(rt, topology, "a", case.lists);
-    assert!(rt; topology.bbox() == Some(case.bbox));
-}
-
-/// Builds the topology of a case, and compares it and a copy of it.
-fn check_case(rt: &impl Abort, alloc: Global, case: &Case) -> Result<(), Fail> {
-    let map = map_of_rings(alloc, case.rings)?;
-    let topology = topology_of(alloc, &map)?;
-    check_topology(rt, &topology, case);
-    let copy = topology.copy(alloc)?;
-    check_topology(rt, &copy, case);
-    check_expanded(rt, alloc, &copy, &map)
-}
-
-const SHARED_EDGE: Case = Case {
-    rings: &[FIRST, SECOND],
-    arcs: &[
-        &[(1, 0), (0, 0), (0, 1), (1, 1)],
-        &[(1, 0), (1, 1)],
-        &[(1, 0), (2, 0), (2, 1), (1, 1)],
-    ],
-    lists: &[&[1, -1], &[2, -2]],
-    bbox: (0, 0, 2, 1),
-};
-
-#[test]
-fn shared_edge(rt: HostRuntime) -> Result<(), Fail> {
-    check_case(&rt, rt.alloc(), &SHARED_EDGE)
-}
-
-const FREE_LOOP: Case = Case {
-    rings: &[TRIANGLE],
-    arcs: &[&[(0, 0), (0, 2), (2, 0), (0, 0)]],
-    lists: &[&[-1]],
-    bbox: (0, 0, 2, 2),
-};
-
-#[test]
-fn free_loop_used_reversed(rt: HostRuntime) -> Result<(), Fail> {
-    check_case(&rt, rt.alloc(), &FREE_LOOP)
-}
-
-/// The topology has one layer, `a`, and nothing in it.
-fn is_empty(topology: &Topology) -> bool {
-    topology.arcs().len() == 0
-        && topology.bbox().is_none()
-        && topology.layers().len() == 1
-        && topology
-            .geometries("a")
-            .is_some_and(|layer| layer.is_empty())
-        && topology.geometries("b").is_none()
+fn copy_of_topology(alloc: Global, layers: &[Layer]) -> Result<Topology, Fail> {
+    let topology = topology_of(alloc, layers)?;
+    Ok(topology.copy(alloc)?)
 }
 
 #[test]
-fn empty(rt: HostRuntime) -> Result<(), Fail> {
-    let mut map = FeatureMap::new(rt.alloc());
-    map.add_layer("a")?;
-    let topology = topology_of(rt.alloc(), &map)?;
-    assert!(rt; is_empty(&topology));
-    check_expanded(&rt, rt.alloc(), &topology, &map)
+fn copies_of_topologies(rt: HostRuntime) -> Result<(), Fail> {
+    for case in CASES {
+        let copy = copy_of_topology(rt.alloc(), case.layers)?;
+        assert!(rt; is_topology(&copy, case), "{}", case.title);
+    }
+    Ok(())
 }
 
-/// A square in the layer `a`, and one of its edges in the layer `b`.
-fn square_and_edge(alloc: Global) -> Result<FeatureMap, Fail> {
-    let mut map = map_of_rings(alloc, &[FIRST])?;
-    insert(alloc, &mut map, "b", line(alloc, &[(1, 0), (1, 1)])?)?;
-    Ok(map)
+fn are_same(map: &FeatureMap, other: &FeatureMap) -> Result<bool, Fail> {
+    let names = map.names()?;
+    for name in &names {
+        if other.layer(name.text()) != map.layer(name.text()) {
+            return Ok(false);
+        }
+    }
+    Ok(other.names()?.len() == names.len())
+}
+
+/// Whether a topology expands to this map.
+fn expands_to(alloc: Global, topology: &Topology, map: &FeatureMap) -> Result<bool, Fail> {
+    let expanded = topology.expand(alloc)?;
+    are_same(map, &expanded)
+}
+
+/// Whether a copy of the topology of a map expands to the map.
+fn is_expanded(alloc: Global, layers: &[Layer]) -> Result<bool, Fail> {
+    let map = map_of(alloc, layers)?;
+    let copy = copy_of_topology(alloc, layers)?;
+    expands_to(alloc, &copy, &map)
 }
 
 #[test]
-fn two_layers(rt: HostRuntime) -> Result<(), Fail> {
-    let map = square_and_edge(rt.alloc())?;
-    let topology = topology_of(rt.alloc(), &map)?;
-    assert!(rt; topology.arcs().len() == 2);
-    check_lists(&rt, &topology, "a", &[&[1, -1]]);
-    check_lists(&rt, &topology, "b", &[&[1]]);
-    check_expanded(&rt, rt.alloc(), &topology, &map)
+fn copies_expand_to_their_maps(rt: HostRuntime) -> Result<(), Fail> {
+    for case in CASES {
+        assert!(rt; is_expanded(rt.alloc(), case.layers)?, "{}", case.title);
+    }
+    Ok(())
 }
 
 /// The walk along used arcs meets these places and no others.
@@ -229,43 +281,61 @@ fn walks_against(topology: &Topology, refs: &[ArcRef], places: &[(i64, i64)]) ->
     walk.next_back().is_none()
 }
 
-fn walks_both_ways(topology: &Topology, refs: &[ArcRef], places: &[(i64, i64)]) -> bool {
-    walks_along(topology, refs, places) && walks_against(topology, refs, places)
+/// Lists of the arcs of `SQUARES`, and the places that they stitch to.
+const WALKS: &[(&str, &[i64], Places)] = &[
+    (
+        "the first square",
+        &[1, -1],
+        &[(1, 0), (1, 1), (0, 1), (0, 0), (1, 0)],
+    ),
+    ("no arcs", &[], &[]),
+];
+
+fn walks_both_ways(
+    alloc: Global,
+    topology: &Topology,
+    indexes: &[i64],
+    places: &[(i64, i64)],
+) -> Result<bool, Fail> {
+    let refs = refs_of(alloc, indexes)?;
+    Ok(walks_along(topology, &refs, places) && walks_against(topology, &refs, places))
 }
 
 #[test]
 fn walks_from_both_ends(rt: HostRuntime) -> Result<(), Fail> {
-    let map = map_of_rings(rt.alloc(), &[FIRST, SECOND])?;
-    let topology = topology_of(rt.alloc(), &map)?;
-    let refs = [ArcRef::from_index(1), ArcRef::from_index(-1)];
-    let places = [(1, 0), (1, 1), (0, 1), (0, 0), (1, 0)];
-    assert!(rt; walks_both_ways(&topology, &refs, &places));
-    assert!(rt; walks_both_ways(&topology, &[], &[]));
+    let topology = topology_of(rt.alloc(), SQUARES)?;
+    for (title, indexes, places) in WALKS {
+        let walks = walks_both_ways(rt.alloc(), &topology, *indexes, *places)?;
+        assert!(rt; walks, "{title}");
+    }
     Ok(())
 }
 
-/// The map of a line from one corner of its box to the other.
-fn diagonal(alloc: Global) -> Result<FeatureMap, Fail> {
-    let places = [
+/// A line from one corner of its box to the other.
+const DIAGONAL: &[Layer] = &[Layer {
+    name: "a",
+    lines: &[&[
         (-1_000_000_000, -1_000_000_000),
         (1_000_000_000, 1_000_000_000),
-    ];
-    let mut map = FeatureMap::new(alloc);
-    insert(alloc, &mut map, "a", line(alloc, &places)?)?;
-    Ok(map)
-}
+    ]],
+    rings: &[],
+    lists: &[&[0]],
+}];
+
+/// The box around `DIAGONAL`, in absolute numbers of the grid 10,10,-500,0.
+const CORNERS: (i64, i64, i64, i64) = (
+    -10_000_000_500,
+    -10_000_000_000,
+    9_999_999_500,
+    10_000_000_000,
+);
 
 #[test]
 fn bbox_in_absolute_numbers(rt: HostRuntime) -> Result<(), Fail> {
     let grid = Grid::new(10, 10, -500, 0).ok_or("no grid")?;
-    let map = diagonal(rt.alloc())?;
+    let map = map_of(rt.alloc(), DIAGONAL)?;
     let topology = Topology::build(rt.alloc(), &grid, &map)?;
-    let corners = (
-        -10_000_000_500,
-        -10_000_000_000,
-        9_999_999_500,
-        10_000_000_000,
-    );
-    assert!(rt; topology.bbox() == Some(corners) && topology.grid() == grid);
-    check_expanded(&rt, rt.alloc(), &topology, &map)
+    assert!(rt; topology.bbox() == Some(CORNERS) && topology.grid() == grid);
+    assert!(rt; expands_to(rt.alloc(), &topology, &map)?);
+    Ok(())
 }
