@@ -61,6 +61,19 @@ impl Run {
         Ok(run)
     }
 
+    /// A run with these words after the program's name, and files, each a name and a text.
+    pub fn on_files(
+        alloc: Global,
+        words: &[&str],
+        files: &[(&str, &str)],
+    ) -> Result<Run, AllocError> {
+        let mut run = Run::new(alloc, words)?;
+        for (name, text) in files {
+            run.add_file(*name, text.as_bytes())?;
+        }
+        Ok(run)
+    }
+
     /// Puts a word last.
     pub fn add_word(&mut self, word: &str) -> Result<(), AllocError> {
         let word = String::from_str(self.alloc, word)?;
@@ -163,17 +176,30 @@ impl Outcome {
         if self.status == status && self.out.as_str() == out && self.err.as_str() == err {
             return Ok(());
         }
+        Err(self.told(title))
+    }
+
+    /// The text that the run printed, where it ended with status 0.
+    ///
+    /// # Errors
+    /// The title, and what the run ended with.
+    pub fn into_text(self, title: &str) -> Result<String, Fail> {
+        if self.status != 0 {
+            return Err(self.told(title));
+        }
+        Ok(self.out)
+    }
+
+    /// A failure that tells what the run ended with.
+    fn told(&self, title: &str) -> Fail {
         let (told, printed) = (self.err.as_str(), self.out.as_str());
-        Err(Fail::new(format_args!("{title}: status {}\n{told}{printed}", self.status)))
+        Fail::new(format_args!("{title}: status {}\n{told}{printed}", self.status))
     }
 }
 
 /// Runs the command on words and files, each a name and a text.
 pub fn run_words(alloc: Global, words: &[&str], files: &[(&str, &str)]) -> Result<Outcome, Fail> {
-    let mut run = Run::new(alloc, words)?;
-    for (name, text) in files {
-        run.add_file(*name, text.as_bytes())?;
-    }
+    let run = Run::on_files(alloc, words, files)?;
     run.outcome()
 }
 
