@@ -1,5 +1,5 @@
 //! What runs have to end with.
-use crate::runs::{build, run_words};
+use crate::runs::{build, build_all, run_on_text, run_words};
 use std::alloc::Global;
 use std::test::Fail;
 
@@ -50,7 +50,8 @@ pub fn assert_answer(
     text: &str,
     answer: &str,
 ) -> Result<(), Fail> {
-    assert_printed(alloc, title, words, &[("t.json", text)], answer)
+    let outcome = run_on_text(alloc, words, text)?;
+    outcome.printed(title, answer)
 }
 
 /// GeoJSON texts, each in the layer named before it, build this topology.
@@ -65,6 +66,20 @@ pub fn assert_built(
     topology: &str,
 ) -> Result<(), Fail> {
     let outcome = build(alloc, grid, sources)?;
+    outcome.printed(title, topology)
+}
+
+/// GeoJSON texts build this topology in the layer `a` on the grid 1,1,0,0.
+///
+/// # Errors
+/// The title, and what the run ended with.
+pub fn assert_all_built(
+    alloc: Global,
+    title: &str,
+    texts: &[&str],
+    topology: &str,
+) -> Result<(), Fail> {
+    let outcome = build_all(alloc, "a", texts)?;
     outcome.printed(title, topology)
 }
 
