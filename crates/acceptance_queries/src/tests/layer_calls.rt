@@ -46,7 +46,8 @@ fn has_kept(kept: Kept, text: &str) -> bool {
 /// Whether the layer `a` is written as this text.
 fn is_layer(alloc: Global, topology: &Topology, text: &str) -> bool {
     let mut kept = Kept::new(alloc);
-    write_layer(topology, "a", &mut kept).is_ok() && has_kept(kept, text)
+    let written = write_layer(topology, "a", &mut kept);
+    has_kept(kept, text) && written.is_ok()
 }
 
 /// Whether the features of the layer `a` are written as this text.
@@ -54,7 +55,7 @@ fn are_features(alloc: Global, topology: &Topology, text: &str) -> Result<bool, 
     let features = feature(alloc, topology, "a")?;
     let mut kept = Kept::new(alloc);
     let written = geojson_io::write(&topology.grid(), features.iter(), &mut kept);
-    Ok(written.is_ok() && has_kept(kept, text))
+    Ok(has_kept(kept, text) && written.is_ok())
 }
 
 fn is_written(alloc: Global, text: &str, printed: &str) -> Result<bool, Fail> {
@@ -76,7 +77,7 @@ fn expands(alloc: Global, topology: &Topology, text: &str) -> Result<bool, Fail>
     let features = map.layer("a").ok_or("no layer")?;
     let mut kept = Kept::new(alloc);
     let written = geojson_io::write(&topology.grid(), features.iter(), &mut kept);
-    Ok(written.is_ok() && has_kept(kept, text))
+    Ok(has_kept(kept, text) && written.is_ok())
 }
 
 /// Texts of which each is built as the two squares.
@@ -96,7 +97,8 @@ fn what_is_built_expands_prints_and_builds_again(rt: HostRuntime) -> Result<(), 
 fn are_borders(alloc: Global, topology: &Topology, text: &str) -> Result<bool, Fail> {
     let lines = mesh(alloc, topology, Some("a"), |_: &Feature, _: &Feature| true)?;
     let mut kept = Kept::new(alloc);
-    Ok(write_mesh(&topology.grid(), &lines, &mut kept).is_ok() && has_kept(kept, text))
+    let written = write_mesh(&topology.grid(), &lines, &mut kept);
+    Ok(has_kept(kept, text) && written.is_ok())
 }
 
 #[test]
@@ -110,7 +112,8 @@ fn borders_are_written_in_the_order_of_the_mesh(rt: HostRuntime) -> Result<(), F
 fn are_neighbors(alloc: Global, topology: &Topology, text: &str) -> Result<bool, Fail> {
     let lists = neighbors(alloc, topology, "a")?;
     let mut kept = Kept::new(alloc);
-    Ok(write_neighbors(lists.as_slice(), &mut kept).is_ok() && has_kept(kept, text))
+    let written = write_neighbors(lists.as_slice(), &mut kept);
+    Ok(has_kept(kept, text) && written.is_ok())
 }
 
 #[test]

@@ -26,7 +26,8 @@ fn status<O: Sink, E: Sink>(
 fn tells_failure<O: Sink>(alloc: Global, words: &[&str], out: &mut O) -> Result<bool, Fail> {
     let mut err = Kept::new(alloc);
     let status = status(alloc, words, out, &mut err)?;
-    Ok(status == 6 && err.into_bytes().as_slice() == b"topotool: 21 Write\n".as_slice())
+    let line = err.into_bytes();
+    Ok(status == 6 && line.as_slice() == b"topotool: 21 Write\n".as_slice())
 }
 
 /// Whether a sink took so many bytes of a text, and failed so often.
@@ -178,6 +179,7 @@ fn a_failure_of_standard_error_changes_no_status(rt: HostRuntime) -> Result<(), 
     let mut out = Kept::new(rt.alloc());
     let mut err = script(rt.alloc(), 4, Answer::Fail)?;
     assert!(rt; status(rt.alloc(), FROM_NOWHERE, &mut out, &mut err)? == 3);
-    assert!(rt; err.taken() == b"topo".as_slice() && out.into_bytes().is_empty());
+    let printed = out.into_bytes();
+    assert!(rt; printed.is_empty() && err.taken() == b"topo".as_slice());
     Ok(())
 }
