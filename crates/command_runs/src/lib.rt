@@ -2,10 +2,15 @@
 //! crates of acceptance tests share.
 #![tactic(auto)]
 
+mod checks;
 pub mod inputs;
 mod runs;
 mod scripts;
 mod tables;
 
-pub use runs::{Outcome, Run, build, build_all, run_on_bytes, run_words};
+pub use checks::{
+    Texts, Words, assert_all_built, assert_answer, assert_built, assert_printed, assert_refused,
+    built_text,
+};
+pub use runs::{Outcome, Run, build_file, run_on_bytes, run_on_text, run_words};
 pub use scripts::script;

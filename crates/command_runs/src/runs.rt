@@ -36,6 +36,11 @@ impl Files for Memory<'_> {
     }
 }
 
+/// What a sink kept, as a text.
+fn text_of(kept: Kept) -> Result<String, Fail> {
+    Ok(String::from_utf8(kept.into_bytes())?)
+}
+
 /// A run of the command: its words and files.
 #[derive(Drop)]
 pub struct Run {
@@ -57,6 +62,19 @@ impl Run {
         run.add_word("topotool")?;
         for word in words {
             run.add_word(*word)?;
+        }
+        Ok(run)
+    }
+
+    /// A run with these words after the program's name, and files, each a name and a text.
+    pub fn on_files(
+        alloc: Global,
+        words: &[&str],
+        files: &[(&str, &str)],
+    ) -> Result<Run, AllocError> {
+        let mut run = Run::new(alloc, words)?;
+        for (name, text) in files {
+            run.add_file(*name, text.as_bytes())?;
         }
         Ok(run)
     }
@@ -107,11 +125,9 @@ impl Run {
         let mut out = Kept::new(self.alloc);
         let mut err = Kept::new(self.alloc);
         let status = self.over(&mut out, &mut err);
-        Ok(Outcome {
-            status,
-            out: String::from_utf8(out.into_bytes())?,
-            err: String::from_utf8(err.into_bytes())?,
-        })
+        let out = text_of(out)?;
+        let err = text_of(err)?;
+        Ok(Outcome { status, out, err })
     }
 }
 
@@ -163,17 +179,30 @@ impl Outcome {
         if self.status == status && self.out.as_str() == out && self.err.as_str() == err {
             return Ok(());
         }
+        Err(self.told(title))
+    }
+
+    /// The text that the run printed, where it ended with status 0.
+    ///
+    /// # Errors
+    /// The title, and what the run ended with.
+    pub fn into_text(self, title: &str) -> Result<String, Fail> {
+        if self.status != 0 {
+            return Err(self.told(title));
+        }
+        Ok(self.out)
+    }
+
+    /// A failure that tells what the run ended with.
+    fn told(&self, title: &str) -> Fail {
         let (told, printed) = (self.err.as_str(), self.out.as_str());
-        Err(Fail::new(format_args!("{title}: status {}\n{told}{printed}", self.status)))
+        Fail::new(format_args!("{title}: status {}\n{told}{printed}", self.status))
     }
 }
 
 /// Runs the command on words and files, each a name and a text.
 pub fn run_words(alloc: Global, words: &[&str], files: &[(&str, &str)]) -> Result<Outcome, Fail> {
-    let mut run = Run::new(alloc, words)?;
-    for (name, text) in files {
-        run.add_file(*name, text.as_bytes())?;
-    }
+    let run = Run::on_files(alloc, words, files)?;
     run.outcome()
 }
 
@@ -189,10 +218,19 @@ pub fn run_on_bytes(
     run.outcome()
 }
 
+/// Runs the command on words and a file `t.json` of this text.
+pub fn run_on_text(alloc: Global, words: &[&str], text: &str) -> Result<Outcome, Fail> {
+    run_on_bytes(alloc, words, "t.json", text.as_bytes())
+}
+
+/// The words that build in layers on a grid, before the first layer.
+fn building(alloc: Global, grid: &str) -> Result<Run, AllocError> {
+    Run::new(alloc, &["build", "--grid", grid])
+}
+
 /// Builds GeoJSON texts, each in the layer named before it.
-pub fn build(alloc: Global, grid: &str, sources: &[(&str, &str)]) -> Result<Outcome, Fail> {
-    let mut run = Run::new(alloc, &["build", "--grid"])?;
-    run.add_word(grid)?;
+pub(crate) fn build(alloc: Global, grid: &str, sources: &[(&str, &str)]) -> Result<Outcome, Fail> {
+    let mut run = building(alloc, grid)?;
     for (place, (layer, text)) in sources.iter().enumerate() {
         run.add_source(place, *layer, *text)?;
     }
@@ -200,10 +238,16 @@ pub fn build(alloc: Global, grid: &str, sources: &[(&str, &str)]) -> Result<Outc
 }
 
 /// Builds GeoJSON texts in one layer on the grid 1,1,0,0.
-pub fn build_all(alloc: Global, layer: &str, texts: &[&str]) -> Result<Outcome, Fail> {
-    let mut run = Run::new(alloc, &["build", "--grid", "1,1,0,0"])?;
+pub(crate) fn build_all(alloc: Global, layer: &str, texts: &[&str]) -> Result<Outcome, Fail> {
+    let mut run = building(alloc, "1,1,0,0")?;
     for (place, text) in texts.iter().enumerate() {
         run.add_source(place, layer, *text)?;
     }
     run.outcome()
+}
+
+/// Builds a GeoJSON text, which is the file `p.json`, in the layer `a`.
+pub fn build_file(alloc: Global, grid: &str, text: &str) -> Result<Outcome, Fail> {
+    let words = ["build", "--grid", grid, "a=p.json"];
+    run_on_bytes(alloc, &words, "p.json", text.as_bytes())
 }

@@ -39,17 +39,23 @@ impl Files for Memory {
     }
 }
 
-/// Runs the command with these words after the program's name, and answers its status.
-pub fn status<O: Sink, E: Sink>(
-    alloc: Global,
-    words: &[&str],
-    out: &mut O,
-    err: &mut E,
-) -> Result<u8, AllocError> {
+/// The program's name and these words.
+fn list(alloc: Global, words: &[&str]) -> Result<Vec<String>, AllocError> {
     let mut list = Vec::new(alloc);
     list.push(String::from_str(alloc, "topotool")?)?;
     for word in words {
         list.push(String::from_str(alloc, *word)?)?;
     }
-    Ok(run(alloc, list.as_slice(), &mut Memory, out, err))
+    Ok(list)
+}
+
+/// Runs the command with these words after the program's name, and answers its status.
+pub(crate) fn status<O: Sink, E: Sink>(
+    alloc: Global,
+    words: &[&str],
+    out: &mut O,
+    err: &mut E,
+) -> Result<u8, AllocError> {
+    let words = list(alloc, words)?;
+    Ok(run(alloc, words.as_slice(), &mut Memory, out, err))
 }

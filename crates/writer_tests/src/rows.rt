@@ -5,6 +5,30 @@ use std::alloc::{AllocError, Global};
 use std::process::Abort;
 use std::test::Fail;
 
+/// The answer of a writer once it has taken a byte a call, and how many bytes it takes by it.
+#[derive(Clone, Copy)]
+struct Last {
+    answer: Answer,
+    taken: usize,
+}
+
+const FAIL: Last = Last {
+    answer: Answer::Fail,
+    taken: 0,
+};
+
+const TAKE_NOTHING: Last = Last {
+    answer: Answer::Take(0),
+    taken: 0,
+};
+
+const FAIL_AFTER_A_BYTE: Last = Last {
+    answer: Answer::FailAfter(1),
+    taken: 1,
+};
+
+const EACH_WAY: &[Last] = &[FAIL, TAKE_NOTHING, FAIL_AFTER_A_BYTE];
+
 /// One byte a call for some calls, then one other answer.
 fn script(alloc: Global, calls: usize, last: Answer) -> Result<Script, AllocError> {
     let mut answers = Vec::new(alloc);
@@ -15,33 +39,41 @@ fn script(alloc: Global, calls: usize, last: Answer) -> Result<Script, AllocErro
     Ok(Script::new(alloc, answers))
 }
 
-/// A run took this beginning of the text, failed once, and told so by its status and its line.
-fn assert_failed<R: Abort + AllocGlobal>(
-    rt: &R,
+/// Whether a run over a writer told by its status and its line that its output failed.
+fn tells_failure(alloc: Global, words: &[&str], out: &mut Script) -> Result<bool, Fail> {
+    let mut err = Kept::new(alloc);
+    let status = status(alloc, words, out, &mut err)?;
+    let line = err.into_bytes();
+    Ok(status == 6 && line.as_slice() == b"topotool: 21 Write\n".as_slice())
+}
+
+/// Whether a writer failed once, after so many bytes of the text.
+fn failed_after(out: &Script, text: &[u8], length: usize) -> bool {
+    out.failures() == 1 && out.taken().len() == length && text.starts_with(out.taken())
+}
+
+/// Whether a run whose output fails after some calls took that beginning of the text, failed once, and
+/// told so.
+fn fails(
+    alloc: Global,
     words: &[&str],
+    text: &[u8],
     calls: usize,
-    last: Answer,
-    beginning: &[u8],
-) -> Result<(), Fail> {
-    let mut out = script(rt.alloc(), calls, last)?;
-    let mut err = Kept::new(rt.alloc());
-    assert_eq!(rt; status(rt.alloc(), words, &mut out, &mut err)?, 6);
-    assert_eq!(rt;
-        err.into_bytes().as_slice(),
-        b"topotool: 21 Write\n".as_slice()
-    );
-    assert_eq!(rt; out.taken(), beginning);
-    assert_eq!(rt; out.failures(), 1);
-    Ok(())
+    last: Last,
+) -> Result<bool, Fail> {
+    let mut out = script(alloc, calls, last.answer)?;
+    let is_told = tells_failure(alloc, words, &mut out)?;
+    Ok(is_told && failed_after(&out, text, calls.saturating_add(last.taken)))
 }
 
 /// The text that a command prints.
-fn printed<R: Abort + AllocGlobal>(rt: &R, words: &[&str]) -> Result<Vec<u8>, Fail> {
-    let mut kept = Kept::new(rt.alloc());
-    let mut err = Kept::new(rt.alloc());
-    assert_eq!(rt; status(rt.alloc(), words, &mut kept, &mut err)?, 0);
+fn printed(alloc: Global, words: &[&str]) -> Result<Vec<u8>, Fail> {
+    let mut kept = Kept::new(alloc);
+    let status = status(alloc, words, &mut kept, &mut Kept::new(alloc))?;
     let text = kept.into_bytes();
-    assert!(rt; !text.is_empty());
+    if status != 0 || text.is_empty() {
+        return Err("no text".into());
+    }
     Ok(text)
 }
 
@@ -49,91 +81,90 @@ fn printed<R: Abort + AllocGlobal>(rt: &R, words: &[&str]) -> Result<Vec<u8>, Fa
 fn assert_each_failed<R: Abort + AllocGlobal>(
     rt: &R,
     words: &[&str],
-    last: Answer,
+    last: Last,
 ) -> Result<(), Fail> {
-    let text = printed(rt, words)?;
+    let text = printed(rt.alloc(), words)?;
     for calls in 0..text.len() {
-        match last {
-            Answer::FailAfter(_) => assert_failed(rt, words, calls, last, &text[..calls + 1])?,
-            _ => assert_failed(rt, words, calls, last, &text[..calls])?,
-        }
+        let fails = fails(rt.alloc(), words, text.as_slice(), calls, last)?;
+        assert!(rt; fails, "after {calls} calls");
     }
     Ok(())
 }
 
 /// Each call of a run fails in each way.
 fn assert_all_failed<R: Abort + AllocGlobal>(rt: &R, words: &[&str]) -> Result<(), Fail> {
-    assert_each_failed(rt, words, Answer::Fail)?;
-    assert_each_failed(rt, words, Answer::Take(0))?;
-    assert_each_failed(rt, words, Answer::FailAfter(1))
+    for last in EACH_WAY {
+        assert_each_failed(rt, words, *last)?;
+    }
+    Ok(())
 }
 
 const BUILD: &[&str] = &["build", "--grid", "1,1,0,0", "a=squares.json"];
 
 #[test]
 fn build_to_one_that_fails(rt: HostRuntime) -> Result<(), Fail> {
-    assert_each_failed(&rt, BUILD, Answer::Fail)
+    assert_each_failed(&rt, BUILD, FAIL)
 }
 
 #[test]
 fn build_to_one_that_takes_nothing(rt: HostRuntime) -> Result<(), Fail> {
-    assert_each_failed(&rt, BUILD, Answer::Take(0))
+    assert_each_failed(&rt, BUILD, TAKE_NOTHING)
 }
 
 #[test]
 fn build_to_one_that_fails_after_a_byte(rt: HostRuntime) -> Result<(), Fail> {
-    assert_each_failed(&rt, BUILD, Answer::FailAfter(1))
+    assert_each_failed(&rt, BUILD, FAIL_AFTER_A_BYTE)
 }
 
 const MERGE: &[&str] = &["merge", "shared.json", "shared.json"];
 
 #[test]
 fn merge_to_one_that_fails(rt: HostRuntime) -> Result<(), Fail> {
-    assert_each_failed(&rt, MERGE, Answer::Fail)
+    assert_each_failed(&rt, MERGE, FAIL)
 }
 
 #[test]
 fn merge_to_one_that_takes_nothing(rt: HostRuntime) -> Result<(), Fail> {
-    assert_each_failed(&rt, MERGE, Answer::Take(0))
+    assert_each_failed(&rt, MERGE, TAKE_NOTHING)
 }
 
 #[test]
 fn merge_to_one_that_fails_after_a_byte(rt: HostRuntime) -> Result<(), Fail> {
-    assert_each_failed(&rt, MERGE, Answer::FailAfter(1))
+    assert_each_failed(&rt, MERGE, FAIL_AFTER_A_BYTE)
 }
 
 const FEATURE: &[&str] = &["feature", "--layer", "a", "shared.json"];
 
 #[test]
 fn feature_to_one_that_fails(rt: HostRuntime) -> Result<(), Fail> {
-    assert_each_failed(&rt, FEATURE, Answer::Fail)
+    assert_each_failed(&rt, FEATURE, FAIL)
 }
 
 #[test]
 fn feature_to_one_that_takes_nothing(rt: HostRuntime) -> Result<(), Fail> {
-    assert_each_failed(&rt, FEATURE, Answer::Take(0))
+    assert_each_failed(&rt, FEATURE, TAKE_NOTHING)
 }
 
 #[test]
 fn feature_to_one_that_fails_after_a_byte(rt: HostRuntime) -> Result<(), Fail> {
-    assert_each_failed(&rt, FEATURE, Answer::FailAfter(1))
+    assert_each_failed(&rt, FEATURE, FAIL_AFTER_A_BYTE)
 }
 
 const INFO: &[&str] = &["info", "--json", "shared.json"];
 
 #[test]
 fn info_to_one_that_fails(rt: HostRuntime) -> Result<(), Fail> {
-    assert_each_failed(&rt, INFO, Answer::Fail)
+    assert_each_failed(&rt, INFO, FAIL)
 }
 
 #[test]
 fn info_to_one_that_takes_nothing(rt: HostRuntime) -> Result<(), Fail> {
-    assert_each_failed(&rt, INFO, Answer::Take(0))
+    assert_each_failed(&rt, INFO, TAKE_NOTHING)
 }
 
 #[test]
 fn info_to_one_that_fails_after_a_byte(rt: HostRuntime) -> Result<(), Fail> {
-    assert_each_failed(&rt, INFO, Answer::FailAfter(1))
+    assert_each_failed(&rt, INFO, FAIL_AFTER_A_BYTE)
 }
 
 #[test]

@@ -3,10 +3,10 @@ use command_runs::inputs::{
     A, B, BOTH_SQUARES, BOW_TIE, BOW_TIE_TOPOLOGY, EMPTY, FREE_LOOP, LOOPED_LINE,
     LOOPED_LINE_TOPOLOGY, NOTHING, ONE_SQUARE, SHARED_EDGE, SQUARES, T, UNIONS,
 };
-use command_runs::{build, build_all, rows, topology};
+use command_runs::{Texts, assert_all_built, assert_built, rows, topology};
 use std::test::Fail;
 
-/// Each row is a title, a GeoJSON text, and the topology that is built from it in the layer `a`.
+/// A title, a GeoJSON text, and the topology that is built from it in the layer `a`.
 const TEXTS: &[(&str, &str, &str)] = rows![
     // Maps.
     "empty", NOTHING, EMPTY;
@@ -61,7 +61,7 @@ const TEXTS: &[(&str, &str, &str)] = rows![
 #[test]
 fn single_texts(rt: HostRuntime) -> Result<(), Fail> {
     for (title, text, topology) in TEXTS {
-        build(rt.alloc(), "1,1,0,0", &[("a", *text)])?.printed(*title, *topology)?;
+        assert_all_built(rt.alloc(), *title, &[*text], *topology)?;
     }
     Ok(())
 }
@@ -69,14 +69,13 @@ fn single_texts(rt: HostRuntime) -> Result<(), Fail> {
 #[test]
 fn files_of_one_layer(rt: HostRuntime) -> Result<(), Fail> {
     for union in UNIONS {
-        build_all(rt.alloc(), "a", union.texts)?.printed(union.title, union.topology)?;
+        assert_all_built(rt.alloc(), union.title, union.texts, union.topology)?;
     }
     Ok(())
 }
 
-/// Each row is a title, a grid, GeoJSON texts, each after its layer, and the topology that is built from
-/// them.
-const LAYERS: &[(&str, &str, &[(&str, &str)], &str)] = rows![
+/// A title, a grid, GeoJSON texts, each after its layer, and the topology that is built from them.
+const LAYERS: &[(&str, &str, Texts, &str)] = rows![
     "two layers", "1,1,0,0", &[("a", A), ("b", r#"{"type":"LineString","coordinates":[[1,0],[1,1]]}"#)],
         topology!(r#"{"arcs":[[[1,0],[-1,0],[0,1],[1,0]],[[1,0],[0,1]]],"bbox":[0,0,1,1],"objects":{"a":{"geometries":[{"arcs":[[1,-1]],"type":"Polygon"}],"type":"GeometryCollection"},"b":{"geometries":[{"arcs":[1],"type":"LineString"}],"type":"GeometryCollection"}},"#);
     "an empty name", "1,1,0,0", &[("", A)],
@@ -97,7 +96,7 @@ const LAYERS: &[(&str, &str, &[(&str, &str)], &str)] = rows![
 #[test]
 fn layers_and_grids(rt: HostRuntime) -> Result<(), Fail> {
     for (title, grid, sources, topology) in LAYERS {
-        build(rt.alloc(), *grid, *sources)?.printed(*title, *topology)?;
+        assert_built(rt.alloc(), *title, *grid, *sources, *topology)?;
     }
     Ok(())
 }

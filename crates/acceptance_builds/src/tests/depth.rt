@@ -1,17 +1,21 @@
 //! Properties nest at most 64 containers, of which the properties object is the first.
-use command_runs::{build, run_words, topology};
+use command_runs::{Words, assert_answer, assert_built, build_file, topology};
 use std::alloc::{AllocError, Global};
 use std::test::Fail;
 
+/// So many times the same piece of text.
+fn repeated(alloc: Global, piece: &str, count: usize) -> Result<String, AllocError> {
+    let mut text = String::new(alloc);
+    for _ in 0..count {
+        text.push_str(piece)?;
+    }
+    Ok(text)
+}
+
 /// Arrays in one another, the innermost empty.
 fn arrays(alloc: Global, depth: usize) -> Result<String, AllocError> {
-    let mut text = String::new(alloc);
-    for _ in 0..depth {
-        text.push_str("[")?;
-    }
-    for _ in 0..depth {
-        text.push_str("]")?;
-    }
+    let mut text = repeated(alloc, "[", depth)?;
+    text.push_str(repeated(alloc, "]", depth)?.as_str())?;
     Ok(text)
 }
 
@@ -23,40 +27,53 @@ fn feature(alloc: Global, depth: usize) -> Result<String, AllocError> {
     )
 }
 
-#[test]
-fn the_deepest_properties(rt: HostRuntime) -> Result<(), Fail> {
-    let alloc = rt.alloc();
-    let arrays = arrays(alloc, 63)?;
-    let front = format!(in alloc;
-        "{{\"arcs\":[],\"objects\":{{\"a\":{{\"geometries\":[{{\"properties\":{{\"p\":{arrays}}},\"type\":null}}],\"type\":\"GeometryCollection\"}}}},"
-    )?;
-    let want = format!(in alloc; "{front}{TAIL}")?;
-    let text = feature(alloc, 63)?;
-    let built = build(alloc, "1,1,0,0", &[("a", text.as_str())])?;
-    built.printed("63 arrays", want.as_str())?;
-    let file = [("t.json", built.out.as_str())];
-    run_words(alloc, &["check", "t.json"], &file)?.printed("checked", "canonical\n")?;
-    run_words(alloc, &["merge", "t.json"], &file)?.printed("merged", want.as_str())?;
-    Ok(())
+const TAIL: &str = topology!("");
+
+/// The topology of that feature.
+fn topology_of(alloc: Global, depth: usize) -> Result<String, AllocError> {
+    let arrays = arrays(alloc, depth)?;
+    format!(in alloc;
+        "{{\"arcs\":[],\"objects\":{{\"a\":{{\"geometries\":[{{\"properties\":{{\"p\":{arrays}}},\"type\":null}}],\"type\":\"GeometryCollection\"}}}},{TAIL}"
+    )
 }
 
-const TAIL: &str = topology!("");
+#[test]
+fn the_deepest_properties_are_built(rt: HostRuntime) -> Result<(), Fail> {
+    let text = feature(rt.alloc(), 63)?;
+    let topology = topology_of(rt.alloc(), 63)?;
+    let sources = [("a", text.as_str())];
+    assert_built(
+        rt.alloc(),
+        "63 arrays",
+        "1,1,0,0",
+        &sources,
+        topology.as_str(),
+    )
+}
+
+const CHECK: Words = &["check", "t.json"];
+
+const MERGE: Words = &["merge", "t.json"];
+
+#[test]
+fn the_deepest_properties_are_read(rt: HostRuntime) -> Result<(), Fail> {
+    let topology = topology_of(rt.alloc(), 63)?;
+    let text = topology.as_str();
+    assert_answer(rt.alloc(), "checked", CHECK, text, "canonical\n")?;
+    assert_answer(rt.alloc(), "merged", MERGE, text, text)
+}
 
 #[test]
 fn properties_too_deep(rt: HostRuntime) -> Result<(), Fail> {
     let text = feature(rt.alloc(), 64)?;
-    let words = ["build", "--grid", "1,1,0,0", "a=p.json"];
-    let outcome = run_words(rt.alloc(), &words, &[("p.json", text.as_str())])?;
-    let line = "topotool: p.json: 14 PropertyDepth $/properties\n";
-    outcome.refused("64 arrays", 4, line)?;
-    Ok(())
+    let outcome = build_file(rt.alloc(), "1,1,0,0", text.as_str())?;
+    let fault = "14 PropertyDepth $/properties";
+    outcome.refused_text(rt.alloc(), "64 arrays", "p.json", fault)
 }
 
 #[test]
 fn a_text_too_deep_to_be_read(rt: HostRuntime) -> Result<(), Fail> {
     let text = arrays(rt.alloc(), 200)?;
-    let words = ["build", "--grid", "1,1,0,0", "a=p.json"];
-    let outcome = run_words(rt.alloc(), &words, &[("p.json", text.as_str())])?;
-    outcome.refused("200 arrays", 4, "topotool: p.json: 1 NotJson $\n")?;
-    Ok(())
+    let outcome = build_file(rt.alloc(), "1,1,0,0", text.as_str())?;
+    outcome.refused_text(rt.alloc(), "200 arrays", "p.json", "1 NotJson $")
 }

@@ -1,22 +1,12 @@
 //! GeoJSON texts that `build` refuses, each with the least of its faults.
-use command_runs::{rows, run_words};
+use command_runs::{build_file, rows};
+use std::alloc::Global;
 use std::test::Fail;
 
-/// Builds the text as a file on a grid, which refuses it with this fault and prints nothing.
-fn assert_refused<R: AllocGlobal>(
-    rt: &R,
-    title: &str,
-    grid: &str,
-    text: &str,
-    fault: &str,
-) -> Result<(), Fail> {
-    let words = ["build", "--grid", grid, "a=p.json"];
-    let outcome = run_words(rt.alloc(), &words, &[("p.json", text)])?;
-    outcome.refused_text(rt.alloc(), title, "p.json", fault)
-}
+/// A title, a text, and the fault that its refusal names.
+type Row = (&'static str, &'static str, &'static str);
 
-/// Rows: a title, a text, and the fault that its refusal names.
-type Refusals = &'static [(&'static str, &'static str, &'static str)];
+type Refusals = &'static [Row];
 
 /// Points, and roots of texts.
 const POINTS: Refusals = rows![
@@ -105,50 +95,55 @@ const NUMBERS: Refusals = rows![
     "the least of i64", r#"{"type":"Point","coordinates":[-9223372036854775808,0]}"#, "6 OutOfRange $/coordinates/0";
 ];
 
-/// The same of each row, on the grid of whole numbers.
-fn assert_each_refused<R: AllocGlobal>(rt: &R, texts: Refusals) -> Result<(), Fail> {
-    for (title, text, fault) in texts {
-        assert_refused(rt, *title, "1,1,0,0", *text, *fault)?;
+/// A text is refused with this fault on a grid.
+fn assert_row(alloc: Global, grid: &str, row: Row) -> Result<(), Fail> {
+    let (title, text, fault) = row;
+    let outcome = build_file(alloc, grid, text)?;
+    outcome.refused_text(alloc, title, "p.json", fault)
+}
+
+/// Each text is refused on the grid of whole numbers.
+fn assert_rows(alloc: Global, rows: Refusals) -> Result<(), Fail> {
+    for row in rows {
+        assert_row(alloc, "1,1,0,0", *row)?;
     }
     Ok(())
 }
 
 #[test]
 fn points(rt: HostRuntime) -> Result<(), Fail> {
-    assert_each_refused(&rt, POINTS)
+    assert_rows(rt.alloc(), POINTS)
 }
 
 #[test]
 fn lines(rt: HostRuntime) -> Result<(), Fail> {
-    assert_each_refused(&rt, LINES)
+    assert_rows(rt.alloc(), LINES)
 }
 
 #[test]
 fn features(rt: HostRuntime) -> Result<(), Fail> {
-    assert_each_refused(&rt, FEATURES)
+    assert_rows(rt.alloc(), FEATURES)
 }
 
 #[test]
 fn numbers(rt: HostRuntime) -> Result<(), Fail> {
-    assert_each_refused(&rt, NUMBERS)
+    assert_rows(rt.alloc(), NUMBERS)
 }
 
-/// The same of coordinates off the grid, or past it, after the grid.
-const GRIDS: &[(&str, &str, &str, &str)] = rows![
-    "off the grid", "10,10,0,0", r#"{"type":"Point","coordinates":[5,10]}"#, "7 OffGrid $/coordinates/0";
-    "past the absolute numbers", "1000000,1,0,0", r#"{"type":"Point","coordinates":[9007199255000000,0]}"#, "6 OutOfRange $/coordinates/0";
-    "one past the absolute numbers", "8192,1,0,0", r#"{"type":"Point","coordinates":[9007199254740992,0]}"#, "6 OutOfRange $/coordinates/0";
-    "the greatest number of 64 bits", "1,1,-1000000000000,0", r#"{"type":"Point","coordinates":[9223372036854775807,0]}"#,
-        "6 OutOfRange $/coordinates/0";
-    "the greatest number of 64 bits, off the grid", "10,10,-1000000000000,0", r#"{"type":"Point","coordinates":[9223372036854775807,0]}"#,
-        "7 OffGrid $/coordinates/0";
-    "the second element", "1,10,0,3", r#"{"type":"Point","coordinates":[5,4]}"#, "7 OffGrid $/coordinates/1";
+/// Grids, and texts with coordinates off the grid or past it.
+const GRIDS: &[(&str, Row)] = rows![
+    "10,10,0,0", ("off the grid", r#"{"type":"Point","coordinates":[5,10]}"#, "7 OffGrid $/coordinates/0");
+    "1000000,1,0,0", ("past the absolute numbers", r#"{"type":"Point","coordinates":[9007199255000000,0]}"#, "6 OutOfRange $/coordinates/0");
+    "8192,1,0,0", ("one past the absolute numbers", r#"{"type":"Point","coordinates":[9007199254740992,0]}"#, "6 OutOfRange $/coordinates/0");
+    "1,1,-1000000000000,0", ("the greatest number of 64 bits", r#"{"type":"Point","coordinates":[9223372036854775807,0]}"#, "6 OutOfRange $/coordinates/0");
+    "10,10,-1000000000000,0", ("the greatest number of 64 bits, off the grid", r#"{"type":"Point","coordinates":[9223372036854775807,0]}"#, "7 OffGrid $/coordinates/0");
+    "1,10,0,3", ("the second element", r#"{"type":"Point","coordinates":[5,4]}"#, "7 OffGrid $/coordinates/1");
 ];
 
 #[test]
 fn grids(rt: HostRuntime) -> Result<(), Fail> {
-    for (title, grid, text, fault) in GRIDS {
-        assert_refused(&rt, *title, *grid, *text, *fault)?;
+    for (grid, row) in GRIDS {
+        assert_row(rt.alloc(), *grid, *row)?;
     }
     Ok(())
 }

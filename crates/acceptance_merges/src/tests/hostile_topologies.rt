@@ -1,14 +1,16 @@
 //! Topology texts that are cut off, or have a byte replaced.
 use command_runs::inputs::{OTHER_TOOL, SHARED_EDGE};
-use command_runs::{Run, run_on_bytes};
-use sinks::Kept;
+use command_runs::{Outcome, Words, run_on_bytes};
+use std::alloc::Global;
 use std::process::Abort;
 use std::test::Fail;
 
-/// Each proper beginning of the text is refused by `merge`.
-fn assert_beginnings_refused<R: Abort + AllocGlobal>(rt: &R, text: &[u8]) -> Result<(), Fail> {
+const MERGE: Words = &["merge", "t.json"];
+
+/// Each proper beginning of the text is refused.
+fn assert_beginnings_refused(alloc: Global, text: &[u8]) -> Result<(), Fail> {
     for length in 0..text.len() {
-        let outcome = run_on_bytes(rt.alloc(), &["merge", "t.json"], "t.json", &text[..length])?;
+        let outcome = run_on_bytes(alloc, MERGE, "t.json", &text[..length])?;
         outcome.refused("cut off", 4, "topotool: t.json: 1 NotJson $\n")?;
     }
     Ok(())
@@ -16,30 +18,45 @@ fn assert_beginnings_refused<R: Abort + AllocGlobal>(rt: &R, text: &[u8]) -> Res
 
 #[test]
 fn beginnings_of_a_canonical_text(rt: HostRuntime) -> Result<(), Fail> {
-    assert_beginnings_refused(&rt, SHARED_EDGE.as_bytes())
+    assert_beginnings_refused(rt.alloc(), SHARED_EDGE.as_bytes())
 }
 
 #[test]
 fn beginnings_of_another_tools_text(rt: HostRuntime) -> Result<(), Fail> {
-    assert_beginnings_refused(&rt, OTHER_TOOL.as_bytes())
+    assert_beginnings_refused(rt.alloc(), OTHER_TOOL.as_bytes())
+}
+
+/// The text with the byte at a place replaced by another one.
+fn replaced(alloc: Global, text: &[u8], place: usize, byte: u8) -> Result<Vec<u8>, Fail> {
+    let mut changed = text.to_vec(alloc)?;
+    if let Some(old) = changed.get_mut(place) {
+        *old = byte;
+    }
+    Ok(changed)
+}
+
+/// Whether a run printed a text and told nothing, or printed nothing and told why.
+fn is_answer(outcome: &Outcome) -> bool {
+    match outcome.status {
+        0 => !outcome.out.is_empty() && outcome.err.is_empty(),
+        4 => outcome.out.is_empty() && !outcome.err.is_empty(),
+        _ => false,
+    }
+}
+
+fn is_answered(alloc: Global, text: &[u8]) -> Result<bool, Fail> {
+    let outcome = run_on_bytes(alloc, MERGE, "t.json", text)?;
+    Ok(is_answer(&outcome))
 }
 
 /// With each byte replaced by the given one, `merge` prints a text or refuses and prints nothing.
 fn assert_answers<R: Abort + AllocGlobal>(rt: &R, byte: u8) -> Result<(), Fail> {
-    let text = SHARED_EDGE.as_bytes();
-    for place in 0..text.len() {
-        let mut changed = text.to_vec(rt.alloc())?;
-        if let Some(old) = changed.get_mut(place) {
-            *old = byte;
-        }
-        let mut out = Kept::new(rt.alloc());
-        let mut err = Kept::new(rt.alloc());
-        let mut run = Run::new(rt.alloc(), &["merge", "t.json"])?;
-        run.add_file("t.json", changed.as_slice())?;
-        let status = run.over(&mut out, &mut err);
-        assert!(rt; status == 0 || status == 4, "byte {place}");
-        assert_eq!(rt; status == 4, out.into_bytes().is_empty(), "byte {place}");
-        assert_eq!(rt; status == 0, err.into_bytes().is_empty(), "byte {place}");
+    for place in 0..SHARED_EDGE.len() {
+        let text = replaced(rt.alloc(), SHARED_EDGE.as_bytes(), place, byte)?;
+        assert!(rt;
+            is_answered(rt.alloc(), text.as_slice())?,
+            "{byte} at {place}"
+        );
     }
     Ok(())
 }

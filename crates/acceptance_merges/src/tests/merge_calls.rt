@@ -1,9 +1,10 @@
 //! `merge_texts` by plans of any form: its answers, and its faults in their order.
 use command_runs::inputs::{A, B, EMPTY, FREE_LOOP, ONE_SQUARE, OTHER_TOOL, SHARED_EDGE};
-use command_runs::{build, rows, topology};
+use command_runs::{built_text, rows, topology};
 use refine::{MergeFault, Plan, merge_texts};
 use shapes::{Fault, Step};
 use std::alloc::{AllocError, Global};
+use std::process::Abort;
 use std::test::Fail;
 
 /// A step of making a plan: a leaf, or a node of the two plans made last.
@@ -13,19 +14,27 @@ enum Make {
     Node,
 }
 
+/// A node of the two plans made last.
+fn node(alloc: Global, made: &mut Vec<Plan>) -> Result<Plan, Fail> {
+    let right = made.pop().ok_or("no right plan")?;
+    let left = made.pop().ok_or("no left plan")?;
+    Ok(joined(alloc, left, right)?)
+}
+
+fn joined(alloc: Global, left: Plan, right: Plan) -> Result<Plan, AllocError> {
+    let left = Box::new(alloc, left)?;
+    let right = Box::new(alloc, right)?;
+    Ok(Plan::Node(left, right))
+}
+
 fn plan(alloc: Global, steps: &[Make]) -> Result<Plan, Fail> {
     let mut made = Vec::new(alloc);
     for step in steps {
         let next = match step {
             Make::Leaf(place) => Plan::Leaf(*place),
-            Make::Node => {
-                let right = made.pop().ok_or("no right plan")?;
-                let left = made.pop().ok_or("no left plan")?;
-                let left = Box::new(alloc, left).map_err(AllocError::from)?;
-                Plan::Node(left, Box::new(alloc, right).map_err(AllocError::from)?)
-            }
+            Make::Node => node(alloc, &mut made)?,
         };
-        made.push(next).map_err(AllocError::from)?;
+        made.push(next)?;
     }
     Ok(made.pop().ok_or("no plan")?)
 }
@@ -43,31 +52,48 @@ fn fault_text(alloc: Global, fault: &Fault) -> Result<String, AllocError> {
     Ok(text)
 }
 
+/// A fault in words.
+fn words_of(alloc: Global, fault: &MergeFault) -> Result<String, AllocError> {
+    match fault {
+        MergeFault::BadPlan(leaf) => format!(in alloc; "BadPlan {leaf}"),
+        MergeFault::Text(place, fault) => {
+            let fault = fault_text(alloc, fault)?;
+            format!(in alloc; "Text {place}: {fault}")
+        }
+        MergeFault::OtherGrid(place) => format!(in alloc; "OtherGrid {place}"),
+        MergeFault::OutOfMemory => String::from_str(alloc, "OutOfMemory"),
+    }
+}
+
+fn bytes_of(alloc: Global, texts: &[&str]) -> Result<Vec<Vec<u8>>, Fail> {
+    let mut list = Vec::new(alloc);
+    for text in texts {
+        list.push(Vec::from_slice(alloc, text.as_bytes())?)?;
+    }
+    Ok(list)
+}
+
 /// The merged text, or the fault in words.
 fn merged(alloc: Global, texts: &[&str], steps: &[Make]) -> Result<String, Fail> {
-    let mut bytes = Vec::new(alloc);
-    for text in texts {
-        bytes
-            .push(Vec::from_slice(alloc, text.as_bytes())?)
-            .map_err(AllocError::from)?;
-    }
-    match merge_texts(alloc, bytes.as_slice(), &plan(alloc, steps)?) {
+    let list = bytes_of(alloc, texts)?;
+    let plan = plan(alloc, steps)?;
+    match merge_texts(alloc, list.as_slice(), &plan) {
         Ok(text) => Ok(String::from_utf8(text)?),
-        Err(MergeFault::BadPlan(leaf)) => Ok(format!(in alloc; "BadPlan {leaf}")?),
-        Err(MergeFault::Text(place, fault)) => {
-            let fault = fault_text(alloc, &fault)?;
-            Ok(format!(in alloc; "Text {place}: {fault}")?)
-        }
-        Err(MergeFault::OtherGrid(place)) => Ok(format!(in alloc; "OtherGrid {place}")?),
-        Err(MergeFault::OutOfMemory) => Ok(String::from_str(alloc, "OutOfMemory")?),
+        Err(fault) => Ok(words_of(alloc, &fault)?),
     }
+}
+
+/// Whether the texts are merged to this text, or refused with this fault.
+fn is_merged(alloc: Global, texts: &[&str], steps: &[Make], expected: &str) -> Result<bool, Fail> {
+    let answer = merged(alloc, texts, steps)?;
+    Ok(answer.as_str() == expected)
 }
 
 /// The topology of `B`, with scales of 2.
 const OTHER_SCALE: &str =
     r#"{"arcs":[[[1,0],[0,1],[1,0],[0,-1],[-1,0]]],"objects":{"a":{"geometries":[{"arcs":[[-1]],"type":"Polygon"}],"type":"GeometryCollection"}},"transform":{"scale":[2,2],"translate":[0,0]},"type":"Topology"}"#;
 
-/// Each row is a title, texts, a plan over them, and the merged text or the fault.
+/// A title, texts, a plan over them, and the merged text or the fault.
 const ROWS: &[(&str, &[&str], &[Make], &str)] = rows![
     "a refused text that the plan does not name", &[ONE_SQUARE, "{}"], &[Make::Leaf(0)], "Text 1: Missing $/type";
     "a refused text comes before another transform", &[ONE_SQUARE, OTHER_SCALE, "{}"], &[Make::Leaf(0)], "Text 2: Missing $/type";
@@ -85,40 +111,29 @@ const ROWS: &[(&str, &[&str], &[Make], &str)] = rows![
 #[test]
 fn answers_and_faults(rt: HostRuntime) -> Result<(), Fail> {
     for (title, texts, plan, expected) in ROWS {
-        let answer = merged(rt.alloc(), *texts, *plan)?;
-        assert_eq!(rt; answer.as_str(), *expected, "{title}");
+        assert!(rt; is_merged(rt.alloc(), *texts, *plan, *expected)?, "{title}");
     }
     Ok(())
 }
 
-/// Plans that name two texts, by order, grouping and repeats.
-const PLANS: &[&[Make]] = &[
-    &[Make::Leaf(0), Make::Leaf(1), Make::Node],
-    &[Make::Leaf(1), Make::Leaf(0), Make::Node],
-    &[
-        Make::Leaf(0),
-        Make::Leaf(1),
-        Make::Node,
-        Make::Leaf(0),
-        Make::Node,
-    ],
-    &[
-        Make::Leaf(0),
-        Make::Leaf(1),
-        Make::Leaf(1),
-        Make::Node,
-        Make::Node,
-    ],
+/// Plans that name two texts.
+const PLANS: &[(&str, &[Make])] = rows![
+    "in order", &[Make::Leaf(0), Make::Leaf(1), Make::Node];
+    "the other way round", &[Make::Leaf(1), Make::Leaf(0), Make::Node];
+    "the first one again", &[Make::Leaf(0), Make::Leaf(1), Make::Node, Make::Leaf(0), Make::Node];
+    "the second one twice first", &[Make::Leaf(0), Make::Leaf(1), Make::Leaf(1), Make::Node, Make::Node];
 ];
 
 #[test]
 fn plans_that_name_the_same_texts(rt: HostRuntime) -> Result<(), Fail> {
-    let first = build(rt.alloc(), "1,1,0,0", &[("a", A)])?;
-    let second = build(rt.alloc(), "1,1,0,0", &[("a", B)])?;
-    for steps in PLANS {
-        let texts = [first.out.as_str(), second.out.as_str()];
-        let answer = merged(rt.alloc(), &texts, steps)?;
-        assert_eq!(rt; answer.as_str(), SHARED_EDGE);
+    let first = built_text(rt.alloc(), "1,1,0,0", &[("a", A)])?;
+    let second = built_text(rt.alloc(), "1,1,0,0", &[("a", B)])?;
+    let texts = [first.as_str(), second.as_str()];
+    for (title, steps) in PLANS {
+        assert!(rt;
+            is_merged(rt.alloc(), &texts, *steps, SHARED_EDGE)?,
+            "{title}"
+        );
     }
     Ok(())
 }

@@ -1,7 +1,8 @@
 //! What `merge` prints: the topology of all features, whatever the order and grouping of the files.
-use command_runs::inputs::{A, B, C, SHARED_EDGE, UNIONS, Union};
-use command_runs::{Outcome, Run, build, run_words};
-use std::alloc::Global;
+use command_runs::inputs::{A, B, C, ONE_SQUARE, SHARED_EDGE, UNIONS, Union};
+use command_runs::{Outcome, Run, Texts, Words, assert_built, assert_refused, built_text, rows};
+use std::alloc::{AllocError, Global};
+use std::process::Abort;
 use std::test::Fail;
 
 /// All orders of two and of three files.
@@ -18,13 +19,35 @@ pub(crate) const ORDERS: &[&[usize]] = &[
 
 const SHAPES: &[&str] = &["left", "right", "halves"];
 
+/// The topology of a text alone.
+fn topology_of(alloc: Global, text: &str) -> Result<String, Fail> {
+    built_text(alloc, "1,1,0,0", &[("a", text)])
+}
+
 /// The topology of each text alone.
 fn topologies(alloc: Global, texts: &[&str]) -> Result<Vec<String>, Fail> {
     let mut built = Vec::new(alloc);
     for text in texts {
-        built.push(build(alloc, "1,1,0,0", &[("a", *text)])?.out)?;
+        built.push(topology_of(alloc, *text)?)?;
     }
     Ok(built)
+}
+
+/// The words that merge files in an order.
+fn merging(alloc: Global, shape: &str, order: &[usize]) -> Result<Run, AllocError> {
+    let mut run = Run::new(alloc, &["merge", "--shape", shape])?;
+    for place in order {
+        run.add_word(format!(in alloc; "{place}.json")?.as_str())?;
+    }
+    Ok(run)
+}
+
+/// Puts topologies in files that are named by their places.
+fn add_files(alloc: Global, run: &mut Run, topologies: &[String]) -> Result<(), AllocError> {
+    for (place, text) in topologies.iter().enumerate() {
+        run.add_file(format!(in alloc; "{place}.json")?.as_str(), text.as_bytes())?;
+    }
+    Ok(())
 }
 
 /// Merges files in an order.
@@ -34,29 +57,30 @@ fn merge(
     order: &[usize],
     topologies: &[String],
 ) -> Result<Outcome, Fail> {
-    let mut run = Run::new(alloc, &["merge", "--shape"])?;
-    run.add_word(shape)?;
-    for place in order {
-        let name = format!(in alloc; "{place}.json")?;
-        run.add_word(name.as_str())?;
-    }
-    for (place, text) in topologies.iter().enumerate() {
-        let name = format!(in alloc; "{place}.json")?;
-        run.add_file(name.as_str(), text.as_bytes())?;
-    }
+    let mut run = merging(alloc, shape, order)?;
+    add_files(alloc, &mut run, topologies)?;
     run.outcome()
 }
 
-fn assert_merges<R: AllocGlobal>(rt: &R, union: &Union) -> Result<(), Fail> {
-    let topologies = topologies(rt.alloc(), union.texts)?;
+/// Files in an order are merged to the topology of the union, whatever the grouping.
+fn assert_merged(
+    alloc: Global,
+    union: &Union,
+    order: &[usize],
+    topologies: &[String],
+) -> Result<(), Fail> {
+    for shape in SHAPES {
+        let outcome = merge(alloc, *shape, order, topologies)?;
+        outcome.printed(union.title, union.topology)?;
+    }
+    Ok(())
+}
+
+fn assert_union(alloc: Global, union: &Union) -> Result<(), Fail> {
+    let topologies = topologies(alloc, union.texts)?;
     for order in ORDERS {
         if order.len() == topologies.len() {
-            for shape in SHAPES {
-                merge(rt.alloc(), shape, order, topologies.as_slice())?.printed(
-                    union.title,
-                    union.topology,
-                )?;
-            }
+            assert_merged(alloc, union, *order, topologies.as_slice())?;
         }
     }
     Ok(())
@@ -65,42 +89,73 @@ fn assert_merges<R: AllocGlobal>(rt: &R, union: &Union) -> Result<(), Fail> {
 #[test]
 fn each_order_and_shape(rt: HostRuntime) -> Result<(), Fail> {
     for union in UNIONS {
-        assert_merges(&rt, union)?;
+        assert_union(rt.alloc(), union)?;
     }
     Ok(())
 }
 
+/// What files are merged to in an order.
+fn merged(alloc: Global, order: &[usize], topologies: &[String]) -> Result<String, Fail> {
+    let outcome = merge(alloc, "left", order, topologies)?;
+    outcome.into_text("a merge")
+}
+
+/// Two squares merged, and that text with the third one.
+fn merged_in_steps(alloc: Global, squares: &[String]) -> Result<String, Fail> {
+    let mut files = Vec::new(alloc);
+    files.push(merged(alloc, &[0, 1], squares)?)?;
+    files.push(topology_of(alloc, C)?)?;
+    merged(alloc, &[1, 0], files.as_slice())
+}
+
 #[test]
 fn a_merged_text_is_merged_again(rt: HostRuntime) -> Result<(), Fail> {
-    let alloc = rt.alloc();
-    let shards = topologies(alloc, &[A, B, C])?;
-    let pair = merge(alloc, "left", &[0, 1], shards.as_slice())?;
-    pair.printed("shared edge", SHARED_EDGE)?;
-    let at_once = merge(alloc, "left", &[0, 1, 2], shards.as_slice())?;
-    let third = build(alloc, "1,1,0,0", &[("a", C)])?;
-    let in_steps = [pair.out, third.out];
-    merge(alloc, "left", &[1, 0], &in_steps)?.printed(
-        "three shards in two steps",
-        at_once.out.as_str(),
-    )?;
+    let squares = topologies(rt.alloc(), &[A, B, C])?;
+    let in_steps = merged_in_steps(rt.alloc(), squares.as_slice())?;
+    let at_once = merged(rt.alloc(), &[0, 1, 2], squares.as_slice())?;
+    assert!(rt; in_steps.as_str() == at_once.as_str());
     Ok(())
 }
 
 #[test]
+fn two_squares_are_merged(rt: HostRuntime) -> Result<(), Fail> {
+    let squares = topologies(rt.alloc(), &[A, B, C])?;
+    let pair = merged(rt.alloc(), &[0, 1], squares.as_slice())?;
+    assert!(rt; pair.as_str() == SHARED_EDGE);
+    Ok(())
+}
+
+/// Words that merge files of which the second has another transform, and the line that refuses them.
+const REFUSED: &[(Words, &str)] = rows![
+    &["merge", "first.json", "second.json", "first.json"], "topotool: second.json: 17 OtherGrid\n";
+    &["merge", "first.json", "second.json", "bad.json"], "topotool: bad.json: 2 Missing $/type\n";
+];
+
+/// The topology of `A` on the grid 1,1,0,5.
+const OTHER_GRID: &str =
+    r#"{"arcs":[[[0,-5],[0,1],[1,0],[0,-1],[-1,0]]],"bbox":[0,0,1,1],"objects":{"a":{"geometries":[{"arcs":[[-1]],"type":"Polygon"}],"type":"GeometryCollection"}},"transform":{"scale":[1,1],"translate":[0,5]},"type":"Topology"}"#;
+
+#[test]
+fn the_same_square_on_another_grid(rt: HostRuntime) -> Result<(), Fail> {
+    assert_built(
+        rt.alloc(),
+        "another grid",
+        "1,1,0,5",
+        &[("a", A)],
+        OTHER_GRID,
+    )
+}
+
+const FILES: Texts = &[
+    ("first.json", ONE_SQUARE),
+    ("second.json", OTHER_GRID),
+    ("bad.json", "{}"),
+];
+
+#[test]
 fn another_transform(rt: HostRuntime) -> Result<(), Fail> {
-    let alloc = rt.alloc();
-    let first = build(alloc, "1,1,0,0", &[("a", A)])?;
-    let second = build(alloc, "1,1,0,5", &[("a", A)])?;
-    let files = [
-        ("first.json", first.out.as_str()),
-        ("second.json", second.out.as_str()),
-        ("bad.json", "{}"),
-    ];
-    let words = ["merge", "first.json", "second.json", "first.json"];
-    let outcome = run_words(alloc, &words, &files)?;
-    outcome.refused("grid", 4, "topotool: second.json: 17 OtherGrid\n")?;
-    let words = ["merge", "first.json", "second.json", "bad.json"];
-    let outcome = run_words(alloc, &words, &files)?;
-    outcome.refused("text", 4, "topotool: bad.json: 2 Missing $/type\n")?;
+    for (words, line) in REFUSED {
+        assert_refused(rt.alloc(), *words, FILES, 4, *line)?;
+    }
     Ok(())
 }

@@ -2,59 +2,66 @@
 use command_runs::inputs::{
     A, B, C, EMPTY, FREE_LOOP, NOTHING, ONE_SQUARE, SHARED_EDGE, SQUARES, T,
 };
-use command_runs::{Outcome, build, build_all, rows, run_words, topology};
+use command_runs::{
+    Outcome, Texts, Words, assert_printed, assert_refused, built_text, rows, run_words, topology,
+};
 use std::alloc::Global;
 use std::test::Fail;
 
+const REMOVE: Words = &["remove", "whole.json", "gone.json"];
+
 /// Runs `remove` on the texts of two topologies.
 fn remove(alloc: Global, whole: &str, gone: &str) -> Result<Outcome, Fail> {
-    run_words(
-        alloc,
-        &["remove", "whole.json", "gone.json"],
-        &[("whole.json", whole), ("gone.json", gone)],
-    )
+    run_words(alloc, REMOVE, &[("whole.json", whole), ("gone.json", gone)])
 }
 
-/// Each row is a title, texts that are built in the layer `a`, a layer with a text in it that is taken out,
-/// and what is left.
-const ROWS: &[(&str, &[&str], &str, &str, &str)] = rows![
-    "the seam comes back", &[T, r#"{"type":"LineString","coordinates":[[2,0],[3,0]]}"#], "a", r#"{"type":"LineString","coordinates":[[2,0],[3,0]]}"#,
+/// A title, texts, each after the layer in which it is built, those that are taken out, and what is left.
+type Row = (&'static str, Texts, Texts, &'static str);
+
+const ROWS: &[Row] = rows![
+    "the seam comes back", &[("a", T), ("a", r#"{"type":"LineString","coordinates":[[2,0],[3,0]]}"#)], &[("a", r#"{"type":"LineString","coordinates":[[2,0],[3,0]]}"#)],
         FREE_LOOP;
-    "one of two squares", &[A, B], "a", B, ONE_SQUARE;
-    "the middle one of three squares", &[A, B, C], "a", B,
+    "one of two squares", &[("a", A), ("a", B)], &[("a", B)], ONE_SQUARE;
+    "the middle one of three squares", &[("a", A), ("a", B), ("a", C)], &[("a", B)],
         topology!(r#"{"arcs":[[[0,0],[0,1],[1,0],[0,-1],[-1,0]],[[2,0],[0,1],[1,0],[0,-1],[-1,0]]],"bbox":[0,0,3,1],"objects":{"a":{"geometries":[{"arcs":[[-1]],"type":"Polygon"},{"arcs":[[-2]],"type":"Polygon"}],"type":"GeometryCollection"}},"#);
-    "a line that a junction cut is whole again", &[r#"{"type":"LineString","coordinates":[[0,0],[1,0],[2,0]]}"#, r#"{"type":"LineString","coordinates":[[0,0],[1,0],[1,1]]}"#], "a", r#"{"type":"LineString","coordinates":[[0,0],[1,0],[1,1]]}"#,
+    "a line that a junction cut is whole again", &[("a", r#"{"type":"LineString","coordinates":[[0,0],[1,0],[2,0]]}"#), ("a", r#"{"type":"LineString","coordinates":[[0,0],[1,0],[1,1]]}"#)], &[("a", r#"{"type":"LineString","coordinates":[[0,0],[1,0],[1,1]]}"#)],
         topology!(r#"{"arcs":[[[0,0],[1,0],[1,0]]],"bbox":[0,0,2,0],"objects":{"a":{"geometries":[{"arcs":[0],"type":"LineString"}],"type":"GeometryCollection"}},"#);
-    "all features of a layer", &[A, B], "a", SQUARES, EMPTY;
-    "no feature", &[A, B], "a", NOTHING, SHARED_EDGE;
-    "the square with an id", &[A, B], "a", r#"{"type":"Feature","id":1,"properties":null,"geometry":{"type":"Polygon","coordinates":[[[0,0],[1,0],[1,1],[0,1],[0,0]]]}}"#,
+    "all features of a layer", &[("a", A), ("a", B)], &[("a", SQUARES)], EMPTY;
+    "no feature", &[("a", A), ("a", B)], &[("a", NOTHING)], SHARED_EDGE;
+    "the square with an id", &[("a", A), ("a", B)], &[("a", r#"{"type":"Feature","id":1,"properties":null,"geometry":{"type":"Polygon","coordinates":[[[0,0],[1,0],[1,1],[0,1],[0,0]]]}}"#)],
         SHARED_EDGE;
-    "the square in another layer", &[A, B], "b", A, SHARED_EDGE;
+    "the square in another layer", &[("a", A), ("a", B)], &[("b", A)], SHARED_EDGE;
 ];
+
+fn assert_row(alloc: Global, row: Row) -> Result<(), Fail> {
+    let (title, sources, removed, left) = row;
+    let whole = built_text(alloc, "1,1,0,0", sources)?;
+    let gone = built_text(alloc, "1,1,0,0", removed)?;
+    let outcome = remove(alloc, whole.as_str(), gone.as_str())?;
+    outcome.printed(title, left)
+}
 
 #[test]
 fn what_is_left(rt: HostRuntime) -> Result<(), Fail> {
-    for (title, texts, layer, gone, left) in ROWS {
-        let whole = build_all(rt.alloc(), "a", *texts)?;
-        let gone = build(rt.alloc(), "1,1,0,0", &[(*layer, *gone)])?;
-        remove(rt.alloc(), whole.out.as_str(), gone.out.as_str())?.printed(*title, *left)?;
+    for row in ROWS {
+        assert_row(rt.alloc(), *row)?;
     }
     Ok(())
 }
 
+/// What is left of the two squares without the first one.
+fn second_square(alloc: Global) -> Result<String, Fail> {
+    let outcome = remove(alloc, SHARED_EDGE, ONE_SQUARE)?;
+    outcome.into_text("one of two squares")
+}
+
 #[test]
 fn a_merge_is_undone(rt: HostRuntime) -> Result<(), Fail> {
-    let alone = build_all(rt.alloc(), "a", &[A])?;
-    let left = remove(rt.alloc(), SHARED_EDGE, ONE_SQUARE)?;
-    let files = [
-        ("left.json", left.out.as_str()),
-        ("alone.json", alone.out.as_str()),
-    ];
-    run_words(rt.alloc(), &["merge", "left.json", "alone.json"], &files)?.printed(
-        "merged again",
-        SHARED_EDGE,
-    )?;
-    Ok(())
+    let left = second_square(rt.alloc())?;
+    let alone = built_text(rt.alloc(), "1,1,0,0", &[("a", A)])?;
+    let files = [("left.json", left.as_str()), ("alone.json", alone.as_str())];
+    let words = ["merge", "left.json", "alone.json"];
+    assert_printed(rt.alloc(), "merged again", &words, &files, SHARED_EDGE)
 }
 
 /// A topology with scales of 2.
@@ -65,7 +72,7 @@ const OTHER_SCALE: &str =
 const OTHER_SCALE_WITHOUT_ARCS: &str =
     r#"{"arcs":[],"objects":{"a":{"arcs":[0],"type":"LineString"}},"transform":{"scale":[2,2],"translate":[0,0]},"type":"Topology"}"#;
 
-/// Each row is two texts, and the line that refuses them.
+/// Two texts, and the line that refuses them.
 const REFUSED: &[(&str, &str, &str)] = rows![
     "{}", "bad", "topotool: whole.json: 2 Missing $/type\n";
     "{}", OTHER_SCALE, "topotool: whole.json: 2 Missing $/type\n";
@@ -74,28 +81,30 @@ const REFUSED: &[(&str, &str, &str)] = rows![
     SHARED_EDGE, OTHER_SCALE, "topotool: gone.json: 17 OtherGrid\n";
 ];
 
+fn assert_fault(alloc: Global, whole: &str, gone: &str, line: &str) -> Result<(), Fail> {
+    let outcome = remove(alloc, whole, gone)?;
+    outcome.refused(line, 4, line)
+}
+
 #[test]
 fn faults_in_their_order(rt: HostRuntime) -> Result<(), Fail> {
     for (whole, gone, line) in REFUSED {
-        remove(rt.alloc(), *whole, *gone)?.refused(*line, 4, *line)?;
+        assert_fault(rt.alloc(), *whole, *gone, *line)?;
     }
     Ok(())
 }
 
+/// Words of which a file cannot be read, and the line that says so: the first of both, and the second
+/// before a fault of the first.
+const UNREADABLE: &[(Words, &str)] = rows![
+    &["remove", "first.json", "second.json"], "topotool: cannot read first.json\n";
+    &["remove", "bad.json", "second.json"], "topotool: cannot read second.json\n";
+];
+
 #[test]
 fn a_file_that_cannot_be_read(rt: HostRuntime) -> Result<(), Fail> {
-    let files = [("bad.json", "bad")];
-    let words = ["remove", "first.json", "second.json"];
-    run_words(rt.alloc(), &words, &files)?.refused(
-        "both",
-        3,
-        "topotool: cannot read first.json\n",
-    )?;
-    let words = ["remove", "bad.json", "second.json"];
-    run_words(rt.alloc(), &words, &files)?.refused(
-        "the second one, told before a fault of the first",
-        3,
-        "topotool: cannot read second.json\n",
-    )?;
+    for (words, line) in UNREADABLE {
+        assert_refused(rt.alloc(), *words, &[("bad.json", "bad")], 3, *line)?;
+    }
     Ok(())
 }

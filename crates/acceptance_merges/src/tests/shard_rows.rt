@@ -9,13 +9,20 @@ use std::alloc::Global;
 use std::process::Abort;
 use std::test::Fail;
 
+fn grid() -> Result<Grid, Fail> {
+    Ok(Grid::new(1, 1, 0, 0).ok_or("no grid")?)
+}
+
+/// The map of a GeoJSON text's features, in the layer `a`.
+fn map_of(alloc: Global, grid: &Grid, text: &str) -> Result<FeatureMap, Fail> {
+    let features = geojson_io::read(alloc, text.as_bytes(), grid)?;
+    Ok(FeatureMap::new(alloc).with_features("a", features)?)
+}
+
 /// The shard of a GeoJSON text's features, in the layer `a`.
 fn shard<S: Shard>(alloc: Global, text: &str) -> Result<S, Fail> {
-    let grid = Grid::new(1, 1, 0, 0).ok_or("no grid")?;
-    let features = geojson_io::read(alloc, text.as_bytes(), &grid)
-        .ok()
-        .ok_or("a text that is refused")?;
-    let map = FeatureMap::new(alloc).with_features("a", features)?;
+    let grid = grid()?;
+    let map = map_of(alloc, &grid, text)?;
     Ok(S::of_map(alloc, &grid, map)?)
 }
 
@@ -24,39 +31,59 @@ fn shards<S: Shard>(alloc: Global, texts: &[&str], order: &[usize]) -> Result<Ve
     let mut made = Vec::new(alloc);
     for place in order {
         let text = texts.get(*place).ok_or("no such text")?;
-        made.push(shard::<S>(alloc, text)?)?;
+        made.push(shard::<S>(alloc, *text)?)?;
     }
     Ok(made)
 }
 
-/// The text of a plan that is run.
-fn text_of<S: Shard>(alloc: Global, shards: &[S], plan: Option<Plan>) -> Result<Vec<u8>, Fail> {
-    let plan = plan.ok_or("no plan")?;
+#[derive(Clone, Copy)]
+enum Grouping {
+    Left,
+    Right,
+    Halves,
+}
+
+const GROUPINGS: [Grouping; 3] = [Grouping::Left, Grouping::Right, Grouping::Halves];
+
+/// The plan of so many leaves in a grouping; none of no leaf.
+fn grouped(alloc: Global, grouping: Grouping, count: usize) -> Result<Option<Plan>, Fail> {
+    Ok(match grouping {
+        Grouping::Left => Plan::left(alloc, count)?,
+        Grouping::Right => Plan::right(alloc, count)?,
+        Grouping::Halves => Plan::halves(alloc, count)?,
+    })
+}
+
+/// The text of shards that are joined in a grouping.
+fn joined<S: Shard>(alloc: Global, shards: &[S], grouping: Grouping) -> Result<Vec<u8>, Fail> {
+    let plan = grouped(alloc, grouping, shards.len())?.ok_or("no plan")?;
     let joined = run_plan(alloc, shards, &plan)?;
     Ok(joined.text(alloc)?)
 }
 
-/// Runs the three groupings over shards, and compares their texts with the one expected.
+/// Joins the shards of the union in each grouping, and compares their texts with the one expected.
 fn check_groupings<S: Shard>(
     rt: &impl Abort,
     alloc: Global,
     shards: &[S],
-    text: &str,
+    union: &Union,
 ) -> Result<(), Fail> {
-    let left = text_of(alloc, shards, Plan::left(alloc, shards.len())?)?;
-    assert!(rt; left.as_slice() == text.as_bytes());
-    let right = text_of(alloc, shards, Plan::right(alloc, shards.len())?)?;
-    assert!(rt; right.as_slice() == text.as_bytes());
-    let halves = text_of(alloc, shards, Plan::halves(alloc, shards.len())?)?;
-    assert!(rt; halves.as_slice() == text.as_bytes());
+    for grouping in GROUPINGS {
+        let text = joined(alloc, shards, grouping)?;
+        assert!(rt;
+            text.as_slice() == union.topology.as_bytes(),
+            "{}",
+            union.title
+        );
+    }
     Ok(())
 }
 
 fn check_union<S: Shard>(rt: &impl Abort, alloc: Global, union: &Union) -> Result<(), Fail> {
     for order in ORDERS {
         if order.len() == union.texts.len() {
-            let shards = shards::<S>(alloc, union.texts, order)?;
-            check_groupings(rt, alloc, shards.as_slice(), union.topology)?;
+            let shards = shards::<S>(alloc, union.texts, *order)?;
+            check_groupings(rt, alloc, shards.as_slice(), union)?;
         }
     }
     Ok(())

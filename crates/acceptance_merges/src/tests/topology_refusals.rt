@@ -1,5 +1,6 @@
 //! Topology texts that are refused, each with the least of its faults.
-use command_runs::{rows, run_words};
+use command_runs::{Words, rows, run_on_text};
+use std::alloc::Global;
 use std::test::Fail;
 
 /// The text of a topology with these arcs, and one layer `a`.
@@ -15,8 +16,10 @@ macro_rules! layer {
     };
 }
 
-/// Rows: a title, a text, and the fault that its refusal names.
-type Refusals = &'static [(&'static str, &'static str, &'static str)];
+/// A title, a text, and the fault that its refusal names.
+type Row = (&'static str, &'static str, &'static str);
+
+type Refusals = &'static [Row];
 
 /// Roots and transforms.
 const ROOTS: Refusals = rows![
@@ -105,33 +108,46 @@ const STITCHING: Refusals = rows![
     "the second of two lines", layer!("[[[0,0],[1,0]]]", r#"{"type":"MultiLineString","arcs":[[0],[0,0]]}"#), "12 Broken $/objects/a/arcs/1";
 ];
 
-/// `check` and `merge` refuse each text with its fault, and print nothing.
-fn assert_refused<R: AllocGlobal>(rt: &R, texts: Refusals) -> Result<(), Fail> {
-    for (title, text, fault) in texts {
-        for command in ["check", "merge"] {
-            let outcome = run_words(rt.alloc(), &[command, "t.json"], &[("t.json", *text)])?;
-            outcome.refused_text(rt.alloc(), *title, "t.json", *fault)?;
-        }
+const COMMANDS: &[Words] = &[&["check", "t.json"], &["merge", "t.json"]];
+
+/// The command refuses the text with its fault, and prints nothing.
+fn assert_row(alloc: Global, words: &[&str], row: Row) -> Result<(), Fail> {
+    let (title, text, fault) = row;
+    let outcome = run_on_text(alloc, words, text)?;
+    outcome.refused_text(alloc, title, "t.json", fault)
+}
+
+fn assert_rows(alloc: Global, words: &[&str], rows: Refusals) -> Result<(), Fail> {
+    for row in rows {
+        assert_row(alloc, words, *row)?;
+    }
+    Ok(())
+}
+
+/// `check` and `merge` refuse each text.
+fn assert_refused(alloc: Global, rows: Refusals) -> Result<(), Fail> {
+    for words in COMMANDS {
+        assert_rows(alloc, *words, rows)?;
     }
     Ok(())
 }
 
 #[test]
 fn roots(rt: HostRuntime) -> Result<(), Fail> {
-    assert_refused(&rt, ROOTS)
+    assert_refused(rt.alloc(), ROOTS)
 }
 
 #[test]
 fn arcs(rt: HostRuntime) -> Result<(), Fail> {
-    assert_refused(&rt, ARCS)
+    assert_refused(rt.alloc(), ARCS)
 }
 
 #[test]
 fn layers(rt: HostRuntime) -> Result<(), Fail> {
-    assert_refused(&rt, LAYERS)
+    assert_refused(rt.alloc(), LAYERS)
 }
 
 #[test]
 fn stitching(rt: HostRuntime) -> Result<(), Fail> {
-    assert_refused(&rt, STITCHING)
+    assert_refused(rt.alloc(), STITCHING)
 }

@@ -4,11 +4,14 @@ use command_runs::inputs::{
     BOW_TIE_TOPOLOGY, EMPTY, FREE_LOOP, LOOPED_LINE_TOPOLOGY, ONE_SQUARE, OTHER_TOOL, SHARED_EDGE,
     UNIONS,
 };
-use command_runs::{rows, run_words, topology};
+use command_runs::{Words, assert_answer, rows, run_on_text, topology};
+use std::alloc::Global;
 use std::test::Fail;
 
-/// Each row is a title, a text that is not canonical, and the canonical text of what it means.
-const OTHERS: &[(&str, &str, &str)] = rows![
+/// A title, a text that is not canonical, and the canonical text of what it means.
+type Row = (&'static str, &'static str, &'static str);
+
+const OTHERS: &[Row] = rows![
     "another tool's text", OTHER_TOOL, ONE_SQUARE;
     "a newline at the end", concat!(r#"{"arcs":[],"objects":{"a":{"geometries":[],"type":"GeometryCollection"}},"transform":{"scale":[1,1],"translate":[0,0]},"type":"Topology"}"#, "\n"),
         EMPTY;
@@ -25,26 +28,36 @@ const OTHERS: &[(&str, &str, &str)] = rows![
         r#"{"arcs":[],"bbox":[9007199254740991,0,9007199254740991,0],"objects":{"a":{"geometries":[{"coordinates":[1099511627776,0],"type":"Point"}],"type":"GeometryCollection"}},"transform":{"scale":[8192,1],"translate":[-1,0]},"type":"Topology"}"#;
 ];
 
-#[test]
-fn texts_of_other_tools(rt: HostRuntime) -> Result<(), Fail> {
-    for (title, text, canon) in OTHERS {
-        let files = [("t.json", *text)];
-        run_words(rt.alloc(), &["check", "t.json"], &files)?.ended(
-            *title,
-            1,
-            "not canonical\n",
-            "",
-        )?;
-        run_words(rt.alloc(), &["merge", "t.json"], &files)?.printed(*title, *canon)?;
-        run_words(rt.alloc(), &["merge", "t.json", "t.json"], &files)?.printed(*title, *canon)?;
-        assert_canonical(&rt, *canon)?;
-    }
-    Ok(())
+const CHECK: Words = &["check", "t.json"];
+
+const MERGE: Words = &["merge", "t.json"];
+
+const MERGE_WITH_ITSELF: Words = &["merge", "t.json", "t.json"];
+
+/// `check` says that the text is not canonical.
+fn assert_not_canonical(alloc: Global, title: &str, text: &str) -> Result<(), Fail> {
+    let outcome = run_on_text(alloc, CHECK, text)?;
+    outcome.ended(title, 1, "not canonical\n", "")
 }
 
 /// `check` says that the text is canonical.
-fn assert_canonical<R: AllocGlobal>(rt: &R, text: &str) -> Result<(), Fail> {
-    run_words(rt.alloc(), &["check", "t.json"], &[("t.json", text)])?.printed(text, "canonical\n")?;
+fn assert_canonical(alloc: Global, text: &str) -> Result<(), Fail> {
+    assert_answer(alloc, text, CHECK, text, "canonical\n")
+}
+
+fn assert_row(alloc: Global, row: Row) -> Result<(), Fail> {
+    let (title, text, canonical) = row;
+    assert_not_canonical(alloc, title, text)?;
+    assert_answer(alloc, title, MERGE, text, canonical)?;
+    assert_answer(alloc, title, MERGE_WITH_ITSELF, text, canonical)?;
+    assert_canonical(alloc, canonical)
+}
+
+#[test]
+fn texts_of_other_tools(rt: HostRuntime) -> Result<(), Fail> {
+    for row in OTHERS {
+        assert_row(rt.alloc(), *row)?;
+    }
     Ok(())
 }
 
@@ -60,10 +73,15 @@ const CANONICAL: &[&str] = &[
 #[test]
 fn canonical_texts(rt: HostRuntime) -> Result<(), Fail> {
     for text in CANONICAL {
-        assert_canonical(&rt, text)?;
+        assert_canonical(rt.alloc(), *text)?;
     }
+    Ok(())
+}
+
+#[test]
+fn canonical_texts_of_unions(rt: HostRuntime) -> Result<(), Fail> {
     for union in UNIONS {
-        assert_canonical(&rt, union.topology)?;
+        assert_canonical(rt.alloc(), union.topology)?;
     }
     Ok(())
 }

@@ -1,6 +1,6 @@
 //! What `info` prints, and `neighbors` with ids.
-use command_runs::inputs::{A, B, C, EMPTY, NOTHING, S, SHARED_EDGE};
-use command_runs::{Outcome, build, run_words};
+use command_runs::inputs::{EMPTY, NOTHING, SHARED_EDGE};
+use command_runs::{Texts, Words, assert_answer, assert_refused, built_text, rows};
 use std::alloc::Global;
 use std::test::Fail;
 
@@ -25,7 +25,7 @@ const MULTI_POLYGON: &str =
     r#"{"type":"MultiPolygon","coordinates":[[[[400,3],[420,3],[400,23],[400,3]]],[[[500,3],[520,3],[520,23],[500,23],[500,3]]]]}"#;
 
 /// A layer of each kind, one of three kinds, and one that is empty.
-const KINDS: &[(&str, &str)] = &[
+const KINDS: Texts = &[
     ("line", LINES),
     ("lines", MULTI_LINE),
     ("points", MULTI_POINT),
@@ -58,84 +58,117 @@ layer "polygons": 1 feature, 1 MultiPolygon
 const KINDS_IN_JSON: &str =
     r#"{"arcs":7,"bbox":[-480,3,520,203],"freeLoops":3,"layers":[{"features":0,"kinds":{"LineString":0,"MultiLineString":0,"MultiPoint":0,"MultiPolygon":0,"Point":0,"Polygon":0,"null":0},"name":"empty"},{"features":2,"kinds":{"LineString":2,"MultiLineString":0,"MultiPoint":0,"MultiPolygon":0,"Point":0,"Polygon":0,"null":0},"name":"line"},{"features":1,"kinds":{"LineString":0,"MultiLineString":1,"MultiPoint":0,"MultiPolygon":0,"Point":0,"Polygon":0,"null":0},"name":"lines"},{"features":4,"kinds":{"LineString":2,"MultiLineString":0,"MultiPoint":0,"MultiPolygon":0,"Point":1,"Polygon":0,"null":1},"name":"many \"kinds\""},{"features":1,"kinds":{"LineString":0,"MultiLineString":0,"MultiPoint":0,"MultiPolygon":0,"Point":0,"Polygon":0,"null":1},"name":"null"},{"features":1,"kinds":{"LineString":0,"MultiLineString":0,"MultiPoint":0,"MultiPolygon":0,"Point":1,"Polygon":0,"null":0},"name":"point"},{"features":1,"kinds":{"LineString":0,"MultiLineString":0,"MultiPoint":1,"MultiPolygon":0,"Point":0,"Polygon":0,"null":0},"name":"points"},{"features":1,"kinds":{"LineString":0,"MultiLineString":0,"MultiPoint":0,"MultiPolygon":0,"Point":0,"Polygon":1,"null":0},"name":"polygon"},{"features":1,"kinds":{"LineString":0,"MultiLineString":0,"MultiPoint":0,"MultiPolygon":1,"Point":0,"Polygon":0,"null":0},"name":"polygons"}],"positions":24,"transform":{"scale":[10,10],"translate":[-500,3]}}"#;
 
-#[test]
-fn counts_of_every_kind(rt: HostRuntime) -> Result<(), Fail> {
-    let built = build(rt.alloc(), "10,10,-500,3", KINDS)?;
-    let files = [("t.json", built.out.as_str())];
-    run_words(rt.alloc(), &["info", "t.json"], &files)?.printed("lines", KINDS_IN_LINES)?;
-    run_words(rt.alloc(), &["info", "--json", "t.json"], &files)?.printed("json", KINDS_IN_JSON)?;
-    Ok(())
-}
+const INFO: Words = &["info", "t.json"];
+
+const INFO_IN_JSON: Words = &["info", "--json", "t.json"];
 
 #[test]
-fn without_positions_there_is_no_bbox(rt: HostRuntime) -> Result<(), Fail> {
-    let files = [("t.json", EMPTY)];
-    run_words(rt.alloc(), &["info", "t.json"], &files)?.printed(
-        "lines",
-        "grid: 1,1,0,0\narcs: 0\npositions of arcs: 0\nfree loops: 0\nlayer \"a\": 0 features\n",
-    )?;
-    run_words(rt.alloc(), &["info", "--json", "t.json"], &files)?.printed(
-        "json",
-        r#"{"arcs":0,"freeLoops":0,"layers":[{"features":0,"kinds":{"LineString":0,"MultiLineString":0,"MultiPoint":0,"MultiPolygon":0,"Point":0,"Polygon":0,"null":0},"name":"a"}],"positions":0,"transform":{"scale":[1,1],"translate":[0,0]}}"#,
-    )?;
-    Ok(())
+fn counts_of_every_kind(rt: HostRuntime) -> Result<(), Fail> {
+    let topology = built_text(rt.alloc(), "10,10,-500,3", KINDS)?;
+    let text = topology.as_str();
+    assert_answer(rt.alloc(), "lines", INFO, text, KINDS_IN_LINES)?;
+    assert_answer(rt.alloc(), "json", INFO_IN_JSON, text, KINDS_IN_JSON)
 }
 
 /// The arcs of another tool: one that is cut where no border meets it, and one that nothing uses.
 const OTHER_ARCS: &str =
     r#"{"type":"Topology","transform":{"scale":[1,1],"translate":[0,0]},"arcs":[[[0,0],[1,0]],[[1,0],[1,0]],[[9,9],[1,0]]],"objects":{"a":{"type":"LineString","arcs":[0,1]}}}"#;
 
+/// A title, words, a topology, and what is printed of it.
+const COUNTS: &[(&str, Words, &str, &str)] = rows![
+    "without positions there is no bbox", INFO, EMPTY, "grid: 1,1,0,0\narcs: 0\npositions of arcs: 0\nfree loops: 0\nlayer \"a\": 0 features\n";
+    "without positions there is no bbox, in JSON", INFO_IN_JSON, EMPTY,
+        r#"{"arcs":0,"freeLoops":0,"layers":[{"features":0,"kinds":{"LineString":0,"MultiLineString":0,"MultiPoint":0,"MultiPolygon":0,"Point":0,"Polygon":0,"null":0},"name":"a"}],"positions":0,"transform":{"scale":[1,1],"translate":[0,0]}}"#;
+    "the canonical topology is counted", INFO, OTHER_ARCS, "grid: 1,1,0,0\nbbox: 0,0,2,0\narcs: 1\npositions of arcs: 3\nfree loops: 0\nlayer \"a\": 1 feature, 1 LineString\n";
+];
+
 #[test]
-fn the_canonical_topology_is_counted(rt: HostRuntime) -> Result<(), Fail> {
-    run_words(rt.alloc(), &["info", "t.json"], &[("t.json", OTHER_ARCS)])?.printed(
-        "arcs of another tool",
-        "grid: 1,1,0,0\nbbox: 0,0,2,0\narcs: 1\npositions of arcs: 3\nfree loops: 0\nlayer \"a\": 1 feature, 1 LineString\n",
-    )?;
+fn counts_of_a_topology(rt: HostRuntime) -> Result<(), Fail> {
+    for (title, words, topology, text) in COUNTS {
+        assert_answer(rt.alloc(), *title, *words, *topology, *text)?;
+    }
     Ok(())
 }
 
-fn feature(alloc: Global, id: &str, geometry: &str) -> Result<String, Fail> {
-    Ok(format!(in alloc; r#"{{"type":"Feature","id":{id},"geometry":{geometry}}}"#)?)
+/// The text of a collection of squares, each by its id and the places of its ring.
+macro_rules! squares {
+    ($id:literal $ring:literal $(, $next_id:literal $next_ring:literal)*) => {
+        concat!(
+            r#"{"type":"FeatureCollection","features":[{"type":"Feature","id":"#,
+            $id,
+            r#","geometry":{"type":"Polygon","coordinates":["#,
+            $ring,
+            "]}}",
+            $(
+                r#",{"type":"Feature","id":"#,
+                $next_id,
+                r#","geometry":{"type":"Polygon","coordinates":["#,
+                $next_ring,
+                "]}}",
+            )*
+            "]}"
+        )
+    };
 }
 
-/// What `neighbors --ids` makes of squares with these ids.
-fn neighbors_of(alloc: Global, squares: &[(&str, &str)]) -> Result<Outcome, Fail> {
-    let mut collection = String::from_str(alloc, r#"{"type":"FeatureCollection","features":["#)?;
-    for (place, (id, geometry)) in squares.iter().enumerate() {
-        if place > 0 {
-            collection.push_str(",")?;
-        }
-        collection.push_str(feature(alloc, *id, *geometry)?.as_str())?;
-    }
-    collection.push_str("]}")?;
-    let built = build(alloc, "1,1,0,0", &[("a", collection.as_str())])?;
-    let words = ["neighbors", "--ids", "--layer", "a", "t.json"];
-    run_words(alloc, &words, &[("t.json", built.out.as_str())])
+/// A title, squares, and the ids of the neighbours of each: the squares at 0, 1 and 2 stand in a row, and
+/// the last one of "none" touches the first in a point.
+const NEIGHBORS: &[(&str, &str, &str)] = rows![
+    "numbers before texts, texts by bytes", squares!(r#""m\"""# "[[1,0],[2,0],[2,1],[1,1],[1,0]]", "-7" "[[2,0],[3,0],[3,1],[2,1],[2,0]]", r#""b""# "[[0,0],[1,0],[1,1],[0,1],[0,0]]"), r#"[["m\""],["m\""],[-7,"b"]]"#;
+    "one id", squares!("5" "[[0,0],[1,0],[1,1],[0,1],[0,0]]", "5" "[[1,0],[2,0],[2,1],[1,1],[1,0]]", "5" "[[2,0],[3,0],[3,1],[2,1],[2,0]]"), "[[5],[5,5],[5]]";
+    "none", squares!("1" "[[0,0],[1,0],[1,1],[0,1],[0,0]]", "2" "[[1,1],[2,1],[2,2],[1,2],[1,1]]"), "[[],[]]";
+    "no feature", NOTHING, "[]";
+];
+
+const NEIGHBORS_BY_IDS: Words = &["neighbors", "--ids", "--layer", "a", "t.json"];
+
+/// The topology of a collection in the layer `a`.
+fn topology_of(alloc: Global, collection: &str) -> Result<String, Fail> {
+    built_text(alloc, "1,1,0,0", &[("a", collection)])
+}
+
+fn assert_neighbors(alloc: Global, title: &str, collection: &str, ids: &str) -> Result<(), Fail> {
+    let topology = topology_of(alloc, collection)?;
+    assert_answer(alloc, title, NEIGHBORS_BY_IDS, topology.as_str(), ids)
 }
 
 #[test]
 fn neighbors_by_their_ids(rt: HostRuntime) -> Result<(), Fail> {
-    let in_a_row = [("\"m\\\"\"", B), ("-7", C), ("\"b\"", A)];
-    neighbors_of(rt.alloc(), &in_a_row)?.printed(
-        "numbers before texts, texts by bytes",
-        r#"[["m\""],["m\""],[-7,"b"]]"#,
-    )?;
-    let one_id = [("5", A), ("5", B), ("5", C)];
-    neighbors_of(rt.alloc(), &one_id)?.printed("one id", "[[5],[5,5],[5]]")?;
-    let apart = [("1", A), ("2", S)];
-    neighbors_of(rt.alloc(), &apart)?.printed("none", "[[],[]]")?;
-    neighbors_of(rt.alloc(), &[])?.printed("no feature", "[]")?;
+    for (title, collection, ids) in NEIGHBORS {
+        assert_neighbors(rt.alloc(), *title, *collection, *ids)?;
+    }
     Ok(())
 }
 
+/// Two squares, of which one has an id.
+const WITH_NULL: &str =
+    squares!("1" "[[0,0],[1,0],[1,1],[0,1],[0,0]]", "null" "[[1,0],[2,0],[2,1],[1,1],[1,0]]");
+
+const WITHOUT_AN_ID: &str = "topotool: --ids: a feature without an id in layer a\n";
+
+#[test]
+fn an_id_that_is_null(rt: HostRuntime) -> Result<(), Fail> {
+    let topology = topology_of(rt.alloc(), WITH_NULL)?;
+    let files = [("t.json", topology.as_str())];
+    assert_refused(rt.alloc(), NEIGHBORS_BY_IDS, &files, 2, WITHOUT_AN_ID)
+}
+
+/// Words that are refused of two squares without ids, the status, and the line that says why.
+const REFUSED: &[(Words, u8, &str)] = rows![
+    NEIGHBORS_BY_IDS, 2, WITHOUT_AN_ID;
+    &["neighbors", "--ids", "--layer", "q", "t.json"], 4, "topotool: 19 NoLayer q\n";
+];
+
 #[test]
 fn each_feature_has_to_have_an_id(rt: HostRuntime) -> Result<(), Fail> {
-    let line = "topotool: --ids: a feature without an id in layer a\n";
-    neighbors_of(rt.alloc(), &[("1", A), ("null", B)])?.refused("null", 2, line)?;
-    let words = ["neighbors", "--ids", "--layer", "a", "t.json"];
-    let files = [("t.json", SHARED_EDGE)];
-    run_words(rt.alloc(), &words, &files)?.refused("no member", 2, line)?;
-    let words = ["neighbors", "--ids", "--layer", "q", "t.json"];
-    run_words(rt.alloc(), &words, &files)?.refused("no layer", 4, "topotool: 19 NoLayer q\n")?;
+    for (words, status, line) in REFUSED {
+        assert_refused(
+            rt.alloc(),
+            *words,
+            &[("t.json", SHARED_EDGE)],
+            *status,
+            *line,
+        )?;
+    }
     Ok(())
 }

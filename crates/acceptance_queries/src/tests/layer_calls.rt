@@ -1,12 +1,13 @@
 //! `write_layer`, `feature`, `mesh`, `neighbors` and the writers of their answers, called on topologies.
-use command_runs::build;
 use command_runs::inputs::{BOW_TIE_TOPOLOGY, EMPTY, SHARED_EDGE, SQUARES};
+use command_runs::{assert_built, rows, script};
 use query::{
     LayerFault, QueryFault, feature, mesh, neighbors, write_layer, write_mesh, write_neighbors,
 };
 use shapes::Feature;
 use sinks::{Answer, Kept, Script};
-use std::alloc::{AllocError, Global};
+use std::alloc::Global;
+use std::process::Abort;
 use std::test::Fail;
 use topo::Topology;
 
@@ -25,111 +26,131 @@ const SQUARES_BORDERS: &str =
 /// A collection without features.
 const NOTHING_PRINTED: &str = r#"{"features":[],"type":"FeatureCollection"}"#;
 
-const PRINTED: &[(&str, &str)] = &[
-    (SHARED_EDGE, SQUARES_PRINTED),
-    (BOW_TIE_TOPOLOGY, BOW_TIE_PRINTED),
-    (EMPTY, NOTHING_PRINTED),
+/// A title, a topology, and what its layer `a` is printed as.
+const PRINTED: &[(&str, &str, &str)] = rows![
+    "two squares", SHARED_EDGE, SQUARES_PRINTED;
+    "a ring that visits a vertex twice", BOW_TIE_TOPOLOGY, BOW_TIE_PRINTED;
+    "no feature", EMPTY, NOTHING_PRINTED;
 ];
 
 fn topology(alloc: Global, text: &str) -> Result<Topology, Fail> {
-    let (grid, map) = topo_io::read(alloc, text.as_bytes())
-        .ok()
-        .ok_or("a topology that is refused")?;
-    Ok(Topology::build(alloc, &grid, &map).ok().ok_or("no memory")?)
+    let (grid, map) = topo_io::read(alloc, text.as_bytes())?;
+    Ok(Topology::build(alloc, &grid, &map)?)
 }
 
-/// A sink that takes one byte a call for some calls, and then answers once more by the script.
-fn slow_sink(alloc: Global, calls: usize, last: Answer) -> Result<Script, AllocError> {
-    let mut answers = Vec::new(alloc);
-    for _ in 0..calls {
-        answers.push(Answer::Take(1))?;
-    }
-    answers.push(last)?;
-    Ok(Script::new(alloc, answers))
+/// Whether this is what was kept.
+fn has_kept(kept: Kept, text: &str) -> bool {
+    kept.into_bytes().as_slice() == text.as_bytes()
+}
+
+/// Whether the layer `a` is written as this text.
+fn is_layer(alloc: Global, topology: &Topology, text: &str) -> bool {
+    let mut kept = Kept::new(alloc);
+    let written = write_layer(topology, "a", &mut kept);
+    has_kept(kept, text) && written.is_ok()
+}
+
+/// Whether the features of the layer `a` are written as this text.
+fn are_features(alloc: Global, topology: &Topology, text: &str) -> Result<bool, Fail> {
+    let features = feature(alloc, topology, "a")?;
+    let mut kept = Kept::new(alloc);
+    let written = geojson_io::write(&topology.grid(), features.iter(), &mut kept);
+    Ok(has_kept(kept, text) && written.is_ok())
+}
+
+fn is_written(alloc: Global, text: &str, printed: &str) -> Result<bool, Fail> {
+    let topology = topology(alloc, text)?;
+    Ok(is_layer(alloc, &topology, printed) && are_features(alloc, &topology, printed)?)
 }
 
 #[test]
 fn a_layer_is_written_as_its_features_are(rt: HostRuntime) -> Result<(), Fail> {
-    for (text, printed) in PRINTED {
-        let topology = topology(rt.alloc(), text)?;
-        let mut written = Kept::new(rt.alloc());
-        assert_eq!(rt; write_layer(&topology, "a", &mut written), Ok(()));
-        assert_eq!(rt; written.into_bytes().as_slice(), printed.as_bytes());
-        let features = feature(rt.alloc(), &topology, "a")
-            .ok()
-            .expect(&rt, "features");
-        let mut collected = Kept::new(rt.alloc());
-        assert!(rt; geojson_io::write(&topology.grid(), features.iter(), &mut collected).is_ok());
-        assert_eq!(rt; collected.into_bytes().as_slice(), printed.as_bytes());
+    for (title, text, printed) in PRINTED {
+        assert!(rt; is_written(rt.alloc(), *text, *printed)?, "{title}");
     }
     Ok(())
 }
 
+/// Whether the layer `a` of the map that a topology expands to is written as this text.
+fn expands(alloc: Global, topology: &Topology, text: &str) -> Result<bool, Fail> {
+    let map = topology.expand(alloc)?;
+    let features = map.layer("a").ok_or("no layer")?;
+    let mut kept = Kept::new(alloc);
+    let written = geojson_io::write(&topology.grid(), features.iter(), &mut kept);
+    Ok(has_kept(kept, text) && written.is_ok())
+}
+
+/// Texts of which each is built as the two squares.
+const BUILT: &[(&str, &str)] = &[("built", SQUARES), ("built again", SQUARES_PRINTED)];
+
 #[test]
 fn what_is_built_expands_prints_and_builds_again(rt: HostRuntime) -> Result<(), Fail> {
-    let alloc = rt.alloc();
-    build(alloc, "1,1,0,0", &[("a", SQUARES)])?.printed("built", SHARED_EDGE)?;
-    let topology = topology(alloc, SHARED_EDGE)?;
-    let map = topology.expand(alloc).ok().expect(&rt, "a map");
-    let features = map.layer("a").expect(&rt, "the layer");
-    let mut written = Kept::new(alloc);
-    assert!(rt; geojson_io::write(&topology.grid(), features.iter(), &mut written).is_ok());
-    assert_eq!(rt; written.into_bytes().as_slice(), SQUARES_PRINTED.as_bytes());
-    build(alloc, "1,1,0,0", &[("a", SQUARES_PRINTED)])?.printed("built again", SHARED_EDGE)?;
+    for (title, text) in BUILT {
+        assert_built(rt.alloc(), *title, "1,1,0,0", &[("a", *text)], SHARED_EDGE)?;
+    }
+    let topology = topology(rt.alloc(), SHARED_EDGE)?;
+    assert!(rt; expands(rt.alloc(), &topology, SQUARES_PRINTED)?);
     Ok(())
+}
+
+/// Whether all borders of the layer `a` are written as this text.
+fn are_borders(alloc: Global, topology: &Topology, text: &str) -> Result<bool, Fail> {
+    let lines = mesh(alloc, topology, Some("a"), |_: &Feature, _: &Feature| true)?;
+    let mut kept = Kept::new(alloc);
+    let written = write_mesh(&topology.grid(), &lines, &mut kept);
+    Ok(has_kept(kept, text) && written.is_ok())
 }
 
 #[test]
 fn borders_are_written_in_the_order_of_the_mesh(rt: HostRuntime) -> Result<(), Fail> {
     let topology = topology(rt.alloc(), SHARED_EDGE)?;
-    let lines = mesh(
-        rt.alloc(),
-        &topology,
-        Some("a"),
-        |_: &Feature, _: &Feature| true,
-    )
-    .ok()
-    .expect(&rt, "a mesh");
-    let mut written = Kept::new(rt.alloc());
-    assert_eq!(rt; write_mesh(&topology.grid(), &lines, &mut written), Ok(()));
-    assert_eq!(rt; written.into_bytes().as_slice(), SQUARES_BORDERS.as_bytes());
+    assert!(rt; are_borders(rt.alloc(), &topology, SQUARES_BORDERS)?);
     Ok(())
+}
+
+/// Whether the neighbours in the layer `a` are written as this text.
+fn are_neighbors(alloc: Global, topology: &Topology, text: &str) -> Result<bool, Fail> {
+    let lists = neighbors(alloc, topology, "a")?;
+    let mut kept = Kept::new(alloc);
+    let written = write_neighbors(lists.as_slice(), &mut kept);
+    Ok(has_kept(kept, text) && written.is_ok())
 }
 
 #[test]
 fn neighbors_are_written_feature_by_feature(rt: HostRuntime) -> Result<(), Fail> {
     let topology = topology(rt.alloc(), SHARED_EDGE)?;
-    let lists = neighbors(rt.alloc(), &topology, "a")
-        .ok()
-        .expect(&rt, "lists");
-    let mut written = Kept::new(rt.alloc());
-    assert_eq!(rt; write_neighbors(lists.as_slice(), &mut written), Ok(()));
-    assert_eq!(rt; written.into_bytes().as_slice(), b"[[1],[0]]".as_slice());
+    assert!(rt; are_neighbors(rt.alloc(), &topology, "[[1],[0]]")?);
     Ok(())
+}
+
+/// Whether a sink took so many bytes of the text of the two squares, and failed so often.
+fn took(sink: &Script, length: usize, failures: u64) -> bool {
+    SQUARES_PRINTED.as_bytes().starts_with(sink.taken())
+        && sink.taken().len() == length
+        && sink.failures() == failures
 }
 
 #[test]
 fn a_layer_is_written_a_byte_a_call(rt: HostRuntime) -> Result<(), Fail> {
     let topology = topology(rt.alloc(), SHARED_EDGE)?;
-    let mut sink = slow_sink(rt.alloc(), SQUARES_PRINTED.len(), Answer::Fail)?;
-    assert_eq!(rt; write_layer(&topology, "a", &mut sink), Ok(()));
-    assert_eq!(rt; sink.taken(), SQUARES_PRINTED.as_bytes());
-    assert_eq!(rt; sink.failures(), 0);
+    let mut sink = script(rt.alloc(), SQUARES_PRINTED.len(), Answer::Fail)?;
+    assert!(rt; write_layer(&topology, "a", &mut sink).is_ok());
+    assert!(rt; took(&sink, SQUARES_PRINTED.len(), 0));
     Ok(())
+}
+
+/// Whether the writing of a layer ends with the first failure, which comes with a last byte.
+fn stops(alloc: Global, topology: &Topology, calls: usize) -> Result<bool, Fail> {
+    let mut sink = script(alloc, calls, Answer::FailAfter(1))?;
+    let fault = write_layer(topology, "a", &mut sink).err();
+    Ok(fault == Some(LayerFault::Write) && took(&sink, calls.saturating_add(1), 1))
 }
 
 #[test]
 fn a_layer_stops_at_each_failure(rt: HostRuntime) -> Result<(), Fail> {
     let topology = topology(rt.alloc(), SHARED_EDGE)?;
     for calls in 0..SQUARES_PRINTED.len() {
-        let mut sink = slow_sink(rt.alloc(), calls, Answer::FailAfter(1))?;
-        assert_eq!(rt;
-            write_layer(&topology, "a", &mut sink),
-            Err(LayerFault::Write)
-        );
-        assert!(rt; SQUARES_PRINTED.as_bytes().starts_with(sink.taken()));
-        assert_eq!(rt; sink.taken().len(), calls + 1);
-        assert_eq!(rt; sink.failures(), 1);
+        assert!(rt; stops(rt.alloc(), &topology, calls)?, "{calls}");
     }
     Ok(())
 }
@@ -137,16 +158,10 @@ fn a_layer_stops_at_each_failure(rt: HostRuntime) -> Result<(), Fail> {
 #[test]
 fn a_layer_that_is_not_there(rt: HostRuntime) -> Result<(), Fail> {
     let topology = topology(rt.alloc(), SHARED_EDGE)?;
-    let mut sink = slow_sink(rt.alloc(), 0, Answer::Fail)?;
-    assert_eq!(rt;
-        write_layer(&topology, "b", &mut sink),
-        Err(LayerFault::NoLayer)
-    );
-    assert_eq!(rt; sink.taken().len(), 0);
-    assert_eq!(rt; sink.failures(), 0);
-    assert_eq!(rt;
-        feature(rt.alloc(), &topology, "b").err(),
-        Some(QueryFault::NoLayer)
-    );
+    let mut sink = script(rt.alloc(), 0, Answer::Fail)?;
+    let fault = write_layer(&topology, "b", &mut sink).err();
+    assert!(rt; fault == Some(LayerFault::NoLayer) && took(&sink, 0, 0));
+    let fault = feature(rt.alloc(), &topology, "b").err();
+    assert!(rt; fault == Some(QueryFault::NoLayer));
     Ok(())
 }

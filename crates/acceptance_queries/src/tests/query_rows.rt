@@ -1,6 +1,7 @@
 //! What `feature`, `mesh` and `neighbors` print.
 use command_runs::inputs::{A, B, BOTH_SQUARES, C, NOTHING, S, SHARED_EDGE, SQUARES, T};
-use command_runs::{build, rows, run_words};
+use command_runs::{Texts, Words, assert_answer, assert_built, built_text, rows, run_words};
+use std::alloc::Global;
 use std::test::Fail;
 
 /// The right edge of `A`.
@@ -26,9 +27,11 @@ const POINTS: &str = r#"{"type":"MultiPoint","coordinates":[[3,4],[1,2],[3,4]]}"
 /// Two lines of one feature.
 const LINES: &str = r#"{"type":"MultiLineString","coordinates":[[[1,0],[0,0]],[[5,5],[6,5]]]}"#;
 
-/// Each row is a title, a grid, GeoJSON texts, each after its layer, and words with what they print of the
-/// topology `t.json` of these texts.
-const ROWS: &[(&str, &str, &[(&str, &str)], &[&str], &str)] = rows![
+/// A title, a grid, GeoJSON texts, each after its layer, words, and what they print of the topology
+/// `t.json` of these texts.
+type Row = (&'static str, &'static str, Texts, Words, &'static str);
+
+const ROWS: &[Row] = rows![
     // Features of a layer.
     "both squares", "1,1,0,0", &[("a", SQUARES)], &["feature", "--layer", "a", "t.json"],
         r#"{"features":[{"geometry":{"coordinates":[[[0,0],[1,0],[1,1],[0,1],[0,0]]],"type":"Polygon"},"properties":{},"type":"Feature"},{"geometry":{"coordinates":[[[1,0],[2,0],[2,1],[1,1],[1,0]]],"type":"Polygon"},"properties":{},"type":"Feature"}],"type":"FeatureCollection"}"#;
@@ -78,22 +81,31 @@ const ROWS: &[(&str, &str, &[(&str, &str)], &[&str], &str)] = rows![
     "another layer's features are no neighbors", "1,1,0,0", &[("a", A), ("b", EDGE)], &["neighbors", "--layer", "a", "t.json"], r#"[[]]"#;
 ];
 
+fn assert_row(alloc: Global, row: Row) -> Result<(), Fail> {
+    let (title, grid, sources, words, answer) = row;
+    let topology = built_text(alloc, grid, sources)?;
+    assert_answer(alloc, title, words, topology.as_str(), answer)
+}
+
 #[test]
 fn answers(rt: HostRuntime) -> Result<(), Fail> {
-    for (title, grid, sources, words, out) in ROWS {
-        let built = build(rt.alloc(), *grid, *sources)?;
-        run_words(rt.alloc(), *words, &[("t.json", built.out.as_str())])?.printed(*title, *out)?;
+    for row in ROWS {
+        assert_row(rt.alloc(), *row)?;
     }
     Ok(())
 }
 
+const FEATURES_OF_A: Words = &["feature", "--layer", "a", "t.json"];
+
+/// The layer `a` of a topology, as it is printed.
+fn printed_layer(alloc: Global, topology: &str) -> Result<String, Fail> {
+    let outcome = run_words(alloc, FEATURES_OF_A, &[("t.json", topology)])?;
+    outcome.into_text("a layer")
+}
+
 #[test]
 fn a_layer_that_was_printed_is_built_again(rt: HostRuntime) -> Result<(), Fail> {
-    let words = ["feature", "--layer", "a", "t.json"];
-    let printed = run_words(rt.alloc(), &words, &[("t.json", SHARED_EDGE)])?;
-    build(rt.alloc(), "1,1,0,0", &[("a", printed.out.as_str())])?.printed(
-        "shared edge",
-        SHARED_EDGE,
-    )?;
-    Ok(())
+    let layer = printed_layer(rt.alloc(), SHARED_EDGE)?;
+    let sources = [("a", layer.as_str())];
+    assert_built(rt.alloc(), "shared edge", "1,1,0,0", &sources, SHARED_EDGE)
 }

@@ -1,11 +1,29 @@
 //! The file word `-`, which stands for standard input.
 use command_runs::inputs::{EMPTY, ONE_SQUARE, SHARED_EDGE, SQUARES};
-use command_runs::{Outcome, Run, rows, topology};
+use command_runs::{Outcome, Run, Texts, Words, assert_refused, rows, topology};
 use std::alloc::Global;
 use std::test::Fail;
 
-/// Each row is words, the text of standard input, and what is printed.
-const READ: &[(&[&str], &str, &str)] = rows![
+/// Files on which every command can be tried, one of them named `-`.
+const FILES: Texts = &[
+    ("squares.json", SQUARES),
+    ("shared.json", SHARED_EDGE),
+    ("square.json", ONE_SQUARE),
+    ("-", "the file of that name"),
+    ("./-", SHARED_EDGE),
+];
+
+/// What the words come to with these files and a standard input.
+fn outcome(alloc: Global, words: &[&str], input: &str) -> Result<Outcome, Fail> {
+    let mut run = Run::on_files(alloc, words, FILES)?;
+    run.set_input(input.as_bytes())?;
+    run.outcome()
+}
+
+/// Words, the text of standard input, and what is printed.
+type ReadRow = (Words, &'static str, &'static str);
+
+const READ: &[ReadRow] = rows![
     &["build", "--grid", "1,1,0,0", "a=-"], SQUARES, SHARED_EDGE;
     &["build", "--grid", "1,1,0,0", "a=squares.json", "a=-"], SQUARES, SHARED_EDGE;
     &["check", "-"], SHARED_EDGE, "canonical\n";
@@ -19,84 +37,61 @@ const READ: &[(&[&str], &str, &str)] = rows![
     &["mesh", "--edges", "interior", "-"], SHARED_EDGE, r#"{"coordinates":[[[1,0],[1,1]]],"type":"MultiLineString"}"#;
     &["neighbors", "--layer", "a", "-"], SHARED_EDGE, "[[1],[0]]";
     &["info", "-"], SHARED_EDGE, "grid: 1,1,0,0\nbbox: 0,0,2,1\narcs: 3\npositions of arcs: 10\nfree loops: 0\nlayer \"a\": 2 features, 2 Polygon\n";
+    // A path to the file of that name.
+    &["merge", "./-"], "bad", SHARED_EDGE;
 ];
 
-/// A run with files on which every command can be tried, one of them named `-`.
-fn run_of(alloc: Global, words: &[&str]) -> Result<Run, Fail> {
-    let mut run = Run::new(alloc, words)?;
-    run.add_file("squares.json", SQUARES.as_bytes())?;
-    run.add_file("shared.json", SHARED_EDGE.as_bytes())?;
-    run.add_file("square.json", ONE_SQUARE.as_bytes())?;
-    run.add_file("-", b"the file of that name")?;
-    run.add_file("./-", SHARED_EDGE.as_bytes())?;
-    Ok(run)
-}
-
-fn outcome(alloc: Global, words: &[&str], input: &str) -> Result<Outcome, Fail> {
-    let mut run = run_of(alloc, words)?;
-    run.set_input(input.as_bytes())?;
-    run.outcome()
+fn assert_read(alloc: Global, row: ReadRow) -> Result<(), Fail> {
+    let (words, input, text) = row;
+    let outcome = outcome(alloc, words, input)?;
+    outcome.printed(input, text)
 }
 
 #[test]
 fn every_command_reads_it(rt: HostRuntime) -> Result<(), Fail> {
-    for (words, input, out) in READ {
-        outcome(rt.alloc(), *words, *input)?.printed(*input, *out)?;
+    for row in READ {
+        assert_read(rt.alloc(), *row)?;
     }
     Ok(())
 }
 
-#[test]
-fn a_file_of_that_name(rt: HostRuntime) -> Result<(), Fail> {
-    outcome(rt.alloc(), &["merge", "./-"], "bad")?.printed("a path", SHARED_EDGE)?;
-    Ok(())
-}
+/// Words, the text of standard input, the status, and the line that refuses them.
+type RefusedRow = (Words, &'static str, u8, &'static str);
 
-/// Words in which two files are standard input.
-const TWICE: &[&[&str]] = &[
-    &["merge", "-", "-"],
-    &["merge", "nowhere.json", "-", "shared.json", "-"],
-    &["remove", "-", "-"],
-    &["build", "--grid", "1,1,0,0", "a=-", "b=-"],
+const REFUSED: &[RefusedRow] = rows![
+    // Two files cannot be it.
+    &["merge", "-", "-"], SHARED_EDGE, 2, "topotool: standard input can be read once only\n";
+    &["merge", "nowhere.json", "-", "shared.json", "-"], SHARED_EDGE, 2, "topotool: standard input can be read once only\n";
+    &["remove", "-", "-"], SHARED_EDGE, 2, "topotool: standard input can be read once only\n";
+    &["build", "--grid", "1,1,0,0", "a=-", "b=-"], SHARED_EDGE, 2, "topotool: standard input can be read once only\n";
+    // Bad words are told before.
+    &["build", "--grid", "1,1,0,0", "a=-", "b=-", "x"], SQUARES, 2, "topotool: bad layer x\n";
+    &["build", "--grid", "1", "a=-", "b=-"], SQUARES, 2, "topotool: bad grid 1\n";
+    // A refusal names it by its word.
+    &["check", "-"], "bad", 4, "topotool: -: 1 NotJson $\n";
 ];
 
+fn assert_refused_with(alloc: Global, row: RefusedRow) -> Result<(), Fail> {
+    let (words, input, status, line) = row;
+    let outcome = outcome(alloc, words, input)?;
+    outcome.refused(line, status, line)
+}
+
 #[test]
-fn two_files_cannot_be_it(rt: HostRuntime) -> Result<(), Fail> {
-    for words in TWICE {
-        outcome(rt.alloc(), words, SHARED_EDGE)?.refused(
-            "twice",
-            2,
-            "topotool: standard input can be read once only\n",
-        )?;
+fn refusals(rt: HostRuntime) -> Result<(), Fail> {
+    for row in REFUSED {
+        assert_refused_with(rt.alloc(), *row)?;
     }
     Ok(())
 }
 
 #[test]
-fn bad_words_are_told_before(rt: HostRuntime) -> Result<(), Fail> {
-    outcome(
+fn no_standard_input(rt: HostRuntime) -> Result<(), Fail> {
+    assert_refused(
         rt.alloc(),
-        &["build", "--grid", "1,1,0,0", "a=-", "b=-", "x"],
-        SQUARES,
-    )?
-    .refused("a bad layer", 2, "topotool: bad layer x\n")?;
-    outcome(rt.alloc(), &["build", "--grid", "1", "a=-", "b=-"], SQUARES)?.refused(
-        "a bad grid",
-        2,
-        "topotool: bad grid 1\n",
-    )?;
-    Ok(())
-}
-
-#[test]
-fn refusals_name_it_by_its_word(rt: HostRuntime) -> Result<(), Fail> {
-    outcome(rt.alloc(), &["check", "-"], "bad")?.refused(
-        "a bad text",
-        4,
-        "topotool: -: 1 NotJson $\n",
-    )?;
-    run_of(rt.alloc(), &["check", "-"])?
-        .outcome()?
-        .refused("no input", 3, "topotool: cannot read -\n")?;
-    Ok(())
+        &["check", "-"],
+        FILES,
+        3,
+        "topotool: cannot read -\n",
+    )
 }

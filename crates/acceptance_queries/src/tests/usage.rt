@@ -1,17 +1,19 @@
 //! The words of the command: usage, the grid's word, layers' words, files that can't be read.
 use command_runs::inputs::{A, EMPTY, NOTHING, SHARED_EDGE};
-use command_runs::{Outcome, rows, run_words};
+use command_runs::{Texts, Words, assert_printed, assert_refused, rows, run_words};
+use std::alloc::Global;
+use std::process::Abort;
 use std::test::Fail;
 
-const FILES: &[(&str, &str)] = &[
+const FILES: Texts = &[
     ("A.json", A),
     ("empty.json", NOTHING),
     ("shared.json", SHARED_EDGE),
     ("bad.json", "bad"),
 ];
 
-/// Each row is words that are refused, the status, and the line that says why.
-const REFUSED: &[(&[&str], u8, &str)] = rows![
+/// Words that are refused, the status, and the line that says why.
+const REFUSED: &[(Words, u8, &str)] = rows![
     &["build", "--grid", "1,1,0", "a=A.json"], 2, "topotool: bad grid 1,1,0\n";
     &["build", "--grid", "1,1,0,0,0", "a=A.json"], 2, "topotool: bad grid 1,1,0,0,0\n";
     &["build", "--grid", "+1,1,0,0", "a=A.json"], 2, "topotool: bad grid +1,1,0,0\n";
@@ -45,13 +47,13 @@ const REFUSED: &[(&[&str], u8, &str)] = rows![
 #[test]
 fn lines_of_the_command(rt: HostRuntime) -> Result<(), Fail> {
     for (words, status, line) in REFUSED {
-        run_words(rt.alloc(), *words, FILES)?.refused(*line, *status, *line)?;
+        assert_refused(rt.alloc(), *words, FILES, *status, *line)?;
     }
     Ok(())
 }
 
 /// Words that are against the usage.
-const USAGE: &[&[&str]] = &[
+const USAGE: &[Words] = &[
     &[],
     &["split", "shared.json", "shared.json"],
     &["build"],
@@ -80,19 +82,22 @@ const USAGE: &[&[&str]] = &[
     &["check", "--version"],
 ];
 
+/// Whether the words are told to be wrong, and nothing is printed.
+fn is_wrong_usage(alloc: Global, words: &[&str]) -> Result<bool, Fail> {
+    let outcome = run_words(alloc, words, FILES)?;
+    Ok(outcome.status == 2 && outcome.out.is_empty() && !outcome.err.is_empty())
+}
+
 #[test]
 fn wrong_usage(rt: HostRuntime) -> Result<(), Fail> {
     for words in USAGE {
-        let Outcome { status, out, err } = run_words(rt.alloc(), words, FILES)?;
-        assert_eq!(rt; status, 2, "{words:?}");
-        assert_eq!(rt; out.as_str(), "", "{words:?}");
-        assert!(rt; !err.is_empty(), "{words:?}");
+        assert!(rt; is_wrong_usage(rt.alloc(), *words)?, "{words:?}");
     }
     Ok(())
 }
 
 /// Words that ask for help, and a part of what is printed.
-const HELP: &[(&[&str], &str)] = &[
+const HELP: &[(Words, &str)] = &[
     (&["--help"], "Usage: topotool <COMMAND>"),
     (&["help"], "Usage: topotool <COMMAND>"),
     (
@@ -122,41 +127,47 @@ Status: 0 done, 1 `check` says no, 2 wrong usage, 3 a file can't be read,
 4 an input is refused, 5 out of memory, 6 the output failed
 ";
 
+/// The help that is printed for words.
+fn help_of(alloc: Global, words: &[&str]) -> Result<String, Fail> {
+    let outcome = run_words(alloc, words, FILES)?;
+    if !outcome.err.is_empty() {
+        return Err("an error beside the help".into());
+    }
+    outcome.into_text("help")
+}
+
+/// Whether the help has this part, and no line too long for a terminal.
+fn has_part(alloc: Global, words: &[&str], part: &str) -> Result<bool, Fail> {
+    let help = help_of(alloc, words)?;
+    Ok(help.contains(part) && help.lines().all(|line| line.len() < 80))
+}
+
 #[test]
 fn help(rt: HostRuntime) -> Result<(), Fail> {
     for (words, part) in HELP {
-        let Outcome { status, out, err } = run_words(rt.alloc(), words, FILES)?;
-        assert_eq!(rt; status, 0, "{part}");
-        assert!(rt; out.contains(*part), "{part}");
-        assert!(rt; out.lines().all(|line| line.len() < 80), "{out}");
-        assert_eq!(rt; err.as_str(), "", "{part}");
+        assert!(rt; has_part(rt.alloc(), *words, *part)?, "{part}");
     }
     Ok(())
 }
 
 #[test]
 fn help_ends_with_the_statuses(rt: HostRuntime) -> Result<(), Fail> {
-    let Outcome {
-        status,
-        out,
-        err: _,
-    } = run_words(rt.alloc(), &["--help"], FILES)?;
-    assert_eq!(rt; status, 0);
-    assert!(rt; out.ends_with(STATUSES), "{out}");
+    let help = help_of(rt.alloc(), &["--help"])?;
+    assert!(rt; help.ends_with(STATUSES), "{help}");
     Ok(())
 }
 
+/// A title, words, and what they print.
+const PRINTED: &[(&str, Words, &str)] = rows![
+    "the version", &["--version"], "topotool 0.1.0\n";
+    "the version, by a letter", &["-V"], "topotool 0.1.0\n";
+    "a number of a grid that begins with a minus", &["build", "--grid=1,1,-0,0", "a=empty.json"], EMPTY;
+];
+
 #[test]
-fn version(rt: HostRuntime) -> Result<(), Fail> {
-    for word in ["--version", "-V"] {
-        run_words(rt.alloc(), &[word], FILES)?.printed(word, "topotool 0.1.0\n")?;
+fn texts_of_the_command(rt: HostRuntime) -> Result<(), Fail> {
+    for (title, words, text) in PRINTED {
+        assert_printed(rt.alloc(), *title, *words, FILES, *text)?;
     }
-    Ok(())
-}
-
-#[test]
-fn a_grid_that_begins_with_a_minus(rt: HostRuntime) -> Result<(), Fail> {
-    let words = ["build", "--grid=1,1,-0,0", "a=empty.json"];
-    run_words(rt.alloc(), &words, FILES)?.printed("minus", EMPTY)?;
     Ok(())
 }
