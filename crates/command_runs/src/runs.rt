@@ -182,12 +182,12 @@ impl Outcome {
         Err(self.told(title))
     }
 
-    /// The text that the run printed, where it ended with status 0.
+    /// The text that the run printed, where it ended with status 0 and told nothing.
     ///
     /// # Errors
     /// The title, and what the run ended with.
     pub fn into_text(self, title: &str) -> Result<String, Fail> {
-        if self.status != 0 {
+        if self.status != 0 || !self.err.is_empty() {
             return Err(self.told(title));
         }
         Ok(self.out)

@@ -4,7 +4,7 @@ use faults::{Fault, FaultKind};
 use std::process::ExitCode;
 
 /// What a call answered.
-#[derive(Clone, Copy, PartialEq, Eq, Debug)]
+#[derive(Clone, Copy)]
 pub enum Answer {
     /// What is right.
     Right,
@@ -36,7 +36,7 @@ impl Answer {
 }
 
 /// What came of a call.
-#[derive(Clone, Copy, PartialEq, Eq, Debug)]
+#[derive(Clone, Copy)]
 pub enum Outcome {
     /// It was right.
     Right,
@@ -75,7 +75,7 @@ impl Outcome {
 }
 
 /// How many calls there were, and what came of them.
-#[derive(Clone, Copy, PartialEq, Eq, Debug)]
+#[derive(Clone, Copy)]
 pub struct Tally {
     calls: usize,
     without_memory: usize,

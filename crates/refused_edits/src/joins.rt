@@ -150,7 +150,7 @@ fn run<S: Shard>(alloc: Global, shards: &[S], plan: &Plan) -> Answer {
 }
 
 /// The calls.
-#[derive(Clone, Copy, PartialEq, Eq, Debug)]
+#[derive(Clone, Copy)]
 enum Call {
     Merge,
     RunWhole,
@@ -160,27 +160,17 @@ enum Call {
     Halves,
 }
 
-const CALLS: &[Call] = &[
-    Call::Merge,
-    Call::RunWhole,
-    Call::RunCut,
-    Call::Left,
-    Call::Right,
-    Call::Halves,
+/// Each call by its name.
+const CALLS: &[(&str, Call)] = &[
+    ("merge_texts", Call::Merge),
+    ("run_plan over Whole", Call::RunWhole),
+    ("run_plan over Cut", Call::RunCut),
+    ("Plan::left", Call::Left),
+    ("Plan::right", Call::Right),
+    ("Plan::halves", Call::Halves),
 ];
 
 impl Call {
-    fn name(self) -> &'static str {
-        match self {
-            Call::Merge => "merge_texts",
-            Call::RunWhole => "run_plan over Whole",
-            Call::RunCut => "run_plan over Cut",
-            Call::Left => "Plan::left",
-            Call::Right => "Plan::right",
-            Call::Halves => "Plan::halves",
-        }
-    }
-
     fn ask(self, alloc: Global, squares: &Squares) -> Answer {
         match self {
             Call::Merge => merge(alloc, squares),
@@ -206,9 +196,9 @@ impl Call {
 }
 
 fn settle_all(rt: &HostRuntime, tally: &mut Tally, squares: &Squares) {
-    for call in CALLS {
+    for (name, call) in CALLS {
         let outcome = call.settle(rt.alloc(), squares);
-        tally.note(rt, "three squares", call.name(), outcome);
+        tally.note(rt, "three squares", *name, outcome);
     }
 }
 

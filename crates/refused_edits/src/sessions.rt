@@ -172,7 +172,7 @@ fn settle_text(alloc: Global, edits: &Edits) -> Outcome {
 }
 
 /// The calls.
-#[derive(Clone, Copy, PartialEq, Eq, Debug)]
+#[derive(Clone, Copy)]
 enum Call {
     Start,
     Join,
@@ -182,27 +182,17 @@ enum Call {
     Text,
 }
 
-const CALLS: &[Call] = &[
-    Call::Start,
-    Call::Join,
-    Call::JoinBeside,
-    Call::Remove,
-    Call::All,
-    Call::Text,
+/// Each call by its name.
+const CALLS: &[(&str, Call)] = &[
+    ("Session::start", Call::Start),
+    ("Session::apply of a first join", Call::Join),
+    ("Session::apply of a second join", Call::JoinBeside),
+    ("Session::apply of a removal", Call::Remove),
+    ("Session::apply_all", Call::All),
+    ("Session::text", Call::Text),
 ];
 
 impl Call {
-    fn name(self) -> &'static str {
-        match self {
-            Call::Start => "Session::start",
-            Call::Join => "Session::apply of a first join",
-            Call::JoinBeside => "Session::apply of a second join",
-            Call::Remove => "Session::apply of a removal",
-            Call::All => "Session::apply_all",
-            Call::Text => "Session::text",
-        }
-    }
-
     fn settle(self, alloc: Global, edits: &Edits) -> Outcome {
         match self {
             Call::Start => settle_start(alloc, edits),
@@ -224,9 +214,9 @@ impl Call {
 }
 
 fn settle_calls(rt: &HostRuntime, tally: &mut Tally, edits: &Edits) {
-    for call in CALLS {
+    for (name, call) in CALLS {
         let outcome = call.settle_prepared(rt.alloc(), edits);
-        tally.note(rt, "a session", call.name(), outcome);
+        tally.note(rt, "a session", *name, outcome);
     }
 }
 

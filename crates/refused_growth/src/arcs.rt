@@ -125,29 +125,43 @@ fn mark(alloc: Global, standing: &Standing) -> Answer {
     }
 }
 
-fn settle_read(alloc: Global, standing: &Standing) -> Outcome {
-    let outcome = Outcome::of_first(read(alloc, standing), standing.is_as_before());
-    match outcome {
-        Outcome::Wanting => Outcome::of_second(read(alloc, standing)),
-        Outcome::Unprepared => Outcome::of_first(read(alloc, standing), standing.is_as_before()),
-        _ => outcome,
-    }
+/// The calls.
+#[derive(Clone, Copy)]
+enum Call {
+    Read,
+    Mark,
 }
 
-fn settle_mark(alloc: Global, standing: &Standing) -> Outcome {
-    let outcome = Outcome::of_first(mark(alloc, standing), standing.is_as_before());
-    match outcome {
-        Outcome::Wanting => Outcome::of_second(mark(alloc, standing)),
-        Outcome::Unprepared => Outcome::of_first(mark(alloc, standing), standing.is_as_before()),
-        _ => outcome,
+/// Each call by its name.
+const CALLS: &[(&str, Call)] = &[("is_apart", Call::Read), ("free_loops", Call::Mark)];
+
+impl Call {
+    fn ask(self, alloc: Global, standing: &Standing) -> Answer {
+        match self {
+            Call::Read => read(alloc, standing),
+            Call::Mark => mark(alloc, standing),
+        }
+    }
+
+    fn ask_first(self, alloc: Global, standing: &Standing) -> Outcome {
+        Outcome::of_first(self.ask(alloc, standing), standing.is_as_before())
+    }
+
+    /// Asks, and asks again after want of memory, or where what the call is handed could not be made.
+    fn settle(self, alloc: Global, standing: &Standing) -> Outcome {
+        match self.ask_first(alloc, standing) {
+            Outcome::Wanting => Outcome::of_second(self.ask(alloc, standing)),
+            Outcome::Unprepared => self.ask_first(alloc, standing),
+            outcome => outcome,
+        }
     }
 }
 
 fn settle_standing(rt: &HostRuntime, tally: &mut Tally, standing: &Standing) {
-    let read = settle_read(rt.alloc(), standing);
-    tally.note(rt, standing.row.title, "is_apart", read);
-    let marked = settle_mark(rt.alloc(), standing);
-    tally.note(rt, standing.row.title, "free_loops", marked);
+    for (name, call) in CALLS {
+        let outcome = call.settle(rt.alloc(), standing);
+        tally.note(rt, standing.row.title, *name, outcome);
+    }
 }
 
 fn settle_row(rt: &HostRuntime, tally: &mut Tally, row: &'static Row) {

@@ -148,7 +148,7 @@ fn union(maps: &Maps) -> Answer {
 }
 
 /// The calls.
-#[derive(Clone, Copy, PartialEq, Eq, Debug)]
+#[derive(Clone, Copy)]
 enum Call {
     AddLayer,
     Insert,
@@ -157,25 +157,16 @@ enum Call {
     Union,
 }
 
-const CALLS: &[Call] = &[
-    Call::AddLayer,
-    Call::Insert,
-    Call::WithFeatures,
-    Call::United,
-    Call::Union,
+/// Each call by its name.
+const CALLS: &[(&str, Call)] = &[
+    ("FeatureMap::add_layer", Call::AddLayer),
+    ("FeatureMap::insert", Call::Insert),
+    ("FeatureMap::with_features", Call::WithFeatures),
+    ("FeatureMap::united", Call::United),
+    ("FeatureMap::union", Call::Union),
 ];
 
 impl Call {
-    fn name(self) -> &'static str {
-        match self {
-            Call::AddLayer => "FeatureMap::add_layer",
-            Call::Insert => "FeatureMap::insert",
-            Call::WithFeatures => "FeatureMap::with_features",
-            Call::United => "FeatureMap::united",
-            Call::Union => "FeatureMap::union",
-        }
-    }
-
     fn ask(self, alloc: Global, maps: &Maps) -> Answer {
         match self {
             Call::WithFeatures => with_features(alloc, maps),
@@ -210,9 +201,9 @@ impl Call {
 }
 
 fn settle_calls(rt: &HostRuntime, tally: &mut Tally, maps: &Maps) {
-    for call in CALLS {
+    for (name, call) in CALLS {
         let outcome = call.settle_prepared(rt.alloc(), maps);
-        tally.note(rt, "maps of squares", call.name(), outcome);
+        tally.note(rt, "maps of squares", *name, outcome);
     }
 }
 

@@ -63,7 +63,7 @@ fn properties(alloc: Global) -> Answer {
 }
 
 /// The calls.
-#[derive(Clone, Copy, PartialEq, Eq, Debug)]
+#[derive(Clone, Copy)]
 enum Call {
     Ring,
     Line,
@@ -71,18 +71,15 @@ enum Call {
     Properties,
 }
 
-const CALLS: &[Call] = &[Call::Ring, Call::Line, Call::Name, Call::Properties];
+/// Each call by its name.
+const CALLS: &[(&str, Call)] = &[
+    ("Ring::from_closed", Call::Ring),
+    ("Line::from_positions", Call::Line),
+    ("Spelled::new", Call::Name),
+    ("Props::empty", Call::Properties),
+];
 
 impl Call {
-    fn name(self) -> &'static str {
-        match self {
-            Call::Ring => "Ring::from_closed",
-            Call::Line => "Line::from_positions",
-            Call::Name => "Spelled::new",
-            Call::Properties => "Props::empty",
-        }
-    }
-
     fn ask(self, alloc: Global) -> Answer {
         match self {
             Call::Ring => ring(alloc),
@@ -104,8 +101,8 @@ impl Call {
 
 /// Makes each of these parts.
 pub(crate) fn settle(rt: &HostRuntime, tally: &mut Tally) {
-    for call in CALLS {
+    for (name, call) in CALLS {
         let outcome = call.settle(rt.alloc());
-        tally.note(rt, "parts of features", call.name(), outcome);
+        tally.note(rt, "parts of features", *name, outcome);
     }
 }

@@ -152,7 +152,7 @@ fn fits(squares: &Squares) -> bool {
 }
 
 /// The calls.
-#[derive(Clone, Copy, PartialEq, Eq, Debug)]
+#[derive(Clone, Copy)]
 enum Call {
     WriteTopology,
     WriteLayer,
@@ -166,35 +166,21 @@ enum Call {
     Fits,
 }
 
-const CALLS: &[Call] = &[
-    Call::WriteTopology,
-    Call::WriteLayer,
-    Call::WriteFeatures,
-    Call::WriteMesh,
-    Call::WriteNeighbors,
-    Call::WriteNeighborIds,
-    Call::CountArcs,
-    Call::CountKinds,
-    Call::Bbox,
-    Call::Fits,
+/// Each call by its name.
+const CALLS: &[(&str, Call)] = &[
+    ("topo_io::write", Call::WriteTopology),
+    ("query::write_layer", Call::WriteLayer),
+    ("geojson_io::write", Call::WriteFeatures),
+    ("query::write_mesh", Call::WriteMesh),
+    ("query::write_neighbors", Call::WriteNeighbors),
+    ("query::write_neighbor_ids", Call::WriteNeighborIds),
+    ("query::count_arcs", Call::CountArcs),
+    ("query::count_kinds", Call::CountKinds),
+    ("Topology::bbox", Call::Bbox),
+    ("FeatureMap::fits", Call::Fits),
 ];
 
 impl Call {
-    fn name(self) -> &'static str {
-        match self {
-            Call::WriteTopology => "topo_io::write",
-            Call::WriteLayer => "query::write_layer",
-            Call::WriteFeatures => "geojson_io::write",
-            Call::WriteMesh => "query::write_mesh",
-            Call::WriteNeighbors => "query::write_neighbors",
-            Call::WriteNeighborIds => "query::write_neighbor_ids",
-            Call::CountArcs => "query::count_arcs",
-            Call::CountKinds => "query::count_kinds",
-            Call::Bbox => "Topology::bbox",
-            Call::Fits => "FeatureMap::fits",
-        }
-    }
-
     fn is_right(self, squares: &Squares) -> bool {
         match self {
             Call::WriteTopology => writes_topology(squares),
@@ -220,9 +206,9 @@ impl Call {
 }
 
 fn settle_all(rt: &HostRuntime, tally: &mut Tally, squares: &Squares) {
-    for call in CALLS {
+    for (name, call) in CALLS {
         let outcome = call.settle(squares);
-        tally.note_without_memory(rt, call.name(), outcome);
+        tally.note_without_memory(rt, *name, outcome);
     }
 }
 

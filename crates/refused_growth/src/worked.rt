@@ -77,7 +77,7 @@ impl Worked {
 }
 
 /// The calls.
-#[derive(Clone, Copy, PartialEq, Eq, Debug)]
+#[derive(Clone, Copy)]
 enum Call {
     ReadGeojson,
     ReadTopology,
@@ -100,53 +100,30 @@ enum Call {
     Union,
 }
 
-const CALLS: &[Call] = &[
-    Call::ReadGeojson,
-    Call::ReadTopology,
-    Call::ReadParts,
-    Call::IsCanonical,
-    Call::Build,
-    Call::BuildText,
-    Call::Expand,
-    Call::Features,
-    Call::Neighbors,
-    Call::Borders,
-    Call::Interior,
-    Call::Exterior,
-    Call::TextOf,
-    Call::Write,
-    Call::OfferToKept,
-    Call::OfferToScript,
-    Call::CopyTopology,
-    Call::CopyMap,
-    Call::Union,
+/// Each call by its name.
+const CALLS: &[(&str, Call)] = &[
+    ("geojson_io::read", Call::ReadGeojson),
+    ("topo_io::read", Call::ReadTopology),
+    ("topo_io::read_parts", Call::ReadParts),
+    ("topo_io::is_canonical", Call::IsCanonical),
+    ("Topology::build", Call::Build),
+    ("built_text::build_text", Call::BuildText),
+    ("Topology::expand", Call::Expand),
+    ("query::feature", Call::Features),
+    ("query::neighbors", Call::Neighbors),
+    ("query::mesh of all borders", Call::Borders),
+    ("query::mesh of interior borders", Call::Interior),
+    ("query::mesh of exterior borders", Call::Exterior),
+    ("topo_io::text_of", Call::TextOf),
+    ("topo_io::write", Call::Write),
+    ("Kept::offer", Call::OfferToKept),
+    ("Script::offer", Call::OfferToScript),
+    ("Topology::copy", Call::CopyTopology),
+    ("FeatureMap::copy", Call::CopyMap),
+    ("FeatureMap::union", Call::Union),
 ];
 
 impl Call {
-    fn name(self) -> &'static str {
-        match self {
-            Call::ReadGeojson => "geojson_io::read",
-            Call::ReadTopology => "topo_io::read",
-            Call::ReadParts => "topo_io::read_parts",
-            Call::IsCanonical => "topo_io::is_canonical",
-            Call::Build => "Topology::build",
-            Call::BuildText => "built_text::build_text",
-            Call::Expand => "Topology::expand",
-            Call::Features => "query::feature",
-            Call::Neighbors => "query::neighbors",
-            Call::Borders => "query::mesh of all borders",
-            Call::Interior => "query::mesh of interior borders",
-            Call::Exterior => "query::mesh of exterior borders",
-            Call::TextOf => "topo_io::text_of",
-            Call::Write => "topo_io::write",
-            Call::OfferToKept => "Kept::offer",
-            Call::OfferToScript => "Script::offer",
-            Call::CopyTopology => "Topology::copy",
-            Call::CopyMap => "FeatureMap::copy",
-            Call::Union => "FeatureMap::union",
-        }
-    }
-
     fn ask(self, alloc: Global, worked: &Worked) -> Answer {
         match self {
             Call::ReadGeojson => readers::read_geojson(alloc, worked),
@@ -183,9 +160,9 @@ impl Call {
 }
 
 fn settle_all(rt: &HostRuntime, tally: &mut Tally, worked: &Worked) {
-    for call in CALLS {
+    for (name, call) in CALLS {
         let outcome = call.settle(rt.alloc(), worked);
-        tally.note(rt, worked.row.title, call.name(), outcome);
+        tally.note(rt, worked.row.title, *name, outcome);
     }
 }
 
