@@ -33,7 +33,14 @@ table_made arcs seen again ls ends free marks e s a f m =
     (m ∙ f ∙ (λ i. map_list (goes_free (e i ++ gathered ends_once (a i))) (a i))
     ∙ ap (λ w. map_list (goes_free (gathered (line_ends w) (layers_lines ls) ++ gathered ends_once arcs)) arcs) s)
 
--- where the arcs are not apart, nothing stands
+-- where the lists don't stand, nothing does
+pub lists_decide : (t : Arcs) (ls : List LayerParts) (b : Bool) → (b ≡ true) ↔ ListsStand t (layers_lines ls) (layers_rings ls) → b ≡ false → (false ≡ true) ↔ StandInOrder t ls
+lists_decide t ls b lists e = ((λ h. absurd (no h)), (λ h. sym e ∙ lists.1 h.stand.lists))
+  where
+    no : false ≡ true → ⊥
+    no h = cc
+
+-- where the arcs are not apart, nothing does
 pub apart_decides : (t : Arcs) (ls : List LayerParts) (b : Bool) → IsApart b t → Ascends list_cmp t.arcs → b ≡ false → (false ≡ true) ↔ StandInOrder t ls
 apart_decides t ls b is sorted e = ((λ h. absurd (no h)), (λ h. sym e ∙ (is sorted).1 h.stand.apart))
   where
@@ -54,10 +61,3 @@ module _ (t : Arcs) (ls : List LayerParts) (apart : ArcsApart position_cmp t.arc
     (λ h. record { stand = record { apart = apart; lists = lists.0 e }; order = order.0 h }),
     (λ h. order.1 h.order),
   )
-
-  -- where they don't, nothing does
-  pub lists_decide : (b : Bool) → (b ≡ true) ↔ ListsStand t (layers_lines ls) (layers_rings ls) → b ≡ false → (false ≡ true) ↔ StandInOrder t ls
-  lists_decide b lists e = ((λ h. absurd (no h)), (λ h. sym e ∙ lists.1 h.stand.lists))
-    where
-      no : false ≡ true → ⊥
-      no h = cc

@@ -44,16 +44,17 @@ fn table_of(alloc: Global, arcs: Vec<Items<Pos>>, layers: &[Layer]) -> Result<Ar
     }
 }
 
-/// Whether layers stand in order over the arcs of a table, which are in order.
+/// Whether layers stand in order over the arcs of a table, which are in order. The lists are judged first,
+/// by the ends of the arcs alone, and only where they stand all other vertices are.
 fn stand_in_order(alloc: Global, table: &ArcTable, layers: &[Layer]) -> Result<bool, OutOfMemory>
     requires sorted { Ascends list_cmp table.now.arcs }
     requires ids { HaveI64 layers.now }
     ensures { IfOk result (λ b. (b ≡ true) ↔ StandInOrder table.now layers.now) }
 {
-    if !is_apart(alloc, table)? {
+    if !lists_stand(alloc, table, layers)? {
         return Ok(false);
     }
-    if !lists_stand(alloc, table, layers)? {
+    if !is_apart(alloc, table)? {
         return Ok(false);
     }
     in_order(alloc, table, layers)
