@@ -2,9 +2,11 @@
 //! begun at its least vertex, all by their positions; and the lists of layers by the new arcs.
 #![tactic(auto)]
 
+mod beyond_order;
 mod fitting;
 mod images;
 mod starts;
 pub mod whole;
 
+pub use beyond_order::is_beyond_order;
 pub use whole::{Arranged, arrange};

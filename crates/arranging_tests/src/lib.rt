@@ -2,6 +2,8 @@
 #![tactic(auto)]
 
 #[cfg(test)]
+mod arcs_beyond_order;
+#[cfg(test)]
 mod arranging_texts;
 #[cfg(test)]
 mod texts;

@@ -97,7 +97,7 @@ fn layer(alloc: Global, name: &str, listed: &Listed) -> Result<Layer, Fail> {
     Ok(Layer::new(Spelled::new(alloc, name)?, geometries))
 }
 
-fn layers_of(alloc: Global, layers: Layers) -> Result<Vec<Layer>, Fail> {
+pub(crate) fn layers_of(alloc: Global, layers: Layers) -> Result<Vec<Layer>, Fail> {
     let mut made = Vec::new(alloc);
     for (name, listed) in layers {
         made.push(layer(alloc, name, listed)?)?;

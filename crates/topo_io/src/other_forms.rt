@@ -5,7 +5,7 @@ ghost use Rattle.taking.specs.Laws.{HaveI64};
 ghost use Rattle.topo_io.specs.Means.{MeansTopology};
 ghost use Rattle.topo_io.specs.Parts.{AreSaid};
 
-use arranging::arrange;
+use arranging::{arrange, is_beyond_order};
 use faults::OutOfMemory;
 use grid::transform::Grid;
 use std::alloc::Global;
@@ -28,6 +28,9 @@ pub(crate) fn rearranged(
     ensures means { IfOk result (λ o. IfSome o (λ t. (bytes : List ℕ) → AreSaid bytes grid arcs.now layers.now → MeansTopology bytes t)) }
     ensures few { IfOk result (λ o. IfSome o (λ t. length t.arcs.arcs < 2 ^ 63)) }
 {
+    if is_beyond_order(alloc, arcs, layers)? {
+        return Ok(None);
+    }
     let Some(ordered) = arrange(alloc, arcs, layers)? else {
         return Ok(None);
     };
