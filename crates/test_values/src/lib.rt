@@ -1,7 +1,7 @@
 //! What crates of tests share, whatever they test: tables of rows, and faults as they are printed.
 #![tactic(auto)]
 
+mod printed;
 mod tables;
-mod told;
 
-pub use told::told;
+pub use printed::told;

@@ -1,11 +1,10 @@
 //! Lists of lines and of rings that stand over a table of arcs, and ends that meet.
-use crate::drawn::{
-    A, Arcs, B, C, D, E, LOOP, Marks, Place, Places, ROUND, are_ends, lists, positions, refs, table,
-};
+use crate::tests::drawn::{A, Arcs, B, C, D, E, LOOP, Marks, Place, ROUND, are_ends, table};
 use standing::{ArcsUsed, add_line_ends, ends_meet, line_run, ring_stands};
 use std::alloc::Global;
 use std::process::Abort;
 use std::test::Fail;
+use worked_maps::{Places, lists, positions, refs_of};
 
 /// Arcs, a line's list of them, and where the line begins and ends; none where the list doesn't stand.
 const LINES: &[(&str, Arcs, Marks, &[i64], Option<(Place, Place)>)] = &[
@@ -42,7 +41,7 @@ fn line_runs(
 ) -> Result<bool, Fail> {
     let table = table(alloc, arcs, free)?;
     let mut used = ArcsUsed::none(alloc, table.len())?;
-    let list = refs(alloc, indexes)?;
+    let list = refs_of(alloc, indexes)?;
     Ok(are_ends(line_run(&table, &mut used, &list), ends))
 }
 
@@ -96,7 +95,7 @@ const RINGS: &[(&str, Arcs, Marks, &[i64], bool)] = &[
 fn ring(alloc: Global, arcs: Arcs, free: Marks, indexes: &[i64]) -> Result<bool, Fail> {
     let table = table(alloc, arcs, free)?;
     let mut used = ArcsUsed::none(alloc, table.len())?;
-    let list = refs(alloc, indexes)?;
+    let list = refs_of(alloc, indexes)?;
     Ok(ring_stands(&table, &mut used, &list))
 }
 
@@ -113,8 +112,8 @@ fn lists_of_rings(rt: HostRuntime) -> Result<(), Fail> {
 #[test]
 fn arcs_that_lists_use(rt: HostRuntime) -> Result<(), Fail> {
     let arcs = table(rt.alloc(), ROUND, &[])?;
-    let line = refs(rt.alloc(), &[1, 2])?;
-    let ring = refs(rt.alloc(), &[0, -3, -2])?;
+    let line = refs_of(rt.alloc(), &[1, 2])?;
+    let ring = refs_of(rt.alloc(), &[0, -3, -2])?;
     let mut used = ArcsUsed::none(rt.alloc(), arcs.len())?;
     let all_before = used.all();
     let line_runs = line_run(&arcs, &mut used, &line).is_some();
@@ -168,7 +167,7 @@ fn ends_of_lines(rt: HostRuntime) -> Result<(), Fail> {
     let arcs = lists(rt.alloc(), ROUND)?;
     let mut ends = Vec::new(rt.alloc());
     for indexes in LINE_LISTS {
-        add_line_ends(&mut ends, &arcs, &refs(rt.alloc(), *indexes)?)?;
+        add_line_ends(&mut ends, &arcs, &refs_of(rt.alloc(), *indexes)?)?;
     }
     assert!(rt; ends == positions(rt.alloc(), &[A, C, B, A])?);
     Ok(())
