@@ -57,7 +57,7 @@ const NOT_STITCHED: &[(&str, &str)] = rows! {
         r#"{"a":{"type":"LineString","arcs":[0,1]}}"#);
     "a line forth and back", topology!("[[[0,0],[1,0]]]", r#"{"a":{"type":"LineString","arcs":[0,-1]}}"#);
     "a line of no arcs", topology!("[[[0,0],[1,0]]]", r#"{"a":{"type":"LineString","arcs":[]}}"#);
-    "an arc that is no ring", topology!("[[[0,0],[1,0]]]", r#"{"a":{"type":"Polygon","arcs":[[0]]}}"#);
+    "a ring that doesn't close, of one segment", topology!("[[[0,0],[1,0]]]", r#"{"a":{"type":"Polygon","arcs":[[0]]}}"#);
     "the second line uses an arc twice", topology!("[[[0,0],[1,0],[0,1]]]",
         r#"{"a":{"type":"MultiLineString","arcs":[[0],[0,0]]}}"#);
     "a ring that doesn't close", topology!("[[[0,0],[1,0],[0,1],[-1,0]]]",
