@@ -52,12 +52,6 @@ fn out_of_order<T: Ord>(list: &[T]) -> Option<usize> {
 }
 
 #[test]
-fn features_are_ordered(rt: HostRuntime) -> Result<(), Fail> {
-    assert_eq!(rt; out_of_order(features(rt.alloc())?.as_slice()), None);
-    Ok(())
-}
-
-#[test]
 fn copies_of_features(rt: HostRuntime) -> Result<(), Fail> {
     for (place, feature) in features(rt.alloc())?.iter().enumerate() {
         assert!(rt; feature.copy(rt.alloc())? == *feature, "{place}");
@@ -91,7 +85,8 @@ fn shapes(alloc: Global) -> Result<Vec<Shape>, Fail> {
 }
 
 #[test]
-fn shapes_are_ordered(rt: HostRuntime) -> Result<(), Fail> {
+fn features_and_shapes_are_ordered(rt: HostRuntime) -> Result<(), Fail> {
+    assert_eq!(rt; out_of_order(features(rt.alloc())?.as_slice()), None);
     assert_eq!(rt; out_of_order(shapes(rt.alloc())?.as_slice()), None);
     Ok(())
 }
