@@ -229,7 +229,7 @@ fn expands_to(alloc: Global, topology: &Topology, map: &FeatureMap) -> Result<bo
 /// Whether a copy of the topology of a map expands to the map.
 fn is_expanded(alloc: Global, layers: &[Layer]) -> Result<bool, Fail> {
     let map = map_of(alloc, layers)?;
-    let copy = copy_of_topology(alloc, layers)?;
+    let copy = topology_of(alloc, layers)?.copy(alloc)?;
     expands_to(alloc, &copy, &map)
 }
 
