@@ -64,24 +64,37 @@ fn texts_that_are_taken(rt: HostRuntime) -> Result<(), Fail> {
     check_rows(&rt, rt.alloc(), TAKEN, true)
 }
 
-/// Two geometries of a kind, by the lists of arcs of each.
+/// The same of two geometries of a kind, by the lists of arcs of each.
 macro_rules! pair {
-    ($kind:literal, $one:literal, $other:literal) => {
-        concat!(r#"[{"type":""#, $kind, r#"","arcs":"#, $one, r#"},{"type":""#, $kind, r#"","arcs":"#, $other, "}]")
+    ($arcs:literal, $kind:literal, $one:literal, $other:literal) => {
+        collection!(
+            $arcs,
+            concat!(
+                r#"[{"type":""#,
+                $kind,
+                r#"","arcs":"#,
+                $one,
+                r#"},{"type":""#,
+                $kind,
+                r#"","arcs":"#,
+                $other,
+                "}]"
+            )
+        )
     };
 }
 
 /// Texts that fail one check each, and the canonical text of what each means.
 const OTHERS: &[(&str, &str, &str)] = rows! {
-    "arcs out of order", collection!("[[[1,0],[0,1]],[[1,0],[-1,0],[0,1],[1,0]],[[1,0],[1,0],[0,1],[-1,0]]]", pair!("Polygon", "[[0,-2]]", "[[2,-1]]")), SQUARES;
-    "an arc against its direction", collection!("[[[1,0],[-1,0],[0,1],[1,0]],[[1,0],[1,0],[0,1],[-1,0]],[[1,1],[0,-1]]]", pair!("Polygon", "[[-3,-1]]", "[[1,2]]")), SQUARES;
-    "an arc that no list uses", collection!("[[[1,0],[-1,0],[0,1],[1,0]],[[1,0],[0,1]],[[1,0],[1,0],[0,1],[-1,0]],[[3,3],[1,1]]]", pair!("Polygon", "[[1,-1]]", "[[2,-2]]")), SQUARES;
-    "a border cut at a vertex of two", collection!("[[[0,0],[0,1],[1,0]],[[0,0],[1,0]],[[1,0],[0,1]],[[1,0],[1,0],[0,1],[-1,0]]]", pair!("Polygon", "[[1,2,-1]]", "[[3,-3]]")), SQUARES;
-    "two lines that are not cut where they meet", collection!("[[[0,0],[1,0],[1,0]],[[1,0],[0,1]]]", pair!("LineString", "[0]", "[1]")), LINES;
-    "lines that go on across a junction", collection!("[[[0,1],[1,0],[1,0]],[[1,0],[0,1],[0,1]]]", pair!("LineString", "[0]", "[1]")), CROSSING;
+    "arcs out of order", pair!("[[[1,0],[0,1]],[[1,0],[-1,0],[0,1],[1,0]],[[1,0],[1,0],[0,1],[-1,0]]]", "Polygon", "[[0,-2]]", "[[2,-1]]"), SQUARES;
+    "an arc against its direction", pair!("[[[1,0],[-1,0],[0,1],[1,0]],[[1,0],[1,0],[0,1],[-1,0]],[[1,1],[0,-1]]]", "Polygon", "[[-3,-1]]", "[[1,2]]"), SQUARES;
+    "an arc that no list uses", pair!("[[[1,0],[-1,0],[0,1],[1,0]],[[1,0],[0,1]],[[1,0],[1,0],[0,1],[-1,0]],[[3,3],[1,1]]]", "Polygon", "[[1,-1]]", "[[2,-2]]"), SQUARES;
+    "a border cut at a vertex of two", pair!("[[[0,0],[0,1],[1,0]],[[0,0],[1,0]],[[1,0],[0,1]],[[1,0],[1,0],[0,1],[-1,0]]]", "Polygon", "[[1,2,-1]]", "[[3,-3]]"), SQUARES;
+    "two lines that are not cut where they meet", pair!("[[[0,0],[1,0],[1,0]],[[1,0],[0,1]]]", "LineString", "[0]", "[1]"), LINES;
+    "lines that go on across a junction", pair!("[[[0,1],[1,0],[1,0]],[[1,0],[0,1],[0,1]]]", "LineString", "[0]", "[1]"), CROSSING;
     "a loop begun elsewhere", collection!("[[[1,0],[-1,0],[0,1],[1,0],[0,-1]]]", r#"[{"type":"Polygon","arcs":[[-1]]}]"#), ONE_SQUARE;
-    "a ring begun elsewhere", collection!("[[[1,0],[-1,0],[0,1],[1,0]],[[1,0],[0,1]],[[1,0],[1,0],[0,1],[-1,0]]]", pair!("Polygon", "[[-1,1]]", "[[2,-2]]")), SQUARES;
-    "features out of order", collection!("[[[1,0],[-1,0],[0,1],[1,0]],[[1,0],[0,1]],[[1,0],[1,0],[0,1],[-1,0]]]", pair!("Polygon", "[[2,-2]]", "[[1,-1]]")), SQUARES;
+    "a ring begun elsewhere", pair!("[[[1,0],[-1,0],[0,1],[1,0]],[[1,0],[0,1]],[[1,0],[1,0],[0,1],[-1,0]]]", "Polygon", "[[-1,1]]", "[[2,-2]]"), SQUARES;
+    "features out of order", pair!("[[[1,0],[-1,0],[0,1],[1,0]],[[1,0],[0,1]],[[1,0],[1,0],[0,1],[-1,0]]]", "Polygon", "[[2,-2]]", "[[1,-1]]"), SQUARES;
     "a feature twice", collection!("[[[1,0],[-1,0],[0,1],[1,0]],[[1,0],[0,1]],[[1,0],[1,0],[0,1],[-1,0]]]", r#"[{"type":"Polygon","arcs":[[1,-1]]},{"type":"Polygon","arcs":[[1,-1]]},{"type":"Polygon","arcs":[[2,-2]]}]"#), SQUARES;
 };
 
