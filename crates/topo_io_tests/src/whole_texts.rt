@@ -64,7 +64,7 @@ fn texts_that_are_taken(rt: HostRuntime) -> Result<(), Fail> {
     check_rows(&rt, rt.alloc(), TAKEN, true)
 }
 
-/// The same of two geometries of a kind, by the lists of arcs of each.
+/// The text of `collection!` with two geometries of a kind, by the lists of arcs of each.
 macro_rules! pair {
     ($arcs:literal, $kind:literal, $one:literal, $other:literal) => {
         collection!(
