@@ -2,18 +2,4 @@
 #![tactic(auto)]
 
 #[cfg(test)]
-mod drawn;
-#[cfg(test)]
-mod equal;
-#[cfg(test)]
-mod grids;
-#[cfg(test)]
-mod members;
-#[cfg(test)]
-mod numbered;
-#[cfg(test)]
-mod pieces;
-#[cfg(test)]
-mod repeated;
-#[cfg(test)]
-mod taken;
+mod tests;

@@ -1,25 +1,22 @@
 //! Lines and rings that are cut into pieces, and the tables of their arcs.
-use crate::drawn::{Drawn, Places, TRIANGLE, index_of, line_pieces, ring_pieces, stand_at};
+use crate::drawn::{Of, index_of, pieces, stand_at};
 use chains::{ArcRef, ArcTable, Piece, VisitIndex};
 use std::alloc::Global;
 use std::process::Abort;
 use std::test::Fail;
+use worked_maps::{Drawn, FIRST, Places, TRIANGLE, TURNED_TRIANGLE};
 
 /// A line or a ring, and the indexes of the arcs that it uses.
-type List = (Places, &'static [i64]);
+type List = (Of, Places, &'static [i64]);
 
 /// A map, lines and rings of it that are cut, and the arcs of their table, which may be free loops.
 #[derive(Clone, Copy)]
 struct Row {
     title: &'static str,
     map: Drawn,
-    lines: &'static [List],
-    rings: &'static [List],
+    lists: &'static [List],
     arcs: &'static [(Places, bool)],
 }
-
-/// The triangle along the direction of its arc.
-const LOOP: Places = &[(0, 0), (0, 2), (2, 0), (0, 0)];
 
 const ONE_TRIANGLE: Drawn = Drawn {
     lines: &[],
@@ -29,9 +26,8 @@ const ONE_TRIANGLE: Drawn = Drawn {
 const FREE_LOOP: Row = Row {
     title: "a free loop used reversed",
     map: ONE_TRIANGLE,
-    lines: &[],
-    rings: &[(TRIANGLE, &[-1])],
-    arcs: &[(LOOP, true)],
+    lists: &[(Of::Ring, TRIANGLE, &[-1])],
+    arcs: &[(TURNED_TRIANGLE, true)],
 };
 
 const STRAIGHT: Places = &[(0, 0), (1, 0), (2, 0)];
@@ -44,12 +40,9 @@ const LEFT_LINE: Row = Row {
         lines: &[STRAIGHT, BENT],
         rings: &[],
     },
-    lines: &[(STRAIGHT, &[0, 1])],
-    rings: &[],
+    lists: &[(Of::Line, STRAIGHT, &[0, 1])],
     arcs: &[(&[(0, 0), (1, 0)], false), (&[(1, 0), (2, 0)], false)],
 };
-
-const FIRST: Places = &[(0, 0), (1, 0), (1, 1), (0, 1), (0, 0)];
 
 const SECOND: Places = &[(1, 1), (2, 1), (2, 2), (1, 2), (1, 1)];
 
@@ -64,8 +57,7 @@ const FROM_SEAM: Row = Row {
         lines: &[&[(0, 0), (1, 0)]],
         rings: &[],
     },
-    lines: &[(&[(0, 0), (1, 0)], &[0])],
-    rings: &[],
+    lists: &[(Of::Line, &[(0, 0), (1, 0)], &[0])],
     arcs: &[(&[(0, 0), (1, 0)], false)],
 };
 
@@ -76,15 +68,13 @@ const ROWS: &[Row] = &[
     Row {
         title: "one piece twice",
         map: ONE_TRIANGLE,
-        lines: &[],
-        rings: &[(TRIANGLE, &[-1]), (TRIANGLE, &[-1])],
-        arcs: &[(LOOP, true)],
+        lists: &[(Of::Ring, TRIANGLE, &[-1]), (Of::Ring, TRIANGLE, &[-1])],
+        arcs: &[(TURNED_TRIANGLE, true)],
     },
     Row {
         title: "no pieces",
         map: ONE_TRIANGLE,
-        lines: &[],
-        rings: &[],
+        lists: &[],
         arcs: &[],
     },
     Row {
@@ -93,8 +83,7 @@ const ROWS: &[Row] = &[
             lines: &[],
             rings: &[FIRST, SECOND],
         },
-        lines: &[],
-        rings: &[(FIRST, &[0]), (SECOND, &[-2])],
+        lists: &[(Of::Ring, FIRST, &[0]), (Of::Ring, SECOND, &[-2])],
         arcs: &[
             (&[(1, 1), (0, 1), (0, 0), (1, 0), (1, 1)], false),
             (&[(1, 1), (1, 2), (2, 2), (2, 1), (1, 1)], false),
@@ -106,8 +95,7 @@ const ROWS: &[Row] = &[
             lines: &[],
             rings: &[EIGHT],
         },
-        lines: &[],
-        rings: &[(EIGHT, &[0, 1])],
+        lists: &[(Of::Ring, EIGHT, &[0, 1])],
         arcs: &[
             (&[(1, 1), (0, 0), (2, 0), (1, 1)], false),
             (&[(1, 1), (0, 2), (2, 2), (1, 1)], false),
@@ -119,8 +107,7 @@ const ROWS: &[Row] = &[
             lines: &[CROSSING],
             rings: &[],
         },
-        lines: &[(CROSSING, &[0, -3, -2])],
-        rings: &[],
+        lists: &[(Of::Line, CROSSING, &[0, -3, -2])],
         arcs: &[
             (&[(0, 0), (1, 1)], false),
             (&[(0, 2), (1, 1)], false),
@@ -131,14 +118,11 @@ const ROWS: &[Row] = &[
 
 /// The pieces of the lines and rings of a row.
 fn pieces_of(alloc: Global, index: &VisitIndex, row: &Row) -> Result<Vec<Piece>, Fail> {
-    let mut pieces = Vec::new(alloc);
-    for (places, _) in row.lines {
-        pieces.append(&mut line_pieces(alloc, index, *places)?)?;
+    let mut made = Vec::new(alloc);
+    for (of, places, _) in row.lists {
+        made.append(&mut pieces(alloc, index, *of, *places)?)?;
     }
-    for (places, _) in row.rings {
-        pieces.append(&mut ring_pieces(alloc, index, *places)?)?;
-    }
-    Ok(pieces)
+    Ok(made)
 }
 
 fn is_arc(table: &ArcTable, number: usize, places: Places) -> bool {
@@ -170,7 +154,7 @@ fn are_used(table: &ArcTable, pieces: &[Piece], indexes: &[i64]) -> bool {
 }
 
 fn table_of(alloc: Global, row: &Row) -> Result<ArcTable, Fail> {
-    let index = index_of(alloc, &row.map)?;
+    let index = index_of(alloc, row.map)?;
     Ok(ArcTable::from_pieces(alloc, pieces_of(alloc, &index, row)?)?)
 }
 
@@ -187,14 +171,9 @@ fn tables_of_rows(rt: HostRuntime) -> Result<(), Fail> {
 
 /// Whether the lines and rings of a row use the arcs that it says.
 fn lists_are_used(alloc: Global, table: &ArcTable, row: &Row) -> Result<bool, Fail> {
-    let index = index_of(alloc, &row.map)?;
-    for (places, indexes) in row.lines {
-        if !are_used(table, &line_pieces(alloc, &index, *places)?, *indexes) {
-            return Ok(false);
-        }
-    }
-    for (places, indexes) in row.rings {
-        if !are_used(table, &ring_pieces(alloc, &index, *places)?, *indexes) {
+    let index = index_of(alloc, row.map)?;
+    for (of, places, indexes) in row.lists {
+        if !are_used(table, &pieces(alloc, &index, *of, *places)?, *indexes) {
             return Ok(false);
         }
     }
@@ -214,7 +193,7 @@ fn used_arcs_of_rows(rt: HostRuntime) -> Result<(), Fail> {
 type Part = (Places, bool, bool);
 
 const PARTS: &[(Row, &[Part])] = &[
-    (FREE_LOOP, &[(LOOP, true, true)]),
+    (FREE_LOOP, &[(TURNED_TRIANGLE, true, true)]),
     (
         LEFT_LINE,
         &[
@@ -230,7 +209,7 @@ fn is_part(piece: &Piece, part: &Part) -> bool {
 
 /// Whether the lines and rings of a row are cut into these parts.
 fn are_parts(alloc: Global, row: &Row, parts: &[Part]) -> Result<bool, Fail> {
-    let index = index_of(alloc, &row.map)?;
+    let index = index_of(alloc, row.map)?;
     let pieces = pieces_of(alloc, &index, row)?;
     for (piece, part) in pieces.iter().zip(parts) {
         if !is_part(piece, part) {
@@ -249,7 +228,7 @@ fn pieces_of_rows(rt: HostRuntime) -> Result<(), Fail> {
 }
 
 fn pieces_of_map(alloc: Global, row: &Row) -> Result<Vec<Piece>, Fail> {
-    let index = index_of(alloc, &row.map)?;
+    let index = index_of(alloc, row.map)?;
     pieces_of(alloc, &index, row)
 }
 

@@ -1,9 +1,10 @@
 //! Junctions, segments, and indexes of used arcs.
-use crate::drawn::{Drawn, Places, TRIANGLE, index_of, place};
+use crate::drawn::index_of;
 use chains::{ArcRef, Segment, VisitIndex};
 use grid::pos::Pos;
 use std::process::Abort;
 use std::test::Fail;
+use worked_maps::{Drawn, Places, TRIANGLE};
 
 /// Maps, places that are junctions, and places that are none.
 const JUNCTIONS: &[(&str, Drawn, Places, Places)] = &[
@@ -58,11 +59,15 @@ fn are_junctions(index: &VisitIndex, places: Places, junctions: bool) -> bool {
 #[test]
 fn junctions_of_maps(rt: HostRuntime) -> Result<(), Fail> {
     for (title, map, junctions, others) in JUNCTIONS {
-        let index = index_of(rt.alloc(), map)?;
+        let index = index_of(rt.alloc(), *map)?;
         assert!(rt; are_junctions(&index, *junctions, true), "{title}");
         assert!(rt; are_junctions(&index, *others, false), "{title}");
     }
     Ok(())
+}
+
+fn place(x: i64, y: i64) -> Result<Pos, Fail> {
+    Ok(Pos::new(x, y).ok_or("outside the limits")?)
 }
 
 #[test]

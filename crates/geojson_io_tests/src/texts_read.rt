@@ -1,132 +1,34 @@
 //! GeoJSON texts as they are read: their least faults, and the features of a collection.
-use faults::{Fault, Step};
 use geojson_io::read;
 use grid::{Grid, Pos};
 use shapes::{Feature, Items, Ring, Shape};
-use std::alloc::{AllocError, Global};
+use std::alloc::Global;
 use std::test::Fail;
-
-fn add_step(line: &mut String, step: &Step) -> Result<(), AllocError> {
-    match step {
-        Step::Name(name) => write!(line, "/{name}"),
-        Step::Index(index) => write!(line, "/{index}"),
-    }
-}
-
-fn line_of(alloc: Global, fault: &Fault) -> Result<String, AllocError> {
-    let mut line = format!(in alloc; "{} $", fault.kind.number())?;
-    for step in &fault.path {
-        add_step(&mut line, step)?;
-    }
-    Ok(line)
-}
-
-/// The fault's number and path, as they are printed; or that there is none.
-fn told(alloc: Global, fault: Option<&Fault>) -> Result<String, AllocError> {
-    match fault {
-        Some(fault) => line_of(alloc, fault),
-        None => String::from_str(alloc, "accepted"),
-    }
-}
+use test_values::{rows, told};
 
 fn grid(scale: i64) -> Result<Grid, Fail> {
     Ok(Grid::new(scale, scale, 0, 0).ok_or("no grid")?)
 }
 
 /// Texts, the scale of the grid that each is read on, and its least fault.
-const FAULTS: &[(&str, i64, &str, &str)] = &[
-    (
-        "a coordinate, before an id and properties",
-        1,
-        r#"{"features":[{"properties":{"a":1.5},"id":true,"geometry":{"type":"Point","coordinates":[1.5,2]},"type":"Feature"}],"type":"FeatureCollection"}"#,
-        "5 $/features/0/geometry/coordinates/0",
-    ),
-    (
-        "the third position of a long line",
-        1,
-        r#"{"type":"LineString","coordinates":[[0,0],[1,0],[true,0],[3,0],[4,0],[5,0],[6,0],[7,0],[8,0],[9,0],[1]]}"#,
-        "3 $/coordinates/2/0",
-    ),
-    (
-        "the type of a geometry, before the coordinates and the id",
-        1,
-        r#"{"type":"Feature","geometry":{"type":"Circle","coordinates":5},"id":1.5}"#,
-        "4 $/geometry/type",
-    ),
-    (
-        "no coordinates",
-        1,
-        r#"{"type":"Point"}"#,
-        "2 $/coordinates",
-    ),
-    ("no text", 1, r#""#, "1 $"),
-    (
-        "a number that is not whole",
-        1,
-        r#"{"type":"Point","coordinates":[1.0,2]}"#,
-        "5 $/coordinates/0",
-    ),
-    (
-        "a number past the greatest",
-        1,
-        r#"{"type":"Point","coordinates":[1099511627777,0]}"#,
-        "6 $/coordinates/0",
-    ),
-    (
-        "the greatest number",
-        1,
-        r#"{"type":"Point","coordinates":[1099511627776,0]}"#,
-        "accepted",
-    ),
-    (
-        "three coordinates",
-        1,
-        r#"{"type":"Point","coordinates":[1,2,3]}"#,
-        "16 $/coordinates",
-    ),
-    (
-        "a ring that is not closed",
-        1,
-        r#"{"type":"Polygon","coordinates":[[[0,0],[1,0],[1,1]]]}"#,
-        "9 $/coordinates/0",
-    ),
-    (
-        "a line of one position",
-        1,
-        r#"{"type":"LineString","coordinates":[[3,3],[3,3]]}"#,
-        "8 $/coordinates",
-    ),
-    (
-        "a line along a segment again",
-        1,
-        r#"{"type":"LineString","coordinates":[[0,0],[1,0],[0,0],[2,0]]}"#,
-        "10 $/coordinates",
-    ),
-    (
-        "a collection of geometries",
-        1,
-        r#"{"type":"GeometryCollection","geometries":[]}"#,
-        "4 $/type",
-    ),
-    (
-        "an id, before properties of the wrong kind",
-        1,
-        r#"{"type":"Feature","id":1.5,"properties":[]}"#,
-        "5 $/id",
-    ),
-    (
-        "a number in properties that is not whole",
-        1,
-        r#"{"type":"Feature","properties":{"a":1.5}}"#,
-        "13 $/properties",
-    ),
-    (
-        "off a coarse grid",
-        10,
-        r#"{"type":"Point","coordinates":[5,10]}"#,
-        "7 $/coordinates/0",
-    ),
-];
+const FAULTS: &[(&str, i64, &str, &str)] = rows! {
+    "a coordinate, before an id and properties", 1, r#"{"features":[{"properties":{"a":1.5},"id":true,"geometry":{"type":"Point","coordinates":[1.5,2]},"type":"Feature"}],"type":"FeatureCollection"}"#, "5 $/features/0/geometry/coordinates/0";
+    "the third position of a long line", 1, r#"{"type":"LineString","coordinates":[[0,0],[1,0],[true,0],[3,0],[4,0],[5,0],[6,0],[7,0],[8,0],[9,0],[1]]}"#, "3 $/coordinates/2/0";
+    "the type of a geometry, before the coordinates and the id", 1, r#"{"type":"Feature","geometry":{"type":"Circle","coordinates":5},"id":1.5}"#, "4 $/geometry/type";
+    "no coordinates", 1, r#"{"type":"Point"}"#, "2 $/coordinates";
+    "no text", 1, r#""#, "1 $";
+    "a number that is not whole", 1, r#"{"type":"Point","coordinates":[1.0,2]}"#, "5 $/coordinates/0";
+    "a number past the greatest", 1, r#"{"type":"Point","coordinates":[1099511627777,0]}"#, "6 $/coordinates/0";
+    "the greatest number", 1, r#"{"type":"Point","coordinates":[1099511627776,0]}"#, "accepted";
+    "three coordinates", 1, r#"{"type":"Point","coordinates":[1,2,3]}"#, "16 $/coordinates";
+    "a ring that is not closed", 1, r#"{"type":"Polygon","coordinates":[[[0,0],[1,0],[1,1]]]}"#, "9 $/coordinates/0";
+    "a line of one position", 1, r#"{"type":"LineString","coordinates":[[3,3],[3,3]]}"#, "8 $/coordinates";
+    "a line along a segment again", 1, r#"{"type":"LineString","coordinates":[[0,0],[1,0],[0,0],[2,0]]}"#, "10 $/coordinates";
+    "a collection of geometries", 1, r#"{"type":"GeometryCollection","geometries":[]}"#, "4 $/type";
+    "an id, before properties of the wrong kind", 1, r#"{"type":"Feature","id":1.5,"properties":[]}"#, "5 $/id";
+    "a number in properties that is not whole", 1, r#"{"type":"Feature","properties":{"a":1.5}}"#, "13 $/properties";
+    "off a coarse grid", 10, r#"{"type":"Point","coordinates":[5,10]}"#, "7 $/coordinates/0";
+};
 
 fn read_told(alloc: Global, scale: i64, text: &str) -> Result<String, Fail> {
     let grid = grid(scale)?;

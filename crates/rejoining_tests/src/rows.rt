@@ -7,12 +7,19 @@ use worked_maps::{
     same_arcs, topology_of,
 };
 
+/// What a list of arcs is that of.
+#[derive(Clone, Copy)]
+enum Of {
+    Line,
+    Ring,
+}
+
 /// A list of old arcs, and of new ones that it becomes.
-type Become = (&'static [i64], &'static [i64]);
+type Become = (Of, &'static [i64], &'static [i64]);
 
 /// A map, what is left of it, which of its arcs are used by that, and where the lines that are left
 /// begin and end; for each new arc the indexes of the old ones that it is joined of; and lists of
-/// lines and of rings that are left, with what they become.
+/// the lines and rings that are left, with what they become.
 #[derive(Clone, Copy)]
 struct Row {
     title: &'static str,
@@ -21,8 +28,7 @@ struct Row {
     kept: &'static [bool],
     ends: Places,
     pieces: &'static [&'static [i64]],
-    lines: &'static [Become],
-    rings: &'static [Become],
+    lists: &'static [Become],
 }
 
 const NOTHING: Drawn = Drawn {
@@ -44,8 +50,7 @@ const ROWS: &[Row] = &[
         kept: &[true, true, false, false, true, true],
         ends: &[],
         pieces: &[&[0, -2], &[4, -6]],
-        lines: &[],
-        rings: &[(&[1, -1], &[-1]), (&[5, -5], &[-2])],
+        lists: &[(Of::Ring, &[1, -1], &[-1]), (Of::Ring, &[5, -5], &[-2])],
     },
     Row {
         title: "one of two squares with a shared edge",
@@ -57,8 +62,7 @@ const ROWS: &[Row] = &[
         kept: &[true, true, false],
         ends: &[],
         pieces: &[&[0, -2]],
-        lines: &[],
-        rings: &[(&[1, -1], &[-1])],
+        lists: &[(Of::Ring, &[1, -1], &[-1])],
     },
     Row {
         title: "a line that makes a junction",
@@ -73,8 +77,7 @@ const ROWS: &[Row] = &[
         kept: &[true, false, true],
         ends: &[(0, 0), (2, 0)],
         pieces: &[&[0, 2]],
-        lines: &[(&[0, 2], &[0])],
-        rings: &[],
+        lists: &[(Of::Line, &[0, 2], &[0])],
     },
     Row {
         title: "a line from the side of a loop",
@@ -89,8 +92,7 @@ const ROWS: &[Row] = &[
         kept: &[true, false],
         ends: &[],
         pieces: &[&[0]],
-        lines: &[],
-        rings: &[(&[-1], &[-1])],
+        lists: &[(Of::Ring, &[-1], &[-1])],
     },
     Row {
         title: "the loop that a line begins on",
@@ -105,8 +107,7 @@ const ROWS: &[Row] = &[
         kept: &[false, true],
         ends: &[(2, 0), (3, 0)],
         pieces: &[&[1]],
-        lines: &[(&[1], &[0])],
-        rings: &[],
+        lists: &[(Of::Line, &[1], &[0])],
     },
     Row {
         title: "all",
@@ -115,8 +116,7 @@ const ROWS: &[Row] = &[
         kept: &[false, false, false],
         ends: &[],
         pieces: &[],
-        lines: &[],
-        rings: &[],
+        lists: &[],
     },
 ];
 
@@ -142,40 +142,26 @@ fn are_pieces(made: &Rejoined, lists: &[&[i64]]) -> bool {
     made.pieces(lists.len()).is_none()
 }
 
-#[test]
-fn pieces_of_rows(rt: HostRuntime) -> Result<(), Fail> {
-    for row in ROWS {
-        let made = rejoin_row(rt.alloc(), row)?;
-        assert!(rt; are_pieces(&made, row.pieces), "{}", row.title);
-    }
-    Ok(())
-}
-
 /// Whether the arcs that are joined again are those of the topology of what is left.
-fn are_arcs_of_left(alloc: Global, row: &Row) -> Result<bool, Fail> {
-    let made = rejoin_row(alloc, row)?;
-    let left = topology_of(alloc, &[row.left])?;
+fn are_arcs_of_left(alloc: Global, made: &Rejoined, left: Drawn) -> Result<bool, Fail> {
+    let left = topology_of(alloc, &[left])?;
     Ok(same_arcs(made.arcs(), left.arcs()))
 }
 
-#[test]
-fn arcs_are_those_of_what_is_left(rt: HostRuntime) -> Result<(), Fail> {
-    for row in ROWS {
-        assert!(rt; are_arcs_of_left(rt.alloc(), row)?, "{}", row.title);
-    }
-    Ok(())
+fn becomes(alloc: Global, made: &Rejoined, list: &Become) -> Result<bool, Fail> {
+    let (of, old, new) = list;
+    let refs = refs_of(alloc, *old)?;
+    let list = match of {
+        Of::Line => made.line(alloc, refs.as_slice())?,
+        Of::Ring => made.ring(alloc, refs.as_slice())?,
+    };
+    Ok(are_used(list.as_slice(), *new))
 }
 
-fn is_line(alloc: Global, made: &Rejoined, lists: &Become) -> Result<bool, Fail> {
-    let refs = refs_of(alloc, lists.0)?;
-    let line = made.line(alloc, refs.as_slice())?;
-    Ok(are_used(line.as_slice(), lists.1))
-}
-
-fn are_lines(alloc: Global, row: &Row) -> Result<bool, Fail> {
-    let made = rejoin_row(alloc, row)?;
-    for lists in row.lines {
-        if !is_line(alloc, &made, lists)? {
+/// Whether the lists become what they say.
+fn become_lists(alloc: Global, made: &Rejoined, lists: &[Become]) -> Result<bool, Fail> {
+    for list in lists {
+        if !becomes(alloc, made, list)? {
             return Ok(false);
         }
     }
@@ -183,33 +169,13 @@ fn are_lines(alloc: Global, row: &Row) -> Result<bool, Fail> {
 }
 
 #[test]
-fn lists_of_lines(rt: HostRuntime) -> Result<(), Fail> {
+fn arcs_and_lists_of_rows(rt: HostRuntime) -> Result<(), Fail> {
     for row in ROWS {
-        assert!(rt; are_lines(rt.alloc(), row)?, "{}", row.title);
-    }
-    Ok(())
-}
-
-fn is_ring(alloc: Global, made: &Rejoined, lists: &Become) -> Result<bool, Fail> {
-    let refs = refs_of(alloc, lists.0)?;
-    let ring = made.ring(alloc, refs.as_slice())?;
-    Ok(are_used(ring.as_slice(), lists.1))
-}
-
-fn are_rings(alloc: Global, row: &Row) -> Result<bool, Fail> {
-    let made = rejoin_row(alloc, row)?;
-    for lists in row.rings {
-        if !is_ring(alloc, &made, lists)? {
-            return Ok(false);
-        }
-    }
-    Ok(true)
-}
-
-#[test]
-fn lists_of_rings(rt: HostRuntime) -> Result<(), Fail> {
-    for row in ROWS {
-        assert!(rt; are_rings(rt.alloc(), row)?, "{}", row.title);
+        let (alloc, title) = (rt.alloc(), row.title);
+        let made = rejoin_row(alloc, row)?;
+        assert!(rt; are_pieces(&made, row.pieces), "{title}: pieces");
+        assert!(rt; are_arcs_of_left(alloc, &made, row.left)?, "{title}: arcs");
+        assert!(rt; become_lists(alloc, &made, row.lists)?, "{title}: lists");
     }
     Ok(())
 }

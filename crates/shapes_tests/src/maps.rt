@@ -123,14 +123,6 @@ fn is_union_both(alloc: Global, one: &[Layer], two: &[Layer]) -> Result<bool, Fa
     is_map(alloc, &first.union(&second)?, BOTH)
 }
 
-#[test]
-fn unions_have_both(rt: HostRuntime) -> Result<(), Fail> {
-    for (title, one, two) in UNITED {
-        assert!(rt; is_union_both(rt.alloc(), *one, *two)?, "{title}");
-    }
-    Ok(())
-}
-
 fn copied(alloc: Global, layers: &[Layer]) -> Result<FeatureMap, Fail> {
     let map = map_of(alloc, layers)?;
     Ok(map.copy()?)
@@ -143,9 +135,13 @@ fn are_copies_united(alloc: Global, one: &[Layer], two: &[Layer]) -> Result<bool
 }
 
 #[test]
-fn united_copies_have_both(rt: HostRuntime) -> Result<(), Fail> {
+fn unions_have_both(rt: HostRuntime) -> Result<(), Fail> {
     for (title, one, two) in UNITED {
-        assert!(rt; are_copies_united(rt.alloc(), *one, *two)?, "{title}");
+        assert!(rt; is_union_both(rt.alloc(), *one, *two)?, "{title}");
+        assert!(rt;
+            are_copies_united(rt.alloc(), *one, *two)?,
+            "{title}: copies"
+        );
     }
     Ok(())
 }

@@ -28,27 +28,27 @@ fn features(alloc: Global) -> Result<Vec<Feature>, Fail> {
     Ok(made)
 }
 
-/// Whether a feature is less than those after its place, greater than those before it, and equal to that there.
-fn is_feature_of_place(list: &[Feature], feature: &Feature, place: usize) -> bool {
+/// Whether a value is less than those after its place, greater than those before it, and equal to that there.
+fn is_of_place<T: Ord>(list: &[T], value: &T, place: usize) -> bool {
     for (other_place, other) in list.iter().enumerate() {
-        if feature.cmp(other) != place.cmp(&other_place) {
+        if value.cmp(other) != place.cmp(&other_place) {
             return false;
         }
-        if (feature == other) != (place == other_place) {
+        if (value == other) != (place == other_place) {
             return false;
         }
     }
     true
 }
 
-#[test]
-fn features_are_ordered(rt: HostRuntime) -> Result<(), Fail> {
-    let list = features(rt.alloc())?;
-    for (place, feature) in list.iter().enumerate() {
-        let is_ordered = is_feature_of_place(list.as_slice(), feature, place);
-        assert!(rt; is_ordered, "{place}");
+/// The first place of a list whose value is not of that place.
+fn out_of_order<T: Ord>(list: &[T]) -> Option<usize> {
+    for (place, value) in list.iter().enumerate() {
+        if !is_of_place(list, value, place) {
+            return Some(place);
+        }
     }
-    Ok(())
+    None
 }
 
 #[test]
@@ -84,37 +84,18 @@ fn shapes(alloc: Global) -> Result<Vec<Shape>, Fail> {
     Ok(made)
 }
 
-/// Whether a shape is less than those after its place, greater than those before it, and equal to that there.
-fn is_shape_of_place(list: &[Shape], shape: &Shape, place: usize) -> bool {
-    for (other_place, other) in list.iter().enumerate() {
-        if shape.cmp(other) != place.cmp(&other_place) {
-            return false;
-        }
-    }
-    true
-}
-
 #[test]
-fn shapes_are_ordered(rt: HostRuntime) -> Result<(), Fail> {
-    let list = shapes(rt.alloc())?;
-    for (place, shape) in list.iter().enumerate() {
-        assert!(rt; is_shape_of_place(list.as_slice(), shape, place), "{place}");
-    }
+fn features_and_shapes_are_ordered(rt: HostRuntime) -> Result<(), Fail> {
+    assert_eq!(rt; out_of_order(features(rt.alloc())?.as_slice()), None);
+    assert_eq!(rt; out_of_order(shapes(rt.alloc())?.as_slice()), None);
     Ok(())
 }
 
 #[test]
-fn copies_of_shapes(rt: HostRuntime) -> Result<(), Fail> {
-    for (place, shape) in shapes(rt.alloc())?.iter().enumerate() {
-        assert!(rt; shape.copy(rt.alloc())? == *shape, "{place}");
-    }
-    Ok(())
-}
-
-#[test]
-fn shapes_fit_grids(rt: HostRuntime) -> Result<(), Fail> {
+fn shapes_are_copied_and_fit_grids(rt: HostRuntime) -> Result<(), Fail> {
     let (fine, over) = (grid_from(-1)?, grid_from(0)?);
     for (place, shape) in shapes(rt.alloc())?.iter().enumerate() {
+        assert!(rt; shape.copy(rt.alloc())? == *shape, "{place}: the copy");
         assert!(rt; shape.fits(&fine), "{place}");
         assert!(rt; shape.fits(&over) == (place == 0), "{place}: over");
     }

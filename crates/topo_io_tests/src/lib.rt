@@ -14,6 +14,4 @@ mod texts_read;
 #[cfg(test)]
 mod texts_written;
 #[cfg(test)]
-mod told;
-#[cfg(test)]
 mod whole_texts;

@@ -5,6 +5,7 @@ use std::alloc::Global;
 use std::process::Abort;
 use std::test::Fail;
 use taking::{Taken, TextArcs, layers_sorted, take};
+use test_values::rows;
 use topo_io::{read_parts, read_topology, text_of};
 
 /// The text of a topology on the unit grid with these arcs and these geometries, in the order in which
@@ -70,111 +71,42 @@ const RIGHT_FIRST: &str = topology!(
     r#"[{"type":"Polygon","arcs":[[0,1]],"id":"right"},{"type":"Polygon","arcs":[[-2,2]],"id":"left"}]"#
 );
 
-/// Texts of the form of topojson-server.
-const OTHER_ORDERS: &[(&str, &str)] = &[
-    (
-        "two squares that share an edge, the left one first",
-        LEFT_FIRST,
-    ),
-    (
-        "two squares that share an edge, the right one first",
-        RIGHT_FIRST,
-    ),
-    (
-        "an island with a lake, both begun elsewhere and the lake first against its direction",
-        topology!(
-            "[[[4,0],[0,4],[-4,0],[0,-4],[4,0]],[[1,3],[2,0],[0,-2],[-2,0],[0,2]]]",
-            r#"[{"type":"Polygon","arcs":[[0],[1]],"properties":{"name":"island"}}]"#
-        ),
-    ),
-    (
-        "a lake that touches a junction",
-        topology!(
-            "[[[4,0],[0,4]],[[4,4],[-4,0],[0,-4],[4,0]],[[4,4],[-2,-1],[1,-1],[1,2]],[[4,0],[4,0],[0,4],[-4,0]]]",
-            r#"[{"type":"Polygon","arcs":[[0,1],[2]],"id":1},{"type":"Polygon","arcs":[[3,-1]],"id":2}]"#
-        ),
-    ),
-    (
-        "a line that is used against the direction of its arcs",
-        topology!(
-            "[[[2,0],[-1,0]],[[1,0],[-1,0]],[[1,0],[0,1]]]",
-            r#"[{"type":"LineString","arcs":[0,1],"id":"b"},{"type":"LineString","arcs":[2],"id":"a"}]"#
-        ),
-    ),
-];
+/// Texts of the form of topojson-server, whose arcs, rings or features are in another order.
+const OTHER_ORDERS: &[(&str, &str)] = rows! {
+    "two squares that share an edge, the left one first", LEFT_FIRST;
+    "two squares that share an edge, the right one first", RIGHT_FIRST;
+    "an island with a lake, both begun elsewhere and the lake first against its direction", topology!("[[[4,0],[0,4],[-4,0],[0,-4],[4,0]],[[1,3],[2,0],[0,-2],[-2,0],[0,2]]]",
+        r#"[{"type":"Polygon","arcs":[[0],[1]],"properties":{"name":"island"}}]"#);
+    "a lake that touches a junction", topology!("[[[4,0],[0,4]],[[4,4],[-4,0],[0,-4],[4,0]],[[4,4],[-2,-1],[1,-1],[1,2]],[[4,0],[4,0],[0,4],[-4,0]]]",
+        r#"[{"type":"Polygon","arcs":[[0,1],[2]],"id":1},{"type":"Polygon","arcs":[[3,-1]],"id":2}]"#);
+    "a line that is used against the direction of its arcs", topology!("[[[2,0],[-1,0]],[[1,0],[-1,0]],[[1,0],[0,1]]]",
+        r#"[{"type":"LineString","arcs":[0,1],"id":"b"},{"type":"LineString","arcs":[2],"id":"a"}]"#);
+    "features out of order by ids, where numbers come before texts and none before both", topology!("[[[0,0],[1,0]],[[2,0],[1,0]],[[4,0],[1,0]],[[6,0],[1,0]],[[8,0],[1,0]]]",
+        r#"[{"type":"LineString","arcs":[0],"id":"b"},{"type":"LineString","arcs":[1],"id":10},{"type":"LineString","arcs":[2],"id":"a"},{"type":"LineString","arcs":[3],"id":-9},{"type":"LineString","arcs":[4]}]"#);
+    "features out of order by properties", topology!("[[[0,0],[1,0]],[[2,0],[1,0]],[[4,0],[1,0]]]",
+        r#"[{"type":"LineString","arcs":[0],"properties":{"n":2}},{"type":"LineString","arcs":[1],"properties":{"n":10}},{"type":"LineString","arcs":[2],"properties":{"m":3}}]"#);
+    "features out of order by kind", topology!("[[[0,0],[1,0]],[[2,0],[0,1],[1,0],[-1,-1]]]",
+        r#"[{"type":"Polygon","arcs":[[1]]},{"type":"MultiLineString","arcs":[[0]]},{"type":"Point","coordinates":[5,5]},{"type":null}]"#);
+};
 
 #[test]
 fn texts_of_the_form_of_topojson_server_are_taken(rt: HostRuntime) -> Result<(), Fail> {
     check_rows(&rt, rt.alloc(), OTHER_ORDERS, true)
 }
 
-const OTHER_FEATURES: &[(&str, &str)] = &[
-    (
-        "features out of order by ids, where numbers come before texts and none before both",
-        topology!(
-            "[[[0,0],[1,0]],[[2,0],[1,0]],[[4,0],[1,0]],[[6,0],[1,0]],[[8,0],[1,0]]]",
-            r#"[{"type":"LineString","arcs":[0],"id":"b"},{"type":"LineString","arcs":[1],"id":10},{"type":"LineString","arcs":[2],"id":"a"},{"type":"LineString","arcs":[3],"id":-9},{"type":"LineString","arcs":[4]}]"#
-        ),
-    ),
-    (
-        "features out of order by properties",
-        topology!(
-            "[[[0,0],[1,0]],[[2,0],[1,0]],[[4,0],[1,0]]]",
-            r#"[{"type":"LineString","arcs":[0],"properties":{"n":2}},{"type":"LineString","arcs":[1],"properties":{"n":10}},{"type":"LineString","arcs":[2],"properties":{"m":3}}]"#
-        ),
-    ),
-    (
-        "features out of order by kind",
-        topology!(
-            "[[[0,0],[1,0]],[[2,0],[0,1],[1,0],[-1,-1]]]",
-            r#"[{"type":"Polygon","arcs":[[1]]},{"type":"MultiLineString","arcs":[[0]]},{"type":"Point","coordinates":[5,5]},{"type":null}]"#
-        ),
-    ),
-];
-
-#[test]
-fn features_out_of_order_are_taken(rt: HostRuntime) -> Result<(), Fail> {
-    check_rows(&rt, rt.alloc(), OTHER_FEATURES, true)
-}
-
 /// Texts that are built anew.
-const BUILT: &[(&str, &str)] = &[
-    (
-        "a border that is cut at a vertex of two",
-        topology!(
-            "[[[1,0],[0,1]],[[1,1],[-1,0],[0,-1]],[[0,0],[1,0]],[[1,0],[1,0],[0,1],[-1,0]]]",
-            r#"[{"type":"Polygon","arcs":[[0,1,2]],"id":"left"},{"type":"Polygon","arcs":[[3,-1]],"id":"right"}]"#
-        ),
-    ),
-    (
-        "a border that stands twice among the arcs",
-        topology!(
-            "[[[1,0],[0,1]],[[1,1],[-1,0],[0,-1],[1,0]],[[1,0],[1,0],[0,1],[-1,0]],[[1,1],[0,-1]]]",
-            r#"[{"type":"Polygon","arcs":[[0,1]],"id":"left"},{"type":"Polygon","arcs":[[2,3]],"id":"right"}]"#
-        ),
-    ),
-    (
-        "an arc that no list uses",
-        topology!(
-            "[[[1,0],[0,1]],[[1,1],[-1,0],[0,-1],[1,0]],[[7,7],[1,1]]]",
-            r#"[{"type":"Polygon","arcs":[[0,1]],"id":"left"}]"#
-        ),
-    ),
-    (
-        "a line that goes on across a junction",
-        topology!(
-            "[[[0,1],[1,0],[1,0]],[[1,0],[0,1],[0,1]]]",
-            r#"[{"type":"LineString","arcs":[0],"id":1},{"type":"LineString","arcs":[1],"id":2}]"#
-        ),
-    ),
-    (
-        "a feature that is there twice",
-        topology!(
-            "[[[1,0],[0,1]],[[1,1],[-1,0],[0,-1],[1,0]],[[1,0],[1,0],[0,1],[-1,0]]]",
-            r#"[{"type":"Polygon","arcs":[[0,1]],"id":"left"},{"type":"Polygon","arcs":[[2,-1]],"id":"right"},{"type":"Polygon","arcs":[[0,1]],"id":"left"}]"#
-        ),
-    ),
-];
+const BUILT: &[(&str, &str)] = rows! {
+    "a border that is cut at a vertex of two", topology!("[[[1,0],[0,1]],[[1,1],[-1,0],[0,-1]],[[0,0],[1,0]],[[1,0],[1,0],[0,1],[-1,0]]]",
+        r#"[{"type":"Polygon","arcs":[[0,1,2]],"id":"left"},{"type":"Polygon","arcs":[[3,-1]],"id":"right"}]"#);
+    "a border that stands twice among the arcs", topology!("[[[1,0],[0,1]],[[1,1],[-1,0],[0,-1],[1,0]],[[1,0],[1,0],[0,1],[-1,0]],[[1,1],[0,-1]]]",
+        r#"[{"type":"Polygon","arcs":[[0,1]],"id":"left"},{"type":"Polygon","arcs":[[2,3]],"id":"right"}]"#);
+    "an arc that no list uses", topology!("[[[1,0],[0,1]],[[1,1],[-1,0],[0,-1],[1,0]],[[7,7],[1,1]]]",
+        r#"[{"type":"Polygon","arcs":[[0,1]],"id":"left"}]"#);
+    "a line that goes on across a junction", topology!("[[[0,1],[1,0],[1,0]],[[1,0],[0,1],[0,1]]]",
+        r#"[{"type":"LineString","arcs":[0],"id":1},{"type":"LineString","arcs":[1],"id":2}]"#);
+    "a feature that is there twice", topology!("[[[1,0],[0,1]],[[1,1],[-1,0],[0,-1],[1,0]],[[1,0],[1,0],[0,1],[-1,0]]]",
+        r#"[{"type":"Polygon","arcs":[[0,1]],"id":"left"},{"type":"Polygon","arcs":[[2,-1]],"id":"right"},{"type":"Polygon","arcs":[[0,1]],"id":"left"}]"#);
+};
 
 #[test]
 fn other_texts_are_built(rt: HostRuntime) -> Result<(), Fail> {

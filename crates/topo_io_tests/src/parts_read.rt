@@ -7,6 +7,7 @@ use lines::items::Items;
 use std::alloc::Global;
 use std::process::Abort;
 use std::test::Fail;
+use test_values::rows;
 use topo::{Body, Geom};
 use topo_io::{TextParts, read_parts};
 
@@ -18,98 +19,21 @@ fn are_parts_refused(alloc: Global, text: &str) -> bool {
     }
 }
 
-/// Texts whose only faults are those of what lists stitch to.
-const NOT_STITCHED: &[(&str, &str)] = &[
-    (
-        "a line that is broken off",
-        topology!(
-            "[[[0,0],[1,0]],[[2,0],[1,0]]]",
-            r#"{"a":{"type":"LineString","arcs":[0,1]}}"#
-        ),
-    ),
-    (
-        "a ring that doesn't close",
-        topology!(
-            "[[[0,0],[1,0]]]",
-            r#"{"a":{"type":"Polygon","arcs":[[0]]}}"#
-        ),
-    ),
-    (
-        "a line forth and back",
-        topology!(
-            "[[[0,0],[1,0]]]",
-            r#"{"a":{"type":"LineString","arcs":[0,-1]}}"#
-        ),
-    ),
-    (
-        "a line of no arcs",
-        topology!(
-            "[[[0,0],[1,0]]]",
-            r#"{"a":{"type":"LineString","arcs":[]}}"#
-        ),
-    ),
-];
-
-#[test]
-fn faults_of_stitched_lists_are_left(rt: HostRuntime) -> Result<(), Fail> {
-    for (title, text) in NOT_STITCHED {
-        assert!(rt; read_parts(rt.alloc(), text.as_bytes()).is_ok(), "{title}");
-        assert!(rt; is_refused(rt.alloc(), *text), "{title}");
-    }
-    Ok(())
-}
-
 /// Texts with a fault that is known without stitching.
-const REFUSED: &[(&str, &str)] = &[
-    ("an arc of one position", topology!("[[[0,0]]]", "{}")),
-    (
-        "a number that is not whole",
-        topology!("[[[0,0],[1.5,0]]]", "{}"),
-    ),
-    ("arcs that are no list", topology!("5", "{}")),
-    (
-        "an index past the arcs",
-        topology!(
-            "[[[0,0],[1,0]]]",
-            r#"{"a":{"type":"LineString","arcs":[1]}}"#
-        ),
-    ),
-    (
-        "an index past the reversed arcs",
-        topology!(
-            "[[[0,0],[1,0]]]",
-            r#"{"a":{"type":"LineString","arcs":[-2]}}"#
-        ),
-    ),
-    (
-        "an index that is not whole",
-        topology!(
-            "[[[0,0],[1,0]]]",
-            r#"{"a":{"type":"LineString","arcs":[0.5]}}"#
-        ),
-    ),
-    (
-        "a ring that is no list",
-        topology!("[[[0,0],[1,0]]]", r#"{"a":{"type":"Polygon","arcs":[0]}}"#),
-    ),
-    (
-        "an unknown type",
-        topology!("[]", r#"{"a":{"type":"Line","arcs":[]}}"#),
-    ),
-    (
-        "a position of one number",
-        topology!("[]", r#"{"a":{"type":"Point","coordinates":[0]}}"#),
-    ),
-    (
-        "an id of the wrong kind",
-        topology!("[]", r#"{"a":{"type":null,"id":[]}}"#),
-    ),
-    (
-        "a collection without geometries",
-        topology!("[]", r#"{"a":{"type":"GeometryCollection"}}"#),
-    ),
-    ("layers that are no object", topology!("[]", "[]")),
-];
+const REFUSED: &[(&str, &str)] = rows! {
+    "an arc of one position", topology!("[[[0,0]]]", "{}");
+    "a number that is not whole", topology!("[[[0,0],[1.5,0]]]", "{}");
+    "arcs that are no list", topology!("5", "{}");
+    "an index past the arcs", topology!("[[[0,0],[1,0]]]", r#"{"a":{"type":"LineString","arcs":[1]}}"#);
+    "an index past the reversed arcs", topology!("[[[0,0],[1,0]]]", r#"{"a":{"type":"LineString","arcs":[-2]}}"#);
+    "an index that is not whole", topology!("[[[0,0],[1,0]]]", r#"{"a":{"type":"LineString","arcs":[0.5]}}"#);
+    "a ring that is no list", topology!("[[[0,0],[1,0]]]", r#"{"a":{"type":"Polygon","arcs":[0]}}"#);
+    "an unknown type", topology!("[]", r#"{"a":{"type":"Line","arcs":[]}}"#);
+    "a position of one number", topology!("[]", r#"{"a":{"type":"Point","coordinates":[0]}}"#);
+    "an id of the wrong kind", topology!("[]", r#"{"a":{"type":null,"id":[]}}"#);
+    "a collection without geometries", topology!("[]", r#"{"a":{"type":"GeometryCollection"}}"#);
+    "layers that are no object", topology!("[]", "[]");
+};
 
 #[test]
 fn other_faults_are_told(rt: HostRuntime) -> Result<(), Fail> {

@@ -18,6 +18,21 @@ macro_rules! topology {
     };
 }
 
+/// The text of a topology on the unit grid with these arcs, with these geometries in its only layer, and with a
+/// wrong bbox.
+macro_rules! collection {
+    ($arcs:literal, $geometries:expr) => {
+        concat!(
+            r#"{"type":"Topology","transform":{"scale":[1,1],"translate":[0,0]},"bbox":[7,7,7,7],"arcs":"#,
+            $arcs,
+            r#","objects":{"a":{"type":"GeometryCollection","geometries":"#,
+            $geometries,
+            "}}}"
+        )
+    };
+}
+
+pub(crate) use collection;
 pub(crate) use topology;
 
 /// The unit square at the origin as another tool may write it.

@@ -1,11 +1,11 @@
 //! Topology texts as they are read: their least faults, and the features that arcs stitch to.
-use crate::texts::OTHER_TOOL;
-use crate::told::told;
+use crate::texts::{OTHER_TOOL, collection};
 use grid::Pos;
 use shapes::{FeatureMap, Shape};
 use std::alloc::Global;
 use std::test::Fail;
-use topo_io::read;
+use test_values::{rows, told};
+use topo_io::{read, read_topology};
 
 /// The text of a topology on the unit grid with these arcs and layers, its members in order.
 macro_rules! topology {
@@ -20,116 +20,40 @@ macro_rules! topology {
     };
 }
 
-/// Texts, and the least fault of each.
-const FAULTS: &[(&str, &str, &str)] = &[
-    (
-        "an index past the arcs",
-        topology!(
-            "[[[0,0],[1,0]]]",
-            r#"{"a":{"type":"LineString","arcs":[1]}}"#
-        ),
-        "11 $/objects/a/arcs/0",
-    ),
-    (
-        "a reversed arc where there are none",
-        topology!("[]", r#"{"a":{"type":"LineString","arcs":[-1]}}"#),
-        "11 $/objects/a/arcs/0",
-    ),
-    (
-        "a line that is broken off",
-        topology!(
-            "[[[0,0],[1,0]],[[2,0],[1,0]]]",
-            r#"{"a":{"type":"LineString","arcs":[0,1]}}"#
-        ),
-        "12 $/objects/a/arcs",
-    ),
-    (
-        "the least index of 64 bits",
-        topology!(
-            "[[[0,0],[1,0]]]",
-            r#"{"a":{"type":"LineString","arcs":[-9223372036854775808]}}"#
-        ),
-        "11 $/objects/a/arcs/0",
-    ),
-    (
-        "an index past 64 bits",
-        topology!(
-            "[[[0,0],[1,0]]]",
-            r#"{"a":{"type":"LineString","arcs":[9223372036854775808]}}"#
-        ),
-        "5 $/objects/a/arcs/0",
-    ),
-    (
-        "an arc with a position twice in a row",
-        topology!(
-            "[[[0,0],[0,0],[1,0]]]",
-            r#"{"a":{"type":"LineString","arcs":[0]}}"#
-        ),
-        "accepted",
-    ),
-    (
-        "no transform",
-        r#"{"type":"Topology","objects":{},"arcs":[]}"#,
-        "15 $/transform",
-    ),
-    (
-        "another type, before arcs of the wrong kind",
-        r#"{"type":"topology","arcs":5}"#,
-        "4 $/type",
-    ),
-    (
-        "a transform of the wrong kind",
-        r#"{"type":"Topology","transform":null,"objects":{},"arcs":[]}"#,
-        "3 $/transform",
-    ),
-    (
-        "an arc of one position, before a number that is not whole",
-        topology!(
-            "[[[0,0]]]",
-            r#"{"a":{"type":"Point","coordinates":[1.0,0]}}"#
-        ),
-        "8 $/arcs/0",
-    ),
-    (
-        "a step past the greatest number",
-        topology!("[[[1099511627776,0],[1,0]]]", "{}"),
-        "6 $/arcs/0/1/0",
-    ),
-    (
-        "steps whose sum is past 64 bits",
-        topology!(
-            "[[[0,0],[9223372036854775807,0],[9223372036854775807,0]]]",
-            "{}"
-        ),
-        "6 $/arcs/0/1/0",
-    ),
-    (
-        "a layer of the wrong kind, whose name has the signs of a path",
-        topology!("[]", r#"{"x/y~z":5}"#),
-        "3 $/objects/x/y~z",
-    ),
-    (
-        "the null shape beside arcs that are not there",
-        topology!("[]", r#"{"a":{"type":null,"arcs":[99],"id":"n"}}"#),
-        "accepted",
-    ),
-    (
-        "faults of two layers and of two rings",
-        topology!(
-            "[]",
-            r#"{"b":{"type":"Point"},"a":{"type":"Polygon","arcs":[[0],[0.5]]}}"#
-        ),
-        "11 $/objects/a/arcs/0/0",
-    ),
-    (
-        "an absolute number past the greatest",
-        r#"{"arcs":[],"objects":{"a":{"type":"Point","coordinates":[9007199255,0]}},"transform":{"scale":[1000000,1],"translate":[0,0]},"type":"Topology"}"#,
-        "6 $/objects/a/coordinates/0",
-    ),
-];
+/// Texts, and the least fault of each: that of its features, and that of its topology.
+const FAULTS: &[(&str, &str, &str)] = rows! {
+    "an index past the arcs", topology!("[[[0,0],[1,0]]]", r#"{"a":{"type":"LineString","arcs":[1]}}"#), "11 $/objects/a/arcs/0";
+    "a reversed arc where there are none", topology!("[]", r#"{"a":{"type":"LineString","arcs":[-1]}}"#), "11 $/objects/a/arcs/0";
+    "a line that is broken off", topology!("[[[0,0],[1,0]],[[2,0],[1,0]]]", r#"{"a":{"type":"LineString","arcs":[0,1]}}"#), "12 $/objects/a/arcs";
+    "the least index of 64 bits", topology!("[[[0,0],[1,0]]]", r#"{"a":{"type":"LineString","arcs":[-9223372036854775808]}}"#), "11 $/objects/a/arcs/0";
+    "an index past 64 bits", topology!("[[[0,0],[1,0]]]", r#"{"a":{"type":"LineString","arcs":[9223372036854775808]}}"#), "5 $/objects/a/arcs/0";
+    "an arc with a position twice in a row", topology!("[[[0,0],[0,0],[1,0]]]", r#"{"a":{"type":"LineString","arcs":[0]}}"#), "accepted";
+    "no transform", r#"{"type":"Topology","objects":{},"arcs":[]}"#, "15 $/transform";
+    "another type, before arcs of the wrong kind", r#"{"type":"topology","arcs":5}"#, "4 $/type";
+    "a transform of the wrong kind", r#"{"type":"Topology","transform":null,"objects":{},"arcs":[]}"#, "3 $/transform";
+    "an arc of one position, before a number that is not whole", topology!("[[[0,0]]]", r#"{"a":{"type":"Point","coordinates":[1.0,0]}}"#), "8 $/arcs/0";
+    "a step past the greatest number", topology!("[[[1099511627776,0],[1,0]]]", "{}"), "6 $/arcs/0/1/0";
+    "steps whose sum is past 64 bits", topology!("[[[0,0],[9223372036854775807,0],[9223372036854775807,0]]]", "{}"), "6 $/arcs/0/1/0";
+    "a layer of the wrong kind, whose name has the signs of a path", topology!("[]", r#"{"x/y~z":5}"#), "3 $/objects/x/y~z";
+    "the null shape beside arcs that are not there", topology!("[]", r#"{"a":{"type":null,"arcs":[99],"id":"n"}}"#), "accepted";
+    "faults of two layers and of two rings", topology!("[]", r#"{"b":{"type":"Point"},"a":{"type":"Polygon","arcs":[[0],[0.5]]}}"#), "11 $/objects/a/arcs/0/0";
+    "an absolute number past the greatest", r#"{"arcs":[],"objects":{"a":{"type":"Point","coordinates":[9007199255,0]}},"transform":{"scale":[1000000,1],"translate":[0,0]},"type":"Topology"}"#, "6 $/objects/a/coordinates/0";
+    "a line that uses an arc twice", collection!("[[[0,0],[1,0],[0,1]]]", r#"[{"type":"LineString","arcs":[0,-1]}]"#), "10 $/objects/a/geometries/0/arcs";
+    "a line twice round a square", collection!("[[[0,0],[0,1],[1,0],[0,-1],[-1,0]]]", r#"[{"type":"LineString","arcs":[0,0]},{"type":"Polygon","arcs":[[0]]}]"#), "10 $/objects/a/geometries/0/arcs";
+    "a line that is broken off", collection!("[[[0,0],[1,0]],[[2,0],[1,0]]]", r#"[{"type":"LineString","arcs":[0,1]}]"#), "12 $/objects/a/geometries/0/arcs";
+    "a ring that doesn't close", collection!("[[[0,0],[1,0],[0,1]]]", r#"[{"type":"Polygon","arcs":[[0]]}]"#), "9 $/objects/a/geometries/0/arcs/0";
+    "an arc that there isn't", collection!("[[[0,0],[1,0]]]", r#"[{"type":"LineString","arcs":[1]}]"#), "11 $/objects/a/geometries/0/arcs/0";
+    "an arc of one position", collection!("[[[0,0]]]", "[]"), "8 $/arcs/0";
+    "a list that doesn't stitch, before a number that is no id", collection!("[[[0,0],[1,0]],[[2,0],[1,0]]]", r#"[{"type":"LineString","arcs":[0,1]},{"type":"LineString","arcs":[0],"id":true}]"#), "12 $/objects/a/geometries/0/arcs";
+};
 
 fn read_told(alloc: Global, text: &str) -> Result<String, Fail> {
     let fault = read(alloc, text.as_bytes()).err();
+    Ok(told(alloc, fault.as_ref())?)
+}
+
+fn read_topology_told(alloc: Global, text: &str) -> Result<String, Fail> {
+    let fault = read_topology(alloc, text.as_bytes()).err();
     Ok(told(alloc, fault.as_ref())?)
 }
 
@@ -138,6 +62,8 @@ fn least_faults(rt: HostRuntime) -> Result<(), Fail> {
     for (title, text, fault) in FAULTS {
         let line = read_told(rt.alloc(), *text)?;
         assert!(rt; line.as_str() == *fault, "{title}: {line}");
+        let line = read_topology_told(rt.alloc(), *text)?;
+        assert!(rt; line.as_str() == *fault, "{title}: {line} of the topology");
     }
     Ok(())
 }

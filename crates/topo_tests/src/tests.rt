@@ -200,24 +200,12 @@ fn is_topology(topology: &Topology, case: &Case) -> bool {
 }
 
 #[test]
-fn topologies_of_maps(rt: HostRuntime) -> Result<(), Fail> {
+fn topologies_of_maps_and_their_copies(rt: HostRuntime) -> Result<(), Fail> {
     for case in CASES {
         let topology = topology_of(rt.alloc(), case.layers)?;
         assert!(rt; is_topology(&topology, case), "{}", case.title);
-    }
-    Ok(())
-}
-
-fn copy_of_topology(alloc: Global, layers: &[Layer]) -> Result<Topology, Fail> {
-    let topology = topology_of(alloc, layers)?;
-    Ok(topology.copy(alloc)?)
-}
-
-#[test]
-fn copies_of_topologies(rt: HostRuntime) -> Result<(), Fail> {
-    for case in CASES {
-        let copy = copy_of_topology(rt.alloc(), case.layers)?;
-        assert!(rt; is_topology(&copy, case), "{}", case.title);
+        let copy = topology.copy(rt.alloc())?;
+        assert!(rt; is_topology(&copy, case), "the copy: {}", case.title);
     }
     Ok(())
 }
@@ -241,7 +229,7 @@ fn expands_to(alloc: Global, topology: &Topology, map: &FeatureMap) -> Result<bo
 /// Whether a copy of the topology of a map expands to the map.
 fn is_expanded(alloc: Global, layers: &[Layer]) -> Result<bool, Fail> {
     let map = map_of(alloc, layers)?;
-    let copy = copy_of_topology(alloc, layers)?;
+    let copy = topology_of(alloc, layers)?.copy(alloc)?;
     expands_to(alloc, &copy, &map)
 }
 

@@ -79,13 +79,28 @@ fn put(alloc: Global, map: &mut FeatureMap, shape: Shape) -> Result<(), Fail> {
     Ok(())
 }
 
+/// The line of places alone.
+///
+/// # Errors
+/// Where the places are those of no line, or memory is refused.
+pub fn open_line(alloc: Global, places: &[(i64, i64)]) -> Result<Line, Fail> {
+    Ok(Line::from_positions(alloc, positions(alloc, places)?)?)
+}
+
+/// The ring of places alone.
+///
+/// # Errors
+/// Where the places are those of no ring, or memory is refused.
+pub fn closed_ring(alloc: Global, places: &[(i64, i64)]) -> Result<Ring, Fail> {
+    Ok(Ring::from_closed(alloc, positions(alloc, places)?)?)
+}
+
 /// The line of places.
 ///
 /// # Errors
 /// Where the places are those of no line, or memory is refused.
 pub fn line(alloc: Global, places: &[(i64, i64)]) -> Result<Shape, Fail> {
-    let positions = positions(alloc, places)?;
-    Ok(Shape::Line(Line::from_positions(alloc, positions)?))
+    Ok(Shape::Line(open_line(alloc, places)?))
 }
 
 /// The polygon of the one ring of places.
@@ -94,7 +109,7 @@ pub fn line(alloc: Global, places: &[(i64, i64)]) -> Result<Shape, Fail> {
 /// Where the places are those of no ring, or memory is refused.
 pub fn polygon(alloc: Global, places: &[(i64, i64)]) -> Result<Shape, Fail> {
     let mut rings = Vec::new(alloc);
-    rings.push(Ring::from_closed(alloc, positions(alloc, places)?)?)?;
+    rings.push(closed_ring(alloc, places)?)?;
     Ok(Shape::Polygon(Items::from_vec(rings)))
 }
 
@@ -112,18 +127,26 @@ fn put_rings(alloc: Global, map: &mut FeatureMap, rings: &[Places]) -> Result<()
     Ok(())
 }
 
-/// The topology of all these maps in one layer.
+/// All these maps in one layer.
 ///
 /// # Errors
 /// Where a place is outside the limits of grid numbers, a list of places is no line or ring, or
 /// memory is refused.
-pub fn topology_of(alloc: Global, maps: &[Drawn]) -> Result<Topology, Fail> {
-    let grid = Grid::new(1, 1, 0, 0).ok_or("no grid")?;
+pub fn map_of(alloc: Global, maps: &[Drawn]) -> Result<FeatureMap, Fail> {
     let mut map = FeatureMap::new(alloc);
     map.add_layer("a")?;
     for drawn in maps {
         put_lines(alloc, &mut map, drawn.lines)?;
         put_rings(alloc, &mut map, drawn.rings)?;
     }
-    Ok(Topology::build(alloc, &grid, &map)?)
+    Ok(map)
+}
+
+/// The topology of all these maps in one layer.
+///
+/// # Errors
+/// As `map_of`.
+pub fn topology_of(alloc: Global, maps: &[Drawn]) -> Result<Topology, Fail> {
+    let grid = Grid::new(1, 1, 0, 0).ok_or("no grid")?;
+    Ok(Topology::build(alloc, &grid, &map_of(alloc, maps)?)?)
 }

@@ -1,5 +1,6 @@
 //! Positions and transforms at their limits.
 use grid::{Axis, AxisFault, Grid, GridFault, Pos};
+use test_values::rows;
 
 /// A grid by its scale and its translate: across and along.
 type Numbers = (i64, i64, i64, i64);
@@ -29,77 +30,24 @@ fn position(place: Place) -> Option<Pos> {
     Pos::new(place.0, place.1)
 }
 
+const OUT: Result<Place, GridFault> = Err(GridFault::OutOfRange(0));
+
 /// Grids, absolute numbers, and the position that they are converted to.
-const CONVERTED: &[(&str, Numbers, Place, Result<Place, GridFault>)] = &[
-    ("the greatest", ONE, (GREATEST, 0), Ok((GREATEST, 0))),
-    (
-        "past the greatest",
-        ONE,
-        (1_099_511_627_777, 0),
-        Err(GridFault::OutOfRange(0)),
-    ),
-    ("the least", ONE, (-GREATEST, 7), Ok((-GREATEST, 7))),
-    (
-        "the last of a wide grid",
-        WIDE,
-        (9_007_199_254_000_000, 0),
-        Ok((9_007_199_254, 0)),
-    ),
-    (
-        "past a wide grid",
-        WIDE,
-        (9_007_199_255_000_000, 0),
-        Err(GridFault::OutOfRange(0)),
-    ),
-    (
-        "the greatest absolute number",
-        NEAR,
-        (9_007_199_254_740_991, 0),
-        Ok((GREATEST, 0)),
-    ),
-    (
-        "past the greatest absolute number",
-        FAR,
-        (9_007_199_254_740_992, 0),
-        Err(GridFault::OutOfRange(0)),
-    ),
-    (
-        "the least corner",
-        TEN,
-        (-10_000_000_500, -10_000_000_000),
-        Ok((-1_000_000_000, -1_000_000_000)),
-    ),
-    (
-        "the greatest corner",
-        TEN,
-        (9_999_999_500, 10_000_000_000),
-        Ok((1_000_000_000, 1_000_000_000)),
-    ),
-    (
-        "the greatest number of 64 bits, out of range",
-        (1, 1, -1_000_000_000_000, 0),
-        (i64::MAX, 0),
-        Err(GridFault::OutOfRange(0)),
-    ),
-    (
-        "the greatest number of 64 bits, off the grid",
-        (10, 10, -1_000_000_000_000, 0),
-        (i64::MAX, 0),
-        Err(GridFault::OffGrid(0)),
-    ),
-    (
-        "the least number of 64 bits, off the grid",
-        (10, 10, -1_000_000_000_000, 0),
-        (i64::MIN, 0),
-        Err(GridFault::OffGrid(0)),
-    ),
-    (
-        "off the grid along",
-        (10, 10, -1_000_000_000_000, 0),
-        (0, 5),
-        Err(GridFault::OffGrid(1)),
-    ),
-];
+const CONVERTED: &[(&str, Numbers, Place, Result<Place, GridFault>)] = rows! {
+    "the greatest", ONE, (GREATEST, 0), Ok((GREATEST, 0));
+    "past the greatest", ONE, (1_099_511_627_777, 0), OUT;
+    "the least", ONE, (-GREATEST, 7), Ok((-GREATEST, 7));
+    "the last of a wide grid", WIDE, (9_007_199_254_000_000, 0), Ok((9_007_199_254, 0));
+    "past a wide grid", WIDE, (9_007_199_255_000_000, 0), OUT;
+    "the greatest absolute number", NEAR, (9_007_199_254_740_991, 0), Ok((GREATEST, 0));
+    "past the greatest absolute number", FAR, (9_007_199_254_740_992, 0), OUT;
+    "the least corner", TEN, (-10_000_000_500, -10_000_000_000), Ok((-1_000_000_000, -1_000_000_000));
+    "the greatest corner", TEN, (9_999_999_500, 10_000_000_000), Ok((1_000_000_000, 1_000_000_000));
+    "the greatest number of 64 bits, out of range", (1, 1, -1_000_000_000_000, 0), (i64::MAX, 0), OUT;
+    "the greatest number of 64 bits, off the grid", (10, 10, -1_000_000_000_000, 0), (i64::MAX, 0), Err(GridFault::OffGrid(0));
+    "the least number of 64 bits, off the grid", (10, 10, -1_000_000_000_000, 0), (i64::MIN, 0), Err(GridFault::OffGrid(0));
+    "off the grid along", (10, 10, -1_000_000_000_000, 0), (0, 5), Err(GridFault::OffGrid(1));
+};
 
 fn converted(numbers: Numbers, place: Place) -> Option<Result<Place, GridFault>> {
     match grid(numbers)?.to_grid(place.0, place.1) {
@@ -115,48 +63,26 @@ fn absolute_numbers_to_positions(rt: HostRuntime) {
     }
 }
 
-/// Grids, positions, and their absolute numbers.
-const ABSOLUTE: &[(&str, Numbers, Place, Place)] = &[
-    (
-        "the greatest",
-        NEAR,
-        (GREATEST, 0),
-        (9_007_199_254_740_991, 0),
-    ),
-    (
-        "the least corner",
-        TEN,
-        (-1_000_000_000, -1_000_000_000),
-        (-10_000_000_500, -10_000_000_000),
-    ),
-];
+/// Grids, positions, and their absolute numbers; none where these are out of range.
+const ABSOLUTE: &[(&str, Numbers, Place, Option<Place>)] = rows! {
+    "the greatest, on the edge", NEAR, (GREATEST, 0), Some((9_007_199_254_740_991, 0));
+    "the least corner", TEN, (-1_000_000_000, -1_000_000_000), Some((-10_000_000_500, -10_000_000_000));
+    "past a wide grid", WIDE, (9_007_199_255, 0), None;
+    "past the edge", FAR, (GREATEST, 0), None;
+};
 
-fn absolute(numbers: Numbers, place: Place) -> Option<Place> {
-    Some(grid(numbers)?.to_absolute(position(place)?))
+fn absolute(numbers: Numbers, place: Place) -> Option<Option<Place>> {
+    let (grid, position) = (grid(numbers)?, position(place)?);
+    match grid.fits(position) {
+        true => Some(Some(grid.to_absolute(position))),
+        false => Some(None),
+    }
 }
 
 #[test]
 fn positions_to_absolute_numbers(rt: HostRuntime) {
     for (title, numbers, place, expected) in ABSOLUTE {
         assert!(rt; absolute(*numbers, *place) == Some(*expected), "{title}");
-    }
-}
-
-/// Grids, positions, and whether their absolute numbers are in range.
-const FITTED: &[(&str, Numbers, Place, bool)] = &[
-    ("past a wide grid", WIDE, (9_007_199_255, 0), false),
-    ("on the edge", NEAR, (GREATEST, 0), true),
-    ("past the edge", FAR, (GREATEST, 0), false),
-];
-
-fn fits(numbers: Numbers, place: Place) -> Option<bool> {
-    Some(grid(numbers)?.fits(position(place)?))
-}
-
-#[test]
-fn positions_that_fit(rt: HostRuntime) {
-    for (title, numbers, place, expected) in FITTED {
-        assert!(rt; fits(*numbers, *place) == Some(*expected), "{title}");
     }
 }
 

@@ -1,11 +1,10 @@
 //! Where lists of arcs begin and end, and which closed arcs go free.
-use crate::drawn::{
-    A, Arcs, B, C, D, E, Marks, Place, Places, ROUND, are_ends, lists, positions, refs, table,
-};
+use crate::tests::drawn::{A, Arcs, B, C, D, E, Marks, Place, ROUND, are_ends, table};
 use standing::{free_loops, run};
 use std::alloc::Global;
 use std::process::Abort;
 use std::test::Fail;
+use worked_maps::{Places, lists, positions, refs_of};
 
 /// A closed arc, and an open one elsewhere.
 const APART: Arcs = &[&[A, D, C, A], &[B, E]];
@@ -62,7 +61,7 @@ const RUNS: &[(&str, &[i64], Option<(Place, Place)>)] = &[
 /// Whether a list of the arcs of `ROUND` begins and ends at these places.
 fn runs(alloc: Global, indexes: &[i64], ends: Option<(Place, Place)>) -> Result<bool, Fail> {
     let table = table(alloc, ROUND, &[])?;
-    Ok(are_ends(run(&table, &refs(alloc, indexes)?), ends))
+    Ok(are_ends(run(&table, &refs_of(alloc, indexes)?), ends))
 }
 
 #[test]

@@ -1,5 +1,5 @@
 //! Lists of positions that are lines or rings, and those that are not.
-use crate::drawn::{A, B, C, D, E, Places, line, positions, ring};
+use crate::tests::drawn::{A, B, C, D, E, Places, line, positions, ring};
 use lines::line::Line;
 use lines::ring::Ring;
 use lines::shape_fault::ShapeFault;
@@ -89,17 +89,12 @@ fn long_lists(rt: HostRuntime) -> Result<(), Fail> {
 const SOUND: Places = &[B, B, C, A, B];
 
 #[test]
-fn a_list_that_is_known_to_be_a_line(rt: HostRuntime) -> Result<(), Fail> {
+fn a_list_that_is_known_to_be_a_line_and_a_ring(rt: HostRuntime) -> Result<(), Fail> {
     let places = positions(rt.alloc(), SOUND)?;
+    let copy = places.to_vec(rt.alloc())?;
     let line = Line::from_positions(rt.alloc(), places.to_vec(rt.alloc())?)?;
-    assert!(rt; Line::from_sound(places) == line);
-    Ok(())
-}
-
-#[test]
-fn a_list_that_is_known_to_be_a_ring(rt: HostRuntime) -> Result<(), Fail> {
-    let places = positions(rt.alloc(), SOUND)?;
     let ring = Ring::from_closed(rt.alloc(), places.to_vec(rt.alloc())?)?;
+    assert!(rt; Line::from_sound(copy) == line);
     assert!(rt; Ring::from_sound(places) == ring);
     Ok(())
 }

@@ -1,11 +1,12 @@
 //! A whole topology: a loop of which a line takes a part, and a loop alone.
-use crate::drawn::{A, Arcs, B, C, D, Place, lists, positions, refs, table};
+use crate::tests::drawn::{A, Arcs, B, C, D, Place, table};
 use chains::ArcTable;
 use grid::pos::Pos;
 use standing::{ArcsUsed, add_line_ends, ends_meet, free_loops, line_run, ring_stands};
 use std::alloc::Global;
 use std::process::Abort;
 use std::test::Fail;
+use worked_maps::{lists, positions, refs_of};
 
 const F: Place = (20, 0);
 
@@ -26,16 +27,16 @@ fn marks(alloc: Global) -> Result<Vec<bool>, Fail> {
 /// Where the line begins and ends.
 fn line_ends(alloc: Global) -> Result<Vec<Pos>, Fail> {
     let mut ends = Vec::new(alloc);
-    add_line_ends(&mut ends, &lists(alloc, ARCS)?, &refs(alloc, LINE)?)?;
+    add_line_ends(&mut ends, &lists(alloc, ARCS)?, &refs_of(alloc, LINE)?)?;
     Ok(ends)
 }
 
 /// Whether the line and two rings stand, and use all arcs.
 fn lists_stand(alloc: Global, table: &ArcTable) -> Result<bool, Fail> {
     let mut used = ArcsUsed::none(alloc, table.len())?;
-    let line = refs(alloc, LINE)?;
-    let split = refs(alloc, &[0, -2])?;
-    let alone = refs(alloc, &[2])?;
+    let line = refs_of(alloc, LINE)?;
+    let split = refs_of(alloc, &[0, -2])?;
+    let alone = refs_of(alloc, &[2])?;
     Ok(
         line_run(table, &mut used, &line).is_some()
             && ring_stands(table, &mut used, &split)

@@ -1,14 +1,12 @@
 //! Arcs by their places, tables of them, and lists of used arcs by their indexes.
-use chains::{ArcRef, ArcTable};
+use chains::ArcTable;
 use grid::pos::Pos;
-use lines::items::Items;
 use standing::is_apart;
 use std::alloc::Global;
 use std::test::Fail;
+use worked_maps::{Places, lists};
 
 pub(crate) type Place = (i64, i64);
-
-pub(crate) type Places = &'static [Place];
 
 /// Arcs by their places.
 pub(crate) type Arcs = &'static [Places];
@@ -31,31 +29,6 @@ pub(crate) const ROUND: Arcs = &[&[A, D, C], &[A, B], &[B, C]];
 
 /// A closed arc, which may be a free loop.
 pub(crate) const LOOP: Arcs = &[&[A, D, C, A]];
-
-pub(crate) fn positions(alloc: Global, places: &[Place]) -> Result<Vec<Pos>, Fail> {
-    let mut made = Vec::new(alloc);
-    for (x, y) in places {
-        made.push(Pos::new(*x, *y).ok_or("outside the limits")?)?;
-    }
-    Ok(made)
-}
-
-/// The arcs as lists.
-pub(crate) fn lists(alloc: Global, arcs: &[Places]) -> Result<Vec<Items<Pos>>, Fail> {
-    let mut made = Vec::new(alloc);
-    for places in arcs {
-        made.push(Items::from_vec(positions(alloc, *places)?))?;
-    }
-    Ok(made)
-}
-
-pub(crate) fn refs(alloc: Global, indexes: &[i64]) -> Result<Vec<ArcRef>, Fail> {
-    let mut made = Vec::new(alloc);
-    for index in indexes {
-        made.push(ArcRef::from_index(*index))?;
-    }
-    Ok(made)
-}
 
 /// The table of arcs that are in order and apart.
 pub(crate) fn read(

@@ -1,5 +1,5 @@
 //! Lines, rings, lists and texts: which are equal, which is less, and hashes and marks of them.
-use crate::drawn::{A, B, C, D, E, Places, line, positions, ring};
+use crate::tests::drawn::{A, B, C, D, E, Places, line, positions, ring};
 use grid::pos::Pos;
 use lines::bits::{PositionBits, place_among};
 use lines::items::Items;

@@ -18,7 +18,10 @@ fn line_of(alloc: Global, fault: &Fault) -> Result<String, AllocError> {
 }
 
 /// The fault's number and path; or that there is none.
-pub(crate) fn told(alloc: Global, fault: Option<&Fault>) -> Result<String, AllocError> {
+///
+/// # Errors
+/// Where memory is refused.
+pub fn told(alloc: Global, fault: Option<&Fault>) -> Result<String, AllocError> {
     match fault {
         Some(fault) => line_of(alloc, fault),
         None => String::from_str(alloc, "accepted"),

@@ -1,36 +1,24 @@
 //! Lists of lines and of rings that stand over a table of arcs, and ends that meet.
-use crate::drawn::{
-    A, Arcs, B, C, D, E, LOOP, Marks, Place, Places, ROUND, are_ends, lists, positions, refs, table,
-};
+use crate::tests::drawn::{A, Arcs, B, C, D, E, LOOP, Marks, Place, ROUND, are_ends, table};
 use standing::{ArcsUsed, add_line_ends, ends_meet, line_run, ring_stands};
 use std::alloc::Global;
 use std::process::Abort;
 use std::test::Fail;
+use test_values::rows;
+use worked_maps::{Places, lists, positions, refs_of};
 
 /// Arcs, a line's list of them, and where the line begins and ends; none where the list doesn't stand.
-const LINES: &[(&str, Arcs, Marks, &[i64], Option<(Place, Place)>)] = &[
-    ("an arc", ROUND, &[], &[0], Some((A, C))),
-    ("two arcs", ROUND, &[], &[1, 2], Some((A, C))),
-    (
-        "an arc, and one reversed",
-        ROUND,
-        &[],
-        &[0, -3],
-        Some((A, B)),
-    ),
-    ("no arcs", ROUND, &[], &[], None),
-    ("it doesn't run on", ROUND, &[], &[1, 0], None),
-    ("no arc of that number", ROUND, &[], &[1, 3], None),
-    ("an arc twice", ROUND, &[], &[1, -2], None),
-    ("a free loop", LOOP, &[true], &[0], None),
-    (
-        "a closed arc that is no free loop",
-        LOOP,
-        &[],
-        &[0],
-        Some((A, A)),
-    ),
-];
+const LINES: &[(&str, Arcs, Marks, &[i64], Option<(Place, Place)>)] = rows! {
+    "an arc", ROUND, &[], &[0], Some((A, C));
+    "two arcs", ROUND, &[], &[1, 2], Some((A, C));
+    "an arc, and one reversed", ROUND, &[], &[0, -3], Some((A, B));
+    "no arcs", ROUND, &[], &[], None;
+    "it doesn't run on", ROUND, &[], &[1, 0], None;
+    "no arc of that number", ROUND, &[], &[1, 3], None;
+    "an arc twice", ROUND, &[], &[1, -2], None;
+    "a free loop", LOOP, &[true], &[0], None;
+    "a closed arc that is no free loop", LOOP, &[], &[0], Some((A, A));
+};
 
 /// Whether a line's list begins and ends at these places, where it stands.
 fn line_runs(
@@ -42,7 +30,7 @@ fn line_runs(
 ) -> Result<bool, Fail> {
     let table = table(alloc, arcs, free)?;
     let mut used = ArcsUsed::none(alloc, table.len())?;
-    let list = refs(alloc, indexes)?;
+    let list = refs_of(alloc, indexes)?;
     Ok(are_ends(line_run(&table, &mut used, &list), ends))
 }
 
@@ -60,43 +48,25 @@ const LOOPS: Arcs = &[&[A, D, C, A], &[A, B, E, A]];
 
 /// Arcs, a ring's list of them, and whether it stands. From A of `LOOPS` the next vertex is D or B, or,
 /// where the first loop is reversed, C or B.
-const RINGS: &[(&str, Arcs, Marks, &[i64], bool)] = &[
-    ("a free loop", LOOP, &[true], &[0], true),
-    ("one way and back the other", ROUND, &[], &[0, -3, -2], true),
-    ("the other way and back", ROUND, &[], &[1, 2, -1], true),
-    ("it begins elsewhere", ROUND, &[], &[2, -1, 1], false),
-    (
-        "it begins elsewhere, reversed",
-        ROUND,
-        &[],
-        &[-3, -2, 0],
-        false,
-    ),
-    ("no arcs", ROUND, &[], &[], false),
-    ("it doesn't close", ROUND, &[], &[0], false),
-    ("forth and back", ROUND, &[], &[1, -2], false),
-    ("two loops, by D first", LOOPS, &[], &[0, 1], true),
-    (
-        "two loops, by B first, not by D",
-        LOOPS,
-        &[],
-        &[1, 0],
-        false,
-    ),
-    (
-        "two loops, by B first, not by C",
-        LOOPS,
-        &[],
-        &[1, -1],
-        true,
-    ),
-    ("two loops, by C first", LOOPS, &[], &[-1, 1], false),
-];
+const RINGS: &[(&str, Arcs, Marks, &[i64], bool)] = rows! {
+    "a free loop", LOOP, &[true], &[0], true;
+    "one way and back the other", ROUND, &[], &[0, -3, -2], true;
+    "the other way and back", ROUND, &[], &[1, 2, -1], true;
+    "it begins elsewhere", ROUND, &[], &[2, -1, 1], false;
+    "it begins elsewhere, reversed", ROUND, &[], &[-3, -2, 0], false;
+    "no arcs", ROUND, &[], &[], false;
+    "it doesn't close", ROUND, &[], &[0], false;
+    "forth and back", ROUND, &[], &[1, -2], false;
+    "two loops, by D first", LOOPS, &[], &[0, 1], true;
+    "two loops, by B first, not by D", LOOPS, &[], &[1, 0], false;
+    "two loops, by B first, not by C", LOOPS, &[], &[1, -1], true;
+    "two loops, by C first", LOOPS, &[], &[-1, 1], false;
+};
 
 fn ring(alloc: Global, arcs: Arcs, free: Marks, indexes: &[i64]) -> Result<bool, Fail> {
     let table = table(alloc, arcs, free)?;
     let mut used = ArcsUsed::none(alloc, table.len())?;
-    let list = refs(alloc, indexes)?;
+    let list = refs_of(alloc, indexes)?;
     Ok(ring_stands(&table, &mut used, &list))
 }
 
@@ -113,8 +83,8 @@ fn lists_of_rings(rt: HostRuntime) -> Result<(), Fail> {
 #[test]
 fn arcs_that_lists_use(rt: HostRuntime) -> Result<(), Fail> {
     let arcs = table(rt.alloc(), ROUND, &[])?;
-    let line = refs(rt.alloc(), &[1, 2])?;
-    let ring = refs(rt.alloc(), &[0, -3, -2])?;
+    let line = refs_of(rt.alloc(), &[1, 2])?;
+    let ring = refs_of(rt.alloc(), &[0, -3, -2])?;
     let mut used = ArcsUsed::none(rt.alloc(), arcs.len())?;
     let all_before = used.all();
     let line_runs = line_run(&arcs, &mut used, &line).is_some();
@@ -128,23 +98,17 @@ fn arcs_that_lists_use(rt: HostRuntime) -> Result<(), Fail> {
 const STAR: Arcs = &[&[A, D, C], &[A, B], &[A, E]];
 
 /// Arcs, the ends of lines, and whether a line ends at each end of an arc, or three ends of arcs meet there.
-const ENDS: &[(&str, Arcs, Marks, Places, bool)] = &[
-    ("two arcs meet at each end", ROUND, &[], &[], false),
-    ("lines end at two of three ends", ROUND, &[], &[A, C], false),
-    ("lines end at all three ends", ROUND, &[], &[C, A, B], true),
-    ("three meet where no line ends", STAR, &[], &[E, B, C], true),
-    ("a line ends where three meet", STAR, &[], &[E, C, A], false),
-    (
-        "a closed arc has two ends at its seam",
-        &[&[A, D, C, A], &[A, B]],
-        &[],
-        &[B],
-        true,
-    ),
-    ("no line ends at the seam", LOOP, &[], &[], false),
-    ("a line ends at the seam", LOOP, &[], &[A], true),
-    ("a free loop has no end", LOOP, &[true], &[], true),
-];
+const ENDS: &[(&str, Arcs, Marks, Places, bool)] = rows! {
+    "two arcs meet at each end", ROUND, &[], &[], false;
+    "lines end at two of three ends", ROUND, &[], &[A, C], false;
+    "lines end at all three ends", ROUND, &[], &[C, A, B], true;
+    "three meet where no line ends", STAR, &[], &[E, B, C], true;
+    "a line ends where three meet", STAR, &[], &[E, C, A], false;
+    "a closed arc has two ends at its seam", &[&[A, D, C, A], &[A, B]], &[], &[B], true;
+    "no line ends at the seam", LOOP, &[], &[], false;
+    "a line ends at the seam", LOOP, &[], &[A], true;
+    "a free loop has no end", LOOP, &[true], &[], true;
+};
 
 fn meet(alloc: Global, arcs: Arcs, free: Marks, ends: Places) -> Result<bool, Fail> {
     let table = table(alloc, arcs, free)?;
@@ -154,8 +118,10 @@ fn meet(alloc: Global, arcs: Arcs, free: Marks, ends: Places) -> Result<bool, Fa
 #[test]
 fn ends_of_arcs(rt: HostRuntime) -> Result<(), Fail> {
     for (title, arcs, free, ends, expected) in ENDS {
-        let meet = meet(rt.alloc(), *arcs, *free, *ends)?;
-        assert!(rt; meet == *expected, "{title}");
+        assert!(rt;
+            meet(rt.alloc(), *arcs, *free, *ends)? == *expected,
+            "{title}"
+        );
     }
     Ok(())
 }
@@ -168,7 +134,7 @@ fn ends_of_lines(rt: HostRuntime) -> Result<(), Fail> {
     let arcs = lists(rt.alloc(), ROUND)?;
     let mut ends = Vec::new(rt.alloc());
     for indexes in LINE_LISTS {
-        add_line_ends(&mut ends, &arcs, &refs(rt.alloc(), *indexes)?)?;
+        add_line_ends(&mut ends, &arcs, &refs_of(rt.alloc(), *indexes)?)?;
     }
     assert!(rt; ends == positions(rt.alloc(), &[A, C, B, A])?);
     Ok(())
