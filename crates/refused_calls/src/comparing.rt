@@ -3,6 +3,7 @@
 use crate::texts::Places;
 use chains::{ArcRef, ArcTable};
 use grid::Pos;
+use lines::items::Items;
 use shapes::{Feature, FeatureMap};
 use topo::Geom;
 
@@ -31,6 +32,16 @@ pub fn are_arcs(table: &ArcTable, lines: &[Places]) -> bool {
     table.len() == lines.len()
 }
 
+/// Whether lists of positions are the arcs of a table, in their order.
+pub fn are_lists_of(lists: &[Items<Pos>], table: &ArcTable) -> bool {
+    for (number, list) in lists.iter().enumerate() {
+        if table.arc(number) != Some(list.as_slice()) {
+            return false;
+        }
+    }
+    lists.len() == table.len()
+}
+
 /// Whether two tables have the same arcs, of which the same are free loops.
 pub fn same_arcs(table: &ArcTable, other: &ArcTable) -> bool {
     for number in 0..table.len() {
@@ -52,6 +63,23 @@ pub fn are_used(used: &[ArcRef], indexes: &[i64]) -> bool {
         }
     }
     used.len() == indexes.len()
+}
+
+/// Whether the lists that a number gives, up to the first number that gives none, are those of the indexes.
+pub fn are_pieces<'a, F: Fn(usize) -> Option<&'a [ArcRef]>>(lists: &[&[i64]], pieces: F) -> bool
+    requires { F.IsAlwaysCallable pieces }
+{
+    for (number, indexes) in lists.iter().enumerate() {
+        match pieces(number) {
+            Some(used) => {
+                if !are_used(used, indexes) {
+                    return false;
+                }
+            }
+            None => return false,
+        }
+    }
+    pieces(lists.len()).is_none()
 }
 
 /// Whether a map has each layer of another one, with the same features.

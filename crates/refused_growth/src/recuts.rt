@@ -1,10 +1,11 @@
 //! Arcs of two maps cut again.
 
 use faults::OutOfMemory;
-use recutting::{Recut, Side, recut};
-use refused_calls::comparing::{are_used, same_arcs};
+use recutting::{Side, recut};
+use refused_calls::calls::Lent;
+use refused_calls::comparing::{are_pieces, same_arcs};
 use refused_calls::inputs::{built, is_of};
-use refused_calls::outcome::{Answer, Outcome, Tally};
+use refused_calls::outcome::{Answer, Tally};
 use refused_calls::texts::{FREE_LOOP, LINE, LOOP_AND_LINE, SHARED_EDGE, THIRD, THREE};
 use std::alloc::Global;
 use topo::Topology;
@@ -60,58 +61,34 @@ impl Pair {
             both,
         })
     }
+}
 
+impl Lent for Pair {
     fn is_as_before(&self) -> bool {
         is_of(&self.left, self.row.left) && is_of(&self.right, self.row.right)
     }
 }
 
-fn are_pieces(made: &Recut, side: Side, lists: &[&[i64]]) -> bool {
-    for (number, indexes) in lists.iter().enumerate() {
-        match made.pieces(side, number) {
-            Some(pieces) => {
-                if !are_used(pieces, indexes) {
-                    return false;
-                }
-            }
-            None => return false,
-        }
-    }
-    made.pieces(side, lists.len()).is_none()
-}
-
 fn ask(alloc: Global, pair: &Pair) -> Answer {
     match recut(alloc, pair.left.arcs(), pair.right.arcs()) {
         Ok(made) => Answer::of(
-            are_pieces(&made, Side::Left, pair.row.left_pieces)
-                && are_pieces(&made, Side::Right, pair.row.right_pieces)
-                && same_arcs(made.arcs(), pair.both.arcs()),
+            are_pieces(
+                pair.row.left_pieces,
+                |number| made.pieces(Side::Left, number),
+            ) && are_pieces(
+                pair.row.right_pieces,
+                |number| made.pieces(Side::Right, number),
+            ) && same_arcs(made.arcs(), pair.both.arcs()),
         ),
         Err(OutOfMemory) => Answer::Wanting,
-    }
-}
-
-/// Asks, and asks again after want of memory.
-fn settle_pair(alloc: Global, pair: &Pair) -> Outcome {
-    let first = ask(alloc, pair);
-    let outcome = Outcome::of_first(first, pair.is_as_before());
-    match outcome {
-        Outcome::Wanting => Outcome::of_second(ask(alloc, pair)),
-        _ => outcome,
-    }
-}
-
-fn settle_row(alloc: Global, row: &'static Row) -> Outcome {
-    match Pair::of(alloc, row).or_else(|| Pair::of(alloc, row)) {
-        Some(pair) => settle_pair(alloc, &pair),
-        None => Outcome::Unprepared,
     }
 }
 
 /// Cuts the arcs of each row again.
 pub(crate) fn settle(rt: &HostRuntime, tally: &mut Tally) {
     for row in ROWS {
-        let outcome = settle_row(rt.alloc(), row);
-        tally.note(rt, row.title, "recut", outcome);
+        if let Some(pair) = tally.lent(rt, row.title, "recut", |alloc| Pair::of(alloc, row)) {
+            tally.ask(rt, row.title, &pair, "recut", ask);
+        }
     }
 }
