@@ -20,13 +20,11 @@ pub fn stand_at(positions: &[Pos], places: &[(i64, i64)]) -> bool {
 /// Whether the arcs of a table are these lines, in their order.
 pub fn are_arcs(table: &ArcTable, lines: &[Places]) -> bool {
     for (number, places) in lines.iter().enumerate() {
-        match table.arc(number) {
-            Some(arc) => {
-                if !stand_at(arc, places) {
-                    return false;
-                }
-            }
-            None => return false,
+        let Some(arc) = table.arc(number) else {
+            return false;
+        };
+        if !stand_at(arc, places) {
+            return false;
         }
     }
     table.len() == lines.len()
@@ -70,13 +68,11 @@ pub fn are_pieces<'a, F: Fn(usize) -> Option<&'a [ArcRef]>>(lists: &[&[i64]], pi
     requires { F.IsAlwaysCallable pieces }
 {
     for (number, indexes) in lists.iter().enumerate() {
-        match pieces(number) {
-            Some(used) => {
-                if !are_used(used, indexes) {
-                    return false;
-                }
-            }
-            None => return false,
+        let Some(used) = pieces(number) else {
+            return false;
+        };
+        if !are_used(used, indexes) {
+            return false;
         }
     }
     pieces(lists.len()).is_none()

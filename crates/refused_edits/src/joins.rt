@@ -172,9 +172,8 @@ fn run_cuts(alloc: Global, squares: &Squares) -> Answer {
 
 /// Makes each call of the three squares.
 pub(crate) fn settle(rt: &HostRuntime, tally: &mut Tally) {
-    let title = "three squares";
-    if let Some(squares) = tally.lent(rt, title, "their shards", Squares::of) {
-        calls!(tally.ask(rt, title, &squares);
+    if let Some(squares) = tally.lent(rt, "three squares", "their shards", Squares::of) {
+        calls!(tally.ask(rt, "three squares", &squares);
             "merge_texts" => merge,
             "run_plan over Whole" => run_wholes,
             "run_plan over Cut" => run_cuts,

@@ -175,10 +175,9 @@ fn settle_text(alloc: Global, edits: &Edits) -> Outcome {
 
 /// Makes each call of sessions.
 pub(crate) fn settle(rt: &HostRuntime, tally: &mut Tally) {
-    let title = "a session";
-    if let Some(edits) = tally.lent(rt, title, "its edits", Edits::of) {
-        tally.ask(rt, title, &edits, "Session::start", start);
-        calls!(tally.settle(rt, title, &edits);
+    if let Some(edits) = tally.lent(rt, "a session", "its edits", Edits::of) {
+        tally.ask(rt, "a session", &edits, "Session::start", start);
+        calls!(tally.settle(rt, "a session", &edits);
             "Session::apply of a first join" => join,
             "Session::apply of a second join" => join_beside,
             "Session::apply of a removal" => remove,

@@ -7,7 +7,6 @@ use refused_calls::calls;
 use refused_calls::comparing::{are_arcs, are_features, are_neighbors};
 use refused_calls::outcome::{Answer, Tally};
 use refused_calls::texts::Places;
-use shapes::Feature;
 use std::alloc::Global;
 
 fn of_fault(fault: QueryFault) -> Answer {
@@ -39,32 +38,17 @@ fn judge(made: Result<ArcTable, QueryFault>, lines: &[Places]) -> Answer {
 }
 
 fn borders(alloc: Global, worked: &Worked) -> Answer {
-    let made = query::mesh(
-        alloc,
-        &worked.topology,
-        None,
-        |_: &Feature, _: &Feature| true,
-    );
+    let made = query::mesh(alloc, &worked.topology, None, |_, _| true);
     judge(made, worked.row.borders)
 }
 
 fn interior(alloc: Global, worked: &Worked) -> Answer {
-    let made = query::mesh(
-        alloc,
-        &worked.topology,
-        Some("a"),
-        |a: &Feature, b: &Feature| a != b,
-    );
+    let made = query::mesh(alloc, &worked.topology, Some("a"), |a, b| a != b);
     judge(made, worked.row.interior)
 }
 
 fn exterior(alloc: Global, worked: &Worked) -> Answer {
-    let made = query::mesh(
-        alloc,
-        &worked.topology,
-        Some("a"),
-        |a: &Feature, b: &Feature| a == b,
-    );
+    let made = query::mesh(alloc, &worked.topology, Some("a"), |a, b| a == b);
     judge(made, worked.row.exterior)
 }
 

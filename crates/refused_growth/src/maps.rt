@@ -140,13 +140,12 @@ fn union(_: Global, maps: &Maps) -> Answer {
 
 /// Makes each call of maps.
 pub(crate) fn settle(rt: &HostRuntime, tally: &mut Tally) {
-    let title = "maps of squares";
-    if let Some(maps) = tally.lent(rt, title, "its maps", Maps::of) {
-        calls!(tally.settle(rt, title, &maps);
+    if let Some(maps) = tally.lent(rt, "maps of squares", "its maps", Maps::of) {
+        calls!(tally.settle(rt, "maps of squares", &maps);
             "FeatureMap::add_layer" => settle_add_layer,
             "FeatureMap::insert" => settle_insert,
         );
-        calls!(tally.ask(rt, title, &maps);
+        calls!(tally.ask(rt, "maps of squares", &maps);
             "FeatureMap::with_features" => with_features,
             "FeatureMap::united" => united,
             "FeatureMap::union" => union,

@@ -1,6 +1,7 @@
 //! What features are made of.
 
 use faults::OutOfMemory;
+use grid::Pos;
 use refused_calls::calls;
 use refused_calls::comparing::stand_at;
 use refused_calls::inputs::positions;
@@ -14,31 +15,35 @@ const SQUARE: [(i64, i64); 5] = [(1, 0), (1, 1), (0, 1), (0, 0), (1, 0)];
 /// Its vertices from the least one on.
 const VERTICES: [(i64, i64); 4] = [(0, 0), (1, 0), (1, 1), (0, 1)];
 
-fn of_fault(fault: ShapeFault) -> Answer {
-    match fault {
-        ShapeFault::OutOfMemory => Answer::Wanting,
-        _ => Answer::Wrong,
+/// What a call answers that is handed the places of the square.
+fn judge<T: Drop, F: Fn(Global, Vec<Pos>) -> Result<T, ShapeFault>, R: Fn(&T) -> bool>(
+    alloc: Global,
+    make: F,
+    is_right: R,
+) -> Answer
+    requires makes { F.IsAlwaysCallable make }
+    requires judges { R.IsAlwaysCallable is_right }
+{
+    let Some(square) = positions(alloc, &SQUARE) else {
+        return Answer::Unasked;
+    };
+    match make(alloc, square) {
+        Ok(made) => Answer::of(is_right(&made)),
+        Err(ShapeFault::OutOfMemory) => Answer::Wanting,
+        Err(_) => Answer::Wrong,
     }
 }
 
 fn ring(alloc: Global, _: &()) -> Answer {
-    let Some(closed) = positions(alloc, &SQUARE) else {
-        return Answer::Unasked;
-    };
-    match Ring::from_closed(alloc, closed) {
-        Ok(ring) => Answer::of(stand_at(ring.vertices(), &VERTICES)),
-        Err(fault) => of_fault(fault),
-    }
+    judge(alloc, Ring::from_closed, |ring: &Ring| {
+        stand_at(ring.vertices(), &VERTICES)
+    })
 }
 
 fn line(alloc: Global, _: &()) -> Answer {
-    let Some(positions) = positions(alloc, &SQUARE) else {
-        return Answer::Unasked;
-    };
-    match Line::from_positions(alloc, positions) {
-        Ok(line) => Answer::of(stand_at(line.positions(), &SQUARE)),
-        Err(fault) => of_fault(fault),
-    }
+    judge(alloc, Line::from_positions, |line: &Line| {
+        stand_at(line.positions(), &SQUARE)
+    })
 }
 
 fn name(alloc: Global, _: &()) -> Answer {

@@ -10,33 +10,33 @@ use refused_calls::texts::{FREE_LOOP, LINE, LOOP_AND_LINE, SHARED_EDGE, THIRD, T
 use std::alloc::Global;
 use topo::Topology;
 
-/// Two maps, the map of both, and for each arc of each the indexes of the arcs that it is cut into.
+/// Two maps, for each arc of each the indexes of the arcs that it is cut into, and the map of both.
 #[derive(Clone, Copy)]
 struct Row {
     title: &'static str,
     left: &'static str,
-    right: &'static str,
-    both: &'static str,
     left_pieces: &'static [&'static [i64]],
+    right: &'static str,
     right_pieces: &'static [&'static [i64]],
+    both: &'static str,
 }
 
 const ROWS: &[Row] = &[
     Row {
         title: "two squares, and the third",
         left: SHARED_EDGE,
-        right: THIRD,
-        both: THREE,
         left_pieces: &[&[0], &[1], &[2, 4, -4]],
+        right: THIRD,
         right_pieces: &[&[4, -6]],
+        both: THREE,
     },
     Row {
         title: "a free loop, and a line from its side",
         left: FREE_LOOP,
-        right: LINE,
-        both: LOOP_AND_LINE,
         left_pieces: &[&[0]],
+        right: LINE,
         right_pieces: &[&[1]],
+        both: LOOP_AND_LINE,
     },
 ];
 
@@ -51,14 +51,11 @@ struct Pair {
 
 impl Pair {
     fn of(alloc: Global, row: &'static Row) -> Option<Pair> {
-        let left = built(alloc, row.left)?;
-        let right = built(alloc, row.right)?;
-        let both = built(alloc, row.both)?;
         Some(Pair {
             row,
-            left,
-            right,
-            both,
+            left: built(alloc, row.left)?,
+            right: built(alloc, row.right)?,
+            both: built(alloc, row.both)?,
         })
     }
 }
