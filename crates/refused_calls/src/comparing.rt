@@ -63,21 +63,6 @@ pub fn are_used(used: &[ArcRef], indexes: &[i64]) -> bool {
     used.len() == indexes.len()
 }
 
-/// Whether the lists that a number gives, up to the first number that gives none, are those of the indexes.
-pub fn are_pieces<'a, F: Fn(usize) -> Option<&'a [ArcRef]>>(lists: &[&[i64]], pieces: F) -> bool
-    requires { F.IsAlwaysCallable pieces }
-{
-    for (number, indexes) in lists.iter().enumerate() {
-        let Some(used) = pieces(number) else {
-            return false;
-        };
-        if !are_used(used, indexes) {
-            return false;
-        }
-    }
-    pieces(lists.len()).is_none()
-}
-
 /// Whether a map has each layer of another one, with the same features.
 fn has_layers(map: &FeatureMap, other: &FeatureMap) -> bool {
     for layer in other.layers() {

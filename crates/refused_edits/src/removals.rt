@@ -1,9 +1,10 @@
 //! Features taken out of topologies.
 
 use faults::OutOfMemory;
+use refine::Removal;
 use refine::remove::remove;
 use refused_calls::calls::Lent;
-use refused_calls::comparing::{are_pieces, same_map};
+use refused_calls::comparing::{are_used, same_map};
 use refused_calls::inputs::{built, is_of, read};
 use refused_calls::outcome::{Answer, Tally};
 use refused_calls::texts::{
@@ -83,11 +84,22 @@ impl Lent for Removing {
     }
 }
 
+fn are_pieces(made: &Removal, lists: &[&[i64]]) -> bool {
+    for (number, indexes) in lists.iter().enumerate() {
+        let Some(pieces) = made.pieces(number) else {
+            return false;
+        };
+        if !are_used(pieces, indexes) {
+            return false;
+        }
+    }
+    made.pieces(lists.len()).is_none()
+}
+
 fn ask(alloc: Global, removing: &Removing) -> Answer {
     match remove(alloc, &removing.whole, &removing.removed) {
         Ok(made) => Answer::of(
-            is_of(made.topology(), removing.row.left)
-                && are_pieces(removing.row.pieces, |number| made.pieces(number)),
+            is_of(made.topology(), removing.row.left) && are_pieces(&made, removing.row.pieces),
         ),
         Err(OutOfMemory) => Answer::Wanting,
     }

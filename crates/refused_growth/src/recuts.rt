@@ -1,9 +1,9 @@
 //! Arcs of two maps cut again.
 
 use faults::OutOfMemory;
-use recutting::{Side, recut};
+use recutting::{Recut, Side, recut};
 use refused_calls::calls::Lent;
-use refused_calls::comparing::{are_pieces, same_arcs};
+use refused_calls::comparing::{are_used, same_arcs};
 use refused_calls::inputs::{built, is_of};
 use refused_calls::outcome::{Answer, Tally};
 use refused_calls::texts::{FREE_LOOP, LINE, LOOP_AND_LINE, SHARED_EDGE, THIRD, THREE};
@@ -66,16 +66,24 @@ impl Lent for Pair {
     }
 }
 
+fn are_pieces(made: &Recut, side: Side, lists: &[&[i64]]) -> bool {
+    for (number, indexes) in lists.iter().enumerate() {
+        let Some(pieces) = made.pieces(side, number) else {
+            return false;
+        };
+        if !are_used(pieces, indexes) {
+            return false;
+        }
+    }
+    made.pieces(side, lists.len()).is_none()
+}
+
 fn ask(alloc: Global, pair: &Pair) -> Answer {
     match recut(alloc, pair.left.arcs(), pair.right.arcs()) {
         Ok(made) => Answer::of(
-            are_pieces(
-                pair.row.left_pieces,
-                |number| made.pieces(Side::Left, number),
-            ) && are_pieces(
-                pair.row.right_pieces,
-                |number| made.pieces(Side::Right, number),
-            ) && same_arcs(made.arcs(), pair.both.arcs()),
+            are_pieces(&made, Side::Left, pair.row.left_pieces)
+                && are_pieces(&made, Side::Right, pair.row.right_pieces)
+                && same_arcs(made.arcs(), pair.both.arcs()),
         ),
         Err(OutOfMemory) => Answer::Wanting,
     }
