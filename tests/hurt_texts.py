@@ -9,30 +9,21 @@ back by a merge. With a limit of time it stops there. Ends with a line of counts
 anything else, almost no text was tried, or of many none was accepted.
 """
 
-import argparse
 import json
 import os
 import random
-import subprocess
 import sys
 import tempfile
 
 sys.dont_write_bytecode = True
 
-from many_runs import judged, told
+from many_runs import LEAST_TEXTS, TOP, judged, told, topotool, words_of
 
-TOP = os.path.dirname(os.path.dirname(os.path.abspath(__file__)))
-PROGRAM = os.environ.get("TOPOTOOL", f"{TOP}/crates/topotool/out/topotool")
-LEAST_TEXTS = 20
 SURE_TEXTS = 200  # of so many some are accepted
 LOOP = {"type": "FeatureCollection", "features": [
     {"type": "Feature", "id": "loop", "geometry": {"type": "Polygon", "coordinates": [[[0, 0], [2, 0], [0, 2], [0, 0]]]}, "properties": {"n": 1}},
     {"type": "Feature", "geometry": {"type": "LineString", "coordinates": [[2, 0], [3, 0]]}, "properties": {}},
     {"type": "Feature", "id": 7, "geometry": {"type": "MultiPoint", "coordinates": [[1, 1], [1, 1]]}, "properties": {"a": [None, True]}}]}
-
-
-def topotool(*words, given=None):
-    return subprocess.run([PROGRAM, *words], input=given, capture_output=True)
 
 
 def whole_texts(folder):
@@ -141,13 +132,7 @@ def complaints(file, merge):
 
 
 def main():
-    words = argparse.ArgumentParser()
-    words.add_argument("--seed", type=int, default=1)
-    words.add_argument("--texts", type=int, default=10000)
-    words.add_argument("--seconds", type=float, help="stop after so long")
-    words = words.parse_args()
-    if not os.path.isfile(PROGRAM):
-        sys.exit(f"{PROGRAM} is not there: rt run in crates/topotool builds it")
+    words = words_of(10000)
     chance, wrong, done, accepted = random.Random(words.seed), 0, 0, 0
     with tempfile.TemporaryDirectory() as folder:
         texts = whole_texts(folder)

@@ -1,10 +1,32 @@
 """What the scripts share that run the program very many times: all processors, and a limit of time."""
 
+import argparse
 import multiprocessing
 import os
 import signal
+import subprocess
 import sys
 import time
+
+TOP = os.path.dirname(os.path.dirname(os.path.abspath(__file__)))
+PROGRAM = os.environ.get("TOPOTOOL", f"{TOP}/crates/topotool/out/topotool")
+LEAST_TEXTS = 20
+
+
+def topotool(*words):
+    return subprocess.run([PROGRAM, *words], capture_output=True)
+
+
+def words_of(texts):
+    """The words of a script that tries so many texts, unless they say another number. Ends it where there is no program."""
+    words = argparse.ArgumentParser()
+    words.add_argument("--seed", type=int, default=1)
+    words.add_argument("--texts", type=int, default=texts)
+    words.add_argument("--seconds", type=float, help="stop after so long")
+    words = words.parse_args()
+    if not os.path.isfile(PROGRAM):
+        sys.exit(f"{PROGRAM} is not there: rt run in crates/topotool builds it")
+    return words
 
 
 def end_on_request():

@@ -12,27 +12,18 @@ feature of it. With a limit of time it stops there. Ends with a line of counts, 
 else, or almost no text was tried.
 """
 
-import argparse
 import json
-import os
 import random
-import subprocess
 import sys
 import tempfile
 
 sys.dont_write_bytecode = True
-TOP = os.path.dirname(os.path.dirname(os.path.abspath(__file__)))
+
+from many_runs import LEAST_TEXTS, TOP, judged, told, topotool, words_of
+
 sys.path.insert(0, f"{TOP}/bench")
 
-from many_runs import judged, told
 from random_maps import random_map
-
-PROGRAM = os.environ.get("TOPOTOOL", f"{TOP}/crates/topotool/out/topotool")
-LEAST_TEXTS = 20
-
-
-def topotool(*words):
-    return subprocess.run([PROGRAM, *words], capture_output=True)
 
 
 def decoded(arc):
@@ -237,13 +228,7 @@ def complaints(folder, canonical, text):
 
 
 def main():
-    words = argparse.ArgumentParser()
-    words.add_argument("--seed", type=int, default=1)
-    words.add_argument("--texts", type=int, default=3000)
-    words.add_argument("--seconds", type=float, help="stop after so long")
-    words = words.parse_args()
-    if not os.path.isfile(PROGRAM):
-        sys.exit(f"{PROGRAM} is not there: rt run in crates/topotool builds it")
+    words = words_of(3000)
     wrong = done = 0
     for found in judged(judge, range(words.seed, words.seed + words.texts), words.seconds):
         done, wrong = done + 1, wrong + len(found)

@@ -3,6 +3,7 @@
 use crate::texts::Places;
 use chains::{ArcRef, ArcTable};
 use grid::Pos;
+use lines::items::Items;
 use shapes::{Feature, FeatureMap};
 use topo::Geom;
 
@@ -19,16 +20,24 @@ pub fn stand_at(positions: &[Pos], places: &[(i64, i64)]) -> bool {
 /// Whether the arcs of a table are these lines, in their order.
 pub fn are_arcs(table: &ArcTable, lines: &[Places]) -> bool {
     for (number, places) in lines.iter().enumerate() {
-        match table.arc(number) {
-            Some(arc) => {
-                if !stand_at(arc, places) {
-                    return false;
-                }
-            }
-            None => return false,
+        let Some(arc) = table.arc(number) else {
+            return false;
+        };
+        if !stand_at(arc, places) {
+            return false;
         }
     }
     table.len() == lines.len()
+}
+
+/// Whether lists of positions are the arcs of a table, in their order.
+pub fn are_lists_of(lists: &[Items<Pos>], table: &ArcTable) -> bool {
+    for (number, list) in lists.iter().enumerate() {
+        if table.arc(number) != Some(list.as_slice()) {
+            return false;
+        }
+    }
+    lists.len() == table.len()
 }
 
 /// Whether two tables have the same arcs, of which the same are free loops.

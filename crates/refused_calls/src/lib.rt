@@ -3,6 +3,7 @@
 //! tests/refused_growth.py runs.
 #![tactic(auto)]
 
+pub mod calls;
 pub mod comparing;
 pub mod inputs;
 pub mod outcome;

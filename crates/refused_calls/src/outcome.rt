@@ -111,10 +111,16 @@ impl Tally {
         }
     }
 
-    /// Counts a call that takes no memory, and names it where it went wrong.
-    pub fn note_without_memory(&mut self, rt: &HostRuntime, call: &str, outcome: Outcome) {
+    /// The same of a call that takes no memory.
+    pub fn note_without_memory(
+        &mut self,
+        rt: &HostRuntime,
+        title: &str,
+        call: &str,
+        outcome: Outcome,
+    ) {
         self.without_memory = self.without_memory.saturating_add(1);
-        self.note(rt, "without memory", call, outcome);
+        self.note(rt, title, call, outcome);
     }
 
     /// Prints the counts. The status is 1 where a call went wrong, 5 where memory was wanting to the

@@ -2,7 +2,9 @@
 
 use faults::OutOfMemory;
 use refine::{Cut, MergeFault, Plan, PlanFault, Shard, Whole, merge_texts, run_plan};
-use refused_calls::outcome::{Answer, Outcome, Tally};
+use refused_calls::calls;
+use refused_calls::calls::Lent;
+use refused_calls::outcome::{Answer, Tally};
 use refused_calls::texts::{FIRST, SECOND, THIRD, THREE};
 use std::alloc::Global;
 
@@ -51,12 +53,14 @@ impl Squares {
             plan,
         })
     }
+}
 
-    /// Whether all that is lent is as it was made.
-    fn is_as_before(&self, alloc: Global) -> Answer {
-        if !are_texts(self.texts.as_slice()) || !is_to_the_right(&self.plan) {
-            return Answer::Wrong;
-        }
+impl Lent for Squares {
+    fn is_as_before(&self) -> bool {
+        are_texts(self.texts.as_slice()) && is_to_the_right(&self.plan)
+    }
+
+    fn is_as_made(&self, alloc: Global) -> Answer {
         match are_shards(alloc, self.wholes.as_slice()) {
             Answer::Right => are_shards(alloc, self.cuts.as_slice()),
             other => other,
@@ -120,17 +124,26 @@ fn is_to_the_right(plan: &Plan) -> bool {
     }
 }
 
-fn judge_plan(made: Result<Option<Plan>, OutOfMemory>, is_left: bool) -> Answer {
+fn judge_plan<F: Fn(&Plan) -> bool>(made: Result<Option<Plan>, OutOfMemory>, is_right: F) -> Answer
+    requires { F.IsAlwaysCallable is_right }
+{
     match made {
-        Ok(Some(plan)) => {
-            if is_left {
-                return Answer::of(is_to_the_left(&plan));
-            }
-            Answer::of(is_to_the_right(&plan))
-        }
+        Ok(Some(plan)) => Answer::of(is_right(&plan)),
         Ok(None) => Answer::Wrong,
         Err(OutOfMemory) => Answer::Wanting,
     }
+}
+
+fn left(alloc: Global, _: &Squares) -> Answer {
+    judge_plan(Plan::left(alloc, TEXTS.len()), is_to_the_left)
+}
+
+fn right(alloc: Global, _: &Squares) -> Answer {
+    judge_plan(Plan::right(alloc, TEXTS.len()), is_to_the_right)
+}
+
+fn halves(alloc: Global, _: &Squares) -> Answer {
+    judge_plan(Plan::halves(alloc, TEXTS.len()), is_to_the_right)
 }
 
 fn merge(alloc: Global, squares: &Squares) -> Answer {
@@ -149,63 +162,24 @@ fn run<S: Shard>(alloc: Global, shards: &[S], plan: &Plan) -> Answer {
     }
 }
 
-/// The calls.
-#[derive(Clone, Copy)]
-enum Call {
-    Merge,
-    RunWhole,
-    RunCut,
-    Left,
-    Right,
-    Halves,
+fn run_wholes(alloc: Global, squares: &Squares) -> Answer {
+    run(alloc, squares.wholes.as_slice(), &squares.plan)
 }
 
-/// Each call by its name.
-const CALLS: &[(&str, Call)] = &[
-    ("merge_texts", Call::Merge),
-    ("run_plan over Whole", Call::RunWhole),
-    ("run_plan over Cut", Call::RunCut),
-    ("Plan::left", Call::Left),
-    ("Plan::right", Call::Right),
-    ("Plan::halves", Call::Halves),
-];
-
-impl Call {
-    fn ask(self, alloc: Global, squares: &Squares) -> Answer {
-        match self {
-            Call::Merge => merge(alloc, squares),
-            Call::RunWhole => run(alloc, squares.wholes.as_slice(), &squares.plan),
-            Call::RunCut => run(alloc, squares.cuts.as_slice(), &squares.plan),
-            Call::Left => judge_plan(Plan::left(alloc, TEXTS.len()), true),
-            Call::Right => judge_plan(Plan::right(alloc, TEXTS.len()), false),
-            Call::Halves => judge_plan(Plan::halves(alloc, TEXTS.len()), false),
-        }
-    }
-
-    /// Asks, and asks again after want of memory.
-    fn settle(self, alloc: Global, squares: &Squares) -> Outcome {
-        let first = Outcome::of_first(self.ask(alloc, squares), true);
-        match first {
-            Outcome::Wanting => match squares.is_as_before(alloc) {
-                Answer::Right => Outcome::of_second(self.ask(alloc, squares)),
-                other => Outcome::of_first(other, true),
-            },
-            _ => first,
-        }
-    }
-}
-
-fn settle_all(rt: &HostRuntime, tally: &mut Tally, squares: &Squares) {
-    for (name, call) in CALLS {
-        let outcome = call.settle(rt.alloc(), squares);
-        tally.note(rt, "three squares", *name, outcome);
-    }
+fn run_cuts(alloc: Global, squares: &Squares) -> Answer {
+    run(alloc, squares.cuts.as_slice(), &squares.plan)
 }
 
 /// Makes each call of the three squares.
 pub(crate) fn settle(rt: &HostRuntime, tally: &mut Tally) {
-    match Squares::of(rt.alloc()).or_else(|| Squares::of(rt.alloc())) {
-        Some(squares) => settle_all(rt, tally, &squares),
-        None => tally.note(rt, "three squares", "their shards", Outcome::Unprepared),
+    if let Some(squares) = tally.lent(rt, "three squares", "their shards", Squares::of) {
+        calls!(tally.ask(rt, "three squares", &squares);
+            "merge_texts" => merge,
+            "run_plan over Whole" => run_wholes,
+            "run_plan over Cut" => run_cuts,
+            "Plan::left" => left,
+            "Plan::right" => right,
+            "Plan::halves" => halves,
+        );
     }
 }

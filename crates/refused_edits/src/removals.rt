@@ -3,9 +3,10 @@
 use faults::OutOfMemory;
 use refine::Removal;
 use refine::remove::remove;
+use refused_calls::calls::Lent;
 use refused_calls::comparing::{are_used, same_map};
 use refused_calls::inputs::{built, is_of, read};
-use refused_calls::outcome::{Answer, Outcome, Tally};
+use refused_calls::outcome::{Answer, Tally};
 use refused_calls::texts::{
     EMPTY, ENDS, FIRST, FREE_LOOP, LINE, LOOP_AND_LINE, SECOND, SHARED_EDGE, THREE,
 };
@@ -75,7 +76,9 @@ impl Removing {
             copy,
         })
     }
+}
 
+impl Lent for Removing {
     fn is_as_before(&self) -> bool {
         is_of(&self.whole, self.row.whole) && same_map(&self.removed, &self.copy)
     }
@@ -83,13 +86,11 @@ impl Removing {
 
 fn are_pieces(made: &Removal, lists: &[&[i64]]) -> bool {
     for (number, indexes) in lists.iter().enumerate() {
-        match made.pieces(number) {
-            Some(pieces) => {
-                if !are_used(pieces, indexes) {
-                    return false;
-                }
-            }
-            None => return false,
+        let Some(pieces) = made.pieces(number) else {
+            return false;
+        };
+        if !are_used(pieces, indexes) {
+            return false;
         }
     }
     made.pieces(lists.len()).is_none()
@@ -104,27 +105,16 @@ fn ask(alloc: Global, removing: &Removing) -> Answer {
     }
 }
 
-/// Asks, and asks again after want of memory.
-fn settle_removing(alloc: Global, removing: &Removing) -> Outcome {
-    let first = ask(alloc, removing);
-    let outcome = Outcome::of_first(first, removing.is_as_before());
-    match outcome {
-        Outcome::Wanting => Outcome::of_second(ask(alloc, removing)),
-        _ => outcome,
-    }
-}
-
-fn settle_row(alloc: Global, row: &'static Row) -> Outcome {
-    match Removing::of(alloc, row).or_else(|| Removing::of(alloc, row)) {
-        Some(removing) => settle_removing(alloc, &removing),
-        None => Outcome::Unprepared,
-    }
-}
-
 /// Takes out what each row says.
 pub(crate) fn settle(rt: &HostRuntime, tally: &mut Tally) {
     for row in ROWS {
-        let outcome = settle_row(rt.alloc(), row);
-        tally.note(rt, row.title, "remove", outcome);
+        if let Some(removing) = tally.lent(
+            rt,
+            row.title,
+            "remove",
+            |alloc| Removing::of(alloc, row),
+        ) {
+            tally.ask(rt, row.title, &removing, "remove", ask);
+        }
     }
 }

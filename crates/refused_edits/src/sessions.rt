@@ -3,6 +3,8 @@
 use faults::OutOfMemory;
 use grid::Grid;
 use refine::{Edit, EditsFault, JoinFault, Session};
+use refused_calls::calls;
+use refused_calls::calls::{Lent, change};
 use refused_calls::comparing::same_map;
 use refused_calls::inputs::{built, is_of, read};
 use refused_calls::outcome::{Answer, Outcome, Tally};
@@ -42,16 +44,6 @@ impl Edits {
         Some(Edits { grid, list, copy })
     }
 
-    /// Whether all that is lent is as it was made.
-    fn is_as_before(&self) -> bool {
-        match self.list.as_slice() {
-            [Edit::Join(first), Edit::Join(second), Edit::Remove(map)] => {
-                is_of(first, FIRST) && is_of(second, SECOND) && same_map(map, &self.copy)
-            }
-            _ => false,
-        }
-    }
-
     /// A session after so many of the edits.
     fn session_after(&self, alloc: Global, count: usize) -> Option<Session> {
         let mut session = Session::start(alloc, &self.grid).ok()?;
@@ -59,6 +51,17 @@ impl Edits {
             session.apply(edit).ok()?;
         }
         Some(session)
+    }
+}
+
+impl Lent for Edits {
+    fn is_as_before(&self) -> bool {
+        match self.list.as_slice() {
+            [Edit::Join(first), Edit::Join(second), Edit::Remove(map)] => {
+                is_of(first, FIRST) && is_of(second, SECOND) && same_map(map, &self.copy)
+            }
+            _ => false,
+        }
     }
 }
 
@@ -77,13 +80,6 @@ fn start(alloc: Global, edits: &Edits) -> Answer {
     }
 }
 
-fn settle_start(alloc: Global, edits: &Edits) -> Outcome {
-    match start(alloc, edits) {
-        Answer::Wanting => Outcome::of_second(start(alloc, edits)),
-        first => Outcome::of_first(first, edits.is_as_before()),
-    }
-}
-
 fn apply(session: &mut Session, edits: &Edits, place: usize) -> Answer {
     let Some(edit) = edits.list.get(place) else {
         return Answer::Wrong;
@@ -95,21 +91,26 @@ fn apply(session: &mut Session, edits: &Edits, place: usize) -> Answer {
     }
 }
 
-/// Applies the edit at a place to a session after the edits before it, again after want of memory.
+/// Applies the edit at a place to a session after the edits before it.
 fn settle_apply(alloc: Global, edits: &Edits, place: usize) -> Outcome {
-    let Some(mut session) = edits.session_after(alloc, place) else {
-        return Outcome::Unprepared;
-    };
-    let first = apply(&mut session, edits, place);
-    match first {
-        Answer::Wanting => {
-            if is_after(&session, place) && edits.is_as_before() {
-                return Outcome::of_second(apply(&mut session, edits, place));
-            }
-            Outcome::Wrong
-        }
-        _ => Outcome::of_first(first, edits.is_as_before()),
-    }
+    change(
+        edits,
+        edits.session_after(alloc, place),
+        |session| apply(session, edits, place),
+        |session| is_after(session, place),
+    )
+}
+
+fn join(alloc: Global, edits: &Edits) -> Outcome {
+    settle_apply(alloc, edits, 0)
+}
+
+fn join_beside(alloc: Global, edits: &Edits) -> Outcome {
+    settle_apply(alloc, edits, 1)
+}
+
+fn remove(alloc: Global, edits: &Edits) -> Outcome {
+    settle_apply(alloc, edits, 2)
 }
 
 /// The edits behind a place are all applied.
@@ -153,77 +154,35 @@ fn after_fault(session: &mut Session, edits: &Edits, fault: EditsFault) -> Outco
     }
 }
 
+/// The text of a session, which stays as it is.
 fn text(session: &Session) -> Answer {
     match session.text() {
-        Ok(text) => Answer::of(text.as_slice() == SHARED_EDGE.as_bytes()),
+        Ok(text) => {
+            Answer::of(text.as_slice() == SHARED_EDGE.as_bytes() && is_after(session, 2))
+        }
         Err(OutOfMemory) => Answer::Wanting,
     }
 }
 
 fn settle_text(alloc: Global, edits: &Edits) -> Outcome {
-    let Some(session) = edits.session_after(alloc, 2) else {
-        return Outcome::Unprepared;
-    };
-    let outcome = Outcome::of_first(text(&session), is_after(&session, 2));
-    match outcome {
-        Outcome::Wanting => Outcome::of_second(text(&session)),
-        _ => outcome,
-    }
-}
-
-/// The calls.
-#[derive(Clone, Copy)]
-enum Call {
-    Start,
-    Join,
-    JoinBeside,
-    Remove,
-    All,
-    Text,
-}
-
-/// Each call by its name.
-const CALLS: &[(&str, Call)] = &[
-    ("Session::start", Call::Start),
-    ("Session::apply of a first join", Call::Join),
-    ("Session::apply of a second join", Call::JoinBeside),
-    ("Session::apply of a removal", Call::Remove),
-    ("Session::apply_all", Call::All),
-    ("Session::text", Call::Text),
-];
-
-impl Call {
-    fn settle(self, alloc: Global, edits: &Edits) -> Outcome {
-        match self {
-            Call::Start => settle_start(alloc, edits),
-            Call::Join => settle_apply(alloc, edits, 0),
-            Call::JoinBeside => settle_apply(alloc, edits, 1),
-            Call::Remove => settle_apply(alloc, edits, 2),
-            Call::All => settle_all_edits(alloc, edits),
-            Call::Text => settle_text(alloc, edits),
-        }
-    }
-
-    /// Once more where its session could not be made.
-    fn settle_prepared(self, alloc: Global, edits: &Edits) -> Outcome {
-        match self.settle(alloc, edits) {
-            Outcome::Unprepared => self.settle(alloc, edits),
-            outcome => outcome,
-        }
-    }
-}
-
-fn settle_calls(rt: &HostRuntime, tally: &mut Tally, edits: &Edits) {
-    for (name, call) in CALLS {
-        let outcome = call.settle_prepared(rt.alloc(), edits);
-        tally.note(rt, "a session", *name, outcome);
-    }
+    change(
+        edits,
+        edits.session_after(alloc, 2),
+        |session| text(session),
+        |session| is_after(session, 2),
+    )
 }
 
 /// Makes each call of sessions.
 pub(crate) fn settle(rt: &HostRuntime, tally: &mut Tally) {
-    match Edits::of(rt.alloc()).or_else(|| Edits::of(rt.alloc())) {
-        Some(edits) => settle_calls(rt, tally, &edits),
-        None => tally.note(rt, "a session", "its edits", Outcome::Unprepared),
+    if let Some(edits) = tally.lent(rt, "a session", "its edits", Edits::of) {
+        tally.ask(rt, "a session", &edits, "Session::start", start);
+        calls!(tally.settle(rt, "a session", &edits);
+            "Session::apply of a first join" => join,
+            "Session::apply of a second join" => join_beside,
+            "Session::apply of a removal" => remove,
+            "Session::apply_all" => settle_all_edits,
+            "Session::text" => settle_text,
+        );
     }
 }

@@ -4,9 +4,11 @@ use chains::ArcTable;
 use faults::OutOfMemory;
 use grid::Pos;
 use lines::items::Items;
-use refused_calls::comparing::same_arcs;
-use refused_calls::inputs::{built, is_of};
-use refused_calls::outcome::{Answer, Outcome, Tally};
+use refused_calls::calls;
+use refused_calls::calls::Lent;
+use refused_calls::comparing::{are_lists_of, same_arcs};
+use refused_calls::inputs::{built, is_of, positions};
+use refused_calls::outcome::{Answer, Tally};
 use refused_calls::texts::{FREE_LOOP, LOOP_AND_LINE, SHARED_EDGE};
 use standing::{free_loops, is_apart};
 use std::alloc::Global;
@@ -63,23 +65,6 @@ fn lists(alloc: Global, table: &ArcTable) -> Option<Vec<Items<Pos>>> {
     Some(made)
 }
 
-fn are_lists_of(arcs: &[Items<Pos>], table: &ArcTable) -> bool {
-    for (number, arc) in arcs.iter().enumerate() {
-        if table.arc(number) != Some(arc.as_slice()) {
-            return false;
-        }
-    }
-    arcs.len() == table.len()
-}
-
-fn positions(alloc: Global, places: &[(i64, i64)]) -> Option<Vec<Pos>> {
-    let mut made = Vec::new(alloc);
-    for (x, y) in places {
-        made.push(Pos::new(*x, *y)?).ok()?;
-    }
-    Some(made)
-}
-
 impl Standing {
     fn of(alloc: Global, row: &'static Row) -> Option<Standing> {
         let topology = built(alloc, row.topology)?;
@@ -90,7 +75,9 @@ impl Standing {
             arcs,
         })
     }
+}
 
+impl Lent for Standing {
     fn is_as_before(&self) -> bool {
         is_of(&self.topology, self.row.topology)
             && are_lists_of(self.arcs.as_slice(), self.topology.arcs())
@@ -125,49 +112,10 @@ fn mark(alloc: Global, standing: &Standing) -> Answer {
     }
 }
 
-/// The calls.
-#[derive(Clone, Copy)]
-enum Call {
-    Read,
-    Mark,
-}
-
-/// Each call by its name.
-const CALLS: &[(&str, Call)] = &[("is_apart", Call::Read), ("free_loops", Call::Mark)];
-
-impl Call {
-    fn ask(self, alloc: Global, standing: &Standing) -> Answer {
-        match self {
-            Call::Read => read(alloc, standing),
-            Call::Mark => mark(alloc, standing),
-        }
-    }
-
-    fn ask_first(self, alloc: Global, standing: &Standing) -> Outcome {
-        Outcome::of_first(self.ask(alloc, standing), standing.is_as_before())
-    }
-
-    /// Asks, and asks again after want of memory, or where what the call is handed could not be made.
-    fn settle(self, alloc: Global, standing: &Standing) -> Outcome {
-        match self.ask_first(alloc, standing) {
-            Outcome::Wanting => Outcome::of_second(self.ask(alloc, standing)),
-            Outcome::Unprepared => self.ask_first(alloc, standing),
-            outcome => outcome,
-        }
-    }
-}
-
-fn settle_standing(rt: &HostRuntime, tally: &mut Tally, standing: &Standing) {
-    for (name, call) in CALLS {
-        let outcome = call.settle(rt.alloc(), standing);
-        tally.note(rt, standing.row.title, *name, outcome);
-    }
-}
-
 fn settle_row(rt: &HostRuntime, tally: &mut Tally, row: &'static Row) {
-    match Standing::of(rt.alloc(), row).or_else(|| Standing::of(rt.alloc(), row)) {
-        Some(standing) => settle_standing(rt, tally, &standing),
-        None => tally.note(rt, row.title, "its arcs", Outcome::Unprepared),
+    let made = tally.lent(rt, row.title, "its arcs", |alloc| Standing::of(alloc, row));
+    if let Some(standing) = made {
+        calls!(tally.ask(rt, row.title, &standing); "is_apart" => read, "free_loops" => mark);
     }
 }
 

@@ -3,10 +3,10 @@
 use crate::worked::Worked;
 use chains::ArcTable;
 use query::QueryFault;
+use refused_calls::calls;
 use refused_calls::comparing::{are_arcs, are_features, are_neighbors};
-use refused_calls::outcome::Answer;
+use refused_calls::outcome::{Answer, Tally};
 use refused_calls::texts::Places;
-use shapes::Feature;
 use std::alloc::Global;
 
 fn of_fault(fault: QueryFault) -> Answer {
@@ -16,14 +16,14 @@ fn of_fault(fault: QueryFault) -> Answer {
     }
 }
 
-pub(crate) fn features(alloc: Global, worked: &Worked) -> Answer {
+fn features(alloc: Global, worked: &Worked) -> Answer {
     match query::feature(alloc, &worked.topology, "a") {
         Ok(features) => Answer::of(are_features(features.as_slice(), &worked.copy)),
         Err(fault) => of_fault(fault),
     }
 }
 
-pub(crate) fn neighbors(alloc: Global, worked: &Worked) -> Answer {
+fn neighbors(alloc: Global, worked: &Worked) -> Answer {
     match query::neighbors(alloc, &worked.topology, "a") {
         Ok(lists) => Answer::of(are_neighbors(lists.as_slice(), worked.row.neighbors)),
         Err(fault) => of_fault(fault),
@@ -37,32 +37,28 @@ fn judge(made: Result<ArcTable, QueryFault>, lines: &[Places]) -> Answer {
     }
 }
 
-pub(crate) fn borders(alloc: Global, worked: &Worked) -> Answer {
-    let made = query::mesh(
-        alloc,
-        &worked.topology,
-        None,
-        |_: &Feature, _: &Feature| true,
-    );
+fn borders(alloc: Global, worked: &Worked) -> Answer {
+    let made = query::mesh(alloc, &worked.topology, None, |_, _| true);
     judge(made, worked.row.borders)
 }
 
-pub(crate) fn interior(alloc: Global, worked: &Worked) -> Answer {
-    let made = query::mesh(
-        alloc,
-        &worked.topology,
-        Some("a"),
-        |a: &Feature, b: &Feature| a != b,
-    );
+fn interior(alloc: Global, worked: &Worked) -> Answer {
+    let made = query::mesh(alloc, &worked.topology, Some("a"), |a, b| a != b);
     judge(made, worked.row.interior)
 }
 
-pub(crate) fn exterior(alloc: Global, worked: &Worked) -> Answer {
-    let made = query::mesh(
-        alloc,
-        &worked.topology,
-        Some("a"),
-        |a: &Feature, b: &Feature| a == b,
-    );
+fn exterior(alloc: Global, worked: &Worked) -> Answer {
+    let made = query::mesh(alloc, &worked.topology, Some("a"), |a, b| a == b);
     judge(made, worked.row.exterior)
+}
+
+/// Asks each question.
+pub(crate) fn settle(rt: &HostRuntime, tally: &mut Tally, worked: &Worked) {
+    calls!(tally.ask(rt, worked.row.title, worked);
+        "query::feature" => features,
+        "query::neighbors" => neighbors,
+        "query::mesh of all borders" => borders,
+        "query::mesh of interior borders" => interior,
+        "query::mesh of exterior borders" => exterior,
+    );
 }

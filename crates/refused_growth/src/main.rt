@@ -23,14 +23,15 @@ use streams::Squares;
 
 fn main(rt: HostRuntime) -> ExitCode {
     let mut tally = Tally::new();
-    let alloc = rt.alloc();
-    let lent = Squares::of(alloc).or_else(|| Squares::of(alloc));
+    let lent = tally.lent(&rt, "without memory", "its map", Squares::of);
     parts::settle(&rt, &mut tally);
     worked::settle(&rt, &mut tally);
     taken::settle(&rt, &mut tally);
     recuts::settle(&rt, &mut tally);
     maps::settle(&rt, &mut tally);
     arcs::settle(&rt, &mut tally);
-    streams::settle(&rt, &mut tally, &lent);
+    if let Some(squares) = &lent {
+        streams::settle(&rt, &mut tally, squares);
+    }
     tally.report(&rt)
 }

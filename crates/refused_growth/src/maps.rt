@@ -1,6 +1,8 @@
 //! Maps that take features and layers: where memory is refused they are as they were.
 
 use faults::OutOfMemory;
+use refused_calls::calls;
+use refused_calls::calls::{Lent, change};
 use refused_calls::comparing::same_map;
 use refused_calls::inputs::read;
 use refused_calls::outcome::{Answer, Outcome, Tally};
@@ -42,11 +44,6 @@ impl Maps {
         })
     }
 
-    /// Whether all that is lent is as it was made.
-    fn is_as_before(&self) -> bool {
-        has(&self.with_layer, self, 0) && same_map(&self.other, &self.other_copy)
-    }
-
     /// The other square as a feature.
     fn feature(&self, alloc: Global) -> Option<Feature> {
         self.other.layer("a")?.first()?.copy(alloc).ok()
@@ -57,6 +54,12 @@ impl Maps {
         let mut features = BTreeSet::new(alloc);
         features.insert(self.feature(alloc)?).ok()?;
         Some(features)
+    }
+}
+
+impl Lent for Maps {
+    fn is_as_before(&self) -> bool {
+        has(&self.with_layer, self, 0) && same_map(&self.other, &self.other_copy)
     }
 }
 
@@ -75,19 +78,13 @@ fn add_layer(map: &mut FeatureMap, maps: &Maps) -> Answer {
     }
 }
 
-fn settle_add_layer(maps: &Maps) -> Outcome {
-    let Ok(mut map) = maps.one.copy() else {
-        return Outcome::Unprepared;
-    };
-    match add_layer(&mut map, maps) {
-        Answer::Wanting => {
-            if same_map(&map, &maps.one) {
-                return Outcome::of_second(add_layer(&mut map, maps));
-            }
-            Outcome::Wrong
-        }
-        first => Outcome::of_first(first, true),
-    }
+fn settle_add_layer(_: Global, maps: &Maps) -> Outcome {
+    change(
+        maps,
+        maps.one.copy().ok(),
+        |map| add_layer(map, maps),
+        |map| same_map(map, &maps.one),
+    )
 }
 
 fn insert(alloc: Global, map: &mut FeatureMap, maps: &Maps) -> Answer {
@@ -102,18 +99,12 @@ fn insert(alloc: Global, map: &mut FeatureMap, maps: &Maps) -> Answer {
 }
 
 fn settle_insert(alloc: Global, maps: &Maps) -> Outcome {
-    let Some(mut map) = with_layer(&maps.one) else {
-        return Outcome::Unprepared;
-    };
-    match insert(alloc, &mut map, maps) {
-        Answer::Wanting => {
-            if same_map(&map, &maps.with_layer) {
-                return Outcome::of_second(insert(alloc, &mut map, maps));
-            }
-            Outcome::Wrong
-        }
-        first => Outcome::of_first(first, true),
-    }
+    change(
+        maps,
+        with_layer(&maps.one),
+        |map| insert(alloc, map, maps),
+        |map| same_map(map, &maps.with_layer),
+    )
 }
 
 fn judge(made: Result<FeatureMap, OutOfMemory>, maps: &Maps) -> Answer {
@@ -133,7 +124,7 @@ fn with_features(alloc: Global, maps: &Maps) -> Answer {
     }
 }
 
-fn united(maps: &Maps) -> Answer {
+fn united(_: Global, maps: &Maps) -> Answer {
     let Ok(map) = maps.one.copy() else {
         return Answer::Unasked;
     };
@@ -143,74 +134,21 @@ fn united(maps: &Maps) -> Answer {
     }
 }
 
-fn union(maps: &Maps) -> Answer {
+fn union(_: Global, maps: &Maps) -> Answer {
     judge(maps.one.union(&maps.other), maps)
-}
-
-/// The calls.
-#[derive(Clone, Copy)]
-enum Call {
-    AddLayer,
-    Insert,
-    WithFeatures,
-    United,
-    Union,
-}
-
-/// Each call by its name.
-const CALLS: &[(&str, Call)] = &[
-    ("FeatureMap::add_layer", Call::AddLayer),
-    ("FeatureMap::insert", Call::Insert),
-    ("FeatureMap::with_features", Call::WithFeatures),
-    ("FeatureMap::united", Call::United),
-    ("FeatureMap::union", Call::Union),
-];
-
-impl Call {
-    fn ask(self, alloc: Global, maps: &Maps) -> Answer {
-        match self {
-            Call::WithFeatures => with_features(alloc, maps),
-            Call::United => united(maps),
-            _ => union(maps),
-        }
-    }
-
-    fn settle_lent(self, alloc: Global, maps: &Maps) -> Outcome {
-        let outcome = Outcome::of_first(self.ask(alloc, maps), maps.is_as_before());
-        match outcome {
-            Outcome::Wanting => Outcome::of_second(self.ask(alloc, maps)),
-            _ => outcome,
-        }
-    }
-
-    fn settle(self, alloc: Global, maps: &Maps) -> Outcome {
-        match self {
-            Call::AddLayer => settle_add_layer(maps),
-            Call::Insert => settle_insert(alloc, maps),
-            _ => self.settle_lent(alloc, maps),
-        }
-    }
-
-    /// Once more where what it is handed could not be made.
-    fn settle_prepared(self, alloc: Global, maps: &Maps) -> Outcome {
-        match self.settle(alloc, maps) {
-            Outcome::Unprepared => self.settle(alloc, maps),
-            outcome => outcome,
-        }
-    }
-}
-
-fn settle_calls(rt: &HostRuntime, tally: &mut Tally, maps: &Maps) {
-    for (name, call) in CALLS {
-        let outcome = call.settle_prepared(rt.alloc(), maps);
-        tally.note(rt, "maps of squares", *name, outcome);
-    }
 }
 
 /// Makes each call of maps.
 pub(crate) fn settle(rt: &HostRuntime, tally: &mut Tally) {
-    match Maps::of(rt.alloc()).or_else(|| Maps::of(rt.alloc())) {
-        Some(maps) => settle_calls(rt, tally, &maps),
-        None => tally.note(rt, "maps of squares", "its maps", Outcome::Unprepared),
+    if let Some(maps) = tally.lent(rt, "maps of squares", "its maps", Maps::of) {
+        calls!(tally.settle(rt, "maps of squares", &maps);
+            "FeatureMap::add_layer" => settle_add_layer,
+            "FeatureMap::insert" => settle_insert,
+        );
+        calls!(tally.ask(rt, "maps of squares", &maps);
+            "FeatureMap::with_features" => with_features,
+            "FeatureMap::united" => united,
+            "FeatureMap::union" => union,
+        );
     }
 }

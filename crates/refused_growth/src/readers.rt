@@ -2,18 +2,16 @@
 
 use crate::worked::Worked;
 use built_text::BuildFault;
-use chains::ArcTable;
 use faults::OutOfMemory;
-use grid::Pos;
-use lines::items::Items;
-use refused_calls::comparing::{same_geometries, same_map};
+use refused_calls::calls;
+use refused_calls::comparing::{are_lists_of, same_geometries, same_map};
 use refused_calls::inputs::is_of;
-use refused_calls::outcome::Answer;
+use refused_calls::outcome::{Answer, Tally};
 use std::alloc::Global;
 use topo::{Layer, Topology};
 use topo_io::TextParts;
 
-pub(crate) fn read_geojson(alloc: Global, worked: &Worked) -> Answer {
+fn read_geojson(alloc: Global, worked: &Worked) -> Answer {
     match geojson_io::read(alloc, worked.geojson(), &worked.grid) {
         Ok(features) => match worked.copy.layer("a") {
             Some(expected) => Answer::of(features == *expected),
@@ -23,20 +21,11 @@ pub(crate) fn read_geojson(alloc: Global, worked: &Worked) -> Answer {
     }
 }
 
-pub(crate) fn read_topology(alloc: Global, worked: &Worked) -> Answer {
+fn read_topology(alloc: Global, worked: &Worked) -> Answer {
     match topo_io::read(alloc, worked.text.as_slice()) {
         Ok((grid, map)) => Answer::of(grid == worked.grid && same_map(&map, &worked.copy)),
         Err(fault) => Answer::of_fault(&fault),
     }
-}
-
-fn are_listed(arcs: &[Items<Pos>], table: &ArcTable) -> bool {
-    for (number, arc) in arcs.iter().enumerate() {
-        if table.arc(number) != Some(arc.as_slice()) {
-            return false;
-        }
-    }
-    arcs.len() == table.len()
 }
 
 fn same_layers(layers: &[Layer], others: &[Layer]) -> bool {
@@ -53,32 +42,32 @@ fn same_layers(layers: &[Layer], others: &[Layer]) -> bool {
 
 fn are_parts_of(parts: &TextParts, topology: &Topology) -> bool {
     parts.grid == topology.grid()
-        && are_listed(parts.arcs.as_slice(), topology.arcs())
+        && are_lists_of(parts.arcs.as_slice(), topology.arcs())
         && same_layers(parts.layers.as_slice(), topology.layers())
 }
 
-pub(crate) fn read_parts(alloc: Global, worked: &Worked) -> Answer {
+fn read_parts(alloc: Global, worked: &Worked) -> Answer {
     match topo_io::read_parts(alloc, worked.text.as_slice()) {
         Ok(parts) => Answer::of(are_parts_of(&parts, &worked.topology)),
         Err(fault) => Answer::of_fault(&fault),
     }
 }
 
-pub(crate) fn is_canonical(alloc: Global, worked: &Worked) -> Answer {
+fn is_canonical(alloc: Global, worked: &Worked) -> Answer {
     match topo_io::is_canonical(alloc, worked.text.as_slice()) {
         Ok(is_canonical) => Answer::of(is_canonical),
         Err(fault) => Answer::of_fault(&fault),
     }
 }
 
-pub(crate) fn build(alloc: Global, worked: &Worked) -> Answer {
+fn build(alloc: Global, worked: &Worked) -> Answer {
     match Topology::build(alloc, &worked.grid, &worked.map) {
         Ok(topology) => Answer::of(is_of(&topology, worked.row.topology)),
         Err(OutOfMemory) => Answer::Wanting,
     }
 }
 
-pub(crate) fn build_text(alloc: Global, worked: &Worked) -> Answer {
+fn build_text(alloc: Global, worked: &Worked) -> Answer {
     match built_text::build_text(alloc, &worked.grid, worked.sources.as_slice()) {
         Ok(text) => Answer::of(text.as_slice() == worked.row.topology.as_bytes()),
         Err(BuildFault::OutOfMemory) => Answer::Wanting,
@@ -86,9 +75,22 @@ pub(crate) fn build_text(alloc: Global, worked: &Worked) -> Answer {
     }
 }
 
-pub(crate) fn expand(alloc: Global, worked: &Worked) -> Answer {
+fn expand(alloc: Global, worked: &Worked) -> Answer {
     match worked.topology.expand(alloc) {
         Ok(map) => Answer::of(same_map(&map, &worked.copy)),
         Err(OutOfMemory) => Answer::Wanting,
     }
+}
+
+/// Makes each call that reads or builds.
+pub(crate) fn settle(rt: &HostRuntime, tally: &mut Tally, worked: &Worked) {
+    calls!(tally.ask(rt, worked.row.title, worked);
+        "geojson_io::read" => read_geojson,
+        "topo_io::read" => read_topology,
+        "topo_io::read_parts" => read_parts,
+        "topo_io::is_canonical" => is_canonical,
+        "Topology::build" => build,
+        "built_text::build_text" => build_text,
+        "Topology::expand" => expand,
+    );
 }

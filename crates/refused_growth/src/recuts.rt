@@ -2,40 +2,41 @@
 
 use faults::OutOfMemory;
 use recutting::{Recut, Side, recut};
+use refused_calls::calls::Lent;
 use refused_calls::comparing::{are_used, same_arcs};
 use refused_calls::inputs::{built, is_of};
-use refused_calls::outcome::{Answer, Outcome, Tally};
+use refused_calls::outcome::{Answer, Tally};
 use refused_calls::texts::{FREE_LOOP, LINE, LOOP_AND_LINE, SHARED_EDGE, THIRD, THREE};
 use std::alloc::Global;
 use topo::Topology;
 
-/// Two maps, the map of both, and for each arc of each the indexes of the arcs that it is cut into.
+/// Two maps, for each arc of each the indexes of the arcs that it is cut into, and the map of both.
 #[derive(Clone, Copy)]
 struct Row {
     title: &'static str,
     left: &'static str,
-    right: &'static str,
-    both: &'static str,
     left_pieces: &'static [&'static [i64]],
+    right: &'static str,
     right_pieces: &'static [&'static [i64]],
+    both: &'static str,
 }
 
 const ROWS: &[Row] = &[
     Row {
         title: "two squares, and the third",
         left: SHARED_EDGE,
-        right: THIRD,
-        both: THREE,
         left_pieces: &[&[0], &[1], &[2, 4, -4]],
+        right: THIRD,
         right_pieces: &[&[4, -6]],
+        both: THREE,
     },
     Row {
         title: "a free loop, and a line from its side",
         left: FREE_LOOP,
-        right: LINE,
-        both: LOOP_AND_LINE,
         left_pieces: &[&[0]],
+        right: LINE,
         right_pieces: &[&[1]],
+        both: LOOP_AND_LINE,
     },
 ];
 
@@ -50,17 +51,16 @@ struct Pair {
 
 impl Pair {
     fn of(alloc: Global, row: &'static Row) -> Option<Pair> {
-        let left = built(alloc, row.left)?;
-        let right = built(alloc, row.right)?;
-        let both = built(alloc, row.both)?;
         Some(Pair {
             row,
-            left,
-            right,
-            both,
+            left: built(alloc, row.left)?,
+            right: built(alloc, row.right)?,
+            both: built(alloc, row.both)?,
         })
     }
+}
 
+impl Lent for Pair {
     fn is_as_before(&self) -> bool {
         is_of(&self.left, self.row.left) && is_of(&self.right, self.row.right)
     }
@@ -68,13 +68,11 @@ impl Pair {
 
 fn are_pieces(made: &Recut, side: Side, lists: &[&[i64]]) -> bool {
     for (number, indexes) in lists.iter().enumerate() {
-        match made.pieces(side, number) {
-            Some(pieces) => {
-                if !are_used(pieces, indexes) {
-                    return false;
-                }
-            }
-            None => return false,
+        let Some(pieces) = made.pieces(side, number) else {
+            return false;
+        };
+        if !are_used(pieces, indexes) {
+            return false;
         }
     }
     made.pieces(side, lists.len()).is_none()
@@ -91,27 +89,11 @@ fn ask(alloc: Global, pair: &Pair) -> Answer {
     }
 }
 
-/// Asks, and asks again after want of memory.
-fn settle_pair(alloc: Global, pair: &Pair) -> Outcome {
-    let first = ask(alloc, pair);
-    let outcome = Outcome::of_first(first, pair.is_as_before());
-    match outcome {
-        Outcome::Wanting => Outcome::of_second(ask(alloc, pair)),
-        _ => outcome,
-    }
-}
-
-fn settle_row(alloc: Global, row: &'static Row) -> Outcome {
-    match Pair::of(alloc, row).or_else(|| Pair::of(alloc, row)) {
-        Some(pair) => settle_pair(alloc, &pair),
-        None => Outcome::Unprepared,
-    }
-}
-
 /// Cuts the arcs of each row again.
 pub(crate) fn settle(rt: &HostRuntime, tally: &mut Tally) {
     for row in ROWS {
-        let outcome = settle_row(rt.alloc(), row);
-        tally.note(rt, row.title, "recut", outcome);
+        if let Some(pair) = tally.lent(rt, row.title, "recut", |alloc| Pair::of(alloc, row)) {
+            tally.ask(rt, row.title, &pair, "recut", ask);
+        }
     }
 }

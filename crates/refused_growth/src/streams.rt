@@ -4,9 +4,11 @@
 use crate::texts::SQUARES;
 use chains::ArcTable;
 use query::{ArcCounts, Kinds};
+use refused_calls::calls;
+use refused_calls::calls::Lent;
 use refused_calls::comparing::{are_arcs, same_map};
 use refused_calls::inputs::{built, is_of, read};
-use refused_calls::outcome::{Outcome, Tally};
+use refused_calls::outcome::Tally;
 use refused_calls::texts::SHARED_EDGE;
 use shapes::{Feature, FeatureMap};
 use sinks::Tap;
@@ -55,7 +57,9 @@ impl Squares {
         let topology = built(alloc, SHARED_EDGE)?;
         Squares::with_map(alloc, map, topology)
     }
+}
 
+impl Lent for Squares {
     fn is_as_before(&self) -> bool {
         same_map(&self.map, &self.copy)
             && is_of(&self.topology, SHARED_EDGE)
@@ -151,71 +155,18 @@ fn fits(squares: &Squares) -> bool {
     squares.map.fits(&squares.topology.grid())
 }
 
-/// The calls.
-#[derive(Clone, Copy)]
-enum Call {
-    WriteTopology,
-    WriteLayer,
-    WriteFeatures,
-    WriteMesh,
-    WriteNeighbors,
-    WriteNeighborIds,
-    CountArcs,
-    CountKinds,
-    Bbox,
-    Fits,
-}
-
-/// Each call by its name.
-const CALLS: &[(&str, Call)] = &[
-    ("topo_io::write", Call::WriteTopology),
-    ("query::write_layer", Call::WriteLayer),
-    ("geojson_io::write", Call::WriteFeatures),
-    ("query::write_mesh", Call::WriteMesh),
-    ("query::write_neighbors", Call::WriteNeighbors),
-    ("query::write_neighbor_ids", Call::WriteNeighborIds),
-    ("query::count_arcs", Call::CountArcs),
-    ("query::count_kinds", Call::CountKinds),
-    ("Topology::bbox", Call::Bbox),
-    ("FeatureMap::fits", Call::Fits),
-];
-
-impl Call {
-    fn is_right(self, squares: &Squares) -> bool {
-        match self {
-            Call::WriteTopology => writes_topology(squares),
-            Call::WriteLayer => writes_layer(squares),
-            Call::WriteFeatures => writes_features(squares),
-            Call::WriteMesh => writes_mesh(squares),
-            Call::WriteNeighbors => writes_neighbors(squares),
-            Call::WriteNeighborIds => writes_neighbor_ids(squares),
-            Call::CountArcs => counts_arcs(squares),
-            Call::CountKinds => counts_kinds(squares),
-            Call::Bbox => has_box(squares),
-            Call::Fits => fits(squares),
-        }
-    }
-
-    fn settle(self, squares: &Squares) -> Outcome {
-        if self.is_right(squares) && squares.is_as_before() {
-            Outcome::Right
-        } else {
-            Outcome::Wrong
-        }
-    }
-}
-
-fn settle_all(rt: &HostRuntime, tally: &mut Tally, squares: &Squares) {
-    for (name, call) in CALLS {
-        let outcome = call.settle(squares);
-        tally.note_without_memory(rt, *name, outcome);
-    }
-}
-
 /// Makes each call that takes no memory.
-pub(crate) fn settle(rt: &HostRuntime, tally: &mut Tally, squares: &Option<Squares>) {
-    match squares {
-        Some(squares) => settle_all(rt, tally, squares),
-        None => tally.note(rt, "without memory", "its map", Outcome::Unprepared),
-    }
+pub(crate) fn settle(rt: &HostRuntime, tally: &mut Tally, squares: &Squares) {
+    calls!(tally.ask_without_memory(rt, "without memory", squares);
+        "topo_io::write" => writes_topology,
+        "query::write_layer" => writes_layer,
+        "geojson_io::write" => writes_features,
+        "query::write_mesh" => writes_mesh,
+        "query::write_neighbors" => writes_neighbors,
+        "query::write_neighbor_ids" => writes_neighbor_ids,
+        "query::count_arcs" => counts_arcs,
+        "query::count_kinds" => counts_kinds,
+        "Topology::bbox" => has_box,
+        "FeatureMap::fits" => fits,
+    );
 }

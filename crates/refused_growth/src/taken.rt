@@ -1,7 +1,8 @@
 //! Topologies of texts: taken as they stand, once they are put into order, or built.
 
+use refused_calls::calls::Lent;
 use refused_calls::inputs::is_of;
-use refused_calls::outcome::{Answer, Outcome, Tally};
+use refused_calls::outcome::{Answer, Tally};
 use refused_calls::texts::{FIRST, FREE_LOOP, SHARED_EDGE, THREE};
 use std::alloc::Global;
 
@@ -11,6 +12,13 @@ struct Row {
     title: &'static str,
     text: &'static str,
     canonical: &'static str,
+}
+
+/// A row stays as it is.
+impl Lent for Row {
+    fn is_as_before(&self) -> bool {
+        true
+    }
 }
 
 const ROWS: &[Row] = &[
@@ -43,22 +51,9 @@ fn ask(alloc: Global, row: &Row) -> Answer {
     }
 }
 
-/// Asks, and asks again after want of memory.
-fn settled(alloc: Global, row: &Row) -> Outcome {
-    match ask(alloc, row) {
-        Answer::Wanting => Outcome::of_second(ask(alloc, row)),
-        first => Outcome::of_first(first, true),
-    }
-}
-
 /// Reads the topology of each text.
 pub(crate) fn settle(rt: &HostRuntime, tally: &mut Tally) {
     for row in ROWS {
-        tally.note(
-            rt,
-            row.title,
-            "topo_io::read_topology",
-            settled(rt.alloc(), row),
-        );
+        tally.ask(rt, row.title, row, "topo_io::read_topology", ask);
     }
 }

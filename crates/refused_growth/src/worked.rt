@@ -3,9 +3,10 @@
 use crate::texts::{ROWS, Row};
 use crate::{asking, readers, writers};
 use grid::Grid;
+use refused_calls::calls::Lent;
 use refused_calls::comparing::same_map;
 use refused_calls::inputs::is_of;
-use refused_calls::outcome::{Answer, Outcome, Tally};
+use refused_calls::outcome::Tally;
 use shapes::FeatureMap;
 use std::alloc::Global;
 use topo::Topology;
@@ -66,8 +67,9 @@ impl Worked {
             _ => b"",
         }
     }
+}
 
-    /// Whether all that is lent is as it was made.
+impl Lent for Worked {
     fn is_as_before(&self) -> bool {
         self.geojson() == self.row.geojson.as_bytes()
             && self.text.as_slice() == self.row.topology.as_bytes()
@@ -76,100 +78,12 @@ impl Worked {
     }
 }
 
-/// The calls.
-#[derive(Clone, Copy)]
-enum Call {
-    ReadGeojson,
-    ReadTopology,
-    ReadParts,
-    IsCanonical,
-    Build,
-    BuildText,
-    Expand,
-    Features,
-    Neighbors,
-    Borders,
-    Interior,
-    Exterior,
-    TextOf,
-    Write,
-    OfferToKept,
-    OfferToScript,
-    CopyTopology,
-    CopyMap,
-    Union,
-}
-
-/// Each call by its name.
-const CALLS: &[(&str, Call)] = &[
-    ("geojson_io::read", Call::ReadGeojson),
-    ("topo_io::read", Call::ReadTopology),
-    ("topo_io::read_parts", Call::ReadParts),
-    ("topo_io::is_canonical", Call::IsCanonical),
-    ("Topology::build", Call::Build),
-    ("built_text::build_text", Call::BuildText),
-    ("Topology::expand", Call::Expand),
-    ("query::feature", Call::Features),
-    ("query::neighbors", Call::Neighbors),
-    ("query::mesh of all borders", Call::Borders),
-    ("query::mesh of interior borders", Call::Interior),
-    ("query::mesh of exterior borders", Call::Exterior),
-    ("topo_io::text_of", Call::TextOf),
-    ("topo_io::write", Call::Write),
-    ("Kept::offer", Call::OfferToKept),
-    ("Script::offer", Call::OfferToScript),
-    ("Topology::copy", Call::CopyTopology),
-    ("FeatureMap::copy", Call::CopyMap),
-    ("FeatureMap::union", Call::Union),
-];
-
-impl Call {
-    fn ask(self, alloc: Global, worked: &Worked) -> Answer {
-        match self {
-            Call::ReadGeojson => readers::read_geojson(alloc, worked),
-            Call::ReadTopology => readers::read_topology(alloc, worked),
-            Call::ReadParts => readers::read_parts(alloc, worked),
-            Call::IsCanonical => readers::is_canonical(alloc, worked),
-            Call::Build => readers::build(alloc, worked),
-            Call::BuildText => readers::build_text(alloc, worked),
-            Call::Expand => readers::expand(alloc, worked),
-            Call::Features => asking::features(alloc, worked),
-            Call::Neighbors => asking::neighbors(alloc, worked),
-            Call::Borders => asking::borders(alloc, worked),
-            Call::Interior => asking::interior(alloc, worked),
-            Call::Exterior => asking::exterior(alloc, worked),
-            Call::TextOf => writers::text_of(alloc, worked),
-            Call::Write => writers::write(alloc, worked),
-            Call::OfferToKept => writers::offer_to_kept(alloc, worked),
-            Call::OfferToScript => writers::offer_to_script(alloc, worked),
-            Call::CopyTopology => writers::copy_topology(alloc, worked),
-            Call::CopyMap => writers::copy_map(worked),
-            Call::Union => writers::union(worked),
-        }
-    }
-
-    /// Asks, and asks again after want of memory.
-    fn settle(self, alloc: Global, worked: &Worked) -> Outcome {
-        let first = self.ask(alloc, worked);
-        let outcome = Outcome::of_first(first, worked.is_as_before());
-        match outcome {
-            Outcome::Wanting => Outcome::of_second(self.ask(alloc, worked)),
-            _ => outcome,
-        }
-    }
-}
-
-fn settle_all(rt: &HostRuntime, tally: &mut Tally, worked: &Worked) {
-    for (name, call) in CALLS {
-        let outcome = call.settle(rt.alloc(), worked);
-        tally.note(rt, worked.row.title, *name, outcome);
-    }
-}
-
 fn settle_row(rt: &HostRuntime, tally: &mut Tally, row: &'static Row) {
-    match Worked::of(rt.alloc(), row).or_else(|| Worked::of(rt.alloc(), row)) {
-        Some(worked) => settle_all(rt, tally, &worked),
-        None => tally.note(rt, row.title, "its map", Outcome::Unprepared),
+    let made = tally.lent(rt, row.title, "its map", |alloc| Worked::of(alloc, row));
+    if let Some(worked) = made {
+        readers::settle(rt, tally, &worked);
+        asking::settle(rt, tally, &worked);
+        writers::settle(rt, tally, &worked);
     }
 }
 

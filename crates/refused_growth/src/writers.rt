@@ -2,9 +2,10 @@
 
 use crate::worked::Worked;
 use faults::OutOfMemory;
+use refused_calls::calls;
 use refused_calls::comparing::same_map;
 use refused_calls::inputs::is_of;
-use refused_calls::outcome::Answer;
+use refused_calls::outcome::{Answer, Tally};
 use shapes::FeatureMap;
 use sinks::{Kept, Refused, Script, Sink, WriteFault};
 use std::alloc::Global;
@@ -16,12 +17,12 @@ fn judge_text(made: Result<Vec<u8>, OutOfMemory>, worked: &Worked) -> Answer {
     }
 }
 
-pub(crate) fn text_of(alloc: Global, worked: &Worked) -> Answer {
+fn text_of(alloc: Global, worked: &Worked) -> Answer {
     judge_text(topo_io::text_of(alloc, &worked.topology), worked)
 }
 
 /// Written into a sink in memory.
-pub(crate) fn write(alloc: Global, worked: &Worked) -> Answer {
+fn write(alloc: Global, worked: &Worked) -> Answer {
     let mut kept = Kept::new(alloc);
     match topo_io::write(&worked.topology, &mut kept) {
         Ok(()) => judge_text(Ok(kept.into_bytes()), worked),
@@ -30,7 +31,7 @@ pub(crate) fn write(alloc: Global, worked: &Worked) -> Answer {
 }
 
 /// The whole text, offered to a sink in memory at once.
-pub(crate) fn offer_to_kept(alloc: Global, worked: &Worked) -> Answer {
+fn offer_to_kept(alloc: Global, worked: &Worked) -> Answer {
     let mut kept = Kept::new(alloc);
     let text = worked.text.as_slice();
     match kept.offer(text) {
@@ -56,7 +57,7 @@ fn wanting_if(is_right: bool) -> Answer {
 }
 
 /// The same to a script without answers.
-pub(crate) fn offer_to_script(alloc: Global, worked: &Worked) -> Answer {
+fn offer_to_script(alloc: Global, worked: &Worked) -> Answer {
     let mut script = Script::new(alloc, Vec::new(alloc));
     let text = worked.text.as_slice();
     match script.offer(text) {
@@ -75,7 +76,7 @@ fn after_script(mut script: Script, text: &[u8]) -> Answer {
     }
 }
 
-pub(crate) fn copy_topology(alloc: Global, worked: &Worked) -> Answer {
+fn copy_topology(alloc: Global, worked: &Worked) -> Answer {
     match worked.topology.copy(alloc) {
         Ok(copy) => Answer::of(is_of(&copy, worked.row.topology)),
         Err(OutOfMemory) => Answer::Wanting,
@@ -89,11 +90,24 @@ fn judge_map(made: Result<FeatureMap, OutOfMemory>, worked: &Worked) -> Answer {
     }
 }
 
-pub(crate) fn copy_map(worked: &Worked) -> Answer {
+fn copy_map(_: Global, worked: &Worked) -> Answer {
     judge_map(worked.map.copy(), worked)
 }
 
 /// The map together with itself.
-pub(crate) fn union(worked: &Worked) -> Answer {
+fn union(_: Global, worked: &Worked) -> Answer {
     judge_map(worked.map.union(&worked.map), worked)
+}
+
+/// Makes each call that writes, copies or puts maps together.
+pub(crate) fn settle(rt: &HostRuntime, tally: &mut Tally, worked: &Worked) {
+    calls!(tally.ask(rt, worked.row.title, worked);
+        "topo_io::text_of" => text_of,
+        "topo_io::write" => write,
+        "Kept::offer" => offer_to_kept,
+        "Script::offer" => offer_to_script,
+        "Topology::copy" => copy_topology,
+        "FeatureMap::copy" => copy_map,
+        "FeatureMap::union" => union,
+    );
 }
