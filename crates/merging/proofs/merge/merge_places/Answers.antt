@@ -3,34 +3,33 @@ use Rattle.std.specs.Prelude.{map}
 use Rattle.std.proofs.lemmas.List.{length-replicate}
 use Rattle.plans.specs.Leaves.{leaves, first_outside}
 use Rattle.merging.specs.Plans.{first_other}
-use Rattle.merging.specs.Merge.{bytes_of}
 use Rattle.plans.proofs.LeafLemmas.{has_places}
 use Rattle.merging.proofs.MergeLemmas.{grids_merge, read_meant, length_bytes}
 use Rattle.merging.proofs.NamingLemmas.{named, length-marked}
 use Rattle.merging.proofs.KeptTexts.{some_kept, kept_union, one_grid_kept}
-use Rattle.merging.proofs.merge.merge_shards.Goals as goal
+use Rattle.merging.proofs.merge.merge_places.Goals as goal
 
 pub named_places-requires : goal.named_places-requires
-named_places-requires g c = record { places = has_places _ _ (sym c.in_default.ensures.first) }
+named_places-requires g c = record { places = has_places _ _ (c.requires.places) }
 
 pub read_marked-requires : goal.read_marked-requires
 read_marked-requires g c = record {
-  marks = ap length (c.deref.ensures.value ∙ c.in_ok-named.ensures) ∙ length-marked (replicate (length c.args.texts.now) false) (leaves c.args.plan.now) ∙ length-replicate (length c.args.texts.now) false;
+  marks = ap length (c.deref.ensures.value ∙ c.in_ok-named.ensures) ∙ length-marked (replicate (length c.args.texts.items) false) (leaves c.args.plan.now) ∙ length-replicate (length c.args.texts.items) false;
 }
 
 pub returns-in-Some-first_other-clause-fault : goal.returns-in-Some-first_other-clause-fault
 returns-in-Some-first_other-clause-fault g c =
-    let texts = bytes_of c.args.texts.now in
-    let places = ap (λ n. first_outside n (leaves c.args.plan.now)) (length_bytes (λ t. t.items) c.args.texts.now) ∙ sym c.in_default.ensures.first in
+    let texts = map g.T.AsSlice.items c.args.texts.items in
+    let places = ap (λ n. first_outside n (leaves c.args.plan.now)) (length_bytes g.T.AsSlice.items c.args.texts.items) ∙ c.requires.places in
     let k = c.in_ok-grids.ensures.read in
     grids_merge (λ m. m.grid) (λ m. m.layers) texts k.meanings c.in_ok-grids.grids.items (leaves c.args.plan.now) c.in-Some-first_other.number places k.read k.grids_of
     (ap (first_other (λ g. g)) (sym c.deref-2.ensures.value) ∙ sym c.in-Some-first_other.ensures)
 
 pub join_all-requires : goal.join_all-requires
 join_all-requires g c =
-    let texts = bytes_of c.args.texts.now in
-    let count = length_bytes (λ t. t.items) c.args.texts.now in
-    let places = ap (λ n. first_outside n (leaves c.args.plan.now)) count ∙ sym c.in_default.ensures.first in
+    let texts = map g.T.AsSlice.items c.args.texts.items in
+    let count = length_bytes g.T.AsSlice.items c.args.texts.items in
+    let places = ap (λ n. first_outside n (leaves c.args.plan.now)) count ∙ c.requires.places in
     let marks = c.deref.ensures.value ∙ c.in_ok-named.ensures ∙ ap (λ n. named n (leaves c.args.plan.now)) (sym count) in
     record {
       some = some_kept g.S.Shard.grid_of g.S.Shard.map_of texts c.deref.result.now c.in_ok-grids.grids.items c.in_ok-grids.shards.items c.in_ok-grids.ensures.read c.args.plan.now marks places;
@@ -38,14 +37,14 @@ join_all-requires g c =
 
 pub returns-in-Ok-clause-merged : goal.returns-in-Ok-clause-merged
 returns-in-Ok-clause-merged g c =
-    let texts = bytes_of c.args.texts.now in
+    let texts = map g.T.AsSlice.items c.args.texts.items in
     let grid = g.S.Shard.grid_of c.in-Ok.shard in
     let marks = c.deref.result.now in
     let grids = c.in_ok-grids.grids.items in
     let shards = c.in_ok-grids.shards.items in
     let k = c.in_ok-grids.ensures.read in
-    let count = length_bytes (λ t. t.items) c.args.texts.now in
-    let places = ap (λ n. first_outside n (leaves c.args.plan.now)) count ∙ sym c.in_default.ensures.first in
+    let count = length_bytes g.T.AsSlice.items c.args.texts.items in
+    let places = ap (λ n. first_outside n (leaves c.args.plan.now)) count ∙ c.requires.places in
     let named_are = c.deref.ensures.value ∙ c.in_ok-named.ensures ∙ ap (λ n. named n (leaves c.args.plan.now)) (sym count) in
     let none = c.in_default-first_other.ensures ∙ ap (first_other (λ h. h)) c.deref-2.ensures.value in
     let (common, meant, on) = one_grid_kept g.S.Shard.grid_of g.S.Shard.map_of texts marks grids shards k none (some_kept g.S.Shard.grid_of g.S.Shard.map_of texts marks grids shards k c.args.plan.now named_are places) in
