@@ -103,7 +103,7 @@ fn first_other(grids: &[Grid]) -> Option<usize>
 
 // The texts themselves, borrowed.
 fn lent(alloc: Global, texts: &[Vec<u8>]) -> Result<Vec<&Vec<u8>>, AllocError>
-    ensures { IfOk result (λ v. map (λ t. t.now.items) v.items ≡ bytes_of texts.now) }
+    ensures { IfOk result (λ v. map (λ t. t.now) v.items ≡ texts.now) }
 {
     texts.iter().collect(alloc)
 }
