@@ -1,5 +1,5 @@
 -- Texts that are read one after the other, and what their merge answers.
-use Rattle.std.proofs.Common.{◌≡◌, ℕ, suc, ◌+◌, List, [], ◌∷◌, ◌++◌, Bool, Some, None, Result, Ok, Err, IfOk, Bor, length, refl, sym, ◌∙◌, ap, subst, arith, append_assoc, append-nil, ◌<◌}
+use Rattle.std.proofs.Common.{◌≡◌, ℕ, suc, ◌+◌, List, [], ◌∷◌, ◌++◌, Bool, Option, Some, None, Result, Ok, Err, IfOk, Bor, length, refl, sym, ◌∙◌, ap, subst, arith, append_assoc, append-nil, ◌<◌}
 use Rattle.std.specs.Prelude.{map, All, cond, nat_lt, not}
 use Rattle.std.specs.List.{prefix_len}
 use Rattle.std.proofs.lemmas.List.{length-append}

@@ -1,4 +1,4 @@
-use Rattle.std.proofs.Common.{length, ◌∙◌, ap, refl, sym, subst, arith}
+use Rattle.std.proofs.Common.{length, ◌∙◌, ap, sym, subst, arith}
 use Rattle.std.specs.Prelude.{map}
 use Rattle.std.specs.Vec.Iter.{into_iter_items}
 use Rattle.merging.proofs.MergeLemmas.{refusal_at, none_mapped, length_bytes}
