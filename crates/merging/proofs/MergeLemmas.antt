@@ -1,9 +1,10 @@
 -- Texts that are read one after the other, and what their merge answers.
-use Rattle.std.proofs.Common.{◌≡◌, ℕ, suc, ◌+◌, List, [], ◌∷◌, ◌++◌, Bool, Some, None, length, refl, sym, ◌∙◌, ap, subst, arith, append_assoc, append-nil, ◌<◌}
+use Rattle.std.proofs.Common.{◌≡◌, ℕ, suc, ◌+◌, List, [], ◌∷◌, ◌++◌, Bool, Option, Some, None, Result, Ok, Err, IfOk, Bor, length, refl, sym, ◌∙◌, ap, subst, arith, append_assoc, append-nil, ◌<◌}
 use Rattle.std.specs.Prelude.{map, All, cond, nat_lt, not}
 use Rattle.std.specs.List.{prefix_len}
 use Rattle.std.proofs.lemmas.List.{length-append}
 use Rattle.std.proofs.lemmas.List.Elements.{All-cons, All-nil}
+use Rattle.std.proofs.lemmas.Iterator.{YieldsList, IsCollectResult, items_from_drains}
 use Rattle.faults.specs.declared.fault.Fault.{Fault}
 use Rattle.grid.specs.Place.{Transform}
 use Rattle.shapes.specs.Maps.{Layers}
@@ -111,9 +112,22 @@ pub means_as : (bytes text : List ℕ) (g h : Transform) (m n : Layers) → byte
 means_as bytes text g h m n same grid map means =
     subst (λ t. Means t h n) same (subst (λ k. Means bytes k n) (sym grid) (subst (λ k. Means bytes g k) (sym map) means))
 
-pub no_bytes : (texts : List (Vec ℕ Global)) → length texts ≡ 0 → bytes_of texts ≡ []
-no_bytes [] e = refl
-no_bytes (t ∷ ts) e = absurd (omega arith)
+pub none_mapped : {A B : Type 0} (f : A → B) (xs : List A) → length xs ≡ 0 → map f xs ≡ []
+none_mapped f [] e = refl
+none_mapped f (x ∷ xs) e = absurd (omega arith)
+
+-- what a list that is collected shows
+pub collected : {S A B Z E : Type 0} {steps : S → Option A → S → Type 0} {v : A → B} {s : S} {all : List B} (r : Result (Vec A Z) E) → IsCollectResult steps s r → YieldsList steps v s all → IfOk r (λ w. map v w.items ≡ all)
+collected {v} (Ok w) (xs, drains, is) road = ap (map v) is.0 ∙ items_from_drains xs drains road
+collected (Err e) h road = tt
+
+mapped_twice : {A B C : Type 0} (g : B → C) (f : A → B) (xs : List A) → map (λ x. g (f x)) xs ≡ map g (map f xs)
+mapped_twice g f [] = refl
+mapped_twice g f (x ∷ xs) = ap (λ w. g (f x) ∷ w) (mapped_twice g f xs)
+
+-- borrowed texts have the bytes of the texts
+pub lent_bytes : (lent : List (Bor (Vec ℕ Global))) (texts : List (Vec ℕ Global)) → map (λ t. t.now) lent ≡ texts → map (λ t. t.now.items) lent ≡ bytes_of texts
+lent_bytes lent texts e = mapped_twice (λ t. t.items) (λ t. t.now) lent ∙ ap bytes_of e
 
 prefix_mapped : {S M : Type 0} (p : M → Bool) (f : S → M) (ss : List S) → prefix_len p (map f ss) ≡ prefix_len (λ s. p (f s)) ss
 prefix_mapped p f [] = refl

@@ -1,5 +1,5 @@
 //! Merging texts of topologies.
-ghost use Rattle.std.specs.Prelude.{◌≡◌, ℕ, IfOk, IfErr, Some, Err, length};
+ghost use Rattle.std.specs.Prelude.{◌≡◌, ℕ, IfOk, IfErr, Some, None, Err, length, map};
 ghost use Rattle.merging.specs.declared.fault.MergeFault.TheVariants.{BadPlan};
 ghost use Rattle.plans.specs.Leaves.{leaves, first_outside};
 ghost use Rattle.merging.specs.Plans.{off_grid};
@@ -14,7 +14,8 @@ use crate::shard::Shard;
 use faults::{Fault, FaultKind};
 use grid::transform::Grid;
 use plans::{Plan, first_bad_leaf, named_places};
-use std::alloc::Global;
+use std::alloc::{AllocError, Global};
+use std::convert::AsSlice;
 
 // The reader's fault of the text of that number.
 fn text_refused(number: usize, fault: Fault) -> MergeFault
@@ -49,21 +50,21 @@ fn read_grid(alloc: Global, number: usize, text: &[u8]) -> Result<Grid, MergeFau
 }
 
 // The grids of texts, in their order, and the shards of those that are marked. Of a text that is not marked only the
-// grid is kept.
-fn read_marked<S: Shard>(
+// grid is kept. Each text is given up once it is read.
+fn read_marked<S: Shard, T: AsSlice<u8> + Drop>(
     alloc: Global,
-    texts: &[Vec<u8>],
+    texts: Vec<T>,
     marks: &[bool],
 ) -> Result<(Vec<Grid>, Vec<S>), MergeFault>
-    requires marks { length marks.now ≡ length texts.now }
-    ensures fault { IfErr result (IsReadFault (bytes_of texts.now)) }
-    ensures read { IfOk result (λ p. AreKept S.grid_of S.map_of (bytes_of texts.now) marks.now p.0.items p.1.items) }
+    requires marks { length marks.now ≡ length texts.items }
+    ensures fault { IfErr result (IsReadFault (map T.items texts.items)) }
+    ensures read { IfOk result (λ p. AreKept S.grid_of S.map_of (map T.items texts.items) marks.now p.0.items p.1.items) }
 {
     let mut grids = Vec::new(alloc);
     let mut shards = Vec::new(alloc);
     let mut number = 0;
-    let mut left = texts;
-    while let Some((text, after)) = left.split_first() {
+    let mut left = texts.into_iter();
+    while let Some(text) = left.next() {
         if marks[number] {
             match read_shard::<S>(alloc, number, text.as_slice()) {
                 Ok(shard) => {
@@ -79,7 +80,6 @@ fn read_marked<S: Shard>(
             }
         }
         number += 1;
-        left = after;
     }
     Ok((grids, shards))
 }
@@ -101,27 +101,23 @@ fn first_other(grids: &[Grid]) -> Option<usize>
     first_off(grids, first)
 }
 
-/// The shard of the union of the features of the texts that the plan names. These are joined each once,
-/// by halves and in the order of their places, whatever the plan's order and grouping, which make no
-/// difference to what the shard means.
-///
-/// # Errors
-/// `BadPlan` with the first leaf from the left that is no place of the list; otherwise `Text` with
-/// the first text of the list that is refused, and its least fault; otherwise `OtherGrid` with the
-/// first text whose transform differs from that of text 0. All texts are read, also those that the
-/// plan does not name.
-pub fn merge_shards<S: Shard>(
+// The texts themselves, borrowed.
+fn lent(alloc: Global, texts: &[Vec<u8>]) -> Result<Vec<&Vec<u8>>, AllocError>
+    ensures { IfOk result (λ v. map (λ t. t.now) v.items ≡ texts.now) }
+{
+    texts.iter().collect(alloc)
+}
+
+// The shard of the union of the features of the texts that the plan names, all of which are places.
+fn merge_places<S: Shard, T: AsSlice<u8> + Drop>(
     alloc: Global,
-    texts: &[Vec<u8>],
+    texts: Vec<T>,
     plan: &Plan,
 ) -> Result<S, MergeFault>
-    ensures bad_plan { (k : ℕ) → first_outside (length texts.now) (leaves plan.now) ≡ Some k → result ≡ Err (BadPlan k) }
-    ensures fault { IfErr result (IsMergeFault (bytes_of texts.now) (leaves plan.now)) }
-    ensures merged { IfOk result (λ s. IsUnionOf (bytes_of texts.now) (leaves plan.now) (S.grid_of s) (S.map_of s)) }
+    requires places { first_outside (length texts.items) (leaves plan.now) ≡ None }
+    ensures fault { IfErr result (IsMergeFault (map T.items texts.items) (leaves plan.now)) }
+    ensures merged { IfOk result (λ s. IsUnionOf (map T.items texts.items) (leaves plan.now) (S.grid_of s) (S.map_of s)) }
 {
-    if let Some(leaf) = first_bad_leaf(alloc, plan, texts.len()) {
-        return Err(MergeFault::BadPlan(leaf));
-    }
     let named = named_places(alloc, plan, texts.len())?;
     let (grids, shards): (Vec<Grid>, Vec<S>) = read_marked(alloc, texts, &named)?;
     if let Some(number) = first_other(&grids) {
@@ -133,8 +129,32 @@ pub fn merge_shards<S: Shard>(
     }
 }
 
+/// The shard of the union of the features of the texts that the plan names. These are joined each once,
+/// by halves and in the order of their places, whatever the plan's order and grouping, which make no
+/// difference to what the shard means. Each text is given up once it is read.
+///
+/// # Errors
+/// `BadPlan` with the first leaf from the left that is no place of the list; otherwise `Text` with
+/// the first text of the list that is refused, and its least fault; otherwise `OtherGrid` with the
+/// first text whose transform differs from that of text 0. All texts are read, also those that the
+/// plan does not name.
+pub fn merge_shards<S: Shard>(
+    alloc: Global,
+    texts: Vec<Vec<u8>>,
+    plan: &Plan,
+) -> Result<S, MergeFault>
+    ensures bad_plan { (k : ℕ) → first_outside (length texts.items) (leaves plan.now) ≡ Some k → result ≡ Err (BadPlan k) }
+    ensures fault { IfErr result (IsMergeFault (bytes_of texts.items) (leaves plan.now)) }
+    ensures merged { IfOk result (λ s. IsUnionOf (bytes_of texts.items) (leaves plan.now) (S.grid_of s) (S.map_of s)) }
+{
+    if let Some(leaf) = first_bad_leaf(alloc, plan, texts.len()) {
+        return Err(MergeFault::BadPlan(leaf));
+    }
+    merge_places(alloc, texts, plan)
+}
+
 /// The canonical text of the union of the features of the texts that the plan names, merged over
-/// shards of a chosen kind, as `merge_shards` does.
+/// shards of a chosen kind, as `merge_shards` does. The texts stay.
 ///
 /// # Errors
 /// Those of `merge_shards`.
@@ -148,6 +168,9 @@ pub fn merge_as<S: Shard>(
     ensures merged { IfOk result (λ t. IsMergeOf (bytes_of texts.now) (leaves plan.now) t.items) }
     ensures accepted { IfOk result (λ t. MeansUnion (bytes_of texts.now) (leaves plan.now) t.items) }
 {
-    let shard: S = merge_shards(alloc, texts, plan)?;
+    if let Some(leaf) = first_bad_leaf(alloc, plan, texts.len()) {
+        return Err(MergeFault::BadPlan(leaf));
+    }
+    let shard: S = merge_places(alloc, lent(alloc, texts)?, plan)?;
     Ok(shard.into_text(alloc)?)
 }

@@ -32,19 +32,20 @@ pub fn merge_texts(alloc: Global, texts: &[Vec<u8>], plan: &Plan) -> Result<Vec<
 }
 
 /// The topology of the union of the features of the texts that the plan names, of which `merge_texts`
-/// answers the text. Whoever writes it to a sink needs no memory for that text.
+/// answers the text. Whoever writes it to a sink needs no memory for that text. Each text is given up once
+/// it is read.
 ///
 /// # Errors
 /// Those of `merge_texts`.
 pub fn merge_topologies(
     alloc: Global,
-    texts: &[Vec<u8>],
+    texts: Vec<Vec<u8>>,
     plan: &Plan,
 ) -> Result<Topology, MergeFault>
-    ensures bad_plan { (k : ℕ) → first_outside (length texts.now) (leaves plan.now) ≡ Some k → result ≡ Err (BadPlan k) }
-    ensures fault { IfErr result (IsMergeFault (bytes_of texts.now) (leaves plan.now)) }
-    ensures merged { IfOk result (IsTopologyOfUnion (bytes_of texts.now) (leaves plan.now)) }
-    ensures text { IfOk result (λ t. IsMergeOf (bytes_of texts.now) (leaves plan.now) (topology_text (seen_parts t))) }
+    ensures bad_plan { (k : ℕ) → first_outside (length texts.items) (leaves plan.now) ≡ Some k → result ≡ Err (BadPlan k) }
+    ensures fault { IfErr result (IsMergeFault (bytes_of texts.items) (leaves plan.now)) }
+    ensures merged { IfOk result (IsTopologyOfUnion (bytes_of texts.items) (leaves plan.now)) }
+    ensures text { IfOk result (λ t. IsMergeOf (bytes_of texts.items) (leaves plan.now) (topology_text (seen_parts t))) }
 {
     let shard: Cut = merge_shards(alloc, texts, plan)?;
     Ok(shard.into_topology(alloc)?)

@@ -35,7 +35,7 @@ impl Grouping {
     }
 }
 
-/// The topology of all files' features. Their texts are given up.
+/// The topology of all files' features. Each text is given up once it is read.
 pub(crate) fn topology_merged<'a, F: Files>(
     alloc: Global,
     found: &ArgMatches<'a>,
@@ -47,7 +47,7 @@ pub(crate) fn topology_merged<'a, F: Files>(
     let Some(plan) = grouping.plan(alloc, texts.len())? else {
         return Err(Refusal::BadPlan);
     };
-    match merge_topologies(alloc, texts.as_slice(), &plan) {
+    match merge_topologies(alloc, texts, &plan) {
         Ok(topology) => Ok(topology),
         Err(fault) => Err(refused(names, fault)),
     }

@@ -10,7 +10,7 @@ use Rattle.refine.proofs.merge.merge_topologies.Goals as goal
 pub returns-clause-merged : goal.returns-clause-merged
 returns-clause-merged c =
     let m = c.in_ok-shard.shard.map in
-    (m, subst (λ g. IsUnionOf (bytes_of c.args.texts.now) (leaves c.args.plan.now) g m) (sym c.in_ok-into_topology.ensures.grid) c.in_ok-shard.ensures.merged, c.in_ok-into_topology.ensures.of_map)
+    (m, subst (λ g. IsUnionOf (bytes_of c.args.texts.items) (leaves c.args.plan.now) g m) (sym c.in_ok-into_topology.ensures.grid) c.in_ok-shard.ensures.merged, c.in_ok-into_topology.ensures.of_map)
 
 pub returns-clause-text : goal.returns-clause-text
 returns-clause-text c =
