@@ -60,10 +60,10 @@ fn perform_named<'a, F: Files, O: Sink>(
         let canonical = is_canonical(alloc, found, files)?;
         return print_verdict(canonical, out);
     }
-    let topology = &topology_named(alloc, name, found, files)?;
+    let topology = topology_named(alloc, name, found, files)?;
     let question = Question {
         alloc,
-        topology,
+        topology: &topology,
         found,
     };
     print_named(name, &question, out)

@@ -1,5 +1,5 @@
 //! A writer that takes one byte a call and then fails, at each call of each command.
-use command_runs::{Run, Texts, Words, topology};
+use command_runs::{Run, Texts, topology};
 use std::alloc::Global;
 use std::test::Fail;
 
@@ -22,22 +22,8 @@ const FILES: Texts = &[
     ),
 ];
 
-const COMMANDS: &[Words] = &[
-    &["build", "--grid", "1,1,0,0", "a=squares.json"],
-    &["merge", "shared.json", "shared.json"],
-    &["feature", "--layer", "a", "shared.json"],
-    &["info", "--json", "shared.json"],
-    &["remove", "shared.json", "shared.json"],
-    &["check", "shared.json"],
-    &["mesh", "shared.json"],
-    &["mesh", "--layer", "a", "--edges", "interior", "shared.json"],
-    &["neighbors", "--layer", "a", "shared.json"],
-    &["neighbors", "--ids", "--layer", "a", "shared.json"],
-    &["info", "shared.json"],
-];
-
 /// The command prints something, and fails at each call of it in each way.
-fn assert_all_fail(alloc: Global, words: Words) -> Result<(), Fail> {
+fn assert_all_fail(alloc: Global, words: &[&str]) -> Result<(), Fail> {
     let title = format!(in alloc; "{words:?}")?;
     let run = Run::on_files(alloc, words, FILES)?;
     let text = run.outcome()?.into_text(title.as_str())?;
@@ -48,9 +34,41 @@ fn assert_all_fail(alloc: Global, words: Words) -> Result<(), Fail> {
 }
 
 #[test]
-fn each_command_fails_at_each_call(rt: HostRuntime) -> Result<(), Fail> {
-    for words in COMMANDS {
-        assert_all_fail(rt.alloc(), *words)?;
-    }
-    Ok(())
+fn build_and_check(rt: HostRuntime) -> Result<(), Fail> {
+    assert_all_fail(
+        rt.alloc(),
+        &["build", "--grid", "1,1,0,0", "a=squares.json"],
+    )?;
+    assert_all_fail(rt.alloc(), &["check", "shared.json"])
+}
+
+#[test]
+fn merge_and_remove(rt: HostRuntime) -> Result<(), Fail> {
+    assert_all_fail(rt.alloc(), &["merge", "shared.json", "shared.json"])?;
+    assert_all_fail(rt.alloc(), &["remove", "shared.json", "shared.json"])
+}
+
+#[test]
+fn feature_and_neighbors(rt: HostRuntime) -> Result<(), Fail> {
+    assert_all_fail(rt.alloc(), &["feature", "--layer", "a", "shared.json"])?;
+    assert_all_fail(rt.alloc(), &["neighbors", "--layer", "a", "shared.json"])?;
+    assert_all_fail(
+        rt.alloc(),
+        &["neighbors", "--ids", "--layer", "a", "shared.json"],
+    )
+}
+
+#[test]
+fn mesh(rt: HostRuntime) -> Result<(), Fail> {
+    assert_all_fail(rt.alloc(), &["mesh", "shared.json"])?;
+    assert_all_fail(
+        rt.alloc(),
+        &["mesh", "--layer", "a", "--edges", "interior", "shared.json"],
+    )
+}
+
+#[test]
+fn info(rt: HostRuntime) -> Result<(), Fail> {
+    assert_all_fail(rt.alloc(), &["info", "--json", "shared.json"])?;
+    assert_all_fail(rt.alloc(), &["info", "shared.json"])
 }

@@ -308,7 +308,8 @@ fn each_choice_of_texts_as_by_its_plan(rt: HostRuntime) -> Result<(), Fail> {
     assert!(rt; plan_of_number(rt.alloc(), 0)?.is_none());
     for number in 1..32 {
         let plan = plan_of_number(rt.alloc(), number)?.ok_or("no plan")?;
-        assert!(rt; are_joined_alike(rt.alloc(), list.as_slice(), shards.as_slice(), &plan)?);
+        let are_alike = are_joined_alike(rt.alloc(), list.as_slice(), shards.as_slice(), &plan)?;
+        assert!(rt; are_alike, "plan {number}");
     }
     Ok(())
 }
