@@ -15,6 +15,15 @@ fn counted(words: &[String]) -> Option<(usize, &[String])> {
     Some((count.as_str().parse::<usize>().ok()?, names))
 }
 
+/// How many times more, and two files.
+fn counted_two(words: &[String]) -> Option<(usize, &str, &str)> {
+    let (count, names) = counted(words)?;
+    let [first, second] = names else {
+        return None;
+    };
+    Some((count, first.as_str(), second.as_str()))
+}
+
 fn built_last(alloc: Global, grid: &Grid, map: &FeatureMap, count: usize) -> Option<Topology> {
     for _ in 0..count {
         Topology::build(alloc, grid, map).ok()?;
@@ -35,9 +44,10 @@ pub fn build(rt: &HostRuntime, words: &[String]) -> Option<Vec<u8>> {
 }
 
 /// The topology of a GeoJSON file.
-fn read_topology(rt: &HostRuntime, grid: &Grid, name: &str) -> Option<Topology> {
-    let map = read_map(rt, grid, name)?;
-    Topology::build(rt.alloc(), grid, &map).ok()
+fn read_topology(rt: &HostRuntime, name: &str) -> Option<Topology> {
+    let grid = unit_grid()?;
+    let map = read_map(rt, &grid, name)?;
+    Topology::build(rt.alloc(), &grid, &map).ok()
 }
 
 fn arcs_of_last(alloc: Global, left: &Topology, right: &Topology, count: usize) -> Option<usize> {
@@ -50,13 +60,9 @@ fn arcs_of_last(alloc: Global, left: &Topology, right: &Topology, count: usize) 
 
 /// How many arcs those of two GeoJSON files are cut into.
 pub fn cut_again(rt: &HostRuntime, words: &[String]) -> Option<Vec<u8>> {
-    let (count, names) = counted(words)?;
-    let [left, right] = names else {
-        return None;
-    };
-    let grid = unit_grid()?;
-    let left = read_topology(rt, &grid, left.as_str())?;
-    let right = read_topology(rt, &grid, right.as_str())?;
+    let (count, left, right) = counted_two(words)?;
+    let left = read_topology(rt, left)?;
+    let right = read_topology(rt, right)?;
     let arcs = arcs_of_last(rt.alloc(), &left, &right, count)?;
     let text = format!(in rt.alloc(); "{arcs} arcs\n").ok()?;
     Some(text.into_bytes())
@@ -77,13 +83,9 @@ fn left_last(
 
 /// The text of the topology of a GeoJSON file without the features of another.
 pub fn take_out(rt: &HostRuntime, words: &[String]) -> Option<Vec<u8>> {
-    let (count, names) = counted(words)?;
-    let [whole, removed] = names else {
-        return None;
-    };
-    let grid = unit_grid()?;
-    let removed = read_map(rt, &grid, removed.as_str())?;
-    let whole = read_topology(rt, &grid, whole.as_str())?;
+    let (count, whole, removed) = counted_two(words)?;
+    let removed = read_map(rt, &unit_grid()?, removed)?;
+    let whole = read_topology(rt, whole)?;
     let left = left_last(rt.alloc(), &whole, &removed, count)?;
     topo_io::text_of(rt.alloc(), &left).ok()
 }

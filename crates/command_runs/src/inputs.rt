@@ -93,99 +93,38 @@ pub struct Union {
     pub topology: &'static str,
 }
 
+/// Rows of a title, texts in brackets, and their topology.
+macro_rules! unions {
+    ($($title:literal: [$($text:expr),+], $topology:expr;)+) => {
+        &[$(Union {
+            title: $title,
+            texts: &[$($text),+],
+            topology: $topology,
+        }),+]
+    };
+}
+
 /// Maps of two or three texts.
-pub const UNIONS: &[Union] = &[
-    Union {
-        title: "shared edge",
-        texts: &[A, B],
-        topology: SHARED_EDGE,
-    },
-    Union {
-        title: "order and repeats",
-        texts: &[A, B, A],
-        topology: SHARED_EDGE,
-    },
-    Union {
-        title: "the seam at (0,0) vanishes",
-        texts: &[T, r#"{"type":"LineString","coordinates":[[2,0],[3,0]]}"#],
-        topology: topology!(
-            r#"{"arcs":[[[2,0],[-2,0],[0,2],[2,-2]],[[2,0],[1,0]]],"bbox":[0,0,3,2],"objects":{"a":{"geometries":[{"arcs":[1],"type":"LineString"},{"arcs":[[-1]],"type":"Polygon"}],"type":"GeometryCollection"}},"#
-        ),
-    },
-    Union {
-        title: "a junction from an end alone",
-        texts: &[
-            T,
-            r#"{"type":"LineString","coordinates":[[0,2],[0,0],[2,0],[0,2]]}"#,
-        ],
-        topology: topology!(
-            r#"{"arcs":[[[0,2],[0,-2],[2,0],[-2,2]]],"bbox":[0,0,2,2],"objects":{"a":{"geometries":[{"arcs":[0],"type":"LineString"},{"arcs":[[0]],"type":"Polygon"}],"type":"GeometryCollection"}},"#
-        ),
-    },
-    Union {
-        title: "two users, no junction",
-        texts: &[
-            T,
-            r#"{"type":"Feature","id":7,"geometry":{"type":"Polygon","coordinates":[[[0,0],[0,2],[2,0],[0,0]]]}}"#,
-        ],
-        topology: topology!(
-            r#"{"arcs":[[[0,0],[0,2],[2,-2],[-2,0]]],"bbox":[0,0,2,2],"objects":{"a":{"geometries":[{"arcs":[[-1]],"type":"Polygon"},{"arcs":[[0]],"id":7,"type":"Polygon"}],"type":"GeometryCollection"}},"#
-        ),
-    },
-    Union {
-        title: "three shards",
-        texts: &[A, B, C],
-        topology: topology!(
-            r#"{"arcs":[[[1,0],[-1,0],[0,1],[1,0]],[[1,0],[0,1]],[[1,0],[1,0]],[[1,1],[1,0]],[[2,0],[0,1]],[[2,0],[1,0],[0,1],[-1,0]]],"bbox":[0,0,3,1],"objects":{"a":{"geometries":[{"arcs":[[1,-1]],"type":"Polygon"},{"arcs":[[2,4,-4,-2]],"type":"Polygon"},{"arcs":[[5,-5]],"type":"Polygon"}],"type":"GeometryCollection"}},"#
-        ),
-    },
-    Union {
-        title: "a junction of the union alone",
-        texts: &[
-            r#"{"type":"LineString","coordinates":[[0,0],[1,0],[2,0]]}"#,
-            r#"{"type":"LineString","coordinates":[[0,0],[1,0],[1,1]]}"#,
-        ],
-        topology: topology!(
-            r#"{"arcs":[[[0,0],[1,0]],[[1,0],[0,1]],[[1,0],[1,0]]],"bbox":[0,0,2,1],"objects":{"a":{"geometries":[{"arcs":[0,1],"type":"LineString"},{"arcs":[0,2],"type":"LineString"}],"type":"GeometryCollection"}},"#
-        ),
-    },
-    Union {
-        title: "one ring twice",
-        texts: &[
-            T,
-            r#"{"type":"Polygon","coordinates":[[[2,0],[0,2],[0,0],[2,0]]]}"#,
-        ],
-        topology: FREE_LOOP,
-    },
-    Union {
-        title: "two squares that touch",
-        texts: &[A, S],
-        topology: topology!(
-            r#"{"arcs":[[[1,1],[-1,0],[0,-1],[1,0],[0,1]],[[1,1],[0,1],[1,0],[0,-1],[-1,0]]],"bbox":[0,0,2,2],"objects":{"a":{"geometries":[{"arcs":[[0]],"type":"Polygon"},{"arcs":[[-2]],"type":"Polygon"}],"type":"GeometryCollection"}},"#
-        ),
-    },
-    Union {
-        title: "a ring that visits a vertex twice, given twice",
-        texts: &[BOW_TIE, BOW_TIE],
-        topology: BOW_TIE_TOPOLOGY,
-    },
-    Union {
-        title: "a line that visits a vertex twice, given twice",
-        texts: &[LOOPED_LINE, LOOPED_LINE],
-        topology: LOOPED_LINE_TOPOLOGY,
-    },
-    Union {
-        title: "a ring that visits a vertex twice, and a square",
-        texts: &[BOW_TIE, A],
-        topology: topology!(
-            r#"{"arcs":[[[0,0],[0,1],[1,0]],[[0,0],[1,0],[0,1]],[[0,0],[1,1]],[[0,0],[2,0],[-1,1]],[[1,1],[-1,1],[2,0],[-1,-1]]],"bbox":[0,0,2,2],"objects":{"a":{"geometries":[{"arcs":[[1,-1]],"type":"Polygon"},{"arcs":[[3,4,-3]],"type":"Polygon"}],"type":"GeometryCollection"}},"#
-        ),
-    },
-    Union {
-        title: "a line that visits a vertex twice, and a square",
-        texts: &[LOOPED_LINE, A],
-        topology: topology!(
-            r#"{"arcs":[[[0,0],[0,1],[1,0]],[[0,0],[1,0],[0,1]],[[0,0],[1,1]],[[0,2],[1,-1]],[[1,1],[1,-1],[0,2],[-1,-1]]],"bbox":[0,0,2,2],"objects":{"a":{"geometries":[{"arcs":[2,-5,-4],"type":"LineString"},{"arcs":[[1,-1]],"type":"Polygon"}],"type":"GeometryCollection"}},"#
-        ),
-    },
+pub const UNIONS: &[Union] = unions![
+    "shared edge": [A, B], SHARED_EDGE;
+    "order and repeats": [A, B, A], SHARED_EDGE;
+    "the seam at (0,0) vanishes": [T, r#"{"type":"LineString","coordinates":[[2,0],[3,0]]}"#],
+        topology!(r#"{"arcs":[[[2,0],[-2,0],[0,2],[2,-2]],[[2,0],[1,0]]],"bbox":[0,0,3,2],"objects":{"a":{"geometries":[{"arcs":[1],"type":"LineString"},{"arcs":[[-1]],"type":"Polygon"}],"type":"GeometryCollection"}},"#);
+    "a junction from an end alone": [T, r#"{"type":"LineString","coordinates":[[0,2],[0,0],[2,0],[0,2]]}"#],
+        topology!(r#"{"arcs":[[[0,2],[0,-2],[2,0],[-2,2]]],"bbox":[0,0,2,2],"objects":{"a":{"geometries":[{"arcs":[0],"type":"LineString"},{"arcs":[[0]],"type":"Polygon"}],"type":"GeometryCollection"}},"#);
+    "two users, no junction": [T, r#"{"type":"Feature","id":7,"geometry":{"type":"Polygon","coordinates":[[[0,0],[0,2],[2,0],[0,0]]]}}"#],
+        topology!(r#"{"arcs":[[[0,0],[0,2],[2,-2],[-2,0]]],"bbox":[0,0,2,2],"objects":{"a":{"geometries":[{"arcs":[[-1]],"type":"Polygon"},{"arcs":[[0]],"id":7,"type":"Polygon"}],"type":"GeometryCollection"}},"#);
+    "three shards": [A, B, C],
+        topology!(r#"{"arcs":[[[1,0],[-1,0],[0,1],[1,0]],[[1,0],[0,1]],[[1,0],[1,0]],[[1,1],[1,0]],[[2,0],[0,1]],[[2,0],[1,0],[0,1],[-1,0]]],"bbox":[0,0,3,1],"objects":{"a":{"geometries":[{"arcs":[[1,-1]],"type":"Polygon"},{"arcs":[[2,4,-4,-2]],"type":"Polygon"},{"arcs":[[5,-5]],"type":"Polygon"}],"type":"GeometryCollection"}},"#);
+    "a junction of the union alone": [r#"{"type":"LineString","coordinates":[[0,0],[1,0],[2,0]]}"#, r#"{"type":"LineString","coordinates":[[0,0],[1,0],[1,1]]}"#],
+        topology!(r#"{"arcs":[[[0,0],[1,0]],[[1,0],[0,1]],[[1,0],[1,0]]],"bbox":[0,0,2,1],"objects":{"a":{"geometries":[{"arcs":[0,1],"type":"LineString"},{"arcs":[0,2],"type":"LineString"}],"type":"GeometryCollection"}},"#);
+    "one ring twice": [T, r#"{"type":"Polygon","coordinates":[[[2,0],[0,2],[0,0],[2,0]]]}"#], FREE_LOOP;
+    "two squares that touch": [A, S],
+        topology!(r#"{"arcs":[[[1,1],[-1,0],[0,-1],[1,0],[0,1]],[[1,1],[0,1],[1,0],[0,-1],[-1,0]]],"bbox":[0,0,2,2],"objects":{"a":{"geometries":[{"arcs":[[0]],"type":"Polygon"},{"arcs":[[-2]],"type":"Polygon"}],"type":"GeometryCollection"}},"#);
+    "a ring that visits a vertex twice, given twice": [BOW_TIE, BOW_TIE], BOW_TIE_TOPOLOGY;
+    "a line that visits a vertex twice, given twice": [LOOPED_LINE, LOOPED_LINE], LOOPED_LINE_TOPOLOGY;
+    "a ring that visits a vertex twice, and a square": [BOW_TIE, A],
+        topology!(r#"{"arcs":[[[0,0],[0,1],[1,0]],[[0,0],[1,0],[0,1]],[[0,0],[1,1]],[[0,0],[2,0],[-1,1]],[[1,1],[-1,1],[2,0],[-1,-1]]],"bbox":[0,0,2,2],"objects":{"a":{"geometries":[{"arcs":[[1,-1]],"type":"Polygon"},{"arcs":[[3,4,-3]],"type":"Polygon"}],"type":"GeometryCollection"}},"#);
+    "a line that visits a vertex twice, and a square": [LOOPED_LINE, A],
+        topology!(r#"{"arcs":[[[0,0],[0,1],[1,0]],[[0,0],[1,0],[0,1]],[[0,0],[1,1]],[[0,2],[1,-1]],[[1,1],[1,-1],[0,2],[-1,-1]]],"bbox":[0,0,2,2],"objects":{"a":{"geometries":[{"arcs":[2,-5,-4],"type":"LineString"},{"arcs":[[1,-1]],"type":"Polygon"}],"type":"GeometryCollection"}},"#);
 ];

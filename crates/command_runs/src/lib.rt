@@ -8,9 +8,9 @@ mod runs;
 mod scripts;
 mod tables;
 
-pub use checks::{
-    Texts, Words, assert_all_built, assert_answer, assert_built, assert_printed, assert_refused,
-    built_text,
+pub use checks::assert_beginnings_refused;
+pub use runs::{
+    Outcome, Run, build, build_all, build_file, built_text, run_on_bytes, run_on_text, run_words,
 };
-pub use runs::{Outcome, Run, build_file, run_on_bytes, run_on_text, run_words};
-pub use scripts::script;
+pub use scripts::{script, took};
+pub use tables::{Texts, Words};

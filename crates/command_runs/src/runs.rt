@@ -44,7 +44,7 @@ fn text_of(kept: Kept) -> Result<String, Fail> {
 /// A run of the command: its words and files.
 #[derive(Drop)]
 pub struct Run {
-    alloc: Global,
+    pub(crate) alloc: Global,
     words: Vec<String>,
     files: Vec<(String, Vec<u8>)>,
     input: Option<Vec<u8>>,
@@ -223,25 +223,29 @@ pub fn run_on_text(alloc: Global, words: &[&str], text: &str) -> Result<Outcome,
     run_on_bytes(alloc, words, "t.json", text.as_bytes())
 }
 
-/// The words that build in layers on a grid, before the first layer.
-fn building(alloc: Global, grid: &str) -> Result<Run, AllocError> {
-    Run::new(alloc, &["build", "--grid", grid])
-}
-
 /// Builds GeoJSON texts, each in the layer named before it.
-pub(crate) fn build(alloc: Global, grid: &str, sources: &[(&str, &str)]) -> Result<Outcome, Fail> {
-    let mut run = building(alloc, grid)?;
+pub fn build(alloc: Global, grid: &str, sources: &[(&str, &str)]) -> Result<Outcome, Fail> {
+    let mut run = Run::new(alloc, &["build", "--grid", grid])?;
     for (place, (layer, text)) in sources.iter().enumerate() {
         run.add_source(place, *layer, *text)?;
     }
     run.outcome()
 }
 
-/// Builds GeoJSON texts in one layer on the grid 1,1,0,0.
-pub(crate) fn build_all(alloc: Global, layer: &str, texts: &[&str]) -> Result<Outcome, Fail> {
-    let mut run = building(alloc, "1,1,0,0")?;
+/// The topology of GeoJSON texts, each in the layer named before it.
+///
+/// # Errors
+/// What the run ended with, where it printed none.
+pub fn built_text(alloc: Global, grid: &str, sources: &[(&str, &str)]) -> Result<String, Fail> {
+    let outcome = build(alloc, grid, sources)?;
+    outcome.into_text("a build")
+}
+
+/// Builds GeoJSON texts in the layer `a` on the grid 1,1,0,0.
+pub fn build_all(alloc: Global, texts: &[&str]) -> Result<Outcome, Fail> {
+    let mut run = Run::new(alloc, &["build", "--grid", "1,1,0,0"])?;
     for (place, text) in texts.iter().enumerate() {
-        run.add_source(place, layer, *text)?;
+        run.add_source(place, "a", *text)?;
     }
     run.outcome()
 }

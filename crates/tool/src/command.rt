@@ -2,7 +2,7 @@
 use crate::build_command::topology_built;
 use crate::files::Files;
 use crate::merge_command::topology_merged;
-use crate::queries::{is_canonical, print_feature, print_info, print_mesh, print_neighbors};
+use crate::queries::{Question, is_canonical};
 use crate::refusal::Refusal;
 use crate::removing::topology_left;
 use crate::status::Status;
@@ -48,7 +48,7 @@ fn perform<'a, F: Files, O: Sink>(
     }
 }
 
-/// The same for the command of this name. The commands that are not named here ask one topology.
+/// The same for the command of this name. All but `check` print what they make or ask of a topology.
 fn perform_named<'a, F: Files, O: Sink>(
     alloc: Global,
     name: &str,
@@ -56,80 +56,47 @@ fn perform_named<'a, F: Files, O: Sink>(
     files: &mut F,
     out: &mut O,
 ) -> Result<Status, Refusal<'a>> {
+    if name == "check" {
+        let canonical = is_canonical(alloc, found, files)?;
+        return print_verdict(canonical, out);
+    }
+    let topology = topology_named(alloc, name, found, files)?;
+    let question = Question {
+        alloc,
+        topology: &topology,
+        found,
+    };
+    print_named(name, &question, out)
+}
+
+/// The topology that the command of this name makes, or is asked about.
+fn topology_named<'a, F: Files>(
+    alloc: Global,
+    name: &str,
+    found: &ArgMatches<'a>,
+    files: &mut F,
+) -> Result<Topology, Refusal<'a>> {
     match name {
-        "build" => build(alloc, found, files, out),
-        "check" => check(alloc, found, files, out),
-        "merge" => merge(alloc, found, files, out),
-        "remove" => remove(alloc, found, files, out),
-        _ => ask(alloc, name, found, files, out),
+        "build" => topology_built(alloc, found, files),
+        "merge" => topology_merged(alloc, found, files),
+        "remove" => topology_left(alloc, found, files),
+        _ => read_topology(alloc, found, files),
     }
 }
 
-fn build<'a, F: Files, O: Sink>(
-    alloc: Global,
-    found: &ArgMatches<'a>,
-    files: &mut F,
-    out: &mut O,
-) -> Result<Status, Refusal<'a>> {
-    let topology = topology_built(alloc, found, files)?;
-    print_topology(&topology, out)
-}
-
-fn check<'a, F: Files, O: Sink>(
-    alloc: Global,
-    found: &ArgMatches<'a>,
-    files: &mut F,
-    out: &mut O,
-) -> Result<Status, Refusal<'a>> {
-    let canonical = is_canonical(alloc, found, files)?;
-    print_verdict(canonical, out)
-}
-
-fn merge<'a, F: Files, O: Sink>(
-    alloc: Global,
-    found: &ArgMatches<'a>,
-    files: &mut F,
-    out: &mut O,
-) -> Result<Status, Refusal<'a>> {
-    let topology = topology_merged(alloc, found, files)?;
-    print_topology(&topology, out)
-}
-
-fn remove<'a, F: Files, O: Sink>(
-    alloc: Global,
-    found: &ArgMatches<'a>,
-    files: &mut F,
-    out: &mut O,
-) -> Result<Status, Refusal<'a>> {
-    let topology = topology_left(alloc, found, files)?;
-    print_topology(&topology, out)
-}
-
-/// Reads the topology that a question is asked about, and prints the answer.
-fn ask<'a, F: Files, O: Sink>(
-    alloc: Global,
+/// Prints the topology, or the answer of the command of this name. clap lets no word through that names
+/// none.
+fn print_named<'a, O: Sink>(
     name: &str,
-    found: &ArgMatches<'a>,
-    files: &mut F,
-    out: &mut O,
-) -> Result<Status, Refusal<'a>> {
-    let topology = read_topology(alloc, found, files)?;
-    answer(alloc, name, found, &topology, out)
-}
-
-/// Prints the answer of the command of this name. clap lets no word through that names none.
-fn answer<'a, O: Sink>(
-    alloc: Global,
-    name: &str,
-    found: &ArgMatches<'a>,
-    topology: &Topology,
+    question: &Question<'_, 'a>,
     out: &mut O,
 ) -> Result<Status, Refusal<'a>> {
     match name {
-        "feature" => print_feature(topology, found, out),
-        "mesh" => print_mesh(alloc, topology, found, out),
-        "neighbors" => print_neighbors(alloc, topology, found, out),
-        "info" => print_info(topology, found, out),
+        "build" | "merge" | "remove" => print_topology(question.topology, out),
+        "feature" => question.print_feature(out),
+        "mesh" => question.print_mesh(out),
+        "neighbors" => question.print_neighbors(out),
+        "info" => question.print_info(out),
         _ => Ok(Status::Usage),
     }
 }

@@ -2,7 +2,7 @@
 use crate::files::{Files, read_named};
 use crate::refusal::Refusal;
 use crate::status::Status;
-use crate::topologies::word;
+use crate::topologies::{of_file, word};
 use clap::ArgMatches;
 use info_text::{write_json, write_lines};
 use query::{
@@ -20,43 +20,65 @@ pub(crate) fn is_canonical<'a, F: Files>(
     found: &ArgMatches<'a>,
     files: &mut F,
 ) -> Result<bool, Refusal<'a>> {
-    let file = word(found, "FILE");
-    let text = read_named(alloc, files, file)?;
-    match topo_io::is_canonical(alloc, text.as_slice()) {
-        Ok(canonical) => Ok(canonical),
-        Err(fault) => Err(Refusal::of_text(file, fault)),
-    }
+    let text = read_named(alloc, files, word(found, "FILE"))?;
+    let read = topo_io::is_canonical(alloc, text.as_slice());
+    of_file(word(found, "FILE"), read)
 }
 
-/// Prints a layer as GeoJSON.
-pub(crate) fn print_feature<'a, O: Sink>(
-    topology: &Topology,
-    found: &ArgMatches<'a>,
-    out: &mut O,
-) -> Result<Status, Refusal<'a>> {
-    let layer = word(found, "layer");
-    match write_layer(topology, layer, out) {
-        Ok(()) => Ok(Status::Done),
-        Err(LayerFault::NoLayer) => Err(Refusal::NoLayer(layer)),
-        Err(LayerFault::Write) => Err(Refusal::Write),
-    }
+/// A topology, and the words that ask about it.
+#[derive(Drop)]
+pub(crate) struct Question<'t, 'a> {
+    pub(crate) alloc: Global,
+    pub(crate) topology: &'t Topology,
+    pub(crate) found: &'t ArgMatches<'a>,
 }
 
-/// Prints the borders of a layer, or of all layers.
-pub(crate) fn print_mesh<'a, O: Sink>(
-    alloc: Global,
-    topology: &Topology,
-    found: &ArgMatches<'a>,
-    out: &mut O,
-) -> Result<Status, Refusal<'a>> {
-    let layer = found.get_str("layer");
-    let edges = edges_of_word(word(found, "edges"));
-    match borders(alloc, topology, layer, edges) {
-        Ok(lines) => {
-            write_mesh(&topology.grid(), &lines, out)?;
-            Ok(Status::Done)
+impl<'t, 'a> Question<'t, 'a> {
+    /// Prints a layer as GeoJSON.
+    pub(crate) fn print_feature<O: Sink>(&self, out: &mut O) -> Result<Status, Refusal<'a>> {
+        let layer = word(self.found, "layer");
+        match write_layer(self.topology, layer, out) {
+            Ok(()) => Ok(Status::Done),
+            Err(LayerFault::NoLayer) => Err(Refusal::NoLayer(layer)),
+            Err(LayerFault::Write) => Err(Refusal::Write),
         }
-        Err(fault) => Err(refused(layer.unwrap_or(""), fault)),
+    }
+
+    /// Prints the borders of a layer, or of all layers.
+    pub(crate) fn print_mesh<O: Sink>(&self, out: &mut O) -> Result<Status, Refusal<'a>> {
+        let layer = self.found.get_str("layer");
+        let edges = edges_of_word(word(self.found, "edges"));
+        match borders(self.alloc, self.topology, layer, edges) {
+            Ok(lines) => {
+                write_mesh(&self.topology.grid(), &lines, out)?;
+                Ok(Status::Done)
+            }
+            Err(fault) => Err(refused(layer.unwrap_or(""), fault)),
+        }
+    }
+
+    /// Prints which features of a layer share a border.
+    pub(crate) fn print_neighbors<O: Sink>(&self, out: &mut O) -> Result<Status, Refusal<'a>> {
+        let layer = word(self.found, "layer");
+        let lists = match neighbors(self.alloc, self.topology, layer) {
+            Ok(lists) => lists,
+            Err(fault) => return Err(refused(layer, fault)),
+        };
+        if self.found.get_flag("ids") {
+            return print_ids(self.topology, layer, lists.as_slice(), out);
+        }
+        write_neighbors(lists.as_slice(), out)?;
+        Ok(Status::Done)
+    }
+
+    /// Prints what a topology is made of.
+    pub(crate) fn print_info<O: Sink>(&self, out: &mut O) -> Result<Status, Refusal<'a>> {
+        if self.found.get_flag("json") {
+            write_json(self.topology, out)?;
+        } else {
+            write_lines(self.topology, out)?;
+        }
+        Ok(Status::Done)
     }
 }
 
@@ -67,25 +89,6 @@ fn edges_of_word(word: &str) -> Edges {
         "exterior" => Edges::Exterior,
         _ => Edges::All,
     }
-}
-
-/// Prints which features of a layer share a border.
-pub(crate) fn print_neighbors<'a, O: Sink>(
-    alloc: Global,
-    topology: &Topology,
-    found: &ArgMatches<'a>,
-    out: &mut O,
-) -> Result<Status, Refusal<'a>> {
-    let layer = word(found, "layer");
-    let lists = match neighbors(alloc, topology, layer) {
-        Ok(lists) => lists,
-        Err(fault) => return Err(refused(layer, fault)),
-    };
-    if found.get_flag("ids") {
-        return print_ids(topology, layer, lists.as_slice(), out);
-    }
-    write_neighbors(lists.as_slice(), out)?;
-    Ok(Status::Done)
 }
 
 /// Prints the ids of the neighbors of each feature of a layer.
@@ -112,20 +115,6 @@ fn geometries_with_ids<'a, 't>(
         }
     }
     Ok(geometries)
-}
-
-/// Prints what a topology is made of.
-pub(crate) fn print_info<'a, O: Sink>(
-    topology: &Topology,
-    found: &ArgMatches<'a>,
-    out: &mut O,
-) -> Result<Status, Refusal<'a>> {
-    if found.get_flag("json") {
-        write_json(topology, out)?;
-    } else {
-        write_lines(topology, out)?;
-    }
-    Ok(Status::Done)
 }
 
 fn refused<'a>(layer: &'a str, fault: QueryFault) -> Refusal<'a> {

@@ -13,8 +13,7 @@ pub(crate) fn topology_left<'a, F: Files>(
     found: &ArgMatches<'a>,
     files: &mut F,
 ) -> Result<Topology, Refusal<'a>> {
-    let file = word(found, "FILE");
-    let removed = word(found, "REMOVED");
+    let (file, removed) = (word(found, "FILE"), word(found, "REMOVED"));
     input_once(&[file, removed])?;
     let text = read_named(alloc, files, file)?;
     let removed_text = read_named(alloc, files, removed)?;

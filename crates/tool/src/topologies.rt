@@ -2,6 +2,7 @@
 use crate::files::{Files, read_named};
 use crate::refusal::Refusal;
 use clap::ArgMatches;
+use faults::Fault;
 use grid::Grid;
 use shapes::FeatureMap;
 use std::alloc::Global;
@@ -28,10 +29,7 @@ pub(crate) fn topology_of<'a>(
     file: &'a str,
     text: Vec<u8>,
 ) -> Result<Topology, Refusal<'a>> {
-    match topo_io::read_topology(alloc, text.as_slice()) {
-        Ok(topology) => Ok(topology),
-        Err(fault) => Err(Refusal::of_text(file, fault)),
-    }
+    of_file(file, topo_io::read_topology(alloc, text.as_slice()))
 }
 
 /// What a file's text means. The text is given up.
@@ -40,8 +38,13 @@ pub(crate) fn map_of<'a>(
     file: &'a str,
     text: Vec<u8>,
 ) -> Result<(Grid, FeatureMap), Refusal<'a>> {
-    match topo_io::read(alloc, text.as_slice()) {
-        Ok(meaning) => Ok(meaning),
+    of_file(file, topo_io::read(alloc, text.as_slice()))
+}
+
+/// What was read of a file's text, or the refusal that names the file.
+pub(crate) fn of_file<'a, T>(file: &'a str, read: Result<T, Fault>) -> Result<T, Refusal<'a>> {
+    match read {
+        Ok(made) => Ok(made),
         Err(fault) => Err(Refusal::of_text(file, fault)),
     }
 }

@@ -1,206 +1,74 @@
 //! A writer that takes one byte a call and then fails, at each call of each command.
-use crate::files::status;
-use sinks::{Answer, Kept, Script};
-use std::alloc::{AllocError, Global};
-use std::process::Abort;
+use command_runs::{Run, Texts, topology};
+use std::alloc::Global;
 use std::test::Fail;
 
-/// The answer of a writer once it has taken a byte a call, and how many bytes it takes by it.
-#[derive(Clone, Copy)]
-struct Last {
-    answer: Answer,
-    taken: usize,
-}
+/// The texts of 'shared edge', with ids.
+const FILES: Texts = &[
+    (
+        "squares.json",
+        concat!(
+            r#"{"type":"FeatureCollection","features":[{"type":"Feature","id":1,"properties":null,"geometry":"#,
+            r#"{"type":"Polygon","coordinates":[[[0,0],[1,0],[1,1],[0,1],[0,0]]]}},"#,
+            r#"{"type":"Feature","id":2,"properties":null,"geometry":"#,
+            r#"{"type":"Polygon","coordinates":[[[1,0],[2,0],[2,1],[1,1],[1,0]]]}}]}"#
+        ),
+    ),
+    (
+        "shared.json",
+        topology!(
+            r#"{"arcs":[[[1,0],[-1,0],[0,1],[1,0]],[[1,0],[0,1]],[[1,0],[1,0],[0,1],[-1,0]]],"bbox":[0,0,2,1],"objects":{"a":{"geometries":[{"arcs":[[1,-1]],"id":1,"type":"Polygon"},{"arcs":[[2,-2]],"id":2,"type":"Polygon"}],"type":"GeometryCollection"}},"#
+        ),
+    ),
+];
 
-const FAIL: Last = Last {
-    answer: Answer::Fail,
-    taken: 0,
-};
-
-const TAKE_NOTHING: Last = Last {
-    answer: Answer::Take(0),
-    taken: 0,
-};
-
-const FAIL_AFTER_A_BYTE: Last = Last {
-    answer: Answer::FailAfter(1),
-    taken: 1,
-};
-
-const EACH_WAY: &[Last] = &[FAIL, TAKE_NOTHING, FAIL_AFTER_A_BYTE];
-
-/// One byte a call for some calls, then one other answer.
-fn script(alloc: Global, calls: usize, last: Answer) -> Result<Script, AllocError> {
-    let mut answers = Vec::new(alloc);
-    for _ in 0..calls {
-        answers.push(Answer::Take(1))?;
+/// The command prints something, and fails at each call of it in each way.
+fn assert_all_fail(alloc: Global, words: &[&str]) -> Result<(), Fail> {
+    let title = format!(in alloc; "{words:?}")?;
+    let run = Run::on_files(alloc, words, FILES)?;
+    let text = run.outcome()?.into_text(title.as_str())?;
+    if text.is_empty() {
+        return Err(Fail::new(title));
     }
-    answers.push(last)?;
-    Ok(Script::new(alloc, answers))
-}
-
-/// Whether a run over a writer told by its status and its line that its output failed.
-fn tells_failure(alloc: Global, words: &[&str], out: &mut Script) -> Result<bool, Fail> {
-    let mut err = Kept::new(alloc);
-    let status = status(alloc, words, out, &mut err)?;
-    let line = err.into_bytes();
-    Ok(status == 6 && line.as_slice() == b"topotool: 21 Write\n".as_slice())
-}
-
-/// Whether a writer failed once, after so many bytes of the text.
-fn failed_after(out: &Script, text: &[u8], length: usize) -> bool {
-    out.failures() == 1 && out.taken().len() == length && text.starts_with(out.taken())
-}
-
-/// Whether a run whose output fails after some calls took that beginning of the text, failed once, and
-/// told so.
-fn fails(
-    alloc: Global,
-    words: &[&str],
-    text: &[u8],
-    calls: usize,
-    last: Last,
-) -> Result<bool, Fail> {
-    let mut out = script(alloc, calls, last.answer)?;
-    let is_told = tells_failure(alloc, words, &mut out)?;
-    Ok(is_told && failed_after(&out, text, calls.saturating_add(last.taken)))
-}
-
-/// The text that a command prints.
-fn printed(alloc: Global, words: &[&str]) -> Result<Vec<u8>, Fail> {
-    let mut kept = Kept::new(alloc);
-    let status = status(alloc, words, &mut kept, &mut Kept::new(alloc))?;
-    let text = kept.into_bytes();
-    if status != 0 || text.is_empty() {
-        return Err("no text".into());
-    }
-    Ok(text)
-}
-
-/// Each call of a run fails in turn.
-fn assert_each_failed<R: Abort + AllocGlobal>(
-    rt: &R,
-    words: &[&str],
-    last: Last,
-) -> Result<(), Fail> {
-    let text = printed(rt.alloc(), words)?;
-    for calls in 0..text.len() {
-        let fails = fails(rt.alloc(), words, text.as_slice(), calls, last)?;
-        assert!(rt; fails, "after {calls} calls");
-    }
-    Ok(())
-}
-
-/// Each call of a run fails in each way.
-fn assert_all_failed<R: Abort + AllocGlobal>(rt: &R, words: &[&str]) -> Result<(), Fail> {
-    for last in EACH_WAY {
-        assert_each_failed(rt, words, *last)?;
-    }
-    Ok(())
-}
-
-const BUILD: &[&str] = &["build", "--grid", "1,1,0,0", "a=squares.json"];
-
-#[test]
-fn build_to_one_that_fails(rt: HostRuntime) -> Result<(), Fail> {
-    assert_each_failed(&rt, BUILD, FAIL)
+    run.assert_all_fail(title.as_str(), text.as_bytes())
 }
 
 #[test]
-fn build_to_one_that_takes_nothing(rt: HostRuntime) -> Result<(), Fail> {
-    assert_each_failed(&rt, BUILD, TAKE_NOTHING)
+fn build_and_check(rt: HostRuntime) -> Result<(), Fail> {
+    assert_all_fail(
+        rt.alloc(),
+        &["build", "--grid", "1,1,0,0", "a=squares.json"],
+    )?;
+    assert_all_fail(rt.alloc(), &["check", "shared.json"])
 }
 
 #[test]
-fn build_to_one_that_fails_after_a_byte(rt: HostRuntime) -> Result<(), Fail> {
-    assert_each_failed(&rt, BUILD, FAIL_AFTER_A_BYTE)
-}
-
-const MERGE: &[&str] = &["merge", "shared.json", "shared.json"];
-
-#[test]
-fn merge_to_one_that_fails(rt: HostRuntime) -> Result<(), Fail> {
-    assert_each_failed(&rt, MERGE, FAIL)
+fn merge_and_remove(rt: HostRuntime) -> Result<(), Fail> {
+    assert_all_fail(rt.alloc(), &["merge", "shared.json", "shared.json"])?;
+    assert_all_fail(rt.alloc(), &["remove", "shared.json", "shared.json"])
 }
 
 #[test]
-fn merge_to_one_that_takes_nothing(rt: HostRuntime) -> Result<(), Fail> {
-    assert_each_failed(&rt, MERGE, TAKE_NOTHING)
-}
-
-#[test]
-fn merge_to_one_that_fails_after_a_byte(rt: HostRuntime) -> Result<(), Fail> {
-    assert_each_failed(&rt, MERGE, FAIL_AFTER_A_BYTE)
-}
-
-const FEATURE: &[&str] = &["feature", "--layer", "a", "shared.json"];
-
-#[test]
-fn feature_to_one_that_fails(rt: HostRuntime) -> Result<(), Fail> {
-    assert_each_failed(&rt, FEATURE, FAIL)
-}
-
-#[test]
-fn feature_to_one_that_takes_nothing(rt: HostRuntime) -> Result<(), Fail> {
-    assert_each_failed(&rt, FEATURE, TAKE_NOTHING)
-}
-
-#[test]
-fn feature_to_one_that_fails_after_a_byte(rt: HostRuntime) -> Result<(), Fail> {
-    assert_each_failed(&rt, FEATURE, FAIL_AFTER_A_BYTE)
-}
-
-const INFO: &[&str] = &["info", "--json", "shared.json"];
-
-#[test]
-fn info_to_one_that_fails(rt: HostRuntime) -> Result<(), Fail> {
-    assert_each_failed(&rt, INFO, FAIL)
-}
-
-#[test]
-fn info_to_one_that_takes_nothing(rt: HostRuntime) -> Result<(), Fail> {
-    assert_each_failed(&rt, INFO, TAKE_NOTHING)
-}
-
-#[test]
-fn info_to_one_that_fails_after_a_byte(rt: HostRuntime) -> Result<(), Fail> {
-    assert_each_failed(&rt, INFO, FAIL_AFTER_A_BYTE)
-}
-
-#[test]
-fn remove(rt: HostRuntime) -> Result<(), Fail> {
-    assert_all_failed(&rt, &["remove", "shared.json", "shared.json"])
-}
-
-#[test]
-fn check(rt: HostRuntime) -> Result<(), Fail> {
-    assert_all_failed(&rt, &["check", "shared.json"])
+fn feature_and_neighbors(rt: HostRuntime) -> Result<(), Fail> {
+    assert_all_fail(rt.alloc(), &["feature", "--layer", "a", "shared.json"])?;
+    assert_all_fail(rt.alloc(), &["neighbors", "--layer", "a", "shared.json"])?;
+    assert_all_fail(
+        rt.alloc(),
+        &["neighbors", "--ids", "--layer", "a", "shared.json"],
+    )
 }
 
 #[test]
 fn mesh(rt: HostRuntime) -> Result<(), Fail> {
-    assert_all_failed(&rt, &["mesh", "shared.json"])
-}
-
-#[test]
-fn mesh_between_features(rt: HostRuntime) -> Result<(), Fail> {
-    assert_all_failed(
-        &rt,
+    assert_all_fail(rt.alloc(), &["mesh", "shared.json"])?;
+    assert_all_fail(
+        rt.alloc(),
         &["mesh", "--layer", "a", "--edges", "interior", "shared.json"],
     )
 }
 
 #[test]
-fn neighbors(rt: HostRuntime) -> Result<(), Fail> {
-    assert_all_failed(&rt, &["neighbors", "--layer", "a", "shared.json"])
-}
-
-#[test]
-fn neighbors_by_ids(rt: HostRuntime) -> Result<(), Fail> {
-    assert_all_failed(&rt, &["neighbors", "--ids", "--layer", "a", "shared.json"])
-}
-
-#[test]
-fn info_in_lines(rt: HostRuntime) -> Result<(), Fail> {
-    assert_all_failed(&rt, &["info", "shared.json"])
+fn info(rt: HostRuntime) -> Result<(), Fail> {
+    assert_all_fail(rt.alloc(), &["info", "--json", "shared.json"])?;
+    assert_all_fail(rt.alloc(), &["info", "shared.json"])
 }

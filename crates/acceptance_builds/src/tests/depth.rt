@@ -1,5 +1,5 @@
 //! Properties nest at most 64 containers, of which the properties object is the first.
-use command_runs::{Words, assert_answer, assert_built, build_file, topology};
+use command_runs::{Words, build, build_file, run_on_text, topology};
 use std::alloc::{AllocError, Global};
 use std::test::Fail;
 
@@ -41,14 +41,8 @@ fn topology_of(alloc: Global, depth: usize) -> Result<String, AllocError> {
 fn the_deepest_properties_are_built(rt: HostRuntime) -> Result<(), Fail> {
     let text = feature(rt.alloc(), 63)?;
     let topology = topology_of(rt.alloc(), 63)?;
-    let sources = [("a", text.as_str())];
-    assert_built(
-        rt.alloc(),
-        "63 arrays",
-        "1,1,0,0",
-        &sources,
-        topology.as_str(),
-    )
+    let outcome = build(rt.alloc(), "1,1,0,0", &[("a", text.as_str())])?;
+    outcome.printed("63 arrays", topology.as_str())
 }
 
 const CHECK: Words = &["check", "t.json"];
@@ -59,8 +53,8 @@ const MERGE: Words = &["merge", "t.json"];
 fn the_deepest_properties_are_read(rt: HostRuntime) -> Result<(), Fail> {
     let topology = topology_of(rt.alloc(), 63)?;
     let text = topology.as_str();
-    assert_answer(rt.alloc(), "checked", CHECK, text, "canonical\n")?;
-    assert_answer(rt.alloc(), "merged", MERGE, text, text)
+    run_on_text(rt.alloc(), CHECK, text)?.printed("checked", "canonical\n")?;
+    run_on_text(rt.alloc(), MERGE, text)?.printed("merged", text)
 }
 
 #[test]

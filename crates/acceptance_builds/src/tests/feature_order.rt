@@ -1,6 +1,6 @@
 //! The order of features: by id (none, numbers, texts), then by the bytes of the properties' text,
 //! then by type, then by positions.
-use command_runs::{assert_all_built, topology};
+use command_runs::{build_all, topology};
 use std::test::Fail;
 
 /// Features from the last to the first.
@@ -23,5 +23,5 @@ const TOPOLOGY: &str = topology!(
 
 #[test]
 fn features_are_printed_in_order(rt: HostRuntime) -> Result<(), Fail> {
-    assert_all_built(rt.alloc(), "order of features", FEATURES, TOPOLOGY)
+    build_all(rt.alloc(), FEATURES)?.printed("order of features", TOPOLOGY)
 }

@@ -4,9 +4,7 @@ use std::alloc::Global;
 use std::test::Fail;
 
 /// A title, a text, and the fault that its refusal names.
-type Row = (&'static str, &'static str, &'static str);
-
-type Refusals = &'static [Row];
+type Refusals = &'static [(&'static str, &'static str, &'static str)];
 
 /// Points, and roots of texts.
 const POINTS: Refusals = rows![
@@ -95,55 +93,34 @@ const NUMBERS: Refusals = rows![
     "the least of i64", r#"{"type":"Point","coordinates":[-9223372036854775808,0]}"#, "6 OutOfRange $/coordinates/0";
 ];
 
-/// A text is refused with this fault on a grid.
-fn assert_row(alloc: Global, grid: &str, row: Row) -> Result<(), Fail> {
-    let (title, text, fault) = row;
-    let outcome = build_file(alloc, grid, text)?;
-    outcome.refused_text(alloc, title, "p.json", fault)
-}
+/// Grids, and texts that are refused on them: coordinates off the grid or past it, and what is refused on
+/// the grid of whole numbers.
+const TABLES: &[(&str, Refusals)] = rows![
+    "1,1,0,0", POINTS;
+    "1,1,0,0", LINES;
+    "1,1,0,0", FEATURES;
+    "1,1,0,0", NUMBERS;
+    "10,10,0,0", rows!["off the grid", r#"{"type":"Point","coordinates":[5,10]}"#, "7 OffGrid $/coordinates/0";];
+    "1000000,1,0,0", rows!["past the absolute numbers", r#"{"type":"Point","coordinates":[9007199255000000,0]}"#, "6 OutOfRange $/coordinates/0";];
+    "8192,1,0,0", rows!["one past the absolute numbers", r#"{"type":"Point","coordinates":[9007199254740992,0]}"#, "6 OutOfRange $/coordinates/0";];
+    "1,1,-1000000000000,0", rows!["the greatest number of 64 bits", r#"{"type":"Point","coordinates":[9223372036854775807,0]}"#, "6 OutOfRange $/coordinates/0";];
+    "10,10,-1000000000000,0", rows!["the greatest number of 64 bits, off the grid", r#"{"type":"Point","coordinates":[9223372036854775807,0]}"#, "7 OffGrid $/coordinates/0";];
+    "1,10,0,3", rows!["the second element", r#"{"type":"Point","coordinates":[5,4]}"#, "7 OffGrid $/coordinates/1";];
+];
 
-/// Each text is refused on the grid of whole numbers.
-fn assert_rows(alloc: Global, rows: Refusals) -> Result<(), Fail> {
-    for row in rows {
-        assert_row(alloc, "1,1,0,0", *row)?;
+/// Each text is refused with its fault on a grid.
+fn assert_rows(alloc: Global, grid: &str, rows: Refusals) -> Result<(), Fail> {
+    for (title, text, fault) in rows {
+        let outcome = build_file(alloc, grid, *text)?;
+        outcome.refused_text(alloc, *title, "p.json", *fault)?;
     }
     Ok(())
 }
 
 #[test]
-fn points(rt: HostRuntime) -> Result<(), Fail> {
-    assert_rows(rt.alloc(), POINTS)
-}
-
-#[test]
-fn lines(rt: HostRuntime) -> Result<(), Fail> {
-    assert_rows(rt.alloc(), LINES)
-}
-
-#[test]
-fn features(rt: HostRuntime) -> Result<(), Fail> {
-    assert_rows(rt.alloc(), FEATURES)
-}
-
-#[test]
-fn numbers(rt: HostRuntime) -> Result<(), Fail> {
-    assert_rows(rt.alloc(), NUMBERS)
-}
-
-/// Grids, and texts with coordinates off the grid or past it.
-const GRIDS: &[(&str, Row)] = rows![
-    "10,10,0,0", ("off the grid", r#"{"type":"Point","coordinates":[5,10]}"#, "7 OffGrid $/coordinates/0");
-    "1000000,1,0,0", ("past the absolute numbers", r#"{"type":"Point","coordinates":[9007199255000000,0]}"#, "6 OutOfRange $/coordinates/0");
-    "8192,1,0,0", ("one past the absolute numbers", r#"{"type":"Point","coordinates":[9007199254740992,0]}"#, "6 OutOfRange $/coordinates/0");
-    "1,1,-1000000000000,0", ("the greatest number of 64 bits", r#"{"type":"Point","coordinates":[9223372036854775807,0]}"#, "6 OutOfRange $/coordinates/0");
-    "10,10,-1000000000000,0", ("the greatest number of 64 bits, off the grid", r#"{"type":"Point","coordinates":[9223372036854775807,0]}"#, "7 OffGrid $/coordinates/0");
-    "1,10,0,3", ("the second element", r#"{"type":"Point","coordinates":[5,4]}"#, "7 OffGrid $/coordinates/1");
-];
-
-#[test]
-fn grids(rt: HostRuntime) -> Result<(), Fail> {
-    for (grid, row) in GRIDS {
-        assert_row(rt.alloc(), *grid, *row)?;
+fn refusals(rt: HostRuntime) -> Result<(), Fail> {
+    for (grid, rows) in TABLES {
+        assert_rows(rt.alloc(), *grid, *rows)?;
     }
     Ok(())
 }

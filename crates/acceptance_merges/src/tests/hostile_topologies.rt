@@ -1,29 +1,15 @@
 //! Topology texts that are cut off, or have a byte replaced.
 use command_runs::inputs::{OTHER_TOOL, SHARED_EDGE};
-use command_runs::{Outcome, Words, run_on_bytes};
+use command_runs::{Outcome, Words, assert_beginnings_refused, run_on_bytes};
 use std::alloc::Global;
 use std::process::Abort;
 use std::test::Fail;
 
 const MERGE: Words = &["merge", "t.json"];
 
-/// Each proper beginning of the text is refused.
-fn assert_beginnings_refused(alloc: Global, text: &[u8]) -> Result<(), Fail> {
-    for length in 0..text.len() {
-        let outcome = run_on_bytes(alloc, MERGE, "t.json", &text[..length])?;
-        outcome.refused("cut off", 4, "topotool: t.json: 1 NotJson $\n")?;
-    }
-    Ok(())
-}
-
 #[test]
-fn beginnings_of_a_canonical_text(rt: HostRuntime) -> Result<(), Fail> {
-    assert_beginnings_refused(rt.alloc(), SHARED_EDGE.as_bytes())
-}
-
-#[test]
-fn beginnings_of_another_tools_text(rt: HostRuntime) -> Result<(), Fail> {
-    assert_beginnings_refused(rt.alloc(), OTHER_TOOL.as_bytes())
+fn beginnings_of_topologies(rt: HostRuntime) -> Result<(), Fail> {
+    assert_beginnings_refused(rt.alloc(), MERGE, "t.json", &[SHARED_EDGE, OTHER_TOOL])
 }
 
 /// The text with the byte at a place replaced by another one.

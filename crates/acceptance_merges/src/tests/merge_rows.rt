@@ -1,6 +1,6 @@
 //! What `merge` prints: the topology of all features, whatever the order and grouping of the files.
 use command_runs::inputs::{A, B, C, ONE_SQUARE, SHARED_EDGE, UNIONS, Union};
-use command_runs::{Outcome, Run, Texts, Words, assert_built, assert_refused, built_text, rows};
+use command_runs::{Outcome, Run, Texts, Words, build, built_text, rows, run_words};
 use std::alloc::{AllocError, Global};
 use std::process::Abort;
 use std::test::Fail;
@@ -137,13 +137,7 @@ const OTHER_GRID: &str =
 
 #[test]
 fn the_same_square_on_another_grid(rt: HostRuntime) -> Result<(), Fail> {
-    assert_built(
-        rt.alloc(),
-        "another grid",
-        "1,1,0,5",
-        &[("a", A)],
-        OTHER_GRID,
-    )
+    build(rt.alloc(), "1,1,0,5", &[("a", A)])?.printed("another grid", OTHER_GRID)
 }
 
 const FILES: Texts = &[
@@ -155,7 +149,7 @@ const FILES: Texts = &[
 #[test]
 fn another_transform(rt: HostRuntime) -> Result<(), Fail> {
     for (words, line) in REFUSED {
-        assert_refused(rt.alloc(), *words, FILES, 4, *line)?;
+        run_words(rt.alloc(), *words, FILES)?.refused(*line, 4, *line)?;
     }
     Ok(())
 }

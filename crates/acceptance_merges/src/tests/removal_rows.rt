@@ -2,9 +2,7 @@
 use command_runs::inputs::{
     A, B, C, EMPTY, FREE_LOOP, NOTHING, ONE_SQUARE, SHARED_EDGE, SQUARES, T,
 };
-use command_runs::{
-    Outcome, Texts, Words, assert_printed, assert_refused, built_text, rows, run_words, topology,
-};
+use command_runs::{Outcome, Texts, Words, built_text, rows, run_words, topology};
 use std::alloc::Global;
 use std::test::Fail;
 
@@ -16,9 +14,7 @@ fn remove(alloc: Global, whole: &str, gone: &str) -> Result<Outcome, Fail> {
 }
 
 /// A title, texts, each after the layer in which it is built, those that are taken out, and what is left.
-type Row = (&'static str, Texts, Texts, &'static str);
-
-const ROWS: &[Row] = rows![
+const ROWS: &[(&str, Texts, Texts, &str)] = rows![
     "the seam comes back", &[("a", T), ("a", r#"{"type":"LineString","coordinates":[[2,0],[3,0]]}"#)], &[("a", r#"{"type":"LineString","coordinates":[[2,0],[3,0]]}"#)],
         FREE_LOOP;
     "one of two squares", &[("a", A), ("a", B)], &[("a", B)], ONE_SQUARE;
@@ -33,18 +29,17 @@ const ROWS: &[Row] = rows![
     "the square in another layer", &[("a", A), ("a", B)], &[("b", A)], SHARED_EDGE;
 ];
 
-fn assert_row(alloc: Global, row: Row) -> Result<(), Fail> {
-    let (title, sources, removed, left) = row;
+/// What is left of the topology of texts without the features of that of others.
+fn left_of(alloc: Global, sources: Texts, removed: Texts) -> Result<Outcome, Fail> {
     let whole = built_text(alloc, "1,1,0,0", sources)?;
     let gone = built_text(alloc, "1,1,0,0", removed)?;
-    let outcome = remove(alloc, whole.as_str(), gone.as_str())?;
-    outcome.printed(title, left)
+    remove(alloc, whole.as_str(), gone.as_str())
 }
 
 #[test]
 fn what_is_left(rt: HostRuntime) -> Result<(), Fail> {
-    for row in ROWS {
-        assert_row(rt.alloc(), *row)?;
+    for (title, sources, removed, left) in ROWS {
+        left_of(rt.alloc(), *sources, *removed)?.printed(*title, *left)?;
     }
     Ok(())
 }
@@ -60,8 +55,8 @@ fn a_merge_is_undone(rt: HostRuntime) -> Result<(), Fail> {
     let left = second_square(rt.alloc())?;
     let alone = built_text(rt.alloc(), "1,1,0,0", &[("a", A)])?;
     let files = [("left.json", left.as_str()), ("alone.json", alone.as_str())];
-    let words = ["merge", "left.json", "alone.json"];
-    assert_printed(rt.alloc(), "merged again", &words, &files, SHARED_EDGE)
+    let outcome = run_words(rt.alloc(), &["merge", "left.json", "alone.json"], &files)?;
+    outcome.printed("merged again", SHARED_EDGE)
 }
 
 /// A topology with scales of 2.
@@ -81,15 +76,10 @@ const REFUSED: &[(&str, &str, &str)] = rows![
     SHARED_EDGE, OTHER_SCALE, "topotool: gone.json: 17 OtherGrid\n";
 ];
 
-fn assert_fault(alloc: Global, whole: &str, gone: &str, line: &str) -> Result<(), Fail> {
-    let outcome = remove(alloc, whole, gone)?;
-    outcome.refused(line, 4, line)
-}
-
 #[test]
 fn faults_in_their_order(rt: HostRuntime) -> Result<(), Fail> {
     for (whole, gone, line) in REFUSED {
-        assert_fault(rt.alloc(), *whole, *gone, *line)?;
+        remove(rt.alloc(), *whole, *gone)?.refused(*line, 4, *line)?;
     }
     Ok(())
 }
@@ -104,7 +94,7 @@ const UNREADABLE: &[(Words, &str)] = rows![
 #[test]
 fn a_file_that_cannot_be_read(rt: HostRuntime) -> Result<(), Fail> {
     for (words, line) in UNREADABLE {
-        assert_refused(rt.alloc(), *words, &[("bad.json", "bad")], 3, *line)?;
+        run_words(rt.alloc(), *words, &[("bad.json", "bad")])?.refused(*line, 3, *line)?;
     }
     Ok(())
 }

@@ -54,53 +54,37 @@ fn grouped(alloc: Global, grouping: Grouping, count: usize) -> Result<Option<Pla
     })
 }
 
-/// The text of shards that are joined in a grouping.
-fn joined<S: Shard>(alloc: Global, shards: &[S], grouping: Grouping) -> Result<Vec<u8>, Fail> {
-    let plan = grouped(alloc, grouping, shards.len())?.ok_or("no plan")?;
-    let joined = run_plan(alloc, shards, &plan)?;
-    Ok(joined.text(alloc)?)
-}
-
-/// Joins the shards of the union in each grouping, and compares their texts with the one expected.
-fn check_groupings<S: Shard>(
-    rt: &impl Abort,
-    alloc: Global,
-    shards: &[S],
-    union: &Union,
-) -> Result<(), Fail> {
+/// Whether the union's shards, joined in each grouping, have its text.
+fn are_joined<S: Shard>(alloc: Global, shards: &[S], union: &Union) -> Result<bool, Fail> {
     for grouping in GROUPINGS {
-        let text = joined(alloc, shards, grouping)?;
-        assert!(rt;
-            text.as_slice() == union.topology.as_bytes(),
-            "{}",
-            union.title
-        );
+        let plan = grouped(alloc, grouping, shards.len())?.ok_or("no plan")?;
+        let text = run_plan(alloc, shards, &plan)?.text(alloc)?;
+        if text.as_slice() != union.topology.as_bytes() {
+            return Ok(false);
+        }
     }
-    Ok(())
+    Ok(true)
 }
 
-fn check_union<S: Shard>(rt: &impl Abort, alloc: Global, union: &Union) -> Result<(), Fail> {
+/// The same in each order of the union's texts.
+fn is_union<S: Shard>(alloc: Global, union: &Union) -> Result<bool, Fail> {
     for order in ORDERS {
         if order.len() == union.texts.len() {
             let shards = shards::<S>(alloc, union.texts, *order)?;
-            check_groupings(rt, alloc, shards.as_slice(), union)?;
+            if !are_joined(alloc, shards.as_slice(), union)? {
+                return Ok(false);
+            }
         }
     }
-    Ok(())
+    Ok(true)
 }
 
 #[test]
-fn shards_that_keep_their_map(rt: HostRuntime) -> Result<(), Fail> {
+fn shards_of_each_kind(rt: HostRuntime) -> Result<(), Fail> {
     for union in UNIONS {
-        check_union::<Whole>(&rt, rt.alloc(), union)?;
-    }
-    Ok(())
-}
-
-#[test]
-fn shards_that_keep_their_topology(rt: HostRuntime) -> Result<(), Fail> {
-    for union in UNIONS {
-        check_union::<Cut>(&rt, rt.alloc(), union)?;
+        let title = union.title;
+        assert!(rt; is_union::<Whole>(rt.alloc(), union)?, "{title}: maps");
+        assert!(rt; is_union::<Cut>(rt.alloc(), union)?, "{title}: topologies");
     }
     Ok(())
 }

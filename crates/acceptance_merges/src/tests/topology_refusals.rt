@@ -1,5 +1,5 @@
 //! Topology texts that are refused, each with the least of its faults.
-use command_runs::{Words, rows, run_on_text};
+use command_runs::{rows, run_on_text};
 use std::alloc::Global;
 use std::test::Fail;
 
@@ -108,46 +108,26 @@ const STITCHING: Refusals = rows![
     "the second of two lines", layer!("[[[0,0],[1,0]]]", r#"{"type":"MultiLineString","arcs":[[0],[0,0]]}"#), "12 Broken $/objects/a/arcs/1";
 ];
 
-const COMMANDS: &[Words] = &[&["check", "t.json"], &["merge", "t.json"]];
-
-/// The command refuses the text with its fault, and prints nothing.
-fn assert_row(alloc: Global, words: &[&str], row: Row) -> Result<(), Fail> {
+/// `check` and `merge` refuse the text with its fault, and print nothing.
+fn assert_row(alloc: Global, row: Row) -> Result<(), Fail> {
     let (title, text, fault) = row;
-    let outcome = run_on_text(alloc, words, text)?;
-    outcome.refused_text(alloc, title, "t.json", fault)
+    let checked = run_on_text(alloc, &["check", "t.json"], text)?;
+    checked.refused_text(alloc, title, "t.json", fault)?;
+    let merged = run_on_text(alloc, &["merge", "t.json"], text)?;
+    merged.refused_text(alloc, title, "t.json", fault)
 }
 
-fn assert_rows(alloc: Global, words: &[&str], rows: Refusals) -> Result<(), Fail> {
-    for row in rows {
-        assert_row(alloc, words, *row)?;
-    }
-    Ok(())
-}
-
-/// `check` and `merge` refuse each text.
 fn assert_refused(alloc: Global, rows: Refusals) -> Result<(), Fail> {
-    for words in COMMANDS {
-        assert_rows(alloc, *words, rows)?;
+    for row in rows {
+        assert_row(alloc, *row)?;
     }
     Ok(())
 }
 
 #[test]
-fn roots(rt: HostRuntime) -> Result<(), Fail> {
-    assert_refused(rt.alloc(), ROOTS)
-}
-
-#[test]
-fn arcs(rt: HostRuntime) -> Result<(), Fail> {
-    assert_refused(rt.alloc(), ARCS)
-}
-
-#[test]
-fn layers(rt: HostRuntime) -> Result<(), Fail> {
-    assert_refused(rt.alloc(), LAYERS)
-}
-
-#[test]
-fn stitching(rt: HostRuntime) -> Result<(), Fail> {
-    assert_refused(rt.alloc(), STITCHING)
+fn refused_by_check_and_merge(rt: HostRuntime) -> Result<(), Fail> {
+    for rows in [ROOTS, ARCS, LAYERS, STITCHING] {
+        assert_refused(rt.alloc(), rows)?;
+    }
+    Ok(())
 }

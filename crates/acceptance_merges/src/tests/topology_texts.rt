@@ -4,7 +4,7 @@ use command_runs::inputs::{
     BOW_TIE_TOPOLOGY, EMPTY, FREE_LOOP, LOOPED_LINE_TOPOLOGY, ONE_SQUARE, OTHER_TOOL, SHARED_EDGE,
     UNIONS,
 };
-use command_runs::{Words, assert_answer, rows, run_on_text, topology};
+use command_runs::{Words, rows, run_on_text, topology};
 use std::alloc::Global;
 use std::test::Fail;
 
@@ -42,14 +42,14 @@ fn assert_not_canonical(alloc: Global, title: &str, text: &str) -> Result<(), Fa
 
 /// `check` says that the text is canonical.
 fn assert_canonical(alloc: Global, text: &str) -> Result<(), Fail> {
-    assert_answer(alloc, text, CHECK, text, "canonical\n")
+    run_on_text(alloc, CHECK, text)?.printed(text, "canonical\n")
 }
 
 fn assert_row(alloc: Global, row: Row) -> Result<(), Fail> {
     let (title, text, canonical) = row;
     assert_not_canonical(alloc, title, text)?;
-    assert_answer(alloc, title, MERGE, text, canonical)?;
-    assert_answer(alloc, title, MERGE_WITH_ITSELF, text, canonical)?;
+    run_on_text(alloc, MERGE, text)?.printed(title, canonical)?;
+    run_on_text(alloc, MERGE_WITH_ITSELF, text)?.printed(title, canonical)?;
     assert_canonical(alloc, canonical)
 }
 

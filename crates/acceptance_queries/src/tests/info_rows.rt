@@ -1,6 +1,6 @@
 //! What `info` prints, and `neighbors` with ids.
 use command_runs::inputs::{EMPTY, NOTHING, SHARED_EDGE};
-use command_runs::{Texts, Words, assert_answer, assert_refused, built_text, rows};
+use command_runs::{Texts, Words, built_text, rows, run_on_text};
 use std::alloc::Global;
 use std::test::Fail;
 
@@ -66,8 +66,8 @@ const INFO_IN_JSON: Words = &["info", "--json", "t.json"];
 fn counts_of_every_kind(rt: HostRuntime) -> Result<(), Fail> {
     let topology = built_text(rt.alloc(), "10,10,-500,3", KINDS)?;
     let text = topology.as_str();
-    assert_answer(rt.alloc(), "lines", INFO, text, KINDS_IN_LINES)?;
-    assert_answer(rt.alloc(), "json", INFO_IN_JSON, text, KINDS_IN_JSON)
+    run_on_text(rt.alloc(), INFO, text)?.printed("lines", KINDS_IN_LINES)?;
+    run_on_text(rt.alloc(), INFO_IN_JSON, text)?.printed("json", KINDS_IN_JSON)
 }
 
 /// The arcs of another tool: one that is cut where no border meets it, and one that nothing uses.
@@ -85,7 +85,7 @@ const COUNTS: &[(&str, Words, &str, &str)] = rows![
 #[test]
 fn counts_of_a_topology(rt: HostRuntime) -> Result<(), Fail> {
     for (title, words, topology, text) in COUNTS {
-        assert_answer(rt.alloc(), *title, *words, *topology, *text)?;
+        run_on_text(rt.alloc(), *words, *topology)?.printed(*title, *text)?;
     }
     Ok(())
 }
@@ -129,7 +129,7 @@ fn topology_of(alloc: Global, collection: &str) -> Result<String, Fail> {
 
 fn assert_neighbors(alloc: Global, title: &str, collection: &str, ids: &str) -> Result<(), Fail> {
     let topology = topology_of(alloc, collection)?;
-    assert_answer(alloc, title, NEIGHBORS_BY_IDS, topology.as_str(), ids)
+    run_on_text(alloc, NEIGHBORS_BY_IDS, topology.as_str())?.printed(title, ids)
 }
 
 #[test]
@@ -149,8 +149,8 @@ const WITHOUT_AN_ID: &str = "topotool: --ids: a feature without an id in layer a
 #[test]
 fn an_id_that_is_null(rt: HostRuntime) -> Result<(), Fail> {
     let topology = topology_of(rt.alloc(), WITH_NULL)?;
-    let files = [("t.json", topology.as_str())];
-    assert_refused(rt.alloc(), NEIGHBORS_BY_IDS, &files, 2, WITHOUT_AN_ID)
+    let outcome = run_on_text(rt.alloc(), NEIGHBORS_BY_IDS, topology.as_str())?;
+    outcome.refused("an id that is null", 2, WITHOUT_AN_ID)
 }
 
 /// Words that are refused of two squares without ids, the status, and the line that says why.
@@ -162,13 +162,7 @@ const REFUSED: &[(Words, u8, &str)] = rows![
 #[test]
 fn each_feature_has_to_have_an_id(rt: HostRuntime) -> Result<(), Fail> {
     for (words, status, line) in REFUSED {
-        assert_refused(
-            rt.alloc(),
-            *words,
-            &[("t.json", SHARED_EDGE)],
-            *status,
-            *line,
-        )?;
+        run_on_text(rt.alloc(), *words, SHARED_EDGE)?.refused(*line, *status, *line)?;
     }
     Ok(())
 }

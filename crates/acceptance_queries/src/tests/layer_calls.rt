@@ -1,8 +1,9 @@
-//! `write_layer`, `feature`, `mesh`, `neighbors` and the writers of their answers, called on topologies.
+//! `write_layer`, `feature`, `mesh`, `borders`, `neighbors` and the writers of their answers, called on topologies.
 use command_runs::inputs::{BOW_TIE_TOPOLOGY, EMPTY, SHARED_EDGE, SQUARES};
-use command_runs::{assert_built, rows, script};
+use command_runs::{build, rows, script, took};
 use query::{
-    LayerFault, QueryFault, feature, mesh, neighbors, write_layer, write_mesh, write_neighbors,
+    Edges, LayerFault, QueryFault, borders, feature, mesh, neighbors, write_layer, write_mesh,
+    write_neighbors,
 };
 use shapes::Feature;
 use sinks::{Answer, Kept, Script};
@@ -86,7 +87,7 @@ const BUILT: &[(&str, &str)] = &[("built", SQUARES), ("built again", SQUARES_PRI
 #[test]
 fn what_is_built_expands_prints_and_builds_again(rt: HostRuntime) -> Result<(), Fail> {
     for (title, text) in BUILT {
-        assert_built(rt.alloc(), *title, "1,1,0,0", &[("a", *text)], SHARED_EDGE)?;
+        build(rt.alloc(), "1,1,0,0", &[("a", *text)])?.printed(*title, SHARED_EDGE)?;
     }
     let topology = topology(rt.alloc(), SHARED_EDGE)?;
     assert!(rt; expands(rt.alloc(), &topology, SQUARES_PRINTED)?);
@@ -108,6 +109,53 @@ fn borders_are_written_in_the_order_of_the_mesh(rt: HostRuntime) -> Result<(), F
     Ok(())
 }
 
+/// A title, a topology, a layer, which edges of it are asked for, and the text of these borders.
+type BordersRow = (
+    &'static str,
+    &'static str,
+    Option<&'static str>,
+    Edges,
+    &'static str,
+);
+
+const BORDERS: &[BordersRow] = rows![
+    "all of a layer", SHARED_EDGE, Some("a"), Edges::All, SQUARES_BORDERS;
+    "all of all layers", SHARED_EDGE, None, Edges::All, SQUARES_BORDERS;
+    "between two squares", SHARED_EDGE, Some("a"), Edges::Interior, r#"{"coordinates":[[[1,0],[1,1]]],"type":"MultiLineString"}"#;
+    "the outline of two squares", SHARED_EDGE, None, Edges::Exterior, r#"{"coordinates":[[[0,0],[0,1],[1,1],[2,1],[2,0],[1,0],[0,0]]],"type":"MultiLineString"}"#;
+    "a ring that visits a vertex twice", BOW_TIE_TOPOLOGY, Some("a"), Edges::All, r#"{"coordinates":[[[1,1],[0,0],[2,0],[1,1]],[[1,1],[0,2],[2,2],[1,1]]],"type":"MultiLineString"}"#;
+    "one feature has no edge with itself", BOW_TIE_TOPOLOGY, Some("a"), Edges::Interior, r#"{"coordinates":[],"type":"MultiLineString"}"#;
+    "no feature", EMPTY, None, Edges::All, r#"{"coordinates":[],"type":"MultiLineString"}"#;
+];
+
+/// Whether the borders that a row asks for are written as its text.
+fn are_edges(alloc: Global, row: BordersRow) -> Result<bool, Fail> {
+    let (_, text, layer, edges, printed) = row;
+    let topology = topology(alloc, text)?;
+    let lines = borders(alloc, &topology, layer, edges)?;
+    let mut kept = Kept::new(alloc);
+    let written = write_mesh(&topology.grid(), &lines, &mut kept);
+    Ok(has_kept(kept, printed) && written.is_ok())
+}
+
+#[test]
+fn borders_by_their_edges(rt: HostRuntime) -> Result<(), Fail> {
+    for row in BORDERS {
+        assert!(rt; are_edges(rt.alloc(), *row)?, "{}", row.0);
+    }
+    Ok(())
+}
+
+#[test]
+fn borders_of_a_layer_that_is_not_there(rt: HostRuntime) -> Result<(), Fail> {
+    let topology = topology(rt.alloc(), SHARED_EDGE)?;
+    for edges in [Edges::All, Edges::Interior, Edges::Exterior] {
+        let fault = borders(rt.alloc(), &topology, Some("b"), edges).err();
+        assert!(rt; fault == Some(QueryFault::NoLayer), "{edges:?}");
+    }
+    Ok(())
+}
+
 /// Whether the neighbours in the layer `a` are written as this text.
 fn are_neighbors(alloc: Global, topology: &Topology, text: &str) -> Result<bool, Fail> {
     let lists = neighbors(alloc, topology, "a")?;
@@ -123,19 +171,12 @@ fn neighbors_are_written_feature_by_feature(rt: HostRuntime) -> Result<(), Fail>
     Ok(())
 }
 
-/// Whether a sink took so many bytes of the text of the two squares, and failed so often.
-fn took(sink: &Script, length: usize, failures: u64) -> bool {
-    SQUARES_PRINTED.as_bytes().starts_with(sink.taken())
-        && sink.taken().len() == length
-        && sink.failures() == failures
-}
-
 #[test]
 fn a_layer_is_written_a_byte_a_call(rt: HostRuntime) -> Result<(), Fail> {
     let topology = topology(rt.alloc(), SHARED_EDGE)?;
     let mut sink = script(rt.alloc(), SQUARES_PRINTED.len(), Answer::Fail)?;
     assert!(rt; write_layer(&topology, "a", &mut sink).is_ok());
-    assert!(rt; took(&sink, SQUARES_PRINTED.len(), 0));
+    assert!(rt; took(&sink, SQUARES_PRINTED.as_bytes(), SQUARES_PRINTED.len(), 0));
     Ok(())
 }
 
@@ -143,7 +184,15 @@ fn a_layer_is_written_a_byte_a_call(rt: HostRuntime) -> Result<(), Fail> {
 fn stops(alloc: Global, topology: &Topology, calls: usize) -> Result<bool, Fail> {
     let mut sink = script(alloc, calls, Answer::FailAfter(1))?;
     let fault = write_layer(topology, "a", &mut sink).err();
-    Ok(fault == Some(LayerFault::Write) && took(&sink, calls.saturating_add(1), 1))
+    Ok(
+        fault == Some(LayerFault::Write)
+            && took(
+                &sink,
+                SQUARES_PRINTED.as_bytes(),
+                calls.saturating_add(1),
+                1,
+            ),
+    )
 }
 
 #[test]
@@ -160,7 +209,7 @@ fn a_layer_that_is_not_there(rt: HostRuntime) -> Result<(), Fail> {
     let topology = topology(rt.alloc(), SHARED_EDGE)?;
     let mut sink = script(rt.alloc(), 0, Answer::Fail)?;
     let fault = write_layer(&topology, "b", &mut sink).err();
-    assert!(rt; fault == Some(LayerFault::NoLayer) && took(&sink, 0, 0));
+    assert!(rt; fault == Some(LayerFault::NoLayer) && took(&sink, b"", 0, 0));
     let fault = feature(rt.alloc(), &topology, "b").err();
     assert!(rt; fault == Some(QueryFault::NoLayer));
     Ok(())

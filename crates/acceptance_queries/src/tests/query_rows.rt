@@ -1,6 +1,6 @@
 //! What `feature`, `mesh` and `neighbors` print.
 use command_runs::inputs::{A, B, BOTH_SQUARES, C, NOTHING, S, SHARED_EDGE, SQUARES, T};
-use command_runs::{Texts, Words, assert_answer, assert_built, built_text, rows, run_words};
+use command_runs::{Texts, Words, build, built_text, rows, run_on_text};
 use std::alloc::Global;
 use std::test::Fail;
 
@@ -84,7 +84,7 @@ const ROWS: &[Row] = rows![
 fn assert_row(alloc: Global, row: Row) -> Result<(), Fail> {
     let (title, grid, sources, words, answer) = row;
     let topology = built_text(alloc, grid, sources)?;
-    assert_answer(alloc, title, words, topology.as_str(), answer)
+    run_on_text(alloc, words, topology.as_str())?.printed(title, answer)
 }
 
 #[test]
@@ -99,13 +99,12 @@ const FEATURES_OF_A: Words = &["feature", "--layer", "a", "t.json"];
 
 /// The layer `a` of a topology, as it is printed.
 fn printed_layer(alloc: Global, topology: &str) -> Result<String, Fail> {
-    let outcome = run_words(alloc, FEATURES_OF_A, &[("t.json", topology)])?;
-    outcome.into_text("a layer")
+    run_on_text(alloc, FEATURES_OF_A, topology)?.into_text("a layer")
 }
 
 #[test]
 fn a_layer_that_was_printed_is_built_again(rt: HostRuntime) -> Result<(), Fail> {
     let layer = printed_layer(rt.alloc(), SHARED_EDGE)?;
     let sources = [("a", layer.as_str())];
-    assert_built(rt.alloc(), "shared edge", "1,1,0,0", &sources, SHARED_EDGE)
+    build(rt.alloc(), "1,1,0,0", &sources)?.printed("shared edge", SHARED_EDGE)
 }

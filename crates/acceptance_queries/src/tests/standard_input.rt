@@ -1,6 +1,6 @@
 //! The file word `-`, which stands for standard input.
 use command_runs::inputs::{EMPTY, ONE_SQUARE, SHARED_EDGE, SQUARES};
-use command_runs::{Outcome, Run, Texts, Words, assert_refused, rows, topology};
+use command_runs::{Outcome, Run, Texts, Words, rows, run_words, topology};
 use std::alloc::Global;
 use std::test::Fail;
 
@@ -21,9 +21,7 @@ fn outcome(alloc: Global, words: &[&str], input: &str) -> Result<Outcome, Fail> 
 }
 
 /// Words, the text of standard input, and what is printed.
-type ReadRow = (Words, &'static str, &'static str);
-
-const READ: &[ReadRow] = rows![
+const READ: &[(Words, &str, &str)] = rows![
     &["build", "--grid", "1,1,0,0", "a=-"], SQUARES, SHARED_EDGE;
     &["build", "--grid", "1,1,0,0", "a=squares.json", "a=-"], SQUARES, SHARED_EDGE;
     &["check", "-"], SHARED_EDGE, "canonical\n";
@@ -41,24 +39,16 @@ const READ: &[ReadRow] = rows![
     &["merge", "./-"], "bad", SHARED_EDGE;
 ];
 
-fn assert_read(alloc: Global, row: ReadRow) -> Result<(), Fail> {
-    let (words, input, text) = row;
-    let outcome = outcome(alloc, words, input)?;
-    outcome.printed(input, text)
-}
-
 #[test]
 fn every_command_reads_it(rt: HostRuntime) -> Result<(), Fail> {
-    for row in READ {
-        assert_read(rt.alloc(), *row)?;
+    for (words, input, text) in READ {
+        outcome(rt.alloc(), *words, *input)?.printed(*input, *text)?;
     }
     Ok(())
 }
 
 /// Words, the text of standard input, the status, and the line that refuses them.
-type RefusedRow = (Words, &'static str, u8, &'static str);
-
-const REFUSED: &[RefusedRow] = rows![
+const REFUSED: &[(Words, &str, u8, &str)] = rows![
     // Two files cannot be it.
     &["merge", "-", "-"], SHARED_EDGE, 2, "topotool: standard input can be read once only\n";
     &["merge", "nowhere.json", "-", "shared.json", "-"], SHARED_EDGE, 2, "topotool: standard input can be read once only\n";
@@ -71,27 +61,16 @@ const REFUSED: &[RefusedRow] = rows![
     &["check", "-"], "bad", 4, "topotool: -: 1 NotJson $\n";
 ];
 
-fn assert_refused_with(alloc: Global, row: RefusedRow) -> Result<(), Fail> {
-    let (words, input, status, line) = row;
-    let outcome = outcome(alloc, words, input)?;
-    outcome.refused(line, status, line)
-}
-
 #[test]
 fn refusals(rt: HostRuntime) -> Result<(), Fail> {
-    for row in REFUSED {
-        assert_refused_with(rt.alloc(), *row)?;
+    for (words, input, status, line) in REFUSED {
+        outcome(rt.alloc(), *words, *input)?.refused(*line, *status, *line)?;
     }
     Ok(())
 }
 
 #[test]
 fn no_standard_input(rt: HostRuntime) -> Result<(), Fail> {
-    assert_refused(
-        rt.alloc(),
-        &["check", "-"],
-        FILES,
-        3,
-        "topotool: cannot read -\n",
-    )
+    let outcome = run_words(rt.alloc(), &["check", "-"], FILES)?;
+    outcome.refused("no input", 3, "topotool: cannot read -\n")
 }

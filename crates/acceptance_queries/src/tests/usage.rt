@@ -1,6 +1,6 @@
 //! The words of the command: usage, the grid's word, layers' words, files that can't be read.
 use command_runs::inputs::{A, EMPTY, NOTHING, SHARED_EDGE};
-use command_runs::{Texts, Words, assert_printed, assert_refused, rows, run_words};
+use command_runs::{Texts, Words, rows, run_words};
 use std::alloc::Global;
 use std::process::Abort;
 use std::test::Fail;
@@ -47,7 +47,7 @@ const REFUSED: &[(Words, u8, &str)] = rows![
 #[test]
 fn lines_of_the_command(rt: HostRuntime) -> Result<(), Fail> {
     for (words, status, line) in REFUSED {
-        assert_refused(rt.alloc(), *words, FILES, *status, *line)?;
+        run_words(rt.alloc(), *words, FILES)?.refused(*line, *status, *line)?;
     }
     Ok(())
 }
@@ -164,7 +164,7 @@ const PRINTED: &[(&str, Words, &str)] = rows![
 #[test]
 fn texts_of_the_command(rt: HostRuntime) -> Result<(), Fail> {
     for (title, words, text) in PRINTED {
-        assert_printed(rt.alloc(), *title, *words, FILES, *text)?;
+        run_words(rt.alloc(), *words, FILES)?.printed(*title, *text)?;
     }
     Ok(())
 }

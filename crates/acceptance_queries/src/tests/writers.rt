@@ -1,8 +1,8 @@
 //! Writers that fail, and writers that take little.
 use command_runs::inputs::{SHARED_EDGE, SQUARES};
-use command_runs::{Run, Texts, Words, script};
-use sinks::{Answer, Kept, Script, Sink, Tap};
-use std::alloc::Global;
+use command_runs::{Run, Texts, Words, script, took};
+use sinks::{Answer, Kept, Script, Tap};
+use std::alloc::{AllocError, Global};
 use std::io;
 use std::process::Abort;
 use std::test::Fail;
@@ -11,95 +11,21 @@ const FILES: Texts = &[("squares.json", SQUARES), ("shared.json", SHARED_EDGE)];
 
 const BUILD: Words = &["build", "--grid", "1,1,0,0", "a=squares.json"];
 
-/// The status of a run over sinks.
-fn status<O: Sink, E: Sink>(
-    alloc: Global,
-    words: &[&str],
-    out: &mut O,
-    err: &mut E,
-) -> Result<u8, Fail> {
-    let run = Run::on_files(alloc, words, FILES)?;
-    Ok(run.over(out, err))
+/// A run of these words on the files.
+fn run_of(alloc: Global, words: Words) -> Result<Run, AllocError> {
+    Run::on_files(alloc, words, FILES)
 }
-
-/// Whether a run tells that its output failed.
-fn tells_failure<O: Sink>(alloc: Global, words: &[&str], out: &mut O) -> Result<bool, Fail> {
-    let mut err = Kept::new(alloc);
-    let status = status(alloc, words, out, &mut err)?;
-    let line = err.into_bytes();
-    Ok(status == 6 && line.as_slice() == b"topotool: 21 Write\n".as_slice())
-}
-
-/// Whether a sink took so many bytes of a text, and failed so often.
-fn took(sink: &Script, text: &[u8], length: usize, failures: u64) -> bool {
-    text.starts_with(sink.taken()) && sink.taken().len() == length && sink.failures() == failures
-}
-
-/// The answer of a sink once it has taken a byte a call for some calls, and how many bytes it takes by
-/// it.
-#[derive(Clone, Copy)]
-struct Last {
-    answer: Answer,
-    taken: usize,
-}
-
-/// Whether a run over a sink that fails after some calls took a beginning of the text, and told that
-/// its output failed.
-fn fails(
-    alloc: Global,
-    words: &[&str],
-    text: &[u8],
-    calls: usize,
-    last: Last,
-) -> Result<bool, Fail> {
-    let mut sink = script(alloc, calls, last.answer)?;
-    let is_told = tells_failure(alloc, words, &mut sink)?;
-    Ok(is_told && took(&sink, text, calls.saturating_add(last.taken), 1))
-}
-
-/// A build fails wherever its output does.
-fn assert_build_fails<R: Abort + AllocGlobal>(rt: &R, last: Last) -> Result<(), Fail> {
-    for calls in 0..SHARED_EDGE.len() {
-        let fails = fails(rt.alloc(), BUILD, SHARED_EDGE.as_bytes(), calls, last)?;
-        assert!(rt; fails, "after {calls} calls");
-    }
-    Ok(())
-}
-
-const FAIL: Last = Last {
-    answer: Answer::Fail,
-    taken: 0,
-};
-
-const FAIL_AFTER_A_BYTE: Last = Last {
-    answer: Answer::FailAfter(1),
-    taken: 1,
-};
-
-const TAKE_NOTHING: Last = Last {
-    answer: Answer::Take(0),
-    taken: 0,
-};
 
 #[test]
 fn a_writer_that_fails_at_each_call(rt: HostRuntime) -> Result<(), Fail> {
-    assert_build_fails(&rt, FAIL)
+    let run = run_of(rt.alloc(), BUILD)?;
+    run.assert_all_fail("a build", SHARED_EDGE.as_bytes())
 }
 
-#[test]
-fn a_writer_that_takes_a_byte_and_fails(rt: HostRuntime) -> Result<(), Fail> {
-    assert_build_fails(&rt, FAIL_AFTER_A_BYTE)
-}
-
-#[test]
-fn a_writer_that_takes_nothing(rt: HostRuntime) -> Result<(), Fail> {
-    assert_build_fails(&rt, TAKE_NOTHING)
-}
-
-/// A sink that took all that a run printed, a byte in the first call and the rest as it came.
-fn taken_whole(alloc: Global, words: &[&str], calls: usize) -> Result<Script, Fail> {
+/// A sink that took all that a run printed, a byte in the first calls and the rest as it came.
+fn taken_whole(alloc: Global, run: &Run, calls: usize) -> Result<Script, Fail> {
     let mut sink = script(alloc, calls, Answer::Take(1))?;
-    if status(alloc, words, &mut sink, &mut Kept::new(alloc))? != 0 {
+    if run.over(&mut sink, &mut Kept::new(alloc)) != 0 {
         return Err("a run that failed".into());
     }
     Ok(sink)
@@ -107,7 +33,8 @@ fn taken_whole(alloc: Global, words: &[&str], calls: usize) -> Result<Script, Fa
 
 #[test]
 fn a_writer_that_takes_one_byte_a_call(rt: HostRuntime) -> Result<(), Fail> {
-    let sink = taken_whole(rt.alloc(), BUILD, SHARED_EDGE.len())?;
+    let run = run_of(rt.alloc(), BUILD)?;
+    let sink = taken_whole(rt.alloc(), &run, SHARED_EDGE.len())?;
     assert!(rt; took(&sink, SHARED_EDGE.as_bytes(), SHARED_EDGE.len(), 0));
     Ok(())
 }
@@ -141,33 +68,26 @@ const COMMANDS: &[Words] = &[
     &["build", "--help"],
 ];
 
-#[test]
-fn a_writer_that_fails_at_once(rt: HostRuntime) -> Result<(), Fail> {
-    for words in COMMANDS {
-        assert!(rt; fails(rt.alloc(), *words, b"", 0, FAIL)?, "{words:?}");
-    }
-    Ok(())
+/// Whether a run whose output fails at once prints nothing, one whose output fails after two bytes takes
+/// the first two of its text, and both tell so.
+fn fails_early(alloc: Global, run: &Run) -> Result<bool, Fail> {
+    let whole = taken_whole(alloc, run, 0)?;
+    let fails_at_once = run.fails(b"", 0, Answer::Fail)?;
+    Ok(fails_at_once && run.fails(whole.taken(), 1, Answer::FailAfter(1))?)
 }
 
-/// Whether a run whose output fails after two bytes took the first two of its text.
-fn fails_after_two(alloc: Global, words: &[&str]) -> Result<bool, Fail> {
-    let whole = taken_whole(alloc, words, 0)?;
-    fails(alloc, words, whole.taken(), 1, FAIL_AFTER_A_BYTE)
-}
-
-#[test]
-fn a_writer_that_fails_after_two_bytes(rt: HostRuntime) -> Result<(), Fail> {
-    for words in COMMANDS {
-        assert!(rt; fails_after_two(rt.alloc(), *words)?, "{words:?}");
-    }
+/// The command fails at once, after two bytes, and at the flush.
+fn assert_fails<R: Abort + AllocGlobal>(rt: &R, words: Words) -> Result<(), Fail> {
+    let run = run_of(rt.alloc(), words)?;
+    assert!(rt; fails_early(rt.alloc(), &run)?, "{words:?}");
+    assert!(rt; run.tells_failure(&mut Tap::new(Stuck)), "{words:?}: flush");
     Ok(())
 }
 
 #[test]
-fn a_writer_that_fails_at_the_flush(rt: HostRuntime) -> Result<(), Fail> {
+fn writers_that_fail_early_and_at_the_flush(rt: HostRuntime) -> Result<(), Fail> {
     for words in COMMANDS {
-        let is_told = tells_failure(rt.alloc(), *words, &mut Tap::new(Stuck))?;
-        assert!(rt; is_told, "{words:?}");
+        assert_fails(&rt, *words)?;
     }
     Ok(())
 }
@@ -178,7 +98,8 @@ const FROM_NOWHERE: Words = &["build", "--grid", "1,1,0,0", "a=nowhere.json"];
 fn a_failure_of_standard_error_changes_no_status(rt: HostRuntime) -> Result<(), Fail> {
     let mut out = Kept::new(rt.alloc());
     let mut err = script(rt.alloc(), 4, Answer::Fail)?;
-    assert!(rt; status(rt.alloc(), FROM_NOWHERE, &mut out, &mut err)? == 3);
+    let run = run_of(rt.alloc(), FROM_NOWHERE)?;
+    assert!(rt; run.over(&mut out, &mut err) == 3);
     let printed = out.into_bytes();
     assert!(rt; printed.is_empty() && err.taken() == b"topo".as_slice());
     Ok(())

@@ -22,7 +22,7 @@ pub(crate) fn is_text_of(alloc: Global, topology: &Topology, text: &str) -> Resu
     Ok(topo_io::text_of(alloc, topology)?.as_slice() == text.as_bytes())
 }
 
-#[derive(Clone, Copy)]
+#[derive(Clone, Copy, Debug)]
 pub(crate) enum Grouping {
     Left,
     Right,

@@ -1,10 +1,10 @@
 //! Merging of texts and shards by plans: answers, faults in their order, and deep plans.
-use crate::tests::inputs::{GROUPINGS, grouped, plan_of};
+use crate::tests::inputs::{GROUPINGS, grouped, is_text_of, plan_of};
 use crate::tests::texts::{ENDS, FIRST, ON_SCALE_TWO, SECOND, THIRD, THREE};
 use faults::{Fault, FaultKind};
 use grid::transform::Grid;
 use refine::fault::{MergeFault, PlanFault};
-use refine::merge::merge_texts;
+use refine::merge::{merge_texts, merge_topologies};
 use refine::shard::Shard;
 use refine::whole::Whole;
 use refine::{Plan, run_plan};
@@ -12,6 +12,7 @@ use shapes::feature_map::FeatureMap;
 use std::alloc::Global;
 use std::process::Abort;
 use std::test::Fail;
+use topo::Topology;
 
 fn texts(alloc: Global, list: &[&str]) -> Result<Vec<Vec<u8>>, Fail> {
     let mut made = Vec::new(alloc);
@@ -21,7 +22,17 @@ fn texts(alloc: Global, list: &[&str]) -> Result<Vec<Vec<u8>>, Fail> {
     Ok(made)
 }
 
-/// Merges the texts, and compares the merged text.
+/// The topology of what a plan names of texts, or its refusal.
+fn merged_topology(
+    alloc: Global,
+    list: &[&str],
+    plan: &Plan,
+) -> Result<Result<Topology, MergeFault>, Fail> {
+    let list = texts(alloc, list)?;
+    Ok(merge_topologies(alloc, &list, plan))
+}
+
+/// Merges the texts, and compares the merged text, and that of the merged topology.
 fn check_merged(
     rt: &impl Abort,
     alloc: Global,
@@ -29,9 +40,10 @@ fn check_merged(
     plan: &Plan,
     merged: &str,
 ) -> Result<(), Fail> {
-    let list = texts(alloc, list)?;
-    let text = merge_texts(alloc, &list, plan)?;
-    assert!(rt; text.as_slice() == merged.as_bytes());
+    let text = merge_texts(alloc, &texts(alloc, list)?, plan)?;
+    assert!(rt; text.as_slice() == merged.as_bytes(), "{merged}");
+    let topology = merged_topology(alloc, list, plan)??;
+    assert!(rt; is_text_of(alloc, &topology, merged)?, "{merged}");
     Ok(())
 }
 
@@ -89,7 +101,7 @@ fn a_plan_with_repeats_and_omissions(rt: HostRuntime) -> Result<(), Fail> {
 }
 
 /// What a merge is refused for; a text's fault is its missing type.
-#[derive(Clone, Copy)]
+#[derive(Clone, Copy, Debug)]
 enum Refusal {
     BadPlan(usize),
     Text(usize),
@@ -143,10 +155,12 @@ fn fault_of(alloc: Global, refusal: Refusal) -> MergeFault {
 }
 
 fn check_refused(rt: &impl Abort, alloc: Global, row: &Refused) -> Result<(), Fail> {
-    let list = texts(alloc, row.texts)?;
     let plan = joined_to_first(alloc, row.leaves)?;
-    let fault = merge_texts(alloc, &list, &plan).err();
-    assert!(rt; fault == Some(fault_of(alloc, row.refusal)));
+    let expected = Some(fault_of(alloc, row.refusal));
+    let fault = merge_texts(alloc, &texts(alloc, row.texts)?, &plan).err();
+    assert!(rt; fault == expected, "{:?}", row.refusal);
+    let fault = merged_topology(alloc, row.texts, &plan)?.err();
+    assert!(rt; fault == expected, "{:?}: topology", row.refusal);
     Ok(())
 }
 
@@ -268,7 +282,7 @@ fn wholes(alloc: Global, list: &[Vec<u8>]) -> Result<Vec<Whole>, Fail> {
     Ok(made)
 }
 
-/// Whether the texts and their shards are joined to one text by a plan.
+/// Whether the texts of `FIVE` and their shards are joined to one text by a plan.
 fn are_joined_alike(
     alloc: Global,
     list: &[Vec<u8>],
@@ -276,8 +290,9 @@ fn are_joined_alike(
     plan: &Plan,
 ) -> Result<bool, Fail> {
     let merged = merge_texts(alloc, list, plan)?;
+    let topology = merged_topology(alloc, &FIVE, plan)??;
     let joined = run_plan(alloc, shards, plan)?;
-    Ok(merged == joined.text(alloc)?)
+    Ok(merged == joined.text(alloc)? && merged == topo_io::text_of(alloc, &topology)?)
 }
 
 /// The plan of the places that a number stands for.
@@ -293,7 +308,8 @@ fn each_choice_of_texts_as_by_its_plan(rt: HostRuntime) -> Result<(), Fail> {
     assert!(rt; plan_of_number(rt.alloc(), 0)?.is_none());
     for number in 1..32 {
         let plan = plan_of_number(rt.alloc(), number)?.ok_or("no plan")?;
-        assert!(rt; are_joined_alike(rt.alloc(), list.as_slice(), shards.as_slice(), &plan)?);
+        let are_alike = are_joined_alike(rt.alloc(), list.as_slice(), shards.as_slice(), &plan)?;
+        assert!(rt; are_alike, "plan {number}");
     }
     Ok(())
 }

@@ -39,101 +39,54 @@ const PINCHED: &str = topology!(
     r#"{"arcs":[[[0,0],[0,1],[1,0],[1,-1],[0,1],[-1,0],[-1,-1]]],"bbox":[0,0,2,1],"objects":{"a":{"geometries":[{"arcs":[[0]],"type":"Polygon"}],"type":"GeometryCollection"}},"#
 );
 
-const ROWS: &[Row] = &[
-    Row {
-        title: "the seam vanishes",
-        topology: topology!(
-            r#"{"arcs":[[[2,0],[-2,0],[0,2],[2,-2]],[[2,0],[1,0]]],"bbox":[0,0,3,2],"objects":{"a":{"geometries":[{"arcs":[1],"type":"LineString"},{"arcs":[[-1]],"type":"Polygon"}],"type":"GeometryCollection"}},"#
-        ),
-        removed: topology!(
-            r#"{"arcs":[[[2,0],[1,0]]],"bbox":[2,0,3,0],"objects":{"a":{"geometries":[{"arcs":[0],"type":"LineString"}],"type":"GeometryCollection"}},"#
-        ),
-        left: FREE_LOOP,
-        pieces: &[&[0]],
-    },
-    Row {
-        title: "one of two squares with a shared edge",
-        topology: SHARED_EDGE,
-        removed: SECOND,
-        left: FIRST,
-        pieces: &[&[0, -2]],
-    },
-    Row {
-        title: "a junction of the union alone",
-        topology: LINES,
-        removed: topology!(
-            r#"{"arcs":[[[0,0],[1,0],[0,1]]],"bbox":[0,0,1,1],"objects":{"a":{"geometries":[{"arcs":[0],"type":"LineString"}],"type":"GeometryCollection"}},"#
-        ),
-        left: topology!(
-            r#"{"arcs":[[[0,0],[1,0],[1,0]]],"bbox":[0,0,2,0],"objects":{"a":{"geometries":[{"arcs":[0],"type":"LineString"}],"type":"GeometryCollection"}},"#
-        ),
-        pieces: &[&[0, 2]],
-    },
-    Row {
-        title: "the middle one of three squares",
-        topology: THREE,
-        removed: SECOND,
-        left: ENDS,
-        pieces: &[&[0, -2], &[4, -6]],
-    },
-    Row {
-        title: "all of two squares: the layer keeps its name",
-        topology: SHARED_EDGE,
-        removed: SHARED_EDGE,
-        left: EMPTY,
-        pieces: &[],
-    },
-    Row {
-        title: "a square whose list begins at a junction, and not at its least corner",
-        topology: SHARED_EDGE,
-        removed: FIRST,
-        left: SECOND,
-        pieces: &[&[1, -3]],
-    },
-    Row {
-        title: "a ring that comes to a vertex again",
-        topology: PINCHED,
-        removed: PINCHED,
-        left: EMPTY,
-        pieces: &[],
-    },
+/// Rows: a title, a topology, another one whose features are taken out, what is left, and for each of its
+/// arcs the indexes of the old ones.
+macro_rules! left {
+    ($($title:literal: $topology:expr, $removed:expr, $left:expr, $pieces:expr;)+) => {
+        &[$(Row {
+            title: $title,
+            topology: $topology,
+            removed: $removed,
+            left: $left,
+            pieces: $pieces,
+        }),+]
+    };
+}
+
+const ROWS: &[Row] = left![
+    "the seam vanishes": topology!(r#"{"arcs":[[[2,0],[-2,0],[0,2],[2,-2]],[[2,0],[1,0]]],"bbox":[0,0,3,2],"objects":{"a":{"geometries":[{"arcs":[1],"type":"LineString"},{"arcs":[[-1]],"type":"Polygon"}],"type":"GeometryCollection"}},"#),
+        topology!(r#"{"arcs":[[[2,0],[1,0]]],"bbox":[2,0,3,0],"objects":{"a":{"geometries":[{"arcs":[0],"type":"LineString"}],"type":"GeometryCollection"}},"#),
+        FREE_LOOP, &[&[0]];
+    "one of two squares with a shared edge": SHARED_EDGE, SECOND, FIRST, &[&[0, -2]];
+    "a junction of the union alone": LINES,
+        topology!(r#"{"arcs":[[[0,0],[1,0],[0,1]]],"bbox":[0,0,1,1],"objects":{"a":{"geometries":[{"arcs":[0],"type":"LineString"}],"type":"GeometryCollection"}},"#),
+        topology!(r#"{"arcs":[[[0,0],[1,0],[1,0]]],"bbox":[0,0,2,0],"objects":{"a":{"geometries":[{"arcs":[0],"type":"LineString"}],"type":"GeometryCollection"}},"#), &[&[0, 2]];
+    "the middle one of three squares": THREE, SECOND, ENDS, &[&[0, -2], &[4, -6]];
+    "all of two squares: the layer keeps its name": SHARED_EDGE, SHARED_EDGE, EMPTY, &[];
+    "a square whose list begins at a junction, and not at its least corner": SHARED_EDGE, FIRST, SECOND, &[&[1, -3]];
+    "a ring that comes to a vertex again": PINCHED, PINCHED, EMPTY, &[];
 ];
 
 /// Rows in which no feature is taken out: a title, a topology, the indexes of its arcs, each alone, and
 /// another topology, none of whose features is among its own.
 macro_rules! kept {
     ($($title:literal: $topology:expr, $pieces:expr, $removed:expr;)+) => {
-        &[$(Row {
-            title: $title,
-            topology: $topology,
-            removed: $removed,
-            left: $topology,
-            pieces: $pieces,
-        }),+]
+        left![$($title: $topology, $removed, $topology, $pieces;)+]
     };
 }
 
 const KEPT: &[Row] = kept![
-    "a feature with another id": SHARED_EDGE, &[&[0], &[1], &[2]],
-        topology!(r#"{"arcs":[[[0,0],[0,1],[1,0],[0,-1],[-1,0]]],"bbox":[0,0,1,1],"objects":{"a":{"geometries":[{"arcs":[[-1]],"id":1,"type":"Polygon"}],"type":"GeometryCollection"}},"#);
-    "a feature of another layer": SHARED_EDGE, &[&[0], &[1], &[2]],
-        topology!(r#"{"arcs":[[[0,0],[0,1],[1,0],[0,-1],[-1,0]]],"bbox":[0,0,1,1],"objects":{"b":{"geometries":[{"arcs":[[-1]],"type":"Polygon"}],"type":"GeometryCollection"}},"#);
-    "a square that differs at one corner": SHARED_EDGE, &[&[0], &[1], &[2]],
-        topology!(r#"{"arcs":[[[0,0],[0,2],[1,-1],[0,-1],[-1,0]]],"bbox":[0,0,1,2],"objects":{"a":{"geometries":[{"arcs":[[-1]],"type":"Polygon"}],"type":"GeometryCollection"}},"#);
-    "a square that goes round the other way": SHARED_EDGE, &[&[0], &[1], &[2]],
-        topology!(r#"{"arcs":[[[0,0],[0,1],[1,0],[0,-1],[-1,0]]],"bbox":[0,0,1,1],"objects":{"a":{"geometries":[{"arcs":[[0]],"type":"Polygon"}],"type":"GeometryCollection"}},"#);
-    "the corners of a square in another order": SHARED_EDGE, &[&[0], &[1], &[2]],
-        topology!(r#"{"arcs":[[[0,0],[1,1],[0,-1],[-1,1],[0,-1]]],"bbox":[0,0,1,1],"objects":{"a":{"geometries":[{"arcs":[[0]],"type":"Polygon"}],"type":"GeometryCollection"}},"#);
-    "a square as the one of many": SHARED_EDGE, &[&[0], &[1], &[2]],
-        topology!(r#"{"arcs":[[[0,0],[0,1],[1,0],[0,-1],[-1,0]]],"bbox":[0,0,1,1],"objects":{"a":{"geometries":[{"arcs":[[[-1]]],"type":"MultiPolygon"}],"type":"GeometryCollection"}},"#);
+    "a feature with another id": SHARED_EDGE, &[&[0], &[1], &[2]], topology!(r#"{"arcs":[[[0,0],[0,1],[1,0],[0,-1],[-1,0]]],"bbox":[0,0,1,1],"objects":{"a":{"geometries":[{"arcs":[[-1]],"id":1,"type":"Polygon"}],"type":"GeometryCollection"}},"#);
+    "a feature of another layer": SHARED_EDGE, &[&[0], &[1], &[2]], topology!(r#"{"arcs":[[[0,0],[0,1],[1,0],[0,-1],[-1,0]]],"bbox":[0,0,1,1],"objects":{"b":{"geometries":[{"arcs":[[-1]],"type":"Polygon"}],"type":"GeometryCollection"}},"#);
+    "a square that differs at one corner": SHARED_EDGE, &[&[0], &[1], &[2]], topology!(r#"{"arcs":[[[0,0],[0,2],[1,-1],[0,-1],[-1,0]]],"bbox":[0,0,1,2],"objects":{"a":{"geometries":[{"arcs":[[-1]],"type":"Polygon"}],"type":"GeometryCollection"}},"#);
+    "a square that goes round the other way": SHARED_EDGE, &[&[0], &[1], &[2]], topology!(r#"{"arcs":[[[0,0],[0,1],[1,0],[0,-1],[-1,0]]],"bbox":[0,0,1,1],"objects":{"a":{"geometries":[{"arcs":[[0]],"type":"Polygon"}],"type":"GeometryCollection"}},"#);
+    "the corners of a square in another order": SHARED_EDGE, &[&[0], &[1], &[2]], topology!(r#"{"arcs":[[[0,0],[1,1],[0,-1],[-1,1],[0,-1]]],"bbox":[0,0,1,1],"objects":{"a":{"geometries":[{"arcs":[[0]],"type":"Polygon"}],"type":"GeometryCollection"}},"#);
+    "a square as the one of many": SHARED_EDGE, &[&[0], &[1], &[2]], topology!(r#"{"arcs":[[[0,0],[0,1],[1,0],[0,-1],[-1,0]]],"bbox":[0,0,1,1],"objects":{"a":{"geometries":[{"arcs":[[[-1]]],"type":"MultiPolygon"}],"type":"GeometryCollection"}},"#);
     "a polygon with a ring more": SHARED_EDGE, &[&[0], &[1], &[2]], TWO_RINGS;
     "a polygon with a ring less": TWO_RINGS, &[&[0], &[1]], FIRST;
-    "a line that goes the other way": LINES, &[&[0], &[1], &[2]],
-        topology!(r#"{"arcs":[[[1,1],[0,-1],[-1,0]]],"bbox":[0,0,1,1],"objects":{"a":{"geometries":[{"arcs":[0],"type":"LineString"}],"type":"GeometryCollection"}},"#);
-    "the front of a line": LINES, &[&[0], &[1], &[2]],
-        topology!(r#"{"arcs":[[[0,0],[1,0]]],"bbox":[0,0,1,0],"objects":{"a":{"geometries":[{"arcs":[0],"type":"LineString"}],"type":"GeometryCollection"}},"#);
-    "a line that goes on": LINES, &[&[0], &[1], &[2]],
-        topology!(r#"{"arcs":[[[0,0],[1,0],[0,1],[0,1]]],"bbox":[0,0,1,2],"objects":{"a":{"geometries":[{"arcs":[0],"type":"LineString"}],"type":"GeometryCollection"}},"#);
+    "a line that goes the other way": LINES, &[&[0], &[1], &[2]], topology!(r#"{"arcs":[[[1,1],[0,-1],[-1,0]]],"bbox":[0,0,1,1],"objects":{"a":{"geometries":[{"arcs":[0],"type":"LineString"}],"type":"GeometryCollection"}},"#);
+    "the front of a line": LINES, &[&[0], &[1], &[2]], topology!(r#"{"arcs":[[[0,0],[1,0]]],"bbox":[0,0,1,0],"objects":{"a":{"geometries":[{"arcs":[0],"type":"LineString"}],"type":"GeometryCollection"}},"#);
+    "a line that goes on": LINES, &[&[0], &[1], &[2]], topology!(r#"{"arcs":[[[0,0],[1,0],[0,1],[0,1]]],"bbox":[0,0,1,2],"objects":{"a":{"geometries":[{"arcs":[0],"type":"LineString"}],"type":"GeometryCollection"}},"#);
 ];
 
 /// Whether the old arcs of each new one are those of the indexes.
@@ -174,19 +127,18 @@ fn assert_row<R: Abort + AllocGlobal>(rt: &R, row: &Row) -> Result<(), Fail> {
     Ok(())
 }
 
-fn assert_rows<R: Abort + AllocGlobal>(rt: &R, rows: &[Row]) -> Result<(), Fail> {
-    for row in rows {
-        assert_row(rt, row)?;
+#[test]
+fn features_taken_out(rt: HostRuntime) -> Result<(), Fail> {
+    for row in ROWS {
+        assert_row(&rt, row)?;
     }
     Ok(())
 }
 
 #[test]
-fn features_taken_out(rt: HostRuntime) -> Result<(), Fail> {
-    assert_rows(&rt, ROWS)
-}
-
-#[test]
 fn features_that_are_not_there(rt: HostRuntime) -> Result<(), Fail> {
-    assert_rows(&rt, KEPT)
+    for row in KEPT {
+        assert_row(&rt, row)?;
+    }
+    Ok(())
 }

@@ -50,11 +50,17 @@ fn shards<S: Shard>(alloc: Global, maps: &[FeatureMap]) -> Result<Vec<S>, Fail> 
     Ok(made)
 }
 
-/// The text of shards that are joined in a grouping.
-fn joined<S: Shard>(alloc: Global, shards: &[S], grouping: Grouping) -> Result<Vec<u8>, Fail> {
+/// Whether shards that are joined in a grouping have this text, lent and handed over.
+fn is_joined<S: Shard>(
+    alloc: Global,
+    shards: &[S],
+    grouping: Grouping,
+    text: &[u8],
+) -> Result<bool, Fail> {
     let plan = plan_of(alloc, grouping, shards.len())?;
     let joined = run_plan(alloc, shards, &plan)?;
-    Ok(joined.text(alloc)?)
+    let lent = joined.text(alloc)?;
+    Ok(lent.as_slice() == text && joined.into_text(alloc)?.as_slice() == text)
 }
 
 /// Joins the maps as shards of a kind in each grouping, and compares the text.
@@ -66,8 +72,10 @@ fn check_shards<S: Shard>(
 ) -> Result<(), Fail> {
     let shards: Vec<S> = shards(alloc, maps)?;
     for grouping in GROUPINGS {
-        let written = joined(alloc, shards.as_slice(), grouping)?;
-        assert!(rt; written.as_slice() == text);
+        assert!(rt;
+            is_joined(alloc, shards.as_slice(), grouping, text)?,
+            "{grouping:?}"
+        );
     }
     Ok(())
 }
