@@ -1,6 +1,5 @@
 -- The layer of a name in a topology, and in its map.
 use Rattle.std.proofs.Common.{◌≡◌, ℕ, Bool, true, false, cond, List, [], ◌∷◌, ◌++◌, inl, inr, refl, sym, ap, ◌∙◌, subst, codes, is_some, Some}
-use Rattle.std.specs.Prelude.{map as map_list}
 use Rattle.std.specs.Cmp.Lexicographic.{slice_cmp, nat_list_cmp_total}
 use Rattle.std.specs.FinMap as map
 use Rattle.std.specs.Ordering.{is_eq, nat_cmp}
@@ -16,34 +15,15 @@ use Rattle.geojson_io.specs.CollectionText.{feature_text, collection_text}
 use Rattle.theory.specs.Geometry.{JunctionOf}
 use Rattle.theory.specs.Lists.{Has, Pairwise}
 use Rattle.theory.specs.Topology.{IsLayerOf}
+use Rattle.theory.proofs.UsersOfArcs.{partner, partner_back}
 use Rattle.chains.specs.Seen as seen_by
 use Rattle.topo.specs.OfMap.{IsOf, layer_of}
 use Rattle.topo.specs.Parts.{IsOfLayerNamed, LayerParts, TopologyParts}
 use Rattle.topo.specs.declared.geom.Geom.{Geom}
+use Rattle.topo.proofs.Pairs.{Pairwise-mapped}
 use Rattle.shapes.proofs.Entries.{at_entry, found}
 use Rattle.layer_text.specs.ByArcs.{geom_text}
 use Rattle.layer_text.proofs.Texts.{features_same}
-
--- ---- members that go together, place by place
-
-module _ {A B C D : Type 0} (R : C → D → Type 0) (h : A → C) (k : B → D) where
-  beside_right : (xs : List A) (ys : List B) → Pairwise R (map_list h xs) (map_list k ys) → (y : B) → Has y ys → (x : A) × Has x xs × R (h x) (k y)
-  beside_right [] [] p y i = absurd i
-  beside_right [] (b ∷ ys) p y i = absurd p
-  beside_right (a ∷ xs) [] p y i = absurd i
-  beside_right (a ∷ xs) (b ∷ ys) p y i = elim i [
-    | inl e ↦ (a, inl refl, subst (λ w. R (h a) (k w)) (sym e) p.0)
-    | inr j ↦ let t = beside_right xs ys p.1 y j in (t.0, inr t.1, t.2)
-  ]
-
-  beside_left : (xs : List A) (ys : List B) → Pairwise R (map_list h xs) (map_list k ys) → (x : A) → Has x xs → (y : B) × Has y ys × R (h x) (k y)
-  beside_left [] [] p x i = absurd i
-  beside_left [] (b ∷ ys) p x i = absurd i
-  beside_left (a ∷ xs) [] p x i = absurd p
-  beside_left (a ∷ xs) (b ∷ ys) p x i = elim i [
-    | inl e ↦ (b, inl refl, subst (λ w. R (h w) (k b)) (sym e) p.0)
-    | inr j ↦ let t = beside_left xs ys p.1 x j in (t.0, inr t.1, t.2)
-  ]
 
 -- ---- entries of a map
 
@@ -70,6 +50,9 @@ entry_there (d ∷ es) q h = go (is_eq (slice_cmp nat_cmp q d.0)) refl h (entry_
 abbrev Goes : Layers → TopologyParts → (List ℕ × Features) → LayerParts → Type 0
 Goes m t e l = IsLayerOf position_cmp (JunctionOf (seen_by.geometry_of m)) t.arcs.arcs (seen_by.layer_of e) (layer_of l)
 
+beside : (m : Layers) (t : TopologyParts) → IsOf m t → Pairwise (Goes m t) (map.entries m) t.layers
+beside m t is = Pairwise-mapped (IsLayerOf position_cmp (JunctionOf (seen_by.geometry_of m)) t.arcs.arcs) seen_by.layer_of layer_of (map.entries m) t.layers is.topology.layers
+
 -- the text of the geometries of a name is that of the map's features there
 pub record IsLayerText (m : Layers) (t : TopologyParts) (name : List ℕ) (gs : List Geom) : Type 0 where
   pub there : map.contains_key m name ≡ true
@@ -79,7 +62,7 @@ pub record IsLayerText (m : Layers) (t : TopologyParts) (name : List ℕ) (gs : 
 pub layer_text_is : (m : Layers) (t : TopologyParts) (name : List ℕ) (gs : List Geom) → IsOf m t → IsOfLayerNamed t.layers name gs → IsLayerText m t name gs
 layer_text_is m t name gs is (l, there, named, geometries) =
     let b : (e : List ℕ × Features) × Has e (map.entries m) × Goes m t e l =
-    beside_right (IsLayerOf position_cmp (JunctionOf (seen_by.geometry_of m)) t.arcs.arcs) seen_by.layer_of layer_of (map.entries m) t.layers is.topology.layers l there in
+    partner_back (Goes m t) (map.entries m) t.layers (beside m t is) l there in
     let e = b.0 in
     let name_is : e.0 ≡ name = b.2.name ∙ named in
     let at : features_at m name ≡ e.1 = subst (λ w. features_at m w ≡ e.1) name_is (at_entry m e b.1) in
@@ -101,5 +84,5 @@ no_layer_is m t name is none = go (map.contains_key m name) refl
     go true e =
         let k = entry_there (map.entries m) name (ap is_some (sym (map.get-entries m name)) ∙ e) in
         let b : (l : LayerParts) × Has l t.layers × Goes m t k.0 l =
-        beside_left (IsLayerOf position_cmp (JunctionOf (seen_by.geometry_of m)) t.arcs.arcs) seen_by.layer_of layer_of (map.entries m) t.layers is.topology.layers k.0 k.1 in
+        partner (Goes m t) (map.entries m) t.layers (beside m t is) k.0 k.1 in
         absurd (none b.0 b.1 (sym b.2.name ∙ sym k.2))

@@ -1,5 +1,5 @@
 //! The places of lines and rings, lent by walks from the arcs.
-ghost use Rattle.std.specs.Prelude.{◌≡◌, OnErr, OnOk};
+ghost use Rattle.std.specs.Prelude.{OnErr, OnOk};
 ghost use Rattle.sinks.specs.Texts.{after_comma, after_commas};
 ghost use Rattle.sinks.specs.Writes.{TookAll, TookPart};
 ghost use Rattle.geojson_io.specs.CollectionText.{place_text};

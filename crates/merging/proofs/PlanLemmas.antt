@@ -56,6 +56,14 @@ same_grid_true g h e =
     let t = both_true (same_scaling g.x h.x) (same_scaling g.y h.y) e in
     λ i. record { x = same_scaling_true g.x h.x t.0 i; y = same_scaling_true g.y h.y t.1 i }
 
+int_eq_same : (a b : ℤ) → a ≡ b → int_eq a b ≡ true
+int_eq_same a b e = (Decides-int_eq a b).1 e
+
+pub same_grid_same : (g h : Transform) → g ≡ h → same_grid g h ≡ true
+same_grid_same g h e = λ i.
+    (int_eq_same g.x.scale h.x.scale (ap (λ t. t.x.scale) e) i && int_eq_same g.x.translate h.x.translate (ap (λ t. t.x.translate) e) i)
+    && (int_eq_same g.y.scale h.y.scale (ap (λ t. t.y.scale) e) i && int_eq_same g.y.translate h.y.translate (ap (λ t. t.y.translate) e) i)
+
 all_before : (i n : ℕ) → cond (nat_lt i n) (Some i) None ≡ None → n ≤ i
 all_before i n e = ltb-false i n (go (nat_lt i n) e)
   where

@@ -1,5 +1,5 @@
 //! Running a plan over a list of shards.
-ghost use Rattle.std.specs.Prelude.{◌≡◌, ◌⊎◌, All, IfOk, IfErr, None, Some, Err, length, map};
+ghost use Rattle.std.specs.Prelude.{◌≡◌, ◌⊎◌, All, IfOk, IfErr, None, Some, Err, map};
 ghost use Rattle.merging.specs.declared.fault.PlanFault.{PlanFault};
 ghost use Rattle.merging.specs.declared.fault.PlanFault.TheVariants.{OutOfMemory};
 ghost use Rattle.merging.specs.Meaning as meaning;

@@ -221,36 +221,31 @@ module _ (m : Layers) (t : TopologyParts) (of : IsOf m t) where
         users position_cmp position_total position_same (dec_by position_cmp position_total position_same) (geometry_of m) (are_sound m) t.arcs.arcs of.table.arcs
         (form_of f.shape) (body_of b) held (form_rings m f form) k c u v e side
 
-    -- of those with the segment there is a least
-    least_with : (k : ℕ) (c : List Pos) (u v : Pos) → slice_get t.arcs.arcs k ≡ Some c → Beside u v c → (f : Feature) (b : Body) → Has (f, b) in_scope.pairs →
-        UsesArc k (body_of b) → (a : Feature) × IsLeastWith In u v a
-    least_with k c u v e side f b h used = elim (first_user (λ f g. AtMost feature_cmp f g) itself_first after_first either_first k in_scope.pairs) [
+    -- of those with the segment there is a first, in an order
+    first_with : (Before : Feature → Feature → Type 0) → ((f : Feature) → Before f f) → ((f g h : Feature) → Before f g → Before g h → Before f h) →
+        ((f g : Feature) → Before f g ⊎ Before g f) → (k : ℕ) (c : List Pos) (u v : Pos) → slice_get t.arcs.arcs k ≡ Some c → Beside u v c → (f : Feature) (b : Body) →
+        Has (f, b) in_scope.pairs → UsesArc k (body_of b) → (a : Feature) × In a × HasSide u v a × ((g : Feature) → In g → HasSide u v g → Before a g)
+    first_with Before itself after either k c u v e side f b h used = elim (first_user Before itself after either k in_scope.pairs) [
       | inl none ↦ absurd (none f b h used)
       | inr l ↦ (
         l.feature,
-        record {
-          within = (in_scope.are.only l.feature l.body l.has).0;
-          has = (has_uses l.feature l.body l.has k c u v e side).1 l.uses;
-          least = λ g i j. let (d, there) = in_scope.are.all g i in l.first g d there ((has_uses g d there k c u v e side).0 j);
-        },
+        (in_scope.are.only l.feature l.body l.has).0,
+        (has_uses l.feature l.body l.has k c u v e side).1 l.uses,
+        λ g i j. let (d, there) = in_scope.are.all g i in l.first g d there ((has_uses g d there k c u v e side).0 j),
       )
     ]
 
-    -- and a greatest
+    least_with : (k : ℕ) (c : List Pos) (u v : Pos) → slice_get t.arcs.arcs k ≡ Some c → Beside u v c → (f : Feature) (b : Body) → Has (f, b) in_scope.pairs →
+        UsesArc k (body_of b) → (a : Feature) × IsLeastWith In u v a
+    least_with k c u v e side f b h used =
+        let (a, within, has, least) = first_with (λ f g. AtMost feature_cmp f g) itself_first after_first either_first k c u v e side f b h used in
+        (a, record { within = within; has = has; least = least })
+
     greatest_with : (k : ℕ) (c : List Pos) (u v : Pos) → slice_get t.arcs.arcs k ≡ Some c → Beside u v c → (f : Feature) (b : Body) → Has (f, b) in_scope.pairs →
         UsesArc k (body_of b) → (a : Feature) × IsGreatestWith In u v a
     greatest_with k c u v e side f b h used =
-        elim (first_user (λ f g. AtMost feature_cmp g f) itself_first (λ f g h a b. after_first h g f b a) (λ f g. either_first g f) k in_scope.pairs) [
-          | inl none ↦ absurd (none f b h used)
-          | inr l ↦ (
-            l.feature,
-            record {
-              within = (in_scope.are.only l.feature l.body l.has).0;
-              has = (has_uses l.feature l.body l.has k c u v e side).1 l.uses;
-              greatest = λ g i j. let (d, there) = in_scope.are.all g i in l.first g d there ((has_uses g d there k c u v e side).0 j);
-            },
-          )
-        ]
+        let (a, within, has, greatest) = first_with (λ f g. AtMost feature_cmp g f) itself_first (λ f g h a b. after_first h g f b a) (λ f g. either_first g f) k c u v e side f b h used in
+        (a, record { within = within; has = has; greatest = greatest })
 
     abbrev spans : List (Option Span)
     spans = with_uses (replicate (length t.arcs.arcs) None) us

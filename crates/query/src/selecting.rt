@@ -21,27 +21,8 @@ fn ask<F: Fn(&Feature, &Feature) -> bool>(members: &[Member], span: Span, filter
     }
 }
 
-/// The same; what the filter said before is known.
-fn answer<F: Fn(&Feature, &Feature) -> bool>(
-    known: &mut BTreeMap<Span, bool>,
-    members: &[Member],
-    span: Span,
-    filter: &F,
-) -> Result<bool, AllocError>
-    requires callable { MayAskAmong (MayAsk F.Fn filter.now) members.now }
-    requires known { Known (FnReturnsAtPair F.Fn filter.now) members.now known.old }
-    ensures answered { IfOk result (λ says. Answered (FnReturnsAtPair F.Fn filter.now) members.now span says) }
-    ensures known { OnOk result (Known (FnReturnsAtPair F.Fn filter.now) members.now known.new) }
-{
-    if let Some(says) = known.get(&span) {
-        return Ok(*says);
-    }
-    let says = ask(members, span, filter);
-    known.insert(span, says)?;
-    Ok(says)
-}
-
-/// Whether an arc of this span is selected: one without a user is not.
+/// Whether an arc of this span is selected: one without a user is not. What the filter said before is
+/// known.
 fn is_chosen<F: Fn(&Feature, &Feature) -> bool>(
     known: &mut BTreeMap<Span, bool>,
     members: &[Member],
@@ -53,10 +34,15 @@ fn is_chosen<F: Fn(&Feature, &Feature) -> bool>(
     ensures decided { IfOk result (λ says. Decided (FnReturnsAtPair F.Fn filter.now) members.now span says) }
     ensures known { OnOk result (Known (FnReturnsAtPair F.Fn filter.now) members.now known.new) }
 {
-    match span {
-        Some(span) => answer(known, members, span, filter),
-        None => Ok(false),
+    let Some(asked) = span else {
+        return Ok(false);
+    };
+    if let Some(says) = known.get(&asked) {
+        return Ok(*says);
     }
+    let says = ask(members, asked, filter);
+    known.insert(asked, says)?;
+    Ok(says)
 }
 
 /// The numbers of the arcs of whose least and greatest user the filter says yes.

@@ -1,5 +1,5 @@
 //! The least and the greatest feature that use each arc.
-ghost use Rattle.std.specs.Prelude.{◌≡◌, ◌++◌, IfOk, None, set, get_or, replicate, map as map_list};
+ghost use Rattle.std.specs.Prelude.{◌≡◌, IfOk, None, replicate, map as map_list};
 ghost use Rattle.topo.specs.OfMap.{body_of};
 ghost use Rattle.query.specs.Spans.{widened, with_use, with_uses};
 ghost use Rattle.query.specs.Uses.{bodies_uses};

@@ -1,12 +1,12 @@
 //! The vertices at which lines over arcs stop.
-ghost use Rattle.std.specs.Prelude.{◌≡◌, ◌≤◌, IfOk, OnOk, List, length};
+ghost use Rattle.std.specs.Prelude.{◌≡◌, ◌≤◌, IfOk, OnOk, length};
 ghost use Rattle.std.specs.List.Sorted.{IsPermutation, IsSorted};
 ghost use Rattle.grid.specs.declared.pos.Pos.{Pos};
 ghost use Rattle.theory.specs.Geometry.{Geometry, IsSound};
 ghost use Rattle.chains.specs.Among.{among};
 ghost use Rattle.chains.specs.Table.{IsTableOf};
 ghost use Rattle.query.specs.Ends.{StandByVertex, by_vertex, count_at};
-ghost use Rattle.query.specs.Stops.{AreHalts, AreJudged, halts, sided, sided_all, sides_at, stop_step};
+ghost use Rattle.query.specs.Stops.{AreHalts, AreJudged, halts, sided, sides_at, stop_step};
 
 use crate::ends::{End, ends_of};
 use chains::ArcTable;

@@ -1,5 +1,5 @@
 //! Writing meshes and neighbours as JSON, piece by piece and with no memory.
-ghost use Rattle.std.specs.Prelude.{◌≡◌, ℕ, List, map, slice_get, OnErr, OnOk};
+ghost use Rattle.std.specs.Prelude.{◌≡◌, map, slice_get, OnErr, OnOk};
 ghost use Rattle.std.specs.Fmt.{decimal};
 ghost use Rattle.grid.specs.declared.pos.Pos.{Pos};
 ghost use Rattle.sinks.specs.Texts.{joined, list_text};

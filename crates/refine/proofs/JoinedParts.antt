@@ -44,11 +44,11 @@ pub record AreCut (left right : TopologyParts) (r : RecutParts) (arcs : Arcs) (l
   pub right_layers : ks ≡ map_list (layer_recut r.arcs.arcs r.right) right.layers
 
 -- from the arcs and the layers that two topologies hand over
-pub are_cut : (left right : TopologyParts) (la ra : Arcs) (lls rls : List LayerParts) (r : RecutParts) (arcs : Arcs) (ls ks : List LayerParts) →
+pub are_cut : {left right : TopologyParts} {la ra : Arcs} {lls rls : List LayerParts} {r : RecutParts} {arcs : Arcs} {ls ks : List LayerParts} →
     la ≡ left.arcs → ra ≡ right.arcs → lls ≡ left.layers → rls ≡ right.layers →
     ((m n u : Geometry Pos) → IsSound m → IsSound n → IsTableOf m la → IsTableOf n ra → IsUnionOf m n u → IsRecutOf m n u la ra r) → arcs ≡ r.arcs →
     ls ≡ map_list (layer_recut r.arcs.arcs r.left) lls → ks ≡ map_list (layer_recut r.arcs.arcs r.right) rls → AreCut left right r arcs ls ks
-are_cut left right la ra lls rls r arcs ls ks a b l k refined e p q = record {
+are_cut {left = left} {right = right} {ra = ra} {r = r} a b l k refined e p q = record {
   refined = subst (λ t. (m n u : Geometry Pos) → IsSound m → IsSound n → IsTableOf m left.arcs → IsTableOf n t → IsUnionOf m n u → IsRecutOf m n u left.arcs t r) b
       (subst (λ t. (m n u : Geometry Pos) → IsSound m → IsSound n → IsTableOf m t → IsTableOf n ra → IsUnionOf m n u → IsRecutOf m n u t ra r) a refined);
   arcs_are = e;
@@ -56,7 +56,7 @@ are_cut left right la ra lls rls r arcs ls ks a b l k refined e p q = record {
   right_layers = q ∙ ap (map_list (layer_recut r.arcs.arcs r.right)) k;
 }
 
-module _ (left right : TopologyParts) (r : RecutParts) (arcs : Arcs) (ls ks : List LayerParts) (cut : AreCut left right r arcs ls ks)
+module _ {left right : TopologyParts} {r : RecutParts} {arcs : Arcs} {ls ks : List LayerParts} (cut : AreCut left right r arcs ls ks)
     (m n : Layers) (hm : IsOf m left) (hn : IsOf n right) where
   abbrev J : Pos → Type 0
   J = JunctionOf (geometry_of (union m n))

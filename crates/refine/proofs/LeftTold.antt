@@ -9,6 +9,8 @@ use Rattle.lines.proofs.Positions.{position_dec}
 use Rattle.shapes.specs.Maps.{Layers}
 use Rattle.chains.specs.Arcs.{Arcs}
 use Rattle.chains.specs.Seen.{geometry_of, seen}
+use Rattle.chains.specs.Visits.{ends_of}
+use Rattle.chains.proofs.Gathered.{ends_has, has_ends}
 use Rattle.chains.proofs.Paired.{paired}
 use Rattle.theory.specs.ArcNumbers.{ArcRef, StitchTo, Uses}
 use Rattle.theory.specs.Geometry.{Geometry, JunctionOf}
@@ -143,20 +145,16 @@ kept_in_table g u arcs k (inr (r, used, i, (x, l, turned, st), us)) = in_table a
 
 -- ---- ends of lines
 
+both_are : (l : List Pos) → both_ends l ≡ ends_of l
+both_are [] = refl
+both_are (x ∷ []) = refl
+both_are (x ∷ (y ∷ l)) = refl
+
 end_is_noted : (v : Pos) (l : List Pos) → EndOf v l → Has v (both_ends l)
-end_is_noted v [] h = absurd h
-end_is_noted v (x ∷ []) (inl e) = inl e
-end_is_noted v (x ∷ []) (inr e) = inl e
-end_is_noted v (x ∷ (y ∷ l)) (inl e) = inl e
-end_is_noted v (x ∷ (y ∷ l)) (inr e) = inr (inl e)
+end_is_noted v l h = subst (Has v) (sym (both_are l)) (ends_has v l h)
 
 noted_is_end : (v : Pos) (l : List Pos) → Has v (both_ends l) → EndOf v l
-noted_is_end v [] h = absurd h
-noted_is_end v (x ∷ []) (inl e) = inl e
-noted_is_end v (x ∷ []) (inr h) = absurd h
-noted_is_end v (x ∷ (y ∷ l)) (inl e) = inl e
-noted_is_end v (x ∷ (y ∷ l)) (inr (inl e)) = inr e
-noted_is_end v (x ∷ (y ∷ l)) (inr (inr h)) = absurd h
+noted_is_end v l h = has_ends v l (subst (Has v) (both_are l) h)
 
 module _ (arcs : List (List Pos)) where
   body_line : (v : Pos) (b : bodies.Body) → Has v (body_ends arcs b) → (used : List ArcRef) × Has used (lines_in (body_of b)) × Has v (line_ends arcs used)
@@ -216,11 +214,11 @@ pub record IsMade (t : TopologyParts) (r : Layers) (ls : List LayerParts) (kept 
   pub refined : (g u : Geometry Pos) → IsLeftBy g u t.arcs kept ends → IsRejoinedOf g u t.arcs j
 
 -- from what is lent and from marks and ends as they are handed over
-pub made_of : (t : TopologyParts) (r : Layers) (stay here there : List LayerLeft) (kept marks : List Bool) (ends places : List Pos) (a b : Arcs) (j : RejoinedParts) →
+pub made_of : {t : TopologyParts} {r : Layers} {stay here there : List LayerLeft} {kept marks : List Bool} {ends places : List Pos} {a b : Arcs} {j : RejoinedParts} →
     all_lent stay ≡ map_list (layer_less t.arcs.arcs r) t.layers → a ≡ t.arcs → here ≡ stay → kept ≡ marked_by (replicate (length a.arcs) false) (layers_refs (all_lent here)) →
     there ≡ stay → ends ≡ layers_ends t.arcs.arcs (all_lent there) → b ≡ t.arcs → marks ≡ kept → places ≡ ends →
     ((g u : Geometry Pos) → IsLeftBy g u b marks places → IsRejoinedOf g u b j) → IsMade t r (all_lent stay) kept ends j
-made_of t r stay here there kept marks ends places a b j l ae he k te n be me pe refined = record {
+made_of {t = t} {kept = kept} {marks = marks} {ends = ends} {b = b} {j = j} l ae he k te n be me pe refined = record {
   left_are = l;
   kept_are = k ∙ (λ i. marked_by (replicate (length (ae i).arcs) false) (layers_refs (all_lent (he i))));
   ends_are = n ∙ ap (λ w. layers_ends t.arcs.arcs (all_lent w)) te;
@@ -230,7 +228,7 @@ made_of t r stay here there kept marks ends places a b j l ae he k te n be me pe
       (subst (λ w. IsLeftBy g u b marks w → IsRejoinedOf g u b j) pe (refined g u)));
 }
 
-module _ (t : TopologyParts) (r : Layers) (ls : List LayerParts) (kept : List Bool) (ends : List Pos) (j : RejoinedParts) (made : IsMade t r ls kept ends j)
+module _ {t : TopologyParts} {r : Layers} {ls : List LayerParts} {kept : List Bool} {ends : List Pos} {j : RejoinedParts} (made : IsMade t r ls kept ends j)
     (m : Layers) (h : IsOf m t) where
   abbrev g : Geometry Pos
   g = geometry_of (less m r)

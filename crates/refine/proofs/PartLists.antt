@@ -67,16 +67,15 @@ one_counted all made more left rest p was e is on some = record {
   some = λ _. omega (arith, some);
 }
 
--- the first of some parts is taken, and nothing is joined with it yet
-pub none_joined : (first whole : MapOnGrid) (larger left : List MapOnGrid) → whole ≡ first → left ≡ larger → union whole.map (united_map left) ≡ united_map (first ∷ larger)
-none_joined first whole larger left e k = (λ i. union (e i).map (united_map (k i))) ∙ sym (united-append (first ∷ []) larger ∙ ap (λ m. union m (united_map larger)) (union_empty first.map))
+-- nothing is joined yet with the first of some parts
+pub none_joined : (first : MapOnGrid) (larger left : List MapOnGrid) → left ≡ larger → union first.map (united_map left) ≡ united_map (first ∷ larger)
+none_joined first larger left e = ap (λ ps. union first.map (united_map ps)) e ∙ sym (united-append (first ∷ []) larger ∙ ap (λ m. union m (united_map larger)) (union_empty first.map))
 
 -- one more of some parts is joined with what was joined before
-pub one_more_joined : (whole more p taken : MapOnGrid) (left rest : List MapOnGrid) → left ≡ p ∷ rest → taken ≡ p → more.map ≡ union whole.map taken.map →
+pub one_more_joined : (whole more p : MapOnGrid) (left rest : List MapOnGrid) → left ≡ p ∷ rest → more.map ≡ union whole.map p.map →
     union more.map (united_map rest) ≡ union whole.map (united_map left)
-one_more_joined whole more p taken left rest e same joined =
-    ap (λ m. union m (united_map rest)) (joined ∙ ap (λ q. union whole.map q.map) same) ∙ union_associates whole.map p.map (united_map rest)
-    ∙ ap (λ qs. union whole.map (united_map qs)) (sym e)
+one_more_joined whole more p left rest e joined =
+    ap (λ m. union m (united_map rest)) joined ∙ union_associates whole.map p.map (united_map rest) ∙ ap (λ qs. union whole.map (united_map qs)) (sym e)
 
 -- all of them are
 pub all_joined : (whole : MapOnGrid) (left : List MapOnGrid) → length left ≡ 0 → union whole.map (united_map left) ≡ whole.map
@@ -105,10 +104,10 @@ pub record ArePutTogether (l r p : MapOnGrid) (rest : List MapOnGrid) : Type 0 w
   pub on : AreOn p.grid rest
   pub map : united_map (p ∷ rest) ≡ union l.map r.map
 
-pub put_together : (parts others all made rest : List MapOnGrid) (p l r : MapOnGrid) → l.grid ≡ r.grid → united_map parts ≡ l.map → AreOn l.grid parts → 0 < length parts →
+pub put_together : {parts others all made rest : List MapOnGrid} {p l r : MapOnGrid} → l.grid ≡ r.grid → united_map parts ≡ l.map → AreOn l.grid parts → 0 < length parts →
     united_map others ≡ r.map → AreOn r.grid others → all ≡ parts ++ others → united_map made ≡ united_map all → ((g : Transform) → AreOn g all → AreOn g made) →
     (0 < length all → 0 < length made) → p ≡ get_or made 0 p → rest ≡ remove made 0 → ArePutTogether l r p rest
-put_together parts others all made rest p l r one l_map l_on l_some r_map r_on e m on some is out =
+put_together {parts = parts} {others = others} {all = all} {made = made} {rest = rest} {p = p} {l = l} {r = r} one l_map l_on l_some r_map r_on e m on some is out =
     let many : 0 < length made = some (omega (arith, ap length e, length-append parts others, l_some)) in
     let split : made ≡ p ∷ rest = first_out made rest p many is out in
     let all_on : AreOn l.grid all = subst (AreOn l.grid) (sym e) (All-append (λ q. q.grid ≡ l.grid) parts others l_on (subst (λ g. AreOn g others) (sym one) r_on)) in

@@ -1,21 +1,18 @@
 //! The join of two topologies: their arcs are cut again, their geometries follow the pieces, and
 //! the sorted layers and geometries of both are merged in one pass. The join of two shards, each of
 //! topologies whose sizes are far apart: those are joined whose sizes come near each other.
-ghost use Rattle.std.specs.Prelude.{◌≡◌, ◌↔◌, ◌<◌, ◌^◌, ◌∷◌, ◌++◌, length, IfOk, IfSome, IsErrOf, IsPermutation, OnOk, List, Option, None, take, drop, map as map_list};
+ghost use Rattle.std.specs.Prelude.{◌≡◌, ◌↔◌, ◌<◌, ◌^◌, ◌∷◌, ◌++◌, length, IfOk, IfSome, IsErrOf, IsPermutation, OnOk, Option, None, true, take, drop, map as map_list};
 ghost use Rattle.grid.specs.Place.{Transform};
 ghost use Rattle.shapes.specs.Maps.{Layers};
 ghost use Rattle.shapes.specs.Union.{union};
 ghost use Rattle.recutting.specs.Parts.{of_side};
 ghost use Rattle.topo.specs.Features.{HasFeature, IsKnownOf};
-ghost use Rattle.topo.specs.Parts.{LayerParts};
 ghost use Rattle.topo.specs.declared.geom.Geom.{Geom};
 ghost use Rattle.topo.specs.OfMap.{IsOf, IsOfSomeMap};
 ghost use Rattle.layer_laws.specs.ItsMap.{ItsMap, ItsMap-prop};
 ghost use Rattle.layer_laws.specs.Cuts as cuts;
-ghost use Rattle.layer_laws.specs.CutLayers as cut_layers;
 ghost use Rattle.topo.specs.GeometryOrder.{HaveFeatures, LayersHaveFeatures, geometry_cmp};
-ghost use Rattle.layer_laws.specs.CutLayers.{IsKnownOfFirst, before, behind, layer_cmp, layers_as_one, layers_merged, tied, to_first, with_other};
-ghost use Rattle.merging.specs.Meaning.{same_grid};
+ghost use Rattle.layer_laws.specs.CutLayers.{IsKnownOfFirst, before, behind, layer_cmp, layer_recut, layers_as_one, layers_merged, tied, to_first, with_other};
 ghost use Rattle.merging.specs.declared.fault.JoinFault.TheVariants.{OtherGrid};
 ghost use Rattle.refine.specs.OnGrid.{AreOn, united_map};
 
@@ -59,7 +56,7 @@ fn layers_recut(
     side: Side,
     layers: Vec<Layer>,
 ) -> Result<Vec<Layer>, OutOfMemory>
-    ensures { IfOk result (λ v. v.items ≡ map_list (cut_layers.layer_recut recut.now.arcs.arcs (of_side side recut.now)) layers.items) }
+    ensures { IfOk result (λ v. v.items ≡ map_list (layer_recut recut.now.arcs.arcs (of_side side recut.now)) layers.items) }
 {
     layers_rewritten(alloc, &SideLists { recut, side }, layers)
 }
@@ -174,8 +171,7 @@ fn put_before(
                 others.drop_first();
                 return Ok(());
             }
-            Some(Ordering::Less) => return Ok(()),
-            None => return Ok(()),
+            Some(Ordering::Less) | None => return Ok(()),
         }
     }
 }
@@ -231,8 +227,7 @@ fn put_layers_before(
         match order_to_first(layer, others) {
             Some(Ordering::Greater) => put_first(others, merged)?,
             Some(Ordering::Equal) => return Ok(others.pop_front()),
-            Some(Ordering::Less) => return Ok(None),
-            None => return Ok(None),
+            Some(Ordering::Less) | None => return Ok(None),
         }
     }
 }
@@ -308,7 +303,7 @@ fn united_copies(alloc: Global, left: &Topology, right: &Topology) -> Result<Top
 }
 
 fn on_one_grid(left: &Topology, right: &Topology) -> bool
-    ensures { result ≡ same_grid left.now.grid right.now.grid }
+    ensures { (result ≡ true) ↔ (left.now.grid ≡ right.now.grid) }
 {
     left.grid() == right.grid()
 }
@@ -335,10 +330,12 @@ pub(crate) fn joined(
     Ok(topology)
 }
 
-/// A topology with the map that it is of.
+/// A topology with the map that it is of. Its size counts the arcs of the topologies that were joined
+/// into it, and these topologies.
 #[derive(Drop)]
 pub(crate) struct Kept {
     topology: Topology,
+    size: usize,
     ghost of_map: { ItsMap topology } by { ItsMap-prop topology },
 }
 
@@ -361,7 +358,17 @@ impl Kept {
         ensures grid { result.grid ≡ topology.grid }
         ensures map { (m : Layers) → IsOf m topology → result.map ≡ m }
     {
-        Kept { topology }
+        let size = topology.arcs().len() + 1;
+        Kept::of_size(topology, size)
+    }
+
+    fn of_size(topology: Topology, size: usize) -> Kept
+        requires few { length topology.arcs.arcs < 2 ^ 63 }
+        requires of_map { IsOfSomeMap topology }
+        ensures grid { result.grid ≡ topology.grid }
+        ensures map { (m : Layers) → IsOf m topology → result.map ≡ m }
+    {
+        Kept { topology, size }
     }
 
     pub(crate) fn topology(&self) -> &Topology
@@ -384,7 +391,7 @@ impl Kept {
         ensures { IfOk result (λ k. k ≡ self.now) }
     {
         let topology = self.topology.copy(alloc)?;
-        Ok(Kept::of_topology(topology))
+        Ok(Kept::of_size(topology, self.size))
     }
 
     /// The topology of the features of both, on the grid of the first.
@@ -392,86 +399,18 @@ impl Kept {
         ensures grid { IfOk result (λ k. k.grid ≡ self.grid) }
         ensures map { IfOk result (λ k. k.map ≡ union self.map other.map) }
     {
-        let topology = united(alloc, self.topology, other.topology)?;
-        Ok(Kept::of_topology(topology))
-    }
-}
-
-/// One of the topologies of a shard. Its size counts the arcs of the topologies that were joined
-/// into it, and these topologies.
-#[derive(Drop)]
-pub(crate) struct Part {
-    kept: Kept,
-    size: usize,
-}
-
-impl Model for Part {
-    ghost use Rattle.refine.specs.OnGrid.{MapOnGrid, map_on_grid_code};
-
-    ghost Value = { MapOnGrid };
-
-    ghost coded = { map_on_grid_code };
-
-    ghost view = { λ a. a.kept };
-}
-
-impl Part {
-    fn of_topology(topology: Topology) -> Part
-        requires few { length topology.arcs.arcs < 2 ^ 63 }
-        requires of_map { IsOfSomeMap topology }
-        ensures grid { result.grid ≡ topology.grid }
-        ensures map { (m : Layers) → IsOf m topology → result.map ≡ m }
-    {
-        let size = topology.arcs().len() + 1;
-        let kept = Kept::of_topology(topology);
-        Part { kept, size }
-    }
-
-    pub(crate) fn kept(&self) -> &Kept
-        ensures { result.now ≡ self.now }
-    {
-        &self.kept
-    }
-
-    fn into_kept(self) -> Kept
-        ensures { result ≡ self }
-    {
-        self.kept
-    }
-
-    pub(crate) fn topology(&self) -> &Topology
-        ensures { result.now.grid ≡ self.now.grid }
-    {
-        self.kept.topology()
-    }
-
-    fn copy(&self, alloc: Global) -> Result<Part, OutOfMemory>
-        ensures { IfOk result (λ p. p ≡ self.now) }
-    {
-        let kept = self.kept.copy(alloc)?;
-        Ok(Part {
-            kept,
-            size: self.size,
-        })
-    }
-
-    /// The features of both, on the grid of the first.
-    fn united(self, alloc: Global, other: Part) -> Result<Part, OutOfMemory>
-        ensures grid { IfOk result (λ p. p.grid ≡ self.grid) }
-        ensures map { IfOk result (λ p. p.map ≡ union self.map other.map) }
-    {
         let size = self.size.saturating_add(other.size);
-        let kept = self.kept.united(alloc, other.kept)?;
-        Ok(Part { kept, size })
+        let topology = united(alloc, self.topology, other.topology)?;
+        Ok(Kept::of_size(topology, size))
     }
 
-    /// Whether another part is less than twice as large.
-    fn is_near(&self, other: &Part) -> bool {
+    /// Whether another one is less than twice as large.
+    fn is_near(&self, other: &Kept) -> bool {
         other.size / 2 < self.size
     }
 }
 
-fn copy_parts(alloc: Global, parts: &[Part]) -> Result<Vec<Part>, OutOfMemory>
+fn copy_parts(alloc: Global, parts: &[Kept]) -> Result<Vec<Kept>, OutOfMemory>
     ensures { IfOk result (λ v. v.items ≡ parts.now) }
 {
     let mut copies = Vec::with_capacity(alloc, parts.len())?;
@@ -483,13 +422,13 @@ fn copy_parts(alloc: Global, parts: &[Part]) -> Result<Vec<Part>, OutOfMemory>
 
 /// The topology of the features of a part and of larger ones, on the grid of the first. Each is given
 /// up as it is joined, the smaller ones first.
-fn all_united(alloc: Global, first: Part, larger: Vec<Part>) -> Result<Kept, OutOfMemory>
+fn all_united(alloc: Global, first: Kept, larger: Vec<Kept>) -> Result<Kept, OutOfMemory>
     ensures grid { IfOk result (λ k. k.grid ≡ first.grid) }
     ensures map { IfOk result (λ k. k.map ≡ united_map (first ∷ larger.items)) }
 {
-    let mut whole = first.into_kept();
+    let mut whole = first;
     for part in larger {
-        whole = whole.united(alloc, part.into_kept())?;
+        whole = whole.united(alloc, part)?;
     }
     Ok(whole)
 }
@@ -498,8 +437,8 @@ fn all_united(alloc: Global, first: Part, larger: Vec<Part>) -> Result<Kept, Out
 /// each at least twice as large as the one before, and its features are those of all of them.
 #[derive(Drop)]
 pub struct Cut {
-    pub(crate) least: Part,
-    pub(crate) larger: Vec<Part>,
+    pub(crate) least: Kept,
+    pub(crate) larger: Vec<Kept>,
 }
 
 impl Model for Cut {
@@ -524,7 +463,7 @@ impl Cut {
         ensures map { (m : Layers) → IsOf m topology → result.map ≡ m }
     {
         Cut {
-            least: Part::of_topology(topology),
+            least: Kept::of_topology(topology),
             larger: Vec::new(alloc),
         }
     }
@@ -536,6 +475,13 @@ impl Cut {
         let least = self.least.copy(alloc)?;
         let larger = copy_parts(alloc, &self.larger)?;
         Ok(Cut { least, larger })
+    }
+
+    // Whether another shard is on the same grid.
+    fn is_on_grid_of(&self, other: &Cut) -> bool
+        ensures { (result ≡ true) ↔ (self.now.grid ≡ other.now.grid) }
+    {
+        on_one_grid(self.least.topology(), other.least.topology())
     }
 
     // One topology of all features.
@@ -555,7 +501,7 @@ impl Cut {
     }
 
     // The topologies, in no order.
-    fn into_parts(self) -> Result<Vec<Part>, OutOfMemory>
+    fn into_parts(self) -> Result<Vec<Kept>, OutOfMemory>
         ensures map { IfOk result (λ v. united_map v.items ≡ self.map) }
         ensures grid { IfOk result (λ v. AreOn self.grid v.items) }
         ensures some { IfOk result (λ v. 0 < length v.items) }
@@ -568,7 +514,7 @@ impl Cut {
 }
 
 /// Puts a part to the end of a list of smaller ones, joined with the last of them where that is near.
-fn put_part(alloc: Global, parts: &mut Vec<Part>, part: Part) -> Result<(), OutOfMemory>
+fn put_part(alloc: Global, parts: &mut Vec<Kept>, part: Kept) -> Result<(), OutOfMemory>
     ensures map { OnOk result (united_map parts.new.items ≡ union (united_map parts.old.items) part.map) }
     ensures grid { (g : Transform) → AreOn g parts.old.items → part.grid ≡ g → OnOk result (AreOn g parts.new.items) }
     ensures some { OnOk result (0 < length parts.new.items) }
@@ -586,14 +532,14 @@ fn put_part(alloc: Global, parts: &mut Vec<Part>, part: Part) -> Result<(), OutO
     Ok(())
 }
 
-fn sort_by_size(parts: &mut Vec<Part>)
+fn sort_by_size(parts: &mut Vec<Kept>)
     ensures { IsPermutation parts.old.items parts.new.items }
 {
     parts.sort_unstable_by_key(|part| part.size);
 }
 
 /// The parts from the least to the largest, those joined whose sizes are near each other.
-fn joined_where_near(alloc: Global, parts: Vec<Part>) -> Result<Vec<Part>, OutOfMemory>
+fn joined_where_near(alloc: Global, parts: Vec<Kept>) -> Result<Vec<Kept>, OutOfMemory>
     ensures map { IfOk result (λ v. united_map v.items ≡ united_map parts.items) }
     ensures grid { (g : Transform) → AreOn g parts.items → IfOk result (λ v. AreOn g v.items) }
     ensures some { 0 < length parts.items → IfOk result (λ v. 0 < length v.items) }
@@ -631,7 +577,7 @@ pub(crate) fn shards_joined_owned(alloc: Global, left: Cut, right: Cut) -> Resul
     ensures map { IfOk result (λ s. s.map ≡ union left.map right.map) }
     ensures other_grid { IsErrOf result OtherGrid ↔ ¬ (left.grid ≡ right.grid) }
 {
-    if !on_one_grid(left.least.topology(), right.least.topology()) {
+    if !left.is_on_grid_of(&right) {
         return Err(JoinFault::OtherGrid);
     }
     let shard = put_together(alloc, left, right)?;
@@ -647,7 +593,7 @@ pub(crate) fn shards_joined(alloc: Global, left: &Cut, right: &Cut) -> Result<Cu
     ensures map { IfOk result (λ s. s.map ≡ union left.now.map right.now.map) }
     ensures other_grid { IsErrOf result OtherGrid ↔ ¬ (left.now.grid ≡ right.now.grid) }
 {
-    if !on_one_grid(left.least.topology(), right.least.topology()) {
+    if !left.is_on_grid_of(right) {
         return Err(JoinFault::OtherGrid);
     }
     let shard = put_together(alloc, left.copied(alloc)?, right.copied(alloc)?)?;

@@ -5,7 +5,7 @@ ghost use Rattle.merging.specs.Laws.{union-Commutes, union-Associates, union-IsI
 
 use crate::canonical::text_of_kept;
 pub use crate::cut::Cut;
-use crate::cut::{Part, shards_joined, shards_joined_owned};
+use crate::cut::{Kept, shards_joined, shards_joined_owned};
 use crate::fault::JoinFault;
 use faults::{Fault, OutOfMemory};
 use grid::transform::Grid;
@@ -30,7 +30,7 @@ fn around(one: Bbox, other: Bbox) -> Bbox {
     ))
 }
 
-fn bbox_of_all(least: &Part, larger: &[Part]) -> Bbox {
+fn bbox_of_all(least: &Kept, larger: &[Kept]) -> Bbox {
     let mut bbox = least.topology().bbox();
     for part in larger {
         bbox = around(bbox, part.topology().bbox());
@@ -77,7 +77,7 @@ impl Shard for Cut {
 
     fn text(&self, alloc: Global) -> Result<Vec<u8>, OutOfMemory> {
         if self.larger.is_empty() {
-            return text_of_kept(alloc, self.least.kept());
+            return text_of_kept(alloc, &self.least);
         }
         self.copied(alloc)?.into_text(alloc)
     }

@@ -3,7 +3,7 @@ ghost use Rattle.std.specs.Prelude.{◌≡◌, ◌<◌, ◌^◌, ◌↔◌, All,
 ghost use Rattle.std.specs.FinMap as map;
 ghost use Rattle.shapes.specs.Fitting.{MapFits};
 ghost use Rattle.shapes.specs.Maps.{Layers};
-ghost use Rattle.topo.specs.OfMap.{IsOf, IsOfSomeMap};
+ghost use Rattle.topo.specs.OfMap.{IsOf};
 ghost use Rattle.topo_io.specs.Canon.{canon};
 ghost use Rattle.topo_io.specs.Means.{Means};
 ghost use Rattle.refine.specs.Edits.{AreEditedTo, AreRefusedAt, IsEditedTo, IsOnGrid};

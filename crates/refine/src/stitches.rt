@@ -2,7 +2,6 @@
 //! together, and no memory is taken.
 ghost use Rattle.std.specs.Prelude.{◌≡◌, ◌<◌, ◌+◌, ◌++◌, ◌↔◌, List, false, true, length, drop, take};
 ghost use Rattle.grid.specs.declared.pos.Pos.{Pos as place};
-ghost use Rattle.lines.specs.declared.line.Line as the_line;
 ghost use Rattle.lines.specs.declared.ring.Ring as the_ring;
 ghost use Rattle.shapes.specs.declared.shape.Shape as shapes;
 ghost use Rattle.chains.specs.Table.{same_list};
@@ -39,28 +38,44 @@ fn goes_along(topology: &Topology, used: &[ArcRef], first: &[Pos], second: &[Pos
     way.is_over()
 }
 
-fn line_stitches(topology: &Topology, used: &[ArcRef], line: &Line) -> bool
-    requires { (l : the_line.Line) × IsLineOf topology.now.arcs.arcs l used.now }
-    ensures { (result ≡ true) ↔ IsLineOf topology.now.arcs.arcs line.now used.now }
-{
-    goes_along(topology, used, line.positions(), &[])
+/// What a list of used arcs may stitch to, or a list of such lists.
+trait Stitched {
+    type Used;
+
+    ghost stitches_by: { List (List place) → Self → Self.Used → Type 0 };
+
+    /// Whether the arcs stitch to just this, where they stitch to anything.
+    fn stitches(&self, topology: &Topology, used: &Self::Used) -> bool
+        requires { (s : Self) × stitches_by topology.now.arcs.arcs s used.now }
+        ensures { (result ≡ true) ↔ stitches_by topology.now.arcs.arcs self.now used.now };
 }
 
-fn lines_stitch(topology: &Topology, lists: &[Items<ArcRef>], lines: &[Line]) -> bool
-    requires { (ls : List the_line.Line) × Pairwise (IsLineOf topology.now.arcs.arcs) ls lists.now }
-    ensures { (result ≡ true) ↔ Pairwise (IsLineOf topology.now.arcs.arcs) lines.now lists.now }
+/// Whether lists stitch each to the one at its place.
+fn all_stitch<S: Stitched>(topology: &Topology, lists: &[S::Used], items: &[S]) -> bool
+    requires { (ss : List S) × Pairwise (S.stitches_by topology.now.arcs.arcs) ss lists.now }
+    ensures { (result ≡ true) ↔ Pairwise (S.stitches_by topology.now.arcs.arcs) items.now lists.now }
 {
     let mut left = lists;
-    for line in lines {
+    for item in items {
         let Some((used, others)) = left.split_first() else {
             return false;
         };
-        if !line_stitches(topology, used.as_slice(), line) {
+        if !item.stitches(topology, used) {
             return false;
         }
         left = others;
     }
     left.is_empty()
+}
+
+impl Stitched for Line {
+    type Used = Items<ArcRef>;
+
+    ghost stitches_by = { IsLineOf };
+
+    fn stitches(&self, topology: &Topology, used: &Items<ArcRef>) -> bool {
+        goes_along(topology, used.as_slice(), self.positions(), &[])
+    }
 }
 
 /// Whether used arcs go round vertices, begun at one of them, and back to it.
@@ -89,42 +104,24 @@ fn ring_stitches(topology: &Topology, used: &[ArcRef], ring: &Ring) -> bool
     false
 }
 
-fn rings_stitch(topology: &Topology, lists: &[Items<ArcRef>], rings: &[Ring]) -> bool
-    requires { (rs : List the_ring.Ring) × Pairwise (IsRingOf topology.now.arcs.arcs) rs lists.now }
-    ensures { (result ≡ true) ↔ Pairwise (IsRingOf topology.now.arcs.arcs) rings.now lists.now }
-{
-    let mut left = lists;
-    for ring in rings {
-        let Some((used, others)) = left.split_first() else {
-            return false;
-        };
-        if !ring_stitches(topology, used.as_slice(), ring) {
-            return false;
-        }
-        left = others;
+impl Stitched for Ring {
+    type Used = Items<ArcRef>;
+
+    ghost stitches_by = { IsRingOf };
+
+    fn stitches(&self, topology: &Topology, used: &Items<ArcRef>) -> bool {
+        ring_stitches(topology, used.as_slice(), self)
     }
-    left.is_empty()
 }
 
-fn polygons_stitch(
-    topology: &Topology,
-    lists: &[Items<Items<ArcRef>>],
-    polygons: &[Items<Ring>],
-) -> bool
-    requires { (ps : List (List the_ring.Ring)) × Pairwise (Pairwise (IsRingOf topology.now.arcs.arcs)) ps lists.now }
-    ensures { (result ≡ true) ↔ Pairwise (Pairwise (IsRingOf topology.now.arcs.arcs)) polygons.now lists.now }
-{
-    let mut left = lists;
-    for rings in polygons {
-        let Some((used, others)) = left.split_first() else {
-            return false;
-        };
-        if !rings_stitch(topology, used.as_slice(), rings.as_slice()) {
-            return false;
-        }
-        left = others;
+impl Stitched for Items<Ring> {
+    type Used = Items<Items<ArcRef>>;
+
+    ghost stitches_by = { λ arcs. Pairwise (IsRingOf arcs) };
+
+    fn stitches(&self, topology: &Topology, used: &Items<Items<ArcRef>>) -> bool {
+        all_stitch(topology, used.as_slice(), self.as_slice())
     }
-    left.is_empty()
 }
 
 /// Whether a body stitches to a shape.
@@ -136,15 +133,15 @@ pub(crate) fn stitches_to(topology: &Topology, body: &Body, shape: &Shape) -> bo
         (Body::Null, Shape::Null) => true,
         (Body::Point(place), Shape::Point(other)) => is_same(place, other),
         (Body::MultiPoint(places), Shape::MultiPoint(others)) => are_same(places, others),
-        (Body::Line(used), Shape::Line(line)) => line_stitches(topology, used.as_slice(), line),
+        (Body::Line(used), Shape::Line(line)) => line.stitches(topology, used),
         (Body::MultiLine(lists), Shape::MultiLine(lines)) => {
-            lines_stitch(topology, lists.as_slice(), lines.as_slice())
+            all_stitch(topology, lists.as_slice(), lines.as_slice())
         }
         (Body::Polygon(lists), Shape::Polygon(rings)) => {
-            rings_stitch(topology, lists.as_slice(), rings.as_slice())
+            all_stitch(topology, lists.as_slice(), rings.as_slice())
         }
         (Body::MultiPolygon(lists), Shape::MultiPolygon(polygons)) => {
-            polygons_stitch(topology, lists.as_slice(), polygons.as_slice())
+            all_stitch(topology, lists.as_slice(), polygons.as_slice())
         }
         _ => false,
     }

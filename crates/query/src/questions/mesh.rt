@@ -1,14 +1,9 @@
 //! The borders between features: lines over the segments that a filter selects.
-ghost use Rattle.std.specs.Prelude.{◌≡◌, ◌↔◌, ◌⊎◌, IfOk, OnOk, Err};
+ghost use Rattle.std.specs.Prelude.{◌≡◌, ◌↔◌, IfOk, Err};
 ghost use Rattle.std.specs.Fn.{FnReturnsAtPair};
 ghost use Rattle.std.specs.Option.{option_map};
-ghost use Rattle.grid.specs.declared.pos.Pos.{Pos};
 ghost use Rattle.shapes.specs.declared.feature.Feature.{Feature};
-ghost use Rattle.chains.specs.Joined.{AmongSegments};
-ghost use Rattle.chains.specs.declared.segment.Segment.{Segment};
 ghost use Rattle.topo.specs.ItsMap.{ForItsMap};
-ghost use Rattle.topo.specs.Points.{arc_at};
-ghost use Rattle.chains.specs.Along.{Joins, SidesOf, HasArcs};
 ghost use Rattle.query.specs.Mesh.{InScope, IsMissing, MayAskWithin, AreBorders};
 ghost use Rattle.query.specs.declared.fault.QueryFault.TheVariants.{NoLayer as MissingLayer};
 

@@ -5,16 +5,14 @@ use Rattle.refine.proofs.cut.all_united.Goals as goal
 
 pub loop-part-init : goal.loop-part-init
 loop-part-init c = record {
-  grid = λ i. (c.into_kept-whole.ensures i).grid;
-  map = none_joined c.args.first c.into_kept-whole.result c.args.larger.items (into_iter_items c.into_iter-part-iterator.result) c.into_kept-whole.ensures
-      c.into_iter-part-iterator.ensures.into_iter_gives.0;
+  map = none_joined c.args.first c.args.larger.items (into_iter_items c.into_iter-part-iterator.result) c.into_iter-part-iterator.ensures.into_iter_gives.0;
 }
 
 pub loop-part-preserved : goal.loop-part-preserved
 loop-part-preserved c = record {
   grid = c.in_ok-whole.ensures.grid ∙ c.loop-part.invariant.grid;
-  map = one_more_joined c.loop-part.whole c.in_ok-whole.whole c.in-Some.part c.into_kept.result (into_iter_items c.loop-part.part-iterator) (into_iter_items c.next.new.self)
-      c.in-Some.ensures.steps.0 c.into_kept.ensures c.in_ok-whole.ensures.map
+  map = one_more_joined c.loop-part.whole c.in_ok-whole.whole c.in-Some.part (into_iter_items c.loop-part.part-iterator) (into_iter_items c.next.new.self)
+      c.in-Some.ensures.steps.0 c.in_ok-whole.ensures.map
       ∙ c.loop-part.invariant.map;
 }
 

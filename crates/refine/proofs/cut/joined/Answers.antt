@@ -1,8 +1,7 @@
-use Rattle.std.proofs.Common.{◌≡◌, ◌∙◌, rules, sym}
-use Rattle.merging.proofs.PlanLemmas.{same_grid_true}
+use Rattle.std.proofs.Common.{rules}
 use Rattle.refine.proofs.cut.joined.Goals as goal
 
 pub returns-clause-other_grid : goal.returns-clause-other_grid
 returns-clause-other_grid c =
-    let same : c.args.left.now.grid ≡ c.args.right.now.grid = same_grid_true c.args.left.now.grid c.args.right.now.grid (sym c.on_one_grid.ensures ∙ c.if-not-on_one_grid.false) in
+    let same = c.on_one_grid.ensures.0 c.if-not-on_one_grid.false in
     (search rules, λ other. absurd (other same))

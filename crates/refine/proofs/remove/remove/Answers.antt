@@ -9,31 +9,25 @@ pub from_parts-topology-requires : goal.from_parts-topology-requires
 from_parts-topology-requires c =
     let (m, h) = c.arcs.ensures.of_map in
     let made =
-    made_of c.args.topology.now c.args.removed.now c.in_ok-left.left.items c.deref.result.now c.deref-2.result.now c.in_ok-kept.kept.items c.deref-3.result.now
-    c.in_ok-ends.ends.items c.deref-4.result.now c.arcs.result.now c.arcs-2.result.now c.in_ok-joined.joined c.in_ok-left.ensures c.arcs.ensures.arcs c.deref.ensures.value
-    c.in_ok-kept.ensures c.deref-2.ensures.value c.in_ok-ends.ensures c.arcs-2.ensures.arcs c.deref-3.ensures.value c.deref-4.ensures.value c.in_ok-joined.ensures.refined in (
+    made_of c.in_ok-left.ensures c.arcs.ensures.arcs c.deref.ensures.value c.in_ok-kept.ensures c.deref-2.ensures.value c.in_ok-ends.ensures c.arcs-2.ensures.arcs c.deref-3.ensures.value
+    c.deref-4.ensures.value c.in_ok-joined.ensures.refined in (
       less m c.args.removed.now,
-      parts_made c.args.topology.now c.args.removed.now (all_lent c.in_ok-left.left.items) c.in_ok-kept.kept.items c.in_ok-ends.ends.items c.in_ok-joined.joined made m h
-          c.into_parts-arcs.result.0 c.in_ok-layers.layers.items c.into_parts-arcs.ensures.arcs
+      parts_made made m h c.into_parts-arcs.result.0 c.in_ok-layers.layers.items c.into_parts-arcs.ensures.arcs
           (c.in_ok-layers.ensures ∙ ap (λ l. map (layer_rejoined c.in_ok-joined.joined.arcs.arcs (starts_by c.in_ok-joined.joined.pieces)) (all_lent l)) c.deref-5.ensures.value),
     )
 
 pub returns-clause-of_map : goal.returns-clause-of_map
 returns-clause-of_map c = λ m h.
     let made =
-    made_of c.args.topology.now c.args.removed.now c.in_ok-left.left.items c.deref.result.now c.deref-2.result.now c.in_ok-kept.kept.items c.deref-3.result.now
-    c.in_ok-ends.ends.items c.deref-4.result.now c.arcs.result.now c.arcs-2.result.now c.in_ok-joined.joined c.in_ok-left.ensures c.arcs.ensures.arcs c.deref.ensures.value
-    c.in_ok-kept.ensures c.deref-2.ensures.value c.in_ok-ends.ensures c.arcs-2.ensures.arcs c.deref-3.ensures.value c.deref-4.ensures.value c.in_ok-joined.ensures.refined in
-    c.from_parts-topology.ensures.of_map (less m c.args.removed.now) (parts_made c.args.topology.now c.args.removed.now (all_lent c.in_ok-left.left.items) c.in_ok-kept.kept.items c.in_ok-ends.ends.items c.in_ok-joined.joined made m h
-    c.into_parts-arcs.result.0 c.in_ok-layers.layers.items c.into_parts-arcs.ensures.arcs
+    made_of c.in_ok-left.ensures c.arcs.ensures.arcs c.deref.ensures.value c.in_ok-kept.ensures c.deref-2.ensures.value c.in_ok-ends.ensures c.arcs-2.ensures.arcs c.deref-3.ensures.value
+    c.deref-4.ensures.value c.in_ok-joined.ensures.refined in
+    c.from_parts-topology.ensures.of_map (less m c.args.removed.now) (parts_made made m h c.into_parts-arcs.result.0 c.in_ok-layers.layers.items c.into_parts-arcs.ensures.arcs
     (c.in_ok-layers.ensures ∙ ap (λ l. map (layer_rejoined c.in_ok-joined.joined.arcs.arcs (starts_by c.in_ok-joined.joined.pieces)) (all_lent l)) c.deref-5.ensures.value))
 
 pub returns-clause-pieces : goal.returns-clause-pieces
 returns-clause-pieces c = λ m h.
     let made =
-    made_of c.args.topology.now c.args.removed.now c.in_ok-left.left.items c.deref.result.now c.deref-2.result.now c.in_ok-kept.kept.items c.deref-3.result.now
-    c.in_ok-ends.ends.items c.deref-4.result.now c.arcs.result.now c.arcs-2.result.now c.in_ok-joined.joined c.in_ok-left.ensures c.arcs.ensures.arcs c.deref.ensures.value
-    c.in_ok-kept.ensures c.deref-2.ensures.value c.in_ok-ends.ensures c.arcs-2.ensures.arcs c.deref-3.ensures.value c.deref-4.ensures.value c.in_ok-joined.ensures.refined in
-    pieces_made c.args.topology.now c.args.removed.now (all_lent c.in_ok-left.left.items) c.in_ok-kept.kept.items c.in_ok-ends.ends.items c.in_ok-joined.joined made m h
-    c.from_parts-topology.result.arcs.arcs c.into_parts-arcs.result.1.items (ap (λ a. a.arcs) (c.from_parts-topology.ensures.arcs ∙ c.into_parts-arcs.ensures.arcs))
+    made_of c.in_ok-left.ensures c.arcs.ensures.arcs c.deref.ensures.value c.in_ok-kept.ensures c.deref-2.ensures.value c.in_ok-ends.ensures c.arcs-2.ensures.arcs c.deref-3.ensures.value
+    c.deref-4.ensures.value c.in_ok-joined.ensures.refined in
+    pieces_made made m h c.from_parts-topology.result.arcs.arcs c.into_parts-arcs.result.1.items (ap (λ a. a.arcs) (c.from_parts-topology.ensures.arcs ∙ c.into_parts-arcs.ensures.arcs))
     c.into_parts-arcs.ensures.pieces

@@ -1,16 +1,14 @@
 use Rattle.std.proofs.Common.{subst, sym}
 use Rattle.theory.specs.Lists.{Pairwise}
-use Rattle.topo.specs.Features.{IsLineOf, IsRingOf}
+use Rattle.topo.specs.Features.{IsRingOf}
 use Rattle.refine.proofs.Stitching.{line_shape, point_told, points_told, polygons_shape}
 use Rattle.refine.proofs.stitches.stitches_to.Goals as goal
 
-pub line_stitches-requires : goal.line_stitches-requires
-line_stitches-requires c =
-    let t = line_shape c.args.topology.now.arcs.arcs c.args.body.now c.in-Line-Line.used c.in-Line-Line.is-0 c.requires in
-    (t.0, subst (IsLineOf c.args.topology.now.arcs.arcs t.0) (sym c.as_slice.ensures) t.1)
+pub stitches-requires : goal.stitches-requires
+stitches-requires c = line_shape c.args.topology.now.arcs.arcs c.args.body.now c.in-Line-Line.used c.in-Line-Line.is-0 c.requires
 
-pub polygons_stitch-requires : goal.polygons_stitch-requires
-polygons_stitch-requires c =
+pub all_stitch-in-MultiPolygon-MultiPolygon-requires : goal.all_stitch-in-MultiPolygon-MultiPolygon-requires
+all_stitch-in-MultiPolygon-MultiPolygon-requires c =
     let t = polygons_shape c.args.topology.now.arcs.arcs c.args.body.now c.in-MultiPolygon-MultiPolygon.lists c.in-MultiPolygon-MultiPolygon.is-0 c.requires in
     (t.0, subst (Pairwise (Pairwise (IsRingOf c.args.topology.now.arcs.arcs)) t.0) (sym c.as_slice-in-MultiPolygon-MultiPolygon.ensures) t.1)
 

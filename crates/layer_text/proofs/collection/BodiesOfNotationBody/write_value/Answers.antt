@@ -5,21 +5,16 @@ use Rattle.layer_text.specs.ByArcs.{line_along, ring_along, body_text}
 use Rattle.writing.proofs.Same.{whole_as, part_as}
 use Rattle.layer_text.proofs.collection.BodiesOfNotationBody.write_value.Goals as goal
 
-pub returns-in-MultiPoint-clause-whole : goal.returns-in-MultiPoint-clause-whole
-returns-in-MultiPoint-clause-whole g c =
+pub returns-in-MultiPoint : goal.returns-in-MultiPoint
+returns-in-MultiPoint g c =
     let t = c.args.self.now.0.now in
-    whole_as c.write-in-MultiPoint.result (g.W.Sink.seen c.args.sink.now) (g.W.Sink.seen c.write-in-MultiPoint.new.sink) _ _
-    (ap (λ on. geometry_text (list_text (place_text on) c.as_slice.result.now) (codes "MultiPoint")) c.grid-grid.ensures
-    ∙ ap (λ qs. geometry_text (list_text (place_text t.grid) qs) (codes "MultiPoint")) c.as_slice.ensures ∙ sym (ap (body_text t) c.in-MultiPoint.is))
-    c.write-in-MultiPoint.ensures.whole
-
-pub returns-in-MultiPoint-clause-part : goal.returns-in-MultiPoint-clause-part
-returns-in-MultiPoint-clause-part g c =
-    let t = c.args.self.now.0.now in
-    part_as c.write-in-MultiPoint.result (g.W.Sink.seen c.args.sink.now) (g.W.Sink.seen c.write-in-MultiPoint.new.sink) _ _
-    (ap (λ on. geometry_text (list_text (place_text on) c.as_slice.result.now) (codes "MultiPoint")) c.grid-grid.ensures
-    ∙ ap (λ qs. geometry_text (list_text (place_text t.grid) qs) (codes "MultiPoint")) c.as_slice.ensures ∙ sym (ap (body_text t) c.in-MultiPoint.is))
-    c.write-in-MultiPoint.ensures.part
+    let same =
+    ap (λ on. geometry_text (list_text (place_text on) c.as_slice.result.now) (codes "MultiPoint")) c.grid-grid.ensures
+    ∙ ap (λ qs. geometry_text (list_text (place_text t.grid) qs) (codes "MultiPoint")) c.as_slice.ensures ∙ sym (ap (body_text t) c.in-MultiPoint.is) in
+    record {
+      whole = whole_as c.write-in-MultiPoint.result (g.W.Sink.seen c.args.sink.now) (g.W.Sink.seen c.write-in-MultiPoint.new.sink) _ _ same c.write-in-MultiPoint.ensures.whole;
+      part = part_as c.write-in-MultiPoint.result (g.W.Sink.seen c.args.sink.now) (g.W.Sink.seen c.write-in-MultiPoint.new.sink) _ _ same c.write-in-MultiPoint.ensures.part;
+    }
 
 pub returns-in-MultiLine-clause-whole : goal.returns-in-MultiLine-clause-whole
 returns-in-MultiLine-clause-whole g c =

@@ -15,10 +15,10 @@ features-requires c =
 pub returns-in_err-features-clause-layer : goal.returns-in_err-features-clause-layer
 returns-in_err-features-clause-layer c = λ m of. layer_stands c.from_residual.result _ c.from_residual.ensures.1 (named_features m c.args.topology.now of c.args.layer.now c.in-Some.geometries.now c.in-Some.ensures.found).0
 
-pub returns-clause-layer : goal.returns-clause-layer
-returns-clause-layer c = λ m of. layer_found _ _ (named_features m c.args.topology.now of c.args.layer.now c.in-Some.geometries.now c.in-Some.ensures.found).0
-
-pub returns-clause-features : goal.returns-clause-features
-returns-clause-features c = λ m of.
-    c.in_ok-features.ensures (set.items (features_at m c.args.layer.now))
-    (geometries_of m c.args.topology.now c.args.layer.now c.in-Some.geometries.now of c.in-Some.ensures.found)
+pub returns : goal.returns
+returns c = record {
+  layer = λ m of. layer_found _ _ (named_features m c.args.topology.now of c.args.layer.now c.in-Some.geometries.now c.in-Some.ensures.found).0;
+  features = λ m of.
+      c.in_ok-features.ensures (set.items (features_at m c.args.layer.now))
+      (geometries_of m c.args.topology.now c.args.layer.now c.in-Some.geometries.now of c.in-Some.ensures.found);
+}

@@ -1,5 +1,5 @@
-use Rattle.std.proofs.Common.{◌≡◌, ◌++◌, ◌∙◌, ap, drop, false, length, rules, sym, true}
-use Rattle.topo.specs.Walked.{behind, run_of}
+use Rattle.std.proofs.Common.{◌≡◌, ◌++◌, ◌∙◌, ap, false, length, rules, sym, true}
+use Rattle.topo.specs.Walked.{behind}
 use Rattle.refine.specs.Ways.{part_left, way_left}
 use Rattle.refine.proofs.Ways.{arc_parts, arc_passed}
 use Rattle.refine.proofs.way.Way.passes.Goals as goal

@@ -1,7 +1,7 @@
 use Rattle.std.proofs.Common.{sym, subst}
 use Rattle.layer_laws.specs.ItsMap.{its_map_is}
 use Rattle.refine.specs.OnGrid.{IsKeptFor}
-use Rattle.refine.proofs.cut.Kept.of_topology.Goals as goal
+use Rattle.refine.proofs.cut.Kept.of_size.Goals as goal
 
 pub invariant_of-result : goal.invariant_of-result
 invariant_of-result c = ((c.requires.of_map.0, ∣ c.requires.of_map.1 ∣₁), tt)
