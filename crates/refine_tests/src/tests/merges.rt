@@ -28,8 +28,7 @@ fn merged_topology(
     list: &[&str],
     plan: &Plan,
 ) -> Result<Result<Topology, MergeFault>, Fail> {
-    let list = texts(alloc, list)?;
-    Ok(merge_topologies(alloc, &list, plan))
+    Ok(merge_topologies(alloc, texts(alloc, list)?, plan))
 }
 
 /// Merges the texts, and compares the merged text, and that of the merged topology.
