@@ -4,10 +4,10 @@ use Rattle.query.specs.Selecting.{Decided}
 use Rattle.query.proofs.Choosing.{known_at, known_more}
 use Rattle.query.proofs.selecting.is_chosen.Goals as goal
 
-pub returns-in-Some-2 : goal.returns-in-Some-2
-returns-in-Some-2 g c = record {
-  decided = subst (λ o. Decided (FnReturnsAtPair g.F.Fn c.args.filter.now) c.args.members.now o c.in-Some-2.says.now) (sym c.in-Some.is)
-      (known_at (FnReturnsAtPair g.F.Fn c.args.filter.now) c.args.members.now c.args.known.now c.in-Some.asked c.in-Some-2.says.now c.requires.known (sym c.in-Some-2.ensures.value));
+pub returns-in-Some-get : goal.returns-in-Some-get
+returns-in-Some-get g c = record {
+  decided = subst (λ o. Decided (FnReturnsAtPair g.F.Fn c.args.filter.now) c.args.members.now o c.in-Some-get.says.now) (sym c.in-Some.is)
+      (known_at (FnReturnsAtPair g.F.Fn c.args.filter.now) c.args.members.now c.args.known.now c.in-Some.asked c.in-Some-get.says.now c.requires.known (sym c.in-Some-get.ensures.value));
   known = c.requires.known;
 }
 
