@@ -7,8 +7,8 @@ use Rattle.refine.proofs.stitches.stitches_to.Goals as goal
 pub stitches-requires : goal.stitches-requires
 stitches-requires c = line_shape c.args.topology.now.arcs.arcs c.args.body.now c.in-Line-Line.used c.in-Line-Line.is-0 c.requires
 
-pub all_stitch-in-MultiPolygon-MultiPolygon-requires : goal.all_stitch-in-MultiPolygon-MultiPolygon-requires
-all_stitch-in-MultiPolygon-MultiPolygon-requires c =
+pub all_stitch-requires-in-MultiPolygon-MultiPolygon : goal.all_stitch-requires-in-MultiPolygon-MultiPolygon
+all_stitch-requires-in-MultiPolygon-MultiPolygon c =
     let t = polygons_shape c.args.topology.now.arcs.arcs c.args.body.now c.in-MultiPolygon-MultiPolygon.lists c.in-MultiPolygon-MultiPolygon.is-0 c.requires in
     (t.0, subst (Pairwise (Pairwise (IsRingOf c.args.topology.now.arcs.arcs)) t.0) (sym c.as_slice-in-MultiPolygon-MultiPolygon.ensures) t.1)
 
