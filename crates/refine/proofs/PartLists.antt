@@ -104,10 +104,10 @@ pub record ArePutTogether (l r p : MapOnGrid) (rest : List MapOnGrid) : Type 0 w
   pub on : AreOn p.grid rest
   pub map : united_map (p ∷ rest) ≡ union l.map r.map
 
-pub put_together : {parts others all made rest : List MapOnGrid} {p l r : MapOnGrid} → l.grid ≡ r.grid → united_map parts ≡ l.map → AreOn l.grid parts → 0 < length parts →
+pub put_together : (parts others made : List MapOnGrid) {all rest : List MapOnGrid} {p l r : MapOnGrid} → l.grid ≡ r.grid → united_map parts ≡ l.map → AreOn l.grid parts → 0 < length parts →
     united_map others ≡ r.map → AreOn r.grid others → all ≡ parts ++ others → united_map made ≡ united_map all → ((g : Transform) → AreOn g all → AreOn g made) →
     (0 < length all → 0 < length made) → p ≡ get_or made 0 p → rest ≡ remove made 0 → ArePutTogether l r p rest
-put_together {parts = parts} {others = others} {all = all} {made = made} {rest = rest} {p = p} {l = l} {r = r} one l_map l_on l_some r_map r_on e m on some is out =
+put_together parts others made {all = all} {rest = rest} {p = p} {l = l} {r = r} one l_map l_on l_some r_map r_on e m on some is out =
     let many : 0 < length made = some (omega (arith, ap length e, length-append parts others, l_some)) in
     let split : made ≡ p ∷ rest = first_out made rest p many is out in
     let all_on : AreOn l.grid all = subst (AreOn l.grid) (sym e) (All-append (λ q. q.grid ≡ l.grid) parts others l_on (subst (λ g. AreOn g others) (sym one) r_on)) in

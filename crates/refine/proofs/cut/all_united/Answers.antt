@@ -1,10 +1,11 @@
-use Rattle.std.proofs.Common.{◌∙◌, sym}
+use Rattle.std.proofs.Common.{◌∙◌, refl, sym}
 use Rattle.std.specs.Vec.Iter.{into_iter_items}
 use Rattle.refine.proofs.PartLists.{all_joined, none_joined, one_more_joined}
 use Rattle.refine.proofs.cut.all_united.Goals as goal
 
 pub loop-part-init : goal.loop-part-init
 loop-part-init c = record {
+  grid = refl;
   map = none_joined c.args.first c.args.larger.items (into_iter_items c.into_iter-part-iterator.result) c.into_iter-part-iterator.ensures.into_iter_gives.0;
 }
 
