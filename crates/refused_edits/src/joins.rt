@@ -124,26 +124,35 @@ fn is_to_the_right(plan: &Plan) -> bool {
     }
 }
 
-fn judge_plan<F: Fn(&Plan) -> bool>(made: Result<Option<Plan>, OutOfMemory>, is_right: F) -> Answer
-    requires { F.IsAlwaysCallable is_right }
-{
+/// The plan that was made; or what is answered where none was.
+fn plan_of(made: Result<Option<Plan>, OutOfMemory>) -> Result<Plan, Answer> {
     match made {
-        Ok(Some(plan)) => Answer::of(is_right(&plan)),
-        Ok(None) => Answer::Wrong,
-        Err(OutOfMemory) => Answer::Wanting,
+        Ok(Some(plan)) => Ok(plan),
+        Ok(None) => Err(Answer::Wrong),
+        Err(OutOfMemory) => Err(Answer::Wanting),
     }
 }
 
 fn left(alloc: Global, _: &Squares) -> Answer {
-    judge_plan(Plan::left(alloc, TEXTS.len()), is_to_the_left)
+    match plan_of(Plan::left(alloc, TEXTS.len())) {
+        Ok(plan) => Answer::of(is_to_the_left(&plan)),
+        Err(answer) => answer,
+    }
+}
+
+fn grouped_to_the_right(made: Result<Option<Plan>, OutOfMemory>) -> Answer {
+    match plan_of(made) {
+        Ok(plan) => Answer::of(is_to_the_right(&plan)),
+        Err(answer) => answer,
+    }
 }
 
 fn right(alloc: Global, _: &Squares) -> Answer {
-    judge_plan(Plan::right(alloc, TEXTS.len()), is_to_the_right)
+    grouped_to_the_right(Plan::right(alloc, TEXTS.len()))
 }
 
 fn halves(alloc: Global, _: &Squares) -> Answer {
-    judge_plan(Plan::halves(alloc, TEXTS.len()), is_to_the_right)
+    grouped_to_the_right(Plan::halves(alloc, TEXTS.len()))
 }
 
 fn merge(alloc: Global, squares: &Squares) -> Answer {
