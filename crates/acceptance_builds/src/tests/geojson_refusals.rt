@@ -93,13 +93,8 @@ const NUMBERS: Refusals = rows![
     "the least of i64", r#"{"type":"Point","coordinates":[-9223372036854775808,0]}"#, "6 OutOfRange $/coordinates/0";
 ];
 
-/// Grids, and texts that are refused on them: coordinates off the grid or past it, and what is refused on
-/// the grid of whole numbers.
-const TABLES: &[(&str, Refusals)] = rows![
-    "1,1,0,0", POINTS;
-    "1,1,0,0", LINES;
-    "1,1,0,0", FEATURES;
-    "1,1,0,0", NUMBERS;
+/// Grids, and texts with coordinates off the grid or past it.
+const GRIDS: &[(&str, Refusals)] = rows![
     "10,10,0,0", rows!["off the grid", r#"{"type":"Point","coordinates":[5,10]}"#, "7 OffGrid $/coordinates/0";];
     "1000000,1,0,0", rows!["past the absolute numbers", r#"{"type":"Point","coordinates":[9007199255000000,0]}"#, "6 OutOfRange $/coordinates/0";];
     "8192,1,0,0", rows!["one past the absolute numbers", r#"{"type":"Point","coordinates":[9007199254740992,0]}"#, "6 OutOfRange $/coordinates/0";];
@@ -117,9 +112,32 @@ fn assert_rows(alloc: Global, grid: &str, rows: Refusals) -> Result<(), Fail> {
     Ok(())
 }
 
+/// The grid of whole numbers.
+const WHOLE: &str = "1,1,0,0";
+
 #[test]
-fn refusals(rt: HostRuntime) -> Result<(), Fail> {
-    for (grid, rows) in TABLES {
+fn points(rt: HostRuntime) -> Result<(), Fail> {
+    assert_rows(rt.alloc(), WHOLE, POINTS)
+}
+
+#[test]
+fn lines(rt: HostRuntime) -> Result<(), Fail> {
+    assert_rows(rt.alloc(), WHOLE, LINES)
+}
+
+#[test]
+fn features(rt: HostRuntime) -> Result<(), Fail> {
+    assert_rows(rt.alloc(), WHOLE, FEATURES)
+}
+
+#[test]
+fn numbers(rt: HostRuntime) -> Result<(), Fail> {
+    assert_rows(rt.alloc(), WHOLE, NUMBERS)
+}
+
+#[test]
+fn grids(rt: HostRuntime) -> Result<(), Fail> {
+    for (grid, rows) in GRIDS {
         assert_rows(rt.alloc(), *grid, *rows)?;
     }
     Ok(())
