@@ -149,6 +149,15 @@ kept_clash v kept all keeps c = record {
   differ = c.differ;
 }
 
+-- ends of which some that stand twice are left out
+pub ends_alike : (g : Geometry Pos) (ends fewer : List Pos) (all : List Visit) → HaveSame fewer ends → AreVisitsOf ends all g → AreVisitsOf fewer all g
+ends_alike g ends fewer all s are = record {
+  ends_all = λ v h. (s.members v).1 (are.ends_all v h);
+  ends_only = λ v h. are.ends_only v ((s.members v).0 h);
+  pairs_all = are.pairs_all;
+  pairs_only = are.pairs_only;
+}
+
 -- sorted by vertex, looked through, put behind the ends and sorted
 pub junctions_kept : (g : Geometry Pos) (ends kept sorted : List Pos) (all visits ordered given : List Visit) → KeepsClashes visits all →
     AreVisitsOf ends all g → IsPermutation visits ordered →

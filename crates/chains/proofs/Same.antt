@@ -1,4 +1,4 @@
--- Lists in which the same visits stand.
+-- Lists in which the same stand.
 use Rattle.std.proofs.Common.{◌≡◌, ℕ, ◌<◌, true, List, [], ◌∷◌, ◌++◌, inl, inr, sym, subst, length, get_or}
 use Rattle.theory.specs.Lists.{Has}
 use Rattle.theory.proofs.Lists.{Has-append, Has-append_left, Has-append_right}
@@ -7,20 +7,20 @@ use Rattle.chains.specs.declared.visits.Visit.{Visit}
 use Rattle.lines.proofs.SortedLists.{has_from_contains}
 use Rattle.chains.proofs.Clashes.{visit_true}
 
-pub same_refl : (a : List Visit) → HaveSame a a
+pub same_refl : {A : Type 0} (a : List A) → HaveSame a a
 same_refl a = record { members = λ w. (λ h. h, λ h. h) }
 
-pub same_sym : {a b : List Visit} → HaveSame a b → HaveSame b a
+pub same_sym : {A : Type 0} {a b : List A} → HaveSame a b → HaveSame b a
 same_sym s = record { members = λ w. ((s.members w).1, (s.members w).0) }
 
-pub same_trans : {a b c : List Visit} → HaveSame a b → HaveSame b c → HaveSame a c
+pub same_trans : {A : Type 0} {a b c : List A} → HaveSame a b → HaveSame b c → HaveSame a c
 same_trans s t = record { members = λ w. (λ h. (t.members w).0 ((s.members w).0 h), λ h. (s.members w).1 ((t.members w).1 h)) }
 
 -- equal lists
-pub same_equal : {a b : List Visit} → a ≡ b → HaveSame a b
+pub same_equal : {A : Type 0} {a b : List A} → a ≡ b → HaveSame a b
 same_equal {a = a} e = subst (HaveSame a) e (same_refl a)
 
-has_before : {a b : List Visit} (c : List Visit) → HaveSame a b → (w : Visit) → Has w (a ++ c) → Has w (b ++ c)
+has_before : {A : Type 0} {a b : List A} (c : List A) → HaveSame a b → (w : A) → Has w (a ++ c) → Has w (b ++ c)
 has_before {a = a} {b = b} c s w h =
     elim (Has-append w a c h) [
       | inl k ↦ Has-append_left w b c ((s.members w).0 k)
@@ -28,10 +28,10 @@ has_before {a = a} {b = b} c s w h =
     ]
 
 -- the same list behind both
-pub same_before : {a b : List Visit} (c : List Visit) → HaveSame a b → HaveSame (a ++ c) (b ++ c)
+pub same_before : {A : Type 0} {a b : List A} (c : List A) → HaveSame a b → HaveSame (a ++ c) (b ++ c)
 same_before c s = record { members = λ w. (has_before c s w, has_before c (same_sym s) w) }
 
-again : (w : Visit) (a : List Visit) → Has w a → (v : Visit) → Has v (a ++ w ∷ []) → Has v a
+again : {A : Type 0} (w : A) (a : List A) → Has w a → (v : A) → Has v (a ++ w ∷ []) → Has v a
 again w a h v k =
     elim (Has-append v a (w ∷ []) k) [
       | inl m ↦ m
@@ -39,14 +39,17 @@ again w a h v k =
       | inr (inr m) ↦ absurd m
     ]
 
--- a visit that stands in the list already
-pub same_again : (w : Visit) (a : List Visit) → Has w a → HaveSame a (a ++ w ∷ [])
+-- one that stands in the list already
+pub same_again : {A : Type 0} (w : A) (a : List A) → Has w a → HaveSame a (a ++ w ∷ [])
 same_again w a h = record { members = λ v. (Has-append_left v a (w ∷ []), again w a h v) }
 
--- an equal visit stands at a place of the list
+-- an equal one stands at a place of the list
+pub same_at : {A : Type 0} (w v : A) (a : List A) (k : ℕ) → k < length a → v ≡ get_or a k v → v ≡ w → HaveSame a (a ++ w ∷ [])
+same_at w v a k h e t = same_again w a (subst (λ u. Has u a) t (has_from_contains v a k h (sym e)))
+
 pub same_found : (w v : Visit) (a : List Visit) (k : ℕ) → k < length a → v ≡ get_or a k v → visit_eq v w ≡ true → HaveSame a (a ++ w ∷ [])
-same_found w v a k h e t = same_again w a (subst (λ u. Has u a) (visit_true v w t) (has_from_contains v a k h (sym e)))
+same_found w v a k h e t = same_at w v a k h e (visit_true v w t)
 
 -- what is left behind both
-pub same_step : {now seen left all : List Visit} (rest : List Visit) → HaveSame now seen → HaveSame left all → left ≡ seen ++ rest → HaveSame (now ++ rest) all
+pub same_step : {A : Type 0} {now seen left all : List A} (rest : List A) → HaveSame now seen → HaveSame left all → left ≡ seen ++ rest → HaveSame (now ++ rest) all
 same_step rest s t e = same_trans (same_before rest s) (same_trans (same_equal (sym e)) t)

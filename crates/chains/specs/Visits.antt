@@ -10,9 +10,9 @@ use Rattle.chains.specs.declared.visits.Visit.{Visit}
 abbrev pub visit_eq : Visit → Visit → Bool
 visit_eq a b = position_eq a.vertex b.vertex && pair_eq a.sides b.sides
 
--- the same visits stand in two lists, however often
-pub record HaveSame (xs ys : List Visit) : Type 0 where
-  pub members : (w : Visit) → Has w xs ↔ Has w ys
+-- the same stand in two lists, however often
+pub record HaveSame {A : Type 0} (xs ys : List A) : Type 0 where
+  pub members : (w : A) → Has w xs ↔ Has w ys
 
 -- the visit of a vertex that stands between two others
 abbrev pub visit_of : Pos → Pos → Pos → Visit

@@ -8,6 +8,7 @@ pub mod joining;
 mod merging;
 mod numbering;
 mod ordered;
+mod recent;
 mod repeats;
 pub mod segment;
 mod shared;

@@ -18,12 +18,13 @@ ghost use Rattle.shapes.specs.Maps.{set_of};
 ghost use Rattle.shapes.specs.Sets as set;
 
 use crate::extent::Extent;
+use crate::recent::{Recent, thinned};
 use crate::repeats::repeated;
 use crate::shared::{VertexBits, inside};
 use crate::table::ArcTable;
 use faults::OutOfMemory;
 use grid::pos::Pos;
-use lines::bits::{PositionBits, place_among};
+use lines::bits::PositionBits;
 use lines::items::Items;
 use lines::line::Line;
 use lines::pair::Pair;
@@ -51,9 +52,6 @@ fn visit_between(before: Pos, here: Pos, next: Pos) -> Visit
     }
 }
 
-/// The most places in the table of recent visits.
-const RECENT: usize = 65536;
-
 /// What lines and rings are seen to visit: the ends of the lines apart from the other visits.
 #[derive(Drop)]
 struct Seen {
@@ -61,20 +59,16 @@ struct Seen {
     visits: Vec<Visit>,
     /// Where a visit was noted not long ago, by its vertex. It is only a hint: most visits of a map
     /// whose rings share borders come twice, a short time apart, and the second is found here.
-    recent: Vec<usize>,
+    recent: Recent,
 }
 
 impl Seen {
-    /// Widens the table of recent visits, where fewer are noted in it than will be after so many more.
+    /// Makes room in the table of recent visits for so many more.
     fn widen_recent(&mut self, more: usize) -> Result<(), AllocError>
         ensures ends { self.new.ends.items ≡ self.old.ends.items }
         ensures visits { self.new.visits.items ≡ self.old.visits.items }
     {
-        let wanted = self.visits.len().saturating_add(more).min(RECENT);
-        if self.recent.len() < wanted {
-            self.recent.resize(wanted.saturating_mul(2).min(RECENT), 0)?;
-        }
-        Ok(())
+        self.recent.widen(self.visits.len().saturating_add(more))
     }
 
     /// Notes a visit, unless an equal one stands where the table of recent visits points.
@@ -82,8 +76,7 @@ impl Seen {
         ensures ends { self.new.ends.items ≡ self.old.ends.items }
         ensures visits { OnOk result (HaveSame self.new.visits.items (self.old.visits.items ++ visit ∷ [])) }
     {
-        let at = place_among(self.recent.len(), visit.vertex);
-        if let Some(place) = self.recent.get_mut(at) {
+        if let Some(place) = self.recent.place(visit.vertex) {
             if let Some(noted) = self.visits.get(*place) {
                 if *noted == visit {
                     return Ok(());
@@ -373,7 +366,7 @@ impl VisitIndex {
         let Seen { ends, visits, .. } = seen;
         let mut repeats = repeated(alloc, &visits)?;
         repeats.sort_unstable_by_key(|v| v.vertex);
-        let mut junctions = ends;
+        let mut junctions = thinned(alloc, &ends)?;
         keep_clashes(&mut junctions, &repeats)?;
         junctions.sort_unstable();
         let bits = PositionBits::of(alloc, &junctions)?;
@@ -403,7 +396,7 @@ impl VisitIndex {
         let mut seen = Seen {
             ends: Vec::new(alloc),
             visits: Vec::new(alloc),
-            recent: Vec::new(alloc),
+            recent: Recent::new(alloc),
         };
         seen.see_layers(map)?;
         let index = VisitIndex::of_seen(alloc, seen)?;
@@ -433,7 +426,7 @@ impl VisitIndex {
         let mut seen = Seen {
             ends: Vec::new(alloc),
             visits: Vec::new(alloc),
-            recent: Vec::new(alloc),
+            recent: Recent::new(alloc),
         };
         let left_marks = seen.see_arcs(alloc, &of_right, left)?;
         let right_marks = seen.see_arcs(alloc, &of_left, right)?;

@@ -1,12 +1,13 @@
 use Rattle.std.proofs.Common.{rules, subst}
 use Rattle.std.proofs.lemmas.List.Sorted.{answers_always}
 use Rattle.chains.specs.Shared.{KeepsClashes}
-use Rattle.chains.proofs.Gathered.{junctions_kept}
+use Rattle.chains.specs.Visits.{HaveSame}
+use Rattle.chains.proofs.Gathered.{ends_alike, junctions_kept}
 use Rattle.chains.proofs.Recurring.{keeps_through}
 use Rattle.chains.proofs.visits.VisitIndex.of_seen.Goals as goal
 
 pub returns : goal.returns
 returns c = λ g all keeps are.
-    junctions_kept g _ _ _ all _ _ _ (keeps_through _ _ all (subst (KeepsClashes _) c.deref.ensures.value c.in_ok-repeats.ensures) keeps) are c.sort_unstable_by_key.ensures.permutation
+    junctions_kept g _ _ _ all _ _ _ (keeps_through _ _ all (subst (KeepsClashes _) c.deref.ensures.value c.in_ok-repeats.ensures) keeps) (ends_alike g _ _ all (subst (HaveSame _) c.deref-2.ensures.value c.in_ok-junctions.ensures) are) c.sort_unstable_by_key.ensures.permutation
     (c.sort_unstable_by_key.ensures.sorted (λ v. v.vertex) (answers_always _ _ _ (λ f a r g h. search rules)))
-    c.deref-2.ensures.value c.in_ok-keep_clashes.ensures c.sort_unstable.ensures.permutation
+    c.deref-3.ensures.value c.in_ok-keep_clashes.ensures c.sort_unstable.ensures.permutation
