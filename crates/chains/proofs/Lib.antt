@@ -27,6 +27,7 @@ pub mod Extents
 pub mod Sharing
 pub mod Recurring
 pub mod SharedVertices
+pub mod Apart
 pub mod TablesAsMap
 pub mod ArcsCut
 pub mod Stepping

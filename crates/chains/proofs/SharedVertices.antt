@@ -75,7 +75,7 @@ front_has v x (y ∷ r) (inl e) = inl e
 front_has v x (y ∷ r) (inr h) = inr (front_has v y r h)
 
 -- the inner vertices of an arc stand in it
-inside_has : (v : Pos) (b : Bool) (c : List Pos) → Has v (inside b c) → Has v c
+pub inside_has : (v : Pos) (b : Bool) (c : List Pos) → Has v (inside b c) → Has v c
 inside_has v true c h = h
 inside_has v false [] h = absurd h
 inside_has v false (x ∷ []) h = absurd h

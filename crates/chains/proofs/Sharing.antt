@@ -10,7 +10,7 @@ use Rattle.chains.specs.Among.{among}
 use Rattle.lines.specs.Bits.{may_hold}
 use Rattle.lines.specs.Holding.{Holds}
 use Rattle.chains.specs.Holding.{AreDealtTo}
-use Rattle.chains.specs.Shared.{arc_meets, arc_shared, kept_if, meets_if, shared_if, KeepsClashes}
+use Rattle.chains.specs.Shared.{arc_meets, arc_shared, kept_if, meets_if, near_if, shared_if, KeepsClashes}
 use Rattle.chains.specs.Visits.{ends_of}
 use Rattle.lines.specs.declared.bits.PositionBits.{PositionBits}
 use Rattle.chains.specs.declared.visits.Visit.{Visit}
@@ -67,6 +67,10 @@ shared_given may loops (Some c) = refl
 pub meets_answered : (may : Pos → Bool) (loops : List (List Pos)) (o : Option (List Pos)) → meets_if may loops o ≡ answered false (arc_meets may loops) o
 meets_answered may loops None = refl
 meets_answered may loops (Some c) = refl
+
+pub near_answered : (f : Pos → Bool) (o : Option (List Pos)) → near_if f o ≡ answered false (list_any f) o
+near_answered f None = refl
+near_answered f (Some c) = refl
 
 pub kept_given : (f : Pos → Bool) (o : Option (List Pos)) → kept_if f o ≡ given (keep f) o
 kept_given f None = refl

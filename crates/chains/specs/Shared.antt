@@ -21,6 +21,11 @@ abbrev pub kept_if : (Pos → Bool) → Option (List Pos) → List Pos
 kept_if f None = []
 kept_if f (Some c) = keep f c
 
+-- whether f holds of some vertex of an arc, where there is an arc
+abbrev pub near_if : (Pos → Bool) → Option (List Pos) → Bool
+near_if f None = false
+near_if f (Some c) = list_any f c
+
 -- whether a position may be a vertex of both tables
 abbrev pub may_hold : VertexBits → Pos → Bool
 may_hold s p = within s.extent p && bits.may_hold s.bits p
@@ -32,6 +37,10 @@ HoldCommon own other s arcs = (c : List Pos) → Has c arcs → (p : Pos) → Ha
 -- the vertices of the arcs of both tables may be
 abbrev pub HoldShared : VertexBits → List (List Pos) → List (List Pos) → Type 0
 HoldShared s arcs others = (c : List Pos) → Has c arcs → (d : List Pos) → Has d others → (p : Pos) → Has p c → Has p d → may_hold s p ≡ true
+
+-- of an arc that is not near none of the vertices may be
+abbrev pub StaysApart : (Pos → Bool) → List Pos → Bool → Type 0
+StaysApart may c near = near ≡ false → list_any may c ≡ false
 
 -- the inner vertices of an arc: of a free loop all, otherwise all but the ends
 abbrev pub inside : Bool → List Pos → List Pos

@@ -5,6 +5,7 @@
 pub mod cutting;
 mod extent;
 pub mod joining;
+pub mod marking;
 mod merging;
 mod numbering;
 mod ordered;

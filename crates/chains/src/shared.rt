@@ -1,12 +1,12 @@
 //! The bits of the vertices that two tables of arcs may share. Most vertices of the other table find a
 //! bit of theirs not set, and so are known to be no vertices of the first.
-ghost use Rattle.std.specs.Prelude.{◌≡◌, ◌++◌, IfOk, OnOk, slice_get};
+ghost use Rattle.std.specs.Prelude.{◌≡◌, ◌++◌, IfOk, OnOk, map as map_list, slice_get};
 ghost use Rattle.std.specs.List.{list_any};
 ghost use Rattle.theory.specs.Lists.{gathered};
 ghost use Rattle.theory.specs.TopologyFunction.{keep};
 ghost use Rattle.chains.specs.Extents.{within};
 ghost use Rattle.chains.specs.Shared as spec;
-ghost use Rattle.chains.specs.Shared.{HoldCommon, kept_if, may_hold};
+ghost use Rattle.chains.specs.Shared.{HoldCommon, kept_if, may_hold, near_if};
 
 use crate::extent::Extent;
 use crate::table::ArcTable;
@@ -14,23 +14,28 @@ use grid::pos::Pos;
 use lines::bits::PositionBits;
 use std::alloc::{AllocError, Global};
 
-/// The extent of a table's arcs, and the bits of those vertices that lie in the extent of the other
-/// table.
+/// The extent of a table's arcs, the bits of those vertices that lie in the extent of the other table,
+/// and which arcs have such vertices.
 #[derive(Drop)]
 pub(crate) struct VertexBits {
     extent: Extent,
     bits: PositionBits,
+    pub(crate) near: Vec<bool>,
 }
 
-fn add_within(list: &mut Vec<Pos>, arc: &[Pos], extent: &Extent) -> Result<(), AllocError>
-    ensures { OnOk result (list.new.items ≡ list.old.items ++ keep (within extent.now) arc.now) }
+/// Adds those positions of an arc that lie in an extent, and answers whether some do.
+fn add_within(list: &mut Vec<Pos>, arc: &[Pos], extent: &Extent) -> Result<bool, AllocError>
+    ensures list { OnOk result (list.new.items ≡ list.old.items ++ keep (within extent.now) arc.now) }
+    ensures near { IfOk result (λ b. b ≡ list_any (within extent.now) arc.now) }
 {
+    let mut near = false;
     for position in arc {
         if extent.has(*position) {
             list.push(*position)?;
+            near = true;
         }
     }
-    Ok(())
+    Ok(near)
 }
 
 fn add_numbered(
@@ -38,24 +43,31 @@ fn add_numbered(
     table: &ArcTable,
     number: usize,
     extent: &Extent,
-) -> Result<(), AllocError>
-    ensures { OnOk result (list.new.items ≡ list.old.items ++ kept_if (within extent.now) (slice_get table.now.arcs number)) }
+) -> Result<bool, AllocError>
+    ensures list { OnOk result (list.new.items ≡ list.old.items ++ kept_if (within extent.now) (slice_get table.now.arcs number)) }
+    ensures near { IfOk result (λ b. b ≡ near_if (within extent.now) (slice_get table.now.arcs number)) }
 {
     match table.arc(number) {
         Some(arc) => add_within(list, arc, extent),
-        None => Ok(()),
+        None => Ok(false),
     }
 }
 
-/// The vertices of a table's arcs that lie in an extent.
-fn vertices_within(alloc: Global, table: &ArcTable, extent: &Extent) -> Result<Vec<Pos>, AllocError>
-    ensures { IfOk result (λ v. v.items ≡ gathered (keep (within extent.now)) table.now.arcs) }
+/// Adds the vertices of a table's arcs that lie in an extent, and answers which arcs have some.
+fn add_table(
+    alloc: Global,
+    list: &mut Vec<Pos>,
+    table: &ArcTable,
+    extent: &Extent,
+) -> Result<Vec<bool>, AllocError>
+    ensures list { OnOk result (list.new.items ≡ list.old.items ++ gathered (keep (within extent.now)) table.now.arcs) }
+    ensures near { IfOk result (λ v. v.items ≡ map_list (list_any (within extent.now)) table.now.arcs) }
 {
-    let mut list = Vec::new(alloc);
+    let mut near = Vec::with_capacity(alloc, table.len())?;
     for number in 0..table.len() {
-        add_numbered(&mut list, table, number, extent)?;
+        near.push(add_numbered(list, table, number, extent)?)?;
     }
-    Ok(list)
+    Ok(near)
 }
 
 impl VertexBits {
@@ -67,11 +79,14 @@ impl VertexBits {
         extent: Extent,
         other: &Extent,
     ) -> Result<VertexBits, AllocError>
-        ensures { IfOk result (λ s. HoldCommon extent other.now s table.now.arcs) }
+        ensures common { IfOk result (λ s. HoldCommon extent other.now s table.now.arcs) }
+        ensures extent { IfOk result (λ s. s.extent ≡ extent) }
+        ensures near { IfOk result (λ s. s.near.items ≡ map_list (list_any (within other.now)) table.now.arcs) }
     {
-        let list = vertices_within(alloc, table, other)?;
+        let mut list = Vec::new(alloc);
+        let near = add_table(alloc, &mut list, table, other)?;
         let bits = PositionBits::of(alloc, &list)?;
-        Ok(VertexBits { extent, bits })
+        Ok(VertexBits { extent, bits, near })
     }
 
     /// Whether a position may be a vertex of both tables. Where a vertex of the other table may not,

@@ -1,11 +1,13 @@
 //! The index of visits: one list of visits, sorted once, of which the junctions are kept.
-ghost use Rattle.std.specs.Prelude.{◌≡◌, cond, [], ◌∷◌, ◌++◌, ◌↔◌, ◌⊎◌, map as map_list, slice_get, IfOk, List, OnOk, IsTrue};
+ghost use Rattle.std.specs.Prelude.{◌≡◌, cond, [], ◌∷◌, ◌++◌, ◌↔◌, ◌⊎◌, map as map_list, slice_get, IfOk, List, OnOk, IsTrue, Some};
+ghost use Rattle.std.specs.List.{list_any};
+ghost use Rattle.chains.specs.Extents.{within};
 ghost use Rattle.theory.specs.Geometry.{Geometry, IsSound, JunctionOf, SegmentOf};
 ghost use Rattle.theory.specs.Segments.{OnThree};
 ghost use Rattle.theory.specs.Lists.{Has, gathered, joined};
 ghost use Rattle.theory.specs.Topology.{forms_of};
 ghost use Rattle.grid.specs.declared.pos.Pos.{Pos};
-ghost use Rattle.chains.specs.Shared.{KeepsClashes, StayWhole, arc_meets, arc_shared, may_hold, meets, meets_if, met_visits, shared_if};
+ghost use Rattle.chains.specs.Shared.{KeepsClashes, StaysApart, StayWhole, arc_meets, arc_shared, may_hold, meets, meets_if, met_visits, shared_if};
 ghost use Rattle.chains.specs.Among.{among};
 ghost use Rattle.chains.specs.Visits.{visit_of, inner_of, ends_of, around_of, clash, clashes_of, HaveSame};
 ghost use Rattle.chains.specs.Seen.{line_of, ring_of, form_of, geometry_of, seen};
@@ -18,6 +20,7 @@ ghost use Rattle.shapes.specs.Maps.{set_of};
 ghost use Rattle.shapes.specs.Sets as set;
 
 use crate::extent::Extent;
+use crate::marking::is_marked;
 use crate::recent::{Recent, thinned};
 use crate::repeats::repeated;
 use crate::shared::{VertexBits, inside};
@@ -182,12 +185,19 @@ impl Seen {
     }
 
     /// The same for an arc of which the other table may have an inner vertex.
-    fn see_met(&mut self, other: &VertexBits, arc: &[Pos], free: bool) -> Result<bool, AllocError>
+    fn see_met(
+        &mut self,
+        other: &VertexBits,
+        arc: &[Pos],
+        free: bool,
+        near: bool,
+    ) -> Result<bool, AllocError>
+        requires { StaysApart (may_hold other.now) arc.now near }
         ensures ends { OnOk result (self.new.ends.items ≡ self.old.ends.items) }
         ensures visits { OnOk result (HaveSame self.new.visits.items (self.old.visits.items ++ met_visits (may_hold other.now) free arc.now)) }
         ensures met { IfOk result (λ b. b ≡ meets (may_hold other.now) free arc.now) }
     {
-        if !other.may_meet(inside(arc, free)) {
+        if !near || !other.may_meet(inside(arc, free)) {
             return Ok(false);
         }
         self.see_arc_inside(arc, free)?;
@@ -196,13 +206,20 @@ impl Seen {
 
     /// Notes the ends of an arc, and its other visits where the other table may have an inner vertex of
     /// it; and answers whether it may.
-    fn see_arc(&mut self, other: &VertexBits, arc: &[Pos], free: bool) -> Result<bool, AllocError>
+    fn see_arc(
+        &mut self,
+        other: &VertexBits,
+        arc: &[Pos],
+        free: bool,
+        near: bool,
+    ) -> Result<bool, AllocError>
+        requires { StaysApart (may_hold other.now) arc.now near }
         ensures ends { OnOk result (self.new.ends.items ≡ self.old.ends.items ++ cond free [] (ends_of arc.now)) }
         ensures visits { OnOk result (HaveSame self.new.visits.items (self.old.visits.items ++ met_visits (may_hold other.now) free arc.now)) }
         ensures met { IfOk result (λ b. b ≡ meets (may_hold other.now) free arc.now) }
     {
         self.see_arc_ends(arc, free)?;
-        self.see_met(other, arc, free)
+        self.see_met(other, arc, free, near)
     }
 
     fn see_numbered(
@@ -210,32 +227,37 @@ impl Seen {
         other: &VertexBits,
         table: &ArcTable,
         number: usize,
+        near: bool,
     ) -> Result<bool, AllocError>
+        requires { (c : List Pos) → slice_get table.now.arcs number ≡ Some c → StaysApart (may_hold other.now) c near }
         ensures ends { OnOk result (self.new.ends.items ≡ self.old.ends.items ++ ends_if table.now.loops (slice_get table.now.arcs number)) }
         ensures visits { OnOk result (HaveSame self.new.visits.items (self.old.visits.items ++ shared_if (may_hold other.now) table.now.loops (slice_get table.now.arcs number))) }
         ensures met { IfOk result (λ b. b ≡ meets_if (may_hold other.now) table.now.loops (slice_get table.now.arcs number)) }
     {
         match table.arc(number) {
-            Some(arc) => self.see_arc(other, arc, table.is_free(number)),
+            Some(arc) => self.see_arc(other, arc, table.is_free(number), near),
             None => Ok(false),
         }
     }
 
     /// Notes the ends of a table's arcs, and the other visits of those of which the other table may
-    /// have an inner vertex; and answers for each arc whether it may.
+    /// have an inner vertex; and answers for each arc whether it may. It is told which arcs have a vertex
+    /// in the other table's extent: of the others it may not.
     fn see_arcs(
         &mut self,
         alloc: Global,
         other: &VertexBits,
         table: &ArcTable,
+        near: &[bool],
     ) -> Result<Vec<bool>, AllocError>
+        requires { near.now ≡ map_list (list_any (within other.now.extent)) table.now.arcs }
         ensures ends { OnOk result (self.new.ends.items ≡ self.old.ends.items ++ gathered (arc_ends table.now.loops) table.now.arcs) }
         ensures visits { OnOk result (HaveSame self.new.visits.items (self.old.visits.items ++ gathered (arc_shared (may_hold other.now) table.now.loops) table.now.arcs)) }
         ensures marks { IfOk result (λ v. v.items ≡ map_list (arc_meets (may_hold other.now) table.now.loops) table.now.arcs) }
     {
         let mut marks = Vec::with_capacity(alloc, table.len())?;
         for number in 0..table.len() {
-            marks.push(self.see_numbered(other, table, number)?)?;
+            marks.push(self.see_numbered(other, table, number, is_marked(near, number))?)?;
         }
         Ok(marks)
     }
@@ -428,8 +450,8 @@ impl VisitIndex {
             visits: Vec::new(alloc),
             recent: Recent::new(alloc),
         };
-        let left_marks = seen.see_arcs(alloc, &of_right, left)?;
-        let right_marks = seen.see_arcs(alloc, &of_left, right)?;
+        let left_marks = seen.see_arcs(alloc, &of_right, left, &of_left.near)?;
+        let right_marks = seen.see_arcs(alloc, &of_left, right, &of_right.near)?;
         let index = VisitIndex::of_seen(alloc, seen)?;
         Ok(ArcsIndex {
             index,

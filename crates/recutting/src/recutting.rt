@@ -1,6 +1,6 @@
 //! Cutting the arcs of two tables again: the index of visits over the arcs gives the junctions of
 //! both maps together, all arcs are cut there, and the pieces are the new table.
-ghost use Rattle.std.specs.Prelude.{◌≡◌, ◌++◌, IfOk, OnOk, length, get_or, true};
+ghost use Rattle.std.specs.Prelude.{◌≡◌, ◌++◌, IfOk, OnOk, length};
 ghost use Rattle.grid.specs.declared.pos.Pos.{Pos};
 ghost use Rattle.theory.specs.Geometry.{Geometry, IsSound};
 ghost use Rattle.theory.specs.Lists.{joined};
@@ -12,20 +12,11 @@ ghost use Rattle.recutting.specs.Cutting.{pieces_from, IsRecutOf};
 use crate::piece_lists::PieceLists;
 use crate::refined::Recut;
 use chains::cutting::{Piece, add_pieces};
+use chains::marking::is_marked;
 use chains::table::ArcTable;
 use chains::visits::VisitIndex;
 use faults::OutOfMemory;
 use std::alloc::Global;
-
-/// Whether an arc may be cut; one that nothing is told of may be.
-fn is_marked(marks: &[bool], number: usize) -> bool
-    ensures { result ≡ get_or marks.now number true }
-{
-    match marks.get(number) {
-        Some(marked) => *marked,
-        None => true,
-    }
-}
 
 /// Adds the pieces of the arcs of a table, of which those that are not marked are not cut; and answers
 /// where the pieces of each arc begin among those that are added, and last how many are added.

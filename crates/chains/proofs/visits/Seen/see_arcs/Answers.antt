@@ -2,6 +2,7 @@ use Rattle.std.proofs.Common.{◌++◌, ◌∙◌, ◌<◌, ◌+◌, false, ap, 
 use Rattle.theory.specs.Lists.{gathered}
 use Rattle.chains.specs.OfArcs.{arc_ends, ends_if}
 use Rattle.chains.specs.Shared.{arc_meets, arc_shared, may_hold, shared_if}
+use Rattle.chains.proofs.Apart.{told_apart}
 use Rattle.chains.proofs.Same.{same_step}
 use Rattle.chains.proofs.Sharing.{meets_answered, shared_given}
 use Rattle.chains.proofs.TablesAsMap.{left_step, map_step, ends_given}
@@ -27,3 +28,7 @@ loop-number-preserved c =
           (c.in_ok-see_numbered.ensures.met ∙ meets_answered may t.loops (slice_get t.arcs i))
           c.in_ok-push.ensures.items c.loop-number.invariant.marks;
     }
+
+pub see_numbered-requires : goal.see_numbered-requires
+see_numbered-requires c = λ arc h e.
+    told_apart c.args.other.now c.args.table.now.arcs c.args.near.now c.loop-number.number arc c.is_marked.result c.requires c.is_marked.ensures h e

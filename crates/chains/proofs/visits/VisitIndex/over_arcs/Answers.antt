@@ -13,8 +13,8 @@ returns-clause-arcs c = λ m n sm sn ms nt.
     let t = c.args.right.now in
     let of_s = c.in_ok-of_left.of_left in
     let of_t = c.in_ok-of_right.of_right in
-    let hold_s = shared_held s t c.around-left_extent.result c.around-right_extent.result of_s c.around-left_extent.ensures c.around-right_extent.ensures c.in_ok-of_left.ensures in
-    let hold_t = shared_held t s c.around-right_extent.result c.around-left_extent.result of_t c.around-right_extent.ensures c.around-left_extent.ensures c.in_ok-of_right.ensures in
+    let hold_s = shared_held s t c.around-left_extent.result c.around-right_extent.result of_s c.around-left_extent.ensures c.around-right_extent.ensures c.in_ok-of_left.ensures.common in
+    let hold_t = shared_held t s c.around-right_extent.result c.around-left_extent.result of_t c.around-right_extent.ensures c.around-left_extent.ensures c.in_ok-of_right.ensures.common in
     let ends = c.see_arcs-2.new.self.ends.items in
     let all = all_visits m n sm sn s t ms nt of_s of_t hold_s hold_t in
     let are =
@@ -36,13 +36,13 @@ returns-clause-union c = λ m n u sm sn ms nt un.
 pub returns-clause-left : goal.returns-clause-left
 returns-clause-left c = λ m n sm sn ms nt.
     left_whole m n sm sn c.args.left.now c.args.right.now ms nt c.in_ok-of_left.of_left c.in_ok-of_right.of_right
-    (shared_held c.args.left.now c.args.right.now c.around-left_extent.result c.around-right_extent.result c.in_ok-of_left.of_left c.around-left_extent.ensures c.around-right_extent.ensures c.in_ok-of_left.ensures)
-    (shared_held c.args.right.now c.args.left.now c.around-right_extent.result c.around-left_extent.result c.in_ok-of_right.of_right c.around-right_extent.ensures c.around-left_extent.ensures c.in_ok-of_right.ensures)
+    (shared_held c.args.left.now c.args.right.now c.around-left_extent.result c.around-right_extent.result c.in_ok-of_left.of_left c.around-left_extent.ensures c.around-right_extent.ensures c.in_ok-of_left.ensures.common)
+    (shared_held c.args.right.now c.args.left.now c.around-right_extent.result c.around-left_extent.result c.in_ok-of_right.of_right c.around-right_extent.ensures c.around-left_extent.ensures c.in_ok-of_right.ensures.common)
     c.in_ok-index.index (returns-clause-arcs c m n sm sn ms nt) c.in_ok-left_marks.left_marks.items c.in_ok-left_marks.ensures.marks
 
 pub returns-clause-right : goal.returns-clause-right
 returns-clause-right c = λ m n sm sn ms nt.
     right_whole m n sm sn c.args.left.now c.args.right.now ms nt c.in_ok-of_left.of_left c.in_ok-of_right.of_right
-    (shared_held c.args.left.now c.args.right.now c.around-left_extent.result c.around-right_extent.result c.in_ok-of_left.of_left c.around-left_extent.ensures c.around-right_extent.ensures c.in_ok-of_left.ensures)
-    (shared_held c.args.right.now c.args.left.now c.around-right_extent.result c.around-left_extent.result c.in_ok-of_right.of_right c.around-right_extent.ensures c.around-left_extent.ensures c.in_ok-of_right.ensures)
+    (shared_held c.args.left.now c.args.right.now c.around-left_extent.result c.around-right_extent.result c.in_ok-of_left.of_left c.around-left_extent.ensures c.around-right_extent.ensures c.in_ok-of_left.ensures.common)
+    (shared_held c.args.right.now c.args.left.now c.around-right_extent.result c.around-left_extent.result c.in_ok-of_right.of_right c.around-right_extent.ensures c.around-left_extent.ensures c.in_ok-of_right.ensures.common)
     c.in_ok-index.index (returns-clause-arcs c m n sm sn ms nt) c.in_ok-right_marks.right_marks.items c.in_ok-right_marks.ensures.marks
