@@ -5,6 +5,7 @@
 pub mod cutting;
 mod extent;
 pub mod joining;
+mod key;
 mod merging;
 mod numbering;
 mod ordered;
