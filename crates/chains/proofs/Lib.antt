@@ -16,6 +16,7 @@ pub mod Merged
 pub mod Marks
 pub mod Looking
 pub mod Numbered
+pub mod KeysFirst
 pub mod PlacedPieces
 pub mod TableOfMap
 pub mod WalkSteps

@@ -15,13 +15,16 @@ use Rattle.theory.specs.ArcNumbers.{ArcRef}
 use Rattle.theory.specs.Lists.{Has, gathered}
 use Rattle.theory.proofs.Ascending.{get_once, less_self}
 use Rattle.theory.proofs.ListsOfLists.{get_has}
+use Rattle.chains.specs.Keys.{key_cmp, key_of}
 use Rattle.chains.specs.Placing.{ArePlaced, AreRefsOf, arcs_of, own_piece, piece_of, placed_from}
 use Rattle.chains.specs.Shared.{whole}
 use Rattle.chains.specs.Stored.{loops_of, merged, merged_from, positions_of, rises, stored_of, with_mark}
 use Rattle.chains.specs.Table.{is_loop, located, number_in, same_list}
 use Rattle.chains.specs.declared.cutting.Piece.{Piece}
+use Rattle.chains.specs.declared.key.Key.{Key}
 use Rattle.chains.specs.declared.numbering.Placed.{Placed}
 use Rattle.chains.specs.declared.stored.StoredArc.{StoredArc}
+use Rattle.chains.proofs.KeysFirst.{keys_first}
 use Rattle.chains.proofs.Marks.{mark_of}
 use Rattle.chains.proofs.Merged.{Climbs, piece_cmp, rising_from, then_less}
 use Rattle.chains.proofs.Places.{place_of_member}
@@ -46,13 +49,19 @@ at_place n (p ∷ ps) x (inr h) =
     let m : x.place ≡ (n + 1) + t.0 = t.1 in
     (suc t.0, omega (arith, m), t.2)
 
+-- with the key of its chain
+key_there : (n : ℕ) (ps : List Piece) (x : Placed) → Has x (placed_from n ps) → x.key ≡ key_of x.piece.chain
+key_there n [] x h = absurd h
+key_there n (p ∷ ps) x (inl e) = ap (λ w. w.key) e ∙ ap (λ w. key_of w.piece.chain) (sym e)
+key_there n (p ∷ ps) x (inr h) = key_there (n + 1) ps x h
+
 -- and each piece is there
-placed_has : (n : ℕ) (ps : List Piece) (i : ℕ) (p : Piece) (m : ℕ) → m ≡ n + i → slice_get ps i ≡ Some p → Has (record { piece = p; place = m }) (placed_from n ps)
+placed_has : (n : ℕ) (ps : List Piece) (i : ℕ) (p : Piece) (m : ℕ) → m ≡ n + i → slice_get ps i ≡ Some p → Has (record { key = key_of p.chain; piece = p; place = m }) (placed_from n ps)
 placed_has n [] i p m q e = absurd cc
 placed_has n (r ∷ ps) zero p m q e =
     let k : p ≡ r = (let s : Some r ≡ Some p = e in cc) in
     let l : m ≡ n = omega (arith, q) in
-    inl (λ j. record { piece = k j; place = l j })
+    inl (λ j. record { key = key_of (k j).chain; piece = k j; place = l j })
 placed_has n (r ∷ ps) (suc i) p m q e = inr (placed_has (n + 1) ps i p m (omega (arith, q)) e)
 
 module _ (ps : List Piece) (l : List Placed) (same : IsPermutation (placed_from 0 ps) l) where
@@ -64,6 +73,7 @@ module _ (ps : List Piece) (l : List Placed) (same : IsPermutation (placed_from 
 
   pub are_placed : length l ≡ length (placed_from 0 ps) → ArePlaced l
   are_placed n = record {
+    keys = λ x h. key_there 0 ps x (back x h);
     one = λ x y h k e.
         let a = at_place 0 ps x (back x h) in
         let b = at_place 0 ps y (back y k) in
@@ -83,7 +93,7 @@ module _ (ps : List Piece) (l : List Placed) (same : IsPermutation (placed_from 
   pub refs_are : (arcs : List (List Pos)) (refs : List ArcRef) → length refs ≡ length l → length l ≡ length (placed_from 0 ps) → AreRefsOf arcs l refs → refs ≡ map (located arcs) ps
   refs_are arcs refs n m set =
       same_at (located arcs) ps refs (n ∙ m ∙ length_placed 0 ps)
-      (λ i p e. set (record { piece = p; place = i }) (Has-permutation (placed_from 0 ps) l (record { piece = p; place = i }) same (placed_has 0 ps i p i (omega arith) e)))
+      (λ i p e. set (record { key = key_of p.chain; piece = p; place = i }) (Has-permutation (placed_from 0 ps) l (record { key = key_of p.chain; piece = p; place = i }) same (placed_has 0 ps i p i (omega arith) e)))
     where
       same_at : {A B : Type 0} (f : A → B) (xs : List A) (ys : List B) → length ys ≡ length xs → ((i : ℕ) (x : A) → slice_get xs i ≡ Some x → slice_get ys i ≡ Some (f x)) → ys ≡ map f xs
       same_at f [] [] e g = refl
@@ -96,21 +106,27 @@ module _ (ps : List Piece) (l : List Placed) (same : IsPermutation (placed_from 
 
 -- the order of pieces with places
 abbrev pub placed_cmp : Placed → Placed → Ordering
-placed_cmp x y = ordering_then (piece_cmp x.piece y.piece) (nat_cmp x.place y.place)
+placed_cmp x y = ordering_then (key_cmp x.key y.key) (ordering_then (piece_cmp x.piece y.piece) (nat_cmp x.place y.place))
 
-by_chain : (x y : Placed) → is_lt (placed_cmp x y) ≡ false → is_lt (list_cmp x.piece.chain y.piece.chain) ≡ false
-by_chain x y e =
+by_chain : (x y : Placed) → x.key ≡ key_of x.piece.chain → y.key ≡ key_of y.piece.chain → is_lt (placed_cmp x y) ≡ false → is_lt (list_cmp x.piece.chain y.piece.chain) ≡ false
+by_chain x y k m e =
+    keys_first x.piece.chain y.piece.chain (ordering_then (piece_cmp x.piece y.piece) (nat_cmp x.place y.place))
+    (λ f.
     then_less (list_cmp x.piece.chain y.piece.chain) (ordering_then (bool_cmp x.piece.reversed y.piece.reversed) (bool_cmp x.piece.free y.piece.free))
-    (then_less (piece_cmp x.piece y.piece) (nat_cmp x.place y.place) e)
+    (then_less (piece_cmp x.piece y.piece) (nat_cmp x.place y.place) f))
+    (subst (λ (w : Key × Key). is_lt (ordering_then (key_cmp w.0 w.1) (ordering_then (piece_cmp x.piece y.piece) (nat_cmp x.place y.place))) ≡ false) (λ i. (k i, m i)) e)
 
-climbs : (x : Placed) (l : List Placed) → Rises placed_cmp x l → Climbs x.piece.chain (map stored_of (map piece_of l))
-climbs x [] r = tt
-climbs x (y ∷ l) r = (by_chain y x r.0, climbs y l r.1)
+climbs : (x : Placed) (l : List Placed) → ((y : Placed) → Has y (x ∷ l) → y.key ≡ key_of y.piece.chain) → Rises placed_cmp x l → Climbs x.piece.chain (map stored_of (map piece_of l))
+climbs x [] k r = tt
+climbs x (y ∷ l) k r = (by_chain y x (k y (inr (inl refl))) (k x (inl refl)) r.0, climbs y l (λ z h. k z (inr h)) r.1)
+
+rise : (l : List Placed) → ((y : Placed) → Has y l → y.key ≡ key_of y.piece.chain) → IsSorted placed_cmp l → rises (arcs_of l) ≡ true
+rise [] k s = refl
+rise (x ∷ l) k s = rising_from (stored_of x.piece) (map stored_of (map piece_of l)) (climbs x l k (rises_from_sorted placed_cmp x l s))
 
 -- the arcs of sorted pieces rise
-pub placed_rise : (l : List Placed) → IsSorted placed_cmp l → rises (arcs_of l) ≡ true
-placed_rise [] s = refl
-placed_rise (x ∷ l) s = rising_from (stored_of x.piece) (map stored_of (map piece_of l)) (climbs x l (rises_from_sorted placed_cmp x l s))
+pub placed_rise : (ps : List Piece) (l : List Placed) → IsPermutation (placed_from 0 ps) l → IsSorted placed_cmp l → rises (arcs_of l) ≡ true
+placed_rise ps l same s = rise l (λ y h. key_there 0 ps y (back ps l same y h)) s
 
 -- an arc that stands at a number has that number
 number_of : (arcs : List (List Pos)) → rises arcs ≡ true → (n : ℕ) (p : Piece) → slice_get arcs n ≡ Some p.chain → n ≡ number_in arcs p

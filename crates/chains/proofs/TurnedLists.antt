@@ -12,8 +12,9 @@ use Rattle.theory.specs.Refinement as refinement
 use Rattle.theory.specs.TopologyFunction.{least_from, lesser, rotations_from}
 use Rattle.grid.specs.declared.pos.Pos.{Pos}
 use Rattle.lines.specs.Turned.{position_cmp}
-use Rattle.chains.specs.Turning.{key_if, key_cmp, used_key, least_place, least_place_from}
-use Rattle.chains.specs.declared.turning.Key.{Key}
+use Rattle.chains.specs.Keys.{key_cmp}
+use Rattle.chains.specs.Turning.{key_if, used_key, least_place, least_place_from}
+use Rattle.chains.specs.declared.key.Key.{Key}
 
 then_equal : (o : Ordering) → ordering_then o Equal ≡ o
 then_equal Less = refl

@@ -8,6 +8,7 @@ pub mod Repeats
 pub mod Seen
 pub mod Index
 pub mod Starts
+pub mod Keys
 pub mod Pieces
 pub mod Arcs
 pub mod Table

@@ -5,6 +5,7 @@ use Rattle.theory.specs.Lists.{Has, gathered}
 use Rattle.theory.specs.Refinement.{unclosed}
 use Rattle.grid.specs.declared.pos.Pos.{Pos}
 use Rattle.chains.specs.Arcs.{Arcs}
+use Rattle.chains.specs.Keys.{key_of}
 use Rattle.chains.specs.Pieces.{line_pieces, ring_pieces}
 use Rattle.chains.specs.Shared.{whole}
 use Rattle.chains.specs.Stored.{positions_of, stored_of, merged}
@@ -19,14 +20,16 @@ piece_of x = x.piece
 -- pieces with their places, where the first has place n
 abbrev pub placed_from : ℕ → List Piece → List Placed
 placed_from n [] = []
-placed_from n (p ∷ ps) = record { piece = p; place = n } ∷ placed_from (n + 1) ps
+placed_from n (p ∷ ps) = record { key = key_of p.chain; piece = p; place = n } ∷ placed_from (n + 1) ps
 
 -- the arcs of pieces, of which those with one chain stand together
 abbrev pub arcs_of : List Placed → List (List Pos)
 arcs_of l = map positions_of (merged (map stored_of (map piece_of l)))
 
--- one piece stands at each place, and the places are less than how many pieces there are
+-- the keys are those of the pieces' chains, one piece stands at each place, and the places are less
+-- than how many pieces there are
 pub record ArePlaced (l : List Placed) : Type 0 where
+  pub keys : (x : Placed) → Has x l → x.key ≡ key_of x.piece.chain
   pub one : (x y : Placed) → Has x l → Has y l → x.place ≡ y.place → x.piece ≡ y.piece
   pub within : (x : Placed) → Has x l → x.place < length l
 

@@ -6,6 +6,7 @@ pub mod cutting;
 mod extent;
 pub mod joining;
 pub mod marking;
+mod key;
 mod merging;
 mod numbering;
 mod ordered;

@@ -4,14 +4,17 @@ ghost use Rattle.chains.specs.Placing.{piece_of, placed_from, arcs_of, ArePlaced
 ghost use Rattle.chains.specs.Stored.{stored_of, merged, rises};
 
 use crate::cutting::Piece;
+use crate::key::Key;
 use crate::merging::{arc_behind, ended};
 use crate::stored::{ArcList, StoredArc};
 use crate::table::ArcRef;
 use std::alloc::{AllocError, Global};
 
-/// A piece, and its place among all.
+/// A piece, and its place among all. The key of its chain stands in front, so that most comparisons
+/// don't read the chain itself.
 #[derive(PartialEq, Eq, PartialOrd, Ord, Drop)]
 pub(crate) struct Placed {
+    key: Key,
     piece: Piece,
     place: usize,
 }
@@ -22,8 +25,9 @@ pub(crate) fn with_places(alloc: Global, pieces: Vec<Piece>) -> Result<Vec<Place
 {
     let mut all = Vec::with_capacity(alloc, pieces.len())?;
     for piece in pieces {
+        let key = Key::of(piece.chain());
         let place = all.len();
-        all.push(Placed { piece, place })?;
+        all.push(Placed { key, piece, place })?;
     }
     Ok(all)
 }
@@ -39,16 +43,19 @@ pub(crate) fn numbered_arcs(
     ensures len { IfOk result (λ r. length r.1.items ≡ length pieces.items) }
     ensures refs { IfOk result (λ r. AreRefsOf (arcs_of pieces.items) pieces.items r.1.items) }
 {
-    let mut arcs = ArcList::new(alloc);
+    let mut arcs = ArcList::with_capacity(alloc, pieces.len())?;
     let mut refs = vec![in alloc; ArcRef {
         arc: 0,
         reversed: false
     }; pieces.len()]?;
     let mut last = None;
+    let mut last_key = None;
     for placed in pieces {
-        let Placed { piece, place } = placed;
+        let Placed { key, piece, place } = placed;
         let reversed = piece.reversed();
-        last = Some(arc_behind(&mut arcs, last, StoredArc::of(piece))?);
+        let may_be_same = last_key == Some(key);
+        last = Some(arc_behind(&mut arcs, last, StoredArc::of(piece), may_be_same)?);
+        last_key = Some(key);
         refs[place] = ArcRef {
             arc: arcs.len(),
             reversed,

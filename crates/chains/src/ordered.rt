@@ -43,7 +43,7 @@ pub(crate) fn marked_arcs(
 ) -> Result<ArcList, AllocError>
     ensures { IfOk result (λ l. l ≡ with_marks arcs.items marks.now) }
 {
-    let mut made = ArcList::new(alloc);
+    let mut made = ArcList::with_capacity(alloc, arcs.len())?;
     let mut left = marks;
     for positions in arcs {
         let (free, others) = first_mark(left);

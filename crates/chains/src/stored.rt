@@ -69,12 +69,12 @@ impl Model for ArcList {
 }
 
 impl ArcList {
-    pub(crate) fn new(alloc: Global) -> ArcList
-        ensures { result ≡ [] }
+    /// No arcs yet, and room for as many as are told.
+    pub(crate) fn with_capacity(alloc: Global, number: usize) -> Result<ArcList, AllocError>
+        ensures { IfOk result (λ l. l ≡ []) }
     {
-        ArcList {
-            arcs: IndexMap::new(alloc),
-        }
+        let arcs = IndexMap::with_capacity(alloc, number)?;
+        Ok(ArcList { arcs })
     }
 
     fn as_slice(&self) -> &[StoredArc]
@@ -147,7 +147,7 @@ impl ArcList {
 fn copies(alloc: Global, arcs: &[StoredArc]) -> Result<ArcList, AllocError>
     ensures { IfOk result (λ l. l ≡ arcs.now) }
 {
-    let mut made = ArcList::new(alloc);
+    let mut made = ArcList::with_capacity(alloc, arcs.len())?;
     for arc in arcs {
         made.push(arc.copy(alloc)?)?;
     }

@@ -4,17 +4,12 @@ ghost use Rattle.std.specs.Ordering.{is_gt};
 ghost use Rattle.lines.specs.Turned.{position_cmp};
 ghost use Rattle.theory.specs.ArcNumbers.{along};
 ghost use Rattle.theory.specs.Refinement.{turned_used};
-ghost use Rattle.chains.specs.Turning.{used_key, key_of, key_cmp, least_place};
+ghost use Rattle.chains.specs.Keys.{key_of, key_cmp};
+ghost use Rattle.chains.specs.Turning.{used_key, least_place};
 
+use crate::key::Key;
 use crate::table::{ArcRef, ArcTable};
 use grid::pos::Pos;
-
-/// The first two vertices along a used arc.
-#[derive(Clone, Copy, PartialEq, Eq, PartialOrd, Ord, Debug)]
-struct Key {
-    first: Option<Pos>,
-    second: Option<Pos>,
-}
 
 fn key_against(arc: &[Pos]) -> Key
     ensures { result ≡ key_of (reverse arc.now) }
@@ -31,6 +26,7 @@ fn key_against(arc: &[Pos]) -> Key
     }
 }
 
+/// The first two vertices along a used arc.
 fn key_along(arcs: &ArcTable, used: &ArcRef) -> Key
     ensures { result ≡ used_key arcs.now.arcs used.now }
 {
@@ -39,10 +35,7 @@ fn key_along(arcs: &ArcTable, used: &ArcRef) -> Key
             if used.reversed {
                 key_against(arc)
             } else {
-                Key {
-                    first: arc.get(0).copied(),
-                    second: arc.get(1).copied(),
-                }
+                Key::of(arc)
             }
         }
         None => Key {

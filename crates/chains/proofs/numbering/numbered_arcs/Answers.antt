@@ -1,11 +1,14 @@
-use Rattle.std.proofs.Common.{◌≡◌, ◌<◌, ◌++◌, ◌∷◌, [], length, map, inl, inr, refl, sym, ap, ◌∙◌, subst}
+use Rattle.std.proofs.Common.{◌≡◌, ◌<◌, ◌++◌, ◌∷◌, [], map, inl, inr, refl, sym, ap, ◌∙◌, subst, Some}
 use Rattle.std.proofs.lemmas.List.{length-set}
+use Rattle.std.specs.Option.{option_eq}
 use Rattle.theory.specs.ArcNumbers.{ArcRef}
 use Rattle.theory.specs.Lists.{Has}
+use Rattle.chains.specs.Keys.{key_eq, key_of}
 use Rattle.chains.specs.Placing.{arcs_of, piece_of}
 use Rattle.chains.specs.Stored.{merged, merged_behind, merged_from, positions_of, stored_of}
 use Rattle.chains.specs.Table.{located, number_in}
 use Rattle.chains.specs.declared.numbering.Placed.{Placed}
+use Rattle.chains.proofs.KeysFirst.{apart}
 use Rattle.chains.proofs.Merged.{emptied}
 use Rattle.chains.proofs.PlacedPieces.{LeftOrPut, number_put, ref_put}
 use Rattle.chains.proofs.numbering.numbered_arcs.Goals as goal
@@ -15,6 +18,14 @@ index_mut-requires c =
     let x = c.in-Some.placed in
     let there = c.loop-placed.invariant.there x (subst (Has x) (sym c.in-Some.ensures.steps.0) (inl refl)) in
     subst (λ n. x.place < n) (sym c.loop-placed.refs.ok.0) (subst (λ n. x.place < n) (sym c.loop-placed.invariant.len) (c.requires.placed.within x there))
+
+pub arc_behind-requires : goal.arc_behind-requires
+arc_behind-requires c = λ e.
+    let x = c.in-Some.placed in
+    let there = c.loop-placed.invariant.there x (subst (Has x) (sym c.in-Some.ensures.steps.0) (inl refl)) in
+    let key : x.key ≡ key_of c.of.result.positions = c.requires.placed.keys x there ∙ ap key_of (sym (ap positions_of c.of.ensures)) in
+    apart c.loop-placed.last c.loop-placed.last_key c.of.result.positions c.loop-placed.invariant.key
+    (ap (λ k. option_eq key_eq c.loop-placed.last_key (Some k)) (sym key) ∙ sym c.eq-may_be_same.ensures ∙ e)
 
 pub loop-placed-preserved : goal.loop-placed-preserved
 loop-placed-preserved c =
@@ -38,6 +49,7 @@ loop-placed-preserved c =
     let is : used ≡ located (arcs_of l) x.piece = λ i. record { arc = number i; reversed = c.reversed-reversed.ensures i } in
     record {
       all = all;
+      key = ap Some (c.requires.placed.keys x there ∙ ap key_of (sym (c.in_ok-arc_behind.ensures.positions ∙ ap positions_of c.of.ensures)));
       len = length-set c.loop-placed.refs.items x.place used ∙ was.len;
       there = λ y h. was.there y (subst (Has y) (sym steps) (inr h));
       put = ref_put l more c.loop-placed.refs.items x used c.requires.placed there was.len is

@@ -1,5 +1,7 @@
 use Rattle.std.proofs.Common.{◌≡◌, ◌++◌, length, map}
+use Rattle.std.specs.Option.{option_map}
 use Rattle.theory.specs.Lists.{Has}
+use Rattle.chains.specs.Keys.{key_of}
 use Rattle.chains.specs.Placing.{arcs_of, piece_of}
 use Rattle.chains.specs.Stored.{merged, merged_behind, stored_of}
 use Rattle.chains.specs.declared.numbering.Placed.{Placed}
@@ -9,6 +11,7 @@ use Rattle.chains.proofs.numbering.numbered_arcs.Given as goal
 abbrev pub invariant-loop-placed : goal.invariant-loop-placed
 invariant-loop-placed l = record {
   all : l.arcs ++ merged_behind l.last (map stored_of (map piece_of l.placed-iterator.rest.items)) ≡ merged (map stored_of (map piece_of l.fn.pieces.items));
+  key : l.last_key ≡ option_map (λ a. key_of a.positions) l.last;
   len : length l.refs.items ≡ length l.fn.pieces.items;
   there : (y : Placed) → Has y l.placed-iterator.rest.items → Has y l.fn.pieces.items;
   put : (y : Placed) → Has y l.fn.pieces.items → LeftOrPut (arcs_of l.fn.pieces.items) l.placed-iterator.rest.items l.refs.items y;

@@ -3,7 +3,7 @@ use Rattle.std.specs.List.Sorted.{IsPermutation}
 use Rattle.lines.specs.Turned.{list_cmp}
 use Rattle.theory.specs.Arcs.{AreSortedOnce}
 use Rattle.chains.specs.Pieces.{chain_of}
-use Rattle.chains.specs.Placing.{arcs_of, piece_of, placed_from}
+use Rattle.chains.specs.Placing.{arcs_of, piece_of}
 use Rattle.chains.specs.Stored.{loops_of, positions_of, rises}
 use Rattle.chains.specs.Table.{AreLoopsOf, located}
 use Rattle.chains.proofs.Marks.{merged_loops, merged_once}
@@ -19,19 +19,23 @@ numbered_arcs-requires-clause-placed c =
     (sym c.sort.new.self.ok.0 ∙ c.sort.ensures.len ∙ c.in_ok-sorted.sorted.ok.0 ∙ ap length c.in_ok-sorted.ensures)
 
 pub numbered_arcs-requires-clause-rises : goal.numbered_arcs-requires-clause-rises
-numbered_arcs-requires-clause-rises c = placed_rise c.sort.new.self.items c.in_ok-sort.ensures.sorted
+numbered_arcs-requires-clause-rises c =
+    let l = c.sort.new.self.items in
+    placed_rise c.args.pieces.items l (subst (λ w. IsPermutation w l) c.in_ok-sorted.ensures c.sort.ensures.permutation) c.in_ok-sort.ensures.sorted
 
 pub invariant_of-result : goal.invariant_of-result
 invariant_of-result c =
-    subst (λ w. rises (map positions_of w) ≡ true) (sym c.in_ok-arcs.ensures.arcs) (placed_rise c.sort.new.self.items c.in_ok-sort.ensures.sorted)
+    let l = c.sort.new.self.items in
+    subst (λ w. rises (map positions_of w) ≡ true) (sym c.in_ok-arcs.ensures.arcs)
+    (placed_rise c.args.pieces.items l (subst (λ w. IsPermutation w l) c.in_ok-sorted.ensures c.sort.ensures.permutation) c.in_ok-sort.ensures.sorted)
 
 pub returns-clause-arcs : goal.returns-clause-arcs
 returns-clause-arcs c =
     let ps = c.args.pieces.items in
     let l = c.sort.new.self.items in
+    let same = subst (λ w. IsPermutation w l) c.in_ok-sorted.ensures c.sort.ensures.permutation in
     subst (λ w. AreSortedOnce list_cmp (map chain_of ps) (map positions_of w)) (sym c.in_ok-arcs.ensures.arcs)
-    (merged_once ps (map piece_of l) (pieces_moved ps l (subst (λ w. IsPermutation w l) c.in_ok-sorted.ensures c.sort.ensures.permutation))
-    (placed_rise l c.in_ok-sort.ensures.sorted))
+    (merged_once ps (map piece_of l) (pieces_moved ps l same) (placed_rise ps l same c.in_ok-sort.ensures.sorted))
 
 pub returns-clause-loops : goal.returns-clause-loops
 returns-clause-loops c =
