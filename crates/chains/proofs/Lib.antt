@@ -29,6 +29,7 @@ pub mod Sharing
 pub mod Recurring
 pub mod SharedVertices
 pub mod Apart
+pub mod PartsHeld
 pub mod TablesAsMap
 pub mod ArcsCut
 pub mod Stepping

@@ -69,7 +69,7 @@ around_has : (a v b : Pos) (r : List Pos) → Between a v b (around r) → Has v
 around_has a v b r (inl h) = round_has a v b r h
 around_has a v b r (inr h) = round_has b v a r h
 
-front_has : (v x : Pos) (r : List Pos) → Has v (front_of x r) → Has v (x ∷ r)
+pub front_has : (v x : Pos) (r : List Pos) → Has v (front_of x r) → Has v (x ∷ r)
 front_has v x [] h = absurd h
 front_has v x (y ∷ r) (inl e) = inl e
 front_has v x (y ∷ r) (inr h) = inr (front_has v y r h)

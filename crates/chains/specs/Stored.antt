@@ -1,11 +1,14 @@
 -- Arcs as the table keeps them: in order, each once, with a mark where it is a free loop.
-use Rattle.std.specs.Prelude.{ℕ, ◌<◌, Bool, true, false, cond, ◌&&◌, ◌||◌, List, [], ◌∷◌, drop, map, length, Contains, Option, Some, None}
+use Rattle.std.specs.Prelude.{ℕ, ◌<◌, Bool, true, false, cond, ◌&&◌, ◌||◌, List, [], ◌∷◌, drop, map, length, Contains, Option, Some, None, IfSome, ◌≡◌}
 use Rattle.std.specs.Ordering.{is_lt}
 use Rattle.theory.specs.TopologyFunction.{keep}
 use Rattle.grid.specs.declared.pos.Pos.{Pos}
 use Rattle.lines.specs.Turned.{list_cmp}
+use Rattle.chains.specs.Extents.{within}
+use Rattle.chains.specs.Holding.{HoldAll}
 use Rattle.chains.specs.Table.{same_list}
 use Rattle.chains.specs.declared.cutting.Piece.{Piece}
+use Rattle.chains.specs.declared.extent.Extent.{Extent}
 use Rattle.chains.specs.declared.stored.StoredArc.{StoredArc}
 
 -- the positions of the arc
@@ -29,6 +32,11 @@ abbrev pub rises : List (List Pos) → Bool
 rises [] = true
 rises (c ∷ []) = true
 rises (c ∷ (d ∷ l)) = is_lt (list_cmp c d) && rises (d ∷ l)
+
+-- the arcs stand in order, each once, and all positions lie in the box, where one is known
+pub record AreKept (arcs : List StoredArc) (extent : Option Extent) : Type 0 where
+  pub rising : rises (map positions_of arcs) ≡ true
+  pub held : IfSome extent (λ e. HoldAll (within e) (map positions_of arcs))
 
 -- the first of some marks; where there is none, it is not set
 abbrev pub first_of : List Bool → Bool

@@ -1,4 +1,4 @@
-//! The box that the positions of a table's arcs lie in.
+//! A box in which the positions of a table's arcs lie.
 ghost use Rattle.std.specs.Prelude.{◌≡◌};
 ghost use Rattle.std.specs.Int.{int_min, int_max};
 ghost use Rattle.chains.specs.Extents.{between, within};
@@ -9,9 +9,9 @@ use crate::table::ArcTable;
 use grid::limits::{GREATEST_GRID_NUMBER, LEAST_GRID_NUMBER};
 use grid::pos::Pos;
 
-/// The least and the greatest numbers of some positions.
+/// The least and the greatest numbers of some positions, or of more.
 #[derive(Clone, Copy)]
-pub(crate) struct Extent {
+pub struct Extent {
     west: i64,
     south: i64,
     east: i64,
@@ -33,6 +33,18 @@ fn is_between(least: i64, number: i64, greatest: i64) -> bool
     least <= number && number <= greatest
 }
 
+fn lesser(a: i64, b: i64) -> i64
+    ensures { result ≡ int_min a b }
+{
+    a.min(b)
+}
+
+fn greater(a: i64, b: i64) -> i64
+    ensures { result ≡ int_max a b }
+{
+    a.max(b)
+}
+
 impl Extent {
     /// Whether a position lies within.
     pub(crate) fn has(&self, p: Pos) -> bool
@@ -47,10 +59,10 @@ impl Extent {
         ensures east { self.new.east ≡ int_max self.old.east p.x }
         ensures north { self.new.north ≡ int_max self.old.north p.y }
     {
-        self.west = self.west.min(p.x());
-        self.south = self.south.min(p.y());
-        self.east = self.east.max(p.x());
-        self.north = self.north.max(p.y());
+        self.west = lesser(self.west, p.x());
+        self.south = lesser(self.south, p.y());
+        self.east = greater(self.east, p.x());
+        self.north = greater(self.north, p.y());
     }
 
     fn widen_all(&mut self, positions: &[Pos])
@@ -69,8 +81,8 @@ impl Extent {
         }
     }
 
-    /// The extent of a table's arcs.
-    pub(crate) fn around(table: &ArcTable) -> Extent
+    /// That of a table's arcs, of which none is known.
+    fn found(table: &ArcTable) -> Extent
         ensures { HoldAll (within result) table.now.arcs }
     {
         let mut extent = NOWHERE;
@@ -78,5 +90,28 @@ impl Extent {
             extent.widen_numbered(table, number);
         }
         extent
+    }
+
+    /// That of a table's arcs.
+    pub(crate) fn around(table: &ArcTable) -> Extent
+        ensures { HoldAll (within result) table.now.arcs }
+    {
+        match table.extent() {
+            Some(extent) => extent,
+            None => Extent::found(table),
+        }
+    }
+
+    /// Widens it by another one.
+    pub(crate) fn widen_by(&mut self, other: &Extent)
+        ensures west { self.new.west ≡ int_min self.old.west other.now.west }
+        ensures south { self.new.south ≡ int_min self.old.south other.now.south }
+        ensures east { self.new.east ≡ int_max self.old.east other.now.east }
+        ensures north { self.new.north ≡ int_max self.old.north other.now.north }
+    {
+        self.west = lesser(self.west, other.west);
+        self.south = lesser(self.south, other.south);
+        self.east = greater(self.east, other.east);
+        self.north = greater(self.north, other.north);
     }
 }

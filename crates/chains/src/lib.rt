@@ -5,8 +5,8 @@
 pub mod cutting;
 mod extent;
 pub mod joining;
-pub mod marking;
 mod key;
+pub mod marking;
 mod merging;
 mod numbering;
 mod ordered;
@@ -23,6 +23,7 @@ pub mod turning;
 pub mod visits;
 
 pub use cutting::{Piece, add_pieces, cut_arc, cut_line, cut_ring};
+pub use extent::Extent;
 pub use joining::{maximal, maximal_with};
 pub use segment::Segment;
 pub use sides::segments_of;

@@ -8,11 +8,14 @@ ghost use Rattle.theory.specs.Arcs.{Ascends, AreSortedOnce};
 ghost use Rattle.theory.specs.ArcNumbers.{along, index_of};
 ghost use Rattle.grid.specs.declared.pos.Pos.{Pos};
 ghost use Rattle.chains.specs.declared.cutting.Piece.{Piece as Part};
+ghost use Rattle.chains.specs.Extents.{within};
+ghost use Rattle.chains.specs.Holding.{HoldAll};
 ghost use Rattle.chains.specs.Pieces.{used, chain_of};
 ghost use Rattle.chains.specs.Placing.{whole_pieces};
 ghost use Rattle.chains.specs.Table.{located, found_in, marked, number_in, free_at, AreAlike, AreLoopsOf, ArePiecesOfMap, IsTableOf};
 
 use crate::cutting::Piece;
+use crate::extent::Extent;
 use crate::merging::merged_arcs;
 use crate::numbering::{numbered_arcs, with_places};
 use crate::ordered::{is_rising, marked_arcs};
@@ -81,18 +84,20 @@ impl ArcRef {
 #[derive(Drop)]
 pub struct ArcTable {
     arcs: ArcList,
+    /// A box in which all positions lie, where one is known.
+    extent: Option<Extent>,
 }
 
 impl Model for ArcTable {
-    ghost use Rattle.std.specs.Prelude.{◌≡◌, true, map as map_list};
+    ghost use Rattle.std.specs.Prelude.{map as map_list};
     ghost use Rattle.chains.specs.Arcs.{Arcs};
-    ghost use Rattle.chains.specs.Stored.{positions_of, loops_of, rises};
+    ghost use Rattle.chains.specs.Stored.{AreKept, positions_of, loops_of};
 
     ghost Value = { Arcs };
 
     ghost view = { λ a. record { arcs = map_list positions_of a.arcs; loops = loops_of a.arcs } };
 
-    ghost invariant = { λ a. rises (map_list positions_of a.arcs) ≡ true };
+    ghost invariant = { λ a. AreKept a.arcs a.extent };
 }
 
 impl ArcTable {
@@ -110,7 +115,7 @@ impl ArcTable {
         let mut sorted = pieces;
         sorted.sort_unstable();
         let arcs = merged_arcs(alloc, sorted)?;
-        Ok(ArcTable { arcs })
+        Ok(ArcTable { arcs, extent: None })
     }
 
     /// `from_pieces`, and for each piece the used arc that it is.
@@ -129,7 +134,7 @@ impl ArcTable {
         let mut sorted = with_places(alloc, pieces)?;
         sorted.sort()?;
         let (arcs, refs) = numbered_arcs(alloc, sorted)?;
-        Ok((ArcTable { arcs }, refs))
+        Ok((ArcTable { arcs, extent: None }, refs))
     }
 
     /// The table of arcs that stand in order, of which those that are marked are free loops; `None`
@@ -149,7 +154,25 @@ impl ArcTable {
             return Ok(None);
         }
         let arcs = marked_arcs(alloc, arcs, free)?;
-        Ok(Some(ArcTable { arcs }))
+        Ok(Some(ArcTable { arcs, extent: None }))
+    }
+
+    /// The same table, of which it is known in which box all positions lie.
+    pub fn with_extent(self, extent: Extent) -> ArcTable
+        requires { HoldAll (within extent) self.arcs }
+        ensures { result ≡ self }
+    {
+        ArcTable {
+            arcs: self.arcs,
+            extent: Some(extent),
+        }
+    }
+
+    /// A box in which all positions lie, where one is known.
+    pub(crate) fn extent(&self) -> Option<Extent>
+        ensures { IfSome result (λ e. HoldAll (within e) self.now.arcs) }
+    {
+        self.extent
     }
 
     /// The number of arcs.
@@ -226,6 +249,9 @@ impl ArcTable {
         ensures { IfOk result (λ t. t ≡ self.now) }
     {
         let arcs = self.arcs.copy(alloc)?;
-        Ok(ArcTable { arcs })
+        Ok(ArcTable {
+            arcs,
+            extent: self.extent,
+        })
     }
 }

@@ -2,6 +2,7 @@
 ghost use Rattle.std.specs.Prelude.{◌≡◌, cond, [], ◌∷◌, ◌++◌, ◌↔◌, ◌⊎◌, map as map_list, slice_get, IfOk, List, OnOk, IsTrue, Some};
 ghost use Rattle.std.specs.List.{list_any};
 ghost use Rattle.chains.specs.Extents.{within};
+ghost use Rattle.chains.specs.Holding.{HoldAll};
 ghost use Rattle.theory.specs.Geometry.{Geometry, IsSound, JunctionOf, SegmentOf};
 ghost use Rattle.theory.specs.Segments.{OnThree};
 ghost use Rattle.theory.specs.Lists.{Has, gathered, joined};
@@ -373,12 +374,13 @@ impl Model for VisitIndex {
 }
 
 /// The index over the arcs of two tables, and for each arc of either whether it may be cut: one that is
-/// not marked is its own one piece.
+/// not marked is its own one piece. All positions of both lie in the extent.
 #[derive(Drop)]
 pub struct ArcsIndex {
     pub index: VisitIndex,
     pub left: Vec<bool>,
     pub right: Vec<bool>,
+    pub extent: Extent,
 }
 
 impl VisitIndex {
@@ -440,6 +442,8 @@ impl VisitIndex {
         ensures union { IfOk result (λ i. (m n u : Geometry Pos) → IsSound m → IsSound n → IsTableOf m left.now → IsTableOf n right.now → IsUnionOf m n u → IsIndexOf i.index u) }
         ensures left { IfOk result (λ i. (m n : Geometry Pos) → IsSound m → IsSound n → IsTableOf m left.now → IsTableOf n right.now → StayWhole i.index left.now i.left.items) }
         ensures right { IfOk result (λ i. (m n : Geometry Pos) → IsSound m → IsSound n → IsTableOf m left.now → IsTableOf n right.now → StayWhole i.index right.now i.right.items) }
+        ensures left_extent { IfOk result (λ i. HoldAll (within i.extent) left.now.arcs) }
+        ensures right_extent { IfOk result (λ i. HoldAll (within i.extent) right.now.arcs) }
     {
         let left_extent = Extent::around(left);
         let right_extent = Extent::around(right);
@@ -453,10 +457,13 @@ impl VisitIndex {
         let left_marks = seen.see_arcs(alloc, &of_right, left, &of_left.near)?;
         let right_marks = seen.see_arcs(alloc, &of_left, right, &of_right.near)?;
         let index = VisitIndex::of_seen(alloc, seen)?;
+        let mut extent = left_extent;
+        extent.widen_by(&right_extent);
         Ok(ArcsIndex {
             index,
             left: left_marks,
             right: right_marks,
+            extent,
         })
     }
 

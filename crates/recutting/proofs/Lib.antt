@@ -1,5 +1,6 @@
 pub mod Bounds
 pub mod Parted
+pub mod Held
 pub mod TwoTables
 pub mod Replaced
 pub mod Lists

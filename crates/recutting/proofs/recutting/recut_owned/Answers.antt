@@ -1,10 +1,12 @@
 use Rattle.std.proofs.Common.{◌≤◌, ◌++◌, ◌∙◌, ap, length, subst, sym}
 use Rattle.theory.specs.Lists.{joined}
+use Rattle.chains.specs.Extents.{within}
 use Rattle.chains.specs.Shared.{StayWhole}
 use Rattle.chains.specs.Table.{located}
 use Rattle.recutting.specs.Bounds.{parts_between}
 use Rattle.recutting.specs.Cutting.{pieces_from}
 use Rattle.recutting.proofs.Bounds.{bounds_are}
+use Rattle.recutting.proofs.Held.{pieces_held}
 use Rattle.recutting.proofs.Parted.{AreNumbered, all_pieces, enough, first_refs, left_length, left_used, other_refs, right_length, right_used}
 use Rattle.recutting.proofs.TwoTables.{recut_is}
 use Rattle.recutting.proofs.recutting.recut_owned.Goals as goal
@@ -48,6 +50,18 @@ between-right_lists-requires c =
     ∙ other_refs new ls rs c.add_table-2.new.pieces.items c.in_ok-arcs.refs.items c.len-left_count.result count all c.in_ok-arcs.ensures.refs in
     bounds_are (located new.arcs) of_right c.in_ok-right_bounds.right_bounds.items _ c.in_ok-right_bounds.ensures.bounds refs
 
+pub with_extent-requires : goal.with_extent-requires
+with_extent-requires c =
+    let js = c.in_ok-cuts.cuts.index in
+    let left_arcs = c.in_ok-left_arcs.left_arcs.items in
+    let right_arcs = c.in_ok-right_arcs.right_arcs.items in
+    let ls = joined (pieces_from js c.deref.result.now 0 left_arcs) in
+    let rs = joined (pieces_from js c.deref-2.result.now 0 right_arcs) in
+    pieces_held (within c.in_ok-cuts.cuts.extent) js c.args.left c.args.right c.deref.result.now c.deref-2.result.now left_arcs right_arcs
+    c.add_table-2.new.pieces.items c.in_ok-arcs.arcs.arcs c.in_ok-left_arcs.ensures c.in_ok-right_arcs.ensures
+    (c.in_ok-right_bounds.ensures.pieces ∙ ap (λ w. w ++ rs) (c.in_ok-left_bounds.ensures.pieces ∙ ap (λ w. w ++ ls) c.in_ok-pieces.ensures.items))
+    c.in_ok-arcs.ensures.arcs c.in_ok-cuts.ensures.left_extent c.in_ok-cuts.ensures.right_extent
+
 are_numbered : (c : goal.After-drop-cuts-5) →
     AreNumbered c.in_ok-cuts.cuts.index c.args.left c.args.right c.deref.result.now c.deref-2.result.now c.add_table-2.new.pieces.items c.in_ok-arcs.arcs c.from_parts.result
 are_numbered c =
@@ -67,7 +81,7 @@ are_numbered c =
       count_is = c.len-left_count.ensures ∙ c.add_table.new.pieces.ok.0 ∙ ap length first;
       pieces_are = c.in_ok-right_bounds.ensures.pieces ∙ ap (λ w. w ++ rs) first;
       refs_are = c.in_ok-arcs.ensures.refs;
-      arcs_are = ap (λ r. r.arcs) c.from_parts.ensures;
+      arcs_are = ap (λ r. r.arcs) c.from_parts.ensures ∙ c.with_extent.ensures;
       lists_left = ap (λ r. r.left) c.from_parts.ensures ∙ c.between-left_lists.ensures ∙ (λ i. parts_between (c.in_ok-left_bounds.ensures.bounds i) (c.in_ok-right_refs.ensures.items i));
       lists_right = ap (λ r. r.right) c.from_parts.ensures ∙ c.between-right_lists.ensures
           ∙ (λ i. parts_between (c.in_ok-right_bounds.ensures.bounds i) (c.in_ok-right_refs.ensures.tail i));

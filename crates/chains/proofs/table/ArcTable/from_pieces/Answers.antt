@@ -4,6 +4,7 @@ use Rattle.theory.specs.Arcs.{AreSortedOnce}
 use Rattle.chains.specs.Pieces.{chain_of}
 use Rattle.chains.specs.Stored.{positions_of, loops_of, rises}
 use Rattle.chains.specs.Table.{AreLoopsOf}
+use Rattle.chains.proofs.Extents.{alone}
 use Rattle.chains.proofs.Marks.{merged_once, merged_loops, alike_told}
 use Rattle.chains.proofs.Merged.{pieces_rise}
 use Rattle.chains.proofs.TableOfMap.{table_is}
@@ -11,7 +12,7 @@ use Rattle.chains.proofs.table.ArcTable.from_pieces.Goals as goal
 
 pub invariant_of-result : goal.invariant_of-result
 invariant_of-result c =
-    subst (λ w. rises (map positions_of w) ≡ true) (sym c.in_ok-arcs.ensures) (pieces_rise c.sort_unstable.new.self.items c.sort_unstable.ensures.sorted)
+    alone _ (subst (λ w. rises (map positions_of w) ≡ true) (sym c.in_ok-arcs.ensures) (pieces_rise c.sort_unstable.new.self.items c.sort_unstable.ensures.sorted))
 
 pub returns-clause-arcs : goal.returns-clause-arcs
 returns-clause-arcs c =

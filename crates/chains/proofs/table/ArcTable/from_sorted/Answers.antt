@@ -1,6 +1,7 @@
 use Rattle.std.proofs.Common.{map, ap, sym, ◌∙◌}
 use Rattle.chains.specs.Stored.{loops_of, positions_of, rises}
 use Rattle.chains.proofs.AsTheyStand.{sorted_told, with_marks_positions, with_marks_loops}
+use Rattle.chains.proofs.Extents.{alone}
 use Rattle.chains.proofs.table.ArcTable.from_sorted.Goals as goal
 
 pub returns-then-not-is_rising-clause-sorted : goal.returns-then-not-is_rising-clause-sorted
@@ -8,12 +9,12 @@ returns-then-not-is_rising-clause-sorted c =
     sorted_told c.args.arcs.items _ (sym c.if-not-is_rising.true ∙ c.is_rising.ensures ∙ ap rises c.deref.ensures.value)
 
 pub invariant_of-result : goal.invariant_of-result
-invariant_of-result c =
+invariant_of-result c = alone _ (
     ap (λ w. rises (map positions_of w)) c.in_ok-arcs.ensures
     ∙ ap rises (with_marks_positions c.args.arcs.items c.args.free.now)
     ∙ sym (ap rises c.deref.ensures.value)
     ∙ sym c.is_rising.ensures
-    ∙ c.if-not-is_rising.false
+    ∙ c.if-not-is_rising.false)
 
 pub returns-clause-table : goal.returns-clause-table
 returns-clause-table c = λ i. record {

@@ -4,4 +4,4 @@ use Rattle.chains.proofs.PlacedPieces.{owned}
 use Rattle.chains.proofs.table.ArcTable.into_pieces.Goals as goal
 
 pub returns : goal.returns
-returns c = c.in_ok-pieces.ensures ∙ owned c.self.inside.arcs c.self.invariant ∙ ap whole_pieces c.self.view_is
+returns c = c.in_ok-pieces.ensures ∙ owned c.self.inside.arcs c.self.invariant.rising ∙ ap whole_pieces c.self.view_is

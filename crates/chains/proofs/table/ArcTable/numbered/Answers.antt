@@ -6,6 +6,7 @@ use Rattle.chains.specs.Pieces.{chain_of}
 use Rattle.chains.specs.Placing.{arcs_of, piece_of}
 use Rattle.chains.specs.Stored.{loops_of, positions_of, rises}
 use Rattle.chains.specs.Table.{AreLoopsOf, located}
+use Rattle.chains.proofs.Extents.{alone}
 use Rattle.chains.proofs.Marks.{merged_loops, merged_once}
 use Rattle.chains.proofs.PlacedPieces.{are_placed, pieces_moved, placed_rise, refs_are}
 use Rattle.chains.proofs.TableOfMap.{table_is}
@@ -26,8 +27,8 @@ numbered_arcs-requires-clause-rises c =
 pub invariant_of-result : goal.invariant_of-result
 invariant_of-result c =
     let l = c.sort.new.self.items in
-    subst (λ w. rises (map positions_of w) ≡ true) (sym c.in_ok-arcs.ensures.arcs)
-    (placed_rise c.args.pieces.items l (subst (λ w. IsPermutation w l) c.in_ok-sorted.ensures c.sort.ensures.permutation) c.in_ok-sort.ensures.sorted)
+    alone _ (subst (λ w. rises (map positions_of w) ≡ true) (sym c.in_ok-arcs.ensures.arcs)
+    (placed_rise c.args.pieces.items l (subst (λ w. IsPermutation w l) c.in_ok-sorted.ensures c.sort.ensures.permutation) c.in_ok-sort.ensures.sorted))
 
 pub returns-clause-arcs : goal.returns-clause-arcs
 returns-clause-arcs c =

@@ -2,6 +2,7 @@ use Rattle.std.proofs.Common.{◌++◌, ◌∙◌, ap}
 use Rattle.theory.specs.Lists.{gathered}
 use Rattle.chains.specs.OfArcs.{arc_ends, tables_as_map}
 use Rattle.chains.specs.Shared.{arc_shared, may_hold}
+use Rattle.chains.proofs.Extents.{joined_keeps, joined_keeps_other}
 use Rattle.chains.proofs.Same.{same_before, same_equal, same_refl, same_trans}
 use Rattle.chains.proofs.SharedVertices.{all_visits, left_whole, met_kept, right_whole, shared_held}
 use Rattle.chains.proofs.TablesAsMap.{visits_of_tables, tables_alike, index_alike}
@@ -46,3 +47,13 @@ returns-clause-right c = λ m n sm sn ms nt.
     (shared_held c.args.left.now c.args.right.now c.around-left_extent.result c.around-right_extent.result c.in_ok-of_left.of_left c.around-left_extent.ensures c.around-right_extent.ensures c.in_ok-of_left.ensures.common)
     (shared_held c.args.right.now c.args.left.now c.around-right_extent.result c.around-left_extent.result c.in_ok-of_right.of_right c.around-right_extent.ensures c.around-left_extent.ensures c.in_ok-of_right.ensures.common)
     c.in_ok-index.index (returns-clause-arcs c m n sm sn ms nt) c.in_ok-right_marks.right_marks.items c.in_ok-right_marks.ensures.marks
+
+pub returns-clause-left_extent : goal.returns-clause-left_extent
+returns-clause-left_extent c = λ arc h p k.
+    joined_keeps c.around-left_extent.result c.around-right_extent.result c.widen_by.new.self c.widen_by.ensures.west c.widen_by.ensures.south c.widen_by.ensures.east c.widen_by.ensures.north p
+    (c.around-left_extent.ensures arc h p k)
+
+pub returns-clause-right_extent : goal.returns-clause-right_extent
+returns-clause-right_extent c = λ arc h p k.
+    joined_keeps_other c.around-left_extent.result c.around-right_extent.result c.widen_by.new.self c.widen_by.ensures.west c.widen_by.ensures.south c.widen_by.ensures.east c.widen_by.ensures.north p
+    (c.around-right_extent.ensures arc h p k)

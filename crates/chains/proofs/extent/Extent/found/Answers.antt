@@ -2,7 +2,7 @@ use Rattle.std.proofs.Common.{◌<◌, ◌≤◌, inl, inr, subst}
 use Rattle.chains.specs.Extents.{within}
 use Rattle.chains.proofs.Sharing.{arc_marked}
 use Rattle.lines.proofs.Dropping.{none_left}
-use Rattle.chains.proofs.extent.Extent.around.Goals as goal
+use Rattle.chains.proofs.extent.Extent.found.Goals as goal
 
 pub loop-number-preserved : goal.loop-number-preserved
 loop-number-preserved c =
