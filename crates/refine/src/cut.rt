@@ -289,7 +289,7 @@ fn united(alloc: Global, left: Topology, right: Topology) -> Result<Topology, Ou
     let right_layers = layers_recut(alloc, &cut, Side::Right, right_layers)?;
     let arcs = cut.into_arcs();
     let layers = layers_of_both(alloc, &arcs, left_layers, right_layers)?;
-    Ok(Topology::from_parts(grid, arcs, layers))
+    Ok(Topology::from_unmeasured_parts(grid, arcs, layers))
 }
 
 /// `united` of two topologies that stay.

@@ -433,6 +433,6 @@ pub fn remove(
     let joined = rejoin(alloc, topology.arcs(), &kept, &ends)?;
     let layers = layers_rejoined(alloc, &joined, &left)?;
     let (arcs, pieces) = joined.into_parts();
-    let topology = Topology::from_parts(topology.grid(), arcs, layers);
+    let topology = Topology::from_unmeasured_parts(topology.grid(), arcs, layers);
     Ok(Removal { topology, pieces })
 }

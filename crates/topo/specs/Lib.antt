@@ -4,6 +4,7 @@ pub mod Parts
 pub mod Box
 pub mod OfMap
 pub mod Points
+pub mod Kept
 pub mod Inside
 pub mod Building
 pub mod Cuts

@@ -2,8 +2,9 @@
 ghost use Rattle.std.specs.Prelude.{◌≡◌, ◌<◌, ◌^◌, Some, None, ◌++◌, length, map as map_list};
 ghost use Rattle.std.specs.Int.{int_min, int_max};
 ghost use Rattle.theory.specs.Lists.{gathered, joined};
-ghost use Rattle.grid.specs.Place.{IsTransform, absolute as absolute_number};
+ghost use Rattle.grid.specs.Place.{IsTransform, Transform, absolute as absolute_number};
 ghost use Rattle.topo.specs.Box.{widened_at, numbers_of, box_by, box_of, AreGridNumbers};
+ghost use Rattle.topo.specs.Kept.{kept_box};
 ghost use Rattle.topo.specs.Points.{arc_at, body_points, geometry_points, layer_points};
 
 use crate::geom::{Body, Geom};
@@ -130,5 +131,26 @@ pub(crate) fn bounds(grid: &Grid, arcs: &ArcTable, layers: &[Layer]) -> Option<C
     match around_all(arcs, layers) {
         Some(corners) => Some(absolute(grid, corners)),
         None => None,
+    }
+}
+
+/// What a topology keeps of its box: the box that was found, or that it is sought when it is asked for.
+#[derive(Clone, Copy)]
+pub(crate) enum KeptBox {
+    Found(Option<Corners>),
+    Sought,
+}
+
+impl KeptBox {
+    /// What is kept where no position is walked: with no arcs and no layers there is no box, and any
+    /// other one is sought.
+    pub(crate) fn unmeasured(arcs: &ArcTable, layers: &[Layer]) -> KeptBox
+        ensures kept { (g : Transform) → kept_box g arcs.now layers.now result ≡ box_of g (joined arcs.now.arcs ++ gathered layer_points layers.now) }
+        ensures few { length arcs.now.arcs < 2 ^ 63 }
+    {
+        if arcs.len() == 0 && layers.is_empty() {
+            return KeptBox::Found(None);
+        }
+        KeptBox::Sought
     }
 }

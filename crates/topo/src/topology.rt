@@ -9,7 +9,7 @@ ghost use Rattle.topo.specs.Walked.{walked};
 ghost use Rattle.topo.specs.Parts.{LayerParts, IsOfLayerNamed};
 ghost use Rattle.topo.specs.OfMap.{ArePartsOf, IsOf, IsOfSomeMap, IsTopology, seen_parts, the_topology};
 
-use crate::bounds::bounds;
+use crate::bounds::{KeptBox, bounds};
 use crate::geom::Geom;
 use crate::walk::Walk;
 use chains::table::{ArcRef, ArcTable};
@@ -117,13 +117,14 @@ fn find_geometries<'a>(layers: &'a [Layer], name: &str) -> Option<&'a [Geom]>
 }
 
 /// A quantized topology (TopoJSON section 2.1): the grid, the arcs, and for each layer its
-/// geometries as lists of arcs. The bounding box of its positions is kept with it.
+/// geometries as lists of arcs. The bounding box of its positions is kept with it, or sought when it is
+/// asked for.
 #[derive(Drop)]
 pub struct Topology {
     grid: Grid,
     arcs: ArcTable,
     layers: Items<Layer>,
-    bbox: Option<(i64, i64, i64, i64)>,
+    bbox: KeptBox,
 }
 
 impl Model for Topology {
@@ -150,6 +151,25 @@ impl Topology {
         ensures few { length result.arcs.arcs < 2 ^ 63 }
     {
         let bbox = bounds(&grid, &arcs, &layers);
+        Topology {
+            grid,
+            arcs,
+            layers: Items::from_vec(layers),
+            bbox: KeptBox::Found(bbox),
+        }
+    }
+
+    /// `from_parts` of a topology whose box is not asked for, or seldom: it is sought each time that it
+    /// is asked for.
+    pub fn from_unmeasured_parts(grid: Grid, arcs: ArcTable, layers: Vec<Layer>) -> Topology
+        requires { (m : Layers) × ArePartsOf m arcs layers.items }
+        ensures grid { result.grid ≡ grid }
+        ensures arcs { result.arcs ≡ arcs }
+        ensures layers { result.layers ≡ layers.items }
+        ensures of_map { (m : Layers) → ArePartsOf m arcs layers.items → IsOf m result }
+        ensures few { length result.arcs.arcs < 2 ^ 63 }
+    {
+        let bbox = KeptBox::unmeasured(&arcs, &layers);
         Topology {
             grid,
             arcs,
@@ -195,7 +215,10 @@ impl Topology {
     pub fn bbox(&self) -> Option<(i64, i64, i64, i64)>
         ensures { result ≡ self.now.bbox }
     {
-        self.bbox
+        match self.bbox {
+            KeptBox::Found(bbox) => bbox,
+            KeptBox::Sought => bounds(&self.grid, &self.arcs, self.layers.as_slice()),
+        }
     }
 
     /// The positions that a list of arcs stitches to, lent from the arcs.

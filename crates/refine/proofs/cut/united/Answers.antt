@@ -12,8 +12,8 @@ layers_of_both-requires c =
       right = right_has cut _ _ c.into_parts-left_arcs.ensures.of_map.1 c.into_parts-right_arcs.ensures.of_map.1;
     }
 
-pub from_parts-requires : goal.from_parts-requires
-from_parts-requires c =
+pub from_unmeasured_parts-requires : goal.from_unmeasured_parts-requires
+from_unmeasured_parts-requires c =
     let cut =
     are_cut c.into_parts-left_arcs.ensures.arcs c.into_parts-right_arcs.ensures.arcs c.into_parts-left_arcs.ensures.layers c.into_parts-right_arcs.ensures.layers c.in_ok-cut.ensures.refined
     c.into_arcs-arcs.ensures c.in_ok-left_layers.ensures c.in_ok-right_layers.ensures in (
@@ -26,4 +26,4 @@ returns-clause-of_map c = λ m n hm hn.
     let cut =
     are_cut c.into_parts-left_arcs.ensures.arcs c.into_parts-right_arcs.ensures.arcs c.into_parts-left_arcs.ensures.layers c.into_parts-right_arcs.ensures.layers c.in_ok-cut.ensures.refined
     c.into_arcs-arcs.ensures c.in_ok-left_layers.ensures c.in_ok-right_layers.ensures in
-    c.from_parts.ensures.of_map (union m n) (parts_are cut m n hm hn c.in_ok-layers.layers.items c.in_ok-layers.ensures)
+    c.from_unmeasured_parts.ensures.of_map (union m n) (parts_are cut m n hm hn c.in_ok-layers.layers.items c.in_ok-layers.ensures)
