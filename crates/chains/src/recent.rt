@@ -27,8 +27,7 @@ impl Recent {
     pub(crate) fn widen(&mut self, noted: usize) -> Result<(), AllocError> {
         let wanted = noted.min(RECENT);
         if self.places.len() < wanted {
-            self.places
-                .resize(wanted.saturating_mul(2).min(RECENT), 0)?;
+            self.places.resize(wanted.saturating_mul(2).min(RECENT), 0)?;
         }
         Ok(())
     }

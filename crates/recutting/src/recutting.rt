@@ -65,11 +65,7 @@ pub fn recut_owned(alloc: Global, left: ArcTable, right: ArcTable) -> Result<Rec
     let right_refs = left_refs.split_off(left_count)?;
     let left_lists = PieceLists::between(left_refs, left_bounds);
     let right_lists = PieceLists::between(right_refs, right_bounds);
-    Ok(Recut::from_parts(
-        arcs.with_extent(cuts.extent),
-        left_lists,
-        right_lists,
-    ))
+    Ok(Recut::from_parts(arcs.with_extent(cuts.extent), left_lists, right_lists))
 }
 
 /// `recut_owned` of two tables that stay.
