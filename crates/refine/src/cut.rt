@@ -187,7 +187,7 @@ fn geometries_merged(
     requires right { HaveFeatures arcs.now.arcs right.items }
     ensures { IfOk result (λ v. v.items ≡ cuts.merged (geometry_cmp arcs.now.arcs) left.items right.items) }
 {
-    let mut merged = Vec::new(alloc);
+    let mut merged = Vec::with_capacity(alloc, left.len() + right.len())?;
     let mut others = Others::of(right);
     for geometry in left {
         put_before(alloc, arcs, &geometry, &mut others, &mut merged)?;
