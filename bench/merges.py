@@ -7,9 +7,9 @@
 builds the programs and prints, for tilings that are spread over 16 and over 256 shards, what merging
 takes in each grouping, with plans that are run as they stand, and what the command takes, which
 chooses its own grouping; each in times of reading the shards' values alone. Then the same for twice
-as many shards of the same size. Times are processor times (user and system), the least of some runs;
-both sizes are measured by the same turns. All texts are compared byte by byte with the build of the
-whole.
+as many shards of the same size, and so on, as often as is asked for (`--doublings`). Times are
+processor times (user and system), the least of some runs; all sizes are measured by the same turns.
+All texts are compared byte by byte with the build of the whole.
 """
 
 import os
@@ -60,9 +60,9 @@ def print_rows(count, shards, measures, before):
 
 
 def measure_shards(folder, shards, words):
-    """Prints the rows of a tiling over this many shards, and of one twice as large over twice as many."""
+    """Prints the rows of a tiling over this many shards, and of each twice as large over twice as many."""
     sizes = []
-    for times in (1, 2):
+    for times in [2**doubling for doubling in range(words.doublings + 1)]:
         part = os.path.join(folder, str(times))
         os.mkdir(part)
         sizes.append(make_topologies(part, times * words.positions, words.seed, times * shards))
@@ -73,9 +73,12 @@ def measure_shards(folder, shards, words):
 
 
 def main():
-    words = parser_of("Measures merging over both kinds of shards.", runs=3).parse_args()
+    parser = parser_of("Measures merging over both kinds of shards.", runs=3)
+    parser.add_argument("--doublings", type=int, default=1)
+    parser.add_argument("--shards", type=int, nargs="+", default=[16, 256])
+    words = parser.parse_args()
     need(TOOL, BENCH)
-    for shards in (16, 256):
+    for shards in words.shards:
         with tempfile.TemporaryDirectory() as folder:
             measure_shards(folder, shards, words)
 

@@ -4,11 +4,11 @@
     (cd crates/bench_runs && rt run)
     python3 bench/removals.py
 
-builds the program and prints, for tilings of two sizes, what it takes to take out one district, the
+builds the program and prints, for tilings of two sizes or more (`--doublings`), what it takes to take out one district, the
 first half of the rows, and every second district as on a chequered board, and what building the
 topology of what is left takes, each without reading files or writing the text: a program that does
 it several times is compared with one that does it once. Times are processor times (user and
-system), the least of some runs; both sizes are measured by the same turns. The texts of both are
+system), the least of some runs; all sizes are measured by the same turns. The texts of both are
 compared byte by byte. The goal, which no test asks for: at most 0.4 times the build, and at most 2.2 times as long
 for the double.
 """
@@ -103,10 +103,11 @@ def measure_removal(name, tilings, words):
 def main():
     parser = parser_of("Measures taking features out of a topology.")
     parser.add_argument("--times", type=int, default=4)
+    parser.add_argument("--doublings", type=int, default=1)
     words = parser.parse_args()
     need(BENCH)
     tilings = []
-    for positions in (words.positions, 2 * words.positions):
+    for positions in [2**doubling * words.positions for doubling in range(words.doublings + 1)]:
         rows = features(tiling(positions, words.seed))
         tilings.append((sum(len(each["geometry"]["coordinates"][0]) for row in rows for each in row), rows))
     for name in REMOVALS:
