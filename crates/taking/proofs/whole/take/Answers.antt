@@ -1,9 +1,15 @@
 use Rattle.std.proofs.Common.{◌≡◌, ◌↔◌, ◌∙◌, ap, subst, IfOk}
-use Rattle.taking.specs.Taken.{IsWhole}
+use Rattle.taking.specs.Taken.{IfWhole, IsWhole}
 use Rattle.taking.specs.Whole as spec
 use Rattle.taking.specs.Whole.{StandInOrder}
 use Rattle.taking.proofs.StandingParts.{order_refuses}
 use Rattle.taking.proofs.whole.take.Goals as goal
+
+pub returns-clause-arcs : goal.returns-clause-arcs
+returns-clause-arcs c =
+    let is : c.in_ok-table.table ≡ spec.table_of c.args.arcs.items c.args.layers.items =
+    c.in_ok-table.ensures ∙ ap (spec.table_of c.args.arcs.items) c.deref-2.ensures.value in
+    subst (λ w. IfOk c.of_table.result (λ o. IfWhole o (λ t. t.arcs ≡ w))) is c.of_table.ensures.arcs
 
 pub returns-clause-stand : goal.returns-clause-stand
 returns-clause-stand c =
