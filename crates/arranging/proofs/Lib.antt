@@ -4,3 +4,6 @@ pub mod Kept
 pub mod Along
 pub mod Ordered
 pub mod Coded
+pub mod SortedEnds
+pub mod Unused
+pub mod BeyondOrder

@@ -1,4 +1,16 @@
 //! Arcs and layers that no order mends. It is told by the ends of arcs alone, with no copy of an arc.
+ghost use Rattle.std.specs.Prelude.{◌≡◌, ◌↔◌, ◌++◌, [], IfOk, OnOk, false, length, replicate, slice_get, true};
+ghost use Rattle.theory.specs.ArcNumbers.{flipped};
+ghost use Rattle.theory.specs.Lists.{gathered, last_of};
+ghost use Rattle.standing.specs.Marks.{marks_set};
+ghost use Rattle.standing.specs.Runs.{ends_along, ends_in, first_end};
+ghost use Rattle.taking.specs.Lists.{body_lines, body_rings, layers_lines, lines_of};
+ghost use Rattle.arranging.specs.Beyond.{IsBeyondOrder, geometries_marked, layer_ends, layers_marked};
+ghost use Rattle.arranging.specs.Leavings as spec;
+ghost use Rattle.arranging.specs.Used.{lists_marked};
+
+use crate::leavings::{Leaving, add_leavings, add_meetings, any_elsewhere, has_twins};
+use crate::used::{all_marked, mark_each, mark_lists, mark_polygons};
 use chains::ArcRef;
 use faults::OutOfMemory;
 use grid::pos::Pos;
@@ -7,136 +19,188 @@ use std::alloc::{AllocError, Global};
 use taking::TextArcs;
 use topo::{Body, Geom, Layer};
 
-/// An end of an arc, and the vertex beside it.
-type Leaving = (Pos, Pos);
+/// The first vertex of an arc, or of its reverse.
+fn first_along(arc: &[Pos], reversed: bool) -> Option<Pos>
+    ensures { result ≡ first_end (ends_in reversed arc.now) }
+{
+    if reversed {
+        arc.last().copied()
+    } else {
+        arc.first().copied()
+    }
+}
 
-/// Both ends of an arc of two positions or more.
-fn leavings(arc: &[Pos]) -> Option<(Leaving, Leaving)> {
-    let (first, behind) = arc.split_first()?;
-    let (last, before) = arc.split_last()?;
-    Some(((*first, *behind.first()?), (*last, *before.last()?)))
+/// The vertex at which a used arc begins.
+fn start_along(arcs: &TextArcs, used: ArcRef) -> Option<Pos>
+    ensures { result ≡ first_end (ends_along arcs.now used) }
+{
+    match arcs.arc(used.arc) {
+        Some(arc) => first_along(arc, used.reversed),
+        None => None,
+    }
+}
+
+fn add_start(ends: &mut Vec<Pos>, arcs: &TextArcs, used: ArcRef) -> Result<(), AllocError>
+    ensures { OnOk result (ends.new.items ≡ ends.old.items ++ spec.start_along arcs.now used) }
+{
+    match start_along(arcs, used) {
+        Some(start) => {
+            ends.push(start)?;
+            Ok(())
+        }
+        None => Ok(()),
+    }
+}
+
+fn last_ref(first: ArcRef, others: &[ArcRef]) -> ArcRef
+    ensures { result ≡ last_of first others.now }
+{
+    match others.last() {
+        Some(last) => *last,
+        None => first,
+    }
+}
+
+/// A used arc in the other direction.
+fn backward(used: ArcRef) -> ArcRef
+    ensures { result ≡ flipped used }
+{
+    ArcRef {
+        arc: used.arc,
+        reversed: !used.reversed,
+    }
+}
+
+/// Adds where a line begins and ends, by its list of used arcs.
+fn add_list_ends(ends: &mut Vec<Pos>, arcs: &TextArcs, refs: &[ArcRef]) -> Result<(), AllocError>
+    ensures { OnOk result (ends.new.items ≡ ends.old.items ++ spec.list_ends arcs.now refs.now) }
+{
+    let Some((first, others)) = refs.split_first() else {
+        return Ok(());
+    };
+    let last = last_ref(*first, others);
+    let back = backward(last);
+    add_start(ends, arcs, *first)?;
+    add_start(ends, arcs, back)?;
+    Ok(())
 }
 
 /// Which arcs the lists of layers use, and the vertices at which an arc may end alone: where lines begin
 /// and end, and the seams of closed arcs.
 #[derive(Drop)]
-struct Seen<'a> {
-    arcs: &'a TextArcs,
+struct Seen {
     used: Vec<bool>,
     ends: Vec<Pos>,
 }
 
-impl Seen<'_> {
-    fn use_arcs(&mut self, refs: &[ArcRef]) {
-        for used in refs {
-            if let Some(mark) = self.used.get_mut(used.arc) {
-                *mark = true;
-            }
-        }
+impl Seen {
+    /// None of so many arcs is used.
+    fn none(alloc: Global, count: usize) -> Result<Seen, AllocError>
+        ensures used { IfOk result (λ s. s.used.items ≡ replicate count false) }
+        ensures ends { IfOk result (λ s. s.ends.items ≡ []) }
+    {
+        let used = vec![in alloc; false; count]?;
+        let ends = Vec::new(alloc);
+        Ok(Seen { used, ends })
     }
 
-    fn use_lists(&mut self, lists: &[Items<ArcRef>]) {
+    fn add_line(&mut self, arcs: &TextArcs, refs: &[ArcRef]) -> Result<(), AllocError>
+        ensures used { OnOk result (self.new.used.items ≡ marks_set true self.old.used.items refs.now) }
+        ensures ends { OnOk result (self.new.ends.items ≡ self.old.ends.items ++ spec.list_ends arcs.now refs.now) }
+    {
+        mark_each(&mut self.used, refs);
+        add_list_ends(&mut self.ends, arcs, refs)
+    }
+
+    fn add_lines(&mut self, arcs: &TextArcs, lists: &[Items<ArcRef>]) -> Result<(), AllocError>
+        ensures used { OnOk result (self.new.used.items ≡ lists_marked self.old.used.items lists.now) }
+        ensures ends { OnOk result (self.new.ends.items ≡ self.old.ends.items ++ gathered (spec.list_ends arcs.now) lists.now) }
+    {
         for refs in lists {
-            self.use_arcs(refs.as_slice());
-        }
-    }
-
-    /// The vertex at which a used arc begins.
-    fn start(&self, used: ArcRef) -> Option<Pos> {
-        let arc = self.arcs.arc(used.arc)?;
-        let start = if used.reversed {
-            arc.last()
-        } else {
-            arc.first()
-        };
-        start.copied()
-    }
-
-    fn add_start(&mut self, used: ArcRef) -> Result<(), AllocError> {
-        if let Some(start) = self.start(used) {
-            self.ends.push(start)?;
+            self.add_line(arcs, refs.as_slice())?;
         }
         Ok(())
     }
 
-    fn add_line(&mut self, refs: &[ArcRef]) -> Result<(), AllocError> {
-        self.use_arcs(refs);
-        let (Some(first), Some(last)) = (refs.first(), refs.last()) else {
-            return Ok(());
-        };
-        self.add_start(*first)?;
-        self.add_start(ArcRef {
-            arc: last.arc,
-            reversed: !last.reversed,
-        })
-    }
-
-    fn add_lines(&mut self, lists: &[Items<ArcRef>]) -> Result<(), AllocError> {
-        for refs in lists {
-            self.add_line(refs.as_slice())?;
-        }
-        Ok(())
-    }
-
-    fn add_body(&mut self, body: &Body) -> Result<(), AllocError> {
+    fn add_body(&mut self, arcs: &TextArcs, body: &Body) -> Result<(), AllocError>
+        ensures used { OnOk result (self.new.used.items ≡ lists_marked (lists_marked self.old.used.items (body_lines body.now)) (body_rings body.now)) }
+        ensures ends { OnOk result (self.new.ends.items ≡ self.old.ends.items ++ gathered (spec.list_ends arcs.now) (body_lines body.now)) }
+    {
         match body {
             Body::Null | Body::Point(_) | Body::MultiPoint(_) => {}
-            Body::Line(refs) => self.add_line(refs.as_slice())?,
-            Body::MultiLine(lists) => self.add_lines(lists.as_slice())?,
-            Body::Polygon(lists) => self.use_lists(lists.as_slice()),
-            Body::MultiPolygon(polygons) => {
-                for lists in polygons.as_slice() {
-                    self.use_lists(lists.as_slice());
-                }
-            }
+            Body::Line(refs) => self.add_line(arcs, refs.as_slice())?,
+            Body::MultiLine(lists) => self.add_lines(arcs, lists.as_slice())?,
+            Body::Polygon(lists) => mark_lists(&mut self.used, lists.as_slice()),
+            Body::MultiPolygon(polygons) => mark_polygons(&mut self.used, polygons.as_slice()),
         }
         Ok(())
     }
 
-    fn add_geometries(&mut self, geometries: &[Geom]) -> Result<(), AllocError> {
+    fn add_geometries(&mut self, arcs: &TextArcs, geometries: &[Geom]) -> Result<(), AllocError>
+        ensures used { OnOk result (self.new.used.items ≡ geometries_marked self.old.used.items geometries.now) }
+        ensures ends { OnOk result (self.new.ends.items ≡ self.old.ends.items ++ gathered (spec.list_ends arcs.now) (lines_of geometries.now)) }
+    {
         for geometry in geometries {
-            self.add_body(&geometry.body)?;
+            self.add_body(arcs, &geometry.body)?;
         }
         Ok(())
     }
 
-    /// The ends of all arcs. The seams of closed arcs are added to the ends that may be alone.
-    fn leavings(&mut self, alloc: Global) -> Result<Vec<Leaving>, AllocError> {
-        let mut found = Vec::new(alloc);
-        for number in 0..self.arcs.len() {
-            if let Some((first, last)) = self.arcs.arc(number).and_then(leavings) {
-                found.push(first)?;
-                found.push(last)?;
-                if first.0 == last.0 {
-                    self.ends.push(first.0)?;
-                }
-            }
+    fn add_layers(&mut self, arcs: &TextArcs, layers: &[Layer]) -> Result<(), AllocError>
+        ensures used { OnOk result (self.new.used.items ≡ layers_marked self.old.used.items layers.now) }
+        ensures ends { OnOk result (self.new.ends.items ≡ self.old.ends.items ++ gathered (spec.list_ends arcs.now) (layers_lines layers.now)) }
+    {
+        for layer in layers {
+            self.add_geometries(arcs, layer.geometries())?;
         }
-        Ok(found)
+        Ok(())
     }
 }
 
-/// Whether two of some sorted ends are the same, so that a segment is at two places of the arcs.
-fn has_twins(sorted: &[Leaving]) -> bool {
-    sorted
-        .iter()
-        .zip(sorted.iter().skip(1))
-        .any(|(one, other)| one == other)
+fn seen_in(alloc: Global, arcs: &TextArcs, layers: &[Layer]) -> Result<Seen, AllocError>
+    ensures used { IfOk result (λ s. s.used.items ≡ layers_marked (replicate (length arcs.now) false) layers.now) }
+    ensures ends { IfOk result (λ s. s.ends.items ≡ layer_ends arcs.now layers.now) }
+{
+    let mut seen = Seen::none(alloc, arcs.len())?;
+    seen.add_layers(arcs, layers)?;
+    Ok(seen)
 }
 
-/// Adds the vertices at which three of some sorted ends meet.
-fn add_meeting(ends: &mut Vec<Pos>, sorted: &[Leaving]) -> Result<(), AllocError> {
-    for (one, third) in sorted.iter().zip(sorted.iter().skip(2)) {
-        if one.0 == third.0 {
-            ends.push(one.0)?;
-        }
+fn add_numbered(
+    found: &mut Vec<Leaving>,
+    ends: &mut Vec<Pos>,
+    arcs: &TextArcs,
+    number: usize,
+) -> Result<(), AllocError>
+    ensures found { OnOk result (found.new.items ≡ found.old.items ++ spec.listed_if spec.leavings (slice_get arcs.now number)) }
+    ensures ends { OnOk result (ends.new.items ≡ ends.old.items ++ spec.listed_if spec.seam (slice_get arcs.now number)) }
+{
+    match arcs.arc(number) {
+        Some(arc) => add_leavings(found, ends, arc),
+        None => Ok(()),
     }
-    Ok(())
+}
+
+/// The ends of all arcs. The seams of closed arcs are added to the vertices at which an arc may end alone.
+fn all_leavings(
+    alloc: Global,
+    ends: &mut Vec<Pos>,
+    arcs: &TextArcs,
+) -> Result<Vec<Leaving>, AllocError>
+    ensures found { IfOk result (λ v. v.items ≡ gathered spec.leavings arcs.now) }
+    ensures ends { IfOk result (λ v. ends.new.items ≡ ends.old.items ++ gathered spec.seam arcs.now) }
+{
+    let mut found = Vec::new(alloc);
+    for number in 0..arcs.len() {
+        add_numbered(&mut found, ends, arcs, number)?;
+    }
+    Ok(found)
 }
 
 /// Whether arcs and layers are such that no order of them stands: an arc is used by nobody, two arcs
-/// begin or end by the same segment, or an arc ends where no line does and not three arcs meet. It says
-/// no more than that it isn't worth while to put them into order; the topology is the same either way.
+/// begin or end by the same segment, or an arc ends where no line does, no closed arc has its seam, and
+/// not three ends of arcs meet. Arcs of fewer than two positions have no ends. It says no more than that
+/// it isn't worth while to put them into order; the topology is the same either way.
 ///
 /// # Errors
 /// Where memory is refused.
@@ -144,28 +208,19 @@ pub fn is_beyond_order(
     alloc: Global,
     arcs: &TextArcs,
     layers: &[Layer],
-) -> Result<bool, OutOfMemory> {
-    let mut seen = Seen {
-        arcs,
-        used: vec![in alloc; false; arcs.len()]?,
-        ends: Vec::new(alloc),
-    };
-    for layer in layers {
-        seen.add_geometries(layer.geometries())?;
-    }
-    if seen.used.iter().any(|used| !*used) {
+) -> Result<bool, OutOfMemory>
+    ensures { IfOk result (λ b. (b ≡ true) ↔ IsBeyondOrder arcs.now layers.now) }
+{
+    let mut seen = seen_in(alloc, arcs, layers)?;
+    if !all_marked(&seen.used) {
         return Ok(true);
     }
-    let mut sorted = seen.leavings(alloc)?;
+    let mut sorted = all_leavings(alloc, &mut seen.ends, arcs)?;
     sorted.sort_unstable();
     if has_twins(&sorted) {
         return Ok(true);
     }
-    add_meeting(&mut seen.ends, &sorted)?;
+    add_meetings(&mut seen.ends, &sorted)?;
     seen.ends.sort_unstable();
-    Ok(
-        sorted
-            .iter()
-            .any(|leaving| seen.ends.binary_search(&leaving.0).is_err()),
-    )
+    Ok(any_elsewhere(&seen.ends, &sorted))
 }

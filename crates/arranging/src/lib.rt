@@ -5,7 +5,9 @@
 mod beyond_order;
 mod fitting;
 mod images;
+mod leavings;
 mod starts;
+mod used;
 pub mod whole;
 
 pub use beyond_order::is_beyond_order;

@@ -5,6 +5,7 @@ use Rattle.std.proofs.lemmas.List.Elements.{All-append, All-cons, All-nil}
 use Rattle.faults.specs.declared.fault.Fault.{Fault}
 use Rattle.grid.specs.Place.{Transform}
 use Rattle.reading.specs.Fault.{LeastOrWant}
+use Rattle.reading.proofs.FirstRefused.{first_refused}
 use Rattle.geojson_io.specs.Features.{faults_of_text}
 use Rattle.built_text.specs.Sources.{AreAccepted, IsRefusal, IsFaultAt}
 use Rattle.built_text.specs.declared.building.BuildFault.{BuildFault}
@@ -39,15 +40,5 @@ one_more t texts left text after place old e ok =
 pub refusal_at : (t : Transform) (texts left : List (List ℕ)) (text : List ℕ) (after : List (List ℕ)) (place : ℕ) (fault : Fault) (e : BuildFault)
     → SoFar t texts left place → left ≡ text ∷ after → LeastOrWant (faults_of_text t text) fault → IsFaultAt place fault e → IsRefusal t texts e
 refusal_at t texts left text after place fault OutOfMemory old _ least is = tt
-refusal_at t texts left text after place fault (Text i f) old split least (same_place, same_fault, no_want) =
-    let parts : old.before ++ (text ∷ after) ≡ texts = rw split at old.parts in
-    record {
-      before = old.before;
-      text = text;
-      after = after;
-      parts = parts;
-      at = rw same_place old.at;
-      accepted = old.accepted;
-      least = rw same_fault (least.least no_want);
-      no_want = rw same_fault no_want;
-    }
+refusal_at t texts left text after place fault (Text i f) old split least is =
+    first_refused (faults_of_text t) texts old.before left text after place i fault f old.parts old.at old.accepted split least is

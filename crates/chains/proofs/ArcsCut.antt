@@ -4,12 +4,12 @@ use Rattle.theory.specs.Arcs.{AreArcsOf}
 use Rattle.theory.specs.Chain.{Free}
 use Rattle.theory.specs.Geometry.{Geometry, IsSound, IsLineOf, IsRingOf, JunctionOf, IsChainOf}
 use Rattle.theory.specs.Lists.{Has, Each}
-use Rattle.theory.specs.Refinement.{Alike, AreArcsAsMap, IsPartOf, IsUnionOf, LoopArc, OpenArc, arcs_as_map, both_of, unclosed}
+use Rattle.theory.specs.Refinement.{Alike, AreArcsAsMap, IsPartOf, LoopArc, OpenArc, arcs_as_map, both_of, unclosed}
 use Rattle.theory.specs.Stitching.{ArePiecesOf, AreRingPiecesOf}
 use Rattle.theory.specs.TopologyFunction.{arcs_of}
 use Rattle.theory.proofs.ArcsAsMap.{arcs_sound, arcs_alike, arcs_same, alike_back, arc_alike, chain_alike, turned_alike}
 use Rattle.theory.proofs.ArcsOfMap.{are_arcs}
-use Rattle.theory.proofs.PiecesExist.{are_arcs_as_map}
+use Rattle.theory.proofs.PiecesExist.{are_arcs_as_map, whole_union}
 use Rattle.grid.specs.declared.pos.Pos.{Pos}
 use Rattle.lines.specs.Turned.{position_cmp}
 use Rattle.chains.specs.Arcs.{Arcs}
@@ -103,14 +103,6 @@ module _ (a u : Geometry Pos) (alike : Alike a u) where
 
 -- the arcs of a map under the junctions of one that has all of its lines and rings
 module _ (g u : Geometry Pos) (sg : IsSound g) (su : IsSound u) (part : IsPartOf g u) (t : Arcs) (table : IsTableOf g t) where
-  whole : IsUnionOf g u u
-  whole = record {
-    left = part;
-    right = record { lines = λ l h. h; rings = λ r h. h };
-    lines = λ l h. inr h;
-    rings = λ r h. inr h;
-  }
-
   all : AreArcsOf position_cmp u (arcs_of position_cmp u)
   all = are_arcs position_cmp position_total position_same position_dec u su
 
@@ -121,10 +113,10 @@ module _ (g u : Geometry Pos) (sg : IsSound g) (su : IsSound u) (part : IsPartOf
   as_map = are_arcs_as_map position_cmp position_total position_same position_dec g u sg su t.arcs (arcs_of position_cmp u) table.arcs all
 
   sound : IsSound a
-  sound = arcs_sound position_cmp position_total position_same position_dec g u u sg su su whole t.arcs (arcs_of position_cmp u) table.arcs all a as_map
+  sound = arcs_sound position_cmp position_total position_same position_dec g u u sg su su (whole_union g u part) t.arcs (arcs_of position_cmp u) table.arcs all a as_map
 
   alike : Alike a u
-  alike = arcs_alike position_cmp position_total position_same position_dec g u u sg su su whole t.arcs (arcs_of position_cmp u) table.arcs all a as_map
+  alike = arcs_alike position_cmp position_total position_same position_dec g u u sg su su (whole_union g u part) t.arcs (arcs_of position_cmp u) table.arcs all a as_map
 
   pub part_pieces : (js : List Pos) → IsIndexOf js u → (c : List Pos) → Has c t.arcs → ArePiecesUnder g u c (arc_pieces js t.loops c)
   part_pieces js i c h =

@@ -4,6 +4,7 @@ pub mod Layers
 pub mod Clashes
 pub mod Same
 pub mod Gathered
+pub mod Rounds
 pub mod Oriented
 pub mod Openings
 pub mod Turned

@@ -12,10 +12,12 @@ use Rattle.theory.specs.Junction.{Visit as Seen, Visits}
 use Rattle.theory.specs.Junction.Visit.{end, pair}
 use Rattle.theory.specs.LinesAndRings.{around, closed}
 use Rattle.theory.specs.Lists.{Between, EndOf, Has, Passes, front_of, gathered, last_of}
-use Rattle.theory.specs.Refinement.{AreArcsAsMap, IsUnionOf, OpenArc, unclosed}
+use Rattle.theory.specs.Refinement.{AreArcsAsMap, OpenArc, unclosed}
 use Rattle.theory.proofs.ClosedLists.{closed_around}
 use Rattle.theory.proofs.Lists.{Has-append, Has-append_left, Has-append_right, append_nil, front-snoc}
 use Rattle.theory.proofs.ListsOfLists.{Has-gathered, gathered_from, get_has}
+use Rattle.theory.proofs.PiecesExist.{own_union}
+use Rattle.theory.proofs.RemovingJoined.{cut_one, front_passes}
 use Rattle.theory.proofs.StandingLists.{middle_has}
 use Rattle.grid.specs.declared.pos.Pos.{Pos}
 use Rattle.lines.specs.Turned.{position_cmp}
@@ -121,14 +123,6 @@ module _ (m n : Geometry Pos) (sm : IsSound m) (s t : Arcs) (ms : IsTableOf m s)
   abbrev pub Apart : Pos → Type 0
   Apart v = (c : List Pos) → Has c t.arcs → ¬ Has v c
 
-  both : IsUnionOf m m m
-  both = record {
-    left = record { lines = λ l h. h; rings = λ r h. h };
-    right = record { lines = λ l h. h; rings = λ r h. h };
-    lines = λ l h. inl h;
-    rings = λ r h. inl h;
-  }
-
   own : AreArcsAsMap m m s.arcs s.arcs (tables_as_map s s)
   own = tables_are m m sm sm s s ms ms
 
@@ -144,7 +138,7 @@ module _ (m n : Geometry Pos) (sm : IsSound m) (s t : Arcs) (ms : IsTableOf m s)
   moved v apart (pair x y) (inr h) = inr (h.0, ring v apart h.0 h.1 (around_has x v y h.0 h.2), h.2)
 
   own_junction : (v : Pos) → Apart v → JunctionOf a v → JunctionOf m v
-  own_junction v apart j = (tables_alike m m sm sm s s ms ms m both).junctions v (elim j [
+  own_junction v apart j = (tables_alike m m sm sm s s ms ms m (own_union m)).junctions v (elim j [
     | inl h ↦ inl (moved v apart end h)
     | inr h ↦ inr (h.0, h.1, moved v apart h.0 h.2, moved v apart h.1 h.3, h.4)
   ])
@@ -192,20 +186,6 @@ ring_uncut stop x y q e p =
     ∙ ap (λ b. cond b (cut_list stop (opened_at 0 (x ∷ (y ∷ q)))) (opened_at 0 (x ∷ (y ∷ q)) ∷ [])) e
     ∙ ap (λ w. (w ++ (x ∷ [])) ∷ []) (append_nil (x ∷ (y ∷ q)))
 
--- a list with a stop at its end alone is not cut
-line_uncut : (stop : Pos → Bool) (c : List Pos) (y : Pos) (r : List Pos) → ((v : Pos) → Has v (front_of y r) → stop v ≡ false) → stop (last_of y r) ≡ true →
-    cut_from stop c (y ∷ r) ≡ (c ++ (y ∷ r)) ∷ []
-line_uncut stop c y [] none last = ap (λ w. cond w ((c ++ (y ∷ [])) ∷ []) []) last
-line_uncut stop c y (z ∷ r) none last =
-    ap (λ w. cond w ((c ++ (y ∷ [])) ∷ cut_from stop (y ∷ []) (z ∷ r)) (cut_from stop (c ++ (y ∷ [])) (z ∷ r))) (none y (inl refl))
-    ∙ line_uncut stop (c ++ (y ∷ [])) z r (λ v h. none v (inr h)) last
-    ∙ ap (λ w. w ∷ []) (append_assoc c (y ∷ []) (z ∷ r))
-
-front_passes : (v x y : Pos) (r : List Pos) → Has v (front_of y r) → (a : Pos) × (b : Pos) × Passes a v b (x ∷ (y ∷ r))
-front_passes v x y [] h = absurd h
-front_passes v x y (z ∷ r) (inl e) = (x, z, inl (refl, (e, refl)))
-front_passes v x y (z ∷ r) (inr h) = let t = front_passes v y z r h in (t.0, t.1, inr t.2)
-
 -- an arc is a piece in its own direction
 own_piece : (stop : Pos → Bool) (c : List Pos) → slice_cmp position_cmp c (reverse c) ≡ Less → (f : Bool) → begins_free stop c ≡ f →
     oriented stop c ≡ record { chain = c; reversed = false; free = f }
@@ -234,7 +214,7 @@ module _ (m : Geometry Pos) (sm : IsSound m) (s : Arcs) (ms : IsTableOf m s) (a 
   open_whole (x ∷ []) k h none = let z : 1 ≤ 0 = k.chain.long in absurd (omega arith)
   open_whole (x ∷ (y ∷ r)) k h none =
       ap (map (oriented (among js)))
-      (line_uncut (among js) (x ∷ []) y r
+      (cut_one (among js) (x ∷ []) y r
       (λ v f. (let p = front_passes v x y r f in visited (x ∷ (y ∷ r)) p.0 v p.1 none p.2))
       (end_stop (x ∷ (y ∷ r)) h (last_of y r) (inr refl)))
       ∙ ap (λ w. w ∷ []) (own_piece (among js) (x ∷ (y ∷ r)) k.forward false (ap not (end_stop (x ∷ (y ∷ r)) h x (inl refl))))

@@ -13,14 +13,10 @@ use Rattle.lines.specs.Positions.{position_total, position_same}
 use Rattle.theory.specs.LinesAndRings.{IsRing, IsRotation}
 use Rattle.theory.specs.Geometry.{AtMost}
 use Rattle.theory.specs.Seam.{IsSeamOf, IsTurned}
-use Rattle.theory.proofs.Lists.{Has-append_right, append_nil}
+use Rattle.theory.proofs.Lists.{Has-append_right, Has-split, append_nil}
 use Rattle.theory.proofs.Rotations.{least_second}
+use Rattle.theory.proofs.Turning.{stop_told}
 use Rattle.chains.proofs.Openings.{LeastAt, Opening, starts_list, head_or, place_least, opening, start_there}
-
-has_parted : (v : Pos) (l : List Pos) → Has v l → (a : List Pos) × (b : List Pos) × (l ≡ a ++ (v ∷ b))
-has_parted v [] h = absurd h
-has_parted v (x ∷ l) (inl e) = ([], l, ap (λ w. w ∷ l) (sym e))
-has_parted v (x ∷ l) (inr h) = let k = has_parted v l h in (x ∷ k.0, k.1, ap (λ w. x ∷ w) k.2)
 
 then_head : (r s : Ordering) → is_gt (ordering_then r s) ≡ false → is_gt r ≡ false
 then_head Less s e = refl
@@ -52,13 +48,6 @@ second q x rest (a ∷ s) [] e n = (s, (let k : q ∷ rest ≡ a ∷ (s ++ (x �
 second q x rest s (z ∷ t) e n = (t ++ s, refl)
 
 module _ (J : Pos → Type 0) (stop : Pos → Bool) (stops : (v : Pos) → stop v ≡ true → J v) (passes : (v : Pos) → stop v ≡ false → ¬ J v) where
-  told : (v : Pos) → J v → stop v ≡ true
-  told v j = go (stop v) refl
-    where
-      go : (b : Bool) → stop v ≡ b → b ≡ true
-      go true e = refl
-      go false e = absurd (passes v e j)
-
   -- the start of each rotation is among the starts
   rotation_start : (q : Pos) (rest : List Pos) (x z : Pos) (m : List Pos) → IsRotation (q ∷ rest) (x ∷ (z ∷ m)) →
       Has (start_of stop x z) (starts_list stop q (q ∷ rest))
@@ -121,7 +110,7 @@ module _ (J : Pos → Type 0) (stop : Pos → Bool) (stops : (v : Pos) → stop 
 
       there : (u : Pos) → Has u r → (z : Pos) × Has (start_of stop u z) (starts_list stop x r)
       there u h =
-          let p = has_parted u r h in
+          let p = Has-split u r h in
           (head_or x p.1, subst (λ w. Has (start_of stop u (head_or x p.1)) (starts_list stop x w)) (sym p.2) (start_there stop x p.0 u p.1))
 
       turn : IsRotation r (f ∷ (o.right ++ o.left))
@@ -145,7 +134,7 @@ module _ (J : Pos → Type 0) (stop : Pos → Bool) (stops : (v : Pos) → stop 
       alone e = ((λ v h. passes v (none e v h)), (λ v h. most v h (e ∙ sym (none e v h))))
 
       seam : (b : Bool) → stop f ≡ b → IsSeamOf position_cmp J r f
-      seam true e = inl (record { there = is_there; has_it = stops f e; least = λ u h j. most u h (e ∙ sym (told u j)) })
+      seam true e = inl (record { there = is_there; has_it = stops f e; least = λ u h j. most u h (e ∙ sym (stop_told J stop passes u j)) })
       seam false e = inr ((alone e).0, record { there = is_there; has_it = tt; least = λ u h j. (alone e).1 u h })
 
       least : (m : List Pos) → IsRotation r (f ∷ m) → AtMost (slice_cmp position_cmp) (f ∷ (o.right ++ o.left)) (f ∷ m)

@@ -11,6 +11,7 @@ ghost use Rattle.chains.specs.Links.{joined, noted, noted_all};
 ghost use Rattle.chains.specs.Joined.{AmongSegments, MeetsTwo, IsJoining, Took, AreCovering, AreParted, AreMaximal};
 
 use crate::cutting::Piece;
+use crate::listing::listed;
 use crate::segment::Segment;
 use crate::stop_set::StopSet;
 use crate::table::ArcTable;
@@ -138,16 +139,6 @@ fn chains_of(
         found.push(chain)?;
     }
     Ok(found)
-}
-
-fn listed(alloc: Global, segments: &BTreeSet<Segment>) -> Result<Vec<Segment>, AllocError>
-    ensures { IfOk result (λ v. v.items ≡ segments.now.keys) }
-{
-    let mut list = Vec::with_capacity(alloc, segments.len())?;
-    for segment in segments.iter() {
-        list.push(*segment)?;
-    }
-    Ok(list)
 }
 
 /// Whether no stop stands first in a chain.

@@ -1,5 +1,6 @@
 //! Marks of arcs by their numbers.
-ghost use Rattle.std.specs.Prelude.{◌≡◌, get_or, true};
+ghost use Rattle.std.specs.Prelude.{◌≡◌, drop, get_or, true};
+ghost use Rattle.chains.specs.Stored.{first_of};
 
 /// Whether an arc is marked; one that nothing is told of is.
 pub fn is_marked(marks: &[bool], number: usize) -> bool
@@ -8,5 +9,16 @@ pub fn is_marked(marks: &[bool], number: usize) -> bool
     match marks.get(number) {
         Some(marked) => *marked,
         None => true,
+    }
+}
+
+/// The first of some marks, and the others. Where there is none, it is not set.
+pub fn first_mark(marks: &[bool]) -> (bool, &[bool])
+    ensures first { result.0 ≡ first_of marks.now }
+    ensures others { result.1.now ≡ drop 1 marks.now }
+{
+    match marks.split_first() {
+        Some((mark, others)) => (*mark, others),
+        None => (false, marks),
     }
 }

@@ -1,14 +1,15 @@
 //! Arcs that stand in order already, with marks beside them.
-ghost use Rattle.std.specs.Prelude.{◌≡◌, IfOk, drop};
-ghost use Rattle.chains.specs.Stored.{first_of, rises, with_marks};
+ghost use Rattle.std.specs.Prelude.{◌≡◌, IfOk};
+ghost use Rattle.chains.specs.Stored.{rises, with_marks};
 
+use crate::marking::first_mark;
 use crate::stored::{ArcList, StoredArc};
 use grid::pos::Pos;
 use lines::items::Items;
 use std::alloc::{AllocError, Global};
 
 /// Whether each arc comes before the next.
-pub(crate) fn is_rising(arcs: &[Items<Pos>]) -> bool
+pub fn is_rising(arcs: &[Items<Pos>]) -> bool
     ensures { result ≡ rises arcs.now }
 {
     let Some((first, others)) = arcs.split_first() else {
@@ -22,17 +23,6 @@ pub(crate) fn is_rising(arcs: &[Items<Pos>]) -> bool
         last = arc;
     }
     true
-}
-
-/// The first of some marks, and the others. Where there is none, it is not set.
-fn first_mark(marks: &[bool]) -> (bool, &[bool])
-    ensures first { result.0 ≡ first_of marks.now }
-    ensures others { result.1.now ≡ drop 1 marks.now }
-{
-    match marks.split_first() {
-        Some((mark, others)) => (*mark, others),
-        None => (false, marks),
-    }
 }
 
 /// The arcs, each with its mark.

@@ -2,6 +2,7 @@
 ghost use Rattle.std.specs.Prelude.{◌≡◌, IfOk};
 ghost use Rattle.chains.specs.Among.{among};
 
+use crate::listing::listed;
 use grid::pos::Pos;
 use lines::bits::PositionBits;
 use std::alloc::{AllocError, Global};
@@ -26,16 +27,6 @@ impl<'a> Model for StopSet<'a> {
     ghost view = { λ a. a.stops.now.keys };
 
     ghost invariant = { λ a. Holds (may_hold a.bits) a.stops.now.keys };
-}
-
-fn listed(alloc: Global, stops: &BTreeSet<Pos>) -> Result<Vec<Pos>, AllocError>
-    ensures { IfOk result (λ v. v.items ≡ stops.now.keys) }
-{
-    let mut list = Vec::with_capacity(alloc, stops.len())?;
-    for stop in stops.iter() {
-        list.push(*stop)?;
-    }
-    Ok(list)
 }
 
 impl<'a> StopSet<'a> {

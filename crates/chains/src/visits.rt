@@ -141,22 +141,15 @@ impl Seen {
         ensures ends { OnOk result (self.new.ends.items ≡ self.old.ends.items) }
         ensures visits { OnOk result (HaveSame self.new.visits.items (self.old.visits.items ++ around_of ring.now)) }
     {
-        self.widen_recent(ring.len())?;
-        let Some((first, others)) = ring.split_first() else {
+        self.see_inside(ring)?;
+        let count = ring.len();
+        if count < 2 {
             return Ok(());
-        };
-        let Some((second, rest)) = others.split_first() else {
-            return Ok(());
-        };
-        let mut before = *first;
-        let mut here = *second;
-        for next in rest {
-            self.note(visit_between(before, here, *next))?;
-            before = here;
-            here = *next;
         }
-        self.note(visit_between(before, here, *first))?;
-        self.note(visit_between(here, *first, *second))?;
+        let first = ring[0];
+        let last = ring[count - 1];
+        self.note(visit_between(ring[count - 2], last, first))?;
+        self.note(visit_between(last, first, ring[1]))?;
         Ok(())
     }
 

@@ -1,10 +1,9 @@
 -- What a text without faults means fits the grid.
-use Rattle.std.proofs.Common.{◌≡◌, ℕ, ℤ, ◌-ℤ◌, List, [], ◌∷◌, ◌&&◌, Bool, true, false, Option, Some, None, Ok, map, refl, sym, subst, int_div, int_rem, pos, unwrap_or, option_and_then, codes}
+use Rattle.std.proofs.Common.{◌≡◌, ℕ, ℤ, ◌-ℤ◌, List, [], ◌∷◌, ◌&&◌, Bool, true, false, Option, Some, None, Ok, refl, sym, subst, int_div, int_rem, pos, unwrap_or, option_and_then, codes}
 use Rattle.std.specs.List.{AllByRecursion}
 use Rattle.serde_json.specs.Data.{Num, Data, null, boolean, number, string, array, object, Items}
 use Rattle.serde_json.specs.Find.{as_number, as_i64, as_array, as_object}
 use Rattle.faults.specs.Path.{index}
-use Rattle.faults.specs.Fault.{Pair}
 use Rattle.grid.specs.Place.{Scaling, Transform, IsAbsolute, FitsAxis, absolute}
 use Rattle.grid.specs.Fits.{Fits}
 use Rattle.grid.specs.Computed.{divides, is_grid_number, is_absolute, number_by, axis_number}
@@ -17,16 +16,16 @@ use Rattle.reading.specs.Info.{info_faults}
 use Rattle.reading.specs.Meant.{AreFeatures}
 use Rattle.reading.specs.Numbers.{whole_faults, number_faults}
 use Rattle.reading.specs.Outlines.{line_faults, ring_faults}
-use Rattle.reading.specs.Parts.{elements, elements_of, list_of, named, type_text, array_faults, two_faults, list_faults, unless_null, option_faults}
+use Rattle.reading.specs.Parts.{elements_of, list_of, named, type_text, array_faults, two_faults, list_faults, unless_null, option_faults}
 use Rattle.reading.specs.Positions.{position_at}
 use Rattle.reading.specs.Text.{document}
 use Rattle.reading.specs.Types.{geometry_type}
 use Rattle.reading.specs.declared.geometry.GeometryType.{GeometryType}
-use Rattle.reading.specs.declared.geometry.GeometryType.TheVariants.{Point, MultiPoint, LineString, MultiLineString, Polygon, MultiPolygon}
-use Rattle.reading.proofs.Faultless.{under_none, first_none, second_none, unless_none, member_none, option_none, list_none, object_none, typed_none, text_none}
-use Rattle.reading.proofs.Fits.{all_map, line_of_fits, ring_of_fits, set_fits}
+use Rattle.reading.proofs.Faultless.{under_none, first_none, second_none, unless_none, member_none, option_none, object_none, typed_none, text_none}
+use Rattle.reading.proofs.Fits.{line_of_fits, ring_of_fits, set_fits}
 use Rattle.reading.proofs.Positions.{clamped-same}
 use Rattle.shapes.specs.Maps.{Features}
+use Rattle.reading.proofs.Shapes.{all_read, kind_fits}
 use Rattle.geojson_io.specs.Positions.{grid_faults, axis_faults, coordinate_faults, number_or_zero, grid_number, position_faults, position_in, position_of, positions_faults, positions_of, line_at_faults, line_at, ring_at_faults, ring_at}
 use Rattle.geojson_io.specs.Geometries.{coordinates_faults, form_of, typed_geometry_faults, typed_form, geometry_faults, form_by, geometry_form}
 use Rattle.geojson_io.specs.Features.{feature_members, feature_of, element_of_features_faults, feature_named, root_faults, root_type, geojson_faults, features_by, features_of, features_or_none, features_of_text, faults_of_text}
@@ -88,7 +87,7 @@ position_fits : (t : Transform) (d : Data) → position_faults t d ≡ [] → Fi
 position_fits t d e = pair_fits t (as_array d) e
 
 positions_fit : (t : Transform) (d : Data) → positions_faults t d ≡ [] → AllByRecursion (Fits t) (positions_of t d)
-positions_fit t d e = all_map (Fits t) (position_of t) (elements d) (list_none (position_faults t) (λ p. Fits t (position_of t p)) (position_fits t) d e)
+positions_fit t = all_read (Fits t) (position_faults t) (position_of t) (position_fits t)
 
 line_fits : (t : Transform) (d : Data) → line_at_faults t d ≡ [] → AllByRecursion (Fits t) (line_at t d)
 line_fits t d e = line_of_fits (Fits t) (positions_of t d) (positions_fit t d (unless_none (positions_faults t d) (line_faults (positions_of t d)) e))
@@ -96,21 +95,11 @@ line_fits t d e = line_of_fits (Fits t) (positions_of t d) (positions_fit t d (u
 ring_fits : (t : Transform) (d : Data) → ring_at_faults t d ≡ [] → AllByRecursion (Fits t) (ring_at t d)
 ring_fits t d e = ring_of_fits (Fits t) (positions_of t d) (positions_fit t d (unless_none (positions_faults t d) (ring_faults (positions_of t d)) e))
 
--- a list of parts, each of which fits
-list_fits : {X : Type 0} (P : X → Type 0) (of : Data → List Pair) (f : Data → X) → ((d : Data) → of d ≡ [] → P (f d)) → (d : Data) → list_faults of d ≡ [] → AllByRecursion P (map f (elements d))
-list_fits P of f fits d e = all_map P f (elements d) (list_none of (λ p. P (f p)) fits d e)
-
 -- ---- geometries
 
 form_fits : (t : Transform) (k : GeometryType) (d : Data) → coordinates_faults t k d ≡ [] → FormFits t (form_of t k d)
-form_fits t Point d e = position_fits t d e
-form_fits t MultiPoint d e = positions_fit t d e
-form_fits t LineString d e = line_fits t d e
-form_fits t MultiLineString d e = list_fits (AllByRecursion (Fits t)) (line_at_faults t) (line_at t) (line_fits t) d e
-form_fits t Polygon d e = list_fits (AllByRecursion (Fits t)) (ring_at_faults t) (ring_at t) (ring_fits t) d e
-form_fits t MultiPolygon d e =
-    list_fits (AllByRecursion (AllByRecursion (Fits t))) (list_faults (ring_at_faults t)) (λ p. map (ring_at t) (elements p))
-    (λ p k. list_fits (AllByRecursion (Fits t)) (ring_at_faults t) (ring_at t) (ring_fits t) p k) d e
+form_fits t =
+    kind_fits t (position_faults t) (line_at_faults t) (ring_at_faults t) (position_of t) (line_at t) (ring_at t) (position_fits t) (line_fits t) (ring_fits t)
 
 typed_fits : (t : Transform) (k : GeometryType) (d : Data) → typed_geometry_faults t k d ≡ [] → FormFits t (typed_form t k d)
 typed_fits t k d e = form_fits t k _ (member_none (codes "coordinates") (coordinates_faults t k) d e)
@@ -142,7 +131,7 @@ element_fits t d e =
 
 root_fits : (t : Transform) (d : Data) (r : Root) → root_faults t d r ≡ [] → AllByRecursion (PlainFits t) (features_by t d (Ok r))
 root_fits t d root.Collection e =
-    list_fits (PlainFits t) (element_of_features_faults t) (feature_of t) (element_fits t) _ (member_none (codes "features") (list_faults (element_of_features_faults t)) d e)
+    all_read (PlainFits t) (element_of_features_faults t) (feature_of t) (element_fits t) _ (member_none (codes "features") (list_faults (element_of_features_faults t)) d e)
 root_fits t d root.Feature e = (feature_fits t d e, tt)
 root_fits t d (root.Geometry k) e = (typed_fits t k d e, tt)
 

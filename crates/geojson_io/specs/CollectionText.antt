@@ -1,5 +1,5 @@
 -- The text of a FeatureCollection (RFC 7946, section 3).
-use Rattle.std.specs.Prelude.{ℕ, ℤ, List, [], ◌∷◌, ◌++◌, codes}
+use Rattle.std.specs.Prelude.{ℕ, List, ◌++◌, codes}
 use Rattle.grid.specs.Place.{Transform}
 use Rattle.grid.specs.Fits.{absolute_place}
 use Rattle.grid.specs.declared.pos.Pos.{Pos}

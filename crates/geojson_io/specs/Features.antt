@@ -1,5 +1,5 @@
 -- Faults and meaning of features and of whole texts.
-use Rattle.std.specs.Prelude.{ℕ, List, [], ◌∷◌, ◌++◌, map, Option, Some, None, Result, Ok, Err, codes, if◌then◌else◌}
+use Rattle.std.specs.Prelude.{ℕ, List, [], ◌∷◌, ◌++◌, map, Option, Result, Ok, Err, codes, if◌then◌else◌}
 use Rattle.std.specs.Str.{bytes_eq}
 use Rattle.serde_json.specs.Data.{Data}
 use Rattle.serde_json.specs.Find.{as_object}
@@ -10,7 +10,7 @@ use Rattle.grid.specs.Place.{Transform}
 use Rattle.reading.specs.Parts.{list_faults, elements, member_faults, option_faults, object_faults, typed_faults, unless_null, named, type_text}
 use Rattle.reading.specs.Info.{info_faults, member_or_null, id_of, properties_of}
 use Rattle.reading.specs.Plain.{Plain, PlainForm, none}
-use Rattle.reading.specs.Text.{document, text_faults}
+use Rattle.reading.specs.Text.{document, text_faults, said_of}
 use Rattle.reading.specs.Types.{geometry_named}
 use Rattle.reading.specs.declared.geometry.GeometryType.{GeometryType}
 use Rattle.geojson_io.specs.Geometries.{geometry_faults, geometry_form, typed_geometry_faults, typed_form}
@@ -75,8 +75,7 @@ abbrev pub features_of : Transform → Data → List Plain
 features_of t d = features_by t d (root_type d)
 
 abbrev pub features_or_none : Transform → Option Data → List Plain
-features_or_none t None = []
-features_or_none t (Some d) = features_of t d
+features_or_none t = said_of (features_of t)
 
 -- ---- the text
 

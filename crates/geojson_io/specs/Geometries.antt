@@ -1,36 +1,26 @@
 -- Faults and meaning of geometries.
-use Rattle.std.specs.Prelude.{List, [], map, Result, Ok, Err, codes}
+use Rattle.std.specs.Prelude.{List, Result, Ok, Err, codes}
 use Rattle.serde_json.specs.Data.{Data}
 use Rattle.serde_json.specs.Find.{as_object}
 use Rattle.faults.specs.Fault.{Pair}
 use Rattle.faults.specs.declared.fault.FaultKind.{FaultKind}
-use Rattle.theory.specs.Topology.{null, point, points, line, lines, polygon, polygons}
+use Rattle.theory.specs.Topology.{null}
 use Rattle.grid.specs.Place.{Transform}
-use Rattle.reading.specs.Parts.{list_faults, elements, member_faults, object_faults, typed_faults, unless_null}
+use Rattle.reading.specs.Parts.{member_faults, object_faults, typed_faults}
 use Rattle.reading.specs.Info.{member_or_null}
 use Rattle.reading.specs.Plain.{PlainForm}
+use Rattle.reading.specs.Shapes.{shape_faults, shape_form}
 use Rattle.reading.specs.Types.{geometry_type}
 use Rattle.reading.specs.declared.geometry.GeometryType.{GeometryType}
-use Rattle.reading.specs.declared.geometry.GeometryType.TheVariants.{Point, MultiPoint, LineString, MultiLineString, Polygon, MultiPolygon}
-use Rattle.geojson_io.specs.Positions.{position_faults, positions_faults, position_of, positions_of, line_at_faults, line_at, ring_at_faults, ring_at}
+use Rattle.geojson_io.specs.Positions.{position_faults, position_of, line_at_faults, line_at, ring_at_faults, ring_at}
 
 -- the faults of `coordinates`, by the geometry's type
 abbrev pub coordinates_faults : Transform → GeometryType → Data → List Pair
-coordinates_faults t Point = position_faults t
-coordinates_faults t MultiPoint = positions_faults t
-coordinates_faults t LineString = line_at_faults t
-coordinates_faults t MultiLineString = list_faults (line_at_faults t)
-coordinates_faults t Polygon = list_faults (ring_at_faults t)
-coordinates_faults t MultiPolygon = list_faults (list_faults (ring_at_faults t))
+coordinates_faults t = shape_faults (position_faults t) (line_at_faults t) (ring_at_faults t)
 
 -- the shape that `coordinates` mean
 abbrev pub form_of : Transform → GeometryType → Data → PlainForm
-form_of t Point d = point (position_of t d)
-form_of t MultiPoint d = points (positions_of t d)
-form_of t LineString d = line (line_at t d)
-form_of t MultiLineString d = lines (map (line_at t) (elements d))
-form_of t Polygon d = polygon (map (ring_at t) (elements d))
-form_of t MultiPolygon d = polygons (map (λ p. map (ring_at t) (elements p)) (elements d))
+form_of t = shape_form (position_of t) (line_at t) (ring_at t)
 
 -- a geometry whose type is known
 abbrev pub typed_geometry_faults : Transform → GeometryType → Data → List Pair

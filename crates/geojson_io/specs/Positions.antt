@@ -57,16 +57,18 @@ positions_of t d = map (position_of t) (elements d)
 
 -- ---- lines and rings
 
--- a list of positions, then what a line asks of the list
+-- a list of positions, then what is asked of the list
+abbrev pub outline_at_faults : Transform → (List Pos → List Pair) → Data → List Pair
+outline_at_faults t of d = unless_faulty (positions_faults t d) (of (positions_of t d))
+
 abbrev pub line_at_faults : Transform → Data → List Pair
-line_at_faults t d = unless_faulty (positions_faults t d) (line_faults (positions_of t d))
+line_at_faults t = outline_at_faults t line_faults
 
 abbrev pub line_at : Transform → Data → List Pos
 line_at t d = line_of (positions_of t d)
 
--- a list of positions, then what a ring asks of the list
 abbrev pub ring_at_faults : Transform → Data → List Pair
-ring_at_faults t d = unless_faulty (positions_faults t d) (ring_faults (positions_of t d))
+ring_at_faults t = outline_at_faults t ring_faults
 
 abbrev pub ring_at : Transform → Data → List Pos
 ring_at t d = ring_of (positions_of t d)

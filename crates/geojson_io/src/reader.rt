@@ -27,7 +27,7 @@ use grid::transform::Grid;
 use reading::document::document;
 use reading::geometry::GeometryType;
 use reading::info::no_properties;
-use reading::part::{Listed, Part, keep, read_member, type_fault, type_name};
+use reading::part::{one, read_list_member, type_fault, type_name};
 use serde_json::Value;
 use shapes::feature::Feature;
 use shapes::layer::feature_set;
@@ -67,15 +67,6 @@ fn root_of(value: &Value) -> Result<Root, FaultKind>
     }
 }
 
-fn one(alloc: Global, feature: Feature) -> Result<Vec<Feature>, Fault>
-    ensures ok { IfOk result (λ v. v.items ≡ feature ∷ []) }
-    ensures err { IfErr result IsWant }
-{
-    let mut features = Vec::new(alloc);
-    keep(&mut features, feature)?;
-    Ok(features)
-}
-
 /// The feature that a geometry alone means: without id, its properties empty.
 fn bare_feature(alloc: Global, shape: Shape) -> Result<Feature, Fault>
     ensures ok { IfOk result (λ f. plain f ≡ bare (plain_form shape)) }
@@ -106,10 +97,7 @@ fn read_features(alloc: Global, position: &Position, value: &Value) -> Result<Ve
     let of = FeatureElement {
         position: *position,
     };
-    match read_member(alloc, &Listed { of }, value, "features") {
-        Ok(features) => Ok(features.into_vec()),
-        Err(fault) => Err(fault),
-    }
+    read_list_member(alloc, of, value, "features")
 }
 
 fn read_bare(

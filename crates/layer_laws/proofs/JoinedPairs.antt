@@ -9,7 +9,6 @@ use Rattle.grid.specs.declared.pos.Pos.{Pos}
 use Rattle.shapes.specs.Maps.{Features}
 use Rattle.shapes.specs.Order.{feature_cmp}
 use Rattle.shapes.specs.Sets as set
-use Rattle.shapes.specs.Union.{union}
 use Rattle.shapes.specs.declared.feature.Feature.{Feature}
 use Rattle.theory.specs.ArcNumbers.{ArcRef}
 use Rattle.theory.specs.Lists.{Pairwise}

@@ -1,11 +1,10 @@
 -- How lists are merged step by step.
-use Rattle.std.proofs.Common.{◌≡◌, ◌<◌, List, [], ◌∷◌, ◌++◌, length, take, drop, get_or, Option, Some, None, IfSome, refl, sym, ap, ◌∙◌, append_assoc, arith}
-use Rattle.std.specs.Prelude.{option_to_list}
+use Rattle.std.proofs.Common.{◌≡◌, ◌<◌, List, [], ◌∷◌, ◌++◌, length, drop, get_or, Some, None, IfSome, refl, sym, ap, ◌∙◌, append_assoc, arith}
 use Rattle.std.specs.List.{AllByRecursion}
 use Rattle.std.specs.declared.cmp.Ordering.{Ordering}
 use Rattle.std.specs.declared.cmp.Ordering.TheVariants.{Less, Equal, Greater}
 use Rattle.layer_laws.specs.Cuts.{by_order, merged, merged_into, united, united_into}
-use Rattle.layer_laws.specs.CutLayers.{before, behind, tied, to_first, with_other}
+use Rattle.layer_laws.specs.CutLayers.{before, behind, tied, with_other}
 use Rattle.layer_laws.proofs.MergedSets.{picked}
 
 module _ {A : Type 0} (cmp : A → A → Ordering) (x : A) where
@@ -34,64 +33,6 @@ module _ {A : Type 0} (cmp : A → A → Ordering) (x : A) where
       go more Equal = refl
       go more Greater = ap (λ t. y ∷ t) more
 
-  -- x comes after the first, which is moved
-  pub record IsMoved (ys zs ms ns : List A) : Type 0 where
-    pub all : ns ++ before cmp x zs ≡ ms ++ before cmp x ys
-    pub rest : behind cmp x zs ≡ behind cmp x ys
-    pub same : tied cmp x zs ≡ tied cmp x ys
-    pub fewer : length zs < length ys
-
-  pub moved : (ys zs ms ns : List A) → Some Greater ≡ to_first cmp x ys → zs ≡ drop 1 ys → ns ≡ ms ++ take 1 ys → IsMoved ys zs ms ns
-  moved [] zs ms ns e r m = absurd cc
-  moved (y ∷ ys) zs ms ns e r m =
-      let g : Greater ≡ cmp x y = cc in
-      record {
-        all = (λ i. m i ++ before cmp x (r i)) ∙ append_assoc ms (y ∷ []) (before cmp x ys) ∙ ap (λ o. ms ++ by_order o [] [] (y ∷ before cmp x ys)) g;
-        rest = ap (behind cmp x) r ∙ ap (λ o. by_order o (y ∷ ys) ys (behind cmp x ys)) g;
-        same = ap (tied cmp x) r ∙ ap (λ o. by_order o None (Some y) (tied cmp x ys)) g;
-        fewer = omega (arith, ap length r);
-      }
-
-  -- x ties with the first
-  pub record IsTied (ys : List A) : Type 0 where
-    pub none : before cmp x ys ≡ []
-    pub rest : behind cmp x ys ≡ drop 1 ys
-    pub same : (r : Option A) → option_to_list r ≡ take 1 ys → r ≡ tied cmp x ys
-
-  pub ties : (ys : List A) → Some Equal ≡ to_first cmp x ys → IsTied ys
-  ties [] e = absurd cc
-  ties (y ∷ ys) e =
-      let g : Equal ≡ cmp x y = cc in
-      record {
-        none = sym (ap (λ o. by_order o [] [] (y ∷ before cmp x ys)) g);
-        rest = sym (ap (λ o. by_order o (y ∷ ys) ys (behind cmp x ys)) g);
-        same = λ r k. one r k ∙ ap (λ o. by_order o None (Some y) (tied cmp x ys)) g;
-      }
-    where
-      one : (r : Option A) → option_to_list r ≡ y ∷ [] → r ≡ Some y
-      one None k = absurd cc
-      one (Some z) k = cc
-
-  -- x comes before the first, or none is left
-  pub record IsFirst (ys : List A) : Type 0 where
-    pub none : before cmp x ys ≡ []
-    pub rest : behind cmp x ys ≡ ys
-    pub same : tied cmp x ys ≡ None
-
-  pub less : (ys : List A) → Some Less ≡ to_first cmp x ys → IsFirst ys
-  less [] e = absurd cc
-  less (y ∷ ys) e =
-      let g : Less ≡ cmp x y = cc in
-      record {
-        none = sym (ap (λ o. by_order o [] [] (y ∷ before cmp x ys)) g);
-        rest = sym (ap (λ o. by_order o (y ∷ ys) ys (behind cmp x ys)) g);
-        same = sym (ap (λ o. by_order o None (Some y) (tied cmp x ys)) g);
-      }
-
-  pub none_left : (ys : List A) → None ≡ to_first cmp x ys → IsFirst ys
-  none_left [] e = record { none = refl; rest = refl; same = refl }
-  none_left (y ∷ ys) e = absurd cc
-
   pub all_behind : (P : A → Type 0) (ys : List A) → AllByRecursion P ys → AllByRecursion P (behind cmp x ys)
   all_behind P [] h = tt
   all_behind P (y ∷ ys) h = picked (AllByRecursion P) (cmp x y) _ _ _ (λ _. h) (λ _. h.1) (λ _. all_behind P ys h.1)
@@ -105,10 +46,6 @@ module _ {A : Type 0} where
   pub first_is : (ys : List A) (y : A) → 0 < length ys → y ≡ get_or ys 0 y → ys ≡ y ∷ drop 1 ys
   first_is [] y h e = absurd (omega arith)
   first_is (z ∷ ys) y h e = ap (λ w. w ∷ ys) (sym e)
-
-  pub no_items : (ys : List A) → length ys ≡ 0 → ys ≡ []
-  no_items [] e = refl
-  no_items (y ∷ ys) e = absurd (omega arith)
 
   -- the next of the left list is put behind what stands before it
   pub next_merged : (cmp : A → A → Ordering) (x : A) (xs ys zs ms ns os all : List A) → ns ≡ ms ++ before cmp x ys → zs ≡ behind cmp x ys → os ≡ ns ++ (x ∷ []) →

@@ -15,8 +15,9 @@ use Rattle.theory.specs.ArcNumbers.{ArcRef, StitchTo}
 use Rattle.theory.specs.Geometry.{JunctionOf}
 use Rattle.theory.specs.Laws.{IsOrder}
 use Rattle.theory.specs.Lists.{Has, Pairwise}
-use Rattle.theory.specs.Refinement.{IsPartOf, IsRefinementOf, recut_body}
+use Rattle.theory.specs.Refinement.{IsPartOf, IsRefinementOf}
 use Rattle.theory.specs.Topology.{IsFormOf, IsGeometryOf, IsLayerOf, IsRingList, lines_in, rings_in}
+use Rattle.theory.specs.TopologyFunction.{form_map}
 use Rattle.theory.proofs.ProvedLaws as law
 use Rattle.topo.specs.OfMap.{body_of, item_of, layer_of}
 use Rattle.topo.specs.Parts.{LayerParts}
@@ -24,21 +25,23 @@ use Rattle.topo.specs.declared.geom.Body as bodies
 use Rattle.topo.specs.declared.geom.Body.TheVariants as to
 use Rattle.topo.specs.declared.geom.Geom.{Geom}
 use Rattle.topo.proofs.Sound.{are_sound}
-use Rattle.layer_laws.specs.Cuts.{body_recut, geometry_recut}
+use Rattle.rewriting.specs.Rewritten.{ListRule, body_rewritten}
+use Rattle.layer_laws.specs.Cuts.{geometry_recut, line_recut, ring_recut}
 use Rattle.layer_laws.proofs.UnitedGeometry.{gives}
 
 -- positions have an order
 pub order : IsOrder position_cmp
 order = record { total = position_total; same = position_same }
 
-body_seen : (table : List (List Pos)) (pieces : List (List ArcRef)) (b : bodies.Body) → body_of (body_recut table pieces b) ≡ recut_body position_cmp table pieces (body_of b)
-body_seen table pieces to.Null = refl
-body_seen table pieces (to.Point p) = refl
-body_seen table pieces (to.MultiPoint ps) = refl
-body_seen table pieces (to.Line used) = refl
-body_seen table pieces (to.MultiLine lists) = refl
-body_seen table pieces (to.Polygon lists) = refl
-body_seen table pieces (to.MultiPolygon ps) = refl
+-- a body by other lists, as the definitions see it
+pub body_seen : (line ring : ListRule) (b : bodies.Body) → body_of (body_rewritten line ring b) ≡ form_map line ring (body_of b)
+body_seen line ring to.Null = refl
+body_seen line ring (to.Point p) = refl
+body_seen line ring (to.MultiPoint ps) = refl
+body_seen line ring (to.Line used) = refl
+body_seen line ring (to.MultiLine lists) = refl
+body_seen line ring (to.Polygon lists) = refl
+body_seen line ring (to.MultiPolygon ps) = refl
 
 -- the geometry, cut again, is that of the feature
 abbrev pub IsRecutFor : (Pos → Type 0) → List (List Pos) → List (List ArcRef) → Feature → Geom → Type 0
@@ -60,7 +63,7 @@ module _ (m u : Layers) (part : IsPartOf (geometry_of m) (geometry_of u)) (arcs 
   pub geometry_after_recut : (e : List ℕ × Features) (f : Feature) (h : Geom) → Has e (map.entries m) → Has f (set.items e.1) → Old f h → New f h
   geometry_after_recut e f h there at old = record {
     info = old.info;
-    form = subst (IsFormOf (λ l used. StitchTo table used l) (IsRingList position_cmp (JunctionOf (geometry_of u)) table) (seen_by.form_of f.shape)) (sym (body_seen table pieces h.body))
+    form = subst (IsFormOf (λ l used. StitchTo table used l) (IsRingList position_cmp (JunctionOf (geometry_of u)) table) (seen_by.form_of f.shape)) (sym (body_seen (line_recut pieces) (ring_recut table pieces) h.body))
         (law.body_after_a_recut position_cmp (geometry_of m) (geometry_of u) order (are_sound m) (are_sound u) part arcs table pieces cut (seen_by.form_of f.shape) (body_of h.body)
         (λ l k. gives lines_in m e f l there at k) (λ r k. gives rings_in m e f r there at k) old.form);
   }

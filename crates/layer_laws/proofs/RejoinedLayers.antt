@@ -11,33 +11,23 @@ use Rattle.theory.specs.ArcNumbers.{ArcRef}
 use Rattle.theory.specs.Geometry.{JunctionOf}
 use Rattle.theory.specs.Lists.{Pairwise}
 use Rattle.theory.specs.Refinement.{IsRefinementOf}
-use Rattle.theory.specs.Removing.{AreStarts, Starts, rejoined_body, rejoined_layer}
+use Rattle.theory.specs.Removing.{AreStarts, Starts, rejoined, rejoined_body, rejoined_layer, ring_rejoined}
 use Rattle.theory.specs.RemovingLaws.{IsLeft}
 use Rattle.theory.specs.Topology.{IsLayerOf}
 use Rattle.theory.proofs.RemovingProved as law
-use Rattle.topo.specs.OfMap.{ArePartsOf, body_of, item_of, layer_of}
+use Rattle.topo.specs.OfMap.{ArePartsOf, item_of, layer_of}
 use Rattle.topo.specs.Parts.{LayerParts}
-use Rattle.topo.specs.declared.geom.Body as bodies
-use Rattle.topo.specs.declared.geom.Body.TheVariants as to
 use Rattle.topo.specs.declared.geom.Geom.{Geom}
-use Rattle.layer_laws.specs.Less.{body_rejoined, geometry_rejoined, layer_rejoined, layers_left, less, marks_of}
+use Rattle.layer_laws.specs.Less.{geometry_rejoined, layer_rejoined, layers_left, less, marks_of}
 use Rattle.layer_laws.proofs.LeftGeometries.{geometries_left, is_left}
+use Rattle.layer_laws.proofs.RecutGeometries.{body_seen}
 
 module _ (arcs : List (List Pos)) (starts : Starts) where
-  body_seen : (b : bodies.Body) → body_of (body_rejoined arcs starts b) ≡ rejoined_body position_cmp arcs starts (body_of b)
-  body_seen to.Null = refl
-  body_seen (to.Point p) = refl
-  body_seen (to.MultiPoint ps) = refl
-  body_seen (to.Line used) = refl
-  body_seen (to.MultiLine lists) = refl
-  body_seen (to.Polygon lists) = refl
-  body_seen (to.MultiPolygon ps) = refl
-
   items_seen : (gs : List Geom) →
       map_list item_of (map_list (geometry_rejoined arcs starts) gs)
       ≡ map_list (λ h. record { info = h.info; form = rejoined_body position_cmp arcs starts h.form }) (map_list item_of gs)
   items_seen [] = refl
-  items_seen (g ∷ gs) = λ i. record { info = (g.id, g.props); form = body_seen g.body i } ∷ items_seen gs i
+  items_seen (g ∷ gs) = λ i. record { info = (g.id, g.props); form = body_seen (rejoined starts 0) (ring_rejoined position_cmp arcs starts) g.body i } ∷ items_seen gs i
 
   -- layers whose arcs are joined, as the definitions see them
   pub layers_rejoined_seen : (ls : List LayerParts) →

@@ -1,13 +1,12 @@
 -- The least step along a list, and the list parted at a step.
 use Rattle.std.proofs.Common.{◌≡◌, Bool, true, false, cond, ◌&&◌, List, [], ◌∷◌, ◌++◌, ◌⊎◌, inl, inr, refl, sym, ap, ◌∙◌, subst}
 use Rattle.std.specs.Cmp.{IsTotalOrder, then_total, on_total, tied_itself, upto}
-use Rattle.std.specs.Ordering.{is_lt, is_gt, ordering_reverse}
-use Rattle.std.specs.declared.cmp.Ordering.{Ordering}
-use Rattle.std.specs.declared.cmp.Ordering.TheVariants.{Less, Equal, Greater}
+use Rattle.std.specs.Ordering.{is_lt, is_gt}
 use Rattle.grid.specs.declared.pos.Pos.{Pos}
 use Rattle.lines.specs.Pairs.{position_eq}
 use Rattle.lines.specs.Positions.{position_total}
-use Rattle.lines.proofs.Positions.{position_true, position_refl}
+use Rattle.lines.proofs.Positions.{both_true, position_refl, position_true}
+use Rattle.lines.proofs.SortedLists.{less_most, not_less}
 use Rattle.theory.specs.Geometry.{AtMost}
 use Rattle.theory.specs.Lists.{Steps}
 use Rattle.layer_text.specs.Steps.{step, step_cmp, is_step, lesser, least_from, behind_from, up_to_from}
@@ -19,21 +18,11 @@ step_total = then_total (on_total (λ (s : Step). s.from) position_total) (on_to
 most_self : (s : Step) → AtMost step_cmp s s
 most_self s = ap is_gt (tied_itself step_total s)
 
-most_less : (r : Ordering) → is_lt r ≡ true → is_gt r ≡ false
-most_less Less e = refl
-most_less Equal e = refl
-most_less Greater e = cc
-
-most_not_less : (r s : Ordering) → s ≡ ordering_reverse r → is_lt r ≡ false → is_gt s ≡ false
-most_not_less Less s h e = absurd cc
-most_not_less Equal s h e = ap is_gt h
-most_not_less Greater s h e = ap is_gt h
-
 lesser_left : (s t : Step) → AtMost step_cmp (lesser s t) s
 lesser_left s t = go (is_lt (step_cmp t s)) refl
   where
     go : (b : Bool) → is_lt (step_cmp t s) ≡ b → AtMost step_cmp (cond b t s) s
-    go true e = most_less (step_cmp t s) e
+    go true e = less_most (step_cmp t s) e
     go false e = most_self s
 
 lesser_right : (s t : Step) → AtMost step_cmp (lesser s t) t
@@ -41,7 +30,7 @@ lesser_right s t = go (is_lt (step_cmp t s)) refl
   where
     go : (b : Bool) → is_lt (step_cmp t s) ≡ b → AtMost step_cmp (cond b t s) t
     go true e = most_self t
-    go false e = most_not_less (step_cmp t s) (step_cmp s t) (step_total.antisymm s t) e
+    go false e = not_less step_cmp step_total (step_cmp t s) (step_cmp s t) (step_total.antisymm t s) e
 
 lesser_one : (s t : Step) → (lesser s t ≡ s) ⊎ (lesser s t ≡ t)
 lesser_one s t = go (is_lt (step_cmp t s))
@@ -86,10 +75,6 @@ least_steps s x (y ∷ l) =
 pub record IsParted (s : Step) (x : Pos) (l before : List Pos) : Type 0 where
   pub whole : x ∷ l ≡ before ++ (s.from ∷ (s.to ∷ behind_from s x l))
   pub front : x ∷ up_to_from s x l ≡ before ++ (s.from ∷ [])
-
-both_true : (a b : Bool) → (a && b) ≡ true → (a ≡ true) × (b ≡ true)
-both_true true b e = (refl, e)
-both_true false b e = absurd cc
 
 step_there : (s : Step) (x y : Pos) → is_step s x y ≡ true → (s.from ≡ x) × (s.to ≡ y)
 step_there s x y e =

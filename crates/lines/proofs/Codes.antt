@@ -1,5 +1,5 @@
 -- Faults of lists, and rings, in the form of the code.
-use Rattle.std.proofs.Common.{◌≡◌, ◌≤◌, ◌<◌, ◌-◌, ℕ, Bool, true, false, cond, not, ◌&&◌, List, [], ◌∷◌, ◌++◌, length, take, drop, refl, sym, ap, ◌∙◌, subst, arith, Option, Some, None, nat_lt, slice_get, ◌⊎◌, inl, inr, zero, suc, ◌==◌}
+use Rattle.std.proofs.Common.{◌≡◌, ◌≤◌, ◌<◌, ◌-◌, ℕ, Bool, true, false, cond, not, ◌&&◌, ◌||◌, List, [], ◌∷◌, ◌++◌, length, take, drop, refl, sym, ap, ◌∙◌, subst, arith, Option, Some, None, nat_lt, slice_get, zero, suc, ◌==◌}
 use Rattle.std.proofs.lemmas.Bool.{eqb-true}
 use denote.Ref.{Bor}
 use borrow.Author.Tests.{ltb-true, ltb-false}
@@ -16,6 +16,7 @@ use Rattle.theory.proofs.Rotations.{rotation_trans, rotation_ring}
 use Rattle.lines.specs.Turned.{position_cmp, list_cmp, IsLeastRotation}
 use Rattle.lines.specs.Reading.{collapsed, is_closed, repeats, opened, collapsed_line_fault, collapsed_ring_fault, line_fault, ring_fault, ring_of}
 use Rattle.lines.specs.Windows.{IsLeastStart}
+use Rattle.lines.specs.declared.shape_fault.ShapeFault.{ShapeFault}
 use Rattle.lines.specs.declared.shape_fault.ShapeFault.TheVariants.{TooShort, NotClosed, Revisit}
 use Rattle.lines.specs.Positions.{position_total, position_same}
 use Rattle.lines.proofs.Positions.{derived_eq}
@@ -68,33 +69,25 @@ pub not_empty : (n : ℕ) → false ≡ (n == 0) → 1 ≤ n
 not_empty zero e = absurd cc
 not_empty (suc n) e = omega arith
 
+-- too short for a line
+abbrev pub is_short : List Pos → Bool
+is_short c = nat_lt (length c) 2 || (is_closed position_cmp c && nat_lt (length c) 4)
+
 module _ (l c : List Pos) (e : c ≡ collapsed position_cmp l) where
   as_line : line_fault position_cmp l ≡ collapsed_line_fault position_cmp c
   unfolding line_fault
   as_line = ap (collapsed_line_fault position_cmp) (sym e)
 
-  pub line_short : length c < 2 → line_fault position_cmp l ≡ Some TooShort
-  line_short n = as_line ∙ rw (small (length c) 2 n) refl
-
-  pub line_back : 2 ≤ length c → true ≡ is_closed position_cmp c → length c < 4 → line_fault position_cmp l ≡ Some TooShort
-  line_back n b m = as_line ∙ rw (large (length c) 2 n, sym b, small (length c) 4 m) refl
-
-  line_told : 2 ≤ length c → (b r : Bool) → b ≡ is_closed position_cmp c → (b ≡ false) ⊎ (4 ≤ length c) → r ≡ repeats position_cmp c →
-      line_fault position_cmp l ≡ cond r (Some Revisit) None
-  line_told n b r p q s = as_line ∙ rw (large (length c) 2 n, sym p, long b q, sym s) refl
+  -- whether it is too short, and whether a segment stands twice, tell the fault
+  pub line_told : (short again : Bool) → short ≡ is_short c → again ≡ repeats position_cmp c →
+      line_fault position_cmp l ≡ cond short (Some TooShort) (cond again (Some Revisit) None)
+  line_told short again p q =
+      as_line ∙ either (nat_lt (length c) 2) (is_closed position_cmp c && nat_lt (length c) 4) (Some TooShort) (cond (repeats position_cmp c) (Some Revisit) None)
+      ∙ rw (p, q) refl
     where
-      long : (b : Bool) → (b ≡ false) ⊎ (4 ≤ length c) → (b && nat_lt (length c) 4) ≡ false
-      long false q = refl
-      long true (inl q) = absurd cc
-      long true (inr q) = large (length c) 4 q
-
-  pub line_again : 2 ≤ length c → (b : Bool) → b ≡ is_closed position_cmp c → (b ≡ false) ⊎ (4 ≤ length c) → true ≡ repeats position_cmp c →
-      line_fault position_cmp l ≡ Some Revisit
-  line_again n b p q s = line_told n b true p q s
-
-  pub line_good : 2 ≤ length c → (b : Bool) → b ≡ is_closed position_cmp c → (b ≡ false) ⊎ (4 ≤ length c) → false ≡ repeats position_cmp c →
-      line_fault position_cmp l ≡ None
-  line_good n b p q s = line_told n b false p q s
+      either : (b d : Bool) (x y : Option ShapeFault) → cond b x (cond d x y) ≡ cond (b || d) x y
+      either true d x y = refl
+      either false d x y = refl
 
   pub line_is : line_fault position_cmp l ≡ None → IsLine c
   line_is f = subst IsLine (sym e) (line_accepted position_cmp position_total position_same l f)

@@ -1,7 +1,7 @@
 -- Lists with an element at two places, in order and before they are sorted.
 use Rattle.std.proofs.Common.{◌≡◌, ℕ, ◌+◌, ◌≤◌, Bool, true, false, cond, List, [], ◌∷◌, ◌⊎◌, inl, inr, refl, sym, ap, ◌∙◌, subst, arith}
 use Rattle.std.specs.List.{sum_by}
-use Rattle.std.specs.List.Sorted.{IsPermutation}
+use Rattle.std.specs.List.Sorted.{IsPermutation, IsSorted}
 use Rattle.std.specs.Cmp.{IsTotalOrder, tied_itself}
 use Rattle.std.specs.Ordering.{is_eq}
 use Rattle.std.specs.declared.cmp.Ordering.{Ordering}
@@ -11,7 +11,8 @@ use Rattle.std.proofs.lemmas.List.Sorted.{sum_by-IsPermutation}
 use Rattle.theory.specs.Lists.{Has, Twice}
 use Rattle.theory.specs.TopologyFunction.{keep}
 use Rattle.theory.proofs.Turning.{keep_has, has_keep}
-use Rattle.lines.proofs.SortedLists.{Up, squeezed}
+use Rattle.lines.specs.Neighbours.{equal_from, equal_neighbours}
+use Rattle.lines.proofs.SortedLists.{Up, squeezed, up_from_sorted}
 
 -- an element stands at two places
 abbrev pub Doubled : {X : Type 0} → List X → Type 0
@@ -133,3 +134,30 @@ module _ {X : Type 0} (R : X → X → Ordering) (o : IsTotalOrder R) (same : (x
       let k : 2 ≤ count t.0 xs = t.1 in
       let e = count_moved t.0 xs ys p in
       doubled_counted t.0 ys (omega arith)
+
+  -- where a test tells which items are equal, equal neighbours of a sorted list tell whether one stands twice in it
+  module _ (eq : X → X → Bool) (equals : (x y : X) → eq x y ≡ true → x ≡ y) (equal : (x y : X) → x ≡ y → eq x y ≡ true) where
+    told_from : (x : X) (l : List X) → equal_from eq x l ≡ true → EqualFrom x l
+    told_from x [] e = absurd cc
+    told_from x (y ∷ l) e = go (eq y x) refl e (told_from y l)
+      where
+        go : (b : Bool) → eq y x ≡ b → cond b true (equal_from eq y l) ≡ true → (equal_from eq y l ≡ true → EqualFrom y l) → EqualFrom x (y ∷ l)
+        go true p e f = inl (equals y x p)
+        go false p e f = inr (f e)
+
+    from_told : (x : X) (l : List X) → EqualFrom x l → equal_from eq x l ≡ true
+    from_told x [] h = absurd h
+    from_told x (y ∷ l) (inl e) = ap (λ b. cond b true (equal_from eq y l)) (equal y x e)
+    from_told x (y ∷ l) (inr h) = go (eq y x) (from_told y l h)
+      where
+        go : (b : Bool) → equal_from eq y l ≡ true → cond b true (equal_from eq y l) ≡ true
+        go true e = refl
+        go false e = e
+
+    pub neighbours_doubled : (l : List X) → equal_neighbours eq l ≡ true → Doubled l
+    neighbours_doubled [] e = absurd cc
+    neighbours_doubled (x ∷ l) e = doubled_from_equal x l (told_from x l e)
+
+    pub doubled_neighbours : (l : List X) → IsSorted R l → Doubled l → equal_neighbours eq l ≡ true
+    doubled_neighbours [] s h = absurd h
+    doubled_neighbours (x ∷ l) s h = from_told x l (equal_from_doubled x l (up_from_sorted R o (x ∷ l) s) h)

@@ -17,7 +17,7 @@ use Rattle.theory.specs.TopologyFunction.{rotations_from, rotations, least_list}
 use Rattle.theory.proofs.Lists.{append_nil}
 use Rattle.theory.proofs.Rotations.{rotation_back, rotation_trans, rotation_ring, same_start}
 use Rattle.theory.proofs.Ascending.{at_most_same, at_most_self}
-use Rattle.theory.proofs.Turning.{rotation_listed, least_list_there}
+use Rattle.theory.proofs.Turning.{least_list_found, rotation_listed}
 use Rattle.lines.specs.Windows.{window, IsLeastStart}
 
 -- each listed rotation is one
@@ -130,6 +130,6 @@ module _ {V : Type 0} (cmp : V → V → Ordering) (o : IsTotalOrder cmp) (same 
   least_is f (x ∷ l) n q least =
       let lo : IsTotalOrder (slice_cmp cmp) = lists_total o in
       let lsame : IsAntisymmetric (slice_cmp cmp) = slice_cmp-IsAntisymmetric same in
-      let t = least_list_there (slice_cmp cmp) lo lsame (rotations f) (x ∷ l) (rotation_listed f x l q) in
+      let t = least_list_found (slice_cmp cmp) lo (rotations f) (x ∷ l) (rotation_listed f x l q) in
       at_most_same (slice_cmp cmp) lo lsame (x ∷ l) (least_list (slice_cmp cmp) (rotations f))
       (least (least_list (slice_cmp cmp) (rotations f)) (listed_rotation [] f (least_list (slice_cmp cmp) (rotations f)) t.0)) t.1

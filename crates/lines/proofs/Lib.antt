@@ -11,3 +11,4 @@ pub mod ReadsItself
 pub mod Dropping
 pub mod Marking
 pub mod Retracing
+pub mod ByVertex

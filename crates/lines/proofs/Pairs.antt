@@ -14,19 +14,18 @@ use Rattle.lines.proofs.Positions.{position_true, position_refl, both_true, both
 pub pair_total : IsTotalOrder pair_cmp
 pair_total = then_total (on_total (λ (s : Pair). s.lesser) position_total) (on_total (λ (s : Pair). s.greater) position_total)
 
+one_pair : (s t : Pair) → s.lesser ≡ t.lesser → s.greater ≡ t.greater → s ≡ t
+one_pair s t a b = λ i. record { lesser = a i; greater = b i }
+
 pub pair_tied : (s t : Pair) → pair_cmp s t ≡ Equal → s ≡ t
 pair_tied s t e =
     let h = then_equal (position_cmp s.lesser t.lesser) (position_cmp s.greater t.greater) e in
-    let a : s.lesser ≡ t.lesser = position_same s.lesser t.lesser h.0 in
-    let b : s.greater ≡ t.greater = position_same s.greater t.greater h.1 in
-    λ i. record { lesser = a i; greater = b i }
+    one_pair s t (position_same s.lesser t.lesser h.0) (position_same s.greater t.greater h.1)
 
 pub pair_true : (s t : Pair) → pair_eq s t ≡ true → s ≡ t
 pair_true s t e =
     let h = both_true (position_eq s.lesser t.lesser) (position_eq s.greater t.greater) e in
-    let a : s.lesser ≡ t.lesser = position_true s.lesser t.lesser h.0 in
-    let b : s.greater ≡ t.greater = position_true s.greater t.greater h.1 in
-    λ i. record { lesser = a i; greater = b i }
+    one_pair s t (position_true s.lesser t.lesser h.0) (position_true s.greater t.greater h.1)
 
 pub pair_refl : (s t : Pair) → s ≡ t → pair_eq s t ≡ true
 pair_refl s t e =

@@ -1,7 +1,7 @@
 -- Equality of positions, by their order and by tests.
 use Rattle.std.proofs.Common.{◌≡◌, Bool, true, false, ◌&&◌, ◌⊎◌, inl, inr, refl, sym, ap, ◌∙◌, subst, rules}
 use Rattle.std.specs.Cmp.{tied_itself}
-use Rattle.std.specs.Ordering.{is_eq, is_lt, is_gt, ordering_reverse}
+use Rattle.std.specs.Ordering.{is_eq, is_lt}
 use Rattle.std.specs.declared.cmp.Ordering.{Ordering}
 use Rattle.std.specs.declared.cmp.Ordering.TheVariants.{Less, Equal, Greater}
 use Rattle.grid.specs.declared.pos.Pos.{Pos}
@@ -12,6 +12,7 @@ use Rattle.theory.proofs.Ascending.{dec_by}
 use Rattle.lines.specs.Turned.{position_cmp}
 use Rattle.lines.specs.Positions.{position_total, position_same}
 use Rattle.lines.specs.Pairs.{position_eq}
+use Rattle.lines.proofs.SortedLists.{squeezed, tied_same}
 
 -- the derived test is that of the order
 pub derived_eq : (p q : Pos) → pos_eq.eq-value.it p q ≡ same_vertex position_cmp p q
@@ -24,12 +25,7 @@ pub position_eq_is : (p q : Pos) → position_eq p q ≡ same_vertex position_cm
 position_eq_is p q = search rules
 
 pub position_true : (p q : Pos) → position_eq p q ≡ true → p ≡ q
-position_true p q e = go (position_cmp p q) refl (sym (position_eq_is p q) ∙ e)
-  where
-    go : (r : Ordering) → position_cmp p q ≡ r → is_eq r ≡ true → p ≡ q
-    go Less h k = cc
-    go Equal h k = position_same p q h
-    go Greater h k = cc
+position_true p q e = tied_same position_cmp position_same p q (sym (position_eq_is p q) ∙ e)
 
 pub position_refl : (p : Pos) → position_eq p p ≡ true
 position_refl p = position_eq_is p p ∙ ap is_eq (tied_itself position_total p)
@@ -65,12 +61,7 @@ position_apart p q n = go (position_cmp p q) refl
     go Greater e = refl
 
 pub position_tied : (p q : Pos) → is_eq (position_cmp p q) ≡ true → p ≡ q
-position_tied p q = go (position_cmp p q) refl
-  where
-    go : (r : Ordering) → position_cmp p q ≡ r → is_eq r ≡ true → p ≡ q
-    go Less e h = cc
-    go Equal e h = position_same p q e
-    go Greater e h = cc
+position_tied = tied_same position_cmp position_same
 
 pub tied_position : (p q : Pos) → p ≡ q → is_eq (position_cmp p q) ≡ true
 tied_position p q e = subst (λ w. is_eq (position_cmp p w) ≡ true) e (ap is_eq (tied_itself position_total p))
@@ -78,15 +69,8 @@ tied_position p q e = subst (λ w. is_eq (position_cmp p w) ≡ true) e (ap is_e
 pub true_position : (p q : Pos) → p ≡ q → position_eq p q ≡ true
 true_position p q e = subst (λ w. position_eq p w ≡ true) e (position_refl p)
 
-most_equal : (r s : Ordering) → r ≡ ordering_reverse s → is_gt r ≡ false → is_gt s ≡ false → r ≡ Equal
-most_equal Less Less e h k = cc
-most_equal Less Equal e h k = cc
-most_equal Less Greater e h k = cc
-most_equal Equal s e h k = refl
-most_equal Greater s e h k = cc
-
 pub position_most : (p q : Pos) → AtMost position_cmp p q → AtMost position_cmp q p → p ≡ q
-position_most p q h k = position_same p q (most_equal (position_cmp p q) (position_cmp q p) (position_total.antisymm p q) h k)
+position_most p q h k = position_same p q (squeezed position_cmp position_total (position_cmp p q) (position_cmp q p) (position_total.antisymm p q) h k)
 
 pub not_before : (p q : Pos) → p ≡ q → ¬ (is_lt (position_cmp p q) ≡ true)
 not_before p q e = go (position_cmp p q) (subst (λ w. position_cmp p w ≡ Equal) e (tied_itself position_total p))

@@ -1,5 +1,5 @@
 -- Whether a segment stands twice, as sorting tells it.
-use Rattle.std.proofs.Common.{◌≡◌, ℕ, ◌+◌, ◌<◌, Bool, true, false, cond, List, [], ◌∷◌, ◌++◌, ◌⊎◌, inl, inr, length, drop, get_or, nat_eq, refl, sym, ap, ◌∙◌, subst, arith, append_assoc}
+use Rattle.std.proofs.Common.{◌≡◌, ℕ, ◌+◌, ◌<◌, Bool, true, false, cond, List, [], ◌∷◌, ◌++◌, inl, inr, length, drop, get_or, nat_eq, refl, sym, ap, ◌∙◌, subst, arith, append_assoc}
 use Rattle.std.proofs.lemmas.Bool.{eqb-true}
 use Rattle.std.specs.List.Sorted.{IsPermutation, IsSorted}
 use Rattle.std.proofs.lemmas.List.Sorted.{IsPermutation-sym}
@@ -12,30 +12,14 @@ use Rattle.lines.specs.Turned.{position_cmp}
 use Rattle.lines.specs.Positions.{position_total, position_same}
 use Rattle.lines.specs.Pairs.{pair_eq, pair_cmp, pair_of}
 use Rattle.lines.specs.Reading.{repeats}
-use Rattle.lines.specs.Segments.{segments_from, segments_of, equal_from, equal_neighbours}
+use Rattle.lines.specs.Neighbours.{equal_neighbours}
+use Rattle.lines.specs.Segments.{segments_from, segments_of}
 use Rattle.lines.specs.declared.pair.Pair.{Pair}
-use Rattle.lines.proofs.SortedLists.{up_from_sorted}
 use Rattle.lines.proofs.Dropping.{drop_item}
-use Rattle.lines.proofs.Doubles.{Doubled, EqualFrom, doubled_twice, twice_doubled, twice_kept, kept_doubled, equal_from_doubled, doubled_from_equal, Doubled-permutation}
+use Rattle.lines.proofs.Doubles.{Doubled, doubled_twice, twice_doubled, twice_kept, kept_doubled, neighbours_doubled, doubled_neighbours, Doubled-permutation}
 use Rattle.lines.proofs.Pairs.{pair_total, pair_tied, pair_true, pair_refl, pair_same, pair_flip, pair_at}
 use Rattle.lines.proofs.Positions.{both_intro}
 use Rattle.lines.proofs.Trails.{Repeats, repeats_told, told_repeats}
-
-equal_yes : (s : Pair) (l : List Pair) → equal_from s l ≡ true → EqualFrom s l
-equal_yes s [] e = cc
-equal_yes s (t ∷ l) e = go (λ h. equal_yes t l h) (pair_eq t s) refl e
-  where
-    go : (equal_from t l ≡ true → EqualFrom t l) → (b : Bool) → pair_eq t s ≡ b → cond b true (equal_from t l) ≡ true → (t ≡ s) ⊎ EqualFrom t l
-    go f true p h = inl (pair_true t s p)
-    go f false p h = inr (f h)
-
-equal_no : (s : Pair) (l : List Pair) → equal_from s l ≡ false → ¬ EqualFrom s l
-equal_no s [] e = λ h. h
-equal_no s (t ∷ l) e = go (λ h. equal_no t l h) (pair_eq t s) refl e
-  where
-    go : (equal_from t l ≡ false → ¬ EqualFrom t l) → (b : Bool) → pair_eq t s ≡ b → cond b true (equal_from t l) ≡ false → ¬ ((t ≡ s) ⊎ EqualFrom t l)
-    go f true p h = cc
-    go f false p h = λ k. elim k [ inl q ↦ (let r = pair_refl t s q in cc) | inr q ↦ f h q ]
 
 steps_has : (x y u : Pos) (l : List Pos) → Steps x y (u ∷ l) → Has (pair_of x y) (segments_from u l)
 steps_has x y u [] (inl h) = absurd h.1
@@ -80,22 +64,14 @@ one_test false false f g = refl
 
 -- neighbours in a sorted list tell whether a segment stands twice, where one does so in the list only if one does so among the segments
 told_by_sorting : (l : List Pos) (xs ys : List Pair) → (Doubled (segments_of l) → Doubled xs) → (Doubled xs → Doubled (segments_of l)) →
-    IsPermutation xs ys → IsSorted pair_cmp ys → equal_neighbours ys ≡ repeats position_cmp l
-told_by_sorting l xs [] f g p s =
-    one_test false (repeats position_cmp l) (λ e. absurd cc)
-    (λ e. absurd (Doubled-permutation pair_cmp pair_total pair_tied xs [] p (f (repeats_all l (repeats_told position_cmp position_total position_same l e)))))
-told_by_sorting l xs (y ∷ ys) f g p s =
-    one_test (equal_from y ys) (repeats position_cmp l)
+    IsPermutation xs ys → IsSorted pair_cmp ys → equal_neighbours pair_eq ys ≡ repeats position_cmp l
+told_by_sorting l xs ys f g p s =
+    one_test (equal_neighbours pair_eq ys) (repeats position_cmp l)
     (λ e. told_repeats position_cmp position_total position_same l
-    (all_repeats l (g (Doubled-permutation pair_cmp pair_total pair_tied (y ∷ ys) xs (IsPermutation-sym xs (y ∷ ys) p)
-    (doubled_from_equal pair_cmp pair_total pair_tied y ys (equal_yes y ys e))))))
-    (λ e. no_no (equal_from y ys) (λ n. equal_no y ys n
-    (equal_from_doubled pair_cmp pair_total pair_tied y ys (up_from_sorted pair_cmp pair_total (y ∷ ys) s)
-    (Doubled-permutation pair_cmp pair_total pair_tied xs (y ∷ ys) p (f (repeats_all l (repeats_told position_cmp position_total position_same l e)))))))
-  where
-    no_no : (b : Bool) → ¬ (b ≡ false) → b ≡ true
-    no_no true n = refl
-    no_no false n = absurd (n refl)
+    (all_repeats l (g (Doubled-permutation pair_cmp pair_total pair_tied ys xs (IsPermutation-sym xs ys p)
+    (neighbours_doubled pair_cmp pair_total pair_tied pair_eq pair_true pair_refl ys e)))))
+    (λ e. doubled_neighbours pair_cmp pair_total pair_tied pair_eq pair_true pair_refl ys s
+    (Doubled-permutation pair_cmp pair_total pair_tied xs ys p (f (repeats_all l (repeats_told position_cmp position_total position_same l e)))))
 
 -- a segment that stands twice does so among those whose ends may be among the noted ones
 doubled_between : (l ends : List Pos) (may : Pos → Bool) → HoldEnds ends l → Holds may ends → Doubled (segments_of l) → Doubled (keep (joins may) (segments_of l))
@@ -107,9 +83,9 @@ doubled_between l ends may noted held h =
 
 -- the same in the form of the code: made, sorted, looked through
 pub told_by_code : (l ends marked : List Pos) (may : Pos → Bool) (xs ys zs : List Pair) (b : Bool) → HoldEnds ends l → marked ≡ ends → Holds may marked →
-    xs ≡ keep (joins may) (segments_of l) → IsPermutation xs ys → IsSorted pair_cmp ys → zs ≡ ys → b ≡ equal_neighbours zs → b ≡ repeats position_cmp l
+    xs ≡ keep (joins may) (segments_of l) → IsPermutation xs ys → IsSorted pair_cmp ys → zs ≡ ys → b ≡ equal_neighbours pair_eq zs → b ≡ repeats position_cmp l
 told_by_code l ends marked may xs ys zs b noted same held e p s f g =
-    g ∙ ap equal_neighbours f
+    g ∙ ap (equal_neighbours pair_eq) f
     ∙ told_by_sorting l (keep (joins may) (segments_of l)) ys (doubled_between l ends may noted (subst (Holds may) same held))
     (kept_doubled (joins may) (segments_of l)) (subst (λ w. IsPermutation w ys) e p) s
 

@@ -1,9 +1,10 @@
 -- Sorted lists, and what stands in them.
-use Rattle.std.proofs.Common.{◌≡◌, ℕ, zero, suc, ◌+◌, ◌<◌, false, List, [], ◌∷◌, length, get_or, inl, inr, refl, sym, subst, arith}
+use Rattle.std.proofs.Common.{◌≡◌, ℕ, zero, suc, ◌+◌, ◌<◌, true, false, List, [], ◌∷◌, length, get_or, inl, inr, refl, sym, subst, arith}
 use Rattle.std.specs.List.{Contains}
 use Rattle.std.specs.List.Sorted.{IsPermutation, IsSorted}
 use Rattle.std.specs.Cmp.{IsTotalOrder, upto}
-use Rattle.std.specs.Ordering.{is_lt, is_gt, ordering_reverse}
+use Rattle.std.specs.FinMap.{IsAntisymmetric}
+use Rattle.std.specs.Ordering.{is_eq, is_lt, is_gt, ordering_reverse}
 use Rattle.std.specs.declared.cmp.Ordering.{Ordering}
 use Rattle.std.specs.declared.cmp.Ordering.TheVariants.{Less, Equal, Greater}
 use Rattle.std.proofs.lemmas.List.Sorted.{Contains-permutation}
@@ -71,3 +72,18 @@ module _ {X : Type 0} (R : X → X → Ordering) (o : IsTotalOrder R) where
   squeezed Less Greater e h k = cc
   squeezed Equal s e h k = refl
   squeezed Greater s e h k = cc
+
+-- a lesser one doesn't come after
+pub less_most : (r : Ordering) → is_lt r ≡ true → is_gt r ≡ false
+less_most Less e = refl
+less_most Equal e = refl
+less_most Greater e = cc
+
+-- those that tie are the same
+pub tied_same : {X : Type 0} (R : X → X → Ordering) → IsAntisymmetric R → (x y : X) → is_eq (R x y) ≡ true → x ≡ y
+tied_same {X} R same x y = go (R x y) refl
+  where
+    go : (r : Ordering) → R x y ≡ r → is_eq r ≡ true → x ≡ y
+    go Less e h = cc
+    go Equal e h = same x y e
+    go Greater e h = cc

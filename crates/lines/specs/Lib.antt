@@ -4,7 +4,9 @@ pub mod Windows
 pub mod Positions
 pub mod Pairs
 pub mod Segments
+pub mod Neighbours
 pub mod Seen
 pub mod Holding
 pub mod Bits
 pub mod Again
+pub mod ByVertex

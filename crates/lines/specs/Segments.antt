@@ -1,7 +1,7 @@
 -- The segments of a list of positions, as `src/trail.rt` sorts them.
-use Rattle.std.specs.Prelude.{Bool, true, false, cond, List, [], ◌∷◌}
+use Rattle.std.specs.Prelude.{List, [], ◌∷◌}
 use Rattle.grid.specs.declared.pos.Pos.{Pos}
-use Rattle.lines.specs.Pairs.{pair_eq, pair_of}
+use Rattle.lines.specs.Pairs.{pair_of}
 use Rattle.lines.specs.declared.pair.Pair.{Pair}
 
 abbrev pub segments_from : Pos → List Pos → List Pair
@@ -12,12 +12,3 @@ segments_from x (y ∷ l) = pair_of x y ∷ segments_from y l
 abbrev pub segments_of : List Pos → List Pair
 segments_of [] = []
 segments_of (x ∷ l) = segments_from x l
-
-abbrev pub equal_from : Pair → List Pair → Bool
-equal_from s [] = false
-equal_from s (t ∷ l) = cond (pair_eq t s) true (equal_from t l)
-
--- whether two neighbours are equal
-abbrev pub equal_neighbours : List Pair → Bool
-equal_neighbours [] = false
-equal_neighbours (s ∷ l) = equal_from s l

@@ -5,6 +5,7 @@ mod again;
 pub mod bits;
 pub mod items;
 pub mod line;
+pub mod neighbours;
 pub mod pair;
 pub mod ring;
 pub mod shape_fault;

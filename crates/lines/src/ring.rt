@@ -98,9 +98,8 @@ impl Ring {
     pub fn copy(&self, alloc: Global) -> Result<Ring, OutOfMemory>
         ensures { IfOk result (λ ring. ring ≡ self.now) }
     {
-        let positions = self.vertices().to_vec(alloc)?;
         Ok(Ring {
-            positions: Items::from_vec(positions),
+            positions: Items::cloned(alloc, self.vertices())?,
         })
     }
 }

@@ -4,11 +4,12 @@ ghost use Rattle.theory.specs.TopologyFunction.{keep};
 ghost use Rattle.lines.specs.Again.{joins};
 ghost use Rattle.lines.specs.Bits.{may_hold};
 ghost use Rattle.lines.specs.Reading.{collapsed, is_closed as closes, repeats};
-ghost use Rattle.lines.specs.Segments.{segments_of, equal_neighbours};
+ghost use Rattle.lines.specs.Segments.{segments_of};
 ghost use Rattle.lines.specs.Turned.{position_cmp};
 
 use crate::again::ends_again;
 use crate::bits::PositionBits;
+use crate::neighbours::has_equal_neighbours;
 use crate::pair::Pair;
 use grid::pos::Pos;
 use std::alloc::{AllocError, Global};
@@ -42,22 +43,6 @@ fn segments_between(
         here = *next;
     }
     Ok(made)
-}
-
-fn has_equal_neighbours(segments: &[Pair]) -> bool
-    ensures { result ≡ equal_neighbours segments.now }
-{
-    let Some((first, others)) = segments.split_first() else {
-        return false;
-    };
-    let mut before = *first;
-    for segment in others {
-        if *segment == before {
-            return true;
-        }
-        before = *segment;
-    }
-    false
 }
 
 /// Whether some unordered pair of neighbours stands at two places, in time n log n. Only segments are sorted

@@ -9,6 +9,7 @@ use Rattle.faults.specs.declared.fault.Fault.{Fault}
 use Rattle.grid.specs.Place.{Transform}
 use Rattle.shapes.specs.Maps.{Layers}
 use Rattle.reading.specs.Fault.{LeastOrWant}
+use Rattle.reading.proofs.FirstRefused.{first_refused}
 use Rattle.topo_io.specs.Means.{Means}
 use Rattle.topo_io.specs.Roots.{faults_of_text, grid_of_text}
 use Rattle.merging.specs.Meaning.{same_grid}
@@ -85,18 +86,8 @@ module _ {S : Type 0} (grid : S → Transform) (map_of : S → Layers) where
   refusal_at texts left text after number shards fault (BadPlan k) old split least is = absurd is
   refusal_at texts left text after number shards fault (OtherGrid k) old split least is = absurd is
   refusal_at texts left text after number shards fault OutOfMemory old split least is = tt
-  refusal_at texts left text after number shards fault (Text i f) old split least (same_number, same_fault, no_want) =
-      let parts : old.before ++ (text ∷ after) ≡ texts = rw split at old.parts in
-      record {
-        before = old.before;
-        text = text;
-        after = after;
-        parts = parts;
-        at = rw same_number old.at;
-        accepted = read_accepted old.before shards old.read;
-        least = rw same_fault (least.least no_want);
-        no_want = rw same_fault no_want;
-      }
+  refusal_at texts left text after number shards fault (Text i f) old split least is =
+      first_refused faults_of_text texts old.before left text after number i fault f old.parts old.at (read_accepted old.before shards old.read) split least is
 
   -- all texts are read
   pub all_read : (texts left : List (List ℕ)) (number : ℕ) (shards : List S) → SoFar grid map_of texts left number shards → left ≡ [] → AreRead grid map_of texts shards

@@ -1,13 +1,14 @@
 -- What a merge of texts answers.
-use Rattle.std.specs.Prelude.{◌≡◌, ℕ, Bool, List, [], ◌∷◌, ◌++◌, Some, None, length, map, All}
+use Rattle.std.specs.Prelude.{◌≡◌, ℕ, Bool, List, [], Some, None, length, map, All}
 use Rattle.std.specs.declared.vec.Vec.{Vec}
 use Rattle.std.specs.declared.alloc.Global.{Global}
-use Rattle.faults.specs.Fault.{pair_of, IsWant}
+use Rattle.faults.specs.Fault.{IsWant}
 use Rattle.faults.specs.declared.fault.Fault.{Fault}
 use Rattle.grid.specs.Place.{Transform}
 use Rattle.theory.specs.Lists.{Pairwise}
 use Rattle.shapes.specs.Maps.{Layers}
-use Rattle.reading.specs.Fault.{IsLeast, LeastOrWant}
+use Rattle.reading.specs.Fault.{LeastOrWant}
+use Rattle.reading.specs.FirstRefused.{IsFirstRefused}
 use Rattle.merging.specs.declared.fault.MergeFault.{MergeFault}
 use Rattle.merging.specs.declared.fault.MergeFault.TheVariants.{BadPlan, Text, OtherGrid, OutOfMemory}
 use Rattle.plans.specs.Naming.{kept}
@@ -48,17 +49,6 @@ pub record AreKept {S : Type 0} (grid : S → Transform) (map_of : S → Layers)
   pub grids_of : grids ≡ map (λ m. m.grid) meanings
   pub shards_of : map (λ s. as_meaning (grid s) (map_of s)) shards ≡ kept marks meanings
 
--- the text of that number is refused with its least fault, and those before it are accepted
-pub record IsFirstRefused (texts : List (List ℕ)) (number : ℕ) (f : Fault) : Type 0 where
-  pub before : List (List ℕ)
-  pub text : List ℕ
-  pub after : List (List ℕ)
-  pub parts : before ++ (text ∷ after) ≡ texts
-  pub at : length before ≡ number
-  pub accepted : AreAccepted before
-  pub least : IsLeast (faults_of_text text) (pair_of f)
-  pub no_want : IsWant f → ⊥
-
 -- the texts are accepted, all on the grid g, and m is the union of the named maps
 pub record IsUnionOf (texts : List (List ℕ)) (is : List ℕ) (g : Transform) (m : Layers) : Type 0 where
   pub places : first_outside (length texts) is ≡ None
@@ -82,14 +72,14 @@ pub record MeansUnion (texts : List (List ℕ)) (is t : List ℕ) : Type 0 where
 -- why texts are not merged: the first leaf that is no place; else the first refused text; else the first on another grid than text 0
 abbrev pub IsMergeFault : List (List ℕ) → List ℕ → MergeFault → Type 0
 IsMergeFault texts is (BadPlan k) = first_outside (length texts) is ≡ Some k
-IsMergeFault texts is (Text n f) = (first_outside (length texts) is ≡ None) × IsFirstRefused texts n f
+IsMergeFault texts is (Text n f) = (first_outside (length texts) is ≡ None) × IsFirstRefused faults_of_text texts n f
 IsMergeFault texts is (OtherGrid n) = (first_outside (length texts) is ≡ None) × AreAccepted texts × (first_other grid_of_text texts ≡ Some n)
 IsMergeFault texts is OutOfMemory = Unit {0}
 
 -- why texts are not read
 abbrev pub IsReadFault : List (List ℕ) → MergeFault → Type 0
 IsReadFault texts (BadPlan k) = ⊥
-IsReadFault texts (Text n f) = IsFirstRefused texts n f
+IsReadFault texts (Text n f) = IsFirstRefused faults_of_text texts n f
 IsReadFault texts (OtherGrid n) = ⊥
 IsReadFault texts OutOfMemory = Unit {0}
 

@@ -7,6 +7,10 @@ abbrev pub IsLeaf : Plan → ℕ → Type 0
 IsLeaf (Leaf i) k = i ≡ k
 IsLeaf (Node' p left q right) k = ⊥
 
+abbrev pub IsNode : Plan → Plan → Plan → Type 0
+IsNode left right (Leaf i) = ⊥
+IsNode left right (Node' p first q second) = (first ≡ left) × (second ≡ right)
+
 -- the places below n, the last of them alone on the right, and so on on the left
 abbrev pub IsLeft : Plan → ℕ → Type 0
 IsLeft (Leaf i) n = (n ≡ 1) × (i ≡ 0)

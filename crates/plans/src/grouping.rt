@@ -2,7 +2,7 @@
 ghost use Rattle.std.specs.Prelude.{◌≡◌, ◌<◌, ◌≤◌, ◌+◌, ◌^◌, IfOk, MatchOption};
 ghost use Rattle.std.specs.List.{range_with_len};
 ghost use Rattle.plans.specs.Leaves.{leaves};
-ghost use Rattle.plans.specs.Groupings.{IsLeft, IsRight, IsHalves};
+ghost use Rattle.plans.specs.Groupings.{IsNode, IsLeft, IsRight, IsHalves};
 
 use crate::plan::Plan;
 use faults::OutOfMemory;
@@ -19,9 +19,7 @@ impl Plan {
         }
         let mut plan = Plan::Leaf(0);
         for place in 1..count {
-            let before = Box::new(alloc, plan)?;
-            let last = Box::new(alloc, Plan::Leaf(place))?;
-            plan = Plan::Node(before, last);
+            plan = node(alloc, plan, Plan::Leaf(place))?;
         }
         Ok(Some(plan))
     }
@@ -38,9 +36,7 @@ impl Plan {
         let mut plan = Plan::Leaf(start);
         while start > 0 {
             start -= 1;
-            let first = Box::new(alloc, Plan::Leaf(start))?;
-            let others = Box::new(alloc, plan)?;
-            plan = Plan::Node(first, others);
+            plan = node(alloc, Plan::Leaf(start), plan)?;
         }
         Ok(Some(plan))
     }
@@ -57,6 +53,14 @@ impl Plan {
     }
 }
 
+fn node(alloc: Global, left: Plan, right: Plan) -> Result<Plan, OutOfMemory>
+    ensures { IfOk result (IsNode left right) }
+{
+    let left = Box::new(alloc, left)?;
+    let right = Box::new(alloc, right)?;
+    Ok(Plan::Node(left, right))
+}
+
 fn halves_from(alloc: Global, start: usize, count: usize) -> Result<Plan, OutOfMemory>
     requires some { 1 ≤ count }
     requires room { start + count < 2 ^ 64 }
@@ -68,7 +72,5 @@ fn halves_from(alloc: Global, start: usize, count: usize) -> Result<Plan, OutOfM
     let half = count / 2;
     let left = halves_from(alloc, start, half)?;
     let right = halves_from(alloc, start + half, count - half)?;
-    let left = Box::new(alloc, left)?;
-    let right = Box::new(alloc, right)?;
-    Ok(Plan::Node(left, right))
+    node(alloc, left, right)
 }

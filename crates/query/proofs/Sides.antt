@@ -1,32 +1,32 @@
 -- The sides of a vertex's segments, and which vertices are stops.
-use Rattle.std.proofs.Common.{◌≡◌, ℕ, zero, suc, Bool, true, false, cond, ◌||◌, rules, List, [], ◌∷◌, ◌++◌, take, drop, ◌⊎◌, inl, inr, refl, sym, ap, ◌∙◌, subst, Result, Ok, Err, IfOk}
+use Rattle.std.proofs.Common.{◌≡◌, ℕ, Bool, true, false, cond, ◌||◌, rules, List, [], ◌∷◌, ◌++◌, take, drop, ◌⊎◌, inl, inr, refl, sym, ap, ◌∙◌, subst, Result, Ok, Err, IfOk}
 use Rattle.std.proofs.lemmas.List.{append_assoc, append-nil, take-append-drop}
 use Rattle.std.proofs.lemmas.List.Sorted.{IsPermutation-sym}
-use Rattle.std.specs.Cmp.{IsTotalOrder, on_total}
 use Rattle.std.specs.List.Sorted.{IsPermutation, IsSorted}
-use Rattle.std.specs.Ordering.{is_eq, is_gt}
+use Rattle.std.specs.Ordering.{is_eq}
 use Rattle.std.specs.List.{list_any}
 use Rattle.std.specs.BTreeSet.{BTreeSet, contains}
 use Rattle.theory.specs.Geometry.{Geometry, IsSound}
 use Rattle.theory.specs.Lists.{Has}
 use Rattle.theory.specs.Segments.{OnTwo, TwoSegments}
 use Rattle.theory.proofs.Lists.{Has-append, Has-append_left, Has-append_right}
+use Rattle.lines.specs.ByVertex.{StandByVertex, count_at}
 use Rattle.lines.specs.Turned.{position_cmp}
-use Rattle.lines.specs.Positions.{position_total, position_same}
 use Rattle.grid.specs.declared.pos.Pos.{Pos}
 use Rattle.lines.specs.Pairs.{position_eq}
 use Rattle.chains.specs.Among.{among}
 use Rattle.chains.specs.Arcs.{Arcs}
 use Rattle.chains.specs.Joined.{StopAt}
 use Rattle.chains.specs.Table.{IsTableOf}
-use Rattle.lines.proofs.Positions.{position_apart, position_decide, position_refl, position_true, tied_position, true_false, true_position}
-use Rattle.lines.proofs.SortedLists.{Has-permutation, Up, squeezed, up_from_sorted}
+use Rattle.lines.proofs.Positions.{position_apart, position_decide, position_true, tied_position, true_false, true_position}
+use Rattle.lines.proofs.ByVertex.{behind_at, here_at, sorted_stand, stand_behind}
+use Rattle.lines.proofs.SortedLists.{Has-permutation}
 use Rattle.query.specs.declared.ends.End.{End}
 use Rattle.query.specs.declared.stops.Sides.{Sides}
 use Rattle.query.specs.declared.stops.Sides.TheVariants.{One, Two, More}
 use Rattle.query.specs.Stops.{AreHalts, AreJudged, IsJudged, Means, OnOne, OnThreeOf, beside, halts, sided, sided_all, sides_at, stop_step}
 use Rattle.chains.specs.Along.{OnArcs}
-use Rattle.query.specs.Ends.{AmongEnds, HasEnds, StandByVertex, by_vertex, count_at}
+use Rattle.query.specs.Ends.{AmongEnds, HasEnds, by_vertex, vertex_of}
 use Rattle.query.proofs.Vertices.{end_side, end_sides, end_or_two}
 
 Means-iff : (s : Sides) (H G : Pos → Type 0) → ((p : Pos) → H p → G p) → ((p : Pos) → G p → H p) → Means s H → Means s G
@@ -89,46 +89,15 @@ Means-here first here at =
     (λ p k. elim (has_side first.at p (first ∷ here) k) [ inl f ↦ inr f | inr f ↦ inl f ])
     (Means-all (One first.to) (λ p. p ≡ first.to) here (refl, λ p k. k))
 
--- the first ends that are at v, and those behind
-here_at : (v : Pos) (es : List End) (x : End) → Has x (take (count_at v es) es) → x.at ≡ v
-here_at v [] x h = absurd h
-here_at v (e ∷ es) x h = go (position_eq e.at v) refl (here_at v es x) h
-  where
-    go : (b : Bool) → position_eq e.at v ≡ b → (Has x (take (count_at v es) es) → x.at ≡ v) → Has x (take (cond b (suc (count_at v es)) zero) (e ∷ es)) → x.at ≡ v
-    go true f on (inl i) = ap (λ w. w.at) i ∙ position_true e.at v f
-    go true f on (inr i) = on i
-    go false f on i = absurd i
-
-behind_at : (v : Pos) (es : List End) → ((x : End) → Has x es → is_gt (position_cmp v x.at) ≡ false) → StandByVertex es → (x : End) → Has x (drop (count_at v es) es) → ¬ (x.at ≡ v)
-behind_at v [] up g x h = absurd h
-behind_at v (e ∷ es) up g x h = go (position_eq e.at v) refl (behind_at v es (λ y k. up y (inr k)) g.1 x) h
-  where
-    not_here : position_eq e.at v ≡ false → Has x (e ∷ es) → ¬ (x.at ≡ v)
-    not_here f (inl i) k = true_false (position_eq e.at v) (subst (λ w. position_eq w v ≡ true) (sym k ∙ ap (λ w. w.at) i) (position_refl v)) f
-    not_here f (inr i) k =
-        let same : e.at ≡ v = position_same e.at v
-        (squeezed position_cmp position_total (position_cmp e.at v) (position_cmp v e.at) (position_total.antisymm e.at v)
-        (subst (λ w. is_gt (position_cmp e.at w) ≡ false) k (g.0 x i)) (up e (inl refl))) in
-        true_false (position_eq e.at v) (subst (λ w. position_eq w v ≡ true) (sym same) (position_refl v)) f
-
-    go : (b : Bool) → position_eq e.at v ≡ b → (Has x (drop (count_at v es) es) → ¬ (x.at ≡ v)) →
-        Has x (drop (cond b (suc (count_at v es)) zero) (e ∷ es)) → ¬ (x.at ≡ v)
-    go true f on i = on i
-    go false f on i = not_here f i
-
-Stand-behind : (xs ys : List End) → StandByVertex (xs ++ ys) → StandByVertex ys
-Stand-behind [] ys g = g
-Stand-behind (x ∷ xs) ys g = Stand-behind xs ys g.1
-
 -- the vertices of the ends before these are judged
 pub record Judging (ends left : List End) (stops : List Pos) : Type 0 where
   pub done : List End
   pub is : ends ≡ done ++ left
-  pub stand : StandByVertex left
+  pub stand : StandByVertex vertex_of left
   pub other : (x y : End) → Has x done → Has y left → ¬ (x.at ≡ y.at)
   pub judged : AreJudged done stops
 
-pub judging_starts : (ends : List End) (stops : List Pos) → stops ≡ [] → StandByVertex ends → Judging ends ends stops
+pub judging_starts : (ends : List End) (stops : List Pos) → stops ≡ [] → StandByVertex vertex_of ends → Judging ends ends stops
 judging_starts ends stops e g = record {
   done = [];
   is = refl;
@@ -202,7 +171,7 @@ module _ (ends : List End) (first : End) (here behind : List End) (stops new : L
   advance = record {
     done = now;
     is = p.is ∙ sym (append_assoc p.done (first ∷ here) behind);
-    stand = Stand-behind (first ∷ here) behind p.stand;
+    stand = stand_behind vertex_of (first ∷ here) behind p.stand;
     other = λ x y h i. elim (Has-append x p.done (first ∷ here) h) [
       | inl j ↦ p.other x y j (in_behind y i)
       | inr j ↦ (λ k. past y i (sym k ∙ at_first x j))
@@ -211,15 +180,15 @@ module _ (ends : List End) (first : End) (here behind : List End) (stops new : L
   }
 
 -- in the form of the code
-pub judging_step : (ends left others : List End) (first : End) (n : ℕ) (here behind : List End) (s : Sides) (stops new : List Pos) → left ≡ first ∷ others → n ≡ count_at first.at others →
+pub judging_step : (ends left others : List End) (first : End) (n : ℕ) (here behind : List End) (s : Sides) (stops new : List Pos) → left ≡ first ∷ others → n ≡ count_at vertex_of first.at others →
     here ≡ take n others → behind ≡ drop n others → s ≡ sides_at first here → ((q : Pos) → among new q ≡ stop_step (halts s) q (among stops q) first.at) →
     Judging ends left stops → Judging ends behind new
 judging_step ends left others first n here behind s stops new l c h b is made p =
     let split : others ≡ here ++ behind = sym (take-append-drop n others) ∙ (λ i. sym h i ++ sym b i) in
-    let stand : StandByVertex (first ∷ others) = subst StandByVertex l p.stand in
+    let stand : StandByVertex vertex_of (first ∷ others) = subst (StandByVertex vertex_of) l p.stand in
     advance ends first here behind stops new (subst (λ w. Judging ends w stops) (l ∙ ap (λ w. first ∷ w) split) p)
-    (λ x k. here_at first.at others x (subst (Has x) (h ∙ ap (λ m. take m others) c) k))
-    (λ x k. behind_at first.at others stand.0 stand.1 x (subst (Has x) (b ∙ ap (λ m. drop m others) c) k))
+    (λ x k. here_at vertex_of first.at others x (subst (Has x) (h ∙ ap (λ m. take m others) c) k))
+    (λ x k. behind_at vertex_of first.at others stand.0 stand.1 x (subst (Has x) (b ∙ ap (λ m. drop m others) c) k))
     (λ q. made q ∙ ap (λ t. stop_step (halts t) q (among stops q) first.at) is)
 
 -- no vertex lies on two segments, and on one or three
@@ -328,22 +297,11 @@ are_halts g sound t table ks ends sorted has moved stops judged = record {
     others : (v w : Pos) → OnArcs t.arcs ks v w → Has (beside v w) sorted ⊎ OnTwo (OnArcs t.arcs ks) v
     others v w s = elim (end_or_two g sound t table ks v w s) [ inl h ↦ inl (to v w ((has v w).1 h)) | inr h ↦ inr h ]
 
-by_vertex_total : IsTotalOrder by_vertex
-by_vertex_total = on_total (λ (e : End). e.at) position_total
-
--- sorted ends stand vertex by vertex
-sorted_stand : (es : List End) → IsSorted by_vertex es → StandByVertex es
-sorted_stand es s = go es (up_from_sorted by_vertex by_vertex_total es s)
-  where
-    go : (es : List End) → Up by_vertex es → StandByVertex es
-    go [] u = tt
-    go (e ∷ es) u = (u.0, go es u.1)
-
 -- in the form of the code
 pub stops_told : {E : Type 0} (t : Arcs) (ks : List ℕ) (ends sorted slice : List End) (r : Result (BTreeSet Pos) E) →
-    HasEnds t.arcs ks ends → IsPermutation ends sorted → IsSorted by_vertex sorted → slice ≡ sorted → IfOk r (λ s. StandByVertex slice → AreJudged slice s.keys) →
+    HasEnds t.arcs ks ends → IsPermutation ends sorted → IsSorted by_vertex sorted → slice ≡ sorted → IfOk r (λ s. StandByVertex vertex_of slice → AreJudged slice s.keys) →
     IfOk r (λ s. (g : Geometry Pos) → IsSound g → IsTableOf g t → AreHalts t.arcs ks s.keys)
 stops_told t ks ends sorted slice (Ok s) has moved order e judged = λ g sound table.
     are_halts g sound t table ks ends sorted has moved s.keys
-    (subst (λ w. StandByVertex w → AreJudged w s.keys) e judged (sorted_stand sorted order))
+    (subst (λ w. StandByVertex vertex_of w → AreJudged w s.keys) e judged (sorted_stand vertex_of sorted order))
 stops_told t ks ends sorted slice (Err f) has moved order e judged = tt

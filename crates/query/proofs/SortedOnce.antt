@@ -7,10 +7,10 @@ use Rattle.std.specs.List.Retain.{IsFiltered, DiffersFromLast}
 use Rattle.std.specs.List.Sorted.{IsPermutation, IsSorted}
 use Rattle.std.specs.Ordering.{eq_by_cmp, is_eq, is_gt}
 use Rattle.std.specs.declared.cmp.Ordering.{Ordering}
-use Rattle.std.specs.declared.cmp.Ordering.TheVariants.{Less, Equal, Greater}
+use Rattle.std.specs.declared.cmp.Ordering.TheVariants.{Less}
 use Rattle.std.proofs.lemmas.List.Filters.{dedup_is}
 use Rattle.std.proofs.lemmas.List.Sorted.{IsPermutation-sym}
-use Rattle.lines.proofs.SortedLists.{Up, up_from_sorted, Has-permutation}
+use Rattle.lines.proofs.SortedLists.{Has-permutation, Up, tied_same, up_from_sorted}
 use Rattle.theory.specs.Arcs.{Ascends, AreSortedOnce}
 use Rattle.theory.specs.Lists.{Has}
 use Rattle.theory.proofs.Ascending.{at_most_less, at_most_same}
@@ -18,12 +18,7 @@ use Rattle.theory.proofs.Ascending.{at_most_less, at_most_same}
 module _ {X : Type 0} (R : X → X → Ordering) (o : IsTotalOrder R) (same : IsAntisymmetric R)
     (E : X → X → Bool) (ties : (x y : X) → E x y ≡ eq_by_cmp R x y) where
   tied : (x y : X) → E x y ≡ true → x ≡ y
-  tied x y e = go (R x y) refl (sym (ties x y) ∙ e)
-    where
-      go : (c : Ordering) → R x y ≡ c → is_eq c ≡ true → x ≡ y
-      go Less h k = cc
-      go Equal h k = same x y h
-      go Greater h k = cc
+  tied x y e = tied_same R same x y (sym (ties x y) ∙ e)
 
   untied : (x y : X) → E x y ≡ false → ¬ (x ≡ y)
   untied x y e k = let h : true ≡ false = sym (ties x y ∙ ap (λ w. is_eq (R x w)) (sym k) ∙ ap is_eq (tied_itself o x)) ∙ e in cc

@@ -1,11 +1,9 @@
 -- The ends of arcs.
-use Rattle.std.specs.Prelude.{◌≡◌, ◌↔◌, ◌⊎◌, ℕ, zero, suc, cond, false, List, [], ◌∷◌, Option, Some, None, reverse}
-use Rattle.std.specs.Ordering.{is_gt}
+use Rattle.std.specs.Prelude.{◌≡◌, ◌↔◌, ◌⊎◌, ℕ, List, [], ◌∷◌, Option, Some, None, reverse}
 use Rattle.std.specs.declared.cmp.Ordering.{Ordering}
 use Rattle.grid.specs.declared.pos.Pos.{Pos}
-use Rattle.lines.specs.Pairs.{position_eq}
 use Rattle.lines.specs.Turned.{position_cmp}
-use Rattle.theory.specs.Lists.{BeginsTwo, Has}
+use Rattle.theory.specs.Lists.{BeginsTwo}
 use Rattle.topo.specs.Points.{arc_at}
 use Rattle.query.specs.declared.ends.End.{End}
 
@@ -38,16 +36,10 @@ AmongEnds v w (e ∷ es) = ((v ≡ e.at) × (w ≡ e.to)) ⊎ AmongEnds v w es
 abbrev pub HasEnds : List (List Pos) → List ℕ → List End → Type 0
 HasEnds arcs ks es = (v w : Pos) → AmongEnds v w es ↔ OnEnds arcs ks v w
 
+-- the vertex of an end
+abbrev pub vertex_of : End → Pos
+vertex_of e = e.at
+
 -- ends by their vertices
 abbrev pub by_vertex : End → End → Ordering
 by_vertex d e = position_cmp d.at e.at
-
--- no end comes before one of a lesser vertex
-abbrev pub StandByVertex : List End → Type 0
-StandByVertex [] = Unit {0}
-StandByVertex (e ∷ es) = ((d : End) → Has d es → is_gt (by_vertex e d) ≡ false) × StandByVertex es
-
--- how many of the first ends are at v
-abbrev pub count_at : Pos → List End → ℕ
-count_at v [] = zero
-count_at v (e ∷ es) = cond (position_eq e.at v) (suc (count_at v es)) zero

@@ -3,9 +3,10 @@ ghost use Rattle.std.specs.Prelude.{◌≡◌, ◌≤◌, IfOk, OnOk, length};
 ghost use Rattle.std.specs.List.Sorted.{IsPermutation, IsSorted};
 ghost use Rattle.grid.specs.declared.pos.Pos.{Pos};
 ghost use Rattle.theory.specs.Geometry.{Geometry, IsSound};
+ghost use Rattle.lines.specs.ByVertex.{StandByVertex, count_at};
 ghost use Rattle.chains.specs.Among.{among};
 ghost use Rattle.chains.specs.Table.{IsTableOf};
-ghost use Rattle.query.specs.Ends.{StandByVertex, by_vertex, count_at};
+ghost use Rattle.query.specs.Ends.{by_vertex, vertex_of};
 ghost use Rattle.query.specs.Stops.{AreHalts, AreJudged, halts, sided, sides_at, stop_step};
 
 use crate::ends::{End, ends_of};
@@ -70,7 +71,7 @@ fn is_halt(sides: Sides) -> bool
 
 /// How many of the first ends are at a vertex.
 fn count_of(ends: &[End], vertex: Pos) -> usize
-    ensures count { result ≡ count_at vertex ends.now }
+    ensures count { result ≡ count_at vertex_of vertex ends.now }
     ensures within { result ≤ length ends.now }
 {
     for (i, end) in ends.iter().enumerate() {
@@ -94,7 +95,7 @@ fn note_stop(stops: &mut BTreeSet<Pos>, vertex: Pos, sides: Sides) -> Result<(),
 
 /// The vertices of ends, which stand vertex by vertex, that do not lie on two segments.
 fn stops_by(alloc: Global, ends: &[End]) -> Result<BTreeSet<Pos>, AllocError>
-    ensures { IfOk result (λ s. StandByVertex ends.now → AreJudged ends.now s.keys) }
+    ensures { IfOk result (λ s. StandByVertex vertex_of ends.now → AreJudged ends.now s.keys) }
 {
     let mut stops = BTreeSet::new(alloc);
     let mut left = ends;

@@ -1,5 +1,5 @@
 -- The members of an object in the order of their names.
-use Rattle.std.proofs.Common.{◌≡◌, ◌⊎◌, inl, inr, List, [], ◌∷◌, ◌++◌, String, Global, string_bytes, string_cmp, Less, Equal, ℕ, map, append_assoc, append-nil, sym, ap, ◌∙◌, subst, refl}
+use Rattle.std.proofs.Common.{◌≡◌, inl, inr, List, [], ◌∷◌, ◌++◌, String, Global, string_bytes, string_cmp, Less, Equal, ℕ, map, append_assoc, append-nil, sym, ap, ◌∙◌, subst}
 use Rattle.std.specs.Cmp.{tied_itself}
 use Rattle.std.specs.Cmp.Lexicographic.{slice_cmp, nat_list_cmp_total}
 use Rattle.std.specs.List.{AllByRecursion}

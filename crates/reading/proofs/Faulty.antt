@@ -1,8 +1,8 @@
 -- Faults that count only where others have none.
-use Rattle.std.proofs.Common.{◌≡◌, List, [], ◌∷◌, subst, sym, ap, arith, refl}
+use Rattle.std.proofs.Common.{◌≡◌, List, [], ◌∷◌, arith, refl}
 use Rattle.faults.specs.Fault.{Pair}
 use Rattle.faults.specs.declared.fault.Fault.{Fault}
-use Rattle.reading.specs.Fault.{LeastOrWant, IsLeast, unless_faulty}
+use Rattle.reading.specs.Fault.{LeastOrWant, unless_faulty}
 
 -- a fault of the first is the fault of both
 pub faulty_part : (ps qs : List Pair) (f : Fault) → LeastOrWant ps f → LeastOrWant (unless_faulty ps qs) f

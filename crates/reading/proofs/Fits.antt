@@ -107,16 +107,6 @@ shape_fits g (Polygon rs) h = map_all (AllByRecursion (Fits g)) vertices_of rs h
 shape_fits g (MultiPolygon ps) h =
     all_weaker _ _ ps (λ rs k. map_all (AllByRecursion (Fits g)) vertices_of rs k) (map_all (AllByRecursion (AllByRecursion (Fits g))) (map vertices_of) ps h)
 
-pub fits_shape : (g : Transform) (s : Shape) → ShapeFits g s → FormFits g (plain_form s)
-fits_shape g Null h = tt
-fits_shape g (Point p) h = h
-fits_shape g (MultiPoint ps) h = h
-fits_shape g (Line l) h = h
-fits_shape g (MultiLine ls) h = all_map (AllByRecursion (Fits g)) positions_of ls h
-fits_shape g (Polygon rs) h = all_map (AllByRecursion (Fits g)) vertices_of rs h
-fits_shape g (MultiPolygon ps) h =
-    all_map (AllByRecursion (AllByRecursion (Fits g))) (map vertices_of) ps (all_weaker _ _ ps (λ rs k. all_map (AllByRecursion (Fits g)) vertices_of rs k) h)
-
 -- a set whose features fit as plain data fits
 pub set_fits : (g : Transform) (made : Features) (meant : List Plain) → AreFeatures made meant → AllByRecursion (PlainFits g) meant → SetFits g made
 set_fits g made meant are all f is = shape_fits g f.shape (all_has (PlainFits g) meant (plain f) all (are.only f is))

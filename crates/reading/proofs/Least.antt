@@ -1,14 +1,12 @@
 -- The least fault of a whole, from those of its parts.
-use Rattle.std.proofs.Common.{◌≡◌, ℕ, zero, suc, ◌<◌, ◌+◌, length, get_or, List, [], ◌∷◌, ◌++◌, map, refl, sym, ap, ◌∙◌, subst, arith, rules, IsTrue}
+use Rattle.std.proofs.Common.{◌≡◌, zero, suc, List, [], ◌∷◌, ◌++◌, map, refl, sym, ap, subst, arith}
 use Rattle.std.specs.List.{All, Contains}
-use Rattle.std.specs.Ordering.{nat_cmp, ordering_then, is_le}
-use Rattle.std.specs.declared.cmp.Ordering.{Ordering}
 use Rattle.std.specs.declared.cmp.Ordering.TheVariants.{Less, Equal}
-use Rattle.std.proofs.lemmas.List.Elements.{All-append, All-map, All-nil, All-cons, All-weaker, Contains-append_left, Contains-append_right}
+use Rattle.std.proofs.lemmas.List.Elements.{All-append, All-map, All-nil, All-cons, All-weaker, Contains-append_left}
 use Rattle.std.proofs.lemmas.Cmp.{nat_list_cmp_total, nat_cmp_total, tied_itself}
 use Rattle.faults.specs.Path.{Turn, name, index}
 use Rattle.faults.specs.Fault.{Pair, prefixed, Lifted, pair_of, number_of}
-use Rattle.reading.specs.Fault.{turn_cmp, here, under, IsUpto, IsLeast, LeastOrWant, pair_cmp}
+use Rattle.reading.specs.Fault.{turn_cmp, here, under, IsUpto, IsLeast, LeastOrWant}
 use Rattle.faults.specs.declared.fault.FaultKind.{FaultKind}
 use Rattle.faults.specs.declared.fault.FaultKind.TheVariants.{OutOfMemory}
 use Rattle.faults.specs.declared.fault.Fault.{Fault}

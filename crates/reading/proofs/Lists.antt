@@ -1,16 +1,16 @@
 -- Lists of values and of their data.
-use Rattle.std.proofs.Common.{◌≡◌, ℕ, zero, add-one, suc, ◌+◌, ◌<◌, ◌≤◌, length, get_or, drop, take, List, [], ◌∷◌, ◌++◌, Option, Some, None, map, refl, sym, ap, ◌∙◌, subst, arith, rules}
+use Rattle.std.proofs.Common.{◌≡◌, ℕ, zero, add-one, suc, ◌+◌, ◌<◌, ◌≤◌, length, get_or, drop, take, List, [], ◌∷◌, ◌++◌, Some, map, refl, sym, ap, ◌∙◌, subst, arith}
 use Rattle.std.specs.List.{AllZip}
 use Rattle.std.specs.Cmp.{nat_cmp_is}
 use Rattle.std.specs.declared.cmp.Ordering.TheVariants.{Less}
 use Rattle.std.proofs.lemmas.List.{drop_more, drop_all, map_more, map-append}
-use Rattle.serde_json.specs.Data.{Data, Items}
+use Rattle.serde_json.specs.Data.{Data}
 use Rattle.serde_json.specs.Find.{as_array}
 use Rattle.serde_json.specs.View.{view, items_of}
 use Rattle.serde_json.specs.declared.value.Value.{Value}
-use Rattle.faults.specs.Path.{Turn, index}
+use Rattle.faults.specs.Path.{index}
 use Rattle.faults.specs.Fault.{Pair, Lifted}
-use Rattle.reading.specs.Fault.{turn_cmp, here, under, LeastOrWant}
+use Rattle.reading.specs.Fault.{here, under, LeastOrWant}
 use Rattle.reading.specs.Parts.{list_of, each_faults, array_faults, elements, two_faults}
 use Rattle.faults.specs.declared.fault.FaultKind.TheVariants.{NotTwo}
 use Rattle.faults.specs.declared.fault.Fault.{Fault}

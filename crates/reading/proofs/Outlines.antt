@@ -1,5 +1,5 @@
 -- Lines and rings that were refused.
-use Rattle.std.proofs.Common.{◌≡◌, Option, Some, None, [], ap}
+use Rattle.std.proofs.Common.{◌≡◌, Option, Some, [], ap}
 use Rattle.faults.specs.Fault.{pair_of}
 use Rattle.faults.specs.declared.fault.Fault.{Fault}
 use Rattle.faults.specs.declared.fault.FaultKind.TheVariants as kind

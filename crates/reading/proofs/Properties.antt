@@ -1,5 +1,5 @@
 -- Properties that were judged.
-use Rattle.std.proofs.Common.{◌≡◌, Bool, true, false, not, nat_le, List, [], ◌∷◌, ◌++◌, Option, Some, None, is_some, if◌then◌else◌, refl, sym, ap, subst, arith, All}
+use Rattle.std.proofs.Common.{◌≡◌, Bool, true, false, not, nat_le, List, [], ◌∷◌, ◌++◌, Option, Some, None, is_some, if◌then◌else◌, refl, sym, ap, subst, arith}
 use Rattle.serde_json.specs.Data.{Data, null, boolean, number, string, array, object, depth}
 use Rattle.serde_json.specs.Find.{as_null}
 use Rattle.serde_json.specs.Written.{has_float}

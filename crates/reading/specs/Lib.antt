@@ -1,4 +1,5 @@
 pub mod Fault
+pub mod FirstRefused
 pub mod Parts
 pub mod Scan
 pub mod Numbers
@@ -10,3 +11,4 @@ pub mod Info
 pub mod Text
 pub mod Meant
 pub mod Fitting
+pub mod Shapes

@@ -1,7 +1,7 @@
 -- Faults of arrays, objects and members, by the faults of their parts.
 use Rattle.std.specs.Prelude.{◌≡◌, ℕ, ◌+◌, List, [], ◌∷◌, ◌++◌, Option, Some, None, Result, Ok, Err, codes, is_some, if◌then◌else◌}
 use Rattle.serde_json.specs.Data.{Data, Items, no_items, item, Members, no_members, member}
-use Rattle.serde_json.specs.Find.{get, as_null, as_str, as_array, as_object}
+use Rattle.serde_json.specs.Find.{get, as_null, as_str, as_array}
 use Rattle.faults.specs.Path.{name, index}
 use Rattle.faults.specs.Fault.{Pair}
 use Rattle.faults.specs.declared.fault.FaultKind.{FaultKind}

@@ -1,5 +1,5 @@
 -- The value of a text, and the faults of a text.
-use Rattle.std.specs.Prelude.{ℕ, List, Option, Some, None, if◌then◌else◌}
+use Rattle.std.specs.Prelude.{ℕ, List, [], Option, Some, None, if◌then◌else◌}
 use Rattle.std.specs.Str.{is_utf8}
 use Rattle.serde_json.specs.Data.{Data}
 use Rattle.serde_json.specs.Read.{read}
@@ -15,3 +15,8 @@ document bytes = if is_utf8 bytes then read bytes else None
 abbrev pub text_faults : (Data → List Pair) → Option Data → List Pair
 text_faults of None = here NotJson
 text_faults of (Some d) = of d
+
+-- what the value says, nothing where there is none
+abbrev pub said_of : {X : Type 0} → (Data → List X) → Option Data → List X
+said_of of None = []
+said_of of (Some d) = of d

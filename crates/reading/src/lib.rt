@@ -12,5 +12,6 @@ pub mod info;
 pub mod number;
 pub mod outline;
 pub mod part;
+pub mod shape;
 
 pub use part::{Listed, Part};

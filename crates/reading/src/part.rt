@@ -8,6 +8,7 @@ ghost use Rattle.serde_json.specs.View.{view, members_view};
 ghost use Rattle.faults.specs.Fault.{Pair, IsWant};
 ghost use Rattle.faults.specs.Path.{name as name_turn};
 ghost use Rattle.reading.specs.Fault.{LeastOrWant, here, under};
+ghost use Rattle.reading.specs.Info.{member_or_null};
 ghost use Rattle.reading.specs.Parts.{each_faults, list_faults, elements, two_faults, pair_faults, IsPair, option_faults, member_faults, each_member_faults, MeanMembers, type_text};
 
 use faults::fault::{Fault, FaultKind};
@@ -40,6 +41,16 @@ pub fn keep<T: Drop>(list: &mut Vec<T>, x: T) -> Result<(), Fault>
         Ok(()) => Ok(()),
         Err(_) => Err(Fault::here(alloc, FaultKind::OutOfMemory)),
     }
+}
+
+/// A list of one value.
+pub fn one<T: Drop>(alloc: Global, x: T) -> Result<Vec<T>, Fault>
+    ensures ok { IfOk result (λ v. v.items ≡ x ∷ []) }
+    ensures err { IfErr result IsWant }
+{
+    let mut list = Vec::new(alloc);
+    keep(&mut list, x)?;
+    Ok(list)
 }
 
 /// An empty list with room for `count` items.
@@ -225,6 +236,24 @@ impl<P: Part> Part for Listed<P> {
             Ok(items) => Ok(Items::from_vec(items)),
             Err(fault) => Err(fault),
         }
+    }
+}
+
+/// A member that has to be there, an array of such parts.
+pub fn read_list_member<P: Part + Drop>(
+    alloc: Global,
+    of: P,
+    value: &Value,
+    member: &str,
+) -> Result<Vec<P::Made>, Fault>
+    ensures ok { OnOk result (member_faults member.now (list_faults (P.faults of)) (view value.now) ≡ []) }
+    ensures made { IfOk result (λ xs. AllZip (P.means of) (elements (member_or_null member.now (view value.now))) xs.items) }
+    ensures err { IfErr result
+        (λ f. LeastOrWant (member_faults member.now (list_faults (P.faults of)) (view value.now)) f) }
+{
+    match read_member(alloc, &Listed { of }, value, member) {
+        Ok(items) => Ok(items.into_vec()),
+        Err(fault) => Err(fault),
     }
 }
 

@@ -9,13 +9,14 @@ ghost use Rattle.theory.specs.Lists.{Pairwise};
 ghost use Rattle.topo.specs.Features.{IsLineOf, IsRingOf, IsShapeOf};
 ghost use Rattle.topo.specs.Walked.{walked};
 
-use crate::way::{Way, is_same};
+use crate::way::Way;
 use chains::table::ArcRef;
 use grid::Pos;
 use lines::items::Items;
 use lines::line::Line;
 use lines::ring::Ring;
 use shapes::shape::Shape;
+use topo::run::is_same;
 use topo::{Body, Topology};
 
 fn are_same(positions: &Items<Pos>, others: &Items<Pos>) -> bool

@@ -1,5 +1,5 @@
 -- The steps by which something is noted of a used arc.
-use Rattle.std.proofs.Common.{◌≡◌, ◌≤◌, ◌<◌, ℕ, zero, suc, Bool, true, false, cond, List, [], ◌∷◌, ◌++◌, length, replicate, slice_get, slice_set, take, refl, sym, ap, ◌∙◌, subst, arith, Option, Some, None}
+use Rattle.std.proofs.Common.{◌≡◌, ◌≤◌, ◌<◌, ℕ, zero, suc, Bool, true, false, cond, List, [], ◌∷◌, ◌++◌, length, replicate, slice_get, slice_set, take, refl, ap, ◌∙◌, subst, arith, Option, Some, None}
 use Rattle.std.proofs.lemmas.List.{take_all}
 use Rattle.std.specs.Cmp.{nat_cmp_total, tied_itself}
 use Rattle.std.specs.FinMap.{nat_cmp-IsAntisymmetric}
@@ -18,14 +18,20 @@ tied a b = go (nat_cmp a b) refl
     go Equal e h = nat_cmp-IsAntisymmetric a b e
     go Greater e h = absurd cc
 
+-- ways that are the same are one
+pub one_way : (s t : Bool) → same_way s t ≡ true → s ≡ t
+one_way true true e = refl
+one_way true false e = absurd cc
+one_way false true e = absurd cc
+one_way false false e = refl
+
+-- each way is the same as itself
+pub own_way : (s : Bool) → same_way s s ≡ true
+own_way true = refl
+own_way false = refl
+
 pub same_use : (a q : ArcRef) → same_way a.reversed q.reversed ≡ true → is_eq (nat_cmp a.arc q.arc) ≡ true → a ≡ q
-same_use a q e f = λ i. record { arc = tied a.arc q.arc f i; reversed = way a.reversed q.reversed e i }
-  where
-    way : (s t : Bool) → same_way s t ≡ true → s ≡ t
-    way true true e = refl
-    way true false e = absurd cc
-    way false true e = absurd cc
-    way false false e = refl
+same_use a q e f = λ i. record { arc = tied a.arc q.arc f i; reversed = one_way a.reversed q.reversed e i }
 
 same_number : (k : ℕ) → is_eq (nat_cmp k k) ≡ true
 same_number k = ap is_eq (tied_itself nat_cmp_total k)
@@ -87,27 +93,17 @@ module _ {T : Type 0} where
       ((k : ℕ) → noted_at new k ≡ cond (is_eq (nat_cmp used.arc k)) (Some v) (noted_at against k)) → (q : ArcRef) →
       cond q.reversed (noted_at new q.arc) (noted_at ahead q.arc) ≡ with_noted used v (λ r. cond r.reversed (noted_at against r.arc) (noted_at ahead r.arc)) q
   set_against ahead against new used v w e q =
-      let here : Bool = is_eq (nat_cmp used.arc q.arc) in
-      set_one used.reversed q.reversed here (Some v) (noted_at new q.arc) (noted_at ahead q.arc) (noted_at against q.arc) (noted_at ahead q.arc)
-      (e q.arc ∙ ap (λ u. cond u (cond here (Some v) (noted_at against q.arc)) (noted_at against q.arc)) (sym w))
-      (ap (λ u. cond u (noted_at ahead q.arc) (cond here (Some v) (noted_at ahead q.arc))) (sym w))
+      rw w (set_one true q.reversed (is_eq (nat_cmp used.arc q.arc)) (Some v) (noted_at new q.arc) (noted_at ahead q.arc) (noted_at against q.arc) (noted_at ahead q.arc) (e q.arc) refl)
 
   pub set_ahead : (ahead against new : List (Option T)) (used : ArcRef) (v : T) → used.reversed ≡ false →
       ((k : ℕ) → noted_at new k ≡ cond (is_eq (nat_cmp used.arc k)) (Some v) (noted_at ahead k)) → (q : ArcRef) →
       cond q.reversed (noted_at against q.arc) (noted_at new q.arc) ≡ with_noted used v (λ r. cond r.reversed (noted_at against r.arc) (noted_at ahead r.arc)) q
   set_ahead ahead against new used v w e q =
-      let here : Bool = is_eq (nat_cmp used.arc q.arc) in
-      set_one used.reversed q.reversed here (Some v) (noted_at against q.arc) (noted_at new q.arc) (noted_at against q.arc) (noted_at ahead q.arc)
-      (ap (λ u. cond u (cond here (Some v) (noted_at against q.arc)) (noted_at against q.arc)) (sym w))
-      (e q.arc ∙ ap (λ u. cond u (noted_at ahead q.arc) (cond here (Some v) (noted_at ahead q.arc))) (sym w))
+      rw w (set_one false q.reversed (is_eq (nat_cmp used.arc q.arc)) (Some v) (noted_at against q.arc) (noted_at new q.arc) (noted_at against q.arc) (noted_at ahead q.arc) refl (e q.arc))
 
   -- what is noted of a, and of others
   pub noted_here : (a : ArcRef) (v : T) (s : ArcRef → Option T) → with_noted a v s a ≡ Some v
-  noted_here a v s = rw (way a.reversed, same_number a.arc) refl
-    where
-      way : (b : Bool) → same_way b b ≡ true
-      way true = refl
-      way false = refl
+  noted_here a v s = rw (own_way a.reversed, same_number a.arc) refl
 
   pub noted_other : (a : ArcRef) (v : T) (s : ArcRef → Option T) (q : ArcRef) → ¬ (a ≡ q) → with_noted a v s q ≡ s q
   noted_other a v s q n = go (same_way a.reversed q.reversed) refl (is_eq (nat_cmp a.arc q.arc)) refl

@@ -19,6 +19,7 @@ use Rattle.chains.proofs.Merged.{then_less}
 use Rattle.rejoining.specs.ByUse.{same_way}
 use Rattle.rejoining.specs.declared.meeting.End.{End}
 use Rattle.rejoining.specs.Meeting.{AreGrouped, Begins, all_ends, begin_at, end_at, end_if, ends_from, first_if, use_of, used_at}
+use Rattle.rejoining.proofs.ByUses.{one_way, own_way}
 
 pos_same : (v q : Pos) → Some v ≡ Some q → v ≡ q
 pos_same v q e = cc
@@ -117,22 +118,12 @@ same_used x y = nat_eq x.arc y.arc && same_way x.reversed y.reversed
 same_is : (x y : End) → same_used x y ≡ true → used_at x ≡ used_at y
 same_is x y e =
     let t = both_true (nat_eq x.arc y.arc) (same_way x.reversed y.reversed) e in
-    λ i. record { arc = eqb-true x.arc y.arc t.0 i; reversed = way x.reversed y.reversed t.1 i }
-  where
-    way : (s t : Bool) → same_way s t ≡ true → s ≡ t
-    way true true e = refl
-    way true false e = absurd cc
-    way false true e = absurd cc
-    way false false e = refl
+    λ i. record { arc = eqb-true x.arc y.arc t.0 i; reversed = one_way x.reversed y.reversed t.1 i }
 
 is_same : (x y : End) → used_at x ≡ used_at y → same_used x y ≡ true
 is_same x y e =
     both_intro (nat_eq x.arc y.arc) (same_way x.reversed y.reversed) (eq-eqb x.arc y.arc (ap (λ w. w.arc) e))
-    (subst (λ r. same_way x.reversed r ≡ true) (ap (λ w. w.reversed) e) (way x.reversed))
-  where
-    way : (s : Bool) → same_way s s ≡ true
-    way true = refl
-    way false = refl
+    (subst (λ r. same_way x.reversed r ≡ true) (ap (λ w. w.reversed) e) (own_way x.reversed))
 
 flips : (x y : End) → same_used x y ≡ same_used y x
 flips x y = go (same_used x y) refl (same_used y x) refl

@@ -1,23 +1,21 @@
 -- Sorted ends, vertex by vertex: which used arcs are noted as partners.
-use Rattle.std.proofs.Common.{◌≡◌, ◌↔◌, ℕ, zero, suc, Bool, true, false, cond, List, [], ◌∷◌, ◌++◌, take, drop, ◌⊎◌, inl, inr, refl, sym, ap, ◌∙◌, subst, Option, Some, None}
+use Rattle.std.proofs.Common.{◌≡◌, ◌↔◌, ℕ, Bool, true, false, cond, List, [], ◌∷◌, ◌++◌, take, drop, ◌⊎◌, inl, inr, refl, sym, ap, ◌∙◌, subst, Option, Some, None}
 use Rattle.std.proofs.lemmas.List.{append_assoc, append-nil, take-append-drop}
 use Rattle.std.proofs.lemmas.List.Sorted.{IsPermutation-sym}
 use Rattle.std.specs.List.Sorted.{IsPermutation, IsSorted}
-use Rattle.std.specs.Ordering.{is_gt}
 use Rattle.theory.specs.ArcNumbers.{ArcRef}
 use Rattle.theory.specs.Lists.{Distinct, Has}
 use Rattle.theory.proofs.Lists.{Has-append, Has-append_left, Has-append_right}
 use Rattle.grid.specs.declared.pos.Pos.{Pos}
-use Rattle.lines.specs.Pairs.{position_eq}
-use Rattle.lines.specs.Positions.{position_total, position_same}
-use Rattle.lines.specs.Turned.{position_cmp}
-use Rattle.lines.proofs.Positions.{position_refl, position_true, true_false}
-use Rattle.lines.proofs.SortedLists.{Has-permutation, squeezed}
+use Rattle.lines.specs.ByVertex.{StandByVertex, count_at}
+use Rattle.lines.proofs.ByVertex.{behind_at, here_at}
+use Rattle.lines.proofs.Positions.{true_false}
+use Rattle.lines.proofs.SortedLists.{Has-permutation}
 use Rattle.chains.specs.Among.{among}
 use Rattle.chains.proofs.Among.{among_has, has_among}
 use Rattle.rejoining.specs.ByUse.{with_noted}
 use Rattle.rejoining.specs.declared.meeting.End.{End}
-use Rattle.rejoining.specs.Meeting.{AreGrouped, Begins, IsTold, all_ends, count_at, end_at, paired, used_at, with_pair}
+use Rattle.rejoining.specs.Meeting.{AreGrouped, Begins, IsTold, all_ends, end_at, paired, used_at, vertex_of, with_pair}
 use Rattle.rejoining.proofs.ByUses.{noted_here, noted_other}
 use Rattle.rejoining.proofs.Meetings.{begins_end, end_cmp, ends_begin, sorted_grouped}
 
@@ -54,32 +52,10 @@ told_alike S T H G f a st ts hg gh (inr (b, k)) = inr (
   },
 )
 
--- the first ends that are at v, and those behind
-here_at : (v : Pos) (l : List End) (x : End) → Has x (take (count_at v l) l) → x.vertex ≡ v
-here_at v [] x h = absurd h
-here_at v (e ∷ l) x h = go (position_eq e.vertex v) refl (here_at v l x) h
-  where
-    go : (b : Bool) → position_eq e.vertex v ≡ b → (Has x (take (count_at v l) l) → x.vertex ≡ v) → Has x (take (cond b (suc (count_at v l)) zero) (e ∷ l)) → x.vertex ≡ v
-    go true f on (inl i) = ap (λ w. w.vertex) i ∙ position_true e.vertex v f
-    go true f on (inr i) = on i
-    go false f on i = absurd i
-
-behind_at : (v : Pos) (l : List End) → ((x : End) → Has x l → is_gt (position_cmp v x.vertex) ≡ false) → AreGrouped l → (x : End) → Has x (drop (count_at v l) l) → ¬ (x.vertex ≡ v)
-behind_at v [] up g x h = absurd h
-behind_at v (e ∷ l) up g x h = go (position_eq e.vertex v) refl (behind_at v l (λ y k. up y (inr k)) g.1 x) h
-  where
-    not_here : position_eq e.vertex v ≡ false → Has x (e ∷ l) → ¬ (x.vertex ≡ v)
-    not_here f (inl i) k = true_false (position_eq e.vertex v) (subst (λ w. position_eq w v ≡ true) (sym k ∙ ap (λ w. w.vertex) i) (position_refl v)) f
-    not_here f (inr i) k =
-        let same : e.vertex ≡ v = position_same e.vertex v
-        (squeezed position_cmp position_total (position_cmp e.vertex v) (position_cmp v e.vertex) (position_total.antisymm e.vertex v)
-        (subst (λ w. is_gt (position_cmp e.vertex w) ≡ false) k (g.0 x i).0) (up e (inl refl))) in
-        true_false (position_eq e.vertex v) (subst (λ w. position_eq w v ≡ true) (sym same) (position_refl v)) f
-
-    go : (b : Bool) → position_eq e.vertex v ≡ b → (Has x (drop (count_at v l) l) → ¬ (x.vertex ≡ v)) →
-        Has x (drop (cond b (suc (count_at v l)) zero) (e ∷ l)) → ¬ (x.vertex ≡ v)
-    go true f on i = on i
-    go false f on i = not_here f i
+-- they stand vertex by vertex
+grouped_stand : (l : List End) → AreGrouped l → StandByVertex vertex_of l
+grouped_stand [] g = tt
+grouped_stand (e ∷ l) g = ((λ d h. (g.0 d h).0), grouped_stand l g.1)
 
 Grouped-behind : (xs ys : List End) → AreGrouped (xs ++ ys) → AreGrouped ys
 Grouped-behind [] ys g = g
@@ -289,14 +265,14 @@ module _ (stops : List Pos) (ends : List End) where
     }
 
   -- in the form of the code
-  pub pairing_step : (left others : List End) (first : End) (n : ℕ) (here behind : List End) (f g : ArcRef → Option ArcRef) → left ≡ first ∷ others → n ≡ count_at first.vertex others →
+  pub pairing_step : (left others : List End) (first : End) (n : ℕ) (here behind : List End) (f g : ArcRef → Option ArcRef) → left ≡ first ∷ others → n ≡ count_at vertex_of first.vertex others →
       here ≡ take n others → behind ≡ drop n others → ((q : ArcRef) → g q ≡ with_pair stops first here f q) → Paired left f → Paired behind g
   pairing_step left others first n here behind f g l c h b e p =
       let split : others ≡ here ++ behind = sym (take-append-drop n others) ∙ (λ i. sym h i ++ sym b i) in
       let grouped : AreGrouped (first ∷ others) = subst AreGrouped l p.grouped in
       advance first here behind f g (subst (λ w. Paired w f) (l ∙ ap (λ w. first ∷ w) split) p)
-      (λ x k. here_at first.vertex others x (subst (Has x) (h ∙ ap (λ m. take m others) c) k))
-      (λ x k. behind_at first.vertex others (λ y i. (grouped.0 y i).0) grouped.1 x (subst (Has x) (b ∙ ap (λ m. drop m others) c) k)) e
+      (λ x k. here_at vertex_of first.vertex others x (subst (Has x) (h ∙ ap (λ m. take m others) c) k))
+      (λ x k. behind_at vertex_of first.vertex others (λ y i. (grouped.0 y i).0) (grouped_stand others grouped.1) x (subst (Has x) (b ∙ ap (λ m. drop m others) c) k)) e
 
 -- what is told of the sorted ends is told of the used arcs that begin at a vertex
 pub meeting_told : (arcs : List (List Pos)) (ks : List ℕ) (ending stops : List Pos) (l slice : List End) (f : ArcRef → Option ArcRef) → ((p : Pos) → Has p stops ↔ Has p ending) →

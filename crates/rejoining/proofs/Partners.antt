@@ -35,8 +35,12 @@ is_mark [] k e = absurd cc
 is_mark (b ∷ l) zero e = let f : Some b ≡ Some true = e in cc
 is_mark (b ∷ l) (suc k) e = is_mark l k e
 
-module _ (g u : Geometry Pos) (old : Arcs) (marks : List Bool) (ending : List Pos) (left : IsLeftBy g u old marks ending)
-    (m : Meeting) (met : (v : Pos) (a : ArcRef) → Begins old.arcs v (kept_numbers 0 marks) a → IsTold (Has v ending) (Begins old.arcs v (kept_numbers 0 marks)) (partner_in m) a) where
+-- the meeting tells of each end of a marked arc where it goes on
+abbrev pub AreTold : Arcs → List Bool → List Pos → Meeting → Type 0
+AreTold old marks ending m =
+    (v : Pos) (a : ArcRef) → Begins old.arcs v (kept_numbers 0 marks) a → IsTold (Has v ending) (Begins old.arcs v (kept_numbers 0 marks)) (partner_in m) a
+
+module _ (g u : Geometry Pos) (old : Arcs) (marks : List Bool) (ending : List Pos) (left : IsLeftBy g u old marks ending) (m : Meeting) (met : AreTold old marks ending m) where
   abbrev pub Kept : ℕ → Type 0
   Kept = IsKept position_cmp g u old.arcs
 

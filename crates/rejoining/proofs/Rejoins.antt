@@ -40,6 +40,7 @@ use Rattle.rejoining.specs.Walks.{ArePaired, AreRuns, IsRun, IsWalked}
 use Rattle.rejoining.specs.declared.meeting.Meeting.{Meeting}
 use Rattle.rejoining.proofs.Choices.{numbers_once}
 use Rattle.rejoining.proofs.Partners as partners
+use Rattle.rejoining.proofs.Partners.{AreTold}
 use Rattle.rejoining.proofs.Placed as placed
 use Rattle.rejoining.proofs.Placed.{length_put, length_same}
 use Rattle.rejoining.proofs.RunsAre as runs_are
@@ -114,8 +115,7 @@ common (x ∷ a) b = elim (uses_or_not x.arc b) [
   ]
 ]
 
-module _ (g u : Geometry Pos) (old : Arcs) (marks : List Bool) (ending : List Pos) (left : IsLeftBy g u old marks ending)
-    (m : Meeting) (met : (v : Pos) (a : ArcRef) → Begins old.arcs v (kept_numbers 0 marks) a → IsTold (Has v ending) (Begins old.arcs v (kept_numbers 0 marks)) (partner_in m) a) where
+module _ (g u : Geometry Pos) (old : Arcs) (marks : List Bool) (ending : List Pos) (left : IsLeftBy g u old marks ending) (m : Meeting) (met : AreTold old marks ending m) where
   abbrev Kept : ℕ → Type 0
   Kept = IsKept position_cmp g u old.arcs
 
@@ -366,9 +366,9 @@ module _ (old : Arcs) (marks : List Bool) (ending : List Pos) (numbers slice : L
     (t : Arcs) (once : AreSortedOnce list_cmp (map chain_of ps) t.arcs) (loops : AreLoopsOf ps t.loops)
     (refs those : List ArcRef) (numbered : refs ≡ map (located t.arcs) ps) (lent_refs : those ≡ refs) (n : ℕ) (count : n ≡ length t.arcs)
     (made : List (List ArcRef)) (put : made ≡ put_all those ls (replicate n [])) (result : RejoinedParts) (is : result ≡ record { arcs = t; pieces = made }) where
-  pub rejoin_told : (g u : Geometry Pos) → IsLeftBy g u old marks ending → IsRejoinedOf g u old result
+  rejoin_told : (g u : Geometry Pos) → IsLeftBy g u old marks ending → IsRejoinedOf g u old result
   rejoin_told g u left =
-      let met' : (v : Pos) (a : ArcRef) → Begins old.arcs v (kept_numbers 0 marks) a → IsTold (Has v ending) (Begins old.arcs v (kept_numbers 0 marks)) (partner_in m) a =
+      let met' : AreTold old marks ending m =
       subst (λ w. Distinct w → (v : Pos) (a : ArcRef) → Begins old.arcs v w a → IsTold (Has v ending) (Begins old.arcs v w) (partner_in m) a) (lent ∙ chosen) met (numbers_once 0 marks) in
       let same : made ≡ put_all (map (located t.arcs) (map (piece_of_run old.arcs (partner_in m)) runs)) (map (list_of_run old.arcs (partner_in m)) runs) (replicate (length t.arcs) []) =
       put ∙ (λ i. put_all ((lent_refs ∙ numbered ∙ ap (map (located t.arcs)) pieces) i) (lists i) (replicate (count i) [])) in
@@ -376,9 +376,13 @@ module _ (old : Arcs) (marks : List Bool) (ending : List Pos) (numbers slice : L
       (rejoins g u old marks ending left m met' runs (are (partners.paired g u old marks ending left m met')) t
       (subst (λ w. AreSortedOnce list_cmp (map chain_of w) t.arcs) pieces once) (subst (λ w. AreLoopsOf w t.loops) pieces loops))
 
-  pub rejoin_count : length result.pieces ≡ length result.arcs.arcs
+  rejoin_count : length result.pieces ≡ length result.arcs.arcs
   rejoin_count =
       subst (λ r. length r.pieces ≡ length r.arcs.arcs) (sym is) (ap length put ∙ length_put those ls (replicate n []) ∙ length_same n [] ∙ count)
+
+  -- both that rejoin promises
+  pub rejoin_is : ((g u : Geometry Pos) → IsLeftBy g u old marks ending → IsRejoinedOf g u old result) × (length result.pieces ≡ length result.arcs.arcs)
+  rejoin_is = (rejoin_told, rejoin_count)
 
 -- nothing is left to put
 pub put_none : (refs : List ArcRef) (made : List (List ArcRef)) → put_all refs [] made ≡ made

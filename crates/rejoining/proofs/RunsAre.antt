@@ -1,21 +1,20 @@
 -- Runs are such as the arcs of what is left are joined of: open runs from stop to stop, and runs that go round.
 use Rattle.std.proofs.Common.{◌≡◌, ◌≤◌, ◌+◌, ℕ, Bool, true, false, cond, List, [], ◌∷◌, ◌++◌, take, drop, length, map, reverse, inl, inr, refl, sym, ap, ◌∙◌, subst, arith, append_assoc, Option, Some, None}
 use Rattle.std.proofs.lemmas.List.{length-append}
-use Rattle.std.specs.Cmp.{tied_itself, upto}
-use Rattle.std.specs.Ordering.{is_gt, is_lt}
-use Rattle.std.specs.declared.cmp.Ordering.{Ordering}
-use Rattle.std.specs.declared.cmp.Ordering.TheVariants.{Less, Equal, Greater}
+use Rattle.std.specs.Cmp.{upto}
+use Rattle.std.specs.Ordering.{is_lt}
 use Rattle.grid.specs.declared.pos.Pos.{Pos}
 use Rattle.lines.specs.Turned.{position_cmp}
 use Rattle.lines.specs.Positions.{position_total, position_same}
 use Rattle.lines.proofs.Positions.{position_dec}
-use Rattle.lines.proofs.SortedLists.{not_less}
+use Rattle.lines.proofs.SortedLists.{less_most, not_less}
 use Rattle.theory.specs.ArcNumbers.{ArcRef, StitchTo, Uses, backwards, flipped}
 use Rattle.theory.specs.Geometry.{AtMost, Geometry, JunctionOf}
 use Rattle.theory.specs.LinesAndRings.{IsLine, IsRing, IsRotation, Trail, closed}
 use Rattle.theory.specs.Lists.{EndOf, Has, Steps, front_of, last_of}
 use Rattle.theory.specs.Removing.{IsKept, IsLoopRun, IsOpenRun}
 use Rattle.theory.specs.Standing.{BeginsAt}
+use Rattle.theory.proofs.Ascending.{at_most_self}
 use Rattle.theory.proofs.Lists.{Has-append, front_last}
 use Rattle.theory.proofs.ListsOfLists.{map_has}
 use Rattle.theory.proofs.Reversing.{Has-unreverse, Steps-reverse, last_back, reverse-join, reverse-last, reverse-snoc}
@@ -23,13 +22,13 @@ use Rattle.theory.proofs.ReplacedNumbers.{rotation_reverse}
 use Rattle.theory.proofs.Rotations.{rotation_ring, rotation_trans}
 use Rattle.theory.proofs.StandingMaps.{list_line, list_ring}
 use Rattle.chains.specs.Arcs.{Arcs}
-use Rattle.rejoining.specs.Choosing.{kept_numbers}
 use Rattle.rejoining.specs.Joined.{begun_at, directed, from_least, least_vertex, least_vertex_from, list_by, run_along, without_last}
-use Rattle.rejoining.specs.Meeting.{Begins, IsTold, partner_in}
+use Rattle.rejoining.specs.Meeting.{partner_in}
 use Rattle.rejoining.specs.Rejoining.{IsLeftBy}
 use Rattle.rejoining.specs.Walks.{IsWalked, Linked, is_left}
 use Rattle.rejoining.specs.declared.meeting.Meeting.{Meeting}
 use Rattle.rejoining.proofs.Partners as partners
+use Rattle.rejoining.proofs.Partners.{AreTold}
 use Rattle.rejoining.proofs.Stitches as stitches
 use Rattle.rejoining.proofs.Stitches.{follow_back, front_is, once_back, one_begin, run_stitched, stitch_reverse, uses_has}
 use Rattle.rejoining.proofs.WalkedRuns.{uses_last}
@@ -37,14 +36,6 @@ use Rattle.rejoining.proofs.WalkedRuns.{uses_last}
 -- the least vertex of a list
 abbrev pub Least : Pos → List Pos → Type 0
 Least f l = (v : Pos) → Has v l → AtMost position_cmp f v
-
-self_most : (v : Pos) → AtMost position_cmp v v
-self_most v = ap is_gt (tied_itself position_total v)
-
-less_most : (r : Ordering) → is_lt r ≡ true → is_gt r ≡ false
-less_most Less e = refl
-less_most Equal e = refl
-less_most Greater e = cc
 
 -- a list of two parts, of which the first is passed, has its least vertex at a place
 abbrev Found : List Pos → List Pos → Pos → ℕ → Type 0
@@ -76,7 +67,7 @@ least_go done a m b (y ∷ t) place e p h = go (λ a m b place. least_go (done +
         moved y (length done) (more done y [] (length done) refl refl
         (λ v i. elim (Has-append v done (y ∷ []) i) [
           | inl j ↦ upto position_total y m v (less_most (position_cmp y m) q) (h v j)
-          | inr (inl j) ↦ subst (AtMost position_cmp y) (sym j) (self_most y)
+          | inr (inl j) ↦ subst (AtMost position_cmp y) (sym j) (at_most_self position_cmp position_total position_same y)
           | inr (inr z) ↦ absurd z
         ]))
     go more false q =
@@ -101,7 +92,7 @@ begun_parted {A = A} before f behind = (λ i. drop_part before i ++ take_part be
 -- a list, begun at its least vertex
 pub least_begun : (x : Pos) (t : List Pos) → (f : Pos) × (s : List Pos) × (begun_at (least_vertex (x ∷ t)) (x ∷ t) ≡ f ∷ s) × IsRotation (x ∷ t) (f ∷ s) × Least f (x ∷ t)
 least_begun x t =
-    let r = least_go (x ∷ []) [] x [] t 0 refl refl (λ v i. elim i [ inl j ↦ subst (AtMost position_cmp x) (sym j) (self_most x) | inr z ↦ absurd z ]) in
+    let r = least_go (x ∷ []) [] x [] t 0 refl refl (λ v i. elim i [ inl j ↦ subst (AtMost position_cmp x) (sym j) (at_most_self position_cmp position_total position_same x) | inr z ↦ absurd z ]) in
     (r.0, r.2 ++ r.1, (λ i. begun_at (r.4 i) (r.3 i)) ∙ begun_parted r.1 r.0 r.2, (r.1, r.0 ∷ r.2, r.3, refl), r.5)
 
 closed_back : (p : Pos) (q : List Pos) → reverse (closed (p ∷ q)) ≡ closed (p ∷ reverse q)
@@ -141,8 +132,7 @@ pub least_within : (l : List Pos) → least_vertex l ≤ length l
 least_within [] = omega arith
 least_within (x ∷ t) = let k = least_within_from t 0 x 1 (omega arith) in omega (arith, k)
 
-module _ (g u : Geometry Pos) (old : Arcs) (marks : List Bool) (ending : List Pos) (left : IsLeftBy g u old marks ending)
-    (m : Meeting) (met : (v : Pos) (a : ArcRef) → Begins old.arcs v (kept_numbers 0 marks) a → IsTold (Has v ending) (Begins old.arcs v (kept_numbers 0 marks)) (partner_in m) a) where
+module _ (g u : Geometry Pos) (old : Arcs) (marks : List Bool) (ending : List Pos) (left : IsLeftBy g u old marks ending) (m : Meeting) (met : AreTold old marks ending m) where
   abbrev pub Kept : ℕ → Type 0
   Kept = IsKept position_cmp g u old.arcs
 

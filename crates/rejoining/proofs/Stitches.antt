@@ -14,13 +14,13 @@ use Rattle.theory.proofs.Lists.{front-snoc, front_last, last_join}
 use Rattle.theory.proofs.Reversing.{reverse-last, reverse-snoc}
 use Rattle.theory.proofs.Stitching.{stitched_reverse}
 use Rattle.chains.specs.Arcs.{Arcs}
-use Rattle.rejoining.specs.Choosing.{kept_numbers}
 use Rattle.rejoining.specs.Joined.{on_along, positions_along, run_along, without_last}
-use Rattle.rejoining.specs.Meeting.{Begins, IsTold, partner_in}
+use Rattle.rejoining.specs.Meeting.{partner_in}
 use Rattle.rejoining.specs.Rejoining.{IsLeftBy}
 use Rattle.rejoining.specs.Walks.{ArePaired, Linked, is_left}
 use Rattle.rejoining.specs.declared.meeting.Meeting.{Meeting}
 use Rattle.rejoining.proofs.Partners as partners
+use Rattle.rejoining.proofs.Partners.{AreTold}
 use Rattle.rejoining.proofs.WalkedRuns.{flip_flip}
 
 -- a list without its last
@@ -129,8 +129,7 @@ uses_has x (y ∷ l) (inr h) = inr (uses_has x l h)
 pub one_begin : (arcs : List (List Pos)) (a : ArcRef) (v w : Pos) → BeginsAt arcs v a → BeginsAt arcs w a → v ≡ w
 one_begin arcs a v w s t = let e : Some (v ∷ s.0) ≡ Some (w ∷ t.0) = sym s.1 ∙ t.1 in cc
 
-module _ (g u : Geometry Pos) (old : Arcs) (marks : List Bool) (ending : List Pos) (left : IsLeftBy g u old marks ending)
-    (m : Meeting) (met : (v : Pos) (a : ArcRef) → Begins old.arcs v (kept_numbers 0 marks) a → IsTold (Has v ending) (Begins old.arcs v (kept_numbers 0 marks)) (partner_in m) a) where
+module _ (g u : Geometry Pos) (old : Arcs) (marks : List Bool) (ending : List Pos) (left : IsLeftBy g u old marks ending) (m : Meeting) (met : AreTold old marks ending m) where
   abbrev pub Kept : ℕ → Type 0
   Kept = IsKept position_cmp g u old.arcs
 

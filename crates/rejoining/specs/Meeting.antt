@@ -1,10 +1,9 @@
 -- The ends of arcs that meet at a vertex, and which arc goes on from another.
-use Rattle.std.specs.Prelude.{◌≡◌, ℕ, zero, suc, Bool, true, false, cond, List, [], ◌∷◌, ◌++◌, ◌⊎◌, Option, Some, None, slice_get}
+use Rattle.std.specs.Prelude.{◌≡◌, ℕ, Bool, true, false, cond, List, [], ◌∷◌, ◌++◌, ◌⊎◌, Option, Some, None, slice_get}
 use Rattle.std.specs.Ordering.{is_gt}
 use Rattle.theory.specs.ArcNumbers.{ArcRef, along}
 use Rattle.theory.specs.Lists.{Has}
 use Rattle.grid.specs.declared.pos.Pos.{Pos}
-use Rattle.lines.specs.Pairs.{position_eq}
 use Rattle.lines.specs.Turned.{position_cmp}
 use Rattle.chains.specs.Among.{among}
 use Rattle.rejoining.specs.ByUse.{noted_of, with_noted}
@@ -44,10 +43,9 @@ ends_from arcs r (k ∷ ks) = end_if (begin_at arcs (use_of r k)) (use_of r k) +
 abbrev pub all_ends : List (List Pos) → List ℕ → List End
 all_ends arcs ks = ends_from arcs false ks ++ ends_from arcs true ks
 
--- how many of the first ends are at v
-abbrev pub count_at : Pos → List End → ℕ
-count_at v [] = zero
-count_at v (e ∷ l) = cond (position_eq e.vertex v) (suc (count_at v l)) zero
+-- the vertex of an end
+abbrev pub vertex_of : End → Pos
+vertex_of e = e.vertex
 
 -- no end comes before one of a lesser vertex, and no used arc has two
 abbrev pub AreGrouped : List End → Type 0

@@ -4,8 +4,9 @@ ghost use Rattle.grid.specs.declared.pos.Pos.{Pos};
 ghost use Rattle.lines.specs.Pairs.{position_eq};
 ghost use Rattle.theory.specs.ArcNumbers as numbers;
 ghost use Rattle.theory.specs.Lists.{Distinct, Has};
+ghost use Rattle.lines.specs.ByVertex.{count_at};
 ghost use Rattle.rejoining.specs.ByUse.{noted_of};
-ghost use Rattle.rejoining.specs.Meeting.{AreGrouped, Begins, IsTold, all_ends, begin_at, count_at, end_at, end_if, ends_from, paired, partner_in, used_at, with_pair};
+ghost use Rattle.rejoining.specs.Meeting.{AreGrouped, Begins, IsTold, all_ends, begin_at, end_at, end_if, ends_from, paired, partner_in, used_at, vertex_of, with_pair};
 
 use crate::by_use::ByUse;
 use chains::table::{ArcRef, ArcTable};
@@ -116,7 +117,7 @@ fn ends_of(alloc: Global, arcs: &ArcTable, chosen: &[usize]) -> Result<Vec<End>,
 
 /// How many of the first ends are at a vertex.
 fn count_of(ends: &[End], vertex: Pos) -> usize
-    ensures count { result ≡ count_at vertex ends.now }
+    ensures count { result ≡ count_at vertex_of vertex ends.now }
     ensures within { result ≤ length ends.now }
 {
     for (i, end) in ends.iter().enumerate() {

@@ -10,6 +10,13 @@ use chains::table::ArcRef;
 use lines::items::Items;
 use std::alloc::{AllocError, Global};
 
+/// Walks so far: which arcs are left, and the runs of those that were taken.
+#[derive(Drop)]
+struct Walker {
+    left: Vec<bool>,
+    runs: Vec<Items<ArcRef>>,
+}
+
 pub(crate) fn turned_back(used: ArcRef) -> ArcRef
     ensures { result ≡ flipped used }
 {
@@ -71,120 +78,111 @@ fn walk(
     Ok(run)
 }
 
-/// Walks from a used arc that is left.
-fn add_run(
-    alloc: Global,
-    meeting: &Meeting,
-    left: &mut Vec<bool>,
-    runs: &mut Vec<Items<ArcRef>>,
-    from: ArcRef,
-) -> Result<(), AllocError>
-    ensures { OnOk result (Adds (partner_in meeting.now) left.old.items runs.old.items from left.new.items runs.new.items) }
-{
-    if !take(left, from.arc) {
-        return Ok(());
+impl Walker {
+    /// Walks from a used arc that is left.
+    fn add_run(&mut self, alloc: Global, meeting: &Meeting, from: ArcRef) -> Result<(), AllocError>
+        ensures { OnOk result (Adds (partner_in meeting.now) self.old.left.items self.old.runs.items from self.new.left.items self.new.runs.items) }
+    {
+        if !take(&mut self.left, from.arc) {
+            return Ok(());
+        }
+        let run = walk(alloc, meeting, &mut self.left, from)?;
+        self.runs.push(Items::from_vec(run))?;
+        Ok(())
     }
-    let run = walk(alloc, meeting, left, from)?;
-    runs.push(Items::from_vec(run))?;
-    Ok(())
-}
 
-/// Walks from a used arc that is left and has no arc before it.
-fn add_begun(
-    alloc: Global,
-    meeting: &Meeting,
-    left: &mut Vec<bool>,
-    runs: &mut Vec<Items<ArcRef>>,
-    from: ArcRef,
-) -> Result<(), AllocError>
-    ensures { OnOk result (AddsBegun (partner_in meeting.now) left.old.items runs.old.items from left.new.items runs.new.items) }
-{
-    if !stays(left, from.arc) || meeting.partner(from).is_some() {
-        return Ok(());
+    /// Walks from a used arc that is left and has no arc before it.
+    fn add_begun(
+        &mut self,
+        alloc: Global,
+        meeting: &Meeting,
+        from: ArcRef,
+    ) -> Result<(), AllocError>
+        ensures { OnOk result (AddsBegun (partner_in meeting.now) self.old.left.items self.old.runs.items from self.new.left.items self.new.runs.items) }
+    {
+        if !stays(&self.left, from.arc) || meeting.partner(from).is_some() {
+            return Ok(());
+        }
+        self.add_run(alloc, meeting, from)
     }
-    add_run(alloc, meeting, left, runs, from)
-}
 
-/// Walks from a used arc that is left, where none goes on from either of its ends.
-fn add_single(
-    alloc: Global,
-    meeting: &Meeting,
-    left: &mut Vec<bool>,
-    runs: &mut Vec<Items<ArcRef>>,
-    from: ArcRef,
-) -> Result<(), AllocError>
-    ensures { OnOk result (AddsSingle (partner_in meeting.now) left.old.items runs.old.items from left.new.items runs.new.items) }
-{
-    if meeting.partner(turned_back(from)).is_some() {
-        return Ok(());
+    /// Walks from a used arc that is left, where none goes on from either of its ends.
+    fn add_single(
+        &mut self,
+        alloc: Global,
+        meeting: &Meeting,
+        from: ArcRef,
+    ) -> Result<(), AllocError>
+        ensures { OnOk result (AddsSingle (partner_in meeting.now) self.old.left.items self.old.runs.items from self.new.left.items self.new.runs.items) }
+    {
+        if meeting.partner(turned_back(from)).is_some() {
+            return Ok(());
+        }
+        self.add_begun(alloc, meeting, from)
     }
-    add_begun(alloc, meeting, left, runs, from)
-}
 
-/// Adds the runs of one arc each from end to end. They come first, so that a sort of what the runs are
-/// joined to finds them in order.
-fn add_single_runs(
-    alloc: Global,
-    meeting: &Meeting,
-    kept: &[bool],
-    left: &mut Vec<bool>,
-    runs: &mut Vec<Items<ArcRef>>,
-) -> Result<(), AllocError>
-    ensures { OnOk result (ArePaired kept.now (partner_in meeting.now) → AreWalked kept.now (partner_in meeting.now) left.old.items runs.old.items → AreWalked kept.now (partner_in meeting.now) left.new.items runs.new.items) }
-{
-    for arc in 0..kept.len() {
-        let ahead = ArcRef {
-            arc,
-            reversed: false,
-        };
-        add_single(alloc, meeting, left, runs, ahead)?;
+    /// Adds the runs of one arc each from end to end. They come first, so that a sort of what the runs are
+    /// joined to finds them in order.
+    fn add_single_runs(
+        &mut self,
+        alloc: Global,
+        meeting: &Meeting,
+        kept: &[bool],
+    ) -> Result<(), AllocError>
+        ensures { OnOk result (ArePaired kept.now (partner_in meeting.now) → AreWalked kept.now (partner_in meeting.now) self.old.left.items self.old.runs.items → AreWalked kept.now (partner_in meeting.now) self.new.left.items self.new.runs.items) }
+    {
+        for arc in 0..kept.len() {
+            let ahead = ArcRef {
+                arc,
+                reversed: false,
+            };
+            self.add_single(alloc, meeting, ahead)?;
+        }
+        Ok(())
     }
-    Ok(())
-}
 
-/// Adds the runs from end to end.
-fn add_open_runs(
-    alloc: Global,
-    meeting: &Meeting,
-    kept: &[bool],
-    left: &mut Vec<bool>,
-    runs: &mut Vec<Items<ArcRef>>,
-) -> Result<(), AllocError>
-    ensures { OnOk result (ArePaired kept.now (partner_in meeting.now) → AreWalked kept.now (partner_in meeting.now) left.old.items runs.old.items → AreWalked kept.now (partner_in meeting.now) left.new.items runs.new.items × EndsGone kept.now (partner_in meeting.now) left.new.items) }
-{
-    for arc in 0..kept.len() {
-        let ahead = ArcRef {
-            arc,
-            reversed: false,
-        };
-        let against = ArcRef {
-            arc,
-            reversed: true,
-        };
-        add_begun(alloc, meeting, left, runs, ahead)?;
-        add_begun(alloc, meeting, left, runs, against)?;
+    /// Adds the runs from end to end.
+    fn add_open_runs(
+        &mut self,
+        alloc: Global,
+        meeting: &Meeting,
+        kept: &[bool],
+    ) -> Result<(), AllocError>
+        ensures { OnOk result (ArePaired kept.now (partner_in meeting.now) → AreWalked kept.now (partner_in meeting.now) self.old.left.items self.old.runs.items → AreWalked kept.now (partner_in meeting.now) self.new.left.items self.new.runs.items × EndsGone kept.now (partner_in meeting.now) self.new.left.items) }
+    {
+        for arc in 0..kept.len() {
+            let ahead = ArcRef {
+                arc,
+                reversed: false,
+            };
+            let against = ArcRef {
+                arc,
+                reversed: true,
+            };
+            self.add_begun(alloc, meeting, ahead)?;
+            self.add_begun(alloc, meeting, against)?;
+        }
+        Ok(())
     }
-    Ok(())
-}
 
-/// Adds the runs that go round, once those from end to end are taken.
-fn add_round_runs(
-    alloc: Global,
-    meeting: &Meeting,
-    kept: &[bool],
-    left: &mut Vec<bool>,
-    runs: &mut Vec<Items<ArcRef>>,
-) -> Result<(), AllocError>
-    ensures { OnOk result (ArePaired kept.now (partner_in meeting.now) → AreWalked kept.now (partner_in meeting.now) left.old.items runs.old.items → EndsGone kept.now (partner_in meeting.now) left.old.items → AreRuns kept.now (partner_in meeting.now) runs.new.items) }
-{
-    for arc in 0..kept.len() {
-        let ahead = ArcRef {
-            arc,
-            reversed: false,
-        };
-        add_run(alloc, meeting, left, runs, ahead)?;
+    /// Adds the runs that go round, once those from end to end are taken.
+    fn add_round_runs(
+        &mut self,
+        alloc: Global,
+        meeting: &Meeting,
+        kept: &[bool],
+    ) -> Result<(), AllocError>
+        ensures { OnOk result (ArePaired kept.now (partner_in meeting.now) → AreWalked kept.now (partner_in meeting.now) self.old.left.items self.old.runs.items → EndsGone kept.now (partner_in meeting.now) self.old.left.items → AreRuns kept.now (partner_in meeting.now) self.new.runs.items) }
+    {
+        for arc in 0..kept.len() {
+            let ahead = ArcRef {
+                arc,
+                reversed: false,
+            };
+            self.add_run(alloc, meeting, ahead)?;
+        }
+        Ok(())
     }
-    Ok(())
 }
 
 /// All runs of the marked arcs: first those of one arc from end to end, then the others from end to end,
@@ -196,10 +194,12 @@ pub(crate) fn runs_of(
 ) -> Result<Vec<Items<ArcRef>>, AllocError>
     ensures { IfOk result (λ v. ArePaired kept.now (partner_in meeting.now) → AreRuns kept.now (partner_in meeting.now) v.items) }
 {
-    let mut left = kept.to_vec(alloc)?;
-    let mut runs = Vec::new(alloc);
-    add_single_runs(alloc, meeting, kept, &mut left, &mut runs)?;
-    add_open_runs(alloc, meeting, kept, &mut left, &mut runs)?;
-    add_round_runs(alloc, meeting, kept, &mut left, &mut runs)?;
+    let left = kept.to_vec(alloc)?;
+    let runs = Vec::new(alloc);
+    let mut walker = Walker { left, runs };
+    walker.add_single_runs(alloc, meeting, kept)?;
+    walker.add_open_runs(alloc, meeting, kept)?;
+    walker.add_round_runs(alloc, meeting, kept)?;
+    let Walker { left: _, runs } = walker;
     Ok(runs)
 }

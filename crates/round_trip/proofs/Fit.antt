@@ -133,19 +133,15 @@ module _ (g : Transform) (m : Layers) (fits : MapFits g m) where
   I64-absolute : (z : ℤ) → IsAbsolute z → IsI64 z
   I64-absolute z h = IsI64-between z (omega (arith, ints, h.low)) (omega (arith, ints, h.high))
 
+  I64-either : (c : Bool) (a b : ℤ) → IsI64 a → IsI64 b → IsI64 (cond c a b)
+  I64-either true a b h k = h
+  I64-either false a b h k = k
+
   I64-min : (a b : ℤ) → IsI64 a → IsI64 b → IsI64 (int_min a b)
-  I64-min a b h k = by (int_lt b a)
-    where
-      by : (c : Bool) → IsI64 (cond c b a)
-      by true = k
-      by false = h
+  I64-min a b h k = I64-either (int_lt b a) b a k h
 
   I64-max : (a b : ℤ) → IsI64 a → IsI64 b → IsI64 (int_max a b)
-  I64-max a b h k = by (int_lt b a)
-    where
-      by : (c : Bool) → IsI64 (cond c a b)
-      by true = h
-      by false = k
+  I64-max a b h k = I64-either (int_lt b a) a b h k
 
   abbrev MayStand : Option Corners → Type 0
   MayStand None = Unit {0}

@@ -40,7 +40,11 @@ impl<T: CopyIn> CopyIn for Items<T> {
     }
 }
 
-fn copy_each<T: CopyIn>(alloc: Global, items: &[T]) -> Result<Vec<T>, OutOfMemory>
+/// Equal values, in their order.
+///
+/// # Errors
+/// Where memory is refused.
+pub fn copy_each<T: CopyIn>(alloc: Global, items: &[T]) -> Result<Vec<T>, OutOfMemory>
     ensures { IfOk result (λ copies. copies.items ≡ items.now) }
 {
     let mut copies = Vec::new(alloc);

@@ -9,6 +9,8 @@ use Rattle.std.specs.declared.cmp.Ordering.{Ordering}
 use Rattle.std.specs.declared.cmp.Ordering.TheVariants.{Less, Equal, Greater}
 use Rattle.std.proofs.lemmas.List.Sorted.{IsPermutation-sym}
 use Rattle.grid.specs.declared.pos.Pos.{Pos}
+use Rattle.lines.specs.Neighbours.{equal_neighbours}
+use Rattle.lines.specs.Pairs.{position_eq}
 use Rattle.lines.specs.Positions.{position_total, position_same}
 use Rattle.lines.specs.Reading.{is_closed}
 use Rattle.lines.specs.Turned.{list_cmp, position_cmp}
@@ -37,12 +39,13 @@ use Rattle.chains.specs.Stored.{rises}
 use Rattle.chains.proofs.Among.{among_has, has_among}
 use Rattle.chains.proofs.AsTheyStand.{sorted_told}
 use Rattle.chains.proofs.TablesAsMap.{has_loop, has_open, loop_has, open_has}
-use Rattle.standing.specs.Apart.{AreInOrder, arc_inside, begins_least, each_forward, each_stands, has_twins, is_forward, none_before, stands_alone}
+use Rattle.standing.specs.Apart.{AreInOrder, arc_inside, begins_least, each_forward, each_stands, is_forward, none_before, stands_alone}
 use Rattle.standing.specs.Ends.{both_are, each_ends, ends_are}
 use Rattle.standing.specs.declared.ends.EndsAre.TheVariants.{Apart}
 use Rattle.standing.specs.Elsewhere.{KeepsElsewhere}
 use Rattle.standing.proofs.Insides.{insides_of_table}
 use Rattle.standing.proofs.Steps.{all_from, all_has}
+use Rattle.standing.proofs.Starting.{most_of, of_most}
 use Rattle.standing.proofs.Twins.{distinct_from, doubled_moved, not_doubled, twins_doubled, twins_sorted}
 
 order : IsOrder position_cmp
@@ -91,16 +94,6 @@ pub closed_closes : (r : List Pos) → is_closed position_cmp (closed r) ≡ tru
 closed_closes [] = refl
 closed_closes (x ∷ l) = equal-same_vertex position_cmp position_total position_same x (last_of x (l ++ (x ∷ []))) (sym (last-snoc x x l))
 
-lt_not : (r s : Ordering) → r ≡ ordering_reverse s → is_lt r ≡ false → is_gt s ≡ false
-lt_not r Less e h = refl
-lt_not r Equal e h = refl
-lt_not r Greater e h = absurd (let k : is_lt r ≡ true = ap is_lt e in let m : true ≡ false = sym k ∙ h in cc)
-
-not_lt : (r s : Ordering) → r ≡ ordering_reverse s → is_gt s ≡ false → is_lt r ≡ false
-not_lt r Less e h = ap is_lt e
-not_lt r Equal e h = ap is_lt e
-not_lt r Greater e h = absurd cc
-
 none_most : (x : Pos) (l : List Pos) → none_before x l ≡ true → (v : Pos) → Has v l → AtMost position_cmp x v
 none_most x [] e v h = absurd h
 none_most x (y ∷ l) e v h = go (is_lt (position_cmp y x)) refl e (λ d k. none_most x l d v k) h
@@ -108,13 +101,13 @@ none_most x (y ∷ l) e v h = go (is_lt (position_cmp y x)) refl e (λ d k. none
     go : (b : Bool) → is_lt (position_cmp y x) ≡ b → cond b false (none_before x l) ≡ true → (none_before x l ≡ true → Has v l → AtMost position_cmp x v) →
         Has v (y ∷ l) → AtMost position_cmp x v
     go true p e ih k = absurd cc
-    go false p e ih (inl k) = subst (AtMost position_cmp x) (sym k) (lt_not (position_cmp y x) (position_cmp x y) (position_total.antisymm y x) p)
+    go false p e ih (inl k) = subst (AtMost position_cmp x) (sym k) (most_of y x p)
     go false p e ih (inr k) = ih e k
 
 most_none : (x : Pos) (l : List Pos) → ((v : Pos) → Has v l → AtMost position_cmp x v) → none_before x l ≡ true
 most_none x [] h = refl
 most_none x (y ∷ l) h =
-    ap (λ b. cond b false (none_before x l)) (not_lt (position_cmp y x) (position_cmp x y) (position_total.antisymm y x) (h y (inl refl)))
+    ap (λ b. cond b false (none_before x l)) (of_most y x (h y (inl refl)))
     ∙ most_none x l (λ v k. h v (inr k))
 
 cond_both : (a b : Bool) → cond a b false ≡ true → (a ≡ true) × (b ≡ true)
@@ -231,16 +224,16 @@ module _ (t : Arcs) where
         let k = doubled_twice few h in
         doubled_moved inside (insides m) of_map (twice_doubled k.0 inside (kept.only_twice k.0 k.1))
 
-    pub twins_not_apart : has_twins sorted ≡ true → ¬ ArcsApart position_cmp t.arcs m
+    pub twins_not_apart : equal_neighbours position_eq sorted ≡ true → ¬ ArcsApart position_cmp t.arcs m
     twins_not_apart e st =
         not_doubled (insides m) st.once (few_doubled (doubled_moved sorted few (IsPermutation-sym few sorted moved) (twins_doubled sorted e)))
 
-    no_twins : has_twins sorted ≡ false → Distinct (insides m)
+    no_twins : equal_neighbours position_eq sorted ≡ false → Distinct (insides m)
     no_twins e = distinct_from (insides m) (λ h.
-        let k : has_twins sorted ≡ true = twins_sorted sorted up (doubled_moved few sorted moved (doubled_few h)) in
+        let k : equal_neighbours position_eq sorted ≡ true = twins_sorted sorted up (doubled_moved few sorted moved (doubled_few h)) in
         let q : true ≡ false = sym k ∙ e in absurd cc)
 
-    pub apart_intro : Ascends list_cmp t.arcs → each_stands t.loops t.arcs ≡ true → has_twins sorted ≡ false → each_ends Apart sorted t.loops t.arcs ≡ true →
+    pub apart_intro : Ascends list_cmp t.arcs → each_stands t.loops t.arcs ≡ true → equal_neighbours position_eq sorted ≡ false → each_ends Apart sorted t.loops t.arcs ≡ true →
         ArcsApart position_cmp t.arcs m
     apart_intro asc e n a = record {
       parted = parted e;

@@ -59,10 +59,11 @@ not_lt r Less e h = ap is_lt e
 not_lt r Equal e h = ap is_lt e
 not_lt r Greater e h = absurd cc
 
-most_of : (v y : Pos) → is_lt (position_cmp v y) ≡ false → AtMost position_cmp y v
+-- v is not before y exactly where y is at most v
+pub most_of : (v y : Pos) → is_lt (position_cmp v y) ≡ false → AtMost position_cmp y v
 most_of v y e = lt_not (position_cmp v y) (position_cmp y v) (position_total.antisymm v y) e
 
-of_most : (v y : Pos) → AtMost position_cmp y v → is_lt (position_cmp v y) ≡ false
+pub of_most : (v y : Pos) → AtMost position_cmp y v → is_lt (position_cmp v y) ≡ false
 of_most v y e = not_lt (position_cmp v y) (position_cmp y v) (position_total.antisymm v y) e
 
 neither : (a b : Bool) → (a || b) ≡ false → (a ≡ false) × (b ≡ false)

@@ -4,7 +4,6 @@ use Rattle.std.specs.List.{list_all}
 use Rattle.std.specs.Ordering.{is_lt, is_gt}
 use Rattle.std.specs.declared.cmp.Ordering.TheVariants.{Less}
 use Rattle.grid.specs.declared.pos.Pos.{Pos}
-use Rattle.lines.specs.Pairs.{position_eq}
 use Rattle.lines.specs.Reading.{is_closed}
 use Rattle.lines.specs.Turned.{list_cmp, position_cmp}
 use Rattle.theory.specs.Arcs.{Ascends}
@@ -64,16 +63,6 @@ arc_inside loops c = cond (is_loop loops c) (unclosed c) (inner_of c)
 abbrev pub inside_if : List (List Pos) → Option (List Pos) → List Pos
 inside_if loops None = []
 inside_if loops (Some c) = arc_inside loops c
-
--- whether a neighbour of two is equal to the other, where `before` stands in front
-abbrev pub twins_from : Pos → List Pos → Bool
-twins_from before [] = false
-twins_from before (x ∷ l) = cond (position_eq x before) true (twins_from x l)
-
--- whether two neighbours are equal
-abbrev pub has_twins : List Pos → Bool
-has_twins [] = false
-has_twins (x ∷ l) = twins_from x l
 
 -- the answer is whether the arcs, where they are in order, are apart
 abbrev pub IsApart : Bool → Arcs → Type 0

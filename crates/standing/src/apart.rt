@@ -7,16 +7,17 @@ ghost use Rattle.lines.specs.Turned.{position_cmp};
 ghost use Rattle.theory.specs.Lists.{gathered};
 ghost use Rattle.theory.specs.Refinement.{unclosed};
 ghost use Rattle.theory.specs.Standing.{inner_of};
-ghost use Rattle.chains.specs.Stored.{rises};
 ghost use Rattle.standing.specs.Apart as spec;
 ghost use Rattle.standing.specs.Apart.{AreInOrder, IsApart, arc_inside, inside_if};
 
 use crate::elsewhere::elsewhere_too;
 use crate::ends::{EndsAre, each_ends};
+use chains::ordered::is_rising;
 use chains::table::ArcTable;
 use faults::OutOfMemory;
 use grid::pos::Pos;
 use lines::items::Items;
+use lines::neighbours::has_equal_neighbours;
 use std::alloc::{AllocError, Global};
 
 /// Whether an arc comes before its own reverse.
@@ -24,23 +25,6 @@ fn is_forward(arc: &[Pos]) -> bool
     ensures { result ≡ spec.is_forward arc.now }
 {
     arc.iter().rev().cmp(arc.iter()).is_gt()
-}
-
-/// Whether each arc comes before the next.
-fn each_before_next(arcs: &[Items<Pos>]) -> bool
-    ensures { result ≡ rises arcs.now }
-{
-    let Some((first, others)) = arcs.split_first() else {
-        return true;
-    };
-    let mut last = first;
-    for arc in others {
-        if !last.cmp(arc).is_lt() {
-            return false;
-        }
-        last = arc;
-    }
-    true
 }
 
 /// Whether each arc comes before its own reverse.
@@ -60,7 +44,7 @@ fn each_forward(arcs: &[Items<Pos>]) -> bool
 pub fn arcs_in_order(arcs: &[Items<Pos>]) -> bool
     ensures { (result ≡ true) ↔ AreInOrder arcs.now }
 {
-    each_before_next(arcs) && each_forward(arcs)
+    is_rising(arcs) && each_forward(arcs)
 }
 
 /// Whether an arc ends where it begins.
@@ -155,23 +139,6 @@ fn all_inside(alloc: Global, table: &ArcTable) -> Result<Vec<Pos>, AllocError>
     Ok(inside)
 }
 
-/// Whether two neighbours are equal.
-fn has_twins(vertices: &[Pos]) -> bool
-    ensures { result ≡ spec.has_twins vertices.now }
-{
-    let Some((first, others)) = vertices.split_first() else {
-        return false;
-    };
-    let mut before = *first;
-    for vertex in others {
-        if *vertex == before {
-            return true;
-        }
-        before = *vertex;
-    }
-    false
-}
-
 /// Whether the arcs of a table are apart: each comes before its own reverse; each vertex inside an arc,
 /// and each of a free loop, is at one place of all arcs, and no end of an arc that is no free loop; and
 /// a free loop goes round from its least vertex. Where they are in order too, they are then the arcs of
@@ -188,7 +155,7 @@ pub fn is_apart(alloc: Global, table: &ArcTable) -> Result<bool, OutOfMemory>
     let inside = all_inside(alloc, table)?;
     let mut few = elsewhere_too(alloc, table, &inside)?;
     few.sort_unstable();
-    if has_twins(&few) {
+    if has_equal_neighbours(&few) {
         return Ok(false);
     }
     Ok(each_ends(EndsAre::Apart, &few, table))

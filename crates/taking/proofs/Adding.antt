@@ -183,9 +183,11 @@ module _ (t : Arcs) where
         (subst (λ z. AreAdded t z (rings (drop i xs)) true u u) (sym (ap lines (none_left xs i h) ∙ no_lines))
         (subst (λ z. AreAdded t [] z true u u) (sym (ap rings (none_left xs i h) ∙ no_rings)) (added_none u)))
 
-  -- lists of a body of a known kind
-  pub of_kind : (b c : Body) (a : Bool) (s u : ListsSeen) → b ≡ c → AreAdded t (body_lines c) (body_rings c) a s u → AreAdded t (body_lines b) (body_rings b) a s u
-  of_kind b c a s u e = subst (λ w. AreAdded t (body_lines w) (body_rings w) a s u) (sym e)
+  -- the lists that were added are those of a body of a known kind
+  pub of_kind : (b c : Body) (lines rings : List (List ArcRef)) (a : Bool) (s u : ListsSeen) → b ≡ c → lines ≡ body_lines c → rings ≡ body_rings c → AreAdded t lines rings a s u →
+      AreAdded t (body_lines b) (body_rings b) a s u
+  of_kind b c lines rings a s u e f g h =
+      subst (λ w. AreAdded t (body_lines w) (body_rings w) a s u) (sym e) (subst (λ w. AreAdded t (body_lines c) w a s u) g (subst (λ w. AreAdded t w rings a s u) f h))
 
   -- what is told of all lists
   there : {A : Type 0} (l : List A) (i : ℕ) → i < length l → (x : A) × (slice_get l i ≡ Some x)

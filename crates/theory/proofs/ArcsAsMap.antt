@@ -5,6 +5,7 @@ use Rattle.std.specs.Cmp.{IsTotalOrder}
 use Rattle.std.specs.FinMap.{IsAntisymmetric}
 use Rattle.std.specs.declared.cmp.Ordering.{Ordering}
 use Rattle.theory.proofs.ArcNumbers.{taken_line, taken_ring}
+use Rattle.theory.proofs.Chains.{IsChain-same}
 use Rattle.theory.proofs.ClosedLists.{around_steps, closed_steps}
 use Rattle.theory.proofs.Junctions.{junction_law}
 use Rattle.theory.proofs.JunctionsGrow.{junctions_of_arcs, open_end}
@@ -19,7 +20,7 @@ use Rattle.theory.specs.Chain.{Free}
 use Rattle.theory.specs.Geometry.{AtMost, Geometry, IsChainOf, IsLineOf, IsRingOf, IsSound, JunctionOf, SegmentOf}
 use Rattle.theory.specs.Junction.{Junction, Visit, Visits, end, pair}
 use Rattle.theory.specs.LinesAndRings.{IsLine, IsRing, Trail, around, closed}
-use Rattle.theory.specs.Lists.{Beside, Has, NoTurnBack, front_of, last_of}
+use Rattle.theory.specs.Lists.{Beside, Has, NoTurnBack, front_of}
 use Rattle.theory.specs.Refinement.{Alike, AreArcsAsMap, ArePiecesOfArc, Either, IsUnionOf, LoopArc, OpenArc}
 use Rattle.theory.specs.Seam.{IsLeastOf, IsTurned}
 use Rattle.theory.specs.Segments.{OnThree, Segment}
@@ -183,19 +184,7 @@ module _ {V : Type 0} (cmp : V → V → Ordering) (o : IsTotalOrder cmp) (same 
   -- maps that are alike have the same chains and the same arcs
   module _ (a u : Geometry V) (alike : Alike a u) where
     pub chain_alike : (c : List V) → IsChainOf cmp a c → IsChainOf cmp u c
-    chain_alike [] k = k
-    chain_alike (x ∷ r) k = record {
-      long = k.long;
-      along = λ v w s. alike.segments v w (k.along v w s);
-      front_simple = k.front_simple;
-      rest_simple = k.rest_simple;
-      closed_long = k.closed_long;
-      inner_free = λ v w z p j. k.inner_free v w z p (alike.junctions_back w j);
-      ends = elim k.ends [
-        | inl j ↦ inl (alike.junctions x j.0, alike.junctions (last_of x r) j.1)
-        | inr f ↦ inr (f.0, (λ v h j. f.1 v h (alike.junctions_back v j)), f.2)
-      ];
-    }
+    chain_alike = IsChain-same (SegmentOf a) (SegmentOf u) (JunctionOf a) (JunctionOf u) (AtMost cmp) alike.segments alike.junctions alike.junctions_back
 
     pub arc_alike : (c : List V) → IsArcOf cmp a c → IsArcOf cmp u c
     arc_alike c k = record { chain = chain_alike c k.chain; forward = k.forward }

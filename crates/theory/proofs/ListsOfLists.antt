@@ -59,6 +59,20 @@ pub Pairwise-map : {A B : Type 0} (R : A → B → Type 0) (f : A → B) (xs : L
 Pairwise-map R f [] h = tt
 Pairwise-map R f (x ∷ xs) h = (h x (inl refl), Pairwise-map R f xs (λ y k. h y (inr k)))
 
+-- what stands side by side in one relation stands so in one that follows from it
+pub Pairwise-weaker : {A B : Type 0} (R T : A → B → Type 0) (xs : List A) (ys : List B) → ((x : A) (y : B) → Has x xs → R x y → T x y) → Pairwise R xs ys → Pairwise T xs ys
+Pairwise-weaker R T [] [] f p = tt
+Pairwise-weaker R T [] (y ∷ ys) f p = absurd p
+Pairwise-weaker R T (x ∷ xs) [] f p = absurd p
+Pairwise-weaker R T (x ∷ xs) (y ∷ ys) f p = (f x y (inl refl) p.0, Pairwise-weaker R T xs ys (λ z w h. f z w (inr h)) p.1)
+
+-- and so it stands the other way round
+pub Pairwise-flip : {A B : Type 0} (R : A → B → Type 0) (T : B → A → Type 0) → ((x : A) (y : B) → R x y → T y x) → (xs : List A) (ys : List B) → Pairwise R xs ys → Pairwise T ys xs
+Pairwise-flip R T f [] [] p = tt
+Pairwise-flip R T f [] (y ∷ ys) p = absurd p
+Pairwise-flip R T f (x ∷ xs) [] p = absurd p
+Pairwise-flip R T f (x ∷ xs) (y ∷ ys) p = (f x y p.0, Pairwise-flip R T f xs ys p.1)
+
 pub Pairwise-same : {A B : Type 0} (R : A → B → Type 0) → ((x : A) (y z : B) → R x y → R x z → y ≡ z) →
     (xs : List A) (ys zs : List B) → Pairwise R xs ys → Pairwise R xs zs → ys ≡ zs
 Pairwise-same R f [] [] [] p q = refl

@@ -3,12 +3,12 @@ use Rattle.std.proofs.Common.{◌≡◌, List, [], ◌∷◌, ◌++◌, inl, inr
 use Rattle.std.specs.Cmp.{IsTotalOrder}
 use Rattle.std.specs.FinMap.{IsAntisymmetric}
 use Rattle.std.specs.declared.cmp.Ordering.{Ordering}
+use Rattle.theory.proofs.Chains.{IsChain-same}
 use Rattle.theory.proofs.JunctionTest.{junction_told, is_told}
 use Rattle.theory.proofs.Lists.{Has-append, Has-append_left, Has-append_right, Passes-before, Steps-right}
 use Rattle.theory.proofs.ListsOfLists.{Has-gathered, gathered_from, Has-joined}
 use Rattle.theory.proofs.Pieces.{SegmentOf-flip, SegmentOf-apart, two_segments_of}
 use Rattle.theory.proofs.Turning.{keep_has, has_keep}
-use Rattle.theory.specs.Chain.{IsChain}
 use Rattle.theory.specs.Geometry.{Geometry, IsLineOf, IsRingOf, IsSound, AtMost, SegmentOf, JunctionOf, IsChainOf}
 use Rattle.theory.specs.Junction.{Visits, Visit, end, pair}
 use Rattle.theory.specs.LinesAndRings.{around}
@@ -58,20 +58,6 @@ EndOf-Has : {V : Type 0} (v : V) (l : List V) → EndOf v l → Has v l
 EndOf-Has v [] h = absurd h
 EndOf-Has v (x ∷ r) (inl e) = inl e
 EndOf-Has v (x ∷ r) (inr e) = subst (λ w. Has w (x ∷ r)) (sym e) (last_of-Has x r)
-
--- chains depend on nothing of the segments and the stops but which they are
-pub IsChain-same : {V : Type 0} (S T : V → V → Type 0) (J K : V → Type 0) (Le : V → V → Type 0) →
-    ((u v : V) → S u v → T u v) → ((v : V) → J v → K v) → ((v : V) → K v → J v) → (c : List V) → IsChain S J Le c → IsChain T K Le c
-IsChain-same S T J K Le f g h [] k = k
-IsChain-same S T J K Le f g h (x ∷ r) k = record {
-  long = k.long;
-  along = λ u v s. f u v (k.along u v s);
-  front_simple = k.front_simple;
-  rest_simple = k.rest_simple;
-  closed_long = k.closed_long;
-  inner_free = λ a v b p j. k.inner_free a v b p (h v j);
-  ends = elim k.ends [ inl j ↦ inl (g x j.0, g (last_of x r) j.1) | inr l ↦ inr (l.0, (λ v i j. l.1 v i (h v j)), l.2) ];
-}
 
 module _ {V : Type 0} (cmp : V → V → Ordering) (o : IsTotalOrder cmp) (same : IsAntisymmetric cmp) (dec : (a b : V) → Dec (a ≡ b))
     (g : Geometry V) (sound : IsSound g) where

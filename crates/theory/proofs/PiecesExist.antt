@@ -30,6 +30,19 @@ not_true : (b : Bool) → not b ≡ true → b ≡ false
 not_true true e = absurd cc
 not_true false e = refl
 
+-- what is in a part of a map or in the map is in the map
+pub whole_union : {V : Type 0} (g u : Geometry V) → IsPartOf g u → IsUnionOf g u u
+whole_union g u part = record {
+  left = part;
+  right = record { lines = λ l h. h; rings = λ r h. h };
+  lines = λ l h. inr h;
+  rings = λ r h. inr h;
+}
+
+-- and so it is in a map taken twice
+pub own_union : {V : Type 0} (g : Geometry V) → IsUnionOf g g g
+own_union g = whole_union g g (record { lines = λ l h. h; rings = λ r h. h })
+
 module _ {V : Type 0} (cmp : V → V → Ordering) (o : IsTotalOrder cmp) (same : IsAntisymmetric cmp) (dec : (a b : V) → Dec (a ≡ b)) where
   meets : (g : Geometry V) (c : List V) → some (is_junction cmp g) c ≡ true → ¬ Free (JunctionOf g) c
   meets g c e f = let t = some_found (is_junction cmp g) c e in f t.0 t.1 (junction_told cmp o same g t.0 t.2)
@@ -110,23 +123,14 @@ module _ {V : Type 0} (cmp : V → V → Ordering) (o : IsTotalOrder cmp) (same 
     abbrev a : Geometry V
     a = both_of (arcs_as_map cmp g arcs) (arcs_as_map cmp u table)
 
-    -- what is in the one or the other is in the greater
-    whole : IsUnionOf g u u
-    whole = record {
-      left = part;
-      right = record { lines = λ l h. h; rings = λ r h. h };
-      lines = λ l h. inr h;
-      rings = λ r h. inr h;
-    }
-
     as_map : AreArcsAsMap g u arcs table a
     as_map = are_arcs_as_map g u sg su arcs table ag au
 
     sa : IsSound a
-    sa = arcs_sound cmp o same dec g u u sg su su whole arcs table ag au a as_map
+    sa = arcs_sound cmp o same dec g u u sg su su (whole_union g u part) arcs table ag au a as_map
 
     alike : Alike a u
-    alike = arcs_alike cmp o same dec g u u sg su su whole arcs table ag au a as_map
+    alike = arcs_alike cmp o same dec g u u sg su su (whole_union g u part) arcs table ag au a as_map
 
     same_arcs : arcs_of cmp a ≡ table
     same_arcs = arcs_unique cmp o same dec u (arcs_of cmp a) table

@@ -1,10 +1,11 @@
 -- New arcs that are known already, cut into old ones; and the arcs of what is left are such as are joined.
-use Rattle.std.proofs.Common.{◌≡◌, List, [], ◌∷◌, inl, inr, refl, sym, subst}
+use Rattle.std.proofs.Common.{◌≡◌, List, inl, inr, sym, subst}
 use Rattle.std.specs.Cmp.{IsTotalOrder}
 use Rattle.std.specs.FinMap.{IsAntisymmetric}
 use Rattle.std.specs.declared.cmp.Ordering.{Ordering}
 use Rattle.theory.proofs.ArcsAsMap.{alike_back, arcs_alike, arcs_same, arcs_sound, turned_alike}
-use Rattle.theory.proofs.PiecesExist.{are_arcs_as_map}
+use Rattle.theory.proofs.ListsOfLists.{Pairwise-weaker}
+use Rattle.theory.proofs.PiecesExist.{are_arcs_as_map, whole_union}
 use Rattle.theory.proofs.RemovingKept.{part_sound}
 use Rattle.theory.proofs.StandingRings.{ring_turned}
 use Rattle.theory.specs.ArcNumbers.{ArcRef}
@@ -12,15 +13,9 @@ use Rattle.theory.specs.Arcs.{AreArcsOf}
 use Rattle.theory.specs.Chain.{Free}
 use Rattle.theory.specs.Geometry.{Geometry, IsSound, JunctionOf}
 use Rattle.theory.specs.Lists.{Has, Pairwise}
-use Rattle.theory.specs.Refinement.{Alike, AreArcsAsMap, ArePiecesOfArc, IsPartOf, IsRefinementOf, IsUnionOf, LoopArc, arcs_as_map, both_of}
+use Rattle.theory.specs.Refinement.{Alike, AreArcsAsMap, ArePiecesOfArc, IsPartOf, IsRefinementOf, LoopArc, arcs_as_map, both_of}
 use Rattle.theory.specs.Removing.{IsCut}
 use Rattle.theory.specs.Topology.{IsRingList}
-
-pairwise_with : {A B : Type 0} (R T : A → B → Type 0) (xs : List A) (ys : List B) → ((x : A) (y : B) → Has x xs → R x y → T x y) → Pairwise R xs ys → Pairwise T xs ys
-pairwise_with R T [] [] f p = tt
-pairwise_with R T [] (y ∷ ys) f p = absurd p
-pairwise_with R T (x ∷ xs) [] f p = absurd p
-pairwise_with R T (x ∷ xs) (y ∷ ys) f p = (f x y (inl refl) p.0, pairwise_with R T xs ys (λ z w h. f z w (inr h)) p.1)
 
 module _ {V : Type 0} (cmp : V → V → Ordering) (o : IsTotalOrder cmp) (same : IsAntisymmetric cmp) (dec : (a b : V) → Dec (a ≡ b))
     (u : Geometry V) (su : IsSound u) (table : List (List V)) (all : AreArcsOf cmp u table)
@@ -32,22 +27,14 @@ module _ {V : Type 0} (cmp : V → V → Ordering) (o : IsTotalOrder cmp) (same 
   abbrev pub a : Geometry V
   a = both_of (arcs_as_map cmp g arcs) (arcs_as_map cmp u table)
 
-  whole : IsUnionOf g u u
-  whole = record {
-    left = part;
-    right = record { lines = λ l h. h; rings = λ r h. h };
-    lines = λ l h. inr h;
-    rings = λ r h. inr h;
-  }
-
   pub as_map : AreArcsAsMap g u arcs table a
   as_map = are_arcs_as_map cmp o same dec g u sg su arcs table ag all
 
   pub sa : IsSound a
-  sa = arcs_sound cmp o same dec g u u sg su su whole arcs table ag all a as_map
+  sa = arcs_sound cmp o same dec g u u sg su su (whole_union g u part) arcs table ag all a as_map
 
   pub alike : Alike a u
-  alike = arcs_alike cmp o same dec g u u sg su su whole arcs table ag all a as_map
+  alike = arcs_alike cmp o same dec g u u sg su su (whole_union g u part) arcs table ag all a as_map
 
   pub all_a : AreArcsOf cmp a table
   all_a = arcs_same cmp o same dec u a (alike_back cmp o same dec a u alike) table all
@@ -71,5 +58,5 @@ module _ {V : Type 0} (cmp : V → V → Ordering) (o : IsTotalOrder cmp) (same 
   cut_pieces pieces p = record {
     old = ag;
     new = all;
-    cut = pairwise_with (IsCut cmp g table) (ArePiecesOfArc cmp (JunctionOf g) (JunctionOf u) table) arcs pieces piece p;
+    cut = Pairwise-weaker (IsCut cmp g table) (ArePiecesOfArc cmp (JunctionOf g) (JunctionOf u) table) arcs pieces piece p;
   }

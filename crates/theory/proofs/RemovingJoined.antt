@@ -11,6 +11,7 @@ use Rattle.theory.proofs.ClosedLists.{around_steps}
 use Rattle.theory.proofs.CoveringChains.{covering_arcs}
 use Rattle.theory.proofs.Junctions.{junction_law, line_visit}
 use Rattle.theory.proofs.Lists.{Has-append, Has-append_left, Has-append_right, Steps-left, Steps-right, last-snoc, last_join, last_or_inner, last_step}
+use Rattle.theory.proofs.ListsOfLists.{Pairwise-weaker}
 use Rattle.theory.proofs.OneTopology.{along_chain}
 use Rattle.theory.proofs.Pieces.{line_pieces, ring_loop}
 use Rattle.theory.proofs.RefinementLaws.{pairwise_at, pairwise_used, part_junction, part_segment}
@@ -46,13 +47,13 @@ passes_join a v b x (y ∷ (z ∷ q)) s (inl h) = inl (inl h)
 passes_join a v b x (y ∷ q) s (inr h) = elim (passes_join a v b y q s h) [ inl k ↦ inl (inr k) | inr k ↦ inr k ]
 
 -- what stands between the first and the last is passed
-front_passes : {V : Type 0} (v x y : V) (r : List V) → Has v (front_of y r) → (a : V) × (b : V) × Passes a v b (x ∷ (y ∷ r))
+pub front_passes : {V : Type 0} (v x y : V) (r : List V) → Has v (front_of y r) → (a : V) × (b : V) × Passes a v b (x ∷ (y ∷ r))
 front_passes v x y [] h = absurd h
 front_passes v x y (z ∷ r) (inl e) = (x, z, inl (refl, (e, refl)))
 front_passes v x y (z ∷ r) (inr h) = let t = front_passes v y z r h in (t.0, t.1, inr t.2)
 
 -- a list with a stop at its end alone is not cut
-cut_one : {V : Type 0} (test : V → Bool) (c : List V) (y : V) (r : List V) → ((v : V) → Has v (front_of y r) → test v ≡ false) → test (last_of y r) ≡ true →
+pub cut_one : {V : Type 0} (test : V → Bool) (c : List V) (y : V) (r : List V) → ((v : V) → Has v (front_of y r) → test v ≡ false) → test (last_of y r) ≡ true →
     cut_from test c (y ∷ r) ≡ (c ++ (y ∷ r)) ∷ []
 cut_one test c y [] inner far = ap (λ w. cond w ((c ++ (y ∷ [])) ∷ []) []) far
 cut_one test c y (z ∷ r) inner far =
@@ -66,12 +67,6 @@ end_side v [] k h = absurd h
 end_side v (x ∷ []) k h = let n : 2 ≤ 1 = k.long in absurd (omega arith)
 end_side v (x ∷ (y ∷ r)) k (inl e) = (y, inl (inl (e, refl)))
 end_side v (x ∷ (y ∷ r)) k (inr e) = let t = last_step x y r in (t.0, inr (subst (λ w. Steps t.0 w (x ∷ (y ∷ r))) (sym e) t.1))
-
-pairwise_with : {A B : Type 0} (R T : A → B → Type 0) (xs : List A) (ys : List B) → ((x : A) (y : B) → Has x xs → R x y → T x y) → Pairwise R xs ys → Pairwise T xs ys
-pairwise_with R T [] [] f p = tt
-pairwise_with R T [] (y ∷ ys) f p = absurd p
-pairwise_with R T (x ∷ xs) [] f p = absurd p
-pairwise_with R T (x ∷ xs) (y ∷ ys) f p = (f x y (inl refl) p.0, pairwise_with R T xs ys (λ z w h. f z w (inr h)) p.1)
 
 module _ {V : Type 0} (cmp : V → V → Ordering) (o : IsTotalOrder cmp) (same : IsAntisymmetric cmp) (dec : (a b : V) → Dec (a ≡ b))
     (u : Geometry V) (su : IsSound u) (table : List (List V)) (all : AreArcsOf cmp u table)
@@ -202,7 +197,7 @@ module _ {V : Type 0} (cmp : V → V → Ordering) (o : IsTotalOrder cmp) (same 
     where
       wider : (j j' : Geometry V) → ((l : List V) → IsLineOf j l → IsLineOf j' l) → ((q : List V) → IsRingOf j q → IsRingOf j' q) →
           Pairwise (InParts j) arcs pieces → Pairwise (InParts j') arcs pieces
-      wider j j' f h p = pairwise_with (InParts j) (InParts j') arcs pieces
+      wider j j' f h p = Pairwise-weaker (InParts j) (InParts j') arcs pieces
           (λ x y i k. elim k [ inl m ↦ inl (f x m.0, m.1) | inr m ↦ inr (m.0, h m.0.round m.1) ]) p
 
       go : Open c us ⊎ Loop c us → Parts arcs pieces → Parts (c ∷ arcs) (us ∷ pieces)
@@ -420,7 +415,7 @@ module _ {V : Type 0} (cmp : V → V → Ordering) (o : IsTotalOrder cmp) (same 
     joined_pieces = record {
       old = joined_arcs;
       new = all;
-      cut = pairwise_with (InParts j) (ArePiecesOfArc cmp Stop (JunctionOf u) table) arcs pieces piece P.pairs;
+      cut = Pairwise-weaker (InParts j) (ArePiecesOfArc cmp Stop (JunctionOf u) table) arcs pieces piece P.pairs;
     }
       where
         not_free : (c : List V) (used : List ArcRef) → IsChainOf cmp g c → Open c used → ¬ Free Stop c

@@ -5,6 +5,7 @@ use Rattle.std.specs.FinMap.{IsAntisymmetric}
 use Rattle.std.specs.declared.cmp.Ordering.{Ordering}
 use Rattle.theory.proofs.ArcNumbers.{along_flipped}
 use Rattle.theory.proofs.ArcsOfMap.{are_arcs}
+use Rattle.theory.proofs.Chains.{Chain-over}
 use Rattle.theory.proofs.CoveringChains.{begins_along}
 use Rattle.theory.proofs.Junctions.{junction_law}
 use Rattle.theory.proofs.Lists.{last_join}
@@ -23,7 +24,7 @@ use Rattle.theory.specs.ArcNumbers.{ArcRef, StitchFrom, StitchTo, along, flipped
 use Rattle.theory.specs.Arcs.{AreArcsOf, IsArcOf}
 use Rattle.theory.specs.Chain.{Free}
 use Rattle.theory.specs.Geometry.{AtMost, Geometry, IsChainOf, IsLineOf, IsRingOf, IsSound, JunctionOf, SegmentOf}
-use Rattle.theory.specs.Lists.{Beside, EndOf, Passes, Steps, front_of, last_of}
+use Rattle.theory.specs.Lists.{Beside, EndOf, Passes, front_of, last_of}
 use Rattle.theory.specs.Refinement.{IsPartOf}
 use Rattle.theory.specs.Removing.{EndBeside, IsKept, IsLineEnd, KeptLaws, ThreeMeet}
 use Rattle.theory.specs.Segments.{OnThree}
@@ -192,21 +193,16 @@ module _ {V : Type 0} (cmp : V → V → Ordering) (o : IsTotalOrder cmp) (same 
     where
       chain : (c : List V) → c ≡ d → IsChainOf cmp u c → ((v : V) → EndOf v c → JunctionOf g v) ⊎ Free (JunctionOf u) c → IsChainOf cmp g c
       chain [] f c h = absurd c
-      chain (x ∷ r) f c h = record {
-        long = c.long;
-        along = λ p q s. kept_stays k d kept e p q (subst (λ w. Beside p q w) f (inl s));
-        front_simple = c.front_simple;
-        rest_simple = c.rest_simple;
-        closed_long = c.closed_long;
-        inner_free = λ a v b p j. c.inner_free a v b p (grow v j);
-        ends = elim h [
-          | inl j ↦ inl (j x (inl refl), j (last_of x r) (inr refl))
-          | inr free ↦ elim c.ends [
-            | inl j ↦ absurd (free x (inl refl) j.0)
-            | inr l ↦ inr (l.0, (λ v i j. free v i (grow v j)), l.2)
-          ]
-        ];
-      }
+      chain (x ∷ r) f c h =
+          Chain-over (SegmentOf u) (SegmentOf g) (JunctionOf u) (JunctionOf g) (AtMost cmp) x r c
+          (λ p q s. kept_stays k d kept e p q (subst (λ w. Beside p q w) f (inl s))) (λ a v b p j. c.inner_free a v b p (grow v j))
+          (elim h [
+            | inl j ↦ inl (j x (inl refl), j (last_of x r) (inr refl))
+            | inr free ↦ elim c.ends [
+              | inl j ↦ absurd (free x (inl refl) j.0)
+              | inr l ↦ inr (l.0, (λ v i j. free v i (grow v j)), l.2)
+            ]
+          ])
 
   pub kept_laws : KeptLaws cmp g u table
   kept_laws = record {

@@ -8,13 +8,13 @@ use Rattle.theory.proofs.OneTopology.{ring_list_unique, stitch_unique}
 use Rattle.theory.proofs.RemovingJoined.{joined_arcs, joined_pieces}
 use Rattle.theory.proofs.RemovingLists.{new_form}
 use Rattle.theory.proofs.UsersOfArcs.{line_partner, line_partner_back, partner, partner_back, ring_partner, ring_partner_back}
-use Rattle.theory.specs.ArcNumbers.{ArcRef, StitchTo, Uses}
+use Rattle.theory.specs.ArcNumbers.{ArcRef, StitchTo}
 use Rattle.theory.specs.Arcs.{AreArcsOf}
 use Rattle.theory.specs.Geometry.{IsSound, JunctionOf}
 use Rattle.theory.specs.Lists.{Has, Pairwise, gathered}
 use Rattle.theory.specs.Refinement.{IsPartOf}
 use Rattle.theory.specs.Removing.{AreJoined, AreStarts, EndsInLayers, IsKept, IsLess, IsLineEnd, Starts, less, marked, rejoined_layer}
-use Rattle.theory.specs.Standing.{EndsList, InLayers}
+use Rattle.theory.specs.Standing.{InLayers}
 use Rattle.theory.specs.Topology.{Body, IsFormOf, IsGeometryOf, IsLayerOf, IsRingList, IsTopologyOf, Item, Layer, Map, Shape, forms_of, geometry_of, lines_in, positions_of, rings_in}
 
 -- a form of a map stands in a layer
@@ -105,51 +105,58 @@ module _ {V : Type 0} (cmp : V → V → Ordering) (o : IsTotalOrder cmp) (same 
       let x = partner_back (IsGeometryOf cmp (JunctionOf (geometry_of m)) table) l.0.items k.items l.2.items h s in
       (x.0.form, in_form n l.0 x.0 l.1 x.1, x.2.form)
 
+  -- the list is in a geometry
+  abbrev ListIn : (Body V → List (List ArcRef)) → List ArcRef → Type 0
+  ListIn lists used = (k : Layer (Item I (Body V))) × Has k olds × (h : Item I (Body V)) × Has h k.items × Has used (lists h.form)
+
+  -- the list of each line, or of each ring, that is left is in a geometry, and each list there is that of one
+  record Listed (of_shape : Shape V → List (List V)) (of_body : Body V → List (List ArcRef)) (R : List V → List ArcRef → Type 0) : Type 0 where
+    there : (l : List V) (used : List ArcRef) → Has l (gathered of_shape (forms_of n)) → R l used → ListIn of_body used
+    back : (used : List ArcRef) → ListIn of_body used → (l : List V) × Has l (gathered of_shape (forms_of n)) × R l used
+
+  listed : (of_shape : Shape V → List (List V)) (of_body : Body V → List (List ArcRef)) (R : List V → List ArcRef → Type 0) →
+      ((f : Shape V) (h : Body V) → IsFormOf A B f h → (l : List V) → Has l (of_shape f) → (used : List ArcRef) × Has used (of_body h) × R l used) →
+      ((h : Body V) (f : Shape V) → IsFormOf A B f h → (used : List ArcRef) → Has used (of_body h) → (l : List V) × Has l (of_shape f) × R l used) →
+      ((l : List V) (used more : List ArcRef) → R l used → R l more → used ≡ more) → Listed of_shape of_body R
+  listed of_shape of_body R list_of of_list one = record {
+    there = λ l used i st.
+        let f = gathered_from of_shape (forms_of n) l i in
+        let b = body_of f.0 f.1 in
+        let t = list_of f.0 b.2.form b.4 l f.2 in
+        (b.0, b.1, b.2, b.3, subst (λ w. Has w (of_body b.2.form)) (sym (one l used t.0 st t.2)) t.1);
+    back = λ used (k, i, h, s, e).
+        let f = feature_of k i h s in
+        let t = of_list h.form f.0 f.2 used e in
+        (t.0, Has-gathered of_shape (forms_of n) f.0 t.0 f.1 t.1, t.2);
+  }
+
+  line_lists : Listed lines_in lines_in A
+  line_lists = listed lines_in lines_in A (line_partner A B) (line_partner_back A B) (stitch_unique cmp o same dec (geometry_of m) sm table all)
+
+  ring_lists : Listed rings_in rings_in B
+  ring_lists = listed rings_in rings_in B (ring_partner A B) (ring_partner_back A B) (ring_list_unique cmp o same dec (geometry_of m) sm table all)
+
   -- the kept arcs are those that the geometries use
   pub kept_in_layers : (k : ℕ) → IsKept cmp (geometry_of n) (geometry_of m) table k ↔ InLayers olds k
   kept_in_layers k = (to, from)
     where
       to : IsKept cmp (geometry_of n) (geometry_of m) table k → InLayers olds k
-      to (inl (l, used, i, st, us)) =
-          let f = gathered_from lines_in (forms_of n) l i in
-          let b = body_of f.0 f.1 in
-          let t = line_partner A B f.0 b.2.form b.4 l f.2 in
-          let e : used ≡ t.0 = stitch_unique cmp o same dec (geometry_of m) sm table all l used t.0 st t.2 in
-          (b.0, b.1, b.2, b.3, inl (t.0, t.1, subst (Uses k) e us))
-      to (inr (r, used, i, st, us)) =
-          let f = gathered_from rings_in (forms_of n) r i in
-          let b = body_of f.0 f.1 in
-          let t = ring_partner A B f.0 b.2.form b.4 r f.2 in
-          let e : used ≡ t.0 = ring_list_unique cmp o same dec (geometry_of m) sm table all r used t.0 st t.2 in
-          (b.0, b.1, b.2, b.3, inr (t.0, t.1, subst (Uses k) e us))
+      to (inl (l, used, i, st, us)) = let b = line_lists.there l used i st in (b.0, b.1, b.2, b.3, inl (used, b.4, us))
+      to (inr (r, used, i, st, us)) = let b = ring_lists.there r used i st in (b.0, b.1, b.2, b.3, inr (used, b.4, us))
 
       from : InLayers olds k → IsKept cmp (geometry_of n) (geometry_of m) table k
       from (l, i, h, s, us) =
-          let f = feature_of l i h s in
           elim us [
-            | inl (used, e, v) ↦ (let t = line_partner_back A B h.form f.0 f.2 used e in
-                inl (t.0, used, Has-gathered lines_in (forms_of n) f.0 t.0 f.1 t.1, t.2, v))
-            | inr (used, e, v) ↦ (let t = ring_partner_back A B h.form f.0 f.2 used e in
-                inr (t.0, used, Has-gathered rings_in (forms_of n) f.0 t.0 f.1 t.1, t.2, v))
+            | inl (used, e, v) ↦ (let t = line_lists.back used (l, i, h, s, e) in inl (t.0, used, t.1, t.2, v))
+            | inr (used, e, v) ↦ (let t = ring_lists.back used (l, i, h, s, e) in inr (t.0, used, t.1, t.2, v))
           ]
 
   -- the ends of lines are those of the lists of the geometries
   pub ends_in_layers : (v : V) → IsLineEnd (geometry_of n) table v ↔ EndsInLayers table olds v
-  ends_in_layers v = (to, from)
-    where
-      to : IsLineEnd (geometry_of n) table v → EndsInLayers table olds v
-      to (l, used, i, st, e) =
-          let f = gathered_from lines_in (forms_of n) l i in
-          let b = body_of f.0 f.1 in
-          let t = line_partner A B f.0 b.2.form b.4 l f.2 in
-          let q : used ≡ t.0 = stitch_unique cmp o same dec (geometry_of m) sm table all l used t.0 st t.2 in
-          (b.0, b.1, b.2, b.3, t.0, t.1, subst (EndsList table v) q e)
-
-      from : EndsInLayers table olds v → IsLineEnd (geometry_of n) table v
-      from (l, i, h, s, used, e, ends) =
-          let f = feature_of l i h s in
-          let t = line_partner_back A B h.form f.0 f.2 used e in
-          (t.0, used, Has-gathered lines_in (forms_of n) f.0 t.0 f.1 t.1, t.2, ends)
+  ends_in_layers v = (
+    (λ (l, used, i, st, e). let b = line_lists.there l used i st in (b.0, b.1, b.2, b.3, used, b.4, e)),
+    (λ (l, i, h, s, used, e, ends). let t = line_lists.back used (l, i, h, s, e) in (t.0, used, t.1, t.2, ends)),
+  )
 
   -- with the joined arcs, and the lists along them, it is the topology of what is left
   pub removed_topology : {G X : Type 0} (box_of : G → List V → Option X) (on : G) (arcs : List (List V)) (pieces : List (List ArcRef)) (starts : Starts) →

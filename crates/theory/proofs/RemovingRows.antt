@@ -1,32 +1,17 @@
 -- Worked rows of lists along joined arcs, by computation: three squares in a row, of which some are taken out.
-use Rattle.std.proofs.Common.{◌≡◌, ℕ, ℤ, pos, true, false, cond, int_eq, List, [], ◌∷◌, refl, Some, None}
+use Rattle.std.proofs.Common.{◌≡◌, ℕ, ℤ, pos, cond, int_eq, List, [], ◌∷◌, refl, Some, None}
 use Rattle.std.specs.Prelude.{map, negsuc}
-use Rattle.theory.proofs.WorkedRows.{Position, by_position, p}
+use Rattle.theory.proofs.WorkedRows.{Position, ahead, by_position, first, reversed, second, third}
 use Rattle.theory.specs.ArcNumbers.{ArcRef, index_of}
 use Rattle.theory.specs.Geometry.{Geometry}
 use Rattle.theory.specs.Removing.{Starts, ring_rejoined}
 use Rattle.theory.specs.TopologyFunction.{arcs_of, ring_refs}
-
-abbrev first : List Position
-first = p 0 0 ∷ p 1 0 ∷ p 1 1 ∷ p 0 1 ∷ []
-
-abbrev second : List Position
-second = p 1 0 ∷ p 2 0 ∷ p 2 1 ∷ p 1 1 ∷ []
-
-abbrev third : List Position
-third = p 2 0 ∷ p 3 0 ∷ p 3 1 ∷ p 2 1 ∷ []
 
 abbrev rings : List (List Position) → Geometry Position
 rings rs = record { lines = []; rings = rs }
 
 abbrev whole : Geometry Position
 whole = rings (first ∷ second ∷ third ∷ [])
-
-abbrev ahead : ℕ → ArcRef
-ahead k = record { arc = k; reversed = false }
-
-abbrev reversed : ℕ → ArcRef
-reversed k = record { arc = k; reversed = true }
 
 -- what is noted at a used old arc
 abbrev at : List (ArcRef × (ArcRef × ℕ)) → Starts

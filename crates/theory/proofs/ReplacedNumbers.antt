@@ -65,12 +65,6 @@ module _ {V : Type 0} (cmp : V → V → Ordering) (o : IsTotalOrder cmp) (same 
     (u : Geometry V) (su : IsSound u) (table : List (List V)) (all : AreArcsOf cmp u table)
     (g : Geometry V) (sg : IsSound g) (part : IsPartOf g u) (arcs : List (List V)) (pieces : List (List ArcRef))
     (ref : IsRefinementOf cmp g u arcs table pieces) where
-  lo : IsTotalOrder (slice_cmp cmp)
-  lo = lists_total o
-
-  lsame : IsAntisymmetric (slice_cmp cmp)
-  lsame = slice_cmp-IsAntisymmetric same
-
   le : (a b : V) → AtMost cmp a b → AtMost cmp b a → a ≡ b
   le = same_le cmp o same dec
 
@@ -172,7 +166,7 @@ module _ {V : Type 0} (cmp : V → V → Ordering) (o : IsTotalOrder cmp) (same 
                 let z : n ≡ reverse m = one_rotation y (reverse m) n dis
                 (rotation_trans (y ∷ reverse m) (x ∷ l) (y ∷ n) (rotation_back (x ∷ l) (y ∷ reverse m) turned)
                 (rotation_trans (x ∷ l) r (y ∷ n) (rotation_back r (x ∷ l) ro) h)) in
-                subst (λ w. AtMost (slice_cmp cmp) (y ∷ reverse m) (y ∷ w)) (sym z) (at_most_self (slice_cmp cmp) lo lsame (y ∷ reverse m));
+                subst (λ w. AtMost (slice_cmp cmp) (y ∷ reverse m) (y ∷ w)) (sym z) (at_most_self (slice_cmp cmp) (lists_total o) (slice_cmp-IsAntisymmetric same) (y ∷ reverse m));
           },
           from_to table (backwards ps) y (reverse m ++ (y ∷ [])) (simp length-append (omega arith))
               (used_stitch table true ps (closed (y ∷ m)) y (reverse m ++ (y ∷ [])) st (sym (closed_back y m))),

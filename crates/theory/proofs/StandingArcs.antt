@@ -21,14 +21,8 @@ use Rattle.theory.specs.Standing.{ArcsStand}
 
 module _ {V : Type 0} (cmp : V → V → Ordering) (o : IsTotalOrder cmp) (same : IsAntisymmetric cmp) (dec : (a b : V) → Dec (a ≡ b))
     (arcs : List (List V)) (a : Geometry V) (st : ArcsStand cmp arcs a) where
-  lo : IsTotalOrder (slice_cmp cmp)
-  lo = lists_total o
-
-  lsame : IsAntisymmetric (slice_cmp cmp)
-  lsame = slice_cmp-IsAntisymmetric same
-
   not_back : (c : List V) → Has c arcs → ¬ (c ≡ reverse c)
-  not_back c h e = less_self (slice_cmp cmp) lo lsame c (subst (λ w. slice_cmp cmp c w ≡ Less) (sym e) (st.forward c h))
+  not_back c h e = less_self (slice_cmp cmp) (lists_total o) (slice_cmp-IsAntisymmetric same) c (subst (λ w. slice_cmp cmp c w ≡ Less) (sym e) (st.forward c h))
 
   -- a vertex that is no junction is visited one way
   same_visit : (v p q s t : V) → ¬ JunctionOf a v → Visits (IsLineOf a) (IsRingOf a) v (pair p q) → Visits (IsLineOf a) (IsRingOf a) v (pair s t) →

@@ -16,7 +16,7 @@ use Rattle.theory.proofs.Lists.{Has-append_left, front-snoc}
 use Rattle.theory.proofs.ListsOfLists.{Has-gathered, gathered_from, get_has, map_has}
 use Rattle.theory.proofs.OneTopology.{along_chain}
 use Rattle.theory.proofs.Pieces.{SegmentOf-flip}
-use Rattle.theory.proofs.PiecesExist.{as_map_alone, unclosed-closed}
+use Rattle.theory.proofs.PiecesExist.{as_map_alone, own_union, unclosed-closed}
 use Rattle.theory.proofs.RefinementLaws.{chain_side, once}
 use Rattle.theory.proofs.Reversing.{Has-unreverse, IsChain-reverse, Steps-reverse}
 use Rattle.theory.proofs.RingListStart.{turned_used_is}
@@ -33,8 +33,8 @@ use Rattle.theory.specs.Arcs.{AreArcsOf, Ascends}
 use Rattle.theory.specs.Chain.{Free, SameArc}
 use Rattle.theory.specs.Geometry.{AtMost, Geometry, IsChainOf, IsLineOf, IsRingOf, IsSound, JunctionOf, SegmentOf}
 use Rattle.theory.specs.LinesAndRings.{closed}
-use Rattle.theory.specs.Lists.{Beside, Distinct, EndOf, Has, Passes, Steps, gathered, last_of}
-use Rattle.theory.specs.Refinement.{Alike, AreArcsAsMap, IsUnionOf, LoopArc, OpenArc, arcs_as_map, turned_used, unclosed}
+use Rattle.theory.specs.Lists.{Beside, Distinct, EndOf, Has, Passes, gathered, last_of}
+use Rattle.theory.specs.Refinement.{Alike, AreArcsAsMap, LoopArc, OpenArc, arcs_as_map, turned_used, unclosed}
 use Rattle.theory.specs.Segments.{OnThree}
 use Rattle.theory.specs.Standing.{ArcsApart, ArcsStand, InLayers, IsListOfLine, IsReadGeometry, IsReadLayer, IsReadRing, ThreeBegin, TopologyStands}
 use Rattle.theory.specs.Topology.{Body, IsFormOf, IsGeometryOf, IsLayerOf, IsRingList, IsTopologyOf, Item, Layer, Map, Shape, Topology, forms_of, geometry_of, lines_in, rings_in}
@@ -68,16 +68,8 @@ module _ {V : Type 0} (cmp : V → V → Ordering) (o : IsTotalOrder cmp) (same 
   as_map : AreArcsAsMap g g arcs arcs a
   as_map = as_map_alone cmp o same dec g sg arcs all
 
-  twice : IsUnionOf g g g
-  twice = record {
-    left = record { lines = λ l h. h; rings = λ r h. h };
-    right = record { lines = λ l h. h; rings = λ r h. h };
-    lines = λ l h. inl h;
-    rings = λ r h. inl h;
-  }
-
   alike : Alike a g
-  alike = arcs_alike cmp o same dec g g g sg sg sg twice arcs arcs all all a as_map
+  alike = arcs_alike cmp o same dec g g g sg sg sg (own_union g) arcs arcs all all a as_map
 
   open_of : (l : List V) → IsLineOf a l → OpenArc g arcs l
   open_of l h = elim (as_map.lines l h) [ inl k ↦ k | inr k ↦ k ]

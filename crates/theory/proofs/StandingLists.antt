@@ -2,7 +2,7 @@
 use Rattle.std.proofs.Common.{◌≡◌, ◌≤◌, List, [], ◌∷◌, ◌++◌, length, reverse, ◌⊎◌, inl, inr, refl, sym, ap, ◌∙◌, subst, arith}
 use Rattle.std.proofs.lemmas.List.{length-append}
 use Rattle.theory.proofs.Chains.{Distinct-Trail}
-use Rattle.theory.proofs.Lists.{Distinct-turn, Has-append_left, Passes-after, Passes-before, Steps-front, Steps-left, Steps-right, first_turn, front_last, front-snoc, last-snoc, last_or_inner}
+use Rattle.theory.proofs.Lists.{Distinct-turn, Has-append_left, Passes-after, Passes-before, Steps-front, Steps-left, Steps-right, first_turn, inner_has, front_last, front-snoc, last-snoc, last_or_inner}
 use Rattle.theory.proofs.Reversing.{Passes-reverse, reverse-last, reverse-snoc}
 use Rattle.std.proofs.lemmas.List.{reverse-reverse}
 use Rattle.theory.specs.Junction.{SameVisit, pair}
@@ -72,13 +72,6 @@ Has-snoc v z [] (inl e) = inr e
 Has-snoc v z [] (inr h) = absurd h
 Has-snoc v z (x ∷ l) (inl e) = inl (inl e)
 Has-snoc v z (x ∷ l) (inr h) = elim (Has-snoc v z l h) [ inl k ↦ inl (inr k) | inr e ↦ inr e ]
-
--- what stands before the last has neighbours
-inner_has : {V : Type 0} (p v z : V) (q : List V) → Has v q → (a : V) × (b : V) × Passes a v b (p ∷ (q ++ (z ∷ [])))
-inner_has p v z [] h = absurd h
-inner_has p v z (w ∷ []) (inl e) = (p, z, inl (refl, (e, refl)))
-inner_has p v z (w ∷ (w' ∷ q)) (inl e) = (p, w', inl (refl, (e, refl)))
-inner_has p v z (w ∷ q) (inr h) = let t = inner_has w v z q h in (t.0, t.1, inr t.2)
 
 -- what stands before a vertex that is at the end alone stands before the end
 before_last : {V : Type 0} (u v y : V) (q : List V) → ¬ Has v (y ∷ q) → Steps u v (y ∷ (q ++ (v ∷ []))) → u ≡ last_of y q

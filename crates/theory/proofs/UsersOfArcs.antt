@@ -5,7 +5,7 @@ use Rattle.std.specs.FinMap.{IsAntisymmetric}
 use Rattle.std.specs.declared.cmp.Ordering.{Ordering}
 use Rattle.theory.proofs.ArcNumbers.{along_used, taken_of, to_from, uses_along}
 use Rattle.theory.proofs.ClosedLists.{around_steps, closed_steps}
-use Rattle.theory.proofs.ListsOfLists.{Has-joined, get_has, joined_from}
+use Rattle.theory.proofs.ListsOfLists.{Has-joined, Pairwise-flip, get_has, joined_from}
 use Rattle.theory.proofs.RefinementLaws.{chain_side}
 use Rattle.theory.proofs.Reversing.{beside_same, same_beside}
 use Rattle.theory.proofs.Rotations.{rotation_back, rotation_length, rotation_steps}
@@ -16,7 +16,7 @@ use Rattle.theory.specs.Arcs.{AreArcsOf}
 use Rattle.theory.specs.Geometry.{Geometry, IsRingOf, IsSound, JunctionOf, SegmentOf}
 use Rattle.theory.specs.LinesAndRings.{IsRotation, around, closed}
 use Rattle.theory.specs.Lists.{Beside, Has, Pairwise, Steps}
-use Rattle.theory.specs.Topology.{Body, Form, IsFormOf, IsRingList, Shape, line, lines, lines_in, polygon, polygons, rings_in}
+use Rattle.theory.specs.Topology.{Body, Form, IsFormOf, IsRingList, Shape, line, lines, lines_in, null, point, points, polygon, polygons, rings_in}
 use Rattle.theory.specs.Users.{HasSegment, ShareArc, ShareSegment, UsesArc}
 
 -- a member of a list has its partner in the other
@@ -27,11 +27,20 @@ partner R (z ∷ xs) (y ∷ ys) p x (inl e) = (y, inl refl, subst (λ w. R w y) 
 partner R (z ∷ xs) (y ∷ ys) p x (inr h) = let t = partner R xs ys p.1 x h in (t.0, inr t.1, t.2)
 
 pub partner_back : {A B : Type 0} (R : A → B → Type 0) (xs : List A) (ys : List B) → Pairwise R xs ys → (y : B) → Has y ys → (x : A) × Has x xs × R x y
-partner_back R [] [] p y h = absurd h
-partner_back R [] (z ∷ ys) p y h = absurd p
-partner_back R (x ∷ xs) [] p y h = absurd h
-partner_back R (x ∷ xs) (z ∷ ys) p y (inl e) = (x, inl refl, subst (λ w. R x w) (sym e) p.0)
-partner_back R (x ∷ xs) (z ∷ ys) p y (inr h) = let t = partner_back R xs ys p.1 y h in (t.0, inr t.1, t.2)
+partner_back R xs ys p = partner (λ y x. R x y) ys xs (Pairwise-flip R (λ y x. R x y) (λ x y h. h) xs ys p)
+
+-- a form against another one is so the other way round
+form_back : {V L R L' R' : Type 0} (A : L → L' → Type 0) (B : R → R' → Type 0) (f : Form V L R) (h : Form V L' R') → IsFormOf A B f h →
+    IsFormOf (λ k l. A l k) (λ k r. B r k) h f
+form_back A B null null p = p
+form_back A B (point x) (point y) p = sym p
+form_back A B (points xs) (points ys) p = sym p
+form_back A B (line l) (line k) p = p
+form_back A B (lines ls) (lines ks) p = Pairwise-flip A (λ k l. A l k) (λ l k a. a) ls ks p
+form_back A B (polygon rs) (polygon ks) p = Pairwise-flip B (λ k r. B r k) (λ r k b. b) rs ks p
+form_back A B (polygons ps) (polygons ks) p =
+    Pairwise-flip (Pairwise B) (Pairwise (λ k r. B r k)) (Pairwise-flip B (λ k r. B r k) (λ r k b. b)) ps ks p
+form_back A B f h p = search
 
 -- the same for the lines and for the rings of a form
 pub line_partner : {V L R L' R' : Type 0} (A : L → L' → Type 0) (B : R → R' → Type 0) (f : Form V L R) (h : Form V L' R') → IsFormOf A B f h →
@@ -43,10 +52,7 @@ line_partner A B f h p l i = search
 
 pub line_partner_back : {V L R L' R' : Type 0} (A : L → L' → Type 0) (B : R → R' → Type 0) (h : Form V L' R') (f : Form V L R) → IsFormOf A B f h →
     (k : L') → Has k (lines_in h) → (l : L) × Has l (lines_in f) × A l k
-line_partner_back A B (line k) (line m) p l (inl e) = (m, inl refl, subst (λ w. A m w) (sym e) p)
-line_partner_back A B (line k) (line m) p l (inr z) = absurd z
-line_partner_back A B (lines ks) (lines ls) p l i = partner_back A ls ks p l i
-line_partner_back A B h f p l i = search
+line_partner_back A B h f p = line_partner (λ k l. A l k) (λ k r. B r k) h f (form_back A B f h p)
 
 pub ring_partner : {V L R L' R' : Type 0} (A : L → L' → Type 0) (B : R → R' → Type 0) (f : Form V L R) (h : Form V L' R') → IsFormOf A B f h →
     (r : R) → Has r (rings_in f) → (k : R') × Has k (rings_in h) × B r k
@@ -60,13 +66,7 @@ ring_partner A B f h p r i = search
 
 pub ring_partner_back : {V L R L' R' : Type 0} (A : L → L' → Type 0) (B : R → R' → Type 0) (h : Form V L' R') (f : Form V L R) → IsFormOf A B f h →
     (k : R') → Has k (rings_in h) → (r : R) × Has r (rings_in f) × B r k
-ring_partner_back A B (polygon ks) (polygon rs) p r i = partner_back B rs ks p r i
-ring_partner_back A B (polygons ks) (polygons ps) p r i =
-    let t = joined_from ks r i in
-    let u = partner_back (Pairwise B) ps ks p t.0 t.1 in
-    let v = partner_back B u.0 t.0 u.2 r t.2 in
-    (v.0, Has-joined ps u.0 v.0 u.1 v.1, v.2)
-ring_partner_back A B h f p r i = search
+ring_partner_back A B h f p = ring_partner (λ k l. A l k) (λ k r. B r k) h f (form_back A B f h p)
 
 module _ {V : Type 0} (cmp : V → V → Ordering) (o : IsTotalOrder cmp) (same : IsAntisymmetric cmp) (dec : (a b : V) → Dec (a ≡ b))
     (g : Geometry V) (sound : IsSound g) (arcs : List (List V)) (all : AreArcsOf cmp g arcs) where

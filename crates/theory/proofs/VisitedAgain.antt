@@ -2,7 +2,7 @@
 use Rattle.std.proofs.Common.{◌≡◌, List, [], ◌∷◌, ◌⊎◌, inl, inr, refl, sym, ◌∙◌, subst, ◌++◌, ap, append_assoc}
 use Rattle.theory.proofs.ClosedLists.{closed_around, rotated_passes}
 use Rattle.theory.proofs.Junctions.{wrap_last}
-use Rattle.theory.proofs.Lists.{Has-append_left, Passes-after, Passes-append_left, Passes-before, Passes-last, last-snoc, last_or_inner}
+use Rattle.theory.proofs.Lists.{Has-append_left, Passes-after, Passes-append_left, Passes-before, Passes-last, inner_has, last-snoc, last_or_inner}
 use Rattle.theory.proofs.Rotations.{IsRing-rotate}
 use Rattle.theory.specs.Junction.{TwoVisits}
 use Rattle.theory.specs.LinesAndRings.{IsRing, Trail, around, closed}
@@ -74,13 +74,6 @@ ring_turn {V} (x ∷ (y ∷ q)) g a v b h e =
         let st : Steps y x (closed (x ∷ (y ∷ q))) =
         subst (λ w. Steps y w (closed (x ∷ (y ∷ q)))) vx (subst (λ w. Steps w v (closed (x ∷ (y ∷ q)))) (e ∙ by) s) in
         elim st [ inl k ↦ t.0 (sym k.0) | inr k ↦ t.1 (inr k) ]
-
--- what stands between the first and the last has neighbours
-inner_has : {V : Type 0} (p v z : V) (q : List V) → Has v q → (a : V) × (b : V) × Passes a v b (p ∷ (q ++ (z ∷ [])))
-inner_has p v z [] h = absurd h
-inner_has p v z (w ∷ []) (inl e) = (p, z, inl (refl, (e, refl)))
-inner_has p v z (w ∷ (w' ∷ q)) (inl e) = (p, w', inl (refl, (e, refl)))
-inner_has p v z (w ∷ q) (inr h) = let t = inner_has w v z q h in (t.0, t.1, inr t.2)
 
 -- the vertex that a ring begins with and comes to again has two different visits
 pub first_again : {V : Type 0} (v : V) (l : List V) → IsRing (v ∷ l) → Has v l → TwoVisits v (around (v ∷ l))

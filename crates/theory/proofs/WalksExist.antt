@@ -2,10 +2,8 @@
 use Rattle.std.proofs.Common.{◌≡◌, ◌≤◌, ℕ, zero, suc, List, [], ◌∷◌, ◌++◌, length, ◌⊎◌, inl, inr, refl, sym, ap, ◌∙◌, subst, arith, Option, Some, None}
 use Rattle.std.specs.Cmp.{IsTotalOrder}
 use Rattle.std.specs.FinMap.{IsAntisymmetric}
-use Rattle.std.specs.Ordering.{is_gt}
 use Rattle.std.specs.declared.cmp.Ordering.{Ordering}
-use Rattle.std.specs.declared.cmp.Ordering.TheVariants.{Less, Equal, Greater}
-use Rattle.theory.proofs.Ascending.{at_most_self, greater_back, less_at_most}
+use Rattle.theory.proofs.Ascending.{at_most_either, at_most_self}
 use Rattle.theory.proofs.Lists.{Beside-flip, Has-append, Has-append_left, Has-append_right}
 use Rattle.theory.proofs.Networks.{Joins-flip}
 use Rattle.theory.proofs.Turning.{trans_most}
@@ -236,14 +234,6 @@ module _ {V : Type 0} (cmp : V → V → Ordering) (o : IsTotalOrder cmp) (same 
             ]
           ]
 
-  at_most_one : (x y : V) → AtMost cmp x y ⊎ AtMost cmp y x
-  at_most_one x y = go (cmp x y) refl
-    where
-      go : (c : Ordering) → cmp x y ≡ c → AtMost cmp x y ⊎ AtMost cmp y x
-      go Less e = inl (ap is_gt e)
-      go Equal e = inl (ap is_gt e)
-      go Greater e = inr (less_at_most cmp o same y x (greater_back cmp o same x y e))
-
   -- the least vertex that has its links yet, where one has
   least_noted : (k : V → Option (V × V)) (ns : List V) →
       ((x : V) × Noted k x × ((v : V) → Has v ns → Noted k v → AtMost cmp x v)) ⊎ ((v : V) → Has v ns → k v ≡ None)
@@ -274,7 +264,7 @@ module _ {V : Type 0} (cmp : V → V → Ordering) (o : IsTotalOrder cmp) (same 
         ],
       )
       by (inl (y, ny, ly)) (inr t) =
-          elim (at_most_one x y) [
+          elim (at_most_either cmp o same x y) [
             | inl m ↦ inl (
               x,
               t,

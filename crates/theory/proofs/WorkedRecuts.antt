@@ -2,7 +2,7 @@
 -- Vertices are pairs of whole numbers, ordered by the first, then the second.
 use Rattle.std.proofs.Common.{◌≡◌, ℕ, ℤ, pos, List, [], ◌∷◌, refl, true, false}
 use Rattle.std.specs.Prelude.{map, negsuc}
-use Rattle.theory.proofs.WorkedRows.{Position, by_position, p, triangle}
+use Rattle.theory.proofs.WorkedRows.{Position, by_position, first, p, second, third, triangle}
 use Rattle.theory.specs.ArcNumbers.{ArcRef, index_of}
 use Rattle.theory.specs.Geometry.{Geometry}
 use Rattle.theory.specs.Refinement.{both_of, recut, replaced, turned_used}
@@ -50,17 +50,7 @@ straight_line_cut = refl
 bent_line_cut : pieces (of_line (p 0 0 ∷ p 1 0 ∷ p 1 1 ∷ [])) (of_line (p 0 0 ∷ p 1 0 ∷ p 2 0 ∷ [])) ≡ (ahead 0 ∷ ahead 1 ∷ []) ∷ []
 bent_line_cut = refl
 
--- three squares in a row
-abbrev first : List Position
-first = p 0 0 ∷ p 1 0 ∷ p 1 1 ∷ p 0 1 ∷ []
-
-abbrev second : List Position
-second = p 1 0 ∷ p 2 0 ∷ p 2 1 ∷ p 1 1 ∷ []
-
-abbrev third : List Position
-third = p 2 0 ∷ p 3 0 ∷ p 3 1 ∷ p 2 1 ∷ []
-
--- shared edge: the first two of them
+-- shared edge: the first two of three squares in a row
 abbrev two_squares : Geometry Position
 two_squares = record { lines = []; rings = first ∷ (second ∷ []) }
 

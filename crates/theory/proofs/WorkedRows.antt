@@ -40,10 +40,10 @@ topology arcs gs = record {
 }
 
 -- arc i, used in its direction, and reversed
-abbrev ahead : ℕ → ArcRef
+abbrev pub ahead : ℕ → ArcRef
 ahead i = record { arc = i; reversed = false }
 
-abbrev reversed : ℕ → ArcRef
+abbrev pub reversed : ℕ → ArcRef
 reversed i = record { arc = i; reversed = true }
 
 -- TopoJSON's indexes of arc 0 ahead and of arcs 0 and 1 reversed
@@ -54,12 +54,19 @@ indexes = refl
 empty : built [] ≡ topology [] []
 empty = refl
 
--- shared edge: two squares have one side in common
+-- three squares in a row
+abbrev pub first : List Position
+first = p 0 0 ∷ p 1 0 ∷ p 1 1 ∷ p 0 1 ∷ []
+
+abbrev pub second : List Position
+second = p 1 0 ∷ p 2 0 ∷ p 2 1 ∷ p 1 1 ∷ []
+
+abbrev pub third : List Position
+third = p 2 0 ∷ p 3 0 ∷ p 3 1 ∷ p 2 1 ∷ []
+
+-- shared edge: the first two have one side in common
 shared_edge :
-    built (
-    polygon ((p 0 0 ∷ p 1 0 ∷ p 1 1 ∷ p 0 1 ∷ []) ∷ [])
-    ∷ polygon ((p 1 0 ∷ p 2 0 ∷ p 2 1 ∷ p 1 1 ∷ []) ∷ [])
-    ∷ [])
+    built (polygon (first ∷ []) ∷ polygon (second ∷ []) ∷ [])
     ≡ topology
     ((p 1 0 ∷ p 0 0 ∷ p 0 1 ∷ p 1 1 ∷ []) ∷ (p 1 0 ∷ p 1 1 ∷ []) ∷ (p 1 0 ∷ p 2 0 ∷ p 2 1 ∷ p 1 1 ∷ []) ∷ [])
     (polygon ((ahead 1 ∷ reversed 0 ∷ []) ∷ []) ∷ polygon ((ahead 2 ∷ reversed 1 ∷ []) ∷ []) ∷ [])

@@ -16,111 +16,105 @@ pub box_append : (place : Pos → ℤ × ℤ) (b : Option Corners) (xs ys : List
 box_append place b [] ys = refl
 box_append place b (x ∷ xs) ys = box_append place (Some (widened_at b (place x))) xs ys
 
--- a is the least, or the greatest, of what f gives of the positions
-record IsLow (f : Pos → ℤ) (ps : List Pos) (a : ℤ) : Type 0 where
-  below : (p : Pos) → Has p ps → a ≤ℤ f p
-  there : (p : Pos) × Has p ps × (a ≡ f p)
+abbrev AtMost : ℤ → ℤ → Type 0
+AtMost a b = a ≤ℤ b
 
-record IsHigh (f : Pos → ℤ) (ps : List Pos) (a : ℤ) : Type 0 where
-  above : (p : Pos) → Has p ps → f p ≤ℤ a
-  there : (p : Pos) × Has p ps × (a ≡ f p)
+abbrev AtLeast : ℤ → ℤ → Type 0
+AtLeast a b = b ≤ℤ a
 
-same_least : (a b : ℤ) → a ≤ℤ b → b ≤ℤ a → a ≡ b
-same_least a b h k = omega (arith, ints)
+record IsOrder (R : ℤ → ℤ → Type 0) : Type 0 where
+  self : (a : ℤ) → R a a
+  trans : (a b c : ℤ) → R a b → R b c → R a c
+  same : (a b : ℤ) → R a b → R b a → a ≡ b
 
-min_one : (a b : ℤ) → (int_min a b ≡ a) ⊎ (int_min a b ≡ b)
-min_one a b = go (int_lt b a)
+at_most : IsOrder AtMost
+at_most = record {
+  self = λ a. omega (arith, ints);
+  trans = λ a b c h k. omega (arith, ints);
+  same = λ a b h k. omega (arith, ints);
+}
+
+at_least : IsOrder AtLeast
+at_least = record {
+  self = at_most.self;
+  trans = λ a b c h k. at_most.trans c b a k h;
+  same = λ a b h k. at_most.same a b k h;
+}
+
+-- of two numbers the one that comes first in the order is chosen
+record IsChoice (R : ℤ → ℤ → Type 0) (choose : ℤ → ℤ → ℤ) : Type 0 where
+  order : IsOrder R
+  one : (a b : ℤ) → (choose a b ≡ a) ⊎ (choose a b ≡ b)
+  left : (a b : ℤ) → R (choose a b) a
+  right : (a b : ℤ) → R (choose a b) b
+
+lesser : IsChoice AtMost int_min
+lesser = record {
+  order = at_most;
+  one = λ a b. go a b (int_lt b a);
+  left = λ a b. omega (arith, ints, clamps);
+  right = λ a b. omega (arith, ints, clamps);
+}
   where
-    go : (c : Bool) → (cond c b a ≡ a) ⊎ (cond c b a ≡ b)
-    go true = inr refl
-    go false = inl refl
+    go : (a b : ℤ) (c : Bool) → (cond c b a ≡ a) ⊎ (cond c b a ≡ b)
+    go a b true = inr refl
+    go a b false = inl refl
 
-max_one : (a b : ℤ) → (int_max a b ≡ a) ⊎ (int_max a b ≡ b)
-max_one a b = go (int_lt b a)
+greater : IsChoice AtLeast int_max
+greater = record {
+  order = at_least;
+  one = λ a b. go a b (int_lt b a);
+  left = λ a b. omega (arith, ints, clamps);
+  right = λ a b. omega (arith, ints, clamps);
+}
   where
-    go : (c : Bool) → (cond c a b ≡ a) ⊎ (cond c a b ≡ b)
-    go true = inl refl
-    go false = inr refl
+    go : (a b : ℤ) (c : Bool) → (cond c a b ≡ a) ⊎ (cond c a b ≡ b)
+    go a b true = inl refl
+    go a b false = inr refl
 
-min_left : (a b : ℤ) → int_min a b ≤ℤ a
-min_left a b = omega (arith, ints, clamps)
-
-min_right : (a b : ℤ) → int_min a b ≤ℤ b
-min_right a b = omega (arith, ints, clamps)
-
-max_left : (a b : ℤ) → a ≤ℤ int_max a b
-max_left a b = omega (arith, ints, clamps)
-
-max_right : (a b : ℤ) → b ≤ℤ int_max a b
-max_right a b = omega (arith, ints, clamps)
-
-at_most_trans : (a b c : ℤ) → a ≤ℤ b → b ≤ℤ c → a ≤ℤ c
-at_most_trans a b c h k = omega (arith, ints)
-
-at_most_self : (a : ℤ) → a ≤ℤ a
-at_most_self a = omega (arith, ints)
+-- a is the first of what f gives of the positions: the least by AtMost, the greatest by AtLeast
+record IsFirst (R : ℤ → ℤ → Type 0) (f : Pos → ℤ) (ps : List Pos) (a : ℤ) : Type 0 where
+  all : (p : Pos) → Has p ps → R a (f p)
+  there : (p : Pos) × Has p ps × (a ≡ f p)
 
 one_of : (q p : Pos) → Has q (p ∷ []) → q ≡ p
 one_of q p (inl e) = e
 one_of q p (inr h) = absurd h
 
-low_one : (f : Pos → ℤ) (p : Pos) → IsLow f (p ∷ []) (f p)
-low_one f p = record {
-  below = λ q h. subst (λ w. f p ≤ℤ f w) (sym (one_of q p h)) (at_most_self (f p));
-  there = (p, inl refl, refl);
-}
-
-high_one : (f : Pos → ℤ) (p : Pos) → IsHigh f (p ∷ []) (f p)
-high_one f p = record {
-  above = λ q h. subst (λ w. f w ≤ℤ f p) (sym (one_of q p h)) (at_most_self (f p));
-  there = (p, inl refl, refl);
-}
-
-low_more : (f : Pos → ℤ) (ps : List Pos) (a : ℤ) (p : Pos) → IsLow f ps a → IsLow f (ps ++ (p ∷ [])) (int_min a (f p))
-low_more f ps a p h = record {
-  below = λ q k. elim (Has-append q ps (p ∷ []) k) [
-    | inl j ↦ at_most_trans (int_min a (f p)) a (f q) (min_left a (f p)) (h.below q j)
-    | inr j ↦ subst (λ w. int_min a (f p) ≤ℤ f w) (sym (one_of q p j)) (min_right a (f p))
-  ];
-  there = elim (min_one a (f p)) [
-    | inl e ↦ (h.there.0, Has-append_left h.there.0 ps (p ∷ []) h.there.1, e ∙ h.there.2)
-    | inr e ↦ (p, Has-append_right p ps (p ∷ []) (inl refl), e)
-  ];
-}
-
-high_more : (f : Pos → ℤ) (ps : List Pos) (a : ℤ) (p : Pos) → IsHigh f ps a → IsHigh f (ps ++ (p ∷ [])) (int_max a (f p))
-high_more f ps a p h = record {
-  above = λ q k. elim (Has-append q ps (p ∷ []) k) [
-    | inl j ↦ at_most_trans (f q) a (int_max a (f p)) (h.above q j) (max_left a (f p))
-    | inr j ↦ subst (λ w. f w ≤ℤ int_max a (f p)) (sym (one_of q p j)) (max_right a (f p))
-  ];
-  there = elim (max_one a (f p)) [
-    | inl e ↦ (h.there.0, Has-append_left h.there.0 ps (p ∷ []) h.there.1, e ∙ h.there.2)
-    | inr e ↦ (p, Has-append_right p ps (p ∷ []) (inl refl), e)
-  ];
-}
-
 abbrev AllIn : List Pos → List Pos → Type 0
 AllIn ps qs = (p : Pos) → Has p ps → Has p qs
 
-low_same : (f : Pos → ℤ) (ps qs : List Pos) (a b : ℤ) → AllIn ps qs → AllIn qs ps → IsLow f ps a → IsLow f qs b → a ≡ b
-low_same f ps qs a b to from h k =
-    same_least a b
-    (subst (λ w. a ≤ℤ w) (sym k.there.2) (h.below k.there.0 (from k.there.0 k.there.1)))
-    (subst (λ w. b ≤ℤ w) (sym h.there.2) (k.below h.there.0 (to h.there.0 h.there.1)))
+module _ {R : ℤ → ℤ → Type 0} {choose : ℤ → ℤ → ℤ} (of : IsChoice R choose) (f : Pos → ℤ) where
+  first_one : (p : Pos) → IsFirst R f (p ∷ []) (f p)
+  first_one p = record {
+    all = λ q h. subst (λ w. R (f p) (f w)) (sym (one_of q p h)) (of.order.self (f p));
+    there = (p, inl refl, refl);
+  }
 
-high_same : (f : Pos → ℤ) (ps qs : List Pos) (a b : ℤ) → AllIn ps qs → AllIn qs ps → IsHigh f ps a → IsHigh f qs b → a ≡ b
-high_same f ps qs a b to from h k =
-    same_least a b
-    (subst (λ w. w ≤ℤ b) (sym h.there.2) (k.above h.there.0 (to h.there.0 h.there.1)))
-    (subst (λ w. w ≤ℤ a) (sym k.there.2) (h.above k.there.0 (from k.there.0 k.there.1)))
+  first_more : (ps : List Pos) (a : ℤ) (p : Pos) → IsFirst R f ps a → IsFirst R f (ps ++ (p ∷ [])) (choose a (f p))
+  first_more ps a p h = record {
+    all = λ q k. elim (Has-append q ps (p ∷ []) k) [
+      | inl j ↦ of.order.trans (choose a (f p)) a (f q) (of.left a (f p)) (h.all q j)
+      | inr j ↦ subst (λ w. R (choose a (f p)) (f w)) (sym (one_of q p j)) (of.right a (f p))
+    ];
+    there = elim (of.one a (f p)) [
+      | inl e ↦ (h.there.0, Has-append_left h.there.0 ps (p ∷ []) h.there.1, e ∙ h.there.2)
+      | inr e ↦ (p, Has-append_right p ps (p ∷ []) (inl refl), e)
+    ];
+  }
+
+  first_same : (ps qs : List Pos) (a b : ℤ) → AllIn ps qs → AllIn qs ps → IsFirst R f ps a → IsFirst R f qs b → a ≡ b
+  first_same ps qs a b to from h k =
+      of.order.same a b
+      (subst (λ w. R a w) (sym k.there.2) (h.all k.there.0 (from k.there.0 k.there.1)))
+      (subst (λ w. R b w) (sym h.there.2) (k.all h.there.0 (to h.there.0 h.there.1)))
 
 module _ (place : Pos → ℤ × ℤ) where
   record IsAround (ps : List Pos) (b : Corners) : Type 0 where
-    west : IsLow (λ p. (place p).0) ps b.0
-    south : IsLow (λ p. (place p).1) ps b.1
-    east : IsHigh (λ p. (place p).0) ps b.2
-    north : IsHigh (λ p. (place p).1) ps b.3
+    west : IsFirst AtMost (λ p. (place p).0) ps b.0
+    south : IsFirst AtMost (λ p. (place p).1) ps b.1
+    east : IsFirst AtLeast (λ p. (place p).0) ps b.2
+    north : IsFirst AtLeast (λ p. (place p).1) ps b.3
 
   abbrev IsBox : List Pos → Option Corners → Type 0
   IsBox ps None = (p : Pos) → ¬ Has p ps
@@ -128,18 +122,18 @@ module _ (place : Pos → ℤ × ℤ) where
 
   around_one : (p : Pos) → IsAround (p ∷ []) (widened_at None (place p))
   around_one p = record {
-    west = low_one (λ q. (place q).0) p;
-    south = low_one (λ q. (place q).1) p;
-    east = high_one (λ q. (place q).0) p;
-    north = high_one (λ q. (place q).1) p;
+    west = first_one lesser (λ q. (place q).0) p;
+    south = first_one lesser (λ q. (place q).1) p;
+    east = first_one greater (λ q. (place q).0) p;
+    north = first_one greater (λ q. (place q).1) p;
   }
 
   around_more : (ps : List Pos) (b : Corners) (p : Pos) → IsAround ps b → IsAround (ps ++ (p ∷ [])) (widened_at (Some b) (place p))
   around_more ps b p h = record {
-    west = low_more (λ q. (place q).0) ps b.0 p h.west;
-    south = low_more (λ q. (place q).1) ps b.1 p h.south;
-    east = high_more (λ q. (place q).0) ps b.2 p h.east;
-    north = high_more (λ q. (place q).1) ps b.3 p h.north;
+    west = first_more lesser (λ q. (place q).0) ps b.0 p h.west;
+    south = first_more lesser (λ q. (place q).1) ps b.1 p h.south;
+    east = first_more greater (λ q. (place q).0) ps b.2 p h.east;
+    north = first_more greater (λ q. (place q).1) ps b.3 p h.north;
   }
 
   none_left : (ps : List Pos) → ((p : Pos) → ¬ Has p ps) → ps ≡ []
@@ -161,10 +155,10 @@ module _ (place : Pos → ℤ × ℤ) where
   one_box ps qs None (Some c) to from h k = absurd (h k.west.there.0 (from k.west.there.0 k.west.there.1))
   one_box ps qs (Some b) None to from h k = absurd (k h.west.there.0 (to h.west.there.0 h.west.there.1))
   one_box ps qs (Some b) (Some c) to from h k =
-      let w : b.0 ≡ c.0 = low_same (λ q. (place q).0) ps qs b.0 c.0 to from h.west k.west in
-      let s : b.1 ≡ c.1 = low_same (λ q. (place q).1) ps qs b.1 c.1 to from h.south k.south in
-      let e : b.2 ≡ c.2 = high_same (λ q. (place q).0) ps qs b.2 c.2 to from h.east k.east in
-      let n : b.3 ≡ c.3 = high_same (λ q. (place q).1) ps qs b.3 c.3 to from h.north k.north in
+      let w : b.0 ≡ c.0 = first_same lesser (λ q. (place q).0) ps qs b.0 c.0 to from h.west k.west in
+      let s : b.1 ≡ c.1 = first_same lesser (λ q. (place q).1) ps qs b.1 c.1 to from h.south k.south in
+      let e : b.2 ≡ c.2 = first_same greater (λ q. (place q).0) ps qs b.2 c.2 to from h.east k.east in
+      let n : b.3 ≡ c.3 = first_same greater (λ q. (place q).1) ps qs b.3 c.3 to from h.north k.north in
       λ i. Some (w i, s i, e i, n i)
 
 -- the same positions, the same box
@@ -198,15 +192,10 @@ same_order s h a b k = sum_order (a *ℤ s.scale) (b *ℤ s.scale) s.translate (
     not_negative : (n : ℤ) → pos 1 ≤ℤ n → pos 0 ≤ℤ n
     not_negative n h = omega (arith, ints)
 
-low_absolute : (f : Pos → ℤ) (s : Scaling) → IsScaling s → (ps : List Pos) (a : ℤ) → IsLow f ps a → IsLow (λ p. absolute s (f p)) ps (absolute s a)
-low_absolute f s t ps a h = record {
-  below = λ p k. same_order s t a (f p) (h.below p k);
-  there = (h.there.0, h.there.1, ap (absolute s) h.there.2);
-}
-
-high_absolute : (f : Pos → ℤ) (s : Scaling) → IsScaling s → (ps : List Pos) (a : ℤ) → IsHigh f ps a → IsHigh (λ p. absolute s (f p)) ps (absolute s a)
-high_absolute f s t ps a h = record {
-  above = λ p k. same_order s t (f p) a (h.above p k);
+first_absolute : {R : ℤ → ℤ → Type 0} (f : Pos → ℤ) (s : Scaling) → ((a b : ℤ) → R a b → R (absolute s a) (absolute s b)) → (ps : List Pos) (a : ℤ) →
+    IsFirst R f ps a → IsFirst R (λ p. absolute s (f p)) ps (absolute s a)
+first_absolute f s keeps ps a h = record {
+  all = λ p k. keeps a (f p) (h.all p k);
   there = (h.there.0, h.there.1, ap (absolute s) h.there.2);
 }
 
@@ -216,10 +205,10 @@ box_of_numbers g t ps b e =
     let h : IsAround numbers_of ps b = numbers_around ps b e in
     one_box (absolute_place g) ps ps (Some (absolute_corners g b)) (box_of g ps) (λ p k. k) (λ p k. k)
     (record {
-      west = low_absolute x_of g.x t.x ps b.0 h.west;
-      south = low_absolute y_of g.y t.y ps b.1 h.south;
-      east = high_absolute x_of g.x t.x ps b.2 h.east;
-      north = high_absolute y_of g.y t.y ps b.3 h.north;
+      west = first_absolute x_of g.x (same_order g.x t.x) ps b.0 h.west;
+      south = first_absolute y_of g.y (same_order g.y t.y) ps b.1 h.south;
+      east = first_absolute x_of g.x (λ a b. same_order g.x t.x b a) ps b.2 h.east;
+      north = first_absolute y_of g.y (λ a b. same_order g.y t.y b a) ps b.3 h.north;
     })
     (box_is (absolute_place g) [] ps None (λ p k. k))
 

@@ -55,19 +55,17 @@ Has-maps f (l ∷ ls) x h =
     ]
 
 module _ (m : Layers) (i : List Pos) (index : IsIndexOf i (geometry_of m)) (ps : List Piece) (all : ps ≡ gathered (form_pieces i) (forms_of (seen m))) where
+  of_lists : (lists_in : Shape Pos → List (List Pos)) (cut : List Pos → List Piece) → ((f : Shape Pos) (p : Piece) → Has p (gathered cut (lists_in f)) → Has p (form_pieces i f)) →
+      (l : List Pos) → Has l (gathered lists_in (forms_of (seen m))) → (p : Piece) → Has p (cut l) → Has p ps
+  of_lists lists_in cut among l h p k =
+      let (f, there, on) = gathered_from lists_in (forms_of (seen m)) l h in
+      subst (λ w. Has p w) (sym all) (Has-gathered (form_pieces i) (forms_of (seen m)) f p there (among f p (Has-gathered cut (lists_in f) l p on k)))
+
   of_lines : (l : List Pos) → IsLineOf (geometry_of m) l → (p : Piece) → Has p (line_pieces i l) → Has p ps
-  of_lines l h p k =
-      let (f, there, on) = gathered_from lines_in (forms_of (seen m)) l h in
-      subst (λ w. Has p w) (sym all)
-      (Has-gathered (form_pieces i) (forms_of (seen m)) f p there
-      (Has-append_left p (gathered (line_pieces i) (lines_in f)) (gathered (ring_pieces i) (rings_in f)) (Has-gathered (line_pieces i) (lines_in f) l p on k)))
+  of_lines = of_lists lines_in (line_pieces i) (λ f p. Has-append_left p (gathered (line_pieces i) (lines_in f)) (gathered (ring_pieces i) (rings_in f)))
 
   of_rings : (r : List Pos) → IsRingOf (geometry_of m) r → (p : Piece) → Has p (ring_pieces i r) → Has p ps
-  of_rings r h p k =
-      let (f, there, on) = gathered_from rings_in (forms_of (seen m)) r h in
-      subst (λ w. Has p w) (sym all)
-      (Has-gathered (form_pieces i) (forms_of (seen m)) f p there
-      (Has-append_right p (gathered (line_pieces i) (lines_in f)) (gathered (ring_pieces i) (rings_in f)) (Has-gathered (ring_pieces i) (rings_in f) r p on k)))
+  of_rings = of_lists rings_in (ring_pieces i) (λ f p. Has-append_right p (gathered (line_pieces i) (lines_in f)) (gathered (ring_pieces i) (rings_in f)))
 
   from : (p : Piece) → Has p ps →
       ((l : List Pos) × IsLineOf (geometry_of m) l × Has p (line_pieces i l)) ⊎ ((r : List Pos) × IsRingOf (geometry_of m) r × Has p (ring_pieces i r))

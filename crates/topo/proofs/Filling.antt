@@ -1,18 +1,14 @@
 -- A map that is filled layer by layer.
-use Rattle.std.proofs.Common.{◌≡◌, ℕ, Bool, true, false, cond, ◌||◌, T, List, [], ◌∷◌, ◌++◌, inl, refl, sym, ap, ◌∙◌, subst, append_assoc, append-nil, IsTrue, Option, Some, None}
-use Rattle.std.specs.Prelude.{unwrap_or, is_some}
-use Rattle.std.specs.List.{list_any}
-use Rattle.std.specs.Cmp.{tied_itself}
+use Rattle.std.proofs.Common.{◌≡◌, ℕ, cond, T, List, [], ◌∷◌, ◌++◌, inl, refl, sym, ap, ◌∙◌, subst, append_assoc, append-nil, Some, None}
+use Rattle.std.specs.Prelude.{unwrap_or}
 use Rattle.std.specs.Cmp.Lexicographic.{slice_cmp, nat_list_cmp_total}
-use Rattle.std.specs.Ordering.{is_eq, nat_cmp, eq_by_cmp}
+use Rattle.std.specs.Ordering.{nat_cmp}
 use Rattle.std.specs.FinMap as map
 use Rattle.theory.proofs.Lists.{Has-append_right}
 use Rattle.shapes.specs.Maps.{Layers, Features, with_features}
-use Rattle.shapes.specs.Order.{feature_cmp}
 use Rattle.shapes.specs.OrderLaws.{feature_cmp_total, same_feature, same_text}
 use Rattle.shapes.specs.Sets as set
 use Rattle.shapes.specs.SetLaws.{contains-from_list, contains-items, same_set}
-use Rattle.shapes.specs.declared.feature.Feature.{Feature}
 use Rattle.shapes.proofs.UnionLemmas.{set_union_empty}
 use Rattle.shapes.proofs.Entries.{above, apart, left, right}
 

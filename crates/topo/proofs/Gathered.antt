@@ -1,6 +1,6 @@
 -- What is gathered from lists of lists.
 use Rattle.std.proofs.Common.{◌≡◌, List, [], ◌∷◌, ◌++◌, refl, sym, ap, ◌∙◌, append_assoc}
-use Rattle.theory.specs.Lists.{gathered, joined}
+use Rattle.theory.specs.Lists.{gathered}
 
 pub gathered_join : {A B : Type 0} (f : A → List B) (a b : List A) → gathered f (a ++ b) ≡ gathered f a ++ gathered f b
 gathered_join f [] b = refl

@@ -1,4 +1,5 @@
 pub mod Walks
+pub mod Runs
 pub mod Boxes
 pub mod Positions
 pub mod Sound

@@ -3,11 +3,10 @@ use Rattle.std.proofs.Common.{◌≡◌, List, ◌++◌, refl, sym, ◌∙◌, s
 use Rattle.grid.specs.Place.{Transform}
 use Rattle.shapes.specs.Maps.{Layers}
 use Rattle.chains.specs.Arcs.{Arcs}
-use Rattle.chains.specs.Seen.{seen, geometry_of}
-use Rattle.theory.specs.Geometry.{IsSound}
+use Rattle.chains.specs.Seen.{seen}
 use Rattle.theory.specs.Lists.{gathered, joined}
 use Rattle.theory.specs.Topology.{positions_of}
-use Rattle.topo.specs.Box.{box_of, box_from}
+use Rattle.topo.specs.Box.{box_of}
 use Rattle.topo.specs.Kept.{kept_box}
 use Rattle.topo.specs.OfMap.{ArePartsOf, IsOf, IsOfSomeMap}
 use Rattle.topo.specs.Parts.{LayerParts, TopologyParts}

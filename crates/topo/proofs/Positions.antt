@@ -1,18 +1,15 @@
 -- The positions of a map's features are those of its arcs and of its points.
-use Rattle.std.proofs.Common.{◌≡◌, ℕ, ◌≤◌, List, [], ◌∷◌, ◌++◌, ◌⊎◌, inl, inr, refl, sym, ap, ◌∙◌, subst, length, arith, append_assoc}
+use Rattle.std.proofs.Common.{◌≡◌, ◌≤◌, List, [], ◌∷◌, ◌++◌, inl, inr, refl, sym, ap, ◌∙◌, subst, length, arith, append_assoc}
 use Rattle.std.specs.Prelude.{map as map_list}
 use Rattle.grid.specs.declared.pos.Pos.{Pos}
 use Rattle.lines.specs.Turned.{position_cmp}
 use Rattle.shapes.specs.Maps.{Layers}
 use Rattle.chains.specs.Arcs.{Arcs}
 use Rattle.chains.specs.Seen.{Info, seen, geometry_of}
-use Rattle.theory.specs.ArcNumbers.{ArcRef}
-use Rattle.theory.specs.Arcs.{IsArcOf, EachSegmentOnce}
 use Rattle.theory.specs.Geometry.{Geometry, IsSound, IsChainOf, SegmentOf, JunctionOf}
 use Rattle.theory.specs.LinesAndRings.{around}
 use Rattle.theory.specs.Lists.{Beside, Has, Pairwise, gathered, joined}
-use Rattle.theory.specs.Topology as topology
-use Rattle.theory.specs.Topology.{Form, Shape, Item, Layer, Map, IsFormOf, IsGeometryOf, IsLayerOf, forms_of, lines_in, rings_in, points_in, positions_of, null, point, points, line, lines, polygon, polygons}
+use Rattle.theory.specs.Topology.{Form, Shape, Item, Map, IsFormOf, IsGeometryOf, IsLayerOf, forms_of, lines_in, rings_in, points_in, positions_of, null, point, points, line, lines, polygon, polygons}
 use Rattle.theory.proofs.Lists.{Beside-left, Has-append, Has-append_left, Has-append_right}
 use Rattle.theory.proofs.ListsOfLists.{Has-gathered, gathered_from, Has-joined, get_has}
 use Rattle.topo.specs.OfMap.{ArePartsOf, body_of, item_of, layer_of}
@@ -117,19 +114,20 @@ module _ (m : Layers) (t : Arcs) (ls : List LayerParts) (parts : ArePartsOf m t 
       Has-append_left u (joined t.arcs) (gathered layer_points ls)
       (Has-joined t.arcs a.1 u (get_has t.arcs a.0 a.1 a.2) (Beside-left u v a.1 a.3))
 
+  -- each vertex of these lists is on a segment
+  from_list : (lists_in : Shape Pos → List (List Pos)) (p : Pos) →
+      ((l : List Pos) → Has l (gathered lists_in (forms_of (seen m))) → Has p l → (v : Pos) × SegmentOf (geometry_of m) p v) →
+      (f : Shape Pos) → Has f (forms_of (seen m)) → Has p (joined (lists_in f)) → Has p (joined t.arcs ++ gathered layer_points ls)
+  from_list lists_in p beside f h k =
+      let (l, there, on) = joined_from (lists_in f) p k in
+      let s = beside l (Has-gathered lists_in (forms_of (seen m)) f l h there) on in
+      on_arc p s.0 s.1
+
   from_line : (p : Pos) (f : Shape Pos) → Has f (forms_of (seen m)) → Has p (joined (lines_in f)) → Has p (joined t.arcs ++ gathered layer_points ls)
-  from_line p f h k =
-      let (l, there, on) = joined_from (lines_in f) p k in
-      let is = Has-gathered lines_in (forms_of (seen m)) f l h there in
-      let b = has_beside p l (sound.lines l is).long on in
-      on_arc p b.0 (inl (l, is, b.1))
+  from_line p = from_list lines_in p (λ l is on. let b = has_beside p l (sound.lines l is).long on in (b.0, inl (l, is, b.1)))
 
   from_ring : (p : Pos) (f : Shape Pos) → Has f (forms_of (seen m)) → Has p (joined (rings_in f)) → Has p (joined t.arcs ++ gathered layer_points ls)
-  from_ring p f h k =
-      let (r, there, on) = joined_from (rings_in f) p k in
-      let is = Has-gathered rings_in (forms_of (seen m)) f r h there in
-      let b = around_beside p r (sound.rings r is).long on in
-      on_arc p b.0 (inr (r, is, b.1))
+  from_ring p = from_list rings_in p (λ r is on. let b = around_beside p r (sound.rings r is).long on in (b.0, inr (r, is, b.1)))
 
   pub positions_kept : (p : Pos) → Has p (positions_of (seen m)) → Has p (joined t.arcs ++ gathered layer_points ls)
   positions_kept p h =

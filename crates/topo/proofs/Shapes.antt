@@ -16,24 +16,20 @@ module _ (arcs : List (List Pos)) where
   of_line (of.Line l) used h = (l, h)
   of_line s used h = absurd h
 
-  pub line_within : (s : shapes.Shape) (b : bodies.Body) (used u : List ArcRef) → IsShapeOf arcs s b → b ≡ to.Line used → u ≡ used →
-      (l : the_line.Line) × IsLineOf arcs l u
-  line_within s b used u h e f =
-      let (l, k) = of_line s used (subst (IsShapeOf arcs s) e h) in (l, subst (IsLineOf arcs l) (sym f) k)
+  pub line_within : (s : shapes.Shape) (b : bodies.Body) (used : List ArcRef) → IsShapeOf arcs s b → b ≡ to.Line used → (l : the_line.Line) × IsLineOf arcs l used
+  line_within s b used h e = of_line s used (subst (IsShapeOf arcs s) e h)
 
   of_polygons : (s : shapes.Shape) (lists : List (List (List ArcRef))) → IsShapeOf arcs s (to.MultiPolygon lists) →
       (ps : List (List the_ring.Ring)) × (s ≡ of.MultiPolygon ps) × Pairwise (Pairwise (IsRingOf arcs)) ps lists
   of_polygons (of.MultiPolygon ps) lists h = (ps, refl, h)
   of_polygons s lists h = absurd h
 
-  pub polygons_within : (s : shapes.Shape) (b : bodies.Body) (lists us : List (List (List ArcRef))) → IsShapeOf arcs s b → b ≡ to.MultiPolygon lists → us ≡ lists →
-      (ps : List (List the_ring.Ring)) × Pairwise (Pairwise (IsRingOf arcs)) ps us
-  polygons_within s b lists us h e f =
-      let (ps, _, k) = of_polygons s lists (subst (IsShapeOf arcs s) e h) in (ps, subst (Pairwise (Pairwise (IsRingOf arcs)) ps) (sym f) k)
+  pub polygons_within : (s : shapes.Shape) (b : bodies.Body) (lists : List (List (List ArcRef))) → IsShapeOf arcs s b → b ≡ to.MultiPolygon lists →
+      (ps : List (List the_ring.Ring)) × Pairwise (Pairwise (IsRingOf arcs)) ps lists
+  polygons_within s b lists h e = let (ps, _, k) = of_polygons s lists (subst (IsShapeOf arcs s) e h) in (ps, k)
 
-  pub polygons_made : (s : shapes.Shape) (b : bodies.Body) (lists us : List (List (List ArcRef))) (made : List (List the_ring.Ring)) →
-      IsShapeOf arcs s b → b ≡ to.MultiPolygon lists → us ≡ lists →
-      ((ps : List (List the_ring.Ring)) → Pairwise (Pairwise (IsRingOf arcs)) ps us → made ≡ ps) → of.MultiPolygon made ≡ s
-  polygons_made s b lists us made h e f all =
+  pub polygons_made : (s : shapes.Shape) (b : bodies.Body) (lists : List (List (List ArcRef))) (made : List (List the_ring.Ring)) → IsShapeOf arcs s b → b ≡ to.MultiPolygon lists →
+      ((ps : List (List the_ring.Ring)) → Pairwise (Pairwise (IsRingOf arcs)) ps lists → made ≡ ps) → of.MultiPolygon made ≡ s
+  polygons_made s b lists made h e all =
       let (ps, is, k) = of_polygons s lists (subst (IsShapeOf arcs s) e h) in
-      ap of.MultiPolygon (all ps (subst (Pairwise (Pairwise (IsRingOf arcs)) ps) (sym f) k)) ∙ sym is
+      ap of.MultiPolygon (all ps k) ∙ sym is

@@ -12,7 +12,6 @@ use Rattle.theory.specs.Lists.{Has, gathered, joined}
 use Rattle.theory.specs.Topology.{Shape, lines_in, rings_in, forms_of}
 use Rattle.theory.proofs.ListsOfLists.{gathered_from, map_has}
 use Rattle.theory.proofs.Lists.{Has-append}
-use Rattle.shapes.specs.Maps.{Features}
 use Rattle.shapes.specs.Sets as set
 use Rattle.std.specs.FinMap as map
 

@@ -1,5 +1,5 @@
 -- The features that the geometries of a topology stitch to.
-use Rattle.std.proofs.Common.{◌≡◌, ℕ, List, [], ◌∷◌, refl, sym, ap, ◌∙◌, subst, Option, Some, None}
+use Rattle.std.proofs.Common.{◌≡◌, ℕ, List, [], ◌∷◌, refl, sym, ap, ◌∙◌, subst, None}
 use Rattle.std.specs.Prelude.{map as map_list}
 use Rattle.std.specs.FinMap as map
 use Rattle.grid.specs.declared.pos.Pos.{Pos}

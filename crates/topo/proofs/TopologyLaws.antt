@@ -1,5 +1,5 @@
 -- At most one topology is that of a map on a grid, and the computed one is.
-use Rattle.std.proofs.Common.{◌≡◌, sym, subst}
+use Rattle.std.proofs.Common.{◌≡◌}
 use Rattle.grid.specs.Place.{Transform}
 use Rattle.lines.specs.Turned.{position_cmp}
 use Rattle.shapes.specs.Maps.{Layers}

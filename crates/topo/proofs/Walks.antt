@@ -1,6 +1,6 @@
 -- Walking from the back, and what a list of arcs that stitches is walked to.
-use Rattle.std.proofs.Common.{◌≡◌, List, [], ◌∷◌, ◌++◌, drop, refl, sym, ap, ◌∙◌, subst, append_assoc, Some, unwrap_or}
-use Rattle.theory.specs.ArcNumbers.{ArcRef, along, StitchFrom, StitchTo}
+use Rattle.std.proofs.Common.{◌≡◌, List, [], ◌∷◌, ◌++◌, drop, refl, sym, ap, ◌∙◌, append_assoc, unwrap_or}
+use Rattle.theory.specs.ArcNumbers.{ArcRef, StitchFrom, StitchTo}
 use Rattle.theory.specs.Lists.{last_of}
 use Rattle.grid.specs.declared.pos.Pos.{Pos}
 use Rattle.topo.specs.Walked.{run_of, behind, walked}

@@ -33,16 +33,13 @@ feature_pieces i f = form_pieces i (form_of f.shape)
 abbrev pub layer_pieces : List Pos → FeatureLayer → List Piece
 layer_pieces i l = gathered (feature_pieces i) (set.items (set_of l.features))
 
--- how many pieces a line has, and a ring, as a list of one number
-abbrev pub line_count : List Pos → List Pos → List ℕ
-line_count i l = length (line_pieces i l) ∷ []
-
-abbrev pub ring_count : List Pos → List Pos → List ℕ
-ring_count i r = length (ring_pieces i r) ∷ []
+-- how many pieces a line or ring has by this cut, as a list of one number
+abbrev pub count_of : (List Pos → List Piece) → List Pos → List ℕ
+count_of cut l = length (cut l) ∷ []
 
 -- how many pieces each line and each ring of a form has
 abbrev pub form_counts : List Pos → Shape Pos → List ℕ
-form_counts i f = gathered (line_count i) (lines_in f) ++ gathered (ring_count i) (rings_in f)
+form_counts i f = gathered (count_of (line_pieces i)) (lines_in f) ++ gathered (count_of (ring_pieces i)) (rings_in f)
 
 abbrev pub feature_counts : List Pos → Feature → List ℕ
 feature_counts i f = form_counts i (form_of f.shape)

@@ -9,8 +9,9 @@ use Rattle.lines.specs.Reading.{ring_of}
 use Rattle.lines.specs.Turned.{position_cmp, list_cmp}
 use Rattle.shapes.specs.Order.{id_cmp}
 use Rattle.theory.specs.ArcNumbers.{ArcRef}
-use Rattle.theory.specs.Topology.{Shape, null, point, points, line, lines, polygon, polygons}
+use Rattle.theory.specs.Topology.{Form, Shape, null, point, points, line, lines, polygon, polygons}
 use Rattle.topo.specs.Features.{HasFeature}
+use Rattle.topo.specs.OfMap.{body_of}
 use Rattle.topo.specs.Parts.{LayerParts}
 use Rattle.topo.specs.Walked.{walked}
 use Rattle.topo.specs.declared.geom.Body.{Body}
@@ -32,7 +33,7 @@ body_form arcs (Polygon lists) = polygon (map_list (vertices_used arcs) lists)
 body_form arcs (MultiPolygon ps) = polygons (map_list (map_list (vertices_used arcs)) ps)
 
 -- the number of a form's kind, in the order of kinds
-abbrev pub form_rank : Shape Pos → ℕ
+abbrev pub form_rank : {V L R : Type 0} → Form V L R → ℕ
 form_rank null = 0
 form_rank (point p) = 1
 form_rank (points ps) = 2
@@ -41,15 +42,9 @@ form_rank (lines ls) = 4
 form_rank (polygon rs) = 5
 form_rank (polygons ps) = 6
 
--- the number of a body's kind, in the order of kinds
+-- the number of a body's kind
 abbrev pub body_rank : Body → ℕ
-body_rank Null = 0
-body_rank (Point p) = 1
-body_rank (MultiPoint ps) = 2
-body_rank (Line used) = 3
-body_rank (MultiLine lists) = 4
-body_rank (Polygon lists) = 5
-body_rank (MultiPolygon ps) = 6
+body_rank b = form_rank (body_of b)
 
 -- by kind, then by the lists of positions
 abbrev pub form_cmp : Shape Pos → Shape Pos → Ordering

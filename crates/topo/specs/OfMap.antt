@@ -1,5 +1,5 @@
 -- The topology of a feature map on a grid (TopoJSON section 2.1).
-use Rattle.std.specs.Prelude.{◌≡◌, List, map as map_list}
+use Rattle.std.specs.Prelude.{List, map as map_list}
 use Rattle.grid.specs.Place.{Transform}
 use Rattle.grid.specs.declared.pos.Pos.{Pos}
 use Rattle.lines.specs.Turned.{position_cmp}
@@ -8,7 +8,6 @@ use Rattle.shapes.specs.Parts.{spelled_text}
 use Rattle.chains.specs.Arcs.{Arcs}
 use Rattle.chains.specs.Seen.{Info, seen, geometry_of}
 use Rattle.chains.specs.Table.{IsTableOf}
-use Rattle.theory.specs.Arcs.{EachSegmentOnce}
 use Rattle.theory.specs.Geometry.{JunctionOf}
 use Rattle.theory.specs.Lists.{Pairwise}
 use Rattle.theory.specs.Topology as topology

@@ -1,12 +1,14 @@
 //! The lines and rings of a map, each cut once: all pieces, and how many each line and ring has.
-ghost use Rattle.std.specs.Prelude.{◌≡◌, ◌++◌, ◌∷◌, [], IfOk, OnOk, length, map as map_list};
+ghost use Rattle.std.specs.Prelude.{◌≡◌, ◌++◌, IfOk, List, OnOk, map as map_list};
+ghost use Rattle.grid.specs.declared.pos.Pos.{Pos};
 ghost use Rattle.shapes.specs.Maps.{set_of};
 ghost use Rattle.shapes.specs.Sets as set;
 ghost use Rattle.chains.specs.Pieces.{line_pieces, ring_pieces};
+ghost use Rattle.chains.specs.declared.cutting.Piece as the_piece;
 ghost use Rattle.chains.specs.Seen.{line_of, ring_of, form_of, seen};
 ghost use Rattle.theory.specs.Lists.{gathered, joined};
 ghost use Rattle.theory.specs.Topology.{forms_of};
-ghost use Rattle.topo.specs.Building.{form_pieces, feature_pieces, line_count, ring_count, form_counts, feature_counts};
+ghost use Rattle.topo.specs.Building.{count_of, form_pieces, feature_pieces, form_counts, feature_counts};
 ghost use Rattle.topo.specs.Cuts.{AreCutsOf};
 
 use chains::cutting::{Piece, cut_line, cut_ring};
@@ -18,8 +20,40 @@ use lines::ring::Ring;
 use shapes::feature::Feature;
 use shapes::feature_map::FeatureMap;
 use shapes::shape::Shape;
-use std::alloc::{AllocError, Global};
+use std::alloc::Global;
 use std::collections::BTreeSet;
+
+/// What is cut at junctions: a line or a ring.
+trait Cut {
+    // The positions that the map has of it.
+    ghost positions: { Self → List Pos };
+
+    // The pieces of such positions, cut at these junctions.
+    ghost pieces: { List Pos → List Pos → List the_piece.Piece };
+
+    fn cut(&self, alloc: Global, index: &VisitIndex) -> Result<Vec<Piece>, OutOfMemory>
+        ensures { IfOk result (λ v. v.items ≡ pieces index.now (positions self.now)) };
+}
+
+impl Cut for Line {
+    ghost positions = { line_of };
+
+    ghost pieces = { line_pieces };
+
+    fn cut(&self, alloc: Global, index: &VisitIndex) -> Result<Vec<Piece>, OutOfMemory> {
+        cut_line(alloc, index, self)
+    }
+}
+
+impl Cut for Ring {
+    ghost positions = { ring_of };
+
+    ghost pieces = { ring_pieces };
+
+    fn cut(&self, alloc: Global, index: &VisitIndex) -> Result<Vec<Piece>, OutOfMemory> {
+        cut_ring(alloc, index, self)
+    }
+}
 
 /// The pieces of lines and rings, one after the other, and how many pieces each line and ring has.
 #[derive(Drop)]
@@ -30,68 +64,32 @@ pub(crate) struct Cuts {
 
 impl Cuts {
     /// Puts the pieces of a line or ring last.
-    fn add(&mut self, cut: Vec<Piece>) -> Result<(), AllocError>
-        ensures pieces { OnOk result (self.new.pieces.items ≡ self.old.pieces.items ++ cut.items) }
-        ensures counts { OnOk result (self.new.counts.items ≡ self.old.counts.items ++ length cut.items ∷ []) }
-    {
-        let mut added = cut;
-        self.counts.push(added.len())?;
-        self.pieces.append(&mut added)?;
-        Ok(())
-    }
-
-    fn add_line(
+    fn add<C: Cut>(
         &mut self,
         alloc: Global,
         index: &VisitIndex,
-        line: &Line,
+        item: &C,
     ) -> Result<(), OutOfMemory>
-        ensures pieces { OnOk result (self.new.pieces.items ≡ self.old.pieces.items ++ line_pieces index.now (line_of line.now)) }
-        ensures counts { OnOk result (self.new.counts.items ≡ self.old.counts.items ++ line_count index.now (line_of line.now)) }
+        ensures pieces { OnOk result (self.new.pieces.items ≡ self.old.pieces.items ++ C.pieces index.now (C.positions item.now)) }
+        ensures counts { OnOk result (self.new.counts.items ≡ self.old.counts.items ++ count_of (C.pieces index.now) (C.positions item.now)) }
     {
-        self.add(cut_line(alloc, index, line)?)?;
+        let mut cut = item.cut(alloc, index)?;
+        self.counts.push(cut.len())?;
+        self.pieces.append(&mut cut)?;
         Ok(())
     }
 
-    fn add_ring(
+    fn add_each<C: Cut>(
         &mut self,
         alloc: Global,
         index: &VisitIndex,
-        ring: &Ring,
+        items: &[C],
     ) -> Result<(), OutOfMemory>
-        ensures pieces { OnOk result (self.new.pieces.items ≡ self.old.pieces.items ++ ring_pieces index.now (ring_of ring.now)) }
-        ensures counts { OnOk result (self.new.counts.items ≡ self.old.counts.items ++ ring_count index.now (ring_of ring.now)) }
+        ensures pieces { OnOk result (self.new.pieces.items ≡ self.old.pieces.items ++ gathered (C.pieces index.now) (map_list C.positions items.now)) }
+        ensures counts { OnOk result (self.new.counts.items ≡ self.old.counts.items ++ gathered (count_of (C.pieces index.now)) (map_list C.positions items.now)) }
     {
-        self.add(cut_ring(alloc, index, ring)?)?;
-        Ok(())
-    }
-
-    fn add_lines(
-        &mut self,
-        alloc: Global,
-        index: &VisitIndex,
-        lines: &[Line],
-    ) -> Result<(), OutOfMemory>
-        ensures pieces { OnOk result (self.new.pieces.items ≡ self.old.pieces.items ++ gathered (line_pieces index.now) (map_list line_of lines.now)) }
-        ensures counts { OnOk result (self.new.counts.items ≡ self.old.counts.items ++ gathered (line_count index.now) (map_list line_of lines.now)) }
-    {
-        for line in lines {
-            self.add_line(alloc, index, line)?;
-        }
-        Ok(())
-    }
-
-    fn add_rings(
-        &mut self,
-        alloc: Global,
-        index: &VisitIndex,
-        rings: &[Ring],
-    ) -> Result<(), OutOfMemory>
-        ensures pieces { OnOk result (self.new.pieces.items ≡ self.old.pieces.items ++ gathered (ring_pieces index.now) (map_list ring_of rings.now)) }
-        ensures counts { OnOk result (self.new.counts.items ≡ self.old.counts.items ++ gathered (ring_count index.now) (map_list ring_of rings.now)) }
-    {
-        for ring in rings {
-            self.add_ring(alloc, index, ring)?;
+        for item in items {
+            self.add(alloc, index, item)?;
         }
         Ok(())
     }
@@ -104,10 +102,10 @@ impl Cuts {
         polygons: &[Items<Ring>],
     ) -> Result<(), OutOfMemory>
         ensures pieces { OnOk result (self.new.pieces.items ≡ self.old.pieces.items ++ gathered (ring_pieces index.now) (joined (map_list (map_list ring_of) polygons.now))) }
-        ensures counts { OnOk result (self.new.counts.items ≡ self.old.counts.items ++ gathered (ring_count index.now) (joined (map_list (map_list ring_of) polygons.now))) }
+        ensures counts { OnOk result (self.new.counts.items ≡ self.old.counts.items ++ gathered (count_of (ring_pieces index.now)) (joined (map_list (map_list ring_of) polygons.now))) }
     {
         for rings in polygons {
-            self.add_rings(alloc, index, rings.as_slice())?;
+            self.add_each(alloc, index, rings.as_slice())?;
         }
         Ok(())
     }
@@ -123,9 +121,9 @@ impl Cuts {
     {
         match shape {
             Shape::Null | Shape::Point(_) | Shape::MultiPoint(_) => Ok(()),
-            Shape::Line(line) => self.add_line(alloc, index, line),
-            Shape::MultiLine(lines) => self.add_lines(alloc, index, lines.as_slice()),
-            Shape::Polygon(rings) => self.add_rings(alloc, index, rings.as_slice()),
+            Shape::Line(line) => self.add(alloc, index, line),
+            Shape::MultiLine(lines) => self.add_each(alloc, index, lines.as_slice()),
+            Shape::Polygon(rings) => self.add_each(alloc, index, rings.as_slice()),
             Shape::MultiPolygon(polygons) => self.add_polygons(alloc, index, polygons.as_slice()),
         }
     }

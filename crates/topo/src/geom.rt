@@ -5,6 +5,7 @@ use chains::table::ArcRef;
 use faults::OutOfMemory;
 use grid::pos::Pos;
 use lines::items::Items;
+use shapes::copying::CopyIn;
 use shapes::props::Props;
 use shapes::shape::Id;
 use std::alloc::Global;
@@ -50,6 +51,12 @@ impl Geom {
         let props = self.props.copy(alloc)?;
         let body = self.body.copy(alloc)?;
         Ok(Geom { id, props, body })
+    }
+}
+
+impl CopyIn for Geom {
+    fn copy_in(&self, alloc: Global) -> Result<Geom, OutOfMemory> {
+        self.copy(alloc)
     }
 }
 

@@ -8,11 +8,13 @@ mod cuts;
 mod expanding;
 pub mod geom;
 pub mod order;
+pub mod run;
 pub mod stitching;
 pub mod topology;
 pub mod walk;
 
 pub use geom::{Body, Geom};
 pub use order::{kind_order, order_of};
+pub use run::Run;
 pub use topology::{Layer, Topology};
 pub use walk::Walk;

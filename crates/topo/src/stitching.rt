@@ -1,7 +1,6 @@
 //! Features put together from arcs.
 ghost use Rattle.std.specs.Prelude.{◌≡◌, IfOk, List};
-ghost use Rattle.lines.specs.declared.line.Line as the_line;
-ghost use Rattle.lines.specs.declared.ring.Ring as the_ring;
+ghost use Rattle.grid.specs.declared.pos.Pos.{Pos as place};
 ghost use Rattle.shapes.specs.declared.feature.Feature as features;
 ghost use Rattle.shapes.specs.declared.shape.Shape as shapes;
 ghost use Rattle.theory.specs.Lists.{Pairwise};
@@ -21,7 +20,11 @@ use shapes::shape::Shape;
 use std::alloc::Global;
 
 /// The positions of a list of arcs, in a vector of their own.
-fn stitched(alloc: Global, arcs: &ArcTable, refs: &[ArcRef]) -> Result<Vec<Pos>, OutOfMemory>
+fn walked_positions(
+    alloc: Global,
+    arcs: &ArcTable,
+    refs: &[ArcRef],
+) -> Result<Vec<Pos>, OutOfMemory>
     ensures { IfOk result (λ v. v.items ≡ walked arcs.now.arcs refs.now) }
 {
     let mut positions = Vec::new(alloc);
@@ -31,63 +34,66 @@ fn stitched(alloc: Global, arcs: &ArcTable, refs: &[ArcRef]) -> Result<Vec<Pos>,
     Ok(positions)
 }
 
-fn stitched_line(alloc: Global, arcs: &ArcTable, refs: &[ArcRef]) -> Result<Line, OutOfMemory>
-    requires { (l : the_line.Line) × IsLineOf arcs.now.arcs l refs.now }
-    ensures { IfOk result (λ made. (l : the_line.Line) → IsLineOf arcs.now.arcs l refs.now → made ≡ l) }
-{
-    Ok(Line::from_sound(stitched(alloc, arcs, refs)?))
+/// What used arcs stitch to, or lists of them.
+trait Stitched: Sized + Drop {
+    /// What it is stitched from.
+    type Used;
+
+    ghost stitches_by: { List (List place) → Self → Self.Used → Type 0 };
+
+    /// What stitches by these, where anything does.
+    fn stitched(alloc: Global, arcs: &ArcTable, used: &Self::Used) -> Result<Self, OutOfMemory>
+        requires { (s : Self) × stitches_by arcs.now.arcs s used.now }
+        ensures { IfOk result (λ made. (s : Self) → stitches_by arcs.now.arcs s used.now → made ≡ s) };
 }
 
-fn stitched_ring(alloc: Global, arcs: &ArcTable, refs: &[ArcRef]) -> Result<Ring, OutOfMemory>
-    requires { (r : the_ring.Ring) × IsRingOf arcs.now.arcs r refs.now }
-    ensures { IfOk result (λ made. (r : the_ring.Ring) → IsRingOf arcs.now.arcs r refs.now → made ≡ r) }
-{
-    Ok(Ring::from_sound(stitched(alloc, arcs, refs)?))
+impl Stitched for Line {
+    type Used = Items<ArcRef>;
+
+    ghost stitches_by = { IsLineOf };
+
+    fn stitched(alloc: Global, arcs: &ArcTable, used: &Self::Used) -> Result<Line, OutOfMemory> {
+        Ok(Line::from_sound(walked_positions(alloc, arcs, used.as_slice())?))
+    }
 }
 
-fn stitched_lines(
+impl Stitched for Ring {
+    type Used = Items<ArcRef>;
+
+    ghost stitches_by = { IsRingOf };
+
+    fn stitched(alloc: Global, arcs: &ArcTable, used: &Self::Used) -> Result<Ring, OutOfMemory> {
+        Ok(Ring::from_sound(walked_positions(alloc, arcs, used.as_slice())?))
+    }
+}
+
+fn each_stitched<S: Stitched>(
     alloc: Global,
     arcs: &ArcTable,
-    lists: &[Items<ArcRef>],
-) -> Result<Items<Line>, OutOfMemory>
-    requires { (ls : List the_line.Line) × Pairwise (IsLineOf arcs.now.arcs) ls lists.now }
-    ensures { IfOk result (λ made. (ls : List the_line.Line) → Pairwise (IsLineOf arcs.now.arcs) ls lists.now → made ≡ ls) }
+    lists: &[S::Used],
+) -> Result<Vec<S>, OutOfMemory>
+    requires { (ss : List S) × Pairwise (S.stitches_by arcs.now.arcs) ss lists.now }
+    ensures { IfOk result (λ made. (ss : List S) → Pairwise (S.stitches_by arcs.now.arcs) ss lists.now → made.items ≡ ss) }
 {
-    let mut lines = Vec::with_capacity(alloc, lists.len())?;
-    for refs in lists {
-        lines.push(stitched_line(alloc, arcs, refs.as_slice())?)?;
+    let mut made = Vec::with_capacity(alloc, lists.len())?;
+    for used in lists {
+        made.push(S::stitched(alloc, arcs, used)?)?;
     }
-    Ok(Items::from_vec(lines))
+    Ok(made)
 }
 
-fn stitched_rings(
-    alloc: Global,
-    arcs: &ArcTable,
-    lists: &[Items<ArcRef>],
-) -> Result<Items<Ring>, OutOfMemory>
-    requires { (rs : List the_ring.Ring) × Pairwise (IsRingOf arcs.now.arcs) rs lists.now }
-    ensures { IfOk result (λ made. (rs : List the_ring.Ring) → Pairwise (IsRingOf arcs.now.arcs) rs lists.now → made ≡ rs) }
-{
-    let mut rings = Vec::with_capacity(alloc, lists.len())?;
-    for refs in lists {
-        rings.push(stitched_ring(alloc, arcs, refs.as_slice())?)?;
-    }
-    Ok(Items::from_vec(rings))
-}
+impl<S: Stitched> Stitched for Items<S> {
+    type Used = Items<S::Used>;
 
-fn stitched_polygons(
-    alloc: Global,
-    arcs: &ArcTable,
-    polygons: &[Items<Items<ArcRef>>],
-) -> Result<Items<Items<Ring>>, OutOfMemory>
-    requires { (ps : List (List the_ring.Ring)) × Pairwise (Pairwise (IsRingOf arcs.now.arcs)) ps polygons.now }
-    ensures { IfOk result (λ made. (ps : List (List the_ring.Ring)) → Pairwise (Pairwise (IsRingOf arcs.now.arcs)) ps polygons.now → made ≡ ps) }
-{
-    let mut made = Vec::with_capacity(alloc, polygons.len())?;
-    for lists in polygons {
-        made.push(stitched_rings(alloc, arcs, lists.as_slice())?)?;
+    ghost stitches_by = { λ arcs. Pairwise (S.stitches_by arcs) };
+
+    fn stitched(
+        alloc: Global,
+        arcs: &ArcTable,
+        used: &Self::Used,
+    ) -> Result<Items<S>, OutOfMemory> {
+        Ok(Items::from_vec(each_stitched(alloc, arcs, used.as_slice())?))
     }
-    Ok(Items::from_vec(made))
 }
 
 fn stitched_shape(alloc: Global, arcs: &ArcTable, body: &Body) -> Result<Shape, OutOfMemory>
@@ -98,18 +104,10 @@ fn stitched_shape(alloc: Global, arcs: &ArcTable, body: &Body) -> Result<Shape, 
         Body::Null => Ok(Shape::Null),
         Body::Point(p) => Ok(Shape::Point(*p)),
         Body::MultiPoint(ps) => Ok(Shape::MultiPoint(copy_positions(alloc, ps.as_slice())?)),
-        Body::Line(refs) => Ok(Shape::Line(stitched_line(alloc, arcs, refs.as_slice())?)),
-        Body::MultiLine(lists) => Ok(Shape::MultiLine(stitched_lines(
-            alloc,
-            arcs,
-            lists.as_slice(),
-        )?)),
-        Body::Polygon(lists) => Ok(Shape::Polygon(stitched_rings(alloc, arcs, lists.as_slice())?)),
-        Body::MultiPolygon(polygons) => Ok(Shape::MultiPolygon(stitched_polygons(
-            alloc,
-            arcs,
-            polygons.as_slice(),
-        )?)),
+        Body::Line(used) => Ok(Shape::Line(Line::stitched(alloc, arcs, used)?)),
+        Body::MultiLine(lists) => Ok(Shape::MultiLine(Items::stitched(alloc, arcs, lists)?)),
+        Body::Polygon(lists) => Ok(Shape::Polygon(Items::stitched(alloc, arcs, lists)?)),
+        Body::MultiPolygon(lists) => Ok(Shape::MultiPolygon(Items::stitched(alloc, arcs, lists)?)),
     }
 }
 

@@ -16,6 +16,7 @@ use chains::table::{ArcRef, ArcTable};
 use faults::OutOfMemory;
 use grid::Grid;
 use lines::items::Items;
+use shapes::copying::{CopyIn, copy_each};
 use shapes::spelled::Spelled;
 use std::alloc::Global;
 use std::marker::Model;
@@ -73,29 +74,15 @@ impl Layer {
         ensures { IfOk result (λ l. l ≡ self.now) }
     {
         let name = self.name.copy(alloc)?;
-        let geometries = copy_geometries(alloc, self.geometries())?;
+        let geometries = copy_each(alloc, self.geometries())?;
         Ok(Layer::new(name, geometries))
     }
 }
 
-fn copy_geometries(alloc: Global, geometries: &[Geom]) -> Result<Vec<Geom>, OutOfMemory>
-    ensures { IfOk result (λ v. v.items ≡ geometries.now) }
-{
-    let mut copies = Vec::with_capacity(alloc, geometries.len())?;
-    for geometry in geometries {
-        copies.push(geometry.copy(alloc)?)?;
+impl CopyIn for Layer {
+    fn copy_in(&self, alloc: Global) -> Result<Layer, OutOfMemory> {
+        self.copy(alloc)
     }
-    Ok(copies)
-}
-
-fn copy_layers(alloc: Global, layers: &[Layer]) -> Result<Vec<Layer>, OutOfMemory>
-    ensures { IfOk result (λ v. v.items ≡ layers.now) }
-{
-    let mut copies = Vec::with_capacity(alloc, layers.len())?;
-    for layer in layers {
-        copies.push(layer.copy(alloc)?)?;
-    }
-    Ok(copies)
 }
 
 fn is_named(layer: &Layer, name: &str) -> bool
@@ -242,7 +229,7 @@ impl Topology {
     pub fn copy(&self, alloc: Global) -> Result<Topology, OutOfMemory>
         ensures { IfOk result (λ t. t ≡ self.now) }
     {
-        let layers = copy_layers(alloc, self.layers())?;
+        let layers = copy_each(alloc, self.layers())?;
         let arcs = self.arcs.copy(alloc)?;
         Ok(Topology {
             grid: self.grid,

@@ -1,77 +1,12 @@
 //! Walking along the arcs of a line or ring, from either end, without a copy.
-ghost use Rattle.std.specs.Prelude.{◌≡◌, [], drop};
+ghost use Rattle.std.specs.Prelude.{◌≡◌};
 ghost use Rattle.std.specs.Iterator.{YieldsFirstRef, YieldsLastRef, item_count};
-ghost use Rattle.topo.specs.Walked.{run_of, walked};
-ghost use Rattle.topo.specs.Left.{run_left};
+ghost use Rattle.topo.specs.Walked.{walked};
 
+use crate::run::Run;
 use chains::table::{ArcRef, ArcTable};
 use grid::pos::Pos;
 use std::marker::Model;
-
-/// The positions of an arc that are left, to be read in the direction in which the arc is used.
-#[derive(Clone, Copy)]
-struct Run<'a> {
-    positions: &'a [Pos],
-    reversed: bool,
-}
-
-impl<'a> Run<'a> {
-    fn empty() -> Run<'a>
-        ensures { run_left result ≡ [] }
-    {
-        Run {
-            positions: &[],
-            reversed: false,
-        }
-    }
-
-    fn of_arc(arcs: &'a ArcTable, used: ArcRef) -> Run<'a>
-        ensures { run_left result ≡ run_of arcs.now.arcs used }
-    {
-        match arcs.arc(used.arc) {
-            Some(positions) => Run {
-                positions,
-                reversed: used.reversed,
-            },
-            None => Run::empty(),
-        }
-    }
-
-    /// The arc without its first position, which is the last of the arc before it.
-    fn behind_first(arcs: &'a ArcTable, used: ArcRef) -> Run<'a>
-        ensures { run_left result ≡ drop 1 (run_of arcs.now.arcs used) }
-    {
-        let mut run = Run::of_arc(arcs, used);
-        run.take_first();
-        run
-    }
-
-    fn take_first(&mut self) -> Option<&'a Pos>
-        ensures { YieldsFirstRef run_left self.old result self.new }
-    {
-        if self.reversed {
-            let (first, rest) = self.positions.split_last()?;
-            self.positions = rest;
-            return Some(first);
-        }
-        let (first, rest) = self.positions.split_first()?;
-        self.positions = rest;
-        Some(first)
-    }
-
-    fn take_last(&mut self) -> Option<&'a Pos>
-        ensures { YieldsLastRef run_left self.old result self.new }
-    {
-        if self.reversed {
-            let (last, rest) = self.positions.split_first()?;
-            self.positions = rest;
-            return Some(last);
-        }
-        let (last, rest) = self.positions.split_last()?;
-        self.positions = rest;
-        Some(last)
-    }
-}
 
 /// The positions that a list of arcs stitches to, lent from the arcs (TopoJSON section 2.1.4): those
 /// of the first arc, and of each later arc all but its first, which is the last of the arc before.

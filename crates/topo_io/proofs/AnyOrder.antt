@@ -8,7 +8,6 @@ use Rattle.grid.specs.Place.{Transform}
 use Rattle.grid.specs.declared.pos.Pos.{Pos}
 use Rattle.lines.proofs.SortedLists.{Has-permutation}
 use Rattle.shapes.specs.Maps.{Features, Layers, features_at}
-use Rattle.shapes.specs.Order.{feature_cmp}
 use Rattle.shapes.specs.OrderLaws.{feature_cmp_total, same_feature}
 use Rattle.shapes.specs.Parts.{spelled_text}
 use Rattle.shapes.specs.Sets as set
@@ -23,9 +22,9 @@ use Rattle.topo.specs.OfMap.{ArePartsOf, IsOf}
 use Rattle.topo.specs.Parts.{LayerParts, TopologyParts}
 use Rattle.topo.specs.declared.geom.Geom.{Geom}
 use Rattle.topo.proofs.FeatureOrder.{features_stand}
-use Rattle.taking.specs.Kept.{KeepLayers, KeepsFeature, KeepsLayer}
+use Rattle.taking.specs.Kept.{KeepLayers, KeepsFeature}
 use Rattle.taking.specs.Laws.{HaveI64, IsStitched}
-use Rattle.taking.specs.Sorting.{AreReordered, IsReordered}
+use Rattle.taking.specs.Sorting.{AreReordered}
 use Rattle.taking.specs.Taken.{IfWhole, IsWhole}
 use Rattle.taking.specs.Whole.{StandInOrder, table_of}
 use Rattle.taking.specs.declared.whole.Taken.{Taken}

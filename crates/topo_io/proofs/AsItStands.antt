@@ -24,7 +24,7 @@ use Rattle.taking.proofs.PairsGathered.{pairs_with}
 use Rattle.taking.proofs.PartsOfMaps.{layers_are_the_maps}
 use Rattle.taking.proofs.StitchedMaps.{layers_make_a_map}
 use Rattle.topo_io.specs.Laws as law
-use Rattle.topo_io.specs.Means.{Means, MeansTopology}
+use Rattle.topo_io.specs.Means.{MeansTopology}
 use Rattle.topo_io.specs.Parts.{AreSaid, GeomStored, LayerStored, layer_of_geoms, plain_geom}
 use Rattle.topo_io.proofs.Entries.{holds_layers, meant}
 use Rattle.topo_io.proofs.Filling.{plain_of}

@@ -1,10 +1,10 @@
 -- What a comparing sink took tells whether two texts are the same.
-use Rattle.std.proofs.Common.{◌≡◌, ℕ, zero, suc, ◌+◌, ◌-◌, ◌^◌, ◌<◌, ◌≤◌, min, List, [], ◌∷◌, ◌++◌, length, take, drop, get_or, Bool, true, false, ◌==◌, ◌&&◌, Option, Some, None, is_some, refl, sym, ap, ap₂, ◌∙◌, subst, arith, append_assoc, append-nil, length-append, length-drop, lt-ltb}
+use Rattle.std.proofs.Common.{◌≡◌, ℕ, ◌+◌, ◌-◌, ◌<◌, ◌≤◌, List, [], ◌∷◌, ◌++◌, length, take, drop, get_or, true, false, ◌==◌, Option, Some, None, is_some, refl, sym, ap, ap₂, ◌∙◌, arith, append_assoc, append-nil, length-append, length-drop, lt-ltb}
 use Rattle.std.proofs.lemmas.List.{take_more, length-take-le}
-use Rattle.std.proofs.lemmas.Bool.{and_from, cases_eq, eqb-false, eqb-true}
+use Rattle.std.proofs.lemmas.Bool.{and_from, eqb-true}
 use Rattle.std.proofs.Math.Seq.{take-add, get_or-append_seam, take_all}
 use Rattle.std.proofs.Math.ListN.{take-append-drop}
-use Rattle.sinks.specs.Seen.{Seen, one_more}
+use Rattle.sinks.specs.Seen.{one_more}
 use Rattle.sinks.specs.Writes.{TookAll, TookPart}
 use Rattle.topo_io.specs.Front.{one_or_none, is_next, may_have_failed, taken}
 

@@ -1,5 +1,6 @@
 -- The entries of a map: its layers, and what it holds as plain data.
-use Rattle.std.proofs.Common.{◌≡◌, ◌⊎◌, ℕ, IsTrue, T, Bool, true, false, ◌&&◌, ◌||◌, List, [], ◌∷◌, map as map_list, is_some, inl, inr, refl, sym, ap, ◌∙◌, subst}
+use Rattle.std.proofs.Common.{◌≡◌, ℕ, IsTrue, T, Bool, true, false, ◌&&◌, ◌||◌, List, [], ◌∷◌, map as map_list, is_some, inl, inr, refl, sym, ap, ◌∙◌, subst}
+use Rattle.std.proofs.lemmas.Bool.{or_cases, or_right}
 use Rattle.std.specs.Cmp.{IsTotalOrder, Equal-is, tied_itself}
 use Rattle.std.specs.Cmp.Lexicographic.{slice_cmp, nat_list_cmp_total}
 use Rattle.std.specs.FinMap as map
@@ -23,19 +24,11 @@ use Rattle.shapes.proofs.Entries.{found, at_entry}
 
 -- ---- members by their order
 
-either_true : (a b : Bool) → (a || b) ≡ true → (a ≡ true) ⊎ (b ≡ true)
-either_true true b e = inl refl
-either_true false b e = inr e
-
-right_true : (a b : Bool) → b ≡ true → (a || b) ≡ true
-right_true true b e = refl
-right_true false b e = e
-
 module _ {K : Type 0} (R : K → K → Ordering) (o : IsTotalOrder R) (same : IsAntisymmetric R) where
   pub any_has : (q : K) (ks : List K) → list_any (eq_by_cmp R q) ks ≡ true → Has q ks
   any_has q [] e = cc
   any_has q (k ∷ ks) e =
-      elim (either_true (eq_by_cmp R q k) (list_any (eq_by_cmp R q) ks) e) [
+      elim (or_cases (eq_by_cmp R q k) (list_any (eq_by_cmp R q) ks) e) [
         | inl h ↦ inl (same q k ((Equal-is (R q k)).0 h))
         | inr h ↦ inr (any_has q ks h)
       ]
@@ -44,7 +37,7 @@ module _ {K : Type 0} (R : K → K → Ordering) (o : IsTotalOrder R) (same : Is
   has_any q [] h = absurd h
   has_any q (k ∷ ks) (inl e) =
       subst (λ w. list_any (eq_by_cmp R w) (k ∷ ks) ≡ true) (sym e) (ap (λ r. is_eq r || list_any (eq_by_cmp R k) ks) (tied_itself o k))
-  has_any q (k ∷ ks) (inr h) = right_true (eq_by_cmp R q k) (list_any (eq_by_cmp R q) ks) (has_any q ks h)
+  has_any q (k ∷ ks) (inr h) = or_right (eq_by_cmp R q k) (list_any (eq_by_cmp R q) ks) (has_any q ks h)
 
 pub holds_item : (s : Features) (f : Feature) → Has f (set.items s) → set.contains s f ≡ true
 holds_item s f h = contains-items s f ∙ has_any feature_cmp feature_cmp_total same_feature f (set.items s) h

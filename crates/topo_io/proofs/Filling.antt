@@ -1,10 +1,10 @@
 -- The map of the layers that were read.
-use Rattle.std.proofs.Common.{◌≡◌, ◌⊎◌, inl, inr, ℕ, Bool, true, false, cond, ◌||◌, List, [], ◌∷◌, Option, Some, None, is_some, IsTrue, Vec, String, Global, string_bytes, map as map_list, refl, sym, ap, ◌∙◌, subst}
+use Rattle.std.proofs.Common.{◌≡◌, ◌⊎◌, inl, inr, ℕ, true, false, cond, ◌||◌, List, [], ◌∷◌, Some, is_some, IsTrue, Vec, String, Global, string_bytes, map as map_list, refl, sym, ap, ◌∙◌, subst}
 use Rattle.std.specs.Prelude.{unwrap_or}
 use Rattle.std.specs.Cmp.{tied_itself}
 use Rattle.std.specs.Cmp.Lexicographic.{slice_cmp, nat_list_cmp_total}
 use Rattle.std.specs.FinMap as map
-use Rattle.std.specs.Ordering.{nat_cmp, is_eq, eq_by_cmp}
+use Rattle.std.specs.Ordering.{nat_cmp, is_eq}
 use Rattle.std.specs.declared.cmp.Ordering.TheVariants.{Less, Equal, Greater}
 use Rattle.theory.specs.Lists.{Has, Distinct}
 use Rattle.shapes.specs.Sets as set
@@ -13,7 +13,7 @@ use Rattle.shapes.specs.Maps.{Layers, Features, features_at, with_features}
 use Rattle.shapes.specs.Order.{feature_cmp}
 use Rattle.shapes.specs.OrderLaws.{feature_cmp_total, same_text}
 use Rattle.shapes.specs.declared.feature.Feature.{Feature}
-use Rattle.reading.specs.Meant.{AreFeatures, AreLayers}
+use Rattle.reading.specs.Meant.{AreLayers}
 use Rattle.reading.specs.Plain.{Plain, plain}
 use Rattle.reading.proofs.Plains.{has_plain, plain_has}
 use Rattle.shapes.proofs.Members.{either, has_listed, left_true, right_true}

@@ -1,13 +1,12 @@
 -- What an accepted text of a topology means fits its grid.
-use Rattle.std.proofs.Common.{◌≡◌, ℕ, zero, suc, ◌+◌, ℤ, pos, negsuc, ◌+ℤ◌, Bool, true, false, List, [], ◌∷◌, ◌++◌, map, reverse, get_or, Option, Some, None, Result, Ok, Err, if◌then◌else◌, codes, refl, sym, ap, ◌∙◌, subst}
+use Rattle.std.proofs.Common.{◌≡◌, ℕ, zero, suc, ◌+◌, ℤ, pos, negsuc, ◌+ℤ◌, Bool, true, false, List, [], ◌∷◌, map, reverse, get_or, Option, Some, None, Ok, if◌then◌else◌, codes, refl, sym, subst}
 use Rattle.std.specs.Prelude.{option_map, option_and_then}
 use Rattle.std.specs.List.{AllByRecursion}
 use Rattle.serde_json.specs.Data.{Num, Data, Items, Members, no_members, member}
 use Rattle.serde_json.specs.Find.{get, as_number, as_i64, as_array, as_object}
 use Rattle.theory.proofs.Reversing.{reverse-snoc}
 use Rattle.faults.specs.Path.{name, index}
-use Rattle.faults.specs.Fault.{Pair}
-use Rattle.faults.specs.declared.fault.FaultKind.TheVariants.{OutOfRange, NoTransform}
+use Rattle.faults.specs.declared.fault.FaultKind.TheVariants.{OutOfRange}
 use Rattle.grid.specs.Place.{Scaling, Transform, FitsAxis}
 use Rattle.grid.specs.Fits.{Fits}
 use Rattle.grid.specs.Computed.{fits_axis}
@@ -19,26 +18,25 @@ use Rattle.reading.specs.Fault.{here, under}
 use Rattle.reading.specs.Fitting.{FormFits, PlainFits}
 use Rattle.reading.specs.Info.{info_faults, member_or_null}
 use Rattle.reading.specs.Numbers.{whole_faults, number_faults, whole_of}
-use Rattle.reading.specs.Parts.{there, two_faults, array_faults, list_faults, list_of, elements, elements_of, member_faults, members_faults, each_member_faults, named, type_text}
+use Rattle.reading.specs.Parts.{two_faults, array_faults, list_faults, list_of, elements, elements_of, member_faults, members_faults, each_member_faults, named, type_text}
 use Rattle.reading.specs.Plain.{Plain}
 use Rattle.reading.specs.Positions.{position_at}
 use Rattle.reading.specs.Scan.{scan_faults}
 use Rattle.reading.specs.Text.{document}
 use Rattle.reading.specs.declared.geometry.GeometryType.{GeometryType}
-use Rattle.reading.specs.declared.geometry.GeometryType.TheVariants.{Point, MultiPoint, LineString, MultiLineString, Polygon, MultiPolygon}
-use Rattle.reading.proofs.Faultless.{first_none, second_none, unless_none, member_none, list_none, object_none, typed_none, text_none}
-use Rattle.reading.proofs.Fits.{all_append, all_map, line_of_fits, ring_of_fits}
+use Rattle.reading.proofs.Faultless.{first_none, second_none, unless_none, member_none, object_none, typed_none, text_none}
+use Rattle.reading.proofs.Fits.{all_append, line_of_fits, ring_of_fits}
 use Rattle.reading.proofs.Members.{member_there}
 use Rattle.reading.proofs.Plains.{layers_fit}
 use Rattle.reading.proofs.Positions.{clamped-same}
-use Rattle.topo_io.specs.Arcs.{Arcs, known, steps_faults, arc_faults, short_faults, places_from, arc_of, arcs_of, used_arc, used_arcs, meets, onto, stitched_onto, list_or_none, stitched_of, line_at, ring_at}
+use Rattle.reading.proofs.Shapes.{all_read, kind_fits}
+use Rattle.topo_io.specs.Arcs.{known, steps_faults, arc_faults, short_faults, places_from, arc_of, arcs_of, used_arc, used_arcs, line_list_faults, ring_list_faults, meets, onto, stitched_onto, list_or_none, stitched_of, line_at, ring_at}
 use Rattle.topo_io.specs.Geometries.{body_name, body_faults, body_form, shape_faults, shape_form, typed_faults_of, feature_of, geometry_type, geometry_faults, type_or_none, geometry_feature, layer_type, typed_layer_faults, layer_faults, layer_as, layer_features}
 use Rattle.topo_io.specs.Limits.{limits_on, limit_faults, difference_faults, Sums, sums_at, moved, moved_both, next_sums, step_faults, place_of, position_faults, position_of}
 use Rattle.topo_io.specs.Means.{Means}
-use Rattle.topo_io.specs.Roots.{arcs_in, objects_faults, content_faults, layers_in, layers_if_object, layers_of, limits_of, transform_of, transform_faults, transformed_faults, topology_named, topology_faults, grid_of, grid_or_unit, layers_or_none, faults_of_text, grid_of_text, layers_of_text}
+use Rattle.topo_io.specs.Roots.{arcs_in, objects_faults, content_faults, layers_in, layers_if_object, layers_of, limits_of, transform_of, transform_faults, transformed_faults, topology_named, topology_faults, grid_of, grid_or_unit, layers_or_none, grid_of_text, layers_of_text}
 use Rattle.topo_io.specs.declared.reader.layer_type.LayerType.{LayerType}
 use Rattle.topo_io.specs.declared.reader.layer_type.LayerType.TheVariants.{Collection, Geometry}
-use Rattle.topo_io.specs.declared.reader.position.Limits.{Limits}
 use Rattle.topo_io.proofs.Roots.{under_none, arcs_known, limits_known}
 
 -- ---- positions
@@ -162,13 +160,8 @@ module _ (P : Pos → Type 0) where
 
 module _ (g : Transform) (arcs : List (List Pos)) (arcs_fit : AllByRecursion (AllByRecursion (Fits g)) arcs) where
   body_fits : (k : GeometryType) (d : Data) → body_faults (limits_on g) (known arcs) k d ≡ [] → FormFits g (body_form arcs k d)
-  body_fits Point d e = position_fits g d e
-  body_fits MultiPoint d e = all_map (Fits g) position_of (elements d) (list_none (position_faults (limits_on g)) (λ p. Fits g (position_of p)) (position_fits g) d e)
-  body_fits LineString d e = line_all (Fits g) arcs arcs_fit d
-  body_fits MultiLineString d e = each_map (AllByRecursion (Fits g)) (line_at arcs) (line_all (Fits g) arcs arcs_fit) (elements d)
-  body_fits Polygon d e = each_map (AllByRecursion (Fits g)) (ring_at arcs) (ring_all (Fits g) arcs arcs_fit) (elements d)
-  body_fits MultiPolygon d e =
-      each_map (AllByRecursion (AllByRecursion (Fits g))) (λ p. map (ring_at arcs) (elements p)) (λ p. each_map (AllByRecursion (Fits g)) (ring_at arcs) (ring_all (Fits g) arcs arcs_fit) (elements p)) (elements d)
+  body_fits =
+      kind_fits g (position_faults (limits_on g)) (line_list_faults (known arcs)) (ring_list_faults (known arcs)) position_of (line_at arcs) (ring_at arcs) (position_fits g) (λ d _. line_all (Fits g) arcs arcs_fit d) (λ d _. ring_all (Fits g) arcs arcs_fit d)
 
   form_fits : (k : Option GeometryType) (d : Data) → shape_faults (limits_on g) (known arcs) k d ≡ [] → FormFits g (shape_form arcs k d)
   form_fits None d e = tt
@@ -186,7 +179,7 @@ module _ (g : Transform) (arcs : List (List Pos)) (arcs_fit : AllByRecursion (Al
   typed_fits d Collection e =
       let of = geometry_faults (limits_on g) (known arcs) in
       let list = member_or_null (codes "geometries") d in
-      all_map (PlainFits g) (geometry_feature arcs) (elements list) (list_none of (λ p. PlainFits g (geometry_feature arcs p)) geometry_fits list (member_none (codes "geometries") (list_faults of) d e))
+      all_read (PlainFits g) of (geometry_feature arcs) geometry_fits list (member_none (codes "geometries") (list_faults of) d e)
   typed_fits d (Geometry k) e = (feature_fits k d e, tt)
 
   layer_fits : (d : Data) → layer_faults (limits_on g) (known arcs) d ≡ [] → AllByRecursion (PlainFits g) (layer_features arcs d)
@@ -207,14 +200,6 @@ module _ (g : Transform) (arcs : List (List Pos)) (arcs_fit : AllByRecursion (Al
 abbrev LayersFit : Transform → List (List ℕ × List Plain) → Type 0
 LayersFit g ls = AllByRecursion (λ l. AllByRecursion (PlainFits g) l.1) ls
 
-pub arcs_are_known : (l : Limits) (v : Data) → member_faults (codes "arcs") (list_faults (arc_faults l)) v ≡ [] → arcs_in l v ≡ known (arcs_of (member_or_null (codes "arcs") v))
-arcs_are_known l v none = by (get (codes "arcs") v) refl
-  where
-    by : (o : Option Data) → get (codes "arcs") v ≡ o → arcs_in l v ≡ known (arcs_of (member_or_null (codes "arcs") v))
-    by None is =
-        let missing : under (name (codes "arcs")) (there (list_faults (arc_faults l)) None) ≡ [] = subst (λ o. under (name (codes "arcs")) (there (list_faults (arc_faults l)) o) ≡ []) is none in cc
-    by (Some d) is = arcs_known l v d is none ∙ ap (λ x. known (arcs_of x)) (sym (member_there (codes "arcs") v d is))
-
 content_fits : (g : Transform) (v : Data) → content_faults (limits_on g) v ≡ [] → LayersFit g (layers_of v)
 content_fits g v e =
     let l = limits_on g in
@@ -223,10 +208,9 @@ content_fits g v e =
     let second = member_faults (codes "objects") (objects_faults l (arcs_in l v)) v in
     let none = first_none first second e in
     let arcs_fit : AllByRecursion (AllByRecursion (Fits g)) arcs =
-    all_map (AllByRecursion (Fits g)) arc_of (elements (member_or_null (codes "arcs") v))
-    (list_none (arc_faults l) (λ d. AllByRecursion (Fits g) (arc_of d)) (arc_fits g) (member_or_null (codes "arcs") v) (member_none (codes "arcs") (list_faults (arc_faults l)) v none)) in
+    all_read (AllByRecursion (Fits g)) (arc_faults l) arc_of (arc_fits g) (member_or_null (codes "arcs") v) (member_none (codes "arcs") (list_faults (arc_faults l)) v none) in
     let objects : member_faults (codes "objects") (objects_faults l (known arcs)) v ≡ [] =
-    subst (λ k. member_faults (codes "objects") (objects_faults l k) v ≡ []) (arcs_are_known l v none) (second_none first second e) in
+    subst (λ k. member_faults (codes "objects") (objects_faults l k) v ≡ []) (arcs_known l v none) (second_none first second e) in
     objects_fit g arcs arcs_fit (as_object (member_or_null (codes "objects") v)) (member_none (codes "objects") (objects_faults l (known arcs)) v objects)
 
 transformed_fits : (v : Data) (o : Option Data) → get (codes "transform") v ≡ o → transformed_faults v o ≡ [] → LayersFit (grid_of v) (layers_of v)

@@ -1,5 +1,5 @@
 -- The body of a geometry comes before its id and properties.
-use Rattle.std.proofs.Common.{◌≡◌, List, [], ◌++◌, Option, Some, None, codes, refl, arith}
+use Rattle.std.proofs.Common.{Option, Some, None, codes, refl, arith}
 use Rattle.serde_json.specs.Data.{Data}
 use Rattle.faults.specs.Path.{name}
 use Rattle.faults.specs.declared.fault.Fault.{Fault}

@@ -10,14 +10,13 @@ use Rattle.reading.specs.Fault.{under}
 use Rattle.reading.specs.Info.{info_faults, member_or_null}
 use Rattle.reading.specs.Outlines.{line_faults, ring_faults}
 use Rattle.reading.specs.Parts.{list_of, array_faults, each_faults, list_faults, there, member_faults, members_faults, each_member_faults, typed_faults, named, type_text}
-use Rattle.reading.specs.Text.{document, text_faults}
 use Rattle.reading.proofs.Faultless.{under_none, first_none, second_none, unless_none}
 use Rattle.reading.specs.declared.geometry.GeometryType.{GeometryType}
 use Rattle.reading.specs.declared.geometry.GeometryType.TheVariants.{Point, MultiPoint, LineString, MultiLineString, Polygon, MultiPolygon}
 use Rattle.topo_io.specs.Arcs.{known, counted, arc_faults, arcs_of, stitching_faults, index_faults, line_list_faults, ring_list_faults}
 use Rattle.topo_io.specs.Geometries.{body_name, body_faults, shape_faults, typed_faults_of, geometry_type, geometry_faults, layer_type, typed_layer_faults, layer_faults}
-use Rattle.topo_io.specs.Parts.{loose_content, loose_transformed, loose_topology, loose_faults}
-use Rattle.topo_io.specs.Roots.{arcs_in, objects_faults, content_faults, transformed_faults, transform_faults, topology_named, topology_faults, limits_of, faults_of_text}
+use Rattle.topo_io.specs.Parts.{loose_content, loose_transformed, loose_topology}
+use Rattle.topo_io.specs.Roots.{arcs_in, objects_faults, content_faults, transformed_faults, transform_faults, topology_named, topology_faults, limits_of}
 use Rattle.topo_io.specs.declared.reader.position.Limits.{Limits}
 use Rattle.topo_io.specs.declared.reader.layer_type.LayerType.{LayerType}
 use Rattle.topo_io.specs.declared.reader.layer_type.LayerType.TheVariants.{Collection, Geometry}

@@ -1,10 +1,9 @@
 -- The lists of arcs of a text without faults stitch to lines and rings.
-use Rattle.std.proofs.Common.{◌≡◌, ℕ, List, [], ◌∷◌, ◌++◌, map, Option, Some, None, Ok, codes, sym, ap, ◌∙◌, subst}
+use Rattle.std.proofs.Common.{◌≡◌, ℕ, List, [], map, Option, Some, None, Ok, codes, sym, ap, ◌∙◌, subst}
 use Rattle.std.specs.List.{AllByRecursion}
 use Rattle.serde_json.specs.Data.{Data, Members, no_members, member}
 use Rattle.serde_json.specs.Find.{get, as_object}
 use Rattle.faults.specs.Path.{name}
-use Rattle.faults.specs.Fault.{Pair}
 use Rattle.grid.specs.declared.pos.Pos.{Pos}
 use Rattle.reading.specs.Fault.{under}
 use Rattle.reading.specs.Info.{info_faults, member_or_null}
@@ -13,8 +12,8 @@ use Rattle.reading.specs.Parts.{elements, list_faults, member_faults, members_fa
 use Rattle.reading.specs.Text.{document}
 use Rattle.reading.specs.declared.geometry.GeometryType.{GeometryType}
 use Rattle.reading.specs.declared.geometry.GeometryType.TheVariants.{Point, MultiPoint, LineString, MultiLineString, Polygon, MultiPolygon}
-use Rattle.reading.proofs.Faultless.{under_none, first_none, second_none, unless_none_second, member_none, list_none, object_none, typed_none, text_none}
-use Rattle.reading.proofs.Fits.{all_map}
+use Rattle.reading.proofs.Faultless.{under_none, first_none, second_none, unless_none_second, member_none, object_none, typed_none, text_none}
+use Rattle.reading.proofs.Shapes.{all_read}
 use Rattle.topo_io.specs.Arcs.{known, arc_faults, arcs_of, stitched, stitched_faults, stitching_faults, index_faults, line_list_faults, ring_list_faults}
 use Rattle.topo_io.specs.Geometries.{body_name, body_faults, shape_faults, typed_faults_of, geometry_type, geometry_faults, type_or_none, layer_type, typed_layer_faults, layer_faults}
 use Rattle.topo_io.specs.Parts.{refs_of, body_at, body_in, geom_of, geometry_geom, geoms_as, layer_geoms, geoms_in, geoms_if_object, geoms_of, arcs_or_none, arcs_of_text, geoms_or_none, geoms_of_text}
@@ -23,11 +22,8 @@ use Rattle.topo_io.specs.Stitching.{StitchToLine, StitchToRing, BodyStitches, Ge
 use Rattle.topo_io.specs.declared.reader.layer_type.LayerType.{LayerType}
 use Rattle.topo_io.specs.declared.reader.layer_type.LayerType.TheVariants.{Collection, Geometry}
 use Rattle.topo_io.specs.declared.reader.position.Limits.{Limits}
-use Rattle.topo_io.proofs.Fitting.{arcs_are_known}
+use Rattle.topo_io.proofs.Roots.{arcs_known}
 use Rattle.topo_io.proofs.Known.{used_same}
-
-list_needed : {X : Type 0} (of : Data → List Pair) (P : X → Type 0) (read : Data → X) → ((d : Data) → of d ≡ [] → P (read d)) → (d : Data) → list_faults of d ≡ [] → AllByRecursion P (map read (elements d))
-list_needed of P read more d e = all_map P read (elements d) (list_none of (λ x. P (read x)) more d e)
 
 module _ (arcs : List (List Pos)) where
   line_needed : (d : Data) → line_list_faults (known arcs) d ≡ [] → StitchToLine arcs (refs_of d)
@@ -45,11 +41,11 @@ module _ (arcs : List (List Pos)) where
     body_needed Point d e = tt
     body_needed MultiPoint d e = tt
     body_needed LineString d e = line_needed d e
-    body_needed MultiLineString d e = list_needed (line_list_faults (known arcs)) (StitchToLine arcs) refs_of line_needed d e
-    body_needed Polygon d e = list_needed (ring_list_faults (known arcs)) (StitchToRing arcs) refs_of ring_needed d e
+    body_needed MultiLineString d e = all_read (StitchToLine arcs) (line_list_faults (known arcs)) refs_of line_needed d e
+    body_needed Polygon d e = all_read (StitchToRing arcs) (ring_list_faults (known arcs)) refs_of ring_needed d e
     body_needed MultiPolygon d e =
-        list_needed (list_faults (ring_list_faults (known arcs))) (AllByRecursion (StitchToRing arcs)) (λ p. map refs_of (elements p))
-        (list_needed (ring_list_faults (known arcs)) (StitchToRing arcs) refs_of ring_needed) d e
+        all_read (AllByRecursion (StitchToRing arcs)) (list_faults (ring_list_faults (known arcs))) (λ p. map refs_of (elements p))
+        (all_read (StitchToRing arcs) (ring_list_faults (known arcs)) refs_of ring_needed) d e
 
     shape_needed : (k : Option GeometryType) (d : Data) → shape_faults l (known arcs) k d ≡ [] → BodyStitches arcs (body_in k d)
     shape_needed None d e = tt
@@ -66,7 +62,7 @@ module _ (arcs : List (List Pos)) where
     by_layer : (d : Data) (k : LayerType) → typed_layer_faults l (known arcs) d k ≡ [] → AllByRecursion (GeomStitches arcs) (geoms_as d (Ok k))
     by_layer d Collection e =
         let of = geometry_faults l (known arcs) in
-        list_needed of (GeomStitches arcs) geometry_geom geometry_needed (member_or_null (codes "geometries") d) (member_none (codes "geometries") (list_faults of) d e)
+        all_read (GeomStitches arcs) of geometry_geom geometry_needed (member_or_null (codes "geometries") d) (member_none (codes "geometries") (list_faults of) d e)
     by_layer d (Geometry k) e = (typed_needed k d e, tt)
 
     layer_needed : (d : Data) → layer_faults l (known arcs) d ≡ [] → AllByRecursion (GeomStitches arcs) (layer_geoms d)
@@ -89,7 +85,7 @@ content_needed l v e =
     let first = member_faults (codes "arcs") (list_faults (arc_faults l)) v in
     let second = member_faults (codes "objects") (objects_faults l (arcs_in l v)) v in
     let objects : member_faults (codes "objects") (objects_faults l (known arcs)) v ≡ [] =
-    subst (λ k. member_faults (codes "objects") (objects_faults l k) v ≡ []) (arcs_are_known l v (first_none first second e)) (second_none first second e) in
+    subst (λ k. member_faults (codes "objects") (objects_faults l k) v ≡ []) (arcs_known l v (first_none first second e)) (second_none first second e) in
     objects_needed arcs l (as_object (member_or_null (codes "objects") v)) (member_none (codes "objects") (objects_faults l (known arcs)) v objects)
 
 transformed_needed : (v : Data) (o : Option Data) → transformed_faults v o ≡ [] → AllByRecursion (LayerStitches (arcs_of (member_or_null (codes "arcs") v))) (geoms_of v)

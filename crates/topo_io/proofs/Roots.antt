@@ -1,6 +1,7 @@
 -- The members of a topology.
-use Rattle.std.proofs.Common.{◌≡◌, List, [], ◌∷◌, ◌++◌, Option, Some, None, String, Global, Vec, string_bytes, codes, map, refl, sym, ap, ◌∙◌, subst, arith, IsTrue, All, Contains, Result, Ok, Err, OnOk, IfOk}
+use Rattle.std.proofs.Common.{◌≡◌, List, [], ◌∷◌, ◌++◌, Option, Some, None, String, Global, Vec, codes, map, refl, sym, ap, ◌∙◌, subst, arith, All, Contains, Result, Ok, Err, OnOk, IfOk}
 use Rattle.std.proofs.lemmas.List.Elements.{All-append, All-map, Contains-append_left}
+use Rattle.std.specs.List.{AllZip}
 use Rattle.std.specs.declared.cmp.Ordering.TheVariants.{Less}
 use Rattle.serde_json.specs.Data.{Data, Items, Members, no_members, member}
 use Rattle.serde_json.specs.Find.{get, as_array}
@@ -10,12 +11,15 @@ use Rattle.faults.specs.declared.fault.Fault.{Fault}
 use Rattle.faults.specs.declared.fault.FaultKind.TheVariants.{OutOfMemory}
 use Rattle.grid.specs.declared.pos.Pos.{Pos}
 use Rattle.shapes.specs.declared.feature.Feature.{Feature}
-use Rattle.reading.specs.Fault.{turn_cmp, under, IsUpto, IsLeast, LeastOrWant}
-use Rattle.reading.specs.Parts.{list_faults, member_faults, MeanMembers}
+use Rattle.reading.specs.Fault.{turn_cmp, under, IsUpto, LeastOrWant}
+use Rattle.reading.specs.Info.{member_or_null}
+use Rattle.reading.specs.Parts.{there, elements, list_faults, member_faults, MeanMembers}
 use Rattle.reading.specs.Plain.{plain}
 use Rattle.reading.proofs.Entries.{named}
+use Rattle.reading.proofs.Lists.{zip_is}
+use Rattle.reading.proofs.Members.{member_there}
 use Rattle.topo_io.specs.Limits.{no_limits, limits_on}
-use Rattle.topo_io.specs.Arcs.{Arcs, known, arc_faults, arcs_of}
+use Rattle.topo_io.specs.Arcs.{known, arc_faults, arc_of, arcs_of}
 use Rattle.topo_io.specs.Geometries.{layer_features}
 use Rattle.topo_io.specs.Layers.{plain_layer}
 use Rattle.topo_io.specs.Roots.{arcs_by, arcs_if_array, arcs_in, layers_in, limits_by, transform_of, content_faults}
@@ -36,11 +40,24 @@ pub array_known : (l : Limits) (d : Data) (o : Option Items) → as_array d ≡ 
 array_known l d None is none = cc
 array_known l d (Some ds) is none = ap (λ ps. arcs_by ps d) none
 
--- arcs without faults are known
-pub arcs_known : (l : Limits) (v d : Data) → get (codes "arcs") v ≡ Some d → member_faults (codes "arcs") (list_faults (arc_faults l)) v ≡ [] → arcs_in l v ≡ known (arcs_of d)
-arcs_known l v d is none =
+arcs_there : (l : Limits) (v d : Data) → get (codes "arcs") v ≡ Some d → member_faults (codes "arcs") (list_faults (arc_faults l)) v ≡ [] → arcs_in l v ≡ known (arcs_of d)
+arcs_there l v d is none =
     let found : list_faults (arc_faults l) d ≡ [] = under_none (name (codes "arcs")) _ (rw is at none) in
     rw is (array_known l d (as_array d) refl found)
+
+-- arcs without faults are known
+pub arcs_known : (l : Limits) (v : Data) → member_faults (codes "arcs") (list_faults (arc_faults l)) v ≡ [] → arcs_in l v ≡ known (arcs_of (member_or_null (codes "arcs") v))
+arcs_known l v none = by (get (codes "arcs") v) refl
+  where
+    by : (o : Option Data) → get (codes "arcs") v ≡ o → arcs_in l v ≡ known (arcs_of (member_or_null (codes "arcs") v))
+    by None is =
+        let missing : under (name (codes "arcs")) (there (list_faults (arc_faults l)) None) ≡ [] = subst (λ o. under (name (codes "arcs")) (there (list_faults (arc_faults l)) o) ≡ []) is none in cc
+    by (Some d) is = arcs_there l v d is none ∙ ap (λ x. known (arcs_of x)) (sym (member_there (codes "arcs") v d is))
+
+-- arcs that were read without faults are those that are known
+pub arcs_read : (l : Limits) (v : Data) (xs arcs : List (List Pos)) → arcs ≡ xs → AllZip (λ d x. x ≡ arc_of d) (elements (member_or_null (codes "arcs") v)) xs → member_faults (codes "arcs") (list_faults (arc_faults l)) v ≡ [] → arcs_in l v ≡ known arcs
+arcs_read l v xs arcs same read none =
+    arcs_known l v none ∙ ap known (sym (same ∙ zip_is arc_of (elements (member_or_null (codes "arcs") v)) xs read))
 
 pub limits_known : (ps : List Pair) (t : Data) → ps ≡ [] → limits_by ps t ≡ limits_on (transform_of t)
 limits_known ps t none = ap (λ qs. limits_by qs t) none

@@ -1,23 +1,33 @@
 -- What the parts of a topology's text are read as.
-use Rattle.std.proofs.Common.{◌≡◌, Result, Ok, Err, OnOk, ℕ, ◌+◌, ℤ, pos, negsuc, Bool, true, false, cond, List, [], ◌∷◌, ◌++◌, length, map, Option, Some, String, Global, Vec, string_bytes, codes, refl, sym, ap, ◌∙◌, subst, arith}
+use Rattle.std.proofs.Common.{◌≡◌, Result, Ok, Err, OnOk, ℕ, ℤ, pos, negsuc, Bool, true, false, cond, List, [], ◌∷◌, length, map, Some, String, Global, Vec, string_bytes, codes, refl, sym, ap, ◌∙◌, subst, arith}
 use Rattle.std.specs.List.{AllByRecursion, AllZip}
 use Rattle.serde_json.specs.Data.{Data, Members, no_members, member}
 use Rattle.theory.specs.ArcNumbers.{ArcRef, index_of}
-use Rattle.theory.specs.Lists.{Distinct}
 use Rattle.faults.specs.Fault.{Pair, IsWant}
-use Rattle.faults.specs.Path.{Turn}
 use Rattle.faults.specs.declared.fault.Fault.{Fault}
 use Rattle.shapes.specs.Ids.{HasI64}
 use Rattle.shapes.specs.declared.shape.Id as ids
 use Rattle.shapes.specs.declared.shape.Id.TheVariants as id
 use Rattle.reading.specs.Plain.{plain_id}
 use Rattle.shapes.specs.Parts.{spelled_text}
-use Rattle.reading.specs.Fault.{LeastOrWant, under, unless_faulty}
-use Rattle.reading.specs.Parts.{MeanMembers}
+use Rattle.reading.specs.Fault.{LeastOrWant, unless_faulty}
+use Rattle.reading.specs.Info.{member_or_null}
+use Rattle.reading.specs.Parts.{MeanMembers, elements, member_faults}
+use Rattle.reading.specs.Text.{document, text_faults}
+use Rattle.serde_json.specs.Find.{get}
 use Rattle.reading.proofs.Entries.{named}
+use Rattle.reading.proofs.Lists.{zip_is}
+use Rattle.reading.proofs.Members.{member_there}
+use Rattle.grid.specs.Place.{Transform}
+use Rattle.grid.specs.declared.pos.Pos.{Pos}
 use Rattle.topo.specs.Parts.{LayerParts}
 use Rattle.topo.specs.declared.geom.Geom.{Geom}
-use Rattle.topo_io.specs.Parts.{plain_geom, ref_at, layer_geoms, geoms_in, named_geoms, layer_of_geoms, names_of_geoms, PlainGeom, IdStored, GeomStored, LayerStored, FaultyOrWant}
+use Rattle.topo_io.specs.Arcs.{counted, arc_of, arcs_of}
+use Rattle.topo_io.specs.Limits.{limits_on}
+use Rattle.topo_io.specs.Roots.{objects_faults, grid_of, grid_or_unit}
+use Rattle.topo_io.specs.declared.reader.position.Limits.{Limits}
+use Rattle.topo_io.specs.declared.reader.parts.body.Extent.{Extent}
+use Rattle.topo_io.specs.Parts.{ArePartsOf, AreSaid, arc_count, arcs_or_none, geoms_or_none, loose_topology, plain_geom, ref_at, layer_geoms, geoms_in, named_geoms, layer_of_geoms, names_of_geoms, PlainGeom, IdStored, GeomStored, LayerStored, FaultyOrWant}
 
 -- where nothing more is asked
 pub unless_nothing : (ps : List Pair) → unless_faulty ps [] ≡ ps
@@ -92,6 +102,28 @@ faulty_want ps f want = record { some = λ real _. absurd (real want) }
 
 pub faulty_by : (ps qs : List Pair) (f : Fault) → (qs ≡ [] → ps ≡ []) → FaultyOrWant ps f → FaultyOrWant qs f
 faulty_by ps qs f none h = record { some = λ real e. h.some real (none e) }
+
+-- the arcs that were read are those that the value has
+pub listed_arcs : (v : Data) {xs ys : List (List Pos)} → ys ≡ xs → ((d : Data) × (get (codes "arcs") v ≡ Some d) × AllZip (λ d x. x ≡ arc_of d) (elements d) xs) → ys ≡ arcs_of (member_or_null (codes "arcs") v)
+listed_arcs v {xs} same (d, is, read) = same ∙ zip_is arc_of (elements d) xs read ∙ ap arcs_of (sym (member_there (codes "arcs") v d is))
+
+-- what is asked of the objects rests on the number of arcs alone
+pub loose_objects : (t : Transform) (v : Data) (e : Extent) (l : Limits) (arcs : List (List Pos)) → e ≡ record { arcs = length arcs; limits = l } → l ≡ limits_on t → arcs ≡ arcs_of (member_or_null (codes "arcs") v)
+    → member_faults (codes "objects") (objects_faults e.limits (counted e.arcs)) v ≡ member_faults (codes "objects") (objects_faults (limits_on t) (arc_count v)) v
+loose_objects t v e l arcs is limits same =
+    ap (λ (x : Extent). member_faults (codes "objects") (objects_faults x.limits (counted x.arcs)) v) is
+    ∙ (λ i. member_faults (codes "objects") (objects_faults (limits i) (counted (length (same i)))) v)
+
+-- what the value of a text says, the text says
+pub text_said : (bytes : List ℕ) (d : Data) (t : Transform) (cs : List (List Pos)) (ls : List LayerParts) → document bytes ≡ Some d → loose_topology d ≡ [] → t ≡ grid_of d → ArePartsOf d cs ls → AreSaid bytes t cs ls
+text_said bytes d t cs ls is loose grid parts = record {
+  loose = ap (text_faults loose_topology) is ∙ loose;
+  grid = grid ∙ sym (ap grid_or_unit is);
+  arcs = parts.arcs ∙ sym (ap arcs_or_none is);
+  layers = parts.layers ∙ sym (ap geoms_or_none is);
+  ids = subst (λ o. AllByRecursion LayerStored (geoms_or_none o)) (sym is) parts.ids;
+  names = parts.names;
+}
 
 -- what holds anyway
 pub on_ok : {X E : Type 0} (r : Result X E) (A : Type 0) → A → OnOk r A

@@ -25,7 +25,7 @@ use Rattle.shapes.specs.declared.shape.Shape as shapes
 use Rattle.shapes.specs.declared.shape.Shape.TheVariants as of
 use Rattle.reading.specs.Meant.{AreLayers}
 use Rattle.reading.specs.Outlines.{outline_faults, line_faults, ring_faults, line_of, ring_of}
-use Rattle.reading.specs.Plain.{Plain, plain, plain_form, plain_id}
+use Rattle.reading.specs.Plain.{plain, plain_form, plain_id}
 use Rattle.topo.specs.Features.{IsLineOf, IsRingOf, IsShapeOf, IsFeatureOf, AreFeaturesOf}
 use Rattle.topo.specs.OfMap.{body_of}
 use Rattle.topo.specs.Parts.{LayerParts}
@@ -35,7 +35,7 @@ use Rattle.topo.specs.declared.geom.Geom.{Geom}
 use Rattle.topo_io.specs.Arcs.{along, same_as, meets, stitched_onto, stitched, stitched_faults, list_or_none}
 use Rattle.topo_io.specs.Layers.{with_layers}
 use Rattle.topo_io.specs.Means.{Means}
-use Rattle.topo_io.specs.Parts.{PlainGeom, plain_geom, layer_of_geoms, arcs_of_text, AreSaid}
+use Rattle.topo_io.specs.Parts.{plain_geom, layer_of_geoms, arcs_of_text, AreSaid}
 use Rattle.topo_io.specs.Roots.{layers_of_text}
 use Rattle.topo_io.specs.Stitching.{StitchToLine, StitchToRing, BodyStitches, GeomStitches, LayerStitches, line_along, ring_along, form_along, feature_along, layer_along}
 use Rattle.topo_io.proofs.Filling.{plain_of, names_of, are_layers}

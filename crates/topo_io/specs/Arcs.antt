@@ -108,13 +108,15 @@ stitching_faults of unknown d = []
 stitching_faults of (counted n) d = []
 stitching_faults of (known arcs) d = stitched_faults of (stitched (used_arcs arcs d))
 
--- a list of indexes, then what a line asks of the list that they stitch to
-abbrev pub line_list_faults : Arcs → Data → List Pair
-line_list_faults arcs d = unless_faulty (list_faults (index_faults arcs) d) (stitching_faults line_faults arcs d)
+-- a list of indexes, then what is asked of the list that they stitch to
+abbrev pub stitched_list_faults : Arcs → (List Pos → List Pair) → Data → List Pair
+stitched_list_faults arcs of d = unless_faulty (list_faults (index_faults arcs) d) (stitching_faults of arcs d)
 
--- a list of indexes, then what a ring asks of the list that they stitch to
+abbrev pub line_list_faults : Arcs → Data → List Pair
+line_list_faults arcs = stitched_list_faults arcs line_faults
+
 abbrev pub ring_list_faults : Arcs → Data → List Pair
-ring_list_faults arcs d = unless_faulty (list_faults (index_faults arcs) d) (stitching_faults ring_faults arcs d)
+ring_list_faults arcs = stitched_list_faults arcs ring_faults
 
 abbrev pub list_or_none : Option (List Pos) → List Pos
 list_or_none None = []

@@ -4,7 +4,7 @@ use Rattle.std.specs.Str.{bytes_eq}
 use Rattle.serde_json.specs.Data.{Data}
 use Rattle.serde_json.specs.Data as json
 use Rattle.serde_json.specs.Find.{get, as_object}
-use Rattle.theory.specs.Topology.{null, point, points, line, lines, polygon, polygons}
+use Rattle.theory.specs.Topology.{null}
 use Rattle.faults.specs.Fault.{Pair}
 use Rattle.faults.specs.declared.fault.FaultKind.{FaultKind}
 use Rattle.faults.specs.declared.fault.FaultKind.TheVariants.{Missing, WrongKind}
@@ -12,6 +12,7 @@ use Rattle.grid.specs.declared.pos.Pos.{Pos}
 use Rattle.reading.specs.Parts.{list_faults, elements, member_faults, object_faults, typed_faults}
 use Rattle.reading.specs.Info.{info_faults, member_or_null, id_of, properties_of}
 use Rattle.reading.specs.Plain.{Plain, PlainForm}
+use Rattle.reading.specs.Shapes.{shape_faults as kind_faults, shape_form as kind_form}
 use Rattle.reading.specs.Types.{geometry_named}
 use Rattle.reading.specs.declared.geometry.GeometryType.{GeometryType}
 use Rattle.reading.specs.declared.geometry.GeometryType.TheVariants.{Point, MultiPoint, LineString, MultiLineString, Polygon, MultiPolygon}
@@ -33,20 +34,10 @@ body_name Polygon = codes "arcs"
 body_name MultiPolygon = codes "arcs"
 
 abbrev pub body_faults : Limits → Arcs → GeometryType → Data → List Pair
-body_faults l arcs Point = position_faults l
-body_faults l arcs MultiPoint = list_faults (position_faults l)
-body_faults l arcs LineString = line_list_faults arcs
-body_faults l arcs MultiLineString = list_faults (line_list_faults arcs)
-body_faults l arcs Polygon = list_faults (ring_list_faults arcs)
-body_faults l arcs MultiPolygon = list_faults (list_faults (ring_list_faults arcs))
+body_faults l arcs = kind_faults (position_faults l) (line_list_faults arcs) (ring_list_faults arcs)
 
 abbrev pub body_form : List (List Pos) → GeometryType → Data → PlainForm
-body_form arcs Point d = point (position_of d)
-body_form arcs MultiPoint d = points (map position_of (elements d))
-body_form arcs LineString d = line (line_at arcs d)
-body_form arcs MultiLineString d = lines (map (line_at arcs) (elements d))
-body_form arcs Polygon d = polygon (map (ring_at arcs) (elements d))
-body_form arcs MultiPolygon d = polygons (map (λ p. map (ring_at arcs) (elements p)) (elements d))
+body_form arcs = kind_form position_of (line_at arcs) (ring_at arcs)
 
 -- null has no body
 abbrev pub shape_faults : Limits → Arcs → Option GeometryType → Data → List Pair

@@ -21,7 +21,7 @@ use Rattle.reading.specs.Info.{member_or_null, id_of, properties_of}
 use Rattle.reading.specs.Numbers.{whole_of}
 use Rattle.reading.specs.Parts.{elements, list_faults, member_faults, object_faults, typed_faults, named, type_text}
 use Rattle.reading.specs.Plain.{PlainId, none, number, text, plain_id}
-use Rattle.reading.specs.Text.{document, text_faults}
+use Rattle.reading.specs.Text.{document, text_faults, said_of}
 use Rattle.reading.specs.declared.geometry.GeometryType.{GeometryType}
 use Rattle.reading.specs.declared.geometry.GeometryType.TheVariants.{Point, MultiPoint, LineString, MultiLineString, Polygon, MultiPolygon}
 use Rattle.topo.specs.OfMap.{body_of}
@@ -150,18 +150,23 @@ loose_faults bytes = text_faults loose_topology (document bytes)
 pub record FaultyOrWant (ps : List Pair) (f : Fault) : Type 0 where
   pub some : (f.kind ≡ OutOfMemory → ⊥) → ps ≡ [] → ⊥
 
+-- the arcs and the layers are what the value says
+pub record ArePartsOf (d : Data) (cs : List (List Pos)) (ls : List LayerParts) : Type 0 where
+  pub arcs : cs ≡ arcs_of (member_or_null (codes "arcs") d)
+  pub layers : map layer_of_geoms ls ≡ geoms_of d
+  pub ids : AllByRecursion LayerStored (geoms_of d)
+  pub names : Distinct (map (λ l. spelled_text l.name) ls)
+
 -- ---- the text
 
 abbrev pub arcs_or_none : Option Data → List (List Pos)
-arcs_or_none None = []
-arcs_or_none (Some d) = arcs_of (member_or_null (codes "arcs") d)
+arcs_or_none = said_of (λ d. arcs_of (member_or_null (codes "arcs") d))
 
 abbrev pub arcs_of_text : List ℕ → List (List Pos)
 arcs_of_text bytes = arcs_or_none (document bytes)
 
 abbrev pub geoms_or_none : Option Data → List (List ℕ × List PlainGeom)
-geoms_or_none None = []
-geoms_or_none (Some d) = geoms_of d
+geoms_or_none = said_of geoms_of
 
 abbrev pub geoms_of_text : List ℕ → List (List ℕ × List PlainGeom)
 geoms_of_text bytes = geoms_or_none (document bytes)

@@ -15,7 +15,7 @@ use Rattle.reading.specs.Parts.{IsPair, pair_faults, list_faults, elements, memb
 use Rattle.reading.specs.Numbers.{element_faults, whole_of}
 use Rattle.reading.specs.Info.{member_or_null}
 use Rattle.reading.specs.Plain.{Plain}
-use Rattle.reading.specs.Text.{document, text_faults}
+use Rattle.reading.specs.Text.{document, text_faults, said_of}
 use Rattle.topo_io.specs.Limits.{limits_on, no_limits}
 use Rattle.topo_io.specs.Arcs.{Arcs, unknown, counted, known, arc_faults, arcs_of}
 use Rattle.topo_io.specs.Geometries.{layer_faults, layer_features}
@@ -139,8 +139,7 @@ abbrev pub grid_of_text : List ℕ → Transform
 grid_of_text bytes = grid_or_unit (document bytes)
 
 abbrev pub layers_or_none : Option Data → List (List ℕ × List Plain)
-layers_or_none None = []
-layers_or_none (Some d) = layers_of d
+layers_or_none = said_of layers_of
 
 abbrev pub layers_of_text : List ℕ → List (List ℕ × List Plain)
 layers_of_text bytes = layers_or_none (document bytes)

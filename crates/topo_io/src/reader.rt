@@ -35,7 +35,7 @@ use faults::OutOfMemory;
 use faults::fault::{Fault, FaultKind};
 use grid::transform::Grid;
 use reading::document::document;
-use reading::part::{Listed, Part, read_each_member, read_member, type_fault, type_name};
+use reading::part::{Part, read_each_member, read_list_member, read_member, type_fault, type_name};
 use serde_json::Value;
 use shapes::feature::Feature;
 use shapes::feature_map::FeatureMap;
@@ -100,8 +100,8 @@ fn read_layers(alloc: Global, limits: &Limits, value: &Value) -> Result<Layers, 
     ensures err { IfErr result (λ f. LeastOrWant (content_faults limits.now (view value.now)) f) }
 {
     let of = ArcOf { limits: *limits };
-    let listed = read_member(alloc, &Listed { of }, value, "arcs")?;
-    let arcs = TextArcs::from_list(listed.into_vec());
+    let listed = read_list_member(alloc, of, value, "arcs")?;
+    let arcs = TextArcs::from_list(listed);
     let on = Ground {
         arcs: &arcs,
         limits: *limits,

@@ -4,51 +4,16 @@ ghost use Rattle.serde_json.specs.View.{view};
 ghost use Rattle.reading.specs.Fault.{LeastOrWant};
 ghost use Rattle.reading.specs.Parts.{unless_null};
 ghost use Rattle.reading.specs.Plain.{plain_form};
-ghost use Rattle.geojson_io.specs.Geometries.{coordinates_faults, form_of, typed_geometry_faults, typed_form, geometry_faults, geometry_form};
+ghost use Rattle.geojson_io.specs.Geometries.{typed_geometry_faults, typed_form, geometry_faults, geometry_form};
 
-use crate::reader::position::{LineOf, Position, RingOf};
+use crate::reader::position::Position;
 use faults::fault::{Fault, FaultKind};
 use reading::geometry::GeometryType;
-use reading::part::{Listed, Part, read_member, type_fault};
+use reading::part::{Part, read_member, type_fault};
+use reading::shape::ShapeFrom;
 use serde_json::Value;
 use shapes::shape::Shape;
 use std::alloc::Global;
-
-/// The coordinates of a geometry of that type.
-#[derive(Clone, Copy)]
-struct Coordinates {
-    position: Position,
-    kind: GeometryType,
-}
-
-impl Part for Coordinates {
-    type Made = Shape;
-
-    ghost faults = { λ p. coordinates_faults p.position.grid p.kind };
-
-    ghost means = { λ p d s. plain_form s ≡ form_of p.position.grid p.kind d };
-
-    fn read(&self, alloc: Global, value: &Value) -> Result<Shape, Fault> {
-        let of = self.position;
-        match self.kind {
-            GeometryType::Point => Ok(Shape::Point(of.read(alloc, value)?)),
-            GeometryType::MultiPoint => Ok(Shape::MultiPoint(Listed { of }.read(alloc, value)?)),
-            GeometryType::LineString => Ok(Shape::Line(LineOf { of }.read(alloc, value)?)),
-            GeometryType::MultiLineString => {
-                let of = LineOf { of };
-                Ok(Shape::MultiLine(Listed { of }.read(alloc, value)?))
-            }
-            GeometryType::Polygon => {
-                let of = RingOf { of };
-                Ok(Shape::Polygon(Listed { of }.read(alloc, value)?))
-            }
-            GeometryType::MultiPolygon => {
-                let of = Listed { of: RingOf { of } };
-                Ok(Shape::MultiPolygon(Listed { of }.read(alloc, value)?))
-            }
-        }
-    }
-}
 
 /// The shape of a geometry whose type is known.
 pub fn read_geometry(
@@ -61,10 +26,8 @@ pub fn read_geometry(
     ensures made { IfOk result (λ s. plain_form s ≡ typed_form position.now.grid kind (view value.now)) }
     ensures err { IfErr result (λ f. LeastOrWant (typed_geometry_faults position.now.grid kind (view value.now)) f) }
 {
-    let coordinates = Coordinates {
-        position: *position,
-        kind,
-    };
+    let from = *position;
+    let coordinates = ShapeFrom { from, kind };
     read_member(alloc, &coordinates, value, "coordinates")
 }
 

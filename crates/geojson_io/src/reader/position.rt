@@ -2,18 +2,15 @@
 ghost use Rattle.std.specs.Prelude.{◌≡◌, [], IfOk, IfErr, OnOk};
 ghost use Rattle.grid.specs.Place.{IsGridNumber};
 ghost use Rattle.grid.specs.Computed.{axis_number};
-ghost use Rattle.lines.specs.Seen.{positions_of, vertices_of};
 ghost use Rattle.reading.specs.Fault.{LeastOrWant};
-ghost use Rattle.geojson_io.specs.Positions.{axis_faults, number_or_zero, coordinate_faults, grid_number, position_faults, position_of, line_at_faults, line_at, ring_at_faults, ring_at};
+ghost use Rattle.geojson_io.specs.Positions.{axis_faults, number_or_zero, coordinate_faults, grid_number, position_faults, position_of, positions_of, outline_at_faults};
 
 use faults::fault::{Fault, FaultKind};
 use grid::pos::Pos;
 use grid::transform::{Axis, AxisFault, Grid};
-use lines::line::Line;
-use lines::ring::Ring;
 use reading::number::whole_number;
-use reading::outline;
 use reading::part::{Part, read_list, read_pair};
+use reading::shape::Positions;
 use serde_json::Value;
 use std::alloc::Global;
 
@@ -79,40 +76,20 @@ impl Part for Position {
     }
 }
 
-/// A line: an array of positions.
-#[derive(Clone, Copy)]
-pub struct LineOf {
-    pub of: Position,
-}
+impl Positions for Position {
+    ghost position_faults = { λ p. position_faults p.grid };
 
-impl Part for LineOf {
-    type Made = Line;
+    ghost position = { λ p. position_of p.grid };
 
-    ghost faults = { λ p. line_at_faults p.of.grid };
+    ghost list_faults = { λ p. outline_at_faults p.grid };
 
-    ghost means = { λ p d l. positions_of l ≡ line_at p.of.grid d };
+    ghost positions = { λ p. positions_of p.grid };
 
-    fn read(&self, alloc: Global, value: &Value) -> Result<Line, Fault> {
-        let positions = read_list(alloc, &self.of, value)?;
-        outline::line(alloc, positions)
+    fn read_position(&self, alloc: Global, value: &Value) -> Result<Pos, Fault> {
+        self.read(alloc, value)
     }
-}
 
-/// A ring: a closed array of positions.
-#[derive(Clone, Copy)]
-pub struct RingOf {
-    pub of: Position,
-}
-
-impl Part for RingOf {
-    type Made = Ring;
-
-    ghost faults = { λ p. ring_at_faults p.of.grid };
-
-    ghost means = { λ p d r. vertices_of r ≡ ring_at p.of.grid d };
-
-    fn read(&self, alloc: Global, value: &Value) -> Result<Ring, Fault> {
-        let positions = read_list(alloc, &self.of, value)?;
-        outline::ring(alloc, positions)
+    fn read_positions(&self, alloc: Global, value: &Value) -> Result<Vec<Pos>, Fault> {
+        read_list(alloc, self, value)
     }
 }

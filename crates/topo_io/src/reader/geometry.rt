@@ -3,15 +3,18 @@ ghost use Rattle.std.specs.Prelude.{◌≡◌, [], IfOk, IfErr, OnOk, Ok, Err, S
 ghost use Rattle.serde_json.specs.View.{view};
 ghost use Rattle.reading.specs.Fault.{LeastOrWant};
 ghost use Rattle.reading.specs.Plain.{plain, plain_form};
-ghost use Rattle.topo_io.specs.Arcs.{known};
-ghost use Rattle.topo_io.specs.Geometries.{body_name as name_of_body, body_faults, body_form, shape_faults, shape_form, typed_faults_of, feature_of, text_or_null as text_or_null_of, type_or_null as type_text_or_null, geometry_type as type_of_geometry, geometry_faults, geometry_feature};
+ghost use Rattle.topo_io.specs.Arcs.{known, stitched_list_faults, stitched_of};
+ghost use Rattle.topo_io.specs.Limits.{position_faults, position_of};
+ghost use Rattle.topo_io.specs.Geometries.{body_name as name_of_body, shape_faults, shape_form, typed_faults_of, feature_of, text_or_null as text_or_null_of, type_or_null as type_text_or_null, geometry_type as type_of_geometry, geometry_faults, geometry_feature};
 
 use crate::reader::position::{Limits, Position};
-use crate::reader::stitching::{IndexOf, LineOf, RingOf};
+use crate::reader::stitching::{IndexOf, stitch};
 use faults::fault::{Fault, FaultKind};
+use grid::pos::Pos;
 use reading::geometry::GeometryType;
 use reading::info::read_info;
-use reading::part::{Listed, Part, read_member, type_fault};
+use reading::part::{Part, read_list, read_member, type_fault};
+use reading::shape::{Positions, ShapeFrom};
 use serde_json::Value;
 use shapes::feature::Feature;
 use shapes::shape::Shape;
@@ -47,11 +50,25 @@ pub struct Ground<'a> {
     pub limits: Limits,
 }
 
-/// The body of a geometry of that type: its coordinates, or its lists of arcs.
-#[derive(Clone, Copy)]
-pub struct BodyOf<'g, 'a> {
-    pub on: &'g Ground<'a>,
-    pub kind: GeometryType,
+impl Positions for &Ground<'_> {
+    ghost position_faults = { λ p. position_faults p.now.limits };
+
+    ghost position = { λ _. position_of };
+
+    ghost list_faults = { λ p. stitched_list_faults (known p.now.arcs.now) };
+
+    ghost positions = { λ p. stitched_of p.now.arcs.now };
+
+    fn read_position(&self, alloc: Global, value: &Value) -> Result<Pos, Fault> {
+        let limits = self.limits;
+        Position { limits }.read(alloc, value)
+    }
+
+    fn read_positions(&self, alloc: Global, value: &Value) -> Result<Vec<Pos>, Fault> {
+        let of = IndexOf { arcs: self.arcs };
+        let used = read_list(alloc, &of, value)?;
+        stitch(alloc, self.arcs, &used)
+    }
 }
 
 /// The name of the member that holds the body.
@@ -68,40 +85,6 @@ pub(crate) fn body_name(kind: GeometryType) -> &'static str
     }
 }
 
-impl Part for BodyOf<'_, '_> {
-    type Made = Shape;
-
-    ghost faults = { λ p. body_faults p.on.now.limits (known p.on.now.arcs.now) p.kind };
-
-    ghost means = { λ p d s. plain_form s ≡ body_form p.on.now.arcs.now p.kind d };
-
-    fn read(&self, alloc: Global, value: &Value) -> Result<Shape, Fault> {
-        let at = Position {
-            limits: self.on.limits,
-        };
-        let of = IndexOf { arcs: self.on.arcs };
-        match self.kind {
-            GeometryType::Point => Ok(Shape::Point(at.read(alloc, value)?)),
-            GeometryType::MultiPoint => Ok(Shape::MultiPoint(Listed { of: at }.read(
-                alloc, value,
-            )?)),
-            GeometryType::LineString => Ok(Shape::Line(LineOf { of }.read(alloc, value)?)),
-            GeometryType::MultiLineString => {
-                let of = LineOf { of };
-                Ok(Shape::MultiLine(Listed { of }.read(alloc, value)?))
-            }
-            GeometryType::Polygon => {
-                let of = RingOf { of };
-                Ok(Shape::Polygon(Listed { of }.read(alloc, value)?))
-            }
-            GeometryType::MultiPolygon => {
-                let of = Listed { of: RingOf { of } };
-                Ok(Shape::MultiPolygon(Listed { of }.read(alloc, value)?))
-            }
-        }
-    }
-}
-
 fn read_shape(
     alloc: Global,
     on: &Ground,
@@ -115,7 +98,7 @@ fn read_shape(
     match kind {
         None => Ok(Shape::Null),
         Some(kind) => {
-            let body = BodyOf { on, kind };
+            let body = ShapeFrom { from: on, kind };
             read_member(alloc, &body, value, body_name(kind))
         }
     }

@@ -1,7 +1,6 @@
 //! Layers: the members of a topology's `objects` (TopoJSON, section 2.1.5).
 ghost use Rattle.std.specs.Prelude.{◌≡◌, [], ◌∷◌, map, IfOk, IfErr, OnOk, Ok, Err, codes};
 ghost use Rattle.serde_json.specs.View.{view};
-ghost use Rattle.faults.specs.Fault.{IsWant};
 ghost use Rattle.reading.specs.Fault.{LeastOrWant};
 ghost use Rattle.reading.specs.Parts.{member_faults, list_faults, elements};
 ghost use Rattle.reading.specs.Info.{member_or_null};
@@ -13,7 +12,7 @@ use crate::reader::geometry::{GeometryOf, Ground, read_as, type_or_null};
 use crate::reader::layer_type::LayerType;
 use faults::fault::{Fault, FaultKind};
 use reading::geometry::GeometryType;
-use reading::part::{Listed, Part, keep, read_member, type_fault};
+use reading::part::{Part, one, read_list_member, type_fault};
 use serde_json::Value;
 use shapes::feature::Feature;
 use std::alloc::Global;
@@ -45,20 +44,7 @@ fn read_geometries(alloc: Global, on: &Ground, value: &Value) -> Result<Vec<Feat
     ensures made { IfOk result (λ fs. map plain fs.items ≡ map (geometry_feature on.now.arcs.now) (elements (member_or_null (codes "geometries") (view value.now)))) }
     ensures err { IfErr result (λ f. LeastOrWant (member_faults (codes "geometries") (list_faults (geometry_faults on.now.limits (known on.now.arcs.now))) (view value.now)) f) }
 {
-    let of = GeometryOf { on };
-    match read_member(alloc, &Listed { of }, value, "geometries") {
-        Ok(features) => Ok(features.into_vec()),
-        Err(fault) => Err(fault),
-    }
-}
-
-fn one(alloc: Global, feature: Feature) -> Result<Vec<Feature>, Fault>
-    ensures ok { IfOk result (λ v. v.items ≡ feature ∷ []) }
-    ensures err { IfErr result IsWant }
-{
-    let mut features = Vec::new(alloc);
-    keep(&mut features, feature)?;
-    Ok(features)
+    read_list_member(alloc, GeometryOf { on }, value, "geometries")
 }
 
 fn read_one(

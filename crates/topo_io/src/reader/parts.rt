@@ -11,11 +11,10 @@ ghost use Rattle.faults.specs.Path.{name as name_turn};
 ghost use Rattle.faults.specs.Fault.{IsWant};
 ghost use Rattle.reading.specs.Fault.{LeastOrWant, under};
 ghost use Rattle.reading.specs.Parts.{member_faults, list_faults};
-ghost use Rattle.reading.specs.Info.{member_or_null};
 ghost use Rattle.topo_io.specs.Limits.{limits_on};
-ghost use Rattle.topo_io.specs.Arcs.{counted, arc_faults, arcs_of};
+ghost use Rattle.topo_io.specs.Arcs.{counted};
 ghost use Rattle.topo_io.specs.Roots.{objects_faults, limits_of, transform_of, transform_faults, topology_faults, grid_of, faults_of_text};
-ghost use Rattle.topo_io.specs.Parts.{named_geoms, layer_of_geoms, names_of_geoms, LayerStored, geoms_if_object, geoms_of, loose_content, loose_transformed, loose_topology, loose_faults, AreSaid, FaultyOrWant};
+ghost use Rattle.topo_io.specs.Parts.{named_geoms, layer_of_geoms, names_of_geoms, LayerStored, geoms_if_object, geoms_of, loose_content, loose_transformed, loose_topology, loose_faults, ArePartsOf, AreSaid, FaultyOrWant};
 
 pub mod body;
 pub mod features;
@@ -33,7 +32,7 @@ use grid::pos::Pos;
 use grid::transform::Grid;
 use lines::items::Items;
 use reading::document::document;
-use reading::part::{Listed, Part, keep, read_each_member, read_member, type_fault};
+use reading::part::{Listed, Part, keep, read_each_member, read_member};
 use serde_json::Value;
 use shapes::spelled::Spelled;
 use std::alloc::Global;
@@ -123,10 +122,7 @@ fn extent_of(arcs: &[Items<Pos>], limits: Limits) -> Extent
 fn read_content(alloc: Global, grid: Grid, value: &Value) -> Result<TextParts, Fault>
     ensures ok { OnOk result (loose_content (limits_on grid) (view value.now) ≡ []) }
     ensures grid { IfOk result (λ p. p.grid ≡ grid) }
-    ensures arcs { IfOk result (λ p. p.arcs.items ≡ arcs_of (member_or_null (codes "arcs") (view value.now))) }
-    ensures layers { IfOk result (λ p. map_list layer_of_geoms p.layers.items ≡ geoms_of (view value.now)) }
-    ensures ids { OnOk result (AllByRecursion LayerStored (geoms_of (view value.now))) }
-    ensures distinct { IfOk result (λ p. Distinct (map_list (λ l. spelled_text l.name) p.layers.items)) }
+    ensures parts { IfOk result (λ p. ArePartsOf (view value.now) p.arcs.items p.layers.items) }
     ensures err { IfErr result (FaultyOrWant (loose_content (limits_on grid) (view value.now))) }
 {
     let limits = Limits::of(&grid);
@@ -140,10 +136,7 @@ fn read_content(alloc: Global, grid: Grid, value: &Value) -> Result<TextParts, F
 fn read_with(alloc: Global, transform: &Value, value: &Value) -> Result<TextParts, Fault>
     ensures ok { OnOk result (loose_content (limits_of (view transform.now)) (view value.now) ++ under (name_turn (codes "transform")) (transform_faults (view transform.now)) ≡ []) }
     ensures grid { IfOk result (λ p. p.grid ≡ transform_of (view transform.now)) }
-    ensures arcs { IfOk result (λ p. p.arcs.items ≡ arcs_of (member_or_null (codes "arcs") (view value.now))) }
-    ensures layers { IfOk result (λ p. map_list layer_of_geoms p.layers.items ≡ geoms_of (view value.now)) }
-    ensures ids { OnOk result (AllByRecursion LayerStored (geoms_of (view value.now))) }
-    ensures distinct { IfOk result (λ p. Distinct (map_list (λ l. spelled_text l.name) p.layers.items)) }
+    ensures parts { IfOk result (λ p. ArePartsOf (view value.now) p.arcs.items p.layers.items) }
     ensures err { IfErr result (FaultyOrWant (loose_content (limits_of (view transform.now)) (view value.now) ++ under (name_turn (codes "transform")) (transform_faults (view transform.now)))) }
 {
     let grid = read_transform(alloc, transform)?;
@@ -153,10 +146,7 @@ fn read_with(alloc: Global, transform: &Value, value: &Value) -> Result<TextPart
 fn read_members(alloc: Global, value: &Value) -> Result<TextParts, Fault>
     ensures ok { OnOk result (loose_transformed (view value.now) (get (codes "transform") (view value.now)) ≡ []) }
     ensures grid { IfOk result (λ p. p.grid ≡ grid_of (view value.now)) }
-    ensures arcs { IfOk result (λ p. p.arcs.items ≡ arcs_of (member_or_null (codes "arcs") (view value.now))) }
-    ensures layers { IfOk result (λ p. map_list layer_of_geoms p.layers.items ≡ geoms_of (view value.now)) }
-    ensures ids { OnOk result (AllByRecursion LayerStored (geoms_of (view value.now))) }
-    ensures distinct { IfOk result (λ p. Distinct (map_list (λ l. spelled_text l.name) p.layers.items)) }
+    ensures parts { IfOk result (λ p. ArePartsOf (view value.now) p.arcs.items p.layers.items) }
     ensures err { IfErr result (FaultyOrWant (loose_transformed (view value.now) (get (codes "transform") (view value.now)))) }
 {
     match value.get("transform") {
@@ -168,10 +158,7 @@ fn read_members(alloc: Global, value: &Value) -> Result<TextParts, Fault>
 fn read_root(alloc: Global, value: &Value) -> Result<TextParts, Fault>
     ensures ok { OnOk result (loose_topology (view value.now) ≡ []) }
     ensures grid { IfOk result (λ p. p.grid ≡ grid_of (view value.now)) }
-    ensures arcs { IfOk result (λ p. p.arcs.items ≡ arcs_of (member_or_null (codes "arcs") (view value.now))) }
-    ensures layers { IfOk result (λ p. map_list layer_of_geoms p.layers.items ≡ geoms_of (view value.now)) }
-    ensures ids { OnOk result (AllByRecursion LayerStored (geoms_of (view value.now))) }
-    ensures distinct { IfOk result (λ p. Distinct (map_list (λ l. spelled_text l.name) p.layers.items)) }
+    ensures parts { IfOk result (λ p. ArePartsOf (view value.now) p.arcs.items p.layers.items) }
     ensures err { IfErr result (FaultyOrWant (loose_topology (view value.now))) }
 {
     if !value.is_object() {
@@ -197,10 +184,7 @@ fn least_fault(alloc: Global, value: &Value) -> Fault
 fn read_value(alloc: Global, value: &Value) -> Result<TextParts, Fault>
     ensures ok { OnOk result (loose_topology (view value.now) ≡ []) }
     ensures grid { IfOk result (λ p. p.grid ≡ grid_of (view value.now)) }
-    ensures arcs { IfOk result (λ p. p.arcs.items ≡ arcs_of (member_or_null (codes "arcs") (view value.now))) }
-    ensures layers { IfOk result (λ p. map_list layer_of_geoms p.layers.items ≡ geoms_of (view value.now)) }
-    ensures ids { OnOk result (AllByRecursion LayerStored (geoms_of (view value.now))) }
-    ensures distinct { IfOk result (λ p. Distinct (map_list (λ l. spelled_text l.name) p.layers.items)) }
+    ensures parts { IfOk result (λ p. ArePartsOf (view value.now) p.arcs.items p.layers.items) }
     ensures loose { IfErr result (FaultyOrWant (loose_topology (view value.now))) }
     ensures err { IfErr result (λ f. LeastOrWant (topology_faults (view value.now)) f) }
 {

@@ -3,24 +3,20 @@ ghost use Rattle.std.specs.Prelude.{◌≡◌, ◌≢◌, [], ◌∷◌, ◌++�
 ghost use Rattle.serde_json.specs.View.{view};
 ghost use Rattle.theory.specs.ArcNumbers.{index_of};
 ghost use Rattle.lines.specs.Pairs.{position_eq};
-ghost use Rattle.lines.specs.Seen.{positions_of, vertices_of};
 ghost use Rattle.grid.specs.declared.pos.Pos.{Pos};
 ghost use Rattle.faults.specs.Fault.{Pair, IsWant};
 ghost use Rattle.faults.specs.declared.fault.FaultKind.TheVariants.{OutOfMemory, Broken};
 ghost use Rattle.reading.specs.Fault.{LeastOrWant, here};
-ghost use Rattle.reading.specs.Outlines.{line_faults, ring_faults};
+ghost use Rattle.reading.specs.Outlines.{outline_faults};
 ghost use Rattle.reading.specs.Numbers.{whole_of};
-ghost use Rattle.topo_io.specs.Arcs.{known, used_arc, along, no_arc_faults, index_faults, meets, onto, stitched, stitched_faults, line_list_faults, ring_list_faults, line_at, ring_at};
-ghost use Rattle.topo_io.specs.Stitching.{StitchToLine, StitchToRing, line_along, ring_along};
+ghost use Rattle.topo_io.specs.Arcs.{known, used_arc, along, no_arc_faults, index_faults, meets, onto, stitched, stitched_faults, list_or_none};
 
 use chains::ArcRef;
 use faults::fault::{Fault, FaultKind};
 use grid::pos::Pos;
-use lines::line::Line;
-use lines::ring::Ring;
 use reading::number::whole_number;
-use reading::outline;
-use reading::part::{Part, keep, read_list};
+use reading::outline::{Outline, outlined};
+use reading::part::{Part, keep};
 use serde_json::Value;
 use std::alloc::Global;
 use taking::TextArcs;
@@ -163,7 +159,7 @@ fn append_used(
 }
 
 /// The arcs one after the other, one of two equal ends dropped.
-fn stitch(alloc: Global, arcs: &TextArcs, used: &[ArcRef]) -> Result<Vec<Pos>, Fault>
+pub(crate) fn stitch(alloc: Global, arcs: &TextArcs, used: &[ArcRef]) -> Result<Vec<Pos>, Fault>
     ensures made { IfOk result (λ l. stitched (map (along arcs.now) used.now) ≡ Some l.items) }
     ensures err { IfErr result (λ f. (of : List Pos → List Pair) → LeastOrWant (stitched_faults of (stitched (map (along arcs.now) used.now))) f) }
 {
@@ -174,60 +170,16 @@ fn stitch(alloc: Global, arcs: &TextArcs, used: &[ArcRef]) -> Result<Vec<Pos>, F
     Ok(list)
 }
 
-/// The line that used arcs stitch to.
-pub(crate) fn stitched_line(alloc: Global, arcs: &TextArcs, used: &[ArcRef]) -> Result<Line, Fault>
-    ensures ok { OnOk result (StitchToLine arcs.now used.now) }
-    ensures made { IfOk result (λ l. positions_of l ≡ line_along arcs.now used.now) }
-    ensures err { IfErr result (λ f. LeastOrWant (stitched_faults line_faults (stitched (map (along arcs.now) used.now))) f) }
+/// The line, or the closed ring, that used arcs stitch to.
+pub(crate) fn stitched_to<O: Outline>(
+    alloc: Global,
+    arcs: &TextArcs,
+    used: &[ArcRef],
+) -> Result<O, Fault>
+    ensures ok { OnOk result (stitched_faults (λ ps. outline_faults (O.fault ps)) (stitched (map (along arcs.now) used.now)) ≡ []) }
+    ensures made { IfOk result (λ o. O.seen o ≡ O.of (list_or_none (stitched (map (along arcs.now) used.now)))) }
+    ensures err { IfErr result (λ f. LeastOrWant (stitched_faults (λ ps. outline_faults (O.fault ps)) (stitched (map (along arcs.now) used.now))) f) }
 {
     let positions = stitch(alloc, arcs, used)?;
-    outline::line(alloc, positions)
-}
-
-/// The ring that used arcs stitch to, closed.
-pub(crate) fn stitched_ring(alloc: Global, arcs: &TextArcs, used: &[ArcRef]) -> Result<Ring, Fault>
-    ensures ok { OnOk result (StitchToRing arcs.now used.now) }
-    ensures made { IfOk result (λ r. vertices_of r ≡ ring_along arcs.now used.now) }
-    ensures err { IfErr result (λ f. LeastOrWant (stitched_faults ring_faults (stitched (map (along arcs.now) used.now))) f) }
-{
-    let positions = stitch(alloc, arcs, used)?;
-    outline::ring(alloc, positions)
-}
-
-/// A line: the list of indexes that stitches to it.
-#[derive(Clone, Copy)]
-pub struct LineOf<'a> {
-    pub of: IndexOf<'a>,
-}
-
-impl Part for LineOf<'_> {
-    type Made = Line;
-
-    ghost faults = { λ p. line_list_faults (known p.of.arcs.now) };
-
-    ghost means = { λ p d l. positions_of l ≡ line_at p.of.arcs.now d };
-
-    fn read(&self, alloc: Global, value: &Value) -> Result<Line, Fault> {
-        let used = read_list(alloc, &self.of, value)?;
-        stitched_line(alloc, self.of.arcs, &used)
-    }
-}
-
-/// A ring: a list of indexes that stitches to it, closed.
-#[derive(Clone, Copy)]
-pub struct RingOf<'a> {
-    pub of: IndexOf<'a>,
-}
-
-impl Part for RingOf<'_> {
-    type Made = Ring;
-
-    ghost faults = { λ p. ring_list_faults (known p.of.arcs.now) };
-
-    ghost means = { λ p d r. vertices_of r ≡ ring_at p.of.arcs.now d };
-
-    fn read(&self, alloc: Global, value: &Value) -> Result<Ring, Fault> {
-        let used = read_list(alloc, &self.of, value)?;
-        stitched_ring(alloc, self.of.arcs, &used)
-    }
+    outlined(alloc, positions)
 }

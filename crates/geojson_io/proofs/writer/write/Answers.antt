@@ -1,4 +1,4 @@
-use Rattle.std.proofs.Common.{◌≡◌, ℕ, List, Bor, codes, subst, sym}
+use Rattle.std.proofs.Common.{ℕ, List, Bor, codes, subst, sym}
 use Rattle.std.proofs.lemmas.Result.{on_ok_weaker, on_err_weaker}
 use Rattle.sinks.specs.Writes.{TookAll}
 use Rattle.sinks.proofs.Stops.{failed_in}

@@ -1,8 +1,6 @@
-use Rattle.std.proofs.Common.{◌≡◌, List, ap}
-use Rattle.serde_json.specs.Data.{Data}
+use Rattle.std.proofs.Common.{ap}
 use Rattle.serde_json.specs.View.{view}
-use Rattle.faults.specs.Fault.{Pair}
-use Rattle.faults.specs.declared.fault.FaultKind.TheVariants.{NotJson, OutOfMemory}
+use Rattle.faults.specs.declared.fault.FaultKind.TheVariants.{NotJson}
 use Rattle.reading.specs.Text.{text_faults}
 use Rattle.reading.proofs.Least.{only_of}
 use Rattle.reading.proofs.Texts.{document_is, document_none}

@@ -1,10 +1,9 @@
-use Rattle.std.proofs.Common.{◌≡◌, ◌++◌, codes, refl, rules}
+use Rattle.std.proofs.Common.{codes, refl, rules}
 use Rattle.serde_json.specs.View.{view}
 use Rattle.faults.specs.Path.{name}
 use Rattle.reading.specs.Fault.{LeastOrWant}
-use Rattle.reading.specs.Parts.{option_faults}
-use Rattle.reading.specs.Info.{info_faults, id_faults, properties_faults}
-use Rattle.reading.proofs.Least.{first_of, rest_of, after_under}
+use Rattle.reading.specs.Info.{info_faults}
+use Rattle.reading.proofs.Least.{first_of, after_under}
 use Rattle.reading.proofs.info.read_info.Goals as goal
 
 pub returns-in_err-id-clause-err : goal.returns-in_err-id-clause-err

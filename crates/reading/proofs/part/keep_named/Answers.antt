@@ -1,4 +1,4 @@
-use Rattle.std.proofs.Common.{◌≡◌, Result, Ok, Err, OnOk, refl}
+use Rattle.std.proofs.Common.{Result, Ok, Err, OnOk}
 use Rattle.reading.proofs.part.keep_named.Goals as goal
 
 on_ok : {A E : Type 0} (r : Result A E) (P Q : Type 0) → (P → Q) → OnOk r P → OnOk r Q

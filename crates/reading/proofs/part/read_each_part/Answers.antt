@@ -1,4 +1,4 @@
-use Rattle.std.proofs.Common.{◌≡◌, [], ◌∷◌, ◌++◌, sym, ap, ◌∙◌, subst, arith, rules, map, take, drop, ◌+◌}
+use Rattle.std.proofs.Common.{sym, ◌∙◌, subst, arith, map, take, ◌+◌}
 use Rattle.std.specs.List.{AllZip}
 use Rattle.serde_json.specs.View.{view}
 use Rattle.reading.specs.Fault.{LeastOrWant}

@@ -1,4 +1,3 @@
-use Rattle.std.proofs.Common.{◌≡◌, sym, ap, ◌∙◌, subst, arith, rules, map}
 use Rattle.serde_json.specs.View.{view}
 use Rattle.reading.specs.Parts.{each_faults}
 use Rattle.reading.proofs.Lists.{array_is, elements_are}

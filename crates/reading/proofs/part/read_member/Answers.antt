@@ -1,4 +1,3 @@
-use Rattle.std.proofs.Common.{◌≡◌, sym}
 use Rattle.serde_json.specs.View.{view}
 use Rattle.reading.proofs.Members.{member_refused, member_missing}
 use Rattle.reading.proofs.part.read_member.Goals as goal

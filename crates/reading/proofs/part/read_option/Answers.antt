@@ -1,4 +1,3 @@
-use Rattle.std.proofs.Common.{◌≡◌, sym}
 use Rattle.serde_json.specs.View.{view}
 use Rattle.reading.proofs.Members.{option_refused}
 use Rattle.reading.proofs.part.read_option.Goals as goal

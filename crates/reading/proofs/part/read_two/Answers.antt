@@ -1,8 +1,3 @@
-use Rattle.std.proofs.Common.{◌≡◌, refl, sym, ap, subst, map, arith}
-use Rattle.serde_json.specs.View.{view}
-use Rattle.faults.specs.Path.{index}
-use Rattle.reading.specs.Fault.{LeastOrWant, under}
-use Rattle.reading.specs.Parts.{two_faults}
 use Rattle.faults.specs.declared.fault.FaultKind.TheVariants.{NotTwo}
 use Rattle.reading.proofs.Least.{only_of}
 use Rattle.reading.proofs.Lists.{not_two, first_refused, second_refused}

@@ -1,8 +1,9 @@
-use Rattle.std.proofs.Common.{◌≤◌, ◌++◌, ◌∙◌, ap, length, subst, sym}
+use Rattle.std.proofs.Common.{◌≡◌, ◌≤◌, ◌++◌, ◌∙◌, List, ap, length, subst, sym}
 use Rattle.theory.specs.Lists.{joined}
 use Rattle.chains.specs.Extents.{within}
 use Rattle.chains.specs.Shared.{StayWhole}
 use Rattle.chains.specs.Table.{located}
+use Rattle.chains.specs.declared.cutting.Piece.{Piece}
 use Rattle.recutting.specs.Bounds.{parts_between}
 use Rattle.recutting.specs.Cutting.{pieces_from}
 use Rattle.recutting.proofs.Bounds.{bounds_are}
@@ -10,57 +11,54 @@ use Rattle.recutting.proofs.Held.{pieces_held}
 use Rattle.recutting.proofs.Parted.{AreNumbered, all_pieces, enough, first_refs, left_length, left_used, other_refs, right_length, right_used}
 use Rattle.recutting.proofs.TwoTables.{recut_is}
 use Rattle.recutting.proofs.recutting.recut_owned.Goals as goal
+use Rattle.recutting.proofs.recutting.recut_owned.Goals.{In_ok-arcs}
+
+-- the pieces of the left table, and those of the right one
+abbrev left_pieces : (c : In_ok-arcs) → List Piece
+left_pieces c = joined (pieces_from c.in_ok-cuts.cuts.index c.deref.result.now 0 c.in_ok-left_arcs.left_arcs.items)
+
+abbrev right_pieces : (c : In_ok-arcs) → List Piece
+right_pieces c = joined (pieces_from c.in_ok-cuts.cuts.index c.deref-2.result.now 0 c.in_ok-right_arcs.right_arcs.items)
+
+first_are : (c : In_ok-arcs) → c.add_table.new.pieces.items ≡ left_pieces c
+first_are c = c.in_ok-left_bounds.ensures.pieces ∙ ap (λ w. w ++ left_pieces c) c.in_ok-pieces.ensures.items
+
+count_is : (c : In_ok-arcs) → c.len-left_count.result ≡ length (left_pieces c)
+count_is c = c.len-left_count.ensures ∙ c.add_table.new.pieces.ok.0 ∙ ap length (first_are c)
+
+all_are : (c : In_ok-arcs) → c.add_table-2.new.pieces.items ≡ left_pieces c ++ right_pieces c
+all_are c = c.in_ok-right_bounds.ensures.pieces ∙ ap (λ w. w ++ right_pieces c) (first_are c)
 
 pub split_off-requires : goal.split_off-requires
 split_off-requires c =
-    let js = c.in_ok-cuts.cuts.index in
-    let ls = joined (pieces_from js c.deref.result.now 0 c.in_ok-left_arcs.left_arcs.items) in
-    let rs = joined (pieces_from js c.deref-2.result.now 0 c.in_ok-right_arcs.right_arcs.items) in
-    let first = c.in_ok-left_bounds.ensures.pieces ∙ ap (λ w. w ++ ls) c.in_ok-pieces.ensures.items in
-    let count = c.len-left_count.ensures ∙ c.add_table.new.pieces.ok.0 ∙ ap length first in
-    let all = c.in_ok-right_bounds.ensures.pieces ∙ ap (λ w. w ++ rs) first in
+    let at = (goal.at.split_off-requires c).In_ok-arcs in
     subst (λ w. c.len-left_count.result ≤ w) (sym c.in_ok-arcs.refs.ok.0)
-    (enough (located c.in_ok-arcs.arcs.arcs) ls rs c.add_table-2.new.pieces.items c.in_ok-arcs.refs.items c.len-left_count.result count all c.in_ok-arcs.ensures.refs)
+    (enough (located c.in_ok-arcs.arcs.arcs) (left_pieces at) (right_pieces at) c.add_table-2.new.pieces.items c.in_ok-arcs.refs.items c.len-left_count.result (count_is at) (all_are at)
+    c.in_ok-arcs.ensures.refs)
 
 pub between-left_lists-requires : goal.between-left_lists-requires
 between-left_lists-requires c =
-    let js = c.in_ok-cuts.cuts.index in
+    let at = (goal.at.between-left_lists-requires c).In_ok-arcs in
     let new = c.in_ok-arcs.arcs in
-    let of_left = pieces_from js c.deref.result.now 0 c.in_ok-left_arcs.left_arcs.items in
-    let ls = joined of_left in
-    let rs = joined (pieces_from js c.deref-2.result.now 0 c.in_ok-right_arcs.right_arcs.items) in
-    let first = c.in_ok-left_bounds.ensures.pieces ∙ ap (λ w. w ++ ls) c.in_ok-pieces.ensures.items in
-    let count = c.len-left_count.ensures ∙ c.add_table.new.pieces.ok.0 ∙ ap length first in
-    let all = c.in_ok-right_bounds.ensures.pieces ∙ ap (λ w. w ++ rs) first in
+    let of_left = pieces_from c.in_ok-cuts.cuts.index c.deref.result.now 0 c.in_ok-left_arcs.left_arcs.items in
     let refs = c.in_ok-right_refs.ensures.items
-    ∙ first_refs new ls rs c.add_table-2.new.pieces.items c.in_ok-arcs.refs.items c.len-left_count.result count all c.in_ok-arcs.ensures.refs in
+    ∙ first_refs new (left_pieces at) (right_pieces at) c.add_table-2.new.pieces.items c.in_ok-arcs.refs.items c.len-left_count.result (count_is at) (all_are at) c.in_ok-arcs.ensures.refs in
     bounds_are (located new.arcs) of_left c.in_ok-left_bounds.left_bounds.items _ c.in_ok-left_bounds.ensures.bounds refs
 
 pub between-right_lists-requires : goal.between-right_lists-requires
 between-right_lists-requires c =
-    let js = c.in_ok-cuts.cuts.index in
+    let at = (goal.at.between-right_lists-requires c).In_ok-arcs in
     let new = c.in_ok-arcs.arcs in
-    let of_right = pieces_from js c.deref-2.result.now 0 c.in_ok-right_arcs.right_arcs.items in
-    let ls = joined (pieces_from js c.deref.result.now 0 c.in_ok-left_arcs.left_arcs.items) in
-    let rs = joined of_right in
-    let first = c.in_ok-left_bounds.ensures.pieces ∙ ap (λ w. w ++ ls) c.in_ok-pieces.ensures.items in
-    let count = c.len-left_count.ensures ∙ c.add_table.new.pieces.ok.0 ∙ ap length first in
-    let all = c.in_ok-right_bounds.ensures.pieces ∙ ap (λ w. w ++ rs) first in
+    let of_right = pieces_from c.in_ok-cuts.cuts.index c.deref-2.result.now 0 c.in_ok-right_arcs.right_arcs.items in
     let refs = c.in_ok-right_refs.ensures.tail
-    ∙ other_refs new ls rs c.add_table-2.new.pieces.items c.in_ok-arcs.refs.items c.len-left_count.result count all c.in_ok-arcs.ensures.refs in
+    ∙ other_refs new (left_pieces at) (right_pieces at) c.add_table-2.new.pieces.items c.in_ok-arcs.refs.items c.len-left_count.result (count_is at) (all_are at) c.in_ok-arcs.ensures.refs in
     bounds_are (located new.arcs) of_right c.in_ok-right_bounds.right_bounds.items _ c.in_ok-right_bounds.ensures.bounds refs
 
 pub with_extent-requires : goal.with_extent-requires
 with_extent-requires c =
-    let js = c.in_ok-cuts.cuts.index in
-    let left_arcs = c.in_ok-left_arcs.left_arcs.items in
-    let right_arcs = c.in_ok-right_arcs.right_arcs.items in
-    let ls = joined (pieces_from js c.deref.result.now 0 left_arcs) in
-    let rs = joined (pieces_from js c.deref-2.result.now 0 right_arcs) in
-    pieces_held (within c.in_ok-cuts.cuts.extent) js c.args.left c.args.right c.deref.result.now c.deref-2.result.now left_arcs right_arcs
-    c.add_table-2.new.pieces.items c.in_ok-arcs.arcs.arcs c.in_ok-left_arcs.ensures c.in_ok-right_arcs.ensures
-    (c.in_ok-right_bounds.ensures.pieces ∙ ap (λ w. w ++ rs) (c.in_ok-left_bounds.ensures.pieces ∙ ap (λ w. w ++ ls) c.in_ok-pieces.ensures.items))
-    c.in_ok-arcs.ensures.arcs c.in_ok-cuts.ensures.left_extent c.in_ok-cuts.ensures.right_extent
+    pieces_held (within c.in_ok-cuts.cuts.extent) c.in_ok-cuts.cuts.index c.args.left c.args.right c.deref.result.now c.deref-2.result.now c.in_ok-left_arcs.left_arcs.items
+    c.in_ok-right_arcs.right_arcs.items c.add_table-2.new.pieces.items c.in_ok-arcs.arcs.arcs c.in_ok-left_arcs.ensures c.in_ok-right_arcs.ensures
+    (all_are (goal.at.with_extent-requires c).In_ok-arcs) c.in_ok-arcs.ensures.arcs c.in_ok-cuts.ensures.left_extent c.in_ok-cuts.ensures.right_extent
 
 are_numbered : (c : goal.After-drop-cuts-5) →
     AreNumbered c.in_ok-cuts.cuts.index c.args.left c.args.right c.deref.result.now c.deref-2.result.now c.add_table-2.new.pieces.items c.in_ok-arcs.arcs c.from_parts.result

@@ -1,4 +1,4 @@
-use Rattle.std.proofs.Common.{◌≡◌, IfSome, subst}
+use Rattle.std.proofs.Common.{IfSome, subst}
 use Rattle.taking.specs.Kept.{KeepLayers}
 use Rattle.taking.specs.Laws.{HaveI64}
 use Rattle.taking.proofs.ByKind.{ids_stay, sorted_reordered}

@@ -1,4 +1,3 @@
-use Rattle.topo_io.specs.Means.{Means}
 use Rattle.topo_io.specs.Roots.{layers_of_text}
 use Rattle.topo_io.proofs.Filling.{read_layers}
 use Rattle.topo_io.proofs.Fitting.{means_fits}

@@ -1,5 +1,4 @@
-use Rattle.std.proofs.Common.{◌≡◌, [], codes, refl, sym, ◌∙◌, subst}
-use Rattle.serde_json.specs.Data.{Data}
+use Rattle.std.proofs.Common.{◌≡◌, [], codes, sym, ◌∙◌, subst}
 use Rattle.serde_json.specs.View.{view}
 use Rattle.faults.specs.Path.{name}
 use Rattle.reading.specs.Fault.{LeastOrWant}

@@ -1,4 +1,4 @@
-use Rattle.std.proofs.Common.{◌≡◌, [], ◌++◌, codes, refl, sym, ap, ◌∙◌, subst, rules}
+use Rattle.std.proofs.Common.{◌≡◌, [], codes, refl, sym, ap, ◌∙◌, subst, rules}
 use Rattle.serde_json.specs.Find.{as_object}
 use Rattle.serde_json.specs.View.{view}
 use Rattle.faults.specs.Path.{name}
@@ -7,11 +7,10 @@ use Rattle.reading.specs.Parts.{elements, member_faults}
 use Rattle.reading.specs.Info.{member_or_null}
 use Rattle.reading.proofs.Least.{first_of, rest_of, after_under}
 use Rattle.reading.proofs.Lists.{zip_is}
-use Rattle.reading.proofs.Members.{member_there}
 use Rattle.reading.proofs.Results.{ok_map, on_ok_map, err_map}
-use Rattle.topo_io.specs.Arcs.{known, arc_of, arcs_of}
-use Rattle.topo_io.specs.Roots.{arcs_in, objects_faults, content_faults, layers_if_object}
-use Rattle.topo_io.proofs.Roots.{arcs_known, append_none}
+use Rattle.topo_io.specs.Arcs.{arc_of}
+use Rattle.topo_io.specs.Roots.{objects_faults, content_faults, layers_if_object}
+use Rattle.topo_io.proofs.Roots.{arcs_read, append_none}
 use Rattle.topo_io.proofs.reader.read_layers.Goals as goal
 
 pub returns-in_err-listed-clause-err : goal.returns-in_err-listed-clause-err
@@ -23,23 +22,20 @@ pub returns-clause-ok : goal.returns-clause-ok
 returns-clause-ok c =
     let l = c.args.limits.now in
     let v = view c.args.value.now in
-    let m = c.in_ok-listed.ensures.made in
-    let arcs = c.from_list-arcs.ensures ∙ c.into_vec.ensures ∙ zip_is arc_of (elements m.0) c.in_ok-listed.listed m.2 in
-    let is : arcs_in l v ≡ known c.from_list-arcs.result = arcs_known l v m.0 m.1 c.in_ok-listed.ensures.ok ∙ ap known (sym arcs) in
-    on_ok_map c.read_objects.result _ _ c.read_objects.ensures.ok (λ a. append_none _ _ c.in_ok-listed.ensures.ok (subst (λ k. member_faults (codes "objects") (objects_faults l k) v ≡ []) (sym is) a))
+    let known_arcs = arcs_read l v _ _ c.from_list-arcs.ensures c.in_ok-listed.ensures.made c.in_ok-listed.ensures.ok in
+    on_ok_map c.read_objects.result _ _ c.read_objects.ensures.ok
+    (λ a. append_none _ _ c.in_ok-listed.ensures.ok (subst (λ k. member_faults (codes "objects") (objects_faults l k) v ≡ []) (sym known_arcs) a))
 
 pub returns-clause-made : goal.returns-clause-made
 returns-clause-made c =
     let v = view c.args.value.now in
-    let m = c.in_ok-listed.ensures.made in
-    let arcs = c.from_list-arcs.ensures ∙ c.into_vec.ensures ∙ zip_is arc_of (elements m.0) c.in_ok-listed.listed m.2 ∙ ap arcs_of (sym (member_there (codes "arcs") v m.0 m.1)) in
+    let arcs = c.from_list-arcs.ensures ∙ zip_is arc_of (elements (member_or_null (codes "arcs") v)) c.in_ok-listed.listed.items c.in_ok-listed.ensures.made in
     ok_map c.read_objects.result _ _ c.read_objects.ensures.made (λ ls b. b ∙ ap (λ arcs. layers_if_object arcs (as_object (member_or_null (codes "objects") v))) arcs)
 
 pub returns-clause-err : goal.returns-clause-err
 returns-clause-err c =
     let l = c.args.limits.now in
     let v = view c.args.value.now in
-    let m = c.in_ok-listed.ensures.made in
-    let arcs = c.from_list-arcs.ensures ∙ c.into_vec.ensures ∙ zip_is arc_of (elements m.0) c.in_ok-listed.listed m.2 in
-    let is : arcs_in l v ≡ known c.from_list-arcs.result = arcs_known l v m.0 m.1 c.in_ok-listed.ensures.ok ∙ ap known (sym arcs) in
-    err_map c.read_objects.result _ _ c.read_objects.ensures.err (λ f h. rest_of _ _ f c.in_ok-listed.ensures.ok (subst (λ k. LeastOrWant (member_faults (codes "objects") (objects_faults l k) v) f) (sym is) h))
+    let known_arcs = arcs_read l v _ _ c.from_list-arcs.ensures c.in_ok-listed.ensures.made c.in_ok-listed.ensures.ok in
+    err_map c.read_objects.result _ _ c.read_objects.ensures.err
+    (λ f h. rest_of _ _ f c.in_ok-listed.ensures.ok (subst (λ k. LeastOrWant (member_faults (codes "objects") (objects_faults l k) v) f) (sym known_arcs) h))

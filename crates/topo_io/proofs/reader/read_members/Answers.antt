@@ -1,4 +1,4 @@
-use Rattle.std.proofs.Common.{◌≡◌, codes, sym, ap, ◌∙◌}
+use Rattle.std.proofs.Common.{codes, sym, ap, ◌∙◌}
 use Rattle.serde_json.specs.View.{view}
 use Rattle.faults.specs.Path.{name}
 use Rattle.faults.specs.declared.fault.FaultKind.TheVariants.{NoTransform}

@@ -1,4 +1,4 @@
-use Rattle.std.proofs.Common.{◌≡◌, codes, sym, ap, ◌∙◌}
+use Rattle.std.proofs.Common.{codes, sym, ap, ◌∙◌}
 use Rattle.serde_json.specs.Find.{as_object}
 use Rattle.serde_json.specs.View.{view}
 use Rattle.reading.proofs.Members.{member_there}

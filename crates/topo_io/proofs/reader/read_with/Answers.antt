@@ -1,10 +1,10 @@
-use Rattle.std.proofs.Common.{◌≡◌, [], ◌++◌, codes, refl, sym, ap, ◌∙◌, subst, rules}
+use Rattle.std.proofs.Common.{◌≡◌, [], ◌++◌, codes, sym, ap, ◌∙◌, subst, rules}
 use Rattle.serde_json.specs.View.{view}
 use Rattle.faults.specs.Path.{name}
 use Rattle.reading.specs.Fault.{LeastOrWant, under}
-use Rattle.reading.proofs.Results.{ok_map, on_ok_map, err_map}
+use Rattle.reading.proofs.Results.{on_ok_map, err_map}
 use Rattle.topo_io.specs.Limits.{limits_on}
-use Rattle.topo_io.specs.Roots.{content_faults, limits_of, transform_faults, transform_of}
+use Rattle.topo_io.specs.Roots.{content_faults, limits_of, transform_faults}
 use Rattle.topo_io.proofs.Roots.{limits_known, earlier, content_before, append_none, never}
 use Rattle.topo_io.proofs.reader.read_with.Goals as goal
 

@@ -1,7 +1,5 @@
-use Rattle.std.proofs.Common.{rules, ◌≡◌, ◌↔◌, ℕ, ◌≤◌, List, ◌++◌, length, IsTrue, true, false, not, Bool, nat_eq, Option, None, is_some, is_none, refl, sym, ap, ◌∙◌, arith}
-use Rattle.std.proofs.lemmas.Grind.{common_steps}
+use Rattle.std.proofs.Common.{◌≡◌, length, true, is_some}
 use Rattle.std.proofs.lemmas.Bool.{eqb-true, eq-eqb}
-use Rattle.topo_io.specs.Front.{taken, is_next, may_have_failed}
 use Rattle.topo_io.proofs.Comparing.{all_same, all_taken, failed_other}
 use Rattle.topo_io.proofs.same.is_written_text.Goals as goal
 

@@ -1,4 +1,4 @@
-use Rattle.std.proofs.Common.{◌≡◌, ℕ, List, IfSome, subst, sym}
+use Rattle.std.proofs.Common.{ℕ, List, IfSome, subst, sym}
 use Rattle.taking.specs.Laws.{HaveI64}
 use Rattle.topo_io.specs.Means.{MeansTopology}
 use Rattle.topo_io.specs.Parts.{AreSaid}

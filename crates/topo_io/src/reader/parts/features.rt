@@ -18,7 +18,7 @@ ghost use Rattle.topo_io.specs.Roots.{faults_of_text};
 ghost use Rattle.topo_io.specs.Stitching.{StitchToLine, StitchToRing, BodyStitches, GeomStitches, LayerStitches, NotOrWant, line_along, ring_along, form_along, feature_along, layer_along};
 
 use crate::reader::map_of;
-use crate::reader::stitching::{stitched_line, stitched_ring};
+use crate::reader::stitching::stitched_to;
 use chains::ArcRef;
 use faults::OutOfMemory;
 use faults::fault::{Fault, FaultKind};
@@ -67,7 +67,7 @@ impl Stitched for Line {
     ghost along = { line_along };
 
     fn stitched(alloc: Global, arcs: &TextArcs, from: Items<ArcRef>) -> Result<Line, Fault> {
-        stitched_line(alloc, arcs, from.as_slice())
+        stitched_to(alloc, arcs, from.as_slice())
     }
 }
 
@@ -83,7 +83,7 @@ impl Stitched for Ring {
     ghost along = { ring_along };
 
     fn stitched(alloc: Global, arcs: &TextArcs, from: Items<ArcRef>) -> Result<Ring, Fault> {
-        stitched_ring(alloc, arcs, from.as_slice())
+        stitched_to(alloc, arcs, from.as_slice())
     }
 }
 

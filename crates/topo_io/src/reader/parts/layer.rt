@@ -2,7 +2,6 @@
 ghost use Rattle.std.specs.Prelude.{◌≡◌, [], ◌∷◌, map, IfOk, IfErr, OnOk, Ok, codes};
 ghost use Rattle.std.specs.List.{AllByRecursion};
 ghost use Rattle.serde_json.specs.View.{view};
-ghost use Rattle.faults.specs.Fault.{IsWant};
 ghost use Rattle.reading.specs.Fault.{LeastOrWant};
 ghost use Rattle.reading.specs.Info.{member_or_null};
 ghost use Rattle.reading.specs.Parts.{member_faults, list_faults, elements};
@@ -18,7 +17,7 @@ use crate::reader::parts::body::{BodyWithin, Extent};
 use faults::fault::{Fault, FaultKind};
 use reading::geometry::GeometryType;
 use reading::info::read_info;
-use reading::part::{Listed, Part, keep, read_member, type_fault};
+use reading::part::{Part, one, read_list_member, read_member, type_fault};
 use serde_json::Value;
 use std::alloc::Global;
 use topo::{Body, Geom};
@@ -93,19 +92,7 @@ fn read_geoms(alloc: Global, extent: &Extent, value: &Value) -> Result<Vec<Geom>
     ensures err { IfErr result (λ f. LeastOrWant (member_faults (codes "geometries") (list_faults (geometry_faults extent.now.limits (counted extent.now.arcs))) (view value.now)) f) }
 {
     let of = GeomWithin { extent: *extent };
-    match read_member(alloc, &Listed { of }, value, "geometries") {
-        Ok(geometries) => Ok(geometries.into_vec()),
-        Err(fault) => Err(fault),
-    }
-}
-
-fn one(alloc: Global, geometry: Geom) -> Result<Vec<Geom>, Fault>
-    ensures ok { IfOk result (λ v. v.items ≡ geometry ∷ []) }
-    ensures err { IfErr result IsWant }
-{
-    let mut geometries = Vec::new(alloc);
-    keep(&mut geometries, geometry)?;
-    Ok(geometries)
+    read_list_member(alloc, of, value, "geometries")
 }
 
 fn read_one(

@@ -1,12 +1,24 @@
 use Rattle.std.proofs.Common.{◌++◌, ◌∙◌, ap}
 use Rattle.theory.specs.Lists.{gathered}
 use Rattle.chains.specs.OfArcs.{arc_ends, tables_as_map}
-use Rattle.chains.specs.Shared.{arc_shared, may_hold}
+use Rattle.chains.specs.Shared.{arc_shared, may_hold, HoldShared}
 use Rattle.chains.proofs.Extents.{joined_keeps, joined_keeps_other}
 use Rattle.chains.proofs.Same.{same_before, same_equal, same_refl, same_trans}
 use Rattle.chains.proofs.SharedVertices.{all_visits, left_whole, met_kept, right_whole, shared_held}
 use Rattle.chains.proofs.TablesAsMap.{visits_of_tables, tables_alike, index_alike}
 use Rattle.chains.proofs.visits.VisitIndex.over_arcs.Goals as goal
+use Rattle.chains.proofs.visits.VisitIndex.over_arcs.Goals.{After-see_arcs}
+
+-- the bits of either table hold what both have
+left_held : (c : After-see_arcs) → HoldShared c.in_ok-of_left.of_left c.args.left.now.arcs c.args.right.now.arcs
+left_held c =
+    shared_held c.args.left.now c.args.right.now c.around-left_extent.result c.around-right_extent.result c.in_ok-of_left.of_left
+    c.around-left_extent.ensures c.around-right_extent.ensures c.in_ok-of_left.ensures.common
+
+right_held : (c : After-see_arcs) → HoldShared c.in_ok-of_right.of_right c.args.right.now.arcs c.args.left.now.arcs
+right_held c =
+    shared_held c.args.right.now c.args.left.now c.around-right_extent.result c.around-left_extent.result c.in_ok-of_right.of_right
+    c.around-right_extent.ensures c.around-left_extent.ensures c.in_ok-of_right.ensures.common
 
 pub returns-clause-arcs : goal.returns-clause-arcs
 returns-clause-arcs c = λ m n sm sn ms nt.
@@ -14,8 +26,8 @@ returns-clause-arcs c = λ m n sm sn ms nt.
     let t = c.args.right.now in
     let of_s = c.in_ok-of_left.of_left in
     let of_t = c.in_ok-of_right.of_right in
-    let hold_s = shared_held s t c.around-left_extent.result c.around-right_extent.result of_s c.around-left_extent.ensures c.around-right_extent.ensures c.in_ok-of_left.ensures.common in
-    let hold_t = shared_held t s c.around-right_extent.result c.around-left_extent.result of_t c.around-right_extent.ensures c.around-left_extent.ensures c.in_ok-of_right.ensures.common in
+    let hold_s = left_held (goal.at.returns-clause-arcs c).After-see_arcs in
+    let hold_t = right_held (goal.at.returns-clause-arcs c).After-see_arcs in
     let ends = c.see_arcs-2.new.self.ends.items in
     let all = all_visits m n sm sn s t ms nt of_s of_t hold_s hold_t in
     let are =
@@ -37,15 +49,15 @@ returns-clause-union c = λ m n u sm sn ms nt un.
 pub returns-clause-left : goal.returns-clause-left
 returns-clause-left c = λ m n sm sn ms nt.
     left_whole m n sm sn c.args.left.now c.args.right.now ms nt c.in_ok-of_left.of_left c.in_ok-of_right.of_right
-    (shared_held c.args.left.now c.args.right.now c.around-left_extent.result c.around-right_extent.result c.in_ok-of_left.of_left c.around-left_extent.ensures c.around-right_extent.ensures c.in_ok-of_left.ensures.common)
-    (shared_held c.args.right.now c.args.left.now c.around-right_extent.result c.around-left_extent.result c.in_ok-of_right.of_right c.around-right_extent.ensures c.around-left_extent.ensures c.in_ok-of_right.ensures.common)
+    (left_held (goal.at.returns-clause-left c).After-see_arcs)
+    (right_held (goal.at.returns-clause-left c).After-see_arcs)
     c.in_ok-index.index (returns-clause-arcs c m n sm sn ms nt) c.in_ok-left_marks.left_marks.items c.in_ok-left_marks.ensures.marks
 
 pub returns-clause-right : goal.returns-clause-right
 returns-clause-right c = λ m n sm sn ms nt.
     right_whole m n sm sn c.args.left.now c.args.right.now ms nt c.in_ok-of_left.of_left c.in_ok-of_right.of_right
-    (shared_held c.args.left.now c.args.right.now c.around-left_extent.result c.around-right_extent.result c.in_ok-of_left.of_left c.around-left_extent.ensures c.around-right_extent.ensures c.in_ok-of_left.ensures.common)
-    (shared_held c.args.right.now c.args.left.now c.around-right_extent.result c.around-left_extent.result c.in_ok-of_right.of_right c.around-right_extent.ensures c.around-left_extent.ensures c.in_ok-of_right.ensures.common)
+    (left_held (goal.at.returns-clause-right c).After-see_arcs)
+    (right_held (goal.at.returns-clause-right c).After-see_arcs)
     c.in_ok-index.index (returns-clause-arcs c m n sm sn ms nt) c.in_ok-right_marks.right_marks.items c.in_ok-right_marks.ensures.marks
 
 pub returns-clause-left_extent : goal.returns-clause-left_extent

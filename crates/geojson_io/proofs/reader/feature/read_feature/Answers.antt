@@ -1,4 +1,4 @@
-use Rattle.std.proofs.Common.{◌≡◌, codes, refl, rules}
+use Rattle.std.proofs.Common.{codes, refl, rules}
 use Rattle.serde_json.specs.View.{view}
 use Rattle.faults.specs.Path.{name}
 use Rattle.reading.specs.Fault.{LeastOrWant}

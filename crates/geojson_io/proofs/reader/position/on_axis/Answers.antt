@@ -1,7 +1,6 @@
-use Rattle.std.proofs.Common.{◌≡◌, Err, refl, sym, ap, ◌∙◌, arith, w64, to_z, of_z}
+use Rattle.std.proofs.Common.{refl, sym, ap, arith}
 use Rattle.std.proofs.lemmas.Int.{ints, to_z-of_z}
 use Rattle.grid.specs.Place.{IsGridNumber}
-use Rattle.grid.specs.Computed.{axis_number}
 use Rattle.faults.specs.declared.fault.FaultKind.TheVariants as kind
 use Rattle.reading.proofs.Least.{only_of}
 use Rattle.geojson_io.specs.Positions.{axis_faults, grid_faults}

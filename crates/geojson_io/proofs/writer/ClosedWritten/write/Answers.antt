@@ -1,4 +1,4 @@
-use Rattle.std.proofs.Common.{◌≡◌, ℕ, List, subst}
+use Rattle.std.proofs.Common.{ℕ, List, subst}
 use Rattle.std.specs.Result.{OnOk, OnErr}
 use Rattle.sinks.specs.Writes.{TookAll, TookPart}
 use Rattle.geojson_io.proofs.Collections.{closed_is}

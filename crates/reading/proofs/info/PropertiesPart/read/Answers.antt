@@ -1,9 +1,6 @@
-use Rattle.std.proofs.Common.{◌≡◌, [], true, sym, ap, ◌∙◌, subst}
-use Rattle.serde_json.specs.Data.{null}
+use Rattle.std.proofs.Common.{[], sym, ap, ◌∙◌}
 use Rattle.serde_json.specs.View.{view}
-use Rattle.faults.specs.Fault.{Pair}
-use Rattle.reading.specs.Info.{properties_faults, properties_of}
-use Rattle.reading.proofs.Properties.{properties_ok, properties_refused, null_is}
+use Rattle.reading.proofs.Properties.{properties_refused}
 use Rattle.reading.proofs.info.PropertiesPart.read.Goals as goal
 
 pub returns-in-Err-clause-err : goal.returns-in-Err-clause-err

@@ -1,5 +1,4 @@
-use Rattle.std.proofs.Common.{ap, subst, sym}
-use Rattle.shapes.specs.declared.feature.Feature.{Feature}
+use Rattle.std.proofs.Common.{subst, sym}
 use Rattle.topo.specs.Features.{IsFeatureOf}
 use Rattle.topo.proofs.topology.Topology.feature.Goals as goal
 

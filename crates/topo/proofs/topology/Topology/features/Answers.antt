@@ -1,4 +1,3 @@
-use Rattle.std.proofs.Common.{◌∙◌}
 use Rattle.topo.specs.Features.{IsFeatureOf}
 use Rattle.topo.proofs.Pairs.{all_made, one_more, pair_at}
 use Rattle.topo.proofs.topology.Topology.features.Goals as goal

@@ -1,5 +1,4 @@
-use Rattle.std.proofs.Common.{◌≡◌}
-use Rattle.serde_json.specs.View.{view, members_view}
+use Rattle.serde_json.specs.View.{members_view}
 use Rattle.reading.proofs.Results.{ok_both, ok_with}
 use Rattle.topo_io.proofs.Roots.{mean_layers}
 use Rattle.topo_io.proofs.reader.ObjectsPart.read.Goals as goal

@@ -1,4 +1,4 @@
-use Rattle.std.proofs.Common.{◌≡◌, codes, sym, subst}
+use Rattle.std.proofs.Common.{codes, sym, subst}
 use Rattle.std.specs.List.{AllByRecursion}
 use Rattle.serde_json.specs.Find.{as_object}
 use Rattle.serde_json.specs.View.{view}

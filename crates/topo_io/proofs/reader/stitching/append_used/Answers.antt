@@ -1,4 +1,4 @@
-use Rattle.std.proofs.Common.{◌≡◌, None, slice_get, subst, ap, sym, ◌∙◌}
+use Rattle.std.proofs.Common.{◌≡◌, None, slice_get, ap, sym, ◌∙◌}
 use Rattle.theory.specs.ArcNumbers.{ArcRef}
 use Rattle.topo_io.specs.Arcs.{meets, onto}
 use Rattle.topo_io.proofs.Stitching.{along_none, onto_none}

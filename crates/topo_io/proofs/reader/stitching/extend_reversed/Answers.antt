@@ -1,4 +1,4 @@
-use Rattle.std.proofs.Common.{◌≡◌, [], ◌∷◌, ◌++◌, reverse, sym, ap, ◌∙◌, append_assoc, append-nil}
+use Rattle.std.proofs.Common.{[], ◌∷◌, ◌++◌, reverse, sym, ap, ◌∙◌, append_assoc, append-nil}
 use Rattle.topo_io.proofs.Stitching.{none_left, reverse_last}
 use Rattle.topo_io.proofs.reader.stitching.extend_reversed.Goals as goal
 

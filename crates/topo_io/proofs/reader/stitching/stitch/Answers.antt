@@ -1,4 +1,4 @@
-use Rattle.std.proofs.Common.{◌≡◌, ◌+◌, List, map, drop, ap, sym, ◌∙◌, subst, rules}
+use Rattle.std.proofs.Common.{◌+◌, List, map, drop, ap, sym, ◌∙◌, subst, rules}
 use Rattle.faults.specs.Fault.{Pair}
 use Rattle.grid.specs.declared.pos.Pos.{Pos}
 use Rattle.reading.specs.Fault.{LeastOrWant}

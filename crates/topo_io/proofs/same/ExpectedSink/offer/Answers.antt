@@ -1,4 +1,4 @@
-use Rattle.std.proofs.Common.{rules, ◌≡◌, ◌∙◌, sym, arith, min, ◌+◌, ◌-◌, ◌^◌, is_some, false, take, drop}
+use Rattle.std.proofs.Common.{rules, ◌≡◌, arith, is_some, false}
 use Rattle.std.proofs.lemmas.Grind.{common_steps}
 use Rattle.sinks.specs.Seen.{one_more}
 use Rattle.topo_io.proofs.Comparing.{shown, took_same, took_other}

@@ -1,4 +1,4 @@
-use Rattle.std.proofs.Common.{◌≡◌, ◌<◌, ◌≤◌, length, ◌∙◌, sym, rules, arith}
+use Rattle.std.proofs.Common.{◌<◌, length, arith}
 use Rattle.topo_io.specs.TopologyText.{arc_text}
 use Rattle.topo_io.proofs.Arcs.{step_all, step_part, step_separator}
 use Rattle.topo_io.proofs.Parts.{some_at, none_at}

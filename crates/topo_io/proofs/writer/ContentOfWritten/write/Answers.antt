@@ -1,4 +1,4 @@
-use Rattle.std.proofs.Common.{◌≡◌, ℕ, List, ◌++◌, ◌∙◌, subst, sym, ap, codes}
+use Rattle.std.proofs.Common.{ℕ, List, ◌++◌, ◌∙◌, subst, sym, ap, codes}
 use Rattle.std.specs.Result.{OnOk}
 use Rattle.sinks.specs.Texts.{list_text}
 use Rattle.sinks.specs.Writes.{TookAll}

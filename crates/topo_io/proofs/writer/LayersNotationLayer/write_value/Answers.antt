@@ -1,6 +1,3 @@
-use Rattle.std.proofs.Common.{◌∙◌, ap}
-use Rattle.shapes.specs.Parts.{spelled_text}
-use Rattle.shapes.specs.Spelling.{spelling_of}
 use Rattle.topo_io.proofs.Parts.{layer_is}
 use Rattle.writing.proofs.Same.{whole_as, part_as}
 use Rattle.topo_io.proofs.writer.LayersNotationLayer.write_value.Goals as goal
@@ -8,15 +5,9 @@ use Rattle.topo_io.proofs.writer.LayersNotationLayer.write_value.Goals as goal
 pub returns-clause-whole : goal.returns-clause-whole
 returns-clause-whole g c =
     whole_as c.write.result (g.W.Sink.seen c.args.sink.now) (g.W.Sink.seen c.write.new.sink) _ _
-    (layer_is c.args.value.now c.as_bytes.result.now c.geometries.result.now
-    (c.as_bytes.ensures.value ∙ (c.spelling.ensures ∙ ap (λ n. spelling_of (spelled_text n)) c.name.ensures))
-    c.geometries.ensures)
-    c.write.ensures.whole
+    (layer_is c.args.value.now c.as_bytes.ensures.value c.spelling.ensures c.name.ensures c.geometries.ensures) c.write.ensures.whole
 
 pub returns-clause-part : goal.returns-clause-part
 returns-clause-part g c =
     part_as c.write.result (g.W.Sink.seen c.args.sink.now) (g.W.Sink.seen c.write.new.sink) _ _
-    (layer_is c.args.value.now c.as_bytes.result.now c.geometries.result.now
-    (c.as_bytes.ensures.value ∙ (c.spelling.ensures ∙ ap (λ n. spelling_of (spelled_text n)) c.name.ensures))
-    c.geometries.ensures)
-    c.write.ensures.part
+    (layer_is c.args.value.now c.as_bytes.ensures.value c.spelling.ensures c.name.ensures c.geometries.ensures) c.write.ensures.part

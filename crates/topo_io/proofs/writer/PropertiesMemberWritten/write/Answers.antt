@@ -1,4 +1,4 @@
-use Rattle.std.proofs.Common.{◌≡◌, ℕ, List, ◌∙◌, subst}
+use Rattle.std.proofs.Common.{ℕ, List, ◌∙◌, subst}
 use Rattle.std.specs.Result.{OnOk}
 use Rattle.sinks.specs.Writes.{TookAll}
 use Rattle.shapes.specs.Parts.{properties_text}

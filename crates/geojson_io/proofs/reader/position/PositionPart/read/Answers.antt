@@ -1,9 +1,9 @@
-use Rattle.std.proofs.Common.{◌≡◌, [], sym, ◌∙◌, rules}
+use Rattle.std.proofs.Common.{◌≡◌, [], ◌∙◌, rules}
 use Rattle.reading.proofs.Positions.{number_reads}
 use Rattle.serde_json.specs.View.{view}
 use Rattle.reading.specs.Fault.{LeastOrWant}
 use Rattle.reading.specs.Parts.{pair_faults, IsPair, elements}
-use Rattle.geojson_io.specs.Positions.{coordinate_faults, position_faults, position_of}
+use Rattle.geojson_io.specs.Positions.{coordinate_faults, position_faults}
 use Rattle.geojson_io.proofs.Places.{same_axes, two_inside, pair_is, IsCoordinate}
 use Rattle.geojson_io.proofs.reader.position.PositionPart.read.Goals as goal
 

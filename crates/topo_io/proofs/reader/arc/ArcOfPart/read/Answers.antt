@@ -1,4 +1,4 @@
-use Rattle.std.proofs.Common.{◌≡◌, sym, ◌∙◌}
+use Rattle.std.proofs.Common.{◌∙◌}
 use Rattle.serde_json.specs.View.{view}
 use Rattle.reading.proofs.Lists.{array_is, elements_are}
 use Rattle.topo_io.specs.Arcs.{steps_faults}

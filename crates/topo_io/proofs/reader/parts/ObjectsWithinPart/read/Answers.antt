@@ -1,5 +1,4 @@
-use Rattle.std.proofs.Common.{◌≡◌}
-use Rattle.serde_json.specs.View.{view, members_view}
+use Rattle.serde_json.specs.View.{members_view}
 use Rattle.reading.proofs.Results.{ok_both, ok_with}
 use Rattle.topo_io.proofs.Said.{mean_geoms, mean_ids}
 use Rattle.topo_io.proofs.reader.parts.ObjectsWithinPart.read.Goals as goal

@@ -1,4 +1,4 @@
-use Rattle.std.proofs.Common.{◌≡◌, rules, subst}
+use Rattle.std.proofs.Common.{rules, subst}
 use Rattle.serde_json.specs.View.{view}
 use Rattle.reading.specs.Fault.{LeastOrWant}
 use Rattle.topo_io.specs.Arcs.{counted}

@@ -1,23 +1,16 @@
-use Rattle.std.proofs.Common.{◌≡◌, codes, map, sym, ap, ◌∙◌, subst}
-use Rattle.std.specs.List.{AllByRecursion}
-use Rattle.serde_json.specs.View.{view}
-use Rattle.reading.specs.Parts.{elements}
+use Rattle.std.proofs.Common.{◌≡◌}
 use Rattle.reading.proofs.Lists.{zip_map, zip_weaker}
-use Rattle.reading.proofs.Members.{member_there}
+use Rattle.reading.proofs.Results.{ok_map}
 use Rattle.topo_io.specs.Parts.{plain_geom, geometry_geom, GeomStored}
 use Rattle.topo_io.proofs.Said.{zip_all}
 use Rattle.topo_io.proofs.reader.parts.layer.read_geoms.Goals as goal
 
-pub returns-in-Ok-clause-made : goal.returns-in-Ok-clause-made
-returns-in-Ok-clause-made c =
-    let made = c.in-Ok.ensures.made in
-    ap (map plain_geom) c.into_vec.ensures
-    ∙ zip_map plain_geom geometry_geom (elements made.0) c.in-Ok.geometries
-    (zip_weaker _ (λ d g. plain_geom g ≡ geometry_geom d) (elements made.0) c.in-Ok.geometries (λ d g h. h.0) made.2)
-    ∙ ap (λ e. map geometry_geom (elements e)) (sym (member_there (codes "geometries") (view c.args.value.now) made.0 made.1))
+pub returns-clause-made : goal.returns-clause-made
+returns-clause-made c =
+    ok_map c.read_list_member.result _ _ c.read_list_member.ensures.made
+    (λ gs h. zip_map plain_geom geometry_geom _ gs.items (zip_weaker _ (λ d g. plain_geom g ≡ geometry_geom d) _ gs.items (λ d g k. k.0) h))
 
-pub returns-in-Ok-clause-ids : goal.returns-in-Ok-clause-ids
-returns-in-Ok-clause-ids c =
-    let made = c.in-Ok.ensures.made in
-    subst (λ e. AllByRecursion GeomStored (map geometry_geom (elements e))) (sym (member_there (codes "geometries") (view c.args.value.now) made.0 made.1))
-    (zip_all geometry_geom GeomStored (elements made.0) c.in-Ok.geometries (zip_weaker _ (λ d g. GeomStored (geometry_geom d)) (elements made.0) c.in-Ok.geometries (λ d g h. h.1) made.2))
+pub returns-clause-ids : goal.returns-clause-ids
+returns-clause-ids c =
+    ok_map c.read_list_member.result _ _ c.read_list_member.ensures.made
+    (λ gs h. zip_all geometry_geom GeomStored _ gs.items (zip_weaker _ (λ d g. GeomStored (geometry_geom d)) _ gs.items (λ d g k. k.1) h))

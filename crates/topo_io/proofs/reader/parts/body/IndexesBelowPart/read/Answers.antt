@@ -1,4 +1,4 @@
-use Rattle.std.proofs.Common.{◌≡◌, sym, ◌∙◌, subst}
+use Rattle.std.proofs.Common.{sym, ◌∙◌, subst}
 use Rattle.serde_json.specs.View.{view}
 use Rattle.reading.specs.Fault.{LeastOrWant}
 use Rattle.reading.specs.Numbers.{whole_of}

@@ -1,0 +1,53 @@
+//! Marks of the arcs that lists use.
+ghost use Rattle.std.specs.Prelude.{◌≡◌, set, true};
+ghost use Rattle.std.specs.List.{list_all};
+ghost use Rattle.theory.specs.Lists.{joined};
+ghost use Rattle.standing.specs.Marks.{marks_set};
+ghost use Rattle.arranging.specs.Used.{lists_marked};
+
+use chains::ArcRef;
+use lines::items::Items;
+
+fn mark(marks: &mut Vec<bool>, arc: usize)
+    ensures { marks.new.items ≡ set marks.old.items arc true }
+{
+    if arc < marks.len() {
+        marks[arc] = true;
+    }
+}
+
+pub(crate) fn mark_each(marks: &mut Vec<bool>, refs: &[ArcRef])
+    ensures { marks.new.items ≡ marks_set true marks.old.items refs.now }
+{
+    for used in refs {
+        mark(marks, used.arc);
+    }
+}
+
+pub(crate) fn mark_lists(marks: &mut Vec<bool>, lists: &[Items<ArcRef>])
+    ensures { marks.new.items ≡ lists_marked marks.old.items lists.now }
+{
+    for refs in lists {
+        mark_each(marks, refs.as_slice());
+    }
+}
+
+pub(crate) fn mark_polygons(marks: &mut Vec<bool>, polygons: &[Items<Items<ArcRef>>])
+    ensures { marks.new.items ≡ lists_marked marks.old.items (joined polygons.now) }
+{
+    for lists in polygons {
+        mark_lists(marks, lists.as_slice());
+    }
+}
+
+/// Whether each arc is marked.
+pub(crate) fn all_marked(marks: &[bool]) -> bool
+    ensures { result ≡ list_all (λ b. b) marks.now }
+{
+    for marked in marks {
+        if !*marked {
+            return false;
+        }
+    }
+    true
+}
