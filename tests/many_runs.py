@@ -1,9 +1,9 @@
 """What the scripts share that run the program very many times: all processors, and a limit of time."""
 
 import argparse
+import functools
 import multiprocessing
 import os
-import signal
 import subprocess
 import sys
 import time
@@ -29,21 +29,20 @@ def words_of(texts):
     return words
 
 
-def end_on_request():
-    """Has a worker that is ended end what it runs, too."""
-    signal.signal(signal.SIGTERM, lambda *_: sys.exit(1))
+def judged_before(end, judge, task):
+    """What `judge` answers for a task, alone in a list; nothing where the end is past."""
+    return [judge(task)] if end is None or time.monotonic() < end else []
 
 
 def judged(judge, tasks, seconds):
-    """Gives what `judge` answers for each task, as they are done, until the seconds are over; None is no limit."""
+    """Gives what `judge` answers for each task, as they are done. When the seconds are over no other is begun; None is no limit."""
     end = None if seconds is None else time.monotonic() + seconds
-    with multiprocessing.Pool(len(os.sched_getaffinity(0)), end_on_request) as pool:
-        answers = pool.imap_unordered(judge, tasks)
-        for _ in tasks:
-            try:
-                yield answers.next(None if end is None else max(0, end - time.monotonic()))
-            except multiprocessing.TimeoutError:
-                return
+    with multiprocessing.Pool(len(os.sched_getaffinity(0))) as pool:
+        for answers in pool.imap_unordered(functools.partial(judged_before, end, judge), tasks):
+            yield from answers
+        # The workers end by themselves: one that is ended may never tell that it did.
+        pool.close()
+        pool.join()
 
 
 def told(done, total, what, seconds):
