@@ -1,10 +1,12 @@
 -- What the text of a topology means.
-use Rattle.std.specs.Prelude.{◌≡◌, ℕ, List, []}
+use Rattle.std.specs.Prelude.{◌≡◌, ◌≢◌, ℕ, List, []}
 use Rattle.grid.specs.Place.{Transform}
+use Rattle.grid.specs.declared.pos.Pos.{Pos}
 use Rattle.shapes.specs.Maps.{Layers}
 use Rattle.reading.specs.Meant.{AreLayers}
 use Rattle.topo.specs.OfMap.{IsOf}
-use Rattle.topo.specs.Parts.{TopologyParts}
+use Rattle.topo.specs.Parts.{LayerParts, TopologyParts}
+use Rattle.topo_io.specs.Parts.{AreSaid}
 use Rattle.topo_io.specs.Roots.{faults_of_text, grid_of_text, layers_of_text}
 
 -- an accepted text of a topology means its grid and the map of the features that its arcs stitch to
@@ -16,3 +18,11 @@ pub record Means (bytes : List ℕ) (g : Transform) (m : Layers) : Type 0 where
 -- the text means a map on the topology's grid, and the topology is that map's
 abbrev pub MeansTopology : List ℕ → TopologyParts → Type 0
 MeansTopology bytes t = (m : Layers) × Means bytes t.grid m × IsOf m t
+
+-- each text that says the grid, the arcs and the layers means the topology
+abbrev pub IsTopologyOfParts : Transform → List (List Pos) → List LayerParts → TopologyParts → Type 0
+IsTopologyOfParts g cs ls t = (bytes : List ℕ) → AreSaid bytes g cs ls → MeansTopology bytes t
+
+-- each text that says them has a fault
+abbrev pub AreFaultyParts : Transform → List (List Pos) → List LayerParts → Type 0
+AreFaultyParts g cs ls = (bytes : List ℕ) → AreSaid bytes g cs ls → faults_of_text bytes ≢ []

@@ -1,9 +1,8 @@
 //! Topologies in, from texts that have the arcs and the features in another order than ours, as other tools
 //! write them.
-ghost use Rattle.std.specs.Prelude.{ℕ, List, ◌<◌, ◌^◌, length, IfOk, IfSome};
+ghost use Rattle.std.specs.Prelude.{◌<◌, ◌^◌, length, IfOk, IfSome};
 ghost use Rattle.taking.specs.Laws.{HaveI64};
-ghost use Rattle.topo_io.specs.Means.{MeansTopology};
-ghost use Rattle.topo_io.specs.Parts.{AreSaid};
+ghost use Rattle.topo_io.specs.Means.{IsTopologyOfParts};
 
 use arranging::{arrange, is_beyond_order};
 use faults::OutOfMemory;
@@ -25,7 +24,7 @@ pub(crate) fn rearranged(
     layers: &[Layer],
 ) -> Result<Option<Topology>, OutOfMemory>
     requires { HaveI64 layers.now }
-    ensures means { IfOk result (λ o. IfSome o (λ t. (bytes : List ℕ) → AreSaid bytes grid arcs.now layers.now → MeansTopology bytes t)) }
+    ensures means { IfOk result (λ o. IfSome o (IsTopologyOfParts grid arcs.now layers.now)) }
     ensures few { IfOk result (λ o. IfSome o (λ t. length t.arcs.arcs < 2 ^ 63)) }
 {
     if is_beyond_order(alloc, arcs, layers)? {

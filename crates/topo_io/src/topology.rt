@@ -1,19 +1,18 @@
 //! Topologies in: the arcs and the layers of a text taken as they stand, where they do, or once they are put
 //! into order.
-ghost use Rattle.std.specs.Prelude.{◌≡◌, ◌≢◌, ◌<◌, ◌^◌, [], length, IfOk, IfErr, OnOk};
+ghost use Rattle.std.specs.Prelude.{◌≡◌, ◌≢◌, ◌<◌, ◌^◌, [], length, IfOk, IfErr, IfSome, IfNone, OnOk};
 ghost use Rattle.reading.specs.Fault.{LeastOrWant};
-ghost use Rattle.topo_io.specs.Means.{Means, MeansTopology};
-ghost use Rattle.topo_io.specs.Parts.{AreSaid};
+ghost use Rattle.taking.specs.Laws.{HaveI64};
+ghost use Rattle.topo_io.specs.Means.{MeansTopology, IsTopologyOfParts, AreFaultyParts};
 ghost use Rattle.topo_io.specs.Roots.{faults_of_text};
 
 use crate::other_forms::rearranged;
 use crate::reader::parts::features::map_of_parts;
-use crate::reader::parts::read_parts;
+use crate::reader::parts::{TextParts, read_parts};
 use crate::reader::read_text;
 use faults::OutOfMemory;
 use faults::fault::{Fault, FaultKind};
 use grid::transform::Grid;
-use shapes::feature_map::FeatureMap;
 use std::alloc::Global;
 use taking::{Taken, TextArcs, take};
 use topo::{Layer, Topology};
@@ -30,65 +29,39 @@ fn least_fault(alloc: Global, bytes: &[u8]) -> Fault
     }
 }
 
-/// The map that a text means, of its arcs and layers.
-fn stitched(
-    alloc: Global,
-    bytes: &[u8],
-    grid: &Grid,
-    arcs: TextArcs,
-    layers: Vec<Layer>,
-) -> Result<FeatureMap, Fault>
-    requires { AreSaid bytes.now grid.now arcs layers.items }
-    ensures means { IfOk result (λ m. Means bytes.now grid.now m) }
-    ensures err { IfErr result (λ f. LeastOrWant (faults_of_text bytes.now) f) }
-{
-    match map_of_parts(alloc, &arcs, layers) {
-        Ok(Some(map)) => Ok(map),
-        Ok(None) => Err(least_fault(alloc, bytes)),
-        Err(OutOfMemory) => Err(Fault::here(alloc, FaultKind::OutOfMemory)),
-    }
-}
-
 /// The topology of a text whose arcs and layers are given, built of the features that they stitch to.
+/// None where a list of arcs stitches to no line or ring.
 fn built(
     alloc: Global,
-    bytes: &[u8],
     grid: &Grid,
-    arcs: TextArcs,
+    arcs: &TextArcs,
     layers: Vec<Layer>,
-) -> Result<Topology, Fault>
-    requires { AreSaid bytes.now grid.now arcs layers.items }
-    ensures ok { OnOk result (faults_of_text bytes.now ≡ []) }
-    ensures means { IfOk result (MeansTopology bytes.now) }
-    ensures few { IfOk result (λ t. length t.arcs.arcs < 2 ^ 63) }
-    ensures err { IfErr result (λ f. LeastOrWant (faults_of_text bytes.now) f) }
+) -> Result<Option<Topology>, OutOfMemory>
+    ensures means { IfOk result (λ o. IfSome o (IsTopologyOfParts grid.now arcs.now layers.items)) }
+    ensures few { IfOk result (λ o. IfSome o (λ t. length t.arcs.arcs < 2 ^ 63)) }
+    ensures none { IfOk result (λ o. IfNone o (AreFaultyParts grid.now arcs.now layers.items)) }
 {
-    let map = stitched(alloc, bytes, grid, arcs, layers)?;
-    match Topology::build(alloc, grid, &map) {
-        Ok(topology) => Ok(topology),
-        Err(OutOfMemory) => Err(Fault::here(alloc, FaultKind::OutOfMemory)),
+    match map_of_parts(alloc, arcs, layers)? {
+        Some(map) => Ok(Some(Topology::build(alloc, grid, &map)?)),
+        None => Ok(None),
     }
 }
 
-/// The topology of a text whose arcs and layers don't stand as they are: theirs, where they do once they are
-/// put into order, else it is built.
-fn ordered_or_built(
-    alloc: Global,
-    bytes: &[u8],
-    grid: &Grid,
-    arcs: TextArcs,
-    layers: Vec<Layer>,
-) -> Result<Topology, Fault>
-    requires { AreSaid bytes.now grid.now arcs layers.items }
-    ensures ok { OnOk result (faults_of_text bytes.now ≡ []) }
-    ensures means { IfOk result (MeansTopology bytes.now) }
-    ensures few { IfOk result (λ t. length t.arcs.arcs < 2 ^ 63) }
-    ensures err { IfErr result (λ f. LeastOrWant (faults_of_text bytes.now) f) }
+/// The topology of a text's parts: theirs, where they stand as they are or once they are put into order, else it
+/// is built. None where a list of arcs stitches to no line or ring.
+fn topology_of_parts(alloc: Global, parts: TextParts) -> Result<Option<Topology>, OutOfMemory>
+    requires { HaveI64 parts.layers.items }
+    ensures means { IfOk result (λ o. IfSome o (IsTopologyOfParts parts.grid parts.arcs.items parts.layers.items)) }
+    ensures few { IfOk result (λ o. IfSome o (λ t. length t.arcs.arcs < 2 ^ 63)) }
+    ensures none { IfOk result (λ o. IfNone o (AreFaultyParts parts.grid parts.arcs.items parts.layers.items)) }
 {
-    match rearranged(alloc, *grid, &arcs, &layers) {
-        Ok(Some(topology)) => Ok(topology),
-        Ok(None) => built(alloc, bytes, grid, arcs, layers),
-        Err(OutOfMemory) => Err(Fault::here(alloc, FaultKind::OutOfMemory)),
+    let grid = parts.grid;
+    match take(alloc, grid, parts.arcs, parts.layers)? {
+        Taken::Whole(topology) => Ok(Some(topology)),
+        Taken::Not { arcs, layers } => match rearranged(alloc, grid, &arcs, &layers)? {
+            Some(topology) => Ok(Some(topology)),
+            None => built(alloc, &grid, &arcs, layers),
+        },
     }
 }
 
@@ -107,10 +80,9 @@ pub fn read_topology(alloc: Global, bytes: &[u8]) -> Result<Topology, Fault>
     ensures err { IfErr result (λ f. LeastOrWant (faults_of_text bytes.now) f) }
 {
     let parts = read_parts(alloc, bytes)?;
-    let grid = parts.grid;
-    match take(alloc, grid, parts.arcs, parts.layers) {
-        Ok(Taken::Whole(topology)) => Ok(topology),
-        Ok(Taken::Not { arcs, layers }) => ordered_or_built(alloc, bytes, &grid, arcs, layers),
+    match topology_of_parts(alloc, parts) {
+        Ok(Some(topology)) => Ok(topology),
+        Ok(None) => Err(least_fault(alloc, bytes)),
         Err(OutOfMemory) => Err(Fault::here(alloc, FaultKind::OutOfMemory)),
     }
 }

@@ -1,19 +1,12 @@
-use Rattle.topo_io.specs.Means.{MeansTopology}
-use Rattle.topo_io.proofs.AsItStands.{said_ids, whole_means}
+use Rattle.std.proofs.Common.{IfSome, subst}
+use Rattle.topo_io.specs.Means.{IsTopologyOfParts}
+use Rattle.topo_io.proofs.AsItStands.{said_ids}
 use Rattle.topo_io.proofs.topology.read_topology.Goals as goal
 
-pub take-requires : goal.take-requires
-take-requires c = said_ids c.args.bytes.now c.in_ok-parts.parts.grid c.in_ok-parts.parts.arcs.items c.in_ok-parts.parts.layers.items c.in_ok-parts.ensures.ok
+pub topology_of_parts-requires : goal.topology_of_parts-requires
+topology_of_parts-requires c = said_ids c.args.bytes.now c.in_ok-parts.parts.grid c.in_ok-parts.parts.arcs.items c.in_ok-parts.parts.layers.items c.in_ok-parts.ensures.ok
 
-pub returns-in-Ok-Whole-clause-ok : goal.returns-in-Ok-Whole-clause-ok
-returns-in-Ok-Whole-clause-ok c =
-    let means : MeansTopology c.args.bytes.now c.in-Ok-Whole.topology =
-    whole_means c.args.bytes.now c.in_ok-parts.parts.grid c.in_ok-parts.parts.arcs.items c.in_ok-parts.parts.layers.items c.in_ok-parts.ensures.ok c.in-Ok-Whole.field-0 c.in-Ok-Whole.topology
-    c.in-Ok-Whole.field-0-is c.in-Ok-Whole.ensures.grid c.in-Ok-Whole.ensures.arcs c.in-Ok-Whole.ensures.layers c.in-Ok-Whole.ensures.stand c.in-Ok-Whole.ensures.of_map in
-    let (m, meant, of_map) = means in
-    meant.accepted
-
-pub returns-in-Ok-Whole-clause-means : goal.returns-in-Ok-Whole-clause-means
-returns-in-Ok-Whole-clause-means c =
-    whole_means c.args.bytes.now c.in_ok-parts.parts.grid c.in_ok-parts.parts.arcs.items c.in_ok-parts.parts.layers.items c.in_ok-parts.ensures.ok c.in-Ok-Whole.field-0 c.in-Ok-Whole.topology
-    c.in-Ok-Whole.field-0-is c.in-Ok-Whole.ensures.grid c.in-Ok-Whole.ensures.arcs c.in-Ok-Whole.ensures.layers c.in-Ok-Whole.ensures.stand c.in-Ok-Whole.ensures.of_map
+pub returns-in-Ok-Some-clause-means : goal.returns-in-Ok-Some-clause-means
+returns-in-Ok-Some-clause-means c =
+    let parts = c.in_ok-parts.parts in
+    subst (λ o. IfSome o (IsTopologyOfParts parts.grid parts.arcs.items parts.layers.items)) c.in-Ok-Some.field-0-is c.in-Ok-Some.ensures.means c.args.bytes.now c.in_ok-parts.ensures.ok
