@@ -5,6 +5,7 @@ use Rattle.std.specs.List.Sorted.{IsPermutation, IsSorted}
 use Rattle.std.proofs.lemmas.List.{get_or-replicate, length-replicate}
 use Rattle.std.proofs.lemmas.List.Sorted.{IsPermutation-sym}
 use Rattle.grid.specs.declared.pos.Pos.{Pos}
+use Rattle.lines.specs.Neighbours.{equal_neighbours}
 use Rattle.lines.proofs.Dropping.{drop_item}
 use Rattle.lines.proofs.SortedLists.{Has-permutation}
 use Rattle.theory.specs.ArcNumbers.{ArcRef, flipped}
@@ -19,7 +20,7 @@ use Rattle.topo.specs.Parts.{LayerParts}
 use Rattle.topo.specs.declared.geom.Geom.{Geom}
 use Rattle.taking.specs.Lists.{body_lines, body_rings, layers_lines, layers_rings, lines_of, rings_of}
 use Rattle.arranging.specs.Beyond.{EndsAlone, IsBeyondOrder, SomeUnused, geometries_marked, geometry_marked, layer_ends, layers_marked}
-use Rattle.arranging.specs.Leavings.{Leaving, any_elsewhere, has_twins, leaving_cmp, leavings, list_ends, listed_if, meetings, seam, start_along}
+use Rattle.arranging.specs.Leavings.{Leaving, any_elsewhere, leaving_cmp, leaving_eq, leavings, list_ends, listed_if, meetings, seam, start_along}
 use Rattle.arranging.specs.Used.{lists_marked}
 use Rattle.arranging.proofs.SortedEnds.{elsewhere_told, meetings_thrice, twins_twice, vertices_moved}
 use Rattle.arranging.proofs.Unused.{all_set, marked-append, marked_long, not_all, unused_mark, used_mark}
@@ -155,11 +156,11 @@ module _ (arcs : List (List Pos)) (ls : List LayerParts) (found sorted : List Le
   there : IsPermutation (gathered leavings arcs) sorted
   there = subst (λ w. IsPermutation w sorted) all moved
 
-  pub some_twins : has_twins sorted ≡ true → IsBeyondOrder arcs ls
+  pub some_twins : equal_neighbours leaving_eq sorted ≡ true → IsBeyondOrder arcs ls
   some_twins e = inr (inl ((twins_twice (gathered leavings arcs) sorted there up).0 e))
 
   -- where each arc is used, and no two begin or end alike
-  module _ (used : ¬ SomeUnused arcs ls) (apart : has_twins sorted ≡ false) (ends more stops : List Pos) (lines : ends ≡ layer_ends arcs ls ++ gathered seam arcs)
+  module _ (used : ¬ SomeUnused arcs ls) (apart : equal_neighbours leaving_eq sorted ≡ false) (ends more stops : List Pos) (lines : ends ≡ layer_ends arcs ls ++ gathered seam arcs)
       (met : more ≡ ends ++ meetings sorted) (kept : IsPermutation more stops) where
     stop_from : (v : Pos) → Has v stops → Has v (meetings sorted) ⊎ (Has v (layer_ends arcs ls) ⊎ Has v (gathered seam arcs))
     stop_from v h =

@@ -9,12 +9,13 @@ ghost use Rattle.arranging.specs.Beyond.{IsBeyondOrder, geometries_marked, layer
 ghost use Rattle.arranging.specs.Leavings as spec;
 ghost use Rattle.arranging.specs.Used.{lists_marked};
 
-use crate::leavings::{Leaving, add_leavings, add_meetings, any_elsewhere, has_twins};
+use crate::leavings::{Leaving, add_leavings, add_meetings, any_elsewhere};
 use crate::used::{all_marked, mark_each, mark_lists, mark_polygons};
 use chains::ArcRef;
 use faults::OutOfMemory;
 use grid::pos::Pos;
 use lines::items::Items;
+use lines::neighbours::has_equal_neighbours;
 use std::alloc::{AllocError, Global};
 use taking::TextArcs;
 use topo::{Body, Geom, Layer};
@@ -217,7 +218,7 @@ pub fn is_beyond_order(
     }
     let mut sorted = all_leavings(alloc, &mut seen.ends, arcs)?;
     sorted.sort_unstable();
-    if has_twins(&sorted) {
+    if has_equal_neighbours(&sorted) {
         return Ok(true);
     }
     add_meetings(&mut seen.ends, &sorted)?;
