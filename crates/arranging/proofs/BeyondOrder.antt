@@ -5,6 +5,7 @@ use Rattle.std.specs.List.Sorted.{IsPermutation, IsSorted}
 use Rattle.std.proofs.lemmas.List.{get_or-replicate, length-replicate}
 use Rattle.std.proofs.lemmas.List.Sorted.{IsPermutation-sym}
 use Rattle.grid.specs.declared.pos.Pos.{Pos}
+use Rattle.lines.specs.Neighbours.{equal_neighbours}
 use Rattle.lines.proofs.Dropping.{drop_item}
 use Rattle.lines.proofs.SortedLists.{Has-permutation}
 use Rattle.theory.specs.ArcNumbers.{ArcRef, flipped}
@@ -16,11 +17,11 @@ use Rattle.chains.proofs.TablesAsMap.{given}
 use Rattle.standing.specs.Runs.{ends_in, first_end}
 use Rattle.standing.proofs.Steps.{last_get}
 use Rattle.topo.specs.Parts.{LayerParts}
-use Rattle.topo.specs.declared.geom.Geom.{Geom}
 use Rattle.taking.specs.Lists.{body_lines, body_rings, layers_lines, layers_rings, lines_of, rings_of}
-use Rattle.arranging.specs.Beyond.{EndsAlone, IsBeyondOrder, SomeUnused, geometries_marked, geometry_marked, layer_ends, layers_marked}
-use Rattle.arranging.specs.Leavings.{Leaving, any_elsewhere, has_twins, leaving_cmp, leavings, list_ends, listed_if, meetings, seam, start_along}
+use Rattle.arranging.specs.Beyond.{EndsAlone, IsBeyondOrder, SomeUnused, geometry_lists, layer_ends, layer_lists}
+use Rattle.arranging.specs.Leavings.{Leaving, any_elsewhere, leaving_cmp, leaving_eq, leavings, list_ends, listed_if, meetings, seam, start_along}
 use Rattle.arranging.specs.Used.{lists_marked}
+use Rattle.arranging.specs.declared.beyond_order.Seen.{Seen}
 use Rattle.arranging.proofs.SortedEnds.{elsewhere_told, meetings_thrice, twins_twice, vertices_moved}
 use Rattle.arranging.proofs.Unused.{all_set, marked-append, marked_long, not_all, unused_mark, used_mark}
 
@@ -47,57 +48,37 @@ ends_added arcs refs others a back old mid now r b e f =
     ∙ append_assoc old (start_along arcs a) (start_along arcs (flipped (last_of a others)))
     ∙ ap (λ w. old ++ list_ends arcs w) (sym r)
 
--- a loop that adds what f gives for the lists of each
-module _ {A B C : Type 0} (f : B → List C) (l : A → List B) (xs : List A) (i : ℕ) where
-  pub gathered_on : (x : A) (old now all : List C) → i < length xs → x ≡ get_or xs i x → now ≡ old ++ gathered f (l x) →
-      old ++ gathered f (gathered l (drop i xs)) ≡ all → now ++ gathered f (gathered l (drop (i + 1) xs)) ≡ all
-  gathered_on x old now all h e g k =
-      ap (λ w. w ++ gathered f (gathered l (drop (i + 1) xs))) g
-      ∙ append_assoc old (gathered f (l x)) (gathered f (gathered l (drop (i + 1) xs)))
-      ∙ ap (λ w. old ++ w) (sym (gathered-append f (l x) (gathered l (drop (i + 1) xs))) ∙ ap (λ w. gathered f (gathered l w)) (sym (drop_item xs i x h e)))
-      ∙ k
-
 pub listed_given : {A : Type 0} (f : List Pos → List A) (o : Option (List Pos)) → listed_if f o ≡ given f o
 listed_given f None = refl
 listed_given f (Some c) = refl
 
--- a loop that marks the arcs of geometries, and one over layers
-pub geometries_on : (gs : List Geom) (i : ℕ) (g : Geom) (old now all : List Bool) → i < length gs → g ≡ get_or gs i g → now ≡ geometry_marked old g →
-    geometries_marked old (drop i gs) ≡ all → geometries_marked now (drop (i + 1) gs) ≡ all
-geometries_on gs i g old now all h p e k =
-    ap (λ w. geometries_marked w (drop (i + 1) gs)) e ∙ sym (ap (geometries_marked old) (drop_item gs i g h p)) ∙ k
+-- a loop over what has lines and lists: with those of what is left the marks and the ends come to what they come to with all
+module _ {A : Type 0} (arcs : List (List Pos)) (lines lists : A → List (List ArcRef)) (xs : List A) (start : Seen) where
+  abbrev pub ComesTo : Seen → ℕ → Type 0
+  ComesTo seen i = record {
+    used : lists_marked seen.used.items (gathered lists (drop i xs)) ≡ lists_marked start.used.items (gathered lists xs);
+    ends : seen.ends.items ++ gathered (list_ends arcs) (gathered lines (drop i xs)) ≡ start.ends.items ++ gathered (list_ends arcs) (gathered lines xs);
+  }
 
-pub layers_on : (ls : List LayerParts) (i : ℕ) (l : LayerParts) (old now all : List Bool) → i < length ls → l ≡ get_or ls i l → now ≡ geometries_marked old l.geometries →
-    layers_marked old (drop i ls) ≡ all → layers_marked now (drop (i + 1) ls) ≡ all
-layers_on ls i l old now all h p e k =
-    ap (λ w. layers_marked w (drop (i + 1) ls)) e ∙ sym (ap (layers_marked old) (drop_item ls i l h p)) ∙ k
-
--- the lists of a geometry, and of all layers
-geometry_lists : Geom → List (List ArcRef)
-geometry_lists g = body_lines g.body ++ body_rings g.body
-
-layer_lists : LayerParts → List (List ArcRef)
-layer_lists l = gathered geometry_lists l.geometries
-
-geometries_are : (marks : List Bool) (gs : List Geom) → geometries_marked marks gs ≡ lists_marked marks (gathered geometry_lists gs)
-unfolding geometry_lists
-geometries_are marks [] = refl
-geometries_are marks (g ∷ gs) =
-    geometries_are (geometry_marked marks g) gs
-    ∙ ap (λ w. lists_marked w (gathered geometry_lists gs)) (sym (marked-append marks (body_lines g.body) (body_rings g.body)))
-    ∙ sym (marked-append marks (geometry_lists g) (gathered geometry_lists gs))
-
-layers_are : (marks : List Bool) (ls : List LayerParts) → layers_marked marks ls ≡ lists_marked marks (gathered layer_lists ls)
-unfolding layer_lists
-layers_are marks [] = refl
-layers_are marks (l ∷ ls) =
-    layers_are (geometries_marked marks l.geometries) ls
-    ∙ ap (λ w. lists_marked w (gathered layer_lists ls)) (geometries_are marks l.geometries)
-    ∙ sym (marked-append marks (layer_lists l) (gathered layer_lists ls))
+  pub seen_on : (i : ℕ) (x : A) (old now : Seen) → i < length xs → x ≡ get_or xs i x → now.used.items ≡ lists_marked old.used.items (lists x) →
+      now.ends.items ≡ old.ends.items ++ gathered (list_ends arcs) (lines x) → ComesTo old i → ComesTo now (i + 1)
+  seen_on i x old now h e marked added before = record {
+    used =
+        ap (λ w. lists_marked w (gathered lists (drop (i + 1) xs))) marked
+        ∙ sym (marked-append old.used.items (lists x) (gathered lists (drop (i + 1) xs)))
+        ∙ ap (λ w. lists_marked old.used.items (gathered lists w)) (sym (drop_item xs i x h e))
+        ∙ before.used;
+    ends =
+        ap (λ w. w ++ gathered (list_ends arcs) (gathered lines (drop (i + 1) xs))) added
+        ∙ append_assoc old.ends.items (gathered (list_ends arcs) (lines x)) (gathered (list_ends arcs) (gathered lines (drop (i + 1) xs)))
+        ∙ ap (λ w. old.ends.items ++ w)
+        (sym (gathered-append (list_ends arcs) (lines x) (gathered lines (drop (i + 1) xs)))
+        ∙ ap (λ w. gathered (list_ends arcs) (gathered lines w)) (sym (drop_item xs i x h e)))
+        ∙ before.ends;
+  }
 
 -- each list of the layers is a line's or a ring's
 list_of : (ls : List LayerParts) (us : List ArcRef) → Has us (gathered layer_lists ls) → Has us (layers_lines ls) ⊎ Has us (layers_rings ls)
-unfolding layer_lists geometry_lists
 list_of ls us h =
     let t = gathered_from layer_lists ls us h in
     let g = gathered_from geometry_lists t.0.geometries us t.2 in
@@ -107,7 +88,6 @@ list_of ls us h =
     ]
 
 of_list : (ls : List LayerParts) (us : List ArcRef) → Has us (layers_lines ls) ⊎ Has us (layers_rings ls) → Has us (gathered layer_lists ls)
-unfolding layer_lists geometry_lists
 of_list ls us (inl h) =
     let t = gathered_from (λ l. lines_of l.geometries) ls us h in
     let g = gathered_from (λ m. body_lines m.body) t.0.geometries us t.2 in
@@ -118,13 +98,13 @@ of_list ls us (inr h) =
     Has-gathered layer_lists ls t.0 us t.1 (Has-gathered geometry_lists t.0.geometries g.0 us g.1 (Has-append_right us (body_lines g.0.body) (body_rings g.0.body) g.2))
 
 -- the marks of all layers
-module _ (arcs : List (List Pos)) (ls : List LayerParts) (marks : List Bool) (made : marks ≡ layers_marked (replicate (length arcs) false) ls) where
+module _ (arcs : List (List Pos)) (ls : List LayerParts) (marks : List Bool) (made : marks ≡ lists_marked (replicate (length arcs) false) (gathered layer_lists ls)) where
   none : List Bool
   none = replicate (length arcs) false
 
   are : marks ≡ lists_marked none (gathered layer_lists ls)
   unfolding none
-  are = made ∙ layers_are (replicate (length arcs) false) ls
+  are = made
 
   none_long : length none ≡ length arcs
   unfolding none
@@ -155,11 +135,11 @@ module _ (arcs : List (List Pos)) (ls : List LayerParts) (found sorted : List Le
   there : IsPermutation (gathered leavings arcs) sorted
   there = subst (λ w. IsPermutation w sorted) all moved
 
-  pub some_twins : has_twins sorted ≡ true → IsBeyondOrder arcs ls
+  pub some_twins : equal_neighbours leaving_eq sorted ≡ true → IsBeyondOrder arcs ls
   some_twins e = inr (inl ((twins_twice (gathered leavings arcs) sorted there up).0 e))
 
   -- where each arc is used, and no two begin or end alike
-  module _ (used : ¬ SomeUnused arcs ls) (apart : has_twins sorted ≡ false) (ends more stops : List Pos) (lines : ends ≡ layer_ends arcs ls ++ gathered seam arcs)
+  module _ (used : ¬ SomeUnused arcs ls) (apart : equal_neighbours leaving_eq sorted ≡ false) (ends more stops : List Pos) (lines : ends ≡ layer_ends arcs ls ++ gathered seam arcs)
       (met : more ≡ ends ++ meetings sorted) (kept : IsPermutation more stops) where
     stop_from : (v : Pos) → Has v stops → Has v (meetings sorted) ⊎ (Has v (layer_ends arcs ls) ⊎ Has v (gathered seam arcs))
     stop_from v h =

@@ -1,5 +1,5 @@
 -- Ends of arcs that are the same, and vertices at which three of them meet, as their sorted list tells it.
-use Rattle.std.proofs.Common.{◌≡◌, ◌↔◌, ◌≤◌, ◌-◌, suc, Bool, true, false, cond, not, ◌||◌, List, [], ◌∷◌, ◌++◌, ◌⊎◌, length, get_or, map, inl, inr, refl, sym, ap, ◌∙◌, subst, append_assoc, arith, Option, Some, slice_get}
+use Rattle.std.proofs.Common.{◌≡◌, ◌↔◌, ◌≤◌, ◌-◌, ℕ, suc, Bool, true, false, cond, not, ◌||◌, List, [], ◌∷◌, ◌++◌, ◌⊎◌, length, get_or, map, inl, inr, refl, sym, ap, ◌∙◌, subst, append_assoc, arith, Option, Some, slice_get}
 use Rattle.std.specs.Cmp.{IsTotalOrder, on_total, then_total}
 use Rattle.std.specs.FinMap.{IsAntisymmetric}
 use Rattle.std.specs.List.Sorted.{IsPermutation, IsSorted}
@@ -8,18 +8,19 @@ use Rattle.std.specs.declared.cmp.Ordering.{Ordering}
 use Rattle.std.specs.declared.cmp.Ordering.TheVariants.{Less, Equal, Greater}
 use Rattle.std.proofs.lemmas.List.Sorted.{IsPermutation-map, IsPermutation-sym}
 use Rattle.grid.specs.declared.pos.Pos.{Pos}
+use Rattle.lines.specs.Neighbours.{equal_neighbours}
 use Rattle.lines.specs.Pairs.{position_eq}
 use Rattle.lines.specs.Positions.{position_total, position_same, then_equal}
 use Rattle.lines.specs.Turned.{position_cmp}
-use Rattle.lines.proofs.Doubles.{Doubled, Doubled-permutation, EqualFrom, doubled_from_equal, doubled_twice, equal_from_doubled, twice_doubled}
-use Rattle.lines.proofs.Positions.{both_intro, both_true, position_most, position_refl, position_true, true_position}
+use Rattle.lines.proofs.Doubles.{Doubled-permutation, doubled_neighbours, doubled_twice, neighbours_doubled, twice_doubled}
+use Rattle.lines.proofs.Positions.{both_intro, both_true, position_most, position_true, true_position}
 use Rattle.lines.proofs.SortedLists.{Has-permutation, Up, up_from_sorted}
 use Rattle.theory.specs.Lists.{Has, Twice}
 use Rattle.theory.proofs.Lists.{Has-append, Has-append_left, Has-append_right}
 use Rattle.chains.specs.Among.{among}
 use Rattle.chains.proofs.Among.{among_has, has_among}
 use Rattle.standing.proofs.Threes.{count, count_has, count_moved, has_count}
-use Rattle.arranging.specs.Leavings.{Leaving, Thrice, any_elsewhere, both_leavings, has_twins, last_two, leaving_cmp, leaving_eq, meetings, meets, twins_from}
+use Rattle.arranging.specs.Leavings.{Leaving, Thrice, any_elsewhere, both_leavings, last_two, leaving_cmp, leaving_eq, meetings, meets}
 
 pub leaving_total : IsTotalOrder leaving_cmp
 leaving_total = then_total (on_total (λ (e : Leaving). e.0) position_total) (on_total (λ (e : Leaving). e.1) position_total)
@@ -34,41 +35,19 @@ leaving_true a b e =
     let h = both_true (position_eq a.0 b.0) (position_eq a.1 b.1) e in
     λ i. (position_true a.0 b.0 h.0 i, position_true a.1 b.1 h.1 i)
 
-leaving_refl : (a : Leaving) → leaving_eq a a ≡ true
-leaving_refl a = both_intro (position_eq a.0 a.0) (position_eq a.1 a.1) (position_refl a.0) (position_refl a.1)
-
-twins_equal : (e : Leaving) (l : List Leaving) → twins_from e l ≡ true → EqualFrom e l
-twins_equal e [] h = absurd cc
-twins_equal e (f ∷ l) h = go (leaving_eq f e) refl h (twins_equal f l)
-  where
-    go : (b : Bool) → leaving_eq f e ≡ b → cond b true (twins_from f l) ≡ true → (twins_from f l ≡ true → EqualFrom f l) → EqualFrom e (f ∷ l)
-    go true p h k = inl (leaving_true f e p)
-    go false p h k = inr (k h)
-
-equal_twins : (e : Leaving) (l : List Leaving) → EqualFrom e l → twins_from e l ≡ true
-equal_twins e [] h = absurd h
-equal_twins e (f ∷ l) (inl p) = ap (λ b. cond b true (twins_from f l)) (subst (λ w. leaving_eq f w ≡ true) p (leaving_refl f))
-equal_twins e (f ∷ l) (inr h) = go (leaving_eq f e) (equal_twins f l h)
-  where
-    go : (b : Bool) → twins_from f l ≡ true → cond b true (twins_from f l) ≡ true
-    go true k = refl
-    go false k = k
+true_leaving : (a b : Leaving) → a ≡ b → leaving_eq a b ≡ true
+true_leaving a b e =
+    both_intro (position_eq a.0 b.0) (position_eq a.1 b.1) (true_position a.0 b.0 (ap (λ w. w.0) e)) (true_position a.1 b.1 (ap (λ w. w.1) e))
 
 -- neighbours of a sorted list are equal where an end stands twice in the list before it was sorted
 pub twins_twice : (found sorted : List Leaving) → IsPermutation found sorted → IsSorted leaving_cmp sorted →
-    (has_twins sorted ≡ true) ↔ ((e : Leaving) × Twice e found)
+    (equal_neighbours leaving_eq sorted ≡ true) ↔ ((e : Leaving) × Twice e found)
 twins_twice found sorted moved up = (
-  (λ h. doubled_twice found (Doubled-permutation leaving_cmp leaving_total leaving_same sorted found (IsPermutation-sym found sorted moved) (to sorted h))),
-  (λ t. from sorted (up_from_sorted leaving_cmp leaving_total sorted up) (Doubled-permutation leaving_cmp leaving_total leaving_same found sorted moved (twice_doubled t.0 found t.1))),
+  (λ h. doubled_twice found (Doubled-permutation leaving_cmp leaving_total leaving_same sorted found (IsPermutation-sym found sorted moved)
+      (neighbours_doubled leaving_cmp leaving_total leaving_same leaving_eq leaving_true true_leaving sorted h))),
+  (λ t. doubled_neighbours leaving_cmp leaving_total leaving_same leaving_eq leaving_true true_leaving sorted up
+      (Doubled-permutation leaving_cmp leaving_total leaving_same found sorted moved (twice_doubled t.0 found t.1))),
 )
-  where
-    to : (l : List Leaving) → has_twins l ≡ true → Doubled l
-    to [] h = absurd cc
-    to (e ∷ l) h = doubled_from_equal leaving_cmp leaving_total leaving_same e l (twins_equal e l h)
-
-    from : (l : List Leaving) → Up leaving_cmp l → Doubled l → has_twins l ≡ true
-    from [] u h = absurd h
-    from (e ∷ l) u h = equal_twins e l (equal_from_doubled leaving_cmp leaving_total leaving_same e l u h)
 
 -- the vertices of sorted ends
 abbrev pub vertices : List Leaving → List Pos
@@ -133,43 +112,34 @@ thrice_meet (e ∷ l) u v (inl h) = Has-append_left v (meets e (slice_get l 1)) 
         last (inr i) =
             position_most e.0 g.0 (u.0 g.0 (inr (inl refl))) (subst (λ w. is_gt (position_cmp g.0 w) ≡ false) q (u.1.1.0 v i))
 
-twice_count : (v : Pos) (l : List Pos) → Twice v l → 2 ≤ count v l
-twice_count v [] t = absurd t
-twice_count v (x ∷ l) (inl t) =
-    let p : count v (x ∷ l) ≡ suc (count v l) = ap (λ b. cond b (suc (count v l)) (count v l)) (true_position v x t.0) in
-    omega (arith, p, has_count v l t.1)
-twice_count v (x ∷ l) (inr t) = go (position_eq v x) (twice_count v l t)
-  where
-    go : (b : Bool) → 2 ≤ count v l → 2 ≤ cond b (suc (count v l)) (count v l)
-    go true h = omega (arith, h)
-    go false h = h
+-- v is counted once more in a list where it stands in front of one that has it often enough, or where the list behind the first is such one
+module _ (v : Pos) (n : ℕ) (Often OnceMore : List Pos → Type 0) (none : ¬ OnceMore []) where
+  counted_more : ((l : List Pos) → Often l → n ≤ count v l) → ((x : Pos) (l : List Pos) → OnceMore (x ∷ l) → ((v ≡ x) × Often l) ⊎ OnceMore l) →
+      (l : List Pos) → OnceMore l → suc n ≤ count v l
+  counted_more often parts [] h = absurd (none h)
+  counted_more often parts (x ∷ l) h = elim (parts x l h) [ inl k ↦ here k.0 (often l k.1) | inr k ↦ later (position_eq v x) (counted_more often parts l k) ]
+    where
+      here : v ≡ x → n ≤ count v l → suc n ≤ count v (x ∷ l)
+      here e k = let p : count v (x ∷ l) ≡ suc (count v l) = ap (λ b. cond b (suc (count v l)) (count v l)) (true_position v x e) in omega (arith, p, k)
 
-count_twice : (v : Pos) (l : List Pos) → 2 ≤ count v l → Twice v l
-count_twice v [] h = absurd (omega (arith, h))
-count_twice v (x ∷ l) h = go (position_eq v x) refl h (count_twice v l)
-  where
-    go : (b : Bool) → position_eq v x ≡ b → 2 ≤ cond b (suc (count v l)) (count v l) → (2 ≤ count v l → Twice v l) → Twice v (x ∷ l)
-    go true p h k = inl (position_true v x p, count_has v l (omega (arith, h)))
-    go false p h k = inr (k h)
+      later : (b : Bool) → suc n ≤ count v l → suc n ≤ cond b (suc (count v l)) (count v l)
+      later true k = omega (arith, k)
+      later false k = k
+
+  more_counted : ((l : List Pos) → n ≤ count v l → Often l) → ((x : Pos) (l : List Pos) → ((v ≡ x) × Often l) ⊎ OnceMore l → OnceMore (x ∷ l)) →
+      (l : List Pos) → suc n ≤ count v l → OnceMore l
+  more_counted often whole [] h = absurd (omega (arith, h))
+  more_counted often whole (x ∷ l) h = whole x l (go (position_eq v x) refl h (more_counted often whole l))
+    where
+      go : (b : Bool) → position_eq v x ≡ b → suc n ≤ cond b (suc (count v l)) (count v l) → (suc n ≤ count v l → OnceMore l) → ((v ≡ x) × Often l) ⊎ OnceMore l
+      go true p k later = inl (position_true v x p, often l (omega (arith, k)))
+      go false p k later = inr (later k)
 
 thrice_count : (v : Pos) (l : List Pos) → Thrice v l → 3 ≤ count v l
-thrice_count v [] t = absurd t
-thrice_count v (x ∷ l) (inl t) =
-    let p : count v (x ∷ l) ≡ suc (count v l) = ap (λ b. cond b (suc (count v l)) (count v l)) (true_position v x t.0) in
-    omega (arith, p, twice_count v l t.1)
-thrice_count v (x ∷ l) (inr t) = go (position_eq v x) (thrice_count v l t)
-  where
-    go : (b : Bool) → 3 ≤ count v l → 3 ≤ cond b (suc (count v l)) (count v l)
-    go true h = omega (arith, h)
-    go false h = h
+thrice_count v = counted_more v 2 (Twice v) (Thrice v) (λ h. h) (counted_more v 1 (Has v) (Twice v) (λ h. h) (has_count v) (λ x l h. h)) (λ x l h. h)
 
 count_thrice : (v : Pos) (l : List Pos) → 3 ≤ count v l → Thrice v l
-count_thrice v [] h = absurd (omega (arith, h))
-count_thrice v (x ∷ l) h = go (position_eq v x) refl h (count_thrice v l)
-  where
-    go : (b : Bool) → position_eq v x ≡ b → 3 ≤ cond b (suc (count v l)) (count v l) → (3 ≤ count v l → Thrice v l) → Thrice v (x ∷ l)
-    go true p h k = inl (position_true v x p, count_twice v l (omega (arith, h)))
-    go false p h k = inr (k h)
+count_thrice v = more_counted v 2 (Twice v) (Thrice v) (λ h. h) (more_counted v 1 (Has v) (Twice v) (λ h. h) (count_has v) (λ x l h. h)) (λ x l h. h)
 
 pub thrice_moved : (v : Pos) (xs ys : List Pos) → IsPermutation xs ys → Thrice v ys → Thrice v xs
 thrice_moved v xs ys p t =

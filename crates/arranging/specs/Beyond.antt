@@ -1,13 +1,13 @@
 -- Arcs and layers that no order mends, told by the ends of arcs alone.
-use Rattle.std.specs.Prelude.{◌<◌, ◌⊎◌, ℕ, Bool, List, [], ◌∷◌, length, map}
+use Rattle.std.specs.Prelude.{◌<◌, ◌⊎◌, ◌++◌, ℕ, List, length, map}
 use Rattle.grid.specs.declared.pos.Pos.{Pos}
+use Rattle.theory.specs.ArcNumbers.{ArcRef}
 use Rattle.theory.specs.Lists.{Has, Twice, gathered}
 use Rattle.topo.specs.Parts.{LayerParts}
 use Rattle.topo.specs.declared.geom.Geom.{Geom}
 use Rattle.taking.specs.Added.{IsUsed}
 use Rattle.taking.specs.Lists.{body_lines, body_rings, layers_lines, layers_rings}
 use Rattle.arranging.specs.Leavings.{Leaving, Thrice, leavings, list_ends, seam}
-use Rattle.arranging.specs.Used.{lists_marked}
 
 -- the ends of all arcs, each with the vertex beside it
 abbrev pub all_leavings : List (List Pos) → List Leaving
@@ -40,14 +40,10 @@ pub record EndsAlone (arcs : List (List Pos)) (ls : List LayerParts) (v : Pos) :
 abbrev pub IsBeyondOrder : List (List Pos) → List LayerParts → Type 0
 IsBeyondOrder arcs ls = SomeUnused arcs ls ⊎ (SomeLeaveAlike arcs ⊎ ((v : Pos) × EndsAlone arcs ls v))
 
--- with those of the arcs of a geometry
-abbrev pub geometry_marked : List Bool → Geom → List Bool
-geometry_marked marks g = lists_marked (lists_marked marks (body_lines g.body)) (body_rings g.body)
+-- the list of each line of a geometry, and of each ring
+abbrev pub geometry_lists : Geom → List (List ArcRef)
+geometry_lists g = body_lines g.body ++ body_rings g.body
 
-abbrev pub geometries_marked : List Bool → List Geom → List Bool
-geometries_marked marks [] = marks
-geometries_marked marks (g ∷ gs) = geometries_marked (geometry_marked marks g) gs
-
-abbrev pub layers_marked : List Bool → List LayerParts → List Bool
-layers_marked marks [] = marks
-layers_marked marks (l ∷ ls) = layers_marked (geometries_marked marks l.geometries) ls
+-- those of a layer's geometries
+abbrev pub layer_lists : LayerParts → List (List ArcRef)
+layer_lists l = gathered geometry_lists l.geometries

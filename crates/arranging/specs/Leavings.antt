@@ -1,5 +1,5 @@
 -- The ends of arcs, each with the vertex beside it, and what their sorted list tells.
-use Rattle.std.specs.Prelude.{◌≡◌, ◌⊎◌, ◌++◌, ◌&&◌, not, Bool, true, false, cond, List, [], ◌∷◌, Option, Some, None, slice_get}
+use Rattle.std.specs.Prelude.{◌≡◌, ◌⊎◌, ◌++◌, ◌&&◌, not, Bool, cond, List, [], ◌∷◌, Option, Some, None, slice_get}
 use Rattle.std.specs.List.{list_any}
 use Rattle.std.specs.Ordering.{ordering_then}
 use Rattle.std.specs.declared.cmp.Ordering.{Ordering}
@@ -74,15 +74,6 @@ leaving_cmp a b = ordering_then (position_cmp a.0 b.0) (position_cmp a.1 b.1)
 
 abbrev pub leaving_eq : Leaving → Leaving → Bool
 leaving_eq a b = position_eq a.0 b.0 && position_eq a.1 b.1
-
--- whether two neighbours are equal, where an end stands in front
-abbrev pub twins_from : Leaving → List Leaving → Bool
-twins_from e [] = false
-twins_from e (f ∷ l) = cond (leaving_eq f e) true (twins_from f l)
-
-abbrev pub has_twins : List Leaving → Bool
-has_twins [] = false
-has_twins (e ∷ l) = twins_from e l
 
 -- the end, where the other one is there and is at its vertex
 abbrev pub meets : Leaving → Option Leaving → List Pos

@@ -5,16 +5,17 @@ ghost use Rattle.theory.specs.Lists.{gathered, last_of};
 ghost use Rattle.standing.specs.Marks.{marks_set};
 ghost use Rattle.standing.specs.Runs.{ends_along, ends_in, first_end};
 ghost use Rattle.taking.specs.Lists.{body_lines, body_rings, layers_lines, lines_of};
-ghost use Rattle.arranging.specs.Beyond.{IsBeyondOrder, geometries_marked, layer_ends, layers_marked};
+ghost use Rattle.arranging.specs.Beyond.{IsBeyondOrder, geometry_lists, layer_ends, layer_lists};
 ghost use Rattle.arranging.specs.Leavings as spec;
 ghost use Rattle.arranging.specs.Used.{lists_marked};
 
-use crate::leavings::{Leaving, add_leavings, add_meetings, any_elsewhere, has_twins};
+use crate::leavings::{Leaving, add_leavings, add_meetings, any_elsewhere};
 use crate::used::{all_marked, mark_each, mark_lists, mark_polygons};
 use chains::ArcRef;
 use faults::OutOfMemory;
 use grid::pos::Pos;
 use lines::items::Items;
+use lines::neighbours::has_equal_neighbours;
 use std::alloc::{AllocError, Global};
 use taking::TextArcs;
 use topo::{Body, Geom, Layer};
@@ -137,7 +138,7 @@ impl Seen {
     }
 
     fn add_geometries(&mut self, arcs: &TextArcs, geometries: &[Geom]) -> Result<(), AllocError>
-        ensures used { OnOk result (self.new.used.items ≡ geometries_marked self.old.used.items geometries.now) }
+        ensures used { OnOk result (self.new.used.items ≡ lists_marked self.old.used.items (gathered geometry_lists geometries.now)) }
         ensures ends { OnOk result (self.new.ends.items ≡ self.old.ends.items ++ gathered (spec.list_ends arcs.now) (lines_of geometries.now)) }
     {
         for geometry in geometries {
@@ -147,7 +148,7 @@ impl Seen {
     }
 
     fn add_layers(&mut self, arcs: &TextArcs, layers: &[Layer]) -> Result<(), AllocError>
-        ensures used { OnOk result (self.new.used.items ≡ layers_marked self.old.used.items layers.now) }
+        ensures used { OnOk result (self.new.used.items ≡ lists_marked self.old.used.items (gathered layer_lists layers.now)) }
         ensures ends { OnOk result (self.new.ends.items ≡ self.old.ends.items ++ gathered (spec.list_ends arcs.now) (layers_lines layers.now)) }
     {
         for layer in layers {
@@ -158,7 +159,7 @@ impl Seen {
 }
 
 fn seen_in(alloc: Global, arcs: &TextArcs, layers: &[Layer]) -> Result<Seen, AllocError>
-    ensures used { IfOk result (λ s. s.used.items ≡ layers_marked (replicate (length arcs.now) false) layers.now) }
+    ensures used { IfOk result (λ s. s.used.items ≡ lists_marked (replicate (length arcs.now) false) (gathered layer_lists layers.now)) }
     ensures ends { IfOk result (λ s. s.ends.items ≡ layer_ends arcs.now layers.now) }
 {
     let mut seen = Seen::none(alloc, arcs.len())?;
@@ -217,7 +218,7 @@ pub fn is_beyond_order(
     }
     let mut sorted = all_leavings(alloc, &mut seen.ends, arcs)?;
     sorted.sort_unstable();
-    if has_twins(&sorted) {
+    if has_equal_neighbours(&sorted) {
         return Ok(true);
     }
     add_meetings(&mut seen.ends, &sorted)?;

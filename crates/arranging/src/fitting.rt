@@ -21,12 +21,7 @@ fn stays(starts: &[usize], used: ArcRef) -> bool
 fn line_fits(starts: &[usize], refs: &[ArcRef]) -> bool
     ensures { result ≡ spec.line_fits starts.now refs.now }
 {
-    for used in refs {
-        if !stays(starts, *used) {
-            return false;
-        }
-    }
-    true
+    refs.iter().all(|used| stays(starts, *used))
 }
 
 fn is_there(starts: &[usize], used: ArcRef) -> bool
@@ -54,34 +49,21 @@ fn ring_fits(starts: &[usize], refs: &[ArcRef]) -> bool
 fn lines_fit(starts: &[usize], lists: &[Items<ArcRef>]) -> bool
     ensures { result ≡ list_all (spec.line_fits starts.now) lists.now }
 {
-    for refs in lists {
-        if !line_fits(starts, refs.as_slice()) {
-            return false;
-        }
-    }
-    true
+    lists.iter().all(|refs| line_fits(starts, refs.as_slice()))
 }
 
 fn rings_fit(starts: &[usize], lists: &[Items<ArcRef>]) -> bool
     ensures { result ≡ list_all (spec.ring_fits starts.now) lists.now }
 {
-    for refs in lists {
-        if !ring_fits(starts, refs.as_slice()) {
-            return false;
-        }
-    }
-    true
+    lists.iter().all(|refs| ring_fits(starts, refs.as_slice()))
 }
 
 fn polygons_fit(starts: &[usize], polygons: &[Items<Items<ArcRef>>]) -> bool
     ensures { result ≡ list_all (list_all (spec.ring_fits starts.now)) polygons.now }
 {
-    for lists in polygons {
-        if !rings_fit(starts, lists.as_slice()) {
-            return false;
-        }
-    }
-    true
+    polygons
+        .iter()
+        .all(|lists| rings_fit(starts, lists.as_slice()))
 }
 
 fn body_fits(starts: &[usize], body: &Body) -> bool
@@ -99,12 +81,9 @@ fn body_fits(starts: &[usize], body: &Body) -> bool
 fn geometries_fit(starts: &[usize], geometries: &[Geom]) -> bool
     ensures { result ≡ list_all (spec.geometry_fits starts.now) geometries.now }
 {
-    for geometry in geometries {
-        if !body_fits(starts, &geometry.body) {
-            return false;
-        }
-    }
-    true
+    geometries
+        .iter()
+        .all(|geometry| body_fits(starts, &geometry.body))
 }
 
 /// Whether each list of the layers names only arcs that are there and begin where they did, but for a
@@ -112,10 +91,7 @@ fn geometries_fit(starts: &[usize], geometries: &[Geom]) -> bool
 pub(crate) fn layers_fit(starts: &[usize], layers: &[Layer]) -> bool
     ensures { result ≡ spec.layers_fit starts.now layers.now }
 {
-    for layer in layers {
-        if !geometries_fit(starts, layer.geometries()) {
-            return false;
-        }
-    }
-    true
+    layers
+        .iter()
+        .all(|layer| geometries_fit(starts, layer.geometries()))
 }

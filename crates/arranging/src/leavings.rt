@@ -42,23 +42,6 @@ pub(crate) fn add_leavings(
     Ok(())
 }
 
-/// Whether two of some sorted ends are the same, so that a segment is at two places of the arcs.
-pub(crate) fn has_twins(sorted: &[Leaving]) -> bool
-    ensures { result ≡ spec.has_twins sorted.now }
-{
-    let Some((first, others)) = sorted.split_first() else {
-        return false;
-    };
-    let mut before = *first;
-    for leaving in others {
-        if *leaving == before {
-            return true;
-        }
-        before = *leaving;
-    }
-    false
-}
-
 /// Adds the vertex of an end, where another one is there that is at it as well.
 fn add_met(ends: &mut Vec<Pos>, one: Leaving, other: Option<Leaving>) -> Result<(), AllocError>
     ensures { OnOk result (ends.new.items ≡ ends.old.items ++ spec.meets one other) }

@@ -1,7 +1,8 @@
 use Rattle.std.proofs.Common.{◌++◌, ◌∙◌, ap, refl, sym, inl}
 use Rattle.std.specs.List.{list_all}
+use Rattle.lines.specs.Neighbours.{equal_neighbours}
 use Rattle.theory.specs.Lists.{gathered}
-use Rattle.arranging.specs.Leavings.{any_elsewhere, has_twins, meetings, seam}
+use Rattle.arranging.specs.Leavings.{any_elsewhere, leaving_eq, meetings, seam}
 use Rattle.arranging.proofs.BeyondOrder.{beyond_told, none_unused, some_twins, some_unused}
 use Rattle.arranging.proofs.beyond_order.is_beyond_order.Goals as goal
 
@@ -12,11 +13,11 @@ returns-then-not-all_marked c = (
   (λ h. refl),
 )
 
-pub returns-then-has_twins : goal.returns-then-has_twins
-returns-then-has_twins c = (
+pub returns-then-has_equal_neighbours : goal.returns-then-has_equal_neighbours
+returns-then-has_equal_neighbours c = (
   (λ h. some_twins c.args.arcs.now c.args.layers.now c.in_ok-sorted.sorted.items c.sort_unstable.new.self.items c.in_ok-sorted.ensures.found
       c.sort_unstable.ensures.permutation c.sort_unstable.ensures.sorted
-      (ap has_twins (sym c.deref-2.ensures.value) ∙ sym c.has_twins.ensures ∙ c.if-has_twins.true)),
+      (ap (equal_neighbours leaving_eq) (sym c.deref-2.ensures.value) ∙ sym c.has_equal_neighbours.ensures ∙ c.if-has_equal_neighbours.true)),
   (λ h. refl),
 )
 
@@ -29,7 +30,7 @@ returns c =
     beyond_told arcs ls c.in_ok-sorted.sorted.items sorted c.in_ok-sorted.ensures.found c.sort_unstable.ensures.permutation c.sort_unstable.ensures.sorted
     (none_unused arcs ls c.in_ok-seen.seen.used.items c.in_ok-seen.ensures.used
     (ap (list_all (λ b. b)) (sym c.deref.ensures.value) ∙ sym c.all_marked.ensures ∙ c.if-not-all_marked.false))
-    (ap has_twins (sym c.deref-2.ensures.value) ∙ sym c.has_twins.ensures ∙ c.if-has_twins.false)
+    (ap (equal_neighbours leaving_eq) (sym c.deref-2.ensures.value) ∙ sym c.has_equal_neighbours.ensures ∙ c.if-has_equal_neighbours.false)
     c.all_leavings.new.ends.items c.add_meetings.new.ends.items stops
     (c.in_ok-sorted.ensures.ends ∙ ap (λ w. w ++ gathered seam arcs) c.in_ok-seen.ensures.ends)
     (c.in_ok-add_meetings.ensures ∙ ap (λ w. c.all_leavings.new.ends.items ++ meetings w) c.deref-3.ensures.value)
