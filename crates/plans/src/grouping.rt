@@ -29,14 +29,12 @@ impl Plan {
         ensures grouping { IfOk result (λ o. MatchOption o (count ≡ 0) (λ p. IsRight p 0 count)) }
         ensures leaves { IfOk result (λ o. MatchOption o (count ≡ 0) (λ p. leaves p ≡ range_with_len 0 count)) }
     {
-        if count == 0 {
+        let Some(last) = count.checked_sub(1) else {
             return Ok(None);
-        }
-        let mut start = count - 1;
-        let mut plan = Plan::Leaf(start);
-        while start > 0 {
-            start -= 1;
-            plan = node(alloc, Plan::Leaf(start), plan)?;
+        };
+        let mut plan = Plan::Leaf(last);
+        for place in (0..last).rev() {
+            plan = node(alloc, Plan::Leaf(place), plan)?;
         }
         Ok(Some(plan))
     }
