@@ -1,22 +1,17 @@
 use Rattle.std.proofs.Common.{◌≡◌, Some, sym, ap, ◌∙◌, subst, rules}
 use Rattle.serde_json.specs.Find.{get}
 use Rattle.serde_json.specs.View.{view}
-use Rattle.reading.specs.Fault.{LeastOrWant}
 use Rattle.reading.specs.Plain.{plain_form}
 use Rattle.reading.proofs.Members.{member_there}
 use Rattle.topo_io.specs.Arcs.{known}
-use Rattle.topo_io.specs.Geometries.{body_name, body_form, shape_form, typed_faults_of}
+use Rattle.topo_io.specs.Geometries.{body_name, body_form, shape_form}
 use Rattle.topo_io.proofs.Geometries.{body_first}
 use Rattle.topo_io.proofs.reader.geometry.read_as.Goals as goal
 use Rattle.topo_io.proofs.reader.geometry.read_as.Goals.{in-None, in-Some+in_ok-shape-in-Some}
 
 pub returns-in_err-shape-in-Some-clause-err : goal.returns-in_err-shape-in-Some-clause-err
 returns-in_err-shape-in-Some-clause-err c =
-    let l = c.args.on.now.limits in
-    let arcs = known c.args.on.now.arcs.now in
-    let d = view c.args.value.now in
-    let fault = c.in_err-shape-in-Some.field-0.0 in
-    let part : LeastOrWant (typed_faults_of l arcs c.args.kind d) fault = body_first l arcs c.args.kind c.in-Some.kind _ d fault c.in-Some.is c.body_name.ensures c.in_err-shape-in-Some.ensures.err in
+    let part = body_first c.args.on.now.limits (known c.args.on.now.arcs.now) c.args.kind c.in-Some.kind _ (view c.args.value.now) _ c.in-Some.is c.body_name.ensures c.in_err-shape-in-Some.ensures.err in
     search (rules, part)
 
 pub returns-clause-made : goal.returns-clause-made
