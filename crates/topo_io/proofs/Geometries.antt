@@ -1,15 +1,16 @@
 -- The body of a geometry comes before its id and properties.
-use Rattle.std.proofs.Common.{Option, Some, None, codes, refl, arith}
+use Rattle.std.proofs.Common.{◌≡◌, ℕ, List, Option, Some, codes, refl, sym, subst}
 use Rattle.serde_json.specs.Data.{Data}
 use Rattle.faults.specs.Path.{name}
 use Rattle.faults.specs.declared.fault.Fault.{Fault}
 use Rattle.reading.specs.Fault.{LeastOrWant}
 use Rattle.reading.specs.Info.{info_faults}
+use Rattle.reading.specs.Parts.{member_faults}
 use Rattle.reading.specs.declared.geometry.GeometryType.{GeometryType}
 use Rattle.reading.specs.declared.geometry.GeometryType.TheVariants.{Point, MultiPoint, LineString, MultiLineString, Polygon, MultiPolygon}
 use Rattle.reading.proofs.Least.{After, after_under, after_append, first_of}
 use Rattle.topo_io.specs.Arcs.{Arcs}
-use Rattle.topo_io.specs.Geometries.{body_name, shape_faults, typed_faults_of}
+use Rattle.topo_io.specs.Geometries.{body_name, body_faults, typed_faults_of}
 use Rattle.topo_io.specs.declared.reader.position.Limits.{Limits}
 
 after_arcs : (d : Data) → After (name (codes "arcs")) (info_faults d)
@@ -26,6 +27,8 @@ after_body MultiLineString d = after_arcs d
 after_body Polygon d = after_arcs d
 after_body MultiPolygon d = after_arcs d
 
-pub shape_first : (l : Limits) (arcs : Arcs) (k : Option GeometryType) (d : Data) (f : Fault) → LeastOrWant (shape_faults l arcs k d) f → LeastOrWant (typed_faults_of l arcs k d) f
-shape_first l arcs None d f h = record { least = λ real. let none = (h.least real).present in absurd (omega (arith, none.1)) }
-shape_first l arcs (Some k) d f h = first_of (name (body_name k)) _ _ f h (after_body k d)
+-- a fault of the body is the geometry's: its member is told before the others
+pub body_first : (l : Limits) (arcs : Arcs) (o : Option GeometryType) (k : GeometryType) (n : List ℕ) (d : Data) (f : Fault) → o ≡ Some k → n ≡ body_name k → LeastOrWant (member_faults n (body_faults l arcs k) d) f → LeastOrWant (typed_faults_of l arcs o d) f
+body_first l arcs o k n d f typed named h =
+    subst (λ o. LeastOrWant (typed_faults_of l arcs o d) f) (sym typed)
+    (first_of (name (body_name k)) _ _ f (subst (λ n. LeastOrWant (member_faults n (body_faults l arcs k) d) f) named h) (after_body k d))

@@ -22,7 +22,7 @@ use Rattle.topo_io.specs.Limits.{no_limits, limits_on}
 use Rattle.topo_io.specs.Arcs.{known, arc_faults, arc_of, arcs_of}
 use Rattle.topo_io.specs.Geometries.{layer_features}
 use Rattle.topo_io.specs.Layers.{plain_layer}
-use Rattle.topo_io.specs.Roots.{arcs_by, arcs_if_array, arcs_in, layers_in, limits_by, transform_of, content_faults}
+use Rattle.topo_io.specs.Roots.{arcs_by, arcs_if_array, arcs_in, layers_in, limits_by, transform_of, objects_faults, content_faults}
 use Rattle.topo_io.specs.declared.reader.position.Limits.{Limits}
 
 -- what members mean, as plain layers
@@ -55,9 +55,16 @@ arcs_known l v none = by (get (codes "arcs") v) refl
     by (Some d) is = arcs_there l v d is none ∙ ap (λ x. known (arcs_of x)) (sym (member_there (codes "arcs") v d is))
 
 -- arcs that were read without faults are those that are known
-pub arcs_read : (l : Limits) (v : Data) (xs arcs : List (List Pos)) → arcs ≡ xs → AllZip (λ d x. x ≡ arc_of d) (elements (member_or_null (codes "arcs") v)) xs → member_faults (codes "arcs") (list_faults (arc_faults l)) v ≡ [] → arcs_in l v ≡ known arcs
+arcs_read : (l : Limits) (v : Data) (xs arcs : List (List Pos)) → arcs ≡ xs → AllZip (λ d x. x ≡ arc_of d) (elements (member_or_null (codes "arcs") v)) xs → member_faults (codes "arcs") (list_faults (arc_faults l)) v ≡ [] → arcs_in l v ≡ known arcs
 arcs_read l v xs arcs same read none =
     arcs_known l v none ∙ ap known (sym (same ∙ zip_is arc_of (elements (member_or_null (codes "arcs") v)) xs read))
+
+-- then the faults of the content are those of the objects over these arcs
+pub content_over : (l : Limits) (v : Data) (xs arcs : List (List Pos)) → arcs ≡ xs → AllZip (λ d x. x ≡ arc_of d) (elements (member_or_null (codes "arcs") v)) xs → member_faults (codes "arcs") (list_faults (arc_faults l)) v ≡ [] →
+    content_faults l v ≡ member_faults (codes "objects") (objects_faults l (known arcs)) v
+content_over l v xs arcs same read none =
+    ap (λ ps. ps ++ member_faults (codes "objects") (objects_faults l (arcs_in l v)) v) none
+    ∙ ap (λ k. member_faults (codes "objects") (objects_faults l k) v) (arcs_read l v xs arcs same read none)
 
 pub limits_known : (ps : List Pair) (t : Data) → ps ≡ [] → limits_by ps t ≡ limits_on (transform_of t)
 limits_known ps t none = ap (λ qs. limits_by qs t) none

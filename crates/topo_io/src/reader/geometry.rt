@@ -2,10 +2,10 @@
 ghost use Rattle.std.specs.Prelude.{◌≡◌, [], IfOk, IfErr, OnOk, Ok, Err, Some, None, option_map};
 ghost use Rattle.serde_json.specs.View.{view};
 ghost use Rattle.reading.specs.Fault.{LeastOrWant};
-ghost use Rattle.reading.specs.Plain.{plain, plain_form};
+ghost use Rattle.reading.specs.Plain.{plain};
 ghost use Rattle.topo_io.specs.Arcs.{known, stitched_list_faults, stitched_of};
 ghost use Rattle.topo_io.specs.Limits.{position_faults, position_of};
-ghost use Rattle.topo_io.specs.Geometries.{body_name as name_of_body, shape_faults, shape_form, typed_faults_of, feature_of, text_or_null as text_or_null_of, type_or_null as type_text_or_null, geometry_type as type_of_geometry, geometry_faults, geometry_feature};
+ghost use Rattle.topo_io.specs.Geometries.{body_name as name_of_body, typed_faults_of, feature_of, text_or_null as text_or_null_of, type_or_null as type_text_or_null, geometry_type as type_of_geometry, geometry_faults, geometry_feature};
 
 use crate::reader::position::{Limits, Position};
 use crate::reader::stitching::{IndexOf, stitch};
@@ -85,25 +85,6 @@ pub(crate) fn body_name(kind: GeometryType) -> &'static str
     }
 }
 
-fn read_shape(
-    alloc: Global,
-    on: &Ground,
-    kind: Option<GeometryType>,
-    value: &Value,
-) -> Result<Shape, Fault>
-    ensures ok { OnOk result (shape_faults on.now.limits (known on.now.arcs.now) kind (view value.now) ≡ []) }
-    ensures made { IfOk result (λ s. plain_form s ≡ shape_form on.now.arcs.now kind (view value.now)) }
-    ensures err { IfErr result (λ f. LeastOrWant (shape_faults on.now.limits (known on.now.arcs.now) kind (view value.now)) f) }
-{
-    match kind {
-        None => Ok(Shape::Null),
-        Some(kind) => {
-            let body = ShapeFrom { from: on, kind };
-            read_member(alloc, &body, value, body_name(kind))
-        }
-    }
-}
-
 /// The feature of a geometry of that type, none for null.
 pub fn read_as(
     alloc: Global,
@@ -115,7 +96,13 @@ pub fn read_as(
     ensures made { IfOk result (λ f. plain f ≡ feature_of on.now.arcs.now kind (view value.now)) }
     ensures err { IfErr result (λ f. LeastOrWant (typed_faults_of on.now.limits (known on.now.arcs.now) kind (view value.now)) f) }
 {
-    let shape = read_shape(alloc, on, kind, value)?;
+    let shape = match kind {
+        None => Shape::Null,
+        Some(kind) => {
+            let body = ShapeFrom { from: on, kind };
+            read_member(alloc, &body, value, body_name(kind))?
+        }
+    };
     let (id, props) = read_info(alloc, value)?;
     Ok(Feature { id, props, shape })
 }

@@ -1,16 +1,16 @@
-use Rattle.std.proofs.Common.{◌≡◌, [], codes, refl, sym, ap, ◌∙◌, subst, rules}
+use Rattle.std.proofs.Common.{codes, refl, sym, ap, ◌∙◌, subst, rules}
 use Rattle.serde_json.specs.Find.{as_object}
 use Rattle.serde_json.specs.View.{view}
 use Rattle.faults.specs.Path.{name}
 use Rattle.reading.specs.Fault.{LeastOrWant}
-use Rattle.reading.specs.Parts.{elements, member_faults}
+use Rattle.reading.specs.Parts.{elements}
 use Rattle.reading.specs.Info.{member_or_null}
-use Rattle.reading.proofs.Least.{first_of, rest_of, after_under}
+use Rattle.reading.proofs.Least.{first_of, after_under}
 use Rattle.reading.proofs.Lists.{zip_is}
 use Rattle.reading.proofs.Results.{ok_map, on_ok_map, err_map}
 use Rattle.topo_io.specs.Arcs.{arc_of}
-use Rattle.topo_io.specs.Roots.{objects_faults, content_faults, layers_if_object}
-use Rattle.topo_io.proofs.Roots.{arcs_read, append_none}
+use Rattle.topo_io.specs.Roots.{content_faults, layers_if_object}
+use Rattle.topo_io.proofs.Roots.{content_over}
 use Rattle.topo_io.proofs.reader.read_layers.Goals as goal
 
 pub returns-in_err-listed-clause-err : goal.returns-in_err-listed-clause-err
@@ -20,11 +20,8 @@ returns-in_err-listed-clause-err c =
 
 pub returns-clause-ok : goal.returns-clause-ok
 returns-clause-ok c =
-    let l = c.args.limits.now in
-    let v = view c.args.value.now in
-    let known_arcs = arcs_read l v _ _ c.from_list-arcs.ensures c.in_ok-listed.ensures.made c.in_ok-listed.ensures.ok in
-    on_ok_map c.read_objects.result _ _ c.read_objects.ensures.ok
-    (λ a. append_none _ _ c.in_ok-listed.ensures.ok (subst (λ k. member_faults (codes "objects") (objects_faults l k) v ≡ []) (sym known_arcs) a))
+    let faults = content_over c.args.limits.now (view c.args.value.now) _ _ c.from_list-arcs.ensures c.in_ok-listed.ensures.made c.in_ok-listed.ensures.ok in
+    on_ok_map c.read_objects.result _ _ c.read_objects.ensures.ok (λ none. faults ∙ none)
 
 pub returns-clause-made : goal.returns-clause-made
 returns-clause-made c =
@@ -34,8 +31,5 @@ returns-clause-made c =
 
 pub returns-clause-err : goal.returns-clause-err
 returns-clause-err c =
-    let l = c.args.limits.now in
-    let v = view c.args.value.now in
-    let known_arcs = arcs_read l v _ _ c.from_list-arcs.ensures c.in_ok-listed.ensures.made c.in_ok-listed.ensures.ok in
-    err_map c.read_objects.result _ _ c.read_objects.ensures.err
-    (λ f h. rest_of _ _ f c.in_ok-listed.ensures.ok (subst (λ k. LeastOrWant (member_faults (codes "objects") (objects_faults l k) v) f) (sym known_arcs) h))
+    let faults = content_over c.args.limits.now (view c.args.value.now) _ _ c.from_list-arcs.ensures c.in_ok-listed.ensures.made c.in_ok-listed.ensures.ok in
+    err_map c.read_objects.result _ _ c.read_objects.ensures.err (λ f told. subst (λ ps. LeastOrWant ps f) (sym faults) told)

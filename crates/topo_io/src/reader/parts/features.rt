@@ -167,14 +167,6 @@ impl Stitched for Feature {
     }
 }
 
-fn features_of(alloc: Global, arcs: &TextArcs, geometries: Vec<Geom>) -> Result<Vec<Feature>, Fault>
-    ensures ok { OnOk result (AllByRecursion (GeomStitches arcs.now) (map_list plain_geom geometries.items)) }
-    ensures made { IfOk result (λ fs. map_list plain fs.items ≡ map_list (feature_along arcs.now) (map_list plain_geom geometries.items)) }
-    ensures err { IfErr result (NotOrWant (AllByRecursion (GeomStitches arcs.now) (map_list plain_geom geometries.items))) }
-{
-    each_stitched(alloc, arcs, geometries)
-}
-
 fn name_of(alloc: Global, text: &str) -> Result<String, Fault>
     ensures ok { IfOk result (λ s. string_bytes s ≡ text.now) }
     ensures err { IfErr result IsWant }
@@ -200,29 +192,17 @@ impl Stitched for NamedFeatures {
 
     fn stitched(alloc: Global, arcs: &TextArcs, from: Layer) -> Result<NamedFeatures, Fault> {
         let (name, geometries) = from.into_parts();
-        let features = features_of(alloc, arcs, geometries)?;
+        let features = each_stitched(alloc, arcs, geometries)?;
         let name = name_of(alloc, name.text())?;
         Ok((name, features))
     }
-}
-
-fn layers_of(
-    alloc: Global,
-    arcs: &TextArcs,
-    layers: Vec<Layer>,
-) -> Result<Vec<NamedFeatures>, Fault>
-    ensures ok { OnOk result (AllByRecursion (LayerStitches arcs.now) (map_list layer_of_geoms layers.items)) }
-    ensures made { IfOk result (λ ls. map_list plain_layer ls.items ≡ map_list (layer_along arcs.now) (map_list layer_of_geoms layers.items)) }
-    ensures err { IfErr result (NotOrWant (AllByRecursion (LayerStitches arcs.now) (map_list layer_of_geoms layers.items))) }
-{
-    each_stitched(alloc, arcs, layers)
 }
 
 fn stitched_map(alloc: Global, arcs: &TextArcs, layers: Vec<Layer>) -> Result<FeatureMap, Fault>
     ensures ok { IfOk result (λ m. (bytes : List ℕ) (g : Transform) → AreSaid bytes g arcs.now layers.items → Means bytes g m) }
     ensures err { IfErr result (NotOrWant (AllByRecursion (LayerStitches arcs.now) (map_list layer_of_geoms layers.items))) }
 {
-    let layers = layers_of(alloc, arcs, layers)?;
+    let layers = each_stitched(alloc, arcs, layers)?;
     map_of(alloc, layers)
 }
 

@@ -5,10 +5,9 @@ ghost use Rattle.serde_json.specs.View.{view};
 ghost use Rattle.reading.specs.Fault.{LeastOrWant};
 ghost use Rattle.reading.specs.Info.{member_or_null};
 ghost use Rattle.reading.specs.Parts.{member_faults, list_faults, elements};
-ghost use Rattle.topo.specs.OfMap.{body_of};
 ghost use Rattle.topo_io.specs.Arcs.{counted};
-ghost use Rattle.topo_io.specs.Geometries.{shape_faults, typed_faults_of, geometry_faults, typed_layer_faults, layer_faults};
-ghost use Rattle.topo_io.specs.Parts.{plain_geom, body_in, geom_of, geometry_geom, geoms_as, layer_geoms, GeomStored};
+ghost use Rattle.topo_io.specs.Geometries.{typed_faults_of, geometry_faults, typed_layer_faults, layer_faults};
+ghost use Rattle.topo_io.specs.Parts.{plain_geom, geom_of, geometry_geom, geoms_as, layer_geoms, GeomStored};
 
 use crate::reader::geometry::{body_name, geometry_type};
 use crate::reader::layer::layer_type;
@@ -22,28 +21,6 @@ use serde_json::Value;
 use std::alloc::Global;
 use topo::{Body, Geom};
 
-fn read_body(
-    alloc: Global,
-    extent: &Extent,
-    kind: Option<GeometryType>,
-    value: &Value,
-) -> Result<Body, Fault>
-    ensures ok { OnOk result (shape_faults extent.now.limits (counted extent.now.arcs) kind (view value.now) ≡ []) }
-    ensures made { IfOk result (λ b. body_of b ≡ body_in kind (view value.now)) }
-    ensures err { IfErr result (λ f. LeastOrWant (shape_faults extent.now.limits (counted extent.now.arcs) kind (view value.now)) f) }
-{
-    match kind {
-        None => Ok(Body::Null),
-        Some(kind) => {
-            let body = BodyWithin {
-                extent: *extent,
-                kind,
-            };
-            read_member(alloc, &body, value, body_name(kind))
-        }
-    }
-}
-
 // The geometry of that type, none for null.
 fn read_geom(
     alloc: Global,
@@ -56,7 +33,16 @@ fn read_geom(
     ensures ids { OnOk result (GeomStored (geom_of kind (view value.now))) }
     ensures err { IfErr result (λ f. LeastOrWant (typed_faults_of extent.now.limits (counted extent.now.arcs) kind (view value.now)) f) }
 {
-    let body = read_body(alloc, extent, kind, value)?;
+    let body = match kind {
+        None => Body::Null,
+        Some(kind) => {
+            let body = BodyWithin {
+                extent: *extent,
+                kind,
+            };
+            read_member(alloc, &body, value, body_name(kind))?
+        }
+    };
     let (id, props) = read_info(alloc, value)?;
     Ok(Geom { id, props, body })
 }
