@@ -1,21 +1,23 @@
 //! The features of a topology, beside the bodies that hold them by arcs.
-ghost use Rattle.std.specs.Prelude.{◌≡◌, ◌↔◌, ◌++◌, IfOk, OnOk, Err, Some, None, List, map as map_list};
+ghost use Rattle.std.specs.Prelude.{◌≡◌, ◌↔◌, ◌++◌, IfOk, OnOk, Err, List, map as map_list};
 ghost use Rattle.std.specs.List.Sorted.{IsPermutation, IsSorted};
 ghost use Rattle.std.specs.Option.{option_map};
 ghost use Rattle.shapes.specs.declared.feature.Feature as features;
-ghost use Rattle.theory.specs.Lists.{gathered};
+ghost use Rattle.theory.specs.Lists.{Has, gathered};
 ghost use Rattle.topo.specs.Features.{AreFeaturesOf};
 ghost use Rattle.topo.specs.ItsMap.{ForItsMap};
 ghost use Rattle.topo.specs.OfMap.{IsOfSomeMap};
+ghost use Rattle.topo.specs.Parts.{LayerParts};
 ghost use Rattle.query.specs.Mesh.{IsMissing};
 ghost use Rattle.query.specs.Members.{held, paired, layer_pairs, by_feature, AreMembers};
 ghost use Rattle.query.specs.declared.fault.QueryFault.TheVariants.{NoLayer as MissingLayer};
 
 use crate::fault::QueryFault;
+use crate::scope::layers_in;
 use faults::OutOfMemory;
 use shapes::feature::Feature;
 use std::alloc::Global;
-use topo::{Body, Geom, Topology};
+use topo::{Body, Geom, Layer, Topology};
 
 /// A feature, and its shape by arcs.
 #[derive(Drop)]
@@ -46,11 +48,13 @@ fn note_layer<'a>(
 fn note_layers<'a>(
     alloc: Global,
     members: &mut Vec<Member<'a>>,
-    topology: &'a Topology,
+    topology: &Topology,
+    layers: &'a [Layer],
 ) -> Result<(), OutOfMemory>
-    ensures { OnOk result (ForItsMap topology.now (λ m. map_list held members.new.items ≡ map_list held members.old.items ++ gathered (layer_pairs m) topology.now.layers)) }
+    requires { IsOfSomeMap topology.now × ((l : LayerParts) → Has l layers.now → Has l topology.now.layers) }
+    ensures { OnOk result (ForItsMap topology.now (λ m. map_list held members.new.items ≡ map_list held members.old.items ++ gathered (layer_pairs m) layers.now)) }
 {
-    for layer in topology.layers() {
+    for layer in layers {
         note_layer(alloc, members, topology, layer.geometries())?;
     }
     Ok(())
@@ -63,33 +67,6 @@ fn sort_members(members: &mut Vec<Member>)
     members.sort_unstable_by(|a, b| a.feature.cmp(&b.feature));
 }
 
-fn members_named<'a>(
-    alloc: Global,
-    topology: &'a Topology,
-    name: &str,
-) -> Result<Vec<Member<'a>>, QueryFault>
-    requires { IsOfSomeMap topology.now }
-    ensures layer { ForItsMap topology.now (λ m. (result ≡ Err MissingLayer) ↔ IsMissing m (Some name.now)) }
-    ensures members { IfOk result (λ v. ForItsMap topology.now (λ m. AreMembers m topology.now (Some name.now) v.items)) }
-{
-    let Some(geometries) = topology.geometries(name) else {
-        return Err(QueryFault::NoLayer);
-    };
-    let mut members = Vec::new(alloc);
-    note_layer(alloc, &mut members, topology, geometries)?;
-    sort_members(&mut members);
-    Ok(members)
-}
-
-fn members_of_all<'a>(alloc: Global, topology: &'a Topology) -> Result<Vec<Member<'a>>, OutOfMemory>
-    ensures { IfOk result (λ v. ForItsMap topology.now (λ m. AreMembers m topology.now None v.items)) }
-{
-    let mut members = Vec::new(alloc);
-    note_layers(alloc, &mut members, topology)?;
-    sort_members(&mut members);
-    Ok(members)
-}
-
 /// The features of a layer, or without a layer those of all layers, in their order.
 pub(crate) fn members_of<'a>(
     alloc: Global,
@@ -100,8 +77,9 @@ pub(crate) fn members_of<'a>(
     ensures layer { ForItsMap topology.now (λ m. (result ≡ Err MissingLayer) ↔ IsMissing m (option_map (λ n. n.now) layer.entry)) }
     ensures members { IfOk result (λ v. ForItsMap topology.now (λ m. AreMembers m topology.now (option_map (λ n. n.now) layer.entry) v.items)) }
 {
-    match layer {
-        Some(name) => members_named(alloc, topology, name),
-        None => Ok(members_of_all(alloc, topology)?),
-    }
+    let layers = layers_in(topology, layer)?;
+    let mut members = Vec::new(alloc);
+    note_layers(alloc, &mut members, topology, layers)?;
+    sort_members(&mut members);
+    Ok(members)
 }

@@ -1,5 +1,5 @@
 //! Which arcs the features of a layer use.
-ghost use Rattle.std.specs.Prelude.{◌≡◌, ◌↔◌, ◌++◌, IfOk, OnOk, Err, Some, None};
+ghost use Rattle.std.specs.Prelude.{◌≡◌, ◌↔◌, ◌++◌, IfOk, OnOk, Err};
 ghost use Rattle.std.specs.Option.{option_map};
 ghost use Rattle.theory.specs.Lists.{gathered};
 ghost use Rattle.topo.specs.ItsMap.{ForItsMap};
@@ -11,6 +11,7 @@ ghost use Rattle.query.specs.Uses.{geometries_uses};
 ghost use Rattle.query.specs.declared.fault.QueryFault.TheVariants.{NoLayer as MissingLayer};
 
 use crate::fault::QueryFault;
+use crate::scope::layers_in;
 use crate::spans::Span;
 use crate::uses::{Use, note_geometries};
 use std::alloc::{AllocError, Global};
@@ -25,27 +26,6 @@ fn note_layers(uses: &mut Vec<Use>, layers: &[Layer]) -> Result<(), AllocError>
     Ok(())
 }
 
-fn uses_named(alloc: Global, topology: &Topology, name: &str) -> Result<Vec<Use>, QueryFault>
-    requires { IsOfSomeMap topology.now }
-    ensures layer { ForItsMap topology.now (λ m. (result ≡ Err MissingLayer) ↔ IsMissing m (Some name.now)) }
-    ensures uses { IfOk result (λ v. ForItsMap topology.now (λ m. AreUsesIn m topology.now (Some name.now) v.items)) }
-{
-    let Some(geometries) = topology.geometries(name) else {
-        return Err(QueryFault::NoLayer);
-    };
-    let mut uses = Vec::new(alloc);
-    note_geometries(&mut uses, geometries)?;
-    Ok(uses)
-}
-
-fn uses_of_all(alloc: Global, topology: &Topology) -> Result<Vec<Use>, AllocError>
-    ensures { IfOk result (λ v. ForItsMap topology.now (λ m. AreUsesIn m topology.now None v.items)) }
-{
-    let mut uses = Vec::new(alloc);
-    note_layers(&mut uses, topology.layers())?;
-    Ok(uses)
-}
-
 /// The uses of arcs by the features of a layer, or without a layer by those of all layers.
 pub(crate) fn uses_in(
     alloc: Global,
@@ -56,10 +36,10 @@ pub(crate) fn uses_in(
     ensures layer { ForItsMap topology.now (λ m. (result ≡ Err MissingLayer) ↔ IsMissing m (option_map (λ n. n.now) layer.entry)) }
     ensures uses { IfOk result (λ v. ForItsMap topology.now (λ m. AreUsesIn m topology.now (option_map (λ n. n.now) layer.entry) v.items)) }
 {
-    match layer {
-        Some(name) => uses_named(alloc, topology, name),
-        None => Ok(uses_of_all(alloc, topology)?),
-    }
+    let layers = layers_in(topology, layer)?;
+    let mut uses = Vec::new(alloc);
+    note_layers(&mut uses, layers)?;
+    Ok(uses)
 }
 
 fn note_used(used: &mut Vec<usize>, number: usize, span: Option<Span>) -> Result<(), AllocError>

@@ -8,4 +8,4 @@ use Rattle.query.proofs.members.note_layers.Given as goal
 abbrev pub invariant-loop-layer : goal.invariant-loop-layer
 invariant-loop-layer l =
     (m : Layers) → IsOf m l.fn.topology
-    → map held l.members.items ++ gathered (layer_pairs m) (drop l.layer-index l.fn.topology.layers) ≡ map held l.fn.members.items ++ gathered (layer_pairs m) l.fn.topology.layers
+    → map held l.members.items ++ gathered (layer_pairs m) (drop l.layer-index l.fn.layers) ≡ map held l.fn.members.items ++ gathered (layer_pairs m) l.fn.layers
