@@ -63,14 +63,9 @@ layers_step m t of ls some i l gs is ms new start less at put left =
     ∙ append_assoc (map_list held ms) (layer_pairs m l) (gathered (layer_pairs m) (drop (i + 1) ls))
     ∙ ap (λ w. map_list held ms ++ gathered (layer_pairs m) w) (sym (drop_item ls i l less at)) ∙ left
 
-pub layers_done : (m : Layers) (ls : List LayerParts) (i : ℕ) (ms : List Member) (start : List (Feature × Body)) → length ls ≤ i →
-    map_list held ms ++ gathered (layer_pairs m) (drop i ls) ≡ start → map_list held ms ≡ start
-layers_done m ls i ms start k left =
-    sym (append-nil (map_list held ms)) ∙ ap (λ w. map_list held ms ++ gathered (layer_pairs m) w) (sym (none_left ls i k)) ∙ left
-
--- behind no others
-pub begun : (none : List Member) → none ≡ [] → (pairs : List (Feature × Body)) (made : List Member) → map_list held made ≡ map_list held none ++ pairs → map_list held made ≡ pairs
-begun none e pairs made is = is ∙ ap (λ w. map_list held w ++ pairs) e
+-- where none are left
+pub all_gathered : {A B : Type 0} (f : A → List B) (xs : List A) (i : ℕ) (made all : List B) → length xs ≤ i → made ++ gathered f (drop i xs) ≡ all → made ≡ all
+all_gathered f xs i made all k left = sym (append-nil made) ∙ ap (λ w. made ++ gathered f w) (sym (none_left xs i k)) ∙ left
 
 module _ (m : Layers) (t : TopologyParts) (of : IsOf m t) where
   pair_members : (fs : List Feature) (gs : List Geom) → OfFeatures m t of fs gs → (f : Feature) (b : Body) → Has (f, b) (paired fs gs) → Has f fs × Holds m t f b

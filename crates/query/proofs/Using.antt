@@ -1,5 +1,5 @@
 -- The arcs that the features in scope use, and the segments of all of them.
-use Rattle.std.proofs.Common.{◌≡◌, ◌↔◌, ◌+◌, ◌==◌, ℕ, zero, suc, Bool, true, false, List, [], ◌∷◌, ◌++◌, length, ◌⊎◌, inl, inr, refl, sym, ap, ◌∙◌, subst, Option, Some, None, Result, Ok, Err, IfOk, slice_get, arith, replicate}
+use Rattle.std.proofs.Common.{◌≡◌, ◌↔◌, ◌+◌, ◌==◌, ℕ, zero, suc, Bool, true, false, List, [], ◌∷◌, length, ◌⊎◌, inl, inr, refl, sym, ap, ◌∙◌, subst, Option, Some, None, Result, Ok, Err, IfOk, slice_get, arith, replicate}
 use Rattle.std.specs.Prelude.{IsTrue, not, map as map_list}
 use Rattle.std.specs.Cmp.{tied_itself, upto}
 use Rattle.std.specs.Ordering.{eq_by_cmp, is_gt, ordering_reverse}
@@ -181,9 +181,9 @@ module _ (m : Layers) (t : TopologyParts) (of : IsOf m t) where
       (0 + n, has_bodies (map_list (λ g. body_of g.body) gs) 0 n k (body_of g.body) (at_body gs n g at) (subst (λ w. UsesArc k (body_of w)) is used))
 
   -- the uses by the features in scope
-  pub scope_uses : (scope : Option (List ℕ)) (ls : List LayerParts) → AreLayersIn t scope ls → (none us : List Use) → none ≡ [] →
-      us ≡ none ++ gathered (λ l. geometries_uses l.geometries) ls → AreUsesIn m t scope us
-  scope_uses scope ls are none us empty made = subst (AreUsesIn m t scope) (sym (made ∙ ap (λ w. w ++ gathered (λ l. geometries_uses l.geometries) ls) empty)) (record {
+  pub scope_uses : (scope : Option (List ℕ)) (ls : List LayerParts) → AreLayersIn t scope ls → (us : List Use) →
+      us ≡ gathered (λ l. geometries_uses l.geometries) ls → AreUsesIn m t scope us
+  scope_uses scope ls are us made = subst (AreUsesIn m t scope) (sym made) (record {
     pairs = gathered (layer_pairs m) ls;
     are = scope_pairs m t of scope ls are;
     from = λ k p h.

@@ -3,13 +3,11 @@ ghost use Rattle.std.specs.Prelude.{◌≡◌, ◌↔◌, ◌++◌, IfOk, OnOk, 
 ghost use Rattle.std.specs.List.Sorted.{IsPermutation, IsSorted};
 ghost use Rattle.std.specs.Option.{option_map};
 ghost use Rattle.shapes.specs.declared.feature.Feature as features;
-ghost use Rattle.theory.specs.Lists.{Has, gathered};
 ghost use Rattle.topo.specs.Features.{AreFeaturesOf};
 ghost use Rattle.topo.specs.ItsMap.{ForItsMap};
 ghost use Rattle.topo.specs.OfMap.{IsOfSomeMap};
-ghost use Rattle.topo.specs.Parts.{LayerParts};
 ghost use Rattle.query.specs.Mesh.{IsMissing};
-ghost use Rattle.query.specs.Members.{held, paired, layer_pairs, by_feature, AreMembers};
+ghost use Rattle.query.specs.Members.{held, paired, by_feature, AreMembers};
 ghost use Rattle.query.specs.declared.fault.QueryFault.TheVariants.{NoLayer as MissingLayer};
 
 use crate::fault::QueryFault;
@@ -17,7 +15,7 @@ use crate::scope::layers_in;
 use faults::OutOfMemory;
 use shapes::feature::Feature;
 use std::alloc::Global;
-use topo::{Body, Geom, Layer, Topology};
+use topo::{Body, Geom, Topology};
 
 /// A feature, and its shape by arcs.
 #[derive(Drop)]
@@ -45,21 +43,6 @@ fn note_layer<'a>(
     Ok(())
 }
 
-fn note_layers<'a>(
-    alloc: Global,
-    members: &mut Vec<Member<'a>>,
-    topology: &Topology,
-    layers: &'a [Layer],
-) -> Result<(), OutOfMemory>
-    requires { IsOfSomeMap topology.now × ((l : LayerParts) → Has l layers.now → Has l topology.now.layers) }
-    ensures { OnOk result (ForItsMap topology.now (λ m. map_list held members.new.items ≡ map_list held members.old.items ++ gathered (layer_pairs m) layers.now)) }
-{
-    for layer in layers {
-        note_layer(alloc, members, topology, layer.geometries())?;
-    }
-    Ok(())
-}
-
 fn sort_members(members: &mut Vec<Member>)
     ensures permutation { IsPermutation members.old.items members.new.items }
     ensures sorted { IsSorted by_feature members.new.items }
@@ -71,15 +54,17 @@ fn sort_members(members: &mut Vec<Member>)
 pub(crate) fn members_of<'a>(
     alloc: Global,
     topology: &'a Topology,
-    layer: Option<&str>,
+    name: Option<&str>,
 ) -> Result<Vec<Member<'a>>, QueryFault>
     requires { IsOfSomeMap topology.now }
-    ensures layer { ForItsMap topology.now (λ m. (result ≡ Err MissingLayer) ↔ IsMissing m (option_map (λ n. n.now) layer.entry)) }
-    ensures members { IfOk result (λ v. ForItsMap topology.now (λ m. AreMembers m topology.now (option_map (λ n. n.now) layer.entry) v.items)) }
+    ensures layer { ForItsMap topology.now (λ m. (result ≡ Err MissingLayer) ↔ IsMissing m (option_map (λ n. n.now) name.entry)) }
+    ensures members { IfOk result (λ v. ForItsMap topology.now (λ m. AreMembers m topology.now (option_map (λ n. n.now) name.entry) v.items)) }
 {
-    let layers = layers_in(topology, layer)?;
+    let layers = layers_in(topology, name)?;
     let mut members = Vec::new(alloc);
-    note_layers(alloc, &mut members, topology, layers)?;
+    for layer in layers {
+        note_layer(alloc, &mut members, topology, layer.geometries())?;
+    }
     sort_members(&mut members);
     Ok(members)
 }

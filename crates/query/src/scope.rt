@@ -1,5 +1,5 @@
 //! The layers that a question is about.
-ghost use Rattle.std.specs.Prelude.{◌≡◌, ◌↔◌, ◌≢◌, IfOk, IfNone, IfSome, Err, Some};
+ghost use Rattle.std.specs.Prelude.{◌≡◌, ◌↔◌, IfNone, IfOk, IfSome, Err};
 ghost use Rattle.std.specs.Option.{option_map};
 ghost use Rattle.shapes.specs.Parts.{spelled_text};
 ghost use Rattle.theory.specs.Lists.{Has};
