@@ -25,7 +25,7 @@ use Rattle.topo.specs.declared.geom.Body.{Body}
 use Rattle.topo.specs.declared.geom.Geom.{Geom}
 use Rattle.topo.proofs.Pairs.{none_behind, pair_at}
 use Rattle.topo.proofs.Stitched.{geometries_of}
-use Rattle.query.specs.Members.{held, paired, layer_pairs, Holds, InOrder, AreMembers, ArePairs}
+use Rattle.query.specs.Members.{held, paired, layer_pairs, AreLayersIn, Holds, InOrder, AreMembers, ArePairs}
 use Rattle.query.specs.declared.members.Member.{Member}
 use Rattle.chains.proofs.Siding.{none_left}
 use Rattle.query.proofs.LayerFeatures.{OfFeatures, entry_layer, key_entry, layer_form, named_features}
@@ -51,29 +51,21 @@ layer_done arcs fs gs ms i start h k left =
     sym (append-nil (map_list held ms)) ∙ ap (λ w. map_list held ms ++ paired w (drop i gs)) (sym (none_behind (IsFeatureOf arcs) fs gs i h k)) ∙ left
 
 -- the features of a layer put behind the others
-pub layers_step : (m : Layers) (t : TopologyParts) → IsOf m t → (items : List LayerParts) → items ≡ t.layers → (i : ℕ) (l : LayerParts) (gs : List Geom) → gs ≡ l.geometries →
-    (ms new : List Member) (start : List (Feature × Body)) → i < length items → l ≡ get_or items i l →
+pub layers_step : (m : Layers) (t : TopologyParts) → IsOf m t → (ls : List LayerParts) → ((l : LayerParts) → Has l ls → Has l t.layers) → (i : ℕ) (l : LayerParts) (gs : List Geom) →
+    gs ≡ l.geometries → (ms new : List Member) (start : List (Feature × Body)) → i < length ls → l ≡ get_or ls i l →
     ((fs : List Feature) → AreFeaturesOf t.arcs.arcs fs gs → map_list held new ≡ map_list held ms ++ paired fs gs) →
-    map_list held ms ++ gathered (layer_pairs m) (drop i t.layers) ≡ start → map_list held new ++ gathered (layer_pairs m) (drop (i + 1) t.layers) ≡ start
-layers_step m t of items same i l gs is ms new start k e put left =
-    let less : i < length t.layers = subst (λ w. i < length w) same k in
-    let at : l ≡ get_or t.layers i l = subst (λ w. l ≡ get_or w i l) same e in
-    let there = get_has t.layers i l (item_at t.layers i l less at) in
+    map_list held ms ++ gathered (layer_pairs m) (drop i ls) ≡ start → map_list held new ++ gathered (layer_pairs m) (drop (i + 1) ls) ≡ start
+layers_step m t of ls some i l gs is ms new start less at put left =
+    let there = some l (get_has ls i l (item_at ls i l less at)) in
     let fs = set.items (features_at m (spelled_text l.name)) in
     let made = put fs (geometries_of m t (spelled_text l.name) gs of (l, there, refl, is)) in
-    ap (λ w. w ++ gathered (layer_pairs m) (drop (i + 1) t.layers)) (made ∙ ap (λ w. map_list held ms ++ paired fs w) is)
-    ∙ append_assoc (map_list held ms) (layer_pairs m l) (gathered (layer_pairs m) (drop (i + 1) t.layers))
-    ∙ ap (λ w. map_list held ms ++ gathered (layer_pairs m) w) (sym (drop_item t.layers i l less at)) ∙ left
+    ap (λ w. w ++ gathered (layer_pairs m) (drop (i + 1) ls)) (made ∙ ap (λ w. map_list held ms ++ paired fs w) is)
+    ∙ append_assoc (map_list held ms) (layer_pairs m l) (gathered (layer_pairs m) (drop (i + 1) ls))
+    ∙ ap (λ w. map_list held ms ++ gathered (layer_pairs m) w) (sym (drop_item ls i l less at)) ∙ left
 
-pub layers_done : (m : Layers) (t : TopologyParts) (items : List LayerParts) → items ≡ t.layers → (i : ℕ) (ms : List Member) (start : List (Feature × Body)) → length items ≤ i →
-    map_list held ms ++ gathered (layer_pairs m) (drop i t.layers) ≡ start → map_list held ms ≡ start
-layers_done m t items same i ms start k left =
-    sym (append-nil (map_list held ms))
-    ∙ ap (λ w. map_list held ms ++ gathered (layer_pairs m) w) (sym (none_left t.layers i (subst (λ w. length w ≤ i) same k))) ∙ left
-
--- behind no others
-pub begun : (none : List Member) → none ≡ [] → (pairs : List (Feature × Body)) (made : List Member) → map_list held made ≡ map_list held none ++ pairs → map_list held made ≡ pairs
-begun none e pairs made is = is ∙ ap (λ w. map_list held w ++ pairs) e
+-- where none are left
+pub all_gathered : {A B : Type 0} (f : A → List B) (xs : List A) (i : ℕ) (made all : List B) → length xs ≤ i → made ++ gathered f (drop i xs) ≡ all → made ≡ all
+all_gathered f xs i made all k left = sym (append-nil made) ∙ ap (λ w. made ++ gathered f w) (sym (none_left xs i k)) ∙ left
 
 module _ (m : Layers) (t : TopologyParts) (of : IsOf m t) where
   pair_members : (fs : List Feature) (gs : List Geom) → OfFeatures m t of fs gs → (f : Feature) (b : Body) → Has (f, b) (paired fs gs) → Has f fs × Holds m t f b
@@ -95,7 +87,7 @@ module _ (m : Layers) (t : TopologyParts) (of : IsOf m t) where
   in_order [] u = tt
   in_order (p ∷ ps) u = (u.0, in_order ps u.1)
 
-  members_by : (scope : Option (List ℕ)) (pairs : List (Feature × Body)) → ArePairs m t scope pairs →
+  pub members_by : (scope : Option (List ℕ)) (pairs : List (Feature × Body)) → ArePairs m t scope pairs →
       (ps qs : List Member) → map_list held ps ≡ pairs → IsPermutation ps qs → IsSorted (λ p q. feature_cmp p.feature q.feature) qs → AreMembers m t scope qs
   members_by scope pairs are ps qs is moved sorted = record {
     only = λ p h.
@@ -109,17 +101,13 @@ module _ (m : Layers) (t : TopologyParts) (of : IsOf m t) where
   }
 
   -- the features of one layer
-  pub named_pairs : (name : List ℕ) (gs : List Geom) → IsOfLayerNamed t.layers name gs → ArePairs m t (Some name) (paired (set.items (features_at m name)) gs)
+  named_pairs : (name : List ℕ) (gs : List Geom) → IsOfLayerNamed t.layers name gs → ArePairs m t (Some name) (paired (set.items (features_at m name)) gs)
   named_pairs name gs under =
       let (there, all) = named_features m t of name gs under in
       record {
         only = λ f b h. let r = pair_members (set.items (features_at m name)) gs all f b h in (r.0, layer_form m name there f r.0, r.1);
         all = λ f i. members_pair (set.items (features_at m name)) gs all f i;
       }
-
-  pub layer_members : (name : List ℕ) (gs : List Geom) → IsOfLayerNamed t.layers name gs → (ps qs : List Member) →
-      map_list held ps ≡ paired (set.items (features_at m name)) gs → IsPermutation ps qs → IsSorted (λ p q. feature_cmp p.feature q.feature) qs → AreMembers m t (Some name) qs
-  layer_members name gs under ps qs is moved sorted = members_by (Some name) (paired (set.items (features_at m name)) gs) (named_pairs name gs under) ps qs is moved sorted
 
   -- a name with features is that of a layer
   has_key : (name : List ℕ) (f : Feature) → Has f (set.items (features_at m name)) → IsTrue (map.contains_key m name)
@@ -130,7 +118,7 @@ module _ (m : Layers) (t : TopologyParts) (of : IsOf m t) where
       go None e = absurd (subst (Has f) (no_features m name (sym e)) h)
 
   -- the features of all layers
-  pub gathered_pairs : ArePairs m t None (gathered (layer_pairs m) t.layers)
+  gathered_pairs : ArePairs m t None (gathered (layer_pairs m) t.layers)
   gathered_pairs = record {
     only = λ f b h.
         let (l, there, k) = gathered_from (layer_pairs m) t.layers (f, b) h in
@@ -146,6 +134,15 @@ module _ (m : Layers) (t : TopologyParts) (of : IsOf m t) where
         (r.0, Has-gathered (layer_pairs m) t.layers l (f, r.0) there r.1);
   }
 
-  pub all_members : (ps qs : List Member) →
-      map_list held ps ≡ gathered (layer_pairs m) t.layers → IsPermutation ps qs → IsSorted (λ p q. feature_cmp p.feature q.feature) qs → AreMembers m t None qs
-  all_members ps qs is moved sorted = members_by None (gathered (layer_pairs m) t.layers) gathered_pairs ps qs is moved sorted
+  -- the features in scope
+  pub scope_pairs : (scope : Option (List ℕ)) (ls : List LayerParts) → AreLayersIn t scope ls → ArePairs m t scope (gathered (layer_pairs m) ls)
+  scope_pairs (Some name) ls (l, there, named, is) =
+      subst (ArePairs m t (Some name)) (sym (append-nil (layer_pairs m l)) ∙ ap (gathered (layer_pairs m)) (sym is))
+      (subst (λ n. ArePairs m t (Some name) (paired (set.items (features_at m n)) l.geometries)) (sym named) (named_pairs name l.geometries (l, there, named, refl)))
+  scope_pairs None ls is = subst (λ w. ArePairs m t None (gathered (layer_pairs m) w)) (sym is) gathered_pairs
+
+-- they are layers of the topology
+pub scope_layers : (t : TopologyParts) (scope : Option (List ℕ)) (ls : List LayerParts) → AreLayersIn t scope ls → (l : LayerParts) → Has l ls → Has l t.layers
+scope_layers t (Some name) ls (k, there, named, is) l h =
+    elim (subst (Has l) is h) [ inl e ↦ subst (λ w. Has w t.layers) (sym e) there | inr e ↦ absurd e ]
+scope_layers t None ls is l h = subst (Has l) is h

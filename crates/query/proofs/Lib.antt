@@ -9,6 +9,7 @@ pub mod Neighboring
 pub mod Spanning
 pub mod Choosing
 pub mod Holding
+pub mod Asked
 pub mod Using
 pub mod Meshing
 pub mod Vertices

@@ -1,5 +1,5 @@
 -- The arcs that the features in scope use, and the segments of all of them.
-use Rattle.std.proofs.Common.{◌≡◌, ◌↔◌, ◌+◌, ◌==◌, ℕ, zero, suc, Bool, true, false, List, [], ◌∷◌, ◌++◌, length, ◌⊎◌, inl, inr, refl, sym, ap, ◌∙◌, subst, Option, Some, None, Result, Ok, Err, IfOk, slice_get, arith, replicate}
+use Rattle.std.proofs.Common.{◌≡◌, ◌↔◌, ◌+◌, ◌==◌, ℕ, zero, suc, Bool, true, false, List, [], ◌∷◌, length, ◌⊎◌, inl, inr, refl, sym, ap, ◌∙◌, subst, Option, Some, None, Result, Ok, Err, IfOk, slice_get, arith, replicate}
 use Rattle.std.specs.Prelude.{IsTrue, not, map as map_list}
 use Rattle.std.specs.Cmp.{tied_itself, upto}
 use Rattle.std.specs.Ordering.{eq_by_cmp, is_gt, ordering_reverse}
@@ -28,11 +28,11 @@ use Rattle.theory.proofs.Ascending.{dec_by}
 use Rattle.theory.proofs.ListsOfLists.{Has-gathered, gathered_from, get_has}
 use Rattle.theory.proofs.UsersOfArcs.{users}
 use Rattle.topo.specs.OfMap.{IsOf, body_of}
-use Rattle.topo.specs.Parts.{IsOfLayerNamed, LayerParts, TopologyParts}
+use Rattle.topo.specs.Parts.{LayerParts, TopologyParts}
 use Rattle.topo.specs.declared.geom.Body.{Body}
 use Rattle.topo.specs.declared.geom.Geom.{Geom}
 use Rattle.topo.proofs.Sound.{are_sound}
-use Rattle.query.specs.Members.{AreUsesIn, layer_pairs, paired}
+use Rattle.query.specs.Members.{AreLayersIn, AreUsesIn, layer_pairs, paired}
 use Rattle.query.specs.Mesh.{Answers, AreBorders, AreSelected, HasSide, InScope, IsGreatestWith, IsLeastWith}
 use Rattle.query.specs.Spans.{numbers_from, with_uses}
 use Rattle.query.specs.Uses.{body_uses, geometries_uses, use_at}
@@ -42,7 +42,7 @@ use Rattle.lines.proofs.Positions.{true_false}
 use Rattle.query.specs.declared.fault.QueryFault.{QueryFault}
 use Rattle.query.specs.declared.spans.Span.{Span}
 use Rattle.query.specs.declared.uses.Use.{Use}
-use Rattle.query.proofs.Holding.{gathered_pairs, named_pairs}
+use Rattle.query.proofs.Holding.{scope_layers, scope_pairs}
 use Rattle.query.proofs.LayerFeatures.{OfFeatures, form_rings, form_segment, named_features}
 use Rattle.query.proofs.Meshing.{beside_differ, get_less}
 use Rattle.query.proofs.Neighboring.{at_body, body_at}
@@ -180,34 +180,22 @@ module _ (m : Layers) (t : TopologyParts) (of : IsOf m t) where
       let (n, g, at, is) = pair_body fs gs f b h in
       (0 + n, has_bodies (map_list (λ g. body_of g.body) gs) 0 n k (body_of g.body) (at_body gs n g at) (subst (λ w. UsesArc k (body_of w)) is used))
 
-  -- the uses by the features of a layer
-  pub named_uses : (name : List ℕ) (gs : List Geom) → IsOfLayerNamed t.layers name gs → (none us : List Use) → none ≡ [] → us ≡ none ++ geometries_uses gs → AreUsesIn m t (Some name) us
-  named_uses name gs under none us empty made = subst (AreUsesIn m t (Some name)) (sym (made ∙ ap (λ w. w ++ geometries_uses gs) empty)) (record {
-    pairs = paired (set.items (features_at m name)) gs;
-    are = named_pairs m t of name gs under;
-    from = uses_pair (set.items (features_at m name)) gs (named_features m t of name gs under).1;
-    to = pair_uses (set.items (features_at m name)) gs;
-  })
-
-  -- and by those of all layers
-  pub gathered_uses : (layers : List LayerParts) → layers ≡ t.layers → (none us : List Use) → none ≡ [] → us ≡ none ++ gathered (λ l. geometries_uses l.geometries) layers →
-      AreUsesIn m t None us
-  gathered_uses layers same none us empty made = subst (AreUsesIn m t None) (sym all) (record {
-    pairs = gathered (layer_pairs m) t.layers;
-    are = gathered_pairs m t of;
+  -- the uses by the features in scope
+  pub scope_uses : (scope : Option (List ℕ)) (ls : List LayerParts) → AreLayersIn t scope ls → (us : List Use) →
+      us ≡ gathered (λ l. geometries_uses l.geometries) ls → AreUsesIn m t scope us
+  scope_uses scope ls are us made = subst (AreUsesIn m t scope) (sym made) (record {
+    pairs = gathered (layer_pairs m) ls;
+    are = scope_pairs m t of scope ls are;
     from = λ k p h.
-        let (l, there, i) = gathered_from (λ l. geometries_uses l.geometries) t.layers (use_at k p) h in
-        let (key, of_layer) = named_features m t of (spelled_text l.name) l.geometries (l, there, refl, refl) in
+        let (l, there, i) = gathered_from (λ l. geometries_uses l.geometries) ls (use_at k p) h in
+        let (key, of_layer) = named_features m t of (spelled_text l.name) l.geometries (l, scope_layers t scope ls are l there, refl, refl) in
         let (f, b, beside, used) = uses_pair (set.items (features_at m (spelled_text l.name))) l.geometries of_layer k p i in
-        (f, b, Has-gathered (layer_pairs m) t.layers l (f, b) there beside, used);
+        (f, b, Has-gathered (layer_pairs m) ls l (f, b) there beside, used);
     to = λ k f b h used.
-        let (l, there, i) = gathered_from (layer_pairs m) t.layers (f, b) h in
+        let (l, there, i) = gathered_from (layer_pairs m) ls (f, b) h in
         let (p, j) = pair_uses (set.items (features_at m (spelled_text l.name))) l.geometries k f b i used in
-        (p, Has-gathered (λ l. geometries_uses l.geometries) t.layers l (use_at k p) there j);
+        (p, Has-gathered (λ l. geometries_uses l.geometries) ls l (use_at k p) there j);
   })
-    where
-      all : us ≡ gathered (λ l. geometries_uses l.geometries) t.layers
-      all = made ∙ ap (λ w. w ++ gathered (λ l. geometries_uses l.geometries) layers) empty ∙ ap (gathered (λ l. geometries_uses l.geometries)) same
 
   module _ (scope : Option (List ℕ)) (us : List Use) (in_scope : AreUsesIn m t scope us) where
     abbrev In : Feature → Type 0

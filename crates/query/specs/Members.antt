@@ -1,5 +1,5 @@
 -- The features in scope of a question, beside the bodies that hold them by arcs.
-use Rattle.std.specs.Prelude.{◌≡◌, ℕ, false, List, [], ◌∷◌, Option}
+use Rattle.std.specs.Prelude.{◌≡◌, ℕ, false, List, [], ◌∷◌, Option, Some, None}
 use Rattle.std.specs.Ordering.{is_gt}
 use Rattle.std.specs.declared.cmp.Ordering.{Ordering}
 use Rattle.lines.specs.Turned.{position_cmp}
@@ -40,6 +40,11 @@ layer_pairs m l = paired (set.items (features_at m (spelled_text l.name))) l.geo
 -- the body holds the feature by the arcs of the topology of the map
 abbrev pub Holds : Layers → TopologyParts → Feature → Body → Type 0
 Holds m t f b = IsFormOf (λ l used. StitchTo t.arcs.arcs used l) (IsRingList position_cmp (JunctionOf (geometry_of m)) t.arcs.arcs) (form_of f.shape) (body_of b)
+
+-- the layer of the name, or without a name all
+abbrev pub AreLayersIn : TopologyParts → Option (List ℕ) → List LayerParts → Type 0
+AreLayersIn t (Some name) ls = (l : LayerParts) × Has l t.layers × (spelled_text l.name ≡ name) × (ls ≡ l ∷ [])
+AreLayersIn t None ls = ls ≡ t.layers
 
 -- all features in scope, which are some of the map, with their bodies
 pub record ArePairs (m : Layers) (t : TopologyParts) (scope : Option (List ℕ)) (pairs : List (Feature × Body)) : Type 0 where

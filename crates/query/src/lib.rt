@@ -11,6 +11,7 @@ mod joined;
 mod members;
 mod parts;
 mod questions;
+mod scope;
 mod selecting;
 mod spans;
 mod stops;

@@ -1,17 +1,17 @@
 //! The features of a topology, beside the bodies that hold them by arcs.
-ghost use Rattle.std.specs.Prelude.{◌≡◌, ◌↔◌, ◌++◌, IfOk, OnOk, Err, Some, None, List, map as map_list};
+ghost use Rattle.std.specs.Prelude.{◌≡◌, ◌↔◌, ◌++◌, IfOk, OnOk, Err, List, map as map_list};
 ghost use Rattle.std.specs.List.Sorted.{IsPermutation, IsSorted};
 ghost use Rattle.std.specs.Option.{option_map};
 ghost use Rattle.shapes.specs.declared.feature.Feature as features;
-ghost use Rattle.theory.specs.Lists.{gathered};
 ghost use Rattle.topo.specs.Features.{AreFeaturesOf};
 ghost use Rattle.topo.specs.ItsMap.{ForItsMap};
 ghost use Rattle.topo.specs.OfMap.{IsOfSomeMap};
 ghost use Rattle.query.specs.Mesh.{IsMissing};
-ghost use Rattle.query.specs.Members.{held, paired, layer_pairs, by_feature, AreMembers};
+ghost use Rattle.query.specs.Members.{held, paired, by_feature, AreMembers};
 ghost use Rattle.query.specs.declared.fault.QueryFault.TheVariants.{NoLayer as MissingLayer};
 
 use crate::fault::QueryFault;
+use crate::scope::layers_in;
 use faults::OutOfMemory;
 use shapes::feature::Feature;
 use std::alloc::Global;
@@ -43,19 +43,6 @@ fn note_layer<'a>(
     Ok(())
 }
 
-fn note_layers<'a>(
-    alloc: Global,
-    members: &mut Vec<Member<'a>>,
-    topology: &'a Topology,
-) -> Result<(), OutOfMemory>
-    ensures { OnOk result (ForItsMap topology.now (λ m. map_list held members.new.items ≡ map_list held members.old.items ++ gathered (layer_pairs m) topology.now.layers)) }
-{
-    for layer in topology.layers() {
-        note_layer(alloc, members, topology, layer.geometries())?;
-    }
-    Ok(())
-}
-
 fn sort_members(members: &mut Vec<Member>)
     ensures permutation { IsPermutation members.old.items members.new.items }
     ensures sorted { IsSorted by_feature members.new.items }
@@ -63,45 +50,21 @@ fn sort_members(members: &mut Vec<Member>)
     members.sort_unstable_by(|a, b| a.feature.cmp(&b.feature));
 }
 
-fn members_named<'a>(
-    alloc: Global,
-    topology: &'a Topology,
-    name: &str,
-) -> Result<Vec<Member<'a>>, QueryFault>
-    requires { IsOfSomeMap topology.now }
-    ensures layer { ForItsMap topology.now (λ m. (result ≡ Err MissingLayer) ↔ IsMissing m (Some name.now)) }
-    ensures members { IfOk result (λ v. ForItsMap topology.now (λ m. AreMembers m topology.now (Some name.now) v.items)) }
-{
-    let Some(geometries) = topology.geometries(name) else {
-        return Err(QueryFault::NoLayer);
-    };
-    let mut members = Vec::new(alloc);
-    note_layer(alloc, &mut members, topology, geometries)?;
-    sort_members(&mut members);
-    Ok(members)
-}
-
-fn members_of_all<'a>(alloc: Global, topology: &'a Topology) -> Result<Vec<Member<'a>>, OutOfMemory>
-    ensures { IfOk result (λ v. ForItsMap topology.now (λ m. AreMembers m topology.now None v.items)) }
-{
-    let mut members = Vec::new(alloc);
-    note_layers(alloc, &mut members, topology)?;
-    sort_members(&mut members);
-    Ok(members)
-}
-
 /// The features of a layer, or without a layer those of all layers, in their order.
 pub(crate) fn members_of<'a>(
     alloc: Global,
     topology: &'a Topology,
-    layer: Option<&str>,
+    name: Option<&str>,
 ) -> Result<Vec<Member<'a>>, QueryFault>
     requires { IsOfSomeMap topology.now }
-    ensures layer { ForItsMap topology.now (λ m. (result ≡ Err MissingLayer) ↔ IsMissing m (option_map (λ n. n.now) layer.entry)) }
-    ensures members { IfOk result (λ v. ForItsMap topology.now (λ m. AreMembers m topology.now (option_map (λ n. n.now) layer.entry) v.items)) }
+    ensures layer { ForItsMap topology.now (λ m. (result ≡ Err MissingLayer) ↔ IsMissing m (option_map (λ n. n.now) name.entry)) }
+    ensures members { IfOk result (λ v. ForItsMap topology.now (λ m. AreMembers m topology.now (option_map (λ n. n.now) name.entry) v.items)) }
 {
-    match layer {
-        Some(name) => members_named(alloc, topology, name),
-        None => Ok(members_of_all(alloc, topology)?),
+    let layers = layers_in(topology, name)?;
+    let mut members = Vec::new(alloc);
+    for layer in layers {
+        note_layer(alloc, &mut members, topology, layer.geometries())?;
     }
+    sort_members(&mut members);
+    Ok(members)
 }

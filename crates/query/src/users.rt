@@ -1,65 +1,36 @@
 //! Which arcs the features of a layer use.
-ghost use Rattle.std.specs.Prelude.{◌≡◌, ◌↔◌, ◌++◌, IfOk, OnOk, Err, Some, None};
+ghost use Rattle.std.specs.Prelude.{◌≡◌, ◌↔◌, ◌++◌, IfOk, OnOk, Err};
 ghost use Rattle.std.specs.Option.{option_map};
-ghost use Rattle.theory.specs.Lists.{gathered};
 ghost use Rattle.topo.specs.ItsMap.{ForItsMap};
 ghost use Rattle.topo.specs.OfMap.{IsOfSomeMap};
 ghost use Rattle.query.specs.Members.{AreUsesIn};
 ghost use Rattle.query.specs.Mesh.{IsMissing};
 ghost use Rattle.query.specs.Spans.{number_if, numbers_from};
-ghost use Rattle.query.specs.Uses.{geometries_uses};
 ghost use Rattle.query.specs.declared.fault.QueryFault.TheVariants.{NoLayer as MissingLayer};
 
 use crate::fault::QueryFault;
+use crate::scope::layers_in;
 use crate::spans::Span;
 use crate::uses::{Use, note_geometries};
 use std::alloc::{AllocError, Global};
-use topo::{Layer, Topology};
-
-fn note_layers(uses: &mut Vec<Use>, layers: &[Layer]) -> Result<(), AllocError>
-    ensures { OnOk result (uses.new.items ≡ uses.old.items ++ gathered (λ l. geometries_uses l.geometries) layers.now) }
-{
-    for layer in layers {
-        note_geometries(uses, layer.geometries())?;
-    }
-    Ok(())
-}
-
-fn uses_named(alloc: Global, topology: &Topology, name: &str) -> Result<Vec<Use>, QueryFault>
-    requires { IsOfSomeMap topology.now }
-    ensures layer { ForItsMap topology.now (λ m. (result ≡ Err MissingLayer) ↔ IsMissing m (Some name.now)) }
-    ensures uses { IfOk result (λ v. ForItsMap topology.now (λ m. AreUsesIn m topology.now (Some name.now) v.items)) }
-{
-    let Some(geometries) = topology.geometries(name) else {
-        return Err(QueryFault::NoLayer);
-    };
-    let mut uses = Vec::new(alloc);
-    note_geometries(&mut uses, geometries)?;
-    Ok(uses)
-}
-
-fn uses_of_all(alloc: Global, topology: &Topology) -> Result<Vec<Use>, AllocError>
-    ensures { IfOk result (λ v. ForItsMap topology.now (λ m. AreUsesIn m topology.now None v.items)) }
-{
-    let mut uses = Vec::new(alloc);
-    note_layers(&mut uses, topology.layers())?;
-    Ok(uses)
-}
+use topo::Topology;
 
 /// The uses of arcs by the features of a layer, or without a layer by those of all layers.
 pub(crate) fn uses_in(
     alloc: Global,
     topology: &Topology,
-    layer: Option<&str>,
+    name: Option<&str>,
 ) -> Result<Vec<Use>, QueryFault>
     requires { IsOfSomeMap topology.now }
-    ensures layer { ForItsMap topology.now (λ m. (result ≡ Err MissingLayer) ↔ IsMissing m (option_map (λ n. n.now) layer.entry)) }
-    ensures uses { IfOk result (λ v. ForItsMap topology.now (λ m. AreUsesIn m topology.now (option_map (λ n. n.now) layer.entry) v.items)) }
+    ensures layer { ForItsMap topology.now (λ m. (result ≡ Err MissingLayer) ↔ IsMissing m (option_map (λ n. n.now) name.entry)) }
+    ensures uses { IfOk result (λ v. ForItsMap topology.now (λ m. AreUsesIn m topology.now (option_map (λ n. n.now) name.entry) v.items)) }
 {
-    match layer {
-        Some(name) => uses_named(alloc, topology, name),
-        None => Ok(uses_of_all(alloc, topology)?),
+    let layers = layers_in(topology, name)?;
+    let mut uses = Vec::new(alloc);
+    for layer in layers {
+        note_geometries(&mut uses, layer.geometries())?;
     }
+    Ok(uses)
 }
 
 fn note_used(used: &mut Vec<usize>, number: usize, span: Option<Span>) -> Result<(), AllocError>

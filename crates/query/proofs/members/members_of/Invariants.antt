@@ -3,9 +3,9 @@ use Rattle.shapes.specs.Maps.{Layers}
 use Rattle.theory.specs.Lists.{gathered}
 use Rattle.topo.specs.OfMap.{IsOf}
 use Rattle.query.specs.Members.{held, layer_pairs}
-use Rattle.query.proofs.members.note_layers.Given as goal
+use Rattle.query.proofs.members.members_of.Given as goal
 
 abbrev pub invariant-loop-layer : goal.invariant-loop-layer
 invariant-loop-layer l =
     (m : Layers) → IsOf m l.fn.topology
-    → map held l.members.items ++ gathered (layer_pairs m) (drop l.layer-index l.fn.topology.layers) ≡ map held l.fn.members.items ++ gathered (layer_pairs m) l.fn.topology.layers
+    → map held l.members.items ++ gathered (layer_pairs m) (drop l.layer-index l.layers) ≡ gathered (layer_pairs m) l.layers
