@@ -3,90 +3,37 @@ use crate::texts::{A, Arcs, B, C, D, E, F, G, H, I, J, Layers, Listed, layers_of
 use arranging::is_beyond_order;
 use std::alloc::Global;
 use std::test::Fail;
+use test_values::rows;
+
+/// The ring around the two squares, without their border.
+const AROUND: Arcs = &[&[B, A, D, C], &[C, F, E, B]];
 
 /// Arcs and layers of a text, and whether no order mends them.
-#[derive(Clone, Copy)]
-struct Row {
-    title: &'static str,
-    arcs: Arcs,
-    layers: Layers,
-    is_beyond: bool,
-}
+const TEXTS: &[(&str, Arcs, Layers, bool)] = rows! {
+    "two squares that share a border, and a lake, in another order",
+        &[&[C, B], &[B, A, D, C], &[C, F, E, B], &[I, J, G, H, I]],
+        &[("left", Listed::Polygon(&[&[0, 1]])), ("right", Listed::Polygon(&[&[-1, 2]])), ("water", Listed::Polygons(&[&[-4]]))], false;
+    "the border of the two squares is used by nobody", &[&[C, B], &[B, A, D, C], &[C, F, E, B]], &[("both", Listed::Polygon(&[&[1, 2]]))], true;
+    "the ring around the two squares is cut where no line ends", AROUND, &[("both", Listed::Polygon(&[&[0, 1]]))], true;
+    "the same ring, where lines end", AROUND, &[("both", Listed::Polygon(&[&[0, 1]])), ("half", Listed::Lines(&[&[-1]]))], false;
+    "the border is doubled, against its direction",
+        &[&[C, B], &[B, C], &[B, A, D, C], &[C, F, E, B]],
+        &[("left", Listed::Polygon(&[&[0, 2]])), ("right", Listed::Polygon(&[&[1, 3]]))], true;
+    "a line through two arcs is cut between them", &[&[A, B], &[B, C]], &[("a", Listed::Line(&[0, 1]))], true;
+    "two lines that meet", &[&[A, B], &[C, B]], &[("a", Listed::Line(&[0])), ("b", Listed::Line(&[-2]))], false;
+    "no arcs", &[], &[("a", Listed::Null)], false;
+};
 
-const ROWS: &[Row] = &[
-    Row {
-        title: "two squares that share a border, and a lake, in another order",
-        arcs: &[&[C, B], &[B, A, D, C], &[C, F, E, B], &[I, J, G, H, I]],
-        layers: &[
-            ("left", Listed::Polygon(&[&[0, 1]])),
-            ("right", Listed::Polygon(&[&[-1, 2]])),
-            ("water", Listed::Polygons(&[&[-4]])),
-        ],
-        is_beyond: false,
-    },
-    Row {
-        title: "the border of the two squares is used by nobody",
-        arcs: &[&[C, B], &[B, A, D, C], &[C, F, E, B]],
-        layers: &[("both", Listed::Polygon(&[&[1, 2]]))],
-        is_beyond: true,
-    },
-    Row {
-        title: "the ring around the two squares is cut where no line ends",
-        arcs: &[&[B, A, D, C], &[C, F, E, B]],
-        layers: &[("both", Listed::Polygon(&[&[0, 1]]))],
-        is_beyond: true,
-    },
-    Row {
-        title: "the same ring, where lines end",
-        arcs: &[&[B, A, D, C], &[C, F, E, B]],
-        layers: &[
-            ("both", Listed::Polygon(&[&[0, 1]])),
-            ("half", Listed::Lines(&[&[-1]])),
-        ],
-        is_beyond: false,
-    },
-    Row {
-        title: "the border is doubled, against its direction",
-        arcs: &[&[C, B], &[B, C], &[B, A, D, C], &[C, F, E, B]],
-        layers: &[
-            ("left", Listed::Polygon(&[&[0, 2]])),
-            ("right", Listed::Polygon(&[&[1, 3]])),
-        ],
-        is_beyond: true,
-    },
-    Row {
-        title: "a line through two arcs is cut between them",
-        arcs: &[&[A, B], &[B, C]],
-        layers: &[("a", Listed::Line(&[0, 1]))],
-        is_beyond: true,
-    },
-    Row {
-        title: "two lines that meet",
-        arcs: &[&[A, B], &[C, B]],
-        layers: &[("a", Listed::Line(&[0])), ("b", Listed::Line(&[-2]))],
-        is_beyond: false,
-    },
-    Row {
-        title: "no arcs",
-        arcs: &[],
-        layers: &[("a", Listed::Null)],
-        is_beyond: false,
-    },
-];
-
-fn is_beyond(alloc: Global, row: &Row) -> Result<bool, Fail> {
-    let layers = layers_of(alloc, row.layers)?;
-    Ok(is_beyond_order(alloc, &text_arcs(alloc, row.arcs)?, &layers)?)
+fn is_beyond(alloc: Global, arcs: Arcs, layers: Layers) -> Result<bool, Fail> {
+    let layers = layers_of(alloc, layers)?;
+    Ok(is_beyond_order(alloc, &text_arcs(alloc, arcs)?, &layers)?)
 }
 
 #[test]
 fn arcs_beyond_order(rt: HostRuntime) -> Result<(), Fail> {
-    for row in ROWS {
-        assert!(rt;
-            is_beyond(rt.alloc(), row)? == row.is_beyond,
-            "{}",
-            row.title
-        );
+    for (title, arcs, layers, expected) in TEXTS {
+        let is_beyond = is_beyond(rt.alloc(), *arcs, *layers)?;
+        assert!(rt; is_beyond == *expected, "{title}");
     }
     Ok(())
 }
