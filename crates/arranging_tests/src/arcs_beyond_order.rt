@@ -1,7 +1,6 @@
 //! Arcs and layers that no order mends, told by the ends of arcs alone.
 use crate::texts::{A, Arcs, B, C, D, E, F, G, H, I, J, Layers, Listed, layers_of, text_arcs};
 use arranging::is_beyond_order;
-use std::alloc::Global;
 use std::test::Fail;
 use test_values::rows;
 
@@ -24,15 +23,12 @@ const TEXTS: &[(&str, Arcs, Layers, bool)] = rows! {
     "no arcs", &[], &[("a", Listed::Null)], false;
 };
 
-fn is_beyond(alloc: Global, arcs: Arcs, layers: Layers) -> Result<bool, Fail> {
-    let layers = layers_of(alloc, layers)?;
-    Ok(is_beyond_order(alloc, &text_arcs(alloc, arcs)?, &layers)?)
-}
-
 #[test]
 fn arcs_beyond_order(rt: HostRuntime) -> Result<(), Fail> {
     for (title, arcs, layers, expected) in TEXTS {
-        let is_beyond = is_beyond(rt.alloc(), *arcs, *layers)?;
+        let arcs = text_arcs(rt.alloc(), *arcs)?;
+        let layers = layers_of(rt.alloc(), *layers)?;
+        let is_beyond = is_beyond_order(rt.alloc(), &arcs, &layers)?;
         assert!(rt; is_beyond == *expected, "{title}");
     }
     Ok(())
