@@ -1,5 +1,5 @@
 -- Loops over the arcs of a table, and what is told of one arc.
-use Rattle.std.proofs.Common.{◌≡◌, ℕ, zero, suc, ◌+◌, ◌-◌, ◌<◌, Bool, true, false, cond, ◌&&◌, List, [], ◌∷◌, ◌++◌, length, drop, inl, inr, refl, sym, ap, ◌∙◌, arith, Option, Some, None, slice_get}
+use Rattle.std.proofs.Common.{◌≡◌, ℕ, zero, suc, ◌+◌, ◌-◌, ◌<◌, Bool, true, false, cond, ◌&&◌, List, [], ◌∷◌, ◌++◌, length, drop, inl, inr, refl, sym, ap, ◌∙◌, subst, arith, Option, Some, None, slice_get}
 use Rattle.std.specs.List.{list_all}
 use Rattle.grid.specs.declared.pos.Pos.{Pos}
 use Rattle.theory.specs.Lists.{Has, last_of}
@@ -19,20 +19,21 @@ there [] i h = absurd (omega arith)
 there (x ∷ l) zero h = (x, refl)
 there (x ∷ l) (suc i) h = there l i (omega (arith, h))
 
--- a step over a member that passes, and one that does not
-pub all_step : {A : Type 0} (f : A → Bool) (l : List A) (i : ℕ) (b : Bool) → i < length l → b ≡ answered true f (slice_get l i) → b ≡ true →
-    list_all f (drop (i + 1) l) ≡ list_all f (drop i l)
-all_step f l i b h e k =
-    let t = there l i h in
-    let p : true ≡ f t.0 = sym k ∙ e ∙ ap (answered true f) t.1 in
-    ap (λ w. w && list_all f (drop (i + 1) l)) p ∙ ap (list_all f) (sym (drop_next l i t.0 t.1))
+-- a loop asks the next of n members
+next : {A : Type 0} (f : A → Bool) (l : List A) (i n : ℕ) (b : Bool) → n ≡ length l → i < n → b ≡ answered true f (slice_get l i) →
+    (b && list_all f (drop (i + 1) l)) ≡ list_all f (drop i l)
+next f l i n b k h e =
+    let t = there l i (subst (λ w. i < w) k h) in
+    ap (λ w. w && list_all f (drop (i + 1) l)) (e ∙ ap (answered true f) t.1) ∙ ap (list_all f) (sym (drop_next l i t.0 t.1))
 
-pub all_stop : {A : Type 0} (f : A → Bool) (l : List A) (i : ℕ) (b : Bool) → i < length l → b ≡ answered true f (slice_get l i) → b ≡ false →
-    false ≡ list_all f (drop i l)
-all_stop f l i b h e k =
-    let t = there l i h in
-    let p : false ≡ f t.0 = sym k ∙ e ∙ ap (answered true f) t.1 in
-    ap (λ w. w && list_all f (drop (i + 1) l)) p ∙ ap (list_all f) (sym (drop_next l i t.0 t.1))
+-- a member that passes, and one that does not
+pub all_step : {A : Type 0} (f : A → Bool) (l : List A) (i n : ℕ) (b : Bool) → n ≡ length l → i < n → b ≡ answered true f (slice_get l i) → b ≡ true →
+    (all : Bool) → list_all f (drop i l) ≡ all → list_all f (drop (i + 1) l) ≡ all
+all_step f l i n b k h e p all left = ap (λ w. w && list_all f (drop (i + 1) l)) (sym p) ∙ next f l i n b k h e ∙ left
+
+pub all_stop : {A : Type 0} (f : A → Bool) (l : List A) (i n : ℕ) (b : Bool) → n ≡ length l → i < n → b ≡ answered true f (slice_get l i) → b ≡ false →
+    (all : Bool) → list_all f (drop i l) ≡ all → false ≡ all
+all_stop f l i n b k h e p all left = ap (λ w. w && list_all f (drop (i + 1) l)) (sym p) ∙ next f l i n b k h e ∙ left
 
 pub all_has : {A : Type 0} (f : A → Bool) (l : List A) → list_all f l ≡ true → (x : A) → Has x l → f x ≡ true
 all_has f [] e x h = absurd h

@@ -1,4 +1,4 @@
-use Rattle.std.proofs.Common.{◌<◌, subst, slice_get, ◌∙◌}
+use Rattle.std.proofs.Common.{◌∙◌, slice_get}
 use Rattle.chains.specs.Table.{is_loop}
 use Rattle.standing.specs.Apart.{stands_alone}
 use Rattle.standing.proofs.Steps.{all_step, all_stop, stands_given}
@@ -6,18 +6,10 @@ use Rattle.standing.proofs.apart.each_stands.Goals as goal
 
 pub returns-then-not-numbered_stands : goal.returns-then-not-numbered_stands
 returns-then-not-numbered_stands c =
-    let arcs = c.args.table.now.arcs in
-    let i = c.loop-number.number in
-    all_stop (λ d. stands_alone (is_loop c.args.table.now.loops d) d) arcs i c.numbered_stands.result
-    (subst (λ w. i < w) c.len-number-end.ensures.len c.loop-number-test.true)
-    (c.numbered_stands.ensures ∙ stands_given c.args.table.now.loops (slice_get arcs i)) c.if-not-numbered_stands.true
-    ∙ c.loop-number.invariant
+    all_stop (λ d. stands_alone (is_loop c.args.table.now.loops d) d) c.args.table.now.arcs c.loop-number.number _ c.numbered_stands.result c.len-number-end.ensures.len
+    c.loop-number-test.true (c.numbered_stands.ensures ∙ stands_given c.args.table.now.loops (slice_get c.args.table.now.arcs c.loop-number.number)) c.if-not-numbered_stands.true _ c.loop-number.invariant
 
 pub loop-number-preserved : goal.loop-number-preserved
 loop-number-preserved c =
-    let arcs = c.args.table.now.arcs in
-    let i = c.loop-number.number in
-    all_step (λ d. stands_alone (is_loop c.args.table.now.loops d) d) arcs i c.numbered_stands.result
-    (subst (λ w. i < w) c.len-number-end.ensures.len c.loop-number-test.true)
-    (c.numbered_stands.ensures ∙ stands_given c.args.table.now.loops (slice_get arcs i)) c.if-not-numbered_stands.false
-    ∙ c.loop-number.invariant
+    all_step (λ d. stands_alone (is_loop c.args.table.now.loops d) d) c.args.table.now.arcs c.loop-number.number _ c.numbered_stands.result c.len-number-end.ensures.len
+    c.loop-number-test.true (c.numbered_stands.ensures ∙ stands_given c.args.table.now.loops (slice_get c.args.table.now.arcs c.loop-number.number)) c.if-not-numbered_stands.false _ c.loop-number.invariant
