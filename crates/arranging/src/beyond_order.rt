@@ -1,13 +1,13 @@
 //! Arcs and layers that no order mends. It is told by the ends of arcs alone, with no copy of an arc.
-ghost use Rattle.std.specs.Prelude.{◌≡◌, ◌↔◌, ◌++◌, [], IfOk, OnOk, false, length, replicate, slice_get, true};
-ghost use Rattle.theory.specs.ArcNumbers.{flipped};
-ghost use Rattle.theory.specs.Lists.{gathered, last_of};
-ghost use Rattle.standing.specs.Marks.{marks_set};
-ghost use Rattle.standing.specs.Runs.{ends_along, ends_in, first_end};
-ghost use Rattle.taking.specs.Lists.{body_lines, body_rings, layers_lines, lines_of};
 ghost use Rattle.arranging.specs.Beyond.{IsBeyondOrder, geometry_lists, layer_ends, layer_lists};
 ghost use Rattle.arranging.specs.Leavings as spec;
 ghost use Rattle.arranging.specs.Used.{lists_marked};
+ghost use Rattle.standing.specs.Marks.{marks_set};
+ghost use Rattle.standing.specs.Runs.{ends_along, ends_in, first_end};
+ghost use Rattle.std.specs.Prelude.{◌≡◌, ◌↔◌, ◌++◌, [], IfOk, OnOk, false, length, replicate, slice_get, true};
+ghost use Rattle.taking.specs.Lists.{body_lines, body_rings, layers_lines, lines_of};
+ghost use Rattle.theory.specs.ArcNumbers.{flipped};
+ghost use Rattle.theory.specs.Lists.{gathered, last_of};
 
 use crate::leavings::{Leaving, add_leavings, add_meetings, any_elsewhere};
 use crate::used::{all_marked, mark_each, mark_lists, mark_polygons};

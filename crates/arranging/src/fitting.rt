@@ -1,8 +1,8 @@
 //! Which lists of used arcs may be written by the new arcs: where a free loop begins at another place,
 //! only a ring of that loop alone is the same.
-ghost use Rattle.std.specs.Prelude.{◌≡◌};
-ghost use Rattle.std.specs.List.{list_all};
 ghost use Rattle.arranging.specs.Fitting as spec;
+ghost use Rattle.std.specs.List.{list_all};
+ghost use Rattle.std.specs.Prelude.{◌≡◌};
 
 use chains::table::ArcRef;
 use lines::items::Items;

@@ -1,6 +1,6 @@
 //! Lists of used arcs, and layers, by the new arcs.
-ghost use Rattle.std.specs.Prelude.{◌≡◌, IfOk, map as map_list};
 ghost use Rattle.arranging.specs.Images as spec;
+ghost use Rattle.std.specs.Prelude.{◌≡◌, IfOk, map as map_list};
 
 use chains::table::{ArcRef, ArcTable};
 use chains::turn_ring;

@@ -1,9 +1,9 @@
 //! Ends of arcs, each with the vertex beside it, and what their sorted list tells.
-ghost use Rattle.std.specs.Prelude.{◌≡◌, ◌++◌, OnOk, slice_get};
-ghost use Rattle.std.specs.List.Sorted.{IsSorted};
-ghost use Rattle.lines.specs.Turned.{position_cmp};
-ghost use Rattle.chains.specs.Among.{among};
 ghost use Rattle.arranging.specs.Leavings as spec;
+ghost use Rattle.chains.specs.Among.{among};
+ghost use Rattle.lines.specs.Turned.{position_cmp};
+ghost use Rattle.std.specs.List.Sorted.{IsSorted};
+ghost use Rattle.std.specs.Prelude.{◌≡◌, ◌++◌, OnOk, slice_get};
 
 use grid::pos::Pos;
 use std::alloc::AllocError;

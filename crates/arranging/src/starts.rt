@@ -1,9 +1,9 @@
 //! Arcs begun where they have to: a free loop at its least vertex.
-ghost use Rattle.std.specs.Prelude.{◌≡◌, ◌<◌, ◌++◌, ◌∷◌, [], IfOk, OnOk, drop, length};
-ghost use Rattle.theory.specs.Refinement.{unclosed};
+ghost use Rattle.arranging.specs.Starts as spec;
 ghost use Rattle.chains.specs.Pieces.{opened_at};
 ghost use Rattle.chains.specs.Stored.{first_of};
-ghost use Rattle.arranging.specs.Starts as spec;
+ghost use Rattle.std.specs.Prelude.{◌≡◌, ◌<◌, ◌++◌, ◌∷◌, [], IfOk, OnOk, drop, length};
+ghost use Rattle.theory.specs.Refinement.{unclosed};
 
 use chains::Piece;
 use faults::OutOfMemory;

@@ -1,9 +1,9 @@
 //! Marks of the arcs that lists use.
-ghost use Rattle.std.specs.Prelude.{◌≡◌, set, true};
-ghost use Rattle.std.specs.List.{list_all};
-ghost use Rattle.theory.specs.Lists.{joined};
-ghost use Rattle.standing.specs.Marks.{marks_set};
 ghost use Rattle.arranging.specs.Used.{lists_marked};
+ghost use Rattle.standing.specs.Marks.{marks_set};
+ghost use Rattle.std.specs.List.{list_all};
+ghost use Rattle.std.specs.Prelude.{◌≡◌, set, true};
+ghost use Rattle.theory.specs.Lists.{joined};
 
 use chains::ArcRef;
 use lines::items::Items;

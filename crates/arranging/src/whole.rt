@@ -1,12 +1,12 @@
 //! Arcs and layers as other tools write them, put into order.
-ghost use Rattle.std.specs.Prelude.{◌≡◌, ◌↔◌, ◌++◌, IfNone, IfOk, IfSome, List, OnOk, length, slice_get, true};
-ghost use Rattle.grid.specs.declared.pos.Pos.{Pos};
-ghost use Rattle.lines.specs.Turned.{list_cmp};
-ghost use Rattle.theory.specs.Arcs.{Ascends};
-ghost use Rattle.taking.specs.Kept.{KeepLayers};
-ghost use Rattle.taking.specs.Laws.{HaveI64};
 ghost use Rattle.arranging.specs.Starts.{arc_if};
 ghost use Rattle.arranging.specs.Whole.{CanStandFor, layers_by, pieces_in, starts_in};
+ghost use Rattle.grid.specs.declared.pos.Pos.{Pos};
+ghost use Rattle.lines.specs.Turned.{list_cmp};
+ghost use Rattle.std.specs.Prelude.{◌≡◌, ◌↔◌, ◌++◌, IfNone, IfOk, IfSome, List, OnOk, length, slice_get, true};
+ghost use Rattle.taking.specs.Kept.{KeepLayers};
+ghost use Rattle.taking.specs.Laws.{HaveI64};
+ghost use Rattle.theory.specs.Arcs.{Ascends};
 
 use crate::fitting::layers_fit;
 use crate::images::NewArcs;

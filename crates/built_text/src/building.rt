@@ -1,8 +1,8 @@
 //! From GeoJSON texts to a topology and to its text.
-ghost use Rattle.std.specs.Prelude.{◌≡◌, map, OnOk, IfOk, IfErr};
-ghost use Rattle.built_text.specs.declared.building.BuildFault.TheVariants.{OutOfMemory as WantOfMemory};
 ghost use Rattle.built_text.specs.Maps.{named_texts, IsMapOfTexts, IsTextOfTexts, IsTopologyOfTexts, MeansTexts};
 ghost use Rattle.built_text.specs.Sources.{AreAccepted, IsRefusal, IsFaultAt};
+ghost use Rattle.built_text.specs.declared.building.BuildFault.TheVariants.{OutOfMemory as WantOfMemory};
+ghost use Rattle.std.specs.Prelude.{◌≡◌, map, OnOk, IfOk, IfErr};
 
 use faults::{Fault, FaultKind, OutOfMemory};
 use grid::Grid;

@@ -1,19 +1,19 @@
 //! Cutting lines and rings at junctions.
-ghost use Rattle.std.specs.Prelude.{◌≡◌, ◌∷◌, ◌++◌, ◌<◌, ◌≤◌, ◌+◌, [], List, cond, false, Some, IfOk, OnOk, map, reverse, length, slice_get};
-ghost use Rattle.chains.specs.Placing.{pieces_under};
-ghost use Rattle.theory.specs.Refinement.{IsPartOf, unclosed};
-ghost use Rattle.chains.specs.OfArcs.{pieces_if, ArePiecesUnder};
-ghost use Rattle.chains.specs.Table.{IsTableOf};
-ghost use Rattle.lines.specs.Turned.{position_cmp, list_cmp};
-ghost use Rattle.theory.specs.Lists.{Each};
-ghost use Rattle.theory.specs.Geometry.{Geometry, IsSound, IsLineOf, IsRingOf};
-ghost use Rattle.theory.specs.Stitching.{ArePiecesOf, AreRingPiecesOf};
-ghost use Rattle.grid.specs.declared.pos.Pos.{Pos};
 ghost use Rattle.chains.specs.Among.{among};
 ghost use Rattle.chains.specs.Index.{IsIndexOf};
-ghost use Rattle.chains.specs.Seen.{line_of, ring_of};
+ghost use Rattle.chains.specs.OfArcs.{pieces_if, ArePiecesUnder};
 ghost use Rattle.chains.specs.Pieces as spec;
 ghost use Rattle.chains.specs.Pieces.{used, chain_of, oriented, opened_at, cut_list, ring_parts, line_pieces, ring_pieces, ArePieces};
+ghost use Rattle.chains.specs.Placing.{pieces_under};
+ghost use Rattle.chains.specs.Seen.{line_of, ring_of};
+ghost use Rattle.chains.specs.Table.{IsTableOf};
+ghost use Rattle.grid.specs.declared.pos.Pos.{Pos};
+ghost use Rattle.lines.specs.Turned.{position_cmp, list_cmp};
+ghost use Rattle.std.specs.Prelude.{◌≡◌, ◌∷◌, ◌++◌, ◌<◌, ◌≤◌, ◌+◌, [], List, cond, false, Some, IfOk, OnOk, map, reverse, length, slice_get};
+ghost use Rattle.theory.specs.Geometry.{Geometry, IsSound, IsLineOf, IsRingOf};
+ghost use Rattle.theory.specs.Lists.{Each};
+ghost use Rattle.theory.specs.Refinement.{IsPartOf, unclosed};
+ghost use Rattle.theory.specs.Stitching.{ArePiecesOf, AreRingPiecesOf};
 
 use crate::starts::place_of_start;
 use crate::table::ArcTable;

@@ -1,9 +1,9 @@
 //! A box in which the positions of a table's arcs lie.
-ghost use Rattle.std.specs.Prelude.{◌≡◌};
-ghost use Rattle.std.specs.Int.{int_min, int_max};
 ghost use Rattle.chains.specs.Extents.{between, within};
-ghost use Rattle.lines.specs.Holding.{AreMarked};
 ghost use Rattle.chains.specs.Holding.{AreDealtTo, HoldAll};
+ghost use Rattle.lines.specs.Holding.{AreMarked};
+ghost use Rattle.std.specs.Int.{int_min, int_max};
+ghost use Rattle.std.specs.Prelude.{◌≡◌};
 
 use crate::table::ArcTable;
 use grid::limits::{GREATEST_GRID_NUMBER, LEAST_GRID_NUMBER};

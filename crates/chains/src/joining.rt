@@ -1,14 +1,14 @@
 //! Finding the maximal chains over segments, by walking along them from stop to stop.
-ghost use Rattle.std.specs.Prelude.{◌≡◌, ◌≤◌, IfOk, OnOk, None, List, map, ◌∷◌};
-ghost use Rattle.std.specs.BTreeMap.{btree_map_len};
-ghost use Rattle.grid.specs.declared.pos.Pos.{Pos};
-ghost use Rattle.chains.specs.declared.segment.Segment.{Segment};
 ghost use Rattle.chains.specs.Among.{among};
-ghost use Rattle.chains.specs.Pieces.{oriented};
-ghost use Rattle.chains.specs.Pieces as pieces;
-ghost use Rattle.chains.specs.Walk.{IsWalk, links_in};
-ghost use Rattle.chains.specs.Links.{joined, noted, noted_all};
 ghost use Rattle.chains.specs.Joined.{AmongSegments, MeetsTwo, IsJoining, Took, AreCovering, AreParted, AreMaximal};
+ghost use Rattle.chains.specs.Links.{joined, noted, noted_all};
+ghost use Rattle.chains.specs.Pieces as pieces;
+ghost use Rattle.chains.specs.Pieces.{oriented};
+ghost use Rattle.chains.specs.Walk.{IsWalk, links_in};
+ghost use Rattle.chains.specs.declared.segment.Segment.{Segment};
+ghost use Rattle.grid.specs.declared.pos.Pos.{Pos};
+ghost use Rattle.std.specs.BTreeMap.{btree_map_len};
+ghost use Rattle.std.specs.Prelude.{◌≡◌, ◌≤◌, IfOk, OnOk, None, List, map, ◌∷◌};
 
 use crate::cutting::Piece;
 use crate::listing::listed;

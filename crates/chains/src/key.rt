@@ -1,6 +1,6 @@
 //! The first two positions of a list, which tell it from most others.
-ghost use Rattle.std.specs.Prelude.{◌≡◌};
 ghost use Rattle.chains.specs.Keys.{key_of};
+ghost use Rattle.std.specs.Prelude.{◌≡◌};
 
 use grid::pos::Pos;
 

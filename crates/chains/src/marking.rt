@@ -1,6 +1,6 @@
 //! Marks of arcs by their numbers.
-ghost use Rattle.std.specs.Prelude.{◌≡◌, drop, get_or, true};
 ghost use Rattle.chains.specs.Stored.{first_of};
+ghost use Rattle.std.specs.Prelude.{◌≡◌, drop, get_or, true};
 
 /// Whether an arc is marked; one that nothing is told of is.
 pub fn is_marked(marks: &[bool], number: usize) -> bool

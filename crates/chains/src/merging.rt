@@ -1,8 +1,8 @@
 //! Sorted pieces made into arcs, each once.
-ghost use Rattle.std.specs.Prelude.{◌≡◌, ◌++◌, ◌∷◌, ◌||◌, false, [], List, map as map_list, IfOk, IfSome};
 ghost use Rattle.chains.specs.Stored.{stored_of, merged_behind, merged_from, merged};
 ghost use Rattle.chains.specs.Table.{same_list};
 ghost use Rattle.chains.specs.declared.stored.StoredArc.{StoredArc as Stored};
+ghost use Rattle.std.specs.Prelude.{◌≡◌, ◌++◌, ◌∷◌, ◌||◌, false, [], List, map as map_list, IfOk, IfSome};
 
 use crate::cutting::Piece;
 use crate::stored::{ArcList, StoredArc};

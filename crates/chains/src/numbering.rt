@@ -1,7 +1,7 @@
 //! Sorted pieces made into arcs, and for each piece the arc that it is.
-ghost use Rattle.std.specs.Prelude.{◌≡◌, IfOk, true, length, map as map_list};
 ghost use Rattle.chains.specs.Placing.{piece_of, placed_from, arcs_of, ArePlaced, AreRefsOf};
 ghost use Rattle.chains.specs.Stored.{stored_of, merged, rises};
+ghost use Rattle.std.specs.Prelude.{◌≡◌, IfOk, true, length, map as map_list};
 
 use crate::cutting::Piece;
 use crate::key::Key;

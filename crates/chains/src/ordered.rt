@@ -1,6 +1,6 @@
 //! Arcs that stand in order already, with marks beside them.
-ghost use Rattle.std.specs.Prelude.{◌≡◌, IfOk};
 ghost use Rattle.chains.specs.Stored.{rises, with_marks};
+ghost use Rattle.std.specs.Prelude.{◌≡◌, IfOk};
 
 use crate::marking::first_mark;
 use crate::stored::{ArcList, StoredArc};

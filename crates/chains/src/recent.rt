@@ -1,6 +1,6 @@
 //! What was noted not long ago, by its position: most of what comes again comes a short time apart.
-ghost use Rattle.std.specs.Prelude.{◌++◌, ◌∷◌, [], IfOk, OnOk};
 ghost use Rattle.chains.specs.Visits.{HaveSame};
+ghost use Rattle.std.specs.Prelude.{◌++◌, ◌∷◌, [], IfOk, OnOk};
 
 use grid::pos::Pos;
 use lines::bits::place_among;

@@ -1,8 +1,8 @@
 //! Which visits stand at a vertex that others visit too: only these can clash.
-ghost use Rattle.std.specs.Prelude.{IfOk};
-ghost use Rattle.lines.specs.Bits.{may_hold};
 ghost use Rattle.chains.specs.Repeats.{HoldsClashing, IsNoted};
 ghost use Rattle.chains.specs.Shared.{KeepsClashes};
+ghost use Rattle.lines.specs.Bits.{may_hold};
+ghost use Rattle.std.specs.Prelude.{IfOk};
 
 use crate::visits::Visit;
 use grid::pos::Pos;

@@ -1,7 +1,7 @@
 //! Segments: the unordered pairs of neighbouring vertices.
-ghost use Rattle.std.specs.Prelude.{◌≡◌, ◌↔◌, true, IsNone, IfSome};
-ghost use Rattle.std.specs.Ordering.{is_lt};
 ghost use Rattle.lines.specs.Turned.{position_cmp};
+ghost use Rattle.std.specs.Ordering.{is_lt};
+ghost use Rattle.std.specs.Prelude.{◌≡◌, ◌↔◌, true, IsNone, IfSome};
 
 use grid::pos::Pos;
 use lines::pair::Pair;

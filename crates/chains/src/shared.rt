@@ -1,12 +1,12 @@
 //! The bits of the vertices that two tables of arcs may share. Most vertices of the other table find a
 //! bit of theirs not set, and so are known to be no vertices of the first.
-ghost use Rattle.std.specs.Prelude.{◌≡◌, ◌++◌, IfOk, OnOk, map as map_list, slice_get};
-ghost use Rattle.std.specs.List.{list_any};
-ghost use Rattle.theory.specs.Lists.{gathered};
-ghost use Rattle.theory.specs.TopologyFunction.{keep};
 ghost use Rattle.chains.specs.Extents.{within};
 ghost use Rattle.chains.specs.Shared as spec;
 ghost use Rattle.chains.specs.Shared.{HoldCommon, kept_if, may_hold, near_if};
+ghost use Rattle.std.specs.List.{list_any};
+ghost use Rattle.std.specs.Prelude.{◌≡◌, ◌++◌, IfOk, OnOk, map as map_list, slice_get};
+ghost use Rattle.theory.specs.Lists.{gathered};
+ghost use Rattle.theory.specs.TopologyFunction.{keep};
 
 use crate::extent::Extent;
 use crate::table::ArcTable;

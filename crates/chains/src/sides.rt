@@ -1,8 +1,8 @@
 //! The segments of arcs.
-ghost use Rattle.std.specs.Prelude.{◌↔◌, ◌⊎◌, IfOk, OnOk};
-ghost use Rattle.grid.specs.declared.pos.Pos.{Pos};
-ghost use Rattle.chains.specs.Joined.{AmongSegments};
 ghost use Rattle.chains.specs.Along.{arc_at, Joins, SidesOf, HasArcs};
+ghost use Rattle.chains.specs.Joined.{AmongSegments};
+ghost use Rattle.grid.specs.declared.pos.Pos.{Pos};
+ghost use Rattle.std.specs.Prelude.{◌↔◌, ◌⊎◌, IfOk, OnOk};
 
 use crate::segment::Segment;
 use crate::table::ArcTable;

@@ -1,8 +1,8 @@
 //! Where the cut of a ring begins: at its least junction, or at its least vertex where it has none.
-ghost use Rattle.std.specs.Prelude.{◌≡◌};
-ghost use Rattle.std.specs.Ordering.{is_lt};
 ghost use Rattle.chains.specs.Among.{among};
 ghost use Rattle.chains.specs.Starts.{start_of, start_cmp, start_place};
+ghost use Rattle.std.specs.Ordering.{is_lt};
+ghost use Rattle.std.specs.Prelude.{◌≡◌};
 
 use crate::visits::VisitIndex;
 use grid::pos::Pos;

@@ -1,6 +1,6 @@
 //! The stops of chains, with most look-ups ended by bits that the stops set.
-ghost use Rattle.std.specs.Prelude.{◌≡◌, IfOk};
 ghost use Rattle.chains.specs.Among.{among};
+ghost use Rattle.std.specs.Prelude.{◌≡◌, IfOk};
 
 use crate::listing::listed;
 use grid::pos::Pos;
@@ -17,10 +17,10 @@ pub(crate) struct StopSet<'a> {
 }
 
 impl<'a> Model for StopSet<'a> {
-    ghost use Rattle.std.specs.Prelude.{List};
     ghost use Rattle.grid.specs.declared.pos.Pos.{Pos};
     ghost use Rattle.lines.specs.Bits.{may_hold};
     ghost use Rattle.lines.specs.Holding.{Holds};
+    ghost use Rattle.std.specs.Prelude.{List};
 
     ghost Value = { List Pos };
 

@@ -1,10 +1,10 @@
 //! Arcs as the table keeps them.
-ghost use Rattle.std.specs.Prelude.{◌≡◌, ◌++◌, ◌∷◌, ◌<◌, ◌^◌, [], true, OnOk, IfOk, length, slice_get, map as map_list};
+ghost use Rattle.chains.specs.Placing.{own_piece};
+ghost use Rattle.chains.specs.Stored.{positions_of, stored_of, rises};
+ghost use Rattle.chains.specs.Table.{same_list};
 ghost use Rattle.std.specs.List.{position};
 ghost use Rattle.std.specs.Option.{option_map};
-ghost use Rattle.chains.specs.Placing.{own_piece};
-ghost use Rattle.chains.specs.Table.{same_list};
-ghost use Rattle.chains.specs.Stored.{positions_of, stored_of, rises};
+ghost use Rattle.std.specs.Prelude.{◌≡◌, ◌++◌, ◌∷◌, ◌<◌, ◌^◌, [], true, OnOk, IfOk, length, slice_get, map as map_list};
 
 use crate::cutting::Piece;
 use grid::pos::Pos;
@@ -56,10 +56,10 @@ pub(crate) struct ArcList {
 }
 
 impl Model for ArcList {
-    ghost use Rattle.std.specs.Prelude.{List};
-    ghost use Rattle.indexmap.specs.IndexMap.{keys, values};
     ghost use Rattle.chains.specs.Stored.{AreBelow};
     ghost use Rattle.chains.specs.declared.stored.StoredArc.{StoredArc as Stored};
+    ghost use Rattle.indexmap.specs.IndexMap.{keys, values};
+    ghost use Rattle.std.specs.Prelude.{List};
 
     ghost Value = { List Stored };
 

@@ -1,18 +1,18 @@
 //! The table of arcs.
-ghost use Rattle.std.specs.Prelude.{◌≡◌, ◌↔◌, ◌<◌, ◌^◌, IfOk, IfSome, IsSome, Some, map, slice_get, length};
-ghost use Rattle.std.specs.Option.{option_map};
-ghost use Rattle.lines.specs.Turned.{list_cmp};
-ghost use Rattle.theory.specs.Lists.{Has};
-ghost use Rattle.theory.specs.Geometry.{Geometry, IsSound};
-ghost use Rattle.theory.specs.Arcs.{Ascends, AreSortedOnce};
-ghost use Rattle.theory.specs.ArcNumbers.{along, index_of};
-ghost use Rattle.grid.specs.declared.pos.Pos.{Pos};
-ghost use Rattle.chains.specs.declared.cutting.Piece.{Piece as Part};
 ghost use Rattle.chains.specs.Extents.{within};
 ghost use Rattle.chains.specs.Holding.{HoldAll};
 ghost use Rattle.chains.specs.Pieces.{used, chain_of};
 ghost use Rattle.chains.specs.Placing.{whole_pieces};
 ghost use Rattle.chains.specs.Table.{located, found_in, marked, number_in, free_at, AreAlike, AreLoopsOf, ArePiecesOfMap, IsTableOf};
+ghost use Rattle.chains.specs.declared.cutting.Piece.{Piece as Part};
+ghost use Rattle.grid.specs.declared.pos.Pos.{Pos};
+ghost use Rattle.lines.specs.Turned.{list_cmp};
+ghost use Rattle.std.specs.Option.{option_map};
+ghost use Rattle.std.specs.Prelude.{◌≡◌, ◌↔◌, ◌<◌, ◌^◌, IfOk, IfSome, IsSome, Some, map, slice_get, length};
+ghost use Rattle.theory.specs.ArcNumbers.{along, index_of};
+ghost use Rattle.theory.specs.Arcs.{Ascends, AreSortedOnce};
+ghost use Rattle.theory.specs.Geometry.{Geometry, IsSound};
+ghost use Rattle.theory.specs.Lists.{Has};
 
 use crate::cutting::Piece;
 use crate::extent::Extent;
@@ -89,9 +89,9 @@ pub struct ArcTable {
 }
 
 impl Model for ArcTable {
-    ghost use Rattle.std.specs.Prelude.{map as map_list};
     ghost use Rattle.chains.specs.Arcs.{Arcs};
     ghost use Rattle.chains.specs.Stored.{AreKept, positions_of, loops_of};
+    ghost use Rattle.std.specs.Prelude.{map as map_list};
 
     ghost Value = { Arcs };
 

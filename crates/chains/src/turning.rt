@@ -1,11 +1,11 @@
 //! Turning the list of a ring to begin at the used arc that starts least.
-ghost use Rattle.std.specs.Prelude.{◌≡◌, Some, reverse};
-ghost use Rattle.std.specs.Ordering.{is_gt};
-ghost use Rattle.lines.specs.Turned.{position_cmp};
-ghost use Rattle.theory.specs.ArcNumbers.{along};
-ghost use Rattle.theory.specs.Refinement.{turned_used};
 ghost use Rattle.chains.specs.Keys.{key_of, key_cmp};
 ghost use Rattle.chains.specs.Turning.{used_key, least_place};
+ghost use Rattle.lines.specs.Turned.{position_cmp};
+ghost use Rattle.std.specs.Ordering.{is_gt};
+ghost use Rattle.std.specs.Prelude.{◌≡◌, Some, reverse};
+ghost use Rattle.theory.specs.ArcNumbers.{along};
+ghost use Rattle.theory.specs.Refinement.{turned_used};
 
 use crate::key::Key;
 use crate::table::{ArcRef, ArcTable};

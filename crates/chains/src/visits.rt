@@ -1,24 +1,24 @@
 //! The index of visits: one list of visits, sorted once, of which the junctions are kept.
-ghost use Rattle.std.specs.Prelude.{◌≡◌, cond, [], ◌∷◌, ◌++◌, ◌↔◌, ◌⊎◌, map as map_list, slice_get, IfOk, List, OnOk, IsTrue, Some};
-ghost use Rattle.std.specs.List.{list_any};
+ghost use Rattle.chains.specs.Among.{among};
 ghost use Rattle.chains.specs.Extents.{within};
 ghost use Rattle.chains.specs.Holding.{HoldAll};
-ghost use Rattle.theory.specs.Geometry.{Geometry, IsSound, JunctionOf, SegmentOf};
-ghost use Rattle.theory.specs.Segments.{OnThree};
-ghost use Rattle.theory.specs.Lists.{Has, gathered, joined};
-ghost use Rattle.theory.specs.Topology.{forms_of};
-ghost use Rattle.grid.specs.declared.pos.Pos.{Pos};
-ghost use Rattle.chains.specs.Shared.{KeepsClashes, StaysApart, StayWhole, arc_meets, arc_shared, may_hold, meets, meets_if, met_visits, shared_if};
-ghost use Rattle.chains.specs.Among.{among};
-ghost use Rattle.chains.specs.Visits.{visit_of, inner_of, ends_of, around_of, clash, clashes_of, HaveSame};
-ghost use Rattle.chains.specs.Seen.{line_of, ring_of, form_of, geometry_of, seen};
 ghost use Rattle.chains.specs.Index.{IsIndexOf, EndsALine, AreVisitsOf, feature_ends, feature_visits, form_ends, form_visits};
 ghost use Rattle.chains.specs.OfArcs.{arc_ends, ends_if, tables_as_map};
+ghost use Rattle.chains.specs.Seen.{line_of, ring_of, form_of, geometry_of, seen};
+ghost use Rattle.chains.specs.Shared.{KeepsClashes, StaysApart, StayWhole, arc_meets, arc_shared, may_hold, meets, meets_if, met_visits, shared_if};
 ghost use Rattle.chains.specs.Table.{IsTableOf};
+ghost use Rattle.chains.specs.Visits.{visit_of, inner_of, ends_of, around_of, clash, clashes_of, HaveSame};
 ghost use Rattle.chains.specs.declared.visits.Visit.{Visit as Visiting};
-ghost use Rattle.theory.specs.Refinement.{IsUnionOf, unclosed};
+ghost use Rattle.grid.specs.declared.pos.Pos.{Pos};
 ghost use Rattle.shapes.specs.Maps.{set_of};
 ghost use Rattle.shapes.specs.Sets as set;
+ghost use Rattle.std.specs.List.{list_any};
+ghost use Rattle.std.specs.Prelude.{◌≡◌, cond, [], ◌∷◌, ◌++◌, ◌↔◌, ◌⊎◌, map as map_list, slice_get, IfOk, List, OnOk, IsTrue, Some};
+ghost use Rattle.theory.specs.Geometry.{Geometry, IsSound, JunctionOf, SegmentOf};
+ghost use Rattle.theory.specs.Lists.{Has, gathered, joined};
+ghost use Rattle.theory.specs.Refinement.{IsUnionOf, unclosed};
+ghost use Rattle.theory.specs.Segments.{OnThree};
+ghost use Rattle.theory.specs.Topology.{forms_of};
 
 use crate::extent::Extent;
 use crate::marking::is_marked;
@@ -355,9 +355,9 @@ pub struct VisitIndex {
 }
 
 impl Model for VisitIndex {
-    ghost use Rattle.std.specs.Prelude.{List};
-    ghost use Rattle.grid.specs.declared.pos.Pos.{Pos};
     ghost use Rattle.chains.specs.LookUp.{IsLookUp};
+    ghost use Rattle.grid.specs.declared.pos.Pos.{Pos};
+    ghost use Rattle.std.specs.Prelude.{List};
 
     ghost Value = { List Pos };
 

@@ -1,6 +1,6 @@
 //! The kinds of faults, and the path to the faulty place of a text.
-ghost use Rattle.std.specs.Prelude.{◌≡◌, [], vec_len};
 ghost use Rattle.faults.specs.declared.fault.FaultKind.TheVariants.{OutOfMemory as WantOfMemory};
+ghost use Rattle.std.specs.Prelude.{◌≡◌, [], vec_len};
 
 use std::alloc::{AllocError, AllocFailed, Global};
 use thiserror::Error;
@@ -175,8 +175,8 @@ pub struct Fault {
 }
 
 impl Fault {
-    ghost use Rattle.faults.specs.Path.{name as name_turn, index as index_turn};
     ghost use Rattle.faults.specs.Fault.{Pair, pair_of, turn_of, Lifted};
+    ghost use Rattle.faults.specs.Path.{name as name_turn, index as index_turn};
 
     /// A fault of the value itself.
     pub fn here(alloc: Global, kind: FaultKind) -> Fault

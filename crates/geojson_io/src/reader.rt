@@ -1,19 +1,19 @@
 //! GeoJSON in: features out of a FeatureCollection, a Feature or a geometry.
-ghost use Rattle.std.specs.Prelude.{◌≡◌, [], ◌∷◌, map, IfOk, IfErr, OnOk, Ok, Err, IsTrue, ◌↔◌, codes};
-ghost use Rattle.serde_json.specs.View.{view};
 ghost use Rattle.faults.specs.Fault.{IsWant};
+ghost use Rattle.geojson_io.specs.Features.{feature_members, feature_of, element_of_features_faults, root_named as named_root, root_type, root_faults, features_by, geojson_faults, features_of, features_of_text, faults_of_text, bare};
+ghost use Rattle.geojson_io.specs.Geometries.{typed_geometry_faults, typed_form};
 ghost use Rattle.reading.specs.Fault.{LeastOrWant};
 ghost use Rattle.reading.specs.Fitting.{SetFits};
-ghost use Rattle.reading.specs.Parts.{member_faults, list_faults, elements};
 ghost use Rattle.reading.specs.Info.{member_or_null};
-ghost use Rattle.reading.specs.Plain.{plain, plain_form};
-ghost use Rattle.shapes.specs.Sets as set;
-ghost use Rattle.shapes.specs.Maps.{set_of as features_set};
-ghost use Rattle.theory.specs.Lists.{Has};
-ghost use Rattle.shapes.specs.declared.feature.Feature.{Feature};
-ghost use Rattle.geojson_io.specs.Geometries.{typed_geometry_faults, typed_form};
 ghost use Rattle.reading.specs.Meant.{AreFeatures};
-ghost use Rattle.geojson_io.specs.Features.{feature_members, feature_of, element_of_features_faults, root_named as named_root, root_type, root_faults, features_by, geojson_faults, features_of, features_of_text, faults_of_text, bare};
+ghost use Rattle.reading.specs.Parts.{member_faults, list_faults, elements};
+ghost use Rattle.reading.specs.Plain.{plain, plain_form};
+ghost use Rattle.serde_json.specs.View.{view};
+ghost use Rattle.shapes.specs.Maps.{set_of as features_set};
+ghost use Rattle.shapes.specs.Sets as set;
+ghost use Rattle.shapes.specs.declared.feature.Feature.{Feature};
+ghost use Rattle.std.specs.Prelude.{◌≡◌, [], ◌∷◌, map, IfOk, IfErr, OnOk, Ok, Err, IsTrue, ◌↔◌, codes};
+ghost use Rattle.theory.specs.Lists.{Has};
 
 mod feature;
 mod geometry;

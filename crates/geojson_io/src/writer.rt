@@ -1,14 +1,14 @@
 //! Writing a GeoJSON FeatureCollection (RFC 7946, section 3.3), piece by piece and with no memory.
-ghost use Rattle.std.specs.Prelude.{◌≡◌, ℕ, ℤ, List, [], ◌++◌, codes, map, OnErr, OnOk};
-ghost use Rattle.std.specs.Borrow.{Bor};
-ghost use Rattle.std.specs.Iterator.{Drains, IsFinite};
+ghost use Rattle.geojson_io.specs.CollectionText.{place_text, line_text, ring_text, closed_text, geometry_text, shape_text, feature_frame, feature_text, collection_text};
+ghost use Rattle.lines.specs.Seen.{positions_of, vertices_of};
+ghost use Rattle.shapes.specs.Parts.{properties_text};
+ghost use Rattle.shapes.specs.declared.feature.Feature.{Feature};
 ghost use Rattle.sinks.specs.Stops.{FailedIn};
 ghost use Rattle.sinks.specs.Texts.{list_text, framed};
 ghost use Rattle.sinks.specs.Writes.{TookAll, TookPart};
-ghost use Rattle.lines.specs.Seen.{positions_of, vertices_of};
-ghost use Rattle.shapes.specs.Parts.{properties_text};
-ghost use Rattle.geojson_io.specs.CollectionText.{place_text, line_text, ring_text, closed_text, geometry_text, shape_text, feature_frame, feature_text, collection_text};
-ghost use Rattle.shapes.specs.declared.feature.Feature.{Feature};
+ghost use Rattle.std.specs.Borrow.{Bor};
+ghost use Rattle.std.specs.Iterator.{Drains, IsFinite};
+ghost use Rattle.std.specs.Prelude.{◌≡◌, ℕ, ℤ, List, [], ◌++◌, codes, map, OnErr, OnOk};
 
 use grid::{Grid, Pos};
 use lines::line::Line;

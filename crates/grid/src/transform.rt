@@ -1,7 +1,7 @@
 //! The transform between grid numbers and absolute numbers (TopoJSON, section 2).
-ghost use Rattle.std.specs.Prelude.{◌≡◌, ◌↔◌, IsSome, IfSome, IfOk, IfErr, IsErrOf, IsTrue, Ok, Some, None, ℤ, pos, negsuc, unsigned_abs, ◌≤◌, ◌*◌, ◌*ℤ◌, ◌-ℤ◌, ◌≤ℤ◌, int_rem, int_div};
-ghost use Rattle.grid.specs.Place.{Scaling, IsScaling, IsTransform, IsScale, IsTranslation, IsGridNumber, IsAbsolute, IsMultiple, IsOnGrid, IsNumberOf, IsBeyond, FitsAxis, scaling, transform as transform_of, absolute as absolute_number};
 ghost use Rattle.grid.specs.Fault.{IsAxisFault};
+ghost use Rattle.grid.specs.Place.{Scaling, IsScaling, IsTransform, IsScale, IsTranslation, IsGridNumber, IsAbsolute, IsMultiple, IsOnGrid, IsNumberOf, IsBeyond, FitsAxis, scaling, transform as transform_of, absolute as absolute_number};
+ghost use Rattle.std.specs.Prelude.{◌≡◌, ◌↔◌, IsSome, IfSome, IfOk, IfErr, IsErrOf, IsTrue, Ok, Some, None, ℤ, pos, negsuc, unsigned_abs, ◌≤◌, ◌*◌, ◌*ℤ◌, ◌-ℤ◌, ◌≤ℤ◌, int_rem, int_div};
 
 use crate::limits::{
     GREATEST_ABSOLUTE_NUMBER, GREATEST_GRID_NUMBER, GREATEST_SCALE, GREATEST_TRANSLATION,
@@ -251,9 +251,9 @@ impl AxisFault {
 }
 
 impl Grid {
-    ghost use Rattle.grid.specs.Fits.{absolute_place, Fits, IsPlaceOf};
-    ghost use Rattle.grid.specs.Fault.{IsPlaceFault};
     ghost use Rattle.grid.specs.Computed.{place_numbers, numbers_of};
+    ghost use Rattle.grid.specs.Fault.{IsPlaceFault};
+    ghost use Rattle.grid.specs.Fits.{absolute_place, Fits, IsPlaceOf};
     ghost use Rattle.grid.specs.declared.pos.Pos.{Pos};
 
     /// The grid of these scales and translations, or None where a number is outside its limits.

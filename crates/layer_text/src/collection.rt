@@ -1,12 +1,12 @@
 //! Writing a layer as a GeoJSON FeatureCollection (RFC 7946, section 3.3), piece by piece and with no
 //! memory: positions are lent from the arcs.
-ghost use Rattle.std.specs.Prelude.{◌≡◌, ◌↔◌, Err, IfErr, IsTrue, OnOk};
-ghost use Rattle.std.specs.FinMap as map;
-ghost use Rattle.sinks.specs.Writes.{TookAll, TookPart};
-ghost use Rattle.layer_text.specs.Collections.{layer_collection};
-ghost use Rattle.topo.specs.ItsMap.{ForItsMap};
 ghost use Rattle.layer_text.specs.ByArcs.{line_along, ring_along, body_text, geom_text};
+ghost use Rattle.layer_text.specs.Collections.{layer_collection};
 ghost use Rattle.layer_text.specs.declared.fault.LayerFault.TheVariants.{NoLayer, Write};
+ghost use Rattle.sinks.specs.Writes.{TookAll, TookPart};
+ghost use Rattle.std.specs.FinMap as map;
+ghost use Rattle.std.specs.Prelude.{◌≡◌, ◌↔◌, Err, IfErr, IsTrue, OnOk};
+ghost use Rattle.topo.specs.ItsMap.{ForItsMap};
 
 use crate::fault::LayerFault;
 use crate::places::{Along, Round};

@@ -1,10 +1,10 @@
 //! The places of lines and rings, lent by walks from the arcs.
-ghost use Rattle.std.specs.Prelude.{OnErr, OnOk};
-ghost use Rattle.sinks.specs.Texts.{after_comma, after_commas};
-ghost use Rattle.sinks.specs.Writes.{TookAll, TookPart};
 ghost use Rattle.geojson_io.specs.CollectionText.{place_text};
 ghost use Rattle.layer_text.specs.ByArcs.{along, places_along, places_round};
 ghost use Rattle.layer_text.specs.Steps.{behind_step, up_to_from, up_to_step};
+ghost use Rattle.sinks.specs.Texts.{after_comma, after_commas};
+ghost use Rattle.sinks.specs.Writes.{TookAll, TookPart};
+ghost use Rattle.std.specs.Prelude.{OnErr, OnOk};
 
 use crate::steps::{Step, behind, is_step, least_step};
 use chains::ArcRef;

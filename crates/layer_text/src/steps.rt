@@ -1,8 +1,8 @@
 //! The steps of a walk, each from a position to the next.
-ghost use Rattle.std.specs.Prelude.{◌≡◌, ◌&&◌};
-ghost use Rattle.std.specs.Ordering.{is_lt};
 ghost use Rattle.layer_text.specs.Steps as spec;
 ghost use Rattle.layer_text.specs.Steps.{step_cmp, behind_step};
+ghost use Rattle.std.specs.Ordering.{is_lt};
+ghost use Rattle.std.specs.Prelude.{◌≡◌, ◌&&◌};
 
 use grid::Pos;
 use topo::Walk;

@@ -1,7 +1,7 @@
 //! The ends of segments that may stand twice in a list of positions.
-ghost use Rattle.std.specs.Prelude.{◌≡◌, true, IfOk};
 ghost use Rattle.lines.specs.Again.{HoldEnds, IsStep};
 ghost use Rattle.lines.specs.Bits.{may_hold};
+ghost use Rattle.std.specs.Prelude.{◌≡◌, true, IfOk};
 
 use crate::bits::PositionBits;
 use grid::pos::Pos;

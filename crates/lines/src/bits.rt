@@ -1,9 +1,9 @@
 //! Words in which positions set bits, so that most look-ups of a position end at once: most positions
 //! that are not among those dealt find a bit of theirs not set.
-ghost use Rattle.std.specs.Prelude.{◌≡◌, IfOk, max, replicate, true};
 ghost use Rattle.lines.specs.Bits as spec;
 ghost use Rattle.lines.specs.Bits.{AreSet, mask_at, may_hold};
 ghost use Rattle.lines.specs.Holding.{AreMarked, Holds, IsMarked};
+ghost use Rattle.std.specs.Prelude.{◌≡◌, IfOk, max, replicate, true};
 
 use grid::pos::Pos;
 use std::alloc::{AllocError, Global};

@@ -1,6 +1,6 @@
 //! Equal neighbours in a list.
-ghost use Rattle.std.specs.Prelude.{◌≡◌};
 ghost use Rattle.lines.specs.Neighbours.{equal_neighbours};
+ghost use Rattle.std.specs.Prelude.{◌≡◌};
 
 /// Whether two neighbours are equal. In a sorted list it tells whether an item stands twice.
 pub fn has_equal_neighbours<T: PartialEq + Copy>(items: &[T]) -> bool

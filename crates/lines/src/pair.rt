@@ -1,6 +1,6 @@
 //! Unordered pairs of positions.
-ghost use Rattle.std.specs.Prelude.{◌≡◌};
 ghost use Rattle.lines.specs.Pairs.{pair_of};
+ghost use Rattle.std.specs.Prelude.{◌≡◌};
 
 use grid::pos::Pos;
 

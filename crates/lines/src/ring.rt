@@ -1,9 +1,9 @@
 //! Rings.
+ghost use Rattle.lines.specs.Turned.{IsLeastRotation, IsLeastRotation-prop, position_cmp};
+ghost use Rattle.lines.specs.Windows.{IsLeastStart};
 ghost use Rattle.std.specs.Prelude.{◌≡◌, ◌≢◌, ◌≤◌, IfOk, IfErr, List, Some, None, length};
 ghost use Rattle.theory.specs.LinesAndRings.{IsRing};
 ghost use Rattle.theory.specs.OneProof.{IsRing-prop};
-ghost use Rattle.lines.specs.Turned.{IsLeastRotation, IsLeastRotation-prop, position_cmp};
-ghost use Rattle.lines.specs.Windows.{IsLeastStart};
 
 use crate::items::Items;
 use crate::shape_fault::ShapeFault;

@@ -1,6 +1,6 @@
 //! Why a list of positions is no line or ring.
-ghost use Rattle.std.specs.Prelude.{◌≡◌};
 ghost use Rattle.lines.specs.declared.shape_fault.ShapeFault.TheVariants.{OutOfMemory};
+ghost use Rattle.std.specs.Prelude.{◌≡◌};
 
 use std::alloc::{AllocError, AllocFailed};
 use thiserror::Error;

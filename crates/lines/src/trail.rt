@@ -1,11 +1,11 @@
 //! What makes a list of positions a trail: neighbours differ, and no segment stands twice.
-ghost use Rattle.std.specs.Prelude.{◌≡◌, IfOk};
-ghost use Rattle.theory.specs.TopologyFunction.{keep};
 ghost use Rattle.lines.specs.Again.{joins};
 ghost use Rattle.lines.specs.Bits.{may_hold};
 ghost use Rattle.lines.specs.Reading.{collapsed, is_closed as closes, repeats};
 ghost use Rattle.lines.specs.Segments.{segments_of};
 ghost use Rattle.lines.specs.Turned.{position_cmp};
+ghost use Rattle.std.specs.Prelude.{◌≡◌, IfOk};
+ghost use Rattle.theory.specs.TopologyFunction.{keep};
 
 use crate::again::ends_again;
 use crate::bits::PositionBits;

@@ -1,7 +1,7 @@
 //! Why shards are not joined, plans not run, and texts not merged.
-ghost use Rattle.std.specs.Prelude.{◌≡◌};
 ghost use Rattle.merging.specs.declared.fault.JoinFault.TheVariants as join;
 ghost use Rattle.merging.specs.declared.fault.MergeFault.TheVariants as merge;
+ghost use Rattle.std.specs.Prelude.{◌≡◌};
 
 use faults::{Fault, OutOfMemory};
 use std::alloc::{AllocError, AllocFailed};

@@ -1,8 +1,8 @@
 //! Joining a list of shards, each once.
-ghost use Rattle.std.specs.Prelude.{◌≡◌, ◌≤◌, ◌<◌, ◌+◌, ◌*◌, All, IfOk, IsOkUnless, length, map};
 ghost use Rattle.grid.specs.Place.{Transform};
-ghost use Rattle.merging.specs.declared.fault.JoinFault.TheVariants.{OutOfMemory};
 ghost use Rattle.merging.specs.Plans.{union_all};
+ghost use Rattle.merging.specs.declared.fault.JoinFault.TheVariants.{OutOfMemory};
+ghost use Rattle.std.specs.Prelude.{◌≡◌, ◌≤◌, ◌<◌, ◌+◌, ◌*◌, All, IfOk, IsOkUnless, length, map};
 
 use crate::fault::JoinFault;
 use crate::placing::sort_by_place;

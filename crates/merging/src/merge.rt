@@ -1,10 +1,10 @@
 //! Merging texts of topologies.
-ghost use Rattle.std.specs.Prelude.{◌≡◌, ℕ, IfOk, IfErr, Some, None, Err, length, map};
+ghost use Rattle.merging.specs.Merge.{bytes_of, AreKept, IsFaultOf, IsGridOf, IsReadFault, IsRefusalOf, IsMergeFault, IsMergeOf, IsUnionOf, MeansUnion};
+ghost use Rattle.merging.specs.Plans as stated;
+ghost use Rattle.merging.specs.Plans.{off_grid};
 ghost use Rattle.merging.specs.declared.fault.MergeFault.TheVariants.{BadPlan};
 ghost use Rattle.plans.specs.Leaves.{leaves, first_outside};
-ghost use Rattle.merging.specs.Plans.{off_grid};
-ghost use Rattle.merging.specs.Plans as stated;
-ghost use Rattle.merging.specs.Merge.{bytes_of, AreKept, IsFaultOf, IsGridOf, IsReadFault, IsRefusalOf, IsMergeFault, IsMergeOf, IsUnionOf, MeansUnion};
+ghost use Rattle.std.specs.Prelude.{◌≡◌, ℕ, IfOk, IfErr, Some, None, Err, length, map};
 ghost use Rattle.topo_io.specs.Means.{Means};
 
 use crate::fault::MergeFault;

@@ -1,10 +1,10 @@
 //! Running a plan over a list of shards.
-ghost use Rattle.std.specs.Prelude.{◌≡◌, ◌⊎◌, All, IfOk, IfErr, None, Some, Err, map};
-ghost use Rattle.merging.specs.declared.fault.PlanFault.{PlanFault};
-ghost use Rattle.merging.specs.declared.fault.PlanFault.TheVariants.{OutOfMemory};
 ghost use Rattle.merging.specs.Meaning as meaning;
-ghost use Rattle.plans.specs.Leaves.{leaves};
 ghost use Rattle.merging.specs.Plans.{first_other, off_grid, union_at, plan_fault};
+ghost use Rattle.merging.specs.declared.fault.PlanFault.TheVariants.{OutOfMemory};
+ghost use Rattle.merging.specs.declared.fault.PlanFault.{PlanFault};
+ghost use Rattle.plans.specs.Leaves.{leaves};
+ghost use Rattle.std.specs.Prelude.{◌≡◌, ◌⊎◌, All, IfOk, IfErr, None, Some, Err, map};
 
 use crate::fault::PlanFault;
 use crate::running::join_leaves;

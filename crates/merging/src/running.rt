@@ -1,10 +1,10 @@
 //! Running a plan over a stack of shards.
-ghost use Rattle.std.specs.Prelude.{◌≡◌, ◌≤◌, All, IfOk, IsOkUnless, length, map};
 ghost use Rattle.grid.specs.Place.{Transform};
-ghost use Rattle.merging.specs.declared.fault.JoinFault.TheVariants.{OutOfMemory};
-ghost use Rattle.plans.specs.Leaves.{leaves, HasPlaces};
 ghost use Rattle.merging.specs.Plans.{union_at};
 ghost use Rattle.merging.specs.Running.{LastJoined};
+ghost use Rattle.merging.specs.declared.fault.JoinFault.TheVariants.{OutOfMemory};
+ghost use Rattle.plans.specs.Leaves.{leaves, HasPlaces};
+ghost use Rattle.std.specs.Prelude.{◌≡◌, ◌≤◌, All, IfOk, IsOkUnless, length, map};
 
 use crate::fault::JoinFault;
 use crate::shard::Shard;

@@ -1,15 +1,15 @@
 //! What a merge needs of a shard.
-ghost use Rattle.std.specs.Prelude.{◌≡◌, ◌↔◌, [], IfErr, IfOk, IsErrOf, OnOk};
 ghost use Rattle.grid.specs.Place.{Transform};
+ghost use Rattle.merging.specs.Meaning.{Commutes, Associates, IsIdempotent};
+ghost use Rattle.merging.specs.declared.fault.JoinFault.TheVariants.{OtherGrid};
+ghost use Rattle.reading.specs.Fault.{LeastOrWant};
 ghost use Rattle.shapes.specs.Fitting.{MapFits};
 ghost use Rattle.shapes.specs.Maps.{Layers};
 ghost use Rattle.shapes.specs.Union.{union};
-ghost use Rattle.reading.specs.Fault.{LeastOrWant};
-ghost use Rattle.merging.specs.Meaning.{Commutes, Associates, IsIdempotent};
+ghost use Rattle.std.specs.Prelude.{◌≡◌, ◌↔◌, [], IfErr, IfOk, IsErrOf, OnOk};
 ghost use Rattle.topo_io.specs.Canon.{canon};
 ghost use Rattle.topo_io.specs.Means.{Means};
 ghost use Rattle.topo_io.specs.Roots.{faults_of_text};
-ghost use Rattle.merging.specs.declared.fault.JoinFault.TheVariants.{OtherGrid};
 
 use crate::fault::JoinFault;
 use faults::{Fault, FaultKind, OutOfMemory};

@@ -1,8 +1,8 @@
 //! Plans that join a whole list in one of three groupings.
-ghost use Rattle.std.specs.Prelude.{◌≡◌, ◌<◌, ◌≤◌, ◌+◌, ◌^◌, IfOk, MatchOption};
-ghost use Rattle.std.specs.List.{range_with_len};
-ghost use Rattle.plans.specs.Leaves.{leaves};
 ghost use Rattle.plans.specs.Groupings.{IsNode, IsLeft, IsRight, IsHalves};
+ghost use Rattle.plans.specs.Leaves.{leaves};
+ghost use Rattle.std.specs.List.{range_with_len};
+ghost use Rattle.std.specs.Prelude.{◌≡◌, ◌<◌, ◌≤◌, ◌+◌, ◌^◌, IfOk, MatchOption};
 
 use crate::plan::Plan;
 use faults::OutOfMemory;

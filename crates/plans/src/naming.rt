@@ -1,7 +1,7 @@
 //! Which shards of a list a plan names.
-ghost use Rattle.std.specs.Prelude.{◌≡◌, IfOk, false, replicate};
 ghost use Rattle.plans.specs.Leaves.{leaves, HasPlaces};
 ghost use Rattle.plans.specs.Naming.{marked};
+ghost use Rattle.std.specs.Prelude.{◌≡◌, IfOk, false, replicate};
 
 use crate::plan::Plan;
 use faults::OutOfMemory;

@@ -1,6 +1,6 @@
 //! Plans, and the first leaf of one that is no place of a list.
-ghost use Rattle.std.specs.Prelude.{◌≡◌};
 ghost use Rattle.plans.specs.Leaves.{leaves, first_outside};
+ghost use Rattle.std.specs.Prelude.{◌≡◌};
 
 use std::alloc::Global;
 use std::mem;

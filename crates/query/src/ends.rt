@@ -1,8 +1,8 @@
 //! The ends of arcs.
-ghost use Rattle.std.specs.Prelude.{◌≡◌, ◌↔◌, ◌⊎◌, IfOk, OnOk, reverse};
 ghost use Rattle.grid.specs.declared.pos.Pos.{Pos};
-ghost use Rattle.topo.specs.Points.{arc_at};
 ghost use Rattle.query.specs.Ends.{AmongEnds, EndStep, HasEnds, IsEnd, begin_of};
+ghost use Rattle.std.specs.Prelude.{◌≡◌, ◌↔◌, ◌⊎◌, IfOk, OnOk, reverse};
+ghost use Rattle.topo.specs.Points.{arc_at};
 
 use chains::ArcTable;
 use grid::pos::Pos;

@@ -1,6 +1,6 @@
 //! Why a question to a topology has no answer.
-ghost use Rattle.std.specs.Prelude.{◌≡◌};
 ghost use Rattle.query.specs.declared.fault.QueryFault.TheVariants.{OutOfMemory as WantOfMemory};
+ghost use Rattle.std.specs.Prelude.{◌≡◌};
 
 use faults::OutOfMemory;
 use std::alloc::{AllocError, AllocFailed};

@@ -1,6 +1,6 @@
 //! What a topology is made of, in numbers.
-ghost use Rattle.std.specs.Prelude.{◌≡◌, ◌<◌, ◌^◌, length, map, sum};
 ghost use Rattle.query.specs.Info.{free_below, kinds_of, one_more, total};
+ghost use Rattle.std.specs.Prelude.{◌≡◌, ◌<◌, ◌^◌, length, map, sum};
 
 use crate::writer::line_at;
 use chains::ArcTable;

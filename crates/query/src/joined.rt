@@ -1,8 +1,8 @@
 //! The lines over the segments of some arcs.
-ghost use Rattle.std.specs.Prelude.{IfOk, List};
 ghost use Rattle.chains.specs.Along.{HasArcs};
 ghost use Rattle.chains.specs.declared.segment.Segment.{Segment};
 ghost use Rattle.query.specs.Mesh.{AreLinesOver};
+ghost use Rattle.std.specs.Prelude.{IfOk, List};
 
 use crate::parts::part;
 use crate::stops::stops_of;

@@ -1,14 +1,14 @@
 //! The features of a topology, beside the bodies that hold them by arcs.
-ghost use Rattle.std.specs.Prelude.{◌≡◌, ◌↔◌, ◌++◌, IfOk, OnOk, Err, List, map as map_list};
+ghost use Rattle.query.specs.Members.{held, paired, by_feature, AreMembers};
+ghost use Rattle.query.specs.Mesh.{IsMissing};
+ghost use Rattle.query.specs.declared.fault.QueryFault.TheVariants.{NoLayer as MissingLayer};
+ghost use Rattle.shapes.specs.declared.feature.Feature as features;
 ghost use Rattle.std.specs.List.Sorted.{IsPermutation, IsSorted};
 ghost use Rattle.std.specs.Option.{option_map};
-ghost use Rattle.shapes.specs.declared.feature.Feature as features;
+ghost use Rattle.std.specs.Prelude.{◌≡◌, ◌↔◌, ◌++◌, IfOk, OnOk, Err, List, map as map_list};
 ghost use Rattle.topo.specs.Features.{AreFeaturesOf};
 ghost use Rattle.topo.specs.ItsMap.{ForItsMap};
 ghost use Rattle.topo.specs.OfMap.{IsOfSomeMap};
-ghost use Rattle.query.specs.Mesh.{IsMissing};
-ghost use Rattle.query.specs.Members.{held, paired, by_feature, AreMembers};
-ghost use Rattle.query.specs.declared.fault.QueryFault.TheVariants.{NoLayer as MissingLayer};
 
 use crate::fault::QueryFault;
 use crate::scope::layers_in;

@@ -1,6 +1,6 @@
 //! Which of the chosen arcs are maximal lines as they stand.
-ghost use Rattle.std.specs.Prelude.{◌≡◌, ◌++◌, IfOk, OnOk, map};
 ghost use Rattle.query.specs.Parting.{is_whole, whole_at, other_at, wholes, others};
+ghost use Rattle.std.specs.Prelude.{◌≡◌, ◌++◌, IfOk, OnOk, map};
 
 use chains::ArcTable;
 use grid::pos::Pos;

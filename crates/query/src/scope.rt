@@ -1,13 +1,13 @@
 //! The layers that a question is about.
-ghost use Rattle.std.specs.Prelude.{◌≡◌, ◌↔◌, IfNone, IfOk, IfSome, Err};
-ghost use Rattle.std.specs.Option.{option_map};
-ghost use Rattle.shapes.specs.Parts.{spelled_text};
-ghost use Rattle.theory.specs.Lists.{Has};
-ghost use Rattle.topo.specs.ItsMap.{ForItsMap};
-ghost use Rattle.topo.specs.Parts.{LayerParts};
 ghost use Rattle.query.specs.Members.{AreLayersIn};
 ghost use Rattle.query.specs.Mesh.{IsMissing};
 ghost use Rattle.query.specs.declared.fault.QueryFault.TheVariants.{NoLayer as MissingLayer};
+ghost use Rattle.shapes.specs.Parts.{spelled_text};
+ghost use Rattle.std.specs.Option.{option_map};
+ghost use Rattle.std.specs.Prelude.{◌≡◌, ◌↔◌, IfNone, IfOk, IfSome, Err};
+ghost use Rattle.theory.specs.Lists.{Has};
+ghost use Rattle.topo.specs.ItsMap.{ForItsMap};
+ghost use Rattle.topo.specs.Parts.{LayerParts};
 
 use crate::fault::QueryFault;
 use std::slice;

@@ -1,8 +1,8 @@
 //! Which arcs a filter selects.
-ghost use Rattle.std.specs.Prelude.{IfOk, OnOk};
-ghost use Rattle.std.specs.Fn.{FnReturnsAtPair};
 ghost use Rattle.query.specs.Mesh.{MayAsk};
 ghost use Rattle.query.specs.Selecting.{MayAskAmong, Answered, Decided, Known, AreChosen};
+ghost use Rattle.std.specs.Fn.{FnReturnsAtPair};
+ghost use Rattle.std.specs.Prelude.{IfOk, OnOk};
 
 use crate::members::Member;
 use crate::spans::Span;

@@ -1,8 +1,8 @@
 //! The least and the greatest feature that use each arc.
-ghost use Rattle.std.specs.Prelude.{◌≡◌, IfOk, None, replicate, map as map_list};
-ghost use Rattle.topo.specs.OfMap.{body_of};
 ghost use Rattle.query.specs.Spans.{widened, with_use, with_uses};
 ghost use Rattle.query.specs.Uses.{bodies_uses};
+ghost use Rattle.std.specs.Prelude.{◌≡◌, IfOk, None, replicate, map as map_list};
+ghost use Rattle.topo.specs.OfMap.{body_of};
 
 use crate::members::Member;
 use crate::uses::{Use, note_body};

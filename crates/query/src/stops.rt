@@ -1,13 +1,13 @@
 //! The vertices at which lines over arcs stop.
-ghost use Rattle.std.specs.Prelude.{◌≡◌, ◌≤◌, IfOk, OnOk, length};
-ghost use Rattle.std.specs.List.Sorted.{IsPermutation, IsSorted};
-ghost use Rattle.grid.specs.declared.pos.Pos.{Pos};
-ghost use Rattle.theory.specs.Geometry.{Geometry, IsSound};
-ghost use Rattle.lines.specs.ByVertex.{StandByVertex, count_at};
 ghost use Rattle.chains.specs.Among.{among};
 ghost use Rattle.chains.specs.Table.{IsTableOf};
+ghost use Rattle.grid.specs.declared.pos.Pos.{Pos};
+ghost use Rattle.lines.specs.ByVertex.{StandByVertex, count_at};
 ghost use Rattle.query.specs.Ends.{by_vertex, vertex_of};
 ghost use Rattle.query.specs.Stops.{AreHalts, AreJudged, halts, sided, sides_at, stop_step};
+ghost use Rattle.std.specs.List.Sorted.{IsPermutation, IsSorted};
+ghost use Rattle.std.specs.Prelude.{◌≡◌, ◌≤◌, IfOk, OnOk, length};
+ghost use Rattle.theory.specs.Geometry.{Geometry, IsSound};
 
 use crate::ends::{End, ends_of};
 use chains::ArcTable;

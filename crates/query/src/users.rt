@@ -1,12 +1,12 @@
 //! Which arcs the features of a layer use.
-ghost use Rattle.std.specs.Prelude.{◌≡◌, ◌↔◌, ◌++◌, IfOk, OnOk, Err};
-ghost use Rattle.std.specs.Option.{option_map};
-ghost use Rattle.topo.specs.ItsMap.{ForItsMap};
-ghost use Rattle.topo.specs.OfMap.{IsOfSomeMap};
 ghost use Rattle.query.specs.Members.{AreUsesIn};
 ghost use Rattle.query.specs.Mesh.{IsMissing};
 ghost use Rattle.query.specs.Spans.{number_if, numbers_from};
 ghost use Rattle.query.specs.declared.fault.QueryFault.TheVariants.{NoLayer as MissingLayer};
+ghost use Rattle.std.specs.Option.{option_map};
+ghost use Rattle.std.specs.Prelude.{◌≡◌, ◌↔◌, ◌++◌, IfOk, OnOk, Err};
+ghost use Rattle.topo.specs.ItsMap.{ForItsMap};
+ghost use Rattle.topo.specs.OfMap.{IsOfSomeMap};
 
 use crate::fault::QueryFault;
 use crate::scope::layers_in;

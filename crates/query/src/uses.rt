@@ -1,8 +1,8 @@
 //! Which arcs the bodies of features use.
+ghost use Rattle.query.specs.Uses.{refs_uses, body_uses, geometries_uses};
 ghost use Rattle.std.specs.Prelude.{◌++◌, ◌≡◌, OnOk};
 ghost use Rattle.theory.specs.Lists.{gathered};
 ghost use Rattle.topo.specs.OfMap.{body_of};
-ghost use Rattle.query.specs.Uses.{refs_uses, body_uses, geometries_uses};
 
 use chains::ArcRef;
 use lines::items::Items;

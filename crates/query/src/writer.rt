@@ -1,12 +1,12 @@
 //! Writing meshes and neighbours as JSON, piece by piece and with no memory.
-ghost use Rattle.std.specs.Prelude.{◌≡◌, map, slice_get, OnErr, OnOk};
-ghost use Rattle.std.specs.Fmt.{decimal};
+ghost use Rattle.geojson_io.specs.CollectionText.{line_text};
 ghost use Rattle.grid.specs.declared.pos.Pos.{Pos};
+ghost use Rattle.query.specs.AnswerTexts.{id_text_of, id_value_text, mesh_text, neighbor_ids_text, neighbors_text};
 ghost use Rattle.sinks.specs.Texts.{joined, list_text};
 ghost use Rattle.sinks.specs.Writes.{TookAll, TookPart};
-ghost use Rattle.geojson_io.specs.CollectionText.{line_text};
+ghost use Rattle.std.specs.Fmt.{decimal};
+ghost use Rattle.std.specs.Prelude.{◌≡◌, map, slice_get, OnErr, OnOk};
 ghost use Rattle.topo.specs.Points.{arc_at};
-ghost use Rattle.query.specs.AnswerTexts.{id_text_of, id_value_text, mesh_text, neighbor_ids_text, neighbors_text};
 
 use chains::ArcTable;
 use geojson_io::writer::{Geometry, Places};

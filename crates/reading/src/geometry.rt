@@ -1,6 +1,6 @@
 //! The six types of geometries.
-ghost use Rattle.std.specs.Prelude.{◌≡◌};
 ghost use Rattle.serde_json.specs.View.{view};
+ghost use Rattle.std.specs.Prelude.{◌≡◌};
 
 use crate::part::type_name;
 use faults::fault::FaultKind;

@@ -1,13 +1,13 @@
 //! Ids and properties.
-ghost use Rattle.std.specs.Prelude.{◌≡◌, [], IfOk, IfErr, OnOk, codes};
-ghost use Rattle.serde_json.specs.View.{view};
 ghost use Rattle.faults.specs.Fault.{IsWant};
-ghost use Rattle.shapes.specs.Ids.{HasI64};
-ghost use Rattle.shapes.specs.Parts.{properties_text};
 ghost use Rattle.reading.specs.Fault.{LeastOrWant};
+ghost use Rattle.reading.specs.Info.{IsIdOf, id_faults, properties_faults, info_faults, id_of, properties_of, member_or_null, properties_kind};
 ghost use Rattle.reading.specs.Parts.{option_faults};
 ghost use Rattle.reading.specs.Plain.{plain_id};
-ghost use Rattle.reading.specs.Info.{IsIdOf, id_faults, properties_faults, info_faults, id_of, properties_of, member_or_null, properties_kind};
+ghost use Rattle.serde_json.specs.View.{view};
+ghost use Rattle.shapes.specs.Ids.{HasI64};
+ghost use Rattle.shapes.specs.Parts.{properties_text};
+ghost use Rattle.std.specs.Prelude.{◌≡◌, [], IfOk, IfErr, OnOk, codes};
 
 use crate::part::{Part, read_option};
 use faults::fault::{Fault, FaultKind};

@@ -1,9 +1,9 @@
 //! Number elements.
-ghost use Rattle.std.specs.Prelude.{◌≡◌, ℤ, List, IfOk, IfErr};
-ghost use Rattle.serde_json.specs.View.{view};
 ghost use Rattle.faults.specs.Fault.{Pair};
 ghost use Rattle.reading.specs.Fault.{here};
 ghost use Rattle.reading.specs.Numbers.{element_faults, whole_of};
+ghost use Rattle.serde_json.specs.View.{view};
+ghost use Rattle.std.specs.Prelude.{◌≡◌, ℤ, List, IfOk, IfErr};
 
 use faults::fault::FaultKind;
 use serde_json::Value;

@@ -1,13 +1,13 @@
 //! Lines and rings of lists of positions, with faults at the list.
-ghost use Rattle.std.specs.Prelude.{◌≡◌, ◌≢◌, [], List, Option, Some, None, IfOk, IfErr, OnOk};
 ghost use Rattle.grid.specs.declared.pos.Pos.{Pos};
 ghost use Rattle.lines.specs.Reading.{line_fault, ring_fault};
 ghost use Rattle.lines.specs.Seen.{positions_of, vertices_of};
 ghost use Rattle.lines.specs.Turned.{position_cmp};
-ghost use Rattle.lines.specs.declared.shape_fault.ShapeFault.{ShapeFault};
 ghost use Rattle.lines.specs.declared.shape_fault.ShapeFault.TheVariants as told;
+ghost use Rattle.lines.specs.declared.shape_fault.ShapeFault.{ShapeFault};
 ghost use Rattle.reading.specs.Fault.{LeastOrWant};
 ghost use Rattle.reading.specs.Outlines.{outline_kind, outline_faults, line_of, ring_of};
+ghost use Rattle.std.specs.Prelude.{◌≡◌, ◌≢◌, [], List, Option, Some, None, IfOk, IfErr, OnOk};
 
 use faults::fault::{Fault, FaultKind};
 use grid::pos::Pos;

@@ -1,15 +1,15 @@
 //! A part of a text, by its faults and its meaning; lists, pairs and members of parts.
-ghost use Rattle.std.specs.Prelude.{◌≡◌, [], ◌∷◌, ◌++◌, List, map, IfOk, IfErr, OnOk, MatchOption, Some, None, Ok, Err, codes, String, string_bytes};
-ghost use Rattle.std.specs.List.{AllZip};
-ghost use Rattle.theory.specs.Lists.{Distinct};
-ghost use Rattle.serde_json.specs.Data.{Data};
-ghost use Rattle.serde_json.specs.Find.{as_array, get};
-ghost use Rattle.serde_json.specs.View.{view, members_view};
 ghost use Rattle.faults.specs.Fault.{Pair, IsWant};
 ghost use Rattle.faults.specs.Path.{name as name_turn};
 ghost use Rattle.reading.specs.Fault.{LeastOrWant, here, under};
 ghost use Rattle.reading.specs.Info.{member_or_null};
 ghost use Rattle.reading.specs.Parts.{each_faults, list_faults, elements, two_faults, pair_faults, IsPair, option_faults, member_faults, each_member_faults, MeanMembers, type_text};
+ghost use Rattle.serde_json.specs.Data.{Data};
+ghost use Rattle.serde_json.specs.Find.{as_array, get};
+ghost use Rattle.serde_json.specs.View.{view, members_view};
+ghost use Rattle.std.specs.List.{AllZip};
+ghost use Rattle.std.specs.Prelude.{◌≡◌, [], ◌∷◌, ◌++◌, List, map, IfOk, IfErr, OnOk, MatchOption, Some, None, Ok, Err, codes, String, string_bytes};
+ghost use Rattle.theory.specs.Lists.{Distinct};
 
 use faults::fault::{Fault, FaultKind};
 use lines::items::Items;

@@ -1,13 +1,13 @@
 //! Shapes by the types of geometries.
-ghost use Rattle.std.specs.Prelude.{◌≡◌, [], List, IfOk, IfErr, OnOk};
-ghost use Rattle.serde_json.specs.Data.{Data};
-ghost use Rattle.serde_json.specs.View.{view};
 ghost use Rattle.faults.specs.Fault.{Pair};
 ghost use Rattle.grid.specs.declared.pos.Pos.{Pos};
 ghost use Rattle.reading.specs.Fault.{LeastOrWant};
 ghost use Rattle.reading.specs.Outlines.{outline_faults, line_faults, ring_faults, line_of, ring_of};
 ghost use Rattle.reading.specs.Plain.{plain_form};
 ghost use Rattle.reading.specs.Shapes.{shape_faults, shape_form};
+ghost use Rattle.serde_json.specs.Data.{Data};
+ghost use Rattle.serde_json.specs.View.{view};
+ghost use Rattle.std.specs.Prelude.{◌≡◌, [], List, IfOk, IfErr, OnOk};
 
 use crate::geometry::GeometryType;
 use crate::outline::{Outline, outlined};

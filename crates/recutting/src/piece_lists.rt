@@ -1,8 +1,8 @@
 //! Lists of used arcs, kept one after another in one list.
-ghost use Rattle.std.specs.Prelude.{◌≡◌, ◌≤◌, length, slice_get};
+ghost use Rattle.recutting.specs.Bounds.{AreBounds, parts_between};
 ghost use Rattle.std.specs.List.{between};
 ghost use Rattle.std.specs.Option.{option_map};
-ghost use Rattle.recutting.specs.Bounds.{AreBounds, parts_between};
+ghost use Rattle.std.specs.Prelude.{◌≡◌, ◌≤◌, length, slice_get};
 
 use chains::table::ArcRef;
 use std::marker::Model;
@@ -26,9 +26,9 @@ pub(crate) struct PieceLists {
 }
 
 impl Model for PieceLists {
+    ghost use Rattle.recutting.specs.Bounds.{AreBounds, parts_between};
     ghost use Rattle.std.specs.Prelude.{List, length};
     ghost use Rattle.theory.specs.ArcNumbers as numbers;
-    ghost use Rattle.recutting.specs.Bounds.{AreBounds, parts_between};
 
     ghost Value = { List (List numbers.ArcRef) };
 

@@ -1,13 +1,13 @@
 //! Cutting the arcs of two tables again: the index of visits over the arcs gives the junctions of
 //! both maps together, all arcs are cut there, and the pieces are the new table.
-ghost use Rattle.std.specs.Prelude.{◌≡◌, ◌++◌, IfOk, OnOk, length};
+ghost use Rattle.chains.specs.Table.{IsTableOf};
 ghost use Rattle.grid.specs.declared.pos.Pos.{Pos};
+ghost use Rattle.recutting.specs.Bounds.{bounds_of};
+ghost use Rattle.recutting.specs.Cutting.{pieces_from, IsRecutOf};
+ghost use Rattle.std.specs.Prelude.{◌≡◌, ◌++◌, IfOk, OnOk, length};
 ghost use Rattle.theory.specs.Geometry.{Geometry, IsSound};
 ghost use Rattle.theory.specs.Lists.{joined};
 ghost use Rattle.theory.specs.Refinement.{IsUnionOf};
-ghost use Rattle.chains.specs.Table.{IsTableOf};
-ghost use Rattle.recutting.specs.Bounds.{bounds_of};
-ghost use Rattle.recutting.specs.Cutting.{pieces_from, IsRecutOf};
 
 use crate::piece_lists::PieceLists;
 use crate::refined::Recut;

@@ -1,13 +1,13 @@
 //! What two tables of arcs are cut into.
-ghost use Rattle.std.specs.Prelude.{◌≡◌, ◌++◌, List, IfOk, OnOk, slice_get};
-ghost use Rattle.std.specs.Option.{option_map};
 ghost use Rattle.grid.specs.declared.pos.Pos.{Pos};
 ghost use Rattle.lines.specs.Turned.{position_cmp};
+ghost use Rattle.recutting.specs.Parts.{of_side};
+ghost use Rattle.std.specs.Option.{option_map};
+ghost use Rattle.std.specs.Prelude.{◌≡◌, ◌++◌, List, IfOk, OnOk, slice_get};
 ghost use Rattle.theory.specs.ArcNumbers.{StitchTo};
 ghost use Rattle.theory.specs.Geometry.{Geometry, IsSound, IsLineOf, IsRingOf, JunctionOf};
 ghost use Rattle.theory.specs.Refinement.{IsPartOf, IsRefinementOf, pieces_of_used, replaced, turned_used};
 ghost use Rattle.theory.specs.Topology.{IsRingList};
-ghost use Rattle.recutting.specs.Parts.{of_side};
 
 use crate::piece_lists::PieceLists;
 use crate::replacing::add_pieces;

@@ -1,7 +1,7 @@
 //! Canonical texts.
-ghost use Rattle.std.specs.Prelude.{◌≡◌, ◌<◌, ◌^◌, IfOk, length};
 ghost use Rattle.shapes.specs.Fitting.{MapFits};
 ghost use Rattle.shapes.specs.Maps.{Layers};
+ghost use Rattle.std.specs.Prelude.{◌≡◌, ◌<◌, ◌^◌, IfOk, length};
 ghost use Rattle.topo.specs.OfMap.{IsOf};
 ghost use Rattle.topo_io.specs.Canon.{canon};
 ghost use Rattle.topo_io.specs.Means.{Means};

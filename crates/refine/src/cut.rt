@@ -1,20 +1,20 @@
 //! The join of two topologies: their arcs are cut again, their geometries follow the pieces, and
 //! the sorted layers and geometries of both are merged in one pass. The join of two shards, each of
 //! topologies whose sizes are far apart: those are joined whose sizes come near each other.
-ghost use Rattle.std.specs.Prelude.{◌≡◌, ◌↔◌, ◌<◌, ◌^◌, ◌∷◌, ◌++◌, length, IfOk, IfSome, IsErrOf, IsPermutation, OnOk, Option, None, true, take, drop, map as map_list};
 ghost use Rattle.grid.specs.Place.{Transform};
+ghost use Rattle.layer_laws.specs.CutLayers.{IsKnownOfFirst, before, behind, layer_cmp, layer_recut, layers_as_one, layers_merged, tied, to_first, with_other};
+ghost use Rattle.layer_laws.specs.Cuts as cuts;
+ghost use Rattle.layer_laws.specs.ItsMap.{ItsMap, ItsMap-prop};
+ghost use Rattle.merging.specs.declared.fault.JoinFault.TheVariants.{OtherGrid};
+ghost use Rattle.recutting.specs.Parts.{of_side};
+ghost use Rattle.refine.specs.OnGrid.{AreOn, united_map};
 ghost use Rattle.shapes.specs.Maps.{Layers};
 ghost use Rattle.shapes.specs.Union.{union};
-ghost use Rattle.recutting.specs.Parts.{of_side};
+ghost use Rattle.std.specs.Prelude.{◌≡◌, ◌↔◌, ◌<◌, ◌^◌, ◌∷◌, ◌++◌, length, IfOk, IfSome, IsErrOf, IsPermutation, OnOk, Option, None, true, take, drop, map as map_list};
 ghost use Rattle.topo.specs.Features.{HasFeature, IsKnownOf};
-ghost use Rattle.topo.specs.declared.geom.Geom.{Geom};
-ghost use Rattle.topo.specs.OfMap.{IsOf, IsOfSomeMap};
-ghost use Rattle.layer_laws.specs.ItsMap.{ItsMap, ItsMap-prop};
-ghost use Rattle.layer_laws.specs.Cuts as cuts;
 ghost use Rattle.topo.specs.GeometryOrder.{HaveFeatures, LayersHaveFeatures, geometry_cmp};
-ghost use Rattle.layer_laws.specs.CutLayers.{IsKnownOfFirst, before, behind, layer_cmp, layer_recut, layers_as_one, layers_merged, tied, to_first, with_other};
-ghost use Rattle.merging.specs.declared.fault.JoinFault.TheVariants.{OtherGrid};
-ghost use Rattle.refine.specs.OnGrid.{AreOn, united_map};
+ghost use Rattle.topo.specs.OfMap.{IsOf, IsOfSomeMap};
+ghost use Rattle.topo.specs.declared.geom.Geom.{Geom};
 
 use crate::fault::JoinFault;
 use chains::table::{ArcRef, ArcTable};
@@ -442,8 +442,8 @@ pub struct Cut {
 }
 
 impl Model for Cut {
-    ghost use Rattle.std.specs.Prelude.{◌∷◌};
     ghost use Rattle.refine.specs.OnGrid.{AreOn, MapOnGrid, map_on_grid_code, united_map};
+    ghost use Rattle.std.specs.Prelude.{◌∷◌};
 
     ghost Value = { MapOnGrid };
 

@@ -1,8 +1,8 @@
 //! A shard that keeps topologies.
-ghost use Rattle.std.specs.Prelude.{◌≡◌, IfOk, IfErr};
 ghost use Rattle.faults.specs.Fault.{IsWant};
-ghost use Rattle.shapes.specs.Union.{union};
 ghost use Rattle.merging.specs.Laws.{union-Commutes, union-Associates, union-IsIdempotent};
+ghost use Rattle.shapes.specs.Union.{union};
+ghost use Rattle.std.specs.Prelude.{◌≡◌, IfOk, IfErr};
 
 use crate::canonical::text_of_kept;
 pub use crate::cut::Cut;

@@ -1,11 +1,11 @@
 //! Merging texts of topologies.
-ghost use Rattle.std.specs.Prelude.{◌≡◌, ℕ, IfOk, IfErr, Some, Err, length};
-ghost use Rattle.plans.specs.Leaves.{leaves, first_outside};
 ghost use Rattle.merging.specs.Merge.{bytes_of, IsMergeFault, IsMergeOf, MeansUnion};
+ghost use Rattle.merging.specs.declared.fault.MergeFault.TheVariants.{BadPlan};
+ghost use Rattle.plans.specs.Leaves.{leaves, first_outside};
 ghost use Rattle.refine.specs.Merged.{IsTopologyOfUnion};
+ghost use Rattle.std.specs.Prelude.{◌≡◌, ℕ, IfOk, IfErr, Some, Err, length};
 ghost use Rattle.topo.specs.OfMap.{seen_parts};
 ghost use Rattle.topo_io.specs.TopologyText.{topology_text};
-ghost use Rattle.merging.specs.declared.fault.MergeFault.TheVariants.{BadPlan};
 
 use crate::cut_shard::Cut;
 use crate::fault::MergeFault;

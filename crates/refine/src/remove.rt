@@ -1,23 +1,23 @@
 //! Taking features out of a topology: the geometries that stay keep their arcs, which are joined again
 //! where no junction is left. A geometry is told by its id and properties and by a walk along its arcs.
-ghost use Rattle.std.specs.Prelude.{◌≡◌, ◌<◌, ◌≤◌, ◌^◌, ◌++◌, ◌↔◌, length, false, true, replicate, IfOk, IsNone, OnOk, map as map_list, set as with_mark, slice_get};
-ghost use Rattle.std.specs.Option.{option_map};
-ghost use Rattle.lines.specs.Turned.{position_cmp};
-ghost use Rattle.shapes.specs.Maps.{Layers, features_at, set_of};
-ghost use Rattle.shapes.specs.Sets as set;
-ghost use Rattle.theory.specs.Lists.{gathered, joined};
-ghost use Rattle.theory.specs.Removing as joining;
-ghost use Rattle.rejoining.specs.Starts.{starts_by};
-ghost use Rattle.topo.specs.Features.{HasFeature, IsKnownOf};
-ghost use Rattle.topo.specs.OfMap.{IsOf};
-ghost use Rattle.topo.specs.GeometryOrder.{HaveFeatures};
 ghost use Rattle.layer_laws.specs.Leaving.{from_on, is_first, layer_less, order_to, others};
-ghost use Rattle.refine.specs.Lent.{all_lent, lent};
 ghost use Rattle.layer_laws.specs.LeftLists as left_lists;
 ghost use Rattle.layer_laws.specs.LeftLists.{layers_refs, marked_by};
 ghost use Rattle.layer_laws.specs.Less as rejoined;
 ghost use Rattle.layer_laws.specs.Less.{less};
+ghost use Rattle.lines.specs.Turned.{position_cmp};
+ghost use Rattle.refine.specs.Lent.{all_lent, lent};
 ghost use Rattle.refine.specs.Removals.{IsWithoutBy};
+ghost use Rattle.rejoining.specs.Starts.{starts_by};
+ghost use Rattle.shapes.specs.Maps.{Layers, features_at, set_of};
+ghost use Rattle.shapes.specs.Sets as set;
+ghost use Rattle.std.specs.Option.{option_map};
+ghost use Rattle.std.specs.Prelude.{◌≡◌, ◌<◌, ◌≤◌, ◌^◌, ◌++◌, ◌↔◌, length, false, true, replicate, IfOk, IsNone, OnOk, map as map_list, set as with_mark, slice_get};
+ghost use Rattle.theory.specs.Lists.{gathered, joined};
+ghost use Rattle.theory.specs.Removing as joining;
+ghost use Rattle.topo.specs.Features.{HasFeature, IsKnownOf};
+ghost use Rattle.topo.specs.GeometryOrder.{HaveFeatures};
+ghost use Rattle.topo.specs.OfMap.{IsOf};
 
 use crate::stitches::stitches_to;
 use chains::table::{ArcRef, ArcTable};
@@ -43,8 +43,8 @@ pub struct Removal {
 }
 
 impl Model for Removal {
-    ghost use Rattle.std.specs.Prelude.{◌≡◌, length};
     ghost use Rattle.refine.specs.Removals.{RemovalParts};
+    ghost use Rattle.std.specs.Prelude.{◌≡◌, length};
 
     ghost Value = { RemovalParts };
 

@@ -1,13 +1,13 @@
 //! Sessions: one topology that is edited over a long day.
-ghost use Rattle.std.specs.Prelude.{◌≡◌, ◌<◌, ◌^◌, ◌↔◌, All, IfErr, IfOk, IsErrOf, OnErr, OnOk, length, take};
-ghost use Rattle.std.specs.FinMap as map;
+ghost use Rattle.merging.specs.declared.fault.JoinFault.TheVariants.{OtherGrid};
+ghost use Rattle.refine.specs.Edits.{AreEditedTo, AreRefusedAt, IsEditedTo, IsOnGrid};
 ghost use Rattle.shapes.specs.Fitting.{MapFits};
 ghost use Rattle.shapes.specs.Maps.{Layers};
+ghost use Rattle.std.specs.FinMap as map;
+ghost use Rattle.std.specs.Prelude.{◌≡◌, ◌<◌, ◌^◌, ◌↔◌, All, IfErr, IfOk, IsErrOf, OnErr, OnOk, length, take};
 ghost use Rattle.topo.specs.OfMap.{IsOf};
 ghost use Rattle.topo_io.specs.Canon.{canon};
 ghost use Rattle.topo_io.specs.Means.{Means};
-ghost use Rattle.refine.specs.Edits.{AreEditedTo, AreRefusedAt, IsEditedTo, IsOnGrid};
-ghost use Rattle.merging.specs.declared.fault.JoinFault.TheVariants.{OtherGrid};
 
 use crate::canonical::text_of_kept;
 use crate::cut::{Kept, joined};

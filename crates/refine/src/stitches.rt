@@ -1,10 +1,10 @@
 //! Whether a geometry stitches to a feature that is given, told by ways along the arcs: nothing is put
 //! together, and no memory is taken.
-ghost use Rattle.std.specs.Prelude.{◌≡◌, ◌<◌, ◌+◌, ◌++◌, ◌↔◌, List, false, true, length, drop, take};
+ghost use Rattle.chains.specs.Table.{same_list};
 ghost use Rattle.grid.specs.declared.pos.Pos.{Pos as place};
 ghost use Rattle.lines.specs.declared.ring.Ring as the_ring;
 ghost use Rattle.shapes.specs.declared.shape.Shape as shapes;
-ghost use Rattle.chains.specs.Table.{same_list};
+ghost use Rattle.std.specs.Prelude.{◌≡◌, ◌<◌, ◌+◌, ◌++◌, ◌↔◌, List, false, true, length, drop, take};
 ghost use Rattle.theory.specs.Lists.{Pairwise};
 ghost use Rattle.topo.specs.Features.{IsLineOf, IsRingOf, IsShapeOf};
 ghost use Rattle.topo.specs.Walked.{walked};

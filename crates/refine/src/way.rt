@@ -1,9 +1,9 @@
 //! What is left of a way along used arcs. Positions are compared with an arc at a time, so that nothing is
 //! asked at each position but whether it is the next.
-ghost use Rattle.std.specs.Prelude.{◌≡◌, ◌≤◌, ◌++◌, ◌↔◌, [], List, false, true, length};
 ghost use Rattle.grid.specs.declared.pos.Pos.{Pos as place};
-ghost use Rattle.topo.specs.Walked.{walked};
 ghost use Rattle.refine.specs.Ways.{way_left};
+ghost use Rattle.std.specs.Prelude.{◌≡◌, ◌≤◌, ◌++◌, ◌↔◌, [], List, false, true, length};
+ghost use Rattle.topo.specs.Walked.{walked};
 
 use chains::table::{ArcRef, ArcTable};
 use grid::Pos;

@@ -1,7 +1,7 @@
 //! A shard that keeps its map.
-ghost use Rattle.std.specs.Prelude.{◌≡◌};
-ghost use Rattle.shapes.specs.Union.{union};
 ghost use Rattle.merging.specs.Laws.{union-Commutes, union-Associates, union-IsIdempotent};
+ghost use Rattle.shapes.specs.Union.{union};
+ghost use Rattle.std.specs.Prelude.{◌≡◌};
 
 use crate::canonical::canonical_text;
 use crate::fault::JoinFault;

@@ -1,8 +1,8 @@
 //! What is noted of used arcs, by the numbers of the arcs.
-ghost use Rattle.std.specs.Prelude.{◌≡◌, ◌<◌, ℕ, IfOk, OnOk, None, Some, cond, length};
-ghost use Rattle.std.specs.Ordering.{is_eq, nat_cmp};
-ghost use Rattle.theory.specs.ArcNumbers as numbers;
 ghost use Rattle.rejoining.specs.ByUse.{noted_at, noted_of, with_noted};
+ghost use Rattle.std.specs.Ordering.{is_eq, nat_cmp};
+ghost use Rattle.std.specs.Prelude.{◌≡◌, ◌<◌, ℕ, IfOk, OnOk, None, Some, cond, length};
+ghost use Rattle.theory.specs.ArcNumbers as numbers;
 
 use chains::table::ArcRef;
 use std::alloc::{AllocError, Global};

@@ -1,6 +1,6 @@
 //! The numbers of the arcs that stay.
-ghost use Rattle.std.specs.Prelude.{◌≡◌, IfOk};
 ghost use Rattle.rejoining.specs.Choosing.{kept_numbers};
+ghost use Rattle.std.specs.Prelude.{◌≡◌, IfOk};
 
 use std::alloc::{AllocError, Global};
 

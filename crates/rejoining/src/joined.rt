@@ -1,11 +1,11 @@
 //! What runs are joined to: for each run a new arc, and its old ones in order along it.
-ghost use Rattle.std.specs.Prelude.{◌≡◌, ◌++◌, ◌∷◌, [], IfOk, OnOk, map as map_list, replicate, slice_set};
-ghost use Rattle.std.specs.Ordering.{is_lt};
-ghost use Rattle.theory.specs.ArcNumbers.{backwards};
 ghost use Rattle.lines.specs.Turned.{position_cmp};
 ghost use Rattle.rejoining.specs.Joined as spec;
 ghost use Rattle.rejoining.specs.Joined.{chain_by, from_least, least_vertex, list_by, list_of_run, piece_of_run, positions_along, put_all, run_along};
 ghost use Rattle.rejoining.specs.Meeting.{partner_in};
+ghost use Rattle.std.specs.Ordering.{is_lt};
+ghost use Rattle.std.specs.Prelude.{◌≡◌, ◌++◌, ◌∷◌, [], IfOk, OnOk, map as map_list, replicate, slice_set};
+ghost use Rattle.theory.specs.ArcNumbers.{backwards};
 
 use crate::meeting::Meeting;
 use crate::walking::turned_back;

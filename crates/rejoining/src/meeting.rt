@@ -1,12 +1,12 @@
 //! The ends of arcs that meet at a vertex, and which arc goes on from another.
-ghost use Rattle.std.specs.Prelude.{◌≡◌, ◌≤◌, ◌++◌, IfOk, OnOk, length, reverse, slice_get};
 ghost use Rattle.grid.specs.declared.pos.Pos.{Pos};
-ghost use Rattle.lines.specs.Pairs.{position_eq};
-ghost use Rattle.theory.specs.ArcNumbers as numbers;
-ghost use Rattle.theory.specs.Lists.{Distinct, Has};
 ghost use Rattle.lines.specs.ByVertex.{count_at};
+ghost use Rattle.lines.specs.Pairs.{position_eq};
 ghost use Rattle.rejoining.specs.ByUse.{noted_of};
 ghost use Rattle.rejoining.specs.Meeting.{AreGrouped, Begins, IsTold, all_ends, begin_at, end_at, end_if, ends_from, paired, partner_in, used_at, vertex_of, with_pair};
+ghost use Rattle.std.specs.Prelude.{◌≡◌, ◌≤◌, ◌++◌, IfOk, OnOk, length, reverse, slice_get};
+ghost use Rattle.theory.specs.ArcNumbers as numbers;
+ghost use Rattle.theory.specs.Lists.{Distinct, Has};
 
 use crate::by_use::ByUse;
 use chains::table::{ArcRef, ArcTable};

@@ -1,15 +1,15 @@
 //! What is left of a table of arcs.
-ghost use Rattle.std.specs.Prelude.{◌≡◌, ◌≤◌, ◌++◌, ◌∷◌, List, IfOk, length, slice_get};
-ghost use Rattle.std.specs.Option.{option_map};
 ghost use Rattle.grid.specs.declared.pos.Pos.{Pos};
 ghost use Rattle.lines.specs.Turned.{position_cmp};
+ghost use Rattle.rejoining.specs.Starts.{first_place, starts_by};
+ghost use Rattle.std.specs.Option.{option_map};
+ghost use Rattle.std.specs.Prelude.{◌≡◌, ◌≤◌, ◌++◌, ◌∷◌, List, IfOk, length, slice_get};
 ghost use Rattle.theory.specs.ArcNumbers as numbers;
 ghost use Rattle.theory.specs.ArcNumbers.{StitchTo};
 ghost use Rattle.theory.specs.Geometry.{Geometry, IsSound, IsLineOf, IsRingOf, JunctionOf};
 ghost use Rattle.theory.specs.Refinement.{IsPartOf, IsRefinementOf};
 ghost use Rattle.theory.specs.Removing.{before_start, from_start, rejoined, ring_rejoined};
 ghost use Rattle.theory.specs.Topology.{IsRingList};
-ghost use Rattle.rejoining.specs.Starts.{first_place, starts_by};
 
 use crate::start_table::StartTable;
 use chains::table::{ArcRef, ArcTable};

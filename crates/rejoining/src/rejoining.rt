@@ -1,9 +1,9 @@
 //! Joining the arcs that are left of a table. Only the ends of arcs are looked at: they tell which arc
 //! goes on from another, and walks along these give the runs that the new arcs are joined of.
-ghost use Rattle.std.specs.Prelude.{◌≡◌, IfOk, length};
 ghost use Rattle.grid.specs.declared.pos.Pos.{Pos};
-ghost use Rattle.theory.specs.Geometry.{Geometry};
 ghost use Rattle.rejoining.specs.Rejoining.{IsLeftBy, IsRejoinedOf};
+ghost use Rattle.std.specs.Prelude.{◌≡◌, IfOk, length};
+ghost use Rattle.theory.specs.Geometry.{Geometry};
 
 use crate::choosing::numbers_of;
 use crate::joined::{Joined, by_numbers, joined_of};

@@ -1,9 +1,9 @@
 //! Which new arc begins with which old one.
-ghost use Rattle.std.specs.Prelude.{◌≡◌, IfOk, OnOk, true, false};
+ghost use Rattle.rejoining.specs.Starts.{AreNotedIn, noted_start, starts_in, with_head, with_start};
 ghost use Rattle.std.specs.Option.{option_map};
+ghost use Rattle.std.specs.Prelude.{◌≡◌, IfOk, OnOk, true, false};
 ghost use Rattle.theory.specs.ArcNumbers as numbers;
 ghost use Rattle.theory.specs.ArcNumbers.{backwards};
-ghost use Rattle.rejoining.specs.Starts.{AreNotedIn, noted_start, starts_in, with_head, with_start};
 
 use crate::by_use::ByUse;
 use crate::walking::turned_back;

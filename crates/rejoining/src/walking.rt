@@ -1,9 +1,9 @@
 //! Walks along arcs that go on from one another.
+ghost use Rattle.rejoining.specs.Meeting.{partner_in};
+ghost use Rattle.rejoining.specs.Walks.{Adds, AddsBegun, AddsSingle, ArePaired, AreRuns, AreWalked, EndsGone, Goes, GoesOn, Walk, count_left, is_left, some_one, without};
 ghost use Rattle.std.specs.Prelude.{◌≡◌, ◌≤◌, ◌+◌, IfOk, OnOk, List, Bool};
 ghost use Rattle.theory.specs.ArcNumbers as numbers;
 ghost use Rattle.theory.specs.ArcNumbers.{flipped};
-ghost use Rattle.rejoining.specs.Meeting.{partner_in};
-ghost use Rattle.rejoining.specs.Walks.{Adds, AddsBegun, AddsSingle, ArePaired, AreRuns, AreWalked, EndsGone, Goes, GoesOn, Walk, count_left, is_left, some_one, without};
 
 use crate::meeting::Meeting;
 use chains::table::ArcRef;

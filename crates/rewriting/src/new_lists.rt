@@ -1,6 +1,6 @@
 //! How lists of used arcs become lists of other arcs.
-ghost use Rattle.std.specs.Prelude.{◌≡◌, IfOk};
 ghost use Rattle.rewriting.specs.Rewritten.{ListRule};
+ghost use Rattle.std.specs.Prelude.{◌≡◌, IfOk};
 
 use chains::table::ArcRef;
 use faults::OutOfMemory;

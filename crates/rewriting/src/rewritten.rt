@@ -1,7 +1,7 @@
 //! Geometries and layers by their new lists. Ids, properties, points, names and the order stay.
-ghost use Rattle.std.specs.Prelude.{◌≡◌, IfOk, map as map_list};
 ghost use Rattle.rewriting.specs.Rewritten as rewritten;
 ghost use Rattle.rewriting.specs.Rules.{rule_for};
+ghost use Rattle.std.specs.Prelude.{◌≡◌, IfOk, map as map_list};
 
 use crate::new_lists::NewLists;
 use chains::table::ArcRef;

@@ -1,9 +1,9 @@
 //! Whether all positions fit a grid.
-ghost use Rattle.std.specs.Prelude.{◌↔◌, IsTrue};
-ghost use Rattle.std.specs.List.{AllByRecursion};
-ghost use Rattle.grid.specs.Place.{Transform};
 ghost use Rattle.grid.specs.Fits.{Fits};
+ghost use Rattle.grid.specs.Place.{Transform};
 ghost use Rattle.lines.specs.Seen.{positions_of, vertices_of};
+ghost use Rattle.std.specs.List.{AllByRecursion};
+ghost use Rattle.std.specs.Prelude.{◌↔◌, IsTrue};
 
 use grid::pos::Pos;
 use grid::transform::Grid;

@@ -1,11 +1,11 @@
 //! A layer of a feature map: its name and its set of features.
-ghost use Rattle.std.specs.Prelude.{◌≡◌, OnOk, IfOk, OnErr, IsOkUnless, not, option_map, ◌↔◌, IsTrue};
-ghost use Rattle.std.specs.List.{AllByRecursion};
 ghost use Rattle.shapes.specs.Fitting.{ShapeFits};
+ghost use Rattle.shapes.specs.Inside.{features_if};
+ghost use Rattle.shapes.specs.Maps.{set_of};
 ghost use Rattle.shapes.specs.Sets as set;
 ghost use Rattle.shapes.specs.declared.insert_fault.InsertFault.TheVariants.{OutOfMemory as WantOfMemory};
-ghost use Rattle.shapes.specs.Maps.{set_of};
-ghost use Rattle.shapes.specs.Inside.{features_if};
+ghost use Rattle.std.specs.List.{AllByRecursion};
+ghost use Rattle.std.specs.Prelude.{◌≡◌, OnOk, IfOk, OnErr, IsOkUnless, not, option_map, ◌↔◌, IsTrue};
 
 use crate::feature::Feature;
 use crate::insert_fault::InsertFault;

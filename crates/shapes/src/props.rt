@@ -1,11 +1,11 @@
 //! Properties, kept as their compact text.
-ghost use Rattle.std.specs.Prelude.{◌≡◌, true};
-ghost use Rattle.std.specs.Coded.{Coded-set, coded_bool};
-ghost use Rattle.shapes.specs.Properties.{is_properties, properties_value};
 ghost use Rattle.json.specs.Lex.{tokens};
 ghost use Rattle.json.specs.Token.{tokens_code};
 ghost use Rattle.json.specs.Tree.{json_tokens};
 ghost use Rattle.serde_json.specs.Written.{outline};
+ghost use Rattle.shapes.specs.Properties.{is_properties, properties_value};
+ghost use Rattle.std.specs.Coded.{Coded-set, coded_bool};
+ghost use Rattle.std.specs.Prelude.{◌≡◌, true};
 
 use crate::nesting::{GREATEST_PROPERTY_DEPTH, has_fraction, nests_within};
 use faults::OutOfMemory;
@@ -42,11 +42,11 @@ pub enum PropFault {
 }
 
 impl Props {
-    ghost use Rattle.std.specs.Prelude.{◌≢◌, IfOk, IfErr, None, Some, ◌↔◌, IsTrue, codes};
     ghost use Rattle.serde_json.specs.View.{view};
     ghost use Rattle.serde_json.specs.Written.{compact_text};
     ghost use Rattle.shapes.specs.Parts.{properties_text};
     ghost use Rattle.shapes.specs.PropertyFaults.{property_fault};
+    ghost use Rattle.std.specs.Prelude.{◌≢◌, IfOk, IfErr, None, Some, ◌↔◌, IsTrue, codes};
 
     /// The properties that the value is, or what is wrong with it: first that it is no object,
     /// then a number that is not whole, then its depth.

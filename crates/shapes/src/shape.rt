@@ -49,8 +49,8 @@ pub enum Shape {
 }
 
 impl Shape {
-    ghost use Rattle.std.specs.Prelude.{◌≡◌, ◌↔◌, IfOk, IsTrue};
     ghost use Rattle.shapes.specs.Fitting.{ShapeFits};
+    ghost use Rattle.std.specs.Prelude.{◌≡◌, ◌↔◌, IfOk, IsTrue};
 
     /// An equal shape, or want of memory.
     pub fn copy(&self, alloc: Global) -> Result<Shape, OutOfMemory>

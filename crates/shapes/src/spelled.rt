@@ -1,8 +1,8 @@
 //! A text beside its JSON spelling.
-ghost use Rattle.std.specs.Prelude.{◌≡◌, true};
-ghost use Rattle.std.specs.Coded.{Coded-set, coded_bool};
-ghost use Rattle.std.specs.Str.{is_utf8};
 ghost use Rattle.shapes.specs.Spelling.{spelling_of};
+ghost use Rattle.std.specs.Coded.{Coded-set, coded_bool};
+ghost use Rattle.std.specs.Prelude.{◌≡◌, true};
+ghost use Rattle.std.specs.Str.{is_utf8};
 
 use faults::OutOfMemory;
 use lines::text::Text;
@@ -22,8 +22,8 @@ pub struct Spelled {
 }
 
 impl Spelled {
-    ghost use Rattle.std.specs.Prelude.{IfOk};
     ghost use Rattle.shapes.specs.Parts.{spelled_text};
+    ghost use Rattle.std.specs.Prelude.{IfOk};
 
     /// The text with its spelling, or want of memory.
     pub fn new(alloc: Global, text: &str) -> Result<Spelled, OutOfMemory>

@@ -1,7 +1,7 @@
 //! Two numbers in brackets, put together from the end so that they are one piece.
-ghost use Rattle.std.specs.Prelude.{◌≡◌, ◌<◌, ◌≤◌, ◌+◌, ◌∷◌, ◌++◌, drop, length};
-ghost use Rattle.std.specs.Fmt.{signed_decimal};
 ghost use Rattle.sinks.specs.Texts.{pair_text};
+ghost use Rattle.std.specs.Fmt.{signed_decimal};
+ghost use Rattle.std.specs.Prelude.{◌≡◌, ◌<◌, ◌≤◌, ◌+◌, ◌∷◌, ◌++◌, drop, length};
 
 use itoa::write_digits;
 

@@ -1,12 +1,12 @@
 //! Values that have a text, and texts put together of texts. A text is written piece by piece
 //! through `put`, with no memory.
-ghost use Rattle.std.specs.Prelude.{◌≡◌, ℕ, ℤ, ◌<◌, ◌≤◌, ◌++◌, length, List, [], codes, None, OnErr, OnOk};
-ghost use Rattle.std.specs.Fmt.{signed_decimal};
-ghost use Rattle.std.specs.Iterator.{IsFinite, YieldsThen};
 ghost use Rattle.sinks.specs.Seen.{Seen};
-ghost use Rattle.sinks.specs.Writes.{TookAll, TookPart};
 ghost use Rattle.sinks.specs.Stops.{StopsAtValue, StopsIn, WritesAll};
 ghost use Rattle.sinks.specs.Texts.{bracketed, joined, after_comma, after_commas, framed, list_text, option_text, pair_text};
+ghost use Rattle.sinks.specs.Writes.{TookAll, TookPart};
+ghost use Rattle.std.specs.Fmt.{signed_decimal};
+ghost use Rattle.std.specs.Iterator.{IsFinite, YieldsThen};
+ghost use Rattle.std.specs.Prelude.{◌≡◌, ℕ, ℤ, ◌<◌, ◌≤◌, ◌++◌, length, List, [], codes, None, OnErr, OnOk};
 
 use crate::pair::{LONGEST_PAIR, write_pair};
 use crate::{Sink, WriteFault, put};

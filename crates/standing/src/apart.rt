@@ -1,14 +1,14 @@
 //! Arcs as a text has them, checked: in order, each before its own reverse, and no vertex inside one at
 //! another place.
-ghost use Rattle.std.specs.Prelude.{◌≡◌, ◌↔◌, ◌++◌, cond, slice_get, true, IfOk, OnOk};
 ghost use Rattle.grid.specs.declared.pos.Pos.{Pos};
 ghost use Rattle.lines.specs.Reading as list;
 ghost use Rattle.lines.specs.Turned.{position_cmp};
+ghost use Rattle.standing.specs.Apart as spec;
+ghost use Rattle.standing.specs.Apart.{AreInOrder, IsApart, arc_inside, inside_if};
+ghost use Rattle.std.specs.Prelude.{◌≡◌, ◌↔◌, ◌++◌, cond, slice_get, true, IfOk, OnOk};
 ghost use Rattle.theory.specs.Lists.{gathered};
 ghost use Rattle.theory.specs.Refinement.{unclosed};
 ghost use Rattle.theory.specs.Standing.{inner_of};
-ghost use Rattle.standing.specs.Apart as spec;
-ghost use Rattle.standing.specs.Apart.{AreInOrder, IsApart, arc_inside, inside_if};
 
 use crate::elsewhere::elsewhere_too;
 use crate::ends::{EndsAre, each_ends};

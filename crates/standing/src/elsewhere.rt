@@ -1,9 +1,9 @@
 //! The vertices inside arcs that may stand at another place of the arcs, too. Bits tell of most that they
 //! don't, so that little is left to sort.
-ghost use Rattle.std.specs.Prelude.{◌≡◌, IfOk};
 ghost use Rattle.lines.specs.Bits.{may_hold};
-ghost use Rattle.theory.specs.TopologyFunction.{keep};
 ghost use Rattle.standing.specs.Elsewhere.{HasTwice, KeepsElsewhere};
+ghost use Rattle.std.specs.Prelude.{◌≡◌, IfOk};
+ghost use Rattle.theory.specs.TopologyFunction.{keep};
 
 use crate::meeting::all_ends;
 use chains::table::ArcTable;

@@ -1,9 +1,9 @@
 //! Vertices that are looked up in a sorted list: the ends of all arcs.
-ghost use Rattle.std.specs.Prelude.{◌≡◌, slice_get};
-ghost use Rattle.std.specs.List.Sorted.{IsSorted};
-ghost use Rattle.lines.specs.Turned.{position_cmp};
 ghost use Rattle.chains.specs.Among.{among};
+ghost use Rattle.lines.specs.Turned.{position_cmp};
 ghost use Rattle.standing.specs.Ends as spec;
+ghost use Rattle.std.specs.List.Sorted.{IsSorted};
+ghost use Rattle.std.specs.Prelude.{◌≡◌, slice_get};
 
 use chains::table::ArcTable;
 use grid::pos::Pos;

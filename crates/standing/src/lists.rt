@@ -1,11 +1,11 @@
 //! Lists of used arcs: which stand as a line's, and which as a ring's.
-ghost use Rattle.std.specs.Prelude.{◌≡◌, ◌↔◌, [], ◌∷◌, length, true, IfSome, IsSome};
-ghost use Rattle.lines.specs.Turned.{position_cmp};
 ghost use Rattle.chains.specs.OfArcs.{table_as_map};
-ghost use Rattle.standing.specs.Lists.{LineStands, RingStands};
+ghost use Rattle.lines.specs.Turned.{position_cmp};
 ghost use Rattle.standing.specs.Lists as spec;
+ghost use Rattle.standing.specs.Lists.{LineStands, RingStands};
 ghost use Rattle.standing.specs.Marks.{marks_set};
 ghost use Rattle.standing.specs.Meeting.{line_ends};
+ghost use Rattle.std.specs.Prelude.{◌≡◌, ◌↔◌, [], ◌∷◌, length, true, IfSome, IsSome};
 
 use crate::marks::ArcsUsed;
 use crate::runs::run;

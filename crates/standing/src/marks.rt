@@ -1,7 +1,7 @@
 //! Which arcs lists use.
-ghost use Rattle.std.specs.Prelude.{◌≡◌, IfOk, false, true, get_or, length, not, replicate, set};
-ghost use Rattle.std.specs.List.{list_all};
 ghost use Rattle.standing.specs.Marks.{each_unmarked, marks_set};
+ghost use Rattle.std.specs.List.{list_all};
+ghost use Rattle.std.specs.Prelude.{◌≡◌, IfOk, false, true, get_or, length, not, replicate, set};
 
 use chains::table::ArcRef;
 use faults::OutOfMemory;

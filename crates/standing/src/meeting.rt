@@ -1,10 +1,10 @@
 //! Whether each end of an arc is an end of a line, or meets two others.
-ghost use Rattle.std.specs.Prelude.{◌≡◌, ◌↔◌, ◌++◌, true, slice_get, IfOk, OnOk};
-ghost use Rattle.theory.specs.Lists.{gathered, last_of};
 ghost use Rattle.chains.specs.OfArcs.{table_as_map};
 ghost use Rattle.standing.specs.Meeting as spec;
 ghost use Rattle.standing.specs.Meeting.{EndsMeet, both_ends, both_if, line_ends};
 ghost use Rattle.standing.specs.Runs as list;
+ghost use Rattle.std.specs.Prelude.{◌≡◌, ◌↔◌, ◌++◌, true, slice_get, IfOk, OnOk};
+ghost use Rattle.theory.specs.Lists.{gathered, last_of};
 
 use crate::ends::{EndsAre, each_ends};
 use crate::runs::{ends_in, last_from};

@@ -1,9 +1,9 @@
 //! Lists of used arcs, judged by the ends of the arcs alone.
-ghost use Rattle.std.specs.Prelude.{◌≡◌, IfNone, IfSome, [], slice_get};
 ghost use Rattle.grid.specs.declared.pos.Pos.{Pos};
+ghost use Rattle.standing.specs.Runs as spec;
+ghost use Rattle.std.specs.Prelude.{◌≡◌, IfNone, IfSome, [], slice_get};
 ghost use Rattle.theory.specs.Lists.{last_of};
 ghost use Rattle.theory.specs.Standing.{Runs};
-ghost use Rattle.standing.specs.Runs as spec;
 
 use chains::table::{ArcRef, ArcTable};
 use grid::pos::Pos;

@@ -1,15 +1,15 @@
 //! Which arcs are free loops: closed arcs at whose seam nothing else ends.
-ghost use Rattle.std.specs.Prelude.{◌≡◌, ◌++◌, IfOk, OnOk, map as map_list};
-ghost use Rattle.std.specs.List.Sorted.{IsSorted};
-ghost use Rattle.lines.specs.Reading as list;
+ghost use Rattle.chains.specs.Table.{IsTableOf};
 ghost use Rattle.grid.specs.declared.pos.Pos.{Pos};
+ghost use Rattle.lines.specs.Reading as list;
 ghost use Rattle.lines.specs.Turned.{position_cmp};
+ghost use Rattle.standing.specs.Apart.{table_read};
+ghost use Rattle.standing.specs.Seams.{AreLineEnds, ends_once, goes_free, stands_once};
+ghost use Rattle.std.specs.List.Sorted.{IsSorted};
+ghost use Rattle.std.specs.Prelude.{◌≡◌, ◌++◌, IfOk, OnOk, map as map_list};
 ghost use Rattle.theory.specs.Arcs.{AreArcsOf};
 ghost use Rattle.theory.specs.Geometry.{Geometry, IsSound};
 ghost use Rattle.theory.specs.Lists.{gathered};
-ghost use Rattle.chains.specs.Table.{IsTableOf};
-ghost use Rattle.standing.specs.Apart.{table_read};
-ghost use Rattle.standing.specs.Seams.{AreLineEnds, ends_once, goes_free, stands_once};
 
 use crate::apart::is_closed;
 use crate::ends::has;

@@ -1,6 +1,6 @@
 //! Whether a list of used arcs begins with the one that starts least.
-ghost use Rattle.std.specs.Prelude.{◌≡◌, slice_get, reverse};
 ghost use Rattle.standing.specs.Starts as spec;
+ghost use Rattle.std.specs.Prelude.{◌≡◌, slice_get, reverse};
 
 use chains::table::{ArcRef, ArcTable};
 use grid::pos::Pos;

@@ -1,6 +1,6 @@
 //! The arcs of a text, whether they are in a table yet or not.
-ghost use Rattle.std.specs.Prelude.{◌≡◌, length, slice_get};
 ghost use Rattle.std.specs.Option.{option_map};
+ghost use Rattle.std.specs.Prelude.{◌≡◌, length, slice_get};
 
 use chains::table::ArcTable;
 use grid::pos::Pos;
@@ -22,8 +22,8 @@ pub struct TextArcs {
 }
 
 impl Model for TextArcs {
-    ghost use Rattle.std.specs.Prelude.{List};
     ghost use Rattle.grid.specs.declared.pos.Pos.{Pos};
+    ghost use Rattle.std.specs.Prelude.{List};
     ghost use Rattle.taking.specs.Arcs.{arcs_held};
 
     ghost Value = { List (List Pos) };

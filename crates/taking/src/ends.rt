@@ -1,8 +1,8 @@
 //! Where the lines of layers begin and end, by the arcs as a text has them.
-ghost use Rattle.std.specs.Prelude.{◌≡◌, ◌++◌, IfOk, OnOk};
 ghost use Rattle.grid.specs.declared.pos.Pos.{Pos};
 ghost use Rattle.standing.specs.Meeting as spec;
 ghost use Rattle.standing.specs.Seams.{AreLineEnds};
+ghost use Rattle.std.specs.Prelude.{◌≡◌, ◌++◌, IfOk, OnOk};
 ghost use Rattle.taking.specs.Ends.{LinesStitch};
 ghost use Rattle.taking.specs.Lists.{body_lines, layers_lines, lines_of};
 ghost use Rattle.theory.specs.Geometry.{Geometry};

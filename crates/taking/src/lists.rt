@@ -1,9 +1,9 @@
 //! Whether the lists of used arcs of layers stand over a table of arcs.
-ghost use Rattle.std.specs.Prelude.{◌≡◌, ◌↔◌, [], ◌∷◌, length, true, IfOk};
 ghost use Rattle.standing.specs.Stands.{ListsStand};
-ghost use Rattle.theory.specs.Lists.{joined};
+ghost use Rattle.std.specs.Prelude.{◌≡◌, ◌↔◌, [], ◌∷◌, length, true, IfOk};
 ghost use Rattle.taking.specs.Added.{AreAdded};
 ghost use Rattle.taking.specs.Lists.{body_lines, body_rings, layer_lines, layer_rings, layers_lines, layers_rings, lines_of, rings_of};
+ghost use Rattle.theory.specs.Lists.{joined};
 
 use chains::table::{ArcRef, ArcTable};
 use faults::OutOfMemory;

@@ -1,7 +1,7 @@
 //! Whether layers are in order: their names, and in each the features of its geometries.
 ghost use Rattle.std.specs.Prelude.{◌≡◌, ◌↔◌, true, IfOk};
-ghost use Rattle.topo.specs.GeometryOrder.{HaveFeatures, LayersHaveFeatures, geometry_cmp};
 ghost use Rattle.taking.specs.Order.{InOrder, each_rises, name_cmp, rises};
+ghost use Rattle.topo.specs.GeometryOrder.{HaveFeatures, LayersHaveFeatures, geometry_cmp};
 
 use chains::table::ArcTable;
 use faults::OutOfMemory;

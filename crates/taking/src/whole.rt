@@ -1,13 +1,13 @@
 //! The topology of arcs and layers as a text has them.
-ghost use Rattle.std.specs.Prelude.{◌≡◌, ◌↔◌, ◌<◌, ◌^◌, length, true, IfOk};
 ghost use Rattle.lines.specs.Turned.{list_cmp};
-ghost use Rattle.theory.specs.Arcs.{Ascends};
 ghost use Rattle.shapes.specs.Maps.{Layers};
-ghost use Rattle.topo.specs.OfMap.{ArePartsOf, IsOf};
+ghost use Rattle.std.specs.Prelude.{◌≡◌, ◌↔◌, ◌<◌, ◌^◌, length, true, IfOk};
 ghost use Rattle.taking.specs.Laws.{HaveI64};
 ghost use Rattle.taking.specs.Taken.{IfNot, IfWhole, IsWhole};
 ghost use Rattle.taking.specs.Whole as spec;
 ghost use Rattle.taking.specs.Whole.{StandInOrder};
+ghost use Rattle.theory.specs.Arcs.{Ascends};
+ghost use Rattle.topo.specs.OfMap.{ArePartsOf, IsOf};
 
 use crate::arcs::TextArcs;
 use crate::order::in_order;

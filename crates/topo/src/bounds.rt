@@ -1,8 +1,8 @@
 //! The box around positions.
-ghost use Rattle.std.specs.Prelude.{◌≡◌, ◌<◌, ◌^◌, Some, None, ◌++◌, length, map as map_list};
-ghost use Rattle.std.specs.Int.{int_min, int_max};
-ghost use Rattle.theory.specs.Lists.{gathered, joined};
 ghost use Rattle.grid.specs.Place.{IsTransform, Transform, absolute as absolute_number};
+ghost use Rattle.std.specs.Int.{int_min, int_max};
+ghost use Rattle.std.specs.Prelude.{◌≡◌, ◌<◌, ◌^◌, Some, None, ◌++◌, length, map as map_list};
+ghost use Rattle.theory.specs.Lists.{gathered, joined};
 ghost use Rattle.topo.specs.Box.{widened_at, numbers_of, box_by, box_of, AreGridNumbers};
 ghost use Rattle.topo.specs.Kept.{kept_box};
 ghost use Rattle.topo.specs.Points.{arc_at, body_points, geometry_points, layer_points};

@@ -1,10 +1,10 @@
 //! The topology of a map: its lines and rings are cut, all pieces are put into the table of arcs, and
 //! each line and ring becomes the list of the arcs that its pieces are.
-ghost use Rattle.std.specs.Prelude.{◌≡◌, ◌<◌, ◌^◌, IfOk, OnOk, drop, length, map as map_list};
-ghost use Rattle.std.specs.FinMap.{entries};
+ghost use Rattle.chains.specs.Seen.{geometry_of};
 ghost use Rattle.shapes.specs.Maps.{set_of};
 ghost use Rattle.shapes.specs.Sets as set;
-ghost use Rattle.chains.specs.Seen.{geometry_of};
+ghost use Rattle.std.specs.FinMap.{entries};
+ghost use Rattle.std.specs.Prelude.{◌≡◌, ◌<◌, ◌^◌, IfOk, OnOk, drop, length, map as map_list};
 ghost use Rattle.theory.specs.Arcs.{EachSegmentOnce};
 ghost use Rattle.topo.specs.Building.{parts_entry};
 ghost use Rattle.topo.specs.OfMap.{ArePartsOf, IsTopology, seen_parts, the_topology, IsOf};

@@ -1,11 +1,11 @@
 //! The lines and rings of a map, each cut once: all pieces, and how many each line and ring has.
-ghost use Rattle.std.specs.Prelude.{◌≡◌, ◌++◌, IfOk, List, OnOk, map as map_list};
+ghost use Rattle.chains.specs.Pieces.{line_pieces, ring_pieces};
+ghost use Rattle.chains.specs.Seen.{line_of, ring_of, form_of, seen};
+ghost use Rattle.chains.specs.declared.cutting.Piece as the_piece;
 ghost use Rattle.grid.specs.declared.pos.Pos.{Pos};
 ghost use Rattle.shapes.specs.Maps.{set_of};
 ghost use Rattle.shapes.specs.Sets as set;
-ghost use Rattle.chains.specs.Pieces.{line_pieces, ring_pieces};
-ghost use Rattle.chains.specs.declared.cutting.Piece as the_piece;
-ghost use Rattle.chains.specs.Seen.{line_of, ring_of, form_of, seen};
+ghost use Rattle.std.specs.Prelude.{◌≡◌, ◌++◌, IfOk, List, OnOk, map as map_list};
 ghost use Rattle.theory.specs.Lists.{gathered, joined};
 ghost use Rattle.theory.specs.Topology.{forms_of};
 ghost use Rattle.topo.specs.Building.{count_of, form_pieces, feature_pieces, form_counts, feature_counts};

@@ -1,9 +1,9 @@
 //! The map that a topology holds: its features, stitched from the arcs.
-ghost use Rattle.std.specs.Prelude.{◌≡◌, IfOk, List};
 ghost use Rattle.shapes.specs.Maps.{Layers, with_features};
 ghost use Rattle.shapes.specs.Parts.{spelled_text};
 ghost use Rattle.shapes.specs.Sets.{from_list};
 ghost use Rattle.shapes.specs.declared.feature.Feature as features;
+ghost use Rattle.std.specs.Prelude.{◌≡◌, IfOk, List};
 ghost use Rattle.topo.specs.Features.{AreFeaturesOf, IsFeatureOf};
 ghost use Rattle.topo.specs.OfMap.{IsOf};
 

@@ -1,8 +1,8 @@
 //! What is left of an arc, to be read in the direction in which it is used.
-ghost use Rattle.std.specs.Prelude.{◌≡◌, ◌≤◌, ◌↔◌, [], true, drop, length, reverse, take};
-ghost use Rattle.std.specs.Iterator.{YieldsFirstRef, YieldsLastRef};
-ghost use Rattle.lines.specs.Pairs.{position_eq};
 ghost use Rattle.chains.specs.Table.{same_list};
+ghost use Rattle.lines.specs.Pairs.{position_eq};
+ghost use Rattle.std.specs.Iterator.{YieldsFirstRef, YieldsLastRef};
+ghost use Rattle.std.specs.Prelude.{◌≡◌, ◌≤◌, ◌↔◌, [], true, drop, length, reverse, take};
 ghost use Rattle.topo.specs.Walked.{run_of};
 
 use chains::table::{ArcRef, ArcTable};
@@ -47,8 +47,8 @@ pub struct Run<'a> {
 }
 
 impl<'a> Model for Run<'a> {
-    ghost use Rattle.std.specs.Prelude.{List};
     ghost use Rattle.grid.specs.declared.pos.Pos.{Pos};
+    ghost use Rattle.std.specs.Prelude.{List};
 
     ghost Value = { List Pos };
 

@@ -1,13 +1,13 @@
 //! A topology as a value.
-ghost use Rattle.std.specs.Prelude.{◌≡◌, ◌↔◌, ◌<◌, ◌^◌, length, IfOk, IfSome, IfNone, IsTrue, List};
 ghost use Rattle.grid.specs.declared.pos.Pos.{Pos};
-ghost use Rattle.theory.specs.ArcNumbers.{StitchTo};
-ghost use Rattle.theory.specs.Lists.{Has};
 ghost use Rattle.shapes.specs.Maps.{Layers};
 ghost use Rattle.shapes.specs.Parts.{spelled_text};
-ghost use Rattle.topo.specs.Walked.{walked};
-ghost use Rattle.topo.specs.Parts.{LayerParts, IsOfLayerNamed};
+ghost use Rattle.std.specs.Prelude.{◌≡◌, ◌↔◌, ◌<◌, ◌^◌, length, IfOk, IfSome, IfNone, IsTrue, List};
+ghost use Rattle.theory.specs.ArcNumbers.{StitchTo};
+ghost use Rattle.theory.specs.Lists.{Has};
 ghost use Rattle.topo.specs.OfMap.{ArePartsOf, IsOf, IsOfSomeMap, IsTopology, seen_parts, the_topology};
+ghost use Rattle.topo.specs.Parts.{LayerParts, IsOfLayerNamed};
+ghost use Rattle.topo.specs.Walked.{walked};
 
 use crate::bounds::{KeptBox, bounds};
 use crate::geom::Geom;

@@ -1,6 +1,6 @@
 //! Walking along the arcs of a line or ring, from either end, without a copy.
-ghost use Rattle.std.specs.Prelude.{◌≡◌};
 ghost use Rattle.std.specs.Iterator.{YieldsFirstRef, YieldsLastRef, item_count};
+ghost use Rattle.std.specs.Prelude.{◌≡◌};
 ghost use Rattle.topo.specs.Walked.{walked};
 
 use crate::run::Run;
@@ -19,8 +19,8 @@ pub struct Walk<'a> {
 }
 
 impl<'a> Model for Walk<'a> {
-    ghost use Rattle.std.specs.Prelude.{List};
     ghost use Rattle.grid.specs.declared.pos.Pos.{Pos};
+    ghost use Rattle.std.specs.Prelude.{List};
 
     ghost Value = { List Pos };
 

@@ -1,19 +1,19 @@
 //! Topologies in: the grid and the features that arcs stitch to.
-ghost use Rattle.std.specs.Prelude.{◌≡◌, [], ◌++◌, map as map_list, IsTrue, Some, Ok, Err, codes, IfOk, IfErr, OnOk, string_bytes};
-ghost use Rattle.std.specs.FinMap as finite;
-ghost use Rattle.theory.specs.Lists.{Distinct};
+ghost use Rattle.faults.specs.Fault.{IsWant};
+ghost use Rattle.faults.specs.Path.{name as name_turn};
+ghost use Rattle.reading.specs.Fault.{LeastOrWant, under};
+ghost use Rattle.reading.specs.Info.{member_or_null};
+ghost use Rattle.reading.specs.Parts.{named, type_text, member_faults};
 ghost use Rattle.serde_json.specs.Data.{Data};
 ghost use Rattle.serde_json.specs.Find.{get, as_object};
 ghost use Rattle.serde_json.specs.View.{view};
-ghost use Rattle.faults.specs.Path.{name as name_turn};
-ghost use Rattle.faults.specs.Fault.{IsWant};
-ghost use Rattle.reading.specs.Fault.{LeastOrWant, under};
-ghost use Rattle.reading.specs.Parts.{named, type_text, member_faults};
-ghost use Rattle.reading.specs.Info.{member_or_null};
-ghost use Rattle.topo_io.specs.Arcs.{known};
 ghost use Rattle.shapes.specs.Fitting.{MapFits};
-ghost use Rattle.topo_io.specs.Means.{Means};
+ghost use Rattle.std.specs.FinMap as finite;
+ghost use Rattle.std.specs.Prelude.{◌≡◌, [], ◌++◌, map as map_list, IsTrue, Some, Ok, Err, codes, IfOk, IfErr, OnOk, string_bytes};
+ghost use Rattle.theory.specs.Lists.{Distinct};
+ghost use Rattle.topo_io.specs.Arcs.{known};
 ghost use Rattle.topo_io.specs.Layers.{plain_layer, layer_read, names_read, with_layers};
+ghost use Rattle.topo_io.specs.Means.{Means};
 ghost use Rattle.topo_io.specs.Roots.{topology_named, objects_faults, layers_if_object, content_faults, layers_of, limits_of, transform_of, transform_faults, transformed_faults, topology_faults, grid_of, faults_of_text, grid_of_text, layers_of_text};
 
 pub mod arc;

@@ -1,17 +1,17 @@
 //! Whether bytes are the canonical text of a topology; the comparison takes no memory.
 
-ghost use Rattle.std.specs.Prelude.{◌≡◌, ◌≢◌, ◌↔◌, ℕ, ◌<◌, ◌≤◌, ◌++◌, length, take, drop, List, [], IfOk, IfErr, OnErr, OnOk, Some, None, IsTrue, slice_index, true, false};
+ghost use Rattle.grid.specs.Place.{Transform};
+ghost use Rattle.reading.specs.Fault.{LeastOrWant};
+ghost use Rattle.shapes.specs.Maps.{Layers};
 ghost use Rattle.sinks.specs.Seen.{Seen};
 ghost use Rattle.sinks.specs.Writes.{TookAll, TookPart};
+ghost use Rattle.std.specs.Prelude.{◌≡◌, ◌≢◌, ◌↔◌, ℕ, ◌<◌, ◌≤◌, ◌++◌, length, take, drop, List, [], IfOk, IfErr, OnErr, OnOk, Some, None, IsTrue, slice_index, true, false};
 ghost use Rattle.topo.specs.OfMap.{seen_parts};
-ghost use Rattle.grid.specs.Place.{Transform};
-ghost use Rattle.shapes.specs.Maps.{Layers};
-ghost use Rattle.reading.specs.Fault.{LeastOrWant};
-ghost use Rattle.topo_io.specs.TopologyText.{topology_text};
 ghost use Rattle.topo_io.specs.Canon.{canon};
+ghost use Rattle.topo_io.specs.Front.{taken, is_next, may_have_failed, IsCommon};
 ghost use Rattle.topo_io.specs.Means.{Means};
 ghost use Rattle.topo_io.specs.Roots.{faults_of_text};
-ghost use Rattle.topo_io.specs.Front.{taken, is_next, may_have_failed, IsCommon};
+ghost use Rattle.topo_io.specs.TopologyText.{topology_text};
 
 use crate::topology::read_topology;
 use crate::writer::Canonical;

@@ -1,7 +1,7 @@
 //! Topologies in: the arcs and the layers of a text taken as they stand, where they do, or once they are put
 //! into order.
-ghost use Rattle.std.specs.Prelude.{◌≡◌, ◌≢◌, ◌<◌, ◌^◌, [], length, IfOk, IfErr, IfSome, IfNone, OnOk};
 ghost use Rattle.reading.specs.Fault.{LeastOrWant};
+ghost use Rattle.std.specs.Prelude.{◌≡◌, ◌≢◌, ◌<◌, ◌^◌, [], length, IfOk, IfErr, IfSome, IfNone, OnOk};
 ghost use Rattle.taking.specs.Laws.{HaveI64};
 ghost use Rattle.topo_io.specs.Means.{MeansTopology, IsTopologyOfParts, AreFaultyParts};
 ghost use Rattle.topo_io.specs.Roots.{faults_of_text};

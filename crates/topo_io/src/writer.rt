@@ -1,11 +1,11 @@
 //! Writing the canonical text of a topology (TopoJSON, section 2), piece by piece and with no memory:
 //! compact JSON, members in byte order of their names, no newline at the end.
-ghost use Rattle.std.specs.Prelude.{◌≡◌, ℕ, ℤ, ◌-ℤ◌, List, [], ◌++◌, codes, IfOk, OnErr, OnOk};
-ghost use Rattle.std.specs.Fmt.{signed_decimal};
+ghost use Rattle.grid.specs.Place.{IsTransform};
+ghost use Rattle.shapes.specs.Parts.{spelled_text, properties_text};
 ghost use Rattle.sinks.specs.Texts.{list_text, joined, option_text};
 ghost use Rattle.sinks.specs.Writes.{TookAll, TookPart};
-ghost use Rattle.shapes.specs.Parts.{spelled_text, properties_text};
-ghost use Rattle.grid.specs.Place.{IsTransform};
+ghost use Rattle.std.specs.Fmt.{signed_decimal};
+ghost use Rattle.std.specs.Prelude.{◌≡◌, ℕ, ℤ, ◌-ℤ◌, List, [], ◌++◌, codes, IfOk, OnErr, OnOk};
 ghost use Rattle.topo.specs.OfMap.{body_of, item_of, layer_of, seen_parts};
 ghost use Rattle.topo_io.specs.TopologyText.{position_text, difference_text, differences_text, arc_positions, arc_text, index_text, content_text, type_text, properties_member, geometry_text, layer_text, bbox_text, transform_of, transform_text, topology_text};
 

@@ -1,10 +1,10 @@
 //! Parts of texts that both writers share: lists of lists, and the member `id`.
 #![tactic(auto)]
 
-ghost use Rattle.std.specs.Prelude.{◌≡◌, ℕ, List, ◌++◌, codes, OnErr, OnOk};
-ghost use Rattle.std.specs.Fmt.{signed_decimal};
 ghost use Rattle.sinks.specs.Texts.{list_text};
 ghost use Rattle.sinks.specs.Writes.{TookAll, TookPart};
+ghost use Rattle.std.specs.Fmt.{signed_decimal};
+ghost use Rattle.std.specs.Prelude.{◌≡◌, ℕ, List, ◌++◌, codes, OnErr, OnOk};
 ghost use Rattle.writing.specs.Members.{id_text};
 
 use lines::items::Items;

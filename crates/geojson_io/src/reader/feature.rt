@@ -1,12 +1,12 @@
 //! Features: an object with a geometry, an id and properties.
-ghost use Rattle.std.specs.Prelude.{◌≡◌, [], IfOk, IfErr, OnOk, codes};
-ghost use Rattle.serde_json.specs.View.{view};
-ghost use Rattle.reading.specs.Fault.{LeastOrWant};
-ghost use Rattle.reading.specs.Parts.{named, type_text, option_faults, unless_null};
-ghost use Rattle.reading.specs.Info.{member_or_null};
-ghost use Rattle.reading.specs.Plain.{plain, plain_form};
-ghost use Rattle.geojson_io.specs.Geometries.{geometry_faults, geometry_form};
 ghost use Rattle.geojson_io.specs.Features.{feature_members, feature_of, feature_named, element_of_features_faults};
+ghost use Rattle.geojson_io.specs.Geometries.{geometry_faults, geometry_form};
+ghost use Rattle.reading.specs.Fault.{LeastOrWant};
+ghost use Rattle.reading.specs.Info.{member_or_null};
+ghost use Rattle.reading.specs.Parts.{named, type_text, option_faults, unless_null};
+ghost use Rattle.reading.specs.Plain.{plain, plain_form};
+ghost use Rattle.serde_json.specs.View.{view};
+ghost use Rattle.std.specs.Prelude.{◌≡◌, [], IfOk, IfErr, OnOk, codes};
 
 use crate::reader::geometry::Geometry;
 use crate::reader::position::Position;

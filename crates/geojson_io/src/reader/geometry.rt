@@ -1,10 +1,10 @@
 //! Geometries: objects with a type and coordinates.
-ghost use Rattle.std.specs.Prelude.{◌≡◌, [], IfOk, IfErr, OnOk};
-ghost use Rattle.serde_json.specs.View.{view};
+ghost use Rattle.geojson_io.specs.Geometries.{typed_geometry_faults, typed_form, geometry_faults, geometry_form};
 ghost use Rattle.reading.specs.Fault.{LeastOrWant};
 ghost use Rattle.reading.specs.Parts.{unless_null};
 ghost use Rattle.reading.specs.Plain.{plain_form};
-ghost use Rattle.geojson_io.specs.Geometries.{typed_geometry_faults, typed_form, geometry_faults, geometry_form};
+ghost use Rattle.serde_json.specs.View.{view};
+ghost use Rattle.std.specs.Prelude.{◌≡◌, [], IfOk, IfErr, OnOk};
 
 use crate::reader::position::Position;
 use faults::fault::{Fault, FaultKind};

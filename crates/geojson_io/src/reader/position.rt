@@ -1,9 +1,9 @@
 //! Positions: pairs of absolute numbers.
-ghost use Rattle.std.specs.Prelude.{◌≡◌, [], IfOk, IfErr, OnOk};
-ghost use Rattle.grid.specs.Place.{IsGridNumber};
-ghost use Rattle.grid.specs.Computed.{axis_number};
-ghost use Rattle.reading.specs.Fault.{LeastOrWant};
 ghost use Rattle.geojson_io.specs.Positions.{axis_faults, number_or_zero, coordinate_faults, grid_number, position_faults, position_of, positions_of, outline_at_faults};
+ghost use Rattle.grid.specs.Computed.{axis_number};
+ghost use Rattle.grid.specs.Place.{IsGridNumber};
+ghost use Rattle.reading.specs.Fault.{LeastOrWant};
+ghost use Rattle.std.specs.Prelude.{◌≡◌, [], IfOk, IfErr, OnOk};
 
 use faults::fault::{Fault, FaultKind};
 use grid::pos::Pos;

@@ -1,10 +1,10 @@
 //! The borders that are asked for by how many features have them.
-ghost use Rattle.std.specs.Prelude.{◌≡◌, ◌↔◌, IfOk, Err};
-ghost use Rattle.std.specs.Option.{option_map};
-ghost use Rattle.topo.specs.ItsMap.{ForItsMap};
 ghost use Rattle.query.specs.Mesh.{Answers, AreBorders, IsMissing};
 ghost use Rattle.query.specs.declared.edges.Edges.TheVariants.{All as AllEdges};
 ghost use Rattle.query.specs.declared.fault.QueryFault.TheVariants.{NoLayer as MissingLayer};
+ghost use Rattle.std.specs.Option.{option_map};
+ghost use Rattle.std.specs.Prelude.{◌≡◌, ◌↔◌, IfOk, Err};
+ghost use Rattle.topo.specs.ItsMap.{ForItsMap};
 
 use crate::edges::Edges;
 use crate::fault::QueryFault;

@@ -1,10 +1,10 @@
 //! The features of a layer.
-ghost use Rattle.std.specs.Prelude.{◌≡◌, ◌↔◌, Err, IfOk, IsTrue};
-ghost use Rattle.std.specs.FinMap as map;
+ghost use Rattle.query.specs.declared.fault.QueryFault.TheVariants.{NoLayer as MissingLayer};
 ghost use Rattle.shapes.specs.Maps.{features_at};
 ghost use Rattle.shapes.specs.Sets as set;
+ghost use Rattle.std.specs.FinMap as map;
+ghost use Rattle.std.specs.Prelude.{◌≡◌, ◌↔◌, Err, IfOk, IsTrue};
 ghost use Rattle.topo.specs.ItsMap.{ForItsMap};
-ghost use Rattle.query.specs.declared.fault.QueryFault.TheVariants.{NoLayer as MissingLayer};
 
 use crate::fault::QueryFault;
 use faults::OutOfMemory;

@@ -1,11 +1,11 @@
 //! The borders between features: lines over the segments that a filter selects.
-ghost use Rattle.std.specs.Prelude.{◌≡◌, ◌↔◌, IfOk, Err};
-ghost use Rattle.std.specs.Fn.{FnReturnsAtPair};
-ghost use Rattle.std.specs.Option.{option_map};
-ghost use Rattle.shapes.specs.declared.feature.Feature.{Feature};
-ghost use Rattle.topo.specs.ItsMap.{ForItsMap};
 ghost use Rattle.query.specs.Mesh.{InScope, IsMissing, MayAskWithin, AreBorders};
 ghost use Rattle.query.specs.declared.fault.QueryFault.TheVariants.{NoLayer as MissingLayer};
+ghost use Rattle.shapes.specs.declared.feature.Feature.{Feature};
+ghost use Rattle.std.specs.Fn.{FnReturnsAtPair};
+ghost use Rattle.std.specs.Option.{option_map};
+ghost use Rattle.std.specs.Prelude.{◌≡◌, ◌↔◌, IfOk, Err};
+ghost use Rattle.topo.specs.ItsMap.{ForItsMap};
 
 use crate::fault::QueryFault;
 use crate::joined::lines_over;

@@ -1,14 +1,14 @@
 //! Which features of a layer are neighbours: those that share a segment, so an arc.
-ghost use Rattle.std.specs.Prelude.{◌≡◌, ◌↔◌, ◌++◌, IfOk, OnOk, Err, IsTrue, [], map as map_list, replicate};
-ghost use Rattle.std.specs.FinMap as map;
-ghost use Rattle.shapes.specs.Maps.{features_at};
-ghost use Rattle.shapes.specs.Sets as set;
-ghost use Rattle.theory.specs.Arcs.{AreSortedOnce};
-ghost use Rattle.topo.specs.ItsMap.{ForItsMap};
 ghost use Rattle.query.specs.Neighbors.{ListsNeighbors};
 ghost use Rattle.query.specs.Pairs.{pairs_behind, pairs_among, pair_cmp, with_other, with_others};
 ghost use Rattle.query.specs.Uses.{geometries_uses, use_cmp};
 ghost use Rattle.query.specs.declared.fault.QueryFault.TheVariants.{NoLayer as MissingLayer};
+ghost use Rattle.shapes.specs.Maps.{features_at};
+ghost use Rattle.shapes.specs.Sets as set;
+ghost use Rattle.std.specs.FinMap as map;
+ghost use Rattle.std.specs.Prelude.{◌≡◌, ◌↔◌, ◌++◌, IfOk, OnOk, Err, IsTrue, [], map as map_list, replicate};
+ghost use Rattle.theory.specs.Arcs.{AreSortedOnce};
+ghost use Rattle.topo.specs.ItsMap.{ForItsMap};
 
 use crate::fault::QueryFault;
 use crate::uses::{Use, note_geometries};

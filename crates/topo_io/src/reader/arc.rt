@@ -1,9 +1,9 @@
 //! Arcs: a first position and differences (TopoJSON, section 2.1.3).
-ghost use Rattle.std.specs.Prelude.{◌≡◌, [], IfOk, IfErr, OnOk, map, pos};
-ghost use Rattle.serde_json.specs.View.{view};
 ghost use Rattle.reading.specs.Fault.{LeastOrWant, unless_faulty};
-ghost use Rattle.topo_io.specs.Limits.{sums_at};
+ghost use Rattle.serde_json.specs.View.{view};
+ghost use Rattle.std.specs.Prelude.{◌≡◌, [], IfOk, IfErr, OnOk, map, pos};
 ghost use Rattle.topo_io.specs.Arcs.{steps_faults, short_faults, places_from, arc_faults, arc_of};
+ghost use Rattle.topo_io.specs.Limits.{sums_at};
 
 use crate::reader::position::{Limits, origin, read_from};
 use faults::fault::{Fault, FaultKind};

@@ -1,11 +1,11 @@
 //! Geometries of a topology (TopoJSON, section 2.2).
-ghost use Rattle.std.specs.Prelude.{◌≡◌, [], IfOk, IfErr, OnOk, Ok, Err, Some, None, option_map};
-ghost use Rattle.serde_json.specs.View.{view};
 ghost use Rattle.reading.specs.Fault.{LeastOrWant};
 ghost use Rattle.reading.specs.Plain.{plain};
+ghost use Rattle.serde_json.specs.View.{view};
+ghost use Rattle.std.specs.Prelude.{◌≡◌, [], IfOk, IfErr, OnOk, Ok, Err, Some, None, option_map};
 ghost use Rattle.topo_io.specs.Arcs.{known, stitched_list_faults, stitched_of};
-ghost use Rattle.topo_io.specs.Limits.{position_faults, position_of};
 ghost use Rattle.topo_io.specs.Geometries.{body_name as name_of_body, typed_faults_of, feature_of, text_or_null as text_or_null_of, type_or_null as type_text_or_null, geometry_type as type_of_geometry, geometry_faults, geometry_feature};
+ghost use Rattle.topo_io.specs.Limits.{position_faults, position_of};
 
 use crate::reader::position::{Limits, Position};
 use crate::reader::stitching::{IndexOf, stitch};

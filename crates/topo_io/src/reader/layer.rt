@@ -1,10 +1,10 @@
 //! Layers: the members of a topology's `objects` (TopoJSON, section 2.1.5).
-ghost use Rattle.std.specs.Prelude.{◌≡◌, [], ◌∷◌, map, IfOk, IfErr, OnOk, Ok, Err, codes};
-ghost use Rattle.serde_json.specs.View.{view};
 ghost use Rattle.reading.specs.Fault.{LeastOrWant};
-ghost use Rattle.reading.specs.Parts.{member_faults, list_faults, elements};
 ghost use Rattle.reading.specs.Info.{member_or_null};
+ghost use Rattle.reading.specs.Parts.{member_faults, list_faults, elements};
 ghost use Rattle.reading.specs.Plain.{plain};
+ghost use Rattle.serde_json.specs.View.{view};
+ghost use Rattle.std.specs.Prelude.{◌≡◌, [], ◌∷◌, map, IfOk, IfErr, OnOk, Ok, Err, codes};
 ghost use Rattle.topo_io.specs.Arcs.{known};
 ghost use Rattle.topo_io.specs.Geometries.{typed_faults_of, feature_of, geometry_faults, geometry_feature, layer_named as named_layer, layer_type as type_of_layer, typed_layer_faults, layer_faults, layer_as, layer_features};
 

@@ -1,8 +1,8 @@
 //! Grid numbers, and how far they may go.
-ghost use Rattle.std.specs.Prelude.{◌≡◌, [], IfOk, IfErr, OnOk, Some, None, pos, negsuc, ◌+ℤ◌, ◌≤ℤ◌};
-ghost use Rattle.serde_json.specs.View.{view};
 ghost use Rattle.grid.specs.Place.{IsGridNumber, IsGridNumber-prop};
 ghost use Rattle.reading.specs.Fault.{LeastOrWant};
+ghost use Rattle.serde_json.specs.View.{view};
+ghost use Rattle.std.specs.Prelude.{◌≡◌, [], IfOk, IfErr, OnOk, Some, None, pos, negsuc, ◌+ℤ◌, ◌≤ℤ◌};
 ghost use Rattle.topo_io.specs.Limits.{allows, limit_faults, difference_faults, moved};
 
 use faults::fault::{Fault, FaultKind};

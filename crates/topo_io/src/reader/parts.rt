@@ -1,20 +1,20 @@
 //! The parts of a topology as its text has them: its grid, its arcs, and its geometries with their
 //! lists of arcs, before these are stitched.
-ghost use Rattle.std.specs.Prelude.{◌≡◌, ◌≢◌, [], ◌++◌, length, map as map_list, IfOk, IfErr, OnOk, codes};
-ghost use Rattle.std.specs.List.{AllByRecursion};
-ghost use Rattle.theory.specs.Lists.{Distinct};
+ghost use Rattle.faults.specs.Fault.{IsWant};
+ghost use Rattle.faults.specs.Path.{name as name_turn};
+ghost use Rattle.reading.specs.Fault.{LeastOrWant, under};
+ghost use Rattle.reading.specs.Parts.{member_faults, list_faults};
 ghost use Rattle.serde_json.specs.Data.{Data};
 ghost use Rattle.serde_json.specs.Find.{get, as_object};
 ghost use Rattle.serde_json.specs.View.{view};
 ghost use Rattle.shapes.specs.Parts.{spelled_text};
-ghost use Rattle.faults.specs.Path.{name as name_turn};
-ghost use Rattle.faults.specs.Fault.{IsWant};
-ghost use Rattle.reading.specs.Fault.{LeastOrWant, under};
-ghost use Rattle.reading.specs.Parts.{member_faults, list_faults};
-ghost use Rattle.topo_io.specs.Limits.{limits_on};
+ghost use Rattle.std.specs.List.{AllByRecursion};
+ghost use Rattle.std.specs.Prelude.{◌≡◌, ◌≢◌, [], ◌++◌, length, map as map_list, IfOk, IfErr, OnOk, codes};
+ghost use Rattle.theory.specs.Lists.{Distinct};
 ghost use Rattle.topo_io.specs.Arcs.{counted};
-ghost use Rattle.topo_io.specs.Roots.{objects_faults, limits_of, transform_of, transform_faults, topology_faults, grid_of, faults_of_text};
+ghost use Rattle.topo_io.specs.Limits.{limits_on};
 ghost use Rattle.topo_io.specs.Parts.{named_geoms, layer_of_geoms, names_of_geoms, LayerStored, geoms_if_object, geoms_of, loose_content, loose_transformed, loose_topology, loose_faults, ArePartsOf, AreSaid, FaultyOrWant};
+ghost use Rattle.topo_io.specs.Roots.{objects_faults, limits_of, transform_of, transform_faults, topology_faults, grid_of, faults_of_text};
 
 pub mod body;
 pub mod features;

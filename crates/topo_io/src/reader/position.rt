@@ -1,7 +1,7 @@
 //! Positions of grid numbers: the first of an arc, those after it, and points.
-ghost use Rattle.std.specs.Prelude.{◌≡◌, [], IfOk, IfErr, OnOk, pos, Some, None};
-ghost use Rattle.serde_json.specs.View.{view};
 ghost use Rattle.reading.specs.Fault.{LeastOrWant};
+ghost use Rattle.serde_json.specs.View.{view};
+ghost use Rattle.std.specs.Prelude.{◌≡◌, [], IfOk, IfErr, OnOk, pos, Some, None};
 ghost use Rattle.topo_io.specs.Limits.{step_faults, next_sums, sums_at, position_faults, position_of};
 
 use crate::reader::limit::Difference;

@@ -1,14 +1,14 @@
 //! Lists of indexes of arcs, and what they stitch to (TopoJSON, section 2.1.4).
-ghost use Rattle.std.specs.Prelude.{◌≡◌, ◌≢◌, [], ◌∷◌, ◌++◌, List, map, reverse, length, true, false, Some, None, IfOk, IfErr, OnOk};
-ghost use Rattle.serde_json.specs.View.{view};
-ghost use Rattle.theory.specs.ArcNumbers.{index_of};
-ghost use Rattle.lines.specs.Pairs.{position_eq};
-ghost use Rattle.grid.specs.declared.pos.Pos.{Pos};
 ghost use Rattle.faults.specs.Fault.{Pair, IsWant};
 ghost use Rattle.faults.specs.declared.fault.FaultKind.TheVariants.{OutOfMemory, Broken};
+ghost use Rattle.grid.specs.declared.pos.Pos.{Pos};
+ghost use Rattle.lines.specs.Pairs.{position_eq};
 ghost use Rattle.reading.specs.Fault.{LeastOrWant, here};
-ghost use Rattle.reading.specs.Outlines.{outline_faults};
 ghost use Rattle.reading.specs.Numbers.{whole_of};
+ghost use Rattle.reading.specs.Outlines.{outline_faults};
+ghost use Rattle.serde_json.specs.View.{view};
+ghost use Rattle.std.specs.Prelude.{◌≡◌, ◌≢◌, [], ◌∷◌, ◌++◌, List, map, reverse, length, true, false, Some, None, IfOk, IfErr, OnOk};
+ghost use Rattle.theory.specs.ArcNumbers.{index_of};
 ghost use Rattle.topo_io.specs.Arcs.{known, used_arc, along, no_arc_faults, index_faults, meets, onto, stitched, stitched_faults, list_or_none};
 
 use chains::ArcRef;

@@ -1,10 +1,10 @@
 //! The transform of a quantized topology (TopoJSON, section 2.1.2).
-ghost use Rattle.std.specs.Prelude.{◌≡◌, [], ◌≤ℤ◌, IfOk, IfErr, OnOk, pos, negsuc};
-ghost use Rattle.serde_json.specs.View.{view};
-ghost use Rattle.reading.specs.Fault.{LeastOrWant};
-ghost use Rattle.reading.specs.Parts.{elements};
-ghost use Rattle.reading.specs.Numbers.{element_faults};
 ghost use Rattle.grid.specs.Place.{IsScale, IsTranslation, scaling, transform as transform_on};
+ghost use Rattle.reading.specs.Fault.{LeastOrWant};
+ghost use Rattle.reading.specs.Numbers.{element_faults};
+ghost use Rattle.reading.specs.Parts.{elements};
+ghost use Rattle.serde_json.specs.View.{view};
+ghost use Rattle.std.specs.Prelude.{◌≡◌, [], ◌≤ℤ◌, IfOk, IfErr, OnOk, pos, negsuc};
 ghost use Rattle.topo_io.specs.Roots.{within_faults, both_faults, IsWithin, AreBoth, transform_members, transform_faults, transform_of};
 
 use faults::fault::{Fault, FaultKind};

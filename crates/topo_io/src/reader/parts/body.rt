@@ -1,7 +1,7 @@
 //! Bodies of geometries by arcs: lists of indexes as they stand (TopoJSON, section 2.1.4).
-ghost use Rattle.std.specs.Prelude.{◌≡◌, IfOk, IfErr, OnOk};
-ghost use Rattle.serde_json.specs.View.{view};
 ghost use Rattle.reading.specs.Numbers.{whole_of};
+ghost use Rattle.serde_json.specs.View.{view};
+ghost use Rattle.std.specs.Prelude.{◌≡◌, IfOk, IfErr, OnOk};
 ghost use Rattle.topo.specs.OfMap.{body_of};
 ghost use Rattle.topo_io.specs.Arcs.{counted, index_faults, line_list_faults};
 ghost use Rattle.topo_io.specs.Geometries.{body_faults};

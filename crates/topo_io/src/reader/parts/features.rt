@@ -1,15 +1,15 @@
 //! The features that the geometries of a text's parts stitch to (TopoJSON, section 2.1.4).
-ghost use Rattle.std.specs.Prelude.{◌≡◌, ◌≢◌, [], ℕ, List, map as map_list, string_bytes, IfOk, OnOk, IfErr, IfSome, IfNone};
-ghost use Rattle.std.specs.FinMap as finite;
-ghost use Rattle.std.specs.List.{AllByRecursion};
-ghost use Rattle.grid.specs.Place.{Transform};
-ghost use Rattle.lines.specs.Seen.{positions_of, vertices_of};
 ghost use Rattle.faults.specs.Fault.{IsWant};
+ghost use Rattle.grid.specs.Place.{Transform};
+ghost use Rattle.grid.specs.declared.pos.Pos.{Pos};
+ghost use Rattle.lines.specs.Seen.{positions_of, vertices_of};
+ghost use Rattle.reading.specs.Plain.{Plain, plain, plain_form};
 ghost use Rattle.shapes.specs.Fitting.{MapFits};
 ghost use Rattle.shapes.specs.Ids.{HasI64};
 ghost use Rattle.shapes.specs.Parts.{spelled_text};
-ghost use Rattle.grid.specs.declared.pos.Pos.{Pos};
-ghost use Rattle.reading.specs.Plain.{Plain, plain, plain_form};
+ghost use Rattle.std.specs.FinMap as finite;
+ghost use Rattle.std.specs.List.{AllByRecursion};
+ghost use Rattle.std.specs.Prelude.{◌≡◌, ◌≢◌, [], ℕ, List, map as map_list, string_bytes, IfOk, OnOk, IfErr, IfSome, IfNone};
 ghost use Rattle.topo.specs.OfMap.{body_of};
 ghost use Rattle.topo_io.specs.Layers.{plain_layer, layer_read, with_layers};
 ghost use Rattle.topo_io.specs.Means.{Means};

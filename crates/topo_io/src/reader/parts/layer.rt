@@ -1,10 +1,10 @@
 //! Geometries and layers whose lists of arcs stand as the text has them.
-ghost use Rattle.std.specs.Prelude.{◌≡◌, [], ◌∷◌, map, IfOk, IfErr, OnOk, Ok, codes};
-ghost use Rattle.std.specs.List.{AllByRecursion};
-ghost use Rattle.serde_json.specs.View.{view};
 ghost use Rattle.reading.specs.Fault.{LeastOrWant};
 ghost use Rattle.reading.specs.Info.{member_or_null};
 ghost use Rattle.reading.specs.Parts.{member_faults, list_faults, elements};
+ghost use Rattle.serde_json.specs.View.{view};
+ghost use Rattle.std.specs.List.{AllByRecursion};
+ghost use Rattle.std.specs.Prelude.{◌≡◌, [], ◌∷◌, map, IfOk, IfErr, OnOk, Ok, codes};
 ghost use Rattle.topo_io.specs.Arcs.{counted};
 ghost use Rattle.topo_io.specs.Geometries.{typed_faults_of, geometry_faults, typed_layer_faults, layer_faults};
 ghost use Rattle.topo_io.specs.Parts.{plain_geom, geom_of, geometry_geom, geoms_as, layer_geoms, GeomStored};
