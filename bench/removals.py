@@ -10,7 +10,10 @@ topology of what is left takes, each without reading files or writing the text: 
 it several times is compared with one that does it once. Times are processor times (user and
 system), the least of some runs; all sizes are measured by the same turns. The texts of both are
 compared byte by byte. The goal, which no test asks for: at most 0.4 times the build, and at most 2.2 times as long
-for the double.
+for the double, in the mean of the doublings that were measured. Where what a removal reads and writes outgrows a cache of
+the machine, one doubling takes longer than those before it and after it, so several doublings tell more than one:
+
+    python3 bench/removals.py --positions 250000 --doublings 4
 """
 
 import os
@@ -77,14 +80,24 @@ def measure_sizes(folders, runs, times):
     return [[seconds(folder, mode) for mode in ("remove", "build")] for folder in folders]
 
 
-def tell(name, count, remove, build, before):
-    """Prints a measurement, and where it misses the goal."""
-    line = f"{count} positions, {name}: remove {remove:.3f} s, build {build:.3f} s, {remove / build:.2f} of it"
-    misses = remove > GREATEST_RATIO * build
-    if before is not None:
-        line += f"; remove grows by {remove / before:.2f}"
-        misses = misses or remove > GREATEST_GROWTH * before
+def tell(line, misses):
+    """Prints a line, and where it misses the goal."""
     print(f"{line} (past the goal)" if misses else line, flush=True)
+
+
+def tell_size(name, count, remove, build, before):
+    """Prints what one removal takes, beside the build and beside the size before."""
+    grows = "" if before is None else f"; remove grows by {remove / before:.2f}"
+    line = f"{count} positions, {name}: remove {remove:.3f} s, build {build:.3f} s, {remove / build:.2f} of it{grows}"
+    tell(line, remove > GREATEST_RATIO * build)
+
+
+def tell_growth(name, removes):
+    """Prints by how much one removal grows for the double, in the geometric mean of all doublings."""
+    doublings = len(removes) - 1
+    if doublings:
+        growth = (removes[-1] / removes[0]) ** (1 / doublings)
+        tell(f"{name}: remove grows by {growth:.2f} for the double, in the mean of {doublings}", growth > GREATEST_GROWTH)
 
 
 def measure_removal(name, tilings, words):
@@ -94,10 +107,11 @@ def measure_removal(name, tilings, words):
         for folder, (_, rows) in zip(folders, tilings):
             os.mkdir(folder)
             write_removal(folder, rows, REMOVALS[name])
-        before = None
+        removes = []
         for (count, _), (remove, build) in zip(tilings, measure_sizes(folders, words.runs, words.times)):
-            tell(name, count, remove, build, before)
-            before = remove
+            tell_size(name, count, remove, build, removes[-1] if removes else None)
+            removes.append(remove)
+        tell_growth(name, removes)
 
 
 def main():
