@@ -5,9 +5,8 @@ use Rattle.serde_json.specs.Data.{Data}
 use Rattle.serde_json.specs.Find.{as_object}
 use Rattle.faults.specs.Fault.{Pair}
 use Rattle.faults.specs.declared.fault.FaultKind.{FaultKind}
-use Rattle.faults.specs.declared.fault.FaultKind.TheVariants.{UnknownType}
 use Rattle.grid.specs.Place.{Transform}
-use Rattle.reading.specs.Parts.{list_faults, elements, member_faults, option_faults, object_faults, typed_faults, unless_null, named, type_text}
+use Rattle.reading.specs.Parts.{list_faults, elements, member_faults, option_faults, object_faults, typed_faults, unless_null, named, of_type, type_text}
 use Rattle.reading.specs.Info.{info_faults, member_or_null, id_of, properties_of}
 use Rattle.reading.specs.Plain.{Plain, PlainForm, none}
 use Rattle.reading.specs.Text.{document, text_faults, said_of}
@@ -31,7 +30,7 @@ feature_of t d = record {
 }
 
 abbrev pub feature_named : List ℕ → Result Unit FaultKind
-feature_named s = if bytes_eq s (codes "Feature") then Ok tt else Err UnknownType
+feature_named = of_type (codes "Feature")
 
 -- an element of `features`
 abbrev pub element_of_features_faults : Transform → Data → List Pair

@@ -1,31 +1,18 @@
-//! Which arcs the features of a layer use.
-ghost use Rattle.query.specs.Members.{AreUsesIn};
-ghost use Rattle.query.specs.Mesh.{IsMissing};
+//! Which arcs the features of layers use.
 ghost use Rattle.query.specs.Spans.{number_if, numbers_from};
-ghost use Rattle.query.specs.declared.fault.QueryFault.TheVariants.{NoLayer as MissingLayer};
-ghost use Rattle.std.specs.Option.{option_map};
-ghost use Rattle.std.specs.Prelude.{◌≡◌, ◌↔◌, ◌++◌, IfOk, OnOk, Err};
-ghost use Rattle.topo.specs.ItsMap.{ForItsMap};
-ghost use Rattle.topo.specs.OfMap.{IsOfSomeMap};
+ghost use Rattle.query.specs.Uses.{geometries_uses};
+ghost use Rattle.std.specs.Prelude.{◌≡◌, ◌++◌, IfOk, OnOk};
+ghost use Rattle.theory.specs.Lists.{gathered};
 
-use crate::fault::QueryFault;
-use crate::scope::layers_in;
 use crate::spans::Span;
 use crate::uses::{Use, note_geometries};
 use std::alloc::{AllocError, Global};
-use topo::Topology;
+use topo::Layer;
 
-/// The uses of arcs by the features of a layer, or without a layer by those of all layers.
-pub(crate) fn uses_in(
-    alloc: Global,
-    topology: &Topology,
-    name: Option<&str>,
-) -> Result<Vec<Use>, QueryFault>
-    requires { IsOfSomeMap topology.now }
-    ensures layer { ForItsMap topology.now (λ m. (result ≡ Err MissingLayer) ↔ IsMissing m (option_map (λ n. n.now) name.entry)) }
-    ensures uses { IfOk result (λ v. ForItsMap topology.now (λ m. AreUsesIn m topology.now (option_map (λ n. n.now) name.entry) v.items)) }
+/// The uses of arcs by the features of the layers.
+pub(crate) fn uses_in(alloc: Global, layers: &[Layer]) -> Result<Vec<Use>, AllocError>
+    ensures { IfOk result (λ v. v.items ≡ gathered (λ l. geometries_uses l.geometries) layers.now) }
 {
-    let layers = layers_in(topology, name)?;
     let mut uses = Vec::new(alloc);
     for layer in layers {
         note_geometries(&mut uses, layer.geometries())?;

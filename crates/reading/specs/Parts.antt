@@ -1,11 +1,12 @@
 -- Faults of arrays, objects and members, by the faults of their parts.
 use Rattle.std.specs.Prelude.{◌≡◌, ℕ, ◌+◌, List, [], ◌∷◌, ◌++◌, Option, Some, None, Result, Ok, Err, codes, is_some, if◌then◌else◌}
+use Rattle.std.specs.Str.{bytes_eq}
 use Rattle.serde_json.specs.Data.{Data, Items, no_items, item, Members, no_members, member}
 use Rattle.serde_json.specs.Find.{get, as_null, as_str, as_array}
 use Rattle.faults.specs.Path.{name, index}
 use Rattle.faults.specs.Fault.{Pair}
 use Rattle.faults.specs.declared.fault.FaultKind.{FaultKind}
-use Rattle.faults.specs.declared.fault.FaultKind.TheVariants.{Missing, WrongKind, NotTwo}
+use Rattle.faults.specs.declared.fault.FaultKind.TheVariants.{Missing, WrongKind, UnknownType, NotTwo}
 use Rattle.reading.specs.Fault.{here, under}
 
 -- ---- arrays
@@ -106,6 +107,10 @@ type_text d = type_or_fault (get (codes "type") d)
 abbrev pub named : {K : Type 0} → (List ℕ → Result K FaultKind) → Result (List ℕ) FaultKind → Result K FaultKind
 named kind (Err k) = Err k
 named kind (Ok s) = kind s
+
+-- the one type that an object may have
+abbrev pub of_type : List ℕ → List ℕ → Result Unit FaultKind
+of_type wanted s = if bytes_eq s wanted then Ok tt else Err UnknownType
 
 -- a faulty type silences the rest of its object
 abbrev pub typed_faults : {K : Type 0} → (K → List Pair) → Result K FaultKind → List Pair

@@ -3,7 +3,7 @@ ghost use Rattle.faults.specs.Fault.{Pair, IsWant};
 ghost use Rattle.faults.specs.Path.{name as name_turn};
 ghost use Rattle.reading.specs.Fault.{LeastOrWant, here, under};
 ghost use Rattle.reading.specs.Info.{member_or_null};
-ghost use Rattle.reading.specs.Parts.{each_faults, list_faults, elements, two_faults, pair_faults, IsPair, option_faults, member_faults, each_member_faults, MeanMembers, type_text};
+ghost use Rattle.reading.specs.Parts.{each_faults, list_faults, elements, two_faults, pair_faults, IsPair, option_faults, member_faults, each_member_faults, MeanMembers, named, of_type, type_text};
 ghost use Rattle.serde_json.specs.Data.{Data};
 ghost use Rattle.serde_json.specs.Find.{as_array, get};
 ghost use Rattle.serde_json.specs.View.{view, members_view};
@@ -268,6 +268,22 @@ pub fn type_name(value: &Value) -> Result<&str, FaultKind>
             None => Err(FaultKind::WrongKind),
             Some(text) => Ok(text),
         },
+    }
+}
+
+/// Whether an object's member `type` is that text, and else the kind of its fault.
+pub fn judge_type(value: &Value, wanted: &str) -> Result<(), FaultKind>
+    ensures { result ≡ named (of_type wanted.now) (type_text (view value.now)) }
+{
+    match type_name(value) {
+        Ok(text) => {
+            if text == wanted {
+                Ok(())
+            } else {
+                Err(FaultKind::UnknownType)
+            }
+        }
+        Err(kind) => Err(kind),
     }
 }
 

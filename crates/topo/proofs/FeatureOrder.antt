@@ -27,6 +27,7 @@ use Rattle.theory.specs.ArcNumbers.{ArcRef}
 use Rattle.theory.specs.Lists.{Pairwise}
 use Rattle.theory.specs.LinesAndRings.{closed}
 use Rattle.theory.specs.Topology.{Shape, null, point, points, line, lines, polygon, polygons}
+use Rattle.topo.proofs.Pairs.{Pairwise-same}
 use Rattle.topo.proofs.Walks.{walked_stitched}
 use Rattle.topo.specs.Features.{IsFeatureOf, IsLineOf, IsRingOf, IsShapeOf}
 use Rattle.topo.specs.Walked.{walked}
@@ -42,29 +43,18 @@ module _ (arcs : List (List Pos)) where
   ring_form : (r : the_ring.Ring) (used : List ArcRef) → IsRingOf arcs r used → vertices_seen r ≡ vertices_used arcs used
   ring_form r used (q, turned, h) = sym (ap (ring_of position_cmp) (walked_stitched arcs used (closed q) h) ∙ (ring_reads r q turned).1)
 
-  -- what holds pair by pair, of what f and g give
-  each_same : {A B C : Type 0} (R : A → B → Type 0) (f : A → C) (g : B → C) → ((x : A) (y : B) → R x y → f x ≡ g y) →
-      (xs : List A) (ys : List B) → Pairwise R xs ys → map_list f xs ≡ map_list g ys
-  each_same R f g e [] [] h = refl
-  each_same R f g e [] (y ∷ ys) h = absurd h
-  each_same R f g e (x ∷ xs) [] h = absurd h
-  each_same R f g e (x ∷ xs) (y ∷ ys) h =
-      let a = e x y h.0 in
-      let b = each_same R f g e xs ys h.1 in
-      λ i. a i ∷ b i
-
   rings_form : (rs : List the_ring.Ring) (lists : List (List ArcRef)) → Pairwise (IsRingOf arcs) rs lists → map_list vertices_seen rs ≡ map_list (vertices_used arcs) lists
-  rings_form = each_same (IsRingOf arcs) vertices_seen (vertices_used arcs) ring_form
+  rings_form = Pairwise-same (IsRingOf arcs) vertices_seen (vertices_used arcs) ring_form
 
   pub shape_form : (s : shapes.Shape) (b : bodies.Body) → IsShapeOf arcs s b → form_of s ≡ body_form arcs b
   shape_form of.Null to.Null h = refl
   shape_form (of.Point p) (to.Point q) h = cc
   shape_form (of.MultiPoint ps) (to.MultiPoint qs) h = cc
   shape_form (of.Line l) (to.Line used) h = ap line (line_form l used h)
-  shape_form (of.MultiLine ls) (to.MultiLine lists) h = ap lines (each_same (IsLineOf arcs) line_of (walked arcs) line_form ls lists h)
+  shape_form (of.MultiLine ls) (to.MultiLine lists) h = ap lines (Pairwise-same (IsLineOf arcs) line_of (walked arcs) line_form ls lists h)
   shape_form (of.Polygon rs) (to.Polygon lists) h = ap polygon (rings_form rs lists h)
   shape_form (of.MultiPolygon ps) (to.MultiPolygon lists) h =
-      ap polygons (each_same (Pairwise (IsRingOf arcs)) (map_list vertices_seen) (map_list (vertices_used arcs)) rings_form ps lists h)
+      ap polygons (Pairwise-same (Pairwise (IsRingOf arcs)) (map_list vertices_seen) (map_list (vertices_used arcs)) rings_form ps lists h)
   shape_form s b h = absurd h
 
 kind_rank : (s : shapes.Shape) → shape_rank s ≡ form_rank (form_of s)

@@ -9,6 +9,17 @@ Pairwise-weaker R S f [] (y ∷ ys) h = absurd h
 Pairwise-weaker R S f (x ∷ xs) [] h = absurd h
 Pairwise-weaker R S f (x ∷ xs) (y ∷ ys) h = (f x y h.0, Pairwise-weaker R S f xs ys h.1)
 
+-- what f and g give of paired members, where they give the same of each pair
+pub Pairwise-same : {A B C : Type 0} (R : A → B → Type 0) (f : A → C) (g : B → C) → ((x : A) (y : B) → R x y → f x ≡ g y) →
+    (xs : List A) (ys : List B) → Pairwise R xs ys → map_list f xs ≡ map_list g ys
+Pairwise-same R f g e [] [] h = refl
+Pairwise-same R f g e [] (y ∷ ys) h = absurd h
+Pairwise-same R f g e (x ∷ xs) [] h = absurd h
+Pairwise-same R f g e (x ∷ xs) (y ∷ ys) h =
+    let a = e x y h.0 in
+    let b = Pairwise-same R f g e xs ys h.1 in
+    λ i. a i ∷ b i
+
 -- pairs of what f gives of the members
 pub Pairwise-mapped : {A B A' B' : Type 0} (R : A' → B' → Type 0) (f : A → A') (g : B → B') (xs : List A) (ys : List B) →
     Pairwise R (map_list f xs) (map_list g ys) → Pairwise (λ x y. R (f x) (g y)) xs ys

@@ -31,7 +31,7 @@ use Rattle.topo.specs.declared.geom.Body as bodies
 use Rattle.topo.specs.declared.geom.Body.TheVariants as to
 use Rattle.topo.specs.declared.geom.Geom.{Geom}
 use Rattle.shapes.proofs.Entries.{at_entry}
-use Rattle.topo.proofs.Pairs.{Pairwise-mapped, Pairwise-weaker, pair_of}
+use Rattle.topo.proofs.Pairs.{Pairwise-mapped, Pairwise-same, Pairwise-weaker, pair_of}
 use Rattle.topo.proofs.Walks.{walked_stitched}
 
 module _ (arcs : List (List Pos)) (used : List ArcRef) (ps : List Pos) (is : ps ≡ walked arcs used) where
@@ -120,14 +120,4 @@ geometries_of m t name gs h (l, there, named, is) =
 
 -- the names of the layers are those of the map, in order
 pub names_of : (m : Layers) (t : TopologyParts) → IsOf m t → map.keys m ≡ map_list (λ l. spelled_text l.name) t.layers
-names_of m t h = go (map.entries m) t.layers (entries_of m t h)
-  where
-    go : (es : List (List ℕ × Features)) (ls : List LayerParts) → Pairwise (IsEntryOf t.arcs.arcs) es ls →
-        map_list (λ e. e.0) es ≡ map_list (λ l. spelled_text l.name) ls
-    go [] [] k = refl
-    go [] (l ∷ ls) k = absurd k
-    go (e ∷ es) [] k = absurd k
-    go (e ∷ es) (l ∷ ls) k =
-        let n = k.0.name in
-        let more = go es ls k.1 in
-        λ i. n i ∷ more i
+names_of m t h = Pairwise-same (IsEntryOf t.arcs.arcs) (λ e. e.0) (λ l. spelled_text l.name) (λ e l k. k.name) (map.entries m) t.layers (entries_of m t h)

@@ -32,6 +32,7 @@ use Rattle.topo.specs.Parts.{LayerParts}
 use Rattle.topo.specs.declared.geom.Body as bodies
 use Rattle.topo.specs.declared.geom.Body.TheVariants as to
 use Rattle.topo.specs.declared.geom.Geom.{Geom}
+use Rattle.topo.proofs.Pairs.{Pairwise-same}
 use Rattle.topo_io.specs.Arcs.{along, same_as, meets, stitched_onto, stitched, stitched_faults, list_or_none}
 use Rattle.topo_io.specs.Layers.{with_layers}
 use Rattle.topo_io.specs.Means.{Means}
@@ -110,14 +111,8 @@ module _ (arcs : List (List Pos)) where
     each_holds P f (x ∷ xs) [] h = absurd h
     each_holds P f (x ∷ xs) (y ∷ ys) h = (f x y h.0, each_holds P f xs ys h.1)
 
-    each_means : {C : Type 0} (f : A → C) (g : B → C) → ((a : A) (b : B) → R a b → f a ≡ g b) → (xs : List A) (ys : List B) → Pairwise R xs ys → map_list f xs ≡ map_list g ys
-    each_means f g same [] [] h = refl
-    each_means f g same [] (y ∷ ys) h = absurd h
-    each_means f g same (x ∷ xs) [] h = absurd h
-    each_means f g same (x ∷ xs) (y ∷ ys) h = λ i. same x y h.0 i ∷ each_means f g same xs ys h.1 i
-
   rings_mean : (rs : List the_ring.Ring) (us : List (List ArcRef)) → Pairwise (IsRingOf arcs) rs us → map_list vertices_of rs ≡ map_list (ring_along arcs) us
-  rings_mean = each_means (IsRingOf arcs) vertices_of (ring_along arcs) ring_means
+  rings_mean = Pairwise-same (IsRingOf arcs) vertices_of (ring_along arcs) ring_means
 
   -- ---- features
 
@@ -137,10 +132,10 @@ module _ (arcs : List (List Pos)) where
   form_means (of.Point p) (to.Point q) h = ap point h
   form_means (of.MultiPoint ps) (to.MultiPoint qs) h = ap points h
   form_means (of.Line l) (to.Line used) h = ap line (line_means l used h)
-  form_means (of.MultiLine ls) (to.MultiLine us) h = ap lines (each_means (IsLineOf arcs) positions_of (line_along arcs) line_means ls us h)
+  form_means (of.MultiLine ls) (to.MultiLine us) h = ap lines (Pairwise-same (IsLineOf arcs) positions_of (line_along arcs) line_means ls us h)
   form_means (of.Polygon rs) (to.Polygon us) h = ap polygon (rings_mean rs us h)
   form_means (of.MultiPolygon ps) (to.MultiPolygon us) h =
-      ap polygons (each_means (Pairwise (IsRingOf arcs)) (map_list vertices_of) (map_list (ring_along arcs)) rings_mean ps us h)
+      ap polygons (Pairwise-same (Pairwise (IsRingOf arcs)) (map_list vertices_of) (map_list (ring_along arcs)) rings_mean ps us h)
   form_means s b h = absurd h
 
   feature_means : (f : Feature) (g : Geom) → IsFeatureOf arcs f g → plain f ≡ feature_along arcs (plain_geom g)

@@ -28,10 +28,7 @@ use Rattle.topo_io.specs.declared.reader.layer_type.LayerType.TheVariants.{Colle
 abbrev pub body_name : GeometryType → List ℕ
 body_name Point = codes "coordinates"
 body_name MultiPoint = codes "coordinates"
-body_name LineString = codes "arcs"
-body_name MultiLineString = codes "arcs"
-body_name Polygon = codes "arcs"
-body_name MultiPolygon = codes "arcs"
+body_name k = codes "arcs"
 
 abbrev pub body_faults : Limits → Arcs → GeometryType → Data → List Pair
 body_faults l arcs = kind_faults (position_faults l) (line_list_faults arcs) (ring_list_faults arcs)

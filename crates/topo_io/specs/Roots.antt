@@ -1,17 +1,16 @@
 -- Faults and meaning of the text of a topology.
 use Rattle.std.specs.Prelude.{◌≡◌, ℕ, ℤ, pos, int_le, ◌≤ℤ◌, List, [], ◌∷◌, ◌++◌, length, ◌&&◌, Option, Some, None, Result, Ok, Err, codes, if◌then◌else◌}
-use Rattle.std.specs.Str.{bytes_eq}
 use Rattle.serde_json.specs.Data.{Data, Items, Members, no_members, member}
 use Rattle.serde_json.specs.Find.{get, as_array, as_object}
 use Rattle.faults.specs.Path.{name}
 use Rattle.faults.specs.Fault.{Pair}
 use Rattle.faults.specs.declared.fault.FaultKind.{FaultKind}
-use Rattle.faults.specs.declared.fault.FaultKind.TheVariants.{UnknownType, OutOfRange, NoTransform}
+use Rattle.faults.specs.declared.fault.FaultKind.TheVariants.{OutOfRange, NoTransform}
 use Rattle.grid.specs.Place.{Transform, scaling}
 use Rattle.grid.specs.declared.limits.TheConstants.{LEAST_SCALE, GREATEST_SCALE, LEAST_TRANSLATION, GREATEST_TRANSLATION}
 use Rattle.grid.specs.declared.pos.Pos.{Pos}
 use Rattle.reading.specs.Fault.{here, under}
-use Rattle.reading.specs.Parts.{IsPair, pair_faults, list_faults, elements, member_faults, object_faults, members_faults, typed_faults, named, type_text}
+use Rattle.reading.specs.Parts.{IsPair, pair_faults, list_faults, elements, member_faults, object_faults, members_faults, typed_faults, named, of_type, type_text}
 use Rattle.reading.specs.Numbers.{element_faults, whole_of}
 use Rattle.reading.specs.Info.{member_or_null}
 use Rattle.reading.specs.Plain.{Plain}
@@ -99,7 +98,7 @@ content_faults l d = member_faults (codes "arcs") (list_faults (arc_faults l)) d
 -- ---- the root
 
 abbrev pub topology_named : List ℕ → Result Unit FaultKind
-topology_named s = if bytes_eq s (codes "Topology") then Ok tt else Err UnknownType
+topology_named = of_type (codes "Topology")
 
 -- a missing transform is the only fault
 abbrev pub transformed_faults : Data → Option Data → List Pair

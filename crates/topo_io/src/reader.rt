@@ -3,7 +3,7 @@ ghost use Rattle.faults.specs.Fault.{IsWant};
 ghost use Rattle.faults.specs.Path.{name as name_turn};
 ghost use Rattle.reading.specs.Fault.{LeastOrWant, under};
 ghost use Rattle.reading.specs.Info.{member_or_null};
-ghost use Rattle.reading.specs.Parts.{named, type_text, member_faults};
+ghost use Rattle.reading.specs.Parts.{member_faults};
 ghost use Rattle.serde_json.specs.Data.{Data};
 ghost use Rattle.serde_json.specs.Find.{get, as_object};
 ghost use Rattle.serde_json.specs.View.{view};
@@ -14,7 +14,7 @@ ghost use Rattle.theory.specs.Lists.{Distinct};
 ghost use Rattle.topo_io.specs.Arcs.{known};
 ghost use Rattle.topo_io.specs.Layers.{plain_layer, layer_read, names_read, with_layers};
 ghost use Rattle.topo_io.specs.Means.{Means};
-ghost use Rattle.topo_io.specs.Roots.{topology_named, objects_faults, layers_if_object, content_faults, layers_of, limits_of, transform_of, transform_faults, transformed_faults, topology_faults, grid_of, faults_of_text, grid_of_text, layers_of_text};
+ghost use Rattle.topo_io.specs.Roots.{objects_faults, layers_if_object, content_faults, layers_of, limits_of, transform_of, transform_faults, transformed_faults, topology_faults, grid_of, faults_of_text, grid_of_text, layers_of_text};
 
 pub mod arc;
 pub mod geometry;
@@ -35,7 +35,9 @@ use faults::OutOfMemory;
 use faults::fault::{Fault, FaultKind};
 use grid::transform::Grid;
 use reading::document::document;
-use reading::part::{Part, read_each_member, read_list_member, read_member, type_fault, type_name};
+use reading::part::{
+    Part, judge_type, read_each_member, read_list_member, read_member, type_fault,
+};
 use serde_json::Value;
 use shapes::feature::Feature;
 use shapes::feature_map::FeatureMap;
@@ -45,21 +47,6 @@ use taking::TextArcs;
 
 /// Layers by name, each with the features that its geometries mean.
 type Layers = Vec<(String, Vec<Feature>)>;
-
-pub(crate) fn topology_type(value: &Value) -> Result<(), FaultKind>
-    ensures { result ≡ named topology_named (type_text (view value.now)) }
-{
-    match type_name(value) {
-        Ok(text) => {
-            if text == "Topology" {
-                Ok(())
-            } else {
-                Err(FaultKind::UnknownType)
-            }
-        }
-        Err(kind) => Err(kind),
-    }
-}
 
 /// The member `objects`: an object of layers.
 #[derive(Clone, Copy)]
@@ -163,7 +150,7 @@ pub(crate) fn read_root(alloc: Global, value: &Value) -> Result<(Grid, Layers), 
     if !value.is_object() {
         return Err(Fault::here(alloc, FaultKind::WrongKind));
     }
-    match topology_type(value) {
+    match judge_type(value, "Topology") {
         Ok(()) => read_members(alloc, value),
         Err(kind) => Err(type_fault(alloc, kind)),
     }

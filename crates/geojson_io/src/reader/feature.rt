@@ -1,9 +1,9 @@
 //! Features: an object with a geometry, an id and properties.
-ghost use Rattle.geojson_io.specs.Features.{feature_members, feature_of, feature_named, element_of_features_faults};
+ghost use Rattle.geojson_io.specs.Features.{feature_members, feature_of, element_of_features_faults};
 ghost use Rattle.geojson_io.specs.Geometries.{geometry_faults, geometry_form};
 ghost use Rattle.reading.specs.Fault.{LeastOrWant};
 ghost use Rattle.reading.specs.Info.{member_or_null};
-ghost use Rattle.reading.specs.Parts.{named, type_text, option_faults, unless_null};
+ghost use Rattle.reading.specs.Parts.{option_faults, unless_null};
 ghost use Rattle.reading.specs.Plain.{plain, plain_form};
 ghost use Rattle.serde_json.specs.View.{view};
 ghost use Rattle.std.specs.Prelude.{◌≡◌, [], IfOk, IfErr, OnOk, codes};
@@ -12,7 +12,7 @@ use crate::reader::geometry::Geometry;
 use crate::reader::position::Position;
 use faults::fault::{Fault, FaultKind};
 use reading::info::read_info;
-use reading::part::{Part, read_option, type_fault, type_name};
+use reading::part::{Part, judge_type, read_option, type_fault};
 use serde_json::Value;
 use shapes::feature::Feature;
 use shapes::shape::Shape;
@@ -49,21 +49,6 @@ pub struct FeatureElement {
     pub position: Position,
 }
 
-fn feature_type(value: &Value) -> Result<(), FaultKind>
-    ensures { result ≡ named feature_named (type_text (view value.now)) }
-{
-    match type_name(value) {
-        Ok(text) => {
-            if text == "Feature" {
-                Ok(())
-            } else {
-                Err(FaultKind::UnknownType)
-            }
-        }
-        Err(kind) => Err(kind),
-    }
-}
-
 impl Part for FeatureElement {
     type Made = Feature;
 
@@ -75,7 +60,7 @@ impl Part for FeatureElement {
         if !value.is_object() {
             return Err(Fault::here(alloc, FaultKind::WrongKind));
         }
-        match feature_type(value) {
+        match judge_type(value, "Feature") {
             Ok(()) => read_feature(alloc, &self.position, value),
             Err(kind) => Err(type_fault(alloc, kind)),
         }

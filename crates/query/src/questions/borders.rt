@@ -10,6 +10,7 @@ use crate::edges::Edges;
 use crate::fault::QueryFault;
 use crate::joined::lines_over;
 use crate::questions::mesh::mesh;
+use crate::scope::layers_in;
 use crate::spans::spans_by;
 use crate::users::{used_arcs, uses_in};
 use chains::ArcTable;
@@ -26,7 +27,8 @@ fn all_borders(
     ensures lines { IfOk result (AreBorders topology.now (option_map (λ n. n.now) layer.entry) (Answers AllEdges)) }
 {
     let arcs = topology.arcs();
-    let uses = uses_in(alloc, topology, layer)?;
+    let layers = layers_in(topology, layer)?;
+    let uses = uses_in(alloc, layers)?;
     let spans = spans_by(alloc, arcs.len(), &uses)?;
     let used = used_arcs(alloc, &spans)?;
     Ok(lines_over(alloc, topology, &used)?)

@@ -25,14 +25,13 @@ use crate::reader::arc::ArcOf;
 use crate::reader::parts::body::Extent;
 use crate::reader::parts::layer::LayerWithin;
 use crate::reader::position::Limits;
-use crate::reader::topology_type;
 use crate::reader::transform::read_transform;
 use faults::fault::{Fault, FaultKind};
 use grid::pos::Pos;
 use grid::transform::Grid;
 use lines::items::Items;
 use reading::document::document;
-use reading::part::{Listed, Part, keep, read_each_member, read_member};
+use reading::part::{Listed, Part, judge_type, keep, read_each_member, read_member};
 use serde_json::Value;
 use shapes::spelled::Spelled;
 use std::alloc::Global;
@@ -164,7 +163,7 @@ fn read_root(alloc: Global, value: &Value) -> Result<TextParts, Fault>
     if !value.is_object() {
         return Err(Fault::here(alloc, FaultKind::WrongKind));
     }
-    match topology_type(value) {
+    match judge_type(value, "Topology") {
         Ok(()) => read_members(alloc, value),
         Err(kind) => Err(Fault::here(alloc, kind)),
     }

@@ -5,4 +5,4 @@ use Rattle.query.proofs.users.uses_in.Given as goal
 
 abbrev pub invariant-loop-layer : goal.invariant-loop-layer
 invariant-loop-layer l =
-    l.uses.items ++ gathered (λ k. geometries_uses k.geometries) (drop l.layer-index l.layers) ≡ gathered (λ k. geometries_uses k.geometries) l.layers
+    l.uses.items ++ gathered (λ k. geometries_uses k.geometries) (drop l.layer-index l.fn.layers) ≡ gathered (λ k. geometries_uses k.geometries) l.fn.layers
