@@ -17,6 +17,12 @@ def topotool(*words):
     return subprocess.run([PROGRAM, *words], capture_output=True)
 
 
+def look_for_program():
+    """Ends the script where there is no program."""
+    if not os.path.isfile(PROGRAM):
+        sys.exit(f"{PROGRAM} is not there: rt run in crates/topotool builds it")
+
+
 def words_of(texts):
     """The words of a script that tries so many texts, unless they say another number. Ends it where there is no program."""
     words = argparse.ArgumentParser()
@@ -24,8 +30,7 @@ def words_of(texts):
     words.add_argument("--texts", type=int, default=texts)
     words.add_argument("--seconds", type=float, help="stop after so long")
     words = words.parse_args()
-    if not os.path.isfile(PROGRAM):
-        sys.exit(f"{PROGRAM} is not there: rt run in crates/topotool builds it")
+    look_for_program()
     return words
 
 

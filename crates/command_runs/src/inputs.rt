@@ -1,4 +1,4 @@
-//! Named inputs, and the texts of the maps that several tests build or merge.
+//! Named inputs, and the texts of maps that tests merge.
 
 /// The text of a topology on the grid 1,1,0,0, of which the part before `transform` is given.
 #[macro_export]
@@ -26,21 +26,12 @@ pub const S: &str = r#"{"type":"Polygon","coordinates":[[[1,1],[2,1],[2,2],[1,2]
 /// A triangle whose ring runs against the direction of its arc.
 pub const T: &str = r#"{"type":"Polygon","coordinates":[[[0,0],[2,0],[0,2],[0,0]]]}"#;
 
-/// A map without features.
-pub const NOTHING: &str = r#"{"type":"FeatureCollection","features":[]}"#;
-
 /// A collection of `A` and `B`.
 pub const SQUARES: &str = concat!(
     r#"{"type":"FeatureCollection","features":[{"type":"Feature","properties":null,"geometry":"#,
     r#"{"type":"Polygon","coordinates":[[[0,0],[1,0],[1,1],[0,1],[0,0]]]}},"#,
     r#"{"type":"Feature","properties":null,"geometry":"#,
     r#"{"type":"Polygon","coordinates":[[[1,0],[2,0],[2,1],[1,1],[1,0]]]}}]}"#
-);
-
-/// The rings of `A` and `B` as one feature.
-pub const BOTH_SQUARES: &str = concat!(
-    r#"{"type":"Feature","id":"m","properties":{},"geometry":{"type":"MultiPolygon","#,
-    r#""coordinates":[[[[0,0],[1,0],[1,1],[0,1],[0,0]]],[[[1,0],[2,0],[2,1],[1,1],[1,0]]]]}}"#
 );
 
 /// A ring that visits (1,1) twice.

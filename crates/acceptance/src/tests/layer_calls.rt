@@ -1,6 +1,6 @@
 //! `write_layer`, `feature`, `mesh`, `borders`, `neighbors` and the writers of their answers, called on topologies.
-use command_runs::inputs::{BOW_TIE_TOPOLOGY, EMPTY, SHARED_EDGE, SQUARES};
-use command_runs::{build, rows, script, took};
+use command_runs::inputs::{BOW_TIE_TOPOLOGY, EMPTY, SHARED_EDGE};
+use command_runs::{rows, script, took};
 use query::{
     Edges, LayerFault, QueryFault, borders, feature, mesh, neighbors, write_layer, write_mesh,
     write_neighbors,
@@ -81,14 +81,8 @@ fn expands(alloc: Global, topology: &Topology, text: &str) -> Result<bool, Fail>
     Ok(has_kept(kept, text) && written.is_ok())
 }
 
-/// Texts of which each is built as the two squares.
-const BUILT: &[(&str, &str)] = &[("built", SQUARES), ("built again", SQUARES_PRINTED)];
-
 #[test]
-fn what_is_built_expands_prints_and_builds_again(rt: HostRuntime) -> Result<(), Fail> {
-    for (title, text) in BUILT {
-        build(rt.alloc(), "1,1,0,0", &[("a", *text)])?.printed(*title, SHARED_EDGE)?;
-    }
+fn a_topology_expands_to_its_map(rt: HostRuntime) -> Result<(), Fail> {
     let topology = topology(rt.alloc(), SHARED_EDGE)?;
     assert!(rt; expands(rt.alloc(), &topology, SQUARES_PRINTED)?);
     Ok(())

@@ -1,6 +1,5 @@
 //! Plans that are run as they stand, over shards that keep their map and over shards that keep
 //! their topology: the same text in each order and grouping.
-use crate::tests::merge_rows::ORDERS;
 use command_runs::inputs::{UNIONS, Union};
 use grid::Grid;
 use refine::{Cut, Plan, Shard, Whole, run_plan};
@@ -8,6 +7,18 @@ use shapes::FeatureMap;
 use std::alloc::Global;
 use std::process::Abort;
 use std::test::Fail;
+
+/// All orders of two and of three texts.
+const ORDERS: &[&[usize]] = &[
+    &[0, 1],
+    &[1, 0],
+    &[0, 1, 2],
+    &[0, 2, 1],
+    &[1, 0, 2],
+    &[1, 2, 0],
+    &[2, 0, 1],
+    &[2, 1, 0],
+];
 
 fn grid() -> Result<Grid, Fail> {
     Ok(Grid::new(1, 1, 0, 0).ok_or("no grid")?)

@@ -1,6 +1,6 @@
 //! `merge_texts` by plans of any form: its answers, and its faults in their order.
-use command_runs::inputs::{A, B, EMPTY, FREE_LOOP, ONE_SQUARE, OTHER_TOOL, SHARED_EDGE};
-use command_runs::{built_text, rows, topology};
+use command_runs::inputs::{EMPTY, FREE_LOOP, ONE_SQUARE, OTHER_TOOL, SHARED_EDGE};
+use command_runs::{rows, topology};
 use refine::{MergeFault, Plan, merge_texts};
 use shapes::{Fault, Step};
 use std::alloc::{AllocError, Global};
@@ -116,6 +116,11 @@ fn answers_and_faults(rt: HostRuntime) -> Result<(), Fail> {
     Ok(())
 }
 
+/// The topology of the square to the right of that of `ONE_SQUARE`, with which it shares an edge.
+const NEXT_SQUARE: &str = topology!(
+    r#"{"arcs":[[[1,0],[0,1],[1,0],[0,-1],[-1,0]]],"bbox":[1,0,2,1],"objects":{"a":{"geometries":[{"arcs":[[-1]],"type":"Polygon"}],"type":"GeometryCollection"}},"#
+);
+
 /// Plans that name two texts.
 const PLANS: &[(&str, &[Make])] = rows![
     "in order", &[Make::Leaf(0), Make::Leaf(1), Make::Node];
@@ -126,9 +131,7 @@ const PLANS: &[(&str, &[Make])] = rows![
 
 #[test]
 fn plans_that_name_the_same_texts(rt: HostRuntime) -> Result<(), Fail> {
-    let first = built_text(rt.alloc(), "1,1,0,0", &[("a", A)])?;
-    let second = built_text(rt.alloc(), "1,1,0,0", &[("a", B)])?;
-    let texts = [first.as_str(), second.as_str()];
+    let texts = [ONE_SQUARE, NEXT_SQUARE];
     for (title, steps) in PLANS {
         assert!(rt;
             is_merged(rt.alloc(), &texts, *steps, SHARED_EDGE)?,
