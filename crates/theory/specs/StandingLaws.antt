@@ -1,4 +1,4 @@
--- The laws of arcs, lists and topologies that stand, as statements over any type V of vertices. Each is promised by the function of `standing` that has its name.
+-- The laws of arcs, lists and topologies that stand, as statements over any type V of vertices. Each is promised by the function of `laws` that has its name.
 use Rattle.std.specs.Prelude.{◌≡◌, List, [], Option}
 use Rattle.std.specs.declared.cmp.Ordering.{Ordering}
 use Rattle.theory.specs.ArcNumbers.{ArcRef, StitchTo, UsesOnce}

@@ -1,5 +1,7 @@
 //! The laws of maps, each promised by a function that does nothing.
 ghost use Rattle.theory.specs.Laws as law;
+ghost use Rattle.theory.specs.RemovingLaws as removing;
+ghost use Rattle.theory.specs.StandingLaws as standing;
 
 /// Two chains that have one segment are one chain, or each is the other's reverse.
 #[tactic(auto, using(crate::proofs::ProvedLaws::one_chain_through_a_segment))]
@@ -194,4 +196,90 @@ pub fn union_known_from_arcs<V>()
 /// What is left of a map u: of each old arc all segments stay, or none.
 pub fn pieces_of_what_is_left<V>()
     ensures { law.PiecesOfWhatIsLeft V }
+{}
+
+// What is left of a map when features are removed.
+
+/// The arcs that the lists left use tell which segments are left, and which of their ends are junctions.
+#[tactic(auto, using(crate::proofs::RemovingProved::kept_arcs_tell))]
+pub fn kept_arcs_tell<V>()
+    ensures { removing.KeptArcsTell V }
+{}
+
+/// Where a kept arc begins at no junction, exactly one other end of a kept arc meets it.
+#[tactic(auto, using(crate::proofs::RemovingProved::two_ends_meet))]
+pub fn two_ends_meet<V>()
+    ensures { removing.TwoEndsMeet V }
+{}
+
+/// Kept arcs joined end to end are exactly the arcs of what is left, and the kept arcs are their pieces.
+pub fn joined_arcs_are_the_arcs<V>()
+    ensures { removing.JoinedArcsAreTheArcs V }
+{}
+
+/// Arcs of what is left that are known already have as pieces the kept arcs that stitch to them.
+#[tactic(auto, using(crate::proofs::RemovingProved::arcs_that_are_cut))]
+pub fn arcs_that_are_cut<V>()
+    ensures { removing.ArcsThatAreCut V }
+{}
+
+/// What begins with which kept arc can be noted, and new lists are read off the old ones by it.
+pub fn new_lists_along_old_ones<V>()
+    ensures { removing.NewListsAlongOldOnes V }
+{}
+
+/// The marked features of a map are a part of it, and the geometries marked alike are theirs.
+pub fn marked_features_are_a_part<V, I>()
+    ensures { removing.MarkedFeaturesAreAPart V I }
+{}
+
+/// The geometries that are left tell which arcs are kept, and where their lines end.
+pub fn kept_by_geometries<V, I>()
+    ensures { removing.KeptByGeometries V I }
+{}
+
+/// The arcs joined, and the lists read off along them, are the topology of what is left.
+pub fn topology_of_what_is_left<V, I, G, B>()
+    ensures { removing.TopologyOfWhatIsLeft V I G B }
+{}
+
+// Arcs, lists and topologies that stand as a text has them.
+
+/// Arcs of which no vertex inside one stands at another place stand.
+#[tactic(auto, using(crate::proofs::StandingProved::arcs_apart_stand))]
+pub fn arcs_apart_stand<V>()
+    ensures { standing.ArcsApartStand V }
+{}
+
+/// Arcs that stand are the arcs of the map that they make: no segment is in two of them, or twice in one.
+pub fn arcs_that_stand<V>()
+    ensures { standing.ArcsThatStand V }
+{}
+
+/// What a list stitches to that uses no arc twice is a line, or, closed, a ring.
+#[tactic(auto, using(crate::proofs::StandingProved::lists_that_stand))]
+pub fn lists_that_stand<V>()
+    ensures { standing.ListsThatStand V }
+{}
+
+/// Arcs that stand as those of a map are its arcs.
+pub fn arcs_of_a_map_that_stand<V>()
+    ensures { standing.ArcsOfAMapThatStand V }
+{}
+
+/// A ring's list, turned to begin where it starts least, is the one that the topology has.
+#[tactic(auto, using(crate::proofs::StandingProved::ring_lists_that_stand))]
+pub fn ring_lists_that_stand<V>()
+    ensures { standing.RingListsThatStand V }
+{}
+
+/// A topology that stands as that of a map is that of the map.
+pub fn topology_that_stands<V, I, G, B>()
+    ensures { standing.TopologyThatStands V I G B }
+{}
+
+/// And the topology of each map stands.
+#[tactic(auto, using(crate::proofs::StandingProved::topologies_stand))]
+pub fn topologies_stand<V, I, G, B>()
+    ensures { standing.TopologiesStand V I G B }
 {}

@@ -1,5 +1,5 @@
 use Rattle.theory.proofs.StandingProved.{topology_that_stands}
-use Rattle.theory.proofs.standing.topology_that_stands.Goals as goal
+use Rattle.theory.proofs.laws.topology_that_stands.Goals as goal
 
 pub returns : goal.returns
 returns c d = topology_that_stands

@@ -1,5 +1,5 @@
 use Rattle.theory.proofs.RemovingProved.{topology_of_what_is_left}
-use Rattle.theory.proofs.removing.topology_of_what_is_left.Goals as goal
+use Rattle.theory.proofs.laws.topology_of_what_is_left.Goals as goal
 
 pub returns : goal.returns
 returns c d = topology_of_what_is_left

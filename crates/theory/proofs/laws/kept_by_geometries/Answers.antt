@@ -1,5 +1,5 @@
 use Rattle.theory.proofs.RemovingProved.{kept_by_geometries}
-use Rattle.theory.proofs.removing.kept_by_geometries.Goals as goal
+use Rattle.theory.proofs.laws.kept_by_geometries.Goals as goal
 
 pub returns : goal.returns
 returns c d = kept_by_geometries

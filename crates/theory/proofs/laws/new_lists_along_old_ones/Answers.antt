@@ -1,5 +1,5 @@
 use Rattle.theory.proofs.RemovingProved.{new_lists_along_old_ones}
-use Rattle.theory.proofs.removing.new_lists_along_old_ones.Goals as goal
+use Rattle.theory.proofs.laws.new_lists_along_old_ones.Goals as goal
 
 pub returns : goal.returns
 returns c d = new_lists_along_old_ones

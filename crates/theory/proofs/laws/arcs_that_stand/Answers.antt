@@ -1,5 +1,5 @@
 use Rattle.theory.proofs.StandingProved.{arcs_that_stand}
-use Rattle.theory.proofs.standing.arcs_that_stand.Goals as goal
+use Rattle.theory.proofs.laws.arcs_that_stand.Goals as goal
 
 pub returns : goal.returns
 returns c d = arcs_that_stand

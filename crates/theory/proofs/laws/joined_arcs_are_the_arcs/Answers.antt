@@ -1,5 +1,5 @@
 use Rattle.theory.proofs.RemovingProved.{joined_arcs_are_the_arcs}
-use Rattle.theory.proofs.removing.joined_arcs_are_the_arcs.Goals as goal
+use Rattle.theory.proofs.laws.joined_arcs_are_the_arcs.Goals as goal
 
 pub returns : goal.returns
 returns c d = joined_arcs_are_the_arcs
