@@ -48,29 +48,29 @@ record IsChoice (R : ℤ → ℤ → Type 0) (choose : ℤ → ℤ → ℤ) : Ty
   left : (a b : ℤ) → R (choose a b) a
   right : (a b : ℤ) → R (choose a b) b
 
+one_of_two : (a b : ℤ) (c : Bool) → (cond c a b ≡ a) ⊎ (cond c a b ≡ b)
+one_of_two a b true = inl refl
+one_of_two a b false = inr refl
+
+either_way : {A B : Type 0} → A ⊎ B → B ⊎ A
+either_way (inl it) = inr it
+either_way (inr it) = inl it
+
 lesser : IsChoice AtMost int_min
 lesser = record {
   order = at_most;
-  one = λ a b. go a b (int_lt b a);
+  one = λ a b. either_way (one_of_two b a (int_lt b a));
   left = λ a b. omega (arith, ints, clamps);
   right = λ a b. omega (arith, ints, clamps);
 }
-  where
-    go : (a b : ℤ) (c : Bool) → (cond c b a ≡ a) ⊎ (cond c b a ≡ b)
-    go a b true = inr refl
-    go a b false = inl refl
 
 greater : IsChoice AtLeast int_max
 greater = record {
   order = at_least;
-  one = λ a b. go a b (int_lt b a);
+  one = λ a b. one_of_two a b (int_lt b a);
   left = λ a b. omega (arith, ints, clamps);
   right = λ a b. omega (arith, ints, clamps);
 }
-  where
-    go : (a b : ℤ) (c : Bool) → (cond c a b ≡ a) ⊎ (cond c a b ≡ b)
-    go a b true = inl refl
-    go a b false = inr refl
 
 -- a is the first of what f gives of the positions: the least by AtMost, the greatest by AtLeast
 record IsFirst (R : ℤ → ℤ → Type 0) (f : Pos → ℤ) (ps : List Pos) (a : ℤ) : Type 0 where

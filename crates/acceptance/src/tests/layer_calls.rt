@@ -81,19 +81,19 @@ fn expands(alloc: Global, topology: &Topology, text: &str) -> Result<bool, Fail>
     Ok(has_kept(kept, text) && written.is_ok())
 }
 
-#[test]
-fn a_topology_expands_to_its_map(rt: HostRuntime) -> Result<(), Fail> {
-    let topology = topology(rt.alloc(), SHARED_EDGE)?;
-    assert!(rt; expands(rt.alloc(), &topology, SQUARES_PRINTED)?);
-    Ok(())
-}
-
 /// Whether all borders of the layer `a` are written as this text.
 fn are_borders(alloc: Global, topology: &Topology, text: &str) -> Result<bool, Fail> {
     let lines = mesh(alloc, topology, Some("a"), |_: &Feature, _: &Feature| true)?;
     let mut kept = Kept::new(alloc);
     let written = write_mesh(&topology.grid(), &lines, &mut kept);
     Ok(has_kept(kept, text) && written.is_ok())
+}
+
+#[test]
+fn a_topology_expands_to_its_map(rt: HostRuntime) -> Result<(), Fail> {
+    let topology = topology(rt.alloc(), SHARED_EDGE)?;
+    assert!(rt; expands(rt.alloc(), &topology, SQUARES_PRINTED)?);
+    Ok(())
 }
 
 #[test]
