@@ -10,8 +10,8 @@ topology of what is left takes, each without reading files or writing the text: 
 it several times is compared with one that does it once. Times are processor times (user and
 system), the least of some runs; all sizes are measured by the same turns. The texts of both are
 compared byte by byte. The goal, which no test asks for: at most 0.4 times the build, and at most 2.2 times as long
-for the double, in the mean of the doublings that were measured. Where what a removal reads and writes outgrows a cache of
-the machine, one doubling takes longer than those before it and after it, so several doublings tell more than one:
+for the double, for each doubling and in their mean. Where what a removal reads and writes outgrows a cache of the machine,
+one doubling takes longer than others, so several tell more than one:
 
     python3 bench/removals.py --positions 250000 --doublings 4
 """
@@ -87,15 +87,19 @@ def tell(line, misses):
 
 def tell_size(name, count, remove, build, before):
     """Prints what one removal takes, beside the build and beside the size before."""
-    grows = "" if before is None else f"; remove grows by {remove / before:.2f}"
-    line = f"{count} positions, {name}: remove {remove:.3f} s, build {build:.3f} s, {remove / build:.2f} of it{grows}"
-    tell(line, remove > GREATEST_RATIO * build)
+    line = f"{count} positions, {name}: remove {remove:.3f} s, build {build:.3f} s, {remove / build:.2f} of it"
+    misses = remove > GREATEST_RATIO * build
+    if before is not None:
+        line += f"; remove grows by {remove / before:.2f}"
+        misses = misses or remove > GREATEST_GROWTH * before
+    tell(line, misses)
 
 
 def tell_growth(name, removes):
-    """Prints by how much one removal grows for the double, in the geometric mean of all doublings."""
+    """Prints by how much one removal grows for the double, in the geometric mean of several doublings; nothing where a
+    removal took too little time to tell."""
     doublings = len(removes) - 1
-    if doublings:
+    if doublings > 1 and min(removes) > 0:
         growth = (removes[-1] / removes[0]) ** (1 / doublings)
         tell(f"{name}: remove grows by {growth:.2f} for the double, in the mean of {doublings}", growth > GREATEST_GROWTH)
 
