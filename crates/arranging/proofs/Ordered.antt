@@ -30,12 +30,6 @@ marks_are arcs ls copies lent lent_too ends marks e f g h k =
     k ∙ (λ i. map (goes_free (h i ++ gathered ends_once (b i))) (b i))
     ∙ ap (λ w. map (goes_free (gathered (line_ends w) (layers_lines ls) ++ gathered ends_once arcs)) arcs) a
 
--- where the lists don't fit, none can stand
-pub none_fits : (arcs : List (List Pos)) (ls : List LayerParts) (starts : List ℕ) (b : Bool) → starts ≡ starts_in arcs ls → b ≡ layers_fit starts ls → b ≡ false →
-    (new_arcs : List (List Pos)) → ¬ CanStandFor arcs ls new_arcs
-none_fits arcs ls starts b s e f new_arcs h =
-    let k : true ≡ false = sym h.fit ∙ ap (λ w. layers_fit w ls) (sym s) ∙ sym e ∙ f in absurd cc
-
 -- what comes of arcs and layers that are put into order
 pub record IsArranged (arcs : List (List Pos)) (ls : List LayerParts) (new_arcs : List (List Pos)) (new_layers : List LayerParts) : Type 0 where
   pub kept : KeepLayers arcs new_arcs ls new_layers

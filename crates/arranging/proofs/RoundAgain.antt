@@ -49,10 +49,6 @@ pub around_in : {V : Type 0} (b : Bool) (c d : List V) → Around c d → Around
 around_in true c d a = around_reverse c d a
 around_in false c d a = a
 
-pub length_front : {V : Type 0} (x : V) (r : List V) → length (front_of x r) ≡ length r
-length_front x [] = refl
-length_front x (y ∷ r) = ap suc (length_front y r)
-
 -- a closed list of two places or more is a ring's
 closed_is : (x y : Pos) (r : List Pos) → is_closed position_cmp (x ∷ (y ∷ r)) ≡ true → x ∷ (y ∷ r) ≡ closed (unclosed (x ∷ (y ∷ r)))
 closed_is x y r e =

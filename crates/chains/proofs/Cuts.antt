@@ -7,7 +7,7 @@ use Rattle.theory.specs.Lists.{Has}
 use Rattle.chains.specs.Among.{among}
 use Rattle.chains.specs.Index.{IsIndexOf}
 use Rattle.chains.specs.Starts.{start_place}
-use Rattle.chains.specs.Pieces.{first_stops, parts_at, ring_parts, opened_at, cut_list}
+use Rattle.chains.specs.Pieces.{parts_at, ring_parts, cut_list}
 use Rattle.lines.proofs.Positions.{position_dec}
 use Rattle.chains.proofs.Among.{among_has, has_among}
 use Rattle.theory.specs.LinesAndRings.{closed}
@@ -35,18 +35,6 @@ place_within stop x (y ∷ r) =
 pub none_to_cut : (stop : Pos → Bool) (r : List Pos) (i : ℕ) → i ≡ start_place stop r → length r ≤ i → ring_parts stop r ≡ []
 none_to_cut stop [] i e h = refl
 none_to_cut stop (x ∷ r) i e h = let k = place_within stop x r in absurd (omega (arith, e))
-
-pub cut_parts : (stop : Pos → Bool) (r : List Pos) (i : ℕ) → i ≡ start_place stop r → i < length r → first_stops stop (drop i r) ≡ true →
-    cut_list stop (opened_at i r) ≡ ring_parts stop r
-cut_parts stop [] i e h f = absurd (omega arith)
-cut_parts stop (x ∷ r) i e h f =
-    subst (λ n. cut_list stop (opened_at i (x ∷ r)) ≡ parts_at stop n (x ∷ r)) e (rw f refl)
-
-pub whole_part : (stop : Pos → Bool) (r : List Pos) (i : ℕ) → i ≡ start_place stop r → i < length r → first_stops stop (drop i r) ≡ false →
-    opened_at i r ∷ [] ≡ ring_parts stop r
-whole_part stop [] i e h f = absurd (omega arith)
-whole_part stop (x ∷ r) i e h f =
-    subst (λ n. opened_at i (x ∷ r) ∷ [] ≡ parts_at stop n (x ∷ r)) e (rw f refl)
 
 module _ (g : Geometry Pos) (sound : IsSound g) (keys : List Pos) (index : IsIndexOf keys g) where
   pub stops : (v : Pos) → among keys v ≡ true → JunctionOf g v

@@ -35,9 +35,6 @@ longer : (ks : List ℕ) (n : ℕ) → length (ks ++ (n ∷ [])) ≡ suc (length
 longer [] n = refl
 longer (k ∷ ks) n = ap suc (longer ks n)
 
-pub below_none : AreBelow []
-below_none k h = absurd (has_from_contains k [] h.0 h.1 h.2)
-
 module _ {X : Type 0} where
   pub below_pushed : (es : List (ℕ × X)) (v : X) → AreBelow (keys_of es) → AreBelow (keys_of (es ++ ((length es, v) ∷ [])))
   below_pushed es v b = subst AreBelow (sym (keys_pushed es (length es) v)) (λ k h.

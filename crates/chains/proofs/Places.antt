@@ -7,7 +7,7 @@ use Rattle.theory.specs.Lists.{Has}
 use Rattle.lines.specs.Pairs.{position_eq}
 use Rattle.chains.specs.Pieces.{used}
 use Rattle.chains.specs.declared.cutting.Piece.{Piece}
-use Rattle.chains.specs.Table.{same_list, located, found_in}
+use Rattle.chains.specs.Table.{same_list}
 use Rattle.lines.proofs.Positions.{position_true, position_refl, both_true, both_intro}
 use Rattle.theory.specs.ArcNumbers.{along}
 
@@ -66,30 +66,6 @@ pub along_found : (l : List (List Pos)) (p : Piece) (q : List Pos) (i : ℕ) (r 
     along l (record { arc = i; reversed = r }) ≡ Some (used p)
 along_found l p q i r e f h =
     ap (option_map (λ c. cond r (reverse c) c)) (found_at q l i e) ∙ (λ j. Some (cond (h j) (reverse (f j)) (f j)))
-
--- the place that a search finds is that of the used arc
-pub found_located : (l : List (List Pos)) (p : Piece) (q : List Pos) (i : ℕ) (r : Bool) → Some i ≡ position (same_list q) l → q ≡ p.chain → r ≡ p.reversed →
-    record { arc = i; reversed = r } ≡ located l p
-found_located l p q i r e f h = go (nat_lt (position_or_len (same_list q) l) (length l)) e
-  where
-    go : (b : Bool) → Some i ≡ cond b (Some (position_or_len (same_list q) l)) None → record { arc = i; reversed = r } ≡ located l p
-    go true k =
-        let n : i ≡ position_or_len (same_list q) l = cc in
-        let a : i ≡ position_or_len (same_list p.chain) l = n ∙ ap (λ w. position_or_len (same_list w) l) f in
-        λ j. record { arc = a j; reversed = h j }
-    go false k = absurd cc
-
--- the answer of a search, in one word
-pub found_computed : (l : List (List Pos)) (p : Piece) (q : List Pos) (i : ℕ) (r : Bool) → Some i ≡ position (same_list q) l → q ≡ p.chain → r ≡ p.reversed →
-    Some (record { arc = i; reversed = r }) ≡ found_in l p
-found_computed l p q i r e f h =
-    ap (option_map (λ n. record { arc = n; reversed = r })) e
-    ∙ (λ j. option_map (λ n. record { arc = n; reversed = h j }) (position (same_list (f j)) l))
-
-pub none_computed : (l : List (List Pos)) (p : Piece) (q : List Pos) → None ≡ position (same_list q) l → q ≡ p.chain → None ≡ found_in l p
-none_computed l p q e f =
-    ap (option_map (λ n. record { arc = n; reversed = p.reversed })) e
-    ∙ (λ j. option_map (λ n. record { arc = n; reversed = p.reversed }) (position (same_list (f j)) l))
 
 -- a member's place is found
 pub found_place : (q : List Pos) (l : List (List Pos)) → Has q l → Some (position_or_len (same_list q) l) ≡ position (same_list q) l

@@ -128,7 +128,3 @@ start_along l arc x r e u v = (
   (λ h. elim h [ inl k ↦ inl k | inr k ↦ inr (subst (λ w. SidesOf w u v) (sym e) k) ]),
   (λ h. elim h [ inl k ↦ inl k | inr k ↦ inr (subst (λ w. SidesOf w u v) e k) ]),
 )
-
--- an arc without positions
-pub no_sides : (l : List Segment) (arc : List Pos) → arc ≡ [] → (u v : Pos) → AmongSegments u v l ↔ (AmongSegments u v l ⊎ SidesOf arc u v)
-no_sides l arc e u v = ((λ h. inl h), (λ h. elim h [ inl k ↦ k | inr k ↦ absurd (subst (λ w. SidesOf w u v) e k) ]))

@@ -2,7 +2,7 @@
 use Rattle.std.proofs.Common.{◌≡◌, ℕ, zero, suc, ◌+◌, ◌-◌, ◌<◌, ◌≤◌, Bool, true, false, cond, List, [], ◌∷◌, ◌++◌, map, take, drop, slice_get, slice_range, Some, refl, sym, ap, ◌∙◌, arith, append_assoc}
 use Rattle.theory.specs.Cutting.{cut_from}
 use Rattle.grid.specs.declared.pos.Pos.{Pos}
-use Rattle.chains.specs.Pieces.{oriented, cut_list}
+use Rattle.chains.specs.Pieces.{oriented}
 use Rattle.chains.specs.declared.cutting.Piece.{Piece}
 use Rattle.lines.proofs.Dropping.{drop_next}
 
@@ -31,11 +31,6 @@ module _ {A : Type 0} where
       let n : i ≤ i = omega arith in
       let m : i - i ≡ 0 = omega arith in
       range_more l i i p n e ∙ ap (λ k. take k (drop i l) ++ (p ∷ [])) m
-
--- before the first step
-pub cut_start : (stop : Pos → Bool) (l : List Pos) → cut_from stop (slice_range l 0 1) (drop 1 l) ≡ cut_list stop l
-cut_start stop [] = refl
-cut_start stop (x ∷ r) = refl
 
 -- a step onto a stop, and one onto another vertex
 pub cut_stop : (stop : Pos → Bool) (l : List Pos) (b i b' : ℕ) (p : Pos) (ps : List Piece) (q : Piece) (ps' all : List Piece) → b < i → slice_get l i ≡ Some p → stop p ≡ true →

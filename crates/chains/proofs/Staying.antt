@@ -1,9 +1,8 @@
 -- A free loop that is an arc of both maps together stays as it is: it is turned already.
-use Rattle.std.proofs.Common.{◌≡◌, ℕ, false, List, [], ◌∷◌, inl, inr, refl, sym, ap, ◌∙◌, subst, Some}
+use Rattle.std.proofs.Common.{◌≡◌, List, [], ◌∷◌, inl, inr, refl, sym, subst}
 use Rattle.std.proofs.lemmas.Cmp.{lists_total}
 use Rattle.std.specs.Cmp.Lexicographic.{slice_cmp}
 use Rattle.std.specs.FinMap.{slice_cmp-IsAntisymmetric}
-use Rattle.std.specs.List.{position}
 use Rattle.theory.specs.ArcNumbers.{ArcRef, StitchTo}
 use Rattle.theory.specs.Chain.{Free}
 use Rattle.theory.specs.Geometry.{AtMost, Geometry, IsChainOf, JunctionOf}
@@ -11,34 +10,13 @@ use Rattle.theory.specs.LinesAndRings.{closed}
 use Rattle.theory.specs.Lists.{Distinct, Has}
 use Rattle.theory.specs.Seam.{IsTurned}
 use Rattle.theory.specs.Topology.{IsRingList}
-use Rattle.theory.proofs.ArcNumbers.{along_get}
 use Rattle.theory.proofs.Ascending.{at_most_self}
 use Rattle.theory.proofs.Lists.{Has-append_left, append_nil, front-snoc}
-use Rattle.theory.proofs.ListsOfLists.{get_has}
 use Rattle.theory.proofs.TurnedLists.{one_rotation}
 use Rattle.grid.specs.declared.pos.Pos.{Pos}
 use Rattle.lines.specs.Turned.{position_cmp}
-use Rattle.chains.specs.Table.{same_list}
 use Rattle.lines.specs.Positions.{position_total, position_same}
-use Rattle.chains.proofs.Places.{along_found}
 
--- a list that is found among others is one of them
-pub found_has : (arcs : List (List Pos)) (c : List Pos) (n : ℕ) → Some n ≡ position (same_list c) arcs → Has c arcs
-found_has arcs c n p =
-    let t = along_get arcs (record { arc = n; reversed = false }) c (along_found arcs (record { chain = c; reversed = false; free = false }) c n false p refl refl) in
-    get_has arcs n c (t.1 ∙ ap Some (sym t.2))
-
--- an arc that is found among others stitches to itself
-pub found_stitches : (g : Geometry Pos) (arcs : List (List Pos)) (c : List Pos) (n : ℕ) → IsChainOf position_cmp g c → Some n ≡ position (same_list c) arcs →
-    StitchTo arcs (record { arc = n; reversed = false } ∷ []) c
-found_stitches g arcs [] n k e = absurd k
-found_stitches g arcs (x ∷ q) n k e = (
-  q,
-  [],
-  along_found arcs (record { chain = x ∷ q; reversed = false; free = false }) (x ∷ q) n false e refl refl,
-  sym (append_nil q),
-  refl,
-)
 
 module _ (g u : Geometry Pos) where
   turned : (x : Pos) (l : List Pos) → IsChainOf position_cmp g (closed (x ∷ l)) → Free (JunctionOf g) (closed (x ∷ l)) → IsChainOf position_cmp u (closed (x ∷ l)) →

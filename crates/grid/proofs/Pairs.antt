@@ -4,7 +4,6 @@ use Rattle.std.specs.Prelude.{Result, Ok, Err}
 use Rattle.grid.specs.Place.{Scaling, Transform, IsGridNumber, IsNumberOf, absolute}
 use Rattle.grid.specs.Fits.{IsPlaceOf, one_position}
 use Rattle.grid.specs.Fault.{IsAxisFault, IsPlaceFault, at_element}
-use Rattle.grid.specs.Computed.{axis_number, both_numbers, place_numbers}
 use Rattle.grid.specs.declared.pos.Pos.{Pos}
 use Rattle.grid.proofs.Heard.{Answers}
 use Rattle.grid.specs.declared.transform.AxisFault.{AxisFault}
@@ -49,10 +48,6 @@ x_exact t ax ay r f g e h p =
 pub x_fault : (t : Transform) (ax ay : ℤ) (r : Result ℤ AxisFault) (f : AxisFault) (g : GridFault) → r ≡ Err f → Answers t.x ax r → g ≡ at_element 0 f → IsPlaceFault t (ax, ay) g
 x_fault t ax ay r f g e h k = inl (f, k, fault_says t.x ax r f e h)
 
-pub x_computed : (t : Transform) (ax ay : ℤ) (r : Result ℤ AxisFault) (f : AxisFault) (g : GridFault) → r ≡ Err f → Answers t.x ax r → g ≡ at_element 0 f → ◌≡◌ {A = Result (ℤ × ℤ) GridFault} (Err g) (place_numbers t (ax, ay))
-x_computed t ax ay r f g e h k =
-    ap Err k ∙ sym (ap (λ z. both_numbers z (axis_number t.y ay)) (sym h.computed ∙ e))
-
 -- ---- y has the first fault
 
 pub y_exact : (t : Transform) (ax ay : ℤ) (r : Result ℤ AxisFault) (f : AxisFault) (g : GridFault) → r ≡ Err f → Answers t.y ay r → (p : Pos) → (◌≡◌ {A = Result Pos GridFault} (Err g) (Ok p)) ↔ IsPlaceOf t (ax, ay) p
@@ -61,10 +56,6 @@ y_exact t ax ay r f g e h p =
 
 pub y_fault : (t : Transform) (ax ay : ℤ) (q r : Result ℤ AxisFault) (m : ℤ) (f : AxisFault) (g : GridFault) → q ≡ Ok m → r ≡ Err f → Answers t.x ax q → Answers t.y ay r → g ≡ at_element 1 f → IsPlaceFault t (ax, ay) g
 y_fault t ax ay q r m f g d e i h k = inr (m, f, (i.exact m).0 d, k, fault_says t.y ay r f e h)
-
-pub y_computed : (t : Transform) (ax ay : ℤ) (q r : Result ℤ AxisFault) (m : ℤ) (f : AxisFault) (g : GridFault) → q ≡ Ok m → r ≡ Err f → Answers t.x ax q → Answers t.y ay r → g ≡ at_element 1 f → ◌≡◌ {A = Result (ℤ × ℤ) GridFault} (Err g) (place_numbers t (ax, ay))
-y_computed t ax ay q r m f g d e i h k =
-    ap Err k ∙ sym (ap (λ z. both_numbers z (axis_number t.y ay)) (sym i.computed ∙ d) ∙ ap (both_numbers (Ok m)) (sym h.computed ∙ e))
 
 -- ---- both have a grid number
 
@@ -87,7 +78,3 @@ both_exact t ax ay q r m n c d e i h u v p = (
   number s a r n k e h w = one n k (sym e ∙ (h.exact k).1 w) where
     one : (n k : ℤ) → ◌≡◌ {A = Result ℤ AxisFault} (Ok n) (Ok k) → n ≡ k
     one n k e = cc
-
-pub both_computed : (t : Transform) (ax ay : ℤ) (q r : Result ℤ AxisFault) (m n : ℤ) (c : Pos) → q ≡ Ok m → r ≡ Ok n → Answers t.x ax q → Answers t.y ay r → c.x ≡ m → c.y ≡ n → ◌≡◌ {A = Result (ℤ × ℤ) GridFault} (Ok (c.x, c.y)) (place_numbers t (ax, ay))
-both_computed t ax ay q r m n c d e i h u v =
-    ap Ok (same_pair c.x c.y m n u v) ∙ sym (ap (λ z. both_numbers z (axis_number t.y ay)) (sym i.computed ∙ d) ∙ ap (both_numbers (Ok m)) (sym h.computed ∙ e))

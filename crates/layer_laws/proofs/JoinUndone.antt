@@ -8,8 +8,6 @@ use Rattle.std.specs.Cmp.Lexicographic.{nat_list_cmp_total, slice_cmp}
 use Rattle.std.specs.declared.cmp.Ordering.{Ordering}
 use Rattle.std.specs.declared.cmp.Ordering.TheVariants.{Less, Equal, Greater}
 use Rattle.std.specs.FinMap as map
-use Rattle.grid.specs.Place.{Transform}
-use Rattle.shapes.specs.Fitting.{MapFits}
 use Rattle.shapes.specs.Maps.{Features, Layers, features_at}
 use Rattle.shapes.specs.Order.{feature_cmp}
 use Rattle.shapes.specs.OrderLaws.{feature_cmp_total, feature_tied, same_feature, same_text}
@@ -106,55 +104,7 @@ join_undone m r apart = map.same_map nat_list_cmp_total same_text (less (union m
     go (Some s) None names k = ap Some (less_nothing s)
     go (Some s) (Some t) names k = ap Some (less_union s t k)
 
--- what a map without another one's features holds under a name
-pub holds-less : (m r : Layers) (name : List ℕ) (f : Feature) →
-    set.contains (features_at (less m r) name) f ≡ (set.contains (features_at m name) f && not (set.contains (features_at r name) f))
-holds-less m r name f =
-    ap (λ o. set.contains (unwrap_or o set.empty) f) (get-less m r name) ∙ go (map.get m name)
-  where
-    nothing : (a : Bool) → a ≡ false → (c : Bool) → a ≡ (a && c)
-    nothing true e c = absurd cc
-    nothing false e c = refl
-
-    go : (a : Option Features) →
-        set.contains (unwrap_or (option_map (λ s. features_less s (features_at r name)) a) set.empty) f
-        ≡ (set.contains (unwrap_or a set.empty) f && not (set.contains (features_at r name) f))
-    go None = nothing (set.contains (set.empty {R = feature_cmp}) f) (contains-empty feature_cmp f) (not (set.contains (features_at r name) f))
-    go (Some s) = contains-less s (features_at r name) f
-
--- a map that fits a grid fits it also without another one's features
-pub less_fits : (g : Transform) (m r : Layers) → MapFits g m → MapFits g (less m r)
-less_fits g m r fits name f h = fits name f (first (set.contains (features_at m name) f) _ (sym (holds-less m r name f) ∙ h))
-  where
-    first : (a b : Bool) → (a && b) ≡ true → a ≡ true
-    first true b e = refl
-    first false b e = e
-
 -- each layer and each feature of r is one of m
 pub record IsWithin (m r : Layers) : Type 0 where
   pub names : (q : List ℕ) → map.contains_key r q ≡ true → map.contains_key m q ≡ true
   pub features : (q : List ℕ) (f : Feature) → set.contains (features_at r q) f ≡ true → set.contains (features_at m q) f ≡ true
-
--- what is taken away and brought in again leaves the map that was there
-pub removal_undone : (m r : Layers) → IsWithin m r → union (less m r) r ≡ m
-removal_undone m r within = map.same_map nat_list_cmp_total same_text (union (less m r) r) m
-    (λ q. get-union nat_list_cmp_total same_text (less m r) r q
-    ∙ ap (λ a. both a (map.get r q)) (get-less m r q)
-    ∙ go (map.get m q) (map.get r q) (within.names q) (within.features q))
-  where
-    back : (a b : Bool) → (b ≡ true → a ≡ true) → ((a && not b) || b) ≡ a
-    back true true k = refl
-    back true false k = refl
-    back false true k = sym (k refl)
-    back false false k = refl
-
-    go : (a b : Option Features) → (is_some b ≡ true → is_some a ≡ true) →
-        ((f : Feature) → set.contains (unwrap_or b set.empty) f ≡ true → set.contains (unwrap_or a set.empty) f ≡ true) →
-        both (option_map (λ s. features_less s (unwrap_or b set.empty)) a) b ≡ a
-    go None None names k = refl
-    go None (Some t) names k = let no : false ≡ true = names refl in absurd cc
-    go (Some s) None names k = ap Some (less_nothing s)
-    go (Some s) (Some t) names k = ap Some (same_set feature_cmp_total same_feature (set.union (features_less s t) t) s
-        (λ f. contains-union feature_cmp_total (features_less s t) t f
-        ∙ ap (λ b. b || set.contains t f) (contains-less s t f)
-        ∙ back (set.contains s f) (set.contains t f) (k f)))

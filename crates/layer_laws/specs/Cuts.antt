@@ -12,9 +12,8 @@ use Rattle.shapes.specs.Maps.{Features}
 use Rattle.shapes.specs.declared.feature.Feature.{Feature}
 use Rattle.theory.specs.ArcNumbers.{ArcRef}
 use Rattle.theory.specs.Refinement.{replaced, turned_used}
-use Rattle.topo.specs.declared.geom.Body.{Body}
 use Rattle.topo.specs.declared.geom.Geom.{Geom}
-use Rattle.rewriting.specs.Rewritten.{body_rewritten, geometry_rewritten}
+use Rattle.rewriting.specs.Rewritten.{geometry_rewritten}
 
 -- the first, the second or the third, as the order is
 abbrev pub by_order : {A : Type 0} → Ordering → A → A → A → A
@@ -63,9 +62,6 @@ line_recut pieces used = replaced pieces used
 
 abbrev pub ring_recut : List (List Pos) → List (List ArcRef) → List ArcRef → List ArcRef
 ring_recut table pieces used = turned_used position_cmp table (replaced pieces used)
-
-abbrev pub body_recut : List (List Pos) → List (List ArcRef) → Body → Body
-body_recut table pieces = body_rewritten (line_recut pieces) (ring_recut table pieces)
 
 -- a geometry by the arcs that the old ones are cut into: its id and its properties stay
 abbrev pub geometry_recut : List (List Pos) → List (List ArcRef) → Geom → Geom

@@ -8,9 +8,8 @@ use Rattle.shapes.specs.Sets as set
 use Rattle.shapes.specs.declared.feature.Feature.{Feature}
 use Rattle.theory.specs.Removing.{Starts, marked, rejoined, ring_rejoined}
 use Rattle.topo.specs.Parts.{LayerParts}
-use Rattle.topo.specs.declared.geom.Body.{Body}
 use Rattle.topo.specs.declared.geom.Geom.{Geom}
-use Rattle.rewriting.specs.Rewritten.{body_rewritten, geometry_rewritten, layer_rewritten}
+use Rattle.rewriting.specs.Rewritten.{geometry_rewritten, layer_rewritten}
 
 -- the members of a list for which the answer is no
 abbrev pub without : {A : Type 0} → (A → Bool) → List A → List A
@@ -50,10 +49,6 @@ abbrev pub layers_left : List (List Bool) → List LayerParts → List LayerPart
 layers_left [] ls = []
 layers_left (marks ∷ more) [] = []
 layers_left (marks ∷ more) (l ∷ ls) = record { name = l.name; geometries = marked marks l.geometries } ∷ layers_left more ls
-
--- a geometry by the arcs that the old ones are joined to: its id and its properties stay
-abbrev pub body_rejoined : List (List Pos) → Starts → Body → Body
-body_rejoined arcs starts = body_rewritten (rejoined starts 0) (ring_rejoined position_cmp arcs starts)
 
 abbrev pub geometry_rejoined : List (List Pos) → Starts → Geom → Geom
 geometry_rejoined arcs starts = geometry_rewritten (rejoined starts 0) (ring_rejoined position_cmp arcs starts)

@@ -99,10 +99,6 @@ module _ {S : Type 0} (grid : S → Transform) (map_of : S → Layers) where
   pub none_read : (texts : List (List ℕ)) (shards : List S) → shards ≡ [] → SoFar grid map_of texts texts 0 shards
   none_read texts shards none = record { before = []; parts = refl; at = refl; read = subst (AreRead grid map_of []) (sym none) tt }
 
-pub means_as : (bytes text : List ℕ) (g h : Transform) (m n : Layers) → bytes ≡ text → h ≡ g → n ≡ m → Means bytes g m → Means text h n
-means_as bytes text g h m n same grid map means =
-    subst (λ t. Means t h n) same (subst (λ k. Means bytes k n) (sym grid) (subst (λ k. Means bytes g k) (sym map) means))
-
 pub none_mapped : {A B : Type 0} (f : A → B) (xs : List A) → length xs ≡ 0 → map f xs ≡ []
 none_mapped f [] e = refl
 none_mapped f (x ∷ xs) e = absurd (omega arith)
@@ -139,13 +135,6 @@ other_mapped f (s ∷ ss) = off_mapped f (f s) (s ∷ ss)
 -- lists with the same grids have the same first other grid
 same_others : {S T : Type 0} (f : S → Transform) (g : T → Transform) (ss : List S) (ts : List T) → map f ss ≡ map g ts → first_other f ss ≡ first_other g ts
 same_others f g ss ts e = sym (other_mapped f ss) ∙ ap (first_other (λ h. h)) e ∙ other_mapped g ts
-
--- a text that is not read, where the plan has places
-pub read_merge : (texts : List (List ℕ)) (is : List ℕ) (m : MergeFault) → first_outside (length texts) is ≡ None → IsReadFault texts m → IsMergeFault texts is m
-read_merge texts is (BadPlan k) none h = absurd h
-read_merge texts is (Text k f) none h = (none, h)
-read_merge texts is (OtherGrid k) none h = absurd h
-read_merge texts is OutOfMemory none h = tt
 
 -- a text on another grid, where the texts are read
 pub grids_merge : {S : Type 0} (f : S → Transform) (h : S → Layers) (texts : List (List ℕ)) (ss : List S) (grids : List Transform) (is : List ℕ) (n : ℕ)

@@ -1,7 +1,6 @@
 -- Plans' leaves, and unions over them.
 use Rattle.std.proofs.Common.{◌≡◌, ℕ, ℤ, ◌<◌, Bool, true, false, cond, List, [], ◌∷◌, ◌++◌, length, get_or, Some, None, refl, sym, ◌∙◌, ap, arith}
 use Rattle.std.specs.Prelude.{All, map as map_list, nat_lt, slice_get, unwrap_or, option_map}
-use Rattle.std.proofs.Common.{Result, Ok, Err, IfOk}
 use Rattle.std.proofs.lemmas.Option.{slice_get-map, slice_get-get_or}
 use Rattle.std.proofs.lemmas.List.{map-append}
 use Rattle.std.specs.FinMap as map
@@ -85,10 +84,6 @@ map_at f ss i s lt e =
 pub union_at_one : {S : Type 0} (f : S → Layers) (ss : List S) (i : ℕ) (s : S) → i < length ss → s ≡ get_or ss i s →
     f s ≡ union_at (map_list f ss) (i ∷ [])
 union_at_one f ss i s lt e = sym (union_empty _ ∙ map_at f ss i s lt e)
-
-pub ok_is : {S E M : Type 0} (r : Result S E) (f : S → M) (m k : M) → IfOk r (λ s. f s ≡ m) → m ≡ k → IfOk r (λ s. f s ≡ k)
-ok_is (Ok s) f m k h e = h ∙ e
-ok_is (Err x) f m k h e = tt
 
 pub no_first : {S : Type 0} (ss : List S) → None ≡ slice_get ss 0 → length ss ≡ 0
 no_first [] e = refl

@@ -174,16 +174,3 @@ layer_missing Q n = ((λ e. n), λ k. refl)
 
 pub layer_found : {A : Type 0} (a : A) (Q : Type 0) → Q → (◌≡◌ {A = Result A QueryFault} (Ok a) (Err NoLayer)) ↔ (¬ Q)
 layer_found a Q q = ((λ e. cc), λ n. absurd (n q))
-
--- nor after the features were found
-pub found_stands : {A B : Type 0} (r : Result A QueryFault) (made : Result B QueryFault) (b : B) (P : Type 0) → ((made ≡ Err NoLayer) ↔ P) → made ≡ Ok b →
-    IsErrAnd r (λ f. f ≡ WantOfMemory) → (r ≡ Err NoLayer) ↔ P
-found_stands r made b P h e w =
-    let none : ¬ P = λ p. (let k : Ok b ≡ Err NoLayer = sym e ∙ h.1 p in cc) in
-    let s = layer_stands r (¬ P) w none in
-    ((λ k. absurd (s.0 k none)), (λ p. absurd (none p)))
-
--- nor after they were found, and the answer is there
-pub made_stands : {A B : Type 0} (a : A) (made : Result B QueryFault) (b : B) (P : Type 0) → ((made ≡ Err NoLayer) ↔ P) → made ≡ Ok b →
-    (◌≡◌ {A = Result A QueryFault} (Ok a) (Err NoLayer)) ↔ P
-made_stands a made b P h e = ((λ k. cc), (λ p. absurd (let k : Ok b ≡ Err NoLayer = sym e ∙ h.1 p in cc)))

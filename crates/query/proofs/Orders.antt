@@ -13,16 +13,12 @@ use Rattle.query.specs.contracts.questions.neighbors.PairPartialEq.TheImpl as pa
 use Rattle.query.specs.Uses.{use_cmp}
 use Rattle.query.specs.Pairs.{pair_cmp}
 use Rattle.query.specs.Spans.{span_cmp}
-use Rattle.query.specs.declared.spans.Span.{Span}
 
 pub use_total : IsTotalOrder use_cmp
 use_total = then_total (on_total (λ (u : Use). u.arc) nat_cmp_total) (on_total (λ (u : Use). u.place) nat_cmp_total)
 
 pub pair_total : IsTotalOrder pair_cmp
 pair_total = then_total (on_total (λ (p : Pair). p.place) nat_cmp_total) (on_total (λ (p : Pair). p.other) nat_cmp_total)
-
-pub span_total : IsTotalOrder span_cmp
-span_total = then_total (on_total (λ (s : Span). s.least) nat_cmp_total) (on_total (λ (s : Span). s.greatest) nat_cmp_total)
 
 -- two pairs of numbers that tie are the same
 both_same : (a b c d : ℕ) → ordering_then (nat_cmp a b) (nat_cmp c d) ≡ Equal → (a ≡ b) × (c ≡ d)

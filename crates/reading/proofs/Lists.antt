@@ -1,9 +1,9 @@
 -- Lists of values and of their data.
-use Rattle.std.proofs.Common.{◌≡◌, ℕ, zero, add-one, suc, ◌+◌, ◌<◌, ◌≤◌, length, get_or, drop, take, List, [], ◌∷◌, ◌++◌, Some, map, refl, sym, ap, ◌∙◌, subst, arith}
+use Rattle.std.proofs.Common.{◌≡◌, ℕ, zero, add-one, suc, ◌+◌, ◌<◌, length, get_or, drop, take, List, [], ◌∷◌, ◌++◌, Some, map, refl, sym, ap, ◌∙◌, subst, arith}
 use Rattle.std.specs.List.{AllZip}
 use Rattle.std.specs.Cmp.{nat_cmp_is}
 use Rattle.std.specs.declared.cmp.Ordering.TheVariants.{Less}
-use Rattle.std.proofs.lemmas.List.{drop_more, drop_all, map_more, map-append}
+use Rattle.std.proofs.lemmas.List.{drop_more}
 use Rattle.serde_json.specs.Data.{Data}
 use Rattle.serde_json.specs.Find.{as_array}
 use Rattle.serde_json.specs.View.{view, items_of}
@@ -46,17 +46,6 @@ pub each_refused : (of : Data → List Pair) (vs : List Value) (i : ℕ) (v : Va
 each_refused of vs i v old new less is part up =
     subst (λ ps. LeastOrWant ps new) (sym (each_more of vs i v less is))
     (lifted (index i) (of (view v)) _ old new part up (after_each of i (i + 1) _ (omega arith)))
-
-pub each_done : (of : Data → List Pair) (vs : List Value) (i : ℕ) → length vs ≤ i → each_faults of i (map view (drop i vs)) ≡ []
-each_done of vs i past = rw (drop_all i vs past)
-
--- what was read so far, and one more
-pub meant_more : {X : Type 0} (f : Data → X) (vs : List Value) (i : ℕ) (v : Value) (xs ys : List X) → i < length vs → v ≡ get_or vs i v
-    → xs ≡ map f (map view (take i vs)) → ys ≡ xs ++ f (view v) ∷ [] → ys ≡ map f (map view (take (i + 1) vs))
-meant_more f vs i v xs ys less is before after =
-    let one : f (view v) ∷ [] ≡ f (view (get_or vs i v)) ∷ [] = ap (λ w. f (view w) ∷ []) is in
-    let all : map f (map view (take (i + 1) vs)) ≡ map f (map view (take i vs)) ++ f (view (get_or vs i v)) ∷ [] = ap (map f) (map_more view vs i v less) ∙ map-append f (map view (take i vs)) (view (get_or vs i v) ∷ []) in
-    after ∙ ap (λ zs. zs ++ f (view v) ∷ []) before ∙ ap (λ zs. map f (map view (take i vs)) ++ zs) one ∙ sym all
 
 pub two_is : (vs : List Value) (a b : Value) → length vs ≡ 2 → a ≡ get_or vs 0 a → b ≡ get_or vs 1 b → vs ≡ a ∷ b ∷ []
 two_is [] a b two ea eb = absurd (omega arith)

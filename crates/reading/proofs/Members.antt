@@ -1,13 +1,13 @@
 -- Members of objects.
-use Rattle.std.proofs.Common.{◌≡◌, ℕ, List, [], Option, Some, None, codes, Result, Ok, is_some, true, refl, sym, ap, subst}
+use Rattle.std.proofs.Common.{◌≡◌, ℕ, List, [], Some, None, codes, Result, Ok, ap}
 use Rattle.std.specs.Prelude.{unwrap_or}
-use Rattle.serde_json.specs.Data.{Data, null, Members}
+use Rattle.serde_json.specs.Data.{Data, null}
 use Rattle.reading.specs.Info.{member_or_null}
 use Rattle.serde_json.specs.Find.{get}
 use Rattle.faults.specs.Path.{name}
 use Rattle.faults.specs.Fault.{Pair, Lifted}
 use Rattle.reading.specs.Fault.{under, LeastOrWant}
-use Rattle.reading.specs.Parts.{object_faults, member_faults, typed_faults, option_faults}
+use Rattle.reading.specs.Parts.{member_faults, typed_faults, option_faults}
 use Rattle.faults.specs.declared.fault.FaultKind.{FaultKind}
 use Rattle.faults.specs.declared.fault.Fault.{Fault}
 use Rattle.faults.specs.Fault.{pair_of}
@@ -17,13 +17,6 @@ use Rattle.reading.proofs.Least.{lifted_only, only}
 
 pub member_refused : (n : List ℕ) (of : Data → List Pair) (d e : Data) (old new : Fault) → Some e ≡ get n d → LeastOrWant (of e) old → Lifted (name n) old new → LeastOrWant (member_faults n of d) new
 member_refused n of d e old new is part up = rw (← is) (lifted_only (name n) (of e) old new part up)
-
-object_some : (within : List Pair) (o : Option Members) → true ≡ is_some o → object_faults within o ≡ within
-object_some within None is = cc
-object_some within (Some ms) is = refl
-
-pub in_object : (within : List Pair) (o : Option Members) (f : Fault) → true ≡ is_some o → LeastOrWant within f → LeastOrWant (object_faults within o) f
-in_object within o f is part = subst (λ ps. LeastOrWant ps f) (sym (object_some within o is)) part
 
 pub of_kind : {K : Type 0} (rest : K → List Pair) (r : Result K FaultKind) (k : K) (f : Fault) → Ok k ≡ r → LeastOrWant (rest k) f → LeastOrWant (typed_faults rest r) f
 of_kind rest r k f is part = rw (← is) part
@@ -40,6 +33,3 @@ faulty_type k old new told up = lifted_only (name (codes "type")) (here k) old n
 -- a member that is there, and one that is missing
 pub member_there : (n : List ℕ) (d e : Data) → get n d ≡ Some e → member_or_null n d ≡ e
 member_there n d e is = ap (λ o. unwrap_or o null) is
-
-pub member_not_there : (n : List ℕ) (d : Data) → get n d ≡ None → member_or_null n d ≡ null
-member_not_there n d is = ap (λ o. unwrap_or o null) is

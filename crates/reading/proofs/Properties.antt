@@ -21,19 +21,6 @@ object_fault fraction deep = if fraction then Some PropertyNumber else (if deep 
 abbrev object_list : Bool → Bool → List Pair
 object_list fraction deep = (if fraction then here kind.PropertyNumber else []) ++ (if deep then here kind.PropertyDepth else [])
 
-object_ok : (fraction deep : Bool) → object_fault fraction deep ≡ None → object_list fraction deep ≡ []
-object_ok true deep e = cc
-object_ok false true e = cc
-object_ok false false e = refl
-
-pub properties_ok : (d : Data) → property_fault d ≡ None → properties_faults d ≡ []
-properties_ok null e = refl
-properties_ok (boolean b) e = cc
-properties_ok (number n) e = cc
-properties_ok (string s) e = cc
-properties_ok (array ds) e = cc
-properties_ok (object ms) e = object_ok (has_float (object ms)) (not (nat_le (depth (object ms)) GREATEST_PROPERTY_DEPTH)) e
-
 abbrev told_as : PropFault → Pair
 told_as f = record { path = []; kind = properties_kind f }
 
@@ -66,12 +53,3 @@ properties_refused d WrongKind told there e is = least_of d WrongKind told there
 properties_refused d PropertyNumber told there e is = least_of d PropertyNumber told there (e (λ k. cc)) is
 properties_refused d PropertyDepth told there e is = least_of d PropertyDepth told there (e (λ k. cc)) is
 properties_refused d OutOfMemory told there e is = from_want (properties_faults d) told (ap (λ p. p.kind) is)
-
--- null stands for no properties
-pub null_is : (d : Data) → is_some (as_null d) ≡ true → d ≡ null
-null_is null e = refl
-null_is (boolean b) e = cc
-null_is (number n) e = cc
-null_is (string s) e = cc
-null_is (array ds) e = cc
-null_is (object ms) e = cc

@@ -1,17 +1,8 @@
 -- The pieces that take the place of a used arc.
-use Rattle.std.proofs.Common.{◌≡◌, ℕ, zero, suc, Bool, true, false, cond, List, [], ◌∷◌, ◌++◌, refl, sym, ap, ◌∙◌, append_assoc, Some, None, slice_get}
-use Rattle.theory.specs.ArcNumbers.{ArcRef, backwards, flipped}
+use Rattle.std.proofs.Common.{◌≡◌, ℕ, zero, suc, Bool, true, false, cond, List, [], ◌∷◌, ◌++◌, refl, sym, ap, ◌∙◌, Some, None, slice_get}
+use Rattle.theory.specs.ArcNumbers.{ArcRef, backwards}
 use Rattle.theory.specs.Refinement.{pieces_at, pieces_of_used}
 use Rattle.theory.proofs.Lists.{append_nil}
-use Rattle.chains.proofs.Backwards.{back_step}
-
-pub back_loop : (left rest : List ArcRef) (x y : ArcRef) (before now all : List ArcRef) → left ≡ rest ++ (x ∷ []) → y ≡ flipped x → now ≡ before ++ (y ∷ []) →
-    before ++ backwards left ≡ all → now ++ backwards rest ≡ all
-back_loop left rest x y before now all e f g k =
-    ap (λ w. w ++ backwards rest) (g ∙ ap (λ w. before ++ (w ∷ [])) f)
-    ∙ append_assoc before (flipped x ∷ []) (backwards rest)
-    ∙ ap (λ w. before ++ w) (sym (back_step left rest x e))
-    ∙ k
 
 -- what is read at a place
 pub at_some : (ps : List (List ArcRef)) (i : ℕ) (p : List ArcRef) → Some p ≡ slice_get ps i → pieces_at ps i ≡ p

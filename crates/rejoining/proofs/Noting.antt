@@ -20,11 +20,6 @@ note_step old new used start e q = ap (option_map noted_start) (e q) ∙ go (sam
     go true false o = refl
     go false c o = refl
 
--- the first of the pieces, and the first of them read backwards
-pub head_step : (b first : ArcRef) (pieces rest : List ArcRef) (n : ℕ) (s : Starts) (q : ArcRef) → pieces ≡ first ∷ rest → n ≡ length rest →
-    with_start first (b, n) s q ≡ with_head b pieces s q
-head_step b first pieces rest n s q e f = ap (λ k. with_start first (b, k) s q) f ∙ ap (λ w. with_head b w s q) (sym e)
-
 back_length : (l : List ArcRef) → length (backwards l) ≡ length l
 back_length l = simp (length-reverse, length-map)
 

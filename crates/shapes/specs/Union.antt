@@ -8,7 +8,7 @@ use Rattle.std.specs.Cmp.{IsTotalOrder}
 use Rattle.std.specs.List.{list_any}
 use Rattle.std.specs.FinMap.{IsAntisymmetric}
 use Rattle.shapes.specs.Sets as set
-use Rattle.shapes.specs.SetLaws.{or_swaps, or_groups, or_same, same_set, contains-union, contains-from_list}
+use Rattle.shapes.specs.SetLaws.{or_swaps, or_groups, or_same, same_set, contains-union}
 use Rattle.std.specs.FinMap as map
 
 module _ {X : Type 0} {Q : X → X → Ordering} where
@@ -128,10 +128,3 @@ module _ {K X : Type 0} {R : K → K → Ordering} {Q : X → X → Ordering}
         alone : (a : Option (set.FinSet Q)) → both a None ≡ a
         alone None = refl
         alone (Some s) = refl
-
-pub from_list-append : {X : Type 0} {Q : X → X → Ordering} (o : IsTotalOrder Q) (same : IsAntisymmetric Q) (xs ys : List X) →
-    set.from_list {R = Q} (xs ++ ys) ≡ set.union (set.from_list xs) (set.from_list ys)
-from_list-append {Q = Q} o same xs ys = same_set o same _ _ (λ q.
-    contains-from_list o (xs ++ ys) q ∙ any_append (eq_by_cmp Q q) xs ys
-    ∙ (λ i. sym (contains-from_list o xs q) i || sym (contains-from_list o ys q) i)
-    ∙ sym (contains-union o (set.from_list xs) (set.from_list ys) q))

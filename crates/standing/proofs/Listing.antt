@@ -62,9 +62,6 @@ goes_told arcs us v w b h n e = (
       e ∙ subst (λ x. position_eq v x ≡ true) f (position_refl v)),
 )
 
-pub none_round : (arcs : List (List Pos)) (us : List ArcRef) → ((v w : Pos) → ¬ (us ≡ []) → ¬ Runs arcs v us w) → (false ≡ true) ↔ GoesRound arcs us
-none_round arcs us h = ((λ e. absurd cc), (λ (n, v, k). absurd (h v v n k)))
-
 module _ (t : Arcs) where
   pub none_free_open : (us : List ArcRef) → none_free t us ≡ true → (k : ℕ) (c : List Pos) → Uses k us → slice_get t.arcs k ≡ Some c → IsLineOf (table_as_map t) c
   none_free_open [] e k c u s = absurd u

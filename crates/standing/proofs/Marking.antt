@@ -10,17 +10,6 @@ beyond [] i d h = refl
 beyond (x ∷ l) zero d h = absurd (omega (arith, h))
 beyond (x ∷ l) (suc i) d h = beyond l i d (omega (arith, h))
 
-set_beyond : {A : Type 0} (l : List A) (i : ℕ) (v : A) → length l ≤ i → set l i v ≡ l
-set_beyond [] i v h = refl
-set_beyond (x ∷ l) zero v h = absurd (omega (arith, h))
-set_beyond (x ∷ l) (suc i) v h = ap (λ w. x ∷ w) (set_beyond l i v (omega (arith, h)))
-
--- a place has its member, whatever stands for none
-any_default : {A : Type 0} (l : List A) (i : ℕ) (d e : A) → i < length l → get_or l i d ≡ get_or l i e
-any_default [] i d e h = absurd (omega (arith, h))
-any_default (x ∷ l) zero d e h = refl
-any_default (x ∷ l) (suc i) d e h = any_default l i d e (omega (arith, h))
-
 -- lists that are as long as each other and have the same at each place are one
 same_places : {A : Type 0} (l m : List A) (d : A) → length l ≡ length m → ((k : ℕ) → k < length l → get_or l k d ≡ get_or m k d) → l ≡ m
 same_places [] [] d n h = refl

@@ -114,10 +114,6 @@ pub starts_there : (arcs : List (List Pos)) (v : Pos) (refs : List ArcRef) (w : 
 starts_there arcs v [] w n h = absurd (n refl)
 starts_there arcs v (a ∷ refs) w n (q, e, h) = ap first_end (run_ends arcs a v q e)
 
-pub start_some : (arcs : List (List Pos)) (v : Pos) (refs : List ArcRef) → start_of arcs refs ≡ Some v → ¬ (refs ≡ [])
-start_some arcs v [] e n = absurd cc
-start_some arcs v (a ∷ refs) e n = absurd cc
-
 -- a list that begins nowhere, or stops on its way, doesn't run
 pub none_starts : (arcs : List (List Pos)) (refs : List ArcRef) → start_of arcs refs ≡ None → (v w : Pos) → ¬ (refs ≡ []) → ¬ Runs arcs v refs w
 none_starts arcs refs e v w n h =

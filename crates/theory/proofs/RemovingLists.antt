@@ -46,11 +46,6 @@ not_both (x ∷ ps) o a h k =
       ]
     ]
 
-uses_left : (k : ℕ) (a b : List ArcRef) → Uses k a → Uses k (a ++ b)
-uses_left k [] b h = absurd h
-uses_left k (x ∷ a) b (inl e) = inl e
-uses_left k (x ∷ a) b (inr h) = inr (uses_left k a b h)
-
 once_snoc : (l : List ArcRef) (x : ArcRef) → UsesOnce l → ¬ Uses x.arc l → UsesOnce (l ++ (x ∷ []))
 once_snoc [] x o n = ((λ h. h), tt)
 once_snoc (y ∷ l) x o n = (
@@ -63,10 +58,6 @@ once_back [] o = tt
 once_back (x ∷ ps) o =
     subst UsesOnce (sym (reverse-snoc (flipped x) (map flipped ps)))
     (once_snoc (backwards ps) (flipped x) (once_back ps o.1) (λ h. o.0 (uses_back x.arc ps h)))
-
-once_used : (b : Bool) (ps : List ArcRef) → UsesOnce ps → UsesOnce (cond b (backwards ps) ps)
-once_used false ps o = o
-once_used true ps o = once_back ps o
 
 pub replaced_join : (pieces : List (List ArcRef)) (us vs : List ArcRef) → replaced pieces (us ++ vs) ≡ replaced pieces us ++ replaced pieces vs
 replaced_join pieces [] vs = refl

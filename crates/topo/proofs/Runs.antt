@@ -6,9 +6,6 @@ use Rattle.grid.specs.declared.pos.Pos.{Pos}
 use Rattle.chains.specs.Table.{same_list}
 use Rattle.chains.proofs.Places.{list_refl, list_true}
 
-head_of : (x y : Pos) (l m : List Pos) → x ∷ l ≡ y ∷ m → x ≡ y
-head_of x y l m e = cc
-
 tail_of : (x y : Pos) (l m : List Pos) → x ∷ l ≡ y ∷ m → l ≡ m
 tail_of x y l m e = cc
 

@@ -1,10 +1,9 @@
 -- The texts of the first items of a list.
-use Rattle.std.proofs.Common.{◌≡◌, ℕ, ◌+◌, ◌≤◌, List, [], ◌∷◌, ◌++◌, length, take, drop, refl, sym, ap, ◌∙◌, subst, codes, append_assoc, Some}
+use Rattle.std.proofs.Common.{◌≡◌, ℕ, ◌+◌, List, [], ◌∷◌, ◌++◌, take, drop, refl, sym, ap, ◌∙◌, subst, codes, append_assoc, Some}
 use Rattle.std.specs.List.{slice_get}
 use Rattle.std.proofs.lemmas.List.{take_more}
 use Rattle.std.proofs.lemmas.Option.{slice_get_within, get_or_from_slice_get}
 use Rattle.std.proofs.Math.ListN.{take-append-drop}
-use Rattle.std.proofs.Math.Seq.{take_all}
 use Rattle.sinks.specs.Seen.{Seen}
 use Rattle.sinks.specs.Texts.{after_comma, after_commas, joined, separator}
 use Rattle.sinks.specs.Writes.{TookAll, TookPart}
@@ -43,7 +42,3 @@ step_part f xs n x s {a} {b} {c} at e p q =
     let first : TookPart a c (joined f (take (n + 1) xs)) =
     subst P (sym (take_one_more xs n x at)) (more_part f [] (take n xs) x s e p q) in
     subst P (take-append-drop (n + 1) xs) (front_part f (take (n + 1) xs) (drop (n + 1) xs) first)
-
-pub step_end : {X : Type 0} (f : X → List ℕ) (xs : List X) (n : ℕ) {a b : Seen} → length xs ≤ n → TookAll a b (joined f (take n xs)) → TookAll a b (joined f xs)
-step_end f xs n {a} {b} h p =
-    let P : List _ → Type 0 = λ l. TookAll a b (joined f l) in subst P (take_all n xs h) p

@@ -8,10 +8,6 @@ use Rattle.sinks.specs.Seen.{one_more}
 use Rattle.sinks.specs.Writes.{TookAll, TookPart}
 use Rattle.topo_io.specs.Front.{one_or_none, is_next, may_have_failed, taken}
 
-none_is : (o : Option ℕ) → is_some o ≡ false → o ≡ None
-none_is None e = refl
-none_is (Some b) e = absurd (cc)
-
 pub shown : (w xs : List ℕ) (at n : ℕ) → take n (take (length w - at) (drop at w)) ≡ xs → take n (drop at w) ≡ xs
 shown w xs at n e = sym (ap (take n) (take_all (length w - at) (drop at w) (omega (arith, length-drop at w)))) ∙ e
 

@@ -1,26 +1,17 @@
 -- Lists that are stitched item by item, and what was stitched so far.
-use Rattle.std.proofs.Common.{◌≡◌, ◌↔◌, ℕ, ◌+◌, ◌<◌, length, get_or, drop, List, [], ◌∷◌, ◌++◌, map, refl, sym, ap, ◌∙◌, subst, append_assoc, append-nil}
+use Rattle.std.proofs.Common.{◌≡◌, ◌↔◌, ◌+◌, List, [], ◌∷◌, ◌++◌, map, refl, sym, ap, ◌∙◌, subst, append_assoc, append-nil}
 use Rattle.std.specs.List.{AllByRecursion}
-use Rattle.std.proofs.lemmas.List.{drop_more, map-append}
-use Rattle.faults.specs.Fault.{Pair, IsWant}
+use Rattle.std.proofs.lemmas.List.{map-append}
+use Rattle.faults.specs.Fault.{IsWant}
 use Rattle.faults.specs.declared.fault.Fault.{Fault}
-use Rattle.reading.specs.Fault.{LeastOrWant}
 use Rattle.topo_io.specs.Stitching.{NotOrWant}
-use Rattle.topo_io.proofs.Said.{faulty_least}
 
 -- ---- refusals
-
-pub refused_least : (ps : List Pair) (f : Fault) → LeastOrWant ps f → NotOrWant (ps ≡ []) f
-refused_least ps f h = record { not = (faulty_least ps f h).some }
 
 pub refused_want : (A : Type 0) (f : Fault) → IsWant f → NotOrWant A f
 refused_want A f want = record { not = λ real _. real want }
 
 -- ---- one more item
-
--- the items that are left, the first apart
-pub item_left : {X : Type 0} (xs : List X) (i : ℕ) (x : X) → i < length xs → x ≡ get_or xs i x → drop i xs ≡ x ∷ drop (i + 1) xs
-item_left xs i x less is = rw (drop_more xs i x less, ← is) refl
 
 module _ {X : Type 0} (P : X → Type 0) (whole : Type 0) (old : List X) (x : X) (left : List X) (is : old ≡ x ∷ left) (same : AllByRecursion P old ↔ whole) where
   pub one_holds : P x → AllByRecursion P left ↔ whole

@@ -1,9 +1,8 @@
 -- What the parts of a topology's text are read as.
-use Rattle.std.proofs.Common.{◌≡◌, Result, Ok, Err, OnOk, ℕ, ℤ, pos, negsuc, Bool, true, false, cond, List, [], ◌∷◌, length, map, Some, String, Global, Vec, string_bytes, codes, refl, sym, ap, ◌∙◌, subst, arith}
+use Rattle.std.proofs.Common.{◌≡◌, Result, Ok, Err, OnOk, ℕ, List, [], ◌∷◌, length, map, Some, String, Global, Vec, string_bytes, codes, refl, sym, ap, ◌∙◌, subst, arith}
 use Rattle.std.specs.List.{AllByRecursion, AllZip}
 use Rattle.serde_json.specs.Data.{Data, Members, no_members, member}
-use Rattle.theory.specs.ArcNumbers.{ArcRef, index_of}
-use Rattle.faults.specs.Fault.{Pair, IsWant}
+use Rattle.faults.specs.Fault.{Pair}
 use Rattle.faults.specs.declared.fault.Fault.{Fault}
 use Rattle.shapes.specs.Ids.{HasI64}
 use Rattle.shapes.specs.declared.shape.Id as ids
@@ -27,20 +26,12 @@ use Rattle.topo_io.specs.Limits.{limits_on}
 use Rattle.topo_io.specs.Roots.{objects_faults, grid_of, grid_or_unit}
 use Rattle.topo_io.specs.declared.reader.position.Limits.{Limits}
 use Rattle.topo_io.specs.declared.reader.parts.body.Extent.{Extent}
-use Rattle.topo_io.specs.Parts.{ArePartsOf, AreSaid, arc_count, arcs_or_none, geoms_or_none, loose_topology, plain_geom, ref_at, layer_geoms, geoms_in, named_geoms, layer_of_geoms, names_of_geoms, PlainGeom, IdStored, GeomStored, LayerStored, FaultyOrWant}
+use Rattle.topo_io.specs.Parts.{ArePartsOf, AreSaid, arc_count, arcs_or_none, geoms_or_none, loose_topology, plain_geom, layer_geoms, geoms_in, named_geoms, layer_of_geoms, names_of_geoms, PlainGeom, IdStored, GeomStored, LayerStored, FaultyOrWant}
 
 -- where nothing more is asked
 pub unless_nothing : (ps : List Pair) → unless_faulty ps [] ≡ ps
 unless_nothing [] = refl
 unless_nothing (p ∷ ps) = refl
-
-by_direction : (b : Bool) (n : ℕ) → record { arc = n; reversed = b } ≡ ref_at (cond b (negsuc n) (pos n))
-by_direction true n = refl
-by_direction false n = refl
-
--- the used arc of an index
-pub ref_of_index : (a : ArcRef) (i : ℤ) → index_of a ≡ i → a ≡ ref_at i
-ref_of_index a i e = by_direction a.reversed a.arc ∙ ap ref_at e
 
 -- ---- ids
 
@@ -96,9 +87,6 @@ faulty_least (p ∷ ps) f h = record { some = λ real e. absurd (not_none e) }
   where
     not_none : (p ∷ ps) ≡ [] → ⊥
     not_none e = cc
-
-pub faulty_want : (ps : List Pair) (f : Fault) → IsWant f → FaultyOrWant ps f
-faulty_want ps f want = record { some = λ real _. absurd (real want) }
 
 pub faulty_by : (ps qs : List Pair) (f : Fault) → (qs ≡ [] → ps ≡ []) → FaultyOrWant ps f → FaultyOrWant qs f
 faulty_by ps qs f none h = record { some = λ real e. h.some real (none e) }

@@ -9,13 +9,6 @@ use Rattle.reading.specs.Fault.{LeastOrWant, here}
 use Rattle.theory.specs.ArcNumbers.{ArcRef}
 use Rattle.topo_io.specs.Arcs.{along, meets, onto, stitched_onto, stitched_faults}
 
-pub meets_empty : (c : List Pos) → meets [] c ≡ true
-meets_empty [] = refl
-meets_empty (y ∷ c) = refl
-
-pub meets_first : (l : List Pos) (y : Pos) (c : List Pos) → meets l (y ∷ c) ≡ meets l (y ∷ [])
-meets_first l y c = refl
-
 pub none_left : {X : Type 0} (c : List X) → length c ≡ 0 → c ≡ []
 none_left [] e = refl
 none_left (y ∷ c) e = absurd (omega (arith, e))
@@ -23,14 +16,6 @@ none_left (y ∷ c) e = absurd (omega (arith, e))
 pub onto_none : (l : List Pos) → l ≡ onto l []
 onto_none [] = refl
 onto_none (x ∷ l) = refl
-
-pub onto_empty : (c : List Pos) → onto [] c ≡ c
-onto_empty [] = refl
-onto_empty (y ∷ c) = refl
-
-pub onto_more : (l : List Pos) (y : Pos) (c : List Pos) → 0 < length l → onto l (y ∷ c) ≡ l ++ c
-onto_more [] y c h = absurd (omega (arith, h))
-onto_more (x ∷ l) y c h = refl
 
 -- an arc's last position is the first of the reversed arc
 pub reverse_last : (c : List Pos) (rest : List Pos) (y : Pos) → c ≡ rest ++ y ∷ [] → reverse c ≡ y ∷ reverse rest
