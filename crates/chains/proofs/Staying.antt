@@ -17,7 +17,6 @@ use Rattle.grid.specs.declared.pos.Pos.{Pos}
 use Rattle.lines.specs.Turned.{position_cmp}
 use Rattle.lines.specs.Positions.{position_total, position_same}
 
-
 module _ (g u : Geometry Pos) where
   turned : (x : Pos) (l : List Pos) → IsChainOf position_cmp g (closed (x ∷ l)) → Free (JunctionOf g) (closed (x ∷ l)) → IsChainOf position_cmp u (closed (x ∷ l)) →
       IsTurned position_cmp (JunctionOf u) (x ∷ l) x l
