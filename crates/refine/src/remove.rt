@@ -24,7 +24,7 @@ use chains::table::{ArcRef, ArcTable};
 use faults::OutOfMemory;
 use grid::Pos;
 use lines::items::Items;
-use rejoining::{Rejoined, rejoin};
+use rejoining::{ArcRun, Rejoined, rejoin};
 use rewriting::{NewLists, copy_rewritten};
 use shapes::feature::Feature;
 use shapes::feature_map::FeatureMap;
@@ -39,7 +39,7 @@ use topo::{Body, Geom, Layer, Topology, stitching};
 #[derive(Drop)]
 pub struct Removal {
     topology: Topology,
-    pieces: Vec<Items<ArcRef>>,
+    pieces: Vec<ArcRun>,
 }
 
 impl Model for Removal {

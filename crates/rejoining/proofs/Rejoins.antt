@@ -386,5 +386,5 @@ module _ (old : Arcs) (marks : List Bool) (ending : List Pos) (numbers slice : L
 
 -- nothing is left to put
 pub put_none : (refs : List ArcRef) (made : List (List ArcRef)) → put_all refs [] made ≡ made
-put_none [] made = refl
-put_none (a ∷ refs) made = refl
+put_none [] lists = refl
+put_none (a ∷ refs) lists = refl

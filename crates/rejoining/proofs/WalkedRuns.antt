@@ -458,6 +458,12 @@ runs_told marks partner first second third none single ends all e n f g h p =
     let t = g p (f p start) in
     h p t.0 t.1
 
+-- a walk that goes on to no other
+pub walk_alone : (partner : ArcRef → Option ArcRef) (left now : List Bool) (from : ArcRef) (run : List ArcRef) (next : Option ArcRef) → is_some next ≡ false → run ≡ from ∷ [] →
+    ((more : List ArcRef) (after : List Bool) → GoesOn partner now next more after → Goes partner left from more after) → Walk partner left from run now
+walk_alone partner left now from run None e is on = ([], is, on [] now (refl, refl))
+walk_alone partner left now from run (Some b) e is on = absurd cc
+
 -- a walk that is over
 pub walk_over : (partner : ArcRef → Option ArcRef) (left now : List Bool) (from : ArcRef) (run : List ArcRef) (next : Option ArcRef) → next ≡ None →
     ((done : List ArcRef) × (run ≡ from ∷ done) × ((more : List ArcRef) (after : List Bool) → GoesOn partner now next more after → Goes partner left from (done ++ more) after)) →

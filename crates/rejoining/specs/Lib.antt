@@ -1,4 +1,5 @@
 pub mod Parts
+pub mod ArcRuns
 pub mod Choosing
 pub mod ByUse
 pub mod Meeting

@@ -5,22 +5,19 @@ ghost use Rattle.rejoining.specs.Joined.{chain_by, from_least, least_vertex, lis
 ghost use Rattle.rejoining.specs.Meeting.{partner_in};
 ghost use Rattle.std.specs.Ordering.{is_lt};
 ghost use Rattle.std.specs.Prelude.{◌≡◌, ◌++◌, ◌∷◌, [], IfOk, OnOk, map as map_list, replicate, slice_set};
-ghost use Rattle.theory.specs.ArcNumbers.{backwards};
 
+use crate::arc_run::ArcRun;
 use crate::meeting::Meeting;
-use crate::walking::turned_back;
 use chains::cutting::Piece;
 use chains::table::{ArcRef, ArcTable};
-use chains::turning::turn_ring;
 use grid::pos::Pos;
-use lines::items::Items;
 use std::alloc::{AllocError, Global};
 
 /// The new arcs of runs as pieces, and the old arcs of each.
 #[derive(Drop)]
 pub(crate) struct Joined {
     pub(crate) pieces: Vec<Piece>,
-    pub(crate) lists: Vec<Items<ArcRef>>,
+    pub(crate) lists: Vec<ArcRun>,
 }
 
 fn along(alloc: Global, arcs: &ArcTable, used: &ArcRef) -> Result<Vec<Pos>, AllocError>
@@ -106,37 +103,21 @@ fn joined_chain(
     Ok(chain)
 }
 
-/// A run read backwards.
-fn read_backwards(alloc: Global, run: &[ArcRef]) -> Result<Vec<ArcRef>, AllocError>
-    ensures { IfOk result (λ v. v.items ≡ backwards run.now) }
-{
-    let mut refs = Vec::with_capacity(alloc, run.len())?;
-    for used in run {
-        refs.push(turned_back(*used))?;
-    }
-    refs.reverse();
-    Ok(refs)
-}
-
 /// A run in one of its directions.
-fn directed(alloc: Global, run: Vec<ArcRef>, reversed: bool) -> Result<Vec<ArcRef>, AllocError>
-    ensures { IfOk result (λ v. v.items ≡ spec.directed reversed run.items) }
+fn directed(alloc: Global, run: ArcRun, reversed: bool) -> Result<ArcRun, AllocError>
+    ensures { IfOk result (λ r. r ≡ spec.directed reversed run) }
 {
     if reversed {
-        return read_backwards(alloc, &run);
+        return run.backwards(alloc);
     }
     Ok(run)
 }
 
 /// The list of a run; that of one which goes round begins where it starts least.
-fn listed(arcs: &ArcTable, run: Vec<ArcRef>, round: bool) -> Items<ArcRef>
-    ensures { result ≡ list_by arcs.now.arcs round run.items }
+fn listed(arcs: &ArcTable, run: ArcRun, round: bool) -> ArcRun
+    ensures { result ≡ list_by arcs.now.arcs round run }
 {
-    let mut refs = run;
-    if round {
-        turn_ring(arcs, &mut refs);
-    }
-    Items::from_vec(refs)
+    if round { run.turned(arcs) } else { run }
 }
 
 fn goes_round(meeting: &Meeting, run: &[ArcRef]) -> bool
@@ -154,16 +135,16 @@ fn add_joined(
     arcs: &ArcTable,
     meeting: &Meeting,
     joined: &mut Joined,
-    run: Items<ArcRef>,
+    run: ArcRun,
 ) -> Result<(), AllocError>
     ensures pieces { OnOk result (joined.new.pieces.items ≡ joined.old.pieces.items ++ (piece_of_run arcs.now.arcs (partner_in meeting.now) run ∷ [])) }
     ensures lists { OnOk result (joined.new.lists.items ≡ joined.old.lists.items ++ (list_of_run arcs.now.arcs (partner_in meeting.now) run ∷ [])) }
 {
     let round = goes_round(meeting, run.as_slice());
     let piece = Piece::new(joined_chain(alloc, arcs, run.as_slice(), round)?, round);
-    let refs = directed(alloc, run.into_vec(), piece.reversed())?;
+    let run = directed(alloc, run, piece.reversed())?;
     joined.pieces.push(piece)?;
-    joined.lists.push(listed(arcs, refs, round))?;
+    joined.lists.push(listed(arcs, run, round))?;
     Ok(())
 }
 
@@ -172,7 +153,7 @@ pub(crate) fn joined_of(
     alloc: Global,
     arcs: &ArcTable,
     meeting: &Meeting,
-    runs: Vec<Items<ArcRef>>,
+    runs: Vec<ArcRun>,
 ) -> Result<Joined, AllocError>
     ensures pieces { IfOk result (λ j. j.pieces.items ≡ map_list (piece_of_run arcs.now.arcs (partner_in meeting.now)) runs.items) }
     ensures lists { IfOk result (λ j. j.lists.items ≡ map_list (list_of_run arcs.now.arcs (partner_in meeting.now)) runs.items) }
@@ -188,7 +169,7 @@ pub(crate) fn joined_of(
 }
 
 /// Puts a list at a place, where there is one.
-fn put(lists: &mut Vec<Items<ArcRef>>, place: usize, list: Items<ArcRef>)
+fn put(lists: &mut Vec<ArcRun>, place: usize, list: ArcRun)
     ensures { lists.new.items ≡ slice_set lists.old.items place list }
 {
     if place < lists.len() {
@@ -196,12 +177,12 @@ fn put(lists: &mut Vec<Items<ArcRef>>, place: usize, list: Items<ArcRef>)
     }
 }
 
-fn empty_lists(alloc: Global, count: usize) -> Result<Vec<Items<ArcRef>>, AllocError>
+fn empty_lists(alloc: Global, count: usize) -> Result<Vec<ArcRun>, AllocError>
     ensures { IfOk result (λ v. v.items ≡ replicate count []) }
 {
     let mut lists = Vec::with_capacity(alloc, count)?;
     for _ in 0..count {
-        lists.push(Items::from_vec(Vec::new(alloc)))?;
+        lists.push(ArcRun::empty(alloc))?;
     }
     Ok(lists)
 }
@@ -210,9 +191,9 @@ fn empty_lists(alloc: Global, count: usize) -> Result<Vec<Items<ArcRef>>, AllocE
 pub(crate) fn by_numbers(
     alloc: Global,
     refs: &[ArcRef],
-    lists: Vec<Items<ArcRef>>,
+    lists: Vec<ArcRun>,
     count: usize,
-) -> Result<Vec<Items<ArcRef>>, AllocError>
+) -> Result<Vec<ArcRun>, AllocError>
     ensures { IfOk result (λ v. v.items ≡ put_all refs.now lists.items (replicate count [])) }
 {
     let mut placed = empty_lists(alloc, count)?;

@@ -11,11 +11,11 @@ ghost use Rattle.theory.specs.Refinement.{IsPartOf, IsRefinementOf};
 ghost use Rattle.theory.specs.Removing.{before_start, from_start, rejoined, ring_rejoined};
 ghost use Rattle.theory.specs.Topology.{IsRingList};
 
+use crate::arc_run::ArcRun;
 use crate::start_table::StartTable;
 use chains::table::{ArcRef, ArcTable};
 use chains::turning::turn_ring;
 use faults::OutOfMemory;
-use lines::items::Items;
 use std::alloc::{AllocError, Global};
 use std::marker::Model;
 
@@ -23,7 +23,7 @@ use std::marker::Model;
 #[derive(Drop)]
 pub struct Rejoined {
     arcs: ArcTable,
-    pieces: Vec<Items<ArcRef>>,
+    pieces: Vec<ArcRun>,
     starts: StartTable,
 }
 
@@ -43,7 +43,7 @@ impl Rejoined {
     pub(crate) fn from_parts(
         alloc: Global,
         arcs: ArcTable,
-        pieces: Vec<Items<ArcRef>>,
+        pieces: Vec<ArcRun>,
         count: usize,
     ) -> Result<Rejoined, AllocError>
         ensures { IfOk result (λ r. r ≡ record { arcs = arcs; pieces = pieces.items }) }
@@ -75,7 +75,7 @@ impl Rejoined {
     }
 
     /// The arcs, and the old arcs of each, where no list is asked for any more.
-    pub fn into_parts(self) -> (ArcTable, Vec<Items<ArcRef>>)
+    pub fn into_parts(self) -> (ArcTable, Vec<ArcRun>)
         ensures arcs { result.0 ≡ self.arcs }
         ensures pieces { result.1.items ≡ self.pieces }
     {

@@ -5,10 +5,9 @@ ghost use Rattle.std.specs.Prelude.{◌≡◌, IfOk, OnOk, true, false};
 ghost use Rattle.theory.specs.ArcNumbers as numbers;
 ghost use Rattle.theory.specs.ArcNumbers.{backwards};
 
+use crate::arc_run::{ArcRun, turned_back};
 use crate::by_use::ByUse;
-use crate::walking::turned_back;
 use chains::table::ArcRef;
-use lines::items::Items;
 use std::alloc::{AllocError, Global};
 
 /// A used new arc, and how many old ones it takes behind its first.
@@ -65,7 +64,7 @@ impl StartTable {
     /// The table of all new arcs, each with its pieces, with room for so many old arcs.
     pub(crate) fn of(
         alloc: Global,
-        pieces: &[Items<ArcRef>],
+        pieces: &[ArcRun],
         count: usize,
     ) -> Result<StartTable, AllocError>
         ensures { IfOk result (λ t. AreNotedIn t pieces.now) }

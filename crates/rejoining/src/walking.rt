@@ -3,27 +3,17 @@ ghost use Rattle.rejoining.specs.Meeting.{partner_in};
 ghost use Rattle.rejoining.specs.Walks.{Adds, AddsBegun, AddsSingle, ArePaired, AreRuns, AreWalked, EndsGone, Goes, GoesOn, Walk, count_left, is_left, some_one, without};
 ghost use Rattle.std.specs.Prelude.{◌≡◌, ◌≤◌, ◌+◌, IfOk, OnOk, List, Bool};
 ghost use Rattle.theory.specs.ArcNumbers as numbers;
-ghost use Rattle.theory.specs.ArcNumbers.{flipped};
 
+use crate::arc_run::{ArcRun, turned_back};
 use crate::meeting::Meeting;
 use chains::table::ArcRef;
-use lines::items::Items;
 use std::alloc::{AllocError, Global};
 
 /// Walks so far: which arcs are left, and the runs of those that were taken.
 #[derive(Drop)]
 struct Walker {
     left: Vec<bool>,
-    runs: Vec<Items<ArcRef>>,
-}
-
-pub(crate) fn turned_back(used: ArcRef) -> ArcRef
-    ensures { result ≡ flipped used }
-{
-    ArcRef {
-        arc: used.arc,
-        reversed: !used.reversed,
-    }
+    runs: Vec<ArcRun>,
 }
 
 /// Whether an arc is left.
@@ -65,17 +55,20 @@ fn walk(
     meeting: &Meeting,
     left: &mut Vec<bool>,
     from: ArcRef,
-) -> Result<Vec<ArcRef>, AllocError>
-    ensures { IfOk result (λ r. Walk (partner_in meeting.now) left.old.items from r.items left.new.items) }
+) -> Result<ArcRun, AllocError>
+    ensures { IfOk result (λ r. Walk (partner_in meeting.now) left.old.items from r left.new.items) }
 {
-    let mut run = Vec::with_capacity(alloc, 1)?;
-    run.push(from)?;
     let mut next = take_next(meeting, left, from);
+    if next.is_none() {
+        return Ok(ArcRun::one(from));
+    }
+    let mut run = Vec::with_capacity(alloc, 2)?;
+    run.push(from)?;
     while let Some(used) = next {
         run.push(used)?;
         next = take_next(meeting, left, used);
     }
-    Ok(run)
+    Ok(ArcRun::of(run))
 }
 
 impl Walker {
@@ -87,7 +80,7 @@ impl Walker {
             return Ok(());
         }
         let run = walk(alloc, meeting, &mut self.left, from)?;
-        self.runs.push(Items::from_vec(run))?;
+        self.runs.push(run)?;
         Ok(())
     }
 
@@ -191,7 +184,7 @@ pub(crate) fn runs_of(
     alloc: Global,
     meeting: &Meeting,
     kept: &[bool],
-) -> Result<Vec<Items<ArcRef>>, AllocError>
+) -> Result<Vec<ArcRun>, AllocError>
     ensures { IfOk result (λ v. ArePaired kept.now (partner_in meeting.now) → AreRuns kept.now (partner_in meeting.now) v.items) }
 {
     let left = kept.to_vec(alloc)?;
