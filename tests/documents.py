@@ -1,12 +1,13 @@
-"""Runs the examples of the documents as they are printed there, and compares what they print; looks for quoted code.
+"""Runs the examples of the documents as they are printed there, and compares what they print; looks for quoted code and for definitions.
 
     python3 tests/documents.py [DOCUMENT...]
 
 An example is a line that begins with `$ `, in a fenced block or indented by four spaces, and the lines below
 it. Those of a document run in turn in a folder of its own, where `examples` is that of the repository and
 `topotool` is crates/topotool/out/topotool, or the program that TOPOTOOL names, which has to be built before. A fenced
-block whose first line names a file of the repository has to stand in that file, line by line. Ends with a line of
-counts, and with status 1 where an example prints something else or a quotation doesn't stand in its file.
+block whose first line names a file of the repository has to stand in that file, line by line. Each name that
+docs/DEFINITIONS.md lists has to stand in the file that its row names. Ends with a line of counts, and with status 1
+where an example prints something else, or a quotation or a name doesn't stand in its file.
 """
 
 import os
@@ -18,6 +19,7 @@ import tempfile
 TOP = os.path.dirname(os.path.dirname(os.path.abspath(__file__)))
 PROGRAM = os.path.abspath(os.environ.get("TOPOTOOL", f"{TOP}/crates/topotool/out/topotool"))
 DOCUMENTS = ["README.md", "docs/FAULTS.md", "docs/LIBRARY.md"]
+DEFINITIONS = "docs/DEFINITIONS.md"
 
 
 def examples(text):
@@ -80,6 +82,33 @@ def tried(document):
     return len(found) + len(quotations(text)), wrong
 
 
+def listed_definitions(text):
+    """Gives each name that a row lists, with the files that the row names."""
+    for section in re.split(r"^## ", text, flags=re.MULTILINE):
+        folder = re.search(r"`(crates/\w+/specs/)`", section)
+        for row in re.findall(r"^\| (`.*) \|$", section, re.MULTILINE):
+            cells = row.split(" | ")
+            if folder and len(cells) == 4:
+                files = [f"{folder[1]}{name}.antt" for name in re.findall(r"`([^`]+)`", cells[2])]
+                for name in re.findall(r"`([^`]+)`", cells[0]):
+                    yield name, files
+
+
+def unlisted(document):
+    """How many names the document lists, and how many of them don't stand in the files that it says."""
+    count = wrong = 0
+    with open(f"{TOP}/{document}", encoding="utf-8") as file:
+        rows = [*listed_definitions(file.read())]
+    for name, files in rows:
+        texts = [open(f"{TOP}/{it}", encoding="utf-8").read() for it in files if os.path.isfile(f"{TOP}/{it}")]
+        word = rf"(?<![^\s({{|]){re.escape(name)}(?![^\s)}}:,|])"
+        if len(texts) < len(files) or not any(re.search(word, it) for it in texts):
+            wrong += 1
+            print(f"{document}: {name} doesn't stand in {', '.join(files)}")
+        count += 1
+    return count, wrong
+
+
 def main(documents):
     if not os.path.isfile(PROGRAM):
         sys.exit(f"{PROGRAM} is not there: rt run in crates/topotool builds it")
@@ -87,7 +116,9 @@ def main(documents):
     for document in documents:
         more, bad = tried(document)
         count, wrong = count + more, wrong + bad
-    print(f"{count} examples, {wrong} wrong")
+    names, lost = unlisted(DEFINITIONS)
+    wrong += lost
+    print(f"{count} examples, {names} definitions, {wrong} wrong")
     return 1 if wrong else 0
 
 
