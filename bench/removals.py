@@ -120,7 +120,7 @@ def measure_removal(name, tilings, words):
 
 def main():
     parser = parser_of("Measures taking features out of a topology.")
-    parser.add_argument("--times", type=int, default=4)
+    parser.add_argument("--times", type=int, default=10)
     parser.add_argument("--doublings", type=int, default=1)
     words = parser.parse_args()
     need(BENCH)
