@@ -6,8 +6,8 @@ An example is a line that begins with `$ `, in a fenced block or indented by fou
 it. Those of a document run in turn in a folder of its own, where `examples` is that of the repository and
 `topotool` is crates/topotool/out/topotool, or the program that TOPOTOOL names, which has to be built before. A fenced
 block whose first line names a file of the repository has to stand in that file, line by line. Each name that
-docs/DEFINITIONS.md lists has to stand in the file that its row names. Ends with a line of counts, and with status 1
-where an example prints something else, or a quotation or a name doesn't stand in its file.
+docs/DEFINITIONS.md lists has to be defined in the file that its row names. Ends with a line of counts, and with status 1
+where an example prints something else, a quotation doesn't stand in its file, or a name is not defined in it.
 """
 
 import os
@@ -95,16 +95,16 @@ def listed_definitions(text):
 
 
 def unlisted(document):
-    """How many names the document lists, and how many of them don't stand in the files that it says."""
+    """How many names the document lists, and how many of them are not defined in the files that it says."""
     count = wrong = 0
     with open(f"{TOP}/{document}", encoding="utf-8") as file:
         rows = [*listed_definitions(file.read())]
     for name, files in rows:
         texts = [open(f"{TOP}/{it}", encoding="utf-8").read() for it in files if os.path.isfile(f"{TOP}/{it}")]
-        word = rf"(?<![^\s({{|]){re.escape(name)}(?![^\s)}}:,|])"
-        if len(texts) < len(files) or not any(re.search(word, it) for it in texts):
+        begun = rf"^[ \t]*(?:(?:pub|abbrev|unfoldable|opaque|data|record)\s+)*{re.escape(name)}(?=[\s:({{]|$)"
+        if len(texts) < len(files) or not any(re.search(begun, it, re.MULTILINE) for it in texts):
             wrong += 1
-            print(f"{document}: {name} doesn't stand in {', '.join(files)}")
+            print(f"{document}: {name} is not defined in {', '.join(files)}")
         count += 1
     return count, wrong
 
