@@ -73,14 +73,14 @@ pub(crate) struct PlacedArcs {
 }
 
 impl PlacedArcs {
-    fn add(&mut self, arc: Items<Pos>, free: bool) -> Result<(), AllocError>
+    fn add(&mut self, alloc: Global, arc: Items<Pos>, free: bool) -> Result<(), AllocError>
         ensures pieces { OnOk result (self.new.pieces.items ≡ self.old.pieces.items ++ spec.piece_of free arc ∷ []) }
         ensures starts { OnOk result (self.new.starts.items ≡ self.old.starts.items ++ spec.start_of free arc ∷ []) }
     {
         let vertices = arc.into_vec();
         let start = start_of(&vertices, free);
         let positions = begun(vertices, start)?;
-        self.pieces.push(Piece::new(positions, free))?;
+        self.pieces.push(Piece::new(alloc, positions, free)?)?;
         self.starts.push(start)?;
         Ok(())
     }
@@ -113,7 +113,7 @@ pub(crate) fn all_begun(
     let mut left = free;
     for arc in arcs {
         let (mark, others) = first_mark(left);
-        made.add(arc, mark)?;
+        made.add(alloc, arc, mark)?;
         left = others;
     }
     Ok(made)

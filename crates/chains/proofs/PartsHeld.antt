@@ -1,5 +1,5 @@
 -- The pieces of an arc have only positions of it.
-use Rattle.std.proofs.Common.{◌≡◌, ℕ, zero, suc, Bool, true, false, cond, List, [], ◌∷◌, ◌++◌, take, drop, map, inl, inr, subst, append_assoc}
+use Rattle.std.proofs.Common.{ℕ, zero, suc, Bool, true, false, cond, List, [], ◌∷◌, ◌++◌, take, drop, map, inl, inr, subst, append_assoc}
 use Rattle.theory.specs.Cutting.{cut_from}
 use Rattle.theory.specs.Lists.{Has}
 use Rattle.theory.specs.Refinement.{unclosed}

@@ -1,5 +1,5 @@
 -- The visits of a ring are those at its inner places, and those at its last and its first.
-use Rattle.std.proofs.Common.{◌≡◌, ℕ, ◌-◌, ◌≤◌, List, [], ◌∷◌, ◌++◌, length, slice_get, Some, suc, refl, sym, ap, ◌∙◌, subst, arith, append_assoc}
+use Rattle.std.proofs.Common.{◌≡◌, ℕ, ◌-◌, ◌≤◌, List, [], ◌∷◌, ◌++◌, length, slice_get, Some, suc, sym, ap, ◌∙◌, arith, append_assoc}
 use Rattle.grid.specs.declared.pos.Pos.{Pos}
 use Rattle.chains.specs.Visits.{HaveSame, around_of, inner_from, inner_of, visit_of}
 use Rattle.chains.specs.declared.visits.Visit.{Visit}

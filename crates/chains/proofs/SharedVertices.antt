@@ -6,7 +6,6 @@ use Rattle.std.specs.declared.cmp.Ordering.{Ordering}
 use Rattle.std.specs.declared.cmp.Ordering.TheVariants.{Less, Equal, Greater}
 use Rattle.theory.specs.Arcs.{IsArcOf}
 use Rattle.theory.specs.Chain.{Free}
-use Rattle.theory.specs.Cutting.{cut_from}
 use Rattle.theory.specs.Geometry.{AtMost, Geometry, IsChainOf, IsLineOf, IsRingOf, IsSound, JunctionOf}
 use Rattle.theory.specs.Junction.{Visit as Seen, Visits}
 use Rattle.theory.specs.Junction.Visit.{end, pair}

@@ -1,5 +1,5 @@
 -- The segments that are put behind others, one by one.
-use Rattle.std.proofs.Common.{◌≡◌, ◌↔◌, ◌≤◌, ◌+◌, ℕ, zero, suc, List, [], ◌∷◌, ◌++◌, length, drop, ◌⊎◌, inl, inr, refl, sym, ap, ◌∙◌, subst, Option, Some, None, slice_get, unwrap_or, arith}
+use Rattle.std.proofs.Common.{◌≡◌, ◌↔◌, ◌≤◌, ℕ, zero, suc, List, [], ◌∷◌, ◌++◌, length, drop, ◌⊎◌, inl, inr, refl, sym, ap, ◌∙◌, subst, Option, Some, None, slice_get, unwrap_or, arith}
 use Rattle.grid.specs.declared.pos.Pos.{Pos}
 use Rattle.chains.specs.Joined.{AmongSegments}
 use Rattle.chains.specs.Segments.{IsBetween}

@@ -41,9 +41,13 @@ abbrev pub begins_free : (Pos → Bool) → List Pos → Bool
 begins_free stop [] = false
 begins_free stop (x ∷ l) = not (stop x)
 
--- the piece of a chain
+-- the piece of a chain, with this mark
+abbrev pub piece_along : Bool → List Pos → Piece
+piece_along free c = record { chain = least_direction c; reversed = is_backwards_less c; free = free }
+
+-- the piece of a chain, which is marked where it begins with no stop
 abbrev pub oriented : (Pos → Bool) → List Pos → Piece
-oriented stop c = record { chain = least_direction c; reversed = is_backwards_less c; free = begins_free stop c }
+oriented stop c = piece_along (begins_free stop c) c
 
 -- a list cut at its stops; what is behind the last stop is dropped
 abbrev pub cut_list : (Pos → Bool) → List Pos → List (List Pos)

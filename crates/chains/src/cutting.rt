@@ -3,7 +3,7 @@ ghost use Rattle.chains.specs.Among.{among};
 ghost use Rattle.chains.specs.Index.{IsIndexOf};
 ghost use Rattle.chains.specs.OfArcs.{pieces_if, ArePiecesUnder};
 ghost use Rattle.chains.specs.Pieces as spec;
-ghost use Rattle.chains.specs.Pieces.{used, chain_of, oriented, opened_at, cut_list, ring_parts, line_pieces, ring_pieces, ArePieces};
+ghost use Rattle.chains.specs.Pieces.{used, chain_of, piece_along, oriented, opened_at, cut_list, ring_parts, line_pieces, ring_pieces, ArePieces};
 ghost use Rattle.chains.specs.Placing.{pieces_under};
 ghost use Rattle.chains.specs.Seen.{line_of, ring_of};
 ghost use Rattle.chains.specs.Table.{IsTableOf};
@@ -15,6 +15,7 @@ ghost use Rattle.theory.specs.Lists.{Each};
 ghost use Rattle.theory.specs.Refinement.{IsPartOf, unclosed};
 ghost use Rattle.theory.specs.Stitching.{ArePiecesOf, AreRingPiecesOf};
 
+use crate::shared_items::SharedItems;
 use crate::starts::place_of_start;
 use crate::table::ArcTable;
 use crate::visits::VisitIndex;
@@ -30,7 +31,7 @@ use std::cmp::Ordering;
 /// a free loop: a ring without a junction.
 #[derive(PartialEq, Eq, PartialOrd, Ord, Debug, Drop)]
 pub struct Piece {
-    chain: Items<Pos>,
+    chain: SharedItems<Pos>,
     reversed: bool,
     free: bool,
 }
@@ -61,7 +62,7 @@ fn least_direction(mut chain: Vec<Pos>) -> (Vec<Pos>, bool)
 
 impl Piece {
     /// An arc as its own one piece.
-    pub(crate) fn whole(chain: Items<Pos>, free: bool) -> Piece
+    pub(crate) fn whole(chain: SharedItems<Pos>, free: bool) -> Piece
         ensures { result ≡ record { chain = chain; reversed = false; free = free } }
     {
         Piece {
@@ -72,24 +73,39 @@ impl Piece {
     }
 
     /// The piece of a chain that is read in some direction.
-    pub fn new(chain: Vec<Pos>, free: bool) -> Piece
-        ensures { result ≡ record { chain = spec.least_direction chain.items; reversed = spec.is_backwards_less chain.items; free = free } }
+    pub fn new(alloc: Global, chain: Vec<Pos>, free: bool) -> Result<Piece, AllocError>
+        ensures { IfOk result (λ p. p ≡ piece_along free chain.items) }
     {
         let (least, reversed) = least_direction(chain);
-        Piece {
-            chain: Items::from_vec(least),
+        Ok(Piece {
+            chain: SharedItems::new(alloc, Items::from_vec(least))?,
             reversed,
             free,
-        }
+        })
     }
 
-    pub(crate) fn into_chain(self) -> Items<Pos>
+    /// The piece of a chain that has other owners. It is shared with them, unless it has to be reversed.
+    pub(crate) fn sharing(
+        alloc: Global,
+        chain: &SharedItems<Pos>,
+        free: bool,
+    ) -> Result<Piece, AllocError>
+        ensures { IfOk result (λ p. p ≡ piece_along free chain.now) }
+    {
+        let reversed = is_backwards_less(chain.as_slice());
+        if reversed {
+            return Piece::new(alloc, chain.as_slice().to_vec(alloc)?, free);
+        }
+        Ok(Piece::whole(chain.share()?, free))
+    }
+
+    pub(crate) fn into_chain(self) -> SharedItems<Pos>
         ensures { result ≡ chain_of self }
     {
         self.chain
     }
 
-    pub(crate) fn items(&self) -> &Items<Pos>
+    pub(crate) fn items(&self) -> &SharedItems<Pos>
         ensures { result.now ≡ chain_of self.now }
     {
         &self.chain
@@ -131,7 +147,7 @@ fn piece_of(alloc: Global, index: &VisitIndex, chain: &[Pos]) -> Result<Piece, A
     ensures { IfOk result (λ p. p ≡ oriented (among index.now) chain.now) }
 {
     let free = begins_free(index, chain);
-    Ok(Piece::new(chain.to_vec(alloc)?, free))
+    Piece::new(alloc, chain.to_vec(alloc)?, free)
 }
 
 /// The list cut at its stops; what is behind the last stop is dropped.
@@ -167,7 +183,7 @@ fn alone(alloc: Global, index: &VisitIndex, chain: Vec<Pos>) -> Result<Vec<Piece
 {
     let free = begins_free(index, &chain);
     let mut pieces = Vec::new(alloc);
-    pieces.push(Piece::new(chain, free))?;
+    pieces.push(Piece::new(alloc, chain, free)?)?;
     Ok(pieces)
 }
 

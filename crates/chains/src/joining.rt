@@ -161,7 +161,7 @@ fn pieces_of(
     let mut pieces = Vec::with_capacity(alloc, chains.len())?;
     for chain in chains {
         let free = begins_free(stops, &chain);
-        pieces.push(Piece::new(chain, free))?;
+        pieces.push(Piece::new(alloc, chain, free)?)?;
     }
     Ok(pieces)
 }

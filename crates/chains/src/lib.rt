@@ -15,6 +15,7 @@ mod recent;
 mod repeats;
 pub mod segment;
 mod shared;
+mod shared_items;
 pub mod sides;
 mod starts;
 mod stop_set;

@@ -7,6 +7,7 @@ ghost use Rattle.std.specs.Option.{option_map};
 ghost use Rattle.std.specs.Prelude.{◌≡◌, ◌++◌, ◌∷◌, ◌<◌, ◌^◌, [], true, OnOk, IfOk, length, slice_get, map as map_list};
 
 use crate::cutting::Piece;
+use crate::shared_items::SharedItems;
 use grid::pos::Pos;
 use indexmap::IndexMap;
 use lines::items::Items;
@@ -16,7 +17,7 @@ use std::marker::Model;
 /// An arc, and whether it is a free loop.
 #[derive(Drop)]
 pub(crate) struct StoredArc {
-    pub(crate) positions: Items<Pos>,
+    pub(crate) positions: SharedItems<Pos>,
     pub(crate) free: bool,
 }
 
@@ -37,12 +38,11 @@ impl StoredArc {
         Piece::whole(self.positions, self.free)
     }
 
-    fn copy(&self, alloc: Global) -> Result<StoredArc, AllocError>
+    fn copy(&self) -> Result<StoredArc, AllocError>
         ensures { IfOk result (λ a. a ≡ self.now) }
     {
-        let positions = self.positions.as_slice().to_vec(alloc)?;
         Ok(StoredArc {
-            positions: Items::from_vec(positions),
+            positions: self.positions.share()?,
             free: self.free,
         })
     }
@@ -113,7 +113,7 @@ impl ArcList {
     }
 
     /// The place of an arc, where the arcs rise.
-    pub(crate) fn place_of(&self, positions: &Items<Pos>) -> Option<usize>
+    pub(crate) fn place_of(&self, positions: &SharedItems<Pos>) -> Option<usize>
         ensures { rises (map_list positions_of self.now) ≡ true → result ≡ position (same_list positions.now) (map_list positions_of self.now) }
     {
         self.as_slice()
@@ -138,7 +138,7 @@ impl ArcList {
     {
         let mut lists = Vec::with_capacity(alloc, self.len())?;
         for arc in self.arcs.into_values() {
-            lists.push(arc.positions)?;
+            lists.push(arc.positions.into_items(alloc)?)?;
         }
         Ok(lists)
     }
@@ -149,7 +149,7 @@ fn copies(alloc: Global, arcs: &[StoredArc]) -> Result<ArcList, AllocError>
 {
     let mut made = ArcList::with_capacity(alloc, arcs.len())?;
     for arc in arcs {
-        made.push(arc.copy(alloc)?)?;
+        made.push(arc.copy()?)?;
     }
     Ok(made)
 }

@@ -1,7 +1,7 @@
 //! The table of arcs.
 ghost use Rattle.chains.specs.Extents.{within};
 ghost use Rattle.chains.specs.Holding.{HoldAll};
-ghost use Rattle.chains.specs.Pieces.{used, chain_of};
+ghost use Rattle.chains.specs.Pieces.{used, chain_of, piece_along};
 ghost use Rattle.chains.specs.Placing.{whole_pieces};
 ghost use Rattle.chains.specs.Table.{located, found_in, marked, number_in, free_at, AreAlike, AreLoopsOf, ArePiecesOfMap, IsTableOf};
 ghost use Rattle.chains.specs.declared.cutting.Piece.{Piece as Part};
@@ -23,7 +23,7 @@ use crate::stored::ArcList;
 use faults::OutOfMemory;
 use grid::pos::Pos;
 use lines::items::Items;
-use std::alloc::Global;
+use std::alloc::{AllocError, Global};
 use std::marker::Model;
 
 /// An arc by its number, and whether it is used against its direction.
@@ -207,6 +207,25 @@ impl ArcTable {
                 reversed: piece.reversed(),
             }),
         }
+    }
+
+    /// An arc as a piece with this mark, which shares the arc's positions; `None` exactly past the last arc.
+    ///
+    /// # Errors
+    /// Where memory is refused.
+    pub fn piece(
+        &self,
+        alloc: Global,
+        number: usize,
+        free: bool,
+    ) -> Result<Option<Piece>, AllocError>
+        ensures { IfOk result (λ o. o ≡ option_map (piece_along free) (slice_get self.now.arcs number)) }
+    {
+        let Some(arc) = self.arcs.get(number) else {
+            return Ok(None);
+        };
+        let piece = Piece::sharing(alloc, &arc.positions, free)?;
+        Ok(Some(piece))
     }
 
     /// Whether the arc of a number is a free loop; false past the last arc.

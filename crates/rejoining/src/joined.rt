@@ -129,6 +129,18 @@ fn goes_round(meeting: &Meeting, run: &[ArcRef]) -> bool
     }
 }
 
+fn piece_of(alloc: Global, arcs: &ArcTable, run: &[ArcRef], round: bool) -> Result<Piece, AllocError>
+{
+    if let [used] = run {
+        if !used.reversed && !round {
+            if let Ok(Some(piece)) = arcs.piece(alloc, used.arc, round) {
+                return Ok(piece);
+            }
+        }
+    }
+    Piece::new(alloc, joined_chain(alloc, arcs, run, round)?, round)
+}
+
 /// Adds what a run is joined to.
 fn add_joined(
     alloc: Global,
@@ -141,7 +153,7 @@ fn add_joined(
     ensures lists { OnOk result (joined.new.lists.items ≡ joined.old.lists.items ++ (list_of_run arcs.now.arcs (partner_in meeting.now) run ∷ [])) }
 {
     let round = goes_round(meeting, run.as_slice());
-    let piece = Piece::new(joined_chain(alloc, arcs, run.as_slice(), round)?, round);
+    let piece = piece_of(alloc, arcs, run.as_slice(), round)?;
     let run = directed(alloc, run, piece.reversed())?;
     joined.pieces.push(piece)?;
     joined.lists.push(listed(arcs, run, round))?;
