@@ -103,8 +103,3 @@ join_undone m r apart = map.same_map nat_list_cmp_total same_text (less (union m
     go None (Some t) names k = let no : false ≡ true = names refl in absurd cc
     go (Some s) None names k = ap Some (less_nothing s)
     go (Some s) (Some t) names k = ap Some (less_union s t k)
-
--- each layer and each feature of r is one of m
-pub record IsWithin (m r : Layers) : Type 0 where
-  pub names : (q : List ℕ) → map.contains_key r q ≡ true → map.contains_key m q ≡ true
-  pub features : (q : List ℕ) (f : Feature) → set.contains (features_at r q) f ≡ true → set.contains (features_at m q) f ≡ true
