@@ -38,7 +38,17 @@ impl StoredArc {
         Piece::whole(self.positions, self.free)
     }
 
-    fn copy(&self) -> Result<StoredArc, AllocError>
+    fn copy(&self, alloc: Global) -> Result<StoredArc, AllocError>
+        ensures { IfOk result (λ a. a ≡ self.now) }
+    {
+        let positions = Items::from_vec(self.positions.as_slice().to_vec(alloc)?);
+        Ok(StoredArc {
+            positions: SharedItems::new(alloc, positions)?,
+            free: self.free,
+        })
+    }
+
+    fn share(&self) -> Result<StoredArc, AllocError>
         ensures { IfOk result (λ a. a ≡ self.now) }
     {
         Ok(StoredArc {
@@ -112,6 +122,14 @@ impl ArcList {
         Ok(made)
     }
 
+    /// The same arcs, whose positions are shared.
+    pub(crate) fn share(&self, alloc: Global) -> Result<ArcList, AllocError>
+        ensures { IfOk result (λ l. l ≡ self.now) }
+    {
+        let made = shares(alloc, self.as_slice())?;
+        Ok(made)
+    }
+
     /// The place of an arc, where the arcs rise.
     pub(crate) fn place_of(&self, positions: &SharedItems<Pos>) -> Option<usize>
         ensures { rises (map_list positions_of self.now) ≡ true → result ≡ position (same_list positions.now) (map_list positions_of self.now) }
@@ -149,7 +167,17 @@ fn copies(alloc: Global, arcs: &[StoredArc]) -> Result<ArcList, AllocError>
 {
     let mut made = ArcList::with_capacity(alloc, arcs.len())?;
     for arc in arcs {
-        made.push(arc.copy()?)?;
+        made.push(arc.copy(alloc)?)?;
+    }
+    Ok(made)
+}
+
+fn shares(alloc: Global, arcs: &[StoredArc]) -> Result<ArcList, AllocError>
+    ensures { IfOk result (λ l. l ≡ arcs.now) }
+{
+    let mut made = ArcList::with_capacity(alloc, arcs.len())?;
+    for arc in arcs {
+        made.push(arc.share()?)?;
     }
     Ok(made)
 }

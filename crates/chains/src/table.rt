@@ -260,7 +260,7 @@ impl ArcTable {
         Ok(lists)
     }
 
-    /// An equal table.
+    /// An equal table, with positions of its own.
     ///
     /// # Errors
     /// Where memory is refused.
@@ -268,6 +268,20 @@ impl ArcTable {
         ensures { IfOk result (λ t. t ≡ self.now) }
     {
         let arcs = self.arcs.copy(alloc)?;
+        Ok(ArcTable {
+            arcs,
+            extent: self.extent,
+        })
+    }
+
+    /// An equal table, which shares the arcs' positions with this one.
+    ///
+    /// # Errors
+    /// Where memory is refused.
+    pub fn share(&self, alloc: Global) -> Result<ArcTable, OutOfMemory>
+        ensures { IfOk result (λ t. t ≡ self.now) }
+    {
+        let arcs = self.arcs.share(alloc)?;
         Ok(ArcTable {
             arcs,
             extent: self.extent,

@@ -68,7 +68,7 @@ pub fn recut_owned(alloc: Global, left: ArcTable, right: ArcTable) -> Result<Rec
     Ok(Recut::from_parts(arcs.with_extent(cuts.extent), left_lists, right_lists))
 }
 
-/// `recut_owned` of two tables that stay.
+/// `recut_owned` of two tables that stay. They share the positions of arcs that are not cut with the new one.
 ///
 /// # Errors
 /// Where memory is refused.
@@ -77,5 +77,5 @@ pub fn recut(alloc: Global, left: &ArcTable, right: &ArcTable) -> Result<Recut, 
     ensures left { IfOk result (λ r. length r.left ≡ length left.now.arcs) }
     ensures right { IfOk result (λ r. length r.right ≡ length right.now.arcs) }
 {
-    recut_owned(alloc, left.copy(alloc)?, right.copy(alloc)?)
+    recut_owned(alloc, left.share(alloc)?, right.share(alloc)?)
 }

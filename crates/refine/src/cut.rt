@@ -292,14 +292,14 @@ fn united(alloc: Global, left: Topology, right: Topology) -> Result<Topology, Ou
     Ok(Topology::from_unmeasured_parts(grid, arcs, layers))
 }
 
-/// `united` of two topologies that stay.
-fn united_copies(alloc: Global, left: &Topology, right: &Topology) -> Result<Topology, OutOfMemory>
+/// `united` of two topologies that stay, and share the positions of arcs that are not cut.
+fn united_lent(alloc: Global, left: &Topology, right: &Topology) -> Result<Topology, OutOfMemory>
     ensures grid { IfOk result (λ t. t.grid ≡ left.now.grid) }
     ensures of_map { IfOk result (λ t. (m n : Layers) → IsOf m left.now → IsOf n right.now → IsOf (union m n) t) }
     ensures right { IfOk result (λ _. IsOfSomeMap right.now) }
     ensures few { IfOk result (λ t. length t.arcs.arcs < 2 ^ 63) }
 {
-    united(alloc, left.copy(alloc)?, right.copy(alloc)?)
+    united(alloc, left.share(alloc)?, right.share(alloc)?)
 }
 
 fn on_one_grid(left: &Topology, right: &Topology) -> bool
@@ -326,7 +326,7 @@ pub(crate) fn joined(
     if !on_one_grid(left, right) {
         return Err(JoinFault::OtherGrid);
     }
-    let topology = united_copies(alloc, left, right)?;
+    let topology = united_lent(alloc, left, right)?;
     Ok(topology)
 }
 
@@ -390,7 +390,7 @@ impl Kept {
     fn copy(&self, alloc: Global) -> Result<Kept, OutOfMemory>
         ensures { IfOk result (λ k. k ≡ self.now) }
     {
-        let topology = self.topology.copy(alloc)?;
+        let topology = self.topology.share(alloc)?;
         Ok(Kept::of_size(topology, self.size))
     }
 

@@ -1,6 +1,7 @@
 pub mod ByUses
 pub mod Choices
 pub mod WalkedRuns
+pub mod WholeArcs
 pub mod Meetings
 pub mod Pairing
 pub mod Partners

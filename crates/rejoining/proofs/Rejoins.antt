@@ -385,6 +385,6 @@ module _ (old : Arcs) (marks : List Bool) (ending : List Pos) (numbers slice : L
   rejoin_is = (rejoin_told, rejoin_count)
 
 -- nothing is left to put
-pub put_none : (refs : List ArcRef) (made : List (List ArcRef)) → put_all refs [] made ≡ made
-put_none [] lists = refl
-put_none (a ∷ refs) lists = refl
+pub put_none : (refs : List ArcRef) (placed : List (List ArcRef)) → put_all refs [] placed ≡ placed
+put_none [] placed = refl
+put_none (a ∷ refs) placed = refl

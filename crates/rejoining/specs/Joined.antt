@@ -1,5 +1,5 @@
 -- What runs are joined to: for each run a new arc, and its old ones in order along it.
-use Rattle.std.specs.Prelude.{ℕ, ◌+◌, ◌-◌, Bool, true, false, cond, List, [], ◌∷◌, ◌++◌, take, drop, length, slice_set, Option, Some, None, unwrap_or}
+use Rattle.std.specs.Prelude.{ℕ, ◌+◌, ◌-◌, Bool, true, false, cond, ◌||◌, List, [], ◌∷◌, ◌++◌, take, drop, length, slice_set, Option, Some, None, unwrap_or}
 use Rattle.std.specs.Ordering.{is_lt}
 use Rattle.theory.specs.ArcNumbers.{ArcRef, along, backwards}
 use Rattle.theory.specs.LinesAndRings.{closed}
@@ -65,6 +65,12 @@ directed reversed run = cond reversed (backwards run) run
 -- the same, and a loop's begun where it starts least
 abbrev pub list_by : List (List Pos) → Bool → List ArcRef → List ArcRef
 list_by arcs round run = cond round (turned_used position_cmp arcs run) run
+
+-- the arc that a run is, ahead and from end to end, where it is one arc alone
+abbrev pub whole_arc : Bool → List ArcRef → Option ℕ
+whole_arc round [] = None
+whole_arc round (a ∷ []) = cond (round || a.reversed) None (Some a.arc)
+whole_arc round (a ∷ (b ∷ more)) = None
 
 abbrev pub piece_by : List (List Pos) → Bool → List ArcRef → Piece
 piece_by arcs round run = record {

@@ -103,11 +103,9 @@ impl ArcRun {
         ensures { result ≡ turned_used position_cmp table.now.arcs self }
     {
         match self.arcs {
-            Arcs::One(mut one) => {
-                turn_ring(table, &mut one);
-                ArcRun {
-                    arcs: Arcs::One(one),
-                }
+            Arcs::One(one) => {
+                let [used] = one;
+                ArcRun::one(used)
             }
             Arcs::Any(mut arcs) => {
                 turn_ring(table, &mut arcs);

@@ -1,7 +1,7 @@
 //! What runs are joined to: for each run a new arc, and its old ones in order along it.
 ghost use Rattle.lines.specs.Turned.{position_cmp};
 ghost use Rattle.rejoining.specs.Joined as spec;
-ghost use Rattle.rejoining.specs.Joined.{chain_by, from_least, least_vertex, list_by, list_of_run, piece_of_run, positions_along, put_all, run_along};
+ghost use Rattle.rejoining.specs.Joined.{chain_by, from_least, least_vertex, list_by, list_of_run, piece_by, piece_of_run, positions_along, put_all, run_along};
 ghost use Rattle.rejoining.specs.Meeting.{partner_in};
 ghost use Rattle.std.specs.Ordering.{is_lt};
 ghost use Rattle.std.specs.Prelude.{◌≡◌, ◌++◌, ◌∷◌, [], IfOk, OnOk, map as map_list, replicate, slice_set};
@@ -129,16 +129,35 @@ fn goes_round(meeting: &Meeting, run: &[ArcRef]) -> bool
     }
 }
 
-fn piece_of(alloc: Global, arcs: &ArcTable, run: &[ArcRef], round: bool) -> Result<Piece, AllocError>
+/// The arc that a run is, ahead and from end to end, where it is one arc alone.
+fn whole_arc(run: &[ArcRef], round: bool) -> Option<usize>
+    ensures { result ≡ spec.whole_arc round run.now }
 {
-    if let [used] = run {
-        if !used.reversed && !round {
-            if let Ok(Some(piece)) = arcs.piece(alloc, used.arc, round) {
-                return Ok(piece);
-            }
+    let [used] = run else {
+        return None;
+    };
+    if round || used.reversed {
+        return None;
+    }
+    Some(used.arc)
+}
+
+/// The piece of a run. That of a whole arc shares the arc's positions.
+fn piece_of(
+    alloc: Global,
+    arcs: &ArcTable,
+    run: &[ArcRef],
+    round: bool,
+) -> Result<Piece, AllocError>
+    ensures { IfOk result (λ p. p ≡ piece_by arcs.now.arcs round run.now) }
+{
+    if let Some(number) = whole_arc(run, round) {
+        if let Some(piece) = arcs.piece(alloc, number, false)? {
+            return Ok(piece);
         }
     }
-    Piece::new(alloc, joined_chain(alloc, arcs, run, round)?, round)
+    let chain = joined_chain(alloc, arcs, run, round)?;
+    Piece::new(alloc, chain, round)
 }
 
 /// Adds what a run is joined to.

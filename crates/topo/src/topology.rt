@@ -225,17 +225,33 @@ impl Topology {
         (self.arcs, self.layers.into_vec())
     }
 
-    /// An equal topology.
-    pub fn copy(&self, alloc: Global) -> Result<Topology, OutOfMemory>
+    /// An equal topology over an equal table of arcs.
+    fn over(&self, alloc: Global, arcs: ArcTable) -> Result<Topology, OutOfMemory>
+        requires { arcs ≡ self.now.arcs }
         ensures { IfOk result (λ t. t ≡ self.now) }
     {
         let layers = copy_each(alloc, self.layers())?;
-        let arcs = self.arcs.copy(alloc)?;
         Ok(Topology {
             grid: self.grid,
             arcs,
             layers: Items::from_vec(layers),
             bbox: self.bbox,
         })
+    }
+
+    /// An equal topology, with lists of its own.
+    pub fn copy(&self, alloc: Global) -> Result<Topology, OutOfMemory>
+        ensures { IfOk result (λ t. t ≡ self.now) }
+    {
+        let arcs = self.arcs.copy(alloc)?;
+        self.over(alloc, arcs)
+    }
+
+    /// An equal topology, which shares the arcs' positions with this one.
+    pub fn share(&self, alloc: Global) -> Result<Topology, OutOfMemory>
+        ensures { IfOk result (λ t. t ≡ self.now) }
+    {
+        let arcs = self.arcs.share(alloc)?;
+        self.over(alloc, arcs)
     }
 }

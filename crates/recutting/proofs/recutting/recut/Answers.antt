@@ -14,5 +14,5 @@ IsCutAgain s t r = (m n u : Geometry Pos) → IsSound m → IsSound n → IsTabl
 
 pub returns-clause-refined : goal.returns-clause-refined
 returns-clause-refined c =
-    subst (λ s. IfOk c.recut_owned.result (IsCutAgain s c.args.right.now)) c.in_ok-copy.ensures
-    (subst (λ t. IfOk c.recut_owned.result (IsCutAgain c.in_ok-copy.field-0 t)) c.in_ok-copy-2.ensures c.recut_owned.ensures.refined)
+    subst (λ s. IfOk c.recut_owned.result (IsCutAgain s c.args.right.now)) c.in_ok-share.ensures
+    (subst (λ t. IfOk c.recut_owned.result (IsCutAgain c.in_ok-share.field-0 t)) c.in_ok-share-2.ensures c.recut_owned.ensures.refined)
