@@ -7,7 +7,9 @@
 builds the program and prints, for tilings of two sizes or more (`--doublings`), what it takes to take out one district, the
 first half of the rows, and every second district as on a chequered board, and what building the
 topology of what is left takes, each without reading files or writing the text: a program that does
-it several times is compared with one that does it once. Times are processor times (user and
+it many times (`--times` removals, and a quarter as many builds) is compared with one that does it
+once; where other programs use the machine, reading the files takes now more and now less, so few
+times tell little. Times are processor times (user and
 system), the least of some runs; all sizes are measured by the same turns. The texts of both are
 compared byte by byte. The goal, which no test asks for: at most 0.4 times the build, and at most 2.2 times as long
 for the double, for each doubling and in their mean. Where what a removal reads and writes outgrows a cache of the machine,
@@ -69,15 +71,16 @@ def measure_sizes(folders, runs, times):
             elif not same_bytes(out, removed):
                 sys.exit("the texts differ")
 
+        counts = {"remove": times, "build": -(-times // 4)}
         words = {
-            (folder, count, mode): each
+            (folder, count, mode): programs(folder, count)[mode]
             for folder in folders
-            for count in (0, times)
-            for mode, each in programs(folder, count).items()
+            for mode in counts
+            for count in (0, counts[mode])
         }
         measures = by_turns(words, out, runs, look)
-    seconds = lambda folder, mode: (measures[folder, times, mode].seconds - measures[folder, 0, mode].seconds) / times
-    return [[seconds(folder, mode) for mode in ("remove", "build")] for folder in folders]
+    seconds = lambda folder, mode, count: (measures[folder, count, mode].seconds - measures[folder, 0, mode].seconds) / count
+    return [[seconds(folder, *each) for each in counts.items()] for folder in folders]
 
 
 def tell(line, misses):
@@ -120,7 +123,7 @@ def measure_removal(name, tilings, words):
 
 def main():
     parser = parser_of("Measures taking features out of a topology.")
-    parser.add_argument("--times", type=int, default=10)
+    parser.add_argument("--times", type=int, default=40)
     parser.add_argument("--doublings", type=int, default=1)
     words = parser.parse_args()
     need(BENCH)
