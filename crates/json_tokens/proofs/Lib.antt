@@ -1,0 +1,4 @@
+pub mod Reading
+pub mod Lists
+pub mod Objects
+pub mod Numbers
