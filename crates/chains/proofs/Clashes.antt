@@ -38,7 +38,7 @@ visit_true a b e =
     let q : a.sides ≡ b.sides = pair_true a.sides b.sides h.1 in
     λ i. record { vertex = p i; sides = q i }
 
-visit_refl : (a b : Visit) → a ≡ b → visit_eq a b ≡ true
+pub visit_refl : (a b : Visit) → a ≡ b → visit_eq a b ≡ true
 visit_refl a b e =
     subst (λ w. visit_eq a w ≡ true) e (both_intro (position_eq a.vertex a.vertex) (pair_eq a.sides a.sides) (position_refl a.vertex) (pair_refl a.sides a.sides refl))
 

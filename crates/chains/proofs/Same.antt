@@ -1,11 +1,10 @@
 -- Lists in which the same stand.
-use Rattle.std.proofs.Common.{◌≡◌, ℕ, ◌<◌, true, List, [], ◌∷◌, ◌++◌, inl, inr, sym, subst, length, get_or}
+use Rattle.std.proofs.Common.{◌≡◌, ℕ, ◌<◌, List, [], ◌∷◌, ◌++◌, inl, inr, sym, subst, length, get_or, slice_get, Some}
 use Rattle.theory.specs.Lists.{Has}
 use Rattle.theory.proofs.Lists.{Has-append, Has-append_left, Has-append_right}
-use Rattle.chains.specs.Visits.{HaveSame, visit_eq}
-use Rattle.chains.specs.declared.visits.Visit.{Visit}
+use Rattle.theory.proofs.ListsOfLists.{get_has}
+use Rattle.chains.specs.Visits.{HaveSame}
 use Rattle.lines.proofs.SortedLists.{has_from_contains}
-use Rattle.chains.proofs.Clashes.{visit_true}
 
 pub same_refl : {A : Type 0} (a : List A) → HaveSame a a
 same_refl a = record { members = λ w. (λ h. h, λ h. h) }
@@ -47,8 +46,9 @@ same_again w a h = record { members = λ v. (Has-append_left v a (w ∷ []), aga
 pub same_at : {A : Type 0} (w v : A) (a : List A) (k : ℕ) → k < length a → v ≡ get_or a k v → v ≡ w → HaveSame a (a ++ w ∷ [])
 same_at w v a k h e t = same_again w a (subst (λ u. Has u a) t (has_from_contains v a k h (sym e)))
 
-pub same_found : (w v : Visit) (a : List Visit) (k : ℕ) → k < length a → v ≡ get_or a k v → visit_eq v w ≡ true → HaveSame a (a ++ w ∷ [])
-same_found w v a k h e t = same_at w v a k h e (visit_true v w t)
+-- what stands at an index of the list
+pub same_stands : {A : Type 0} (w : A) (a : List A) (k : ℕ) → slice_get a k ≡ Some w → HaveSame a (a ++ w ∷ [])
+same_stands w a k e = same_again w a (get_has a k w e)
 
 -- what is left behind both
 pub same_step : {A : Type 0} {now seen left all : List A} (rest : List A) → HaveSame now seen → HaveSame left all → left ≡ seen ++ rest → HaveSame (now ++ rest) all

@@ -1,39 +1,110 @@
-//! What was noted not long ago, by its position: most of what comes again comes a short time apart.
+//! Where something was noted, by its position: most of what comes again is found there.
 ghost use Rattle.chains.specs.Visits.{HaveSame};
 ghost use Rattle.std.specs.Prelude.{◌++◌, ◌∷◌, [], IfOk, OnOk};
 
+use crate::marking::is_marked;
+use crate::table::ArcTable;
 use grid::pos::Pos;
 use lines::bits::place_among;
+use lines::items::Items;
+use lines::line::Line;
+use lines::ring::Ring;
+use shapes::feature::Feature;
+use shapes::feature_map::FeatureMap;
+use shapes::shape::Shape;
 use std::alloc::{AllocError, Global};
+use std::collections::BTreeSet;
 
-/// The most places in a table of what is recent.
-const RECENT: usize = 65536;
+/// How many places a table has for each position, so that few positions share a place.
+const PLACES_EACH: usize = 2;
+
+/// The most places in a table, which then takes 64 MiB.
+const MOST_PLACES: usize = 16777216;
+
+fn count_in_lines(lines: &[Line]) -> usize {
+    lines.iter().fold(
+        0usize,
+        |count, line| count.saturating_add(line.positions().len()),
+    )
+}
+
+fn count_in_rings(rings: &[Ring]) -> usize {
+    rings.iter().fold(
+        0usize,
+        |count, ring| count.saturating_add(ring.vertices().len()),
+    )
+}
+
+fn count_in_polygons(polygons: &[Items<Ring>]) -> usize {
+    polygons.iter().fold(
+        0usize,
+        |count, rings| count.saturating_add(count_in_rings(rings.as_slice())),
+    )
+}
+
+fn count_in_shape(shape: &Shape) -> usize {
+    match shape {
+        Shape::Null | Shape::Point(_) | Shape::MultiPoint(_) => 0,
+        Shape::Line(line) => line.positions().len(),
+        Shape::MultiLine(lines) => count_in_lines(lines.as_slice()),
+        Shape::Polygon(rings) => count_in_rings(rings.as_slice()),
+        Shape::MultiPolygon(polygons) => count_in_polygons(polygons.as_slice()),
+    }
+}
+
+fn count_in_features(features: &BTreeSet<Feature>) -> usize {
+    let mut count: usize = 0;
+    for feature in features.iter() {
+        count = count.saturating_add(count_in_shape(&feature.shape));
+    }
+    count
+}
+
+/// How many positions a map's lines and rings have.
+pub(crate) fn count_in_map(map: &FeatureMap) -> usize {
+    let mut count: usize = 0;
+    for layer in map.layers() {
+        count = count.saturating_add(count_in_features(&layer.features));
+    }
+    count
+}
+
+/// How many positions a table's marked arcs have.
+pub(crate) fn count_in_marked_arcs(table: &ArcTable, marks: &[bool]) -> usize {
+    let mut count: usize = 0;
+    for number in 0..table.len() {
+        if is_marked(marks, number) {
+            count = count.saturating_add(table.arc(number).map_or(0, |arc| arc.len()));
+        }
+    }
+    count
+}
 
 /// For a position the place in a list where it was noted. It is only a hint: another position may have
 /// been noted in its stead.
 #[derive(Drop)]
 pub(crate) struct Recent {
-    places: Vec<usize>,
+    places: Vec<u32>,
+}
+
+/// A place in a list as the table keeps it. Beyond the greatest number that it can keep it keeps that
+/// one, and the hint is wrong.
+pub(crate) fn kept_place(place: usize) -> u32 {
+    place.min(u32::MAX as usize) as u32
 }
 
 impl Recent {
-    pub(crate) fn new(alloc: Global) -> Recent {
-        Recent {
-            places: Vec::new(alloc),
-        }
-    }
-
-    /// Widens the table, where so many are more than it has room for.
-    pub(crate) fn widen(&mut self, noted: usize) -> Result<(), AllocError> {
-        let wanted = noted.min(RECENT);
-        if self.places.len() < wanted {
-            self.places.resize(wanted.saturating_mul(2).min(RECENT), 0)?;
-        }
-        Ok(())
+    /// A table for so many positions. It is as large from the start as it will ever be, since nothing
+    /// that it holds would be found in a larger one.
+    pub(crate) fn for_positions(alloc: Global, count: usize) -> Result<Recent, AllocError> {
+        let places = count.saturating_mul(PLACES_EACH).min(MOST_PLACES);
+        Ok(Recent {
+            places: vec![in alloc; 0; places]?,
+        })
     }
 
     /// The place that is noted for a position.
-    pub(crate) fn place(&mut self, position: Pos) -> Option<&mut usize> {
+    pub(crate) fn place(&mut self, position: Pos) -> Option<&mut u32> {
         let at = place_among(self.places.len(), position);
         self.places.get_mut(at)
     }
@@ -52,12 +123,12 @@ impl Noted {
         ensures { OnOk result (HaveSame self.new.positions.items (self.old.positions.items ++ position ∷ [])) }
     {
         if let Some(place) = self.recent.place(position) {
-            if let Some(noted) = self.positions.get(*place) {
+            if let Some(noted) = self.positions.get(*place as usize) {
                 if *noted == position {
                     return Ok(());
                 }
             }
-            *place = self.positions.len();
+            *place = kept_place(self.positions.len());
         }
         self.positions.push(position)?;
         Ok(())
@@ -70,9 +141,8 @@ pub(crate) fn thinned(alloc: Global, positions: &[Pos]) -> Result<Vec<Pos>, Allo
 {
     let mut noted = Noted {
         positions: Vec::new(alloc),
-        recent: Recent::new(alloc),
+        recent: Recent::for_positions(alloc, positions.len())?,
     };
-    noted.recent.widen(positions.len())?;
     for position in positions {
         noted.note(*position)?;
     }

@@ -13,7 +13,7 @@ ghost use Rattle.grid.specs.declared.pos.Pos.{Pos};
 ghost use Rattle.shapes.specs.Maps.{set_of};
 ghost use Rattle.shapes.specs.Sets as set;
 ghost use Rattle.std.specs.List.{list_any};
-ghost use Rattle.std.specs.Prelude.{◌≡◌, cond, [], ◌∷◌, ◌++◌, ◌↔◌, ◌⊎◌, map as map_list, slice_get, IfOk, List, OnOk, IsTrue, Some};
+ghost use Rattle.std.specs.Prelude.{◌≡◌, cond, [], ◌∷◌, ◌++◌, ◌↔◌, ◌⊎◌, map as map_list, slice_get, IfOk, IfSome, List, OnOk, IsTrue, Some};
 ghost use Rattle.theory.specs.Geometry.{Geometry, IsSound, JunctionOf, SegmentOf};
 ghost use Rattle.theory.specs.Lists.{Has, gathered, joined};
 ghost use Rattle.theory.specs.Refinement.{IsUnionOf, unclosed};
@@ -22,7 +22,7 @@ ghost use Rattle.theory.specs.Topology.{forms_of};
 
 use crate::extent::Extent;
 use crate::marking::is_marked;
-use crate::recent::{Recent, thinned};
+use crate::recent::{Recent, count_in_map, count_in_marked_arcs, kept_place, thinned};
 use crate::repeats::repeated;
 use crate::shared::{VertexBits, inside};
 use crate::table::ArcTable;
@@ -61,32 +61,70 @@ fn visit_between(before: Pos, here: Pos, next: Pos) -> Visit
 struct Seen {
     ends: Vec<Pos>,
     visits: Vec<Visit>,
-    /// Where a visit was noted not long ago, by its vertex. It is only a hint: most visits of a map
-    /// whose rings share borders come twice, a short time apart, and the second is found here.
+    /// Where a visit was noted, by its vertex. It is only a hint: most visits of a map whose rings share
+    /// borders come twice, and the second is found here.
     recent: Recent,
+    /// Where the last visit was found that was noted before. It is only a hint too: a border that comes
+    /// again comes in the same order or backwards, so the next visit mostly stands beside that one.
+    last_found: usize,
+}
+
+/// Whether a visit stands at an index.
+fn stands_at(visits: &[Visit], index: usize, visit: Visit) -> bool
+    ensures { IsTrue result ↔ (slice_get visits.now index ≡ Some visit) }
+{
+    match visits.get(index) {
+        Some(noted) => *noted == visit,
+        None => false,
+    }
 }
 
 impl Seen {
-    /// Makes room in the table of recent visits for so many more.
-    fn widen_recent(&mut self, more: usize) -> Result<(), AllocError>
-        ensures ends { self.new.ends.items ≡ self.old.ends.items }
-        ensures visits { self.new.visits.items ≡ self.old.visits.items }
+    /// Nothing is seen yet; so many visits may be noted.
+    fn nothing(alloc: Global, visits: usize) -> Result<Seen, AllocError>
+        ensures ends { IfOk result (λ s. s.ends.items ≡ []) }
+        ensures visits { IfOk result (λ s. s.visits.items ≡ []) }
     {
-        self.recent.widen(self.visits.len().saturating_add(more))
+        Ok(Seen {
+            ends: Vec::new(alloc),
+            visits: Vec::new(alloc),
+            recent: Recent::for_positions(alloc, visits)?,
+            last_found: 0,
+        })
     }
 
-    /// Notes a visit, unless an equal one stands where the table of recent visits points.
+    /// Where a visit stands beside the last one that was found, if it stands there.
+    fn beside_last(&self, visit: Visit) -> Option<usize>
+        ensures { IfSome result (λ i. slice_get self.now.visits.items i ≡ Some visit) }
+    {
+        let before = self.last_found.saturating_sub(1);
+        if stands_at(&self.visits, before, visit) {
+            return Some(before);
+        }
+        let after = self.last_found.saturating_add(1);
+        if stands_at(&self.visits, after, visit) {
+            return Some(after);
+        }
+        None
+    }
+
+    /// Notes a visit, unless an equal one stands beside the last that was found, or where the table of
+    /// recent visits points.
     fn note(&mut self, visit: Visit) -> Result<(), AllocError>
         ensures ends { self.new.ends.items ≡ self.old.ends.items }
         ensures visits { OnOk result (HaveSame self.new.visits.items (self.old.visits.items ++ visit ∷ [])) }
     {
+        if let Some(index) = self.beside_last(visit) {
+            self.last_found = index;
+            return Ok(());
+        }
         if let Some(place) = self.recent.place(visit.vertex) {
-            if let Some(noted) = self.visits.get(*place) {
-                if *noted == visit {
-                    return Ok(());
-                }
+            let index = *place as usize;
+            if stands_at(&self.visits, index, visit) {
+                self.last_found = index;
+                return Ok(());
             }
-            *place = self.visits.len();
+            *place = kept_place(self.visits.len());
         }
         self.visits.push(visit)?;
         Ok(())
@@ -112,7 +150,6 @@ impl Seen {
         ensures ends { OnOk result (self.new.ends.items ≡ self.old.ends.items) }
         ensures visits { OnOk result (HaveSame self.new.visits.items (self.old.visits.items ++ inner_of line.now)) }
     {
-        self.widen_recent(line.len())?;
         let Some((first, others)) = line.split_first() else {
             return Ok(());
         };
@@ -410,11 +447,7 @@ impl VisitIndex {
     pub fn of(alloc: Global, map: &FeatureMap) -> Result<VisitIndex, OutOfMemory>
         ensures { IfOk result (λ i. IsIndexOf i (geometry_of map.now)) }
     {
-        let mut seen = Seen {
-            ends: Vec::new(alloc),
-            visits: Vec::new(alloc),
-            recent: Recent::new(alloc),
-        };
+        let mut seen = Seen::nothing(alloc, count_in_map(map))?;
         seen.see_layers(map)?;
         let index = VisitIndex::of_seen(alloc, seen)?;
         Ok(index)
@@ -442,11 +475,9 @@ impl VisitIndex {
         let right_extent = Extent::around(right);
         let of_left = VertexBits::of(alloc, left, left_extent, &right_extent)?;
         let of_right = VertexBits::of(alloc, right, right_extent, &left_extent)?;
-        let mut seen = Seen {
-            ends: Vec::new(alloc),
-            visits: Vec::new(alloc),
-            recent: Recent::new(alloc),
-        };
+        let left_count = count_in_marked_arcs(left, &of_left.near);
+        let right_count = count_in_marked_arcs(right, &of_right.near);
+        let mut seen = Seen::nothing(alloc, left_count.saturating_add(right_count))?;
         let left_marks = seen.see_arcs(alloc, &of_right, left, &of_left.near)?;
         let right_marks = seen.see_arcs(alloc, &of_left, right, &of_right.near)?;
         let index = VisitIndex::of_seen(alloc, seen)?;

@@ -1,14 +1,12 @@
-use Rattle.std.proofs.Common.{◌<◌, sym, ap, ◌∙◌, subst, length, get_or}
-use Rattle.std.proofs.lemmas.Bool.{ltb-true}
-use Rattle.chains.proofs.Same.{same_found}
+use Rattle.std.proofs.Common.{◌≡◌, subst, slice_get, Some}
+use Rattle.chains.proofs.Same.{same_stands}
 use Rattle.chains.proofs.visits.Seen.note.Goals as goal
 
-pub returns-then-eq-clause-visits : goal.returns-then-eq-clause-visits
-returns-then-eq-clause-visits c =
-    let v = c.in-Some-get.noted.now in
-    let k = c.in-Some.place.now in
-    let at = c.in-Some-get.ensures.lookup in
-    same_found c.args.visit v c.args.self.now.visits.items k
-    (subst (λ l. k < length l) c.deref.ensures.value (ltb-true k (length c.deref.result.now) (sym at.0)))
-    (at.1 ∙ ap (λ l. get_or l k v) c.deref.ensures.value)
-    (sym c.eq.ensures ∙ c.if-eq.true)
+pub returns-in-Some-clause-visits : goal.returns-in-Some-clause-visits
+returns-in-Some-clause-visits c = same_stands c.args.visit c.args.self.now.visits.items c.in-Some.index c.in-Some.ensures
+
+pub returns-then-stands_at-clause-visits : goal.returns-then-stands_at-clause-visits
+returns-then-stands_at-clause-visits c =
+    same_stands c.args.visit c.args.self.now.visits.items c.in-Some-place.place.now
+    (subst (λ l. slice_get l c.in-Some-place.place.now ≡ Some c.args.visit) c.deref.ensures.value
+    (c.stands_at.ensures.0 c.if-stands_at.true))

@@ -13,5 +13,5 @@ returns c =
     let m = c.args.map.now in
     c.in_ok-index.ensures (geometry_of m) _ (keeps_all c.see_layers.new.self.visits.items)
     (visits_are m c.see_layers.new.self.ends.items c.see_layers.new.self.visits.items
-    (c.in_ok-see_layers.ensures.ends ∙ ap (λ ends. ends ++ gathered form_ends (forms_of (seen m))) c.new.ensures.items)
-    (same_trans c.in_ok-see_layers.ensures.visits (same_equal (ap (λ visits. visits ++ gathered form_visits (forms_of (seen m))) c.new-2.ensures.items))))
+    (c.in_ok-see_layers.ensures.ends ∙ ap (λ ends. ends ++ gathered form_ends (forms_of (seen m))) c.in_ok-seen.ensures.ends)
+    (same_trans c.in_ok-see_layers.ensures.visits (same_equal (ap (λ visits. visits ++ gathered form_visits (forms_of (seen m))) c.in_ok-seen.ensures.visits))))

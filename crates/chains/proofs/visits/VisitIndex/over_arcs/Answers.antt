@@ -33,12 +33,12 @@ returns-clause-arcs c = λ m n sm sn ms nt.
     let are =
     visits_of_tables s t ends all
     (c.in_ok-right_marks.ensures.ends ∙ ap (λ w. w ++ gathered (arc_ends t.loops) t.arcs)
-    (c.in_ok-left_marks.ensures.ends ∙ ap (λ w. w ++ gathered (arc_ends s.loops) s.arcs) c.new.ensures.items))
+    (c.in_ok-left_marks.ensures.ends ∙ ap (λ w. w ++ gathered (arc_ends s.loops) s.arcs) c.in_ok-seen.ensures.ends))
     (same_refl all) in
     c.in_ok-index.ensures (tables_as_map s t) all
     (met_kept m n sm sn s t ms nt of_s of_t hold_s hold_t ends c.see_arcs-2.new.self.visits.items are
     (same_trans c.in_ok-right_marks.ensures.visits (same_before (gathered (arc_shared (may_hold of_s) t.loops) t.arcs)
-    (same_trans c.in_ok-left_marks.ensures.visits (same_equal (ap (λ w. w ++ gathered (arc_shared (may_hold of_t) s.loops) s.arcs) c.new-2.ensures.items))))))
+    (same_trans c.in_ok-left_marks.ensures.visits (same_equal (ap (λ w. w ++ gathered (arc_shared (may_hold of_t) s.loops) s.arcs) c.in_ok-seen.ensures.visits))))))
     are
 
 pub returns-clause-union : goal.returns-clause-union
