@@ -6,9 +6,10 @@
 
 Times on a machine whose processors and caches others use too disagree from run to run by a fifth and more; counts don't.
 What a cache that is too small costs is not in them. Each row is a program at about 250,000 positions and at the double:
-a command on a topology, a merge of 16 and of 32 shards of one size, a topology read and built anew, or one of two removals
-(what a program that does two more of them takes more, halved). Beside the growth stands its goal, which no test asks for;
-a growth that misses it is marked by an exclamation mark. It needs valgrind.
+a command on a topology or on GeoJSON, a merge of 16 and of 32 shards of one size, a topology read and built anew, or one of
+two removals (what a program that does two more of them takes more, halved). A command stands beside the JSON values of its
+files alone (`bench_runs values`). Beside a ratio stands its goal, which no test asks for; a ratio that misses it is marked
+by an exclamation mark. It needs valgrind.
 """
 
 import os
@@ -22,14 +23,18 @@ from concurrent.futures import ThreadPoolExecutor
 sys.dont_write_bytecode = True
 
 from generate import features, tiling
-from measuring import BENCH, TOOL, Failed, end_with, make_topologies, need, parser_of, stop
+from measuring import BENCH, GRID, TOOL, Failed, end_with, make_topologies, need, parser_of, stop
 from removals import REMOVALS, programs, write_removal
-from topologies import commands
+from topologies import commands, marked
 
 SHARDS = 16
 GREATEST_OF_COMMANDS = 2.1
 GREATEST_OF_MERGES = 2.3
 GREATEST_OF_REMOVALS = 2.2
+
+# the greatest ratio to the value alone that is wanted of each command
+GOALS = {"check": 0.75, "neighbors": 0.68, "merge of one file": 0.78, "mesh": 0.85, "feature": 0.95, "build": 1.0}
+VALUE, VALUE_OF_GEOJSON = "the value alone", "the value of GeoJSON alone"
 
 
 def count(words):
@@ -44,10 +49,12 @@ def count(words):
     return int(found[1])
 
 
-def command_rows(whole, shards):
-    """Programs on topologies, by their titles."""
+def command_rows(source, whole, shards):
+    """Programs on a map's GeoJSON, on its topology and on the shards, by their titles."""
     told = {title: words for title, (words, _, _) in commands(whole, shards).items()}
-    told["the value alone"] = [BENCH, "values", whole]
+    told[VALUE] = [BENCH, "values", whole]
+    told["build"] = [TOOL, "build", *GRID, f"a={source}"]
+    told[VALUE_OF_GEOJSON] = [BENCH, "values", source]
     for kind in ("cut", "whole"):
         told[f"merge by halves, {kind}"] = [BENCH, "merge", kind, "halves", *shards]
     told["read and built anew"] = [BENCH, "merge", "whole", "left", whole]
@@ -69,7 +76,8 @@ def removal_rows(folder, positions, seed):
 def counts_at(folder, positions, shards, seed, pool):
     """The instructions of each row at one size."""
     size, whole, parts = make_topologies(folder, positions, seed, shards)
-    single = {title: pool.submit(count, words) for title, words in command_rows(whole, parts).items()}
+    source = os.path.join(folder, "tiling.json")
+    single = {title: pool.submit(count, words) for title, words in command_rows(source, whole, parts).items()}
     pairs = {
         title: [pool.submit(count, words) for words in both]
         for title, both in removal_rows(folder, positions, seed).items()
@@ -101,9 +109,10 @@ def main():
     (size, before), (double, after) = told
     print(f"| Program | Millions at {size:,} positions | At {double:,} | Times the value alone | Grows |\n|---|---|---|---|---|")
     for title, each in before.items():
-        growth, ratio = after[title] / each, each / before["the value alone"]
-        mark = "!" if growth > goal_of(title) else ""
-        print(f"| {title} | {each / 1e6:,.0f} | {after[title] / 1e6:,.0f} | {ratio:.2f} | {growth:.2f} (at most {goal_of(title)}){mark} |")
+        value = before[VALUE_OF_GEOJSON if title == "build" else VALUE]
+        ratio = marked(each / value, GOALS[title]) if title in GOALS else f"{each / value:.2f}"
+        growth = marked(after[title] / each, goal_of(title))
+        print(f"| {title} | {each / 1e6:,.0f} | {after[title] / 1e6:,.0f} | {ratio} | {growth} |")
 
 
 if __name__ == "__main__":

@@ -23,7 +23,7 @@ from measuring import BENCH, HERE, TOOL, by_turns, end_with, make_topologies, ne
 MODULES = "/usr/share/nodejs"
 SHARDS = 256
 GREATEST_GROWTH = 2.1
-GREATEST_MEMORY = 1.1
+GREATEST_MEMORY = 0.35
 GREATEST_MEMORY_OF_SHARDS = 0.2
 
 # the greatest ratio to the value alone that is wanted of each command

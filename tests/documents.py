@@ -1,4 +1,5 @@
-"""Runs the examples of the documents as they are printed there, and compares what they print; looks for quoted code and for definitions.
+"""Runs the examples of the documents as they are printed there, and compares what they print; looks for quoted code, for
+definitions and for calls with a condition.
 
     python3 tests/documents.py [DOCUMENT...]
 
@@ -6,8 +7,10 @@ An example is a line that begins with `$ `, in a fenced block or indented by fou
 it. Those of a document run in turn in a folder of its own, where `examples` is that of the repository and
 `topotool` is crates/topotool/out/topotool, or the program that TOPOTOOL names, which has to be built before. A fenced
 block whose first line names a file of the repository has to stand in that file, line by line. Each name that
-docs/DEFINITIONS.md lists has to be defined in the file that its row names. Ends with a line of counts, and with status 1
-where an example prints something else, a quotation doesn't stand in its file, or a name is not defined in it.
+docs/DEFINITIONS.md lists has to be defined in the file that its row names. The calls that docs/PROOFS.md lists as those
+with a condition have to be the public functions that have one, as tests/conditions.py finds them. Ends with a line of
+counts, and with status 1 where an example prints something else, a quotation doesn't stand in its file, a name is not
+defined in it, or a call with a condition is not listed, or one without is.
 """
 
 import os
@@ -16,10 +19,15 @@ import subprocess
 import sys
 import tempfile
 
+sys.dont_write_bytecode = True
+
+import conditions
+
 TOP = os.path.dirname(os.path.dirname(os.path.abspath(__file__)))
 PROGRAM = os.path.abspath(os.environ.get("TOPOTOOL", f"{TOP}/crates/topotool/out/topotool"))
 DOCUMENTS = ["README.md", "docs/FAULTS.md", "docs/LIBRARY.md"]
 DEFINITIONS = "docs/DEFINITIONS.md"
+PROOFS = "docs/PROOFS.md"
 
 
 def examples(text):
@@ -109,6 +117,28 @@ def unlisted(document):
     return count, wrong
 
 
+def listed_conditions(text):
+    """Gives each call that the rows of 'Calls with a condition' name, as tests/conditions.py gives them."""
+    for section in re.findall(r"^## Calls with a condition$(.*?)(?=^## |\Z)", text, re.MULTILINE | re.DOTALL):
+        for row in re.findall(r"^\| (`.*?) \|", section, re.MULTILINE):
+            for name in re.findall(r"`([^`]+)`", row):
+                crate, *front, last = name.split("::")
+                yield crate, next((it for it in front if it[0].isupper()), ""), last
+
+
+def told_of(document):
+    """How many calls with a condition the document lists, and how many of them have none, or are missing."""
+    with open(f"{TOP}/{document}", encoding="utf-8") as file:
+        listed = [*listed_conditions(file.read())]
+    found = conditions.public_conditions()
+    wrong = {**{it: "is listed twice" for it in listed if listed.count(it) > 1},
+             **{it: "has no condition" for it in listed if it not in found},
+             **{it: "has a condition, and is not listed" for it in found if it not in listed}}
+    for call, what in sorted(wrong.items()):
+        print(f"{document}: {'::'.join(filter(None, call))} {what}")
+    return len(listed), len(wrong)
+
+
 def main(documents):
     if not os.path.isfile(PROGRAM):
         sys.exit(f"{PROGRAM} is not there: rt run in crates/topotool builds it")
@@ -117,8 +147,9 @@ def main(documents):
         more, bad = tried(document)
         count, wrong = count + more, wrong + bad
     names, lost = unlisted(DEFINITIONS)
-    wrong += lost
-    print(f"{count} examples, {names} definitions, {wrong} wrong")
+    calls, missed = told_of(PROOFS)
+    wrong += lost + missed
+    print(f"{count} examples, {names} definitions, {calls} calls with a condition, {wrong} wrong")
     return 1 if wrong else 0
 
 

@@ -8,14 +8,17 @@ use faults::{Fault, FaultKind, OutOfMemory};
 use grid::Grid;
 use shapes::FeatureMap;
 use std::alloc::Global;
+use thiserror::Error;
 use topo::Topology;
 
 /// Why texts were not built into a topology.
-#[derive(Debug, Drop)]
+#[derive(Debug, Drop, Error)]
 pub enum BuildFault {
     /// The place of the first refused text, and its least fault, which is never want of memory.
+    #[error("text {0} is refused")]
     Text(usize, Fault),
     /// A growth of memory was refused.
+    #[error("out of memory")]
     OutOfMemory,
 }
 

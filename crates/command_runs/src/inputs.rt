@@ -42,6 +42,10 @@ pub const BOW_TIE: &str =
 pub const LOOPED_LINE: &str =
     r#"{"type":"LineString","coordinates":[[0,0],[1,1],[2,2],[2,0],[1,1],[0,2]]}"#;
 
+/// A line from the least position to the greatest on the grid 10,10,-500,0, given twice at its beginning.
+pub const LONGEST_LINE: &str =
+    r#"{"type":"LineString","coordinates":[[-10000000500,-10000000000],[-10000000500,-10000000000],[9999999500,10000000000]]}"#;
+
 /// The topology of no feature.
 pub const EMPTY: &str = topology!(
     r#"{"arcs":[],"objects":{"a":{"geometries":[],"type":"GeometryCollection"}},"#
@@ -71,6 +75,10 @@ pub const BOW_TIE_TOPOLOGY: &str = topology!(
 pub const LOOPED_LINE_TOPOLOGY: &str = topology!(
     r#"{"arcs":[[[0,0],[1,1]],[[0,2],[1,-1]],[[1,1],[1,-1],[0,2],[-1,-1]]],"bbox":[0,0,2,2],"objects":{"a":{"geometries":[{"arcs":[0,-3,-2],"type":"LineString"}],"type":"GeometryCollection"}},"#
 );
+
+/// The topology of `LONGEST_LINE`, with the least and the greatest numbers.
+pub const LARGEST_AND_LEAST: &str =
+    r#"{"arcs":[[[-1000000000,-1000000000],[2000000000,2000000000]]],"bbox":[-10000000500,-10000000000,9999999500,10000000000],"objects":{"a":{"geometries":[{"arcs":[0],"type":"LineString"}],"type":"GeometryCollection"}},"transform":{"scale":[10,10],"translate":[-500,0]},"type":"Topology"}"#;
 
 /// The topology of `A` as another tool may write it.
 pub const OTHER_TOOL: &str =

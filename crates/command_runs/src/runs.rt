@@ -26,10 +26,6 @@ impl Files for Memory<'_> {
         }
         Err(FileFault::Unreadable)
     }
-
-    fn read_input(&mut self, _alloc: Global) -> Result<Vec<u8>, FileFault> {
-        Err(FileFault::Unreadable)
-    }
 }
 
 /// What a sink kept, as a text.

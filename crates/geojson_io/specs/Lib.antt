@@ -2,3 +2,5 @@ pub mod CollectionText
 pub mod Positions
 pub mod Geometries
 pub mod Features
+pub mod TokenCoordinates
+pub mod TokenMembers

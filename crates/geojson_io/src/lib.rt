@@ -2,6 +2,7 @@
 #![tactic(auto)]
 
 pub mod reader;
+pub mod token_reader;
 pub mod writer;
 
 pub use reader::read;

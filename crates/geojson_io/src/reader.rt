@@ -15,15 +15,17 @@ ghost use Rattle.shapes.specs.declared.feature.Feature.{Feature};
 ghost use Rattle.std.specs.Prelude.{◌≡◌, [], ◌∷◌, map, IfOk, IfErr, OnOk, Ok, Err, IsTrue, ◌↔◌, codes};
 ghost use Rattle.theory.specs.Lists.{Has};
 
-mod feature;
+pub(crate) mod feature;
 mod geometry;
-mod position;
+pub(crate) mod position;
 
 use crate::reader::feature::{FeatureElement, read_feature};
 use crate::reader::geometry::read_geometry;
 use crate::reader::position::Position;
+use crate::token_reader;
 use faults::fault::{Fault, FaultKind};
 use grid::transform::Grid;
+use json_tokens::from_tokens::Stop;
 use reading::document::document;
 use reading::geometry::GeometryType;
 use reading::info::no_properties;
@@ -43,7 +45,7 @@ pub enum Root {
     Geometry(GeometryType),
 }
 
-fn root_named(text: &str) -> Result<Root, FaultKind>
+pub(crate) fn root_named(text: &str) -> Result<Root, FaultKind>
     ensures { result ≡ named_root text.now }
 {
     if text == "FeatureCollection" {
@@ -68,7 +70,7 @@ fn root_of(value: &Value) -> Result<Root, FaultKind>
 }
 
 /// The feature that a geometry alone means: without id, its properties empty.
-fn bare_feature(alloc: Global, shape: Shape) -> Result<Feature, Fault>
+pub(crate) fn bare_feature(alloc: Global, shape: Shape) -> Result<Feature, Fault>
     ensures ok { IfOk result (λ f. plain f ≡ bare (plain_form shape)) }
     ensures err { IfErr result IsWant }
 {
@@ -155,14 +157,30 @@ fn read_root(alloc: Global, position: &Position, value: &Value) -> Result<Vec<Fe
     }
 }
 
-// The value is dropped at the end, before the set is made.
-fn read_text(alloc: Global, bytes: &[u8], grid: &Grid) -> Result<Vec<Feature>, Fault>
+/// The features of a text, by way of a value of the whole, which is dropped at the end.
+///
+/// # Errors
+/// As those of `read`, which goes along the tokens first.
+pub fn read_as_value(alloc: Global, bytes: &[u8], grid: &Grid) -> Result<Vec<Feature>, Fault>
     ensures ok { OnOk result (faults_of_text grid.now bytes.now ≡ []) }
     ensures made { IfOk result (λ fs. map plain fs.items ≡ features_of_text grid.now bytes.now) }
     ensures err { IfErr result (λ f. LeastOrWant (faults_of_text grid.now bytes.now) f) }
 {
     let value = document(alloc, bytes)?;
     read_root(alloc, &Position { grid: *grid }, &value)
+}
+
+// Along the tokens, and as a value where that stops.
+fn read_text(alloc: Global, bytes: &[u8], grid: &Grid) -> Result<Vec<Feature>, Fault>
+    ensures ok { OnOk result (faults_of_text grid.now bytes.now ≡ []) }
+    ensures made { IfOk result (λ fs. map plain fs.items ≡ features_of_text grid.now bytes.now) }
+    ensures err { IfErr result (λ f. LeastOrWant (faults_of_text grid.now bytes.now) f) }
+{
+    match token_reader::read_features(alloc, bytes, grid) {
+        Ok(features) => Ok(features),
+        Err(Stop::OutOfMemory) => Err(Fault::here(alloc, FaultKind::OutOfMemory)),
+        Err(Stop::Unread) => read_as_value(alloc, bytes, grid),
+    }
 }
 
 fn set_of(alloc: Global, features: Vec<Feature>) -> Result<BTreeSet<Feature>, Fault>

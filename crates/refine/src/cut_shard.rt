@@ -1,14 +1,13 @@
 //! A shard that keeps topologies.
-ghost use Rattle.faults.specs.Fault.{IsWant};
 ghost use Rattle.merging.specs.Laws.{union-Commutes, union-Associates, union-IsIdempotent};
 ghost use Rattle.shapes.specs.Union.{union};
-ghost use Rattle.std.specs.Prelude.{◌≡◌, IfOk, IfErr};
+ghost use Rattle.std.specs.Prelude.{◌≡◌};
 
 use crate::canonical::text_of_kept;
 pub use crate::cut::Cut;
 use crate::cut::{Kept, shards_joined, shards_joined_owned};
 use crate::fault::JoinFault;
-use faults::{Fault, FaultKind, OutOfMemory};
+use faults::{Fault, OutOfMemory};
 use grid::transform::Grid;
 use merging::Shard;
 use shapes::feature_map::FeatureMap;
@@ -39,18 +38,6 @@ fn bbox_of_all(least: &Kept, larger: &[Kept]) -> Bbox {
     bbox
 }
 
-// An equal topology, whose lists lie side by side in memory. Those of a topology that was just read lie in gaps
-// that its text's value left there, so the value of the next text would be spread over what is left of the gaps.
-fn gathered(alloc: Global, topology: Topology) -> Result<Topology, Fault>
-    ensures topology { IfOk result (λ t. t ≡ topology) }
-    ensures err { IfErr result IsWant }
-{
-    match topology.copy(alloc) {
-        Ok(copy) => Ok(copy),
-        Err(OutOfMemory) => Err(Fault::here(alloc, FaultKind::OutOfMemory)),
-    }
-}
-
 impl Shard for Cut {
     ghost grid_of = { λ s. s.grid };
 
@@ -68,8 +55,7 @@ impl Shard for Cut {
     }
 
     fn of_text(alloc: Global, bytes: &[u8]) -> Result<Cut, Fault> {
-        let read = topo_io::read_topology(alloc, bytes)?;
-        let topology = gathered(alloc, read)?;
+        let topology = topo_io::read_topology(alloc, bytes)?;
         Ok(Cut::of_topology(alloc, topology))
     }
 

@@ -1,4 +1,5 @@
 //! Merges, shards, removals and sessions.
+mod groupings;
 mod inputs;
 mod merges;
 mod removals;

@@ -3,6 +3,7 @@
 use crate::worked::Worked;
 use built_text::BuildFault;
 use faults::OutOfMemory;
+use json_tokens::from_tokens::Stop;
 use refused_calls::calls;
 use refused_calls::comparing::{are_lists_of, same_geometries, same_map};
 use refused_calls::inputs::is_of;
@@ -49,7 +50,9 @@ fn are_parts_of(parts: &TextParts, topology: &Topology) -> bool {
 fn read_parts(alloc: Global, worked: &Worked) -> Answer {
     match topo_io::read_parts(alloc, worked.text.as_slice()) {
         Ok(parts) => Answer::of(are_parts_of(&parts, &worked.topology)),
-        Err(fault) => Answer::of_fault(&fault),
+        Err(Stop::OutOfMemory) => Answer::Wanting,
+        // So it stops too where memory is refused to a part that is read by way of its value.
+        Err(Stop::Unread) => Answer::Wanting,
     }
 }
 

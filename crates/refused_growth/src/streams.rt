@@ -24,15 +24,20 @@ const FEATURES: &str =
 const BORDERS: &str =
     r#"{"coordinates":[[[1,0],[0,0],[0,1],[1,1]],[[1,0],[1,1]],[[1,0],[2,0],[2,1],[1,1]]],"type":"MultiLineString"}"#;
 
+/// A line from the least position to the greatest.
+const LARGEST_AND_LEAST: &str =
+    r#"{"arcs":[[[-1000000000,-1000000000],[2000000000,2000000000]]],"bbox":[-10000000500,-10000000000,9999999500,10000000000],"objects":{"a":{"geometries":[{"arcs":[0],"type":"LineString"}],"type":"GeometryCollection"}},"transform":{"scale":[10,10],"translate":[-500,0]},"type":"Topology"}"#;
+
 /// More bytes than any of the texts has.
 const ROOM: usize = 1024;
 
-/// Two squares in each form in which they are lent.
+/// Two squares in each form in which they are lent, and the longest line as a topology.
 #[derive(Drop)]
 pub(crate) struct Squares {
     map: FeatureMap,
     copy: FeatureMap,
     topology: Topology,
+    longest: Topology,
     borders: ArcTable,
     neighbors: Vec<Vec<usize>>,
 }
@@ -40,18 +45,20 @@ pub(crate) struct Squares {
 impl Squares {
     fn with_map(alloc: Global, map: FeatureMap, topology: Topology) -> Option<Squares> {
         let copy = map.copy().ok()?;
+        let longest = built(alloc, LARGEST_AND_LEAST)?;
         let borders = query::mesh(alloc, &topology, None, |_: &Feature, _: &Feature| true).ok()?;
         let neighbors = query::neighbors(alloc, &topology, "a").ok()?;
         Some(Squares {
             map,
             copy,
             topology,
+            longest,
             borders,
             neighbors,
         })
     }
 
-    /// The two squares; none where memory is wanting.
+    /// The two squares and the line; none where memory is wanting.
     pub(crate) fn of(alloc: Global) -> Option<Squares> {
         let map = read(alloc, SHARED_EDGE)?;
         let topology = built(alloc, SHARED_EDGE)?;
@@ -63,6 +70,7 @@ impl Lent for Squares {
     fn is_as_before(&self) -> bool {
         same_map(&self.map, &self.copy)
             && is_of(&self.topology, SHARED_EDGE)
+            && is_of(&self.longest, LARGEST_AND_LEAST)
             && are_arcs(&self.borders, SQUARES.borders)
     }
 }
@@ -75,10 +83,19 @@ fn is_written(place: &Cursor<[u8; ROOM]>, text: &str) -> bool {
     }
 }
 
-fn writes_topology(squares: &Squares) -> bool {
+/// Whether a topology is written as this text.
+fn is_written_as(topology: &Topology, text: &str) -> bool {
     let mut place = Cursor::new([0_u8; ROOM]);
-    let written = topo_io::write(&squares.topology, &mut Tap::new(&mut place));
-    written.is_ok() && is_written(&place, SHARED_EDGE)
+    let written = topo_io::write(topology, &mut Tap::new(&mut place));
+    written.is_ok() && is_written(&place, text)
+}
+
+fn writes_topology(squares: &Squares) -> bool {
+    is_written_as(&squares.topology, SHARED_EDGE)
+}
+
+fn writes_largest_and_least(squares: &Squares) -> bool {
+    is_written_as(&squares.longest, LARGEST_AND_LEAST)
 }
 
 fn writes_layer(squares: &Squares) -> bool {
@@ -159,6 +176,7 @@ fn fits(squares: &Squares) -> bool {
 pub(crate) fn settle(rt: &HostRuntime, tally: &mut Tally, squares: &Squares) {
     calls!(tally.ask_without_memory(rt, "without memory", squares);
         "topo_io::write" => writes_topology,
+        "topo_io::write of the largest and least" => writes_largest_and_least,
         "query::write_layer" => writes_layer,
         "geojson_io::write" => writes_features,
         "query::write_mesh" => writes_mesh,

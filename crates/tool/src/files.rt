@@ -1,16 +1,19 @@
 //! The files that a command reads.
 use crate::refusal::Refusal;
 use std::alloc::Global;
+use thiserror::Error;
 
 /// The file word that stands for standard input.
 const STANDARD_INPUT: &str = "-";
 
 /// Why a file gave no bytes.
-#[derive(Clone, Copy, Debug, PartialEq, Eq)]
+#[derive(Clone, Copy, Debug, PartialEq, Eq, Error)]
 pub enum FileFault {
     /// The file is not there, or can't be read.
+    #[error("can't be read")]
     Unreadable,
     /// There is no memory for its bytes.
+    #[error("out of memory")]
     OutOfMemory,
 }
 
@@ -19,8 +22,11 @@ pub trait Files {
     /// The bytes of the file of this name.
     fn read_file(&mut self, alloc: Global, name: &str) -> Result<Vec<u8>, FileFault>;
 
-    /// The bytes of standard input up to its end. A run asks for them at most once.
-    fn read_input(&mut self, alloc: Global) -> Result<Vec<u8>, FileFault>;
+    /// The bytes of standard input up to its end. A run asks for them at most once. Files that leave
+    /// this out have no standard input, and the word `-` is a file that can't be read.
+    fn read_input(&mut self, _alloc: Global) -> Result<Vec<u8>, FileFault> {
+        Err(FileFault::Unreadable)
+    }
 }
 
 /// The bytes of a file, or of standard input for the word `-`; or the refusal that names it.

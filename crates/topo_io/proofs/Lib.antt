@@ -18,5 +18,10 @@ pub mod Each
 pub mod Features
 pub mod Entries
 pub mod AsItStands
-pub mod Loose
 pub mod AnyOrder
+pub mod TokenArcs
+pub mod TokenLater
+pub mod TokenLayers
+pub mod TokenLimits
+pub mod TokenMembers
+pub mod TokenRoots

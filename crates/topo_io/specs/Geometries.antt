@@ -15,7 +15,7 @@ use Rattle.reading.specs.Plain.{Plain, PlainForm}
 use Rattle.reading.specs.Shapes.{shape_faults as kind_faults, shape_form as kind_form}
 use Rattle.reading.specs.Types.{geometry_named}
 use Rattle.reading.specs.declared.geometry.GeometryType.{GeometryType}
-use Rattle.reading.specs.declared.geometry.GeometryType.TheVariants.{Point, MultiPoint, LineString, MultiLineString, Polygon, MultiPolygon}
+use Rattle.reading.specs.declared.geometry.GeometryType.TheVariants.{Point, MultiPoint}
 use Rattle.topo_io.specs.Limits.{position_faults, position_of}
 use Rattle.topo_io.specs.Arcs.{Arcs, line_list_faults, ring_list_faults, line_at, ring_at}
 use Rattle.topo_io.specs.declared.reader.position.Limits.{Limits}

@@ -10,3 +10,9 @@ pub mod Means
 pub mod Parts
 pub mod Stitching
 pub mod Laws
+pub mod TokenArcs
+pub mod TokenBounds
+pub mod TokenLater
+pub mod TokenMembers
+pub mod TokenLayers
+pub mod TokenRoot

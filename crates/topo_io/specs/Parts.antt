@@ -1,7 +1,6 @@
 -- What a text says of a topology before its lists of arcs are stitched, and the faults that it has without stitching.
-use Rattle.std.specs.Prelude.{◌≡◌, ℕ, ℤ, pos, negsuc, List, [], ◌∷◌, ◌++◌, length, map, Option, Some, None, Result, Ok, Err, codes, true, false, String, Vec, string_bytes}
+use Rattle.std.specs.Prelude.{◌≡◌, ℕ, ℤ, pos, negsuc, List, [], ◌∷◌, ◌++◌, length, map, Option, Some, None, Result, Ok, Err, codes, true, false}
 use Rattle.std.specs.List.{AllByRecursion}
-use Rattle.std.specs.declared.alloc.Global.{Global}
 use Rattle.serde_json.specs.Data.{Data, Members, no_members, member}
 use Rattle.serde_json.specs.Find.{get, as_object}
 use Rattle.theory.specs.ArcNumbers.{ArcRef}
@@ -10,8 +9,7 @@ use Rattle.theory.specs.Topology.{Body, null, point, points, line, lines, polygo
 use Rattle.faults.specs.Path.{name}
 use Rattle.faults.specs.Fault.{Pair}
 use Rattle.faults.specs.declared.fault.FaultKind.{FaultKind}
-use Rattle.faults.specs.declared.fault.FaultKind.TheVariants.{NoTransform, OutOfMemory}
-use Rattle.faults.specs.declared.fault.Fault.{Fault}
+use Rattle.faults.specs.declared.fault.FaultKind.TheVariants.{NoTransform}
 use Rattle.grid.specs.Place.{Transform}
 use Rattle.grid.specs.declared.pos.Pos.{Pos}
 use Rattle.shapes.specs.Ids.{IsI64}
@@ -115,16 +113,9 @@ geoms_if_object (Some ms) = geoms_in ms
 abbrev pub geoms_of : Data → List (List ℕ × List PlainGeom)
 geoms_of d = geoms_if_object (as_object (member_or_null (codes "objects") d))
 
--- a layer by its name's bytes, its geometries as plain data: as it is read, and in the end
-abbrev pub named_geoms : String Global × Vec Geom Global → List ℕ × List PlainGeom
-named_geoms m = (string_bytes m.0, map plain_geom m.1.items)
-
+-- a layer by its name's bytes, its geometries as plain data
 abbrev pub layer_of_geoms : LayerParts → List ℕ × List PlainGeom
 layer_of_geoms l = (spelled_text l.name, map plain_geom l.geometries)
-
--- the layers' names
-abbrev pub names_of_geoms : List (String Global × Vec Geom Global) → List (List ℕ)
-names_of_geoms ls = map (λ m. string_bytes m.0) ls
 
 -- ---- faults without those of stitched lists
 
@@ -145,10 +136,6 @@ loose_topology d = object_faults (typed_faults (λ _. loose_transformed d (get (
 -- the faults of the bytes of a topology's text, without those of what its lists of arcs stitch to
 abbrev pub loose_faults : List ℕ → List Pair
 loose_faults bytes = text_faults loose_topology (document bytes)
-
--- there is a fault, or memory was refused
-pub record FaultyOrWant (ps : List Pair) (f : Fault) : Type 0 where
-  pub some : (f.kind ≡ OutOfMemory → ⊥) → ps ≡ [] → ⊥
 
 -- the arcs and the layers are what the value says
 pub record ArePartsOf (d : Data) (cs : List (List Pos)) (ls : List LayerParts) : Type 0 where

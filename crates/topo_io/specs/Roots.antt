@@ -1,5 +1,5 @@
 -- Faults and meaning of the text of a topology.
-use Rattle.std.specs.Prelude.{◌≡◌, ℕ, ℤ, pos, int_le, ◌≤ℤ◌, List, [], ◌∷◌, ◌++◌, length, ◌&&◌, Option, Some, None, Result, Ok, Err, codes, if◌then◌else◌}
+use Rattle.std.specs.Prelude.{◌≡◌, ℕ, ℤ, pos, int_le, ◌≤ℤ◌, List, [], ◌∷◌, ◌++◌, length, ◌&&◌, Option, Some, None, Result, codes, if◌then◌else◌}
 use Rattle.serde_json.specs.Data.{Data, Items, Members, no_members, member}
 use Rattle.serde_json.specs.Find.{get, as_array, as_object}
 use Rattle.faults.specs.Path.{name}

@@ -5,12 +5,14 @@ pub mod laws;
 mod other_forms;
 pub mod reader;
 pub mod same;
+mod token_reader;
 pub mod topology;
 pub mod writer;
 
+pub use reader::parts::TextParts;
 pub use reader::parts::features::map_of_parts;
-pub use reader::parts::{TextParts, read_parts};
 pub use reader::read;
 pub use same::{is_canonical, is_text_of};
+pub use token_reader::read_parts;
 pub use topology::read_topology;
 pub use writer::{text_of, write};

@@ -60,8 +60,19 @@ impl<'a> Sink for Expected<'a> {
     }
 }
 
-// How far two lists are the same.
+// How far two lists are the same. The second mostly stands whole at the front of the first, which one
+// comparison of many bytes at a time tells.
 fn common(a: &[u8], b: &[u8]) -> usize
+    ensures { IsCommon a.now b.now result }
+{
+    if a.starts_with(b) {
+        return b.len();
+    }
+    first_other(a, b)
+}
+
+// How far two lists are the same, byte by byte.
+fn first_other(a: &[u8], b: &[u8]) -> usize
     ensures { IsCommon a.now b.now result }
 {
     let mut n = 0;

@@ -7,12 +7,14 @@ ghost use Rattle.topo_io.specs.Means.{MeansTopology, IsTopologyOfParts, AreFault
 ghost use Rattle.topo_io.specs.Roots.{faults_of_text};
 
 use crate::other_forms::rearranged;
+use crate::reader::parts::TextParts;
 use crate::reader::parts::features::map_of_parts;
-use crate::reader::parts::{TextParts, read_parts};
-use crate::reader::read_text;
+use crate::reader::{read, read_text};
+use crate::token_reader::read_parts;
 use faults::OutOfMemory;
 use faults::fault::{Fault, FaultKind};
 use grid::transform::Grid;
+use json_tokens::from_tokens::Stop;
 use std::alloc::Global;
 use taking::{Taken, TextArcs, take};
 use topo::{Layer, Topology};
@@ -65,11 +67,26 @@ fn topology_of_parts(alloc: Global, parts: TextParts) -> Result<Option<Topology>
     }
 }
 
+// The topology of a text that is not read along its tokens, or the text's least fault: it is built of the
+// features that the text's value means.
+fn topology_of_value(alloc: Global, bytes: &[u8]) -> Result<Topology, Fault>
+    ensures ok { OnOk result (faults_of_text bytes.now ≡ []) }
+    ensures means { IfOk result (MeansTopology bytes.now) }
+    ensures few { IfOk result (λ t. length t.arcs.arcs < 2 ^ 63) }
+    ensures err { IfErr result (λ f. LeastOrWant (faults_of_text bytes.now) f) }
+{
+    let (grid, map) = read(alloc, bytes)?;
+    match Topology::build(alloc, &grid, &map) {
+        Ok(topology) => Ok(topology),
+        Err(OutOfMemory) => Err(Fault::here(alloc, FaultKind::OutOfMemory)),
+    }
+}
+
 /// The topology of what a topology's text means, on its grid (TopoJSON, section 2). A text whose arcs
 /// and layers are those of that topology is taken as it stands, and so is one where they are but for the
 /// order of the arcs and their directions, where free loops begin, and the order of the features: nothing
 /// is stitched or built anew. Of all others the topology is built, of the features that their arcs stitch
-/// to.
+/// to. A text is read along its tokens where it has a usual form, and else by way of a value.
 ///
 /// # Errors
 /// The least fault of the text, by path and then by number; `OutOfMemory` at the root.
@@ -79,10 +96,13 @@ pub fn read_topology(alloc: Global, bytes: &[u8]) -> Result<Topology, Fault>
     ensures few { IfOk result (λ t. length t.arcs.arcs < 2 ^ 63) }
     ensures err { IfErr result (λ f. LeastOrWant (faults_of_text bytes.now) f) }
 {
-    let parts = read_parts(alloc, bytes)?;
-    match topology_of_parts(alloc, parts) {
-        Ok(Some(topology)) => Ok(topology),
-        Ok(None) => Err(least_fault(alloc, bytes)),
-        Err(OutOfMemory) => Err(Fault::here(alloc, FaultKind::OutOfMemory)),
+    match read_parts(alloc, bytes) {
+        Ok(parts) => match topology_of_parts(alloc, parts) {
+            Ok(Some(topology)) => Ok(topology),
+            Ok(None) => Err(least_fault(alloc, bytes)),
+            Err(OutOfMemory) => Err(Fault::here(alloc, FaultKind::OutOfMemory)),
+        },
+        Err(Stop::Unread) => topology_of_value(alloc, bytes),
+        Err(Stop::OutOfMemory) => Err(Fault::here(alloc, FaultKind::OutOfMemory)),
     }
 }

@@ -1,21 +1,22 @@
 //! Topology texts as their parts, before lists of arcs are stitched.
-use crate::texts::{OTHER_TOOL, is_refused, topology};
+use crate::texts::{OTHER_TOOL, built_text, is_refused, topology};
 use chains::ArcRef;
-use faults::FaultKind;
 use grid::Pos;
+use json_tokens::from_tokens::Stop;
 use lines::items::Items;
+use shapes::Id;
 use std::alloc::Global;
 use std::process::Abort;
 use std::test::Fail;
 use test_values::rows;
 use topo::{Body, Geom};
-use topo_io::{TextParts, read_parts};
+use topo_io::{TextParts, read_parts, read_topology, text_of};
 
-/// Whether the parts of a text have a fault; want of memory is none.
-fn are_parts_refused(alloc: Global, text: &str) -> bool {
+/// Whether the parts of a text are not read, for another reason than want of memory.
+fn are_parts_unread(alloc: Global, text: &str) -> bool {
     match read_parts(alloc, text.as_bytes()) {
         Ok(_) => false,
-        Err(fault) => fault.kind != FaultKind::OutOfMemory,
+        Err(stop) => stop == Stop::Unread,
     }
 }
 
@@ -38,8 +39,29 @@ const REFUSED: &[(&str, &str)] = rows! {
 #[test]
 fn other_faults_are_told(rt: HostRuntime) -> Result<(), Fail> {
     for (title, text) in REFUSED {
-        assert!(rt; are_parts_refused(rt.alloc(), *text), "{title}: parts");
+        assert!(rt; are_parts_unread(rt.alloc(), *text), "{title}: parts");
         assert!(rt; is_refused(rt.alloc(), *text), "{title}");
+    }
+    Ok(())
+}
+
+/// Texts without a fault, in a form that is read by way of a value.
+const OTHER_FORMS: &[(&str, &str)] = rows! {
+    "a layer's name that is repeated", topology!("[]", r#"{"a":{"type":null,"id":1},"a":{"type":null,"id":2}}"#);
+    "a line that also has coordinates", topology!("[[[0,0],[1,0]]]", r#"{"a":{"type":"LineString","arcs":[0],"coordinates":[0,0]}}"#);
+    "a polygon of no rings among others", topology!("[]", r#"{"a":{"type":"MultiPolygon","arcs":[[]]}}"#);
+};
+
+#[test]
+fn other_forms_are_read_as_values(rt: HostRuntime) -> Result<(), Fail> {
+    let alloc = rt.alloc();
+    for (title, text) in OTHER_FORMS {
+        assert!(rt; are_parts_unread(alloc, *text), "{title}: parts");
+        let topology = read_topology(alloc, text.as_bytes())?;
+        assert!(rt;
+            text_of(alloc, &topology)? == built_text(alloc, *text)?,
+            "{title}"
+        );
     }
     Ok(())
 }
@@ -120,6 +142,17 @@ const BODIES: &[Listed] = &[
     Listed::Null,
     Listed::Point((1, 2)),
 ];
+
+/// A layer of one feature whose id is the greatest.
+const GREATEST_ID: &str = topology!("[]", r#"{"a":{"type":null,"id":9223372036854775807}}"#);
+
+#[test]
+fn an_id_of_nineteen_digits(rt: HostRuntime) -> Result<(), Fail> {
+    let parts = read_parts(rt.alloc(), GREATEST_ID.as_bytes())?;
+    let geometries = geometries_of(&parts, "a").ok_or("no layer")?;
+    assert!(rt; matches!(geometries, [geometry] if geometry.id == Id::Number(i64::MAX)));
+    Ok(())
+}
 
 #[test]
 fn geometries_of_each_kind(rt: HostRuntime) -> Result<(), Fail> {

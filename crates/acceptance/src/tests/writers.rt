@@ -1,13 +1,17 @@
 //! Writers that fail, and writers that take little.
-use command_runs::inputs::{SHARED_EDGE, SQUARES};
-use command_runs::{Run, Texts, Words, script, took};
+use command_runs::inputs::{LARGEST_AND_LEAST, LONGEST_LINE, SHARED_EDGE, SQUARES};
+use command_runs::{Run, Texts, Words, rows, script, took};
 use sinks::{Answer, Kept, Script, Tap};
 use std::alloc::{AllocError, Global};
 use std::io;
 use std::process::Abort;
 use std::test::Fail;
 
-const FILES: Texts = &[("squares.json", SQUARES), ("shared.json", SHARED_EDGE)];
+const FILES: Texts = &[
+    ("squares.json", SQUARES),
+    ("shared.json", SHARED_EDGE),
+    ("longest.json", LONGEST_LINE),
+];
 
 const BUILD: Words = &["build", "--grid", "1,1,0,0", "a=squares.json"];
 
@@ -31,11 +35,26 @@ fn taken_whole(alloc: Global, run: &Run, calls: usize) -> Result<Script, Fail> {
     Ok(sink)
 }
 
+const BUILD_LONGEST: Words = &["build", "--grid", "10,10,-500,0", "a=longest.json"];
+
+/// A title, words, and what they print.
+const BUILDS: &[(&str, Words, &str)] = rows![
+    "shared edge", BUILD, SHARED_EDGE;
+    "largest and least", BUILD_LONGEST, LARGEST_AND_LEAST;
+];
+
+/// Whether a build writes this text to a sink that takes one byte a call.
+fn is_built_by_bytes(alloc: Global, words: Words, text: &str) -> Result<bool, Fail> {
+    let run = run_of(alloc, words)?;
+    let sink = taken_whole(alloc, &run, text.len())?;
+    Ok(took(&sink, text.as_bytes(), text.len(), 0))
+}
+
 #[test]
 fn a_writer_that_takes_one_byte_a_call(rt: HostRuntime) -> Result<(), Fail> {
-    let run = run_of(rt.alloc(), BUILD)?;
-    let sink = taken_whole(rt.alloc(), &run, SHARED_EDGE.len())?;
-    assert!(rt; took(&sink, SHARED_EDGE.as_bytes(), SHARED_EDGE.len(), 0));
+    for (title, words, text) in BUILDS {
+        assert!(rt; is_built_by_bytes(rt.alloc(), *words, *text)?, "{title}");
+    }
     Ok(())
 }
 

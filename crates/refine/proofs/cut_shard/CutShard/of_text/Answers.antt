@@ -1,14 +1,14 @@
 use Rattle.std.proofs.Common.{sym, subst}
-use Rattle.topo_io.specs.Means.{Means, MeansTopology}
+use Rattle.topo_io.specs.Means.{Means}
 use Rattle.refine.proofs.cut_shard.CutShard.of_text.Goals as goal
 
 pub of_topology-requires-clause-of_map : goal.of_topology-requires-clause-of_map
 of_topology-requires-clause-of_map c =
-    let (m, means, of_map) = subst (MeansTopology c.args.bytes.now) (sym c.in_ok-topology.ensures.topology) c.in_ok-read.ensures.means in
+    let (m, means, of_map) = c.in_ok-topology.ensures.means in
     (m, of_map)
 
 pub returns-clause-means : goal.returns-clause-means
 returns-clause-means c =
-    let (m, means, of_map) = subst (MeansTopology c.args.bytes.now) (sym c.in_ok-topology.ensures.topology) c.in_ok-read.ensures.means in
+    let (m, means, of_map) = c.in_ok-topology.ensures.means in
     subst (λ g. Means c.args.bytes.now g c.of_topology.result.map) (sym c.of_topology.ensures.grid)
     (subst (Means c.args.bytes.now c.in_ok-topology.topology.grid) (sym (c.of_topology.ensures.map m of_map)) means)

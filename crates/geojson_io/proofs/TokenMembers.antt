@@ -1,0 +1,195 @@
+-- What is known of the members of a geometry, a feature and a root, as more are read.
+use Rattle.std.proofs.Common.{◌≡◌, ℕ, List, [], ◌∷◌, Option, Some, None, Result, Ok, Err, codes, Bool, true, false, bytes_eq, subst, map, Vec, Global, refl, sym, ap, ◌∙◌}
+use Rattle.serde_json.specs.Data.{Data, Members, object, string, put}
+use Rattle.serde_json.proofs.Views.{get_member-put, get_member-put_other}
+use Rattle.faults.specs.declared.fault.FaultKind.{FaultKind}
+use Rattle.faults.specs.declared.fault.FaultKind.TheVariants.{UnknownType}
+use Rattle.std.specs.Prelude.{unwrap_or, if◌then◌else◌}
+use Rattle.geojson_io.specs.Features.{element_of_features_faults, feature_members, feature_named, feature_of, root_faults, root_geometry, root_named, root_type, features_by, geojson_faults, features_of, faults_of_text, features_of_text}
+use Rattle.geojson_io.specs.declared.reader.Root.{Root}
+use Rattle.geojson_io.specs.declared.reader.Root.TheVariants as root
+use Rattle.reading.specs.Info.{IsIdOf, id_faults, properties_faults, properties_of, member_or_null}
+use Rattle.reading.specs.Parts.{named, type_text, unless_null, list_faults, elements}
+use Rattle.reading.proofs.Lists.{zip_map}
+use Rattle.std.specs.List.{AllZip}
+use Rattle.shapes.specs.Parts.{properties_text}
+use Rattle.shapes.specs.declared.feature.Feature.{Feature}
+use Rattle.shapes.specs.declared.props.Props.{Props}
+use Rattle.shapes.specs.declared.shape.Id.{Id}
+use Rattle.shapes.specs.declared.shape.Id.TheVariants as id
+use Rattle.shapes.specs.declared.shape.Shape.TheVariants as shape
+use Rattle.grid.specs.Place.{Transform}
+use Rattle.reading.specs.Text.{document}
+use Rattle.reading.specs.Types.{geometry_named}
+use Rattle.reading.specs.declared.geometry.GeometryType.{GeometryType}
+use Rattle.token_parts.proofs.Members.{member_known, member_kept, member_faultless, apart, id_means}
+use Rattle.geojson_io.specs.TokenMembers.{KnowsKind, KnowsCoordinates, KnowsRootType, KnowsShape, KnowsFeature, KnowsFeatures}
+use Rattle.token_parts.specs.Members.{KnowsId, KnowsProps}
+use Rattle.geojson_io.specs.Geometries.{geometry_faults, geometry_form, typed_geometry_faults, typed_form}
+use Rattle.reading.specs.Plain.{Plain, plain, plain_form, plain_id}
+use Rattle.shapes.specs.declared.shape.Shape.{Shape}
+use Rattle.geojson_io.specs.TokenCoordinates.{nested_faults, CoordinatesMean, IsShapeOf}
+use Rattle.geojson_io.specs.declared.token_reader.coordinates.Coordinates.{Coordinates}
+
+pub type_known : (name s : List ℕ) (k : GeometryType) (ms : Members) → name ≡ codes "type" → geometry_named s ≡ Ok k → KnowsKind (Some k) (put name (string s) ms)
+type_known name s k ms same e = rw (same, get_member-put (codes "type") (string s) ms) e
+
+pub kind_kept : (o : Option GeometryType) (name : List ℕ) (d : Data) (ms : Members) → (codes "type" ≡ name → ⊥) → KnowsKind o ms → KnowsKind o (put name d ms)
+kind_kept None name d ms other h = tt
+kind_kept (Some k) name d ms other h = rw (get_member-put_other (codes "type") name d ms other) h
+
+pub coordinates_known : (t : Transform) (n : Coordinates) (name : List ℕ) (d : Data) (ms : Members) → name ≡ codes "coordinates" → nested_faults t n d ≡ [] → CoordinatesMean t d n → KnowsCoordinates t (Some n) (put name d ms)
+coordinates_known t n name d ms same none means = (d, rw same (get_member-put (codes "coordinates") d ms), none, means)
+
+pub coordinates_kept : (t : Transform) (o : Option Coordinates) (name : List ℕ) (d : Data) (ms : Members) → (codes "coordinates" ≡ name → ⊥) → KnowsCoordinates t o ms → KnowsCoordinates t o (put name d ms)
+coordinates_kept t None name d ms other h = tt
+coordinates_kept t (Some n) name d ms other h = (h.0, get_member-put_other (codes "coordinates") name d ms other ∙ h.1, h.2, h.3)
+
+pub not_both : (name : List ℕ) → name ≡ codes "type" → codes "coordinates" ≡ name → ⊥
+not_both name a b = let e : codes "coordinates" ≡ codes "type" = b ∙ a in cc
+
+pub nor_both : (name : List ℕ) → name ≡ codes "coordinates" → codes "type" ≡ name → ⊥
+nor_both name a b = let e : codes "type" ≡ codes "coordinates" = b ∙ a in cc
+
+-- a geometry of a type whose coordinates are known
+pub typed_known : (t : Transform) (k : GeometryType) (n : Coordinates) (s : Shape) (ms : Members) → KnowsCoordinates t (Some n) ms → IsShapeOf k n s
+    → (typed_geometry_faults t k (object ms) ≡ []) × (plain_form s ≡ typed_form t k (object ms))
+typed_known t k n s ms known is =
+    let made = is t known.0 known.2 known.3 in
+    (rw (known.1, made.0) refl, rw known.1 made.1)
+
+-- a geometry whose members are known
+pub geometry_known : (t : Transform) (k : GeometryType) (n : Coordinates) (s : Shape) (ms : Members) → KnowsKind (Some k) ms → KnowsCoordinates t (Some n) ms → IsShapeOf k n s
+    → (geometry_faults t (object ms) ≡ []) × (plain_form s ≡ geometry_form t (object ms))
+geometry_known t k n s ms kind known is =
+    let made = typed_known t k n s ms known is in
+    (rw (kind, made.0) refl, rw kind made.1)
+
+-- ---- the type of a root
+
+-- a root named as a feature is a feature by its own rule, and one named as a geometry a geometry
+abbrev named_if : Bool → Result Unit FaultKind
+named_if b = if b then Ok tt else Err UnknownType
+
+feature_by : (a b : Bool) (g : Result GeometryType FaultKind) → (if a then Ok root.Collection else (if b then Ok root.Feature else root_geometry g)) ≡ Ok root.Feature → named_if b ≡ Ok tt
+feature_by true b g e = absurd (cc)
+feature_by false true g e = refl
+feature_by false false (Err k) e = absurd (cc)
+feature_by false false (Ok k) e = absurd (cc)
+
+feature_by_root : (s : Result (List ℕ) FaultKind) → named root_named s ≡ Ok root.Feature → named feature_named s ≡ Ok tt
+feature_by_root (Err k) e = absurd (cc)
+feature_by_root (Ok s) e = feature_by (bytes_eq s (codes "FeatureCollection")) (bytes_eq s (codes "Feature")) (geometry_named s) e
+
+pub root_word : (name s : List ℕ) (r : Root) (ms : Members) → name ≡ codes "type" → root_named s ≡ Ok r → KnowsRootType (Some r) (put name (string s) ms)
+root_word name s r ms same e = rw (same, get_member-put (codes "type") (string s) ms) e
+
+root_kept : (o : Option Root) (name : List ℕ) (d : Data) (ms : Members) → (codes "type" ≡ name → ⊥) → KnowsRootType o ms → KnowsRootType o (put name d ms)
+root_kept None name d ms other h = tt
+root_kept (Some r) name d ms other h = rw (get_member-put_other (codes "type") name d ms other) h
+
+-- ---- a feature's members
+
+module _ (g : Transform) (b : Option Root) (s : Option Shape) (i : Option Id) (p : Option Props) (name : List ℕ) (d : Data) (ms : Members) where
+  shape_kept : (codes "geometry" ≡ name → ⊥) → KnowsShape g s ms → KnowsShape g s (put name d ms)
+  shape_kept = member_kept (codes "geometry") (unless_null (geometry_faults g)) (λ e x. plain_form x ≡ geometry_form g e) s name d ms
+
+  id_kept : (codes "id" ≡ name → ⊥) → KnowsId i ms → KnowsId i (put name d ms)
+  id_kept = member_kept (codes "id") id_faults IsIdOf i name d ms
+
+  props_kept : (codes "properties" ≡ name → ⊥) → KnowsProps p ms → KnowsProps p (put name d ms)
+  props_kept = member_kept (codes "properties") properties_faults (λ e x. properties_text x ≡ properties_of e) p name d ms
+
+  pub with_type : (t : List ℕ) (r : Root) → name ≡ codes "type" → d ≡ string t → root_named t ≡ Ok r → KnowsFeature g b s i p ms → KnowsFeature g (Some r) s i p (put name d ms)
+  with_type t r same is word h = (
+    (subst (λ e. KnowsRootType (Some r) (put name e ms)) (sym is) (root_word name t r ms same word), shape_kept (apart (codes "type") (codes "geometry") name refl same) h.0.1),
+    (id_kept (apart (codes "type") (codes "id") name refl same) h.1.0, props_kept (apart (codes "type") (codes "properties") name refl same) h.1.1),
+  )
+
+  pub with_shape : (x : Shape) → name ≡ codes "geometry" → unless_null (geometry_faults g) d ≡ [] → plain_form x ≡ geometry_form g d → KnowsFeature g b s i p ms → KnowsFeature g b (Some x) i p (put name d ms)
+  with_shape x same none means h = (
+    (root_kept b name d ms (apart (codes "geometry") (codes "type") name refl same) h.0.0, member_known (codes "geometry") (unless_null (geometry_faults g)) (λ e y. plain_form y ≡ geometry_form g e) name d x ms same none means),
+    (id_kept (apart (codes "geometry") (codes "id") name refl same) h.1.0, props_kept (apart (codes "geometry") (codes "properties") name refl same) h.1.1),
+  )
+
+  pub with_id : (x : Id) → name ≡ codes "id" → id_faults d ≡ [] → IsIdOf d x → KnowsFeature g b s i p ms → KnowsFeature g b s (Some x) p (put name d ms)
+  with_id x same none means h = (
+    (root_kept b name d ms (apart (codes "id") (codes "type") name refl same) h.0.0, shape_kept (apart (codes "id") (codes "geometry") name refl same) h.0.1),
+    (member_known (codes "id") id_faults IsIdOf name d x ms same none means, props_kept (apart (codes "id") (codes "properties") name refl same) h.1.1),
+  )
+
+  pub with_props : (x : Props) → name ≡ codes "properties" → properties_faults d ≡ [] → properties_text x ≡ properties_of d → KnowsFeature g b s i p ms → KnowsFeature g b s i (Some x) (put name d ms)
+  with_props x same none means h = (
+    (root_kept b name d ms (apart (codes "properties") (codes "type") name refl same) h.0.0, shape_kept (apart (codes "properties") (codes "geometry") name refl same) h.0.1),
+    (id_kept (apart (codes "properties") (codes "id") name refl same) h.1.0, member_known (codes "properties") properties_faults (λ e y. properties_text y ≡ properties_of e) name d x ms same none means),
+  )
+
+  pub with_other : (codes "type" ≡ name → ⊥) → (codes "geometry" ≡ name → ⊥) → (codes "id" ≡ name → ⊥) → (codes "properties" ≡ name → ⊥) → KnowsFeature g b s i p ms → KnowsFeature g b s i p (put name d ms)
+  with_other first second third fourth h = ((root_kept b name d ms first h.0.0, shape_kept second h.0.1), (id_kept third h.1.0, props_kept fourth h.1.1))
+
+-- ---- the whole feature
+
+pub shape_means : (g : Transform) (o : Option Shape) (ms : Members) → KnowsShape g o ms → plain_form (unwrap_or o shape.Null) ≡ geometry_form g (member_or_null (codes "geometry") (object ms))
+shape_means g None ms h = rw h refl
+shape_means g (Some s) ms h = rw h.1 h.3
+
+pub feature_faultless : (g : Transform) (r : Option Root) (s : Option Shape) (i : Option Id) (p : Option Props) (ms : Members) → KnowsFeature g r s i p ms → feature_members g (object ms) ≡ []
+feature_faultless g r s i p ms h =
+    let first = member_faultless (codes "geometry") (unless_null (geometry_faults g)) (λ e x. plain_form x ≡ geometry_form g e) s ms h.0.1 in
+    let second = member_faultless (codes "id") id_faults IsIdOf i ms h.1.0 in
+    let third = member_faultless (codes "properties") properties_faults (λ e x. properties_text x ≡ properties_of e) p ms h.1.1 in
+    rw (first, second, third) refl
+
+pub element_faultless : (g : Transform) (ms : Members) → root_type (object ms) ≡ Ok root.Feature → feature_members g (object ms) ≡ [] → element_of_features_faults g (object ms) ≡ []
+element_faultless g ms typed none = rw (feature_by_root (type_text (object ms)) typed, none) refl
+
+abbrev pub seen_as : Id → Props → Shape → Plain
+seen_as i p s = record { id = plain_id i; properties = properties_text p; form = plain_form s }
+
+pub feature_means : (g : Transform) (b : Option Root) (o : Option Shape) (i : Option Id) (p : Option Props) (ms : Members) (s : Shape) (x : Id) (t : Props) → KnowsFeature g b o i p ms
+    → s ≡ unwrap_or o shape.Null → x ≡ unwrap_or i id.None → properties_text t ≡ properties_of (member_or_null (codes "properties") (object ms)) → seen_as x t s ≡ feature_of g (object ms)
+feature_means g b o i p ms s x t h is_shape is_id is_props =
+    let first = ap plain_form is_shape ∙ shape_means g o ms h.0.1 in
+    let second = ap plain_id is_id ∙ id_means i ms h.1.0 in
+    λ k. record { id = second k; properties = is_props k; form = first k }
+
+-- ---- a root's members
+
+module _ (g : Transform) (fs : Option (Vec Feature Global)) (n : Option Coordinates) (name : List ℕ) (d : Data) (ms : Members) where
+  abbrev M : Data → Vec Feature Global → Type 0
+  M e xs = AllZip (λ c f. plain f ≡ feature_of g c) (elements e) xs.items
+
+  pub features_kept : (codes "features" ≡ name → ⊥) → KnowsFeatures g fs ms → KnowsFeatures g fs (put name d ms)
+  features_kept = member_kept (codes "features") (list_faults (element_of_features_faults g)) M fs name d ms
+
+  pub with_features : (x : Vec Feature Global) → name ≡ codes "features" → list_faults (element_of_features_faults g) d ≡ [] → M d x → KnowsCoordinates g n ms
+      → KnowsFeatures g (Some x) (put name d ms) × KnowsCoordinates g n (put name d ms)
+  with_features x same none means h = (
+    member_known (codes "features") (list_faults (element_of_features_faults g)) M name d x ms same none means,
+    coordinates_kept g n name d ms (apart (codes "features") (codes "coordinates") name refl same) h,
+  )
+
+  pub with_coordinates : (x : Coordinates) → name ≡ codes "coordinates" → nested_faults g x d ≡ [] → CoordinatesMean g d x → KnowsFeatures g fs ms
+      → KnowsFeatures g fs (put name d ms) × KnowsCoordinates g (Some x) (put name d ms)
+  with_coordinates x same none means h = (
+    features_kept (apart (codes "coordinates") (codes "features") name refl same) h,
+    coordinates_known g x name d ms same none means,
+  )
+
+-- ---- the whole root
+
+pub collection_read : (g : Transform) (x : Vec Feature Global) (ms : Members) → KnowsRootType (Some root.Collection) ms → KnowsFeatures g (Some x) ms → (geojson_faults g (object ms) ≡ []) × (map plain x.items ≡ features_of g (object ms))
+collection_read g x ms typed h = (rw (typed, h.1, h.2) refl, rw (typed, h.1) (zip_map plain (feature_of g) (elements h.0) x.items h.3))
+
+-- of one feature
+pub one_read : (g : Transform) (r : Root) (f : Feature) (fs : List Feature) (x : Plain) (ms : Members) → KnowsRootType (Some r) ms → root_faults g (object ms) r ≡ [] → features_by g (object ms) (Ok r) ≡ x ∷ [] → plain f ≡ x → fs ≡ f ∷ []
+    → (geojson_faults g (object ms) ≡ []) × (map plain fs ≡ features_of g (object ms))
+one_read g r f fs x ms typed none by means only = (rw (typed, none) refl, rw (typed, by) (ap (map plain) only ∙ ap (λ y. y ∷ []) means))
+
+-- ---- the text
+
+pub text_faultless : (g : Transform) (bytes : List ℕ) (d : Data) → document bytes ≡ Some d → geojson_faults g d ≡ [] → faults_of_text g bytes ≡ []
+text_faultless g bytes d is none = rw is none
+
+pub text_means : (g : Transform) (bytes : List ℕ) (d : Data) → document bytes ≡ Some d → features_of g d ≡ features_of_text g bytes
+text_means g bytes d is = rw is refl

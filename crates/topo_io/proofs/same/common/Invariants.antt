@@ -1,8 +1,0 @@
-use Rattle.std.proofs.Common.{length, ◌-◌, ◌≡◌, ◌≤◌, take}
-use Rattle.topo_io.proofs.same.common.Given as goal
-
-abbrev pub invariant-loop-n : goal.invariant-loop-n
-invariant-loop-n l = record { left : l.n ≤ length l.a; right : l.n ≤ length l.b; same : take l.n l.a ≡ take l.n l.b }
-
-abbrev pub decreases-loop-n : goal.decreases-loop-n
-decreases-loop-n l = length l.a - l.n

@@ -1,0 +1,81 @@
+//! Coordinates and lists of arcs by how deep their brackets nest, whatever the type that is told with them.
+ghost use Rattle.json_tokens.specs.Reads.{Reads};
+ghost use Rattle.topo_io.specs.TokenLater.{loose_coordinates_faults, CoordinatesMean, loose_lists_faults, ListsMean};
+ghost use Rattle.std.specs.Prelude.{IfOk};
+
+use crate::token_reader::position::{GridPosition, Index};
+use chains::ArcRef;
+use grid::pos::Pos;
+use json::Reader;
+use json_tokens::from_tokens::Stop;
+use json_tokens::token::take_begin_array;
+use lines::items::Items;
+use std::alloc::Global;
+use token_parts::items::ItemsOf;
+use token_parts::opened::{FromOpened, number_or_array};
+
+/// A position, or a list of them.
+#[derive(Drop)]
+pub enum Coordinates {
+    One(Pos),
+    Many(Items<Pos>),
+}
+
+/// A list of used arcs, a list of lists, or a list of those.
+#[derive(Drop)]
+pub enum ArcLists {
+    /// A list of nothing, of whatever.
+    Empty,
+    List(Items<ArcRef>),
+    Lists(Items<Items<ArcRef>>),
+    Groups(Items<Items<Items<ArcRef>>>),
+}
+
+/// The coordinates that come next.
+pub fn read_coordinates<'a>(
+    alloc: Global,
+    reader: &mut Reader<'a>,
+    depth: usize,
+) -> Result<Coordinates, Stop>
+    ensures { IfOk result (λ n. Reads (loose_coordinates_faults n) CoordinatesMean depth reader.old reader.new n) }
+{
+    let many = ItemsOf { of: GridPosition };
+    take_begin_array(reader, depth)?;
+    if reader.take_end_array() {
+        return Ok(Coordinates::Many(Items::from_vec(Vec::new(alloc))));
+    }
+    if let Some(x) = number_or_array(reader)? {
+        return Ok(Coordinates::One(GridPosition.read_opened(alloc, x, reader, depth)?));
+    }
+    if let Some(x) = number_or_array(reader)? {
+        return Ok(Coordinates::Many(many.read_opened(alloc, x, reader, depth)?));
+    }
+    Err(Stop::Unread)
+}
+
+/// The lists of arcs that come next.
+pub fn read_lists<'a>(
+    alloc: Global,
+    reader: &mut Reader<'a>,
+    depth: usize,
+) -> Result<ArcLists, Stop>
+    ensures { IfOk result (λ n. Reads (loose_lists_faults n) ListsMean depth reader.old reader.new n) }
+{
+    let list = ItemsOf { of: Index };
+    let lists = ItemsOf { of: list };
+    let groups = ItemsOf { of: lists };
+    take_begin_array(reader, depth)?;
+    if reader.take_end_array() {
+        return Ok(ArcLists::Empty);
+    }
+    if let Some(x) = number_or_array(reader)? {
+        return Ok(ArcLists::List(list.read_opened(alloc, x, reader, depth)?));
+    }
+    if let Some(x) = number_or_array(reader)? {
+        return Ok(ArcLists::Lists(lists.read_opened(alloc, x, reader, depth)?));
+    }
+    if let Some(x) = number_or_array(reader)? {
+        return Ok(ArcLists::Groups(groups.read_opened(alloc, x, reader, depth)?));
+    }
+    Err(Stop::Unread)
+}
