@@ -167,7 +167,8 @@ pub enum Step {
 
 /// A fault of a text, and the path from the text's root to the faulty value.
 /// Want of memory is no fault of the text: its path is the root's.
-#[derive(Drop, Debug, PartialEq, Eq)]
+#[derive(Drop, Debug, PartialEq, Eq, Error)]
+#[error("{kind}")]
 pub struct Fault {
     pub kind: FaultKind,
     pub path: Vec<Step>,
