@@ -15,7 +15,7 @@ use Rattle.chains.proofs.SharedVertices.{inside_has}
 use Rattle.chains.proofs.Sharing.{none_met}
 
 module _ (may : Pos → Bool) where
-  none_any : (l : List Pos) → ((v : Pos) → Has v l → may v ≡ false) → list_any may l ≡ false
+  pub none_any : (l : List Pos) → ((v : Pos) → Has v l → may v ≡ false) → list_any may l ≡ false
   none_any [] h = refl
   none_any (x ∷ l) h = ap (λ b. b || list_any may l) (h x (inl refl)) ∙ none_any l (λ v k. h v (inr k))
 

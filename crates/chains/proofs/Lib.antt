@@ -9,6 +9,9 @@ pub mod Oriented
 pub mod Openings
 pub mod Turned
 pub mod Cuts
+pub mod LoopStops
+pub mod ArcParts
+pub mod ArcsAtStops
 pub mod Parted
 pub mod Places
 pub mod Rising
@@ -22,6 +25,7 @@ pub mod PlacedPieces
 pub mod TableOfMap
 pub mod WalkSteps
 pub mod Noting
+pub mod MeetingTwo
 pub mod Found
 pub mod AllChains
 pub mod Slices

@@ -52,7 +52,7 @@ module _ (keys : List Pos) (q : Pos) (free : ¬ StopAt keys q) where
           (λ p k. elim k [ inl f ↦ absurd (free (subst (StopAt keys) (sym f.0) e)) | inr f ↦ f ]) h
       stop false e = same (is_eq (position_cmp at q)) refl
 
-  Means-all : (o : Option (Pos × Pos)) (H : Pos → Type 0) (ss : List Segment) → Means o H →
+  pub Means-all : (o : Option (Pos × Pos)) (H : Pos → Type 0) (ss : List Segment) → Means o H →
       Means (noted_all keys q o ss) (λ p. AmongSegments q p ss ⊎ H p)
   Means-all o H [] h = Means-iff o H (λ p. ⊥ ⊎ H p) (λ p k. inr k) (λ p k. elim k [ inl z ↦ absurd z | inr f ↦ f ]) h
   Means-all o H (s ∷ ss) h =

@@ -18,7 +18,7 @@ use Rattle.theory.proofs.Rotations.{least_second}
 use Rattle.theory.proofs.Turning.{stop_told}
 use Rattle.chains.proofs.Openings.{LeastAt, Opening, starts_list, head_or, place_least, opening, start_there}
 
-then_head : (r s : Ordering) → is_gt (ordering_then r s) ≡ false → is_gt r ≡ false
+pub then_head : (r s : Ordering) → is_gt (ordering_then r s) ≡ false → is_gt r ≡ false
 then_head Less s e = refl
 then_head Equal s e = refl
 then_head Greater s e = e
@@ -27,14 +27,14 @@ then_tail : (r s : Ordering) → r ≡ Equal → is_gt (ordering_then r s) ≡ f
 then_tail r s p e = subst (λ w. is_gt (ordering_then w s) ≡ false) p e
 
 -- both are stops, or both are none
-same_kind : (b c : Bool) (d : Ordering) → b ≡ c → is_gt (ordering_then (bool_cmp (not b) (not c)) d) ≡ false → is_gt d ≡ false
+pub same_kind : (b c : Bool) (d : Ordering) → b ≡ c → is_gt (ordering_then (bool_cmp (not b) (not c)) d) ≡ false → is_gt d ≡ false
 same_kind true true d e h = h
 same_kind true false d e h = absurd cc
 same_kind false true d e h = absurd cc
 same_kind false false d e h = h
 
 -- where the least is no stop, there is none
-no_other : (b c : Bool) (d : Ordering) → b ≡ false → is_gt (ordering_then (bool_cmp (not b) (not c)) d) ≡ false → c ≡ false
+pub no_other : (b c : Bool) (d : Ordering) → b ≡ false → is_gt (ordering_then (bool_cmp (not b) (not c)) d) ≡ false → c ≡ false
 no_other true c d e h = absurd cc
 no_other false true d e h = absurd cc
 no_other false false d e h = refl

@@ -10,6 +10,7 @@ pub mod Index
 pub mod Starts
 pub mod Keys
 pub mod Pieces
+pub mod ArcPieces
 pub mod Arcs
 pub mod Table
 pub mod Stored

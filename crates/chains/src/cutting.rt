@@ -1,23 +1,21 @@
 //! Cutting lines and rings at junctions.
 ghost use Rattle.chains.specs.Among.{among};
 ghost use Rattle.chains.specs.Index.{IsIndexOf};
-ghost use Rattle.chains.specs.OfArcs.{pieces_if, ArePiecesUnder};
 ghost use Rattle.chains.specs.Pieces as spec;
 ghost use Rattle.chains.specs.Pieces.{used, chain_of, piece_along, oriented, opened_at, cut_list, ring_parts, line_pieces, ring_pieces, ArePieces};
 ghost use Rattle.chains.specs.Placing.{pieces_under};
 ghost use Rattle.chains.specs.Seen.{line_of, ring_of};
-ghost use Rattle.chains.specs.Table.{IsTableOf};
 ghost use Rattle.grid.specs.declared.pos.Pos.{Pos};
 ghost use Rattle.lines.specs.Turned.{position_cmp, list_cmp};
-ghost use Rattle.std.specs.Prelude.{◌≡◌, ◌∷◌, ◌++◌, ◌<◌, ◌≤◌, ◌+◌, [], List, cond, false, Some, IfOk, OnOk, map, reverse, length, slice_get};
+ghost use Rattle.std.specs.Prelude.{◌≡◌, ◌∷◌, ◌++◌, ◌<◌, ◌≤◌, ◌+◌, [], List, cond, false, IfOk, OnOk, map, reverse, length};
 ghost use Rattle.theory.specs.Geometry.{Geometry, IsSound, IsLineOf, IsRingOf};
 ghost use Rattle.theory.specs.Lists.{Each};
-ghost use Rattle.theory.specs.Refinement.{IsPartOf, unclosed};
+ghost use Rattle.theory.specs.Refinement.{unclosed};
 ghost use Rattle.theory.specs.Stitching.{ArePiecesOf, AreRingPiecesOf};
 
 use crate::shared_items::SharedItems;
 use crate::starts::place_of_start;
-use crate::table::ArcTable;
+use crate::stops::Stops;
 use crate::visits::VisitIndex;
 use faults::OutOfMemory;
 use grid::pos::Pos;
@@ -133,12 +131,12 @@ impl Piece {
     }
 }
 
-/// Whether no junction stands first in a chain.
-fn begins_free(index: &VisitIndex, chain: &[Pos]) -> bool
-    ensures { result ≡ spec.begins_free (among index.now) chain.now }
+/// Whether no stop stands first in a chain.
+pub(crate) fn begins_free<S: Stops>(stops: &S, chain: &[Pos]) -> bool
+    ensures { result ≡ spec.begins_free (among (S.at stops.now)) chain.now }
 {
     match chain.first() {
-        Some(first) => !index.is_junction(*first),
+        Some(first) => !stops.is_stop(*first),
         None => false,
     }
 }
@@ -166,7 +164,7 @@ fn cut(alloc: Global, index: &VisitIndex, line: &[Pos]) -> Result<Vec<Piece>, Al
 }
 
 /// The ring begun at a place, and closed.
-fn opened(alloc: Global, ring: &[Pos], at: usize) -> Result<Vec<Pos>, AllocError>
+pub(crate) fn opened(alloc: Global, ring: &[Pos], at: usize) -> Result<Vec<Pos>, AllocError>
     requires { at < length ring.now }
     ensures { IfOk result (λ v. v.items ≡ opened_at at ring.now) }
 {
@@ -216,31 +214,6 @@ fn arc_cut(
     }
     match arc.split_last() {
         Some((_, ring)) => ring_cut(alloc, index, ring),
-        None => Ok(Vec::new(alloc)),
-    }
-}
-
-/// The pieces of an arc of a table under the junctions of a map that has all lines and rings of the
-/// table's map, in order along the arc. A free loop that meets a junction is read from its least
-/// one; one that meets none is its own one piece.
-///
-/// # Errors
-/// Where memory is refused.
-pub fn cut_arc(
-    alloc: Global,
-    index: &VisitIndex,
-    table: &ArcTable,
-    number: usize,
-) -> Result<Vec<Piece>, OutOfMemory>
-    requires { number < length table.now.arcs }
-    ensures computed { IfOk result (λ v. v.items ≡ pieces_if index.now table.now.loops (slice_get table.now.arcs number)) }
-    ensures pieces { IfOk result (λ v. (g u : Geometry Pos) (c : List Pos) → IsSound g → IsSound u → IsPartOf g u → IsTableOf g table.now → IsIndexOf index.now u → slice_get table.now.arcs number ≡ Some c → ArePiecesUnder g u c v.items) }
-{
-    match table.arc(number) {
-        Some(arc) => {
-            let pieces = arc_cut(alloc, index, arc, table.is_free(number))?;
-            Ok(pieces)
-        }
         None => Ok(Vec::new(alloc)),
     }
 }

@@ -2,6 +2,7 @@
 //! the maximal chains over any segments.
 #![tactic(auto)]
 
+pub mod arc_cutting;
 pub mod cutting;
 mod extent;
 pub mod joining;
@@ -19,14 +20,16 @@ mod shared_items;
 pub mod sides;
 mod starts;
 mod stop_set;
+mod stops;
 mod stored;
 pub mod table;
 pub mod turning;
 pub mod visits;
 
-pub use cutting::{Piece, add_pieces, cut_arc, cut_line, cut_ring};
+pub use arc_cutting::cut_arc;
+pub use cutting::{Piece, add_pieces, cut_line, cut_ring};
 pub use extent::Extent;
-pub use joining::{maximal, maximal_with};
+pub use joining::{maximal, maximal_with, meets_two};
 pub use segment::Segment;
 pub use sides::segments_of;
 pub use table::{ArcRef, ArcTable};

@@ -1,10 +1,10 @@
-//! Where the cut of a ring begins: at its least junction, or at its least vertex where it has none.
+//! Where the cut of a ring begins: at its least stop, or at its least vertex where it has none.
 ghost use Rattle.chains.specs.Among.{among};
 ghost use Rattle.chains.specs.Starts.{start_of, start_cmp, start_place};
 ghost use Rattle.std.specs.Ordering.{is_lt};
 ghost use Rattle.std.specs.Prelude.{◌≡◌};
 
-use crate::visits::VisitIndex;
+use crate::stops::Stops;
 use grid::pos::Pos;
 
 /// A vertex, whether the cut passes it, and the vertex after it.
@@ -15,11 +15,11 @@ struct Start {
     to: Pos,
 }
 
-fn start_between(index: &VisitIndex, from: Pos, to: Pos) -> Start
-    ensures { result ≡ start_of (among index.now) from to }
+fn start_between<S: Stops>(stops: &S, from: Pos, to: Pos) -> Start
+    ensures { result ≡ start_of (among (S.at stops.now)) from to }
 {
     Start {
-        passed: !index.is_junction(from),
+        passed: !stops.is_stop(from),
         from,
         to,
     }
@@ -31,22 +31,21 @@ fn comes_before(a: &Start, b: &Start) -> bool
     a < b
 }
 
-/// Whether a start comes before another. Behind a junction only lesser vertices are looked up in the
-/// index.
+/// Whether a start comes before another. Behind a stop only lesser vertices are looked up.
 #[tactic(auto, using(crate::proofs::Openings::not_lesser))]
-fn improves(index: &VisitIndex, best: &Start, from: Pos, to: Pos) -> bool
-    ensures { result ≡ is_lt (start_cmp (start_of (among index.now) from to) best.now) }
+fn improves<S: Stops>(stops: &S, best: &Start, from: Pos, to: Pos) -> bool
+    ensures { result ≡ is_lt (start_cmp (start_of (among (S.at stops.now)) from to) best.now) }
 {
     if !best.passed && from > best.from {
         return false;
     }
-    comes_before(&start_between(index, from, to), best)
+    comes_before(&start_between(stops, from, to), best)
 }
 
 /// The place from which a ring is cut. Of two rotations that begin at one vertex the one with the
 /// lesser second vertex comes first, since no segment of a ring stands twice.
-pub(crate) fn place_of_start(index: &VisitIndex, ring: &[Pos]) -> usize
-    ensures { result ≡ start_place (among index.now) ring.now }
+pub(crate) fn place_of_start<S: Stops>(stops: &S, ring: &[Pos]) -> usize
+    ensures { result ≡ start_place (among (S.at stops.now)) ring.now }
 {
     let Some((first, others)) = ring.split_first() else {
         return 0;
@@ -55,16 +54,16 @@ pub(crate) fn place_of_start(index: &VisitIndex, ring: &[Pos]) -> usize
         return 0;
     };
     let mut place = 0;
-    let mut best = start_between(index, *first, *second);
+    let mut best = start_between(stops, *first, *second);
     let mut here = *second;
     for (i, next) in rest.iter().enumerate() {
-        if improves(index, &best, here, *next) {
+        if improves(stops, &best, here, *next) {
             place = i + 1;
-            best = start_between(index, here, *next);
+            best = start_between(stops, here, *next);
         }
         here = *next;
     }
-    if improves(index, &best, here, *first) {
+    if improves(stops, &best, here, *first) {
         place = others.len();
     }
     place

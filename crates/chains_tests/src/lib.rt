@@ -2,7 +2,11 @@
 #![tactic(auto)]
 
 #[cfg(test)]
+mod arcs;
+#[cfg(test)]
 mod drawn;
+#[cfg(test)]
+mod joined;
 #[cfg(test)]
 mod tables;
 #[cfg(test)]

@@ -1,9 +1,12 @@
 //! Pairs of maps, and what the arcs of each become.
+use chains::{ArcRef, ArcTable, Piece, VisitIndex, cut_arc};
+use grid::pos::Pos;
 use recutting::{Recut, Side, recut};
 use std::alloc::Global;
+use std::collections::BTreeSet;
 use std::test::Fail;
 use worked_maps::{
-    Drawn, FIRST, SECOND, SHARED_EDGE, THIRD, TRIANGLE, TURNED_TRIANGLE, are_used, refs_of,
+    Drawn, FIRST, SECOND, SHARED_EDGE, THIRD, TRIANGLE, TURNED_TRIANGLE, are_used, map_of, refs_of,
     same_arcs, topology_of,
 };
 
@@ -143,6 +146,90 @@ fn pieces_of_rows(rt: HostRuntime) -> Result<(), Fail> {
             "{}: right",
             row.title
         );
+    }
+    Ok(())
+}
+
+/// Adds those of some positions that are junctions.
+fn add_those(
+    junctions: &mut BTreeSet<Pos>,
+    index: &VisitIndex,
+    positions: &[Pos],
+) -> Result<(), Fail> {
+    for position in positions {
+        if index.is_junction(*position) {
+            junctions.insert(*position)?;
+        }
+    }
+    Ok(())
+}
+
+/// Adds those positions of arcs that are junctions.
+fn add_junctions(
+    junctions: &mut BTreeSet<Pos>,
+    index: &VisitIndex,
+    arcs: &ArcTable,
+) -> Result<(), Fail> {
+    for number in 0..arcs.len() {
+        if let Some(arc) = arcs.arc(number) {
+            add_those(junctions, index, arc)?;
+        }
+    }
+    Ok(())
+}
+
+/// Whether pieces run along used arcs of a table.
+fn run_along(table: &ArcTable, pieces: &[Piece], used: &[ArcRef]) -> bool {
+    for (piece, arc) in pieces.iter().zip(used) {
+        if table.find(piece) != Some(*arc) {
+            return false;
+        }
+    }
+    pieces.len() == used.len()
+}
+
+/// Whether each arc of a side is cut into its pieces by the call that takes any stops.
+fn are_cut_at(
+    alloc: Global,
+    made: &Recut,
+    side: Side,
+    arcs: &ArcTable,
+    junctions: &BTreeSet<Pos>,
+) -> Result<bool, Fail> {
+    for number in 0..arcs.len() {
+        let cut = cut_arc(alloc, arcs, number, junctions)?;
+        match made.pieces(side, number) {
+            Some(used) => {
+                if !run_along(made.arcs(), &cut, used) {
+                    return Ok(false);
+                }
+            }
+            None => return Ok(false),
+        }
+    }
+    Ok(true)
+}
+
+/// Whether cutting the arcs of a row's maps at the junctions of both maps together gives what `recut`
+/// gives.
+fn is_cut_at_junctions(alloc: Global, row: &Row) -> Result<bool, Fail> {
+    let left = topology_of(alloc, &[row.left])?;
+    let right = topology_of(alloc, &[row.right])?;
+    let index = VisitIndex::of(alloc, &map_of(alloc, &[row.left, row.right])?)?;
+    let mut junctions = BTreeSet::new(alloc);
+    add_junctions(&mut junctions, &index, left.arcs())?;
+    add_junctions(&mut junctions, &index, right.arcs())?;
+    let made = recut(alloc, left.arcs(), right.arcs())?;
+    Ok(
+        are_cut_at(alloc, &made, Side::Left, left.arcs(), &junctions)?
+            && are_cut_at(alloc, &made, Side::Right, right.arcs(), &junctions)?,
+    )
+}
+
+#[test]
+fn arcs_cut_at_the_junctions_of_both_maps(rt: HostRuntime) -> Result<(), Fail> {
+    for row in ROWS {
+        assert!(rt; is_cut_at_junctions(rt.alloc(), row)?, "{}", row.title);
     }
     Ok(())
 }

@@ -1,0 +1,162 @@
+-- Where a loop's least stop stands, if one lies on it.
+use Rattle.std.proofs.Common.{◌≡◌, ℕ, ◌≤◌, Bool, true, false, cond, ◌||◌, List, [], ◌∷◌, ◌++◌, length, take, drop, slice_get, Some, None, inl, inr, refl, sym, ap, ◌∙◌, subst, arith}
+use Rattle.std.proofs.Math.Seq.{drop-append_seam}
+use Rattle.std.specs.Cmp.{tied_itself}
+use Rattle.std.specs.List.{list_any}
+use Rattle.std.specs.Ordering.{is_gt, ordering_then}
+use Rattle.theory.specs.Geometry.{AtMost}
+use Rattle.theory.specs.Lists.{Begins, Has}
+use Rattle.theory.proofs.Lists.{Has-append_right, Has-split}
+use Rattle.grid.specs.declared.pos.Pos.{Pos}
+use Rattle.lines.specs.Positions.{position_total}
+use Rattle.lines.specs.Turned.{position_cmp}
+use Rattle.lines.proofs.Positions.{true_false}
+use Rattle.chains.specs.ArcPieces.{least_stop, IsLeastStop}
+use Rattle.chains.specs.Pieces.{opened_at}
+use Rattle.chains.specs.Starts.{start_of, start_cmp, start_place}
+use Rattle.chains.proofs.Apart.{none_any}
+use Rattle.chains.proofs.Cuts.{place_within}
+use Rattle.chains.proofs.Openings.{LeastAt, Opening, starts_list, head_or, place_least, opening, start_there}
+use Rattle.chains.proofs.Turned.{then_head, same_kind, no_other}
+
+-- what stands on the list is found
+pub any_met : (stop : Pos → Bool) (l : List Pos) (v : Pos) → Has v l → stop v ≡ true → list_any stop l ≡ true
+any_met stop [] v h e = absurd h
+any_met stop (x ∷ l) v (inl p) e = rw (subst (λ w. stop w ≡ true) p e) refl
+any_met stop (x ∷ l) v (inr h) e = go (stop x) (any_met stop l v h e)
+  where
+    go : (b : Bool) → list_any stop l ≡ true → (b || list_any stop l) ≡ true
+    go true f = refl
+    go false f = f
+
+-- the place where a ring's cut begins
+pub record StartsAt (stop : Pos → Bool) (r : List Pos) (i : ℕ) : Type 0 where
+  pub vertex : Pos
+  pub before : List Pos
+  pub behind : List Pos
+  pub parted : r ≡ before ++ (vertex ∷ behind)
+  pub place : i ≡ length before
+  -- it is a stop exactly where one lies on the ring
+  pub told : stop vertex ≡ list_any stop r
+  -- and no stop is less
+  pub least : (u : Pos) → Has u r → stop u ≡ true → AtMost position_cmp vertex u
+  -- where none lies on the ring, no vertex is less
+  pub alone : stop vertex ≡ false → (u : Pos) → Has u r → AtMost position_cmp vertex u
+
+pub starts_at : (stop : Pos → Bool) (x : Pos) (r : List Pos) → StartsAt stop (x ∷ r) (start_place stop (x ∷ r))
+starts_at stop x [] = record {
+  vertex = x;
+  before = [];
+  behind = [];
+  parted = refl;
+  place = refl;
+  told = go (stop x);
+  least = λ u h e. itself u h;
+  alone = λ e. itself;
+}
+  where
+    itself : (u : Pos) → Has u (x ∷ []) → AtMost position_cmp x u
+    itself u (inl p) = subst (AtMost position_cmp x) (sym p) (ap is_gt (tied_itself position_total x))
+    itself u (inr z) = absurd z
+
+    go : (b : Bool) → b ≡ (b || false)
+    go true = refl
+    go false = refl
+starts_at stop x (y ∷ l) = record {
+  vertex = f;
+  before = o.left;
+  behind = o.right;
+  parted = o.parted;
+  place = k.place ∙ sym o.place;
+  told = told (stop f) refl;
+  least = λ u h e. least u h e (stop f) refl;
+  alone = λ e u h. most u h (e ∙ sym (none e u h));
+}
+  where
+    r : List Pos
+    r = x ∷ (y ∷ l)
+
+    k : LeastAt (starts_list stop x r) (start_place stop r)
+    k = place_least stop x y l
+
+    o : Opening stop x r k.before k.here
+    o = opening stop x x (y ∷ l) k.before k.here k.behind k.parted
+
+    f : Pos
+    f = o.vertex
+
+    next : Pos
+    next = head_or x o.right
+
+    below : (u z : Pos) → Has (start_of stop u z) (starts_list stop x r) → is_gt (start_cmp (start_of stop f next) (start_of stop u z)) ≡ false
+    below u z h = subst (λ w. is_gt (start_cmp w (start_of stop u z)) ≡ false) o.is (k.least (start_of stop u z) h)
+
+    there : (u : Pos) → Has u r → (z : Pos) × Has (start_of stop u z) (starts_list stop x r)
+    there u h =
+        let p = Has-split u r h in
+        (head_or x p.1, subst (λ w. Has (start_of stop u (head_or x p.1)) (starts_list stop x w)) (sym p.2) (start_there stop x p.0 u p.1))
+
+    is_there : Has f r
+    is_there = subst (λ w. Has f w) (sym o.parted) (Has-append_right f o.left (f ∷ o.right) (inl refl))
+
+    none : stop f ≡ false → (u : Pos) → Has u r → stop u ≡ false
+    none e u h =
+        let t = there u h in
+        no_other (stop f) (stop u) (ordering_then (position_cmp f u) (position_cmp next t.0)) e (below u t.0 t.1)
+
+    told : (b : Bool) → stop f ≡ b → stop f ≡ list_any stop r
+    told true e = e ∙ sym (any_met stop r f is_there e)
+    told false e = e ∙ sym (none_any stop r (none e))
+
+    most : (u : Pos) → Has u r → stop f ≡ stop u → AtMost position_cmp f u
+    most u h e =
+        let t = there u h in
+        then_head (position_cmp f u) (position_cmp next t.0)
+        (same_kind (stop f) (stop u) (ordering_then (position_cmp f u) (position_cmp next t.0)) e (below u t.0 t.1))
+
+    least : (u : Pos) → Has u r → stop u ≡ true → (b : Bool) → stop f ≡ b → AtMost position_cmp f u
+    least u h e true g = most u h (g ∙ sym e)
+    least u h e false g = absurd (true_false (stop u) e (none g u h))
+
+get_seam : {A : Type 0} (a : List A) (v : A) (b : List A) → slice_get (a ++ (v ∷ b)) (length a) ≡ Some v
+get_seam [] v b = refl
+get_seam (x ∷ a) v b = get_seam a v b
+
+-- what stands at that place is that vertex
+at_start : (stop : Pos → Bool) (r : List Pos) (i : ℕ) (p : Pos) → StartsAt stop r i → slice_get r i ≡ Some p → stop p ≡ list_any stop r
+at_start stop r i p s e =
+    let k : Some s.vertex ≡ Some p = sym (get_seam s.before s.vertex s.behind) ∙ (λ j. slice_get (sym s.parted j) (sym s.place j)) ∙ e in
+    let same : s.vertex ≡ p = cc in
+    ap stop (sym same) ∙ s.told
+
+-- in the form of the code
+pub no_stop_found : (stop : Pos → Bool) (r : List Pos) (i : ℕ) (p : Pos) → i ≡ start_place stop r → slice_get r i ≡ Some p → stop p ≡ false → None ≡ least_stop stop r
+no_stop_found stop [] i p e g h = absurd cc
+no_stop_found stop (x ∷ r) i p e g h =
+    let t : list_any stop (x ∷ r) ≡ false =
+    sym (at_start stop (x ∷ r) (start_place stop (x ∷ r)) p (starts_at stop x r) (ap (slice_get (x ∷ r)) (sym e) ∙ g)) ∙ h in
+    ap (λ b. cond b (Some (start_place stop (x ∷ r))) None) (sym t)
+
+pub none_found : (stop : Pos → Bool) (r : List Pos) (i : ℕ) → i ≡ start_place stop r → length r ≤ i → None ≡ least_stop stop r
+none_found stop [] i e h = refl
+none_found stop (x ∷ r) i e h = let k = place_within stop x r in absurd (omega (arith, e))
+
+opened_first : (r a : List Pos) (v : Pos) (b : List Pos) (i : ℕ) → r ≡ a ++ (v ∷ b) → i ≡ length a → (w : Pos) → Begins w (opened_at i r) → w ≡ v
+opened_first r a v b i e g w h =
+    go (drop i r) (take i r) ((λ j. drop (g j) (e j)) ∙ drop-append_seam a (v ∷ b)) h
+  where
+    go : (d t : List Pos) → d ≡ v ∷ b → Begins w ((d ++ t) ++ take 1 d) → w ≡ v
+    go [] t f k = absurd cc
+    go (x ∷ d) t f k = let q : x ≡ v = cc in k ∙ q
+
+-- the turned loop begins with the least stop
+pub turned_least : (stop : Pos → Bool) (r : List Pos) → list_any stop r ≡ true → (w : Pos) → Begins w (opened_at (start_place stop r) r) → IsLeastStop stop r w
+turned_least stop [] e w h = absurd cc
+turned_least stop (x ∷ r) e w h =
+    let s = starts_at stop x r in
+    subst (IsLeastStop stop (x ∷ r)) (sym (opened_first (x ∷ r) s.before s.vertex s.behind (start_place stop (x ∷ r)) s.parted s.place w h))
+    (record {
+      there = subst (Has s.vertex) (sym s.parted) (Has-append_right s.vertex s.before (s.vertex ∷ s.behind) (inl refl));
+      stops = s.told ∙ e;
+      least = s.least;
+    })

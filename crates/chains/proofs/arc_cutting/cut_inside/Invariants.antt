@@ -1,0 +1,12 @@
+use Rattle.std.proofs.Common.{◌≡◌, ◌<◌, ◌≤◌, ◌++◌, length, false, map, drop, slice_range}
+use Rattle.chains.specs.Among.{among}
+use Rattle.chains.specs.ArcPieces.{cut_inside_from, open_pieces}
+use Rattle.chains.specs.Pieces.{piece_along}
+use Rattle.chains.proofs.arc_cutting.cut_inside.Given as goal
+
+abbrev pub invariant-loop-i : goal.invariant-loop-i
+invariant-loop-i l = record {
+  before : l.begin < l.i;
+  within : l.begin ≤ length l.line;
+  pieces : l.pieces.items ++ map (piece_along false) (cut_inside_from (among l.stops.keys) (slice_range l.line l.begin l.i) (drop l.i l.line)) ≡ open_pieces (among l.stops.keys) l.line;
+}
