@@ -1,0 +1,105 @@
+//! Readers of GeoJSON in parts, the topology of texts, and a sink that gathers.
+
+use built_text::BuildFault;
+use faults::{Fault, FaultKind, OutOfMemory};
+use geojson_io::reader::read_as_value;
+use geojson_io::token_reader::read_features;
+use grid::Grid;
+use json_tokens::from_tokens::Stop;
+use refused_calls::calls;
+use refused_calls::calls::Lent;
+use refused_calls::comparing::are_features;
+use refused_calls::inputs::{is_of, read};
+use refused_calls::outcome::Tally;
+use refused_calls::texts::FIRST;
+use shapes::{Feature, FeatureMap};
+use sinks::{Buffered, Sink, put};
+use std::alloc::Global;
+use std::io::Cursor;
+
+/// The first square.
+const GEOJSON: &str = r#"{"type":"Feature","properties":{},"geometry":{"type":"Polygon","coordinates":[[[0,0],[1,0],[1,1],[0,1],[0,0]]]}}"#;
+
+/// The square's text under the name of its layer, and its features.
+#[derive(Drop)]
+struct Sources {
+    texts: Vec<(String, Vec<u8>)>,
+    grid: Grid,
+    map: FeatureMap,
+}
+
+impl Sources {
+    fn of(alloc: Global) -> Option<Sources> {
+        let name = String::from_str(alloc, "a").ok()?;
+        let text = GEOJSON.as_bytes().to_vec(alloc).ok()?;
+        let mut texts = Vec::new(alloc);
+        texts.push((name, text)).ok()?;
+        Some(Sources {
+            texts,
+            grid: Grid::new(1, 1, 0, 0)?,
+            map: read(alloc, FIRST)?,
+        })
+    }
+}
+
+impl Lent for Sources {
+    fn is_as_before(&self) -> bool {
+        match self.texts.as_slice() {
+            [source] => source.0.as_str() == "a" && source.1.as_slice() == GEOJSON.as_bytes(),
+            _ => false,
+        }
+    }
+}
+
+/// Whether a fault of a text is want of memory.
+fn is_wanting(fault: &Fault) -> Result<bool, OutOfMemory> {
+    match fault.kind {
+        FaultKind::OutOfMemory => Err(OutOfMemory),
+        _ => Ok(false),
+    }
+}
+
+fn read_value(alloc: Global, sources: &Sources) -> Result<bool, OutOfMemory> {
+    match read_as_value(alloc, GEOJSON.as_bytes(), &sources.grid) {
+        Ok(features) => Ok(are_features(features.as_slice(), &sources.map)),
+        Err(fault) => is_wanting(&fault),
+    }
+}
+
+fn read_tokens(alloc: Global, sources: &Sources) -> Result<bool, OutOfMemory> {
+    match read_features(alloc, GEOJSON.as_bytes(), &sources.grid) {
+        Ok(features) => Ok(are_features(features.as_slice(), &sources.map)),
+        // It stops as one that reads no more where memory is refused to a part that is read by its value.
+        Err(Stop::OutOfMemory | Stop::Unread) => Err(OutOfMemory),
+    }
+}
+
+fn build(alloc: Global, sources: &Sources) -> Result<bool, OutOfMemory> {
+    match built_text::build_topology(alloc, &sources.grid, sources.texts.as_slice()) {
+        Ok(topology) => Ok(is_of(&topology, FIRST)),
+        Err(BuildFault::OutOfMemory) => Err(OutOfMemory),
+        Err(BuildFault::Text(_, _)) => Ok(false),
+    }
+}
+
+/// Small pieces that are held until there is no more room.
+fn gather(alloc: Global, _: &Sources) -> Result<bool, OutOfMemory> {
+    let mut place = Cursor::new([0_u8; 8]);
+    let mut sink = Buffered::new(alloc, &mut place, 4)?;
+    let is_written = put(&mut sink, b"abc").is_ok()
+        && put(&mut sink, b"def").is_ok()
+        && sink.flush().is_ok();
+    Ok(is_written && place.get_ref() == b"abcdef\0\0")
+}
+
+/// Makes each call of texts.
+pub(crate) fn settle(rt: &HostRuntime, tally: &mut Tally) {
+    if let Some(sources) = tally.lent(rt, "texts", "their sources", Sources::of) {
+        calls!(tally.attempt(rt, "texts", &sources);
+            "geojson_io::read_as_value" => read_value,
+            "geojson_io::read_features" => read_tokens,
+            "built_text::build_topology" => build,
+            "Buffered::new" => gather,
+        );
+    }
+}
