@@ -8,7 +8,7 @@ use grid::Grid;
 use json_tokens::from_tokens::Stop;
 use refused_calls::calls;
 use refused_calls::calls::Lent;
-use refused_calls::comparing::are_features;
+use refused_calls::comparing::{are_features, same_map};
 use refused_calls::inputs::{is_of, read};
 use refused_calls::outcome::Tally;
 use refused_calls::texts::FIRST;
@@ -16,6 +16,7 @@ use shapes::{Feature, FeatureMap};
 use sinks::{Buffered, Sink, put};
 use std::alloc::Global;
 use std::io::Cursor;
+use taking::TextArcs;
 
 /// The first square.
 const GEOJSON: &str = r#"{"type":"Feature","properties":{},"geometry":{"type":"Polygon","coordinates":[[[0,0],[1,0],[1,1],[0,1],[0,0]]]}}"#;
@@ -69,7 +70,7 @@ fn read_value(alloc: Global, sources: &Sources) -> Result<bool, OutOfMemory> {
 fn read_tokens(alloc: Global, sources: &Sources) -> Result<bool, OutOfMemory> {
     match read_features(alloc, GEOJSON.as_bytes(), &sources.grid) {
         Ok(features) => Ok(are_features(features.as_slice(), &sources.map)),
-        // It stops as one that reads no more where memory is refused to a part that is read by its value.
+        // So it stops too where memory is refused to a part that is read by way of its value.
         Err(Stop::OutOfMemory | Stop::Unread) => Err(OutOfMemory),
     }
 }
@@ -79,6 +80,20 @@ fn build(alloc: Global, sources: &Sources) -> Result<bool, OutOfMemory> {
         Ok(topology) => Ok(is_of(&topology, FIRST)),
         Err(BuildFault::OutOfMemory) => Err(OutOfMemory),
         Err(BuildFault::Text(_, _)) => Ok(false),
+    }
+}
+
+/// The features of a text's parts.
+fn map(alloc: Global, sources: &Sources) -> Result<bool, OutOfMemory> {
+    let parts = match topo_io::read_parts(alloc, FIRST.as_bytes()) {
+        Ok(parts) => parts,
+        // So it stops too where memory is refused to a part that is read by way of its value.
+        Err(Stop::OutOfMemory | Stop::Unread) => return Err(OutOfMemory),
+    };
+    let arcs = TextArcs::from_list(parts.arcs);
+    match topo_io::map_of_parts(alloc, &arcs, parts.layers)? {
+        Some(map) => Ok(same_map(&map, &sources.map)),
+        None => Ok(false),
     }
 }
 
@@ -99,6 +114,7 @@ pub(crate) fn settle(rt: &HostRuntime, tally: &mut Tally) {
             "geojson_io::read_as_value" => read_value,
             "geojson_io::read_features" => read_tokens,
             "built_text::build_topology" => build,
+            "topo_io::map_of_parts" => map,
             "Buffered::new" => gather,
         );
     }
