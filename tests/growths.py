@@ -42,8 +42,6 @@ EXCEPTIONS = {
     "sinks::write_framed": JUDGED + "geojson_io::write",
     "ArcTable::with_extent": JUDGED + "recutting::recut",
     "chains::cut_arc": JUDGED + "refine::remove",
-    "chains::maximal": JUDGED + "query::mesh, by way of maximal_with",
-    "chains::maximal_with": JUDGED + "query::mesh",
     "Topology::feature": JUDGED + "query::feature",
     "Topology::features": JUDGED + "query::feature",
     "topo::feature": JUDGED + "query::feature",

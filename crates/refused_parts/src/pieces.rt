@@ -1,16 +1,20 @@
 //! Indexes of visits, and what lines and rings are cut into.
 
-use chains::{ArcTable, Piece, Segment, VisitIndex, add_pieces, cut_line, cut_ring, segments_of};
+use chains::{
+    ArcTable, Piece, Segment, VisitIndex, add_pieces, cut_line, cut_ring, maximal, maximal_with,
+    segments_of,
+};
 use faults::OutOfMemory;
 use grid::Pos;
 use refused_calls::calls;
 use refused_calls::calls::Lent;
-use refused_calls::comparing::{same_map, stand_at};
+use refused_calls::comparing::{are_arcs, are_used, same_map, stand_at};
 use refused_calls::inputs::{built, is_of, positions, read};
 use refused_calls::outcome::Tally;
 use refused_calls::texts::{FIRST, Places, SECOND, SHARED_EDGE};
 use shapes::{FeatureMap, Line, Ring};
 use std::alloc::Global;
+use std::collections::BTreeSet;
 use topo::Topology;
 
 /// The ring of the first square.
@@ -21,6 +25,7 @@ const LOWER: Places = &[(0, 0), (1, 0), (2, 0)];
 
 /// The sides of the first square that it has alone, and the one that it shares.
 const ALONE: Places = &[(1, 0), (0, 0), (0, 1), (1, 1)];
+
 const SHARED: Places = &[(1, 0), (1, 1)];
 
 /// The chain of a piece, and whether it is read backwards.
@@ -42,6 +47,15 @@ struct Cutting {
     line_index: VisitIndex,
     line: Line,
     ring: Ring,
+    stops: BTreeSet<Pos>,
+}
+
+/// The ends of the shared side.
+fn stops(alloc: Global) -> Option<BTreeSet<Pos>> {
+    let mut stops = BTreeSet::new(alloc);
+    stops.insert(Pos::new(1, 0)?).ok()?;
+    stops.insert(Pos::new(1, 1)?).ok()?;
+    Some(stops)
 }
 
 impl Cutting {
@@ -55,6 +69,7 @@ impl Cutting {
             line_index: VisitIndex::from_junctions(alloc, positions(alloc, LOWER)?).ok()?,
             line: Line::from_positions(alloc, positions(alloc, LOWER)?).ok()?,
             ring: Ring::from_closed(alloc, positions(alloc, SQUARE)?).ok()?,
+            stops: stops(alloc)?,
             map,
         })
     }
@@ -165,25 +180,33 @@ fn segments(alloc: Global, cutting: &Cutting) -> Result<bool, OutOfMemory> {
     Ok(is_shared_side(segments.as_slice()))
 }
 
-fn are_arcs_of_square(table: &ArcTable) -> bool {
-    match (table.arc(0), table.arc(1), table.arc(2)) {
-        (Some(alone), Some(shared), None) => {
-            stand_at(alone, ALONE) && stand_at(shared, SHARED)
-        }
-        _ => false,
-    }
-}
-
 fn table(alloc: Global, cutting: &Cutting) -> Result<bool, OutOfMemory> {
     let pieces = cut_ring(alloc, &cutting.index, &cutting.ring)?;
-    Ok(are_arcs_of_square(&ArcTable::from_pieces(alloc, pieces)?))
+    Ok(are_arcs(&ArcTable::from_pieces(alloc, pieces)?, &[ALONE, SHARED]))
 }
 
 fn numbered(alloc: Global, cutting: &Cutting) -> Result<bool, OutOfMemory> {
     let pieces = cut_ring(alloc, &cutting.index, &cutting.ring)?;
     let (table, refs) = ArcTable::numbered(alloc, pieces)?;
-    let used = refused_calls::comparing::are_used(refs.as_slice(), &[1, -1]);
-    Ok(used && are_arcs_of_square(&table))
+    let used = are_used(refs.as_slice(), &[1, -1]);
+    Ok(used && are_arcs(&table, &[ALONE, SHARED]))
+}
+
+/// No chains over no segments, as its condition is plain of these alone; `query::mesh` finds chains over others.
+fn chains(alloc: Global, cutting: &Cutting) -> Result<bool, OutOfMemory> {
+    let segments: BTreeSet<Segment> = BTreeSet::new(alloc);
+    Ok(maximal(alloc, &segments, &cutting.stops)?.len() == 0)
+}
+
+/// A chain that stands already, and no segments beside it.
+fn chains_beside(alloc: Global, cutting: &Cutting) -> Result<bool, OutOfMemory> {
+    let Some(chain) = positions(alloc, SHARED) else {
+        return Err(OutOfMemory);
+    };
+    let mut whole = Vec::new(alloc);
+    whole.push(chain)?;
+    let table = maximal_with(alloc, whole, &[], &cutting.stops)?;
+    Ok(are_arcs(&table, &[SHARED]))
 }
 
 /// Makes each call of pieces.
@@ -198,6 +221,8 @@ pub(crate) fn settle(rt: &HostRuntime, tally: &mut Tally) {
             "VisitIndex::from_junctions" => index_of_positions,
             "VisitIndex::over_arcs" => index_over_arcs,
             "chains::segments_of" => segments,
+            "chains::maximal" => chains,
+            "chains::maximal_with" => chains_beside,
             "ArcTable::from_pieces" => table,
             "ArcTable::numbered" => numbered,
         );

@@ -19,7 +19,8 @@ use std::io::Cursor;
 use taking::TextArcs;
 
 /// The first square.
-const GEOJSON: &str = r#"{"type":"Feature","properties":{},"geometry":{"type":"Polygon","coordinates":[[[0,0],[1,0],[1,1],[0,1],[0,0]]]}}"#;
+const GEOJSON: &str =
+    r#"{"type":"Feature","properties":{},"geometry":{"type":"Polygon","coordinates":[[[0,0],[1,0],[1,1],[0,1],[0,0]]]}}"#;
 
 /// The square's text under the name of its layer, and its features.
 #[derive(Drop)]
@@ -97,14 +98,12 @@ fn map(alloc: Global, sources: &Sources) -> Result<bool, OutOfMemory> {
     }
 }
 
-/// Small pieces that are held until there is no more room.
+/// Small pieces that are held until there is no more room, and a fifth byte, for which the writer has none.
 fn gather(alloc: Global, _: &Sources) -> Result<bool, OutOfMemory> {
-    let mut place = Cursor::new([0_u8; 8]);
-    let mut sink = Buffered::new(alloc, &mut place, 4)?;
-    let is_written = put(&mut sink, b"abc").is_ok()
-        && put(&mut sink, b"def").is_ok()
-        && sink.flush().is_ok();
-    Ok(is_written && place.get_ref() == b"abcdef\0\0")
+    let mut sink = Buffered::new(alloc, Cursor::new([0_u8; 4]), 3)?;
+    let has_room = put(&mut sink, b"ab").is_ok() && put(&mut sink, b"cd").is_ok();
+    let is_full = sink.flush().is_ok() && put(&mut sink, b"e").is_ok() && sink.flush().is_err();
+    Ok(has_room && is_full)
 }
 
 /// Makes each call of texts.

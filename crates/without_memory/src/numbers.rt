@@ -1,13 +1,13 @@
 //! Positions, grids and kinds of faults.
 
 use crate::rows::{note, rows};
+use chains::marking::{first_mark, is_marked};
+use chains::{ArcRef, Segment};
 use faults::{Fault, FaultKind};
 use grid::{Axis, AxisFault, Grid, GridFault, Pos};
 use lines::bits::place_among;
 use lines::neighbours::has_equal_neighbours;
 use lines::pair::Pair;
-use chains::marking::{first_mark, is_marked};
-use chains::{ArcRef, Segment};
 use merging::plan::same_grid;
 use refused_calls::outcome::Tally;
 use std::alloc::Global;

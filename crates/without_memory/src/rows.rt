@@ -14,4 +14,5 @@ macro_rules! rows {
         $($crate::rows::note($rt, $tally, $name, $is_right);)+
     };
 }
+
 pub(crate) use rows;

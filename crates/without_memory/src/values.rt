@@ -36,7 +36,10 @@ fn nests_in_two(values: &Values) -> bool {
 fn fits(feature: &Feature, far: &Feature) -> bool {
     match (Grid::new(1, 1, 0, 0), Grid::new(1_000_000, 1, 0, 0)) {
         (Some(fine), Some(coarse)) => {
-            feature.fits(&fine) && !far.fits(&coarse) && feature.shape.fits(&fine) && !far.shape.fits(&coarse)
+            feature.fits(&fine)
+                && !far.fits(&coarse)
+                && feature.shape.fits(&fine)
+                && !far.shape.fits(&coarse)
         }
         _ => false,
     }

@@ -57,7 +57,9 @@ fn writes_number() -> bool {
 
 fn writes_value() -> bool {
     let mut place = room();
-    Itself.write_value(&Number(7), &mut Tap::new(&mut place)).is_ok()
+    Itself
+        .write_value(&Number(7), &mut Tap::new(&mut place))
+        .is_ok()
         && is_written(&place, b"7\0\0\0\0\0\0\0")
 }
 
