@@ -37,18 +37,15 @@ NO_REQUEST = "is passed an allocator and asks it for nothing"
 JUDGED = "has a condition, which its caller knows: "
 NO_GROWTH = {"Fault::here": NO_REQUEST, "FeatureMap::new": NO_REQUEST, "Kept::new": NO_REQUEST, "Script::new": NO_REQUEST}
 EXCEPTIONS = {
-    "Line::from_sound": JUDGED + "topo_io::read",
-    "Ring::from_sound": JUDGED + "topo_io::read",
-    "sinks::write_framed": JUDGED + "geojson_io::write",
     "ArcTable::with_extent": JUDGED + "recutting::recut",
-    "chains::cut_arc": JUDGED + "refine::remove",
+    "chains::cut_arc": JUDGED + "none as yet",
     "Topology::feature": JUDGED + "query::feature",
     "Topology::features": JUDGED + "query::feature",
     "topo::feature": JUDGED + "query::feature",
     "topo::known_feature": JUDGED + "refine::remove",
     "topo::order_of": JUDGED + "Shard::join",
     "Topology::from_parts": JUDGED + "Topology::build",
-    "Topology::from_unmeasured_parts": JUDGED + "Shard::join",
+    "Topology::from_unmeasured_parts": JUDGED + "refine::remove",
     "tool::run": "is the command: tests/refused_memory.py",
     "Files::read_file": "is the caller's, of tool::run: tests/refused_memory.py",
     "Files::read_input": "is the caller's, of tool::run: tests/refused_memory.py",

@@ -11,7 +11,9 @@ use refused_calls::texts::Places;
 use refused_calls::{calls, layer};
 use serde_json::Value;
 use shapes::copying::{CopyIn, copy_each};
-use shapes::{Feature, FeatureMap, Items, Line, PropFault, Props, Ring, Spelled, feature_set};
+use shapes::{
+    Feature, FeatureMap, Items, Line, PropFault, Props, Ring, ShapeFault, Spelled, feature_set,
+};
 use std::alloc::Global;
 
 /// A square with an id and properties.
@@ -189,12 +191,41 @@ fn under_name(alloc: Global, _: &Values) -> Result<bool, OutOfMemory> {
     is_behind(&fault, &step)
 }
 
+/// Whether a list is refused for want of memory alone.
+fn is_wanting(fault: ShapeFault) -> Result<bool, OutOfMemory> {
+    match fault {
+        ShapeFault::OutOfMemory => Err(OutOfMemory),
+        _ => Ok(false),
+    }
+}
+
+/// The line of a list that is known to be one is that of a copy, of which it is asked.
+fn known_line(alloc: Global, values: &Values) -> Result<bool, OutOfMemory> {
+    let places = values.places.as_slice().to_vec(alloc)?;
+    let copy = places.as_slice().to_vec(alloc)?;
+    match Line::from_positions(alloc, places) {
+        Ok(line) => Ok(Line::from_sound(copy) == line),
+        Err(fault) => is_wanting(fault),
+    }
+}
+
+fn known_ring(alloc: Global, values: &Values) -> Result<bool, OutOfMemory> {
+    let places = values.places.as_slice().to_vec(alloc)?;
+    let copy = places.as_slice().to_vec(alloc)?;
+    match Ring::from_closed(alloc, places) {
+        Ok(ring) => Ok(Ring::from_sound(copy) == ring),
+        Err(fault) => is_wanting(fault),
+    }
+}
+
 /// Makes each call of values.
 pub(crate) fn settle(rt: &HostRuntime, tally: &mut Tally) {
     if let Some(values) = tally.lent(rt, "values", "what is copied", Values::of) {
         calls!(tally.attempt(rt, "values", &values);
             "Line::copy" => copy_line,
             "Ring::copy" => copy_ring,
+            "Line::from_sound" => known_line,
+            "Ring::from_sound" => known_ring,
             "Props::copy" => copy_props,
             "Id::copy" => copy_id,
             "Shape::copy" => copy_shape,

@@ -4,7 +4,7 @@ use crate::lent::Worked;
 use crate::rows::rows;
 use chains::{ArcRef, Piece, VisitIndex, turn_ring};
 use grid::{Grid, Pos};
-use refused_calls::comparing::stand_at;
+use refused_calls::comparing::{are_used, stand_at};
 use refused_calls::outcome::Tally;
 use refused_calls::texts::{FIRST, Places, SHARED_EDGE};
 use topo::{Geom, Layer, Run, Topology, Walk, kind_order};
@@ -47,7 +47,7 @@ fn has_arc(topology: &Topology) -> bool {
 fn turns(topology: &Topology) -> bool {
     let mut used = [ArcRef::from_index(-1), ArcRef::from_index(1)];
     turn_ring(topology.arcs(), &mut used);
-    used[0] == ArcRef::from_index(1) && used[1] == ArcRef::from_index(-1)
+    are_used(&used, &[1, -1])
 }
 
 fn is_junction(index: &VisitIndex, x: i64, y: i64) -> bool {

@@ -3,7 +3,7 @@
 use crate::rows::rows;
 use refused_calls::outcome::Tally;
 use sinks::written::{Itself, Notation, Number, Written, write_framed};
-use sinks::{Answer, Kept, Refused, Script, Sink, Tap, WriteFault, put};
+use sinks::{Kept, Script, Sink, Tap, WriteFault, put};
 use std::alloc::Global;
 use std::io::Cursor;
 
@@ -63,6 +63,20 @@ fn writes_value() -> bool {
         && is_written(&place, b"7\0\0\0\0\0\0\0")
 }
 
+const GIVEN: &[Number] = &[Number(3), Number(0)];
+
+fn writes_framed() -> bool {
+    let mut place = room();
+    let written = write_framed(
+        &mut Tap::new(&mut place),
+        b"<",
+        &Itself,
+        &mut GIVEN.iter(),
+        b">",
+    );
+    written.is_ok() && is_written(&place, b"<3,0>\0\0\0")
+}
+
 /// Makes each call of sinks.
 pub(crate) fn settle(rt: &HostRuntime, tally: &mut Tally, alloc: Global) {
     rows!(rt, tally;
@@ -77,5 +91,6 @@ pub(crate) fn settle(rt: &HostRuntime, tally: &mut Tally, alloc: Global) {
         "Script::failures" => scripts(alloc),
         "Written::write" => writes_number(),
         "Notation::write_value" => writes_value(),
+        "sinks::write_framed" => writes_framed(),
     );
 }
