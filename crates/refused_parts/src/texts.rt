@@ -1,6 +1,5 @@
-//! Readers of GeoJSON in parts, the topology of texts, and a sink that gathers.
+//! Readers of GeoJSON and of the parts of a topology, and a sink that gathers.
 
-use built_text::BuildFault;
 use faults::{Fault, FaultKind, OutOfMemory};
 use geojson_io::reader::read_as_value;
 use geojson_io::token_reader::read_features;
@@ -9,10 +8,10 @@ use json_tokens::from_tokens::Stop;
 use refused_calls::calls;
 use refused_calls::calls::Lent;
 use refused_calls::comparing::{are_features, same_map};
-use refused_calls::inputs::{is_of, read};
+use refused_calls::inputs::read;
 use refused_calls::outcome::Tally;
 use refused_calls::texts::FIRST;
-use shapes::{Feature, FeatureMap};
+use shapes::FeatureMap;
 use sinks::{Buffered, Sink, put};
 use std::alloc::Global;
 use std::io::Cursor;
@@ -22,34 +21,28 @@ use taking::TextArcs;
 const GEOJSON: &str =
     r#"{"type":"Feature","properties":{},"geometry":{"type":"Polygon","coordinates":[[[0,0],[1,0],[1,1],[0,1],[0,0]]]}}"#;
 
-/// The square's text under the name of its layer, and its features.
+/// The features of the square, and their grid.
 #[derive(Drop)]
-struct Sources {
-    texts: Vec<(String, Vec<u8>)>,
+struct Square {
     grid: Grid,
     map: FeatureMap,
+    copy: FeatureMap,
 }
 
-impl Sources {
-    fn of(alloc: Global) -> Option<Sources> {
-        let name = String::from_str(alloc, "a").ok()?;
-        let text = GEOJSON.as_bytes().to_vec(alloc).ok()?;
-        let mut texts = Vec::new(alloc);
-        texts.push((name, text)).ok()?;
-        Some(Sources {
-            texts,
+impl Square {
+    fn of(alloc: Global) -> Option<Square> {
+        let map = read(alloc, FIRST)?;
+        Some(Square {
             grid: Grid::new(1, 1, 0, 0)?,
-            map: read(alloc, FIRST)?,
+            copy: map.copy().ok()?,
+            map,
         })
     }
 }
 
-impl Lent for Sources {
+impl Lent for Square {
     fn is_as_before(&self) -> bool {
-        match self.texts.as_slice() {
-            [source] => source.0.as_str() == "a" && source.1.as_slice() == GEOJSON.as_bytes(),
-            _ => false,
-        }
+        same_map(&self.map, &self.copy)
     }
 }
 
@@ -61,31 +54,23 @@ fn is_wanting(fault: &Fault) -> Result<bool, OutOfMemory> {
     }
 }
 
-fn read_value(alloc: Global, sources: &Sources) -> Result<bool, OutOfMemory> {
-    match read_as_value(alloc, GEOJSON.as_bytes(), &sources.grid) {
-        Ok(features) => Ok(are_features(features.as_slice(), &sources.map)),
+fn read_value(alloc: Global, square: &Square) -> Result<bool, OutOfMemory> {
+    match read_as_value(alloc, GEOJSON.as_bytes(), &square.grid) {
+        Ok(features) => Ok(are_features(features.as_slice(), &square.map)),
         Err(fault) => is_wanting(&fault),
     }
 }
 
-fn read_tokens(alloc: Global, sources: &Sources) -> Result<bool, OutOfMemory> {
-    match read_features(alloc, GEOJSON.as_bytes(), &sources.grid) {
-        Ok(features) => Ok(are_features(features.as_slice(), &sources.map)),
+fn read_tokens(alloc: Global, square: &Square) -> Result<bool, OutOfMemory> {
+    match read_features(alloc, GEOJSON.as_bytes(), &square.grid) {
+        Ok(features) => Ok(are_features(features.as_slice(), &square.map)),
         // So it stops too where memory is refused to a part that is read by way of its value.
         Err(Stop::OutOfMemory | Stop::Unread) => Err(OutOfMemory),
     }
 }
 
-fn build(alloc: Global, sources: &Sources) -> Result<bool, OutOfMemory> {
-    match built_text::build_topology(alloc, &sources.grid, sources.texts.as_slice()) {
-        Ok(topology) => Ok(is_of(&topology, FIRST)),
-        Err(BuildFault::OutOfMemory) => Err(OutOfMemory),
-        Err(BuildFault::Text(_, _)) => Ok(false),
-    }
-}
-
 /// The features of a text's parts.
-fn map(alloc: Global, sources: &Sources) -> Result<bool, OutOfMemory> {
+fn map(alloc: Global, square: &Square) -> Result<bool, OutOfMemory> {
     let parts = match topo_io::read_parts(alloc, FIRST.as_bytes()) {
         Ok(parts) => parts,
         // So it stops too where memory is refused to a part that is read by way of its value.
@@ -93,13 +78,13 @@ fn map(alloc: Global, sources: &Sources) -> Result<bool, OutOfMemory> {
     };
     let arcs = TextArcs::from_list(parts.arcs);
     match topo_io::map_of_parts(alloc, &arcs, parts.layers)? {
-        Some(map) => Ok(same_map(&map, &sources.map)),
+        Some(map) => Ok(same_map(&map, &square.map)),
         None => Ok(false),
     }
 }
 
 /// Small pieces that are held until there is no more room, and a fifth byte, for which the writer has none.
-fn gather(alloc: Global, _: &Sources) -> Result<bool, OutOfMemory> {
+fn gather(alloc: Global, _: &Square) -> Result<bool, OutOfMemory> {
     let mut sink = Buffered::new(alloc, Cursor::new([0_u8; 4]), 3)?;
     let has_room = put(&mut sink, b"ab").is_ok() && put(&mut sink, b"cd").is_ok();
     let is_full = sink.flush().is_ok() && put(&mut sink, b"e").is_ok() && sink.flush().is_err();
@@ -108,11 +93,10 @@ fn gather(alloc: Global, _: &Sources) -> Result<bool, OutOfMemory> {
 
 /// Makes each call of texts.
 pub(crate) fn settle(rt: &HostRuntime, tally: &mut Tally) {
-    if let Some(sources) = tally.lent(rt, "texts", "their sources", Sources::of) {
-        calls!(tally.attempt(rt, "texts", &sources);
+    if let Some(square) = tally.lent(rt, "texts", "their square", Square::of) {
+        calls!(tally.attempt(rt, "texts", &square);
             "geojson_io::read_as_value" => read_value,
             "geojson_io::read_features" => read_tokens,
-            "built_text::build_topology" => build,
             "topo_io::map_of_parts" => map,
             "Buffered::new" => gather,
         );
