@@ -1,6 +1,7 @@
 //! Calls that are made in turn on what is lent to them, and again after want of memory.
 
 use crate::outcome::{Answer, Outcome, Tally};
+use faults::OutOfMemory;
 use std::alloc::Global;
 
 /// Makes the calls of a list, in which each function has a name:
@@ -122,6 +123,22 @@ impl Tally {
     {
         self.settle(rt, title, lent, name, |alloc: Global, lent: &L| {
             ask_twice(alloc, lent, &ask)
+        });
+    }
+
+    /// The same of a call that tells whether it was right.
+    pub fn attempt<L: Lent, F: Fn(Global, &L) -> Result<bool, OutOfMemory>>(
+        &mut self,
+        rt: &HostRuntime,
+        title: &str,
+        lent: &L,
+        name: &str,
+        call: F,
+    )
+        requires { F.IsAlwaysCallable call }
+    {
+        self.ask(rt, title, lent, name, |alloc: Global, lent: &L| {
+            Answer::of_result(call(alloc, lent))
         });
     }
 

@@ -1,6 +1,6 @@
 //! What calls answer where memory may be refused, and what comes of them.
 
-use faults::{Fault, FaultKind};
+use faults::{Fault, FaultKind, OutOfMemory};
 use std::process::ExitCode;
 
 /// What a call answered.
@@ -23,6 +23,14 @@ impl Answer {
             Answer::Right
         } else {
             Answer::Wrong
+        }
+    }
+
+    /// The answer of a call that tells whether it was right, or that memory is wanting.
+    pub fn of_result(is_right: Result<bool, OutOfMemory>) -> Answer {
+        match is_right {
+            Ok(is_right) => Answer::of(is_right),
+            Err(OutOfMemory) => Answer::Wanting,
         }
     }
 

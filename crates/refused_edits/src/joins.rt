@@ -183,9 +183,9 @@ fn run_cuts(alloc: Global, squares: &Squares) -> Answer {
 pub(crate) fn settle(rt: &HostRuntime, tally: &mut Tally) {
     if let Some(squares) = tally.lent(rt, "three squares", "their shards", Squares::of) {
         calls!(tally.ask(rt, "three squares", &squares);
-            "merge_texts" => merge,
-            "run_plan over Whole" => run_wholes,
-            "run_plan over Cut" => run_cuts,
+            "refine::merge_texts" => merge,
+            "merging::run_plan over Whole" => run_wholes,
+            "merging::run_plan over Cut" => run_cuts,
             "Plan::left" => left,
             "Plan::right" => right,
             "Plan::halves" => halves,

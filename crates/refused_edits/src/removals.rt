@@ -114,7 +114,7 @@ pub(crate) fn settle(rt: &HostRuntime, tally: &mut Tally) {
             "remove",
             |alloc| Removing::of(alloc, row),
         ) {
-            tally.ask(rt, row.title, &removing, "remove", ask);
+            tally.ask(rt, row.title, &removing, "refine::remove", ask);
         }
     }
 }

@@ -78,6 +78,14 @@ fn build_text(alloc: Global, worked: &Worked) -> Answer {
     }
 }
 
+fn build_topology(alloc: Global, worked: &Worked) -> Answer {
+    match built_text::build_topology(alloc, &worked.grid, worked.sources.as_slice()) {
+        Ok(topology) => Answer::of(is_of(&topology, worked.row.topology)),
+        Err(BuildFault::OutOfMemory) => Answer::Wanting,
+        Err(BuildFault::Text(_, _)) => Answer::Wrong,
+    }
+}
+
 fn expand(alloc: Global, worked: &Worked) -> Answer {
     match worked.topology.expand(alloc) {
         Ok(map) => Answer::of(same_map(&map, &worked.copy)),
@@ -94,6 +102,7 @@ pub(crate) fn settle(rt: &HostRuntime, tally: &mut Tally, worked: &Worked) {
         "topo_io::is_canonical" => is_canonical,
         "Topology::build" => build,
         "built_text::build_text" => build_text,
+        "built_text::build_topology" => build_topology,
         "Topology::expand" => expand,
     );
 }

@@ -93,7 +93,7 @@ fn ask(alloc: Global, pair: &Pair) -> Answer {
 pub(crate) fn settle(rt: &HostRuntime, tally: &mut Tally) {
     for row in ROWS {
         if let Some(pair) = tally.lent(rt, row.title, "recut", |alloc| Pair::of(alloc, row)) {
-            tally.ask(rt, row.title, &pair, "recut", ask);
+            tally.ask(rt, row.title, &pair, "recutting::recut", ask);
         }
     }
 }

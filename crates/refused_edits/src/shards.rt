@@ -1,0 +1,206 @@
+//! Shards of both kinds, merges of texts by way of them, and plans.
+
+use faults::{FaultKind, OutOfMemory};
+use grid::Grid;
+use merging::{JoinFault, MergeFault, Shard, merge_as, merge_shards};
+use plans::{Plan, first_bad_leaf, named_places};
+use refine::{Cut, Whole, merge_topologies};
+use refused_calls::calls;
+use refused_calls::calls::Lent;
+use refused_calls::comparing::same_map;
+use refused_calls::inputs::{is_of, read};
+use refused_calls::outcome::{Answer, Tally};
+use refused_calls::texts::{FIRST, SECOND, SHARED_EDGE};
+use shapes::FeatureMap;
+use std::alloc::Global;
+
+/// Two squares as shards, the map of the first with a copy, and a plan of their texts.
+#[derive(Drop)]
+struct Pair<S> {
+    left: S,
+    right: S,
+    grid: Grid,
+    map: FeatureMap,
+    copy: FeatureMap,
+    plan: Plan,
+}
+
+impl<S: Shard> Pair<S> {
+    fn of(alloc: Global) -> Option<Pair<S>> {
+        let grid = Grid::new(1, 1, 0, 0)?;
+        let map = read(alloc, FIRST)?;
+        Some(Pair {
+            left: S::from_map(alloc, &grid, &map).ok()?,
+            right: S::of_text(alloc, SECOND.as_bytes()).ok()?,
+            copy: map.copy().ok()?,
+            plan: Plan::left(alloc, 2).ok()??,
+            grid,
+            map,
+        })
+    }
+}
+
+impl<S: Shard> Lent for Pair<S> {
+    fn is_as_before(&self) -> bool {
+        same_map(&self.map, &self.copy) && self.left.grid() == self.grid
+    }
+
+    fn is_as_made(&self, alloc: Global) -> Answer {
+        Answer::of_result(are_as_made(alloc, self))
+    }
+}
+
+fn are_as_made<S: Shard>(alloc: Global, pair: &Pair<S>) -> Result<bool, OutOfMemory> {
+    Ok(is_shard(alloc, &pair.left, FIRST)? && is_shard(alloc, &pair.right, SECOND)?)
+}
+
+fn is_shard<S: Shard>(alloc: Global, shard: &S, text: &str) -> Result<bool, OutOfMemory> {
+    Ok(shard.text(alloc)?.as_slice() == text.as_bytes())
+}
+
+fn from_map<S: Shard>(alloc: Global, pair: &Pair<S>) -> Result<bool, OutOfMemory> {
+    let shard = S::from_map(alloc, &pair.grid, &pair.map)?;
+    is_shard(alloc, &shard, FIRST)
+}
+
+fn of_map<S: Shard>(alloc: Global, pair: &Pair<S>) -> Result<bool, OutOfMemory> {
+    let shard = S::of_map(alloc, &pair.grid, pair.map.copy()?)?;
+    is_shard(alloc, &shard, FIRST)
+}
+
+fn of_text<S: Shard>(alloc: Global, _: &Pair<S>) -> Result<bool, OutOfMemory> {
+    match S::of_text(alloc, FIRST.as_bytes()) {
+        Ok(shard) => is_shard(alloc, &shard, FIRST),
+        Err(fault) => match fault.kind {
+            FaultKind::OutOfMemory => Err(OutOfMemory),
+            _ => Ok(false),
+        },
+    }
+}
+
+fn copy<S: Shard>(alloc: Global, pair: &Pair<S>) -> Result<bool, OutOfMemory> {
+    let shard = pair.left.copy(alloc)?;
+    is_shard(alloc, &shard, FIRST)
+}
+
+fn is_join<S: Shard>(alloc: Global, made: Result<S, JoinFault>) -> Result<bool, OutOfMemory> {
+    match made {
+        Ok(shard) => is_shard(alloc, &shard, SHARED_EDGE),
+        Err(JoinFault::OutOfMemory) => Err(OutOfMemory),
+        Err(JoinFault::OtherGrid) => Ok(false),
+    }
+}
+
+fn join<S: Shard>(alloc: Global, pair: &Pair<S>) -> Result<bool, OutOfMemory> {
+    is_join(alloc, pair.left.join(alloc, &pair.right))
+}
+
+fn join_owned<S: Shard>(alloc: Global, pair: &Pair<S>) -> Result<bool, OutOfMemory> {
+    let left = pair.left.copy(alloc)?;
+    let right = pair.right.copy(alloc)?;
+    is_join(alloc, left.join_owned(alloc, right))
+}
+
+fn text<S: Shard>(alloc: Global, pair: &Pair<S>) -> Result<bool, OutOfMemory> {
+    is_shard(alloc, &pair.right, SECOND)
+}
+
+fn into_text<S: Shard>(alloc: Global, pair: &Pair<S>) -> Result<bool, OutOfMemory> {
+    let text = pair.right.copy(alloc)?.into_text(alloc)?;
+    Ok(text.as_slice() == SECOND.as_bytes())
+}
+
+fn texts(alloc: Global) -> Result<Vec<Vec<u8>>, OutOfMemory> {
+    let mut texts = Vec::new(alloc);
+    texts.push(FIRST.as_bytes().to_vec(alloc)?)?;
+    texts.push(SECOND.as_bytes().to_vec(alloc)?)?;
+    Ok(texts)
+}
+
+/// What a merge answers; where it is refused, want of memory alone is told as such.
+fn merged<T: Drop>(made: Result<T, MergeFault>) -> Result<Option<T>, OutOfMemory> {
+    match made {
+        Ok(made) => Ok(Some(made)),
+        Err(MergeFault::OutOfMemory) => Err(OutOfMemory),
+        Err(_) => Ok(None),
+    }
+}
+
+fn merge_to_shard<S: Shard>(alloc: Global, pair: &Pair<S>) -> Result<bool, OutOfMemory> {
+    let made: Result<S, MergeFault> = merge_shards(alloc, texts(alloc)?, &pair.plan);
+    match merged(made)? {
+        Some(shard) => is_shard(alloc, &shard, SHARED_EDGE),
+        None => Ok(false),
+    }
+}
+
+fn merge_to_text<S: Shard>(alloc: Global, pair: &Pair<S>) -> Result<bool, OutOfMemory> {
+    let texts = texts(alloc)?;
+    match merged(merge_as::<S>(alloc, texts.as_slice(), &pair.plan))? {
+        Some(text) => Ok(text.as_slice() == SHARED_EDGE.as_bytes()),
+        None => Ok(false),
+    }
+}
+
+fn merge_to_topology(alloc: Global, pair: &Pair<Cut>) -> Result<bool, OutOfMemory> {
+    match merged(merge_topologies(alloc, texts(alloc)?, &pair.plan))? {
+        Some(topology) => Ok(is_of(&topology, SHARED_EDGE)),
+        None => Ok(false),
+    }
+}
+
+fn name_places(alloc: Global, _: &Pair<Cut>) -> Result<bool, OutOfMemory> {
+    let named = named_places(alloc, &Plan::Leaf(1), 3)?;
+    Ok(named.as_slice() == [false, true, false].as_slice())
+}
+
+/// Its answer is the same where memory is refused.
+fn find_leaf(alloc: Global, _: &Pair<Cut>) -> Result<bool, OutOfMemory> {
+    match Plan::left(alloc, 4)? {
+        Some(plan) => Ok(first_bad_leaf(alloc, &plan, 2) == Some(2)),
+        None => Ok(false),
+    }
+}
+
+fn settle_wholes(rt: &HostRuntime, tally: &mut Tally, pair: &Pair<Whole>) {
+    calls!(tally.attempt(rt, "whole shards", pair);
+        "Shard::from_map of Whole" => from_map::<Whole>,
+        "Shard::of_map of Whole" => of_map::<Whole>,
+        "Shard::of_text of Whole" => of_text::<Whole>,
+        "Shard::copy of Whole" => copy::<Whole>,
+        "Shard::join of Whole" => join::<Whole>,
+        "Shard::join_owned of Whole" => join_owned::<Whole>,
+        "Shard::text of Whole" => text::<Whole>,
+        "Shard::into_text of Whole" => into_text::<Whole>,
+        "merging::merge_shards of Whole" => merge_to_shard::<Whole>,
+        "merging::merge_as of Whole" => merge_to_text::<Whole>,
+    );
+}
+
+fn settle_cuts(rt: &HostRuntime, tally: &mut Tally, pair: &Pair<Cut>) {
+    calls!(tally.attempt(rt, "cut shards", pair);
+        "Shard::from_map of Cut" => from_map::<Cut>,
+        "Shard::of_map of Cut" => of_map::<Cut>,
+        "Shard::of_text of Cut" => of_text::<Cut>,
+        "Shard::copy of Cut" => copy::<Cut>,
+        "Shard::join of Cut" => join::<Cut>,
+        "Shard::join_owned of Cut" => join_owned::<Cut>,
+        "Shard::text of Cut" => text::<Cut>,
+        "Shard::into_text of Cut" => into_text::<Cut>,
+        "merging::merge_shards of Cut" => merge_to_shard::<Cut>,
+        "merging::merge_as of Cut" => merge_to_text::<Cut>,
+        "refine::merge_topologies" => merge_to_topology,
+        "plans::named_places" => name_places,
+        "plans::first_bad_leaf" => find_leaf,
+    );
+}
+
+/// Makes each call of shards.
+pub(crate) fn settle(rt: &HostRuntime, tally: &mut Tally) {
+    if let Some(pair) = tally.lent(rt, "whole shards", "the shards", Pair::<Whole>::of) {
+        settle_wholes(rt, tally, &pair);
+    }
+    if let Some(pair) = tally.lent(rt, "cut shards", "the shards", Pair::<Cut>::of) {
+        settle_cuts(rt, tally, &pair);
+    }
+}
