@@ -5,7 +5,7 @@
 
 No contract can say that a text is read along its tokens, which is the quick way, so this does: each text that topotool
 accepts in tests/rows and in examples/ has to be read so, by `text_readers tokens`, but for those of LEFT below. And so has
-each of FORMS, the members of which stand in every order.
+each of FORMS, the members of which stand in every order; those that the type of a GeoJSON root doesn't read stand behind it.
 
 Then random texts, GeoJSON and topologies in the forms of other tools, whole and hurt: what topotool prints of each has to be
 what `text_readers values` prints, which reads the same text by its value alone: the same status, output and error line. With
@@ -40,7 +40,6 @@ SURE_TEXTS = 200  # of so many some are accepted
 LEFT = {
     "a repeated member: the last one stays",
     "members twice",
-    "id and properties of a geometry at the root are foreign",
 }
 
 POINT = {"type": "Point", "coordinates": [1, 2]}
@@ -77,6 +76,12 @@ def feature(**members):
     return {"type": "Feature", "geometry": POINT, "properties": {}, **members}
 
 
+def behind_type(root, names, value):
+    """A root with its type first, and behind it its members and foreign ones, which all have this value, in some orders."""
+    rest = {name: it for name, it in root.items() if name != "type"}
+    return [{"type": root["type"], **it} for it in orders({**dict.fromkeys(names, value), **rest}, 6)]
+
+
 def geojson_forms():
     """GeoJSON values that are accepted on the grid of all whole numbers."""
     geometries = [{"type": kind, "coordinates": it} for kind, it in COORDINATES.items()]
@@ -91,6 +96,15 @@ def geojson_forms():
     yield from orders(feature(id=1, bbox=[0.5, 1]))
     yield from orders(collection(feature()) | {"name": "x", "bbox": [0.5]})
     yield from (collection(feature(geometry=it)) for kind in geometries[:6] for it in orders({**kind, "bbox": [1e5]}))
+    yield from foreign_forms()
+
+
+def foreign_forms():
+    """GeoJSON values with members at the root that other roots read."""
+    for it in OTHERS:
+        yield from behind_type(collection(feature()), ("id", "properties", "geometry", "coordinates"), it)
+        yield from behind_type(feature(id=1), ("features", "coordinates"), it)
+        yield from behind_type(POINT, ("id", "properties", "geometry", "features"), it)
 
 
 def topology(objects, arcs=ARCS, **members):

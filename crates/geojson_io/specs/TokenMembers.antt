@@ -18,6 +18,7 @@ use Rattle.geojson_io.specs.Features.{feature_of, element_of_features_faults, ro
 use Rattle.geojson_io.specs.Geometries.{geometry_faults, geometry_form}
 use Rattle.geojson_io.specs.TokenCoordinates.{nested_faults, CoordinatesMean}
 use Rattle.geojson_io.specs.declared.reader.Root.{Root}
+use Rattle.geojson_io.specs.declared.reader.Root.TheVariants as root
 use Rattle.geojson_io.specs.declared.token_reader.coordinates.Coordinates.{Coordinates}
 
 -- ---- a geometry
@@ -40,10 +41,21 @@ KnowsRootType (Some r) ms = root_type (object ms) ≡ Ok r
 abbrev pub KnowsShape : Transform → Option Shape → Members → Type 0
 KnowsShape g = KnowsMember (codes "geometry") (unless_null (geometry_faults g)) (λ d s. plain_form s ≡ geometry_form g d)
 
-abbrev pub KnowsFeature : Transform → Option Root → Option Shape → Option Id → Option Props → Members → Type 0
-KnowsFeature g r s i p ms = (KnowsRootType r ms × KnowsShape g s ms) × (KnowsId i ms × KnowsProps p ms)
+-- the members other than the type
+abbrev pub KnowsFeature : Transform → Option Shape → Option Id → Option Props → Members → Type 0
+KnowsFeature g s i p ms = KnowsShape g s ms × (KnowsId i ms × KnowsProps p ms)
 
 -- ---- a root
 
 abbrev pub KnowsFeatures : Transform → Option (Vec Feature Global) → Members → Type 0
 KnowsFeatures g = KnowsMember (codes "features") (list_faults (element_of_features_faults g)) (λ d fs. AllZip (λ e f. plain f ≡ feature_of g e) (elements d) fs.items)
+
+-- of the members that a root of this type reads; before the type is known, of those that some root reads
+abbrev pub KnowsRootParts : Transform → Option Root → Option (Vec Feature Global) → Option Shape → Option Id → Option Props → Option Coordinates → Members → Type 0
+KnowsRootParts g None fs s i p n ms = KnowsFeatures g fs ms × (KnowsFeature g s i p ms × KnowsCoordinates g n ms)
+KnowsRootParts g (Some root.Collection) fs s i p n ms = KnowsFeatures g fs ms
+KnowsRootParts g (Some root.Feature) fs s i p n ms = KnowsFeature g s i p ms
+KnowsRootParts g (Some (root.Geometry k)) fs s i p n ms = KnowsCoordinates g n ms
+
+abbrev pub KnowsRoot : Transform → Option Root → Option (Vec Feature Global) → Option Shape → Option Id → Option Props → Option Coordinates → Members → Type 0
+KnowsRoot g r fs s i p n ms = KnowsRootType r ms × KnowsRootParts g r fs s i p n ms

@@ -23,8 +23,8 @@ use token_parts::text::read_text;
 
 /// The features of a GeoJSON text that has no fault and that this reader takes.
 ///
-/// It does not take a text whose root has a member of another root's, as `features` beside the type
-/// `Point`, of a kind that this couldn't have.
+/// It does not take a text whose root has a member of another root's before its type, as `features`
+/// before the type `Point`, of a kind that this couldn't have, or two types that differ.
 ///
 /// # Errors
 /// `Unread` where it stops, which may be at a fault or not; `OutOfMemory`.

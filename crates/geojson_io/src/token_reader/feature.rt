@@ -1,6 +1,6 @@
 //! Features, whose members come in any order.
 ghost use Rattle.geojson_io.specs.Features.{feature_members, feature_of, element_of_features_faults};
-ghost use Rattle.geojson_io.specs.TokenMembers.{KnowsFeature};
+ghost use Rattle.geojson_io.specs.TokenMembers.{KnowsRootType, KnowsFeature};
 ghost use Rattle.grid.specs.Place.{Transform};
 ghost use Rattle.reading.specs.Plain.{plain};
 ghost use Rattle.serde_json.specs.Data.{Members, no_members, object};
@@ -24,19 +24,18 @@ use std::alloc::Global;
 use token_parts::info::props_or_empty;
 use token_parts::part::read_part;
 
-/// What is known of the members of a feature, or of a root that may be one.
+/// What is known of the members of a feature other than its type.
 #[derive(Drop)]
-pub struct FeatureMembers {
-    pub kind: Option<Root>,
+pub struct FeatureParts {
     pub shape: Option<Shape>,
     pub id: Option<Id>,
     pub props: Option<Props>,
 }
 
-impl TakeMember for FeatureMembers {
+impl TakeMember for FeatureParts {
     type On = Position;
 
-    ghost knows = { λ on m ms. KnowsFeature on.grid m.kind m.shape m.id m.props ms };
+    ghost knows = { λ on m ms. KnowsFeature on.grid m.shape m.id m.props ms };
 
     fn take<'a>(
         &mut self,
@@ -46,11 +45,6 @@ impl TakeMember for FeatureMembers {
         reader: &mut Reader<'a>,
         depth: usize,
     ) -> Result<(), Stop> {
-        if name == "type" {
-            let kind = take_root(reader)?;
-            self.kind = Some(kind);
-            return Ok(());
-        }
         if name == "geometry" {
             let shape = read_geometry(alloc, on, reader, depth)?;
             self.shape = Some(shape);
@@ -71,11 +65,10 @@ impl TakeMember for FeatureMembers {
 }
 
 /// Nothing is known yet.
-pub fn nothing_known() -> FeatureMembers
-    ensures { (g : Transform) → KnowsFeature g result.kind result.shape result.id result.props no_members }
+pub fn nothing_known() -> FeatureParts
+    ensures { (g : Transform) → KnowsFeature g result.shape result.id result.props no_members }
 {
-    FeatureMembers {
-        kind: None,
+    FeatureParts {
         shape: None,
         id: None,
         props: None,
@@ -83,20 +76,44 @@ pub fn nothing_known() -> FeatureMembers
 }
 
 /// The feature of members whose type is judged.
-pub fn feature_of_members(alloc: Global, members: FeatureMembers) -> Result<Feature, Stop>
-    requires { (ms : Members) × KnowsId members.id ms }
-    ensures { IfOk result (λ f. (g : Transform) (ms : Members) → KnowsFeature g members.kind members.shape members.id members.props ms → (feature_members g (object ms) ≡ []) × (plain f ≡ feature_of g (object ms))) }
+pub fn feature_of_parts(alloc: Global, parts: FeatureParts) -> Result<Feature, Stop>
+    requires { (ms : Members) × KnowsId parts.id ms }
+    ensures { IfOk result (λ f. (g : Transform) (ms : Members) → KnowsFeature g parts.shape parts.id parts.props ms → (feature_members g (object ms) ≡ []) × (plain f ≡ feature_of g (object ms))) }
 {
-    let FeatureMembers {
-        kind: _,
-        shape,
-        id,
-        props,
-    } = members;
+    let FeatureParts { shape, id, props } = parts;
     let props = props_or_empty(alloc, props)?;
     let shape = shape.unwrap_or(Shape::Null);
     let id = id.unwrap_or(Id::None);
     Ok(Feature { id, props, shape })
+}
+
+/// What is known of a feature's members.
+#[derive(Drop)]
+pub struct FeatureMembers {
+    pub kind: Option<Root>,
+    pub parts: FeatureParts,
+}
+
+impl TakeMember for FeatureMembers {
+    type On = Position;
+
+    ghost knows = { λ on m ms. KnowsRootType m.kind ms × KnowsFeature on.grid m.parts.shape m.parts.id m.parts.props ms };
+
+    fn take<'a>(
+        &mut self,
+        alloc: Global,
+        on: &Position,
+        name: &'a str,
+        reader: &mut Reader<'a>,
+        depth: usize,
+    ) -> Result<(), Stop> {
+        if name == "type" {
+            let kind = take_root(reader)?;
+            self.kind = Some(kind);
+            return Ok(());
+        }
+        self.parts.take(alloc, on, name, reader, depth)
+    }
 }
 
 impl FromTokens for FeatureElement {
@@ -112,10 +129,13 @@ impl FromTokens for FeatureElement {
         reader: &mut Reader<'a>,
         depth: usize,
     ) -> Result<Feature, Stop> {
-        let mut members = nothing_known();
+        let mut members = FeatureMembers {
+            kind: None,
+            parts: nothing_known(),
+        };
         read_object(alloc, &self.position, &mut members, reader, depth)?;
         match members.kind {
-            Some(Root::Feature) => feature_of_members(alloc, members),
+            Some(Root::Feature) => feature_of_parts(alloc, members.parts),
             _ => Err(Stop::Unread),
         }
     }

@@ -1,39 +1,38 @@
 //! Roots: a collection of features, a feature or a geometry, whose members come in any order.
 ghost use Rattle.geojson_io.specs.Features.{geojson_faults, features_of, bare};
 ghost use Rattle.geojson_io.specs.Geometries.{typed_geometry_faults, typed_form};
-ghost use Rattle.geojson_io.specs.TokenMembers.{KnowsFeature, KnowsCoordinates, KnowsFeatures};
+ghost use Rattle.geojson_io.specs.TokenMembers.{KnowsCoordinates, KnowsFeatures, KnowsRoot};
 ghost use Rattle.grid.specs.Place.{Transform};
 ghost use Rattle.reading.specs.Plain.{plain};
 ghost use Rattle.serde_json.specs.Data.{Members, object};
 ghost use Rattle.std.specs.Prelude.{◌≡◌, [], map, IfOk};
-ghost use Rattle.token_parts.specs.Members.{KnowsId};
 
 use crate::reader::feature::FeatureElement;
 use crate::reader::position::Position;
 use crate::reader::{Root, bare_feature};
 use crate::token_reader::coordinates::{Coordinates, read_coordinates};
-use crate::token_reader::feature::{FeatureMembers, feature_of_members, nothing_known};
+use crate::token_reader::feature::{FeatureParts, feature_of_parts, nothing_known};
+use crate::token_reader::kind::take_root;
 use crate::token_reader::shape::shape_of;
 use json::Reader;
 use json_tokens::from_tokens::{FromTokens, Stop};
 use json_tokens::object::{TakeMember, read_object};
+use json_tokens::skip::skip_value;
 use reading::geometry::GeometryType;
 use shapes::feature::Feature;
 use std::alloc::Global;
 use token_parts::list::{read_list, single};
 
-/// What is known of a root's members.
+/// What is known of the members of a collection other than its type.
 #[derive(Drop)]
-pub struct RootMembers {
-    pub feature: FeatureMembers,
+pub struct CollectionParts {
     pub features: Option<Vec<Feature>>,
-    pub coordinates: Option<Coordinates>,
 }
 
-impl TakeMember for RootMembers {
+impl TakeMember for CollectionParts {
     type On = Position;
 
-    ghost knows = { λ on m ms. KnowsFeature on.grid m.feature.kind m.feature.shape m.feature.id m.feature.props ms × (KnowsFeatures on.grid m.features ms × KnowsCoordinates on.grid m.coordinates ms) };
+    ghost knows = { λ on m ms. KnowsFeatures on.grid m.features ms };
 
     fn take<'a>(
         &mut self,
@@ -48,12 +47,78 @@ impl TakeMember for RootMembers {
             self.features = Some(features);
             return Ok(());
         }
+        skip_value(reader, depth)
+    }
+}
+
+/// What is known of the members of a geometry other than its type.
+#[derive(Drop)]
+pub struct GeometryParts {
+    pub coordinates: Option<Coordinates>,
+}
+
+impl TakeMember for GeometryParts {
+    type On = Position;
+
+    ghost knows = { λ on m ms. KnowsCoordinates on.grid m.coordinates ms };
+
+    fn take<'a>(
+        &mut self,
+        alloc: Global,
+        on: &Position,
+        name: &'a str,
+        reader: &mut Reader<'a>,
+        depth: usize,
+    ) -> Result<(), Stop> {
         if name == "coordinates" {
             let coordinates = read_coordinates(alloc, on, reader, depth)?;
             self.coordinates = Some(coordinates);
             return Ok(());
         }
-        self.feature.take(alloc, on, name, reader, depth)
+        skip_value(reader, depth)
+    }
+}
+
+/// What is known of a root's members: those that its type reads, or before the type is known those
+/// that any type reads.
+#[derive(Drop)]
+pub struct RootMembers {
+    pub kind: Option<Root>,
+    pub collection: CollectionParts,
+    pub feature: FeatureParts,
+    pub geometry: GeometryParts,
+}
+
+impl TakeMember for RootMembers {
+    type On = Position;
+
+    ghost knows = { λ on m ms. KnowsRoot on.grid m.kind m.collection.features m.feature.shape m.feature.id m.feature.props m.geometry.coordinates ms };
+
+    fn take<'a>(
+        &mut self,
+        alloc: Global,
+        on: &Position,
+        name: &'a str,
+        reader: &mut Reader<'a>,
+        depth: usize,
+    ) -> Result<(), Stop> {
+        if name == "type" {
+            let kind = take_root(reader)?;
+            // Members that another type reads may have been skipped.
+            if self.kind.unwrap_or(kind) != kind {
+                return Err(Stop::Unread);
+            }
+            self.kind = Some(kind);
+            return Ok(());
+        }
+        match self.kind {
+            Some(Root::Collection) => self.collection.take(alloc, on, name, reader, depth),
+            Some(Root::Feature) => self.feature.take(alloc, on, name, reader, depth),
+            Some(Root::Geometry(_)) => self.geometry.take(alloc, on, name, reader, depth),
+            None if name == "features" => self.collection.take(alloc, on, name, reader, depth),
+            None if name == "coordinates" => self.geometry.take(alloc, on, name, reader, depth),
+            None => self.feature.take(alloc, on, name, reader, depth),
+        }
     }
 }
 
@@ -73,21 +138,22 @@ fn feature_of_geometry(
 }
 
 fn features_of_members(alloc: Global, members: RootMembers) -> Result<Vec<Feature>, Stop>
-    requires { (ms : Members) × KnowsId members.feature.id ms }
-    ensures { IfOk result (λ fs. (g : Transform) (ms : Members) → KnowsFeature g members.feature.kind members.feature.shape members.feature.id members.feature.props ms → KnowsFeatures g members.features ms → KnowsCoordinates g members.coordinates ms → (geojson_faults g (object ms) ≡ []) × (map plain fs.items ≡ features_of g (object ms))) }
+    requires { (g : Transform) × (ms : Members) × KnowsRoot g members.kind members.collection.features members.feature.shape members.feature.id members.feature.props members.geometry.coordinates ms }
+    ensures { IfOk result (λ fs. (g : Transform) (ms : Members) → KnowsRoot g members.kind members.collection.features members.feature.shape members.feature.id members.feature.props members.geometry.coordinates ms → (geojson_faults g (object ms) ≡ []) × (map plain fs.items ≡ features_of g (object ms))) }
 {
     let RootMembers {
+        kind,
+        collection: CollectionParts { features },
         feature,
-        features,
-        coordinates,
+        geometry: GeometryParts { coordinates },
     } = members;
-    match feature.kind {
+    match kind {
         Some(Root::Collection) => match features {
             Some(features) => Ok(features),
             None => Err(Stop::Unread),
         },
         Some(Root::Feature) => {
-            let feature = feature_of_members(alloc, feature)?;
+            let feature = feature_of_parts(alloc, feature)?;
             single(alloc, feature)
         }
         Some(Root::Geometry(kind)) => match coordinates {
@@ -121,9 +187,10 @@ impl FromTokens for RootFeatures {
         depth: usize,
     ) -> Result<Vec<Feature>, Stop> {
         let mut members = RootMembers {
+            kind: None,
+            collection: CollectionParts { features: None },
             feature: nothing_known(),
-            features: None,
-            coordinates: None,
+            geometry: GeometryParts { coordinates: None },
         };
         read_object(alloc, &self.position, &mut members, reader, depth)?;
         features_of_members(alloc, members)

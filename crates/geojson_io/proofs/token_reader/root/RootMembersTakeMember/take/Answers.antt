@@ -1,61 +1,100 @@
-use Rattle.std.proofs.Common.{◌≡◌, ℕ, List, false, bytes_eq, codes, refl}
+use Rattle.std.proofs.Common.{◌≡◌, Some, codes, arith, sym, ◌∙◌}
+use Rattle.std.specs.Prelude.{unwrap_or}
 use Rattle.std.proofs.lemmas.Result.{on_ok_weaker}
-use Rattle.json_tokens.proofs.Reading.{gives_shorter}
-use Rattle.token_parts.proofs.Members.{same_name, other_name, apart}
-use Rattle.geojson_io.proofs.TokenMembers.{with_other, with_features, with_coordinates, features_kept, coordinates_kept}
+use Rattle.serde_json.specs.Data.{string}
+use Rattle.token_parts.proofs.Members.{same_name, other_name}
+use Rattle.geojson_io.specs.declared.reader.Root.TheVariants as root
+use Rattle.geojson_io.proofs.TokenMembers.{same_root, with_type, collection_goes_on, feature_goes_on, geometry_goes_on, features_first, coordinates_first, feature_first}
 use Rattle.geojson_io.proofs.token_reader.root.RootMembersTakeMember.take.Goals as goal
 
 pub returns-then-eq-clause-read : goal.returns-then-eq-clause-read
 returns-then-eq-clause-read c =
-    let g = c.args.on.now.grid in
     let m = c.args.self.now in
     let f = m.feature in
     let name = c.args.name.now in
-    let r = c.in_ok-features.ensures.read in
-    let same = same_name name (codes "features") c.if-eq.ensures in
-    let other : (word : List ℕ) → bytes_eq (codes "features") word ≡ false → word ≡ name → ⊥ = λ word differ. apart (codes "features") word name differ same in (
-      r.from,
-      r.given,
-      λ ms known. (
-        with_other g f.kind f.shape f.id f.props name r.from ms (other (codes "type") refl) (other (codes "geometry") refl) (other (codes "id") refl) (other (codes "properties") refl) known.0,
-        with_features g m.features m.coordinates name r.from ms c.in_ok-features.features same r.faultless r.meant known.1.1,
-      ),
-    )
+    let kind = c.in_ok-kind.kind in
+    let read = c.in_ok-kind.ensures.read in
+    let same = same_name name (codes "type") c.if-eq.ensures in
+    let agree : unwrap_or m.kind kind ≡ kind = sym c.unwrap_or.ensures ∙ same_root c.unwrap_or.result kind c.if-ne.ensures in
+    (string read.0, read.1 c.args.depth, λ ms known. with_type c.args.on.now.grid m.kind kind m.collection.features f.shape f.id f.props m.geometry.coordinates name read.0 ms agree same read.2 known)
 
-pub returns-then-eq-2-clause-read : goal.returns-then-eq-2-clause-read
-returns-then-eq-2-clause-read c =
-    let g = c.args.on.now.grid in
+pub returns-in-Some-Collection-clause-read : goal.returns-in-Some-Collection-clause-read
+returns-in-Some-Collection-clause-read c =
     let m = c.args.self.now in
     let f = m.feature in
     let name = c.args.name.now in
-    let r = c.in_ok-coordinates.ensures.read in
-    let same = same_name name (codes "coordinates") c.if-eq-2.ensures in
-    let other : (word : List ℕ) → bytes_eq (codes "coordinates") word ≡ false → word ≡ name → ⊥ = λ word differ. apart (codes "coordinates") word name differ same in (
-      r.from,
-      r.given,
-      λ ms known. (
-        with_other g f.kind f.shape f.id f.props name r.from ms (other (codes "type") refl) (other (codes "geometry") refl) (other (codes "id") refl) (other (codes "properties") refl) known.0,
-        with_coordinates g m.features m.coordinates name r.from ms c.in_ok-coordinates.coordinates same r.faultless r.meant known.1.0,
-      ),
-    )
-
-pub returns-then-eq-2-clause-shorter : goal.returns-then-eq-2-clause-shorter
-returns-then-eq-2-clause-shorter c =
-    let r = c.in_ok-coordinates.ensures.read in
-    gives_shorter c.args.depth c.args.reader.now c.read_coordinates.new.reader r.from r.given
-
-pub returns-clause-read : goal.returns-clause-read
-returns-clause-read c =
-    let g = c.args.on.now.grid in
-    let m = c.args.self.now in
-    let name = c.args.name.now in
-    let first = other_name name (codes "features") c.if-eq.ensures in
-    let second = other_name name (codes "coordinates") c.if-eq-2.ensures in
+    let other = other_name name (codes "type") c.if-eq.ensures in
+    let kind : m.kind ≡ Some root.Collection = grind arith in
     on_ok_weaker c.take.result (λ read. (
       read.0,
       read.1,
-      λ ms known. (
-        read.2 ms known.0,
-        (features_kept g m.features m.coordinates name read.0 ms first known.1.0, coordinates_kept g m.coordinates name read.0 ms second known.1.1),
-      ),
+      λ ms. collection_goes_on c.args.on.now.grid m.kind m.collection.features f.shape f.id f.props m.geometry.coordinates name read.0 ms other c.take.new.self.features kind (read.2 ms),
     )) c.take.ensures.read
+
+pub returns-in-Some-Feature-clause-read : goal.returns-in-Some-Feature-clause-read
+returns-in-Some-Feature-clause-read c =
+    let m = c.args.self.now in
+    let f = m.feature in
+    let name = c.args.name.now in
+    let new = c.take-in-Some-Feature.new.self in
+    let other = other_name name (codes "type") c.if-eq.ensures in
+    let kind : m.kind ≡ Some root.Feature = grind arith in
+    on_ok_weaker c.take-in-Some-Feature.result (λ read. (
+      read.0,
+      read.1,
+      λ ms. feature_goes_on c.args.on.now.grid m.kind m.collection.features f.shape f.id f.props m.geometry.coordinates name read.0 ms other new.shape new.id new.props kind (read.2 ms),
+    )) c.take-in-Some-Feature.ensures.read
+
+pub returns-in-Some-Geometry-clause-read : goal.returns-in-Some-Geometry-clause-read
+returns-in-Some-Geometry-clause-read c =
+    let m = c.args.self.now in
+    let f = m.feature in
+    let name = c.args.name.now in
+    let other = other_name name (codes "type") c.if-eq.ensures in
+    let kind : m.kind ≡ Some (root.Geometry c.in-Some-Geometry.field-0-0) = grind arith in
+    on_ok_weaker c.take-in-Some-Geometry.result (λ read. (
+      read.0,
+      read.1,
+      λ ms. geometry_goes_on c.args.on.now.grid m.kind m.collection.features f.shape f.id f.props m.geometry.coordinates name read.0 ms other c.in-Some-Geometry.field-0-0 c.take-in-Some-Geometry.new.self.coordinates kind (read.2 ms),
+    )) c.take-in-Some-Geometry.ensures.read
+
+pub returns-in-None-clause-read : goal.returns-in-None-clause-read
+returns-in-None-clause-read c =
+    let m = c.args.self.now in
+    let f = m.feature in
+    let name = c.args.name.now in
+    let other = other_name name (codes "type") c.if-eq.ensures in
+    let same = same_name name (codes "features") c.if-eq-2.ensures in
+    on_ok_weaker c.take-in-None.result (λ read. (
+      read.0,
+      read.1,
+      λ ms. features_first c.args.on.now.grid m.kind m.collection.features f.shape f.id f.props m.geometry.coordinates name read.0 ms other c.take-in-None.new.self.features c.in-None.is same (read.2 ms),
+    )) c.take-in-None.ensures.read
+
+pub returns-in-None-2-clause-read : goal.returns-in-None-2-clause-read
+returns-in-None-2-clause-read c =
+    let m = c.args.self.now in
+    let f = m.feature in
+    let name = c.args.name.now in
+    let other = other_name name (codes "type") c.if-eq.ensures in
+    let same = same_name name (codes "coordinates") c.if-eq-3.ensures in
+    on_ok_weaker c.take-in-None-2.result (λ read. (
+      read.0,
+      read.1,
+      λ ms. coordinates_first c.args.on.now.grid m.kind m.collection.features f.shape f.id f.props m.geometry.coordinates name read.0 ms other c.take-in-None-2.new.self.coordinates c.in-None-2.is same (read.2 ms),
+    )) c.take-in-None-2.ensures.read
+
+pub returns-in-None-3-clause-read : goal.returns-in-None-3-clause-read
+returns-in-None-3-clause-read c =
+    let m = c.args.self.now in
+    let f = m.feature in
+    let name = c.args.name.now in
+    let new = c.take-in-None-3.new.self in
+    let other = other_name name (codes "type") c.if-eq.ensures in
+    let first = other_name name (codes "features") c.if-eq-2.ensures in
+    let second = other_name name (codes "coordinates") c.if-eq-3.ensures in
+    on_ok_weaker c.take-in-None-3.result (λ read. (
+      read.0,
+      read.1,
+      λ ms. feature_first c.args.on.now.grid m.kind m.collection.features f.shape f.id f.props m.geometry.coordinates name read.0 ms other new.shape new.id new.props c.in-None-3.is first second (read.2 ms),
+    )) c.take-in-None-3.ensures.read

@@ -1,0 +1,51 @@
+use Rattle.std.proofs.Common.{codes}
+use Rattle.std.proofs.lemmas.Result.{on_ok_weaker}
+use Rattle.json_tokens.proofs.Reading.{gives_shorter}
+use Rattle.geojson_io.proofs.TokenMembers.{with_shape, with_id, with_props, feature_kept}
+use Rattle.token_parts.proofs.Members.{same_name, other_name}
+use Rattle.geojson_io.proofs.token_reader.feature.FeaturePartsTakeMember.take.Goals as goal
+
+pub returns-then-eq-clause-read : goal.returns-then-eq-clause-read
+returns-then-eq-clause-read c =
+    let m = c.args.self.now in
+    let r = c.in_ok-shape.ensures in
+    let same = same_name c.args.name.now (codes "geometry") c.if-eq.ensures in
+    (r.from, r.given, λ ms known. with_shape c.args.on.now.grid m.shape m.id m.props c.args.name.now r.from ms c.in_ok-shape.shape same r.faultless r.meant known)
+
+pub returns-then-eq-clause-shorter : goal.returns-then-eq-clause-shorter
+returns-then-eq-clause-shorter c =
+    let r = c.in_ok-shape.ensures in
+    gives_shorter c.args.depth c.args.reader.now c.read_geometry.new.reader r.from r.given
+
+pub returns-then-eq-2-clause-read : goal.returns-then-eq-2-clause-read
+returns-then-eq-2-clause-read c =
+    let m = c.args.self.now in
+    let r = c.in_ok-id.ensures in
+    let same = same_name c.args.name.now (codes "id") c.if-eq-2.ensures in
+    (r.from, r.given, λ ms known. with_id c.args.on.now.grid m.shape m.id m.props c.args.name.now r.from ms c.in_ok-id.id same r.faultless r.meant known)
+
+pub returns-then-eq-2-clause-shorter : goal.returns-then-eq-2-clause-shorter
+returns-then-eq-2-clause-shorter c =
+    let r = c.in_ok-id.ensures in
+    gives_shorter c.args.depth c.args.reader.now c.read_part.new.reader r.from r.given
+
+pub returns-then-eq-3-clause-read : goal.returns-then-eq-3-clause-read
+returns-then-eq-3-clause-read c =
+    let m = c.args.self.now in
+    let r = c.in_ok-props.ensures in
+    let same = same_name c.args.name.now (codes "properties") c.if-eq-3.ensures in
+    (r.from, r.given, λ ms known. with_props c.args.on.now.grid m.shape m.id m.props c.args.name.now r.from ms c.in_ok-props.props same r.faultless r.meant known)
+
+pub returns-then-eq-3-clause-shorter : goal.returns-then-eq-3-clause-shorter
+returns-then-eq-3-clause-shorter c =
+    let r = c.in_ok-props.ensures in
+    gives_shorter c.args.depth c.args.reader.now c.read_part-then-eq-3.new.reader r.from r.given
+
+pub returns-clause-read : goal.returns-clause-read
+returns-clause-read c =
+    let m = c.args.self.now in
+    let name = c.args.name.now in
+    let first = other_name name (codes "geometry") c.if-eq.ensures in
+    let second = other_name name (codes "id") c.if-eq-2.ensures in
+    let third = other_name name (codes "properties") c.if-eq-3.ensures in
+    on_ok_weaker c.skip_value.result (λ read. (read.0, read.1, λ ms known. feature_kept c.args.on.now.grid m.shape m.id m.props name read.0 ms first second third known)) c.skip_value.ensures.read

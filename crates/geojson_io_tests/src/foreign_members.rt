@@ -1,0 +1,129 @@
+//! Members of the root that its type doesn't read, and that stand behind the type: their values mean nothing.
+use geojson_io::read;
+use geojson_io::token_reader::read_features;
+use grid::{Grid, Pos};
+use json_tokens::from_tokens::Stop;
+use shapes::{Feature, Id, Shape};
+use std::alloc::Global;
+use std::test::Fail;
+use test_values::rows;
+
+/// What a root reads of its type, by which the texts below mean one feature.
+const COLLECTION: &str =
+    r#""features":[{"type":"Feature","id":7,"properties":{"a":1},"geometry":{"type":"Point","coordinates":[1,2]}}]"#;
+
+const FEATURE: &str =
+    r#""id":7,"properties":{"a":1},"geometry":{"type":"Point","coordinates":[1,2]}"#;
+
+const POINT: &str = r#""coordinates":[1,2]"#;
+
+/// Types of the root, and foreign members with values that would be faulty where they are read.
+const FOREIGN: &[(&str, &str)] = rows! {
+    "FeatureCollection", r#""properties":{"scale":1.5}"#;
+    "FeatureCollection", r#""properties":[1]"#;
+    "FeatureCollection", r#""id":{}"#;
+    "FeatureCollection", r#""id":0.5"#;
+    "FeatureCollection", r#""geometry":{"type":"Circle"}"#;
+    "FeatureCollection", r#""coordinates":"none""#;
+    "FeatureCollection", r#""coordinates":[[1],[[2]]]"#;
+    "Feature", r#""features":5"#;
+    "Feature", r#""features":[{"type":"Point","coordinates":[0,0]}]"#;
+    "Feature", r#""coordinates":[0.5,0]"#;
+    "Point", r#""properties":{"a":1.5}"#;
+    "Point", r#""id":true"#;
+    "Point", r#""geometry":[]"#;
+    "Point", r#""features":5"#;
+};
+
+/// The members that a root of this type reads, and whether its feature has an id and properties.
+fn rest_of(kind: &str) -> (&'static str, bool) {
+    match kind {
+        "FeatureCollection" => (COLLECTION, true),
+        "Feature" => (FEATURE, true),
+        _ => (POINT, false),
+    }
+}
+
+/// Whether the features are the one of the texts above, with its id and properties or without them.
+fn is_wanted(features: &[Feature], has_info: bool) -> bool {
+    let [feature] = features else {
+        return false;
+    };
+    let info = if has_info {
+        feature.id == Id::Number(7) && feature.props.text() == "{\"a\":1}"
+    } else {
+        feature.id == Id::None && feature.props.text() == "{}"
+    };
+    let position = Pos::new(1, 2);
+    match &feature.shape {
+        Shape::Point(at) => info && Some(*at) == position,
+        _ => false,
+    }
+}
+
+fn grid() -> Result<Grid, Fail> {
+    Ok(Grid::new(1, 1, 0, 0).ok_or("no grid")?)
+}
+
+/// Whether the text is read along its tokens, as the wanted feature.
+fn is_taken(alloc: Global, text: &str, has_info: bool) -> Result<bool, Fail> {
+    match read_features(alloc, text.as_bytes(), &grid()?) {
+        Ok(features) => Ok(is_wanted(features.as_slice(), has_info)),
+        Err(_) => Ok(false),
+    }
+}
+
+#[test]
+fn foreign_members_are_passed_over(rt: HostRuntime) -> Result<(), Fail> {
+    for (kind, foreign) in FOREIGN {
+        let (rest, has_info) = rest_of(*kind);
+        let before = format!(in rt.alloc(); "{{\"type\":\"{kind}\",{foreign},{rest}}}")?;
+        let behind = format!(in rt.alloc(); "{{\"type\":\"{kind}\",{rest},{foreign}}}")?;
+        assert!(rt;
+            is_taken(rt.alloc(), before.as_str(), has_info)?,
+            "{before}"
+        );
+        assert!(rt;
+            is_taken(rt.alloc(), behind.as_str(), has_info)?,
+            "{behind}"
+        );
+    }
+    Ok(())
+}
+
+/// Texts of which the last type counts, or a foreign member comes before the type.
+const LEFT: &[(&str, bool)] = rows! {
+    r#"{"type":"Point","features":5,"type":"FeatureCollection","features":[{"type":"Feature","id":7,"properties":{"a":1},"geometry":{"type":"Point","coordinates":[1,2]}}]}"#, true;
+    r#"{"type":"FeatureCollection","id":7,"properties":{"a":1},"geometry":{"type":"Point","coordinates":[1,2]},"type":"Feature"}"#, true;
+    r#"{"type":"FeatureCollection","features":[],"coordinates":[1,2],"type":"Point"}"#, false;
+    r#"{"type":"Feature","coordinates":[1,2],"id":0.5,"type":"Point"}"#, false;
+    r#"{"properties":{"a":1.5},"type":"Point","coordinates":[1,2]}"#, false;
+};
+
+/// The features of the text, in a list.
+fn features_read(alloc: Global, text: &str) -> Result<Vec<Feature>, Fail> {
+    let mut left = read(alloc, text.as_bytes(), &grid()?)?;
+    let mut features = Vec::new(alloc);
+    while let Some(feature) = left.pop_first() {
+        features.push(feature)?;
+    }
+    Ok(features)
+}
+
+#[test]
+fn texts_left_to_the_value(rt: HostRuntime) -> Result<(), Fail> {
+    for (text, has_info) in LEFT {
+        let stopped = read_features(rt.alloc(), text.as_bytes(), &grid()?).err();
+        assert!(rt; stopped == Some(Stop::Unread), "{text}");
+        let features = features_read(rt.alloc(), *text)?;
+        assert!(rt; is_wanted(features.as_slice(), *has_info), "{text}");
+    }
+    Ok(())
+}
+
+#[test]
+fn the_same_type_twice(rt: HostRuntime) -> Result<(), Fail> {
+    let text = r#"{"type":"Point","id":{},"type":"Point","coordinates":[1,2]}"#;
+    assert!(rt; is_taken(rt.alloc(), text, false)?);
+    Ok(())
+}
