@@ -6,6 +6,7 @@ pub mod Meetings
 pub mod Pairing
 pub mod Partners
 pub mod Stitches
+pub mod LeastVertex
 pub mod RunsAre
 pub mod Placed
 pub mod Rejoins

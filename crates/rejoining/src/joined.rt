@@ -1,9 +1,7 @@
 //! What runs are joined to: for each run a new arc, and its old ones in order along it.
-ghost use Rattle.lines.specs.Turned.{position_cmp};
 ghost use Rattle.rejoining.specs.Joined as spec;
 ghost use Rattle.rejoining.specs.Joined.{chain_by, from_least, least_vertex, list_by, list_of_run, piece_by, piece_of_run, positions_along, put_all, run_along};
 ghost use Rattle.rejoining.specs.Meeting.{partner_in};
-ghost use Rattle.std.specs.Ordering.{is_lt};
 ghost use Rattle.std.specs.Prelude.{◌≡◌, ◌++◌, ◌∷◌, [], IfOk, OnOk, map as map_list, replicate, slice_set};
 
 use crate::arc_run::ArcRun;
@@ -11,6 +9,7 @@ use crate::meeting::Meeting;
 use chains::cutting::Piece;
 use chains::table::{ArcRef, ArcTable};
 use grid::pos::Pos;
+use itertools::Itertools;
 use std::alloc::{AllocError, Global};
 
 /// The new arcs of runs as pieces, and the old arcs of each.
@@ -49,28 +48,11 @@ fn chain_of(alloc: Global, arcs: &ArcTable, run: &[ArcRef]) -> Result<Vec<Pos>, 
     Ok(chain)
 }
 
-fn comes_before(a: &Pos, b: &Pos) -> bool
-    ensures { result ≡ is_lt (position_cmp a.now b.now) }
-{
-    a < b
-}
-
 /// The place of the least vertex of a ring.
 fn place_of_least(ring: &[Pos]) -> usize
     ensures { result ≡ least_vertex ring.now }
 {
-    let Some((first, others)) = ring.split_first() else {
-        return 0;
-    };
-    let mut place = 0;
-    let mut least = *first;
-    for (i, vertex) in others.iter().enumerate() {
-        if comes_before(vertex, &least) {
-            place = i + 1;
-            least = *vertex;
-        }
-    }
-    place
+    ring.iter().position_min().unwrap_or(0)
 }
 
 /// A closed chain, read from its least vertex.
