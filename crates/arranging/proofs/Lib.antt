@@ -4,6 +4,7 @@ pub mod Kept
 pub mod Along
 pub mod Ordered
 pub mod Coded
+pub mod LeastVertex
 pub mod SortedEnds
 pub mod Unused
 pub mod BeyondOrder

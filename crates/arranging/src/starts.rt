@@ -8,6 +8,7 @@ ghost use Rattle.theory.specs.Refinement.{unclosed};
 use chains::Piece;
 use faults::OutOfMemory;
 use grid::pos::Pos;
+use itertools::Itertools;
 use lines::items::Items;
 use std::alloc::{AllocError, Global};
 
@@ -15,18 +16,7 @@ use std::alloc::{AllocError, Global};
 fn place_of_least(vertices: &[Pos]) -> usize
     ensures { result ≡ spec.least_place vertices.now }
 {
-    let Some((first, others)) = vertices.split_first() else {
-        return 0;
-    };
-    let mut place = 0;
-    let mut least = *first;
-    for (i, vertex) in others.iter().enumerate() {
-        if *vertex < least {
-            place = i + 1;
-            least = *vertex;
-        }
-    }
-    place
+    vertices.iter().position_min().unwrap_or(0)
 }
 
 /// The place at which an arc has to begin: a free loop at its least vertex, any other where it does.
