@@ -27,7 +27,7 @@ use std::alloc::{AllocError, Global};
 use std::marker::Model;
 
 /// An arc by its number, and whether it is used against its direction.
-#[derive(Clone, Copy, PartialEq, Eq, Debug)]
+#[derive(Clone, Copy, PartialEq, Eq, PartialOrd, Ord, Debug)]
 pub struct ArcRef {
     pub arc: usize,
     pub reversed: bool,

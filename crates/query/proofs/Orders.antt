@@ -1,11 +1,21 @@
--- The orders of uses and of pairs.
-use Rattle.std.proofs.Common.{◌≡◌, ◌<◌, ◌≤◌, ℕ, rules, arith}
+-- The orders of uses, of pairs and of geometries.
+use Rattle.std.proofs.Common.{◌≡◌, ◌<◌, ◌≤◌, ℕ, List, [], ap, ◌∙◌, rules, arith}
+use Rattle.std.specs.Borrow.{Bor}
 use Rattle.std.specs.Cmp.{IsTotalOrder, then_total, on_total, nat_cmp_total, ranks}
 use Rattle.std.specs.FinMap.{IsAntisymmetric, nat_cmp-IsAntisymmetric}
-use Rattle.std.specs.Ordering.{eq_by_cmp, nat_cmp, ordering_then, MatchOrdering}
+use Rattle.std.specs.List.Retain.{IsFiltered, DiffersFromLast}
+use Rattle.std.specs.List.Sorted.{IsPermutation, IsSorted}
+use Rattle.std.specs.Ordering.{eq_by_cmp, is_eq, nat_cmp, ordering_then, MatchOrdering}
 use Rattle.std.specs.declared.cmp.Ordering.{Ordering}
 use Rattle.std.specs.declared.cmp.Ordering.TheVariants.{Less, Equal, Greater}
 use Rattle.lines.specs.Positions.{then_equal}
+use Rattle.theory.proofs.Ascending.{get_once, less_self}
+use Rattle.topo.specs.contracts.geom.GeomOrd.TheImpl as geometry_order
+use Rattle.topo.specs.contracts.geom.GeomOrd.TheImpl.Laws.{total-law, matches_eq-law}
+use Rattle.topo.specs.contracts.geom.GeomPartialEq.TheImpl as geometry_eq
+use Rattle.topo.specs.declared.geom.Geom.{Geom}
+use Rattle.topo.proofs.SameGeometries.{geometry_same}
+use Rattle.query.specs.EachOnce.{AreEachOnce, lent}
 use Rattle.query.specs.declared.uses.Use.{Use}
 use Rattle.query.specs.declared.questions.neighbors.Pair.{Pair}
 use Rattle.query.specs.contracts.uses.UsePartialEq.TheImpl as use_eq
@@ -13,6 +23,7 @@ use Rattle.query.specs.contracts.questions.neighbors.PairPartialEq.TheImpl as pa
 use Rattle.query.specs.Uses.{use_cmp}
 use Rattle.query.specs.Pairs.{pair_cmp}
 use Rattle.query.specs.Spans.{span_cmp}
+use Rattle.query.proofs.SortedOnce.{sorted_once_by}
 
 pub use_total : IsTotalOrder use_cmp
 use_total = then_total (on_total (λ (u : Use). u.arc) nat_cmp_total) (on_total (λ (u : Use). u.place) nat_cmp_total)
@@ -72,3 +83,17 @@ places_rise u v f e = second_less u.arc v.arc u.place v.place f e
 -- the other places rise along the pairs of one place
 pub others_rise : (p q : Pair) → p.place ≡ q.place → pair_cmp p q ≡ Less → p.other < q.other
 others_rise p q f e = second_less p.place q.place p.other q.other f e
+
+geometry_order_same : IsAntisymmetric geometry_order.cmp-value.it
+geometry_order_same g h e = geometry_same g h (matches_eq-law g h ∙ ap is_eq e)
+
+-- what sorting by the derived order leaves of geometries, once of equal neighbours one is kept
+pub each_once : (xs ys zs : List (Bor Geom)) → IsPermutation xs ys → IsSorted (λ g h. geometry_order.cmp-value.it g.now h.now) ys →
+    IsFiltered (DiffersFromLast (λ g h. geometry_eq.eq-value.it g.now h.now)) [] ys zs → AreEachOnce (lent xs) (lent zs)
+each_once xs ys zs p s f =
+    let d = sorted_once_by (λ (g : Bor Geom). g.now) geometry_order.cmp-value.it total-law geometry_order_same geometry_eq.eq-value.it matches_eq-law xs ys zs p s f in
+    record {
+      once = λ i j g a b. get_once geometry_order.cmp-value.it (less_self geometry_order.cmp-value.it total-law geometry_order_same) (lent zs) i j g d.ascends a b;
+      there = d.there;
+      only = d.only;
+    }

@@ -1,6 +1,7 @@
 -- What sorting leaves, once of equal neighbours one is kept.
 use Rattle.std.proofs.Common.{◌≡◌, Bool, true, false, cond, List, [], ◌∷◌, inl, inr, refl, sym, ap, ◌∙◌, subst}
-use Rattle.std.specs.Cmp.{IsTotalOrder, tied_itself}
+use Rattle.std.specs.Prelude.{map as map_list}
+use Rattle.std.specs.Cmp.{IsTotalOrder, on_total, tied_itself}
 use Rattle.std.specs.FinMap.{IsAntisymmetric}
 use Rattle.std.specs.List.{dedup, dedup_from}
 use Rattle.std.specs.List.Retain.{IsFiltered, DiffersFromLast}
@@ -9,11 +10,12 @@ use Rattle.std.specs.Ordering.{eq_by_cmp, is_eq, is_gt}
 use Rattle.std.specs.declared.cmp.Ordering.{Ordering}
 use Rattle.std.specs.declared.cmp.Ordering.TheVariants.{Less}
 use Rattle.std.proofs.lemmas.List.Filters.{dedup_is}
-use Rattle.std.proofs.lemmas.List.Sorted.{IsPermutation-sym}
+use Rattle.std.proofs.lemmas.List.Sorted.{IsPermutation-map, IsPermutation-sym}
 use Rattle.lines.proofs.SortedLists.{Has-permutation, Up, tied_same, up_from_sorted}
 use Rattle.theory.specs.Arcs.{Ascends, AreSortedOnce}
 use Rattle.theory.specs.Lists.{Has}
 use Rattle.theory.proofs.Ascending.{at_most_less, at_most_same}
+use Rattle.theory.proofs.ListsOfLists.{map_has}
 
 module _ {X : Type 0} (R : X → X → Ordering) (o : IsTotalOrder R) (same : IsAntisymmetric R)
     (E : X → X → Bool) (ties : (x y : X) → E x y ≡ eq_by_cmp R x y) where
@@ -75,4 +77,41 @@ module _ {X : Type 0} (R : X → X → Ordering) (o : IsTotalOrder R) (same : Is
         ascends = d.ascends;
         there = λ c h. d.there c (Has-permutation xs ys c p h);
         only = λ c h. Has-permutation ys xs c (IsPermutation-sym xs ys p) (d.only c h);
+      })
+
+-- the same of lists that are sorted by what f makes of their elements
+module _ {B X : Type 0} (f : B → X) (R : X → X → Ordering) (o : IsTotalOrder R) (same : IsAntisymmetric R)
+    (E : X → X → Bool) (ties : (x y : X) → E x y ≡ eq_by_cmp R x y) where
+  map_kept : (k : B) (xs : List B) → map_list f (dedup_from (λ x y. E (f x) (f y)) k xs) ≡ dedup_from E (f k) (map_list f xs)
+  map_kept k [] = refl
+  map_kept k (y ∷ xs) = go (E (f y) (f k)) (map_kept k xs) (map_kept y xs)
+    where
+      go : (b : Bool) → map_list f (dedup_from (λ x y. E (f x) (f y)) k xs) ≡ dedup_from E (f k) (map_list f xs) →
+          map_list f (dedup_from (λ x y. E (f x) (f y)) y xs) ≡ dedup_from E (f y) (map_list f xs) →
+          map_list f (cond b (dedup_from (λ x y. E (f x) (f y)) k xs) (k ∷ dedup_from (λ x y. E (f x) (f y)) y xs))
+          ≡ cond b (dedup_from E (f k) (map_list f xs)) (f k ∷ dedup_from E (f y) (map_list f xs))
+      go true p q = p
+      go false p q = ap (λ l. f k ∷ l) q
+
+  map_deduped : (xs : List B) → map_list f (dedup (λ x y. E (f x) (f y)) xs) ≡ dedup E (map_list f xs)
+  map_deduped [] = refl
+  map_deduped (x ∷ xs) = map_kept x xs
+
+  map_up : (xs : List B) → Up (λ x y. R (f x) (f y)) xs → Up R (map_list f xs)
+  map_up [] u = tt
+  map_up (x ∷ xs) u = (
+    (λ y h. let (z, there, e) = map_has f xs y h in subst (λ w. is_gt (R (f x) w) ≡ false) (sym e) (u.0 z there)),
+    map_up xs u.1,
+  )
+
+  pub sorted_once_by : (xs ys zs : List B) → IsPermutation xs ys → IsSorted (λ x y. R (f x) (f y)) ys →
+      IsFiltered (DiffersFromLast (λ x y. E (f x) (f y))) [] ys zs → AreSortedOnce R (map_list f xs) (map_list f zs)
+  sorted_once_by xs ys zs p s h =
+      let d = deduped R o same E ties (map_list f ys) (map_up ys (up_from_sorted (λ x y. R (f x) (f y)) (on_total f o) ys s)) in
+      let is : map_list f zs ≡ dedup E (map_list f ys) = ap (map_list f) (dedup_is (λ x y. E (f x) (f y)) ys zs h) ∙ map_deduped ys in
+      let moved : IsPermutation (map_list f xs) (map_list f ys) = IsPermutation-map f xs ys p in
+      subst (AreSortedOnce R (map_list f xs)) (sym is) (record {
+        ascends = d.ascends;
+        there = λ c i. d.there c (Has-permutation (map_list f xs) (map_list f ys) c moved i);
+        only = λ c i. Has-permutation (map_list f ys) (map_list f xs) c (IsPermutation-sym (map_list f xs) (map_list f ys) moved) (d.only c i);
       })

@@ -1,8 +1,8 @@
--- The arcs that the features in scope use, and the segments of all of them.
-use Rattle.std.proofs.Common.{◌≡◌, ◌↔◌, ◌+◌, ◌==◌, ℕ, zero, suc, Bool, true, false, List, [], ◌∷◌, length, ◌⊎◌, inl, inr, refl, sym, ap, ◌∙◌, subst, Option, Some, None, Result, Ok, Err, IfOk, slice_get, arith, replicate}
+-- The arcs that the geometries in scope use, and the segments that edges ask for.
+use Rattle.std.proofs.Common.{◌≡◌, ◌↔◌, ◌+◌, ◌++◌, ◌==◌, ℕ, zero, suc, Bool, true, false, cond, List, [], ◌∷◌, length, ◌⊎◌, inl, inr, refl, sym, ap, ◌∙◌, subst, Option, Some, None, slice_get, arith, replicate}
 use Rattle.std.specs.Prelude.{IsTrue, not, map as map_list}
 use Rattle.std.specs.Cmp.{tied_itself, upto}
-use Rattle.std.specs.Ordering.{eq_by_cmp, is_gt, ordering_reverse}
+use Rattle.std.specs.Ordering.{is_gt, ordering_reverse}
 use Rattle.std.specs.declared.cmp.Ordering.{Ordering}
 use Rattle.std.specs.declared.cmp.Ordering.TheVariants.{Less, Equal, Greater}
 use Rattle.grid.specs.declared.pos.Pos.{Pos}
@@ -10,40 +10,45 @@ use Rattle.lines.specs.Turned.{position_cmp}
 use Rattle.lines.specs.Positions.{position_total, position_same}
 use Rattle.shapes.specs.Maps.{Layers, features_at}
 use Rattle.shapes.specs.Order.{feature_cmp}
-use Rattle.shapes.specs.OrderLaws.{feature_cmp_total, feature_tied}
+use Rattle.shapes.specs.OrderLaws.{feature_cmp_total, same_feature}
 use Rattle.shapes.specs.Parts.{spelled_text}
 use Rattle.shapes.specs.Sets as set
 use Rattle.shapes.specs.declared.feature.Feature.{Feature}
 use Rattle.chains.specs.Along.{HasArcs}
-use Rattle.chains.specs.Arcs.{Arcs}
 use Rattle.chains.specs.Joined.{AmongSegments}
 use Rattle.chains.specs.Seen.{form_of, geometry_of}
 use Rattle.chains.specs.declared.segment.Segment.{Segment}
 use Rattle.chains.proofs.Siding.{arc_on, beside_sides, on_arc, sides_beside}
-use Rattle.theory.specs.Geometry.{AtMost}
-use Rattle.theory.specs.Lists.{Beside, Has, gathered}
+use Rattle.theory.specs.Geometry.{AtMost, JunctionOf}
+use Rattle.theory.specs.ArcNumbers.{ArcRef, StitchTo}
+use Rattle.theory.specs.Lists.{Beside, Has, Pairwise, gathered}
 use Rattle.theory.specs.Topology as topology
+use Rattle.theory.specs.Topology.{IsFormOf, IsRingList}
 use Rattle.theory.specs.Users.{UsesArc}
-use Rattle.theory.proofs.Ascending.{dec_by}
-use Rattle.theory.proofs.ListsOfLists.{Has-gathered, gathered_from, get_has}
+use Rattle.theory.proofs.Ascending.{at_most_same, dec_by}
+use Rattle.theory.proofs.Lists.{Has-append_right}
+use Rattle.theory.proofs.ListsOfLists.{Has-gathered, Pairwise-same, gathered_from, get_has, has_get}
+use Rattle.theory.proofs.OneTopology.{ring_list_unique, stitch_unique}
 use Rattle.theory.proofs.UsersOfArcs.{users}
 use Rattle.topo.specs.OfMap.{IsOf, body_of}
 use Rattle.topo.specs.Parts.{LayerParts, TopologyParts}
 use Rattle.topo.specs.declared.geom.Body.{Body}
+use Rattle.topo.specs.declared.geom.Body.TheVariants as of
 use Rattle.topo.specs.declared.geom.Geom.{Geom}
+use Rattle.topo.proofs.FeatureOrder.{features_stand}
 use Rattle.topo.proofs.Sound.{are_sound}
-use Rattle.query.specs.Members.{AreLayersIn, AreUsesIn, layer_pairs, paired}
-use Rattle.query.specs.Mesh.{Answers, AreBorders, AreSelected, HasSide, InScope, IsGreatestWith, IsLeastWith}
-use Rattle.query.specs.Spans.{numbers_from, with_uses}
+use Rattle.topo.proofs.Stitched.{feature_of}
+use Rattle.query.specs.EachOnce.{AreEachOnce}
+use Rattle.query.specs.Members.{AreLayersIn, ArePairs, layer_pairs, paired}
+use Rattle.query.specs.Mesh.{Answers, AreSelected, HasSide, InScope, IsGreatestWith, IsLeastWith}
+use Rattle.query.specs.Spans.{asks_for, asks_for_users, number_if, numbers_from, with_uses}
 use Rattle.query.specs.Uses.{body_uses, geometries_uses, use_at}
 use Rattle.query.specs.declared.edges.Edges.{Edges}
 use Rattle.query.specs.declared.edges.Edges.TheVariants.{All, Interior, Exterior}
-use Rattle.lines.proofs.Positions.{true_false}
-use Rattle.query.specs.declared.fault.QueryFault.{QueryFault}
 use Rattle.query.specs.declared.spans.Span.{Span}
 use Rattle.query.specs.declared.uses.Use.{Use}
 use Rattle.query.proofs.Holding.{scope_layers, scope_pairs}
-use Rattle.query.proofs.LayerFeatures.{OfFeatures, form_rings, form_segment, named_features}
+use Rattle.query.proofs.LayerFeatures.{OfFeature, OfFeatures, form_rings, form_segment, named_features}
 use Rattle.query.proofs.Meshing.{beside_differ, get_less}
 use Rattle.query.proofs.Neighboring.{at_body, body_at}
 use Rattle.query.proofs.Spanning.{Spans, other_number, same_number, span_of}
@@ -137,189 +142,274 @@ either_first f g = go (feature_cmp f g) refl
     go Equal e = inl (ap is_gt e)
     go Greater e = inr (ap is_gt (feature_cmp_total.antisymm g f ∙ ap ordering_reverse e))
 
--- the numbers of the arcs that have a span
-number_has : (os : List (Option Span)) (n k : ℕ) → Has k (numbers_from n os) → (i : ℕ) × (s : Span) × (k ≡ n + i) × (slice_get os i ≡ Some (Some s))
-number_has [] n k h = absurd h
-number_has (None ∷ os) n k h = let t = number_has os (n + 1) k h in (suc t.0, t.1, omega (arith, t.2), t.3)
-number_has (Some s ∷ os) n k (inl e) = (0, s, omega (arith, e), refl)
-number_has (Some s ∷ os) n k (inr h) = let t = number_has os (n + 1) k h in (suc t.0, t.1, omega (arith, t.2), t.3)
+-- edges ask for the arc k, where the first of the arcs has the number n
+abbrev AskedAt : Edges → List (Option Span) → ℕ → ℕ → Type 0
+AskedAt e os n k = (i : ℕ) × (o : Option Span) × (k ≡ n + i) × (slice_get os i ≡ Some o) × (asks_for e o ≡ true)
 
-has_number : (os : List (Option Span)) (n i : ℕ) (s : Span) → slice_get os i ≡ Some (Some s) → Has (n + i) (numbers_from n os)
-has_number [] n i s e = absurd cc
-has_number (None ∷ os) n zero s e = absurd cc
-has_number (None ∷ os) n (suc i) s e = let k : (n + 1) + i ≡ n + suc i = omega arith in subst (λ j. Has j (numbers_from (n + 1) os)) k (has_number os (n + 1) i s e)
-has_number (Some r ∷ os) n zero s e = inl (omega arith)
-has_number (Some r ∷ os) n (suc i) s e =
-    let k : (n + 1) + i ≡ n + suc i = omega arith in inr (subst (λ j. Has j (numbers_from (n + 1) os)) k (has_number os (n + 1) i s e))
+number_has : (e : Edges) (os : List (Option Span)) (n k : ℕ) → Has k (numbers_from e n os) → AskedAt e os n k
+number_has e [] n k h = absurd h
+number_has e (o ∷ os) n k h = go (asks_for e o) refl h (λ i. number_has e os (n + 1) k i)
+  where
+    later : AskedAt e os (n + 1) k → AskedAt e (o ∷ os) n k
+    later t = (suc t.0, t.1, omega (arith, t.2), t.3, t.4)
 
-module _ (m : Layers) (t : TopologyParts) (of : IsOf m t) where
+    go : (b : Bool) → asks_for e o ≡ b → Has k (cond b (n ∷ []) [] ++ numbers_from e (n + 1) os) → (Has k (numbers_from e (n + 1) os) → AskedAt e os (n + 1) k) → AskedAt e (o ∷ os) n k
+    go true a (inl q) f = (0, o, omega (arith, q), refl, a)
+    go true a (inr i) f = later (f i)
+    go false a i f = later (f i)
+
+has_number : (e : Edges) (os : List (Option Span)) (n i : ℕ) (o : Option Span) → slice_get os i ≡ Some o → asks_for e o ≡ true → Has (n + i) (numbers_from e n os)
+has_number e [] n i o h a = absurd cc
+has_number e (w ∷ os) n zero o h a =
+    let same : w ≡ o = cc in
+    subst (λ b. Has (n + zero) (cond b (n ∷ []) [] ++ numbers_from e (n + 1) os)) (sym (ap (asks_for e) same ∙ a)) (inl (omega arith))
+has_number e (w ∷ os) n (suc i) o h a =
+    let k : (n + 1) + i ≡ n + suc i = omega arith in
+    Has-append_right (n + suc i) (number_if e n w) (numbers_from e (n + 1) os) (subst (λ j. Has j (numbers_from e (n + 1) os)) k (has_number e os (n + 1) i o h a))
+
+-- whether two numbers are one, where that tells P
+told_one : (x y : ℕ) (P : Type 0) → (x ≡ y) ↔ P → IsTrue (x == y) ↔ P
+told_one x y P (to, from) = go (x == y) refl
+  where
+    go : (t : Bool) → (x == y) ≡ t → IsTrue t ↔ P
+    go true e = ((λ h. to (same_number x y true e refl)), λ p. refl)
+    go false e = ((λ h. absurd cc), λ p. absurd (other_number x y false e refl (from p)))
+
+told_apart : (x y : ℕ) (P : Type 0) → (x ≡ y) ↔ P → IsTrue (not (x == y)) ↔ (¬ P)
+told_apart x y P (to, from) = go (x == y) refl
+  where
+    go : (t : Bool) → (x == y) ≡ t → IsTrue (not t) ↔ (¬ P)
+    go true e = ((λ h. absurd cc), λ n. absurd (n (to (same_number x y true e refl))))
+    go false e = ((λ h p. other_number x y false e refl (from p)), λ n. refl)
+
+-- edges answer to the features with a segment as they ask for its arc
+answered : (e : Edges) (s : Span) (a b : Feature) → (s.least ≡ s.greatest) ↔ (a ≡ b) → Answers e a b (asks_for_users e s)
+answered All s a b h = refl
+answered Interior s a b h = told_apart s.least s.greatest (a ≡ b) h
+answered Exterior s a b h = told_one s.least s.greatest (a ≡ b) h
+
+module _ (m : Layers) (t : TopologyParts) (of_map : IsOf m t) where
+  abbrev LineList : List Pos → List ArcRef → Type 0
+  LineList l used = StitchTo t.arcs.arcs used l
+
+  abbrev RingList : List Pos → List ArcRef → Type 0
+  RingList = IsRingList position_cmp (JunctionOf (geometry_of m)) t.arcs.arcs
+
+  one_line_list : (l : List Pos) (us vs : List ArcRef) → LineList l us → LineList l vs → us ≡ vs
+  one_line_list =
+      stitch_unique position_cmp position_total position_same (dec_by position_cmp position_total position_same) (geometry_of m) (are_sound m) t.arcs.arcs of_map.table.arcs
+
+  one_ring_list : (r : List Pos) (us vs : List ArcRef) → RingList r us → RingList r vs → us ≡ vs
+  one_ring_list =
+      ring_list_unique position_cmp position_total position_same (dec_by position_cmp position_total position_same) (geometry_of m) (are_sound m) t.arcs.arcs of_map.table.arcs
+
+  -- a shape has one body
+  one_body : (s : topology.Shape Pos) (a b : Body) → IsFormOf LineList RingList s (body_of a) → IsFormOf LineList RingList s (body_of b) → a ≡ b
+  one_body topology.null of.Null of.Null h k = refl
+  one_body (topology.point p) (of.Point q) (of.Point r) h k = ap of.Point (sym h ∙ k)
+  one_body (topology.points ps) (of.MultiPoint qs) (of.MultiPoint rs) h k = ap of.MultiPoint (sym h ∙ k)
+  one_body (topology.line l) (of.Line us) (of.Line vs) h k = ap of.Line (one_line_list l us vs h k)
+  one_body (topology.lines ls) (of.MultiLine us) (of.MultiLine vs) h k = ap of.MultiLine (Pairwise-same LineList one_line_list ls us vs h k)
+  one_body (topology.polygon rs) (of.Polygon us) (of.Polygon vs) h k = ap of.Polygon (Pairwise-same RingList one_ring_list rs us vs h k)
+  one_body (topology.polygons ps) (of.MultiPolygon us) (of.MultiPolygon vs) h k =
+      ap of.MultiPolygon (Pairwise-same (Pairwise RingList) (Pairwise-same RingList one_ring_list) ps us vs h k)
+  one_body s a b h k = search
+
+  -- so a feature has one geometry
+  one_geometry : (f : Feature) (a b : Geom) → OfFeature m t of_map f a → OfFeature m t of_map f b → a ≡ b
+  one_geometry f a b h k =
+      let one : a.id ≡ b.id = ap (λ w. w.0) (sym h.info ∙ k.info) in
+      let alike : a.props ≡ b.props = ap (λ w. w.1) (sym h.info ∙ k.info) in
+      let same : a.body ≡ b.body = one_body (form_of f.shape) a.body b.body h.form k.form in
+      λ i. record { id = one i; props = alike i; body = same i }
+
   -- the body of a geometry stands beside its feature
-  body_pair : (fs : List Feature) (gs : List Geom) → OfFeatures m t of fs gs → (n : ℕ) (g : Geom) → slice_get gs n ≡ Some g → (f : Feature) × Has (f, g.body) (paired fs gs)
-  body_pair [] [] p n g e = absurd cc
-  body_pair [] (h ∷ gs) p n g e = absurd p
-  body_pair (f ∷ fs) [] p n g e = absurd p
-  body_pair (f ∷ fs) (h ∷ gs) p zero g e = let same : h ≡ g = cc in (f, inl (λ i. (f, (sym same i).body)))
-  body_pair (f ∷ fs) (h ∷ gs) p (suc n) g e = let r = body_pair fs gs p.1 n g e in (r.0, inr r.1)
+  body_pair : (fs : List Feature) (gs : List Geom) → OfFeatures m t of_map fs gs → (g : Geom) → Has g gs → (f : Feature) × Has (f, g.body) (paired fs gs) × OfFeature m t of_map f g
+  body_pair [] [] p g h = absurd h
+  body_pair [] (k ∷ gs) p g h = absurd p
+  body_pair (f ∷ fs) [] p g h = absurd p
+  body_pair (f ∷ fs) (k ∷ gs) p g (inl e) = (f, inl (λ i. (f, (e i).body)), subst (OfFeature m t of_map f) (sym e) p.0)
+  body_pair (f ∷ fs) (k ∷ gs) p g (inr h) = let r = body_pair fs gs p.1 g h in (r.0, inr r.1, r.2)
 
-  pair_body : (fs : List Feature) (gs : List Geom) (f : Feature) (b : Body) → Has (f, b) (paired fs gs) → (n : ℕ) × (g : Geom) × (slice_get gs n ≡ Some g) × (b ≡ g.body)
-  pair_body [] gs f b h = absurd h
-  pair_body (e ∷ fs) [] f b h = absurd h
-  pair_body (e ∷ fs) (g ∷ gs) f b (inl k) = (0, g, refl, ap (λ w. w.1) k)
-  pair_body (e ∷ fs) (g ∷ gs) f b (inr h) = let r = pair_body fs gs f b h in (suc r.0, r.1, r.2, r.3)
+  pair_body : (fs : List Feature) (gs : List Geom) → OfFeatures m t of_map fs gs → (f : Feature) (b : Body) → Has (f, b) (paired fs gs) →
+      (g : Geom) × Has g gs × (b ≡ g.body) × OfFeature m t of_map f g
+  pair_body [] gs p f b h = absurd h
+  pair_body (e ∷ fs) [] p f b h = absurd h
+  pair_body (e ∷ fs) (g ∷ gs) p f b (inl k) = (g, inl refl, ap (λ w. w.1) k, subst (λ w. OfFeature m t of_map w g) (sym (ap (λ w. w.0) k)) p.0)
+  pair_body (e ∷ fs) (g ∷ gs) p f b (inr h) = let r = pair_body fs gs p.1 f b h in (r.0, inr r.1, r.2, r.3)
 
-  uses_pair : (fs : List Feature) (gs : List Geom) → OfFeatures m t of fs gs → (k p : ℕ) → Has (use_at k p) (geometries_uses gs) →
-      (f : Feature) × (b : Body) × Has (f, b) (paired fs gs) × UsesArc k (body_of b)
-  uses_pair fs gs all k p h =
-      let (n, b, at, is, used) = bodies_from (map_list (λ g. body_of g.body) gs) 0 (use_at k p) h in
-      let (g, there, same) = body_at gs n b at in
-      let (f, beside) = body_pair fs gs all n g there in
-      (f, g.body, beside, subst (λ w. UsesArc k w) same used)
-
-  pair_uses : (fs : List Feature) (gs : List Geom) (k : ℕ) (f : Feature) (b : Body) → Has (f, b) (paired fs gs) → UsesArc k (body_of b) → (p : ℕ) × Has (use_at k p) (geometries_uses gs)
-  pair_uses fs gs k f b h used =
-      let (n, g, at, is) = pair_body fs gs f b h in
-      (0 + n, has_bodies (map_list (λ g. body_of g.body) gs) 0 n k (body_of g.body) (at_body gs n g at) (subst (λ w. UsesArc k (body_of w)) is used))
-
-  -- the uses by the features in scope
-  pub scope_uses : (scope : Option (List ℕ)) (ls : List LayerParts) → AreLayersIn t scope ls → (us : List Use) →
-      us ≡ gathered (λ l. geometries_uses l.geometries) ls → AreUsesIn m t scope us
-  scope_uses scope ls are us made = subst (AreUsesIn m t scope) (sym made) (record {
-    pairs = gathered (layer_pairs m) ls;
-    are = scope_pairs m t of scope ls are;
-    from = λ k p h.
-        let (l, there, i) = gathered_from (λ l. geometries_uses l.geometries) ls (use_at k p) h in
-        let (key, of_layer) = named_features m t of (spelled_text l.name) l.geometries (l, scope_layers t scope ls are l there, refl, refl) in
-        let (f, b, beside, used) = uses_pair (set.items (features_at m (spelled_text l.name))) l.geometries of_layer k p i in
-        (f, b, Has-gathered (layer_pairs m) ls l (f, b) there beside, used);
-    to = λ k f b h used.
-        let (l, there, i) = gathered_from (layer_pairs m) ls (f, b) h in
-        let (p, j) = pair_uses (set.items (features_at m (spelled_text l.name))) l.geometries k f b i used in
-        (p, Has-gathered (λ l. geometries_uses l.geometries) ls l (use_at k p) there j);
-  })
-
-  module _ (scope : Option (List ℕ)) (us : List Use) (in_scope : AreUsesIn m t scope us) where
+  module _ (scope : Option (List ℕ)) (ls : List LayerParts) (layers : AreLayersIn t scope ls) (gs : List Geom) (each : AreEachOnce (gathered (λ l. l.geometries) ls) gs) where
     abbrev In : Feature → Type 0
     In f = InScope m scope f
 
+    abbrev pairs : List (Feature × Body)
+    pairs = gathered (layer_pairs m) ls
+
+    -- the geometry at the place is of the feature
+    abbrev StandsAt : ℕ → Feature → Type 0
+    StandsAt p f = (g : Geom) × (slice_get gs p ≡ Some g) × OfFeature m t of_map f g
+
+    -- the feature at the place uses the arc
+    abbrev UsesAt : ℕ → ℕ → Type 0
+    UsesAt k p = Has (use_at k p) (geometries_uses gs)
+
+    are : ArePairs m t scope pairs
+    are = scope_pairs m t of_map scope ls layers
+
+    layer_features : (l : LayerParts) → Has l ls → OfFeatures m t of_map (set.items (features_at m (spelled_text l.name))) l.geometries
+    layer_features l there = (named_features m t of_map (spelled_text l.name) l.geometries (l, scope_layers t scope ls layers l there, refl, refl)).1
+
+    -- at a place stands one feature
+    one_feature : (p : ℕ) (f h : Feature) → StandsAt p f → StandsAt p h → f ≡ h
+    one_feature p f h (g, at, is) (k, at', is') =
+        let same : Some k ≡ Some g = sym at' ∙ at in
+        let one : k ≡ g = cc in
+        let stitched = feature_of (JunctionOf (geometry_of m)) t.arcs.arcs f g is in
+        let also = feature_of (JunctionOf (geometry_of m)) t.arcs.arcs h g (subst (OfFeature m t of_map h) one is') in
+        same_feature f h (features_stand t.arcs.arcs f h g g stitched also ∙ sym (features_stand t.arcs.arcs f f g g stitched stitched) ∙ tied_itself feature_cmp_total f)
+
+    -- and a feature stands at one place
+    one_place : (p q : ℕ) (f : Feature) → StandsAt p f → StandsAt q f → p ≡ q
+    one_place p q f (g, at, is) (k, at', is') =
+        let same : k ≡ g = one_geometry f k g is' is in
+        each.once p q g at (at' ∙ ap Some same)
+
+    use_from : (k p : ℕ) → UsesAt k p → (f : Feature) × (b : Body) × Has (f, b) pairs × UsesArc k (body_of b) × StandsAt p f
+    use_from k p h =
+        let (n, b, at, is, used) = bodies_from (map_list (λ g. body_of g.body) gs) 0 (use_at k p) h in
+        let (g, there, same) = body_at gs n b at in
+        let (l, layer, within) = gathered_from (λ l. l.geometries) ls g (each.only g (get_has gs n g there)) in
+        let (f, beside, of_feature) = body_pair (set.items (features_at m (spelled_text l.name))) l.geometries (layer_features l layer) g within in
+        let place : n ≡ p = omega (arith, is) in
+        (f, g.body, Has-gathered (layer_pairs m) ls l (f, g.body) layer beside, subst (λ w. UsesArc k w) same used, (g, subst (λ j. slice_get gs j ≡ Some g) place there, of_feature))
+
+    use_to : (k : ℕ) (f : Feature) (b : Body) → Has (f, b) pairs → UsesArc k (body_of b) → (p : ℕ) × UsesAt k p × StandsAt p f
+    use_to k f b h used =
+        let (l, layer, beside) = gathered_from (layer_pairs m) ls (f, b) h in
+        let (g, within, is, of_feature) = pair_body (set.items (features_at m (spelled_text l.name))) l.geometries (layer_features l layer) f b beside in
+        let (n, at) = has_get gs g (each.there g (Has-gathered (λ l. l.geometries) ls l g layer within)) in
+        let place : 0 + n ≡ n = omega arith in
+        let there = has_bodies (map_list (λ g. body_of g.body) gs) 0 n k (body_of g.body) (at_body gs n g at) (subst (λ w. UsesArc k (body_of w)) is used) in
+        (n, subst (UsesAt k) place there, (g, at, of_feature))
+
     -- a feature in scope has a segment where its body uses the arc
-    has_uses : (f : Feature) (b : Body) → Has (f, b) in_scope.pairs → (k : ℕ) (c : List Pos) (u v : Pos) → slice_get t.arcs.arcs k ≡ Some c → Beside u v c →
+    has_uses : (f : Feature) (b : Body) → Has (f, b) pairs → (k : ℕ) (c : List Pos) (u v : Pos) → slice_get t.arcs.arcs k ≡ Some c → Beside u v c →
         HasSide u v f ↔ UsesArc k (body_of b)
     has_uses f b h k c u v e side =
-        let (within, form, held) = in_scope.are.only f b h in
-        users position_cmp position_total position_same (dec_by position_cmp position_total position_same) (geometry_of m) (are_sound m) t.arcs.arcs of.table.arcs
+        let (within, form, held) = are.only f b h in
+        users position_cmp position_total position_same (dec_by position_cmp position_total position_same) (geometry_of m) (are_sound m) t.arcs.arcs of_map.table.arcs
         (form_of f.shape) (body_of b) held (form_rings m f form) k c u v e side
 
     -- of those with the segment there is a first, in an order
     first_with : (Before : Feature → Feature → Type 0) → ((f : Feature) → Before f f) → ((f g h : Feature) → Before f g → Before g h → Before f h) →
         ((f g : Feature) → Before f g ⊎ Before g f) → (k : ℕ) (c : List Pos) (u v : Pos) → slice_get t.arcs.arcs k ≡ Some c → Beside u v c → (f : Feature) (b : Body) →
-        Has (f, b) in_scope.pairs → UsesArc k (body_of b) → (a : Feature) × In a × HasSide u v a × ((g : Feature) → In g → HasSide u v g → Before a g)
-    first_with Before itself after either k c u v e side f b h used = elim (first_user Before itself after either k in_scope.pairs) [
+        Has (f, b) pairs → UsesArc k (body_of b) → (a : Feature) × In a × HasSide u v a × ((g : Feature) → In g → HasSide u v g → Before a g)
+    first_with Before itself after either k c u v e side f b h used = elim (first_user Before itself after either k pairs) [
       | inl none ↦ absurd (none f b h used)
       | inr l ↦ (
         l.feature,
-        (in_scope.are.only l.feature l.body l.has).0,
+        (are.only l.feature l.body l.has).0,
         (has_uses l.feature l.body l.has k c u v e side).1 l.uses,
-        λ g i j. let (d, there) = in_scope.are.all g i in l.first g d there ((has_uses g d there k c u v e side).0 j),
+        λ g i j. let (d, there) = are.all g i in l.first g d there ((has_uses g d there k c u v e side).0 j),
       )
     ]
 
-    least_with : (k : ℕ) (c : List Pos) (u v : Pos) → slice_get t.arcs.arcs k ≡ Some c → Beside u v c → (f : Feature) (b : Body) → Has (f, b) in_scope.pairs →
+    least_with : (k : ℕ) (c : List Pos) (u v : Pos) → slice_get t.arcs.arcs k ≡ Some c → Beside u v c → (f : Feature) (b : Body) → Has (f, b) pairs →
         UsesArc k (body_of b) → (a : Feature) × IsLeastWith In u v a
     least_with k c u v e side f b h used =
         let (a, within, has, least) = first_with (λ f g. AtMost feature_cmp f g) itself_first after_first either_first k c u v e side f b h used in
         (a, record { within = within; has = has; least = least })
 
-    greatest_with : (k : ℕ) (c : List Pos) (u v : Pos) → slice_get t.arcs.arcs k ≡ Some c → Beside u v c → (f : Feature) (b : Body) → Has (f, b) in_scope.pairs →
+    greatest_with : (k : ℕ) (c : List Pos) (u v : Pos) → slice_get t.arcs.arcs k ≡ Some c → Beside u v c → (f : Feature) (b : Body) → Has (f, b) pairs →
         UsesArc k (body_of b) → (a : Feature) × IsGreatestWith In u v a
     greatest_with k c u v e side f b h used =
         let (a, within, has, greatest) = first_with (λ f g. AtMost feature_cmp g f) itself_first (λ f g h a b. after_first h g f b a) (λ f g. either_first g f) k c u v e side f b h used in
         (a, record { within = within; has = has; greatest = greatest })
 
+    -- the first and the last user of an arc are one where the least and the greatest feature with its segments are
+    module _ (k : ℕ) (c : List Pos) (u v : Pos) (e : slice_get t.arcs.arcs k ≡ Some c) (side : Beside u v c) (s : Span) (means : Spans (Some s) (UsesAt k))
+        (a b : Feature) (la : IsLeastWith In u v a) (lb : IsGreatestWith In u v b) where
+      its_use : (f : Feature) → In f → HasSide u v f → (p : ℕ) × UsesAt k p × StandsAt p f
+      its_use f i h = let (d, there) = are.all f i in use_to k f d there ((has_uses f d there k c u v e side).0 h)
+
+      one_user : s.least ≡ s.greatest → a ≡ b
+      one_user q =
+          let (p, uses, stands) = its_use a la.within la.has in
+          let (r, uses', stands') = its_use b lb.within lb.has in
+          let (l, g) = means.2 p uses in
+          let (l', g') = means.2 r uses' in
+          let same : p ≡ r = omega (arith, q, l, g, l', g') in
+          one_feature r a b (subst (λ n. StandsAt n a) same stands) stands'
+
+      alone : a ≡ b → (p : ℕ) → UsesAt k p → StandsAt p a
+      alone q p uses =
+          let (f, d, there, used, stands) = use_from k p uses in
+          let within = (are.only f d there).0 in
+          let has = (has_uses f d there k c u v e side).1 used in
+          let same : f ≡ a =
+          at_most_same feature_cmp feature_cmp_total same_feature f a (subst (λ w. AtMost feature_cmp f w) (sym q) (lb.greatest f within has)) (la.least f within has) in
+          subst (StandsAt p) same stands
+
+      ends_agree : (s.least ≡ s.greatest) ↔ (a ≡ b)
+      ends_agree = (one_user, λ q. one_place s.least s.greatest a (alone q s.least means.0) (alone q s.greatest means.1))
+
     abbrev spans : List (Option Span)
-    spans = with_uses (replicate (length t.arcs.arcs) None) us
+    spans = with_uses (replicate (length t.arcs.arcs) None) (geometries_uses gs)
 
-    module _ (segs : List Segment) (has : HasArcs t.arcs.arcs (numbers_from 0 (with_uses (replicate (length t.arcs.arcs) None) us)) segs) where
-      spanned : (k : ℕ) (c : List Pos) → slice_get t.arcs.arcs k ≡ Some c → (o : Option Span) × (slice_get spans k ≡ Some o) × Spans o (λ q. Has (use_at k q) us)
-      spanned k c e = span_of (length t.arcs.arcs) us k (get_less t.arcs.arcs k c e)
+    module _ (edges : Edges) (segs : List Segment) (has : HasArcs t.arcs.arcs (numbers_from edges 0 (with_uses (replicate (length t.arcs.arcs) None) (geometries_uses gs))) segs) where
+      spanned : (k : ℕ) (c : List Pos) → slice_get t.arcs.arcs k ≡ Some c → (o : Option Span) × (slice_get spans k ≡ Some o) × Spans o (UsesAt k)
+      spanned k c e = span_of (length t.arcs.arcs) (geometries_uses gs) k (get_less t.arcs.arcs k c e)
 
-      used_only : (u v : Pos) → AmongSegments u v segs → (a : Feature) × (b : Feature) × IsLeastWith In u v a × IsGreatestWith In u v b × Answers All a b true
-      used_only u v h =
-          let (k, c, there, e, side) = on_arc t.arcs.arcs (numbers_from 0 spans) u v ((has u v).0 h) in
-          let (i, s, is, at) = number_has spans 0 k there in
+      asked_only : (u v : Pos) → AmongSegments u v segs → (a : Feature) × (b : Feature) × IsLeastWith In u v a × IsGreatestWith In u v b × Answers edges a b true
+      asked_only u v h =
+          let (k, c, there, e, side) = on_arc t.arcs.arcs (numbers_from edges 0 spans) u v ((has u v).0 h) in
+          let (i, w, is, at, asked) = number_has edges spans 0 k there in
           let (o, here, means) = spanned k c e in
           let number : i ≡ k = omega (arith, is) in
-          let same : Some o ≡ Some (Some s) = sym here ∙ ap (slice_get spans) (sym number) ∙ at in
-          let known : o ≡ Some s = cc in
-          let used = (subst (λ w. Spans w (λ q. Has (use_at k q) us)) known means).0 in
-          let (f, b, beside, uses) = in_scope.from k s.least used in
-          let (least, is_least) = least_with k c u v e (sides_beside c u v side) f b beside uses in
-          let (greatest, is_greatest) = greatest_with k c u v e (sides_beside c u v side) f b beside uses in
-          (least, greatest, is_least, is_greatest, refl)
+          let same : Some w ≡ Some o = sym at ∙ ap (slice_get spans) number ∙ here in
+          let known : w ≡ o = cc in
+          go k c e (sides_beside c u v side) o means (sym (ap (asks_for edges) known) ∙ asked)
+        where
+          go : (k : ℕ) (c : List Pos) → slice_get t.arcs.arcs k ≡ Some c → Beside u v c → (o : Option Span) → Spans o (UsesAt k) → asks_for edges o ≡ true →
+              (a : Feature) × (b : Feature) × IsLeastWith In u v a × IsGreatestWith In u v b × Answers edges a b true
+          go k c e side None means asked = absurd cc
+          go k c e side (Some s) means asked =
+              let (f, d, there, used, stands) = use_from k s.least means.0 in
+              let (a, la) = least_with k c u v e side f d there used in
+              let (b, lb) = greatest_with k c u v e side f d there used in
+              (a, b, la, lb, subst (Answers edges a b) asked (answered edges s a b (ends_agree k c u v e side s means a b la lb)))
 
-      used_all : (u v : Pos) (a b : Feature) → IsLeastWith In u v a → IsGreatestWith In u v b → AmongSegments u v segs ⊎ Answers All a b false
-      used_all u v a b la lb =
-          let (d, there) = in_scope.are.all a la.within in
-          let segment = form_segment m a (in_scope.are.only a d there).1 u v la.has in
-          let (k, c, e, side) = of.table.once.in_an_arc u v segment in
-          let (p, used) = in_scope.to k a d there ((has_uses a d there k c u v e side).0 la.has) in
+      asked_all : (u v : Pos) (a b : Feature) → IsLeastWith In u v a → IsGreatestWith In u v b → AmongSegments u v segs ⊎ Answers edges a b false
+      asked_all u v a b la lb =
+          let (d, there) = are.all a la.within in
+          let segment = form_segment m a (are.only a d there).1 u v la.has in
+          let (k, c, e, side) = of_map.table.once.in_an_arc u v segment in
+          let (p, used, stands) = use_to k a d there ((has_uses a d there k c u v e side).0 la.has) in
           let (o, here, means) = spanned k c e in
-          go k c e side p used o here means
+          go k c e side p used o here means (asks_for edges o) refl
         where
           number : (k : ℕ) → 0 + k ≡ k
           number k = omega arith
 
-          go : (k : ℕ) (c : List Pos) → slice_get t.arcs.arcs k ≡ Some c → Beside u v c → (p : ℕ) → Has (use_at k p) us → (o : Option Span) → slice_get spans k ≡ Some o →
-              Spans o (λ q. Has (use_at k q) us) → AmongSegments u v segs ⊎ Answers All a b false
-          go k c e side p used None here means = absurd (means p used)
-          go k c e side p used (Some s) here means =
-              inl ((has u v).1 (arc_on t.arcs.arcs (numbers_from 0 spans) u v k c (subst (λ j. Has j (numbers_from 0 spans)) (number k) (has_number spans 0 k s here)) e
-              (beside_sides c u v (beside_differ c (of.table.once.one_place c (get_has t.arcs.arcs k c e)) u v side) side)))
+          go : (k : ℕ) (c : List Pos) → slice_get t.arcs.arcs k ≡ Some c → Beside u v c → (p : ℕ) → UsesAt k p → (o : Option Span) → slice_get spans k ≡ Some o →
+              Spans o (UsesAt k) → (w : Bool) → asks_for edges o ≡ w → AmongSegments u v segs ⊎ Answers edges a b false
+          go k c e side p used None here means w asked = absurd (means p used)
+          go k c e side p used (Some s) here means true asked =
+              inl ((has u v).1 (arc_on t.arcs.arcs (numbers_from edges 0 spans) u v k c (subst (λ j. Has j (numbers_from edges 0 spans)) (number k) (has_number edges spans 0 k (Some s) here asked)) e
+              (beside_sides c u v (beside_differ c (of_map.table.once.one_place c (get_has t.arcs.arcs k c e)) u v side) side)))
+          go k c e side p used (Some s) here means false asked =
+              inr (subst (Answers edges a b) asked (answered edges s a b (ends_agree k c u v e side s means a b la lb)))
 
-      pub used_selected : AreSelected (InScope m scope) (Answers All) segs
-      used_selected = record { only = used_only; all = used_all }
+      pub asked_selected : AreSelected (InScope m scope) (Answers edges) segs
+      asked_selected = record { only = asked_only; all = asked_all }
 
 -- in the form of the code
-pub all_selected : (m : Layers) (t : TopologyParts) (of : IsOf m t) (scope : Option (List ℕ)) (us : List Use) → AreUsesIn m t scope us →
-    (n : ℕ) → n ≡ length t.arcs.arcs → (slice : List Use) → slice ≡ us → (told : List (Option Span)) → told ≡ with_uses (replicate n None) slice →
-    (same : List (Option Span)) → same ≡ told → (used : List ℕ) → used ≡ numbers_from 0 same → (these : List ℕ) → these ≡ used →
-    (segs : List Segment) → HasArcs t.arcs.arcs these segs → AreSelected (InScope m scope) (Answers All) segs
-all_selected m t of scope us in_scope n count slice one told spanned same two used numbers these three segs has =
-    used_selected m t of scope us in_scope segs
-    (subst (λ w. HasArcs t.arcs.arcs w segs) (three ∙ numbers ∙ ap (numbers_from 0) (two ∙ spanned ∙ (λ i. with_uses (replicate (count i) None) (one i)))) has)
-
--- borders by some answers are those by answers that these are
-pub borders_by : (t : TopologyParts) (scope : Option (List ℕ)) (Says Tells : Feature → Feature → Bool → Type 0) → ((f g : Feature) (b : Bool) → Says f g b → Tells f g b) →
-    (r : Result Arcs QueryFault) → IfOk r (AreBorders t scope Says) → IfOk r (AreBorders t scope Tells)
-borders_by t scope Says Tells to (Err f) h = tt
-borders_by t scope Says Tells to (Ok lines) (segs, over, selected) = (
-  segs,
-  over,
-  λ m of. record {
-    only = λ u v h. let (a, b, la, lb, says) = (selected m of).only u v h in (a, b, la, lb, to a b true says);
-    all = λ u v a b la lb. elim ((selected m of).all u v a b la lb) [ inl h ↦ inl h | inr says ↦ inr (to a b false says) ];
-  },
-)
-
--- whether two features are one, as their equality tells
-told_one : (f g x y : Feature) (b : Bool) → x ≡ f → y ≡ g → b ≡ eq_by_cmp feature_cmp x y → IsTrue b ↔ (f ≡ g)
-told_one f g x y b p q e =
-    let is : b ≡ eq_by_cmp feature_cmp f g = e ∙ (λ i. eq_by_cmp feature_cmp (p i) (q i)) in
-    (λ t. (feature_tied f g).0 (sym is ∙ t), λ s. is ∙ (feature_tied f g).1 s)
-
-told_apart : (f g x y : Feature) (b : Bool) → x ≡ f → y ≡ g → b ≡ not (eq_by_cmp feature_cmp x y) → IsTrue b ↔ (¬ (f ≡ g))
-told_apart f g x y b p q e = go (eq_by_cmp feature_cmp f g) refl
-  where
-    go : (s : Bool) → eq_by_cmp feature_cmp f g ≡ s → IsTrue b ↔ (¬ (f ≡ g))
-    go true k =
-        let is : b ≡ false = e ∙ (λ i. not (eq_by_cmp feature_cmp (p i) (q i))) ∙ ap not k in
-        (λ t. absurd (true_false b t is), λ n. absurd (n ((feature_tied f g).0 k)))
-    go false k =
-        let is : b ≡ true = e ∙ (λ i. not (eq_by_cmp feature_cmp (p i) (q i))) ∙ ap not k in
-        (λ t s. true_false (eq_by_cmp feature_cmp f g) ((feature_tied f g).1 s) k, λ n. is)
-
--- the same, as the answers of edges
-pub one_answers : (e : Edges) (f g x y : Feature) (b : Bool) → e ≡ Exterior → x ≡ f → y ≡ g → b ≡ eq_by_cmp feature_cmp x y → Answers e f g b
-one_answers e f g x y b i p q k = subst (λ w. Answers w f g b) (sym i) (told_one f g x y b p q k)
-
-pub apart_answers : (e : Edges) (f g x y : Feature) (b : Bool) → e ≡ Interior → x ≡ f → y ≡ g → b ≡ not (eq_by_cmp feature_cmp x y) → Answers e f g b
-apart_answers e f g x y b i p q k = subst (λ w. Answers w f g b) (sym i) (told_apart f g x y b p q k)
+pub borders_selected : (m : Layers) (t : TopologyParts) (of_map : IsOf m t) (scope : Option (List ℕ)) (ls : List LayerParts) → AreLayersIn t scope ls → (kept : List Geom) →
+    AreEachOnce (gathered (λ l. l.geometries) ls) kept → (gs : List Geom) → gs ≡ kept → (us : List Use) → us ≡ geometries_uses gs → (slice : List Use) → slice ≡ us →
+    (n : ℕ) → n ≡ length t.arcs.arcs → (told : List (Option Span)) → told ≡ with_uses (replicate n None) slice → (same : List (Option Span)) → same ≡ told →
+    (edges : Edges) (asked : List ℕ) → asked ≡ numbers_from edges 0 same → (these : List ℕ) → these ≡ asked →
+    (segs : List Segment) → HasArcs t.arcs.arcs these segs → AreSelected (InScope m scope) (Answers edges) segs
+borders_selected m t of_map scope ls layers kept each gs one us uses slice two n count told spanned same three edges asked numbers these four segs has =
+    let made : same ≡ with_uses (replicate (length t.arcs.arcs) None) (geometries_uses kept) =
+    three ∙ spanned ∙ (λ i. with_uses (replicate (count i) None) ((two ∙ uses ∙ ap geometries_uses one) i)) in
+    asked_selected m t of_map scope ls layers kept each edges segs (subst (λ w. HasArcs t.arcs.arcs w segs) (four ∙ numbers ∙ ap (numbers_from edges 0) made) has)

@@ -1,6 +1,7 @@
 pub mod Ends
 pub mod Stops
 pub mod Uses
+pub mod EachOnce
 pub mod Neighbors
 pub mod Pairs
 pub mod Spans

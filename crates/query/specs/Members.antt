@@ -13,15 +13,12 @@ use Rattle.theory.specs.ArcNumbers.{StitchTo}
 use Rattle.theory.specs.Geometry.{JunctionOf}
 use Rattle.theory.specs.Lists.{Has}
 use Rattle.theory.specs.Topology.{IsFormOf, IsRingList, forms_of}
-use Rattle.theory.specs.Users.{UsesArc}
 use Rattle.topo.specs.OfMap.{body_of}
 use Rattle.topo.specs.Parts.{LayerParts, TopologyParts}
 use Rattle.topo.specs.declared.geom.Body.{Body}
 use Rattle.topo.specs.declared.geom.Geom.{Geom}
 use Rattle.query.specs.Mesh.{InScope}
-use Rattle.query.specs.Uses.{use_at}
 use Rattle.query.specs.declared.members.Member.{Member}
-use Rattle.query.specs.declared.uses.Use.{Use}
 
 -- a feature and its body
 abbrev pub held : Member → Feature × Body
@@ -50,13 +47,6 @@ AreLayersIn t None ls = ls ≡ t.layers
 pub record ArePairs (m : Layers) (t : TopologyParts) (scope : Option (List ℕ)) (pairs : List (Feature × Body)) : Type 0 where
   pub only : (f : Feature) (b : Body) → Has (f, b) pairs → InScope m scope f × Has (form_of f.shape) (forms_of (seen m)) × Holds m t f b
   pub all : (f : Feature) → InScope m scope f → (b : Body) × Has (f, b) pairs
-
--- the uses are those of the arcs of the bodies of the features in scope
-pub record AreUsesIn (m : Layers) (t : TopologyParts) (scope : Option (List ℕ)) (us : List Use) : Type 0 where
-  pub pairs : List (Feature × Body)
-  pub are : ArePairs m t scope pairs
-  pub from : (k p : ℕ) → Has (use_at k p) us → (f : Feature) × (b : Body) × Has (f, b) pairs × UsesArc k (body_of b)
-  pub to : (k : ℕ) (f : Feature) (b : Body) → Has (f, b) pairs → UsesArc k (body_of b) → (p : ℕ) × Has (use_at k p) us
 
 -- a feature in scope, which is one of the map, with its body
 pub record IsMember (m : Layers) (t : TopologyParts) (scope : Option (List ℕ)) (p : Member) : Type 0 where

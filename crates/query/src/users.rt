@@ -1,41 +1,65 @@
-//! Which arcs the features of layers use.
-ghost use Rattle.query.specs.Spans.{number_if, numbers_from};
+//! Which arcs geometries use, and which of them edges ask for.
+ghost use Rattle.query.specs.EachOnce.{lent};
+ghost use Rattle.query.specs.Spans.{asks_for, number_if, numbers_from};
 ghost use Rattle.query.specs.Uses.{geometries_uses};
 ghost use Rattle.std.specs.Prelude.{◌≡◌, ◌++◌, IfOk, OnOk};
-ghost use Rattle.theory.specs.Lists.{gathered};
 
+use crate::edges::Edges;
 use crate::spans::Span;
-use crate::uses::{Use, note_geometries};
+use crate::uses::{Use, note_body};
 use std::alloc::{AllocError, Global};
-use topo::Layer;
+use topo::Geom;
 
-/// The uses of arcs by the features of the layers.
-pub(crate) fn uses_in(alloc: Global, layers: &[Layer]) -> Result<Vec<Use>, AllocError>
-    ensures { IfOk result (λ v. v.items ≡ gathered (λ l. geometries_uses l.geometries) layers.now) }
+/// The uses of arcs by these geometries, place by place.
+pub(crate) fn uses_by(alloc: Global, geometries: &[&Geom]) -> Result<Vec<Use>, AllocError>
+    ensures { IfOk result (λ v. v.items ≡ geometries_uses (lent geometries.now)) }
 {
     let mut uses = Vec::new(alloc);
-    for layer in layers {
-        note_geometries(&mut uses, layer.geometries())?;
+    for place in 0..geometries.len() {
+        note_body(&mut uses, place, &geometries[place].body)?;
     }
     Ok(uses)
 }
 
-fn note_used(used: &mut Vec<usize>, number: usize, span: Option<Span>) -> Result<(), AllocError>
-    ensures { OnOk result (used.new.items ≡ used.old.items ++ number_if number span) }
+/// Whether edges ask for an arc by how many use it: one without a user is not asked for.
+fn ask_for(edges: Edges, span: Option<Span>) -> bool
+    ensures { result ≡ asks_for edges span }
 {
-    match span {
-        Some(_) => Ok(used.push(number)?),
-        None => Ok(()),
+    let Some(users) = span else {
+        return false;
+    };
+    match edges {
+        Edges::All => true,
+        Edges::Interior => users.least != users.greatest,
+        Edges::Exterior => users.least == users.greatest,
     }
 }
 
-/// The numbers of the arcs that have a user.
-pub(crate) fn used_arcs(alloc: Global, spans: &[Option<Span>]) -> Result<Vec<usize>, AllocError>
-    ensures { IfOk result (λ v. v.items ≡ numbers_from 0 spans.now) }
+fn note_asked(
+    asked: &mut Vec<usize>,
+    number: usize,
+    span: Option<Span>,
+    edges: Edges,
+) -> Result<(), AllocError>
+    ensures { OnOk result (asked.new.items ≡ asked.old.items ++ number_if edges number span) }
 {
-    let mut used = Vec::new(alloc);
-    for number in 0..spans.len() {
-        note_used(&mut used, number, spans[number])?;
+    if ask_for(edges, span) {
+        asked.push(number)?;
     }
-    Ok(used)
+    Ok(())
+}
+
+/// The numbers of the arcs that edges ask for.
+pub(crate) fn asked_arcs(
+    alloc: Global,
+    spans: &[Option<Span>],
+    edges: Edges,
+) -> Result<Vec<usize>, AllocError>
+    ensures { IfOk result (λ v. v.items ≡ numbers_from edges 0 spans.now) }
+{
+    let mut asked = Vec::new(alloc);
+    for number in 0..spans.len() {
+        note_asked(&mut asked, number, spans[number], edges)?;
+    }
+    Ok(asked)
 }

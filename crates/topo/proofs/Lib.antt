@@ -17,3 +17,4 @@ pub mod Shapes
 pub mod Expanded
 pub mod SameBodies
 pub mod FeatureOrder
+pub mod SameGeometries

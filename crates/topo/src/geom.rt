@@ -13,7 +13,7 @@ use std::alloc::Global;
 /// What a geometry is made of (TopoJSON section 2.2).
 ///
 /// Points hold grid positions. A line, and a ring, is the list of the arcs that stitch to it.
-#[derive(PartialEq, Eq, Drop, Debug)]
+#[derive(PartialEq, Eq, PartialOrd, Ord, Drop, Debug)]
 pub enum Body {
     /// A feature without a shape.
     Null,
@@ -32,7 +32,10 @@ pub enum Body {
 }
 
 /// A geometry of a topology: a feature's id and properties, and its body.
-#[derive(Drop, Debug)]
+///
+/// Geometries compare by ids, properties and bodies, and bodies by their kinds and lists. This is not the
+/// order of a layer, which is that of the features that its geometries stitch to.
+#[derive(PartialEq, Eq, PartialOrd, Ord, Drop, Debug)]
 pub struct Geom {
     /// The feature's id.
     pub id: Id,

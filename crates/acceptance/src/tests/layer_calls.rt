@@ -1,6 +1,6 @@
 //! `write_layer`, `feature`, `mesh`, `borders`, `neighbors` and the writers of their answers, called on topologies.
 use command_runs::inputs::{BOW_TIE_TOPOLOGY, EMPTY, SHARED_EDGE};
-use command_runs::{rows, script, took};
+use command_runs::{rows, script, took, topology};
 use query::{
     Edges, LayerFault, QueryFault, borders, feature, mesh, neighbors, write_layer, write_mesh,
     write_neighbors,
@@ -103,6 +103,16 @@ fn borders_are_written_in_the_order_of_the_mesh(rt: HostRuntime) -> Result<(), F
     Ok(())
 }
 
+/// A square in two layers, and in the second its right edge.
+const SQUARE_TWICE: &str = topology!(
+    r#"{"arcs":[[[1,0],[-1,0],[0,1],[1,0]],[[1,0],[0,1]]],"bbox":[0,0,1,1],"objects":{"a":{"geometries":[{"arcs":[[1,-1]],"type":"Polygon"}],"type":"GeometryCollection"},"b":{"geometries":[{"arcs":[1],"type":"LineString"},{"arcs":[[1,-1]],"type":"Polygon"}],"type":"GeometryCollection"}},"#
+);
+
+/// One line with two ids, in two layers.
+const TWINS: &str = topology!(
+    r#"{"arcs":[[[0,0],[1,0]]],"bbox":[0,0,1,0],"objects":{"a":{"geometries":[{"arcs":[0],"id":1,"type":"LineString"}],"type":"GeometryCollection"},"b":{"geometries":[{"arcs":[0],"id":2,"type":"LineString"}],"type":"GeometryCollection"}},"#
+);
+
 /// A title, a topology, a layer, which edges of it are asked for, and the text of these borders.
 type BordersRow = (
     &'static str,
@@ -120,6 +130,11 @@ const BORDERS: &[BordersRow] = rows![
     "a ring that visits a vertex twice", BOW_TIE_TOPOLOGY, Some("a"), Edges::All, r#"{"coordinates":[[[1,1],[0,0],[2,0],[1,1]],[[1,1],[0,2],[2,2],[1,1]]],"type":"MultiLineString"}"#;
     "one feature has no edge with itself", BOW_TIE_TOPOLOGY, Some("a"), Edges::Interior, r#"{"coordinates":[],"type":"MultiLineString"}"#;
     "no feature", EMPTY, None, Edges::All, r#"{"coordinates":[],"type":"MultiLineString"}"#;
+    "between one feature in two layers and another", SQUARE_TWICE, None, Edges::Interior, r#"{"coordinates":[[[1,0],[1,1]]],"type":"MultiLineString"}"#;
+    "of one feature in two layers", SQUARE_TWICE, None, Edges::Exterior, r#"{"coordinates":[[[1,0],[0,0],[0,1],[1,1]]],"type":"MultiLineString"}"#;
+    "between features equal but for ids", TWINS, None, Edges::Interior, r#"{"coordinates":[[[0,0],[1,0]]],"type":"MultiLineString"}"#;
+    "of features equal but for ids", TWINS, None, Edges::Exterior, r#"{"coordinates":[],"type":"MultiLineString"}"#;
+    "of one of them, in a layer of its own", TWINS, Some("b"), Edges::Exterior, r#"{"coordinates":[[[0,0],[1,0]]],"type":"MultiLineString"}"#;
 ];
 
 /// Whether the borders that a row asks for are written as its text.

@@ -26,6 +26,9 @@ use topo::Topology;
 /// The filter has to answer about any two of these features, and about each with itself; about others it
 /// is not asked. How often it is asked is not promised.
 ///
+/// The features in scope are stitched, so it costs what they cost: where many use one long arc, far more
+/// than the topology. `borders` stitches none.
+///
 /// # Errors
 /// `NoLayer` where the topology has no layer of that name; `OutOfMemory`.
 pub fn mesh<F: Fn(&Feature, &Feature) -> bool>(

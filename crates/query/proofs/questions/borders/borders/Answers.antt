@@ -1,12 +1,15 @@
-use Rattle.std.proofs.Common.{rules}
-use Rattle.query.proofs.Using.{apart_answers, borders_by, one_answers}
+use Rattle.std.proofs.Common.{ap, length, ◌∙◌}
+use Rattle.query.specs.EachOnce.{lent}
+use Rattle.query.proofs.Using.{borders_selected}
 use Rattle.query.proofs.questions.borders.borders.Goals as goal
 
-pub returns-in-Interior-clause-lines : goal.returns-in-Interior-clause-lines
-returns-in-Interior-clause-lines c =
-    borders_by _ _ _ _ (λ f g b s. apart_answers _ f g s.first.now s.second.now b c.in-Interior.is s.shows.0 s.shows.1 (search rules)) c.mesh.result c.mesh.ensures.lines
-
-pub returns-in-Exterior-clause-lines : goal.returns-in-Exterior-clause-lines
-returns-in-Exterior-clause-lines c =
-    borders_by _ _ _ _ (λ f g b s. one_answers _ f g s.first.now s.second.now b c.in-Exterior.is s.shows.0 s.shows.1 (search rules)) c.mesh-in-Exterior.result
-    c.mesh-in-Exterior.ensures.lines
+pub returns-clause-lines : goal.returns-clause-lines
+returns-clause-lines c =
+    let (segs, has, over) = c.in_ok-lines_over.ensures in (
+      segs,
+      over,
+      λ m of. borders_selected m c.args.topology.now of _ c.in_ok-layers.layers.now c.in_ok-layers.ensures.layers (lent c.in_ok-geometries.geometries.items)
+          c.in_ok-geometries.ensures (lent c.deref.result.now) (ap lent c.deref.ensures.value) c.in_ok-uses.uses.items c.in_ok-uses.ensures c.deref-2.result.now
+          c.deref-2.ensures.value c.len.result (c.len.ensures.len ∙ ap (λ w. length w.arcs) c.arcs-arcs.ensures.arcs) c.in_ok-spans.spans.items c.in_ok-spans.ensures
+          c.deref-3.result.now c.deref-3.ensures.value _ c.in_ok-asked.asked.items c.in_ok-asked.ensures c.deref-4.result.now c.deref-4.ensures.value segs has,
+    )

@@ -1,0 +1,51 @@
+//! The geometries that a question is about, each once: equal ones are of one feature.
+ghost use Rattle.query.specs.EachOnce.{lent, AreEachOnce};
+ghost use Rattle.std.specs.Prelude.{◌≡◌, ◌++◌, IfOk, OnOk};
+ghost use Rattle.theory.specs.Lists.{gathered};
+
+use std::alloc::{AllocError, Global};
+use topo::{Geom, Layer};
+
+fn note_geometries<'a>(
+    noted: &mut Vec<&'a Geom>,
+    geometries: &'a [Geom],
+) -> Result<(), AllocError>
+    ensures { OnOk result (lent noted.new.items ≡ lent noted.old.items ++ geometries.now) }
+{
+    for geometry in geometries {
+        noted.push(geometry)?;
+    }
+    Ok(())
+}
+
+/// The geometries of the layers, one layer after the other.
+fn geometries_in<'a>(alloc: Global, layers: &'a [Layer]) -> Result<Vec<&'a Geom>, AllocError>
+    ensures { IfOk result (λ v. lent v.items ≡ gathered (λ l. l.geometries) layers.now) }
+{
+    let mut noted = Vec::new(alloc);
+    for layer in layers {
+        note_geometries(&mut noted, layer.geometries())?;
+    }
+    Ok(noted)
+}
+
+/// Sorts geometries, so that equal ones stand together, and keeps each once.
+fn keep_each_once(geometries: &mut Vec<&Geom>)
+    ensures { AreEachOnce (lent geometries.old.items) (lent geometries.new.items) }
+{
+    geometries.sort_unstable();
+    geometries.dedup();
+}
+
+/// The geometries of the layers, each once. One feature may stand in several layers; its geometries
+/// there are equal, and those of two features are not.
+pub(crate) fn distinct_geometries<'a>(
+    alloc: Global,
+    layers: &'a [Layer],
+) -> Result<Vec<&'a Geom>, AllocError>
+    ensures { IfOk result (λ v. AreEachOnce (gathered (λ l. l.geometries) layers.now) (lent v.items)) }
+{
+    let mut geometries = geometries_in(alloc, layers)?;
+    keep_each_once(&mut geometries);
+    Ok(geometries)
+}
