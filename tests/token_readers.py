@@ -58,7 +58,9 @@ LISTS = {
     "LineString": [0], "MultiLineString": [[0], [-1], [0, 1]], "Polygon": [[0, 1]], "MultiPolygon": [[[0, 1]], [[-2, -1]]],
 }
 FAR = 2**40  # the greatest element of a position
+ABSOLUTE = 2**53 - 1  # the greatest absolute number
 EMPTY = ["MultiPoint", "MultiLineString", "Polygon", "MultiPolygon"]
+NO_RINGS = [[[]], [[], []], [[], [[0, 1]]], [[], [[0, 1]], []], [[[0, 1]], []]]  # lists of MultiPolygons with empty polygons
 
 
 def orders(value, most=24):
@@ -115,6 +117,23 @@ def layer(*geometries):
     return {"type": "GeometryCollection", "geometries": list(geometries)}
 
 
+def at_limits(scale, translate):
+    """A topology whose positions have the least and the greatest numbers that fit a grid."""
+    least, most = max(-FAR, -((ABSOLUTE + translate) // scale)), min(FAR, (ABSOLUTE - translate) // scale)
+    arcs = [[[least, most], [most - least, least - most]]]
+    objects = {"a": {"type": "MultiPoint", "coordinates": [[most, least], [least, most]]}, "b": {"type": "LineString", "arcs": [0]}}
+    return topology(objects, arcs, transform={"scale": [scale, scale], "translate": [translate, translate]})
+
+
+def foreign(geometries):
+    """Lines with coordinates of points, and points with lists of arcs, in each order; and with any other value behind the type."""
+    for it in geometries:
+        name, values = ("coordinates", COORDINATES) if "arcs" in it else ("arcs", LISTS)
+        likes = [values[kind] for kind in ("Point", "MultiPoint") if kind in values] or [*values.values()]
+        yield from (form for like in [*likes, []] for form in orders({**it, name: like}))
+        yield from ({**it, name: other} for other in OTHERS)
+
+
 def topology_forms():
     """Values of topologies that are accepted."""
     geometries = [{"type": kind, "arcs": it} for kind, it in LISTS.items()]
@@ -123,6 +142,10 @@ def topology_forms():
     yield from (topology({"a": it}) for it in geometries)
     yield from (topology({"a": layer(it)}) for it in geometries)
     yield topology({"a": {"type": "LineString", "arcs": [0]}}, [[[-FAR, FAR], [2 * FAR, -2 * FAR], [-FAR, FAR]]])
+    yield from (at_limits(*it) for it in ((1, 0), (10**6, 10**12), (10**6, -(10**12)), (9000, -1), (8192, 0), (8191, 4095)))
+    yield from (topology({"a": it}) for arcs in NO_RINGS for it in orders({"type": "MultiPolygon", "arcs": arcs}))
+    yield from (topology({"a": it}) for it in foreign(geometries[:6]))
+    yield from (topology({"a": layer(it)}) for it in foreign(geometries[:6]))
     yield topology({"a": layer({"type": "MultiPoint", "coordinates": [[FAR, -FAR], [-FAR, FAR]]})}, [])
     yield from (topology({}), topology({}, []), topology({"a": layer()}), topology({"b": layer(), "a": layer(), "": layer()}))
     yield from (topology({"a": layer({**POINT, "id": it})}) for it in IDS)

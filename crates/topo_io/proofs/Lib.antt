@@ -20,6 +20,7 @@ pub mod Entries
 pub mod AsItStands
 pub mod AnyOrder
 pub mod TokenArcs
+pub mod TokenRange
 pub mod TokenLater
 pub mod TokenLayers
 pub mod TokenLimits

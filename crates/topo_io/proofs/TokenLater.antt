@@ -2,7 +2,7 @@
 use Rattle.reading.specs.Outlines.{line_faults, ring_faults}
 use Rattle.std.proofs.Common.{◌≡◌, ℕ, ℤ, length, ◌-◌, pos, negsuc, ◌+◌, ◌<◌, Bool, true, false, cond, List, [], ◌∷◌, ◌++◌, map, Option, Some, None, if◌then◌else◌, nat_lt, refl, sym, ap, ◌∙◌, subst, arith}
 use Rattle.std.specs.List.{AllZip, AllByRecursion}
-use Rattle.json.specs.Token.{Token, begin_array}
+use Rattle.json.specs.Token.{Token, begin_array, end_array}
 use Rattle.json.specs.Json.{value, after_end_array}
 use Rattle.serde_json.specs.Data as data_of
 use Rattle.serde_json.specs.Data.{Num, Data, Items, array, no_items}
@@ -180,3 +180,12 @@ empty_groups d h = (empty_faults any_index_faults (list_faults (list_faults any_
 pub empty_given : (depth : ℕ) (old mid new : List Token) → 0 < depth → old ≡ begin_array ∷ mid → after_end_array mid ≡ Some new → Gives depth old (array no_items) new
 empty_given depth old mid new some opens closed =
     array_gone depth old mid new no_items some opens (items_over (value (depth - 1)) (length mid) mid new (omega arith) closed)
+
+-- a list without an element
+pub empty_reads : {X : Type 0} (F : Data → List Pair) (R : Data → X → Type 0) (depth : ℕ) (new : List Token) (xs : List X) → 0 < depth → xs ≡ [] → Reads (list_faults F) (λ d ys. AllZip R (elements d) ys) depth (begin_array ∷ end_array ∷ new) new xs
+empty_reads F R depth new xs some none = record {
+  from = array no_items;
+  given = empty_given depth (begin_array ∷ end_array ∷ new) (end_array ∷ new) new some refl refl;
+  faultless = refl;
+  meant = subst (AllZip R []) (sym none) tt;
+}

@@ -1,5 +1,7 @@
 -- The layers of an object, as more are read.
-use Rattle.std.proofs.Common.{◌≡◌, inl, inr, ℕ, List, [], ◌∷◌, ◌++◌, map, Less, Equal, Greater, refl, sym, ap, ◌∙◌, subst}
+use Rattle.std.proofs.Common.{◌≡◌, ◌<◌, inl, inr, ℕ, zero, suc, length, List, [], ◌∷◌, ◌++◌, map, take, drop, insert, Less, Equal, Greater, refl, sym, ap, ◌∙◌, subst, arith}
+use Rattle.std.proofs.Math.ListN.{take-append-drop}
+use Rattle.std.specs.List.{remove}
 use Rattle.std.specs.Cmp.{tied_itself}
 use Rattle.std.specs.Cmp.Lexicographic.{slice_cmp, nat_list_cmp_total}
 use Rattle.std.specs.List.{AllByRecursion}
@@ -16,14 +18,14 @@ use Rattle.topo_io.specs.Geometries.{layer_faults}
 use Rattle.topo_io.specs.Limits.{limits_on}
 use Rattle.topo_io.specs.Parts.{layer_of_geoms, geoms_in, LayerStored}
 use Rattle.topo_io.specs.TokenMembers.{LayerMeans}
-use Rattle.topo_io.specs.TokenLayers.{IsBefore, IsAfter, Ascending, LayersMean, LayerWithin, ObjectsMean}
+use Rattle.topo_io.specs.TokenLayers.{IsBefore, IsAfter, Ascending, IsPlace, BeginsWith, HasRoom, LayersMean, LayerWithin, ObjectsMean}
 use Rattle.topo_io.specs.declared.token_reader.bounds.Bounds.{Bounds}
 
 abbrev name_of : LayerParts → List ℕ
 name_of l = spelled_text l.name
 
 -- a member that is put stands at the place of its name
-pub layers_put : (ms : Members) (front rest : List LayerParts) (name : List ℕ) (d : Data) (l : LayerParts) → LayersMean ms (front ++ rest) → AllByRecursion (IsBefore name) front → AllByRecursion (IsAfter name) rest → name_of l ≡ name → LayerMeans d l.geometries
+layers_put : (ms : Members) (front rest : List LayerParts) (name : List ℕ) (d : Data) (l : LayerParts) → LayersMean ms (front ++ rest) → AllByRecursion (IsBefore name) front → AllByRecursion (IsAfter name) rest → name_of l ≡ name → LayerMeans d l.geometries
     → LayersMean (put name d ms) (front ++ l ∷ rest)
 layers_put no_members [] [] name d l h before after same means = ((same, means), tt)
 layers_put no_members [] (x ∷ rest) name d l h before after same means = absurd h
@@ -117,6 +119,79 @@ front_ascends (x ∷ front) rest h = (first_all (IsAfter (name_of x)) front rest
 pub rest_ascends : (front rest : List LayerParts) → Ascending (front ++ rest) → Ascending rest
 rest_ascends [] rest h = h
 rest_ascends (x ∷ front) rest h = rest_ascends front rest h.1
+
+-- ---- a name that comes again
+
+-- what comes again stands where the former stood
+layers_put_again : (ms : Members) (front rest : List LayerParts) (name : List ℕ) (d : Data) (x l : LayerParts) → LayersMean ms (front ++ x ∷ rest) → AllByRecursion (IsBefore name) front → name_of x ≡ name → name_of l ≡ name → LayerMeans d l.geometries
+    → LayersMean (put name d ms) (front ++ l ∷ rest)
+layers_put_again no_members [] rest name d x l h before former same means = absurd h
+layers_put_again no_members (y ∷ front) rest name d x l h before former same means = absurd h
+layers_put_again (member k e ms) [] rest name d x l h before former same means =
+    let named : name ≡ k = sym former ∙ h.0.0 in
+    let tied : slice_cmp nat_cmp name k ≡ Equal = subst (λ n. slice_cmp nat_cmp name n ≡ Equal) named (tied_itself nat_list_cmp_total name) in
+    rw tied ((same ∙ named, means), h.1)
+layers_put_again (member k e ms) (y ∷ front) rest name d x l h before former same means =
+    let above : slice_cmp nat_cmp name k ≡ Greater = subst (λ n. slice_cmp nat_cmp name n ≡ Greater) h.0.0 (nat_list_cmp_total.antisymm name (name_of y) ∙ ap ordering_reverse before.0) in
+    rw above (h.0, layers_put_again ms front rest name d x l h.1 before.1 former same means)
+
+all_without : (P : LayerParts → Type 0) (front rest : List LayerParts) (x : LayerParts) → AllByRecursion P (front ++ x ∷ rest) → AllByRecursion P (front ++ rest)
+all_without P [] rest x h = h.1
+all_without P (y ∷ front) rest x h = (h.0, all_without P front rest x h.1)
+
+ascending_without : (front rest : List LayerParts) (x : LayerParts) → Ascending (front ++ x ∷ rest) → Ascending (front ++ rest)
+ascending_without [] rest x h = h.1
+ascending_without (y ∷ front) rest x h = (all_without (IsAfter (name_of y)) front rest x h.0, ascending_without front rest x h.1)
+
+has_more : (front rest : List LayerParts) (x : LayerParts) (n : List ℕ) → Has n (map name_of (front ++ rest)) → Has n (map name_of (front ++ x ∷ rest))
+has_more [] rest x n h = inr h
+has_more (y ∷ front) rest x n (inl e) = inl e
+has_more (y ∷ front) rest x n (inr h) = inr (has_more front rest x n h)
+
+distinct_without : (front rest : List LayerParts) (x : LayerParts) → Distinct (map name_of (front ++ x ∷ rest)) → Distinct (map name_of (front ++ rest))
+distinct_without [] rest x h = h.1
+distinct_without (y ∷ front) rest x h = (λ k. h.0 (has_more front rest x (name_of y) k), distinct_without front rest x h.1)
+
+pub some_behind : (i : ℕ) (ls : List LayerParts) → 0 < length (drop i ls) → i < length ls
+some_behind zero ls h = h
+some_behind (suc i) [] h = absurd (none h)
+  where
+    none : 0 < 0 → ⊥
+    none k = omega arith
+some_behind (suc i) (l ∷ ls) h = let less = some_behind i ls h in omega (arith, less)
+
+pub begins_named : (name : List ℕ) (l : LayerParts) (ls : List LayerParts) → name_of l ≡ name → Ascending (l ∷ ls) → BeginsWith name (l ∷ ls)
+begins_named name l ls same h = (same, subst (λ n. AllByRecursion (IsAfter n) ls) same h.0)
+
+-- what is left of layers where the one of a name is taken out
+pub record Former (name : List ℕ) (i : ℕ) (old new : List LayerParts) : Type 0 where
+  pub place : IsPlace name i new
+  pub former : LayerParts
+  pub named : name_of former ≡ name
+  pub stood : old ≡ insert new i former
+
+pub former_taken : (name : List ℕ) (i : ℕ) (ls : List LayerParts) → AllByRecursion (IsBefore name) (take i ls) → BeginsWith name (drop i ls) → Former name i ls (remove ls i)
+former_taken name zero [] before begins = absurd begins
+former_taken name zero (x ∷ ls) before begins = record { place = (omega arith, tt, begins.1); former = x; named = begins.0; stood = refl }
+former_taken name (suc i) [] before begins = absurd begins
+former_taken name (suc i) (y ∷ ls) before begins =
+    let rest = former_taken name i ls before.1 begins in
+    let inside = rest.place.0 in
+    record { place = (omega (arith, inside), (before.0, rest.place.1), rest.place.2); former = rest.former; named = rest.named; stood = ap (λ xs. y ∷ xs) rest.stood }
+
+-- room for a layer of that name: there is none, or it was taken out
+pub room_put : (ms : Members) (old new : List LayerParts) (i : ℕ) (name : List ℕ) (d : Data) (l : LayerParts) → HasRoom name i old new → LayersMean ms old → name_of l ≡ name → LayerMeans d l.geometries → LayersMean (put name d ms) (insert new i l)
+room_put ms old new i name d l (place, inl same) h named means = layers_put ms (take i new) (drop i new) name d l (subst (LayersMean ms) (sym (take-append-drop i new ∙ same)) h) place.1 place.2 named means
+room_put ms old new i name d l (place, inr (x, former, stood)) h named means = layers_put_again ms (take i new) (drop i new) name d x l (subst (LayersMean ms) stood h) place.1 former named means
+
+pub room_distinct : (old new : List LayerParts) (i : ℕ) (name : List ℕ) → HasRoom name i old new → Distinct (map name_of old) → Distinct (map name_of new)
+room_distinct old new i name (place, inl same) h = subst (λ xs. Distinct (map name_of xs)) (sym same) h
+room_distinct old new i name (place, inr (x, named, stood)) h =
+    subst (λ xs. Distinct (map name_of xs)) (take-append-drop i new) (distinct_without (take i new) (drop i new) x (subst (λ xs. Distinct (map name_of xs)) stood h))
+
+pub room_ascending : (old new : List LayerParts) (i : ℕ) (name : List ℕ) → HasRoom name i old new → Ascending old → Ascending new
+room_ascending old new i name (place, inl same) h = subst Ascending (sym same) h
+room_ascending old new i name (place, inr (x, named, stood)) h = subst Ascending (take-append-drop i new) (ascending_without (take i new) (drop i new) x (subst Ascending stood h))
 
 -- ---- the whole
 

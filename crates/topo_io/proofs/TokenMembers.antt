@@ -1,5 +1,5 @@
 -- What is known of the members of geometries and layers, as more are read.
-use Rattle.std.proofs.Common.{◌≡◌, ℕ, List, [], ◌∷◌, ◌++◌, Option, Some, Ok, codes, refl, sym, ap, ◌∙◌, subst}
+use Rattle.std.proofs.Common.{◌≡◌, ℕ, List, [], ◌∷◌, ◌++◌, Option, Some, None, Ok, codes, refl, sym, ap, ◌∙◌, subst}
 use Rattle.std.specs.Prelude.{unwrap_or}
 use Rattle.std.specs.List.{AllZip}
 use Rattle.serde_json.specs.Data.{Data, Members, object, put}
@@ -29,10 +29,21 @@ use Rattle.token_parts.specs.Members.{KnowsId, KnowsProps}
 use Rattle.token_parts.proofs.Members.{member_known, member_kept, member_faultless, apart, id_means, id_bits}
 use Rattle.topo_io.specs.TokenBounds.{BodyWithin}
 use Rattle.topo_io.specs.TokenLater.{IsCoordinates, AreLists}
-use Rattle.topo_io.specs.TokenMembers.{no_faults, IsType, KnowsType, KnowsCoordinates, KnowsLists, KnowsGeom, ShapeMeans, GeomMeans, GeometryMeans, LayerMeans}
+use Rattle.topo_io.specs.TokenMembers.{no_faults, IsType, IsIfKept, KnowsIfKept, KnowsType, KnowsCoordinates, KnowsLists, KnowsGeom, ShapeMeans, GeomMeans, GeometryMeans, LayerMeans}
 use Rattle.topo_io.specs.declared.token_reader.lists.Coordinates.{Coordinates}
 use Rattle.topo_io.specs.declared.token_reader.lists.ArcLists.{ArcLists}
 use Rattle.topo_io.proofs.TokenLater.{list_later}
+
+-- ---- a member that was kept
+
+module _ {X : Type 0} (n : List ℕ) (R : Data → X → Type 0) (name : List ℕ) (d : Data) (ms : Members) where
+  kept_still : (o : Option X) → (n ≡ name → ⊥) → KnowsIfKept n R o ms → KnowsIfKept n R o (put name d ms)
+  kept_still None other h = tt
+  kept_still (Some x) other h = member_kept n no_faults R (Some x) name d ms other h
+
+  kept_now : (o : Option X) → name ≡ n → IsIfKept R d o → KnowsIfKept n R o (put name d ms)
+  kept_now None same is = tt
+  kept_now (Some x) same is = member_known n no_faults R name d x ms same refl is
 
 -- ---- a geometry's members
 
@@ -41,10 +52,10 @@ module _ (t : Option LayerType) (s : Option Coordinates) (u : Option ArcLists) (
   type_kept = member_kept (codes "type") no_faults IsType t name d ms
 
   coordinates_kept : (codes "coordinates" ≡ name → ⊥) → KnowsCoordinates s ms → KnowsCoordinates s (put name d ms)
-  coordinates_kept = member_kept (codes "coordinates") no_faults IsCoordinates s name d ms
+  coordinates_kept = kept_still (codes "coordinates") IsCoordinates name d ms s
 
   lists_kept : (codes "arcs" ≡ name → ⊥) → KnowsLists u ms → KnowsLists u (put name d ms)
-  lists_kept = member_kept (codes "arcs") no_faults AreLists u name d ms
+  lists_kept = kept_still (codes "arcs") AreLists name d ms u
 
   id_kept : (codes "id" ≡ name → ⊥) → KnowsId i ms → KnowsId i (put name d ms)
   id_kept = member_kept (codes "id") id_faults IsIdOf i name d ms
@@ -61,20 +72,20 @@ module _ (t : Option LayerType) (s : Option Coordinates) (u : Option ArcLists) (
     props_kept (apart (codes "type") (codes "properties") name refl same) h.4,
   )
 
-  pub with_coordinates : (x : Coordinates) → name ≡ codes "coordinates" → IsCoordinates d x → KnowsGeom t s u i p ms → KnowsGeom t (Some x) u i p (put name d ms)
+  pub with_coordinates : (x : Option Coordinates) → name ≡ codes "coordinates" → IsIfKept IsCoordinates d x → KnowsGeom t s u i p ms → KnowsGeom t x u i p (put name d ms)
   with_coordinates x same is h = (
     type_kept (apart (codes "coordinates") (codes "type") name refl same) h.0,
-    member_known (codes "coordinates") no_faults IsCoordinates name d x ms same refl is,
+    kept_now (codes "coordinates") IsCoordinates name d ms x same is,
     lists_kept (apart (codes "coordinates") (codes "arcs") name refl same) h.2,
     id_kept (apart (codes "coordinates") (codes "id") name refl same) h.3,
     props_kept (apart (codes "coordinates") (codes "properties") name refl same) h.4,
   )
 
-  pub with_lists : (x : ArcLists) → name ≡ codes "arcs" → AreLists d x → KnowsGeom t s u i p ms → KnowsGeom t s (Some x) i p (put name d ms)
+  pub with_lists : (x : Option ArcLists) → name ≡ codes "arcs" → IsIfKept AreLists d x → KnowsGeom t s u i p ms → KnowsGeom t s x i p (put name d ms)
   with_lists x same is h = (
     type_kept (apart (codes "arcs") (codes "type") name refl same) h.0,
     coordinates_kept (apart (codes "arcs") (codes "coordinates") name refl same) h.1,
-    member_known (codes "arcs") no_faults AreLists name d x ms same refl is,
+    kept_now (codes "arcs") AreLists name d ms x same is,
     id_kept (apart (codes "arcs") (codes "id") name refl same) h.3,
     props_kept (apart (codes "arcs") (codes "properties") name refl same) h.4,
   )

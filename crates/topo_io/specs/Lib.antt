@@ -11,6 +11,7 @@ pub mod Parts
 pub mod Stitching
 pub mod Laws
 pub mod TokenArcs
+pub mod TokenRange
 pub mod TokenBounds
 pub mod TokenLater
 pub mod TokenMembers

@@ -1,5 +1,5 @@
 -- What the members of an object of layers mean.
-use Rattle.std.specs.Prelude.{◌≡◌, ◌≤◌, ℕ, List, [], ◌∷◌, length, map, take, drop}
+use Rattle.std.specs.Prelude.{◌≡◌, ◌≤◌, ◌⊎◌, ℕ, List, [], ◌∷◌, length, map, take, drop, insert}
 use Rattle.std.specs.List.{AllByRecursion}
 use Rattle.std.specs.Ordering.{nat_cmp}
 use Rattle.std.specs.Cmp.Lexicographic.{slice_cmp}
@@ -33,6 +33,15 @@ Ascending (l ∷ ls) = AllByRecursion (IsAfter (spelled_text l.name)) ls × Asce
 -- the names before that place come before the name, those from it on after the name
 abbrev pub IsPlace : List ℕ → ℕ → List LayerParts → Type 0
 IsPlace n i ls = (i ≤ length ls) × AllByRecursion (IsBefore n) (take i ls) × AllByRecursion (IsAfter n) (drop i ls)
+
+-- the first has the name, which comes before those behind it
+abbrev pub BeginsWith : List ℕ → List LayerParts → Type 0
+BeginsWith n [] = ⊥
+BeginsWith n (l ∷ ls) = (spelled_text l.name ≡ n) × AllByRecursion (IsAfter n) ls
+
+-- the place of a name among the new layers, which are the old ones without the one of that name
+abbrev pub HasRoom : List ℕ → ℕ → List LayerParts → List LayerParts → Type 0
+HasRoom n i old new = IsPlace n i new × ((new ≡ old) ⊎ ((l : LayerParts) × (spelled_text l.name ≡ n) × (old ≡ insert new i l)))
 
 -- the members mean these layers, in their order
 abbrev pub LayersMean : Members → List LayerParts → Type 0

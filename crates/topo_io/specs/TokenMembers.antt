@@ -1,5 +1,5 @@
 -- What is known of the members of a geometry and of a layer, and what they mean.
-use Rattle.std.specs.Prelude.{◌≡◌, List, [], map, Option, Ok, codes}
+use Rattle.std.specs.Prelude.{◌≡◌, ℕ, List, [], map, Option, Some, None, Ok, codes}
 use Rattle.std.specs.List.{AllByRecursion}
 use Rattle.serde_json.specs.Data.{Data, Members}
 use Rattle.faults.specs.Fault.{Pair}
@@ -42,11 +42,21 @@ IsType d t = (layer_by (text_or_null d) ≡ Ok t) × OfGeometry t d
 abbrev pub KnowsType : Option LayerType → Members → Type 0
 KnowsType = KnowsMember (codes "type") no_faults IsType
 
+-- the value, where it was kept
+abbrev pub IsIfKept : {X : Type 0} → (Data → X → Type 0) → Data → Option X → Type 0
+IsIfKept means d None = Unit {0}
+IsIfKept means d (Some x) = means d x
+
+-- a member that was kept, of the members that are read
+abbrev pub KnowsIfKept : {X : Type 0} → List ℕ → (Data → X → Type 0) → Option X → Members → Type 0
+KnowsIfKept n means None ms = Unit {0}
+KnowsIfKept n means (Some x) ms = KnowsMember n no_faults means (Some x) ms
+
 abbrev pub KnowsCoordinates : Option Coordinates → Members → Type 0
-KnowsCoordinates = KnowsMember (codes "coordinates") no_faults IsCoordinates
+KnowsCoordinates = KnowsIfKept (codes "coordinates") IsCoordinates
 
 abbrev pub KnowsLists : Option ArcLists → Members → Type 0
-KnowsLists = KnowsMember (codes "arcs") no_faults AreLists
+KnowsLists = KnowsIfKept (codes "arcs") AreLists
 
 abbrev pub KnowsGeom : Option LayerType → Option Coordinates → Option ArcLists → Option Id → Option Props → Members → Type 0
 KnowsGeom t s u i p ms = KnowsType t ms × KnowsCoordinates s ms × KnowsLists u ms × KnowsId i ms × KnowsProps p ms

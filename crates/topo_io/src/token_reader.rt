@@ -5,6 +5,7 @@ ghost use Rattle.topo_io.specs.Parts.{AreSaid};
 pub mod arc;
 pub mod body;
 pub mod bounds;
+pub mod foreign;
 pub mod geometry;
 pub mod layer;
 pub mod lists;
@@ -12,6 +13,7 @@ pub mod objects;
 pub mod position;
 pub mod root;
 pub mod transform;
+pub mod within;
 
 use crate::reader::parts::TextParts;
 use crate::token_reader::root::Root;

@@ -47,9 +47,8 @@ fn other_faults_are_told(rt: HostRuntime) -> Result<(), Fail> {
 
 /// Texts without a fault, in a form that is read by way of a value.
 const OTHER_FORMS: &[(&str, &str)] = rows! {
-    "a layer's name that is repeated", topology!("[]", r#"{"a":{"type":null,"id":1},"a":{"type":null,"id":2}}"#);
-    "a line that also has coordinates", topology!("[[[0,0],[1,0]]]", r#"{"a":{"type":"LineString","arcs":[0],"coordinates":[0,0]}}"#);
-    "a polygon of no rings among others", topology!("[]", r#"{"a":{"type":"MultiPolygon","arcs":[[]]}}"#);
+    "a layer's name that is repeated, the first layer faulty", topology!("[]", r#"{"a":{"type":"Line"},"a":{"type":null,"id":2}}"#);
+    "coordinates of a line, which no type reads, before its type", topology!("[[[0,0],[1,0]]]", r#"{"a":{"coordinates":0,"type":"LineString","arcs":[0]}}"#);
 };
 
 #[test]
@@ -79,15 +78,16 @@ fn is_at(position: &Pos, place: &(i64, i64)) -> bool {
     position.x() == place.0 && position.y() == place.1
 }
 
-/// A body by its only list of used arcs, or by its only place.
+/// A body by its only list of used arcs, by those of each of its polygons, or by its only place.
 #[derive(Clone, Copy)]
 enum Listed {
     Null,
     Point((i64, i64)),
     Points((i64, i64)),
+    Line(&'static [i64]),
     Lines(&'static [i64]),
     Polygon(&'static [i64]),
-    Polygons(&'static [i64]),
+    Polygons(&'static [&'static [&'static [i64]]]),
 }
 
 /// Whether the only list is of these used arcs.
@@ -98,6 +98,24 @@ fn is_only_list(lists: &[Items<ArcRef>], indexes: &[i64]) -> bool {
     }
 }
 
+fn are_lists(lists: &[Items<ArcRef>], wanted: &[&[i64]]) -> bool {
+    for (list, indexes) in lists.iter().zip(wanted) {
+        if !is_used(list.as_slice(), *indexes) {
+            return false;
+        }
+    }
+    lists.len() == wanted.len()
+}
+
+fn are_polygons(polygons: &[Items<Items<ArcRef>>], wanted: &[&[&[i64]]]) -> bool {
+    for (rings, lists) in polygons.iter().zip(wanted) {
+        if !are_lists(rings.as_slice(), *lists) {
+            return false;
+        }
+    }
+    polygons.len() == wanted.len()
+}
+
 fn is_body(body: &Body, listed: Listed) -> bool {
     match (body, listed) {
         (Body::Null, Listed::Null) => true,
@@ -105,10 +123,11 @@ fn is_body(body: &Body, listed: Listed) -> bool {
         (Body::MultiPoint(positions), Listed::Points(place)) => {
             matches!(positions.as_slice(), [position] if is_at(position, &place))
         }
+        (Body::Line(list), Listed::Line(indexes)) => is_used(list.as_slice(), indexes),
         (Body::MultiLine(lists), Listed::Lines(indexes)) => is_only_list(lists.as_slice(), indexes),
         (Body::Polygon(rings), Listed::Polygon(indexes)) => is_only_list(rings.as_slice(), indexes),
-        (Body::MultiPolygon(polygons), Listed::Polygons(indexes)) => {
-            matches!(polygons.as_slice(), [rings] if is_only_list(rings.as_slice(), indexes))
+        (Body::MultiPolygon(polygons), Listed::Polygons(wanted)) => {
+            are_polygons(polygons.as_slice(), wanted)
         }
         _ => false,
     }
@@ -136,7 +155,7 @@ const EACH_KIND: &str = topology!(
 );
 
 const BODIES: &[Listed] = &[
-    Listed::Polygons(&[0, 1]),
+    Listed::Polygons(&[&[&[0, 1]]]),
     Listed::Points((3, 4)),
     Listed::Lines(&[-1]),
     Listed::Null,
@@ -162,6 +181,83 @@ fn geometries_of_each_kind(rt: HostRuntime) -> Result<(), Fail> {
     Ok(())
 }
 
+/// Polygons of which the first has no ring.
+const NO_RINGS: &str = topology!(
+    "[[[0,0],[1,0]],[[1,0],[0,1],[-1,-1]]]",
+    r#"{"a":{"type":"GeometryCollection","geometries":[{"type":"MultiPolygon","arcs":[[]]},{"arcs":[[],[[0,1]]],"type":"MultiPolygon"},{"type":"MultiPolygon","arcs":[[],[],[[0],[1]],[]]}]}}"#
+);
+
+#[test]
+fn polygons_of_no_rings(rt: HostRuntime) -> Result<(), Fail> {
+    let parts = read_parts(rt.alloc(), NO_RINGS.as_bytes())?;
+    let geometries = geometries_of(&parts, "a").ok_or("no layer")?;
+    check_bodies(
+        &rt,
+        geometries,
+        &[
+            Listed::Polygons(&[&[]]),
+            Listed::Polygons(&[&[], &[&[0, 1]]]),
+            Listed::Polygons(&[&[], &[], &[&[0], &[1]], &[]]),
+        ],
+    );
+    Ok(())
+}
+
+/// Lines with coordinates and points with lists of arcs, before and after the type, of this geometry alone.
+const FOREIGN: &[(&str, Listed)] = rows! {
+    r#"{"type":"LineString","arcs":[0],"coordinates":[5,6]}"#, Listed::Line(&[0]);
+    r#"{"coordinates":[5,6],"arcs":[-1],"type":"LineString"}"#, Listed::Line(&[-1]);
+    r#"{"coordinates":[[5,6]],"type":"Polygon","arcs":[[1]]}"#, Listed::Polygon(&[1]);
+    r#"{"type":"MultiLineString","coordinates":{"x":[0.5,null]},"arcs":[[1]]}"#, Listed::Lines(&[1]);
+    r#"{"arcs":[[[1]]],"type":"MultiPolygon","coordinates":"x"}"#, Listed::Polygons(&[&[&[1]]]);
+    r#"{"type":"Point","arcs":[9],"coordinates":[5,6]}"#, Listed::Point((5, 6));
+    r#"{"arcs":[[9]],"coordinates":[5,6],"type":"Point"}"#, Listed::Point((5, 6));
+    r#"{"type":"MultiPoint","coordinates":[[5,6]],"arcs":false}"#, Listed::Points((5, 6));
+    r#"{"type":null,"coordinates":0,"arcs":0.5}"#, Listed::Null;
+    r#"{"coordinates":[5,6],"arcs":[],"type":null}"#, Listed::Null;
+    r#"{"type":"LineString","type":"Point","coordinates":[5,6]}"#, Listed::Point((5, 6));
+};
+
+fn of_geometry(alloc: Global, geometry: &str) -> Result<String, Fail> {
+    Ok(format!(in alloc;
+        r#"{{"type":"Topology","transform":{{"scale":[1,1],"translate":[0,0]}},"arcs":[[[0,0],[1,0]],[[1,0],[0,1],[-1,-1]]],"objects":{{"a":{geometry}}}}}"#
+    )?)
+}
+
+#[test]
+fn foreign_members_are_passed_over(rt: HostRuntime) -> Result<(), Fail> {
+    for (geometry, listed) in FOREIGN {
+        let text = of_geometry(rt.alloc(), *geometry)?;
+        let parts = read_parts(rt.alloc(), text.as_bytes())?;
+        let geometries = geometries_of(&parts, "a").ok_or("no layer")?;
+        assert!(rt;
+            matches!(geometries, [only] if is_body(&only.body, *listed)),
+            "{geometry}"
+        );
+    }
+    Ok(())
+}
+
+/// Layers of which two have names that come again.
+const NAMES_AGAIN: &str = topology!(
+    "[]",
+    r#"{"b":{"type":null,"id":1},"a":{"type":null,"id":2},"c":{"type":null,"id":3},"b":{"type":null,"id":4},"":{"type":null,"id":5},"b":{"type":null,"id":6},"c":{"type":null,"id":7}}"#
+);
+
+/// The layers in the order of their names, each with the id of its only geometry.
+const LAST_OF_EACH: &[(&str, i64)] = rows! { "", 5; "a", 2; "b", 6; "c", 7; };
+
+#[test]
+fn of_layers_by_one_name_the_last_stays(rt: HostRuntime) -> Result<(), Fail> {
+    let parts = read_parts(rt.alloc(), NAMES_AGAIN.as_bytes())?;
+    assert!(rt; parts.layers.len() == LAST_OF_EACH.len());
+    for (layer, (name, id)) in parts.layers.iter().zip(LAST_OF_EACH) {
+        let is_last = matches!(layer.geometries(), [only] if only.id == Id::Number(*id));
+        assert!(rt; layer.name().text() == *name && is_last, "{name}");
+    }
+    Ok(())
+}
+
 /// Whether the parts are three arcs on the unit grid, of which the second ends at the origin.
 fn are_arcs_of_other_tool(parts: &TextParts) -> bool {
     match parts.arcs.as_slice() {
@@ -182,5 +278,93 @@ fn lists_as_they_stand(rt: HostRuntime) -> Result<(), Fail> {
     assert!(rt; are_arcs_of_other_tool(&parts));
     let geometries = geometries_of(&parts, "a").ok_or("no layer")?;
     check_bodies(&rt, geometries, &[Listed::Polygon(&[0, 1])]);
+    Ok(())
+}
+
+/// A topology with this transform, an arc that begins at this place and has this difference, and a point at this place.
+macro_rules! on_grid {
+    ($transform:literal, $place:literal, $difference:literal) => {
+        concat!(
+            r#"{"type":"Topology","transform":"#,
+            $transform,
+            r#","arcs":[["#,
+            $place,
+            ",",
+            $difference,
+            r#"]],"objects":{"a":{"type":"Point","coordinates":"#,
+            $place,
+            "}}}"
+        )
+    };
+}
+
+/// Texts with positions at the limits: of grid numbers, 2^40, on the unit grid, and of absolute numbers, 2^53 - 1, on another.
+const AT_LIMITS: &[&str] = &[
+    on_grid!(
+        r#"{"scale":[1,1],"translate":[0,0]}"#,
+        "[-1099511627776,1099511627776]",
+        "[2199023255552,-2199023255552]"
+    ),
+    on_grid!(
+        r#"{"scale":[1,1],"translate":[0,0]}"#,
+        "[1099511627776,-1099511627776]",
+        "[-2199023255552,2199023255552]"
+    ),
+    on_grid!(
+        r#"{"scale":[1000000,9000],"translate":[1000000000000,-1]}"#,
+        "[-9008199254,1000799917193]",
+        "[18014398508,-2001599834386]"
+    ),
+    on_grid!(
+        r#"{"scale":[1000000,9000],"translate":[1000000000000,-1]}"#,
+        "[9006199254,-1000799917193]",
+        "[-18014398508,2001599834386]"
+    ),
+];
+
+/// The same, one step beyond: at the place of the arc and the point, or at the arc's end.
+const BEYOND_LIMITS: &[&str] = &[
+    on_grid!(
+        r#"{"scale":[1,1],"translate":[0,0]}"#,
+        "[-1099511627777,0]",
+        "[1,0]"
+    ),
+    on_grid!(
+        r#"{"scale":[1,1],"translate":[0,0]}"#,
+        "[0,0]",
+        "[0,1099511627777]"
+    ),
+    on_grid!(
+        r#"{"scale":[1000000,9000],"translate":[1000000000000,-1]}"#,
+        "[-9008199255,0]",
+        "[1,0]"
+    ),
+    on_grid!(
+        r#"{"scale":[1000000,9000],"translate":[1000000000000,-1]}"#,
+        "[9006199255,0]",
+        "[-1,0]"
+    ),
+    on_grid!(
+        r#"{"scale":[1000000,9000],"translate":[1000000000000,-1]}"#,
+        "[0,-1000799917194]",
+        "[0,1]"
+    ),
+    on_grid!(
+        r#"{"scale":[1000000,9000],"translate":[1000000000000,-1]}"#,
+        "[0,0]",
+        "[0,1000799917194]"
+    ),
+];
+
+#[test]
+fn positions_at_the_limits(rt: HostRuntime) -> Result<(), Fail> {
+    for text in AT_LIMITS {
+        let parts = read_parts(rt.alloc(), text.as_bytes())?;
+        assert!(rt; geometries_of(&parts, "a").is_some(), "{text}");
+    }
+    for text in BEYOND_LIMITS {
+        assert!(rt; are_parts_unread(rt.alloc(), *text), "{text}");
+        assert!(rt; is_refused(rt.alloc(), *text), "{text}");
+    }
     Ok(())
 }

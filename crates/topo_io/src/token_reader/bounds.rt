@@ -1,100 +1,79 @@
-//! What is asked of positions and of used arcs once the grid and the number of the arcs are known.
+//! The grid of a topology by the positions that fit it, and the number of its arcs.
 ghost use Rattle.grid.specs.Fits.{Fits};
-ghost use Rattle.topo_io.specs.TokenBounds.{IsBelow, BodyWithin};
-ghost use Rattle.std.specs.List.{AllByRecursion};
-ghost use Rattle.std.specs.Prelude.{IsTrue};
+ghost use Rattle.grid.specs.Place.{IsScaling};
+ghost use Rattle.topo_io.specs.TokenRange.{IsRange, IsRange-prop};
+ghost use Rattle.std.specs.Prelude.{◌≡◌, ◌≤ℤ◌, IsTrue, IfSome};
 
-use chains::ArcRef;
+use grid::limits::{
+    GREATEST_ABSOLUTE_NUMBER, GREATEST_GRID_NUMBER, LEAST_ABSOLUTE_NUMBER, LEAST_GRID_NUMBER,
+};
 use grid::pos::Pos;
-use grid::transform::Grid;
-use lines::items::Items;
-use topo::{Body, Geom, Layer};
+use grid::transform::{Axis, Grid};
 
 /// The grid of a topology, and the number of its arcs.
 #[derive(Clone, Copy)]
 pub struct Bounds {
     pub grid: Grid,
     pub arcs: usize,
+    /// The position of the least numbers that fit the grid.
+    least: Pos,
+    /// The position of the greatest numbers that fit it.
+    greatest: Pos,
+    pub ghost range: { IsRange grid least greatest } by { IsRange-prop grid least greatest },
 }
 
-/// What has positions or used arcs that may be within bounds.
-pub trait Bounded {
-    ghost use Rattle.topo_io.specs.declared.token_reader.bounds.Bounds.{Bounds};
-
-    // Each position fits the grid, and each used arc is one of the arcs.
-    ghost within: { Bounds → Self → Type 0 };
-
-    fn is_within(&self, bounds: &Bounds) -> bool
-        ensures { IsTrue result → within bounds.now self.now };
-}
-
-impl Bounded for Pos {
-    ghost within = { λ b. Fits b.grid };
-
-    #[inline(always)]
-    fn is_within(&self, bounds: &Bounds) -> bool {
-        bounds.grid.fits(*self)
-    }
-}
-
-impl Bounded for ArcRef {
-    ghost within = { λ b. IsBelow b.arcs };
-
-    #[inline(always)]
-    fn is_within(&self, bounds: &Bounds) -> bool {
-        self.arc < bounds.arcs
-    }
-}
-
-impl<T: Bounded> Bounded for Items<T> {
-    ghost within = { λ b ts. AllByRecursion (T.within b) ts };
-
-    fn is_within(&self, bounds: &Bounds) -> bool {
-        each_within(bounds, self.as_slice())
-    }
-}
-
-/// Whether each of these is within the bounds.
-pub fn each_within<T: Bounded>(bounds: &Bounds, items: &[T]) -> bool
-    ensures { IsTrue result → AllByRecursion (T.within bounds.now) items.now }
+// The least grid number that fits.
+fn least_number(axis: Axis) -> i64
+    ensures limits { IsScaling axis }
 {
-    for item in items {
-        if !item.is_within(bounds) {
-            return false;
-        }
-    }
-    true
+    let number = (LEAST_ABSOLUTE_NUMBER - axis.translate()) / axis.scale();
+    number.max(LEAST_GRID_NUMBER)
 }
 
-impl Bounded for Body {
-    ghost within = { BodyWithin };
-
-    fn is_within(&self, bounds: &Bounds) -> bool {
-        match self {
-            Body::Null => true,
-            Body::Point(p) => p.is_within(bounds),
-            Body::MultiPoint(ps) => ps.is_within(bounds),
-            Body::Line(us) => us.is_within(bounds),
-            Body::MultiLine(ls) => ls.is_within(bounds),
-            Body::Polygon(rs) => rs.is_within(bounds),
-            Body::MultiPolygon(ps) => ps.is_within(bounds),
-        }
-    }
+// The greatest grid number that fits.
+fn greatest_number(axis: Axis) -> i64
+    ensures limits { IsScaling axis }
+{
+    let number = (GREATEST_ABSOLUTE_NUMBER - axis.translate()) / axis.scale();
+    number.min(GREATEST_GRID_NUMBER)
 }
 
-impl Bounded for Geom {
-    ghost within = { λ b g. BodyWithin b g.body };
+#[inline(always)]
+fn is_between(least: i64, n: i64, greatest: i64) -> bool
+    ensures { IsTrue result → (least ≤ℤ n) × (n ≤ℤ greatest) }
+{
+    least <= n && n <= greatest
+}
 
+impl Bounds {
+    /// The bounds of that grid and of so many arcs.
+    pub fn new(grid: Grid, arcs: usize) -> Option<Bounds>
+        ensures grid { IfSome result (λ b. b.grid ≡ grid) }
+        ensures arcs { IfSome result (λ b. b.arcs ≡ arcs) }
+    {
+        let (x, y) = (grid.x_axis(), grid.y_axis());
+        let least = Pos::new(least_number(x), least_number(y))?;
+        let greatest = Pos::new(greatest_number(x), greatest_number(y))?;
+        if !grid.fits(least) {
+            return None;
+        }
+        if !grid.fits(greatest) {
+            return None;
+        }
+        Some(Bounds {
+            grid,
+            arcs,
+            least,
+            greatest,
+        })
+    }
+
+    /// Whether a position fits the grid.
     #[inline(always)]
-    fn is_within(&self, bounds: &Bounds) -> bool {
-        self.body.is_within(bounds)
-    }
-}
-
-impl Bounded for Layer {
-    ghost within = { λ b l. AllByRecursion (λ g. BodyWithin b g.body) l.geometries };
-
-    fn is_within(&self, bounds: &Bounds) -> bool {
-        each_within(bounds, self.geometries())
+    pub fn has(&self, p: Pos) -> bool
+        ensures { IsTrue result → Fits self.now.grid p }
+    {
+        is_between(self.least.x(), p.x(), self.greatest.x())
+            && is_between(self.least.y(), p.y(), self.greatest.y())
     }
 }

@@ -9,7 +9,10 @@ ghost use Rattle.std.specs.Prelude.{◌≡◌, ◌<◌, ℕ, length, codes, IfOk
 
 use crate::reader::layer_type::LayerType;
 use crate::token_reader::body::{body_of_coordinates, body_of_lists};
-use crate::token_reader::lists::{ArcLists, Coordinates, read_coordinates, read_lists};
+use crate::token_reader::foreign::{
+    coordinates_unless_foreign, has_coordinates, lists_unless_foreign,
+};
+use crate::token_reader::lists::{ArcLists, Coordinates};
 use json::{Reader, Token};
 use json_tokens::from_tokens::{FromTokens, Stop};
 use json_tokens::object::{TakeMember, read_object};
@@ -27,7 +30,9 @@ use topo::{Body, Geom};
 #[derive(Drop)]
 pub struct GeomMembers {
     pub kind: Option<LayerType>,
+    /// None where there are none, or the last were foreign.
     pub coordinates: Option<Coordinates>,
+    /// None where there are none, or the last were foreign.
     pub lists: Option<ArcLists>,
     pub id: Option<Id>,
     pub props: Option<Props>,
@@ -92,13 +97,13 @@ impl TakeMember for GeomMembers {
             return Ok(());
         }
         if name == "coordinates" {
-            let coordinates = read_coordinates(alloc, reader, depth)?;
-            self.coordinates = Some(coordinates);
+            let coordinates = coordinates_unless_foreign(alloc, self.kind, reader, depth)?;
+            self.coordinates = coordinates;
             return Ok(());
         }
         if name == "arcs" {
-            let lists = read_lists(alloc, reader, depth)?;
-            self.lists = Some(lists);
+            let lists = lists_unless_foreign(alloc, self.kind, reader, depth)?;
+            self.lists = lists;
             return Ok(());
         }
         if name == "id" {
@@ -127,12 +132,16 @@ fn body_of(
     let Some(kind) = kind else {
         return Ok(Body::Null);
     };
-    match coordinates {
-        Some(coordinates) => body_of_coordinates(kind, coordinates),
-        None => match lists {
+    if has_coordinates(kind) {
+        match coordinates {
+            Some(coordinates) => body_of_coordinates(kind, coordinates),
+            None => Err(Stop::Unread),
+        }
+    } else {
+        match lists {
             Some(lists) => body_of_lists(alloc, kind, lists),
             None => Err(Stop::Unread),
-        },
+        }
     }
 }
 

@@ -1,17 +1,20 @@
 //! Coordinates and lists of arcs by how deep their brackets nest, whatever the type that is told with them.
+ghost use Rattle.json.specs.Token as spec;
 ghost use Rattle.json_tokens.specs.Reads.{Reads};
 ghost use Rattle.topo_io.specs.TokenLater.{loose_coordinates_faults, CoordinatesMean, loose_lists_faults, ListsMean};
-ghost use Rattle.std.specs.Prelude.{IfOk};
+ghost use Rattle.std.specs.Prelude.{◌∷◌, IfOk};
 
 use crate::token_reader::position::{GridPosition, Index};
 use chains::ArcRef;
 use grid::pos::Pos;
 use json::Reader;
 use json_tokens::from_tokens::Stop;
+use json_tokens::list::read_rest;
 use json_tokens::token::take_begin_array;
 use lines::items::Items;
 use std::alloc::Global;
 use token_parts::items::ItemsOf;
+use token_parts::list::single;
 use token_parts::opened::{FromOpened, number_or_array};
 
 /// A position, or a list of them.
@@ -53,6 +56,25 @@ pub fn read_coordinates<'a>(
     Err(Stop::Unread)
 }
 
+// Polygons of which the first is behind, and has no ring.
+fn read_behind_empty<'a>(
+    alloc: Global,
+    reader: &mut Reader<'a>,
+    depth: usize,
+) -> Result<ArcLists, Stop>
+    ensures { IfOk result (λ n. Reads (loose_lists_faults n) ListsMean depth (spec.begin_array ∷ spec.begin_array ∷ spec.end_array ∷ reader.old) reader.new n) }
+{
+    if depth < 2 {
+        return Err(Stop::Unread);
+    }
+    let polygon = ItemsOf {
+        of: ItemsOf { of: Index },
+    };
+    let begun = single(alloc, Items::from_vec(Vec::new(alloc)))?;
+    let groups = read_rest(alloc, &polygon, reader, depth - 1, begun)?;
+    Ok(ArcLists::Groups(Items::from_vec(groups)))
+}
+
 /// The lists of arcs that come next.
 pub fn read_lists<'a>(
     alloc: Global,
@@ -70,6 +92,9 @@ pub fn read_lists<'a>(
     }
     if let Some(x) = number_or_array(reader)? {
         return Ok(ArcLists::List(list.read_opened(alloc, x, reader, depth)?));
+    }
+    if reader.take_end_array() {
+        return read_behind_empty(alloc, reader, depth);
     }
     if let Some(x) = number_or_array(reader)? {
         return Ok(ArcLists::Lists(lists.read_opened(alloc, x, reader, depth)?));

@@ -1,10 +1,10 @@
 //! The layers of a topology, put into the order of their names.
 ghost use Rattle.json_tokens.specs.Reads.{Reads};
-ghost use Rattle.topo_io.specs.TokenLayers.{LayersMean, ObjectsMean, IsBefore, IsAfter, Ascending, IsPlace};
+ghost use Rattle.topo_io.specs.TokenLayers.{LayersMean, ObjectsMean, IsBefore, IsAfter, Ascending, IsPlace, BeginsWith, HasRoom};
 ghost use Rattle.topo_io.specs.TokenMembers.{no_faults};
 ghost use Rattle.shapes.specs.Parts.{spelled_text};
 ghost use Rattle.std.specs.List.{AllByRecursion};
-ghost use Rattle.std.specs.Prelude.{◌≡◌, ◌<◌, ◌≤◌, insert, map, length, IsTrue, IfSome, IfOk, OnOk};
+ghost use Rattle.std.specs.Prelude.{◌≡◌, ◌<◌, ◌≤◌, take, drop, insert, map, length, IsTrue, IfSome, IfOk, OnOk};
 ghost use Rattle.theory.specs.Lists.{Distinct};
 
 use crate::token_reader::layer::LayerOf;
@@ -65,6 +65,17 @@ fn begins_after(layers: &[Layer], name: &str) -> bool
     }
 }
 
+/// Whether the first of the layers has the name.
+fn begins_with(layers: &[Layer], name: &str) -> bool
+    ensures some { IsTrue result → 0 < length layers.now }
+    ensures begins { IsTrue result → Ascending layers.now → BeginsWith name.now layers.now }
+{
+    match layers.split_first() {
+        Some((layer, _rest)) => layer.name().text() == name,
+        None => false,
+    }
+}
+
 /// The place of a layer of that name among layers that are in order, none where there is one already.
 fn place_of(layers: &[Layer], name: &str) -> Option<usize>
     ensures inside { IfSome result (λ i. i ≤ length layers.now) }
@@ -77,6 +88,36 @@ fn place_of(layers: &[Layer], name: &str) -> Option<usize>
     } else {
         None
     }
+}
+
+/// The place of the layer that has that name, among layers that are in order.
+fn former_place(layers: &[Layer], name: &str) -> Option<usize>
+    ensures inside { IfSome result (λ i. i < length layers.now) }
+    ensures place { IfSome result (λ i. Ascending layers.now → AllByRecursion (IsBefore name.now) (take i layers.now) × BeginsWith name.now (drop i layers.now)) }
+{
+    let at = layers.partition_point(|layer| is_before(layer, name));
+    let (front, rest) = layers.split_at(at);
+    if ends_before(front, name) && begins_with(rest, name) {
+        Some(at)
+    } else {
+        None
+    }
+}
+
+/// The place of a layer of that name among layers that are in order, of which one that has the name is
+/// taken out.
+fn room_for(layers: &mut Vec<Layer>, name: &str) -> Result<usize, Stop>
+    ensures inside { IfOk result (λ i. i ≤ length layers.new.items) }
+    ensures room { IfOk result (λ i. Ascending layers.old.items → HasRoom name.now i layers.old.items layers.new.items) }
+{
+    if let Some(at) = place_of(layers, name) {
+        return Ok(at);
+    }
+    let Some(at) = former_place(layers, name) else {
+        return Err(Stop::Unread);
+    };
+    let _former = layers.remove(at);
+    Ok(at)
 }
 
 // How many layers came out of order, with one for that place among so many.
@@ -124,9 +165,7 @@ impl TakeMember for ObjectsMembers {
         reader: &mut Reader<'a>,
         depth: usize,
     ) -> Result<(), Stop> {
-        let Some(at) = place_of(&self.layers, name) else {
-            return Err(Stop::Unread);
-        };
+        let at = room_for(&mut self.layers, name)?;
         self.out_of_order = out_of_order_with(self.out_of_order, at, self.layers.len())?;
         let geometries = LayerOf.read(alloc, reader, depth)?;
         let layer = layer_named(alloc, name, geometries)?;

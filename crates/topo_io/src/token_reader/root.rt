@@ -6,9 +6,10 @@ ghost use Rattle.std.specs.Prelude.{Bool, Some, IfOk};
 
 use crate::reader::parts::TextParts;
 use crate::token_reader::arc::Arc;
-use crate::token_reader::bounds::{Bounds, each_within};
+use crate::token_reader::bounds::Bounds;
 use crate::token_reader::objects::read_objects;
 use crate::token_reader::transform::read_transform;
+use crate::token_reader::within::each_within;
 use grid::pos::Pos;
 use grid::transform::Grid;
 use json::Reader;
@@ -75,9 +76,8 @@ fn parts_within_bounds(
 ) -> Result<TextParts, Stop>
     ensures { IfOk result (λ p. (kind : Bool) (ms : Members) → KnowsRoot (Some kind) (Some grid) (Some arcs) (Some layers) ms → RootMeans (object ms) p) }
 {
-    let bounds = Bounds {
-        grid,
-        arcs: arcs.len(),
+    let Some(bounds) = Bounds::new(grid, arcs.len()) else {
+        return Err(Stop::Unread);
     };
     if !each_within(&bounds, &arcs) {
         return Err(Stop::Unread);

@@ -17,24 +17,24 @@ returns-then-eq-2-clause-read c =
     let m = c.args.self.now in
     let r = c.in_ok-coordinates.ensures in
     let same = same_name c.args.name.now (codes "coordinates") c.if-eq-2.ensures in
-    (r.from, r.given, λ ms known. with_coordinates m.kind m.coordinates m.lists m.id m.props c.args.name.now r.from ms c.in_ok-coordinates.coordinates same (r.faultless, r.meant) known)
+    (r.0, r.1, λ ms known. with_coordinates m.kind m.coordinates m.lists m.id m.props c.args.name.now r.0 ms c.in_ok-coordinates.coordinates same r.2 known)
 
 pub returns-then-eq-2-clause-shorter : goal.returns-then-eq-2-clause-shorter
 returns-then-eq-2-clause-shorter c =
     let r = c.in_ok-coordinates.ensures in
-    gives_shorter c.args.depth c.args.reader.now c.read_coordinates.new.reader r.from r.given
+    gives_shorter c.args.depth c.args.reader.now c.coordinates_unless_foreign.new.reader r.0 r.1
 
 pub returns-then-eq-3-clause-read : goal.returns-then-eq-3-clause-read
 returns-then-eq-3-clause-read c =
     let m = c.args.self.now in
     let r = c.in_ok-lists.ensures in
     let same = same_name c.args.name.now (codes "arcs") c.if-eq-3.ensures in
-    (r.from, r.given, λ ms known. with_lists m.kind m.coordinates m.lists m.id m.props c.args.name.now r.from ms c.in_ok-lists.lists same (r.faultless, r.meant) known)
+    (r.0, r.1, λ ms known. with_lists m.kind m.coordinates m.lists m.id m.props c.args.name.now r.0 ms c.in_ok-lists.lists same r.2 known)
 
 pub returns-then-eq-3-clause-shorter : goal.returns-then-eq-3-clause-shorter
 returns-then-eq-3-clause-shorter c =
     let r = c.in_ok-lists.ensures in
-    gives_shorter c.args.depth c.args.reader.now c.read_lists.new.reader r.from r.given
+    gives_shorter c.args.depth c.args.reader.now c.lists_unless_foreign.new.reader r.0 r.1
 
 pub returns-then-eq-4-clause-read : goal.returns-then-eq-4-clause-read
 returns-then-eq-4-clause-read c =
