@@ -38,7 +38,6 @@ JUDGED = "has a condition, which its caller knows: "
 NO_GROWTH = {"Fault::here": NO_REQUEST, "FeatureMap::new": NO_REQUEST, "Kept::new": NO_REQUEST, "Script::new": NO_REQUEST}
 EXCEPTIONS = {
     "ArcTable::with_extent": JUDGED + "recutting::recut",
-    "chains::cut_arc": JUDGED + "none as yet",
     "Topology::feature": JUDGED + "query::feature",
     "Topology::features": JUDGED + "query::feature",
     "topo::feature": JUDGED + "query::feature",

@@ -43,11 +43,8 @@ fn rest_of(kind: &str) -> (&'static str, bool) {
     }
 }
 
-/// Whether the features are the one of the texts above, with its id and properties or without them.
-fn is_wanted(features: &[Feature], has_info: bool) -> bool {
-    let [feature] = features else {
-        return false;
-    };
+/// Whether the feature is the one of the texts above, with its id and properties or without them.
+fn is_wanted(feature: &Feature, has_info: bool) -> bool {
     let info = if has_info {
         feature.id == Id::Number(7) && feature.props.text() == "{\"a\":1}"
     } else {
@@ -67,7 +64,9 @@ fn grid() -> Result<Grid, Fail> {
 /// Whether the text is read along its tokens, as the wanted feature.
 fn is_taken(alloc: Global, text: &str, has_info: bool) -> Result<bool, Fail> {
     match read_features(alloc, text.as_bytes(), &grid()?) {
-        Ok(features) => Ok(is_wanted(features.as_slice(), has_info)),
+        Ok(features) => Ok(
+            matches!(features.as_slice(), [feature] if is_wanted(feature, has_info)),
+        ),
         Err(_) => Ok(false),
     }
 }
@@ -99,23 +98,19 @@ const LEFT: &[(&str, bool)] = rows! {
     r#"{"properties":{"a":1.5},"type":"Point","coordinates":[1,2]}"#, false;
 };
 
-/// The features of the text, in a list.
-fn features_read(alloc: Global, text: &str) -> Result<Vec<Feature>, Fail> {
-    let mut left = read(alloc, text.as_bytes(), &grid()?)?;
-    let mut features = Vec::new(alloc);
-    while let Some(feature) = left.pop_first() {
-        features.push(feature)?;
-    }
-    Ok(features)
+/// Whether the features of the text are the wanted one alone.
+fn is_read(alloc: Global, text: &str, has_info: bool) -> Result<bool, Fail> {
+    let features = read(alloc, text.as_bytes(), &grid()?)?;
+    let first = features.first();
+    Ok(features.len() == 1 && first.is_some_and(|feature| is_wanted(feature, has_info)))
 }
 
 #[test]
 fn texts_left_to_the_value(rt: HostRuntime) -> Result<(), Fail> {
     for (text, has_info) in LEFT {
-        let is_read = read_features(rt.alloc(), text.as_bytes(), &grid()?).is_ok();
-        assert!(rt; !is_read, "{text}");
-        let features = features_read(rt.alloc(), *text)?;
-        assert!(rt; is_wanted(features.as_slice(), *has_info), "{text}");
+        let is_along_tokens = read_features(rt.alloc(), text.as_bytes(), &grid()?).is_ok();
+        assert!(rt; !is_along_tokens, "{text}");
+        assert!(rt; is_read(rt.alloc(), *text, *has_info)?, "{text}");
     }
     Ok(())
 }

@@ -1,8 +1,8 @@
 //! Indexes of visits, and what lines and rings are cut into.
 
 use chains::{
-    ArcTable, Piece, Segment, VisitIndex, add_pieces, cut_line, cut_ring, maximal, maximal_with,
-    segments_of,
+    ArcTable, Piece, Segment, VisitIndex, add_pieces, cut_arc, cut_line, cut_ring, maximal,
+    maximal_with, meets_two, segments_of,
 };
 use faults::OutOfMemory;
 use grid::Pos;
@@ -28,6 +28,9 @@ const ALONE: Places = &[(1, 0), (0, 0), (0, 1), (1, 1)];
 
 const SHARED: Places = &[(1, 0), (1, 1)];
 
+/// The sides that the second square has alone.
+const BEYOND: Places = &[(1, 0), (2, 0), (2, 1), (1, 1)];
+
 /// The chain of a piece, and whether it is read backwards.
 type Part = (Places, bool);
 
@@ -35,7 +38,7 @@ type Part = (Places, bool);
 const OF_SQUARE: &[Part] = &[(SHARED, false), (ALONE, true)];
 
 /// Two squares, the ring of one, and a line along both; the junctions of the squares, and those of a map that
-/// has the line and others from each of its vertices.
+/// has the line and others from each of its vertices; the segments of the squares.
 #[derive(Drop)]
 struct Cutting {
     map: FeatureMap,
@@ -47,7 +50,17 @@ struct Cutting {
     line_index: VisitIndex,
     line: Line,
     ring: Ring,
+    segments: BTreeSet<Segment>,
     stops: BTreeSet<Pos>,
+}
+
+/// The segments of three arcs.
+fn segments_in(alloc: Global, topology: &Topology) -> Option<BTreeSet<Segment>> {
+    let mut segments = BTreeSet::new(alloc);
+    for segment in segments_of(alloc, topology.arcs(), &[0, 1, 2]).ok()? {
+        segments.insert(segment).ok()?;
+    }
+    Some(segments)
 }
 
 /// The ends of the shared side.
@@ -60,9 +73,11 @@ fn stops(alloc: Global) -> Option<BTreeSet<Pos>> {
 
 impl Cutting {
     fn with_map(alloc: Global, map: FeatureMap) -> Option<Cutting> {
+        let topology = built(alloc, SHARED_EDGE)?;
         Some(Cutting {
             copy: map.copy().ok()?,
-            topology: built(alloc, SHARED_EDGE)?,
+            segments: segments_in(alloc, &topology)?,
+            topology,
             left: built(alloc, FIRST)?,
             right: built(alloc, SECOND)?,
             index: VisitIndex::of(alloc, &map).ok()?,
@@ -149,6 +164,17 @@ fn added(alloc: Global, cutting: &Cutting) -> Result<bool, OutOfMemory> {
     Ok(are_parts(pieces.as_slice(), parts))
 }
 
+/// The first square's arc, a free loop, is cut from the lesser of the junctions on.
+fn arc(alloc: Global, cutting: &Cutting) -> Result<bool, OutOfMemory> {
+    let arcs = cutting.left.arcs();
+    if arcs.len() != 1 {
+        return Ok(false);
+    }
+    let pieces = cut_arc(alloc, arcs, 0, &cutting.stops)?;
+    let parts: &[Part] = &[(ALONE, false), (SHARED, true)];
+    Ok(are_parts(pieces.as_slice(), parts))
+}
+
 fn index(alloc: Global, cutting: &Cutting) -> Result<bool, OutOfMemory> {
     Ok(has_junctions(&VisitIndex::of(alloc, &cutting.map)?))
 }
@@ -192,10 +218,19 @@ fn numbered(alloc: Global, cutting: &Cutting) -> Result<bool, OutOfMemory> {
     Ok(used && are_arcs(&table, &[ALONE, SHARED]))
 }
 
-/// No chains over no segments, as its condition is plain of these alone; `query::mesh` finds chains over others.
+/// Without stops, the ends of the shared side would lie on three segments each.
+fn meets(alloc: Global, cutting: &Cutting) -> Result<bool, OutOfMemory> {
+    let none = BTreeSet::new(alloc);
+    let meets_none = meets_two(alloc, &cutting.segments, &none)?;
+    Ok(meets_two(alloc, &cutting.segments, &cutting.stops)? && !meets_none)
+}
+
 fn chains(alloc: Global, cutting: &Cutting) -> Result<bool, OutOfMemory> {
-    let segments: BTreeSet<Segment> = BTreeSet::new(alloc);
-    Ok(maximal(alloc, &segments, &cutting.stops)?.len() == 0)
+    if !meets_two(alloc, &cutting.segments, &cutting.stops)? {
+        return Ok(false);
+    }
+    let table = maximal(alloc, &cutting.segments, &cutting.stops)?;
+    Ok(are_arcs(&table, &[ALONE, SHARED, BEYOND]))
 }
 
 /// A chain that stands already, and no segments beside it.
@@ -217,10 +252,12 @@ pub(crate) fn settle(rt: &HostRuntime, tally: &mut Tally) {
             "chains::cut_ring" => ring,
             "Piece::new" => piece,
             "chains::add_pieces" => added,
+            "chains::cut_arc" => arc,
             "VisitIndex::of" => index,
             "VisitIndex::from_junctions" => index_of_positions,
             "VisitIndex::over_arcs" => index_over_arcs,
             "chains::segments_of" => segments,
+            "chains::meets_two" => meets,
             "chains::maximal" => chains,
             "chains::maximal_with" => chains_beside,
             "ArcTable::from_pieces" => table,
