@@ -1,0 +1,222 @@
+#!/usr/bin/env python3
+"""Measures how each command grows on awkward maps, from a size to its double, by instructions and by peak memory.
+
+    (cd crates/topotool && rt run)
+    python3 bench/growth.py [--size N] [--map NAME] [--command NAME]
+
+Tilings are kind to a program: each arc has two users, each vertex a few arcs, each ring a hundred positions. These maps are
+not: a star, a comb, many layers on one arc, features equal but for their ids, many small rings, one border that all features
+share, a ring that visits a vertex again and again; and topologies in which as many features as an arc has positions use that
+arc: as this tool writes them, cut where no junction is, in another order, with the arc twice, and with a fault in the last
+feature. Such a text means far more than it says, so a command that stitches each feature takes the square of its length.
+
+Each row is a command on a map: its instructions at the size, by valgrind, and its peak memory above what the program takes
+for nothing, and how both grow when the size doubles. A growth above 2.3 is marked by an exclamation mark and counted, and
+then the status is 1. `feature` and `neighbors` are left out where the answer is itself the square of the text. It needs
+valgrind.
+"""
+
+import json
+import os
+import re
+import subprocess
+import sys
+import tempfile
+from concurrent.futures import ThreadPoolExecutor
+
+sys.dont_write_bytecode = True
+
+from measuring import GRID, TOOL, Failed, build_topology, end_with, need, parser_of, run_once
+
+GREATEST = 2.3
+LEAST_MEGABYTES = 1  # of a growth below that nothing is told: it is the allocator's
+UNIT = {"scale": [1, 1], "translate": [0, 0]}
+
+
+def feature(kind, coordinates, number=None):
+    told = {"type": "Feature", "geometry": {"type": kind, "coordinates": coordinates}, "properties": {}}
+    return told if number is None else {**told, "id": number}
+
+
+def star(size):
+    return [feature("LineString", [[0, 0], [1 + step, step * step % 1009]]) for step in range(size)]
+
+
+def comb(size):
+    teeth = [[2 * tooth + side, 1000 * ((tooth + turn) % 2)] for tooth in range(size) for turn, side in ((0, 0), (0, 1))]
+    ring = [[0, -10], *teeth, [2 * size, -10], [0, -10]]
+    return [feature("Polygon", [ring])]
+
+
+def equal_but_for_ids(size):
+    ring = [[step, step * step] for step in range(50)] + [[0, 0]]
+    return [feature("Polygon", [ring], number) for number in range(size)]
+
+
+def small_rings(size):
+    told = []
+    for number in range(size):
+        x, y = 3 * (number % 100), 3 * (number // 100)
+        told.append(feature("Polygon", [[[x, y], [x + 2, y], [x + 2, y + 2], [x, y + 2], [x, y]]]))
+    return told
+
+
+def one_border(size):
+    shared = [[0, step] for step in range(20)]
+    return [feature("LineString", [*shared, [1 + number, 20]]) for number in range(size)]
+
+
+def visits(size):
+    petals = [place for step in range(size) for place in ([0, 0], [1 + step, 1], [1 + step, 2])]
+    return [feature("Polygon", [[*petals, [0, 0]]])]
+
+
+def layers(size):
+    """As many layers as the size, each with one line on the one arc."""
+    told = {f"layer {number:06}": {"type": "LineString", "arcs": [0]} for number in range(size)}
+    return topology([zigzag(20)], told)
+
+
+MAPS = {"star": star, "comb": comb, "equal but for ids": equal_but_for_ids, "small rings": small_rings,
+        "one border": one_border, "a vertex visited": visits}
+
+
+def zigzag(size, begin=0):
+    return [[place, place % 2] for place in range(begin, begin + size)]
+
+
+def steps(positions):
+    befores = [[0, 0], *positions]
+    return [[after[0] - before[0], after[1] - before[1]] for before, after in zip(befores, positions)]
+
+
+def topology(arcs, objects):
+    return {"type": "Topology", "transform": UNIT, "arcs": [steps(arc) for arc in arcs], "objects": objects}
+
+
+def on_arcs(size, arcs, lists, last=None):
+    """As many features as the size, which use the arcs by these lists in turn, and at last perhaps another."""
+    told = [{"type": "LineString", "arcs": lists[number % len(lists)], "id": number} for number in range(size)]
+    if last:
+        told.append(last)
+    return topology(arcs, {"a": {"type": "GeometryCollection", "geometries": told}})
+
+
+def shared_arcs(size):
+    """Topologies whose features use one arc of as many positions, by their names."""
+    whole, half = zigzag(size), size // 2
+    parts = [whole[: half + 1], whole[half:]]
+    point = {"type": "Point", "coordinates": [0.5, 0]}
+    return {
+        "as written": on_arcs(size, [whole], [[0]]),
+        "cut": on_arcs(size, parts, [[0, 1]]),
+        "another order": on_arcs(size, [zigzag(3, 2 * size), whole], [[1]], {"type": "LineString", "arcs": [0]}),
+        "doubled": on_arcs(size, [whole, whole], [[0], [1]]),
+        "a fraction last": on_arcs(size, [whole], [[0]], point),
+        "a segment twice last": on_arcs(size, [whole], [[0]], {"type": "LineString", "arcs": [0, -1]}),
+        "arcs that don't meet last": on_arcs(size, [whole], [[0]], {"type": "LineString", "arcs": [0, 0]}),
+    }
+
+
+def write(path, value):
+    with open(path, "w", encoding="ascii") as file:
+        json.dump(value, file, separators=(",", ":"))
+    return path
+
+
+def write_maps(folder, size):
+    """The files of each map of a size: its GeoJSON where it has one, and its topology."""
+    told = {}
+    for name, make in MAPS.items():
+        source = write(os.path.join(folder, f"{name}.json"), {"type": "FeatureCollection", "features": make(size)})
+        built = os.path.join(folder, f"{name}.topo.json")
+        build_topology(source, built)
+        told[name] = source, built
+    told["many layers"] = None, write(os.path.join(folder, "layers.topo.json"), layers(size))
+    for name, text in shared_arcs(size).items():
+        told[f"one arc, {name}"] = None, write(os.path.join(folder, f"{name}.topo.json"), text)
+    return told
+
+
+def shares_arcs(name):
+    """Whether all features of a map use one arc, so that each is each other's neighbour."""
+    return name.startswith("one ") or name == "equal but for ids"
+
+
+def commands(name, source, built):
+    """The commands on a map, by their names."""
+    layer = ["--layer", "layer 000000" if name == "many layers" else "a"]
+    told = {
+        "check": [TOOL, "check", built], "merge": [TOOL, "merge", built], "info": [TOOL, "info", built],
+        "mesh": [TOOL, "mesh", built], "mesh interior": [TOOL, "mesh", "--edges", "interior", built],
+        "remove": [TOOL, "remove", built, built],
+    }
+    if not shares_arcs(name):
+        told["neighbors"] = [TOOL, "neighbors", *layer, built]
+    if source:
+        told["build"] = [TOOL, "build", *GRID, f"a={source}"]
+        told["feature"] = [TOOL, "feature", *layer, built]
+    return told
+
+
+def instructions(words):
+    """How many instructions a program executes, whatever its status is."""
+    ran = subprocess.run(
+        ["valgrind", "--tool=callgrind", "--callgrind-out-file=/dev/null", *words],
+        stdout=subprocess.DEVNULL, stderr=subprocess.PIPE, text=True, check=False,
+    )
+    found = re.search(r"Collected : (\d+)", ran.stderr)
+    if ran.returncode < 0 or not found:
+        raise Failed(f"{' '.join(words[:3])} ended with {ran.returncode}")
+    return int(found[1])
+
+
+def megabytes(words):
+    """The peak memory of a program, whatever its status is."""
+    wrapped = ["sh", "-c", '"$@" > /dev/null 2>&1; [ $? -lt 120 ]', "sh", *words]
+    return run_once(wrapped, os.devnull).megabytes
+
+
+def measures(words, nothing):
+    return instructions(words), megabytes(words) - nothing
+
+
+def marked(growth):
+    return f"{growth:.2f}{'!' if growth > GREATEST else ''}"
+
+
+def row(name, command, before, after):
+    """A row of the table, and whether a growth in it is too great."""
+    (few, less), (many, more) = before, after
+    growths = [many / few]
+    if more >= LEAST_MEGABYTES:
+        growths.append(more / max(less, LEAST_MEGABYTES / 2))
+    told = [marked(each) for each in growths] + ["-"] * (2 - len(growths))
+    print(f"| {name} | {command} | {few / 1e6:,.1f} | {less:.1f} | {told[0]} | {told[1]} |", flush=True)
+    return any(each > GREATEST for each in growths)
+
+
+def main():
+    parser = parser_of("Measures the growth of each command on awkward maps.")
+    parser.add_argument("--size", type=int, default=2_000)
+    parser.add_argument("--map", default="")
+    parser.add_argument("--command", default="")
+    words = parser.parse_args()
+    need(TOOL)
+    with ThreadPoolExecutor(os.cpu_count()) as pool, tempfile.TemporaryDirectory() as top:
+        nothing, asked = megabytes([TOOL, "--version"]), {}
+        for size in (words.size, 2 * words.size):
+            folder = os.path.join(top, str(size))
+            os.mkdir(folder)
+            for name, (source, built) in write_maps(folder, size).items():
+                for command, run in commands(name, source, built).items():
+                    if words.map in name and words.command in command:
+                        asked.setdefault((name, command), []).append(pool.submit(measures, run, nothing))
+        print("| Map | Command | Millions of instructions | Megabytes | Grow | Memory grows |\n|---|---|---|---|---|---|")
+        over = [row(*key, *(each.result() for each in both)) for key, both in asked.items()]
+    print(f"growth: {len(over)} rows, {sum(over)} grow by more than {GREATEST} times")
+    return 1 if any(over) else 0
+
+
+if __name__ == "__main__":
+    end_with(main)
