@@ -1,7 +1,7 @@
 //! Arcs and layers of texts as tables of rows have them.
-use arranging::{Arranged, arrange};
 use chains::ArcRef;
 use lines::items::Items;
+use normalize::{Normalized, normalize};
 use shapes::props::Props;
 use shapes::shape::Id;
 use shapes::spelled::Spelled;
@@ -110,12 +110,12 @@ pub(crate) fn text_arcs(alloc: Global, arcs: Arcs) -> Result<TextArcs, Fail> {
 }
 
 /// What comes of arcs and layers.
-pub(crate) fn arranged(
+pub(crate) fn normalized(
     alloc: Global,
     arcs: &TextArcs,
     layers: Layers,
-) -> Result<Option<Arranged>, Fail> {
-    Ok(arrange(alloc, arcs, &layers_of(alloc, layers)?)?)
+) -> Result<Option<Normalized>, Fail> {
+    Ok(normalize(alloc, arcs, &layers_of(alloc, layers)?)?)
 }
 
 /// Whether a layer has the one geometry of a body.
@@ -139,7 +139,7 @@ fn are_layers(alloc: Global, made: &[Layer], layers: Layers) -> Result<bool, Fai
 /// Whether these arcs and layers were made.
 pub(crate) fn is_made(
     alloc: Global,
-    made: &Arranged,
+    made: &Normalized,
     arcs: Arcs,
     layers: Layers,
 ) -> Result<bool, Fail> {

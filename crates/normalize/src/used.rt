@@ -1,7 +1,6 @@
 //! Marks of the arcs that lists use.
-ghost use Rattle.arranging.specs.Used.{lists_marked};
+ghost use Rattle.normalize.specs.Used.{lists_marked};
 ghost use Rattle.standing.specs.Marks.{marks_set};
-ghost use Rattle.std.specs.List.{list_all};
 ghost use Rattle.std.specs.Prelude.{◌≡◌, set, true};
 ghost use Rattle.theory.specs.Lists.{joined};
 
@@ -38,16 +37,4 @@ pub(crate) fn mark_polygons(marks: &mut Vec<bool>, polygons: &[Items<Items<ArcRe
     for lists in polygons {
         mark_lists(marks, lists.as_slice());
     }
-}
-
-/// Whether each arc is marked.
-pub(crate) fn all_marked(marks: &[bool]) -> bool
-    ensures { result ≡ list_all (λ b. b) marks.now }
-{
-    for marked in marks {
-        if !*marked {
-            return false;
-        }
-    }
-    true
 }
