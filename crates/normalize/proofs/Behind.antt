@@ -16,9 +16,13 @@ take_all : {A : Type 0} (l : List A) → take (length l) l ≡ l
 take_all [] = refl
 take_all (x ∷ l) = ap (λ w. x ∷ w) (take_all l)
 
+take_none : (A : Type 0) (n : ℕ) → take {A = A} n [] ≡ []
+take_none A zero = refl
+take_none A (suc n) = refl
+
 all_left : {A : Type 0} (m : ℕ) (l : List A) → take (length l - m) (drop m l) ≡ drop m l
 all_left zero l = let k : length l - 0 ≡ length l = omega arith in ap (λ n. take n l) k ∙ take_all l
-all_left (suc m) [] = let k : length [] - suc m ≡ 0 = omega arith in ap (λ n. take n []) k
+all_left {A} (suc m) [] = take_none A (length {A = A} [] - suc m)
 all_left (suc m) (x ∷ l) = let k : length (x ∷ l) - suc m ≡ length l - m = omega arith in ap (λ n. take n (drop m l)) k ∙ all_left m l
 
 there : (o : Option (List Pos)) (x : Pos) (q : List Pos) → unwrap_or o [] ≡ x ∷ q → o ≡ Some (x ∷ q)

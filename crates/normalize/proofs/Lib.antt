@@ -1,7 +1,7 @@
 mod Marks
 mod SeenLists
-mod Numbered
 mod Behind
 mod Replaced
+mod Numbered
 mod Turning
 mod Kept

@@ -6,6 +6,7 @@ use Rattle.theory.specs.Lists.{Pairwise}
 use Rattle.theory.specs.Refinement.{pieces_at}
 use Rattle.theory.proofs.Lists.{append_nil}
 use Rattle.normalize.specs.Pieces.{AreJoinedOf, ArePieces, AreSplit}
+use Rattle.normalize.proofs.Replaced.{at_some}
 
 -- what stands at a place, and what is left from it on
 at_place : {A : Type 0} (n : ℕ) (l : List A) → n < length l → (x : A) × (slice_get l n ≡ Some x) × (drop n l ≡ x ∷ drop (n + 1) l)
@@ -62,3 +63,10 @@ stitch_on table arcs pieces n is before i c h e =
 
 pub stitch_all : (table arcs : List (List Pos)) (pieces : List (List ArcRef)) (n : ℕ) → length arcs ≤ n → StitchBefore table arcs pieces n → AreJoinedOf table arcs pieces
 stitch_all table arcs pieces n h so i c e = let k = within arcs i c e in so i c (omega (arith, h, k)) e
+
+pub numbered_stitch : (table arcs : List (List Pos)) (pieces : List (List ArcRef)) (n : ℕ) (ps : List ArcRef) (c d : List Pos) → Some c ≡ slice_get arcs n → Some ps ≡ slice_get pieces n →
+    StitchTo table ps c → slice_get arcs n ≡ Some d → StitchTo table (pieces_at pieces n) d
+numbered_stitch table arcs pieces n ps c d e f h there =
+    let k : Some c ≡ Some d = e ∙ there in
+    let same : c ≡ d = cc in
+    subst (λ w. StitchTo table w d) (sym (at_some pieces n ps f)) (subst (λ w. StitchTo table ps w) same h)

@@ -85,11 +85,7 @@ fn add_feature(
 }
 
 /// The features of those arcs that are marked, in the order of their numbers.
-fn features_of(
-    alloc: Global,
-    arcs: &TextArcs,
-    used: &[bool],
-) -> Result<Vec<Feature>, OutOfMemory> {
+fn features_of(alloc: Global, arcs: &TextArcs, used: &[bool]) -> Result<Vec<Feature>, OutOfMemory> {
     let mut features = Vec::new(alloc);
     for (number, marked) in used.iter().enumerate() {
         if *marked {

@@ -63,11 +63,7 @@ fn add_backwards(refs: &mut Vec<ArcRef>, pieces: &[ArcRef]) -> Result<(), AllocE
 }
 
 /// Adds pieces in the direction in which their arc is used.
-fn add_pieces(
-    refs: &mut Vec<ArcRef>,
-    pieces: &[ArcRef],
-    reversed: bool,
-) -> Result<(), AllocError>
+fn add_pieces(refs: &mut Vec<ArcRef>, pieces: &[ArcRef], reversed: bool) -> Result<(), AllocError>
     ensures { OnOk result (refs.new.items ≡ refs.old.items ++ cond reversed (backwards pieces.now) pieces.now) }
 {
     if reversed {

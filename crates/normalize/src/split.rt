@@ -47,11 +47,7 @@ fn is_first(left: &[Geom], number: usize) -> bool {
 }
 
 /// The pieces of the arc of a number as they are found, where the first of some geometries is that arc's.
-fn found_pieces(
-    alloc: Global,
-    left: &[Geom],
-    number: usize,
-) -> Result<Vec<ArcRef>, AllocError> {
+fn found_pieces(alloc: Global, left: &[Geom], number: usize) -> Result<Vec<ArcRef>, AllocError> {
     match left.first() {
         Some(geometry) => {
             if is_first(left, number) {
@@ -67,24 +63,13 @@ fn found_pieces(
 /// The geometries behind that of the arc of a number, where it is the first.
 fn behind(left: &[Geom], number: usize) -> &[Geom] {
     match left.split_first() {
-        Some((_, others)) => {
-            if is_first(left, number) {
-                others
-            } else {
-                left
-            }
-        }
+        Some((_, others)) => { if is_first(left, number) { others } else { left } }
         None => left,
     }
 }
 
 /// The pieces that were found of an arc, if they stitch to it.
-fn checked_pieces(
-    alloc: Global,
-    table: &ArcTable,
-    arc: &[Pos],
-    found: Vec<ArcRef>,
-) -> Vec<ArcRef>
+fn checked_pieces(alloc: Global, table: &ArcTable, arc: &[Pos], found: Vec<ArcRef>) -> Vec<ArcRef>
     ensures { ArePieces table.now.arcs arc.now result.items }
 {
     if stitch_to(table, &found, arc) {
