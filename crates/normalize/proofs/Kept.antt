@@ -1,5 +1,5 @@
 -- Layers by the healed arcs stitch only to what they stitched to.
-use Rattle.std.proofs.Common.{◌≡◌, ℕ, zero, suc, Bool, true, false, ◌&&◌, List, [], ◌∷◌, ◌++◌, drop, take, length, map, nat_eq, slice_get, option_map, Option, Some, None, refl, sym, ap, ◌∙◌, subst}
+use Rattle.std.proofs.Common.{◌≡◌, Bool, true, false, ◌&&◌, List, [], ◌∷◌, drop, take, length, map, nat_eq, slice_get, option_map, None, refl, sym, ap, subst}
 use Rattle.std.proofs.lemmas.Bool.{eqb-true}
 use Rattle.std.proofs.lemmas.List.{append-nil, take-append-drop}
 use Rattle.std.specs.List.{AllByRecursion}
@@ -29,7 +29,6 @@ use Rattle.normalize.specs.Pieces.{AreJoinedOf, AreSplit}
 use Rattle.normalize.proofs.Replaced.{replaced_stitch, unreplaced_stitch}
 use Rattle.normalize.proofs.Turning.{elsewhere}
 use Rattle.rewriting.specs.Rewritten.{body_rewritten}
-use lib.Pointwise.{pointwise}
 use mathlib.Core.Bool.{beq}
 
 -- one by one, where what f gives stands for each member

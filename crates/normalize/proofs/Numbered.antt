@@ -2,7 +2,6 @@
 use Rattle.std.proofs.Common.{◌≡◌, ◌<◌, ◌≤◌, ◌+◌, ℕ, zero, suc, List, [], ◌∷◌, ◌++◌, drop, length, slice_get, Some, ◌⊎◌, inl, inr, refl, sym, ap, ◌∙◌, subst, append_assoc, arith}
 use Rattle.grid.specs.declared.pos.Pos.{Pos}
 use Rattle.theory.specs.ArcNumbers.{ArcRef, StitchTo}
-use Rattle.theory.specs.Lists.{Pairwise}
 use Rattle.theory.specs.Refinement.{pieces_at}
 use Rattle.theory.proofs.Lists.{append_nil}
 use Rattle.normalize.specs.Pieces.{AreJoinedOf, ArePieces, AreSplit}

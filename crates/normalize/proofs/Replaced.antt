@@ -1,5 +1,5 @@
 -- A list of used arcs and the list of their pieces stitch to the same.
-use Rattle.std.proofs.Common.{◌≡◌, ℕ, zero, suc, Bool, true, false, cond, List, [], ◌∷◌, ◌++◌, length, reverse, map, slice_get, option_map, Option, Some, None, ◌⊎◌, inl, inr, refl, sym, ap, ◌∙◌, subst}
+use Rattle.std.proofs.Common.{◌≡◌, ℕ, zero, suc, Bool, true, false, cond, List, [], ◌∷◌, ◌++◌, reverse, map, slice_get, option_map, Some, None, inl, inr, refl, sym, ap, ◌∙◌, subst}
 use Rattle.grid.specs.declared.pos.Pos.{Pos}
 use Rattle.lines.proofs.Positions.{both_true}
 use Rattle.theory.proofs.ArcNumbers.{along_get, taken_back, taken_join, taken_of, taken_stitch, to_from}
@@ -12,7 +12,7 @@ use Rattle.theory.specs.Lists.{front_of, last_of}
 use Rattle.theory.specs.Refinement.{pieces_at, pieces_of_used, replaced}
 use Rattle.topo.proofs.Walks.{walked_stitched}
 use Rattle.normalize.specs.Lists.{all_have_pieces, has_pieces, some_piece}
-use Rattle.normalize.specs.Pieces.{AreJoinedOf, ArePieces, AreSplit}
+use Rattle.normalize.specs.Pieces.{AreJoinedOf, AreSplit}
 
 -- what is read at a place
 pub at_some : (ps : List (List ArcRef)) (i : ℕ) (p : List ArcRef) → Some p ≡ slice_get ps i → pieces_at ps i ≡ p

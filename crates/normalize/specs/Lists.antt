@@ -9,7 +9,7 @@ use Rattle.theory.specs.Removing.{rejoined, ring_rejoined}
 use Rattle.chains.specs.contracts.table.ArcRefPartialEq.TheImpl as ref_eq
 use Rattle.rejoining.specs.Parts.{RejoinedParts}
 use Rattle.rejoining.specs.Starts.{starts_by}
-use Rattle.rewriting.specs.Rewritten.{body_rewritten, geometry_rewritten, layer_rewritten}
+use Rattle.rewriting.specs.Rewritten.{geometry_rewritten, layer_rewritten}
 use Rattle.topo.specs.Parts.{LayerParts}
 use Rattle.topo.specs.declared.geom.Geom.{Geom}
 use lib.Pointwise.{pointwise}

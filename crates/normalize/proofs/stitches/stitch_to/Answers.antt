@@ -1,6 +1,5 @@
 use Rattle.std.proofs.Common.{subst, sym}
 use Rattle.normalize.specs.Pieces.{StitchOn}
-use Rattle.normalize.proofs.Behind.{all_gone}
 use Rattle.normalize.proofs.stitches.stitch_to.Goals as goal
 
 pub loop-used-preserved : goal.loop-used-preserved

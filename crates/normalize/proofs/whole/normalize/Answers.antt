@@ -1,5 +1,4 @@
-use Rattle.std.proofs.Common.{◌≡◌, ◌∙◌, IfSome, List, ap, map, subst, sym}
-use Rattle.grid.specs.declared.pos.Pos.{Pos}
+use Rattle.std.proofs.Common.{◌≡◌, ◌∙◌, IfSome, ap, map, subst, sym}
 use Rattle.chains.specs.Arcs.{Arcs}
 use Rattle.taking.specs.Kept.{KeepLayers}
 use Rattle.taking.specs.Laws.{HaveI64}
