@@ -1,4 +1,4 @@
--- A text whose layers stand in order over its arcs, once arcs and geometries are put into order, means a map.
+-- A text whose layers stand in order over its arcs, once they are normalized and geometries are put into order, means a map.
 use Rattle.std.proofs.Common.{◌≡◌, ◌↔◌, ℕ, IsTrue, List, [], ◌∷◌, map as map_list, inl, inr, refl, sym, ap, ◌∙◌, subst}
 use Rattle.std.proofs.lemmas.Cmp.{tied_itself}
 use Rattle.std.proofs.lemmas.List.Sorted.{IsPermutation-sym}
@@ -137,10 +137,10 @@ in_any_order bytes g arcs ls ks t ms said keep moved ids stand order =
     )
 
 -- a topology of such layers, which stand in order over other arcs, is what the text means
-pub arranged_means : (bytes : List ℕ) (g : Transform) (arcs cs : List (List Pos)) (ls ks ms : List LayerParts) → KeepLayers arcs cs ls ks → AreReordered ks ms → HaveI64 ms →
+pub normalized_means : (bytes : List ℕ) (g : Transform) (arcs cs : List (List Pos)) (ls ks ms : List LayerParts) → KeepLayers arcs cs ls ks → AreReordered ks ms → HaveI64 ms →
     (o : Taken) (t : TopologyParts) → o ≡ Whole t → IfWhole o (λ t. t.grid ≡ g) → IfWhole o (λ t. t.arcs ≡ table_of cs ms) → IfWhole o (λ t. t.layers ≡ ms) →
     IsWhole o ↔ StandInOrder (table_of cs ms) ms → IfWhole o (λ t. (m : Layers) → ArePartsOf m t.arcs t.layers → IsOf m t) → AreSaid bytes g arcs ls → MeansTopology bytes t
-arranged_means bytes g arcs cs ls ks ms keep moved ids o t e grid table layers stand of_map said =
+normalized_means bytes g arcs cs ls ks ms keep moved ids o t e grid table layers stand of_map said =
     let same_grid : t.grid ≡ g = subst (λ w. IfWhole w (λ t. t.grid ≡ g)) e grid in
     let same_table : t.arcs ≡ table_of cs ms = subst (λ w. IfWhole w (λ t. t.arcs ≡ table_of cs ms)) e table in
     let same_layers : t.layers ≡ ms = subst (λ w. IfWhole w (λ t. t.layers ≡ ms)) e layers in

@@ -1,12 +1,12 @@
-//! Topologies in: the arcs and the layers of a text taken as they stand, where they do, or once they are put
-//! into order.
+//! Topologies in: the arcs and the layers of a text taken as they stand, where they do, or once they are
+//! normalized.
 ghost use Rattle.reading.specs.Fault.{LeastOrWant};
 ghost use Rattle.std.specs.Prelude.{◌≡◌, ◌≢◌, ◌<◌, ◌^◌, [], length, IfOk, IfErr, IfSome, IfNone, OnOk};
 ghost use Rattle.taking.specs.Laws.{HaveI64};
 ghost use Rattle.topo_io.specs.Means.{MeansTopology, IsTopologyOfParts, AreFaultyParts};
 ghost use Rattle.topo_io.specs.Roots.{faults_of_text};
 
-use crate::other_forms::rearranged;
+use crate::other_forms::topology_of_normalized;
 use crate::reader::parts::TextParts;
 use crate::reader::parts::features::map_of_parts;
 use crate::reader::{read, read_text};
@@ -49,7 +49,7 @@ fn built(
     }
 }
 
-/// The topology of a text's parts: theirs, where they stand as they are or once they are put into order, else it
+/// The topology of a text's parts: theirs, where they stand as they are or once they are normalized, else it
 /// is built. None where a list of arcs stitches to no line or ring.
 fn topology_of_parts(alloc: Global, parts: TextParts) -> Result<Option<Topology>, OutOfMemory>
     requires { HaveI64 parts.layers.items }
@@ -60,7 +60,7 @@ fn topology_of_parts(alloc: Global, parts: TextParts) -> Result<Option<Topology>
     let grid = parts.grid;
     match take(alloc, grid, parts.arcs, parts.layers)? {
         Taken::Whole(topology) => Ok(Some(topology)),
-        Taken::Not { arcs, layers } => match rearranged(alloc, grid, &arcs, &layers)? {
+        Taken::Not { arcs, layers } => match topology_of_normalized(alloc, grid, &arcs, &layers)? {
             Some(topology) => Ok(Some(topology)),
             None => built(alloc, &grid, &arcs, layers),
         },
@@ -83,10 +83,10 @@ fn topology_of_value(alloc: Global, bytes: &[u8]) -> Result<Topology, Fault>
 }
 
 /// The topology of what a topology's text means, on its grid (TopoJSON, section 2). A text whose arcs
-/// and layers are those of that topology is taken as it stands, and so is one where they are but for the
-/// order of the arcs and their directions, where free loops begin, and the order of the features: nothing
-/// is stitched or built anew. Of all others the topology is built, of the features that their arcs stitch
-/// to. A text is read along its tokens where it has a usual form, and else by way of a value.
+/// and layers are those of that topology is taken as it stands. Of others the arcs are noded and healed, the
+/// features put into order, and what comes of it is taken where it stands: no feature is stitched. Of all
+/// others the topology is built, of the features that their arcs stitch to. A text is read along its tokens
+/// where it has a usual form, and else by way of a value.
 ///
 /// # Errors
 /// The least fault of the text, by path and then by number; `OutOfMemory` at the root.

@@ -1,6 +1,7 @@
-//! Texts in the form of other tools: arcs by first sight and as they were met, features in the order of the input.
+//! Texts in the form of other tools: arcs by first sight and as they were met, cut or doubled, features in the order of
+//! the input.
 use crate::texts::built_text;
-use arranging::arrange;
+use normalize::normalize;
 use std::alloc::Global;
 use std::process::Abort;
 use std::test::Fail;
@@ -22,17 +23,17 @@ macro_rules! topology {
     };
 }
 
-/// Whether the arcs and the layers of a text are taken once they are put into order.
-fn is_taken_in_order(alloc: Global, text: &str) -> Result<bool, Fail> {
+/// Whether the arcs and the layers of a text are taken once they are normalized.
+fn is_taken_normalized(alloc: Global, text: &str) -> Result<bool, Fail> {
     let Ok(parts) = read_parts(alloc, text.as_bytes()) else {
         return Err("refused".into());
     };
     let arcs = TextArcs::from_list(parts.arcs);
-    let Some(ordered) = arrange(alloc, &arcs, &parts.layers)? else {
+    let Some(normalized) = normalize(alloc, &arcs, &parts.layers)? else {
         return Ok(false);
     };
-    let sorted = layers_sorted(alloc, ordered.layers)?;
-    match take(alloc, parts.grid, ordered.arcs, sorted)? {
+    let sorted = layers_sorted(alloc, normalized.layers)?;
+    match take(alloc, parts.grid, normalized.arcs, sorted)? {
         Taken::Whole(_) => Ok(true),
         Taken::Not { .. } => Ok(false),
     }
@@ -44,7 +45,7 @@ fn is_read_as_built(alloc: Global, text: &str) -> Result<bool, Fail> {
     Ok(text_of(alloc, &topology)? == built_text(alloc, text)?)
 }
 
-/// Each text's topology is as it is built, and the texts are all taken in order or are not.
+/// Each text's topology is as it is built, and the texts are all taken once they are normalized, or are not.
 fn check_rows(
     rt: &impl Abort,
     alloc: Global,
@@ -54,7 +55,7 @@ fn check_rows(
     for (title, text) in rows {
         assert!(rt; is_read_as_built(alloc, *text)?, "{title}");
         assert!(rt;
-            is_taken_in_order(alloc, *text)? == are_taken,
+            is_taken_normalized(alloc, *text)? == are_taken,
             "{title}: taken"
         );
     }
@@ -94,8 +95,8 @@ fn texts_of_the_form_of_topojson_server_are_taken(rt: HostRuntime) -> Result<(),
     check_rows(&rt, rt.alloc(), OTHER_ORDERS, true)
 }
 
-/// Texts that are built anew.
-const BUILT: &[(&str, &str)] = rows! {
+/// Texts whose arcs are cut, doubled or used by nobody.
+const OTHER_ARCS: &[(&str, &str)] = rows! {
     "a border that is cut at a vertex of two", topology!("[[[1,0],[0,1]],[[1,1],[-1,0],[0,-1]],[[0,0],[1,0]],[[1,0],[1,0],[0,1],[-1,0]]]",
         r#"[{"type":"Polygon","arcs":[[0,1,2]],"id":"left"},{"type":"Polygon","arcs":[[3,-1]],"id":"right"}]"#);
     "a border that stands twice among the arcs", topology!("[[[1,0],[0,1]],[[1,1],[-1,0],[0,-1],[1,0]],[[1,0],[1,0],[0,1],[-1,0]],[[1,1],[0,-1]]]",
@@ -104,6 +105,15 @@ const BUILT: &[(&str, &str)] = rows! {
         r#"[{"type":"Polygon","arcs":[[0,1]],"id":"left"}]"#);
     "a line that goes on across a junction", topology!("[[[0,1],[1,0],[1,0]],[[1,0],[0,1],[0,1]]]",
         r#"[{"type":"LineString","arcs":[0],"id":1},{"type":"LineString","arcs":[1],"id":2}]"#);
+};
+
+#[test]
+fn texts_of_other_arcs_are_taken(rt: HostRuntime) -> Result<(), Fail> {
+    check_rows(&rt, rt.alloc(), OTHER_ARCS, true)
+}
+
+/// Texts that are built anew.
+const BUILT: &[(&str, &str)] = rows! {
     "a feature that is there twice", topology!("[[[1,0],[0,1]],[[1,1],[-1,0],[0,-1],[1,0]],[[1,0],[1,0],[0,1],[-1,0]]]",
         r#"[{"type":"Polygon","arcs":[[0,1]],"id":"left"},{"type":"Polygon","arcs":[[2,-1]],"id":"right"},{"type":"Polygon","arcs":[[0,1]],"id":"left"}]"#);
 };

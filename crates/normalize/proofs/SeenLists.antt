@@ -1,0 +1,61 @@
+-- Where lines begin and end, as the code tells it.
+use Rattle.std.proofs.Common.{◌≡◌, ℕ, ◌+◌, ◌-◌, ◌<◌, Bool, true, false, List, [], ◌∷◌, ◌++◌, drop, get_or, length, refl, sym, ap, ◌∙◌, append_assoc, arith, Option, slice_get}
+use Rattle.grid.specs.declared.pos.Pos.{Pos}
+use Rattle.lines.proofs.Dropping.{drop_item}
+use Rattle.theory.specs.ArcNumbers.{ArcRef, flipped}
+use Rattle.theory.specs.Lists.{gathered, last_of}
+use Rattle.chains.proofs.Layers.{gathered-append}
+use Rattle.standing.specs.Runs.{ends_in, first_end}
+use Rattle.standing.proofs.Steps.{last_get}
+use Rattle.normalize.specs.Seen.{list_ends, start_along}
+use Rattle.normalize.specs.Used.{lists_marked}
+use Rattle.normalize.specs.declared.seen.Seen.{Seen}
+use Rattle.normalize.proofs.Marks.{marked-append}
+
+-- the first vertex of an arc, and the last
+pub first_told : (b : Bool) (l : List Pos) (o : Option Pos) → b ≡ false → o ≡ slice_get l 0 → o ≡ first_end (ends_in b l)
+first_told b l o f e = e ∙ go l ∙ ap (λ w. first_end (ends_in w l)) (sym f)
+  where
+    go : (l : List Pos) → slice_get l 0 ≡ first_end (ends_in false l)
+    go [] = refl
+    go (x ∷ l) = refl
+
+pub last_told : (b : Bool) (l : List Pos) (o : Option Pos) → b ≡ true → o ≡ slice_get l (length l - 1) → o ≡ first_end (ends_in b l)
+last_told b l o f e = e ∙ go l ∙ ap (λ w. first_end (ends_in w l)) (sym f)
+  where
+    go : (l : List Pos) → slice_get l (length l - 1) ≡ first_end (ends_in true l)
+    go [] = refl
+    go (x ∷ l) = let k : length (x ∷ l) - 1 ≡ length l = omega arith in ap (slice_get (x ∷ l)) k ∙ last_get x l
+
+pub ends_added : (arcs : List (List Pos)) (refs others : List ArcRef) (a back : ArcRef) (old mid now : List Pos) → refs ≡ a ∷ others → back ≡ flipped (last_of a others) →
+    mid ≡ old ++ start_along arcs a → now ≡ mid ++ start_along arcs back → now ≡ old ++ list_ends arcs refs
+ends_added arcs refs others a back old mid now r b e f =
+    f
+    ∙ (λ i. e i ++ start_along arcs (b i))
+    ∙ append_assoc old (start_along arcs a) (start_along arcs (flipped (last_of a others)))
+    ∙ ap (λ w. old ++ list_ends arcs w) (sym r)
+
+-- a loop over what has lines and lists: with those of what is left the marks and the ends come to what they come to with all
+module _ {A : Type 0} (arcs : List (List Pos)) (lines lists : A → List (List ArcRef)) (xs : List A) (start : Seen) where
+  abbrev pub ComesTo : Seen → ℕ → Type 0
+  ComesTo seen i = record {
+    used : lists_marked seen.used.items (gathered lists (drop i xs)) ≡ lists_marked start.used.items (gathered lists xs);
+    ends : seen.ends.items ++ gathered (list_ends arcs) (gathered lines (drop i xs)) ≡ start.ends.items ++ gathered (list_ends arcs) (gathered lines xs);
+  }
+
+  pub seen_on : (i : ℕ) (x : A) (old now : Seen) → i < length xs → x ≡ get_or xs i x → now.used.items ≡ lists_marked old.used.items (lists x) →
+      now.ends.items ≡ old.ends.items ++ gathered (list_ends arcs) (lines x) → ComesTo old i → ComesTo now (i + 1)
+  seen_on i x old now h e marked added before = record {
+    used =
+        ap (λ w. lists_marked w (gathered lists (drop (i + 1) xs))) marked
+        ∙ sym (marked-append old.used.items (lists x) (gathered lists (drop (i + 1) xs)))
+        ∙ ap (λ w. lists_marked old.used.items (gathered lists w)) (sym (drop_item xs i x h e))
+        ∙ before.used;
+    ends =
+        ap (λ w. w ++ gathered (list_ends arcs) (gathered lines (drop (i + 1) xs))) added
+        ∙ append_assoc old.ends.items (gathered (list_ends arcs) (lines x)) (gathered (list_ends arcs) (gathered lines (drop (i + 1) xs)))
+        ∙ ap (λ w. old.ends.items ++ w)
+        (sym (gathered-append (list_ends arcs) (lines x) (gathered lines (drop (i + 1) xs)))
+        ∙ ap (λ w. gathered (list_ends arcs) (gathered lines w)) (sym (drop_item xs i x h e)))
+        ∙ before.ends;
+  }

@@ -1,0 +1,4 @@
+pub mod Used
+pub mod Seen
+pub mod Pieces
+pub mod Lists

@@ -1,0 +1,165 @@
+//! Which arcs the lists of layers use, and where their lines begin and end.
+ghost use Rattle.normalize.specs.Seen as spec;
+ghost use Rattle.normalize.specs.Seen.{geometry_lists, layer_ends, layer_lists};
+ghost use Rattle.normalize.specs.Used.{lists_marked};
+ghost use Rattle.standing.specs.Marks.{marks_set};
+ghost use Rattle.standing.specs.Runs.{ends_along, ends_in, first_end};
+ghost use Rattle.std.specs.Prelude.{◌≡◌, ◌++◌, [], IfOk, OnOk, false, length, replicate, true};
+ghost use Rattle.taking.specs.Lists.{body_lines, body_rings, layers_lines, lines_of};
+ghost use Rattle.theory.specs.ArcNumbers.{flipped};
+ghost use Rattle.theory.specs.Lists.{gathered, last_of};
+
+use crate::used::{mark_each, mark_lists, mark_polygons};
+use chains::ArcRef;
+use grid::pos::Pos;
+use lines::items::Items;
+use std::alloc::{AllocError, Global};
+use taking::TextArcs;
+use topo::{Body, Geom, Layer};
+
+/// The first vertex of an arc, or of its reverse.
+fn first_along(arc: &[Pos], reversed: bool) -> Option<Pos>
+    ensures { result ≡ first_end (ends_in reversed arc.now) }
+{
+    if reversed {
+        arc.last().copied()
+    } else {
+        arc.first().copied()
+    }
+}
+
+/// The vertex at which a used arc begins.
+fn start_along(arcs: &TextArcs, used: ArcRef) -> Option<Pos>
+    ensures { result ≡ first_end (ends_along arcs.now used) }
+{
+    match arcs.arc(used.arc) {
+        Some(arc) => first_along(arc, used.reversed),
+        None => None,
+    }
+}
+
+fn add_start(ends: &mut Vec<Pos>, arcs: &TextArcs, used: ArcRef) -> Result<(), AllocError>
+    ensures { OnOk result (ends.new.items ≡ ends.old.items ++ spec.start_along arcs.now used) }
+{
+    match start_along(arcs, used) {
+        Some(start) => {
+            ends.push(start)?;
+            Ok(())
+        }
+        None => Ok(()),
+    }
+}
+
+fn last_ref(first: ArcRef, others: &[ArcRef]) -> ArcRef
+    ensures { result ≡ last_of first others.now }
+{
+    match others.last() {
+        Some(last) => *last,
+        None => first,
+    }
+}
+
+/// A used arc in the other direction.
+fn backward(used: ArcRef) -> ArcRef
+    ensures { result ≡ flipped used }
+{
+    ArcRef {
+        arc: used.arc,
+        reversed: !used.reversed,
+    }
+}
+
+/// Adds where a line begins and ends, by its list of used arcs.
+fn add_list_ends(ends: &mut Vec<Pos>, arcs: &TextArcs, refs: &[ArcRef]) -> Result<(), AllocError>
+    ensures { OnOk result (ends.new.items ≡ ends.old.items ++ spec.list_ends arcs.now refs.now) }
+{
+    let Some((first, others)) = refs.split_first() else {
+        return Ok(());
+    };
+    let last = last_ref(*first, others);
+    let back = backward(last);
+    add_start(ends, arcs, *first)?;
+    add_start(ends, arcs, back)?;
+    Ok(())
+}
+
+/// Which arcs the lists of layers use, and the vertices where lines begin and end.
+#[derive(Drop)]
+pub(crate) struct Seen {
+    pub(crate) used: Vec<bool>,
+    pub(crate) ends: Vec<Pos>,
+}
+
+impl Seen {
+    /// None of so many arcs is used.
+    fn none(alloc: Global, count: usize) -> Result<Seen, AllocError>
+        ensures used { IfOk result (λ s. s.used.items ≡ replicate count false) }
+        ensures ends { IfOk result (λ s. s.ends.items ≡ []) }
+    {
+        let used = vec![in alloc; false; count]?;
+        let ends = Vec::new(alloc);
+        Ok(Seen { used, ends })
+    }
+
+    fn add_line(&mut self, arcs: &TextArcs, refs: &[ArcRef]) -> Result<(), AllocError>
+        ensures used { OnOk result (self.new.used.items ≡ marks_set true self.old.used.items refs.now) }
+        ensures ends { OnOk result (self.new.ends.items ≡ self.old.ends.items ++ spec.list_ends arcs.now refs.now) }
+    {
+        mark_each(&mut self.used, refs);
+        add_list_ends(&mut self.ends, arcs, refs)
+    }
+
+    fn add_lines(&mut self, arcs: &TextArcs, lists: &[Items<ArcRef>]) -> Result<(), AllocError>
+        ensures used { OnOk result (self.new.used.items ≡ lists_marked self.old.used.items lists.now) }
+        ensures ends { OnOk result (self.new.ends.items ≡ self.old.ends.items ++ gathered (spec.list_ends arcs.now) lists.now) }
+    {
+        for refs in lists {
+            self.add_line(arcs, refs.as_slice())?;
+        }
+        Ok(())
+    }
+
+    fn add_body(&mut self, arcs: &TextArcs, body: &Body) -> Result<(), AllocError>
+        ensures used { OnOk result (self.new.used.items ≡ lists_marked (lists_marked self.old.used.items (body_lines body.now)) (body_rings body.now)) }
+        ensures ends { OnOk result (self.new.ends.items ≡ self.old.ends.items ++ gathered (spec.list_ends arcs.now) (body_lines body.now)) }
+    {
+        match body {
+            Body::Null | Body::Point(_) | Body::MultiPoint(_) => {}
+            Body::Line(refs) => self.add_line(arcs, refs.as_slice())?,
+            Body::MultiLine(lists) => self.add_lines(arcs, lists.as_slice())?,
+            Body::Polygon(lists) => mark_lists(&mut self.used, lists.as_slice()),
+            Body::MultiPolygon(polygons) => mark_polygons(&mut self.used, polygons.as_slice()),
+        }
+        Ok(())
+    }
+
+    fn add_geometries(&mut self, arcs: &TextArcs, geometries: &[Geom]) -> Result<(), AllocError>
+        ensures used { OnOk result (self.new.used.items ≡ lists_marked self.old.used.items (gathered geometry_lists geometries.now)) }
+        ensures ends { OnOk result (self.new.ends.items ≡ self.old.ends.items ++ gathered (spec.list_ends arcs.now) (lines_of geometries.now)) }
+    {
+        for geometry in geometries {
+            self.add_body(arcs, &geometry.body)?;
+        }
+        Ok(())
+    }
+
+    fn add_layers(&mut self, arcs: &TextArcs, layers: &[Layer]) -> Result<(), AllocError>
+        ensures used { OnOk result (self.new.used.items ≡ lists_marked self.old.used.items (gathered layer_lists layers.now)) }
+        ensures ends { OnOk result (self.new.ends.items ≡ self.old.ends.items ++ gathered (spec.list_ends arcs.now) (layers_lines layers.now)) }
+    {
+        for layer in layers {
+            self.add_geometries(arcs, layer.geometries())?;
+        }
+        Ok(())
+    }
+}
+
+/// What all lists of layers use, and where their lines begin and end.
+pub(crate) fn seen_in(alloc: Global, arcs: &TextArcs, layers: &[Layer]) -> Result<Seen, AllocError>
+    ensures used { IfOk result (λ s. s.used.items ≡ lists_marked (replicate (length arcs.now) false) (gathered layer_lists layers.now)) }
+    ensures ends { IfOk result (λ s. s.ends.items ≡ layer_ends arcs.now layers.now) }
+{
+    let mut seen = Seen::none(alloc, arcs.len())?;
+    seen.add_layers(arcs, layers)?;
+    Ok(seen)
+}

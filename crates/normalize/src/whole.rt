@@ -1,0 +1,57 @@
+//! The arcs and the layers of a text, normalized.
+ghost use Rattle.std.specs.Prelude.{IfOk, IfSome};
+ghost use Rattle.taking.specs.Kept.{KeepLayers};
+ghost use Rattle.taking.specs.Laws.{HaveI64};
+
+use crate::heal::heal;
+use crate::lists::HealedLists;
+use crate::seen::seen_in;
+use crate::split::Split;
+use faults::OutOfMemory;
+use grid::pos::Pos;
+use lines::items::Items;
+use std::alloc::Global;
+use taking::TextArcs;
+use topo::Layer;
+
+/// Arcs that are noded and healed, in order, each in its lesser direction and a free loop begun at its least
+/// vertex; and layers by these arcs.
+#[derive(Drop)]
+pub struct Normalized {
+    pub arcs: Vec<Items<Pos>>,
+    pub layers: Vec<Layer>,
+}
+
+/// The arcs of a text noded and healed, and the layers by these: arcs that no list uses drop out, the others
+/// are split where they meet, so that each stretch is an arc once, and joined where no line ends and not
+/// three ends of arcs meet. Each geometry then stitches only to what it stitched to: each arc is compared
+/// with what its pieces stitch to, and each list with its pieces. A list that fails, as one that names an arc
+/// which is not there, gets an arc that is not there. `None` where a healed arc is not what its pieces
+/// stitch to.
+///
+/// # Errors
+/// Where memory is refused.
+pub fn normalize(
+    alloc: Global,
+    arcs: &TextArcs,
+    layers: &[Layer],
+) -> Result<Option<Normalized>, OutOfMemory>
+    ensures kept { IfOk result (λ o. IfSome o (λ n. KeepLayers arcs.now n.arcs.items layers.now n.layers.items)) }
+    ensures ids { IfOk result (λ o. IfSome o (λ n. HaveI64 layers.now → HaveI64 n.layers.items)) }
+{
+    let seen = seen_in(alloc, arcs, layers)?;
+    let Some(split) = Split::of(alloc, arcs, &seen.used)? else {
+        return Ok(None);
+    };
+    let Some(joined) = heal(alloc, &split.table, &seen.ends)? else {
+        return Ok(None);
+    };
+    let lists = HealedLists {
+        split: &split,
+        joined: &joined,
+    };
+    let layers = lists.layers(alloc, layers)?;
+    let (table, _) = joined.into_parts();
+    let arcs = table.into_arcs(alloc)?;
+    Ok(Some(Normalized { arcs, layers }))
+}
