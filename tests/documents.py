@@ -37,7 +37,7 @@ PLAIN = [*DOCUMENTS, "bench/README.md", "tests/README.md", "examples/README.md",
          *(f"examples/{it}/README.md" for it in ("own-map", "many-hands", "map"))]
 DEFINITIONS = "docs/DEFINITIONS.md"
 PROOFS = "docs/PROOFS.md"
-OPTIONAL = ["jq", "ogr2ogr"]
+OPTIONAL = ["jq"]
 README_BYTES = 8000
 PARAGRAPH = 600
 # Words that readers don't expect or search for, and what to write instead.
@@ -118,7 +118,7 @@ def tried(document):
     found, wrong = [*examples(text)], misquoted(document, text)
     left_out = {*skipped([command for command, _ in found])}
     if left_out:
-        print(f"{document}: {len(left_out)} examples skipped: not all of {', '.join(OPTIONAL)} are installed")
+        print(f"{document}: {len(left_out)} examples skipped: they need {', '.join(OPTIONAL)}, which is not installed")
     found = [it for it in found if it[0] not in left_out]
     with tempfile.TemporaryDirectory() as folder:
         os.symlink(f"{TOP}/examples", f"{folder}/examples")
