@@ -1,20 +1,26 @@
-"""Runs the examples of the documents as they are printed there, and compares what they print; looks for quoted code, for
-definitions and for calls with a condition.
+"""Runs the examples of the documents as they are printed there, and compares what they print; checks quoted code,
+definitions, calls with a condition, links, and how the documents are written.
 
     python3 tests/documents.py [DOCUMENT...]
 
 An example is a line that begins with `$ `, in a fenced block or indented by four spaces, and the lines below
 it. Those of a document run in turn in a folder of its own, where `examples` is that of the repository and
-`topotool` is crates/topotool/out/topotool, or the program that TOPOTOOL names, which has to be built before. A fenced
-block whose first line names a file of the repository has to stand in that file, line by line. Each name that
+`topotool` is crates/topotool/out/topotool, or the program that TOPOTOOL names, which has to be built before. Those that
+need a program of OPTIONAL that is not installed are skipped, and so are those that read what a skipped one writes. A
+fenced block whose first line names a file of the repository has to be in that file, line by line. Each name that
 docs/DEFINITIONS.md lists has to be defined in the file that its row names. The calls that docs/PROOFS.md lists as those
-with a condition have to be the public functions that have one, as tests/conditions.py finds them. Ends with a line of
-counts, and with status 1 where an example prints something else, a quotation doesn't stand in its file, a name is not
-defined in it, or a call with a condition is not listed, or one without is.
+with a condition have to be the public functions that have one, as tests/conditions.py finds them.
+
+Of every document, links have to lead to a file, and to a heading where they name one, and each docs/NAME.md that is
+mentioned has to be there. Of PLAIN documents, so has each path into docs, examples, tests and bench; a paragraph has at
+most PARAGRAPH characters, and no word of AVOID. README.md has at most README_BYTES bytes. Ends with a line of counts,
+and with status 1 where anything is wrong.
 """
 
+import glob
 import os
 import re
+import shutil
 import subprocess
 import sys
 import tempfile
@@ -25,9 +31,30 @@ import conditions
 
 TOP = os.path.dirname(os.path.dirname(os.path.abspath(__file__)))
 PROGRAM = os.path.abspath(os.environ.get("TOPOTOOL", f"{TOP}/crates/topotool/out/topotool"))
-DOCUMENTS = ["README.md", "docs/FAULTS.md", "docs/LIBRARY.md"]
+DOCUMENTS = ["README.md", *(f"docs/{it}.md" for it in ("COMMANDS", "SESSIONS", "HEADLINE", "FAULTS", "LIBRARY", "GLOSSARY", "EDITORS")),
+             "CONTRIBUTING.md", "SECURITY.md", "CHANGELOG.md"]
+PLAIN = [*DOCUMENTS, "docs/README.md", "bench/README.md", "tests/README.md", "examples/README.md",
+         *(f"examples/{it}/README.md" for it in ("own-map", "many-hands", "map"))]
 DEFINITIONS = "docs/DEFINITIONS.md"
 PROOFS = "docs/PROOFS.md"
+OPTIONAL = ["jq"]
+README_BYTES = 8000
+PARAGRAPH = 600
+# Words that readers don't expect or search for, and what to write instead.
+AVOID = {
+    r"want of memory|memory is wanting": "out of memory",
+    r"by turns": "interleaved",
+    r"g(?:ive|ives|iven|ave) up": "returns, is dropped",
+    r"(?:is|are|be|was|were) told|tells?|telling": "says, is reported",
+    r"the least (?:is|of)|least fault": "the first error",
+    r"mend(?:s|ed|ing)?": "fix",
+    r"hand(?:s|ed)? (?:over|in|out)": "pass",
+    r"(?:many|all|other|two|their) hands": "editors",
+    r"stands?(?! for\b)": "is, is stored",
+    r"lent|lends?": "borrows",
+    r"come to a vertex|comes to a vertex": "visits, passes through",
+    r"hurt": "damaged",
+}
 
 
 def examples(text):
@@ -73,11 +100,26 @@ def run(command, folder):
     return [it for it in re.sub(r"\n\Z", "", ran.stdout).split("\n") if it or ran.stdout]
 
 
+def skipped(commands):
+    """Gives the commands that need a program that is not installed, or read what one of these writes."""
+    missing = [it for it in OPTIONAL if shutil.which(it) is None]
+    lost = []
+    for command in commands:
+        needs = [it for it in missing if re.search(rf"(?:^|[|;&(]\s*){it}\s", command)]
+        if needs or any(re.search(rf"(?<![\w./-]){re.escape(it)}(?![\w-])", command) for it in lost):
+            lost += re.findall(r"> ?([\w./-]+)", command)
+            yield command
+
+
 def tried(document):
     """Runs the examples of a document; returns how many there are, with its quotations, and how many are wrong."""
     with open(f"{TOP}/{document}", encoding="utf-8") as file:
         text = file.read()
     found, wrong = [*examples(text)], misquoted(document, text)
+    left_out = {*skipped([command for command, _ in found])}
+    if left_out:
+        print(f"{document}: {len(left_out)} examples skipped: they need {', '.join(OPTIONAL)}, which is not installed")
+    found = [it for it in found if it[0] not in left_out]
     with tempfile.TemporaryDirectory() as folder:
         os.symlink(f"{TOP}/examples", f"{folder}/examples")
         os.mkdir(f"{folder}/bin")
@@ -139,6 +181,98 @@ def told_of(document):
     return len(listed), len(wrong)
 
 
+def prose(text):
+    """The lines of a document that are no code: neither fenced nor indented; comments are left out."""
+    fenced = False
+    for line in re.sub(r"<!--.*?-->", "", text, flags=re.DOTALL).split("\n"):
+        if line.lstrip().startswith("```"):
+            fenced = not fenced
+        elif not fenced and not line.startswith("    "):
+            yield line
+        else:
+            yield ""
+
+
+def paragraphs(text):
+    """The paragraphs of a document and the items of its lists, without headings and tables."""
+    lines = []
+    for line in [*prose(text), ""]:
+        begins = re.match(r"\s*(?:[-*]|\d+\.) ", line)
+        if lines and (begins or not line.strip() or line.startswith(("#", "|"))):
+            yield " ".join(lines)
+            lines = []
+        if line.strip() and not line.startswith(("#", "|")):
+            lines.append(line.strip())
+
+
+def slugs(text):
+    """The names by which links name the headings of a document."""
+    for heading in re.findall(r"^#+ (.*)$", "\n".join(prose(text)), re.MULTILINE):
+        yield re.sub(r"[^\w\- ]", "", heading.lower()).replace(" ", "-")
+
+
+def dead_links(document, text):
+    """Gives the links of a document that lead nowhere."""
+    for target in re.findall(r"\[[^\]]*\]\(([^)\s]+)\)", re.sub(r"`[^`\n]*`", "", "\n".join(prose(text)))):
+        name, _, heading = target.partition("#")
+        path = os.path.normpath(f"{TOP}/{os.path.dirname(document)}/{name}") if name else f"{TOP}/{document}"
+        if "://" in target or target.startswith("mailto:"):
+            continue
+        if not os.path.exists(path):
+            yield target
+        elif heading:
+            with open(path, encoding="utf-8") as file:
+                if heading not in slugs(file.read()):
+                    yield target
+
+
+def dead_mentions(document, text):
+    """Gives the paths that a document mentions and that are not there; of other than PLAIN documents those into docs."""
+    folders = "docs|examples|tests|bench" if document in PLAIN else "docs"
+    for path in re.findall(rf"(?<![\w/.$-])((?:{folders})/[\w./*-]*\w)", "\n".join(prose(text))):
+        if "NAME" not in path and not glob.glob(f"{TOP}/{path}"):
+            yield path
+
+
+def badly_written(document, text):
+    """Gives what a PLAIN document is not to have: long paragraphs, and words that readers don't expect."""
+    for it in paragraphs(text):
+        if len(it) > PARAGRAPH:
+            yield f"a paragraph of {len(it)} characters: {it[:60]}.."
+    for line in re.sub(r"`[^`\n]*`", "", "\n".join(prose(text))).split("\n"):
+        for words, better in AVOID.items():
+            for found in re.findall(rf"\b(?:{words})\b", line, re.IGNORECASE):
+                yield f"'{found}' (write: {better}) in: {line[:80]}"
+    size = len(text.encode())
+    if document == "README.md" and size > README_BYTES:
+        yield f"{size} bytes"
+
+
+def all_documents():
+    """Every document of the repository, by its path."""
+    places = ["*.md", "docs/*.md", "bench/*.md", "tests/*.md", "examples/*.md", "examples/*/*.md", ".github/*.md", ".github/*/*.md"]
+    return sorted(os.path.relpath(it, TOP) for place in places for it in glob.glob(f"{TOP}/{place}"))
+
+
+def read_through():
+    """How many documents there are, and how many things are wrong with their links and words."""
+    wrong = 0
+    documents = all_documents()
+    for document in documents:
+        with open(f"{TOP}/{document}", encoding="utf-8") as file:
+            text = file.read()
+        told = [*(f"{it} leads nowhere" for it in dead_links(document, text)),
+                *(f"{it} is not there" for it in dead_mentions(document, text)),
+                *(badly_written(document, text) if document in PLAIN else [])]
+        wrong += len(told)
+        for it in told:
+            print(f"{document}: {it}")
+    missing = [it for it in PLAIN if it not in documents]
+    for it in missing:
+        print(f"{it} is not there")
+    return len(documents), wrong + len(missing)
+
+
 def main(documents):
     if not os.path.isfile(PROGRAM):
         sys.exit(f"{PROGRAM} is not there: rt run in crates/topotool builds it")
@@ -148,8 +282,9 @@ def main(documents):
         count, wrong = count + more, wrong + bad
     names, lost = unlisted(DEFINITIONS)
     calls, missed = told_of(PROOFS)
-    wrong += lost + missed
-    print(f"{count} examples, {names} definitions, {calls} calls with a condition, {wrong} wrong")
+    pages, faulty = read_through()
+    wrong += lost + missed + faulty
+    print(f"{count} examples, {names} definitions, {calls} calls with a condition, {pages} documents, {wrong} wrong")
     return 1 if wrong else 0
 
 
