@@ -1,7 +1,6 @@
 -- Arcs of which no vertex lies in the other table's extent.
-use Rattle.std.proofs.Common.{◌≡◌, ℕ, zero, suc, Bool, true, false, ◌&&◌, ◌||◌, cond, List, [], ◌∷◌, ◌++◌, map, inl, inr, refl, sym, ap, ◌∙◌, get_or, Some, slice_get, append-nil}
+use Rattle.std.proofs.Common.{◌≡◌, ℕ, zero, suc, Bool, true, false, ◌&&◌, cond, List, [], ◌∷◌, ◌++◌, map, sym, ap, ◌∙◌, get_or, Some, slice_get, append-nil}
 use Rattle.std.specs.List.{list_any}
-use Rattle.theory.specs.Lists.{Has}
 use Rattle.theory.specs.Refinement.{unclosed}
 use Rattle.grid.specs.declared.pos.Pos.{Pos}
 use Rattle.lines.specs.Bits as bits
@@ -12,15 +11,11 @@ use Rattle.chains.specs.declared.shared.VertexBits.{VertexBits}
 use Rattle.chains.specs.declared.visits.Visit.{Visit}
 use Rattle.chains.proofs.Same.{same_equal}
 use Rattle.chains.proofs.SharedVertices.{inside_has}
-use Rattle.chains.proofs.Sharing.{none_met}
+use Rattle.chains.proofs.Sharing.{none_any, none_met}
 
 module _ (may : Pos → Bool) where
-  pub none_any : (l : List Pos) → ((v : Pos) → Has v l → may v ≡ false) → list_any may l ≡ false
-  none_any [] h = refl
-  none_any (x ∷ l) h = ap (λ b. b || list_any may l) (h x (inl refl)) ∙ none_any l (λ v k. h v (inr k))
-
   pub apart_inside : (free : Bool) (c : List Pos) → list_any may c ≡ false → meets may free c ≡ false
-  apart_inside free c e = none_any (inside free c) (λ v h. none_met may c e v (inside_has v free c h))
+  apart_inside free c e = none_any may (inside free c) (λ v h. none_met may c e v (inside_has v free c h))
 
   -- nothing is noted of an arc of which the other table may have no inner vertex
   pub no_visits : (free : Bool) (c : List Pos) (now : List Visit) → meets may free c ≡ false → HaveSame now (now ++ met_visits may free c)

@@ -15,10 +15,11 @@ use Rattle.lines.specs.Positions.{position_total}
 use Rattle.lines.specs.Turned.{list_cmp}
 use Rattle.lines.proofs.Dropping.{drop_next}
 use Rattle.lines.proofs.Positions.{true_false}
-use Rattle.chains.specs.ArcPieces.{goes_on, cut_inside_from, cut_inside, meets_stop, turned_loop, open_pieces, pieces_at, read_from, JoinTo, EndsAtStop, MeetAtStops, AreCutAt}
-use Rattle.chains.specs.Pieces.{is_backwards_less, least_direction, piece_along, used}
+use Rattle.chains.specs.ArcPieces.{meets_stop, turned_loop, pieces_at, read_from, JoinTo, EndsAtStop, MeetAtStops, AreCutAt}
+use Rattle.chains.specs.Pieces.{cut_inside, cut_inside_from, goes_on, is_backwards_less, least_direction, open_pieces, piece_along, used}
 use Rattle.chains.specs.declared.cutting.Piece.{Piece}
 use Rattle.chains.proofs.LoopStops.{turned_least}
+use Rattle.chains.proofs.Oriented.{used_along, used_parts}
 use Rattle.chains.proofs.Sharing.{none_met}
 use Rattle.chains.proofs.Slices.{range_more, range_one}
 
@@ -77,18 +78,6 @@ pub part_last : (stop : Pos → Bool) (l : List Pos) (b i b' : ℕ) (ps ps' all 
 part_last stop l b i b' ps ps' all h w n f g before =
     let t = stands l i w in
     part_pass stop l b i b' t.0 ps ps' all h t.1 (ap (λ c. c && stop t.0) n) f g before
-
--- what a piece is, whatever its mark
-pub used_along : (free : Bool) (c : List Pos) → used (piece_along free c) ≡ c
-used_along free c = go (is_backwards_less c)
-  where
-    go : (b : Bool) → cond b (reverse (cond b (reverse c) c)) (cond b (reverse c) c) ≡ c
-    go true = reverse-reverse c
-    go false = refl
-
-used_parts : (free : Bool) (cs : List (List Pos)) → map used (map (piece_along free) cs) ≡ cs
-used_parts free [] = refl
-used_parts free (c ∷ cs) = let e : used (piece_along free c) ≡ c = used_along free c in let h : map used (map (piece_along free) cs) ≡ cs = used_parts free cs in λ i. e i ∷ h i
 
 not_both : (r s : Ordering) → s ≡ ordering_reverse r → is_lt r ≡ true → is_lt s ≡ false
 not_both Less s f e = ap is_lt f
@@ -244,7 +233,7 @@ are_cut stop true c = go (meets_stop stop c) refl
     t : List Pos
     t = turned_loop stop c
 
-    go : (b : Bool) → meets_stop stop c ≡ b → AreCutAt stop true c (cond b (open_pieces stop t) (piece_along true c ∷ []))
+    go : (b : Bool) → meets_stop stop c ≡ b → AreCutAt stop true c (map (piece_along (not b)) (cond b (cut_inside stop t) (c ∷ [])))
     go true e =
         let r : read_from stop true c ≡ t = ap (λ b. cond b t c) e in
         record {

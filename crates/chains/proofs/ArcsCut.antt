@@ -1,5 +1,6 @@
 -- The pieces of arcs under the junctions of a greater map.
-use Rattle.std.proofs.Common.{◌≡◌, Bool, true, false, cond, List, [], ◌∷◌, ◌++◌, map, inl, inr, refl}
+use Rattle.std.proofs.Common.{◌≡◌, Bool, true, false, not, List, [], ◌∷◌, ◌++◌, map, inl, inr, refl, sym, subst}
+use Rattle.std.specs.List.{list_any}
 use Rattle.theory.specs.Arcs.{AreArcsOf}
 use Rattle.theory.specs.Chain.{Free}
 use Rattle.theory.specs.Geometry.{Geometry, IsSound, IsLineOf, IsRingOf, JunctionOf, IsChainOf}
@@ -12,17 +13,19 @@ use Rattle.theory.proofs.ArcsOfMap.{are_arcs}
 use Rattle.theory.proofs.PiecesExist.{are_arcs_as_map, whole_union}
 use Rattle.grid.specs.declared.pos.Pos.{Pos}
 use Rattle.lines.specs.Turned.{position_cmp}
+use Rattle.chains.specs.ArcPieces.{pieces_at}
 use Rattle.chains.specs.Arcs.{Arcs}
 use Rattle.chains.specs.Index.{IsIndexOf}
 use Rattle.chains.specs.OfArcs.{arc_pieces, ArePiecesUnder}
 use Rattle.chains.specs.Among.{among, Tells}
-use Rattle.chains.specs.Pieces.{used, cut_list, ring_parts, line_pieces, ring_pieces, ArePieces}
+use Rattle.chains.specs.Pieces.{used, begun_ring, cut_inside, line_pieces, parts_round, ring_pieces, ArePieces}
 use Rattle.chains.specs.Table.{is_loop, free_at, IsTableOf}
 use Rattle.chains.specs.declared.cutting.Piece.{Piece}
 use Rattle.chains.proofs.Cuts.{line_is_cut, ring_is_cut}
 use Rattle.lines.specs.Positions.{position_total, position_same}
 use Rattle.lines.proofs.Positions.{position_dec}
-use Rattle.chains.proofs.Oriented.{used_all}
+use Rattle.chains.proofs.ArcsAtStops.{loop_as_ring}
+use Rattle.chains.proofs.Oriented.{used_parts}
 use Rattle.chains.proofs.TableOfMap.{line_good, ring_good}
 use Rattle.chains.proofs.TablesAsMap.{told, free_loop, index_alike}
 
@@ -75,20 +78,21 @@ module _ (a u : Geometry Pos) (alike : Alike a u) where
     pub pieces_under : (c : List Pos) → Has c t.arcs → ArePiecesUnder g u c (arc_pieces js t.loops c)
     pieces_under c h = go (is_loop t.loops c) refl
       where
-        go : (b : Bool) → is_loop t.loops c ≡ b → ArePiecesUnder g u c (cond b (ring_pieces js (unclosed c)) (line_pieces js c))
+        go : (b : Bool) → is_loop t.loops c ≡ b → ArePiecesUnder g u c (pieces_at (among js) b c)
         go true e =
             let f = free_loop g sg t table c h e in
-            record {
-              each = are_pieces_alike (ring_pieces js (unclosed c)) (ring_good a sa js index (unclosed c) (loops (unclosed c) f.1));
+            let r : List Pos = unclosed c in
+            let cs = parts_round (among js) r (begun_ring (among js) r) in
+            subst (ArePiecesUnder g u c) (sym (loop_as_ring g sg t table js c h e)) (record {
+              each = are_pieces_alike (ring_pieces js r) (ring_good a sa js index r (loops r f.1));
               along = inr (
-                unclosed c,
+                r,
                 f.0,
                 (told g sg t table c h).yes e,
-                ring_pieces_alike (unclosed c) (map used (ring_pieces js (unclosed c)))
-                    (ring_is_cut a sa js index (unclosed c) (loops (unclosed c) f.1) (map used (ring_pieces js (unclosed c)))
-                    (used_all (among js) (ring_parts (among js) (unclosed c)) (ring_pieces js (unclosed c)) refl)),
+                ring_pieces_alike r (map used (ring_pieces js r))
+                    (ring_is_cut a sa js index r (loops r f.1) (map used (ring_pieces js r)) (used_parts (not (list_any (among js) r)) cs)),
               );
-            }
+            })
         go false e =
             let f = (told g sg t table c h).no e in
             record {
@@ -96,8 +100,7 @@ module _ (a u : Geometry Pos) (alike : Alike a u) where
               along = inl (
                 f,
                 pieces_alike c (map used (line_pieces js c))
-                    (line_is_cut a sa js index c (opens c (h, f)) (map used (line_pieces js c))
-                    (used_all (among js) (cut_list (among js) c) (line_pieces js c) refl)),
+                    (line_is_cut a sa js index c (opens c (h, f)) (map used (line_pieces js c)) (used_parts false (cut_inside (among js) c))),
               );
             }
 

@@ -42,5 +42,6 @@ pub mod Siding
 pub mod ArcSegments
 pub mod Staying
 pub mod TurnedLists
+pub mod LeastUsed
 pub mod Backwards
 pub mod Paired

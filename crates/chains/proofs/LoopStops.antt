@@ -1,6 +1,6 @@
--- Where a loop's least stop stands, if one lies on it.
-use Rattle.std.proofs.Common.{◌≡◌, ℕ, ◌≤◌, Bool, true, false, cond, ◌||◌, List, [], ◌∷◌, ◌++◌, length, take, drop, slice_get, Some, None, inl, inr, refl, sym, ap, ◌∙◌, subst, arith}
-use Rattle.std.proofs.Math.Seq.{drop-append_seam}
+-- Where a ring's cut begins: at its least stop, if one lies on it.
+use Rattle.std.proofs.Common.{◌≡◌, ℕ, ◌<◌, ◌≤◌, Bool, true, false, cond, not, ◌&&◌, ◌||◌, List, [], ◌∷◌, ◌++◌, map, length, take, drop, slice_get, Some, None, inl, inr, refl, sym, ap, ◌∙◌, subst, arith}
+use Rattle.std.proofs.Math.Seq.{drop-append_seam, take-append_seam}
 use Rattle.std.specs.Cmp.{tied_itself}
 use Rattle.std.specs.List.{list_any}
 use Rattle.std.specs.Ordering.{is_gt, ordering_then}
@@ -11,12 +11,12 @@ use Rattle.grid.specs.declared.pos.Pos.{Pos}
 use Rattle.lines.specs.Positions.{position_total}
 use Rattle.lines.specs.Turned.{position_cmp}
 use Rattle.lines.proofs.Positions.{true_false}
+use Rattle.chains.specs.Among.{among}
 use Rattle.chains.specs.ArcPieces.{least_stop, IsLeastStop}
-use Rattle.chains.specs.Pieces.{opened_at}
+use Rattle.chains.specs.Pieces.{begins_free, begun_ring, cut_inside, cut_inside_from, goes_on, open_pieces, opened_at, parts_round, piece_along, ring_pieces}
 use Rattle.chains.specs.Starts.{start_of, start_cmp, start_place}
-use Rattle.chains.proofs.Apart.{none_any}
-use Rattle.chains.proofs.Cuts.{place_within}
 use Rattle.chains.proofs.Openings.{LeastAt, Opening, starts_list, head_or, place_least, opening, start_there}
+use Rattle.chains.proofs.Sharing.{none_any}
 use Rattle.chains.proofs.Turned.{then_head, same_kind, no_other}
 
 -- what stands on the list is found
@@ -129,6 +129,20 @@ at_start stop r i p s e =
     let same : s.vertex ≡ p = cc in
     ap stop (sym same) ∙ s.told
 
+-- the place is within the ring
+pub place_within : (stop : Pos → Bool) (x : Pos) (r : List Pos) → start_place stop (x ∷ r) < length (x ∷ r)
+place_within stop x [] = omega arith
+place_within stop x (y ∷ r) =
+    let k = place_least stop x y r in
+    let o = opening stop x x (y ∷ r) k.before k.here k.behind k.parted in
+    let e : length (x ∷ (y ∷ r)) ≡ length (o.left ++ (o.vertex ∷ o.right)) = ap length o.parted in
+    let p : start_place stop (x ∷ (y ∷ r)) ≡ length o.left = k.place ∙ sym o.place in
+    subst (λ n. n < length (x ∷ (y ∷ r))) (sym p) (subst (λ n. length o.left < n) (sym e) (shorter o.left o.vertex o.right))
+  where
+    shorter : (a : List Pos) (v : Pos) (b : List Pos) → length a < length (a ++ (v ∷ b))
+    shorter [] v b = omega arith
+    shorter (z ∷ a) v b = let h = shorter a v b in omega arith
+
 -- in the form of the code
 pub no_stop_found : (stop : Pos → Bool) (r : List Pos) (i : ℕ) (p : Pos) → i ≡ start_place stop r → slice_get r i ≡ Some p → stop p ≡ false → None ≡ least_stop stop r
 no_stop_found stop [] i p e g h = absurd cc
@@ -141,22 +155,84 @@ pub none_found : (stop : Pos → Bool) (r : List Pos) (i : ℕ) → i ≡ start_
 none_found stop [] i e h = refl
 none_found stop (x ∷ r) i e h = let k = place_within stop x r in absurd (omega (arith, e))
 
-opened_first : (r a : List Pos) (v : Pos) (b : List Pos) (i : ℕ) → r ≡ a ++ (v ∷ b) → i ≡ length a → (w : Pos) → Begins w (opened_at i r) → w ≡ v
-opened_first r a v b i e g w h =
-    go (drop i r) (take i r) ((λ j. drop (g j) (e j)) ∙ drop-append_seam a (v ∷ b)) h
-  where
-    go : (d t : List Pos) → d ≡ v ∷ b → Begins w ((d ++ t) ++ take 1 d) → w ≡ v
-    go [] t f k = absurd cc
-    go (x ∷ d) t f k = let q : x ≡ v = cc in k ∙ q
+-- the ring begun at one of its places
+pub opened_parted : (r a : List Pos) (v : Pos) (b : List Pos) (i : ℕ) → r ≡ a ++ (v ∷ b) → i ≡ length a → opened_at i r ≡ v ∷ ((b ++ a) ++ (v ∷ []))
+opened_parted r a v b i e g =
+    let d : drop i r ≡ v ∷ b = (λ j. drop (g j) (e j)) ∙ drop-append_seam a (v ∷ b) in
+    let t : take i r ≡ a = (λ j. take (g j) (e j)) ∙ take-append_seam a (v ∷ b) in
+    λ j. (d j ++ t j) ++ take 1 (d j)
 
 -- the turned loop begins with the least stop
 pub turned_least : (stop : Pos → Bool) (r : List Pos) → list_any stop r ≡ true → (w : Pos) → Begins w (opened_at (start_place stop r) r) → IsLeastStop stop r w
 turned_least stop [] e w h = absurd cc
 turned_least stop (x ∷ r) e w h =
     let s = starts_at stop x r in
-    subst (IsLeastStop stop (x ∷ r)) (sym (opened_first (x ∷ r) s.before s.vertex s.behind (start_place stop (x ∷ r)) s.parted s.place w h))
+    let o = opened_parted (x ∷ r) s.before s.vertex s.behind (start_place stop (x ∷ r)) s.parted s.place in
+    subst (IsLeastStop stop (x ∷ r)) (sym (subst (Begins w) o h))
     (record {
       there = subst (Has s.vertex) (sym s.parted) (Has-append_right s.vertex s.before (s.vertex ∷ s.behind) (inl refl));
       stops = s.told ∙ e;
       least = s.least;
     })
+
+pub none_to_cut : (junctions : List Pos) (r : List Pos) (i : ℕ) → i ≡ start_place (among junctions) r → length r ≤ i → piece_along true [] ∷ [] ≡ ring_pieces junctions r
+none_to_cut junctions [] i e h = refl
+none_to_cut junctions (x ∷ r) i e h = let k = place_within (among junctions) x r in absurd (omega (arith, e))
+
+-- the pieces that the code finds, where the ring is cut and where it is not
+pub ring_met : (junctions : List Pos) (r : List Pos) (i : ℕ) (p : Pos) → i ≡ start_place (among junctions) r → slice_get r i ≡ Some p → among junctions p ≡ true →
+    open_pieces (among junctions) (opened_at i r) ≡ ring_pieces junctions r
+ring_met junctions [] i p e g k = absurd cc
+ring_met junctions (x ∷ r) i p e g k =
+    let stop = among junctions in
+    let t : list_any stop (x ∷ r) ≡ true =
+    sym (at_start stop (x ∷ r) (start_place stop (x ∷ r)) p (starts_at stop x r) (ap (slice_get (x ∷ r)) (sym e) ∙ g)) ∙ k in
+    ap (λ n. open_pieces stop (opened_at n (x ∷ r))) e
+    ∙ ap (λ b. map (piece_along (not b)) (cond b (cut_inside stop (begun_ring stop (x ∷ r))) (begun_ring stop (x ∷ r) ∷ []))) (sym t)
+
+pub ring_unmet : (junctions : List Pos) (r : List Pos) (i : ℕ) (p : Pos) → i ≡ start_place (among junctions) r → slice_get r i ≡ Some p → among junctions p ≡ false →
+    piece_along true (opened_at i r) ∷ [] ≡ ring_pieces junctions r
+ring_unmet junctions [] i p e g k = absurd cc
+ring_unmet junctions (x ∷ r) i p e g k =
+    let stop = among junctions in
+    let t : list_any stop (x ∷ r) ≡ false =
+    sym (at_start stop (x ∷ r) (start_place stop (x ∷ r)) p (starts_at stop x r) (ap (slice_get (x ∷ r)) (sym e) ∙ g)) ∙ k in
+    ap (λ n. piece_along true (opened_at n (x ∷ r)) ∷ []) e
+    ∙ ap (λ b. map (piece_along (not b)) (cond b (cut_inside stop (begun_ring stop (x ∷ r))) (begun_ring stop (x ∷ r) ∷ []))) (sym t)
+
+-- each part of a list that begins with a stop begins with a stop
+module _ (stop : Pos → Bool) where
+  parts_begin : (x : Pos) (m rest : List Pos) → stop x ≡ true → (c : List Pos) → Has c (cut_inside_from stop (x ∷ m) rest) → begins_free stop c ≡ false
+  parts_begin x m [] e c (inl q) = ap (begins_free stop) q ∙ ap not e
+  parts_begin x m [] e c (inr z) = absurd z
+  parts_begin x m (p ∷ rest) e c h =
+      go (goes_on rest && stop p) refl (λ k. parts_begin p [] rest k c) (parts_begin x (m ++ (p ∷ [])) rest e c) h
+    where
+      told : (a b : Bool) → (a && b) ≡ true → b ≡ true
+      told true b f = f
+      told false b f = absurd cc
+
+      go : (b : Bool) → (goes_on rest && stop p) ≡ b → (stop p ≡ true → Has c (cut_inside_from stop (p ∷ []) rest) → begins_free stop c ≡ false) →
+          (Has c (cut_inside_from stop (x ∷ (m ++ (p ∷ []))) rest) → begins_free stop c ≡ false) →
+          Has c (cond b ((x ∷ (m ++ (p ∷ []))) ∷ cut_inside_from stop (p ∷ []) rest) (cut_inside_from stop (x ∷ (m ++ (p ∷ []))) rest)) → begins_free stop c ≡ false
+      go true f g k (inl q) = ap (begins_free stop) q ∙ ap not e
+      go true f g k (inr z) = g (told (goes_on rest) (stop p) f) z
+      go false f g k z = k z
+
+  pub list_begins : (x : Pos) (r : List Pos) → stop x ≡ true → (c : List Pos) → Has c (cut_inside stop (x ∷ r)) → begins_free stop c ≡ false
+  list_begins x r e c h = parts_begin x [] r e c h
+
+  -- each part of a ring begins with a stop, if one lies on the ring
+  pub ring_begins : (x : Pos) (r : List Pos) (c : List Pos) → Has c (parts_round stop (x ∷ r) (begun_ring stop (x ∷ r))) → begins_free stop c ≡ not (list_any stop (x ∷ r))
+  ring_begins x r c h = go (list_any stop (x ∷ r)) refl h
+    where
+      s : StartsAt stop (x ∷ r) (start_place stop (x ∷ r))
+      s = starts_at stop x r
+
+      o : begun_ring stop (x ∷ r) ≡ s.vertex ∷ ((s.behind ++ s.before) ++ (s.vertex ∷ []))
+      o = opened_parted (x ∷ r) s.before s.vertex s.behind (start_place stop (x ∷ r)) s.parted s.place
+
+      go : (b : Bool) → list_any stop (x ∷ r) ≡ b → Has c (cond b (cut_inside stop (begun_ring stop (x ∷ r))) (begun_ring stop (x ∷ r) ∷ [])) → begins_free stop c ≡ not b
+      go true e k = list_begins s.vertex ((s.behind ++ s.before) ++ (s.vertex ∷ [])) (s.told ∙ e) c (subst (λ w. Has c (cut_inside stop w)) o k)
+      go false e (inl q) = ap (begins_free stop) (q ∙ o) ∙ ap not (s.told ∙ e)
+      go false e (inr z) = absurd z

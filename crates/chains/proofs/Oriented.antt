@@ -6,22 +6,23 @@ use Rattle.theory.specs.Chain.{IsChain, Free}
 use Rattle.theory.proofs.Reversing.{Has-reverse}
 use Rattle.grid.specs.declared.pos.Pos.{Pos}
 use Rattle.chains.specs.Among.{Tells}
-use Rattle.chains.specs.Pieces.{used, oriented, least_direction, is_backwards_less, begins_free}
+use Rattle.chains.specs.Pieces.{used, piece_along, least_direction, is_backwards_less, begins_free}
 use Rattle.chains.specs.declared.cutting.Piece.{Piece}
 
-pub used_oriented : (stop : Pos → Bool) (c : List Pos) → used (oriented stop c) ≡ c
-used_oriented stop c = go (is_backwards_less c)
+-- what a piece is, whatever its mark
+pub used_along : (free : Bool) (c : List Pos) → used (piece_along free c) ≡ c
+used_along free c = go (is_backwards_less c)
   where
     go : (b : Bool) → cond b (reverse (cond b (reverse c) c)) (cond b (reverse c) c) ≡ c
     go true = reverse-reverse c
     go false = refl
 
-back : (stop : Pos → Bool) (cs : List (List Pos)) → map used (map (oriented stop) cs) ≡ cs
-back stop [] = refl
-back stop (c ∷ cs) = let e : used (oriented stop c) ≡ c = used_oriented stop c in let h : map used (map (oriented stop) cs) ≡ cs = back stop cs in λ i. e i ∷ h i
+pub used_parts : (free : Bool) (cs : List (List Pos)) → map used (map (piece_along free) cs) ≡ cs
+used_parts free [] = refl
+used_parts free (c ∷ cs) = let e : used (piece_along free c) ≡ c = used_along free c in let h : map used (map (piece_along free) cs) ≡ cs = used_parts free cs in λ i. e i ∷ h i
 
-pub used_all : (stop : Pos → Bool) (cs : List (List Pos)) (ps : List Piece) → ps ≡ map (oriented stop) cs → map used ps ≡ cs
-used_all stop cs ps e = ap (map used) e ∙ back stop cs
+pub used_all : (free : Bool) (cs : List (List Pos)) (ps : List Piece) → ps ≡ map (piece_along free) cs → map used ps ≡ cs
+used_all free cs ps e = ap (map used) e ∙ used_parts free cs
 
 -- the vertices are the same in either direction
 pub least_has : (v : Pos) (c : List Pos) → Has v (least_direction c) → Has v c

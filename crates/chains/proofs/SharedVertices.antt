@@ -1,26 +1,24 @@
 -- Two tables of arcs: a vertex that stands in one of them alone is a junction of both maps together only where it is an end of an arc that is not free.
-use Rattle.std.proofs.Common.{◌≡◌, ℕ, ◌+◌, Bool, true, false, cond, not, List, [], ◌∷◌, ◌++◌, map, reverse, inl, inr, refl, sym, ap, ◌∙◌, subst, arith, append_assoc, Some, slice_get, get_or, ◌≤◌, zero, suc}
+use Rattle.std.proofs.Common.{◌≡◌, ℕ, Bool, true, false, cond, not, List, [], ◌∷◌, ◌++◌, map, reverse, inl, inr, refl, sym, ap, ◌∙◌, subst, arith, append_assoc, Some, slice_get, get_or, ◌≤◌, zero, suc}
 use Rattle.std.specs.Cmp.Lexicographic.{slice_cmp, lists_total}
-use Rattle.std.specs.Ordering.{is_lt, is_gt, bool_cmp, ordering_reverse, ordering_then}
-use Rattle.std.specs.declared.cmp.Ordering.{Ordering}
-use Rattle.std.specs.declared.cmp.Ordering.TheVariants.{Less, Equal, Greater}
+use Rattle.std.specs.Ordering.{is_lt, ordering_reverse}
+use Rattle.std.specs.declared.cmp.Ordering.TheVariants.{Less}
 use Rattle.theory.specs.Arcs.{IsArcOf}
-use Rattle.theory.specs.Chain.{Free}
-use Rattle.theory.specs.Geometry.{AtMost, Geometry, IsChainOf, IsLineOf, IsRingOf, IsSound, JunctionOf}
+use Rattle.theory.specs.Geometry.{Geometry, IsChainOf, IsLineOf, IsRingOf, IsSound, JunctionOf}
 use Rattle.theory.specs.Junction.{Visit as Seen, Visits}
 use Rattle.theory.specs.Junction.Visit.{end, pair}
 use Rattle.theory.specs.LinesAndRings.{around, closed}
 use Rattle.theory.specs.Lists.{Between, EndOf, Has, Passes, front_of, gathered, last_of}
-use Rattle.theory.specs.Refinement.{AreArcsAsMap, OpenArc, unclosed}
+use Rattle.theory.specs.Refinement.{AreArcsAsMap, unclosed}
 use Rattle.theory.proofs.ClosedLists.{closed_around}
-use Rattle.theory.proofs.Lists.{Has-append, Has-append_left, Has-append_right, append_nil, front-snoc}
+use Rattle.theory.proofs.Lists.{Has-append, Has-append_left, Has-append_right, front-snoc}
 use Rattle.theory.proofs.ListsOfLists.{Has-gathered, gathered_from, get_has}
 use Rattle.theory.proofs.PiecesExist.{own_union}
-use Rattle.theory.proofs.RemovingJoined.{cut_one, front_passes}
+use Rattle.theory.proofs.RemovingJoined.{front_passes}
 use Rattle.theory.proofs.StandingLists.{middle_has}
 use Rattle.grid.specs.declared.pos.Pos.{Pos}
 use Rattle.lines.specs.Turned.{position_cmp}
-use Rattle.lines.specs.Positions.{position_total, position_same}
+use Rattle.lines.specs.Positions.{position_total}
 use Rattle.lines.proofs.Positions.{true_false}
 use Rattle.chains.specs.Among.{among}
 use Rattle.chains.specs.Arcs.{Arcs}
@@ -28,18 +26,17 @@ use Rattle.chains.specs.Extents.{within}
 use Rattle.chains.specs.Holding.{HoldAll}
 use Rattle.chains.specs.Index.{IsIndexOf, AreVisitsOf}
 use Rattle.chains.specs.OfArcs.{arc_pieces, arc_visits, tables_as_map}
-use Rattle.chains.specs.Pieces.{begins_free, cut_list, is_backwards_less, line_pieces, opened_at, oriented, parts_at, ring_parts, ring_pieces}
+use Rattle.chains.specs.ArcPieces.{loop_pieces, pieces_at}
+use Rattle.chains.specs.Pieces.{begun_ring, cut_inside, cut_inside_from, is_backwards_less, open_pieces, piece_along}
 use Rattle.chains.specs.Shared.{arc_meets, arc_shared, inside, may_hold, whole, HoldCommon, HoldShared, KeepsClashes, StayWhole}
-use Rattle.chains.specs.Starts.{start_of, start_cmp, starts_from, least_from, start_place}
 use Rattle.chains.specs.Table.{is_loop, IsTableOf}
 use Rattle.chains.specs.Visits.{around_of, inner_of, visit_of, HaveSame}
 use Rattle.chains.specs.declared.extent.Extent.{Extent}
 use Rattle.chains.specs.declared.shared.VertexBits.{VertexBits}
-use Rattle.chains.specs.declared.starts.Start.{Start}
 use Rattle.chains.specs.declared.visits.Visit.{Visit}
-use Rattle.chains.proofs.Among.{among_has, has_among}
+use Rattle.chains.proofs.Among.{among_has}
 use Rattle.chains.proofs.Gathered.{between_has, clash_seen, found_in}
-use Rattle.chains.proofs.Sharing.{none_met}
+use Rattle.chains.proofs.Sharing.{none_any, none_met}
 use Rattle.chains.proofs.TablesAsMap.{free_loop, told, tables_alike, tables_are}
 
 last_has : (x : Pos) (r : List Pos) → Has (last_of x r) (x ∷ r)
@@ -146,54 +143,22 @@ module _ (m n : Geometry Pos) (sm : IsSound m) (s t : Arcs) (ms : IsTableOf m s)
   pub alone : (c : List Pos) → Has c s.arcs → (w : Visit) → Has w (arc_visits s.loops c) → Apart w.vertex → ¬ JunctionOf a w.vertex
   alone c h w k apart j = inner m sm s ms c h w k (own_junction w.vertex apart j)
 
--- the starts of a ring are those of its vertices
-start_from : (stop : Pos → Bool) (first here : Pos) (rest : List Pos) (k : Start) → Has k (starts_from stop first here rest) →
-    (v : Pos) × (w : Pos) × Has v (here ∷ rest) × (k ≡ start_of stop v w)
-start_from stop first here [] k (inl e) = (here, first, inl refl, e)
-start_from stop first here [] k (inr h) = absurd h
-start_from stop first here (next ∷ rest) k (inl e) = (here, next, inl refl, e)
-start_from stop first here (next ∷ rest) k (inr h) = let t = start_from stop first next rest k h in (t.0, t.1, inr t.2, t.3)
-
-none_before : (m : Start) (best i : ℕ) (l : List Start) → ((k : Start) → Has k l → is_lt (start_cmp k m) ≡ false) → least_from best m i l ≡ best
-none_before m best i [] h = refl
-none_before m best i (k ∷ l) h =
-    ap (λ b. least_from (cond b i best) (cond b k m) (i + 1) l) (h k (inl refl)) ∙ none_before m best (i + 1) l (λ j g. h j (inr g))
-
-later : (stop : Pos → Bool) (x y v w : Pos) → stop x ≡ false → stop v ≡ false → AtMost position_cmp x v → ¬ (v ≡ x) → is_lt (start_cmp (start_of stop v w) (start_of stop x y)) ≡ false
-later stop x y v w e f most d = go (stop x) (stop v) (position_cmp v x) e f refl
-  where
-    go : (s t : Bool) (r : Ordering) → s ≡ false → t ≡ false → position_cmp v x ≡ r → is_lt (ordering_then (bool_cmp (not t) (not s)) (ordering_then r (position_cmp w y))) ≡ false
-    go true t r e f g = absurd cc
-    go false true r e f g = absurd cc
-    go false false Less e f g =
-        let z : is_gt (ordering_reverse Less) ≡ false = subst (λ q. is_gt q ≡ false) (position_total.antisymm x v ∙ ap ordering_reverse g) most in absurd cc
-    go false false Equal e f g = absurd (d (position_same v x g))
-    go false false Greater e f g = refl
-
-first_place : (stop : Pos → Bool) (x y : Pos) (q : List Pos) → ((v : Pos) → Has v (x ∷ (y ∷ q)) → stop v ≡ false) → ((v : Pos) → Has v (y ∷ q) → AtMost position_cmp x v) →
-    ¬ Has x (y ∷ q) → start_place stop (x ∷ (y ∷ q)) ≡ 0
-first_place stop x y q none most d =
-    none_before (start_of stop x y) 0 1 (starts_from stop x y q)
-    (λ k h.
-    (let t = start_from stop x y q k h in
-    subst (λ w. is_lt (start_cmp w (start_of stop x y)) ≡ false) (sym t.3)
-    (later stop x y t.0 t.1 (none x (inl refl)) (none t.0 (inr t.2)) (most t.0 t.2) (λ e. d (subst (λ w. Has w (y ∷ q)) e t.2)))))
-
-ring_uncut : (stop : Pos → Bool) (x y : Pos) (q : List Pos) → stop x ≡ false → start_place stop (x ∷ (y ∷ q)) ≡ 0 → ring_parts stop (x ∷ (y ∷ q)) ≡ closed (x ∷ (y ∷ q)) ∷ []
-ring_uncut stop x y q e p =
-    ap (λ i. parts_at stop i (x ∷ (y ∷ q))) p
-    ∙ ap (λ b. cond b (cut_list stop (opened_at 0 (x ∷ (y ∷ q)))) (opened_at 0 (x ∷ (y ∷ q)) ∷ [])) e
-    ∙ ap (λ w. (w ++ (x ∷ [])) ∷ []) (append_nil (x ∷ (y ∷ q)))
+-- a list with no stop inside is not cut
+uncut : (stop : Pos → Bool) (part : List Pos) (y : Pos) (r : List Pos) → ((v : Pos) → Has v (front_of y r) → stop v ≡ false) →
+    cut_inside_from stop part (y ∷ r) ≡ (part ++ (y ∷ r)) ∷ []
+uncut stop part y [] h = refl
+uncut stop part y (z ∷ r) h =
+    ap (λ b. cond b ((part ++ (y ∷ [])) ∷ cut_inside_from stop (y ∷ []) (z ∷ r)) (cut_inside_from stop (part ++ (y ∷ [])) (z ∷ r))) (h y (inl refl))
+    ∙ uncut stop (part ++ (y ∷ [])) z r (λ v k. h v (inr k))
+    ∙ ap (λ w. w ∷ []) (append_assoc part (y ∷ []) (z ∷ r))
 
 -- an arc is a piece in its own direction
-own_piece : (stop : Pos → Bool) (c : List Pos) → slice_cmp position_cmp c (reverse c) ≡ Less → (f : Bool) → begins_free stop c ≡ f →
-    oriented stop c ≡ record { chain = c; reversed = false; free = f }
-own_piece stop c e f g =
+own_piece : (c : List Pos) → slice_cmp position_cmp c (reverse c) ≡ Less → (free : Bool) → piece_along free c ≡ record { chain = c; reversed = false; free = free }
+own_piece c e free =
     let b : is_backwards_less c ≡ false = ap is_lt ((lists_total position_total).antisymm (reverse c) c ∙ ap ordering_reverse e) in
-    λ i. record { chain = cond (b i) (reverse c) c; reversed = b i; free = g i }
+    λ i. record { chain = cond (b i) (reverse c) c; reversed = b i; free = free }
 
-module _ (m : Geometry Pos) (sm : IsSound m) (s : Arcs) (ms : IsTableOf m s) (a : Geometry Pos) (js : List Pos) (index : IsIndexOf js a)
-    (opens : (l : List Pos) → OpenArc m s.arcs l → IsLineOf a l) where
+module _ (m : Geometry Pos) (sm : IsSound m) (s : Arcs) (ms : IsTableOf m s) (a : Geometry Pos) (js : List Pos) (index : IsIndexOf js a) where
   no_stop : (v : Pos) → ¬ JunctionOf a v → among js v ≡ false
   no_stop v none = go (among js v) refl
     where
@@ -201,22 +166,17 @@ module _ (m : Geometry Pos) (sm : IsSound m) (s : Arcs) (ms : IsTableOf m s) (a 
       go true e = absurd (none (index.only v (among_has js v e)))
       go false e = refl
 
-  end_stop : (l : List Pos) → IsLineOf a l → (v : Pos) → EndOf v l → among js v ≡ true
-  end_stop l h v e = has_among js v (index.all v (inl (l, h, e)))
-
   visited : (c : List Pos) (a' v b : Pos) → ((w : Visit) → Has w (inner_of c) → ¬ JunctionOf a w.vertex) → Passes a' v b c → among js v ≡ false
   visited c a' v b none p = no_stop v (none (visit_of a' v b) (between_has a' v b c (inl p)))
 
-  open_whole : (c : List Pos) → IsArcOf position_cmp m c → IsLineOf a c → ((w : Visit) → Has w (inner_of c) → ¬ JunctionOf a w.vertex) →
-      line_pieces js c ≡ record { chain = c; reversed = false; free = false } ∷ []
-  open_whole [] k h none = absurd k.chain
-  open_whole (x ∷ []) k h none = let z : 1 ≤ 0 = k.chain.long in absurd (omega arith)
-  open_whole (x ∷ (y ∷ r)) k h none =
-      ap (map (oriented (among js)))
-      (cut_one (among js) (x ∷ []) y r
-      (λ v f. (let p = front_passes v x y r f in visited (x ∷ (y ∷ r)) p.0 v p.1 none p.2))
-      (end_stop (x ∷ (y ∷ r)) h (last_of y r) (inr refl)))
-      ∙ ap (λ w. w ∷ []) (own_piece (among js) (x ∷ (y ∷ r)) k.forward false (ap not (end_stop (x ∷ (y ∷ r)) h x (inl refl))))
+  open_whole : (c : List Pos) → IsArcOf position_cmp m c → ((w : Visit) → Has w (inner_of c) → ¬ JunctionOf a w.vertex) →
+      open_pieces (among js) c ≡ record { chain = c; reversed = false; free = false } ∷ []
+  open_whole [] k none = absurd k.chain
+  open_whole (x ∷ []) k none = let z : 1 ≤ 0 = k.chain.long in absurd (omega arith)
+  open_whole (x ∷ (y ∷ r)) k none =
+      ap (map (piece_along false))
+      (uncut (among js) (x ∷ []) y r (λ v f. (let p = front_passes v x y r f in visited (x ∷ (y ∷ r)) p.0 v p.1 none p.2)))
+      ∙ ap (λ w. w ∷ []) (own_piece (x ∷ (y ∷ r)) k.forward false)
 
   -- each vertex of a ring is visited
   loop_none : (x y : Pos) (l : List Pos) → ((w : Visit) → Has w (around_of (x ∷ (y ∷ l))) → ¬ JunctionOf a w.vertex) → (v : Pos) → Has v (x ∷ (y ∷ l)) → among js v ≡ false
@@ -229,32 +189,24 @@ module _ (m : Geometry Pos) (sm : IsSound m) (s : Arcs) (ms : IsTableOf m s) (a 
       there (inr (inl e)) = inl e
       there (inr (inr k)) = inr (Has-append_left v l (x ∷ []) k)
 
-  loop_whole : (c : List Pos) → IsArcOf position_cmp m c → Free (JunctionOf m) c → c ≡ closed (unclosed c) →
+  loop_whole : (c : List Pos) → IsArcOf position_cmp m c → c ≡ closed (unclosed c) →
       ((w : Visit) → Has w (around_of (unclosed c)) → ¬ JunctionOf a w.vertex) →
-      ring_pieces js (unclosed c) ≡ record { chain = c; reversed = false; free = true } ∷ []
-  loop_whole [] k f e none = absurd k.chain
-  loop_whole (x ∷ []) k f e none = let z : 1 ≤ 0 = k.chain.long in absurd (omega arith)
-  loop_whole (x ∷ (y ∷ [])) k f e none = let p : x ≡ y = cc in let z : 3 ≤ 1 = k.chain.closed_long p in absurd (omega arith)
-  loop_whole (x ∷ (y ∷ (z ∷ q))) k f e none =
-      ap (map (oriented (among js)))
-      (ring_uncut (among js) x y (front_of z q) (free x (inl refl))
-      (first_place (among js) x y (front_of z q) free (λ v h. most v (subst (Has v) (sym e) (Has-append_left v (x ∷ (y ∷ front_of z q)) (x ∷ []) (inr h)))) k.chain.front_simple.0))
-      ∙ ap (λ w. oriented (among js) w ∷ []) (sym e)
-      ∙ ap (λ w. w ∷ []) (own_piece (among js) (x ∷ (y ∷ (z ∷ q))) k.forward true (ap not (free x (inl refl))))
-    where
-      free : (v : Pos) → Has v (x ∷ (y ∷ front_of z q)) → among js v ≡ false
-      free = loop_none x y (front_of z q) none
-
-      most : (v : Pos) → Has v (x ∷ (y ∷ (z ∷ q))) → AtMost position_cmp x v
-      most v h = elim k.chain.ends [ inl t ↦ absurd (f x (inl refl) t.0) | inr t ↦ t.2 v h ]
+      loop_pieces (among js) c ≡ record { chain = c; reversed = false; free = true } ∷ []
+  loop_whole [] k e none = absurd k.chain
+  loop_whole (x ∷ []) k e none = let z : 1 ≤ 0 = k.chain.long in absurd (omega arith)
+  loop_whole (x ∷ (y ∷ [])) k e none = let p : x ≡ y = cc in let z : 3 ≤ 1 = k.chain.closed_long p in absurd (omega arith)
+  loop_whole (x ∷ (y ∷ (z ∷ q))) k e none =
+      ap (λ b. map (piece_along (not b)) (cond b (cut_inside (among js) (begun_ring (among js) (x ∷ (y ∷ front_of z q)))) ((x ∷ (y ∷ (z ∷ q))) ∷ [])))
+      (none_any (among js) (x ∷ (y ∷ front_of z q)) (loop_none x y (front_of z q) none))
+      ∙ ap (λ w. w ∷ []) (own_piece (x ∷ (y ∷ (z ∷ q))) k.forward true)
 
   pub stays_whole : (c : List Pos) → Has c s.arcs → ((w : Visit) → Has w (arc_visits s.loops c) → ¬ JunctionOf a w.vertex) → arc_pieces js s.loops c ≡ whole s.loops c
   stays_whole c h none = go (is_loop s.loops c) refl none
     where
       go : (b : Bool) → is_loop s.loops c ≡ b → ((w : Visit) → Has w (cond b (around_of (unclosed c)) (inner_of c)) → ¬ JunctionOf a w.vertex) →
-          cond b (ring_pieces js (unclosed c)) (line_pieces js c) ≡ record { chain = c; reversed = false; free = b } ∷ []
-      go true e f = loop_whole c (ms.arcs.arcs_only c h) ((told m sm s ms c h).yes e) (free_loop m sm s ms c h e).0 f
-      go false e f = open_whole c (ms.arcs.arcs_only c h) (opens c (h, (told m sm s ms c h).no e)) f
+          pieces_at (among js) b c ≡ record { chain = c; reversed = false; free = b } ∷ []
+      go true e f = loop_whole c (ms.arcs.arcs_only c h) (free_loop m sm s ms c h e).0 f
+      go false e f = open_whole c (ms.arcs.arcs_only c h) f
 
 mapped_at : {A : Type 0} (f : A → Bool) (l : List A) (i : ℕ) (x : A) → slice_get l i ≡ Some x → get_or (map f l) i true ≡ f x
 mapped_at f [] i x e = absurd cc
@@ -274,7 +226,7 @@ module _ (m n : Geometry Pos) (sm : IsSound m) (s t : Arcs) (ms : IsTableOf m s)
   pub side_whole : (js : List Pos) → IsIndexOf js a → (marks : List Bool) → marks ≡ map (arc_meets (may_hold bits) s.loops) s.arcs → StayWhole js s marks
   side_whole js index marks e i c g f =
       let h = get_has s.arcs i c g in
-      stays_whole m sm s ms a js index am.open_left c h
+      stays_whole m sm s ms a js index c h
       (unmet c h (sym (mapped_at (arc_meets (may_hold bits) s.loops) s.arcs i c g) ∙ sym (ap (λ w. get_or w i true) e) ∙ f))
 
   pub side_kept : (v : Visit) → Has v (gathered (arc_visits s.loops) s.arcs) → JunctionOf a v.vertex → Has v (gathered (arc_shared (may_hold bits) s.loops) s.arcs)

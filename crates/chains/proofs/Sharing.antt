@@ -57,6 +57,11 @@ none_met may (x ∷ l) e v h = go (may x) refl e h (λ z k. none_met may l z v k
     go false f z (inl q) rest = ap may q ∙ f
     go false f z (inr q) rest = rest z q
 
+-- where it is said of no member, it is said of none
+pub none_any : (may : Pos → Bool) (l : List Pos) → ((v : Pos) → Has v l → may v ≡ false) → list_any may l ≡ false
+none_any may [] h = refl
+none_any may (x ∷ l) h = ap (λ b. b || list_any may l) (h x (inl refl)) ∙ none_any may l (λ v k. h v (inr k))
+
 pub keeps_all : (visits : List Visit) → KeepsClashes visits visits
 keeps_all visits = record { only = λ w h. h; clashing = λ v w h k s d. h }
 

@@ -1,10 +1,5 @@
--- Cutting a list by slices of it.
-use Rattle.std.proofs.Common.{◌≡◌, ℕ, zero, suc, ◌+◌, ◌-◌, ◌<◌, ◌≤◌, Bool, true, false, cond, List, [], ◌∷◌, ◌++◌, map, take, drop, slice_get, slice_range, Some, refl, sym, ap, ◌∙◌, arith, append_assoc}
-use Rattle.theory.specs.Cutting.{cut_from}
-use Rattle.grid.specs.declared.pos.Pos.{Pos}
-use Rattle.chains.specs.Pieces.{oriented}
-use Rattle.chains.specs.declared.cutting.Piece.{Piece}
-use Rattle.lines.proofs.Dropping.{drop_next}
+-- Slices of a list that grow by one.
+use Rattle.std.proofs.Common.{◌≡◌, ℕ, zero, suc, ◌+◌, ◌-◌, ◌≤◌, List, [], ◌∷◌, ◌++◌, take, drop, slice_get, slice_range, Some, sym, ap, ◌∙◌, refl, arith}
 
 module _ {A : Type 0} where
   take_more : (m : List A) (k : ℕ) (p : A) → slice_get m k ≡ Some p → take (suc k) m ≡ take k m ++ (p ∷ [])
@@ -31,30 +26,3 @@ module _ {A : Type 0} where
       let n : i ≤ i = omega arith in
       let m : i - i ≡ 0 = omega arith in
       range_more l i i p n e ∙ ap (λ k. take k (drop i l) ++ (p ∷ [])) m
-
--- a step onto a stop, and one onto another vertex
-pub cut_stop : (stop : Pos → Bool) (l : List Pos) (b i b' : ℕ) (p : Pos) (ps : List Piece) (q : Piece) (ps' all : List Piece) → b < i → slice_get l i ≡ Some p → stop p ≡ true →
-    q ≡ oriented stop (slice_range l b (i + 1)) → b' ≡ i → ps' ≡ ps ++ (q ∷ []) →
-    ps ++ map (oriented stop) (cut_from stop (slice_range l b i) (drop i l)) ≡ all →
-    ps' ++ map (oriented stop) (cut_from stop (slice_range l b' (i + 1)) (drop (i + 1) l)) ≡ all
-cut_stop stop l b i b' p ps q ps' all h e s k f g before =
-    let rest = cut_from stop (p ∷ []) (drop (i + 1) l) in
-    let more : slice_range l b (i + 1) ≡ slice_range l b i ++ (p ∷ []) = range_more l b i p (omega arith) e in
-    (λ j. g j ++ map (oriented stop) (cut_from stop (slice_range l (f j) (i + 1)) (drop (i + 1) l)))
-    ∙ append_assoc ps (q ∷ []) (map (oriented stop) (cut_from stop (slice_range l i (i + 1)) (drop (i + 1) l)))
-    ∙ ap (λ w. ps ++ (q ∷ map (oriented stop) (cut_from stop w (drop (i + 1) l)))) (range_one l i p e)
-    ∙ ap (λ w. ps ++ (w ∷ map (oriented stop) rest)) (k ∙ ap (oriented stop) more)
-    ∙ ap (λ b'. ps ++ map (oriented stop) (cond b' ((slice_range l b i ++ (p ∷ [])) ∷ rest) (cut_from stop (slice_range l b i ++ (p ∷ [])) (drop (i + 1) l)))) (sym s)
-    ∙ ap (λ w. ps ++ map (oriented stop) (cut_from stop (slice_range l b i) w)) (sym (drop_next l i p e))
-    ∙ before
-
-pub cut_pass : (stop : Pos → Bool) (l : List Pos) (b i b' : ℕ) (p : Pos) (ps ps' all : List Piece) → b < i → slice_get l i ≡ Some p → stop p ≡ false → b' ≡ b → ps' ≡ ps →
-    ps ++ map (oriented stop) (cut_from stop (slice_range l b i) (drop i l)) ≡ all →
-    ps' ++ map (oriented stop) (cut_from stop (slice_range l b' (i + 1)) (drop (i + 1) l)) ≡ all
-cut_pass stop l b i b' p ps ps' all h e s f g before =
-    let rest = cut_from stop (p ∷ []) (drop (i + 1) l) in
-    (λ j. g j ++ map (oriented stop) (cut_from stop (slice_range l (f j) (i + 1)) (drop (i + 1) l)))
-    ∙ ap (λ w. ps ++ map (oriented stop) (cut_from stop w (drop (i + 1) l))) (range_more l b i p (omega arith) e)
-    ∙ ap (λ b'. ps ++ map (oriented stop) (cond b' ((slice_range l b i ++ (p ∷ [])) ∷ rest) (cut_from stop (slice_range l b i ++ (p ∷ [])) (drop (i + 1) l)))) (sym s)
-    ∙ ap (λ w. ps ++ map (oriented stop) (cut_from stop (slice_range l b i) w)) (sym (drop_next l i p e))
-    ∙ before

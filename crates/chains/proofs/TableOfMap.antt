@@ -1,12 +1,13 @@
 -- The table of all pieces is the arcs of the map, and the lists of used arcs stitch.
-use Rattle.std.proofs.Common.{◌≡◌, Bool, true, false, cond, List, [], ◌∷◌, map, reverse, ◌⊎◌, inl, inr, refl, sym, ap, ◌∙◌, subst, Some}
+use Rattle.std.proofs.Common.{◌≡◌, ◌≤◌, Bool, true, false, cond, not, List, [], ◌∷◌, map, reverse, ◌⊎◌, inl, inr, refl, sym, ap, ◌∙◌, subst, Some, arith}
 use Rattle.std.specs.Ordering.{is_lt, ordering_reverse}
 use Rattle.std.specs.declared.cmp.Ordering.{Ordering}
 use Rattle.std.specs.declared.cmp.Ordering.TheVariants.{Less, Equal, Greater}
 use Rattle.std.specs.Cmp.Lexicographic.{slice_cmp, lists_total}
-use Rattle.std.specs.List.{position_or_len}
+use Rattle.std.specs.List.{list_any, position_or_len}
 use Rattle.theory.specs.Lists.{Has, Each}
 use Rattle.theory.specs.Geometry.{Geometry, IsSound, IsLineOf, IsRingOf, SegmentOf, JunctionOf, AtMost, IsChainOf}
+use Rattle.theory.specs.Chain.{Free}
 use Rattle.theory.specs.Arcs.{IsArcOf, AreArcsOf, EitherWay, AreSortedOnce}
 use Rattle.theory.specs.Stitching.{ArePiecesOf, HaveAllPieces}
 use Rattle.theory.specs.ArcNumbers.{along, AreTaken, StitchTo}
@@ -18,18 +19,19 @@ use Rattle.theory.proofs.ArcsOfMap.{forward_arc}
 use Rattle.theory.proofs.SegmentsOnce.{sorted_pieces_are_arcs, segments_once}
 use Rattle.grid.specs.declared.pos.Pos.{Pos}
 use Rattle.lines.specs.Turned.{position_cmp, list_cmp}
-use Rattle.chains.specs.Among.{among}
+use Rattle.chains.specs.Among.{among, Tells}
 use Rattle.chains.specs.Index.{IsIndexOf}
-use Rattle.chains.specs.Pieces.{ring_parts, oriented, least_direction, is_backwards_less, cut_list, chain_of, line_pieces, ring_pieces, IsPieceOf, ArePieces}
+use Rattle.chains.specs.Pieces.{begins_free, begun_ring, chain_of, cut_inside, is_backwards_less, least_direction, line_pieces, parts_round, piece_along, ring_pieces, IsPieceOf, ArePieces}
 use Rattle.chains.specs.Arcs.{Arcs}
 use Rattle.chains.specs.Table.{same_list, located, AreLoopsOf, ArePiecesOfMap, IsTableOf}
 use Rattle.chains.specs.declared.cutting.Piece.{Piece}
 use Rattle.lines.specs.Positions.{position_total, position_same}
 use Rattle.lines.proofs.Positions.{position_dec}
 use Rattle.chains.proofs.Places.{along_found, found_place}
-use Rattle.chains.proofs.Oriented.{used_oriented, marked}
+use Rattle.chains.proofs.LoopStops.{list_begins, ring_begins}
+use Rattle.chains.proofs.Oriented.{marked, used_along}
 use Rattle.chains.proofs.Marks.{all_marked}
-use Rattle.chains.proofs.Cuts.{line_is_cut, ring_is_cut, stops, passes}
+use Rattle.chains.proofs.Cuts.{end_stops, line_is_cut, ring_is_cut, stops, passes}
 
 -- both words for the least direction
 least_forward : (c : List Pos) → least_direction c ≡ forward position_cmp c
@@ -60,44 +62,59 @@ module _ (g : Geometry Pos) (sound : IsSound g) (keys : List Pos) (index : IsInd
   arc : (d : List Pos) → IsChainOf position_cmp g d → IsArcOf position_cmp g (least_direction d)
   arc d k = subst (IsArcOf position_cmp g) (sym (least_forward d)) (forward_arc position_cmp position_total position_same position_dec g sound d k)
 
-  piece : (d : List Pos) → IsChainOf position_cmp g d → IsPieceOf g (oriented (among keys) d)
-  piece d k = record {
+  piece : (free : Bool) (d : List Pos) → IsChainOf position_cmp g d → begins_free (among keys) d ≡ free → IsPieceOf g (piece_along free d)
+  piece free d k e = record {
     arc = arc d k;
-    free = marked (SegmentOf g) (JunctionOf g) (AtMost position_cmp) (among keys) (stops g sound keys index) (passes g sound keys index) d k;
+    free = subst (λ b. Tells b (Free (JunctionOf g) (least_direction d))) e
+        (marked (SegmentOf g) (JunctionOf g) (AtMost position_cmp) (among keys) (stops g sound keys index) (passes g sound keys index) d k);
   }
 
-  chains_pieces : (cs : List (List Pos)) → Each (IsChainOf position_cmp g) cs → ArePieces g (map (oriented (among keys)) cs)
-  chains_pieces cs e p h =
-      let t = map_has (oriented (among keys)) cs p h in
-      subst (IsPieceOf g) (sym t.2) (piece t.0 (Each-Has (IsChainOf position_cmp g) cs e t.0 t.1))
+  chains_pieces : (free : Bool) (cs : List (List Pos)) → Each (IsChainOf position_cmp g) cs → ((c : List Pos) → Has c cs → begins_free (among keys) c ≡ free) →
+      ArePieces g (map (piece_along free) cs)
+  chains_pieces free cs e f p h =
+      let t = map_has (piece_along free) cs p h in
+      subst (IsPieceOf g) (sym t.2) (piece free t.0 (Each-Has (IsChainOf position_cmp g) cs e t.0 t.1) (f t.0 t.1))
 
   -- each piece of a line or a ring is one of the map
   pub line_good : (l : List Pos) → IsLineOf g l → ArePieces g (line_pieces keys l)
-  line_good l h = chains_pieces (cut_list (among keys) l) (pieces_chains g l (cut_list (among keys) l) (line_is_cut g sound keys index l h (cut_list (among keys) l) refl))
+  line_good [] h = absurd (let k : 2 ≤ 0 = (sound.lines [] h).long in omega arith)
+  line_good (x ∷ r) h =
+      chains_pieces false (cut_inside (among keys) (x ∷ r))
+      (pieces_chains g (x ∷ r) (cut_inside (among keys) (x ∷ r)) (line_is_cut g sound keys index (x ∷ r) h (cut_inside (among keys) (x ∷ r)) refl))
+      (list_begins (among keys) x r (end_stops g sound keys index (x ∷ r) h x (inl refl)))
+
+  abbrev ring_parts : List Pos → List (List Pos)
+  ring_parts r = parts_round (among keys) r (begun_ring (among keys) r)
+
+  abbrev ring_free : List Pos → Bool
+  ring_free r = not (list_any (among keys) r)
 
   pub ring_good : (r : List Pos) → IsRingOf g r → ArePieces g (ring_pieces keys r)
-  ring_good r h = chains_pieces (ring_parts (among keys) r) (ring_is_cut g sound keys index r h (ring_parts (among keys) r) refl).3.0
+  ring_good [] h = absurd (let k : 3 ≤ 0 = (sound.rings [] h).long in omega arith)
+  ring_good (x ∷ r) h =
+      chains_pieces (ring_free (x ∷ r)) (ring_parts (x ∷ r)) (ring_is_cut g sound keys index (x ∷ r) h (ring_parts (x ∷ r)) refl).3.0
+      (ring_begins (among keys) x r)
 
   module _ (ps : List Piece)
       (of_lines : (l : List Pos) → IsLineOf g l → (p : Piece) → Has p (line_pieces keys l) → Has p ps)
       (of_rings : (r : List Pos) → IsRingOf g r → (p : Piece) → Has p (ring_pieces keys r) → Has p ps) where
-    of_line : (l c : List Pos) → IsLineOf g l → Has c (cut_list (among keys) l) → Has (least_direction c) (map chain_of ps)
-    of_line l c h k = Has-map chain_of ps (oriented (among keys) c) (of_lines l h (oriented (among keys) c) (Has-map (oriented (among keys)) (cut_list (among keys) l) c k))
+    of_line : (l c : List Pos) → IsLineOf g l → Has c (cut_inside (among keys) l) → Has (least_direction c) (map chain_of ps)
+    of_line l c h k = Has-map chain_of ps (piece_along false c) (of_lines l h (piece_along false c) (Has-map (piece_along false) (cut_inside (among keys) l) c k))
 
-    of_ring : (r c : List Pos) → IsRingOf g r → Has c (ring_parts (among keys) r) → Has (least_direction c) (map chain_of ps)
-    of_ring r c h k = Has-map chain_of ps (oriented (among keys) c) (of_rings r h (oriented (among keys) c) (Has-map (oriented (among keys)) (ring_parts (among keys) r) c k))
+    of_ring : (r c : List Pos) → IsRingOf g r → Has c (ring_parts r) → Has (least_direction c) (map chain_of ps)
+    of_ring r c h k = Has-map chain_of ps (piece_along (ring_free r) c) (of_rings r h (piece_along (ring_free r) c) (Has-map (piece_along (ring_free r)) (ring_parts r) c k))
 
     pub have_all : HaveAllPieces position_cmp g (map chain_of ps)
     have_all = record {
       of_lines = λ l h. (
-        cut_list (among keys) l,
-        line_is_cut g sound keys index l h (cut_list (among keys) l) refl,
-        each_of (EitherWay (map chain_of ps)) (cut_list (among keys) l) (λ c k. either_least (map chain_of ps) c (of_line l c h k)),
+        cut_inside (among keys) l,
+        line_is_cut g sound keys index l h (cut_inside (among keys) l) refl,
+        each_of (EitherWay (map chain_of ps)) (cut_inside (among keys) l) (λ c k. either_least (map chain_of ps) c (of_line l c h k)),
       );
       of_rings = λ r h. (
-        ring_parts (among keys) r,
-        ring_is_cut g sound keys index r h (ring_parts (among keys) r) refl,
-        each_of (EitherWay (map chain_of ps)) (ring_parts (among keys) r) (λ c k. either_least (map chain_of ps) c (of_ring r c h k)),
+        ring_parts r,
+        ring_is_cut g sound keys index r h (ring_parts r) refl,
+        each_of (EitherWay (map chain_of ps)) (ring_parts r) (λ c k. either_least (map chain_of ps) c (of_ring r c h k)),
       );
     }
 
@@ -110,31 +127,31 @@ module _ (g : Geometry Pos) (sound : IsSound g) (keys : List Pos) (index : IsInd
     }
 
     -- a chain whose arc is in the table is along its used arc
-    located_along : (arcs : List (List Pos)) (c : List Pos) → Has (least_direction c) arcs → along arcs (located arcs (oriented (among keys) c)) ≡ Some c
-    located_along arcs c h =
-        along_found arcs (oriented (among keys) c) (least_direction c) (position_or_len (same_list (least_direction c)) arcs) (is_backwards_less c)
-        (found_place (least_direction c) arcs h) refl refl ∙ ap Some (used_oriented (among keys) c)
+    located_along : (arcs : List (List Pos)) (free : Bool) (c : List Pos) → Has (least_direction c) arcs → along arcs (located arcs (piece_along free c)) ≡ Some c
+    located_along arcs free c h =
+        along_found arcs (piece_along free c) (least_direction c) (position_or_len (same_list (least_direction c)) arcs) (is_backwards_less c)
+        (found_place (least_direction c) arcs h) refl refl ∙ ap Some (used_along free c)
 
-    all_taken : (arcs : List (List Pos)) (cs : List (List Pos)) → ((c : List Pos) → Has c cs → Has (least_direction c) arcs) →
-        AreTaken arcs (map (located arcs) (map (oriented (among keys)) cs)) cs
-    all_taken arcs [] h = tt
-    all_taken arcs (c ∷ cs) h = (located_along arcs c (h c (inl refl)), all_taken arcs cs (λ d k. h d (inr k)))
+    all_taken : (arcs : List (List Pos)) (free : Bool) (cs : List (List Pos)) → ((c : List Pos) → Has c cs → Has (least_direction c) arcs) →
+        AreTaken arcs (map (located arcs) (map (piece_along free) cs)) cs
+    all_taken arcs free [] h = tt
+    all_taken arcs free (c ∷ cs) h = (located_along arcs free c (h c (inl refl)), all_taken arcs free cs (λ d k. h d (inr k)))
 
     -- the used arcs of a line stitch to it
     pub line_list : (arcs : List (List Pos)) → AreSortedOnce list_cmp (map chain_of ps) arcs → (l : List Pos) → IsLineOf g l →
         StitchTo arcs (map (located arcs) (line_pieces keys l)) l
     line_list arcs s l h =
-        taken_line position_cmp g arcs (map (located arcs) (line_pieces keys l)) (cut_list (among keys) l) l (sound.lines l h).long
-        (line_is_cut g sound keys index l h (cut_list (among keys) l) refl)
-        (all_taken arcs (cut_list (among keys) l) (λ c k. s.there (least_direction c) (of_line l c h k)))
+        taken_line position_cmp g arcs (map (located arcs) (line_pieces keys l)) (cut_inside (among keys) l) l (sound.lines l h).long
+        (line_is_cut g sound keys index l h (cut_inside (among keys) l) refl)
+        (all_taken arcs false (cut_inside (among keys) l) (λ c k. s.there (least_direction c) (of_line l c h k)))
 
     -- the used arcs of a ring stitch to it, read from its seam
     pub ring_list : (arcs : List (List Pos)) → AreSortedOnce list_cmp (map chain_of ps) arcs → (r : List Pos) → IsRingOf g r →
         IsRingList position_cmp (JunctionOf g) arcs r (map (located arcs) (ring_pieces keys r))
     ring_list arcs s r h =
-        taken_ring position_cmp g arcs (map (located arcs) (ring_pieces keys r)) (ring_parts (among keys) r) r
-        (ring_is_cut g sound keys index r h (ring_parts (among keys) r) refl)
-        (all_taken arcs (ring_parts (among keys) r) (λ c k. s.there (least_direction c) (of_ring r c h k)))
+        taken_ring position_cmp g arcs (map (located arcs) (ring_pieces keys r)) (ring_parts r) r
+        (ring_is_cut g sound keys index r h (ring_parts r) refl)
+        (all_taken arcs (ring_free r) (ring_parts r) (λ c k. s.there (least_direction c) (of_ring r c h k)))
 
 -- sorted, each once, the pieces of a map are its arcs
 pub table_is : (g : Geometry Pos) → IsSound g → (ps : List Piece) (t : Arcs) → AreSortedOnce list_cmp (map chain_of ps) t.arcs → AreLoopsOf ps t.loops →

@@ -22,7 +22,7 @@ then_equal Equal = refl
 then_equal Greater = refl
 
 -- by keys as by the lists of the first two vertices
-keys_compare : (l k : Option (List Pos)) → slice_cmp position_cmp (first_two l) (first_two k) ≡ key_cmp (key_if l) (key_if k)
+pub keys_compare : (l k : Option (List Pos)) → slice_cmp position_cmp (first_two l) (first_two k) ≡ key_cmp (key_if l) (key_if k)
 keys_compare None None = refl
 keys_compare None (Some []) = refl
 keys_compare None (Some (x ∷ [])) = refl

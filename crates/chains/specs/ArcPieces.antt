@@ -1,5 +1,5 @@
 -- The pieces of an arc under any stops.
-use Rattle.std.specs.Prelude.{◌≡◌, ℕ, Bool, true, false, cond, not, ◌&&◌, List, [], ◌∷◌, ◌++◌, map, Option, Some, None}
+use Rattle.std.specs.Prelude.{◌≡◌, ℕ, Bool, true, false, cond, not, ◌&&◌, List, [], ◌∷◌, map, Option, Some, None}
 use Rattle.std.specs.List.{list_any}
 use Rattle.theory.specs.Geometry.{AtMost}
 use Rattle.theory.specs.Lists.{Begins, Has, Passes, last_of}
@@ -7,25 +7,9 @@ use Rattle.theory.specs.Refinement.{unclosed}
 use Rattle.theory.specs.Stitching.{Stitched}
 use Rattle.grid.specs.declared.pos.Pos.{Pos}
 use Rattle.lines.specs.Turned.{position_cmp}
-use Rattle.chains.specs.Pieces.{is_backwards_less, opened_at, piece_along, used}
+use Rattle.chains.specs.Pieces.{begun_ring, is_backwards_less, open_pieces, pieces_round, used}
 use Rattle.chains.specs.Starts.{start_place}
 use Rattle.chains.specs.declared.cutting.Piece.{Piece}
-
--- whether the list has a place
-abbrev pub goes_on : List Pos → Bool
-goes_on [] = false
-goes_on (x ∷ l) = true
-
--- the parts of the list that begins with the positions `part` and goes on by the second list, cut at each stop behind which it goes on
-abbrev pub cut_inside_from : (Pos → Bool) → List Pos → List Pos → List (List Pos)
-cut_inside_from stop part [] = part ∷ []
-cut_inside_from stop part (p ∷ rest) =
-    cond (goes_on rest && stop p) ((part ++ (p ∷ [])) ∷ cut_inside_from stop (p ∷ []) rest) (cut_inside_from stop (part ++ (p ∷ [])) rest)
-
--- the parts of the list, cut at each inner place where there is a stop; what is behind the last of these is the last part
-abbrev pub cut_inside : (Pos → Bool) → List Pos → List (List Pos)
-cut_inside stop [] = [] ∷ []
-cut_inside stop (x ∷ rest) = cut_inside_from stop (x ∷ []) rest
 
 -- the place of the ring's least stop, where one lies on it
 abbrev pub least_stop : (Pos → Bool) → List Pos → Option ℕ
@@ -37,15 +21,11 @@ meets_stop stop c = list_any stop (unclosed c)
 
 -- the free loop begun and ended at its least stop
 abbrev pub turned_loop : (Pos → Bool) → List Pos → List Pos
-turned_loop stop c = opened_at (start_place stop (unclosed c)) (unclosed c)
-
--- each part as a piece that is no free loop
-abbrev pub open_pieces : (Pos → Bool) → List Pos → List Piece
-open_pieces stop c = map (piece_along false) (cut_inside stop c)
+turned_loop stop c = begun_ring stop (unclosed c)
 
 -- the pieces of a free loop: where a stop lies on it, its parts from its least stop on; otherwise itself, and free
 abbrev pub loop_pieces : (Pos → Bool) → List Pos → List Piece
-loop_pieces stop c = cond (meets_stop stop c) (open_pieces stop (turned_loop stop c)) (piece_along true c ∷ [])
+loop_pieces stop c = pieces_round stop (unclosed c) c
 
 -- the pieces of an arc, which may be a free loop
 abbrev pub pieces_at : (Pos → Bool) → Bool → List Pos → List Piece

@@ -8,8 +8,10 @@ use Rattle.theory.specs.Stitching.{ArePiecesOf, AreRingPiecesOf}
 use Rattle.theory.specs.TopologyFunction.{keep}
 use Rattle.grid.specs.declared.pos.Pos.{Pos}
 use Rattle.lines.specs.Turned.{position_cmp}
+use Rattle.chains.specs.Among.{among}
+use Rattle.chains.specs.ArcPieces.{pieces_at}
 use Rattle.chains.specs.Arcs.{Arcs}
-use Rattle.chains.specs.Pieces.{used, line_pieces, ring_pieces, ArePieces}
+use Rattle.chains.specs.Pieces.{used, ArePieces}
 use Rattle.chains.specs.Table.{is_loop}
 use Rattle.chains.specs.Visits.{inner_of, around_of, ends_of}
 use Rattle.chains.specs.declared.cutting.Piece.{Piece}
@@ -46,7 +48,7 @@ ends_if loops (Some c) = arc_ends loops c
 
 -- the pieces of an arc, where these are the junctions
 abbrev pub arc_pieces : List Pos → List (List Pos) → List Pos → List Piece
-arc_pieces junctions loops c = cond (is_loop loops c) (ring_pieces junctions (unclosed c)) (line_pieces junctions c)
+arc_pieces junctions loops c = pieces_at (among junctions) (is_loop loops c) c
 
 -- the pieces of an arc, where there is one
 abbrev pub pieces_if : List Pos → List (List Pos) → Option (List Pos) → List Piece

@@ -1,8 +1,8 @@
 -- Pieces of lines and rings.
-use Rattle.std.specs.Prelude.{ℕ, Bool, false, not, cond, List, [], ◌∷◌, ◌++◌, take, drop, reverse, map}
+use Rattle.std.specs.Prelude.{ℕ, Bool, true, false, not, cond, ◌&&◌, List, [], ◌∷◌, ◌++◌, take, drop, reverse, map}
+use Rattle.std.specs.List.{list_any}
 use Rattle.std.specs.Ordering.{is_lt}
 use Rattle.theory.specs.Lists.{Has}
-use Rattle.theory.specs.Cutting.{cut_from}
 use Rattle.theory.specs.Chain.{Free}
 use Rattle.theory.specs.Geometry.{Geometry, JunctionOf}
 use Rattle.theory.specs.Arcs.{IsArcOf}
@@ -49,36 +49,49 @@ piece_along free c = record { chain = least_direction c; reversed = is_backwards
 abbrev pub oriented : (Pos → Bool) → List Pos → Piece
 oriented stop c = piece_along (begins_free stop c) c
 
--- a list cut at its stops; what is behind the last stop is dropped
-abbrev pub cut_list : (Pos → Bool) → List Pos → List (List Pos)
-cut_list stop [] = []
-cut_list stop (x ∷ rest) = cut_from stop (x ∷ []) rest
+-- whether the list has a place
+abbrev pub goes_on : List Pos → Bool
+goes_on [] = false
+goes_on (x ∷ l) = true
+
+-- the parts of the list that begins with the positions `part` and goes on by the second list, cut at each stop behind which it goes on
+abbrev pub cut_inside_from : (Pos → Bool) → List Pos → List Pos → List (List Pos)
+cut_inside_from stop part [] = part ∷ []
+cut_inside_from stop part (p ∷ rest) =
+    cond (goes_on rest && stop p) ((part ++ (p ∷ [])) ∷ cut_inside_from stop (p ∷ []) rest) (cut_inside_from stop (part ++ (p ∷ [])) rest)
+
+-- the parts of the list, cut at each inner place where there is a stop; what is behind the last of these is the last part
+abbrev pub cut_inside : (Pos → Bool) → List Pos → List (List Pos)
+cut_inside stop [] = [] ∷ []
+cut_inside stop (x ∷ rest) = cut_inside_from stop (x ∷ []) rest
+
+-- each part as a piece that is no free loop
+abbrev pub open_pieces : (Pos → Bool) → List Pos → List Piece
+open_pieces stop l = map (piece_along false) (cut_inside stop l)
 
 -- the list begun at a place, and the position there once more
 abbrev pub opened_at : ℕ → List Pos → List Pos
 opened_at i l = (drop i l ++ take i l) ++ take 1 (drop i l)
 
--- whether the list begins with a stop
-abbrev pub first_stops : (Pos → Bool) → List Pos → Bool
-first_stops stop [] = false
-first_stops stop (x ∷ l) = stop x
+-- the ring, closed, from its least stop on, or from its least vertex on where no stop lies on it
+abbrev pub begun_ring : (Pos → Bool) → List Pos → List Pos
+begun_ring stop r = opened_at (start_place stop r) r
 
--- the pieces of a ring that is read from a place
-abbrev pub parts_at : (Pos → Bool) → ℕ → List Pos → List (List Pos)
-parts_at stop i [] = []
-parts_at stop i (x ∷ r) = cond (first_stops stop (drop i (x ∷ r))) (cut_list stop (opened_at i (x ∷ r))) (opened_at i (x ∷ r) ∷ [])
+-- the parts of a ring: where a stop lies on it, cut from its least stop on; otherwise the list `whole` that goes round it
+abbrev pub parts_round : (Pos → Bool) → List Pos → List Pos → List (List Pos)
+parts_round stop r whole = cond (list_any stop r) (cut_inside stop (begun_ring stop r)) (whole ∷ [])
 
--- the pieces of a ring, in order along it from its seam, as lists
-abbrev pub ring_parts : (Pos → Bool) → List Pos → List (List Pos)
-ring_parts stop r = parts_at stop (start_place stop r) r
+-- each part of a ring as a piece, which is a free loop where no stop lies on the ring
+abbrev pub pieces_round : (Pos → Bool) → List Pos → List Pos → List Piece
+pieces_round stop r whole = map (piece_along (not (list_any stop r))) (parts_round stop r whole)
 
 -- the pieces of a line, where these are the junctions
 abbrev pub line_pieces : List Pos → List Pos → List Piece
-line_pieces junctions l = map (oriented (among junctions)) (cut_list (among junctions) l)
+line_pieces junctions l = open_pieces (among junctions) l
 
--- the pieces of a ring, where these are the junctions
+-- the pieces of a ring, where these are the junctions; one on which none lies begins at its least vertex
 abbrev pub ring_pieces : List Pos → List Pos → List Piece
-ring_pieces junctions r = map (oriented (among junctions)) (ring_parts (among junctions) r)
+ring_pieces junctions r = pieces_round (among junctions) r (begun_ring (among junctions) r)
 
 -- the piece is an arc of the map, marked as free exactly where no junction lies on it
 pub record IsPieceOf (g : Geometry Pos) (p : Piece) : Type 0 where

@@ -1,12 +1,12 @@
 -- Pieces with their places, and the arcs that they are.
-use Rattle.std.specs.Prelude.{◌≡◌, ℕ, cond, false, ◌+◌, ◌<◌, List, [], ◌∷◌, map, length, Some, slice_get}
+use Rattle.std.specs.Prelude.{◌≡◌, ℕ, false, ◌+◌, ◌<◌, List, [], ◌∷◌, map, length, Some, slice_get}
 use Rattle.theory.specs.ArcNumbers.{ArcRef}
 use Rattle.theory.specs.Lists.{Has, gathered}
-use Rattle.theory.specs.Refinement.{unclosed}
 use Rattle.grid.specs.declared.pos.Pos.{Pos}
+use Rattle.chains.specs.Among.{among}
+use Rattle.chains.specs.ArcPieces.{pieces_at}
 use Rattle.chains.specs.Arcs.{Arcs}
 use Rattle.chains.specs.Keys.{key_of}
-use Rattle.chains.specs.Pieces.{line_pieces, ring_pieces}
 use Rattle.chains.specs.Shared.{whole}
 use Rattle.chains.specs.Stored.{positions_of, stored_of, merged}
 use Rattle.chains.specs.Table.{located}
@@ -47,4 +47,4 @@ whole_pieces t = gathered (whole t.loops) t.arcs
 
 -- the pieces of an arc that is its own one piece, where these are the junctions
 abbrev pub pieces_under : List Pos → Piece → List Piece
-pieces_under junctions p = cond p.free (ring_pieces junctions (unclosed p.chain)) (line_pieces junctions p.chain)
+pieces_under junctions p = pieces_at (among junctions) p.free p.chain

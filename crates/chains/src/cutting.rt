@@ -1,13 +1,14 @@
-//! Cutting lines and rings at junctions.
+//! Cutting lines, rings and arcs at stops.
 ghost use Rattle.chains.specs.Among.{among};
+ghost use Rattle.chains.specs.ArcPieces.{least_stop, loop_pieces, pieces_at};
 ghost use Rattle.chains.specs.Index.{IsIndexOf};
 ghost use Rattle.chains.specs.Pieces as spec;
-ghost use Rattle.chains.specs.Pieces.{used, chain_of, piece_along, oriented, opened_at, cut_list, ring_parts, line_pieces, ring_pieces, ArePieces};
+ghost use Rattle.chains.specs.Pieces.{used, chain_of, piece_along, open_pieces, opened_at, line_pieces, ring_pieces, ArePieces};
 ghost use Rattle.chains.specs.Placing.{pieces_under};
 ghost use Rattle.chains.specs.Seen.{line_of, ring_of};
 ghost use Rattle.grid.specs.declared.pos.Pos.{Pos};
 ghost use Rattle.lines.specs.Turned.{position_cmp, list_cmp};
-ghost use Rattle.std.specs.Prelude.{◌≡◌, ◌∷◌, ◌++◌, ◌<◌, ◌≤◌, ◌+◌, [], List, cond, false, IfOk, OnOk, map, reverse, length};
+ghost use Rattle.std.specs.Prelude.{◌≡◌, ◌∷◌, ◌++◌, ◌<◌, ◌≤◌, ◌+◌, [], List, cond, false, true, IfOk, IfSome, OnOk, map, reverse, length};
 ghost use Rattle.theory.specs.Geometry.{Geometry, IsSound, IsLineOf, IsRingOf};
 ghost use Rattle.theory.specs.Lists.{Each};
 ghost use Rattle.theory.specs.Refinement.{unclosed};
@@ -141,30 +142,32 @@ pub(crate) fn begins_free<S: Stops>(stops: &S, chain: &[Pos]) -> bool
     }
 }
 
-fn piece_of(alloc: Global, index: &VisitIndex, chain: &[Pos]) -> Result<Piece, AllocError>
-    ensures { IfOk result (λ p. p ≡ oriented (among index.now) chain.now) }
+/// A part of a line, a ring or an arc, as a piece that is no free loop.
+fn part(alloc: Global, chain: &[Pos]) -> Result<Piece, AllocError>
+    ensures { IfOk result (λ p. p ≡ piece_along false chain.now) }
 {
-    let free = begins_free(index, chain);
-    Piece::new(alloc, chain.to_vec(alloc)?, free)
+    Piece::new(alloc, chain.to_vec(alloc)?, false)
 }
 
-/// The list cut at its stops; what is behind the last stop is dropped.
-fn cut(alloc: Global, index: &VisitIndex, line: &[Pos]) -> Result<Vec<Piece>, AllocError>
-    ensures { IfOk result (λ v. v.items ≡ line_pieces index.now line.now) }
+/// The list cut at each inner place where there is a stop; what is behind the last of these is the
+/// last piece.
+fn cut_inside<S: Stops>(alloc: Global, stops: &S, line: &[Pos]) -> Result<Vec<Piece>, AllocError>
+    ensures { IfOk result (λ v. v.items ≡ open_pieces (among (S.at stops.now)) line.now) }
 {
     let mut pieces = Vec::new(alloc);
     let mut begin = 0;
     for i in 1..line.len() {
-        if index.is_junction(line[i]) {
-            pieces.push(piece_of(alloc, index, &line[begin..i + 1])?)?;
+        if i + 1 < line.len() && stops.is_stop(line[i]) {
+            pieces.push(part(alloc, &line[begin..i + 1])?)?;
             begin = i;
         }
     }
+    pieces.push(part(alloc, &line[begin..])?)?;
     Ok(pieces)
 }
 
 /// The ring begun at a place, and closed.
-pub(crate) fn opened(alloc: Global, ring: &[Pos], at: usize) -> Result<Vec<Pos>, AllocError>
+fn opened(alloc: Global, ring: &[Pos], at: usize) -> Result<Vec<Pos>, AllocError>
     requires { at < length ring.now }
     ensures { IfOk result (λ v. v.items ≡ opened_at at ring.now) }
 {
@@ -175,46 +178,81 @@ pub(crate) fn opened(alloc: Global, ring: &[Pos], at: usize) -> Result<Vec<Pos>,
     Ok(closed)
 }
 
-/// One piece alone.
-fn alone(alloc: Global, index: &VisitIndex, chain: Vec<Pos>) -> Result<Vec<Piece>, AllocError>
-    ensures { IfOk result (λ v. v.items ≡ oriented (among index.now) chain.items ∷ []) }
+/// A free loop as its own one piece.
+fn free_piece(alloc: Global, chain: Vec<Pos>) -> Result<Vec<Piece>, AllocError>
+    ensures { IfOk result (λ v. v.items ≡ piece_along true chain.items ∷ []) }
 {
-    let free = begins_free(index, &chain);
     let mut pieces = Vec::new(alloc);
-    pieces.push(Piece::new(alloc, chain, free)?)?;
+    pieces.push(Piece::new(alloc, chain, true)?)?;
     Ok(pieces)
 }
 
+/// A ring cut from its least junction on, or begun at its least vertex where it has none.
 fn ring_cut(alloc: Global, index: &VisitIndex, ring: &[Pos]) -> Result<Vec<Piece>, AllocError>
     ensures { IfOk result (λ v. v.items ≡ ring_pieces index.now ring.now) }
 {
     let at = place_of_start(index, ring);
     if at >= ring.len() {
-        return Ok(Vec::new(alloc));
+        return free_piece(alloc, Vec::new(alloc));
     }
     let closed = opened(alloc, ring, at)?;
-    if index.is_junction(ring[at]) {
-        cut(alloc, index, &closed)
+    if index.is_stop(ring[at]) {
+        cut_inside(alloc, index, &closed)
     } else {
-        alone(alloc, index, closed)
+        free_piece(alloc, closed)
     }
 }
 
-/// An arc cut as a ring where it is free, otherwise as a line.
-fn arc_cut(
+/// The place of the least vertex of a ring that is a stop, where one lies on it.
+fn place_of_least_stop<S: Stops>(stops: &S, ring: &[Pos]) -> Option<usize>
+    ensures is { result ≡ least_stop (among (S.at stops.now)) ring.now }
+    ensures within { IfSome result (λ i. i < length ring.now) }
+{
+    let at = place_of_start(stops, ring);
+    if at >= ring.len() {
+        return None;
+    }
+    if stops.is_stop(ring[at]) {
+        Some(at)
+    } else {
+        None
+    }
+}
+
+/// The ring that a closed list goes round.
+fn ring_round(arc: &[Pos]) -> &[Pos]
+    ensures { result.now ≡ unclosed arc.now }
+{
+    match arc.split_last() {
+        Some((_, ring)) => ring,
+        None => arc,
+    }
+}
+
+/// A free loop cut at its stops, from the least of them on.
+fn cut_loop<S: Stops>(alloc: Global, stops: &S, arc: &[Pos]) -> Result<Vec<Piece>, AllocError>
+    ensures { IfOk result (λ v. v.items ≡ loop_pieces (among (S.at stops.now)) arc.now) }
+{
+    let ring = ring_round(arc);
+    if let Some(at) = place_of_least_stop(stops, ring) {
+        return cut_inside(alloc, stops, &opened(alloc, ring, at)?);
+    }
+    free_piece(alloc, arc.to_vec(alloc)?)
+}
+
+/// An arc cut at stops: a free loop from the least of its stops on.
+pub(crate) fn cut_at_stops<S: Stops>(
     alloc: Global,
-    index: &VisitIndex,
+    stops: &S,
     arc: &[Pos],
     free: bool,
 ) -> Result<Vec<Piece>, AllocError>
-    ensures { IfOk result (λ v. v.items ≡ cond free (ring_pieces index.now (unclosed arc.now)) (line_pieces index.now arc.now)) }
+    ensures { IfOk result (λ v. v.items ≡ pieces_at (among (S.at stops.now)) free arc.now) }
 {
-    if !free {
-        return cut(alloc, index, arc);
-    }
-    match arc.split_last() {
-        Some((_, ring)) => ring_cut(alloc, index, ring),
-        None => Ok(Vec::new(alloc)),
+    if free {
+        cut_loop(alloc, stops, arc)
+    } else {
+        cut_inside(alloc, stops, arc)
     }
 }
 
@@ -235,7 +273,7 @@ pub fn add_pieces(
         pieces.push(arc)?;
         return Ok(());
     }
-    let mut cut = arc_cut(alloc, index, arc.chain(), arc.is_free())?;
+    let mut cut = cut_at_stops(alloc, index, arc.chain(), arc.is_free())?;
     pieces.append(&mut cut)?;
     Ok(())
 }
@@ -249,7 +287,7 @@ pub fn cut_line(alloc: Global, index: &VisitIndex, line: &Line) -> Result<Vec<Pi
     ensures stitch { IfOk result (λ v. (g : Geometry Pos) → IsSound g → IsLineOf g (line_of line.now) → IsIndexOf index.now g → ArePiecesOf position_cmp g (line_of line.now) (map used v.items)) }
     ensures pieces { IfOk result (λ v. (g : Geometry Pos) → IsSound g → IsLineOf g (line_of line.now) → IsIndexOf index.now g → ArePieces g v.items) }
 {
-    let pieces = cut(alloc, index, line.positions())?;
+    let pieces = cut_inside(alloc, index, line.positions())?;
     Ok(pieces)
 }
 

@@ -1,8 +1,7 @@
 //! Turning the list of a ring to begin at the used arc that starts least.
-ghost use Rattle.chains.specs.Keys.{key_of, key_cmp};
+ghost use Rattle.chains.specs.Keys.{key_of};
 ghost use Rattle.chains.specs.Turning.{used_key, least_place};
 ghost use Rattle.lines.specs.Turned.{position_cmp};
-ghost use Rattle.std.specs.Ordering.{is_gt};
 ghost use Rattle.std.specs.Prelude.{◌≡◌, Some, reverse};
 ghost use Rattle.theory.specs.ArcNumbers.{along};
 ghost use Rattle.theory.specs.Refinement.{turned_used};
@@ -10,6 +9,7 @@ ghost use Rattle.theory.specs.Refinement.{turned_used};
 use crate::key::Key;
 use crate::table::{ArcRef, ArcTable};
 use grid::pos::Pos;
+use itertools::Itertools;
 
 fn key_against(arc: &[Pos]) -> Key
     ensures { result ≡ key_of (reverse arc.now) }
@@ -45,29 +45,13 @@ fn key_along(arcs: &ArcTable, used: &ArcRef) -> Key
     }
 }
 
-fn comes_after(a: &Key, b: &Key) -> bool
-    ensures { result ≡ is_gt (key_cmp a.now b.now) }
-{
-    a > b
-}
-
 /// The place of the first used arc that starts least.
 fn place_of_least(arcs: &ArcTable, used: &[ArcRef]) -> usize
     ensures { result ≡ least_place arcs.now.arcs used.now }
 {
-    let Some((first, others)) = used.split_first() else {
-        return 0;
-    };
-    let mut place = 0;
-    let mut least = key_along(arcs, first);
-    for (i, arc) in others.iter().enumerate() {
-        let key = key_along(arcs, arc);
-        if comes_after(&least, &key) {
-            place = i + 1;
-            least = key;
-        }
-    }
-    place
+    used.iter()
+        .position_min_by_key(|arc| key_along(arcs, arc))
+        .unwrap_or(0)
 }
 
 /// Turns the list of a ring to begin at the first used arc that starts least: by its first vertex, then

@@ -10,12 +10,15 @@ use Rattle.theory.proofs.Lists.{Has-append, Has-append_left, Has-append_right}
 use Rattle.theory.proofs.ListsOfLists.{Has-gathered, gathered_from, Pairwise-map}
 use Rattle.grid.specs.declared.pos.Pos.{Pos}
 use Rattle.lines.specs.Turned.{position_cmp, list_cmp}
+use Rattle.chains.specs.Among.{among}
+use Rattle.chains.specs.ArcPieces.{loop_pieces, pieces_at}
 use Rattle.chains.specs.Arcs.{Arcs}
 use Rattle.chains.specs.Index.{IsIndexOf}
 use Rattle.chains.specs.OfArcs.{open_in, loops_in, tables_as_map, arc_pieces}
 use Rattle.chains.specs.Pieces.{chain_of, line_pieces, ring_pieces}
 use Rattle.chains.specs.Table.{is_loop, located, ArePiecesOfMap, IsTableOf}
 use Rattle.chains.specs.declared.cutting.Piece.{Piece}
+use Rattle.chains.proofs.ArcsAtStops.{loop_as_ring}
 use Rattle.chains.proofs.ArcsCut.{table_alike}
 use Rattle.lines.specs.Positions.{position_total, position_same}
 use Rattle.lines.proofs.Positions.{position_dec}
@@ -31,7 +34,7 @@ in_second : {A : Type 0} (x : A) (a b : List A) (t : Bool) → t ≡ false → H
 in_second x a b t e h = subst (λ w. Has x (cond w a b)) (sym e) h
 
 -- the pieces of the arcs of one table
-module _ (js : List Pos) (t : Arcs) where
+module _ (js : List Pos) (m : Geometry Pos) (sm : IsSound m) (t : Arcs) (mt : IsTableOf m t) where
   abbrev pub pieces_in : List Piece
   pieces_in = gathered (arc_pieces js t.loops) t.arcs
 
@@ -39,14 +42,14 @@ module _ (js : List Pos) (t : Arcs) where
   open_there l h p k =
       let o = open_has t.loops t.arcs l h in
       Has-gathered (arc_pieces js t.loops) t.arcs l p o.0
-      (in_second p (ring_pieces js (unclosed l)) (line_pieces js l) (is_loop t.loops l) o.1 k)
+      (in_second p (loop_pieces (among js) l) (line_pieces js l) (is_loop t.loops l) o.1 k)
 
   loop_there : (r : List Pos) → Has r (loops_in t.loops t.arcs) → (p : Piece) → Has p (ring_pieces js r) → Has p (gathered (arc_pieces js t.loops) t.arcs)
   loop_there r h p k =
       let o = loop_has t.loops t.arcs r h in
       Has-gathered (arc_pieces js t.loops) t.arcs o.0 p o.1
-      (in_first p (ring_pieces js (unclosed o.0)) (line_pieces js o.0) (is_loop t.loops o.0) o.2
-      (subst (λ w. Has p (ring_pieces js w)) o.3 k))
+      (in_first p (loop_pieces (among js) o.0) (line_pieces js o.0) (is_loop t.loops o.0) o.2
+      (subst (Has p) (sym (loop_as_ring m sm t mt js o.0 o.1 o.2)) (subst (λ w. Has p (ring_pieces js w)) o.3 k)))
 
   from : (p : Piece) → Has p (gathered (arc_pieces js t.loops) t.arcs) →
       ((l : List Pos) × Has l (open_in t.loops t.arcs) × Has p (line_pieces js l)) ⊎ ((r : List Pos) × Has r (loops_in t.loops t.arcs) × Has p (ring_pieces js r))
@@ -54,9 +57,9 @@ module _ (js : List Pos) (t : Arcs) where
       let k = gathered_from (arc_pieces js t.loops) t.arcs p h in
       go k.0 k.1 (is_loop t.loops k.0) refl k.2
     where
-      go : (c : List Pos) → Has c t.arcs → (b : Bool) → is_loop t.loops c ≡ b → Has p (cond b (ring_pieces js (unclosed c)) (line_pieces js c)) →
+      go : (c : List Pos) → Has c t.arcs → (b : Bool) → is_loop t.loops c ≡ b → Has p (pieces_at (among js) b c) →
           ((l : List Pos) × Has l (open_in t.loops t.arcs) × Has p (line_pieces js l)) ⊎ ((r : List Pos) × Has r (loops_in t.loops t.arcs) × Has p (ring_pieces js r))
-      go c h true e k = inr (unclosed c, has_loop t.loops t.arcs c h e, k)
+      go c h true e k = inr (unclosed c, has_loop t.loops t.arcs c h e, subst (Has p) (loop_as_ring m sm t mt js c h e) k)
       go c h false e k = inl (c, has_open t.loops t.arcs c h e, k)
 
 module _ (s t : Arcs) (js : List Pos) (index : IsIndexOf js (tables_as_map s t)) (m n u : Geometry Pos) (sm : IsSound m) (sn : IsSound n)
@@ -73,24 +76,24 @@ module _ (s t : Arcs) (js : List Pos) (index : IsIndexOf js (tables_as_map s t))
 
   of_lines : (l : List Pos) → IsLineOf a l → (p : Piece) → Has p (line_pieces js l) → Has p ps
   of_lines l h p k = subst (Has p) (sym are) (elim (Has-append l (open_in s.loops s.arcs) (open_in t.loops t.arcs) h) [
-    | inl i ↦ Has-append_left p (gathered (arc_pieces js s.loops) s.arcs) (gathered (arc_pieces js t.loops) t.arcs) (open_there js s l i p k)
-    | inr i ↦ Has-append_right p (gathered (arc_pieces js s.loops) s.arcs) (gathered (arc_pieces js t.loops) t.arcs) (open_there js t l i p k)
+    | inl i ↦ Has-append_left p (gathered (arc_pieces js s.loops) s.arcs) (gathered (arc_pieces js t.loops) t.arcs) (open_there js m sm s ms l i p k)
+    | inr i ↦ Has-append_right p (gathered (arc_pieces js s.loops) s.arcs) (gathered (arc_pieces js t.loops) t.arcs) (open_there js n sn t nt l i p k)
   ])
 
   of_rings : (r : List Pos) → IsRingOf a r → (p : Piece) → Has p (ring_pieces js r) → Has p ps
   of_rings r h p k = subst (Has p) (sym are) (elim (Has-append r (loops_in s.loops s.arcs) (loops_in t.loops t.arcs) h) [
-    | inl i ↦ Has-append_left p (gathered (arc_pieces js s.loops) s.arcs) (gathered (arc_pieces js t.loops) t.arcs) (loop_there js s r i p k)
-    | inr i ↦ Has-append_right p (gathered (arc_pieces js s.loops) s.arcs) (gathered (arc_pieces js t.loops) t.arcs) (loop_there js t r i p k)
+    | inl i ↦ Has-append_left p (gathered (arc_pieces js s.loops) s.arcs) (gathered (arc_pieces js t.loops) t.arcs) (loop_there js m sm s ms r i p k)
+    | inr i ↦ Has-append_right p (gathered (arc_pieces js s.loops) s.arcs) (gathered (arc_pieces js t.loops) t.arcs) (loop_there js n sn t nt r i p k)
   ])
 
   only : (p : Piece) → Has p ps →
       ((l : List Pos) × IsLineOf a l × Has p (line_pieces js l)) ⊎ ((r : List Pos) × IsRingOf a r × Has p (ring_pieces js r))
   only p h = elim (Has-append p (gathered (arc_pieces js s.loops) s.arcs) (gathered (arc_pieces js t.loops) t.arcs) (subst (Has p) are h)) [
-    | inl k ↦ elim (from js s p k) [
+    | inl k ↦ elim (from js m sm s ms p k) [
       | inl q ↦ inl (q.0, Has-append_left q.0 (open_in s.loops s.arcs) (open_in t.loops t.arcs) q.1, q.2)
       | inr q ↦ inr (q.0, Has-append_left q.0 (loops_in s.loops s.arcs) (loops_in t.loops t.arcs) q.1, q.2)
     ]
-    | inr k ↦ elim (from js t p k) [
+    | inr k ↦ elim (from js n sn t nt p k) [
       | inl q ↦ inl (q.0, Has-append_right q.0 (open_in s.loops s.arcs) (open_in t.loops t.arcs) q.1, q.2)
       | inr q ↦ inr (q.0, Has-append_right q.0 (loops_in s.loops s.arcs) (loops_in t.loops t.arcs) q.1, q.2)
     ]
@@ -114,15 +117,15 @@ module _ (s t : Arcs) (js : List Pos) (index : IsIndexOf js (tables_as_map s t))
           not_free e = (told g sg old og c h).no e
 
           go : (b : Bool) → is_loop old.loops c ≡ b →
-              ArePiecesOfArc position_cmp (JunctionOf g) (JunctionOf u) new.arcs c (map (located new.arcs) (cond b (ring_pieces js (unclosed c)) (line_pieces js c)))
+              ArePiecesOfArc position_cmp (JunctionOf g) (JunctionOf u) new.arcs c (map (located new.arcs) (pieces_at (among js) b c))
           go true e =
               let k = ring_list a sound js index ps of_lines of_rings new.arcs sorted (unclosed c) (loops (unclosed c) (has_loop old.loops old.arcs c h e)) in
-              inr (
+              subst (λ w. ArePiecesOfArc position_cmp (JunctionOf g) (JunctionOf u) new.arcs c (map (located new.arcs) w)) (sym (loop_as_ring g sg old og js c h e)) (inr (
                 unclosed c,
                 (free_loop g sg old og c h e).0,
                 (told g sg old og c h).yes e,
                 (k.0, k.1, turned_alike position_cmp position_total position_same position_dec a u alike (unclosed c) k.0 k.1 k.2, k.3),
-              )
+              ))
           go false e = inl (not_free e, line_list a sound js index ps of_lines of_rings new.arcs sorted c (opens c (has_open old.loops old.arcs c h e)))
 
       refines : IsRefinementOf position_cmp g u old.arcs new.arcs (map (arc_used js old.loops new.arcs) old.arcs)
