@@ -1,4 +1,4 @@
-"""Finds the public functions that have a condition, a `requires`, for tests/documents.py.
+"""Finds the public functions, for tests/growths.py, and those that have a condition, a `requires`, for tests/documents.py.
 
 A function is public here where it can be named from the root of its crate: through public modules, or passed on by a
 `pub use`; a method where its type can be. The crates are the program's, those that it stands on, and geojson_round_trip.
@@ -47,7 +47,7 @@ class Module:
     def __init__(self, text):
         self.inner = {name: bool(pub) for pub, name in re.findall(r"^(pub )?(?:pub\(\w+\) )?mod (\w+);", text, re.MULTILINE)}
         self.uses = dict(passed_on(text))
-        self.public, self.conditions = set(), set()
+        self.public, self.functions, self.conditions = set(), {}, set()
         owner, lines = None, text.split("\n")
         for at, line in enumerate(lines):
             if line and not line.startswith((" ", "}", ")")):
@@ -59,8 +59,21 @@ class Module:
             if function and (function[2] or owner and is_trait) and len(function[1]) == (4 if owner else 0):
                 if not owner:
                     self.public.add(function[3])
+                self.functions[owner, function[3]] = signature(lines[at:])
                 if has_condition(lines[at:], function[1]):
                     self.conditions.add((owner, function[3]))
+
+
+def signature(lines):
+    """The function at the first of these lines, up to its contract or its body."""
+    words = []
+    for line in lines:
+        if re.match(r" *(?:requires|ensures|\{)", line):
+            break
+        words.append(line.strip())
+        if line.endswith((" {", ";")):
+            break
+    return " ".join(words)
 
 
 def has_condition(lines, indent):
@@ -120,17 +133,17 @@ def from_root(path, used):
     return tuple(used[1:]) if used[0] == "crate" else (*path, *used)
 
 
+def public_functions(crate, kept):
+    """The public functions of a crate of those that `kept` gives of each module: tuples of the type and the name."""
+    found = modules(crate)
+    items = reachable(found)
+    types = {name for _, name in items}
+    for path, module in found.items():
+        for owner, name in kept(module):
+            if owner in types or not owner and (path, name) in items:
+                yield path, owner, name
+
+
 def public_conditions():
     """The public functions that have a condition."""
-    functions = set()
-    for crate in product():
-        found = modules(crate)
-        items = reachable(found)
-        types = {name for _, name in items}
-        for path, module in found.items():
-            for owner, name in module.conditions:
-                if owner and owner in types:
-                    functions.add((crate, owner, name))
-                elif not owner and (path, name) in items:
-                    functions.add((crate, "", name))
-    return functions
+    return {(crate, owner or "", name) for crate in product() for _, owner, name in public_functions(crate, lambda it: it.conditions)}

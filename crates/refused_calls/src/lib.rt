@@ -5,6 +5,8 @@
 
 pub mod calls;
 pub mod comparing;
+pub mod handed;
 pub mod inputs;
 pub mod outcome;
+pub mod tables;
 pub mod texts;

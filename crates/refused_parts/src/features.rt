@@ -1,0 +1,145 @@
+//! Features, copies of their parts, and sets of them.
+
+use faults::OutOfMemory;
+use refused_calls::calls::Lent;
+use refused_calls::inputs::read;
+use refused_calls::layer;
+use refused_calls::outcome::Tally;
+use refused_calls::tables::{Lends, Row};
+use shapes::{Feature, FeatureMap, feature_set};
+use std::alloc::Global;
+
+/// A square with an id and properties.
+const NAMED: &str = layer!(
+    r#"{"arcs":[[[0,0],[0,1],[1,0],[0,-1],[-1,0]]],"bbox":[0,0,1,1],"objects":{"a":{"geometries":[{"arcs":[[-1]],"id":"x","properties":{"n":1},"type":"Polygon"}"#
+);
+
+const PROPERTIES: &str = r#"{"n":1}"#;
+
+/// The features of the square.
+#[derive(Drop)]
+struct Features {
+    map: FeatureMap,
+}
+
+impl Features {
+    /// The square.
+    fn feature(&self) -> Option<&Feature> {
+        self.map.layer("a")?.first()
+    }
+}
+
+fn has_properties(feature: Option<&Feature>) -> bool {
+    match feature {
+        Some(feature) => feature.props.text() == PROPERTIES,
+        None => false,
+    }
+}
+
+impl Lent for Features {
+    fn is_as_before(&self) -> bool {
+        has_properties(self.feature())
+    }
+}
+
+fn copy_props(alloc: Global, features: &Features) -> Result<bool, OutOfMemory> {
+    match features.feature() {
+        Some(feature) => Ok(feature.props.copy(alloc)? == feature.props),
+        None => Ok(false),
+    }
+}
+
+fn copy_id(alloc: Global, features: &Features) -> Result<bool, OutOfMemory> {
+    match features.feature() {
+        Some(feature) => Ok(feature.id.copy(alloc)? == feature.id),
+        None => Ok(false),
+    }
+}
+
+fn copy_shape(alloc: Global, features: &Features) -> Result<bool, OutOfMemory> {
+    match features.feature() {
+        Some(feature) => Ok(feature.shape.copy(alloc)? == feature.shape),
+        None => Ok(false),
+    }
+}
+
+fn copy_feature(alloc: Global, features: &Features) -> Result<bool, OutOfMemory> {
+    match features.feature() {
+        Some(feature) => Ok(feature.copy(alloc)? == *feature),
+        None => Ok(false),
+    }
+}
+
+fn names(features: &Features) -> Result<bool, OutOfMemory> {
+    let names = features.map.names()?;
+    match names.as_slice() {
+        [name] => Ok(name.text() == "a"),
+        _ => Ok(false),
+    }
+}
+
+/// A feature twice.
+fn two(alloc: Global, feature: &Feature) -> Result<Vec<Feature>, OutOfMemory> {
+    let mut features = Vec::new(alloc);
+    features.push(feature.copy(alloc)?)?;
+    features.push(feature.copy(alloc)?)?;
+    Ok(features)
+}
+
+fn is_set(alloc: Global, feature: &Feature) -> Result<bool, OutOfMemory> {
+    let set = feature_set(alloc, two(alloc, feature)?)?;
+    Ok(set.len() == 1 && set.contains(feature))
+}
+
+fn set(alloc: Global, features: &Features) -> Result<bool, OutOfMemory> {
+    match features.feature() {
+        Some(feature) => is_set(alloc, feature),
+        None => Ok(false),
+    }
+}
+
+/// Tells the calls apart.
+#[derive(Clone, Copy)]
+enum Call {
+    CopyProps,
+    CopyId,
+    CopyShape,
+    CopyFeature,
+    Names,
+    Set,
+}
+
+const ROWS: &[Row<Call>] = &[
+    ("Props::copy", Call::CopyProps),
+    ("Id::copy", Call::CopyId),
+    ("Shape::copy", Call::CopyShape),
+    ("Feature::copy", Call::CopyFeature),
+    ("FeatureMap::names", Call::Names),
+    ("shapes::feature_set", Call::Set),
+];
+
+impl Lends for Features {
+    type Call = Call;
+
+    fn make(alloc: Global) -> Option<Features> {
+        Some(Features {
+            map: read(alloc, NAMED)?,
+        })
+    }
+
+    fn answer(&self, alloc: Global, call: Call) -> Result<bool, OutOfMemory> {
+        match call {
+            Call::CopyProps => copy_props(alloc, self),
+            Call::CopyId => copy_id(alloc, self),
+            Call::CopyShape => copy_shape(alloc, self),
+            Call::CopyFeature => copy_feature(alloc, self),
+            Call::Names => names(self),
+            Call::Set => set(alloc, self),
+        }
+    }
+}
+
+/// Makes each call of features.
+pub(crate) fn settle(rt: &HostRuntime, tally: &mut Tally) {
+    tally.attempt_each::<Features>(rt, "features", ROWS);
+}
