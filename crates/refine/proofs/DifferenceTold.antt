@@ -1,5 +1,5 @@
 -- The geometries that a pass by lists leaves of a topology are those whose features the other one's map does not have.
-use Rattle.std.proofs.Common.{◌≡◌, ℕ, Bool, true, false, cond, List, [], ◌∷◌, Option, Some, None, refl, sym, ap, ◌∙◌, subst}
+use Rattle.std.proofs.Common.{◌≡◌, ℕ, Bool, true, false, cond, List, [], ◌∷◌, ◌++◌, Option, Some, None, IfSome, refl, sym, ap, ◌∙◌, append_assoc, subst}
 use Rattle.std.specs.Prelude.{map as map_list, unwrap_or}
 use Rattle.std.specs.Cmp.{IsTotalOrder}
 use Rattle.std.specs.Cmp.Lexicographic.{nat_list_cmp_total, slice_cmp}
@@ -18,18 +18,22 @@ use Rattle.shapes.specs.SetLaws.{items-from_list}
 use Rattle.shapes.specs.Sets as set
 use Rattle.shapes.specs.Union.{union}
 use Rattle.shapes.specs.declared.feature.Feature.{Feature}
+use Rattle.chains.specs.Arcs.{Arcs}
 use Rattle.chains.specs.Seen.{geometry_of}
-use Rattle.theory.specs.Geometry.{JunctionOf}
+use Rattle.chains.specs.Table.{IsTableOf}
+use Rattle.theory.specs.Geometry.{Geometry, IsSound, JunctionOf}
 use Rattle.theory.specs.Lists.{Pairwise}
+use Rattle.theory.specs.Refinement.{IsUnionOf}
 use Rattle.recutting.specs.Cutting.{IsRecutOf}
 use Rattle.recutting.specs.Parts.{RecutParts}
 use Rattle.topo.specs.Features.{IsFeatureOf}
-use Rattle.topo.specs.GeometryOrder.{LayersHaveFeatures, geometry_cmp}
+use Rattle.topo.specs.GeometryOrder.{HaveFeatures, LayersHaveFeatures, geometry_cmp}
 use Rattle.topo.specs.OfMap.{IsOf}
 use Rattle.topo.specs.Parts.{LayerParts, TopologyParts}
 use Rattle.topo.specs.declared.geom.Geom.{Geom}
 use Rattle.topo.proofs.FeatureOrder.{features_stand}
 use Rattle.topo.proofs.Pairs.{Pairwise-same}
+use Rattle.topo.proofs.Sound.{are_sound}
 use Rattle.topo.proofs.Stitched.{IsEntryOf, entries_of, feature_of}
 use Rattle.layer_laws.specs.CutLayers.{behind, layer_cmp, layer_recut, tied}
 use Rattle.layer_laws.specs.Cuts.{by_order}
@@ -40,6 +44,7 @@ use Rattle.layer_laws.proofs.JoinedPairs.{cut_layers, layers_have}
 use Rattle.layer_laws.proofs.MergedSets.{all_weaker, picked}
 use Rattle.layer_laws.proofs.Passing.{order_told}
 use Rattle.layer_laws.proofs.RecutGeometries.{IsLayerRecut, IsRecutFor}
+use Rattle.layer_laws.proofs.UnitedGeometry.{geometries_unite}
 use Rattle.refine.specs.Difference.{HaveRecut, LayersHaveRecut, by_lists, cut_again, geometries_in, layer_without, layers_without}
 use Rattle.refine.proofs.JoinedParts.{left_after_recut, right_after_recut}
 
@@ -95,17 +100,17 @@ behind_named l q b (k ∷ ks) = go (layer_cmp l k) refl (behind_named l q b ks)
     above : (r : Ordering) → R q (name_at k) ≡ r → is_eq r ≡ false → layer_named q ks ≡ layer_named q (k ∷ ks)
     above r e n = sym (ap (λ w. cond w (Some k) (layer_named q ks)) (ap is_eq e ∙ n))
 
-    flip : {p : List ℕ} → R p q ≡ Less → R q p ≡ Greater
-    flip {p = p} e = o.antisymm q p ∙ ap ordering_reverse e
+    flip : (p : List ℕ) → R p q ≡ Less → R q p ≡ Greater
+    flip p e = o.antisymm q p ∙ ap ordering_reverse e
 
-    under : {p : List ℕ} → R (name_at l) p ≡ Greater → R p (name_at l) ≡ Less
-    under {p = p} e = o.antisymm p (name_at l) ∙ ap ordering_reverse e
+    under : (p : List ℕ) → R (name_at l) p ≡ Greater → R p (name_at l) ≡ Less
+    under p e = o.antisymm p (name_at l) ∙ ap ordering_reverse e
 
     go : (r : Ordering) → layer_cmp l k ≡ r → layer_named q (behind layer_cmp l ks) ≡ layer_named q ks →
         layer_named q (by_order r (k ∷ ks) ks (behind layer_cmp l ks)) ≡ layer_named q (k ∷ ks)
     go Less e ih = refl
-    go Equal e ih = above Greater (flip {p = name_at k} (sym (o.congr (name_at l) (name_at k) q e) ∙ b)) refl
-    go Greater e ih = ih ∙ above Greater (flip {p = name_at k} (o.trans (name_at k) (name_at l) q (under {p = name_at k} e) b)) refl
+    go Equal e ih = above Greater (flip (name_at k) (sym (o.congr (name_at l) (name_at k) q e) ∙ b)) refl
+    go Greater e ih = ih ∙ above Greater (flip (name_at k) (o.trans (name_at k) (name_at l) q (under (name_at k) e) b)) refl
 
 module _ (r : RecutParts) (ks : List LayerParts) where
   abbrev found : LayerParts → LayerParts
@@ -133,6 +138,48 @@ module _ (r : RecutParts) (ks : List LayerParts) where
 
   pass_finds : (ls : List LayerParts) → Ascend ls → Ascend ks → layers_without r ls ks ≡ map_list found ls
   pass_finds ls s t = found_each ls s ks t (same_each ls)
+
+-- ---- by the arcs of both, and by lists of the left side
+
+lists_on : (r : RecutParts) (g : Geom) (hs : List Geom) → from_on (geometry_cmp r.arcs.arcs) (cut_again r g) hs ≡ from_on (by_lists r) g hs
+lists_on r g [] = refl
+lists_on r g (h ∷ hs) = ap (λ w. cond (is_gt (by_lists r g h)) w (h ∷ hs)) (lists_on r g hs)
+
+lists_first : (r : RecutParts) (g : Geom) (hs : List Geom) → is_first (geometry_cmp r.arcs.arcs) (cut_again r g) hs ≡ is_first (by_lists r) g hs
+lists_first r g [] = refl
+lists_first r g (h ∷ hs) = refl
+
+module _ (r : RecutParts) (a : Arcs) (ours g : Geom) (same : a ≡ r.arcs) (is : ours ≡ cut_again r g) (hs : List Geom) where
+  pub on_by_lists : from_on (geometry_cmp a.arcs) ours hs ≡ from_on (by_lists r) g hs
+  on_by_lists = (λ i. from_on (geometry_cmp (same i).arcs) (is i) hs) ∙ lists_on r g hs
+
+  pub first_by_lists : is_first (geometry_cmp a.arcs) ours (from_on (geometry_cmp a.arcs) ours hs) ≡ is_first (by_lists r) g (from_on (by_lists r) g hs)
+  first_by_lists =
+      (λ i. is_first (geometry_cmp (same i).arcs) (is i) (on_by_lists i))
+      ∙ lists_first r g (from_on (by_lists r) g hs)
+
+-- what is left of a list has what each of the list has
+pub on_have : {A B : Type 0} (P : B → Type 0) (cmp : A → B → Ordering) (x : A) (ys : List B) → AllByRecursion P ys → AllByRecursion P (from_on cmp x ys)
+on_have P cmp x [] h = tt
+on_have {A} {B} P cmp x (y ∷ ys) h = go (is_gt (cmp x y)) (on_have P cmp x ys h.1)
+  where
+    go : (b : Bool) → AllByRecursion P (from_on cmp x ys) → AllByRecursion P (cond b (from_on cmp x ys) (y ∷ ys))
+    go true k = k
+    go false k = h
+
+pub in_have : (arcs : List (List Pos)) (l : Option LayerParts) → IfSome l (λ k. HaveFeatures arcs k.geometries) → HaveFeatures arcs (geometries_in l)
+in_have arcs None h = tt
+in_have arcs (Some l) h = h
+
+-- one more layer is passed
+pub next_layer : (r : RecutParts) (l x : LayerParts) (ls ks rest as' bs all : List LayerParts) (t : Option LayerParts) →
+    t ≡ tied layer_cmp l ks → rest ≡ behind layer_cmp l ks → x ≡ layer_without r l (geometries_in t) → bs ≡ as' ++ (x ∷ []) →
+    as' ++ layers_without r (l ∷ ls) ks ≡ all → bs ++ layers_without r ls rest ≡ all
+next_layer r l x ls ks rest as' bs all t e b w s h =
+    (λ i. s i ++ layers_without r ls (b i))
+    ∙ append_assoc as' (x ∷ []) (layers_without r ls (behind layer_cmp l ks))
+    ∙ (λ i. as' ++ ((w ∙ (λ j. layer_without r l (geometries_in (e j)))) i ∷ layers_without r ls (behind layer_cmp l ks)))
+    ∙ h
 
 -- ---- a pass over geometries is one over the features of the others
 
@@ -211,7 +258,7 @@ module _ (m n : Layers) (left right : TopologyParts) (r : RecutParts) (ks : List
   right_ascends = subst (IsStrictlySortedBy R) (Pairwise-same (IsJoinedLayer J table) (λ e. e.0) name_at (λ e l k. k.name) (map.entries n) ks of_right) (keys_ascend n)
 
   -- the geometries found under a name are those of the features there
-  none_there : Pairwise (IsNewFor J table) (set.items set.empty) []
+  none_there : Pairwise (IsNewFor J table) (set.items {R = feature_cmp} set.empty) []
   unfolding IsStrictlySortedBy
   none_there = subst (λ fs. Pairwise (IsNewFor J table) fs []) (sym (items-from_list feature_cmp_total [] tt)) tt
 
@@ -266,3 +313,29 @@ module _ (m n : Layers) (left right : TopologyParts) (r : RecutParts) (ks : List
   -- what the pass leaves
   pub pass_told : layers_without r left.layers ks ≡ map_list (layer_less left.arcs.arcs n) left.layers
   pass_told = pass_finds r ks left.layers left_ascends right_ascends ∙ layers_told (map.entries m) left.layers (entries_of m left hm) of_left
+
+-- ---- what is told where both are shared and cut again
+
+module _ {left right shared : TopologyParts} {la ra : Arcs} {ls rls ks : List LayerParts} {r : RecutParts}
+    (a : la ≡ left.arcs) (s : shared ≡ right) (b : ra ≡ shared.arcs) (l : rls ≡ shared.layers)
+    (refined : (m n u : Geometry Pos) → IsSound m → IsSound n → IsTableOf m la → IsTableOf n ra → IsUnionOf m n u → IsRecutOf m n u la ra r)
+    (cut : ks ≡ map_list (layer_recut r.arcs.arcs r.right) rls) (given : ls ≡ left.layers)
+    (m n : Layers) (hm : IsOf m left) (hn : IsOf n right) where
+  is_cut : IsRecutOf (geometry_of m) (geometry_of n) (geometry_of (union m n)) left.arcs right.arcs r
+  is_cut =
+      (subst (λ t. (m n u : Geometry Pos) → IsSound m → IsSound n → IsTableOf m left.arcs → IsTableOf n t → IsUnionOf m n u → IsRecutOf m n u left.arcs t r)
+      (b ∙ ap (λ t. t.arcs) s)
+      (subst (λ t. (m n u : Geometry Pos) → IsSound m → IsSound n → IsTableOf m t → IsTableOf n ra → IsUnionOf m n u → IsRecutOf m n u t ra r) a refined))
+      (geometry_of m) (geometry_of n) (geometry_of (union m n)) (are_sound m) (are_sound n) hm.table hn.table (geometries_unite m n)
+
+  cut_of : ks ≡ map_list (layer_recut r.arcs.arcs r.right) right.layers
+  cut_of = cut ∙ ap (map_list (layer_recut r.arcs.arcs r.right)) (l ∙ ap (λ t. t.layers) s)
+
+  pub told_left : LayersHaveRecut r ls
+  told_left = subst (LayersHaveRecut r) (sym given) (left_have m n left right r ks hm hn is_cut cut_of)
+
+  pub told_right : LayersHaveFeatures r.arcs.arcs ks
+  told_right = removed_have m n left right r ks hm hn is_cut cut_of
+
+  pub told_pass : layers_without r ls ks ≡ map_list (layer_less left.arcs.arcs n) left.layers
+  told_pass = ap (λ w. layers_without r w ks) given ∙ pass_told m n left right r ks hm hn is_cut cut_of

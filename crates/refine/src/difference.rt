@@ -12,12 +12,13 @@ ghost use Rattle.refine.specs.Removals.{IsWithoutBy};
 ghost use Rattle.shapes.specs.Maps.{Layers};
 ghost use Rattle.std.specs.Prelude.{◌≡◌, ◌↔◌, ◌<◌, ◌^◌, length, IfOk, IfSome, IsErrOf, OnOk, map as map_list};
 ghost use Rattle.topo.specs.Features.{HasFeature};
-ghost use Rattle.topo.specs.GeometryOrder.{HaveFeatures, LayersHaveFeatures};
+ghost use Rattle.topo.specs.GeometryOrder.{HaveFeatures, LayersHaveFeatures, geometry_cmp};
 ghost use Rattle.topo.specs.OfMap.{IsOf};
 
 use crate::cut::{Others, SideLists, layers_recut, on_one_grid, put_layers_before};
 use crate::fault::JoinFault;
 use crate::remove::{LayerLeft, Removal, removal_of};
+use chains::ArcTable;
 use faults::OutOfMemory;
 use recutting::{Recut, Side, recut_owned};
 use rewriting::copy_rewritten;
@@ -26,7 +27,31 @@ use std::cmp::Ordering;
 use std::collections::VecDeque;
 use topo::{Geom, Layer, Topology};
 
-/// Drops the others that stand before a geometry, and answers whether it is one of them.
+/// Drops the others that stand before a geometry by the same arcs, and answers whether it is one of them.
+fn is_first_left(
+    alloc: Global,
+    arcs: &ArcTable,
+    geometry: &Geom,
+    others: &mut Others,
+) -> Result<bool, OutOfMemory>
+    requires there { HasFeature arcs.now.arcs geometry.now }
+    requires others_there { HaveFeatures arcs.now.arcs others.old.geometries.items }
+    requires first { IsKnownOfFirst arcs.now.arcs others.old.geometries.items others.old.first }
+    ensures first { OnOk result (IsKnownOfFirst arcs.now.arcs others.new.geometries.items others.new.first) }
+    ensures rest { OnOk result (others.new.geometries.items ≡ from_on (geometry_cmp arcs.now.arcs) geometry.now others.old.geometries.items) }
+    ensures among { IfOk result (λ b. b ≡ is_first (geometry_cmp arcs.now.arcs) geometry.now (from_on (geometry_cmp arcs.now.arcs) geometry.now others.old.geometries.items)) }
+{
+    let mut known = None;
+    loop {
+        match others.order(alloc, arcs, geometry, &mut known)? {
+            Some(Ordering::Greater) => others.drop_first(),
+            Some(Ordering::Equal) => return Ok(true),
+            Some(Ordering::Less) | None => return Ok(false),
+        }
+    }
+}
+
+/// The same of a geometry by the arcs of the left side.
 fn is_among(
     alloc: Global,
     both: &Recut,
@@ -45,14 +70,7 @@ fn is_among(
         side: Side::Left,
     };
     let ours = copy_rewritten(alloc, &side, geometry)?;
-    let mut known = None;
-    loop {
-        match others.order(alloc, both.arcs(), &ours, &mut known)? {
-            Some(Ordering::Greater) => others.drop_first(),
-            Some(Ordering::Equal) => return Ok(true),
-            Some(Ordering::Less) | None => return Ok(false),
-        }
-    }
+    is_first_left(alloc, both.arcs(), &ours, others)
 }
 
 /// Those of some geometries that are not among others; both are in the order of their features.
@@ -132,12 +150,14 @@ fn layers_apart<'a>(
     topology: &'a Topology,
     removed: &Topology,
 ) -> Result<Vec<LayerLeft<'a>>, OutOfMemory>
-    ensures { IfOk result (λ v. (m n : Layers) → IsOf m topology.now → IsOf n removed.now → all_lent v.items ≡ map_list (layer_less topology.now.arcs.arcs n) topology.now.layers) }
+    ensures left { IfOk result (λ v. (m n : Layers) → IsOf m topology.now → IsOf n removed.now → all_lent v.items ≡ map_list (layer_less topology.now.arcs.arcs n) topology.now.layers) }
+    ensures some { IfOk result (λ v. (r : Layers) × (all_lent v.items ≡ map_list (layer_less topology.now.arcs.arcs r) topology.now.layers)) }
 {
     let (arcs, layers) = removed.share(alloc)?.into_parts();
     let both = recut_owned(alloc, topology.arcs().share(alloc)?, arcs)?;
     let others = layers_recut(alloc, &both, Side::Right, layers)?;
-    layers_left(alloc, &both, topology.layers(), others)
+    let left = layers_left(alloc, &both, topology.layers(), others)?;
+    Ok(left)
 }
 
 /// The topology without the features that another one has under the same layer names, as `remove` of that
