@@ -26,7 +26,7 @@ use Rattle.theory.specs.Lists.{Pairwise}
 use Rattle.theory.specs.Refinement.{IsUnionOf}
 use Rattle.recutting.specs.Cutting.{IsRecutOf}
 use Rattle.recutting.specs.Parts.{RecutParts}
-use Rattle.topo.specs.Features.{IsFeatureOf}
+use Rattle.topo.specs.Features.{HasFeature, IsFeatureOf}
 use Rattle.topo.specs.GeometryOrder.{HaveFeatures, LayersHaveFeatures, geometry_cmp}
 use Rattle.topo.specs.OfMap.{IsOf}
 use Rattle.topo.specs.Parts.{LayerParts, TopologyParts}
@@ -170,6 +170,9 @@ on_have {A} {B} P cmp x (y ∷ ys) h = go (is_gt (cmp x y)) (on_have P cmp x ys 
 pub in_have : (arcs : List (List Pos)) (l : Option LayerParts) → IfSome l (λ k. HaveFeatures arcs k.geometries) → HaveFeatures arcs (geometries_in l)
 in_have arcs None h = tt
 in_have arcs (Some l) h = h
+
+pub stay_there : (r : RecutParts) (g : Geom) (hs ks : List Geom) → ks ≡ from_on (by_lists r) g hs → HaveFeatures r.arcs.arcs hs → HaveFeatures r.arcs.arcs ks
+stay_there r g hs ks e h = subst (HaveFeatures r.arcs.arcs) (sym e) (on_have (HasFeature r.arcs.arcs) (by_lists r) g hs h)
 
 -- one more layer is passed
 pub next_layer : (r : RecutParts) (l x : LayerParts) (ls ks rest as' bs all : List LayerParts) (t : Option LayerParts) →

@@ -74,6 +74,7 @@ fn is_among(
 }
 
 /// Those of some geometries that are not among others; both are in the order of their features.
+#[tactic(auto, using(crate::proofs::DifferenceTold::stay_there))]
 fn geometries_left<'a>(
     alloc: Global,
     both: &Recut,
@@ -87,9 +88,10 @@ fn geometries_left<'a>(
     let mut left = Vec::new(alloc);
     let mut others = Others::of(removed);
     for geometry in geometries {
-        if !is_among(alloc, both, geometry, &mut others)? {
-            left.push(geometry)?;
+        if is_among(alloc, both, geometry, &mut others)? {
+            continue;
         }
+        left.push(geometry)?;
     }
     Ok(left)
 }

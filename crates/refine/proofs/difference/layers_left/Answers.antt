@@ -1,5 +1,4 @@
-use Rattle.std.proofs.Common.{◌++◌, ◌+◌, ◌∷◌, ◌∙◌, ap, drop, subst, sym}
-use Rattle.std.proofs.Common.{map as map_list}
+use Rattle.std.proofs.Common.{◌++◌, ◌+◌, [], ◌∷◌, ◌∙◌, ap, drop, subst, sym}
 use Rattle.std.proofs.lemmas.List.{drop_more, map-append}
 use Rattle.topo.specs.GeometryOrder.{HaveFeatures, LayersHaveFeatures}
 use Rattle.layer_laws.specs.CutLayers.{layer_cmp, tied}
