@@ -2,6 +2,7 @@ pub mod MeantTexts
 pub mod JoinedParts
 pub mod PartLists
 mod LeftTold
+mod DifferenceTold
 mod Stitching
 mod Ways
 mod JoinedTexts

@@ -4,5 +4,6 @@ pub mod TextLaws
 pub mod OnGrid
 pub mod Lent
 pub mod Removals
+pub mod Difference
 pub mod Ways
 pub mod Merged

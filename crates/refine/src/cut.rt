@@ -30,9 +30,9 @@ use topo::{Geom, Layer, Topology, order_of};
 
 /// The lists of a side by the new arcs.
 #[derive(Drop)]
-struct SideLists<'a> {
-    recut: &'a Recut,
-    side: Side,
+pub(crate) struct SideLists<'a> {
+    pub(crate) recut: &'a Recut,
+    pub(crate) side: Side,
 }
 
 impl NewLists for SideLists<'_> {
@@ -50,7 +50,7 @@ impl NewLists for SideLists<'_> {
 }
 
 /// The layers of a side by the new arcs.
-fn layers_recut(
+pub(crate) fn layers_recut(
     alloc: Global,
     recut: &Recut,
     side: Side,
@@ -85,13 +85,13 @@ fn put_rest<T: Drop>(items: VecDeque<T>, list: &mut Vec<T>) -> Result<(), OutOfM
 /// The geometries of the other side that are left, and the feature of the first of them where it had
 /// to be stitched.
 #[derive(Drop)]
-struct Others {
-    geometries: VecDeque<Geom>,
-    first: Option<Feature>,
+pub(crate) struct Others {
+    pub(crate) geometries: VecDeque<Geom>,
+    pub(crate) first: Option<Feature>,
 }
 
 impl Others {
-    fn of(geometries: Vec<Geom>) -> Others
+    pub(crate) fn of(geometries: Vec<Geom>) -> Others
         ensures geometries { result.geometries.items ≡ geometries.items }
         ensures first { result.first ≡ None }
     {
@@ -102,7 +102,7 @@ impl Others {
     }
 
     /// How a geometry stands to the first that is left.
-    fn order(
+    pub(crate) fn order(
         &mut self,
         alloc: Global,
         arcs: &ArcTable,
@@ -138,7 +138,7 @@ impl Others {
     }
 
     /// Drops the first.
-    fn drop_first(&mut self)
+    pub(crate) fn drop_first(&mut self)
         ensures first { self.new.first ≡ None }
         ensures rest { self.new.geometries.items ≡ drop 1 self.old.geometries.items }
     {
@@ -214,7 +214,7 @@ fn order_to_first(layer: &Layer, others: &VecDeque<Layer>) -> Option<Ordering>
 }
 
 /// Moves the layers that stand before one from the others to a list, and takes the one of its name.
-fn put_layers_before(
+pub(crate) fn put_layers_before(
     layer: &Layer,
     others: &mut VecDeque<Layer>,
     merged: &mut Vec<Layer>,
@@ -302,7 +302,7 @@ fn united_lent(alloc: Global, left: &Topology, right: &Topology) -> Result<Topol
     united(alloc, left.share(alloc)?, right.share(alloc)?)
 }
 
-fn on_one_grid(left: &Topology, right: &Topology) -> bool
+pub(crate) fn on_one_grid(left: &Topology, right: &Topology) -> bool
     ensures { (result ≡ true) ↔ (left.now.grid ≡ right.now.grid) }
 {
     left.grid() == right.grid()

@@ -5,6 +5,7 @@
 mod canonical;
 mod cut;
 pub mod cut_shard;
+mod difference;
 pub mod edit;
 pub mod fault;
 pub mod laws;
@@ -16,6 +17,7 @@ mod way;
 pub mod whole;
 
 pub use cut_shard::Cut;
+pub use difference::remove_topology;
 pub use edit::Edit;
 pub use fault::{EditsFault, JoinFault, MergeFault, PlanFault};
 pub use merge::{merge_texts, merge_topologies};

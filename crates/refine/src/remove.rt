@@ -83,9 +83,9 @@ impl Removal {
 
 /// A layer, and those of its geometries that stay.
 #[derive(Drop)]
-struct LayerLeft<'a> {
-    name: &'a Spelled,
-    geometries: Vec<&'a Geom>,
+pub(crate) struct LayerLeft<'a> {
+    pub(crate) name: &'a Spelled,
+    pub(crate) geometries: Vec<&'a Geom>,
 }
 
 /// The order of a geometry's feature to another one. It is stitched only where ids and properties
@@ -411,6 +411,27 @@ fn layers_rejoined(
     Ok(made)
 }
 
+/// A topology with those of its geometries that stay, which are all but those of the features of some map.
+pub(crate) fn removal_of(
+    alloc: Global,
+    topology: &Topology,
+    left: &[LayerLeft],
+) -> Result<Removal, OutOfMemory>
+    requires { (r : Layers) × (all_lent left.now ≡ map_list (layer_less topology.now.arcs.arcs r) topology.now.layers) }
+    ensures grid { IfOk result (λ x. x.topology.grid ≡ topology.now.grid) }
+    ensures of_map { IfOk result (λ x. (m r : Layers) → all_lent left.now ≡ map_list (layer_less topology.now.arcs.arcs r) topology.now.layers → IsOf m topology.now → IsOf (less m r) x.topology) }
+    ensures pieces { IfOk result (λ x. (m r : Layers) → all_lent left.now ≡ map_list (layer_less topology.now.arcs.arcs r) topology.now.layers → IsOf m topology.now → IsWithoutBy m r topology.now x) }
+    ensures few { IfOk result (λ x. length x.topology.arcs.arcs < 2 ^ 63) }
+{
+    let kept = arcs_kept(alloc, topology.arcs(), left)?;
+    let ends = line_ends(alloc, topology, left)?;
+    let joined = rejoin(alloc, topology.arcs(), &kept, &ends)?;
+    let layers = layers_rejoined(alloc, &joined, left)?;
+    let (arcs, pieces) = joined.into_parts();
+    let topology = Topology::from_unmeasured_parts(topology.grid(), arcs, layers);
+    Ok(Removal { topology, pieces })
+}
+
 /// The topology without the features that a map has under the same layer names. Layers keep their
 /// names, also when they are empty; a feature or a layer that the topology doesn't have changes
 /// nothing.
@@ -428,11 +449,5 @@ pub fn remove(
     ensures few { IfOk result (λ r. length r.topology.arcs.arcs < 2 ^ 63) }
 {
     let left = layers_left(alloc, topology, removed)?;
-    let kept = arcs_kept(alloc, topology.arcs(), &left)?;
-    let ends = line_ends(alloc, topology, &left)?;
-    let joined = rejoin(alloc, topology.arcs(), &kept, &ends)?;
-    let layers = layers_rejoined(alloc, &joined, &left)?;
-    let (arcs, pieces) = joined.into_parts();
-    let topology = Topology::from_unmeasured_parts(topology.grid(), arcs, layers);
-    Ok(Removal { topology, pieces })
+    removal_of(alloc, topology, &left)
 }

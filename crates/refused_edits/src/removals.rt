@@ -1,8 +1,8 @@
 //! Features taken out of topologies.
 
 use faults::OutOfMemory;
-use refine::Removal;
 use refine::remove::remove;
+use refine::{JoinFault, Removal, remove_topology};
 use refused_calls::calls::Lent;
 use refused_calls::comparing::{are_used, same_map};
 use refused_calls::inputs::{built, is_of, read};
@@ -55,13 +55,14 @@ const ROWS: &[Row] = &[
     },
 ];
 
-/// The map of a row and what is taken out of it, with a copy.
+/// The map of a row and what is taken out of it, with a copy, and as a topology.
 #[derive(Drop)]
 struct Removing {
     row: &'static Row,
     whole: Topology,
     removed: FeatureMap,
     copy: FeatureMap,
+    topology: Topology,
 }
 
 impl Removing {
@@ -69,18 +70,22 @@ impl Removing {
         let whole = built(alloc, row.whole)?;
         let removed = read(alloc, row.removed)?;
         let copy = removed.copy().ok()?;
+        let topology = built(alloc, row.removed)?;
         Some(Removing {
             row,
             whole,
             removed,
             copy,
+            topology,
         })
     }
 }
 
 impl Lent for Removing {
     fn is_as_before(&self) -> bool {
-        is_of(&self.whole, self.row.whole) && same_map(&self.removed, &self.copy)
+        is_of(&self.whole, self.row.whole)
+            && is_of(&self.topology, self.row.removed)
+            && same_map(&self.removed, &self.copy)
     }
 }
 
@@ -96,12 +101,23 @@ fn are_pieces(made: &Removal, lists: &[&[i64]]) -> bool {
     made.pieces(lists.len()).is_none()
 }
 
+/// Whether this is what is left, by the row.
+fn answer_of(made: Removal, row: &Row) -> Answer {
+    Answer::of(is_of(made.topology(), row.left) && are_pieces(&made, row.pieces))
+}
+
 fn ask(alloc: Global, removing: &Removing) -> Answer {
     match remove(alloc, &removing.whole, &removing.removed) {
-        Ok(made) => Answer::of(
-            is_of(made.topology(), removing.row.left) && are_pieces(&made, removing.row.pieces),
-        ),
+        Ok(made) => answer_of(made, removing.row),
         Err(OutOfMemory) => Answer::Wanting,
+    }
+}
+
+fn ask_by_topology(alloc: Global, removing: &Removing) -> Answer {
+    match remove_topology(alloc, &removing.whole, &removing.topology) {
+        Ok(made) => answer_of(made, removing.row),
+        Err(JoinFault::OutOfMemory) => Answer::Wanting,
+        Err(JoinFault::OtherGrid) => Answer::of(false),
     }
 }
 
@@ -115,6 +131,13 @@ pub(crate) fn settle(rt: &HostRuntime, tally: &mut Tally) {
             |alloc| Removing::of(alloc, row),
         ) {
             tally.ask(rt, row.title, &removing, "refine::remove", ask);
+            tally.ask(
+                rt,
+                row.title,
+                &removing,
+                "refine::remove_topology",
+                ask_by_topology,
+            );
         }
     }
 }

@@ -1,9 +1,9 @@
 //! The command `remove`.
 use crate::files::{Files, input_once, read_named};
 use crate::refusal::Refusal;
-use crate::topologies::{map_of, topology_of, word};
+use crate::topologies::{topology_of, word};
 use clap::ArgMatches;
-use refine::remove::remove;
+use refine::{JoinFault, remove_topology};
 use std::alloc::Global;
 use topo::Topology;
 
@@ -32,16 +32,17 @@ fn text_left<'a>(
     without(alloc, &topology, removed, removed_text)
 }
 
-/// A topology without the features that the text of a file means. The text is given up.
+/// A topology without the features of another file's text. The text is dropped once it is read.
 fn without<'a>(
     alloc: Global,
     topology: &Topology,
     removed: &'a str,
     text: Vec<u8>,
 ) -> Result<Topology, Refusal<'a>> {
-    let (grid, map) = map_of(alloc, removed, text)?;
-    if grid != topology.grid() {
-        return Err(Refusal::OtherGrid(removed));
+    let others = topology_of(alloc, removed, text)?;
+    match remove_topology(alloc, topology, &others) {
+        Ok(removal) => Ok(removal.into_topology()),
+        Err(JoinFault::OtherGrid) => Err(Refusal::OtherGrid(removed)),
+        Err(JoinFault::OutOfMemory) => Err(Refusal::OutOfMemory),
     }
-    Ok(remove(alloc, topology, &map)?.into_topology())
 }

@@ -3,8 +3,6 @@ use crate::files::{Files, read_named};
 use crate::refusal::Refusal;
 use clap::ArgMatches;
 use faults::Fault;
-use grid::Grid;
-use shapes::FeatureMap;
 use std::alloc::Global;
 use topo::Topology;
 
@@ -30,15 +28,6 @@ pub(crate) fn topology_of<'a>(
     text: Vec<u8>,
 ) -> Result<Topology, Refusal<'a>> {
     of_file(file, topo_io::read_topology(alloc, text.as_slice()))
-}
-
-/// What a file's text means. The text is given up.
-pub(crate) fn map_of<'a>(
-    alloc: Global,
-    file: &'a str,
-    text: Vec<u8>,
-) -> Result<(Grid, FeatureMap), Refusal<'a>> {
-    of_file(file, topo_io::read(alloc, text.as_slice()))
 }
 
 /// What was read of a file's text, or the refusal that names the file.

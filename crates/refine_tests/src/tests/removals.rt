@@ -3,6 +3,7 @@
 use crate::tests::inputs::{is_text_of, map_of, topology_of};
 use crate::tests::texts::{ENDS, FIRST, SECOND, SHARED_EDGE, THREE, topology};
 use refine::remove::{Removal, remove};
+use refine::{JoinFault, remove_topology};
 use std::alloc::Global;
 use std::process::Abort;
 use std::test::Fail;
@@ -22,6 +23,9 @@ struct Row {
 const EMPTY: &str = topology!(
     r#"{"arcs":[],"objects":{"a":{"geometries":[],"type":"GeometryCollection"}},"#
 );
+
+const ON_ANOTHER_GRID: &str =
+    r#"{"arcs":[],"objects":{},"transform":{"scale":[2,1],"translate":[0,0]},"type":"Topology"}"#;
 
 const FREE_LOOP: &str = topology!(
     r#"{"arcs":[[[0,0],[0,2],[2,-2],[-2,0]]],"bbox":[0,0,2,2],"objects":{"a":{"geometries":[{"arcs":[[-1]],"type":"Polygon"}],"type":"GeometryCollection"}},"#
@@ -118,13 +122,31 @@ fn removal(alloc: Global, row: &Row) -> Result<Removal, Fail> {
     Ok(remove(alloc, &topology, &removed)?)
 }
 
+/// The same, where the features that are taken out are those of a topology.
+fn removal_by_topology(alloc: Global, row: &Row) -> Result<Result<Removal, JoinFault>, Fail> {
+    let topology = topology_of(alloc, row.topology)?;
+    let removed = topology_of(alloc, row.removed)?;
+    Ok(remove_topology(alloc, &topology, &removed))
+}
+
 /// What is left, lent and handed out, and the old arcs of each new one, are those of the row.
-fn assert_row<R: Abort + AllocGlobal>(rt: &R, row: &Row) -> Result<(), Fail> {
-    let made = removal(rt.alloc(), row)?;
+fn assert_made<R: Abort + AllocGlobal>(rt: &R, made: Removal, row: &Row) -> Result<(), Fail> {
     assert!(rt; are_pieces(&made, row.pieces), "{}: pieces", row.title);
     let is_left = is_left(rt.alloc(), made, row.left)?;
     assert!(rt; is_left, "{}", row.title);
     Ok(())
+}
+
+/// By a map and by a topology.
+fn assert_row<R: Abort + AllocGlobal>(rt: &R, row: &Row) -> Result<(), Fail> {
+    assert_made(rt, removal(rt.alloc(), row)?, row)?;
+    match removal_by_topology(rt.alloc(), row)? {
+        Ok(made) => assert_made(rt, made, row),
+        Err(fault) => {
+            assert!(rt; false, "{}: {fault}", row.title);
+            Ok(())
+        }
+    }
 }
 
 #[test]
@@ -140,5 +162,17 @@ fn features_that_are_not_there(rt: HostRuntime) -> Result<(), Fail> {
     for row in KEPT {
         assert_row(&rt, row)?;
     }
+    Ok(())
+}
+
+#[test]
+fn features_on_another_grid(rt: HostRuntime) -> Result<(), Fail> {
+    let topology = topology_of(rt.alloc(), SHARED_EDGE)?;
+    let other = topology_of(rt.alloc(), ON_ANOTHER_GRID)?;
+    let is_refused = matches!(
+        remove_topology(rt.alloc(), &topology, &other),
+        Err(JoinFault::OtherGrid)
+    );
+    assert!(rt; is_refused);
     Ok(())
 }

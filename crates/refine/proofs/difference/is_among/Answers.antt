@@ -1,0 +1,20 @@
+use Rattle.std.proofs.Common.{◌≡◌, IfOk, OnOk, subst, sym}
+use Rattle.topo.specs.Features.{HasFeature}
+use Rattle.refine.proofs.DifferenceTold.{first_by_lists, on_by_lists}
+use Rattle.refine.proofs.difference.is_among.Goals as goal
+
+pub is_first_left-requires-clause-there : goal.is_first_left-requires-clause-there
+is_first_left-requires-clause-there c =
+    subst (λ a. HasFeature a.arcs c.in_ok-ours.ours) (sym c.arcs.ensures) (subst (HasFeature c.args.both.now.arcs.arcs) (sym c.in_ok-ours.ensures) c.requires.there)
+
+pub returns-clause-rest : goal.returns-clause-rest
+returns-clause-rest c =
+    subst (λ x. OnOk c.is_first_left.result (c.is_first_left.new.others.geometries.items ≡ x))
+    (on_by_lists c.args.both.now c.arcs.result.now c.in_ok-ours.ours c.args.geometry.now c.arcs.ensures c.in_ok-ours.ensures c.args.others.now.geometries.items)
+    c.is_first_left.ensures.rest
+
+pub returns-clause-among : goal.returns-clause-among
+returns-clause-among c =
+    subst (λ x. IfOk c.is_first_left.result (λ b. b ≡ x))
+    (first_by_lists c.args.both.now c.arcs.result.now c.in_ok-ours.ours c.args.geometry.now c.arcs.ensures c.in_ok-ours.ensures c.args.others.now.geometries.items)
+    c.is_first_left.ensures.among
