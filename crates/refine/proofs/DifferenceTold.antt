@@ -174,6 +174,22 @@ in_have arcs (Some l) h = h
 pub stay_there : (r : RecutParts) (g : Geom) (hs ks : List Geom) → ks ≡ from_on (by_lists r) g hs → HaveFeatures r.arcs.arcs hs → HaveFeatures r.arcs.arcs ks
 stay_there r g hs ks e h = subst (HaveFeatures r.arcs.arcs) (sym e) (on_have (HasFeature r.arcs.arcs) (by_lists r) g hs h)
 
+-- one more geometry is passed, which is one of the others or stays
+pub passed_one : {A B : Type 0} (cmp : A → B → Ordering) (g : A) (gs : List A) (hs ks : List B) (b : Bool) (as' all : List A) →
+    b ≡ is_first cmp g (from_on cmp g hs) → b ≡ true → ks ≡ from_on cmp g hs → as' ++ others cmp (g ∷ gs) hs ≡ all → as' ++ others cmp gs ks ≡ all
+passed_one cmp g gs hs ks b as' all e t r h =
+    (λ i. as' ++ others cmp gs (r i))
+    ∙ (λ i. as' ++ cond ((sym t ∙ e) i) (others cmp gs (from_on cmp g hs)) (g ∷ others cmp gs (from_on cmp g hs)))
+    ∙ h
+
+pub left_one : {A B : Type 0} (cmp : A → B → Ordering) (g : A) (gs : List A) (hs ks : List B) (b : Bool) (as' bs all : List A) →
+    b ≡ is_first cmp g (from_on cmp g hs) → b ≡ false → ks ≡ from_on cmp g hs → bs ≡ as' ++ (g ∷ []) → as' ++ others cmp (g ∷ gs) hs ≡ all → bs ++ others cmp gs ks ≡ all
+left_one cmp g gs hs ks b as' bs all e f r s h =
+    (λ i. s i ++ others cmp gs (r i))
+    ∙ append_assoc as' (g ∷ []) (others cmp gs (from_on cmp g hs))
+    ∙ (λ i. as' ++ cond ((sym f ∙ e) i) (others cmp gs (from_on cmp g hs)) (g ∷ others cmp gs (from_on cmp g hs)))
+    ∙ h
+
 -- one more layer is passed
 pub next_layer : (r : RecutParts) (l x : LayerParts) (ls ks rest as' bs all : List LayerParts) (t : Option LayerParts) →
     t ≡ tied layer_cmp l ks → rest ≡ behind layer_cmp l ks → x ≡ layer_without r l (geometries_in t) → bs ≡ as' ++ (x ∷ []) →

@@ -74,7 +74,6 @@ fn is_among(
 }
 
 /// Those of some geometries that are not among others; both are in the order of their features.
-#[tactic(auto, using(crate::proofs::DifferenceTold::stay_there))]
 fn geometries_left<'a>(
     alloc: Global,
     both: &Recut,
