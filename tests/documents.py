@@ -33,8 +33,8 @@ TOP = os.path.dirname(os.path.dirname(os.path.abspath(__file__)))
 PROGRAM = os.path.abspath(os.environ.get("TOPOTOOL", f"{TOP}/crates/topotool/out/topotool"))
 DOCUMENTS = ["README.md", *(f"docs/{it}.md" for it in ("COMMANDS", "SESSIONS", "HEADLINE", "FAULTS", "LIBRARY", "GLOSSARY", "EDITORS")),
              "CONTRIBUTING.md", "SECURITY.md", "CHANGELOG.md"]
-PLAIN = [*DOCUMENTS, "docs/README.md", "bench/README.md", "tests/README.md", "examples/README.md",
-         *(f"examples/{it}/README.md" for it in ("own-map", "many-hands", "map"))]
+PLAIN = [*DOCUMENTS, *(f"docs/{it}.md" for it in ("ARCHITECTURE", "DECISIONS", "PROOFS", "TESTS", "SPEED", "README")),
+         "bench/README.md", "tests/README.md", "examples/README.md", *(f"examples/{it}/README.md" for it in ("own-map", "many-hands", "map"))]
 DEFINITIONS = "docs/DEFINITIONS.md"
 PROOFS = "docs/PROOFS.md"
 OPTIONAL = ["jq"]
