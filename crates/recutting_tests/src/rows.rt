@@ -210,20 +210,52 @@ fn are_cut_at(
     Ok(true)
 }
 
+/// Whether cutting the arcs of two topologies at these junctions gives what `recut` gives.
+fn are_cut_alike(
+    alloc: Global,
+    left: &ArcTable,
+    right: &ArcTable,
+    junctions: &BTreeSet<Pos>,
+) -> Result<bool, Fail> {
+    let made = recut(alloc, left, right)?;
+    Ok(
+        are_cut_at(alloc, &made, Side::Left, left, junctions)?
+            && are_cut_at(alloc, &made, Side::Right, right, junctions)?,
+    )
+}
+
+/// The junctions of an index that are on the arcs of two tables.
+fn junctions_on(
+    alloc: Global,
+    index: &VisitIndex,
+    left: &ArcTable,
+    right: &ArcTable,
+) -> Result<BTreeSet<Pos>, Fail> {
+    let mut junctions = BTreeSet::new(alloc);
+    add_junctions(&mut junctions, index, left)?;
+    add_junctions(&mut junctions, index, right)?;
+    Ok(junctions)
+}
+
+/// The junctions of both maps of a row together, that are on the arcs of two tables.
+fn junctions_of(
+    alloc: Global,
+    row: &Row,
+    left: &ArcTable,
+    right: &ArcTable,
+) -> Result<BTreeSet<Pos>, Fail> {
+    let map = map_of(alloc, &[row.left, row.right])?;
+    let index = VisitIndex::of(alloc, &map)?;
+    junctions_on(alloc, &index, left, right)
+}
+
 /// Whether cutting the arcs of a row's maps at the junctions of both maps together gives what `recut`
 /// gives.
 fn is_cut_at_junctions(alloc: Global, row: &Row) -> Result<bool, Fail> {
     let left = topology_of(alloc, &[row.left])?;
     let right = topology_of(alloc, &[row.right])?;
-    let index = VisitIndex::of(alloc, &map_of(alloc, &[row.left, row.right])?)?;
-    let mut junctions = BTreeSet::new(alloc);
-    add_junctions(&mut junctions, &index, left.arcs())?;
-    add_junctions(&mut junctions, &index, right.arcs())?;
-    let made = recut(alloc, left.arcs(), right.arcs())?;
-    Ok(
-        are_cut_at(alloc, &made, Side::Left, left.arcs(), &junctions)?
-            && are_cut_at(alloc, &made, Side::Right, right.arcs(), &junctions)?,
-    )
+    let junctions = junctions_of(alloc, row, left.arcs(), right.arcs())?;
+    are_cut_alike(alloc, left.arcs(), right.arcs(), &junctions)
 }
 
 #[test]
