@@ -125,7 +125,7 @@ fn whole(alloc: Global) -> Option<Whole> {
     Whole::from_map(alloc, &grid, &map).ok()
 }
 
-fn cut(alloc: Global) -> Option<Cut> {
+fn cut_shard(alloc: Global) -> Option<Cut> {
     let (grid, map) = both(grid(), read(alloc, SHARED_EDGE))?;
     Cut::from_map(alloc, &grid, &map).ok()
 }
@@ -148,7 +148,7 @@ impl Shards {
 
 impl Handed for Shards {
     fn make(alloc: Global) -> Option<Shards> {
-        let shards = both(whole(alloc), cut(alloc));
+        let shards = both(whole(alloc), cut_shard(alloc));
         let (session, (whole, cut)) = both(session(alloc), shards)?;
         Some(Shards {
             session,

@@ -23,7 +23,7 @@ pub(crate) struct Lists {
     kept: Kept,
 }
 
-fn kept(alloc: Global) -> Option<Kept> {
+fn memory_sink(alloc: Global) -> Option<Kept> {
     let mut kept = Kept::new(alloc);
     put(&mut kept, b"abc").ok()?;
     Some(kept)
@@ -77,7 +77,7 @@ impl Handed for Lists {
             positions(alloc, SQUARE),
             String::from_str(alloc, "text").ok(),
         );
-        let marks = both(PositionBits::clear(alloc, 4).ok(), kept(alloc));
+        let marks = both(PositionBits::clear(alloc, 4).ok(), memory_sink(alloc));
         let ((places, text), (bits, kept)) = both(lists, marks)?;
         Some(Lists {
             places,
