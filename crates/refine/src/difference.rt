@@ -162,8 +162,8 @@ fn layers_apart<'a>(
 }
 
 /// The topology without the features that another one has under the same layer names, as `remove` of that
-/// one's map answers it, in n log n in the lengths of both topologies' arcs and lists: no map of features is
-/// made.
+/// one's map answers it. No map of features is made, and features are stitched only where ids and properties
+/// tie and lists differ.
 ///
 /// # Errors
 /// `OtherGrid` exactly where the grids differ; `OutOfMemory`.
