@@ -102,6 +102,22 @@ def on_arcs(size, arcs, lists, last=None):
     return topology(arcs, {"a": {"type": "GeometryCollection", "geometries": told}})
 
 
+def tying_lines(size):
+    """Lines along one arc that go on to places of their own, and agree in all else."""
+    whole = zigzag(size)
+    ends = [[whole[-1], [size + number, 5]] for number in range(size)]
+    return topology([whole, *ends], {"a": {"type": "GeometryCollection", "geometries": [
+        {"type": "LineString", "arcs": [0, 1 + number]} for number in range(size)]}})
+
+
+def tying_rings(size):
+    """Rings along one arc that come back on ways of their own, and agree in all else."""
+    whole = zigzag(size)
+    ways = [[whole[0], [1, -10 - number], whole[-1]] for number in reversed(range(size))]
+    return topology([*ways, whole], {"a": {"type": "GeometryCollection", "geometries": [
+        {"type": "Polygon", "arcs": [[size, -1 - number]]} for number in range(size)]}})
+
+
 def shared_arcs(size):
     """Topologies whose features use one arc of as many positions, by their names."""
     whole, half = zigzag(size), size // 2
@@ -114,6 +130,8 @@ def shared_arcs(size):
         "doubled": on_arcs(size, [whole, whole], [[0], [1]]),
         "a fraction last": on_arcs(size, [whole], [[0]], point),
         "a segment twice last": on_arcs(size, [whole], [[0]], {"type": "LineString", "arcs": [0, -1]}),
+        "lines that tie": tying_lines(size),
+        "rings that tie": tying_rings(size),
         "arcs that don't meet last": on_arcs(size, [whole], [[0]], {"type": "LineString", "arcs": [0, 0]}),
     }
 

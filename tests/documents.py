@@ -11,10 +11,15 @@ fenced block whose first line names a file of the repository has to be in that f
 docs/DEFINITIONS.md lists has to be defined in the file that its row names. The calls that docs/PROOFS.md lists as those
 with a condition have to be the public functions that have one, as tests/conditions.py finds them.
 
-Of every document, links have to lead to a file, and to a heading where they name one, and each docs/NAME.md that is
-mentioned has to be there. Of PLAIN documents, so has each path into docs, examples, tests and bench; a paragraph has at
-most PARAGRAPH characters, and no word of AVOID. README.md has at most README_BYTES bytes. Ends with a line of counts,
-and with status 1 where anything is wrong.
+Of every document, links have to lead to a file, and to a heading where they name one, and each docs/NAME.md and each file of
+a crate that is mentioned has to be there. Of PLAIN documents, so has each path into examples, tests and bench; a paragraph has
+at most PARAGRAPH characters, a sentence at most SENTENCE words and AVERAGE on average (a colon or a semicolon ends one too), a
+document at most PAGE words, and there is no word of AVOID. README.md has at most README_BYTES bytes, and names the kit as
+`rt version` does, where that is installed; its table and docs/COMMANDS.md have each command that the program's help lists.
+All documents but docs/DEFINITIONS.md, CHANGELOG.md and the forms in .github have at most WORDS words together: those of
+prose and tables, and not those of code. The folders at the top have a README.md. Words of AVOID in `///` and `//!` comments
+of product crates are counted, and don't fail yet. Examples run with nothing set but PATH, HOME and a locale. Ends with a
+line of counts, and with status 1 where anything is wrong.
 """
 
 import glob
@@ -28,18 +33,25 @@ import tempfile
 sys.dont_write_bytecode = True
 
 import conditions
+import house
 
 TOP = os.path.dirname(os.path.dirname(os.path.abspath(__file__)))
 PROGRAM = os.path.abspath(os.environ.get("TOPOTOOL", f"{TOP}/crates/topotool/out/topotool"))
-DOCUMENTS = ["README.md", *(f"docs/{it}.md" for it in ("COMMANDS", "SESSIONS", "HEADLINE", "FAULTS", "LIBRARY", "GLOSSARY", "EDITORS")),
+TOGRID = os.path.abspath(os.environ.get("TOGRID", f"{TOP}/crates/togrid/out/togrid"))
+FOLDERS = ["bench", "c", "completions", "crates", "dist", "docs", "examples", "python", "rust", "tests"]
+DOCUMENTS = ["README.md", *(f"docs/{it}.md" for it in ("COMMANDS", "SESSIONS", "HEADLINE", "FAULTS", "LIBRARY", "GLOSSARY", "EDITORS", "TOGRID")),
              "CONTRIBUTING.md", "SECURITY.md", "CHANGELOG.md"]
 PLAIN = [*DOCUMENTS, *(f"docs/{it}.md" for it in ("ARCHITECTURE", "DECISIONS", "PROOFS", "TESTS", "SPEED", "README")),
-         "bench/README.md", "tests/README.md", "examples/README.md", *(f"examples/{it}/README.md" for it in ("own-map", "many-hands", "map"))]
+         *(f"{it}/README.md" for it in FOLDERS if it != "docs"), *(f"examples/{it}/README.md" for it in ("own-map", "many-hands", "map", "python"))]
 DEFINITIONS = "docs/DEFINITIONS.md"
 PROOFS = "docs/PROOFS.md"
-OPTIONAL = ["jq"]
+OPTIONAL = ["jq", "ogr2ogr"]
 README_BYTES = 8000
 PARAGRAPH = 600
+SENTENCE = 28
+AVERAGE = 15
+PAGE = 2600
+WORDS = 20000
 # Words that readers don't expect or search for, and what to write instead.
 AVOID = {
     r"want of memory|memory is wanting": "out of memory",
@@ -50,6 +62,9 @@ AVOID = {
     r"mend(?:s|ed|ing)?": "fix",
     r"hand(?:s|ed)? (?:over|in|out)": "pass",
     r"(?:many|all|other|two|their) hands": "editors",
+    r"reckon(?:s|ed|ing)?": "calculate, expect",
+    r"anew": "again",
+    r"judge[sd]?|judging": "validate, check",
     r"stands?(?! for\b)": "is, is stored",
     r"lent|lends?": "borrows",
     r"come to a vertex|comes to a vertex": "visits, passes through",
@@ -93,8 +108,7 @@ def misquoted(document, text):
 
 def run(command, folder):
     """Returns what a command of a document prints, on either output."""
-    inherited = {name: it for name, it in os.environ.items() if not name.startswith("GIT_")}
-    env = {**inherited, "PATH": f"{folder}/bin:{os.environ['PATH']}", "TOPOTOOL": PROGRAM, "GIT_CONFIG_GLOBAL": os.devnull, "GIT_CONFIG_NOSYSTEM": "1"}
+    env = {"PATH": f"{folder}/bin:{os.environ['PATH']}", "HOME": folder, "LC_ALL": "C.UTF-8"}
     ran = subprocess.run(["bash", "-c", command], cwd=folder, env=env,
                          stdin=subprocess.DEVNULL, stdout=subprocess.PIPE, stderr=subprocess.STDOUT, text=True)
     return [it for it in re.sub(r"\n\Z", "", ran.stdout).split("\n") if it or ran.stdout]
@@ -124,6 +138,7 @@ def tried(document):
         os.symlink(f"{TOP}/examples", f"{folder}/examples")
         os.mkdir(f"{folder}/bin")
         os.symlink(PROGRAM, f"{folder}/bin/topotool")
+        os.symlink(TOGRID, f"{folder}/bin/togrid")
         for command, printed in found:
             got = run(command, folder)
             if got != printed:
@@ -205,6 +220,19 @@ def paragraphs(text):
             lines.append(line.strip())
 
 
+def sentences(text):
+    """The sentences of a document's paragraphs, without code and the targets of links; quotations are left out."""
+    for paragraph in paragraphs(text):
+        plain = re.sub(r"\[([^\]]*)\]\([^)]*\)", r"\1", re.sub(r"`[^`]*`", "X", paragraph))
+        if not plain.startswith(">"):
+            yield from re.split(r"(?<=[.!?])[*)'\"]* |[:;] ", plain)
+
+
+def words_of(text):
+    """The words of a document's prose and tables: what has a letter."""
+    return [it for it in " ".join(prose(text)).split() if re.search(r"[^\W\d_]", it)]
+
+
 def slugs(text):
     """The names by which links name the headings of a document."""
     for heading in re.findall(r"^#+ (.*)$", "\n".join(prose(text)), re.MULTILINE):
@@ -227,9 +255,13 @@ def dead_links(document, text):
 
 
 def dead_mentions(document, text):
-    """Gives the paths that a document mentions and that are not there; of other than PLAIN documents those into docs."""
+    """Gives the paths that a document mentions and that are not there: those into docs, those of files of crates, which may lack
+    `crates/`, and of PLAIN documents those into examples, tests and bench."""
     folders = "docs|examples|tests|bench" if document in PLAIN else "docs"
-    for path in re.findall(rf"(?<![\w/.$-])((?:{folders})/[\w./*-]*\w)", "\n".join(prose(text))):
+    lines = "\n".join(prose(text))
+    found = re.findall(rf"(?<![\w/.$-])((?:{folders})/[\w./*-]*\w)", lines)
+    found += [f"crates/{it}" for it in re.findall(r"`(?:crates/)?(\w+/(?:src|specs|proofs|must-fail)/[\w/+.*-]*\w)`", lines)]
+    for path in found:
         if "NAME" not in path and not glob.glob(f"{TOP}/{path}"):
             yield path
 
@@ -239,6 +271,15 @@ def badly_written(document, text):
     for it in paragraphs(text):
         if len(it) > PARAGRAPH:
             yield f"a paragraph of {len(it)} characters: {it[:60]}.."
+    counts = []
+    for it in sentences(text):
+        counts += [len(words_of(it))] if words_of(it) else []
+        if counts and counts[-1] > SENTENCE:
+            yield f"a sentence of {counts[-1]} words: {it[:60]}.."
+    if sum(counts) > AVERAGE * len(counts):
+        yield f"{sum(counts) / len(counts):.1f} words in a sentence on average"
+    if len(words_of(text)) > PAGE:
+        yield f"{len(words_of(text))} words"
     for line in re.sub(r"`[^`\n]*`", "", "\n".join(prose(text))).split("\n"):
         for words, better in AVOID.items():
             for found in re.findall(rf"\b(?:{words})\b", line, re.IGNORECASE):
@@ -250,41 +291,79 @@ def badly_written(document, text):
 
 def all_documents():
     """Every document of the repository, by its path."""
-    places = ["*.md", "docs/*.md", "bench/*.md", "tests/*.md", "examples/*.md", "examples/*/*.md", ".github/*.md", ".github/*/*.md"]
+    places = ["*.md", *(f"{it}/*.md" for it in FOLDERS), "examples/*/*.md", ".github/*.md", ".github/*/*.md"]
     return sorted(os.path.relpath(it, TOP) for place in places for it in glob.glob(f"{TOP}/{place}"))
 
 
 def read_through():
-    """How many documents there are, and how many things are wrong with their links and words."""
-    wrong = 0
+    """How many documents and words there are, and how many things are wrong with their links and words."""
+    wrong = words = 0
     documents = all_documents()
     for document in documents:
         with open(f"{TOP}/{document}", encoding="utf-8") as file:
             text = file.read()
+        if document not in (DEFINITIONS, "CHANGELOG.md") and not document.startswith(".github"):
+            words += len(words_of(text))
         told = [*(f"{it} leads nowhere" for it in dead_links(document, text)),
                 *(f"{it} is not there" for it in dead_mentions(document, text)),
                 *(badly_written(document, text) if document in PLAIN else [])]
         wrong += len(told)
         for it in told:
             print(f"{document}: {it}")
-    missing = [it for it in PLAIN if it not in documents]
+    missing = [it for it in [*PLAIN, "docs/README.md"] if it not in documents]
     for it in missing:
         print(f"{it} is not there")
-    return len(documents), wrong + len(missing)
+    if words > WORDS:
+        print(f"documents have {words} words together, more than {WORDS}")
+    return len(documents), words, wrong + len(missing) + (words > WORDS)
+
+
+def undescribed():
+    """Gives what README.md and docs/COMMANDS.md don't say: the kit that `rt version` names, and commands of the program."""
+    readme, pages = (open(f"{TOP}/{it}", encoding="utf-8").read() for it in ("README.md", "docs/COMMANDS.md"))
+    if shutil.which("rt"):
+        kit = subprocess.run(["rt", "version"], stdin=subprocess.DEVNULL, capture_output=True, text=True).stdout.strip()
+        if f"`{kit}`" not in readme:
+            yield f"README.md: the kit is {kit}"
+    said = subprocess.run([PROGRAM, "--help"], stdin=subprocess.DEVNULL, capture_output=True, text=True).stdout
+    for command in re.findall(r"^  (\w+)  ", said.partition("Commands:\n")[2].partition("\n\n")[0], re.MULTILINE):
+        if command != "help" and not re.search(rf"^\| `{command}\b", readme, re.MULTILINE):
+            yield f"README.md: its table has no {command}"
+        if command != "help" and f"\n## {command}\n" not in pages:
+            yield f"docs/COMMANDS.md: it has no section on {command}"
+
+
+def avoided_in_comments():
+    """How many words of AVOID there are in the comments of product crates that documentation is made of."""
+    count = 0
+    for crate in house.edges():
+        if house.matches(crate, house.OTHERS):
+            continue
+        for path in glob.glob(f"{TOP}/crates/{crate}/src/**/*.rt", recursive=True):
+            comments = " ".join(it.strip() for it in house.read_lines(path) if it.lstrip().startswith(("///", "//!")))
+            plain = re.sub(r"//[/!]|`[^`]*`", "", comments)
+            count += sum(len(re.findall(rf"\b(?:{words})\b", plain, re.IGNORECASE)) for words in AVOID)
+    return count
 
 
 def main(documents):
     if not os.path.isfile(PROGRAM):
         sys.exit(f"{PROGRAM} is not there: rt run in crates/topotool builds it")
+    if not os.path.isfile(TOGRID):
+        sys.exit(f"{TOGRID} is not there: rt run in crates/togrid builds it")
     count = wrong = 0
     for document in documents:
         more, bad = tried(document)
         count, wrong = count + more, wrong + bad
     names, lost = unlisted(DEFINITIONS)
     calls, missed = told_of(PROOFS)
-    pages, faulty = read_through()
-    wrong += lost + missed + faulty
-    print(f"{count} examples, {names} definitions, {calls} calls with a condition, {pages} documents, {wrong} wrong")
+    pages, words, faulty = read_through()
+    lacking = [*undescribed()]
+    for it in lacking:
+        print(it)
+    wrong += lost + missed + faulty + len(lacking)
+    print(f"{avoided_in_comments()} words to avoid in /// and //! comments of product crates")
+    print(f"{count} examples, {names} definitions, {calls} calls with a condition, {pages} documents of {words} words, {wrong} wrong")
     return 1 if wrong else 0
 
 

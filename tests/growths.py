@@ -28,12 +28,13 @@ import refusing
 from refusing import TOP
 
 CRATES = ["grid", "faults", "sinks", "lines", "shapes", "geojson_io", "chains", "topo", "topo_io", "query", "refine", "merging",
-          "plans", "recutting", "rejoining", "built_text", "tool"]
+          "recutting", "rejoining", "built_text", "tool"]
 REFUSED = ["refused_growth", "refused_edits", "refused_parts", "refused_arcs"]
 WITHOUT = ["without_memory", "maps_without_memory"]
 
 NO_REQUEST = "is passed an allocator and asks it for nothing"
 JUDGED = "has a condition, which its caller knows: "
+OUTPUT_CALLS = ["milliseconds", "find_output", "create_output", "open_stream", "write_output", "sync_output", "rename", "remove"]
 NO_GROWTH = {"Fault::here": NO_REQUEST, "FeatureMap::new": NO_REQUEST, "Kept::new": NO_REQUEST, "Script::new": NO_REQUEST}
 EXCEPTIONS = {
     "ArcTable::with_extent": JUDGED + "recutting::recut",
@@ -47,6 +48,7 @@ EXCEPTIONS = {
     "tool::run": "is the command: tests/refused_memory.py",
     "Files::read_file": "is the caller's, of tool::run: tests/refused_memory.py",
     "Files::read_input": "is the caller's, of tool::run: tests/refused_memory.py",
+    **{f"Files::{it}": "is the caller's, of tool::run: tests/refused_memory.py, tests/killed_output.py" for it in OUTPUT_CALLS},
 }
 MODULES = {
     "topo_io::reader::geometry": "has parts of topo_io::read",

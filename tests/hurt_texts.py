@@ -5,7 +5,7 @@
 Each run has to end with status 0, 1 (`check` alone) or 4; with 4 nothing is printed, and standard error has one
 line; all commands refuse the same texts, for the same fault; what `merge` prints is canonical by `check`, and is
 printed again by a second merge; and so is what `remove` leaves of a text without its own features, which are put
-back by a merge. With a limit of time it stops there. Ends with a line of counts, and with status 1 where a run did
+back by a merge. `feature --seq` prints the same features. With a limit of time it stops there. Ends with a line of counts, and with status 1 where a run did
 anything else, almost no text was tried, or of many none was accepted.
 """
 
@@ -107,9 +107,10 @@ def judge(file):
 def complaints(file, merge):
     """What is wrong with the runs on one text, of which that of `merge` is done."""
     check, mesh, info = (topotool(it, file) for it in ("check", "mesh", "info"))
-    remove = topotool("remove", file, file)
+    remove, diff = (topotool(it, file, file) for it in ("remove", "diff"))
     layered = [topotool(it, "--layer", "a", file) for it in ("feature", "neighbors")]
-    runs = [check, merge, remove, mesh, info, *layered]
+    sequences = [topotool("feature", "--seq", *it, file) for it in ((), ("--layer", "a"))]
+    runs = [check, merge, remove, diff, mesh, info, *layered, *sequences]
     if any(it.returncode not in (0, 4) and not (it is check and it.returncode == 1) for it in runs):
         yield f"statuses {[it.returncode for it in runs]}"
     if any(it.returncode == 4 and not is_refusal(it) for it in runs):
@@ -118,6 +119,8 @@ def complaints(file, merge):
         if {it.stderr for it in runs} != {merge.stderr}:
             yield f"other faults {[it.stderr for it in runs]}"
         return
+    if (diff.returncode, diff.stdout) != (0, b"0 added, 0 removed, 0 changed\n"):
+        yield f"the text differs from itself: {diff.stdout!r}"
     folder = os.path.dirname(file)
     with tempfile.NamedTemporaryFile(dir=folder) as merged, tempfile.NamedTemporaryFile(dir=folder) as left:
         for held, ran in ((merged, merge), (left, remove)):
@@ -127,8 +130,13 @@ def complaints(file, merge):
             yield "a merge that is not canonical"
         if topotool("check", left.name).returncode or topotool("merge", left.name, file).stdout != merge.stdout:
             yield "a removal that is not canonical, or is not undone by a merge"
-    if any(it.returncode == 4 and it.stderr != b"topotool: 19 NoLayer a\n" for it in layered):
+    if any(it.returncode == 4 and it.stderr != b"topotool: 19 NoLayer a\n" for it in [*layered, *sequences]):
         yield "a layer that is refused"
+    lines = sequences[1].stdout.split(b"\n")
+    if sequences[1].returncode == 0 and layered[0].stdout != b'{"features":[' + b",".join(lines[:-1]) + b'],"type":"FeatureCollection"}':
+        yield "other features a line each"
+    if sequences[0].returncode or sequences[1].stdout not in sequences[0].stdout:
+        yield "other lines of all layers"
 
 
 def main():

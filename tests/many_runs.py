@@ -10,6 +10,7 @@ import time
 
 TOP = os.path.dirname(os.path.dirname(os.path.abspath(__file__)))
 PROGRAM = os.environ.get("TOPOTOOL", f"{TOP}/crates/topotool/out/topotool")
+TOGRID = os.environ.get("TOGRID", f"{TOP}/crates/togrid/out/togrid")
 LEAST_TEXTS = 20
 
 
@@ -17,10 +18,10 @@ def topotool(*words):
     return subprocess.run([PROGRAM, *words], capture_output=True)
 
 
-def look_for_program():
+def look_for_program(program=PROGRAM):
     """Ends the script where there is no program."""
-    if not os.path.isfile(PROGRAM):
-        sys.exit(f"{PROGRAM} is not there: rt run in crates/topotool builds it")
+    if not os.path.isfile(program):
+        sys.exit(f"{program} is not there: rt run in crates/{os.path.basename(program)} builds it")
 
 
 def words_of(texts):

@@ -8,6 +8,7 @@ is needed, and how the runs stop. Ends with a line of counts, and with status 1 
 they were too few.
 """
 
+import os
 import shutil
 import subprocess
 import sys
@@ -26,33 +27,43 @@ TWINS = """{"type":"FeatureCollection","features":[
 LOOP = """{"type":"FeatureCollection","features":[
 {"type":"Feature","geometry":{"type":"Polygon","coordinates":[[[0,0],[2,0],[0,2],[0,0]]]},"properties":{}},
 {"type":"Feature","geometry":{"type":"LineString","coordinates":[[2,0],[3,0]]},"properties":{}}]}"""
+OTHER = """{"type":"FeatureCollection","features":[
+{"type":"Feature","id":2,"geometry":{"type":"LineString","coordinates":[[1,2],[3,3]]},"properties":{"name":"a"}},
+{"type":"Feature","id":1,"geometry":{"type":"Point","coordinates":[1,2]},"properties":{"name":"c","size":[1]}}]}"""
 LINE = '{"type":"LineString","coordinates":[[2,0],[3,0]]}'
 
 
 def inputs(program):
     """Puts the texts of the runs into the folder, and gives the command lines."""
-    for name, text in [("deep.json", DEEP), ("twins.json", TWINS), ("loop.json", LOOP), ("line.json", LINE), ("broken.json", "{")]:
+    for name, text in [("deep.json", DEEP), ("twins.json", TWINS), ("loop.json", LOOP), ("line.json", LINE), ("other.json", OTHER), ("broken.json", "{")]:
         with open(f"{program.folder}/{name}", "w", encoding="utf-8") as file:
             file.write(text)
     for name in ("squares", "west", "east"):
         shutil.copy(f"{TOP}/examples/{name}.json", program.folder)
     builds = [["build", "--grid", "1,1,0,0", f"a={it}.json"] for it in ("squares", "deep", "twins", "loop", "broken")]
     builds += [["build", "--grid", "10,10,0,0", f"d={it}.json"] for it in ("west", "east")]
-    builds += [["build", "--grid", "1,1,0,0", "a=line.json"]]
+    builds += [["build", "--grid", "1,1,0,0", f"a={it}.json"] for it in ("line", "other")]
     for number, words in enumerate(builds):
         with open(f"{program.folder}/{number}.topo.json", "wb") as file:
             file.write(subprocess.run([program.name, *words], cwd=program.folder, stdout=subprocess.PIPE, stderr=subprocess.DEVNULL).stdout)
-    one, seam, west, east, line = "0.topo.json", "3.topo.json", "5.topo.json", "6.topo.json", "7.topo.json"
+    one, twins, seam, west, east, line, changed = (f"{it}.topo.json" for it in (0, 2, 3, 5, 6, 7, 8))
     queries = [["check", one], ["check", seam], ["check", "-"], ["feature", "--layer", "a", one], ["feature", "--layer", "no", one],
                ["mesh", one], ["mesh", "--edges", "interior", one], ["mesh", "--layer", "a", "--edges", "exterior", one],
                ["mesh", "--layer", "no", one], ["neighbors", "--layer", "a", one], ["neighbors", "--layer", "no", one],
                ["neighbors", "--ids", "--layer", "d", west], ["neighbors", "--ids", "--layer", "a", one],
-               ["info", seam], ["info", "--json", seam]]
+               ["info", seam], ["info", "--json", seam],
+               ["feature", "--seq", one], ["feature", "--seq", "--layer", "a", seam], ["feature", "--seq", "--layer", "no", one],
+               ["neighbors", "--ids", "--keyed", "--layer", "d", west], ["neighbors", "--ids", "--keyed", "--layer", "a", one],
+               ["check", "--ids", "--near", "100", one], ["check", "--ids", west], ["check", "--near", "0", one], ["mesh", "--by", "name", west],
+               ["mesh", "--by", "name", "--layer", "a", one], ["mesh", "--by", "name", "--layer", "no", one],
+               ["check", one, "-o", "/dev/null"], ["feature", "--layer", "no", one, "-o", "out.json"], ["mesh", one, "-o", "nowhere/out.json"]]
     merges = [["merge", west, east], ["merge", "--shape", "halves", west, east, west], ["merge", "--shape", "right", west, east, west],
               ["merge", west, one], ["merge", "broken.json"]]
     removals = [["remove", seam, line], ["remove", one, one], ["remove", west, east], ["remove", west, one], ["remove", one, "broken.json"], ["remove", one, "-"]]
+    diffs = [["diff", seam, line], ["diff", one, one], ["diff", west, east], ["diff", "--json", "--key", "name", west, east], ["diff", "--layer", "no", west, east],
+             ["diff", "--layer", "d", east, west], ["diff", west, one], ["diff", one, "broken.json"], ["diff", twins, changed], ["diff", "--key", "name", "--json", twins, changed]]
     usages = [["--help"], ["mesh", "--help"], ["--version"], ["merge"], ["merge", "-", "-"], ["remove", "-", "-"], ["build", "--grid", "x", "a=b"], ["check", "nowhere.json"]]
-    return [*builds, *queries, *merges, *removals, *usages]
+    return [*builds, *queries, *merges, *removals, *diffs, *usages]
 
 
 class Kinds:
@@ -80,8 +91,11 @@ def main():
         commands = inputs(program)
         program.given = "0.topo.json"
         tally = program.judge(commands, Kinds(program, commands))
+        left = [it for it in os.listdir(program.folder) if it.startswith("out.json")]
+    if left:
+        print(f"left beside a file that was not written: {left}")
     print(f"{len(commands)} commands, {tally}")
-    return 1 if tally.is_wrong() else 0
+    return 1 if left or tally.is_wrong() else 0
 
 
 if __name__ == "__main__":

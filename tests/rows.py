@@ -1,13 +1,16 @@
-"""Runs the built program on the rows of tests/rows/*.toml, each in a new folder, and compares what it prints, byte by byte.
+"""Runs the built programs on the rows of tests/rows/*.toml, each in a new folder, and compares what it prints, byte by byte.
 
     python3 tests/rows.py [THEME...]
 
-A theme is a file of rows; without one all are run. A row says in which `words` the program is called, and what has to come:
+A theme is a file of rows; without one all are run. A row says in which `words` the `program` is called, which is topotool
+unless it says togrid, and what has to come:
 `stdout` and `stderr`, of which each is empty unless it is given, and `status`, which is 0. Before that its `files` are laid in
 the folder, by their names, and those of `made` are what the program prints for their words, in turn. `input` is the text of
 standard input, which is empty without it; where `input` is false it can't be read. `fault` is what the line of a refused text
-says behind the name of the file in `faulty`: nothing is printed then, and the status is 4. A text that begins with `@` names
-one of the table `texts` of its file, or of tests/rows/inputs.toml.
+says behind the name of the file in `faulty`: nothing is printed then, and the status is 4. `left` are files that the run
+writes, by their names, and their texts; no other is changed, added or removed, also where a row doesn't say it. A text that
+begins with `@` names one of the table `texts` of its file, or of tests/rows/inputs.toml. Where `timed` is true the seconds
+that standard error tells are replaced by S.
 
 Three keys ask for less than each byte: `complains` (nothing is printed, and something told), `answers` (either something is
 printed, or the text is refused) and `help` (a part of what is printed; `ending`: its end), where no line is too long for a
@@ -18,6 +21,7 @@ a run did anything else, or there was none.
 
 import itertools
 import os
+import re
 import subprocess
 import sys
 import tempfile
@@ -28,11 +32,12 @@ sys.dont_write_bytecode = True
 import many_runs
 
 FOLDER = f"{many_runs.TOP}/tests/rows"
-PROGRAM = os.path.abspath(many_runs.PROGRAM)
+PROGRAMS = {"topotool": os.path.abspath(many_runs.PROGRAM), "togrid": os.path.abspath(many_runs.TOGRID)}
 INPUTS = "inputs"
 SHAPES = ["left", "right", "halves"]
 TERMINAL = 80  # bytes of a line, with which it is too long
 TEXTS = ["input", "stdout", "stderr", "help", "ending"]
+SECONDS = re.compile(rb", [0-9]+\.[0-9]{3} s$", re.MULTILINE)
 WHOLE = {"stdout": b"", "stderr": b"", "status": 0}
 
 
@@ -69,7 +74,7 @@ def with_bytes(row, replaced):
 
 
 RULES = {"ways": in_each_way, "orders": in_each_order, "arrays": with_arrays, "beginnings": with_beginnings, "bytes": with_bytes}
-KEYS = {"title", "words", "files", "made", "fault", "faulty", "complains", "answers", *TEXTS, *WHOLE, *RULES}
+KEYS = {"title", "program", "words", "files", "made", "left", "timed", "fault", "faulty", "complains", "answers", *TEXTS, *WHOLE, *RULES}
 
 
 def runs_of(row):
@@ -103,10 +108,10 @@ def filled(row, texts):
     """A row with the texts that it names, and with the line of its fault."""
     if unknown := row.keys() - KEYS:
         sys.exit(f"{row.get('title')}: no such keys: {sorted(unknown)}")
-    files = {name: text_of(text, texts) for name, text in row.get("files", {}).items()}
-    row = {**row, "files": files, **{key: text_of(row[key], texts) for key in TEXTS if key in row}}
+    files, left = ({name: text_of(text, texts) for name, text in row.get(key, {}).items()} for key in ("files", "left"))
+    row = {**row, "files": files, "left": left, **{key: text_of(row[key], texts) for key in TEXTS if key in row}}
     if "fault" in row:
-        row |= {"stderr": f"topotool: {row['faulty']}: {row['fault']}\n".encode(), "status": 4}
+        row |= {"stderr": f"{row.get('program', 'topotool')}: {row['faulty']}: {row['fault']}\n".encode(), "status": 4}
     return row
 
 
@@ -124,10 +129,10 @@ def rows_of(theme, inputs):
     return rows or sys.exit(f"{theme}: no rows")
 
 
-def called(folder, words, text=b""):
-    """Runs the program in a folder, with a standard input that holds this text; where that is false it is the folder, which can't be read."""
-    how = {"cwd": folder, "capture_output": True, "executable": PROGRAM}
-    words = [b"topotool", *(it.encode() for it in words)]
+def called(folder, words, text=b"", program="topotool"):
+    """Runs a program in a folder, with a standard input that holds this text; where that is false it is the folder, which can't be read."""
+    how = {"cwd": folder, "capture_output": True, "executable": PROGRAMS[program]}
+    words = [program.encode(), *(it.encode() for it in words)]
     if text is not False:
         return subprocess.run(words, input=text, **how)
     unreadable = os.open(folder, os.O_RDONLY)
@@ -140,6 +145,15 @@ def called(folder, words, text=b""):
 def lay(folder, name, text):
     with open(f"{folder}/{name}", "wb") as file:
         file.write(text)
+
+
+def held(folder):
+    """The files of a folder, by their names."""
+    found = {}
+    for name in os.listdir(folder):
+        with open(f"{folder}/{name}", "rb") as file:
+            found[name] = file.read()
+    return found
 
 
 def make(folder, made):
@@ -170,7 +184,8 @@ def is_right(row, ran):
     if "help" in row or "ending" in row:
         return is_help(row, ran)
     wanted = {**WHOLE, **row}
-    return (wanted["stdout"], wanted["stderr"], wanted["status"]) == (ran.stdout, ran.stderr, ran.returncode)
+    said = SECONDS.sub(b", S s", ran.stderr) if row.get("timed") else ran.stderr
+    return (wanted["stdout"], wanted["stderr"], wanted["status"]) == (ran.stdout, said, ran.returncode)
 
 
 def judge(run):
@@ -180,10 +195,12 @@ def judge(run):
         for name, text in row["files"].items():
             lay(folder, name, text)
         failed = [*make(folder, row.get("made", {}))]
-        ran = called(folder, row["words"], row.get("input", b""))
-    if not failed and is_right(row, ran):
+        before = held(folder)
+        ran = called(folder, row["words"], row.get("input", b""), row.get("program", "topotool"))
+        after = held(folder)
+    if not failed and is_right(row, ran) and after == {**before, **row["left"]}:
         return []
-    came = {"stdout": ran.stdout, "stderr": ran.stderr, "status": ran.returncode}
+    came = {"stdout": ran.stdout, "stderr": ran.stderr, "status": ran.returncode, "left": {name: text for name, text in after.items() if before.get(name) != text}}
     return [f"{theme}: {row['title']}\n  wanted {WHOLE | row}\n  came   {came}\n", *(f"  before {it}\n" for it in failed)]
 
 

@@ -1,10 +1,11 @@
 """Merges shards over the workers of Dask, in the order in which they come.
 
-    python3 by_dask.py [--address SCHEDULER] [--workers N] GRID LAYER SHARD... > WHOLE
+    python3 by_dask.py [--address SCHEDULER] [--workers N] [--retries N] GRID LAYER SHARD... > WHOLE
 
-Without an address N workers are made in this process. A shard is read here, and travels as bytes; so
-do the texts of topologies between the workers, each of which needs `topotool` and nothing else: the variable
-TOPOTOOL names it, for each worker on its own machine. A task whose worker is lost runs again on another.
+Without an address N workers are made in this process. A shard is read here, and travels as bytes; so do topologies between the
+workers, each of which needs `topotool` and nothing else: the variable TOPOTOOL names it, for each worker on its own machine. A
+task whose worker is lost runs again on another, and one that fails for want of memory or a program is tried again. If topotool
+refuses a shard, its name and the error are printed, and the status is 4; no shard's bytes go into a log.
 """
 
 import argparse
@@ -15,58 +16,83 @@ import tempfile
 
 from dask.distributed import Client, LocalCluster, as_completed
 
+REFUSED = 4
 
-def topotool(*words, given):
-    """What topotool prints, given a text as its standard input, `-` among the words."""
+
+class Text(bytes):
+    """The bytes of a file, which logs show by their number."""
+
+    def __repr__(self):
+        return f"<{len(self)} bytes>"
+
+
+class Refusal(str):
+    """Why a shard is refused, in place of its topology."""
+
+
+def topotool(*words, given, name):
+    """What topotool prints, given a file as its standard input, `-` among the words; the name is that of the file, for errors."""
     ran = subprocess.run([os.environ.get("TOPOTOOL", "topotool"), *words], input=given, capture_output=True)
+    line = ran.stderr.decode(errors="replace").strip().removeprefix("topotool: -: ")
+    if ran.returncode == REFUSED:
+        return Refusal(f"{name}: {line}")
     if ran.returncode:
-        raise RuntimeError(ran.stderr.decode())
-    return ran.stdout
+        raise RuntimeError(f"{name}: topotool ended with {ran.returncode}: {line}")
+    return Text(ran.stdout)
 
 
-def build(grid, layer, text):
-    return topotool("build", "--grid", grid, f"{layer}=-", given=text)
+def build(grid, layer, text, name):
+    return topotool("build", "--grid", grid, f"{layer}=-", given=text, name=name)
 
 
 def merge(text, other):
+    for it in (text, other):
+        if isinstance(it, Refusal):
+            return it
     with tempfile.NamedTemporaryFile() as file:
         file.write(other)
         file.flush()
-        return topotool("merge", "-", file.name, given=text)
+        return topotool("merge", "-", file.name, given=text, name="a merge")
 
 
-def merged(client, texts):
+def merged(client, texts, retries):
     """Merges by twos whatever is done first; the future of the whole."""
     ready, waiting = as_completed(texts), None
     for it in ready:
         if waiting is None:
             waiting = it
         else:
-            ready.add(client.submit(merge, waiting, it, pure=False))
+            ready.add(client.submit(merge, waiting, it, pure=False, retries=retries))
             waiting = None
     return waiting
 
 
 def contents(name):
     with open(name, "rb") as file:
-        return file.read()
+        return Text(file.read())
 
 
 def main():
     words = argparse.ArgumentParser()
     words.add_argument("--address")
     words.add_argument("--workers", type=int, default=4)
+    words.add_argument("--retries", type=int, default=2)
     words.add_argument("grid")
     words.add_argument("layer")
     words.add_argument("shards", nargs="+")
     words = words.parse_args()
     place = words.address or LocalCluster(n_workers=words.workers, threads_per_worker=1, processes=False, dashboard_address=None)
     with Client(place) as client:
-        built = [client.submit(build, words.grid, words.layer, contents(it), pure=False) for it in words.shards]
-        sys.stdout.buffer.write(merged(client, built).result())
+        built = [client.submit(build, words.grid, words.layer, contents(it), it, pure=False, retries=words.retries) for it in words.shards]
+        whole = merged(client, built, words.retries).result()
     if not words.address:
         place.close()
+    if isinstance(whole, Refusal):
+        print(f"by_dask.py: {whole}", file=sys.stderr)
+        return REFUSED
+    sys.stdout.buffer.write(whole)
+    return 0
 
 
 if __name__ == "__main__":
-    main()
+    sys.exit(main())

@@ -1,4 +1,5 @@
-"""Keeps a map in git, on branches that change, add and remove districts, and lets by_git.py merge them.
+"""Keeps a map in git, on branches that change, add and remove districts, and lets by_git.py merge them, lines.py print the
+diffs and the hook pre-commit look at commits.
 
     TOPOTOOL=FOLDER/topotool python3 in_git.py
 
@@ -9,6 +10,7 @@ or git ends otherwise than it should.
 
 import json
 import os
+import shutil
 import subprocess
 import sys
 import tempfile
@@ -75,8 +77,10 @@ class Repository:
         self.git("config", "user.name", "Many Hands")
         self.git("config", "user.email", "hands@example.org")
         self.git("config", "merge.topotool.driver", f"'{sys.executable}' '{HERE}/by_git.py' %O %A %B %P")
+        self.git("config", "diff.topotool.textconv", f"'{sys.executable}' '{HERE}/lines.py'")
+        shutil.copy(f"{HERE}/pre-commit", f"{self.top}/.git/hooks/")
         with open(f"{self.top}/.gitattributes", "w", encoding="utf-8") as file:
-            file.write("*.topo.json merge=topotool\n")
+            file.write("*.topo.json merge=topotool diff=topotool\n")
         self.git("add", ".gitattributes")
         self.git("commit", "-q", "-m", "Maps are merged by topotool")
 
@@ -102,6 +106,13 @@ class Repository:
         self.git("add", file)
         self.git("commit", "-q", "-m", message)
 
+    def refused_by_hook(self, *lines):
+        """A commit of everything is refused, with these lines, and nothing is committed."""
+        before = self.git("rev-parse", "HEAD")
+        printed = self.git("commit", "-q", "-a", "-m", "All", status=1)
+        if printed.splitlines() != [f"{MAP}: {it}" for it in lines] or self.git("rev-parse", "HEAD") != before:
+            sys.exit(f"many-hands: the hook should print {lines}, and printed\n{printed}")
+
     def same(self, districts, how):
         """Compares the map with one build of these districts."""
         self.build(districts, "wanted")
@@ -111,10 +122,11 @@ class Repository:
         print(f"many-hands: git, {how}: the bytes of one build of what is wanted")
 
     def conflict(self, words, districts, told):
-        """A merge in which both sides changed something: what git tells, and what it leaves."""
+        """A merge in which both sides changed something: the lines that are printed, and what is left in the file."""
         printed = self.git(*words, status=1)
-        if told not in printed.splitlines() or "CONFLICT" not in printed or self.git("status", "--short") != f"UU {MAP}\n":
-            sys.exit(f"many-hands: git {' '.join(words)} should tell a conflict:\n{told}\nand told\n{printed}")
+        found = [it for it in printed.splitlines() if it.startswith(f"{MAP}: ")]
+        if found != [f"{MAP}: {it}" for it in told] or "CONFLICT" not in printed or self.git("status", "--short") != f"UU {MAP}\n":
+            sys.exit(f"many-hands: git {' '.join(words)} should print a conflict:\n{told}\nand printed\n{printed}")
         self.build(districts, "both")
         subprocess.run(["cmp", MAP, "both"], cwd=self.top, check=True)
         os.remove(f"{self.top}/both")
@@ -176,16 +188,92 @@ def added_by_both(it):
 
 
 def conflicts(it):
-    """Both sides name 6, one changes 12 and the other takes it away, and both add 24."""
+    """Both sides name 6, one changes 12 and the other removes it, and both add 24. The hook refuses the file with both versions."""
     mine = {**BASE, 6: named(BASE[6], "Six"), 12: named(BASE[12], "Twelve"), 24: WHOLE[24]}
-    yours = {**without(BASE, 12, 18), 6: named(BASE[6], "Sixth"), 24: named(WHOLE[24], "New")}
+    yours = {**without(BASE, 12, 18), 6: named(moved(BASE[6], across(1, 1)[2]), "Sixth"), 24: named(WHOLE[24], "New")}
     for name, districts in (("mine", mine), ("yours", yours)):
         it.branch(name, "main")
         it.commit(districts, name)
-    both = [*without(mine, 18).values(), yours[6], yours[24]]
-    it.conflict(["merge", "mine"], both, f'{MAP}: both sides changed, and not alike, in layer "districts": 6, 12, 24')
-    print("many-hands: git, three districts that both changed: a conflict, and the map with both versions")
+    # Only the names of 6 clash: both versions have the moved border. The 12 that one side removed is there beside the changed one.
+    both = [*without(mine, 6, 18).values(), named(yours[6], "Six"), yours[6], BASE[12], yours[24]]
+    it.conflict(["merge", "mine"], both, [
+        'conflict, ours: ~ "districts" 6 "name": "District 6" -> "Sixth"; geometry: 1 vertex gone, 1 new',
+        'conflict, theirs: ~ "districts" 6 "name": "District 6" -> "Six"',
+        'conflict, ours: - "districts" 12 {"name":"District 12"}',
+        'conflict, theirs: ~ "districts" 12 "name": "District 12" -> "Twelve"',
+        'conflict, ours: + "districts" 24 {"name":"New"}',
+        'conflict, theirs: + "districts" 24 {"name":"District 24"}',
+    ])
+    it.refused_by_hook(*(f'layer "districts": id {id} more than once: features {places}' for id, places in ((6, "6, 7"), (12, "13, 14"), (24, "25, 26"))))
+    print("many-hands: git, three districts that both changed: a conflict, and the map with both versions, which the hook refuses")
     it.git("merge", "--abort")
+
+
+# What two editors change of district 7, and what it is merged to: None for a conflict, behind which both versions may stand that
+# are left, if they are others than those of the two.
+LOW, HIGH = across(2, 1), across(2, 2)
+SETTLED = [
+    ("a name and a border", named(BASE[7], "Ash"), moved(BASE[7], LOW[2]), named(moved(BASE[7], LOW[2]), "Ash")),
+    ("one border alike, and a name", named(moved(BASE[7], LOW[2]), "Ash"), moved(BASE[7], LOW[2]), named(moved(BASE[7], LOW[2]), "Ash")),
+    ("two borders", moved(BASE[7], LOW[2]), moved(BASE[7], HIGH[3]), moved(moved(BASE[7], LOW[2]), HIGH[3])),
+    ("one border alike, and another", moved(moved(BASE[7], LOW[2]), HIGH[3]), moved(BASE[7], LOW[2]), moved(moved(BASE[7], LOW[2]), HIGH[3])),
+    ("the first vertex, and another", moved(BASE[7], LOW[0]), moved(BASE[7], HIGH[3]), moved(moved(BASE[7], LOW[0]), HIGH[3])),
+    ("two vertices of one border, beside each other", moved(BASE[7], LOW[2]), moved(BASE[7], LOW[3]), None),
+    ("one vertex, to two places", moved(BASE[7], LOW[2]), moved(moved(BASE[7], LOW[2]), (LOW[2][0] + 10, LOW[2][1] + 10)), None),
+    ("two names", named(BASE[7], "Ash"), named(BASE[7], "Elm"), None),
+    ("two names and a border", named(moved(BASE[7], LOW[2]), "Ash"), named(BASE[7], "Elm"), None,
+     named(moved(BASE[7], LOW[2]), "Ash"), named(moved(BASE[7], LOW[2]), "Elm")),
+    ("two places of a vertex and a name", named(moved(BASE[7], LOW[2]), "Ash"), moved(moved(BASE[7], LOW[2]), (LOW[2][0] + 10, LOW[2][1] + 10)), None,
+     named(moved(BASE[7], LOW[2]), "Ash"), named(moved(moved(BASE[7], LOW[2]), (LOW[2][0] + 10, LOW[2][1] + 10)), "Ash")),
+]
+
+
+def settled(it):
+    """What doesn't clash is one district; else there is a conflict."""
+    for number, (how, ours, theirs, wanted, *both) in enumerate(SETTLED):
+        for name, version in (("left", ours), ("right", theirs)):
+            it.branch(f"{name}-{number}", "main")
+            it.commit({**BASE, 7: version}, name)
+        if wanted is not None:
+            it.git("merge", "-q", "-m", "Both", f"left-{number}")
+            it.same([*{**BASE, 7: wanted}.values()], f"{how}, of one district")
+        else:
+            it.git("merge", f"left-{number}", status=1)
+            it.build([*without(BASE, 7).values(), *(both or (ours, theirs))], "both")
+            subprocess.run(["cmp", MAP, "both"], cwd=it.top, check=True)
+            os.remove(f"{it.top}/both")
+            it.git("merge", "--abort")
+            print(f"many-hands: git, {how}, of one district: a conflict")
+
+
+def borders(it):
+    """Two editors move two borders of one district, each for its neighbour too: every border is in both of its districts again."""
+    ours, theirs = ({**BASE, **{id: moved(BASE[id], vertex) for id in ids}} for ids, vertex in (((2, 7), LOW[2]), ((7, 12), HIGH[3])))
+    for name, districts in (("below", ours), ("above", theirs)):
+        it.branch(name, "main")
+        it.commit(districts, name)
+    it.git("merge", "-q", "-m", "Both", "below")
+    it.same([*{**ours, 7: moved(ours[7], HIGH[3]), 12: theirs[12]}.values()], "two borders of one district, each with its neighbour")
+
+
+def readable(it):
+    """A border of two districts is moved, at a vertex inside and at one where three borders meet: few lines of a diff change."""
+    for name, vertex, ids, wanted in (("inner", across(2, 1)[2], (2, 7), 6), ("corner", across(2, 1)[0], (1, 2, 6, 7), 16)):
+        it.branch(name, "main")
+        it.commit({**BASE, **{id: moved(BASE[id], vertex) for id in ids}}, name)
+        printed = it.git("diff", "-U0", "main", name, "--", MAP)
+        count = sum(line.startswith(("+{", "-{", "+arc", "-arc")) for line in printed.splitlines())
+        if count != wanted:
+            sys.exit(f"many-hands: git diff should print {wanted} lines, and printed\n{printed}")
+        print(f"many-hands: git diff of a moved vertex, {name}: {count} lines, of {len(it.git('show', '--textconv', f'{name}:{MAP}').splitlines())}")
+    it.git("checkout", "-q", "main")
+    with open(f"{it.top}/{MAP}", encoding="utf-8") as file:
+        lined = json.dumps(json.load(file), indent=1)
+    with open(f"{it.top}/{MAP}", "w", encoding="utf-8") as file:
+        file.write(lined)
+    it.refused_by_hook("not canonical")
+    it.git("checkout", "-q", "--", MAP)
+    print("many-hands: git, a map that another tool wrote: the hook refuses it")
 
 
 def refusals(it):
@@ -193,7 +281,7 @@ def refusals(it):
     it.branch("broken", "main")
     with open(f"{it.top}/{MAP}", "w", encoding="utf-8") as file:
         file.write("no map\n")
-    it.git("commit", "-q", "-a", "-m", "No map")
+    it.git("commit", "-q", "--no-verify", "-a", "-m", "No map")
     it.git("checkout", "-q", "mine")
     printed = it.git("merge", "broken", status=1)
     for line in ("topotool: theirs: 1 NotJson $", f"{MAP}: not merged: it is as our side has it"):
@@ -210,7 +298,7 @@ def refusals(it):
 def main():
     with tempfile.TemporaryDirectory() as folder:
         it = Repository(folder)
-        for part in (day, merges, other_ways, crossed, added_by_both, conflicts, refusals):
+        for part in (day, merges, other_ways, crossed, added_by_both, conflicts, settled, borders, readable, refusals):
             part(it)
 
 

@@ -1,6 +1,9 @@
-//! Calls that merge, ask and write, writers that fail, and files without a standard input.
+//! Calls that merge, ask and write, writers that fail, files without a standard input,
+//! files that are replaced, and progress by a clock.
 mod files;
 mod layer_calls;
 mod merge_calls;
+mod outputs;
+mod progress;
 mod shard_rows;
 mod writers;

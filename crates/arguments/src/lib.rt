@@ -4,7 +4,7 @@
 mod rows;
 
 use clap::{Arg, ArgAction, ArgMatches, Command, Error};
-use rows::{ArgumentRow, COMMANDS, CommandRow, Form};
+use rows::{ArgumentRow, COMMANDS, COMMON, CommandRow, Form};
 use std::alloc::{AllocError, Global};
 
 const ABOUT: &str = "Builds, checks, merges and queries TopoJSON topologies on whole-number grids
@@ -17,9 +17,11 @@ const AFTER: &str = "FILE is the name of a file, or - for standard input, which 
 
 Example: topotool build --grid 1,1,0,0 districts=east.json districts=west.json
 
-docs/FAULTS.md says what to do about each fault that a text is refused for.
-Status: 0 done, 1 `check` says no, 2 wrong usage, 3 a file can't be read,
-4 an input is refused, 5 out of memory, 6 the output failed";
+docs/FAULTS.md says what to do about each fault that a text is refused for, and
+the manual page docs/topotool.1 has all of this: man docs/topotool.1
+Status: 0 done, 1 `check` says no or `diff` finds a difference, 2 wrong usage,
+3 a file can't be read, 4 an input is refused, 5 out of memory,
+6 the output failed";
 
 /// What `--version` prints behind the program's name.
 const VERSION: &str = "0.1.0";
@@ -32,6 +34,11 @@ fn value<'a>(argument: Arg<'a>, name: &'a str, called: &'a str) -> Arg<'a> {
         .action(ArgAction::Set)
 }
 
+/// An argument that is given by its name alone.
+fn flag<'a>(argument: Arg<'a>, name: &'a str) -> Arg<'a> {
+    argument.long(name).action(ArgAction::SetTrue)
+}
+
 /// Lets no value through but these words, which help does not list. The first stands where there is none.
 fn among<'a>(argument: Arg<'a>, words: &'a [&'a str]) -> Arg<'a> {
     argument
@@ -41,21 +48,29 @@ fn among<'a>(argument: Arg<'a>, words: &'a [&'a str]) -> Arg<'a> {
 }
 
 /// An argument with what its form says.
-fn formed<'a>(argument: Arg<'a>, name: &'a str, form: Form) -> Arg<'a> {
+fn formed<'a>(argument: Arg<'a>, name: &'a str, form: Form) -> Result<Arg<'a>, AllocError> {
     match form {
-        Form::Word => argument.required(true).action(ArgAction::Set),
-        Form::Words => argument
-            .required(true)
-            .num_args(1..)
-            .action(ArgAction::Append),
-        Form::Needed(called) => value(argument, name, called).required(true),
-        Form::Value(called) => value(argument, name, called),
-        Form::OneOf(called, words) => among(value(argument, name, called), words),
-        Form::Flag => argument.long(name).action(ArgAction::SetTrue),
+        Form::Word => Ok(argument.required(true).action(ArgAction::Set)),
+        Form::Words => Ok(
+            argument
+                .required(true)
+                .num_args(1..)
+                .action(ArgAction::Append),
+        ),
+        Form::Needed(called) => Ok(value(argument, name, called).required(true)),
+        Form::NeededWithout(called, other) => value(argument, name, called).required_unless_present(
+            other,
+        ),
+        Form::Value(called) => Ok(value(argument, name, called)),
+        Form::ValueNotWith(called, other) => value(argument, name, called).conflicts_with(other),
+        Form::Lettered(letter, called) => Ok(value(argument, name, called).short(letter)),
+        Form::OneOf(called, words) => Ok(among(value(argument, name, called), words)),
+        Form::Flag => Ok(flag(argument, name)),
+        Form::FlagWith(other) => flag(argument, name).requires_arg(other),
     }
 }
 
-fn argument<'a>(alloc: Global, row: &ArgumentRow) -> Arg<'a> {
+fn argument<'a>(alloc: Global, row: &ArgumentRow) -> Result<Arg<'a>, AllocError> {
     formed(Arg::new(alloc, row.name).help(row.help), row.name, row.form)
 }
 
@@ -65,9 +80,22 @@ fn titled<'a>(alloc: Global, name: &'a str, about: &'a str, after: &'a str) -> C
 }
 
 fn command<'a>(alloc: Global, row: &CommandRow) -> Result<Command<'a>, AllocError> {
-    let mut command = titled(alloc, row.name, row.about, row.after);
-    for argument_row in row.arguments {
-        command = command.arg(argument(alloc, argument_row))?;
+    let command = titled(alloc, row.name, row.about, row.after);
+    with_arguments(
+        alloc,
+        with_arguments(alloc, command, row.arguments)?,
+        COMMON,
+    )
+}
+
+/// A command with further arguments.
+fn with_arguments<'a>(
+    alloc: Global,
+    mut command: Command<'a>,
+    rows: &[ArgumentRow],
+) -> Result<Command<'a>, AllocError> {
+    for row in rows {
+        command = command.arg(argument(alloc, row)?)?;
     }
     Ok(command)
 }

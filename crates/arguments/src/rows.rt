@@ -28,13 +28,21 @@ pub(crate) enum Form {
     Words,
     /// `--name VALUE`, which has to be there, and what help calls the value.
     Needed(&'static str),
+    /// The same, where another argument is not there.
+    NeededWithout(&'static str, &'static str),
     /// `--name VALUE`, and what help calls the value.
     Value(&'static str),
+    /// The same, which does not go with another argument.
+    ValueNotWith(&'static str, &'static str),
+    /// `--name VALUE`, what help calls the value, and a letter for it.
+    Lettered(char, &'static str),
     /// `--name VALUE`, what help calls the value, and the words that it may be, of which the first stands
     /// where it is not there.
     OneOf(&'static str, &'static [&'static str]),
     /// `--name` alone.
     Flag,
+    /// The same, which wants another argument beside it.
+    FlagWith(&'static str),
 }
 
 /// An argument's row: its name, form and help.
@@ -64,9 +72,23 @@ const FILE: ArgumentRow = argument!(
     "A TopoJSON topology with a transform, or - for standard input"
 );
 
+/// What every command takes behind its own arguments.
+pub(crate) const COMMON: &[ArgumentRow] = &[
+    argument!(
+        "output",
+        Form::Lettered('o', "FILE"),
+        "Print into this file, which is replaced whole or\nnot at all; - is standard output"
+    ),
+    argument!(
+        "progress",
+        Form::Flag,
+        "A line on standard error for each file that is read\nand each stage that is done"
+    ),
+];
+
 /// In the order in which help names them.
 pub(crate) const COMMANDS: &[CommandRow] = &[
-    BUILD, CHECK, MERGE, REMOVE, FEATURE, MESH, NEIGHBORS, INFO,
+    BUILD, CHECK, MERGE, REMOVE, DIFF, FEATURE, MESH, NEIGHBORS, INFO,
 ];
 
 const BUILD: CommandRow = CommandRow {
@@ -76,6 +98,9 @@ const BUILD: CommandRow = CommandRow {
             position * scale + translation. Scales are from 1 to 1000000, translations\n\
             from -1000000000000 to 1000000000000. A name that is given again gets the\n\
             features of both files.\n\n\
+            A grid is four whole numbers with commas between and nothing else. `bad grid`\n\
+            is said of 10,10 (two numbers), 0.5,1,0,0 (a point), 1, 1,0,0 (a blank) and\n\
+            0,1,0,0 (a scale below 1). One that begins with a minus is written --grid=-1,..\n\n\
             Example: topotool build --grid 1,1,0,0 a=squares.json\n\n\
             examples/own-map has the way from degrees and metres to a grid,\n\
             docs/FAULTS.md what to do about a file that is refused.",
@@ -97,10 +122,29 @@ const CHECK: CommandRow = CommandRow {
     name: "check",
     about: "Says whether a topology is the canonical text of what it means",
     after: with_faults!(
-        "Prints `canonical` with status 0, or `not canonical` with status 1.\n\n\
-         Example: topotool check country.topo.json"
+        "Prints `canonical` with status 0, or `not canonical` with status 1. Behind that\n\
+         line comes what --ids and --near found: a line of counts, and a line for each\n\
+         finding, of --near for the first 10. The status is 1 where any test says no.\n\n\
+         Two vertices are near each other where one feature has only the one, and\n\
+         another only the other; features of all layers count. Such pairs come from\n\
+         borders that were drawn twice, and leave slivers and gaps. Features are\n\
+         numbered from 0, in the order in which `feature` prints them.\n\n\
+         Example: topotool check country.topo.json\n\
+         Example: topotool check --ids --near 1 country.topo.json"
     ),
-    arguments: &[FILE],
+    arguments: &[
+        argument!(
+            "ids",
+            Form::Flag,
+            "Test also whether each feature has an id, and none\nstands more than once in its layer"
+        ),
+        argument!(
+            "near",
+            Form::Value("STEPS"),
+            "Test also for vertices of different features that lie\nat most so many grid steps apart in both directions,\nand are not one; from 1 to 100"
+        ),
+        FILE,
+    ],
 };
 
 const MERGE: CommandRow = CommandRow {
@@ -144,12 +188,71 @@ const REMOVE: CommandRow = CommandRow {
     ],
 };
 
+const DIFF: CommandRow = CommandRow {
+    name: "diff",
+    about: "Prints which features two topologies have alone, and which differ",
+    after: with_faults!(
+        "Features of layers of one name pair by their ids, or by the value of a\n\
+         property. A feature without one, or whose id or value stands more than once in\n\
+         its layer, does not pair; a value that is null is none. A feature that both\n\
+         topologies have is not printed, a pair that differs is a change, and all\n\
+         others are removed or added. Rings that begin at another vertex are the same.\n\n\
+         Each line begins with - removed, + added, or ~ changed. Then come the layer,\n\
+         the id or the value, and the properties; or, after ~, what differs:\n\n  \
+         - layer \"roads\"\n  \
+         - \"towns\" 7 {\"name\":\"Ulm\"}\n  \
+         ~ \"towns\" 9 \"name\": \"a\" -> \"b\"; geometry: 1 vertex gone, 2 new\n\n\
+         All names and values are JSON: null is no id, and missing is said of a\n\
+         property that one of both hasn't. A line of layer is for one that only one\n\
+         topology has. Geometries differ by `ring direction only` or\n\
+         `line direction only` (the same rings or lines, some of which run the other\n\
+         way), by `vertex order only` (the same kind and vertices), or by vertices,\n\
+         each counted once, after `KIND -> KIND, ` where the kinds differ. The last\n\
+         line counts.\n\n\
+         Status: 0 nothing differs, 1 something does, from 2 on as for other commands.\n\n\
+         Example: topotool diff old.topo.json country.topo.json"
+    ),
+    arguments: &[
+        argument!("layer", Form::Value("NAME"), "Only this layer"),
+        argument!(
+            "key",
+            Form::Value("PROPERTY"),
+            "Pair features by the value of this property\nin place of their ids"
+        ),
+        argument!("json", Form::Flag, "One JSON object in place of lines"),
+        argument!(
+            "OLD",
+            Form::Word,
+            "A TopoJSON topology with a transform, or - for standard input"
+        ),
+        argument!(
+            "NEW",
+            Form::Word,
+            "A topology with the same transform, or - for standard input"
+        ),
+    ],
+};
+
 const FEATURE: CommandRow = CommandRow {
     name: "feature",
     about: "Prints a layer as a GeoJSON FeatureCollection",
-    after: with_faults!("Example: topotool feature --layer districts country.topo.json"),
+    after: with_faults!(
+        "With --seq each feature is one line: newline-delimited GeoJSON, without record\n\
+         marks, which ogr2ogr, tippecanoe and jq read.\n\n\
+         Example: topotool feature --layer districts country.topo.json\n\
+         Example: topotool feature --seq country.topo.json"
+    ),
     arguments: &[
-        argument!("layer", Form::Needed("NAME"), "The layer to print"),
+        argument!(
+            "layer",
+            Form::NeededWithout("NAME", "seq"),
+            "The layer to print; with --seq it may be left out:\nthen all layers, by their names"
+        ),
+        argument!(
+            "seq",
+            Form::Flag,
+            "A feature a line in place of a FeatureCollection"
+        ),
         FILE,
     ],
 };
@@ -157,7 +260,13 @@ const FEATURE: CommandRow = CommandRow {
 const MESH: CommandRow = CommandRow {
     name: "mesh",
     about: "Prints borders as a GeoJSON MultiLineString, each stretch once",
-    after: with_faults!("Example: topotool mesh --edges interior country.topo.json"),
+    after: with_faults!(
+        "With --by a stretch is printed where two features have it whose values of the\n\
+         property differ. A feature without the property differs from every other, also\n\
+         from another one without it. What one feature has alone is not printed.\n\n\
+         Example: topotool mesh --edges interior country.topo.json\n\
+         Example: topotool mesh --by name country.topo.json"
+    ),
     arguments: &[
         argument!(
             "layer",
@@ -168,6 +277,11 @@ const MESH: CommandRow = CommandRow {
             "edges",
             Form::OneOf("EDGES", &["all", "interior", "exterior"]),
             "all, or interior for those between two\nfeatures, or exterior for those of one"
+        ),
+        argument!(
+            "by",
+            Form::ValueNotWith("PROPERTY", "edges"),
+            "Only borders between features whose values of this\nproperty differ; not with --edges"
         ),
         FILE,
     ],
@@ -180,7 +294,8 @@ const NEIGHBORS: CommandRow = CommandRow {
         "Prints a list for each feature, in the order in which `feature` prints them,\n\
          of the numbers of the others, from 0. To touch in single points is not to\n\
          share a border.\n\n\
-         Example: topotool neighbors --layer districts country.topo.json"
+         Example: topotool neighbors --layer districts country.topo.json\n\
+         Example: topotool neighbors --ids --keyed --layer districts country.topo.json"
     ),
     arguments: &[
         argument!("layer", Form::Needed("NAME"), "The layer to look at"),
@@ -188,6 +303,11 @@ const NEIGHBORS: CommandRow = CommandRow {
             "ids",
             Form::Flag,
             "Their ids in place of their numbers;\neach feature of the layer has to have one"
+        ),
+        argument!(
+            "keyed",
+            Form::FlagWith("ids"),
+            "With --ids: one JSON object, from each feature's id to\nthe list of ids; each id has to be unique"
         ),
         FILE,
     ],

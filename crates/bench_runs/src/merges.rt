@@ -29,7 +29,7 @@ fn merged<S: Shard>(rt: &HostRuntime, shape: &str, names: &[String]) -> Option<V
     }
     let plan = plan_of(alloc, shape, shards.len())?;
     let shard = run_plan(alloc, shards.as_slice(), &plan).ok()?;
-    shard.into_text(alloc).ok()
+    shard.text(alloc).ok()
 }
 
 /// The text of what topology texts make together.

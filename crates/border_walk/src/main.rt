@@ -1,11 +1,11 @@
-//! An example of a program that stands on the libraries: merges two shards by a plan, prints which
+//! An example of a program that stands on the libraries: merges two shards, prints which
 //! features of a layer share a border, and walks the rings of the layer's first polygon.
 //!
 //!     border_walk LEFT RIGHT LAYER
 #![tactic(auto)]
 
 use chains::ArcRef;
-use refine::{Plan, merge_texts};
+use refine::merge_topologies;
 use std::process::ExitCode;
 use std::{env, fs};
 use topo::{Body, Topology};
@@ -17,10 +17,7 @@ fn merge_files(rt: &HostRuntime, left: &str, right: &str) -> Option<Topology> {
     let mut texts = Vec::new(alloc);
     texts.push(fs::read(rt, left).ok()?).ok()?;
     texts.push(fs::read(rt, right).ok()?).ok()?;
-    let plan = Plan::halves(alloc, texts.len()).ok()??;
-    let text = merge_texts(alloc, texts.as_slice(), &plan).ok()?;
-    let (grid, map) = topo_io::read(alloc, text.as_slice()).ok()?;
-    Topology::build(alloc, &grid, &map).ok()
+    merge_topologies(alloc, texts).ok()?
 }
 
 /// Prints which others each feature of the layer shares a border with.

@@ -1,9 +1,7 @@
 -- The map of texts that are accepted fits their grid.
 use Rattle.std.proofs.Common.{◌≡◌, ℕ, List, [], ◌∷◌, Bool, true, false, cond, map, refl, ap}
-use Rattle.std.specs.Prelude.{String, Vec}
 use Rattle.std.specs.List.{AllByRecursion}
 use Rattle.std.specs.Str.{bytes_eq}
-use Rattle.std.specs.declared.alloc.Global.{Global}
 use Rattle.std.proofs.lemmas.List.Elements.{All-head, All-tail}
 use Rattle.grid.specs.Place.{Transform}
 use Rattle.shapes.specs.Fitting.{MapFits}
@@ -14,7 +12,7 @@ use Rattle.reading.proofs.Fits.{all_append}
 use Rattle.reading.proofs.Plains.{layers_fit}
 use Rattle.geojson_io.specs.Features.{faults_of_text, features_of_text}
 use Rattle.geojson_io.proofs.Fitting.{text_fits}
-use Rattle.built_text.specs.Maps.{named_texts, features_under, layers_of_texts, IsMapOfTexts}
+use Rattle.built_text.specs.Maps.{features_under, layers_of_texts, IsMapOfTexts}
 use Rattle.built_text.specs.Sources.{AreAccepted}
 
 module _ (t : Transform) where
@@ -42,6 +40,6 @@ module _ (t : Transform) where
   pub map_of_texts_fits : (texts : List (List ℕ × List ℕ)) (m : Layers) → AreAccepted t (map (λ s. s.1) texts) → IsMapOfTexts t texts m → MapFits t m
   map_of_texts_fits texts m ok is = layers_fit t m (layers_of_texts t texts) is.layers (layers_of_texts_fit texts texts ok)
 
-pub same_texts : (texts : List (String Global × Vec ℕ Global)) → map (λ s. s.1.items) texts ≡ map (λ s. s.1) (named_texts texts)
-same_texts [] = refl
-same_texts (s ∷ texts) = ap (λ ts. s.1.items ∷ ts) (same_texts texts)
+pub same_texts : {N T : Type 0} (name : N → List ℕ) (bytes : T → List ℕ) (texts : List (N × T)) → map (λ (s : N × T). bytes s.1) texts ≡ map (λ (p : List ℕ × List ℕ). p.1) (map (λ (s : N × T). (name s.0, bytes s.1)) texts)
+same_texts name bytes [] = refl
+same_texts name bytes (s ∷ texts) = ap (λ ts. bytes s.1 ∷ ts) (same_texts name bytes texts)

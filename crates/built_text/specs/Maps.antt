@@ -1,5 +1,6 @@
 -- The map of GeoJSON texts, each after its layer's name, and the canonical text of that map.
 use Rattle.std.specs.Prelude.{◌≡◌, ℕ, ◌<◌, ◌^◌, List, [], ◌∷◌, ◌++◌, length, map as map_list, String, Vec, string_bytes, if◌then◌else◌}
+use Rattle.std.specs.Borrow.{Bor}
 use Rattle.std.specs.FinMap as map
 use Rattle.std.specs.Str.{bytes_eq}
 use Rattle.std.specs.declared.alloc.Global.{Global}
@@ -18,6 +19,10 @@ use Rattle.topo_io.specs.Means.{Means}
 -- names and texts by their bytes
 abbrev pub named_texts : List (String Global × Vec ℕ Global) → List (List ℕ × List ℕ)
 named_texts texts = map_list (λ s. (string_bytes s.0, s.1.items)) texts
+
+-- the same of borrowed names and texts
+abbrev pub borrowed_texts : List (Bor (List ℕ) × Bor (List ℕ)) → List (List ℕ × List ℕ)
+borrowed_texts texts = map_list (λ s. (s.0.now, s.1.now)) texts
 
 -- the features of all texts of that name, as plain data
 abbrev pub features_under : Transform → List ℕ → List (List ℕ × List ℕ) → List Plain

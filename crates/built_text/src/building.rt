@@ -1,5 +1,5 @@
 //! From GeoJSON texts to a topology and to its text.
-ghost use Rattle.built_text.specs.Maps.{named_texts, IsMapOfTexts, IsTextOfTexts, IsTopologyOfTexts, MeansTexts};
+ghost use Rattle.built_text.specs.Maps.{borrowed_texts, named_texts, IsMapOfTexts, IsTextOfTexts, IsTopologyOfTexts, MeansTexts};
 ghost use Rattle.built_text.specs.Sources.{AreAccepted, IsRefusal, IsFaultAt};
 ghost use Rattle.built_text.specs.declared.building.BuildFault.TheVariants.{OutOfMemory as WantOfMemory};
 ghost use Rattle.std.specs.Prelude.{◌≡◌, map, OnOk, IfOk, IfErr};
@@ -8,6 +8,7 @@ use faults::{Fault, FaultKind, OutOfMemory};
 use grid::Grid;
 use shapes::FeatureMap;
 use std::alloc::Global;
+use std::convert::{AsSlice, AsStr};
 use thiserror::Error;
 use topo::Topology;
 
@@ -46,9 +47,24 @@ pub fn build_text(
     ensures read_back { IfOk result (λ t. MeansTexts grid.now (named_texts texts.now) t.items) }
     ensures refused { IfErr result (IsRefusal grid.now (map (λ s. s.1.items) texts.now)) }
 {
-    let topology = build_topology(alloc, grid, texts)?;
-    let text = topo_io::text_of(alloc, &topology)?;
-    Ok(text)
+    text_of(alloc, grid, texts)
+}
+
+/// `build_text` of borrowed names and texts, none of which is copied.
+///
+/// # Errors
+/// As `build_text`.
+pub fn build_borrowed(
+    alloc: Global,
+    grid: &Grid,
+    texts: &[(&str, &[u8])],
+) -> Result<Vec<u8>, BuildFault>
+    ensures accepted { OnOk result (AreAccepted grid.now (map (λ s. s.1.now) texts.now)) }
+    ensures canonical { IfOk result (λ t. IsTextOfTexts grid.now (borrowed_texts texts.now) t.items) }
+    ensures read_back { IfOk result (λ t. MeansTexts grid.now (borrowed_texts texts.now) t.items) }
+    ensures refused { IfErr result (IsRefusal grid.now (map (λ s. s.1.now) texts.now)) }
+{
+    text_of(alloc, grid, texts)
 }
 
 /// The topology of GeoJSON texts, each after its layer's name.
@@ -64,19 +80,48 @@ pub fn build_topology(
     ensures topology { IfOk result (IsTopologyOfTexts grid.now (named_texts texts.now)) }
     ensures refused { IfErr result (IsRefusal grid.now (map (λ s. s.1.items) texts.now)) }
 {
+    topology_of(alloc, grid, texts)
+}
+
+/// The canonical text of the topology of GeoJSON texts, each after its layer's name.
+fn text_of<N: AsStr, T: AsSlice<u8>>(
+    alloc: Global,
+    grid: &Grid,
+    texts: &[(N, T)],
+) -> Result<Vec<u8>, BuildFault>
+    ensures accepted { OnOk result (AreAccepted grid.now (map (λ s. T.items s.1) texts.now)) }
+    ensures canonical { IfOk result (λ t. IsTextOfTexts grid.now (map (λ s. (N.text s.0, T.items s.1)) texts.now) t.items) }
+    ensures read_back { IfOk result (λ t. MeansTexts grid.now (map (λ s. (N.text s.0, T.items s.1)) texts.now) t.items) }
+    ensures refused { IfErr result (IsRefusal grid.now (map (λ s. T.items s.1) texts.now)) }
+{
+    let topology = topology_of(alloc, grid, texts)?;
+    let text = topo_io::text_of(alloc, &topology)?;
+    Ok(text)
+}
+
+/// The topology of GeoJSON texts, each after its layer's name.
+fn topology_of<N: AsStr, T: AsSlice<u8>>(
+    alloc: Global,
+    grid: &Grid,
+    texts: &[(N, T)],
+) -> Result<Topology, BuildFault>
+    ensures accepted { OnOk result (AreAccepted grid.now (map (λ s. T.items s.1) texts.now)) }
+    ensures topology { IfOk result (IsTopologyOfTexts grid.now (map (λ s. (N.text s.0, T.items s.1)) texts.now)) }
+    ensures refused { IfErr result (IsRefusal grid.now (map (λ s. T.items s.1) texts.now)) }
+{
     let map = read_layers(alloc, grid, texts)?;
     Ok(Topology::build(alloc, grid, &map)?)
 }
 
 /// The features of GeoJSON texts, each after its layer's name.
-fn read_layers(
+fn read_layers<N: AsStr, T: AsSlice<u8>>(
     alloc: Global,
     grid: &Grid,
-    texts: &[(String, Vec<u8>)],
+    texts: &[(N, T)],
 ) -> Result<FeatureMap, BuildFault>
-    ensures accepted { OnOk result (AreAccepted grid.now (map (λ s. s.1.items) texts.now)) }
-    ensures map { IfOk result (IsMapOfTexts grid.now (named_texts texts.now)) }
-    ensures refused { IfErr result (IsRefusal grid.now (map (λ s. s.1.items) texts.now)) }
+    ensures accepted { OnOk result (AreAccepted grid.now (map (λ s. T.items s.1) texts.now)) }
+    ensures map { IfOk result (IsMapOfTexts grid.now (map (λ s. (N.text s.0, T.items s.1)) texts.now)) }
+    ensures refused { IfErr result (IsRefusal grid.now (map (λ s. T.items s.1) texts.now)) }
 {
     let mut map = FeatureMap::new(alloc);
     let mut place = 0;

@@ -4,4 +4,4 @@
 pub mod building;
 pub mod laws;
 
-pub use building::{BuildFault, build_text, build_topology};
+pub use building::{BuildFault, build_borrowed, build_text, build_topology};

@@ -89,7 +89,17 @@ impl Run {
         let mut files = Memory {
             files: self.files.as_slice(),
         };
-        run(self.alloc, self.words.as_slice(), &mut files, out, err)
+        self.over_files(&mut files, out, err)
+    }
+
+    /// The same over files of the caller's.
+    pub fn over_files<F: Files, O: Sink, E: Sink>(
+        &self,
+        files: &mut F,
+        out: &mut O,
+        err: &mut E,
+    ) -> u8 {
+        run(self.alloc, self.words.as_slice(), files, out, err)
     }
 
     /// Runs the command, and keeps what it writes.

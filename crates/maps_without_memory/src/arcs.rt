@@ -3,7 +3,7 @@
 use chains::ordered::is_rising;
 use chains::{ArcRef, ArcTable, Piece, VisitIndex, cut_ring, turn_ring};
 use grid::{Grid, Pos};
-use merging::plan::same_grid;
+use merging::shard::same_grid;
 use refused_calls::comparing::{are_used, stand_at};
 use refused_calls::handed::Handed;
 use refused_calls::inputs::{built, is_of, positions, read};

@@ -8,7 +8,7 @@ use Rattle.theory.specs.Lists.{Has}
 use Rattle.shapes.specs.Maps.{Layers}
 use Rattle.shapes.specs.Union.{union}
 use Rattle.merging.specs.Laws.{union_commutes, union_associates, union_itself, union_empty}
-use Rattle.plans.specs.Leaves.{first_outside}
+use Rattle.merging.specs.Leaves.{first_outside}
 use Rattle.merging.specs.Plans.{union_all}
 use Rattle.merging.specs.Alike.{IsIn, Names, PlansAlike}
 

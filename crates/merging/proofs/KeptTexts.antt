@@ -6,14 +6,12 @@ use Rattle.std.proofs.lemmas.List.Elements.{All-nil, All-cons, All-head, All-tai
 use Rattle.grid.specs.Place.{Transform}
 use Rattle.shapes.specs.Maps.{Layers}
 use Rattle.topo_io.specs.Means.{Means}
-use Rattle.plans.specs.declared.plan.Plan.{Plan}
-use Rattle.plans.specs.Naming.{kept}
-use Rattle.plans.specs.Leaves.{leaves, first_outside}
+use Rattle.merging.specs.Naming.{AreMarksOf, kept}
 use Rattle.merging.specs.Plans.{first_other, union_all, union_at}
 use Rattle.merging.specs.Merge.{Meaning, as_meaning, AreKept}
 use Rattle.merging.proofs.PlanLemmas.{off_grid_none}
 use Rattle.merging.proofs.MergeLemmas.{SoFar, one_more, all_read, none_read, read_length, length_bytes, other_mapped}
-use Rattle.merging.proofs.NamingLemmas.{named, named_union, some_named, none_kept, kept-push, kept-map}
+use Rattle.merging.proofs.NamingLemmas.{marked_union, some_marked, none_kept, kept-push, kept-map}
 
 -- the texts before that number were read, and the shards are those of the marked ones
 pub record KeptSoFar {S : Type 0} (grid : S → Transform) (map_of : S → Layers) (texts left : List (List ℕ)) (marks : List Bool) (number : ℕ) (grids : List Transform) (shards : List S) : Type 0 where
@@ -100,23 +98,20 @@ module _ {S : Type 0} (grid : S → Transform) (map_of : S → Layers) where
     long : length texts ≡ length k.meanings
     long = sym (read_length (λ m. m.grid) (λ m. m.layers) texts k.meanings k.read)
 
-    -- a plan names some text
-    pub some_kept : (p : Plan) → marks ≡ named (length texts) (leaves p) → first_outside (length texts) (leaves p) ≡ None → 0 < length shards
-    some_kept p e none =
-        let some : 0 < length (kept (named (length k.meanings) (leaves p)) k.meanings) = some_named k.meanings p (ap (λ n. first_outside n (leaves p)) (sym long) ∙ none) in
-        let same : length shards ≡ length (kept (named (length k.meanings) (leaves p)) k.meanings) =
-        sym (length_bytes meaning_of shards) ∙ ap length (k.shards_of ∙ ap (λ bs. kept bs k.meanings) (e ∙ ap (λ n. named n (leaves p)) long)) in
+    -- some text is marked
+    pub some_kept : (is : List ℕ) → 0 < length is → AreMarksOf (length texts) is marks → 0 < length shards
+    some_kept is lt a =
+        let some : 0 < length (kept marks k.meanings) = some_marked k.meanings is marks (subst (λ n. AreMarksOf n is marks) long a) lt in
+        let same : length shards ≡ length (kept marks k.meanings) = sym (length_bytes meaning_of shards) ∙ ap length k.shards_of in
         omega arith
 
-    -- the shards of the texts that a plan names have the union of the maps at its leaves
-    pub kept_union : (is : List ℕ) → marks ≡ named (length texts) is → first_outside (length texts) is ≡ None → union_all (map_list map_of shards) ≡ union_at (map_list (λ m. m.layers) k.meanings) is
-    kept_union is e none =
+    -- the shards of the marked texts have the union of the maps at the places
+    pub kept_union : (is : List ℕ) → AreMarksOf (length texts) is marks → union_all (map_list map_of shards) ≡ union_at (map_list (λ m. m.layers) k.meanings) is
+    kept_union is a =
         let maps = map_list (λ m. m.layers) k.meanings in
         let count : length texts ≡ length maps = long ∙ sym (length_bytes (λ m. m.layers) k.meanings) in
-        ap union_all
-        (sym (twice shards) ∙ ap (map_list (λ m. m.layers)) k.shards_of ∙ kept-map (λ m. m.layers) marks k.meanings
-        ∙ ap (λ bs. kept bs maps) (e ∙ ap (λ n. named n is) count))
-        ∙ named_union maps is (ap (λ n. first_outside n is) (sym count) ∙ none)
+        ap union_all (sym (twice shards) ∙ ap (map_list (λ m. m.layers)) k.shards_of ∙ kept-map (λ m. m.layers) marks k.meanings)
+        ∙ marked_union maps is marks (subst (λ n. AreMarksOf n is marks) count a)
       where
         twice : (ss : List S) → map_list (λ m. m.layers) (map_list meaning_of ss) ≡ map_list map_of ss
         twice [] = refl

@@ -1,7 +1,11 @@
+pub mod PlanSizes
+pub mod LeafLemmas
+pub mod GroupingLemmas
 pub mod PlanLemmas
 pub mod RunLemmas
 pub mod AlikeLemmas
 pub mod MergeLemmas
+pub mod MarkLemmas
 pub mod MergedTexts
 pub mod UnionFits
 pub mod ThroughTexts

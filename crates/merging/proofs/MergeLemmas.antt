@@ -15,7 +15,7 @@ use Rattle.topo_io.specs.Roots.{faults_of_text, grid_of_text}
 use Rattle.merging.specs.Meaning.{same_grid}
 use Rattle.merging.specs.declared.fault.MergeFault.{MergeFault}
 use Rattle.merging.specs.declared.fault.MergeFault.TheVariants.{BadPlan, Text, OtherGrid, OutOfMemory}
-use Rattle.plans.specs.Leaves.{first_outside}
+use Rattle.merging.specs.Leaves.{first_outside}
 use Rattle.merging.specs.Plans.{first_other, off_grid}
 use Rattle.std.specs.declared.vec.Vec.{Vec}
 use Rattle.std.specs.declared.alloc.Global.{Global}
@@ -98,6 +98,13 @@ module _ {S : Type 0} (grid : S → Transform) (map_of : S → Layers) where
   -- nothing is read
   pub none_read : (texts : List (List ℕ)) (shards : List S) → shards ≡ [] → SoFar grid map_of texts texts 0 shards
   none_read texts shards none = record { before = []; parts = refl; at = refl; read = subst (AreRead grid map_of []) (sym none) tt }
+
+-- a fault of reading is one of a merge, whatever places are named
+pub read_fault : (texts : List (List ℕ)) (is : List ℕ) (e : MergeFault) → first_outside (length texts) is ≡ None → IsReadFault texts e → IsMergeFault texts is e
+read_fault texts is (BadPlan k) none h = absurd h
+read_fault texts is (Text n f) none h = (none, h)
+read_fault texts is (OtherGrid n) none h = absurd h
+read_fault texts is OutOfMemory none h = tt
 
 pub none_mapped : {A B : Type 0} (f : A → B) (xs : List A) → length xs ≡ 0 → map f xs ≡ []
 none_mapped f [] e = refl

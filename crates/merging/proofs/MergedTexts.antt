@@ -1,7 +1,8 @@
 -- The laws of merging, from bytes to bytes.
-use Rattle.std.proofs.Common.{◌≡◌, ℕ, zero, suc, ◌<◌, List, [], ◌∷◌, ◌++◌, length, Bool, true, false, cond, Some, None, refl, sym, ◌∙◌, ap, subst, inl, inr, arith}
-use Rattle.std.specs.Prelude.{nat_lt, slice_get}
-use Rattle.std.proofs.lemmas.Bool.{ltb-true}
+use Rattle.std.proofs.Common.{◌≡◌, ℕ, zero, suc, ◌<◌, List, [], ◌∷◌, ◌++◌, length, Some, None, refl, sym, ◌∙◌, ap, subst, inl, inr, arith}
+use Rattle.std.specs.Prelude.{slice_get}
+use Rattle.std.proofs.lemmas.Option.{slice_get_within}
+use Rattle.theory.specs.Lists.{Has}
 use Rattle.grid.specs.Place.{Transform}
 use Rattle.shapes.specs.Maps.{Layers}
 use Rattle.lines.specs.Positions.{position_total, position_same}
@@ -16,15 +17,16 @@ use Rattle.topo_io.specs.Canon.{canon}
 use Rattle.topo_io.specs.Means.{Means}
 use Rattle.topo_io.specs.Roots.{layers_of_text}
 use Rattle.reading.proofs.Plains.{layers_once}
-use Rattle.plans.specs.declared.plan.Plan.{Plan}
-use Rattle.plans.specs.declared.plan.Plan.TheVariants.{Leaf, Node'}
-use Rattle.plans.specs.Leaves.{leaves, first_outside}
+use Rattle.merging.specs.declared.plan.Plan.{Plan}
+use Rattle.merging.specs.Leaves.{leaves, first_outside}
 use Rattle.merging.specs.Plans.{union_at}
-use Rattle.merging.specs.Alike.{IsIn, Names}
-use Rattle.merging.specs.Merge.{AreMeant, IsMergeOf}
-use Rattle.merging.specs.MergeLaws.{MergeOfAllMeanings, MergesAlike, OneCanon, MergeOfOneText, SegmentsOfMergeOnce}
+use Rattle.merging.specs.Alike.{IsIn, Names, NameTheSame}
+use Rattle.merging.specs.Merge.{all_places, AreMeant, IsMergeOf}
+use Rattle.merging.specs.MergeLaws.{MergeOfAllAlike, MergeOfAllMeanings, MergesAlike, OneCanon, MergeOfOneText, SegmentsOfMergeOnce}
 use Rattle.merging.specs.Laws.{union_empty}
 use Rattle.merging.proofs.AlikeLemmas.{plans_alike}
+use Rattle.merging.proofs.LeafLemmas.{inside, some_leaf}
+use Rattle.merging.proofs.MarkLemmas.{in_range}
 
 pub same_grids : (t : List ℕ) (g h : Transform) (m n : Layers) → Means t g m → Means t h n → g ≡ h
 same_grids t g h m n a b = a.grid ∙ sym b.grid
@@ -55,26 +57,6 @@ map_at g [] (n ∷ ns) h i t e = absurd h
 map_at g (u ∷ ts) [] h i t e = absurd h
 map_at g (u ∷ ts) (n ∷ ns) h zero t e = let same : u ≡ t = cc in (n, refl, subst (λ w. Means w g n) same h.0)
 map_at g (u ∷ ts) (n ∷ ns) h (suc i) t e = map_at g ts ns h.1 i t e
-
--- ---- leaves
-
-pub some_leaf : (p : Plan) → (i : ℕ) × IsIn i (leaves p)
-some_leaf (Leaf i) = (i, inl refl)
-some_leaf (Node' p left q right) = let (i, h) = some_leaf left in (i, further (leaves left) (leaves right) i h)
-  where
-    further : (is js : List ℕ) (i : ℕ) → IsIn i is → IsIn i (is ++ js)
-    further [] js i h = absurd h
-    further (k ∷ ks) js i (inl e) = inl e
-    further (k ∷ ks) js i (inr h) = inr (further ks js i h)
-
-pub inside : (n : ℕ) (is : List ℕ) (i : ℕ) → first_outside n is ≡ None → IsIn i is → i < n
-inside n [] i none h = absurd h
-inside n (j ∷ js) i none h = go (nat_lt j n) refl none (inside n js i) h
-  where
-    go : (b : Bool) → nat_lt j n ≡ b → cond b (first_outside n js) (Some j) ≡ None → (first_outside n js ≡ None → IsIn i js → i < n) → IsIn i (j ∷ js) → i < n
-    go true low e rest (inl same) = subst (λ k. k < n) (sym same) (ltb-true j n low)
-    go true low e rest (inr k) = rest e k
-    go false low e rest k = absurd cc
 
 present : {A : Type 0} (xs : List A) (i : ℕ) → i < length xs → (x : A) × (slice_get xs i ≡ Some x)
 present [] i lt = absurd (omega arith)
@@ -107,18 +89,44 @@ grids_of_named g h ts us ms ns is js t a b (i, w, e) (j, v, k) =
 places_of_maps : (g : Transform) (ts : List (List ℕ)) (ms : List Layers) (is : List ℕ) → AreMeant ts g ms → first_outside (length ts) is ≡ None → first_outside (length ms) is ≡ None
 places_of_maps g ts ms is a none = ap (λ n. first_outside n is) (sym (meant_length g ts ms a)) ∙ none
 
-pub merges_alike : MergesAlike
-merges_alike ts us p q t u x y same =
-    let (w, named) = named_text ts p t x in
-    let grid : x.grid ≡ y.grid = grids_of_named x.grid y.grid ts us x.maps y.maps (leaves p) (leaves q) w x.meant y.meant named ((same w).0 named) in
-    let union : union_at x.maps (leaves p) ≡ union_at y.maps (leaves q) =
-    plans_alike x.maps y.maps (leaves p) (leaves q)
-    (places_of_maps x.grid ts x.maps (leaves p) x.meant x.places) (places_of_maps y.grid us y.maps (leaves q) y.meant y.places)
+-- lists of places at which the same texts are, at least one
+merged_alike : (ts us : List (List ℕ)) (is js t u w : List ℕ) → Names ts is w → IsMergeOf ts is t → IsMergeOf us js u → NameTheSame ts is us js → t ≡ u
+merged_alike ts us is js t u w named x y same =
+    let grid : x.grid ≡ y.grid = grids_of_named x.grid y.grid ts us x.maps y.maps is js w x.meant y.meant named ((same w).0 named) in
+    let union : union_at x.maps is ≡ union_at y.maps js =
+    plans_alike x.maps y.maps is js
+    (places_of_maps x.grid ts x.maps is x.meant x.places) (places_of_maps y.grid us y.maps js y.meant y.places)
     (λ m. (
-      one_way x.grid y.grid ts us x.maps y.maps (leaves p) (leaves q) x.meant y.meant (λ v. (same v).0) m,
-      one_way y.grid x.grid us ts y.maps x.maps (leaves q) (leaves p) y.meant x.meant (λ v. (same v).1) m,
+      one_way x.grid y.grid ts us x.maps y.maps is js x.meant y.meant (λ v. (same v).0) m,
+      one_way y.grid x.grid us ts y.maps x.maps js is y.meant x.meant (λ v. (same v).1) m,
     )) in
     x.text ∙ (λ i. canon (grid i) (union i)) ∙ sym y.text
+
+pub merges_alike : MergesAlike
+merges_alike ts us p q t u x y same = let (w, named) = named_text ts p t x in merged_alike ts us (leaves p) (leaves q) t u w named x y same
+
+-- ---- all places
+
+place_of : {A : Type 0} (xs : List A) (x : A) → Has x xs → (i : ℕ) × (slice_get xs i ≡ Some x)
+place_of [] x h = absurd h
+place_of (y ∷ ys) x (inl e) = (0, ap Some (sym e))
+place_of (y ∷ ys) x (inr h) = let (i, e) = place_of ys x h in (suc i, e)
+
+has_at : {A : Type 0} (xs : List A) (x : A) (i : ℕ) → slice_get xs i ≡ Some x → Has x xs
+has_at [] x i e = absurd cc
+has_at (y ∷ ys) x zero e = let same : x ≡ y = cc in inl same
+has_at (y ∷ ys) x (suc i) e = inr (has_at ys x i e)
+
+all_named : {A : Type 0} (xs : List A) (x : A) → Has x xs → Names xs (all_places xs) x
+all_named xs x h =
+    let (i, e) = place_of xs x h in
+    (i, in_range 0 (length xs) i (omega arith) (let lt = slice_get_within xs i x e in omega (arith, lt)), e)
+
+pub merge_of_all_alike : MergeOfAllAlike
+merge_of_all_alike ts us p t u x y same =
+    let (w, named) = named_text us p u y in
+    merged_alike ts us (all_places ts) (leaves p) t u w (all_named ts w ((same w).1 named)) x y
+    (λ v. (λ (i, within, e). (same v).0 (has_at ts v i e), λ k. all_named ts v ((same v).1 k)))
 
 pub merge_of_all_meanings : MergeOfAllMeanings
 merge_of_all_meanings ts p t x g ms meant =

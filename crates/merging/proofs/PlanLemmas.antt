@@ -10,9 +10,9 @@ use Rattle.shapes.specs.Union.{union}
 use Rattle.std.specs.Ordering.{int_eq}
 use Rattle.merging.specs.Laws.{union_commutes, union_associates, union_empty}
 use Rattle.merging.specs.Meaning.{same_grid, same_scaling}
-use Rattle.plans.specs.declared.plan.Plan.{Plan}
-use Rattle.plans.specs.declared.plan.Plan.TheVariants.{Leaf, Node'}
-use Rattle.plans.specs.Leaves.{HasPlaces}
+use Rattle.merging.specs.declared.plan.Plan.{Plan}
+use Rattle.merging.specs.declared.plan.Plan.TheVariants.{Leaf, Node'}
+use Rattle.merging.specs.Leaves.{HasPlaces}
 use Rattle.merging.specs.Plans.{union_all, union_at, off_grid, first_other}
 use Rattle.std.specs.Prelude.{not, ◌&&◌}
 use Rattle.std.specs.List.{position_or_len}

@@ -8,14 +8,14 @@ use Rattle.shapes.specs.Maps.{Layers}
 use Rattle.shapes.specs.Union.{union}
 use Rattle.merging.specs.declared.fault.JoinFault.{JoinFault}
 use Rattle.merging.specs.declared.fault.JoinFault.TheVariants.{OtherGrid, OutOfMemory}
-use Rattle.plans.specs.declared.plan.Plan.{Plan}
-use Rattle.plans.specs.declared.plan.Plan.TheVariants.{Leaf}
-use Rattle.merging.specs.declared.running.Task.{Task}
-use Rattle.merging.specs.declared.running.Task.TheVariants.{Run, Join}
-use Rattle.plans.specs.Leaves.{leaves, HasPlaces}
+use Rattle.merging.specs.declared.plan.Plan.{Plan}
+use Rattle.merging.specs.declared.plan.Plan.TheVariants.{Leaf}
+use Rattle.merging.specs.declared.plan.running.Task.{Task}
+use Rattle.merging.specs.declared.plan.running.Task.TheVariants.{Run, Join}
+use Rattle.merging.specs.Leaves.{leaves, HasPlaces}
 use Rattle.merging.specs.Plans.{union_at}
 use Rattle.merging.specs.Running.{LastJoined}
-use Rattle.plans.proofs.PlanSizes.{size}
+use Rattle.merging.proofs.PlanSizes.{size}
 use Rattle.merging.proofs.PlanLemmas.{union_at-append}
 
 -- less for the tasks that a task is taken apart into

@@ -11,14 +11,14 @@ use Rattle.shapes.specs.Maps.{Layers}
 use Rattle.shapes.specs.Union.{union}
 use Rattle.topo_io.specs.Canon.{canon}
 use Rattle.topo_io.specs.Means.{Means}
-use Rattle.plans.specs.Leaves.{leaves, first_outside}
+use Rattle.merging.specs.Leaves.{leaves, first_outside}
 use Rattle.merging.specs.Plans.{union_at}
 use Rattle.merging.specs.Laws.{union_empty}
-use Rattle.plans.specs.declared.plan.Plan.{Plan}
+use Rattle.merging.specs.declared.plan.Plan.{Plan}
 use Rattle.merging.specs.Merge.{AreMeant, IsMergeOf, MeansUnion}
 use Rattle.merging.specs.MergeLaws.{instead, through, MergesThroughTexts}
 use Rattle.merging.proofs.UnionFits.{union_at_fits}
-use Rattle.plans.proofs.LeafLemmas.{first_outside-append}
+use Rattle.merging.proofs.LeafLemmas.{first_outside-append}
 use Rattle.merging.proofs.PlanLemmas.{union_at-append}
 use Rattle.merging.proofs.MergedTexts.{same_grids, same_maps, meant_length}
 

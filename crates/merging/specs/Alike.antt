@@ -1,7 +1,7 @@
 -- Plans that name the same maps or texts.
 use Rattle.std.specs.Prelude.{◌≡◌, ℕ, ◌↔◌, ◌⊎◌, List, [], ◌∷◌, Some, None, length, slice_get}
 use Rattle.shapes.specs.Maps.{Layers}
-use Rattle.plans.specs.Leaves.{first_outside}
+use Rattle.merging.specs.Leaves.{first_outside}
 use Rattle.merging.specs.Plans.{union_at}
 
 -- the number is in the list

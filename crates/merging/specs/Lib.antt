@@ -1,5 +1,8 @@
 pub mod Meaning
 pub mod Laws
+pub mod Leaves
+pub mod Groupings
+pub mod Naming
 pub mod Plans
 pub mod Running
 pub mod Alike

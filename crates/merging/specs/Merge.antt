@@ -1,5 +1,6 @@
 -- What a merge of texts answers.
 use Rattle.std.specs.Prelude.{◌≡◌, ℕ, Bool, List, [], Some, None, length, map, All}
+use Rattle.std.specs.List.{range_with_len}
 use Rattle.std.specs.declared.vec.Vec.{Vec}
 use Rattle.std.specs.declared.alloc.Global.{Global}
 use Rattle.faults.specs.Fault.{IsWant}
@@ -11,8 +12,8 @@ use Rattle.reading.specs.Fault.{LeastOrWant}
 use Rattle.reading.specs.FirstRefused.{IsFirstRefused}
 use Rattle.merging.specs.declared.fault.MergeFault.{MergeFault}
 use Rattle.merging.specs.declared.fault.MergeFault.TheVariants.{BadPlan, Text, OtherGrid, OutOfMemory}
-use Rattle.plans.specs.Naming.{kept}
-use Rattle.plans.specs.Leaves.{first_outside}
+use Rattle.merging.specs.Naming.{kept}
+use Rattle.merging.specs.Leaves.{first_outside}
 use Rattle.merging.specs.Plans.{first_other, union_at}
 use Rattle.topo_io.specs.Canon.{canon}
 use Rattle.topo_io.specs.Means.{Means}
@@ -21,6 +22,10 @@ use Rattle.topo_io.specs.Roots.{faults_of_text, grid_of_text}
 -- the bytes of each text
 abbrev pub bytes_of : List (Vec ℕ Global) → List (List ℕ)
 bytes_of texts = map (λ t. t.items) texts
+
+-- the places of all items of a list
+abbrev pub all_places : {A : Type 0} → List A → List ℕ
+all_places xs = range_with_len 0 (length xs)
 
 -- none of the texts has a fault
 abbrev pub AreAccepted : List (List ℕ) → Type 0

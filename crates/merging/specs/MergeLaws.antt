@@ -1,16 +1,17 @@
 -- The laws of merging, from bytes to bytes.
-use Rattle.std.specs.Prelude.{◌≡◌, ℕ, zero, suc, ◌+◌, List, [], ◌∷◌, ◌++◌, length}
+use Rattle.std.specs.Prelude.{◌≡◌, ◌↔◌, ℕ, zero, suc, ◌+◌, List, [], ◌∷◌, ◌++◌, length}
 use Rattle.grid.specs.Place.{Transform}
 use Rattle.shapes.specs.Maps.{Layers}
 use Rattle.chains.specs.Seen.{geometry_of}
 use Rattle.theory.specs.Arcs.{EachSegmentOnce}
+use Rattle.theory.specs.Lists.{Has}
 use Rattle.topo.specs.OfMap.{the_topology}
 use Rattle.topo_io.specs.Canon.{canon}
 use Rattle.topo_io.specs.Means.{Means}
-use Rattle.plans.specs.declared.plan.Plan.{Plan}
-use Rattle.plans.specs.Leaves.{leaves}
+use Rattle.merging.specs.declared.plan.Plan.{Plan}
+use Rattle.merging.specs.Leaves.{leaves}
 use Rattle.merging.specs.Alike.{Names, NameTheSame}
-use Rattle.merging.specs.Merge.{AreMeant, IsMergeOf, MeansUnion}
+use Rattle.merging.specs.Merge.{all_places, AreMeant, IsMergeOf, MeansUnion}
 use Rattle.merging.specs.Plans.{union_at}
 
 -- whatever grid and maps the texts mean, the merged text is the canonical text of the union of the named maps
@@ -22,6 +23,12 @@ abbrev pub MergesAlike : Type 0
 MergesAlike =
     (texts others : List (List ℕ)) (p q : Plan) (t u : List ℕ) → IsMergeOf texts (leaves p) t → IsMergeOf others (leaves q) u →
     NameTheSame texts (leaves p) others (leaves q) → t ≡ u
+
+-- all texts of a list give the bytes of each plan that names the same texts, in any order, with repeats and in any grouping
+abbrev pub MergeOfAllAlike : Type 0
+MergeOfAllAlike =
+    (texts others : List (List ℕ)) (p : Plan) (t u : List ℕ) → IsMergeOf texts (all_places texts) t → IsMergeOf others (leaves p) u →
+    ((x : List ℕ) → Has x texts ↔ Names others (leaves p) x) → t ≡ u
 
 -- the text is the canonical text of what the other means
 pub record IsCanonOf (text t : List ℕ) : Type 0 where

@@ -6,7 +6,7 @@ use Rattle.grid.specs.Place.{Transform}
 use Rattle.shapes.specs.Maps.{Layers}
 use Rattle.shapes.specs.Union.{union}
 use Rattle.merging.specs.Meaning.{same_grid}
-use Rattle.plans.specs.Leaves.{first_outside}
+use Rattle.merging.specs.Leaves.{first_outside}
 use Rattle.merging.specs.declared.fault.PlanFault.{PlanFault}
 use Rattle.merging.specs.declared.fault.PlanFault.TheVariants.{BadPlan, OtherGrid}
 

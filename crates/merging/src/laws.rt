@@ -1,6 +1,6 @@
 //! The laws of merging, as contracts of functions that do nothing.
 ghost use Rattle.merging.specs.Alike.{PlansAlike};
-ghost use Rattle.merging.specs.MergeLaws.{MergeOfAllMeanings, MergesAlike, MergeOfOneText, MergesThroughTexts, OneCanon, SegmentsOfMergeOnce};
+ghost use Rattle.merging.specs.MergeLaws.{MergeOfAllAlike, MergeOfAllMeanings, MergesAlike, MergeOfOneText, MergesThroughTexts, OneCanon, SegmentsOfMergeOnce};
 
 /// Plans that name the same maps, in any order, with repeats and in any grouping, give the same union.
 pub fn plans_alike()
@@ -17,6 +17,12 @@ pub fn merge_of_all_meanings()
 /// merging is commutative and associative on bytes.
 pub fn merges_alike()
     ensures { MergesAlike }
+{}
+
+/// All texts of a list give the bytes of each plan that names the same texts, over any list, in any order,
+/// with repeats and in any grouping.
+pub fn merge_of_all_alike()
+    ensures { MergeOfAllAlike }
 {}
 
 /// A merged text merged with others gives the bytes of the one plan over all texts.

@@ -1,4 +1,4 @@
-//! Merging shards: a shard is a grid and a map of features, a plan says which are joined and in what
+//! Merging shards: a shard is a grid and a map of features, a plan says which shards are joined and in what
 //! grouping. What is here holds for every kind of shard.
 #![tactic(auto)]
 
@@ -8,10 +8,9 @@ pub mod laws;
 pub mod merge;
 mod placing;
 pub mod plan;
-mod running;
 pub mod shard;
 
 pub use fault::{JoinFault, MergeFault, PlanFault};
-pub use merge::{merge_as, merge_shards};
-pub use plan::run_plan;
+pub use merge::{merge_all, merge_as};
+pub use plan::{Plan, first_bad_leaf, named_places, run_plan};
 pub use shard::Shard;

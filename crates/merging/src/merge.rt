@@ -1,19 +1,19 @@
 //! Merging texts of topologies.
-ghost use Rattle.merging.specs.Merge.{bytes_of, AreKept, IsFaultOf, IsGridOf, IsReadFault, IsRefusalOf, IsMergeFault, IsMergeOf, IsUnionOf, MeansUnion};
+ghost use Rattle.merging.specs.Leaves.{leaves, first_outside};
+ghost use Rattle.merging.specs.Merge.{all_places, bytes_of, AreKept, IsFaultOf, IsGridOf, IsReadFault, IsRefusalOf, IsMergeFault, IsMergeOf, IsUnionOf, MeansUnion};
+ghost use Rattle.merging.specs.Naming.{AreMarksOf};
 ghost use Rattle.merging.specs.Plans as stated;
 ghost use Rattle.merging.specs.Plans.{off_grid};
 ghost use Rattle.merging.specs.declared.fault.MergeFault.TheVariants.{BadPlan};
-ghost use Rattle.plans.specs.Leaves.{leaves, first_outside};
-ghost use Rattle.std.specs.Prelude.{◌≡◌, ℕ, IfOk, IfErr, Some, None, Err, length, map};
+ghost use Rattle.std.specs.Prelude.{◌≡◌, ◌<◌, ℕ, List, IfOk, IfErr, MatchOption, Some, Err, length, map};
 ghost use Rattle.topo_io.specs.Means.{Means};
 
 use crate::fault::MergeFault;
 use crate::joining::join_all;
-use crate::plan::same_grid;
-use crate::shard::Shard;
+use crate::plan::{Plan, first_bad_leaf, named_places};
+use crate::shard::{Shard, same_grid};
 use faults::{Fault, FaultKind};
 use grid::transform::Grid;
-use plans::{Plan, first_bad_leaf, named_places};
 use std::alloc::{AllocError, Global};
 use std::convert::AsSlice;
 
@@ -50,7 +50,7 @@ fn read_grid(alloc: Global, number: usize, text: &[u8]) -> Result<Grid, MergeFau
 }
 
 // The grids of texts, in their order, and the shards of those that are marked. Of a text that is not marked only the
-// grid is kept. Each text is given up once it is read.
+// grid is kept. Each text is dropped once it is read.
 fn read_marked<S: Shard, T: AsSlice<u8> + Drop>(
     alloc: Global,
     texts: Vec<T>,
@@ -108,18 +108,18 @@ fn lent(alloc: Global, texts: &[Vec<u8>]) -> Result<Vec<&Vec<u8>>, AllocError>
     texts.iter().collect(alloc)
 }
 
-// The shard of the union of the features of the texts that the plan names, all of which are places.
-fn merge_places<S: Shard, T: AsSlice<u8> + Drop>(
+// The shard of the union of the features of the texts whose marks are set, joined by halves in the order of their
+// places. Each text is dropped once it is read.
+fn merge_marked<S: Shard, T: AsSlice<u8> + Drop>(
     alloc: Global,
     texts: Vec<T>,
-    plan: &Plan,
+    marks: &[bool],
 ) -> Result<S, MergeFault>
-    requires places { first_outside (length texts.items) (leaves plan.now) ≡ None }
-    ensures fault { IfErr result (IsMergeFault (map T.items texts.items) (leaves plan.now)) }
-    ensures merged { IfOk result (λ s. IsUnionOf (map T.items texts.items) (leaves plan.now) (S.grid_of s) (S.map_of s)) }
+    requires marked { (is : List ℕ) × (0 < length is) × AreMarksOf (length texts.items) is marks.now }
+    ensures fault { (is : List ℕ) → AreMarksOf (length texts.items) is marks.now → IfErr result (IsMergeFault (map T.items texts.items) is) }
+    ensures merged { (is : List ℕ) → AreMarksOf (length texts.items) is marks.now → IfOk result (λ s. IsUnionOf (map T.items texts.items) is (S.grid_of s) (S.map_of s)) }
 {
-    let named = named_places(alloc, plan, texts.len())?;
-    let (grids, shards): (Vec<Grid>, Vec<S>) = read_marked(alloc, texts, &named)?;
+    let (grids, shards): (Vec<Grid>, Vec<S>) = read_marked(alloc, texts, marks)?;
     if let Some(number) = first_other(&grids) {
         return Err(MergeFault::OtherGrid(number));
     }
@@ -129,35 +129,34 @@ fn merge_places<S: Shard, T: AsSlice<u8> + Drop>(
     }
 }
 
-/// The shard of the union of the features of the texts that the plan names. These are joined each once,
-/// by halves and in the order of their places, whatever the plan's order and grouping, which make no
-/// difference to what the shard means. Each text is given up once it is read.
+/// The shard of the union of the features of all texts; `None` exactly where there is no text. They are joined by
+/// halves, in the order of their places, whatever their order in the list, which makes no difference to what the shard
+/// means. Each text is dropped once it is read.
+///
+/// # Errors
+/// `Text` with the first text of the list that is refused, and its least fault; otherwise `OtherGrid` with the first
+/// text whose transform differs from that of text 0.
+pub fn merge_all<S: Shard>(alloc: Global, texts: Vec<Vec<u8>>) -> Result<Option<S>, MergeFault>
+    ensures fault { IfErr result (IsMergeFault (bytes_of texts.items) (all_places texts.items)) }
+    ensures merged { IfOk result (λ o. MatchOption o (length texts.items ≡ 0) (λ s. IsUnionOf (bytes_of texts.items) (all_places texts.items) (S.grid_of s) (S.map_of s))) }
+{
+    if texts.is_empty() {
+        return Ok(None);
+    }
+    let marks = vec![in alloc; true; texts.len()]?;
+    let shard = merge_marked(alloc, texts, &marks)?;
+    Ok(Some(shard))
+}
+
+/// The canonical text of the union of the features of the texts that the plan names, merged over shards of a chosen
+/// kind. Each is joined once, by halves and in the order of their places, whatever the plan's order and grouping, which
+/// make no difference to the text. The texts stay.
 ///
 /// # Errors
 /// `BadPlan` with the first leaf from the left that is no place of the list; otherwise `Text` with
 /// the first text of the list that is refused, and its least fault; otherwise `OtherGrid` with the
 /// first text whose transform differs from that of text 0. All texts are read, also those that the
 /// plan does not name.
-pub fn merge_shards<S: Shard>(
-    alloc: Global,
-    texts: Vec<Vec<u8>>,
-    plan: &Plan,
-) -> Result<S, MergeFault>
-    ensures bad_plan { (k : ℕ) → first_outside (length texts.items) (leaves plan.now) ≡ Some k → result ≡ Err (BadPlan k) }
-    ensures fault { IfErr result (IsMergeFault (bytes_of texts.items) (leaves plan.now)) }
-    ensures merged { IfOk result (λ s. IsUnionOf (bytes_of texts.items) (leaves plan.now) (S.grid_of s) (S.map_of s)) }
-{
-    if let Some(leaf) = first_bad_leaf(alloc, plan, texts.len()) {
-        return Err(MergeFault::BadPlan(leaf));
-    }
-    merge_places(alloc, texts, plan)
-}
-
-/// The canonical text of the union of the features of the texts that the plan names, merged over
-/// shards of a chosen kind, as `merge_shards` does. The texts stay.
-///
-/// # Errors
-/// Those of `merge_shards`.
 pub fn merge_as<S: Shard>(
     alloc: Global,
     texts: &[Vec<u8>],
@@ -171,6 +170,7 @@ pub fn merge_as<S: Shard>(
     if let Some(leaf) = first_bad_leaf(alloc, plan, texts.len()) {
         return Err(MergeFault::BadPlan(leaf));
     }
-    let shard: S = merge_places(alloc, lent(alloc, texts)?, plan)?;
-    Ok(shard.into_text(alloc)?)
+    let marks = named_places(alloc, plan, texts.len())?;
+    let shard: S = merge_marked(alloc, lent(alloc, texts)?, &marks)?;
+    Ok(shard.text(alloc)?)
 }

@@ -1,65 +1,81 @@
-//! Running a plan over a list of shards.
-ghost use Rattle.merging.specs.Meaning as meaning;
-ghost use Rattle.merging.specs.Plans.{first_other, off_grid, union_at, plan_fault};
-ghost use Rattle.merging.specs.declared.fault.PlanFault.TheVariants.{OutOfMemory};
-ghost use Rattle.merging.specs.declared.fault.PlanFault.{PlanFault};
-ghost use Rattle.plans.specs.Leaves.{leaves};
-ghost use Rattle.std.specs.Prelude.{◌≡◌, ◌⊎◌, All, IfOk, IfErr, None, Some, Err, map};
+//! Plans: which shards of a list are joined, and in what grouping.
+ghost use Rattle.merging.specs.Leaves.{leaves, first_outside};
+ghost use Rattle.std.specs.Prelude.{◌≡◌};
 
-use crate::fault::PlanFault;
-use crate::running::join_leaves;
-use crate::shard::Shard;
-use grid::transform::Grid;
-use plans::{Plan, first_bad_leaf};
+pub mod grouping;
+pub mod naming;
+pub mod running;
+
+pub use naming::named_places;
+pub use running::run_plan;
 use std::alloc::Global;
+use std::mem;
 
-/// Whether two grids have the same numbers.
-pub fn same_grid(these: &Grid, those: &Grid) -> bool
-    ensures { result ≡ meaning.same_grid these.now those.now }
-{
-    these == those
+/// Which places of a list of shards are joined, from left to right, and in what grouping. A plan of
+/// any depth is run and given up without a call for each level of it.
+pub enum Plan {
+    /// The shard at a place of the list.
+    Leaf(usize),
+    /// The join of what two plans give.
+    Node(Box<Plan>, Box<Plan>),
 }
 
-fn first_off_grid<S: Shard>(shards: &[S], grid: Grid) -> Option<usize>
-    ensures { result ≡ off_grid S.grid_of grid shards.now }
-{
-    shards
-        .iter()
-        .position(|shard| !same_grid(&shard.grid(), &grid))
-}
-
-// The number of the first shard that is on another grid than shard 0.
-fn first_other_grid<S: Shard>(shards: &[S]) -> Option<usize>
-    ensures { result ≡ first_other S.grid_of shards.now }
-{
-    let Some(first) = shards.first() else {
-        return None;
-    };
-    first_off_grid(shards, first.grid())
-}
-
-/// Joins the shards that the plan names, in its grouping.
-///
-/// # Errors
-/// `BadPlan` with the first leaf from the left that is no place of the list; otherwise `OtherGrid`
-/// with the number of the first shard of the list, named or not, whose grid differs from shard 0's.
-pub fn run_plan<S: Shard>(alloc: Global, shards: &[S], plan: &Plan) -> Result<S, PlanFault>
-    ensures refused { (f : PlanFault) → plan_fault S.grid_of shards.now (leaves plan.now) ≡ Some f → result ≡ Err f }
-    ensures faults { IfErr result (λ f. (f ≡ OutOfMemory) ⊎ (plan_fault S.grid_of shards.now (leaves plan.now) ≡ Some f)) }
-    ensures grid { IfOk result (λ s. All (λ t. S.grid_of t ≡ S.grid_of s) shards.now) }
-    ensures map { IfOk result (λ s. S.map_of s ≡ union_at (map S.map_of shards.now) (leaves plan.now)) }
-{
-    if let Some(leaf) = first_bad_leaf(alloc, plan, shards.len()) {
-        return Err(PlanFault::BadPlan(leaf));
+impl Drop for Plan {
+    // Turns a plan to the right until its left plan is a leaf, gives that up, and goes on with the right plan.
+    // So no call goes down the plan, and no memory is asked for.
+    fn drop(mut self) {
+        loop {
+            match self {
+                Plan::Leaf(_) => return,
+                Plan::Node(mut left, mut right) => {
+                    if let Plan::Node(first, second) = &mut *left {
+                        mem::swap(first, second);
+                        mem::swap(second, &mut right);
+                        self = Plan::Node(right, left);
+                    } else {
+                        self = Box::into_inner(left);
+                        let Plan::Leaf(_) = self else {
+                            unreachable!();
+                        };
+                        self = Box::into_inner(right);
+                    }
+                }
+            }
+        }
     }
-    if let Some(number) = first_other_grid(shards) {
-        return Err(PlanFault::OtherGrid(number));
-    }
-    let Some(first) = shards.first() else {
-        return Err(PlanFault::BadPlan(0));
-    };
-    match join_leaves(alloc, shards, first.grid(), plan) {
-        Ok(shard) => Ok(shard),
-        Err(_) => Err(PlanFault::OutOfMemory),
+}
+
+/// The first leaf from the left that is no place of a list of `count`.
+// It looks at the plan from the right; what waits on the left stands on the heap. Only where memory for that is refused
+// is the right told by a call.
+pub fn first_bad_leaf(alloc: Global, plan: &Plan, count: usize) -> Option<usize>
+    ensures first { result ≡ first_outside count (leaves plan.now) }
+{
+    let mut waiting = Vec::new(alloc);
+    let mut rest = plan;
+    let mut found = None;
+    loop {
+        match rest {
+            Plan::Leaf(place) => {
+                if *place >= count {
+                    found = Some(*place);
+                }
+                let Some(before) = waiting.pop() else {
+                    return found;
+                };
+                rest = before;
+            }
+            Plan::Node(left, right) => match &**left {
+                Plan::Leaf(place) if *place < count => rest = right,
+                Plan::Leaf(_) => rest = left,
+                Plan::Node(..) => match waiting.push(&**left) {
+                    Ok(()) => rest = right,
+                    Err(_) => {
+                        found = first_bad_leaf(alloc, right, count).or(found);
+                        rest = left;
+                    }
+                },
+            },
+        }
     }
 }

@@ -1,5 +1,6 @@
 //! What a merge needs of a shard.
 ghost use Rattle.grid.specs.Place.{Transform};
+ghost use Rattle.merging.specs.Meaning as meaning;
 ghost use Rattle.merging.specs.Meaning.{Commutes, Associates, IsIdempotent};
 ghost use Rattle.merging.specs.declared.fault.JoinFault.TheVariants.{OtherGrid};
 ghost use Rattle.reading.specs.Fault.{LeastOrWant};
@@ -12,10 +13,17 @@ ghost use Rattle.topo_io.specs.Means.{Means};
 ghost use Rattle.topo_io.specs.Roots.{faults_of_text};
 
 use crate::fault::JoinFault;
-use faults::{Fault, FaultKind, OutOfMemory};
+use faults::{Fault, OutOfMemory};
 use grid::transform::Grid;
 use shapes::feature_map::FeatureMap;
 use std::alloc::Global;
+
+/// Whether two grids have the same numbers.
+pub fn same_grid(these: &Grid, those: &Grid) -> bool
+    ensures { result ≡ meaning.same_grid these.now those.now }
+{
+    these == those
+}
 
 /// A shard: a grid and a map of features, kept in one form or another. Each implementation proves
 /// that its join commutes, associates and is idempotent on what shards mean.
@@ -38,14 +46,6 @@ pub trait Shard: Sized + Drop {
         ensures grid { IfOk result (λ s. grid_of s ≡ grid.now) }
         ensures map { IfOk result (λ s. map_of s ≡ map.now) };
 
-    /// `from_map` of a map that is handed over.
-    fn of_map(alloc: Global, grid: &Grid, map: FeatureMap) -> Result<Self, OutOfMemory>
-        ensures grid { IfOk result (λ s. grid_of s ≡ grid.now) }
-        ensures map { IfOk result (λ s. map_of s ≡ map) }
-    {
-        Self::from_map(alloc, grid, &map)
-    }
-
     /// The shard of what a topology's text means (TopoJSON, section 2).
     ///
     /// # Errors
@@ -53,14 +53,7 @@ pub trait Shard: Sized + Drop {
     fn of_text(alloc: Global, bytes: &[u8]) -> Result<Self, Fault>
         ensures ok { OnOk result (faults_of_text bytes.now ≡ []) }
         ensures means { IfOk result (λ s. Means bytes.now (grid_of s) (map_of s)) }
-        ensures err { IfErr result (λ f. LeastOrWant (faults_of_text bytes.now) f) }
-    {
-        let (grid, map) = topo_io::read(alloc, bytes)?;
-        match Self::of_map(alloc, &grid, map) {
-            Ok(shard) => Ok(shard),
-            Err(OutOfMemory) => Err(Fault::here(alloc, FaultKind::OutOfMemory)),
-        }
-    }
+        ensures err { IfErr result (λ f. LeastOrWant (faults_of_text bytes.now) f) };
 
     /// Least x, least y, greatest x and greatest y of the shard's positions, where the shard tells them.
     /// They say no more than in what order shards are best joined.
@@ -94,14 +87,6 @@ pub trait Shard: Sized + Drop {
     fn text(&self, alloc: Global) -> Result<Vec<u8>, OutOfMemory>
         ensures text { IfOk result (λ t. t.items ≡ canon (grid_of self.now) (map_of self.now)) }
         ensures accepted { IfOk result (λ t. MapFits (grid_of self.now) (map_of self.now) → Means t.items (grid_of self.now) (map_of self.now)) };
-
-    /// `text` of a shard that is handed over.
-    fn into_text(self, alloc: Global) -> Result<Vec<u8>, OutOfMemory>
-        ensures text { IfOk result (λ t. t.items ≡ canon (grid_of self) (map_of self)) }
-        ensures accepted { IfOk result (λ t. MapFits (grid_of self) (map_of self) → Means t.items (grid_of self) (map_of self)) }
-    {
-        self.text(alloc)
-    }
 
     ghost commutes: { Commutes joined map_of };
 

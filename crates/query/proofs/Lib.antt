@@ -10,6 +10,8 @@ pub mod Spanning
 pub mod Choosing
 pub mod Holding
 pub mod Asked
+pub mod Classes
+pub mod Values
 pub mod Using
 pub mod Meshing
 pub mod Vertices
@@ -19,3 +21,8 @@ pub mod Parted
 pub mod Wholes
 pub mod LinesLeft
 pub mod Counting
+pub mod LeastSteps
+pub mod Turns
+pub mod Texts
+pub mod OfLayer
+pub mod Lines

@@ -1,5 +1,5 @@
 -- The arcs that the geometries in scope use, and the segments that edges ask for.
-use Rattle.std.proofs.Common.{◌≡◌, ◌↔◌, ◌+◌, ◌++◌, ◌==◌, ℕ, zero, suc, Bool, true, false, cond, List, [], ◌∷◌, length, ◌⊎◌, inl, inr, refl, sym, ap, ◌∙◌, subst, Option, Some, None, slice_get, arith, replicate}
+use Rattle.std.proofs.Common.{◌≡◌, ◌↔◌, ◌<◌, ◌+◌, ◌++◌, ◌==◌, ℕ, zero, suc, Bool, true, false, cond, List, [], ◌∷◌, length, ◌⊎◌, inl, inr, refl, sym, ap, ◌∙◌, subst, Option, Some, None, slice_get, arith, replicate}
 use Rattle.std.specs.Prelude.{IsTrue, not, map as map_list}
 use Rattle.std.specs.Cmp.{tied_itself, upto}
 use Rattle.std.specs.Ordering.{is_gt, ordering_reverse}
@@ -38,6 +38,7 @@ use Rattle.topo.specs.declared.geom.Geom.{Geom}
 use Rattle.topo.proofs.FeatureOrder.{features_stand}
 use Rattle.topo.proofs.Sound.{are_sound}
 use Rattle.topo.proofs.Stitched.{feature_of}
+use Rattle.query.specs.ByProperty.{AreClasses, AreDividing, AreOneValue, Differ, class_uses, value_text, values_of}
 use Rattle.query.specs.EachOnce.{AreEachOnce}
 use Rattle.query.specs.Members.{AreLayersIn, ArePairs, layer_pairs, paired}
 use Rattle.query.specs.Mesh.{Answers, AreSelected, HasSide, InScope, IsGreatestWith, IsLeastWith}
@@ -49,10 +50,16 @@ use Rattle.query.specs.declared.spans.Span.{Span}
 use Rattle.query.specs.declared.uses.Use.{Use}
 use Rattle.query.proofs.Holding.{scope_layers, scope_pairs}
 use Rattle.query.proofs.LayerFeatures.{OfFeature, OfFeatures, form_rings, form_segment, named_features}
-use Rattle.query.proofs.Meshing.{beside_differ, get_less}
+use Rattle.query.proofs.Classes.{classes_from, has_classes}
+use Rattle.query.proofs.Meshing.{beside_differ, get_less, get_map}
 use Rattle.query.proofs.Neighboring.{at_body, body_at}
 use Rattle.query.proofs.Spanning.{Spans, other_number, same_number, span_of}
 use Rattle.query.proofs.UsesOfBodies.{bodies_from, body_from, has_bodies, has_body}
+
+get_below : {A : Type 0} (l : List A) (n : ℕ) → n < length l → (x : A) × (slice_get l n ≡ Some x)
+get_below [] n h = absurd (omega (arith, h))
+get_below (x ∷ l) zero h = (x, refl)
+get_below (x ∷ l) (suc n) h = get_below l n (omega (arith, h))
 
 -- whether the uses have one
 has_use : (k p : ℕ) (us : List Use) → Has (use_at k p) us ⊎ (¬ Has (use_at k p) us)
@@ -403,6 +410,123 @@ module _ (m : Layers) (t : TopologyParts) (of_map : IsOf m t) where
       pub asked_selected : AreSelected (InScope m scope) (Answers edges) segs
       asked_selected = record { only = asked_only; all = asked_all }
 
+    -- the segments at which features differ in a property, where arcs are asked for by the classes of its values
+    module _ (name : List ℕ) (cs : List ℕ) (classed : AreClasses (values_of name gs) cs) (segs : List Segment)
+        (has : HasArcs t.arcs.arcs (numbers_from Interior 0 (with_uses (replicate (length t.arcs.arcs) None) (class_uses cs gs))) segs) where
+      abbrev class_spans : List (Option Span)
+      class_spans = with_uses (replicate (length t.arcs.arcs) None) (class_uses cs gs)
+
+      abbrev ClassAt : ℕ → ℕ → Type 0
+      ClassAt k q = Has (use_at k q) (class_uses cs gs)
+
+      value_at : (n : ℕ) (g : Geom) → slice_get gs n ≡ Some g → slice_get (values_of name gs) n ≡ Some (value_text name g.props)
+      value_at n g at = get_map (λ h. value_text name h.props) gs n g at
+
+      class_of : (n : ℕ) (g : Geom) → slice_get gs n ≡ Some g → (c : ℕ) × (slice_get cs n ≡ Some c)
+      class_of n g at =
+          let less = get_less (values_of name gs) n (value_text name g.props) (value_at n g at) in
+          get_below cs n (subst (λ m. n < m) (sym classed.each) less)
+
+      -- the geometry at a place is of a feature in scope
+      of_place : (n : ℕ) (g : Geom) → slice_get gs n ≡ Some g → (f : Feature) × Has (f, g.body) pairs × OfFeature m t of_map f g
+      of_place n g at =
+          let (l, layer, within) = gathered_from (λ l. l.geometries) ls g (each.only g (get_has gs n g at)) in
+          let (f, beside, of_feature) = body_pair (set.items (features_at m (spelled_text l.name))) l.geometries (layer_features l layer) g within in
+          (f, Has-gathered (layer_pairs m) ls l (f, g.body) layer beside, of_feature)
+
+      its_props : (f : Feature) (g : Geom) → OfFeature m t of_map f g → f.props ≡ g.props
+      its_props f g h = ap (λ w. w.1) h.info
+
+      -- whether two features differ is told by the classes of their geometries
+      differ : (i j c d : ℕ) (g h : Geom) (a b : Feature) → slice_get gs i ≡ Some g → slice_get gs j ≡ Some h → slice_get cs i ≡ Some c → slice_get cs j ≡ Some d →
+          OfFeature m t of_map a g → OfFeature m t of_map b h → (¬ (c ≡ d)) ↔ Differ name a b
+      differ i j c d g h a b at at' e f of_a of_b = (
+        (λ n. record {
+          apart = λ q. n (same.1 (inl (one_place i j a (g, at, of_a) (h, at', subst (λ w. OfFeature m t of_map w h) (sym q) of_b))));
+          unlike = λ o. n (same.1 (inr (o.0, value_a ∙ o.1, value_b ∙ o.2)));
+        }),
+        (λ apart q. elim (same.0 q) [
+          | inl k ↦ apart.apart (one_feature i a b (g, at, of_a) (h, subst (λ n. slice_get gs n ≡ Some h) (sym k) at', of_b))
+          | inr o ↦ apart.unlike (o.0, sym value_a ∙ o.1, sym value_b ∙ o.2)
+        ]),
+      )
+        where
+          same : (c ≡ d) ↔ ((i ≡ j) ⊎ AreOneValue (value_text name g.props) (value_text name h.props))
+          same = classed.exact i j c d (value_text name g.props) (value_text name h.props) (value_at i g at) (value_at j h at') e f
+
+          value_a : value_text name g.props ≡ value_text name a.props
+          value_a = ap (value_text name) (sym (its_props a g of_a))
+
+          value_b : value_text name h.props ≡ value_text name b.props
+          value_b = ap (value_text name) (sym (its_props b h of_b))
+
+      class_spanned : (k : ℕ) (c : List Pos) → slice_get t.arcs.arcs k ≡ Some c → (o : Option Span) × (slice_get class_spans k ≡ Some o) × Spans o (ClassAt k)
+      class_spanned k c e = span_of (length t.arcs.arcs) (class_uses cs gs) k (get_less t.arcs.arcs k c e)
+
+      -- a user of an arc, by its class
+      user : (k : ℕ) (c : List Pos) (u v : Pos) → slice_get t.arcs.arcs k ≡ Some c → Beside u v c → (q : ℕ) → ClassAt k q →
+          (n : ℕ) × (g : Geom) × (f : Feature) × (slice_get cs n ≡ Some q) × (slice_get gs n ≡ Some g) × OfFeature m t of_map f g × In f × HasSide u v f
+      user k c u v e side q h =
+          let (n, g, at, there, used) = classes_from cs gs (use_at k q) h in
+          let (f, beside, of_feature) = of_place n g there in
+          (n, g, f, at, there, of_feature, (are.only f g.body beside).0, (has_uses f g.body beside k c u v e side).1 used)
+
+      dividing_only : (u v : Pos) → AmongSegments u v segs → (a : Feature) × (b : Feature) × In a × In b × HasSide u v a × HasSide u v b × Differ name a b
+      dividing_only u v h =
+          let (k, c, there, e, side) = on_arc t.arcs.arcs (numbers_from Interior 0 class_spans) u v ((has u v).0 h) in
+          let (i, w, is, at, asked) = number_has Interior class_spans 0 k there in
+          let (o, here, means) = class_spanned k c e in
+          let number : i ≡ k = omega (arith, is) in
+          let same : Some w ≡ Some o = sym at ∙ ap (slice_get class_spans) number ∙ here in
+          let known : w ≡ o = cc in
+          go k c e (sides_beside c u v side) o means (sym (ap (asks_for Interior) known) ∙ asked)
+        where
+          go : (k : ℕ) (c : List Pos) → slice_get t.arcs.arcs k ≡ Some c → Beside u v c → (o : Option Span) → Spans o (ClassAt k) → asks_for Interior o ≡ true →
+              (a : Feature) × (b : Feature) × In a × In b × HasSide u v a × HasSide u v b × Differ name a b
+          go k c e side None means asked = absurd cc
+          go k c e side (Some s) means asked =
+              let (i, g, a, at, there, of_a, in_a, has_a) = user k c u v e side s.least means.0 in
+              let (j, h, b, at', there', of_b, in_b, has_b) = user k c u v e side s.greatest means.1 in
+              (a, b, in_a, in_b, has_a, has_b, (differ i j s.least s.greatest g h a b there there' at at' of_a of_b).0 ((told_apart s.least s.greatest (s.least ≡ s.greatest) ((λ q. q), λ q. q)).0 asked))
+
+      -- a feature's geometry uses the arc, by its class
+      its_class : (f : Feature) → In f → (k : ℕ) (c : List Pos) (u v : Pos) → slice_get t.arcs.arcs k ≡ Some c → Beside u v c → HasSide u v f →
+          (n : ℕ) × (g : Geom) × (q : ℕ) × (slice_get gs n ≡ Some g) × (slice_get cs n ≡ Some q) × OfFeature m t of_map f g × ClassAt k q
+      its_class f i k c u v e side h =
+          let (d, there) = are.all f i in
+          let (l, layer, beside) = gathered_from (layer_pairs m) ls (f, d) there in
+          let (g, within, is, of_feature) = pair_body (set.items (features_at m (spelled_text l.name))) l.geometries (layer_features l layer) f d beside in
+          let (n, at) = has_get gs g (each.there g (Has-gathered (λ l. l.geometries) ls l g layer within)) in
+          let (q, here) = class_of n g at in
+          let used = subst (λ w. UsesArc k (body_of w)) is ((has_uses f d there k c u v e side).0 h) in
+          (n, g, q, at, here, of_feature, has_classes cs gs n k q g here at used)
+
+      dividing_all : (u v : Pos) (a b : Feature) → In a → In b → HasSide u v a → HasSide u v b → Differ name a b → AmongSegments u v segs
+      dividing_all u v a b in_a in_b has_a has_b apart =
+          let (d, there) = are.all a in_a in
+          let segment = form_segment m a (are.only a d there).1 u v has_a in
+          let (k, c, e, side) = of_map.table.once.in_an_arc u v segment in
+          let (i, g, p, at, here, of_a, used) = its_class a in_a k c u v e side has_a in
+          let (j, h, q, at', here', of_b, used') = its_class b in_b k c u v e side has_b in
+          let (o, found, means) = class_spanned k c e in
+          go k c e side p q ((differ i j p q g h a b at at' here here' of_a of_b).1 apart) used used' o found means
+        where
+          number : (k : ℕ) → 0 + k ≡ k
+          number k = omega arith
+
+          go : (k : ℕ) (c : List Pos) → slice_get t.arcs.arcs k ≡ Some c → Beside u v c → (p q : ℕ) → ¬ (p ≡ q) → ClassAt k p → ClassAt k q → (o : Option Span) →
+              slice_get class_spans k ≡ Some o → Spans o (ClassAt k) → AmongSegments u v segs
+          go k c e side p q apart used used' None here means = absurd (means p used)
+          go k c e side p q apart used used' (Some s) here means =
+              let wide : ¬ (s.least ≡ s.greatest) = λ w. let (l, g) = means.2 p used in let (l', g') = means.2 q used' in apart (omega (arith, w, l, g, l', g')) in
+              let asked = (told_apart s.least s.greatest (s.least ≡ s.greatest) ((λ r. r), λ r. r)).1 wide in
+              (has u v).1 (arc_on t.arcs.arcs (numbers_from Interior 0 class_spans) u v k c
+              (subst (λ j. Has j (numbers_from Interior 0 class_spans)) (number k) (has_number Interior class_spans 0 k (Some s) here asked)) e
+              (beside_sides c u v (beside_differ c (of_map.table.once.one_place c (get_has t.arcs.arcs k c e)) u v side) side))
+
+      pub are_dividing : AreDividing (InScope m scope) name segs
+      are_dividing = record { only = dividing_only; all = dividing_all }
+
 -- in the form of the code
 pub borders_selected : (m : Layers) (t : TopologyParts) (of_map : IsOf m t) (scope : Option (List ℕ)) (ls : List LayerParts) → AreLayersIn t scope ls → (kept : List Geom) →
     AreEachOnce (gathered (λ l. l.geometries) ls) kept → (gs : List Geom) → gs ≡ kept → (us : List Use) → us ≡ geometries_uses gs → (slice : List Use) → slice ≡ us →
@@ -413,3 +537,15 @@ borders_selected m t of_map scope ls layers kept each gs one us uses slice two n
     let made : same ≡ with_uses (replicate (length t.arcs.arcs) None) (geometries_uses kept) =
     three ∙ spanned ∙ (λ i. with_uses (replicate (count i) None) ((two ∙ uses ∙ ap geometries_uses one) i)) in
     asked_selected m t of_map scope ls layers kept each edges segs (subst (λ w. HasArcs t.arcs.arcs w segs) (four ∙ numbers ∙ ap (numbers_from edges 0) made) has)
+
+pub borders_dividing : (m : Layers) (t : TopologyParts) (of_map : IsOf m t) (scope : Option (List ℕ)) (ls : List LayerParts) → AreLayersIn t scope ls → (kept : List Geom) →
+    AreEachOnce (gathered (λ l. l.geometries) ls) kept → (name : List ℕ) (gs : List Geom) → gs ≡ kept → (cs : List ℕ) → AreClasses (values_of name gs) cs →
+    (others : List Geom) → others ≡ kept → (classes : List ℕ) → classes ≡ cs → (us : List Use) → us ≡ class_uses classes others → (slice : List Use) → slice ≡ us →
+    (n : ℕ) → n ≡ length t.arcs.arcs → (told : List (Option Span)) → told ≡ with_uses (replicate n None) slice → (same : List (Option Span)) → same ≡ told →
+    (asked : List ℕ) → asked ≡ numbers_from Interior 0 same → (these : List ℕ) → these ≡ asked →
+    (segs : List Segment) → HasArcs t.arcs.arcs these segs → AreDividing (InScope m scope) name segs
+borders_dividing m t of_map scope ls layers kept each name gs one cs classed others other classes class us uses slice two n count told spanned same three asked numbers these four segs has =
+    let made : same ≡ with_uses (replicate (length t.arcs.arcs) None) (class_uses cs kept) =
+    three ∙ spanned ∙ (λ i. with_uses (replicate (count i) None) ((two ∙ uses ∙ (λ j. class_uses (class j) (other j))) i)) in
+    are_dividing m t of_map scope ls layers kept each name cs (subst (λ w. AreClasses (values_of name w) cs) one classed) segs
+    (subst (λ w. HasArcs t.arcs.arcs w segs) (four ∙ numbers ∙ ap (numbers_from Interior 0) made) has)

@@ -11,3 +11,9 @@ pub mod Mesh
 pub mod Members
 pub mod AnswerTexts
 pub mod Info
+pub mod Steps
+pub mod ByArcs
+pub mod Collections
+pub mod Keyed
+pub mod Sequences
+pub mod ByProperty

@@ -1,8 +1,9 @@
 //! Which arcs geometries use, and which of them edges ask for.
+ghost use Rattle.query.specs.ByProperty.{class_uses};
 ghost use Rattle.query.specs.EachOnce.{lent};
 ghost use Rattle.query.specs.Spans.{asks_for, number_if, numbers_from};
 ghost use Rattle.query.specs.Uses.{geometries_uses};
-ghost use Rattle.std.specs.Prelude.{◌≡◌, ◌++◌, IfOk, OnOk};
+ghost use Rattle.std.specs.Prelude.{◌≡◌, ◌++◌, IfOk, OnOk, length};
 
 use crate::edges::Edges;
 use crate::spans::Span;
@@ -17,6 +18,22 @@ pub(crate) fn uses_by(alloc: Global, geometries: &[&Geom]) -> Result<Vec<Use>, A
     let mut uses = Vec::new(alloc);
     for place in 0..geometries.len() {
         note_body(&mut uses, place, &geometries[place].body)?;
+    }
+    Ok(uses)
+}
+
+/// The uses of arcs by these geometries, where the class of each stands for its place.
+pub(crate) fn uses_by_class(
+    alloc: Global,
+    geometries: &[&Geom],
+    classes: &[usize],
+) -> Result<Vec<Use>, AllocError>
+    requires { length classes.now ≡ length geometries.now }
+    ensures { IfOk result (λ v. v.items ≡ class_uses classes.now (lent geometries.now)) }
+{
+    let mut uses = Vec::new(alloc);
+    for place in 0..geometries.len() {
+        note_body(&mut uses, classes[place], &geometries[place].body)?;
     }
     Ok(uses)
 }

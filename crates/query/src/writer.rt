@@ -112,7 +112,7 @@ fn write_id<W: Sink>(id: &Id, sink: &mut W) -> Result<(), WriteFault>
 
 /// Places of geometries, each as the id of its geometry.
 #[derive(Clone, Copy)]
-struct IdsOf<'a>(&'a [Geom]);
+pub(crate) struct IdsOf<'a>(pub(crate) &'a [Geom]);
 
 impl<'a> Notation<usize> for IdsOf<'a> {
     ghost text = { λ ids place. id_text_of (slice_get ids.0.now place) };

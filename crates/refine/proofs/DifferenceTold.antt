@@ -24,6 +24,8 @@ use Rattle.chains.specs.Table.{IsTableOf}
 use Rattle.theory.specs.Geometry.{Geometry, IsSound, JunctionOf}
 use Rattle.theory.specs.Lists.{Pairwise}
 use Rattle.theory.specs.Refinement.{IsUnionOf}
+use Rattle.geometry_order.proofs.NodedTables.{table_noded}
+use Rattle.geometry_order.specs.Noded.{AreNoded}
 use Rattle.recutting.specs.Cutting.{IsRecutOf}
 use Rattle.recutting.specs.Parts.{RecutParts}
 use Rattle.topo.specs.Features.{HasFeature, IsFeatureOf}
@@ -349,6 +351,9 @@ module _ {left right shared : TopologyParts} {la ra : Arcs} {ls rls ks : List La
 
   cut_of : ks ≡ map_list (layer_recut r.arcs.arcs r.right) right.layers
   cut_of = cut ∙ ap (map_list (layer_recut r.arcs.arcs r.right)) (l ∙ ap (λ t. t.layers) s)
+
+  pub told_noded : AreNoded r.arcs.arcs
+  told_noded = table_noded (geometry_of (union m n)) r.arcs is_cut.table
 
   pub told_left : LayersHaveRecut r ls
   told_left = subst (LayersHaveRecut r) (sym given) (left_have m n left right r ks hm hn is_cut cut_of)

@@ -13,6 +13,8 @@ use Rattle.theory.specs.Geometry.{Geometry, IsSound, JunctionOf}
 use Rattle.theory.specs.Lists.{Pairwise}
 use Rattle.theory.specs.Refinement.{IsUnionOf}
 use Rattle.theory.specs.Topology.{IsLayerOf}
+use Rattle.geometry_order.proofs.NodedTables.{table_noded}
+use Rattle.geometry_order.specs.Noded.{AreNoded}
 use Rattle.recutting.specs.Cutting.{IsRecutOf}
 use Rattle.recutting.specs.Parts.{RecutParts}
 use Rattle.topo.specs.OfMap.{ArePartsOf, IsOf, layer_of}
@@ -75,6 +77,9 @@ module _ {left right : TopologyParts} {r : RecutParts} {arcs : Arcs} {ls ks : Li
       subst (λ t. Pairwise (IsJoinedLayer J t.arcs) (map.entries n) ks) (sym cut.arcs_are)
       (subst (Pairwise (IsJoinedLayer J r.arcs.arcs) (map.entries n)) (sym cut.right_layers)
       (cut_layers J r.arcs.arcs r.right (map.entries n) right.layers (right_after_recut m n left.arcs right.arcs r is_recut right.layers hn.topology.layers)))
+
+  pub arcs_noded : AreNoded arcs.arcs
+  arcs_noded = table_noded (geometry_of (union m n)) arcs (subst (IsTableOf (geometry_of (union m n))) (sym cut.arcs_are) is_recut.table)
 
   pub left_has : LayersHaveFeatures arcs.arcs ls
   left_has = layers_have J arcs.arcs (map.entries m) ls of_left

@@ -1,6 +1,6 @@
 pub mod MeantTexts
 pub mod JoinedParts
-pub mod PartLists
+pub mod WrittenTexts
 mod LeftTold
 mod DifferenceTold
 mod Stitching

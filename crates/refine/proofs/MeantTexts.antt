@@ -7,7 +7,7 @@ use Rattle.topo_io.specs.TopologyText.{topology_text}
 use Rattle.topo_io.specs.Canon.{canon}
 use Rattle.topo_io.specs.Means.{Means}
 use Rattle.round_trip.proofs.OfMap.{written_topologies_are_read}
-use Rattle.plans.specs.Leaves.{leaves}
+use Rattle.merging.specs.Leaves.{leaves}
 use Rattle.merging.specs.Plans.{union_at}
 use Rattle.merging.proofs.UnionFits.{union_at_fits}
 use Rattle.refine.specs.TextLaws.{MergedTextsMeanUnions}

@@ -1,5 +1,5 @@
--- A map on a grid, as a shard is seen, and several.
-use Rattle.std.specs.Prelude.{◌≡◌, ℤ, ◌<◌, ◌^◌, List, All, length, map as map_list}
+-- A map on a grid, as a shard is seen.
+use Rattle.std.specs.Prelude.{◌≡◌, ℤ, ◌<◌, ◌^◌, length}
 use Rattle.std.specs.Coded.{Coded, code_by, coded×, coded_list, coded_ℕ, coded_ℤ}
 use Rattle.std.proofs.Common.{refl}
 use Rattle.std.specs.FinMap as map
@@ -9,7 +9,6 @@ use Rattle.shapes.specs.Sets as set
 use Rattle.shapes.specs.contracts.feature.Feature as feature
 use Rattle.topo.specs.OfMap.{IsOf}
 use Rattle.topo.specs.Parts.{TopologyParts}
-use Rattle.merging.specs.Plans.{union_all}
 
 pub record MapOnGrid : Type 0 where
   pub grid : Transform
@@ -32,11 +31,3 @@ map_on_grid_code =
 pub record IsKeptFor (m : Layers) (t : TopologyParts) : Type 0 where
   pub of_map : IsOf m t
   pub few : length t.arcs.arcs < 2 ^ 63
-
--- the union of all maps
-abbrev pub united_map : List MapOnGrid → Layers
-united_map ps = union_all (map_list (λ p. p.map) ps)
-
--- all are on the grid
-abbrev pub AreOn : Transform → List MapOnGrid → Type 0
-AreOn g ps = All (λ p. p.grid ≡ g) ps

@@ -1,7 +1,7 @@
 -- The law that merged texts are read back.
 use Rattle.std.specs.Prelude.{◌≡◌, ℕ, List}
-use Rattle.plans.specs.Leaves.{leaves}
-use Rattle.plans.specs.declared.plan.Plan.{Plan}
+use Rattle.merging.specs.Leaves.{leaves}
+use Rattle.merging.specs.declared.plan.Plan.{Plan}
 use Rattle.topo.specs.Parts.{TopologyParts}
 use Rattle.topo_io.specs.Means.{Means}
 use Rattle.round_trip.specs.Laws.{IsHeldOf}

@@ -1,17 +1,16 @@
 //! The join of two topologies: their arcs are cut again, their geometries follow the pieces, and
-//! the sorted layers and geometries of both are merged in one pass. The join of two shards, each of
-//! topologies whose sizes are far apart: those are joined whose sizes come near each other.
-ghost use Rattle.grid.specs.Place.{Transform};
-ghost use Rattle.layer_laws.specs.CutLayers.{IsKnownOfFirst, before, behind, layer_cmp, layer_recut, layers_as_one, layers_merged, tied, to_first, with_other};
+//! the sorted layers and geometries of both are merged in one pass.
+ghost use Rattle.geometry_order.specs.Noded.{AreNoded};
+ghost use Rattle.geometry_order.specs.Noted.{IsNotedFor};
+ghost use Rattle.layer_laws.specs.CutLayers.{before, behind, layer_cmp, layer_recut, layers_as_one, layers_merged, tied, to_first, with_other};
 ghost use Rattle.layer_laws.specs.Cuts as cuts;
 ghost use Rattle.layer_laws.specs.ItsMap.{ItsMap, ItsMap-prop};
 ghost use Rattle.merging.specs.declared.fault.JoinFault.TheVariants.{OtherGrid};
 ghost use Rattle.recutting.specs.Parts.{of_side};
-ghost use Rattle.refine.specs.OnGrid.{AreOn, united_map};
 ghost use Rattle.shapes.specs.Maps.{Layers};
 ghost use Rattle.shapes.specs.Union.{union};
-ghost use Rattle.std.specs.Prelude.{◌≡◌, ◌↔◌, ◌<◌, ◌^◌, ◌∷◌, ◌++◌, length, IfOk, IfSome, IsErrOf, IsPermutation, OnOk, Option, None, true, take, drop, map as map_list};
-ghost use Rattle.topo.specs.Features.{HasFeature, IsKnownOf};
+ghost use Rattle.std.specs.Prelude.{◌≡◌, ◌↔◌, ◌<◌, ◌^◌, ◌++◌, length, IfOk, IfSome, IsErrOf, OnOk, Option, None, true, take, drop, map as map_list};
+ghost use Rattle.topo.specs.Features.{HasFeature};
 ghost use Rattle.topo.specs.GeometryOrder.{HaveFeatures, LayersHaveFeatures, geometry_cmp};
 ghost use Rattle.topo.specs.OfMap.{IsOf, IsOfSomeMap};
 ghost use Rattle.topo.specs.declared.geom.Geom.{Geom};
@@ -19,14 +18,14 @@ ghost use Rattle.topo.specs.declared.geom.Geom.{Geom};
 use crate::fault::JoinFault;
 use chains::table::{ArcRef, ArcTable};
 use faults::OutOfMemory;
+use geometry_order::GeometryOrder;
 use recutting::{Recut, Side, recut_owned};
 use rewriting::{NewLists, layers_rewritten};
-use shapes::feature::Feature;
 use std::alloc::Global;
 use std::cmp::Ordering;
 use std::collections::VecDeque;
 use std::marker::Model;
-use topo::{Geom, Layer, Topology, order_of};
+use topo::{Geom, Layer, Topology};
 
 /// The lists of a side by the new arcs.
 #[derive(Drop)]
@@ -82,68 +81,27 @@ fn put_rest<T: Drop>(items: VecDeque<T>, list: &mut Vec<T>) -> Result<(), OutOfM
     Ok(())
 }
 
-/// The geometries of the other side that are left, and the feature of the first of them where it had
-/// to be stitched.
-#[derive(Drop)]
-pub(crate) struct Others {
-    pub(crate) geometries: VecDeque<Geom>,
-    pub(crate) first: Option<Feature>,
-}
-
-impl Others {
-    pub(crate) fn of(geometries: Vec<Geom>) -> Others
-        ensures geometries { result.geometries.items ≡ geometries.items }
-        ensures first { result.first ≡ None }
-    {
-        Others {
-            geometries: VecDeque::from(geometries),
-            first: None,
+/// How a geometry stands to the first of the others that are left.
+pub(crate) fn order_to_first_geometry(
+    alloc: Global,
+    arcs: &ArcTable,
+    by: &mut GeometryOrder,
+    geometry: &Geom,
+    others: &VecDeque<Geom>,
+) -> Result<Option<Ordering>, OutOfMemory>
+    requires noded { AreNoded arcs.now.arcs }
+    requires noted { IsNotedFor arcs.now.arcs by.old }
+    requires there { HasFeature arcs.now.arcs geometry.now }
+    requires others_there { HaveFeatures arcs.now.arcs others.now.items }
+    ensures noted { IsNotedFor arcs.now.arcs by.new }
+    ensures order { IfOk result (λ o. o ≡ to_first (geometry_cmp arcs.now.arcs) geometry.now others.now.items) }
+{
+    match others.front() {
+        Some(other) => {
+            let order = by.order(alloc, arcs, geometry, other)?;
+            Ok(Some(order))
         }
-    }
-
-    /// How a geometry stands to the first that is left.
-    pub(crate) fn order(
-        &mut self,
-        alloc: Global,
-        arcs: &ArcTable,
-        geometry: &Geom,
-        known: &mut Option<Feature>,
-    ) -> Result<Option<Ordering>, OutOfMemory>
-        requires there { HasFeature arcs.now.arcs geometry.now }
-        requires others_there { HaveFeatures arcs.now.arcs self.old.geometries.items }
-        requires known { IsKnownOf arcs.now.arcs geometry.now known.old }
-        requires first { IsKnownOfFirst arcs.now.arcs self.old.geometries.items self.old.first }
-        ensures geometries { self.new.geometries.items ≡ self.old.geometries.items }
-        ensures known { IsKnownOf arcs.now.arcs geometry.now known.new }
-        ensures first { IsKnownOfFirst arcs.now.arcs self.old.geometries.items self.new.first }
-        ensures order { IfOk result (λ o. o ≡ to_first (geometry_cmp arcs.now.arcs) geometry.now self.old.geometries.items) }
-    {
-        match self.geometries.front() {
-            Some(other) => {
-                let order = order_of(alloc, arcs, geometry, known, other, &mut self.first)?;
-                Ok(Some(order))
-            }
-            None => Ok(None),
-        }
-    }
-
-    /// Moves the first to the end of a list.
-    fn move_first(&mut self, merged: &mut Vec<Geom>) -> Result<(), OutOfMemory>
-        ensures first { self.new.first ≡ None }
-        ensures rest { self.new.geometries.items ≡ drop 1 self.old.geometries.items }
-        ensures moved { OnOk result (merged.new.items ≡ merged.old.items ++ take 1 self.old.geometries.items) }
-    {
-        self.first = None;
-        put_first(&mut self.geometries, merged)
-    }
-
-    /// Drops the first.
-    pub(crate) fn drop_first(&mut self)
-        ensures first { self.new.first ≡ None }
-        ensures rest { self.new.geometries.items ≡ drop 1 self.old.geometries.items }
-    {
-        self.first = None;
-        self.geometries.pop_front();
+        None => Ok(None),
     }
 }
 
@@ -152,23 +110,24 @@ impl Others {
 fn put_before(
     alloc: Global,
     arcs: &ArcTable,
+    by: &mut GeometryOrder,
     geometry: &Geom,
-    others: &mut Others,
+    others: &mut VecDeque<Geom>,
     merged: &mut Vec<Geom>,
 ) -> Result<(), OutOfMemory>
+    requires noded { AreNoded arcs.now.arcs }
+    requires noted { IsNotedFor arcs.now.arcs by.old }
     requires there { HasFeature arcs.now.arcs geometry.now }
-    requires others_there { HaveFeatures arcs.now.arcs others.old.geometries.items }
-    requires first { IsKnownOfFirst arcs.now.arcs others.old.geometries.items others.old.first }
-    ensures first { OnOk result (IsKnownOfFirst arcs.now.arcs others.new.geometries.items others.new.first) }
-    ensures merged { OnOk result (merged.new.items ≡ merged.old.items ++ before (geometry_cmp arcs.now.arcs) geometry.now others.old.geometries.items) }
-    ensures others { OnOk result (others.new.geometries.items ≡ behind (geometry_cmp arcs.now.arcs) geometry.now others.old.geometries.items) }
+    requires others_there { HaveFeatures arcs.now.arcs others.old.items }
+    ensures noted { IsNotedFor arcs.now.arcs by.new }
+    ensures merged { OnOk result (merged.new.items ≡ merged.old.items ++ before (geometry_cmp arcs.now.arcs) geometry.now others.old.items) }
+    ensures others { OnOk result (others.new.items ≡ behind (geometry_cmp arcs.now.arcs) geometry.now others.old.items) }
 {
-    let mut known = None;
     loop {
-        match others.order(alloc, arcs, geometry, &mut known)? {
-            Some(Ordering::Greater) => others.move_first(merged)?,
+        match order_to_first_geometry(alloc, arcs, by, geometry, others)? {
+            Some(Ordering::Greater) => put_first(others, merged)?,
             Some(Ordering::Equal) => {
-                others.drop_first();
+                others.pop_front();
                 return Ok(());
             }
             Some(Ordering::Less) | None => return Ok(()),
@@ -180,20 +139,24 @@ fn put_before(
 fn geometries_merged(
     alloc: Global,
     arcs: &ArcTable,
+    by: &mut GeometryOrder,
     left: Vec<Geom>,
     right: Vec<Geom>,
 ) -> Result<Vec<Geom>, OutOfMemory>
+    requires noded { AreNoded arcs.now.arcs }
+    requires noted { IsNotedFor arcs.now.arcs by.old }
     requires left { HaveFeatures arcs.now.arcs left.items }
     requires right { HaveFeatures arcs.now.arcs right.items }
-    ensures { IfOk result (λ v. v.items ≡ cuts.merged (geometry_cmp arcs.now.arcs) left.items right.items) }
+    ensures noted { IsNotedFor arcs.now.arcs by.new }
+    ensures merged { IfOk result (λ v. v.items ≡ cuts.merged (geometry_cmp arcs.now.arcs) left.items right.items) }
 {
     let mut merged = Vec::with_capacity(alloc, left.len() + right.len())?;
-    let mut others = Others::of(right);
+    let mut others = VecDeque::from(right);
     for geometry in left {
-        put_before(alloc, arcs, &geometry, &mut others, &mut merged)?;
+        put_before(alloc, arcs, by, &geometry, &mut others, &mut merged)?;
         merged.push(geometry)?;
     }
-    put_rest(others.geometries, &mut merged)?;
+    put_rest(others, &mut merged)?;
     Ok(merged)
 }
 
@@ -236,19 +199,23 @@ pub(crate) fn put_layers_before(
 fn layer_with(
     alloc: Global,
     arcs: &ArcTable,
+    by: &mut GeometryOrder,
     layer: Layer,
     other: Option<Layer>,
 ) -> Result<Layer, OutOfMemory>
+    requires noded { AreNoded arcs.now.arcs }
+    requires noted { IsNotedFor arcs.now.arcs by.old }
     requires there { HaveFeatures arcs.now.arcs layer.geometries }
     requires other { IfSome other (λ l. HaveFeatures arcs.now.arcs l.geometries) }
-    ensures { IfOk result (λ l. l ≡ with_other (layers_as_one arcs.now.arcs) layer other) }
+    ensures noted { IsNotedFor arcs.now.arcs by.new }
+    ensures both { IfOk result (λ l. l ≡ with_other (layers_as_one arcs.now.arcs) layer other) }
 {
     let Some(other) = other else {
         return Ok(layer);
     };
     let (name, left) = layer.into_parts();
     let (_, right) = other.into_parts();
-    let geometries = geometries_merged(alloc, arcs, left, right)?;
+    let geometries = geometries_merged(alloc, arcs, by, left, right)?;
     Ok(Layer::new(name, geometries))
 }
 
@@ -259,15 +226,17 @@ fn layers_of_both(
     left: Vec<Layer>,
     right: Vec<Layer>,
 ) -> Result<Vec<Layer>, OutOfMemory>
+    requires noded { AreNoded arcs.now.arcs }
     requires left { LayersHaveFeatures arcs.now.arcs left.items }
     requires right { LayersHaveFeatures arcs.now.arcs right.items }
     ensures { IfOk result (λ v. v.items ≡ layers_merged arcs.now.arcs left.items right.items) }
 {
     let mut merged = Vec::new(alloc);
     let mut others = VecDeque::from(right);
+    let mut by = GeometryOrder::new();
     for layer in left {
         let other = put_layers_before(&layer, &mut others, &mut merged)?;
-        merged.push(layer_with(alloc, arcs, layer, other)?)?;
+        merged.push(layer_with(alloc, arcs, &mut by, layer, other)?)?;
     }
     put_rest(others, &mut merged)?;
     Ok(merged)
@@ -275,7 +244,7 @@ fn layers_of_both(
 
 /// The topology of the features of both on the left grid. Both are handed over: their geometries
 /// and the arcs that are not cut are moved.
-fn united(alloc: Global, left: Topology, right: Topology) -> Result<Topology, OutOfMemory>
+fn unite(alloc: Global, left: Topology, right: Topology) -> Result<Topology, OutOfMemory>
     ensures grid { IfOk result (λ t. t.grid ≡ left.grid) }
     ensures of_map { IfOk result (λ t. (m n : Layers) → IsOf m left → IsOf n right → IsOf (union m n) t) }
     ensures right { IfOk result (λ _. IsOfSomeMap right) }
@@ -292,27 +261,17 @@ fn united(alloc: Global, left: Topology, right: Topology) -> Result<Topology, Ou
     Ok(Topology::from_unmeasured_parts(grid, arcs, layers))
 }
 
-/// `united` of two topologies that stay, and share the positions of arcs that are not cut.
-fn united_lent(alloc: Global, left: &Topology, right: &Topology) -> Result<Topology, OutOfMemory>
-    ensures grid { IfOk result (λ t. t.grid ≡ left.now.grid) }
-    ensures of_map { IfOk result (λ t. (m n : Layers) → IsOf m left.now → IsOf n right.now → IsOf (union m n) t) }
-    ensures right { IfOk result (λ _. IsOfSomeMap right.now) }
-    ensures few { IfOk result (λ t. length t.arcs.arcs < 2 ^ 63) }
-{
-    united(alloc, left.share(alloc)?, right.share(alloc)?)
-}
-
 pub(crate) fn on_one_grid(left: &Topology, right: &Topology) -> bool
     ensures { (result ≡ true) ↔ (left.now.grid ≡ right.now.grid) }
 {
     left.grid() == right.grid()
 }
 
-/// The topology of the features of both, which stay.
+/// The topology of the features of both, which stay. It shares the positions of arcs that are not cut.
 ///
 /// # Errors
-/// `OtherGrid` exactly where the grids differ; want of memory.
-pub(crate) fn joined(
+/// `OtherGrid` exactly where the grids differ; `OutOfMemory`.
+pub(crate) fn join_topologies(
     alloc: Global,
     left: &Topology,
     right: &Topology,
@@ -326,20 +285,18 @@ pub(crate) fn joined(
     if !on_one_grid(left, right) {
         return Err(JoinFault::OtherGrid);
     }
-    let topology = united_lent(alloc, left, right)?;
+    let topology = unite(alloc, left.share(alloc)?, right.share(alloc)?)?;
     Ok(topology)
 }
 
-/// A topology with the map that it is of. Its size counts the arcs of the topologies that were joined
-/// into it, and these topologies.
+/// A shard that keeps a topology, and joins by cutting arcs again.
 #[derive(Drop)]
-pub(crate) struct Kept {
+pub struct Cut {
     topology: Topology,
-    size: usize,
     ghost of_map: { ItsMap topology } by { ItsMap-prop topology },
 }
 
-impl Model for Kept {
+impl Model for Cut {
     ghost use Rattle.refine.specs.OnGrid.{IsKeptFor, MapOnGrid, map_on_grid_code};
 
     ghost Value = { MapOnGrid };
@@ -351,24 +308,14 @@ impl Model for Kept {
     ghost invariant = { λ a. IsKeptFor a.of_map.0 a.topology };
 }
 
-impl Kept {
-    pub(crate) fn of_topology(topology: Topology) -> Kept
+impl Cut {
+    pub(crate) fn of_topology(topology: Topology) -> Cut
         requires few { length topology.arcs.arcs < 2 ^ 63 }
         requires of_map { IsOfSomeMap topology }
         ensures grid { result.grid ≡ topology.grid }
         ensures map { (m : Layers) → IsOf m topology → result.map ≡ m }
     {
-        let size = topology.arcs().len() + 1;
-        Kept::of_size(topology, size)
-    }
-
-    fn of_size(topology: Topology, size: usize) -> Kept
-        requires few { length topology.arcs.arcs < 2 ^ 63 }
-        requires of_map { IsOfSomeMap topology }
-        ensures grid { result.grid ≡ topology.grid }
-        ensures map { (m : Layers) → IsOf m topology → result.map ≡ m }
-    {
-        Kept { topology, size }
+        Cut { topology }
     }
 
     pub(crate) fn topology(&self) -> &Topology
@@ -385,217 +332,34 @@ impl Kept {
     {
         self.topology
     }
-
-    /// An equal topology.
-    fn copy(&self, alloc: Global) -> Result<Kept, OutOfMemory>
-        ensures { IfOk result (λ k. k ≡ self.now) }
-    {
-        let topology = self.topology.share(alloc)?;
-        Ok(Kept::of_size(topology, self.size))
-    }
-
-    /// The topology of the features of both, on the grid of the first.
-    fn united(self, alloc: Global, other: Kept) -> Result<Kept, OutOfMemory>
-        ensures grid { IfOk result (λ k. k.grid ≡ self.grid) }
-        ensures map { IfOk result (λ k. k.map ≡ union self.map other.map) }
-    {
-        let size = self.size.saturating_add(other.size);
-        let topology = united(alloc, self.topology, other.topology)?;
-        Ok(Kept::of_size(topology, size))
-    }
-
-    /// Whether another one is less than twice as large.
-    fn is_near(&self, other: &Kept) -> bool {
-        other.size / 2 < self.size
-    }
 }
 
-fn copy_parts(alloc: Global, parts: &[Kept]) -> Result<Vec<Kept>, OutOfMemory>
-    ensures { IfOk result (λ v. v.items ≡ parts.now) }
-{
-    let mut copies = Vec::with_capacity(alloc, parts.len())?;
-    for part in parts {
-        copies.push(part.copy(alloc)?)?;
-    }
-    Ok(copies)
-}
-
-/// The topology of the features of a part and of larger ones, on the grid of the first. Each is given
-/// up as it is joined, the smaller ones first.
-fn all_united(alloc: Global, first: Kept, larger: Vec<Kept>) -> Result<Kept, OutOfMemory>
-    ensures grid { IfOk result (λ k. k.grid ≡ first.grid) }
-    ensures map { IfOk result (λ k. k.map ≡ united_map (first ∷ larger.items)) }
-{
-    let mut whole = first;
-    for part in larger {
-        whole = whole.united(alloc, part)?;
-    }
-    Ok(whole)
-}
-
-/// A shard that keeps topologies and joins by cutting arcs again. It has few topologies, on one grid,
-/// each at least twice as large as the one before, and its features are those of all of them.
-#[derive(Drop)]
-pub struct Cut {
-    pub(crate) least: Kept,
-    pub(crate) larger: Vec<Kept>,
-}
-
-impl Model for Cut {
-    ghost use Rattle.refine.specs.OnGrid.{AreOn, MapOnGrid, map_on_grid_code, united_map};
-    ghost use Rattle.std.specs.Prelude.{◌∷◌};
-
-    ghost Value = { MapOnGrid };
-
-    ghost coded = { map_on_grid_code };
-
-    ghost view = { λ a. record { grid = a.least.grid; map = united_map (a.least ∷ a.larger.items) } };
-
-    ghost invariant = { λ a. AreOn a.least.grid a.larger.items };
-}
-
-impl Cut {
-    // The shard of a topology.
-    pub(crate) fn of_topology(alloc: Global, topology: Topology) -> Cut
-        requires few { length topology.arcs.arcs < 2 ^ 63 }
-        requires of_map { IsOfSomeMap topology }
-        ensures grid { result.grid ≡ topology.grid }
-        ensures map { (m : Layers) → IsOf m topology → result.map ≡ m }
-    {
-        Cut {
-            least: Kept::of_topology(topology),
-            larger: Vec::new(alloc),
-        }
-    }
-
-    // A shard of equal topologies.
-    pub(crate) fn copied(&self, alloc: Global) -> Result<Cut, OutOfMemory>
-        ensures { IfOk result (λ s. s ≡ self.now) }
-    {
-        let least = self.least.copy(alloc)?;
-        let larger = copy_parts(alloc, &self.larger)?;
-        Ok(Cut { least, larger })
-    }
-
-    // Whether another shard is on the same grid.
-    fn is_on_grid_of(&self, other: &Cut) -> bool
-        ensures { (result ≡ true) ↔ (self.now.grid ≡ other.now.grid) }
-    {
-        on_one_grid(self.least.topology(), other.least.topology())
-    }
-
-    // One topology of all features.
-    pub(crate) fn into_one(self, alloc: Global) -> Result<Kept, OutOfMemory>
-        ensures { IfOk result (λ k. k ≡ self) }
-    {
-        let Cut { least, larger } = self;
-        all_united(alloc, least, larger)
-    }
-
-    // The topology of all features.
-    pub(crate) fn into_topology(self, alloc: Global) -> Result<Topology, OutOfMemory>
-        ensures grid { IfOk result (λ t. t.grid ≡ self.grid) }
-        ensures of_map { IfOk result (λ t. IsOf self.map t) }
-    {
-        Ok(self.into_one(alloc)?.into_topology())
-    }
-
-    // The topologies, in no order.
-    fn into_parts(self) -> Result<Vec<Kept>, OutOfMemory>
-        ensures map { IfOk result (λ v. united_map v.items ≡ self.map) }
-        ensures grid { IfOk result (λ v. AreOn self.grid v.items) }
-        ensures some { IfOk result (λ v. 0 < length v.items) }
-    {
-        let Cut { least, larger } = self;
-        let mut parts = larger;
-        parts.push(least)?;
-        Ok(parts)
-    }
-}
-
-/// Puts a part to the end of a list of smaller ones, joined with the last of them where that is near.
-fn put_part(alloc: Global, parts: &mut Vec<Kept>, part: Kept) -> Result<(), OutOfMemory>
-    ensures map { OnOk result (united_map parts.new.items ≡ union (united_map parts.old.items) part.map) }
-    ensures grid { (g : Transform) → AreOn g parts.old.items → part.grid ≡ g → OnOk result (AreOn g parts.new.items) }
-    ensures some { OnOk result (0 < length parts.new.items) }
-{
-    let Some(last) = parts.pop() else {
-        parts.push(part)?;
-        return Ok(());
-    };
-    if last.is_near(&part) {
-        parts.push(last.united(alloc, part)?)?;
-        return Ok(());
-    }
-    parts.push(last)?;
-    parts.push(part)?;
-    Ok(())
-}
-
-fn sort_by_size(parts: &mut Vec<Kept>)
-    ensures { IsPermutation parts.old.items parts.new.items }
-{
-    parts.sort_unstable_by_key(|part| part.size);
-}
-
-/// The parts from the least to the largest, those joined whose sizes are near each other.
-fn joined_where_near(alloc: Global, parts: Vec<Kept>) -> Result<Vec<Kept>, OutOfMemory>
-    ensures map { IfOk result (λ v. united_map v.items ≡ united_map parts.items) }
-    ensures grid { (g : Transform) → AreOn g parts.items → IfOk result (λ v. AreOn g v.items) }
-    ensures some { 0 < length parts.items → IfOk result (λ v. 0 < length v.items) }
-{
-    let mut left = parts;
-    sort_by_size(&mut left);
-    let mut made = Vec::new(alloc);
-    for part in left {
-        put_part(alloc, &mut made, part)?;
-    }
-    Ok(made)
-}
-
-/// The shard of the features of both, which are on one grid.
-fn put_together(alloc: Global, left: Cut, right: Cut) -> Result<Cut, OutOfMemory>
-    requires { left.grid ≡ right.grid }
-    ensures grid { IfOk result (λ s. s.grid ≡ left.grid) }
-    ensures map { IfOk result (λ s. s.map ≡ union left.map right.map) }
-{
-    let mut parts = left.into_parts()?;
-    let mut others = right.into_parts()?;
-    parts.append(&mut others)?;
-    let mut larger = joined_where_near(alloc, parts)?;
-    let least = larger.remove(0);
-    Ok(Cut { least, larger })
-}
-
-/// The shard of the features of both, which are handed over: the geometries of the topologies that
-/// are joined, and the arcs of them that are not cut, are moved, and few features are stitched.
+/// The shard of the features of both, which stay.
 ///
 /// # Errors
-/// `OtherGrid` exactly where the grids differ; want of memory.
-pub(crate) fn shards_joined_owned(alloc: Global, left: Cut, right: Cut) -> Result<Cut, JoinFault>
-    ensures grid { IfOk result (λ s. s.grid ≡ left.grid) }
-    ensures map { IfOk result (λ s. s.map ≡ union left.map right.map) }
-    ensures other_grid { IsErrOf result OtherGrid ↔ ¬ (left.grid ≡ right.grid) }
-{
-    if !left.is_on_grid_of(&right) {
-        return Err(JoinFault::OtherGrid);
-    }
-    let shard = put_together(alloc, left, right)?;
-    Ok(shard)
-}
-
-/// `shards_joined_owned` of two shards that stay.
-///
-/// # Errors
-/// `OtherGrid` exactly where the grids differ; want of memory.
-pub(crate) fn shards_joined(alloc: Global, left: &Cut, right: &Cut) -> Result<Cut, JoinFault>
+/// `OtherGrid` exactly where the grids differ; `OutOfMemory`.
+pub(crate) fn join_shards(alloc: Global, left: &Cut, right: &Cut) -> Result<Cut, JoinFault>
     ensures grid { IfOk result (λ s. s.grid ≡ left.now.grid) }
     ensures map { IfOk result (λ s. s.map ≡ union left.now.map right.now.map) }
     ensures other_grid { IsErrOf result OtherGrid ↔ ¬ (left.now.grid ≡ right.now.grid) }
 {
-    if !left.is_on_grid_of(right) {
+    let topology = join_topologies(alloc, left.topology(), right.topology())?;
+    Ok(Cut::of_topology(topology))
+}
+
+/// The shard of the features of both, which are handed over: geometries and the arcs that are not
+/// cut are moved.
+///
+/// # Errors
+/// `OtherGrid` exactly where the grids differ; `OutOfMemory`.
+pub(crate) fn join_shards_owned(alloc: Global, left: Cut, right: Cut) -> Result<Cut, JoinFault>
+    ensures grid { IfOk result (λ s. s.grid ≡ left.grid) }
+    ensures map { IfOk result (λ s. s.map ≡ union left.map right.map) }
+    ensures other_grid { IsErrOf result OtherGrid ↔ ¬ (left.grid ≡ right.grid) }
+{
+    if !on_one_grid(left.topology(), right.topology()) {
         return Err(JoinFault::OtherGrid);
     }
-    let shard = put_together(alloc, left.copied(alloc)?, right.copied(alloc)?)?;
-    Ok(shard)
+    let topology = unite(alloc, left.topology, right.topology)?;
+    Ok(Cut::of_topology(topology))
 }

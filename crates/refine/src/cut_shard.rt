@@ -1,11 +1,10 @@
-//! A shard that keeps topologies.
+//! A shard that keeps a topology.
 ghost use Rattle.merging.specs.Laws.{union-Commutes, union-Associates, union-IsIdempotent};
 ghost use Rattle.shapes.specs.Union.{union};
 ghost use Rattle.std.specs.Prelude.{◌≡◌};
 
-use crate::canonical::text_of_kept;
 pub use crate::cut::Cut;
-use crate::cut::{Kept, shards_joined, shards_joined_owned};
+use crate::cut::{join_shards, join_shards_owned};
 use crate::fault::JoinFault;
 use faults::{Fault, OutOfMemory};
 use grid::transform::Grid;
@@ -13,30 +12,6 @@ use merging::Shard;
 use shapes::feature_map::FeatureMap;
 use std::alloc::Global;
 use topo::topology::Topology;
-
-// Least x, least y, greatest x and greatest y.
-type Bbox = Option<(i64, i64, i64, i64)>;
-
-// The box around two.
-fn around(one: Bbox, other: Bbox) -> Bbox {
-    let (Some((left, low, right, high)), Some((west, south, east, north))) = (one, other) else {
-        return one.or(other);
-    };
-    Some((
-        left.min(west),
-        low.min(south),
-        right.max(east),
-        high.max(north),
-    ))
-}
-
-fn bbox_of_all(least: &Kept, larger: &[Kept]) -> Bbox {
-    let mut bbox = least.topology().bbox();
-    for part in larger {
-        bbox = around(bbox, part.topology().bbox());
-    }
-    bbox
-}
 
 impl Shard for Cut {
     ghost grid_of = { λ s. s.grid };
@@ -46,45 +21,38 @@ impl Shard for Cut {
     ghost joined = { λ a b c. c.map ≡ union a.map b.map };
 
     fn grid(&self) -> Grid {
-        self.least.topology().grid()
+        self.topology().grid()
     }
 
     fn from_map(alloc: Global, grid: &Grid, map: &FeatureMap) -> Result<Cut, OutOfMemory> {
         let topology = Topology::build(alloc, grid, map)?;
-        Ok(Cut::of_topology(alloc, topology))
+        Ok(Cut::of_topology(topology))
     }
 
     fn of_text(alloc: Global, bytes: &[u8]) -> Result<Cut, Fault> {
         let topology = topo_io::read_topology(alloc, bytes)?;
-        Ok(Cut::of_topology(alloc, topology))
+        Ok(Cut::of_topology(topology))
     }
 
     fn bbox(&self) -> Option<(i64, i64, i64, i64)> {
-        bbox_of_all(&self.least, &self.larger)
+        self.topology().bbox()
     }
 
     fn copy(&self, alloc: Global) -> Result<Cut, OutOfMemory> {
-        self.copied(alloc)
+        let topology = self.topology().share(alloc)?;
+        Ok(Cut::of_topology(topology))
     }
 
     fn join(&self, alloc: Global, other: &Cut) -> Result<Cut, JoinFault> {
-        shards_joined(alloc, self, other)
+        join_shards(alloc, self, other)
     }
 
     fn join_owned(self, alloc: Global, other: Cut) -> Result<Cut, JoinFault> {
-        shards_joined_owned(alloc, self, other)
+        join_shards_owned(alloc, self, other)
     }
 
     fn text(&self, alloc: Global) -> Result<Vec<u8>, OutOfMemory> {
-        if self.larger.is_empty() {
-            return text_of_kept(alloc, &self.least);
-        }
-        self.copied(alloc)?.into_text(alloc)
-    }
-
-    fn into_text(self, alloc: Global) -> Result<Vec<u8>, OutOfMemory> {
-        let whole = self.into_one(alloc)?;
-        text_of_kept(alloc, &whole)
+        topo_io::text_of(alloc, self.topology())
     }
 
     ghost commutes = { union-Commutes (λ s. s.map) };

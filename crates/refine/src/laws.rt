@@ -7,8 +7,8 @@ ghost use Rattle.refine.specs.TextLaws.{MergedTextsMeanUnions};
 
 pub use layer_laws::laws::equal_features_equal_lists;
 pub use merging::laws::{
-    merge_of_all_meanings, merge_of_one_text, merges_alike, merges_through_texts, one_canon,
-    plans_alike, segments_of_merge_once,
+    merge_of_all_alike, merge_of_all_meanings, merge_of_one_text, merges_alike,
+    merges_through_texts, one_canon, plans_alike, segments_of_merge_once,
 };
 pub use recutting::laws::{
     arcs_of_one_arc, junctions_of_both, no_other_arcs, one_pieces as one_pieces_of_old_arcs,

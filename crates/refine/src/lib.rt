@@ -2,7 +2,6 @@
 //! borders go. The two kinds of shard, merges of texts, removals and sessions.
 #![tactic(auto)]
 
-mod canonical;
 mod cut;
 pub mod cut_shard;
 mod difference;
@@ -17,13 +16,11 @@ mod way;
 pub mod whole;
 
 pub use cut_shard::Cut;
-pub use difference::remove_topology;
 pub use edit::Edit;
 pub use fault::{EditsFault, JoinFault, MergeFault, PlanFault};
 pub use merge::{merge_texts, merge_topologies};
-pub use merging::{Shard, plan, run_plan, shard};
-pub use plans::Plan;
+pub use merging::{Plan, Shard, plan, run_plan, shard};
 pub use recutting::{Recut, Side, recut};
-pub use remove::Removal;
+pub use remove::{Removal, remove_topology};
 pub use session::Session;
 pub use whole::Whole;

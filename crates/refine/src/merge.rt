@@ -1,16 +1,16 @@
 //! Merging texts of topologies.
-ghost use Rattle.merging.specs.Merge.{bytes_of, IsMergeFault, IsMergeOf, MeansUnion};
+ghost use Rattle.merging.specs.Merge.{all_places, bytes_of, IsMergeFault, IsMergeOf, MeansUnion};
 ghost use Rattle.merging.specs.declared.fault.MergeFault.TheVariants.{BadPlan};
-ghost use Rattle.plans.specs.Leaves.{leaves, first_outside};
+ghost use Rattle.merging.specs.Leaves.{leaves, first_outside};
 ghost use Rattle.refine.specs.Merged.{IsTopologyOfUnion};
-ghost use Rattle.std.specs.Prelude.{◌≡◌, ℕ, IfOk, IfErr, Some, Err, length};
+ghost use Rattle.std.specs.Prelude.{◌≡◌, ℕ, IfOk, IfErr, IfSome, MatchOption, Some, Err, length};
 ghost use Rattle.topo.specs.OfMap.{seen_parts};
 ghost use Rattle.topo_io.specs.TopologyText.{topology_text};
 
 use crate::cut_shard::Cut;
 use crate::fault::MergeFault;
-pub use merging::merge::{merge_as, merge_shards};
-use plans::Plan;
+use merging::Plan;
+pub use merging::merge::{merge_all, merge_as};
 use std::alloc::Global;
 use topo::Topology;
 
@@ -31,22 +31,21 @@ pub fn merge_texts(alloc: Global, texts: &[Vec<u8>], plan: &Plan) -> Result<Vec<
     merge_as::<Cut>(alloc, texts, plan)
 }
 
-/// The topology of the union of the features of the texts that the plan names, of which `merge_texts`
-/// answers the text. Whoever writes it to a sink needs no memory for that text. Each text is given up once
-/// it is read.
+/// The topology of the union of the features of all texts, whatever their order in the list; `None` exactly where there
+/// is no text. Its canonical text is what `merge_texts` answers for each plan that names all texts. Each text is dropped
+/// once it is read.
 ///
 /// # Errors
-/// Those of `merge_texts`.
-pub fn merge_topologies(
-    alloc: Global,
-    texts: Vec<Vec<u8>>,
-    plan: &Plan,
-) -> Result<Topology, MergeFault>
-    ensures bad_plan { (k : ℕ) → first_outside (length texts.items) (leaves plan.now) ≡ Some k → result ≡ Err (BadPlan k) }
-    ensures fault { IfErr result (IsMergeFault (bytes_of texts.items) (leaves plan.now)) }
-    ensures merged { IfOk result (IsTopologyOfUnion (bytes_of texts.items) (leaves plan.now)) }
-    ensures text { IfOk result (λ t. IsMergeOf (bytes_of texts.items) (leaves plan.now) (topology_text (seen_parts t))) }
+/// `Text` with the first text of the list that is refused, and its least fault; otherwise `OtherGrid` with the first text
+/// whose transform differs from that of text 0.
+pub fn merge_topologies(alloc: Global, texts: Vec<Vec<u8>>) -> Result<Option<Topology>, MergeFault>
+    ensures fault { IfErr result (IsMergeFault (bytes_of texts.items) (all_places texts.items)) }
+    ensures merged { IfOk result (λ o. MatchOption o (length texts.items ≡ 0) (IsTopologyOfUnion (bytes_of texts.items) (all_places texts.items))) }
+    ensures text { IfOk result (λ o. IfSome o (λ t. IsMergeOf (bytes_of texts.items) (all_places texts.items) (topology_text (seen_parts t)))) }
 {
-    let shard: Cut = merge_shards(alloc, texts, plan)?;
-    Ok(shard.into_topology(alloc)?)
+    let shard: Option<Cut> = merge_all(alloc, texts)?;
+    match shard {
+        Some(shard) => Ok(Some(shard.into_topology())),
+        None => Ok(None),
+    }
 }

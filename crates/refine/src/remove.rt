@@ -6,19 +6,23 @@ ghost use Rattle.layer_laws.specs.LeftLists.{layers_refs, marked_by};
 ghost use Rattle.layer_laws.specs.Less as rejoined;
 ghost use Rattle.layer_laws.specs.Less.{less};
 ghost use Rattle.lines.specs.Turned.{position_cmp};
+ghost use Rattle.merging.specs.declared.fault.JoinFault.TheVariants.{OtherGrid};
 ghost use Rattle.refine.specs.Lent.{all_lent, lent};
 ghost use Rattle.refine.specs.Removals.{IsWithoutBy};
 ghost use Rattle.rejoining.specs.Starts.{starts_by};
 ghost use Rattle.shapes.specs.Maps.{Layers, features_at, set_of};
 ghost use Rattle.shapes.specs.Sets as set;
 ghost use Rattle.std.specs.Option.{option_map};
-ghost use Rattle.std.specs.Prelude.{◌≡◌, ◌<◌, ◌≤◌, ◌^◌, ◌++◌, ◌↔◌, length, false, true, replicate, IfOk, IsNone, OnOk, map as map_list, set as with_mark, slice_get};
+ghost use Rattle.std.specs.Prelude.{◌≡◌, ◌<◌, ◌≤◌, ◌^◌, ◌++◌, ◌↔◌, length, false, true, replicate, IfOk, IsErrOf, IsNone, OnOk, map as map_list, set as with_mark, slice_get};
 ghost use Rattle.theory.specs.Lists.{gathered, joined};
 ghost use Rattle.theory.specs.Removing as joining;
 ghost use Rattle.topo.specs.Features.{HasFeature, IsKnownOf};
 ghost use Rattle.topo.specs.GeometryOrder.{HaveFeatures};
 ghost use Rattle.topo.specs.OfMap.{IsOf};
 
+use crate::cut::on_one_grid;
+use crate::difference::layers_apart;
+use crate::fault::JoinFault;
 use crate::stitches::stitches_to;
 use chains::table::{ArcRef, ArcTable};
 use faults::OutOfMemory;
@@ -378,20 +382,15 @@ impl NewLists for JoinedLists<'_> {
     }
 }
 
-/// A geometry by the new arcs.
-fn geometry_rejoined(alloc: Global, arcs: &Rejoined, geometry: &Geom) -> Result<Geom, OutOfMemory>
-    ensures { IfOk result (λ g. g ≡ rejoined.geometry_rejoined arcs.now.arcs.arcs (starts_by arcs.now.pieces) geometry.now) }
-{
-    copy_rewritten(alloc, &JoinedLists { joined: arcs }, geometry)
-}
-
+/// A layer that stays by the new arcs.
 fn layer_rejoined(alloc: Global, arcs: &Rejoined, layer: &LayerLeft) -> Result<Layer, OutOfMemory>
     ensures { IfOk result (λ l. l ≡ rejoined.layer_rejoined arcs.now.arcs.arcs (starts_by arcs.now.pieces) (lent layer.now)) }
 {
     let name = layer.name.copy(alloc)?;
+    let lists = JoinedLists { joined: arcs };
     let mut geometries = Vec::with_capacity(alloc, layer.geometries.len())?;
     for geometry in &layer.geometries {
-        geometries.push(geometry_rejoined(alloc, arcs, geometry)?)?;
+        geometries.push(copy_rewritten(alloc, &lists, geometry)?)?;
     }
     Ok(Layer::new(name, geometries))
 }
@@ -412,7 +411,7 @@ fn layers_rejoined(
 }
 
 /// A topology with those of its geometries that stay, which are all but those of the features of some map.
-pub(crate) fn removal_of(
+fn removal_of(
     alloc: Global,
     topology: &Topology,
     left: &[LayerLeft],
@@ -450,4 +449,29 @@ pub fn remove(
 {
     let left = layers_left(alloc, topology, removed)?;
     removal_of(alloc, topology, &left)
+}
+
+/// The topology without the features that another one has under the same layer names, as `remove` of that
+/// one's map answers it. No map of features is made, and features are stitched only where ids and properties
+/// tie and lists differ.
+///
+/// # Errors
+/// `OtherGrid` exactly where the grids differ; `OutOfMemory`.
+pub fn remove_topology(
+    alloc: Global,
+    topology: &Topology,
+    removed: &Topology,
+) -> Result<Removal, JoinFault>
+    ensures grid { IfOk result (λ r. r.topology.grid ≡ topology.now.grid) }
+    ensures of_map { IfOk result (λ r. (m n : Layers) → IsOf m topology.now → IsOf n removed.now → IsOf (less m n) r.topology) }
+    ensures pieces { IfOk result (λ r. (m n : Layers) → IsOf m topology.now → IsOf n removed.now → IsWithoutBy m n topology.now r) }
+    ensures few { IfOk result (λ r. length r.topology.arcs.arcs < 2 ^ 63) }
+    ensures other_grid { IsErrOf result OtherGrid ↔ ¬ (topology.now.grid ≡ removed.now.grid) }
+{
+    if !on_one_grid(topology, removed) {
+        return Err(JoinFault::OtherGrid);
+    }
+    let left = layers_apart(alloc, topology, removed)?;
+    let removal = removal_of(alloc, topology, &left)?;
+    Ok(removal)
 }

@@ -9,13 +9,13 @@ ghost use Rattle.topo.specs.OfMap.{IsOf};
 ghost use Rattle.topo_io.specs.Canon.{canon};
 ghost use Rattle.topo_io.specs.Means.{Means};
 
-use crate::canonical::text_of_kept;
-use crate::cut::{Kept, joined};
+use crate::cut::{Cut, join_topologies};
 use crate::edit::Edit;
 use crate::fault::{EditsFault, JoinFault};
 use crate::remove::remove;
 use faults::OutOfMemory;
 use grid::transform::Grid;
+use merging::Shard;
 use shapes::feature_map::FeatureMap;
 use std::alloc::Global;
 use std::marker::Model;
@@ -30,7 +30,7 @@ fn edited(alloc: Global, topology: &Topology, edit: &Edit) -> Result<Topology, J
     ensures other_grid { IsErrOf result OtherGrid ↔ ¬ IsOnGrid topology.now.grid edit.now }
 {
     match edit {
-        Edit::Join(other) => joined(alloc, topology, other),
+        Edit::Join(other) => join_topologies(alloc, topology, other),
         Edit::Remove(map) => Ok(remove(alloc, topology, map)?.into_topology()),
     }
 }
@@ -40,7 +40,7 @@ fn edited(alloc: Global, topology: &Topology, edit: &Edit) -> Result<Topology, J
 #[derive(Drop)]
 pub struct Session {
     alloc: Global,
-    kept: Kept,
+    shard: Cut,
 }
 
 impl Model for Session {
@@ -50,7 +50,7 @@ impl Model for Session {
 
     ghost coded = { map_on_grid_code };
 
-    ghost view = { λ a. a.kept };
+    ghost view = { λ a. a.shard };
 }
 
 impl Session {
@@ -63,8 +63,8 @@ impl Session {
         ensures map { IfOk result (λ s. s.map ≡ map.empty) }
     {
         let topology = Topology::build(alloc, grid, &FeatureMap::new(alloc))?;
-        let kept = Kept::of_topology(topology);
-        Ok(Session { alloc, kept })
+        let shard = Cut::of_topology(topology);
+        Ok(Session { alloc, shard })
     }
 
     /// Edits the topology. After a refusal it is as it was.
@@ -78,8 +78,8 @@ impl Session {
         ensures on_grid { OnOk result (IsOnGrid self.old.grid edit.now) }
         ensures other_grid { IsErrOf result OtherGrid ↔ ¬ IsOnGrid self.old.grid edit.now }
     {
-        let topology = edited(self.alloc, self.kept.topology(), edit)?;
-        self.kept = Kept::of_topology(topology);
+        let topology = edited(self.alloc, self.shard.topology(), edit)?;
+        self.shard = Cut::of_topology(topology);
         Ok(())
     }
 
@@ -111,7 +111,7 @@ impl Session {
         ensures text { IfOk result (λ t. t.items ≡ canon self.now.grid self.now.map) }
         ensures accepted { IfOk result (λ t. MapFits self.now.grid self.now.map → Means t.items self.now.grid self.now.map) }
     {
-        text_of_kept(self.alloc, &self.kept)
+        self.shard.text(self.alloc)
     }
 
     /// The topology as it is now.
@@ -119,6 +119,6 @@ impl Session {
         ensures grid { result.now.grid ≡ self.now.grid }
         ensures of_map { IsOf self.now.map result.now }
     {
-        self.kept.topology()
+        self.shard.topology()
     }
 }

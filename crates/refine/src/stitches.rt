@@ -1,6 +1,5 @@
 //! Whether a geometry stitches to a feature that is given, told by ways along the arcs: nothing is put
 //! together, and no memory is taken.
-ghost use Rattle.chains.specs.Table.{same_list};
 ghost use Rattle.grid.specs.declared.pos.Pos.{Pos as place};
 ghost use Rattle.lines.specs.declared.ring.Ring as the_ring;
 ghost use Rattle.shapes.specs.declared.shape.Shape as shapes;
@@ -18,12 +17,6 @@ use lines::ring::Ring;
 use shapes::shape::Shape;
 use topo::run::is_same;
 use topo::{Body, Topology};
-
-fn are_same(positions: &Items<Pos>, others: &Items<Pos>) -> bool
-    ensures { result ≡ same_list positions.now others.now }
-{
-    positions == others
-}
 
 /// Whether used arcs go along the first positions, then the second, and end.
 fn goes_along(topology: &Topology, used: &[ArcRef], first: &[Pos], second: &[Pos]) -> bool
@@ -133,7 +126,7 @@ pub(crate) fn stitches_to(topology: &Topology, body: &Body, shape: &Shape) -> bo
     match (body, shape) {
         (Body::Null, Shape::Null) => true,
         (Body::Point(place), Shape::Point(other)) => is_same(place, other),
-        (Body::MultiPoint(places), Shape::MultiPoint(others)) => are_same(places, others),
+        (Body::MultiPoint(places), Shape::MultiPoint(others)) => places == others,
         (Body::Line(used), Shape::Line(line)) => line.stitches(topology, used),
         (Body::MultiLine(lists), Shape::MultiLine(lines)) => {
             all_stitch(topology, lists.as_slice(), lines.as_slice())

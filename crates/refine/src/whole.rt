@@ -3,14 +3,14 @@ ghost use Rattle.merging.specs.Laws.{union-Commutes, union-Associates, union-IsI
 ghost use Rattle.shapes.specs.Union.{union};
 ghost use Rattle.std.specs.Prelude.{◌≡◌};
 
-use crate::canonical::canonical_text;
 use crate::fault::JoinFault;
-use faults::OutOfMemory;
+use faults::{Fault, OutOfMemory};
 use grid::transform::Grid;
 use merging::Shard;
-use merging::plan::same_grid;
+use merging::shard::same_grid;
 use shapes::feature_map::FeatureMap;
 use std::alloc::Global;
+use topo::topology::Topology;
 
 /// A shard that keeps its map and builds its topology when it is written.
 #[derive(Drop)]
@@ -35,8 +35,9 @@ impl Shard for Whole {
         Ok(Whole { grid: *grid, map })
     }
 
-    fn of_map(_alloc: Global, grid: &Grid, map: FeatureMap) -> Result<Whole, OutOfMemory> {
-        Ok(Whole { grid: *grid, map })
+    fn of_text(alloc: Global, bytes: &[u8]) -> Result<Whole, Fault> {
+        let (grid, map) = topo_io::read(alloc, bytes)?;
+        Ok(Whole { grid, map })
     }
 
     fn copy(&self, _alloc: Global) -> Result<Whole, OutOfMemory> {
@@ -58,17 +59,9 @@ impl Shard for Whole {
         })
     }
 
-    fn join_owned(self, _alloc: Global, other: Whole) -> Result<Whole, JoinFault> {
-        let Whole { grid, map } = self;
-        if !same_grid(&grid, &other.grid) {
-            return Err(JoinFault::OtherGrid);
-        }
-        let map = map.united(other.map)?;
-        Ok(Whole { grid, map })
-    }
-
     fn text(&self, alloc: Global) -> Result<Vec<u8>, OutOfMemory> {
-        canonical_text(alloc, &self.grid, &self.map)
+        let topology = Topology::build(alloc, &self.grid, &self.map)?;
+        topo_io::text_of(alloc, &topology)
     }
 
     ghost commutes = { union-Commutes (λ s. s.map) };

@@ -28,8 +28,7 @@ fn texts(alloc: Global) -> Option<Vec<Vec<u8>>> {
 }
 
 fn read_shard<S: Shard>(alloc: Global, text: &str) -> Option<S> {
-    let (grid, map) = topo_io::read(alloc, text.as_bytes()).ok()?;
-    S::of_map(alloc, &grid, map).ok()
+    S::of_text(alloc, text.as_bytes()).ok()
 }
 
 fn read_shards<S: Shard>(alloc: Global) -> Option<Vec<S>> {

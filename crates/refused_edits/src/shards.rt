@@ -2,8 +2,9 @@
 
 use faults::{FaultKind, OutOfMemory};
 use grid::Grid;
-use merging::{JoinFault, MergeFault, Shard, merge_as, merge_shards};
-use plans::{Plan, first_bad_leaf, named_places};
+use merging::{
+    JoinFault, MergeFault, Plan, Shard, first_bad_leaf, merge_all, merge_as, named_places,
+};
 use refine::{Cut, Whole, merge_topologies};
 use refused_calls::calls;
 use refused_calls::calls::Lent;
@@ -63,11 +64,6 @@ fn from_map<S: Shard>(alloc: Global, pair: &Pair<S>) -> Result<bool, OutOfMemory
     is_shard(alloc, &shard, FIRST)
 }
 
-fn of_map<S: Shard>(alloc: Global, pair: &Pair<S>) -> Result<bool, OutOfMemory> {
-    let shard = S::of_map(alloc, &pair.grid, pair.map.copy()?)?;
-    is_shard(alloc, &shard, FIRST)
-}
-
 fn of_text<S: Shard>(alloc: Global, _: &Pair<S>) -> Result<bool, OutOfMemory> {
     match S::of_text(alloc, FIRST.as_bytes()) {
         Ok(shard) => is_shard(alloc, &shard, FIRST),
@@ -105,11 +101,6 @@ fn text<S: Shard>(alloc: Global, pair: &Pair<S>) -> Result<bool, OutOfMemory> {
     is_shard(alloc, &pair.right, SECOND)
 }
 
-fn into_text<S: Shard>(alloc: Global, pair: &Pair<S>) -> Result<bool, OutOfMemory> {
-    let text = pair.right.copy(alloc)?.into_text(alloc)?;
-    Ok(text.as_slice() == SECOND.as_bytes())
-}
-
 fn texts(alloc: Global) -> Result<Vec<Vec<u8>>, OutOfMemory> {
     let mut texts = Vec::new(alloc);
     texts.push(FIRST.as_bytes().to_vec(alloc)?)?;
@@ -126,11 +117,11 @@ fn merged<T: Drop>(made: Result<T, MergeFault>) -> Result<Option<T>, OutOfMemory
     }
 }
 
-fn merge_to_shard<S: Shard>(alloc: Global, pair: &Pair<S>) -> Result<bool, OutOfMemory> {
-    let made: Result<S, MergeFault> = merge_shards(alloc, texts(alloc)?, &pair.plan);
+fn merge_to_shard<S: Shard>(alloc: Global, _: &Pair<S>) -> Result<bool, OutOfMemory> {
+    let made: Result<Option<S>, MergeFault> = merge_all(alloc, texts(alloc)?);
     match merged(made)? {
-        Some(shard) => is_shard(alloc, &shard, SHARED_EDGE),
-        None => Ok(false),
+        Some(Some(shard)) => is_shard(alloc, &shard, SHARED_EDGE),
+        _ => Ok(false),
     }
 }
 
@@ -142,10 +133,10 @@ fn merge_to_text<S: Shard>(alloc: Global, pair: &Pair<S>) -> Result<bool, OutOfM
     }
 }
 
-fn merge_to_topology(alloc: Global, pair: &Pair<Cut>) -> Result<bool, OutOfMemory> {
-    match merged(merge_topologies(alloc, texts(alloc)?, &pair.plan))? {
-        Some(topology) => Ok(is_of(&topology, SHARED_EDGE)),
-        None => Ok(false),
+fn merge_to_topology(alloc: Global, _: &Pair<Cut>) -> Result<bool, OutOfMemory> {
+    match merged(merge_topologies(alloc, texts(alloc)?))? {
+        Some(Some(topology)) => Ok(is_of(&topology, SHARED_EDGE)),
+        _ => Ok(false),
     }
 }
 
@@ -165,14 +156,12 @@ fn find_leaf(alloc: Global, _: &Pair<Cut>) -> Result<bool, OutOfMemory> {
 fn settle_wholes(rt: &HostRuntime, tally: &mut Tally, pair: &Pair<Whole>) {
     calls!(tally.attempt(rt, "whole shards", pair);
         "Shard::from_map of Whole" => from_map::<Whole>,
-        "Shard::of_map of Whole" => of_map::<Whole>,
         "Shard::of_text of Whole" => of_text::<Whole>,
         "Shard::copy of Whole" => copy::<Whole>,
         "Shard::join of Whole" => join::<Whole>,
         "Shard::join_owned of Whole" => join_owned::<Whole>,
         "Shard::text of Whole" => text::<Whole>,
-        "Shard::into_text of Whole" => into_text::<Whole>,
-        "merging::merge_shards of Whole" => merge_to_shard::<Whole>,
+        "merging::merge_all of Whole" => merge_to_shard::<Whole>,
         "merging::merge_as of Whole" => merge_to_text::<Whole>,
     );
 }
@@ -180,18 +169,16 @@ fn settle_wholes(rt: &HostRuntime, tally: &mut Tally, pair: &Pair<Whole>) {
 fn settle_cuts(rt: &HostRuntime, tally: &mut Tally, pair: &Pair<Cut>) {
     calls!(tally.attempt(rt, "cut shards", pair);
         "Shard::from_map of Cut" => from_map::<Cut>,
-        "Shard::of_map of Cut" => of_map::<Cut>,
         "Shard::of_text of Cut" => of_text::<Cut>,
         "Shard::copy of Cut" => copy::<Cut>,
         "Shard::join of Cut" => join::<Cut>,
         "Shard::join_owned of Cut" => join_owned::<Cut>,
         "Shard::text of Cut" => text::<Cut>,
-        "Shard::into_text of Cut" => into_text::<Cut>,
-        "merging::merge_shards of Cut" => merge_to_shard::<Cut>,
+        "merging::merge_all of Cut" => merge_to_shard::<Cut>,
         "merging::merge_as of Cut" => merge_to_text::<Cut>,
         "refine::merge_topologies" => merge_to_topology,
-        "plans::named_places" => name_places,
-        "plans::first_bad_leaf" => find_leaf,
+        "merging::named_places" => name_places,
+        "merging::first_bad_leaf" => find_leaf,
     );
 }
 

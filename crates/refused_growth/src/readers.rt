@@ -78,6 +78,15 @@ fn build_text(alloc: Global, worked: &Worked) -> Answer {
     }
 }
 
+fn build_borrowed(alloc: Global, worked: &Worked) -> Answer {
+    let texts = [("a", worked.geojson())];
+    match built_text::build_borrowed(alloc, &worked.grid, &texts) {
+        Ok(text) => Answer::of(text.as_slice() == worked.row.topology.as_bytes()),
+        Err(BuildFault::OutOfMemory) => Answer::Wanting,
+        Err(BuildFault::Text(_, _)) => Answer::Wrong,
+    }
+}
+
 fn build_topology(alloc: Global, worked: &Worked) -> Answer {
     match built_text::build_topology(alloc, &worked.grid, worked.sources.as_slice()) {
         Ok(topology) => Answer::of(is_of(&topology, worked.row.topology)),
@@ -102,6 +111,7 @@ pub(crate) fn settle(rt: &HostRuntime, tally: &mut Tally, worked: &Worked) {
         "topo_io::is_canonical" => is_canonical,
         "Topology::build" => build,
         "built_text::build_text" => build_text,
+        "built_text::build_borrowed" => build_borrowed,
         "built_text::build_topology" => build_topology,
         "Topology::expand" => expand,
     );

@@ -16,6 +16,17 @@ use std::alloc::Global;
 use std::io::Cursor;
 use topo::Topology;
 
+/// The features of the two squares, a line each.
+const FEATURE_LINES: &str = concat!(
+    r#"{"geometry":{"coordinates":[[[0,0],[1,0],[1,1],[0,1],[0,0]]],"type":"Polygon"},"properties":{},"type":"Feature"}"#,
+    "\n",
+    r#"{"geometry":{"coordinates":[[[1,0],[2,0],[2,1],[1,1],[1,0]]],"type":"Polygon"},"properties":{},"type":"Feature"}"#,
+    "\n"
+);
+
+/// Both squares have no id.
+const KEYED: &str = r#"{"null":[null],"null":[null]}"#;
+
 /// The features of the two squares as GeoJSON.
 const FEATURES: &str =
     r#"{"features":[{"geometry":{"coordinates":[[[0,0],[1,0],[1,1],[0,1],[0,0]]],"type":"Polygon"},"properties":{},"type":"Feature"},{"geometry":{"coordinates":[[[1,0],[2,0],[2,1],[1,1],[1,0]]],"type":"Polygon"},"properties":{},"type":"Feature"}],"type":"FeatureCollection"}"#;
@@ -137,6 +148,30 @@ fn writes_neighbor_ids(squares: &Squares) -> bool {
     written.is_ok() && is_written(&place, "[[null],[null]]")
 }
 
+fn writes_sequence(squares: &Squares) -> bool {
+    let mut place = Cursor::new([0_u8; ROOM]);
+    let written = query::write_sequence(&squares.topology, "a", &mut Tap::new(&mut place));
+    written.is_ok() && is_written(&place, FEATURE_LINES)
+}
+
+/// The layers are the one.
+fn writes_sequences(squares: &Squares) -> bool {
+    let mut place = Cursor::new([0_u8; ROOM]);
+    let written = query::write_sequences(&squares.topology, &mut Tap::new(&mut place));
+    written.is_ok() && is_written(&place, FEATURE_LINES)
+}
+
+/// No square has an id, so the members have one name.
+fn writes_neighbors_keyed(squares: &Squares) -> bool {
+    let Some(geometries) = squares.topology.geometries("a") else {
+        return false;
+    };
+    let mut place = Cursor::new([0_u8; ROOM]);
+    let lists = squares.neighbors.as_slice();
+    let written = query::write_neighbors_keyed(geometries, lists, &mut Tap::new(&mut place));
+    written.is_ok() && is_written(&place, KEYED)
+}
+
 /// Three arcs of four, two and four positions, none of them free.
 fn counts_arcs(squares: &Squares) -> bool {
     let counts = ArcCounts {
@@ -182,6 +217,9 @@ pub(crate) fn settle(rt: &HostRuntime, tally: &mut Tally, squares: &Squares) {
         "query::write_mesh" => writes_mesh,
         "query::write_neighbors" => writes_neighbors,
         "query::write_neighbor_ids" => writes_neighbor_ids,
+        "query::write_neighbors_keyed" => writes_neighbors_keyed,
+        "query::write_sequence" => writes_sequence,
+        "query::write_sequences" => writes_sequences,
         "query::count_arcs" => counts_arcs,
         "query::count_kinds" => counts_kinds,
         "Topology::bbox" => has_box,

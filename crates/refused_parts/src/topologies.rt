@@ -1,5 +1,6 @@
 //! Topologies and their geometries, copied, and asked for their borders.
 
+use chains::ArcTable;
 use faults::OutOfMemory;
 use query::{Edges, QueryFault};
 use refused_calls::calls::Lent;
@@ -60,12 +61,21 @@ fn share(alloc: Global, squares: &Squares) -> Result<bool, OutOfMemory> {
     Ok(is_of(&squares.topology.share(alloc)?, SHARED_EDGE))
 }
 
-fn borders(alloc: Global, squares: &Squares) -> Result<bool, OutOfMemory> {
-    match query::borders(alloc, &squares.topology, Some("a"), Edges::Interior) {
+/// Whether the borders are the common one.
+fn is_common(made: Result<ArcTable, QueryFault>) -> Result<bool, OutOfMemory> {
+    match made {
         Ok(table) => Ok(are_arcs(&table, &[&[(1, 0), (1, 1)]])),
         Err(QueryFault::OutOfMemory) => Err(OutOfMemory),
         Err(QueryFault::NoLayer) => Ok(false),
     }
+}
+
+fn borders(alloc: Global, squares: &Squares) -> Result<bool, OutOfMemory> {
+    is_common(query::borders(alloc, &squares.topology, Some("a"), Edges::Interior))
+}
+
+fn borders_by(alloc: Global, squares: &Squares) -> Result<bool, OutOfMemory> {
+    is_common(query::borders_by(alloc, &squares.topology, Some("a"), "name"))
 }
 
 /// Tells the calls apart.
@@ -76,6 +86,7 @@ enum Call {
     CopyLayer,
     Share,
     Borders,
+    BordersBy,
 }
 
 const ROWS: &[Row<Call>] = &[
@@ -84,6 +95,7 @@ const ROWS: &[Row<Call>] = &[
     ("Layer::copy", Call::CopyLayer),
     ("Topology::share", Call::Share),
     ("query::borders", Call::Borders),
+    ("query::borders_by", Call::BordersBy),
 ];
 
 impl Lends for Squares {
@@ -102,6 +114,7 @@ impl Lends for Squares {
             Call::CopyLayer => copy_layer(alloc, self),
             Call::Share => share(alloc, self),
             Call::Borders => borders(alloc, self),
+            Call::BordersBy => borders_by(alloc, self),
         }
     }
 }

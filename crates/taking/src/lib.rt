@@ -6,13 +6,12 @@ pub mod arcs;
 pub mod ends;
 pub mod laws;
 pub mod lists;
-pub mod order;
+mod order;
 pub mod sorting;
 pub mod whole;
 
 pub use arcs::TextArcs;
 pub use ends::line_ends;
 pub use lists::lists_stand;
-pub use order::in_order;
 pub use sorting::layers_sorted;
 pub use whole::{Taken, take};

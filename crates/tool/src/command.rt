@@ -1,8 +1,12 @@
 //! The whole command, over files and sinks that are handed in.
 use crate::build_command::topology_built;
+use crate::check_command::{Checked, check, print_checked};
+use crate::diff_command::{Compared, print_difference, topologies_compared};
 use crate::files::Files;
 use crate::merge_command::topology_merged;
-use crate::queries::{Question, is_canonical};
+use crate::output::Output;
+use crate::progress::Progress;
+use crate::queries::Question;
 use crate::refusal::Refusal;
 use crate::removing::topology_left;
 use crate::status::Status;
@@ -10,14 +14,16 @@ use crate::topologies::read_topology;
 use arguments::parse;
 use clap::error::ErrorKind;
 use clap::{ArgMatches, Error};
-use sinks::{Sink, put};
+use sinks::{Sink, WriteFault, put};
 use std::alloc::Global;
 use topo::Topology;
 
 /// Runs the command that the words ask for, of which the first is the program's name, and answers
-/// the exit status: 0 done, 1 `check` says no, 2 usage, 3 a file can't be read, 4 an input is
+/// the exit status: 0 done, 1 `check` says no or `diff` found a difference, 2 usage, 3 a file can't be read, 4 an input is
 /// refused, 5 want of memory, 6 the output failed. From 2 on `err` is given a line that says why.
-/// Where an input is refused nothing is written to `out`; otherwise it is flushed last.
+/// Where an input is refused nothing is written to `out`; otherwise it is flushed last. Where the words name
+/// a file for the output it is made by `files`, and `out` is given nothing. Where they ask for it `err` is also
+/// given a line for each file that is read and each stage that is done.
 pub fn run<F: Files, O: Sink, E: Sink>(
     alloc: Global,
     words: &[String],
@@ -26,8 +32,8 @@ pub fn run<F: Files, O: Sink, E: Sink>(
     err: &mut E,
 ) -> u8 {
     let status = match parse(alloc, words) {
-        Ok(matches) => match perform(alloc, &matches, files, out) {
-            Ok(status) => finish(status, out, err),
+        Ok(matches) => match perform(alloc, &matches, files, out, err) {
+            Ok(status) => status,
             Err(refusal) => refuse(&refusal, err),
         },
         Err(error) => explain(alloc, &error, out, err),
@@ -35,38 +41,90 @@ pub fn run<F: Files, O: Sink, E: Sink>(
     status.number()
 }
 
-/// Does what the words ask for. Answers `Done`, or `NotCanonical` where `check` says no.
-fn perform<'a, F: Files, O: Sink>(
+/// Does what the words ask for. Answers `Done`, or `NotCanonical` where `check` says no, or `Different` where `diff`
+/// found a difference.
+fn perform<'a, F: Files, O: Sink, E: Sink>(
     alloc: Global,
     matches: &ArgMatches<'a>,
     files: &mut F,
     out: &mut O,
+    err: &mut E,
 ) -> Result<Status, Refusal<'a>> {
     match matches.subcommand() {
-        Some((name, found)) => perform_named(alloc, name, found, files, out),
+        Some((name, found)) => {
+            let mut progress = Progress::begin(files, err, found.get_flag("progress"));
+            perform_named(alloc, name, found, &mut progress, out)
+        }
         None => Ok(Status::Usage),
     }
 }
 
-/// The same for the command of this name. All but `check` print what they make or ask of a topology.
-fn perform_named<'a, F: Files, O: Sink>(
+/// The same for the command of this name: what it prints about is made first, and then printed.
+fn perform_named<'a, F: Files, O: Sink, E: Sink>(
+    alloc: Global,
+    name: &str,
+    found: &ArgMatches<'a>,
+    progress: &mut Progress<'_, F, E>,
+    out: &mut O,
+) -> Result<Status, Refusal<'a>> {
+    let made = make(alloc, name, found, progress)?;
+    match &made {
+        Made::Verdict(_) => progress.tell_check(),
+        Made::Compared(compared) => progress.tell_difference(compared.difference.counts()),
+        Made::Topology(topology) => progress.tell_topology(topology),
+    }
+    let mut output = Output::open(alloc, progress.files(), out, found.get_str("output"))?;
+    let printed = print(alloc, name, found, &made, &mut output);
+    let bytes = output.bytes();
+    let status = output.close(printed)?;
+    progress.tell_output(bytes);
+    Ok(status)
+}
+
+/// What a command prints, or prints an answer about.
+#[derive(Drop)]
+enum Made {
+    Verdict(Checked),
+    Compared(Compared),
+    Topology(Topology),
+}
+
+/// What the command of this name makes of its files.
+fn make<'a, F: Files>(
     alloc: Global,
     name: &str,
     found: &ArgMatches<'a>,
     files: &mut F,
+) -> Result<Made, Refusal<'a>> {
+    if name == "check" {
+        return Ok(Made::Verdict(check(alloc, found, files)?));
+    }
+    if name == "diff" {
+        return Ok(Made::Compared(topologies_compared(alloc, found, files)?));
+    }
+    Ok(Made::Topology(topology_named(alloc, name, found, files)?))
+}
+
+/// Prints it. All but `check` and `diff` print what they make or ask of a topology.
+fn print<'a, O: Sink>(
+    alloc: Global,
+    name: &str,
+    found: &ArgMatches<'a>,
+    made: &Made,
     out: &mut O,
 ) -> Result<Status, Refusal<'a>> {
-    if name == "check" {
-        let canonical = is_canonical(alloc, found, files)?;
-        return print_verdict(canonical, out);
+    match made {
+        Made::Verdict(checked) => print_checked(checked, out),
+        Made::Compared(compared) => print_difference(compared, found.get_flag("json"), out),
+        Made::Topology(topology) => {
+            let question = Question {
+                alloc,
+                topology,
+                found,
+            };
+            print_named(name, &question, out)
+        }
     }
-    let topology = topology_named(alloc, name, found, files)?;
-    let question = Question {
-        alloc,
-        topology: &topology,
-        found,
-    };
-    print_named(name, &question, out)
 }
 
 /// The topology that the command of this name makes, or is asked about.
@@ -106,25 +164,6 @@ fn print_topology<'a, O: Sink>(topology: &Topology, out: &mut O) -> Result<Statu
     Ok(Status::Done)
 }
 
-/// Prints whether a text is canonical.
-fn print_verdict<'a, O: Sink>(canonical: bool, out: &mut O) -> Result<Status, Refusal<'a>> {
-    if canonical {
-        put(out, b"canonical\n")?;
-        Ok(Status::Done)
-    } else {
-        put(out, b"not canonical\n")?;
-        Ok(Status::NotCanonical)
-    }
-}
-
-/// Flushes the output, which may fail until then.
-fn finish<O: Sink, E: Sink>(status: Status, out: &mut O, err: &mut E) -> Status {
-    match out.flush() {
-        Ok(()) => status,
-        Err(_) => refuse(&Refusal::Write, err),
-    }
-}
-
 /// Says why, and answers the status. A failure of standard error changes nothing.
 fn refuse<E: Sink>(refusal: &Refusal<'_>, err: &mut E) -> Status {
     let _ = refusal.write_line(err);
@@ -143,8 +182,16 @@ fn explain<O: Sink, E: Sink>(alloc: Global, error: &Error, out: &mut O, err: &mu
         let _ = put(err, text.as_bytes());
         return Status::Usage;
     }
-    match put(out, text.as_bytes()) {
-        Ok(()) => finish(Status::Done, out, err),
-        Err(_) => refuse(&Refusal::Write, err),
+    match print_help(text.as_str(), out) {
+        Ok(()) => Status::Done,
+        Err(WriteFault::Write) => refuse(&Refusal::Write, err),
+    }
+}
+
+fn print_help<O: Sink>(text: &str, out: &mut O) -> Result<(), WriteFault> {
+    put(out, text.as_bytes())?;
+    match out.flush() {
+        Ok(()) => Ok(()),
+        Err(_) => Err(WriteFault::Write),
     }
 }

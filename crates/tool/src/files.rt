@@ -1,5 +1,6 @@
-//! The files that a command reads.
+//! The files that a command reads, and the one that it writes.
 use crate::refusal::Refusal;
+use sinks::Refused;
 use std::alloc::Global;
 use thiserror::Error;
 
@@ -17,7 +18,34 @@ pub enum FileFault {
     OutOfMemory,
 }
 
-/// Where a command finds its files: those of the machine, or a test's own.
+/// Why there is no file to write to.
+#[derive(Clone, Copy, Debug, PartialEq, Eq, Error)]
+pub enum OutputFault {
+    /// A file of that name is there.
+    #[error("is there")]
+    IsThere,
+    /// It can't be made, or found out.
+    #[error("can't be written")]
+    Unwritable,
+    /// There is no memory for it.
+    #[error("out of memory")]
+    OutOfMemory,
+}
+
+/// What stands under the name of an output.
+#[derive(Drop)]
+pub enum Place {
+    /// A file, or nothing yet, and the name behind all links.
+    File(String),
+    /// A device or a pipe, which can't be replaced.
+    Stream,
+}
+
+/// What a command has of its machine: the files that it reads, one that it writes, and a clock. They are those of
+/// the machine, or a test's own. Where the methods for the output are left out, no file can be written.
+///
+/// An output is found, made under another name beside it, written, synced, and put in its place by `rename`.
+/// So the file that was there before stays as it was until all is written.
 pub trait Files {
     /// The bytes of the file of this name.
     fn read_file(&mut self, alloc: Global, name: &str) -> Result<Vec<u8>, FileFault>;
@@ -26,6 +54,53 @@ pub trait Files {
     /// this out have no standard input, and the word `-` is a file that can't be read.
     fn read_input(&mut self, _alloc: Global) -> Result<Vec<u8>, FileFault> {
         Err(FileFault::Unreadable)
+    }
+
+    /// The milliseconds since some moment that stays the same; None where there is no clock. A run asks for them
+    /// only where it tells its progress.
+    fn milliseconds(&mut self) -> Option<u64> {
+        None
+    }
+
+    /// What stands under this name.
+    fn find_output(&mut self, _alloc: Global, _name: &str) -> Result<Place, OutputFault> {
+        Err(OutputFault::Unwritable)
+    }
+
+    /// Makes an empty file of this name, where there is none, to which the output is written from then on. It
+    /// gets the permissions of the file `like`, where there is one.
+    fn create_output(
+        &mut self,
+        _alloc: Global,
+        _name: &str,
+        _like: &str,
+    ) -> Result<(), OutputFault> {
+        Err(OutputFault::Unwritable)
+    }
+
+    /// Opens the device or pipe of this name, to which the output is written from then on.
+    fn open_stream(&mut self, _alloc: Global, _name: &str) -> Result<(), OutputFault> {
+        Err(OutputFault::Unwritable)
+    }
+
+    /// Writes all of a piece to the output.
+    fn write_output(&mut self, _piece: &[u8]) -> Result<(), Refused> {
+        Err(Refused)
+    }
+
+    /// Hands on all that was written, to the disk where the output is a file, and closes it.
+    fn sync_output(&mut self) -> Result<(), Refused> {
+        Err(Refused)
+    }
+
+    /// Gives a file another name, and takes away what had that name before.
+    fn rename(&mut self, _from: &str, _to: &str) -> Result<(), Refused> {
+        Err(Refused)
+    }
+
+    /// Removes a file.
+    fn remove(&mut self, _name: &str) -> Result<(), Refused> {
+        Err(Refused)
     }
 }
 

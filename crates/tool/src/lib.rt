@@ -4,10 +4,14 @@
 #![tactic(auto)]
 
 mod build_command;
+mod check_command;
 mod command;
+mod diff_command;
 mod files;
 mod grid_word;
 mod merge_command;
+mod output;
+mod progress;
 mod queries;
 mod refusal;
 mod removing;
@@ -16,4 +20,4 @@ mod topologies;
 
 pub use built_text::{BuildFault, build_text, laws};
 pub use command::run;
-pub use files::{FileFault, Files};
+pub use files::{FileFault, Files, OutputFault, Place};

@@ -1,29 +1,18 @@
-//! The commands that ask one topology: `check`, `feature`, `mesh`, `neighbors` and `info`.
-use crate::files::{Files, read_named};
+//! The commands that ask one topology: `feature`, `mesh`, `neighbors` and `info`.
 use crate::refusal::Refusal;
 use crate::status::Status;
-use crate::topologies::{of_file, word};
+use crate::topologies::word;
 use clap::ArgMatches;
 use info_text::{write_json, write_lines};
+use itoa::Buffer;
 use query::{
-    Edges, LayerFault, QueryFault, borders, neighbors, write_layer, write_mesh, write_neighbor_ids,
-    write_neighbors,
+    Edges, LayerFault, QueryFault, borders, borders_by, neighbors, write_layer, write_mesh,
+    write_neighbor_ids, write_neighbors, write_neighbors_keyed, write_sequence, write_sequences,
 };
 use shapes::Id;
 use sinks::Sink;
 use std::alloc::Global;
 use topo::{Geom, Topology};
-
-/// Whether the text of a file is canonical.
-pub(crate) fn is_canonical<'a, F: Files>(
-    alloc: Global,
-    found: &ArgMatches<'a>,
-    files: &mut F,
-) -> Result<bool, Refusal<'a>> {
-    let text = read_named(alloc, files, word(found, "FILE"))?;
-    let read = topo_io::is_canonical(alloc, text.as_slice());
-    of_file(word(found, "FILE"), read)
-}
 
 /// A topology, and the words that ask about it.
 #[derive(Drop)]
@@ -34,21 +23,30 @@ pub(crate) struct Question<'t, 'a> {
 }
 
 impl<'t, 'a> Question<'t, 'a> {
-    /// Prints a layer as GeoJSON.
+    /// Prints a layer as GeoJSON, or a layer or all layers as features, a line each.
     pub(crate) fn print_feature<O: Sink>(&self, out: &mut O) -> Result<Status, Refusal<'a>> {
         let layer = word(self.found, "layer");
-        match write_layer(self.topology, layer, out) {
-            Ok(()) => Ok(Status::Done),
-            Err(LayerFault::NoLayer) => Err(Refusal::NoLayer(layer)),
-            Err(LayerFault::Write) => Err(Refusal::Write),
+        if !self.found.get_flag("seq") {
+            return done(layer, write_layer(self.topology, layer, out));
         }
+        if self.found.get_str("layer").is_some() {
+            return done(layer, write_sequence(self.topology, layer, out));
+        }
+        write_sequences(self.topology, out)?;
+        Ok(Status::Done)
     }
 
     /// Prints the borders of a layer, or of all layers.
     pub(crate) fn print_mesh<O: Sink>(&self, out: &mut O) -> Result<Status, Refusal<'a>> {
         let layer = self.found.get_str("layer");
-        let edges = edges_of_word(word(self.found, "edges"));
-        match borders(self.alloc, self.topology, layer, edges) {
+        let lines = match self.found.get_str("by") {
+            Some(property) => borders_by(self.alloc, self.topology, layer, property),
+            None => {
+                let edges = edges_of_word(word(self.found, "edges"));
+                borders(self.alloc, self.topology, layer, edges)
+            }
+        };
+        match lines {
             Ok(lines) => {
                 write_mesh(&self.topology.grid(), &lines, out)?;
                 Ok(Status::Done)
@@ -65,9 +63,28 @@ impl<'t, 'a> Question<'t, 'a> {
             Err(fault) => return Err(refused(layer, fault)),
         };
         if self.found.get_flag("ids") {
-            return print_ids(self.topology, layer, lists.as_slice(), out);
+            return self.print_ids(layer, lists.as_slice(), out);
         }
         write_neighbors(lists.as_slice(), out)?;
+        Ok(Status::Done)
+    }
+
+    /// Prints the ids of the neighbors of each feature of a layer.
+    fn print_ids<O: Sink>(
+        &self,
+        layer: &'a str,
+        lists: &[Vec<usize>],
+        out: &mut O,
+    ) -> Result<Status, Refusal<'a>> {
+        let geometries = geometries_with_ids(self.topology, layer)?;
+        if !self.found.get_flag("keyed") {
+            write_neighbor_ids(geometries, lists, out)?;
+            return Ok(Status::Done);
+        }
+        if has_key_twice(geometries) {
+            return Err(Refusal::SameIds(layer));
+        }
+        write_neighbors_keyed(geometries, lists, out)?;
         Ok(Status::Done)
     }
 
@@ -91,16 +108,13 @@ fn edges_of_word(word: &str) -> Edges {
     }
 }
 
-/// Prints the ids of the neighbors of each feature of a layer.
-fn print_ids<'a, O: Sink>(
-    topology: &Topology,
-    layer: &'a str,
-    lists: &[Vec<usize>],
-    out: &mut O,
-) -> Result<Status, Refusal<'a>> {
-    let geometries = geometries_with_ids(topology, layer)?;
-    write_neighbor_ids(geometries, lists, out)?;
-    Ok(Status::Done)
+/// What a layer's text was written with.
+fn done<'a>(layer: &'a str, written: Result<(), LayerFault>) -> Result<Status, Refusal<'a>> {
+    match written {
+        Ok(()) => Ok(Status::Done),
+        Err(LayerFault::NoLayer) => Err(Refusal::NoLayer(layer)),
+        Err(LayerFault::Write) => Err(Refusal::Write),
+    }
 }
 
 /// The geometries of a layer, each of which has to have an id.
@@ -115,6 +129,41 @@ fn geometries_with_ids<'a, 't>(
         }
     }
     Ok(geometries)
+}
+
+/// Whether two of a layer's geometries, which come in the order of their ids, have one key in an object.
+fn has_key_twice(geometries: &[Geom]) -> bool {
+    let mut before: Option<&Id> = None;
+    for geometry in geometries {
+        if is_same(before, &geometry.id) || is_number_too(geometries, &geometry.id) {
+            return true;
+        }
+        before = Some(&geometry.id);
+    }
+    false
+}
+
+fn is_same(before: Option<&Id>, id: &Id) -> bool {
+    match before {
+        Some(before) => *before == *id,
+        None => false,
+    }
+}
+
+/// Whether an id is a text, and the decimal text of the number that is another one's id.
+fn is_number_too(geometries: &[Geom], id: &Id) -> bool {
+    let Id::Text(text) = id else {
+        return false;
+    };
+    let Ok(number) = text.text().parse::<i64>() else {
+        return false;
+    };
+    let is_its_text = Buffer::new().format(number) == text.text();
+    let number = Id::Number(number);
+    is_its_text
+        && geometries
+            .binary_search_by(|geometry| geometry.id.cmp(&number))
+            .is_ok()
 }
 
 fn refused<'a>(layer: &'a str, fault: QueryFault) -> Refusal<'a> {

@@ -1,6 +1,8 @@
 //! How a command says that it did not do its work: an exit status and a line on standard error.
+use crate::files::OutputFault;
 use crate::status::Status;
-use faults::{Fault, FaultKind, OutOfMemory, Step};
+use fault_paths::write_path;
+use faults::{Fault, FaultKind, OutOfMemory};
 use itoa::Buffer;
 use sinks::{Sink, WriteFault, put};
 use std::alloc::{AllocError, AllocFailed};
@@ -10,6 +12,8 @@ use std::alloc::{AllocError, AllocFailed};
 pub(crate) enum Refusal<'a> {
     /// The word after `--grid` is no transform.
     BadGrid(&'a str),
+    /// The word after `--near` is no number of steps.
+    BadSteps(&'a str),
     /// A file word of `build` has no `=`.
     BadLayer(&'a str),
     /// Two files are standard input.
@@ -24,11 +28,13 @@ pub(crate) enum Refusal<'a> {
     NoLayer(&'a str),
     /// Ids are asked for, and a feature of the layer of this name has none.
     NoId(&'a str),
+    /// Ids are asked for as keys, and one stands twice in the layer of this name.
+    SameIds(&'a str),
     /// A plan names a file that is not there.
     BadPlan,
     /// A growth of memory was refused.
     OutOfMemory,
-    /// Standard output failed.
+    /// The output failed.
     Write,
 }
 
@@ -44,8 +50,12 @@ impl<'a> Refusal<'a> {
     /// The exit status.
     pub(crate) fn status(&self) -> Status {
         match self {
-            Refusal::BadGrid(_) | Refusal::BadLayer(_) | Refusal::InputTwice | Refusal::NoId(_) =>
-                Status::Usage,
+            Refusal::BadGrid(_)
+            | Refusal::BadSteps(_)
+            | Refusal::BadLayer(_)
+            | Refusal::InputTwice
+            | Refusal::NoId(_)
+            | Refusal::SameIds(_) => Status::Usage,
             Refusal::Unreadable(_) => Status::Unreadable,
             Refusal::Text(..) | Refusal::OtherGrid(_) | Refusal::NoLayer(_) | Refusal::BadPlan => {
                 Status::Refused
@@ -65,6 +75,7 @@ impl<'a> Refusal<'a> {
     fn put_reason<E: Sink>(&self, err: &mut E) -> Result<(), WriteFault> {
         match self {
             Refusal::BadGrid(word) => put_words(err, "bad grid ", word),
+            Refusal::BadSteps(word) => put_words(err, "bad steps ", word),
             Refusal::BadLayer(word) => put_words(err, "bad layer ", word),
             Refusal::InputTwice => put(err, b"standard input can be read once only"),
             Refusal::Unreadable(file) => put_words(err, "cannot read ", file),
@@ -72,6 +83,11 @@ impl<'a> Refusal<'a> {
             Refusal::OtherGrid(file) => put_kind_of(err, file, FaultKind::OtherGrid),
             Refusal::NoLayer(name) => put_no_layer(err, name),
             Refusal::NoId(name) => put_words(err, "--ids: a feature without an id in layer ", name),
+            Refusal::SameIds(name) => put_words(
+                err,
+                "--keyed: two features with one id in layer ",
+                name,
+            ),
             Refusal::BadPlan => put_kind(err, FaultKind::BadPlan),
             Refusal::OutOfMemory => put_kind(err, FaultKind::OutOfMemory),
             Refusal::Write => put_kind(err, FaultKind::Write),
@@ -103,6 +119,15 @@ impl<'a> From<WriteFault> for Refusal<'a> {
     }
 }
 
+impl<'a> From<OutputFault> for Refusal<'a> {
+    fn from(fault: OutputFault) -> Refusal<'a> {
+        match fault {
+            OutputFault::OutOfMemory => Refusal::OutOfMemory,
+            OutputFault::IsThere | OutputFault::Unwritable => Refusal::Write,
+        }
+    }
+}
+
 fn put_words<E: Sink>(err: &mut E, first: &str, second: &str) -> Result<(), WriteFault> {
     put(err, first.as_bytes())?;
     put(err, second.as_bytes())
@@ -124,43 +149,10 @@ fn put_kind_of<E: Sink>(err: &mut E, file: &str, kind: FaultKind) -> Result<(), 
 fn put_fault<E: Sink>(err: &mut E, file: &str, fault: &Fault) -> Result<(), WriteFault> {
     put_kind_of(err, file, fault.kind)?;
     put(err, b" ")?;
-    put_path(err, fault.path.as_slice())
+    write_path(fault.path.as_slice(), err)
 }
 
 fn put_no_layer<E: Sink>(err: &mut E, name: &str) -> Result<(), WriteFault> {
     put_kind(err, FaultKind::NoLayer)?;
     put_words(err, " ", name)
-}
-
-/// A path is `$`, then `/` and the step for each step.
-fn put_path<E: Sink>(err: &mut E, path: &[Step]) -> Result<(), WriteFault> {
-    put(err, b"$")?;
-    for step in path {
-        put(err, b"/")?;
-        put_step(err, step)?;
-    }
-    Ok(())
-}
-
-fn put_step<E: Sink>(err: &mut E, step: &Step) -> Result<(), WriteFault> {
-    match step {
-        Step::Name(name) => put_name(err, name.as_str()),
-        Step::Index(index) => put(err, Buffer::new().format(*index).as_bytes()),
-    }
-}
-
-/// A member's name, with `~0` for `~` and `~1` for `/`.
-fn put_name<E: Sink>(err: &mut E, name: &str) -> Result<(), WriteFault> {
-    for byte in name.as_bytes() {
-        put_byte(err, *byte)?;
-    }
-    Ok(())
-}
-
-fn put_byte<E: Sink>(err: &mut E, byte: u8) -> Result<(), WriteFault> {
-    match byte {
-        b'~' => put(err, b"~0"),
-        b'/' => put(err, b"~1"),
-        _ => put(err, &[byte]),
-    }
 }

@@ -7,8 +7,10 @@ pub(crate) enum Status {
     Done,
     /// `check` says no.
     NotCanonical,
-    /// Wrong usage, a bad grid, a bad layer, standard input named twice, or a feature without an id
-    /// for `--ids`.
+    /// `diff` found a difference.
+    Different,
+    /// Wrong usage, a bad grid, bad steps, a bad layer, standard input named twice, a feature without an id
+    /// for `--ids`, or an id that stands twice for `--keyed`.
     Usage,
     /// A file can't be read.
     Unreadable,
@@ -25,7 +27,7 @@ impl Status {
     pub(crate) fn number(self) -> u8 {
         match self {
             Status::Done => 0,
-            Status::NotCanonical => 1,
+            Status::NotCanonical | Status::Different => 1,
             Status::Usage => 2,
             Status::Unreadable => 3,
             Status::Refused => 4,

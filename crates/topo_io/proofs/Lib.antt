@@ -16,6 +16,7 @@ pub mod Stitched
 pub mod Needed
 pub mod Each
 pub mod Features
+pub mod JudgedLists
 pub mod Entries
 pub mod AsItStands
 pub mod AnyOrder

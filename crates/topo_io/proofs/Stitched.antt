@@ -45,7 +45,7 @@ use Rattle.topo_io.proofs.Stitching.{stitched_passed}
 
 -- ---- stitching
 
-along_is : (arcs : List (List Pos)) (a : ArcRef) (c : List Pos) → numbers.along arcs a ≡ Some c → along arcs a ≡ c
+pub along_is : (arcs : List (List Pos)) (a : ArcRef) (c : List Pos) → numbers.along arcs a ≡ Some c → along arcs a ≡ c
 along_is arcs a c e =
     let (d, there, is) = along_get arcs a c e in
     let at : get_or arcs a.arc [] ≡ d = get_or_from_slice_get arcs a.arc d [] there in

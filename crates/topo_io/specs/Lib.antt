@@ -9,6 +9,7 @@ pub mod Layers
 pub mod Means
 pub mod Parts
 pub mod Stitching
+pub mod Validity
 pub mod Laws
 pub mod TokenArcs
 pub mod TokenRange

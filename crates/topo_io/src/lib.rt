@@ -7,6 +7,7 @@ pub mod reader;
 pub mod same;
 mod token_reader;
 pub mod topology;
+mod validity;
 pub mod writer;
 
 pub use reader::parts::TextParts;

@@ -31,6 +31,7 @@ use crate::reader::geometry::Ground;
 use crate::reader::layer::LayerOf;
 use crate::reader::position::Limits;
 use crate::reader::transform::read_transform;
+use crate::validity::judge_root;
 use faults::OutOfMemory;
 use faults::fault::{Fault, FaultKind};
 use grid::transform::Grid;
@@ -156,7 +157,8 @@ pub(crate) fn read_root(alloc: Global, value: &Value) -> Result<(Grid, Layers), 
     }
 }
 
-// The value is dropped at the end, before the map is made.
+// The value is judged first, so that no feature is kept of a text that has a fault. It is dropped at the end,
+// before the map is made.
 pub(crate) fn read_text(alloc: Global, bytes: &[u8]) -> Result<(Grid, Layers), Fault>
     ensures ok { OnOk result (faults_of_text bytes.now ≡ []) }
     ensures grid { IfOk result (λ made. made.0 ≡ grid_of_text bytes.now) }
@@ -165,6 +167,7 @@ pub(crate) fn read_text(alloc: Global, bytes: &[u8]) -> Result<(Grid, Layers), F
     ensures err { IfErr result (λ f. LeastOrWant (faults_of_text bytes.now) f) }
 {
     let value = document(alloc, bytes)?;
+    judge_root(alloc, &value)?;
     read_root(alloc, &value)
 }
 

@@ -9,8 +9,10 @@ ghost use Rattle.topo_io.specs.Roots.{faults_of_text};
 use crate::other_forms::topology_of_normalized;
 use crate::reader::parts::TextParts;
 use crate::reader::parts::features::map_of_parts;
-use crate::reader::{read, read_text};
+use crate::reader::read;
 use crate::token_reader::read_parts;
+use crate::validity::judge_text;
+use crate::validity::parts::layers_stitch;
 use faults::OutOfMemory;
 use faults::fault::{Fault, FaultKind};
 use grid::transform::Grid;
@@ -25,8 +27,8 @@ fn least_fault(alloc: Global, bytes: &[u8]) -> Fault
     requires { faults_of_text bytes.now ≢ [] }
     ensures { LeastOrWant (faults_of_text bytes.now) result }
 {
-    match read_text(alloc, bytes) {
-        Ok(_) => unreachable!(),
+    match judge_text(alloc, bytes) {
+        Ok(()) => unreachable!(),
         Err(fault) => fault,
     }
 }
@@ -49,6 +51,29 @@ fn built(
     }
 }
 
+/// The topology of a text whose arcs and layers don't stand as they are: theirs once they are normalized, if
+/// they stand then, else it is built. None where a list of arcs stitches to no line or ring. The lists are
+/// judged by their arcs first, so that no feature of a text with a fault is kept.
+fn topology_of_judged(
+    alloc: Global,
+    grid: Grid,
+    arcs: &TextArcs,
+    layers: Vec<Layer>,
+) -> Result<Option<Topology>, OutOfMemory>
+    requires { HaveI64 layers.items }
+    ensures means { IfOk result (λ o. IfSome o (IsTopologyOfParts grid arcs.now layers.items)) }
+    ensures few { IfOk result (λ o. IfSome o (λ t. length t.arcs.arcs < 2 ^ 63)) }
+    ensures none { IfOk result (λ o. IfNone o (AreFaultyParts grid arcs.now layers.items)) }
+{
+    if !layers_stitch(alloc, arcs, &layers)? {
+        return Ok(None);
+    }
+    match topology_of_normalized(alloc, grid, arcs, &layers)? {
+        Some(topology) => Ok(Some(topology)),
+        None => built(alloc, &grid, arcs, layers),
+    }
+}
+
 /// The topology of a text's parts: theirs, where they stand as they are or once they are normalized, else it
 /// is built. None where a list of arcs stitches to no line or ring.
 fn topology_of_parts(alloc: Global, parts: TextParts) -> Result<Option<Topology>, OutOfMemory>
@@ -60,10 +85,7 @@ fn topology_of_parts(alloc: Global, parts: TextParts) -> Result<Option<Topology>
     let grid = parts.grid;
     match take(alloc, grid, parts.arcs, parts.layers)? {
         Taken::Whole(topology) => Ok(Some(topology)),
-        Taken::Not { arcs, layers } => match topology_of_normalized(alloc, grid, &arcs, &layers)? {
-            Some(topology) => Ok(Some(topology)),
-            None => built(alloc, &grid, &arcs, layers),
-        },
+        Taken::Not { arcs, layers } => topology_of_judged(alloc, grid, &arcs, layers),
     }
 }
 

@@ -34,7 +34,7 @@ fn map_of(alloc: Global, grid: &Grid, text: &str) -> Result<FeatureMap, Fail> {
 fn shard<S: Shard>(alloc: Global, text: &str) -> Result<S, Fail> {
     let grid = grid()?;
     let map = map_of(alloc, &grid, text)?;
-    Ok(S::of_map(alloc, &grid, map)?)
+    Ok(S::from_map(alloc, &grid, &map)?)
 }
 
 /// The shards of texts in an order.

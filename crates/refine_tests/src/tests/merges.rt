@@ -1,5 +1,5 @@
 //! Merging of texts and shards by plans: answers, faults in their order, and deep plans.
-use crate::tests::inputs::{GROUPINGS, grouped, is_text_of, plan_of};
+use crate::tests::inputs::{GROUPINGS, grouped, plan_of};
 use crate::tests::texts::{ENDS, FIRST, ON_SCALE_TWO, SECOND, THIRD, THREE};
 use faults::{Fault, FaultKind};
 use grid::transform::Grid;
@@ -12,7 +12,6 @@ use shapes::feature_map::FeatureMap;
 use std::alloc::Global;
 use std::process::Abort;
 use std::test::Fail;
-use topo::Topology;
 
 fn texts(alloc: Global, list: &[&str]) -> Result<Vec<Vec<u8>>, Fail> {
     let mut made = Vec::new(alloc);
@@ -22,16 +21,7 @@ fn texts(alloc: Global, list: &[&str]) -> Result<Vec<Vec<u8>>, Fail> {
     Ok(made)
 }
 
-/// The topology of what a plan names of texts, or its refusal.
-fn merged_topology(
-    alloc: Global,
-    list: &[&str],
-    plan: &Plan,
-) -> Result<Result<Topology, MergeFault>, Fail> {
-    Ok(merge_topologies(alloc, texts(alloc, list)?, plan))
-}
-
-/// Merges the texts, and compares the merged text, and that of the merged topology.
+/// Merges the texts that a plan names, and compares the merged text.
 fn check_merged(
     rt: &impl Abort,
     alloc: Global,
@@ -41,8 +31,26 @@ fn check_merged(
 ) -> Result<(), Fail> {
     let text = merge_texts(alloc, &texts(alloc, list)?, plan)?;
     assert!(rt; text.as_slice() == merged.as_bytes(), "{merged}");
-    let topology = merged_topology(alloc, list, plan)??;
-    assert!(rt; is_text_of(alloc, &topology, merged)?, "{merged}");
+    Ok(())
+}
+
+/// The text of the topology of all texts of a list; none of no text.
+fn text_of_all(alloc: Global, list: &[&str]) -> Result<Option<Vec<u8>>, Fail> {
+    Ok(match merge_topologies(alloc, texts(alloc, list)?)? {
+        Some(topology) => Some(topo_io::text_of(alloc, &topology)?),
+        None => None,
+    })
+}
+
+/// Merges all texts of a list to a topology, and compares its text.
+fn check_all_merged(
+    rt: &impl Abort,
+    alloc: Global,
+    list: &[&str],
+    merged: &str,
+) -> Result<(), Fail> {
+    let text = text_of_all(alloc, list)?.ok_or("no topology")?;
+    assert!(rt; text.as_slice() == merged.as_bytes(), "{merged}");
     Ok(())
 }
 
@@ -56,6 +64,20 @@ fn three_squares_in_any_grouping(rt: HostRuntime) -> Result<(), Fail> {
             check_merged(&rt, rt.alloc(), order, &plan, THREE)?;
         }
     }
+    Ok(())
+}
+
+#[test]
+fn all_of_three_squares_in_any_order(rt: HostRuntime) -> Result<(), Fail> {
+    for order in ORDERS {
+        check_all_merged(&rt, rt.alloc(), order, THREE)?;
+    }
+    check_all_merged(&rt, rt.alloc(), &[THIRD, FIRST, THIRD, SECOND], THREE)
+}
+
+#[test]
+fn no_topology_of_no_text(rt: HostRuntime) -> Result<(), Fail> {
+    assert!(rt; text_of_all(rt.alloc(), &[])?.is_none());
     Ok(())
 }
 
@@ -83,7 +105,8 @@ fn joined_to_first(alloc: Global, leaves: &[usize]) -> Result<Plan, Fail> {
 #[test]
 fn a_text_merged_with_itself(rt: HostRuntime) -> Result<(), Fail> {
     let plan = joined_to_first(rt.alloc(), &[1])?;
-    check_merged(&rt, rt.alloc(), &[SECOND, SECOND], &plan, SECOND)
+    check_merged(&rt, rt.alloc(), &[SECOND, SECOND], &plan, SECOND)?;
+    check_all_merged(&rt, rt.alloc(), &[SECOND, SECOND], SECOND)
 }
 
 /// A plan that names the third text twice, the first twice and the second not at all.
@@ -158,7 +181,13 @@ fn check_refused(rt: &impl Abort, alloc: Global, row: &Refused) -> Result<(), Fa
     let expected = Some(fault_of(alloc, row.refusal));
     let fault = merge_texts(alloc, &texts(alloc, row.texts)?, &plan).err();
     assert!(rt; fault == expected, "{:?}", row.refusal);
-    let fault = merged_topology(alloc, row.texts, &plan)?.err();
+    Ok(())
+}
+
+/// Refusals of merges of all texts of a list, for its texts alone.
+fn check_all_refused(rt: &impl Abort, alloc: Global, row: &Refused) -> Result<(), Fail> {
+    let expected = Some(fault_of(alloc, row.refusal));
+    let fault = merge_topologies(alloc, texts(alloc, row.texts)?).err();
     assert!(rt; fault == expected, "{:?}: topology", row.refusal);
     Ok(())
 }
@@ -167,6 +196,9 @@ fn check_refused(rt: &impl Abort, alloc: Global, row: &Refused) -> Result<(), Fa
 fn refusals_in_their_order(rt: HostRuntime) -> Result<(), Fail> {
     for row in REFUSED {
         check_refused(&rt, rt.alloc(), row)?;
+        if !matches!(row.refusal, Refusal::BadPlan(_)) {
+            check_all_refused(&rt, rt.alloc(), row)?;
+        }
     }
     Ok(())
 }
@@ -268,30 +300,37 @@ fn in_a_row(alloc: Global, leaves: &[usize]) -> Result<Option<Plan>, Fail> {
     Ok(plan)
 }
 
-fn whole(alloc: Global, text: &[u8]) -> Result<Whole, Fail> {
-    let (grid, map) = topo_io::read(alloc, text)?;
-    Ok(Whole::of_map(alloc, &grid, map)?)
-}
-
 fn wholes(alloc: Global, list: &[Vec<u8>]) -> Result<Vec<Whole>, Fail> {
     let mut made = Vec::new(alloc);
     for text in list {
-        made.push(whole(alloc, text.as_slice())?)?;
+        made.push(Whole::of_text(alloc, text.as_slice())?)?;
     }
     Ok(made)
 }
 
-/// Whether the texts of `FIVE` and their shards are joined to one text by a plan.
+/// Whether the texts of `FIVE` at some places and their shards are joined to one text: by a plan that names these
+/// places, and as a list of these texts alone.
 fn are_joined_alike(
     alloc: Global,
     list: &[Vec<u8>],
     shards: &[Whole],
-    plan: &Plan,
+    number: usize,
 ) -> Result<bool, Fail> {
-    let merged = merge_texts(alloc, list, plan)?;
-    let topology = merged_topology(alloc, &FIVE, plan)??;
-    let joined = run_plan(alloc, shards, plan)?;
-    Ok(merged == joined.text(alloc)? && merged == topo_io::text_of(alloc, &topology)?)
+    let plan = plan_of_number(alloc, number)?.ok_or("no plan")?;
+    let merged = merge_texts(alloc, list, &plan)?;
+    let joined = run_plan(alloc, shards, &plan)?;
+    let alone = text_of_all(alloc, chosen(alloc, number)?.as_slice())?;
+    Ok(merged == joined.text(alloc)? && Some(merged) == alone)
+}
+
+/// The texts of `FIVE` whose places a number stands for.
+fn chosen(alloc: Global, number: usize) -> Result<Vec<&'static str>, Fail> {
+    let mut texts = Vec::new(alloc);
+    for place in &places_of(alloc, number)? {
+        let text = FIVE.get(*place).ok_or("no such place")?;
+        texts.push(*text)?;
+    }
+    Ok(texts)
 }
 
 /// The plan of the places that a number stands for.
@@ -306,8 +345,7 @@ fn each_choice_of_texts_as_by_its_plan(rt: HostRuntime) -> Result<(), Fail> {
     let shards = wholes(rt.alloc(), list.as_slice())?;
     assert!(rt; plan_of_number(rt.alloc(), 0)?.is_none());
     for number in 1..32 {
-        let plan = plan_of_number(rt.alloc(), number)?.ok_or("no plan")?;
-        let are_alike = are_joined_alike(rt.alloc(), list.as_slice(), shards.as_slice(), &plan)?;
+        let are_alike = are_joined_alike(rt.alloc(), list.as_slice(), shards.as_slice(), number)?;
         assert!(rt; are_alike, "plan {number}");
     }
     Ok(())

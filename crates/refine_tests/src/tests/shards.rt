@@ -50,7 +50,7 @@ fn shards<S: Shard>(alloc: Global, maps: &[FeatureMap]) -> Result<Vec<S>, Fail> 
     Ok(made)
 }
 
-/// Whether shards that are joined in a grouping have this text, lent and handed over.
+/// Whether shards that are joined in a grouping have this text.
 fn is_joined<S: Shard>(
     alloc: Global,
     shards: &[S],
@@ -59,8 +59,7 @@ fn is_joined<S: Shard>(
 ) -> Result<bool, Fail> {
     let plan = plan_of(alloc, grouping, shards.len())?;
     let joined = run_plan(alloc, shards, &plan)?;
-    let lent = joined.text(alloc)?;
-    Ok(lent.as_slice() == text && joined.into_text(alloc)?.as_slice() == text)
+    Ok(joined.text(alloc)?.as_slice() == text)
 }
 
 /// Joins the maps as shards of a kind in each grouping, and compares the text.
@@ -156,7 +155,7 @@ fn rows(alloc: Global) -> Result<Vec<FeatureMap>, Fail> {
 
 /// The text of the map of all rows.
 fn text_of_rows(alloc: Global) -> Result<Vec<u8>, Fail> {
-    let whole = Whole::of_map(alloc, &grid()?, row(alloc, -1, 48)?)?;
+    let whole = Whole::from_map(alloc, &grid()?, &row(alloc, -1, 48)?)?;
     Ok(whole.text(alloc)?)
 }
 

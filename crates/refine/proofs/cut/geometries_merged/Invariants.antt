@@ -2,14 +2,14 @@ use Rattle.std.proofs.Common.{◌≡◌, ◌++◌}
 use Rattle.std.specs.Vec.Iter.{into_iter_items}
 use Rattle.layer_laws.specs.Cuts.{merged}
 use Rattle.topo.specs.GeometryOrder.{HaveFeatures, geometry_cmp}
-use Rattle.layer_laws.specs.CutLayers.{IsKnownOfFirst}
+use Rattle.geometry_order.specs.Noted.{IsNotedFor}
 use Rattle.refine.proofs.cut.geometries_merged.Given as goal
 
 abbrev pub invariant-loop-geometry : goal.invariant-loop-geometry
 invariant-loop-geometry l = record {
   left : HaveFeatures l.fn.arcs.arcs (into_iter_items l.geometry-iterator);
-  right : HaveFeatures l.fn.arcs.arcs l.others.geometries.items;
-  first : IsKnownOfFirst l.fn.arcs.arcs l.others.geometries.items l.others.first;
-  all : l.merged.items ++ merged (geometry_cmp l.fn.arcs.arcs) (into_iter_items l.geometry-iterator) l.others.geometries.items
+  right : HaveFeatures l.fn.arcs.arcs l.others.items;
+  noted : IsNotedFor l.fn.arcs.arcs l.by;
+  all : l.merged.items ++ merged (geometry_cmp l.fn.arcs.arcs) (into_iter_items l.geometry-iterator) l.others.items
       ≡ merged (geometry_cmp l.fn.arcs.arcs) l.fn.left.items l.fn.right.items;
 }

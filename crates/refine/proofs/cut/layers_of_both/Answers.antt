@@ -1,9 +1,12 @@
-use Rattle.std.proofs.Common.{◌≡◌, ◌++◌, sym, subst, IfSome}
+use Rattle.std.proofs.Common.{◌≡◌, ◌++◌, sym, subst, IfSome, rules}
 use Rattle.std.specs.Vec.Iter.{into_iter_items}
 use Rattle.topo.specs.GeometryOrder.{HaveFeatures, LayersHaveFeatures}
 use Rattle.layer_laws.specs.CutLayers.{layer_cmp, layers_as_one, layers_merged, with_other}
 use Rattle.layer_laws.proofs.MergedSteps.{all_behind, next_united, tied_has}
 use Rattle.refine.proofs.cut.layers_of_both.Goals as goal
+
+pub loop-layer-init : goal.loop-layer-init
+loop-layer-init c = record { noted = c.new-by.ensures c.args.arcs.now.arcs; left = search rules; right = search rules; all = search rules }
 
 pub layer_with-requires-clause-other : goal.layer_with-requires-clause-other
 layer_with-requires-clause-other c =
@@ -18,12 +21,13 @@ loop-layer-preserved c =
     let next = c.in-Some.ensures.steps.0 in
     let others = c.loop-layer.others.items in
     record {
+      noted = c.layer_with.ensures.noted;
       left = (subst (LayersHaveFeatures arcs) next was.left).1;
       right = subst (LayersHaveFeatures arcs) (sym c.in_ok-other.ensures.others) (all_behind layer_cmp c.in-Some.layer (λ l. HaveFeatures arcs l.geometries) others was.right);
       all = next_united layer_cmp (layers_as_one arcs) c.in-Some.layer c.in_ok-layer_with.field-0 (into_iter_items c.next.new.self) others c.put_layers_before.new.others.items
           c.loop-layer.merged.items c.put_layers_before.new.merged.items c.push.new.self.items (layers_merged arcs c.args.left.items c.args.right.items) c.in_ok-other.ensures.merged
           c.in_ok-other.ensures.others
-          (subst (λ o. c.in_ok-layer_with.field-0 ≡ with_other (layers_as_one arcs) c.in-Some.layer o) c.in_ok-other.ensures.tied c.in_ok-layer_with.ensures)
+          (subst (λ o. c.in_ok-layer_with.field-0 ≡ with_other (layers_as_one arcs) c.in-Some.layer o) c.in_ok-other.ensures.tied c.in_ok-layer_with.ensures.both)
           c.in_ok-push.ensures.items
           (subst (λ ls. c.loop-layer.merged.items ++ layers_merged arcs ls others ≡ layers_merged arcs c.args.left.items c.args.right.items) next was.all);
     }

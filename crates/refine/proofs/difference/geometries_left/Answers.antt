@@ -19,12 +19,12 @@ loop-geometry-preserved-then-branch c =
     let i = c.loop-geometry.geometry-index in
     let g = c.geometry-item.result in
     let gs = drop (i + 1) c.args.geometries.now in
-    let hs = c.loop-geometry.others.geometries.items in
-    let ks = c.is_among.new.others.geometries.items in
+    let hs = c.loop-geometry.others.items in
+    let ks = c.is_among.new.others.items in
     let as' = map (λ g. g.now) c.loop-geometry.left.items in
     record {
       there = stay_there c.args.both.now g hs ks c.in_ok-is_among.ensures.rest c.loop-geometry.invariant.there;
-      first = c.in_ok-is_among.ensures.first;
+      noted = c.is_among.ensures.noted;
       made = passed_one cmp g gs hs ks c.in_ok-is_among.field-0 as' (others cmp c.args.geometries.now c.args.removed.items) c.in_ok-is_among.ensures.among c.if-branch.true
           c.in_ok-is_among.ensures.rest
           (ap (λ w. as' ++ others cmp w hs) (sym (drop_more c.args.geometries.now i g c.loop-geometry-test.true ∙ ap (λ y. y ∷ gs) (sym c.geometry-item.is))) ∙ c.loop-geometry.invariant.made);
@@ -36,12 +36,12 @@ loop-geometry-preserved c =
     let i = c.loop-geometry.geometry-index in
     let g = c.geometry-item.result in
     let gs = drop (i + 1) c.args.geometries.now in
-    let hs = c.loop-geometry.others.geometries.items in
-    let ks = c.is_among.new.others.geometries.items in
+    let hs = c.loop-geometry.others.items in
+    let ks = c.is_among.new.others.items in
     let as' = map (λ g. g.now) c.loop-geometry.left.items in
     record {
       there = stay_there c.args.both.now g hs ks c.in_ok-is_among.ensures.rest c.loop-geometry.invariant.there;
-      first = c.in_ok-is_among.ensures.first;
+      noted = c.is_among.ensures.noted;
       made = left_one cmp g gs hs ks c.in_ok-is_among.field-0 as' (map (λ g. g.now) c.push.new.self.items) (others cmp c.args.geometries.now c.args.removed.items)
           c.in_ok-is_among.ensures.among c.if-branch.false c.in_ok-is_among.ensures.rest
           (ap (map (λ g. g.now)) c.in_ok-push.ensures.items ∙ map-append (λ g. g.now) c.loop-geometry.left.items (_ ∷ []))

@@ -1,7 +1,14 @@
 use Rattle.std.proofs.Common.{◌∙◌, subst}
 use Rattle.topo.specs.OfMap.{IsOf}
-use Rattle.refine.proofs.DifferenceTold.{told_left, told_pass, told_right}
+use Rattle.refine.proofs.DifferenceTold.{told_left, told_noded, told_pass, told_right}
 use Rattle.refine.proofs.difference.layers_apart.Goals as goal
+
+pub layers_left-requires-clause-noded : goal.layers_left-requires-clause-noded
+layers_left-requires-clause-noded c =
+    let (m, hm) = c.arcs.ensures.of_map in
+    let (n, hn) = c.into_parts-arcs.ensures.of_map in
+    told_noded {left = c.args.topology.now} {right = c.args.removed.now} (c.in_ok-share-2.ensures ∙ c.arcs.ensures.arcs) c.in_ok-share.ensures c.into_parts-arcs.ensures.arcs
+    c.into_parts-arcs.ensures.layers c.in_ok-both.ensures.refined c.in_ok-others.ensures c.layers.ensures.layers m n hm (subst (IsOf n) c.in_ok-share.ensures hn)
 
 pub layers_left-requires-clause-there : goal.layers_left-requires-clause-there
 layers_left-requires-clause-there c =

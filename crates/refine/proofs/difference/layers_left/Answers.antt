@@ -1,4 +1,4 @@
-use Rattle.std.proofs.Common.{◌++◌, ◌+◌, [], ◌∷◌, ◌∙◌, ap, drop, subst, sym}
+use Rattle.std.proofs.Common.{◌++◌, ◌+◌, [], ◌∷◌, ◌∙◌, ap, drop, subst, sym, rules}
 use Rattle.std.proofs.lemmas.List.{drop_more, map-append}
 use Rattle.topo.specs.GeometryOrder.{HaveFeatures, LayersHaveFeatures}
 use Rattle.layer_laws.specs.CutLayers.{layer_cmp, tied}
@@ -7,6 +7,9 @@ use Rattle.refine.specs.Difference.{geometries_in, layers_without}
 use Rattle.refine.specs.Lent.{all_lent, lent}
 use Rattle.refine.proofs.DifferenceTold.{in_have, next_layer}
 use Rattle.refine.proofs.difference.layers_left.Goals as goal
+
+pub loop-layer-init : goal.loop-layer-init
+loop-layer-init c = record { noted = c.new-by.ensures c.args.both.now.arcs.arcs; there = search rules; made = search rules }
 
 pub layer_left-requires-clause-removed_there : goal.layer_left-requires-clause-removed_there
 layer_left-requires-clause-removed_there c =
@@ -24,10 +27,11 @@ loop-layer-preserved c =
     let ks = c.loop-layer.others.items in
     let as' = all_lent c.loop-layer.left.items in
     record {
+      noted = c.layer_left.ensures.noted;
       there = subst (LayersHaveFeatures arcs) (sym c.in_ok-other.ensures.others) (all_behind layer_cmp l (λ k. HaveFeatures arcs k.geometries) ks c.loop-layer.invariant.there);
       made = next_layer c.args.both.now l (lent c.in_ok-layer_left.field-0) ls ks c.put_layers_before.new.others.items as' (all_lent c.push.new.self.items)
           (layers_without c.args.both.now c.args.layers.now c.args.removed.items) c.in_ok-other.other c.in_ok-other.ensures.tied c.in_ok-other.ensures.others
-          c.in_ok-layer_left.ensures
+          c.in_ok-layer_left.ensures.left
           (ap all_lent c.in_ok-push.ensures.items ∙ map-append lent c.loop-layer.left.items (c.in_ok-layer_left.field-0 ∷ []))
           (ap (λ w. as' ++ layers_without c.args.both.now w ks) (sym (drop_more c.args.layers.now i l c.loop-layer-test.true ∙ ap (λ y. y ∷ ls) (sym c.layer-item.is))) ∙ c.loop-layer.invariant.made);
     }

@@ -18,5 +18,5 @@ returns-in-Point-Point c =
 
 pub returns-in-MultiPoint-MultiPoint : goal.returns-in-MultiPoint-MultiPoint
 returns-in-MultiPoint-MultiPoint c =
-    points_told c.args.topology.now.arcs.arcs c.args.shape.now c.args.body.now c.in-MultiPoint-MultiPoint.others c.in-MultiPoint-MultiPoint.places c.are_same.result
-    c.in-MultiPoint-MultiPoint.is-1 c.in-MultiPoint-MultiPoint.is-0 c.are_same.ensures
+    points_told c.args.topology.now.arcs.arcs c.args.shape.now c.args.body.now c.in-MultiPoint-MultiPoint.others c.in-MultiPoint-MultiPoint.places c.eq.result
+    c.in-MultiPoint-MultiPoint.is-1 c.in-MultiPoint-MultiPoint.is-0 c.eq.ensures

@@ -1,10 +1,14 @@
-use Rattle.std.proofs.lemmas.Result.{IfOk-weaker}
-use Rattle.taking.proofs.StandingParts.{apart_decides, lists_decide, order_decides}
+use Rattle.chains.specs.OfArcs.{table_as_map}
+use Rattle.geometry_order.proofs.NodedTables.{table_noded}
+use Rattle.standing.proofs.ApartArcs.{is_table}
 use Rattle.taking.proofs.StitchedFeatures.{geometries_have_features}
 use Rattle.taking.proofs.whole.stand_in_order.Goals as goal
 
 pub in_order-requires : goal.in_order-requires
 in_order-requires c =
-    geometries_have_features c.args.table.now c.args.layers.now
-    (record { apart = (c.in_ok-is_apart.ensures c.requires.sorted).0 c.if-not-branch-2.false; lists = c.in_ok-lists_stand.ensures.0 c.if-not-branch.false })
-    c.requires.ids
+    let t = c.args.table.now in
+    let apart = (c.in_ok-is_apart.ensures c.requires.sorted).0 c.if-not-branch-2.false in
+    record {
+      noded = table_noded (table_as_map t) t (is_table t apart);
+      there = geometries_have_features t c.args.layers.now (record { apart = apart; lists = c.in_ok-lists_stand.ensures.0 c.if-not-branch.false }) c.requires.ids;
+    }

@@ -1,7 +1,16 @@
-use Rattle.std.proofs.Common.{◌∷◌, ◌∙◌, ap}
-use Rattle.merging.specs.Laws.{union_empty}
-use Rattle.refine.specs.OnGrid.{united_map}
+use Rattle.std.proofs.Common.{sym, subst}
+use Rattle.layer_laws.specs.ItsMap.{its_map_is}
+use Rattle.refine.specs.OnGrid.{IsKeptFor}
 use Rattle.refine.proofs.cut.Cut.of_topology.Goals as goal
 
+pub invariant_of-result : goal.invariant_of-result
+invariant_of-result c = ((c.requires.of_map.0, ∣ c.requires.of_map.1 ∣₁), tt)
+
+pub invariant_of-result-2 : goal.invariant_of-result-2
+invariant_of-result-2 c =
+    let t = c.args.topology in
+    let (m, h) = c.requires.of_map in
+    subst (λ n. IsKeptFor n t) (sym (its_map_is t c.result-1.given.0 m h)) (record { of_map = h; few = c.requires.few })
+
 pub returns-clause-map : goal.returns-clause-map
-returns-clause-map c = λ m h. ap (λ ps. united_map (c.of_topology.result ∷ ps)) c.new.ensures.items ∙ union_empty c.of_topology.result.map ∙ c.of_topology.ensures.map m h
+returns-clause-map c = λ m h. its_map_is c.args.topology c.result-1.given.0 m h

@@ -1,23 +1,15 @@
-use Rattle.std.proofs.Common.{◌≡◌, ◌∙◌, IfOk, ap, sym, subst}
-use Rattle.shapes.specs.Fitting.{MapFits}
-use Rattle.topo_io.specs.Canon.{canon}
-use Rattle.topo_io.specs.Means.{Means}
-use Rattle.lines.proofs.Codes.{empty}
-use Rattle.refine.proofs.PartLists.{alone}
+use Rattle.std.proofs.lemmas.Result.{IfOk-weaker}
+use Rattle.refine.proofs.WrittenTexts.{is_canon, is_read}
 use Rattle.refine.proofs.cut_shard.CutShard.text.Goals as goal
 
-pub returns-then-is_empty : goal.returns-then-is_empty
-returns-then-is_empty c =
-    let same : c.self.inside.least ≡ c.args.self.now =
-    alone c.self.inside.least c.args.self.now c.self.inside.larger.items (sym c.self.inside.larger.ok.0 ∙ empty _ c.if-is_empty.ensures)
-    (ap (λ s. s.grid) c.self.view_is) (ap (λ s. s.map) c.self.view_is) in
-    record {
-      text = subst (λ s. IfOk c.text_of_kept.result (λ t. t.items ≡ canon s.grid s.map)) same c.text_of_kept.ensures.text;
-      accepted = subst (λ s. IfOk c.text_of_kept.result (λ t. MapFits s.grid s.map → Means t.items s.grid s.map)) same c.text_of_kept.ensures.accepted;
-    }
+pub returns-clause-text : goal.returns-clause-text
+returns-clause-text c =
+    let s = c.args.self.now in
+    IfOk-weaker c.text_of.result _ _ (λ t is. is_canon c.topology.result.now s.map s.grid t.items c.topology.ensures.of_map c.topology.ensures.grid is) c.text_of.ensures.text
 
-pub returns : goal.returns
-returns c = record {
-  text = subst (λ s. IfOk c.into_text.result (λ t. t.items ≡ canon s.grid s.map)) c.in_ok-copied.ensures c.into_text.ensures.text;
-  accepted = subst (λ s. IfOk c.into_text.result (λ t. MapFits s.grid s.map → Means t.items s.grid s.map)) c.in_ok-copied.ensures c.into_text.ensures.accepted;
-}
+pub returns-clause-accepted : goal.returns-clause-accepted
+returns-clause-accepted c =
+    let s = c.args.self.now in
+    IfOk-weaker c.text_of.result _ _
+    (λ t is fits. is_read c.topology.result.now s.map s.grid t.items c.topology.ensures.of_map c.topology.ensures.grid is c.text_of.ensures.limits c.topology.ensures.few fits)
+    c.text_of.ensures.text

@@ -1,0 +1,4 @@
+pub mod Summaries
+pub mod Segments
+pub mod Labels
+pub mod Lists

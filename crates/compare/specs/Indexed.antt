@@ -1,0 +1,64 @@
+-- Geometries found by what they are and by their keys.
+use Rattle.std.specs.Prelude.{◌≡◌, ◌↔◌, ◌<◌, ℕ, List, Option, Some, None, slice_get, length}
+use Rattle.std.specs.Borrow.{Bor}
+use Rattle.std.specs.BTreeMap as tree
+use Rattle.std.specs.declared.cmp.Ordering.{Ordering}
+use Rattle.shapes.specs.contracts.shape.IdOrd.TheImpl as id_order
+use Rattle.shapes.specs.declared.shape.Id.{Id}
+use Rattle.shapes.specs.declared.shape.Id.TheVariants as ids
+use Rattle.topo.specs.contracts.geom.GeomOrd.TheImpl as geometry_order
+use Rattle.topo.specs.declared.geom.Geom.{Geom}
+use Rattle.compare.specs.Keyed.{keys_in}
+use Rattle.compare.specs.declared.index.Index.{Index}
+use Rattle.compare.specs.declared.index.Standing.{Standing}
+use Rattle.compare.specs.declared.index.Standing.TheVariants.{Once, Again}
+
+abbrev pub id_none : Id
+id_none = ids.None
+
+-- the number where it is the only one
+abbrev pub once : Option Standing → Option ℕ
+once None = None
+once (Some (Once k)) = Some k
+once (Some Again) = None
+
+-- the orders of what is lent
+abbrev pub lent_cmp : Bor Geom → Bor Geom → Ordering
+lent_cmp a b = geometry_order.cmp-value.it a.now b.now
+
+abbrev pub lent_id_cmp : Bor Id → Bor Id → Ordering
+lent_id_cmp a b = id_order.cmp-value.it a.now b.now
+
+-- there is a number
+abbrev pub Found : Option ℕ → Type 0
+Found None = ⊥
+Found (Some k) = Unit {0}
+
+-- the geometry stands at a place below n
+abbrev pub StandsBelow : List Geom → ℕ → Geom → Type 0
+StandsBelow gs n g = (k : ℕ) × (k < n) × (slice_get gs k ≡ Some g)
+
+-- the table has the first n geometries
+abbrev pub Knows : List Geom → ℕ → tree.BTreeMap (Bor Geom) ℕ → Type 0
+Knows gs n m = (q : Bor Geom) → Found (tree.get lent_cmp m q) ↔ StandsBelow gs n q.now
+
+-- where a key stands once it stands at n, by where it stood below
+abbrev pub standing_after : ℕ → Option Standing → Standing
+standing_after n None = Once n
+standing_after n (Some s) = Again
+
+-- where the key stands among the first n
+abbrev pub StandsAs : List Id → ℕ → Id → Option Standing → Type 0
+StandsAs ks n x None = (j : ℕ) → j < n → ¬ (slice_get ks j ≡ Some x)
+StandsAs ks n x (Some (Once k)) = (k < n) × (slice_get ks k ≡ Some x) × ((j : ℕ) → j < n → slice_get ks j ≡ Some x → j ≡ k)
+StandsAs ks n x (Some Again) = (j : ℕ) × (k : ℕ) × (¬ (j ≡ k)) × (slice_get ks j ≡ Some x) × (slice_get ks k ≡ Some x)
+
+-- the table has where each key stands among the first n
+abbrev pub standings_of : List Id → ℕ → tree.BTreeMap (Bor Id) Standing → Type 0
+standings_of ks n m = (q : Bor Id) → StandsAs ks n q.now (tree.get lent_id_cmp m q)
+
+pub record IsIndexOf (gs : List Geom) (ks : List Id) (i : Index) : Type 0 where
+  pub lends : i.geometries.now ≡ gs
+  pub keys : keys_in i.keys ≡ ks
+  pub knows : Knows gs (length gs) i.numbers
+  pub stand : standings_of ks (length ks) i.standings

@@ -1,0 +1,5 @@
+pub mod Differences
+pub mod Placed
+pub mod Keyed
+pub mod Indexed
+pub mod Compared

@@ -1,0 +1,216 @@
+//! Two topologies by the same arcs, to be compared layer by layer.
+ghost use Rattle.compare.specs.Compared.{AreInOrder, IsComparisonOf, IsDifferenceByProperty, IsNumberOf, IsPairOf, feature_id, geometries_from};
+ghost use Rattle.compare.specs.Differences.{IsDifference};
+ghost use Rattle.compare.specs.Keyed.{AreKeys, id_of};
+ghost use Rattle.compare.specs.Placed.{IsDifferenceAt};
+ghost use Rattle.compare.specs.declared.fault.CompareFault.TheVariants.{OtherGrid};
+ghost use Rattle.layer_laws.specs.CutLayers.{layer_recut};
+ghost use Rattle.layer_laws.specs.Cuts as cuts;
+ghost use Rattle.recutting.specs.Parts.{of_side};
+ghost use Rattle.shapes.specs.Maps.{Layers, features_at};
+ghost use Rattle.shapes.specs.Sets as set;
+ghost use Rattle.shapes.specs.declared.shape.Id.{Id};
+ghost use Rattle.std.specs.Prelude.{◌≡◌, ◌↔◌, IfOk, IsErrOf, List, true, map as map_list, ℕ};
+ghost use Rattle.topo.specs.OfMap.{IsOf};
+
+use crate::difference::{LayerDifference, difference_of};
+use crate::fault::CompareFault;
+use crate::keys::Keys;
+use crate::pairs::{LayerPair, pairs_of};
+use crate::property::keys_of;
+use chains::table::ArcRef;
+use faults::OutOfMemory;
+use recutting::{Recut, Side, recut_owned};
+use rewriting::{NewLists, layers_rewritten};
+use std::alloc::{AllocError, Global};
+use topo::{Geom, Layer, Topology};
+
+/// The lists of a side by the new arcs.
+#[derive(Drop)]
+struct ListsOf<'a> {
+    recut: &'a Recut,
+    side: Side,
+}
+
+impl NewLists for ListsOf<'_> {
+    ghost line_of = { λ s. cuts.line_recut (of_side s.side s.recut.now) };
+
+    ghost ring_of = { λ s. cuts.ring_recut s.recut.now.arcs.arcs (of_side s.side s.recut.now) };
+
+    fn line(&self, alloc: Global, used: &[ArcRef]) -> Result<Vec<ArcRef>, OutOfMemory> {
+        self.recut.line(alloc, self.side, used)
+    }
+
+    fn ring(&self, alloc: Global, used: &[ArcRef]) -> Result<Vec<ArcRef>, OutOfMemory> {
+        self.recut.ring(alloc, self.side, used)
+    }
+}
+
+/// The layers of a side by the new arcs.
+fn layers_by(
+    alloc: Global,
+    recut: &Recut,
+    side: Side,
+    layers: Vec<Layer>,
+) -> Result<Vec<Layer>, OutOfMemory>
+    ensures { IfOk result (λ v. v.items ≡ map_list (layer_recut recut.now.arcs.arcs (of_side side recut.now)) layers.items) }
+{
+    layers_rewritten(alloc, &ListsOf { recut, side }, layers)
+}
+
+/// The layers of two topologies by the same arcs. Their geometries keep their order.
+#[derive(Drop)]
+pub struct Comparison {
+    old: Vec<Layer>,
+    new: Vec<Layer>,
+}
+
+/// The number of the layer of a name, of layers in the order of their names.
+fn number_named(layers: &[Layer], name: &str) -> Option<usize>
+    ensures { AreInOrder layers.now → IsNumberOf layers.now name.now result }
+{
+    layers
+        .binary_search_by(|layer| layer.name().text().cmp(name))
+        .ok()
+}
+
+/// The geometries of the layer of a number, none where there is no such layer.
+fn geometries_at<'a>(layers: &'a [Layer], number: Option<usize>) -> &'a [Geom]
+    ensures { result.now ≡ geometries_from layers.now number }
+{
+    match number {
+        Some(number) => match layers.get(number) {
+            Some(layer) => layer.geometries(),
+            None => &[],
+        },
+        None => &[],
+    }
+}
+
+fn on_one_grid(old: &Topology, new: &Topology) -> bool
+    ensures { (result ≡ true) ↔ (old.now.grid ≡ new.now.grid) }
+{
+    old.grid() == new.grid()
+}
+
+/// Both topologies by the same arcs.
+fn recut_both(alloc: Global, old: &Topology, new: &Topology) -> Result<Comparison, OutOfMemory>
+    ensures { IfOk result (λ c. (m n : Layers) → IsOf m old.now → IsOf n new.now → IsComparisonOf m n c) }
+{
+    let (old_arcs, old_layers) = old.share(alloc)?.into_parts();
+    let (new_arcs, new_layers) = new.share(alloc)?.into_parts();
+    let both = recut_owned(alloc, old_arcs, new_arcs)?;
+    let olds = layers_by(alloc, &both, Side::Left, old_layers)?;
+    let news = layers_by(alloc, &both, Side::Right, new_layers)?;
+    Ok(Comparison {
+        old: olds,
+        new: news,
+    })
+}
+
+/// Prepares two topologies to be compared: the arcs of both are split at the junctions of both, once. Then two features
+/// are equal exactly where their ids, properties and lists of arcs are, so no feature is stitched.
+///
+/// # Errors
+/// `OtherGrid` exactly where the grids differ; `OutOfMemory`.
+pub fn compare(alloc: Global, old: &Topology, new: &Topology) -> Result<Comparison, CompareFault>
+    ensures compared { IfOk result (λ c. (m n : Layers) → IsOf m old.now → IsOf n new.now → IsComparisonOf m n c) }
+    ensures other_grid { IsErrOf result OtherGrid ↔ ¬ (old.now.grid ≡ new.now.grid) }
+{
+    if !on_one_grid(old, new) {
+        return Err(CompareFault::OtherGrid);
+    }
+    let comparison = recut_both(alloc, old, new)?;
+    Ok(comparison)
+}
+
+impl Comparison {
+    /// The difference of the layers of a name. A topology without such a layer has no features there.
+    pub fn layer(&self, alloc: Global, name: &str) -> Result<LayerDifference, AllocError>
+        ensures { IfOk result (λ d. (m n : Layers) → IsComparisonOf m n self.now → IsDifference feature_id (set.items (features_at m name.now)) (set.items (features_at n name.now)) d) }
+    {
+        self.difference(alloc, self.pair(name))
+    }
+
+    /// The layers of the old topology by the arcs of both, in the order of their names. Their geometries keep their
+    /// numbers.
+    pub fn old_layers(&self) -> &[Layer]
+        ensures { result.now ≡ self.now.old.items }
+    {
+        &self.old
+    }
+
+    /// The layers of the new topology by the arcs of both, in the order of their names. Their geometries keep their
+    /// numbers.
+    pub fn new_layers(&self) -> &[Layer]
+        ensures { result.now ≡ self.now.new.items }
+    {
+        &self.new
+    }
+
+    /// The layers of a name.
+    pub fn pair(&self, name: &str) -> LayerPair
+        ensures { (m n : Layers) → IsComparisonOf m n self.now → IsPairOf self.now name.now result }
+    {
+        LayerPair {
+            old: number_named(&self.old, name),
+            new: number_named(&self.new, name),
+        }
+    }
+
+    /// The layers of each name that either topology has, in the order of the names.
+    pub fn pairs(&self, alloc: Global) -> Result<Vec<LayerPair>, AllocError> {
+        pairs_of(alloc, &self.old, &self.new)
+    }
+
+    /// The difference of two layers of one name, whose features pair by their ids.
+    pub fn difference(&self, alloc: Global, pair: LayerPair) -> Result<LayerDifference, AllocError>
+        ensures { IfOk result (λ d. (m n : Layers) (q : List ℕ) → IsComparisonOf m n self.now → IsPairOf self.now q pair → IsDifference feature_id (set.items (features_at m q)) (set.items (features_at n q)) d) }
+    {
+        let old = geometries_at(&self.old, pair.old);
+        let new = geometries_at(&self.new, pair.new);
+        difference_by_ids(alloc, old, new)
+    }
+
+    /// The difference of two layers of one name, whose features pair by the values of a property. Those without
+    /// it, or where it is null, have no partner.
+    pub fn difference_by(
+        &self,
+        alloc: Global,
+        pair: LayerPair,
+        property: &str,
+    ) -> Result<LayerDifference, OutOfMemory>
+        ensures { IfOk result (λ d. (m n : Layers) (q : List ℕ) → IsComparisonOf m n self.now → IsPairOf self.now q pair → IsDifferenceByProperty property.now (set.items (features_at m q)) (set.items (features_at n q)) d) }
+    {
+        let old = geometries_at(&self.old, pair.old);
+        let new = geometries_at(&self.new, pair.new);
+        difference_by_values(alloc, old, new, property)
+    }
+}
+
+/// The difference of two lists of geometries, which pair by their ids.
+fn difference_by_ids(
+    alloc: Global,
+    old: &[Geom],
+    new: &[Geom],
+) -> Result<LayerDifference, AllocError>
+    ensures { IfOk result (λ d. IsDifferenceAt old.now new.now (map_list id_of old.now) (map_list id_of new.now) d) }
+{
+    difference_of(alloc, old, Keys::Ids(old), new, Keys::Ids(new))
+}
+
+/// The difference of two lists of geometries, which pair by the values of a property.
+fn difference_by_values(
+    alloc: Global,
+    old: &[Geom],
+    new: &[Geom],
+    property: &str,
+) -> Result<LayerDifference, OutOfMemory>
+    ensures { IfOk result (λ d. (ks : List Id) × (ls : List Id) × AreKeys property.now old.now ks × AreKeys property.now new.now ls × IsDifferenceAt old.now new.now ks ls d) }
+{
+    let old_keys = keys_of(alloc, old, property)?;
+    let new_keys = keys_of(alloc, new, property)?;
+    let old_values = Keys::Values(old_keys.as_slice());
+    let new_values = Keys::Values(new_keys.as_slice());
+    Ok(difference_of(alloc, old, old_values, new, new_values)?)
+}

@@ -1,0 +1,5 @@
+//! Tests of `compare` and of `quality`.
+#![tactic(auto)]
+
+#[cfg(test)]
+mod tests;

@@ -1,0 +1,4 @@
+pub mod Counts
+pub mod Place
+pub mod Real
+pub mod Snapped

@@ -1,0 +1,4 @@
+pub mod Nearest
+pub mod Numeral
+pub mod Tenths
+pub mod Laws

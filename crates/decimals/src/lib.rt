@@ -1,0 +1,15 @@
+//! Decimal numerals snapped to a grid, each to the nearest whole number of steps, with no floating-point
+//! number.
+#![tactic(auto)]
+
+pub mod decimal;
+mod digits;
+pub mod laws;
+pub mod origin;
+pub mod rounding;
+pub mod step;
+
+pub use decimal::Decimal;
+pub use origin::{Offset, Origin};
+pub use rounding::snap;
+pub use step::Step;

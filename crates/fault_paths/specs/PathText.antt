@@ -1,0 +1,27 @@
+-- The text of a path to a faulty place.
+use Rattle.std.specs.Prelude.{ℕ, List, [], ◌∷◌, ◌++◌, codes, nat_eq, if◌then◌else◌}
+use Rattle.std.specs.Fmt.{decimal}
+use Rattle.faults.specs.Path.{Turn, name, index}
+
+-- a byte of a member's name: `~0` for `~`, `~1` for `/`
+abbrev pub byte_text : ℕ → List ℕ
+byte_text b = if nat_eq b 126 then codes "~0" else (if nat_eq b 47 then codes "~1" else (b ∷ []))
+
+-- the bytes of a member's name
+abbrev pub bytes_text : List ℕ → List ℕ
+bytes_text [] = []
+bytes_text (b ∷ bs) = byte_text b ++ bytes_text bs
+
+-- a step: the name of a member, or the index of an element in decimal
+abbrev pub step_text : Turn → List ℕ
+step_text (name bs) = bytes_text bs
+step_text (index i) = decimal i
+
+-- the steps, each after a slash
+abbrev pub steps_text : List Turn → List ℕ
+steps_text [] = []
+steps_text (t ∷ ts) = (codes "/" ++ step_text t) ++ steps_text ts
+
+-- the root, and the steps
+abbrev pub path_text : List Turn → List ℕ
+path_text ts = codes "$" ++ steps_text ts

@@ -1,0 +1,20 @@
+//! GeoJSON in whole numbers, without what snapping spoiled: lines and rings of which too few positions are left,
+//! and those that use a segment twice. It also splits GeometryCollections, and turns rings.
+//!
+//! A geometry that it doesn't understand stays as it is, and a reader refuses it.
+#![tactic(auto)]
+
+mod broken;
+mod coordinates;
+mod feature;
+mod geometry;
+mod linework;
+mod loops;
+mod measures;
+mod polygons;
+pub mod rules;
+mod text;
+
+pub use measures::area;
+pub use rules::{Collapsed, FeatureFixes, Fixes, Rewind, Rules};
+pub use text::{FixedText, fix};

@@ -1,0 +1,74 @@
+//! What is fixed, and what was.
+
+/// What becomes of a feature of which no shape is left.
+#[derive(Clone, Copy, PartialEq, Eq, Debug)]
+pub enum Collapsed {
+    /// Its geometry is null.
+    Null,
+    /// It is dropped.
+    Drop,
+    /// It stays as it is, and so does each line and ring of too few positions.
+    Refuse,
+}
+
+/// How rings are turned.
+#[derive(Clone, Copy, PartialEq, Eq, Debug)]
+pub enum Rewind {
+    /// Not at all.
+    Keep,
+    /// Outer rings counterclockwise, holes clockwise (RFC 7946, section 3.1.6).
+    Rfc7946,
+    /// Outer rings clockwise, holes counterclockwise, as d3-geo reads them.
+    D3,
+}
+
+/// What is fixed.
+#[derive(Clone, Copy, PartialEq, Eq, Debug)]
+pub struct Rules {
+    pub collapsed: Collapsed,
+    /// Whether lines and rings that use a segment twice are split.
+    pub splits_folded: bool,
+    /// Whether GeometryCollections are split into features.
+    pub splits_collections: bool,
+    pub rewind: Rewind,
+    /// Whether a geometry in which anything would be fixed becomes null, so that features stay where they are.
+    pub blanks: bool,
+}
+
+/// How much was fixed.
+#[derive(Clone, Copy, PartialEq, Eq, Debug, Default)]
+pub struct Fixes {
+    /// Lines and rings that were dropped, because too few positions were left.
+    pub collapsed: u64,
+    /// Lines and rings that were split, because they used a segment twice.
+    pub folded: u64,
+    /// GeometryCollections that were split.
+    pub collections: u64,
+    /// Features of which no shape was left.
+    pub lost: u64,
+}
+
+impl Fixes {
+    /// Both together.
+    pub fn with(self, other: Fixes) -> Fixes {
+        Fixes {
+            collapsed: self.collapsed.saturating_add(other.collapsed),
+            folded: self.folded.saturating_add(other.folded),
+            collections: self.collections.saturating_add(other.collections),
+            lost: self.lost.saturating_add(other.lost),
+        }
+    }
+
+    /// Whether anything was lost or split.
+    pub fn any(self) -> bool {
+        self.collapsed > 0 || self.folded > 0 || self.collections > 0 || self.lost > 0
+    }
+}
+
+/// How much was fixed of one feature.
+#[derive(Clone, Copy, PartialEq, Eq, Debug)]
+pub struct FeatureFixes {
+    /// The number of the feature in the text, from 0.
+    pub feature: usize,
+    pub fixes: Fixes,
+}

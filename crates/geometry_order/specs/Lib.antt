@@ -1,0 +1,6 @@
+pub mod Steps
+pub mod Least
+pub mod Lists
+pub mod Bodies
+pub mod Noded
+pub mod Noted

@@ -1,4 +1,0 @@
-pub mod LeastSteps
-pub mod Turns
-pub mod Texts
-pub mod OfLayer

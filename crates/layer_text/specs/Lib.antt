@@ -1,3 +1,0 @@
-pub mod Steps
-pub mod ByArcs
-pub mod Collections

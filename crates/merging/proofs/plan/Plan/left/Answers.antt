@@ -1,0 +1,7 @@
+use Rattle.std.proofs.Common.{arith, ◌≡◌, subst}
+use Rattle.merging.specs.Groupings.{IsLeft}
+use Rattle.merging.proofs.GroupingLemmas.{left_leaves}
+use Rattle.merging.proofs.plan.Plan.left.Goals as goal
+
+pub returns-clause-leaves : goal.returns-clause-leaves
+returns-clause-leaves c = let e : c.loop-place.place ≡ c.args.count = omega arith in left_leaves _ _ (subst (IsLeft c.loop-place.plan) e c.loop-place.invariant)

@@ -1,0 +1,10 @@
+use Rattle.std.proofs.Common.{arith, ◌≡◌, ◌-◌, ◌∙◌, ap₂}
+use Rattle.std.specs.List.{range_with_len}
+use Rattle.merging.proofs.GroupingLemmas.{right_leaves}
+use Rattle.merging.proofs.plan.Plan.right.Goals as goal
+
+pub returns-clause-leaves : goal.returns-clause-leaves
+returns-clause-leaves c =
+    let e : c.loop-place.place ≡ 0 = omega arith in
+    let k : c.args.count - c.loop-place.place ≡ c.args.count = omega arith in
+    right_leaves _ _ _ c.loop-place.invariant ∙ ap₂ range_with_len e k

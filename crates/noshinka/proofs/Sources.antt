@@ -1,0 +1,28 @@
+-- Names of sources.
+use Rattle.std.proofs.Common.{◌≡◌, ℕ, ◌<◌, List, length, map, get_or, refl, sym, ◌∙◌, ap}
+use Rattle.std.specs.Option.{option_map}
+use Rattle.std.specs.Prelude.{slice_get, Some}
+use Rattle.std.proofs.lemmas.Option.{slice_get-map, slice_get-get_or}
+use Rattle.noshinka.specs.Lent.{lent_sources}
+use Rattle.noshinka.specs.Why.{IsBadName, IsBadSource}
+use Rattle.noshinka.specs.declared.lent.Source.{Source}
+use Rattle.noshinka.specs.declared.refusal.Refusal.{Refusal}
+use Rattle.noshinka.specs.declared.refusal.Refusal.TheVariants.{BadGrid, BadName, BadChoice, NoId, Text, OtherGrid, NoText, BadPlan, NoLayer, OutOfMemory}
+
+name_at : (sources : List Source) (i : ℕ) (d : Source) → i < length sources → slice_get (map (λ s. s.0) (lent_sources sources)) i ≡ Some (get_or sources i d).layer.now
+name_at sources i d below =
+    slice_get-map (λ s. s.0) (lent_sources sources) i
+    ∙ ap (option_map (λ s. s.0)) (slice_get-map (λ (s : Source). (s.layer.now, s.text.now)) sources i ∙ ap (option_map (λ (s : Source). (s.layer.now, s.text.now))) (slice_get-get_or sources i d below))
+
+-- the name of the source at a place is not UTF-8
+pub bad_source : (sources : List Source) (i : ℕ) (d : Source) → i < length sources → (place : ℕ) → place ≡ i → (r : Refusal) → IsBadName place (get_or sources i d).layer.now r → IsBadSource (lent_sources sources) r
+bad_source sources i d below place at (BadName p) h = ((get_or sources i d).layer.now, ap (slice_get (map (λ s. s.0) (lent_sources sources))) (h.0 ∙ at) ∙ name_at sources i d below, h.1)
+bad_source sources i d below place at OutOfMemory h = tt
+bad_source sources i d below place at BadGrid h = absurd h
+bad_source sources i d below place at BadChoice h = absurd h
+bad_source sources i d below place at NoId h = absurd h
+bad_source sources i d below place at (Text p f) h = absurd h
+bad_source sources i d below place at (OtherGrid p) h = absurd h
+bad_source sources i d below place at NoText h = absurd h
+bad_source sources i d below place at (BadPlan k) h = absurd h
+bad_source sources i d below place at NoLayer h = absurd h

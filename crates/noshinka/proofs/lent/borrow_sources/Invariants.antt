@@ -1,0 +1,10 @@
+-- The names and texts so far, and those of the sources that are left, are those of the sources.
+use Rattle.std.proofs.Common.{◌≡◌, ◌++◌, drop}
+use Rattle.built_text.specs.Maps.{borrowed_texts}
+use Rattle.noshinka.specs.Lent.{lent_sources}
+use Rattle.noshinka.proofs.lent.borrow_sources.Given as goal
+
+abbrev pub invariant-loop-source : goal.invariant-loop-source
+invariant-loop-source l =
+    (borrowed_texts l.texts.items ++ lent_sources (drop l.source-index l.fn.sources) ≡ lent_sources l.fn.sources)
+    × (l.texts.len ≡ l.source-index)

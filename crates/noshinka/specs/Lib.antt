@@ -1,0 +1,7 @@
+pub mod Lent
+pub mod Ends
+pub mod Choices
+pub mod Why
+pub mod Answers
+pub mod Snapped
+pub mod Differing

@@ -1,0 +1,72 @@
+//! What the numbers of a caller stand for.
+ghost use Rattle.noshinka.specs.Choices.{edges_of, has_no_id, lacks_id, scope_of};
+ghost use Rattle.noshinka.specs.Why.{IsChoiceRefusal, IsScopeRefusal};
+ghost use Rattle.std.specs.Option.{option_map};
+ghost use Rattle.std.specs.Prelude.{◌≡◌, ◌≤◌, IfErr, IfOk, nat_eq};
+
+use crate::lent::name_of;
+use crate::refusal::Refusal;
+use query::Edges;
+use shapes::Id;
+use topo::Geom;
+
+/// Yes for 1, no for 0.
+pub(crate) fn flag(number: u32) -> Result<bool, Refusal>
+    ensures yes { IfOk result (λ b. b ≡ nat_eq number 1) }
+    ensures bad { IfErr result (IsChoiceRefusal (2 ≤ number)) }
+{
+    match number {
+        0 => Ok(false),
+        1 => Ok(true),
+        _ => Err(Refusal::BadChoice),
+    }
+}
+
+/// The edges that a number stands for.
+pub(crate) fn edges_named(number: u32) -> Result<Edges, Refusal>
+    ensures edges { IfOk result (λ e. e ≡ edges_of number) }
+    ensures bad { IfErr result (IsChoiceRefusal (3 ≤ number)) }
+{
+    match number {
+        0 => Ok(Edges::All),
+        1 => Ok(Edges::Interior),
+        2 => Ok(Edges::Exterior),
+        _ => Err(Refusal::BadChoice),
+    }
+}
+
+/// The name of a layer for 1, none for 0.
+pub(crate) fn scope_named(number: u32, layer: &[u8]) -> Result<Option<&str>, Refusal>
+    ensures scope { IfOk result (λ s. option_map (λ n. n.now) s ≡ scope_of number layer.now) }
+    ensures bad { IfErr result (IsScopeRefusal number layer.now) }
+{
+    match number {
+        0 => Ok(None),
+        1 => match name_of(0, layer) {
+            Ok(name) => Ok(Some(name)),
+            Err(refusal) => Err(refusal),
+        },
+        _ => Err(Refusal::BadChoice),
+    }
+}
+
+/// Whether a geometry has no id.
+fn is_without_id(geometry: &Geom) -> bool
+    ensures { result ≡ has_no_id geometry.now.id }
+{
+    matches!(geometry.id, Id::None)
+}
+
+/// Whether one of some geometries has no id.
+pub(crate) fn is_id_missing(geometries: &[Geom]) -> bool
+    ensures { result ≡ lacks_id geometries.now }
+{
+    let mut left = geometries;
+    while let Some((geometry, after)) = left.split_first() {
+        if is_without_id(geometry) {
+            return true;
+        }
+        left = after;
+    }
+    false
+}

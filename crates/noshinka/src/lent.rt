@@ -1,0 +1,83 @@
+//! What a caller lends for the time of a call.
+ghost use Rattle.built_text.specs.Maps.{borrowed_texts};
+ghost use Rattle.merging.specs.Merge.{bytes_of};
+ghost use Rattle.noshinka.specs.Lent.{grid_of, lent_sources, lent_texts};
+ghost use Rattle.noshinka.specs.Why.{IsBadName, IsBadSource, IsNoMemory};
+ghost use Rattle.grid.specs.Place.{IsTransform};
+ghost use Rattle.std.specs.Prelude.{◌≡◌, IfErr, IfNone, IfOk, IfSome};
+
+use crate::refusal::Refusal;
+use grid::Grid;
+use std::alloc::Global;
+
+/// The scales of a grid in x and y, and its translations.
+#[repr(C)]
+#[derive(Clone, Copy, PartialEq, Eq, Debug)]
+pub struct GridNumbers {
+    pub scale_x: i64,
+    pub scale_y: i64,
+    pub translate_x: i64,
+    pub translate_y: i64,
+}
+
+/// A GeoJSON text, and the name of the layer that its features are put into.
+#[repr(C)]
+#[derive(Drop)]
+pub struct Source<'a> {
+    pub layer: &'a [u8],
+    pub text: &'a [u8],
+}
+
+/// The grid of some numbers, if they are within its limits.
+pub(crate) fn grid_within(numbers: &GridNumbers) -> Option<Grid>
+    ensures grid { IfSome result (λ g. g ≡ grid_of numbers.now) }
+    ensures none { IfNone result (¬ IsTransform (grid_of numbers.now)) }
+{
+    Grid::new(
+        numbers.scale_x,
+        numbers.scale_y,
+        numbers.translate_x,
+        numbers.translate_y,
+    )
+}
+
+/// The name of the layer at a place, if it is UTF-8.
+pub(crate) fn name_of(place: usize, name: &[u8]) -> Result<&str, Refusal>
+    ensures name { IfOk result (λ n. n.now ≡ name.now) }
+    ensures bad { IfErr result (IsBadName place name.now) }
+{
+    match str::from_utf8(name) {
+        Ok(name) => Ok(name),
+        Err(_) => Err(Refusal::BadName(place)),
+    }
+}
+
+/// The name and the text of each source, borrowed.
+pub(crate) fn borrow_sources<'a>(
+    alloc: Global,
+    sources: &[Source<'a>],
+) -> Result<Vec<(&'a str, &'a [u8])>, Refusal>
+    ensures texts { IfOk result (λ v. borrowed_texts v.items ≡ lent_sources sources.now) }
+    ensures refused { IfErr result (IsBadSource (lent_sources sources.now)) }
+{
+    let mut texts = Vec::with_capacity(alloc, sources.len())?;
+    for source in sources {
+        match name_of(texts.len(), source.layer) {
+            Ok(name) => texts.push((name, source.text))?,
+            Err(refusal) => return Err(refusal),
+        }
+    }
+    Ok(texts)
+}
+
+/// A copy of each text.
+pub(crate) fn copy_texts(alloc: Global, texts: &[&[u8]]) -> Result<Vec<Vec<u8>>, Refusal>
+    ensures copies { IfOk result (λ v. bytes_of v.items ≡ lent_texts texts.now) }
+    ensures refused { IfErr result IsNoMemory }
+{
+    let mut copies = Vec::with_capacity(alloc, texts.len())?;
+    for text in texts {
+        copies.push(Vec::from_slice(alloc, text)?)?;
+    }
+    Ok(copies)
+}

@@ -1,0 +1,91 @@
+//! From lent texts to the texts of topologies.
+ghost use Rattle.built_text.specs.Maps.{IsTextOfTexts};
+ghost use Rattle.merging.specs.Merge.{IsMergeOf};
+ghost use Rattle.noshinka.specs.Answers.{IsRemoval, IsTextWithout};
+ghost use Rattle.noshinka.specs.Lent.{grid_of, lent_sources, lent_texts};
+ghost use Rattle.noshinka.specs.Why.{IsBuildRefusal, IsMergeRefusal, IsOtherGrid, IsRemoveRefusal};
+ghost use Rattle.std.specs.List.{range_with_len};
+ghost use Rattle.std.specs.Prelude.{◌≡◌, ◌↔◌, IfErr, IfOk, length, true};
+
+use crate::lent::{GridNumbers, Source, borrow_sources, copy_texts, grid_within};
+use crate::refusal::Refusal;
+use crate::topologies::topology_of;
+use built_text::build_borrowed;
+use refine::{JoinFault, merge_topologies, remove_topology};
+use std::alloc::Global;
+use topo::Topology;
+
+/// The canonical text of the topology of GeoJSON texts.
+#[tactic(auto, using(crate::proofs::Refusals::bad_source_refused, crate::proofs::Refusals::of_build_refused))]
+pub(crate) fn build(
+    alloc: Global,
+    grid: &GridNumbers,
+    sources: &[Source<'_>],
+) -> Result<Vec<u8>, Refusal>
+    ensures built { IfOk result (λ t. IsTextOfTexts (grid_of grid.now) (lent_sources sources.now) t.items) }
+    ensures refused { IfErr result (IsBuildRefusal (grid_of grid.now) (lent_sources sources.now)) }
+{
+    let Some(grid) = grid_within(grid) else {
+        return Err(Refusal::BadGrid);
+    };
+    let texts = match borrow_sources(alloc, sources) {
+        Ok(texts) => texts,
+        Err(refusal) => return Err(refusal),
+    };
+    match build_borrowed(alloc, &grid, texts.as_slice()) {
+        Ok(text) => Ok(text),
+        Err(fault) => Err(Refusal::of_build(fault)),
+    }
+}
+
+/// The canonical text of the union of the features of topologies' texts. Each copy is dropped once it is read.
+#[tactic(auto, using(crate::proofs::Refusals::of_merge_refused))]
+pub(crate) fn merge(alloc: Global, texts: &[&[u8]]) -> Result<Vec<u8>, Refusal>
+    ensures merged { IfOk result (λ t. IsMergeOf (lent_texts texts.now) (range_with_len 0 (length texts.now)) t.items) }
+    ensures refused { IfErr result (IsMergeRefusal (lent_texts texts.now)) }
+{
+    let copies = copy_texts(alloc, texts)?;
+    match merge_topologies(alloc, copies)? {
+        Some(topology) => Ok(topo_io::text_of(alloc, &topology)?),
+        None => Err(Refusal::NoText),
+    }
+}
+
+/// Whether two topologies are on one grid.
+pub(crate) fn on_one_grid(topology: &Topology, removed: &Topology) -> bool
+    ensures { (result ≡ true) ↔ (topology.now.grid ≡ removed.now.grid) }
+{
+    topology.grid() == removed.grid()
+}
+
+/// The canonical text of a topology without the features of another one.
+#[tactic(auto, using(crate::proofs::Removals::rest_text))]
+fn text_without(alloc: Global, topology: &Topology, removed: &Topology) -> Result<Vec<u8>, Refusal>
+    ensures removed { IfOk result (λ t. IsTextWithout topology.now removed.now t.items) }
+    ensures refused { IfErr result (IsOtherGrid topology.now.grid removed.now.grid) }
+{
+    if !on_one_grid(topology, removed) {
+        return Err(Refusal::OtherGrid(1));
+    }
+    match remove_topology(alloc, topology, removed) {
+        Ok(removal) => Ok(topo_io::text_of(alloc, removal.topology())?),
+        Err(JoinFault::OtherGrid) => Err(Refusal::OtherGrid(1)),
+        Err(JoinFault::OutOfMemory) => Err(Refusal::OutOfMemory),
+    }
+}
+
+/// The canonical text of a topology's text without the features of another text.
+#[tactic(auto, using(crate::proofs::Removals::first_refused, crate::proofs::Removals::second_refused, crate::proofs::Removals::other_grids, crate::proofs::Removals::removal_answer))]
+pub(crate) fn remove(alloc: Global, text: &[u8], removed: &[u8]) -> Result<Vec<u8>, Refusal>
+    ensures removed { IfOk result (λ t. IsRemoval text.now removed.now t.items) }
+    ensures refused { IfErr result (IsRemoveRefusal text.now removed.now) }
+{
+    let topology = match topology_of(alloc, 0, text) {
+        Ok(topology) => topology,
+        Err(refusal) => return Err(refusal),
+    };
+    match topology_of(alloc, 1, removed) {
+        Ok(others) => text_without(alloc, &topology, &others),
+        Err(refusal) => Err(refusal),
+    }
+}

@@ -1,0 +1,187 @@
+//! Why a call gives no answer, and how it says so.
+ghost use Rattle.fault_paths.specs.PathText.{path_text};
+ghost use Rattle.faults.specs.Fault.{IsWant, number_of, turn_of};
+ghost use Rattle.noshinka.specs.Ends.{IsFaultOutcome, IsRefused};
+ghost use Rattle.noshinka.specs.Why.{IsFaultAt, of_build};
+ghost use Rattle.noshinka.specs.declared.refusal.Refusal.TheVariants as refusal;
+ghost use Rattle.std.specs.Prelude.{◌≡◌, ◌⊎◌, IfOk, map};
+
+use crate::outcome::Outcome;
+use crate::room::put_text;
+use built_text::BuildFault;
+use fault_paths::PathText;
+use faults::{Fault, FaultKind, OutOfMemory, Step};
+use query::QueryFault;
+use refine::MergeFault;
+use sinks::Kept;
+use sinks::written::Written;
+use std::alloc::{AllocError, AllocFailed, Global};
+
+/// Why a call gives no answer.
+#[derive(Drop)]
+pub(crate) enum Refusal {
+    /// A number of the grid is outside its limits.
+    BadGrid,
+    /// The name of the layer at this place is not UTF-8.
+    BadName(usize),
+    /// A number that stands for a choice stands for none.
+    BadChoice,
+    /// Ids are asked for, and a feature of the layer has none.
+    NoId,
+    /// The text at this place is refused. The fault is never want of memory.
+    Text(usize, Fault),
+    /// The text at this place has another transform than text 0.
+    OtherGrid(usize),
+    /// There is no text to merge.
+    NoText,
+    /// The plan of a merge names a text that is not there.
+    BadPlan(usize),
+    /// The topology has no layer of that name.
+    NoLayer,
+    /// A growth of memory was refused.
+    OutOfMemory,
+}
+
+impl Refusal {
+    /// The refusal of the text at a place.
+    pub(crate) fn of_text(place: usize, fault: Fault) -> Refusal
+        ensures { IsFaultAt place fault result }
+    {
+        match fault.kind {
+            FaultKind::OutOfMemory => Refusal::OutOfMemory,
+            _ => Refusal::Text(place, fault),
+        }
+    }
+
+    /// The refusal of a build.
+    pub(crate) fn of_build(fault: BuildFault) -> Refusal
+        ensures { result ≡ of_build fault }
+    {
+        match fault {
+            BuildFault::Text(place, fault) => Refusal::Text(place, fault),
+            BuildFault::OutOfMemory => Refusal::OutOfMemory,
+        }
+    }
+
+    /// Puts the path of a fault at the front of the room, if it fits, and says how the call ended.
+    pub(crate) fn outcome(&self, alloc: Global, room: &mut [u8]) -> Outcome
+        ensures { IsRefused self.now result room.old room.new }
+    {
+        match self {
+            Refusal::BadGrid | Refusal::BadChoice | Refusal::NoId => ended(2, 0, 0),
+            Refusal::BadName(place) => ended(2, 0, *place),
+            Refusal::Text(place, fault) => put_fault(alloc, *place, fault, room),
+            Refusal::OtherGrid(place) => ended(4, number(FaultKind::OtherGrid), *place),
+            Refusal::NoText | Refusal::BadPlan(_) => ended(4, number(FaultKind::BadPlan), 0),
+            Refusal::NoLayer => ended(4, number(FaultKind::NoLayer), 0),
+            Refusal::OutOfMemory => out_of_memory(),
+        }
+    }
+}
+
+fn number(kind: FaultKind) -> u32
+    ensures { result ≡ number_of kind }
+{
+    u32::from(kind.number())
+}
+
+pub(crate) fn ended(status: u32, fault: u32, place: usize) -> Outcome
+    ensures status { result.status ≡ status }
+    ensures fault { result.fault ≡ fault }
+    ensures place { result.place ≡ place }
+{
+    Outcome {
+        status,
+        fault,
+        place,
+        length: 0,
+    }
+}
+
+fn out_of_memory() -> Outcome
+    ensures status { result.status ≡ 5 }
+    ensures fault { result.fault ≡ 20 }
+{
+    ended(5, number(FaultKind::OutOfMemory), 0)
+}
+
+/// The text of a path.
+fn text_of_path(alloc: Global, path: &[Step]) -> Result<Vec<u8>, OutOfMemory>
+    ensures { IfOk result (λ t. t.items ≡ path_text (map turn_of path.now)) }
+{
+    let mut kept = Kept::new(alloc);
+    match PathText(path).write(&mut kept) {
+        Ok(()) => Ok(kept.into_bytes()),
+        Err(_) => Err(OutOfMemory),
+    }
+}
+
+/// Puts the path of the fault of the text at a place at the front of the room, if it fits.
+fn put_fault(alloc: Global, place: usize, fault: &Fault, room: &mut [u8]) -> Outcome
+    ensures { ((result.status ≡ 5) × (result.fault ≡ 20)) ⊎ IsFaultOutcome place fault.now result room.old room.new }
+{
+    match text_of_path(alloc, fault.path.as_slice()) {
+        Ok(text) => {
+            let _is_put = put_text(text.as_slice(), room);
+            Outcome {
+                status: 4,
+                fault: number(fault.kind),
+                place,
+                length: text.len(),
+            }
+        }
+        Err(OutOfMemory) => out_of_memory(),
+    }
+}
+
+impl From<OutOfMemory> for Refusal {
+    ghost from_gives = { λ _ r. r ≡ refusal.OutOfMemory };
+
+    fn from(_fault: OutOfMemory) -> Refusal {
+        Refusal::OutOfMemory
+    }
+}
+
+impl From<AllocError> for Refusal {
+    ghost from_gives = { λ _ r. r ≡ refusal.OutOfMemory };
+
+    fn from(_error: AllocError) -> Refusal {
+        Refusal::OutOfMemory
+    }
+}
+
+impl<T: Drop> From<AllocFailed<T>> for Refusal {
+    ghost from_gives = { λ _ r. r ≡ refusal.OutOfMemory };
+
+    fn from(_failed: AllocFailed<T>) -> Refusal {
+        Refusal::OutOfMemory
+    }
+}
+
+impl From<MergeFault> for Refusal {
+    ghost use Rattle.noshinka.specs.Why.{of_merge};
+
+    ghost from_gives = { λ e r. r ≡ of_merge e };
+
+    fn from(fault: MergeFault) -> Refusal {
+        match fault {
+            MergeFault::BadPlan(leaf) => Refusal::BadPlan(leaf),
+            MergeFault::Text(place, fault) => Refusal::Text(place, fault),
+            MergeFault::OtherGrid(place) => Refusal::OtherGrid(place),
+            MergeFault::OutOfMemory => Refusal::OutOfMemory,
+        }
+    }
+}
+
+impl From<QueryFault> for Refusal {
+    ghost use Rattle.noshinka.specs.Why.{of_query};
+
+    ghost from_gives = { λ e r. r ≡ of_query e };
+
+    fn from(fault: QueryFault) -> Refusal {
+        match fault {
+            QueryFault::NoLayer => Refusal::NoLayer,
+            QueryFault::OutOfMemory => Refusal::OutOfMemory,
+        }
+    }
+}

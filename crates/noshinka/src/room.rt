@@ -1,0 +1,57 @@
+//! Where a call puts its answer.
+ghost use Rattle.noshinka.specs.Ends.{IsDone, IsEnd, IsRefused};
+ghost use Rattle.std.specs.Prelude.{◌≡◌, ◌↔◌, ◌<◌, ◌≤◌, IfErr, IfOk, IsTrue, cond, length, take};
+
+use crate::outcome::Outcome;
+use crate::refusal::{Refusal, ended};
+use std::alloc::Global;
+
+/// Puts a text at the front of the room, if it fits.
+pub(crate) fn put_text(text: &[u8], room: &mut [u8]) -> bool
+    ensures fits { IsTrue result ↔ (length text.now ≤ length room.old) }
+    ensures put { length text.now ≤ length room.old → take (length text.now) room.new ≡ text.now }
+    ensures untouched { length room.old < length text.now → room.new ≡ room.old }
+    ensures size { length room.new ≡ length room.old }
+{
+    if room.len() < text.len() {
+        return false;
+    }
+    room[..text.len()].copy_from_slice(text);
+    true
+}
+
+/// Puts an answer at the front of the room, if it fits.
+fn put_answer(text: &[u8], room: &mut [u8]) -> Outcome
+    ensures { IsDone text.now result room.old room.new }
+{
+    let is_put = put_text(text, room);
+    Outcome {
+        status: if is_put { 0 } else { 6 },
+        fault: if is_put { 0 } else { 21 },
+        place: 0,
+        length: text.len(),
+    }
+}
+
+/// Puts what was made at the front of the room, or says why nothing was made.
+pub(crate) fn answer(alloc: Global, made: Result<Vec<u8>, Refusal>, room: &mut [u8]) -> Outcome
+    ensures done { IfOk made (λ t. IsDone t.items result room.old room.new) }
+    ensures refused { IfErr made (λ r. IsRefused r result room.old room.new) }
+{
+    match made {
+        Ok(text) => put_answer(text.as_slice(), room),
+        Err(refusal) => refusal.outcome(alloc, room),
+    }
+}
+
+/// Says what was found, or why nothing was found.
+pub(crate) fn verdict(alloc: Global, found: Result<bool, Refusal>, room: &mut [u8]) -> Outcome
+    ensures said { IfOk found (λ b. IsEnd (cond b 0 1) 0 0 result) }
+    ensures refused { IfErr found (λ r. IsRefused r result room.old room.new) }
+{
+    match found {
+        Ok(true) => ended(0, 0, 0),
+        Ok(false) => ended(1, 0, 0),
+        Err(refusal) => refusal.outcome(alloc, room),
+    }
+}

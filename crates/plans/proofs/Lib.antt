@@ -1,4 +1,0 @@
-pub mod PlanSizes
-pub mod LeafLemmas
-pub mod GroupingLemmas
-pub mod NamingLemmas

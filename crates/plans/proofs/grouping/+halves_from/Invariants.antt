@@ -1,4 +1,0 @@
-use Rattle.plans.proofs.grouping.+halves_from.Given as goal
-
-abbrev pub decreases-halves_from : goal.decreases-halves_from
-decreases-halves_from l = l.count

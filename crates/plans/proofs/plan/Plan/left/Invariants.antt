@@ -1,5 +1,0 @@
-use Rattle.plans.specs.Groupings.{IsLeft}
-use Rattle.plans.proofs.plan.Plan.left.Given as goal
-
-abbrev pub invariant-loop-place : goal.invariant-loop-place
-invariant-loop-place l = IsLeft l.plan l.place

@@ -1,0 +1,4 @@
+pub mod Nearness
+pub mod Walking
+pub mod Counted
+pub mod Grouping

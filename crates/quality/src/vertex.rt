@@ -1,0 +1,94 @@
+//! Vertices, and which of them are near each other.
+ghost use Rattle.grid.specs.Fits.{x_of};
+ghost use Rattle.quality.specs.Near.{are_apart, are_near, beyond, has_feature, other_feature, over, within};
+ghost use Rattle.std.specs.Prelude.{◌≡◌, not};
+
+use grid::pos::Pos;
+
+/// That a feature has a vertex at a position.
+#[derive(Clone, Copy, PartialEq, Eq, PartialOrd, Ord, Debug)]
+pub(crate) struct VertexUse {
+    /// Where the vertex lies.
+    pub(crate) at: Pos,
+    /// The number of the feature.
+    pub(crate) feature: usize,
+}
+
+/// A vertex, and the features that have it.
+#[derive(Clone, Copy, PartialEq, Eq, Debug)]
+pub(crate) struct Vertex<'a> {
+    /// Where it lies.
+    pub(crate) at: Pos,
+    /// Of each feature that has it, that it has it.
+    pub(crate) uses: &'a [VertexUse],
+}
+
+/// Whether two grid numbers are at most so many steps apart.
+fn is_within(steps: u32, a: i64, b: i64) -> bool
+    ensures { result ≡ within steps a b }
+{
+    a.abs_diff(b) <= steps as u64
+}
+
+/// Whether one of the uses is by a feature.
+fn has(uses: &[VertexUse], feature: usize) -> bool
+    ensures { result ≡ has_feature feature uses.now }
+{
+    for used in uses {
+        if used.feature == feature {
+            return true;
+        }
+    }
+    false
+}
+
+/// The first feature that has a vertex and not another one.
+pub(crate) fn feature_alone(one: Vertex, other: Vertex) -> Option<usize>
+    ensures { result ≡ other_feature one.entry.uses.now other.entry.uses.now }
+{
+    for used in one.uses {
+        if !has(other.uses, used.feature) {
+            return Some(used.feature);
+        }
+    }
+    None
+}
+
+/// Whether one feature has only the one vertex, and another only the other.
+fn is_of_two(one: Vertex, other: Vertex) -> bool
+    ensures { result ≡ are_apart one.entry other.entry }
+{
+    feature_alone(one, other).is_some() && feature_alone(other, one).is_some()
+}
+
+/// Whether two vertices are of different features, and at most so many steps apart in both directions.
+pub(crate) fn is_near(steps: u32, one: Vertex, other: Vertex) -> bool
+    ensures { result ≡ are_near steps one.entry other.entry }
+{
+    is_within(steps, one.at.x(), other.at.x())
+        && is_within(steps, one.at.y(), other.at.y())
+        && is_of_two(one, other)
+}
+
+/// Whether a vertex lies too far from another one in the first direction.
+pub(crate) fn is_past(steps: u32, one: Vertex, other: Vertex) -> bool
+    ensures { result ≡ not (within steps (x_of one.entry.at) (x_of other.entry.at)) }
+{
+    !is_within(steps, one.at.x(), other.at.x())
+}
+
+/// Whether the second number is greater by more than so many steps.
+fn is_over(steps: u32, low: i64, high: i64) -> bool
+    ensures { result ≡ over steps low high }
+{
+    low < high && !is_within(steps, low, high)
+}
+
+/// Whether a vertex behind `next` lies in its column, and all from `next` to it lie out of reach of `one` in the second
+/// direction: above it as `next` does, or below it as the vertex does.
+pub(crate) fn is_beyond(steps: u32, one: Vertex, next: Vertex, vertex: Vertex) -> bool
+    ensures { result ≡ beyond steps one.entry next.entry vertex.entry }
+{
+    vertex.at.x() == next.at.x()
+        && (is_over(steps, one.at.y(), next.at.y()) || is_over(steps, vertex.at.y(), one.at.y()))
+}

@@ -1,0 +1,60 @@
+//! Values of a property, and which geometries have one value.
+ghost use Rattle.query.specs.ByProperty.{AreClasses, class_in, known_then, value_text as text_of_value, values_of};
+ghost use Rattle.query.specs.EachOnce.{lent};
+ghost use Rattle.std.specs.BTreeMap.{get_by_text};
+ghost use Rattle.std.specs.Prelude.{◌≡◌, IfOk, List, OnOk, option_map, string_bytes, ℕ};
+
+use serde_json::Value;
+use shapes::props::Props;
+use std::alloc::{AllocError, Global};
+use std::collections::BTreeMap;
+use topo::Geom;
+
+/// The compact text of a property's value; None where there is no such property.
+fn value_text(alloc: Global, props: &Props, property: &str) -> Result<Option<String>, AllocError>
+    ensures { IfOk result (λ o. option_map string_bytes o ≡ text_of_value property.now props.now) }
+{
+    let Ok(object) = Value::from_str(alloc, props.text()) else {
+        return Err(AllocError);
+    };
+    match object.get(property) {
+        Some(value) => Ok(Some(value.to_string(alloc)?)),
+        None => Ok(None),
+    }
+}
+
+/// The class of the value at a place: the first place with this value, or the place itself where there is none.
+fn class_at(
+    classes: &mut BTreeMap<String, usize>,
+    place: usize,
+    value: Option<String>,
+) -> Result<usize, AllocError>
+    ensures class { IfOk result (λ c. c ≡ class_in (get_by_text classes.old) place (option_map string_bytes value)) }
+    ensures known { OnOk result ((q : List ℕ) → get_by_text classes.new q ≡ known_then (get_by_text classes.old) place (option_map string_bytes value) q) }
+{
+    let Some(text) = value else {
+        return Ok(place);
+    };
+    if let Some(first) = classes.get(&text) {
+        return Ok(*first);
+    }
+    classes.insert(text, place)?;
+    Ok(place)
+}
+
+/// For each of the geometries a number, which two have in common where they have one value of the property.
+pub(crate) fn classes_of(
+    alloc: Global,
+    geometries: &[&Geom],
+    property: &str,
+) -> Result<Vec<usize>, AllocError>
+    ensures { IfOk result (λ v. AreClasses (values_of property.now (lent geometries.now)) v.items) }
+{
+    let mut known = BTreeMap::new(alloc);
+    let mut classes = Vec::new(alloc);
+    for place in 0..geometries.len() {
+        let value = value_text(alloc, &geometries[place].props, property)?;
+        classes.push(class_at(&mut known, place, value)?)?;
+    }
+    Ok(classes)
+}

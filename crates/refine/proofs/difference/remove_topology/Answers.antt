@@ -1,6 +1,0 @@
-use Rattle.std.proofs.Common.{◌∙◌, ap}
-use Rattle.refine.specs.Lent.{all_lent}
-use Rattle.refine.proofs.difference.remove_topology.Goals as goal
-
-pub removal_of-requires : goal.removal_of-requires
-removal_of-requires c = (let (r, e) = c.in_ok-left.ensures.some in (r, ap all_lent c.deref.ensures.value ∙ e))

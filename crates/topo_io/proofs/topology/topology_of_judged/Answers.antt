@@ -1,0 +1,22 @@
+use Rattle.std.proofs.Common.{IfSome, subst, sym}
+use Rattle.std.specs.List.{AllByRecursion}
+use Rattle.topo_io.specs.Means.{IsTopologyOfParts}
+use Rattle.topo_io.specs.Parts.{AreSaid, layer_of_geoms}
+use Rattle.topo_io.specs.Stitching.{LayerStitches}
+use Rattle.topo_io.proofs.Each.{all_mapped}
+use Rattle.topo_io.proofs.Features.{said_refused}
+use Rattle.topo_io.proofs.topology.topology_of_judged.Goals as goal
+
+pub returns-then-not-branch-clause-none : goal.returns-then-not-branch-clause-none
+returns-then-not-branch-clause-none c = λ bytes said.
+    let arcs = c.args.arcs.now in
+    said_refused arcs c.args.layers.items bytes c.args.grid said (λ all.
+    c.in_ok-layers_stitch.ensures.no c.if-not-branch.true
+    (subst (AllByRecursion (λ l. LayerStitches arcs (layer_of_geoms l))) (sym c.deref.ensures.value)
+    (subst (λ A. A) (sym (all_mapped (LayerStitches arcs) layer_of_geoms c.args.layers.items)) all)))
+
+pub returns-in-Some-clause-means : goal.returns-in-Some-clause-means
+returns-in-Some-clause-means c = λ bytes said.
+    let arcs = c.args.arcs.now in
+    subst (λ o. IfSome o (IsTopologyOfParts c.args.grid arcs c.deref-2.result.now)) c.in-Some.is c.in_ok-topology.ensures.means bytes
+    (subst (AreSaid bytes c.args.grid arcs) (sym c.deref-2.ensures.value) said)

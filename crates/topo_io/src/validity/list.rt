@@ -1,0 +1,174 @@
+//! Lists of indexes of arcs, judged by their arcs.
+ghost use Rattle.arc_lists.specs.Lists.{IsTold};
+ghost use Rattle.reading.specs.Fault.{LeastOrWant};
+ghost use Rattle.reading.specs.Outlines.{outline_kind};
+ghost use Rattle.std.specs.Prelude.{◌≡◌, [], IfOk, IfErr, OnOk};
+ghost use Rattle.topo_io.specs.Arcs.{known, stitched_list_faults};
+ghost use Rattle.topo_io.specs.Validity.{fault_of, faults_as, used_faults};
+
+use crate::reader::position::Limits;
+use crate::reader::stitching::{IndexOf, stitched_to};
+use arc_lists::{ArcLists, Told};
+use chains::ArcRef;
+use faults::OutOfMemory;
+use faults::fault::{Fault, FaultKind};
+use lines::line::Line;
+use lines::ring::Ring;
+use lines::shape_fault::ShapeFault;
+use reading::part::{Part, read_list};
+use serde_json::Value;
+use std::alloc::Global;
+
+/// What a list of arcs is to stitch to.
+#[derive(Clone, Copy, PartialEq, Eq, Debug)]
+pub enum OutlineType {
+    Line,
+    Ring,
+}
+
+/// What geometries are judged by: what is known of the topology's arcs, and the limits of positions.
+#[derive(Clone, Copy)]
+pub struct Known<'a> {
+    pub lists: &'a ArcLists<'a>,
+    pub limits: Limits,
+}
+
+fn told_of(
+    alloc: Global,
+    lists: &ArcLists,
+    kind: OutlineType,
+    used: &[ArcRef],
+) -> Result<Told, OutOfMemory>
+    ensures { IfOk result (IsTold (fault_of kind) lists.now.arcs.now used.now) }
+{
+    match kind {
+        OutlineType::Line => lists.line(alloc, used),
+        OutlineType::Ring => lists.ring(alloc, used),
+    }
+}
+
+fn judge_line(alloc: Global, lists: &ArcLists, used: &[ArcRef]) -> Result<(), Fault>
+    ensures ok { OnOk result (used_faults lists.now.arcs.now OutlineType.Line used.now ≡ []) }
+    ensures err { IfErr result (λ f. LeastOrWant (used_faults lists.now.arcs.now OutlineType.Line used.now) f) }
+{
+    let line: Result<Line, Fault> = stitched_to(alloc, lists.arcs, used);
+    match line {
+        Ok(_) => Ok(()),
+        Err(fault) => Err(fault),
+    }
+}
+
+fn judge_ring(alloc: Global, lists: &ArcLists, used: &[ArcRef]) -> Result<(), Fault>
+    ensures ok { OnOk result (used_faults lists.now.arcs.now OutlineType.Ring used.now ≡ []) }
+    ensures err { IfErr result (λ f. LeastOrWant (used_faults lists.now.arcs.now OutlineType.Ring used.now) f) }
+{
+    let ring: Result<Ring, Fault> = stitched_to(alloc, lists.arcs, used);
+    match ring {
+        Ok(_) => Ok(()),
+        Err(fault) => Err(fault),
+    }
+}
+
+/// Judges a list by the positions that its arcs stitch to.
+fn judge_stitched(
+    alloc: Global,
+    lists: &ArcLists,
+    kind: OutlineType,
+    used: &[ArcRef],
+) -> Result<(), Fault>
+    ensures ok { OnOk result (used_faults lists.now.arcs.now kind used.now ≡ []) }
+    ensures err { IfErr result (λ f. LeastOrWant (used_faults lists.now.arcs.now kind used.now) f) }
+{
+    match kind {
+        OutlineType::Line => judge_line(alloc, lists, used),
+        OutlineType::Ring => judge_ring(alloc, lists, used),
+    }
+}
+
+fn kind_of(fault: ShapeFault) -> FaultKind
+    ensures { result ≡ outline_kind fault }
+{
+    match fault {
+        ShapeFault::TooShort => FaultKind::TooShort,
+        ShapeFault::NotClosed => FaultKind::NotClosed,
+        ShapeFault::Revisit => FaultKind::Revisit,
+        ShapeFault::OutOfMemory => FaultKind::OutOfMemory,
+    }
+}
+
+/// Judges a list of used arcs that runs on, by its positions. Arcs without a segment are left out, so that
+/// there are no more positions than the arcs have, where none is used twice.
+fn judge_tangled(
+    alloc: Global,
+    lists: &ArcLists,
+    kind: OutlineType,
+    used: &[ArcRef],
+) -> Result<(), Fault>
+    requires { IsTold (fault_of kind) lists.now.arcs.now used.now Told.Tangled }
+    ensures ok { OnOk result (used_faults lists.now.arcs.now kind used.now ≡ []) }
+    ensures err { IfErr result (λ f. LeastOrWant (used_faults lists.now.arcs.now kind used.now) f) }
+{
+    match lists.without_points(alloc, used) {
+        Ok(kept) => judge_stitched(alloc, lists, kind, &kept),
+        Err(OutOfMemory) => Err(Fault::here(alloc, FaultKind::OutOfMemory)),
+    }
+}
+
+/// Judges a list of used arcs of which this is told.
+fn judge_told(
+    alloc: Global,
+    lists: &ArcLists,
+    kind: OutlineType,
+    used: &[ArcRef],
+    told: Told,
+) -> Result<(), Fault>
+    requires { IsTold (fault_of kind) lists.now.arcs.now used.now told }
+    ensures ok { OnOk result (used_faults lists.now.arcs.now kind used.now ≡ []) }
+    ensures err { IfErr result (λ f. LeastOrWant (used_faults lists.now.arcs.now kind used.now) f) }
+{
+    match told {
+        Told::Sound => Ok(()),
+        Told::Broken => Err(Fault::here(alloc, FaultKind::Broken)),
+        Told::Faulty(fault) => Err(Fault::here(alloc, kind_of(fault))),
+        Told::Tangled => judge_tangled(alloc, lists, kind, used),
+        Told::Unknown => judge_stitched(alloc, lists, kind, used),
+    }
+}
+
+/// Judges a list of used arcs, by what is known of the arcs.
+pub(crate) fn judge_list(
+    alloc: Global,
+    lists: &ArcLists,
+    kind: OutlineType,
+    used: &[ArcRef],
+) -> Result<(), Fault>
+    ensures ok { OnOk result (used_faults lists.now.arcs.now kind used.now ≡ []) }
+    ensures err { IfErr result (λ f. LeastOrWant (used_faults lists.now.arcs.now kind used.now) f) }
+{
+    match told_of(alloc, lists, kind, used) {
+        Ok(told) => judge_told(alloc, lists, kind, used, told),
+        Err(OutOfMemory) => Err(Fault::here(alloc, FaultKind::OutOfMemory)),
+    }
+}
+
+/// A list of indexes of arcs, of which nothing is kept.
+#[derive(Clone, Copy)]
+pub struct ListOf<'g, 'a> {
+    pub on: &'g Known<'a>,
+    pub kind: OutlineType,
+}
+
+impl Part for ListOf<'_, '_> {
+    type Made = ();
+
+    ghost faults = { λ p. stitched_list_faults (known p.on.now.lists.now.arcs.now) (faults_as p.kind) };
+
+    ghost means = { λ p d u. Unit {0} };
+
+    fn read(&self, alloc: Global, value: &Value) -> Result<(), Fault> {
+        let lists = self.on.lists;
+        let of = IndexOf { arcs: lists.arcs };
+        let used = read_list(alloc, &of, value)?;
+        judge_list(alloc, lists, self.kind, &used)
+    }
+}

@@ -1,0 +1,113 @@
+//! The lists of a text's layers, judged by their arcs, before they are stitched.
+ghost use Rattle.std.specs.List.{AllByRecursion};
+ghost use Rattle.std.specs.Prelude.{◌≡◌, [], IfOk, map as map_list, true};
+ghost use Rattle.theory.specs.Lists.{joined};
+ghost use Rattle.topo.specs.OfMap.{body_of};
+ghost use Rattle.topo_io.specs.Parts.{plain_geom, layer_of_geoms};
+ghost use Rattle.topo_io.specs.Stitching.{BodyStitches, GeomStitches, LayerStitches};
+ghost use Rattle.topo_io.specs.Validity.{IsJudged, used_faults};
+
+use crate::validity::list::{OutlineType, judge_list};
+use arc_lists::ArcLists;
+use chains::ArcRef;
+use faults::OutOfMemory;
+use faults::fault::FaultKind;
+use lines::items::Items;
+use std::alloc::Global;
+use taking::TextArcs;
+use topo::{Body, Geom, Layer};
+
+fn list_stitches(
+    alloc: Global,
+    lists: &ArcLists,
+    kind: OutlineType,
+    used: &[ArcRef],
+) -> Result<bool, OutOfMemory>
+    ensures { IfOk result (IsJudged (used_faults lists.now.arcs.now kind used.now ≡ [])) }
+{
+    match judge_list(alloc, lists, kind, used) {
+        Ok(()) => Ok(true),
+        Err(fault) => match fault.kind {
+            FaultKind::OutOfMemory => Err(OutOfMemory),
+            _ => Ok(false),
+        },
+    }
+}
+
+fn all_stitch(
+    alloc: Global,
+    lists: &ArcLists,
+    kind: OutlineType,
+    refs: &[Items<ArcRef>],
+) -> Result<bool, OutOfMemory>
+    ensures { IfOk result (IsJudged (AllByRecursion (λ used. used_faults lists.now.arcs.now kind used ≡ []) refs.now)) }
+{
+    for used in refs {
+        if !list_stitches(alloc, lists, kind, used.as_slice())? {
+            return Ok(false);
+        }
+    }
+    Ok(true)
+}
+
+fn polygons_stitch(
+    alloc: Global,
+    lists: &ArcLists,
+    polygons: &[Items<Items<ArcRef>>],
+) -> Result<bool, OutOfMemory>
+    ensures { IfOk result (IsJudged (AllByRecursion (AllByRecursion (λ used. used_faults lists.now.arcs.now OutlineType.Ring used ≡ [])) polygons.now)) }
+{
+    for refs in polygons {
+        if !all_stitch(alloc, lists, OutlineType::Ring, refs.as_slice())? {
+            return Ok(false);
+        }
+    }
+    Ok(true)
+}
+
+fn body_stitches(alloc: Global, lists: &ArcLists, body: &Body) -> Result<bool, OutOfMemory>
+    ensures { IfOk result (IsJudged (BodyStitches lists.now.arcs.now (body_of body.now))) }
+{
+    match body {
+        Body::Null | Body::Point(_) | Body::MultiPoint(_) => Ok(true),
+        Body::Line(used) => list_stitches(alloc, lists, OutlineType::Line, used.as_slice()),
+        Body::MultiLine(refs) => all_stitch(alloc, lists, OutlineType::Line, refs.as_slice()),
+        Body::Polygon(refs) => all_stitch(alloc, lists, OutlineType::Ring, refs.as_slice()),
+        Body::MultiPolygon(polygons) => polygons_stitch(alloc, lists, polygons.as_slice()),
+    }
+}
+
+fn geometries_stitch(
+    alloc: Global,
+    lists: &ArcLists,
+    geometries: &[Geom],
+) -> Result<bool, OutOfMemory>
+    ensures { IfOk result (IsJudged (AllByRecursion (λ g. GeomStitches lists.now.arcs.now (plain_geom g)) geometries.now)) }
+{
+    for geometry in geometries {
+        if !body_stitches(alloc, lists, &geometry.body)? {
+            return Ok(false);
+        }
+    }
+    Ok(true)
+}
+
+/// Whether each list of the layers stitches to a line or a ring.
+///
+/// # Errors
+/// Where memory is refused.
+pub(crate) fn layers_stitch(
+    alloc: Global,
+    arcs: &TextArcs,
+    layers: &[Layer],
+) -> Result<bool, OutOfMemory>
+    ensures { IfOk result (IsJudged (AllByRecursion (λ l. LayerStitches arcs.now (layer_of_geoms l)) layers.now)) }
+{
+    let lists = ArcLists::new(alloc, arcs)?;
+    for layer in layers {
+        if !geometries_stitch(alloc, &lists, layer.geometries())? {
+            return Ok(false);
+        }
+    }
+    Ok(true)
+}

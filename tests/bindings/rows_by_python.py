@@ -1,0 +1,233 @@
+"""Puts the rows of tests/rows through the Python package, and compares its answers with what the program prints for them.
+
+    python3 tests/bindings/rows_by_python.py
+
+NOSHINKA_LIBRARY names the library, TOPOTOOL the program; where there is no program, the answers are compared with the rows
+themselves. A row is left out if its words are none of a call: help, wrong usage, files that can't be read. An answer is what
+the program would print and its status: the bytes of a text, or the line of an error with its number, name and path. Rows of
+togrid, which TOGRID names, are put through `snap` and `build` with a step, but for those of which it fixes the text. Ends
+with a line of counts, and with status 1 where anything differs, or less than most rows were compared.
+"""
+
+import os
+import re
+import sys
+import tempfile
+
+sys.dont_write_bytecode = True
+TOP = os.path.dirname(os.path.dirname(os.path.dirname(os.path.abspath(__file__))))
+sys.path[:0] = [f"{TOP}/tests", f"{TOP}/python"]
+
+import many_runs
+import rows
+
+import noshinka
+
+GRID = re.compile(r"-?[0-9]+(?:,-?[0-9]+){3}", re.ASCII)
+OPTIONS = {
+    "build": {"--grid": True},
+    "merge": {"--shape": True},
+    "remove": {},
+    "check": {},
+    "feature": {"--layer": True},
+    "mesh": {"--layer": True, "--edges": True},
+    "neighbors": {"--layer": True, "--ids": False},
+    "info": {"--json": False},
+    "diff": {"--layer": True, "--key": True, "--json": False},
+}
+WANTED = {"build": "--grid", "feature": "--layer", "neighbors": "--layer"}
+CHOICES = {"--shape": rows.SHAPES, "--edges": ["all", "interior", "exterior"]}
+FIXED = {4, 8, 10}  # faults of texts that togrid fixes: collections, and what collapses or folds
+FILES = {"remove": 2, "check": 1, "feature": 1, "mesh": 1, "neighbors": 1, "info": 1, "diff": 2}
+LEAST_COMPARED = 1000
+LEAST_ROUNDED = 10
+
+
+class NoCall(Exception):
+    """The words are none that a call stands for."""
+
+
+def parse(words):
+    """The command, its options and its files."""
+    if not words or words[0] not in OPTIONS:
+        raise NoCall
+    command, left, options, files = words[0], list(words[1:]), {}, []
+    while left:
+        name, equals, value = left.pop(0).partition("=")
+        if not name.startswith("--"):
+            files.append(name + equals + value)
+            continue
+        takes = OPTIONS[command].get(name)
+        if takes is None or name in options or (not takes and equals):
+            raise NoCall
+        if takes and not equals and (not left or left[0].startswith("-")):
+            raise NoCall
+        options[name] = (value if equals else left.pop(0)) if takes else True
+        if options[name] not in CHOICES.get(name, [options[name]]):
+            raise NoCall
+    if WANTED.get(command, "") not in ["", *options] or len(files) != FILES.get(command, len(files) or 1):
+        raise NoCall
+    return command, options, files
+
+
+def call(command, options, names, texts):
+    """The answer of a call: what the program prints of it, and its status."""
+    if command == "build":
+        layers = [(name.partition("=")[0], text) for name, text in zip(names, texts, strict=True)]
+        return noshinka.build(layers, [int(it) for it in options["--grid"].split(",")]), 0
+    if command == "merge":
+        return noshinka.merge(texts), 0
+    if command == "remove":
+        return noshinka.remove(*texts), 0
+    if command == "check":
+        return (b"canonical\n", 0) if noshinka.check(texts[0]) else (b"not canonical\n", 1)
+    if command == "feature":
+        return noshinka.feature(texts[0], options["--layer"]), 0
+    if command == "mesh":
+        return noshinka.mesh(texts[0], options.get("--layer"), options.get("--edges", "all")), 0
+    if command == "neighbors":
+        return noshinka.neighbors(texts[0], options["--layer"], ids="--ids" in options), 0
+    if command == "diff":
+        return differences(texts, options)
+    return noshinka.info(texts[0], lines="--json" not in options), 0
+
+
+def differences(texts, options):
+    """What diff prints of two texts, and its status, which says whether anything differs."""
+    asked = options.get("--layer"), options.get("--key")
+    found = noshinka.diff(*texts, *asked)
+    whole = found.json()
+    differs = whole["differences"] or any(whole["layers"].values())
+    return found if "--json" in options else noshinka.diff(*texts, *asked, lines=True), int(bool(differs))
+
+
+def line_of(fault, files, options):
+    """The line of the program for a fault."""
+    kind = f"{fault.number} {fault.name}"
+    if fault.number == 19:
+        return f"{kind} {options['--layer']}"
+    return f"{files[fault.place]}: {kind}" + (f" {fault.path}" if fault.path else "")
+
+
+def answered(words, lent, given):
+    """What the program would print on each output for some words, and its status, by the package."""
+    command, options, names = parse(words)
+    files = [it.partition("=")[2] if command == "build" else it for it in names]
+    if any("=" not in it for it in names if command == "build") or files.count("-") > 1 or (given is False and "-" in files):
+        raise NoCall
+    if command == "build" and not GRID.fullmatch(options["--grid"]):
+        raise NoCall
+    if any(it != "-" and it not in lent for it in files):
+        raise NoCall
+    texts = [given if it == "-" else lent[it] for it in files]
+    try:
+        printed, status = call(command, options, names, texts)
+        return bytes(printed), b"", status
+    except noshinka.Fault as fault:
+        return b"", f"topotool: {line_of(fault, files, options)}\n".encode(), 4
+    except noshinka.Usage:
+        said = f"bad grid {options['--grid']}" if command == "build" else f"--ids: a feature without an id in layer {options['--layer']}"
+        return b"", f"topotool: {said}\n".encode(), 2
+
+
+def rounding(words):
+    """The step, whether a topology is built, and the names and files of words of togrid."""
+    step, is_build, names, left = "degrees", False, [], list(words)
+    if "-q" not in left:
+        raise NoCall
+    left.remove("-q")
+    while left:
+        word = left.pop(0)
+        if word == "--step" and left:
+            step = left.pop(0)
+        elif word == "--build":
+            is_build = True
+        elif word.startswith("-"):
+            raise NoCall
+        else:
+            name, equals, file = word.partition("=")
+            names.append((name, file) if equals else (os.path.basename(word).partition(".")[0], word))
+    return step, is_build, names
+
+
+def rounded(words, lent):
+    """What togrid would print for some words, and its status, by the package. The line of an error is the front of togrid's."""
+    step, is_build, names = rounding(words)
+    files = [file for _, file in names]
+    if any(file not in lent for file in files) or not (is_build or len(files) == 1):
+        raise NoCall
+    try:
+        if is_build:
+            return bytes(noshinka.build([(name, lent[file]) for name, file in names], step=step)), b"", 0
+        return bytes(noshinka.snap(lent[files[0]], step)), b"", 0
+    except noshinka.Fault as fault:
+        if fault.number in FIXED:
+            raise NoCall from None
+        return b"", f"togrid: {line_of(fault, files, {})}".encode(), 4
+    except noshinka.Usage:
+        raise NoCall from None
+
+
+def wanted(row, lent):
+    """What the program prints, or what the row says; None where it says less than each byte."""
+    program = row.get("program", "topotool")
+    if os.path.isfile(rows.PROGRAMS[program]):
+        with tempfile.TemporaryDirectory() as folder:
+            for name, text in lent.items():
+                rows.lay(folder, name, text)
+            ran = rows.called(folder, row["words"], row.get("input", b""), program)
+        return ran.stdout, ran.stderr, ran.returncode
+    if {"answers", "complains", "help", "ending"} & row.keys():
+        return None
+    whole = {**rows.WHOLE, **row}
+    return whole["stdout"], whole["stderr"], whole["status"]
+
+
+def judge(run):
+    """What came of a run of a theme, in a word, and what is wrong with it, in words."""
+    theme, row = run
+    lent = {name: text for name, text in row["files"].items() if "/" not in name}
+    if row.get("program") == "togrid":
+        return judge_rounded(theme, row, lent)
+    try:
+        for name, words in row.get("made", {}).items():
+            lent[name] = answered(words, lent, b"")[0]
+        came = answered(row["words"], lent, row.get("input", b""))
+    except NoCall:
+        return "left out", ""
+    right = wanted(row, lent)
+    if right is None:
+        return "left out", ""
+    return "compared", "" if came == right else f"{theme}: {row['title']}\n  wanted {right}\n  came   {came}\n"
+
+
+def judge_rounded(theme, row, lent):
+    """The same of a row of togrid."""
+    try:
+        printed, line, status = rounded(row["words"], lent)
+    except NoCall:
+        return "left out", ""
+    right = wanted(row, lent)
+    if right is None:
+        return "left out", ""
+    same = (printed, status) == (right[0], right[2]) and right[1].startswith(line) and bool(line) == bool(right[1])
+    return "rounded", "" if same else f"{theme}: {row['title']}\n  wanted {right}\n  came   {(printed, line, status)}\n"
+
+
+def main():
+    inputs = rows.read(rows.INPUTS)
+    themes = sorted(it.removesuffix(".toml") for it in os.listdir(rows.FOLDER) if it.endswith(".toml"))
+    every = [(theme, row) for theme in themes if theme != rows.INPUTS for row in rows.rows_of(theme, inputs)]
+    runs = [(theme, run) for theme, row in every for run in rows.runs_of(row)]
+    counts, wrong = {"compared": 0, "rounded": 0, "left out": 0}, 0
+    for kind, said in many_runs.judged(judge, runs, None):
+        counts[kind] += 1
+        wrong += bool(said)
+        print(said, end="")
+    by = "the program" if os.path.isfile(many_runs.PROGRAM) else "the rows"
+    print(f"rows by Python: {counts['compared']:,} runs and {counts['rounded']} of togrid compared with {by}, {counts['left out']:,} left out, {wrong} wrong")
+    return 1 if wrong or counts["compared"] < LEAST_COMPARED or counts["rounded"] < LEAST_ROUNDED else 0
+
+
+if __name__ == "__main__":
+    sys.exit(main())

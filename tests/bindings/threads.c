@@ -1,0 +1,68 @@
+/* Several threads at once, which are lent the same texts, and each have a room of their own. Their answers are the same.
+ *
+ *     threads THREADS TIMES
+ */
+#include "noshinka.h"
+#include <pthread.h>
+#include <stdio.h>
+#include <stdlib.h>
+#include <string.h>
+
+enum { SIZE = 1 << 16, SQUARES = 40, MOST = 16 };
+static uint8_t map[SIZE], right[SIZE];
+static size_t length, right_length;
+static const char degrees[] = "{\"type\":\"Point\",\"coordinates\":[7.4386325,46.9510827]}", snapped[] = "{\"type\":\"Point\",\"coordinates\":[7438633,46951083]}";
+static long times;
+
+static noshinka_outcome build(uint8_t *room) {
+    static char texts[SQUARES][128];
+    noshinka_grid grid = {1, 1, 0, 0};
+    noshinka_source sources[SQUARES];
+    int n;
+    for (n = 0; n < SQUARES; n++) {
+        int x = n % 8, y = n / 8;
+        snprintf(texts[n], sizeof texts[n], "{\"type\":\"Polygon\",\"coordinates\":[[[%d,%d],[%d,%d],[%d,%d],[%d,%d],[%d,%d]]]}", x, y, x + 1, y,
+                 x + 1, y + 1, x, y + 1, x, y);
+        sources[n].layer.at = (const uint8_t *)"a";
+        sources[n].layer.length = 1;
+        sources[n].text.at = (const uint8_t *)texts[n];
+        sources[n].text.length = strlen(texts[n]);
+    }
+    return noshinka_build(&grid, sources, SQUARES, room, SIZE);
+}
+
+static void *run(void *nothing) {
+    noshinka_bytes texts[2] = {{map, length}, {map, length}};
+    uint8_t *room = (uint8_t *)calloc(SIZE, 1);
+    long n, same = room != NULL;
+    (void)nothing;
+    for (n = 0; same && n < times; n++) {
+        noshinka_outcome merged = noshinka_merge(texts, 2, room, SIZE);
+        same &= merged.status == NOSHINKA_DONE && merged.length == length && !memcmp(room, map, length);
+        noshinka_outcome asked = noshinka_neighbors(map, length, (const uint8_t *)"a", 1, 0, room, SIZE);
+        same &= asked.status == NOSHINKA_DONE && asked.length == right_length && !memcmp(room, right, right_length);
+        noshinka_outcome rounded = noshinka_snap((const uint8_t *)degrees, strlen(degrees), map, 0, room, SIZE);
+        same &= rounded.status == NOSHINKA_DONE && rounded.length == strlen(snapped) && !memcmp(room, snapped, strlen(snapped));
+    }
+    free(room);
+    return (void *)same;
+}
+
+int main(int count, char **words) {
+    pthread_t threads[MOST];
+    int n, of = count > 1 ? atoi(words[1]) : 2;
+    long all = 1;
+    times = count > 2 ? atol(words[2]) : 1;
+    if (of > MOST) return 2;
+    length = build(map).length;
+    right_length = noshinka_neighbors(map, length, (const uint8_t *)"a", 1, 0, right, SIZE).length;
+    for (n = 0; n < of; n++)
+        if (pthread_create(&threads[n], NULL, run, NULL)) return 2;
+    for (n = 0; n < of; n++) {
+        void *same;
+        pthread_join(threads[n], &same);
+        all &= (long)same;
+    }
+    printf("threads: %d threads, %ld times, %s\n", of, times, all ? "0 wrong" : "WRONG");
+    return !all;
+}

@@ -1,0 +1,237 @@
+"""Counts how large and how deep the tree of crates is, one figure a line, beside the limit that is wanted of it.
+
+    python3 tests/house.py [--limits FILE] [--write FILE] [--list]
+
+With --limits it fails where a figure is worse than the one in that file, so that nothing gets worse unseen; --write makes the
+file of today's figures. --list prints what stands behind the figures: names, edges, small crates, lines of each crate. How each
+is counted:
+
+- Product crates are those of crates.txt that are neither tests, nor what tests share, nor measurements, nor examples (OTHERS).
+- Functions are lines of src/ with `fn NAME`, in traits and impls too.
+- The longest chain is of product crates, each used by the next. What is above the crate that validates arcs counts tests too.
+- Two types of one name: a struct, enum, trait or type at the top level of a file, of product crates, in more than one crate.
+- A bare participle is a function's name of one word that ends in `ed`, or that is in IRREGULAR.
+- Lines of code are those of src/ of product crates without blank ones, whole-line comments and contracts. A contract begins with
+  `requires`, `ensures` or `ghost` and ends where its braces are closed. Lines of proofs are all lines of proofs/, those of all
+  crates. The reader along tokens (TOKENS) is counted apart.
+- Small crates have fewer than 100 lines of code; programs, libraries for other languages and crates of laws (LAWS) don't count.
+- An edge that nothing uses: a crate that crates.txt names behind another, and that no .rt or .antt file of this one names.
+
+Ends with a line of counts, and with status 1 where a figure is worse than the file's.
+"""
+
+import argparse
+import collections
+import fnmatch
+import glob
+import os
+import re
+import sys
+
+sys.dont_write_bytecode = True
+
+import edits
+
+TOP = os.path.dirname(os.path.dirname(os.path.abspath(__file__)))
+OTHERS = ["*_tests", "refused_*", "*without_memory", "test_values", "worked_maps", "acceptance", "text_readers", "*_runs", "border_walk", "district_day"]
+LAWS = ["theory", "compact", "geojson_round_trip", "round_trip", "layer_laws"]
+VALIDATORS = ["validate", "standing"]
+TOKENS = ["json_tokens", "token_parts", "*/token_reader*"]
+IRREGULAR = ["begun", "built", "cut", "drawn", "found", "given", "gone", "held", "kept", "known", "laid", "lent", "made", "met", "said", "seen",
+             "sent", "taken", "thrown", "told", "understood", "woven", "written"]
+# Words that end so and are none.
+NO_PARTICIPLES = ["bed", "embed", "feed", "need", "seed", "speed", "shed"]
+SMALL = 100
+CONTRACT = re.compile(r"\s*(?:ensures|requires|ghost)\b")
+FUNCTION = re.compile(r"\s*(?:pub(?:\([^)]*\))? )?(?:const |final |unsafe |extern \"C\" )*fn (\w+)")
+TYPE = re.compile(r"(?:pub(?:\([^)]*\))? )?(?:struct|enum|trait|type) (\w+)")
+
+
+def matches(name, patterns):
+    return any(fnmatch.fnmatchcase(name, it) for it in patterns)
+
+
+def read_lines(path):
+    with open(path, encoding="utf-8") as file:
+        return file.read().split("\n")
+
+
+def crate_lines():
+    """The words before and behind the colon of each line of crates.txt: a crate's name and what kind it is, and what it uses."""
+    for line in read_lines(f"{TOP}/crates.txt"):
+        front, _, used = line.split("#")[0].partition(":")
+        if front.strip():
+            yield front.split(), used.split()
+
+
+def edges():
+    """Each crate with those that it uses, as crates.txt has them."""
+    return {name: used for (name, *_), used in crate_lines()}
+
+
+def foreign():
+    """The libraries for other languages: a word behind their names says what kind they are, as `staticlib`."""
+    return {name for (name, *kind), _ in crate_lines() if kind}
+
+
+def code_lines(path):
+    """The lines of a file that are neither blank, nor a comment, nor of a contract."""
+    open_braces = 0
+    for line in read_lines(path):
+        if open_braces > 0 or CONTRACT.match(line):
+            open_braces += line.count("{") - line.count("}")
+        elif line.strip() and not line.lstrip().startswith("//"):
+            yield line
+
+
+class Crate:
+    """What is counted of a crate."""
+
+    def __init__(self, name):
+        self.name, self.folder = name, f"{TOP}/crates/{name}"
+        self.sources = {it: [*code_lines(it)] for it in sorted(glob.glob(f"{self.folder}/src/**/*.rt", recursive=True))}
+        self.lines = sum(map(len, self.sources.values()))
+        self.functions = [it[1] for lines in self.sources.values() for line in lines if (it := FUNCTION.match(line))]
+        self.types = {it[1] for lines in self.sources.values() for line in lines if (it := TYPE.match(line))}
+        self.is_program = os.path.isfile(f"{self.folder}/src/main.rt")
+
+    def token_lines(self):
+        return sum(len(lines) for it, lines in self.sources.items() if is_of_tokens(it))
+
+    def texts(self):
+        for ending in ("rt", "antt"):
+            for it in glob.glob(f"{self.folder}/**/*.{ending}", recursive=True):
+                if "/out/" not in it:
+                    with open(it, encoding="utf-8") as file:
+                        yield file.read()
+
+
+def is_of_tokens(path):
+    below = os.path.relpath(path, f"{TOP}/crates").split("/", 1)
+    return matches(below[0], TOKENS) or matches(f"{below[0]}/{os.path.basename(path)}", TOKENS) or "/token_reader" in path
+
+
+def longest_chain(below):
+    """The longest list of crates of which each uses the one before."""
+    found = {}
+
+    def chain(name):
+        if name not in found:
+            found[name] = max((chain(it) for it in below[name] if it in below), key=len, default=[]) + [name]
+        return found[name]
+
+    return max(map(chain, below), key=len, default=[])
+
+
+def crates_above(name, below):
+    found, changed = {name}, True
+    while changed:
+        more = {it for it, used in below.items() if it not in found and found & {*used}}
+        found, changed = found | more, bool(more)
+    return sorted(found - {name})
+
+
+def is_bare_participle(name):
+    return name in IRREGULAR or "_" not in name and name.endswith("ed") and name not in NO_PARTICIPLES
+
+
+def unused_edges(below, crates):
+    for name, used in below.items():
+        texts = [*crates[name].texts()]
+        for it in used:
+            cited = re.compile(rf"\b{it}::|\buse {it}\b|\bRattle\.{it}\b|\bextern crate {it}\b")
+            if not any(cited.search(text) for text in texts):
+                yield f"{name}: {it}"
+
+
+def proof_lines():
+    """Lines of proofs of all crates: of the reader along tokens, and of all else."""
+    tokens = rest = 0
+    for it in glob.glob(f"{TOP}/crates/*/proofs/**/*.antt", recursive=True):
+        count = len(read_lines(it)) - 1
+        if is_of_tokens(it):
+            tokens += count
+        else:
+            rest += count
+    return tokens, rest
+
+
+def figures():
+    """Each figure: its name, its number, the limit that is wanted of it (None: no limit), and what stands behind it."""
+    below = edges()
+    crates = {name: Crate(name) for name in below}
+    product = {name: it for name, it in crates.items() if not matches(name, OTHERS)}
+    inner = {name: [it for it in below[name] if it in product] for name in product}
+    functions = {name: len(it.functions) for name, it in product.items()}
+    validator = next((it for it in VALIDATORS if it in below), None)
+    above = crates_above(validator, below) if validator else []
+    chain = longest_chain(inner)
+    owners = collections.defaultdict(list)
+    for name, it in product.items():
+        for found in it.types:
+            owners[found].append(name)
+    doubles = sorted(f"{it}: {', '.join(names)}" for it, names in owners.items() if len(names) > 1)
+    participles = [f"{name}: {it}" for name, crate in product.items() for it in crate.functions if is_bare_participle(it)]
+    edited = {name: len(names) for name, names in edits.crates_with_edits()}
+    code = sum(it.lines for it in product.values())
+    token_code = sum(it.token_lines() for it in product.values())
+    token_proofs, proofs = proof_lines()
+    small = [f"{name} {it.lines}" for name, it in product.items() if it.lines < SMALL and not it.is_program and name not in {*LAWS, *foreign()}]
+    unused = [*unused_edges(below, crates)]
+    most = max(functions, key=functions.get)
+    busiest = max(edited, key=edited.get)
+    return [
+        ("product crates", len(product), 30, sorted(product)),
+        ("functions of the largest crate", functions[most], 100, [f"{name} {it}" for name, it in sorted(functions.items(), key=lambda it: -it[1])]),
+        ("product crates of more than 100 functions", sum(it > 100 for it in functions.values()), 0, []),
+        ("functions of product crates", sum(functions.values()), None, []),
+        ("crates in the longest chain", len(chain), 11, chain),
+        ("crates above the one that validates arcs", len(above), 13, [f"{validator}: {', '.join(above)}"]),
+        ("type names in more than one product crate", len(doubles), 0, doubles),
+        ("functions named by a bare participle", len(participles), 0, participles),
+        ("must-fail edits", sum(edited.values()), edits.MOST_IN_ALL, []),
+        ("must-fail edits of the crate with most", edited[busiest], edits.MOST, [busiest]),
+        ("lines of code without the token reader", code - token_code, 11500, [f"{name} {it.lines}" for name, it in product.items()]),
+        ("lines of code of the token reader", token_code, None, []),
+        ("lines of proofs without the token reader", proofs, 45300, []),
+        ("lines of proofs of the token reader", token_proofs, None, []),
+        ("crates of fewer than 100 lines of code", len(small), 0, small),
+        ("edges of crates.txt that nothing uses", len(unused), 0, unused),
+    ]
+
+
+def worse_than(file, found):
+    """Gives the figures that are greater than the file's, and those that it does not have."""
+    kept = dict(it.rsplit(": ", 1) for it in read_lines(file) if it and not it.startswith("#"))
+    for name, number, _, _ in found:
+        if name not in kept:
+            yield f"{name}: {file} has no figure"
+        elif number > int(kept[name]):
+            yield f"{name}: {number}, and {kept[name]} before"
+
+
+def main():
+    words = argparse.ArgumentParser()
+    words.add_argument("--limits")
+    words.add_argument("--write")
+    words.add_argument("--list", action="store_true")
+    words = words.parse_args()
+    found = figures()
+    for name, number, limit, behind in found:
+        wanted = "" if limit is None else f" (wanted: at most {limit}; {'holds' if number <= limit else 'does not hold'})"
+        print(f"{name}: {number}{wanted}")
+        if words.list:
+            print("".join(f"    {it}\n" for it in behind), end="")
+    if words.write:
+        with open(words.write, "w", encoding="utf-8") as file:
+            file.write("# The figures of tests/house.py that must not get worse; made by its --write.\n")
+            file.writelines(f"{name}: {number}\n" for name, number, _, _ in found)
+    worse = [*worse_than(words.limits, found)] if words.limits else []
+    print("".join(f"worse: {it}\n" for it in worse), end="")
+    limited = [(number, limit) for _, number, limit, _ in found if limit is not None]
+    print(f"{len(found)} figures, {sum(number <= limit for number, limit in limited)} of {len(limited)} limits hold, {len(worse)} worse than before")
+    return 1 if worse else 0
+
+
+if __name__ == "__main__":
+    sys.exit(main())
