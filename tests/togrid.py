@@ -547,15 +547,28 @@ def as_lists(value):
     return json.loads(json.dumps(value))
 
 
+def parts_of(feature):
+    """How many features one is split into at most."""
+    geometry = feature["geometry"] or {}
+    return max(1, len(geometry.get("geometries", [])))
+
+
+def far_features(made, asked):
+    """Gives the numbers of the features that have a coordinate too far from 0: in the file, and where collections are split."""
+    begun = 0
+    for number, feature in enumerate(made["features"]):
+        try:
+            begun += len(expected({**made, "features": [feature]}, asked))
+        except Far:
+            yield number
+            yield from range(begun, begun + parts_of(feature))
+            begun += parts_of(feature)
+
+
 def is_of_far(line, made, asked):
-    """Whether a line tells of a feature that has a coordinate too far from 0 the first error, which alone would be mended."""
-    told = re.search(rb" (?:8 TooShort|10 Revisit) \$/features/([0-9]+)/", line)
-    try:
-        if told:
-            expected({**made, "features": [made["features"][int(told[1])]]}, asked)
-        return False
-    except Far:
-        return True
+    """Whether the error of a line, which alone would be fixed, is in a feature that has a coordinate too far from 0."""
+    found = re.search(rb" (?:8 TooShort|10 Revisit) \$/features/([0-9]+)/", line)
+    return bool(found) and int(found[1]) in far_features(made, asked)
 
 
 def wrong_halves(folder, made, built, asked):
