@@ -571,8 +571,25 @@ def is_of_far(line, made, asked):
     return bool(found) and int(found[1]) in far_features(made, asked)
 
 
+def wrong_merge(files, built, asked):
+    """What differs where each file is built by itself, as on two machines, and both are merged in either order."""
+    shards = []
+    for file in files:
+        run = subprocess.run([TOGRID, "--build", "-q", *asked.words, file], capture_output=True)
+        if run.returncode:
+            return f"{file}: {run.stderr!r}"
+        shards.append(f"{file.partition('=')[2]}.topo.json")
+        with open(shards[-1], "wb") as it:
+            it.write(run.stdout)
+    for order in shards, shards[::-1]:
+        run = topotool("merge", *order)
+        if (run.returncode, run.stdout) != (0, built):
+            return f"merged files differ: {order} {run.stderr!r}"
+    return None
+
+
 def wrong_halves(folder, made, built, asked):
-    """What differs where the features are in two files, in either order."""
+    """What differs where the features are in two files, in either order, built together and apart."""
     middle = len(made["features"]) // 2
     files = []
     for name, features in ("front", made["features"][:middle]), ("rest", made["features"][middle:]):
@@ -583,7 +600,8 @@ def wrong_halves(folder, made, built, asked):
         run = subprocess.run([TOGRID, "--build", "-q", *asked.words, *order], capture_output=True)
         if (run.returncode, run.stdout) != (0, built):
             return f"two files differ: {order} {run.stderr!r}"
-    return None
+    # What --snap joins depends on all files, so that they are built together.
+    return None if asked.distance else wrong_merge(files, built, asked)
 
 
 def wrong_topology(file, folder, made, text, asked):
