@@ -9,8 +9,7 @@ from an origin, get a property as their id, have a property scaled, or are joine
 to print the same features, number for number, or to refuse where a coordinate is too far from 0; its report has to say how far
 positions moved and how many are shared; what `--build` prints has to be what topotool builds of that; and what `--back` makes of
 it has to have the transform and the bounding box in the unit of the map, and rings as d3 wants them. The features in two
-files, in either order, have to give the same bytes. With a limit of time it
-stops there. Ends with a line of counts, and with status 1 where something differed, or almost no text was tried.
+files, in either order, have to give the same bytes, built together or apart and merged. With a limit of time it stops there. Ends with a line of counts, and with status 1 where something differed, or almost no text was tried.
 """
 
 import collections
