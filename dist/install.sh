@@ -1,5 +1,5 @@
 #!/bin/sh
-# Installs topotool and the library noshinka below PREFIX.
+# Installs topotool, togrid and the library noshinka below PREFIX.
 #
 #     sh install.sh PREFIX
 set -eu
@@ -12,4 +12,4 @@ for folder in bin include lib share; do
     cp -R "$folder/." "$prefix/$folder/"
 done
 sed "s|@PREFIX@|$prefix|" lib/pkgconfig/noshinka.pc > "$prefix/lib/pkgconfig/noshinka.pc"
-echo "installed below $prefix; $prefix/bin has topotool"
+echo "installed below $prefix; $prefix/bin has topotool and togrid"

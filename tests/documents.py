@@ -18,9 +18,9 @@ at most PARAGRAPH characters, a sentence at most SENTENCE words and AVERAGE on a
 document at most PAGE words, and there is no word of AVOID. README.md has at most README_BYTES bytes, and names the kit as
 `rt version` does, where that is installed; its table and docs/COMMANDS.md have each command that the program's help lists.
 All documents but docs/DEFINITIONS.md, CHANGELOG.md and the forms in .github have at most WORDS words together: those of
-prose and tables, and not those of code. The folders at the top have a README.md. Words of AVOID in `///` and `//!` comments
-of product crates are counted, and don't fail yet. Examples run with nothing set but PATH, HOME and a locale. Ends with a
-line of counts, and with status 1 where anything is wrong.
+prose and tables, and not those of code. The folders at the top have a README.md. `///` and `//!` comments of product crates
+have no word of AVOID either. The version is the same in all files that have it. Examples run with nothing set but PATH, HOME
+and a locale. Ends with a line of counts, and with status 1 where anything is wrong.
 """
 
 import glob
@@ -55,6 +55,15 @@ SENTENCE = 28
 AVERAGE = 15
 PAGE = 2600
 WORDS = 20000
+# Where else the version is, and what is before it.
+VERSIONS = {
+    "crates/togrid_command/src/words.rt": "VERSION: &str = ",
+    "python/noshinka/__init__.py": "^__version__ = ",
+    "rust/Cargo.toml": "^version = ",
+    "rust/Cargo.lock": 'name = "noshinka"\nversion = ',
+    "docs/topotool.1": '"topotool ',
+    "tests/rows/usage.toml": '"topotool ',
+}
 # Words that readers don't expect or search for, and what to write instead.
 AVOID = {
     r"want of memory|memory is wanting": "out of memory",
@@ -309,17 +318,30 @@ def undescribed():
             yield f"docs/COMMANDS.md: it has no section on {command}"
 
 
+def other_versions():
+    """Gives the files that have another version than the program's, which is written once in its source."""
+    def version_in(path, before):
+        with open(f"{TOP}/{path}", encoding="utf-8") as file:
+            found = re.search(rf'{before}"?(\d+\.\d+\.\d+)', file.read(), re.MULTILINE)
+        return found[1] if found else "none"
+
+    version = version_in("crates/arguments/src/lib.rt", "VERSION: &str = ")
+    for path, before in VERSIONS.items():
+        if version_in(path, before) != version:
+            yield f"{path}: its version is {version_in(path, before)}, and the program's is {version}"
+
+
 def avoided_in_comments():
-    """How many words of AVOID there are in the comments of product crates that documentation is made of."""
-    count = 0
+    """Gives the words of AVOID in the comments of product crates that documentation is made of."""
     for crate in house.edges():
         if house.matches(crate, house.OTHERS):
             continue
         for path in glob.glob(f"{TOP}/crates/{crate}/src/**/*.rt", recursive=True):
             comments = " ".join(it.strip() for it in house.read_lines(path) if it.lstrip().startswith(("///", "//!")))
             plain = re.sub(r"//[/!]|`[^`]*`", "", comments)
-            count += sum(len(re.findall(rf"\b(?:{words})\b", plain, re.IGNORECASE)) for words in AVOID)
-    return count
+            for words, better in AVOID.items():
+                for found in re.findall(rf"\b(?:{words})\b", plain, re.IGNORECASE):
+                    yield f"{os.path.relpath(path, TOP)}: '{found}' in a comment (write: {better})"
 
 
 def main(documents):
@@ -334,11 +356,10 @@ def main(documents):
     names, lost = definitions.checked()
     calls, missed = told_of(PROOFS)
     pages, words, faulty = read_through()
-    lacking = [*undescribed()]
+    lacking = [*undescribed(), *other_versions(), *avoided_in_comments()]
     for it in lacking:
         print(it)
     wrong += lost + missed + faulty + len(lacking)
-    print(f"{avoided_in_comments()} words to avoid in /// and //! comments of product crates")
     print(f"{count} examples, {names} definitions, {calls} calls with a condition, {pages} documents of {words} words, {wrong} wrong")
     return 1 if wrong else 0
 
