@@ -5,6 +5,7 @@ use Rattle.decimal_geojson.specs.declared.nesting.Nesting.{Nesting}
 use Rattle.decimal_geojson.specs.declared.nesting.Next.{Next}
 use Rattle.decimal_geojson.specs.declared.nesting.Next.TheVariants.{Root, Item, Key, Member, Nothing, Unsure}
 
+-- these brackets, and what may come next
 abbrev pub nested : ℕ → Next → Nesting
 nested brackets next = record { brackets = brackets; next = next }
 
@@ -25,6 +26,7 @@ takes_value Member = true
 takes_value Nothing = false
 takes_value Unsure = false
 
+-- a key may come next, or the end of an object
 abbrev pub takes_key : Next → Bool
 takes_key Root = false
 takes_key Item = false
@@ -33,6 +35,7 @@ takes_key Member = false
 takes_key Nothing = false
 takes_key Unsure = false
 
+-- an item of an array may come next, or its end
 abbrev pub takes_item : Next → Bool
 takes_item Root = false
 takes_item Item = true
@@ -54,6 +57,7 @@ abbrev pub ended : Nesting → Bool → Nesting
 ended n true = behind_value (n.brackets / 2)
 ended n false = unsure
 
+-- behind a key
 abbrev pub named : Nesting → Nesting
 named n = if takes_key n.next then nested n.brackets Member else unsure
 

@@ -1,5 +1,5 @@
 //! How many vertices are shared, and how many nearly.
-ghost use Rattle.nearly_shared.specs.Shared.{first_of, has_another as other_than, has_two as of_two, shared};
+ghost use Rattle.nearly_shared.specs.Shared.{first_of, has_another as another_in, has_two as two_in, shared};
 ghost use Rattle.std.specs.Prelude.{◌≡◌, cond, length};
 
 use grid::pos::Pos;
@@ -19,7 +19,7 @@ pub struct Counts {
 
 /// Whether one of the uses is by another feature.
 fn has_another(uses: &[VertexUse], feature: usize) -> bool
-    ensures { result ≡ other_than feature uses.now }
+    ensures { result ≡ another_in feature uses.now }
 {
     for used in uses {
         if used.feature != feature {
@@ -31,7 +31,7 @@ fn has_another(uses: &[VertexUse], feature: usize) -> bool
 
 /// Whether more than one feature has the vertex of these uses.
 fn has_two(uses: &[VertexUse]) -> bool
-    ensures { result ≡ of_two uses.now }
+    ensures { result ≡ two_in uses.now }
 {
     match uses.split_first() {
         Some((first, others)) => has_another(others, first.feature),
@@ -41,7 +41,7 @@ fn has_two(uses: &[VertexUse]) -> bool
 
 /// One for a vertex that more than one feature has, and none for any other.
 fn one_if_shared(vertex: Vertex) -> usize
-    ensures { result ≡ cond (of_two vertex.entry.uses.now) 1 0 }
+    ensures { result ≡ cond (two_in vertex.entry.uses.now) 1 0 }
 {
     if has_two(vertex.uses) { 1 } else { 0 }
 }
@@ -50,11 +50,9 @@ fn one_if_shared(vertex: Vertex) -> usize
 pub(crate) fn count_shared<'a>(vertices: &[Vertex<'a>]) -> usize
     ensures { result ≡ length (shared vertices.now) }
 {
-    let mut left = vertices;
     let mut count = 0;
-    while let Some((vertex, behind)) = left.split_first() {
-        count += one_if_shared(*vertex);
-        left = behind;
+    for number in 0..vertices.len() {
+        count += one_if_shared(vertices[number]);
     }
     count
 }

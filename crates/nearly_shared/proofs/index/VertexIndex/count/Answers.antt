@@ -21,7 +21,7 @@ returns c = record {
   are = record {
     ascend = c.in_ok-vertices.ensures.ascend (subst (IsSorted use_cmp) (sym c.deref.ensures.value) c.self.invariant);
     there = c.in_ok-vertices.ensures.there;
-    all = c.in_ok-vertices.ensures.all ∙ c.deref.ensures.value ∙ sym c.self.view_is;
+    all = c.in_ok-vertices.ensures.all ∙ c.deref.ensures.value ∙ c.self.view_is;
   };
   shared = c.count_shared.ensures ∙ ap (λ l. length (shared l)) c.deref-3.ensures.value;
   count = c.count_near.ensures ∙ ap (λ l. length (near_pairs c.args.steps l)) c.deref-4.ensures.value;
