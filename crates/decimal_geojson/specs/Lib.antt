@@ -1,4 +1,5 @@
 pub mod Counts
+pub mod Nesting
 pub mod Place
 pub mod Real
 pub mod Snapped

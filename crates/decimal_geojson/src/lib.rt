@@ -5,6 +5,7 @@
 #![tactic(auto)]
 
 pub mod counts;
+mod nesting;
 pub mod place;
 pub mod real;
 pub mod rewriting;

@@ -10,6 +10,7 @@ ghost use Rattle.json.specs.Token.{Token as SpecToken};
 ghost use Rattle.std.specs.Prelude.{◌≡◌, ◌≢◌, ◌⊎◌, ◌∷◌, [], ◌++◌, List, Err, None, IfOk, OnOk};
 
 use crate::counts::Counts;
+use crate::nesting::Nesting;
 use crate::place::{Place, Treatment};
 use crate::real::spell;
 use crate::rules::Rules;
@@ -85,6 +86,21 @@ fn write(
     }
 }
 
+// Refuses a text that is no JSON. Where its brackets surely match, the text is not read for that.
+fn need_json(alloc: Global, text: &str, nesting: Nesting) -> Result<(), Unread>
+    ensures { result ≡ Err Unread.NotJson → document text.now ≡ None }
+{
+    if nesting.is_whole() {
+        return Ok(());
+    }
+    let mut scratch = Scratch::new(alloc);
+    if is_valid(text, &mut scratch)? {
+        Ok(())
+    } else {
+        Err(Unread::NotJson)
+    }
+}
+
 /// The text with each coordinate replaced by the whole number of steps nearest to it, and where that is too far
 /// from 0 by 2^40 + 1. Of other members than those that GeoJSON's geometries and features need nothing is left. All
 /// else stays, token by token, but for heights and numbers with a fraction; the counts have these.
@@ -97,12 +113,10 @@ pub fn to_grid(alloc: Global, text: &str, rules: &Rules) -> Result<(Vec<u8>, Cou
     ensures bad { result ≡ Err Unread.NotJson → (document text.now ≡ None) ⊎ HasBad (tokens text.now) }
 {
     let mut scratch = Scratch::new(alloc);
-    if !is_valid(text, &mut scratch)? {
-        return Err(Unread::NotJson);
-    }
     let mut reader = Reader::new(text, &mut scratch)?;
     let mut writer = Writer::new(Vec::new(alloc));
     let mut place = Place::Outside;
+    let mut nesting = Nesting::start();
     let mut counts = Counts {
         positions: 0,
         heights: 0,
@@ -112,10 +126,12 @@ pub fn to_grid(alloc: Global, text: &str, rules: &Rules) -> Result<(Vec<u8>, Cou
         let treatment = place.treatment(rules, token);
         write(&mut writer, token, treatment, &rules.step)?;
         counts = counts.with(place, treatment);
+        nesting = nesting.after(token);
         place = match place.after(token) {
             Some(place) => place,
             None => return Err(Unread::OutOfMemory),
         };
     }
+    need_json(alloc, text, nesting)?;
     Ok((writer.into_inner(), counts))
 }

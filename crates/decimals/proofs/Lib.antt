@@ -3,3 +3,4 @@ pub mod Nearest
 pub mod Steps
 pub mod Keeping
 pub mod Numbers
+pub mod Shortness

@@ -9,8 +9,44 @@ use fast_float::Numeral;
 /// What greater numbers are read as, 10^30.
 pub(crate) const CAP: u128 = 1_000_000_000_000_000_000_000_000_000_000;
 
+// From where on a machine word may not hold one more digit, 10^17.
+const FULL: u64 = 100_000_000_000_000_000;
+
+// The number of the first digits behind those of `value`, as many as a machine word holds, and the digits left.
+fn in_word(value: u64, digits: &[u8]) -> (u64, &[u8])
+    requires { AllDigits 10 digits.now }
+    ensures value { digits_value_after 10 result.0 result.1.now ≡ digits_value_after 10 value digits.now }
+    ensures digits { AllDigits 10 result.1.now }
+{
+    let mut number = value;
+    let mut left = digits;
+    while let Some((digit, behind)) = left.split_first() {
+        if number >= FULL {
+            return (number, left);
+        }
+        number = number * 10 + u64::from(*digit - b'0');
+        left = behind;
+    }
+    (number, left)
+}
+
+// The same for a number that may be too great for a machine word. Then all digits are left.
+fn in_words(value: u128, digits: &[u8]) -> (u128, &[u8])
+    requires value { value ≤ CAP }
+    requires digits { AllDigits 10 digits.now }
+    ensures value { digits_value_after 10 result.0 result.1.now ≡ digits_value_after 10 value digits.now }
+    ensures digits { AllDigits 10 result.1.now }
+    ensures within { result.0 ≤ CAP }
+{
+    if value >= u128::from(FULL) {
+        return (value, digits);
+    }
+    let (number, left) = in_word(value as u64, digits);
+    (u128::from(number), left)
+}
+
 // The number that the digits write behind those of `value`, or `CAP` where that is less.
-fn capped(value: u128, digits: &[u8]) -> u128
+fn capped_behind(value: u128, digits: &[u8]) -> u128
     requires value { value ≤ CAP }
     requires digits { AllDigits 10 digits.now }
     ensures { result ≡ min (digits_value_after 10 value digits.now) CAP }
@@ -22,8 +58,30 @@ fn capped(value: u128, digits: &[u8]) -> u128
     capped
 }
 
+// The same, with as many digits as a machine word holds read first.
+fn capped(value: u128, digits: &[u8]) -> u128
+    requires value { value ≤ CAP }
+    requires digits { AllDigits 10 digits.now }
+    ensures { result ≡ min (digits_value_after 10 value digits.now) CAP }
+{
+    let (number, left) = in_words(value, digits);
+    capped_behind(number, left)
+}
+
 // The value with so many zeros behind it, or `CAP` where that is less.
 fn with_zeros(value: u128, zeros: u128) -> u128
+    requires { value ≤ CAP }
+    ensures { result ≡ min (value * 10 ^ zeros) CAP }
+{
+    match zeros {
+        0 => value,
+        1 => (value * 10).min(CAP),
+        _ => with_many_zeros(value, zeros),
+    }
+}
+
+// The same by a power of ten.
+fn with_many_zeros(value: u128, zeros: u128) -> u128
     requires { value ≤ CAP }
     ensures { result ≡ min (value * 10 ^ zeros) CAP }
 {

@@ -7,6 +7,7 @@ mod digits;
 pub mod laws;
 pub mod origin;
 pub mod rounding;
+mod short;
 pub mod step;
 
 pub use decimal::Decimal;

@@ -1,6 +1,7 @@
 //! Clusters of vertices that are nearly shared, each joined at its least position.
 use crate::pairs::is_pair;
-use grid::Pos;
+use grid::pos::Pos;
+use quality::vertex::VertexUse;
 use std::alloc::{AllocError, AllocFailed, Global};
 
 /// The greatest distance of vertices that can be joined, in steps.
@@ -45,12 +46,12 @@ fn distance(a: Pos, b: Pos) -> u64 {
     a.x().abs_diff(b.x()).max(a.y().abs_diff(b.y()))
 }
 
-/// The positions of sorted entries, each once.
-fn positions_of(alloc: Global, entries: &[(Pos, usize)]) -> Result<Vec<Pos>, AllocFailed<Pos>> {
+/// The positions of sorted uses, each once.
+fn positions_of(alloc: Global, uses: &[VertexUse]) -> Result<Vec<Pos>, AllocFailed<Pos>> {
     let mut positions: Vec<Pos> = Vec::new(alloc);
-    for entry in entries {
-        if positions.last().copied() != Some(entry.0) {
-            positions.push(entry.0)?;
+    for used in uses {
+        if positions.last().copied() != Some(used.at) {
+            positions.push(used.at)?;
         }
     }
     Ok(positions)
@@ -114,7 +115,7 @@ impl Forest {
     }
 
     /// Joins a position with those at some x that are nearly shared with it, no more than `reach` steps away.
-    fn join_column(&mut self, entries: &[(Pos, usize)], place: usize, x: i64, reach: i64) {
+    fn join_column(&mut self, uses: &[VertexUse], place: usize, x: i64, reach: i64) {
         let Some(position) = self.positions.get(place).copied() else {
             return;
         };
@@ -132,19 +133,19 @@ impl Forest {
             if other.x() != x || other.y() > high {
                 return;
             }
-            if is_pair(entries, position, other) {
+            if is_pair(uses, position, other) {
                 self.join(place, other_place);
             }
         }
     }
 
     /// Joins a position with the later ones that are nearly shared with it.
-    fn join_near(&mut self, entries: &[(Pos, usize)], place: usize, reach: i64) {
+    fn join_near(&mut self, uses: &[VertexUse], place: usize, reach: i64) {
         let Some(position) = self.positions.get(place).copied() else {
             return;
         };
         for along in 0..=reach {
-            self.join_column(entries, place, position.x().saturating_add(along), reach);
+            self.join_column(uses, place, position.x().saturating_add(along), reach);
         }
     }
 
@@ -188,18 +189,18 @@ impl Forest {
     }
 }
 
-/// The clusters of sorted entries, each a position and a feature that has it. Two positions are in one cluster where
+/// The clusters of sorted uses, each a position and a feature that has it. Two positions are in one cluster where
 /// they are nearly shared and no more than `most` steps apart, or both are in one with a third.
 pub(crate) fn clusters_of(
     alloc: Global,
-    entries: &[(Pos, usize)],
+    uses: &[VertexUse],
     most: u64,
 ) -> Result<Clusters, AllocError> {
     let most = most.min(GREATEST_DISTANCE);
-    let positions = positions_of(alloc, entries).map_err(|_| AllocError)?;
+    let positions = positions_of(alloc, uses).map_err(|_| AllocError)?;
     let mut forest = Forest::new(alloc, positions).map_err(|_| AllocError)?;
     for place in 0..forest.positions.len() {
-        forest.join_near(entries, place, most as i64);
+        forest.join_near(uses, place, most as i64);
     }
     let wide = forest.wide_ones(alloc, most).map_err(|_| AllocError)?;
     let moves = forest.moves(alloc, wide.as_slice())?;

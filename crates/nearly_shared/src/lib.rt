@@ -5,9 +5,12 @@
 #![tactic(auto)]
 
 mod clusters;
+mod counts;
+mod index;
 mod pairs;
 mod vertices;
 
 pub use clusters::{Clusters, GREATEST_DISTANCE};
-pub use pairs::Pairs;
-pub use vertices::{VertexIndex, Vertices};
+pub use counts::Counts;
+pub use index::VertexIndex;
+pub use vertices::Vertices;

@@ -4,11 +4,11 @@
 
 mod ids;
 mod near;
-mod pairs;
+pub mod pairs;
 mod search;
-mod uses;
-mod vertex;
-mod vertices;
+pub mod uses;
+pub mod vertex;
+pub mod vertices;
 
 pub use ids::{repeated_ids, without_id};
 pub use near::{NearVertices, near_vertices};

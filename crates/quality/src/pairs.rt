@@ -59,7 +59,7 @@ fn count_behind<'a>(steps: u32, one: Vertex<'a>, behind: &[Vertex<'a>]) -> usize
 /// It takes n log n steps for a fixed distance, whatever the vertices are: at each vertex at most two searches by
 /// halving for each column within reach, and a step for each vertex within reach, which are at most
 /// (2 * steps + 1)^2.
-pub(crate) fn count_near<'a>(vertices: &[Vertex<'a>], steps: u32) -> u128
+pub fn count_near<'a>(vertices: &[Vertex<'a>], steps: u32) -> u128
     requires { Ascend vertices.now }
     ensures { result ≡ length (near_pairs steps vertices.now) }
 {
@@ -114,7 +114,7 @@ fn note_near<'a>(
 
 /// The places of the first pairs of those that `count_near` counts, at most so many: by the position of the one vertex,
 /// then of the other.
-pub(crate) fn first_near<'a>(
+pub fn first_near<'a>(
     alloc: Global,
     vertices: &[Vertex<'a>],
     steps: u32,

@@ -4,6 +4,17 @@ ghost use Rattle.std.specs.Prelude.{◌≡◌, ◌≤◌, ◌∷◌, length, tak
 
 use crate::vertex::{Vertex, is_beyond, is_near};
 
+/// How many vertices behind `next` are searched for those that can be passed over: twice as many as can, at most.
+fn count_searched(steps: u32, one: Vertex, next: Vertex, behind: &[Vertex]) -> usize
+    ensures { result ≤ length behind.now }
+{
+    let mut bound = 1;
+    while bound < behind.len() && is_beyond(steps, one, next, behind[bound]) {
+        bound *= 2;
+    }
+    bound.min(behind.len())
+}
+
 /// How many vertices behind `next` can be passed over, because they lie in its column and beyond reach of
 /// `one` as it does. Found by halving.
 fn count_beyond(steps: u32, one: Vertex, next: Vertex, behind: &[Vertex]) -> usize
@@ -11,7 +22,7 @@ fn count_beyond(steps: u32, one: Vertex, next: Vertex, behind: &[Vertex]) -> usi
     ensures beyond { Ascend (next.entry ∷ behind.now) → NoneNear steps one.entry (take result behind.now) }
 {
     let mut low = 0;
-    let mut high = behind.len();
+    let mut high = count_searched(steps, one, next, behind);
     while low < high {
         let middle = low + (high - low) / 2;
         if is_beyond(steps, one, next, behind[middle]) {

@@ -12,7 +12,11 @@ use std::alloc::{AllocError, Global};
 use topo::{Body, Geom, Layer, Topology};
 
 /// Notes that a feature has these positions.
-fn note_places(uses: &mut Vec<VertexUse>, feature: usize, places: &[Pos]) -> Result<(), AllocError>
+pub fn note_places(
+    uses: &mut Vec<VertexUse>,
+    feature: usize,
+    places: &[Pos],
+) -> Result<(), AllocError>
     ensures { OnOk result (uses.new.items ≡ uses.old.items ++ places_uses feature places.now) }
 {
     for place in places {
@@ -130,7 +134,8 @@ fn uses_by(
     Ok(uses)
 }
 
-fn sort_uses(uses: &mut Vec<VertexUse>)
+/// Puts uses in order: by positions, then by features.
+pub fn sort_uses(uses: &mut Vec<VertexUse>)
     ensures permutation { IsPermutation uses.old.items uses.new.items }
     ensures sorted { IsSorted use_cmp uses.new.items }
 {

@@ -7,20 +7,20 @@ use grid::pos::Pos;
 
 /// That a feature has a vertex at a position.
 #[derive(Clone, Copy, PartialEq, Eq, PartialOrd, Ord, Debug)]
-pub(crate) struct VertexUse {
+pub struct VertexUse {
     /// Where the vertex lies.
-    pub(crate) at: Pos,
+    pub at: Pos,
     /// The number of the feature.
-    pub(crate) feature: usize,
+    pub feature: usize,
 }
 
 /// A vertex, and the features that have it.
 #[derive(Clone, Copy, PartialEq, Eq, Debug)]
-pub(crate) struct Vertex<'a> {
+pub struct Vertex<'a> {
     /// Where it lies.
-    pub(crate) at: Pos,
+    pub at: Pos,
     /// Of each feature that has it, that it has it.
-    pub(crate) uses: &'a [VertexUse],
+    pub uses: &'a [VertexUse],
 }
 
 /// Whether two grid numbers are at most so many steps apart.
@@ -43,7 +43,7 @@ fn has(uses: &[VertexUse], feature: usize) -> bool
 }
 
 /// The first feature that has a vertex and not another one.
-pub(crate) fn feature_alone(one: Vertex, other: Vertex) -> Option<usize>
+pub fn feature_alone(one: Vertex, other: Vertex) -> Option<usize>
     ensures { result ≡ other_feature one.entry.uses.now other.entry.uses.now }
 {
     for used in one.uses {
@@ -62,7 +62,7 @@ fn is_of_two(one: Vertex, other: Vertex) -> bool
 }
 
 /// Whether two vertices are of different features, and at most so many steps apart in both directions.
-pub(crate) fn is_near(steps: u32, one: Vertex, other: Vertex) -> bool
+pub fn is_near(steps: u32, one: Vertex, other: Vertex) -> bool
     ensures { result ≡ are_near steps one.entry other.entry }
 {
     is_within(steps, one.at.x(), other.at.x())
@@ -71,7 +71,7 @@ pub(crate) fn is_near(steps: u32, one: Vertex, other: Vertex) -> bool
 }
 
 /// Whether a vertex lies too far from another one in the first direction.
-pub(crate) fn is_past(steps: u32, one: Vertex, other: Vertex) -> bool
+pub fn is_past(steps: u32, one: Vertex, other: Vertex) -> bool
     ensures { result ≡ not (within steps (x_of one.entry.at) (x_of other.entry.at)) }
 {
     !is_within(steps, one.at.x(), other.at.x())
@@ -86,7 +86,7 @@ fn is_over(steps: u32, low: i64, high: i64) -> bool
 
 /// Whether a vertex behind `next` lies in its column, and all from `next` to it lie out of reach of `one` in the second
 /// direction: above it as `next` does, or below it as the vertex does.
-pub(crate) fn is_beyond(steps: u32, one: Vertex, next: Vertex, vertex: Vertex) -> bool
+pub fn is_beyond(steps: u32, one: Vertex, next: Vertex, vertex: Vertex) -> bool
     ensures { result ≡ beyond steps one.entry next.entry vertex.entry }
 {
     vertex.at.x() == next.at.x()

@@ -26,10 +26,7 @@ fn count_at(uses: &[VertexUse], at: Pos) -> usize
 }
 
 /// The vertices of uses that are sorted, each with its uses.
-pub(crate) fn vertices_of<'a>(
-    alloc: Global,
-    uses: &'a [VertexUse],
-) -> Result<Vec<Vertex<'a>>, AllocError>
+pub fn vertices_of<'a>(alloc: Global, uses: &'a [VertexUse]) -> Result<Vec<Vertex<'a>>, AllocError>
     ensures ascend { IfOk result (λ v. IsSorted use_cmp uses.now → Ascend v.items) }
     ensures there { IfOk result (λ v. AllByRecursion AreThere v.items) }
     ensures all { IfOk result (λ v. gathered (λ w. w.uses.now) v.items ≡ uses.now) }

@@ -7,14 +7,16 @@ use crate::refusal::Refusal;
 use crate::report::{Report, put_report};
 use crate::report_file::report_text;
 use crate::rounding::{Rounded, round_files};
+use crate::snapping::Sheet;
 use crate::status::Status;
 use crate::words::parse;
-use built_text::{BuildFault, build_text};
 use clap::error::ErrorKind;
 use clap::{ArgMatches, Error};
 use grid::Grid;
+use shapes::FeatureMap;
 use sinks::{Sink, put};
 use std::alloc::Global;
+use topo::Topology;
 
 /// Runs the command that the words ask for, of which the first is the program's name, and answers the exit
 /// status. From 2 on `err` is given a line that says why. Where an input is refused nothing is written but that
@@ -47,15 +49,14 @@ fn perform<'a, F: Files, O: Sink, E: Sink>(
     let sources = sources_of(alloc, found.get_strs("[NAME=]FILE").unwrap_or(&[]))?;
     let sources = sources.as_slice();
     input_once(sources)?;
-    let is_build = found.get_flag("build");
     if found.get_flag("back") {
-        if is_build {
+        if options.is_build {
             return Err(Refusal::BadBack);
         }
         write_back(alloc, &options, sources, files, out)?;
         return Ok(Status::Done);
     }
-    round(alloc, &options, sources, is_build, files, out, err)
+    round(alloc, &options, sources, files, out, err)
 }
 
 /// Rounds the files, writes what becomes of them, and reports.
@@ -63,26 +64,29 @@ fn round<'a, F: Files, O: Sink, E: Sink>(
     alloc: Global,
     options: &Options<'a>,
     sources: &[(&'a str, &'a str)],
-    is_build: bool,
     files: &mut F,
     out: &mut O,
     err: &mut E,
 ) -> Result<Status, Refusal<'a>> {
-    if !is_build {
+    if !options.is_build {
         check_outputs(alloc, options, sources)?;
     }
-    let rounded = round_files(alloc, options, files, sources)?;
-    if is_build {
-        let topology = build(alloc, options, sources, rounded.texts.as_slice())?;
+    let (sheets, rounded) = round_files(alloc, options, files, sources)?;
+    if options.is_build {
+        let topology = build(alloc, sheets)?;
         write_one(options, files, topology.as_slice(), out)?;
     } else {
-        write_texts(alloc, options, files, rounded.texts.as_slice(), out)?;
+        write_texts(alloc, options, files, sheets.as_slice(), out)?;
     }
     let report = Report {
         options,
         sources,
         rounded: &rounded,
-        folder: if is_build { None } else { options.output },
+        folder: if options.is_build {
+            None
+        } else {
+            options.output
+        },
     };
     if let Some(file) = options.report {
         write_named(files, file, report_text(alloc, &report)?.as_slice())?;
@@ -122,16 +126,17 @@ fn write_texts<'a, F: Files, O: Sink>(
     alloc: Global,
     options: &Options<'a>,
     files: &mut F,
-    texts: &[(String, Vec<u8>)],
+    sheets: &[(String, Sheet)],
     out: &mut O,
 ) -> Result<(), Refusal<'a>> {
-    for text in texts {
+    for (name, sheet) in sheets {
+        let text = sheet.text.as_slice();
         match options.output {
             Some(folder) => {
-                let file = file_in(alloc, folder, text.0.as_str())?;
-                write_named(files, file.as_str(), text.1.as_slice())?;
+                let file = file_in(alloc, folder, name.as_str())?;
+                write_named(files, file.as_str(), text)?;
             }
-            None => put(out, text.1.as_slice())?,
+            None => put(out, text)?,
         }
     }
     Ok(())
@@ -150,27 +155,17 @@ pub(crate) fn write_one<'a, F: Files, O: Sink>(
     }
 }
 
-/// What `topotool build` prints of the texts.
-fn build<'a>(
-    alloc: Global,
-    options: &Options<'a>,
-    sources: &[(&'a str, &'a str)],
-    texts: &[(String, Vec<u8>)],
-) -> Result<Vec<u8>, Refusal<'a>> {
+/// What `topotool build` prints of the texts: the text of the topology of their features. No text is read again.
+fn build<'a>(alloc: Global, sheets: Vec<(String, Sheet)>) -> Result<Vec<u8>, Refusal<'a>> {
     let Some(grid) = Grid::new(1, 1, 0, 0) else {
         return Err(Refusal::OutOfMemory);
     };
-    match build_text(alloc, &grid, texts) {
-        Ok(topology) => Ok(topology),
-        Err(BuildFault::OutOfMemory) => Err(Refusal::OutOfMemory),
-        Err(BuildFault::Text(place, fault)) => {
-            let file = match sources.get(place) {
-                Some(source) => source.1,
-                None => "",
-            };
-            Err(Refusal::of_text(file, fault, options.is_step_given))
-        }
+    let mut map = FeatureMap::new(alloc);
+    for (name, sheet) in sheets {
+        map = map.with_features(name.as_str(), sheet.features)?;
     }
+    let topology = Topology::build(alloc, &grid, &map)?;
+    Ok(topo_io::text_of(alloc, &topology)?)
 }
 
 /// Flushes the output, which may fail until then.

@@ -38,6 +38,8 @@ pub(crate) struct Options<'a> {
     pub(crate) report: Option<&'a str>,
     pub(crate) is_quiet: bool,
     pub(crate) is_strict: bool,
+    /// Whether a topology is printed.
+    pub(crate) is_build: bool,
 }
 
 impl<'a> Options<'a> {
@@ -78,6 +80,16 @@ impl<'a> Options<'a> {
     /// Whether anything is reported.
     pub(crate) fn reports(&self) -> bool {
         !self.is_quiet || self.report.is_some()
+    }
+
+    /// Whether anything asks how many vertices are nearly shared.
+    pub(crate) fn counts(&self) -> bool {
+        self.reports() || self.is_strict
+    }
+
+    /// Whether vertices are to be joined.
+    pub(crate) fn joins(&self) -> bool {
+        self.join_distance > 0
     }
 }
 
@@ -211,5 +223,6 @@ pub(crate) fn options_of<'a>(
         report: found.get_str("report"),
         is_quiet: found.get_flag("quiet"),
         is_strict: found.get_flag("strict"),
+        is_build: found.get_flag("build"),
     })
 }

@@ -6,7 +6,7 @@ use crate::snapping::Outcome;
 use fixing::Fixes;
 use grid::Pos;
 use itoa::Buffer;
-use nearly_shared::{Clusters, Pairs};
+use nearly_shared::{Clusters, Counts};
 use sinks::{Sink, WriteFault, put};
 use std::alloc::Global;
 
@@ -18,6 +18,11 @@ pub(crate) struct Report<'r, 'a> {
     pub(crate) rounded: &'r Rounded,
     /// The folder that files were written into.
     pub(crate) folder: Option<&'a str>,
+}
+
+/// A count, or the greatest of 64 bits where it is more.
+pub(crate) fn at_most_u64(count: u128) -> u64 {
+    u64::try_from(count).unwrap_or(u64::MAX)
 }
 
 fn put_count<E: Sink>(err: &mut E, count: u64, of: &str) -> Result<(), WriteFault> {
@@ -145,12 +150,12 @@ fn put_position<E: Sink>(err: &mut E, position: Pos) -> Result<(), WriteFault> {
 }
 
 /// The vertices of more than one feature, where there are any: `2406 vertices shared before, 2406 after`.
-fn put_shared<E: Sink>(err: &mut E, shared: (u64, u64)) -> Result<(), WriteFault> {
-    if shared == (0, 0) {
+fn put_shared<E: Sink>(err: &mut E, before: u64, after: u64) -> Result<(), WriteFault> {
+    if before == 0 && after == 0 {
         return Ok(());
     }
-    put_count(err, shared.0, "vertices shared before, ")?;
-    put_count(err, shared.1, "after\n")
+    put_count(err, before, "vertices shared before, ")?;
+    put_count(err, after, "after\n")
 }
 
 /// What was joined, and what was not.
@@ -170,11 +175,15 @@ fn put_clusters<E: Sink>(err: &mut E, clusters: &Clusters) -> Result<(), WriteFa
 
 /// The pairs of nearly shared vertices of all files, with the first: `279 nearly shared vertices, the first at
 /// 7413821,46998713 and 7413822,46998713`.
-fn put_pairs<E: Sink>(err: &mut E, pairs: &Pairs) -> Result<(), WriteFault> {
-    let Some((first, second)) = pairs.first else {
+fn put_pairs<E: Sink>(err: &mut E, counts: &Counts) -> Result<(), WriteFault> {
+    let Some((first, second)) = counts.first else {
         return Ok(());
     };
-    put_count(err, pairs.count, "nearly shared vertices, the first at ")?;
+    put_count(
+        err,
+        at_most_u64(counts.near),
+        "nearly shared vertices, the first at ",
+    )?;
     put_position(err, first)?;
     put(err, b" and ")?;
     put_position(err, second)?;
@@ -245,11 +254,12 @@ pub(crate) fn put_report<E: Sink>(
     for (source, outcome) in report.sources.iter().zip(rounded.outcomes.iter()) {
         put_outcome(alloc, err, source.1, outcome, report.options)?;
     }
-    put_shared(err, rounded.shared)?;
+    let after = rounded.counts.shared as u64;
+    put_shared(err, rounded.shared_before, after)?;
     if let Some(clusters) = &rounded.clusters {
         put_clusters(err, clusters)?;
     }
-    put_pairs(err, &rounded.pairs)?;
+    put_pairs(err, &rounded.counts)?;
     if let Some(folder) = report.folder {
         put(err, b"next: ")?;
         put_next(alloc, err, report.sources, folder)?;

@@ -1,10 +1,10 @@
 //! The report as JSON.
-use crate::report::{Report, put_next};
+use crate::report::{Report, at_most_u64, put_next};
 use crate::snapping::Outcome;
 use fixing::{FeatureFixes, Fixes};
 use grid::Pos;
 use json::Writer;
-use nearly_shared::{Clusters, Pairs};
+use nearly_shared::{Clusters, Counts};
 use sinks::Kept;
 use std::alloc::{AllocError, Global};
 
@@ -74,10 +74,10 @@ fn write_outcome(
     writer.end_object()
 }
 
-fn write_pairs(writer: &mut Writer, pairs: &Pairs) -> Result<(), AllocError> {
-    write_count(writer, "nearly_shared", pairs.count)?;
+fn write_pairs(writer: &mut Writer, counts: &Counts) -> Result<(), AllocError> {
+    write_count(writer, "nearly_shared", at_most_u64(counts.near))?;
     writer.key("first_nearly_shared")?;
-    let Some((first, second)) = pairs.first else {
+    let Some((first, second)) = counts.first else {
         return writer.null();
     };
     writer.begin_array()?;
@@ -138,12 +138,12 @@ pub(crate) fn report_text(alloc: Global, report: &Report<'_, '_>) -> Result<Vec<
     let translate = report.options.translate_word.unwrap_or("0,0");
     write_text(&mut writer, "translate", translate)?;
     write_files(alloc, &mut writer, report)?;
-    write_count(&mut writer, "shared_before", rounded.shared.0)?;
-    write_count(&mut writer, "shared_after", rounded.shared.1)?;
+    write_count(&mut writer, "shared_before", rounded.shared_before)?;
+    write_count(&mut writer, "shared_after", rounded.counts.shared as u64)?;
     if let Some(clusters) = &rounded.clusters {
         write_clusters(&mut writer, clusters)?;
     }
-    write_pairs(&mut writer, &rounded.pairs)?;
+    write_pairs(&mut writer, &rounded.counts)?;
     write_next(alloc, &mut writer, report)?;
     writer.end_object()?;
     let mut text = writer.into_inner();

@@ -3,30 +3,29 @@ use crate::files::{Files, read_named};
 use crate::joining::join_text;
 use crate::options::Options;
 use crate::refusal::Refusal;
-use crate::snapping::{Outcome, Rules, Settled, Survey, settle, snap_text};
+use crate::snapping::{Outcome, Rules, Settled, Sheet, Survey, settle, snap_text};
 use geojson_edits::AttributeRules;
 use moves::Originals;
-use nearly_shared::{Clusters, Pairs, VertexIndex, Vertices};
+use nearly_shared::{Clusters, Counts, VertexIndex, Vertices};
 use std::alloc::Global;
+use std::collections::BTreeSet;
 
 /// What became of all files.
 #[derive(Drop)]
 pub(crate) struct Rounded {
-    /// The name and the text of each.
-    pub(crate) texts: Vec<(String, Vec<u8>)>,
     pub(crate) outcomes: Vec<Outcome>,
-    /// How many positions are vertices of more than one feature, before and after, where that is counted.
-    pub(crate) shared: (u64, u64),
+    /// How many positions are vertices of more than one feature before rounding, where that is counted.
+    pub(crate) shared_before: u64,
     /// What became of vertices that were nearly shared, where they are joined.
     pub(crate) clusters: Option<Clusters>,
-    /// The vertices that are nearly shared in the end.
-    pub(crate) pairs: Pairs,
+    /// How many vertices are shared and nearly shared in the end, where that is counted.
+    pub(crate) counts: Counts,
 }
 
 impl Rounded {
     /// Whether anything was lost, split or is nearly shared.
     pub(crate) fn is_lossy(&self) -> bool {
-        self.pairs.count > 0
+        self.counts.near > 0
             || self
                 .outcomes
                 .as_slice()
@@ -53,15 +52,9 @@ fn read_all<'a, F: Files>(
     Ok(read)
 }
 
-/// Brings each text to the grid, behind its name.
-fn snap_texts<'a>(
-    alloc: Global,
-    options: &Options<'a>,
-    sources: &[(&'a str, &'a str)],
-    read: Vec<Vec<u8>>,
-    survey: &mut Survey,
-) -> Result<(Vec<(String, Vec<u8>)>, Vec<Outcome>), Refusal<'a>> {
-    let rules = Rules {
+/// What is done with each text.
+fn rules_of<'r, 'a>(options: &'r Options<'a>) -> Result<Rules<'r, 'a>, Refusal<'a>> {
+    Ok(Rules {
         attributes: AttributeRules {
             id: options.id,
             scales: options.scales.as_slice(),
@@ -70,19 +63,49 @@ fn snap_texts<'a>(
         snapping: options.snapping(),
         fixing: options.fixing,
         measures: options.reports(),
-    };
-    let mut texts = Vec::new(alloc);
+        surveys: options.counts() || options.joins(),
+    })
+}
+
+/// A sheet with what is used of it later: its features for a topology, its text for all else.
+fn kept_of(alloc: Global, options: &Options<'_>, sheet: Sheet) -> Sheet {
+    let Sheet { text, features } = sheet;
+    if options.is_build {
+        let text = if options.joins() {
+            text
+        } else {
+            Vec::new(alloc)
+        };
+        return Sheet { text, features };
+    }
+    Sheet {
+        text,
+        features: BTreeSet::new(alloc),
+    }
+}
+
+/// Brings each text to the grid, behind its name.
+fn snap_texts<'a>(
+    alloc: Global,
+    options: &Options<'a>,
+    sources: &[(&'a str, &'a str)],
+    read: Vec<Vec<u8>>,
+    survey: &mut Survey,
+) -> Result<(Vec<(String, Sheet)>, Vec<Outcome>), Refusal<'a>> {
+    let rules = rules_of(options)?;
+    let mut sheets = Vec::new(alloc);
     let mut outcomes = Vec::new(alloc);
     for (source, bytes) in sources.iter().zip(read) {
         match snap_text(alloc, bytes, &rules, survey) {
-            Ok((text, outcome)) => {
-                texts.push((String::from_str(alloc, source.0)?, text))?;
+            Ok((sheet, outcome)) => {
+                let sheet = kept_of(alloc, options, sheet);
+                sheets.push((String::from_str(alloc, source.0)?, sheet))?;
                 outcomes.push(outcome)?;
             }
             Err(fault) => return Err(refusal(options, source.1, fault)),
         }
     }
-    Ok((texts, outcomes))
+    Ok((sheets, outcomes))
 }
 
 /// A text with its clusters joined, as a reader accepts it, and what became of it.
@@ -93,13 +116,12 @@ fn join_one<'a>(
     text: &[u8],
     outcome: Outcome,
     clusters: &Clusters,
-    vertices: &mut Vertices,
-) -> Result<(Vec<u8>, Outcome), Refusal<'a>> {
+) -> Result<(Sheet, Outcome), Refusal<'a>> {
     let Ok(text) = simdutf8::compat::from_utf8(text) else {
         return Err(Refusal::OutOfMemory);
     };
     let moved = join_text(alloc, text, &options.snapping(), clusters)?;
-    match settle(alloc, moved, &options.fixing, vertices) {
+    match settle(alloc, moved, &options.fixing) {
         Ok(settled) => {
             let Settled {
                 text,
@@ -108,9 +130,9 @@ fn join_one<'a>(
                 fixed_features: _fixed_features,
             } = settled;
             let mut outcome = outcome;
-            outcome.features = features;
+            outcome.features = features.len();
             outcome.fixes = outcome.fixes.with(fixes);
-            Ok((text, outcome))
+            Ok((Sheet { text, features }, outcome))
         }
         Err(fault) => Err(refusal(options, file, fault)),
     }
@@ -119,8 +141,8 @@ fn join_one<'a>(
 /// Texts on the grid.
 #[derive(Drop)]
 struct Snapped {
-    /// The name and the text of each.
-    texts: Vec<(String, Vec<u8>)>,
+    /// The name and what is kept of each.
+    sheets: Vec<(String, Sheet)>,
     outcomes: Vec<Outcome>,
     vertices: VertexIndex,
 }
@@ -134,30 +156,25 @@ fn join_texts<'a>(
     clusters: &Clusters,
 ) -> Result<Snapped, Refusal<'a>> {
     let mut vertices = Vertices::new(alloc);
-    let mut texts = Vec::new(alloc);
+    let mut sheets = Vec::new(alloc);
     let mut outcomes = Vec::new(alloc);
     let Snapped {
-        texts: before,
+        sheets: before,
         outcomes: made,
         vertices: _vertices,
     } = snapped;
     let all = before.into_iter().zip(made);
-    for (source, ((name, text), outcome)) in sources.iter().zip(all) {
-        let text = text.as_slice();
-        let (text, outcome) = join_one(
-            alloc,
-            options,
-            source.1,
-            text,
-            outcome,
-            clusters,
-            &mut vertices,
-        )?;
-        texts.push((name, text))?;
+    for (source, ((name, sheet), outcome)) in sources.iter().zip(all) {
+        let text = sheet.text.as_slice();
+        let (sheet, outcome) = join_one(alloc, options, source.1, text, outcome, clusters)?;
+        if options.counts() {
+            vertices.add(&sheet.features)?;
+        }
+        sheets.push((name, sheet))?;
         outcomes.push(outcome)?;
     }
     Ok(Snapped {
-        texts,
+        sheets,
         outcomes,
         vertices: vertices.into_index(),
     })
@@ -170,7 +187,7 @@ fn join_near<'a>(
     sources: &[(&'a str, &'a str)],
     snapped: Snapped,
 ) -> Result<(Snapped, Option<Clusters>), Refusal<'a>> {
-    if options.join_distance == 0 {
+    if !options.joins() {
         return Ok((snapped, None));
     }
     let clusters = snapped.vertices.clusters(alloc, options.join_distance)?;
@@ -181,40 +198,56 @@ fn join_near<'a>(
     Ok((joined, Some(clusters)))
 }
 
+/// How many vertices are shared and nearly shared, where that is counted: at most a step apart.
+fn counts_of<'a>(
+    alloc: Global,
+    options: &Options<'a>,
+    vertices: &VertexIndex,
+) -> Result<Counts, Refusal<'a>> {
+    if options.counts() {
+        return Ok(vertices.count(alloc, 1)?);
+    }
+    Ok(Counts {
+        shared: 0,
+        near: 0,
+        first: None,
+    })
+}
+
 /// Reads all files, and then brings each to the grid. Vertices that are nearly shared are joined, where that is asked.
 pub(crate) fn round_files<'a, F: Files>(
     alloc: Global,
     options: &Options<'a>,
     files: &mut F,
     sources: &[(&'a str, &'a str)],
-) -> Result<Rounded, Refusal<'a>> {
+) -> Result<(Vec<(String, Sheet)>, Rounded), Refusal<'a>> {
     let read = read_all(alloc, files, sources)?;
     let mut survey = Survey {
         originals: Originals::new(alloc),
         vertices: Vertices::new(alloc),
     };
-    let (texts, outcomes) = snap_texts(alloc, options, sources, read, &mut survey)?;
+    let (sheets, outcomes) = snap_texts(alloc, options, sources, read, &mut survey)?;
     let Survey {
         originals,
         vertices,
     } = survey;
-    let before = originals.count_shared();
+    let shared_before = originals.count_shared();
     let snapped = Snapped {
-        texts,
+        sheets,
         outcomes,
         vertices: vertices.into_index(),
     };
     let (snapped, clusters) = join_near(alloc, options, sources, snapped)?;
     let Snapped {
-        texts,
+        sheets,
         outcomes,
         vertices,
     } = snapped;
-    Ok(Rounded {
-        texts,
+    let rounded = Rounded {
         outcomes,
-        shared: (before, vertices.count_shared()),
+        shared_before,
         clusters,
-        pairs: vertices.pairs(),
-    })
+        counts: counts_of(alloc, options, &vertices)?,
+    };
+    Ok((sheets, rounded))
 }

@@ -2,7 +2,7 @@
 use decimal_geojson::{Counts, Unread, to_grid};
 use decimals::Origin;
 use faults::{Fault, FaultKind};
-use fixing::{FeatureFixes, Fixes, Rewind, fix};
+use fixing::{FeatureFixes, FixedText, Fixes, Rewind, fix};
 use geojson_edits::{AttributeRules, count_from, edit_attributes};
 use grid::Grid;
 use moves::{Moves, Originals};
@@ -20,6 +20,8 @@ pub(crate) struct Rules<'r, 'a> {
     pub(crate) fixing: fixing::Rules,
     /// Whether it is measured how far positions are moved.
     pub(crate) measures: bool,
+    /// Whether vertices are looked at: to be counted or joined.
+    pub(crate) surveys: bool,
 }
 
 /// What became of a text.
@@ -46,13 +48,20 @@ pub(crate) struct Survey {
     pub(crate) vertices: Vertices,
 }
 
-/// A text that a reader accepts.
+/// A text that a reader accepts, and the features that it reads.
 #[derive(Drop)]
 pub(crate) struct Settled {
     pub(crate) text: Vec<u8>,
-    pub(crate) features: usize,
+    pub(crate) features: BTreeSet<Feature>,
     pub(crate) fixes: Fixes,
     pub(crate) fixed_features: Vec<FeatureFixes>,
+}
+
+/// A text on the grid, and its features.
+#[derive(Drop)]
+pub(crate) struct Sheet {
+    pub(crate) text: Vec<u8>,
+    pub(crate) features: BTreeSet<Feature>,
 }
 
 fn out_of_memory(alloc: Global) -> Fault {
@@ -84,19 +93,11 @@ fn check(alloc: Global, bytes: &[u8]) -> Result<BTreeSet<Feature>, Fault> {
 }
 
 /// The text with what the rules fix fixed; none where it can't be read.
-fn fix_bytes(alloc: Global, bytes: &[u8], rules: &fixing::Rules) -> Option<Settled> {
+fn fix_bytes(alloc: Global, bytes: &[u8], rules: &fixing::Rules) -> Option<FixedText> {
     let Ok(text) = simdutf8::compat::from_utf8(bytes) else {
         return None;
     };
-    match fix(alloc, text, rules) {
-        Ok(made) => Some(Settled {
-            text: made.text.into_bytes(),
-            features: 0,
-            fixes: made.fixes,
-            fixed_features: made.features,
-        }),
-        Err(_) => None,
-    }
+    fix(alloc, text, rules).ok()
 }
 
 /// The fault of a text that can't be fixed, found where nothing moves features: what would be fixed is null. Where the
@@ -107,20 +108,24 @@ fn fault_left(alloc: Global, bytes: &[u8], rules: &fixing::Rules, last: Fault) -
     let Some(blank) = fix_bytes(alloc, bytes, &blanking) else {
         return last;
     };
-    match check(alloc, blank.text.as_slice()) {
+    match check(alloc, blank.text.as_bytes()) {
         Ok(_) => last,
         Err(fault) => fault,
     }
 }
 
-/// Adds the vertices of features, and says how many features there are.
+/// Adds the vertices of features, where they are looked at.
 fn add_vertices(
     alloc: Global,
     features: &BTreeSet<Feature>,
+    rules: &Rules<'_, '_>,
     vertices: &mut Vertices,
-) -> Result<usize, Fault> {
+) -> Result<(), Fault> {
+    if !rules.surveys {
+        return Ok(());
+    }
     match vertices.add(features) {
-        Ok(()) => Ok(features.len()),
+        Ok(()) => Ok(()),
         Err(_) => Err(out_of_memory(alloc)),
     }
 }
@@ -131,41 +136,45 @@ fn settle_fixed(
     text: Vec<u8>,
     rules: &fixing::Rules,
     first: Option<Fault>,
-    vertices: &mut Vertices,
 ) -> Result<Settled, Fault> {
-    let Some(mut settled) = fix_bytes(alloc, text.as_slice(), rules) else {
+    let Some(made) = fix_bytes(alloc, text.as_slice(), rules) else {
         return Err(first.unwrap_or(out_of_memory(alloc)));
     };
-    match check(alloc, settled.text.as_slice()) {
-        Ok(features) => {
-            settled.features = add_vertices(alloc, &features, vertices)?;
-            Ok(settled)
-        }
+    let FixedText {
+        text: fixed,
+        fixes,
+        features: fixed_features,
+    } = made;
+    match check(alloc, fixed.as_bytes()) {
+        Ok(features) => Ok(Settled {
+            text: fixed.into_bytes(),
+            features,
+            fixes,
+            fixed_features,
+        }),
         Err(fault) => Err(fault_left(alloc, text.as_slice(), rules, fault)),
     }
 }
 
-/// A text in whole numbers as a reader accepts it, fixed where that is needed. Its vertices are added to those of other
-/// texts.
+/// A text in whole numbers as a reader accepts it, fixed where that is needed.
 pub(crate) fn settle(
     alloc: Global,
     text: Vec<u8>,
     rules: &fixing::Rules,
-    vertices: &mut Vertices,
 ) -> Result<Settled, Fault> {
     match check(alloc, text.as_slice()) {
         Ok(features) => {
             if rules.rewind != Rewind::Keep {
-                return settle_fixed(alloc, text, rules, None, vertices);
+                return settle_fixed(alloc, text, rules, None);
             }
             Ok(Settled {
                 text,
-                features: add_vertices(alloc, &features, vertices)?,
+                features,
                 fixes: Fixes::default(),
                 fixed_features: Vec::new(alloc),
             })
         }
-        Err(fault) => settle_fixed(alloc, text, rules, Some(fault), vertices),
+        Err(fault) => settle_fixed(alloc, text, rules, Some(fault)),
     }
 }
 
@@ -212,7 +221,7 @@ pub(crate) fn snap_text(
     bytes: Vec<u8>,
     rules: &Rules<'_, '_>,
     survey: &mut Survey,
-) -> Result<(Vec<u8>, Outcome), Fault> {
+) -> Result<(Sheet, Outcome), Fault> {
     let bytes = shift_bytes(alloc, edit_bytes(alloc, bytes, rules)?, rules)?;
     let text = text_of(alloc, bytes.as_slice())?;
     let (snapped, counts) = match to_grid(alloc, text, &rules.snapping) {
@@ -224,14 +233,21 @@ pub(crate) fn snap_text(
         features,
         fixes,
         fixed_features,
-    } = settle(alloc, snapped, &rules.fixing, &mut survey.vertices)?;
+    } = settle(alloc, snapped, &rules.fixing)?;
+    add_vertices(alloc, &features, rules, &mut survey.vertices)?;
     let moves = measure(alloc, text, rules, &mut survey.originals)?;
     let outcome = Outcome {
-        features,
+        features: features.len(),
         counts,
         fixes,
         fixed_features,
         moves,
     };
-    Ok((settled, outcome))
+    Ok((
+        Sheet {
+            text: settled,
+            features,
+        },
+        outcome,
+    ))
 }

@@ -2,7 +2,7 @@ use Rattle.std.proofs.Common.{get_or, arith}
 use Rattle.std.proofs.lemmas.Str.Parse.{digit_at}
 use Rattle.fast_float.proofs.DigitsLemmas.{is_digit}
 use Rattle.decimals.proofs.Places.{after_more}
-use Rattle.decimals.proofs.digits.capped.Goals as goal
+use Rattle.decimals.proofs.digits.capped_behind.Goals as goal
 
 pub overflow_sub-digit : goal.overflow_sub-digit
 overflow_sub-digit c = (digit_at c.args.digits.now c.loop-digit.digit-index c.requires.digits (omega arith)).0

@@ -1,7 +1,7 @@
 use Rattle.std.proofs.Common.{◌*◌, ◌^◌, ◌≤◌, ap, ◌∙◌, lit<, arith}
 use Rattle.std.proofs.Math.Nat.{pow-le-pow_right}
 use Rattle.decimals.proofs.Places.{few_zeros}
-use Rattle.decimals.proofs.digits.with_zeros.Goals as goal
+use Rattle.decimals.proofs.digits.with_many_zeros.Goals as goal
 
 pub pow-requires : goal.pow-requires
 pow-requires c =
