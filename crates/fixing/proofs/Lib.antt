@@ -1,0 +1,7 @@
+pub mod RunSteps
+pub mod LoopSteps
+pub mod RunLaws
+pub mod LoopLaws
+pub mod OddUses
+pub mod ProvedLaws
+pub mod Judged
