@@ -5,3 +5,4 @@ pub mod LoopLaws
 pub mod OddUses
 pub mod ProvedLaws
 pub mod Judged
+pub mod Gathering

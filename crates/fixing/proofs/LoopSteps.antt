@@ -1,10 +1,12 @@
 -- The steps of the walk round a ring.
-use Rattle.std.proofs.Common.{◌≡◌, ℕ, ◌+◌, ◌<◌, zero, suc, Bool, true, false, cond, List, [], ◌∷◌, ◌++◌, ◌⊎◌, inl, inr, length, take, drop, refl, sym, ap, ◌∙◌, subst, append_assoc, arith, Option, Some, None, slice_get}
+use Rattle.std.proofs.Common.{◌≡◌, ℕ, ◌+◌, ◌<◌, ◌≤◌, zero, suc, get_or, nat_lt, Result, Ok, Err, OnOk, Bool, true, false, cond, List, [], ◌∷◌, ◌++◌, ◌⊎◌, inl, inr, length, take, drop, refl, sym, ap, ◌∙◌, subst, append_assoc, arith, Option, Some, None, slice_get}
+use borrow.Author.Tests.{ltb-true, ltb-false}
 use Rattle.std.specs.Option.{option_map}
 use Rattle.std.specs.Ordering.{is_eq}
 use Rattle.grid.specs.declared.pos.Pos.{Pos}
 use Rattle.lines.specs.Pairs.{position_eq}
 use Rattle.lines.specs.Turned.{position_cmp}
+use Rattle.lines.proofs.Dropping.{item_at}
 use Rattle.lines.proofs.Positions.{position_apart, position_true, tied_position, true_false, true_position}
 use Rattle.theory.specs.TopologyFunction.{some}
 use Rattle.fixing.specs.Loops.{loop_kept, loops_of, loops_on, path_from, path_to, place_on}
@@ -142,3 +144,46 @@ step_on loops path longer l p e made =
 pub begun : (loops : List (List Pos)) (path : List Pos) → loops ≡ [] → path ≡ [] → (l : List Pos) → loops ++ loops_on path l ≡ loops_of l
 unfolding loops_of
 begun loops path none empty l = λ i. none i ++ loops_on (empty i) l
+
+none_past : (path : List Pos) (k : ℕ) (p : Pos) → length path ≤ k → ¬ (slice_get path k ≡ Some p)
+none_past [] k p n h = cc
+none_past (q ∷ l) zero p n h = omega arith
+none_past (q ∷ l) (suc k) p n h = none_past l k p (omega (arith, n)) h
+
+-- the only place that is noted is past the path, or another stands there
+pub other_place : (noted : Pos → Option ℕ) (path : List Pos) (p : Pos) (k : ℕ) → Notes noted path → Some k ≡ noted p → ¬ (slice_get path k ≡ Some p) → None ≡ place_on p path
+other_place noted path p k notes e n =
+    no_place noted path p notes (λ j f h. n (let s : j ≡ k = cc in subst (λ i. slice_get path i ≡ Some p) s h))
+
+pub place_past : (noted : Pos → Option ℕ) (path seen : List Pos) (p : Pos) (k : ℕ) → Notes noted path → Some k ≡ noted p → seen ≡ path → false ≡ nat_lt k (length seen) →
+    None ≡ place_on p path
+place_past noted path seen p k notes e is b =
+    let n = ltb-false k (length seen) (sym b) in
+    other_place noted path p k notes e (none_past path k p (subst (λ w. length w ≤ k) is n))
+
+-- what stands at a place of the path
+pub stands : (path seen : List Pos) (k : ℕ) (met : Pos) → seen ≡ path → true ≡ nat_lt k (length seen) → met ≡ get_or seen k met → slice_get path k ≡ Some met
+stands path seen k met is b e =
+    let n = ltb-true k (length seen) (sym b) in
+    subst (λ w. slice_get w k ≡ Some met) is (item_at seen k met n e)
+
+pub place_other : (noted : Pos → Option ℕ) (path : List Pos) (p met : Pos) (k : ℕ) → Notes noted path → Some k ≡ noted p → slice_get path k ≡ Some met →
+    position_eq met p ≡ false → None ≡ place_on p path
+place_other noted path p met k notes e at f =
+    other_place noted path p k notes e (λ h. let s : met ≡ p = cc in true_false (position_eq met p) (true_position met p s) f)
+
+pub place_same : (noted : Pos → Option ℕ) (path : List Pos) (p met : Pos) (k : ℕ) → Notes noted path → slice_get path k ≡ Some met → position_eq met p ≡ true →
+    Some k ≡ place_on p path
+place_same noted path p met k notes at t = noted_place noted path p k notes (at ∙ ap Some (position_true met p t))
+
+-- on to a position that the path has, where the steps may fail
+pub cut_told : {T E : Type 0} (r : Result T E) (loops more : List (List Pos)) (path shorter : List Pos) (p : Pos) (k : ℕ) → Some k ≡ place_on p path →
+    OnOk r (more ≡ loops ++ loop_kept (drop k path ++ (p ∷ []))) → OnOk r (shorter ≡ take (k + 1) path) →
+    OnOk r ((l : List Pos) → more ++ loops_on shorter l ≡ loops ++ loops_on path (p ∷ l))
+cut_told (Ok u) loops more path shorter p k e cut left = λ l. step_cut loops more path shorter l p k e cut left
+cut_told (Err x) loops more path shorter p k e cut left = tt
+
+pub notes_told : {T E : Type 0} (r : Result T E) (noted now : Pos → Option ℕ) (path shorter : List Pos) (n : ℕ) → ((q : Pos) → now q ≡ noted q) →
+    OnOk r (shorter ≡ take n path) → Notes noted path → OnOk r (Notes now shorter)
+notes_told (Ok u) noted now path shorter n same e notes = λ k p h. same p ∙ notes_cut noted path shorter n e notes k p h
+notes_told (Err x) noted now path shorter n same e notes = tt
