@@ -6,3 +6,6 @@ pub mod OddUses
 pub mod ProvedLaws
 pub mod Judged
 pub mod Gathering
+pub mod AreaSteps
+pub mod PolygonSteps
+pub mod Counting

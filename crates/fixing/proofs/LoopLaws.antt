@@ -49,12 +49,12 @@ parted p (q ∷ l) e = go (position_eq p q) refl e (parted p l)
 -- a path that has not the position
 not_among : (p : Pos) (path : List Pos) → some (position_eq p) path ≡ false → ¬ Has p path
 not_among p [] e h = h
-not_among p (q ∷ l) e h = go (position_eq p q) refl e h
+not_among p (q ∷ l) e h = go (position_eq p q) refl e (not_among p l) h
   where
-    go : (b : Bool) → position_eq p q ≡ b → cond b true (some (position_eq p) l) ≡ false → ¬ Has p (q ∷ l)
-    go true t f k = cc
-    go false t f (inl k) = (let z : true ≡ false = sym (subst (λ w. position_eq p w ≡ true) k (position_refl p)) ∙ t in cc)
-    go false t f (inr k) = not_among p l f k
+    go : (b : Bool) → position_eq p q ≡ b → cond b true (some (position_eq p) l) ≡ false → (some (position_eq p) l ≡ false → ¬ Has p l) → ¬ Has p (q ∷ l)
+    go true t f ih k = cc
+    go false t f ih (inl k) = (let z : true ≡ false = sym (subst (λ w. position_eq p w ≡ true) k (position_refl p)) ∙ t in cc)
+    go false t f ih (inr k) = ih f k
 
 Distinct-behind : (a b : List Pos) → Distinct (a ++ b) → Distinct b
 Distinct-behind [] b d = d

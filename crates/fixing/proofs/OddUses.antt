@@ -138,11 +138,12 @@ to_begins x p q = go (position_eq p x)
 -- where the list ends with the path's first position, the walk comes back there
 back : (x : Pos) (q : List Pos) (p : Pos) (l : List Pos) → last_of p l ≡ x → path_left (x ∷ q) (p ∷ l) ≡ x ∷ []
 back x q p [] e = rw (subst (λ w. position_eq w x ≡ true) (sym e) (position_refl x)) refl
-back x q p (r ∷ l) e = go (some (position_eq p) (x ∷ q))
+back x q p (r ∷ l) e = go (some (position_eq p) (x ∷ q)) (λ s. back x s r l e)
   where
-    go : (b : Bool) → cond b (path_left (path_to p (x ∷ q)) (r ∷ l)) (path_left ((x ∷ q) ++ (p ∷ [])) (r ∷ l)) ≡ x ∷ []
-    go true = let t = to_begins x p q in ap (λ w. path_left w (r ∷ l)) t.1 ∙ back x t.0 r l e
-    go false = back x (q ++ (p ∷ [])) r l e
+    go : (b : Bool) → ((s : List Pos) → path_left (x ∷ s) (r ∷ l) ≡ x ∷ []) →
+        cond b (path_left (path_to p (x ∷ q)) (r ∷ l)) (path_left ((x ∷ q) ++ (p ∷ [])) (r ∷ l)) ≡ x ∷ []
+    go true ih = let t = to_begins x p q in ap (λ w. path_left w (r ∷ l)) t.1 ∙ ih t.0
+    go false ih = ih (q ++ (p ∷ []))
 
 -- the loops of a closed list use a segment as often as it does, but for twice as many as are gone
 pub odd_uses : (x : Pos) (l : List Pos) → last_of x l ≡ x → (s : Pair) → ¬ (s.lesser ≡ s.greater) →

@@ -67,15 +67,12 @@ used_itself s t used e = ap (λ w. cond (is_eq w) true (used s)) (ap (pair_cmp t
 
 first_new : (used : Pair → Bool) (s : Pair) (l : List Pair) → used s ≡ true → ¬ Has s (first_uses used l)
 first_new used s [] e h = h
-first_new used s (t ∷ l) e h = go (used t) refl h
+first_new used s (t ∷ l) e h = go (used t) refl (first_new (or_used t used) s l (either_true (is_eq (pair_cmp t s)) (used s) e)) h
   where
-    later : ¬ Has s (first_uses (or_used t used) l)
-    later = first_new (or_used t used) s l (either_true (is_eq (pair_cmp t s)) (used s) e)
-
-    go : (b : Bool) → used t ≡ b → Has s (cond b (first_uses (or_used t used) l) (t ∷ first_uses (or_used t used) l)) → ⊥
-    go true f k = later k
-    go false f (inl k) = (let z : true ≡ false = sym e ∙ ap used k ∙ f in cc)
-    go false f (inr k) = later k
+    go : (b : Bool) → used t ≡ b → (Has s (first_uses (or_used t used) l) → ⊥) → Has s (cond b (first_uses (or_used t used) l) (t ∷ first_uses (or_used t used) l)) → ⊥
+    go true f later k = later k
+    go false f later (inl k) = (let z : true ≡ false = sym e ∙ ap used k ∙ f in cc)
+    go false f later (inr k) = later k
 
 first_distinct : (used : Pair → Bool) (l : List Pair) → Distinct (first_uses used l)
 first_distinct used [] = tt

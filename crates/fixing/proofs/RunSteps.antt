@@ -73,7 +73,7 @@ pub all_told : {T E : Type 0} (r : Result T E) (seen : T → List (List Pos)) (l
     IfOk r (λ runs. seen runs ≡ left []) → length others ≤ i → left (drop i others) ≡ runs_of (first ∷ others) → c ≡ first ∷ others → c ≡ whole →
     IfOk r (λ runs. seen runs ≡ runs_of whole)
 all_told (Ok runs) seen left c others whole i first told h invariant parts is =
-    told ∙ sym (ap left (drop_all others i h)) ∙ invariant ∙ ap runs_of (sym parts ∙ is)
+    told ∙ sym (ap left (drop_all i others h)) ∙ invariant ∙ ap runs_of (sym parts ∙ is)
 all_told (Err e) seen left c others whole i first told h invariant parts is = tt
 
 -- no position, no run
@@ -82,6 +82,5 @@ unfolding runs_of
 none_told found c whole e n is = e ∙ go c n ∙ ap runs_of is
   where
     go : (c : List Pos) → length c ≡ 0 → [] ≡ runs_of c
-    unfolding runs_of
     go [] n = refl
     go (x ∷ l) n = absurd (omega arith)

@@ -1,5 +1,6 @@
 -- How much was fixed, in all and of each feature.
-use Rattle.std.specs.Prelude.{ℕ, ◌+◌, ◌-◌, ◌^◌, suc, min, Bool, ◌||◌, cond, List, [], ◌∷◌, nat_lt}
+use Rattle.std.specs.Prelude.{◌≡◌, ℕ, ◌+◌, ◌-◌, ◌^◌, min, Bool, ◌||◌, cond, List, [], ◌∷◌, ◌++◌, nat_lt}
+use Rattle.fixing.specs.Left.{one_more}
 use Rattle.fixing.specs.declared.rules.FeatureFixes.{FeatureFixes}
 use Rattle.fixing.specs.declared.rules.Fixes.{Fixes}
 
@@ -29,7 +30,15 @@ abbrev pub total_from : Fixes → List Fixes → Fixes
 total_from sum [] = sum
 total_from sum (f ∷ l) = total_from (sum_of_fixes sum f) l
 
--- the features of which anything was fixed, numbered from n
+-- what was fixed of the feature with this number, if anything was
+abbrev pub told : ℕ → Fixes → List FeatureFixes
+told n f = cond (is_any f) (record { feature = n; fixes = f } ∷ []) []
+
+-- what was fixed of each feature, those of which anything was, numbered from n
 abbrev pub told_from : ℕ → List Fixes → List FeatureFixes
 told_from n [] = []
-told_from n (f ∷ l) = cond (is_any f) (record { feature = n; fixes = f } ∷ told_from (suc n) l) (told_from (suc n) l)
+told_from n (f ∷ l) = told n f ++ told_from (one_more n) l
+
+-- these are the sum of what was fixed of each feature, and the list of it
+abbrev pub AreCounted : Fixes → List FeatureFixes → List Fixes → Type 0
+AreCounted sum list each = (sum ≡ total_from no_fixes each) × (list ≡ told_from 0 each)

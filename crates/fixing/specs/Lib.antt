@@ -6,3 +6,7 @@ pub mod Walks
 pub mod Left
 pub mod Uses
 pub mod Laws
+pub mod Measures
+pub mod Polygons
+pub mod Counts
+pub mod Counted

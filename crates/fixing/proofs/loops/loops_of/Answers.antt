@@ -23,5 +23,5 @@ loop-position-preserved c = record {
 pub returns : goal.returns
 returns c =
     sym (append_nil (lists_in c.loop-position.walk.loops.items))
-    ∙ ap (loops_left c.loop-position.walk) (sym (drop_all c.args.closed.now c.loop-position.position-index c.loop-position-test.false))
+    ∙ ap (loops_left c.loop-position.walk) (sym (drop_all c.loop-position.position-index c.args.closed.now c.loop-position-test.false))
     ∙ c.loop-position.invariant.left
