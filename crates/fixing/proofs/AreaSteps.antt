@@ -1,10 +1,10 @@
 -- The steps along a ring, of which the area is taken.
-use Rattle.std.proofs.Common.{◌≡◌, ◌<◌, ℕ, ◌+◌, List, [], ◌∷◌, length, drop, get_or, sym, ap, ◌∙◌, subst, arith, ℤ, pos, ◌+ℤ◌}
-use Rattle.std.specs.Int.{int_wrap}
-use Rattle.std.proofs.lemmas.Int.{int_wrap-add_left, int_wrap-add_right, ints}
+use Rattle.std.proofs.Common.{◌≡◌, ◌<◌, ℕ, ◌+◌, List, [], ◌∷◌, length, drop, get_or, refl, sym, ap, ◌∙◌, subst, arith, ℤ, pos, ◌+ℤ◌, ◌-ℤ◌, ◌*ℤ◌, FitsSigned}
+use Rattle.std.specs.Int.{int_wrap, int_wrapping_sub}
+use Rattle.std.proofs.lemmas.Int.{int_wrap-add_left, int_wrap-add_right, int_wrap-sub_right, ints, wrapping_sub_is}
 use Rattle.grid.specs.declared.pos.Pos.{Pos}
 use Rattle.lines.proofs.Dropping.{drop_item}
-use Rattle.fixing.specs.Measures.{area_from, cross}
+use Rattle.fixing.specs.Measures.{area_from, cross, twice_area}
 use mir.Syntax.{w128}
 
 moved : (a b c : ℤ) → (a +ℤ b) +ℤ c ≡ (a +ℤ c) +ℤ b
@@ -33,3 +33,27 @@ area_more sum more part whole others i here next h e is made before =
     ∙ ap (λ m. int_wrap w128 m) (joined sum (cross here next) rest)
     ∙ ap (λ l. int_wrap w128 (sum +ℤ area_from here l)) (sym (drop_item others i next h e))
     ∙ before
+
+minus : (a b : ℤ) → a -ℤ b ≡ a +ℤ (pos 0 -ℤ b)
+minus a b = omega (arith, ints)
+
+wrapped_minus : (a b : ℤ) → int_wrap w128 (int_wrap w128 a -ℤ int_wrap w128 b) ≡ int_wrap w128 (a -ℤ b)
+wrapped_minus a b =
+    int_wrap-sub_right w128 (int_wrap w128 a) b
+    ∙ ap (λ m. int_wrap w128 m) (minus (int_wrap w128 a) b)
+    ∙ int_wrap-add_left w128 a (pos 0 -ℤ b)
+    ∙ ap (λ m. int_wrap w128 m) (sym (minus a b))
+
+-- the triangle of two positions, from two products
+pub cross_told : (p q ax ay bx by : ℤ) (a b : Pos) → FitsSigned w128 p → FitsSigned w128 q → p ≡ int_wrap w128 (ax *ℤ by) → q ≡ int_wrap w128 (bx *ℤ ay) →
+    ax ≡ a.x → ay ≡ a.y → bx ≡ b.x → by ≡ b.y → int_wrapping_sub w128 p q ≡ int_wrap w128 (cross a b)
+cross_told p q ax ay bx by a b f g e h k l m n =
+    wrapping_sub_is w128 p q f g
+    ∙ (λ i. int_wrap w128 ((e ∙ (λ j. int_wrap w128 (k j *ℤ n j))) i -ℤ (h ∙ (λ j. int_wrap w128 (m j *ℤ l j))) i))
+    ∙ wrapped_minus (a.x *ℤ b.y) (b.x *ℤ a.y)
+
+-- no segment adds nothing
+pub no_area : (closed : List Pos) → length closed ≡ 0 → pos 0 ≡ int_wrap w128 (twice_area closed)
+unfolding int_wrap
+no_area [] n = refl
+no_area (x ∷ l) n = absurd (omega arith)

@@ -9,3 +9,5 @@ pub mod Gathering
 pub mod AreaSteps
 pub mod PolygonSteps
 pub mod Counting
+pub mod PolygonLaws
+pub mod CrossSteps

@@ -19,6 +19,7 @@ use Rattle.fixing.specs.declared.linework.Need.TheVariants.{Drop, Split}
 use Rattle.fixing.specs.declared.rules.Rules.{Rules}
 use Rattle.fixing.proofs.LoopLaws as loop
 use Rattle.fixing.proofs.OddUses.{odd_uses}
+use Rattle.fixing.proofs.PolygonLaws.{polygon_each}
 use Rattle.fixing.proofs.RunLaws.{runs_are_lines, segments_once}
 
 Each-weaker : (P Q : List Pos → Type 0) → ((l : List Pos) → P l → Q l) → (ls : List (List Pos)) → Each P ls → Each Q ls
@@ -79,3 +80,7 @@ sound_rings_stay rules ring fixes e = (
   ap (λ f. option_map (λ need. left_by need ring (loops_of ring)) (need_of rules f)) e,
   ap (λ f. counted (need_of rules f) fixes) e,
 )
+
+pub polygons_left_are_sound : law.PolygonsLeftAreSound
+polygons_left_are_sound rules polygon left e =
+    polygon_each (λ l. ring_fault position_cmp l ≡ None) rules (rings_left_are_sound rules) polygon left e

@@ -9,6 +9,7 @@ use Rattle.theory.specs.LinesAndRings.{IsLine, IsRing, closed}
 use Rattle.theory.specs.Lists.{Distinct, Each, gathered, last_of}
 use Rattle.fixing.specs.Left.{counted, line_left, line_need, ring_left, ring_need}
 use Rattle.fixing.specs.Loops.{loops_of}
+use Rattle.fixing.specs.Polygons.{polygon_kept}
 use Rattle.fixing.specs.Runs.{first_uses, runs_of}
 use Rattle.fixing.specs.Uses.{uses}
 use Rattle.fixing.specs.declared.rules.Fixes.{Fixes}
@@ -44,6 +45,17 @@ abbrev pub LoopsKeepOddUses : Type 0
 LoopsKeepOddUses =
     (x : Pos) (l : List Pos) → last_of x l ≡ x → (s : Pair) → ¬ (s.lesser ≡ s.greater) →
     (gone : ℕ) × (uses s (segments_of (x ∷ l)) ≡ uses s (gathered segments_of (loops_of (x ∷ l))) + (gone + gone))
+
+-- each ring of each polygon has P
+abbrev pub EachRing : (List Pos → Type 0) → List (List (List Pos)) → Type 0
+EachRing P [] = Unit {0}
+EachRing P (polygon ∷ polygons) = Each P polygon × EachRing P polygons
+
+-- the rings of what is left of a polygon have no fault
+abbrev pub PolygonsLeftAreSound : Type 0
+PolygonsLeftAreSound =
+    (rules : Rules) (polygon : List (List Pos)) (left : List (List (List Pos))) → polygon_kept rules polygon ≡ Some left →
+    EachRing (λ l. ring_fault position_cmp l ≡ None) left
 
 -- a line without a fault is left as it is, and nothing is counted
 abbrev pub SoundLinesStay : Type 0

@@ -35,3 +35,8 @@ pub fn sound_lines_stay()
 pub fn sound_rings_stay()
     ensures { law.SoundRingsStay }
 {}
+
+/// The rings of what is left of a polygon are rings, before they are turned.
+pub fn polygons_left_are_sound()
+    ensures { law.PolygonsLeftAreSound }
+{}
