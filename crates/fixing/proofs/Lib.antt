@@ -5,7 +5,8 @@ pub mod LoopLaws
 pub mod OddUses
 pub mod ProvedLaws
 pub mod Judged
-pub mod Gathering
+pub mod PolygonsStay
+pub mod TurnLaws
 pub mod AreaSteps
 pub mod PolygonSteps
 pub mod Counting

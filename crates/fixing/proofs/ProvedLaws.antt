@@ -11,7 +11,7 @@ use Rattle.lines.specs.declared.shape_fault.ShapeFault.{ShapeFault}
 use Rattle.lines.specs.declared.shape_fault.ShapeFault.TheVariants.{TooShort, NotClosed, Revisit, OutOfMemory}
 use Rattle.lines.proofs.ReadsItself.{line_without_fault, ring_without_fault}
 use Rattle.fixing.specs.Laws as law
-use Rattle.fixing.specs.Left.{counted, is_refusing, left_by, need_of}
+use Rattle.fixing.specs.Left.{counted, is_refusing, left_by, line_left, line_need, need_of, ring_need}
 use Rattle.fixing.specs.Loops.{loops_of}
 use Rattle.fixing.specs.Runs.{runs_of}
 use Rattle.fixing.specs.declared.linework.Need.{Need}
@@ -20,6 +20,8 @@ use Rattle.fixing.specs.declared.rules.Rules.{Rules}
 use Rattle.fixing.proofs.LoopLaws as loop
 use Rattle.fixing.proofs.OddUses.{odd_uses}
 use Rattle.fixing.proofs.PolygonLaws.{polygon_each}
+use Rattle.fixing.proofs.PolygonsStay.{all_stay, none_counted, polygon_stays}
+use Rattle.fixing.proofs.TurnLaws.{turned_turns}
 use Rattle.fixing.proofs.RunLaws.{runs_are_lines, segments_once}
 
 Each-weaker : (P Q : List Pos → Type 0) → ((l : List Pos) → P l → Q l) → (ls : List (List Pos)) → Each P ls → Each Q ls
@@ -84,3 +86,18 @@ sound_rings_stay rules ring fixes e = (
 pub polygons_left_are_sound : law.PolygonsLeftAreSound
 polygons_left_are_sound rules polygon left e =
     polygon_each (λ l. ring_fault position_cmp l ≡ None) rules (rings_left_are_sound rules) polygon left e
+
+pub sound_multi_lines_stay : law.SoundMultiLinesStay
+sound_multi_lines_stay rules lines fixes h = (
+  all_stay (line_left rules) (λ l. line_fault position_cmp l ≡ None) (λ l e. (sound_lines_stay rules l fixes e).0) lines h,
+  none_counted (line_need rules) (λ l. line_fault position_cmp l ≡ None) fixes (λ l e. (sound_lines_stay rules l fixes e).1) lines h,
+)
+
+pub sound_polygons_stay : law.SoundPolygonsStay
+sound_polygons_stay rules polygon fixes keep h = (
+  polygon_stays rules (λ l. ring_fault position_cmp l ≡ None) (λ l e. (sound_rings_stay rules l fixes e).0) polygon keep h,
+  none_counted (ring_need rules) (λ l. ring_fault position_cmp l ≡ None) fixes (λ l e. (sound_rings_stay rules l fixes e).1) polygon h,
+)
+
+pub turned_rings_turn : law.TurnedRingsTurn
+turned_rings_turn is_outer l f g n = turned_turns is_outer l f g n

@@ -1,5 +1,5 @@
 -- The laws of what is left of lines and rings.
-use Rattle.std.specs.Prelude.{◌≡◌, ℕ, ◌+◌, ◌≤◌, List, [], ◌∷◌, length, false, Some, None}
+use Rattle.std.specs.Prelude.{◌≡◌, ◌≢◌, ℕ, ◌+◌, ℤ, pos, ◌-ℤ◌, List, [], ◌∷◌, Bool, false, Some, None, FitsSigned}
 use Rattle.grid.specs.declared.pos.Pos.{Pos}
 use Rattle.lines.specs.Reading.{collapsed, line_fault, ring_fault}
 use Rattle.lines.specs.Segments.{segments_of}
@@ -7,13 +7,16 @@ use Rattle.lines.specs.Turned.{position_cmp}
 use Rattle.lines.specs.declared.pair.Pair.{Pair}
 use Rattle.theory.specs.LinesAndRings.{IsLine, IsRing, closed}
 use Rattle.theory.specs.Lists.{Distinct, Each, gathered, last_of}
-use Rattle.fixing.specs.Left.{counted, line_left, line_need, ring_left, ring_need}
+use Rattle.fixing.specs.Left.{all_counted, all_left, counted, line_left, line_need, ring_left, ring_need}
 use Rattle.fixing.specs.Loops.{loops_of}
-use Rattle.fixing.specs.Polygons.{polygon_kept}
+use Rattle.fixing.specs.Measures.{rewound, turns_left, twice_area}
+use Rattle.fixing.specs.Polygons.{polygon_counted, polygon_kept, polygon_left}
 use Rattle.fixing.specs.Runs.{first_uses, runs_of}
 use Rattle.fixing.specs.Uses.{uses}
 use Rattle.fixing.specs.declared.rules.Fixes.{Fixes}
+use Rattle.fixing.specs.declared.rules.Rewind.TheVariants.{Keep, Rfc7946}
 use Rattle.fixing.specs.declared.rules.Rules.{Rules}
+use mir.Syntax.{w128}
 
 -- what is left of a line has no fault: two positions or more, and no segment twice [RFC 7946, 3.1.4]
 abbrev pub LinesLeftAreSound : Type 0
@@ -68,3 +71,22 @@ abbrev pub SoundRingsStay : Type 0
 SoundRingsStay =
     (rules : Rules) (ring : List Pos) (fixes : Fixes) → ring_fault position_cmp ring ≡ None →
     (ring_left rules ring ≡ Some (ring ∷ [])) × (counted (ring_need rules ring) fixes ≡ fixes)
+
+-- so do all lines of a list of them
+abbrev pub SoundMultiLinesStay : Type 0
+SoundMultiLinesStay =
+    (rules : Rules) (lines : List (List Pos)) (fixes : Fixes) → Each (λ l. line_fault position_cmp l ≡ None) lines →
+    (all_left (line_left rules) lines ≡ Some lines) × (all_counted (line_need rules) lines fixes ≡ fixes)
+
+-- and a polygon of rings without a fault, where rings are not turned
+abbrev pub SoundPolygonsStay : Type 0
+SoundPolygonsStay =
+    (rules : Rules) (polygon : List (List Pos)) (fixes : Fixes) → rules.rewind ≡ Keep → Each (λ l. ring_fault position_cmp l ≡ None) polygon →
+    (polygon_left rules polygon ≡ Some (polygon ∷ [])) × (polygon_counted rules polygon fixes ≡ fixes)
+
+-- a ring that is turned turns as it is wanted: left for an outer ring, and right for a hole [RFC 7946, 3.1.6], where it
+-- has an area that does not wrap
+abbrev pub TurnedRingsTurn : Type 0
+TurnedRingsTurn =
+    (is_outer : Bool) (l : List Pos) → FitsSigned w128 (twice_area l) → FitsSigned w128 (pos 0 -ℤ twice_area l) → twice_area l ≢ pos 0 →
+    turns_left (rewound Rfc7946 is_outer l) ≡ is_outer

@@ -40,3 +40,18 @@ pub fn sound_rings_stay()
 pub fn polygons_left_are_sound()
     ensures { law.PolygonsLeftAreSound }
 {}
+
+/// Lines without a fault are left as they are, and nothing is counted.
+pub fn sound_multi_lines_stay()
+    ensures { law.SoundMultiLinesStay }
+{}
+
+/// A polygon of rings without a fault is left as it is, and nothing is counted.
+pub fn sound_polygons_stay()
+    ensures { law.SoundPolygonsStay }
+{}
+
+/// Rings that are turned turn as they are wanted.
+pub fn turned_rings_turn()
+    ensures { law.TurnedRingsTurn }
+{}

@@ -1,4 +1,4 @@
-use Rattle.std.proofs.Common.{◌≡◌, ◌<◌, ◌^◌, FitsSigned, bits, to_z, of_z, rules}
+use Rattle.std.proofs.Common.{FitsSigned, to_z, rules}
 use Rattle.std.specs.Int.{int_wrap}
 use Rattle.std.proofs.lemmas.Int.{wrapping_add_onto}
 use Rattle.fixing.specs.Measures.{twice_area}
