@@ -108,6 +108,15 @@ impl FixedText {
         Ok(())
     }
 
+    /// The text of one feature, of which so much was fixed.
+    fn of_one(alloc: Global, text: String, fixes: Fixes) -> Result<FixedText, Broken>
+        ensures { IfOk result (λ made. IsCounted made) }
+    {
+        let mut made = FixedText::new(alloc, text);
+        made.count(0, fixes)?;
+        Ok(made)
+    }
+
     /// Puts the text of a feature behind the others, unless it is empty. The answer is whether none is there yet.
     fn push_feature(&mut self, feature: &str, is_first: bool) -> Result<bool, Broken>
         ensures fixes { self.new.fixes ≡ self.old.fixes }
@@ -173,9 +182,7 @@ fn blank_root(alloc: Global, root: Value, rules: &Rules) -> Result<FixedText, Br
 {
     if text_member(&root, "type") == "Feature" {
         let Fixed { text, fixes } = fix_feature(alloc, root, rules)?;
-        let mut made = FixedText::new(alloc, text);
-        made.count(0, fixes)?;
-        return Ok(made);
+        return FixedText::of_one(alloc, text, fixes);
     }
     let mut fixes = Fixes::default();
     let geometries = geometries_of(alloc, root, rules, &mut fixes)?;
@@ -183,9 +190,7 @@ fn blank_root(alloc: Global, root: Value, rules: &Rules) -> Result<FixedText, Br
         [geometry] if !geometry.is_null() => geometry.to_string(alloc)?,
         _ => bare_feature(alloc, Value::Null)?.to_string(alloc)?,
     };
-    let mut made = FixedText::new(alloc, text);
-    made.count(0, fixes)?;
-    Ok(made)
+    FixedText::of_one(alloc, text, fixes)
 }
 
 fn fix_root(alloc: Global, root: Root, rules: &Rules) -> Result<FixedText, Broken>
