@@ -109,16 +109,17 @@ loops_uses s n path (p ∷ l) = go (some (position_eq p) path) refl (loops_uses 
         let loop : IsLeftOf (uses s (segments_of (path_from p path ++ (p ∷ [])))) (uses s (gathered segments_of (loop_kept (path_from p path ++ (p ∷ []))))) =
         subst (λ w. IsLeftOf (uses s (segments_of (w ++ (p ∷ [])))) (uses s (gathered segments_of (loop_kept (w ++ (p ∷ [])))))) (sym parts.from) (kept_uses s n p parts.rest) in
         let more = ap (uses s) (gathered_join segments_of (loop_kept (path_from p path ++ (p ∷ []))) (loops_on (path_to p path) l))
-        ∙ uses_join s (gathered segments_of (loop_kept (path_from p path ++ (p ∷ [])))) (gathered segments_of (loops_on (path_to p path) l)) in
-        (f.0 + loop.0,
-        sums (uses s (segments_of (path ++ (p ∷ l)))) (uses s (segments_of (path_to p path ++ l))) (uses s (segments_of (path_from p path ++ (p ∷ []))))
-        (uses s (gathered segments_of (loop_kept (path_from p path ++ (p ∷ [])))))
-        (uses s (gathered segments_of (loops_on (path_to p path) l)) + uses s (segments_of (path_left (path_to p path) l))) f.0 loop.0
-        (uses s (gathered segments_of (loop_kept (path_from p path ++ (p ∷ [])) ++ loops_on (path_to p path) l)) + uses s (segments_of (path_left (path_to p path) l)))
-        (loop_parts s p path l parts) f.1 loop.1
-        (moved (uses s (gathered segments_of (loop_kept (path_from p path ++ (p ∷ [])) ++ loops_on (path_to p path) l)))
-        (uses s (gathered segments_of (loop_kept (path_from p path ++ (p ∷ []))))) (uses s (gathered segments_of (loops_on (path_to p path) l)))
-        (uses s (segments_of (path_left (path_to p path) l))) more))
+        ∙ uses_join s (gathered segments_of (loop_kept (path_from p path ++ (p ∷ [])))) (gathered segments_of (loops_on (path_to p path) l)) in (
+          f.0 + loop.0,
+          sums (uses s (segments_of (path ++ (p ∷ l)))) (uses s (segments_of (path_to p path ++ l))) (uses s (segments_of (path_from p path ++ (p ∷ []))))
+              (uses s (gathered segments_of (loop_kept (path_from p path ++ (p ∷ [])))))
+              (uses s (gathered segments_of (loops_on (path_to p path) l)) + uses s (segments_of (path_left (path_to p path) l))) f.0 loop.0
+              (uses s (gathered segments_of (loop_kept (path_from p path ++ (p ∷ [])) ++ loops_on (path_to p path) l)) + uses s (segments_of (path_left (path_to p path) l)))
+              (loop_parts s p path l parts) f.1 loop.1
+              (moved (uses s (gathered segments_of (loop_kept (path_from p path ++ (p ∷ [])) ++ loops_on (path_to p path) l)))
+              (uses s (gathered segments_of (loop_kept (path_from p path ++ (p ∷ []))))) (uses s (gathered segments_of (loops_on (path_to p path) l)))
+              (uses s (segments_of (path_left (path_to p path) l))) more),
+        )
       where
         moved : (all kept left path : ℕ) → all ≡ kept + left → all + path ≡ kept + (left + path)
         moved all kept left path e = omega arith

@@ -37,7 +37,6 @@ runs_segments used x r here (p ∷ l) e =
     go (used (pair_of here p)) (runs_segments (or_used (pair_of here p) used) p [] p l refl)
     (runs_segments (or_used (pair_of here p) used) x (r ++ (p ∷ [])) p l (last-snoc x p r))
   where
-
     go : (b : Bool) → gathered segments_of (runs_on (or_used (pair_of here p) used) (p ∷ []) p l) ≡ first_uses (or_used (pair_of here p) used) (segments_from p l) →
         gathered segments_of (runs_on (or_used (pair_of here p) used) (x ∷ (r ++ (p ∷ []))) p l)
         ≡ segments_from x (r ++ (p ∷ [])) ++ first_uses (or_used (pair_of here p) used) (segments_from p l) →
@@ -131,9 +130,10 @@ beside_has x y u l (inr h) = subst (λ s. Has s (segments_from u l)) (pair_flip 
 trail_from : (x : Pos) (l : List Pos) → Distinct (segments_from x l) → ((s : Pair) → Has s (segments_from x l) → HasTwoEnds s) → Trail (x ∷ l)
 trail_from x [] d a = ((λ y b. absurd b), tt)
 trail_from x (y ∷ l) d a = (
-  (λ z e.
-      ((λ q. ends_apart x y (a (pair_of x y) (inl refl)) (q ∙ e)),
-      (λ q. d.0 (subst (λ w. Has (pair_of x w) (segments_from y l)) e (beside_has x z y l q))))),
+  (λ z e. (
+    (λ q. ends_apart x y (a (pair_of x y) (inl refl)) (q ∙ e)),
+    (λ q. d.0 (subst (λ w. Has (pair_of x w) (segments_from y l)) e (beside_has x z y l q))),
+  )),
   trail_from y l d.1 (λ s h. a s (inr h)),
 )
 
