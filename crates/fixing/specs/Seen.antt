@@ -1,0 +1,10 @@
+-- What contracts see of lists of lines and rings, and of lists of polygons.
+use Rattle.std.specs.Prelude.{List, map, Vec}
+use Rattle.std.specs.declared.alloc.Global.{Global}
+use Rattle.grid.specs.declared.pos.Pos.{Pos}
+
+abbrev pub lists_in : List (Vec Pos Global) → List (List Pos)
+lists_in lists = map (λ list. list.items) lists
+
+abbrev pub polygons_in : List (Vec (Vec Pos Global) Global) → List (List (List Pos))
+polygons_in polygons = map (λ polygon. lists_in polygon.items) polygons
