@@ -21,7 +21,7 @@ const FEW_DIGITS: usize = 18;
 pub(crate) struct Short {
     /// All digits as one number.
     digits: u64,
-    /// How many of them stand behind the point.
+    /// How many of them are behind the point.
     places: usize,
 }
 

@@ -1,4 +1,4 @@
-//! Lines and rings, judged and fixed one by one.
+//! Lines and rings, checked and fixed one by one.
 ghost use Rattle.fixing.specs.Left.{all_counted, all_left, counted, line_left, line_need as needed_of_line, need_of as needed, ring_left, ring_need as needed_of_ring};
 ghost use Rattle.fixing.specs.Seen.{lists_in};
 ghost use Rattle.std.specs.Prelude.{◌≡◌, ◌∷◌, [], IfErr, IfOk, OnOk, None, Some};

@@ -10,7 +10,7 @@ use std::alloc::{AllocError, Global};
 use std::collections::BTreeMap;
 
 /// A walk round a ring: the loops that were cut off, the positions since the last one, each once, and where they
-/// stand. Positions that the path has no more may be noted too.
+/// are. Positions that the path has no more may be noted too.
 #[derive(Drop)]
 struct Walk {
     loops: Vec<Vec<Pos>>,
@@ -45,7 +45,7 @@ impl Walk {
         if *met == position { Some(*place) } else { None }
     }
 
-    /// Cuts off what stands from a place on, closed by the position there, which stays.
+    /// Cuts off what is there from a place on, closed by the position there, which stays.
     fn cut_loop(&mut self, alloc: Global, position: Pos, place: usize) -> Result<(), AllocError>
         requires { place < vec_len self.old.path }
         ensures loops { OnOk result (lists_in self.new.loops.items ≡ lists_in self.old.loops.items ++ loop_kept (drop place self.old.path.items ++ position ∷ [])) }
