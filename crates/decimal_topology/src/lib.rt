@@ -4,6 +4,7 @@
 //! `type` comes first, where GDAL looks for it, and its rings may be turned as a reader wants them.
 #![tactic(auto)]
 
+mod area;
 mod fault;
 mod geometries;
 mod turning;

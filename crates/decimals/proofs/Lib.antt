@@ -3,3 +3,5 @@ pub mod Nearest
 pub mod Steps
 pub mod Keeping
 pub mod Numbers
+pub mod Printed
+pub mod Amounts

@@ -2,3 +2,4 @@ pub mod Nearest
 pub mod Numeral
 pub mod Tenths
 pub mod Laws
+pub mod Amount
