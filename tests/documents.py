@@ -7,9 +7,10 @@ An example is a line that begins with `$ `, in a fenced block or indented by fou
 it. Those of a document run in turn in a folder of its own, where `examples` is that of the repository and
 `topotool` is crates/topotool/out/topotool, or the program that TOPOTOOL names, which has to be built before. Those that
 need a program of OPTIONAL that is not installed are skipped, and so are those that read what a skipped one writes. A
-fenced block whose first line names a file of the repository has to be in that file, line by line. Each name that
-docs/DEFINITIONS.md lists has to be defined in the file that its row names. The calls that docs/PROOFS.md lists as those
-with a condition have to be the public functions that have one, as tests/conditions.py finds them.
+fenced block whose first line names a file of the repository has to be in that file, line by line. docs/DEFINITIONS.md
+has to be what docs/definitions.py makes of the comments at the definitions, and each definition that a contract cites has
+to have one. The calls that docs/PROOFS.md lists as those with a condition have to be the public functions that have one,
+as tests/conditions.py finds them.
 
 Of every document, links have to lead to a file, and to a heading where they name one, and each docs/NAME.md and each file of
 a crate that is mentioned has to be there. Of PLAIN documents, so has each path into examples, tests and bench; a paragraph has
@@ -17,9 +18,9 @@ at most PARAGRAPH characters, a sentence at most SENTENCE words and AVERAGE on a
 document at most PAGE words, and there is no word of AVOID. README.md has at most README_BYTES bytes, and names the kit as
 `rt version` does, where that is installed; its table and docs/COMMANDS.md have each command that the program's help lists.
 All documents but docs/DEFINITIONS.md, CHANGELOG.md and the forms in .github have at most WORDS words together: those of
-prose and tables, and not those of code. The folders at the top have a README.md. Words of AVOID in `///` and `//!` comments
-of product crates are counted, and don't fail yet. Examples run with nothing set but PATH, HOME and a locale. Ends with a
-line of counts, and with status 1 where anything is wrong.
+prose and tables, and not those of code. The folders at the top have a README.md. `///` and `//!` comments of product crates
+have no word of AVOID either. The version is the same in all files that have it. Examples run with nothing set but PATH, HOME
+and a locale. Ends with a line of counts, and with status 1 where anything is wrong.
 """
 
 import glob
@@ -32,10 +33,13 @@ import tempfile
 
 sys.dont_write_bytecode = True
 
+TOP = os.path.dirname(os.path.dirname(os.path.abspath(__file__)))
+sys.path.insert(0, f"{TOP}/docs")
+
 import conditions
+import definitions
 import house
 
-TOP = os.path.dirname(os.path.dirname(os.path.abspath(__file__)))
 PROGRAM = os.path.abspath(os.environ.get("TOPOTOOL", f"{TOP}/crates/topotool/out/topotool"))
 TOGRID = os.path.abspath(os.environ.get("TOGRID", f"{TOP}/crates/togrid/out/togrid"))
 FOLDERS = ["bench", "c", "completions", "crates", "dist", "docs", "examples", "python", "rust", "tests"]
@@ -43,7 +47,6 @@ DOCUMENTS = ["README.md", *(f"docs/{it}.md" for it in ("COMMANDS", "SESSIONS", "
              "CONTRIBUTING.md", "SECURITY.md", "CHANGELOG.md"]
 PLAIN = [*DOCUMENTS, *(f"docs/{it}.md" for it in ("ARCHITECTURE", "DECISIONS", "PROOFS", "TESTS", "SPEED", "README")),
          *(f"{it}/README.md" for it in FOLDERS if it != "docs"), *(f"examples/{it}/README.md" for it in ("own-map", "many-hands", "map", "python"))]
-DEFINITIONS = "docs/DEFINITIONS.md"
 PROOFS = "docs/PROOFS.md"
 OPTIONAL = ["jq", "ogr2ogr"]
 README_BYTES = 8000
@@ -52,6 +55,15 @@ SENTENCE = 28
 AVERAGE = 15
 PAGE = 2600
 WORDS = 20000
+# Where else the version is, and what is before it.
+VERSIONS = {
+    "crates/togrid_command/src/words.rt": "VERSION: &str = ",
+    "python/noshinka/__init__.py": "^__version__ = ",
+    "rust/Cargo.toml": "^version = ",
+    "rust/Cargo.lock": 'name = "noshinka"\nversion = ',
+    "docs/topotool.1": '"topotool ',
+    "tests/rows/usage.toml": '"topotool ',
+}
 # Words that readers don't expect or search for, and what to write instead.
 AVOID = {
     r"want of memory|memory is wanting": "out of memory",
@@ -145,33 +157,6 @@ def tried(document):
                 wrong += 1
                 print(f"{document}: $ {command}\n  is to print {printed}\n  and printed {got}")
     return len(found) + len(quotations(text)), wrong
-
-
-def listed_definitions(text):
-    """Gives each name that a row lists, with the files that the row names."""
-    for section in re.split(r"^## ", text, flags=re.MULTILINE):
-        folder = re.search(r"`(crates/\w+/specs/)`", section)
-        for row in re.findall(r"^\| (`.*) \|$", section, re.MULTILINE):
-            cells = row.split(" | ")
-            if folder and len(cells) == 4:
-                files = [f"{folder[1]}{name}.antt" for name in re.findall(r"`([^`]+)`", cells[2])]
-                for name in re.findall(r"`([^`]+)`", cells[0]):
-                    yield name, files
-
-
-def unlisted(document):
-    """How many names the document lists, and how many of them are not defined in the files that it says."""
-    count = wrong = 0
-    with open(f"{TOP}/{document}", encoding="utf-8") as file:
-        rows = [*listed_definitions(file.read())]
-    for name, files in rows:
-        texts = [open(f"{TOP}/{it}", encoding="utf-8").read() for it in files if os.path.isfile(f"{TOP}/{it}")]
-        begun = rf"^[ \t]*(?:(?:pub|abbrev|unfoldable|opaque|data|record)\s+)*{re.escape(name)}(?=[\s:({{]|$)"
-        if len(texts) < len(files) or not any(re.search(begun, it, re.MULTILINE) for it in texts):
-            wrong += 1
-            print(f"{document}: {name} is not defined in {', '.join(files)}")
-        count += 1
-    return count, wrong
 
 
 def listed_conditions(text):
@@ -302,7 +287,7 @@ def read_through():
     for document in documents:
         with open(f"{TOP}/{document}", encoding="utf-8") as file:
             text = file.read()
-        if document not in (DEFINITIONS, "CHANGELOG.md") and not document.startswith(".github"):
+        if document not in (definitions.PAGE, "CHANGELOG.md") and not document.startswith(".github"):
             words += len(words_of(text))
         told = [*(f"{it} leads nowhere" for it in dead_links(document, text)),
                 *(f"{it} is not there" for it in dead_mentions(document, text)),
@@ -333,17 +318,30 @@ def undescribed():
             yield f"docs/COMMANDS.md: it has no section on {command}"
 
 
+def other_versions():
+    """Gives the files that have another version than the program's, which is written once in its source."""
+    def version_in(path, before):
+        with open(f"{TOP}/{path}", encoding="utf-8") as file:
+            found = re.search(rf'{before}"?(\d+\.\d+\.\d+)', file.read(), re.MULTILINE)
+        return found[1] if found else "none"
+
+    version = version_in("crates/arguments/src/lib.rt", "VERSION: &str = ")
+    for path, before in VERSIONS.items():
+        if version_in(path, before) != version:
+            yield f"{path}: its version is {version_in(path, before)}, and the program's is {version}"
+
+
 def avoided_in_comments():
-    """How many words of AVOID there are in the comments of product crates that documentation is made of."""
-    count = 0
+    """Gives the words of AVOID in the comments of product crates that documentation is made of."""
     for crate in house.edges():
         if house.matches(crate, house.OTHERS):
             continue
         for path in glob.glob(f"{TOP}/crates/{crate}/src/**/*.rt", recursive=True):
             comments = " ".join(it.strip() for it in house.read_lines(path) if it.lstrip().startswith(("///", "//!")))
             plain = re.sub(r"//[/!]|`[^`]*`", "", comments)
-            count += sum(len(re.findall(rf"\b(?:{words})\b", plain, re.IGNORECASE)) for words in AVOID)
-    return count
+            for words, better in AVOID.items():
+                for found in re.findall(rf"\b(?:{words})\b", plain, re.IGNORECASE):
+                    yield f"{os.path.relpath(path, TOP)}: '{found}' in a comment (write: {better})"
 
 
 def main(documents):
@@ -355,14 +353,13 @@ def main(documents):
     for document in documents:
         more, bad = tried(document)
         count, wrong = count + more, wrong + bad
-    names, lost = unlisted(DEFINITIONS)
+    names, lost = definitions.checked()
     calls, missed = told_of(PROOFS)
     pages, words, faulty = read_through()
-    lacking = [*undescribed()]
+    lacking = [*undescribed(), *other_versions(), *avoided_in_comments()]
     for it in lacking:
         print(it)
     wrong += lost + missed + faulty + len(lacking)
-    print(f"{avoided_in_comments()} words to avoid in /// and //! comments of product crates")
     print(f"{count} examples, {names} definitions, {calls} calls with a condition, {pages} documents of {words} words, {wrong} wrong")
     return 1 if wrong else 0
 

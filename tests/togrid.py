@@ -547,19 +547,49 @@ def as_lists(value):
     return json.loads(json.dumps(value))
 
 
+def parts_of(feature):
+    """How many features one is split into at most."""
+    geometry = feature["geometry"] or {}
+    return max(1, len(geometry.get("geometries", [])))
+
+
+def far_features(made, asked):
+    """Gives the numbers of the features that have a coordinate too far from 0: in the file, and where collections are split."""
+    begun = 0
+    for number, feature in enumerate(made["features"]):
+        try:
+            begun += len(expected({**made, "features": [feature]}, asked))
+        except Far:
+            yield number
+            yield from range(begun, begun + parts_of(feature))
+            begun += parts_of(feature)
+
+
 def is_of_far(line, made, asked):
-    """Whether a line tells of a feature that has a coordinate too far from 0 the first error, which alone would be mended."""
-    told = re.search(rb" (?:8 TooShort|10 Revisit) \$/features/([0-9]+)/", line)
-    try:
-        if told:
-            expected({**made, "features": [made["features"][int(told[1])]]}, asked)
-        return False
-    except Far:
-        return True
+    """Whether the error of a line, which alone would be fixed, is in a feature that has a coordinate too far from 0."""
+    found = re.search(rb" (?:8 TooShort|10 Revisit) \$/features/([0-9]+)/", line)
+    return bool(found) and int(found[1]) in far_features(made, asked)
+
+
+def wrong_merge(files, built, asked):
+    """What differs where each file is built by itself, as on two machines, and both are merged in either order."""
+    shards = []
+    for file in files:
+        run = subprocess.run([TOGRID, "--build", "-q", *asked.words, file], capture_output=True)
+        if run.returncode:
+            return f"{file}: {run.stderr!r}"
+        shards.append(f"{file.partition('=')[2]}.topo.json")
+        with open(shards[-1], "wb") as it:
+            it.write(run.stdout)
+    for order in shards, shards[::-1]:
+        run = topotool("merge", *order)
+        if (run.returncode, run.stdout) != (0, built):
+            return f"merged files differ: {order} {run.stderr!r}"
+    return None
 
 
 def wrong_halves(folder, made, built, asked):
-    """What differs where the features are in two files, in either order."""
+    """What differs where the features are in two files, in either order, built together and apart."""
     middle = len(made["features"]) // 2
     files = []
     for name, features in ("front", made["features"][:middle]), ("rest", made["features"][middle:]):
@@ -570,7 +600,8 @@ def wrong_halves(folder, made, built, asked):
         run = subprocess.run([TOGRID, "--build", "-q", *asked.words, *order], capture_output=True)
         if (run.returncode, run.stdout) != (0, built):
             return f"two files differ: {order} {run.stderr!r}"
-    return None
+    # What --snap joins depends on all files, so that they are built together.
+    return None if asked.distance else wrong_merge(files, built, asked)
 
 
 def wrong_topology(file, folder, made, text, asked):

@@ -1,5 +1,5 @@
-//! The least fault of a topology's text, of which nothing is kept. A list of arcs is judged by its arcs, and
-//! stitched only where they don't tell enough, so that many features which use one long arc cost no more
+//! The first error of a topology's text, of which nothing is kept. A list of arcs is validated by its arcs, and
+//! stitched only where they don't say enough, so that many features which use one long arc cost no more
 //! than their lists are long.
 ghost use Rattle.faults.specs.Path.{name as name_turn};
 ghost use Rattle.reading.specs.Fault.{LeastOrWant, under};
@@ -30,7 +30,7 @@ use serde_json::Value;
 use std::alloc::Global;
 use taking::TextArcs;
 
-/// Judges the member `objects`, by the arcs.
+/// Validates the member `objects`, by the arcs.
 fn judge_objects(
     alloc: Global,
     limits: &Limits,
@@ -52,7 +52,7 @@ fn judge_objects(
     }
 }
 
-/// Judges the arcs, used or not, and then the layers.
+/// Validates the arcs, used or not, and then the layers.
 fn judge_content(alloc: Global, limits: &Limits, value: &Value) -> Result<(), Fault>
     ensures ok { OnOk result (content_faults limits.now (view value.now) ≡ []) }
     ensures err { IfErr result (λ f. LeastOrWant (content_faults limits.now (view value.now)) f) }
@@ -98,7 +98,7 @@ fn judge_members(alloc: Global, value: &Value) -> Result<(), Fault>
     }
 }
 
-/// Judges a topology's value.
+/// Validates a topology's value.
 pub(crate) fn judge_root(alloc: Global, value: &Value) -> Result<(), Fault>
     ensures ok { OnOk result (topology_faults (view value.now) ≡ []) }
     ensures err { IfErr result (λ f. LeastOrWant (topology_faults (view value.now)) f) }
@@ -112,10 +112,10 @@ pub(crate) fn judge_root(alloc: Global, value: &Value) -> Result<(), Fault>
     }
 }
 
-/// Judges a topology's text.
+/// Validates a topology's text.
 ///
 /// # Errors
-/// The least fault of the text, by path and then by number; `OutOfMemory` at the root.
+/// The first error of the text, by path and then by number; `OutOfMemory` at the root.
 pub(crate) fn judge_text(alloc: Global, bytes: &[u8]) -> Result<(), Fault>
     ensures ok { OnOk result (faults_of_text bytes.now ≡ []) }
     ensures err { IfErr result (λ f. LeastOrWant (faults_of_text bytes.now) f) }

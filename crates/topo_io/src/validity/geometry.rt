@@ -1,4 +1,4 @@
-//! Geometries of a topology, judged (TopoJSON, section 2.2).
+//! Geometries of a topology, validated (TopoJSON, section 2.2).
 ghost use Rattle.reading.specs.Fault.{LeastOrWant};
 ghost use Rattle.serde_json.specs.View.{view};
 ghost use Rattle.std.specs.Prelude.{◌≡◌, [], IfErr, OnOk};
@@ -15,7 +15,7 @@ use reading::part::{Listed, Part, read_member, type_fault};
 use serde_json::Value;
 use std::alloc::Global;
 
-/// Judges a part, of which nothing is kept.
+/// Validates a part, of which nothing is kept.
 fn judge_part<P: Part>(alloc: Global, part: &P, value: &Value) -> Result<(), Fault>
     ensures ok { OnOk result (P.faults part.now (view value.now) ≡ []) }
     ensures err { IfErr result (λ f. LeastOrWant (P.faults part.now (view value.now)) f) }
@@ -80,7 +80,7 @@ fn judge_body(
     }
 }
 
-/// Judges a geometry of that type, none for null.
+/// Validates a geometry of that type, none for null.
 pub(crate) fn judge_as(
     alloc: Global,
     on: &Known,

@@ -1,4 +1,4 @@
-//! Layers of a topology, judged (TopoJSON, section 2.1.5).
+//! Layers of a topology, validated (TopoJSON, section 2.1.5).
 ghost use Rattle.reading.specs.Fault.{LeastOrWant};
 ghost use Rattle.serde_json.specs.View.{view};
 ghost use Rattle.std.specs.Prelude.{◌≡◌, [], IfErr, OnOk};
