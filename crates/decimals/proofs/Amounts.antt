@@ -1,9 +1,9 @@
 -- Sums of decimal numbers.
-use Rattle.std.proofs.Common.{◌≡◌, ℕ, ◌+◌, ◌-◌, ◌^◌, ◌<◌, ◌≤◌, max, ℤ, pos, ◌+ℤ◌, Option, Some, None, IfSome, ap, ◌∙◌, lit<, arith, FitsSigned}
+use Rattle.std.proofs.Common.{◌≡◌, ℕ, ◌-◌, ◌^◌, ◌≤◌, max, ℤ, pos, ◌+ℤ◌, Option, Some, None, IfSome, ap, ◌∙◌, lit<, arith, FitsSigned}
 use Rattle.std.proofs.Math.Nat.{pow-le-pow_right}
 use Rattle.std.specs.Int.{w128}
 use Rattle.std.specs.Option.{SomeIff}
-use Rattle.decimals.specs.Amount.{Amount, IsAmount, amount, sum_of, value_at}
+use Rattle.decimals.specs.Amount.{Amount, amount, sum_of, value_at}
 
 power_fits : (k : ℕ) → k ≤ 30 → FitsSigned w128 (pos (10 ^ k))
 power_fits k h = let most : 10 ^ k ≤ 10 ^ 30 = pow-le-pow_right (lit< tt) {j = 30} h in record { sfits = omega (arith, most) }

@@ -5,3 +5,4 @@ pub mod Keeping
 pub mod Numbers
 pub mod Printed
 pub mod Amounts
+pub mod Offsets

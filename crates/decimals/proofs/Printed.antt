@@ -1,20 +1,19 @@
 -- What is printed of decimal numbers.
-use Rattle.std.proofs.Common.{◌≡◌, ℕ, zero, suc, ◌+◌, ◌-◌, ◌*◌, ◌/◌, ◌%◌, ◌^◌, ◌<◌, ◌≤◌, Bool, true, false, cond, eqb, ℤ, pos, negsuc, ◌*ℤ◌, List, [], ◌∷◌, ◌++◌, length, get_or, take, drop, codes, replicate, inl, inr, refl, sym, subst, ap, ◌∙◌, arith, length-append, length-take, length-drop, ne_eqb, lt-ltb, le-ltb, nat_lt, ◌==◌}
+use Rattle.std.proofs.Common.{◌≡◌, ℕ, zero, suc, ◌-◌, ◌*◌, ◌/◌, ◌%◌, ◌^◌, ◌<◌, ◌≤◌, Bool, true, false, cond, ℤ, pos, negsuc, ◌*ℤ◌, List, [], ◌∷◌, ◌++◌, length, take, drop, replicate, inl, inr, refl, sym, subst, ap, ◌∙◌, arith, length-append, length-take, length-drop, ne_eqb, lt-ltb, le-ltb, nat_lt, ◌==◌}
 use Rattle.std.proofs.Math.Nat.{pow-suc}
 use Rattle.std.proofs.lemmas.Bool.{cases_lt, cases_Bool, eqb-true}
 use Rattle.std.proofs.lemmas.Float.Parse.{scan_numeral-text_of}
 use Rattle.std.proofs.lemmas.Fmt.{decimal_is_IsNumeral_wide}
-use Rattle.std.proofs.lemmas.Int.{ints}
 use Rattle.std.proofs.lemmas.List.{append-nil, length-replicate, take-append-drop}
 use Rattle.std.proofs.lemmas.Nat.{div-add-mod'}
 use Rattle.std.specs.Char.{digit_value}
 use Rattle.std.specs.Fmt.{decimal, sign_text}
 use Rattle.std.specs.Prelude.{unsigned_abs}
-use Rattle.std.specs.Str.Parse.{AllDigits, digits_value, digits_value_after, starts_with_minus}
+use Rattle.std.specs.Str.Parse.{AllDigits, digits_value, starts_with_minus}
 use Rattle.fast_float.proofs.Rows.{AllDigits-append, AllDigits-take, AllDigits-drop}
-use Rattle.fast_float.specs.Text.{Parts, scan, has_digits, digits_of, tens_up, tens_down, with_sign, text_of, IsWellFormed}
-use Rattle.decimals.specs.Amount.{Amount, Shortest, is_below, shortest, pointed, shortest_text, amount_text, IsWorth, TextsAreWorth}
-use Rattle.decimals.specs.Numeral.{IsNumeral, numerator, denominator, parts_of, unsigned_text}
+use Rattle.fast_float.specs.Text.{Parts, scan, digits_of, tens_up, tens_down, with_sign, text_of, IsWellFormed}
+use Rattle.decimals.specs.Amount.{is_below, shortest, pointed, amount_text, TextsAreWorth}
+use Rattle.decimals.specs.Numeral.{parts_of, unsigned_text}
 use Rattle.decimals.proofs.Steps.{sign_times}
 
 -- the parts of digits with a point before the last so many

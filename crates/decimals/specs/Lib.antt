@@ -3,3 +3,4 @@ pub mod Numeral
 pub mod Tenths
 pub mod Laws
 pub mod Amount
+pub mod Offset

@@ -1,4 +1,4 @@
-use Rattle.std.proofs.Common.{rules, ◌≡◌, ◌≤◌, max, ◌+ℤ◌, sym, subst, ap, ◌∙◌, arith, FitsSigned}
+use Rattle.std.proofs.Common.{◌≡◌, max, ◌+ℤ◌, sym, subst, ap, ◌∙◌, arith, FitsSigned}
 use Rattle.std.proofs.lemmas.Int.{to_z-of_z}
 use Rattle.std.specs.Int.{w128}
 use Rattle.decimals.specs.Amount.{Amount, amount, sum_of}
@@ -8,20 +8,18 @@ use Rattle.decimals.proofs.decimal.Decimal.plus.Goals as goal
 pub returns-in_err-value_at-clause-exact : goal.returns-in_err-value_at-clause-exact
 returns-in_err-value_at-clause-exact c =
     let places : c.max-places.result ≡ max c.args.self.places c.args.other.places =
-    omega (arith, c.max-places.ensures, ap (λ (a : Amount). a.places) c.self.view_is, ap (λ (a : Amount). a.places) c.other.view_is) in
-    (
-  λ some. let no = rw c.from_residual.ensures at some in absurd (cc),
-  λ f. absurd (c.in_err-value_at.ensures (fits_at c.args.self _ (max c.args.self.places c.args.other.places) places (omega arith) (omega arith) f.0)),
-)
+    omega (arith, c.max-places.ensures, ap (λ (a : Amount). a.places) c.self.view_is, ap (λ (a : Amount). a.places) c.other.view_is) in (
+      λ some. let no = rw c.from_residual.ensures at some in absurd (cc),
+      λ f. absurd (c.in_err-value_at.ensures (fits_at c.args.self _ (max c.args.self.places c.args.other.places) places (omega arith) (omega arith) f.0)),
+    )
 
 pub returns-in_err-value_at-2-clause-exact : goal.returns-in_err-value_at-2-clause-exact
 returns-in_err-value_at-2-clause-exact c =
     let places : c.max-places.result ≡ max c.args.self.places c.args.other.places =
-    omega (arith, c.max-places.ensures, ap (λ (a : Amount). a.places) c.self.view_is, ap (λ (a : Amount). a.places) c.other.view_is) in
-    (
-  λ some. let no = rw c.from_residual-in_err-value_at-2.ensures at some in absurd (cc),
-  λ f. absurd (c.in_err-value_at-2.ensures (fits_at c.args.other _ (max c.args.self.places c.args.other.places) places (omega arith) (omega arith) f.1)),
-)
+    omega (arith, c.max-places.ensures, ap (λ (a : Amount). a.places) c.self.view_is, ap (λ (a : Amount). a.places) c.other.view_is) in (
+      λ some. let no = rw c.from_residual-in_err-value_at-2.ensures at some in absurd (cc),
+      λ f. absurd (c.in_err-value_at-2.ensures (fits_at c.args.other _ (max c.args.self.places c.args.other.places) places (omega arith) (omega arith) f.1)),
+    )
 
 pub returns-clause-given : goal.returns-clause-given
 returns-clause-given c =
