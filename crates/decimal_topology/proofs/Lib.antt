@@ -1,3 +1,4 @@
+pub mod Areas
 pub mod Arcs
 pub mod Parts
 pub mod SinkLemmas

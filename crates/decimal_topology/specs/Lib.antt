@@ -1,3 +1,4 @@
 pub mod Turning
 pub mod Unit
 pub mod TopologyText
+pub mod Laws

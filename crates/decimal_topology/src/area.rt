@@ -1,19 +1,23 @@
 //! Areas along arcs, exactly.
 ghost use Rattle.decimal_topology.specs.Turning.{area_along, area_from, cross as spec_cross};
-ghost use Rattle.std.specs.Prelude.{◌≡◌, ◌<◌, [], IfOk, IfSome, get_or, length, map};
+ghost use Rattle.std.specs.Prelude.{◌≡◌, ◌<◌, ◌*ℤ◌, [], IfOk, IfSome, get_or, length, map};
 
-use crate::fault::DecimalFault;
 use chains::table::ArcTable;
+use faults::OutOfMemory;
 use grid::Pos;
 use std::alloc::Global;
 
-/// Twice the area of the triangle of 0 and two positions, greater than 0 where they turn counterclockwise.
-fn cross(a: Pos, b: Pos) -> i128
-    ensures { result ≡ spec_cross a b }
+fn product(a: i64, b: i64) -> i128
+    ensures { result ≡ (a *ℤ b) }
 {
-    let (ax, ay) = (i128::from(a.x()), i128::from(a.y()));
-    let (bx, by) = (i128::from(b.x()), i128::from(b.y()));
-    ax * by - bx * ay
+    i128::from(a) * i128::from(b)
+}
+
+/// Twice the area of the triangle of 0 and two positions, greater than 0 where they turn counterclockwise.
+fn cross(a: Pos, b: Pos) -> Option<i128>
+    ensures { IfSome result (λ c. c ≡ spec_cross a b) }
+{
+    product(a.x(), b.y()).checked_sub(product(b.x(), a.y()))
 }
 
 fn area_from(first: Pos, others: &[Pos]) -> Option<i128>
@@ -22,7 +26,7 @@ fn area_from(first: Pos, others: &[Pos]) -> Option<i128>
     let mut area = 0i128;
     let mut before = first;
     for position in others {
-        area = area.checked_add(cross(before, *position))?;
+        area = area.checked_add(cross(before, *position)?)?;
         before = *position;
     }
     Some(area)
@@ -51,13 +55,13 @@ fn area_of(arcs: &ArcTable, number: usize) -> Option<i128>
 }
 
 /// The areas along all arcs.
-pub(crate) fn areas_of(alloc: Global, arcs: &ArcTable) -> Result<Vec<i128>, DecimalFault>
+pub(crate) fn areas_of(alloc: Global, arcs: &ArcTable) -> Result<Vec<i128>, OutOfMemory>
     ensures { IfOk result (λ areas. areas.items ≡ map area_along arcs.now.arcs) }
 {
     let mut areas = Vec::new(alloc);
     for number in 0..arcs.len() {
         let Some(along) = area_of(arcs, number) else {
-            return Err(DecimalFault::OutOfMemory);
+            return Err(OutOfMemory);
         };
         areas.push(along)?;
     }

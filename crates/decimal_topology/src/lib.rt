@@ -7,6 +7,7 @@
 mod area;
 mod fault;
 mod geometries;
+pub mod laws;
 mod turning;
 mod units;
 mod writer;

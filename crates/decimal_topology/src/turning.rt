@@ -1,11 +1,11 @@
 //! Rings that are turned as they are wanted.
 ghost use Rattle.decimal_topology.specs.Turning.{area_of, rewound_body, rewound_geometry, rewound_layer, rewound_ring, rewound_rings, ring_area, turned_to, turns_wrong, wanted as wanted_of};
-ghost use Rattle.std.specs.Prelude.{◌≡◌, ◌++◌, IfOk, IfSome, OnOk, if◌then◌else◌, map};
+ghost use Rattle.std.specs.Prelude.{◌≡◌, ◌++◌, IfOk, IfSome, OnOk, if◌then◌else◌, false, map};
 ghost use Rattle.theory.specs.ArcNumbers as spec;
 ghost use Rattle.theory.specs.ArcNumbers.{backwards};
 
-use crate::fault::DecimalFault;
 use chains::table::ArcRef;
+use faults::OutOfMemory;
 use fixing::Rewind;
 use lines::items::Items;
 use std::alloc::{AllocError, Global};
@@ -105,13 +105,13 @@ impl Turning {
         alloc: Global,
         ring: &[ArcRef],
         is_outer: bool,
-    ) -> Result<Items<ArcRef>, DecimalFault>
+    ) -> Result<Items<ArcRef>, OutOfMemory>
         ensures { IfOk result (λ r. r ≡ rewound_ring self.now.areas.items self.now.rewind is_outer ring.now) }
     {
         match wanted(self.rewind, is_outer) {
             Some(counterclockwise) => match self.of_ring(ring) {
                 Some(area) => Ok(turned(alloc, ring, is_wrong(counterclockwise, area))?),
-                None => Err(DecimalFault::OutOfMemory),
+                None => Err(OutOfMemory),
             },
             None => Ok(turned(alloc, ring, false)?),
         }
@@ -123,7 +123,7 @@ impl Turning {
         alloc: Global,
         rings: &mut Vec<Items<ArcRef>>,
         holes: &[Items<ArcRef>],
-    ) -> Result<(), DecimalFault>
+    ) -> Result<(), OutOfMemory>
         ensures { OnOk result (rings.new.items ≡ rings.old.items ++ map (rewound_ring self.now.areas.items self.now.rewind false) holes.now) }
     {
         for hole in holes {
@@ -137,7 +137,7 @@ impl Turning {
         &self,
         alloc: Global,
         rings: &[Items<ArcRef>],
-    ) -> Result<Items<Items<ArcRef>>, DecimalFault>
+    ) -> Result<Items<Items<ArcRef>>, OutOfMemory>
         ensures { IfOk result (λ r. r ≡ rewound_rings self.now.areas.items self.now.rewind rings.now) }
     {
         let mut made = Vec::new(alloc);
@@ -152,7 +152,7 @@ impl Turning {
         &self,
         alloc: Global,
         polygons: &[Items<Items<ArcRef>>],
-    ) -> Result<Items<Items<Items<ArcRef>>>, DecimalFault>
+    ) -> Result<Items<Items<Items<ArcRef>>>, OutOfMemory>
         ensures { IfOk result (λ r. r ≡ map (rewound_rings self.now.areas.items self.now.rewind) polygons.now) }
     {
         let mut made = Vec::new(alloc);
@@ -162,7 +162,7 @@ impl Turning {
         Ok(Items::from_vec(made))
     }
 
-    fn body(&self, alloc: Global, body: &Body) -> Result<Body, DecimalFault>
+    fn body(&self, alloc: Global, body: &Body) -> Result<Body, OutOfMemory>
         ensures { IfOk result (λ b. b ≡ rewound_body self.now.areas.items self.now.rewind body.now) }
     {
         match body {
@@ -175,7 +175,7 @@ impl Turning {
         }
     }
 
-    fn geometry(&self, alloc: Global, geometry: &Geom) -> Result<Geom, DecimalFault>
+    fn geometry(&self, alloc: Global, geometry: &Geom) -> Result<Geom, OutOfMemory>
         ensures { IfOk result (λ g. g ≡ rewound_geometry self.now.areas.items self.now.rewind geometry.now) }
     {
         let id = geometry.id.copy(alloc)?;
@@ -184,7 +184,7 @@ impl Turning {
         Ok(Geom { id, props, body })
     }
 
-    fn layer(&self, alloc: Global, layer: &Layer) -> Result<Layer, DecimalFault>
+    fn layer(&self, alloc: Global, layer: &Layer) -> Result<Layer, OutOfMemory>
         ensures { IfOk result (λ l. l ≡ rewound_layer self.now.areas.items self.now.rewind layer.now) }
     {
         let mut geometries = Vec::new(alloc);
@@ -196,7 +196,7 @@ impl Turning {
     }
 
     /// The layers with their rings turned.
-    pub(crate) fn layers(&self, alloc: Global, layers: &[Layer]) -> Result<Vec<Layer>, DecimalFault>
+    pub(crate) fn layers(&self, alloc: Global, layers: &[Layer]) -> Result<Vec<Layer>, OutOfMemory>
         ensures { IfOk result (λ ls. ls.items ≡ map (rewound_layer self.now.areas.items self.now.rewind) layers.now) }
     {
         let mut made = Vec::new(alloc);

@@ -19,17 +19,21 @@ use sinks::{Kept, Sink, WriteFault};
 use std::alloc::Global;
 use topo::topology::{Layer, Topology};
 
-/// Two texts with a comma between them, behind a head and before a tail.
+/// Two texts with a comma between, behind a head and before a tail.
 fn write_both<W: Sink>(
     head: &[u8],
-    texts: (&str, &str),
+    first: &str,
+    second: &str,
     tail: &[u8],
     out: &mut W,
 ) -> Result<(), WriteFault>
-    ensures { OnOk result (TookAll (W.seen out.old) (W.seen out.new) (head.now ++ (texts.0.now ++ (codes "," ++ (texts.1.now ++ tail.now))))) }
+    ensures { OnOk result (TookAll (W.seen out.old) (W.seen out.new) (head.now ++ (first.now ++ (codes "," ++ (second.now ++ tail.now))))) }
 {
-    let second = Then(Text(b","), Then(Text(texts.1.as_bytes()), Text(tail)));
-    Then(Text(head), Then(Text(texts.0.as_bytes()), second)).write(out)
+    let rest = Then(
+        Text(b","),
+        Then(Text(second.as_bytes()), Text(tail)),
+    );
+    Then(Text(head), Then(Text(first.as_bytes()), rest)).write(out)
 }
 
 /// The member `transform`. The differences in the arcs are steps of the scale.
@@ -45,13 +49,10 @@ fn write_transform<W: Sink>(
     let (scale, translate) = (grid.scale(), grid.translate());
     let (width, height) = (units.length(alloc, scale.0)?, units.length(alloc, scale.1)?);
     let (x, y) = (units.x(alloc, translate.0)?, units.y(alloc, translate.1)?);
-    write_both(
-        b"\"transform\":{\"scale\":[",
-        (width.as_str(), height.as_str()),
-        b"]",
-        out,
-    )?;
-    Ok(write_both(b",\"translate\":[", (x.as_str(), y.as_str()), b"]},", out)?)
+    let head = b"\"transform\":{\"scale\":[";
+    write_both(head, width.as_str(), height.as_str(), b"]", out)?;
+    write_both(b",\"translate\":[", x.as_str(), y.as_str(), b"]},", out)?;
+    Ok(())
 }
 
 /// The member `bbox`, where there is a position.
@@ -69,8 +70,9 @@ fn write_bbox<W: Sink>(
     };
     let (west, south) = (units.x(alloc, west)?, units.y(alloc, south)?);
     let (east, north) = (units.x(alloc, east)?, units.y(alloc, north)?);
-    write_both(b"\"bbox\":[", (west.as_str(), south.as_str()), b",", out)?;
-    Ok(write_both(b"", (east.as_str(), north.as_str()), b"],", out)?)
+    write_both(b"\"bbox\":[", west.as_str(), south.as_str(), b",", out)?;
+    write_both(b"", east.as_str(), north.as_str(), b"],", out)?;
+    Ok(())
 }
 
 /// The members `objects` and `arcs`, and the end of the text.
@@ -100,7 +102,8 @@ fn write_turned<W: Sink>(
         rewind,
     };
     let layers = turning.layers(alloc, topology.layers())?;
-    Ok(write_content(layers.as_slice(), topology.arcs(), out)?)
+    write_content(layers.as_slice(), topology.arcs(), out)?;
+    Ok(())
 }
 
 /// The text of a topology in the unit of the map: `type` first, the numbers of the transform and the bounding box
