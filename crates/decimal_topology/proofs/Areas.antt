@@ -1,5 +1,5 @@
 -- Areas along lists of positions, and along those that arcs stitch to.
-use Rattle.std.proofs.Common.{◌≡◌, ℕ, zero, suc, ℤ, pos, negsuc, ◌+ℤ◌, ◌-ℤ◌, ◌*ℤ◌, neg_ℤ, Bool, true, false, not, cond, List, [], ◌∷◌, ◌++◌, map, reverse, get_or, Option, Some, None, refl, sym, ap, ◌∙◌, arith, inl, inr}
+use Rattle.std.proofs.Common.{◌≡◌, ℕ, zero, suc, ◌+◌, ◌<◌, length, drop, ℤ, pos, negsuc, ◌+ℤ◌, ◌-ℤ◌, ◌*ℤ◌, neg_ℤ, Bool, true, false, not, cond, List, [], ◌∷◌, ◌++◌, map, reverse, get_or, Option, Some, None, refl, sym, ap, ◌∙◌, arith, inl, inr}
 use Rattle.std.proofs.lemmas.Bool.{cases_Bool}
 use Rattle.std.proofs.lemmas.Int.{ints}
 use Rattle.std.proofs.lemmas.List.{reverse-append}
@@ -104,3 +104,16 @@ pub areas_add_up : AreasAddUp
 areas_add_up arcs [] l e = rw e refl
 areas_add_up arcs (a ∷ ring) [] h = absurd h
 areas_add_up arcs (a ∷ ring) (x ∷ r) h = stitched_area arcs x (a ∷ ring) r h
+
+-- one position more
+pub area_step : (area sum c : ℤ) (before item first : Pos) (others : List Pos) (i : ℕ) → i < length others → item ≡ get_or others i item → sum ≡ area +ℤ c → c ≡ cross before item
+    → area +ℤ area_from before (drop i others) ≡ area_from first others → sum +ℤ area_from item (drop (i + 1) others) ≡ area_from first others
+area_step area sum c before item first others i within is added crossed so_far =
+    let front : drop i others ≡ item ∷ drop (i + 1) others = drop_step others i item within is in
+    let whole : area +ℤ (cross before item +ℤ area_from item (drop (i + 1) others)) ≡ area_from first others = ap (λ l. area +ℤ area_from before l) (sym front) ∙ so_far in
+    rw (added, crossed) (omega (arith, ints)) ∙ whole
+  where
+    drop_step : (others : List Pos) (i : ℕ) (item : Pos) → i < length others → item ≡ get_or others i item → drop i others ≡ item ∷ drop (i + 1) others
+    drop_step [] i item within is = absurd (omega arith)
+    drop_step (p ∷ ps) zero item within is = ap (λ q. q ∷ ps) (sym is)
+    drop_step (p ∷ ps) (suc i) item within is = let e : suc i + 1 ≡ suc (i + 1) = omega arith in rw e (drop_step ps i item (omega arith) is)

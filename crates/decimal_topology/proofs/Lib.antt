@@ -2,3 +2,4 @@ pub mod Areas
 pub mod Arcs
 pub mod Parts
 pub mod SinkLemmas
+pub mod Whole

@@ -130,23 +130,28 @@ impl<'a> Written for BodyText<'a> {
             Body::MultiPoint(ps) => Then(
                 Text(b"\"MultiPoint\",\"coordinates\":"),
                 Listed(ps.as_slice(), &GridNumbers),
-            ).write(sink),
+            )
+            .write(sink),
             Body::Line(used) => Then(
                 Text(b"\"LineString\",\"arcs\":"),
                 Listed(used.as_slice(), &Indexes),
-            ).write(sink),
+            )
+            .write(sink),
             Body::MultiLine(lines) => Then(
                 Text(b"\"MultiLineString\",\"arcs\":"),
                 Listed(lines.as_slice(), &Lists(Indexes)),
-            ).write(sink),
+            )
+            .write(sink),
             Body::Polygon(rings) => Then(
                 Text(b"\"Polygon\",\"arcs\":"),
                 Listed(rings.as_slice(), &Lists(Indexes)),
-            ).write(sink),
+            )
+            .write(sink),
             Body::MultiPolygon(polygons) => Then(
                 Text(b"\"MultiPolygon\",\"arcs\":"),
                 Listed(polygons.as_slice(), &Lists(Lists(Indexes))),
-            ).write(sink),
+            )
+            .write(sink),
         }
     }
 }
@@ -175,10 +180,7 @@ impl Notation<Geom> for Geometries {
     ghost text = { λ _ g. geometry_text g };
 
     fn write_value<W: Sink>(&self, value: &Geom, sink: &mut W) -> Result<(), WriteFault> {
-        let body = Then(
-            Text(b"\"type\":"),
-            Then(BodyText(&value.body), Text(b"}")),
-        );
+        let body = Then(Text(b"\"type\":"), Then(BodyText(&value.body), Text(b"}")));
         let members = Then(
             IdMember(&value.id),
             Then(PropertiesMember(&value.props), body),

@@ -41,12 +41,7 @@ impl Units {
     }
 }
 
-fn place(
-    alloc: Global,
-    step: &Step,
-    origin: Decimal,
-    steps: i64,
-) -> Result<String, DecimalFault>
+fn place(alloc: Global, step: &Step, origin: Decimal, steps: i64) -> Result<String, DecimalFault>
     ensures text { IfOk result (λ t. string_bytes t ≡ amount_text (place_of step.now origin steps)) }
     ensures refused { result ≡ Err DecimalFault.TooManyDigits → ¬ HasPlace step.now origin steps }
 {

@@ -29,10 +29,7 @@ fn write_both<W: Sink>(
 ) -> Result<(), WriteFault>
     ensures { OnOk result (TookAll (W.seen out.old) (W.seen out.new) (head.now ++ (first.now ++ (codes "," ++ (second.now ++ tail.now))))) }
 {
-    let rest = Then(
-        Text(b","),
-        Then(Text(second.as_bytes()), Text(tail)),
-    );
+    let rest = Then(Text(b","), Then(Text(second.as_bytes()), Text(tail)));
     Then(Text(head), Then(Text(first.as_bytes()), rest)).write(out)
 }
 
@@ -76,11 +73,7 @@ fn write_bbox<W: Sink>(
 }
 
 /// The members `objects` and `arcs`, and the end of the text.
-fn write_content<W: Sink>(
-    layers: &[Layer],
-    arcs: &ArcTable,
-    out: &mut W,
-) -> Result<(), WriteFault>
+fn write_content<W: Sink>(layers: &[Layer], arcs: &ArcTable, out: &mut W) -> Result<(), WriteFault>
     ensures { OnOk result (TookAll (W.seen out.old) (W.seen out.new) (content_text layers.now arcs.now.arcs)) }
 {
     let tail = Then(Text(b"},\"arcs\":["), Then(ArcsText(arcs), Text(b"]}")));
