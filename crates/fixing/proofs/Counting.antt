@@ -1,5 +1,5 @@
 -- What was fixed, counted.
-use Rattle.std.proofs.Common.{◌≡◌, ℕ, List, [], ◌∷◌, ◌++◌, refl, sym, ap, ◌∙◌, append_assoc, Result, Ok, Err, IfOk}
+use Rattle.std.proofs.Common.{◌≡◌, ℕ, List, [], ◌∷◌, ◌++◌, sym, ap, ◌∙◌, append_assoc, Result, Ok, Err, IfOk}
 use Rattle.theory.proofs.Lists.{append_nil}
 use Rattle.fixing.specs.Counted.{IsCounted}
 use Rattle.fixing.specs.Counts.{AreCounted, no_fixes, sum_of_fixes, told, told_from, total_from}

@@ -1,5 +1,5 @@
 -- Whether a ray crosses a segment, in the form of the code.
-use Rattle.std.proofs.Common.{◌≡◌, ◌<◌, ◌≤◌, ℕ, Bool, true, false, cond, not, List, [], ◌∷◌, ◌⊎◌, inl, inr, length, min, take, refl, sym, ap, ◌∙◌, subst, arith, ℤ, FitsSigned, to_z, of_z, int_lt}
+use Rattle.std.proofs.Common.{◌≡◌, ℕ, Bool, true, false, cond, not, List, [], ◌∷◌, inl, inr, length, min, take, refl, sym, ap, ◌∙◌, arith, ℤ, FitsSigned, to_z, of_z, int_lt}
 use Rattle.std.proofs.lemmas.Int.{to_z-of_z}
 use Rattle.std.proofs.lemmas.List.{take_all}
 use Rattle.std.proofs.lemmas.Bool.{cases_lt}

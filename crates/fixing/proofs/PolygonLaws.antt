@@ -1,5 +1,5 @@
 -- The rings of what is left of a polygon.
-use Rattle.std.proofs.Common.{◌≡◌, ℕ, zero, suc, Bool, true, false, cond, not, List, [], ◌∷◌, ◌++◌, length, nat_lt, refl, subst, Option, Some, None, option_and_then}
+use Rattle.std.proofs.Common.{◌≡◌, ℕ, zero, suc, Bool, true, false, cond, not, List, [], ◌∷◌, length, nat_lt, refl, subst, Option, Some, None, option_and_then}
 use Rattle.grid.specs.declared.pos.Pos.{Pos}
 use Rattle.theory.specs.Lists.{Each}
 use Rattle.theory.specs.TopologyFunction.{keep}

@@ -1,15 +1,14 @@
 -- Lines and polygons without a fault.
-use Rattle.std.proofs.Common.{◌≡◌, Bool, true, false, List, [], ◌∷◌, ◌++◌, map, refl, sym, ap, ◌∙◌, subst, append_assoc, Option, Some, None, option_and_then}
+use Rattle.std.proofs.Common.{◌≡◌, Bool, true, false, List, [], ◌∷◌, ◌++◌, map, refl, sym, ap, ◌∙◌, append_assoc, Option, Some, option_and_then}
 use Rattle.std.specs.Option.{option_map}
 use Rattle.grid.specs.declared.pos.Pos.{Pos}
 use Rattle.theory.specs.Lists.{Each}
 use Rattle.theory.proofs.Lists.{append_nil}
 use Rattle.fixing.specs.Left.{all_counted, all_left, counted, ring_left}
-use Rattle.fixing.specs.Measures.{rewound, turns_left}
+use Rattle.fixing.specs.Measures.{turns_left}
 use Rattle.fixing.specs.Polygons.{polygon_kept, polygon_left, polygons_of_loops, put_holes, rewound_from, rewound_polygon, with_holes}
 use Rattle.fixing.specs.declared.linework.Need.{Need}
 use Rattle.fixing.specs.declared.rules.Fixes.{Fixes}
-use Rattle.fixing.specs.declared.rules.Rewind.{Rewind}
 use Rattle.fixing.specs.declared.rules.Rewind.TheVariants.{Keep}
 use Rattle.fixing.specs.declared.rules.Rules.{Rules}
 

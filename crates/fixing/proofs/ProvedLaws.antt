@@ -14,7 +14,6 @@ use Rattle.fixing.specs.Laws as law
 use Rattle.fixing.specs.Left.{counted, is_refusing, left_by, line_left, line_need, need_of, ring_need}
 use Rattle.fixing.specs.Loops.{loops_of}
 use Rattle.fixing.specs.Runs.{runs_of}
-use Rattle.fixing.specs.declared.linework.Need.{Need}
 use Rattle.fixing.specs.declared.linework.Need.TheVariants.{Drop, Split}
 use Rattle.fixing.specs.declared.rules.Rules.{Rules}
 use Rattle.fixing.proofs.LoopLaws as loop

@@ -1,11 +1,11 @@
 -- What the runs of a line are.
-use Rattle.std.proofs.Common.{◌≡◌, ◌≤◌, Bool, true, false, cond, List, [], ◌∷◌, ◌++◌, ◌⊎◌, inl, inr, length, refl, sym, ap, ◌∙◌, subst, append_assoc, arith, Option, Some, None}
+use Rattle.std.proofs.Common.{◌≡◌, ◌≤◌, Bool, true, false, cond, List, [], ◌∷◌, ◌++◌, inl, inr, length, refl, sym, ap, ◌∙◌, subst, append_assoc, arith}
 use Rattle.std.specs.Cmp.{tied_itself}
 use Rattle.std.specs.Ordering.{is_eq, is_lt}
 use Rattle.grid.specs.declared.pos.Pos.{Pos}
 use Rattle.theory.specs.LinesAndRings.{IsLine, Trail}
-use Rattle.theory.specs.Lists.{Begins, Beside, Distinct, Each, Has, Steps, gathered, last_of}
-use Rattle.theory.proofs.Lists.{Has-append, Has-append_left, Has-append_right, append_nil, last-snoc}
+use Rattle.theory.specs.Lists.{Beside, Distinct, Each, Has, Steps, gathered, last_of}
+use Rattle.theory.proofs.Lists.{Has-append_left, Has-append_right, append_nil, last-snoc}
 use Rattle.lines.specs.Pairs.{pair_cmp, pair_of}
 use Rattle.lines.specs.Positions.{position_same, position_total}
 use Rattle.lines.specs.Reading.{collapsed}

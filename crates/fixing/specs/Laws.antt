@@ -1,11 +1,11 @@
 -- The laws of what is left of lines and rings.
-use Rattle.std.specs.Prelude.{◌≡◌, ◌≢◌, ℕ, ◌+◌, ℤ, pos, ◌-ℤ◌, List, [], ◌∷◌, Bool, false, Some, None, FitsSigned}
+use Rattle.std.specs.Prelude.{◌≡◌, ◌≢◌, ℕ, ◌+◌, pos, ◌-ℤ◌, List, [], ◌∷◌, Bool, false, Some, None, FitsSigned}
 use Rattle.grid.specs.declared.pos.Pos.{Pos}
 use Rattle.lines.specs.Reading.{collapsed, line_fault, ring_fault}
 use Rattle.lines.specs.Segments.{segments_of}
 use Rattle.lines.specs.Turned.{position_cmp}
 use Rattle.lines.specs.declared.pair.Pair.{Pair}
-use Rattle.theory.specs.LinesAndRings.{IsLine, IsRing, closed}
+use Rattle.theory.specs.LinesAndRings.{IsRing, closed}
 use Rattle.theory.specs.Lists.{Distinct, Each, gathered, last_of}
 use Rattle.fixing.specs.Left.{all_counted, all_left, counted, line_left, line_need, ring_left, ring_need}
 use Rattle.fixing.specs.Loops.{loops_of}

@@ -1,5 +1,5 @@
 -- Rings that use a segment twice, cut into loops.
-use Rattle.std.specs.Prelude.{ℕ, suc, zero, Bool, true, false, cond, List, [], ◌∷◌, ◌++◌, length, nat_lt, Option, Some, None}
+use Rattle.std.specs.Prelude.{ℕ, suc, zero, cond, List, [], ◌∷◌, ◌++◌, length, nat_lt, Option, Some, None}
 use Rattle.std.specs.Option.{option_map}
 use Rattle.grid.specs.declared.pos.Pos.{Pos}
 use Rattle.lines.specs.Pairs.{position_eq}

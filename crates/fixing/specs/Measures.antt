@@ -1,5 +1,5 @@
 -- How rings turn, and on which side of them places lie. Arithmetic is that of 128 bits.
-use Rattle.std.specs.Prelude.{ℕ, ℤ, pos, ◌*ℤ◌, ◌-ℤ◌, ◌+ℤ◌, Bool, true, false, cond, not, List, [], ◌∷◌, int_lt, nat_lt, take, reverse}
+use Rattle.std.specs.Prelude.{ℕ, ℤ, pos, ◌*ℤ◌, ◌-ℤ◌, ◌+ℤ◌, Bool, false, cond, not, List, [], ◌∷◌, int_lt, nat_lt, take, reverse}
 use Rattle.std.specs.Int.{int_wrap, int_wrapping_add, int_wrapping_sub, int_wrapping_mul}
 use Rattle.grid.specs.declared.pos.Pos.{Pos}
 use Rattle.fixing.specs.Left.{one_more}

@@ -1,4 +1,4 @@
-use Rattle.std.proofs.Common.{◌≡◌, sym, ap, ◌∙◌, subst, rules}
+use Rattle.std.proofs.Common.{◌≡◌, sym, ap, ◌∙◌, rules}
 use Rattle.lines.specs.Reading.{ring_fault}
 use Rattle.lines.specs.Turned.{position_cmp}
 use Rattle.fixing.proofs.Judged.{not_refused, refused_with}

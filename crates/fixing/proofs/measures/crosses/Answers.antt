@@ -1,8 +1,7 @@
-use Rattle.std.proofs.Common.{◌≡◌, FitsSigned, refl, rules, int_lt}
+use Rattle.std.proofs.Common.{◌≡◌, refl, rules, int_lt}
 use Rattle.fixing.specs.Measures.{doubled, spread}
 use Rattle.fixing.proofs.CrossSteps.{doubled_told, downwards, less_told, one_side, passed, spread_told, upwards}
 use Rattle.fixing.proofs.measures.crosses.Goals as goal
-use mir.Syntax.{w64, w128}
 
 pub returns-then-is_same : goal.returns-then-is_same
 returns-then-is_same c =

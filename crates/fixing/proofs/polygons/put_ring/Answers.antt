@@ -1,4 +1,4 @@
-use Rattle.std.proofs.Common.{◌≡◌, ◌++◌, ◌∷◌, [], ◌∙◌, ap, arith}
+use Rattle.std.proofs.Common.{◌++◌, ◌∷◌, [], ◌∙◌, ap, arith}
 use Rattle.fixing.proofs.PolygonSteps.{put_past, put_told}
 use Rattle.fixing.proofs.polygons.put_ring.Goals as goal
 

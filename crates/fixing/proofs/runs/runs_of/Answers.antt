@@ -1,4 +1,4 @@
-use Rattle.std.proofs.Common.{◌≡◌, ◌+◌, ◌∙◌, refl, sym, ap, drop}
+use Rattle.std.proofs.Common.{◌+◌, ◌∙◌, refl, sym, ap, drop}
 use Rattle.std.specs.List.{dedup}
 use Rattle.std.proofs.lemmas.List.Filters.{dedup_is}
 use Rattle.lines.specs.Reading.{collapsed}

@@ -1,6 +1,5 @@
 use Rattle.std.proofs.Common.{◌≡◌, ◌+◌, ◌∙◌, sym, ap, Some, arith}
 use Rattle.std.specs.BTreeMap.{get}
-use Rattle.grid.specs.declared.pos.Pos.{Pos}
 use Rattle.lines.specs.Turned.{position_cmp}
 use Rattle.fixing.specs.Loops.{place_on}
 use Rattle.fixing.specs.Seen.{lists_in}
