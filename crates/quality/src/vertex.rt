@@ -1,7 +1,7 @@
 //! Vertices, and which of them are near each other.
 ghost use Rattle.grid.specs.Fits.{x_of};
 ghost use Rattle.quality.specs.Near.{are_apart, are_near, beyond, has_feature, other_feature, over, within};
-ghost use Rattle.std.specs.Prelude.{◌≡◌, not};
+ghost use Rattle.std.specs.Prelude.{◌≡◌, not, true, IfSome};
 
 use grid::pos::Pos;
 
@@ -42,14 +42,42 @@ fn has(uses: &[VertexUse], feature: usize) -> bool
     false
 }
 
-/// The first feature that has a vertex and not another one.
+/// Where one of the uses from a number on is by a feature.
+#[tactic(auto, using(crate::proofs::Had::found_has))]
+fn find_from(uses: &[VertexUse], feature: usize, from: usize) -> Option<usize>
+    ensures { IfSome result (λ _. has_feature feature uses.now ≡ true) }
+{
+    for number in from..uses.len() {
+        if uses[number].feature == feature {
+            return Some(number);
+        }
+    }
+    None
+}
+
+/// Whether one of the uses is by a feature, and from where on to look for the next greater one: those from there on are
+/// looked at first. So uses in the order of features are passed once for all features that are there.
+fn has_from(uses: &[VertexUse], feature: usize, from: usize) -> (bool, usize)
+    ensures { result.0 ≡ has_feature feature uses.now }
+{
+    match find_from(uses, feature, from) {
+        Some(number) => (true, number),
+        None => (has(uses, feature), from),
+    }
+}
+
+/// The first feature that has a vertex and not another one. If the uses of both are in the order of features, each is
+/// passed twice at most.
 pub fn feature_alone(one: Vertex, other: Vertex) -> Option<usize>
     ensures { result ≡ other_feature one.entry.uses.now other.entry.uses.now }
 {
+    let mut from = 0;
     for used in one.uses {
-        if !has(other.uses, used.feature) {
+        let (is_there, next) = has_from(other.uses, used.feature, from);
+        if !is_there {
             return Some(used.feature);
         }
+        from = next;
     }
     None
 }

@@ -170,6 +170,7 @@ fn join_texts<'a>(
         if options.counts() {
             vertices.add(&sheet.features)?;
         }
+        let sheet = kept_of(alloc, options, sheet);
         sheets.push((name, sheet))?;
         outcomes.push(outcome)?;
     }
