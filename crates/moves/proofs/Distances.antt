@@ -1,20 +1,27 @@
 -- How far numerals are from the grid, as a ruler measures it.
-use Rattle.std.proofs.Common.{◌≡◌, ◌↔◌, ℕ, zero, suc, ◌+◌, ◌-◌, ◌*◌, ◌/◌, ◌%◌, ◌^◌, ◌<◌, ◌≤◌, min, Bool, true, false, IsTrue, ℤ, pos, ◌-ℤ◌, ◌*ℤ◌, List, inl, inr, refl, sym, subst, ap, ◌∙◌, arith, mul-le-mul_right, mul-le-mul_left, zero-mul}
+use Rattle.std.proofs.Common.{◌≡◌, ◌↔◌, ℕ, zero, suc, ◌+◌, ◌-◌, ◌*◌, ◌/◌, ◌%◌, ◌^◌, ◌<◌, ◌≤◌, min, Bool, true, false, IsTrue, ℤ, pos, negsuc, ◌-ℤ◌, ◌*ℤ◌, List, inl, inr, refl, sym, subst, ap, ◌∙◌, arith, mul-le-mul_right, mul-le-mul_left, zero-mul}
 use Rattle.std.proofs.lemmas.Bool.{cases_lt}
 use Rattle.std.proofs.lemmas.Int.{ints, unsigned_abs-mul}
 use Rattle.std.proofs.lemmas.Nat.{pow-add, div-add-mod', mod_below}
 use Rattle.std.specs.Prelude.{unsigned_abs}
 use Rattle.fast_float.proofs.ExactLemmas.{ten_to_pos}
-use Rattle.fast_float.specs.Text.{tens_down}
+use Rattle.fast_float.specs.Text.{tens_down, with_sign}
 use Rattle.decimals.specs.Amount.{Amount, amount}
 use Rattle.decimals.specs.Numeral.{Measure, IsMeasure, numerator, denominator, dividend, divisor, parts_of}
 use Rattle.decimals.specs.Offset.{IsNear as IsNearAt, IsOffset, IsOffsetOf, difference_of, numeral_at}
 use Rattle.decimals.specs.declared.origin.Offset.{Offset}
-use Rattle.decimals.proofs.Keeping.{join, some_divisor}
+use Rattle.decimals.proofs.Nearest.{below_times}
 use Rattle.moves.specs.Distance.{IsNear, IsRuler, away, distance_of, nearest_of, rounded_up}
 use Rattle.moves.specs.Laws.{OnTheGridIsNotMoved}
 use Rattle.moves.specs.declared.distance.Ruler.{Ruler}
 use Rattle.moves.proofs.Ceilings.{IsCeiling, ceiling_of, ceiling_scaled, ceiling_twice, left_scaled, nearest_is, one_ceiling, one_left}
+
+join : (p : ℤ) (a b : ℕ) → (p *ℤ pos a) *ℤ pos b ≡ p *ℤ pos (a * b)
+join (pos q) a b = ap pos (omega arith)
+join (negsuc k) a b = below_times (suc k * a) b ∙ ap (with_sign true) (omega arith)
+
+some_divisor : (s : Measure) (text : List ℕ) → IsMeasure s → 0 < divisor s text
+some_divisor s text h = omega (arith, mul-le-mul_right (denominator text) h.some, ten_to_pos (tens_down (parts_of text)))
 
 -- a numeral in the units of a ruler
 pub in_units : (s : Measure) (text : List ℕ) (further : ℕ) → unsigned_abs (numeral_at (s.places + further) text) ≡ unsigned_abs (dividend s text) * 10 ^ further
@@ -63,7 +70,7 @@ measured n d t u v q b c x e some times fine units tens same low high exact near
     let w = min m (u * b - m) in
     let left : (n % d) * t ≡ m = left_in_units n d t u q b e some times units same low high in
     let near : IsCeiling w b c = rw nearest (nearest_is u b (q % u) r e (mod_below q u units) (omega (arith, low, high))
-        (λ z. omega (arith, exact.0 z), λ z. exact.1 (omega (arith, low, z)))) in
+    (λ z. omega (arith, exact.0 z), λ z. exact.1 (omega (arith, low, z)))) in
     let twice : IsCeiling (10000 * w) (10000 * v * b) x = ceiling_twice w b c v x fine near (subst (λ y. IsCeiling (10000 * c) y x) tens ceiling) in
     let whole : IsCeiling (10000 * away n d * t) (d * t) x =
     subst (λ y. IsCeiling y (d * t) x) (ap (λ y. 10000 * min m (y - m)) same ∙ sym (away_scaled n d t m left))
@@ -75,9 +82,6 @@ tens_of size further h =
     let sum : further ≡ 4 + (further - 4) = omega arith in
     let tens : 10 ^ further ≡ 10 ^ 4 * 10 ^ (further - 4) = ap (λ k. 10 ^ k) sum ∙ pow-add 10 4 (further - 4) in
     omega (arith, ap (λ x. size * x) tens)
-
-nearest_at_most : (before u : ℕ) (e : Bool) → before < u → nearest_of before (u - before) e ≤ u
-nearest_at_most before u e less = grind (arith, nearest_of)
 
 pub some_unit : (s : Measure) (r : Ruler) → IsMeasure s → IsRuler s r → 0 < r.unit
 some_unit s r h ruler = omega (arith, ruler.unit, mul-le-mul_right (10 ^ ruler.further) h.some, ten_to_pos ruler.further)
@@ -105,8 +109,8 @@ away_zero n d some =
       λ p.
           let none : n % d ≡ 0 = one_left (n / d) p.0 d (n % d) 0 below some (omega (arith, split, p.1)) in
           zero_from (rounded_up (10000 * away n d) d) (λ more.
-              let one : 1 ≤ rounded_up (10000 * away n d) d = omega arith in
-              omega (arith, none, ceiling.high, mul-le-mul_right d one)),
+          let one : 1 ≤ rounded_up (10000 * away n d) d = omega arith in
+          omega (arith, none, ceiling.high, mul-le-mul_right d one)),
     )
   where
     zero_from : (x : ℕ) → (0 < x → ⊥) → x ≡ 0
