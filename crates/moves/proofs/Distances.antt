@@ -39,7 +39,7 @@ near_at s text r ruler near =
     let d = denominator text in
     let units : unsigned_abs (numeral_at r.origin.places text) ≡ n * t =
     ap (λ (a : Amount). unsigned_abs (numeral_at a.places text)) ruler.origin ∙ in_units s text ruler.further in
-    let scaled : 2 * n * t ≤ (2 ^ 41 + 1) * (s.size * d) * t = mul-le-mul_right t near in
+    let scaled : 2 * n * t ≤ (2 ^ 41 + 1) * (s.size * d) * t = mul-le-mul_right t near.1 in
     let most : s.size * t * d ≤ 10 ^ 17 * d = mul-le-mul_right d ruler.limit in
     omega (arith, units, scaled, most, ten_to_pos (tens_down (parts_of text)))
 
@@ -54,12 +54,25 @@ left_in_units n d t u q b e some times units same low high =
     left_scaled n d t (q / u) ((q % u) * b + (n * t - q * b)) some times (omega (arith, fits, same))
     (omega (arith, low, all, ap (λ x. (q / u) * x) same))
 
-away_scaled : (n d t m : ℕ) → (n % d) * t ≡ m → 10000 * away n d * t ≡ 10000 * min m (d * t - m)
-away_scaled n d t m e =
-    elim (cases_lt (n % d) (d - n % d)) [
-      | inl less ↦ omega (arith, e, mul-le-mul_right t less)
-      | inr more ↦ omega (arith, e, mul-le-mul_right t more)
+away_scaled : (n d t m : ℕ) → 0 < d → (n % d) * t ≡ m → 10000 * away n d * t ≡ 10000 * min m (d * t - m)
+away_scaled n d t m some e =
+    let left = n % d in
+    let behind = d - left in
+    let below : left < d = mod_below n d some in
+    let sum : d ≡ left + behind = omega arith in
+    let all : d * t ≡ left * t + behind * t = scaled_sum d left behind t sum in
+    elim (cases_lt left behind) [
+      | inl less ↦
+          let is : away n d ≡ left = omega arith in
+          let half : left ≤ behind = omega arith in
+          ap (λ x. 10000 * x * t) is ∙ omega (arith, e, all, mul-le-mul_right t half)
+      | inr more ↦
+          let is : away n d ≡ behind = omega arith in
+          ap (λ x. 10000 * x * t) is ∙ omega (arith, e, all, mul-le-mul_right t more)
     ]
+  where
+    scaled_sum : (d a b t : ℕ) → d ≡ a + b → d * t ≡ a * t + b * t
+    scaled_sum d a b t e = rw e (omega arith)
 
 -- what a ruler measures, before it is capped
 measured : (n d t u v q b c x : ℕ) (e : Bool) → 0 < d → 0 < t → 0 < b → 0 < u → u ≡ 10000 * v → u * b ≡ d * t → q * b ≤ n * t → n * t < (q + 1) * b
@@ -73,7 +86,7 @@ measured n d t u v q b c x e some times fine units tens same low high exact near
     (λ z. omega (arith, exact.0 z), λ z. exact.1 (omega (arith, low, z)))) in
     let twice : IsCeiling (10000 * w) (10000 * v * b) x = ceiling_twice w b c v x fine near (subst (λ y. IsCeiling (10000 * c) y x) tens ceiling) in
     let whole : IsCeiling (10000 * away n d * t) (d * t) x =
-    subst (λ y. IsCeiling y (d * t) x) (ap (λ y. 10000 * min m (y - m)) same ∙ sym (away_scaled n d t m left))
+    subst (λ y. IsCeiling y (d * t) x) (ap (λ y. 10000 * min m (y - m)) same ∙ sym (away_scaled n d t m some left))
     (subst (λ y. IsCeiling (10000 * w) y x) (ap (λ y. y * b) (sym tens) ∙ same) twice) in
     one_ceiling (10000 * away n d) d x _ (ceiling_scaled (10000 * away n d) d t x times whole) (ceiling_of (10000 * away n d) d some)
 
