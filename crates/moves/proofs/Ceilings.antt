@@ -2,7 +2,7 @@
 use Rattle.std.proofs.Common.{◌≡◌, ◌↔◌, ℕ, zero, suc, ◌+◌, ◌-◌, ◌*◌, ◌/◌, ◌%◌, ◌<◌, ◌≤◌, ◌^◌, min, Bool, true, false, cond, IsTrue, inl, inr, refl, sym, subst, ap, ◌∙◌, arith, mul-le-mul_right, lt-ltb, le-ltb}
 use Rattle.std.proofs.lemmas.Bool.{cases_lt}
 use Rattle.std.proofs.lemmas.Nat.{div-add-mod', mod_below}
-use Rattle.moves.specs.Distance.{away, rounded_up, nearest_of}
+use Rattle.moves.specs.Distance.{rounded_up, nearest_of}
 
 -- x is a / b rounded up
 pub record IsCeiling (a b x : ℕ) : Type 0 where

@@ -1,12 +1,12 @@
 -- How far numerals are from the grid, as a ruler measures it.
-use Rattle.std.proofs.Common.{◌≡◌, ◌↔◌, ℕ, zero, suc, ◌+◌, ◌-◌, ◌*◌, ◌/◌, ◌%◌, ◌^◌, ◌<◌, ◌≤◌, min, Bool, true, false, IsTrue, ℤ, pos, negsuc, ◌-ℤ◌, ◌*ℤ◌, List, inl, inr, refl, sym, subst, ap, ◌∙◌, arith, mul-le-mul_right, mul-le-mul_left, zero-mul}
+use Rattle.std.proofs.Common.{◌≡◌, ◌↔◌, ℕ, zero, suc, ◌+◌, ◌-◌, ◌*◌, ◌/◌, ◌%◌, ◌^◌, ◌<◌, ◌≤◌, min, Bool, true, IsTrue, ℤ, pos, negsuc, ◌-ℤ◌, ◌*ℤ◌, List, inl, inr, refl, sym, subst, ap, ◌∙◌, arith, mul-le-mul_right, zero-mul}
 use Rattle.std.proofs.lemmas.Bool.{cases_lt}
 use Rattle.std.proofs.lemmas.Int.{ints, unsigned_abs-mul}
 use Rattle.std.proofs.lemmas.Nat.{pow-add, div-add-mod', mod_below}
 use Rattle.std.specs.Prelude.{unsigned_abs}
 use Rattle.fast_float.proofs.ExactLemmas.{ten_to_pos}
 use Rattle.fast_float.specs.Text.{tens_down, with_sign}
-use Rattle.decimals.specs.Amount.{Amount, amount}
+use Rattle.decimals.specs.Amount.{Amount}
 use Rattle.decimals.specs.Numeral.{Measure, IsMeasure, numerator, denominator, dividend, divisor, parts_of}
 use Rattle.decimals.specs.Offset.{IsNear as IsNearAt, IsOffset, IsOffsetOf, difference_of, numeral_at}
 use Rattle.decimals.specs.declared.origin.Offset.{Offset}

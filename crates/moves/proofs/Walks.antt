@@ -1,5 +1,5 @@
 -- Walks that know what was met.
-use Rattle.std.proofs.Common.{◌≡◌, ℕ, List, Option, Some, None, subst}
+use Rattle.std.proofs.Common.{◌≡◌, ℕ, List, Some, None, subst}
 use Rattle.json.specs.Token.{Token}
 use Rattle.decimals.specs.Numeral.{Measure}
 use Rattle.decimal_geojson.specs.declared.place.Place.{Place}

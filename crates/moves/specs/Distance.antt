@@ -1,5 +1,5 @@
 -- How far numerals are from the nearest whole number of steps.
-use Rattle.std.specs.Prelude.{◌≡◌, ℕ, ℤ, pos, ◌+◌, ◌-◌, ◌*◌, ◌/◌, ◌%◌, ◌^◌, ◌<◌, ◌≤◌, min, max, ◌==◌, nat_lt, ◌&&◌, ◌*ℤ◌, Bool, List, [], if◌then◌else◌, unsigned_abs}
+use Rattle.std.specs.Prelude.{◌≡◌, ℕ, pos, ◌+◌, ◌-◌, ◌*◌, ◌/◌, ◌%◌, ◌^◌, ◌≤◌, min, max, ◌==◌, nat_lt, ◌&&◌, ◌*ℤ◌, Bool, List, [], if◌then◌else◌, unsigned_abs}
 use Rattle.decimals.specs.Amount.{amount, amount_text}
 use Rattle.decimals.specs.Numeral.{Measure, IsNumeral, dividend, divisor}
 use Rattle.moves.specs.declared.distance.Moves.{Moves}

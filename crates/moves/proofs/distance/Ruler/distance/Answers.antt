@@ -1,4 +1,4 @@
-use Rattle.std.proofs.Common.{◌≡◌, ◌<◌, ◌≤◌, ◌^◌, arith}
+use Rattle.std.proofs.Common.{◌≤◌, ◌^◌, arith}
 use Rattle.moves.proofs.Ceilings.{ceiling_met}
 use Rattle.moves.proofs.Distances.{distance_is, some_unit}
 use Rattle.moves.proofs.distance.Ruler.distance.Goals as goal

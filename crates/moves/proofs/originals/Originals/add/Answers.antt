@@ -1,8 +1,7 @@
 use Rattle.std.proofs.Common.{◌≡◌, ◌∷◌, refl, sym, ap, ◌∙◌}
 use Rattle.json.specs.Lex.{tokens}
 use Rattle.json.specs.Reads.{token_of}
-use Rattle.decimal_geojson.specs.Place.{place_after}
-use Rattle.moves.specs.Walk.{AreNear, IsMet, met_behind, nothing_met, token_met}
+use Rattle.moves.specs.Walk.{AreNear, met_behind, nothing_met, token_met}
 use Rattle.moves.proofs.originals.Originals.add.Goals as goal
 
 pub loop-token-init : goal.loop-token-init

@@ -1,4 +1,4 @@
-use Rattle.std.proofs.Common.{◌≡◌, Some, None, ap, sym, subst, ◌∙◌}
+use Rattle.std.proofs.Common.{◌≡◌, Some, None, ap, sym, ◌∙◌}
 use Rattle.std.specs.Option.{option_map}
 use Rattle.json.specs.Reads.{token_of}
 use Rattle.moves.specs.Distance.{IsNear}
