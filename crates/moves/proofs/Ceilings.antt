@@ -1,8 +1,8 @@
 -- Fractions rounded up, and how far they are from whole numbers.
-use Rattle.std.proofs.Common.{◌≡◌, ◌↔◌, ℕ, zero, suc, ◌+◌, ◌-◌, ◌*◌, ◌/◌, ◌%◌, ◌<◌, ◌≤◌, min, Bool, true, false, cond, IsTrue, inl, inr, refl, sym, subst, ap, ◌∙◌, arith, mul-le-mul_right, lt-ltb, le-ltb}
+use Rattle.std.proofs.Common.{◌≡◌, ◌↔◌, ℕ, zero, suc, ◌+◌, ◌-◌, ◌*◌, ◌/◌, ◌%◌, ◌<◌, ◌≤◌, ◌^◌, min, Bool, true, false, cond, IsTrue, inl, inr, refl, sym, subst, ap, ◌∙◌, arith, mul-le-mul_right, lt-ltb, le-ltb}
 use Rattle.std.proofs.lemmas.Bool.{cases_lt}
 use Rattle.std.proofs.lemmas.Nat.{div-add-mod', mod_below}
-use Rattle.moves.specs.Distance.{away, rounded_up, nearest_of}
+use Rattle.moves.specs.Distance.{rounded_up, nearest_of}
 
 -- x is a / b rounded up
 pub record IsCeiling (a b x : ℕ) : Type 0 where
@@ -86,7 +86,7 @@ nearest_is u d before r e less rest exact =
     second_half u d before r less second rest =
         let behind = u - before in
         let sum : u ≡ before + behind = omega arith in
-        let all : u * d ≡ before * d + behind * d = rw sum at (whole u d before behind sum) in
+        let all : u * d ≡ before * d + behind * d = whole u d before behind sum in
         let half = mul-le-mul_right d second in
         let some : 1 ≤ behind = omega arith in
         let one = mul-le-mul_right d some in
@@ -111,3 +111,28 @@ nearest_is u d before r e less rest exact =
         left_over : (r : ℕ) → (r ≡ 0 → ⊥) → 0 < r
         left_over zero h = absurd (h refl)
         left_over (suc k) h = omega arith
+
+nearest_at_most : (before u : ℕ) (e : Bool) → before < u → nearest_of before (u - before) e ≤ u
+nearest_at_most before u e less =
+    elim (cases_lt before (u - before)) [
+      | inl first ↦ rw (lt-ltb before (u - before) first) (by_exact e first)
+      | inr second ↦ rw (le-ltb before (u - before) second) (omega arith)
+    ]
+  where
+    by_exact : (e : Bool) → before < u - before → cond e before (before + 1) ≤ u
+    by_exact true first = omega arith
+    by_exact false first = omega arith
+
+-- the limits of the arithmetic are not met
+pub ceiling_met : (q u c above x : ℕ) (e : Bool) → 0 < u → u ≤ 10 ^ 17 → c ≡ nearest_of (q % u) (u - q % u) e
+    → above ≡ min (min (c * 10000) (2 ^ 128 - 1) + (u - 1)) (2 ^ 128 - 1) → x ≡ min (above / u) 10000 → IsCeiling (10000 * c) u x
+ceiling_met q u c above x e some limit nearest sum is =
+    let most : c ≤ u = rw nearest (nearest_at_most (q % u) u e (mod_below q u some)) in
+    let whole : above ≡ 10000 * c + (u - 1) = omega (arith, most, limit, sum) in
+    let ceiling = ceiling_of (10000 * c) u some in
+    let same : x ≡ rounded_up (10000 * c) u =
+    elim (cases_lt 10000 (rounded_up (10000 * c) u)) [
+      | inl more ↦ let next : 10001 ≤ rounded_up (10000 * c) u = omega arith in absurd (omega (arith, ceiling.high, most, mul-le-mul_right u next))
+      | inr less ↦ is ∙ (ap (λ y. min (y / u) 10000) whole ∙ omega arith)
+    ] in
+    subst (λ y. IsCeiling (10000 * c) u y) (sym same) ceiling

@@ -1,20 +1,27 @@
 -- How far numerals are from the grid, as a ruler measures it.
-use Rattle.std.proofs.Common.{◌≡◌, ◌↔◌, ℕ, zero, suc, ◌+◌, ◌-◌, ◌*◌, ◌/◌, ◌%◌, ◌^◌, ◌<◌, ◌≤◌, min, Bool, true, false, IsTrue, ℤ, pos, ◌-ℤ◌, ◌*ℤ◌, List, inl, inr, refl, sym, subst, ap, ◌∙◌, arith, mul-le-mul_right, mul-le-mul_left, zero-mul}
+use Rattle.std.proofs.Common.{◌≡◌, ◌↔◌, ℕ, zero, suc, ◌+◌, ◌-◌, ◌*◌, ◌/◌, ◌%◌, ◌^◌, ◌<◌, ◌≤◌, min, Bool, true, IsTrue, ℤ, pos, negsuc, ◌-ℤ◌, ◌*ℤ◌, List, inl, inr, refl, sym, subst, ap, ◌∙◌, arith, mul-le-mul_right, zero-mul}
 use Rattle.std.proofs.lemmas.Bool.{cases_lt}
 use Rattle.std.proofs.lemmas.Int.{ints, unsigned_abs-mul}
 use Rattle.std.proofs.lemmas.Nat.{pow-add, div-add-mod', mod_below}
 use Rattle.std.specs.Prelude.{unsigned_abs}
 use Rattle.fast_float.proofs.ExactLemmas.{ten_to_pos}
-use Rattle.fast_float.specs.Text.{tens_down}
-use Rattle.decimals.specs.Amount.{Amount, amount}
+use Rattle.fast_float.specs.Text.{tens_down, with_sign}
+use Rattle.decimals.specs.Amount.{Amount}
 use Rattle.decimals.specs.Numeral.{Measure, IsMeasure, numerator, denominator, dividend, divisor, parts_of}
 use Rattle.decimals.specs.Offset.{IsNear as IsNearAt, IsOffset, IsOffsetOf, difference_of, numeral_at}
 use Rattle.decimals.specs.declared.origin.Offset.{Offset}
-use Rattle.decimals.proofs.Keeping.{join, some_divisor}
+use Rattle.decimals.proofs.Nearest.{below_times}
 use Rattle.moves.specs.Distance.{IsNear, IsRuler, away, distance_of, nearest_of, rounded_up}
 use Rattle.moves.specs.Laws.{OnTheGridIsNotMoved}
 use Rattle.moves.specs.declared.distance.Ruler.{Ruler}
 use Rattle.moves.proofs.Ceilings.{IsCeiling, ceiling_of, ceiling_scaled, ceiling_twice, left_scaled, nearest_is, one_ceiling, one_left}
+
+join : (p : ℤ) (a b : ℕ) → (p *ℤ pos a) *ℤ pos b ≡ p *ℤ pos (a * b)
+join (pos q) a b = ap pos (omega arith)
+join (negsuc k) a b = below_times (suc k * a) b ∙ ap (with_sign true) (omega arith)
+
+some_divisor : (s : Measure) (text : List ℕ) → IsMeasure s → 0 < divisor s text
+some_divisor s text h = omega (arith, mul-le-mul_right (denominator text) h.some, ten_to_pos (tens_down (parts_of text)))
 
 -- a numeral in the units of a ruler
 pub in_units : (s : Measure) (text : List ℕ) (further : ℕ) → unsigned_abs (numeral_at (s.places + further) text) ≡ unsigned_abs (dividend s text) * 10 ^ further
@@ -32,7 +39,7 @@ near_at s text r ruler near =
     let d = denominator text in
     let units : unsigned_abs (numeral_at r.origin.places text) ≡ n * t =
     ap (λ (a : Amount). unsigned_abs (numeral_at a.places text)) ruler.origin ∙ in_units s text ruler.further in
-    let scaled : 2 * n * t ≤ (2 ^ 41 + 1) * (s.size * d) * t = mul-le-mul_right t near in
+    let scaled : 2 * n * t ≤ (2 ^ 41 + 1) * (s.size * d) * t = mul-le-mul_right t near.1 in
     let most : s.size * t * d ≤ 10 ^ 17 * d = mul-le-mul_right d ruler.limit in
     omega (arith, units, scaled, most, ten_to_pos (tens_down (parts_of text)))
 
@@ -47,12 +54,25 @@ left_in_units n d t u q b e some times units same low high =
     left_scaled n d t (q / u) ((q % u) * b + (n * t - q * b)) some times (omega (arith, fits, same))
     (omega (arith, low, all, ap (λ x. (q / u) * x) same))
 
-away_scaled : (n d t m : ℕ) → (n % d) * t ≡ m → 10000 * away n d * t ≡ 10000 * min m (d * t - m)
-away_scaled n d t m e =
-    elim (cases_lt (n % d) (d - n % d)) [
-      | inl less ↦ omega (arith, e, mul-le-mul_right t less)
-      | inr more ↦ omega (arith, e, mul-le-mul_right t more)
+away_scaled : (n d t m : ℕ) → 0 < d → (n % d) * t ≡ m → 10000 * away n d * t ≡ 10000 * min m (d * t - m)
+away_scaled n d t m some e =
+    let left = n % d in
+    let behind = d - left in
+    let below : left < d = mod_below n d some in
+    let sum : d ≡ left + behind = omega arith in
+    let all : d * t ≡ left * t + behind * t = scaled_sum d left behind t sum in
+    elim (cases_lt left behind) [
+      | inl less ↦
+          let is : away n d ≡ left = omega arith in
+          let half : left ≤ behind = omega arith in
+          ap (λ x. 10000 * x * t) is ∙ omega (arith, e, all, mul-le-mul_right t half)
+      | inr more ↦
+          let is : away n d ≡ behind = omega arith in
+          ap (λ x. 10000 * x * t) is ∙ omega (arith, e, all, mul-le-mul_right t more)
     ]
+  where
+    scaled_sum : (d a b t : ℕ) → d ≡ a + b → d * t ≡ a * t + b * t
+    scaled_sum d a b t e = rw e (omega arith)
 
 -- what a ruler measures, before it is capped
 measured : (n d t u v q b c x : ℕ) (e : Bool) → 0 < d → 0 < t → 0 < b → 0 < u → u ≡ 10000 * v → u * b ≡ d * t → q * b ≤ n * t → n * t < (q + 1) * b
@@ -63,10 +83,10 @@ measured n d t u v q b c x e some times fine units tens same low high exact near
     let w = min m (u * b - m) in
     let left : (n % d) * t ≡ m = left_in_units n d t u q b e some times units same low high in
     let near : IsCeiling w b c = rw nearest (nearest_is u b (q % u) r e (mod_below q u units) (omega (arith, low, high))
-        (λ z. omega (arith, exact.0 z), λ z. exact.1 (omega (arith, low, z)))) in
+    (λ z. omega (arith, exact.0 z), λ z. exact.1 (omega (arith, low, z)))) in
     let twice : IsCeiling (10000 * w) (10000 * v * b) x = ceiling_twice w b c v x fine near (subst (λ y. IsCeiling (10000 * c) y x) tens ceiling) in
     let whole : IsCeiling (10000 * away n d * t) (d * t) x =
-    subst (λ y. IsCeiling y (d * t) x) (ap (λ y. 10000 * min m (y - m)) same ∙ sym (away_scaled n d t m left))
+    subst (λ y. IsCeiling y (d * t) x) (ap (λ y. 10000 * min m (y - m)) same ∙ sym (away_scaled n d t m some left))
     (subst (λ y. IsCeiling (10000 * w) y x) (ap (λ y. y * b) (sym tens) ∙ same) twice) in
     one_ceiling (10000 * away n d) d x _ (ceiling_scaled (10000 * away n d) d t x times whole) (ceiling_of (10000 * away n d) d some)
 
@@ -75,9 +95,6 @@ tens_of size further h =
     let sum : further ≡ 4 + (further - 4) = omega arith in
     let tens : 10 ^ further ≡ 10 ^ 4 * 10 ^ (further - 4) = ap (λ k. 10 ^ k) sum ∙ pow-add 10 4 (further - 4) in
     omega (arith, ap (λ x. size * x) tens)
-
-nearest_at_most : (before u : ℕ) (e : Bool) → before < u → nearest_of before (u - before) e ≤ u
-nearest_at_most before u e less = grind (arith, nearest_of)
 
 pub some_unit : (s : Measure) (r : Ruler) → IsMeasure s → IsRuler s r → 0 < r.unit
 some_unit s r h ruler = omega (arith, ruler.unit, mul-le-mul_right (10 ^ ruler.further) h.some, ten_to_pos ruler.further)
@@ -105,8 +122,8 @@ away_zero n d some =
       λ p.
           let none : n % d ≡ 0 = one_left (n / d) p.0 d (n % d) 0 below some (omega (arith, split, p.1)) in
           zero_from (rounded_up (10000 * away n d) d) (λ more.
-              let one : 1 ≤ rounded_up (10000 * away n d) d = omega arith in
-              omega (arith, none, ceiling.high, mul-le-mul_right d one)),
+          let one : 1 ≤ rounded_up (10000 * away n d) d = omega arith in
+          omega (arith, none, ceiling.high, mul-le-mul_right d one)),
     )
   where
     zero_from : (x : ℕ) → (0 < x → ⊥) → x ≡ 0

@@ -1,7 +1,7 @@
 -- How far numerals are from the nearest whole number of steps.
-use Rattle.std.specs.Prelude.{◌≡◌, ℕ, ℤ, pos, ◌+◌, ◌-◌, ◌*◌, ◌/◌, ◌%◌, ◌^◌, ◌<◌, ◌≤◌, min, max, ◌==◌, nat_lt, ◌&&◌, ◌*ℤ◌, Bool, List, [], if◌then◌else◌, unsigned_abs}
+use Rattle.std.specs.Prelude.{◌≡◌, ℕ, pos, ◌+◌, ◌-◌, ◌*◌, ◌/◌, ◌%◌, ◌^◌, ◌≤◌, min, max, ◌==◌, nat_lt, ◌&&◌, ◌*ℤ◌, Bool, List, [], if◌then◌else◌, unsigned_abs}
 use Rattle.decimals.specs.Amount.{amount, amount_text}
-use Rattle.decimals.specs.Numeral.{Measure, dividend, divisor}
+use Rattle.decimals.specs.Numeral.{Measure, IsNumeral, dividend, divisor}
 use Rattle.moves.specs.declared.distance.Moves.{Moves}
 use Rattle.moves.specs.declared.distance.Ruler.{Ruler}
 
@@ -19,7 +19,7 @@ distance_of s text = rounded_up (10000 * away (unsigned_abs (dividend s text)) (
 
 -- a numeral that is worth at most 2^40 steps and a half, as each does of which a grid number is nearest
 abbrev pub IsNear : Measure → List ℕ → Type 0
-IsNear s text = 2 * unsigned_abs (dividend s text) ≤ (2 ^ 41 + 1) * divisor s text
+IsNear s text = IsNumeral text × (2 * unsigned_abs (dividend s text) ≤ (2 ^ 41 + 1) * divisor s text)
 
 -- one more, if that has 64 bits
 abbrev pub more : ℕ → ℕ

@@ -92,7 +92,8 @@ fn nearest(before: u128, behind: u128, is_exact: bool) -> u128
 
 impl Ruler {
     pub(crate) fn new(step: &Step) -> Ruler
-        ensures { IsRuler step.now result }
+        ensures ruler { IsRuler step.now result }
+        ensures limits { IsMeasure step.now }
     {
         let size = step.size();
         let (further, power) = if size < SMALL { FURTHER } else { LESS };

@@ -100,7 +100,7 @@ impl Walk {
 
     /// The same behind the second number of a position.
     fn with_second(self, y: &Offset, ruler: &Ruler) -> Walk
-        ensures { (s : Measure) (m : Met) (text : List ℕ) → IsMeasure s → IsRuler s ruler.now → IsMet ruler.now m self → IsOffset ruler.now.origin text y.now → IsMet ruler.now (second_met s text m m.x) result }
+        ensures met { (s : Measure) (m : Met) (text : List ℕ) → IsMeasure s → IsRuler s ruler.now → IsMet ruler.now m self → IsOffset ruler.now.origin text y.now → IsMet ruler.now (second_met s text m m.x) result }
         ensures place { result.place ≡ self.place }
     {
         match self.x {
