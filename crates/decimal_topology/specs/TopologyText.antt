@@ -36,6 +36,7 @@ abbrev pub arc_positions : List Pos → List ℕ
 arc_positions [] = []
 arc_positions (p ∷ ps) = position_text p ++ differences_text p ps
 
+-- the text of an arc: its first position, and the differences to the next ones [TopoJSON, 2.1.3]
 abbrev pub arc_text : List Pos → List ℕ
 arc_text ps = bracketed (arc_positions ps)
 
@@ -60,6 +61,7 @@ body_text (of.MultiPolygon ps) = codes "\"MultiPolygon\",\"arcs\":" ++ list_text
 abbrev pub properties_member : List ℕ → List ℕ
 properties_member t = if bytes_eq t (codes "{}") then [] else codes "\"properties\":" ++ (t ++ codes ",")
 
+-- the text of a geometry: id, properties, type, and arcs or coordinates [TopoJSON, 2.2]
 abbrev pub geometry_text : Geom → List ℕ
 geometry_text g = codes "{" ++ (id_text g.id ++ (properties_member (properties_text g.props) ++ (codes "\"type\":" ++ (body_text g.body ++ codes "}"))))
 

@@ -18,6 +18,7 @@ abbrev pub area_from : Pos → List Pos → ℤ
 area_from p [] = pos 0
 area_from p (q ∷ qs) = cross p q +ℤ area_from q qs
 
+-- twice the signed area between a list of positions and the origin, from its first position to its last
 abbrev pub area_along : List Pos → ℤ
 area_along [] = pos 0
 area_along (p ∷ ps) = area_from p ps
@@ -49,6 +50,7 @@ abbrev pub turned_to : Option Bool → List ℤ → List ArcRef → List ArcRef
 turned_to None areas ring = ring
 turned_to (Some counterclockwise) areas ring = if turns_wrong counterclockwise (ring_area areas ring) then backwards ring else ring
 
+-- the used arcs of a ring, outer or a hole, in the direction that is wanted [RFC 7946, 3.1.6]
 abbrev pub rewound_ring : List ℤ → Rewind → Bool → List ArcRef → List ArcRef
 rewound_ring areas r outer ring = turned_to (wanted r outer) areas ring
 
@@ -57,6 +59,7 @@ abbrev pub rewound_rings : List ℤ → Rewind → List (List ArcRef) → List (
 rewound_rings areas r [] = []
 rewound_rings areas r (outer ∷ holes) = rewound_ring areas r true outer ∷ map (rewound_ring areas r false) holes
 
+-- a geometry's lists of used arcs, its rings in the directions that are wanted
 abbrev pub rewound_body : List ℤ → Rewind → Body → Body
 rewound_body areas r (of.Polygon rings) = of.Polygon (rewound_rings areas r rings)
 rewound_body areas r (of.MultiPolygon polygons) = of.MultiPolygon (map (rewound_rings areas r) polygons)
@@ -70,6 +73,7 @@ rewound_body areas r (of.MultiLine ls) = of.MultiLine ls
 abbrev pub rewound_geometry : List ℤ → Rewind → Geom → Geom
 rewound_geometry areas r g = record g { body = rewound_body areas r g.body }
 
+-- a layer with the rings of its geometries in the directions that are wanted
 abbrev pub rewound_layer : List ℤ → Rewind → LayerParts → LayerParts
 rewound_layer areas r l = record { name = l.name; geometries = map (rewound_geometry areas r) l.geometries }
 

@@ -13,6 +13,7 @@ pub record HasPlace (s : Measure) (origin : Amount) (steps : ℤ) : Type 0 where
   pub short : s.places ≤ 30
   pub fits : SumFits (steps_amount s steps) origin
 
+-- nothing
 abbrev pub zero_amount : Amount
 zero_amount = amount (pos 0) 0
 
@@ -20,8 +21,10 @@ zero_amount = amount (pos 0) 0
 abbrev pub length_text : Units → ℤ → List ℕ
 length_text u steps = amount_text (place_of u.step zero_amount steps)
 
+-- the text of a number along x: so many steps from the origin
 abbrev pub x_text : Units → ℤ → List ℕ
 x_text u steps = amount_text (place_of u.step u.origin.0 steps)
 
+-- the text of a number along y: so many steps from the origin
 abbrev pub y_text : Units → ℤ → List ℕ
 y_text u steps = amount_text (place_of u.step u.origin.1 steps)

@@ -10,10 +10,11 @@ pub record Amount : Type 0 where
   pub value : ℤ
   pub places : ℕ
 
+-- the amount of a value and its places
 abbrev pub amount : ℤ → ℕ → Amount
 amount value places = record { value = value; places = places }
 
--- at most 30 digits stand behind its point
+-- at most 30 digits are behind its point
 pub record IsAmount (a : Amount) : Type 0 where
   pub short : a.places ≤ 30
 

@@ -39,6 +39,7 @@ abbrev pub put_at : Option ℕ → List Pos → List (List (List Pos)) → List 
 put_at None ring polygons = polygons
 put_at (Some k) ring polygons = put_ring k ring polygons
 
+-- the polygons once each of some rings is put into the one that it lies in, or into the first
 abbrev pub put_others : List (List Pos) → List (List (List Pos)) → List (List (List Pos))
 put_others [] polygons = polygons
 put_others (ring ∷ rings) polygons = put_others rings (put_at (home_of polygons ring) ring polygons)
@@ -85,6 +86,7 @@ polygon_left rules rings = option_map (map (rewound_polygon rules.rewind)) (poly
 abbrev pub polygon_counted : Rules → List (List Pos) → Fixes → Fixes
 polygon_counted rules rings fixes = all_counted (ring_need rules) rings fixes
 
+-- the counts once the rings of all these polygons are added
 abbrev pub polygons_counted : Rules → List (List (List Pos)) → Fixes → Fixes
 polygons_counted rules [] fixes = fixes
 polygons_counted rules (rings ∷ polygons) fixes = polygons_counted rules polygons (polygon_counted rules rings fixes)

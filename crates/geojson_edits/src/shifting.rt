@@ -42,7 +42,7 @@ fn write_offset(
     }
 }
 
-/// Writes what becomes of a token, of which the treatment tells the axis.
+/// Writes what becomes of a token, of which the treatment says the axis.
 fn write_shifted(
     alloc: Global,
     writer: &mut Writer,

@@ -13,6 +13,7 @@ use Rattle.moves.specs.declared.distance.Moves.{Moves}
 use Rattle.moves.specs.declared.distance.Ruler.{Ruler}
 use Rattle.moves.specs.declared.originals.Walk.{Walk}
 
+-- the numeral that a token is, if it is one
 abbrev pub number_of : Token → Option (List ℕ)
 number_of (number text) = Some text
 number_of begin_object = None
@@ -42,6 +43,7 @@ pub record Met : Type 0 where
   pub x : Option (List ℕ)
   pub moves : Moves
 
+-- what is met once the second number y of a position comes, of which the first may be there
 abbrev pub second_met : Measure → List ℕ → Met → Option (List ℕ) → Met
 second_met s y m None = m
 second_met s y m (Some x) = record { x = m.x; moves = moved_by (max (distance_of s x) (distance_of s y)) m.moves }
@@ -56,6 +58,7 @@ abbrev pub maybe_met : Measure → ℕ → Met → Option (List ℕ) → Met
 maybe_met s seen m None = m
 maybe_met s seen m (Some text) = number_met s seen text m
 
+-- what is met once a token at a place comes
 abbrev pub token_met : Measure → Place → Token → Met → Met
 token_met s place t m = maybe_met s (seen_at place) m (coordinate place t)
 

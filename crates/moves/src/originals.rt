@@ -36,7 +36,7 @@ struct Walk {
     moves: Moves,
 }
 
-/// The number of a position that is met here, if one is, and how many stand before it.
+/// The number of a position that is met here, if one is, and how many are before it.
 fn coordinate<'a>(place: Place, token: Token<'a>) -> Option<(u64, &'a str)>
     ensures text { option_map (λ c. c.1.now) result ≡ coordinate place (token_of token.entry) }
     ensures seen { IfSome result (λ c. c.0 ≡ seen_at place) }
@@ -112,7 +112,7 @@ impl Walk {
         }
     }
 
-    /// The same behind a number of a position, before which so many stand.
+    /// The same behind a number of a position, before which so many are.
     fn with_number(self, seen: u64, offset: &Offset, ruler: &Ruler) -> Walk
         ensures met { (s : Measure) (m : Met) (text : List ℕ) → IsMeasure s → IsRuler s ruler.now → IsMet ruler.now m self → IsOffset ruler.now.origin text offset.now → IsMet ruler.now (number_met s seen text m) result }
         ensures place { result.place ≡ self.place }
