@@ -2,7 +2,7 @@
 
     python3 tests/edits.py
 
-A crate has at most 8 of them, and there are at most 180 in all. An edit is a line `file: PATH`, of a file of its crate, and
+A crate has at most 8 of them, and there are at most 150 in all. An edit is a line `file: PATH`, of a file of its crate, and
 behind it pairs of lines `old: TEXT` and `new: TEXT`. Each old text has to stand exactly once in its file, once the pairs before
 it are applied. No edit changes specs/ or proofs/, nor a line of a contract, which begins with `ensures`, `requires` or `ghost`,
 or goes on with one that does. That the prover refuses each is for `rt ci`. Prints the number of each crate, and ends with a line
@@ -15,7 +15,7 @@ import sys
 
 TOP = os.path.dirname(os.path.dirname(os.path.abspath(__file__)))
 MOST = 8
-MOST_IN_ALL = 180
+MOST_IN_ALL = 150
 LINE = re.compile(r"(file|old|new):(?: (.*))?")
 CONTRACT = re.compile(r"\s*(?:ensures|requires|ghost)\b")
 WORDS = re.compile(r"\b(?:ensures|requires|ghost)\b")

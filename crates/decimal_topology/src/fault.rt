@@ -1,4 +1,7 @@
 //! Why a topology has no text in the unit of the map.
+ghost use Rattle.decimal_topology.specs.declared.fault.DecimalFault.TheVariants.{OutOfMemory};
+ghost use Rattle.std.specs.Prelude.{◌≡◌};
+
 use sinks::WriteFault;
 use std::alloc::{AllocError, AllocFailed};
 use thiserror::Error;
@@ -15,18 +18,32 @@ pub enum DecimalFault {
 }
 
 impl From<AllocError> for DecimalFault {
+    ghost from_gives = { λ _ f. f ≡ OutOfMemory };
+
     fn from(_error: AllocError) -> DecimalFault {
         DecimalFault::OutOfMemory
     }
 }
 
 impl<T: Drop> From<AllocFailed<T>> for DecimalFault {
+    ghost from_gives = { λ _ f. f ≡ OutOfMemory };
+
     fn from(_failed: AllocFailed<T>) -> DecimalFault {
         DecimalFault::OutOfMemory
     }
 }
 
+impl From<faults::OutOfMemory> for DecimalFault {
+    ghost from_gives = { λ _ f. f ≡ OutOfMemory };
+
+    fn from(_fault: faults::OutOfMemory) -> DecimalFault {
+        DecimalFault::OutOfMemory
+    }
+}
+
 impl From<WriteFault> for DecimalFault {
+    ghost from_gives = { λ _ f. f ≡ OutOfMemory };
+
     fn from(_fault: WriteFault) -> DecimalFault {
         DecimalFault::OutOfMemory
     }

@@ -1,217 +1,205 @@
 //! The texts of arcs and geometries.
-use crate::turning::Areas;
+ghost use Rattle.decimal_topology.specs.TopologyText.{arc_positions, arc_text, body_text, difference_text, differences_text, geometry_text, index_text, layer_text, position_text, properties_member};
+ghost use Rattle.shapes.specs.Parts.{properties_text};
+ghost use Rattle.sinks.specs.Texts.{joined, list_text};
+ghost use Rattle.sinks.specs.Writes.{TookAll, TookPart};
+ghost use Rattle.std.specs.Prelude.{◌≡◌, ◌-ℤ◌, ◌++◌, codes, OnErr, OnOk};
+
 use chains::table::{ArcRef, ArcTable};
-use fixing::Rewind;
 use grid::Pos;
-use lines::items::Items;
+use itoa::Buffer;
 use shapes::props::Props;
-use sinks::written::{Pair, Text, Then, Written};
+use sinks::written::{Bracketed, Listed, Notation, Noted, Pair, Text, Then, Written};
 use sinks::{Sink, WriteFault, put};
 use topo::geom::{Body, Geom};
 use topo::topology::Layer;
-use writing::IdMember;
+use writing::{IdMember, Lists};
 
-/// How rings are turned.
+/// Positions, by their grid numbers.
 #[derive(Clone, Copy)]
-pub(crate) struct Turning<'a> {
-    pub(crate) areas: &'a Areas,
-    pub(crate) rewind: Rewind,
+struct GridNumbers;
+
+impl Notation<Pos> for GridNumbers {
+    ghost text = { λ _ p. position_text p };
+
+    fn write_value<W: Sink>(&self, value: &Pos, sink: &mut W) -> Result<(), WriteFault> {
+        Pair(value.x(), value.y()).write(sink)
+    }
 }
 
-/// A comma, but not before the first.
-pub(crate) fn put_comma<W: Sink>(is_first: bool, out: &mut W) -> Result<(), WriteFault> {
-    if is_first { Ok(()) } else { put(out, b",") }
+fn difference(before: Pos, p: Pos) -> Pair
+    ensures x { result.0 ≡ p.x -ℤ before.x }
+    ensures y { result.1 ≡ p.y -ℤ before.y }
+{
+    Pair(p.x() - before.x(), p.y() - before.y())
+}
+
+// The difference of a position from the one before, after a comma.
+fn write_difference<W: Sink>(sink: &mut W, before: Pos, p: Pos) -> Result<(), WriteFault>
+    ensures whole { OnOk result (TookAll (W.seen sink.old) (W.seen sink.new) (difference_text before p)) }
+    ensures part { OnErr result (TookPart (W.seen sink.old) (W.seen sink.new) (difference_text before p)) }
+{
+    let pair = difference(before, p);
+    Then(Text(b","), pair).write(sink)
+}
+
+fn write_differences<W: Sink>(sink: &mut W, first: Pos, others: &[Pos]) -> Result<(), WriteFault>
+    ensures whole { OnOk result (TookAll (W.seen sink.old) (W.seen sink.new) (differences_text first others.now)) }
+    ensures part { OnErr result (TookPart (W.seen sink.old) (W.seen sink.new) (differences_text first others.now)) }
+{
+    let mut left = others;
+    let mut before = first;
+    while let Some((p, after)) = left.split_first() {
+        match write_difference(sink, before, *p) {
+            Ok(()) => {
+                left = after;
+                before = *p;
+            }
+            Err(fault) => return Err(fault),
+        }
+    }
+    Ok(())
 }
 
 /// The positions of an arc: the first as it is, each later one as the difference from the one before.
-fn write_arc<W: Sink>(arc: &[Pos], out: &mut W) -> Result<(), WriteFault> {
-    let mut last = (0i64, 0i64);
-    let mut is_first = true;
-    put(out, b"[")?;
-    for position in arc {
-        put_comma(is_first, out)?;
-        is_first = false;
-        let (x, y) = (position.x(), position.y());
-        Pair(x.wrapping_sub(last.0), y.wrapping_sub(last.1)).write(out)?;
-        last = (x, y);
-    }
-    put(out, b"]")
-}
+#[derive(Clone, Copy)]
+struct ArcPositions<'a>(&'a [Pos]);
 
-pub(crate) fn write_arcs<W: Sink>(arcs: &ArcTable, out: &mut W) -> Result<(), WriteFault> {
-    put(out, b"[")?;
-    for number in 0..arcs.len() {
-        put_comma(number == 0, out)?;
-        if let Some(arc) = arcs.arc(number) {
-            write_arc(arc, out)?;
+impl<'a> Written for ArcPositions<'a> {
+    ghost text = { λ a. arc_positions a.0.now };
+
+    fn write<W: Sink>(&self, sink: &mut W) -> Result<(), WriteFault> {
+        match self.0.split_first() {
+            Some((first, others)) => match GridNumbers.write_value(first, sink) {
+                Ok(()) => write_differences(sink, *first, others),
+                Err(fault) => Err(fault),
+            },
+            None => Ok(()),
         }
     }
-    put(out, b"]")
 }
 
-fn write_positions<W: Sink>(positions: &[Pos], out: &mut W) -> Result<(), WriteFault> {
-    let mut is_first = true;
-    put(out, b"[")?;
-    for position in positions {
-        put_comma(is_first, out)?;
-        is_first = false;
-        Pair(position.x(), position.y()).write(out)?;
-    }
-    put(out, b"]")
-}
+/// The arcs of a table, in order.
+#[derive(Clone, Copy)]
+pub(crate) struct ArcsText<'a>(pub(crate) &'a ArcTable);
 
-fn write_index<W: Sink>(used: ArcRef, out: &mut W) -> Result<(), WriteFault> {
-    let mut buffer = itoa::Buffer::new();
-    put(out, buffer.format(used.wide_index()).as_bytes())
-}
+impl<'a> Written for ArcsText<'a> {
+    ghost text = { λ a. joined arc_text a.0.now.arcs };
 
-/// A list of arcs as it is.
-fn write_list<W: Sink>(list: &[ArcRef], out: &mut W) -> Result<(), WriteFault> {
-    let mut is_first = true;
-    put(out, b"[")?;
-    for used in list {
-        put_comma(is_first, out)?;
-        is_first = false;
-        write_index(*used, out)?;
-    }
-    put(out, b"]")
-}
-
-/// A list of arcs from its end on, each against its direction.
-fn write_reversed<W: Sink>(list: &[ArcRef], out: &mut W) -> Result<(), WriteFault> {
-    let mut is_first = true;
-    put(out, b"[")?;
-    for used in list.iter().rev() {
-        put_comma(is_first, out)?;
-        is_first = false;
-        let back = ArcRef {
-            arc: used.arc,
-            reversed: !used.reversed,
-        };
-        write_index(back, out)?;
-    }
-    put(out, b"]")
-}
-
-fn write_lists<W: Sink>(lists: &[Items<ArcRef>], out: &mut W) -> Result<(), WriteFault> {
-    let mut is_first = true;
-    put(out, b"[")?;
-    for list in lists {
-        put_comma(is_first, out)?;
-        is_first = false;
-        write_list(list.as_slice(), out)?;
-    }
-    put(out, b"]")
-}
-
-/// The rings of a polygon, turned as they are wanted.
-fn write_rings<W: Sink>(
-    rings: &[Items<ArcRef>],
-    turning: &Turning<'_>,
-    out: &mut W,
-) -> Result<(), WriteFault> {
-    let mut is_first = true;
-    put(out, b"[")?;
-    for ring in rings {
-        put_comma(is_first, out)?;
-        let ring = ring.as_slice();
-        if turning.areas.is_wrong(ring, is_first, turning.rewind) {
-            write_reversed(ring, out)?;
-        } else {
-            write_list(ring, out)?;
+    fn write<W: Sink>(&self, sink: &mut W) -> Result<(), WriteFault> {
+        let mut separator = Text(b"");
+        for number in 0..self.0.len() {
+            if let Some(arc) = self.0.arc(number) {
+                match Then(separator, Bracketed(ArcPositions(arc))).write(sink) {
+                    Ok(()) => separator = Text(b","),
+                    Err(fault) => return Err(fault),
+                }
+            }
         }
-        is_first = false;
+        Ok(())
     }
-    put(out, b"]")
 }
 
-fn write_polygons<W: Sink>(
-    polygons: &[Items<Items<ArcRef>>],
-    turning: &Turning<'_>,
-    out: &mut W,
-) -> Result<(), WriteFault> {
-    let mut is_first = true;
-    put(out, b"[")?;
-    for rings in polygons {
-        put_comma(is_first, out)?;
-        is_first = false;
-        write_rings(rings.as_slice(), turning, out)?;
+/// Used arcs, by TopoJSON's index.
+#[derive(Clone, Copy)]
+struct Indexes;
+
+impl Notation<ArcRef> for Indexes {
+    ghost text = { λ _ a. index_text a };
+
+    fn write_value<W: Sink>(&self, value: &ArcRef, sink: &mut W) -> Result<(), WriteFault> {
+        let mut buffer = Buffer::new();
+        put(sink, buffer.format(value.wide_index()).as_bytes())
     }
-    put(out, b"]")
 }
-
-const ARCS: &[u8] = b",\"arcs\":";
-
-const COORDINATES: &[u8] = b",\"coordinates\":";
 
 /// The type of a geometry, and what it is made of.
-fn write_body<W: Sink>(body: &Body, turning: &Turning<'_>, out: &mut W) -> Result<(), WriteFault> {
-    put(out, b"\"type\":")?;
-    match body {
-        Body::Null => put(out, b"null"),
-        Body::Point(position) => {
-            Then(
-                Text(b"\"Point\""),
-                Then(Text(COORDINATES), Pair(position.x(), position.y())),
+#[derive(Clone, Copy)]
+struct BodyText<'a>(&'a Body);
+
+impl<'a> Written for BodyText<'a> {
+    ghost text = { λ b. body_text b.0.now };
+
+    fn write<W: Sink>(&self, sink: &mut W) -> Result<(), WriteFault> {
+        match self.0 {
+            Body::Null => put(sink, b"null"),
+            Body::Point(p) => Then(
+                Text(b"\"Point\",\"coordinates\":"),
+                Noted(p, &GridNumbers),
+            ).write(sink),
+            Body::MultiPoint(ps) => Then(
+                Text(b"\"MultiPoint\",\"coordinates\":"),
+                Listed(ps.as_slice(), &GridNumbers),
             )
-            .write(out)
-        }
-        Body::MultiPoint(positions) => {
-            Then(Text(b"\"MultiPoint\""), Text(COORDINATES)).write(out)?;
-            write_positions(positions.as_slice(), out)
-        }
-        Body::Line(list) => {
-            Then(Text(b"\"LineString\""), Text(ARCS)).write(out)?;
-            write_list(list.as_slice(), out)
-        }
-        Body::MultiLine(lists) => {
-            Then(Text(b"\"MultiLineString\""), Text(ARCS)).write(out)?;
-            write_lists(lists.as_slice(), out)
-        }
-        Body::Polygon(rings) => {
-            Then(Text(b"\"Polygon\""), Text(ARCS)).write(out)?;
-            write_rings(rings.as_slice(), turning, out)
-        }
-        Body::MultiPolygon(polygons) => {
-            Then(Text(b"\"MultiPolygon\""), Text(ARCS)).write(out)?;
-            write_polygons(polygons.as_slice(), turning, out)
+            .write(sink),
+            Body::Line(used) => Then(
+                Text(b"\"LineString\",\"arcs\":"),
+                Listed(used.as_slice(), &Indexes),
+            )
+            .write(sink),
+            Body::MultiLine(lines) => Then(
+                Text(b"\"MultiLineString\",\"arcs\":"),
+                Listed(lines.as_slice(), &Lists(Indexes)),
+            )
+            .write(sink),
+            Body::Polygon(rings) => Then(
+                Text(b"\"Polygon\",\"arcs\":"),
+                Listed(rings.as_slice(), &Lists(Indexes)),
+            )
+            .write(sink),
+            Body::MultiPolygon(polygons) => Then(
+                Text(b"\"MultiPolygon\",\"arcs\":"),
+                Listed(polygons.as_slice(), &Lists(Lists(Indexes))),
+            )
+            .write(sink),
         }
     }
 }
 
-fn write_properties<W: Sink>(properties: &Props, out: &mut W) -> Result<(), WriteFault> {
-    if properties.is_empty() {
-        return Ok(());
+/// The member `properties` and a comma; nothing where there are none.
+#[derive(Clone, Copy)]
+struct PropertiesMember<'a>(&'a Props);
+
+impl<'a> Written for PropertiesMember<'a> {
+    ghost text = { λ p. properties_member (properties_text p.0.now) };
+
+    fn write<W: Sink>(&self, sink: &mut W) -> Result<(), WriteFault> {
+        if self.0.is_empty() {
+            return Ok(());
+        }
+        let text = Text(self.0.text().as_bytes());
+        Then(Text(b"\"properties\":"), Then(text, Text(b","))).write(sink)
     }
-    let text = Text(properties.text().as_bytes());
-    Then(Text(b"\"properties\":"), Then(text, Text(b","))).write(out)
 }
 
-fn write_geometry<W: Sink>(
-    geometry: &Geom,
-    turning: &Turning<'_>,
-    out: &mut W,
-) -> Result<(), WriteFault> {
-    put(out, b"{")?;
-    IdMember(&geometry.id).write(out)?;
-    write_properties(&geometry.props, out)?;
-    write_body(&geometry.body, turning, out)?;
-    put(out, b"}")
+/// Geometries.
+#[derive(Clone, Copy)]
+struct Geometries;
+
+impl Notation<Geom> for Geometries {
+    ghost text = { λ _ g. geometry_text g };
+
+    fn write_value<W: Sink>(&self, value: &Geom, sink: &mut W) -> Result<(), WriteFault> {
+        let body = Then(Text(b"\"type\":"), Then(BodyText(&value.body), Text(b"}")));
+        let members = Then(
+            IdMember(&value.id),
+            Then(PropertiesMember(&value.props), body),
+        );
+        Then(Text(b"{"), members).write(sink)
+    }
 }
 
-/// A layer, as a member of `objects`.
-pub(crate) fn write_layer<W: Sink>(
-    layer: &Layer,
-    turning: &Turning<'_>,
-    out: &mut W,
-) -> Result<(), WriteFault> {
-    put(out, layer.name().spelling().as_bytes())?;
-    put(out, b":{\"type\":\"GeometryCollection\",\"geometries\":[")?;
-    let mut is_first = true;
-    for geometry in layer.geometries() {
-        put_comma(is_first, out)?;
-        is_first = false;
-        write_geometry(geometry, turning, out)?;
+/// Layers, each a member of `objects`.
+#[derive(Clone, Copy)]
+pub(crate) struct Layers;
+
+impl Notation<Layer> for Layers {
+    ghost text = { λ _ l. layer_text l };
+
+    fn write_value<W: Sink>(&self, value: &Layer, sink: &mut W) -> Result<(), WriteFault> {
+        let geometries = Listed(value.geometries(), &Geometries);
+        let head = Text(b":{\"type\":\"GeometryCollection\",\"geometries\":");
+        let name = Text(value.name().spelling().as_bytes());
+        Then(name, Then(head, Then(geometries, Text(b"}")))).write(sink)
     }
-    put(out, b"]}")
 }

@@ -4,8 +4,10 @@
 //! `type` comes first, where GDAL looks for it, and its rings may be turned as a reader wants them.
 #![tactic(auto)]
 
+mod area;
 mod fault;
 mod geometries;
+pub mod laws;
 mod turning;
 mod units;
 mod writer;

@@ -4,3 +4,6 @@ pub mod Steps
 pub mod Keeping
 pub mod Numbers
 pub mod Shortness
+pub mod Printed
+pub mod Amounts
+pub mod Offsets

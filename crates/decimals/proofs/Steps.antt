@@ -11,7 +11,8 @@ use Rattle.decimals.specs.Nearest.{IsNearest, IsRounded}
 use Rattle.decimals.specs.Numeral.{Measure, dividend, parts_of}
 use Rattle.decimals.specs.Tenths.{tenths_of}
 use Rattle.decimals.proofs.Nearest.{below_times, one_rounded, to_nearest, from_nearest, capped_within, capped_beyond}
-use Rattle.decimals.proofs.Places.{IsQuotient, first_digits_is}
+use Rattle.decimals.specs.Offset.{IsQuotient}
+use Rattle.decimals.proofs.Places.{first_digits_is}
 
 -- q steps of a size over 10 ^ places are nearest to a numeral with no sign
 abbrev pub IsNearestTo : Parts → ℕ → ℕ → ℕ → Type 0
@@ -20,10 +21,10 @@ IsNearestTo p size places q = IsRounded (digits_of p * 10 ^ (tens_up p + places)
 quotient_of : (p : Parts) (places : ℕ) → AllDigits 10 (p.whole ++ p.fraction)
     → IsQuotient (digits_of p * 10 ^ (tens_up p + places) * 10) (10 ^ tens_down p) (tenths_of places p)
 quotient_of p places h =
-    let more : tens_up p + places + 1 ≡ suc (tens_up p + places) = omega arith in
-    let tens : 10 ^ (tens_up p + places + 1) ≡ 10 ^ (tens_up p + places) * 10 = rw more (pow-suc 10 (tens_up p + places)) in
-    let same : digits_of p * 10 ^ (tens_up p + places + 1) ≡ digits_of p * 10 ^ (tens_up p + places) * 10 = omega (arith, ap (λ x. digits_of p * x) tens) in
-    subst (λ n. IsQuotient n (10 ^ tens_down p) (tenths_of places p)) same (first_digits_is (p.whole ++ p.fraction) (tens_up p + places + 1) (tens_down p) h)
+    let more : tens_up p + (places + 1) ≡ suc (tens_up p + places) = omega arith in
+    let tens : 10 ^ (tens_up p + (places + 1)) ≡ 10 ^ (tens_up p + places) * 10 = rw more (pow-suc 10 (tens_up p + places)) in
+    let same : digits_of p * 10 ^ (tens_up p + (places + 1)) ≡ digits_of p * 10 ^ (tens_up p + places) * 10 = omega (arith, ap (λ x. digits_of p * x) tens) in
+    subst (λ n. IsQuotient n (10 ^ tens_down p) (tenths_of places p)) same (first_digits_is (p.whole ++ p.fraction) (tens_up p + (places + 1)) (tens_down p) h)
 
 module _ (p : Parts) (size places capped : ℕ) (some : 1 ≤ size) (limit : size ≤ 10 ^ 12) (digits : AllDigits 10 (p.whole ++ p.fraction)) (is : capped ≡ min (tenths_of places p) (10 ^ 30)) where
   pub steps_within : (capped + 5 * size) / (10 * size) ≤ 2 ^ 40 → IsNearestTo p size places ((capped + 5 * size) / (10 * size))

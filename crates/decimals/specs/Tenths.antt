@@ -1,5 +1,5 @@
--- Ten times a numeral with its point moved, rounded down.
-use Rattle.std.specs.Prelude.{ℕ, ◌+◌, ◌-◌, ◌*◌, ◌^◌, List, ◌++◌, length, take}
+-- A numeral with its point moved, rounded down.
+use Rattle.std.specs.Prelude.{◌≡◌, ◌≤◌, ◌⊎◌, ℕ, ◌+◌, ◌-◌, ◌*◌, ◌^◌, List, ◌++◌, length, take}
 use Rattle.std.specs.Str.Parse.{digits_value}
 use Rattle.fast_float.specs.Text.{Parts, tens_up, tens_down}
 
@@ -7,10 +7,18 @@ use Rattle.fast_float.specs.Text.{Parts, tens_up, tens_down}
 abbrev pub first_digits : List ℕ → ℕ → ℕ
 first_digits ds kept = digits_value 10 (take kept ds) * 10 ^ (kept - length ds)
 
--- how many digits stand before the point, once it is moved by the exponent, the places and one more
+-- how many digits stand before the point, once it is moved by the exponent and so many places
 abbrev pub kept_of : ℕ → Parts → ℕ
-kept_of places p = length (p.whole ++ p.fraction) + (tens_up p + places + 1) - tens_down p
+kept_of places p = length (p.whole ++ p.fraction) + (tens_up p + places) - tens_down p
 
--- ten times a numeral without its sign, its point moved by so many places, rounded down
+-- so many digits are kept, or both that many and these are all digits with thirty zeros or more
+pub record IsKept (places : ℕ) (p : Parts) (kept : ℕ) : Type 0 where
+  pub same : (kept ≡ kept_of places p) ⊎ ((length (p.whole ++ p.fraction) + 30 ≤ kept) × (length (p.whole ++ p.fraction) + 30 ≤ kept_of places p))
+
+-- a numeral without its sign, its point moved by so many places, rounded down
+abbrev pub floor_of : ℕ → Parts → ℕ
+floor_of places p = first_digits (p.whole ++ p.fraction) (kept_of places p)
+
+-- ten times the same
 abbrev pub tenths_of : ℕ → Parts → ℕ
-tenths_of places p = first_digits (p.whole ++ p.fraction) (kept_of places p)
+tenths_of places p = floor_of (places + 1) p

@@ -1,10 +1,19 @@
 //! Decimal numbers that are added up and written.
+ghost use Rattle.decimals.specs.Amount.{amount, amount_of, amount_text, over_power, pointed, shortest, steps_amount, sum_of, SumFits, value_at};
+ghost use Rattle.decimals.specs.Numeral.{IsNumeral, numerator, parts_of};
+ghost use Rattle.fast_float.specs.Text.{tens_down};
+ghost use Rattle.std.specs.Int.{w128};
+ghost use Rattle.std.specs.Option.{SomeIff};
+ghost use Rattle.std.specs.Str.{IsAscii};
+ghost use Rattle.std.specs.Prelude.{◌≡◌, ◌↔◌, ◌+◌, ◌-◌, ◌^◌, ◌<◌, ◌≤◌, ◌++◌, FitsSigned, IfOk, IfSome, IsSome, OnOk, codes, drop, length, pos, replicate, take, string_bytes, unsigned_abs};
+
 use crate::digits::{CAP, places_of, size_of};
 use crate::rounding::without_sign;
 use crate::step::Step;
 use fast_float::Numeral;
 use itoa::Buffer;
 use std::alloc::{AllocError, Global};
+use std::marker::Model;
 
 /// How many digits a decimal number may have behind its point.
 pub const GREATEST_PLACES: u32 = 30;
@@ -16,9 +25,23 @@ pub struct Decimal {
     places: u32,
 }
 
+impl Model for Decimal {
+    ghost use Rattle.decimals.specs.Amount.{Amount, IsAmount, amount};
+
+    ghost Value = { Amount };
+
+    ghost view = { λ d. amount d.value d.places };
+
+    ghost invariant = { λ d. IsAmount (amount d.value d.places) };
+
+    ghost inverse = { λ a. record { value = a.value; places = a.places } };
+}
+
 impl Decimal {
     /// 0.
-    pub fn zero() -> Decimal {
+    pub fn zero() -> Decimal
+        ensures { result ≡ amount (pos 0) 0 }
+    {
         Decimal {
             value: 0,
             places: 0,
@@ -26,7 +49,9 @@ impl Decimal {
     }
 
     /// So much over a power of ten, or None where that has more than `GREATEST_PLACES` places.
-    pub fn new(value: i128, places: u32) -> Option<Decimal> {
+    pub fn new(value: i128, places: u32) -> Option<Decimal>
+        ensures { SomeIff result (places ≤ 30) (amount value places) }
+    {
         if places > GREATEST_PLACES {
             return None;
         }
@@ -35,7 +60,10 @@ impl Decimal {
 
     /// The number that a numeral writes, perhaps with a minus. None where the text is no numeral, has more than
     /// `GREATEST_PLACES` places, or its digits are 10^30 or more.
-    pub fn parse(text: &[u8]) -> Option<Decimal> {
+    pub fn parse(text: &[u8]) -> Option<Decimal>
+        ensures given { IfSome result (λ d. d ≡ amount_of text.now) }
+        ensures exact { IsSome result ↔ (IsNumeral text.now × (unsigned_abs (numerator text.now) < 10 ^ 30) × (tens_down (parts_of text.now) ≤ 30)) }
+    {
         let (negative, unsigned) = without_sign(text);
         let numeral = Numeral::scan(unsigned);
         if !numeral.has_digits() || numeral.len() < unsigned.len() {
@@ -54,79 +82,98 @@ impl Decimal {
     }
 
     /// So many steps, or None where the step has more than `GREATEST_PLACES` places.
-    pub fn of_steps(steps: i64, step: &Step) -> Option<Decimal> {
+    pub fn of_steps(steps: i64, step: &Step) -> Option<Decimal>
+        ensures { SomeIff result (step.now.places ≤ 30) (steps_amount step.now steps) }
+    {
         let size = step.size() as i128;
-        let value = i128::from(steps).checked_mul(size)?;
+        let value = i128::from(steps) * size;
         Decimal::new(value, step.places())
     }
 
     /// The value over 10^places, or None where it has more digits behind the point, or does not fit.
-    pub(crate) fn value_at(self, places: u32) -> Option<i128> {
+    pub(crate) fn value_at(self, places: u32) -> Option<i128>
+        ensures { SomeIff result ((self.places ≤ places) × FitsSigned w128 (pos (10 ^ (places - self.places))) × FitsSigned w128 (value_at places self)) (value_at places self) }
+    {
         let more = places.checked_sub(self.places)?;
         let power = 10i128.checked_pow(more)?;
         self.value.checked_mul(power)
     }
 
     /// The sum of both, or None where it does not fit.
-    pub fn plus(self, other: Decimal) -> Option<Decimal> {
+    pub fn plus(self, other: Decimal) -> Option<Decimal>
+        ensures given { IfSome result (λ d. d ≡ sum_of self other) }
+        ensures exact { IsSome result ↔ SumFits self other }
+    {
         let places = self.places.max(other.places);
         let value = self.value_at(places)?.checked_add(other.value_at(places)?)?;
         Decimal::new(value, places)
     }
 
     /// The number over a power of ten, or None where it then has more than `GREATEST_PLACES` places.
-    pub fn over_power(self, places: u32) -> Option<Decimal> {
+    pub fn over_power(self, places: u32) -> Option<Decimal>
+        ensures { SomeIff result (self.places + places ≤ 30) (over_power places self) }
+    {
         Decimal::new(self.value, self.places.checked_add(places)?)
     }
 
-    // The same number with no zeros at the end of its fraction.
-    fn without_zeros(self) -> Decimal {
-        let mut kept = self;
-        for _ in 0..self.places {
-            if kept.value % 10 != 0 {
-                break;
-            }
-            kept = Decimal {
-                value: kept.value / 10,
-                places: kept.places.saturating_sub(1),
-            };
-        }
-        kept
-    }
-
     /// The number as JSON has it, with no exponent and no zeros at the end of its fraction: `-2.5`.
-    pub fn to_text(self, alloc: Global) -> Result<String, AllocError> {
-        let Decimal { value, places } = self.without_zeros();
+    pub fn to_text(self, alloc: Global) -> Result<String, AllocError>
+        ensures { IfOk result (λ t. string_bytes t ≡ amount_text self) }
+    {
+        let (size, places) = without_zeros(self.value.unsigned_abs(), self.places);
         let mut buffer = Buffer::new();
-        let digits = buffer.format(value.unsigned_abs());
-        let sign = if value < 0 { "-" } else { "" };
+        let digits = buffer.format(size);
+        let sign = if self.value < 0 { "-" } else { "" };
         let mut text = String::from_str(alloc, sign)?;
         push_digits(&mut text, digits, places as usize)?;
         Ok(text)
     }
 }
 
+// A size over 10^places without the zeros at the end of its fraction.
+fn without_zeros(size: u128, places: u32) -> (u128, u32)
+    ensures size { result.0 ≡ (shortest places size).size }
+    ensures places { result.1 ≡ (shortest places size).places }
+{
+    let (mut size, mut places) = (size, places);
+    while places > 0 && size % 10 == 0 {
+        size /= 10;
+        places -= 1;
+    }
+    (size, places)
+}
+
 // Digits with a point before the last so many.
-fn push_digits(text: &mut String, digits: &str, places: usize) -> Result<(), AllocError> {
+fn push_digits(text: &mut String, digits: &str, places: usize) -> Result<(), AllocError>
+    requires { IsAscii digits.now }
+    ensures { OnOk result (string_bytes text.new ≡ string_bytes text.old ++ pointed digits.now places) }
+{
     if places == 0 {
         return text.push_str(digits);
     }
-    let whole = digits.len().saturating_sub(places);
-    match digits.split_at_checked(whole) {
-        Some((front, back)) if whole > 0 => {
-            text.push_str(front)?;
-            text.push_str(".")?;
-            text.push_str(back)
-        }
-        _ => {
-            text.push_str("0.")?;
-            push_zeros(text, places.saturating_sub(digits.len()))?;
-            text.push_str(digits)
-        }
+    if places < digits.len() {
+        return push_split(text, digits, digits.len() - places);
     }
+    text.push_str("0.")?;
+    push_zeros(text, places - digits.len())?;
+    text.push_str(digits)
 }
 
-fn push_zeros(text: &mut String, zeros: usize) -> Result<(), AllocError> {
+// Digits with a point behind the first so many.
+fn push_split(text: &mut String, digits: &str, whole: usize) -> Result<(), AllocError>
+    requires ascii { IsAscii digits.now }
+    requires within { whole ≤ length digits.now }
+    ensures { OnOk result (string_bytes text.new ≡ string_bytes text.old ++ (take whole digits.now ++ (codes "." ++ drop whole digits.now))) }
+{
+    let (front, back) = digits.split_at(whole);
+    text.push_str(front)?;
+    text.push_str(".")?;
+    text.push_str(back)
+}
+
+fn push_zeros(text: &mut String, zeros: usize) -> Result<(), AllocError>
+    ensures { OnOk result (string_bytes text.new ≡ string_bytes text.old ++ replicate zeros 48) }
+{
     for _ in 0..zeros {
         text.push_str("0")?;
     }

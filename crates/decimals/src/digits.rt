@@ -1,8 +1,9 @@
 //! Whole numbers of decimal digits, up to a cap.
 ghost use Rattle.fast_float.specs.Text.{digits_of, tens_up, tens_down};
-ghost use Rattle.decimals.specs.Tenths.{first_digits, tenths_of};
-ghost use Rattle.std.specs.Prelude.{◌≡◌, ◌≤◌, ◌*◌, ◌^◌, ◌++◌, min};
-ghost use Rattle.std.specs.Str.Parse.{digits_value_after, AllDigits};
+ghost use Rattle.decimals.specs.Tenths as spec;
+ghost use Rattle.decimals.specs.Tenths.{IsKept, first_digits, floor_of, tenths_of};
+ghost use Rattle.std.specs.Prelude.{◌≡◌, ◌↔◌, IsTrue, drop, ◌≤◌, ◌*◌, ◌^◌, ◌++◌, min};
+ghost use Rattle.std.specs.Str.Parse.{digits_value, digits_value_after, AllDigits};
 
 use fast_float::Numeral;
 
@@ -103,20 +104,38 @@ fn first(whole: &[u8], fraction: &[u8], kept: u128) -> u128
     with_zeros(value, kept - of_whole - of_fraction)
 }
 
+// How many digits stand before the point, once it is moved by the exponent and so many places.
+fn kept_of(numeral: &Numeral<'_>, places: u64) -> u128
+    ensures { IsKept places numeral.now result }
+{
+    let (whole, fraction) = (numeral.whole(), numeral.fraction());
+    let exponent = capped(0, numeral.exponent());
+    let all = (whole.len() as u128 + fraction.len() as u128) + u128::from(places);
+    if numeral.is_exponent_negative() {
+        all.saturating_sub(fraction.len() as u128 + exponent)
+    } else {
+        all + exponent - fraction.len() as u128
+    }
+}
+
+/// The numeral over 10^-places, rounded down, or `CAP` where that is less.
+pub(crate) fn floor_at(numeral: &Numeral<'_>, places: u64) -> u128
+    ensures value { result ≡ min (floor_of places numeral.now) CAP }
+    ensures digits { AllDigits 10 (numeral.now.whole ++ numeral.now.fraction) }
+{
+    first(
+        numeral.whole(),
+        numeral.fraction(),
+        kept_of(numeral, places),
+    )
+}
+
 /// Ten times the numeral over 10^-places, rounded down, or `CAP` where that is less.
 pub(crate) fn tenths(numeral: &Numeral<'_>, places: u32) -> u128
     ensures value { result ≡ min (tenths_of places numeral.now) CAP }
     ensures digits { AllDigits 10 (numeral.now.whole ++ numeral.now.fraction) }
 {
-    let (whole, fraction) = (numeral.whole(), numeral.fraction());
-    let exponent = capped(0, numeral.exponent());
-    let shown = whole.len() as u128 + u128::from(places) + 1;
-    let kept = if numeral.is_exponent_negative() {
-        shown.saturating_sub(exponent)
-    } else {
-        shown + exponent
-    };
-    first(whole, fraction, kept)
+    floor_at(numeral, u64::from(places) + 1)
 }
 
 /// All digits as one number, with the zeros of a positive exponent, or `CAP` where that is less.
@@ -143,27 +162,25 @@ pub(crate) fn places_of(numeral: &Numeral<'_>) -> u128
 }
 
 // Whether all digits are zeros.
-fn is_nothing(digits: &[u8]) -> bool {
-    digits.iter().all(|digit| *digit == b'0')
+fn is_nothing(digits: &[u8]) -> bool
+    requires { AllDigits 10 digits.now }
+    ensures { IsTrue result ↔ (digits_value 10 digits.now ≡ 0) }
+{
+    for digit in digits {
+        if *digit != b'0' {
+            return false;
+        }
+    }
+    true
 }
 
-/// Whether no digit but zeros is behind those of which `tenths` makes its result.
-pub(crate) fn is_nothing_behind(numeral: &Numeral<'_>, places: u32) -> bool {
+/// Whether no digit but zeros is behind those of which `floor_at` makes its result.
+pub(crate) fn is_nothing_behind(numeral: &Numeral<'_>, places: u64) -> bool
+    ensures { IsTrue result ↔ (digits_value 10 (drop (spec.kept_of places numeral.now) (numeral.now.whole ++ numeral.now.fraction)) ≡ 0) }
+{
     let (whole, fraction) = (numeral.whole(), numeral.fraction());
     let kept = kept_of(numeral, places);
-    let (all_whole, all_fraction) = (whole.len() as u128, fraction.len() as u128);
-    let of_whole = kept.min(all_whole);
-    let of_fraction = (kept - of_whole).min(all_fraction);
+    let of_whole = kept.min(whole.len() as u128);
+    let of_fraction = (kept - of_whole).min(fraction.len() as u128);
     is_nothing(&whole[of_whole as usize..]) && is_nothing(&fraction[of_fraction as usize..])
-}
-
-// How many digits stand before the point, once it is moved by the exponent, the places and one more.
-fn kept_of(numeral: &Numeral<'_>, places: u32) -> u128 {
-    let power = capped(0, numeral.exponent());
-    let unmoved = numeral.whole().len() as u128 + u128::from(places) + 1;
-    if numeral.is_exponent_negative() {
-        unmoved.saturating_sub(power)
-    } else {
-        unmoved + power
-    }
 }

@@ -1,4 +1,5 @@
 //! What snapping keeps, as contracts of functions that do nothing.
+ghost use Rattle.decimals.specs.Amount.{TextsAreWorth};
 ghost use Rattle.decimals.specs.Laws.{EqualNumeralsSnapAlike, OrderIsKept, GridStays, NumbersAreNumerals};
 
 /// Numerals that are worth the same have one position, however they are written: 1.5, 1.50 and 15e-1.
@@ -23,4 +24,9 @@ pub fn grid_stays()
 /// Each number of JSON is a numeral, so `snap` refuses none but those beyond the limits.
 pub fn numbers_are_numerals()
     ensures { NumbersAreNumerals }
+{}
+
+/// What is printed of a decimal number is a numeral that is worth just that number.
+pub fn texts_are_worth()
+    ensures { TextsAreWorth }
 {}

@@ -1,9 +1,17 @@
 //! How far numbers are from an origin.
+ghost use Rattle.decimals.specs.Amount.{amount};
+ghost use Rattle.decimals.specs.Numeral.{IsNumeral};
+ghost use Rattle.decimals.specs.Offset.{HasOrigin, IsNear, IsOffset, IsOffsetOf, IsQuotient, origin_of};
+ghost use Rattle.fast_float.specs.Text.{with_sign};
+ghost use Rattle.std.specs.Option.{SomeIff};
+ghost use Rattle.std.specs.Prelude.{◌≡◌, ◌↔◌, ℕ, ◌+◌, ◌*◌, ◌^◌, ◌<◌, ◌≤◌, ◌+ℤ◌, ◌-ℤ◌, ◌*ℤ◌, IfSome, IsSome, IsTrue, pos, unsigned_abs};
+
 use crate::decimal::Decimal;
-use crate::digits::{CAP, is_nothing_behind, tenths};
+use crate::digits::{floor_at, is_nothing_behind};
 use crate::rounding::without_sign;
 use crate::step::Step;
 use fast_float::Numeral;
+use std::marker::Model;
 
 /// How many digits are looked at behind those of a step.
 const FURTHER: u32 = 4;
@@ -16,7 +24,20 @@ const GREATEST: u128 = 100_000_000_000_000_000_000_000_000_000;
 #[derive(Clone, Copy, PartialEq, Eq, Debug)]
 pub struct Origin {
     value: i128,
-    places: u32,
+    places: u64,
+}
+
+impl Model for Origin {
+    ghost use Rattle.decimals.specs.Amount.{Amount, amount};
+    ghost use Rattle.decimals.specs.Offset.{IsOrigin};
+
+    ghost Value = { Amount };
+
+    ghost view = { λ o. amount o.value o.places };
+
+    ghost invariant = { λ o. IsOrigin (amount o.value o.places) };
+
+    ghost inverse = { λ a. record { value = a.value; places = a.places } };
 }
 
 /// How far a number is from an origin, over the power of ten of the origin's places.
@@ -32,61 +53,93 @@ pub struct Offset {
 
 impl Origin {
     /// The origin 0, of which the offsets have so many places more than the step.
-    pub fn zero(step: &Step, further: u32) -> Origin {
+    pub fn zero(step: &Step, further: u32) -> Origin
+        ensures { result ≡ amount (pos 0) (step.now.places + further) }
+    {
         Origin {
             value: 0,
-            places: step.places().saturating_add(further),
+            places: u64::from(step.places()) + u64::from(further),
         }
     }
 
     /// An origin, or None where it has more than four digits behind those of the step, or 30 digits in all with those.
-    pub fn new(origin: Decimal, step: &Step) -> Option<Origin> {
+    pub fn new(origin: Decimal, step: &Step) -> Option<Origin>
+        ensures { SomeIff result (HasOrigin step.now origin) (origin_of step.now origin) }
+    {
         let places = step.places().checked_add(FURTHER)?;
         let value = origin.value_at(places)?;
         if value.unsigned_abs() > GREATEST {
             return None;
         }
-        Some(Origin { value, places })
+        Some(Origin {
+            value,
+            places: u64::from(places),
+        })
     }
 
     /// How many places the offsets have.
-    pub fn places(&self) -> u32 {
+    pub fn places(&self) -> u64
+        ensures { result ≡ self.now.places }
+    {
         self.places
     }
 
-    /// How far a numeral is from the origin, or None where the text is none. What is 10^30 or more counts as that.
-    pub fn offset(&self, text: &[u8]) -> Option<Offset> {
+    /// How far a numeral is from the origin, or None where the text is none. Of a number that is 10^30 or more over the
+    /// power of ten of the places nothing is said.
+    pub fn offset(&self, text: &[u8]) -> Option<Offset>
+        ensures given { IsNear self.now.places text.now → IfSome result (IsOffset self.now text.now) }
+        ensures exact { IsSome result ↔ IsNumeral text.now }
+    {
         let (negative, unsigned) = without_sign(text);
         let numeral = Numeral::scan(unsigned);
         if !numeral.has_digits() || numeral.len() < unsigned.len() {
             return None;
         }
-        let places = self.places.saturating_sub(1);
-        let size = tenths(&numeral, places);
-        let is_exact = is_nothing_behind(&numeral, places);
+        let size = floor_at(&numeral, self.places);
+        let is_exact = is_nothing_behind(&numeral, self.places);
         Some(difference(negative, size, is_exact, self.value))
     }
 }
 
-// The distance of a number from a value. The number is `size`, or a little more where that is not exact, with its sign.
-fn difference(negative: bool, size: u128, is_exact: bool, value: i128) -> Offset {
-    let size = size.min(CAP) as i128;
-    let along = if negative {
-        size.saturating_add(value)
-    } else {
-        size.saturating_sub(value)
-    };
+// So many whole numbers, and a little more where that is not exact.
+fn measured(along: i128, is_exact: bool) -> Offset
+    requires { unsigned_abs along ≤ 10 ^ 31 }
+    ensures { (d r : ℕ) → r < d → (IsTrue is_exact ↔ (r ≡ 0)) → IsOffsetOf ((along *ℤ pos d) +ℤ pos r) d result }
+{
     if along >= 0 {
         return Offset {
-            is_negative: negative,
+            is_negative: false,
             size: along.unsigned_abs(),
             is_exact,
         };
     }
-    let back = along.unsigned_abs();
+    if is_exact {
+        return Offset {
+            is_negative: true,
+            size: along.unsigned_abs(),
+            is_exact,
+        };
+    }
     Offset {
-        is_negative: !negative,
-        size: if is_exact { back } else { back - 1 },
+        is_negative: true,
+        size: along.unsigned_abs() - 1,
         is_exact,
+    }
+}
+
+// The distance of a number from a value. The number is `size`, or a little more where that is not exact, with its sign.
+fn difference(negative: bool, size: u128, is_exact: bool, value: i128) -> Offset
+    requires size { size ≤ 10 ^ 30 }
+    requires value { unsigned_abs value ≤ 10 ^ 29 }
+    ensures { (n d : ℕ) → IsQuotient n d size → (IsTrue is_exact ↔ (n ≡ size * d)) → IsOffsetOf (with_sign negative n -ℤ (value *ℤ pos d)) d result }
+{
+    let size = size as i128;
+    if !negative {
+        return measured(size - value, is_exact);
+    }
+    let back = measured(size + value, is_exact);
+    Offset {
+        is_negative: !back.is_negative,
+        ..back
     }
 }

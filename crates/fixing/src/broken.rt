@@ -1,4 +1,7 @@
 //! Why a geometry is left as it is.
+ghost use Rattle.fixing.specs.declared.broken.Broken.TheVariants.{OutOfMemory};
+ghost use Rattle.std.specs.Prelude.{◌≡◌};
+
 use std::alloc::{AllocError, AllocFailed};
 
 /// Why a geometry is left as it is.
@@ -11,12 +14,16 @@ pub(crate) enum Broken {
 }
 
 impl From<AllocError> for Broken {
+    ghost from_gives = { λ _ f. f ≡ OutOfMemory };
+
     fn from(_error: AllocError) -> Broken {
         Broken::OutOfMemory
     }
 }
 
 impl<T: Drop> From<AllocFailed<T>> for Broken {
+    ghost from_gives = { λ _ f. f ≡ OutOfMemory };
+
     fn from(_failed: AllocFailed<T>) -> Broken {
         Broken::OutOfMemory
     }

@@ -8,11 +8,13 @@ mod broken;
 mod coordinates;
 mod feature;
 mod geometry;
+pub mod laws;
 mod linework;
 mod loops;
 mod measures;
 mod polygons;
 pub mod rules;
+mod runs;
 mod text;
 
 pub use measures::area;

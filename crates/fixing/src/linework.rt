@@ -1,8 +1,13 @@
-//! Lines and rings, judged and fixed one by one.
+//! Lines and rings, checked and fixed one by one.
+ghost use Rattle.fixing.specs.Left.{all_counted, all_left, counted, line_left, line_need as needed_of_line, need_of as needed, ring_left, ring_need as needed_of_ring};
+ghost use Rattle.fixing.specs.Seen.{lists_in};
+ghost use Rattle.std.specs.Prelude.{◌≡◌, ◌∷◌, [], IfErr, IfOk, OnOk, None, Some};
+
 use crate::broken::Broken;
-use crate::loops::{loops_of, runs_of};
+use crate::loops::loops_of;
 use crate::rules::{Collapsed, Fixes, Rules};
-use grid::Pos;
+use crate::runs::runs_of;
+use grid::pos::Pos;
 use lines::line::Line;
 use lines::ring::Ring;
 use lines::shape_fault::ShapeFault;
@@ -16,25 +21,47 @@ enum Need {
     Split,
 }
 
+/// What the rules say of a list of too few positions.
+fn need_of_short(rules: &Rules) -> Result<Need, Broken>
+    ensures ok { IfOk result (λ need. needed rules.now (Some ShapeFault.TooShort) ≡ Some need) }
+    ensures refused { IfErr result (λ e. needed rules.now (Some ShapeFault.TooShort) ≡ None) }
+{
+    match rules.collapsed {
+        Collapsed::Refuse => Err(Broken::Faulty),
+        Collapsed::Null | Collapsed::Drop => Ok(Need::Drop),
+    }
+}
+
+/// What the rules say of a list that uses a segment twice.
+fn need_of_folded(rules: &Rules) -> Result<Need, Broken>
+    ensures ok { IfOk result (λ need. needed rules.now (Some ShapeFault.Revisit) ≡ Some need) }
+    ensures refused { IfErr result (λ e. needed rules.now (Some ShapeFault.Revisit) ≡ None) }
+{
+    if rules.splits_folded {
+        Ok(Need::Split)
+    } else {
+        Err(Broken::Faulty)
+    }
+}
+
 /// What the rules say of a fault.
-fn need_of(fault: ShapeFault, rules: &Rules) -> Result<Need, Broken> {
+fn need_of(fault: ShapeFault, rules: &Rules) -> Result<Need, Broken>
+    ensures ok { IfOk result (λ need. needed rules.now (Some fault) ≡ Some need) }
+    ensures refused { IfErr result (λ e. e ≡ Broken.Faulty → needed rules.now (Some fault) ≡ None) }
+    ensures memory { IfErr result (λ e. fault ≡ ShapeFault.OutOfMemory → e ≡ Broken.OutOfMemory) }
+{
     match fault {
-        ShapeFault::TooShort => if rules.collapsed == Collapsed::Refuse {
-            Err(Broken::Faulty)
-        } else {
-            Ok(Need::Drop)
-        },
-        ShapeFault::Revisit => if rules.splits_folded {
-            Ok(Need::Split)
-        } else {
-            Err(Broken::Faulty)
-        },
+        ShapeFault::TooShort => need_of_short(rules),
+        ShapeFault::Revisit => need_of_folded(rules),
         ShapeFault::NotClosed => Err(Broken::Faulty),
         ShapeFault::OutOfMemory => Err(Broken::OutOfMemory),
     }
 }
 
-fn line_need(alloc: Global, positions: &[Pos], rules: &Rules) -> Result<Need, Broken> {
+fn line_need(alloc: Global, positions: &[Pos], rules: &Rules) -> Result<Need, Broken>
+    ensures ok { IfOk result (λ need. needed_of_line rules.now positions.now ≡ Some need) }
+    ensures refused { IfErr result (λ e. e ≡ Broken.Faulty → needed_of_line rules.now positions.now ≡ None) }
+{
     let copy = positions.to_vec(alloc)?;
     match Line::from_positions(alloc, copy) {
         Ok(_) => Ok(Need::Nothing),
@@ -42,7 +69,10 @@ fn line_need(alloc: Global, positions: &[Pos], rules: &Rules) -> Result<Need, Br
     }
 }
 
-fn ring_need(alloc: Global, closed: &[Pos], rules: &Rules) -> Result<Need, Broken> {
+fn ring_need(alloc: Global, closed: &[Pos], rules: &Rules) -> Result<Need, Broken>
+    ensures ok { IfOk result (λ need. needed_of_ring rules.now closed.now ≡ Some need) }
+    ensures refused { IfErr result (λ e. e ≡ Broken.Faulty → needed_of_ring rules.now closed.now ≡ None) }
+{
     let copy = closed.to_vec(alloc)?;
     match Ring::from_closed(alloc, copy) {
         Ok(_) => Ok(Need::Nothing),
@@ -51,7 +81,10 @@ fn ring_need(alloc: Global, closed: &[Pos], rules: &Rules) -> Result<Need, Broke
 }
 
 /// One list alone.
-fn only(alloc: Global, list: Vec<Pos>) -> Result<Vec<Vec<Pos>>, Broken> {
+fn only(alloc: Global, list: Vec<Pos>) -> Result<Vec<Vec<Pos>>, Broken>
+    ensures ok { IfOk result (λ lists. lists.items ≡ list ∷ []) }
+    ensures memory { IfErr result (λ e. e ≡ Broken.OutOfMemory) }
+{
     let mut lists = Vec::new(alloc);
     lists.push(list)?;
     Ok(lists)
@@ -63,7 +96,11 @@ pub(crate) fn fix_line(
     positions: Vec<Pos>,
     rules: &Rules,
     fixes: &mut Fixes,
-) -> Result<Vec<Vec<Pos>>, Broken> {
+) -> Result<Vec<Vec<Pos>>, Broken>
+    ensures left { IfOk result (λ parts. line_left rules.now positions.items ≡ Some (lists_in parts.items)) }
+    ensures fixes { OnOk result (fixes.new ≡ counted (needed_of_line rules.now positions.items) fixes.old) }
+    ensures refused { IfErr result (λ e. e ≡ Broken.Faulty → line_left rules.now positions.items ≡ None) }
+{
     match line_need(alloc, positions.as_slice(), rules)? {
         Need::Nothing => only(alloc, positions),
         Need::Drop => {
@@ -72,7 +109,7 @@ pub(crate) fn fix_line(
         }
         Need::Split => {
             fixes.folded = fixes.folded.saturating_add(1);
-            runs_of(alloc, positions.as_slice())
+            Ok(runs_of(alloc, positions)?)
         }
     }
 }
@@ -83,7 +120,11 @@ pub(crate) fn fix_ring(
     closed: Vec<Pos>,
     rules: &Rules,
     fixes: &mut Fixes,
-) -> Result<Vec<Vec<Pos>>, Broken> {
+) -> Result<Vec<Vec<Pos>>, Broken>
+    ensures left { IfOk result (λ parts. ring_left rules.now closed.items ≡ Some (lists_in parts.items)) }
+    ensures fixes { OnOk result (fixes.new ≡ counted (needed_of_ring rules.now closed.items) fixes.old) }
+    ensures refused { IfErr result (λ e. e ≡ Broken.Faulty → ring_left rules.now closed.items ≡ None) }
+{
     match ring_need(alloc, closed.as_slice(), rules)? {
         Need::Nothing => only(alloc, closed),
         Need::Drop => {
@@ -92,7 +133,7 @@ pub(crate) fn fix_ring(
         }
         Need::Split => {
             fixes.folded = fixes.folded.saturating_add(1);
-            loops_of(alloc, closed.as_slice())
+            Ok(loops_of(alloc, closed.as_slice())?)
         }
     }
 }
@@ -103,12 +144,15 @@ pub(crate) fn fix_lines(
     lines: Vec<Vec<Pos>>,
     rules: &Rules,
     fixes: &mut Fixes,
-) -> Result<Vec<Vec<Pos>>, Broken> {
+) -> Result<Vec<Vec<Pos>>, Broken>
+    ensures left { IfOk result (λ parts. all_left (line_left rules.now) (lists_in lines.items) ≡ Some (lists_in parts.items)) }
+    ensures fixes { OnOk result (fixes.new ≡ all_counted (needed_of_line rules.now) (lists_in lines.items) fixes.old) }
+    ensures refused { IfErr result (λ e. e ≡ Broken.Faulty → all_left (line_left rules.now) (lists_in lines.items) ≡ None) }
+{
     let mut fixed = Vec::new(alloc);
     for line in lines {
-        for part in fix_line(alloc, line, rules, fixes)? {
-            fixed.push(part)?;
-        }
+        let mut parts = fix_line(alloc, line, rules, fixes)?;
+        fixed.append(&mut parts)?;
     }
     Ok(fixed)
 }

@@ -1,94 +1,89 @@
-//! Lines and rings that use a segment twice, split where they do.
-use crate::broken::Broken;
-use grid::Pos;
-use lines::pair::Pair;
-use std::alloc::Global;
-use std::collections::{BTreeMap, BTreeSet};
+//! Rings that use a segment twice, cut into loops.
+ghost use Rattle.fixing.specs.Loops.{loop_kept, loops_of as loops_in, place_on};
+ghost use Rattle.fixing.specs.Seen.{lists_in};
+ghost use Rattle.fixing.specs.Walks.{IsNoted, loops_left};
+ghost use Rattle.grid.specs.declared.pos.Pos.{Pos};
+ghost use Rattle.std.specs.Prelude.{◌≡◌, ◌+◌, ◌<◌, ◌∷◌, ◌++◌, [], IfOk, OnOk, List, drop, take, vec_len};
 
-/// The runs of a line between the segments that were used before, in order. Equal neighbours are one position,
-/// and a run of one position is none.
-pub(crate) fn runs_of(alloc: Global, positions: &[Pos]) -> Result<Vec<Vec<Pos>>, Broken> {
-    let mut used: BTreeSet<Pair> = BTreeSet::new(alloc);
-    let mut runs = Vec::new(alloc);
-    let mut run: Vec<Pos> = Vec::new(alloc);
-    let mut last: Option<Pos> = None;
-    for position in positions {
-        if last == Some(*position) {
-            continue;
-        }
-        if let Some(before) = last {
-            if !used.insert(Pair::of(before, *position))? {
-                push_run(&mut runs, run)?;
-                run = Vec::new(alloc);
-            }
-        }
-        run.push(*position)?;
-        last = Some(*position);
-    }
-    push_run(&mut runs, run)?;
-    Ok(runs)
-}
+use grid::pos::Pos;
+use std::alloc::{AllocError, Global};
+use std::collections::BTreeMap;
 
-fn push_run(runs: &mut Vec<Vec<Pos>>, run: Vec<Pos>) -> Result<(), Broken> {
-    if run.len() > 1 {
-        runs.push(run)?;
-    }
-    Ok(())
-}
-
-/// A walk round a ring: the positions since the last loop was cut off, each once, and where each stands.
+/// A walk round a ring: the loops that were cut off, the positions since the last one, each once, and where they
+/// are. Positions that the path has no more may be noted too.
 #[derive(Drop)]
 struct Walk {
+    loops: Vec<Vec<Pos>>,
     path: Vec<Pos>,
     places: BTreeMap<Pos, usize>,
 }
 
 impl Walk {
-    fn new(alloc: Global) -> Walk {
+    /// The walk that has not begun.
+    fn new(alloc: Global) -> Walk
+        ensures noted { IsNoted result }
+        ensures left { (l : List Pos) → loops_left result l ≡ loops_in l }
+    {
         Walk {
+            loops: Vec::new(alloc),
             path: Vec::new(alloc),
             places: BTreeMap::new(alloc),
         }
     }
 
-    /// Goes on to a position. Where it was met before, the loop since then is cut off, and is the answer.
-    fn step(&mut self, alloc: Global, position: Pos) -> Result<Vec<Pos>, Broken> {
-        match self.places.get(&position).copied() {
-            Some(place) => self.cut_loop(alloc, position, place),
-            None => {
-                let place = self.path.len();
-                self.places.insert(position, place)?;
-                self.path.push(position)?;
-                Ok(Vec::new(alloc))
-            }
-        }
+    /// The place of a position on the path.
+    fn place(&self, position: Pos) -> Option<usize>
+        requires { IsNoted self.now }
+        ensures { result ≡ place_on position self.now.path.items }
+    {
+        let Some(place) = self.places.get(&position) else {
+            return None;
+        };
+        let Some(met) = self.path.get(*place) else {
+            return None;
+        };
+        if *met == position { Some(*place) } else { None }
     }
 
-    /// Cuts off what stands from a place on, closed by the position there, which stays.
-    fn cut_loop(&mut self, alloc: Global, position: Pos, place: usize) -> Result<Vec<Pos>, Broken> {
-        let mut closed = Vec::new(alloc);
-        for met in self.path.get(place..).unwrap_or(&[]) {
-            closed.push(*met)?;
-            if *met != position {
-                self.places.remove(met);
-            }
-        }
+    /// Cuts off what is there from a place on, closed by the position there, which stays.
+    fn cut_loop(&mut self, alloc: Global, position: Pos, place: usize) -> Result<(), AllocError>
+        requires { place < vec_len self.old.path }
+        ensures loops { OnOk result (lists_in self.new.loops.items ≡ lists_in self.old.loops.items ++ loop_kept (drop place self.old.path.items ++ position ∷ [])) }
+        ensures path { OnOk result (self.new.path.items ≡ take (place + 1) self.old.path.items) }
+        ensures places { self.new.places ≡ self.old.places }
+    {
+        let mut closed = self.path[place..].to_vec(alloc)?;
         closed.push(position)?;
-        self.path.truncate(place.saturating_add(1));
-        Ok(closed)
+        self.path.truncate(place + 1);
+        if closed.len() > 3 {
+            self.loops.push(closed)?;
+        }
+        Ok(())
+    }
+
+    /// Goes on to a position. Where the path has it, the loop since then is cut off.
+    fn step(&mut self, alloc: Global, position: Pos) -> Result<(), AllocError>
+        requires { IsNoted self.old }
+        ensures noted { OnOk result (IsNoted self.new) }
+        ensures left { OnOk result ((l : List Pos) → loops_left self.new l ≡ loops_left self.old (position ∷ l)) }
+    {
+        if let Some(place) = self.place(position) {
+            return self.cut_loop(alloc, position, place);
+        }
+        self.places.insert(position, self.path.len())?;
+        self.path.push(position)?;
+        Ok(())
     }
 }
 
 /// The loops of a ring that meet no position twice, in the order in which they end. Those of less than three
 /// segments, which go to a position and back, are none.
-pub(crate) fn loops_of(alloc: Global, closed: &[Pos]) -> Result<Vec<Vec<Pos>>, Broken> {
+pub(crate) fn loops_of(alloc: Global, closed: &[Pos]) -> Result<Vec<Vec<Pos>>, AllocError>
+    ensures { IfOk result (λ loops. lists_in loops.items ≡ loops_in closed.now) }
+{
     let mut walk = Walk::new(alloc);
-    let mut loops = Vec::new(alloc);
     for position in closed {
-        let closed_loop = walk.step(alloc, *position)?;
-        if closed_loop.len() > 3 {
-            loops.push(closed_loop)?;
-        }
+        walk.step(alloc, *position)?;
     }
-    Ok(loops)
+    Ok(walk.loops)
 }

@@ -1,94 +1,191 @@
 //! On which side of rings positions lie, and how rings turn.
+ghost use Rattle.fixing.specs.Left.{one_more};
+ghost use Rattle.fixing.specs.Measures.{twice_area, cross as cross_of, doubled, inside_from, is_inside, lies_in as lies_within, middle as middle_of, ray_crosses, rewound, spread as spread_of, turned_by as turned_if, turned_to, turns_left as is_left};
+ghost use Rattle.std.specs.Int.{int_wrap};
+ghost use Rattle.std.specs.Prelude.{◌≡◌, ◌*ℤ◌, int_lt, not, if◌then◌else◌};
+ghost use mir.Syntax.{w128};
+
 use crate::rules::Rewind;
-use grid::Pos;
+use grid::pos::Pos;
 
 /// Of how many positions of a ring the sides are looked at.
-const SIDES: usize = 9;
+const POSITIONS: usize = 9;
 
-/// Twice the area of the triangle of 0 and two positions, greater than 0 where they turn counterclockwise.
-fn cross(a: Pos, b: Pos) -> i128 {
-    let (ax, ay) = (i128::from(a.x()), i128::from(a.y()));
-    let (bx, by) = (i128::from(b.x()), i128::from(b.y()));
-    ax.wrapping_mul(by).wrapping_sub(bx.wrapping_mul(ay))
+/// Whether a number is less than another.
+fn is_less(a: i128, b: i128) -> bool
+    ensures { result ≡ int_lt a b }
+{
+    a < b
 }
 
-/// Twice the area of a ring, greater than 0 where it turns counterclockwise.
-pub fn area(closed: &[Pos]) -> i128 {
+/// The product of two grid numbers.
+fn product(a: i64, b: i64) -> i128
+    ensures { result ≡ int_wrap w128 (a *ℤ b) }
+{
+    i128::from(a).wrapping_mul(i128::from(b))
+}
+
+/// Twice the area of the triangle of 0 and two positions, greater than 0 where they turn counterclockwise.
+fn cross(a: Pos, b: Pos) -> i128
+    ensures { result ≡ int_wrap w128 (cross_of a b) }
+{
+    product(a.x(), b.y()).wrapping_sub(product(b.x(), a.y()))
+}
+
+/// Twice the area of a ring, greater than 0 where it turns counterclockwise. The ring is a closed list of positions;
+/// below 2^44 of them the number does not wrap.
+pub fn area(closed: &[Pos]) -> i128
+    ensures { result ≡ int_wrap w128 (twice_area closed.now) }
+{
+    let Some((first, others)) = closed.split_first() else {
+        return 0;
+    };
     let mut area = 0i128;
-    let mut last: Option<Pos> = None;
-    for position in closed {
-        if let Some(before) = last {
-            area = area.wrapping_add(cross(before, *position));
-        }
-        last = Some(*position);
+    let mut here = *first;
+    for next in others {
+        area = area.wrapping_add(cross(here, *next));
+        here = *next;
     }
     area
 }
 
-/// The numbers of a position, doubled.
-fn twice(position: Pos) -> (i128, i128) {
-    let (x, y) = (i128::from(position.x()), i128::from(position.y()));
-    (x.wrapping_add(x), y.wrapping_add(y))
+/// Whether a ring turns counterclockwise.
+pub(crate) fn turns_left(closed: &[Pos]) -> bool
+    ensures { result ≡ is_left closed.now }
+{
+    is_less(0, area(closed))
+}
+
+/// The double of a grid number.
+fn twice(number: i64) -> i128
+    ensures { result ≡ doubled number }
+{
+    let number = i128::from(number);
+    number.wrapping_add(number)
+}
+
+/// The product of the differences a - b and c - d.
+fn spread(a: i128, b: i128, c: i128, d: i128) -> i128
+    ensures { result ≡ spread_of a b c d }
+{
+    a.wrapping_sub(b).wrapping_mul(c.wrapping_sub(d))
+}
+
+/// Whether two tests have one answer.
+fn is_same(a: bool, b: bool) -> bool
+    ensures { result ≡ (if a then b else not b) }
+{
+    if a { b } else { !b }
 }
 
 /// Whether a ray to the right crosses the segment, from a place of which the doubled numbers are said.
-fn crosses(a: Pos, b: Pos, place: (i128, i128)) -> bool {
-    let (ax, ay) = twice(a);
-    let (bx, by) = twice(b);
-    if (ay > place.1) == (by > place.1) {
+fn crosses(a: Pos, b: Pos, place: (i128, i128)) -> bool
+    ensures { result ≡ ray_crosses a b place }
+{
+    let (ax, ay) = (twice(a.x()), twice(a.y()));
+    let (bx, by) = (twice(b.x()), twice(b.y()));
+    if is_same(is_less(place.1, ay), is_less(place.1, by)) {
         return false;
     }
-    let across = bx.wrapping_sub(ax).wrapping_mul(place.1.wrapping_sub(ay));
-    let along = by.wrapping_sub(ay).wrapping_mul(place.0.wrapping_sub(ax));
-    if by > ay {
-        across > along
+    let across = spread(bx, ax, place.1, ay);
+    let along = spread(by, ay, place.0, ax);
+    if is_less(ay, by) {
+        is_less(along, across)
     } else {
-        across < along
+        is_less(across, along)
     }
 }
 
+/// A test, turned round where the other holds.
+fn turned_by(turns: bool, inside: bool) -> bool
+    ensures { result ≡ turned_if turns inside }
+{
+    if turns { !inside } else { inside }
+}
+
 /// Whether a place, of which the doubled numbers are said, lies inside a ring.
-fn contains(closed: &[Pos], place: (i128, i128)) -> bool {
+fn contains(closed: &[Pos], place: (i128, i128)) -> bool
+    ensures { result ≡ is_inside closed.now place }
+{
+    let Some((first, others)) = closed.split_first() else {
+        return false;
+    };
     let mut inside = false;
-    let mut last: Option<Pos> = None;
-    for position in closed {
-        if let Some(before) = last {
-            inside = inside != crosses(before, *position, place);
-        }
-        last = Some(*position);
+    let mut here = *first;
+    for next in others {
+        inside = turned_by(crosses(here, *next, place), inside);
+        here = *next;
     }
     inside
 }
 
+/// The middle of a segment, by its doubled numbers.
+fn middle(a: Pos, b: Pos) -> (i128, i128)
+    ensures { result ≡ middle_of a b }
+{
+    (
+        i128::from(a.x()).wrapping_add(i128::from(b.x())),
+        i128::from(a.y()).wrapping_add(i128::from(b.y())),
+    )
+}
+
+/// How many places lie inside a ring, and how many do not.
+#[derive(Clone, Copy)]
+struct Tally {
+    inside: u64,
+    outside: u64,
+}
+
+impl Tally {
+    fn count(&mut self, is_inside: bool)
+        ensures inside { self.new.inside ≡ (if is_inside then one_more self.old.inside else self.old.inside) }
+        ensures outside { self.new.outside ≡ (if is_inside then self.old.outside else one_more self.old.outside) }
+    {
+        if is_inside {
+            self.inside = self.inside.saturating_add(1);
+        } else {
+            self.outside = self.outside.saturating_add(1);
+        }
+    }
+}
+
 /// Whether a ring lies in another: whether more than half of the middles of its first sides do, as the two may
 /// touch.
-pub(crate) fn lies_in(ring: &[Pos], other: &[Pos]) -> bool {
-    let mut inside = 0u64;
-    let mut outside = 0u64;
-    let mut last: Option<Pos> = None;
-    for position in ring.iter().take(SIDES) {
-        if let Some(before) = last {
-            let x = i128::from(before.x()).wrapping_add(i128::from(position.x()));
-            let y = i128::from(before.y()).wrapping_add(i128::from(position.y()));
-            if contains(other, (x, y)) {
-                inside = inside.saturating_add(1);
-            } else {
-                outside = outside.saturating_add(1);
-            }
-        }
-        last = Some(*position);
+pub(crate) fn lies_in(ring: &[Pos], other: &[Pos]) -> bool
+    ensures { result ≡ lies_within ring.now other.now }
+{
+    let (begun, _) = ring.split_at(ring.len().min(POSITIONS));
+    let Some((first, others)) = begun.split_first() else {
+        return false;
+    };
+    let mut tally = Tally {
+        inside: 0,
+        outside: 0,
+    };
+    let mut here = *first;
+    for next in others {
+        tally.count(contains(other, middle(here, *next)));
+        here = *next;
     }
-    inside > outside
+    tally.outside < tally.inside
+}
+
+/// Turns a ring counterclockwise or clockwise.
+fn turn_to(ring: &mut Vec<Pos>, counterclockwise: bool)
+    ensures { ring.new.items ≡ turned_to counterclockwise ring.old.items }
+{
+    if !is_same(turns_left(ring.as_slice()), counterclockwise) {
+        ring.reverse();
+    }
 }
 
 /// Turns a ring as it is wanted: an outer one, or a hole.
-pub(crate) fn turn(ring: &mut Vec<Pos>, is_outer: bool, rewind: Rewind) {
-    let counterclockwise = match rewind {
-        Rewind::Keep => return,
-        Rewind::Rfc7946 => is_outer,
-        Rewind::D3 => !is_outer,
-    };
-    if (area(ring.as_slice()) > 0) != counterclockwise {
-        ring.reverse();
+pub(crate) fn turn(ring: &mut Vec<Pos>, is_outer: bool, rewind: Rewind)
+    ensures { ring.new.items ≡ rewound rewind is_outer ring.old.items }
+{
+    match rewind {
+        Rewind::Keep => {}
+        Rewind::Rfc7946 => turn_to(ring, is_outer),
+        Rewind::D3 => turn_to(ring, !is_outer),
     }
 }

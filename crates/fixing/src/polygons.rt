@@ -1,65 +1,132 @@
 //! Polygons, fixed one by one.
+ghost use Rattle.fixing.specs.Left.{all_left};
+ghost use Rattle.fixing.specs.Polygons.{home_of as home_in, home_of_hole as home_in_of_hole, is_home as is_home_of, polygon_counted, polygon_kept, polygon_left, polygons_counted, polygons_of as alone, polygons_of_loops as made_of_loops, put_at, put_holes as with_these, put_others as with_others, put_ring as with_ring, rewound_polygon, turns_to as is_turned_to};
+ghost use Rattle.fixing.specs.Seen.{lists_in, polygons_in};
+ghost use Rattle.std.specs.Prelude.{◌≡◌, ◌∷◌, [], IfErr, IfOk, OnOk, None, Some, map, not};
+ghost use Rattle.theory.specs.TopologyFunction.{keep};
+
 use crate::broken::Broken;
 use crate::linework::fix_ring;
-use crate::measures::{area, lies_in, turn};
-use crate::rules::{Fixes, Rules};
-use grid::Pos;
-use std::alloc::Global;
+use crate::measures::{lies_in, turn, turns_left};
+use crate::rules::{Fixes, Rewind, Rules};
+use grid::pos::Pos;
+use std::alloc::{AllocError, Global};
 
-/// A polygon of each outer ring.
-fn polygons_of(alloc: Global, outers: Vec<Vec<Pos>>) -> Result<Vec<Vec<Vec<Pos>>>, Broken> {
+/// A polygon of each ring.
+fn polygons_of(alloc: Global, rings: Vec<Vec<Pos>>) -> Result<Vec<Vec<Vec<Pos>>>, AllocError>
+    ensures { IfOk result (λ made. polygons_in made.items ≡ alone (lists_in rings.items)) }
+{
     let mut polygons = Vec::new(alloc);
-    for outer in outers {
-        let mut rings = Vec::new(alloc);
-        rings.push(outer)?;
-        polygons.push(rings)?;
+    for ring in rings {
+        let mut polygon = Vec::new(alloc);
+        polygon.push(ring)?;
+        polygons.push(polygon)?;
     }
     Ok(polygons)
 }
 
+/// Whether a ring lies in the outer ring of a polygon.
+fn is_home(polygon: &[Vec<Pos>], ring: &[Pos]) -> bool
+    ensures { result ≡ is_home_of ring.now (lists_in polygon.now) }
+{
+    match polygon.first() {
+        Some(outer) => lies_in(ring, outer.as_slice()),
+        None => false,
+    }
+}
+
 /// The first polygon in whose outer ring a ring lies.
-fn home_of(polygons: &[Vec<Vec<Pos>>], ring: &[Pos]) -> Option<usize> {
+fn home_of(polygons: &[Vec<Vec<Pos>>], ring: &[Pos]) -> Option<usize>
+    ensures { result ≡ home_in (polygons_in polygons.now) ring.now }
+{
     for (place, polygon) in polygons.iter().enumerate() {
-        if let Some(outer) = polygon.first() {
-            if lies_in(ring, outer.as_slice()) {
-                return Some(place);
-            }
+        if is_home(polygon.as_slice(), ring) {
+            return Some(place);
         }
     }
     None
 }
 
-/// Puts rings into polygons, as holes.
-fn put_ring(polygons: &mut Vec<Vec<Vec<Pos>>>, ring: Vec<Pos>, home: usize) -> Result<(), Broken> {
-    if let Some(polygon) = polygons.get_mut(home) {
-        polygon.push(ring)?;
+/// Puts a ring into a polygon, as a hole.
+fn put_ring(
+    polygons: &mut Vec<Vec<Vec<Pos>>>,
+    ring: Vec<Pos>,
+    home: usize,
+) -> Result<(), AllocError>
+    ensures { OnOk result (polygons_in polygons.new.items ≡ with_ring home ring.items (polygons_in polygons.old.items)) }
+{
+    if home < polygons.len() {
+        polygons[home].push(ring)?;
     }
     Ok(())
 }
 
+/// The polygon that a hole is put into: the only one, or that in which it lies, or the first.
+fn home_of_hole(polygons: &[Vec<Vec<Pos>>], hole: &[Pos]) -> usize
+    ensures { result ≡ home_in_of_hole (polygons_in polygons.now) hole.now }
+{
+    if polygons.len() > 1 {
+        home_of(polygons, hole).unwrap_or(0)
+    } else {
+        0
+    }
+}
+
 /// Puts the holes that remain of a hole into the polygons that they lie in, or into the first.
-fn put_holes(polygons: &mut Vec<Vec<Vec<Pos>>>, holes: Vec<Vec<Pos>>) -> Result<(), Broken> {
+fn put_holes(polygons: &mut Vec<Vec<Vec<Pos>>>, holes: Vec<Vec<Pos>>) -> Result<(), AllocError>
+    ensures { OnOk result (polygons_in polygons.new.items ≡ with_these (lists_in holes.items) (polygons_in polygons.old.items)) }
+{
     for hole in holes {
-        let home = if polygons.len() > 1 {
-            home_of(polygons.as_slice(), hole.as_slice()).unwrap_or(0)
-        } else {
-            0
-        };
+        let home = home_of_hole(polygons.as_slice(), hole.as_slice());
         put_ring(polygons, hole, home)?;
     }
     Ok(())
+}
+
+/// Puts a ring into the polygon that it lies in, or drops it.
+fn put_other(polygons: &mut Vec<Vec<Vec<Pos>>>, ring: Vec<Pos>) -> Result<(), AllocError>
+    ensures { OnOk result (polygons_in polygons.new.items ≡ put_at (home_in (polygons_in polygons.old.items) ring.items) ring.items (polygons_in polygons.old.items)) }
+{
+    match home_of(polygons.as_slice(), ring.as_slice()) {
+        Some(home) => put_ring(polygons, ring, home),
+        None => Ok(()),
+    }
+}
+
+/// Puts each of the rings into the polygon that it lies in, or drops it.
+fn put_others(polygons: &mut Vec<Vec<Vec<Pos>>>, rings: Vec<Vec<Pos>>) -> Result<(), AllocError>
+    ensures { OnOk result (polygons_in polygons.new.items ≡ with_others (lists_in rings.items) (polygons_in polygons.old.items)) }
+{
+    for ring in rings {
+        put_other(polygons, ring)?;
+    }
+    Ok(())
+}
+
+/// Whether a ring turns counterclockwise, or clockwise.
+fn turns_to(ring: &[Pos], counterclockwise: bool) -> bool
+    ensures { result ≡ is_turned_to counterclockwise ring.now }
+{
+    if counterclockwise {
+        turns_left(ring)
+    } else {
+        !turns_left(ring)
+    }
 }
 
 /// The loops of an outer ring that turn as it does, and the others.
 fn split_by_turn(
     alloc: Global,
     loops: Vec<Vec<Pos>>,
-    is_counterclockwise: bool,
-) -> Result<(Vec<Vec<Pos>>, Vec<Vec<Pos>>), Broken> {
+    counterclockwise: bool,
+) -> Result<(Vec<Vec<Pos>>, Vec<Vec<Pos>>), AllocError>
+    ensures outers { IfOk result (λ parts. lists_in parts.0.items ≡ keep (is_turned_to counterclockwise) (lists_in loops.items)) }
+    ensures others { IfOk result (λ parts. lists_in parts.1.items ≡ keep (λ ring. not (is_turned_to counterclockwise ring)) (lists_in loops.items)) }
+{
     let mut outers = Vec::new(alloc);
     let mut others = Vec::new(alloc);
     for ring in loops {
-        if (area(ring.as_slice()) > 0) == is_counterclockwise {
+        if turns_to(ring.as_slice(), counterclockwise) {
             outers.push(ring)?;
         } else {
             others.push(ring)?;
@@ -73,17 +140,82 @@ fn split_by_turn(
 fn polygons_of_loops(
     alloc: Global,
     loops: Vec<Vec<Pos>>,
-    is_counterclockwise: bool,
-) -> Result<Vec<Vec<Vec<Pos>>>, Broken> {
+    counterclockwise: bool,
+) -> Result<Vec<Vec<Vec<Pos>>>, AllocError>
+    ensures { IfOk result (λ made. polygons_in made.items ≡ made_of_loops counterclockwise (lists_in loops.items)) }
+{
     if loops.len() < 2 {
         return polygons_of(alloc, loops);
     }
-    let (outers, others) = split_by_turn(alloc, loops, is_counterclockwise)?;
+    let (outers, others) = split_by_turn(alloc, loops, counterclockwise)?;
     let mut polygons = polygons_of(alloc, outers)?;
-    for ring in others {
-        if let Some(home) = home_of(polygons.as_slice(), ring.as_slice()) {
-            put_ring(&mut polygons, ring, home)?;
-        }
+    put_others(&mut polygons, others)?;
+    Ok(polygons)
+}
+
+/// Turns the rings of a polygon as they are wanted.
+fn turn_rings(
+    alloc: Global,
+    rings: Vec<Vec<Pos>>,
+    rewind: Rewind,
+) -> Result<Vec<Vec<Pos>>, AllocError>
+    ensures { IfOk result (λ turned. lists_in turned.items ≡ rewound_polygon rewind (lists_in rings.items)) }
+{
+    let mut turned = Vec::with_capacity(alloc, rings.len())?;
+    let mut is_outer = true;
+    for mut ring in rings {
+        turn(&mut ring, is_outer, rewind);
+        turned.push(ring)?;
+        is_outer = false;
+    }
+    Ok(turned)
+}
+
+/// Turns the rings of polygons as they are wanted.
+fn turn_polygons(
+    alloc: Global,
+    polygons: Vec<Vec<Vec<Pos>>>,
+    rewind: Rewind,
+) -> Result<Vec<Vec<Vec<Pos>>>, AllocError>
+    ensures { IfOk result (λ turned. polygons_in turned.items ≡ map (rewound_polygon rewind) (polygons_in polygons.items)) }
+{
+    let mut turned = Vec::with_capacity(alloc, polygons.len())?;
+    for polygon in polygons {
+        turned.push(turn_rings(alloc, polygon, rewind)?)?;
+    }
+    Ok(turned)
+}
+
+/// The only polygon, without a ring.
+fn empty_polygon(alloc: Global) -> Result<Vec<Vec<Vec<Pos>>>, AllocError>
+    ensures { IfOk result (λ made. polygons_in made.items ≡ [] ∷ []) }
+{
+    let mut polygons = Vec::new(alloc);
+    polygons.push(Vec::new(alloc))?;
+    Ok(polygons)
+}
+
+/// The polygons that remain of a polygon, before their rings are turned.
+fn fix_rings(
+    alloc: Global,
+    rings: Vec<Vec<Pos>>,
+    rules: &Rules,
+    fixes: &mut Fixes,
+) -> Result<Vec<Vec<Vec<Pos>>>, Broken>
+    ensures left { IfOk result (λ made. polygon_kept rules.now (lists_in rings.items) ≡ Some (polygons_in made.items)) }
+    ensures fixes { OnOk result (fixes.new ≡ polygon_counted rules.now (lists_in rings.items) fixes.old) }
+    ensures refused { IfErr result (λ e. e ≡ Broken.Faulty → polygon_kept rules.now (lists_in rings.items) ≡ None) }
+{
+    let mut rings = rings.into_iter();
+    let Some(outer) = rings.next() else {
+        return Ok(empty_polygon(alloc)?);
+    };
+    let counterclockwise = turns_left(outer.as_slice());
+    let loops = fix_ring(alloc, outer, rules, fixes)?;
+    let mut polygons = polygons_of_loops(alloc, loops, counterclockwise)?;
+    for hole in rings {
+        let left = fix_ring(alloc, hole, rules, fixes)?;
+        put_holes(&mut polygons, left)?;
     }
     Ok(polygons)
 }
@@ -94,36 +226,13 @@ pub(crate) fn fix_polygon(
     rings: Vec<Vec<Pos>>,
     rules: &Rules,
     fixes: &mut Fixes,
-) -> Result<Vec<Vec<Vec<Pos>>>, Broken> {
-    let mut polygons = Vec::new(alloc);
-    if rings.is_empty() {
-        polygons.push(rings)?;
-        return Ok(polygons);
-    }
-    let mut is_outer = true;
-    for ring in rings {
-        let is_counterclockwise = area(ring.as_slice()) > 0;
-        let fixed = fix_ring(alloc, ring, rules, fixes)?;
-        if is_outer {
-            polygons = polygons_of_loops(alloc, fixed, is_counterclockwise)?;
-            is_outer = false;
-        } else {
-            put_holes(&mut polygons, fixed)?;
-        }
-    }
-    for polygon in polygons.as_mut_slice() {
-        turn_rings(polygon, rules);
-    }
-    Ok(polygons)
-}
-
-/// Turns the rings of a polygon as they are wanted.
-fn turn_rings(polygon: &mut Vec<Vec<Pos>>, rules: &Rules) {
-    let mut is_outer = true;
-    for ring in polygon.as_mut_slice() {
-        turn(ring, is_outer, rules.rewind);
-        is_outer = false;
-    }
+) -> Result<Vec<Vec<Vec<Pos>>>, Broken>
+    ensures left { IfOk result (λ made. polygon_left rules.now (lists_in rings.items) ≡ Some (polygons_in made.items)) }
+    ensures fixes { OnOk result (fixes.new ≡ polygon_counted rules.now (lists_in rings.items) fixes.old) }
+    ensures refused { IfErr result (λ e. e ≡ Broken.Faulty → polygon_left rules.now (lists_in rings.items) ≡ None) }
+{
+    let polygons = fix_rings(alloc, rings, rules, fixes)?;
+    Ok(turn_polygons(alloc, polygons, rules.rewind)?)
 }
 
 /// The polygons that remain of some polygons.
@@ -132,12 +241,15 @@ pub(crate) fn fix_polygons(
     polygons: Vec<Vec<Vec<Pos>>>,
     rules: &Rules,
     fixes: &mut Fixes,
-) -> Result<Vec<Vec<Vec<Pos>>>, Broken> {
+) -> Result<Vec<Vec<Vec<Pos>>>, Broken>
+    ensures left { IfOk result (λ made. all_left (polygon_left rules.now) (polygons_in polygons.items) ≡ Some (polygons_in made.items)) }
+    ensures fixes { OnOk result (fixes.new ≡ polygons_counted rules.now (polygons_in polygons.items) fixes.old) }
+    ensures refused { IfErr result (λ e. e ≡ Broken.Faulty → all_left (polygon_left rules.now) (polygons_in polygons.items) ≡ None) }
+{
     let mut fixed = Vec::new(alloc);
     for polygon in polygons {
-        for part in fix_polygon(alloc, polygon, rules, fixes)? {
-            fixed.push(part)?;
-        }
+        let mut parts = fix_polygon(alloc, polygon, rules, fixes)?;
+        fixed.append(&mut parts)?;
     }
     Ok(fixed)
 }

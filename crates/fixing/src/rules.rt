@@ -1,4 +1,6 @@
 //! What is fixed, and what was.
+ghost use Rattle.fixing.specs.Counts.{is_any, sum_of_fixes};
+ghost use Rattle.std.specs.Prelude.{◌≡◌};
 
 /// What becomes of a feature of which no shape is left.
 #[derive(Clone, Copy, PartialEq, Eq, Debug)]
@@ -50,7 +52,9 @@ pub struct Fixes {
 
 impl Fixes {
     /// Both together.
-    pub fn with(self, other: Fixes) -> Fixes {
+    pub fn with(self, other: Fixes) -> Fixes
+        ensures { result ≡ sum_of_fixes self other }
+    {
         Fixes {
             collapsed: self.collapsed.saturating_add(other.collapsed),
             folded: self.folded.saturating_add(other.folded),
@@ -60,7 +64,9 @@ impl Fixes {
     }
 
     /// Whether anything was lost or split.
-    pub fn any(self) -> bool {
+    pub fn any(self) -> bool
+        ensures { result ≡ is_any self }
+    {
         self.collapsed > 0 || self.folded > 0 || self.collections > 0 || self.lost > 0
     }
 }

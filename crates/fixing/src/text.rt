@@ -1,5 +1,7 @@
 //! Whole texts.
-ghost use Rattle.std.specs.Prelude.{⊤};
+ghost use Rattle.fixing.specs.Counted.{IsCounted};
+ghost use Rattle.fixing.specs.Counts.{AreCounted, no_fixes, sum_of_fixes, told};
+ghost use Rattle.std.specs.Prelude.{⊤, ◌≡◌, ◌∷◌, ◌++◌, [], IfOk, OnOk, map};
 
 use crate::broken::Broken;
 use crate::coordinates::text_member;
@@ -83,7 +85,10 @@ pub struct FixedText {
 }
 
 impl FixedText {
-    fn new(alloc: Global, text: String) -> FixedText {
+    fn new(alloc: Global, text: String) -> FixedText
+        ensures fixes { result.fixes ≡ no_fixes }
+        ensures features { result.features.items ≡ [] }
+    {
         FixedText {
             text,
             fixes: Fixes::default(),
@@ -92,30 +97,54 @@ impl FixedText {
     }
 
     /// Counts what was fixed of a feature.
-    fn count(&mut self, feature: usize, fixes: Fixes) -> Result<(), Broken> {
+    fn count(&mut self, feature: usize, fixes: Fixes) -> Result<(), Broken>
+        ensures fixes { OnOk result (self.new.fixes ≡ sum_of_fixes self.old.fixes fixes) }
+        ensures features { OnOk result (self.new.features.items ≡ self.old.features.items ++ told feature fixes) }
+    {
         self.fixes = self.fixes.with(fixes);
         if fixes.any() {
             self.features.push(FeatureFixes { feature, fixes })?;
         }
         Ok(())
     }
+
+    /// The text of one feature, of which so much was fixed.
+    fn of_one(alloc: Global, text: String, fixes: Fixes) -> Result<FixedText, Broken>
+        ensures { IfOk result (λ made. IsCounted made) }
+    {
+        let mut made = FixedText::new(alloc, text);
+        made.count(0, fixes)?;
+        Ok(made)
+    }
+
+    /// Puts the text of a feature behind the others, unless it is empty. The answer is whether none is there yet.
+    fn push_feature(&mut self, feature: &str, is_first: bool) -> Result<bool, Broken>
+        ensures fixes { self.new.fixes ≡ self.old.fixes }
+        ensures features { self.new.features ≡ self.old.features }
+    {
+        if feature.is_empty() {
+            return Ok(is_first);
+        }
+        if !is_first {
+            self.text.push_str(",")?;
+        }
+        self.text.push_str(feature)?;
+        Ok(false)
+    }
 }
 
 /// A collection of the features whose texts these are.
-fn collection_of(alloc: Global, features: Vec<Fixed>) -> Result<FixedText, Broken> {
+fn collection_of(alloc: Global, features: Vec<Fixed>) -> Result<FixedText, Broken>
+    ensures { IfOk result (λ made. AreCounted made.fixes made.features.items (map (λ f. f.fixes) features.items)) }
+{
     let text = String::from_str(alloc, "{\"type\":\"FeatureCollection\",\"features\":[")?;
     let mut made = FixedText::new(alloc, text);
+    let mut number = 0usize;
     let mut is_first = true;
-    for (number, feature) in features.into_iter().enumerate() {
+    for feature in features {
         made.count(number, feature.fixes)?;
-        if feature.text.is_empty() {
-            continue;
-        }
-        if !is_first {
-            made.text.push_str(",")?;
-        }
-        made.text.push_str(feature.text.as_str())?;
-        is_first = false;
+        is_first = made.push_feature(feature.text.as_str(), is_first)?;
+        number = number.saturating_add(1);
     }
     made.text.push_str("]}")?;
     Ok(made)
@@ -132,7 +161,9 @@ fn bare_feature(alloc: Global, geometry: Value) -> Result<Value, Broken> {
 }
 
 /// A collection of what remains of one feature, or of a geometry alone.
-fn collection_of_one(alloc: Global, root: Value, rules: &Rules) -> Result<FixedText, Broken> {
+fn collection_of_one(alloc: Global, root: Value, rules: &Rules) -> Result<FixedText, Broken>
+    ensures { IfOk result (λ made. IsCounted made) }
+{
     let is_feature = text_member(&root, "type") == "Feature";
     let feature = if is_feature {
         root
@@ -146,12 +177,12 @@ fn collection_of_one(alloc: Global, root: Value, rules: &Rules) -> Result<FixedT
 
 /// The text of one feature, or of a geometry alone, in which what would be fixed is null. It stays what it was, so that
 /// its faults have the paths of the file; a geometry of which nothing is left is a feature without one.
-fn blank_root(alloc: Global, root: Value, rules: &Rules) -> Result<FixedText, Broken> {
+fn blank_root(alloc: Global, root: Value, rules: &Rules) -> Result<FixedText, Broken>
+    ensures { IfOk result (λ made. IsCounted made) }
+{
     if text_member(&root, "type") == "Feature" {
         let Fixed { text, fixes } = fix_feature(alloc, root, rules)?;
-        let mut made = FixedText::new(alloc, text);
-        made.count(0, fixes)?;
-        return Ok(made);
+        return FixedText::of_one(alloc, text, fixes);
     }
     let mut fixes = Fixes::default();
     let geometries = geometries_of(alloc, root, rules, &mut fixes)?;
@@ -159,12 +190,12 @@ fn blank_root(alloc: Global, root: Value, rules: &Rules) -> Result<FixedText, Br
         [geometry] if !geometry.is_null() => geometry.to_string(alloc)?,
         _ => bare_feature(alloc, Value::Null)?.to_string(alloc)?,
     };
-    let mut made = FixedText::new(alloc, text);
-    made.count(0, fixes)?;
-    Ok(made)
+    FixedText::of_one(alloc, text, fixes)
 }
 
-fn fix_root(alloc: Global, root: Root, rules: &Rules) -> Result<FixedText, Broken> {
+fn fix_root(alloc: Global, root: Root, rules: &Rules) -> Result<FixedText, Broken>
+    ensures { IfOk result (λ made. IsCounted made) }
+{
     let Root { features, others } = root;
     match features {
         Some(features) => collection_of(alloc, features),
@@ -178,7 +209,9 @@ fn fix_root(alloc: Global, root: Root, rules: &Rules) -> Result<FixedText, Broke
 ///
 /// # Errors
 /// `Unread` where the text is no object; `OutOfMemory`.
-pub fn fix(alloc: Global, text: &str, rules: &Rules) -> Result<FixedText, Stop> {
+pub fn fix(alloc: Global, text: &str, rules: &Rules) -> Result<FixedText, Stop>
+    ensures { IfOk result (λ made. IsCounted made) }
+{
     let root = read_root(alloc, text, rules)?;
     match fix_root(alloc, root, rules) {
         Ok(fixed) => Ok(fixed),

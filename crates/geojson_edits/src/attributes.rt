@@ -212,7 +212,7 @@ fn edit(
     Ok(writer.into_inner())
 }
 
-/// A fault in the properties of the feature at which a walk stands, or in one of these properties.
+/// A fault in the properties of the feature at which a walk is, or in one of these properties.
 fn feature_fault(alloc: Global, spot: Spot, kind: FaultKind, property: Option<&str>) -> Fault {
     let mut fault = Fault::here(alloc, kind);
     if let Some(property) = property {

@@ -21,7 +21,7 @@ fn offset_text(alloc: Global, text: &str, origin: &Origin) -> Result<Option<Stri
     number.push_str(digits.format(offset.size.saturating_mul(10).saturating_add(behind)))?;
     number.push_str("e-")?;
     let mut places = Buffer::new();
-    number.push_str(places.format(u64::from(origin.places()).saturating_add(1)))?;
+    number.push_str(places.format(origin.places().saturating_add(1)))?;
     Ok(Some(number))
 }
 
@@ -42,7 +42,7 @@ fn write_offset(
     }
 }
 
-/// Writes what becomes of a token, of which the treatment tells the axis.
+/// Writes what becomes of a token, of which the treatment says the axis.
 fn write_shifted(
     alloc: Global,
     writer: &mut Writer,

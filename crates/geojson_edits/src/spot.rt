@@ -1,4 +1,4 @@
-//! Where a walk along the tokens of a GeoJSON text stands.
+//! Where a walk along the tokens of a GeoJSON text is.
 use json::Token;
 
 /// What the value behind a key of a feature is.
@@ -9,7 +9,7 @@ pub(crate) enum Member {
     Other,
 }
 
-/// Where a walk stands: in which member of the root, and of a feature.
+/// Where a walk is: in which member of the root, and of a feature.
 #[derive(Clone, Copy, PartialEq, Eq, Debug)]
 pub(crate) struct Spot {
     /// How many brackets are open.
@@ -85,7 +85,7 @@ impl Spot {
         }
     }
 
-    /// Where the walk stands behind a token.
+    /// Where the walk is behind a token.
     pub(crate) fn after(self, token: Token<'_>) -> Spot {
         let mut spot = self;
         match token {

@@ -2,6 +2,7 @@
 #![tactic(auto)]
 
 mod distance;
+pub mod laws;
 mod originals;
 
 pub use distance::Moves;

@@ -1,7 +1,17 @@
 //! Positions as they are written, each with the number of its feature.
+ghost use Rattle.decimal_geojson.specs.Place.{place_after};
+ghost use Rattle.decimals.specs.Numeral.{Measure, IsMeasure};
+ghost use Rattle.decimals.specs.Offset.{IsOffset};
+ghost use Rattle.json.specs.Lex.{tokens};
+ghost use Rattle.json.specs.Reads.{token_of};
+ghost use Rattle.moves.specs.Distance.{IsNear, IsRuler};
+ghost use Rattle.moves.specs.Walk.{AreNear, IsMet, Met, coordinate, met_behind, nothing_met, number_met, second_met, seen_at, token_met};
+ghost use Rattle.std.specs.Option.{option_map};
+ghost use Rattle.std.specs.Prelude.{◌≡◌, ℕ, List, IfOk, IfSome, None};
+
 use crate::distance::{Moves, Ruler};
 use decimal_geojson::Rules;
-use decimal_geojson::place::{Place, Treatment};
+use decimal_geojson::place::{Part, Place};
 use decimals::Offset;
 use json::{Reader, Scratch, Token};
 use std::alloc::{AllocError, Global};
@@ -22,6 +32,19 @@ struct Walk {
     depth: u64,
     /// The x of the position that is being read.
     x: Option<Offset>,
+    /// How far positions were moved so far.
+    moves: Moves,
+}
+
+/// The number of a position that is met here, if one is, and how many are before it.
+fn coordinate<'a>(place: Place, token: Token<'a>) -> Option<(u64, &'a str)>
+    ensures text { option_map (λ c. c.1.now) result ≡ coordinate place (token_of token.entry) }
+    ensures seen { IfSome result (λ c. c.0 ≡ seen_at place) }
+{
+    match (place, token) {
+        (Place::Inside(Part::Coordinates, _, seen), Token::Number(text)) => Some((seen, text)),
+        _ => None,
+    }
 }
 
 /// The distance with its sign.
@@ -35,28 +58,73 @@ fn signed(offset: &Offset) -> i128 {
 }
 
 impl Walk {
-    fn start() -> Walk {
+    fn start() -> Walk
+        ensures place { result.place ≡ Place.Outside }
+        ensures x { result.x ≡ None }
+        ensures moves { result.moves ≡ nothing_met.moves }
+    {
         Walk {
             place: Place::Outside,
             depth: 0,
             x: None,
+            moves: Moves {
+                moved: 0,
+                furthest: 0,
+            },
         }
     }
 
-    /// Goes over a token, and says whether a feature begins with it.
-    fn pass(&mut self, token: Token<'_>) -> bool {
-        let begins = self.depth == 2
-            && self.place == Place::Outside
-            && matches!(token, Token::BeginObject);
-        self.depth = match token {
+    /// Whether a feature begins with a token.
+    fn begins_feature(&self, token: Token<'_>) -> bool {
+        self.depth == 2 && self.place == Place::Outside && matches!(token, Token::BeginObject)
+    }
+
+    /// The same behind a token, or None where too many brackets are open to be counted.
+    fn after(self, token: Token<'_>) -> Option<Walk>
+        ensures { IfSome result (λ w. w ≡ record self { place = place_after self.place (token_of token.entry); depth = w.depth }) }
+    {
+        let depth = match token {
             Token::BeginObject | Token::BeginArray => self.depth.saturating_add(1),
             Token::EndObject | Token::EndArray => self.depth.saturating_sub(1),
             _ => self.depth,
         };
-        if let Some(place) = self.place.after(token) {
-            self.place = place;
+        match self.place.after(token) {
+            Some(place) => Some(Walk {
+                place,
+                depth,
+                ..self
+            }),
+            None => None,
         }
-        begins
+    }
+
+    /// The same behind the second number of a position.
+    fn with_second(self, y: &Offset, ruler: &Ruler) -> Walk
+        ensures met { (s : Measure) (m : Met) (text : List ℕ) → IsMeasure s → IsRuler s ruler.now → IsMet ruler.now m self → IsOffset ruler.now.origin text y.now → IsMet ruler.now (second_met s text m m.x) result }
+        ensures place { result.place ≡ self.place }
+    {
+        match self.x {
+            Some(x) => Walk {
+                moves: self.moves.with(ruler.distance(&x).max(ruler.distance(y))),
+                ..self
+            },
+            None => self,
+        }
+    }
+
+    /// The same behind a number of a position, before which so many are.
+    fn with_number(self, seen: u64, offset: &Offset, ruler: &Ruler) -> Walk
+        ensures met { (s : Measure) (m : Met) (text : List ℕ) → IsMeasure s → IsRuler s ruler.now → IsMet ruler.now m self → IsOffset ruler.now.origin text offset.now → IsMet ruler.now (number_met s seen text m) result }
+        ensures place { result.place ≡ self.place }
+    {
+        match seen {
+            0 => Walk {
+                x: Some(*offset),
+                ..self
+            },
+            1 => self.with_second(offset, ruler),
+            _ => self,
+        }
     }
 }
 
@@ -69,59 +137,52 @@ impl Originals {
         }
     }
 
-    /// Adds a number of a position. The position is there with its second number.
-    fn add_number(
-        &mut self,
-        walk: &mut Walk,
-        is_x: bool,
-        offset: Offset,
-        ruler: &Ruler,
-        moves: &mut Moves,
-    ) -> Result<(), AllocError> {
-        if is_x {
-            walk.x = Some(offset);
-            return Ok(());
-        }
-        let Some(x) = walk.x else {
-            return Ok(());
-        };
-        let distance = ruler.distance(&x).max(ruler.distance(&offset));
-        moves.furthest = moves.furthest.max(distance);
-        if distance > 0 {
-            moves.moved = moves.moved.saturating_add(1);
-        }
-        match self
-            .entries
-            .push(((signed(&x), signed(&offset)), self.features))
-        {
-            Ok(()) => Ok(()),
-            Err(_) => Err(AllocError),
+    /// Adds a position, which is there with its second number.
+    fn add_number(&mut self, walk: &Walk, seen: u64, y: &Offset) -> Result<(), AllocError> {
+        match (seen, walk.x) {
+            (1, Some(x)) => match self.entries.push(((signed(&x), signed(y)), self.features)) {
+                Ok(()) => Ok(()),
+                Err(_) => Err(AllocError),
+            },
+            _ => Ok(()),
         }
     }
 
-    /// Adds the positions of a GeoJSON text, and says how far rounding moves them.
-    pub fn add(&mut self, alloc: Global, text: &str, rules: &Rules) -> Result<Moves, AllocError> {
+    /// Goes over a token.
+    fn pass(&mut self, walk: Walk, token: Token<'_>, ruler: &Ruler) -> Result<Walk, AllocError>
+        ensures met { IfOk result (λ w. (s : Measure) (m : Met) → IsMeasure s → IsRuler s ruler.now → IsMet ruler.now m walk → IfSome (coordinate walk.place (token_of token.entry)) (IsNear s) → IsMet ruler.now (token_met s walk.place (token_of token.entry) m) w) }
+        ensures place { IfOk result (λ w. w.place ≡ place_after walk.place (token_of token.entry)) }
+    {
+        let mut walk = walk;
+        if let Some((seen, text)) = coordinate(walk.place, token) {
+            if let Some(offset) = ruler.offset(text) {
+                self.add_number(&walk, seen, &offset)?;
+                walk = walk.with_number(seen, &offset, ruler);
+            }
+        }
+        if walk.begins_feature(token) {
+            self.features = self.features.saturating_add(1);
+        }
+        match walk.after(token) {
+            Some(walk) => Ok(walk),
+            None => Err(AllocError),
+        }
+    }
+
+    /// Adds the positions of a GeoJSON text, and says how far rounding moves them. The numbers of positions have to be
+    /// such that a grid number is nearest to each.
+    pub fn add(&mut self, alloc: Global, text: &str, rules: &Rules) -> Result<Moves, AllocError>
+        ensures { AreNear rules.now.step Place.Outside (tokens text.now) → IfOk result (λ moves. moves ≡ (met_behind rules.now.step Place.Outside nothing_met (tokens text.now)).moves) }
+    {
         let mut scratch = Scratch::new(alloc);
         let mut reader = Reader::new(text, &mut scratch)?;
         let ruler = Ruler::new(&rules.step);
-        let axes = rules.by_axis();
         let mut walk = Walk::start();
-        let mut moves = Moves::default();
         self.features = self.features.saturating_add(1);
         while let Some(token) = reader.next() {
-            if let (Treatment::Snap(axis), Token::Number(text)) = (
-                walk.place.treatment(&axes, token),
-                token,
-            ) {
-                if let Some(offset) = ruler.offset(text) {
-                    self.add_number(&mut walk, axis == 0, offset, &ruler, &mut moves)?;
-                }
-            }
-            if walk.pass(token) {
-                self.features = self.features.saturating_add(1);
-            }
+            walk = self.pass(walk, token, &ruler)?;
         }
-        Ok(moves)
+        Ok(walk.moves)
     }
 
     /// How many positions are vertices of more than one feature, in time n log n. Positions are compared by their

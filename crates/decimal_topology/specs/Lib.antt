@@ -1,0 +1,4 @@
+pub mod Turning
+pub mod Unit
+pub mod TopologyText
+pub mod Laws

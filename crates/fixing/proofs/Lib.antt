@@ -1,0 +1,14 @@
+pub mod RunSteps
+pub mod LoopSteps
+pub mod RunLaws
+pub mod LoopLaws
+pub mod OddUses
+pub mod ProvedLaws
+pub mod Judged
+pub mod PolygonsStay
+pub mod TurnLaws
+pub mod AreaSteps
+pub mod PolygonSteps
+pub mod Counting
+pub mod PolygonLaws
+pub mod CrossSteps

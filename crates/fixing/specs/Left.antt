@@ -1,0 +1,72 @@
+-- What is left of lines and rings, and what is counted.
+use Rattle.std.specs.Prelude.{ℕ, ◌+◌, ◌-◌, ◌^◌, min, Bool, true, false, cond, List, [], ◌∷◌, ◌++◌, Option, Some, None, option_and_then}
+use Rattle.std.specs.Option.{option_map}
+use Rattle.grid.specs.declared.pos.Pos.{Pos}
+use Rattle.lines.specs.Reading.{collapsed, line_fault, ring_fault}
+use Rattle.lines.specs.Turned.{position_cmp}
+use Rattle.lines.specs.declared.shape_fault.ShapeFault.{ShapeFault}
+use Rattle.lines.specs.declared.shape_fault.ShapeFault.TheVariants.{TooShort, NotClosed, Revisit, OutOfMemory}
+use Rattle.fixing.specs.Loops.{loops_of}
+use Rattle.fixing.specs.Runs.{runs_of}
+use Rattle.fixing.specs.declared.linework.Need.{Need}
+use Rattle.fixing.specs.declared.linework.Need.TheVariants.{Nothing, Drop, Split}
+use Rattle.fixing.specs.declared.rules.Collapsed.{Collapsed}
+use Rattle.fixing.specs.declared.rules.Collapsed.TheVariants.{Refuse}
+use Rattle.fixing.specs.declared.rules.Fixes.{Fixes}
+use Rattle.fixing.specs.declared.rules.Rules.{Rules}
+
+-- whether lines and rings of too few positions are refused
+abbrev pub is_refusing : Collapsed → Bool
+is_refusing Refuse = true
+is_refusing _ = false
+
+-- what is to be done with a line or ring that has a fault, or has none; none where the rules refuse it
+abbrev pub need_of : Rules → Option ShapeFault → Option Need
+need_of rules None = Some Nothing
+need_of rules (Some TooShort) = cond (is_refusing rules.collapsed) None (Some Drop)
+need_of rules (Some Revisit) = cond rules.splits_folded (Some Split) None
+need_of rules (Some NotClosed) = None
+need_of rules (Some OutOfMemory) = None
+
+-- what is left of a list, where `parts` are those that it is split into
+abbrev pub left_by : Need → List Pos → List (List Pos) → List (List Pos)
+left_by Nothing list parts = list ∷ []
+left_by Drop list parts = []
+left_by Split list parts = parts
+
+-- what is to be done with a line
+abbrev pub line_need : Rules → List Pos → Option Need
+line_need rules l = need_of rules (line_fault position_cmp l)
+
+-- what is to be done with a closed list
+abbrev pub ring_need : Rules → List Pos → Option Need
+ring_need rules l = need_of rules (ring_fault position_cmp l)
+
+-- what is left of a line; none where it is refused
+abbrev pub line_left : Rules → List Pos → Option (List (List Pos))
+line_left rules l = option_map (λ need. left_by need l (runs_of (collapsed position_cmp l))) (line_need rules l)
+
+-- what is left of a closed list; none where it is refused
+abbrev pub ring_left : Rules → List Pos → Option (List (List Pos))
+ring_left rules l = option_map (λ need. left_by need l (loops_of l)) (ring_need rules l)
+
+-- what is left of each of the lists, one after the other; none where one is refused
+abbrev pub all_left : {A B : Type 0} → (A → Option (List B)) → List A → Option (List B)
+all_left left [] = Some []
+all_left left (x ∷ l) = option_and_then (λ parts. option_map (λ more. parts ++ more) (all_left left l)) (left x)
+
+-- a count of one more, up to the greatest
+abbrev pub one_more : ℕ → ℕ
+one_more n = min (n + 1) (2 ^ 64 - 1)
+
+-- with what was done counted
+abbrev pub counted : Option Need → Fixes → Fixes
+counted None fixes = fixes
+counted (Some Nothing) fixes = fixes
+counted (Some Drop) fixes = record fixes { collapsed = one_more fixes.collapsed }
+counted (Some Split) fixes = record fixes { folded = one_more fixes.folded }
+
+-- with what was done with each counted
+abbrev pub all_counted : {A : Type 0} → (A → Option Need) → List A → Fixes → Fixes
+all_counted need [] fixes = fixes
+all_counted need (x ∷ l) fixes = all_counted need l (counted (need x) fixes)

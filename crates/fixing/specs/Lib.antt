@@ -1,0 +1,12 @@
+pub mod Seen
+pub mod Runs
+pub mod Loops
+pub mod Cutting
+pub mod Walks
+pub mod Left
+pub mod Uses
+pub mod Laws
+pub mod Measures
+pub mod Polygons
+pub mod Counts
+pub mod Counted

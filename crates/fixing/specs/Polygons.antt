@@ -1,0 +1,92 @@
+-- What is left of polygons: lists of closed lists, the outer ring first.
+use Rattle.std.specs.Prelude.{ℕ, zero, suc, Bool, true, false, cond, not, List, [], ◌∷◌, ◌++◌, length, map, nat_lt, Option, Some, None, unwrap_or, option_and_then}
+use Rattle.std.specs.Option.{option_map}
+use Rattle.grid.specs.declared.pos.Pos.{Pos}
+use Rattle.theory.specs.TopologyFunction.{keep}
+use Rattle.fixing.specs.Left.{all_counted, ring_left, ring_need}
+use Rattle.fixing.specs.Measures.{lies_in, rewound, turns_left}
+use Rattle.fixing.specs.declared.rules.Rewind.{Rewind}
+use Rattle.fixing.specs.declared.rules.Fixes.{Fixes}
+use Rattle.fixing.specs.declared.rules.Rules.{Rules}
+
+-- whether a ring lies in the outer ring of a polygon
+abbrev pub is_home : List Pos → List (List Pos) → Bool
+is_home ring [] = false
+is_home ring (outer ∷ holes) = lies_in ring outer
+
+-- the place of the first polygon in whose outer ring a ring lies
+abbrev pub home_of : List (List (List Pos)) → List Pos → Option ℕ
+home_of [] ring = None
+home_of (polygon ∷ polygons) ring = cond (is_home ring polygon) (Some zero) (option_map (λ k. suc k) (home_of polygons ring))
+
+-- the polygons, with the ring behind those of the polygon at a place
+abbrev pub put_ring : ℕ → List Pos → List (List (List Pos)) → List (List (List Pos))
+put_ring k ring [] = []
+put_ring zero ring (polygon ∷ polygons) = (polygon ++ (ring ∷ [])) ∷ polygons
+put_ring (suc k) ring (polygon ∷ polygons) = polygon ∷ put_ring k ring polygons
+
+-- the place of the polygon that a hole is put into: the only one, or that in which it lies, or the first
+abbrev pub home_of_hole : List (List (List Pos)) → List Pos → ℕ
+home_of_hole polygons hole = cond (nat_lt 1 (length polygons)) (unwrap_or (home_of polygons hole) 0) 0
+
+-- the polygons with holes
+abbrev pub put_holes : List (List Pos) → List (List (List Pos)) → List (List (List Pos))
+put_holes [] polygons = polygons
+put_holes (hole ∷ holes) polygons = put_holes holes (put_ring (home_of_hole polygons hole) hole polygons)
+
+-- the polygons with a ring in the one that it lies in; where it lies in none it is dropped
+abbrev pub put_at : Option ℕ → List Pos → List (List (List Pos)) → List (List (List Pos))
+put_at None ring polygons = polygons
+put_at (Some k) ring polygons = put_ring k ring polygons
+
+-- the polygons once each of some rings is put into the one that it lies in, or into the first
+abbrev pub put_others : List (List Pos) → List (List (List Pos)) → List (List (List Pos))
+put_others [] polygons = polygons
+put_others (ring ∷ rings) polygons = put_others rings (put_at (home_of polygons ring) ring polygons)
+
+-- a polygon of each ring
+abbrev pub polygons_of : List (List Pos) → List (List (List Pos))
+polygons_of rings = map (λ ring. ring ∷ []) rings
+
+-- whether a ring turns that way
+abbrev pub turns_to : Bool → List Pos → Bool
+turns_to left ring = cond left (turns_left ring) (not (turns_left ring))
+
+-- the polygons of the loops of an outer ring: of each that turns as it did; the others are holes
+abbrev pub polygons_of_loops : Bool → List (List Pos) → List (List (List Pos))
+polygons_of_loops left loops =
+    cond (nat_lt (length loops) 2) (polygons_of loops)
+    (put_others (keep (λ ring. not (turns_to left ring)) loops) (polygons_of (keep (turns_to left) loops)))
+
+-- the polygons with what is left of holes; none where one is refused
+abbrev pub with_holes : Rules → List (List Pos) → List (List (List Pos)) → Option (List (List (List Pos)))
+with_holes rules [] polygons = Some polygons
+with_holes rules (hole ∷ holes) polygons = option_and_then (λ left. with_holes rules holes (put_holes left polygons)) (ring_left rules hole)
+
+-- rings turned as they are wanted, where the first one is an outer ring or a hole, and the others are holes
+abbrev pub rewound_from : Rewind → Bool → List (List Pos) → List (List Pos)
+rewound_from rewind is_outer [] = []
+rewound_from rewind is_outer (ring ∷ rings) = rewound rewind is_outer ring ∷ rewound_from rewind false rings
+
+-- the rings of a polygon turned as they are wanted
+abbrev pub rewound_polygon : Rewind → List (List Pos) → List (List Pos)
+rewound_polygon rewind rings = rewound_from rewind true rings
+
+-- what is left of a polygon, with its rings as they turned before; none where a ring of it is refused
+abbrev pub polygon_kept : Rules → List (List Pos) → Option (List (List (List Pos)))
+polygon_kept rules [] = Some ([] ∷ [])
+polygon_kept rules (outer ∷ holes) =
+    option_and_then (λ loops. with_holes rules holes (polygons_of_loops (turns_left outer) loops)) (ring_left rules outer)
+
+-- what is left of a polygon; none where a ring of it is refused
+abbrev pub polygon_left : Rules → List (List Pos) → Option (List (List (List Pos)))
+polygon_left rules rings = option_map (map (rewound_polygon rules.rewind)) (polygon_kept rules rings)
+
+-- with what was done with each ring counted
+abbrev pub polygon_counted : Rules → List (List Pos) → Fixes → Fixes
+polygon_counted rules rings fixes = all_counted (ring_need rules) rings fixes
+
+-- the counts once the rings of all these polygons are added
+abbrev pub polygons_counted : Rules → List (List (List Pos)) → Fixes → Fixes
+polygons_counted rules [] fixes = fixes
+polygons_counted rules (rings ∷ polygons) fixes = polygons_counted rules polygons (polygon_counted rules rings fixes)

@@ -1,0 +1,3 @@
+pub mod Ceilings
+pub mod Distances
+pub mod Walks
