@@ -1,5 +1,5 @@
 -- Numerals with no exponent, read digit by digit, and rounded.
-use Rattle.std.proofs.Common.{◌≡◌, ℕ, ◌+◌, ◌*◌, ◌/◌, ◌%◌, ◌^◌, ◌<◌, ◌≤◌, Bool, true, false, List, [], ◌∷◌, ◌++◌, length, IsTrue, Option, Some, ◌↔◌, refl, sym, ap, ap₂, ◌∙◌, subst, lit<, arith, append-nil, append_assoc, length-append, mul-le-mul_right}
+use Rattle.std.proofs.Common.{rules, ◌≡◌, ℕ, zero, suc, ◌+◌, ◌*◌, ◌/◌, ◌%◌, ◌^◌, ◌<◌, ◌≤◌, Bool, true, false, List, [], ◌∷◌, ◌++◌, length, IsTrue, Option, Some, ◌↔◌, refl, sym, ap, ap₂, ◌∙◌, subst, lit<, arith, append-nil, append_assoc, length-append, mul-le-mul_right}
 use Rattle.std.proofs.Math.Nat.{pow-le-pow_right}
 use Rattle.std.proofs.lemmas.Nat.{div-add-mod', mod_below, mul-le}
 use Rattle.std.proofs.lemmas.Str.{digit_value_digit}
@@ -10,7 +10,7 @@ use Rattle.std.specs.Str.Parse.{digits_value, digits_value_after, AllDigits}
 use Rattle.fast_float.proofs.ExactLemmas.{ten_to_pos}
 use Rattle.fast_float.proofs.Rows.{AllDigits-append}
 use Rattle.fast_float.proofs.Writing.{scan-text_of}
-use Rattle.fast_float.specs.Text.{Parts, scan, has_digits, digits_of, tens_up, tens_down, IsWellFormed}
+use Rattle.fast_float.specs.Text.{Parts, scan, has_digits, digits_of, tens_up, tens_down, text_of, IsWellFormed}
 use Rattle.decimals.specs.Nearest.{IsRounded}
 use Rattle.decimals.specs.Numeral.{IsUnsigned}
 use Rattle.decimals.specs.Short.{IsFront, IsShort}

@@ -1,4 +1,4 @@
-use Rattle.std.proofs.Common.{rules, ◌≡◌, IsTrue, ap, arith}
+use Rattle.std.proofs.Common.{rules, ◌≡◌, IsTrue, ap, sym, ◌∙◌, arith, length}
 use Rattle.fast_float.specs.Text.{Parts, scan, has_digits}
 use Rattle.decimals.specs.Numeral.{IsUnsigned}
 use Rattle.decimals.proofs.Shortness.{short_exact}
