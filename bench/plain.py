@@ -1,22 +1,26 @@
 #!/usr/bin/env python3
-"""Measures `topotool build` against a builder in plain Rust that prints the same bytes.
+"""Measures commands of topotool against plain Rust that prints the same bytes, and against topojson-client.
 
     (cd crates/topotool && rt run)
     python3 bench/plain.py --runs 9
     python3 bench/plain.py --check
 
-bench/plain is a program of some hundred lines over the crate `serde_json`: what one would write for
-speed, but for sound files only, and with nothing proved. The script builds it in a folder of its own
-with `cargo`, without a network, from the sources that Debian's package librust-serde-json-dev puts
-into /usr/share/cargo/registry; where no Rust or no such sources are there, or cargo doesn't build it of
-them, it says that it was skipped.
+bench/plain is a program of some hundred lines: what one would write for speed, but for sound files only, and with nothing
+proved. It builds topologies over the values of the crate `serde_json` (`build`) and by a parser of its own (`scan`), and has
+the commands that read a topology (ON_TOPOLOGIES), over such values too, which take the arcs as they stand. The script
+compiles it in a folder of its own with `cargo`, without a network, from the sources that Debian's package
+librust-serde-json-dev puts into /usr/share/cargo/registry; where no Rust or no such sources are there, or cargo doesn't
+build it of them, it says that it was skipped.
 
-It runs both programs by turns on tilings of about 2, 8 and 75 megabytes and on ones twice as large,
-and prints processor times (user and system, the least of some runs), the ratios of times and of peak
-memory, and by how much the times grow when the tiling doubles. The texts of both are compared on each
-tiling, byte by byte. With `--check` nothing is measured: they are compared on the examples, on
-small tilings, and on some hundred random maps, and the last line counts them. Ends with status 1 where
-a text differs or a program fails.
+It prints a table for tilings of about 8 and 75 megabytes: the ratio of processor times (user and system, the least of some
+runs), of instructions, and of peak memory, each of topotool to the other program. All programs of a size run by turns.
+Instructions are counted by valgrind, where it is installed, for tilings up to COUNTED megabytes. Beside each ratio stands
+its goal, which no test asks for; one that is missed is marked by an exclamation mark. topojson-client is measured where node
+and Debian's package node-vega are there. Texts are compared on each tiling, byte by byte.
+
+With `--check` nothing is measured: texts are compared on the examples, on small tilings, and on some hundred random maps,
+their topologies, and these spelled otherwise, and the last line counts them. Ends with status 1 where a text differs or a
+program fails.
 """
 
 import argparse
@@ -29,16 +33,28 @@ import tempfile
 
 sys.dont_write_bytecode = True
 
+from instructions import count
 from measuring import (
-    GRID, HERE, TOOL, TOP, end_with, measure_both, need, run_once, same_bytes, stop, write_tiling
+    GRID, HERE, TOOL, TOP, Failed, by_turns, end_with, need, run_once, same_bytes, stop, write_tiling
 )
 from random_maps import random_map
+from topologies import MODULES, marked
 
 SOURCE = os.path.join(HERE, "plain")
 REGISTRY = "/usr/share/cargo/registry"
 BYTES_PER_POSITION = 15  # of a tiling, about
 EXAMPLES = [("1,1,0,0", ["squares"]), ("10,10,0,0", ["east"]), ("10,10,0,0", ["west", "east"])]
 CHECKED_POSITIONS = [100, 3_000, 40_000]
+COUNTED = 10
+
+VALUES, PARSER, CLIENT = "plain Rust over values", "plain Rust with a parser", "topojson-client"
+OF_LAYERS = ["neighbors", "feature"]
+ON_TOPOLOGIES = ["check", "merge", "neighbors", "mesh", "feature"]
+
+# the greatest ratio of times that is wanted
+GOALS = {("build", VALUES): 0.75, ("build", PARSER): 1.8, ("neighbors", CLIENT): 0.35, ("mesh", CLIENT): 0.25,
+         ("feature", CLIENT): 0.25, **{(command, VALUES): 0.55 for command in ON_TOPOLOGIES}}
+GREATEST_MEMORY = {("build", VALUES): 0.3}
 
 
 def skip(why):
@@ -67,101 +83,148 @@ def compile_plain(folder, registry):
     return os.path.join(target, "release", "plain")
 
 
+def words_on(command, topology, layer):
+    """The words of a command that reads a topology."""
+    return [command, *(["--layer", layer] if command in OF_LAYERS else []), topology]
+
+
+def answer(words):
+    """What a program prints, and its status: 0, or 1 where a text is not canonical."""
+    ran = subprocess.run(words, stdout=subprocess.PIPE, check=False)
+    if ran.returncode not in (0, 1):
+        raise Failed(f"{' '.join(words[:3])} ended with {ran.returncode}")
+    return ran.stdout, ran.returncode
+
+
 class Programs:
-    """Both programs, and a folder for what they print."""
+    """Both programs, and a folder for files."""
 
     def __init__(self, tool, plain, folder):
         self.tool = tool
         self.plain = plain
         self.folder = folder
+        self.compared = 0
 
-    def out(self, title):
-        return os.path.join(self.folder, title + ".topo.json")
+    def file(self, name):
+        return os.path.join(self.folder, name)
 
-    def same(self, words):
-        """Whether both print the same bytes."""
-        run_once([self.tool, "build", *words], self.out("tool"))
-        run_once([self.plain, "build", *words], self.out("plain"))
-        return same_bytes(self.out("tool"), self.out("plain"))
+    def compare(self, words, command=None):
+        """Ends the script where both don't print the same bytes."""
+        self.compared += 1
+        if answer([self.tool, *words]) != answer([self.plain, command or words[0], *words[1:]]):
+            sys.exit(f"the answers of {' '.join(words)} differ")
+
+    def compare_builds(self, words):
+        """Compares both builders with topotool, and answers the topology's file."""
+        topology = self.file("topology.json")
+        run_once([self.tool, "build", *words], topology)
+        for builder in ("build", "scan"):
+            self.compared += 1
+            run_once([self.plain, builder, *words], self.file("built"))
+            if not same_bytes(topology, self.file("built")):
+                sys.exit(f"the texts of {builder} {' '.join(words)} differ")
+        return topology
+
+    def compare_questions(self, topology):
+        """Compares the commands on a topology, and check and merge on the same one spelled otherwise."""
+        with open(topology, encoding="utf-8") as file:
+            value = json.load(file)
+        for command in ON_TOPOLOGIES:
+            for layer in value["objects"] if command in OF_LAYERS else [None]:
+                self.compare(words_on(command, topology, layer))
+        with open(self.file("spelled.json"), "w", encoding="utf-8") as file:
+            json.dump(value, file, indent=1)
+        for command in ("check", "merge"):
+            self.compare([command, self.file("spelled.json")])
+        return value
 
     def compare_tiling(self, positions, seed):
-        """Makes a tiling, compares the texts, and answers its positions and the words for it."""
-        count = write_tiling(self.folder, positions, seed, 0)
-        words = [*GRID, "a=" + os.path.join(self.folder, "tiling.json")]
-        if not self.same(words):
-            sys.exit(f"the texts of a tiling of {count} positions differ")
-        return count, words
-
-    def measure(self, positions, seed, runs):
-        """The tiling's bytes and positions, and what both programs take for it."""
-        count, words = self.compare_tiling(positions, seed)
-        size = os.path.getsize(os.path.join(self.folder, "tiling.json"))
-        out = self.out("tool")
-        both = measure_both([self.tool, "build", *words], [self.plain, "build", *words], out, runs)
-        return size, count, *both
+        """Makes a tiling, and compares the texts; answers its positions, the words for it and its topology."""
+        count_of_it = write_tiling(self.folder, positions, seed, 0)
+        words = [*GRID, "a=" + self.file("tiling.json")]
+        topology = self.compare_builds(words)
+        self.compare_questions(topology)
+        return count_of_it, words, topology
 
     def check_examples(self):
         for grid, names in EXAMPLES:
             files = [os.path.join(TOP, "examples", name + ".json") for name in names]
-            if not self.same(["--grid", grid, *("a=" + file for file in files)]):
-                sys.exit(f"the texts of {', '.join(names)} differ")
+            self.compare_questions(self.compare_builds(["--grid", grid, *("a=" + file for file in files)]))
         print(f"{len(EXAMPLES)} lists of examples: same bytes", flush=True)
 
     def check_tilings(self, seed):
         counts = [self.compare_tiling(positions, seed)[0] for positions in CHECKED_POSITIONS]
         print(f"tilings of {', '.join(map(str, counts))} positions: same bytes", flush=True)
 
+    def check_map(self, seed):
+        """Compares the texts of a random map, and answers its topology's value."""
+        grid, files = random_map(seed)
+        words = ["--grid", grid]
+        for number, (name, text) in enumerate(files):
+            path = self.file(f"{number}.json")
+            with open(path, "w", encoding="utf-8") as file:
+                file.write(text)
+            words.append(f"{name}={path}")
+        try:
+            return self.compare_questions(self.compare_builds(words))
+        except SystemExit:
+            print(f"--grid {grid}", *(f"{name}={text}" for name, text in files), sep="\n")
+            print(f"this map's texts differ: --check --maps 1 --seed {seed}")
+            raise
+
     def check_maps(self, maps, seed):
         geometries = arcs = 0
         for each in range(seed, seed + maps):
-            grid, files = random_map(each)
-            words = ["--grid", grid]
-            for number, (name, text) in enumerate(files):
-                path = os.path.join(self.folder, f"{number}.json")
-                with open(path, "w", encoding="utf-8") as file:
-                    file.write(text)
-                words.append(f"{name}={path}")
-            if not self.same(words):
-                print(f"--grid {grid}", *(f"{name}={text}" for name, text in files), sep="\n")
-                sys.exit(f"the texts of this map differ: --check --maps 1 --seed {each}")
-            with open(self.out("tool"), encoding="utf-8") as file:
-                topology = json.load(file)
+            topology = self.check_map(each)
             arcs += len(topology["arcs"])
             geometries += sum(len(layer["geometries"]) for layer in topology["objects"].values())
         print(f"{maps} random maps, {geometries} geometries and {arcs} arcs: same bytes", flush=True)
 
+    def rows(self, words, topology):
+        """The programs that are measured, by command and by who does it."""
+        told = {("build", TOOL): [self.tool, "build", *words], ("build", VALUES): [self.plain, "build", *words],
+                ("build", PARSER): [self.plain, "scan", *words]}
+        has_client = shutil.which("node") and os.path.isdir(f"{MODULES}/topojson-client")
+        for command in ON_TOPOLOGIES:
+            asked = words_on(command, topology, "a")
+            told[command, TOOL] = [self.tool, *asked]
+            told[command, VALUES] = [self.plain, *asked]
+            if has_client and (command, CLIENT) in GOALS:
+                told[command, CLIENT] = ["node", os.path.join(HERE, "others.js"), command, topology]
+        return told
 
-def print_head():
-    print("| GeoJSON, MB | Positions | `topotool`, seconds | Plain, seconds | Times the plain "
-          "| Memory times the plain | Doubled: times the plain | `topotool` grows by | Plain grows by |")
-    print("|---|---|---|---|---|---|---|---|---|", flush=True)
+    def print_size(self, megabytes, seed, runs):
+        """Measures a tiling, and prints its table."""
+        positions, words, topology = self.compare_tiling(max(1, round(megabytes * 1e6 / BYTES_PER_POSITION)), seed)
+        size = os.path.getsize(self.file("tiling.json")) / 1e6
+        rows = self.rows(words, topology)
+        measures = by_turns(rows, self.file("out"), runs)
+        counts = {}
+        if megabytes <= COUNTED and shutil.which("valgrind"):
+            counts = {key: count(words) for key, words in rows.items() if key[1] != CLIENT}
+        print(f"\n{size:.1f} MB of GeoJSON, {positions} positions, a topology of {os.path.getsize(topology) / 1e6:.1f} MB\n")
+        print("| Command | Against | Seconds | Time | Instructions | Memory |\n|---|---|---|---|---|---|")
+        for key in rows:
+            if key[1] != TOOL:
+                print_row(key, measures, counts)
 
 
-def print_size(single, double):
-    """A line of the table: a size, and its double."""
-    size, count, tool, plain = single
-    _, _, more_tool, more_plain = double
+def print_row(key, measures, counts):
+    """A line of the table: topotool's seconds, and the ratios to another program."""
+    command, other = key
+    mine, its = measures[command, TOOL], measures[key]
+    memory = mine.megabytes / its.megabytes
+    instructions = f"{counts[command, TOOL] / counts[key]:.2f}" if key in counts else ""
     print(
-        f"| {size / 1e6:.1f} | {count} | {tool.seconds:.3f} | {plain.seconds:.3f} "
-        f"| {tool.seconds / plain.seconds:.2f} | {tool.megabytes / plain.megabytes:.2f} "
-        f"| {more_tool.seconds / more_plain.seconds:.2f} "
-        f"| {more_tool.seconds / tool.seconds:.2f} "
-        f"| {more_plain.seconds / plain.seconds:.2f} |",
+        f"| `{command}` | {other} | {mine.seconds:.3f} | {marked(mine.seconds / its.seconds, GOALS[key])} | {instructions} "
+        f"| {marked(memory, GREATEST_MEMORY[key]) if key in GREATEST_MEMORY else f'{memory:.2f}'} |",
         flush=True,
     )
 
 
-def measure_sizes(programs, sizes, seed, runs):
-    """Measures each size and its double, and prints each line as soon as it is known."""
-    print_head()
-    for megabytes in sizes:
-        positions = max(1, round(megabytes * 1e6 / BYTES_PER_POSITION))
-        print_size(*(programs.measure(times * positions, seed, runs) for times in (1, 2)))
-
-
 def main():
-    parser = argparse.ArgumentParser(description="Measures build against one in plain Rust.")
-    parser.add_argument("--megabytes", type=float, nargs="+", default=[2, 8, 75])
+    parser = argparse.ArgumentParser(description="Measures commands against plain Rust.")
+    parser.add_argument("--megabytes", type=float, nargs="+", default=[8, 75])
     parser.add_argument("--runs", type=int, default=5)
     parser.add_argument("--seed", type=int, default=1)
     parser.add_argument("--check", action="store_true", help="compare texts alone")
@@ -172,16 +235,17 @@ def main():
     if words.runs < 1:
         stop("at least one run is needed")
     need(words.tool)
+    os.environ["NODE_PATH"] = MODULES
     with tempfile.TemporaryDirectory() as folder:
-        plain = compile_plain(folder, words.registry)
-        programs = Programs(words.tool, plain, folder)
+        programs = Programs(words.tool, compile_plain(folder, words.registry), folder)
         if words.check:
             programs.check_examples()
             programs.check_tilings(words.seed)
             programs.check_maps(words.maps, words.seed)
-            print(f"{len(EXAMPLES) + len(CHECKED_POSITIONS) + words.maps} texts compared, 0 differ")
+            print(f"{programs.compared} texts compared, 0 differ")
         else:
-            measure_sizes(programs, words.megabytes, words.seed, words.runs)
+            for megabytes in words.megabytes:
+                programs.print_size(megabytes, words.seed, words.runs)
 
 
 if __name__ == "__main__":

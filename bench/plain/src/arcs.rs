@@ -22,15 +22,27 @@ pub struct Topology {
     /// The arcs in their order.
     pub arcs: Vec<Arc>,
     /// The indexes of the arcs of all lists, one list after the other.
-    indexes: Vec<i64>,
+    pub indexes: Vec<i64>,
     /// For each list its indexes.
-    of_lists: Vec<Range<usize>>,
+    pub of_lists: Vec<Range<usize>>,
+}
+
+impl Arc {
+    /// The arc that stands at these places, under the next number.
+    pub fn standing(map: &Map, found: usize, places: Range<usize>) -> Arc {
+        Arc {
+            first: map.step(places.start),
+            found,
+            places,
+            reversed: false,
+        }
+    }
 }
 
 /// A hash for whole numbers. The tables take their places from its low bits, and a product is mixed
 /// best in its high ones.
 #[derive(Default)]
-struct Mixer(u64);
+pub struct Mixer(u64);
 
 impl Hasher for Mixer {
     fn write_i64(&mut self, number: i64) {
@@ -47,7 +59,7 @@ impl Hasher for Mixer {
     }
 }
 
-type Table<K> = HashMap<K, u32, BuildHasherDefault<Mixer>>;
+pub type Table<K, V = u32> = HashMap<K, V, BuildHasherDefault<Mixer>>;
 
 fn narrow(number: usize) -> u32 {
     u32::try_from(number).expect("places have 32 bits")

@@ -32,6 +32,22 @@ pub struct Grid {
     pub y: Axis,
 }
 
+impl Grid {
+    pub fn to_grid(&self, x: i64, y: i64) -> Pos {
+        Pos {
+            x: self.x.to_grid(x),
+            y: self.y.to_grid(y),
+        }
+    }
+
+    pub fn to_absolute(&self, position: Pos) -> Pos {
+        Pos {
+            x: self.x.to_absolute(position.x),
+            y: self.y.to_absolute(position.y),
+        }
+    }
+}
+
 /// In the order of ids: none, then numbers, then texts by their bytes.
 #[derive(PartialEq, Eq, PartialOrd, Ord)]
 pub enum Id {
@@ -95,6 +111,43 @@ impl Map {
             parts: Vec::new(),
             layers: BTreeMap::new(),
         }
+    }
+
+    /// The last positions, so many of them, are a part of points.
+    pub fn end_points(&mut self, count: usize) {
+        let end = self.positions.len();
+        self.end_list(Form::Points, end - count..end);
+        self.parts.push(self.lists.len() - 1..self.lists.len());
+    }
+
+    pub fn end_list(&mut self, form: Form, places: Range<usize>) {
+        self.lists.push(List { form, places });
+    }
+
+    /// Puts a position behind the others of the list that begins at `start`, unless it is equal to the
+    /// last of them.
+    #[inline]
+    pub fn push_other(&mut self, start: usize, position: Pos) {
+        if self.positions.len() == start || self.positions.last() != Some(&position) {
+            self.positions.push(position);
+        }
+    }
+
+    /// Leaves the place where a ring's last vertex comes to stand.
+    pub fn begin_ring(&mut self) {
+        self.positions.push(Pos { x: 0, y: 0 });
+    }
+
+    /// Turns the last positions, which are closed, to their least rotation. As no segment is used twice,
+    /// the first two vertices of a rotation tell it apart.
+    pub fn turn_ring(&mut self, closed: Range<usize>) -> Range<usize> {
+        let places = closed.start..closed.end - 1;
+        let start = places
+            .clone()
+            .min_by_key(|&place| self.step(place))
+            .expect("a vertex");
+        self.turn(&places, start);
+        places
     }
 
     /// The positions of a list.

@@ -1,7 +1,8 @@
 //! Reads the features of a JSON value into a map.
 
-use crate::map::{Feature, Form, Id, Kind, List, Map, Pos};
+use crate::map::{Feature, Form, Id, Kind, Map, Pos};
 use serde_json::Value;
+use std::ops::Range;
 
 /// Puts the features of a GeoJSON value into a layer.
 pub fn read(map: &mut Map, layer: &str, mut root: Value) {
@@ -24,25 +25,38 @@ pub fn read(map: &mut Map, layer: &str, mut root: Value) {
     map.layers.insert(layer.to_string(), features);
 }
 
-fn text(value: &Value) -> &str {
+pub fn text(value: &Value) -> &str {
     value.as_str().expect("a text")
 }
 
-fn list(value: &Value) -> &[Value] {
+pub fn list(value: &Value) -> &[Value] {
     value.as_array().expect("a list")
+}
+
+pub fn number(value: &Value) -> i64 {
+    value.as_i64().expect("a whole number")
+}
+
+pub fn id_of(value: &Value) -> Id {
+    match value {
+        Value::Null => Id::None,
+        Value::String(text) => Id::Text(text.clone()),
+        other => Id::Number(number(other)),
+    }
+}
+
+/// The compact text of the properties.
+pub fn properties_of(value: &Value) -> String {
+    match value {
+        Value::Null => "{}".to_string(),
+        members => members.to_string(),
+    }
 }
 
 impl Map {
     fn read_feature(&mut self, value: &Value) -> Feature {
-        let id = match &value["id"] {
-            Value::Null => Id::None,
-            Value::String(text) => Id::Text(text.clone()),
-            number => Id::Number(number.as_i64().expect("a whole number")),
-        };
-        let props = match &value["properties"] {
-            Value::Null => "{}".to_string(),
-            members => members.to_string(),
-        };
+        let id = id_of(&value["id"]);
+        let props = properties_of(&value["properties"]);
         match &value["geometry"] {
             Value::Null => Feature {
                 id,
@@ -102,24 +116,10 @@ impl Map {
     }
 
     fn read_position(&self, value: &Value) -> Pos {
-        let number = |value: &Value| value.as_i64().expect("a whole number");
         match list(value) {
-            [x, y] => Pos {
-                x: self.grid.x.to_grid(number(x)),
-                y: self.grid.y.to_grid(number(y)),
-            },
+            [x, y] => self.grid.to_grid(number(x), number(y)),
             _ => panic!("a position has two elements"),
         }
-    }
-
-    /// The last positions, so many of them, are a part of points.
-    fn end_points(&mut self, count: usize) {
-        let end = self.positions.len();
-        self.lists.push(List {
-            form: Form::Points,
-            places: end - count..end,
-        });
-        self.parts.push(self.lists.len() - 1..self.lists.len());
     }
 
     fn read_part(&mut self, lists: &[Value], form: Form) {
@@ -129,34 +129,24 @@ impl Map {
                 Form::Ring => self.read_ring(list),
                 _ => self.read_line(list),
             };
-            self.lists.push(List { form, places });
+            self.end_list(form, places);
         }
         self.parts.push(start..self.lists.len());
     }
 
     /// Reads a list of positions, equal neighbours as one.
-    fn read_line(&mut self, value: &Value) -> std::ops::Range<usize> {
+    fn read_line(&mut self, value: &Value) -> Range<usize> {
         let start = self.positions.len();
         for position in list(value) {
             let position = self.read_position(position);
-            if self.positions.len() == start || self.positions.last() != Some(&position) {
-                self.positions.push(position);
-            }
+            self.push_other(start, position);
         }
         start..self.positions.len()
     }
 
-    /// Reads a closed list, and turns it to its least rotation. As no segment is used twice, the first
-    /// two vertices of a rotation tell it apart.
-    fn read_ring(&mut self, value: &Value) -> std::ops::Range<usize> {
-        self.positions.push(Pos { x: 0, y: 0 }); // where the last vertex comes to stand
+    fn read_ring(&mut self, value: &Value) -> Range<usize> {
+        self.begin_ring();
         let closed = self.read_line(value);
-        let places = closed.start..closed.end - 1;
-        let start = places
-            .clone()
-            .min_by_key(|&place| self.step(place))
-            .expect("a vertex");
-        self.turn(&places, start);
-        places
+        self.turn_ring(closed)
     }
 }

@@ -1,10 +1,43 @@
 //! The canonical text of a topology.
 
 use crate::arcs::{Arc, Topology};
-use crate::map::{Feature, Id, Kind, Map, Pos};
+use crate::map::{Feature, Form, Id, Kind, Map, Pos};
 use std::ops::Range;
 
 struct Text(Vec<u8>);
+
+/// The text of a layer's features as GeoJSON.
+pub fn layer_text(map: &Map, topology: &Topology, features: &[Feature]) -> Vec<u8> {
+    let mut text = Text(Vec::new());
+    let mut stitched = Vec::new();
+    text.put("{\"features\":[");
+    for (place, feature) in features.iter().enumerate() {
+        text.put(if place > 0 { "," } else { "" });
+        text.feature(map, topology, feature, &mut stitched);
+    }
+    text.put("],\"type\":\"FeatureCollection\"}");
+    text.0
+}
+
+/// The text of lines as a GeoJSON MultiLineString.
+pub fn mesh_text(map: &Map, lines: &[Range<usize>]) -> Vec<u8> {
+    let mut text = Text(Vec::new());
+    text.put("{\"coordinates\":");
+    text.list(lines, |text, line| {
+        text.absolutes(map, &map.positions[line.clone()])
+    });
+    text.put(",\"type\":\"MultiLineString\"}");
+    text.0
+}
+
+/// The text of lists of numbers.
+pub fn lists_text(lists: &[Vec<u32>]) -> Vec<u8> {
+    let mut text = Text(Vec::new());
+    text.list(lists, |text, list| {
+        text.list(list, |text, &number| text.number(number as i64))
+    });
+    text.0
+}
 
 pub fn text_of(map: &Map, topology: &Topology) -> Vec<u8> {
     let mut text = Text(Vec::new());
@@ -128,19 +161,7 @@ impl Text {
     fn geometry(&mut self, map: &Map, topology: &Topology, feature: &Feature) {
         self.put("{");
         self.content(map, topology, feature);
-        match &feature.id {
-            Id::None => {}
-            Id::Number(number) => {
-                self.put("\"id\":");
-                self.number(*number);
-                self.put(",");
-            }
-            Id::Text(text) => {
-                self.put("\"id\":");
-                self.spelled(text);
-                self.put(",");
-            }
-        }
+        self.id(&feature.id);
         if feature.props != "{}" {
             self.put("\"properties\":");
             self.put(&feature.props);
@@ -177,5 +198,106 @@ impl Text {
             Kind::MultiPolygon => self.list(parts, lines),
         }
         self.put(",");
+    }
+
+    fn id(&mut self, id: &Id) {
+        match id {
+            Id::None => {}
+            Id::Number(number) => {
+                self.put("\"id\":");
+                self.number(*number);
+                self.put(",");
+            }
+            Id::Text(text) => {
+                self.put("\"id\":");
+                self.spelled(text);
+                self.put(",");
+            }
+        }
+    }
+
+    fn absolutes(&mut self, map: &Map, positions: &[Pos]) {
+        self.list(positions, |text, &position| text.absolute(map, position));
+    }
+
+    fn absolute(&mut self, map: &Map, position: Pos) {
+        let Pos { x, y } = map.grid.to_absolute(position);
+        self.pair(x, y);
+    }
+
+    fn feature(
+        &mut self,
+        map: &Map,
+        topology: &Topology,
+        feature: &Feature,
+        stitched: &mut Vec<Pos>,
+    ) {
+        self.put("{\"geometry\":");
+        if feature.kind == Kind::Null {
+            self.put("null,");
+        } else {
+            self.put("{\"coordinates\":");
+            self.coordinates(map, topology, feature, stitched);
+            self.put(",\"type\":");
+            self.put(type_of(feature.kind));
+            self.put("},");
+        }
+        self.id(&feature.id);
+        self.put("\"properties\":");
+        self.put(&feature.props);
+        self.put(",\"type\":\"Feature\"}");
+    }
+
+    fn coordinates(
+        &mut self,
+        map: &Map,
+        topology: &Topology,
+        feature: &Feature,
+        stitched: &mut Vec<Pos>,
+    ) {
+        let parts = &map.parts[feature.parts.clone()];
+        let first = parts.first().cloned().unwrap_or(0..0);
+        match feature.kind {
+            Kind::Null => {}
+            Kind::Point => self.absolute(map, map.positions_of(&map.lists[first.start])[0]),
+            Kind::MultiPoint => self.absolutes(map, map.positions_of(&map.lists[first.start])),
+            Kind::Line => self.stitched(map, topology, first.start, stitched),
+            Kind::MultiLine | Kind::Polygon => self.all_stitched(map, topology, first, stitched),
+            Kind::MultiPolygon => {
+                self.put("[");
+                for (place, part) in parts.iter().enumerate() {
+                    self.put(if place > 0 { "," } else { "" });
+                    self.all_stitched(map, topology, part.clone(), stitched);
+                }
+                self.put("]");
+            }
+        }
+    }
+
+    fn all_stitched(
+        &mut self,
+        map: &Map,
+        topology: &Topology,
+        lists: Range<usize>,
+        stitched: &mut Vec<Pos>,
+    ) {
+        self.put("[");
+        for list in lists.clone() {
+            self.put(if list > lists.start { "," } else { "" });
+            self.stitched(map, topology, list, stitched);
+        }
+        self.put("]");
+    }
+
+    /// The positions along a list's arcs, a ring's from its least rotation.
+    fn stitched(&mut self, map: &Map, topology: &Topology, list: usize, stitched: &mut Vec<Pos>) {
+        topology.stitch(map, topology.indexes(list), stitched);
+        if map.lists[list].form == Form::Ring {
+            let last = stitched.len() - 1;
+            let start = (0..last).min_by_key(|&place| (stitched[place], stitched[place + 1]));
+            stitched[..last].rotate_left(start.expect("a vertex"));
+            stitched[last] = stitched[0];
+        }
+        self.absolutes(map, stitched);
     }
 }
