@@ -22,6 +22,8 @@ from house_tree import read, write
 
 HERE = os.path.dirname(os.path.abspath(__file__))
 ANTT = re.compile(r"\bRattle\.(\w+)\.(specs|proofs)((?:\.\w+)+)")
+# Folders of modules that Rattle makes, which follow those of the code.
+MADE = ("declared", "contracts")
 USE = re.compile(r"^(?P<front>[ \t]*(?:pub(?:\([a-z]+\))? )?use )(?P<tree>[^;]+);", re.MULTILINE)
 MOD = re.compile(r"(?:^[ \t]*(?:///?[^\n]*|#\[[^\n]*\])\n)*^[ \t]*(?:pub(?:\([a-z]+\))? )?mod (\w+);\n", re.MULTILINE)
 CODE_PATH = re.compile(r"(?<![\w:.$])(\w+)((?:::\w+)+)")
@@ -97,10 +99,10 @@ class Plan:
         """The new crate and parts of Rattle.CRATE.KIND.PARTS."""
         if crate not in self.crates:
             return crate, parts
-        if kind == "specs" and parts[0] == "declared":
+        if kind == "specs" and parts[0] in MADE:
             module = self.crates[crate].longest_module(parts[1:])
             new, path = self.module(crate, module)
-            return new, ("declared", *path, *parts[1 + len(module):])
+            return new, (parts[0], *path, *parts[1 + len(module):])
         known = self.crates[crate].specs if kind == "specs" else self.crates[crate].lemmas
         for size in range(len(parts), 0, -1):
             if parts[:size] in known:
