@@ -408,7 +408,7 @@ def new_crates_txt(plan, table, top):
 def crate_line(top, name, kind, used):
     texts = []
     for at, _, files in os.walk(f"{top}/crates/{name}"):
-        texts += [read(f"{at}/{it}") for it in files if it.endswith((".rt", ".antt")) and "/out" not in at]
+        texts += [read(f"{at}/{it}") for it in files if it.endswith((".rt", ".antt")) and "/out/" not in f"{at}/"]
     cited = [it for it in used if any(re.search(rf"\b{it}::|\buse {it}\b|\bRattle\.{it}\b", text) for text in texts)]
     return f"{' '.join([name, *kind])}:{''.join(f' {it}' for it in cited)}"
 
