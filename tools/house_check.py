@@ -240,18 +240,16 @@ def whole_head(text):
 def contracts(before, after, say):
     """Compares the public calls of KEPT, before (in their new words) and after."""
     old, new = house_tree.load(before), house_tree.load(after)
-    try:
-        import house_words
-        words = house_words.renamed
-    except ImportError:
-        words = None
+    with open(f"{HERE}/house.toml", "rb") as file:
+        table = tomllib.load(file)
+    words = {key.split("::")[-1]: it for key, it in table.get("types", {}).items()}
+    renamed = re.compile(rf"\b(?:{'|'.join(words)})\b")
     count = 0
     for name in KEPT:
         was, is_now = public_calls(before, old[name]), public_calls(after, new[name])
-        if words:
-            was = collections.Counter({words(name, it): number for it, number in was.items()})
         for it in was - is_now:
-            say(name, f"no longer there, or otherwise: {it}")
+            if renamed.sub(lambda word: words[word[0]], it) not in is_now:
+                say(name, f"no longer there, or otherwise: {it}")
         count += sum(was.values())
     return count
 

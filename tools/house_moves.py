@@ -52,6 +52,7 @@ class Plan:
         self.flat = set(table.get("flat", []))
         self.reexports = {name: reexports_of(crates[name], top) for name in self.flat}
         self.published = {parts_of(it) for it in table.get("published", [])}
+        self.dropped = set(table.get("edits", {}).get("drop", []))
         self.modules = {parts_of(old): parts_of(new) for old, new in table.get("modules", {}).items()}
         self.specs = {parts_of(old): parts_of(new) for old, new in table.get("specs", {}).items()}
         self.lemmas = {parts_of(old): parts_of(new) for old, new in table.get("lemmas", {}).items()}
@@ -300,6 +301,10 @@ class Tree:
             mods.setdefault((new_crate, new[: size - 1]), []).append(f"pub mod {new[size - 1]}\n")
 
     def add_edit(self, crate, old, path):
+        name = path.split("/")[-1].removesuffix(".edit")
+        if f"{crate.name}/{name}" in self.plan.dropped:
+            self.moves[old] = None
+            return
         plan, module, lines = self.plan, (), []
         target = None
         for line in read(f"{self.top}/{old}").split("\n"):

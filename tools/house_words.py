@@ -165,6 +165,8 @@ class Words:
                 print(f"{other.name}/{file}: {new} is there beside {word}")
             keep = re.compile(r"\b(Rattle(?:\.\w+)+)(\.\{[^}]*\})?")
             own = f"Rattle.{name}.specs.declared.{made}{new}"
+            # Behind `::` it may be a variant; paths of modules follow below.
+            bare = re.compile(rf"(?<!::)\b{word}\b")
 
             def put(code):
                 # The paths themselves are renamed already; of their lists only the type's own.
@@ -173,11 +175,11 @@ class Words:
                     names = found[2] or ""
                     if found[1] == own or found[1].startswith(own + "."):
                         names = re.sub(rf"\b{word}\b", new, names)
-                    parts += [re.sub(rf"\b{word}\b", new, code[end:found.start()]), found[1], names]
+                    parts += [bare.sub(new, code[end:found.start()]), found[1], names]
                     end = found.end()
-                return "".join(parts) + re.sub(rf"\b{word}\b", new, code[end:])
+                return "".join(parts) + bare.sub(new, code[end:])
             out = in_code(out, put, is_antt)
-        elif not is_antt:
+        if not is_antt:
             its = house_tree.module_of(file[4:])
             def put_path(found):
                 path = (found[1], *found[2][2:].split("::"))
@@ -187,6 +189,9 @@ class Words:
                     return "::".join((*path[:size], new, *path[size + 1:]))
                 return found[0]
             out = in_code(out, lambda it: house_moves.CODE_PATH.sub(put_path, it), False)
+        if is_antt and other.name == name and file.startswith("proofs/"):
+            # A bound's trait in goals, as `g.S.NAME.clause`.
+            out = re.sub(rf"(?<=\bg\.)(\w+)\.{word}(?=\.)", rf"\1.{new}", out)
         self.change(self.path(other, file), text, out)
 
     def move_folders(self, folders):
@@ -252,8 +257,9 @@ class Words:
             return False
         is_home = (other.name, its) == (name, module)
         imports = any(it[0] == name and it[1] in exports and it[2][:1] == (word,) for it in self.leaves(other, its, text))
+        is_variable = re.search(rf"\b(?:let|let mut|ref|mut|for) {word}\b|\|{word}\b|[(,]\s*{word}:|^\s*(?:pub )?{word}:|\({word}\) =", text, re.MULTILINE)
         if is_home or imports:
-            if re.search(rf"\b(?:let|let mut|ref|mut) {word}\b|\|{word}\b|[(,]\s*{word}:|^\s*(?:pub )?{word}:", text, re.MULTILINE):
+            if is_variable:
                 print(f"{other.name}/{file}: {word} is a variable or a field too, beside {name}::{'::'.join(module)}::{word} -> {new}")
             if re.search(rf"\bfn {new}\b", text) and is_home:
                 print(f"{other.name}/{file}: fn {new} is there already")
@@ -266,7 +272,8 @@ class Words:
                 return re.sub(rf"(?<=[.:]){word}(?=\(|::<)", new, code)
             if is_home or imports:
                 code = re.sub(rf"(?<![\w.:]){word}(?=\(|::<)", new, code)
-                code = re.sub(rf"(?<=\(){word}(?=\))", new, code)
+                if not is_variable:
+                    code = re.sub(rf"(?<=\(){word}(?=\))", new, code)
                 code = re.sub(rf"(?<=self::){word}\b", new, code)
             # In `use` lines, and behind paths that lead there.
             def put_use(found):
@@ -303,9 +310,17 @@ class Words:
                 own = own or self.bodies("\n".join(read(self.path(crate, it)) for it in crate.modules.values()), parts[-1])
                 if not re.search(rf"\b{new}\b", own):
                     continue
-                if re.search(rf"\blet (?:mut )?{word}\b|Ok\({word}\)|Some\({word}\)", own):
+                # What `let NAME = ..?` binds is called by the variable in goals.
+                is_bound = re.search(rf"\blet (?:mut )?{word}\b", own)
+                if re.search(rf"Ok\({word}\)|Some\({word}\)", own):
                     print(f"{crate.name}/{file}: {word} is a variable of {parts[-1]} too")
-                body = re.sub(rf"(?<![\w])(?!(?:{aliases})\.{word}\b)(\w*[.\-]){word}(?![\w])", lambda it: it[0] if it[1].rstrip(".-") in aliases.split("|") or it[1] == "args." else it[1] + new, body)
+                kept = {*aliases.split("|"), "args"}
+
+                def put(found):
+                    is_kept = found[1].rstrip(".-") in kept or is_bound and found[1] != "c."
+                    return found[0] if is_kept else found[1] + new
+
+                body = re.sub(rf"(?<!\w)(\w*[.\-]){word}(?!\w)", put, body)
                 self.change(at, text, head + body)
 
     def bodies(self, code, name):
