@@ -6,7 +6,6 @@ lies below proofs/ at the path of its module.
 """
 
 import os
-import subprocess
 
 SOURCE_ROOTS = ("lib.rt", "main.rt")
 
@@ -23,9 +22,12 @@ def write(path, text):
 
 
 def files_of(top):
-    """The files that git follows, below `top`."""
-    listed = subprocess.run(["git", "ls-files", "-z"], cwd=top, check=True, stdout=subprocess.PIPE, text=True).stdout
-    return [it for it in listed.split("\0") if it and os.path.isfile(f"{top}/{it}")]
+    """The files below `top`, without what git and `rt` made."""
+    found = []
+    for at, folders, files in os.walk(top):
+        folders[:] = [it for it in folders if it not in (".git", "out", "__pycache__")]
+        found += [os.path.relpath(f"{at}/{it}", top) for it in files]
+    return sorted(found)
 
 
 def crate_lines(top):

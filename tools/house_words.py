@@ -12,7 +12,6 @@ otherwise, as a local variable of the same name, is reported as a line.
 import argparse
 import os
 import re
-import subprocess
 import sys
 import tomllib
 
@@ -20,7 +19,19 @@ sys.dont_write_bytecode = True
 
 import house_moves
 import house_tree
-from house_tree import read, write
+
+# The texts of all files of crates by their paths, as they are in the end; nothing is written before.
+TEXTS = {}
+
+
+def read(path):
+    if path not in TEXTS:
+        TEXTS[path] = house_tree.read(path)
+    return TEXTS[path]
+
+
+def write(path, text):
+    TEXTS[path] = text
 
 HERE = os.path.dirname(os.path.abspath(__file__))
 PIECES = re.compile(r"(?P<string>b?\"(?:[^\"\\]|\\.)*\")|(?P<comment>//[^\n]*)|(?P<antt>(?:(?<=\s)|^)--[^\n]*)", re.MULTILINE)
@@ -45,7 +56,7 @@ def in_code(text, put, is_antt):
 
 class Words:
     def __init__(self, top):
-        self.top, self.crates = top, house_tree.load(top)
+        self.top, self.crates, self.moved = top, house_tree.load(top), {}
         self.plan = Plain(self.crates)
         self.count = 0
 
@@ -196,14 +207,33 @@ class Words:
 
     def move_folders(self, folders):
         for (name, module, old), new in folders.items():
-            base = f"{self.top}/crates/{name}/proofs/{'/'.join(module)}".rstrip("/")
-            if os.path.isdir(f"{base}/{old}"):
-                if os.path.exists(f"{base}/{new}"):
-                    print(f"{base}/{new} is there")
-                    continue
-                os.rename(f"{base}/{old}", f"{base}/{new}")
-        subprocess.run(["git", "add", "-A", "crates"], cwd=self.top, check=True)
-        self.crates = house_tree.load(self.top)
+            base = "/".join(("proofs", *module))
+            self.move_folder(self.crates[name], f"{base}/{old}", f"{base}/{new}")
+
+    def move_folder(self, crate, old, new):
+        """Gives a folder of a crate another name."""
+        moved = [it for it in crate.files if it.startswith(old + "/")]
+        if moved and any(it.startswith(new + "/") for it in crate.files):
+            print(f"{crate.name}/{new} is there")
+            return
+        for it in moved:
+            to = new + it[len(old):]
+            TEXTS[self.path(crate, to)] = read(self.path(crate, it))
+            del TEXTS[self.path(crate, it)]
+            self.moved[self.path(crate, it)] = self.path(crate, to)
+            crate.files[crate.files.index(it)] = to
+
+    def finish(self):
+        """Writes what changed."""
+        for old in self.moved:
+            if os.path.isfile(old) and old not in TEXTS:
+                os.remove(old)
+        for path, text in TEXTS.items():
+            if not os.path.isfile(path) or house_tree.read(path) != text:
+                house_tree.write(path, text)
+        for at, _, _ in sorted(os.walk(f"{self.top}/crates"), reverse=True):
+            if not os.listdir(at):
+                os.rmdir(at)
 
     def rename_function(self, name, module, word, new):
         crate = self.crates.get(name)
@@ -236,20 +266,13 @@ class Words:
                 path = tuple(parts[1:-2])
                 its = crate.longest_module(path)
                 if its == module or is_method and len(path) > len(its):
-                    base = f"{self.top}/crates/{name}/{'/'.join(parts[:-2])}"
-                    if os.path.isdir(f"{base}/{word}"):
-                        os.rename(f"{base}/{word}", f"{base}/{new}")
-                        for other in [it for it in crate.files if it.startswith("/".join(parts[:-2]))] :
-                            pass
-                    dots = ".".join(path)
+                    base, dots = "/".join(parts[:-2]), ".".join(path)
+                    self.move_folder(crate, f"{base}/{word}", f"{base}/{new}")
                     for other in self.above(name):
                         for antt in other.files:
-                            at = self.path(other, antt)
-                            if antt.endswith(".antt") and os.path.isfile(at) or antt.endswith(".antt") and os.path.isfile(at := at.replace(f"/{word}/", f"/{new}/")):
-                                old = read(at)
-                                self.change(at, old, re.sub(rf"(\bRattle\.{name}\.proofs\.{re.escape(dots)}\.){word}\b", rf"\g<1>{new}", old))
-        subprocess.run(["git", "add", "-A", "crates"], cwd=self.top, check=True)
-        self.crates = house_tree.load(self.top)
+                            if antt.endswith(".antt"):
+                                old = read(self.path(other, antt))
+                                self.change(self.path(other, antt), old, re.sub(rf"(\bRattle\.{name}\.proofs\.{re.escape(dots)}\.){word}\b", rf"\g<1>{new}", old))
 
     def function_in_file(self, other, its, file, name, module, word, new, exports, is_method):
         text = read(self.path(other, file))
@@ -297,8 +320,6 @@ class Words:
         for file in crate.files:
             if file.startswith("proofs/") and file.endswith(("Answers.antt", "Invariants.antt")):
                 at = self.path(crate, file)
-                if not os.path.isfile(at):
-                    continue
                 text = read(at)
                 aliases = "|".join(re.findall(r"^(?:pub )?use [\w.]+ as (\w+)$", text, re.MULTILINE)) or "-"
                 head, body = self.split_uses(text)
@@ -375,6 +396,7 @@ def main():
         tree.rename_type(*split_key(key), new)
     for key, new in table.get("functions", {}).items():
         tree.rename_function(*split_key(key), new)
+    tree.finish()
     print(f"house_words: {len(table.get('types', {}))} types and {len(table.get('functions', {}))} functions, {tree.count} changes of files")
 
 
