@@ -85,6 +85,9 @@ class Words:
                 if place:
                     yield place
 
+    def whole(self, crate):
+        return "\n".join(read(self.path(crate, it)) for it in crate.modules.values())
+
     def place(self, crate, module, path):
         """The crate, the module and the rest that a path of code leads to."""
         if path[0] == "crate":
@@ -247,11 +250,19 @@ class Words:
             return
         is_method = any(indent for indent, _ in defined)
         is_public = any("pub " in front for _, front in defined)
+        # In other crates an associated function is named behind its type; a method only if no other has its name.
+        types = "|".join({it[1] for it in re.finditer(r"^(?:pub )?(?:impl(?:<[^\n]*?>)?(?: [\w:<>&', ]+? for)?|trait) (\w+)", text, re.MULTILINE)}) or "-"
+        elsewhere = re.compile(rf"(?:{'|'.join(f'(?<={it}::)' for it in types.split('|'))}){word}(?=\(|::<)")
+        if is_public and re.search(rf"fn {word}(?:<[^>]*>)?\(\s*(?:&(?:'\w+ )?)?(?:mut )?self", text):
+            if any(it.name != name and re.search(rf"\bfn {word}\b", self.whole(it)) for it in self.crates.values()):
+                print(f"{name}: the method {word} has others of its name; calls from other crates stay")
+            else:
+                elsewhere = re.compile(rf"(?:{'|'.join(f'(?<={it}::)' for it in types.split('|'))}|(?<=\.)){word}(?=\(|::<)")
         exports = self.exports(name, module, word)
         callers = set()
         for other in self.above(name) if is_public else [crate]:
             for its, file in other.modules.items():
-                if self.function_in_file(other, its, file, name, module, word, new, exports, is_method):
+                if self.function_in_file(other, its, file, name, module, word, new, exports, is_method, elsewhere):
                     callers.add(other.name)
             for file in other.files:
                 if file.startswith("must-fail/"):
@@ -274,7 +285,7 @@ class Words:
                                 old = read(self.path(other, antt))
                                 self.change(self.path(other, antt), old, re.sub(rf"(\bRattle\.{name}\.proofs\.{re.escape(dots)}\.){word}\b", rf"\g<1>{new}", old))
 
-    def function_in_file(self, other, its, file, name, module, word, new, exports, is_method):
+    def function_in_file(self, other, its, file, name, module, word, new, exports, is_method, elsewhere):
         text = read(self.path(other, file))
         if not re.search(rf"\b{word}\b", text):
             return False
@@ -291,8 +302,10 @@ class Words:
             clauses = []
             if is_home:
                 code = re.sub(rf"\bfn {word}\b", f"fn {new}", code)
-            if is_method:
+            if is_method and other.name == name:
                 return re.sub(rf"(?<=[.:]){word}(?=\(|::<)", new, code)
+            if is_method:
+                return elsewhere.sub(new, code)
             if is_home or imports:
                 code = re.sub(rf"(?<![\w.:]){word}(?=\(|::<)", new, code)
                 if not is_variable:
