@@ -423,8 +423,8 @@ def order_of(plan, table):
     return {name: place for place, name in enumerate(groups)}
 
 
-def rewrite_others(plan, top, moves):
-    """Paths of files in scripts and documents, and the paths of code in documents."""
+def rewrite_others(plan, top, moves, table):
+    """Paths of files in scripts and documents, the paths of code in documents, and the texts of the plan."""
     exact = {old: new for old, new in moves.items() if new and new != old}
     names = {name: plan.crate(name) for name in plan.crates if plan.crate(name) != name}
     for path in house_tree.files_of(top):
@@ -433,13 +433,58 @@ def rewrite_others(plan, top, moves):
         text = read_any(f"{top}/{path}")
         if text is None:
             continue
-        new = re.sub(r"(?<![\w-])crates/[\w./-]*\w", lambda it: exact.get(it[0], it[0]), text)
+        new = definitions(plan, text) if path == "docs/DEFINITIONS.md" else text
+        new = re.sub(r"(?<![\w-])crates/[\w./-]*\w", lambda it: exact.get(it[0], it[0]), new)
         new = re.sub(r"(?<![\w-])crates/(\w+)(?=/)", lambda it: f"crates/{names.get(it[1], it[1])}" if it[0] + "/" not in exact.values() else it[0], new)
         new = plan.antt(new) if "Rattle." in new else new
         if path.endswith(".md"):
             new = re.sub(r"(?<![\w:.$/])(\w+)((?:::\w+)+)", lambda it: doc_path(plan, it), new)
         if new != text:
             write(f"{top}/{path}", new)
+
+
+def rewrite_texts(table, top):
+    """The texts that the plan names, each in its file; and the names of calls in the rows of tests."""
+    for change in table.get("texts", []):
+        path = f"{top}/{change['file']}"
+        text = read(path) if os.path.isfile(path) else ""
+        if change["old"] not in text:
+            print(f"house.toml: not in {change['file']}: {change['old']}")
+            continue
+        write(path, text.replace(change["old"], change["new"]))
+    rows = table.get("rows", {})
+    if not rows:
+        return
+    names = re.compile("\"(" + "|".join(map(re.escape, sorted(rows, key=len, reverse=True))) + ")(?!\\w)")
+    for path in house_tree.files_of(top):
+        if re.match(r"crates/(refused_\w+|\w*without_memory)/src/", path) or path == "tests/growths.py":
+            text = read(f"{top}/{path}")
+            new = names.sub(lambda it: '"' + rows[it[1]], text)
+            if path == "tests/growths.py":
+                new = re.sub(r"\b(" + "|".join(it[:-2] for it in rows if it.endswith("::") and it[0].islower()) + r")(?=::|\")", lambda it: rows[it[1] + "::"][:-2], new)
+            if new != text:
+                write(f"{top}/{path}", new)
+
+
+def definitions(plan, text):
+    """The page of definitions, with the files of each section by their new places."""
+    out = []
+    for section in re.split(r"(?=^## )", text, flags=re.MULTILINE):
+        found = re.search(r"`crates/(\w+)/specs/`", section)
+        if found and found[1] in plan.crates:
+            crate, prefix = found[1], "/".join(plan.prefix(found[1]))
+
+            def put_row(row):
+                cells = row[0].split(" | ")
+                if len(cells) == 4:
+                    cells[2] = re.sub(r"`([^`]+)`", lambda it: f"`{'/'.join(plan.spec(crate, parts_of(it[1]))[1])}`" if parts_of(it[1]) in plan.crates[crate].specs else it[0], cells[2])
+                return " | ".join(cells)
+
+            section = re.sub(r"^\| `.*$", put_row, section, flags=re.MULTILINE)
+            heading = plan.crate(crate) + (f": {prefix}" if prefix else "")
+            section = re.sub(rf"^## {crate}$", f"## {heading}", section, count=1, flags=re.MULTILINE)
+        out.append(section)
+    return "".join(out)
 
 
 def doc_path(plan, found):
@@ -476,7 +521,8 @@ def main():
             line = f"{front}:{''.join(f' {it}' for it in sorted(own, key=order.get) + foreign)}"
         lines.append(line)
     write(f"{top}/crates.txt", "\n".join(lines))
-    rewrite_others(plan, top, tree.moves)
+    rewrite_others(plan, top, tree.moves, table)
+    rewrite_texts(table, top)
     count = sum(old != new for old, new in tree.moves.items())
     print(f"house_moves: {len(crates)} crates before, {len({plan.crate(it) for it in crates})} now, {count} files moved")
 
