@@ -26,6 +26,7 @@ ANTT = re.compile(r"\bRattle\.(\w+)\.(specs|proofs)((?:\.\w+)+)")
 MADE = ("declared", "contracts")
 USE = re.compile(r"^(?P<front>[ \t]*(?:pub(?:\([a-z]+\))? )?use )(?P<tree>[^;]+);", re.MULTILINE)
 MOD = re.compile(r"(?:^[ \t]*(?:///?[^\n]*|#\[[^\n]*\])\n)*^[ \t]*(?:pub(?:\([a-z]+\))? )?mod (\w+);\n", re.MULTILINE)
+CRATE_DOCUMENTS = ("README.md", "CONTRIBUTING.md", "SECURITY.md", "docs/PROOFS.md", "docs/TESTS.md", "docs/LIBRARY.md", "docs/DECISIONS.md")
 CODE_PATH = re.compile(r"(?<![\w:.$])(\w+)((?:::\w+)+)")
 
 
@@ -437,6 +438,10 @@ def rewrite_others(plan, top, moves, table):
         new = re.sub(r"(?<![\w-])crates/[\w./-]*\w", lambda it: exact.get(it[0], it[0]), new)
         new = re.sub(r"(?<![\w-])crates/(\w+)(?=/)", lambda it: f"crates/{names.get(it[1], it[1])}" if it[0] + "/" not in exact.values() else it[0], new)
         new = plan.antt(new) if "Rattle." in new else new
+        if path in CRATE_DOCUMENTS:
+            # A crate by its name in backticks.
+            moved = {name: "::".join((plan.crate(name), *plan.prefix(name))) for name in plan.crates if plan.places[name] != name}
+            new = re.sub(r"`(\w+)`", lambda it: f"`{moved.get(it[1], it[1])}`", new)
         if path.endswith(".md"):
             new = re.sub(r"(?<![\w:.$/])(\w+)((?:::\w+)+)", lambda it: doc_path(plan, it), new)
         if new != text:
@@ -445,6 +450,8 @@ def rewrite_others(plan, top, moves, table):
 
 def rewrite_texts(table, top):
     """The texts that the plan names, each in its file; and the names of calls in the rows of tests."""
+    for old, new in table.get("pages", {}).items():
+        write(f"{top}/{new}", read(f"{HERE}/{old}"))
     for change in table.get("texts", []):
         path = f"{top}/{change['file']}"
         text = read(path) if os.path.isfile(path) else ""
