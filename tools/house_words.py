@@ -351,8 +351,10 @@ class Words:
                 kept = {*aliases.split("|"), "args"}
 
                 def put(found):
+                    # Behind a dot only what is called; and names of clauses, loops and patterns are no calls.
+                    is_call = found[1] == "c." or found[1].endswith("-") and found[1] not in ("clause-", "loop-", "in-")
                     is_kept = found[1].rstrip(".-") in kept or is_bound and found[1] != "c."
-                    return found[0] if is_kept else found[1] + new
+                    return found[1] + new if is_call and not is_kept else found[0]
 
                 body = re.sub(rf"(?<!\w)(\w*[.\-]){word}(?!\w)", put, body)
                 self.change(at, text, head + body)
