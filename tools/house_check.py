@@ -125,6 +125,9 @@ class Checker:
         if kind == "specs" and parts[0] in house_moves.MADE:
             if left and left[0] not in ("TheConstants",) and parts[0] == "declared" and not re.search(ITEM.format(name=re.escape(left[0])), text):
                 self.say(where, f"{crate}/{file} has no {left[0]}")
+            types = re.findall(r"\b(?:struct|enum|trait|type)\s+(\w+)", text)
+            if left and parts[0] == "contracts" and left[0][:1].isupper() and not any(it in left[0] for it in types):
+                self.say(where, f"{crate}/{file} has no type of {left[0]}")
             return
         wanted = [*left] + [it.split(" as ")[0].strip() for it in (names or "").split(",") if it.strip()]
         for it in wanted:

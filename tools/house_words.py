@@ -20,6 +20,8 @@ sys.dont_write_bytecode = True
 import house_moves
 import house_tree
 
+# Traits that are derived, whose impls have names as TypeTrait too.
+DERIVED = ("PartialEq", "Eq", "PartialOrd", "Ord", "Clone", "Copy", "Debug", "Hash", "Default", "Drop", "Display", "Error")
 # The texts of all files of crates by their paths, as they are in the end; nothing is written before.
 TEXTS = {}
 
@@ -140,6 +142,7 @@ class Words:
     def impl_folders(self, name, module, word, new):
         """Folders of proofs by the type's or trait's name: crate, module, old and new name."""
         crate, folders = self.crates[name], {(name, module, word): new}
+        folders |= {(name, module, word + it): new + it for it in DERIVED}
         for other in self.above(name):
             for its, file in other.modules.items():
                 text = read(self.path(other, file))
