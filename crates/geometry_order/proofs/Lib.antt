@@ -7,3 +7,4 @@ pub mod RingsStand
 pub mod BodiesStand
 pub mod Noting
 pub mod NodedTables
+pub mod KeysStand

@@ -4,3 +4,5 @@ pub mod Lists
 pub mod Bodies
 pub mod Noded
 pub mod Noted
+pub mod Keys
+pub mod Sorting

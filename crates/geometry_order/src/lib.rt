@@ -6,9 +6,11 @@
 #![tactic(auto)]
 
 mod bodies;
+mod keys;
 mod least;
 mod lists;
 mod order;
+mod sorting;
 mod step;
 
 pub use order::GeometryOrder;

@@ -27,9 +27,9 @@ pub(crate) struct Ordered<'a> {
 
 /// The least step of a list of used arcs, and how many arcs there are up to the one that has it.
 #[derive(Clone, Copy)]
-struct Lead {
-    step: Option<Step>,
-    behind: usize,
+pub(crate) struct Lead {
+    pub(crate) step: Option<Step>,
+    pub(crate) behind: usize,
 }
 
 fn comes_before(step: &Option<Step>, other: &Option<Step>) -> bool
@@ -39,7 +39,7 @@ fn comes_before(step: &Option<Step>, other: &Option<Step>) -> bool
 }
 
 /// The least step of a ring's list, of several the first.
-fn find_lead(least: &[Option<LeastSteps>], used: &[ArcRef]) -> Lead
+pub(crate) fn find_lead(least: &[Option<LeastSteps>], used: &[ArcRef]) -> Lead
     ensures { result ≡ lead_of least.now used.now }
 {
     let Some((first, others)) = used.split_first() else {

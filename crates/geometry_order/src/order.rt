@@ -2,6 +2,7 @@
 ghost use Rattle.geometry_order.specs.Least.{IsLeastOf, least_of};
 ghost use Rattle.geometry_order.specs.Noded.{AreNoded};
 ghost use Rattle.geometry_order.specs.Noted.{IsNotedFor};
+ghost use Rattle.geometry_order.specs.Sorting.{AreSortedOnce};
 ghost use Rattle.grid.specs.declared.pos.Pos.{Pos};
 ghost use Rattle.std.specs.Prelude.{◌≡◌, IfOk, List};
 ghost use Rattle.topo.specs.Features.{HasFeature};
@@ -10,6 +11,7 @@ ghost use Rattle.topo.specs.GeometryOrder.{geometry_cmp};
 use crate::bodies::body_order;
 use crate::least::{LeastSteps, least_of_arcs};
 use crate::lists::Ordered;
+use crate::sorting::sorted_by_keys;
 use chains::table::ArcTable;
 use faults::OutOfMemory;
 use std::alloc::Global;
@@ -80,5 +82,32 @@ impl GeometryOrder {
         let found = body_order(&view, &geometry.body, &other.body);
         self.least = Some(least);
         Ok(found)
+    }
+
+    /// Geometries sorted by the order of the features that they stitch to, those that are equal once. Each
+    /// list of used arcs is gone through once, and compared then as far as it agrees with another: rings
+    /// are not turned at each comparison. The arcs are those of each call before.
+    ///
+    /// # Errors
+    /// Where memory is refused.
+    pub fn sorted(
+        &mut self,
+        alloc: Global,
+        arcs: &ArcTable,
+        geometries: Vec<Geom>,
+    ) -> Result<Vec<Geom>, OutOfMemory>
+        requires noted { IsNotedFor arcs.now.arcs self.old }
+        ensures noted { IsNotedFor arcs.now.arcs self.new }
+        ensures sorted { IfOk result (λ v. AreSortedOnce arcs.now.arcs geometries.items v.items) }
+    {
+        let least = find_least(alloc, arcs, self.least.take())?;
+        let view = Ordered {
+            arcs,
+            least: &least,
+        };
+        let mut sorted = sorted_by_keys(alloc, &view, geometries)?;
+        sorted.dedup();
+        self.least = Some(least);
+        Ok(sorted)
     }
 }

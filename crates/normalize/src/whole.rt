@@ -7,9 +7,8 @@ use crate::heal::heal;
 use crate::lists::HealedLists;
 use crate::seen::seen_in;
 use crate::split::Split;
+use chains::ArcTable;
 use faults::OutOfMemory;
-use grid::pos::Pos;
-use lines::items::Items;
 use std::alloc::Global;
 use taking::TextArcs;
 use topo::Layer;
@@ -18,7 +17,7 @@ use topo::Layer;
 /// vertex; and layers by these arcs.
 #[derive(Drop)]
 pub struct Normalized {
-    pub arcs: Vec<Items<Pos>>,
+    pub arcs: ArcTable,
     pub layers: Vec<Layer>,
 }
 
@@ -36,7 +35,7 @@ pub fn normalize(
     arcs: &TextArcs,
     layers: &[Layer],
 ) -> Result<Option<Normalized>, OutOfMemory>
-    ensures kept { IfOk result (λ o. IfSome o (λ n. KeepLayers arcs.now n.arcs.items layers.now n.layers.items)) }
+    ensures kept { IfOk result (λ o. IfSome o (λ n. KeepLayers arcs.now n.arcs.arcs layers.now n.layers.items)) }
     ensures ids { IfOk result (λ o. IfSome o (λ n. HaveI64 layers.now → HaveI64 n.layers.items)) }
 {
     let seen = seen_in(alloc, arcs, layers)?;
@@ -51,7 +50,6 @@ pub fn normalize(
         joined: &joined,
     };
     let layers = lists.layers(alloc, layers)?;
-    let (table, _) = joined.into_parts();
-    let arcs = table.into_arcs(alloc)?;
+    let (arcs, _) = joined.into_parts();
     Ok(Some(Normalized { arcs, layers }))
 }

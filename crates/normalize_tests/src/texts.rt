@@ -143,5 +143,6 @@ pub(crate) fn is_made(
     arcs: Arcs,
     layers: Layers,
 ) -> Result<bool, Fail> {
-    Ok(made.arcs == lists(alloc, arcs)? && are_layers(alloc, &made.layers, layers)?)
+    let made_arcs = made.arcs.copy(alloc)?.into_arcs(alloc)?;
+    Ok(made_arcs == lists(alloc, arcs)? && are_layers(alloc, &made.layers, layers)?)
 }

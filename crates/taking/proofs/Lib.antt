@@ -6,4 +6,4 @@ pub mod PairsGathered
 pub mod Adding
 pub mod Ending
 pub mod StandingParts
-pub mod ByKind
+pub mod Sorted

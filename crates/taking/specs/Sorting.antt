@@ -1,25 +1,25 @@
--- Layers whose geometries are sorted, as far as that can be told without arcs.
-use Rattle.std.specs.Prelude.{◌≡◌, List}
-use Rattle.std.specs.List.Sorted.{IsPermutation, IsSorted, IsStable}
-use Rattle.theory.specs.Lists.{Pairwise}
-use Rattle.topo.specs.GeometryOrder.{kind_cmp}
+-- Layers whose geometries are sorted.
+use Rattle.std.specs.Prelude.{◌≡◌, ◌↔◌, List}
+use Rattle.grid.specs.declared.pos.Pos.{Pos}
+use Rattle.theory.specs.Lists.{Has, Pairwise}
 use Rattle.topo.specs.Parts.{LayerParts}
+use Rattle.topo.specs.declared.geom.Geom.{Geom}
+use Rattle.geometry_order.specs.Sorting.{AreSortedOnce}
 
--- the same name, and the same geometries in another order
+-- the same name, and the same geometries, in another order or not, and as many times or not
 pub record IsReordered (l k : LayerParts) : Type 0 where
   pub name : k.name ≡ l.name
-  pub geometries : IsPermutation l.geometries k.geometries
+  pub geometries : (g : Geom) → Has g l.geometries ↔ Has g k.geometries
 
--- layer by layer, the same name, and the same geometries in another order
+-- layer by layer, the same name, and the same geometries, in another order or not, and as many times or not
 abbrev pub AreReordered : List LayerParts → List LayerParts → Type 0
 AreReordered = Pairwise IsReordered
 
--- the same layer with its geometries in the order of ids, properties and kinds; those that tie stay in order
-pub record IsSortedLayer (l k : LayerParts) : Type 0 where
-  pub reordered : IsReordered l k
-  pub sorted : IsSorted kind_cmp k.geometries
-  pub stable : IsStable kind_cmp l.geometries k.geometries
+-- the same layer with its geometries in the order of the features that they stitch to, and equal ones once
+pub record IsSortedLayer (arcs : List (List Pos)) (l k : LayerParts) : Type 0 where
+  pub name : k.name ≡ l.name
+  pub geometries : AreSortedOnce arcs l.geometries k.geometries
 
--- layer by layer, the geometries in the order of ids, properties and kinds; those that tie stay in order
-abbrev pub AreSorted : List LayerParts → List LayerParts → Type 0
-AreSorted = Pairwise IsSortedLayer
+-- layer by layer, the geometries in the order of the features that they stitch to, and equal ones once
+abbrev pub AreSorted : List (List Pos) → List LayerParts → List LayerParts → Type 0
+AreSorted arcs = Pairwise (IsSortedLayer arcs)

@@ -1,30 +1,45 @@
-//! Layers with their geometries sorted, as far as that is known without arcs.
+//! Layers with their geometries sorted.
+ghost use Rattle.geometry_order.specs.Noted.{IsNotedFor};
 ghost use Rattle.std.specs.Prelude.{IfOk};
 ghost use Rattle.taking.specs.Sorting.{AreSorted, IsSortedLayer};
 
+use chains::table::ArcTable;
 use faults::OutOfMemory;
+use geometry_order::GeometryOrder;
 use std::alloc::Global;
-use topo::{Layer, kind_order};
+use topo::Layer;
 
-fn layer_sorted(layer: Layer) -> Result<Layer, OutOfMemory>
-    ensures { IfOk result (λ l. IsSortedLayer layer l) }
+fn layer_sorted(
+    alloc: Global,
+    arcs: &ArcTable,
+    order: &mut GeometryOrder,
+    layer: Layer,
+) -> Result<Layer, OutOfMemory>
+    requires noted { IsNotedFor arcs.now.arcs order.old }
+    ensures noted { IsNotedFor arcs.now.arcs order.new }
+    ensures sorted { IfOk result (λ l. IsSortedLayer arcs.now.arcs layer l) }
 {
-    let (name, mut geometries) = layer.into_parts();
-    geometries.sort_by(|geometry, other| kind_order(geometry, other))?;
-    Ok(Layer::new(name, geometries))
+    let (name, geometries) = layer.into_parts();
+    let sorted = order.sorted(alloc, arcs, geometries)?;
+    Ok(Layer::new(name, sorted))
 }
 
-/// The layers, in each of which the geometries are sorted by what they have without their arcs: by id,
-/// then by properties, then by kind. Those that tie stay in their order.
+/// The layers, in each of which the geometries are sorted by the features that they stitch to over the
+/// arcs of a table, which are noded. Geometries that are equal are there once.
 ///
 /// # Errors
 /// Where memory is refused.
-pub fn layers_sorted(alloc: Global, layers: Vec<Layer>) -> Result<Vec<Layer>, OutOfMemory>
-    ensures { IfOk result (λ ls. AreSorted layers.items ls.items) }
+pub fn layers_sorted(
+    alloc: Global,
+    arcs: &ArcTable,
+    layers: Vec<Layer>,
+) -> Result<Vec<Layer>, OutOfMemory>
+    ensures { IfOk result (λ ls. AreSorted arcs.now.arcs layers.items ls.items) }
 {
+    let mut order = GeometryOrder::new();
     let mut sorted = Vec::with_capacity(alloc, layers.len())?;
     for layer in layers {
-        sorted.push(layer_sorted(layer)?)?;
+        sorted.push(layer_sorted(alloc, arcs, &mut order, layer)?)?;
     }
     Ok(sorted)
 }

@@ -30,8 +30,9 @@ pub(crate) fn topology_of_normalized(
     let Some(normalized) = normalize(alloc, arcs, layers)? else {
         return Ok(None);
     };
-    let sorted = layers_sorted(alloc, normalized.layers)?;
-    match take(alloc, grid, normalized.arcs, sorted)? {
+    let sorted = layers_sorted(alloc, &normalized.arcs, normalized.layers)?;
+    let arcs = normalized.arcs.into_arcs(alloc)?;
+    match take(alloc, grid, arcs, sorted)? {
         Taken::Whole(topology) => Ok(Some(topology)),
         Taken::Not { .. } => Ok(None),
     }

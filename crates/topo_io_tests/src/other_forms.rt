@@ -32,8 +32,9 @@ fn is_taken_normalized(alloc: Global, text: &str) -> Result<bool, Fail> {
     let Some(normalized) = normalize(alloc, &arcs, &parts.layers)? else {
         return Ok(false);
     };
-    let sorted = layers_sorted(alloc, normalized.layers)?;
-    match take(alloc, parts.grid, normalized.arcs, sorted)? {
+    let sorted = layers_sorted(alloc, &normalized.arcs, normalized.layers)?;
+    let arcs = normalized.arcs.into_arcs(alloc)?;
+    match take(alloc, parts.grid, arcs, sorted)? {
         Taken::Whole(_) => Ok(true),
         Taken::Not { .. } => Ok(false),
     }
@@ -112,15 +113,25 @@ fn texts_of_other_arcs_are_taken(rt: HostRuntime) -> Result<(), Fail> {
     check_rows(&rt, rt.alloc(), OTHER_ARCS, true)
 }
 
-/// Texts that are built anew.
-const BUILT: &[(&str, &str)] = rows! {
+/// Texts with features of one layer that agree in id, properties and kind, or are there twice.
+const TIES: &[(&str, &str)] = rows! {
     "a feature that is there twice", topology!("[[[1,0],[0,1]],[[1,1],[-1,0],[0,-1],[1,0]],[[1,0],[1,0],[0,1],[-1,0]]]",
         r#"[{"type":"Polygon","arcs":[[0,1]],"id":"left"},{"type":"Polygon","arcs":[[2,-1]],"id":"right"},{"type":"Polygon","arcs":[[0,1]],"id":"left"}]"#);
+    "a feature that is there twice, the second time begun elsewhere and by other arcs", topology!("[[[1,0],[0,1]],[[1,1],[-1,0],[0,-1],[1,0]],[[0,0],[1,0],[0,1],[-1,0],[0,-1]]]",
+        r#"[{"type":"Polygon","arcs":[[0,1]]},{"type":"Point","coordinates":[5,5]},{"type":"Polygon","arcs":[[2]]}]"#);
+    "two squares without ids, the right one first", topology!("[[[1,0],[1,0],[0,1],[-1,0]],[[1,1],[0,-1]],[[1,1],[-1,0],[0,-1],[1,0]]]",
+        r#"[{"type":"Polygon","arcs":[[0,1]]},{"type":"Polygon","arcs":[[-2,2]]}]"#);
+    "lines without ids, out of order", topology!("[[[3,0],[1,0]],[[0,0],[1,0]],[[1,0],[0,1]]]",
+        r#"[{"type":"LineString","arcs":[0]},{"type":"LineString","arcs":[1,2]},{"type":"LineString","arcs":[1]}]"#);
+    "points, lists of points, lists of lines and of polygons without ids, out of order", topology!("[[[3,0],[1,0],[0,1],[-1,-1]],[[0,0],[1,0]],[[1,0],[0,1]],[[0,0],[0,1],[1,0],[-1,-1]]]",
+        r#"[{"type":"MultiPolygon","arcs":[[[0]],[[3]]]},{"type":"MultiPolygon","arcs":[[[3]],[[0]]]},{"type":"MultiLineString","arcs":[[2],[1]]},{"type":"MultiLineString","arcs":[[1],[2]]},{"type":"MultiPoint","coordinates":[[7,7],[6,6]]},{"type":"MultiPoint","coordinates":[[6,6]]},{"type":"Point","coordinates":[5,6]},{"type":"Point","coordinates":[5,5]},{"type":"Point","coordinates":[5,6]},{"type":null},{"type":null}]"#);
+    "lakes whose lists begin behind their least steps, out of order", topology!("[[[4,0],[0,4],[-4,0],[0,-4],[4,0]],[[3,0],[0,3],[-3,0],[0,-3],[3,0]],[[3,0],[1,0]],[[4,0],[3,0]]]",
+        r#"[{"type":"Polygon","arcs":[[0]]},{"type":"LineString","arcs":[3]},{"type":"LineString","arcs":[2]}]"#);
 };
 
 #[test]
-fn other_texts_are_built(rt: HostRuntime) -> Result<(), Fail> {
-    check_rows(&rt, rt.alloc(), BUILT, false)
+fn texts_with_ties_are_taken(rt: HostRuntime) -> Result<(), Fail> {
+    check_rows(&rt, rt.alloc(), TIES, true)
 }
 
 #[test]

@@ -1,9 +1,17 @@
 use Rattle.std.proofs.Common.{sym, ◌∙◌}
 use Rattle.chains.proofs.Merged.{emptied}
-use Rattle.taking.proofs.ByKind.{sorted_all}
+use Rattle.taking.proofs.Sorted.{sorted_all, sorted_more}
 use Rattle.taking.proofs.sorting.layers_sorted.Goals as goal
+
+pub loop-layer-preserved : goal.loop-layer-preserved
+loop-layer-preserved c = record {
+  noted = c.layer_sorted.ensures.noted;
+  rest =
+      sorted_more c.args.arcs.now.arcs c.args.layers.items c.in-Some.layer c.in_ok-layer_sorted.field-0 c.loop-layer.layer-iterator.rest.items c.next.new.self.rest.items
+      c.loop-layer.sorted.items c.push.new.self.items c.in-Some.ensures.steps.0 c.in_ok-layer_sorted.ensures.sorted c.in_ok-push.ensures.items c.loop-layer.invariant.rest;
+}
 
 pub returns : goal.returns
 returns c =
     let left = c.loop-layer.layer-iterator.rest in
-    sorted_all c.args.layers.items left.items c.loop-layer.sorted.items (emptied left.items (sym left.ok.0 ∙ c.in-None.ensures.steps.0)) c.loop-layer.invariant
+    sorted_all c.args.arcs.now.arcs c.args.layers.items left.items c.loop-layer.sorted.items (emptied left.items (sym left.ok.0 ∙ c.in-None.ensures.steps.0)) c.loop-layer.invariant.rest
