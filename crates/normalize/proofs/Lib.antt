@@ -2,6 +2,7 @@ mod Marks
 mod SeenLists
 mod Behind
 mod Replaced
-mod Numbered
+pub mod Numbered
 mod Turning
 mod Kept
+pub mod Collapsing

@@ -1,5 +1,5 @@
 -- Loops over the numbers of arcs.
-use Rattle.std.proofs.Common.{◌≡◌, ◌<◌, ◌≤◌, ◌+◌, ℕ, zero, suc, List, [], ◌∷◌, ◌++◌, drop, length, slice_get, Some, ◌⊎◌, inl, inr, refl, sym, ap, ◌∙◌, subst, append_assoc, arith}
+use Rattle.std.proofs.Common.{◌≡◌, ◌<◌, ◌≤◌, ◌+◌, ℕ, zero, suc, List, [], ◌∷◌, ◌++◌, drop, length, slice_get, Some, None, map, ◌⊎◌, inl, inr, refl, sym, ap, ◌∙◌, subst, append_assoc, arith}
 use Rattle.grid.specs.declared.pos.Pos.{Pos}
 use Rattle.theory.specs.ArcNumbers.{ArcRef, StitchTo}
 use Rattle.theory.specs.Refinement.{pieces_at}
@@ -69,3 +69,27 @@ numbered_stitch table arcs pieces n ps c d e f h there =
     let k : Some c ≡ Some d = e ∙ there in
     let same : c ≡ d = cc in
     subst (λ w. StitchTo table w d) (sym (at_some pieces n ps f)) (subst (λ w. StitchTo table ps w) same h)
+
+-- what is at a place that is there
+pub not_there : {A : Type 0} (l : List A) (n : ℕ) → n < length l → slice_get l n ≡ None → ⊥
+not_there l n h e =
+    let t = at_place n l h in
+    let k : Some t.0 ≡ None = sym t.1 ∙ e in
+    absurd cc
+
+-- with what is left, those made so far are all
+module _ {A B : Type 0} (f : A → B) where
+  pub mapped_more : (l : List A) (n : ℕ) (x : A) (made now : List B) → slice_get l n ≡ Some x → now ≡ made ++ (f x ∷ []) → made ++ map f (drop n l) ≡ map f l →
+      now ++ map f (drop (n + 1) l) ≡ map f l
+  mapped_more l n x made now there e before =
+      let t = at_place n l (within l n x there) in
+      let k : Some t.0 ≡ Some x = sym t.1 ∙ there in
+      let same : t.0 ≡ x = cc in
+      ap (λ w. w ++ map f (drop (n + 1) l)) e
+      ∙ append_assoc made (f x ∷ []) (map f (drop (n + 1) l))
+      ∙ ap (λ w. made ++ (f w ∷ map f (drop (n + 1) l))) (sym same)
+      ∙ ap (λ w. made ++ map f w) (sym t.2)
+      ∙ before
+
+  pub mapped_all : (l : List A) (n : ℕ) (made : List B) → length l ≤ n → made ++ map f (drop n l) ≡ map f l → made ≡ map f l
+  mapped_all l n made h before = sym (append_nil made) ∙ ap (λ w. made ++ map f w) (sym (none_left n l h)) ∙ before

@@ -1,15 +1,14 @@
 //! The lists of lines and rings by the healed arcs.
 ghost use Rattle.normalize.specs.Lists as spec;
-ghost use Rattle.std.specs.Prelude.{◌≡◌, ◌≤◌, IfOk, length, map as map_list};
+ghost use Rattle.std.specs.Prelude.{◌≡◌, ◌≤◌, IfOk, length};
 
 use crate::pieces::replaced;
 use crate::split::Split;
 use chains::ArcRef;
 use faults::OutOfMemory;
 use rejoining::Rejoined;
-use rewriting::{NewLists, copy_rewritten};
+use rewriting::NewLists;
 use std::alloc::Global;
-use topo::{Geom, Layer};
 
 /// The arcs of a text split, and healed again.
 #[derive(Drop)]
@@ -105,36 +104,5 @@ impl NewLists for HealedLists<'_> {
             return Ok(list);
         }
         self.nowhere(alloc)
-    }
-}
-
-impl HealedLists<'_> {
-    fn geometries(&self, alloc: Global, geometries: &[Geom]) -> Result<Vec<Geom>, OutOfMemory>
-        ensures { IfOk result (λ v. v.items ≡ map_list (spec.geometry_healed self.now.split.now.pieces.items self.now.joined.now) geometries.now) }
-    {
-        let mut made = Vec::with_capacity(alloc, geometries.len())?;
-        for geometry in geometries {
-            made.push(copy_rewritten(alloc, self, geometry)?)?;
-        }
-        Ok(made)
-    }
-
-    fn layer(&self, alloc: Global, layer: &Layer) -> Result<Layer, OutOfMemory>
-        ensures { IfOk result (λ l. l ≡ spec.layer_healed self.now.split.now.pieces.items self.now.joined.now layer.now) }
-    {
-        let name = layer.name().copy(alloc)?;
-        let geometries = self.geometries(alloc, layer.geometries())?;
-        Ok(Layer::new(name, geometries))
-    }
-
-    /// Layers by the healed arcs.
-    pub(crate) fn layers(&self, alloc: Global, layers: &[Layer]) -> Result<Vec<Layer>, OutOfMemory>
-        ensures { IfOk result (λ v. v.items ≡ map_list (spec.layer_healed self.now.split.now.pieces.items self.now.joined.now) layers.now) }
-    {
-        let mut made = Vec::with_capacity(alloc, layers.len())?;
-        for layer in layers {
-            made.push(self.layer(alloc, layer)?)?;
-        }
-        Ok(made)
     }
 }

@@ -3,6 +3,7 @@ ghost use Rattle.std.specs.Prelude.{IfOk, IfSome};
 ghost use Rattle.taking.specs.Kept.{KeepLayers};
 ghost use Rattle.taking.specs.Laws.{HaveI64};
 
+use crate::copies::layers_copied;
 use crate::heal::heal;
 use crate::lists::HealedLists;
 use crate::seen::seen_in;
@@ -49,7 +50,7 @@ pub fn normalize(
         split: &split,
         joined: &joined,
     };
-    let layers = lists.layers(alloc, layers)?;
+    let layers = layers_copied(alloc, &lists, layers)?;
     let (arcs, _) = joined.into_parts();
     Ok(Some(Normalized { arcs, layers }))
 }

@@ -27,3 +27,5 @@ pub mod TokenLayers
 pub mod TokenLimits
 pub mod TokenMembers
 pub mod TokenRoots
+pub mod Repeats
+pub mod Rewritten

@@ -1,12 +1,14 @@
 //! Texts in the form of other tools: arcs by first sight and as they were met, cut or doubled, features in the order of
 //! the input.
 use crate::texts::built_text;
-use normalize::normalize;
+use grid::Grid;
+use normalize::{normalize, without_repeats};
 use std::alloc::Global;
 use std::process::Abort;
 use std::test::Fail;
 use taking::{Taken, TextArcs, layers_sorted, take};
 use test_values::rows;
+use topo::Layer;
 use topo_io::{read_parts, read_topology, text_of};
 
 /// The text of a topology on the unit grid with these arcs and these geometries, in the order in which
@@ -23,20 +25,28 @@ macro_rules! topology {
     };
 }
 
-/// Whether the arcs and the layers of a text are taken once they are normalized.
+/// Whether arcs and layers are taken once they are normalized.
+fn are_taken(alloc: Global, grid: Grid, arcs: &TextArcs, layers: &[Layer]) -> Result<bool, Fail> {
+    let Some(normalized) = normalize(alloc, arcs, layers)? else {
+        return Ok(false);
+    };
+    let sorted = layers_sorted(alloc, &normalized.arcs, normalized.layers)?;
+    let arcs = normalized.arcs.into_arcs(alloc)?;
+    match take(alloc, grid, arcs, sorted)? {
+        Taken::Whole(_) => Ok(true),
+        Taken::Not { .. } => Ok(false),
+    }
+}
+
+/// Whether the arcs and the layers of a text are taken once they are without repeated positions, and normalized.
 fn is_taken_normalized(alloc: Global, text: &str) -> Result<bool, Fail> {
     let Ok(parts) = read_parts(alloc, text.as_bytes()) else {
         return Err("refused".into());
     };
     let arcs = TextArcs::from_list(parts.arcs);
-    let Some(normalized) = normalize(alloc, &arcs, &parts.layers)? else {
-        return Ok(false);
-    };
-    let sorted = layers_sorted(alloc, &normalized.arcs, normalized.layers)?;
-    let arcs = normalized.arcs.into_arcs(alloc)?;
-    match take(alloc, parts.grid, arcs, sorted)? {
-        Taken::Whole(_) => Ok(true),
-        Taken::Not { .. } => Ok(false),
+    match without_repeats(alloc, &arcs, &parts.layers)? {
+        Some(without) => are_taken(alloc, parts.grid, &without.arcs, &without.layers),
+        None => are_taken(alloc, parts.grid, &arcs, &parts.layers),
     }
 }
 
@@ -132,6 +142,53 @@ const TIES: &[(&str, &str)] = rows! {
 #[test]
 fn texts_with_ties_are_taken(rt: HostRuntime) -> Result<(), Fail> {
     check_rows(&rt, rt.alloc(), TIES, true)
+}
+
+/// Texts with arcs that repeat positions.
+const REPEATS: &[(&str, &str)] = rows! {
+    "a position twice inside an arc, and at both ends of another", topology!("[[[1,0],[0,0],[0,1]],[[1,1],[0,0],[-1,0],[0,-1],[0,0],[0,0],[1,0],[0,0]],[[1,0],[1,0],[0,1],[0,0],[0,0],[-1,0]]]",
+        r#"[{"type":"Polygon","arcs":[[0,1]],"id":"left"},{"type":"Polygon","arcs":[[2,-1]],"id":"right"}]"#);
+    "an arc of equal positions alone, first, between others and last, and one that no list uses", topology!("[[[1,0],[0,0]],[[1,0],[0,1]],[[1,1],[0,0],[0,0]],[[1,1],[-1,0],[0,-1],[1,0]],[[7,7],[0,0]]]",
+        r#"[{"type":"Polygon","arcs":[[0,1,2,3,-1]],"id":"left"},{"type":"LineString","arcs":[-1,1,-3]},{"type":"MultiLineString","arcs":[[-4,-3,2],[1]]}]"#);
+    "an arc that is another one with a position twice, used against its direction", topology!("[[[0,0],[1,0],[0,1]],[[1,1],[0,-1],[0,0],[-1,0]]]",
+        r#"[{"type":"LineString","arcs":[-2]},{"type":"LineString","arcs":[0],"id":1},{"type":"LineString","arcs":[0]}]"#);
+    "a ring whose least vertex is there twice inside its arc", topology!("[[[4,0],[0,4],[-4,0],[0,0],[0,-4],[0,0],[4,0]]]",
+        r#"[{"type":"MultiPolygon","arcs":[[[0]]]},{"type":"Polygon","arcs":[[-1]]}]"#);
+};
+
+#[test]
+fn texts_that_repeat_positions_are_taken(rt: HostRuntime) -> Result<(), Fail> {
+    check_rows(&rt, rt.alloc(), REPEATS, true)
+}
+
+/// Texts that are not read along their tokens, and the same texts without the member that is there twice, or out of
+/// its place.
+const TWICE: &[(&str, &str)] = &[
+    (
+        r#"{"type":"Topology","transform":{"scale":[1,1],"translate":[0,0]},"arcs":"none yet","objects":{"a":{"type":"LineString","arcs":[-1]}},"arcs":[[[0,0],[1,0]]]}"#,
+        r#"{"type":"Topology","transform":{"scale":[1,1],"translate":[0,0]},"objects":{"a":{"type":"LineString","arcs":[-1]}},"arcs":[[[0,0],[1,0]]]}"#,
+    ),
+    (
+        r#"{"type":"None","type":"Topology","transform":{"scale":[1,1],"translate":[0,0]},"objects":{"a":{"type":"Point","type":"LineString","arcs":[-1,"b"],"arcs":[-1]}},"arcs":[[[0,0],[0,0],[1,0]]]}"#,
+        r#"{"type":"Topology","transform":{"scale":[1,1],"translate":[0,0]},"objects":{"a":{"type":"LineString","arcs":[-1]}},"arcs":[[[0,0],[0,0],[1,0]]]}"#,
+    ),
+    (
+        r#"{"type":"Topology","transform":{"scale":[1,1],"translate":[0,0]},"objects":{"a":{"arcs":[[7]],"type":"LineString","arcs":[-1]},"a":{"arcs":[{}],"type":null,"properties":{"n":1,"n":2}}},"arcs":[]}"#,
+        r#"{"type":"Topology","transform":{"scale":[1,1],"translate":[0,0]},"objects":{"a":{"type":null,"properties":{"n":2}}},"arcs":[]}"#,
+    ),
+];
+
+#[test]
+fn texts_that_are_read_by_way_of_a_value_mean_the_same(rt: HostRuntime) -> Result<(), Fail> {
+    for (text, other) in TWICE {
+        assert!(rt; read_parts(rt.alloc(), text.as_bytes()).is_err(), "{text}");
+        let topology = read_topology(rt.alloc(), text.as_bytes())?;
+        assert!(rt;
+            text_of(rt.alloc(), &topology)? == built_text(rt.alloc(), *other)?,
+            "{text}"
+        );
+    }
+    Ok(())
 }
 
 #[test]

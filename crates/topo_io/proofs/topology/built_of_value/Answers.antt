@@ -1,6 +1,6 @@
 use Rattle.std.proofs.Common.{subst, sym}
 use Rattle.topo_io.specs.Means.{Means}
-use Rattle.topo_io.proofs.topology.topology_of_value.Goals as goal
+use Rattle.topo_io.proofs.topology.built_of_value.Goals as goal
 
 pub returns-in-Ok-clause-means : goal.returns-in-Ok-clause-means
 returns-in-Ok-clause-means c =

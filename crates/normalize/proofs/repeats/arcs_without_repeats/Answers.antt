@@ -1,0 +1,19 @@
+use Rattle.std.proofs.Common.{◌<◌, ◌≤◌, ◌++◌, ◌∷◌, [], ap, sym, ◌∙◌, subst}
+use Rattle.lines.specs.Reading.{collapsed}
+use Rattle.lines.specs.Turned.{position_cmp}
+use Rattle.normalize.proofs.Numbered.{mapped_all, mapped_more, not_there}
+use Rattle.normalize.proofs.repeats.arcs_without_repeats.Goals as goal
+
+pub loop-number-preserved : goal.loop-number-preserved
+loop-number-preserved c =
+    mapped_more (collapsed position_cmp) c.args.arcs.now c.loop-number.number c.in-Some.arc.now c.loop-number.made.items c.push.new.self.items (sym c.in-Some.ensures)
+    (c.in_ok-push.ensures.items ∙ ap (λ x. c.loop-number.made.items ++ (x ∷ [])) c.in_ok-arc_without_repeats.ensures) c.loop-number.invariant
+
+pub returns-in-None : goal.returns-in-None
+returns-in-None c =
+    absurd (not_there c.args.arcs.now c.loop-number.number (subst (λ w. c.loop-number.number < w) c.len-number-end.ensures c.loop-number-test.true) (sym c.in-None.ensures))
+
+pub returns : goal.returns
+returns c =
+    mapped_all (collapsed position_cmp) c.args.arcs.now c.loop-number.number c.loop-number.made.items
+    (subst (λ w. w ≤ c.loop-number.number) c.len-number-end.ensures c.loop-number-test.false) c.loop-number.invariant
