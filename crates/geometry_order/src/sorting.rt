@@ -62,5 +62,6 @@ pub(crate) fn sorted_by_keys(
 {
     let mut keyed = with_keys(alloc, view, geometries)?;
     keyed.sort_by(|one, other| keyed_order(one, other))?;
-    without_keys(alloc, keyed)
+    let geometries = without_keys(alloc, keyed)?;
+    Ok(geometries)
 }

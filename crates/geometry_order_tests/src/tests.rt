@@ -150,3 +150,28 @@ fn geometries_of_a_layer_ascend(rt: HostRuntime) -> Result<(), Fail> {
     }
     Ok(())
 }
+
+/// The geometries from the last to the first, each twice.
+fn backwards_twice(alloc: Global, geometries: &[Geom]) -> Result<Vec<Geom>, Fail> {
+    let mut made = Vec::new(alloc);
+    for geometry in geometries.iter().rev() {
+        made.push(geometry.copy(alloc)?)?;
+        made.push(geometry.copy(alloc)?)?;
+    }
+    Ok(made)
+}
+
+#[test]
+fn geometries_are_sorted_and_once(rt: HostRuntime) -> Result<(), Fail> {
+    for (title, maps, _) in CASES {
+        let topology = topology_of(rt.alloc(), *maps)?;
+        let Some(geometries) = topology.geometries("a") else {
+            return Err("no layer".into());
+        };
+        let given = backwards_twice(rt.alloc(), geometries)?;
+        let mut order = GeometryOrder::new();
+        let sorted = order.sorted(rt.alloc(), topology.arcs(), given)?;
+        assert!(rt; sorted.as_slice() == geometries, "{title}");
+    }
+    Ok(())
+}

@@ -1,7 +1,7 @@
 //! Arcs and layers of texts as tables of rows have them.
 use chains::ArcRef;
 use lines::items::Items;
-use normalize::{Normalized, normalize};
+use normalize::{Normalized, WithoutRepeats, normalize, without_repeats};
 use shapes::props::Props;
 use shapes::shape::Id;
 use shapes::spelled::Spelled;
@@ -125,6 +125,35 @@ fn is_layer(alloc: Global, layer: &Layer, name: &str, listed: &Listed) -> Result
     };
     let is_named = layer.name().text() == name && geometry.id == Id::Number(7);
     Ok(is_named && geometry.body == body(alloc, listed)?)
+}
+
+/// Whether these are the arcs.
+fn are_arcs(alloc: Global, made: &TextArcs, arcs: Arcs) -> Result<bool, Fail> {
+    for (number, arc) in lists(alloc, arcs)?.iter().enumerate() {
+        if made.arc(number) != Some(arc.as_slice()) {
+            return Ok(false);
+        }
+    }
+    Ok(made.len() == arcs.len())
+}
+
+/// What is left of arcs and layers without repeated positions.
+pub(crate) fn left_without(
+    alloc: Global,
+    arcs: &TextArcs,
+    layers: Layers,
+) -> Result<Option<WithoutRepeats>, Fail> {
+    Ok(without_repeats(alloc, arcs, &layers_of(alloc, layers)?)?)
+}
+
+/// Whether these arcs and layers are left.
+pub(crate) fn is_left(
+    alloc: Global,
+    left: &WithoutRepeats,
+    arcs: Arcs,
+    layers: Layers,
+) -> Result<bool, Fail> {
+    Ok(are_arcs(alloc, &left.arcs, arcs)? && are_layers(alloc, &left.layers, layers)?)
 }
 
 fn are_layers(alloc: Global, made: &[Layer], layers: Layers) -> Result<bool, Fail> {
