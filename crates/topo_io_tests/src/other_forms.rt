@@ -1,5 +1,7 @@
 //! Texts in the form of other tools: arcs by first sight and as they were met, cut or doubled, features in the order of
 //! the input.
+ghost use Rattle.taking.specs.Laws.{HaveI64};
+
 use crate::texts::built_text;
 use grid::Grid;
 use normalize::{normalize, without_repeats};
@@ -26,7 +28,9 @@ macro_rules! topology {
 }
 
 /// Whether arcs and layers are taken once they are normalized.
-fn are_taken(alloc: Global, grid: Grid, arcs: &TextArcs, layers: &[Layer]) -> Result<bool, Fail> {
+fn are_taken(alloc: Global, grid: Grid, arcs: &TextArcs, layers: &[Layer]) -> Result<bool, Fail>
+    requires { HaveI64 layers.now }
+{
     let Some(normalized) = normalize(alloc, arcs, layers)? else {
         return Ok(false);
     };
