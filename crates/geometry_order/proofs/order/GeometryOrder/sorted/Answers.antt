@@ -1,4 +1,4 @@
-use Rattle.std.proofs.Common.{◌∙◌, subst}
+use Rattle.std.proofs.Common.{◌∙◌}
 use Rattle.std.proofs.lemmas.List.Filters.{dedup_is}
 use Rattle.geometry_order.proofs.KeysStand.{sorted_as}
 use Rattle.geometry_order.proofs.order.GeometryOrder.sorted.Goals as goal
@@ -6,6 +6,6 @@ use Rattle.geometry_order.proofs.order.GeometryOrder.sorted.Goals as goal
 pub returns-clause-sorted : goal.returns-clause-sorted
 returns-clause-sorted c = (
   c.in_ok-sorted.sorted.items,
-  sorted_as c.args.arcs.now.arcs c.in_ok-least.least.items c.args.geometries.items c.in_ok-sorted.sorted.items c.in_ok-least.ensures c.in_ok-sorted.ensures,
+  sorted_as c.args.arcs.now.arcs c.deref.result.now c.args.geometries.items c.in_ok-sorted.sorted.items (c.deref.ensures.value ∙ c.in_ok-least.ensures) c.in_ok-sorted.ensures,
   dedup_is _ _ _ c.dedup.ensures.filtered,
 )
