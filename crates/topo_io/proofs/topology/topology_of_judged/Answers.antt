@@ -1,5 +1,6 @@
-use Rattle.std.proofs.Common.{IfSome, subst, sym}
+use Rattle.std.proofs.Common.{IfSome, ◌∙◌, subst, sym}
 use Rattle.std.specs.List.{AllByRecursion}
+use Rattle.taking.specs.Laws.{HaveI64}
 use Rattle.topo_io.specs.Means.{IsTopologyOver}
 use Rattle.topo_io.specs.Parts.{layer_of_geoms}
 use Rattle.topo_io.specs.Stitching.{LayerStitches}
@@ -15,6 +16,14 @@ returns-then-not-branch-clause-none c = λ bytes said.
     c.in_ok-layers_stitch.ensures.no c.if-not-branch.true
     (subst (AllByRecursion (λ l. LayerStitches arcs (layer_of_geoms l))) (sym c.deref.ensures.value)
     (subst (λ A. A) (sym (all_mapped (LayerStitches arcs) layer_of_geoms c.args.layers.items)) all)))
+
+pub topology_of_stitched-requires : goal.topology_of_stitched-requires
+topology_of_stitched-requires c =
+    let holds = c.in_ok-layers_stitch.ensures.yes c.if-not-branch.false in
+    record {
+      ids = subst HaveI64 (sym c.deref-2.ensures.value) c.requires;
+      stitch = subst (AllByRecursion (λ l. LayerStitches c.args.arcs.now (layer_of_geoms l))) (c.deref.ensures.value ∙ sym c.deref-2.ensures.value) holds;
+    }
 
 pub returns-in-Some-clause-means : goal.returns-in-Some-clause-means
 returns-in-Some-clause-means c = λ bytes said.
