@@ -1,0 +1,117 @@
+//! Faults that were found.
+ghost use Rattle.faults.specs.Fault.{pair_of, turn_of};
+ghost use Rattle.faults.specs.Path.{name as name_turn, index as index_turn};
+ghost use Rattle.faults.specs.declared.fault.FaultKind.TheVariants.{OutOfMemory as WantOfMemory};
+ghost use Rattle.fault_lists.specs.Found.{pairs_of, is_full};
+ghost use Rattle.reading.specs.Fault.{here, under};
+ghost use Rattle.std.specs.Prelude.{◌≡◌, ◌≢◌, [], ◌∷◌, ◌++◌, IfOk, OnOk};
+
+use faults::OutOfMemory;
+use faults::fault::{Fault, FaultKind};
+use std::alloc::Global;
+
+/// How many faults of a text are wanted.
+#[derive(Clone, Copy, PartialEq, Eq, Debug)]
+pub enum Wanted {
+    /// The first, which is the least.
+    First,
+    All,
+}
+
+/// Whether no more faults are wanted than those that were found.
+pub fn is_enough(wanted: Wanted, found: &[Fault]) -> bool
+    ensures { result ≡ is_full wanted (pairs_of found.now) }
+{
+    match wanted {
+        Wanted::First => !found.is_empty(),
+        Wanted::All => false,
+    }
+}
+
+/// One fault, at the value itself.
+///
+/// # Errors
+/// Where memory is refused.
+pub fn one(alloc: Global, kind: FaultKind) -> Result<Vec<Fault>, OutOfMemory>
+    ensures { IfOk result (λ fs. pairs_of fs.items ≡ here kind) }
+{
+    let mut found = Vec::new(alloc);
+    found.push(Fault::here(alloc, kind))?;
+    Ok(found)
+}
+
+/// Puts a fault, none for want of memory, behind others.
+fn put(found: &mut Vec<Fault>, fault: Fault) -> Result<(), OutOfMemory>
+    ensures there { OnOk result (fault.kind ≢ WantOfMemory) }
+    ensures put { OnOk result (found.new.items ≡ found.old.items ++ fault ∷ []) }
+{
+    if fault.kind == FaultKind::OutOfMemory {
+        return Err(OutOfMemory);
+    }
+    found.push(fault)?;
+    Ok(())
+}
+
+/// Puts the faults of a list's element behind others.
+///
+/// # Errors
+/// Where memory is refused.
+pub fn put_under_index(
+    found: &mut Vec<Fault>,
+    part: Vec<Fault>,
+    index: usize,
+) -> Result<(), OutOfMemory>
+    ensures { OnOk result (pairs_of found.new.items ≡ pairs_of found.old.items ++ under (index_turn index) (pairs_of part.items)) }
+{
+    for fault in part {
+        put(found, fault.under_index(index))?;
+    }
+    Ok(())
+}
+
+/// Puts the faults of an object's member behind others.
+///
+/// # Errors
+/// Where memory is refused.
+pub fn put_under_name(
+    alloc: Global,
+    found: &mut Vec<Fault>,
+    part: Vec<Fault>,
+    member: &str,
+) -> Result<(), OutOfMemory>
+    ensures { OnOk result (pairs_of found.new.items ≡ pairs_of found.old.items ++ under (name_turn member.now) (pairs_of part.items)) }
+{
+    for fault in part {
+        put(found, fault.under_name(alloc, member))?;
+    }
+    Ok(())
+}
+
+/// The faults of an object's member.
+///
+/// # Errors
+/// Where memory is refused.
+pub fn under_name(alloc: Global, part: Vec<Fault>, member: &str) -> Result<Vec<Fault>, OutOfMemory>
+    ensures { IfOk result (λ fs. pairs_of fs.items ≡ under (name_turn member.now) (pairs_of part.items)) }
+{
+    let mut found = Vec::new(alloc);
+    put_under_name(alloc, &mut found, part, member)?;
+    Ok(found)
+}
+
+/// Some faults, and others behind them.
+///
+/// # Errors
+/// Where memory is refused.
+pub fn joined(first: Vec<Fault>, others: Vec<Fault>) -> Result<Vec<Fault>, OutOfMemory>
+    ensures { IfOk result (λ fs. fs.items ≡ first.items ++ others.items) }
+{
+    if first.is_empty() {
+        return Ok(others);
+    }
+    let mut found = first;
+    for fault in others {
+        found.push(fault)?;
+    }
+    Ok(found)
+}

@@ -1,0 +1,89 @@
+//! Ids and properties, judged.
+ghost use Rattle.fault_lists.specs.Found.{AreFound, pairs_of};
+ghost use Rattle.reading.specs.Info.{id_faults, properties_faults, info_faults, number_in_faults, depth_faults};
+ghost use Rattle.serde_json.specs.View.{view};
+ghost use Rattle.std.specs.Prelude.{◌≡◌, ◌++◌, IfOk};
+
+use crate::found::{Wanted, is_enough, joined, one};
+use crate::judge::Judge;
+use crate::members::judge_option;
+use faults::OutOfMemory;
+use faults::fault::{Fault, FaultKind};
+use reading::info::{Ids, Properties};
+use serde_json::Value;
+use shapes::nesting::{GREATEST_PROPERTY_DEPTH, has_fraction, nests_within};
+use std::alloc::Global;
+
+impl Judge for Ids {
+    ghost faults = { λ _. id_faults };
+
+    fn judge(&self, alloc: Global, wanted: Wanted, value: &Value) -> Result<Vec<Fault>, OutOfMemory> {
+        match value {
+            Value::Null | Value::String(_) => Ok(Vec::new(alloc)),
+            Value::Number(number) => match number.as_i64() {
+                Some(_) => Ok(Vec::new(alloc)),
+                None => one(alloc, FaultKind::NotWhole),
+            },
+            _ => one(alloc, FaultKind::WrongKind),
+        }
+    }
+}
+
+fn number_fault(alloc: Global, value: &Value) -> Result<Vec<Fault>, OutOfMemory>
+    ensures { IfOk result (λ fs. pairs_of fs.items ≡ number_in_faults (view value.now)) }
+{
+    if has_fraction(value) {
+        one(alloc, FaultKind::PropertyNumber)
+    } else {
+        Ok(Vec::new(alloc))
+    }
+}
+
+fn depth_fault(alloc: Global, value: &Value) -> Result<Vec<Fault>, OutOfMemory>
+    ensures { IfOk result (λ fs. pairs_of fs.items ≡ depth_faults (view value.now)) }
+{
+    if nests_within(value, GREATEST_PROPERTY_DEPTH) {
+        Ok(Vec::new(alloc))
+    } else {
+        one(alloc, FaultKind::PropertyDepth)
+    }
+}
+
+// Both kinds of faults of an object.
+fn judge_object(alloc: Global, wanted: Wanted, value: &Value) -> Result<Vec<Fault>, OutOfMemory>
+    ensures { IfOk result (λ fs. AreFound wanted (number_in_faults (view value.now) ++ depth_faults (view value.now)) (pairs_of fs.items)) }
+{
+    let number = number_fault(alloc, value)?;
+    if is_enough(wanted, &number) {
+        return Ok(number);
+    }
+    let depth = depth_fault(alloc, value)?;
+    joined(number, depth)
+}
+
+impl Judge for Properties {
+    ghost faults = { λ _. properties_faults };
+
+    fn judge(&self, alloc: Global, wanted: Wanted, value: &Value) -> Result<Vec<Fault>, OutOfMemory> {
+        match value {
+            Value::Null => Ok(Vec::new(alloc)),
+            Value::Object(_) => judge_object(alloc, wanted, value),
+            _ => one(alloc, FaultKind::WrongKind),
+        }
+    }
+}
+
+/// The members `id` and `properties` of an object, which may be missing.
+///
+/// # Errors
+/// Where memory is refused.
+pub fn judge_info(alloc: Global, wanted: Wanted, value: &Value) -> Result<Vec<Fault>, OutOfMemory>
+    ensures { IfOk result (λ fs. AreFound wanted (info_faults (view value.now)) (pairs_of fs.items)) }
+{
+    let id = judge_option(alloc, wanted, &Ids, value, "id")?;
+    if is_enough(wanted, &id) {
+        return Ok(id);
+    }
+    let properties = judge_option(alloc, wanted, &Properties, value, "properties")?;
+    joined(id, properties)
+}

@@ -1,0 +1,77 @@
+//! Members of objects, judged.
+ghost use Rattle.fault_lists.specs.Found.{AreFound, pairs_of};
+ghost use Rattle.reading.specs.Parts.{option_faults, member_faults, each_member_faults};
+ghost use Rattle.serde_json.specs.View.{view, members_view};
+ghost use Rattle.std.specs.Prelude.{IfOk};
+
+use crate::found::{Wanted, is_enough, one, put_under_name, under_name};
+use crate::judge::Judge;
+use faults::OutOfMemory;
+use faults::fault::{Fault, FaultKind};
+use serde_json::{Map, Value};
+use std::alloc::Global;
+
+/// A member that may be missing.
+///
+/// # Errors
+/// Where memory is refused.
+pub fn judge_option<J: Judge>(
+    alloc: Global,
+    wanted: Wanted,
+    of: &J,
+    value: &Value,
+    member: &str,
+) -> Result<Vec<Fault>, OutOfMemory>
+    ensures { IfOk result (λ fs. AreFound wanted (option_faults member.now (J.faults of.now) (view value.now)) (pairs_of fs.items)) }
+{
+    match value.get(member) {
+        None => Ok(Vec::new(alloc)),
+        Some(there) => {
+            let part = of.judge(alloc, wanted, there)?;
+            under_name(alloc, part, member)
+        }
+    }
+}
+
+/// A member that has to be there; a missing one is told at its own path.
+///
+/// # Errors
+/// Where memory is refused.
+pub fn judge_member<J: Judge>(
+    alloc: Global,
+    wanted: Wanted,
+    of: &J,
+    value: &Value,
+    member: &str,
+) -> Result<Vec<Fault>, OutOfMemory>
+    ensures { IfOk result (λ fs. AreFound wanted (member_faults member.now (J.faults of.now) (view value.now)) (pairs_of fs.items)) }
+{
+    let part = match value.get(member) {
+        None => one(alloc, FaultKind::Missing)?,
+        Some(there) => of.judge(alloc, wanted, there)?,
+    };
+    under_name(alloc, part, member)
+}
+
+/// Each member of an object, in the byte order of the names.
+///
+/// # Errors
+/// Where memory is refused.
+pub fn judge_each_member<J: Judge>(
+    alloc: Global,
+    wanted: Wanted,
+    of: &J,
+    members: &Map<String, Value>,
+) -> Result<Vec<Fault>, OutOfMemory>
+    ensures { IfOk result (λ fs. AreFound wanted (each_member_faults (J.faults of.now) (members_view members.now.entries)) (pairs_of fs.items)) }
+{
+    let mut found = Vec::new(alloc);
+    for (key, value) in members.iter() {
+        let part = of.judge(alloc, wanted, value)?;
+        put_under_name(alloc, &mut found, part, key.as_str())?;
+        if is_enough(wanted, &found) {
+            return Ok(found);
+        }
+    }
+    Ok(found)
+}

@@ -1,0 +1,75 @@
+//! What a geometry of each type is read from, judged by its positions, lines and rings.
+ghost use Rattle.fault_lists.specs.Found.{AreFound, pairs_of};
+ghost use Rattle.reading.specs.Outlines.{outline_faults};
+ghost use Rattle.reading.specs.Shapes.{shape_faults};
+ghost use Rattle.serde_json.specs.View.{view};
+ghost use Rattle.std.specs.Prelude.{◌≡◌, IfOk};
+
+use crate::found::{Wanted, one};
+use crate::judge::{Judge, ListOf};
+use faults::OutOfMemory;
+use faults::fault::{Fault, FaultKind};
+use grid::pos::Pos;
+use reading::geometry::GeometryType;
+use reading::outline::{Outline, outlined};
+use serde_json::Value;
+use std::alloc::Global;
+
+/// Why a list of positions is no line, or no ring.
+///
+/// # Errors
+/// Where memory is refused.
+pub fn judge_outline<O: Outline>(
+    alloc: Global,
+    positions: Vec<Pos>,
+) -> Result<Vec<Fault>, OutOfMemory>
+    ensures { IfOk result (λ fs. pairs_of fs.items ≡ outline_faults (O.fault positions.items)) }
+{
+    let made: Result<O, Fault> = outlined(alloc, positions);
+    match made {
+        Ok(_) => Ok(Vec::new(alloc)),
+        Err(fault) => one_of(alloc, fault.kind),
+    }
+}
+
+// The fault of that kind, none of a text for want of memory.
+fn one_of(alloc: Global, kind: FaultKind) -> Result<Vec<Fault>, OutOfMemory> {
+    match kind {
+        FaultKind::OutOfMemory => Err(OutOfMemory),
+        _ => one(alloc, kind),
+    }
+}
+
+/// How the positions, the lines and the rings of a format are judged.
+#[derive(Clone, Copy)]
+pub struct ShapeParts<P, L, R> {
+    pub position: P,
+    pub line: L,
+    pub ring: R,
+}
+
+/// What a geometry of that type is read from.
+///
+/// # Errors
+/// Where memory is refused.
+pub fn judge_shape<P: Judge + Copy, L: Judge + Copy, R: Judge + Copy>(
+    alloc: Global,
+    wanted: Wanted,
+    parts: &ShapeParts<P, L, R>,
+    kind: GeometryType,
+    value: &Value,
+) -> Result<Vec<Fault>, OutOfMemory>
+    ensures { IfOk result (λ fs. AreFound wanted (shape_faults (P.faults parts.now.position) (L.faults parts.now.line) (R.faults parts.now.ring) kind (view value.now)) (pairs_of fs.items)) }
+{
+    match kind {
+        GeometryType::Point => parts.position.judge(alloc, wanted, value),
+        GeometryType::MultiPoint => ListOf { of: parts.position }.judge(alloc, wanted, value),
+        GeometryType::LineString => parts.line.judge(alloc, wanted, value),
+        GeometryType::MultiLineString => ListOf { of: parts.line }.judge(alloc, wanted, value),
+        GeometryType::Polygon => ListOf { of: parts.ring }.judge(alloc, wanted, value),
+        GeometryType::MultiPolygon => {
+            let of = ListOf { of: parts.ring };
+            ListOf { of }.judge(alloc, wanted, value)
+        }
+    }
+}

@@ -1,0 +1,98 @@
+//! The faults of a GeoJSON text, all or the first, of which nothing else is kept.
+ghost use Rattle.fault_lists.specs.Found.{AreFound, pairs_of};
+ghost use Rattle.geojson_io.specs.Features.{element_of_features_faults, feature_members, faults_of_text, geojson_faults, root_faults};
+ghost use Rattle.geojson_io.specs.Geometries.{typed_geometry_faults};
+ghost use Rattle.reading.specs.Fault.{LeastOrWant};
+ghost use Rattle.reading.specs.Parts.{member_faults, list_faults};
+ghost use Rattle.serde_json.specs.View.{view};
+ghost use Rattle.std.specs.Prelude.{◌≡◌, IfErr, IfOk, OnOk, [], codes};
+
+pub mod feature;
+pub mod geometry;
+pub mod position;
+
+use crate::reader::{Root, root_of};
+use crate::token_reader;
+use crate::validity::feature::{FeatureIn, judge_feature};
+use crate::validity::geometry::judge_geometry;
+use fault_lists::found::{Wanted, one};
+use fault_lists::judge::ListOf;
+use fault_lists::members::judge_member;
+use fault_lists::types::type_fault;
+use faults::OutOfMemory;
+use faults::fault::{Fault, FaultKind};
+use grid::transform::Grid;
+use json_tokens::from_tokens::Stop;
+use reading::document::document;
+use serde_json::Value;
+use std::alloc::Global;
+
+fn judge_as(
+    alloc: Global,
+    wanted: Wanted,
+    grid: &Grid,
+    root: Root,
+    value: &Value,
+) -> Result<Vec<Fault>, OutOfMemory>
+    ensures { IfOk result (λ fs. AreFound wanted (root_faults grid.now (view value.now) root) (pairs_of fs.items)) }
+{
+    match root {
+        Root::Collection => {
+            let of = ListOf {
+                of: FeatureIn { grid: *grid },
+            };
+            judge_member(alloc, wanted, &of, value, "features")
+        }
+        Root::Feature => judge_feature(alloc, wanted, grid, value),
+        Root::Geometry(kind) => judge_geometry(alloc, wanted, grid, kind, value),
+    }
+}
+
+/// The faults of a value that stands for a text.
+pub(crate) fn judge_root(
+    alloc: Global,
+    wanted: Wanted,
+    grid: &Grid,
+    value: &Value,
+) -> Result<Vec<Fault>, OutOfMemory>
+    ensures { IfOk result (λ fs. AreFound wanted (geojson_faults grid.now (view value.now)) (pairs_of fs.items)) }
+{
+    if !value.is_object() {
+        return one(alloc, FaultKind::WrongKind);
+    }
+    match root_of(value) {
+        Ok(root) => judge_as(alloc, wanted, grid, root, value),
+        Err(kind) => type_fault(alloc, kind),
+    }
+}
+
+// The faults of a text, by way of a value of the whole.
+fn judge_text(alloc: Global, bytes: &[u8], grid: &Grid) -> Result<Vec<Fault>, OutOfMemory>
+    ensures { IfOk result (λ fs. pairs_of fs.items ≡ faults_of_text grid.now bytes.now) }
+{
+    match document(alloc, bytes) {
+        Ok(value) => judge_root(alloc, Wanted::All, grid, &value),
+        Err(fault) => match fault.kind {
+            FaultKind::OutOfMemory => Err(OutOfMemory),
+            kind => one(alloc, kind),
+        },
+    }
+}
+
+/// All faults of a GeoJSON text, by path and then by number: none where `read` accepts it, else the first is
+/// the one that `read` answers.
+///
+/// A faulty `type` is the only fault of its object, and lines and rings whose positions have faults have no
+/// others. A text of n bytes has at most n faults.
+///
+/// # Errors
+/// Where memory is refused.
+pub fn faults(alloc: Global, bytes: &[u8], grid: &Grid) -> Result<Vec<Fault>, OutOfMemory>
+    ensures { IfOk result (λ fs. pairs_of fs.items ≡ faults_of_text grid.now bytes.now) }
+{
+    match token_reader::read_features(alloc, bytes, grid) {
+        Ok(_) => Ok(Vec::new(alloc)),
+        Err(Stop::OutOfMemory) => Err(OutOfMemory),
+        Err(Stop::Unread) => judge_text(alloc, bytes, grid),
+    }
+}

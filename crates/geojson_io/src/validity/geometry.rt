@@ -1,0 +1,90 @@
+//! Geometries, judged.
+ghost use Rattle.fault_lists.specs.Found.{AreFound, pairs_of};
+ghost use Rattle.geojson_io.specs.Geometries.{coordinates_faults, geometry_faults, typed_geometry_faults};
+ghost use Rattle.reading.specs.Parts.{unless_null};
+ghost use Rattle.serde_json.specs.View.{view};
+ghost use Rattle.std.specs.Prelude.{IfOk};
+
+use crate::reader::position::Position;
+use crate::validity::position::OutlineOn;
+use fault_lists::found::{Wanted, one};
+use fault_lists::judge::Judge;
+use fault_lists::members::judge_member;
+use fault_lists::shape::{ShapeParts, judge_shape};
+use fault_lists::types::type_fault;
+use faults::OutOfMemory;
+use faults::fault::{Fault, FaultKind};
+use grid::transform::Grid;
+use lines::line::Line;
+use lines::ring::Ring;
+use reading::geometry::GeometryType;
+use serde_json::Value;
+use std::alloc::Global;
+use std::marker::PhantomData;
+
+/// The member `coordinates` of a geometry of that type.
+#[derive(Clone, Copy)]
+struct CoordinatesOf {
+    grid: Grid,
+    kind: GeometryType,
+}
+
+impl Judge for CoordinatesOf {
+    ghost faults = { λ p. coordinates_faults p.grid p.kind };
+
+    fn judge(&self, alloc: Global, wanted: Wanted, value: &Value) -> Result<Vec<Fault>, OutOfMemory> {
+        let grid = self.grid;
+        let line: OutlineOn<Line> = OutlineOn {
+            grid,
+            outline: PhantomData,
+        };
+        let ring: OutlineOn<Ring> = OutlineOn {
+            grid,
+            outline: PhantomData,
+        };
+        let position = Position { grid };
+        let parts = ShapeParts {
+            position,
+            line,
+            ring,
+        };
+        judge_shape(alloc, wanted, &parts, self.kind, value)
+    }
+}
+
+/// A geometry whose type is known.
+pub fn judge_geometry(
+    alloc: Global,
+    wanted: Wanted,
+    grid: &Grid,
+    kind: GeometryType,
+    value: &Value,
+) -> Result<Vec<Fault>, OutOfMemory>
+    ensures { IfOk result (λ fs. AreFound wanted (typed_geometry_faults grid.now kind (view value.now)) (pairs_of fs.items)) }
+{
+    let of = CoordinatesOf { grid: *grid, kind };
+    judge_member(alloc, wanted, &of, value, "coordinates")
+}
+
+/// The member `geometry` of a feature: null, or a geometry.
+#[derive(Clone, Copy)]
+pub struct GeometryIn {
+    pub grid: Grid,
+}
+
+impl Judge for GeometryIn {
+    ghost faults = { λ p. unless_null (geometry_faults p.grid) };
+
+    fn judge(&self, alloc: Global, wanted: Wanted, value: &Value) -> Result<Vec<Fault>, OutOfMemory> {
+        if value.is_null() {
+            return Ok(Vec::new(alloc));
+        }
+        if !value.is_object() {
+            return one(alloc, FaultKind::WrongKind);
+        }
+        match GeometryType::of(value) {
+            Ok(kind) => judge_geometry(alloc, wanted, &self.grid, kind, value),
+            Err(kind) => type_fault(alloc, kind),
+        }
+    }
+}
