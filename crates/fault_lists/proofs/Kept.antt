@@ -4,7 +4,7 @@ use Rattle.faults.specs.Path.{Turn}
 use Rattle.faults.specs.Fault.{Pair, prefixed}
 use Rattle.faults.specs.declared.fault.FaultKind.{FaultKind}
 use Rattle.reading.specs.Fault.{here, under}
-use Rattle.fault_lists.specs.Found.{kept, is_full, AreFound}
+use Rattle.fault_lists.specs.Found.{kept, is_full, AreFound, AtMostOne}
 use Rattle.fault_lists.specs.declared.found.Wanted.{Wanted}
 use Rattle.fault_lists.specs.declared.found.Wanted.TheVariants.{First, All}
 
@@ -39,3 +39,80 @@ kept_enough First (p ∷ ps) qs fs f full = f
 
 pub found_enough : (w : Wanted) (ps qs fs : List Pair) → AreFound w ps fs → is_full w fs ≡ true → AreFound w (ps ++ qs) fs
 found_enough w ps qs fs f full = record { kept = kept_enough w ps qs fs f.kept full }
+
+-- ---- one part after another
+
+append_none : (ps : List Pair) → ps ++ [] ≡ ps
+append_none [] = refl
+append_none (p ∷ ps) = ap (λ qs. p ∷ qs) (append_none ps)
+
+-- these were found before what is left, and more are wanted
+pub record FoundSoFar (w : Wanted) (all left found : List Pair) : Type 0 where
+  pub before : List Pair
+  pub parts : all ≡ before ++ left
+  pub kept : AreFound w before found
+  pub more : is_full w found ≡ false
+
+pub so_far_none : (w : Wanted) (all : List Pair) → FoundSoFar w all all []
+so_far_none w all = record { before = []; parts = refl; kept = found_none w; more = not_full w }
+  where
+    not_full : (w : Wanted) → is_full w [] ≡ false
+    not_full First = refl
+    not_full All = refl
+
+found_next : (w : Wanted) (t : Turn) (all part left found new now : List Pair) → (h : FoundSoFar w all (under t part ++ left) found) → AreFound w part new → now ≡ found ++ under t new
+    → AreFound w (h.before ++ under t part) now
+found_next w t all part left found new now h one is =
+    subst (AreFound w (h.before ++ under t part)) (sym is) (found_more w h.before (under t part) found (under t new) h.kept (found_under w t part new one) h.more)
+
+next_parts : (w : Wanted) (t : Turn) (all part left found : List Pair) → (h : FoundSoFar w all (under t part ++ left) found) → all ≡ (h.before ++ under t part) ++ left
+next_parts w t all part left found h = h.parts ∙ sym (append_assoc h.before (under t part) left)
+
+pub so_far_next : (w : Wanted) (t : Turn) (all part left found new now : List Pair) → FoundSoFar w all (under t part ++ left) found → AreFound w part new → now ≡ found ++ under t new
+    → is_full w now ≡ false → FoundSoFar w all left now
+so_far_next w t all part left found new now h one is more = record {
+  before = h.before ++ under t part;
+  parts = next_parts w t all part left found h;
+  kept = found_next w t all part left found new now h one is;
+  more = more;
+}
+
+pub so_far_enough : (w : Wanted) (t : Turn) (all part left found new now : List Pair) → FoundSoFar w all (under t part ++ left) found → AreFound w part new → now ≡ found ++ under t new
+    → is_full w now ≡ true → AreFound w all now
+so_far_enough w t all part left found new now h one is full =
+    subst (λ ps. AreFound w ps now) (sym (next_parts w t all part left found h)) (found_enough w (h.before ++ under t part) left now (found_next w t all part left found new now h one is) full)
+
+pub so_far_all : (w : Wanted) (all found : List Pair) → FoundSoFar w all [] found → AreFound w all found
+so_far_all w all found h = subst (λ ps. AreFound w ps found) (sym (h.parts ∙ append_none h.before)) h.kept
+
+-- ---- answers
+
+-- where none was found there is none
+pub none_found : (w : Wanted) (ps : List Pair) → AreFound w ps [] → ps ≡ []
+none_found w ps h = go w ps h.kept
+  where
+    go : (w : Wanted) (ps : List Pair) → [] ≡ kept w ps → ps ≡ []
+    go All ps h = sym h
+    go First [] h = refl
+    go First (p ∷ ps) h = cc
+
+-- all that were found are all
+pub all_found : (ps qs : List Pair) → AreFound All ps qs → qs ≡ ps
+all_found ps qs h = h.kept
+
+-- of a list of one or none, all are found either way
+kept_short : (w : Wanted) (ps : List Pair) → kept First ps ≡ ps → kept w ps ≡ ps
+kept_short First ps short = short
+kept_short All ps short = refl
+
+pub found_same : (w : Wanted) (ps qs : List Pair) → AtMostOne ps qs → AreFound w ps qs
+found_same w ps qs h = record { kept = h.same ∙ sym (kept_short w ps h.short) }
+
+pub one_here : (k : FaultKind) (qs : List Pair) → qs ≡ here k → AtMostOne (here k) qs
+one_here k qs is = record { same = is; short = refl }
+
+pub one_none : AtMostOne [] []
+one_none = record { same = refl; short = refl }
+
+pub one_under : (t : Turn) (ps qs rs : List Pair) → AtMostOne ps qs → rs ≡ under t qs → AtMostOne (under t ps) rs
+one_under t ps qs rs h is = record { same = is ∙ ap (under t) h.same; short = sym (kept_under First t ps) ∙ ap (under t) h.short }

@@ -1,10 +1,11 @@
 //! Faults that were found.
 ghost use Rattle.faults.specs.Fault.{pair_of, turn_of};
 ghost use Rattle.faults.specs.Path.{name as name_turn, index as index_turn};
+ghost use Rattle.faults.specs.declared.fault.Fault.{Fault as fault_of};
 ghost use Rattle.faults.specs.declared.fault.FaultKind.TheVariants.{OutOfMemory as WantOfMemory};
-ghost use Rattle.fault_lists.specs.Found.{pairs_of, is_full};
+ghost use Rattle.fault_lists.specs.Found.{AtMostOne, pairs_of, is_full};
 ghost use Rattle.reading.specs.Fault.{here, under};
-ghost use Rattle.std.specs.Prelude.{◌≡◌, ◌≢◌, [], ◌∷◌, ◌++◌, IfOk, OnOk};
+ghost use Rattle.std.specs.Prelude.{◌≡◌, ◌≢◌, [], ◌∷◌, ◌++◌, List, IfErr, IfOk, MatchOption, OnOk};
 
 use faults::OutOfMemory;
 use faults::fault::{Fault, FaultKind};
@@ -33,7 +34,7 @@ pub fn is_enough(wanted: Wanted, found: &[Fault]) -> bool
 /// # Errors
 /// Where memory is refused.
 pub fn one(alloc: Global, kind: FaultKind) -> Result<Vec<Fault>, OutOfMemory>
-    ensures { IfOk result (λ fs. pairs_of fs.items ≡ here kind) }
+    ensures { IfOk result (λ fs. AtMostOne (here kind) (pairs_of fs.items)) }
 {
     let mut found = Vec::new(alloc);
     found.push(Fault::here(alloc, kind))?;
@@ -114,4 +115,38 @@ pub fn joined(first: Vec<Fault>, others: Vec<Fault>) -> Result<Vec<Fault>, OutOf
         found.push(fault)?;
     }
     Ok(found)
+}
+
+/// The first of some faults.
+pub fn first_of(found: Vec<Fault>) -> Option<Fault>
+    ensures { MatchOption result (found.items ≡ []) (λ f. (fs : List fault_of) × (found.items ≡ f ∷ fs)) }
+{
+    found.into_iter().next()
+}
+
+/// The fault that a judgement of one answered, none where it passed.
+///
+/// # Errors
+/// Where memory is refused.
+pub fn found_of(alloc: Global, judged: Result<(), Fault>) -> Result<Vec<Fault>, OutOfMemory>
+    ensures none { IfOk judged (λ _. IfOk result (λ fs. fs.items ≡ [])) }
+    ensures some { IfErr judged (λ f. IfOk result (λ fs. (f.kind ≢ WantOfMemory) × AtMostOne (here f.kind) (pairs_of fs.items))) }
+{
+    match judged {
+        Ok(()) => Ok(Vec::new(alloc)),
+        Err(fault) => one_of(alloc, fault.kind),
+    }
+}
+
+/// One fault of that kind, at the value itself. Want of memory is none of a text.
+///
+/// # Errors
+/// Where memory is refused.
+pub fn one_of(alloc: Global, kind: FaultKind) -> Result<Vec<Fault>, OutOfMemory>
+    ensures { IfOk result (λ fs. (kind ≢ WantOfMemory) × AtMostOne (here kind) (pairs_of fs.items)) }
+{
+    match kind {
+        FaultKind::OutOfMemory => Err(OutOfMemory),
+        _ => one(alloc, kind),
+    }
 }

@@ -1,8 +1,8 @@
 //! Ids and properties, judged.
-ghost use Rattle.fault_lists.specs.Found.{AreFound, pairs_of};
+ghost use Rattle.fault_lists.specs.Found.{AreFound, AtMostOne, pairs_of};
 ghost use Rattle.reading.specs.Info.{id_faults, properties_faults, info_faults, number_in_faults, depth_faults};
 ghost use Rattle.serde_json.specs.View.{view};
-ghost use Rattle.std.specs.Prelude.{◌≡◌, ◌++◌, IfOk};
+ghost use Rattle.std.specs.Prelude.{◌++◌, IfOk};
 
 use crate::found::{Wanted, is_enough, joined, one};
 use crate::judge::Judge;
@@ -30,7 +30,7 @@ impl Judge for Ids {
 }
 
 fn number_fault(alloc: Global, value: &Value) -> Result<Vec<Fault>, OutOfMemory>
-    ensures { IfOk result (λ fs. pairs_of fs.items ≡ number_in_faults (view value.now)) }
+    ensures { IfOk result (λ fs. AtMostOne (number_in_faults (view value.now)) (pairs_of fs.items)) }
 {
     if has_fraction(value) {
         one(alloc, FaultKind::PropertyNumber)
@@ -40,7 +40,7 @@ fn number_fault(alloc: Global, value: &Value) -> Result<Vec<Fault>, OutOfMemory>
 }
 
 fn depth_fault(alloc: Global, value: &Value) -> Result<Vec<Fault>, OutOfMemory>
-    ensures { IfOk result (λ fs. pairs_of fs.items ≡ depth_faults (view value.now)) }
+    ensures { IfOk result (λ fs. AtMostOne (depth_faults (view value.now)) (pairs_of fs.items)) }
 {
     if nests_within(value, GREATEST_PROPERTY_DEPTH) {
         Ok(Vec::new(alloc))

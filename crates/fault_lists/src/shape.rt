@@ -1,14 +1,14 @@
 //! What a geometry of each type is read from, judged by its positions, lines and rings.
-ghost use Rattle.fault_lists.specs.Found.{AreFound, pairs_of};
+ghost use Rattle.fault_lists.specs.Found.{AreFound, AtMostOne, pairs_of};
 ghost use Rattle.reading.specs.Outlines.{outline_faults};
 ghost use Rattle.reading.specs.Shapes.{shape_faults};
 ghost use Rattle.serde_json.specs.View.{view};
-ghost use Rattle.std.specs.Prelude.{◌≡◌, IfOk};
+ghost use Rattle.std.specs.Prelude.{IfOk};
 
-use crate::found::{Wanted, one};
+use crate::found::{Wanted, one_of};
 use crate::judge::{Judge, ListOf};
 use faults::OutOfMemory;
-use faults::fault::{Fault, FaultKind};
+use faults::fault::Fault;
 use grid::pos::Pos;
 use reading::geometry::GeometryType;
 use reading::outline::{Outline, outlined};
@@ -23,20 +23,12 @@ pub fn judge_outline<O: Outline>(
     alloc: Global,
     positions: Vec<Pos>,
 ) -> Result<Vec<Fault>, OutOfMemory>
-    ensures { IfOk result (λ fs. pairs_of fs.items ≡ outline_faults (O.fault positions.items)) }
+    ensures { IfOk result (λ fs. AtMostOne (outline_faults (O.fault positions.items)) (pairs_of fs.items)) }
 {
     let made: Result<O, Fault> = outlined(alloc, positions);
     match made {
         Ok(_) => Ok(Vec::new(alloc)),
         Err(fault) => one_of(alloc, fault.kind),
-    }
-}
-
-// The fault of that kind, none of a text for want of memory.
-fn one_of(alloc: Global, kind: FaultKind) -> Result<Vec<Fault>, OutOfMemory> {
-    match kind {
-        FaultKind::OutOfMemory => Err(OutOfMemory),
-        _ => one(alloc, kind),
     }
 }
 

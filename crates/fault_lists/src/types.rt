@@ -1,8 +1,8 @@
 //! The member `type` of an object, judged.
-ghost use Rattle.fault_lists.specs.Found.{pairs_of};
+ghost use Rattle.fault_lists.specs.Found.{AtMostOne, pairs_of};
 ghost use Rattle.faults.specs.Path.{name as name_turn};
 ghost use Rattle.reading.specs.Fault.{here, under};
-ghost use Rattle.std.specs.Prelude.{◌≡◌, IfOk, codes};
+ghost use Rattle.std.specs.Prelude.{IfOk, codes};
 
 use crate::found::{one, under_name};
 use faults::OutOfMemory;
@@ -14,7 +14,7 @@ use std::alloc::Global;
 /// # Errors
 /// Where memory is refused.
 pub fn type_fault(alloc: Global, kind: FaultKind) -> Result<Vec<Fault>, OutOfMemory>
-    ensures { IfOk result (λ fs. pairs_of fs.items ≡ under (name_turn (codes "type")) (here kind)) }
+    ensures { IfOk result (λ fs. AtMostOne (under (name_turn (codes "type")) (here kind)) (pairs_of fs.items)) }
 {
     let part = one(alloc, kind)?;
     under_name(alloc, part, "type")

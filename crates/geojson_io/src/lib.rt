@@ -3,7 +3,9 @@
 
 pub mod reader;
 pub mod token_reader;
+pub mod validity;
 pub mod writer;
 
 pub use reader::read;
+pub use validity::faults;
 pub use writer::write;

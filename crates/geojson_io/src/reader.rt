@@ -60,7 +60,7 @@ pub(crate) fn root_named(text: &str) -> Result<Root, FaultKind>
     }
 }
 
-fn root_of(value: &Value) -> Result<Root, FaultKind>
+pub(crate) fn root_of(value: &Value) -> Result<Root, FaultKind>
     ensures { result ≡ root_type (view value.now) }
 {
     match type_name(value) {

@@ -1,9 +1,9 @@
 //! Positions, lines and rings of absolute numbers, judged.
-ghost use Rattle.fault_lists.specs.Found.{AreFound, pairs_of};
+ghost use Rattle.fault_lists.specs.Found.{AtMostOne, pairs_of};
 ghost use Rattle.geojson_io.specs.Positions.{axis_faults, coordinate_faults, position_faults, outline_at_faults};
 ghost use Rattle.reading.specs.Outlines.{outline_faults};
 ghost use Rattle.serde_json.specs.View.{view};
-ghost use Rattle.std.specs.Prelude.{◌≡◌, IfOk};
+ghost use Rattle.std.specs.Prelude.{IfOk};
 
 use crate::reader::position::Position;
 use fault_lists::found::{Wanted, one};
@@ -26,7 +26,7 @@ struct NumberOn {
 }
 
 fn judge_number(alloc: Global, axis: &Axis, a: i64) -> Result<Vec<Fault>, OutOfMemory>
-    ensures { IfOk result (λ fs. pairs_of fs.items ≡ axis_faults axis.now a) }
+    ensures { IfOk result (λ fs. AtMostOne (axis_faults axis.now a) (pairs_of fs.items)) }
 {
     match axis.to_grid(a) {
         Ok(_) => Ok(Vec::new(alloc)),
@@ -72,7 +72,7 @@ fn judge_positions<O: Outline>(
     position: &Position,
     value: &Value,
 ) -> Result<Vec<Fault>, OutOfMemory>
-    ensures { IfOk result (λ fs. pairs_of fs.items ≡ outline_at_faults position.now.grid (λ ps. outline_faults (O.fault ps)) (view value.now)) }
+    ensures { IfOk result (λ fs. AtMostOne (outline_at_faults position.now.grid (λ ps. outline_faults (O.fault ps)) (view value.now)) (pairs_of fs.items)) }
 {
     match position.read_positions(alloc, value) {
         Ok(positions) => judge_outline::<O>(alloc, positions),

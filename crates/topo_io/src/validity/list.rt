@@ -4,18 +4,22 @@ ghost use Rattle.reading.specs.Fault.{LeastOrWant};
 ghost use Rattle.reading.specs.Outlines.{outline_kind};
 ghost use Rattle.std.specs.Prelude.{◌≡◌, [], IfOk, IfErr, OnOk};
 ghost use Rattle.topo_io.specs.Arcs.{known, stitched_list_faults};
+ghost use Rattle.topo_io.specs.Named.{named};
 ghost use Rattle.topo_io.specs.Validity.{fault_of, faults_as, used_faults};
 
 use crate::reader::position::Limits;
 use crate::reader::stitching::{IndexOf, stitched_to};
+use crate::validity::index::{IndexIn, Named};
 use arc_lists::{ArcLists, Told};
 use chains::ArcRef;
+use fault_lists::found::{Wanted, found_of};
+use fault_lists::judge::{Judge, judge_list as judge_indexes};
 use faults::OutOfMemory;
 use faults::fault::{Fault, FaultKind};
 use lines::line::Line;
 use lines::ring::Ring;
 use lines::shape_fault::ShapeFault;
-use reading::part::{Part, read_list};
+use reading::part::read_list;
 use serde_json::Value;
 use std::alloc::Global;
 
@@ -29,7 +33,7 @@ pub enum OutlineType {
 /// What geometries are judged by: what is known of the topology's arcs, and the limits of positions.
 #[derive(Clone, Copy)]
 pub struct Known<'a> {
-    pub lists: &'a ArcLists<'a>,
+    pub arcs: Named<'a>,
     pub limits: Limits,
 }
 
@@ -151,24 +155,38 @@ pub(crate) fn judge_list(
     }
 }
 
-/// A list of indexes of arcs, of which nothing is kept.
+/// Judges the indexes of a list that have no fault, by what is known of the arcs.
+fn judge_used(
+    alloc: Global,
+    lists: &ArcLists,
+    kind: OutlineType,
+    value: &Value,
+) -> Result<Vec<Fault>, OutOfMemory> {
+    match read_list(alloc, &IndexOf { arcs: lists.arcs }, value) {
+        Ok(used) => found_of(alloc, judge_list(alloc, lists, kind, &used)),
+        Err(_) => Err(OutOfMemory),
+    }
+}
+
+/// A list of indexes of arcs. What it stitches to is looked at where no index and no arc has a fault.
 #[derive(Clone, Copy)]
-pub struct ListOf<'g, 'a> {
+pub struct ListIn<'g, 'a> {
     pub on: &'g Known<'a>,
     pub kind: OutlineType,
 }
 
-impl Part for ListOf<'_, '_> {
-    type Made = ();
+impl Judge for ListIn<'_, '_> {
+    ghost faults = { λ p. stitched_list_faults (named p.on.now.arcs) (faults_as p.kind) };
 
-    ghost faults = { λ p. stitched_list_faults (known p.on.now.lists.now.arcs.now) (faults_as p.kind) };
-
-    ghost means = { λ p d u. Unit {0} };
-
-    fn read(&self, alloc: Global, value: &Value) -> Result<(), Fault> {
-        let lists = self.on.lists;
-        let of = IndexOf { arcs: lists.arcs };
-        let used = read_list(alloc, &of, value)?;
-        judge_list(alloc, lists, self.kind, &used)
+    fn judge(&self, alloc: Global, wanted: Wanted, value: &Value) -> Result<Vec<Fault>, OutOfMemory> {
+        let of = IndexIn { arcs: self.on.arcs };
+        let found = judge_indexes(alloc, wanted, &of, value)?;
+        if !found.is_empty() {
+            return Ok(found);
+        }
+        match self.on.arcs {
+            Named::Known(lists) => judge_used(alloc, lists, self.kind, value),
+            _ => Ok(found),
+        }
     }
 }

@@ -1,0 +1,54 @@
+//! Arcs, judged: a first position and differences, whose sums have limits.
+ghost use Rattle.topo_io.specs.Arcs.{arc_faults};
+
+use crate::reader::position::Limits;
+use crate::validity::position::{Sums, judge_step};
+use fault_lists::found::{Wanted, is_enough, one, put_under_index};
+use fault_lists::judge::Judge;
+use faults::OutOfMemory;
+use faults::fault::{Fault, FaultKind};
+use serde_json::Value;
+use std::alloc::Global;
+
+/// An arc of two positions or more.
+#[derive(Clone, Copy)]
+pub struct ArcIn {
+    pub limits: Limits,
+}
+
+fn judge_steps(
+    alloc: Global,
+    wanted: Wanted,
+    limits: &Limits,
+    values: &[Value],
+) -> Result<Vec<Fault>, OutOfMemory> {
+    let mut found = Vec::new(alloc);
+    let mut sums = Sums::start();
+    for (i, value) in values.iter().enumerate() {
+        let part = judge_step(alloc, wanted, limits, &sums, value)?;
+        put_under_index(&mut found, part, i)?;
+        if is_enough(wanted, &found) {
+            return Ok(found);
+        }
+        sums = sums.after(value);
+    }
+    Ok(found)
+}
+
+impl Judge for ArcIn {
+    ghost faults = { λ p. arc_faults p.limits };
+
+    fn judge(&self, alloc: Global, wanted: Wanted, value: &Value) -> Result<Vec<Fault>, OutOfMemory> {
+        let Some(items) = value.as_array() else {
+            return one(alloc, FaultKind::WrongKind);
+        };
+        let found = judge_steps(alloc, wanted, &self.limits, items)?;
+        if !found.is_empty() {
+            return Ok(found);
+        }
+        if items.len() < 2 {
+            return one(alloc, FaultKind::TooShort);
+        }
+        Ok(found)
+    }
+}

@@ -1,0 +1,55 @@
+//! Indexes of arcs, judged.
+ghost use Rattle.topo_io.specs.Arcs.{index_faults};
+ghost use Rattle.topo_io.specs.Named.{named};
+
+use arc_lists::ArcLists;
+use chains::ArcRef;
+use fault_lists::found::{Wanted, one};
+use fault_lists::judge::Judge;
+use faults::OutOfMemory;
+use faults::fault::{Fault, FaultKind};
+use reading::number::whole_number;
+use serde_json::Value;
+use std::alloc::Global;
+
+/// What is known of the arcs that lists name.
+#[derive(Clone, Copy)]
+pub enum Named<'a> {
+    /// They are no array.
+    Unknown,
+    /// How many there are, where some arc has a fault.
+    Counted(usize),
+    /// All, where none has.
+    Known(&'a ArcLists<'a>),
+}
+
+/// An index of one of the arcs, which is looked at where they are an array.
+#[derive(Clone, Copy)]
+pub struct IndexIn<'a> {
+    pub arcs: Named<'a>,
+}
+
+fn judge_index(alloc: Global, count: usize, value: &Value) -> Result<Vec<Fault>, OutOfMemory> {
+    match whole_number(value) {
+        Ok(index) => {
+            if ArcRef::from_index(index).arc < count {
+                Ok(Vec::new(alloc))
+            } else {
+                one(alloc, FaultKind::NoArc)
+            }
+        }
+        Err(kind) => one(alloc, kind),
+    }
+}
+
+impl Judge for IndexIn<'_> {
+    ghost faults = { λ p. index_faults (named p.arcs) };
+
+    fn judge(&self, alloc: Global, wanted: Wanted, value: &Value) -> Result<Vec<Fault>, OutOfMemory> {
+        match self.arcs {
+            Named::Unknown => Ok(Vec::new(alloc)),
+            Named::Counted(count) => judge_index(alloc, count, value),
+            Named::Known(lists) => judge_index(alloc, lists.arcs.len(), value),
+        }
+    }
+}

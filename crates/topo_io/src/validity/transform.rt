@@ -1,0 +1,84 @@
+//! The transform of a topology, judged.
+ghost use Rattle.reading.specs.Numbers.{element_faults};
+ghost use Rattle.topo_io.specs.Roots.{within_faults, both_faults, transform_members, transform_faults};
+
+use fault_lists::found::{Wanted, is_enough, joined, one};
+use fault_lists::judge::{Judge, judge_pair};
+use fault_lists::members::judge_member;
+use faults::OutOfMemory;
+use faults::fault::{Fault, FaultKind};
+use grid::limits::{GREATEST_SCALE, GREATEST_TRANSLATION, LEAST_SCALE, LEAST_TRANSLATION};
+use reading::number::whole_number;
+use serde_json::Value;
+use std::alloc::Global;
+
+/// A whole number within limits.
+#[derive(Clone, Copy)]
+struct Within {
+    least: i64,
+    greatest: i64,
+}
+
+impl Judge for Within {
+    ghost faults = { λ p. element_faults (within_faults p.least p.greatest) };
+
+    fn judge(&self, alloc: Global, wanted: Wanted, value: &Value) -> Result<Vec<Fault>, OutOfMemory> {
+        match whole_number(value) {
+            Ok(a) => {
+                if self.least <= a && a <= self.greatest {
+                    Ok(Vec::new(alloc))
+                } else {
+                    one(alloc, FaultKind::OutOfRange)
+                }
+            }
+            Err(kind) => one(alloc, kind),
+        }
+    }
+}
+
+/// A pair of such numbers, for x and y.
+#[derive(Clone, Copy)]
+struct Both {
+    of: Within,
+}
+
+impl Judge for Both {
+    ghost faults = { λ p. both_faults p.of.least p.of.greatest };
+
+    fn judge(&self, alloc: Global, wanted: Wanted, value: &Value) -> Result<Vec<Fault>, OutOfMemory> {
+        judge_pair(alloc, wanted, &self.of, &self.of, value)
+    }
+}
+
+fn judge_members(alloc: Global, wanted: Wanted, value: &Value) -> Result<Vec<Fault>, OutOfMemory> {
+    let scale = Both {
+        of: Within {
+            least: LEAST_SCALE,
+            greatest: GREATEST_SCALE,
+        },
+    };
+    let translate = Both {
+        of: Within {
+            least: LEAST_TRANSLATION,
+            greatest: GREATEST_TRANSLATION,
+        },
+    };
+    let first = judge_member(alloc, wanted, &scale, value, "scale")?;
+    if is_enough(wanted, &first) {
+        return Ok(first);
+    }
+    let others = judge_member(alloc, wanted, &translate, value, "translate")?;
+    joined(first, others)
+}
+
+/// The faults of a transform.
+pub fn judge_transform(
+    alloc: Global,
+    wanted: Wanted,
+    value: &Value,
+) -> Result<Vec<Fault>, OutOfMemory> {
+    if !value.is_object() {
+        return one(alloc, FaultKind::WrongKind);
+    }
+    judge_members(alloc, wanted, value)
+}
