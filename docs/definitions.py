@@ -1,15 +1,14 @@
-"""Makes a page of the definitions from the `--` comments that stand at them, and reports what docs/DEFINITIONS.md has beside.
+"""Makes docs/DEFINITIONS.md from the `--` comments at the definitions that contracts are written in.
 
-    python3 docs/definitions.py [--page FILE] [--missing] [--comments]
+    python3 docs/definitions.py [--check]
 
-A definition is a public name at the top level of a file in crates/*/specs; its comment is the `--` lines right above it. On the
-page are those that a contract in src/ cites, grouped by crate, in the order of crates.txt, each with its comment, its file, and
-its public source where the comment ends with one in brackets, as in [TopoJSON, 2.1.4].
+A definition is a public name at the top level of a file in crates/*/specs; its comment is the `--` lines right above it. The page
+has each one that has a comment: by crate, in the order of crates.txt, with the first sentence of its src/lib.rt, and by file, with
+the comment that the file begins with. A comment may end with a public source in brackets, as in [TopoJSON, 2.1.4]. From the heading
+RULES on, the page is written by hand, and stays as it is.
 
-docs/DEFINITIONS.md is written by hand as long as comments are missing. Prints how many of its names have a comment at their
-definition, and how many have none; --missing lists these, and the definitions that contracts cite and that it does not list.
---comments prints what would have to stand above each of its names, from its rows: the file with the line, and the comment where
-there is none, or the source that the comment there does not end with. Ends with a line of counts; the status is 0.
+With --check nothing is written: what differs is printed, and so is each definition without a comment that a contract in src/ of a
+product crate cites. Ends with a line of counts, and then with status 1 where there is any.
 """
 
 import argparse
@@ -23,37 +22,49 @@ sys.dont_write_bytecode = True
 TOP = os.path.dirname(os.path.dirname(os.path.abspath(__file__)))
 sys.path.insert(0, f"{TOP}/tests")
 
-import documents
 import house
 
+PAGE = "docs/DEFINITIONS.md"
+RULES = "## From a rule to its code, its definition and its proof"
+INTRODUCTION = """# Definitions
+
+The definitions that contracts use, each with its comment in `specs/`. `python3 docs/definitions.py` makes this page from these comments, so correct a comment and make it again. Definitions are by crate, and then by file. A comment may refer to the one before it in its file.
+
+The last column is the public source that a definition follows. 'Own' marks what the source leaves open and this project fixes. Without a source, a definition is a helper, plain words about lists and the like, or this project's own rule. The sources are these:
+
+- **TopoJSON** is the TopoJSON Format Specification 1.0 (quantized topologies, section 2; bounding boxes, section 3).
+- **RFC 7946** is the GeoJSON format, sections 3 and 4. **RFC 8259** is the JSON format.
+- **topojson-server** is the tool whose rule for cutting lines and rings into arcs is followed.
+- **topojson-client** is the tool whose README describes `feature`, `mesh` and `neighbors`.
+
+"""
 DEFINED = re.compile(r"^(?:(?:abbrev|unfoldable|opaque) )*pub (?:(?:abbrev|unfoldable|opaque|data|record) )*([^\s:({]+)(?=[\s:({]|$)")
-SOURCE = re.compile(r"\s*\[([A-Z][^\]]*)\]$")
+SOURCE = re.compile(r"\s*\[((?:[A-Z]|topojson-)[^\]]*)\]$")
 SYMBOL = re.compile(r"[\w◌≡≤⊎⟨⟩'-]+")
 
 
+def text_of(line):
+    return line.lstrip("-").strip()
+
+
 def definitions(path):
-    """Gives each public definition of a file, with its comment, which is empty where there is none, and its line."""
+    """Gives each public definition of a file, with its comment, which is empty where there is none."""
     comment = []
-    for number, line in enumerate(house.read_lines(path), 1):
+    for line in house.read_lines(path):
         found = DEFINED.match(line)
         if line.startswith("--"):
-            comment.append(line.lstrip("-").strip())
+            comment.append(text_of(line))
             continue
         if found and found[1] not in ("mod", "use"):
-            yield found[1], " ".join(comment), number
+            yield found[1], " ".join(comment)
         comment = []
 
 
 def specs():
-    """The definitions of each crate, in the order of crates.txt: names, with their file and comment."""
+    """Gives each file of definitions, with its crate, in the order of crates.txt."""
     for crate in house.edges():
-        folder = f"{TOP}/crates/{crate}/specs"
-        found = {}
-        for path in sorted(glob.glob(f"{folder}/**/*.antt", recursive=True)):
-            for name, comment, _ in definitions(path):
-                found.setdefault(name, []).append((os.path.relpath(path, folder)[:-5], comment))
-        if found:
-            yield crate, found
+        for path in sorted(glob.glob(f"{TOP}/crates/{crate}/specs/**/*.antt", recursive=True)):
+            yield crate, path
 
 
 def cited():
@@ -71,75 +82,105 @@ def cited():
     return found
 
 
-def page(found, words):
-    """Gives the lines of the page."""
-    yield "# Definitions\n\nMade by docs/definitions.py from the comments at the definitions. Without a source, the wording is this project's own."
-    for crate, names in found.items():
-        rows = [(name, file, comment) for name, places in names.items() if name in words for file, comment in places if comment]
-        if rows:
-            yield f"\n## {crate}\n\nFiles are in `crates/{crate}/specs/`.\n\n| Definition | What it is | File | Source |\n|---|---|---|---|"
-        for name, file, comment in rows:
-            source = SOURCE.search(comment)
-            text = SOURCE.sub("", comment).replace("|", "\\|")
-            yield f"| `{name}` | {text} | `{file}` | {source[1] if source else ''} |"
+def without_comment():
+    """Gives each definition that a contract cites and that has no comment."""
+    words = cited()
+    for _, path in specs():
+        for name, comment in definitions(path):
+            if name in words and not comment:
+                yield f"{os.path.relpath(path, TOP)}: {name} has no comment"
 
 
-def sentences(text):
-    """Gives each name of the rows with its file, its sentence and its source."""
-    for section in re.split(r"^## ", text, flags=re.MULTILINE):
-        folder = re.search(r"`(crates/\w+/specs/)`", section)
-        for row in re.findall(r"^\| (`.*) \|$", section, re.MULTILINE):
-            cells = row.split(" | ")
-            if folder and len(cells) == 4:
-                for name in re.findall(r"`([^`]+)`", cells[0]):
-                    yield name, [f"{folder[1]}{it}.antt" for it in re.findall(r"`([^`]+)`", cells[2])], cells[1], cells[3]
+def purpose(crate):
+    """The first sentence of a crate's src/lib.rt, or of its src/main.rt."""
+    lines = []
+    for line in house.read_lines(min(glob.glob(f"{TOP}/crates/{crate}/src/lib.rt") + glob.glob(f"{TOP}/crates/{crate}/src/main.rt"))):
+        if not line.startswith("//! "):
+            break
+        lines.append(line[4:].strip())
+    return re.split(r"(?<=\.) ", " ".join(lines))[0]
 
 
-def comments(text):
-    """Gives what is missing above each name that the page lists, with the place of its definition."""
-    for name, files, sentence, source in sentences(text):
-        for file in files:
-            for found, comment, number in definitions(f"{TOP}/{file}") if os.path.isfile(f"{TOP}/{file}") else ():
-                told = source if source[:1].isupper() else ""
-                if found == name and not comment:
-                    yield f"{file}:{number}: {name}: -- {sentence}" + (f" [{told}]" if told else "")
-                elif found == name and told and not SOURCE.search(comment):
-                    yield f"{file}:{number}: {name}: -- .. [{told}]"
+def heading(path):
+    """The comment that a file begins with."""
+    lines = []
+    for line in house.read_lines(path):
+        if not line.startswith("--"):
+            break
+        lines.append(text_of(line))
+    return " ".join(lines)
+
+
+def cell(text):
+    """A comment as Markdown: outside of backticks nothing is markup."""
+    parts = text.replace("|", "\\|").split("`")
+    return "`".join(part if at % 2 and at + 1 < len(parts) else re.sub(r"[*_<]", r"\\\g<0>", part) for at, part in enumerate(parts))
+
+
+def rows(path):
+    """Gives the rows of the definitions of a file that have a comment."""
+    for name, comment in definitions(path):
+        source = SOURCE.search(comment)
+        if comment:
+            yield f"| `{name}` | {cell(SOURCE.sub('', comment))} | {source[1] if source else ''} |"
+
+
+def made():
+    """Gives the lines of the page that are made."""
+    before = None
+    for crate, path in specs():
+        table = [*rows(path)]
+        if table and crate != before:
+            yield f"## {crate}\n\n{purpose(crate)} Files are in `crates/{crate}/specs/`.\n"
+            before = crate
+        if table:
+            name = os.path.relpath(path, f"{TOP}/crates/{crate}/specs")
+            yield f"### {name[:-5]}\n\n{cell(heading(path))}\n\n| Definition | What it is | Source |\n|---|---|---|"
+            yield from table
+            yield ""
+
+
+def page(old):
+    """The text of the page, where `old` is the text that it has, and how many definitions it lists."""
+    lines = [*made()]
+    _, rules, by_hand = old.partition(f"\n{RULES}\n")
+    text = INTRODUCTION + "\n".join(lines) + rules + by_hand
+    return text, sum(it.startswith("| `") for it in lines)
+
+
+def faults(old, new):
+    """Gives what is wrong with the page: where it first differs from its definitions, and what has no comment."""
+    if old != new:
+        lines, others = old.split("\n"), new.split("\n")
+        at = next((n for n, (it, other) in enumerate(zip(lines, others)) if it != other), min(len(lines), len(others)))
+        yield f"{PAGE}:{at + 1}: is not what python3 docs/definitions.py makes: {(others + [''])[min(at, len(others))][:120]}"
+    yield from without_comment()
+
+
+def read_page():
+    with open(f"{TOP}/{PAGE}", encoding="utf-8") as file:
+        return file.read()
+
+
+def checked():
+    """Prints what is wrong with the page; returns how many definitions it lists, and how much is wrong."""
+    old = read_page()
+    new, count = page(old)
+    wrong = [*faults(old, new)]
+    print("".join(f"{it}\n" for it in wrong), end="")
+    return count, len(wrong)
 
 
 def main():
     parser = argparse.ArgumentParser()
-    parser.add_argument("--page")
-    parser.add_argument("--missing", action="store_true")
-    parser.add_argument("--comments", action="store_true")
-    given = parser.parse_args()
-    found, words = dict(specs()), cited()
-    with open(f"{TOP}/{documents.DEFINITIONS}", encoding="utf-8") as file:
-        text = file.read()
-    listed = [*documents.listed_definitions(text)]
-    wanted = [*comments(text)]
-    places = {(f"crates/{crate}/specs/{file}.antt", name): comment for crate, names in found.items() for name, its in names.items() for file, comment in its}
-    rows = {(name, files[0] if files else ""): next((places[it, name] for it in files if (it, name) in places), None) for name, files in listed}
-    bare = [it for it, comment in rows.items() if comment == ""]
-    elsewhere = [it for it, comment in rows.items() if comment is None]
-    names = {name for name, _ in listed}
-    every = [(crate, name, comment) for crate, its in found.items() for name, at in its.items() if name in words for _, comment in at]
-    unlisted = [f"{crate}: {name}" for crate, name, _ in every if name not in names]
-    sourced = sum(bool(SOURCE.search(comment)) for _, _, comment in every)
-    if given.page:
-        with open(given.page, "w", encoding="utf-8") as file:
-            file.writelines(f"{it}\n" for it in page(found, words))
-    if given.comments:
-        print("".join(f"{it}\n" for it in wanted), end="")
-    if given.missing:
-        print("".join(f"no comment: {name} ({file})\n" for name, file in bare), end="")
-        print("".join(f"no public definition of its own: {name} ({file})\n" for name, file in elsewhere), end="")
-        print("".join(f"cited, and not listed: {it}\n" for it in unlisted), end="")
-    print(f"{documents.DEFINITIONS} lists {len(rows)} names: {len(rows) - len(bare) - len(elsewhere)} have a comment at their definition, {len(bare)} have none, "
-          f"{len(elsewhere)} are no public definition at the top level of their file")
-    print(f"contracts cite {len(every)} definitions: {sum(bool(it[2]) for it in every)} have a comment, {sourced} of them with a source, {len(unlisted)} are not listed")
-    print(f"{len(rows)} names by hand, {len(bare) + len(elsewhere)} of them can't be made yet; {len(wanted)} comments or sources would have to be added")
-    return 0
+    parser.add_argument("--check", action="store_true")
+    if not parser.parse_args().check:
+        text, _ = page(read_page())
+        with open(f"{TOP}/{PAGE}", "w", encoding="utf-8") as file:
+            file.write(text)
+    count, wrong = checked()
+    print(f"{count} definitions, {wrong} wrong")
+    return 1 if wrong else 0
 
 
 if __name__ == "__main__":

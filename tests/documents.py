@@ -7,9 +7,10 @@ An example is a line that begins with `$ `, in a fenced block or indented by fou
 it. Those of a document run in turn in a folder of its own, where `examples` is that of the repository and
 `topotool` is crates/topotool/out/topotool, or the program that TOPOTOOL names, which has to be built before. Those that
 need a program of OPTIONAL that is not installed are skipped, and so are those that read what a skipped one writes. A
-fenced block whose first line names a file of the repository has to be in that file, line by line. Each name that
-docs/DEFINITIONS.md lists has to be defined in the file that its row names. The calls that docs/PROOFS.md lists as those
-with a condition have to be the public functions that have one, as tests/conditions.py finds them.
+fenced block whose first line names a file of the repository has to be in that file, line by line. docs/DEFINITIONS.md
+has to be what docs/definitions.py makes of the comments at the definitions, and each definition that a contract cites has
+to have one. The calls that docs/PROOFS.md lists as those with a condition have to be the public functions that have one,
+as tests/conditions.py finds them.
 
 Of every document, links have to lead to a file, and to a heading where they name one, and each docs/NAME.md and each file of
 a crate that is mentioned has to be there. Of PLAIN documents, so has each path into examples, tests and bench; a paragraph has
@@ -32,10 +33,13 @@ import tempfile
 
 sys.dont_write_bytecode = True
 
+TOP = os.path.dirname(os.path.dirname(os.path.abspath(__file__)))
+sys.path.insert(0, f"{TOP}/docs")
+
 import conditions
+import definitions
 import house
 
-TOP = os.path.dirname(os.path.dirname(os.path.abspath(__file__)))
 PROGRAM = os.path.abspath(os.environ.get("TOPOTOOL", f"{TOP}/crates/topotool/out/topotool"))
 TOGRID = os.path.abspath(os.environ.get("TOGRID", f"{TOP}/crates/togrid/out/togrid"))
 FOLDERS = ["bench", "c", "completions", "crates", "dist", "docs", "examples", "python", "rust", "tests"]
@@ -43,7 +47,6 @@ DOCUMENTS = ["README.md", *(f"docs/{it}.md" for it in ("COMMANDS", "SESSIONS", "
              "CONTRIBUTING.md", "SECURITY.md", "CHANGELOG.md"]
 PLAIN = [*DOCUMENTS, *(f"docs/{it}.md" for it in ("ARCHITECTURE", "DECISIONS", "PROOFS", "TESTS", "SPEED", "README")),
          *(f"{it}/README.md" for it in FOLDERS if it != "docs"), *(f"examples/{it}/README.md" for it in ("own-map", "many-hands", "map", "python"))]
-DEFINITIONS = "docs/DEFINITIONS.md"
 PROOFS = "docs/PROOFS.md"
 OPTIONAL = ["jq", "ogr2ogr"]
 README_BYTES = 8000
@@ -145,33 +148,6 @@ def tried(document):
                 wrong += 1
                 print(f"{document}: $ {command}\n  is to print {printed}\n  and printed {got}")
     return len(found) + len(quotations(text)), wrong
-
-
-def listed_definitions(text):
-    """Gives each name that a row lists, with the files that the row names."""
-    for section in re.split(r"^## ", text, flags=re.MULTILINE):
-        folder = re.search(r"`(crates/\w+/specs/)`", section)
-        for row in re.findall(r"^\| (`.*) \|$", section, re.MULTILINE):
-            cells = row.split(" | ")
-            if folder and len(cells) == 4:
-                files = [f"{folder[1]}{name}.antt" for name in re.findall(r"`([^`]+)`", cells[2])]
-                for name in re.findall(r"`([^`]+)`", cells[0]):
-                    yield name, files
-
-
-def unlisted(document):
-    """How many names the document lists, and how many of them are not defined in the files that it says."""
-    count = wrong = 0
-    with open(f"{TOP}/{document}", encoding="utf-8") as file:
-        rows = [*listed_definitions(file.read())]
-    for name, files in rows:
-        texts = [open(f"{TOP}/{it}", encoding="utf-8").read() for it in files if os.path.isfile(f"{TOP}/{it}")]
-        begun = rf"^[ \t]*(?:(?:pub|abbrev|unfoldable|opaque|data|record)\s+)*{re.escape(name)}(?=[\s:({{]|$)"
-        if len(texts) < len(files) or not any(re.search(begun, it, re.MULTILINE) for it in texts):
-            wrong += 1
-            print(f"{document}: {name} is not defined in {', '.join(files)}")
-        count += 1
-    return count, wrong
 
 
 def listed_conditions(text):
@@ -302,7 +278,7 @@ def read_through():
     for document in documents:
         with open(f"{TOP}/{document}", encoding="utf-8") as file:
             text = file.read()
-        if document not in (DEFINITIONS, "CHANGELOG.md") and not document.startswith(".github"):
+        if document not in (definitions.PAGE, "CHANGELOG.md") and not document.startswith(".github"):
             words += len(words_of(text))
         told = [*(f"{it} leads nowhere" for it in dead_links(document, text)),
                 *(f"{it} is not there" for it in dead_mentions(document, text)),
@@ -355,7 +331,7 @@ def main(documents):
     for document in documents:
         more, bad = tried(document)
         count, wrong = count + more, wrong + bad
-    names, lost = unlisted(DEFINITIONS)
+    names, lost = definitions.checked()
     calls, missed = told_of(PROOFS)
     pages, words, faulty = read_through()
     lacking = [*undescribed()]

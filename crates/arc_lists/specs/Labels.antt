@@ -22,6 +22,7 @@ abbrev pub agree_from : List ℕ → Segment → List Segment → Bool
 agree_from ls s [] = true
 agree_from ls s (t ∷ l) = cond (agree ls s t) (agree_from ls t l) false
 
+-- whether the arcs of neighbours in a list of segments have one label, where the segments are equal
 abbrev pub all_agree : List ℕ → List Segment → Bool
 all_agree ls [] = true
 all_agree ls (s ∷ l) = agree_from ls s l
@@ -35,6 +36,7 @@ ShareLabels arcs ls =
 same_label-prop : (m n : ℕ) → IsProp (m ≡ n)
 same_label-prop m n = Prim.hlevel props
 
+-- two proofs that labels are shared so are equal
 pub ShareLabels-prop : (arcs : List (List Pos)) (ls : List ℕ) → IsProp (ShareLabels arcs ls)
 ShareLabels-prop arcs ls =
     Π_prop (λ i. Π_prop (λ j. Π_prop (λ c. Π_prop (λ d. Π_prop (λ u. Π_prop (λ v.

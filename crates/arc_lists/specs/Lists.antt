@@ -23,6 +23,7 @@ simple_if (Some s) = s.simple
 abbrev pub is_simple : List ArcSummary → ArcRef → Bool
 is_simple ss a = simple_if (slice_get ss a.arc)
 
+-- whether each used arc is there, and has no segment twice
 abbrev pub are_simple : List ArcSummary → List ArcRef → Bool
 are_simple ss used = list_all (is_simple ss) used
 
@@ -42,6 +43,7 @@ count_if (Some s) = s.count - 1
 abbrev pub segments_in : List ArcSummary → ArcRef → ℕ
 segments_in ss a = count_if (slice_get ss a.arc)
 
+-- how many segments the used arcs have together
 abbrev pub segment_count : List ArcSummary → List ArcRef → ℕ
 segment_count ss [] = 0
 segment_count ss (a ∷ used) = segments_in ss a + segment_count ss used
@@ -50,6 +52,7 @@ segment_count ss (a ∷ used) = segments_in ss a + segment_count ss used
 abbrev pub number_of : List ArcSummary → ArcRef → List ℕ
 number_of ss a = cond (has_segment ss a) (a.arc ∷ []) []
 
+-- the numbers of those used arcs that have a segment
 abbrev pub numbers_of : List ArcSummary → List ArcRef → List ℕ
 numbers_of ss used = gathered (number_of ss) used
 
@@ -57,6 +60,7 @@ numbers_of ss used = gathered (number_of ss) used
 abbrev pub label_of : List ArcSummary → List ℕ → ArcRef → List ℕ
 label_of ss ls a = cond (has_segment ss a) (label_at ls a.arc ∷ []) []
 
+-- the labels of those used arcs that have a segment
 abbrev pub labels_of : List ArcSummary → List ℕ → List ArcRef → List ℕ
 labels_of ss ls used = gathered (label_of ss ls) used
 
@@ -85,19 +89,20 @@ UsesTwice ss used = (n : ℕ) × Twice n (numbers_of ss used)
 abbrev pub has_ends_at : List (List Pos) → ArcRef → Bool
 has_ends_at arcs a = is_some (ends_along arcs a)
 
+-- whether each used arc is there, and has a position
 abbrev pub all_have_ends : List (List Pos) → List ArcRef → Bool
 all_have_ends arcs used = list_all (has_ends_at arcs) used
 
--- the used arcs stitch to a list of positions of which the test says this
+-- the used arcs stitch to a list of positions of which the test says this [TopoJSON, 2.1.4]
 abbrev pub StitchToFault : (List Pos → Option ShapeFault) → List (List Pos) → List ArcRef → Option ShapeFault → Type 0
 StitchToFault fault arcs used f = (l : List Pos) × StitchTo arcs used l × (fault l ≡ f)
 
--- they stitch to none, though each has a position
+-- they stitch to none, though each has a position [TopoJSON, 2.1.4]
 pub record AreBroken (arcs : List (List Pos)) (used : List ArcRef) : Type 0 where
   pub ends : all_have_ends arcs used ≡ true
   pub none : (l : List Pos) → ¬ StitchTo arcs used l
 
--- what is told of used arcs is so
+-- what is told of used arcs is so [TopoJSON, 2.1.4]
 abbrev pub IsTold : (List Pos → Option ShapeFault) → List (List Pos) → List ArcRef → Told → Type 0
 IsTold fault arcs used Sound = StitchToFault fault arcs used None
 IsTold fault arcs used Broken = AreBroken arcs used

@@ -24,6 +24,7 @@ same_count-prop m n = Prim.hlevel props
 pub IsSummary-prop : (c : List Pos) (s : ArcSummary) → IsProp (IsSummary c s)
 IsSummary-prop c s = ×_prop (same_count-prop s.count (length (collapsed position_cmp c))) (→_prop (Trail-prop (collapsed position_cmp c)))
 
+-- two proofs that these are the arcs' summaries are equal
 pub AreSummaries-prop : (arcs : List (List Pos)) (ss : List ArcSummary) → IsProp (AreSummaries arcs ss)
 AreSummaries-prop [] [] = Unit-prop
 AreSummaries-prop [] (s ∷ ss) = λ a b. absurd a

@@ -1,4 +1,4 @@
-//! What is told of lists of used arcs by what is known of the arcs.
+//! What is known of lists of used arcs by what is known of the arcs.
 ghost use Rattle.arc_lists.specs.Labels.{ShareLabels, ShareLabels-prop};
 ghost use Rattle.arc_lists.specs.Lists as spec;
 ghost use Rattle.arc_lists.specs.Lists.{AreOnce, HaveLabels, IsTold, SameFaults, UsesTwice};
@@ -31,7 +31,7 @@ pub struct ArcLists<'a> {
 }
 
 impl ArcLists<'_> {
-    /// Whether the arc of a number is there, and it is known that no segment stands in it twice.
+    /// Whether the arc of a number is there, and it is known that no segment occurs in it twice.
     fn is_simple(&self, used: ArcRef) -> bool
         ensures { result ≡ spec.is_simple self.now.summaries.items used }
     {
@@ -149,7 +149,7 @@ impl ArcLists<'_> {
         Ok(has_equal_neighbours(&numbers))
     }
 
-    /// Whether it is known that no segment stands twice in what used arcs stitch to, and one stands in it.
+    /// Whether it is known that no segment occurs twice in what used arcs stitch to, and there is one in it.
     fn are_once(&self, alloc: Global, used: &[ArcRef]) -> Result<bool, AllocError>
         ensures { IfOk result (λ b. b ≡ true → AreOnce self.now.summaries.items self.now.labels.items used.now) }
     {
@@ -159,7 +159,7 @@ impl ArcLists<'_> {
         self.are_apart(alloc, used)
     }
 
-    /// What is told of used arcs that don't run on.
+    /// What is known of used arcs that don't run on.
     fn told_apart(&self, used: &[ArcRef]) -> Told
         requires { (v w : Pos) → ¬ (used.now ≡ []) → ¬ Runs self.now.arcs.now v used.now w }
         ensures line { IsTold (line_fault position_cmp) self.now.arcs.now used.now result }
@@ -174,7 +174,7 @@ impl ArcLists<'_> {
         Told::Unknown
     }
 
-    /// What is told of the list of a line.
+    /// What is known of the list of a line.
     ///
     /// # Errors
     /// Where memory is refused.
@@ -204,7 +204,7 @@ impl ArcLists<'_> {
         Ok(Told::Tangled)
     }
 
-    /// What is told of the list of a ring.
+    /// What is known of the list of a ring.
     ///
     /// # Errors
     /// Where memory is refused.

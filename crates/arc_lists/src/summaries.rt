@@ -18,7 +18,7 @@ use taking::TextArcs;
 pub struct ArcSummary {
     /// How many positions it has, equal neighbours counted as one.
     pub count: usize,
-    /// Whether it is known that no segment stands in it twice.
+    /// Whether it is known that no segment occurs in it twice.
     pub simple: bool,
 }
 
@@ -40,7 +40,7 @@ fn position_count(positions: &[Pos]) -> usize
     count
 }
 
-/// Whether a list of positions is a line's; then no segment stands in it twice.
+/// Whether a list of positions is a line's; then no segment occurs in it twice.
 fn is_line(alloc: Global, positions: &[Pos]) -> Result<bool, OutOfMemory>
     ensures { IfOk result (λ b. b ≡ true → Trail (collapsed position_cmp positions.now)) }
 {

@@ -1,7 +1,7 @@
-//! What is told of a list of used arcs.
+//! What is known of a list of used arcs.
 use lines::shape_fault::ShapeFault;
 
-/// What is told of a list of used arcs without putting its positions together.
+/// What is known of a list of used arcs without putting its positions together.
 #[derive(Clone, Copy, PartialEq, Eq, Debug)]
 pub enum Told {
     /// Its positions are those of a line, or of a ring.

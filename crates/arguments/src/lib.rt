@@ -39,7 +39,7 @@ fn flag<'a>(argument: Arg<'a>, name: &'a str) -> Arg<'a> {
     argument.long(name).action(ArgAction::SetTrue)
 }
 
-/// Lets no value through but these words, which help does not list. The first stands where there is none.
+/// Lets no value through but these words, which help does not list. The first is taken where there is none.
 fn among<'a>(argument: Arg<'a>, words: &'a [&'a str]) -> Arg<'a> {
     argument
         .value_parser(words)

@@ -36,7 +36,7 @@ pub(crate) enum Form {
     ValueNotWith(&'static str, &'static str),
     /// `--name VALUE`, what help calls the value, and a letter for it.
     Lettered(char, &'static str),
-    /// `--name VALUE`, what help calls the value, and the words that it may be, of which the first stands
+    /// `--name VALUE`, what help calls the value, and the words that it may be, of which the first is taken
     /// where it is not there.
     OneOf(&'static str, &'static [&'static str]),
     /// `--name` alone.
@@ -56,7 +56,7 @@ macro_rules! argument {
     };
 }
 
-/// What a command that reads topologies prints behind its arguments: this, and where refusals are told.
+/// What a command that reads topologies prints behind its arguments: this, and where refusals are reported.
 macro_rules! with_faults {
     ($text:literal) => {
         concat!(

@@ -15,7 +15,7 @@ use topo::Topology;
 /// Why texts were not built into a topology.
 #[derive(Debug, Drop, Error)]
 pub enum BuildFault {
-    /// The place of the first refused text, and its least fault, which is never want of memory.
+    /// The place of the first refused text, and its first error, which is never out of memory.
     #[error("text {0} is refused")]
     Text(usize, Fault),
     /// A growth of memory was refused.
@@ -31,12 +31,12 @@ impl From<OutOfMemory> for BuildFault {
     }
 }
 
-/// The canonical text of the topology of GeoJSON texts. Before each text stands the name of the
+/// The canonical text of the topology of GeoJSON texts. Before each text is the name of the
 /// layer that its features are put into; texts with one name share a layer. `topo_io::read` accepts
 /// the text, and reads the grid and the texts' features.
 ///
 /// # Errors
-/// `Text` with the first refused text of the list and its least fault; `OutOfMemory`.
+/// `Text` with the first refused text of the list and its first error; `OutOfMemory`.
 pub fn build_text(
     alloc: Global,
     grid: &Grid,

@@ -11,27 +11,28 @@ use Rattle.chains.specs.Pieces.{begun_ring, is_backwards_less, open_pieces, piec
 use Rattle.chains.specs.Starts.{start_place}
 use Rattle.chains.specs.declared.cutting.Piece.{Piece}
 
--- the place of the ring's least stop, where one lies on it
+-- the place of the ring's least stop, where one lies on it [topojson-server; own]
 abbrev pub least_stop : (Pos → Bool) → List Pos → Option ℕ
 least_stop stop ring = cond (list_any stop ring) (Some (start_place stop ring)) None
 
--- whether a stop lies on the free loop
+-- whether a stop lies on the free loop [topojson-server; own]
 abbrev pub meets_stop : (Pos → Bool) → List Pos → Bool
 meets_stop stop c = list_any stop (unclosed c)
 
--- the free loop begun and ended at its least stop
+-- the free loop begun and ended at its least stop [topojson-server; own]
 abbrev pub turned_loop : (Pos → Bool) → List Pos → List Pos
 turned_loop stop c = begun_ring stop (unclosed c)
 
 -- the pieces of a free loop: where a stop lies on it, its parts from its least stop on; otherwise itself, and free
+-- [topojson-server; own]
 abbrev pub loop_pieces : (Pos → Bool) → List Pos → List Piece
 loop_pieces stop c = pieces_round stop (unclosed c) c
 
--- the pieces of an arc, which may be a free loop
+-- the pieces of an arc, which may be a free loop [topojson-server; own]
 abbrev pub pieces_at : (Pos → Bool) → Bool → List Pos → List Piece
 pieces_at stop free c = cond free (loop_pieces stop c) (open_pieces stop c)
 
--- the arc as it is cut: a free loop on which a stop lies is turned to the least one
+-- the arc as it is cut: a free loop on which a stop lies is turned to the least one [topojson-server; own]
 abbrev pub read_from : (Pos → Bool) → Bool → List Pos → List Pos
 read_from stop free c = cond (free && meets_stop stop c) (turned_loop stop c) c
 
@@ -57,7 +58,7 @@ pub record IsLeastStop (stop : Pos → Bool) (c : List Pos) (v : Pos) : Type 0 w
   pub stops : stop v ≡ true
   pub least : (u : Pos) → Has u c → stop u ≡ true → AtMost position_cmp v u
 
--- what pieces of an arc are that is cut at stops
+-- what pieces of an arc are that is cut at stops [topojson-server; own]
 pub record AreCutAt (stop : Pos → Bool) (free : Bool) (c : List Pos) (ps : List Piece) : Type 0 where
   -- in the direction in which they are used they join to the arc as it is cut
   pub joined : JoinTo (read_from stop free c) (map used ps)

@@ -15,11 +15,12 @@ use Rattle.chains.specs.Visits.{visit_of, inner_of, around_of, ends_of}
 use Rattle.chains.specs.declared.visits.Visit.{Visit}
 
 -- the list holds the junctions of the lines and rings, and nothing else
+-- [topojson-server; own for the ends of a closed line]
 pub record IsIndexOf (junctions : List Pos) (g : Geometry Pos) : Type 0 where
   pub all : (v : Pos) → JunctionOf g v → Has v junctions
   pub only : (v : Pos) → Has v junctions → JunctionOf g v
 
--- v is the first or the last vertex of a line
+-- v is the first or the last vertex of a line [topojson-server]
 abbrev pub EndsALine : Geometry Pos → Pos → Type 0
 EndsALine g v = (l : List Pos) × IsLineOf g l × EndOf v l
 

@@ -16,7 +16,7 @@ use Rattle.chains.specs.Table.{free_at}
 use Rattle.chains.specs.Walk.{links_in}
 use Rattle.chains.specs.declared.segment.Segment.{Segment}
 
--- u and v are the ends of one of the segments
+-- u and v are the ends of one of the segments [topojson-client (mesh)]
 abbrev pub AmongSegments : Pos → Pos → List Segment → Type 0
 AmongSegments u v [] = ⊥
 AmongSegments u v (s ∷ ss) =
@@ -26,11 +26,11 @@ AmongSegments u v (s ∷ ss) =
 abbrev pub SegmentsOf : List Segment → Pos → Pos → Type 0
 SegmentsOf segs u v = AmongSegments u v segs
 
--- v is one of the stops
+-- v is one of the stops [topojson-client (mesh)]
 abbrev pub StopAt : List Pos → Pos → Type 0
 StopAt stops v = among stops v ≡ true
 
--- each vertex that is no stop lies on exactly two of the segments
+-- each vertex that is no stop lies on exactly two of the segments [topojson-client (mesh)]
 abbrev pub MeetsTwo : List Segment → List Pos → Type 0
 MeetsTwo segs stops = TwoSegments (SegmentsOf segs) (StopAt stops)
 

@@ -46,16 +46,17 @@ abbrev pub ends_if : List (List Pos) → Option (List Pos) → List Pos
 ends_if loops None = []
 ends_if loops (Some c) = arc_ends loops c
 
--- the pieces of an arc, where these are the junctions
+-- the pieces of an arc, where these are the junctions [topojson-server; own]
 abbrev pub arc_pieces : List Pos → List (List Pos) → List Pos → List Piece
 arc_pieces junctions loops c = pieces_at (among junctions) (is_loop loops c) c
 
--- the pieces of an arc, where there is one
+-- the pieces of an arc, where there is one [topojson-server; own]
 abbrev pub pieces_if : List Pos → List (List Pos) → Option (List Pos) → List Piece
 pieces_if junctions loops None = []
 pieces_if junctions loops (Some c) = arc_pieces junctions loops c
 
 -- the pieces of the arc c of g under the junctions of u, in order along it: of a line, or, where c is free, of a ring
+-- [topojson-server; own]
 pub record ArePiecesUnder (g u : Geometry Pos) (c : List Pos) (ps : List Piece) : Type 0 where
   pub each : ArePieces u ps
   pub along :

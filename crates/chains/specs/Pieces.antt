@@ -12,19 +12,19 @@ use Rattle.chains.specs.Among.{among, Tells}
 use Rattle.chains.specs.Starts.{start_place}
 use Rattle.chains.specs.declared.cutting.Piece.{Piece}
 
--- the chain in its least direction
+-- the chain in its least direction [TopoJSON, 2; own]
 abbrev pub chain_of : Piece → List Pos
 chain_of p = p.chain
 
--- whether it is used against that direction
+-- whether it is used against that direction [TopoJSON, 2; own]
 abbrev pub is_reversed : Piece → Bool
 is_reversed p = p.reversed
 
--- whether it is marked as a free loop
+-- whether it is marked as a free loop [TopoJSON, 2; own]
 abbrev pub is_free : Piece → Bool
 is_free p = p.free
 
--- the chain in the direction in which it is used
+-- the chain in the direction in which it is used [TopoJSON, 2; own]
 abbrev pub used : Piece → List Pos
 used p = cond p.reversed (reverse p.chain) p.chain
 
@@ -61,11 +61,12 @@ cut_inside_from stop part (p ∷ rest) =
     cond (goes_on rest && stop p) ((part ++ (p ∷ [])) ∷ cut_inside_from stop (p ∷ []) rest) (cut_inside_from stop (part ++ (p ∷ [])) rest)
 
 -- the parts of the list, cut at each inner place where there is a stop; what is behind the last of these is the last part
+-- [topojson-server; own]
 abbrev pub cut_inside : (Pos → Bool) → List Pos → List (List Pos)
 cut_inside stop [] = [] ∷ []
 cut_inside stop (x ∷ rest) = cut_inside_from stop (x ∷ []) rest
 
--- each part as a piece that is no free loop
+-- each part as a piece that is no free loop [topojson-server; own]
 abbrev pub open_pieces : (Pos → Bool) → List Pos → List Piece
 open_pieces stop l = map (piece_along false) (cut_inside stop l)
 
@@ -85,19 +86,20 @@ parts_round stop r whole = cond (list_any stop r) (cut_inside stop (begun_ring s
 abbrev pub pieces_round : (Pos → Bool) → List Pos → List Pos → List Piece
 pieces_round stop r whole = map (piece_along (not (list_any stop r))) (parts_round stop r whole)
 
--- the pieces of a line, where these are the junctions
+-- the pieces of a line, where these are the junctions [topojson-server; own]
 abbrev pub line_pieces : List Pos → List Pos → List Piece
 line_pieces junctions l = open_pieces (among junctions) l
 
 -- the pieces of a ring, where these are the junctions; one on which none lies begins at its least vertex
+-- [topojson-server; own]
 abbrev pub ring_pieces : List Pos → List Pos → List Piece
 ring_pieces junctions r = pieces_round (among junctions) r (begun_ring (among junctions) r)
 
--- the piece is an arc of the map, marked as free exactly where no junction lies on it
+-- the piece is an arc of the map, marked as free exactly where no junction lies on it [topojson-server; own]
 pub record IsPieceOf (g : Geometry Pos) (p : Piece) : Type 0 where
   pub arc : IsArcOf position_cmp g p.chain
   pub free : Tells p.free (Free (JunctionOf g) p.chain)
 
--- each is a piece of the map
+-- each is a piece of the map [topojson-server; own]
 abbrev pub ArePieces : Geometry Pos → List Piece → Type 0
 ArePieces g ps = (p : Piece) → Has p ps → IsPieceOf g p

@@ -14,6 +14,7 @@ use Rattle.chains.specs.declared.cutting.Piece.{Piece}
 use Rattle.chains.specs.declared.numbering.Placed.{Placed}
 use Rattle.chains.specs.declared.stored.StoredArc.{StoredArc}
 
+-- the piece, without its place
 abbrev pub piece_of : Placed → Piece
 piece_of x = x.piece
 

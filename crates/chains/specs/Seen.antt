@@ -20,11 +20,11 @@ use Rattle.theory.specs.Topology.{Form, Shape, Item, Layer, Map, null, point, po
 abbrev pub Info : Type 0
 Info = Id × Props
 
--- the positions of a line
+-- the positions of a line [RFC 7946, 3.1.4 and 3.1.6]
 abbrev pub line_of : lines_of.Line → List Pos
 line_of l = positions_of l
 
--- the vertices of a ring, from its least rotation
+-- the vertices of a ring, from its least rotation [RFC 7946, 3.1.4 and 3.1.6]
 abbrev pub ring_of : rings_of.Ring → List Pos
 ring_of r = vertices_of r
 
@@ -46,10 +46,10 @@ item_of f = record { info = (f.id, f.props); form = form_of f.shape }
 abbrev pub layer_of : List ℕ × Features → Layer (Item Info (Shape Pos))
 layer_of e = record { name = e.0; items = map_list item_of (set.items e.1) }
 
--- the layers in the order of their names, each with its features in order
+-- the layers in the order of their names, each with its features in order [TopoJSON, 2; own]
 abbrev pub seen : Layers → Map Info Pos
 seen m = map_list layer_of (map.entries m)
 
--- the lines and the rings of a map
+-- the lines and the rings of a map [TopoJSON, 2; own]
 abbrev pub geometry_of : Layers → Geometry Pos
 geometry_of m = topology.geometry_of (seen m)

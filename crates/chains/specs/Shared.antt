@@ -58,6 +58,7 @@ met_visits may free c = cond (meets may free c) (cond free (around_of (unclosed 
 abbrev pub arc_meets : (Pos → Bool) → List (List Pos) → List Pos → Bool
 arc_meets may loops c = meets may (is_loop loops c) c
 
+-- the visits of an arc of a table that are no ends, if the other table may have an inner vertex of it
 abbrev pub arc_shared : (Pos → Bool) → List (List Pos) → List Pos → List Visit
 arc_shared may loops c = met_visits may (is_loop loops c) c
 
@@ -66,6 +67,7 @@ abbrev pub meets_if : (Pos → Bool) → List (List Pos) → Option (List Pos) �
 meets_if may loops None = false
 meets_if may loops (Some c) = arc_meets may loops c
 
+-- the same, where there is an arc; else no visits
 abbrev pub shared_if : (Pos → Bool) → List (List Pos) → Option (List Pos) → List Visit
 shared_if may loops None = []
 shared_if may loops (Some c) = arc_shared may loops c

@@ -21,15 +21,15 @@ use lib.Pointwise.{pointwise}
 abbrev pub same_list : List Pos → List Pos → Bool
 same_list = pointwise position_eq
 
--- the number of the arc that a piece is; that of all arcs where it is none
+-- the number of the arc that a piece is; that of all arcs where it is none [TopoJSON, 2]
 abbrev pub number_in : List (List Pos) → Piece → ℕ
 number_in arcs p = position_or_len (same_list p.chain) arcs
 
--- the used arc that runs along a piece; the number is that of all arcs where there is none
+-- the used arc that runs along a piece; the number is that of all arcs where there is none [TopoJSON, 2]
 abbrev pub located : List (List Pos) → Piece → ArcRef
 located arcs p = record { arc = number_in arcs p; reversed = p.reversed }
 
--- the used arc that runs along a piece
+-- the used arc that runs along a piece [TopoJSON, 2]
 abbrev pub found_in : List (List Pos) → Piece → Option ArcRef
 found_in arcs p = option_map (λ n. record { arc = n; reversed = p.reversed }) (position (same_list p.chain) arcs)
 
@@ -66,7 +66,7 @@ pub record ArePiecesOfMap (g : Geometry Pos) (ps : List Piece) : Type 0 where
   pub each : ArePieces g ps
   pub all : HaveAllPieces position_cmp g (map chain_of ps)
 
--- the arcs of the map, each marked as free exactly where no junction lies on it
+-- the arcs of the map, each marked as free exactly where no junction lies on it [TopoJSON, 2; own]
 pub record IsTableOf (g : Geometry Pos) (t : Arcs) : Type 0 where
   pub arcs : AreArcsOf position_cmp g t.arcs
   pub free : (n : ℕ) (c : List Pos) → slice_get t.arcs n ≡ Some c → Tells (free_at t n) (Free (JunctionOf g) c)

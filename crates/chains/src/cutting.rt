@@ -132,7 +132,7 @@ impl Piece {
     }
 }
 
-/// Whether no stop stands first in a chain.
+/// Whether no stop is first in a chain.
 pub(crate) fn begins_free<S: Stops>(stops: &S, chain: &[Pos]) -> bool
     ensures { result ≡ spec.begins_free (among (S.at stops.now)) chain.now }
 {
@@ -229,7 +229,7 @@ fn ring_round(arc: &[Pos]) -> &[Pos]
     }
 }
 
-/// A free loop cut at its stops, from the least of them on.
+/// A free loop cut at its stops, from its least stop on.
 fn cut_loop<S: Stops>(alloc: Global, stops: &S, arc: &[Pos]) -> Result<Vec<Piece>, AllocError>
     ensures { IfOk result (λ v. v.items ≡ loop_pieces (among (S.at stops.now)) arc.now) }
 {
@@ -240,7 +240,7 @@ fn cut_loop<S: Stops>(alloc: Global, stops: &S, arc: &[Pos]) -> Result<Vec<Piece
     free_piece(alloc, arc.to_vec(alloc)?)
 }
 
-/// An arc cut at stops: a free loop from the least of its stops on.
+/// An arc cut at stops: a free loop from its least stop on.
 pub(crate) fn cut_at_stops<S: Stops>(
     alloc: Global,
     stops: &S,
@@ -291,7 +291,7 @@ pub fn cut_line(alloc: Global, index: &VisitIndex, line: &Line) -> Result<Vec<Pi
     Ok(pieces)
 }
 
-/// The pieces of a ring of the map, in order along it from the least of its rotations that begin at
+/// The pieces of a ring of the map, in order along it from its least rotation that begins at
 /// its least junction, or at its least vertex where it has none.
 ///
 /// # Errors

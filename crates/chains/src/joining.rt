@@ -202,7 +202,7 @@ pub fn meets_two(
     Ok(all_meet_two(&list, &stops, &links))
 }
 
-/// The maximal chains over segments, of which some stand in `whole` as chains already: these, and
+/// The maximal chains over segments, of which some are in `whole` as chains already: these, and
 /// those found over the other segments, each in its least direction, sorted. The caller's condition:
 /// each vertex that is no stop lies on exactly two of the other segments, or on none.
 ///

@@ -1,4 +1,4 @@
-//! The first two positions of a list, which tell it from most others.
+//! The first two positions of a list, which differ from those of most others.
 ghost use Rattle.chains.specs.Keys.{key_of};
 ghost use Rattle.std.specs.Prelude.{◌≡◌};
 

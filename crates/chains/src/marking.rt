@@ -2,7 +2,7 @@
 ghost use Rattle.chains.specs.Stored.{first_of};
 ghost use Rattle.std.specs.Prelude.{◌≡◌, drop, get_or, true};
 
-/// Whether an arc is marked; one that nothing is told of is.
+/// Whether an arc is marked; one beyond the marks is.
 pub fn is_marked(marks: &[bool], number: usize) -> bool
     ensures { result ≡ get_or marks.now number true }
 {

@@ -72,7 +72,7 @@ pub(crate) fn ended(arcs: ArcList, last: Option<StoredArc>) -> Result<ArcList, A
     Ok(all)
 }
 
-/// The arcs of pieces, of which those with one chain stand together.
+/// The arcs of pieces, of which those with one chain are together.
 pub(crate) fn merged_arcs(alloc: Global, pieces: Vec<Piece>) -> Result<ArcList, AllocError>
     ensures { IfOk result (λ l. l ≡ merged (map_list stored_of pieces.items)) }
 {

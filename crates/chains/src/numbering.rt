@@ -10,7 +10,7 @@ use crate::stored::{ArcList, StoredArc};
 use crate::table::ArcRef;
 use std::alloc::{AllocError, Global};
 
-/// A piece, and its place among all. The key of its chain stands in front, so that most comparisons
+/// A piece, and its place among all. The key of its chain is in front, so that most comparisons
 /// don't read the chain itself.
 #[derive(PartialEq, Eq, PartialOrd, Ord, Drop)]
 pub(crate) struct Placed {

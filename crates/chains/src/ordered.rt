@@ -1,4 +1,4 @@
-//! Arcs that stand in order already, with marks beside them.
+//! Arcs that are in order already, with marks beside them.
 ghost use Rattle.chains.specs.Stored.{rises, with_marks};
 ghost use Rattle.std.specs.Prelude.{◌≡◌, IfOk};
 

@@ -110,7 +110,7 @@ impl Recent {
     }
 }
 
-/// Positions, of which few stand twice.
+/// Positions, of which few occur twice.
 #[derive(Drop)]
 struct Noted {
     positions: Vec<Pos>,
@@ -118,7 +118,7 @@ struct Noted {
 }
 
 impl Noted {
-    /// Puts a position last, unless it stands where the table of recent ones points.
+    /// Puts a position last, unless it is where the table of recent ones points.
     fn note(&mut self, position: Pos) -> Result<(), AllocError>
         ensures { OnOk result (HaveSame self.new.positions.items (self.old.positions.items ++ position ∷ [])) }
     {

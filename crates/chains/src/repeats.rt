@@ -1,4 +1,4 @@
-//! Which visits stand at a vertex that others visit too: only these can clash.
+//! Which visits are at a vertex that others visit too: only these can clash.
 ghost use Rattle.chains.specs.Repeats.{HoldsClashing, IsNoted};
 ghost use Rattle.chains.specs.Shared.{KeepsClashes};
 ghost use Rattle.lines.specs.Bits.{may_hold};

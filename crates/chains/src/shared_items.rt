@@ -56,7 +56,7 @@ impl<T: Drop> SharedItems<T> {
 }
 
 impl<T> SharedItems<T> {
-    /// The items, lent.
+    /// The items, borrowed.
     pub(crate) fn as_slice(&self) -> &[T]
         ensures { result.now ≡ self.now }
     {

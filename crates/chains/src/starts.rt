@@ -43,7 +43,7 @@ fn improves<S: Stops>(stops: &S, best: &Start, from: Pos, to: Pos) -> bool
 }
 
 /// The place from which a ring is cut. Of two rotations that begin at one vertex the one with the
-/// lesser second vertex comes first, since no segment of a ring stands twice.
+/// lesser second vertex comes first, since no segment of a ring occurs twice.
 pub(crate) fn place_of_start<S: Stops>(stops: &S, ring: &[Pos]) -> usize
     ensures { result ≡ start_place (among (S.at stops.now)) ring.now }
 {

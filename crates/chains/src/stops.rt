@@ -1,4 +1,4 @@
-//! What tells where chains stop.
+//! Where chains stop.
 ghost use Rattle.chains.specs.Among.{among};
 ghost use Rattle.grid.specs.declared.pos.Pos.{Pos};
 ghost use Rattle.std.specs.Prelude.{◌≡◌, List};
@@ -8,7 +8,7 @@ use crate::visits::VisitIndex;
 use grid::pos::Pos;
 use std::collections::BTreeSet;
 
-/// What tells at which positions chains stop.
+/// Answers at which positions chains stop.
 pub(crate) trait Stops {
     // The positions at which they stop.
     ghost at: { Self → List Pos };

@@ -79,7 +79,7 @@ impl Model for ArcList {
 }
 
 impl ArcList {
-    /// No arcs yet, and room for as many as are told.
+    /// No arcs yet, and room for as many as are asked for.
     pub(crate) fn with_capacity(alloc: Global, number: usize) -> Result<ArcList, AllocError>
         ensures { IfOk result (λ l. l ≡ []) }
     {

@@ -137,7 +137,7 @@ impl ArcTable {
         Ok((ArcTable { arcs, extent: None }, refs))
     }
 
-    /// The table of arcs that stand in order, of which those that are marked are free loops; `None`
+    /// The table of arcs that are in order, of which those that are marked are free loops; `None`
     /// exactly where some arc doesn't come before the next. Where a mark is missing, it is not set.
     ///
     /// # Errors

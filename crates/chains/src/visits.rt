@@ -65,11 +65,11 @@ struct Seen {
     /// borders come twice, and the second is found here.
     recent: Recent,
     /// Where the last visit was found that was noted before. It is only a hint too: a border that comes
-    /// again comes in the same order or backwards, so the next visit mostly stands beside that one.
+    /// again comes in the same order or backwards, so the next visit is mostly beside that one.
     last_found: usize,
 }
 
-/// Whether a visit stands at an index.
+/// Whether a visit is at an index.
 fn stands_at(visits: &[Visit], index: usize, visit: Visit) -> bool
     ensures { IsTrue result ↔ (slice_get visits.now index ≡ Some visit) }
 {
@@ -93,7 +93,7 @@ impl Seen {
         })
     }
 
-    /// Where a visit stands beside the last one that was found, if it stands there.
+    /// Where a visit is beside the last one that was found, if it is there.
     fn beside_last(&self, visit: Visit) -> Option<usize>
         ensures { IfSome result (λ i. slice_get self.now.visits.items i ≡ Some visit) }
     {
@@ -108,7 +108,7 @@ impl Seen {
         None
     }
 
-    /// Notes a visit, unless an equal one stands beside the last that was found, or where the table of
+    /// Notes a visit, unless an equal one is beside the last that was found, or where the table of
     /// recent visits points.
     fn note(&mut self, visit: Visit) -> Result<(), AllocError>
         ensures ends { self.new.ends.items ≡ self.old.ends.items }
@@ -272,7 +272,7 @@ impl Seen {
     }
 
     /// Notes the ends of a table's arcs, and the other visits of those of which the other table may
-    /// have an inner vertex; and answers for each arc whether it may. It is told which arcs have a vertex
+    /// have an inner vertex; and answers for each arc whether it may. It is given which arcs have a vertex
     /// in the other table's extent: of the others it may not.
     fn see_arcs(
         &mut self,

@@ -25,9 +25,11 @@ use Rattle.compare.specs.declared.comparison.Comparison.{Comparison}
 use Rattle.compare.specs.declared.difference.LayerDifference.{LayerDifference}
 use Rattle.compare.specs.declared.pairs.LayerPair.{LayerPair}
 
+-- the id of a feature
 abbrev pub feature_id : Feature → Id
 feature_id f = f.id
 
+-- the bytes of a layer's name
 abbrev pub name_of : LayerParts → List ℕ
 name_of l = spelled_text l.name
 
@@ -40,6 +42,7 @@ abbrev pub IsNumberOf : List LayerParts → List ℕ → Option ℕ → Type 0
 IsNumberOf ls q None = (l : LayerParts) → Has l ls → ¬ (name_of l ≡ q)
 IsNumberOf ls q (Some k) = (l : LayerParts) × (slice_get ls k ≡ Some l) × (name_of l ≡ q)
 
+-- the geometries of a layer; none where there is no layer
 abbrev pub geometries_in : Option LayerParts → List Geom
 geometries_in None = []
 geometries_in (Some l) = l.geometries

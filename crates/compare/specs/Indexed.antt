@@ -13,6 +13,7 @@ use Rattle.compare.specs.declared.index.Index.{Index}
 use Rattle.compare.specs.declared.index.Standing.{Standing}
 use Rattle.compare.specs.declared.index.Standing.TheVariants.{Once, Again}
 
+-- the id of a feature that has none
 abbrev pub id_none : Id
 id_none = ids.None
 
@@ -26,6 +27,7 @@ once (Some Again) = None
 abbrev pub lent_cmp : Bor Geom → Bor Geom → Ordering
 lent_cmp a b = geometry_order.cmp-value.it a.now b.now
 
+-- the order of borrowed ids
 abbrev pub lent_id_cmp : Bor Id → Bor Id → Ordering
 lent_id_cmp a b = id_order.cmp-value.it a.now b.now
 
@@ -57,6 +59,7 @@ StandsAs ks n x (Some Again) = (j : ℕ) × (k : ℕ) × (¬ (j ≡ k)) × (slic
 abbrev pub standings_of : List Id → ℕ → tree.BTreeMap (Bor Id) Standing → Type 0
 standings_of ks n m = (q : Bor Id) → StandsAs ks n q.now (tree.get lent_id_cmp m q)
 
+-- the index of a list of geometries with their keys: which geometries there are, and where each key occurs
 pub record IsIndexOf (gs : List Geom) (ks : List Id) (i : Index) : Type 0 where
   pub lends : i.geometries.now ≡ gs
   pub keys : keys_in i.keys ≡ ks

@@ -14,6 +14,7 @@ use Rattle.topo.specs.declared.geom.Geom.{Geom}
 use Rattle.compare.specs.declared.keys.Keys.{Keys}
 use Rattle.compare.specs.declared.keys.Keys.TheVariants.{Ids, Values}
 
+-- the id of a geometry
 abbrev pub id_of : Geom → Id
 id_of g = g.id
 
@@ -36,6 +37,7 @@ value_text (Some (object ms)) = Some (compact_text (object ms))
 abbrev pub key_text : List ℕ → List ℕ → Option (List ℕ)
 key_text name t = value_text (get name (properties_value t))
 
+-- the compact text of a feature's property; none where it is missing or null
 abbrev pub feature_key : List ℕ → Feature → Option (List ℕ)
 feature_key name f = key_text name (properties_text f.props)
 

@@ -31,6 +31,7 @@ pub record IsGoneAt (gs hs : List Geom) (ks ls : List Id) (i : ℕ) : Type 0 whe
   pub none : ¬ Has member hs
   pub alone : (j : ℕ) → ¬ ArePartnersAt gs hs ks ls i j
 
+-- the difference of two lists of geometries with keys: what is removed, added and changed, by places in order
 pub record IsDifferenceAt (gs hs : List Geom) (ks ls : List Id) (d : LayerDifference) : Type 0 where
   pub removed : (i : ℕ) → Has i d.removed.items ↔ IsGoneAt gs hs ks ls i
   pub added : (j : ℕ) → Has j d.added.items ↔ IsGoneAt hs gs ls ks j

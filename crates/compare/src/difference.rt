@@ -27,7 +27,7 @@ pub struct LayerDifference {
     pub removed: Vec<usize>,
     /// The numbers of the features that only the new layer has, and that are not among `changed`.
     pub added: Vec<usize>,
-    /// The features that have one id, or one key, and differ. Features without one, and those whose id or key stands
+    /// The features that have one id, or one key, and differ. Features without one, and those whose id or key occurs
     /// more than once in a layer, are removed and added.
     pub changed: Vec<Changed>,
 }

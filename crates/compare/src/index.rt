@@ -14,7 +14,7 @@ use std::alloc::{AllocError, Global};
 use std::collections::BTreeMap;
 use topo::Geom;
 
-/// Where a key stands.
+/// Where a key is.
 #[derive(Clone, Copy, PartialEq, Eq, Debug)]
 pub(crate) enum Standing {
     /// Once, at this number.
@@ -23,7 +23,7 @@ pub(crate) enum Standing {
     Again,
 }
 
-/// The geometries of a layer, which of them there are, and where their keys stand.
+/// The geometries of a layer, which of them there are, and where their keys are.
 #[derive(Drop)]
 pub(crate) struct Index<'a> {
     pub(crate) geometries: &'a [Geom],
@@ -32,7 +32,7 @@ pub(crate) struct Index<'a> {
     standings: BTreeMap<&'a Id, Standing>,
 }
 
-/// Notes that a geometry stands at a number.
+/// Notes that a geometry is at a number.
 fn note_geometry<'a>(
     numbers: &mut BTreeMap<&'a Geom, usize>,
     geometry: &'a Geom,
@@ -44,7 +44,7 @@ fn note_geometry<'a>(
     Ok(())
 }
 
-/// The geometries, each with a number at which it stands.
+/// The geometries, each with a number at which it is.
 fn numbers_of(alloc: Global, geometries: &[Geom]) -> Result<BTreeMap<&Geom, usize>, AllocError>
     ensures { IfOk result (λ m. Knows geometries.now (length geometries.now) m) }
 {
@@ -55,7 +55,7 @@ fn numbers_of(alloc: Global, geometries: &[Geom]) -> Result<BTreeMap<&Geom, usiz
     Ok(numbers)
 }
 
-/// Where a key stands, once it stands at a number too.
+/// Where a key is, once it is at a number too.
 fn standing_with<'a>(standings: &BTreeMap<&'a Id, Standing>, key: &'a Id, number: usize) -> Standing
     ensures { result ≡ standing_after number (tree.get lent_id_cmp standings.now key.entry) }
 {
@@ -65,7 +65,7 @@ fn standing_with<'a>(standings: &BTreeMap<&'a Id, Standing>, key: &'a Id, number
     }
 }
 
-/// Notes that a key stands at a number.
+/// Notes that a key is at a number.
 fn note_key<'a>(
     standings: &mut BTreeMap<&'a Id, Standing>,
     key: &'a Id,
@@ -78,7 +78,7 @@ fn note_key<'a>(
     Ok(())
 }
 
-/// The keys, each with where it stands.
+/// The keys, each with where it is.
 fn standings_in<'a>(
     alloc: Global,
     keys: &Keys<'a>,
@@ -128,7 +128,7 @@ impl<'a> Index<'a> {
         self.numbers.contains_key(&geometry)
     }
 
-    /// The number at which a key stands, where it stands once.
+    /// The number at which a key is, where it occurs once.
     fn place_of(&self, key: &'a Id) -> Option<usize>
         ensures { result ≡ once (tree.get lent_id_cmp self.now.standings key.entry) }
     {

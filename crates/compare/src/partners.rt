@@ -12,7 +12,7 @@ use crate::index::Index;
 use std::alloc::{AllocError, Global};
 
 /// The number of the geometry in the other layer that has the key of the one at a number, where the other layer hasn't
-/// that one as it is, and the key stands once in both.
+/// that one as it is, and the key occurs once in both.
 fn partner<'a>(own: &Index<'a>, others: &Index<'a>, number: usize) -> Option<usize>
     requires geometry { number < length own.now.geometries.now }
     requires key { number < length (keys_in own.now.keys) }

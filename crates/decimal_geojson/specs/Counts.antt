@@ -14,6 +14,7 @@ use Rattle.decimal_geojson.specs.declared.rules.Rules.{Rules}
 abbrev pub more : ℕ → ℕ
 more n = min (n + 1) (2 ^ 64 - 1)
 
+-- nothing counted yet
 abbrev pub nothing : Counts
 nothing = record { positions = 0; heights = 0; reals = 0 }
 
@@ -40,6 +41,7 @@ abbrev pub coordinate_counted : Counts → ℕ → Treatment → Counts
 coordinate_counted c zero t = position_counted c t
 coordinate_counted c (suc n) t = height_counted c t
 
+-- the counts after one more token at a place, with what becomes of it
 abbrev pub counted : Counts → Place → Treatment → Counts
 counted c Outside t = c
 counted c (Inside Dropped d seen) t = c

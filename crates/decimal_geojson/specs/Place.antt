@@ -31,6 +31,7 @@ member_place name = if leads name then Outside else Inside (part_of name) 0 0
 abbrev pub place_at : Part → ℕ → ℕ → Place
 place_at part d seen = if d == 0 then Outside else Inside part d seen
 
+-- the place behind a token inside the value of a member
 abbrev pub inside_after : Part → ℕ → ℕ → Token → Place
 inside_after part d seen begin_object = place_at part (d + 1) 0
 inside_after part d seen end_object = place_at part (d - 1) 0
@@ -55,11 +56,12 @@ outside_after (boolean b) = Outside
 outside_after null = Outside
 outside_after bad = Outside
 
--- where a walk stands behind a token
+-- where a walk stands behind a token [RFC 7946, 3]
 abbrev pub place_after : Place → Token → Place
 place_after Outside t = outside_after t
 place_after (Inside part d seen) t = inside_after part d seen t
 
+-- what becomes of a member's name, by the place where its value begins
 abbrev pub member_treatment : Place → Treatment
 member_treatment Outside = Leave
 member_treatment (Inside Dropped d seen) = Drop
@@ -91,16 +93,19 @@ abbrev pub coordinate_treatment : Rules → ℕ → Treatment
 coordinate_treatment r seen =
     if seen == 0 then Snap r.greatest_x else (if seen == 1 then Snap r.greatest_y else height_treatment r.keeps_heights)
 
+-- what becomes of a number, by the kind of value that it is in and how many numbers are before it
 abbrev pub number_treatment : Rules → Part → ℕ → List ℕ → Treatment
 number_treatment r Dropped seen text = Drop
 number_treatment r Info seen text = info_treatment r.keeps_reals text
 number_treatment r Coordinates seen text = coordinate_treatment r seen
 
+-- what becomes of a token that is no number, by the kind of value that it is in
 abbrev pub part_treatment : Part → Treatment
 part_treatment Dropped = Drop
 part_treatment Info = Leave
 part_treatment Coordinates = Leave
 
+-- what becomes of a token inside the value of a member
 abbrev pub inside_treatment : Rules → Part → ℕ → Token → Treatment
 inside_treatment r part seen begin_object = part_treatment part
 inside_treatment r part seen end_object = part_treatment part

@@ -76,6 +76,7 @@ IsBad (boolean b) = ⊥
 IsBad null = ⊥
 IsBad bad = ⊤
 
+-- some token of a list is none of JSON's
 abbrev pub HasBad : List Token → Type 0
 HasBad [] = ⊥
 HasBad (t ∷ ts) = IsBad t ⊎ HasBad ts

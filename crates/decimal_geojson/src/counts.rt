@@ -1,4 +1,4 @@
-//! What is told of a text that was brought to a grid.
+//! What is counted of a text that was brought to a grid.
 ghost use Rattle.decimal_geojson.specs.Counts.{counted};
 ghost use Rattle.std.specs.Prelude.{◌≡◌};
 
@@ -16,7 +16,7 @@ pub struct Counts {
 }
 
 impl Counts {
-    /// What is counted behind a token that stands at a place and is treated so. Counts stay at their greatest.
+    /// What is counted behind a token that is at a place and is treated so. Counts stay at their greatest.
     pub(crate) fn with(self, place: Place, treatment: Treatment) -> Counts
         ensures { result ≡ counted self place treatment }
     {

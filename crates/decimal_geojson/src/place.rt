@@ -18,12 +18,12 @@ pub enum Part {
     Coordinates,
 }
 
-/// Where a walk through the tokens of a GeoJSON text stands.
+/// Where a walk through the tokens of a GeoJSON text is.
 #[derive(Clone, Copy, PartialEq, Eq, Debug)]
 pub enum Place {
     /// Among the objects and lists that lead to coordinates.
     Outside,
-    /// In the value of a member: what it is, how many brackets are open, and how many numbers stand behind the
+    /// In the value of a member: what it is, how many brackets are open, and how many numbers are behind the
     /// last bracket, two for more.
     Inside(Part, u64, u64),
 }
@@ -170,7 +170,7 @@ impl Place {
         }
     }
 
-    /// Where the walk stands behind the token, or None where too many brackets are open to be counted.
+    /// Where the walk is behind the token, or None where too many brackets are open to be counted.
     pub fn after(self, token: Token<'_>) -> Option<Place>
         ensures { IfSome result (λ p. p ≡ place_after self (token_of token.entry)) }
     {

@@ -87,7 +87,7 @@ fn write(
 
 /// The text with each coordinate replaced by the whole number of steps nearest to it, and where that is too far
 /// from 0 by 2^40 + 1. Of other members than those that GeoJSON's geometries and features need nothing is left. All
-/// else stays, token by token, but for heights and numbers with a fraction; the counts tell of these.
+/// else stays, token by token, but for heights and numbers with a fraction; the counts have these.
 ///
 /// # Errors
 /// `NotJson` where the text is no JSON; `OutOfMemory`.

@@ -21,7 +21,7 @@ pub struct Rules {
 }
 
 impl Rules {
-    /// The same with a limit of 0 for the first number of a position and of 1 for the second. So `Place::treatment` tells
+    /// The same with a limit of 0 for the first number of a position and of 1 for the second. So `Place::treatment` says
     /// which number of a position a coordinate is.
     pub fn by_axis(&self) -> Rules
         ensures x { result.greatest_x ≡ 0 }

@@ -13,15 +13,18 @@ abbrev pub parts_of : List ℕ → Parts
 parts_of text = scan (unsigned_text text)
 
 -- perhaps a minus, then digits, perhaps with a point, then perhaps an exponent
+-- [RFC 8259, section 6, and a little more (`.5`, `007`)]
 pub record IsNumeral (text : List ℕ) : Type 0 where
   pub digits : IsTrue (has_digits (parts_of text))
   pub complete : (parts_of text).len ≡ length (unsigned_text text)
 
 -- A numeral is worth numerator / denominator: all its digits as one number, times 10 to a positive exponent,
--- over 10 to the count of digits behind its point and to a negative exponent.
+-- over 10 to the count of digits behind its point and to a negative exponent. [RFC 8259, section 6]
 abbrev pub numerator : List ℕ → ℤ
 numerator text = with_sign (starts_with_minus text) (digits_of (parts_of text) * 10 ^ tens_up (parts_of text))
 
+-- the denominator of a numeral's value: 10 to the count of digits behind its point and to a negative exponent
+-- [RFC 8259, section 6]
 abbrev pub denominator : List ℕ → ℕ
 denominator text = 10 ^ tens_down (parts_of text)
 
@@ -37,6 +40,7 @@ pub record Measure : Type 0 where
   pub size : ℕ
   pub places : ℕ
 
+-- a step by its size and its count of decimal places
 abbrev pub measure : ℕ → ℕ → Measure
 measure size places = record { size = size; places = places }
 
@@ -58,6 +62,7 @@ pub record IsMeasure (s : Measure) : Type 0 where
 abbrev pub dividend : Measure → List ℕ → ℤ
 dividend s text = numerator text *ℤ pos (10 ^ s.places)
 
+-- the divisor of a numeral's value in steps: the step's size times the numeral's denominator
 abbrev pub divisor : Measure → List ℕ → ℕ
 divisor s text = s.size * denominator text
 

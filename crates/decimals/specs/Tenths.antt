@@ -11,5 +11,6 @@ first_digits ds kept = digits_value 10 (take kept ds) * 10 ^ (kept - length ds)
 abbrev pub kept_of : ℕ → Parts → ℕ
 kept_of places p = length (p.whole ++ p.fraction) + (tens_up p + places + 1) - tens_down p
 
+-- ten times a numeral without its sign, its point moved by so many places, rounded down
 abbrev pub tenths_of : ℕ → Parts → ℕ
 tenths_of places p = first_digits (p.whole ++ p.fraction) (kept_of places p)

@@ -72,7 +72,7 @@ pub(crate) fn size_of(numeral: &Numeral<'_>) -> u128
     with_zeros(value, capped(0, numeral.exponent()))
 }
 
-/// How many places the digits stand behind the point, with those of a negative exponent, or `CAP` where
+/// How many places the digits are behind the point, with those of a negative exponent, or `CAP` where
 /// that is less.
 pub(crate) fn places_of(numeral: &Numeral<'_>) -> u128
     ensures { result ≡ min (tens_down numeral.now) CAP }
@@ -89,7 +89,7 @@ fn is_nothing(digits: &[u8]) -> bool {
     digits.iter().all(|digit| *digit == b'0')
 }
 
-/// Whether no digit but zeros stands behind those of which `tenths` makes its result.
+/// Whether no digit but zeros is behind those of which `tenths` makes its result.
 pub(crate) fn is_nothing_behind(numeral: &Numeral<'_>, places: u32) -> bool {
     let (whole, fraction) = (numeral.whole(), numeral.fraction());
     let kept = kept_of(numeral, places);

@@ -11,7 +11,7 @@ use crate::step::Step;
 use fast_float::Numeral;
 use grid::limits::GREATEST_GRID_NUMBER;
 
-/// Whether a minus stands in front, and the text without it.
+/// Whether a minus is in front, and the text without it.
 pub(crate) fn without_sign(text: &[u8]) -> (bool, &[u8])
     ensures sign { result.0 ≡ starts_with_minus text.now }
     ensures rest { result.1.now ≡ unsigned_text text.now }

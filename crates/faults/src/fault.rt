@@ -38,7 +38,7 @@ pub enum FaultKind {
     /// The value is of another kind than the format wants.
     #[error("a value of the wrong kind")]
     WrongKind,
-    /// The `type` is none of those that may stand there.
+    /// The `type` is none of those that may be there.
     #[error("an unknown type")]
     UnknownType,
     /// A number that is not a whole number of 64 bits.
@@ -166,7 +166,7 @@ pub enum Step {
 }
 
 /// A fault of a text, and the path from the text's root to the faulty value.
-/// Want of memory is no fault of the text: its path is the root's.
+/// Running out of memory is no fault of the text: its path is the root's.
 #[derive(Drop, Debug, PartialEq, Eq, Error)]
 #[error("{kind}")]
 pub struct Fault {

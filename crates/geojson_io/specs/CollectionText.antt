@@ -13,11 +13,11 @@ use Rattle.sinks.specs.Texts.{joined, bracketed, list_text, pair_text, framed}
 use Rattle.theory.specs.LinesAndRings.{closed}
 use Rattle.writing.specs.Members.{id_text}
 
--- a position by its absolute numbers
+-- a position by its absolute numbers [RFC 7946, 3.1; starting place own]
 abbrev pub place_text : Transform → Pos → List ℕ
 place_text t p = pair_text (absolute_place t p).0 (absolute_place t p).1
 
--- a line as it is
+-- a line as it is [RFC 7946, 3.1; starting place own]
 abbrev pub line_text : Transform → List Pos → List ℕ
 line_text t ps = list_text (place_text t) ps
 
@@ -25,15 +25,15 @@ line_text t ps = list_text (place_text t) ps
 abbrev pub closed_text : Transform → List Pos → List ℕ
 closed_text t vs = joined (place_text t) (closed vs)
 
--- a ring from its least rotation, with the first position repeated at the end
+-- a ring from its least rotation, with the first position repeated at the end [RFC 7946, 3.1; starting place own]
 abbrev pub ring_text : Transform → List Pos → List ℕ
 ring_text t vs = bracketed (closed_text t vs)
 
--- coordinates and the name of their type
+-- coordinates and the name of their type [RFC 7946, 3.1]
 abbrev pub geometry_text : List ℕ → List ℕ → List ℕ
 geometry_text coordinates name = codes "{\"coordinates\":" ++ (coordinates ++ (codes ",\"type\":\"" ++ (name ++ codes "\"}")))
 
--- a geometry, or null
+-- a geometry, or null [RFC 7946, 3.1]
 abbrev pub shape_text : Transform → Shape → List ℕ
 shape_text t shape.Null = codes "null"
 shape_text t (shape.Point p) = geometry_text (place_text t p) (codes "Point")
@@ -49,9 +49,11 @@ abbrev pub feature_frame : Id → List ℕ → List ℕ → List ℕ
 feature_frame i properties geometry =
     codes "{\"geometry\":" ++ (geometry ++ (codes "," ++ (id_text i ++ (codes "\"properties\":" ++ (properties ++ codes ",\"type\":\"Feature\"}")))))
 
+-- a feature: its geometry, its id where there is one, its properties and its type
+-- [RFC 7946, 3.2; order of members own]
 abbrev pub feature_text : Transform → Feature → List ℕ
 feature_text t f = feature_frame f.id (properties_text f.props) (shape_text t f.shape)
 
--- the features in order
+-- the features in order [RFC 7946, 3.2 and 3.3; order of members own]
 abbrev pub collection_text : Transform → List Feature → List ℕ
 collection_text t fs = framed (feature_text t) (codes "{\"features\":[") fs (codes "],\"type\":\"FeatureCollection\"}")

@@ -18,10 +18,11 @@ use Rattle.geojson_io.specs.declared.reader.Root.TheVariants.{Collection, Featur
 
 -- ---- features
 
--- the members of a feature; a missing geometry is null
+-- the members of a feature; a missing geometry is null [RFC 7946, 3.2 and 3.3]
 abbrev pub feature_members : Transform → Data → List Pair
 feature_members t d = option_faults (codes "geometry") (unless_null (geometry_faults t)) d ++ info_faults d
 
+-- the feature that an object means, as plain data [RFC 7946, 3.2]
 abbrev pub feature_of : Transform → Data → Plain
 feature_of t d = record {
   id = id_of (member_or_null (codes "id") d);
@@ -42,20 +43,23 @@ abbrev pub root_geometry : Result GeometryType FaultKind → Result Root FaultKi
 root_geometry (Err k) = Err k
 root_geometry (Ok k) = Ok (Geometry k)
 
+-- the kind of root that a name says: a collection, a feature or a geometry [RFC 7946, 3]
 abbrev pub root_named : List ℕ → Result Root FaultKind
 root_named s =
     if bytes_eq s (codes "FeatureCollection") then Ok Collection
     else (if bytes_eq s (codes "Feature") then Ok Feature else root_geometry (geometry_named s))
 
+-- the kind of root that the member `type` names
 abbrev pub root_type : Data → Result Root FaultKind
 root_type d = named root_named (type_text d)
 
--- a collection, a feature or a geometry
+-- a collection, a feature or a geometry [RFC 7946, 3.2 and 3.3]
 abbrev pub root_faults : Transform → Data → Root → List Pair
 root_faults t d Collection = member_faults (codes "features") (list_faults (element_of_features_faults t)) d
 root_faults t d Feature = feature_members t d
 root_faults t d (Geometry k) = typed_geometry_faults t k d
 
+-- the faults of a GeoJSON value on a grid [RFC 7946, 3; limits own]
 abbrev pub geojson_faults : Transform → Data → List Pair
 geojson_faults t d = object_faults (typed_faults (root_faults t d) (root_type d)) (as_object d)
 
@@ -63,6 +67,7 @@ geojson_faults t d = object_faults (typed_faults (root_faults t d) (root_type d)
 abbrev pub bare : PlainForm → Plain
 bare f = record { id = none; properties = codes "{}"; form = f }
 
+-- the features that a root of this kind means; none where its type has a fault
 abbrev pub features_by : Transform → Data → Result Root FaultKind → List Plain
 features_by t d (Err k) = []
 features_by t d (Ok Collection) = map (feature_of t) (elements (member_or_null (codes "features") d))
@@ -78,10 +83,10 @@ features_or_none t = said_of (features_of t)
 
 -- ---- the text
 
--- the faults of the bytes of a GeoJSON text
+-- the faults of the bytes of a GeoJSON text [RFC 7946, 3; limits own]
 abbrev pub faults_of_text : Transform → List ℕ → List Pair
 faults_of_text t bytes = text_faults (geojson_faults t) (document bytes)
 
--- the features of the bytes of a GeoJSON text, as plain data
+-- the features of the bytes of a GeoJSON text, as plain data [RFC 7946, 3; limits own]
 abbrev pub features_of_text : Transform → List ℕ → List Plain
 features_of_text t bytes = features_or_none t (document bytes)

@@ -22,10 +22,11 @@ coordinates_faults t = shape_faults (position_faults t) (line_at_faults t) (ring
 abbrev pub form_of : Transform → GeometryType → Data → PlainForm
 form_of t = shape_form (position_of t) (line_at t) (ring_at t)
 
--- a geometry whose type is known
+-- a geometry whose type is known [RFC 7946, 3.1]
 abbrev pub typed_geometry_faults : Transform → GeometryType → Data → List Pair
 typed_geometry_faults t k = member_faults (codes "coordinates") (coordinates_faults t k)
 
+-- the shape that a geometry's `coordinates` mean, by its type [RFC 7946, 3.1]
 abbrev pub typed_form : Transform → GeometryType → Data → PlainForm
 typed_form t k d = form_of t k (member_or_null (codes "coordinates") d)
 

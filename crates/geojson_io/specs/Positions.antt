@@ -25,9 +25,11 @@ grid_faults (Ok n) = []
 abbrev pub axis_faults : Scaling → ℤ → List Pair
 axis_faults s a = grid_faults (axis_number s a)
 
+-- the faults of one number of a position, on the grid of its element
 abbrev pub coordinate_faults : Scaling → Data → List Pair
 coordinate_faults s = element_faults (axis_faults s)
 
+-- the grid number where there is one, else 0
 abbrev pub number_or_zero : Result ℤ AxisFault → ℤ
 number_or_zero (Ok n) = n
 number_or_zero (Err f) = pos 0
@@ -38,6 +40,7 @@ grid_number s d = number_or_zero (axis_number s (whole_of d))
 
 -- ---- positions
 
+-- the faults of a position: two absolute numbers, each on the grid and in range [RFC 7946, 3.1.1; TopoJSON, 2.1.2]
 abbrev pub position_faults : Transform → Data → List Pair
 position_faults t = pair_faults (coordinate_faults t.x) (coordinate_faults t.y)
 
@@ -45,13 +48,14 @@ abbrev pub position_in : Transform → List Data → Pos
 position_in t (x ∷ y ∷ []) = position_at (grid_number t.x x) (grid_number t.y y)
 position_in t _ = position_at (pos 0) (pos 0)
 
--- the position on the grid
+-- the position on the grid [RFC 7946, 3.1.1; TopoJSON, 2.1.2]
 abbrev pub position_of : Transform → Data → Pos
 position_of t d = position_in t (elements d)
 
 abbrev pub positions_faults : Transform → Data → List Pair
 positions_faults t = list_faults (position_faults t)
 
+-- the positions on the grid that the elements of an array mean
 abbrev pub positions_of : Transform → Data → List Pos
 positions_of t d = map (position_of t) (elements d)
 

@@ -41,6 +41,7 @@ CoordinatesMean t d (Groups gs) = AllZip (λ c ls. AllZip (λ e ps. AllZip (λ f
 abbrev pub OutlineOf : {O : Type 0} → (List Pos → Option ShapeFault) → (O → List Pos) → (List Pos → List Pos) → Vec Pos Global → O → Type 0
 OutlineOf fault seen of ps o = (fault ps.items ≡ None) × (seen o ≡ of ps.items)
 
+-- each list of positions is a line, or each a ring, and the one beside it
 abbrev pub OutlinesOf : {O : Type 0} → (List Pos → Option ShapeFault) → (O → List Pos) → (List Pos → List Pos) → Vec (Vec Pos Global) Global → Vec O Global → Type 0
 OutlinesOf fault seen of ls os = AllZip (OutlineOf fault seen of) ls.items os.items
 

@@ -23,10 +23,12 @@ use Rattle.geojson_io.specs.declared.token_reader.coordinates.Coordinates.{Coord
 
 -- ---- a geometry
 
+-- the geometry type, where it is read already, is that of the members
 abbrev pub KnowsKind : Option GeometryType → Members → Type 0
 KnowsKind None ms = Unit {0}
 KnowsKind (Some k) ms = geometry_type (object ms) ≡ Ok k
 
+-- the coordinates, where they are read already, have no fault and are those of the members
 abbrev pub KnowsCoordinates : Transform → Option Coordinates → Members → Type 0
 KnowsCoordinates t None ms = Unit {0}
 KnowsCoordinates t (Some n) ms = (d : Data) × (get (codes "coordinates") (object ms) ≡ Some d) × (nested_faults t n d ≡ []) × CoordinatesMean t d n
@@ -47,6 +49,7 @@ KnowsFeature g s i p ms = KnowsShape g s ms × (KnowsId i ms × KnowsProps p ms)
 
 -- ---- a root
 
+-- the member `features`, of the members that are read
 abbrev pub KnowsFeatures : Transform → Option (Vec Feature Global) → Members → Type 0
 KnowsFeatures g = KnowsMember (codes "features") (list_faults (element_of_features_faults g)) (λ d fs. AllZip (λ e f. plain f ≡ feature_of g e) (elements d) fs.items)
 
@@ -57,5 +60,6 @@ KnowsRootParts g (Some root.Collection) fs s i p n ms = KnowsFeatures g fs ms
 KnowsRootParts g (Some root.Feature) fs s i p n ms = KnowsFeature g s i p ms
 KnowsRootParts g (Some (root.Geometry k)) fs s i p n ms = KnowsCoordinates g n ms
 
+-- the members of a root that are read: its type, and the others
 abbrev pub KnowsRoot : Transform → Option Root → Option (Vec Feature Global) → Option Shape → Option Id → Option Props → Option Coordinates → Members → Type 0
 KnowsRoot g r fs s i p n ms = KnowsRootType r ms × KnowsRootParts g r fs s i p n ms

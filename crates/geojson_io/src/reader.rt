@@ -200,7 +200,7 @@ fn set_of(alloc: Global, features: Vec<Feature>) -> Result<BTreeSet<Feature>, Fa
 /// `crs`. Numbers have to be whole. Each position of the features fits the grid.
 ///
 /// # Errors
-/// The least fault of the text, by path and then by number; `OutOfMemory` at the root.
+/// The first error of the text, by path and then by number; `OutOfMemory` at the root.
 pub fn read(alloc: Global, bytes: &[u8], grid: &Grid) -> Result<BTreeSet<Feature>, Fault>
     ensures ok { OnOk result (faults_of_text grid.now bytes.now ≡ []) }
     ensures made { IfOk result (λ fs. AreFeatures (features_set fs) (features_of_text grid.now bytes.now)) }

@@ -53,6 +53,6 @@ after_geometry f = given (codes "id") (id_data f.id) (after_id f)
 abbrev pub feature_data : Transform → Feature → Data
 feature_data t f = object (member (codes "geometry") (shape_data t f.shape) (after_geometry f))
 
--- the features in order
+-- the features in order [RFC 7946, 3]
 abbrev pub collection_data : Transform → List Feature → Data
 collection_data t fs = object (member (codes "features") (list_data (feature_data t) fs) (member (codes "type") (string (codes "FeatureCollection")) no_members))

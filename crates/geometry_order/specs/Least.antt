@@ -8,6 +8,7 @@ use Rattle.geometry_order.specs.Steps.{step_cmp}
 use Rattle.geometry_order.specs.declared.least.LeastSteps.{LeastSteps}
 use Rattle.geometry_order.specs.declared.step.Step.{Step}
 
+-- the step from p to q
 abbrev pub step : Pos → Pos → Step
 step p q = record { from = p; to = q }
 

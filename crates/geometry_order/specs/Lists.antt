@@ -25,9 +25,11 @@ lead_of least (a ∷ used) = lead_from least (record { step = least_at least a; 
 abbrev pub turned : List ArcRef → ℕ → List ArcRef
 turned used n = drop n used ++ take n used
 
+-- lists of used arcs, each begun at its place, by the first steps along the arcs
 abbrev pub turned_cmp : List (List Pos) → List ArcRef → ℕ → List ArcRef → ℕ → Ordering
 turned_cmp arcs us m vs n = starts_cmp arcs (turned us m) (turned vs n)
 
+-- lists of lines, by the first steps along the arcs
 abbrev pub line_refs_cmp : List (List Pos) → List (Option LeastSteps) → List ArcRef → List ArcRef → Ordering
 line_refs_cmp arcs least us vs = starts_cmp arcs us vs
 

@@ -12,6 +12,7 @@ use Rattle.grid.specs.declared.transform.GridFault.{GridFault}
 abbrev pub divides : ℤ → ℤ → Bool
 divides scale d = nat_eq (unsigned_abs (int_rem d scale)) 0
 
+-- whether a number is a grid number
 abbrev pub is_grid_number : ℤ → Bool
 is_grid_number n = int_le LEAST_GRID_NUMBER n && int_le n GREATEST_GRID_NUMBER
 

@@ -21,7 +21,7 @@ one_position p q e f i = record {
   along = is_prop→PathP (λ j. IsGridNumber (f j)) (λ j. IsGridNumber-prop (f j)) p.along q.along i;
 }
 
--- the absolute place of a position
+-- the absolute place of a position [TopoJSON, 2.1.2]
 abbrev pub absolute_place : Transform → Pos → ℤ × ℤ
 absolute_place t p = (absolute t.x p.x, absolute t.y p.y)
 
@@ -30,7 +30,7 @@ pub record Fits (t : Transform) (p : Pos) : Type 0 where
   pub x : FitsAxis t.x p.x
   pub y : FitsAxis t.y p.y
 
--- the position fits, and this is its absolute place
+-- the position fits, and this is its absolute place [TopoJSON, 2.1.2]
 pub record IsPlaceOf (t : Transform) (a : ℤ × ℤ) (p : Pos) : Type 0 where
   pub place : absolute_place t p ≡ a
   pub fits : Fits t p

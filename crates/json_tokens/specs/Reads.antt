@@ -8,7 +8,7 @@ use Rattle.serde_json.specs.Read.{of_json, of_items, of_members, converted}
 use Rattle.serde_json.specs.View.{items_of}
 use Rattle.faults.specs.Fault.{Pair}
 
--- of the tokens `old` the first value, which may nest so deep, is d, and `new` follows it
+-- of the tokens `old` the first value, which may nest so deep, is d, and `new` follows it [RFC 8259; `serde_json`]
 abbrev pub Gives : ℕ → List Token → Data → List Token → Type 0
 Gives depth old d new = converted of_json (json.value depth old) ≡ Some (d, new)
 
@@ -37,10 +37,10 @@ pub record ReadsArray {X : Type 0} (faults : Data → List Pair) (means : Data �
   pub given : Gives depth old (array (items_of from)) new
   pub meant : AllZip (Meets faults means) from xs
 
--- the rest of an array that has just begun
+-- the rest of an array that has just begun [RFC 8259; `serde_json`]
 abbrev pub GivesItems : ℕ → List Token → Items → List Token → Type 0
 GivesItems depth old ds new = converted of_items (json.items (json.value depth) (length old) old) ≡ Some (ds, new)
 
--- the rest of an object that has just begun
+-- the rest of an object that has just begun [RFC 8259; `serde_json`]
 abbrev pub GivesMembers : ℕ → List Token → Members → List Token → Type 0
 GivesMembers depth old ms new = converted (λ found. of_members found no_members) (json.members (json.value depth) (length old) old) ≡ Some (ms, new)

@@ -36,6 +36,7 @@ abbrev pub united_into : {A : Type 0} → (A → A → Ordering) → (A → A �
 united_into cmp both x rest [] = x ∷ rest []
 united_into cmp both x rest (y ∷ ys) = by_order (cmp x y) (x ∷ rest (y ∷ ys)) (both x y ∷ rest ys) (y ∷ united_into cmp both x rest ys)
 
+-- two sorted lists as one, in which two members that tie become one by `both`
 abbrev pub united : {A : Type 0} → (A → A → Ordering) → (A → A → A) → List A → List A → List A
 united cmp both [] ys = ys
 united cmp both (x ∷ xs) ys = united_into cmp both x (united cmp both xs) ys
@@ -56,13 +57,15 @@ entries_united = layers_united set.union
 abbrev pub features_merged : List Feature → List Feature → List Feature
 features_merged = merged feature_cmp
 
--- the used arcs of a line, and of a ring, by the arcs that the old ones are cut into
+-- the used arcs of a line, and of a ring, by the arcs that the old ones are cut into [TopoJSON, 2.1.4; own]
 abbrev pub line_recut : List (List ArcRef) → List ArcRef → List ArcRef
 line_recut pieces used = replaced pieces used
 
+-- the used arcs of a ring by the arcs that the old ones are cut into, begun where it starts least
+-- [TopoJSON, 2.1.4; own]
 abbrev pub ring_recut : List (List Pos) → List (List ArcRef) → List ArcRef → List ArcRef
 ring_recut table pieces used = turned_used position_cmp table (replaced pieces used)
 
--- a geometry by the arcs that the old ones are cut into: its id and its properties stay
+-- a geometry by the arcs that the old ones are cut into: its id and its properties stay [TopoJSON, 2.1.4; own]
 abbrev pub geometry_recut : List (List Pos) → List (List ArcRef) → Geom → Geom
 geometry_recut table pieces = geometry_rewritten (line_recut pieces) (ring_recut table pieces)

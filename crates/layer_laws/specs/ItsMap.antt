@@ -18,6 +18,7 @@ ItsMap t = (m : Layers) × ∥ IsOf m t ∥₁
 one_value : (m n : Layers) → IsProp (m ≡ n)
 one_value m n = Coded-set (map.code (coded_list coded_ℕ) (set.code feature.the_row.coded)) m n
 
+-- a topology is of one map at most
 pub ItsMap-prop : (t : TopologyParts) → IsProp (ItsMap t)
 ItsMap-prop t (m, h) (n, k) =
     Σ_prop_path (λ l. ∥∥₁_prop)

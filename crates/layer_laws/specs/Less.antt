@@ -50,6 +50,7 @@ layers_left [] ls = []
 layers_left (marks ∷ more) [] = []
 layers_left (marks ∷ more) (l ∷ ls) = record { name = l.name; geometries = marked marks l.geometries } ∷ layers_left more ls
 
+-- a geometry by the arcs that the old ones are joined to: its id and its properties stay
 abbrev pub geometry_rejoined : List (List Pos) → Starts → Geom → Geom
 geometry_rejoined arcs starts = geometry_rewritten (rejoined starts 0) (ring_rejoined position_cmp arcs starts)
 

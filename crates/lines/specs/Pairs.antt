@@ -14,6 +14,7 @@ position_eq p q = int_eq p.x q.x && int_eq p.y q.y
 abbrev pub pair_eq : Pair → Pair → Bool
 pair_eq s t = position_eq s.lesser t.lesser && position_eq s.greater t.greater
 
+-- unordered pairs by the lesser position, then by the greater
 abbrev pub pair_cmp : Pair → Pair → Ordering
 pair_cmp s t = ordering_then (position_cmp s.lesser t.lesser) (position_cmp s.greater t.greater)
 

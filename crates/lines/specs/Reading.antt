@@ -12,7 +12,7 @@ use Rattle.lines.specs.declared.shape_fault.ShapeFault.TheVariants.{TooShort, No
 abbrev pub collapsed : {V : Type 0} → (V → V → Ordering) → List V → List V
 collapsed cmp = dedup (same_vertex cmp)
 
--- whether the first and the last vertex are equal
+-- whether the first and the last vertex are equal [RFC 7946, 3.1.6; own]
 abbrev pub is_closed : {V : Type 0} → (V → V → Ordering) → List V → Bool
 is_closed cmp [] = true
 is_closed cmp (x ∷ l) = same_vertex cmp x (last_of x l)
@@ -26,7 +26,7 @@ abbrev pub repeats_from : {V : Type 0} → (V → V → Ordering) → V → List
 repeats_from cmp x [] = false
 repeats_from cmp x (y ∷ l) = cond (are_beside cmp x y y l) true (repeats_from cmp y l)
 
--- whether an unordered pair of neighbours stands at two places
+-- whether an unordered pair of neighbours stands at two places [RFC 7946, 3.1.6; own]
 abbrev pub repeats : {V : Type 0} → (V → V → Ordering) → List V → Bool
 repeats cmp [] = false
 repeats cmp (x ∷ l) = repeats_from cmp x l
@@ -49,11 +49,11 @@ collapsed_ring_fault cmp (x ∷ l) =
     else (if nat_lt (length (x ∷ l)) 4 then Some TooShort
     else (if repeats cmp (x ∷ l) then Some Revisit else None))
 
--- why the list is no line; none where it is one
+-- why the list is no line; none where it is one [RFC 7946, 3.1.4; own]
 unfoldable pub line_fault : {V : Type 0} → (V → V → Ordering) → List V → Option ShapeFault
 line_fault cmp l = collapsed_line_fault cmp (collapsed cmp l)
 
--- why the list is no ring; none where it is one
+-- why the list is no ring; none where it is one [RFC 7946, 3.1.6; own]
 unfoldable pub ring_fault : {V : Type 0} → (V → V → Ordering) → List V → Option ShapeFault
 ring_fault cmp l = collapsed_ring_fault cmp (collapsed cmp l)
 
@@ -62,5 +62,6 @@ abbrev pub IsRingRead : {V : Type 0} → (V → V → Ordering) → List V → T
 IsRingRead {V} cmp c = (l : List V) × (c ≡ collapsed cmp l) × (ring_fault cmp l ≡ None)
 
 -- the ring of a closed list: the least of its rotations, without the closing repeat
+-- [RFC 7946, 3.1.6; starting place own]
 unfoldable pub ring_of : {V : Type 0} → (V → V → Ordering) → List V → List V
 ring_of cmp l = least_list (slice_cmp cmp) (rotations (opened (collapsed cmp l)))

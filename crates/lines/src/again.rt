@@ -1,4 +1,4 @@
-//! The ends of segments that may stand twice in a list of positions.
+//! The ends of segments that may occur twice in a list of positions.
 ghost use Rattle.lines.specs.Again.{HoldEnds, IsStep};
 ghost use Rattle.lines.specs.Bits.{may_hold};
 ghost use Rattle.std.specs.Prelude.{◌≡◌, true, IfOk};
@@ -36,7 +36,7 @@ impl Way {
         })
     }
 
-    /// Goes on to the next position, and tells whether the segment to it may have been gone before. Then
+    /// Goes on to the next position, and answers whether the segment to it may have been gone before. Then
     /// both its ends were met before they were come to, or it leads straight back.
     fn go_on(&mut self, next: Pos) -> bool
         ensures { IsStep next result self.old self.new }
@@ -51,7 +51,7 @@ impl Way {
     }
 }
 
-/// Positions among which are both ends of each segment that stands twice. In most lists there are none.
+/// Positions among which are both ends of each segment that occurs twice. In most lists there are none.
 pub(crate) fn ends_again(alloc: Global, positions: &[Pos]) -> Result<Vec<Pos>, AllocError>
     ensures { IfOk result (λ ends. HoldEnds ends.items positions.now) }
 {

@@ -2,7 +2,7 @@
 ghost use Rattle.lines.specs.Neighbours.{equal_neighbours};
 ghost use Rattle.std.specs.Prelude.{◌≡◌};
 
-/// Whether two neighbours are equal. In a sorted list it tells whether an item stands twice.
+/// Whether two neighbours are equal. In a sorted list it says whether an item occurs twice.
 pub fn has_equal_neighbours<T: PartialEq + Copy>(items: &[T]) -> bool
     ensures { result ≡ equal_neighbours T.eq items.now }
 {

@@ -14,7 +14,7 @@ use itertools::Itertools;
 use std::alloc::Global;
 
 /// A ring: a cyclic list of three positions or more, with a direction, round which neighbours differ
-/// and no segment stands twice (RFC 7946, section 3.1.6). It is kept from its least rotation, so two
+/// and no segment occurs twice (RFC 7946, section 3.1.6). It is kept from its least rotation, so two
 /// rings that differ only in the place from which they are read are equal.
 #[derive(PartialEq, Eq, PartialOrd, Ord, Hash, Drop, Debug)]
 pub struct Ring {
@@ -42,7 +42,7 @@ impl Ring {
     /// # Errors
     /// `TooShort` where no position is left; otherwise `NotClosed` where the first and the last
     /// differ; otherwise `TooShort` where fewer than four are left; otherwise `Revisit` where a
-    /// segment stands twice.
+    /// segment occurs twice.
     pub fn from_closed(alloc: Global, mut closed: Vec<Pos>) -> Result<Ring, ShapeFault>
         ensures ok { IfOk result (λ _. ring_fault position_cmp closed.items ≡ None) }
         ensures ring { IfOk result (λ ring. vertices_of ring ≡ ring_of position_cmp closed.items) }

@@ -14,7 +14,7 @@ pub enum ShapeFault {
     /// The first and the last position of a ring differ (RFC 7946, section 3.1.6).
     #[error("the first and the last position differ")]
     NotClosed,
-    /// Some segment stands twice.
+    /// Some segment occurs twice.
     #[error("a segment stands twice")]
     Revisit,
     /// A growth of memory was refused.

@@ -1,4 +1,4 @@
-//! What makes a list of positions a trail: neighbours differ, and no segment stands twice.
+//! What makes a list of positions a trail: neighbours differ, and no segment occurs twice.
 ghost use Rattle.lines.specs.Again.{joins};
 ghost use Rattle.lines.specs.Bits.{may_hold};
 ghost use Rattle.lines.specs.Reading.{collapsed, is_closed as closes, repeats};
@@ -45,7 +45,7 @@ fn segments_between(
     Ok(made)
 }
 
-/// Whether some unordered pair of neighbours stands at two places, in time n log n. Only segments are sorted
+/// Whether some unordered pair of neighbours is at two places, in time n log n. Only segments are sorted
 /// whose ends may both be met again; in most lists there are none.
 pub(crate) fn repeats_segment(alloc: Global, positions: &[Pos]) -> Result<bool, AllocError>
     ensures { IfOk result (λ found. found ≡ repeats position_cmp positions.now) }

@@ -7,6 +7,7 @@ abbrev pub IsLeaf : Plan → ℕ → Type 0
 IsLeaf (Leaf i) k = i ≡ k
 IsLeaf (Node' p left q right) k = ⊥
 
+-- the plan joins these two plans, in this order
 abbrev pub IsNode : Plan → Plan → Plan → Type 0
 IsNode left right (Leaf i) = ⊥
 IsNode left right (Node' p first q second) = (first ≡ left) × (second ≡ right)

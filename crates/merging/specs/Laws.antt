@@ -25,9 +25,11 @@ union_empty m = unions.union_empty nat_list_cmp_total same_text feature_cmp_tota
 pub union-Commutes : {S : Type 0} (f : S → Layers) → Commutes (λ a b c. f c ≡ union (f a) (f b)) f
 union-Commutes f a b ab ba h k = h ∙ union_commutes (f a) (f b) ∙ sym k
 
+-- where a join answers the union, it is associative
 pub union-Associates : {S : Type 0} (f : S → Layers) → Associates (λ a b c. f c ≡ union (f a) (f b)) f
 union-Associates f a b c ab bc left right h k p q =
     k ∙ ap (λ m. union m (f c)) h ∙ union_associates (f a) (f b) (f c) ∙ ap (union (f a)) (sym p) ∙ sym q
 
+-- where a join answers the union, a map joined with itself stays as it is
 pub union-IsIdempotent : {S : Type 0} (f : S → Layers) → IsIdempotent (λ a b c. f c ≡ union (f a) (f b)) f
 union-IsIdempotent f a aa h = h ∙ union_itself (f a)

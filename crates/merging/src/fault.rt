@@ -54,7 +54,7 @@ pub enum MergeFault {
     /// This leaf of the plan is no place of the list; the first such from the left.
     #[error("leaf {0} is past the list")]
     BadPlan(usize),
-    /// The text of this number is refused, the first such, with its least fault, which is never want
+    /// The text of this number is refused, the first such, with its first error, which is never out
     /// of memory.
     #[error("text {0} is refused")]
     Text(usize, Fault),

@@ -134,7 +134,7 @@ fn merge_marked<S: Shard, T: AsSlice<u8> + Drop>(
 /// means. Each text is dropped once it is read.
 ///
 /// # Errors
-/// `Text` with the first text of the list that is refused, and its least fault; otherwise `OtherGrid` with the first
+/// `Text` with the first text of the list that is refused, and its first error; otherwise `OtherGrid` with the first
 /// text whose transform differs from that of text 0.
 pub fn merge_all<S: Shard>(alloc: Global, texts: Vec<Vec<u8>>) -> Result<Option<S>, MergeFault>
     ensures fault { IfErr result (IsMergeFault (bytes_of texts.items) (all_places texts.items)) }
@@ -154,7 +154,7 @@ pub fn merge_all<S: Shard>(alloc: Global, texts: Vec<Vec<u8>>) -> Result<Option<
 ///
 /// # Errors
 /// `BadPlan` with the first leaf from the left that is no place of the list; otherwise `Text` with
-/// the first text of the list that is refused, and its least fault; otherwise `OtherGrid` with the
+/// the first text of the list that is refused, and its first error; otherwise `OtherGrid` with the
 /// first text whose transform differs from that of text 0. All texts are read, also those that the
 /// plan does not name.
 pub fn merge_as<S: Shard>(

@@ -12,7 +12,7 @@ use std::alloc::Global;
 use std::mem;
 
 /// Which places of a list of shards are joined, from left to right, and in what grouping. A plan of
-/// any depth is run and given up without a call for each level of it.
+/// any depth is run and dropped without a call for each level of it.
 pub enum Plan {
     /// The shard at a place of the list.
     Leaf(usize),

@@ -49,13 +49,13 @@ pub trait Shard: Sized + Drop {
     /// The shard of what a topology's text means (TopoJSON, section 2).
     ///
     /// # Errors
-    /// The least fault of the text, by path and then by number; `OutOfMemory` at the root.
+    /// The first error of the text, by path and then by number; `OutOfMemory` at the root.
     fn of_text(alloc: Global, bytes: &[u8]) -> Result<Self, Fault>
         ensures ok { OnOk result (faults_of_text bytes.now ≡ []) }
         ensures means { IfOk result (λ s. Means bytes.now (grid_of s) (map_of s)) }
         ensures err { IfErr result (λ f. LeastOrWant (faults_of_text bytes.now) f) };
 
-    /// Least x, least y, greatest x and greatest y of the shard's positions, where the shard tells them.
+    /// Least x, least y, greatest x and greatest y of the shard's positions, where the shard has them.
     /// They say no more than in what order shards are best joined.
     fn bbox(&self) -> Option<(i64, i64, i64, i64)> {
         None
@@ -73,7 +73,7 @@ pub trait Shard: Sized + Drop {
         ensures map { IfOk result (λ s. map_of s ≡ union (map_of self.now) (map_of other.now)) }
         ensures other_grid { IsErrOf result OtherGrid ↔ ¬ (grid_of self.now ≡ grid_of other.now) };
 
-    /// `join` of two shards that are handed over.
+    /// `join` of two shards that are passed by value.
     fn join_owned(self, alloc: Global, other: Self) -> Result<Self, JoinFault>
         ensures joined { IfOk result (λ s. joined self other s) }
         ensures grid { IfOk result (λ s. grid_of s ≡ grid_of self) }

@@ -24,12 +24,14 @@ some_piece (Some (a ∷ more)) = true
 abbrev pub has_pieces : List (List ArcRef) → ArcRef → Bool
 has_pieces pieces a = some_piece (slice_get pieces a.arc)
 
+-- whether each used arc of a list has pieces
 abbrev pub all_have_pieces : List (List ArcRef) → List ArcRef → Bool
 all_have_pieces pieces used = list_all (has_pieces pieces) used
 
 abbrev pub same_ref : ArcRef → ArcRef → Bool
 same_ref = ref_eq.eq-value.it
 
+-- whether two lists of used arcs are equal
 abbrev pub same_refs : List ArcRef → List ArcRef → Bool
 same_refs = pointwise same_ref
 
@@ -55,6 +57,7 @@ listed_if b arcs used = cond b used (nowhere arcs)
 abbrev pub line_joined : List (List ArcRef) → RejoinedParts → List ArcRef → List ArcRef
 line_joined pieces r used = rejoined (starts_by r.pieces) 0 (replaced pieces used)
 
+-- the list of a ring by the healed arcs, before it is compared
 abbrev pub ring_joined : List (List ArcRef) → RejoinedParts → List ArcRef → List ArcRef
 ring_joined pieces r used = ring_rejoined position_cmp r.arcs.arcs (starts_by r.pieces) (replaced pieces used)
 
@@ -68,8 +71,10 @@ abbrev pub ring_healed : List (List ArcRef) → RejoinedParts → List ArcRef �
 ring_healed pieces r used =
     listed_if (all_have_pieces pieces used && same_refs (replaced r.pieces (ring_joined pieces r used)) (begun_as (replaced r.pieces (ring_joined pieces r used)) (replaced pieces used))) r.arcs.arcs (ring_joined pieces r used)
 
+-- a geometry by the healed arcs
 abbrev pub geometry_healed : List (List ArcRef) → RejoinedParts → Geom → Geom
 geometry_healed pieces r = geometry_rewritten (line_healed pieces r) (ring_healed pieces r)
 
+-- a layer by the healed arcs
 abbrev pub layer_healed : List (List ArcRef) → RejoinedParts → LayerParts → LayerParts
 layer_healed pieces r = layer_rewritten (line_healed pieces r) (ring_healed pieces r)

@@ -14,6 +14,7 @@ scope_of n name = if nat_eq n 0 then None else Some name
 abbrev pub edges_of : ℕ → Edges
 edges_of n = if nat_eq n 0 then All else (if nat_eq n 1 then Interior else Exterior)
 
+-- whether the id is none
 abbrev pub has_no_id : Id → Bool
 has_no_id id.None = true
 has_no_id (id.Number n) = false

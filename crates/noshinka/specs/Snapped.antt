@@ -33,6 +33,7 @@ abbrev pub numeral_of : List ℕ → List ℕ
 numeral_of [] = codes "0.000001"
 numeral_of (b ∷ bs) = b ∷ bs
 
+-- the text of a step, within its limits; no text is a millionth of a degree
 abbrev pub IsStep : List ℕ → Type 0
 IsStep step = IsSize (numeral_of step)
 

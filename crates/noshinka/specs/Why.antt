@@ -29,12 +29,14 @@ abbrev pub of_build : BuildFault → Refusal
 of_build (build.Text place f) = Text place f
 of_build build.OutOfMemory = OutOfMemory
 
+-- the fault of a merge, as a refusal
 abbrev pub of_merge : MergeFault → Refusal
 of_merge (merge.BadPlan k) = BadPlan k
 of_merge (merge.Text place f) = Text place f
 of_merge (merge.OtherGrid place) = OtherGrid place
 of_merge merge.OutOfMemory = OutOfMemory
 
+-- the fault of a question, as a refusal
 abbrev pub of_query : QueryFault → Refusal
 of_query query.NoLayer = NoLayer
 of_query query.OutOfMemory = OutOfMemory

@@ -1,4 +1,4 @@
-//! What differs between two lent topologies.
+//! What differs between two borrowed topologies.
 ghost use Rattle.noshinka.specs.Differing.{IsDiffRefusal, IsTopologiesRefusal};
 ghost use Rattle.std.specs.Prelude.{◌≤◌, ⊤, IfErr, IfOk};
 

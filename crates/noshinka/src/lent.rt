@@ -1,4 +1,4 @@
-//! What a caller lends for the time of a call.
+//! What a caller's texts and room are during a call.
 ghost use Rattle.built_text.specs.Maps.{borrowed_texts};
 ghost use Rattle.merging.specs.Merge.{bytes_of};
 ghost use Rattle.noshinka.specs.Lent.{grid_of, lent_sources, lent_texts};

@@ -1,4 +1,4 @@
-//! The library for C and for all that calls C. Each call is lent texts and a room for its answer. It keeps nothing, and
+//! The library for C and for all that calls C. Each call borrows texts and a room for its answer. It keeps nothing, and
 //! gives back all memory that it asks for. `c/noshinka.h` says what a caller owes.
 #![tactic(auto)]
 

@@ -1,4 +1,4 @@
-//! From lent texts to the texts of topologies.
+//! From borrowed texts to the texts of topologies.
 ghost use Rattle.built_text.specs.Maps.{IsTextOfTexts};
 ghost use Rattle.merging.specs.Merge.{IsMergeOf};
 ghost use Rattle.noshinka.specs.Answers.{IsRemoval, IsTextWithout};

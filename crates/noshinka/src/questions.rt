@@ -1,4 +1,4 @@
-//! Answers to questions about a lent topology.
+//! Answers to questions about a borrowed topology.
 ghost use Rattle.query.specs.Collections.{layer_collection};
 ghost use Rattle.noshinka.specs.Answers.{IsBordersText, IsFeatureText, IsListsText, IsMeshText, IsNeighborsAnswer};
 ghost use Rattle.noshinka.specs.Choices.{edges_of, scope_of};

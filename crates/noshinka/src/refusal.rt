@@ -28,7 +28,7 @@ pub(crate) enum Refusal {
     BadChoice,
     /// Ids are asked for, and a feature of the layer has none.
     NoId,
-    /// The text at this place is refused. The fault is never want of memory.
+    /// The text at this place is refused. The fault is never out of memory.
     Text(usize, Fault),
     /// The text at this place has another transform than text 0.
     OtherGrid(usize),

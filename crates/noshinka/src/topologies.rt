@@ -1,4 +1,4 @@
-//! Topologies of lent texts.
+//! Topologies of borrowed texts.
 ghost use Rattle.noshinka.specs.Answers.{IsCanonical, IsNotCanonical};
 ghost use Rattle.noshinka.specs.Ends.{Says};
 ghost use Rattle.noshinka.specs.Why.{IsTextRefusal};
@@ -21,7 +21,7 @@ pub(crate) fn topology_of(alloc: Global, place: usize, text: &[u8]) -> Result<To
     }
 }
 
-/// Whether a lent text is canonical.
+/// Whether a borrowed text is canonical.
 pub(crate) fn check(alloc: Global, text: &[u8]) -> Result<bool, Refusal>
     ensures said { IfOk result (Says (IsCanonical text.now) (IsNotCanonical text.now)) }
     ensures refused { IfErr result (IsTextRefusal 0 text.now) }

@@ -12,5 +12,6 @@ place_of v w = record { at = v.at; feature = unwrap_or (other_feature v.uses.now
 abbrev pub places_at : Vertex → Vertex → NearPlace × NearPlace
 places_at v w = (place_of v w, place_of w v)
 
+-- the places of both vertices of a pair
 abbrev pub places_of : Vertex × Vertex → NearPlace × NearPlace
 places_of p = places_at p.0 p.1

@@ -1,4 +1,4 @@
-//! Ids that are missing, and ids that stand more than once.
+//! Ids that are missing, and ids that occur more than once.
 ghost use Rattle.quality.specs.Ids.{count_of, ids_in, is_missing, numbers_of, one_if, stands_again, times};
 ghost use Rattle.shapes.specs.Order.{id_cmp};
 ghost use Rattle.shapes.specs.declared.shape.Id as ids;
@@ -27,7 +27,7 @@ fn note_id<'a>(counts: &mut BTreeMap<&'a Id, usize>, id: &'a Id) -> Result<(), A
     Ok(())
 }
 
-/// How many times each id stands among those of geometries.
+/// How many times each id occurs among those of geometries.
 fn count_ids(alloc: Global, geometries: &[Geom]) -> Result<BTreeMap<&Id, usize>, AllocError>
     ensures { IfOk result (λ m. (q : ids.Id) → times q m ≡ count_of q (ids_in geometries.now)) }
 {
@@ -70,8 +70,8 @@ pub fn without_id(alloc: Global, geometries: &[Geom]) -> Result<Vec<usize>, Allo
     Ok(numbers)
 }
 
-/// The numbers of the geometries of a layer whose id stands more than once there, ascending. In a topology's
-/// layer those of one id stand side by side.
+/// The numbers of the geometries of a layer whose id occurs more than once there, ascending. In a topology's
+/// layer those of one id are side by side.
 pub fn repeated_ids(alloc: Global, geometries: &[Geom]) -> Result<Vec<usize>, AllocError>
     ensures { IfOk result (λ v. v.items ≡ numbers_of (stands_again (ids_in geometries.now)) 0 (ids_in geometries.now)) }
 {

@@ -1,5 +1,5 @@
 //! Checks of a map's quality: vertices that lie near each other and are of different features, where a border
-//! was drawn twice and slivers come from, and ids that are missing or stand more than once.
+//! was drawn twice and slivers come from, and ids that are missing or occur more than once.
 #![tactic(auto)]
 
 mod ids;

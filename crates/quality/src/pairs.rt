@@ -53,7 +53,7 @@ fn count_behind<'a>(steps: u32, one: Vertex<'a>, behind: &[Vertex<'a>]) -> usize
 }
 
 /// How many pairs of vertices there are that lie at most so many grid steps apart in both directions, where one
-/// feature has only the one, and another only the other. It takes no memory. The vertices stand in the order of
+/// feature has only the one, and another only the other. It takes no memory. The vertices are in the order of
 /// positions, each position once.
 ///
 /// It takes n log n steps for a fixed distance, whatever the vertices are: at each vertex at most two searches by

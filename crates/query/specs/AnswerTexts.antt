@@ -11,25 +11,25 @@ use Rattle.shapes.specs.declared.shape.Id.TheVariants as id
 use Rattle.sinks.specs.Texts.{list_text}
 use Rattle.topo.specs.declared.geom.Geom.{Geom}
 
--- lines in order, each position by its absolute numbers
+-- lines in order, each position by its absolute numbers [RFC 7946, 3.1.5]
 abbrev pub mesh_text : Transform → List (List Pos) → List ℕ
 mesh_text t lines = geometry_text (list_text (line_text t) lines) (codes "MultiLineString")
 
--- lists of numbers, each in decimal
+-- lists of numbers, each in decimal [RFC 8259; topojson-client (neighbors)]
 abbrev pub neighbors_text : List (List ℕ) → List ℕ
 neighbors_text lists = list_text (list_text decimal) lists
 
--- an id as a JSON value, null where there is none
+-- an id as a JSON value, null where there is none [RFC 8259; own]
 abbrev pub id_value_text : Id → List ℕ
 id_value_text id.None = codes "null"
 id_value_text (id.Number n) = signed_decimal n
 id_value_text (id.Text s) = spelling_of (spelled_text s)
 
--- the id of a geometry, null where there is no geometry
+-- the id of a geometry, null where there is no geometry [RFC 8259; own]
 abbrev pub id_text_of : Option Geom → List ℕ
 id_text_of None = codes "null"
 id_text_of (Some g) = id_value_text g.id
 
--- lists of places of geometries, each as its id
+-- lists of places of geometries, each as its id [RFC 8259; own]
 abbrev pub neighbor_ids_text : List Geom → List (List ℕ) → List ℕ
 neighbor_ids_text gs lists = list_text (list_text (λ p. id_text_of (slice_get gs p))) lists

@@ -14,7 +14,7 @@ use Rattle.topo.specs.declared.geom.Body.{Body}
 use Rattle.topo.specs.declared.geom.Body.TheVariants as of
 use Rattle.topo.specs.declared.geom.Geom.{Geom}
 
--- the positions along used arcs
+-- the positions along used arcs [TopoJSON, 2.1.4; RFC 7946, 3.1]
 abbrev pub along : TopologyParts → List ArcRef → List Pos
 along t used = walked t.arcs.arcs used
 
@@ -32,13 +32,15 @@ turned_at g w (Some s) =
 abbrev pub places_round : TopologyParts → List ArcRef → List ℕ
 places_round t used = turned_at t.grid (along t used) (least_step (along t used))
 
+-- the text of a line along used arcs [TopoJSON, 2.1.4; RFC 7946, 3.1]
 abbrev pub line_along : TopologyParts → List ArcRef → List ℕ
 line_along t used = bracketed (places_along t used)
 
+-- the text of a ring along used arcs, begun at its least step and closed [TopoJSON, 2.1.4; RFC 7946, 3.1]
 abbrev pub ring_along : TopologyParts → List ArcRef → List ℕ
 ring_along t used = bracketed (places_round t used)
 
--- a geometry, or null
+-- a geometry, or null [RFC 7946, 3.1 and 3.2]
 abbrev pub body_text : TopologyParts → Body → List ℕ
 body_text t of.Null = codes "null"
 body_text t (of.Point p) = geometry_text (place_text t.grid p) (codes "Point")
@@ -48,6 +50,6 @@ body_text t (of.MultiLine ls) = geometry_text (list_text (line_along t) ls) (cod
 body_text t (of.Polygon rs) = geometry_text (list_text (ring_along t) rs) (codes "Polygon")
 body_text t (of.MultiPolygon ps) = geometry_text (list_text (list_text (ring_along t)) ps) (codes "MultiPolygon")
 
--- the feature of a geometry
+-- the feature of a geometry [RFC 7946, 3.1 and 3.2]
 abbrev pub geom_text : TopologyParts → Geom → List ℕ
 geom_text t g = feature_frame g.id (properties_text g.props) (body_text t g.body)

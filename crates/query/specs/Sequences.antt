@@ -22,6 +22,7 @@ abbrev pub entries_lines : Transform → List (List ℕ × Features) → List �
 entries_lines g [] = []
 entries_lines g (e ∷ es) = lines (feature_text g) (set.items e.1) ++ entries_lines g es
 
+-- the features of all layers of a map, by the names of these, a line each
 abbrev pub map_lines : Transform → Layers → List ℕ
 map_lines g m = entries_lines g (map.entries m)
 

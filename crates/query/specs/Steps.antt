@@ -7,6 +7,7 @@ use Rattle.lines.specs.Pairs.{position_eq}
 use Rattle.lines.specs.Turned.{position_cmp}
 use Rattle.query.specs.declared.layer_text.steps.Step.{Step}
 
+-- the step from x to y
 abbrev pub step : Pos → Pos → Step
 step x y = record { from = x; to = y }
 

@@ -26,7 +26,7 @@ fn geometries_in<'a>(alloc: Global, layers: &'a [Layer]) -> Result<Vec<&'a Geom>
     Ok(noted)
 }
 
-/// Sorts geometries, so that equal ones stand together, and keeps each once.
+/// Sorts geometries, so that equal ones are together, and keeps each once.
 fn keep_each_once(geometries: &mut Vec<&Geom>)
     ensures { AreEachOnce (lent geometries.old.items) (lent geometries.new.items) }
 {
@@ -34,7 +34,7 @@ fn keep_each_once(geometries: &mut Vec<&Geom>)
     geometries.dedup();
 }
 
-/// The geometries of the layers, each once. One feature may stand in several layers; its geometries
+/// The geometries of the layers, each once. One feature may be in several layers; its geometries
 /// there are equal, and those of two features are not.
 pub(crate) fn distinct_geometries<'a>(
     alloc: Global,

@@ -68,7 +68,7 @@ fn write_members<W: Sink>(
 
 /// Writes lists of places of a layer's geometries, as `neighbors` answers them, as a JSON object: for each geometry
 /// that has a list, in their order, a member under its id, a number's by its decimal text, with the ids of the
-/// geometries at those places. An id that stands twice gives two members of one name. It takes no memory.
+/// geometries at those places. An id that occurs twice gives two members of one name. It takes no memory.
 ///
 /// # Errors
 /// `Write` where the sink failed; it then took a beginning of the text.

@@ -1,4 +1,4 @@
-//! Which of the chosen arcs are maximal lines as they stand.
+//! Which of the chosen arcs are maximal lines as they are.
 ghost use Rattle.query.specs.Parting.{is_whole, whole_at, other_at, wholes, others};
 ghost use Rattle.std.specs.Prelude.{◌≡◌, ◌++◌, IfOk, OnOk, map};
 
@@ -7,7 +7,7 @@ use grid::pos::Pos;
 use std::alloc::{AllocError, Global};
 use std::collections::BTreeSet;
 
-/// Arcs that are maximal lines as they stand, and the numbers of the others.
+/// Arcs that are maximal lines as they are, and the numbers of the others.
 #[derive(Drop)]
 pub(crate) struct Parts {
     pub(crate) whole: Vec<Vec<Pos>>,

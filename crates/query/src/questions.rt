@@ -1,5 +1,5 @@
 //! Questions that are asked of a layer, each in a file of its name. A function's name is not that of
-//! a module beside it, so these files stand in a module of their own.
+//! a module beside it, so these files are in a module of their own.
 pub(crate) mod borders;
 pub(crate) mod borders_by;
 pub(crate) mod feature;

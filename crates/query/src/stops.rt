@@ -93,7 +93,7 @@ fn note_stop(stops: &mut BTreeSet<Pos>, vertex: Pos, sides: Sides) -> Result<(),
     Ok(())
 }
 
-/// The vertices of ends, which stand vertex by vertex, that do not lie on two segments.
+/// The vertices of ends, which are vertex by vertex, that do not lie on two segments.
 fn stops_by(alloc: Global, ends: &[End]) -> Result<BTreeSet<Pos>, AllocError>
     ensures { IfOk result (λ s. StandByVertex vertex_of ends.now → AreJudged ends.now s.keys) }
 {

@@ -15,7 +15,7 @@ use Rattle.shapes.specs.Ids.{HasI64}
 use Rattle.shapes.specs.declared.shape.Id.{Id}
 use Rattle.reading.specs.Plain.{PlainId, none, number as whole, text, plain_id}
 
--- an id is null, a whole number or a text
+-- an id is null, a whole number or a text [RFC 7946, 3.2; own]
 abbrev pub id_faults : Data → List Pair
 id_faults null = []
 id_faults (boolean b) = here WrongKind
@@ -32,7 +32,7 @@ number_in_faults d = if has_float d then here PropertyNumber else []
 abbrev pub depth_faults : Data → List Pair
 depth_faults d = if not (nat_le (depth d) GREATEST_PROPERTY_DEPTH) then here PropertyDepth else []
 
--- properties are null or an object
+-- properties are null or an object [RFC 7946, 3.2; own]
 abbrev pub properties_faults : Data → List Pair
 properties_faults null = []
 properties_faults (boolean b) = here WrongKind
@@ -41,7 +41,7 @@ properties_faults (string s) = here WrongKind
 properties_faults (array ds) = here WrongKind
 properties_faults (object ms) = number_in_faults (object ms) ++ depth_faults (object ms)
 
--- the id and the properties of an object
+-- the id and the properties of an object [RFC 7946, 3.2; own]
 abbrev pub info_faults : Data → List Pair
 info_faults d = option_faults (codes "id") id_faults d ++ option_faults (codes "properties") properties_faults d
 
@@ -51,6 +51,7 @@ info_faults d = option_faults (codes "id") id_faults d ++ option_faults (codes "
 abbrev pub member_or_null : List ℕ → Data → Data
 member_or_null n d = unwrap_or (get n d) null
 
+-- the id that a value means: none, a whole number or a text [RFC 7946, 3.2; own]
 abbrev pub id_of : Data → PlainId
 id_of null = none
 id_of (boolean b) = none
@@ -64,12 +65,13 @@ pub record IsIdOf (d : Data) (i : Id) : Type 0 where
   pub means : plain_id i ≡ id_of d
   pub bits : HasI64 i
 
--- the compact text of properties, where null is the empty object
+-- the compact text of properties, where null is the empty object [RFC 7946, 3.2; own]
 abbrev pub properties_of : Data → List ℕ
 properties_of d = if is_some (as_null d) then codes "{}" else compact_text d
 
 -- ---- the faults that `Props::from_value` tells
 
+-- the kind of error that a fault of properties is
 abbrev pub properties_kind : props.PropFault → FaultKind
 properties_kind of.WrongKind = WrongKind
 properties_kind of.PropertyNumber = PropertyNumber

@@ -34,6 +34,7 @@ abbrev pub two_faults : (Data → List Pair) → (Data → List Pair) → List D
 two_faults first second (x ∷ y ∷ []) = under (index 0) (first x) ++ under (index 1) (second y)
 two_faults first second _ = here NotTwo
 
+-- the faults of an array of exactly two elements, each with faults of its own
 abbrev pub pair_faults : (Data → List Pair) → (Data → List Pair) → Data → List Pair
 pair_faults first second d = array_faults (two_faults first second) (as_array d)
 
@@ -47,6 +48,7 @@ elements d = elements_of (as_array d)
 
 -- ---- members
 
+-- the faults of a member's value; `Missing` where there is no such member
 abbrev pub there : (Data → List Pair) → Option Data → List Pair
 there of None = here Missing
 there of (Some d) = of d

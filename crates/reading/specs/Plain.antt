@@ -26,11 +26,13 @@ pub record Plain : Type 0 where
   pub properties : List ℕ
   pub form : PlainForm
 
+-- an id as plain data
 abbrev pub plain_id : ids.Id → PlainId
 plain_id id.None = none
 plain_id (id.Number n) = number n
 plain_id (id.Text s) = text (spelled_text s)
 
+-- a shape as plain data
 abbrev pub plain_form : shapes.Shape → PlainForm
 plain_form shape.Null = null
 plain_form (shape.Point p) = point p

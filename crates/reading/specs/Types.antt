@@ -8,7 +8,7 @@ use Rattle.reading.specs.Parts.{named, type_text}
 use Rattle.reading.specs.declared.geometry.GeometryType.{GeometryType}
 use Rattle.reading.specs.declared.geometry.GeometryType.TheVariants.{Point, MultiPoint, LineString, MultiLineString, Polygon, MultiPolygon}
 
--- the geometry type of that name
+-- the geometry type of that name [RFC 7946, 1.4]
 abbrev pub geometry_named : List ℕ → Result GeometryType FaultKind
 geometry_named s =
     if bytes_eq s (codes "Point") then Ok Point
@@ -18,6 +18,6 @@ geometry_named s =
     else (if bytes_eq s (codes "Polygon") then Ok Polygon
     else (if bytes_eq s (codes "MultiPolygon") then Ok MultiPolygon else Err UnknownType)))))
 
--- the geometry type that an object's member `type` names
+-- the geometry type that an object's member `type` names [RFC 7946, 1.4]
 abbrev pub geometry_type : Data → Result GeometryType FaultKind
 geometry_type d = named geometry_named (type_text d)

@@ -1,9 +1,9 @@
 //! What the readers of GeoJSON and of topologies share: values of JSON read part by part.
 //!
 //! A part of a text is given by the set of its faults and by what it means. Readers stop at the
-//! first fault that they meet. As each judges an object's `type` first, then the other members in
+//! first fault that they meet. As each validates an object's `type` first, then the other members in
 //! the byte order of their names, elements by index, and a whole list after its elements, that is
-//! the least fault: by path, then by number.
+//! the first error: by path, then by number.
 #![tactic(auto)]
 
 pub mod document;

@@ -24,7 +24,7 @@ pub trait Part {
 
     ghost means: { Self → Data → Self.Made → Type 0 };
 
-    /// What the value means, or the least of its faults, with its path from this value.
+    /// What the value means, or its first error, with its path from this value.
     fn read(&self, alloc: Global, value: &Value) -> Result<Self::Made, Fault>
         ensures ok { IfOk result
             (λ x. (faults self.now (view value.now) ≡ []) × means self.now (view value.now) x) }
@@ -159,7 +159,7 @@ pub fn read_option<P: Part>(
     }
 }
 
-/// A member that has to be there; a missing one is told at its own path.
+/// A member that has to be there; a missing one is reported at its own path.
 pub fn read_member<P: Part>(
     alloc: Global,
     part: &P,

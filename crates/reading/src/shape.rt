@@ -21,7 +21,7 @@ use shapes::shape::Shape;
 use std::alloc::Global;
 use std::marker::PhantomData;
 
-/// How a text tells positions: one by one, and in the lists that lines and rings are read from.
+/// How a text gives positions: one by one, and in the lists that lines and rings are read from.
 pub trait Positions: Copy {
     ghost position_faults: { Self → Data → List Pair };
 

@@ -17,6 +17,7 @@ abbrev pub AreEnds : ℕ → List ℕ → ℕ → Type 0
 AreEnds n [] end = n ≤ end
 AreEnds n (e ∷ es) end = (n ≤ e) × AreEnds e es end
 
+-- places of which none comes before the one in front of it, and none past the end
 abbrev pub AreBounds : List ℕ → ℕ → Type 0
 AreBounds [] end = Unit {0}
 AreBounds (b ∷ bs) end = AreEnds b bs end

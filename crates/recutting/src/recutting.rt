@@ -43,7 +43,7 @@ fn add_table(
 }
 
 /// The arcs of two tables, each that of a map, cut again under the junctions of both maps together.
-/// The junctions are known from the tables alone. Both tables are handed over: the positions of arcs
+/// The junctions are known from the tables alone. Both tables are passed by value: the positions of arcs
 /// that are not cut are moved.
 ///
 /// # Errors

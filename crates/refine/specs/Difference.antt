@@ -23,6 +23,7 @@ by_lists r g h = geometry_cmp r.arcs.arcs (cut_again r g) h
 abbrev pub HaveRecut : RecutParts → List Geom → Type 0
 HaveRecut r gs = AllByRecursion (λ g. HasFeature r.arcs.arcs (cut_again r g)) gs
 
+-- each geometry of each layer stitches to a feature by the arcs of both
 abbrev pub LayersHaveRecut : RecutParts → List LayerParts → Type 0
 LayersHaveRecut r ls = AllByRecursion (λ l. HaveRecut r l.geometries) ls
 

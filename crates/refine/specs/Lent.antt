@@ -7,5 +7,6 @@ use Rattle.refine.specs.declared.remove.LayerLeft.{LayerLeft}
 abbrev pub lent : LayerLeft → LayerParts
 lent l = record { name = l.name.now; geometries = map_list (λ g. g.now) l.geometries.items }
 
+-- what a removal borrows of each layer, as its parts
 abbrev pub all_lent : List LayerLeft → List LayerParts
 all_lent ls = map_list lent ls

@@ -10,6 +10,7 @@ use Rattle.shapes.specs.contracts.feature.Feature as feature
 use Rattle.topo.specs.OfMap.{IsOf}
 use Rattle.topo.specs.Parts.{TopologyParts}
 
+-- a map and a grid: what callers see of a shard that keeps a topology
 pub record MapOnGrid : Type 0 where
   pub grid : Transform
   pub map : Layers
@@ -22,6 +23,7 @@ grid_code =
     code_by Numbers (coded× (coded× coded_ℤ coded_ℤ) (coded× coded_ℤ coded_ℤ)) (λ g. ((g.x.scale, g.x.translate), (g.y.scale, g.y.translate)))
     (λ n. record { x = record { scale = n.0.0; translate = n.0.1 }; y = record { scale = n.1.0; translate = n.1.1 } }) (λ _. refl)
 
+-- a map on a grid, coded by its grid and its map
 abbrev pub map_on_grid_code : Coded MapOnGrid
 map_on_grid_code =
     code_by (Transform × Layers) (coded× grid_code (map.code (coded_list coded_ℕ) (set.code feature.the_row.coded))) (λ s. (s.grid, s.map))

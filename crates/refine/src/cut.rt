@@ -81,7 +81,7 @@ fn put_rest<T: Drop>(items: VecDeque<T>, list: &mut Vec<T>) -> Result<(), OutOfM
     Ok(())
 }
 
-/// How a geometry stands to the first of the others that are left.
+/// How a geometry compares with the first of the others that are left.
 pub(crate) fn order_to_first_geometry(
     alloc: Global,
     arcs: &ArcTable,
@@ -105,7 +105,7 @@ pub(crate) fn order_to_first_geometry(
     }
 }
 
-/// Moves the geometries that stand before one from the others to a list, and drops one that ties
+/// Moves the geometries that come before one from the others to a list, and drops one that ties
 /// with it.
 fn put_before(
     alloc: Global,
@@ -166,7 +166,7 @@ fn layer_order(layer: &Layer, other: &Layer) -> Ordering
     layer.name().cmp(other.name())
 }
 
-/// How a layer stands to the first of the others by name.
+/// How a layer compares with the first of the others by name.
 fn order_to_first(layer: &Layer, others: &VecDeque<Layer>) -> Option<Ordering>
     ensures { result ≡ to_first layer_cmp layer.now others.now.items }
 {
@@ -176,7 +176,7 @@ fn order_to_first(layer: &Layer, others: &VecDeque<Layer>) -> Option<Ordering>
     }
 }
 
-/// Moves the layers that stand before one from the others to a list, and takes the one of its name.
+/// Moves the layers that come before one from the others to a list, and takes the one of its name.
 pub(crate) fn put_layers_before(
     layer: &Layer,
     others: &mut VecDeque<Layer>,
@@ -242,7 +242,7 @@ fn layers_of_both(
     Ok(merged)
 }
 
-/// The topology of the features of both on the left grid. Both are handed over: their geometries
+/// The topology of the features of both on the left grid. Both are passed by value: their geometries
 /// and the arcs that are not cut are moved.
 fn unite(alloc: Global, left: Topology, right: Topology) -> Result<Topology, OutOfMemory>
     ensures grid { IfOk result (λ t. t.grid ≡ left.grid) }
@@ -347,7 +347,7 @@ pub(crate) fn join_shards(alloc: Global, left: &Cut, right: &Cut) -> Result<Cut,
     Ok(Cut::of_topology(topology))
 }
 
-/// The shard of the features of both, which are handed over: geometries and the arcs that are not
+/// The shard of the features of both, which are passed by value: geometries and the arcs that are not
 /// cut are moved.
 ///
 /// # Errors

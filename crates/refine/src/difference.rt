@@ -1,6 +1,6 @@
 //! Taking the features of one topology out of another. The arcs of both are cut again under the junctions of
 //! both together; by those arcs two features are equal exactly where their ids, properties and lists of arcs
-//! are, so the lists tell which geometries stay, and no feature is stitched.
+//! are, so the lists say which geometries stay, and no feature is stitched.
 ghost use Rattle.geometry_order.specs.Noded.{AreNoded};
 ghost use Rattle.geometry_order.specs.Noted.{IsNotedFor};
 ghost use Rattle.layer_laws.specs.Leaving.{from_on, is_first, layer_less, others};
@@ -24,7 +24,7 @@ use std::cmp::Ordering;
 use std::collections::VecDeque;
 use topo::{Geom, Layer, Topology};
 
-/// Drops the others that stand before a geometry by the same arcs, and answers whether it is one of them.
+/// Drops the others that come before a geometry by the same arcs, and answers whether it is one of them.
 fn is_first_left(
     alloc: Global,
     arcs: &ArcTable,

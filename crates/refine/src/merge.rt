@@ -19,7 +19,7 @@ use topo::Topology;
 ///
 /// # Errors
 /// `BadPlan` with the first leaf from the left that is no place of the list; otherwise `Text` with
-/// the first text of the list that is refused, and its least fault; otherwise `OtherGrid` with the
+/// the first text of the list that is refused, and its first error; otherwise `OtherGrid` with the
 /// first text whose transform differs from that of text 0. All texts are read, also those that the
 /// plan does not name.
 pub fn merge_texts(alloc: Global, texts: &[Vec<u8>], plan: &Plan) -> Result<Vec<u8>, MergeFault>
@@ -36,7 +36,7 @@ pub fn merge_texts(alloc: Global, texts: &[Vec<u8>], plan: &Plan) -> Result<Vec<
 /// once it is read.
 ///
 /// # Errors
-/// `Text` with the first text of the list that is refused, and its least fault; otherwise `OtherGrid` with the first text
+/// `Text` with the first text of the list that is refused, and its first error; otherwise `OtherGrid` with the first text
 /// whose transform differs from that of text 0.
 pub fn merge_topologies(alloc: Global, texts: Vec<Vec<u8>>) -> Result<Option<Topology>, MergeFault>
     ensures fault { IfErr result (IsMergeFault (bytes_of texts.items) (all_places texts.items)) }

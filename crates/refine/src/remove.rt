@@ -1,5 +1,5 @@
 //! Taking features out of a topology: the geometries that stay keep their arcs, which are joined again
-//! where no junction is left. A geometry is told by its id and properties and by a walk along its arcs.
+//! where no junction is left. A geometry is known by its id and properties and by a walk along its arcs.
 ghost use Rattle.layer_laws.specs.Leaving.{from_on, is_first, layer_less, order_to, others};
 ghost use Rattle.layer_laws.specs.LeftLists as left_lists;
 ghost use Rattle.layer_laws.specs.LeftLists.{layers_refs, marked_by};
@@ -122,7 +122,7 @@ fn order_of(
     Ok(stitched)
 }
 
-/// Passes over the features that stand before a geometry's, and answers whether that is the next.
+/// Passes over the features that come before a geometry's, and answers whether that is the next.
 fn is_next(
     alloc: Global,
     topology: &Topology,

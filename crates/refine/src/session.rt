@@ -84,7 +84,7 @@ impl Session {
     }
 
     /// Edits the topology in the order of the edits, up to the first that is refused. The edits before
-    /// it stand.
+    /// it stay.
     ///
     /// # Errors
     /// The place of the first edit that is refused, and why.

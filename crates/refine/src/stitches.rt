@@ -80,7 +80,7 @@ fn goes_round(topology: &Topology, used: &[ArcRef], vertices: &[Pos], place: usi
     goes_along(topology, used, &vertices[place..], &vertices[..place + 1])
 }
 
-/// Looks for the place of the ring at which the used arcs begin. No step stands twice round a ring, so
+/// Looks for the place of the ring at which the used arcs begin. No step occurs twice round a ring, so
 /// but for one place the walk parts from the ring at its first or second position.
 fn ring_stitches(topology: &Topology, used: &[ArcRef], ring: &Ring) -> bool
     requires { (r : the_ring.Ring) × IsRingOf topology.now.arcs.arcs r used.now }

@@ -37,6 +37,7 @@ least_vertex_from place least i [] = place
 least_vertex_from place least i (p ∷ l) =
     least_vertex_from (cond (is_lt (position_cmp p least)) i place) (cond (is_lt (position_cmp p least)) p least) (i + 1) l
 
+-- the place of the first least vertex of a list
 abbrev pub least_vertex : List Pos → ℕ
 least_vertex [] = 0
 least_vertex (p ∷ l) = least_vertex_from 0 p 1 l
@@ -72,6 +73,8 @@ whole_arc round [] = None
 whole_arc round (a ∷ []) = cond (round || a.reversed) None (Some a.arc)
 whole_arc round (a ∷ (b ∷ more)) = None
 
+-- the new arc of a run that is open, or goes round: its chain in its least direction, and whether the run goes
+-- against it
 abbrev pub piece_by : List (List Pos) → Bool → List ArcRef → Piece
 piece_by arcs round run = record {
   chain = least_direction (chain_by arcs round run);
@@ -79,9 +82,11 @@ piece_by arcs round run = record {
   free = round;
 }
 
+-- the new arc of a run of old ones, as a piece
 abbrev pub piece_of_run : List (List Pos) → (ArcRef → Option ArcRef) → List ArcRef → Piece
 piece_of_run arcs partner run = piece_by arcs (goes_round partner run) run
 
+-- the old arcs of a run in order along its new arc; those of a loop begin where they start least
 abbrev pub list_of_run : List (List Pos) → (ArcRef → Option ArcRef) → List ArcRef → List ArcRef
 list_of_run arcs partner run = list_by arcs (goes_round partner run) (directed (is_backwards_less (chain_by arcs (goes_round partner run) run)) run)
 

@@ -23,6 +23,7 @@ begin_at arcs a = first_if (along arcs a)
 abbrev pub use_of : Bool → ℕ → ArcRef
 use_of r k = record { arc = k; reversed = r }
 
+-- the used arc of an end
 abbrev pub used_at : End → ArcRef
 used_at e = record { arc = e.arc; reversed = e.reversed }
 
@@ -30,6 +31,7 @@ used_at e = record { arc = e.arc; reversed = e.reversed }
 abbrev pub end_at : Pos → ArcRef → End
 end_at v a = record { vertex = v; arc = a.arc; reversed = a.reversed }
 
+-- the end of a used arc at its first vertex, where there is one
 abbrev pub end_if : Option Pos → ArcRef → List End
 end_if None a = []
 end_if (Some v) a = end_at v a ∷ []

@@ -32,7 +32,7 @@ fn along(alloc: Global, arcs: &ArcTable, used: &ArcRef) -> Result<Vec<Pos>, Allo
     Ok(positions)
 }
 
-/// What a run runs along; the position at which two of its arcs meet stands once.
+/// What a run runs along; the position at which two of its arcs meet occurs once.
 fn chain_of(alloc: Global, arcs: &ArcTable, run: &[ArcRef]) -> Result<Vec<Pos>, AllocError>
     ensures { IfOk result (λ v. v.items ≡ run_along arcs.now.arcs run.now) }
 {

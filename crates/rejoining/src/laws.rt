@@ -7,13 +7,13 @@ pub fn one_pieces()
     ensures { OnePieces }
 {}
 
-/// An old arc that has a segment of what is left stands at one place of one list of pieces, and all its
+/// An old arc that has a segment of what is left is at one place of one list of pieces, and all its
 /// segments stay.
 pub fn kept_stand_once()
     ensures { KeptStandOnce }
 {}
 
-/// An old arc that has no segment of what is left stands in no list of pieces.
+/// An old arc that has no segment of what is left is in no list of pieces.
 pub fn others_stand_nowhere()
     ensures { OthersStandNowhere }
 {}

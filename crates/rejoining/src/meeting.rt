@@ -105,7 +105,7 @@ fn add_ends(
 }
 
 /// The ends of the arcs of these numbers. The first ends of arcs in their order are sorted already, so
-/// they stand before the last ones, and a sort that looks for runs finds one of them.
+/// they come before the last ones, and a sort that looks for runs finds one of them.
 fn ends_of(alloc: Global, arcs: &ArcTable, chosen: &[usize]) -> Result<Vec<End>, AllocError>
     ensures { IfOk result (λ v. v.items ≡ all_ends arcs.now.arcs chosen.now) }
 {

@@ -1,4 +1,4 @@
-//! Joining the arcs that are left of a table. Only the ends of arcs are looked at: they tell which arc
+//! Joining the arcs that are left of a table. Only the ends of arcs are looked at: they say which arc
 //! goes on from another, and walks along these give the runs that the new arcs are joined of.
 ghost use Rattle.grid.specs.declared.pos.Pos.{Pos};
 ghost use Rattle.rejoining.specs.Rejoining.{IsLeftBy, IsRejoinedOf};
@@ -16,7 +16,7 @@ use grid::pos::Pos;
 use std::alloc::Global;
 
 /// The arcs that are left of a table when some are taken out: those that stay, joined where no
-/// junction is left. `kept` tells of each old arc whether it is used by what is left, and `ends` has
+/// junction is left. `kept` says of each old arc whether it is used by what is left, and `ends` has
 /// the vertices at which a line that is left begins or ends.
 ///
 /// # Errors

@@ -98,5 +98,6 @@ transform_data t = object (member (codes "scale") (pair_data t.x.scale t.y.scale
 abbrev pub after_box : Seen → Members
 after_box t = member (codes "objects") (object (layers_data t.layers)) (member (codes "transform") (transform_data t.grid) (member (codes "type") (string (codes "Topology")) no_members))
 
+-- the JSON value of a topology, whose compact text is its canonical text [TopoJSON, 2 and 3]
 abbrev pub topology_data : Seen → Data
 topology_data t = object (member (codes "arcs") (list_data arc_data t.arcs) (given (codes "bbox") (option_map box_data t.bbox) (after_box t)))

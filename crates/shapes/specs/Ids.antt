@@ -19,6 +19,7 @@ pub IsI64-prop : (z : ℤ) → IsProp (IsI64 z)
 IsI64-prop (pos n) = Prim.hlevel props
 IsI64-prop (negsuc n) = Prim.hlevel props
 
+-- two proofs that an id's number is one of i64 are equal
 pub HasI64-prop : (i : Id) → IsProp (HasI64 i)
 HasI64-prop None = Prim.hlevel props
 HasI64-prop (Number n) = IsI64-prop n

@@ -49,5 +49,6 @@ shape_cmp (Polygon ps) (Polygon qs) = slice_cmp ring_cmp ps qs
 shape_cmp (MultiPolygon ps) (MultiPolygon qs) = slice_cmp (slice_cmp ring_cmp) ps qs
 shape_cmp a b = nat_cmp (shape_rank a) (shape_rank b)
 
+-- features by id, then by the bytes of the properties' text, then by shape
 unfoldable pub feature_cmp : Feature → Feature → Ordering
 feature_cmp a b = ordering_then (id_cmp a.id b.id) (ordering_then (slice_cmp nat_cmp a.props.text b.props.text) (shape_cmp a.shape b.shape))

@@ -114,10 +114,12 @@ shape_cmp_total =
     (then_total (on_total lines_in (lists_total (on_total (λ (l : the_line.Line). l.positions) (lists_total position_total))))
     (on_total polygons_in (lists_total (lists_total ring_total))))))
 
+-- the order of features is total
 pub feature_cmp_total : IsTotalOrder feature_cmp
 unfolding feature_cmp
 feature_cmp_total = then_total (on_total (λ f. f.id) id_cmp_total) (then_total (on_total (λ f. f.props.text) nat_list_cmp_total) (on_total (λ f. f.shape) shape_cmp_total))
 
+-- lists of positions that tie are equal
 pub same_list : IsAntisymmetric list_cmp
 same_list = slice_cmp-IsAntisymmetric position_same
 

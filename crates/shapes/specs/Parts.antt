@@ -3,7 +3,7 @@ use Rattle.std.specs.Prelude.{ℕ, List}
 use Rattle.shapes.specs.declared.spelled.Spelled.{Spelled}
 use Rattle.shapes.specs.declared.props.Props.{Props}
 
--- the UTF-8 bytes of the text
+-- the UTF-8 bytes of the text [RFC 8259]
 abbrev pub spelled_text : Spelled → List ℕ
 spelled_text s = s.text
 

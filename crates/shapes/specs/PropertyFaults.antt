@@ -8,6 +8,7 @@ use Rattle.shapes.specs.declared.props.PropFault.{PropFault}
 use Rattle.shapes.specs.declared.props.PropFault.TheVariants.{WrongKind, PropertyNumber, PropertyDepth}
 
 -- first that it is no object, then a number that is neither i64 nor u64, then containers that nest too deep
+-- [RFC 7946, 3.2; limits own]
 abbrev pub property_fault : Data → Option PropFault
 property_fault d =
     if not (is_some (as_object d)) then Some WrongKind

@@ -10,7 +10,7 @@ use std::alloc::Global;
 
 /// A value that can be copied; its memory comes from the allocator.
 pub trait CopyIn: Sized + Drop {
-    /// An equal value, or want of memory.
+    /// An equal value, or out of memory.
     fn copy_in(&self, alloc: Global) -> Result<Self, OutOfMemory>
         ensures { IfOk result (λ x. x ≡ self.now) };
 }

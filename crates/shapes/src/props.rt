@@ -94,7 +94,7 @@ impl Props {
         self.text.as_str()
     }
 
-    /// Equal properties, or want of memory.
+    /// Equal properties, or out of memory.
     pub fn copy(&self, alloc: Global) -> Result<Props, OutOfMemory>
         ensures { IfOk result (λ p. p ≡ self.now) }
     {

@@ -22,7 +22,7 @@ pub enum Id {
 impl Id {
     ghost use Rattle.std.specs.Prelude.{◌≡◌, IfOk};
 
-    /// An equal id, or want of memory.
+    /// An equal id, or out of memory.
     pub fn copy(&self, alloc: Global) -> Result<Id, OutOfMemory>
         ensures { IfOk result (λ id. id ≡ self.now) }
     {
@@ -52,7 +52,7 @@ impl Shape {
     ghost use Rattle.shapes.specs.Fitting.{ShapeFits};
     ghost use Rattle.std.specs.Prelude.{◌≡◌, ◌↔◌, IfOk, IsTrue};
 
-    /// An equal shape, or want of memory.
+    /// An equal shape, or out of memory.
     pub fn copy(&self, alloc: Global) -> Result<Shape, OutOfMemory>
         ensures { IfOk result (λ shape. shape ≡ self.now) }
     {

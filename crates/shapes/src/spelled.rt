@@ -25,7 +25,7 @@ impl Spelled {
     ghost use Rattle.shapes.specs.Parts.{spelled_text};
     ghost use Rattle.std.specs.Prelude.{IfOk};
 
-    /// The text with its spelling, or want of memory.
+    /// The text with its spelling, or out of memory.
     pub fn new(alloc: Global, text: &str) -> Result<Spelled, OutOfMemory>
         ensures { IfOk result (λ s. spelled_text s ≡ text.now) }
     {
@@ -49,7 +49,7 @@ impl Spelled {
         self.json.as_str()
     }
 
-    /// An equal text with its spelling, or want of memory.
+    /// An equal text with its spelling, or out of memory.
     pub fn copy(&self, alloc: Global) -> Result<Spelled, OutOfMemory>
         ensures { IfOk result (λ s. s ≡ self.now) }
     {

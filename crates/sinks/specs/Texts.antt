@@ -2,7 +2,7 @@
 use Rattle.std.specs.Prelude.{ℕ, ℤ, List, [], ◌∷◌, ◌++◌, codes, Option, Some, None}
 use Rattle.std.specs.Fmt.{signed_decimal}
 
--- nothing, or the text of the value
+-- nothing, or the text of the value [RFC 8259]
 abbrev pub option_text : {T : Type 0} → (T → List ℕ) → Option T → List ℕ
 option_text f None = []
 option_text f (Some x) = f x
@@ -16,7 +16,7 @@ abbrev pub after_commas : {T : Type 0} → (T → List ℕ) → List T → List 
 after_commas f [] = []
 after_commas f (x ∷ xs) = after_comma f x ++ after_commas f xs
 
--- the texts in order, with commas between them
+-- the texts in order, with commas between them [RFC 8259]
 abbrev pub joined : {T : Type 0} → (T → List ℕ) → List T → List ℕ
 joined f [] = []
 joined f (x ∷ xs) = f x ++ after_commas f xs
@@ -26,18 +26,18 @@ abbrev pub separator : {T : Type 0} → List T → List ℕ
 separator [] = []
 separator (x ∷ xs) = codes ","
 
--- a text in brackets
+-- a text in brackets [RFC 8259]
 abbrev pub bracketed : List ℕ → List ℕ
 bracketed t = codes "[" ++ (t ++ codes "]")
 
--- the texts in brackets, with commas between them
+-- the texts in brackets, with commas between them [RFC 8259]
 abbrev pub list_text : {T : Type 0} → (T → List ℕ) → List T → List ℕ
 list_text f xs = bracketed (joined f xs)
 
--- the texts with commas between them, behind a head and before a tail
+-- the texts with commas between them, behind a head and before a tail [RFC 8259]
 abbrev pub framed : {T : Type 0} → (T → List ℕ) → List ℕ → List T → List ℕ → List ℕ
 framed f head xs tail = head ++ (joined f xs ++ tail)
 
--- two numbers in brackets
+-- two numbers in brackets [RFC 8259]
 abbrev pub pair_text : ℤ → ℤ → List ℕ
 pair_text x y = bracketed (signed_decimal x ++ (codes "," ++ signed_decimal y))

@@ -10,7 +10,7 @@ use std::alloc::{AllocError, Global};
 use std::io::Write;
 
 /// A sink over any writer of std, which holds what it takes until its room is full or it is flushed.
-/// It counts its failures and does not tell its bytes. What it still holds when it is dropped is lost.
+/// It counts its failures and does not show its bytes. What it still holds when it is dropped is lost.
 #[derive(Drop)]
 pub struct Buffered<W> {
     writer: W,

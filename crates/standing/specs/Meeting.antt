@@ -14,7 +14,7 @@ from_to None e = []
 from_to (Some s) None = []
 from_to (Some s) (Some e) = s.0 ∷ (e.1 ∷ [])
 
--- where a list of used arcs begins and ends
+-- where a list of used arcs begins and ends [TopoJSON, 2.1.4]
 abbrev pub line_ends : List (List Pos) → List ArcRef → List Pos
 line_ends arcs [] = []
 line_ends arcs (a ∷ refs) = from_to (ends_along arcs a) (ends_along arcs (last_of a refs))

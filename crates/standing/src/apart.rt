@@ -40,7 +40,7 @@ fn each_forward(arcs: &[Items<Pos>]) -> bool
 }
 
 /// Whether arcs are in order: each before the next, so that each is there once, and before its own
-/// reverse. It is told by their ends alone where no two begin or end alike, and takes no memory.
+/// reverse. Their ends alone decide it where no two begin or end alike, and takes no memory.
 pub fn arcs_in_order(arcs: &[Items<Pos>]) -> bool
     ensures { (result ≡ true) ↔ AreInOrder arcs.now }
 {

@@ -1,4 +1,4 @@
-//! The vertices inside arcs that may stand at another place of the arcs, too. Bits tell of most that they
+//! The vertices inside arcs that may be at another place of the arcs, too. Bits show of most that they
 //! don't, so that little is left to sort.
 ghost use Rattle.lines.specs.Bits.{may_hold};
 ghost use Rattle.standing.specs.Elsewhere.{HasTwice, KeepsElsewhere};
@@ -14,7 +14,7 @@ use std::alloc::{AllocError, Global};
 /// How many vertices share a word of the bits of those that were met.
 const MET_EACH: usize = 4;
 
-/// Vertices among which is each that stands at two places of a list, and few others.
+/// Vertices among which is each that is at two places of a list, and few others.
 fn come_again(alloc: Global, vertices: &[Pos]) -> Result<Vec<Pos>, AllocError>
     ensures { IfOk result (λ v. HasTwice v.items vertices.now) }
 {
@@ -43,7 +43,7 @@ fn kept(alloc: Global, vertices: &[Pos], bits: &PositionBits) -> Result<Vec<Pos>
     Ok(kept)
 }
 
-/// Of the vertices inside the arcs of a table those that stand at two places there, those at which an
+/// Of the vertices inside the arcs of a table those that are at two places there, those at which an
 /// arc of the table ends, and few others.
 pub(crate) fn elsewhere_too(
     alloc: Global,

@@ -1,4 +1,4 @@
-//! Laws of arcs and lists that stand, each promised by a function that does nothing.
+//! Laws of valid arcs and lists, each promised by a function that does nothing.
 ghost use Rattle.standing.specs.Apart.{ApartArcsAreTheirMaps};
 ghost use Rattle.standing.specs.Stands as law;
 
@@ -8,7 +8,7 @@ pub fn apart_arcs_are_their_maps()
     ensures { ApartArcsAreTheirMaps }
 {}
 
-/// Lists that stand over arcs that are apart stitch to the lines and rings of a map.
+/// Valid lists over arcs that are apart stitch to the lines and rings of a map.
 #[tactic(auto, using(crate::proofs::Together::lists_make_a_map))]
 pub fn lists_make_a_map()
     ensures { law.ListsMakeAMap }

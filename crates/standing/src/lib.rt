@@ -1,4 +1,4 @@
-//! Topologies taken as they stand: what is checked of arcs and of lists of arcs, so that the arcs are
+//! Topologies taken as they are: what is checked of arcs and of lists of arcs, so that the arcs are
 //! those of the map that they make.
 #![tactic(auto)]
 

@@ -1,4 +1,4 @@
-//! Lists of used arcs: which stand as a line's, and which as a ring's.
+//! Lists of used arcs: which are valid as a line's, and which as a ring's.
 ghost use Rattle.chains.specs.OfArcs.{table_as_map};
 ghost use Rattle.lines.specs.Turned.{position_cmp};
 ghost use Rattle.standing.specs.Lists as spec;
@@ -24,8 +24,8 @@ fn none_free(table: &ArcTable, refs: &[ArcRef]) -> bool
     true
 }
 
-/// Where a line begins and ends whose list of used arcs stands; `None` exactly where it doesn't. It
-/// stands where it is not empty, each arc begins where the one before it ends, none stands in it twice,
+/// Where a line begins and ends whose list of used arcs is valid; `None` exactly where it isn't. It
+/// is valid where it is not empty, each arc begins where the one before it ends, none occurs in it twice,
 /// and none is a free loop. Its arcs are added to those that are used.
 #[tactic(auto, using(crate::proofs::Marking::marks_set_long))]
 pub fn line_run(table: &ArcTable, used: &mut ArcsUsed, refs: &[ArcRef]) -> Option<(Pos, Pos)>
@@ -57,8 +57,8 @@ fn goes_round(table: &ArcTable, refs: &[ArcRef]) -> bool
     }
 }
 
-/// Whether a list of used arcs stands as a ring's: each arc begins where the one before it ends, and
-/// the first where the last does, none stands in it twice, and none starts, by its first two vertices,
+/// Whether a list of used arcs is valid as a ring's: each arc begins where the one before it ends, and
+/// the first where the last does, none occurs in it twice, and none starts, by its first two vertices,
 /// before the first. Its arcs are added to those that are used.
 #[tactic(auto, using(crate::proofs::Marking::marks_set_long))]
 pub fn ring_stands(table: &ArcTable, used: &mut ArcsUsed, refs: &[ArcRef]) -> bool

@@ -1,4 +1,4 @@
-//! Lists of used arcs, judged by the ends of the arcs alone.
+//! Lists of used arcs, validated by the ends of the arcs alone.
 ghost use Rattle.grid.specs.declared.pos.Pos.{Pos};
 ghost use Rattle.standing.specs.Runs as spec;
 ghost use Rattle.std.specs.Prelude.{◌≡◌, IfNone, IfSome, [], slice_get};

@@ -42,7 +42,7 @@ fn add_all_ends(ends: &mut Vec<Pos>, arcs: &[Items<Pos>]) -> Result<(), AllocErr
     Ok(())
 }
 
-/// Whether a vertex stands at exactly one place of a sorted list.
+/// Whether a vertex is at exactly one place of a sorted list.
 fn is_once(sorted: &[Pos], vertex: Pos) -> bool
     requires { IsSorted position_cmp sorted.now }
     ensures { result ≡ stands_once sorted.now vertex }

@@ -10,6 +10,7 @@ pub record IsReordered (l k : LayerParts) : Type 0 where
   pub name : k.name ≡ l.name
   pub geometries : IsPermutation l.geometries k.geometries
 
+-- layer by layer, the same name, and the same geometries in another order
 abbrev pub AreReordered : List LayerParts → List LayerParts → Type 0
 AreReordered = Pairwise IsReordered
 
@@ -19,5 +20,6 @@ pub record IsSortedLayer (l k : LayerParts) : Type 0 where
   pub sorted : IsSorted kind_cmp k.geometries
   pub stable : IsStable kind_cmp l.geometries k.geometries
 
+-- layer by layer, the geometries in the order of ids, properties and kinds; those that tie stay in order
 abbrev pub AreSorted : List LayerParts → List LayerParts → Type 0
 AreSorted = Pairwise IsSortedLayer

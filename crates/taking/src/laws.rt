@@ -1,7 +1,7 @@
-//! Laws of layers that stand, each promised by a function that does nothing.
+//! Laws of valid layers, each promised by a function that does nothing.
 ghost use Rattle.taking.specs.Laws as law;
 
-/// Where layers stand over arcs that are apart, each geometry stitches to a feature.
+/// Where layers are valid over arcs that are apart, each geometry stitches to a feature.
 #[tactic(auto, using(crate::proofs::StitchedFeatures::geometries_have_features))]
 pub fn geometries_have_features()
     ensures { law.GeometriesHaveFeatures }

@@ -1,5 +1,5 @@
-//! Topologies of texts taken as they stand: the lists and layers of a text, checked over its arcs, so that
-//! nothing is stitched or built anew.
+//! Topologies of texts taken as they are: the lists and layers of a text, checked over its arcs, so that
+//! nothing is stitched or built again.
 #![tactic(auto)]
 
 pub mod arcs;

@@ -1,4 +1,4 @@
-//! Whether the lists of used arcs of layers stand over a table of arcs.
+//! Whether the lists of used arcs of layers are valid over a table of arcs.
 ghost use Rattle.standing.specs.Stands.{ListsStand};
 ghost use Rattle.std.specs.Prelude.{◌≡◌, ◌↔◌, [], ◌∷◌, length, true, IfOk};
 ghost use Rattle.taking.specs.Added.{AreAdded};
@@ -118,7 +118,7 @@ impl ListsSeen {
     }
 }
 
-/// Whether the lists of used arcs of all layers stand: each line's and each ring's for itself, each arc
+/// Whether the lists of used arcs of all layers are valid: each line's and each ring's for itself, each arc
 /// of the table is used by one of them, and each end of an arc that is no free loop is where one of the
 /// lines begins or ends, or three ends of arcs meet there.
 ///

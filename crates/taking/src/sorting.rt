@@ -1,4 +1,4 @@
-//! Layers with their geometries sorted, as far as that can be told without arcs.
+//! Layers with their geometries sorted, as far as that is known without arcs.
 ghost use Rattle.std.specs.Prelude.{IfOk};
 ghost use Rattle.taking.specs.Sorting.{AreSorted, IsSortedLayer};
 

@@ -24,7 +24,7 @@ use topo::{Layer, Topology};
 /// What comes of arcs and layers as a text has them.
 #[derive(Drop)]
 pub enum Taken {
-    /// The topology, where they stand in order.
+    /// The topology, where they are in order.
     Whole(Topology),
     /// The arcs and the layers, as they were, where they don't.
     Not { arcs: TextArcs, layers: Vec<Layer> },
@@ -44,8 +44,8 @@ fn table_of(alloc: Global, arcs: Vec<Items<Pos>>, layers: &[Layer]) -> Result<Ar
     }
 }
 
-/// Whether layers stand in order over the arcs of a table, which are in order. The lists are judged first,
-/// by the ends of the arcs alone, and only where they stand all other vertices are.
+/// Whether layers are in order over the arcs of a table, which are in order. The lists are validated first,
+/// by the ends of the arcs alone, and only where they are valid all other vertices are.
 fn stand_in_order(alloc: Global, table: &ArcTable, layers: &[Layer]) -> Result<bool, OutOfMemory>
     requires sorted { Ascends list_cmp table.now.arcs }
     requires ids { HaveI64 layers.now }
@@ -60,7 +60,7 @@ fn stand_in_order(alloc: Global, table: &ArcTable, layers: &[Layer]) -> Result<b
     in_order(alloc, table, layers)
 }
 
-/// The topology of a table of arcs in order and of layers, where these stand in order over it.
+/// The topology of a table of arcs in order and of layers, where these are in order over it.
 fn of_table(
     alloc: Global,
     grid: Grid,
@@ -84,8 +84,8 @@ fn of_table(
     Ok(Taken::Whole(Topology::from_parts(grid, table, layers)))
 }
 
-/// The topology of arcs and layers as a text has them, where they stand in order: then they are those
-/// of the map that the layers stitch to, and nothing is stitched or built anew. Where they don't stand,
+/// The topology of arcs and layers as a text has them, where they are in order: then they are those
+/// of the map that the layers stitch to, and nothing is stitched or built again. Where they aren't,
 /// or not in order, they are given back as they were. What takes no memory is asked first: whether the
 /// arcs are in order.
 ///

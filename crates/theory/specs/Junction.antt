@@ -4,6 +4,7 @@ use Rattle.theory.specs.LinesAndRings.{around}
 use Rattle.theory.specs.Lists.{Between, EndOf, Passes}
 
 -- what a visit of a vertex says: the end of a line, or the unordered pair of the two neighbours
+-- [topojson-server; own for the ends of a closed line]
 pub data Visit (V : Type 0) : Type 0 where
   end : Visit V
   pair : V → V → Visit V
@@ -15,13 +16,14 @@ SameVisit end (pair c d) = ⊥
 SameVisit (pair a b) end = ⊥
 SameVisit (pair a b) (pair c d) = ((a ≡ c) × (b ≡ d)) ⊎ ((a ≡ d) × (b ≡ c))
 
--- the map visits v so
+-- the map visits v so [topojson-server; own for the ends of a closed line]
 abbrev pub Visits : {V : Type 0} → (List V → Type 0) → (List V → Type 0) → V → Visit V → Type 0
 Visits {V} L R v end = (l : List V) × L l × EndOf v l
 Visits {V} L R v (pair a b) =
     ((l : List V) × L l × Between a v b l) ⊎ ((r : List V) × R r × Between a v b (around r))
 
 -- a vertex with an end visit, or with two different visits
+-- [topojson-server; own for a vertex that one line or ring visits again]
 abbrev pub Junction : {V : Type 0} → (List V → Type 0) → (List V → Type 0) → V → Type 0
 Junction {V} L R v = Visits L R v end ⊎ ((p : Visit V) × (q : Visit V) × Visits L R v p × Visits L R v q × (¬ SameVisit p q))
 

@@ -8,7 +8,7 @@ use Rattle.theory.specs.Lists.{Has, Each, gathered, joined}
 use Rattle.theory.specs.Segments.{TwoSegments}
 use Rattle.theory.specs.TopologyFunction.{is_junction, keep}
 
--- segments by their two ends, and stops
+-- segments by their two ends, and stops [topojson-client (mesh); chains own]
 pub record Network (V : Type 0) : Type 0 where
   pub segments : List (V × V)
   pub stops : List V
@@ -22,15 +22,16 @@ abbrev pub IsStop : {V : Type 0} → Network V → V → Type 0
 IsStop n v = Has v n.stops
 
 -- the ends of a segment differ, and each vertex on a segment that is no stop lies on exactly two segments
+-- [topojson-client (mesh); chains own]
 pub record IsNetwork {V : Type 0} (n : Network V) : Type 0 where
   pub apart : (u : V) → ¬ Joins n u u
   pub two : TwoSegments (Joins n) (IsStop n)
 
--- a chain over the segments with the stops
+-- a chain over the segments with the stops [topojson-client (mesh); chains own]
 abbrev pub IsChainIn : {V : Type 0} → (V → V → Ordering) → Network V → List V → Type 0
 IsChainIn cmp n = IsChain (Joins n) (IsStop n) (AtMost cmp)
 
--- the lists are chains, and each chain or its reverse is among them
+-- the lists are chains, and each chain or its reverse is among them [topojson-client (mesh); chains own]
 pub record AreAllChains {V : Type 0} (cmp : V → V → Ordering) (n : Network V) (ds : List (List V)) : Type 0 where
   pub chains : Each (IsChainIn cmp n) ds
   pub all : (c : List V) → IsChainIn cmp n c → (d : List V) × Has d ds × SameArc d c

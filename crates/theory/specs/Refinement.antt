@@ -37,7 +37,7 @@ pieces_at (p ∷ ps) (suc i) = pieces_at ps i
 abbrev pub pieces_of_used : List (List ArcRef) → ArcRef → List ArcRef
 pieces_of_used pieces a = cond a.reversed (backwards (pieces_at pieces a.arc)) (pieces_at pieces a.arc)
 
--- in place of each used arc its pieces
+-- in place of each used arc its pieces [TopoJSON, 2.1.4; own]
 abbrev pub replaced : List (List ArcRef) → List ArcRef → List ArcRef
 replaced pieces [] = []
 replaced pieces (a ∷ used) = pieces_of_used pieces a ++ replaced pieces used

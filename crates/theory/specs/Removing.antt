@@ -86,6 +86,7 @@ abbrev pub before_start : Starts → List ArcRef → List ArcRef
 before_start starts [] = []
 before_start starts (a ∷ old) = cond (is_start (starts a)) [] (a ∷ before_start starts old)
 
+-- the old arcs from the first that begins a new one on
 abbrev pub from_start : Starts → List ArcRef → List ArcRef
 from_start starts [] = []
 from_start starts (a ∷ old) = cond (is_start (starts a)) (a ∷ old) (from_start starts old)

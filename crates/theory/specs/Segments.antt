@@ -3,7 +3,7 @@ use Rattle.std.specs.Prelude.{◌≡◌, List, ◌⊎◌}
 use Rattle.theory.specs.LinesAndRings.{around}
 use Rattle.theory.specs.Lists.{Beside}
 
--- neighbours on a line or a ring
+-- neighbours on a line or a ring [TopoJSON, 2.1.3]
 abbrev pub Segment : {V : Type 0} → (List V → Type 0) → (List V → Type 0) → V → V → Type 0
 Segment {V} L R u v =
     ((l : List V) × L l × Beside u v l) ⊎ ((r : List V) × R r × Beside u v (around r))

@@ -9,7 +9,7 @@ pub fn one_chain_through_a_segment<V>()
     ensures { law.OneChainThroughASegment V }
 {}
 
-/// No segment stands twice in a chain.
+/// No segment occurs twice in a chain.
 #[tactic(auto, using(crate::proofs::ProvedLaws::no_segment_twice))]
 pub fn no_segment_twice<V>()
     ensures { law.NoSegmentTwice V }
@@ -200,7 +200,7 @@ pub fn pieces_of_what_is_left<V>()
 
 // What is left of a map when features are removed.
 
-/// The arcs that the lists left use tell which segments are left, and which of their ends are junctions.
+/// The arcs that the lists left use determine which segments are left, and which of their ends are junctions.
 #[tactic(auto, using(crate::proofs::RemovingProved::kept_arcs_tell))]
 pub fn kept_arcs_tell<V>()
     ensures { removing.KeptArcsTell V }
@@ -233,7 +233,7 @@ pub fn marked_features_are_a_part<V, I>()
     ensures { removing.MarkedFeaturesAreAPart V I }
 {}
 
-/// The geometries that are left tell which arcs are kept, and where their lines end.
+/// The geometries that are left determine which arcs are kept, and where their lines end.
 pub fn kept_by_geometries<V, I>()
     ensures { removing.KeptByGeometries V I }
 {}
@@ -245,13 +245,13 @@ pub fn topology_of_what_is_left<V, I, G, B>()
 
 // Arcs, lists and topologies that stand as a text has them.
 
-/// Arcs of which no vertex inside one stands at another place stand.
+/// Arcs of which no vertex inside one is at another place are valid.
 #[tactic(auto, using(crate::proofs::StandingProved::arcs_apart_stand))]
 pub fn arcs_apart_stand<V>()
     ensures { standing.ArcsApartStand V }
 {}
 
-/// Arcs that stand are the arcs of the map that they make: no segment is in two of them, or twice in one.
+/// Valid arcs are the arcs of the map that they make: no segment is in two of them, or twice in one.
 pub fn arcs_that_stand<V>()
     ensures { standing.ArcsThatStand V }
 {}
@@ -262,7 +262,7 @@ pub fn lists_that_stand<V>()
     ensures { standing.ListsThatStand V }
 {}
 
-/// Arcs that stand as those of a map are its arcs.
+/// Arcs that are valid for a map are its arcs.
 pub fn arcs_of_a_map_that_stand<V>()
     ensures { standing.ArcsOfAMapThatStand V }
 {}
@@ -273,12 +273,12 @@ pub fn ring_lists_that_stand<V>()
     ensures { standing.RingListsThatStand V }
 {}
 
-/// A topology that stands as that of a map is that of the map.
+/// A topology that is valid for a map is that of the map.
 pub fn topology_that_stands<V, I, G, B>()
     ensures { standing.TopologyThatStands V I G B }
 {}
 
-/// And the topology of each map stands.
+/// And the topology of each map is valid for it.
 #[tactic(auto, using(crate::proofs::StandingProved::topologies_stand))]
 pub fn topologies_stand<V, I, G, B>()
     ensures { standing.TopologiesStand V I G B }

@@ -1,4 +1,4 @@
-//! The whole command, over files and sinks that are handed in.
+//! The whole command, over files and sinks that are passed in.
 use crate::back::write_back;
 use crate::files::{Files, input_once, write_named};
 use crate::naming::{check_names, file_in, sources_of};

@@ -1,5 +1,5 @@
 //! The command `togrid` as a library: its words, its statuses and lines, and the way from GeoJSON in decimal
-//! numbers to GeoJSON in whole numbers. Files and outputs are handed in, so that a test can run the whole command.
+//! numbers to GeoJSON in whole numbers. Files and outputs are passed in, so that a test can run the whole command.
 #![tactic(auto)]
 
 mod back;

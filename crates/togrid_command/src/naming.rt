@@ -34,7 +34,7 @@ pub(crate) fn sources_of<'a>(
     Ok(sources)
 }
 
-/// A name that stands twice, if there is one.
+/// A name that occurs twice, if there is one.
 fn find_doubled<'a>(
     alloc: Global,
     sources: &[(&'a str, &'a str)],

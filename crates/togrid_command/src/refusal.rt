@@ -13,13 +13,13 @@ pub(crate) enum Refusal<'a> {
     BadStep(&'a str),
     /// The word after `--translate` is no pair of numbers, or has too many digits for the step.
     BadTranslation(&'a str),
-    /// `--translate` stands without `--step`.
+    /// `--translate` is given without `--step`.
     NoStep,
-    /// A word after `--reals` is none of those that may stand there.
+    /// A word after `--reals` is none of those that may be there.
     BadReals(&'a str),
     /// The word after `--snap` is no whole number up to 10.
     BadDistance(&'a str),
-    /// `--back` and `--build` stand together, or `--back` with more than one file.
+    /// `--back` and `--build` are together, or `--back` with more than one file.
     BadBack,
     /// More than one file, and no folder for them.
     NoFolder,

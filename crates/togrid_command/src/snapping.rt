@@ -75,7 +75,7 @@ fn text_of(alloc: Global, bytes: &[u8]) -> Result<&str, Fault> {
     }
 }
 
-/// The features of a text in whole numbers, or its least fault.
+/// The features of a text in whole numbers, or its first error.
 fn check(alloc: Global, bytes: &[u8]) -> Result<BTreeSet<Feature>, Fault> {
     let Some(grid) = Grid::new(1, 1, 0, 0) else {
         return Err(Fault::here(alloc, FaultKind::OutOfRange));

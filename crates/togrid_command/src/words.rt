@@ -31,7 +31,7 @@ fn value<'a>(alloc: Global, name: &'a str, called: &'a str, help: &'a str) -> Ar
         .action(ArgAction::Set)
 }
 
-/// The same with the words that the value may be, of which the first stands where it is not there.
+/// The same with the words that the value may be, of which the first is taken where it is not there.
 fn among<'a>(alloc: Global, name: &'a str, words: &'a [&'a str], help: &'a str) -> Arg<'a> {
     value(alloc, name, "HOW", help)
         .value_parser(words)

@@ -13,8 +13,10 @@ abbrev pub KnowsMember : {X : Type 0} → List ℕ → (Data → List Pair) → 
 KnowsMember n faults means None ms = get n (object ms) ≡ None
 KnowsMember n faults means (Some x) ms = (d : Data) × (get n (object ms) ≡ Some d) × (faults d ≡ []) × means d x
 
+-- the member `id`, of the members that are read
 abbrev pub KnowsId : Option Id → Members → Type 0
 KnowsId = KnowsMember (codes "id") id_faults IsIdOf
 
+-- the member `properties`, of the members that are read
 abbrev pub KnowsProps : Option Props → Members → Type 0
 KnowsProps = KnowsMember (codes "properties") properties_faults (λ d p. properties_text p ≡ properties_of d)

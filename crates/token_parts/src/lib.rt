@@ -1,5 +1,5 @@
 //! What GeoJSON and TopoJSON share of reading along the tokens of a text: lists, ids and properties,
-//! words that have to stand, values of which the first brackets are behind, and whole texts.
+//! words that have to be there, values of which the first brackets are behind, and whole texts.
 #![tactic(auto)]
 
 pub mod info;

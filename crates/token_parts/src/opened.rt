@@ -1,6 +1,6 @@
 //! Parts of which the first brackets and the first number are behind.
 //!
-//! Coordinates may stand before the type that says how deep they nest. Their brackets are then
+//! Coordinates may come before the type that says how deep they nest. Their brackets are then
 //! counted up to the first number, and the part for that depth reads on from there.
 ghost use Rattle.json.specs.Token as spec;
 ghost use Rattle.json.specs.Token.{Token as SpecToken};

@@ -30,7 +30,7 @@ fn read_str<P: FromTokens>(alloc: Global, part: &P, text: &str) -> Result<P::Mad
 /// Reads a whole text as one such part, and gives what it means.
 ///
 /// # Errors
-/// `Unread` where the text is not UTF-8, where more stands behind the value, and where the part's
+/// `Unread` where the text is not UTF-8, where more is behind the value, and where the part's
 /// reader stops.
 pub fn read_text<P: FromTokens>(alloc: Global, part: &P, bytes: &[u8]) -> Result<P::Made, Stop>
     ensures { IfOk result (ReadsText (P.faults part.now) (P.means part.now) bytes.now) }

@@ -32,7 +32,7 @@ struct CheckedMap {
     near: Option<(u32, NearVertices)>,
 }
 
-/// The numbers of a layer's features without an id, and of those whose id stands more than once.
+/// The numbers of a layer's features without an id, and of those whose id occurs more than once.
 #[derive(Drop)]
 struct LayerIds {
     missing: Vec<usize>,
@@ -101,7 +101,7 @@ fn checked_map<'a>(
     })
 }
 
-/// For each layer which ids are missing, and which stand more than once.
+/// For each layer which ids are missing, and which occur more than once.
 fn ids_of<'a>(alloc: Global, layers: &[Layer]) -> Result<Vec<LayerIds>, Refusal<'a>> {
     let mut ids = Vec::new(alloc);
     for layer in layers {
@@ -149,7 +149,7 @@ fn put_verdict<O: Sink>(is_canonical: bool, out: &mut O) -> Result<(), WriteFaul
     }
 }
 
-/// Prints how many ids are missing and stand more than once, and a line for each. Answers whether there are none.
+/// Prints how many ids are missing and occur more than once, and a line for each. Answers whether there are none.
 fn put_ids<O: Sink>(
     topology: &Topology,
     ids: &[LayerIds],
@@ -166,7 +166,7 @@ fn put_ids<O: Sink>(
     Ok(missing == 0 && repeated == 0)
 }
 
-/// How many features of all layers have no id, and how many ids stand more than once in a layer.
+/// How many features of all layers have no id, and how many ids occur more than once in a layer.
 fn count_ids(topology: &Topology, ids: &[LayerIds]) -> (u64, u64) {
     let mut missing = 0u64;
     let mut repeated = 0u64;
@@ -177,7 +177,7 @@ fn count_ids(topology: &Topology, ids: &[LayerIds]) -> (u64, u64) {
     (missing, repeated)
 }
 
-/// How many ids the features of these numbers have, of which those of one id stand side by side.
+/// How many ids the features of these numbers have, of which those of one id are side by side.
 fn count_repeated(layer: &Layer, numbers: &[usize]) -> u64 {
     let mut before = None;
     let mut count = 0u64;
@@ -207,7 +207,7 @@ fn put_missing<O: Sink>(layer: &Layer, numbers: &[usize], out: &mut O) -> Result
     Ok(())
 }
 
-/// A line for each id that stands more than once, with the numbers of its features, which stand side by side.
+/// A line for each id that occurs more than once, with the numbers of its features, which are side by side.
 fn put_repeated<O: Sink>(layer: &Layer, numbers: &[usize], out: &mut O) -> Result<(), WriteFault> {
     let mut before = None;
     let mut end: &[u8] = b"";

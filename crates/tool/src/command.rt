@@ -1,4 +1,4 @@
-//! The whole command, over files and sinks that are handed in.
+//! The whole command, over files and sinks that are passed in.
 use crate::build_command::topology_built;
 use crate::check_command::{Checked, check, print_checked};
 use crate::diff_command::{Compared, print_difference, topologies_compared};
@@ -20,7 +20,7 @@ use topo::Topology;
 
 /// Runs the command that the words ask for, of which the first is the program's name, and answers
 /// the exit status: 0 done, 1 `check` says no or `diff` found a difference, 2 usage, 3 a file can't be read, 4 an input is
-/// refused, 5 want of memory, 6 the output failed. From 2 on `err` is given a line that says why.
+/// refused, 5 out of memory, 6 the output failed. From 2 on `err` is given a line that says why.
 /// Where an input is refused nothing is written to `out`; otherwise it is flushed last. Where the words name
 /// a file for the output it is made by `files`, and `out` is given nothing. Where they ask for it `err` is also
 /// given a line for each file that is read and each stage that is done.

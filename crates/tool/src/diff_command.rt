@@ -33,7 +33,7 @@ pub(crate) fn topologies_compared<'a, F: Files>(
     compare_texts(alloc, found, old, new, new_text)
 }
 
-/// What differs between a topology and that of another file's text. The text is given up.
+/// What differs between a topology and that of another file's text. The text is dropped.
 fn compare_texts<'a>(
     alloc: Global,
     found: &ArgMatches<'a>,

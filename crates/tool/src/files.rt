@@ -32,7 +32,7 @@ pub enum OutputFault {
     OutOfMemory,
 }
 
-/// What stands under the name of an output.
+/// What is there under the name of an output.
 #[derive(Drop)]
 pub enum Place {
     /// A file, or nothing yet, and the name behind all links.
@@ -57,12 +57,12 @@ pub trait Files {
     }
 
     /// The milliseconds since some moment that stays the same; None where there is no clock. A run asks for them
-    /// only where it tells its progress.
+    /// only where it reports its progress.
     fn milliseconds(&mut self) -> Option<u64> {
         None
     }
 
-    /// What stands under this name.
+    /// What is there under this name.
     fn find_output(&mut self, _alloc: Global, _name: &str) -> Result<Place, OutputFault> {
         Err(OutputFault::Unwritable)
     }

@@ -1,5 +1,5 @@
 //! The command `topotool` as a library: its words, its statuses and lines, and the way from GeoJSON
-//! texts to the text of a topology. Files and outputs are handed in, so that a test can run the
+//! texts to the text of a topology. Files and outputs are passed in, so that a test can run the
 //! whole command.
 #![tactic(auto)]
 

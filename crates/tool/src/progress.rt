@@ -1,4 +1,4 @@
-//! What a run tells of its progress on standard error, where it is asked to.
+//! What a run says of its progress on standard error, where it is asked to.
 use crate::files::{FileFault, Files};
 use difference_text::Counts;
 use itoa::{Buffer, Integer};
@@ -7,7 +7,7 @@ use sinks::{Sink, WriteFault, put};
 use std::alloc::Global;
 use topo::Topology;
 
-/// The files of a run, which tells each one that it reads, and the stages that it has done. A failure of standard
+/// The files of a run, which reports each one that it reads, and the stages that it has done. A failure of standard
 /// error changes nothing.
 #[derive(Drop)]
 pub(crate) struct Progress<'m, F, E> {
@@ -36,7 +36,7 @@ impl<'m, F: Files, E: Sink> Progress<'m, F, E> {
         self.files
     }
 
-    /// Tells that the texts were compared with their canonical form.
+    /// Reports that the texts were compared with their canonical form.
     pub(crate) fn tell_check(&mut self) {
         if self.is_told {
             let bytes = self.bytes;
@@ -44,7 +44,7 @@ impl<'m, F: Files, E: Sink> Progress<'m, F, E> {
         }
     }
 
-    /// Tells that a topology was made.
+    /// Reports that a topology was made.
     pub(crate) fn tell_topology(&mut self, topology: &Topology) {
         if self.is_told {
             let positions = count_arcs(topology).positions.min(u128::from(u64::MAX)) as u64;
@@ -53,7 +53,7 @@ impl<'m, F: Files, E: Sink> Progress<'m, F, E> {
         }
     }
 
-    /// Tells that two topologies were compared.
+    /// Reports that two topologies were compared.
     pub(crate) fn tell_difference(&mut self, counts: Counts) {
         if self.is_told {
             let features = counts
@@ -64,14 +64,14 @@ impl<'m, F: Files, E: Sink> Progress<'m, F, E> {
         }
     }
 
-    /// Tells that so many bytes were printed.
+    /// Reports that so many bytes were printed.
     pub(crate) fn tell_output(&mut self, bytes: u64) {
         if self.is_told {
             let _ = self.put_stage("output", &[(bytes, "byte")]);
         }
     }
 
-    /// Tells that a file was read.
+    /// Reports that a file was read.
     fn tell_read(&mut self, name: &str, length: usize) {
         let length = length as u64;
         self.bytes = self.bytes.saturating_add(length);

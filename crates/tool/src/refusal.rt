@@ -28,7 +28,7 @@ pub(crate) enum Refusal<'a> {
     NoLayer(&'a str),
     /// Ids are asked for, and a feature of the layer of this name has none.
     NoId(&'a str),
-    /// Ids are asked for as keys, and one stands twice in the layer of this name.
+    /// Ids are asked for as keys, and one occurs twice in the layer of this name.
     SameIds(&'a str),
     /// A plan names a file that is not there.
     BadPlan,

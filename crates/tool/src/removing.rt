@@ -20,7 +20,7 @@ pub(crate) fn topology_left<'a, F: Files>(
     text_left(alloc, file, text, removed, removed_text)
 }
 
-/// The topology of a file's text without the features of another file's text. Both are given up.
+/// The topology of a file's text without the features of another file's text. Both are dropped.
 fn text_left<'a>(
     alloc: Global,
     file: &'a str,

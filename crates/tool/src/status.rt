@@ -10,7 +10,7 @@ pub(crate) enum Status {
     /// `diff` found a difference.
     Different,
     /// Wrong usage, a bad grid, bad steps, a bad layer, standard input named twice, a feature without an id
-    /// for `--ids`, or an id that stands twice for `--keyed`.
+    /// for `--ids`, or an id that occurs twice for `--keyed`.
     Usage,
     /// A file can't be read.
     Unreadable,

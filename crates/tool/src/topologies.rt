@@ -21,7 +21,7 @@ pub(crate) fn read_topology<'a, F: Files>(
     topology_of(alloc, file, read_named(alloc, files, file)?)
 }
 
-/// The topology of what a file's text means. The text is given up.
+/// The topology of what a file's text means. The text is dropped.
 pub(crate) fn topology_of<'a>(
     alloc: Global,
     file: &'a str,

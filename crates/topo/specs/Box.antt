@@ -20,15 +20,15 @@ abbrev pub box_by : (Pos → ℤ × ℤ) → Option Corners → List Pos → Opt
 box_by place b [] = b
 box_by place b (p ∷ ps) = box_by place (Some (widened_at b (place p))) ps
 
--- the box widened by a position
+-- the box widened by a position [TopoJSON, 3]
 abbrev pub widened : Transform → Option Corners → Pos → Corners
 widened g b p = widened_at b (absolute_place g p)
 
--- the box widened by each position
+-- the box widened by each position [TopoJSON, 3]
 abbrev pub box_from : Transform → Option Corners → List Pos → Option Corners
 box_from g b ps = box_by (absolute_place g) b ps
 
--- the least box around the positions, none where there is no position
+-- the least box around the positions, none where there is no position [TopoJSON, 3]
 abbrev pub box_of : Transform → List Pos → Option Corners
 box_of g ps = box_from g None ps
 

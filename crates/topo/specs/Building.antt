@@ -22,14 +22,15 @@ use Rattle.topo.specs.declared.geom.Body as bodies
 use Rattle.topo.specs.declared.geom.Body.TheVariants as to
 use Rattle.topo.specs.declared.geom.Geom.{Geom}
 
--- the pieces of the lines and of the rings of a form
+-- the pieces of the lines and of the rings of a form [topojson-server]
 abbrev pub form_pieces : List Pos → Shape Pos → List Piece
 form_pieces i f = gathered (line_pieces i) (lines_in f) ++ gathered (ring_pieces i) (rings_in f)
 
+-- the pieces of a feature's lines and rings
 abbrev pub feature_pieces : List Pos → Feature → List Piece
 feature_pieces i f = form_pieces i (form_of f.shape)
 
--- the pieces of a layer
+-- the pieces of a layer [topojson-server]
 abbrev pub layer_pieces : List Pos → FeatureLayer → List Piece
 layer_pieces i l = gathered (feature_pieces i) (set.items (set_of l.features))
 
@@ -41,6 +42,7 @@ count_of cut l = length (cut l) ∷ []
 abbrev pub form_counts : List Pos → Shape Pos → List ℕ
 form_counts i f = gathered (count_of (line_pieces i)) (lines_in f) ++ gathered (count_of (ring_pieces i)) (rings_in f)
 
+-- how many pieces each line and each ring of a feature has
 abbrev pub feature_counts : List Pos → Feature → List ℕ
 feature_counts i f = form_counts i (form_of f.shape)
 
@@ -48,13 +50,15 @@ feature_counts i f = form_counts i (form_of f.shape)
 abbrev pub layer_counts : List Pos → FeatureLayer → List ℕ
 layer_counts i l = gathered (feature_counts i) (set.items (set_of l.features))
 
--- the used arcs of a line, and of a ring
+-- the used arcs of a line, and of a ring [TopoJSON, 2.2]
 abbrev pub line_used : List Pos → List (List Pos) → the_line.Line → List ArcRef
 line_used i arcs l = map_list (located arcs) (line_pieces i (line_of l))
 
+-- the used arcs along the pieces of a ring [TopoJSON, 2.2]
 abbrev pub ring_used : List Pos → List (List Pos) → the_ring.Ring → List ArcRef
 ring_used i arcs r = map_list (located arcs) (ring_pieces i (ring_of r))
 
+-- the body of a shape, its lines and rings by the arcs of a table [TopoJSON, 2.2]
 abbrev pub body_built : List Pos → List (List Pos) → shapes.Shape → bodies.Body
 body_built i arcs of.Null = to.Null
 body_built i arcs (of.Point p) = to.Point p
@@ -64,10 +68,11 @@ body_built i arcs (of.MultiLine ls) = to.MultiLine (map_list (line_used i arcs) 
 body_built i arcs (of.Polygon rs) = to.Polygon (map_list (ring_used i arcs) rs)
 body_built i arcs (of.MultiPolygon ps) = to.MultiPolygon (map_list (map_list (ring_used i arcs)) ps)
 
+-- the geometry of a feature, by the arcs of a table [TopoJSON, 2.2]
 abbrev pub geometry_built : List Pos → List (List Pos) → Feature → Geom
 geometry_built i arcs f = record { id = f.id; props = f.props; body = body_built i arcs f.shape }
 
--- an entry of a map, its features as geometries
+-- an entry of a map, its features as geometries [TopoJSON, 2.2]
 abbrev pub entry_built : List Pos → List (List Pos) → List ℕ × Features → List ℕ × List Geom
 entry_built i arcs e = (e.0, map_list (geometry_built i arcs) (set.items e.1))
 

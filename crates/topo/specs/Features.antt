@@ -14,15 +14,15 @@ use Rattle.topo.specs.declared.geom.Body as bodies
 use Rattle.topo.specs.declared.geom.Body.TheVariants as to
 use Rattle.topo.specs.declared.geom.Geom.{Geom}
 
--- the used arcs stitch to the line
+-- the used arcs stitch to the line [TopoJSON, 2.1.4]
 abbrev pub IsLineOf : List (List Pos) → the_line.Line → List ArcRef → Type 0
 IsLineOf arcs l used = StitchTo arcs used (positions_of l)
 
--- the used arcs stitch to the ring, begun at one of its vertices, and closed
+-- the used arcs stitch to the ring, begun at one of its vertices, and closed [TopoJSON, 2.1.4]
 abbrev pub IsRingOf : List (List Pos) → the_ring.Ring → List ArcRef → Type 0
 IsRingOf arcs r used = (q : List Pos) × IsRotation (vertices_of r) q × StitchTo arcs used (closed q)
 
--- the same kind, with the same points, and lists of used arcs that stitch to the lines and rings
+-- the same kind, with the same points, and lists of used arcs that stitch to the lines and rings [TopoJSON, 2.1.4]
 abbrev pub IsShapeOf : List (List Pos) → shapes.Shape → bodies.Body → Type 0
 IsShapeOf arcs of.Null to.Null = Unit {0}
 IsShapeOf arcs (of.Point p) (to.Point q) = p ≡ q
@@ -34,12 +34,13 @@ IsShapeOf arcs (of.MultiPolygon ps) (to.MultiPolygon lists) = Pairwise (Pairwise
 IsShapeOf arcs s b = ⊥
 
 -- the geometry stitches to the feature: the same id and properties, and its body stitches to the shape
+-- [TopoJSON, 2.1.4]
 pub record IsFeatureOf (arcs : List (List Pos)) (f : Feature) (g : Geom) : Type 0 where
   pub id : f.id ≡ g.id
   pub props : f.props ≡ g.props
   pub shape : IsShapeOf arcs f.shape g.body
 
--- the geometries stitch to the features, one by one
+-- the geometries stitch to the features, one by one [TopoJSON, 2.1.4]
 abbrev pub AreFeaturesOf : List (List Pos) → List Feature → List Geom → Type 0
 AreFeaturesOf arcs = Pairwise (IsFeatureOf arcs)
 

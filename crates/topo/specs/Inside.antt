@@ -4,6 +4,7 @@ use Rattle.topo.specs.OfMap.{IsOfSomeMap}
 use Rattle.topo.specs.Parts.{TopologyParts}
 use Rattle.topo.specs.declared.topology.Topology.TheInside.{Inside}
 
+-- the parts of a topology, from its fields
 abbrev pub parts_inside : Inside → TopologyParts
 parts_inside a = record { grid = a.grid; arcs = a.arcs; layers = a.layers; bbox = kept_box a.grid a.arcs a.layers a.bbox }
 

@@ -11,18 +11,18 @@ use Rattle.topo.specs.declared.geom.Geom.{Geom}
 abbrev pub Corners : Type 0
 Corners = ℤ × ℤ × ℤ × ℤ
 
--- a layer's name and its geometries in order
+-- a layer's name and its geometries in order [TopoJSON, 2.1]
 pub record LayerParts : Type 0 where
   pub name : Spelled
   pub geometries : List Geom
 
--- the grid, the table of arcs, the layers in order, and the bounding box
+-- the grid, the table of arcs, the layers in order, and the bounding box [TopoJSON, 2.1]
 pub record TopologyParts : Type 0 where
   pub grid : Transform
   pub arcs : Arcs
   pub layers : List LayerParts
   pub bbox : Option Corners
 
--- the geometries are those of a layer of that name
+-- the geometries are those of a layer of that name [TopoJSON, 2.1]
 abbrev pub IsOfLayerNamed : List LayerParts → List ℕ → List Geom → Type 0
 IsOfLayerNamed ls name gs = (l : LayerParts) × Has l ls × (spelled_text l.name ≡ name) × (gs ≡ l.geometries)

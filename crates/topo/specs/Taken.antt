@@ -37,6 +37,7 @@ abbrev pub polygons_taken : List (List the_ring.Ring) → Left → List (List (L
 polygons_taken [] ls = []
 polygons_taken (p ∷ ps) ls = taken (length p) ls ∷ polygons_taken ps (drop (length p) ls)
 
+-- the lists that are left behind those of the polygons' rings
 abbrev pub polygons_left : List (List the_ring.Ring) → Left → Left
 polygons_left [] ls = ls
 polygons_left (p ∷ ps) ls = polygons_left ps (drop (length p) ls)
@@ -51,6 +52,7 @@ body_taken (of.MultiLine xs) ls = to.MultiLine (taken (length xs) ls)
 body_taken (of.Polygon rs) ls = to.Polygon (taken (length rs) ls)
 body_taken (of.MultiPolygon ps) ls = to.MultiPolygon (polygons_taken ps ls)
 
+-- the lists that are left behind those of a shape's lines and rings
 abbrev pub shape_left : shapes.Shape → Left → Left
 shape_left of.Null ls = ls
 shape_left (of.Point p) ls = ls
@@ -69,13 +71,16 @@ abbrev pub geometries_taken : List Feature → Left → List Geom
 geometries_taken [] ls = []
 geometries_taken (f ∷ fs) ls = geometry_taken f ls ∷ geometries_taken fs (shape_left f.shape ls)
 
+-- the lists that are left behind those of these features
 abbrev pub features_left : List Feature → Left → Left
 features_left [] ls = ls
 features_left (f ∷ fs) ls = features_left fs (shape_left f.shape ls)
 
+-- a layer of features as geometries, its lines and rings by the first of the lists
 abbrev pub layer_taken : FeatureLayer → Left → LayerParts
 layer_taken l ls = record { name = l.name; geometries = geometries_taken (set.items (set_of l.features)) ls }
 
+-- layers of features as geometries, each by the lists that those before it left
 abbrev pub layers_taken : List FeatureLayer → Left → List LayerParts
 layers_taken [] ls = []
 layers_taken (l ∷ more) ls = layer_taken l ls ∷ layers_taken more (features_left (set.items (set_of l.features)) ls)

@@ -127,7 +127,7 @@ impl Model for Topology {
 }
 
 impl Topology {
-    /// The topology of its parts: those of one map on the grid. The layers stand in the byte order
+    /// The topology of its parts: those of one map on the grid. The layers are in the byte order
     /// of their names.
     pub fn from_parts(grid: Grid, arcs: ArcTable, layers: Vec<Layer>) -> Topology
         requires { (m : Layers) × ArePartsOf m arcs layers.items }
@@ -208,7 +208,7 @@ impl Topology {
         }
     }
 
-    /// The positions that a list of arcs stitches to, lent from the arcs.
+    /// The positions that a list of arcs stitches to, borrowed from the arcs.
     pub fn walk<'a>(&'a self, refs: &'a [ArcRef]) -> Walk<'a>
         ensures walked { result ≡ walked self.now.arcs.arcs refs.now }
         ensures stitched { (l : List Pos) → StitchTo self.now.arcs.arcs refs.now l → result ≡ l }

@@ -8,7 +8,7 @@ use chains::table::{ArcRef, ArcTable};
 use grid::pos::Pos;
 use std::marker::Model;
 
-/// The positions that a list of arcs stitches to, lent from the arcs (TopoJSON section 2.1.4): those
+/// The positions that a list of arcs stitches to, borrowed from the arcs (TopoJSON section 2.1.4): those
 /// of the first arc, and of each later arc all but its first, which is the last of the arc before.
 #[derive(Drop)]
 pub struct Walk<'a> {

@@ -30,6 +30,7 @@ body_name Point = codes "coordinates"
 body_name MultiPoint = codes "coordinates"
 body_name k = codes "arcs"
 
+-- the faults of a geometry's `coordinates` or `arcs`, by its type [TopoJSON, 2.2]
 abbrev pub body_faults : Limits → Arcs → GeometryType → Data → List Pair
 body_faults l arcs = kind_faults (position_faults l) (line_list_faults arcs) (ring_list_faults arcs)
 
@@ -41,16 +42,18 @@ abbrev pub shape_faults : Limits → Arcs → Option GeometryType → Data → L
 shape_faults l arcs None d = []
 shape_faults l arcs (Some k) d = member_faults (body_name k) (body_faults l arcs k) d
 
+-- the shape that a geometry of this type means; the null shape where it has no type
 abbrev pub shape_form : List (List Pos) → Option GeometryType → Data → PlainForm
 shape_form arcs None d = null
 shape_form arcs (Some k) d = body_form arcs k (member_or_null (body_name k) d)
 
 -- ---- geometries
 
--- a geometry whose type is known
+-- a geometry whose type is known [TopoJSON, 2.2]
 abbrev pub typed_faults_of : Limits → Arcs → Option GeometryType → Data → List Pair
 typed_faults_of l arcs k d = shape_faults l arcs k d ++ info_faults d
 
+-- the feature that a geometry of this type means, as plain data [TopoJSON, 2.2]
 abbrev pub feature_of : List (List Pos) → Option GeometryType → Data → Plain
 feature_of arcs k d = record {
   id = id_of (member_or_null (codes "id") d);
@@ -71,6 +74,7 @@ abbrev pub type_or_missing : Option Data → Result (Option (List ℕ)) FaultKin
 type_or_missing None = Err Missing
 type_or_missing (Some d) = text_or_null d
 
+-- the text of the member `type`, or null [TopoJSON, 2.2]
 abbrev pub type_or_null : Data → Result (Option (List ℕ)) FaultKind
 type_or_null d = type_or_missing (get (codes "type") d)
 
@@ -83,9 +87,11 @@ geometry_by (Err f) = Err f
 geometry_by (Ok None) = Ok None
 geometry_by (Ok (Some s)) = some_type (geometry_named s)
 
+-- the type of a geometry, none where it is null [TopoJSON, 2.2]
 abbrev pub geometry_type : Data → Result (Option GeometryType) FaultKind
 geometry_type d = geometry_by (type_or_null d)
 
+-- the faults of a geometry [TopoJSON, 2.2]
 abbrev pub geometry_faults : Limits → Arcs → Data → List Pair
 geometry_faults l arcs d = object_faults (typed_faults (λ k. typed_faults_of l arcs k d) (geometry_type d)) (as_object d)
 
@@ -93,6 +99,7 @@ abbrev pub type_or_none : Result (Option GeometryType) FaultKind → Option Geom
 type_or_none (Err f) = None
 type_or_none (Ok k) = k
 
+-- the feature that a geometry means, as plain data
 abbrev pub geometry_feature : List (List Pos) → Data → Plain
 geometry_feature arcs d = feature_of arcs (type_or_none (geometry_type d)) d
 
@@ -102,6 +109,7 @@ abbrev pub layer_geometry : Result GeometryType FaultKind → Result LayerType F
 layer_geometry (Err f) = Err f
 layer_geometry (Ok k) = Ok (Geometry (Some k))
 
+-- the type of layer that a name says: a collection of geometries, or one geometry
 abbrev pub layer_named : List ℕ → Result LayerType FaultKind
 layer_named s = if bytes_eq s (codes "GeometryCollection") then Ok Collection else layer_geometry (geometry_named s)
 
@@ -110,6 +118,7 @@ layer_by (Err f) = Err f
 layer_by (Ok None) = Ok (Geometry None)
 layer_by (Ok (Some s)) = layer_named s
 
+-- the type of a layer
 abbrev pub layer_type : Data → Result LayerType FaultKind
 layer_type d = layer_by (type_or_null d)
 
@@ -118,14 +127,16 @@ abbrev pub typed_layer_faults : Limits → Arcs → Data → LayerType → List 
 typed_layer_faults l arcs d Collection = member_faults (codes "geometries") (list_faults (geometry_faults l arcs)) d
 typed_layer_faults l arcs d (Geometry k) = typed_faults_of l arcs k d
 
+-- the faults of a layer: a collection of geometries, or one geometry [TopoJSON, 2.1; own]
 abbrev pub layer_faults : Limits → Arcs → Data → List Pair
 layer_faults l arcs d = object_faults (typed_faults (typed_layer_faults l arcs d) (layer_type d)) (as_object d)
 
+-- the features of a layer of this type; none where the type has a fault
 abbrev pub layer_as : List (List Pos) → Data → Result LayerType FaultKind → List Plain
 layer_as arcs d (Err f) = []
 layer_as arcs d (Ok Collection) = map (geometry_feature arcs) (elements (member_or_null (codes "geometries") d))
 layer_as arcs d (Ok (Geometry k)) = feature_of arcs k d ∷ []
 
--- the features of a layer, in its order
+-- the features of a layer, in its order [TopoJSON, 2.1; own]
 abbrev pub layer_features : List (List Pos) → Data → List Plain
 layer_features arcs d = layer_as arcs d (layer_type d)

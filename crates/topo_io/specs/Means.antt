@@ -9,7 +9,7 @@ use Rattle.topo.specs.Parts.{LayerParts, TopologyParts}
 use Rattle.topo_io.specs.Parts.{AreSaid}
 use Rattle.topo_io.specs.Roots.{faults_of_text, grid_of_text, layers_of_text}
 
--- an accepted text of a topology means its grid and the map of the features that its arcs stitch to
+-- an accepted text of a topology means its grid and the map of the features that its arcs stitch to [TopoJSON, 2]
 pub record Means (bytes : List ℕ) (g : Transform) (m : Layers) : Type 0 where
   pub accepted : faults_of_text bytes ≡ []
   pub grid : g ≡ grid_of_text bytes

@@ -35,7 +35,7 @@ use Rattle.topo_io.specs.declared.reader.layer_type.LayerType.TheVariants.{Colle
 
 -- ---- geometries
 
--- an id, the bytes of the properties' compact text, and a body by arcs
+-- an id, the bytes of the properties' compact text, and a body by arcs [TopoJSON, 2.2]
 pub record PlainGeom : Type 0 where
   pub id : PlainId
   pub properties : List ℕ
@@ -50,10 +50,11 @@ abbrev pub ref_at : ℤ → ArcRef
 ref_at (pos i) = record { arc = i; reversed = false }
 ref_at (negsuc i) = record { arc = i; reversed = true }
 
--- the used arcs of a list of indexes
+-- the used arcs of a list of indexes [TopoJSON, 2.2]
 abbrev pub refs_of : Data → List ArcRef
 refs_of d = map (λ i. ref_at (whole_of i)) (elements d)
 
+-- the body by arcs that a geometry of this type has [TopoJSON, 2.2]
 abbrev pub body_at : GeometryType → Data → Body Pos
 body_at Point d = point (position_of d)
 body_at MultiPoint d = points (map position_of (elements d))
@@ -109,7 +110,7 @@ abbrev pub geoms_if_object : Option Members → List (List ℕ × List PlainGeom
 geoms_if_object None = []
 geoms_if_object (Some ms) = geoms_in ms
 
--- the layers of a topology: names, and geometries as plain data
+-- the layers of a topology: names, and geometries as plain data [TopoJSON, 2.2]
 abbrev pub geoms_of : Data → List (List ℕ × List PlainGeom)
 geoms_of d = geoms_if_object (as_object (member_or_null (codes "objects") d))
 
@@ -133,7 +134,7 @@ loose_transformed d (Some t) = loose_content (limits_of t) d ++ under (name (cod
 abbrev pub loose_topology : Data → List Pair
 loose_topology d = object_faults (typed_faults (λ _. loose_transformed d (get (codes "transform") d)) (named topology_named (type_text d))) (as_object d)
 
--- the faults of the bytes of a topology's text, without those of what its lists of arcs stitch to
+-- the faults of the bytes of a topology's text, without those of what its lists of arcs stitch to [TopoJSON, 2; own]
 abbrev pub loose_faults : List ℕ → List Pair
 loose_faults bytes = text_faults loose_topology (document bytes)
 
@@ -159,6 +160,7 @@ abbrev pub geoms_of_text : List ℕ → List (List ℕ × List PlainGeom)
 geoms_of_text bytes = geoms_or_none (document bytes)
 
 -- the grid, the arcs and the layers are what the text says, and only its stitched lists can have faults
+-- [TopoJSON, 2; own]
 pub record AreSaid (bytes : List ℕ) (g : Transform) (cs : List (List Pos)) (ls : List LayerParts) : Type 0 where
   pub loose : loose_faults bytes ≡ []
   pub grid : g ≡ grid_of_text bytes

@@ -29,9 +29,11 @@ BodyStitches arcs (lines us) = AllByRecursion (StitchToLine arcs) us
 BodyStitches arcs (polygon us) = AllByRecursion (StitchToRing arcs) us
 BodyStitches arcs (polygons ps) = AllByRecursion (AllByRecursion (StitchToRing arcs)) ps
 
+-- each list of a geometry stitches to a line or a ring [TopoJSON, 2.1.4]
 abbrev pub GeomStitches : List (List Pos) → PlainGeom → Type 0
 GeomStitches arcs g = BodyStitches arcs g.body
 
+-- each list of a layer's geometries stitches to a line or a ring [TopoJSON, 2.1.4]
 abbrev pub LayerStitches : List (List Pos) → List ℕ × List PlainGeom → Type 0
 LayerStitches arcs l = AllByRecursion (GeomStitches arcs) l.1
 
@@ -41,12 +43,15 @@ pub record NotOrWant (A : Type 0) (f : Fault) : Type 0 where
 
 -- ---- meaning
 
+-- the line that used arcs stitch to, equal neighbours read as one [TopoJSON, 2.1.4]
 abbrev pub line_along : List (List Pos) → List ArcRef → List Pos
 line_along arcs used = line_of (list_or_none (stitched (map (along arcs) used)))
 
+-- the ring that used arcs stitch to, from its least rotation [TopoJSON, 2.1.4]
 abbrev pub ring_along : List (List Pos) → List ArcRef → List Pos
 ring_along arcs used = ring_of (list_or_none (stitched (map (along arcs) used)))
 
+-- the shape that a body stitches to
 abbrev pub form_along : List (List Pos) → Body Pos → PlainForm
 form_along arcs null = null
 form_along arcs (point p) = point p
@@ -56,9 +61,10 @@ form_along arcs (lines us) = lines (map (line_along arcs) us)
 form_along arcs (polygon us) = polygon (map (ring_along arcs) us)
 form_along arcs (polygons ps) = polygons (map (map (ring_along arcs)) ps)
 
--- the feature that a geometry stitches to
+-- the feature that a geometry stitches to [TopoJSON, 2.1.4]
 abbrev pub feature_along : List (List Pos) → PlainGeom → Plain
 feature_along arcs g = record { id = g.id; properties = g.properties; form = form_along arcs g.body }
 
+-- a layer's name, and the features that its geometries stitch to [TopoJSON, 2.1.4]
 abbrev pub layer_along : List (List Pos) → List ℕ × List PlainGeom → List ℕ × List Plain
 layer_along arcs l = (l.0, map (feature_along arcs) l.1)

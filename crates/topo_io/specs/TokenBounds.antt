@@ -11,6 +11,7 @@ use Rattle.topo_io.specs.declared.token_reader.bounds.Bounds.{Bounds}
 abbrev pub IsBelow : ℕ → ArcRef → Type 0
 IsBelow n u = u.arc < n
 
+-- each position of a body fits the grid, and each used arc is one of so many
 abbrev pub BodyWithin : Bounds → Body → Type 0
 BodyWithin b Null = Unit {0}
 BodyWithin b (Point p) = Fits b.grid p

@@ -27,10 +27,12 @@ any_index_faults = element_faults (λ a. [])
 abbrev pub IsRef : Data → ArcRef → Type 0
 IsRef d u = u ≡ ref_at (whole_of d)
 
+-- the faults of coordinates that are read before the grid is known
 abbrev pub loose_coordinates_faults : Coordinates → Data → List Pair
 loose_coordinates_faults (One p) = position_faults no_limits
 loose_coordinates_faults (Many ps) = list_faults (position_faults no_limits)
 
+-- the coordinates are those that the value means
 abbrev pub CoordinatesMean : Data → Coordinates → Type 0
 CoordinatesMean d (One p) = p ≡ position_of d
 CoordinatesMean d (Many ps) = AllZip (λ e p. p ≡ position_of e) (elements d) ps
@@ -39,12 +41,14 @@ CoordinatesMean d (Many ps) = AllZip (λ e p. p ≡ position_of e) (elements d) 
 abbrev pub IsCoordinates : Data → Coordinates → Type 0
 IsCoordinates d n = (loose_coordinates_faults n d ≡ []) × CoordinatesMean d n
 
+-- the faults of lists of arcs that are read before the number of the arcs is known
 abbrev pub loose_lists_faults : lists.ArcLists → Data → List Pair
 loose_lists_faults of.Empty = list_faults any_index_faults
 loose_lists_faults (of.List us) = list_faults any_index_faults
 loose_lists_faults (of.Lists ls) = list_faults (list_faults any_index_faults)
 loose_lists_faults (of.Groups gs) = list_faults (list_faults (list_faults any_index_faults))
 
+-- the lists of used arcs are those that the value means
 abbrev pub ListsMean : Data → lists.ArcLists → Type 0
 ListsMean d of.Empty = elements d ≡ []
 ListsMean d (of.List us) = AllZip IsRef (elements d) us

@@ -26,6 +26,7 @@ use Rattle.topo_io.specs.declared.token_reader.bounds.Bounds.{Bounds}
 use Rattle.topo_io.specs.declared.token_reader.lists.Coordinates.{Coordinates}
 use Rattle.topo_io.specs.declared.token_reader.lists.ArcLists.{ArcLists}
 
+-- no faults, whatever the value is
 abbrev pub no_faults : Data → List Pair
 no_faults d = []
 
@@ -39,6 +40,7 @@ OfGeometry (Geometry k) d = geometry_by (text_or_null d) ≡ Ok k
 abbrev pub IsType : Data → LayerType → Type 0
 IsType d t = (layer_by (text_or_null d) ≡ Ok t) × OfGeometry t d
 
+-- the member `type`, of the members that are read
 abbrev pub KnowsType : Option LayerType → Members → Type 0
 KnowsType = KnowsMember (codes "type") no_faults IsType
 
@@ -52,12 +54,15 @@ abbrev pub KnowsIfKept : {X : Type 0} → List ℕ → (Data → X → Type 0) �
 KnowsIfKept n means None ms = Unit {0}
 KnowsIfKept n means (Some x) ms = KnowsMember n no_faults means (Some x) ms
 
+-- the member `coordinates`, where it was kept, of the members that are read
 abbrev pub KnowsCoordinates : Option Coordinates → Members → Type 0
 KnowsCoordinates = KnowsIfKept (codes "coordinates") IsCoordinates
 
+-- the member `arcs`, where it was kept, of the members that are read
 abbrev pub KnowsLists : Option ArcLists → Members → Type 0
 KnowsLists = KnowsIfKept (codes "arcs") AreLists
 
+-- the members of a geometry that are read: type, coordinates, arcs, id and properties
 abbrev pub KnowsGeom : Option LayerType → Option Coordinates → Option ArcLists → Option Id → Option Props → Members → Type 0
 KnowsGeom t s u i p ms = KnowsType t ms × KnowsCoordinates s ms × KnowsLists u ms × KnowsId i ms × KnowsProps p ms
 
@@ -67,14 +72,18 @@ KnowsGeom t s u i p ms = KnowsType t ms × KnowsCoordinates s ms × KnowsLists u
 abbrev pub ShapeMeans : Option GeometryType → Data → Body → Type 0
 ShapeMeans k d b = (body_of b ≡ body_in k d) × ((x : Bounds) → BodyWithin x b → shape_faults (limits_on x.grid) (counted x.arcs) k d ≡ [])
 
+-- the geometry of this type is what the value says, which has no fault where the body is within bounds
 abbrev pub GeomMeans : Option GeometryType → Data → Geom → Type 0
 GeomMeans k d g = (plain_geom g ≡ geom_of k d) × GeomStored (geom_of k d) × ((x : Bounds) → BodyWithin x g.body → typed_faults_of (limits_on x.grid) (counted x.arcs) k d ≡ [])
 
+-- the geometry is what the value says, which has no fault where the body is within bounds
 abbrev pub GeometryMeans : Data → Geom → Type 0
 GeometryMeans d g = (plain_geom g ≡ geometry_geom d) × GeomStored (geometry_geom d) × ((x : Bounds) → BodyWithin x g.body → geometry_faults (limits_on x.grid) (counted x.arcs) d ≡ [])
 
+-- the geometries are those of the layer, which has no fault where their bodies are within bounds
 abbrev pub LayerMeans : Data → List Geom → Type 0
 LayerMeans d gs = (map plain_geom gs ≡ layer_geoms d) × AllByRecursion GeomStored (layer_geoms d) × ((x : Bounds) → AllByRecursion (λ g. BodyWithin x g.body) gs → layer_faults (limits_on x.grid) (counted x.arcs) d ≡ [])
 
+-- the member `geometries`, of the members that are read
 abbrev pub KnowsGeoms : Option (Vec Geom Global) → Members → Type 0
 KnowsGeoms = KnowsMember (codes "geometries") (list_faults no_faults) (λ d gs. AllZip GeometryMeans (elements d) gs.items)

@@ -10,5 +10,6 @@ pub record IsRange (t : Transform) (p q : Pos) : Type 0 where
   pub least : Fits t p
   pub greatest : Fits t q
 
+-- two proofs that such a range fits a grid are equal
 pub IsRange-prop : (t : Transform) (p q : Pos) → IsProp (IsRange t p q)
 IsRange-prop t p q = Prim.hlevel props

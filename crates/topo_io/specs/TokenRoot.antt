@@ -40,6 +40,7 @@ KnowsArcs = KnowsMember (codes "arcs") (list_faults (arc_faults no_limits)) AreA
 abbrev pub KnowsLayers : Option (Vec LayerParts Global) → Members → Type 0
 KnowsLayers = KnowsMember (codes "objects") no_faults AreLayers
 
+-- the members of a topology that are read: type, transform, arcs and objects
 abbrev pub KnowsRoot : Option Bool → Option Transform → Option (Vec (List Pos) Global) → Option (Vec LayerParts Global) → Members → Type 0
 KnowsRoot b g cs ls ms = KnowsWord b ms × KnowsGrid g ms × KnowsArcs cs ms × KnowsLayers ls ms
 

@@ -16,6 +16,7 @@ abbrev pub fault_of : OutlineType → List Pos → Option ShapeFault
 fault_of Line = line_fault position_cmp
 fault_of Ring = ring_fault position_cmp
 
+-- the faults of positions as a line, or as a ring
 abbrev pub faults_as : OutlineType → List Pos → List Pair
 faults_as k ps = outline_faults (fault_of k ps)
 

@@ -6,7 +6,7 @@ pub fn one_meaning()
     ensures { OneMeaning }
 {}
 
-/// Where the layers of a text stand over its arcs, in order, the text means a feature map, and its
+/// Where the layers of a text are valid over its arcs, in order, the text means a feature map, and its
 /// arcs and layers are those of that map's topology.
 pub fn as_it_stands()
     ensures { AsItStands }

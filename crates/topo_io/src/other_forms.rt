@@ -13,7 +13,7 @@ use topo::{Layer, Topology};
 
 /// The topology of a text's arcs and layers, normalized: arcs that are cut, doubled or used by nobody, in any
 /// order and direction, come to those of the topology, and features are put into order. No feature is
-/// stitched. None where what comes of it doesn't stand: then the topology is built of features.
+/// stitched. None where what comes of it isn't valid: then the topology is built of features.
 ///
 /// # Errors
 /// Where memory is refused.

@@ -80,7 +80,7 @@ fn read_objects(alloc: Global, on: &Ground, value: &Value) -> Result<Layers, Fau
     read_member(alloc, &Objects { on }, value, "objects")
 }
 
-/// The layers of a topology: its arcs are judged first, used or not, and dropped at the end.
+/// The layers of a topology: its arcs are validated first, used or not, and dropped at the end.
 fn read_layers(alloc: Global, limits: &Limits, value: &Value) -> Result<Layers, Fault>
     ensures ok { OnOk result (content_faults limits.now (view value.now) ≡ []) }
     ensures made { IfOk result (λ ls. map_list plain_layer ls.items ≡ layers_of (view value.now)) }
@@ -199,7 +199,7 @@ pub(crate) fn map_of(alloc: Global, layers: Layers) -> Result<FeatureMap, Fault>
 /// is `bbox`.
 ///
 /// # Errors
-/// The least fault of the text, by path and then by number; `OutOfMemory` at the root.
+/// The first error of the text, by path and then by number; `OutOfMemory` at the root.
 pub fn read(alloc: Global, bytes: &[u8]) -> Result<(Grid, FeatureMap), Fault>
     ensures ok { OnOk result (faults_of_text bytes.now ≡ []) }
     ensures grid { IfOk result (λ made. made.0 ≡ grid_of_text bytes.now) }

@@ -111,7 +111,7 @@ pub fn is_text_of(topology: &Topology, bytes: &[u8]) -> bool
 /// Whether an accepted text is the canonical text of what it means.
 ///
 /// # Errors
-/// The least fault of the text, by path and then by number; `OutOfMemory` at the root.
+/// The first error of the text, by path and then by number; `OutOfMemory` at the root.
 pub fn is_canonical(alloc: Global, bytes: &[u8]) -> Result<bool, Fault>
     ensures canonical { IfOk result (λ yes. (g : Transform) (m : Layers) → Means bytes.now g m → IsTrue yes ↔ (bytes.now ≡ canon g m)) }
     ensures ok { OnOk result (faults_of_text bytes.now ≡ []) }

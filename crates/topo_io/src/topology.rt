@@ -1,4 +1,4 @@
-//! Topologies in: the arcs and the layers of a text taken as they stand, where they do, or once they are
+//! Topologies in: the arcs and the layers of a text taken as they are, where they are valid, or once they are
 //! normalized.
 ghost use Rattle.reading.specs.Fault.{LeastOrWant};
 ghost use Rattle.std.specs.Prelude.{◌≡◌, ◌≢◌, ◌<◌, ◌^◌, [], length, IfOk, IfErr, IfSome, IfNone, OnOk};
@@ -51,9 +51,9 @@ fn built(
     }
 }
 
-/// The topology of a text whose arcs and layers don't stand as they are: theirs once they are normalized, if
-/// they stand then, else it is built. None where a list of arcs stitches to no line or ring. The lists are
-/// judged by their arcs first, so that no feature of a text with a fault is kept.
+/// The topology of a text whose arcs and layers aren't valid as they are: theirs once they are normalized, if
+/// they are valid then, else it is built. None where a list of arcs stitches to no line or ring. The lists are
+/// validated by their arcs first, so that no feature of a text with a fault is kept.
 fn topology_of_judged(
     alloc: Global,
     grid: Grid,
@@ -74,7 +74,7 @@ fn topology_of_judged(
     }
 }
 
-/// The topology of a text's parts: theirs, where they stand as they are or once they are normalized, else it
+/// The topology of a text's parts: theirs, where they are valid as they are or once they are normalized, else it
 /// is built. None where a list of arcs stitches to no line or ring.
 fn topology_of_parts(alloc: Global, parts: TextParts) -> Result<Option<Topology>, OutOfMemory>
     requires { HaveI64 parts.layers.items }
@@ -105,13 +105,13 @@ fn topology_of_value(alloc: Global, bytes: &[u8]) -> Result<Topology, Fault>
 }
 
 /// The topology of what a topology's text means, on its grid (TopoJSON, section 2). A text whose arcs
-/// and layers are those of that topology is taken as it stands. Of others the arcs are noded and healed, the
-/// features put into order, and what comes of it is taken where it stands: no feature is stitched. Of all
+/// and layers are those of that topology is taken as it is. Of others the arcs are noded and healed, the
+/// features put into order, and what comes of it is taken where it is valid: no feature is stitched. Of all
 /// others the topology is built, of the features that their arcs stitch to. A text is read along its tokens
 /// where it has a usual form, and else by way of a value.
 ///
 /// # Errors
-/// The least fault of the text, by path and then by number; `OutOfMemory` at the root.
+/// The first error of the text, by path and then by number; `OutOfMemory` at the root.
 pub fn read_topology(alloc: Global, bytes: &[u8]) -> Result<Topology, Fault>
     ensures ok { OnOk result (faults_of_text bytes.now ≡ []) }
     ensures means { IfOk result (MeansTopology bytes.now) }

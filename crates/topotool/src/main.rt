@@ -93,7 +93,7 @@ impl Files for Machine<'_> {
     }
 }
 
-/// What stands under a name. A folder can't be written to.
+/// What is there under a name. A folder can't be written to.
 fn place_of(rt: &HostRuntime, alloc: Global, name: &str) -> io::Result<Place> {
     match fs::metadata(rt, name) {
         Ok(found) if found.is_file() => Ok(Place::File(name_behind_links(rt, alloc, name)?)),

@@ -32,7 +32,7 @@ fn read_shape(alloc: Global, position: &Position, value: &Value) -> Result<Shape
     }
 }
 
-/// The feature of an object whose type is judged. A missing geometry is the null shape.
+/// The feature of an object whose type is validated. A missing geometry is the null shape.
 pub fn read_feature(alloc: Global, position: &Position, value: &Value) -> Result<Feature, Fault>
     ensures ok { OnOk result (feature_members position.now.grid (view value.now) ≡ []) }
     ensures made { IfOk result (λ f. plain f ≡ feature_of position.now.grid (view value.now)) }

@@ -1,4 +1,4 @@
-//! Coordinates by how deep their brackets nest, whatever the type that is told with them.
+//! Coordinates by how deep their brackets nest, whatever the type beside them.
 ghost use Rattle.geojson_io.specs.TokenCoordinates.{nested_faults, CoordinatesMean};
 ghost use Rattle.json.specs.Token as spec;
 ghost use Rattle.json_tokens.specs.Reads.{Reads};

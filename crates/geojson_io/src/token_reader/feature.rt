@@ -75,7 +75,7 @@ pub fn nothing_known() -> FeatureParts
     }
 }
 
-/// The feature of members whose type is judged.
+/// The feature of members whose type is validated.
 pub fn feature_of_parts(alloc: Global, parts: FeatureParts) -> Result<Feature, Stop>
     requires { (ms : Members) × KnowsId parts.id ms }
     ensures { IfOk result (λ f. (g : Transform) (ms : Members) → KnowsFeature g parts.shape parts.id parts.props ms → (feature_members g (object ms) ≡ []) × (plain f ≡ feature_of g (object ms))) }

@@ -1,5 +1,5 @@
 //! Writing a layer as a GeoJSON FeatureCollection (RFC 7946, section 3.3), piece by piece and with no
-//! memory: positions are lent from the arcs.
+//! memory: positions are borrowed from the arcs.
 ghost use Rattle.query.specs.ByArcs.{line_along, ring_along, body_text, geom_text};
 ghost use Rattle.query.specs.Collections.{layer_collection};
 ghost use Rattle.query.specs.declared.layer_text.fault.LayerFault.TheVariants.{NoLayer, Write};

@@ -1,4 +1,4 @@
-//! The places of lines and rings, lent by walks from the arcs.
+//! The places of lines and rings, borrowed by walks from the arcs.
 ghost use Rattle.geojson_io.specs.CollectionText.{place_text};
 ghost use Rattle.query.specs.ByArcs.{along, places_along, places_round};
 ghost use Rattle.query.specs.Steps.{behind_step, up_to_from, up_to_step};

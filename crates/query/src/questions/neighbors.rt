@@ -39,7 +39,7 @@ fn sort_uses(uses: &mut Vec<Use>)
     uses.dedup();
 }
 
-/// Pairs a use with the others of its arc, which stand behind it.
+/// Pairs a use with the others of its arc, which are behind it.
 fn note_pairs(pairs: &mut Vec<Pair>, user: Use, behind: &[Use]) -> Result<(), AllocError>
     ensures { OnOk result (pairs.new.items ≡ pairs.old.items ++ pairs_behind user behind.now) }
 {

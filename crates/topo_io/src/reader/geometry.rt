@@ -43,7 +43,7 @@ pub fn type_or_null(value: &Value) -> Result<Option<&str>, FaultKind>
     }
 }
 
-/// What geometries stand on: the topology's arcs, and the limits of positions.
+/// What geometries are read with: the topology's arcs, and the limits of positions.
 #[derive(Clone, Copy)]
 pub struct Ground<'a> {
     pub arcs: &'a TextArcs,

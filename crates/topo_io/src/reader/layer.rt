@@ -77,7 +77,7 @@ fn read_layer(
     }
 }
 
-/// A layer, and what its geometries stand on.
+/// A layer, and what its geometries are read with.
 #[derive(Clone, Copy)]
 pub struct LayerOf<'g, 'a> {
     pub on: &'g Ground<'a>,

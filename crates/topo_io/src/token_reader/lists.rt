@@ -1,4 +1,4 @@
-//! Coordinates and lists of arcs by how deep their brackets nest, whatever the type that is told with them.
+//! Coordinates and lists of arcs by how deep their brackets nest, whatever the type beside them.
 ghost use Rattle.json.specs.Token as spec;
 ghost use Rattle.json_tokens.specs.Reads.{Reads};
 ghost use Rattle.topo_io.specs.TokenLater.{loose_coordinates_faults, CoordinatesMean, loose_lists_faults, ListsMean};

@@ -1,4 +1,4 @@
-//! Lists of indexes of arcs, judged by their arcs.
+//! Lists of indexes of arcs, validated by their arcs.
 ghost use Rattle.arc_lists.specs.Lists.{IsTold};
 ghost use Rattle.reading.specs.Fault.{LeastOrWant};
 ghost use Rattle.reading.specs.Outlines.{outline_kind};
@@ -30,7 +30,7 @@ pub enum OutlineType {
     Ring,
 }
 
-/// What geometries are judged by: what is known of the topology's arcs, and the limits of positions.
+/// What geometries are validated by: what is known of the topology's arcs, and the limits of positions.
 #[derive(Clone, Copy)]
 pub struct Known<'a> {
     pub arcs: Named<'a>,
@@ -73,7 +73,7 @@ fn judge_ring(alloc: Global, lists: &ArcLists, used: &[ArcRef]) -> Result<(), Fa
     }
 }
 
-/// Judges a list by the positions that its arcs stitch to.
+/// Validates a list by the positions that its arcs stitch to.
 fn judge_stitched(
     alloc: Global,
     lists: &ArcLists,
@@ -100,7 +100,7 @@ fn kind_of(fault: ShapeFault) -> FaultKind
     }
 }
 
-/// Judges a list of used arcs that runs on, by its positions. Arcs without a segment are left out, so that
+/// Validates a list of used arcs that runs on, by its positions. Arcs without a segment are left out, so that
 /// there are no more positions than the arcs have, where none is used twice.
 fn judge_tangled(
     alloc: Global,
@@ -118,7 +118,7 @@ fn judge_tangled(
     }
 }
 
-/// Judges a list of used arcs of which this is told.
+/// Validates a list of used arcs by what is known of it.
 fn judge_told(
     alloc: Global,
     lists: &ArcLists,
@@ -139,7 +139,7 @@ fn judge_told(
     }
 }
 
-/// Judges a list of used arcs, by what is known of the arcs.
+/// Validates a list of used arcs, by what is known of the arcs.
 pub(crate) fn judge_list(
     alloc: Global,
     lists: &ArcLists,

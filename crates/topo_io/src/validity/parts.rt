@@ -1,4 +1,4 @@
-//! The lists of a text's layers, judged by their arcs, before they are stitched.
+//! The lists of a text's layers, validated by their arcs, before they are stitched.
 ghost use Rattle.std.specs.List.{AllByRecursion};
 ghost use Rattle.std.specs.Prelude.{◌≡◌, [], IfOk, map as map_list, true};
 ghost use Rattle.theory.specs.Lists.{joined};
