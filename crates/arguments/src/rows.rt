@@ -88,7 +88,7 @@ pub(crate) const COMMON: &[ArgumentRow] = &[
 
 /// In the order in which help names them.
 pub(crate) const COMMANDS: &[CommandRow] = &[
-    BUILD, CHECK, MERGE, REMOVE, DIFF, FEATURE, MESH, NEIGHBORS, INFO,
+    BUILD, CHECK, FAULTS, MERGE, REMOVE, DIFF, FEATURE, MESH, NEIGHBORS, INFO,
 ];
 
 const BUILD: CommandRow = CommandRow {
@@ -144,6 +144,46 @@ const CHECK: CommandRow = CommandRow {
             "Test also for vertices of different features that lie\nat most so many grid steps apart in both directions,\nand are not one; from 1 to 100"
         ),
         FILE,
+    ],
+};
+
+const FAULTS: CommandRow = CommandRow {
+    name: "faults",
+    about: "Prints all errors of files, with their lines and columns",
+    after: with_faults!(
+        "Prints a line for each error, in the form that editors and compilers share:\n\n  \
+         FILE:LINE:COLUMN: NUMBER NAME PATH id ID member NAME\n\n\
+         The id is that of the feature in which the error lies, where it has one; the\n\
+         member is that of the properties in which a number is no integer. Both are\n\
+         JSON. A missing member is placed at its object. The first line of a file is\n\
+         the error that the other commands report. A file without errors has the line\n\
+         FILE: no faults.\n\n\
+         Where an arc of a topology has an error, lists of arcs are not connected.\n\n\
+         Status: 0 no errors, 4 some.\n\n\
+         Example: topotool faults --grid 1,1,0,0 squares.json\n\
+         Example: topotool faults --explain country.topo.json"
+    ),
+    arguments: &[
+        argument!(
+            "grid",
+            Form::Value("SX,SY,TX,TY"),
+            "The files are GeoJSON on this grid, as for build;\nwithout it they are topologies"
+        ),
+        argument!(
+            "json",
+            Form::Flag,
+            "One JSON array of objects in place of lines"
+        ),
+        argument!(
+            "explain",
+            Form::Flag,
+            "Print also what each error means, as docs/FAULTS.md has it"
+        ),
+        argument!(
+            "FILE",
+            Form::Words,
+            "GeoJSON files or topologies;\n- is standard input, which can be read once"
+        ),
     ],
 };
 

@@ -8,11 +8,12 @@ use Rattle.std.proofs.lemmas.List.Elements.{All-cons, All-nil}
 use Rattle.serde_json.specs.Data.{Data, Items, Members, Num, null, boolean, number, string, array, object, depth}
 use Rattle.serde_json.specs.Find.{get, as_null, as_array, as_number, as_i64}
 use Rattle.faults.specs.Path.{Turn, name, index}
-use Rattle.faults.specs.Fault.{Pair, prefixed, number_of}
+use Rattle.faults.specs.Fault.{Pair, pair_of, prefixed, number_of}
+use Rattle.faults.specs.declared.fault.Fault.{Fault}
 use Rattle.faults.specs.declared.fault.FaultKind.{FaultKind}
 use Rattle.faults.specs.declared.fault.FaultKind.TheVariants as kind
 use Rattle.lines.specs.declared.shape_fault.ShapeFault.{ShapeFault}
-use Rattle.reading.specs.Fault.{turn_cmp, path_cmp, pair_cmp, here, under, unless_faulty, IsUpto, IsLeast}
+use Rattle.reading.specs.Fault.{turn_cmp, path_cmp, pair_cmp, here, under, unless_faulty, IsUpto, IsLeast, LeastOrWant}
 use Rattle.reading.specs.Info.{id_faults, properties_faults, info_faults, number_in_faults, depth_faults}
 use Rattle.reading.specs.Numbers.{whole_faults, number_faults, element_faults}
 use Rattle.reading.specs.Outlines.{outline_faults}
@@ -27,6 +28,8 @@ use Rattle.reading.specs.declared.geometry.GeometryType.TheVariants.{Point, Mult
 use Rattle.reading.proofs.Fits.{all_append, all_weaker, all_map}
 use Rattle.reading.proofs.Least.{turn_itself, BeginsAfter}
 use Rattle.fault_lists.specs.Ascending.{IsAscending}
+use Rattle.fault_lists.specs.Found.{kept, AreFound}
+use Rattle.fault_lists.specs.declared.found.Wanted.TheVariants.{First}
 
 -- p comes before each of these
 abbrev AreBehind : Pair → List Pair → Type 0
@@ -139,7 +142,7 @@ module _ (of : Data → List Pair) (each : (d : Data) → IsAscending (of d)) wh
       go None = ascending_here kind.Missing
       go (Some e) = each e
 
-  ascending_if : (o : Option Data) → IsAscending (if_there of o)
+  pub ascending_if : (o : Option Data) → IsAscending (if_there of o)
   ascending_if None = ascending_none
   ascending_if (Some e) = each e
 
@@ -259,3 +262,13 @@ beyond_info n d i p = beyond_append (name n) (option_faults (codes "id") id_faul
 pub ascending_text : (of : Data → List Pair) (o : Option Data) → ((d : Data) → IsAscending (of d)) → IsAscending (text_faults of o)
 ascending_text of None a = ascending_here kind.NotJson
 ascending_text of (Some d) a = a d
+
+-- ---- the first that is found
+
+-- where the first alone was wanted, the one that was found is the least
+pub first_told : (ps : List Pair) (f : Fault) (fs : List Fault) → IsAscending ps → AreFound First ps (pair_of f ∷ map pair_of fs) → LeastOrWant ps f
+first_told ps f fs a h = record { least = λ real. go ps a h.are }
+  where
+    go : (ps : List Pair) → IsAscending ps → (pair_of f ∷ map pair_of fs) ≡ kept First ps → IsLeast ps (pair_of f)
+    go [] a e = absurd cc
+    go (p ∷ qs) a e = let same : pair_of f ≡ p = cc in subst (IsLeast (p ∷ qs)) (sym same) (first_least p qs a)

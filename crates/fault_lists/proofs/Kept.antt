@@ -9,12 +9,12 @@ use Rattle.fault_lists.specs.declared.found.Wanted.{Wanted}
 use Rattle.fault_lists.specs.declared.found.Wanted.TheVariants.{First, All}
 
 pub found_none : (w : Wanted) → AreFound w [] []
-found_none First = record { kept = refl }
-found_none All = record { kept = refl }
+found_none First = record { are = refl }
+found_none All = record { are = refl }
 
 pub found_here : (w : Wanted) (k : FaultKind) → AreFound w (here k) (here k)
-found_here First k = record { kept = refl }
-found_here All k = record { kept = refl }
+found_here First k = record { are = refl }
+found_here All k = record { are = refl }
 
 kept_under : (w : Wanted) (t : Turn) (ps : List Pair) → under t (kept w ps) ≡ kept w (under t ps)
 kept_under All t ps = refl
@@ -22,7 +22,7 @@ kept_under First t [] = refl
 kept_under First t (p ∷ ps) = refl
 
 pub found_under : (w : Wanted) (t : Turn) (ps qs : List Pair) → AreFound w ps qs → AreFound w (under t ps) (under t qs)
-found_under w t ps qs h = record { kept = ap (under t) h.kept ∙ kept_under w t ps }
+found_under w t ps qs h = record { are = ap (under t) h.are ∙ kept_under w t ps }
 
 kept_more : (w : Wanted) (ps qs fs gs : List Pair) → fs ≡ kept w ps → gs ≡ kept w qs → is_full w fs ≡ false → fs ++ gs ≡ kept w (ps ++ qs)
 kept_more All ps qs fs gs f g more = cc
@@ -30,7 +30,7 @@ kept_more First [] qs fs gs f g more = rw (f, g) refl
 kept_more First (p ∷ ps) qs fs gs f g more = let full = ap (is_full First) f in cc
 
 pub found_more : (w : Wanted) (ps qs fs gs : List Pair) → AreFound w ps fs → AreFound w qs gs → is_full w fs ≡ false → AreFound w (ps ++ qs) (fs ++ gs)
-found_more w ps qs fs gs f g more = record { kept = kept_more w ps qs fs gs f.kept g.kept more }
+found_more w ps qs fs gs f g more = record { are = kept_more w ps qs fs gs f.are g.are more }
 
 kept_enough : (w : Wanted) (ps qs fs : List Pair) → fs ≡ kept w ps → is_full w fs ≡ true → fs ≡ kept w (ps ++ qs)
 kept_enough All ps qs fs f full = absurd cc
@@ -38,7 +38,7 @@ kept_enough First [] qs fs f full = let none = ap (is_full First) f in absurd cc
 kept_enough First (p ∷ ps) qs fs f full = f
 
 pub found_enough : (w : Wanted) (ps qs fs : List Pair) → AreFound w ps fs → is_full w fs ≡ true → AreFound w (ps ++ qs) fs
-found_enough w ps qs fs f full = record { kept = kept_enough w ps qs fs f.kept full }
+found_enough w ps qs fs f full = record { are = kept_enough w ps qs fs f.are full }
 
 -- ---- one part after another
 
@@ -50,11 +50,11 @@ append_none (p ∷ ps) = ap (λ qs. p ∷ qs) (append_none ps)
 pub record FoundSoFar (w : Wanted) (all left found : List Pair) : Type 0 where
   pub before : List Pair
   pub parts : all ≡ before ++ left
-  pub kept : AreFound w before found
+  pub are : AreFound w before found
   pub more : is_full w found ≡ false
 
 pub so_far_none : (w : Wanted) (all : List Pair) → FoundSoFar w all all []
-so_far_none w all = record { before = []; parts = refl; kept = found_none w; more = not_full w }
+so_far_none w all = record { before = []; parts = refl; are = found_none w; more = not_full w }
   where
     not_full : (w : Wanted) → is_full w [] ≡ false
     not_full First = refl
@@ -63,7 +63,7 @@ so_far_none w all = record { before = []; parts = refl; kept = found_none w; mor
 found_next : (w : Wanted) (t : Turn) (all part left found new now : List Pair) → (h : FoundSoFar w all (under t part ++ left) found) → AreFound w part new → now ≡ found ++ under t new
     → AreFound w (h.before ++ under t part) now
 found_next w t all part left found new now h one is =
-    subst (AreFound w (h.before ++ under t part)) (sym is) (found_more w h.before (under t part) found (under t new) h.kept (found_under w t part new one) h.more)
+    subst (AreFound w (h.before ++ under t part)) (sym is) (found_more w h.before (under t part) found (under t new) h.are (found_under w t part new one) h.more)
 
 next_parts : (w : Wanted) (t : Turn) (all part left found : List Pair) → (h : FoundSoFar w all (under t part ++ left) found) → all ≡ (h.before ++ under t part) ++ left
 next_parts w t all part left found h = h.parts ∙ sym (append_assoc h.before (under t part) left)
@@ -73,7 +73,7 @@ pub so_far_next : (w : Wanted) (t : Turn) (all part left found new now : List Pa
 so_far_next w t all part left found new now h one is more = record {
   before = h.before ++ under t part;
   parts = next_parts w t all part left found h;
-  kept = found_next w t all part left found new now h one is;
+  are = found_next w t all part left found new now h one is;
   more = more;
 }
 
@@ -83,13 +83,13 @@ so_far_enough w t all part left found new now h one is full =
     subst (λ ps. AreFound w ps now) (sym (next_parts w t all part left found h)) (found_enough w (h.before ++ under t part) left now (found_next w t all part left found new now h one is) full)
 
 pub so_far_all : (w : Wanted) (all found : List Pair) → FoundSoFar w all [] found → AreFound w all found
-so_far_all w all found h = subst (λ ps. AreFound w ps found) (sym (h.parts ∙ append_none h.before)) h.kept
+so_far_all w all found h = subst (λ ps. AreFound w ps found) (sym (h.parts ∙ append_none h.before)) h.are
 
 -- ---- answers
 
 -- where none was found there is none
 pub none_found : (w : Wanted) (ps : List Pair) → AreFound w ps [] → ps ≡ []
-none_found w ps h = go w ps h.kept
+none_found w ps h = go w ps h.are
   where
     go : (w : Wanted) (ps : List Pair) → [] ≡ kept w ps → ps ≡ []
     go All ps h = sym h
@@ -98,7 +98,7 @@ none_found w ps h = go w ps h.kept
 
 -- all that were found are all
 pub all_found : (ps qs : List Pair) → AreFound All ps qs → qs ≡ ps
-all_found ps qs h = h.kept
+all_found ps qs h = h.are
 
 -- of a list of one or none, all are found either way
 kept_short : (w : Wanted) (ps : List Pair) → kept First ps ≡ ps → kept w ps ≡ ps
@@ -106,7 +106,7 @@ kept_short First ps short = short
 kept_short All ps short = refl
 
 pub found_same : (w : Wanted) (ps qs : List Pair) → AtMostOne ps qs → AreFound w ps qs
-found_same w ps qs h = record { kept = h.same ∙ sym (kept_short w ps h.short) }
+found_same w ps qs h = record { are = h.same ∙ sym (kept_short w ps h.short) }
 
 pub one_here : (k : FaultKind) (qs : List Pair) → qs ≡ here k → AtMostOne (here k) qs
 one_here k qs is = record { same = is; short = refl }

@@ -23,7 +23,7 @@ is_full First (p ∷ ps) = true
 
 -- these were found of a list of faults
 pub record AreFound (w : Wanted) (all found : List Pair) : Type 0 where
-  pub kept : found ≡ kept w all
+  pub are : found ≡ kept w all
 
 -- of a list of one fault or none, all were found
 pub record AtMostOne (all found : List Pair) : Type 0 where

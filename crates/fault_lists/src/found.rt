@@ -5,7 +5,7 @@ ghost use Rattle.faults.specs.declared.fault.Fault.{Fault as fault_of};
 ghost use Rattle.faults.specs.declared.fault.FaultKind.TheVariants.{OutOfMemory as WantOfMemory};
 ghost use Rattle.fault_lists.specs.Found.{AtMostOne, pairs_of, is_full};
 ghost use Rattle.reading.specs.Fault.{here, under};
-ghost use Rattle.std.specs.Prelude.{◌≡◌, ◌≢◌, [], ◌∷◌, ◌++◌, List, IfErr, IfOk, MatchOption, OnOk};
+ghost use Rattle.std.specs.Prelude.{◌≡◌, ◌≢◌, [], ◌∷◌, ◌++◌, List, IfErr, IfOk, OnOk};
 
 use faults::OutOfMemory;
 use faults::fault::{Fault, FaultKind};
@@ -117,11 +117,15 @@ pub fn joined(first: Vec<Fault>, others: Vec<Fault>) -> Result<Vec<Fault>, OutOf
     Ok(found)
 }
 
-/// The first of some faults.
-pub fn first_of(found: Vec<Fault>) -> Option<Fault>
-    ensures { MatchOption result (found.items ≡ []) (λ f. (fs : List fault_of) × (found.items ≡ f ∷ fs)) }
+/// Whether there are none, else the first of them.
+pub fn first_or_none(found: Vec<Fault>) -> Result<(), Fault>
+    ensures ok { OnOk result (found.items ≡ []) }
+    ensures err { IfErr result (λ f. (fs : List fault_of) × (found.items ≡ f ∷ fs)) }
 {
-    found.into_iter().next()
+    match found.into_iter().next() {
+        Some(fault) => Err(fault),
+        None => Ok(()),
+    }
 }
 
 /// The fault that a judgement of one answered, none where it passed.

@@ -2,6 +2,7 @@
 use crate::build_command::topology_built;
 use crate::check_command::{Checked, check, print_checked};
 use crate::diff_command::{Compared, print_difference, topologies_compared};
+use crate::faults_command::{Found, faults_found, print_faults};
 use crate::files::Files;
 use crate::merge_command::topology_merged;
 use crate::output::Output;
@@ -71,6 +72,7 @@ fn perform_named<'a, F: Files, O: Sink, E: Sink>(
     match &made {
         Made::Verdict(_) => progress.tell_check(),
         Made::Compared(compared) => progress.tell_difference(compared.difference.counts()),
+        Made::Faults(_) => progress.tell_check(),
         Made::Topology(topology) => progress.tell_topology(topology),
     }
     let mut output = Output::open(alloc, progress.files(), out, found.get_str("output"))?;
@@ -86,6 +88,7 @@ fn perform_named<'a, F: Files, O: Sink, E: Sink>(
 enum Made {
     Verdict(Checked),
     Compared(Compared),
+    Faults(Found),
     Topology(Topology),
 }
 
@@ -102,6 +105,9 @@ fn make<'a, F: Files>(
     if name == "diff" {
         return Ok(Made::Compared(topologies_compared(alloc, found, files)?));
     }
+    if name == "faults" {
+        return Ok(Made::Faults(faults_found(alloc, found, files)?));
+    }
     Ok(Made::Topology(topology_named(alloc, name, found, files)?))
 }
 
@@ -116,6 +122,7 @@ fn print<'a, O: Sink>(
     match made {
         Made::Verdict(checked) => print_checked(checked, out),
         Made::Compared(compared) => print_difference(compared, found.get_flag("json"), out),
+        Made::Faults(faults) => print_faults(alloc, found, faults, out),
         Made::Topology(topology) => {
             let question = Question {
                 alloc,

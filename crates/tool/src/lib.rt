@@ -7,6 +7,7 @@ mod build_command;
 mod check_command;
 mod command;
 mod diff_command;
+mod faults_command;
 mod files;
 mod grid_word;
 mod merge_command;

@@ -19,3 +19,4 @@ pub mod TokenMembers
 pub mod TokenLayers
 pub mod TokenRoot
 pub mod Named
+pub mod Sums

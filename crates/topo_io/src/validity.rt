@@ -3,12 +3,15 @@
 //! cost no more than their lists are long.
 ghost use Rattle.fault_lists.specs.Found.{AreFound, pairs_of};
 ghost use Rattle.reading.specs.Fault.{LeastOrWant};
-ghost use Rattle.reading.specs.Parts.{member_faults};
+ghost use Rattle.fault_lists.specs.declared.found.Wanted.{Wanted};
+ghost use Rattle.reading.specs.Parts.{list_faults, member_faults};
 ghost use Rattle.serde_json.specs.Find.{get};
 ghost use Rattle.serde_json.specs.View.{view};
-ghost use Rattle.std.specs.Prelude.{◌≡◌, [], codes, IfErr, IfOk, OnOk};
-ghost use Rattle.topo_io.specs.Arcs.{known};
-ghost use Rattle.topo_io.specs.Roots.{objects_faults, arcs_in, content_faults, transformed_faults, topology_faults, faults_of_text};
+ghost use Rattle.std.specs.Prelude.{◌≡◌, [], codes, IfErr, IfOk, OnOk, Some};
+ghost use Rattle.topo_io.specs.Arcs.{arc_faults};
+ghost use Rattle.topo_io.specs.Named.{named};
+ghost use Rattle.topo_io.specs.Roots.{objects_faults, arcs_in, content_faults, limits_of as limits_of_transform, transform_faults, transformed_faults, topology_faults, faults_of_text};
+ghost use Rattle.topo_io.specs.declared.reader.position.Limits.{Limits as limits_type};
 
 pub mod arc;
 pub mod geometry;
@@ -22,20 +25,18 @@ pub mod transform;
 use crate::reader::arc::ArcOf;
 use crate::reader::position::Limits;
 use crate::reader::transform::read_transform;
-use crate::token_reader::read_parts;
 use crate::validity::arc::ArcIn;
 use crate::validity::index::Named;
 use crate::validity::layer::ObjectsIn;
 use crate::validity::list::Known;
 use crate::validity::transform::judge_transform;
 use arc_lists::ArcLists;
-use fault_lists::found::{Wanted, first_of, is_enough, joined, one, under_name};
+use fault_lists::found::{Wanted, first_or_none, is_enough, joined, one, under_name};
 use fault_lists::judge::ListOf;
 use fault_lists::members::judge_member;
 use fault_lists::types::type_fault;
 use faults::OutOfMemory;
 use faults::fault::{Fault, FaultKind};
-use json_tokens::from_tokens::Stop;
 use reading::document::document;
 use reading::part::{judge_type, read_list_member};
 use serde_json::Value;
@@ -48,7 +49,9 @@ fn judge_objects(
     wanted: Wanted,
     on: &Known,
     value: &Value,
-) -> Result<Vec<Fault>, OutOfMemory> {
+) -> Result<Vec<Fault>, OutOfMemory>
+    ensures { IfOk result (λ fs. AreFound wanted (member_faults (codes "objects") (objects_faults on.now.limits (named on.now.arcs)) (view value.now)) (pairs_of fs.items)) }
+{
     judge_member(alloc, wanted, &ObjectsIn { on }, value, "objects")
 }
 
@@ -58,7 +61,9 @@ fn judge_on_arcs(
     wanted: Wanted,
     limits: &Limits,
     value: &Value,
-) -> Result<Vec<Fault>, OutOfMemory> {
+) -> Result<Vec<Fault>, OutOfMemory>
+    ensures { IfOk result (λ fs. AreFound wanted (content_faults limits.now (view value.now)) (pairs_of fs.items)) }
+{
     match read_list_member(alloc, ArcOf { limits: *limits }, value, "arcs") {
         Ok(listed) => {
             let arcs = TextArcs::from_list(listed);
@@ -74,7 +79,9 @@ fn judge_on_arcs(
 }
 
 /// How many arcs there are, where they are an array.
-fn counted(value: &Value) -> Named<'static> {
+fn counted<'a>(value: &Value) -> Named<'a>
+    ensures { (l : limits_type) → ¬ (member_faults (codes "arcs") (list_faults (arc_faults l)) (view value.now) ≡ []) → named result ≡ arcs_in l (view value.now) }
+{
     match value.get("arcs") {
         None => Named::Unknown,
         Some(arcs) => match arcs.as_array() {
@@ -112,7 +119,9 @@ fn judge_content(
 }
 
 /// The limits of a transform with these faults. Where it has any, absolute numbers have none.
-fn limits_of(alloc: Global, found: &[Fault], transform: &Value) -> Result<Limits, OutOfMemory> {
+fn limits_of(alloc: Global, found: &[Fault], transform: &Value) -> Result<Limits, OutOfMemory>
+    ensures { IfOk result (λ l. (w : Wanted) → AreFound w (transform_faults (view transform.now)) (pairs_of found.now) → l ≡ limits_of_transform (view transform.now)) }
+{
     if !found.is_empty() {
         return Ok(Limits::of_positions());
     }
@@ -128,7 +137,9 @@ fn judge_with(
     wanted: Wanted,
     transform: &Value,
     value: &Value,
-) -> Result<Vec<Fault>, OutOfMemory> {
+) -> Result<Vec<Fault>, OutOfMemory>
+    ensures { IfOk result (λ fs. AreFound wanted (transformed_faults (view value.now) (Some (view transform.now))) (pairs_of fs.items)) }
+{
     let later = judge_transform(alloc, wanted, transform)?;
     let limits = limits_of(alloc, &later, transform)?;
     let content = judge_content(alloc, wanted, &limits, value)?;
@@ -170,10 +181,7 @@ pub(crate) fn judge_root(alloc: Global, value: &Value) -> Result<(), Fault>
     ensures err { IfErr result (λ f. LeastOrWant (topology_faults (view value.now)) f) }
 {
     match judge_value(alloc, Wanted::First, value) {
-        Ok(found) => match first_of(found) {
-            Some(fault) => Err(fault),
-            None => Ok(()),
-        },
+        Ok(found) => first_or_none(found),
         Err(OutOfMemory) => Err(Fault::here(alloc, FaultKind::OutOfMemory)),
     }
 }

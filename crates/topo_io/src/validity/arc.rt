@@ -1,5 +1,8 @@
 //! Arcs, judged: a first position and differences, whose sums have limits.
-ghost use Rattle.topo_io.specs.Arcs.{arc_faults};
+ghost use Rattle.fault_lists.specs.Found.{AreFound, pairs_of};
+ghost use Rattle.serde_json.specs.View.{view};
+ghost use Rattle.std.specs.Prelude.{IfOk, map};
+ghost use Rattle.topo_io.specs.Arcs.{arc_faults, steps_faults};
 
 use crate::reader::position::Limits;
 use crate::validity::position::{Sums, judge_step};
@@ -21,7 +24,9 @@ fn judge_steps(
     wanted: Wanted,
     limits: &Limits,
     values: &[Value],
-) -> Result<Vec<Fault>, OutOfMemory> {
+) -> Result<Vec<Fault>, OutOfMemory>
+    ensures { IfOk result (λ fs. AreFound wanted (steps_faults limits.now (map view values.now)) (pairs_of fs.items)) }
+{
     let mut found = Vec::new(alloc);
     let mut sums = Sums::start();
     for (i, value) in values.iter().enumerate() {

@@ -1,5 +1,9 @@
 //! Indexes of arcs, judged.
-ghost use Rattle.topo_io.specs.Arcs.{index_faults};
+ghost use Rattle.fault_lists.specs.Found.{AtMostOne, pairs_of};
+ghost use Rattle.reading.specs.Numbers.{element_faults};
+ghost use Rattle.serde_json.specs.View.{view};
+ghost use Rattle.std.specs.Prelude.{IfOk};
+ghost use Rattle.topo_io.specs.Arcs.{index_faults, no_arc_faults};
 ghost use Rattle.topo_io.specs.Named.{named};
 
 use arc_lists::ArcLists;
@@ -29,7 +33,9 @@ pub struct IndexIn<'a> {
     pub arcs: Named<'a>,
 }
 
-fn judge_index(alloc: Global, count: usize, value: &Value) -> Result<Vec<Fault>, OutOfMemory> {
+fn judge_index(alloc: Global, count: usize, value: &Value) -> Result<Vec<Fault>, OutOfMemory>
+    ensures { IfOk result (λ fs. AtMostOne (element_faults (no_arc_faults count) (view value.now)) (pairs_of fs.items)) }
+{
     match whole_number(value) {
         Ok(index) => {
             if ArcRef::from_index(index).arc < count {

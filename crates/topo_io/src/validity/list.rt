@@ -1,7 +1,9 @@
 //! Lists of indexes of arcs, validated by their arcs.
 ghost use Rattle.arc_lists.specs.Lists.{IsTold};
+ghost use Rattle.fault_lists.specs.Found.{AtMostOne, pairs_of};
 ghost use Rattle.reading.specs.Fault.{LeastOrWant};
 ghost use Rattle.reading.specs.Outlines.{outline_kind};
+ghost use Rattle.serde_json.specs.View.{view};
 ghost use Rattle.std.specs.Prelude.{◌≡◌, [], IfOk, IfErr, OnOk};
 ghost use Rattle.topo_io.specs.Arcs.{known, stitched_list_faults};
 ghost use Rattle.topo_io.specs.Named.{named};
@@ -161,7 +163,9 @@ fn judge_used(
     lists: &ArcLists,
     kind: OutlineType,
     value: &Value,
-) -> Result<Vec<Fault>, OutOfMemory> {
+) -> Result<Vec<Fault>, OutOfMemory>
+    ensures { IfOk result (λ fs. AtMostOne (stitched_list_faults (known lists.now.arcs.now) (faults_as kind) (view value.now)) (pairs_of fs.items)) }
+{
     match read_list(alloc, &IndexOf { arcs: lists.arcs }, value) {
         Ok(used) => found_of(alloc, judge_list(alloc, lists, kind, &used)),
         Err(_) => Err(OutOfMemory),

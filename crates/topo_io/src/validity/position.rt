@@ -1,5 +1,10 @@
-//! Positions of grid numbers, judged: each a step from another position.
-ghost use Rattle.topo_io.specs.Limits.{allows, limit_faults, difference_faults, step_faults, position_faults, sums_at};
+//! Positions of grid numbers, validated: each a step from another position.
+ghost use Rattle.fault_lists.specs.Found.{AreFound, AtMostOne, pairs_of};
+ghost use Rattle.reading.specs.Numbers.{element_faults};
+ghost use Rattle.serde_json.specs.View.{view};
+ghost use Rattle.std.specs.Prelude.{◌≡◌, IfOk};
+ghost use Rattle.topo_io.specs.Limits.{allows, limit_faults, difference_faults, moved as moved_by, step_faults, position_faults};
+ghost use Rattle.topo_io.specs.Sums.{HasRoom, HasRoom-prop, HaveRoom, sums_of};
 
 use crate::reader::position::Limits;
 use crate::reader::position::Position;
@@ -13,32 +18,50 @@ use reading::number::whole_number;
 use serde_json::Value;
 use std::alloc::Global;
 
-/// A sum of numbers so far. None where one of them was no whole number.
-pub type Sum = Option<i128>;
-
-/// Whether a sum is within the limits of grid numbers and, where there is a transform, of absolute numbers.
-fn is_within(axis: &Option<Axis>, sum: i128) -> bool {
-    match i64::try_from(sum) {
-        Ok(n) => match axis {
-            Some(axis) => axis.fits(n),
-            None => LEAST_GRID_NUMBER <= n && n <= GREATEST_GRID_NUMBER,
-        },
-        Err(_) => false,
+/// Whether a number is within the limits of grid numbers and, where there is a transform, of absolute numbers.
+fn is_allowed(axis: &Option<Axis>, n: i64) -> bool
+    ensures { result ≡ allows axis.now n }
+{
+    match axis {
+        Some(axis) => axis.fits(n),
+        None => LEAST_GRID_NUMBER <= n && n <= GREATEST_GRID_NUMBER,
     }
 }
 
-/// A difference from a sum, as a part of a position.
-#[derive(Clone, Copy)]
-pub struct DifferenceIn {
-    pub axis: Option<Axis>,
-    pub from: Sum,
+/// The same of a sum.
+fn is_within(axis: &Option<Axis>, sum: i128) -> bool
+    ensures { result ≡ allows axis.now sum }
+{
+    if sum < i128::from(LEAST_GRID_NUMBER) {
+        return false;
+    }
+    if sum > i128::from(GREATEST_GRID_NUMBER) {
+        return false;
+    }
+    is_allowed(axis, sum as i64)
 }
 
-fn judge_sum(alloc: Global, of: &DifferenceIn, a: i64) -> Result<Vec<Fault>, OutOfMemory> {
-    match of.from {
+/// A difference from a sum, as a part of a position. The sum is none where one of its numbers was no integer.
+#[derive(Clone, Copy)]
+struct DifferenceIn {
+    axis: Option<Axis>,
+    from: Option<i128>,
+    ghost room: { HasRoom from } by { HasRoom-prop from },
+}
+
+fn judge_sum(
+    alloc: Global,
+    axis: &Option<Axis>,
+    from: Option<i128>,
+    a: i64,
+) -> Result<Vec<Fault>, OutOfMemory>
+    requires { HasRoom from }
+    ensures { IfOk result (λ fs. AtMostOne (limit_faults axis.now from a) (pairs_of fs.items)) }
+{
+    match from {
         None => Ok(Vec::new(alloc)),
         Some(from) => {
-            if is_within(&of.axis, from + i128::from(a)) {
+            if is_within(axis, from + i128::from(a)) {
                 Ok(Vec::new(alloc))
             } else {
                 one(alloc, FaultKind::OutOfRange)
@@ -50,43 +73,26 @@ fn judge_sum(alloc: Global, of: &DifferenceIn, a: i64) -> Result<Vec<Fault>, Out
 impl Judge for DifferenceIn {
     ghost faults = { λ p. difference_faults p.axis p.from };
 
-    fn judge(&self, alloc: Global, wanted: Wanted, value: &Value) -> Result<Vec<Fault>, OutOfMemory> {
+    fn judge(&self, alloc: Global, _wanted: Wanted, value: &Value) -> Result<Vec<Fault>, OutOfMemory> {
         match whole_number(value) {
-            Ok(a) => judge_sum(alloc, self, a),
+            Ok(a) => judge_sum(alloc, &self.axis, self.from, a),
             Err(kind) => one(alloc, kind),
         }
     }
 }
 
-/// The sums of both elements.
+/// The sums of the differences so far, element by element.
 #[derive(Clone, Copy)]
 pub struct Sums {
-    pub x: Sum,
-    pub y: Sum,
+    pub x: Option<i128>,
+    pub y: Option<i128>,
 }
 
-impl Sums {
-    /// Those before the first position.
-    pub fn start() -> Sums {
-        Sums {
-            x: Some(0),
-            y: Some(0),
-        }
-    }
-
-    /// Those after a position.
-    pub fn after(&self, value: &Value) -> Sums {
-        match value.as_array() {
-            Some([x, y]) => Sums {
-                x: moved(self.x, x),
-                y: moved(self.y, y),
-            },
-            _ => Sums { x: None, y: None },
-        }
-    }
-}
-
-fn moved(from: Sum, value: &Value) -> Sum {
+/// A sum and one difference more.
+fn moved(from: Option<i128>, value: &Value) -> Option<i128>
+    requires { HasRoom from }
+    ensures { result ≡ moved_by from (view value.now) }
+{
     match from {
         None => None,
         Some(from) => match whole_number(value) {
@@ -96,14 +102,58 @@ fn moved(from: Sum, value: &Value) -> Sum {
     }
 }
 
-/// Judges a pair of differences.
+impl Sums {
+    ghost use Rattle.topo_io.specs.Limits.{moved_both, next_sums, sums_at};
+    ghost use Rattle.topo_io.specs.Sums.{HaveRoom, sums_of};
+    ghost use Rattle.serde_json.specs.View.{view};
+    ghost use Rattle.std.specs.Prelude.{◌≡◌, map, pos};
+
+    /// Those before the first position.
+    pub fn start() -> Sums
+        ensures { sums_of result ≡ sums_at (pos 0) (pos 0) }
+    {
+        Sums {
+            x: Some(0),
+            y: Some(0),
+        }
+    }
+
+    fn after_both(&self, values: &[Value]) -> Sums
+        requires { HaveRoom self.now }
+        ensures { sums_of result ≡ moved_both (sums_of self.now) (map view values.now) }
+    {
+        if values.len() != 2 {
+            return Sums { x: None, y: None };
+        }
+        Sums {
+            x: moved(self.x, &values[0]),
+            y: moved(self.y, &values[1]),
+        }
+    }
+
+    /// Those after a position.
+    pub fn after(&self, value: &Value) -> Sums
+        requires { HaveRoom self.now }
+        ensures { sums_of result ≡ next_sums (sums_of self.now) (view value.now) }
+    {
+        match value.as_array() {
+            Some(values) => self.after_both(values),
+            None => Sums { x: None, y: None },
+        }
+    }
+}
+
+/// The faults of a pair of differences.
 pub fn judge_step(
     alloc: Global,
     wanted: Wanted,
     limits: &Limits,
     sums: &Sums,
     value: &Value,
-) -> Result<Vec<Fault>, OutOfMemory> {
+) -> Result<Vec<Fault>, OutOfMemory>
+    requires { HaveRoom sums.now }
+    ensures { IfOk result (λ fs. AreFound wanted (step_faults limits.now (sums_of sums.now) (view value.now)) (pairs_of fs.items)) }
+{
     let x = DifferenceIn {
         axis: limits.x,
         from: sums.x,

@@ -1,5 +1,8 @@
 //! The transform of a topology, judged.
+ghost use Rattle.fault_lists.specs.Found.{AreFound, AtMostOne, pairs_of};
 ghost use Rattle.reading.specs.Numbers.{element_faults};
+ghost use Rattle.serde_json.specs.View.{view};
+ghost use Rattle.std.specs.Prelude.{IfOk};
 ghost use Rattle.topo_io.specs.Roots.{within_faults, both_faults, transform_members, transform_faults};
 
 use fault_lists::found::{Wanted, is_enough, joined, one};
@@ -19,18 +22,29 @@ struct Within {
     greatest: i64,
 }
 
+fn judge_number(
+    alloc: Global,
+    least: i64,
+    greatest: i64,
+    a: i64,
+) -> Result<Vec<Fault>, OutOfMemory>
+    ensures { IfOk result (λ fs. AtMostOne (within_faults least greatest a) (pairs_of fs.items)) }
+{
+    if a < least {
+        return one(alloc, FaultKind::OutOfRange);
+    }
+    if a > greatest {
+        return one(alloc, FaultKind::OutOfRange);
+    }
+    Ok(Vec::new(alloc))
+}
+
 impl Judge for Within {
     ghost faults = { λ p. element_faults (within_faults p.least p.greatest) };
 
     fn judge(&self, alloc: Global, wanted: Wanted, value: &Value) -> Result<Vec<Fault>, OutOfMemory> {
         match whole_number(value) {
-            Ok(a) => {
-                if self.least <= a && a <= self.greatest {
-                    Ok(Vec::new(alloc))
-                } else {
-                    one(alloc, FaultKind::OutOfRange)
-                }
-            }
+            Ok(a) => judge_number(alloc, self.least, self.greatest, a),
             Err(kind) => one(alloc, kind),
         }
     }
@@ -50,7 +64,9 @@ impl Judge for Both {
     }
 }
 
-fn judge_members(alloc: Global, wanted: Wanted, value: &Value) -> Result<Vec<Fault>, OutOfMemory> {
+fn judge_members(alloc: Global, wanted: Wanted, value: &Value) -> Result<Vec<Fault>, OutOfMemory>
+    ensures { IfOk result (λ fs. AreFound wanted (transform_members (view value.now)) (pairs_of fs.items)) }
+{
     let scale = Both {
         of: Within {
             least: LEAST_SCALE,
@@ -76,7 +92,9 @@ pub fn judge_transform(
     alloc: Global,
     wanted: Wanted,
     value: &Value,
-) -> Result<Vec<Fault>, OutOfMemory> {
+) -> Result<Vec<Fault>, OutOfMemory>
+    ensures { IfOk result (λ fs. AreFound wanted (transform_faults (view value.now)) (pairs_of fs.items)) }
+{
     if !value.is_object() {
         return one(alloc, FaultKind::WrongKind);
     }
