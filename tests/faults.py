@@ -454,7 +454,7 @@ def is_feature(value, path, is_topology):
     word = kind.what if kind is not None and kind.kind == "text" else None
     if is_topology:
         return word != "GeometryCollection" or len(path) > 3 and path[2] == "geometries"
-    return word == "Feature"
+    return path[:1] == ("features",) or word == "Feature"
 
 
 def errors_of(bytes_, grid):
@@ -484,3 +484,146 @@ def errors_of(bytes_, grid):
 
 def escaped(step):
     return step.replace("~", "~0").replace("/", "~1") if isinstance(step, str) else str(step)
+
+
+# ---- texts that are hurt
+
+LINES = [[[0, 0], [4, 0], [4, 4]], [[0, 0], [1, 0], [1, 1], [0, 1], [0, 0]]]
+FEATURES = [
+    {"type": "Point", "coordinates": [2, 3]},
+    {"type": "MultiPoint", "coordinates": [[0, 0], [5, -5]]},
+    {"type": "LineString", "coordinates": LINES[0]},
+    {"type": "MultiLineString", "coordinates": LINES},
+    {"type": "Polygon", "coordinates": [LINES[1]]},
+    {"type": "MultiPolygon", "coordinates": [[LINES[1]], [[[6, 6], [9, 6], [9, 9], [6, 6]]]]},
+    None]
+GEOJSON = {"type": "FeatureCollection", "features": [
+    {"type": "Feature", "id": ["a", 7, None][i % 3], "geometry": it, "properties": [{"n": 1, "m": {"k": [2, "x"]}}, None, {}][i % 3]} for i, it in enumerate(FEATURES)]}
+TOPOLOGY = {"type": "Topology", "transform": {"scale": [1, 2], "translate": [0, -3]}, "arcs": [
+    [[0, 0], [4, 0], [0, 4]], [[4, 4], [-4, 0], [0, -4]], [[9, 9], [1, 0], [0, 1], [-1, -1]]], "objects": {
+        "a": {"type": "GeometryCollection", "geometries": [
+            {"type": "Polygon", "id": 1, "arcs": [[0, 1]], "properties": {"n": 1}}, {"type": "MultiPolygon", "id": "two", "arcs": [[[2]], [[0, 1]]]},
+            {"type": "LineString", "arcs": [0, 1]}, {"type": "MultiLineString", "arcs": [[~0], [1, 0]], "properties": {"a": [1], "b": {"c": 2}}},
+            {"type": "Point", "coordinates": [3, 3], "id": 5}, {"type": "MultiPoint", "coordinates": [[1, 1], [2, 2]]}, {"type": None, "id": "none"}]},
+        "b~/": {"type": "LineString", "arcs": [2], "id": "alone"}, "c": {"type": None}}}
+JUNK = [None, True, "x", 1.5, -1, 0, 2 ** 63, 2 ** 64, 10 ** 400, -(2 ** 63), 2 ** 40 + 1, [], {}, [1], [0, 0], [[0, 0]], [1, 2, 3], {"type": "Point"}, "Point", "Polygon"]
+GRIDS = ["1,1,0,0", "2,1,0,0", "1,3,-1,2", "1000000,1,1000000000000,0"]
+
+
+def places(value):
+    """Each place of a value: what holds it, and its name or index there."""
+    for key in value if isinstance(value, dict) else range(len(value)):
+        yield value, key
+        if isinstance(value[key], (dict, list)):
+            yield from places(value[key])
+
+
+def hurt_once(chance, value):
+    holder, key = chance.choice([*places(value)])
+    kind = chance.randrange(6)
+    if kind == 0:
+        del holder[key]
+    elif kind == 1 and isinstance(holder[key], (list, str)):
+        holder[key] = holder[key][:-1]
+    elif kind == 2 and isinstance(holder[key], list):
+        holder[key] = holder[key] * 2
+    elif kind == 3 and isinstance(holder[key], int):
+        holder[key] += chance.choice([-3, -1, 1, 2, 10 ** 6, -(2 ** 41)])
+    elif kind == 4:
+        other, there = chance.choice([*places(value)])
+        holder[key] = json.loads(json.dumps(other[there]))
+    else:
+        holder[key] = chance.choice(JUNK)
+
+
+def deep(chance):
+    """A value that nests about as deep as properties, or whole texts, may."""
+    value = 1
+    for _ in range(chance.choice([60, 62, 63, 64, 65, 110, 120, 124, 127])):
+        value = [value] if chance.randrange(2) else {"d": value}
+    return value
+
+
+def written(chance, value):
+    """The value as JSON of some layout, sometimes with a member twice, or no JSON any more."""
+    text = json.dumps(value, indent=chance.choice([None, None, 1, 2]), ensure_ascii=chance.randrange(2) == 0)
+    kind = chance.randrange(30)
+    if kind == 0:
+        text = text.replace("{", '{"type":7,"id":[],"arcs":1,"coordinates":2,', 1)
+    elif kind == 1:
+        text = text[:chance.randrange(len(text))]
+    elif kind == 2:
+        at = chance.randrange(len(text))
+        text = text[:at] + chance.choice('{}[],:"x0e.-') + text[at:]
+    elif kind == 3:
+        text = text.replace('"n"', '"\\u00e9\\n\u00fc"')
+    return text.encode()
+
+
+def hurt(chance):
+    """A text that is hurt in some places, and the grid that it is read on, None for a topology."""
+    grid = chance.choice([None, *GRIDS])
+    value = json.loads(json.dumps(TOPOLOGY if grid is None else GEOJSON))
+    if grid is not None and chance.randrange(4) == 0:
+        value = chance.choice(value["features"])
+        value = value["geometry"] or value if chance.randrange(2) else value
+    for _ in range(chance.choice([0, 1, 1, 2, 2, 3, 4, 5])):
+        if not value:
+            break
+        hurt_once(chance, value)
+    if chance.randrange(12) == 0 and value:
+        holder, key = chance.choice([*places(value)])
+        holder[key] = deep(chance)
+    return written(chance, value), grid
+
+
+def judge(task):
+    """Runs `faults` over the files of one grid; gives how many errors each has, and what is wrong with the runs."""
+    grid, files = task
+    grid_words = [] if grid is None else [f"--grid={grid}"]
+    ran = topotool("faults", "--json", *grid_words, *files)
+    found = json.loads(ran.stdout)
+    counts, wrong = [], []
+    for file in files:
+        with open(file, "rb") as text:
+            bytes_ = text.read()
+        wanted = errors_of(bytes_, None if grid is None else tuple(map(int, grid.split(","))))
+        said = [{name: it for name, it in one.items() if name != "file"} for one in found if one["file"] == file]
+        if wanted is None:
+            wanted = [{"name": "NotJson", "number": 1, "path": "$"}]
+            said = [{name: it for name, it in one.items() if name not in ("line", "column")} for one in said]
+        counts.append(len(wanted))
+        if said != wanted:
+            wrong.append(f"{file} on {grid}: said {said}, wanted {wanted}, of {bytes_!r}")
+        build = topotool("build", *grid_words, f"a={file}") if grid is not None else topotool("merge", file)
+        first = f"topotool: {file}: {wanted[0]['number']} {wanted[0]['name']} {wanted[0]['path']}\n" if wanted else ""
+        if build.stderr.decode() != first:
+            wrong.append(f"{file} on {grid}: {build.stderr!r} and not {first!r}")
+    if ran.returncode != (4 if any(counts) else 0):
+        wrong.append(f"{grid}: status {ran.returncode} of {files}")
+    return counts, wrong
+
+
+def main():
+    words = words_of(3000)
+    chance, wrong, done, many = random.Random(words.seed), 0, 0, 0
+    with tempfile.TemporaryDirectory() as folder:
+        tasks = {}
+        for number in range(words.texts):
+            text, grid = hurt(chance)
+            name = f"{folder}/{number}.json"
+            with open(name, "wb") as file:
+                file.write(text)
+            tasks.setdefault(grid, []).append(name)
+        runs = [(grid, files[i:i + 25]) for grid, files in tasks.items() for i in range(0, len(files), 25)]
+        for counts, complaints in judged(judge, runs, words.seconds):
+            done, many, wrong = done + len(counts), many + sum(it > 1 for it in counts), wrong + len(complaints)
+            for it in complaints:
+                print(it)
+    print(f"seed {words.seed}: {told(done, words.texts, 'texts', words.seconds)}, {many:,} with more than one error, {wrong} wrong")
+    is_enough = done >= min(LEAST_TEXTS, words.texts) and many * 4 >= done
+    return 1 if wrong or not is_enough else 0
+
+
+if __name__ == "__main__":
+    sys.exit(main())
