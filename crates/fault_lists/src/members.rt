@@ -46,11 +46,16 @@ pub fn judge_member<J: Judge>(
 ) -> Result<Vec<Fault>, OutOfMemory>
     ensures { IfOk result (λ fs. AreFound wanted (member_faults member.now (J.faults of.now) (view value.now)) (pairs_of fs.items)) }
 {
-    let part = match value.get(member) {
-        None => one(alloc, FaultKind::Missing)?,
-        Some(there) => of.judge(alloc, wanted, there)?,
-    };
-    under_name(alloc, part, member)
+    match value.get(member) {
+        None => {
+            let part = one(alloc, FaultKind::Missing)?;
+            under_name(alloc, part, member)
+        }
+        Some(there) => {
+            let part = of.judge(alloc, wanted, there)?;
+            under_name(alloc, part, member)
+        }
+    }
 }
 
 /// Each member of an object, in the byte order of the names.

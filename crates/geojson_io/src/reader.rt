@@ -23,6 +23,7 @@ use crate::reader::feature::{FeatureElement, read_feature};
 use crate::reader::geometry::read_geometry;
 use crate::reader::position::Position;
 use crate::token_reader;
+use crate::validity::validate;
 use faults::fault::{Fault, FaultKind};
 use grid::transform::Grid;
 use json_tokens::from_tokens::Stop;
@@ -167,6 +168,7 @@ pub fn read_as_value(alloc: Global, bytes: &[u8], grid: &Grid) -> Result<Vec<Fea
     ensures err { IfErr result (λ f. LeastOrWant (faults_of_text grid.now bytes.now) f) }
 {
     let value = document(alloc, bytes)?;
+    validate(alloc, grid, &value)?;
     read_root(alloc, &Position { grid: *grid }, &value)
 }
 

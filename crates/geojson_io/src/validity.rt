@@ -1,11 +1,9 @@
 //! The faults of a GeoJSON text, all or the first, of which nothing else is kept.
 ghost use Rattle.fault_lists.specs.Found.{AreFound, pairs_of};
-ghost use Rattle.geojson_io.specs.Features.{element_of_features_faults, feature_members, faults_of_text, geojson_faults, root_faults};
-ghost use Rattle.geojson_io.specs.Geometries.{typed_geometry_faults};
+ghost use Rattle.geojson_io.specs.Features.{faults_of_text, geojson_faults, root_faults};
 ghost use Rattle.reading.specs.Fault.{LeastOrWant};
-ghost use Rattle.reading.specs.Parts.{member_faults, list_faults};
 ghost use Rattle.serde_json.specs.View.{view};
-ghost use Rattle.std.specs.Prelude.{◌≡◌, IfErr, IfOk, OnOk, [], codes};
+ghost use Rattle.std.specs.Prelude.{◌≡◌, IfErr, IfOk, OnOk, []};
 
 pub mod feature;
 pub mod geometry;
@@ -15,7 +13,7 @@ use crate::reader::{Root, root_of};
 use crate::token_reader;
 use crate::validity::feature::{FeatureIn, judge_feature};
 use crate::validity::geometry::judge_geometry;
-use fault_lists::found::{Wanted, one};
+use fault_lists::found::{Wanted, first_or_none, one, one_of};
 use fault_lists::judge::ListOf;
 use fault_lists::members::judge_member;
 use fault_lists::types::type_fault;
@@ -49,7 +47,7 @@ fn judge_as(
 }
 
 /// The faults of a value that stands for a text.
-pub(crate) fn judge_root(
+fn judge_root(
     alloc: Global,
     wanted: Wanted,
     grid: &Grid,
@@ -66,16 +64,24 @@ pub(crate) fn judge_root(
     }
 }
 
+/// Whether a value that stands for a text has no error, else the first.
+pub(crate) fn validate(alloc: Global, grid: &Grid, value: &Value) -> Result<(), Fault>
+    ensures ok { OnOk result (geojson_faults grid.now (view value.now) ≡ []) }
+    ensures err { IfErr result (λ f. LeastOrWant (geojson_faults grid.now (view value.now)) f) }
+{
+    match judge_root(alloc, Wanted::First, grid, value) {
+        Ok(found) => first_or_none(found),
+        Err(OutOfMemory) => Err(Fault::here(alloc, FaultKind::OutOfMemory)),
+    }
+}
+
 // The faults of a text, by way of a value of the whole.
 fn judge_text(alloc: Global, bytes: &[u8], grid: &Grid) -> Result<Vec<Fault>, OutOfMemory>
     ensures { IfOk result (λ fs. pairs_of fs.items ≡ faults_of_text grid.now bytes.now) }
 {
     match document(alloc, bytes) {
         Ok(value) => judge_root(alloc, Wanted::All, grid, &value),
-        Err(fault) => match fault.kind {
-            FaultKind::OutOfMemory => Err(OutOfMemory),
-            kind => one(alloc, kind),
-        },
+        Err(fault) => one_of(alloc, fault.kind),
     }
 }
 

@@ -31,7 +31,7 @@ use crate::validity::layer::ObjectsIn;
 use crate::validity::list::Known;
 use crate::validity::transform::judge_transform;
 use arc_lists::ArcLists;
-use fault_lists::found::{Wanted, first_or_none, is_enough, joined, one, under_name};
+use fault_lists::found::{Wanted, first_or_none, is_enough, joined, one, one_of, under_name};
 use fault_lists::judge::ListOf;
 use fault_lists::members::judge_member;
 use fault_lists::types::type_fault;
@@ -211,9 +211,6 @@ pub fn faults(alloc: Global, bytes: &[u8]) -> Result<Vec<Fault>, OutOfMemory>
 {
     match document(alloc, bytes) {
         Ok(value) => judge_value(alloc, Wanted::All, &value),
-        Err(fault) => match fault.kind {
-            FaultKind::OutOfMemory => Err(OutOfMemory),
-            kind => one(alloc, kind),
-        },
+        Err(fault) => one_of(alloc, fault.kind),
     }
 }

@@ -6,7 +6,7 @@ ghost use Rattle.serde_json.specs.View.{view};
 ghost use Rattle.std.specs.Prelude.{IfOk};
 
 use crate::reader::position::Position;
-use crate::validity::position::OutlineOn;
+use crate::validity::position::{LineOn, RingOn};
 use fault_lists::found::{Wanted, one};
 use fault_lists::judge::Judge;
 use fault_lists::members::judge_member;
@@ -15,12 +15,9 @@ use fault_lists::types::type_fault;
 use faults::OutOfMemory;
 use faults::fault::{Fault, FaultKind};
 use grid::transform::Grid;
-use lines::line::Line;
-use lines::ring::Ring;
 use reading::geometry::GeometryType;
 use serde_json::Value;
 use std::alloc::Global;
-use std::marker::PhantomData;
 
 /// The member `coordinates` of a geometry of that type.
 #[derive(Clone, Copy)]
@@ -34,19 +31,10 @@ impl Judge for CoordinatesOf {
 
     fn judge(&self, alloc: Global, wanted: Wanted, value: &Value) -> Result<Vec<Fault>, OutOfMemory> {
         let grid = self.grid;
-        let line: OutlineOn<Line> = OutlineOn {
-            grid,
-            outline: PhantomData,
-        };
-        let ring: OutlineOn<Ring> = OutlineOn {
-            grid,
-            outline: PhantomData,
-        };
-        let position = Position { grid };
         let parts = ShapeParts {
-            position,
-            line,
-            ring,
+            position: Position { grid },
+            line: LineOn { grid },
+            ring: RingOn { grid },
         };
         judge_shape(alloc, wanted, &parts, self.kind, value)
     }

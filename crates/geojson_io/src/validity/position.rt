@@ -1,6 +1,6 @@
 //! Positions, lines and rings of absolute numbers, judged.
-ghost use Rattle.fault_lists.specs.Found.{AtMostOne, pairs_of};
-ghost use Rattle.geojson_io.specs.Positions.{axis_faults, coordinate_faults, position_faults, outline_at_faults};
+ghost use Rattle.fault_lists.specs.Found.{AreFound, AtMostOne, pairs_of};
+ghost use Rattle.geojson_io.specs.Positions.{axis_faults, coordinate_faults, position_faults, outline_at_faults, line_at_faults, ring_at_faults};
 ghost use Rattle.reading.specs.Outlines.{outline_faults};
 ghost use Rattle.serde_json.specs.View.{view};
 ghost use Rattle.std.specs.Prelude.{IfOk};
@@ -12,12 +12,13 @@ use fault_lists::shape::judge_outline;
 use faults::OutOfMemory;
 use faults::fault::{Fault, FaultKind};
 use grid::transform::{Axis, AxisFault, Grid};
+use lines::line::Line;
+use lines::ring::Ring;
 use reading::number::whole_number;
 use reading::outline::Outline;
 use reading::shape::Positions;
 use serde_json::Value;
 use std::alloc::Global;
-use std::marker::PhantomData;
 
 /// An element of a position.
 #[derive(Clone, Copy)]
@@ -60,13 +61,6 @@ impl Judge for Position {
     }
 }
 
-/// A line or a ring on a grid, which is looked at where none of its positions has a fault.
-#[derive(Clone, Copy)]
-pub struct OutlineOn<O> {
-    pub grid: Grid,
-    pub outline: PhantomData<O>,
-}
-
 fn judge_positions<O: Outline>(
     alloc: Global,
     position: &Position,
@@ -80,15 +74,47 @@ fn judge_positions<O: Outline>(
     }
 }
 
-impl<O: Outline> Judge for OutlineOn<O> {
-    ghost faults = { λ p. outline_at_faults p.grid (λ ps. outline_faults (O.fault ps)) };
+/// A list of positions, of which a line or a ring is asked where none of them has a fault.
+fn judge_list_of<O: Outline>(
+    alloc: Global,
+    wanted: Wanted,
+    grid: &Grid,
+    value: &Value,
+) -> Result<Vec<Fault>, OutOfMemory>
+    ensures { IfOk result (λ fs. AreFound wanted (outline_at_faults grid.now (λ ps. outline_faults (O.fault ps)) (view value.now)) (pairs_of fs.items)) }
+{
+    let position = Position { grid: *grid };
+    let found = judge_list(alloc, wanted, &position, value)?;
+    if found.is_empty() {
+        return judge_positions::<O>(alloc, &position, value);
+    }
+    Ok(found)
+}
+
+/// A line on a grid.
+#[derive(Clone, Copy)]
+pub struct LineOn {
+    pub grid: Grid,
+}
+
+impl Judge for LineOn {
+    ghost faults = { λ p. line_at_faults p.grid };
 
     fn judge(&self, alloc: Global, wanted: Wanted, value: &Value) -> Result<Vec<Fault>, OutOfMemory> {
-        let position = Position { grid: self.grid };
-        let found = judge_list(alloc, wanted, &position, value)?;
-        if found.is_empty() {
-            return judge_positions::<O>(alloc, &position, value);
-        }
-        Ok(found)
+        judge_list_of::<Line>(alloc, wanted, &self.grid, value)
+    }
+}
+
+/// A ring on a grid.
+#[derive(Clone, Copy)]
+pub struct RingOn {
+    pub grid: Grid,
+}
+
+impl Judge for RingOn {
+    ghost faults = { λ p. ring_at_faults p.grid };
+
+    fn judge(&self, alloc: Global, wanted: Wanted, value: &Value) -> Result<Vec<Fault>, OutOfMemory> {
+        judge_list_of::<Ring>(alloc, wanted, &self.grid, value)
     }
 }
