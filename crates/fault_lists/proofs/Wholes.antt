@@ -1,5 +1,5 @@
 -- Faults that were found of lists, pairs and members.
-use Rattle.std.proofs.Common.{◌≡◌, ℕ, ◌+◌, ◌<◌, ◌≤◌, length, get_or, drop, take, List, [], ◌∷◌, ◌++◌, Option, Some, None, Result, Ok, Err, map, true, false, codes, refl, sym, ap, ◌∙◌, subst, arith}
+use Rattle.std.proofs.Common.{◌≡◌, ℕ, zero, suc, string_bytes, ◌+◌, ◌<◌, ◌≤◌, length, get_or, drop, take, List, [], ◌∷◌, ◌++◌, Option, Some, None, Result, Ok, Err, map, true, false, codes, refl, sym, ap, ◌∙◌, subst, arith}
 use Rattle.std.proofs.lemmas.List.{drop_all}
 use Rattle.serde_json.specs.Data.{Data}
 use Rattle.serde_json.specs.Find.{get, as_array}
@@ -7,10 +7,14 @@ use Rattle.serde_json.specs.View.{view, items_of, members_view}
 use Rattle.serde_json.specs.declared.value.Value.{Value}
 use Rattle.serde_json.proofs.Views.{Entry}
 use Rattle.faults.specs.Path.{Turn, name, index}
-use Rattle.faults.specs.Fault.{Pair}
+use Rattle.faults.specs.Fault.{Pair, pair_of}
 use Rattle.faults.specs.declared.fault.FaultKind.{FaultKind}
-use Rattle.faults.specs.declared.fault.FaultKind.TheVariants.{Missing, WrongKind, NotTwo}
-use Rattle.reading.specs.Fault.{here, under, unless_faulty}
+use Rattle.faults.specs.declared.fault.FaultKind.TheVariants.{Missing, WrongKind, NotTwo, OutOfMemory}
+use Rattle.std.specs.List.{Contains}
+use Rattle.faults.specs.declared.fault.Fault.{Fault}
+use Rattle.lines.specs.declared.shape_fault.ShapeFault.{ShapeFault}
+use Rattle.reading.specs.Outlines.{outline_kind, outline_faults}
+use Rattle.reading.specs.Fault.{here, under, unless_faulty, IsLeast, LeastOrWant}
 use Rattle.reading.specs.Parts.{array_faults, each_faults, two_faults, option_faults, member_faults, each_member_faults}
 use Rattle.reading.specs.Scan.{scan_faults}
 use Rattle.reading.proofs.Lists.{array_is, each_more, two_is, not_two}
@@ -96,3 +100,43 @@ unless_found w [] qs fs h some = absurd (some (none w fs h.are))
     none First fs e = e
     none All fs e = e
 unless_found w (p ∷ ps) qs fs h some = h
+
+-- ---- each member
+
+pub members_next : (w : Wanted) (of : Data → List Pair) (all : List Pair) (e : Entry) (es left : List Entry) (found new now : List Pair) → es ≡ e ∷ left
+    → FoundSoFar w all (each_member_faults of (members_view es)) found → AreFound w (of (view e.1)) new → now ≡ found ++ under (name (string_bytes e.0)) new → is_full w now ≡ false
+    → FoundSoFar w all (each_member_faults of (members_view left)) now
+members_next w of all e es left found new now steps h one is more =
+    so_far_next w (name (string_bytes e.0)) all (of (view e.1)) _ found new now (subst (λ ds. FoundSoFar w all (each_member_faults of (members_view ds)) found) steps h) one is more
+
+pub members_enough : (w : Wanted) (of : Data → List Pair) (all : List Pair) (e : Entry) (es left : List Entry) (found new now : List Pair) → es ≡ e ∷ left
+    → FoundSoFar w all (each_member_faults of (members_view es)) found → AreFound w (of (view e.1)) new → now ≡ found ++ under (name (string_bytes e.0)) new → is_full w now ≡ true
+    → AreFound w all now
+members_enough w of all e es left found new now steps h one is full =
+    so_far_enough w (name (string_bytes e.0)) all (of (view e.1)) _ found new now (subst (λ ds. FoundSoFar w all (each_member_faults of (members_view ds)) found) steps h) one is full
+
+pub members_end : (w : Wanted) (of : Data → List Pair) (all : List Pair) (es : List Entry) (found : List Pair) → es ≡ [] → FoundSoFar w all (each_member_faults of (members_view es)) found → AreFound w all found
+members_end w of all es found none h = so_far_all w all found (subst (λ ds. FoundSoFar w all (each_member_faults of (members_view ds)) found) none h)
+
+-- ---- lines and rings
+
+no_least : (p : Pair) → IsLeast [] p → ⊥
+no_least p h = let there = h.present in omega (arith, there.1)
+
+the_one : (q p : Pair) → IsLeast (q ∷ []) p → q ≡ p
+the_one q p h = go h.present
+  where
+    go : Contains (q ∷ []) p → q ≡ p
+    go (zero, less, is) = is
+    go (suc k, less, is) = absurd (omega (arith, less))
+
+-- the fault that was told of a line or a ring is all that it has
+pub outline_told : (o : Option ShapeFault) (f : Fault) (qs : List Pair) → LeastOrWant (outline_faults o) f → (f.kind ≡ OutOfMemory → ⊥) → AtMostOne (here f.kind) qs → AtMostOne (outline_faults o) qs
+outline_told None f qs least real h = absurd (no_least (pair_of f) (least.least real))
+outline_told (Some g) f qs least real h =
+    let same = ap (λ p. p.kind) (the_one (record { path = []; kind = outline_kind g }) (pair_of f) (least.least real)) in
+    subst (λ k. AtMostOne (here k) qs) (sym same) h
+
+pub ruleset found_leaf = (found_same, found_none)
+
+pub ruleset found_parts = (found_more, found_enough)

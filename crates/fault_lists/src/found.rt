@@ -33,6 +33,7 @@ pub fn is_enough(wanted: Wanted, found: &[Fault]) -> bool
 ///
 /// # Errors
 /// Where memory is refused.
+#[tactic(auto, using(crate::proofs::Kept::one_here))]
 pub fn one(alloc: Global, kind: FaultKind) -> Result<Vec<Fault>, OutOfMemory>
     ensures { IfOk result (λ fs. AtMostOne (here kind) (pairs_of fs.items)) }
 {
@@ -138,7 +139,9 @@ pub fn found_of(alloc: Global, judged: Result<(), Fault>) -> Result<Vec<Fault>, 
 {
     match judged {
         Ok(()) => Ok(Vec::new(alloc)),
-        Err(fault) => one_of(alloc, fault.kind),
+        Err(fault) => {
+            Ok(one_of(alloc, fault.kind)?)
+        }
     }
 }
 
@@ -151,6 +154,8 @@ pub fn one_of(alloc: Global, kind: FaultKind) -> Result<Vec<Fault>, OutOfMemory>
 {
     match kind {
         FaultKind::OutOfMemory => Err(OutOfMemory),
-        _ => one(alloc, kind),
+        _ => {
+            Ok(one(alloc, kind)?)
+        }
     }
 }

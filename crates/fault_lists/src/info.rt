@@ -17,39 +17,43 @@ use std::alloc::Global;
 impl Judge for Ids {
     ghost faults = { λ _. id_faults };
 
+    #[tactic(auto, using(crate::proofs::Wholes::found_leaf))]
     fn judge(&self, alloc: Global, wanted: Wanted, value: &Value) -> Result<Vec<Fault>, OutOfMemory> {
         match value {
             Value::Null | Value::String(_) => Ok(Vec::new(alloc)),
             Value::Number(number) => match number.as_i64() {
                 Some(_) => Ok(Vec::new(alloc)),
-                None => one(alloc, FaultKind::NotWhole),
+                None => Ok(one(alloc, FaultKind::NotWhole)?),
             },
-            _ => one(alloc, FaultKind::WrongKind),
+            _ => Ok(one(alloc, FaultKind::WrongKind)?),
         }
     }
 }
 
+#[tactic(auto, using(crate::proofs::Kept::one_none))]
 fn number_fault(alloc: Global, value: &Value) -> Result<Vec<Fault>, OutOfMemory>
     ensures { IfOk result (λ fs. AtMostOne (number_in_faults (view value.now)) (pairs_of fs.items)) }
 {
     if has_fraction(value) {
-        one(alloc, FaultKind::PropertyNumber)
+        Ok(one(alloc, FaultKind::PropertyNumber)?)
     } else {
         Ok(Vec::new(alloc))
     }
 }
 
+#[tactic(auto, using(crate::proofs::Kept::one_none))]
 fn depth_fault(alloc: Global, value: &Value) -> Result<Vec<Fault>, OutOfMemory>
     ensures { IfOk result (λ fs. AtMostOne (depth_faults (view value.now)) (pairs_of fs.items)) }
 {
     if nests_within(value, GREATEST_PROPERTY_DEPTH) {
         Ok(Vec::new(alloc))
     } else {
-        one(alloc, FaultKind::PropertyDepth)
+        Ok(one(alloc, FaultKind::PropertyDepth)?)
     }
 }
 
 // Both kinds of faults of an object.
+#[tactic(auto, using(crate::proofs::Kept::found_more, crate::proofs::Kept::found_enough, crate::proofs::Kept::found_same))]
 fn judge_object(alloc: Global, wanted: Wanted, value: &Value) -> Result<Vec<Fault>, OutOfMemory>
     ensures { IfOk result (λ fs. AreFound wanted (number_in_faults (view value.now) ++ depth_faults (view value.now)) (pairs_of fs.items)) }
 {
@@ -58,17 +62,19 @@ fn judge_object(alloc: Global, wanted: Wanted, value: &Value) -> Result<Vec<Faul
         return Ok(number);
     }
     let depth = depth_fault(alloc, value)?;
-    joined(number, depth)
+    let found = joined(number, depth)?;
+    Ok(found)
 }
 
 impl Judge for Properties {
     ghost faults = { λ _. properties_faults };
 
+    #[tactic(auto, using(crate::proofs::Wholes::found_leaf))]
     fn judge(&self, alloc: Global, wanted: Wanted, value: &Value) -> Result<Vec<Fault>, OutOfMemory> {
         match value {
             Value::Null => Ok(Vec::new(alloc)),
-            Value::Object(_) => judge_object(alloc, wanted, value),
-            _ => one(alloc, FaultKind::WrongKind),
+            Value::Object(_) => Ok(judge_object(alloc, wanted, value)?),
+            _ => Ok(one(alloc, FaultKind::WrongKind)?),
         }
     }
 }
@@ -77,6 +83,7 @@ impl Judge for Properties {
 ///
 /// # Errors
 /// Where memory is refused.
+#[tactic(auto, using(crate::proofs::Kept::found_more, crate::proofs::Kept::found_enough))]
 pub fn judge_info(alloc: Global, wanted: Wanted, value: &Value) -> Result<Vec<Fault>, OutOfMemory>
     ensures { IfOk result (λ fs. AreFound wanted (info_faults (view value.now)) (pairs_of fs.items)) }
 {
@@ -85,5 +92,6 @@ pub fn judge_info(alloc: Global, wanted: Wanted, value: &Value) -> Result<Vec<Fa
         return Ok(id);
     }
     let properties = judge_option(alloc, wanted, &Properties, value, "properties")?;
-    joined(id, properties)
+    let found = joined(id, properties)?;
+    Ok(found)
 }

@@ -21,6 +21,7 @@ pub trait Judge {
         ensures { IfOk result (λ fs. AreFound wanted (faults self.now (view value.now)) (pairs_of fs.items)) };
 }
 
+#[tactic(auto, using(crate::proofs::Wholes::each_next, crate::proofs::Wholes::each_enough, crate::proofs::Wholes::each_end, crate::proofs::Kept::so_far_none))]
 fn judge_each<J: Judge>(
     alloc: Global,
     wanted: Wanted,
@@ -44,6 +45,7 @@ fn judge_each<J: Judge>(
 ///
 /// # Errors
 /// Where memory is refused.
+#[tactic(auto, using(crate::proofs::Wholes::array_found, crate::proofs::Wholes::array_none))]
 pub fn judge_list<J: Judge>(
     alloc: Global,
     wanted: Wanted,
@@ -53,11 +55,16 @@ pub fn judge_list<J: Judge>(
     ensures { IfOk result (λ fs. AreFound wanted (list_faults (J.faults of.now) (view value.now)) (pairs_of fs.items)) }
 {
     match value.as_array() {
-        Some(items) => judge_each(alloc, wanted, of, items),
-        None => one(alloc, FaultKind::WrongKind),
+        Some(items) => {
+            Ok(judge_each(alloc, wanted, of, items)?)
+        }
+        None => {
+            Ok(one(alloc, FaultKind::WrongKind)?)
+        }
     }
 }
 
+#[tactic(auto, using(crate::proofs::Wholes::other_than_two, crate::proofs::Wholes::first_enough, crate::proofs::Wholes::both_found))]
 fn judge_two<J: Judge, K: Judge>(
     alloc: Global,
     wanted: Wanted,
@@ -68,16 +75,17 @@ fn judge_two<J: Judge, K: Judge>(
     ensures { IfOk result (λ fs. AreFound wanted (two_faults (J.faults first.now) (K.faults second.now) (map view values.now)) (pairs_of fs.items)) }
 {
     if values.len() != 2 {
-        return one(alloc, FaultKind::NotTwo);
+        let found = one(alloc, FaultKind::NotTwo)?;
+        return Ok(found);
     }
     let mut found = Vec::new(alloc);
-    let part = first.judge(alloc, wanted, &values[0])?;
-    put_under_index(&mut found, part, 0)?;
+    let x = first.judge(alloc, wanted, &values[0])?;
+    put_under_index(&mut found, x, 0)?;
     if is_enough(wanted, &found) {
         return Ok(found);
     }
-    let part = second.judge(alloc, wanted, &values[1])?;
-    put_under_index(&mut found, part, 1)?;
+    let y = second.judge(alloc, wanted, &values[1])?;
+    put_under_index(&mut found, y, 1)?;
     Ok(found)
 }
 
@@ -85,6 +93,7 @@ fn judge_two<J: Judge, K: Judge>(
 ///
 /// # Errors
 /// Where memory is refused.
+#[tactic(auto, using(crate::proofs::Wholes::array_found, crate::proofs::Wholes::array_none))]
 pub fn judge_pair<J: Judge, K: Judge>(
     alloc: Global,
     wanted: Wanted,
@@ -95,8 +104,12 @@ pub fn judge_pair<J: Judge, K: Judge>(
     ensures { IfOk result (λ fs. AreFound wanted (pair_faults (J.faults first.now) (K.faults second.now) (view value.now)) (pairs_of fs.items)) }
 {
     match value.as_array() {
-        Some(items) => judge_two(alloc, wanted, first, second, items),
-        None => one(alloc, FaultKind::WrongKind),
+        Some(items) => {
+            Ok(judge_two(alloc, wanted, first, second, items)?)
+        }
+        None => {
+            Ok(one(alloc, FaultKind::WrongKind)?)
+        }
     }
 }
 

@@ -15,6 +15,7 @@ use std::alloc::Global;
 ///
 /// # Errors
 /// Where memory is refused.
+#[tactic(auto, using(crate::proofs::Wholes::option_none, crate::proofs::Wholes::option_some))]
 pub fn judge_option<J: Judge>(
     alloc: Global,
     wanted: Wanted,
@@ -28,7 +29,8 @@ pub fn judge_option<J: Judge>(
         None => Ok(Vec::new(alloc)),
         Some(there) => {
             let part = of.judge(alloc, wanted, there)?;
-            under_name(alloc, part, member)
+            let found = under_name(alloc, part, member)?;
+            Ok(found)
         }
     }
 }
@@ -37,6 +39,7 @@ pub fn judge_option<J: Judge>(
 ///
 /// # Errors
 /// Where memory is refused.
+#[tactic(auto, using(crate::proofs::Wholes::member_none, crate::proofs::Wholes::member_some))]
 pub fn judge_member<J: Judge>(
     alloc: Global,
     wanted: Wanted,
@@ -48,12 +51,14 @@ pub fn judge_member<J: Judge>(
 {
     match value.get(member) {
         None => {
-            let part = one(alloc, FaultKind::Missing)?;
-            under_name(alloc, part, member)
+            let missing = one(alloc, FaultKind::Missing)?;
+            let found = under_name(alloc, missing, member)?;
+            Ok(found)
         }
         Some(there) => {
             let part = of.judge(alloc, wanted, there)?;
-            under_name(alloc, part, member)
+            let found = under_name(alloc, part, member)?;
+            Ok(found)
         }
     }
 }
@@ -62,6 +67,7 @@ pub fn judge_member<J: Judge>(
 ///
 /// # Errors
 /// Where memory is refused.
+#[tactic(auto, using(crate::proofs::Wholes::members_next, crate::proofs::Wholes::members_enough, crate::proofs::Wholes::members_end, crate::proofs::Kept::so_far_none))]
 pub fn judge_each_member<J: Judge>(
     alloc: Global,
     wanted: Wanted,

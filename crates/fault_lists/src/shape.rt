@@ -19,6 +19,7 @@ use std::alloc::Global;
 ///
 /// # Errors
 /// Where memory is refused.
+#[tactic(auto, using(crate::proofs::Wholes::outline_told, crate::proofs::Kept::one_none))]
 pub fn judge_outline<O: Outline>(
     alloc: Global,
     positions: Vec<Pos>,
@@ -28,7 +29,9 @@ pub fn judge_outline<O: Outline>(
     let made: Result<O, Fault> = outlined(alloc, positions);
     match made {
         Ok(_) => Ok(Vec::new(alloc)),
-        Err(fault) => one_of(alloc, fault.kind),
+        Err(fault) => {
+            Ok(one_of(alloc, fault.kind)?)
+        }
     }
 }
 

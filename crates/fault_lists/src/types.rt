@@ -13,9 +13,11 @@ use std::alloc::Global;
 ///
 /// # Errors
 /// Where memory is refused.
+#[tactic(auto, using(crate::proofs::Kept::one_under))]
 pub fn type_fault(alloc: Global, kind: FaultKind) -> Result<Vec<Fault>, OutOfMemory>
     ensures { IfOk result (λ fs. AtMostOne (under (name_turn (codes "type")) (here kind)) (pairs_of fs.items)) }
 {
     let part = one(alloc, kind)?;
-    under_name(alloc, part, "type")
+    let found = under_name(alloc, part, "type")?;
+    Ok(found)
 }

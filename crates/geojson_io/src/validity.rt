@@ -47,6 +47,7 @@ fn judge_as(
 }
 
 /// The faults of a value that stands for a text.
+#[tactic(auto, using(fault_lists::proofs::Wholes::found_leaf))]
 fn judge_root(
     alloc: Global,
     wanted: Wanted,
@@ -56,11 +57,11 @@ fn judge_root(
     ensures { IfOk result (λ fs. AreFound wanted (geojson_faults grid.now (view value.now)) (pairs_of fs.items)) }
 {
     if !value.is_object() {
-        return one(alloc, FaultKind::WrongKind);
+        return Ok(one(alloc, FaultKind::WrongKind)?);
     }
     match root_of(value) {
         Ok(root) => judge_as(alloc, wanted, grid, root, value),
-        Err(kind) => type_fault(alloc, kind),
+        Err(kind) => Ok(type_fault(alloc, kind)?),
     }
 }
 
@@ -81,7 +82,7 @@ fn judge_text(alloc: Global, bytes: &[u8], grid: &Grid) -> Result<Vec<Fault>, Ou
 {
     match document(alloc, bytes) {
         Ok(value) => judge_root(alloc, Wanted::All, grid, &value),
-        Err(fault) => one_of(alloc, fault.kind),
+        Err(fault) => Ok(one_of(alloc, fault.kind)?),
     }
 }
 

@@ -115,7 +115,7 @@ fn judge_content(
         limits: *limits,
     };
     let objects = judge_objects(alloc, wanted, &on, value)?;
-    joined(arcs, objects)
+    Ok(joined(arcs, objects)?)
 }
 
 /// The limits of a transform with these faults. Where it has any, absolute numbers have none.
@@ -146,7 +146,7 @@ fn judge_with(
     if is_enough(wanted, &content) {
         return Ok(content);
     }
-    joined(content, under_name(alloc, later, "transform")?)
+    Ok(joined(content, under_name(alloc, later, "transform")?)?)
 }
 
 fn judge_members(
@@ -163,15 +163,16 @@ fn judge_members(
 }
 
 /// The faults of a topology's value.
+#[tactic(auto, using(fault_lists::proofs::Wholes::found_leaf))]
 fn judge_value(alloc: Global, wanted: Wanted, value: &Value) -> Result<Vec<Fault>, OutOfMemory>
     ensures { IfOk result (λ fs. AreFound wanted (topology_faults (view value.now)) (pairs_of fs.items)) }
 {
     if !value.is_object() {
-        return one(alloc, FaultKind::WrongKind);
+        return Ok(one(alloc, FaultKind::WrongKind)?);
     }
     match judge_type(value, "Topology") {
         Ok(()) => judge_members(alloc, wanted, value),
-        Err(kind) => type_fault(alloc, kind),
+        Err(kind) => Ok(type_fault(alloc, kind)?),
     }
 }
 
@@ -211,6 +212,6 @@ pub fn faults(alloc: Global, bytes: &[u8]) -> Result<Vec<Fault>, OutOfMemory>
 {
     match document(alloc, bytes) {
         Ok(value) => judge_value(alloc, Wanted::All, &value),
-        Err(fault) => one_of(alloc, fault.kind),
+        Err(fault) => Ok(one_of(alloc, fault.kind)?),
     }
 }

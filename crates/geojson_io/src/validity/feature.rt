@@ -18,6 +18,7 @@ use serde_json::Value;
 use std::alloc::Global;
 
 /// The members of a feature.
+#[tactic(auto, using(fault_lists::proofs::Wholes::found_parts))]
 pub fn judge_feature(
     alloc: Global,
     wanted: Wanted,
@@ -32,7 +33,7 @@ pub fn judge_feature(
         return Ok(geometry);
     }
     let info = judge_info(alloc, wanted, value)?;
-    joined(geometry, info)
+    Ok(joined(geometry, info)?)
 }
 
 /// An element of a FeatureCollection.
@@ -44,13 +45,14 @@ pub struct FeatureIn {
 impl Judge for FeatureIn {
     ghost faults = { λ p. element_of_features_faults p.grid };
 
+    #[tactic(auto, using(fault_lists::proofs::Wholes::found_leaf))]
     fn judge(&self, alloc: Global, wanted: Wanted, value: &Value) -> Result<Vec<Fault>, OutOfMemory> {
         if !value.is_object() {
-            return one(alloc, FaultKind::WrongKind);
+            return Ok(one(alloc, FaultKind::WrongKind)?);
         }
         match judge_type(value, "Feature") {
             Ok(()) => judge_feature(alloc, wanted, &self.grid, value),
-            Err(kind) => type_fault(alloc, kind),
+            Err(kind) => Ok(type_fault(alloc, kind)?),
         }
     }
 }

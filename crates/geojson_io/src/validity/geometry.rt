@@ -29,6 +29,7 @@ struct CoordinatesOf {
 impl Judge for CoordinatesOf {
     ghost faults = { λ p. coordinates_faults p.grid p.kind };
 
+    #[tactic(auto, using(fault_lists::proofs::Wholes::found_leaf))]
     fn judge(&self, alloc: Global, wanted: Wanted, value: &Value) -> Result<Vec<Fault>, OutOfMemory> {
         let grid = self.grid;
         let parts = ShapeParts {
@@ -63,16 +64,17 @@ pub struct GeometryIn {
 impl Judge for GeometryIn {
     ghost faults = { λ p. unless_null (geometry_faults p.grid) };
 
+    #[tactic(auto, using(fault_lists::proofs::Wholes::found_leaf))]
     fn judge(&self, alloc: Global, wanted: Wanted, value: &Value) -> Result<Vec<Fault>, OutOfMemory> {
         if value.is_null() {
             return Ok(Vec::new(alloc));
         }
         if !value.is_object() {
-            return one(alloc, FaultKind::WrongKind);
+            return Ok(one(alloc, FaultKind::WrongKind)?);
         }
         match GeometryType::of(value) {
             Ok(kind) => judge_geometry(alloc, wanted, &self.grid, kind, value),
-            Err(kind) => type_fault(alloc, kind),
+            Err(kind) => Ok(type_fault(alloc, kind)?),
         }
     }
 }

@@ -26,23 +26,25 @@ struct NumberOn {
     axis: Axis,
 }
 
+#[tactic(auto, using(fault_lists::proofs::Kept::one_none))]
 fn judge_number(alloc: Global, axis: &Axis, a: i64) -> Result<Vec<Fault>, OutOfMemory>
     ensures { IfOk result (λ fs. AtMostOne (axis_faults axis.now a) (pairs_of fs.items)) }
 {
     match axis.to_grid(a) {
         Ok(_) => Ok(Vec::new(alloc)),
-        Err(AxisFault::OffGrid) => one(alloc, FaultKind::OffGrid),
-        Err(AxisFault::OutOfRange) => one(alloc, FaultKind::OutOfRange),
+        Err(AxisFault::OffGrid) => Ok(one(alloc, FaultKind::OffGrid)?),
+        Err(AxisFault::OutOfRange) => Ok(one(alloc, FaultKind::OutOfRange)?),
     }
 }
 
 impl Judge for NumberOn {
     ghost faults = { λ p. coordinate_faults p.axis };
 
+    #[tactic(auto, using(fault_lists::proofs::Wholes::found_leaf))]
     fn judge(&self, alloc: Global, wanted: Wanted, value: &Value) -> Result<Vec<Fault>, OutOfMemory> {
         match whole_number(value) {
-            Ok(a) => judge_number(alloc, &self.axis, a),
-            Err(kind) => one(alloc, kind),
+            Ok(a) => Ok(judge_number(alloc, &self.axis, a)?),
+            Err(kind) => Ok(one(alloc, kind)?),
         }
     }
 }
@@ -50,6 +52,7 @@ impl Judge for NumberOn {
 impl Judge for Position {
     ghost faults = { λ p. position_faults p.grid };
 
+    #[tactic(auto, using(fault_lists::proofs::Wholes::found_leaf))]
     fn judge(&self, alloc: Global, wanted: Wanted, value: &Value) -> Result<Vec<Fault>, OutOfMemory> {
         let x = NumberOn {
             axis: self.grid.x_axis(),
@@ -69,12 +72,13 @@ fn judge_positions<O: Outline>(
     ensures { IfOk result (λ fs. AtMostOne (outline_at_faults position.now.grid (λ ps. outline_faults (O.fault ps)) (view value.now)) (pairs_of fs.items)) }
 {
     match position.read_positions(alloc, value) {
-        Ok(positions) => judge_outline::<O>(alloc, positions),
+        Ok(positions) => Ok(judge_outline::<O>(alloc, positions)?),
         Err(_) => Err(OutOfMemory),
     }
 }
 
 /// A list of positions, of which a line or a ring is asked where none of them has a fault.
+#[tactic(auto, using(fault_lists::proofs::Wholes::found_leaf, fault_lists::proofs::Wholes::unless_found))]
 fn judge_list_of<O: Outline>(
     alloc: Global,
     wanted: Wanted,
@@ -86,7 +90,7 @@ fn judge_list_of<O: Outline>(
     let position = Position { grid: *grid };
     let found = judge_list(alloc, wanted, &position, value)?;
     if found.is_empty() {
-        return judge_positions::<O>(alloc, &position, value);
+        return Ok(judge_positions::<O>(alloc, &position, value)?);
     }
     Ok(found)
 }
@@ -100,6 +104,7 @@ pub struct LineOn {
 impl Judge for LineOn {
     ghost faults = { λ p. line_at_faults p.grid };
 
+    #[tactic(auto, using(fault_lists::proofs::Wholes::found_leaf))]
     fn judge(&self, alloc: Global, wanted: Wanted, value: &Value) -> Result<Vec<Fault>, OutOfMemory> {
         judge_list_of::<Line>(alloc, wanted, &self.grid, value)
     }
@@ -114,6 +119,7 @@ pub struct RingOn {
 impl Judge for RingOn {
     ghost faults = { λ p. ring_at_faults p.grid };
 
+    #[tactic(auto, using(fault_lists::proofs::Wholes::found_leaf))]
     fn judge(&self, alloc: Global, wanted: Wanted, value: &Value) -> Result<Vec<Fault>, OutOfMemory> {
         judge_list_of::<Ring>(alloc, wanted, &self.grid, value)
     }

@@ -43,16 +43,17 @@ fn judge_steps(
 impl Judge for ArcIn {
     ghost faults = { λ p. arc_faults p.limits };
 
+    #[tactic(auto, using(fault_lists::proofs::Wholes::found_leaf))]
     fn judge(&self, alloc: Global, wanted: Wanted, value: &Value) -> Result<Vec<Fault>, OutOfMemory> {
         let Some(items) = value.as_array() else {
-            return one(alloc, FaultKind::WrongKind);
+            return Ok(one(alloc, FaultKind::WrongKind)?);
         };
         let found = judge_steps(alloc, wanted, &self.limits, items)?;
         if !found.is_empty() {
             return Ok(found);
         }
         if items.len() < 2 {
-            return one(alloc, FaultKind::TooShort);
+            return Ok(one(alloc, FaultKind::TooShort)?);
         }
         Ok(found)
     }

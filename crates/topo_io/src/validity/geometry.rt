@@ -30,6 +30,7 @@ struct BodyIn<'g, 'a> {
 impl Judge for BodyIn<'_, '_> {
     ghost faults = { λ p. body_faults p.on.now.limits (named p.on.now.arcs) p.kind };
 
+    #[tactic(auto, using(fault_lists::proofs::Wholes::found_leaf))]
     fn judge(&self, alloc: Global, wanted: Wanted, value: &Value) -> Result<Vec<Fault>, OutOfMemory> {
         let on = self.on;
         let parts = ShapeParts {
@@ -63,6 +64,7 @@ fn judge_body(
 }
 
 /// Judges a geometry of that type, none for null.
+#[tactic(auto, using(fault_lists::proofs::Wholes::found_parts))]
 pub(crate) fn judge_as(
     alloc: Global,
     wanted: Wanted,
@@ -77,7 +79,7 @@ pub(crate) fn judge_as(
         return Ok(body);
     }
     let info = judge_info(alloc, wanted, value)?;
-    joined(body, info)
+    Ok(joined(body, info)?)
 }
 
 /// A geometry of a collection.
@@ -89,13 +91,14 @@ pub struct GeometryIn<'g, 'a> {
 impl Judge for GeometryIn<'_, '_> {
     ghost faults = { λ p. geometry_faults p.on.now.limits (named p.on.now.arcs) };
 
+    #[tactic(auto, using(fault_lists::proofs::Wholes::found_leaf))]
     fn judge(&self, alloc: Global, wanted: Wanted, value: &Value) -> Result<Vec<Fault>, OutOfMemory> {
         if !value.is_object() {
-            return one(alloc, FaultKind::WrongKind);
+            return Ok(one(alloc, FaultKind::WrongKind)?);
         }
         match geometry_type(value) {
             Ok(kind) => judge_as(alloc, wanted, self.on, kind, value),
-            Err(kind) => type_fault(alloc, kind),
+            Err(kind) => Ok(type_fault(alloc, kind)?),
         }
     }
 }

@@ -41,21 +41,22 @@ fn judge_index(alloc: Global, count: usize, value: &Value) -> Result<Vec<Fault>,
             if ArcRef::from_index(index).arc < count {
                 Ok(Vec::new(alloc))
             } else {
-                one(alloc, FaultKind::NoArc)
+                Ok(one(alloc, FaultKind::NoArc)?)
             }
         }
-        Err(kind) => one(alloc, kind),
+        Err(kind) => Ok(one(alloc, kind)?),
     }
 }
 
 impl Judge for IndexIn<'_> {
     ghost faults = { λ p. index_faults (named p.arcs) };
 
+    #[tactic(auto, using(fault_lists::proofs::Wholes::found_leaf))]
     fn judge(&self, alloc: Global, wanted: Wanted, value: &Value) -> Result<Vec<Fault>, OutOfMemory> {
         match self.arcs {
             Named::Unknown => Ok(Vec::new(alloc)),
-            Named::Counted(count) => judge_index(alloc, count, value),
-            Named::Known(lists) => judge_index(alloc, lists.arcs.len(), value),
+            Named::Counted(count) => Ok(judge_index(alloc, count, value)?),
+            Named::Known(lists) => Ok(judge_index(alloc, lists.arcs.len(), value)?),
         }
     }
 }

@@ -48,13 +48,14 @@ struct LayerIn<'g, 'a> {
 impl Judge for LayerIn<'_, '_> {
     ghost faults = { λ p. layer_faults p.on.now.limits (named p.on.now.arcs) };
 
+    #[tactic(auto, using(fault_lists::proofs::Wholes::found_leaf))]
     fn judge(&self, alloc: Global, wanted: Wanted, value: &Value) -> Result<Vec<Fault>, OutOfMemory> {
         if !value.is_object() {
-            return one(alloc, FaultKind::WrongKind);
+            return Ok(one(alloc, FaultKind::WrongKind)?);
         }
         match layer_type(value) {
             Ok(kind) => judge_typed(alloc, wanted, self.on, kind, value),
-            Err(kind) => type_fault(alloc, kind),
+            Err(kind) => Ok(type_fault(alloc, kind)?),
         }
     }
 }
@@ -68,10 +69,11 @@ pub struct ObjectsIn<'g, 'a> {
 impl Judge for ObjectsIn<'_, '_> {
     ghost faults = { λ p. objects_faults p.on.now.limits (named p.on.now.arcs) };
 
+    #[tactic(auto, using(fault_lists::proofs::Wholes::found_leaf))]
     fn judge(&self, alloc: Global, wanted: Wanted, value: &Value) -> Result<Vec<Fault>, OutOfMemory> {
         match value.as_object() {
             Some(members) => judge_each_member(alloc, wanted, &LayerIn { on: self.on }, members),
-            None => one(alloc, FaultKind::WrongKind),
+            None => Ok(one(alloc, FaultKind::WrongKind)?),
         }
     }
 }

@@ -182,6 +182,7 @@ pub struct ListIn<'g, 'a> {
 impl Judge for ListIn<'_, '_> {
     ghost faults = { λ p. stitched_list_faults (named p.on.now.arcs) (faults_as p.kind) };
 
+    #[tactic(auto, using(fault_lists::proofs::Wholes::found_leaf))]
     fn judge(&self, alloc: Global, wanted: Wanted, value: &Value) -> Result<Vec<Fault>, OutOfMemory> {
         let of = IndexIn { arcs: self.on.arcs };
         let found = judge_indexes(alloc, wanted, &of, value)?;
@@ -189,7 +190,7 @@ impl Judge for ListIn<'_, '_> {
             return Ok(found);
         }
         match self.on.arcs {
-            Named::Known(lists) => judge_used(alloc, lists, self.kind, value),
+            Named::Known(lists) => Ok(judge_used(alloc, lists, self.kind, value)?),
             _ => Ok(found),
         }
     }

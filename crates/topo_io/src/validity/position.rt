@@ -64,7 +64,7 @@ fn judge_sum(
             if is_within(axis, from + i128::from(a)) {
                 Ok(Vec::new(alloc))
             } else {
-                one(alloc, FaultKind::OutOfRange)
+                Ok(one(alloc, FaultKind::OutOfRange)?)
             }
         }
     }
@@ -73,10 +73,11 @@ fn judge_sum(
 impl Judge for DifferenceIn {
     ghost faults = { λ p. difference_faults p.axis p.from };
 
+    #[tactic(auto, using(fault_lists::proofs::Wholes::found_leaf))]
     fn judge(&self, alloc: Global, _wanted: Wanted, value: &Value) -> Result<Vec<Fault>, OutOfMemory> {
         match whole_number(value) {
-            Ok(a) => judge_sum(alloc, &self.axis, self.from, a),
-            Err(kind) => one(alloc, kind),
+            Ok(a) => Ok(judge_sum(alloc, &self.axis, self.from, a)?),
+            Err(kind) => Ok(one(alloc, kind)?),
         }
     }
 }
@@ -168,6 +169,7 @@ pub fn judge_step(
 impl Judge for Position {
     ghost faults = { λ p. position_faults p.limits };
 
+    #[tactic(auto, using(fault_lists::proofs::Wholes::found_leaf))]
     fn judge(&self, alloc: Global, wanted: Wanted, value: &Value) -> Result<Vec<Fault>, OutOfMemory> {
         judge_step(alloc, wanted, &self.limits, &Sums::start(), value)
     }

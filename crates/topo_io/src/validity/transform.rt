@@ -31,10 +31,10 @@ fn judge_number(
     ensures { IfOk result (λ fs. AtMostOne (within_faults least greatest a) (pairs_of fs.items)) }
 {
     if a < least {
-        return one(alloc, FaultKind::OutOfRange);
+        return Ok(one(alloc, FaultKind::OutOfRange)?);
     }
     if a > greatest {
-        return one(alloc, FaultKind::OutOfRange);
+        return Ok(one(alloc, FaultKind::OutOfRange)?);
     }
     Ok(Vec::new(alloc))
 }
@@ -42,10 +42,11 @@ fn judge_number(
 impl Judge for Within {
     ghost faults = { λ p. element_faults (within_faults p.least p.greatest) };
 
+    #[tactic(auto, using(fault_lists::proofs::Wholes::found_leaf))]
     fn judge(&self, alloc: Global, wanted: Wanted, value: &Value) -> Result<Vec<Fault>, OutOfMemory> {
         match whole_number(value) {
-            Ok(a) => judge_number(alloc, self.least, self.greatest, a),
-            Err(kind) => one(alloc, kind),
+            Ok(a) => Ok(judge_number(alloc, self.least, self.greatest, a)?),
+            Err(kind) => Ok(one(alloc, kind)?),
         }
     }
 }
@@ -59,11 +60,13 @@ struct Both {
 impl Judge for Both {
     ghost faults = { λ p. both_faults p.of.least p.of.greatest };
 
+    #[tactic(auto, using(fault_lists::proofs::Wholes::found_leaf))]
     fn judge(&self, alloc: Global, wanted: Wanted, value: &Value) -> Result<Vec<Fault>, OutOfMemory> {
         judge_pair(alloc, wanted, &self.of, &self.of, value)
     }
 }
 
+#[tactic(auto, using(fault_lists::proofs::Wholes::found_parts))]
 fn judge_members(alloc: Global, wanted: Wanted, value: &Value) -> Result<Vec<Fault>, OutOfMemory>
     ensures { IfOk result (λ fs. AreFound wanted (transform_members (view value.now)) (pairs_of fs.items)) }
 {
@@ -84,10 +87,11 @@ fn judge_members(alloc: Global, wanted: Wanted, value: &Value) -> Result<Vec<Fau
         return Ok(first);
     }
     let others = judge_member(alloc, wanted, &translate, value, "translate")?;
-    joined(first, others)
+    Ok(joined(first, others)?)
 }
 
 /// The faults of a transform.
+#[tactic(auto, using(fault_lists::proofs::Wholes::found_leaf))]
 pub fn judge_transform(
     alloc: Global,
     wanted: Wanted,
@@ -96,7 +100,7 @@ pub fn judge_transform(
     ensures { IfOk result (λ fs. AreFound wanted (transform_faults (view value.now)) (pairs_of fs.items)) }
 {
     if !value.is_object() {
-        return one(alloc, FaultKind::WrongKind);
+        return Ok(one(alloc, FaultKind::WrongKind)?);
     }
     judge_members(alloc, wanted, value)
 }
