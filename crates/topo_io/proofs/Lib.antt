@@ -1,3 +1,4 @@
+pub mod Ascending
 pub mod Comparing
 pub mod Arcs
 pub mod Indexes
