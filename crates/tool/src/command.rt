@@ -122,7 +122,7 @@ fn print<'a, O: Sink>(
     match made {
         Made::Verdict(checked) => print_checked(checked, out),
         Made::Compared(compared) => print_difference(compared, found.get_flag("json"), out),
-        Made::Faults(faults) => print_faults(alloc, found, faults, out),
+        Made::Faults(faults) => print_faults(found, faults, out),
         Made::Topology(topology) => {
             let question = Question {
                 alloc,

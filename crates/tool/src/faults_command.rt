@@ -7,19 +7,26 @@ use clap::ArgMatches;
 use fault_reports::{Format, Report, reports, spelled_text, write_json, write_lines};
 use faults::OutOfMemory;
 use grid::Grid;
-use sinks::{Sink, put};
+use sinks::{Sink, WriteFault, put};
 use std::alloc::Global;
 
-/// The errors of each file.
+/// The errors of a file, and its name as JSON.
+#[derive(Drop)]
+struct FileReports {
+    name: String,
+    reports: Vec<Report>,
+}
+
+/// The errors of each file. Printing them takes no memory.
 #[derive(Drop)]
 pub(crate) struct Found {
-    files: Vec<Vec<Report>>,
+    files: Vec<FileReports>,
 }
 
 impl Found {
     /// Whether no file has any.
     fn is_empty(&self) -> bool {
-        self.files.iter().all(|reports| reports.is_empty())
+        self.files.iter().all(|file| file.reports.is_empty())
     }
 }
 
@@ -62,23 +69,27 @@ pub(crate) fn faults_found<'a, F: Files>(
     let names = found.get_strs("FILE").unwrap_or(&[]);
     let texts = read_all(alloc, files, names)?;
     let mut all = Vec::with_capacity(alloc, texts.len())?;
-    for text in texts.iter() {
-        all.push(found_in(alloc, &grid, text.as_slice())?)?;
+    for (name, text) in names.iter().zip(texts) {
+        all.push(FileReports {
+            name: spelled_text(alloc, *name)?,
+            reports: found_in(alloc, &grid, text.as_slice())?,
+        })?;
     }
     Ok(Found { files: all })
 }
 
 /// Prints them. The status says whether there are any.
 pub(crate) fn print_faults<'a, O: Sink>(
-    alloc: Global,
     found: &ArgMatches<'a>,
     faults: &Found,
     out: &mut O,
 ) -> Result<Status, Refusal<'a>> {
+    let is_explained = found.get_flag("explain");
     if found.get_flag("json") {
-        print_json(alloc, found, faults, out)?;
+        print_json(faults, is_explained, out)?;
     } else {
-        print_lines(found, faults, out)?;
+        let names = found.get_strs("FILE").unwrap_or(&[]);
+        print_lines(names, faults, is_explained, out)?;
     }
     if faults.is_empty() {
         Ok(Status::Done)
@@ -87,40 +98,30 @@ pub(crate) fn print_faults<'a, O: Sink>(
     }
 }
 
-fn print_lines<'a, O: Sink>(
-    found: &ArgMatches<'a>,
+fn print_lines<O: Sink>(
+    names: &[&str],
     faults: &Found,
+    is_explained: bool,
     out: &mut O,
-) -> Result<(), Refusal<'a>> {
-    let names = found.get_strs("FILE").unwrap_or(&[]);
-    for (name, reports) in names.iter().zip(faults.files.iter()) {
-        write_lines(*name, reports.as_slice(), found.get_flag("explain"), out)?;
+) -> Result<(), WriteFault> {
+    for (name, file) in names.iter().zip(faults.files.iter()) {
+        write_lines(*name, file.reports.as_slice(), is_explained, out)?;
     }
     Ok(())
 }
 
 /// One JSON array, an error a line.
-fn print_json<'a, O: Sink>(
-    alloc: Global,
-    found: &ArgMatches<'a>,
+fn print_json<O: Sink>(
     faults: &Found,
+    is_explained: bool,
     out: &mut O,
-) -> Result<(), Refusal<'a>> {
-    let names = found.get_strs("FILE").unwrap_or(&[]);
+) -> Result<(), WriteFault> {
     let mut before = 0usize;
     put(out, b"[")?;
-    for (name, reports) in names.iter().zip(faults.files.iter()) {
-        let name = spelled_text(alloc, *name)?;
-        let is_explained = found.get_flag("explain");
-        write_json(
-            name.as_str(),
-            reports.as_slice(),
-            is_explained,
-            before,
-            out,
-        )?;
+    for file in faults.files.iter() {
+        let reports = file.reports.as_slice();
+        write_json(file.name.as_str(), reports, is_explained, before, out)?;
         before = before.saturating_add(reports.len());
     }
-    put(out, b"]\n")?;
-    Ok(())
+    put(out, b"]\n")
 }
