@@ -109,12 +109,12 @@ all_upto : (p : Pair) (qs : List Pair) → AreBehind p qs → All (IsUpto p) qs
 all_upto p [] h = All-nil _
 all_upto p (q ∷ qs) h = All-cons (IsUpto p) q qs (rw h.0 refl) (all_upto p qs h.1)
 
+behind_first : (p : Pair) (ps : List Pair) → IsStrictlySortedBy pair_cmp (p ∷ ps) → AreBehind p ps
+unfolding IsStrictlySortedBy
+behind_first p ps h = h.0
+
 pub first_least : (p : Pair) (ps : List Pair) → IsAscending (p ∷ ps) → IsLeast (p ∷ ps) p
-first_least p ps a = record { present = (0, omega arith, refl); first = All-cons (IsUpto p) p ps (upto_itself p) (all_upto p ps (behind p ps a.sorted)) }
-  where
-    behind : (p : Pair) (ps : List Pair) → IsStrictlySortedBy pair_cmp (p ∷ ps) → AreBehind p ps
-    unfolding IsStrictlySortedBy
-    behind p ps h = h.0
+first_least p ps a = record { present = (0, omega arith, refl); first = All-cons (IsUpto p) p ps (upto_itself p) (all_upto p ps (behind_first p ps a.sorted)) }
 
 -- ---- parts
 

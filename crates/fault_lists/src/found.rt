@@ -24,7 +24,10 @@ pub fn is_enough(wanted: Wanted, found: &[Fault]) -> bool
     ensures { result ≡ is_full wanted (pairs_of found.now) }
 {
     match wanted {
-        Wanted::First => !found.is_empty(),
+        Wanted::First => match found.split_first() {
+            Some(_) => true,
+            None => false,
+        },
         Wanted::All => false,
     }
 }

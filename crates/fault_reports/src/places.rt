@@ -1,4 +1,6 @@
 //! Where the value of each error begins, in bytes: found in one pass along the tokens.
+ghost use Rattle.std.specs.Prelude.{◌<◌, length, IfSome};
+
 use crate::steps::{Range, Sought, through};
 use faults::{Fault, FaultKind, OutOfMemory};
 use json::{Reader, Scratch, Token};
@@ -31,7 +33,7 @@ struct Text<'t> {
 /// The first byte from here on that is no blank, comma or colon.
 fn next_value(bytes: &[u8], from: usize) -> usize {
     let mut at = from;
-    while at < bytes.len() {
+    'blanks: while at < bytes.len() {
         match bytes[at] {
             b' ' | b'\t' | b'\r' | b'\n' | b',' | b':' => at += 1,
             _ => return at,
@@ -72,7 +74,9 @@ fn place_value<'a>(
     places: &mut [usize],
     range: Range,
     depth: usize,
-) -> Option<()> {
+) -> Option<()>
+    ensures { IfSome result (λ _. length reader.new < length reader.old) }
+{
     if range.is_empty() || depth >= MAX_DEPTH {
         return skip_value(reader, MAX_DEPTH).ok();
     }
@@ -100,7 +104,10 @@ fn place_members<'a>(
     places: &mut [usize],
     range: Range,
     depth: usize,
-) -> Option<()> {
+) -> Option<()>
+    requires { depth < 127 }
+    ensures { IfSome result (λ _. length reader.new < length reader.old) }
+{
     'members: loop {
         let Some(key) = reader.next_key().ok()? else {
             return Some(());
@@ -117,7 +124,10 @@ fn place_items<'a>(
     places: &mut [usize],
     range: Range,
     depth: usize,
-) -> Option<()> {
+) -> Option<()>
+    requires { depth < 127 }
+    ensures { IfSome result (λ _. length reader.new < length reader.old) }
+{
     let mut index = 0usize;
     'items: while !reader.take_end_array() {
         let within = through(text.faults, range, depth, Sought::Index(index));

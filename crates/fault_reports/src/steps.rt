@@ -48,7 +48,7 @@ fn is_before(fault: &Fault, depth: usize, sought: Sought<'_>, is_passed: bool) -
 fn bound(faults: &[Fault], range: Range, depth: usize, sought: Sought<'_>, is_end: bool) -> usize {
     let mut low = range.from;
     let mut high = range.to;
-    while low < high {
+    'search: while low < high {
         let middle = low + (high - low) / 2;
         let is_low = match faults.get(middle) {
             Some(fault) => is_before(fault, depth, sought, is_end),
