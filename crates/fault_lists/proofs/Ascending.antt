@@ -32,7 +32,7 @@ use Rattle.fault_lists.specs.Found.{kept, AreFound}
 use Rattle.fault_lists.specs.declared.found.Wanted.TheVariants.{First}
 
 -- p comes before each of these
-abbrev AreBehind : Pair → List Pair → Type 0
+abbrev pub AreBehind : Pair → List Pair → Type 0
 AreBehind p ps = AllByRecursion (λ q. pair_cmp p q ≡ Less) ps
 
 -- the path of each begins with a later turn
@@ -109,7 +109,7 @@ all_upto : (p : Pair) (qs : List Pair) → AreBehind p qs → All (IsUpto p) qs
 all_upto p [] h = All-nil _
 all_upto p (q ∷ qs) h = All-cons (IsUpto p) q qs (rw h.0 refl) (all_upto p qs h.1)
 
-behind_first : (p : Pair) (ps : List Pair) → IsStrictlySortedBy pair_cmp (p ∷ ps) → AreBehind p ps
+pub behind_first : (p : Pair) (ps : List Pair) → IsStrictlySortedBy pair_cmp (p ∷ ps) → AreBehind p ps
 unfolding IsStrictlySortedBy
 behind_first p ps h = h.0
 

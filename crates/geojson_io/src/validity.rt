@@ -1,4 +1,5 @@
 //! The faults of a GeoJSON text, all or the first, of which nothing else is kept.
+ghost use Rattle.fault_lists.specs.Ascending.{IsAscending};
 ghost use Rattle.fault_lists.specs.Found.{AreFound, pairs_of};
 ghost use Rattle.geojson_io.specs.Features.{faults_of_text, geojson_faults, root_faults};
 ghost use Rattle.reading.specs.Fault.{LeastOrWant};
@@ -95,7 +96,8 @@ fn judge_text(alloc: Global, bytes: &[u8], grid: &Grid) -> Result<Vec<Fault>, Ou
 /// # Errors
 /// Where memory is refused.
 pub fn faults(alloc: Global, bytes: &[u8], grid: &Grid) -> Result<Vec<Fault>, OutOfMemory>
-    ensures { IfOk result (λ fs. pairs_of fs.items ≡ faults_of_text grid.now bytes.now) }
+    ensures all { IfOk result (λ fs. pairs_of fs.items ≡ faults_of_text grid.now bytes.now) }
+    ensures sorted { IfOk result (λ fs. IsAscending (pairs_of fs.items)) }
 {
     match token_reader::read_features(alloc, bytes, grid) {
         Ok(_) => Ok(Vec::new(alloc)),
