@@ -1,5 +1,5 @@
 -- The faults of a GeoJSON text are listed in order.
-use Rattle.std.proofs.Common.{◌≡◌, ℕ, ℤ, List, [], Option, Some, None, Result, Ok, Err, codes, refl}
+use Rattle.std.proofs.Common.{◌≡◌, ℕ, ℤ, List, [], Option, Some, None, Result, Ok, Err, codes, refl, sym, subst}
 use Rattle.serde_json.specs.Data.{Data, Members}
 use Rattle.serde_json.specs.Find.{get, as_object}
 use Rattle.faults.specs.Path.{name}
@@ -71,3 +71,7 @@ module _ (t : Transform) where
 
   pub ascending_faults : (bytes : List ℕ) → IsAscending (faults_of_text t bytes)
   ascending_faults bytes = ascending_text (geojson_faults t) (document bytes) ascending_geojson
+
+-- what was told is in order, where it is all
+pub told_in_order : (t : Transform) (bytes : List ℕ) (qs : List Pair) → qs ≡ faults_of_text t bytes → IsAscending qs
+told_in_order t bytes qs is = subst IsAscending (sym is) (ascending_faults t bytes)

@@ -95,6 +95,7 @@ fn judge_text(alloc: Global, bytes: &[u8], grid: &Grid) -> Result<Vec<Fault>, Ou
 ///
 /// # Errors
 /// Where memory is refused.
+#[tactic(auto, using(crate::proofs::Ascending::told_in_order))]
 pub fn faults(alloc: Global, bytes: &[u8], grid: &Grid) -> Result<Vec<Fault>, OutOfMemory>
     ensures all { IfOk result (λ fs. pairs_of fs.items ≡ faults_of_text grid.now bytes.now) }
     ensures sorted { IfOk result (λ fs. IsAscending (pairs_of fs.items)) }
@@ -102,6 +103,6 @@ pub fn faults(alloc: Global, bytes: &[u8], grid: &Grid) -> Result<Vec<Fault>, Ou
     match token_reader::read_features(alloc, bytes, grid) {
         Ok(_) => Ok(Vec::new(alloc)),
         Err(Stop::OutOfMemory) => Err(OutOfMemory),
-        Err(Stop::Unread) => judge_text(alloc, bytes, grid),
+        Err(Stop::Unread) => Ok(judge_text(alloc, bytes, grid)?),
     }
 }
