@@ -80,8 +80,8 @@ unfolding IsStrictlySortedBy
 sorted_under t [] qs a later b = b
 sorted_under t (p ∷ ps) qs a later b = (
   all_append (λ q. pair_cmp (prefixed t p) q ≡ Less) (under t ps) qs
-  (all_map (λ q. pair_cmp (prefixed t p) q ≡ Less) (prefixed t) ps (all_weaker _ _ ps (λ q h. before_prefixed t p q h) a.0))
-  (before_beyond t p qs later),
+      (all_map (λ q. pair_cmp (prefixed t p) q ≡ Less) (prefixed t) ps (all_weaker _ _ ps (λ q h. before_prefixed t p q h) a.0))
+      (before_beyond t p qs later),
   sorted_under t ps qs a.1 later b,
 )
 
@@ -174,6 +174,7 @@ ascending_pair first second a b d = go (as_array d)
     two (x ∷ []) = ascending_here kind.NotTwo
     two (x ∷ y ∷ []) = ascending_more (index 0) (first x) _ (a x) (beyond_under (index 0) (index 1) (second y) refl) (ascending_under (index 1) (second y) (b y))
     two (x ∷ y ∷ z ∷ ds) = ascending_here kind.NotTwo
+
     go : (o : Option Items) → IsAscending (array_faults (two_faults first second) o)
     go None = ascending_here kind.WrongKind
     go (Some ds) = two (list_of ds)
@@ -196,6 +197,7 @@ ascending_element more a d = go (as_number d)
     whole : (o : Option ℤ) → IsAscending (whole_faults more o)
     whole None = ascending_here kind.NotWhole
     whole (Some n) = a n
+
     go : (o : Option Num) → IsAscending (number_faults more o)
     go None = ascending_here kind.WrongKind
     go (Some n) = whole (as_i64 n)

@@ -142,9 +142,7 @@ pub fn found_of(alloc: Global, judged: Result<(), Fault>) -> Result<Vec<Fault>, 
 {
     match judged {
         Ok(()) => Ok(Vec::new(alloc)),
-        Err(fault) => {
-            Ok(one_of(alloc, fault.kind)?)
-        }
+        Err(fault) => { Ok(one_of(alloc, fault.kind)?) }
     }
 }
 
@@ -157,8 +155,6 @@ pub fn one_of(alloc: Global, kind: FaultKind) -> Result<Vec<Fault>, OutOfMemory>
 {
     match kind {
         FaultKind::OutOfMemory => Err(OutOfMemory),
-        _ => {
-            Ok(one(alloc, kind)?)
-        }
+        _ => { Ok(one(alloc, kind)?) }
     }
 }

@@ -18,7 +18,12 @@ impl Judge for Ids {
     ghost faults = { λ _. id_faults };
 
     #[tactic(auto, using(crate::proofs::Wholes::found_leaf))]
-    fn judge(&self, alloc: Global, wanted: Wanted, value: &Value) -> Result<Vec<Fault>, OutOfMemory> {
+    fn judge(
+        &self,
+        alloc: Global,
+        wanted: Wanted,
+        value: &Value,
+    ) -> Result<Vec<Fault>, OutOfMemory> {
         match value {
             Value::Null | Value::String(_) => Ok(Vec::new(alloc)),
             Value::Number(number) => match number.as_i64() {
@@ -70,7 +75,12 @@ impl Judge for Properties {
     ghost faults = { λ _. properties_faults };
 
     #[tactic(auto, using(crate::proofs::Wholes::found_leaf))]
-    fn judge(&self, alloc: Global, wanted: Wanted, value: &Value) -> Result<Vec<Fault>, OutOfMemory> {
+    fn judge(
+        &self,
+        alloc: Global,
+        wanted: Wanted,
+        value: &Value,
+    ) -> Result<Vec<Fault>, OutOfMemory> {
         match value {
             Value::Null => Ok(Vec::new(alloc)),
             Value::Object(_) => Ok(judge_object(alloc, wanted, value)?),

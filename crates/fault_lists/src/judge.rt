@@ -55,12 +55,8 @@ pub fn judge_list<J: Judge>(
     ensures { IfOk result (λ fs. AreFound wanted (list_faults (J.faults of.now) (view value.now)) (pairs_of fs.items)) }
 {
     match value.as_array() {
-        Some(items) => {
-            Ok(judge_each(alloc, wanted, of, items)?)
-        }
-        None => {
-            Ok(one(alloc, FaultKind::WrongKind)?)
-        }
+        Some(items) => { Ok(judge_each(alloc, wanted, of, items)?) }
+        None => { Ok(one(alloc, FaultKind::WrongKind)?) }
     }
 }
 
@@ -104,12 +100,8 @@ pub fn judge_pair<J: Judge, K: Judge>(
     ensures { IfOk result (λ fs. AreFound wanted (pair_faults (J.faults first.now) (K.faults second.now) (view value.now)) (pairs_of fs.items)) }
 {
     match value.as_array() {
-        Some(items) => {
-            Ok(judge_two(alloc, wanted, first, second, items)?)
-        }
-        None => {
-            Ok(one(alloc, FaultKind::WrongKind)?)
-        }
+        Some(items) => { Ok(judge_two(alloc, wanted, first, second, items)?) }
+        None => { Ok(one(alloc, FaultKind::WrongKind)?) }
     }
 }
 
@@ -122,7 +114,12 @@ pub struct ListOf<J> {
 impl<J: Judge> Judge for ListOf<J> {
     ghost faults = { λ p. list_faults (J.faults p.of) };
 
-    fn judge(&self, alloc: Global, wanted: Wanted, value: &Value) -> Result<Vec<Fault>, OutOfMemory> {
+    fn judge(
+        &self,
+        alloc: Global,
+        wanted: Wanted,
+        value: &Value,
+    ) -> Result<Vec<Fault>, OutOfMemory> {
         judge_list(alloc, wanted, &self.of, value)
     }
 }

@@ -29,9 +29,7 @@ pub fn judge_outline<O: Outline>(
     let made: Result<O, Fault> = outlined(alloc, positions);
     match made {
         Ok(_) => Ok(Vec::new(alloc)),
-        Err(fault) => {
-            Ok(one_of(alloc, fault.kind)?)
-        }
+        Err(fault) => { Ok(one_of(alloc, fault.kind)?) }
     }
 }
 

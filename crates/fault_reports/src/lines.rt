@@ -54,7 +54,11 @@ pub fn lines(alloc: Global, text: &[u8], offsets: &[usize]) -> Result<Vec<Place>
 }
 
 /// The same of offsets in their order, each with its number.
-fn placed(alloc: Global, text: &[u8], sorted: &[(usize, usize)]) -> Result<Vec<Place>, OutOfMemory> {
+fn placed(
+    alloc: Global,
+    text: &[u8],
+    sorted: &[(usize, usize)],
+) -> Result<Vec<Place>, OutOfMemory> {
     let mut places = Vec::new(alloc);
     places.resize(sorted.len(), Place::first())?;
     let mut here = Place::first();

@@ -33,9 +33,7 @@ pub fn remedy(kind: FaultKind) -> &'static str {
             "Lists and objects in the properties are nested more than 64 deep."
         }
         FaultKind::NoTransform => "The topology has no `transform`, so it is not quantized.",
-        FaultKind::NotTwo => {
-            "A position, a scale or a translation has other than two numbers."
-        }
+        FaultKind::NotTwo => { "A position, a scale or a translation has other than two numbers." }
         FaultKind::OtherGrid => "The files have different transforms.",
         FaultKind::BadPlan => "A plan names an index past the end of the list of files.",
         FaultKind::NoLayer => "The map has no layer of that name.",

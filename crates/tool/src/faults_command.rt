@@ -42,11 +42,7 @@ fn grid_asked<'a>(word: Option<&'a str>) -> Result<Option<Grid>, Refusal<'a>> {
 }
 
 /// The errors of a text: of GeoJSON on a grid, else of a topology.
-fn found_in(
-    alloc: Global,
-    grid: &Option<Grid>,
-    text: &[u8],
-) -> Result<Vec<Report>, OutOfMemory> {
+fn found_in(alloc: Global, grid: &Option<Grid>, text: &[u8]) -> Result<Vec<Report>, OutOfMemory> {
     match grid {
         Some(grid) => {
             let faults = geojson_io::faults(alloc, text, grid)?;
@@ -111,11 +107,7 @@ fn print_lines<O: Sink>(
 }
 
 /// One JSON array, an error a line.
-fn print_json<O: Sink>(
-    faults: &Found,
-    is_explained: bool,
-    out: &mut O,
-) -> Result<(), WriteFault> {
+fn print_json<O: Sink>(faults: &Found, is_explained: bool, out: &mut O) -> Result<(), WriteFault> {
     let mut before = 0usize;
     put(out, b"[")?;
     for file in faults.files.iter() {

@@ -149,11 +149,7 @@ fn judge_with(
     Ok(joined(content, under_name(alloc, later, "transform")?)?)
 }
 
-fn judge_members(
-    alloc: Global,
-    wanted: Wanted,
-    value: &Value,
-) -> Result<Vec<Fault>, OutOfMemory>
+fn judge_members(alloc: Global, wanted: Wanted, value: &Value) -> Result<Vec<Fault>, OutOfMemory>
     ensures { IfOk result (λ fs. AreFound wanted (transformed_faults (view value.now) (get (codes "transform") (view value.now))) (pairs_of fs.items)) }
 {
     match value.get("transform") {

@@ -46,7 +46,12 @@ impl Judge for FeatureIn {
     ghost faults = { λ p. element_of_features_faults p.grid };
 
     #[tactic(auto, using(fault_lists::proofs::Wholes::found_leaf))]
-    fn judge(&self, alloc: Global, wanted: Wanted, value: &Value) -> Result<Vec<Fault>, OutOfMemory> {
+    fn judge(
+        &self,
+        alloc: Global,
+        wanted: Wanted,
+        value: &Value,
+    ) -> Result<Vec<Fault>, OutOfMemory> {
         if !value.is_object() {
             return Ok(one(alloc, FaultKind::WrongKind)?);
         }

@@ -30,7 +30,12 @@ impl Judge for CoordinatesOf {
     ghost faults = { λ p. coordinates_faults p.grid p.kind };
 
     #[tactic(auto, using(fault_lists::proofs::Wholes::found_leaf))]
-    fn judge(&self, alloc: Global, wanted: Wanted, value: &Value) -> Result<Vec<Fault>, OutOfMemory> {
+    fn judge(
+        &self,
+        alloc: Global,
+        wanted: Wanted,
+        value: &Value,
+    ) -> Result<Vec<Fault>, OutOfMemory> {
         let grid = self.grid;
         let parts = ShapeParts {
             position: Position { grid },
@@ -65,7 +70,12 @@ impl Judge for GeometryIn {
     ghost faults = { λ p. unless_null (geometry_faults p.grid) };
 
     #[tactic(auto, using(fault_lists::proofs::Wholes::found_leaf))]
-    fn judge(&self, alloc: Global, wanted: Wanted, value: &Value) -> Result<Vec<Fault>, OutOfMemory> {
+    fn judge(
+        &self,
+        alloc: Global,
+        wanted: Wanted,
+        value: &Value,
+    ) -> Result<Vec<Fault>, OutOfMemory> {
         if value.is_null() {
             return Ok(Vec::new(alloc));
         }

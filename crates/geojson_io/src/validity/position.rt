@@ -41,7 +41,12 @@ impl Judge for NumberOn {
     ghost faults = { λ p. coordinate_faults p.axis };
 
     #[tactic(auto, using(fault_lists::proofs::Wholes::found_leaf))]
-    fn judge(&self, alloc: Global, wanted: Wanted, value: &Value) -> Result<Vec<Fault>, OutOfMemory> {
+    fn judge(
+        &self,
+        alloc: Global,
+        wanted: Wanted,
+        value: &Value,
+    ) -> Result<Vec<Fault>, OutOfMemory> {
         match whole_number(value) {
             Ok(a) => Ok(judge_number(alloc, &self.axis, a)?),
             Err(kind) => Ok(one(alloc, kind)?),
@@ -53,7 +58,12 @@ impl Judge for Position {
     ghost faults = { λ p. position_faults p.grid };
 
     #[tactic(auto, using(fault_lists::proofs::Wholes::found_leaf))]
-    fn judge(&self, alloc: Global, wanted: Wanted, value: &Value) -> Result<Vec<Fault>, OutOfMemory> {
+    fn judge(
+        &self,
+        alloc: Global,
+        wanted: Wanted,
+        value: &Value,
+    ) -> Result<Vec<Fault>, OutOfMemory> {
         let x = NumberOn {
             axis: self.grid.x_axis(),
         };
@@ -105,7 +115,12 @@ impl Judge for LineOn {
     ghost faults = { λ p. line_at_faults p.grid };
 
     #[tactic(auto, using(fault_lists::proofs::Wholes::found_leaf))]
-    fn judge(&self, alloc: Global, wanted: Wanted, value: &Value) -> Result<Vec<Fault>, OutOfMemory> {
+    fn judge(
+        &self,
+        alloc: Global,
+        wanted: Wanted,
+        value: &Value,
+    ) -> Result<Vec<Fault>, OutOfMemory> {
         judge_list_of::<Line>(alloc, wanted, &self.grid, value)
     }
 }
@@ -120,7 +135,12 @@ impl Judge for RingOn {
     ghost faults = { λ p. ring_at_faults p.grid };
 
     #[tactic(auto, using(fault_lists::proofs::Wholes::found_leaf))]
-    fn judge(&self, alloc: Global, wanted: Wanted, value: &Value) -> Result<Vec<Fault>, OutOfMemory> {
+    fn judge(
+        &self,
+        alloc: Global,
+        wanted: Wanted,
+        value: &Value,
+    ) -> Result<Vec<Fault>, OutOfMemory> {
         judge_list_of::<Ring>(alloc, wanted, &self.grid, value)
     }
 }

@@ -44,7 +44,12 @@ impl Judge for ArcIn {
     ghost faults = { λ p. arc_faults p.limits };
 
     #[tactic(auto, using(fault_lists::proofs::Wholes::found_leaf))]
-    fn judge(&self, alloc: Global, wanted: Wanted, value: &Value) -> Result<Vec<Fault>, OutOfMemory> {
+    fn judge(
+        &self,
+        alloc: Global,
+        wanted: Wanted,
+        value: &Value,
+    ) -> Result<Vec<Fault>, OutOfMemory> {
         let Some(items) = value.as_array() else {
             return Ok(one(alloc, FaultKind::WrongKind)?);
         };

@@ -31,7 +31,12 @@ impl Judge for BodyIn<'_, '_> {
     ghost faults = { λ p. body_faults p.on.now.limits (named p.on.now.arcs) p.kind };
 
     #[tactic(auto, using(fault_lists::proofs::Wholes::found_leaf))]
-    fn judge(&self, alloc: Global, wanted: Wanted, value: &Value) -> Result<Vec<Fault>, OutOfMemory> {
+    fn judge(
+        &self,
+        alloc: Global,
+        wanted: Wanted,
+        value: &Value,
+    ) -> Result<Vec<Fault>, OutOfMemory> {
         let on = self.on;
         let parts = ShapeParts {
             position: Position { limits: on.limits },
@@ -92,7 +97,12 @@ impl Judge for GeometryIn<'_, '_> {
     ghost faults = { λ p. geometry_faults p.on.now.limits (named p.on.now.arcs) };
 
     #[tactic(auto, using(fault_lists::proofs::Wholes::found_leaf))]
-    fn judge(&self, alloc: Global, wanted: Wanted, value: &Value) -> Result<Vec<Fault>, OutOfMemory> {
+    fn judge(
+        &self,
+        alloc: Global,
+        wanted: Wanted,
+        value: &Value,
+    ) -> Result<Vec<Fault>, OutOfMemory> {
         if !value.is_object() {
             return Ok(one(alloc, FaultKind::WrongKind)?);
         }

@@ -52,7 +52,12 @@ impl Judge for IndexIn<'_> {
     ghost faults = { λ p. index_faults (named p.arcs) };
 
     #[tactic(auto, using(fault_lists::proofs::Wholes::found_leaf))]
-    fn judge(&self, alloc: Global, wanted: Wanted, value: &Value) -> Result<Vec<Fault>, OutOfMemory> {
+    fn judge(
+        &self,
+        alloc: Global,
+        wanted: Wanted,
+        value: &Value,
+    ) -> Result<Vec<Fault>, OutOfMemory> {
         match self.arcs {
             Named::Unknown => Ok(Vec::new(alloc)),
             Named::Counted(count) => Ok(judge_index(alloc, count, value)?),

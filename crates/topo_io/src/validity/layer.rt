@@ -49,7 +49,12 @@ impl Judge for LayerIn<'_, '_> {
     ghost faults = { λ p. layer_faults p.on.now.limits (named p.on.now.arcs) };
 
     #[tactic(auto, using(fault_lists::proofs::Wholes::found_leaf))]
-    fn judge(&self, alloc: Global, wanted: Wanted, value: &Value) -> Result<Vec<Fault>, OutOfMemory> {
+    fn judge(
+        &self,
+        alloc: Global,
+        wanted: Wanted,
+        value: &Value,
+    ) -> Result<Vec<Fault>, OutOfMemory> {
         if !value.is_object() {
             return Ok(one(alloc, FaultKind::WrongKind)?);
         }
@@ -70,7 +75,12 @@ impl Judge for ObjectsIn<'_, '_> {
     ghost faults = { λ p. objects_faults p.on.now.limits (named p.on.now.arcs) };
 
     #[tactic(auto, using(fault_lists::proofs::Wholes::found_leaf))]
-    fn judge(&self, alloc: Global, wanted: Wanted, value: &Value) -> Result<Vec<Fault>, OutOfMemory> {
+    fn judge(
+        &self,
+        alloc: Global,
+        wanted: Wanted,
+        value: &Value,
+    ) -> Result<Vec<Fault>, OutOfMemory> {
         match value.as_object() {
             Some(members) => judge_each_member(alloc, wanted, &LayerIn { on: self.on }, members),
             None => Ok(one(alloc, FaultKind::WrongKind)?),

@@ -183,7 +183,12 @@ impl Judge for ListIn<'_, '_> {
     ghost faults = { λ p. stitched_list_faults (named p.on.now.arcs) (faults_as p.kind) };
 
     #[tactic(auto, using(fault_lists::proofs::Wholes::found_leaf))]
-    fn judge(&self, alloc: Global, wanted: Wanted, value: &Value) -> Result<Vec<Fault>, OutOfMemory> {
+    fn judge(
+        &self,
+        alloc: Global,
+        wanted: Wanted,
+        value: &Value,
+    ) -> Result<Vec<Fault>, OutOfMemory> {
         let of = IndexIn { arcs: self.on.arcs };
         let found = judge_indexes(alloc, wanted, &of, value)?;
         if !found.is_empty() {

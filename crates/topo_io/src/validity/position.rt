@@ -6,8 +6,7 @@ ghost use Rattle.std.specs.Prelude.{◌≡◌, IfOk};
 ghost use Rattle.topo_io.specs.Limits.{allows, limit_faults, difference_faults, moved as moved_by, step_faults, position_faults};
 ghost use Rattle.topo_io.specs.Sums.{HasRoom, HasRoom-prop, HaveRoom, sums_of};
 
-use crate::reader::position::Limits;
-use crate::reader::position::Position;
+use crate::reader::position::{Limits, Position};
 use fault_lists::found::{Wanted, one};
 use fault_lists::judge::{Judge, judge_pair};
 use faults::OutOfMemory;
@@ -74,7 +73,12 @@ impl Judge for DifferenceIn {
     ghost faults = { λ p. difference_faults p.axis p.from };
 
     #[tactic(auto, using(fault_lists::proofs::Wholes::found_leaf))]
-    fn judge(&self, alloc: Global, _wanted: Wanted, value: &Value) -> Result<Vec<Fault>, OutOfMemory> {
+    fn judge(
+        &self,
+        alloc: Global,
+        _wanted: Wanted,
+        value: &Value,
+    ) -> Result<Vec<Fault>, OutOfMemory> {
         match whole_number(value) {
             Ok(a) => Ok(judge_sum(alloc, &self.axis, self.from, a)?),
             Err(kind) => Ok(one(alloc, kind)?),
@@ -170,7 +174,12 @@ impl Judge for Position {
     ghost faults = { λ p. position_faults p.limits };
 
     #[tactic(auto, using(fault_lists::proofs::Wholes::found_leaf))]
-    fn judge(&self, alloc: Global, wanted: Wanted, value: &Value) -> Result<Vec<Fault>, OutOfMemory> {
+    fn judge(
+        &self,
+        alloc: Global,
+        wanted: Wanted,
+        value: &Value,
+    ) -> Result<Vec<Fault>, OutOfMemory> {
         judge_step(alloc, wanted, &self.limits, &Sums::start(), value)
     }
 }

@@ -22,12 +22,7 @@ struct Within {
     greatest: i64,
 }
 
-fn judge_number(
-    alloc: Global,
-    least: i64,
-    greatest: i64,
-    a: i64,
-) -> Result<Vec<Fault>, OutOfMemory>
+fn judge_number(alloc: Global, least: i64, greatest: i64, a: i64) -> Result<Vec<Fault>, OutOfMemory>
     ensures { IfOk result (λ fs. AtMostOne (within_faults least greatest a) (pairs_of fs.items)) }
 {
     if a < least {
@@ -43,7 +38,12 @@ impl Judge for Within {
     ghost faults = { λ p. element_faults (within_faults p.least p.greatest) };
 
     #[tactic(auto, using(fault_lists::proofs::Wholes::found_leaf))]
-    fn judge(&self, alloc: Global, wanted: Wanted, value: &Value) -> Result<Vec<Fault>, OutOfMemory> {
+    fn judge(
+        &self,
+        alloc: Global,
+        wanted: Wanted,
+        value: &Value,
+    ) -> Result<Vec<Fault>, OutOfMemory> {
         match whole_number(value) {
             Ok(a) => Ok(judge_number(alloc, self.least, self.greatest, a)?),
             Err(kind) => Ok(one(alloc, kind)?),
@@ -61,7 +61,12 @@ impl Judge for Both {
     ghost faults = { λ p. both_faults p.of.least p.of.greatest };
 
     #[tactic(auto, using(fault_lists::proofs::Wholes::found_leaf))]
-    fn judge(&self, alloc: Global, wanted: Wanted, value: &Value) -> Result<Vec<Fault>, OutOfMemory> {
+    fn judge(
+        &self,
+        alloc: Global,
+        wanted: Wanted,
+        value: &Value,
+    ) -> Result<Vec<Fault>, OutOfMemory> {
         judge_pair(alloc, wanted, &self.of, &self.of, value)
     }
 }
