@@ -9,14 +9,14 @@ use Rattle.serde_json.proofs.Views.{Entry}
 use Rattle.faults.specs.Path.{Turn, name, index}
 use Rattle.faults.specs.Fault.{Pair, pair_of}
 use Rattle.faults.specs.declared.fault.FaultKind.{FaultKind}
-use Rattle.faults.specs.declared.fault.FaultKind.TheVariants.{Missing, WrongKind, NotTwo, OutOfMemory}
+use Rattle.faults.specs.declared.fault.FaultKind.TheVariants.{NotJson, Missing, WrongKind, NotTwo, OutOfMemory}
 use Rattle.std.specs.List.{Contains}
 use Rattle.faults.specs.declared.fault.Fault.{Fault}
 use Rattle.lines.specs.declared.shape_fault.ShapeFault.{ShapeFault}
 use Rattle.reading.specs.Outlines.{outline_kind, outline_faults}
 use Rattle.reading.specs.Fault.{here, under, unless_faulty, IsLeast, LeastOrWant}
 use Rattle.reading.specs.Parts.{array_faults, each_faults, two_faults, option_faults, member_faults, each_member_faults}
-use Rattle.reading.specs.Scan.{scan_faults}
+use Rattle.reading.specs.Text.{text_faults}
 use Rattle.reading.proofs.Lists.{array_is, each_more, two_is, not_two}
 use Rattle.fault_lists.specs.Found.{kept, is_full, AreFound, AtMostOne}
 use Rattle.fault_lists.specs.declared.found.Wanted.{Wanted}
@@ -136,6 +136,13 @@ outline_told None f qs least real h = absurd (no_least (pair_of f) (least.least 
 outline_told (Some g) f qs least real h =
     let same = ap (λ p. p.kind) (the_one (record { path = []; kind = outline_kind g }) (pair_of f) (least.least real)) in
     subst (λ k. AtMostOne (here k) qs) (sym same) h
+
+-- ---- texts
+
+-- the fault that was told of bytes that are no JSON text is all that they have
+pub no_document : (o : Option Data) (f : Fault) → ((of : Data → List Pair) → LeastOrWant (text_faults of o) f) → (f.kind ≡ OutOfMemory → ⊥) → (of : Data → List Pair) → text_faults of o ≡ here f.kind
+no_document None f h real of = ap here (ap (λ p. p.kind) (the_one (record { path = []; kind = NotJson }) (pair_of f) ((h of).least real)))
+no_document (Some d) f h real of = absurd (no_least (pair_of f) ((h (λ e. [])).least real))
 
 pub ruleset found_leaf = (found_same, found_none)
 

@@ -1,5 +1,5 @@
 -- The faults of a topology's text are listed in order, where the names of its layers are.
-use Rattle.std.proofs.Common.{◌≡◌, ℕ, ℤ, List, [], ◌∷◌, ◌++◌, Option, Some, None, Result, Ok, Err, Bool, true, false, String, Global, string_cmp, string_bytes, codes, Less, nat_lt, int_le, ◌&&◌, if◌then◌else◌, refl, arith, length}
+use Rattle.std.proofs.Common.{◌≡◌, ℕ, ℤ, List, [], ◌∷◌, ◌++◌, Option, Some, None, Result, Ok, Err, Bool, true, false, String, Global, string_cmp, string_bytes, codes, Less, nat_lt, int_le, ◌&&◌, if◌then◌else◌, refl, sym, subst, append_assoc, arith, length}
 use Rattle.std.specs.List.{AllByRecursion}
 use Rattle.std.specs.List.Sorted.{IsStrictlySortedBy}
 use Rattle.std.specs.Map.{keys_of}
@@ -147,3 +147,35 @@ pub ascending_members : (of : Data → List Pair) → ((d : Data) → IsAscendin
 unfolding IsStrictlySortedBy
 ascending_members of a [] h = ascending_none
 ascending_members of a (e ∷ es) h = ascending_more (name (string_bytes e.0)) (of (view e.1)) _ (a (view e.1)) (beyond_members of e.0 es h.0) (ascending_members of a es h.1)
+
+-- ---- the whole, where the layers of each object of them are in the order of their names
+
+module _ (d : Data) (named_in_order : (e : Data) → get (codes "objects") d ≡ Some e → (l : Limits) (arcs : Arcs) → IsAscending (objects_faults l arcs e)) where
+  ascending_arcs : (l : Limits) (o : Option Data) → IsAscending (there (list_faults (arc_faults l)) o)
+  ascending_arcs l None = ascending_here kind.Missing
+  ascending_arcs l (Some e) = ascending_list (arc_faults l) (ascending_arc l) e
+
+  ascending_objects : (l : Limits) (arcs : Arcs) (o : Option Data) → get (codes "objects") d ≡ o → IsAscending (there (objects_faults l arcs) o)
+  ascending_objects l arcs None is = ascending_here kind.Missing
+  ascending_objects l arcs (Some e) is = named_in_order e is l arcs
+
+  ascending_with : (t : Data) → IsAscending (transformed_faults d (Some t))
+  ascending_with t =
+      let l = limits_of t in
+      let a = there (list_faults (arc_faults l)) (get (codes "arcs") d) in
+      let o = there (objects_faults l (arcs_in l d)) (get (codes "objects") d) in
+      let last : IsAscending (under (name (codes "transform")) (transform_faults t)) = ascending_under (name (codes "transform")) (transform_faults t) (ascending_transform t) in
+      let behind : IsAscending (under (name (codes "objects")) o ++ under (name (codes "transform")) (transform_faults t)) =
+      ascending_more (name (codes "objects")) o _ (ascending_objects l (arcs_in l d) (get (codes "objects") d) refl) (beyond_under (name (codes "objects")) (name (codes "transform")) (transform_faults t) refl) last in
+      subst IsAscending (sym (append_assoc (under (name (codes "arcs")) a) (under (name (codes "objects")) o) (under (name (codes "transform")) (transform_faults t))))
+      (ascending_more (name (codes "arcs")) a _ (ascending_arcs l (get (codes "arcs") d))
+      (beyond_append (name (codes "arcs")) (under (name (codes "objects")) o) _ (beyond_under (name (codes "arcs")) (name (codes "objects")) o refl) (beyond_under (name (codes "arcs")) (name (codes "transform")) (transform_faults t) refl))
+      behind)
+
+  ascending_transformed : (t : Option Data) → IsAscending (transformed_faults d t)
+  ascending_transformed None = ascending_under (name (codes "transform")) (here kind.NoTransform) (ascending_here kind.NoTransform)
+  ascending_transformed (Some t) = ascending_with t
+
+  pub ascending_topology : IsAscending (topology_faults d)
+  ascending_topology =
+      ascending_object _ (as_object d) (ascending_typed (λ _. transformed_faults d (get (codes "transform") d)) (named topology_named (type_text d)) (λ _. ascending_transformed (get (codes "transform") d)))

