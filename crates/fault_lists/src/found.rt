@@ -108,7 +108,7 @@ pub fn under_name(alloc: Global, part: Vec<Fault>, member: &str) -> Result<Vec<F
 ///
 /// # Errors
 /// Where memory is refused.
-pub fn joined(first: Vec<Fault>, others: Vec<Fault>) -> Result<Vec<Fault>, OutOfMemory>
+pub fn join(first: Vec<Fault>, others: Vec<Fault>) -> Result<Vec<Fault>, OutOfMemory>
     ensures { IfOk result (λ fs. fs.items ≡ first.items ++ others.items) }
 {
     if first.is_empty() {

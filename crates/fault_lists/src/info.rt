@@ -4,7 +4,7 @@ ghost use Rattle.reading.specs.Info.{id_faults, properties_faults, info_faults, 
 ghost use Rattle.serde_json.specs.View.{view};
 ghost use Rattle.std.specs.Prelude.{◌++◌, IfOk};
 
-use crate::found::{Wanted, is_enough, joined, one};
+use crate::found::{Wanted, is_enough, join, one};
 use crate::judge::Judge;
 use crate::members::judge_option;
 use faults::OutOfMemory;
@@ -67,7 +67,7 @@ fn judge_object(alloc: Global, wanted: Wanted, value: &Value) -> Result<Vec<Faul
         return Ok(number);
     }
     let depth = depth_fault(alloc, value)?;
-    let found = joined(number, depth)?;
+    let found = join(number, depth)?;
     Ok(found)
 }
 
@@ -102,6 +102,6 @@ pub fn judge_info(alloc: Global, wanted: Wanted, value: &Value) -> Result<Vec<Fa
         return Ok(id);
     }
     let properties = judge_option(alloc, wanted, &Properties, value, "properties")?;
-    let found = joined(id, properties)?;
+    let found = join(id, properties)?;
     Ok(found)
 }

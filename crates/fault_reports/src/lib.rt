@@ -10,5 +10,5 @@ mod steps;
 pub mod written;
 
 pub use features::Format;
-pub use report::{Report, reports, spelled_text};
+pub use report::{Report, reports, spell_text};
 pub use written::{write_json, write_lines};

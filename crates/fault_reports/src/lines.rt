@@ -32,7 +32,7 @@ impl Place {
 }
 
 /// The place behind some bytes more.
-fn moved(place: Place, bytes: &[u8]) -> Place {
+fn place_after(place: Place, bytes: &[u8]) -> Place {
     let mut place = place;
     for byte in bytes {
         place = place.after(*byte);
@@ -50,11 +50,11 @@ pub fn lines(alloc: Global, text: &[u8], offsets: &[usize]) -> Result<Vec<Place>
         sorted.push((*offset, number))?;
     }
     sorted.sort_unstable();
-    placed(alloc, text, sorted.as_slice())
+    places_in_order(alloc, text, sorted.as_slice())
 }
 
 /// The same of offsets in their order, each with its number.
-fn placed(
+fn places_in_order(
     alloc: Global,
     text: &[u8],
     sorted: &[(usize, usize)],
@@ -65,7 +65,7 @@ fn placed(
     let mut passed = 0;
     for (offset, number) in sorted {
         if let Some(between) = text.get(passed..*offset) {
-            here = moved(here, between);
+            here = place_after(here, between);
             passed = *offset;
         }
         if let Some(place) = places.get_mut(*number) {

@@ -21,7 +21,7 @@ pub struct Report {
     pub member: Option<String>,
 }
 
-fn spelled(alloc: Global, id: Option<&Value>) -> Result<Option<String>, OutOfMemory> {
+fn spell_id(alloc: Global, id: Option<&Value>) -> Result<Option<String>, OutOfMemory> {
     match id {
         Some(id) => Ok(Some(id.to_string(alloc)?)),
         None => Ok(None),
@@ -32,27 +32,27 @@ fn spelled(alloc: Global, id: Option<&Value>) -> Result<Option<String>, OutOfMem
 ///
 /// # Errors
 /// Where memory is refused.
-pub fn spelled_text(alloc: Global, text: &str) -> Result<String, OutOfMemory> {
+pub fn spell_text(alloc: Global, text: &str) -> Result<String, OutOfMemory> {
     let text = Value::String(String::from_str(alloc, text)?);
     Ok(text.to_string(alloc)?)
 }
 
-fn spelled_name(alloc: Global, name: Option<&str>) -> Result<Option<String>, OutOfMemory> {
+fn spell_name(alloc: Global, name: Option<&str>) -> Result<Option<String>, OutOfMemory> {
     match name {
-        Some(name) => Ok(Some(spelled_text(alloc, name)?)),
+        Some(name) => Ok(Some(spell_text(alloc, name)?)),
         None => Ok(None),
     }
 }
 
 /// A path as JSON.
-fn spelled_path(alloc: Global, path: &[Step]) -> Result<String, OutOfMemory> {
+fn spell_path(alloc: Global, path: &[Step]) -> Result<String, OutOfMemory> {
     let mut kept = Kept::new(alloc);
     if write_path(path, &mut kept).is_err() {
         return Err(OutOfMemory);
     }
     let bytes = kept.into_bytes();
     match std::str::from_utf8(bytes.as_slice()) {
-        Ok(text) => spelled_text(alloc, text),
+        Ok(text) => spell_text(alloc, text),
         Err(_) => Err(OutOfMemory),
     }
 }
@@ -64,13 +64,13 @@ fn report(
     fault: Fault,
     place: Place,
 ) -> Result<Report, OutOfMemory> {
-    let id = spelled(alloc, id_at(format, text, fault.path.as_slice()))?;
+    let id = spell_id(alloc, id_at(format, text, fault.path.as_slice()))?;
     let name = match fault.kind {
         FaultKind::PropertyNumber => member_at(text, fault.path.as_slice()),
         _ => None,
     };
-    let member = spelled_name(alloc, name)?;
-    let path = spelled_path(alloc, fault.path.as_slice())?;
+    let member = spell_name(alloc, name)?;
+    let path = spell_path(alloc, fault.path.as_slice())?;
     Ok(Report {
         fault,
         place,
@@ -135,7 +135,7 @@ pub fn reports(
         let place = end_of(alloc, bytes)?;
         let mut reports = Vec::new(alloc);
         for fault in faults {
-            let path = spelled_path(alloc, fault.path.as_slice())?;
+            let path = spell_path(alloc, fault.path.as_slice())?;
             reports.push(Report {
                 fault,
                 place,

@@ -23,7 +23,7 @@ pub(crate) enum Sought<'s> {
 }
 
 /// How a path's step compares with the one that is looked for. A path that ends before comes first.
-fn compared(fault: &Fault, depth: usize, sought: Sought<'_>) -> Ordering {
+fn compare_step(fault: &Fault, depth: usize, sought: Sought<'_>) -> Ordering {
     match fault.path.as_slice().get(depth) {
         None => Ordering::Less,
         Some(step) => match (step, sought) {
@@ -37,7 +37,7 @@ fn compared(fault: &Fault, depth: usize, sought: Sought<'_>) -> Ordering {
 
 /// Whether the error comes before those that go through the step, or, where these are passed too, before those behind them.
 fn is_before(fault: &Fault, depth: usize, sought: Sought<'_>, is_passed: bool) -> bool {
-    match compared(fault, depth, sought) {
+    match compare_step(fault, depth, sought) {
         Ordering::Less => true,
         Ordering::Equal => is_passed,
         Ordering::Greater => false,

@@ -4,7 +4,7 @@ use crate::grid_word::parse_grid;
 use crate::refusal::Refusal;
 use crate::status::Status;
 use clap::ArgMatches;
-use fault_reports::{Format, Report, reports, spelled_text, write_json, write_lines};
+use fault_reports::{Format, Report, reports, spell_text, write_json, write_lines};
 use faults::OutOfMemory;
 use grid::Grid;
 use sinks::{Sink, WriteFault, put};
@@ -67,7 +67,7 @@ pub(crate) fn faults_found<'a, F: Files>(
     let mut all = Vec::with_capacity(alloc, texts.len())?;
     for (name, text) in names.iter().zip(texts) {
         all.push(FileReports {
-            name: spelled_text(alloc, *name)?,
+            name: spell_text(alloc, *name)?,
             reports: found_in(alloc, &grid, text.as_slice())?,
         })?;
     }

@@ -13,6 +13,7 @@ HasRoom (Some n) = unsigned_abs n + 2 ^ 63 < 2 ^ 127
 room-prop : (m n : ℕ) → IsProp (m < n)
 room-prop m n = Prim.hlevel props
 
+-- there is at most one proof of it
 pub HasRoom-prop : (s : Option ℤ) → IsProp (HasRoom s)
 HasRoom-prop None = Unit-prop
 HasRoom-prop (Some n) = room-prop (unsigned_abs n + 2 ^ 63) (2 ^ 127)

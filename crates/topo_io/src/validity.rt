@@ -32,7 +32,7 @@ use crate::validity::layer::ObjectsIn;
 use crate::validity::list::Known;
 use crate::validity::transform::judge_transform;
 use arc_lists::ArcLists;
-use fault_lists::found::{Wanted, first_or_none, is_enough, joined, one, one_of, under_name};
+use fault_lists::found::{Wanted, first_or_none, is_enough, join, one, one_of, under_name};
 use fault_lists::judge::ListOf;
 use fault_lists::members::judge_member;
 use fault_lists::types::type_fault;
@@ -80,7 +80,7 @@ fn judge_on_arcs(
 }
 
 /// How many arcs there are, where they are an array.
-fn counted<'a>(value: &Value) -> Named<'a>
+fn count_of_arcs<'a>(value: &Value) -> Named<'a>
     ensures { (l : limits_type) → ¬ (member_faults (codes "arcs") (list_faults (arc_faults l)) (view value.now) ≡ []) → named result ≡ arcs_in l (view value.now) }
 {
     match value.get("arcs") {
@@ -112,11 +112,11 @@ fn judge_content(
         return judge_on_arcs(alloc, wanted, limits, value);
     }
     let on = Known {
-        arcs: counted(value),
+        arcs: count_of_arcs(value),
         limits: *limits,
     };
     let objects = judge_objects(alloc, wanted, &on, value)?;
-    Ok(joined(arcs, objects)?)
+    Ok(join(arcs, objects)?)
 }
 
 /// The limits of a transform with these faults. Where it has any, absolute numbers have none.
@@ -147,7 +147,7 @@ fn judge_with(
     if is_enough(wanted, &content) {
         return Ok(content);
     }
-    Ok(joined(content, under_name(alloc, later, "transform")?)?)
+    Ok(join(content, under_name(alloc, later, "transform")?)?)
 }
 
 fn judge_members(alloc: Global, wanted: Wanted, value: &Value) -> Result<Vec<Fault>, OutOfMemory>

@@ -5,7 +5,7 @@ ghost use Rattle.serde_json.specs.View.{view};
 ghost use Rattle.std.specs.Prelude.{IfOk};
 
 use crate::validity::geometry::GeometryIn;
-use fault_lists::found::{Wanted, is_enough, joined, one};
+use fault_lists::found::{Wanted, is_enough, join, one};
 use fault_lists::info::judge_info;
 use fault_lists::judge::Judge;
 use fault_lists::members::judge_option;
@@ -33,7 +33,7 @@ pub fn judge_feature(
         return Ok(geometry);
     }
     let info = judge_info(alloc, wanted, value)?;
-    Ok(joined(geometry, info)?)
+    Ok(join(geometry, info)?)
 }
 
 /// An element of a FeatureCollection.

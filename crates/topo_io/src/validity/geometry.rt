@@ -8,7 +8,7 @@ ghost use Rattle.topo_io.specs.Named.{named};
 use crate::reader::geometry::{body_name, geometry_type};
 use crate::reader::position::Position;
 use crate::validity::list::{Known, ListIn, OutlineType};
-use fault_lists::found::{Wanted, is_enough, joined, one};
+use fault_lists::found::{Wanted, is_enough, join, one};
 use fault_lists::info::judge_info;
 use fault_lists::judge::Judge;
 use fault_lists::members::judge_member;
@@ -84,7 +84,7 @@ pub(crate) fn judge_as(
         return Ok(body);
     }
     let info = judge_info(alloc, wanted, value)?;
-    Ok(joined(body, info)?)
+    Ok(join(body, info)?)
 }
 
 /// A geometry of a collection.

@@ -1,7 +1,7 @@
 //! The lists of a text's layers, validated by their arcs, before they are stitched.
 ghost use Rattle.std.specs.List.{AllByRecursion};
 ghost use Rattle.std.specs.Prelude.{◌≡◌, [], IfOk, map as map_list, true};
-ghost use Rattle.theory.specs.Lists.{joined};
+ghost use Rattle.theory.specs.Lists.{join};
 ghost use Rattle.topo.specs.OfMap.{body_of};
 ghost use Rattle.topo_io.specs.Parts.{plain_geom, layer_of_geoms};
 ghost use Rattle.topo_io.specs.Stitching.{BodyStitches, GeomStitches, LayerStitches};

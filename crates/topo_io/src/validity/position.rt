@@ -94,7 +94,7 @@ pub struct Sums {
 }
 
 /// A sum and one difference more.
-fn moved(from: Option<i128>, value: &Value) -> Option<i128>
+fn sum_after(from: Option<i128>, value: &Value) -> Option<i128>
     requires { HasRoom from }
     ensures { result ≡ moved_by from (view value.now) }
 {
@@ -131,8 +131,8 @@ impl Sums {
             return Sums { x: None, y: None };
         }
         Sums {
-            x: moved(self.x, &values[0]),
-            y: moved(self.y, &values[1]),
+            x: sum_after(self.x, &values[0]),
+            y: sum_after(self.y, &values[1]),
         }
     }
 

@@ -5,7 +5,7 @@ ghost use Rattle.serde_json.specs.View.{view};
 ghost use Rattle.std.specs.Prelude.{IfOk};
 ghost use Rattle.topo_io.specs.Roots.{within_faults, both_faults, transform_members, transform_faults};
 
-use fault_lists::found::{Wanted, is_enough, joined, one};
+use fault_lists::found::{Wanted, is_enough, join, one};
 use fault_lists::judge::{Judge, judge_pair};
 use fault_lists::members::judge_member;
 use faults::OutOfMemory;
@@ -92,7 +92,7 @@ fn judge_members(alloc: Global, wanted: Wanted, value: &Value) -> Result<Vec<Fau
         return Ok(first);
     }
     let others = judge_member(alloc, wanted, &translate, value, "translate")?;
-    Ok(joined(first, others)?)
+    Ok(join(first, others)?)
 }
 
 /// The faults of a transform.
