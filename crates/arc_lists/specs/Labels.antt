@@ -17,7 +17,7 @@ label_at ls i = get_or ls i 0
 abbrev pub agree : List ℕ → Segment → Segment → Bool
 agree ls s t = not (pair_eq s.pair t.pair) || nat_eq (label_at ls s.arc) (label_at ls t.arc)
 
--- the same of neighbours, where s stands before the list
+-- the same of neighbours, where s is before the list
 abbrev pub agree_from : List ℕ → Segment → List Segment → Bool
 agree_from ls s [] = true
 agree_from ls s (t ∷ l) = cond (agree ls s t) (agree_from ls t l) false

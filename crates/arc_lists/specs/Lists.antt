@@ -1,4 +1,4 @@
--- What is told of lists of used arcs.
+-- What is known of lists of used arcs.
 use Rattle.std.specs.Prelude.{◌≡◌, ◌-◌, ◌+◌, ℕ, Bool, true, false, cond, is_some, nat_lt, List, [], ◌∷◌, Option, Some, None, slice_get}
 use Rattle.std.specs.List.{list_all}
 use Rattle.grid.specs.declared.pos.Pos.{Pos}
@@ -19,7 +19,7 @@ abbrev pub simple_if : Option ArcSummary → Bool
 simple_if None = false
 simple_if (Some s) = s.simple
 
--- whether the arc is there, and no segment stands in it twice
+-- whether the arc is there, and no segment occurs in it twice
 abbrev pub is_simple : List ArcSummary → ArcRef → Bool
 is_simple ss a = simple_if (slice_get ss a.arc)
 
@@ -69,7 +69,7 @@ abbrev pub kept : List ArcSummary → List ArcRef → List ArcRef
 kept ss [] = []
 kept ss (a ∷ used) = cond (has_segment ss a) (a ∷ kept ss used) (kept ss used)
 
--- there are labels, and none stands twice
+-- there are labels, and none occurs twice
 pub record HaveLabels (labels : List ℕ) : Type 0 where
   pub some : ¬ (labels ≡ [])
   pub once : Distinct labels
@@ -83,7 +83,7 @@ pub record AreOnce (ss : List ArcSummary) (ls : List ℕ) (used : List ArcRef) :
 abbrev pub UsesTwice : List ArcSummary → List ArcRef → Type 0
 UsesTwice ss used = (n : ℕ) × Twice n (numbers_of ss used)
 
--- ---- what is told
+-- ---- what is known
 
 -- whether the arc is there, and has a position
 abbrev pub has_ends_at : List (List Pos) → ArcRef → Bool
@@ -102,7 +102,7 @@ pub record AreBroken (arcs : List (List Pos)) (used : List ArcRef) : Type 0 wher
   pub ends : all_have_ends arcs used ≡ true
   pub none : (l : List Pos) → ¬ StitchTo arcs used l
 
--- what is told of used arcs is so [TopoJSON, 2.1.4]
+-- what is known of used arcs is so [TopoJSON, 2.1.4]
 abbrev pub IsTold : (List Pos → Option ShapeFault) → List (List Pos) → List ArcRef → Told → Type 0
 IsTold fault arcs used Sound = StitchToFault fault arcs used None
 IsTold fault arcs used Broken = AreBroken arcs used

@@ -10,7 +10,7 @@ use Rattle.theory.specs.Lists.{Pairwise}
 use Rattle.theory.specs.OneProof.{Trail-prop}
 use Rattle.arc_lists.specs.declared.summaries.ArcSummary.{ArcSummary}
 
--- how many positions it has, equal neighbours read as one; where it is said to be simple, no segment stands in it twice
+-- how many positions it has, equal neighbours read as one; where it is said to be simple, no segment occurs in it twice
 abbrev pub IsSummary : List Pos → ArcSummary → Type 0
 IsSummary c s = (s.count ≡ length (collapsed position_cmp c)) × (s.simple ≡ true → Trail (collapsed position_cmp c))
 

@@ -64,7 +64,7 @@ pub record IsComparisonOf (m n : Layers) (c : Comparison) : Type 0 where
   pub old : Pairwise (IsListedLayer (geometry_of (union m n)) arcs) (map.entries m) c.old.items
   pub new : Pairwise (IsListedLayer (geometry_of (union m n)) arcs) (map.entries n) c.new.items
 
--- the pair tells the layers of the name
+-- the pair has the layers of the name
 pub record IsPairOf (c : Comparison) (q : List ℕ) (p : LayerPair) : Type 0 where
   pub old : IsNumberOf c.old.items q p.old
   pub new : IsNumberOf c.new.items q p.new

@@ -56,7 +56,7 @@ outside_after (boolean b) = Outside
 outside_after null = Outside
 outside_after bad = Outside
 
--- where a walk stands behind a token [RFC 7946, 3]
+-- where a walk is behind a token [RFC 7946, 3]
 abbrev pub place_after : Place → Token → Place
 place_after Outside t = outside_after t
 place_after (Inside part d seen) t = inside_after part d seen t
@@ -88,7 +88,7 @@ info_treatment keeps_reals text = if keeps_reals || is_whole text then Leave els
 abbrev pub height_treatment : Bool → Treatment
 height_treatment keeps_heights = if keeps_heights then Leave else Drop
 
--- a number of a position, of which so many stand before it
+-- a number of a position, of which so many are before it
 abbrev pub coordinate_treatment : Rules → ℕ → Treatment
 coordinate_treatment r seen =
     if seen == 0 then Snap r.greatest_x else (if seen == 1 then Snap r.greatest_y else height_treatment r.keeps_heights)

@@ -49,7 +49,7 @@ spelled_token (boolean b) = boolean b
 spelled_token null = null
 spelled_token bad = bad
 
--- us stand in place of a token
+-- us are in place of a token
 abbrev pub IsWritten : Measure → Treatment → Token → List Token → Type 0
 IsWritten s Leave t us = us ≡ t ∷ []
 IsWritten s Drop t us = us ≡ []

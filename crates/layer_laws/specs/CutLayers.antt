@@ -1,4 +1,4 @@
--- How a join of two topologies goes through their layers: what stands before a member of the one list among those of the other.
+-- How a join of two topologies goes through their layers: what is before a member of the one list among those of the other.
 use Rattle.std.specs.Prelude.{List, [], ◌∷◌, Option, Some, None}
 use Rattle.std.specs.Cmp.Lexicographic.{slice_cmp}
 use Rattle.std.specs.Ordering.{nat_cmp}
@@ -14,12 +14,12 @@ use Rattle.topo.specs.declared.geom.Geom.{Geom}
 use Rattle.rewriting.specs.Rewritten.{layer_rewritten}
 use Rattle.layer_laws.specs.Cuts.{by_order, line_recut, merged, ring_recut, united}
 
--- what stands before x
+-- what is before x
 abbrev pub before : {A : Type 0} → (A → A → Ordering) → A → List A → List A
 before cmp x [] = []
 before cmp x (y ∷ ys) = by_order (cmp x y) [] [] (y ∷ before cmp x ys)
 
--- what stands behind x, without what ties with it
+-- what is behind x, without what ties with it
 abbrev pub behind : {A : Type 0} → (A → A → Ordering) → A → List A → List A
 behind cmp x [] = []
 behind cmp x (y ∷ ys) = by_order (cmp x y) (y ∷ ys) ys (behind cmp x ys)
@@ -34,7 +34,7 @@ abbrev pub with_other : {A : Type 0} → (A → A → A) → A → Option A → 
 with_other both x None = x
 with_other both x (Some y) = both x y
 
--- how x stands to the first of a list
+-- how x compares with the first of a list
 abbrev pub to_first : {A : Type 0} → (A → A → Ordering) → A → List A → Option Ordering
 to_first cmp x [] = None
 to_first cmp x (y ∷ ys) = Some (cmp x y)

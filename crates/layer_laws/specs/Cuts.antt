@@ -26,7 +26,7 @@ abbrev pub merged_into : {A : Type 0} → (A → A → Ordering) → A → (List
 merged_into cmp x rest [] = x ∷ rest []
 merged_into cmp x rest (y ∷ ys) = by_order (cmp x y) (x ∷ rest (y ∷ ys)) (x ∷ rest ys) (y ∷ merged_into cmp x rest ys)
 
--- two sorted lists as one, in which members that tie stand once: that of the left list
+-- two sorted lists as one, in which members that tie occur once: that of the left list
 abbrev pub merged : {A : Type 0} → (A → A → Ordering) → List A → List A → List A
 merged cmp [] ys = ys
 merged cmp (x ∷ xs) ys = merged_into cmp x (merged cmp xs) ys
@@ -41,7 +41,7 @@ abbrev pub united : {A : Type 0} → (A → A → Ordering) → (A → A → A) 
 united cmp both [] ys = ys
 united cmp both (x ∷ xs) ys = united_into cmp both x (united cmp both xs) ys
 
--- layers by the bytes of their names, each with what stands in it
+-- layers by the bytes of their names, each with what is in it
 abbrev pub name_cmp : {X : Type 0} → List ℕ × X → List ℕ × X → Ordering
 name_cmp a b = slice_cmp nat_cmp a.0 b.0
 

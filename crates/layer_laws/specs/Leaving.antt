@@ -14,7 +14,7 @@ use Rattle.topo.specs.Parts.{LayerParts}
 use Rattle.topo.specs.declared.geom.Geom.{Geom}
 use Rattle.topo.specs.GeometryOrder.{body_form, form_cmp}
 
--- how a geometry stands to a feature by id and properties
+-- how a geometry compares with a feature by id and properties
 abbrev pub info_to : Geom → Feature → Ordering
 info_to g f = ordering_then (id_cmp g.id f.id) (slice_cmp nat_cmp g.props.text f.props.text)
 
@@ -22,7 +22,7 @@ info_to g f = ordering_then (id_cmp g.id f.id) (slice_cmp nat_cmp g.props.text f
 unfoldable pub order_to : List (List Pos) → Geom → Feature → Ordering
 order_to arcs g f = ordering_then (info_to g f) (form_cmp (body_form arcs g.body) (form_of f.shape))
 
--- a sorted list from its first member on that does not stand before x
+-- a sorted list from its first member on that does not are before x
 abbrev pub from_on : {A B : Type 0} → (A → B → Ordering) → A → List B → List B
 from_on cmp x [] = []
 from_on cmp x (y ∷ ys) = cond (is_gt (cmp x y)) (from_on cmp x ys) (y ∷ ys)

@@ -28,7 +28,7 @@ use Rattle.topo.proofs.Filling.{all_members}
 use Rattle.topo.proofs.Stitched.{IsEntryOf, entries_of}
 use Rattle.topo.proofs.Walks.{walked_stitched}
 
--- what stands beside one list is one list
+-- what is beside one list is one list
 beside_one : {A B : Type 0} (R : A → B → Type 0) → ((x y : A) (b : B) → R x b → R y b → x ≡ y) →
     (xs ys : List A) (bs : List B) → Pairwise R xs bs → Pairwise R ys bs → xs ≡ ys
 beside_one R one [] [] bs p q = refl

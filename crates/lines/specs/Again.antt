@@ -1,4 +1,4 @@
--- The segments of a list of positions that may stand in it twice.
+-- The segments of a list of positions that may occur in it twice.
 use Rattle.std.specs.Prelude.{◌≡◌, ◌&&◌, ◌⊎◌, Bool, true, List}
 use Rattle.theory.specs.Lists.{Has, Twice}
 use Rattle.grid.specs.declared.pos.Pos.{Pos}
@@ -8,7 +8,7 @@ use Rattle.lines.specs.Segments.{segments_of}
 use Rattle.lines.specs.declared.again.Way.{Way}
 use Rattle.lines.specs.declared.pair.Pair.{Pair}
 
--- both ends of each segment that stands twice are among these
+-- both ends of each segment that occurs twice are among these
 abbrev pub HoldEnds : List Pos → List Pos → Type 0
 HoldEnds ends positions = (s : Pair) → Twice s (segments_of positions) → Has s.lesser ends × Has s.greater ends
 
@@ -16,7 +16,7 @@ HoldEnds ends positions = (s : Pair) → Twice s (segments_of positions) → Has
 abbrev pub joins : (Pos → Bool) → Pair → Bool
 joins may s = may s.lesser && may s.greater
 
--- the way goes on to p: p is met, and what was met stays so; it is told as retraced where p was met, and so was
+-- the way goes on to p: p is met, and what was met stays so; it counts as retraced where p was met, and so was
 -- the position that the way comes from before it was come to, or p is the one before that
 pub record IsStep (p : Pos) (retraced : Bool) (old new : Way) : Type 0 where
   pub here : new.here ≡ p

@@ -95,7 +95,7 @@ IsFaultOf number fault (Text n f) = (n ≡ number) × (f ≡ fault) × (IsWant f
 IsFaultOf number fault (OtherGrid n) = ⊥
 IsFaultOf number fault OutOfMemory = Unit {0}
 
--- the text of that number is refused with its least fault, or memory was refused
+-- the text of that number is refused with its first error, or memory was refused
 abbrev pub IsRefusalOf : ℕ → List ℕ → MergeFault → Type 0
 IsRefusalOf number text e = (f : Fault) × LeastOrWant (faults_of_text text) f × IsFaultOf number f e
 

@@ -1,4 +1,4 @@
--- What a caller of the library lends.
+-- What a caller of the library passes for a call.
 use Rattle.std.specs.Prelude.{ℕ, List, map}
 use Rattle.std.specs.Borrow.{Bor}
 use Rattle.grid.specs.Place.{Transform, scaling, transform}

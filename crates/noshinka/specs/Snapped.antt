@@ -61,7 +61,7 @@ IsNoJson text = (IsUtf8 text → ⊥) ⊎ ((document text ≡ None) ⊎ HasBad (
 abbrev pub IsNoJsonRefusal : List ℕ → Refusal → Type 0
 IsNoJsonRefusal text r = (r ≡ OutOfMemory) ⊎ (IsNotJson r × IsNoJson text)
 
--- text 0 is refused with the least fault that it has on the grid of whole numbers
+-- text 0 is refused with the first error that it has on the grid of whole numbers
 pub record IsLeastRefusal (text : List ℕ) (r : Refusal) : Type 0 where
   pub fault : Fault
   pub is : r ≡ Text 0 fault

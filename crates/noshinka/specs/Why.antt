@@ -89,7 +89,7 @@ IsFaultAt place fault (BadPlan k) = ⊥
 IsFaultAt place fault NoLayer = ⊥
 IsFaultAt place fault OutOfMemory = Unit {0}
 
--- the text at the place is refused with its least fault, or memory was refused
+-- the text at the place is refused with its first error, or memory was refused
 abbrev pub IsTextRefusal : ℕ → List ℕ → Refusal → Type 0
 IsTextRefusal place text BadGrid = ⊥
 IsTextRefusal place text (BadName i) = ⊥

@@ -1,4 +1,4 @@
--- Which of some ids are missing, and which stand more than once.
+-- Which of some ids are missing, and which occur more than once.
 use Rattle.std.specs.Prelude.{◌+◌, ◌&&◌, ℕ, Bool, true, false, cond, not, List, [], ◌∷◌, map, nat_lt, unwrap_or}
 use Rattle.std.specs.Borrow.{Bor}
 use Rattle.std.specs.BTreeMap as tree
@@ -24,12 +24,12 @@ is_missing (id.Text t) = false
 abbrev pub one_if : Bool → ℕ
 one_if b = cond b 1 0
 
--- how many times the id stands in the list
+-- how many times the id occurs in the list
 abbrev pub count_of : Id → List Id → ℕ
 count_of q [] = 0
 count_of q (i ∷ ids) = one_if (is_eq (id_cmp q i)) + count_of q ids
 
--- whether it is an id, and stands in the list more than once
+-- whether it is an id, and occurs in the list more than once
 abbrev pub stands_again : List Id → Id → Bool
 stands_again ids q = not (is_missing q) && nat_lt 1 (count_of q ids)
 
@@ -38,7 +38,7 @@ abbrev pub numbers_of : (Id → Bool) → ℕ → List Id → List ℕ
 numbers_of p n [] = []
 numbers_of p n (i ∷ ids) = cond (p i) (n ∷ numbers_of p (n + 1) ids) (numbers_of p (n + 1) ids)
 
--- the order of what is lent
+-- the order of what is borrowed
 abbrev pub lent_cmp : Bor Id → Bor Id → Ordering
 lent_cmp a b = id_order.cmp-value.it a.now b.now
 

@@ -23,7 +23,7 @@ is_step s x y = position_eq s.from x && position_eq s.to y
 abbrev pub lesser : Step → Step → Step
 lesser s t = cond (is_lt (step_cmp t s)) t s
 
--- the least of s and of the steps along x ∷ l
+-- the least among s and the steps along x ∷ l
 abbrev pub least_from : Step → Pos → List Pos → Step
 least_from s x [] = s
 least_from s x (y ∷ l) = least_from (lesser s (step x y)) y l
@@ -34,22 +34,22 @@ least_step [] = None
 least_step (x ∷ []) = None
 least_step (x ∷ (y ∷ l)) = Some (least_from (step x y) y l)
 
--- what stands behind the step in x ∷ l
+-- what is behind the step in x ∷ l
 abbrev pub behind_from : Step → Pos → List Pos → List Pos
 behind_from s x [] = []
 behind_from s x (y ∷ l) = cond (is_step s x y) l (behind_from s y l)
 
--- what stands behind the step
+-- what is behind the step
 abbrev pub behind_step : Step → List Pos → List Pos
 behind_step s [] = []
 behind_step s (x ∷ l) = behind_from s x l
 
--- what stands in l before the step's second position, where the step stands in x ∷ l
+-- what is in l before the step's second position, where the step is in x ∷ l
 abbrev pub up_to_from : Step → Pos → List Pos → List Pos
 up_to_from s x [] = []
 up_to_from s x (y ∷ l) = cond (is_step s x y) [] (y ∷ up_to_from s y l)
 
--- what stands behind the first position, up to the one that the step leaves
+-- what is behind the first position, up to the one that the step leaves
 abbrev pub up_to_step : Step → List Pos → List Pos
 up_to_step s [] = []
 up_to_step s (x ∷ l) = up_to_from s x l

@@ -49,7 +49,7 @@ Means (One a) H = H a × ((p : Pos) → H p → p ≡ a)
 Means (Two a b) H = (¬ (a ≡ b)) × H a × H b × ((p : Pos) → H p → (p ≡ a) ⊎ (p ≡ b))
 Means More H = (a : Pos) × (b : Pos) × (c : Pos) × H a × H b × H c × (¬ (a ≡ b)) × (¬ (a ≡ c)) × (¬ (b ≡ c))
 
--- b tells of v whether lines stop there: where no end is they don't
+-- b says of v whether lines stop there: where no end is they don't
 abbrev pub IsJudged : List End → Pos → Bool → Type 0
 IsJudged es v b = (((w : Pos) → ¬ Has (beside v w) es) × (b ≡ false)) ⊎ ((s : Sides) × Means s (λ w. Has (beside v w) es) × (halts s ≡ b))
 

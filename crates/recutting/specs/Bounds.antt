@@ -1,4 +1,4 @@
--- Lists that stand one after another in one list, and the places where they begin and end.
+-- Lists that are one after another in one list, and the places where they begin and end.
 use Rattle.std.specs.Prelude.{ℕ, ◌+◌, ◌≤◌, List, [], ◌∷◌, length}
 use Rattle.std.specs.List.{between}
 
@@ -27,6 +27,6 @@ abbrev pub ends_from : {A : Type 0} → ℕ → List (List A) → List ℕ
 ends_from n [] = []
 ends_from n (l ∷ ls) = (n + length l) ∷ ends_from (n + length l) ls
 
--- the bounds of lists that stand one after another
+-- the bounds of lists that are one after another
 abbrev pub bounds_of : {A : Type 0} → List (List A) → List ℕ
 bounds_of ls = 0 ∷ ends_from 0 ls

@@ -15,7 +15,7 @@ use Rattle.layer_laws.specs.Leaving.{others}
 abbrev pub cut_again : RecutParts → Geom → Geom
 cut_again r g = geometry_recut r.arcs.arcs r.left g
 
--- how it stands to one that is by the arcs of both already
+-- how it compares with one that is by the arcs of both already
 abbrev pub by_lists : RecutParts → Geom → Geom → Ordering
 by_lists r g h = geometry_cmp r.arcs.arcs (cut_again r g) h
 

@@ -25,13 +25,13 @@ pub record StandsOnce (g : Geometry Pos) (pieces : List (List ArcRef)) (k : ℕ)
   pub alone : (j : ℕ) → Uses k (pieces_at pieces j) → j ≡ number
   pub whole : (v w : Pos) → Beside v w d → SegmentOf g v w
 
--- an old arc that has a segment of what is left stands at one place of one list, and all its segments stay
+-- an old arc that has a segment of what is left is at one place of one list, and all its segments stay
 abbrev pub KeptStandOnce : Type 0
 KeptStandOnce =
     (g u : Geometry Pos) → IsSound u → IsPartOf g u → (old : Arcs) (r : RejoinedParts) → IsRejoinedOf g u old r →
     (k : ℕ) (d : List Pos) (v w : Pos) → slice_get old.arcs k ≡ Some d → Beside v w d → SegmentOf g v w → StandsOnce g r.pieces k d
 
--- one that has none stands in no list
+-- one that has none is in no list
 abbrev pub OthersStandNowhere : Type 0
 OthersStandNowhere =
     (g u : Geometry Pos) → IsSound u → IsPartOf g u → (old : Arcs) (r : RejoinedParts) → IsRejoinedOf g u old r →

@@ -94,7 +94,7 @@ pub record ArePartners (stop : Type 0) (H : ArcRef → Type 0) (partner : ArcRef
   pub meets : H b
   pub only : (p : ArcRef) → H p → (p ≡ a) ⊎ (p ≡ b)
 
--- it is told right of a, which is among those that meet at a vertex, which of them goes on from it
+-- the answer is right of a, which is among those that meet at a vertex: which of them goes on from it
 abbrev pub IsTold : Type 0 → (ArcRef → Type 0) → (ArcRef → Option ArcRef) → ArcRef → Type 0
 IsTold stop H partner a = IsStopped stop H partner a ⊎ ((b : ArcRef) × ArePartners stop H partner a b)
 

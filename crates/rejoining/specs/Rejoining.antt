@@ -10,7 +10,7 @@ use Rattle.chains.specs.Arcs.{Arcs}
 use Rattle.chains.specs.Table.{IsTableOf}
 use Rattle.rejoining.specs.Parts.{RejoinedParts}
 
--- g is a part of the map u that the old table is of: the marks tell which old arcs it uses, and the ends where its lines begin and end
+-- g is a part of the map u that the old table is of: the marks say which old arcs it uses, and the ends where its lines begin and end
 pub record IsLeftBy (g u : Geometry Pos) (old : Arcs) (marks : List Bool) (ending : List Pos) : Type 0 where
   pub sound : IsSound u
   pub table : IsTableOf u old

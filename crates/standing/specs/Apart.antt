@@ -15,7 +15,7 @@ use Rattle.chains.specs.Arcs.{Arcs}
 use Rattle.chains.specs.OfArcs.{table_as_map}
 use Rattle.chains.specs.Table.{IsTableOf, is_loop, marked}
 
--- arcs as they stand, of which those that are marked are free loops
+-- arcs as they are, of which those that are marked are free loops
 abbrev pub table_read : List (List Pos) → List Bool → Arcs
 table_read arcs free = record { arcs = arcs; loops = marked arcs free }
 

@@ -8,7 +8,7 @@ use Rattle.chains.specs.Table.{is_loop}
 use Rattle.standing.specs.declared.ends.EndsAre.{EndsAre}
 use Rattle.standing.specs.declared.ends.EndsAre.TheVariants.{Among, Apart}
 
--- whether a vertex is where it has to be, where it is told whether it is among them
+-- whether a vertex is where it has to be, where it is known whether it is among them
 abbrev pub is_as : EndsAre → Bool → Bool
 is_as Among found = found
 is_as Apart found = not found

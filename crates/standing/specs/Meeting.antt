@@ -29,7 +29,7 @@ abbrev pub both_if : Option (List Pos) → List Pos
 both_if None = []
 both_if (Some c) = both_ends c
 
--- the vertices that are equal to the one before, where `before` stands in front
+-- the vertices that are equal to the one before, where `before` is in front
 abbrev pub again_from : Pos → List Pos → List Pos
 again_from before [] = []
 again_from before (x ∷ l) = cond (position_eq x before) (x ∷ again_from x l) (again_from x l)

@@ -1,4 +1,4 @@
--- Lists of used arcs that stand together over a table of arcs, and what follows from it.
+-- Lists of used arcs that are together over a table of arcs, and what follows from it.
 use Rattle.std.specs.Prelude.{◌≡◌, ℕ, List, Some, slice_get, ◌⊎◌}
 use Rattle.grid.specs.declared.pos.Pos.{Pos}
 use Rattle.lines.specs.Turned.{position_cmp}
@@ -14,7 +14,7 @@ use Rattle.chains.specs.Table.{IsTableOf}
 use Rattle.standing.specs.Lists.{LineStands, RingStands}
 use Rattle.standing.specs.Meeting.{EndsMeet, line_ends}
 
--- the lists of lines and of rings stand: each for itself, each arc is used, and each end of an arc that is not free is
+-- the lists of lines and of rings are valid: each for itself, each arc is used, and each end of an arc that is not free is
 -- where one of the lines begins or ends, or three ends of arcs meet there
 pub record ListsStand (t : Arcs) (lines rings : List (List ArcRef)) : Type 0 where
   pub each_line : (us : List ArcRef) → Has us lines → LineStands t.arcs (table_as_map t) us
@@ -36,7 +36,7 @@ pub record AreTurnedListsOf (arcs : List (List Pos)) (lines rings : List (List A
   pub of_lines : Pairwise (λ l us. StitchTo arcs us l) g.lines lines
   pub of_rings : Pairwise (λ r us. StitchAround arcs us r) g.rings rings
 
--- lists that stand are those of a map
+-- valid lists are those of a map
 abbrev pub ListsMakeAMap : Type 0
 ListsMakeAMap =
     (t : Arcs) → ArcsApart position_cmp t.arcs (table_as_map t) → (lines rings : List (List ArcRef)) → ListsStand t lines rings →
@@ -50,7 +50,7 @@ ListsAreTheMaps =
     (g : Geometry Pos) → AreTurnedListsOf t.arcs lines rings g →
     IsSound g × IsTableOf g t × Pairwise (IsRingList position_cmp (JunctionOf g) t.arcs) g.rings rings
 
--- a line's or a ring's list that stands is read as it is, whatever line or ring it stitches to
+-- a line's or a ring's valid list is read as it is, whatever line or ring it stitches to
 abbrev pub ListsAreRead : Type 0
 ListsAreRead =
     (t : Arcs) → ArcsApart position_cmp t.arcs (table_as_map t) → (us : List ArcRef) →

@@ -1,4 +1,4 @@
--- What is told of lists of used arcs that are added to those that were seen.
+-- What is known of lists of used arcs that are added to those that were seen.
 use Rattle.std.specs.Prelude.{◌≡◌, ◌<◌, ◌↔◌, ◌⊎◌, ◌++◌, ℕ, Bool, true, false, List, get_or, length}
 use Rattle.lines.specs.Turned.{position_cmp}
 use Rattle.theory.specs.ArcNumbers.{ArcRef, Uses}
@@ -18,7 +18,7 @@ pub record EachStands (t : Arcs) (lines rings : List (List ArcRef)) : Type 0 whe
 abbrev pub IsUsed : List (List ArcRef) → List (List ArcRef) → ℕ → Type 0
 IsUsed lines rings k = (us : List ArcRef) × (Has us lines ⊎ Has us rings) × Uses k us
 
--- the answer is whether each list stands; then the arcs that they use are marked, and where the lines begin and end is added
+-- the answer is whether each list is valid; then the arcs that they use are marked, and where the lines begin and end is added
 pub record AreAdded (t : Arcs) (lines rings : List (List ArcRef)) (answer : Bool) (old now : ListsSeen) : Type 0 where
   pub len : length now.used ≡ length old.used
   pub stand : (answer ≡ true) ↔ EachStands t lines rings

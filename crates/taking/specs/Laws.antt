@@ -1,4 +1,4 @@
--- Layers that stand over a table of arcs, and what follows from it.
+-- Layers that are valid over a table of arcs, and what follows from it.
 use Rattle.std.specs.Prelude.{◌≡◌, ℕ, List}
 use Rattle.std.specs.FinMap as map
 use Rattle.std.specs.List.{AllByRecursion}
@@ -20,7 +20,7 @@ use Rattle.standing.specs.Stands.{ListsStand}
 use Rattle.taking.specs.Lists.{layers_lines, layers_rings}
 use Rattle.taking.specs.Order.{InOrder}
 
--- the arcs are apart, and the lists of the layers stand over them
+-- the arcs are apart, and the lists of the layers are valid over them
 pub record LayersStand (t : Arcs) (ls : List LayerParts) : Type 0 where
   pub apart : ArcsApart position_cmp t.arcs (table_as_map t)
   pub lists : ListsStand t (layers_lines ls) (layers_rings ls)
@@ -38,7 +38,7 @@ pub record IsStitched (arcs : List (List Pos)) (e : List ℕ × Features) (l : L
 abbrev pub AreStitched : List (List Pos) → Layers → List LayerParts → Type 0
 AreStitched arcs m ls = Pairwise (IsStitched arcs) (map.entries m) ls
 
--- where layers stand, each geometry stitches to a feature
+-- where layers are valid, each geometry stitches to a feature
 abbrev pub GeometriesHaveFeatures : Type 0
 GeometriesHaveFeatures = (t : Arcs) (ls : List LayerParts) → LayersStand t ls → HaveI64 ls → LayersHaveFeatures t.arcs ls
 

@@ -1,4 +1,4 @@
--- Layers whose geometries are sorted, as far as that can be told without arcs.
+-- Layers whose geometries are sorted, as far as that is known without arcs.
 use Rattle.std.specs.Prelude.{◌≡◌, List}
 use Rattle.std.specs.List.Sorted.{IsPermutation, IsSorted, IsStable}
 use Rattle.theory.specs.Lists.{Pairwise}

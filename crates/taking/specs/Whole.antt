@@ -11,11 +11,11 @@ use Rattle.taking.specs.Laws.{LayersStand}
 use Rattle.taking.specs.Lists.{layers_lines}
 use Rattle.taking.specs.Order.{InOrder}
 
--- the table of arcs as they stand: a closed arc is a free loop where no other arc ends at its seam, and no line
+-- the table of arcs as they are: a closed arc is a free loop where no other arc ends at its seam, and no line
 abbrev pub table_of : List (List Pos) → List LayerParts → Arcs
 table_of arcs ls = table_read arcs (map (goes_free (gathered (line_ends arcs) (layers_lines ls) ++ gathered ends_once arcs)) arcs)
 
--- the layers stand over the table's arcs, in order
+-- the layers are valid over the table's arcs, in order
 pub record StandInOrder (t : Arcs) (ls : List LayerParts) : Type 0 where
   pub stand : LayersStand t ls
   pub order : InOrder t.arcs ls

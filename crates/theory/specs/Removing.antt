@@ -106,7 +106,7 @@ pub record IsRun {V : Type 0} (kept : ℕ → Type 0) (table : List (List V)) (u
   pub once : UsesOnce used
   pub stays : (k : ℕ) → Uses k used → kept k
 
--- b stands behind the first
+-- b is behind the first
 abbrev pub Behind : ArcRef → List ArcRef → Type 0
 Behind b [] = ⊥
 Behind b (a ∷ used) = Has b used

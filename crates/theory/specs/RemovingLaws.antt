@@ -18,7 +18,7 @@ pub record IsLeft {V : Type 0} (cmp : V → V → Ordering) (g u : Geometry V) (
   pub arcs : AreArcsOf cmp u table
   pub part : IsPartOf g u
 
--- the kept arcs tell segments and junctions of what is left
+-- the kept arcs determine segments and junctions of what is left
 abbrev pub KeptArcsTell : Type 0 → Type 0
 KeptArcsTell V = (cmp : V → V → Ordering) (g u : Geometry V) (table : List (List V)) → IsLeft cmp g u table → KeptLaws cmp g u table
 

@@ -1,4 +1,4 @@
--- A table of arcs, and lists of used arcs, as a text has them: what a reader checks so that it may take them as they stand.
+-- A table of arcs, and lists of used arcs, as a text has them: what a reader checks so that it may take them as they are.
 use Rattle.std.specs.Cmp.Lexicographic.{slice_cmp}
 use Rattle.std.specs.Prelude.{◌≡◌, ℕ, List, [], ◌∷◌, ◌++◌, ◌⊎◌, reverse, Option, Some, slice_get}
 use Rattle.std.specs.declared.cmp.Ordering.{Ordering}
@@ -41,7 +41,7 @@ inner_of (x ∷ (y ∷ r)) = front_of y r
 abbrev pub insides : {V : Type 0} → Geometry V → List V
 insides a = gathered inner_of a.lines ++ gathered (λ r. r) a.rings
 
--- the same of the arcs, told without junctions: a vertex inside an arc, or on a free one, stands at no other place
+-- the same of the arcs, told without junctions: a vertex inside an arc, or on a free one, is at no other place
 pub record ArcsApart {V : Type 0} (cmp : V → V → Ordering) (arcs : List (List V)) (a : Geometry V) : Type 0 where
   pub parted : AreParted arcs a
   pub sorted : Ascends (slice_cmp cmp) arcs
@@ -97,7 +97,7 @@ InALine {V} arcs a g k = (l : List V) × (used : List ArcRef) × IsLineOf g l ×
 abbrev pub InARing : {V : Type 0} → List (List V) → Geometry V → ℕ → Type 0
 InARing {V} arcs g k = (r : List V) × (used : List ArcRef) × IsRingOf g r × IsListOfRing arcs r used × Uses k used
 
--- the arcs stand as those of g: besides what is checked of them alone, and of each list, each arc is used,
+-- the arcs are valid for g: besides what is checked of them alone, and of each list, each arc is used,
 -- and each end of an arc that is not free is an end of a line, or three arcs meet there
 pub record Stands {V : Type 0} (cmp : V → V → Ordering) (arcs : List (List V)) (a g : Geometry V) : Type 0 where
   pub alone : ArcsStand cmp arcs a
@@ -127,7 +127,7 @@ abbrev pub InLayers : {I V : Type 0} → List (Layer (Item I (Body V))) → ℕ 
 InLayers {I} {V} layers k =
     (l : Layer (Item I (Body V))) × Has l layers × (h : Item I (Body V)) × Has h l.items × UsesArc k h.form
 
--- a topology stands as that of the map m on the grid
+-- a topology is valid for the map m on the grid
 pub record TopologyStands {G I V B : Type 0} (cmp : V → V → Ordering) (box_of : G → List V → Option B)
     (on : G) (m : Map I V) (a : Geometry V) (t : Topology G I V B) : Type 0 where
   pub grid : t.grid ≡ on

@@ -1,4 +1,4 @@
--- The laws of arcs, lists and topologies that stand, as statements over any type V of vertices. Each is promised by the function of `laws` that has its name.
+-- The laws of valid arcs, lists and topologies, as statements over any type V of vertices. Each is promised by the function of `laws` that has its name.
 use Rattle.std.specs.Prelude.{◌≡◌, List, [], Option}
 use Rattle.std.specs.declared.cmp.Ordering.{Ordering}
 use Rattle.theory.specs.ArcNumbers.{ArcRef, StitchTo, UsesOnce}
@@ -10,12 +10,12 @@ use Rattle.theory.specs.Refinement.{Alike, turned_used}
 use Rattle.theory.specs.Standing.{ArcsApart, ArcsStand, IsListOfRing, Stands, TopologyStands}
 use Rattle.theory.specs.Topology.{IsRingList, IsTopologyOf, Map, Topology, geometry_of}
 
--- arcs of which no vertex inside one stands at another place stand
+-- arcs of which no vertex inside one is at another place are valid
 abbrev pub ArcsApartStand : Type 0 → Type 0
 ArcsApartStand V =
     (cmp : V → V → Ordering) → IsOrder cmp → (arcs : List (List V)) (a : Geometry V) → ArcsApart cmp arcs a → ArcsStand cmp arcs a
 
--- arcs that stand are the arcs of the map that they make: no segment is in two of them, or twice in one
+-- valid arcs are the arcs of the map that they make: no segment is in two of them, or twice in one
 abbrev pub ArcsThatStand : Type 0 → Type 0
 ArcsThatStand V =
     (cmp : V → V → Ordering) → IsOrder cmp → (arcs : List (List V)) (a : Geometry V) → ArcsStand cmp arcs a →
@@ -28,7 +28,7 @@ ListsThatStand V =
     (used : List ArcRef) → ¬ (used ≡ []) → UsesOnce used →
     ((l : List V) → StitchTo arcs used l → IsLine l) × ((q : List V) → StitchTo arcs used (closed q) → IsRing q)
 
--- arcs that stand as those of g are the arcs of g
+-- arcs that are valid for g are the arcs of g
 abbrev pub ArcsOfAMapThatStand : Type 0 → Type 0
 ArcsOfAMapThatStand V =
     (cmp : V → V → Ordering) → IsOrder cmp → (arcs : List (List V)) (a g : Geometry V) → Stands cmp arcs a g →
@@ -41,14 +41,14 @@ RingListsThatStand V =
     (r : List V) → IsRingOf g r → (used : List ArcRef) → IsListOfRing arcs r used →
     IsRingList cmp (JunctionOf g) arcs r (turned_used cmp arcs used)
 
--- a topology that stands as that of a map is that of the map
+-- a topology that is valid for a map is that of the map
 abbrev pub TopologyThatStands : Type 0 → Type 0 → Type 0 → Type 0 → Type 0
 TopologyThatStands V I G B =
     (cmp : V → V → Ordering) (box_of : G → List V → Option B) (on : G) (m : Map I V) → IsOrder cmp →
     (a : Geometry V) (t : Topology G I V B) → TopologyStands cmp box_of on m a t →
     IsSound (geometry_of m) × IsTopologyOf cmp box_of on m t
 
--- and the topology of each map stands
+-- and the topology of each map is valid for it
 abbrev pub TopologiesStand : Type 0 → Type 0 → Type 0 → Type 0 → Type 0
 TopologiesStand V I G B =
     (cmp : V → V → Ordering) (box_of : G → List V → Option B) (on : G) (m : Map I V) → IsOrder cmp → IsSound (geometry_of m) →

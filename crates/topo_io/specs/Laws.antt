@@ -17,7 +17,7 @@ use Rattle.topo_io.specs.Parts.{AreSaid}
 abbrev pub OneMeaning : Type 0
 OneMeaning = (bytes : List ℕ) (g h : Transform) (m n : Layers) → Means bytes g m → Means bytes h n → (g ≡ h) × (m ≡ n)
 
--- where the layers that a text has stand over its arcs, in order, the text means a map, and they are the parts of that map's topology
+-- where the layers that a text has are valid over its arcs, in order, the text means a map, and they are the parts of that map's topology
 abbrev pub AsItStands : Type 0
 AsItStands =
     (bytes : List ℕ) (g : Transform) (t : Arcs) (ls : List LayerParts) → AreSaid bytes g t.arcs ls → LayersStand t ls → InOrder t.arcs ls →
