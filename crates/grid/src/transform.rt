@@ -120,6 +120,9 @@ fn quotient(a: i64, scale: i64) -> i64
     requires scale { IsScale scale }
     ensures { result ≡ int_div a scale }
 {
+    if scale == 1 {
+        return a;
+    }
     a / scale
 }
 
@@ -128,6 +131,9 @@ fn is_multiple(d: i64, scale: i64) -> bool
     requires scale { IsScale scale }
     ensures { IsTrue result ↔ IsMultiple scale d }
 {
+    if scale == 1 {
+        return true;
+    }
     if remainder(d, scale) != 0 {
         return false;
     }
