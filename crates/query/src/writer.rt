@@ -1,5 +1,5 @@
 //! Writing meshes and neighbours as JSON, piece by piece and with no memory.
-ghost use Rattle.geojson_io.specs.CollectionText.{line_text};
+ghost use Rattle.geojson_io.specs.CollectionText.{line_text, place_text};
 ghost use Rattle.grid.specs.declared.pos.Pos.{Pos};
 ghost use Rattle.query.specs.AnswerTexts.{id_text_of, id_value_text, mesh_text, neighbor_ids_text, neighbors_text};
 ghost use Rattle.sinks.specs.Texts.{joined, list_text};
@@ -13,8 +13,10 @@ use geojson_io::writer::{Geometry, Places};
 use grid::{Grid, Pos};
 use itoa::Buffer;
 use shapes::shape::Id;
-use sinks::written::{Bracketed, Listed, Notation, Number, Text, Then, Written};
-use sinks::{Sink, WriteFault, put};
+use sinks::written::{
+    Bracketed, Listed, Notation, Noted, Number, PairsAfterCommas, Text, Then, Written,
+};
+use sinks::{PAIRS_AT_ONCE, Sink, WriteFault, put};
 use topo::Geom;
 
 /// The line of a number, empty past the last.
@@ -24,6 +26,46 @@ pub(crate) fn line_at(lines: &ArcTable, number: usize) -> &[Pos]
     match lines.arc(number) {
         Some(line) => line,
         None => &[],
+    }
+}
+
+// Puts the absolute numbers of positions into the first places of an array.
+fn fill_line(grid: &Grid, positions: &[Pos], pairs: &mut [(i64, i64); PAIRS_AT_ONCE]) {
+    for number in 0..positions.len() {
+        pairs[number] = grid.to_absolute(positions[number]);
+    }
+}
+
+// Writes places, each after a comma.
+fn write_places<W: Sink>(grid: &Grid, others: &[Pos], sink: &mut W) -> Result<(), WriteFault> {
+    let mut pairs = [(0, 0); PAIRS_AT_ONCE];
+    let mut left = others;
+    while !left.is_empty() {
+        let (positions, after) = left.split_at(left.len().min(PAIRS_AT_ONCE));
+        fill_line(grid, positions, &mut pairs);
+        match PairsAfterCommas(&pairs[..positions.len()]).write(sink) {
+            Ok(()) => left = after,
+            Err(fault) => return Err(fault),
+        }
+    }
+    Ok(())
+}
+
+/// The places of a line.
+#[derive(Clone, Copy)]
+struct PlacesOf<'a>(&'a [Pos], &'a Grid);
+
+impl<'a> Written for PlacesOf<'a> {
+    ghost text = { λ l. joined (place_text l.1.now) l.0.now };
+
+    fn write<W: Sink>(&self, sink: &mut W) -> Result<(), WriteFault> {
+        match self.0.split_first() {
+            Some((first, others)) => match Noted(first, &Places(self.1)).write(sink) {
+                Ok(()) => write_places(self.1, others, sink),
+                Err(fault) => Err(fault),
+            },
+            None => Ok(()),
+        }
     }
 }
 
@@ -37,7 +79,7 @@ impl<'a> Written for LinesIn<'a> {
     fn write<W: Sink>(&self, sink: &mut W) -> Result<(), WriteFault> {
         let mut separator = Text(b"");
         for number in 0..self.0.len() {
-            let line = Listed(line_at(self.0, number), &Places(self.1));
+            let line = Bracketed(PlacesOf(line_at(self.0, number), self.1));
             match Then(separator, line).write(sink) {
                 Ok(()) => separator = Text(b","),
                 Err(fault) => return Err(fault),

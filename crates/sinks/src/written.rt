@@ -8,7 +8,7 @@ ghost use Rattle.std.specs.Fmt.{signed_decimal};
 ghost use Rattle.std.specs.Iterator.{IsFinite, YieldsThen};
 ghost use Rattle.std.specs.Prelude.{◌≡◌, ℕ, ℤ, ◌<◌, ◌≤◌, ◌++◌, length, List, [], codes, None, OnErr, OnOk};
 
-use crate::pair::{LONGEST_PAIR, write_pair};
+use crate::pair::{LONGEST_PAIR, LONGEST_PAIRS, PAIRS_AT_ONCE, write_pair, write_pairs};
 use crate::{Sink, WriteFault, put};
 use itoa::Buffer;
 
@@ -183,6 +183,28 @@ impl Written for Pair {
         let mut bytes = [0; LONGEST_PAIR];
         let start = write_pair(self.0, self.1, &mut bytes);
         put(sink, &bytes[start..])
+    }
+}
+
+/// Pairs of numbers in brackets, each after a comma. Several are put together as one piece.
+#[derive(Clone, Copy)]
+pub struct PairsAfterCommas<'a>(pub &'a [(i64, i64)]);
+
+impl<'a> Written for PairsAfterCommas<'a> {
+    ghost text = { λ p. after_commas (λ x. pair_text x.0 x.1) p.0.now };
+
+    fn write<W: Sink>(&self, sink: &mut W) -> Result<(), WriteFault> {
+        let mut bytes = [0; LONGEST_PAIRS];
+        let mut left = self.0;
+        while !left.is_empty() {
+            let (pairs, after) = left.split_at(left.len().min(PAIRS_AT_ONCE));
+            let start = write_pairs(pairs, &mut bytes);
+            match put(sink, &bytes[start..]) {
+                Ok(()) => left = after,
+                Err(fault) => return Err(fault),
+            }
+        }
+        Ok(())
     }
 }
 

@@ -15,9 +15,10 @@ use grid::Pos;
 use itoa::Buffer;
 use shapes::props::Props;
 use sinks::written::{
-    Bracketed, Each, Joined, Listed, Notation, Noted, Number, Pair, Text, Then, Written,
+    Bracketed, Each, Joined, Listed, Notation, Noted, Number, Pair, PairsAfterCommas, Text, Then,
+    Written,
 };
-use sinks::{Kept, Sink, WriteFault, put};
+use sinks::{Kept, PAIRS_AT_ONCE, Sink, WriteFault, put};
 use std::alloc::Global;
 use topo::geom::{Body, Geom};
 use topo::topology::{Layer, Topology};
@@ -35,33 +36,37 @@ impl Notation<Pos> for GridNumbers {
     }
 }
 
-fn difference(before: Pos, p: Pos) -> Pair
+fn difference(before: Pos, p: Pos) -> (i64, i64)
     ensures x { result.0 ≡ p.x -ℤ before.x }
     ensures y { result.1 ≡ p.y -ℤ before.y }
 {
-    Pair(p.x() - before.x(), p.y() - before.y())
+    (p.x() - before.x(), p.y() - before.y())
 }
 
-// The difference of a position from the one before, after a comma.
-fn write_difference<W: Sink>(sink: &mut W, before: Pos, p: Pos) -> Result<(), WriteFault>
-    ensures whole { OnOk result (TookAll (W.seen sink.old) (W.seen sink.new) (difference_text before p)) }
-    ensures part { OnErr result (TookPart (W.seen sink.old) (W.seen sink.new) (difference_text before p)) }
-{
-    let pair = difference(before, p);
-    Then(Text(b","), pair).write(sink)
+// The differences of positions, each from the one before, put into the first places of an array; and the last position.
+fn fill_differences(before: Pos, positions: &[Pos], pairs: &mut [(i64, i64); PAIRS_AT_ONCE]) -> Pos {
+    let mut before = before;
+    for number in 0..positions.len() {
+        pairs[number] = difference(before, positions[number]);
+        before = positions[number];
+    }
+    before
 }
 
 fn write_differences<W: Sink>(sink: &mut W, first: Pos, others: &[Pos]) -> Result<(), WriteFault>
     ensures whole { OnOk result (TookAll (W.seen sink.old) (W.seen sink.new) (differences_text first others.now)) }
     ensures part { OnErr result (TookPart (W.seen sink.old) (W.seen sink.new) (differences_text first others.now)) }
 {
+    let mut pairs = [(0, 0); PAIRS_AT_ONCE];
     let mut left = others;
     let mut before = first;
-    while let Some((p, after)) = left.split_first() {
-        match write_difference(sink, before, *p) {
+    while !left.is_empty() {
+        let (positions, after) = left.split_at(left.len().min(PAIRS_AT_ONCE));
+        let last = fill_differences(before, positions, &mut pairs);
+        match PairsAfterCommas(&pairs[..positions.len()]).write(sink) {
             Ok(()) => {
                 left = after;
-                before = *p;
+                before = last;
             }
             Err(fault) => return Err(fault),
         }

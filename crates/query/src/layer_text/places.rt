@@ -10,15 +10,22 @@ use crate::layer_text::steps::{Step, behind, is_step, least_step};
 use chains::ArcRef;
 use geojson_io::writer::Places;
 use grid::{Grid, Pos};
-use sinks::written::{Noted, Text, Then, Written};
-use sinks::{Sink, WriteFault};
+use sinks::written::{Noted, PairsAfterCommas, Text, Then, Written};
+use sinks::{PAIRS_AT_ONCE, Sink, WriteFault};
 use topo::{Topology, Walk};
 
-fn write_after_comma<W: Sink>(sink: &mut W, grid: &Grid, place: &Pos) -> Result<(), WriteFault>
-    ensures whole { OnOk result (TookAll (W.seen sink.old) (W.seen sink.new) (after_comma (place_text grid.now) place.now)) }
-    ensures part { OnErr result (TookPart (W.seen sink.old) (W.seen sink.new) (after_comma (place_text grid.now) place.now)) }
-{
-    Then(Text(b","), Noted(place, &Places(grid))).write(sink)
+/// Puts the absolute numbers of the next positions of a walk into an array, and answers of how many. Where these are
+/// fewer than the array has room for, the walk is at its end.
+fn fill_places(walk: &mut Walk, grid: &Grid, pairs: &mut [(i64, i64); PAIRS_AT_ONCE]) -> usize {
+    let mut count = 0;
+    while count < PAIRS_AT_ONCE {
+        let Some(place) = walk.next() else {
+            return count;
+        };
+        pairs[count] = grid.to_absolute(*place);
+        count += 1;
+    }
+    count
 }
 
 /// Writes what is left of a walk, each place after a comma.
@@ -26,13 +33,39 @@ fn write_others<W: Sink>(sink: &mut W, grid: &Grid, mut walk: Walk) -> Result<()
     ensures whole { OnOk result (TookAll (W.seen sink.old) (W.seen sink.new) (after_commas (place_text grid.now) walk.entry)) }
     ensures part { OnErr result (TookPart (W.seen sink.old) (W.seen sink.new) (after_commas (place_text grid.now) walk.entry)) }
 {
-    while let Some(place) = walk.next() {
-        match write_after_comma(sink, grid, place) {
+    let mut pairs = [(0, 0); PAIRS_AT_ONCE];
+    let mut count = PAIRS_AT_ONCE;
+    while count == PAIRS_AT_ONCE {
+        count = fill_places(&mut walk, grid, &mut pairs);
+        match PairsAfterCommas(&pairs[..count]).write(sink) {
             Ok(()) => {}
             Err(fault) => return Err(fault),
         }
     }
     Ok(())
+}
+
+/// The same up to a step, where `here` is the position before, which is moved on.
+fn fill_up_to(
+    walk: &mut Walk,
+    grid: &Grid,
+    here: &mut Pos,
+    step: Step,
+    pairs: &mut [(i64, i64); PAIRS_AT_ONCE],
+) -> usize {
+    let mut count = 0;
+    while count < PAIRS_AT_ONCE {
+        let Some(next) = walk.next() else {
+            return count;
+        };
+        if is_step(step, *here, *next) {
+            return count;
+        }
+        pairs[count] = grid.to_absolute(*next);
+        *here = *next;
+        count += 1;
+    }
+    count
 }
 
 /// Writes the places up to a step, each after a comma, where `here` is the place before them.
@@ -46,12 +79,12 @@ fn write_up_to<W: Sink>(
     ensures whole { OnOk result (TookAll (W.seen sink.old) (W.seen sink.new) (after_commas (place_text grid.now) (up_to_from step here walk.entry))) }
     ensures part { OnErr result (TookPart (W.seen sink.old) (W.seen sink.new) (after_commas (place_text grid.now) (up_to_from step here walk.entry))) }
 {
-    while let Some(next) = walk.next() {
-        if is_step(step, here, *next) {
-            return Ok(());
-        }
-        match write_after_comma(sink, grid, next) {
-            Ok(()) => here = *next,
+    let mut pairs = [(0, 0); PAIRS_AT_ONCE];
+    let mut count = PAIRS_AT_ONCE;
+    while count == PAIRS_AT_ONCE {
+        count = fill_up_to(&mut walk, grid, &mut here, step, &mut pairs);
+        match PairsAfterCommas(&pairs[..count]).write(sink) {
+            Ok(()) => {}
             Err(fault) => return Err(fault),
         }
     }
