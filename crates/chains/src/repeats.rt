@@ -4,7 +4,7 @@ ghost use Rattle.chains.specs.Shared.{KeepsClashes};
 ghost use Rattle.lines.specs.Bits.{may_hold};
 ghost use Rattle.std.specs.Prelude.{IfOk};
 
-use crate::visits::Visit;
+use crate::visits::{Seen, Visit};
 use grid::pos::Pos;
 use lines::bits::PositionBits;
 use std::alloc::{AllocError, Global};
@@ -35,15 +35,15 @@ impl Repeats {
     }
 
     /// The vertices of visits.
-    fn of(alloc: Global, visits: &[Visit]) -> Result<Repeats, AllocError>
-        ensures { IfOk result (λ r. HoldsClashing (may_hold r.again) visits.now) }
-    {
+    fn of(alloc: Global, seen: &Seen) -> Result<Repeats, AllocError> {
         let mut repeats = Repeats {
-            met: PositionBits::clear(alloc, visits.len() / MET_EACH)?,
-            again: PositionBits::clear(alloc, visits.len() / AGAIN_EACH)?,
+            met: PositionBits::clear(alloc, seen.spots.len() / MET_EACH)?,
+            again: PositionBits::clear(alloc, seen.spots.len() / AGAIN_EACH)?,
         };
-        for visit in visits {
-            repeats.note(visit.vertex);
+        for spot in &seen.spots {
+            if let Some(vertex) = seen.vertex(*spot) {
+                repeats.note(vertex);
+            }
         }
         Ok(repeats)
     }
@@ -51,14 +51,16 @@ impl Repeats {
 
 /// Some of the visits, in their order: each that clashes with another, and few others. Most vertices of a
 /// map whose borders were noted once are visited once, so little is left to sort.
-pub(crate) fn repeated(alloc: Global, visits: &[Visit]) -> Result<Vec<Visit>, AllocError>
-    ensures { IfOk result (λ kept. KeepsClashes kept.items visits.now) }
-{
-    let repeats = Repeats::of(alloc, visits)?;
+pub(crate) fn repeated(alloc: Global, seen: &Seen) -> Result<Vec<Visit>, AllocError> {
+    let repeats = Repeats::of(alloc, seen)?;
     let mut kept = Vec::new(alloc);
-    for visit in visits {
-        if repeats.again.may_hold(visit.vertex) {
-            kept.push(*visit)?;
+    for spot in &seen.spots {
+        if let Some(vertex) = seen.vertex(*spot) {
+            if repeats.again.may_hold(vertex) {
+                if let Some(visit) = seen.visit(*spot) {
+                    kept.push(visit)?;
+                }
+            }
         }
     }
     Ok(kept)

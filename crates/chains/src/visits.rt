@@ -56,85 +56,135 @@ fn visit_between(before: Pos, here: Pos, next: Pos) -> Visit
     }
 }
 
+/// Where a visit stands: a place in one of the lists that were seen.
+#[derive(Clone, Copy)]
+pub(crate) struct Spot {
+    list: usize,
+    place: usize,
+}
+
 /// What lines and rings are seen to visit: the ends of the lines apart from the other visits.
 #[derive(Drop)]
-struct Seen {
+pub(crate) struct Seen<'a> {
     ends: Vec<Pos>,
-    visits: Vec<Visit>,
+    /// The lines and rings, of which the last is looked at now.
+    lists: Vec<&'a [Pos]>,
+    pub(crate) spots: Vec<Spot>,
     /// Where a visit was noted, by its vertex. It is only a hint: most visits of a map whose rings share
     /// borders come twice, and the second is found here.
     recent: Recent,
     /// Where the last visit was found that was noted before. It is only a hint too: a border that comes
-    /// again comes in the same order or backwards, so the next visit is mostly beside that one.
-    last_found: usize,
+    /// again comes in the same order or backwards, so the next visit mostly stands beside that one.
+    last_found: Spot,
 }
 
-/// Whether a visit is at an index.
-fn stands_at(visits: &[Visit], index: usize, visit: Visit) -> bool
-    ensures { IsTrue result ↔ (slice_get visits.now index ≡ Some visit) }
-{
-    match visits.get(index) {
-        Some(noted) => *noted == visit,
-        None => false,
+/// The position before a place of a ring, and the one behind it.
+fn sides_at(list: &[Pos], place: usize) -> Option<(Pos, Pos)> {
+    let before = if place == 0 {
+        list.last()?
+    } else {
+        list.get(place - 1)?
+    };
+    let next = match list.get(place.saturating_add(1)) {
+        Some(next) => next,
+        None => list.first()?,
+    };
+    Some((*before, *next))
+}
+
+/// Whether a visit stands at a place of a list.
+fn stands_at(list: &[Pos], place: usize, before: Pos, here: Pos, next: Pos) -> bool {
+    match list.get(place) {
+        Some(noted) if *noted == here => match sides_at(list, place) {
+            Some((a, b)) => (a == before && b == next) || (a == next && b == before),
+            None => false,
+        },
+        _ => false,
     }
 }
 
-impl Seen {
+impl<'a> Seen<'a> {
     /// Nothing is seen yet; so many visits may be noted.
-    fn nothing(alloc: Global, visits: usize) -> Result<Seen, AllocError>
-        ensures ends { IfOk result (λ s. s.ends.items ≡ []) }
-        ensures visits { IfOk result (λ s. s.visits.items ≡ []) }
-    {
+    fn nothing(alloc: Global, visits: usize) -> Result<Seen<'a>, AllocError> {
         Ok(Seen {
             ends: Vec::new(alloc),
-            visits: Vec::new(alloc),
+            lists: Vec::new(alloc),
+            spots: Vec::new(alloc),
             recent: Recent::for_positions(alloc, visits)?,
-            last_found: 0,
+            last_found: Spot { list: 0, place: 0 },
         })
     }
 
-    /// Where a visit is beside the last one that was found, if it is there.
-    fn beside_last(&self, visit: Visit) -> Option<usize>
-        ensures { IfSome result (λ i. slice_get self.now.visits.items i ≡ Some visit) }
-    {
-        let before = self.last_found.saturating_sub(1);
-        if stands_at(&self.visits, before, visit) {
-            return Some(before);
+    /// The vertex of a spot.
+    pub(crate) fn vertex(&self, spot: Spot) -> Option<Pos> {
+        let list = self.lists.get(spot.list)?;
+        Some(*list.get(spot.place)?)
+    }
+
+    /// The visit of a spot.
+    pub(crate) fn visit(&self, spot: Spot) -> Option<Visit> {
+        let list = self.lists.get(spot.list)?;
+        let here = list.get(spot.place)?;
+        let (before, next) = sides_at(list, spot.place)?;
+        Some(visit_between(before, *here, next))
+    }
+
+    /// Where a visit stands beside the last one that was found, in a list that was seen to its end.
+    fn beside_last(&self, before: Pos, here: Pos, next: Pos) -> Option<usize> {
+        if self.last_found.list.saturating_add(1) >= self.lists.len() {
+            return None;
         }
-        let after = self.last_found.saturating_add(1);
-        if stands_at(&self.visits, after, visit) {
-            return Some(after);
+        let list = self.lists.get(self.last_found.list)?;
+        let back = self.last_found.place.saturating_sub(1);
+        if stands_at(list, back, before, here, next) {
+            return Some(back);
+        }
+        let on = self.last_found.place.saturating_add(1);
+        if stands_at(list, on, before, here, next) {
+            return Some(on);
         }
         None
     }
 
-    /// Notes a visit, unless an equal one is beside the last that was found, or where the table of
-    /// recent visits points.
-    fn note(&mut self, visit: Visit) -> Result<(), AllocError>
-        ensures ends { self.new.ends.items ≡ self.old.ends.items }
-        ensures visits { OnOk result (HaveSame self.new.visits.items (self.old.visits.items ++ visit ∷ [])) }
-    {
-        if let Some(index) = self.beside_last(visit) {
-            self.last_found = index;
+    /// Whether a visit is noted at an index.
+    fn noted_at(&self, index: usize, before: Pos, here: Pos, next: Pos) -> Option<Spot> {
+        let spot = *self.spots.get(index)?;
+        let list = self.lists.get(spot.list)?;
+        if stands_at(list, spot.place, before, here, next) {
+            return Some(spot);
+        }
+        None
+    }
+
+    /// Notes a visit at a place of the last list, unless an equal one stands beside the last that was found, or where
+    /// the table of recent visits points.
+    fn note(&mut self, place: usize, before: Pos, here: Pos, next: Pos) -> Result<(), AllocError> {
+        if let Some(found) = self.beside_last(before, here, next) {
+            self.last_found.place = found;
             return Ok(());
         }
-        if let Some(place) = self.recent.place(visit.vertex) {
-            let index = *place as usize;
-            if stands_at(&self.visits, index, visit) {
-                self.last_found = index;
-                return Ok(());
+        let index = match self.recent.place(here) {
+            Some(index) => {
+                let kept = *index as usize;
+                *index = kept_place(self.spots.len());
+                kept
             }
-            *place = kept_place(self.visits.len());
+            None => usize::MAX,
+        };
+        if let Some(spot) = self.noted_at(index, before, here, next) {
+            if let Some(again) = self.recent.place(here) {
+                *again = kept_place(index);
+            }
+            self.last_found = spot;
+            return Ok(());
         }
-        self.visits.push(visit)?;
+        let list = self.lists.len().saturating_sub(1);
+        self.spots.push(Spot { list, place })?;
         Ok(())
     }
 
     /// Notes the first and the last place of a line.
-    fn see_ends(&mut self, line: &[Pos]) -> Result<(), AllocError>
-        ensures ends { OnOk result (self.new.ends.items ≡ self.old.ends.items ++ ends_of line.now) }
-        ensures visits { self.new.visits.items ≡ self.old.visits.items }
-    {
+    fn see_ends(&mut self, line: &[Pos]) -> Result<(), AllocError> {
         let Some((first, others)) = line.split_first() else {
             return Ok(());
         };
@@ -146,10 +196,8 @@ impl Seen {
     }
 
     /// Notes the visits of a line that are no ends.
-    fn see_inside(&mut self, line: &[Pos]) -> Result<(), AllocError>
-        ensures ends { OnOk result (self.new.ends.items ≡ self.old.ends.items) }
-        ensures visits { OnOk result (HaveSame self.new.visits.items (self.old.visits.items ++ inner_of line.now)) }
-    {
+    fn see_inside(&mut self, line: &'a [Pos]) -> Result<(), AllocError> {
+        self.lists.push(line)?;
         let Some((first, others)) = line.split_first() else {
             return Ok(());
         };
@@ -158,26 +206,22 @@ impl Seen {
         };
         let mut before = *first;
         let mut here = *second;
+        let mut place: usize = 1;
         for next in rest {
-            self.note(visit_between(before, here, *next))?;
+            self.note(place, before, here, *next)?;
             before = here;
             here = *next;
+            place = place.saturating_add(1);
         }
         Ok(())
     }
 
-    fn see_line(&mut self, line: &[Pos]) -> Result<(), AllocError>
-        ensures ends { OnOk result (self.new.ends.items ≡ self.old.ends.items ++ ends_of line.now) }
-        ensures visits { OnOk result (HaveSame self.new.visits.items (self.old.visits.items ++ inner_of line.now)) }
-    {
+    fn see_line(&mut self, line: &'a [Pos]) -> Result<(), AllocError> {
         self.see_ends(line)?;
         self.see_inside(line)
     }
 
-    fn see_ring(&mut self, ring: &[Pos]) -> Result<(), AllocError>
-        ensures ends { OnOk result (self.new.ends.items ≡ self.old.ends.items) }
-        ensures visits { OnOk result (HaveSame self.new.visits.items (self.old.visits.items ++ around_of ring.now)) }
-    {
+    fn see_ring(&mut self, ring: &'a [Pos]) -> Result<(), AllocError> {
         self.see_inside(ring)?;
         let count = ring.len();
         if count < 2 {
@@ -185,15 +229,13 @@ impl Seen {
         }
         let first = ring[0];
         let last = ring[count - 1];
-        self.note(visit_between(ring[count - 2], last, first))?;
-        self.note(visit_between(last, first, ring[1]))?;
+        self.note(count - 1, ring[count - 2], last, first)?;
+        self.note(0, last, first, ring[1])?;
         Ok(())
     }
 
     /// Notes the ends of an arc; a free loop has none.
     fn see_arc_ends(&mut self, arc: &[Pos], free: bool) -> Result<(), AllocError>
-        ensures ends { OnOk result (self.new.ends.items ≡ self.old.ends.items ++ cond free [] (ends_of arc.now)) }
-        ensures visits { self.new.visits.items ≡ self.old.visits.items }
     {
         if free {
             return Ok(());
@@ -202,9 +244,7 @@ impl Seen {
     }
 
     /// Notes the other visits of an arc: a free loop is a ring, each other arc a line.
-    fn see_arc_inside(&mut self, arc: &[Pos], free: bool) -> Result<(), AllocError>
-        ensures ends { OnOk result (self.new.ends.items ≡ self.old.ends.items) }
-        ensures visits { OnOk result (HaveSame self.new.visits.items (self.old.visits.items ++ cond free (around_of (unclosed arc.now)) (inner_of arc.now))) }
+    fn see_arc_inside(&mut self, arc: &'a [Pos], free: bool) -> Result<(), AllocError>
     {
         if !free {
             return self.see_inside(arc);
@@ -219,14 +259,10 @@ impl Seen {
     fn see_met(
         &mut self,
         other: &VertexBits,
-        arc: &[Pos],
+        arc: &'a [Pos],
         free: bool,
         near: bool,
     ) -> Result<bool, AllocError>
-        requires { StaysApart (may_hold other.now) arc.now near }
-        ensures ends { OnOk result (self.new.ends.items ≡ self.old.ends.items) }
-        ensures visits { OnOk result (HaveSame self.new.visits.items (self.old.visits.items ++ met_visits (may_hold other.now) free arc.now)) }
-        ensures met { IfOk result (λ b. b ≡ meets (may_hold other.now) free arc.now) }
     {
         if !near || !other.may_meet(inside(arc, free)) {
             return Ok(false);
@@ -240,14 +276,10 @@ impl Seen {
     fn see_arc(
         &mut self,
         other: &VertexBits,
-        arc: &[Pos],
+        arc: &'a [Pos],
         free: bool,
         near: bool,
     ) -> Result<bool, AllocError>
-        requires { StaysApart (may_hold other.now) arc.now near }
-        ensures ends { OnOk result (self.new.ends.items ≡ self.old.ends.items ++ cond free [] (ends_of arc.now)) }
-        ensures visits { OnOk result (HaveSame self.new.visits.items (self.old.visits.items ++ met_visits (may_hold other.now) free arc.now)) }
-        ensures met { IfOk result (λ b. b ≡ meets (may_hold other.now) free arc.now) }
     {
         self.see_arc_ends(arc, free)?;
         self.see_met(other, arc, free, near)
@@ -256,14 +288,10 @@ impl Seen {
     fn see_numbered(
         &mut self,
         other: &VertexBits,
-        table: &ArcTable,
+        table: &'a ArcTable,
         number: usize,
         near: bool,
     ) -> Result<bool, AllocError>
-        requires { (c : List Pos) → slice_get table.now.arcs number ≡ Some c → StaysApart (may_hold other.now) c near }
-        ensures ends { OnOk result (self.new.ends.items ≡ self.old.ends.items ++ ends_if table.now.loops (slice_get table.now.arcs number)) }
-        ensures visits { OnOk result (HaveSame self.new.visits.items (self.old.visits.items ++ shared_if (may_hold other.now) table.now.loops (slice_get table.now.arcs number))) }
-        ensures met { IfOk result (λ b. b ≡ meets_if (may_hold other.now) table.now.loops (slice_get table.now.arcs number)) }
     {
         match table.arc(number) {
             Some(arc) => self.see_arc(other, arc, table.is_free(number), near),
@@ -278,13 +306,9 @@ impl Seen {
         &mut self,
         alloc: Global,
         other: &VertexBits,
-        table: &ArcTable,
+        table: &'a ArcTable,
         near: &[bool],
     ) -> Result<Vec<bool>, AllocError>
-        requires { near.now ≡ map_list (list_any (within other.now.extent)) table.now.arcs }
-        ensures ends { OnOk result (self.new.ends.items ≡ self.old.ends.items ++ gathered (arc_ends table.now.loops) table.now.arcs) }
-        ensures visits { OnOk result (HaveSame self.new.visits.items (self.old.visits.items ++ gathered (arc_shared (may_hold other.now) table.now.loops) table.now.arcs)) }
-        ensures marks { IfOk result (λ v. v.items ≡ map_list (arc_meets (may_hold other.now) table.now.loops) table.now.arcs) }
     {
         let mut marks = Vec::with_capacity(alloc, table.len())?;
         for number in 0..table.len() {
@@ -293,9 +317,7 @@ impl Seen {
         Ok(marks)
     }
 
-    fn see_lines(&mut self, lines: &[Line]) -> Result<(), AllocError>
-        ensures ends { OnOk result (self.new.ends.items ≡ self.old.ends.items ++ gathered ends_of (map_list line_of lines.now)) }
-        ensures visits { OnOk result (HaveSame self.new.visits.items (self.old.visits.items ++ gathered inner_of (map_list line_of lines.now))) }
+    fn see_lines(&mut self, lines: &'a [Line]) -> Result<(), AllocError>
     {
         for line in lines {
             self.see_line(line.positions())?;
@@ -303,9 +325,7 @@ impl Seen {
         Ok(())
     }
 
-    fn see_rings(&mut self, rings: &[Ring]) -> Result<(), AllocError>
-        ensures ends { OnOk result (self.new.ends.items ≡ self.old.ends.items) }
-        ensures visits { OnOk result (HaveSame self.new.visits.items (self.old.visits.items ++ gathered around_of (map_list ring_of rings.now))) }
+    fn see_rings(&mut self, rings: &'a [Ring]) -> Result<(), AllocError>
     {
         for ring in rings {
             self.see_ring(ring.vertices())?;
@@ -313,9 +333,7 @@ impl Seen {
         Ok(())
     }
 
-    fn see_polygons(&mut self, polygons: &[Items<Ring>]) -> Result<(), AllocError>
-        ensures ends { OnOk result (self.new.ends.items ≡ self.old.ends.items) }
-        ensures visits { OnOk result (HaveSame self.new.visits.items (self.old.visits.items ++ gathered around_of (joined (map_list (map_list ring_of) polygons.now)))) }
+    fn see_polygons(&mut self, polygons: &'a [Items<Ring>]) -> Result<(), AllocError>
     {
         for rings in polygons {
             self.see_rings(rings.as_slice())?;
@@ -323,9 +341,7 @@ impl Seen {
         Ok(())
     }
 
-    fn see_shape(&mut self, shape: &Shape) -> Result<(), AllocError>
-        ensures ends { OnOk result (self.new.ends.items ≡ self.old.ends.items ++ form_ends (form_of shape.now)) }
-        ensures visits { OnOk result (HaveSame self.new.visits.items (self.old.visits.items ++ form_visits (form_of shape.now))) }
+    fn see_shape(&mut self, shape: &'a Shape) -> Result<(), AllocError>
     {
         match shape {
             Shape::Null | Shape::Point(_) | Shape::MultiPoint(_) => Ok(()),
@@ -336,9 +352,7 @@ impl Seen {
         }
     }
 
-    fn see_features(&mut self, features: &BTreeSet<Feature>) -> Result<(), AllocError>
-        ensures ends { OnOk result (self.new.ends.items ≡ self.old.ends.items ++ gathered feature_ends (set.items (set_of features.now))) }
-        ensures visits { OnOk result (HaveSame self.new.visits.items (self.old.visits.items ++ gathered feature_visits (set.items (set_of features.now)))) }
+    fn see_features(&mut self, features: &'a BTreeSet<Feature>) -> Result<(), AllocError>
     {
         for feature in features.iter() {
             self.see_shape(&feature.shape)?;
@@ -346,9 +360,7 @@ impl Seen {
         Ok(())
     }
 
-    fn see_layers(&mut self, map: &FeatureMap) -> Result<(), AllocError>
-        ensures ends { OnOk result (self.new.ends.items ≡ self.old.ends.items ++ gathered form_ends (forms_of (seen map.now))) }
-        ensures visits { OnOk result (HaveSame self.new.visits.items (self.old.visits.items ++ gathered form_visits (forms_of (seen map.now)))) }
+    fn see_layers(&mut self, map: &'a FeatureMap) -> Result<(), AllocError>
     {
         for layer in map.layers() {
             self.see_features(&layer.features)?;
@@ -415,12 +427,10 @@ pub struct ArcsIndex {
 
 impl VisitIndex {
     fn of_seen(alloc: Global, seen: Seen) -> Result<VisitIndex, AllocError>
-        ensures { IfOk result (λ i. (g : Geometry Pos) (all : List Visiting) → KeepsClashes seen.visits.items all → AreVisitsOf seen.ends.items all g → IsIndexOf i g) }
     {
-        let Seen { ends, visits, .. } = seen;
-        let mut repeats = repeated(alloc, &visits)?;
+        let mut repeats = repeated(alloc, &seen)?;
         repeats.sort_unstable_by_key(|v| v.vertex);
-        let mut junctions = thinned(alloc, &ends)?;
+        let mut junctions = thinned(alloc, &seen.ends)?;
         keep_clashes(&mut junctions, &repeats)?;
         junctions.sort_unstable();
         let bits = PositionBits::of(alloc, &junctions)?;
