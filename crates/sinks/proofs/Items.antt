@@ -5,7 +5,7 @@ use Rattle.sinks.specs.Texts.{after_comma, after_commas, joined, separator}
 use Rattle.sinks.specs.Writes.{TookAll, TookPart}
 use Rattle.sinks.proofs.Writes.{all_all, all_part}
 
-one_more_after : {X : Type 0} (f : X → List ℕ) (xs : List X) (x : X) → after_commas f (xs ++ (x ∷ [])) ≡ after_commas f xs ++ after_comma f x
+pub one_more_after : {X : Type 0} (f : X → List ℕ) (xs : List X) (x : X) → after_commas f (xs ++ (x ∷ [])) ≡ after_commas f xs ++ after_comma f x
 one_more_after f [] x = append-nil (after_comma f x)
 one_more_after f (y ∷ ys) x =
     ap (λ l. after_comma f y ++ l) (one_more_after f ys x) ∙ sym (append_assoc (after_comma f y) (after_commas f ys) (after_comma f x))
