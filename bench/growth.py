@@ -7,8 +7,8 @@
 Tilings are kind to a program: each arc has two users, each vertex a few arcs, each ring a hundred positions. These maps are
 not: a star, a comb, many layers on one arc, features equal but for their ids, many small rings, one border that all features
 share, a ring that visits a vertex again and again; and topologies in which as many features as an arc has positions use that
-arc: as this tool writes them, cut where no junction is, in another order, with the arc twice, and with a fault in the last
-feature. Such a text means far more than it says, so a command that stitches each feature takes the square of its length.
+arc: as this tool writes them, cut where no junction is, in another order, with the arc twice, with a position or a member
+twice, with features that tie out of their order, and with a fault in the last feature. Such a text means far more than it says, so a command that stitches each feature takes the square of its length.
 
 Each row is a command on a map: its instructions at the size, by valgrind, and its peak memory above what the program takes
 for nothing, and how both grow when the size doubles. A growth above 2.3 is marked by an exclamation mark and counted, and
@@ -118,6 +118,27 @@ def tying_rings(size):
         {"type": "Polygon", "arcs": [[size, -1 - number]]} for number in range(size)]}})
 
 
+def ties_out_of_order(size):
+    """Features that agree in all but the parts of one long arc that they begin with, the last part first."""
+    whole = zigzag(size)
+    ends = [[whole[-1], [size + number, 5]] for number in range(size)]
+    return topology([whole, *ends], {"a": {"type": "GeometryCollection", "geometries": [
+        {"type": "LineString", "arcs": [0, size - number]} for number in range(size)]}})
+
+
+def repeated(positions):
+    """The positions, the first, one inside and the last of them twice."""
+    middle = len(positions) // 2
+    return [positions[0], *positions[: middle + 1], *positions[middle:], positions[-1]]
+
+
+class Twice:
+    """A value to be written with a member more, of a name that another member has too: the last one counts."""
+
+    def __init__(self, name, first, value):
+        self.text = f"{{{json.dumps(name)}:{json.dumps(first)},{json.dumps(value, separators=(',', ':'))[1:]}"
+
+
 def shared_arcs(size):
     """Topologies whose features use one arc of as many positions, by their names."""
     whole, half = zigzag(size), size // 2
@@ -130,7 +151,11 @@ def shared_arcs(size):
         "doubled": on_arcs(size, [whole, whole], [[0], [1]]),
         "a fraction last": on_arcs(size, [whole], [[0]], point),
         "a segment twice last": on_arcs(size, [whole], [[0]], {"type": "LineString", "arcs": [0, -1]}),
+        "a position twice": on_arcs(size, [repeated(whole)], [[0]]),
+        "a position alone": on_arcs(size, [parts[0], [whole[size // 2]] * 2, parts[1]], [[0, 1, 2]]),
+        "a member twice": Twice("arcs", "none", on_arcs(size, [whole], [[0]])),
         "lines that tie": tying_lines(size),
+        "ties out of order": ties_out_of_order(size),
         "rings that tie": tying_rings(size),
         "arcs that don't meet last": on_arcs(size, [whole], [[0]], {"type": "LineString", "arcs": [0, 0]}),
     }
@@ -138,7 +163,7 @@ def shared_arcs(size):
 
 def write(path, value):
     with open(path, "w", encoding="ascii") as file:
-        json.dump(value, file, separators=(",", ":"))
+        file.write(value.text if isinstance(value, Twice) else json.dumps(value, separators=(",", ":")))
     return path
 
 

@@ -57,8 +57,9 @@ def parser_of(description, runs=5):
     return parser
 
 
-def run_once(words, out, most_seconds=None):
-    """Runs a program to its end, with its output in a file; one that takes more processor seconds is ended."""
+def run_once(words, out, most_seconds=None, statuses=(0,)):
+    """Runs a program to its end, with its output in a file; one that takes more processor seconds is ended. It has to end
+    with one of some statuses."""
     limit = most_seconds and (lambda: resource.setrlimit(resource.RLIMIT_CPU, (most_seconds, most_seconds)))
     with open(out, "wb") as file:
         child = subprocess.Popen(words, stdout=file, preexec_fn=limit)
@@ -68,7 +69,7 @@ def run_once(words, out, most_seconds=None):
             child.kill()
             raise
         child.returncode = os.waitstatus_to_exitcode(status)
-    if child.returncode != 0:
+    if child.returncode not in statuses:
         raise Failed(f"{' '.join(words[:3])} ended with {child.returncode}")
     return Measure(usage.ru_utime + usage.ru_stime, usage.ru_maxrss / 1024)
 
@@ -80,14 +81,14 @@ def least(measures):
     )
 
 
-def by_turns(programs, out, runs, look=None):
+def by_turns(programs, out, runs, look=None, statuses=(0,)):
     """The measures of programs, by their keys, that are run by turns, so that all meet the same hours of a shared
     machine. After each run `look` is called with the program's key, while what it printed stands in `out`.
     """
     measures = {}
     for _ in range(runs):
         for key, words in programs.items():
-            measures.setdefault(key, []).append(run_once(words, out))
+            measures.setdefault(key, []).append(run_once(words, out, statuses=statuses))
             if look:
                 look(key)
     return {key: least(each) for key, each in measures.items()}

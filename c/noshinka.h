@@ -106,6 +106,15 @@ noshinka_outcome noshinka_remove(const uint8_t *text, size_t length, const uint8
  * fault. */
 noshinka_outcome noshinka_check(const uint8_t *text, size_t length, uint8_t *room, size_t size);
 
+/* What a text is read as by noshinka_faults: a topology, where the grid is not looked at, or GeoJSON on the grid. */
+enum noshinka_format { NOSHINKA_TOPOLOGY = 0, NOSHINKA_GEOJSON = 1 };
+
+/* All faults of a text, in order, as a JSON array of objects. Each has the members `line` and `column`, both from 1,
+ * `name`, `number` and `path`; and where there is one the `id` of its feature, and for fault 13 the `member` of the
+ * properties. The status is 0 whether there are faults or not: the answer is [] if there are none. */
+noshinka_outcome noshinka_faults(const uint8_t *text, size_t length, uint32_t format, const noshinka_grid *grid,
+                                 uint8_t *room, size_t size);
+
 /* A layer as a GeoJSON FeatureCollection. Without such a layer the fault is 19. */
 noshinka_outcome noshinka_feature(const uint8_t *text, size_t length, const uint8_t *layer, size_t layer_length,
                                   uint8_t *room, size_t size);

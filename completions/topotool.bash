@@ -7,7 +7,7 @@ _topotool() {
     if [[ $cur == = ]]; then cur=; fi
     for word in "${COMP_WORDS[@]:1:COMP_CWORD-1}"; do
         case $word in
-            build|check|merge|remove|diff|feature|mesh|neighbors|info) command=$word; break ;;
+            build|check|faults|merge|remove|diff|feature|mesh|neighbors|info) command=$word; break ;;
         esac
     done
     case $before in
@@ -20,15 +20,16 @@ _topotool() {
         --by) return ;;
     esac
     case $command in
-        "") words="build check merge remove diff feature mesh neighbors info help -h --help -V --version" ;;
+        "") words="build check faults merge remove diff feature mesh neighbors info help -h --help -V --version" ;;
         build) words="--grid -o --output --progress -h --help" ;;
         check) words="--ids --near -o --output --progress -h --help" ;;
+        faults) words="--grid --json --explain -o --output --progress -h --help" ;;
         merge) words="--shape -o --output --progress -h --help" ;;
         remove) words="-o --output --progress -h --help" ;;
         diff) words="--layer --key --json -o --output --progress -h --help" ;;
         feature) words="--layer --seq -o --output --progress -h --help" ;;
         mesh) words="--layer --edges --by -o --output --progress -h --help" ;;
-        neighbors) words="--layer --ids --keyed -o --output --progress -h --help" ;;
+        neighbors) words="--layer --by --ids --keyed -o --output --progress -h --help" ;;
         info) words="--json -o --output --progress -h --help" ;;
     esac
     if [[ -z $command || $cur == -* ]]; then

@@ -14,7 +14,7 @@ import tempfile
 
 TOP = os.path.dirname(os.path.dirname(os.path.abspath(__file__)))
 FILES = ["east.json", "east.topo.json", "west.json"]
-COMMANDS = {"build", "check", "merge", "remove", "diff", "feature", "mesh", "neighbors", "info", "help"}
+COMMANDS = {"build", "check", "faults", "merge", "remove", "diff", "feature", "mesh", "neighbors", "info", "help"}
 
 # The words of a line as bash parts them, where a `=` is a word, and what may stand in place of the last one.
 ROWS = [
@@ -32,6 +32,7 @@ ROWS = [
     (["topotool", "mesh", "--by", "e"], set()),
     (["topotool", "check", "--n"], {"--near"}),
     (["topotool", "check", "--near", "1", "--i"], {"--ids"}),
+    (["topotool", "faults", "--e"], {"--explain"}),
     (["topotool", "merge", "--sh"], {"--shape"}),
     (["topotool", "merge", "--shape", "h"], {"halves"}),
     (["topotool", "merge", "e"], {"east.json", "east.topo.json"}),
@@ -43,6 +44,7 @@ ROWS = [
     (["topotool", "build", "--g"], {"--grid"}),
     (["topotool", "feature", "--s"], {"--seq"}),
     (["topotool", "neighbors", "--ids", "--k"], {"--keyed"}),
+    (["topotool", "neighbors", "--b"], {"--by"}),
     (["topotool", "info", "--p"], {"--progress"}),
 ]
 

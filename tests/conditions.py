@@ -1,7 +1,7 @@
 """Finds the public functions, for tests/growths.py, and those that have a condition, a `requires`, for tests/documents.py.
 
 A function is public here where it can be named from the root of its crate: through public modules, or passed on by a
-`pub use`; a method where its type can be. The crates are the program's, those that it stands on, and geojson_round_trip.
+`pub use`; a method where its type can be. The crates are the program's, and those that it uses.
 The files are read as `rt fmt` lays them out. A function is a tuple of the crate, the type of a method, and the name.
 """
 
@@ -9,7 +9,7 @@ import os
 import re
 
 TOP = os.path.dirname(os.path.dirname(os.path.abspath(__file__)))
-ROOTS = ["topotool", "geojson_round_trip"]
+ROOTS = ["topotool"]
 FUNCTION = re.compile(r"( *)(pub )?(?:const |final |unsafe )*fn (\w+)")
 ITEM = re.compile(r"pub (?:struct|enum|trait|type) (\w+)")
 TRAIT = re.compile(r"(?:pub )?trait (\w+)")

@@ -57,7 +57,7 @@ PAGE = 2600
 WORDS = 20000
 # Where else the version is, and what is before it.
 VERSIONS = {
-    "crates/togrid_command/src/words.rt": "VERSION: &str = ",
+    "crates/command_line/src/togrid.rt": "VERSION: &str = ",
     "python/noshinka/__init__.py": "^__version__ = ",
     "rust/Cargo.toml": "^version = ",
     "rust/Cargo.lock": 'name = "noshinka"\nversion = ',
@@ -325,7 +325,7 @@ def other_versions():
             found = re.search(rf'{before}"?(\d+\.\d+\.\d+)', file.read(), re.MULTILINE)
         return found[1] if found else "none"
 
-    version = version_in("crates/arguments/src/lib.rt", "VERSION: &str = ")
+    version = version_in("crates/command_line/src/arguments.rt", "VERSION: &str = ")
     for path, before in VERSIONS.items():
         if version_in(path, before) != version:
             yield f"{path}: its version is {version_in(path, before)}, and the program's is {version}"

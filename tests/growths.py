@@ -5,7 +5,7 @@
 A call is a public function that can be named from the root of its crate (tests/conditions.py), or a method of such a
 type or trait. The crates are those whose calls docs/LIBRARY.md lists, and those that these pass on calls of: CRATES. A
 row names its call `Type::call`, or `crate::call` where it is of no type, and may say more behind that. Each call has a
-row in one of the programs of REFUSED and WITHOUT: one that takes an allocator or answers want of memory in a program that makes it with
+row in one of the programs of REFUSED and WITHOUT: one that takes an allocator or may be out of memory in a program that makes it with
 each request refused, and any other in one of these or in one that makes it with all requests refused. EXCEPTIONS has
 the calls that have none, with a reason each, and MODULES those of whole modules; both name no others, and each row names
 a call.
@@ -28,16 +28,15 @@ import refusing
 from refusing import TOP
 
 CRATES = ["grid", "faults", "sinks", "lines", "shapes", "geojson_io", "chains", "topo", "topo_io", "query", "refine", "merging",
-          "recutting", "rejoining", "built_text", "tool"]
+          "split_arcs", "heal_arcs", "outputs", "tool"]
 REFUSED = ["refused_growth", "refused_edits", "refused_parts", "refused_arcs"]
 WITHOUT = ["without_memory", "maps_without_memory"]
 
 NO_REQUEST = "is passed an allocator and asks it for nothing"
 JUDGED = "has a condition, which its caller knows: "
-OUTPUT_CALLS = ["milliseconds", "find_output", "create_output", "open_stream", "write_output", "sync_output", "rename", "remove"]
 NO_GROWTH = {"Fault::here": NO_REQUEST, "FeatureMap::new": NO_REQUEST, "Kept::new": NO_REQUEST, "Script::new": NO_REQUEST}
 EXCEPTIONS = {
-    "ArcTable::with_extent": JUDGED + "recutting::recut",
+    "ArcTable::with_extent": JUDGED + "split_arcs::recut",
     "Topology::feature": JUDGED + "query::feature",
     "Topology::features": JUDGED + "query::feature",
     "topo::feature": JUDGED + "query::feature",
@@ -46,11 +45,17 @@ EXCEPTIONS = {
     "Topology::from_parts": JUDGED + "Topology::build",
     "Topology::from_unmeasured_parts": JUDGED + "refine::remove",
     "tool::run": "is the command: tests/refused_memory.py",
-    "Files::read_file": "is the caller's, of tool::run: tests/refused_memory.py",
-    "Files::read_input": "is the caller's, of tool::run: tests/refused_memory.py",
-    **{f"Files::{it}": "is the caller's, of tool::run: tests/refused_memory.py, tests/killed_output.py" for it in OUTPUT_CALLS},
 }
 MODULES = {
+    "sinks::path_text": "is of the command: tests/refused_memory.py",
+    "outputs::info_text": "is of the command: tests/refused_memory.py",
+    "outputs::difference_text": "is of the command: tests/refused_memory.py",
+    "outputs::difference_text::difference": "is of the command: tests/refused_memory.py",
+    "outputs::difference_text::object": "is of the command: tests/refused_memory.py",
+    "outputs::difference_text::text": "is of the command: tests/refused_memory.py",
+    "outputs::fault_reports::line_columns": "is of the command: tests/refused_memory.py",
+    "outputs::fault_reports::report": "is of the command: tests/refused_memory.py",
+    "outputs::fault_reports::written": "is of the command: tests/refused_memory.py",
     "topo_io::reader::geometry": "has parts of topo_io::read",
     "topo_io::reader::position": "has parts of topo_io::read",
     "topo_io::reader::transform": "has parts of topo_io::read",

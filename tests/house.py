@@ -34,9 +34,9 @@ import edits
 
 TOP = os.path.dirname(os.path.dirname(os.path.abspath(__file__)))
 OTHERS = ["*_tests", "refused_*", "*without_memory", "test_values", "worked_maps", "acceptance", "text_readers", "*_runs", "border_walk", "district_day"]
-LAWS = ["theory", "compact", "geojson_round_trip", "round_trip", "layer_laws"]
-VALIDATORS = ["validate", "standing"]
-TOKENS = ["json_tokens", "token_parts", "*/token_reader*"]
+LAWS = ["theory", "round_trip"]
+VALIDATORS = ["validate"]
+TOKENS = ["reading/src/token*", "reading/proofs/[tT]oken*", "reading/specs/[tT]oken*", "*/token_reader*"]
 IRREGULAR = ["begun", "built", "cut", "drawn", "found", "given", "gone", "held", "kept", "known", "laid", "lent", "made", "met", "said", "seen",
              "sent", "taken", "thrown", "told", "understood", "woven", "written"]
 # Words that end so and are none.
@@ -108,7 +108,7 @@ class Crate:
 
 def is_of_tokens(path):
     below = os.path.relpath(path, f"{TOP}/crates").split("/", 1)
-    return matches(below[0], TOKENS) or matches(f"{below[0]}/{os.path.basename(path)}", TOKENS) or "/token_reader" in path
+    return matches("/".join(below), TOKENS) or matches(f"{below[0]}/{os.path.basename(path)}", TOKENS) or "/token_reader" in path
 
 
 def longest_chain(below):

@@ -5,13 +5,14 @@
 Each run has to end with status 0, 1 (`check` alone) or 4; with 4 nothing is printed, and standard error has one
 line; all commands refuse the same texts, for the same fault; what `merge` prints is canonical by `check`, and is
 printed again by a second merge; and so is what `remove` leaves of a text without its own features, which are put
-back by a merge. `feature --seq` prints the same features. With a limit of time it stops there. Ends with a line of counts, and with status 1 where a run did
+back by a merge. `feature --seq` prints the same features. `faults` begins with the same fault. With a limit of time it stops there. Ends with a line of counts, and with status 1 where a run did
 anything else, almost no text was tried, or of many none was accepted.
 """
 
 import json
 import os
 import random
+import re
 import sys
 import tempfile
 
@@ -97,6 +98,13 @@ def is_refusal(ran):
     return ran.returncode == 4 and not ran.stdout and ran.stderr.count(b"\n") == 1
 
 
+def is_listed(file, merge, faults):
+    """Whether `faults` begins with what `merge` is refused for, or has nothing where it isn't."""
+    said = merge.stderr.removeprefix(f"topotool: {file}: ".encode())[:-1]
+    wanted = rb":\d+:\d+: " + re.escape(said) if merge.returncode else rb": no faults\n\Z"
+    return faults.returncode == merge.returncode and not faults.stderr and re.match(re.escape(file.encode()) + wanted, faults.stdout)
+
+
 def judge(file):
     """Runs the commands on one text; gives whether it is accepted, and what is wrong with the runs."""
     merge = topotool("merge", file)
@@ -115,6 +123,8 @@ def complaints(file, merge):
         yield f"statuses {[it.returncode for it in runs]}"
     if any(it.returncode == 4 and not is_refusal(it) for it in runs):
         yield "a refusal that prints"
+    if not is_listed(file, merge, topotool("faults", file)):
+        yield "another first fault"
     if merge.returncode == 4:
         if {it.stderr for it in runs} != {merge.stderr}:
             yield f"other faults {[it.stderr for it in runs]}"

@@ -1,4 +1,4 @@
-"""Ends topotool at each step by which it writes the file of `-o FILE`, and lets each of these steps fail.
+"""Ends topotool and togrid at each step by which they write the file of `-o FILE`, and lets each of these steps fail.
 
     python3 tests/killed_output.py [--seconds N]
 
@@ -18,7 +18,6 @@ sys.dont_write_bytecode = True
 
 import refusing
 
-FAILED = (6, b"", b"topotool: 21 Write\n")
 KILLED = -signal.SIGKILL
 POINTS = 9000  # some hundred kilobytes, which are written in several pieces
 LEAST_STEPS = 4  # made, written, synced, renamed
@@ -36,6 +35,22 @@ def inputs(program):
     lay(program, "old.json", b"what was there")
     merge, feature, info = ["merge", "points.topo.json"], ["feature", "--layer", "a", "points.topo.json"], ["info", "points.topo.json"]
     return [(build, "old.json"), (build, "points.json"), (feature, "old.json"), (feature, "points.topo.json"), (info, "old.json"), (merge, "new.json")]
+
+
+def rounded(program):
+    """The same for togrid, of points in degrees."""
+    points = [{"type": "Feature", "geometry": {"type": "Point", "coordinates": [it / 1000, -it / 1000]}} for it in range(POINTS)]
+    lay(program, "degrees.json", json.dumps({"type": "FeatureCollection", "features": points}).encode())
+    lay(program, "old.json", b"what was there")
+    build = ["-q", "--build", "a=degrees.json"]
+    (status, text, _), _ = program.run(build, {})
+    if status or len(text) < 200000:
+        sys.exit(f"no topology was built: status {status}")
+    lay(program, "degrees.topo.json", text)
+    return [(build, "old.json"), (build, "degrees.json"), (["-q", "--back", "degrees.topo.json"], "degrees.topo.json")]
+
+
+PROGRAMS = {"topotool": inputs, "togrid": rounded}
 
 
 def lay(program, name, text):
@@ -62,8 +77,9 @@ def put_back(program, before):
 class Runs:
     """Runs of a command that replaces a file, each begun with the same files."""
 
-    def __init__(self, program, words, name):
+    def __init__(self, program, crate, words, name):
         self.program, self.words, self.name, self.before = program, [*words, "-o", name], name, held(program)
+        self.failure = (6, b"", f"{crate}: 21 Write\n".encode())
         (_, printed, _), _ = program.run(words, {})
         end, self.steps = program.run(self.words, {"STEPS_TOLD": None})
         self.whole = {**self.before, name: printed}
@@ -85,11 +101,11 @@ class Runs:
 
     def failed(self, step):
         end, found, _ = self.after({"FAIL_AT": step})
-        return end == FAILED and found == self.before
+        return end == self.failure and found == self.before
 
     def failed_on(self, step):
         end, _, stands = self.after({"FAIL_AT": step, "FAIL_ON": 1})
-        return end == FAILED and stands
+        return end == self.failure and stands
 
     def judge(self):
         """What was tried, and whether it went well."""
@@ -103,14 +119,15 @@ class Runs:
 
 def main():
     done = wrong = 0
-    with refusing.program("TOPOTOOL", "topotool") as program:
-        for words, name in inputs(program):
-            runs = Runs(program, words, name)
-            for what, is_right in runs.judge():
-                done += 1
-                wrong += not is_right
-                if not is_right:
-                    print(f"{' '.join(runs.words)}: {what} of {runs.steps}: wrong")
+    for crate, inputs_of in PROGRAMS.items():
+        with refusing.program(crate.upper(), crate) as program:
+            for words, name in inputs_of(program):
+                runs = Runs(program, crate, words, name)
+                for what, is_right in runs.judge():
+                    done += 1
+                    wrong += not is_right
+                    if not is_right:
+                        print(f"{crate} {' '.join(runs.words)}: {what} of {runs.steps}: wrong")
     print(f"{done:,} runs ended or failed at a step of writing a file, {wrong} wrong")
     return 1 if wrong or done < refusing.LEAST_RUNS else 0
 

@@ -1,12 +1,12 @@
 #!/usr/bin/env python3
-"""Compares `check --ids`, `check --near` and `mesh --by` with a program written from their help, on random maps.
+"""Compares `check --ids`, `check --near`, `mesh --by` and `neighbors --by` with a program written from their help, on random maps.
 
     python3 tests/quality.py [--seed N] [--texts N] [--seconds N]
 
 A map has one or two layers of rectangles, walks and points on a small field, so that borders are shared, and some are drawn
 twice, a step apart. Ids are missing or stand more than once; values of the property `p` are numbers, texts, null, lists and
 objects, or there is none; some features stand in both layers. Near vertices are sought by comparing each pair, and borders
-by comparing each pair of features. With a limit of time it stops there. Ends with a line of counts, and with status 1 where
+and neighbours by comparing each pair of features. With a limit of time it stops there. Ends with a line of counts, and with status 1 where
 something differed, or almost no map was tried.
 """
 
@@ -179,6 +179,12 @@ def dividing(features):
     return {segment for one, other in itertools.combinations(each, 2) if differ(one, other) for segment in segments(one) & segments(other)}
 
 
+def neighbors(features):
+    """For each feature the places of those that have a segment with it and differ."""
+    return [[place for place, other in enumerate(features) if other is not one and segments(one) & segments(other) and differ(one, other)]
+            for one in features]
+
+
 def is_mesh(lines, wanted, grid):
     """Whether the lines have just these segments, each once, and end only where not two of them meet, or where they began."""
     had, ends = [], []
@@ -214,6 +220,9 @@ def wrong(seed):
             ran = topotool("mesh", "--by", "p", *words, file)
             if ran.returncode or not is_mesh(json.loads(ran.stdout)["coordinates"], dividing(features), grid):
                 return f"seed {seed}: mesh {words}: {ran.stdout!r} {ran.stderr!r}"
+        ran = topotool("neighbors", "--by", "p", "--layer", "b", file)
+        if ran.returncode or json.loads(ran.stdout) != neighbors(layers["b"]):
+            return f"seed {seed}: neighbors: {ran.stdout!r} {ran.stderr!r}"
     return None
 
 

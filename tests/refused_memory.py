@@ -30,12 +30,15 @@ LOOP = """{"type":"FeatureCollection","features":[
 OTHER = """{"type":"FeatureCollection","features":[
 {"type":"Feature","id":2,"geometry":{"type":"LineString","coordinates":[[1,2],[3,3]]},"properties":{"name":"a"}},
 {"type":"Feature","id":1,"geometry":{"type":"Point","coordinates":[1,2]},"properties":{"name":"c","size":[1]}}]}"""
+MANY = """{"type":"FeatureCollection","features":[{"type":"Feature","id":7,"geometry":{"type":"Point","coordinates":[1.5]},"properties":{"a":1.5}},
+{"type":"Feature","id":"b","geometry":{"type":"Polygon","coordinates":[[[0,0],[1,0]],5]}}]}"""
+FAULTY = """{"type":"Topology","transform":{"scale":[0,1],"translate":[0]},"arcs":[[[0,0],[1,1]]],"objects":{"a":{"type":"LineString","id":1,"arcs":[0,0,5]}}}"""
 LINE = '{"type":"LineString","coordinates":[[2,0],[3,0]]}'
 
 
 def inputs(program):
     """Puts the texts of the runs into the folder, and gives the command lines."""
-    for name, text in [("deep.json", DEEP), ("twins.json", TWINS), ("loop.json", LOOP), ("line.json", LINE), ("other.json", OTHER), ("broken.json", "{")]:
+    for name, text in [("deep.json", DEEP), ("twins.json", TWINS), ("loop.json", LOOP), ("line.json", LINE), ("other.json", OTHER), ("broken.json", "{"), ("many.json", MANY), ("faulty.json", FAULTY)]:
         with open(f"{program.folder}/{name}", "w", encoding="utf-8") as file:
             file.write(text)
     for name in ("squares", "west", "east"):
@@ -56,14 +59,17 @@ def inputs(program):
                ["neighbors", "--ids", "--keyed", "--layer", "d", west], ["neighbors", "--ids", "--keyed", "--layer", "a", one],
                ["check", "--ids", "--near", "100", one], ["check", "--ids", west], ["check", "--near", "0", one], ["mesh", "--by", "name", west],
                ["mesh", "--by", "name", "--layer", "a", one], ["mesh", "--by", "name", "--layer", "no", one],
+               ["neighbors", "--by", "name", "--layer", "d", west], ["neighbors", "--by", "name", "--layer", "no", one],
                ["check", one, "-o", "/dev/null"], ["feature", "--layer", "no", one, "-o", "out.json"], ["mesh", one, "-o", "nowhere/out.json"]]
     merges = [["merge", west, east], ["merge", "--shape", "halves", west, east, west], ["merge", "--shape", "right", west, east, west],
               ["merge", west, one], ["merge", "broken.json"]]
     removals = [["remove", seam, line], ["remove", one, one], ["remove", west, east], ["remove", west, one], ["remove", one, "broken.json"], ["remove", one, "-"]]
     diffs = [["diff", seam, line], ["diff", one, one], ["diff", west, east], ["diff", "--json", "--key", "name", west, east], ["diff", "--layer", "no", west, east],
              ["diff", "--layer", "d", east, west], ["diff", west, one], ["diff", one, "broken.json"], ["diff", twins, changed], ["diff", "--key", "name", "--json", twins, changed]]
+    errors = [["faults", one, "faulty.json"], ["faults", "--explain", "--grid", "1,1,0,0", "many.json", "squares.json"],
+              ["faults", "--json", "--grid", "1,1,0,0", "squares.json", "many.json"], ["faults", "broken.json", "nowhere.json"], ["faults", "broken.json"]]
     usages = [["--help"], ["mesh", "--help"], ["--version"], ["merge"], ["merge", "-", "-"], ["remove", "-", "-"], ["build", "--grid", "x", "a=b"], ["check", "nowhere.json"]]
-    return [*builds, *queries, *merges, *removals, *diffs, *usages]
+    return [*builds, *queries, *merges, *removals, *diffs, *errors, *usages]
 
 
 class Kinds:

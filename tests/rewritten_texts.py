@@ -4,8 +4,9 @@
     python3 tests/rewritten_texts.py [--seed N] [--texts N] [--seconds N]
 
 Each text is the topology of a random map, rewritten so that its features stay the same: arcs in another order, turned
-around, cut at a vertex inside, doubled for one user, or used by nobody; closed arcs and lists of rings begun elsewhere;
-features in another order or twice; members in another order, a bbox that is wrong or missing. From each, `merge` has to
+around, cut at a vertex inside, doubled for one user, or used by nobody, with positions twice or of one position alone; closed
+arcs and lists of rings begun elsewhere; features in another order or twice; members in another order or twice, a bbox that
+is wrong or missing. From each, `merge` has to
 print the canonical text of the map, which was built of its GeoJSON; `check` has to say whether it is that text; `mesh`,
 `info`, `feature` and `neighbors` have to answer what they answer of the canonical text; and `remove` has to leave no
 feature of it. With a limit of time it stops there. Ends with a line of counts, and with status 1 where a run did anything
@@ -55,11 +56,12 @@ def lists_of(geometry):
 
 
 class Rewriter:
-    """A topology whose text is rewritten: its arcs as positions, and its layers."""
+    """A topology whose text is rewritten: its arcs as positions, its layers, and a member that is there twice."""
 
     def __init__(self, chance, topology):
         self.chance = chance
         self.topology = topology
+        self.twice = None
         self.arcs = [decoded(arc) for arc in topology["arcs"]]
 
     def geometries(self):
@@ -139,6 +141,27 @@ class Rewriter:
         begin = [self.chance.randint(0, 9), self.chance.randint(0, 9)]
         self.arcs.append(list(self.chance.choice([*self.arcs, [begin, [begin[0] + 1, begin[1]]]])))
 
+    def repeat_positions(self):
+        """A position of an arc twice or three times, at an end or inside."""
+        if self.arcs:
+            arc = self.chance.choice(self.arcs)
+            for _ in range(self.chance.choice([1, 1, 2])):
+                at = self.chance.randrange(len(arc))
+                arc.insert(at, arc[at])
+
+    def add_an_arc_of_one_position(self):
+        """A list uses an arc of equal positions alone besides, where two of its arcs meet or at an end."""
+        lists = [(holder, place) for holder, place, _ in self.lists() if holder[place]]
+        if lists:
+            holder, place = self.chance.choice(lists)
+            at = self.chance.randrange(len(holder[place]) + 1)
+            before = holder[place][at - 1 if at else 0]
+            arc = self.arcs[before if before >= 0 else ~before]
+            is_begin = (before >= 0) == (at == 0)
+            self.arcs.append([arc[0] if is_begin else arc[-1]] * self.chance.choice([2, 2, 3]))
+            added = len(self.arcs) - 1
+            holder[place].insert(at, self.chance.choice([added, ~added]))
+
     def order_features(self):
         for layer in self.topology["objects"].values():
             self.chance.shuffle(layer["geometries"])
@@ -147,6 +170,12 @@ class Rewriter:
         for layer in self.topology["objects"].values():
             if layer["geometries"]:
                 layer["geometries"].append(json.loads(json.dumps(self.chance.choice(layer["geometries"]))))
+
+    def double_a_member(self):
+        """A member that is there twice, of which the last one counts."""
+        name = self.chance.choice(["arcs", "objects", "transform", "type"])
+        first = self.chance.choice([None, "none", [], {}, [[[0, 0]]], {"a": {"type": "LineString", "arcs": [-1, 7]}}])
+        self.twice = f"{json.dumps(name)}:{json.dumps(first)}"
 
     def change_bbox(self):
         self.topology["bbox"] = self.chance.choice([[1, 2, 3, 4], None, "none"])
@@ -162,12 +191,14 @@ class Rewriter:
         members = self.chance.sample(list(self.topology.items()), len(self.topology))
         layers = self.topology["objects"]
         shuffled = {**dict(members), "objects": dict(self.chance.sample(list(layers.items()), len(layers)))}
-        return json.dumps(shuffled, indent=self.chance.choice([None, None, 1]))
+        text = json.dumps(shuffled, indent=self.chance.choice([None, None, 1]))
+        return text if self.twice is None else f"{{{self.twice},{text.lstrip()[1:]}"
 
 
 REWRITINGS = [
     Rewriter.order_arcs, Rewriter.number_by_sight, Rewriter.turn_loops, Rewriter.turn_rings, Rewriter.cut_an_arc,
     Rewriter.double_an_arc, Rewriter.add_unused_arc, Rewriter.order_features, Rewriter.double_a_feature, Rewriter.change_bbox,
+    Rewriter.repeat_positions, Rewriter.add_an_arc_of_one_position, Rewriter.double_a_member,
 ]
 
 

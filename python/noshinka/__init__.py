@@ -30,7 +30,7 @@ from ._calls import CALLS, DONE, bytes_lent, ended, lent, names_lent
 from ._errors import Fault, Usage
 from ._texts import Answer, Text, sources_of, text_of
 
-__all__ = ["Answer", "Fault", "Text", "Usage", "build", "check", "diff", "feature", "info", "merge", "mesh", "neighbors", "remove", "snap"]
+__all__ = ["Answer", "Fault", "Text", "Usage", "build", "check", "diff", "faults", "feature", "info", "merge", "mesh", "neighbors", "remove", "snap"]
 __version__ = "0.1.0"
 
 _EDGES = {"all": 0, "interior": 1, "exterior": 2}
@@ -39,6 +39,14 @@ _LEAST_GRID, _GREATEST_GRID = -(2**63), 2**63 - 1
 
 def _answer(*words: Any, layer: Optional[str] = None) -> Answer:
     return Answer(ended(*words, layer=layer)[1])
+
+
+def _grid_of(grid: Sequence[int]) -> Any:
+    """The numbers of a grid, as a call takes them."""
+    numbers = [operator.index(it) for it in grid]
+    if len(numbers) != 4 or not all(_LEAST_GRID <= it <= _GREATEST_GRID for it in numbers):
+        raise Usage("a grid is four numbers of 64 bits: scale of x and y, translation of x and y")
+    return CALLS.grid(*numbers)
 
 
 Step = Union[str, int, float, Decimal]
@@ -88,13 +96,11 @@ def build(
     Raises `Fault` for the first text that is refused, whose `place` is its place among all texts, and `Usage` if the grid
     or the step is outside its limits.
     """
-    numbers = [operator.index(it) for it in grid]
-    if len(numbers) != 4 or not all(_LEAST_GRID <= it <= _GREATEST_GRID for it in numbers):
-        raise Usage("a grid is four numbers of 64 bits: scale of x and y, translation of x and y")
+    numbers = _grid_of(grid)
     texts = sources_of(layers)
     sources, kept = names_lent(texts if step is None else _snapped(texts, step))
     size = sum(map(len, kept)) + 1024
-    return _answer(CALLS.build, size, CALLS.grid(*numbers), sources, len(kept) // 2)
+    return _answer(CALLS.build, size, numbers, sources, len(kept) // 2)
 
 
 def merge(texts: Iterable[Text]) -> Answer:
@@ -117,6 +123,23 @@ def check(text: Text) -> bool:
     """Whether a topology's text is canonical: byte for byte what `merge` of it alone returns."""
     status, _ = ended(CALLS.check, 1024, *bytes_lent(text_of(text)))
     return status == DONE
+
+
+def faults(text: Text, grid: Optional[Sequence[int]] = None) -> Answer:
+    """Returns all faults of a text, as the text of a list of objects: `[]` if there are none.
+
+    Of a topology's text; or, if `grid` is given, of a GeoJSON text on that grid. The members of a fault are `line` and
+    `column`, both from 1, `number`, `name` and `path`; where the fault is in a feature with an id, `id`; and for a number in
+    properties that is no integer (13), the `member`. The faults are in order: the first is the one that `build` or `merge`
+    raises.
+
+        >>> import noshinka
+        >>> noshinka.faults('{"type":"Point","coordinates":[0.5,1.5]}', grid=(1, 1, 0, 0)).json()[1]["path"]
+        '$/coordinates/1'
+    """
+    text = text_of(text)
+    words = int(grid is not None), _grid_of((1, 1, 0, 0) if grid is None else grid)
+    return _answer(CALLS.faults, 4096, *bytes_lent(text), *words)
 
 
 def feature(text: Text, layer: str) -> Answer:

@@ -69,6 +69,7 @@ class _Calls:
         self.merge = call("merge", ctypes.POINTER(_Bytes), ctypes.c_size_t)
         self.remove = call("remove", *_TEXT, *_TEXT)
         self.check = call("check", *_TEXT)
+        self.faults = call("faults", *_TEXT, *_NUMBER, ctypes.POINTER(_Grid))
         self.feature = call("feature", *_TEXT, *_TEXT)
         self.mesh = call("mesh", *_TEXT, *_NUMBER, *_TEXT, *_NUMBER)
         self.neighbors = call("neighbors", *_TEXT, *_TEXT, *_NUMBER)

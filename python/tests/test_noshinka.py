@@ -138,6 +138,37 @@ class Steps(unittest.TestCase):
                 noshinka.snap(LEFT, step)
 
 
+class Faults(unittest.TestCase):
+    TEXT = '{"type":"Feature","id":7,"properties":{"a":1.5},\n"geometry":{"type":"LineString","coordinates":[[0],[1,2.5]]}}'
+
+    def test_all_faults_of_geojson(self):
+        found = noshinka.faults(self.TEXT, grid=(1, 1, 0, 0)).json()
+        told = [(it["line"], it["column"], it["number"], it["path"], it["id"]) for it in found]
+        self.assertEqual(told, [(2, 48, 16, "$/geometry/coordinates/0", 7), (2, 55, 5, "$/geometry/coordinates/1/1", 7), (1, 39, 13, "$/properties", 7)])
+        self.assertEqual(found[2]["member"], "a")
+
+    def test_the_first_is_the_one_that_is_raised(self):
+        with self.assertRaises(noshinka.Fault) as told:
+            noshinka.build({"a": self.TEXT})
+        first = noshinka.faults(self.TEXT, grid=(1, 1, 0, 0)).json()[0]
+        self.assertEqual((first["number"], first["name"], first["path"]), (told.exception.number, told.exception.name, told.exception.path))
+
+    def test_a_topology(self):
+        self.assertEqual(noshinka.faults(SHARED_EDGE), b"[]")
+        text = '{"type":"Topology","objects":{},"arcs":[],\n"transform":{"scale":[0,1],"translate":[0]}}'
+        told = [(it["line"], it["name"], it["path"]) for it in noshinka.faults(text).json()]
+        self.assertEqual(told, [(2, "OutOfRange", "$/transform/scale/0"), (2, "NotTwo", "$/transform/translate")])
+
+    def test_a_long_list(self):
+        line = {"type": "LineString", "coordinates": [[n + 0.5, 0] for n in range(500)]}
+        self.assertEqual(len(noshinka.faults(line, grid=(1, 1, 0, 0)).json()), 500)
+
+    def test_a_bad_grid(self):
+        for grid in ((0, 1, 0, 0), (1, 1, 0), (1, 1, 0, 2**63)):
+            with self.assertRaises(noshinka.Usage):
+                noshinka.faults("{}", grid=grid)
+
+
 class Calls(unittest.TestCase):
     def test_merge_in_any_order(self):
         one, two = (noshinka.build({"a": it}) for it in (LEFT, RIGHT))

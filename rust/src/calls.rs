@@ -34,6 +34,7 @@ extern "C" {
     pub(crate) fn noshinka_merge(texts: *const Bytes, count: usize, room: *mut u8, size: usize) -> Outcome;
     pub(crate) fn noshinka_remove(text: *const u8, length: usize, removed: *const u8, removed_length: usize, room: *mut u8, size: usize) -> Outcome;
     pub(crate) fn noshinka_check(text: *const u8, length: usize, room: *mut u8, size: usize) -> Outcome;
+    pub(crate) fn noshinka_faults(text: *const u8, length: usize, format: u32, grid: *const Grid, room: *mut u8, size: usize) -> Outcome;
     pub(crate) fn noshinka_feature(text: *const u8, length: usize, layer: *const u8, layer_length: usize, room: *mut u8, size: usize) -> Outcome;
     pub(crate) fn noshinka_mesh(text: *const u8, length: usize, scope: u32, layer: *const u8, layer_length: usize, edges: u32, room: *mut u8, size: usize) -> Outcome;
     pub(crate) fn noshinka_neighbors(text: *const u8, length: usize, layer: *const u8, layer_length: usize, ids: u32, room: *mut u8, size: usize) -> Outcome;

@@ -190,6 +190,36 @@ pub fn check(text: &[u8]) -> Result<bool, Error> {
     Ok(ended(1024, call)?.is_done)
 }
 
+/// All faults of a text, as a JSON list of objects, `[]` if there are none: of a topology's text, or with a grid of a GeoJSON
+/// text on it. The members of a fault are `line` and `column`, both from 1, `number`, `name` and `path`; where the fault is
+/// in a feature with an id, `id`; and for a number in properties that is no integer (13), the `member`.
+///
+/// ```
+/// use noshinka::{faults, Grid};
+///
+/// let list = faults(br#"{"type":"Point","coordinates":[1,0.5]}"#, Some(Grid::WHOLE))?;
+/// assert_eq!(list, br#"[{"column":34,"line":1,"name":"NotWhole","number":5,"path":"$/coordinates/1"}]"#);
+/// # Ok::<(), noshinka::Error>(())
+/// ```
+///
+/// # Errors
+/// [`Error::Usage`] if the grid is outside its limits; [`Error::OutOfMemory`].
+pub fn faults(text: &[u8], grid: Option<Grid>) -> Result<Vec<u8>, Error> {
+    let format = u32::from(grid.is_some());
+    let grid = grid.unwrap_or(Grid::WHOLE);
+    // SAFETY: as in `remove`; the grid stays borrowed for the call too.
+    answer(4096, |room| unsafe {
+        calls::noshinka_faults(
+            text.as_ptr(),
+            text.len(),
+            format,
+            &grid,
+            room.as_mut_ptr(),
+            room.len(),
+        )
+    })
+}
+
 /// The features of a layer, as a GeoJSON FeatureCollection.
 ///
 /// # Errors

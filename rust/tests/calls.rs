@@ -1,6 +1,6 @@
 //! Each call once, its errors, rooms that are too small, and threads.
 use noshinka::{
-    build, check, diff, feature, info, merge, mesh, neighbors, remove, snap, By, Edges, Error,
+    build, check, diff, faults, feature, info, merge, mesh, neighbors, remove, snap, By, Edges, Error,
     Fault, Form, Grid,
 };
 
@@ -104,6 +104,25 @@ fn decimal_numbers_are_rounded() {
     for step in ["", "0", "-1", "1m"] {
         assert_eq!(snap(line, Some(step)), Err(Error::Usage));
     }
+}
+
+#[test]
+fn all_faults_are_listed() {
+    let list = faults(br#"{"type":"Point","coordinates":[0.5,1.5]}"#, Some(Grid::WHOLE)).unwrap();
+    assert_eq!(
+        String::from_utf8(list).unwrap(),
+        concat!(
+            r#"[{"column":32,"line":1,"name":"NotWhole","number":5,"path":"$/coordinates/0"},"#,
+            "\n",
+            r#"{"column":36,"line":1,"name":"NotWhole","number":5,"path":"$/coordinates/1"}]"#
+        )
+    );
+    assert_eq!(faults(SHARED_EDGE.as_bytes(), None).unwrap(), b"[]");
+    let grid = Grid {
+        scale_y: 0,
+        ..Grid::WHOLE
+    };
+    assert_eq!(faults(b"{}", Some(grid)), Err(Error::Usage));
 }
 
 #[test]

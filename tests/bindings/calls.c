@@ -19,6 +19,9 @@
 #define HALF "{\"type\":\"Feature\",\"geometry\":{\"type\":\"LineString\",\"coordinates\":[[0,0],[0.5,1]]}}"
 #define HALF_AT "$/geometry/coordinates/1/0"
 #define DEGREES "{\"type\":\"Point\",\"coordinates\":[7.4386325,46.9510827,540.0]}"
+#define FAULTY \
+    "{\"type\":\"Feature\",\"id\":7,\"properties\":{\"a\":1.5},\n" \
+    "\"geometry\":{\"type\":\"LineString\",\"coordinates\":[[0],[1,2.5]]}}"
 #define METRES "{\"type\":\"Point\",\"coordinates\":[604550,199784]}"
 
 static long looked, wrong;
@@ -76,7 +79,7 @@ static int is(noshinka_outcome outcome, uint32_t status, uint32_t fault, size_t 
 }
 
 /* The calls that answer with a text, so that each is tried in the same rooms. */
-enum { BUILD, MERGE, REMOVE, FEATURE, MESH, MESH_OF_LAYER, NEIGHBORS, SNAP, DIFF, INFO, CALLS };
+enum { BUILD, MERGE, REMOVE, FEATURE, MESH, MESH_OF_LAYER, NEIGHBORS, SNAP, DIFF, FAULTS, INFO, CALLS };
 
 static const char *answers[CALLS] = {
     BOTH,
@@ -89,6 +92,9 @@ static const char *answers[CALLS] = {
     "[[1],[0]]",
     "{\"type\":\"Point\",\"coordinates\":[7438633,46951083]}",
     "+ \"a\" null {}\n1 added, 0 removed, 0 changed\n",
+    "[{\"column\":48,\"id\":7,\"line\":2,\"name\":\"NotTwo\",\"number\":16,\"path\":\"$/geometry/coordinates/0\"},\n"
+    "{\"column\":55,\"id\":7,\"line\":2,\"name\":\"NotWhole\",\"number\":5,\"path\":\"$/geometry/coordinates/1/1\"},\n"
+    "{\"column\":39,\"id\":7,\"line\":1,\"member\":\"a\",\"name\":\"PropertyNumber\",\"number\":13,\"path\":\"$/properties\"}]",
     "grid: 1,1,0,0\nbbox: 0,0,1,1\narcs: 1\npositions of arcs: 5\nfree loops: 1\nlayer \"a\": 1 feature, 1 Polygon\n",
 };
 
@@ -126,6 +132,9 @@ static noshinka_outcome call(int which, uint8_t *room, size_t size) {
     case SNAP:
         degrees = bytes(DEGREES);
         return noshinka_snap(degrees.at, degrees.length, name.at, 0, room, size);
+    case FAULTS:
+        degrees = bytes(FAULTY);
+        return noshinka_faults(degrees.at, degrees.length, NOSHINKA_GEOJSON, &grid, room, size);
     case DIFF:
         return noshinka_diff(of_left.at, of_left.length, both.at, both.length, NOSHINKA_ALL_LAYERS, name.at, 0, NOSHINKA_BY_ID, name.at, 0, 0, room, size);
     default:
@@ -190,6 +199,10 @@ static void look_at_faults(void) {
     LOOK(is(noshinka_neighbors(both.at, both.length, name.at, name.length, 1, room, 4096), NOSHINKA_USAGE, 0, 0, 0));
     LOOK(is(noshinka_neighbors(both.at, both.length, name.at, name.length, 2, room, 4096), NOSHINKA_USAGE, 0, 0, 0));
     LOOK(is(noshinka_info(both.at, both.length, 2, room, 4096), NOSHINKA_USAGE, 0, 0, 0));
+    LOOK(is(noshinka_faults(both.at, both.length, NOSHINKA_TOPOLOGY, &none, room, 4096), NOSHINKA_DONE, 0, 0, 2));
+    LOOK(memcmp(room, "[]", 2) == 0);
+    LOOK(is(noshinka_faults(both.at, both.length, NOSHINKA_GEOJSON, &none, room, 4096), NOSHINKA_USAGE, 0, 0, 0));
+    LOOK(is(noshinka_faults(both.at, both.length, 2, &none, room, 4096), NOSHINKA_USAGE, 0, 0, 0));
     LOOK(is(noshinka_diff(both.at, both.length, texts[1].at, texts[1].length, 0, name.at, 0, 0, name.at, 0, 0, room, 4096), NOSHINKA_REFUSED, 17, 1, 0));
     LOOK(is(noshinka_diff(both.at, both.length, half.at, half.length, 0, name.at, 0, 0, name.at, 0, 0, room, 4096), NOSHINKA_REFUSED, 2, 1, 6));
     LOOK(is(noshinka_diff(both.at, both.length, both.at, both.length, 1, other.at, 1, 0, name.at, 0, 0, room, 4096), NOSHINKA_REFUSED, 19, 0, 0));

@@ -35,7 +35,7 @@ void __wrap_free(void *old) {
     __real_free(old);
 }
 
-enum { SIZE = 1 << 16, CALLS = 14 };
+enum { SIZE = 1 << 16, CALLS = 16 };
 static uint8_t room[SIZE], kept[SIZE], map[SIZE];
 static size_t length;
 
@@ -63,6 +63,11 @@ static noshinka_outcome snap(const char *step) {
     return noshinka_snap(text.at, text.length, (const uint8_t *)step, strlen(step), room, SIZE);
 }
 
+static noshinka_outcome list_faults(const char *text, uint32_t format) {
+    noshinka_grid grid = {1, 1, 0, 0};
+    return noshinka_faults((const uint8_t *)text, strlen(text), format, &grid, room, SIZE);
+}
+
 static noshinka_outcome call(int which) {
     noshinka_bytes texts[2] = {{map, length}, {map, length}};
     const uint8_t *name = (const uint8_t *)"a";
@@ -80,6 +85,8 @@ static noshinka_outcome call(int which) {
     case 10: return snap("1e12");
     case 11: return noshinka_diff(map, length, map, length, 0, name, 0, 1, (const uint8_t *)"x", 1, 1, room, SIZE);
     case 12: return noshinka_check(map, length - 1, room, SIZE);
+    case 13: return list_faults("{\"type\":\"Feature\",\"id\":\"a\",\"properties\":{\"x\":[0.5]},\"geometry\":{\"type\":\"Point\",\"coordinates\":[1.5]}}", 1);
+    case 14: return list_faults("{\"type\":\"Topology\",\"arcs\":[[[0,0],[1,1]]],\"objects\":{\"a\":{\"type\":\"LineString\",\"arcs\":[0,7]}}}", 0);
     default: return noshinka_merge(texts, 1, room, 3);
     }
 }

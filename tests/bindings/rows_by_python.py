@@ -9,6 +9,7 @@ togrid, which TOGRID names, are put through `snap` and `build` with a step, but 
 with a line of counts, and with status 1 where anything differs, or less than most rows were compared.
 """
 
+import json
 import os
 import re
 import sys
@@ -34,6 +35,7 @@ OPTIONS = {
     "neighbors": {"--layer": True, "--ids": False},
     "info": {"--json": False},
     "diff": {"--layer": True, "--key": True, "--json": False},
+    "faults": {"--grid": True, "--json": False},
 }
 WANTED = {"build": "--grid", "feature": "--layer", "neighbors": "--layer"}
 CHOICES = {"--shape": rows.SHAPES, "--edges": ["all", "interior", "exterior"]}
@@ -89,7 +91,32 @@ def call(command, options, names, texts):
         return noshinka.neighbors(texts[0], options["--layer"], ids="--ids" in options), 0
     if command == "diff":
         return differences(texts, options)
+    if command == "faults":
+        return listed(names, texts, options)
     return noshinka.info(texts[0], lines="--json" not in options), 0
+
+
+def spelled(value):
+    """A value as the program spells it."""
+    return json.dumps(value, ensure_ascii=False, separators=(",", ":"), sort_keys=True)
+
+
+def listed(names, texts, options):
+    """What faults prints of texts, and its status, which says whether there is any fault."""
+    grid = [int(it) for it in options["--grid"].split(",")] if "--grid" in options else None
+    lists = [(name, noshinka.faults(text, grid).json()) for name, text in zip(names, texts, strict=True)]
+    status = 4 if any(found for _, found in lists) else 0
+    if "--json" in options:
+        objects = [spelled({**it, "file": name}) for name, found in lists for it in found]
+        return ("[" + ",\n".join(objects) + "]\n").encode(), status
+    lines = []
+    for name, found in lists:
+        for it in found:
+            line = f"{name}:{it['line']}:{it['column']}: {it['number']} {it['name']} {it['path']}"
+            lines.append(line + "".join(f" {key} {spelled(it[key])}" for key in ("id", "member") if key in it))
+        if not found:
+            lines.append(f"{name}: no faults")
+    return "".join(f"{line}\n" for line in lines).encode(), status
 
 
 def differences(texts, options):
@@ -115,7 +142,7 @@ def answered(words, lent, given):
     files = [it.partition("=")[2] if command == "build" else it for it in names]
     if any("=" not in it for it in names if command == "build") or files.count("-") > 1 or (given is False and "-" in files):
         raise NoCall
-    if command == "build" and not GRID.fullmatch(options["--grid"]):
+    if "--grid" in options and not GRID.fullmatch(options["--grid"]):
         raise NoCall
     if any(it != "-" and it not in lent for it in files):
         raise NoCall
@@ -126,7 +153,7 @@ def answered(words, lent, given):
     except noshinka.Fault as fault:
         return b"", f"topotool: {line_of(fault, files, options)}\n".encode(), 4
     except noshinka.Usage:
-        said = f"bad grid {options['--grid']}" if command == "build" else f"--ids: a feature without an id in layer {options['--layer']}"
+        said = f"bad grid {options['--grid']}" if "--grid" in options else f"--ids: a feature without an id in layer {options['--layer']}"
         return b"", f"topotool: {said}\n".encode(), 2
 
 

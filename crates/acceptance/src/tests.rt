@@ -3,7 +3,7 @@
 mod files;
 mod layer_calls;
 mod merge_calls;
-mod outputs;
+mod output_files;
 mod progress;
 mod shard_rows;
 mod writers;

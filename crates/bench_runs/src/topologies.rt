@@ -3,9 +3,9 @@
 
 use crate::inputs::{read_map, unit_grid};
 use grid::Grid;
-use recutting::recut;
 use refine::remove::remove;
 use shapes::FeatureMap;
+use split_arcs::recut;
 use std::alloc::Global;
 use topo::Topology;
 

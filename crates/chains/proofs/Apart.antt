@@ -3,11 +3,11 @@ use Rattle.std.proofs.Common.{◌≡◌, ℕ, zero, suc, Bool, true, false, ◌&
 use Rattle.std.specs.List.{list_any}
 use Rattle.theory.specs.Refinement.{unclosed}
 use Rattle.grid.specs.declared.pos.Pos.{Pos}
-use Rattle.lines.specs.Bits as bits
+use Rattle.lines.specs.PositionFilter as bits
 use Rattle.chains.specs.Extents.{within}
-use Rattle.chains.specs.Shared.{inside, may_hold, meets, met_visits}
+use Rattle.chains.specs.VertexFilter.{inside, may_hold, meets, met_visits}
 use Rattle.chains.specs.Visits.{HaveSame, around_of, inner_of}
-use Rattle.chains.specs.declared.shared.VertexBits.{VertexBits}
+use Rattle.chains.specs.declared.vertex_filter.VertexFilter.{VertexFilter}
 use Rattle.chains.specs.declared.visits.Visit.{Visit}
 use Rattle.chains.proofs.Same.{same_equal}
 use Rattle.chains.proofs.SharedVertices.{inside_has}
@@ -28,7 +28,7 @@ mapped f (y ∷ l) zero d x e = let h : y ≡ x = cc in ap f h
 mapped f (y ∷ l) (suc i) d x e = mapped f l i d x e
 
 -- of an arc that is told not to lie near, no vertex may be one of both tables
-pub told_apart : (s : VertexBits) (arcs : List (List Pos)) (near : List Bool) (i : ℕ) (c : List Pos) (b : Bool) →
+pub told_apart : (s : VertexFilter) (arcs : List (List Pos)) (near : List Bool) (i : ℕ) (c : List Pos) (b : Bool) →
     near ≡ map (list_any (within s.extent)) arcs → b ≡ get_or near i true → slice_get arcs i ≡ Some c → b ≡ false → list_any (may_hold s) c ≡ false
 told_apart s arcs near i c b e t h f =
     none_any (may_hold s) c (λ v k. ap (λ a. a && bits.may_hold s.bits v) (none_met (within s.extent) c apart v k))

@@ -7,7 +7,7 @@ use Rattle.chains.specs.Extents.{between, within}
 use Rattle.lines.specs.Holding.{IsMarked, Keeps}
 use Rattle.chains.specs.Stored.{AreKept, positions_of, rises}
 use Rattle.chains.specs.declared.stored.StoredArc.{StoredArc}
-use Rattle.chains.specs.declared.extent.Extent.{Extent}
+use Rattle.chains.specs.declared.arcs_box.Extent.{Extent}
 
 pub both_true : (a b : Bool) → a ≡ true → b ≡ true → (a && b) ≡ true
 both_true true b e f = f

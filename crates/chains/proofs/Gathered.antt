@@ -14,7 +14,7 @@ use Rattle.grid.specs.declared.pos.Pos.{Pos}
 use Rattle.lines.specs.Turned.{position_cmp}
 use Rattle.shapes.specs.Maps.{Layers}
 use Rattle.chains.specs.Visits.{HaveSame, visit_of, inner_from, inner_of, around_of, ends_of, clashes_of}
-use Rattle.chains.specs.Shared.{KeepsClashes}
+use Rattle.chains.specs.VertexFilter.{KeepsClashes}
 use Rattle.chains.specs.Seen.{seen, geometry_of}
 use Rattle.chains.specs.Index.{IsIndexOf, AreVisitsOf, form_ends, form_visits}
 use Rattle.chains.specs.declared.visits.Visit.{Visit}

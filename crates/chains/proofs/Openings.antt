@@ -9,35 +9,35 @@ use Rattle.grid.specs.declared.pos.Pos.{Pos}
 use Rattle.lines.specs.Turned.{position_cmp}
 use Rattle.theory.specs.Lists.{Has}
 use Rattle.chains.specs.Starts.{start_of, start_cmp, starts_from, least_from, start_place}
-use Rattle.chains.specs.declared.starts.Start.{Start}
+use Rattle.chains.specs.declared.starts.RingStart.{RingStart}
 use Rattle.lines.proofs.SortedLists.{not_less}
 use Rattle.lines.specs.Positions.{position_total}
 use Rattle.theory.proofs.Lists.{Has-append, append_nil}
 
 pub start_total : IsTotalOrder start_cmp
 start_total =
-    then_total (on_total (λ (s : Start). s.passed) bool_cmp_total)
-    (then_total (on_total (λ (s : Start). s.from) position_total) (on_total (λ (s : Start). s.to) position_total))
+    then_total (on_total (λ (s : RingStart). s.passed) bool_cmp_total)
+    (then_total (on_total (λ (s : RingStart). s.from) position_total) (on_total (λ (s : RingStart). s.to) position_total))
 
 -- the start at the place i is the least
-pub record LeastAt (l : List Start) (i : ℕ) : Type 0 where
-  pub before : List Start
-  pub here : Start
-  pub behind : List Start
+pub record LeastAt (l : List RingStart) (i : ℕ) : Type 0 where
+  pub before : List RingStart
+  pub here : RingStart
+  pub behind : List RingStart
   pub parted : l ≡ before ++ (here ∷ behind)
   pub place : i ≡ length before
-  pub least : (s : Start) → Has s l → is_gt (start_cmp here s) ≡ false
+  pub least : (s : RingStart) → Has s l → is_gt (start_cmp here s) ≡ false
 
 less_not_more : (r : Ordering) → is_lt r ≡ true → is_gt r ≡ false
 less_not_more Less e = refl
 less_not_more Equal e = refl
 less_not_more Greater e = cc
 
-most_self : (s : Start) → is_gt (start_cmp s s) ≡ false
+most_self : (s : RingStart) → is_gt (start_cmp s s) ≡ false
 most_self s = ap is_gt (tied_itself start_total s)
 
-least_from_at : (ks done a : List Start) (m : Start) (b : List Start) (best i : ℕ) → done ≡ a ++ (m ∷ b) → best ≡ length a → i ≡ length done →
-    ((s : Start) → Has s done → is_gt (start_cmp m s) ≡ false) → LeastAt (done ++ ks) (least_from best m i ks)
+least_from_at : (ks done a : List RingStart) (m : RingStart) (b : List RingStart) (best i : ℕ) → done ≡ a ++ (m ∷ b) → best ≡ length a → i ≡ length done →
+    ((s : RingStart) → Has s done → is_gt (start_cmp m s) ≡ false) → LeastAt (done ++ ks) (least_from best m i ks)
 least_from_at [] done a m b best i e f g h = record {
   before = a;
   here = m;
@@ -53,8 +53,8 @@ least_from_at (s ∷ ks) done a m b best i e f g h =
     longer = let q = length-append done (s ∷ []) in omega arith
 
     go : (c : Bool) → is_lt (start_cmp s m) ≡ c →
-        ((done a : List Start) (m : Start) (b : List Start) (best i : ℕ) → done ≡ a ++ (m ∷ b) → best ≡ length a → i ≡ length done →
-        ((s : Start) → Has s done → is_gt (start_cmp m s) ≡ false) → LeastAt (done ++ ks) (least_from best m i ks)) →
+        ((done a : List RingStart) (m : RingStart) (b : List RingStart) (best i : ℕ) → done ≡ a ++ (m ∷ b) → best ≡ length a → i ≡ length done →
+        ((s : RingStart) → Has s done → is_gt (start_cmp m s) ≡ false) → LeastAt (done ++ ks) (least_from best m i ks)) →
         LeastAt ((done ++ (s ∷ [])) ++ ks) (least_from (cond c i best) (cond c s m) (i + 1) ks)
     go true p ih =
         ih (done ++ (s ∷ [])) done s [] i (i + 1) refl g longer
@@ -72,7 +72,7 @@ least_from_at (s ∷ ks) done a m b best i e f g h =
           ]
         ])
 
-abbrev pub starts_list : (Pos → Bool) → Pos → List Pos → List Start
+abbrev pub starts_list : (Pos → Bool) → Pos → List Pos → List RingStart
 starts_list stop first [] = []
 starts_list stop first (x ∷ l) = starts_from stop first x l
 
@@ -87,7 +87,7 @@ place_least stop x y r =
     (λ s h. elim h [ inl p ↦ subst (λ w. is_gt (start_cmp (start_of stop x y) w) ≡ false) (sym p) (most_self (start_of stop x y)) | inr z ↦ absurd z ])
 
 -- a place among the starts is a place of the list
-pub record Opening (stop : Pos → Bool) (first : Pos) (l : List Pos) (before : List Start) (k : Start) : Type 0 where
+pub record Opening (stop : Pos → Bool) (first : Pos) (l : List Pos) (before : List RingStart) (k : RingStart) : Type 0 where
   pub vertex : Pos
   pub left : List Pos
   pub right : List Pos
@@ -99,7 +99,7 @@ no_parted : {A : Type 0} (a : List A) (k : A) (b : List A) → ¬ ([] ≡ a ++ (
 no_parted [] k b e = cc
 no_parted (x ∷ a) k b e = cc
 
-pub opening : (stop : Pos → Bool) (first here : Pos) (rest : List Pos) (before : List Start) (k : Start) (behind : List Start) →
+pub opening : (stop : Pos → Bool) (first here : Pos) (rest : List Pos) (before : List RingStart) (k : RingStart) (behind : List RingStart) →
     starts_from stop first here rest ≡ before ++ (k ∷ behind) → Opening stop first (here ∷ rest) before k
 opening stop first here [] [] k behind e =
     record { vertex = here; left = []; right = []; parted = refl; place = refl; is = cc }
@@ -121,7 +121,7 @@ start_there stop first (a ∷ []) x right = inr (start_there stop first [] x rig
 start_there stop first (a ∷ (b ∷ left)) x right = inr (start_there stop first (b ∷ left) x right)
 
 -- behind a stop, only a lesser vertex starts before it
-pub not_lesser : (stop : Pos → Bool) (best : Start) (a b : Pos) → best.passed ≡ false → is_gt (position_cmp a best.from) ≡ true →
+pub not_lesser : (stop : Pos → Bool) (best : RingStart) (a b : Pos) → best.passed ≡ false → is_gt (position_cmp a best.from) ≡ true →
     is_lt (start_cmp (start_of stop a b) best) ≡ false
 not_lesser stop best a b e g = go (stop a) best.passed (position_cmp a best.from) e g
   where

@@ -17,7 +17,7 @@ use Rattle.theory.proofs.Ascending.{get_once, less_self}
 use Rattle.theory.proofs.ListsOfLists.{get_has}
 use Rattle.chains.specs.Keys.{key_cmp, key_of}
 use Rattle.chains.specs.Placing.{ArePlaced, AreRefsOf, arcs_of, own_piece, piece_of, placed_from}
-use Rattle.chains.specs.Shared.{whole}
+use Rattle.chains.specs.VertexFilter.{whole}
 use Rattle.chains.specs.Stored.{loops_of, merged, merged_from, positions_of, rises, stored_of, with_mark}
 use Rattle.chains.specs.Table.{is_loop, located, number_in, same_list}
 use Rattle.chains.specs.declared.cutting.Piece.{Piece}

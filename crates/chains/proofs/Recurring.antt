@@ -4,9 +4,9 @@ use Rattle.theory.specs.Lists.{Has}
 use Rattle.theory.proofs.Lists.{Has-append, Has-append_left, Has-append_right}
 use Rattle.grid.specs.declared.pos.Pos.{Pos}
 use Rattle.lines.proofs.Positions.{true_false}
-use Rattle.lines.specs.Bits.{may_hold}
+use Rattle.lines.specs.PositionFilter.{may_hold}
 use Rattle.chains.specs.Repeats.{HoldsClashing, IsNoted}
-use Rattle.chains.specs.Shared.{KeepsClashes}
+use Rattle.chains.specs.VertexFilter.{KeepsClashes}
 use Rattle.chains.specs.declared.repeats.Repeats.{Repeats}
 use Rattle.chains.specs.declared.visits.Visit.{Visit}
 use Rattle.lines.proofs.Dropping.{none_left}

@@ -14,8 +14,8 @@ use Rattle.theory.proofs.ClosedLists.{closed_around}
 use Rattle.theory.proofs.Lists.{Has-append, Has-append_left, Has-append_right, front-snoc}
 use Rattle.theory.proofs.ListsOfLists.{Has-gathered, gathered_from, get_has}
 use Rattle.theory.proofs.PiecesExist.{own_union}
-use Rattle.theory.proofs.RemovingJoined.{front_passes}
-use Rattle.theory.proofs.StandingLists.{middle_has}
+use Rattle.theory.proofs.HealingJoined.{front_passes}
+use Rattle.theory.proofs.ValidLists.{middle_has}
 use Rattle.grid.specs.declared.pos.Pos.{Pos}
 use Rattle.lines.specs.Turned.{position_cmp}
 use Rattle.lines.specs.Positions.{position_total}
@@ -28,11 +28,11 @@ use Rattle.chains.specs.Index.{IsIndexOf, AreVisitsOf}
 use Rattle.chains.specs.OfArcs.{arc_pieces, arc_visits, tables_as_map}
 use Rattle.chains.specs.ArcPieces.{loop_pieces, pieces_at}
 use Rattle.chains.specs.Pieces.{begun_ring, cut_inside, cut_inside_from, is_backwards_less, open_pieces, piece_along}
-use Rattle.chains.specs.Shared.{arc_meets, arc_shared, inside, may_hold, whole, HoldCommon, HoldShared, KeepsClashes, StayWhole}
+use Rattle.chains.specs.VertexFilter.{arc_meets, arc_shared, inside, may_hold, whole, HoldCommon, HoldShared, KeepsClashes, StayWhole}
 use Rattle.chains.specs.Table.{is_loop, IsTableOf}
 use Rattle.chains.specs.Visits.{around_of, inner_of, visit_of, HaveSame}
-use Rattle.chains.specs.declared.extent.Extent.{Extent}
-use Rattle.chains.specs.declared.shared.VertexBits.{VertexBits}
+use Rattle.chains.specs.declared.arcs_box.Extent.{Extent}
+use Rattle.chains.specs.declared.vertex_filter.VertexFilter.{VertexFilter}
 use Rattle.chains.specs.declared.visits.Visit.{Visit}
 use Rattle.chains.proofs.Among.{among_has}
 use Rattle.chains.proofs.Gathered.{between_has, clash_seen, found_in}
@@ -215,7 +215,7 @@ mapped_at f (y ∷ l) (suc i) x e = mapped_at f l i x e
 
 -- what is noted of one table, where the bits are those of the other
 module _ (m n : Geometry Pos) (sm : IsSound m) (s t : Arcs) (ms : IsTableOf m s) (a : Geometry Pos) (am : AreArcsAsMap m n s.arcs t.arcs a)
-    (bits : VertexBits) (hold : HoldShared bits t.arcs s.arcs) where
+    (bits : VertexFilter) (hold : HoldShared bits t.arcs s.arcs) where
   -- an arc of which no inner vertex may be the other table's has no junction at a visit
   unmet : (c : List Pos) → Has c s.arcs → arc_meets (may_hold bits) s.loops c ≡ false → (w : Visit) → Has w (arc_visits s.loops c) → ¬ JunctionOf a w.vertex
   unmet c h e w k =
@@ -248,7 +248,7 @@ module _ (m n : Geometry Pos) (sm : IsSound m) (s t : Arcs) (ms : IsTableOf m s)
       go c false k = absurd k
 
 -- vertices that lie in both extents are held, and those of both tables do
-pub shared_held : (s t : Arcs) (a b : Extent) (bits : VertexBits) → HoldAll (within a) s.arcs → HoldAll (within b) t.arcs → HoldCommon a b bits s.arcs → HoldShared bits s.arcs t.arcs
+pub shared_held : (s t : Arcs) (a b : Extent) (bits : VertexFilter) → HoldAll (within a) s.arcs → HoldAll (within b) t.arcs → HoldCommon a b bits s.arcs → HoldShared bits s.arcs t.arcs
 shared_held s t a b bits own other common c h d k p i j = common c h p i (own c h p i) (other d k p j)
 
 pub other_way : (m n : Geometry Pos) (s t : List (List Pos)) (a : Geometry Pos) → AreArcsAsMap m n s t a → AreArcsAsMap n m t s a
@@ -263,7 +263,7 @@ other_way m n s t a am = record {
 
 -- what is noted of both
 module _ (m n : Geometry Pos) (sm : IsSound m) (sn : IsSound n) (s t : Arcs) (ms : IsTableOf m s) (nt : IsTableOf n t)
-    (of_s of_t : VertexBits) (hold_s : HoldShared of_s s.arcs t.arcs) (hold_t : HoldShared of_t t.arcs s.arcs) where
+    (of_s of_t : VertexFilter) (hold_s : HoldShared of_s s.arcs t.arcs) (hold_t : HoldShared of_t t.arcs s.arcs) where
   abbrev pub all_visits : List Visit
   all_visits = gathered (arc_visits s.loops) s.arcs ++ gathered (arc_visits t.loops) t.arcs
 

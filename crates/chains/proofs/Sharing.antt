@@ -7,19 +7,19 @@ use Rattle.theory.proofs.Lists.{last-snoc}
 use Rattle.grid.specs.declared.pos.Pos.{Pos}
 use Rattle.lines.proofs.Positions.{true_false}
 use Rattle.chains.specs.Among.{among}
-use Rattle.lines.specs.Bits.{may_hold}
+use Rattle.lines.specs.PositionFilter.{may_hold}
 use Rattle.lines.specs.Holding.{Holds}
 use Rattle.chains.specs.Holding.{AreDealtTo}
-use Rattle.chains.specs.Shared.{arc_meets, arc_shared, kept_if, meets_if, near_if, shared_if, KeepsClashes}
+use Rattle.chains.specs.VertexFilter.{arc_meets, arc_shared, kept_if, meets_if, near_if, shared_if, KeepsClashes}
 use Rattle.chains.specs.Visits.{ends_of}
-use Rattle.lines.specs.declared.bits.PositionBits.{PositionBits}
+use Rattle.lines.specs.declared.position_filter.PositionFilter.{PositionFilter}
 use Rattle.chains.specs.declared.visits.Visit.{Visit}
 use Rattle.chains.proofs.Among.{among_has}
 use Rattle.lines.proofs.Dropping.{drop_next}
 use Rattle.chains.proofs.TablesAsMap.{given, answered}
 
 -- what finds a bit not set is none of the list
-pub not_held : (bits : PositionBits) (js ks : List Pos) (p : Pos) (b : Bool) → ks ≡ js → b ≡ may_hold bits p → b ≡ false → Holds (may_hold bits) ks → b ≡ among js p
+pub not_held : (bits : PositionFilter) (js ks : List Pos) (p : Pos) (b : Bool) → ks ≡ js → b ≡ may_hold bits p → b ≡ false → Holds (may_hold bits) ks → b ≡ among js p
 not_held bits js ks p b v e f h = f ∙ sym (go (among ks p) refl) ∙ ap (λ l. among l p) v
   where
     go : (a : Bool) → among ks p ≡ a → among ks p ≡ false

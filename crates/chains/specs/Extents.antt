@@ -1,7 +1,7 @@
 -- The box that positions lie in.
 use Rattle.std.specs.Prelude.{ℤ, Bool, ◌&&◌, int_le}
 use Rattle.grid.specs.declared.pos.Pos.{Pos}
-use Rattle.chains.specs.declared.extent.Extent.{Extent}
+use Rattle.chains.specs.declared.arcs_box.Extent.{Extent}
 
 -- whether n is one of the numbers from the least to the greatest
 abbrev pub between : ℤ → ℤ → ℤ → Bool

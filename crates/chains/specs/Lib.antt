@@ -3,7 +3,7 @@ pub mod Visits
 pub mod Holding
 pub mod LookUp
 pub mod Extents
-pub mod Shared
+pub mod VertexFilter
 pub mod Repeats
 pub mod Seen
 pub mod Index

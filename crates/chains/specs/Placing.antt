@@ -7,7 +7,7 @@ use Rattle.chains.specs.Among.{among}
 use Rattle.chains.specs.ArcPieces.{pieces_at}
 use Rattle.chains.specs.Arcs.{Arcs}
 use Rattle.chains.specs.Keys.{key_of}
-use Rattle.chains.specs.Shared.{whole}
+use Rattle.chains.specs.VertexFilter.{whole}
 use Rattle.chains.specs.Stored.{positions_of, stored_of, merged}
 use Rattle.chains.specs.Table.{located}
 use Rattle.chains.specs.declared.cutting.Piece.{Piece}
@@ -23,18 +23,18 @@ abbrev pub placed_from : ℕ → List Piece → List Placed
 placed_from n [] = []
 placed_from n (p ∷ ps) = record { key = key_of p.chain; piece = p; place = n } ∷ placed_from (n + 1) ps
 
--- the arcs of pieces, of which those with one chain stand together
+-- the arcs of pieces, of which those with one chain are together
 abbrev pub arcs_of : List Placed → List (List Pos)
 arcs_of l = map positions_of (merged (map stored_of (map piece_of l)))
 
--- the keys are those of the pieces' chains, one piece stands at each place, and the places are less
+-- the keys are those of the pieces' chains, one piece is at each place, and the places are less
 -- than how many pieces there are
 pub record ArePlaced (l : List Placed) : Type 0 where
   pub keys : (x : Placed) → Has x l → x.key ≡ key_of x.piece.chain
   pub one : (x y : Placed) → Has x l → Has y l → x.place ≡ y.place → x.piece ≡ y.piece
   pub within : (x : Placed) → Has x l → x.place < length l
 
--- at the place of each piece stands the used arc that it is
+-- at the place of each piece is the used arc that it is
 abbrev pub AreRefsOf : List (List Pos) → List Placed → List ArcRef → Type 0
 AreRefsOf arcs l refs = (x : Placed) → Has x l → slice_get refs x.place ≡ Some (located arcs x.piece)
 

@@ -2,7 +2,7 @@
 use Rattle.std.specs.Prelude.{◌≡◌, Bool, true, List}
 use Rattle.theory.specs.Lists.{Has}
 use Rattle.grid.specs.declared.pos.Pos.{Pos}
-use Rattle.lines.specs.Bits.{may_hold}
+use Rattle.lines.specs.PositionFilter.{may_hold}
 use Rattle.lines.specs.Holding.{Keeps}
 use Rattle.chains.specs.declared.repeats.Repeats.{Repeats}
 use Rattle.chains.specs.declared.visits.Visit.{Visit}

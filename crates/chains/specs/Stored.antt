@@ -8,7 +8,7 @@ use Rattle.chains.specs.Extents.{within}
 use Rattle.chains.specs.Holding.{HoldAll}
 use Rattle.chains.specs.Table.{same_list}
 use Rattle.chains.specs.declared.cutting.Piece.{Piece}
-use Rattle.chains.specs.declared.extent.Extent.{Extent}
+use Rattle.chains.specs.declared.arcs_box.Extent.{Extent}
 use Rattle.chains.specs.declared.stored.StoredArc.{StoredArc}
 
 -- the positions of the arc
@@ -33,7 +33,7 @@ rises [] = true
 rises (c ∷ []) = true
 rises (c ∷ (d ∷ l)) = is_lt (list_cmp c d) && rises (d ∷ l)
 
--- the arcs stand in order, each once, and all positions lie in the box, where one is known
+-- the arcs are in order, each once, and all positions lie in the box, where one is known
 pub record AreKept (arcs : List StoredArc) (extent : Option Extent) : Type 0 where
   pub rising : rises (map positions_of arcs) ≡ true
   pub held : IfSome extent (λ e. HoldAll (within e) (map positions_of arcs))
@@ -52,17 +52,17 @@ with_marks (c ∷ arcs) marks = record { positions = c; free = first_of marks } 
 abbrev pub with_mark : StoredArc → StoredArc → StoredArc
 with_mark a b = record { positions = a.positions; free = a.free || b.free }
 
--- arcs of which equal ones stand together, each once, where one more stands in front
+-- arcs of which equal ones are together, each once, where one more is in front
 abbrev pub merged_from : StoredArc → List StoredArc → List StoredArc
 merged_from last [] = last ∷ []
 merged_from last (a ∷ l) = cond (same_list a.positions last.positions) (merged_from (with_mark last a) l) (last ∷ merged_from a l)
 
--- arcs of which equal ones stand together, each once
+-- arcs of which equal ones are together, each once
 abbrev pub merged : List StoredArc → List StoredArc
 merged [] = []
 merged (a ∷ l) = merged_from a l
 
--- the same, where one more may stand in front
+-- the same, where one more may are in front
 abbrev pub merged_behind : Option StoredArc → List StoredArc → List StoredArc
 merged_behind None l = merged l
 merged_behind (Some a) l = merged_from a l

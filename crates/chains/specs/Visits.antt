@@ -10,15 +10,15 @@ use Rattle.chains.specs.declared.visits.Visit.{Visit}
 abbrev pub visit_eq : Visit → Visit → Bool
 visit_eq a b = position_eq a.vertex b.vertex && pair_eq a.sides b.sides
 
--- the same stand in two lists, however often
+-- the same are in two lists, however often
 pub record HaveSame {A : Type 0} (xs ys : List A) : Type 0 where
   pub members : (w : A) → Has w xs ↔ Has w ys
 
--- the visit of a vertex that stands between two others
+-- the visit of a vertex that is between two others
 abbrev pub visit_of : Pos → Pos → Pos → Visit
 visit_of before here next = record { vertex = here; sides = pair_of before next }
 
--- each place of the list but the last, with its two neighbours, where `before` and `here` stand in front
+-- each place of the list but the last, with its two neighbours, where `before` and `here` are in front
 abbrev pub inner_from : Pos → Pos → List Pos → List Visit
 inner_from before here [] = []
 inner_from before here (next ∷ rest) = visit_of before here next ∷ inner_from here next rest
@@ -43,7 +43,7 @@ ends_of (x ∷ (y ∷ r)) = x ∷ (last_of y r ∷ [])
 abbrev pub clash : Visit → Visit → Bool
 clash a b = position_eq a.vertex b.vertex && not (visit_eq a b)
 
--- the vertices of neighbours that clash, where `before` stands in front
+-- the vertices of neighbours that clash, where `before` is in front
 abbrev pub clashes_from : Visit → List Visit → List Pos
 clashes_from before [] = []
 clashes_from before (a ∷ l) = cond (clash a before) (a.vertex ∷ clashes_from a l) (clashes_from a l)

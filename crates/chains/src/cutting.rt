@@ -14,7 +14,7 @@ ghost use Rattle.theory.specs.Lists.{Each};
 ghost use Rattle.theory.specs.Refinement.{unclosed};
 ghost use Rattle.theory.specs.Stitching.{ArePiecesOf, AreRingPiecesOf};
 
-use crate::shared_items::SharedItems;
+use crate::shared_positions::SharedPositions;
 use crate::starts::place_of_start;
 use crate::stops::Stops;
 use crate::visits::VisitIndex;
@@ -30,7 +30,7 @@ use std::cmp::Ordering;
 /// a free loop: a ring without a junction.
 #[derive(PartialEq, Eq, PartialOrd, Ord, Debug, Drop)]
 pub struct Piece {
-    chain: SharedItems<Pos>,
+    chain: SharedPositions<Pos>,
     reversed: bool,
     free: bool,
 }
@@ -61,7 +61,7 @@ fn least_direction(mut chain: Vec<Pos>) -> (Vec<Pos>, bool)
 
 impl Piece {
     /// An arc as its own one piece.
-    pub(crate) fn whole(chain: SharedItems<Pos>, free: bool) -> Piece
+    pub(crate) fn whole(chain: SharedPositions<Pos>, free: bool) -> Piece
         ensures { result ≡ record { chain = chain; reversed = false; free = free } }
     {
         Piece {
@@ -77,7 +77,7 @@ impl Piece {
     {
         let (least, reversed) = least_direction(chain);
         Ok(Piece {
-            chain: SharedItems::new(alloc, Items::from_vec(least))?,
+            chain: SharedPositions::new(alloc, Items::from_vec(least))?,
             reversed,
             free,
         })
@@ -86,7 +86,7 @@ impl Piece {
     /// The piece of a chain that has other owners. It is shared with them, unless it has to be reversed.
     pub(crate) fn sharing(
         alloc: Global,
-        chain: &SharedItems<Pos>,
+        chain: &SharedPositions<Pos>,
         free: bool,
     ) -> Result<Piece, AllocError>
         ensures { IfOk result (λ p. p ≡ piece_along free chain.now) }
@@ -98,13 +98,13 @@ impl Piece {
         Ok(Piece::whole(chain.share()?, free))
     }
 
-    pub(crate) fn into_chain(self) -> SharedItems<Pos>
+    pub(crate) fn into_chain(self) -> SharedPositions<Pos>
         ensures { result ≡ chain_of self }
     {
         self.chain
     }
 
-    pub(crate) fn items(&self) -> &SharedItems<Pos>
+    pub(crate) fn items(&self) -> &SharedPositions<Pos>
         ensures { result.now ≡ chain_of self.now }
     {
         &self.chain
@@ -167,7 +167,7 @@ fn cut_inside<S: Stops>(alloc: Global, stops: &S, line: &[Pos]) -> Result<Vec<Pi
 }
 
 /// The ring begun at a place, and closed.
-fn opened(alloc: Global, ring: &[Pos], at: usize) -> Result<Vec<Pos>, AllocError>
+fn open_ring(alloc: Global, ring: &[Pos], at: usize) -> Result<Vec<Pos>, AllocError>
     requires { at < length ring.now }
     ensures { IfOk result (λ v. v.items ≡ opened_at at ring.now) }
 {
@@ -195,7 +195,7 @@ fn ring_cut(alloc: Global, index: &VisitIndex, ring: &[Pos]) -> Result<Vec<Piece
     if at >= ring.len() {
         return free_piece(alloc, Vec::new(alloc));
     }
-    let closed = opened(alloc, ring, at)?;
+    let closed = open_ring(alloc, ring, at)?;
     if index.is_stop(ring[at]) {
         cut_inside(alloc, index, &closed)
     } else {
@@ -235,7 +235,7 @@ fn cut_loop<S: Stops>(alloc: Global, stops: &S, arc: &[Pos]) -> Result<Vec<Piece
 {
     let ring = ring_round(arc);
     if let Some(at) = place_of_least_stop(stops, ring) {
-        return cut_inside(alloc, stops, &opened(alloc, ring, at)?);
+        return cut_inside(alloc, stops, &open_ring(alloc, ring, at)?);
     }
     free_piece(alloc, arc.to_vec(alloc)?)
 }

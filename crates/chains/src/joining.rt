@@ -10,7 +10,7 @@ ghost use Rattle.std.specs.BTreeMap.{btree_map_len};
 ghost use Rattle.std.specs.Prelude.{◌≡◌, ◌≤◌, ◌↔◌, IfOk, IsTrue, OnOk, None, List, map, ◌∷◌};
 
 use crate::cutting::{Piece, begins_free};
-use crate::listing::listed;
+use crate::listing::list_of_set;
 use crate::segment::Segment;
 use crate::stop_set::StopSet;
 use crate::table::ArcTable;
@@ -196,7 +196,7 @@ pub fn meets_two(
 ) -> Result<bool, OutOfMemory>
     ensures { IfOk result (λ b. IsTrue b ↔ MeetsTwo segments.now.keys stops.now.keys) }
 {
-    let list = listed(alloc, segments)?;
+    let list = list_of_set(alloc, segments)?;
     let stops = StopSet::of(alloc, stops)?;
     let links = links_of(alloc, &list, &stops)?;
     Ok(all_meet_two(&list, &stops, &links))
@@ -240,6 +240,6 @@ pub fn maximal(
     requires { MeetsTwo segments.now.keys stops.now.keys }
     ensures { IfOk result (λ t. AreMaximal segments.now.keys stops.now.keys t) }
 {
-    let list = listed(alloc, segments)?;
+    let list = list_of_set(alloc, segments)?;
     maximal_with(alloc, Vec::new(alloc), &list, stops)
 }

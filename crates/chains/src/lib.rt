@@ -3,8 +3,8 @@
 #![tactic(auto)]
 
 pub mod arc_cutting;
+mod arcs_box;
 pub mod cutting;
-mod extent;
 pub mod joining;
 mod key;
 mod listing;
@@ -15,8 +15,7 @@ pub mod ordered;
 mod recent;
 mod repeats;
 pub mod segment;
-mod shared;
-mod shared_items;
+mod shared_positions;
 pub mod sides;
 mod starts;
 mod stop_set;
@@ -24,11 +23,13 @@ mod stops;
 mod stored;
 pub mod table;
 pub mod turning;
+pub mod used_arcs;
+mod vertex_filter;
 pub mod visits;
 
 pub use arc_cutting::cut_arc;
+pub use arcs_box::Extent;
 pub use cutting::{Piece, add_pieces, cut_line, cut_ring};
-pub use extent::Extent;
 pub use joining::{maximal, maximal_with, meets_two};
 pub use segment::Segment;
 pub use sides::segments_of;

@@ -62,7 +62,7 @@ pub(crate) fn arc_behind(
     }
 }
 
-pub(crate) fn ended(arcs: ArcList, last: Option<StoredArc>) -> Result<ArcList, AllocError>
+pub(crate) fn end_list(arcs: ArcList, last: Option<StoredArc>) -> Result<ArcList, AllocError>
     ensures { IfOk result (λ l. l ≡ arcs ++ merged_behind last []) }
 {
     let mut all = arcs;
@@ -81,6 +81,6 @@ pub(crate) fn merged_arcs(alloc: Global, pieces: Vec<Piece>) -> Result<ArcList, 
     for piece in pieces {
         last = Some(arc_behind(&mut arcs, last, StoredArc::of(piece), true)?);
     }
-    let all = ended(arcs, last)?;
+    let all = end_list(arcs, last)?;
     Ok(all)
 }

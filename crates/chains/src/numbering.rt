@@ -5,7 +5,7 @@ ghost use Rattle.std.specs.Prelude.{◌≡◌, IfOk, true, length, map as map_li
 
 use crate::cutting::Piece;
 use crate::key::Key;
-use crate::merging::{arc_behind, ended};
+use crate::merging::{arc_behind, end_list};
 use crate::stored::{ArcList, StoredArc};
 use crate::table::ArcRef;
 use std::alloc::{AllocError, Global};
@@ -61,6 +61,6 @@ pub(crate) fn numbered_arcs(
             reversed,
         };
     }
-    let all = ended(arcs, last)?;
+    let all = end_list(arcs, last)?;
     Ok((all, refs))
 }

@@ -3,7 +3,7 @@ ghost use Rattle.chains.specs.Stored.{rises, with_marks};
 ghost use Rattle.std.specs.Prelude.{◌≡◌, IfOk};
 
 use crate::marking::first_mark;
-use crate::shared_items::SharedItems;
+use crate::shared_positions::SharedPositions;
 use crate::stored::{ArcList, StoredArc};
 use grid::pos::Pos;
 use lines::items::Items;
@@ -38,7 +38,7 @@ pub(crate) fn marked_arcs(
     let mut left = marks;
     for positions in arcs {
         let (free, others) = first_mark(left);
-        let positions = SharedItems::new(alloc, positions)?;
+        let positions = SharedPositions::new(alloc, positions)?;
         made.push(StoredArc { positions, free })?;
         left = others;
     }

@@ -5,9 +5,9 @@ ghost use Rattle.std.specs.Prelude.{◌++◌, ◌∷◌, [], IfOk, OnOk};
 use crate::marking::is_marked;
 use crate::table::ArcTable;
 use grid::pos::Pos;
-use lines::bits::place_among;
 use lines::items::Items;
 use lines::line::Line;
+use lines::position_filter::place_among;
 use lines::ring::Ring;
 use shapes::feature::Feature;
 use shapes::feature_map::FeatureMap;
@@ -112,12 +112,12 @@ impl Recent {
 
 /// Positions, of which few occur twice.
 #[derive(Drop)]
-struct Noted {
+struct RecentVertices {
     positions: Vec<Pos>,
     recent: Recent,
 }
 
-impl Noted {
+impl RecentVertices {
     /// Puts a position last, unless it is where the table of recent ones points.
     fn note(&mut self, position: Pos) -> Result<(), AllocError>
         ensures { OnOk result (HaveSame self.new.positions.items (self.old.positions.items ++ position ∷ [])) }
@@ -136,10 +136,10 @@ impl Noted {
 }
 
 /// The positions, of which one that comes again is mostly left out.
-pub(crate) fn thinned(alloc: Global, positions: &[Pos]) -> Result<Vec<Pos>, AllocError>
+pub(crate) fn thin_out(alloc: Global, positions: &[Pos]) -> Result<Vec<Pos>, AllocError>
     ensures { IfOk result (λ v. HaveSame v.items positions.now) }
 {
-    let mut noted = Noted {
+    let mut noted = RecentVertices {
         positions: Vec::new(alloc),
         recent: Recent::for_positions(alloc, positions.len())?,
     };

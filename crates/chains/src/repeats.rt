@@ -1,12 +1,12 @@
 //! Which visits are at a vertex that others visit too: only these can clash.
 ghost use Rattle.chains.specs.Repeats.{HoldsClashing, IsNoted};
-ghost use Rattle.chains.specs.Shared.{KeepsClashes};
-ghost use Rattle.lines.specs.Bits.{may_hold};
+ghost use Rattle.chains.specs.VertexFilter.{KeepsClashes};
+ghost use Rattle.lines.specs.PositionFilter.{may_hold};
 ghost use Rattle.std.specs.Prelude.{IfOk};
 
 use crate::visits::Visit;
 use grid::pos::Pos;
-use lines::bits::PositionBits;
+use lines::position_filter::PositionFilter;
 use std::alloc::{AllocError, Global};
 
 /// How many visits share a word of the bits of all vertices.
@@ -18,8 +18,8 @@ const AGAIN_EACH: usize = 16;
 /// The vertices of visits, and of these the ones that came again, each among some others.
 #[derive(Drop)]
 struct Repeats {
-    met: PositionBits,
-    again: PositionBits,
+    met: PositionFilter,
+    again: PositionFilter,
 }
 
 impl Repeats {
@@ -39,8 +39,8 @@ impl Repeats {
         ensures { IfOk result (λ r. HoldsClashing (may_hold r.again) visits.now) }
     {
         let mut repeats = Repeats {
-            met: PositionBits::clear(alloc, visits.len() / MET_EACH)?,
-            again: PositionBits::clear(alloc, visits.len() / AGAIN_EACH)?,
+            met: PositionFilter::clear(alloc, visits.len() / MET_EACH)?,
+            again: PositionFilter::clear(alloc, visits.len() / AGAIN_EACH)?,
         };
         for visit in visits {
             repeats.note(visit.vertex);
@@ -51,7 +51,7 @@ impl Repeats {
 
 /// Some of the visits, in their order: each that clashes with another, and few others. Most vertices of a
 /// map whose borders were noted once are visited once, so little is left to sort.
-pub(crate) fn repeated(alloc: Global, visits: &[Visit]) -> Result<Vec<Visit>, AllocError>
+pub(crate) fn find_repeated(alloc: Global, visits: &[Visit]) -> Result<Vec<Visit>, AllocError>
     ensures { IfOk result (λ kept. KeepsClashes kept.items visits.now) }
 {
     let repeats = Repeats::of(alloc, visits)?;

@@ -4,12 +4,12 @@ ghost use Rattle.std.specs.Ordering.{is_lt};
 ghost use Rattle.std.specs.Prelude.{◌≡◌, ◌↔◌, true, IsNone, IfSome};
 
 use grid::pos::Pos;
-use lines::pair::Pair;
+use lines::pair::PositionPair;
 
 /// A segment: an unordered pair of two different positions.
 #[derive(Clone, Copy, PartialEq, Eq, PartialOrd, Ord, Hash, Debug)]
 pub struct Segment {
-    ends: Pair,
+    ends: PositionPair,
     pub ghost ordered: { is_lt (position_cmp ends.lesser ends.greater) ≡ true },
 }
 
@@ -25,7 +25,7 @@ impl Segment {
             return None;
         }
         Some(Segment {
-            ends: Pair::of(a, b),
+            ends: PositionPair::of(a, b),
         })
     }
 

@@ -9,23 +9,23 @@ use grid::pos::Pos;
 
 /// A vertex, whether the cut passes it, and the vertex after it.
 #[derive(Clone, Copy, PartialEq, Eq, PartialOrd, Ord, Debug)]
-struct Start {
+struct RingStart {
     passed: bool,
     from: Pos,
     to: Pos,
 }
 
-fn start_between<S: Stops>(stops: &S, from: Pos, to: Pos) -> Start
+fn start_between<S: Stops>(stops: &S, from: Pos, to: Pos) -> RingStart
     ensures { result ≡ start_of (among (S.at stops.now)) from to }
 {
-    Start {
+    RingStart {
         passed: !stops.is_stop(from),
         from,
         to,
     }
 }
 
-fn comes_before(a: &Start, b: &Start) -> bool
+fn comes_before(a: &RingStart, b: &RingStart) -> bool
     ensures { result ≡ is_lt (start_cmp a.now b.now) }
 {
     a < b
@@ -33,7 +33,7 @@ fn comes_before(a: &Start, b: &Start) -> bool
 
 /// Whether a start comes before another. Behind a stop only lesser vertices are looked up.
 #[tactic(auto, using(crate::proofs::Openings::not_lesser))]
-fn improves<S: Stops>(stops: &S, best: &Start, from: Pos, to: Pos) -> bool
+fn improves<S: Stops>(stops: &S, best: &RingStart, from: Pos, to: Pos) -> bool
     ensures { result ≡ is_lt (start_cmp (start_of (among (S.at stops.now)) from to) best.now) }
 {
     if !best.passed && from > best.from {

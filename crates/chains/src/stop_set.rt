@@ -2,9 +2,9 @@
 ghost use Rattle.chains.specs.Among.{among};
 ghost use Rattle.std.specs.Prelude.{◌≡◌, IfOk};
 
-use crate::listing::listed;
+use crate::listing::list_of_set;
 use grid::pos::Pos;
-use lines::bits::PositionBits;
+use lines::position_filter::PositionFilter;
 use std::alloc::{AllocError, Global};
 use std::collections::BTreeSet;
 use std::marker::Model;
@@ -13,12 +13,12 @@ use std::marker::Model;
 #[derive(Drop)]
 pub(crate) struct StopSet<'a> {
     stops: &'a BTreeSet<Pos>,
-    bits: PositionBits,
+    bits: PositionFilter,
 }
 
 impl<'a> Model for StopSet<'a> {
     ghost use Rattle.grid.specs.declared.pos.Pos.{Pos};
-    ghost use Rattle.lines.specs.Bits.{may_hold};
+    ghost use Rattle.lines.specs.PositionFilter.{may_hold};
     ghost use Rattle.lines.specs.Holding.{Holds};
     ghost use Rattle.std.specs.Prelude.{List};
 
@@ -33,8 +33,8 @@ impl<'a> StopSet<'a> {
     pub(crate) fn of(alloc: Global, stops: &'a BTreeSet<Pos>) -> Result<StopSet<'a>, AllocError>
         ensures { IfOk result (λ s. s ≡ stops.now.keys) }
     {
-        let list = listed(alloc, stops)?;
-        let bits = PositionBits::of(alloc, &list)?;
+        let list = list_of_set(alloc, stops)?;
+        let bits = PositionFilter::of(alloc, &list)?;
         Ok(StopSet { stops, bits })
     }
 

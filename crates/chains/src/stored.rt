@@ -7,7 +7,7 @@ ghost use Rattle.std.specs.Option.{option_map};
 ghost use Rattle.std.specs.Prelude.{◌≡◌, ◌++◌, ◌∷◌, ◌<◌, ◌^◌, [], true, OnOk, IfOk, length, slice_get, map as map_list};
 
 use crate::cutting::Piece;
-use crate::shared_items::SharedItems;
+use crate::shared_positions::SharedPositions;
 use grid::pos::Pos;
 use indexmap::IndexMap;
 use lines::items::Items;
@@ -17,7 +17,7 @@ use std::marker::Model;
 /// An arc, and whether it is a free loop.
 #[derive(Drop)]
 pub(crate) struct StoredArc {
-    pub(crate) positions: SharedItems<Pos>,
+    pub(crate) positions: SharedPositions<Pos>,
     pub(crate) free: bool,
 }
 
@@ -43,7 +43,7 @@ impl StoredArc {
     {
         let positions = Items::from_vec(self.positions.as_slice().to_vec(alloc)?);
         Ok(StoredArc {
-            positions: SharedItems::new(alloc, positions)?,
+            positions: SharedPositions::new(alloc, positions)?,
             free: self.free,
         })
     }
@@ -131,7 +131,7 @@ impl ArcList {
     }
 
     /// The place of an arc, where the arcs rise.
-    pub(crate) fn place_of(&self, positions: &SharedItems<Pos>) -> Option<usize>
+    pub(crate) fn place_of(&self, positions: &SharedPositions<Pos>) -> Option<usize>
         ensures { rises (map_list positions_of self.now) ≡ true → result ≡ position (same_list positions.now) (map_list positions_of self.now) }
     {
         self.as_slice()

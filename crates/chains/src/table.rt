@@ -14,8 +14,8 @@ ghost use Rattle.theory.specs.Arcs.{Ascends, AreSortedOnce};
 ghost use Rattle.theory.specs.Geometry.{Geometry, IsSound};
 ghost use Rattle.theory.specs.Lists.{Has};
 
+use crate::arcs_box::Extent;
 use crate::cutting::Piece;
-use crate::extent::Extent;
 use crate::merging::merged_arcs;
 use crate::numbering::{numbered_arcs, with_places};
 use crate::ordered::{is_rising, marked_arcs};

@@ -5,7 +5,7 @@ ghost use Rattle.chains.specs.Holding.{HoldAll};
 ghost use Rattle.chains.specs.Index.{IsIndexOf, EndsALine, AreVisitsOf, feature_ends, feature_visits, form_ends, form_visits};
 ghost use Rattle.chains.specs.OfArcs.{arc_ends, ends_if, tables_as_map};
 ghost use Rattle.chains.specs.Seen.{line_of, ring_of, form_of, geometry_of, seen};
-ghost use Rattle.chains.specs.Shared.{KeepsClashes, StaysApart, StayWhole, arc_meets, arc_shared, may_hold, meets, meets_if, met_visits, shared_if};
+ghost use Rattle.chains.specs.VertexFilter.{KeepsClashes, StaysApart, StayWhole, arc_meets, arc_shared, may_hold, meets, meets_if, met_visits, shared_if};
 ghost use Rattle.chains.specs.Table.{IsTableOf};
 ghost use Rattle.chains.specs.Visits.{visit_of, inner_of, ends_of, around_of, clash, clashes_of, HaveSame};
 ghost use Rattle.chains.specs.declared.visits.Visit.{Visit as Visiting};
@@ -20,18 +20,18 @@ ghost use Rattle.theory.specs.Refinement.{IsUnionOf, unclosed};
 ghost use Rattle.theory.specs.Segments.{OnThree};
 ghost use Rattle.theory.specs.Topology.{forms_of};
 
-use crate::extent::Extent;
+use crate::arcs_box::Extent;
 use crate::marking::is_marked;
-use crate::recent::{Recent, count_in_map, count_in_marked_arcs, kept_place, thinned};
-use crate::repeats::repeated;
-use crate::shared::{VertexBits, inside};
+use crate::recent::{Recent, count_in_map, count_in_marked_arcs, kept_place, thin_out};
+use crate::repeats::find_repeated;
 use crate::table::ArcTable;
+use crate::vertex_filter::{VertexFilter, inside};
 use faults::OutOfMemory;
 use grid::pos::Pos;
-use lines::bits::PositionBits;
 use lines::items::Items;
 use lines::line::Line;
-use lines::pair::Pair;
+use lines::pair::PositionPair;
+use lines::position_filter::PositionFilter;
 use lines::ring::Ring;
 use shapes::feature::Feature;
 use shapes::feature_map::FeatureMap;
@@ -44,7 +44,7 @@ use std::marker::Model;
 #[derive(Clone, Copy, PartialEq, Eq, Debug)]
 pub(crate) struct Visit {
     pub(crate) vertex: Pos,
-    sides: Pair,
+    sides: PositionPair,
 }
 
 fn visit_between(before: Pos, here: Pos, next: Pos) -> Visit
@@ -52,13 +52,13 @@ fn visit_between(before: Pos, here: Pos, next: Pos) -> Visit
 {
     Visit {
         vertex: here,
-        sides: Pair::of(before, next),
+        sides: PositionPair::of(before, next),
     }
 }
 
 /// What lines and rings are seen to visit: the ends of the lines apart from the other visits.
 #[derive(Drop)]
-struct Seen {
+struct VisitsSeen {
     ends: Vec<Pos>,
     visits: Vec<Visit>,
     /// Where a visit was noted, by its vertex. It is only a hint: most visits of a map whose rings share
@@ -79,13 +79,13 @@ fn stands_at(visits: &[Visit], index: usize, visit: Visit) -> bool
     }
 }
 
-impl Seen {
+impl VisitsSeen {
     /// Nothing is seen yet; so many visits may be noted.
-    fn nothing(alloc: Global, visits: usize) -> Result<Seen, AllocError>
+    fn nothing(alloc: Global, visits: usize) -> Result<VisitsSeen, AllocError>
         ensures ends { IfOk result (λ s. s.ends.items ≡ []) }
         ensures visits { IfOk result (λ s. s.visits.items ≡ []) }
     {
-        Ok(Seen {
+        Ok(VisitsSeen {
             ends: Vec::new(alloc),
             visits: Vec::new(alloc),
             recent: Recent::for_positions(alloc, visits)?,
@@ -218,7 +218,7 @@ impl Seen {
     /// The same for an arc of which the other table may have an inner vertex.
     fn see_met(
         &mut self,
-        other: &VertexBits,
+        other: &VertexFilter,
         arc: &[Pos],
         free: bool,
         near: bool,
@@ -239,7 +239,7 @@ impl Seen {
     /// it; and answers whether it may.
     fn see_arc(
         &mut self,
-        other: &VertexBits,
+        other: &VertexFilter,
         arc: &[Pos],
         free: bool,
         near: bool,
@@ -255,7 +255,7 @@ impl Seen {
 
     fn see_numbered(
         &mut self,
-        other: &VertexBits,
+        other: &VertexFilter,
         table: &ArcTable,
         number: usize,
         near: bool,
@@ -277,7 +277,7 @@ impl Seen {
     fn see_arcs(
         &mut self,
         alloc: Global,
-        other: &VertexBits,
+        other: &VertexFilter,
         table: &ArcTable,
         near: &[bool],
     ) -> Result<Vec<bool>, AllocError>
@@ -388,7 +388,7 @@ fn keep_clashes(kept: &mut Vec<Pos>, visits: &[Visit]) -> Result<(), AllocError>
 pub struct VisitIndex {
     junctions: Vec<Pos>,
     /// Most positions are no junctions, and find their bits not set: they need no look-up.
-    bits: PositionBits,
+    bits: PositionFilter,
 }
 
 impl Model for VisitIndex {
@@ -414,16 +414,16 @@ pub struct ArcsIndex {
 }
 
 impl VisitIndex {
-    fn of_seen(alloc: Global, seen: Seen) -> Result<VisitIndex, AllocError>
+    fn of_seen(alloc: Global, seen: VisitsSeen) -> Result<VisitIndex, AllocError>
         ensures { IfOk result (λ i. (g : Geometry Pos) (all : List Visiting) → KeepsClashes seen.visits.items all → AreVisitsOf seen.ends.items all g → IsIndexOf i g) }
     {
-        let Seen { ends, visits, .. } = seen;
-        let mut repeats = repeated(alloc, &visits)?;
+        let VisitsSeen { ends, visits, .. } = seen;
+        let mut repeats = find_repeated(alloc, &visits)?;
         repeats.sort_unstable_by_key(|v| v.vertex);
-        let mut junctions = thinned(alloc, &ends)?;
+        let mut junctions = thin_out(alloc, &ends)?;
         keep_clashes(&mut junctions, &repeats)?;
         junctions.sort_unstable();
-        let bits = PositionBits::of(alloc, &junctions)?;
+        let bits = PositionFilter::of(alloc, &junctions)?;
         Ok(VisitIndex { junctions, bits })
     }
 
@@ -436,7 +436,7 @@ impl VisitIndex {
     {
         let mut sorted = junctions;
         sorted.sort_unstable();
-        let bits = PositionBits::of(alloc, &sorted)?;
+        let bits = PositionFilter::of(alloc, &sorted)?;
         Ok(VisitIndex {
             junctions: sorted,
             bits,
@@ -447,7 +447,7 @@ impl VisitIndex {
     pub fn of(alloc: Global, map: &FeatureMap) -> Result<VisitIndex, OutOfMemory>
         ensures { IfOk result (λ i. IsIndexOf i (geometry_of map.now)) }
     {
-        let mut seen = Seen::nothing(alloc, count_in_map(map))?;
+        let mut seen = VisitsSeen::nothing(alloc, count_in_map(map))?;
         seen.see_layers(map)?;
         let index = VisitIndex::of_seen(alloc, seen)?;
         Ok(index)
@@ -473,11 +473,11 @@ impl VisitIndex {
     {
         let left_extent = Extent::around(left);
         let right_extent = Extent::around(right);
-        let of_left = VertexBits::of(alloc, left, left_extent, &right_extent)?;
-        let of_right = VertexBits::of(alloc, right, right_extent, &left_extent)?;
+        let of_left = VertexFilter::of(alloc, left, left_extent, &right_extent)?;
+        let of_right = VertexFilter::of(alloc, right, right_extent, &left_extent)?;
         let left_count = count_in_marked_arcs(left, &of_left.near);
         let right_count = count_in_marked_arcs(right, &of_right.near);
-        let mut seen = Seen::nothing(alloc, left_count.saturating_add(right_count))?;
+        let mut seen = VisitsSeen::nothing(alloc, left_count.saturating_add(right_count))?;
         let left_marks = seen.see_arcs(alloc, &of_right, left, &of_left.near)?;
         let right_marks = seen.see_arcs(alloc, &of_left, right, &of_right.near)?;
         let index = VisitIndex::of_seen(alloc, seen)?;

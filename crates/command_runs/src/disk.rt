@@ -29,7 +29,7 @@ pub struct Disk {
 }
 
 /// What a copy says where memory is refused.
-fn copied(alloc: Global, bytes: &[u8]) -> Result<Vec<u8>, FileFault> {
+fn copy_of(alloc: Global, bytes: &[u8]) -> Result<Vec<u8>, FileFault> {
     match Vec::from_slice(alloc, bytes) {
         Ok(copy) => Ok(copy),
         Err(_) => Err(FileFault::OutOfMemory),
@@ -123,7 +123,7 @@ impl Disk {
 impl Files for Disk {
     fn read_file(&mut self, alloc: Global, name: &str) -> Result<Vec<u8>, FileFault> {
         match self.file(name) {
-            Some(bytes) => copied(alloc, bytes),
+            Some(bytes) => copy_of(alloc, bytes),
             None => Err(FileFault::Unreadable),
         }
     }
@@ -144,12 +144,7 @@ impl Files for Disk {
         }
     }
 
-    fn create_output(
-        &mut self,
-        _alloc: Global,
-        name: &str,
-        _like: &str,
-    ) -> Result<(), OutputFault> {
+    fn create_output(&mut self, name: &str, _like: &str) -> Result<(), OutputFault> {
         if self.is_refused(Call::Create) {
             return Err(OutputFault::Unwritable);
         }

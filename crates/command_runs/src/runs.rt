@@ -10,7 +10,7 @@ struct Memory<'a> {
     files: &'a [(String, Vec<u8>)],
 }
 
-fn copied(alloc: Global, bytes: &[u8]) -> Result<Vec<u8>, FileFault> {
+fn copy_of(alloc: Global, bytes: &[u8]) -> Result<Vec<u8>, FileFault> {
     match Vec::from_slice(alloc, bytes) {
         Ok(copy) => Ok(copy),
         Err(_) => Err(FileFault::OutOfMemory),
@@ -21,7 +21,7 @@ impl Files for Memory<'_> {
     fn read_file(&mut self, alloc: Global, name: &str) -> Result<Vec<u8>, FileFault> {
         for (known, bytes) in self.files {
             if known.as_str() == name {
-                return copied(alloc, bytes.as_slice());
+                return copy_of(alloc, bytes.as_slice());
             }
         }
         Err(FileFault::Unreadable)
@@ -122,20 +122,28 @@ pub struct Outcome {
 }
 
 impl Outcome {
-    /// The text that the run printed, where it ended with status 0 and told nothing.
+    /// The text that the run printed, where it ended with status 0 and reported nothing.
     ///
     /// # Errors
     /// The title, and what the run ended with.
     pub fn into_text(self, title: &str) -> Result<String, Fail> {
-        if self.status != 0 || !self.err.is_empty() {
-            return Err(self.told(title));
+        self.into_text_of(title, 0)
+    }
+
+    /// The same where it ended with this status.
+    ///
+    /// # Errors
+    /// The title, and what the run ended with.
+    pub fn into_text_of(self, title: &str, status: u8) -> Result<String, Fail> {
+        if self.status != status || !self.err.is_empty() {
+            return Err(self.failure(title));
         }
         Ok(self.out)
     }
 
     /// A failure that tells what the run ended with.
-    fn told(&self, title: &str) -> Fail {
-        let (told, printed) = (self.err.as_str(), self.out.as_str());
-        Fail::new(format_args!("{title}: status {}\n{told}{printed}", self.status))
+    fn failure(&self, title: &str) -> Fail {
+        let (err, out) = (self.err.as_str(), self.out.as_str());
+        Fail::new(format_args!("{title}: status {}\n{err}{out}", self.status))
     }
 }

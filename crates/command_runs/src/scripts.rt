@@ -31,7 +31,9 @@ fn taken_by(answer: Answer) -> usize {
 
 /// Whether a sink took so many bytes of a text, and failed so often.
 pub fn took(sink: &Script, text: &[u8], length: usize, failures: u64) -> bool {
-    text.starts_with(sink.taken()) && sink.taken().len() == length && sink.failures() == failures
+    text.starts_with(sink.bytes_taken())
+        && sink.bytes_taken().len() == length
+        && sink.failures() == failures
 }
 
 impl Run {

@@ -1,3 +1,4 @@
+pub mod QualityLemmas
 pub mod Tables
 pub mod Standings
 pub mod Fated
@@ -6,3 +7,4 @@ pub mod Alike
 pub mod KeyTexts
 pub mod Named
 pub mod Recutting
+pub mod Pairings

@@ -29,23 +29,24 @@ use Rattle.theory.specs.Geometry.{Geometry, IsSound, JunctionOf}
 use Rattle.theory.specs.Lists.{Has, Pairwise}
 use Rattle.theory.proofs.ListsOfLists.{get_has, has_get}
 use Rattle.theory.specs.Refinement.{IsUnionOf}
-use Rattle.recutting.specs.Cutting.{IsRecutOf}
-use Rattle.recutting.specs.Parts.{RecutParts}
+use Rattle.split_arcs.specs.Cutting.{IsRecutOf}
+use Rattle.split_arcs.specs.Parts.{RecutParts}
 use Rattle.topo.specs.OfMap.{IsOf}
 use Rattle.topo.specs.Parts.{LayerParts, TopologyParts}
 use Rattle.topo.specs.declared.geom.Geom.{Geom}
 use Rattle.topo.proofs.Sound.{are_sound}
-use Rattle.layer_laws.specs.CutLaws.{IsListedFor}
-use Rattle.layer_laws.specs.CutLayers.{layer_recut}
-use Rattle.layer_laws.proofs.Ascending.{keys_ascend}
-use Rattle.layer_laws.proofs.EqualLists.{equal_features_equal_lists}
-use Rattle.layer_laws.proofs.JoinedLayers.{IsJoinedLayer}
-use Rattle.layer_laws.proofs.JoinedPairs.{cut_layers}
-use Rattle.layer_laws.proofs.RecutGeometries.{layers_after_recut}
-use Rattle.layer_laws.proofs.UnitedGeometry.{geometries_unite}
+use Rattle.renumbering.specs.LayerLaws.CutLaws.{IsListedFor}
+use Rattle.renumbering.specs.LayerLaws.CutLayers.{layer_recut}
+use Rattle.renumbering.proofs.LayerLawsLemmas.Ascending.{keys_ascend}
+use Rattle.renumbering.proofs.LayerLawsLemmas.EqualLists.{equal_features_equal_lists}
+use Rattle.renumbering.proofs.LayerLawsLemmas.JoinedLayers.{IsJoinedLayer}
+use Rattle.renumbering.proofs.LayerLawsLemmas.JoinedPairs.{cut_layers}
+use Rattle.renumbering.proofs.LayerLawsLemmas.RecutGeometries.{layers_after_recut}
+use Rattle.renumbering.proofs.LayerLawsLemmas.UnitedGeometry.{geometries_unite}
 use Rattle.compare.specs.Compared.{AreInOrder, IsComparisonOf, IsDifferenceByProperty, IsListedLayer, IsNumberOf, IsPairOf, feature_id, geometries_from, geometries_in, name_of}
 use Rattle.compare.specs.Differences.{IsDifference}
 use Rattle.compare.specs.Keyed.{AreKeys, IsKey, feature_key, id_of, key_text}
+use Rattle.compare.specs.Pairing.{IsPairing}
 use Rattle.compare.specs.Placed.{IsDifferenceAt}
 use Rattle.compare.specs.declared.comparison.Comparison.{Comparison}
 use Rattle.compare.specs.declared.difference.LayerDifference.{LayerDifference}
@@ -104,7 +105,7 @@ abbrev R : List ℕ → List ℕ → Ordering
 R = slice_cmp nat_cmp
 
 module _ (g : Geometry Pos) (arcs : List (List Pos)) where
-  same_names : (es : List (List ℕ × Features)) (ls : List LayerParts) → Pairwise (IsListedLayer g arcs) es ls → map_list (λ e. e.0) es ≡ map_list name_of ls
+  pub same_names : (es : List (List ℕ × Features)) (ls : List LayerParts) → Pairwise (IsListedLayer g arcs) es ls → map_list (λ e. e.0) es ≡ map_list name_of ls
   same_names [] [] p = refl
   same_names [] (l ∷ ls) p = absurd p
   same_names (e ∷ es) [] p = absurd p
@@ -243,3 +244,11 @@ pub at_pair : {E : Type 0} (c : Comparison) (q : List ℕ) (p : LayerPair) (r : 
     IfOk r (λ d. (m n : Layers) → IsComparisonOf m n c → IsDifference feature_id (set.items (features_at m q)) (set.items (features_at n q)) d)
 at_pair c q p (Ok d) named is = λ m n h. is m n q h (named m n h)
 at_pair c q p (Err e) named is = tt
+
+pub all_pairs : {V E : Type 0} (items : V → List LayerPair) (c : Comparison) (ls ks : List LayerParts) (r : Result V E) → ls ≡ c.old.items → ks ≡ c.new.items →
+    IfOk r (λ v. AreInOrder ls → AreInOrder ks → IsPairing ls ks (items v)) → IfOk r (λ v. (m n : Layers) → IsComparisonOf m n c → IsPairing c.old.items c.new.items (items v))
+all_pairs items c ls ks (Ok v) a b is = λ m n h.
+    subst (λ w. IsPairing c.old.items w (items v)) b
+    (subst (λ w. IsPairing w ks (items v)) a
+    (is (subst AreInOrder (sym a) (in_order (geometry_of (union m n)) h.arcs m c.old.items h.old)) (subst AreInOrder (sym b) (in_order (geometry_of (union m n)) h.arcs n c.new.items h.new))))
+all_pairs items c ls ks (Err e) a b is = tt

@@ -1,5 +1,5 @@
 -- Two topologies by the same arcs.
-use Rattle.std.specs.Prelude.{◌≡◌, ℕ, List, [], ◌∷◌, Option, Some, None, slice_get, map as map_list}
+use Rattle.std.specs.Prelude.{◌≡◌, ℕ, List, [], Option, Some, None, slice_get, map as map_list}
 use Rattle.std.specs.Cmp.Lexicographic.{slice_cmp}
 use Rattle.std.specs.FinMap as map
 use Rattle.std.specs.List.Sorted.{IsStrictlySortedBy}
@@ -18,7 +18,7 @@ use Rattle.theory.specs.Geometry.{Geometry}
 use Rattle.theory.specs.Lists.{Has, Pairwise}
 use Rattle.topo.specs.Parts.{LayerParts}
 use Rattle.topo.specs.declared.geom.Geom.{Geom}
-use Rattle.layer_laws.specs.CutLaws.{IsListedFor}
+use Rattle.renumbering.specs.LayerLaws.CutLaws.{IsListedFor}
 use Rattle.compare.specs.Differences.{IsDifferenceBy}
 use Rattle.compare.specs.Keyed.{feature_key}
 use Rattle.compare.specs.declared.comparison.Comparison.{Comparison}
@@ -64,10 +64,14 @@ pub record IsComparisonOf (m n : Layers) (c : Comparison) : Type 0 where
   pub old : Pairwise (IsListedLayer (geometry_of (union m n)) arcs) (map.entries m) c.old.items
   pub new : Pairwise (IsListedLayer (geometry_of (union m n)) arcs) (map.entries n) c.new.items
 
--- the pair tells the layers of the name
-pub record IsPairOf (c : Comparison) (q : List ℕ) (p : LayerPair) : Type 0 where
-  pub old : IsNumberOf c.old.items q p.old
-  pub new : IsNumberOf c.new.items q p.new
+-- the pair has the layers of the name in the two lists, None for a list that has no such layer
+pub record IsPairIn (olds news : List LayerParts) (q : List ℕ) (p : LayerPair) : Type 0 where
+  pub old : IsNumberOf olds q p.old
+  pub new : IsNumberOf news q p.new
+
+-- the pair has the layers of the name
+abbrev pub IsPairOf : Comparison → List ℕ → LayerPair → Type 0
+IsPairOf c = IsPairIn c.old.items c.new.items
 
 -- the features of the layers of a name pair by a property: none of those where it is missing or null
 abbrev pub IsDifferenceByProperty : List ℕ → List Feature → List Feature → LayerDifference → Type 0

@@ -23,7 +23,7 @@ once None = None
 once (Some (Once k)) = Some k
 once (Some Again) = None
 
--- the orders of what is lent
+-- the orders of what is borrowed
 abbrev pub lent_cmp : Bor Geom → Bor Geom → Ordering
 lent_cmp a b = geometry_order.cmp-value.it a.now b.now
 
@@ -36,7 +36,7 @@ abbrev pub Found : Option ℕ → Type 0
 Found None = ⊥
 Found (Some k) = Unit {0}
 
--- the geometry stands at a place below n
+-- the geometry is at a place below n
 abbrev pub StandsBelow : List Geom → ℕ → Geom → Type 0
 StandsBelow gs n g = (k : ℕ) × (k < n) × (slice_get gs k ≡ Some g)
 
@@ -44,18 +44,18 @@ StandsBelow gs n g = (k : ℕ) × (k < n) × (slice_get gs k ≡ Some g)
 abbrev pub Knows : List Geom → ℕ → tree.BTreeMap (Bor Geom) ℕ → Type 0
 Knows gs n m = (q : Bor Geom) → Found (tree.get lent_cmp m q) ↔ StandsBelow gs n q.now
 
--- where a key stands once it stands at n, by where it stood below
+-- where a key occurs once it is at n, by where it stood below
 abbrev pub standing_after : ℕ → Option Standing → Standing
 standing_after n None = Once n
 standing_after n (Some s) = Again
 
--- where the key stands among the first n
+-- where the key is among the first n
 abbrev pub StandsAs : List Id → ℕ → Id → Option Standing → Type 0
 StandsAs ks n x None = (j : ℕ) → j < n → ¬ (slice_get ks j ≡ Some x)
 StandsAs ks n x (Some (Once k)) = (k < n) × (slice_get ks k ≡ Some x) × ((j : ℕ) → j < n → slice_get ks j ≡ Some x → j ≡ k)
 StandsAs ks n x (Some Again) = (j : ℕ) × (k : ℕ) × (¬ (j ≡ k)) × (slice_get ks j ≡ Some x) × (slice_get ks k ≡ Some x)
 
--- the table has where each key stands among the first n
+-- the table has where each key is among the first n
 abbrev pub standings_of : List Id → ℕ → tree.BTreeMap (Bor Id) Standing → Type 0
 standings_of ks n m = (q : Bor Id) → StandsAs ks n q.now (tree.get lent_id_cmp m q)
 

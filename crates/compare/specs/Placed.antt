@@ -1,4 +1,4 @@
--- What differs between two lists of geometries, beside each of which stand the keys of its members.
+-- What differs between two lists of geometries, beside each of which are the keys of its members.
 use Rattle.std.specs.Prelude.{◌≡◌, ◌↔◌, ◌<◌, ℕ, List, Some, slice_get, map}
 use Rattle.std.specs.List.Sorted.{IsStrictlyIncreasing}
 use Rattle.shapes.specs.declared.shape.Id.{Id}
@@ -9,13 +9,13 @@ use Rattle.compare.specs.Differences.{Climbs}
 use Rattle.compare.specs.declared.difference.Changed.{Changed}
 use Rattle.compare.specs.declared.difference.LayerDifference.{LayerDifference}
 
--- k is a key that stands at place i alone
+-- k is a key that is at place i alone
 pub record IsOnly (ks : List Id) (i : ℕ) (k : Id) : Type 0 where
   pub at : slice_get ks i ≡ Some k
   pub some : ¬ (k ≡ id.None)
   pub only : (j : ℕ) → slice_get ks j ≡ Some k → j ≡ i
 
--- the geometry at place i is none of the other list, and its key stands there and at place j of the other list alone
+-- the geometry at place i is none of the other list, and its key is there and at place j of the other list alone
 pub record ArePartnersAt (gs hs : List Geom) (ks ls : List Id) (i j : ℕ) : Type 0 where
   pub old : Geom
   pub key : Id

@@ -2,11 +2,12 @@
 ghost use Rattle.compare.specs.Compared.{AreInOrder, IsComparisonOf, IsDifferenceByProperty, IsNumberOf, IsPairOf, feature_id, geometries_from};
 ghost use Rattle.compare.specs.Differences.{IsDifference};
 ghost use Rattle.compare.specs.Keyed.{AreKeys, id_of};
+ghost use Rattle.compare.specs.Pairing.{IsPairing};
 ghost use Rattle.compare.specs.Placed.{IsDifferenceAt};
 ghost use Rattle.compare.specs.declared.fault.CompareFault.TheVariants.{OtherGrid};
-ghost use Rattle.layer_laws.specs.CutLayers.{layer_recut};
-ghost use Rattle.layer_laws.specs.Cuts as cuts;
-ghost use Rattle.recutting.specs.Parts.{of_side};
+ghost use Rattle.renumbering.specs.LayerLaws.CutLayers.{layer_recut};
+ghost use Rattle.renumbering.specs.LayerLaws.Cuts as cuts;
+ghost use Rattle.split_arcs.specs.Parts.{of_side};
 ghost use Rattle.shapes.specs.Maps.{Layers, features_at};
 ghost use Rattle.shapes.specs.Sets as set;
 ghost use Rattle.shapes.specs.declared.shape.Id.{Id};
@@ -20,8 +21,8 @@ use crate::pairs::{LayerPair, pairs_of};
 use crate::property::keys_of;
 use chains::table::ArcRef;
 use faults::OutOfMemory;
-use recutting::{Recut, Side, recut_owned};
-use rewriting::{NewLists, layers_rewritten};
+use renumbering::{NewLists, layers_rewritten};
+use split_arcs::{Recut, Side, recut_owned};
 use std::alloc::{AllocError, Global};
 use topo::{Geom, Layer, Topology};
 
@@ -159,7 +160,9 @@ impl Comparison {
     }
 
     /// The layers of each name that either topology has, in the order of the names.
-    pub fn pairs(&self, alloc: Global) -> Result<Vec<LayerPair>, AllocError> {
+    pub fn pairs(&self, alloc: Global) -> Result<Vec<LayerPair>, AllocError>
+        ensures { IfOk result (λ v. (m n : Layers) → IsComparisonOf m n self.now → IsPairing self.now.old.items self.now.new.items v.items) }
+    {
         pairs_of(alloc, &self.old, &self.new)
     }
 

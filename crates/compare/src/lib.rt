@@ -10,6 +10,7 @@ mod keys;
 mod pairs;
 mod partners;
 mod property;
+pub mod quality;
 
 pub use comparison::{Comparison, compare};
 pub use difference::{Changed, LayerDifference};

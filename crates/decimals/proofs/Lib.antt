@@ -7,3 +7,5 @@ pub mod Shortness
 pub mod Printed
 pub mod Amounts
 pub mod Offsets
+pub mod GeojsonLemmas
+pub mod TopologyLemmas

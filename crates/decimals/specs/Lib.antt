@@ -5,3 +5,5 @@ pub mod Laws
 pub mod Short
 pub mod Amount
 pub mod Offset
+pub mod Geojson
+pub mod Topology

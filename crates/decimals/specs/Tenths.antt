@@ -7,7 +7,7 @@ use Rattle.fast_float.specs.Text.{Parts, tens_up, tens_down}
 abbrev pub first_digits : List ℕ → ℕ → ℕ
 first_digits ds kept = digits_value 10 (take kept ds) * 10 ^ (kept - length ds)
 
--- how many digits stand before the point, once it is moved by the exponent and so many places
+-- how many digits are before the point, once it is moved by the exponent and so many places
 abbrev pub kept_of : ℕ → Parts → ℕ
 kept_of places p = length (p.whole ++ p.fraction) + (tens_up p + places) - tens_down p
 

@@ -9,7 +9,7 @@ ghost use Rattle.std.specs.Prelude.{◌≡◌, ◌↔◌, ◌+◌, ◌-◌, ◌^
 
 use crate::digits::{CAP, places_of, size_of};
 use crate::rounding::without_sign;
-use crate::step::Step;
+use crate::step::DecimalStep;
 use fast_float::Numeral;
 use itoa::Buffer;
 use std::alloc::{AllocError, Global};
@@ -82,7 +82,7 @@ impl Decimal {
     }
 
     /// So many steps, or None where the step has more than `GREATEST_PLACES` places.
-    pub fn of_steps(steps: i64, step: &Step) -> Option<Decimal>
+    pub fn of_steps(steps: i64, step: &DecimalStep) -> Option<Decimal>
         ensures { SomeIff result (step.now.places ≤ 30) (steps_amount step.now steps) }
     {
         let size = step.size() as i128;

@@ -60,7 +60,7 @@ fn capped_behind(value: u128, digits: &[u8]) -> u128
 }
 
 // The same, with as many digits as a machine word holds read first.
-fn capped(value: u128, digits: &[u8]) -> u128
+fn capped_number(value: u128, digits: &[u8]) -> u128
     requires value { value ≤ CAP }
     requires digits { AllDigits 10 digits.now }
     ensures { result ≡ min (digits_value_after 10 value digits.now) CAP }
@@ -99,8 +99,8 @@ fn first(whole: &[u8], fraction: &[u8], kept: u128) -> u128
 {
     let of_whole = kept.min(whole.len() as u128);
     let of_fraction = (kept - of_whole).min(fraction.len() as u128);
-    let value = capped(0, &whole[..of_whole as usize]);
-    let value = capped(value, &fraction[..of_fraction as usize]);
+    let value = capped_number(0, &whole[..of_whole as usize]);
+    let value = capped_number(value, &fraction[..of_fraction as usize]);
     with_zeros(value, kept - of_whole - of_fraction)
 }
 
@@ -109,7 +109,7 @@ fn kept_of(numeral: &Numeral<'_>, places: u64) -> u128
     ensures { IsKept places numeral.now result }
 {
     let (whole, fraction) = (numeral.whole(), numeral.fraction());
-    let exponent = capped(0, numeral.exponent());
+    let exponent = capped_number(0, numeral.exponent());
     let all = (whole.len() as u128 + fraction.len() as u128) + u128::from(places);
     if numeral.is_exponent_negative() {
         all.saturating_sub(fraction.len() as u128 + exponent)
@@ -142,11 +142,11 @@ pub(crate) fn tenths(numeral: &Numeral<'_>, places: u32) -> u128
 pub(crate) fn size_of(numeral: &Numeral<'_>) -> u128
     ensures { result ≡ min (digits_of numeral.now * 10 ^ tens_up numeral.now) CAP }
 {
-    let value = capped(capped(0, numeral.whole()), numeral.fraction());
+    let value = capped_number(capped_number(0, numeral.whole()), numeral.fraction());
     if numeral.is_exponent_negative() {
         return value;
     }
-    with_zeros(value, capped(0, numeral.exponent()))
+    with_zeros(value, capped_number(0, numeral.exponent()))
 }
 
 /// How many places the digits are behind the point, with those of a negative exponent, or `CAP` where
@@ -158,7 +158,7 @@ pub(crate) fn places_of(numeral: &Numeral<'_>) -> u128
     if !numeral.is_exponent_negative() {
         return digits;
     }
-    (digits + capped(0, numeral.exponent())).min(CAP)
+    (digits + capped_number(0, numeral.exponent())).min(CAP)
 }
 
 // Whether all digits are zeros.

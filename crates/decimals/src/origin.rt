@@ -9,7 +9,7 @@ ghost use Rattle.std.specs.Prelude.{◌≡◌, ◌↔◌, ℕ, ◌+◌, ◌*◌,
 use crate::decimal::Decimal;
 use crate::digits::{floor_at, is_nothing_behind};
 use crate::rounding::without_sign;
-use crate::step::Step;
+use crate::step::DecimalStep;
 use fast_float::Numeral;
 use std::marker::Model;
 
@@ -53,7 +53,7 @@ pub struct Offset {
 
 impl Origin {
     /// The origin 0, of which the offsets have so many places more than the step.
-    pub fn zero(step: &Step, further: u32) -> Origin
+    pub fn zero(step: &DecimalStep, further: u32) -> Origin
         ensures { result ≡ amount (pos 0) (step.now.places + further) }
     {
         Origin {
@@ -63,7 +63,7 @@ impl Origin {
     }
 
     /// An origin, or None where it has more than four digits behind those of the step, or 30 digits in all with those.
-    pub fn new(origin: Decimal, step: &Step) -> Option<Origin>
+    pub fn new(origin: Decimal, step: &DecimalStep) -> Option<Origin>
         ensures { SomeIff result (HasOrigin step.now origin) (origin_of step.now origin) }
     {
         let places = step.places().checked_add(FURTHER)?;
@@ -102,7 +102,7 @@ impl Origin {
 }
 
 // So many whole numbers, and a little more where that is not exact.
-fn measured(along: i128, is_exact: bool) -> Offset
+fn offset_of(along: i128, is_exact: bool) -> Offset
     requires { unsigned_abs along ≤ 10 ^ 31 }
     ensures { (d r : ℕ) → r < d → (IsTrue is_exact ↔ (r ≡ 0)) → IsOffsetOf ((along *ℤ pos d) +ℤ pos r) d result }
 {
@@ -135,9 +135,9 @@ fn difference(negative: bool, size: u128, is_exact: bool, value: i128) -> Offset
 {
     let size = size as i128;
     if !negative {
-        return measured(size - value, is_exact);
+        return offset_of(size - value, is_exact);
     }
-    let back = measured(size + value, is_exact);
+    let back = offset_of(size + value, is_exact);
     Offset {
         is_negative: !back.is_negative,
         ..back

@@ -8,7 +8,7 @@ ghost use Rattle.std.specs.Str.Parse.{starts_with_minus};
 
 use crate::digits::tenths;
 use crate::short::read_short;
-use crate::step::Step;
+use crate::step::DecimalStep;
 use fast_float::Numeral;
 use grid::limits::GREATEST_GRID_NUMBER;
 
@@ -32,7 +32,7 @@ fn with_sign(negative: bool, steps: u64) -> i64
 }
 
 // The whole number of steps that is nearest to a numeral with no sign, or None beyond the limits.
-fn nearest(numeral: &Numeral<'_>, step: &Step) -> Option<u64>
+fn nearest(numeral: &Numeral<'_>, step: &DecimalStep) -> Option<u64>
     ensures limits { IsMeasure step.now }
     ensures exact { (q : ℕ) → (result ≡ Some q) ↔ (IsRounded (digits_of numeral.now * 10 ^ (tens_up numeral.now + step.now.places))
         (step.now.size * 10 ^ tens_down numeral.now) q × (q ≤ 2 ^ 40)) }
@@ -46,7 +46,7 @@ fn nearest(numeral: &Numeral<'_>, step: &Step) -> Option<u64>
 }
 
 // The same for a text with no sign, or None where it is no numeral.
-fn nearest_of(unsigned: &[u8], step: &Step) -> Option<u64>
+fn nearest_of(unsigned: &[u8], step: &DecimalStep) -> Option<u64>
     ensures limits { IsUnsigned unsigned.now → IsMeasure step.now }
     ensures exact { (q : ℕ) → (result ≡ Some q) ↔ (IsUnsigned unsigned.now × IsRounded (digits_of (scan unsigned.now) * 10 ^ (tens_up (scan unsigned.now) + step.now.places))
         (step.now.size * 10 ^ tens_down (scan unsigned.now)) q × (q ≤ 2 ^ 40)) }
@@ -66,7 +66,7 @@ fn nearest_of(unsigned: &[u8], step: &Step) -> Option<u64>
 /// The whole number of steps that is nearest to a decimal numeral, as 30 for `7.413` at the step 0.25; of two
 /// that are equally near the one farther from 0. None where the text is no numeral or the number is no
 /// grid number.
-pub fn snap(text: &[u8], step: &Step) -> Option<i64>
+pub fn snap(text: &[u8], step: &DecimalStep) -> Option<i64>
     ensures { (p : ℤ) → (result ≡ Some p) ↔ (IsNumeral text.now × IsSnapped step.now text.now p × IsGridNumber p) }
 {
     let (negative, unsigned) = without_sign(text);

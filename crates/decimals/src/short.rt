@@ -4,7 +4,7 @@ ghost use Rattle.decimals.specs.Numeral.{IsMeasure};
 ghost use Rattle.decimals.specs.Short.{IsFront, IsShort};
 ghost use Rattle.std.specs.Prelude.{◌≡◌, ◌↔◌, ◌*◌, ◌^◌, ◌≤◌, ℕ, IfSome, IsTrue, Some};
 
-use crate::step::Step;
+use crate::step::DecimalStep;
 use grid::limits::GREATEST_GRID_NUMBER;
 
 /// From where on a machine word may not hold one more digit, 10^17.
@@ -72,14 +72,14 @@ pub(crate) fn read_short(text: &[u8]) -> Option<Short>
 
 impl Short {
     /// Whether `nearest` takes it at this step.
-    pub(crate) fn is_few(&self, step: &Step) -> bool
+    pub(crate) fn is_few(&self, step: &DecimalStep) -> bool
         ensures { IsTrue result → (self.now.places ≤ 18) × (step.now.places ≤ 12) }
     {
         self.places <= FEW_DIGITS && step.places() <= FEW_PLACES
     }
 
     /// The whole number of steps that is nearest to it, or None beyond the limits.
-    pub(crate) fn nearest(&self, step: &Step) -> Option<u64>
+    pub(crate) fn nearest(&self, step: &DecimalStep) -> Option<u64>
         requires { (self.now.places ≤ 18) × (step.now.places ≤ 12) }
         ensures limits { IsMeasure step.now }
         ensures exact { (q : ℕ) → (result ≡ Some q) ↔ (IsRounded (self.now.digits * 10 ^ step.now.places) (step.now.size * 10 ^ self.now.places) q × (q ≤ 2 ^ 40)) }

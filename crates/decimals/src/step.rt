@@ -13,12 +13,12 @@ pub const GREATEST_SIZE: u64 = 1_000_000_000_000;
 /// The step of a grid: `size` over the power of ten `10^places`, as 25 and 2 for 0.25. Sizes are from 1 to
 /// `GREATEST_SIZE`.
 #[derive(Clone, Copy, PartialEq, Eq, Debug)]
-pub struct Step {
+pub struct DecimalStep {
     size: u64,
     places: u32,
 }
 
-impl Model for Step {
+impl Model for DecimalStep {
     ghost use Rattle.decimals.specs.Numeral.{Measure, IsMeasure, measure};
 
     ghost Value = { Measure };
@@ -30,21 +30,21 @@ impl Model for Step {
     ghost inverse = { λ m. record { size = m.size; places = m.places } };
 }
 
-impl Step {
+impl DecimalStep {
     /// The step, or None where the size is outside its limits.
-    pub fn new(size: u64, places: u32) -> Option<Step>
+    pub fn new(size: u64, places: u32) -> Option<DecimalStep>
         ensures given { IfSome result (λ s. s ≡ measure size places) }
         ensures exact { IsSome result ↔ IsMeasure (measure size places) }
     {
         if size < 1 || size > GREATEST_SIZE {
             return None;
         }
-        Some(Step { size, places })
+        Some(DecimalStep { size, places })
     }
 
     /// The step that a numeral with no sign writes, as 0.25 or 1e-6, or None where the text is none or the size
     /// is outside its limits, digits as they are written: 0.250 has the size 250.
-    pub fn parse(text: &[u8]) -> Option<Step>
+    pub fn parse(text: &[u8]) -> Option<DecimalStep>
         ensures given { IfSome result (λ s. s ≡ measure_of text.now) }
         ensures exact { IsSome result ↔ (IsUnsigned text.now × IsMeasure (measure_of text.now) × (tens_down (scan text.now) < 2 ^ 32)) }
     {
@@ -56,7 +56,7 @@ impl Step {
         if size > GREATEST_SIZE as u128 || places > u32::MAX as u128 {
             return None;
         }
-        Step::new(size as u64, places as u32)
+        DecimalStep::new(size as u64, places as u32)
     }
 
     /// The step times the power of ten of its places.

@@ -7,7 +7,7 @@ use Rattle.theory.specs.LinesAndRings.{IsRing, closed}
 use Rattle.theory.specs.Lists.{Distinct, Each, Has}
 use Rattle.theory.specs.TopologyFunction.{some}
 use Rattle.theory.proofs.Lists.{Distinct-snoc, front-snoc}
-use Rattle.theory.proofs.StandingLists.{Simple-Trail}
+use Rattle.theory.proofs.ValidLists.{Simple-Trail}
 use Rattle.lines.specs.Pairs.{position_eq}
 use Rattle.lines.proofs.Positions.{position_refl, position_true}
 use Rattle.fixing.specs.Laws.{IsSimpleRing}

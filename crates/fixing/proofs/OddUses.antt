@@ -10,7 +10,7 @@ use Rattle.theory.proofs.Lists.{append_nil}
 use Rattle.lines.specs.Pairs.{pair_eq, pair_of, position_eq}
 use Rattle.lines.specs.Segments.{segments_from, segments_of}
 use Rattle.lines.specs.Turned.{position_cmp}
-use Rattle.lines.specs.declared.pair.Pair.{Pair}
+use Rattle.lines.specs.declared.pair.PositionPair.{PositionPair}
 use Rattle.lines.proofs.Pairs.{pair_flip, pair_true}
 use Rattle.lines.proofs.Positions.{position_refl}
 use Rattle.fixing.specs.Loops.{loop_kept, loops_of, loops_on, path_from, path_to}
@@ -18,7 +18,7 @@ use Rattle.fixing.specs.Uses.{uses}
 use Rattle.fixing.proofs.LoopLaws.{IsParted, parted}
 use Rattle.fixing.proofs.RunLaws.{gathered_join}
 
-uses_join : (s : Pair) (a b : List Pair) → uses s (a ++ b) ≡ uses s a + uses s b
+uses_join : (s : PositionPair) (a b : List PositionPair) → uses s (a ++ b) ≡ uses s a + uses s b
 uses_join s [] b = omega arith
 uses_join s (t ∷ a) b = let e = uses_join s a b in omega arith
 
@@ -31,10 +31,10 @@ segments_parted (x ∷ a) p b = from x a
     from x [] = refl
     from x (y ∷ a) = ap (λ w. pair_of x y ∷ w) (from y a)
 
-one_end : (s : Pair) (p : Pos) → ¬ (s.lesser ≡ s.greater) → pair_eq s (pair_of p p) ≡ false
+one_end : (s : PositionPair) (p : Pos) → ¬ (s.lesser ≡ s.greater) → pair_eq s (pair_of p p) ≡ false
 one_end s p n = go (pair_eq s (pair_of p p)) refl
   where
-    ends : (t : Bool) → ◌≡◌ {A = Pair} s (cond t (record { lesser = p; greater = p }) (record { lesser = p; greater = p })) → s.lesser ≡ s.greater
+    ends : (t : Bool) → ◌≡◌ {A = PositionPair} s (cond t (record { lesser = p; greater = p }) (record { lesser = p; greater = p })) → s.lesser ≡ s.greater
     ends true e = ap (λ w. w.lesser) e ∙ sym (ap (λ w. w.greater) e)
     ends false e = ap (λ w. w.lesser) e ∙ sym (ap (λ w. w.greater) e)
 
@@ -47,7 +47,7 @@ abbrev pub IsLeftOf : ℕ → ℕ → Type 0
 IsLeftOf n m = (gone : ℕ) × (n ≡ m + (gone + gone))
 
 -- a loop that is kept uses a segment as often as is said, and one that is not uses it twice or never
-kept_uses : (s : Pair) → ¬ (s.lesser ≡ s.greater) → (p : Pos) (rest : List Pos) →
+kept_uses : (s : PositionPair) → ¬ (s.lesser ≡ s.greater) → (p : Pos) (rest : List Pos) →
     IsLeftOf (uses s (segments_of ((p ∷ rest) ++ (p ∷ [])))) (uses s (gathered segments_of (loop_kept ((p ∷ rest) ++ (p ∷ [])))))
 kept_uses s n p [] = (0, let e = one_end s p n in rw e (omega arith))
 kept_uses s n p (q ∷ []) =
@@ -68,7 +68,7 @@ path_left path [] = path
 path_left path (p ∷ l) = cond (some (position_eq p) path) (path_left (path_to p path) l) (path_left (path ++ (p ∷ [])) l)
 
 -- the segments of a path that goes on behind a loop
-loop_parts : (s : Pair) (p : Pos) (path l : List Pos) → IsParted p path →
+loop_parts : (s : PositionPair) (p : Pos) (path l : List Pos) → IsParted p path →
     uses s (segments_of (path ++ (p ∷ l))) ≡ uses s (segments_of (path_to p path ++ l)) + uses s (segments_of (path_from p path ++ (p ∷ [])))
 loop_parts s p path l parts =
     let front = parts.front in
@@ -89,7 +89,7 @@ loop_parts s p path l parts =
     sums : (whole front loop left both cut closed : ℕ) → whole ≡ front + both → both ≡ loop + left → cut ≡ front + left → closed ≡ loop → whole ≡ cut + closed
     sums whole front loop left both cut closed a b c d = omega arith
 
-loops_uses : (s : Pair) → ¬ (s.lesser ≡ s.greater) → (path l : List Pos) →
+loops_uses : (s : PositionPair) → ¬ (s.lesser ≡ s.greater) → (path l : List Pos) →
     IsLeftOf (uses s (segments_of (path ++ l))) (uses s (gathered segments_of (loops_on path l)) + uses s (segments_of (path_left path l)))
 loops_uses s n path [] = (0, let e = ap (λ w. uses s (segments_of w)) (append_nil path) in e ∙ (omega arith))
 loops_uses s n path (p ∷ l) = go (some (position_eq p) path) refl (loops_uses s n (path_to p path) l) (loops_uses s n (path ++ (p ∷ [])) l)
@@ -147,7 +147,7 @@ back x q p (r ∷ l) e = go (some (position_eq p) (x ∷ q)) (λ s. back x s r l
     go false ih = ih (q ++ (p ∷ []))
 
 -- the loops of a closed list use a segment as often as it does, but for twice as many as are gone
-pub odd_uses : (x : Pos) (l : List Pos) → last_of x l ≡ x → (s : Pair) → ¬ (s.lesser ≡ s.greater) →
+pub odd_uses : (x : Pos) (l : List Pos) → last_of x l ≡ x → (s : PositionPair) → ¬ (s.lesser ≡ s.greater) →
     IsLeftOf (uses s (segments_of (x ∷ l))) (uses s (gathered segments_of (loops_of (x ∷ l))))
 unfolding loops_of
 odd_uses x [] e s n = (0, refl)

@@ -7,7 +7,7 @@ use Rattle.fixing.specs.Laws.{EachRing}
 use Rattle.fixing.specs.Left.{ring_left}
 use Rattle.fixing.specs.Measures.{turns_left}
 use Rattle.fixing.specs.Polygons.{home_of, home_of_hole, polygon_kept, polygons_of, polygons_of_loops, put_at, put_holes, put_others, put_ring, turns_to, with_holes}
-use Rattle.fixing.specs.declared.rules.Rules.{Rules}
+use Rattle.fixing.specs.declared.rules.FixingRules.{FixingRules}
 use Rattle.fixing.proofs.RunLaws.{Each-join}
 
 module _ (P : List Pos → Type 0) where
@@ -52,7 +52,7 @@ module _ (P : List Pos → Type 0) where
           put_others_each (keep (λ ring. not (turns_to left ring)) loops) (polygons_of (keep (turns_to left) loops))
           (keep_each (λ ring. not (turns_to left ring)) loops h) (alone_each (keep (turns_to left) loops) (keep_each (turns_to left) loops h))
 
-  module _ (rules : Rules) (sound : (ring : List Pos) (left : List (List Pos)) → ring_left rules ring ≡ Some left → Each P left) where
+  module _ (rules : FixingRules) (sound : (ring : List Pos) (left : List (List Pos)) → ring_left rules ring ≡ Some left → Each P left) where
     with_holes_each : (holes : List (List Pos)) (ps made : List (List (List Pos))) → EachRing P ps → with_holes rules holes ps ≡ Some made → EachRing P made
     with_holes_each [] ps made e h = let s : ps ≡ made = cc in subst (EachRing P) s e
     with_holes_each (hole ∷ holes) ps made e h = go (ring_left rules hole) (sound hole) (λ left k. with_holes_each holes (put_holes left ps) made k) h

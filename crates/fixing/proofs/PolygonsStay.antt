@@ -10,7 +10,7 @@ use Rattle.fixing.specs.Polygons.{polygon_kept, polygon_left, polygons_of_loops,
 use Rattle.fixing.specs.declared.linework.Need.{Need}
 use Rattle.fixing.specs.declared.rules.Fixes.{Fixes}
 use Rattle.fixing.specs.declared.rules.Rewind.TheVariants.{Keep}
-use Rattle.fixing.specs.declared.rules.Rules.{Rules}
+use Rattle.fixing.specs.declared.rules.FixingRules.{FixingRules}
 
 -- of lists of which each is left as it is, all are
 pub all_stay : (left : List Pos → Option (List (List Pos))) (P : List Pos → Type 0) → ((l : List Pos) → P l → left l ≡ Some (l ∷ [])) →
@@ -26,7 +26,7 @@ pub none_counted : (need : List Pos → Option Need) (P : List Pos → Type 0) (
 none_counted need P fixes stays [] h = refl
 none_counted need P fixes stays (l ∷ ls) h = ap (λ f. all_counted need ls f) (stays l h.0) ∙ none_counted need P fixes stays ls h.1
 
-module _ (rules : Rules) (P : List Pos → Type 0) (stays : (l : List Pos) → P l → ring_left rules l ≡ Some (l ∷ [])) where
+module _ (rules : FixingRules) (P : List Pos → Type 0) (stays : (l : List Pos) → P l → ring_left rules l ≡ Some (l ∷ [])) where
   holes_stay : (holes rings : List (List Pos)) → Each P holes → with_holes rules holes (rings ∷ []) ≡ Some ((rings ++ holes) ∷ [])
   holes_stay [] rings h = ap (λ w. Some (w ∷ [])) (sym (append_nil rings))
   holes_stay (hole ∷ holes) rings h =

@@ -15,7 +15,7 @@ use Rattle.fixing.specs.Left.{counted, is_refusing, left_by, line_left, line_nee
 use Rattle.fixing.specs.Loops.{loops_of}
 use Rattle.fixing.specs.Runs.{runs_of}
 use Rattle.fixing.specs.declared.linework.Need.TheVariants.{Drop, Split}
-use Rattle.fixing.specs.declared.rules.Rules.{Rules}
+use Rattle.fixing.specs.declared.rules.FixingRules.{FixingRules}
 use Rattle.fixing.proofs.LoopLaws as loop
 use Rattle.fixing.proofs.OddUses.{odd_uses}
 use Rattle.fixing.proofs.PolygonLaws.{polygon_each}
@@ -28,7 +28,7 @@ Each-weaker P Q f [] h = tt
 Each-weaker P Q f (l ∷ ls) h = (f l h.0, Each-weaker P Q f ls h.1)
 
 -- what is left of a list has P, where the list has it if it has no fault, and each of its parts has it
-left_has : (P : List Pos → Type 0) (rules : Rules) (list : List Pos) (parts left : List (List Pos)) (fault : Option ShapeFault) →
+left_has : (P : List Pos → Type 0) (rules : FixingRules) (list : List Pos) (parts left : List (List Pos)) (fault : Option ShapeFault) →
     (fault ≡ None → P list) → Each P parts → option_map (λ need. left_by need list parts) (need_of rules fault) ≡ Some left → Each P left
 left_has P rules list parts left None whole each e = let s : list ∷ [] ≡ left = cc in subst (Each P) s (whole refl, tt)
 left_has P rules list parts left (Some TooShort) whole each e = short (is_refusing rules.collapsed) e

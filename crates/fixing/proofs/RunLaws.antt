@@ -11,7 +11,7 @@ use Rattle.lines.specs.Positions.{position_same, position_total}
 use Rattle.lines.specs.Reading.{collapsed}
 use Rattle.lines.specs.Segments.{segments_from, segments_of}
 use Rattle.lines.specs.Turned.{position_cmp}
-use Rattle.lines.specs.declared.pair.Pair.{Pair}
+use Rattle.lines.specs.declared.pair.PositionPair.{PositionPair}
 use Rattle.lines.proofs.Pairs.{pair_at, pair_flip, pair_total}
 use Rattle.lines.proofs.Trails.{Apart, collapsed_apart}
 use Rattle.fixing.specs.Runs.{first_uses, or_used, run_kept, runs_of, runs_on}
@@ -30,7 +30,7 @@ kept_segments [] = refl
 kept_segments (p ∷ []) = refl
 kept_segments (p ∷ (q ∷ l)) = append_nil (segments_of (p ∷ (q ∷ l)))
 
-runs_segments : (used : Pair → Bool) (x : Pos) (r : List Pos) (here : Pos) (l : List Pos) → last_of x r ≡ here →
+runs_segments : (used : PositionPair → Bool) (x : Pos) (r : List Pos) (here : Pos) (l : List Pos) → last_of x r ≡ here →
     gathered segments_of (runs_on used (x ∷ r) here l) ≡ segments_from x r ++ first_uses used (segments_from here l)
 runs_segments used x r here [] e = kept_segments (x ∷ r) ∙ sym (append_nil (segments_from x r))
 runs_segments used x r here (p ∷ l) e =
@@ -61,10 +61,10 @@ either_true : (b r : Bool) → r ≡ true → cond b true r ≡ true
 either_true true r e = refl
 either_true false r e = e
 
-used_itself : (s t : Pair) (used : Pair → Bool) → s ≡ t → or_used t used s ≡ true
+used_itself : (s t : PositionPair) (used : PositionPair → Bool) → s ≡ t → or_used t used s ≡ true
 used_itself s t used e = ap (λ w. cond (is_eq w) true (used s)) (ap (pair_cmp t) e ∙ tied_itself pair_total t)
 
-first_new : (used : Pair → Bool) (s : Pair) (l : List Pair) → used s ≡ true → ¬ Has s (first_uses used l)
+first_new : (used : PositionPair → Bool) (s : PositionPair) (l : List PositionPair) → used s ≡ true → ¬ Has s (first_uses used l)
 first_new used s [] e h = h
 first_new used s (t ∷ l) e h = go (used t) refl (first_new (or_used t used) s l (either_true (is_eq (pair_cmp t s)) (used s) e)) h
   where
@@ -73,7 +73,7 @@ first_new used s (t ∷ l) e h = go (used t) refl (first_new (or_used t used) s 
     go false f later (inl k) = (let z : true ≡ false = sym e ∙ ap used k ∙ f in cc)
     go false f later (inr k) = later k
 
-first_distinct : (used : Pair → Bool) (l : List Pair) → Distinct (first_uses used l)
+first_distinct : (used : PositionPair → Bool) (l : List PositionPair) → Distinct (first_uses used l)
 first_distinct used [] = tt
 first_distinct used (t ∷ l) = go (used t) (first_distinct (or_used t used) l)
   where
@@ -81,7 +81,7 @@ first_distinct used (t ∷ l) = go (used t) (first_distinct (or_used t used) l)
     go true d = d
     go false d = (first_new (or_used t used) t l (used_itself t t used refl), d)
 
-first_among : (used : Pair → Bool) (s : Pair) (l : List Pair) → Has s (first_uses used l) → Has s l
+first_among : (used : PositionPair → Bool) (s : PositionPair) (l : List PositionPair) → Has s (first_uses used l) → Has s l
 first_among used s [] h = h
 first_among used s (t ∷ l) h = go (used t) h (first_among (or_used t used) s l)
   where
@@ -91,7 +91,7 @@ first_among used s (t ∷ l) h = go (used t) h (first_among (or_used t used) s l
     go false (inr k) f = inr (f k)
 
 -- the two ends differ
-abbrev HasTwoEnds : Pair → Type 0
+abbrev HasTwoEnds : PositionPair → Type 0
 HasTwoEnds s = ¬ (s.lesser ≡ s.greater)
 
 two_ends : (a b : Pos) → ¬ (a ≡ b) → HasTwoEnds (pair_of a b)
@@ -108,12 +108,12 @@ ends_apart a b = go (is_lt (position_cmp a b))
     go true n e = n e
     go false n e = n (sym e)
 
-apart_from : (x : Pos) (l : List Pos) → Apart (x ∷ l) → (s : Pair) → Has s (segments_from x l) → HasTwoEnds s
+apart_from : (x : Pos) (l : List Pos) → Apart (x ∷ l) → (s : PositionPair) → Has s (segments_from x l) → HasTwoEnds s
 apart_from x [] a s h = absurd h
 apart_from x (y ∷ l) a s (inl e) = subst HasTwoEnds (sym e) (two_ends x y (a.0 y refl))
 apart_from x (y ∷ l) a s (inr h) = apart_from y l a.1 s h
 
-apart_ends : (c : List Pos) → Apart c → (s : Pair) → Has s (segments_of c) → HasTwoEnds s
+apart_ends : (c : List Pos) → Apart c → (s : PositionPair) → Has s (segments_of c) → HasTwoEnds s
 apart_ends [] a s h = absurd h
 apart_ends (x ∷ l) a s h = apart_from x l a s h
 
@@ -127,7 +127,7 @@ beside_has : (x y u : Pos) (l : List Pos) → Beside x y (u ∷ l) → Has (pair
 beside_has x y u l (inl h) = steps_has x y u l h
 beside_has x y u l (inr h) = subst (λ s. Has s (segments_from u l)) (pair_flip y x) (steps_has y x u l h)
 
-trail_from : (x : Pos) (l : List Pos) → Distinct (segments_from x l) → ((s : Pair) → Has s (segments_from x l) → HasTwoEnds s) → Trail (x ∷ l)
+trail_from : (x : Pos) (l : List Pos) → Distinct (segments_from x l) → ((s : PositionPair) → Has s (segments_from x l) → HasTwoEnds s) → Trail (x ∷ l)
 trail_from x [] d a = ((λ y b. absurd b), tt)
 trail_from x (y ∷ l) d a = (
   (λ z e. (
@@ -137,7 +137,7 @@ trail_from x (y ∷ l) d a = (
   trail_from y l d.1 (λ s h. a s (inr h)),
 )
 
-trail_of : (l : List Pos) → Distinct (segments_of l) → ((s : Pair) → Has s (segments_of l) → HasTwoEnds s) → Trail l
+trail_of : (l : List Pos) → Distinct (segments_of l) → ((s : PositionPair) → Has s (segments_of l) → HasTwoEnds s) → Trail l
 trail_of [] d a = tt
 trail_of (x ∷ l) d a = trail_from x l d a
 
@@ -154,7 +154,7 @@ Each-join P [] b h k = k
 Each-join P (x ∷ a) b h k = (h.0, Each-join P a b h.1 k)
 
 -- lists of two positions or more that have no segment twice among them are lines
-each_line : (runs : List (List Pos)) → Distinct (gathered segments_of runs) → ((s : Pair) → Has s (gathered segments_of runs) → HasTwoEnds s) →
+each_line : (runs : List (List Pos)) → Distinct (gathered segments_of runs) → ((s : PositionPair) → Has s (gathered segments_of runs) → HasTwoEnds s) →
     Each (λ r. 2 ≤ length r) runs → Each IsLine runs
 each_line [] d a h = tt
 each_line (r ∷ rs) d a h = (
@@ -170,7 +170,7 @@ kept_long [] = tt
 kept_long (p ∷ []) = tt
 kept_long (p ∷ (q ∷ l)) = (omega arith, tt)
 
-runs_long : (used : Pair → Bool) (run : List Pos) (here : Pos) (l : List Pos) → Each (λ r. 2 ≤ length r) (runs_on used run here l)
+runs_long : (used : PositionPair → Bool) (run : List Pos) (here : Pos) (l : List Pos) → Each (λ r. 2 ≤ length r) (runs_on used run here l)
 runs_long used run here [] = kept_long run
 runs_long used run here (p ∷ l) =
     go (used (pair_of here p)) (runs_long (or_used (pair_of here p) used) (p ∷ []) p l) (runs_long (or_used (pair_of here p) used) (run ++ (p ∷ [])) p l)

@@ -3,7 +3,7 @@ use Rattle.std.proofs.Common.{◌≡◌, ℕ, ◌<◌, ◌≤◌, Bool, true, fa
 use Rattle.std.proofs.lemmas.List.{drop_all}
 use Rattle.grid.specs.declared.pos.Pos.{Pos}
 use Rattle.lines.specs.Pairs.{pair_of}
-use Rattle.lines.specs.declared.pair.Pair.{Pair}
+use Rattle.lines.specs.declared.pair.PositionPair.{PositionPair}
 use Rattle.fixing.specs.Runs.{or_used, run_kept, runs_of, runs_on}
 
 -- a run of two positions or more is kept
@@ -18,7 +18,7 @@ short_kept [] h = refl
 short_kept (p ∷ []) h = refl
 short_kept (p ∷ (q ∷ l)) h = absurd (omega arith)
 
-module _ (used more : Pair → Bool) (s : Pair) (here next : Pos) (is : s ≡ pair_of here next) (with_s : (q : Pair) → more q ≡ or_used s used q) where
+module _ (used more : PositionPair → Bool) (s : PositionPair) (here next : Pos) (is : s ≡ pair_of here next) (with_s : (q : PositionPair) → more q ≡ or_used s used q) where
   or_next : more ≡ or_used (pair_of here next) used
   or_next = λ i q. (with_s q ∙ ap (λ t. or_used t used q) is) i
 
@@ -54,14 +54,14 @@ module _ (used more : Pair → Bool) (s : Pair) (here next : Pos) (is : s ≡ pa
       was_used = ap used (sym is) ∙ affirmed (used s) (sym new ∙ f)
 
 -- the way that has just begun
-pub begun : (used : Pair → Bool) (ended : List (List Pos)) (run : List Pos) (here : Pos) → ((q : Pair) → used q ≡ false) → ended ≡ [] → run ≡ here ∷ [] →
+pub begun : (used : PositionPair → Bool) (ended : List (List Pos)) (run : List Pos) (here : Pos) → ((q : PositionPair) → used q ≡ false) → ended ≡ [] → run ≡ here ∷ [] →
     (l : List Pos) → ended ++ runs_on used run here l ≡ runs_of (here ∷ l)
 unfolding runs_of
 begun used ended run here none empty one l = λ i. empty i ++ runs_on (λ q. none q i) (one i) here l
 
 -- on behind a segment that was used before, where the steps may fail
-pub used_told : {T E : Type 0} (r : Result T E) (used more : Pair → Bool) (s : Pair) (here now next : Pos) (is : s ≡ pair_of here next)
-    (with_s : (q : Pair) → more q ≡ or_used s used q) (done ended : List (List Pos)) (run begun : List Pos) (b : Bool) → now ≡ next → b ≡ not (used s) → b ≡ false →
+pub used_told : {T E : Type 0} (r : Result T E) (used more : PositionPair → Bool) (s : PositionPair) (here now next : Pos) (is : s ≡ pair_of here next)
+    (with_s : (q : PositionPair) → more q ≡ or_used s used q) (done ended : List (List Pos)) (run begun : List Pos) (b : Bool) → now ≡ next → b ≡ not (used s) → b ≡ false →
     OnOk r (ended ≡ done ++ run_kept run) → OnOk r (begun ≡ next ∷ []) →
     OnOk r ((l : List Pos) → ended ++ runs_on more begun now l ≡ done ++ runs_on used run here (next ∷ l))
 used_told (Ok u) used more s here now next is with_s done ended run begun b e new f cut made =

@@ -4,7 +4,7 @@ use Rattle.grid.specs.declared.pos.Pos.{Pos}
 use Rattle.lines.specs.Reading.{collapsed, line_fault, ring_fault}
 use Rattle.lines.specs.Segments.{segments_of}
 use Rattle.lines.specs.Turned.{position_cmp}
-use Rattle.lines.specs.declared.pair.Pair.{Pair}
+use Rattle.lines.specs.declared.pair.PositionPair.{PositionPair}
 use Rattle.theory.specs.LinesAndRings.{IsRing, closed}
 use Rattle.theory.specs.Lists.{Distinct, Each, gathered, last_of}
 use Rattle.fixing.specs.Left.{all_counted, all_left, counted, line_left, line_need, ring_left, ring_need}
@@ -15,18 +15,18 @@ use Rattle.fixing.specs.Runs.{first_uses, runs_of}
 use Rattle.fixing.specs.Uses.{uses}
 use Rattle.fixing.specs.declared.rules.Fixes.{Fixes}
 use Rattle.fixing.specs.declared.rules.Rewind.TheVariants.{Keep, Rfc7946}
-use Rattle.fixing.specs.declared.rules.Rules.{Rules}
+use Rattle.fixing.specs.declared.rules.FixingRules.{FixingRules}
 use mir.Syntax.{w128}
 
 -- what is left of a line has no fault: two positions or more, and no segment twice [RFC 7946, 3.1.4]
 abbrev pub LinesLeftAreSound : Type 0
 LinesLeftAreSound =
-    (rules : Rules) (line : List Pos) (left : List (List Pos)) → line_left rules line ≡ Some left → Each (λ l. line_fault position_cmp l ≡ None) left
+    (rules : FixingRules) (line : List Pos) (left : List (List Pos)) → line_left rules line ≡ Some left → Each (λ l. line_fault position_cmp l ≡ None) left
 
 -- what is left of a ring has no fault: closed, four positions or more, and no segment twice [RFC 7946, 3.1.6]
 abbrev pub RingsLeftAreSound : Type 0
 RingsLeftAreSound =
-    (rules : Rules) (ring : List Pos) (left : List (List Pos)) → ring_left rules ring ≡ Some left → Each (λ l. ring_fault position_cmp l ≡ None) left
+    (rules : FixingRules) (ring : List Pos) (left : List (List Pos)) → ring_left rules ring ≡ Some left → Each (λ l. ring_fault position_cmp l ≡ None) left
 
 -- the runs of a line have each segment of the line once, in the order in which it is used first
 abbrev pub RunsUseEachSegmentOnce : Type 0
@@ -46,7 +46,7 @@ LoopsAreSimple = (l : List Pos) → Each IsSimpleRing (loops_of l)
 -- were used twice as often as is said
 abbrev pub LoopsKeepOddUses : Type 0
 LoopsKeepOddUses =
-    (x : Pos) (l : List Pos) → last_of x l ≡ x → (s : Pair) → ¬ (s.lesser ≡ s.greater) →
+    (x : Pos) (l : List Pos) → last_of x l ≡ x → (s : PositionPair) → ¬ (s.lesser ≡ s.greater) →
     (gone : ℕ) × (uses s (segments_of (x ∷ l)) ≡ uses s (gathered segments_of (loops_of (x ∷ l))) + (gone + gone))
 
 -- each ring of each polygon has P
@@ -57,31 +57,31 @@ EachRing P (polygon ∷ polygons) = Each P polygon × EachRing P polygons
 -- the rings of what is left of a polygon have no fault
 abbrev pub PolygonsLeftAreSound : Type 0
 PolygonsLeftAreSound =
-    (rules : Rules) (polygon : List (List Pos)) (left : List (List (List Pos))) → polygon_kept rules polygon ≡ Some left →
+    (rules : FixingRules) (polygon : List (List Pos)) (left : List (List (List Pos))) → polygon_kept rules polygon ≡ Some left →
     EachRing (λ l. ring_fault position_cmp l ≡ None) left
 
 -- a line without a fault is left as it is, and nothing is counted
 abbrev pub SoundLinesStay : Type 0
 SoundLinesStay =
-    (rules : Rules) (line : List Pos) (fixes : Fixes) → line_fault position_cmp line ≡ None →
+    (rules : FixingRules) (line : List Pos) (fixes : Fixes) → line_fault position_cmp line ≡ None →
     (line_left rules line ≡ Some (line ∷ [])) × (counted (line_need rules line) fixes ≡ fixes)
 
 -- and so is a ring
 abbrev pub SoundRingsStay : Type 0
 SoundRingsStay =
-    (rules : Rules) (ring : List Pos) (fixes : Fixes) → ring_fault position_cmp ring ≡ None →
+    (rules : FixingRules) (ring : List Pos) (fixes : Fixes) → ring_fault position_cmp ring ≡ None →
     (ring_left rules ring ≡ Some (ring ∷ [])) × (counted (ring_need rules ring) fixes ≡ fixes)
 
 -- so do all lines of a list of them
 abbrev pub SoundMultiLinesStay : Type 0
 SoundMultiLinesStay =
-    (rules : Rules) (lines : List (List Pos)) (fixes : Fixes) → Each (λ l. line_fault position_cmp l ≡ None) lines →
+    (rules : FixingRules) (lines : List (List Pos)) (fixes : Fixes) → Each (λ l. line_fault position_cmp l ≡ None) lines →
     (all_left (line_left rules) lines ≡ Some lines) × (all_counted (line_need rules) lines fixes ≡ fixes)
 
 -- and a polygon of rings without a fault, where rings are not turned
 abbrev pub SoundPolygonsStay : Type 0
 SoundPolygonsStay =
-    (rules : Rules) (polygon : List (List Pos)) (fixes : Fixes) → rules.rewind ≡ Keep → Each (λ l. ring_fault position_cmp l ≡ None) polygon →
+    (rules : FixingRules) (polygon : List (List Pos)) (fixes : Fixes) → rules.rewind ≡ Keep → Each (λ l. ring_fault position_cmp l ≡ None) polygon →
     (polygon_left rules polygon ≡ Some (polygon ∷ [])) × (polygon_counted rules polygon fixes ≡ fixes)
 
 -- a ring that is turned turns as it is wanted: left for an outer ring, and right for a hole [RFC 7946, 3.1.6], where it

@@ -13,7 +13,7 @@ use Rattle.fixing.specs.declared.linework.Need.TheVariants.{Nothing, Drop, Split
 use Rattle.fixing.specs.declared.rules.Collapsed.{Collapsed}
 use Rattle.fixing.specs.declared.rules.Collapsed.TheVariants.{Refuse}
 use Rattle.fixing.specs.declared.rules.Fixes.{Fixes}
-use Rattle.fixing.specs.declared.rules.Rules.{Rules}
+use Rattle.fixing.specs.declared.rules.FixingRules.{FixingRules}
 
 -- whether lines and rings of too few positions are refused
 abbrev pub is_refusing : Collapsed → Bool
@@ -21,7 +21,7 @@ is_refusing Refuse = true
 is_refusing _ = false
 
 -- what is to be done with a line or ring that has a fault, or has none; none where the rules refuse it
-abbrev pub need_of : Rules → Option ShapeFault → Option Need
+abbrev pub need_of : FixingRules → Option ShapeFault → Option Need
 need_of rules None = Some Nothing
 need_of rules (Some TooShort) = cond (is_refusing rules.collapsed) None (Some Drop)
 need_of rules (Some Revisit) = cond rules.splits_folded (Some Split) None
@@ -35,19 +35,19 @@ left_by Drop list parts = []
 left_by Split list parts = parts
 
 -- what is to be done with a line
-abbrev pub line_need : Rules → List Pos → Option Need
+abbrev pub line_need : FixingRules → List Pos → Option Need
 line_need rules l = need_of rules (line_fault position_cmp l)
 
 -- what is to be done with a closed list
-abbrev pub ring_need : Rules → List Pos → Option Need
+abbrev pub ring_need : FixingRules → List Pos → Option Need
 ring_need rules l = need_of rules (ring_fault position_cmp l)
 
 -- what is left of a line; none where it is refused
-abbrev pub line_left : Rules → List Pos → Option (List (List Pos))
+abbrev pub line_left : FixingRules → List Pos → Option (List (List Pos))
 line_left rules l = option_map (λ need. left_by need l (runs_of (collapsed position_cmp l))) (line_need rules l)
 
 -- what is left of a closed list; none where it is refused
-abbrev pub ring_left : Rules → List Pos → Option (List (List Pos))
+abbrev pub ring_left : FixingRules → List Pos → Option (List (List Pos))
 ring_left rules l = option_map (λ need. left_by need l (loops_of l)) (ring_need rules l)
 
 -- what is left of each of the lists, one after the other; none where one is refused

@@ -7,7 +7,7 @@ use Rattle.fixing.specs.Left.{all_counted, ring_left, ring_need}
 use Rattle.fixing.specs.Measures.{lies_in, rewound, turns_left}
 use Rattle.fixing.specs.declared.rules.Rewind.{Rewind}
 use Rattle.fixing.specs.declared.rules.Fixes.{Fixes}
-use Rattle.fixing.specs.declared.rules.Rules.{Rules}
+use Rattle.fixing.specs.declared.rules.FixingRules.{FixingRules}
 
 -- whether a ring lies in the outer ring of a polygon
 abbrev pub is_home : List Pos → List (List Pos) → Bool
@@ -59,7 +59,7 @@ polygons_of_loops left loops =
     (put_others (keep (λ ring. not (turns_to left ring)) loops) (polygons_of (keep (turns_to left) loops)))
 
 -- the polygons with what is left of holes; none where one is refused
-abbrev pub with_holes : Rules → List (List Pos) → List (List (List Pos)) → Option (List (List (List Pos)))
+abbrev pub with_holes : FixingRules → List (List Pos) → List (List (List Pos)) → Option (List (List (List Pos)))
 with_holes rules [] polygons = Some polygons
 with_holes rules (hole ∷ holes) polygons = option_and_then (λ left. with_holes rules holes (put_holes left polygons)) (ring_left rules hole)
 
@@ -73,20 +73,20 @@ abbrev pub rewound_polygon : Rewind → List (List Pos) → List (List Pos)
 rewound_polygon rewind rings = rewound_from rewind true rings
 
 -- what is left of a polygon, with its rings as they turned before; none where a ring of it is refused
-abbrev pub polygon_kept : Rules → List (List Pos) → Option (List (List (List Pos)))
+abbrev pub polygon_kept : FixingRules → List (List Pos) → Option (List (List (List Pos)))
 polygon_kept rules [] = Some ([] ∷ [])
 polygon_kept rules (outer ∷ holes) =
     option_and_then (λ loops. with_holes rules holes (polygons_of_loops (turns_left outer) loops)) (ring_left rules outer)
 
 -- what is left of a polygon; none where a ring of it is refused
-abbrev pub polygon_left : Rules → List (List Pos) → Option (List (List (List Pos)))
+abbrev pub polygon_left : FixingRules → List (List Pos) → Option (List (List (List Pos)))
 polygon_left rules rings = option_map (map (rewound_polygon rules.rewind)) (polygon_kept rules rings)
 
 -- with what was done with each ring counted
-abbrev pub polygon_counted : Rules → List (List Pos) → Fixes → Fixes
+abbrev pub polygon_counted : FixingRules → List (List Pos) → Fixes → Fixes
 polygon_counted rules rings fixes = all_counted (ring_need rules) rings fixes
 
 -- the counts once the rings of all these polygons are added
-abbrev pub polygons_counted : Rules → List (List (List Pos)) → Fixes → Fixes
+abbrev pub polygons_counted : FixingRules → List (List (List Pos)) → Fixes → Fixes
 polygons_counted rules [] fixes = fixes
 polygons_counted rules (rings ∷ polygons) fixes = polygons_counted rules polygons (polygon_counted rules rings fixes)

@@ -5,12 +5,12 @@ use Rattle.grid.specs.declared.pos.Pos.{Pos}
 use Rattle.lines.specs.Turned.{position_cmp}
 use Rattle.fixing.specs.Loops.{loops_on}
 use Rattle.fixing.specs.Seen.{lists_in}
-use Rattle.fixing.specs.declared.loops.Walk.{Walk}
+use Rattle.fixing.specs.declared.loops.LoopWalk.{LoopWalk}
 
 -- each position of the path is noted with its place there
-abbrev pub IsNoted : Walk → Type 0
+abbrev pub IsNoted : LoopWalk → Type 0
 IsNoted walk = (k : ℕ) (p : Pos) → slice_get walk.path.items k ≡ Some p → get position_cmp walk.places p ≡ Some k
 
 -- the loops, where the walk goes on along a list
-abbrev pub loops_left : Walk → List Pos → List (List Pos)
+abbrev pub loops_left : LoopWalk → List Pos → List (List Pos)
 loops_left walk l = lists_in walk.loops.items ++ loops_on walk.path.items l

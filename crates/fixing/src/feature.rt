@@ -1,14 +1,14 @@
 //! Features, and geometries that stand for features.
-ghost use Rattle.json_tokens.specs.Reads.{Reads};
+ghost use Rattle.reading.specs.Tokens.Reads.{Reads};
 ghost use Rattle.std.specs.Prelude.{⊤, []};
 
 use crate::broken::Broken;
 use crate::coordinates::{take_member, text_member};
 use crate::geometry::fix_geometry;
-use crate::rules::{Collapsed, Fixes, Rules};
+use crate::rules::{Collapsed, Fixes, FixingRules};
 use json::Reader;
-use json_tokens::from_tokens::{FromTokens, Stop};
-use json_tokens::value::make_value;
+use reading::tokens::from_tokens::{FromTokens, Stop};
+use reading::tokens::value::make_value;
 use serde_json::Value;
 use std::alloc::Global;
 
@@ -28,7 +28,7 @@ fn is_collection(geometry: &Value) -> bool {
 fn parts_of(
     alloc: Global,
     geometry: Value,
-    rules: &Rules,
+    rules: &FixingRules,
     fixes: &mut Fixes,
 ) -> Result<Vec<Value>, Broken> {
     let mut geometry = geometry;
@@ -47,7 +47,7 @@ fn parts_of(
 pub(crate) fn geometries_of(
     alloc: Global,
     geometry: Value,
-    rules: &Rules,
+    rules: &FixingRules,
     fixes: &mut Fixes,
 ) -> Result<Vec<Value>, Broken> {
     let mut remain = Vec::new(alloc);
@@ -93,7 +93,11 @@ fn texts_of(alloc: Global, mut feature: Value, geometries: Vec<Value>) -> Result
 }
 
 /// What remains of a feature. What is none stays as it is.
-pub(crate) fn fix_feature(alloc: Global, feature: Value, rules: &Rules) -> Result<Fixed, Broken> {
+pub(crate) fn fix_feature(
+    alloc: Global,
+    feature: Value,
+    rules: &FixingRules,
+) -> Result<Fixed, Broken> {
     let mut feature = feature;
     let mut fixes = Fixes::default();
     let Some(geometry) = take_member(&mut feature, "geometry") else {
@@ -111,7 +115,7 @@ pub(crate) fn fix_feature(alloc: Global, feature: Value, rules: &Rules) -> Resul
 /// Reads features off the tokens, and fixes each.
 #[derive(Clone, Copy)]
 pub(crate) struct FixFeature {
-    pub(crate) rules: Rules,
+    pub(crate) rules: FixingRules,
 }
 
 impl FromTokens for FixFeature {

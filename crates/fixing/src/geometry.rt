@@ -6,7 +6,7 @@ use crate::coordinates::{
 };
 use crate::linework::fix_lines;
 use crate::polygons::fix_polygons;
-use crate::rules::{Fixes, Rules};
+use crate::rules::{Fixes, FixingRules};
 use grid::Pos;
 use serde_json::{Map, Value};
 use std::alloc::Global;
@@ -81,7 +81,7 @@ fn read_polygons(
 fn try_fix(
     alloc: Global,
     geometry: &Value,
-    rules: &Rules,
+    rules: &FixingRules,
     fixes: &mut Fixes,
 ) -> Result<Value, Broken> {
     let kind = text_member(geometry, "type");
@@ -109,7 +109,7 @@ fn try_fix(
 pub(crate) fn fix_geometry(
     alloc: Global,
     geometry: Value,
-    rules: &Rules,
+    rules: &FixingRules,
     fixes: &mut Fixes,
 ) -> Result<Value, Broken> {
     let mut found = Fixes::default();

@@ -18,5 +18,5 @@ mod runs;
 mod text;
 
 pub use measures::area;
-pub use rules::{Collapsed, FeatureFixes, Fixes, Rewind, Rules};
+pub use rules::{Collapsed, FeatureFixes, Fixes, FixingRules, Rewind};
 pub use text::{FixedText, fix};

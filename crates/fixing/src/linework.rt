@@ -5,7 +5,7 @@ ghost use Rattle.std.specs.Prelude.{◌≡◌, ◌∷◌, [], IfErr, IfOk, OnOk,
 
 use crate::broken::Broken;
 use crate::loops::loops_of;
-use crate::rules::{Collapsed, Fixes, Rules};
+use crate::rules::{Collapsed, Fixes, FixingRules};
 use crate::runs::runs_of;
 use grid::pos::Pos;
 use lines::line::Line;
@@ -22,7 +22,7 @@ enum Need {
 }
 
 /// What the rules say of a list of too few positions.
-fn need_of_short(rules: &Rules) -> Result<Need, Broken>
+fn need_of_short(rules: &FixingRules) -> Result<Need, Broken>
     ensures ok { IfOk result (λ need. needed rules.now (Some ShapeFault.TooShort) ≡ Some need) }
     ensures refused { IfErr result (λ e. needed rules.now (Some ShapeFault.TooShort) ≡ None) }
 {
@@ -33,7 +33,7 @@ fn need_of_short(rules: &Rules) -> Result<Need, Broken>
 }
 
 /// What the rules say of a list that uses a segment twice.
-fn need_of_folded(rules: &Rules) -> Result<Need, Broken>
+fn need_of_folded(rules: &FixingRules) -> Result<Need, Broken>
     ensures ok { IfOk result (λ need. needed rules.now (Some ShapeFault.Revisit) ≡ Some need) }
     ensures refused { IfErr result (λ e. needed rules.now (Some ShapeFault.Revisit) ≡ None) }
 {
@@ -45,7 +45,7 @@ fn need_of_folded(rules: &Rules) -> Result<Need, Broken>
 }
 
 /// What the rules say of a fault.
-fn need_of(fault: ShapeFault, rules: &Rules) -> Result<Need, Broken>
+fn need_of(fault: ShapeFault, rules: &FixingRules) -> Result<Need, Broken>
     ensures ok { IfOk result (λ need. needed rules.now (Some fault) ≡ Some need) }
     ensures refused { IfErr result (λ e. e ≡ Broken.Faulty → needed rules.now (Some fault) ≡ None) }
     ensures memory { IfErr result (λ e. fault ≡ ShapeFault.OutOfMemory → e ≡ Broken.OutOfMemory) }
@@ -58,7 +58,7 @@ fn need_of(fault: ShapeFault, rules: &Rules) -> Result<Need, Broken>
     }
 }
 
-fn line_need(alloc: Global, positions: &[Pos], rules: &Rules) -> Result<Need, Broken>
+fn line_need(alloc: Global, positions: &[Pos], rules: &FixingRules) -> Result<Need, Broken>
     ensures ok { IfOk result (λ need. needed_of_line rules.now positions.now ≡ Some need) }
     ensures refused { IfErr result (λ e. e ≡ Broken.Faulty → needed_of_line rules.now positions.now ≡ None) }
 {
@@ -69,7 +69,7 @@ fn line_need(alloc: Global, positions: &[Pos], rules: &Rules) -> Result<Need, Br
     }
 }
 
-fn ring_need(alloc: Global, closed: &[Pos], rules: &Rules) -> Result<Need, Broken>
+fn ring_need(alloc: Global, closed: &[Pos], rules: &FixingRules) -> Result<Need, Broken>
     ensures ok { IfOk result (λ need. needed_of_ring rules.now closed.now ≡ Some need) }
     ensures refused { IfErr result (λ e. e ≡ Broken.Faulty → needed_of_ring rules.now closed.now ≡ None) }
 {
@@ -94,7 +94,7 @@ fn only(alloc: Global, list: Vec<Pos>) -> Result<Vec<Vec<Pos>>, Broken>
 pub(crate) fn fix_line(
     alloc: Global,
     positions: Vec<Pos>,
-    rules: &Rules,
+    rules: &FixingRules,
     fixes: &mut Fixes,
 ) -> Result<Vec<Vec<Pos>>, Broken>
     ensures left { IfOk result (λ parts. line_left rules.now positions.items ≡ Some (lists_in parts.items)) }
@@ -118,7 +118,7 @@ pub(crate) fn fix_line(
 pub(crate) fn fix_ring(
     alloc: Global,
     closed: Vec<Pos>,
-    rules: &Rules,
+    rules: &FixingRules,
     fixes: &mut Fixes,
 ) -> Result<Vec<Vec<Pos>>, Broken>
     ensures left { IfOk result (λ parts. ring_left rules.now closed.items ≡ Some (lists_in parts.items)) }
@@ -142,7 +142,7 @@ pub(crate) fn fix_ring(
 pub(crate) fn fix_lines(
     alloc: Global,
     lines: Vec<Vec<Pos>>,
-    rules: &Rules,
+    rules: &FixingRules,
     fixes: &mut Fixes,
 ) -> Result<Vec<Vec<Pos>>, Broken>
     ensures left { IfOk result (λ parts. all_left (line_left rules.now) (lists_in lines.items) ≡ Some (lists_in parts.items)) }

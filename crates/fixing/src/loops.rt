@@ -12,19 +12,19 @@ use std::collections::BTreeMap;
 /// A walk round a ring: the loops that were cut off, the positions since the last one, each once, and where they
 /// are. Positions that the path has no more may be noted too.
 #[derive(Drop)]
-struct Walk {
+struct LoopWalk {
     loops: Vec<Vec<Pos>>,
     path: Vec<Pos>,
     places: BTreeMap<Pos, usize>,
 }
 
-impl Walk {
+impl LoopWalk {
     /// The walk that has not begun.
-    fn new(alloc: Global) -> Walk
+    fn new(alloc: Global) -> LoopWalk
         ensures noted { IsNoted result }
         ensures left { (l : List Pos) → loops_left result l ≡ loops_in l }
     {
-        Walk {
+        LoopWalk {
             loops: Vec::new(alloc),
             path: Vec::new(alloc),
             places: BTreeMap::new(alloc),
@@ -81,7 +81,7 @@ impl Walk {
 pub(crate) fn loops_of(alloc: Global, closed: &[Pos]) -> Result<Vec<Vec<Pos>>, AllocError>
     ensures { IfOk result (λ loops. lists_in loops.items ≡ loops_in closed.now) }
 {
-    let mut walk = Walk::new(alloc);
+    let mut walk = LoopWalk::new(alloc);
     for position in closed {
         walk.step(alloc, *position)?;
     }

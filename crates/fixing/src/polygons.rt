@@ -8,7 +8,7 @@ ghost use Rattle.theory.specs.TopologyFunction.{keep};
 use crate::broken::Broken;
 use crate::linework::fix_ring;
 use crate::measures::{lies_in, turn, turns_left};
-use crate::rules::{Fixes, Rewind, Rules};
+use crate::rules::{Fixes, FixingRules, Rewind};
 use grid::pos::Pos;
 use std::alloc::{AllocError, Global};
 
@@ -199,7 +199,7 @@ fn empty_polygon(alloc: Global) -> Result<Vec<Vec<Vec<Pos>>>, AllocError>
 fn fix_rings(
     alloc: Global,
     rings: Vec<Vec<Pos>>,
-    rules: &Rules,
+    rules: &FixingRules,
     fixes: &mut Fixes,
 ) -> Result<Vec<Vec<Vec<Pos>>>, Broken>
     ensures left { IfOk result (λ made. polygon_kept rules.now (lists_in rings.items) ≡ Some (polygons_in made.items)) }
@@ -224,7 +224,7 @@ fn fix_rings(
 pub(crate) fn fix_polygon(
     alloc: Global,
     rings: Vec<Vec<Pos>>,
-    rules: &Rules,
+    rules: &FixingRules,
     fixes: &mut Fixes,
 ) -> Result<Vec<Vec<Vec<Pos>>>, Broken>
     ensures left { IfOk result (λ made. polygon_left rules.now (lists_in rings.items) ≡ Some (polygons_in made.items)) }
@@ -239,7 +239,7 @@ pub(crate) fn fix_polygon(
 pub(crate) fn fix_polygons(
     alloc: Global,
     polygons: Vec<Vec<Vec<Pos>>>,
-    rules: &Rules,
+    rules: &FixingRules,
     fixes: &mut Fixes,
 ) -> Result<Vec<Vec<Vec<Pos>>>, Broken>
     ensures left { IfOk result (λ made. all_left (polygon_left rules.now) (polygons_in polygons.items) ≡ Some (polygons_in made.items)) }

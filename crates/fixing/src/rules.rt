@@ -26,7 +26,7 @@ pub enum Rewind {
 
 /// What is fixed.
 #[derive(Clone, Copy, PartialEq, Eq, Debug)]
-pub struct Rules {
+pub struct FixingRules {
     pub collapsed: Collapsed,
     /// Whether lines and rings that use a segment twice are split.
     pub splits_folded: bool,

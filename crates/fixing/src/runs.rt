@@ -8,7 +8,7 @@ ghost use Rattle.lines.specs.Turned.{position_cmp};
 ghost use Rattle.std.specs.Prelude.{◌≡◌, ◌∷◌, ◌++◌, [], IfOk, OnOk, List};
 
 use grid::pos::Pos;
-use lines::pair::Pair;
+use lines::pair::PositionPair;
 use std::alloc::{AllocError, Global};
 use std::collections::BTreeSet;
 
@@ -16,7 +16,7 @@ use std::collections::BTreeSet;
 /// to `here`.
 #[derive(Drop)]
 struct Cutting {
-    used: BTreeSet<Pair>,
+    used: BTreeSet<PositionPair>,
     ended: Vec<Vec<Pos>>,
     run: Vec<Pos>,
     here: Pos,
@@ -70,7 +70,7 @@ impl Cutting {
     fn go_on(&mut self, alloc: Global, next: Pos) -> Result<(), AllocError>
         ensures { OnOk result ((l : List Pos) → runs_left self.new l ≡ runs_left self.old (next ∷ l)) }
     {
-        let is_new = self.used.insert(Pair::of(self.here, next))?;
+        let is_new = self.used.insert(PositionPair::of(self.here, next))?;
         self.here = next;
         if is_new {
             self.run.push(next)?;

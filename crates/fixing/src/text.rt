@@ -6,12 +6,12 @@ ghost use Rattle.std.specs.Prelude.{⊤, ◌≡◌, ◌∷◌, ◌++◌, [], IfO
 use crate::broken::Broken;
 use crate::coordinates::text_member;
 use crate::feature::{FixFeature, Fixed, fix_feature, geometries_of};
-use crate::rules::{FeatureFixes, Fixes, Rules};
+use crate::rules::{FeatureFixes, Fixes, FixingRules};
 use json::{Reader, Scratch};
-use json_tokens::from_tokens::Stop;
-use json_tokens::list::read_array;
-use json_tokens::object::{TakeMember, read_object};
-use json_tokens::value::make_value;
+use reading::tokens::from_tokens::Stop;
+use reading::tokens::list::read_array;
+use reading::tokens::object::{TakeMember, read_object};
+use reading::tokens::value::make_value;
 use serde_json::{Map, Value};
 use std::alloc::Global;
 
@@ -20,20 +20,20 @@ const MAX_DEPTH: usize = 127;
 
 /// The members of a root: its features, fixed one by one, and the others.
 #[derive(Drop)]
-struct Root {
+struct FixedRoot {
     features: Option<Vec<Fixed>>,
     others: Map<String, Value>,
 }
 
-impl TakeMember for Root {
-    type On = Rules;
+impl TakeMember for FixedRoot {
+    type On = FixingRules;
 
     ghost knows = { λ _ _ _. ⊤ };
 
     fn take<'a>(
         &mut self,
         alloc: Global,
-        on: &Rules,
+        on: &FixingRules,
         name: &'a str,
         reader: &mut Reader<'a>,
         depth: usize,
@@ -49,7 +49,7 @@ impl TakeMember for Root {
     }
 }
 
-impl Root {
+impl FixedRoot {
     fn keep(&mut self, alloc: Global, name: &str, value: Value) -> Result<(), Stop> {
         let Ok(name) = String::from_str(alloc, name) else {
             return Err(Stop::OutOfMemory);
@@ -61,12 +61,12 @@ impl Root {
     }
 }
 
-fn read_root(alloc: Global, text: &str, rules: &Rules) -> Result<Root, Stop> {
+fn read_root(alloc: Global, text: &str, rules: &FixingRules) -> Result<FixedRoot, Stop> {
     let mut scratch = Scratch::new(alloc);
     let Ok(mut reader) = Reader::new(text, &mut scratch) else {
         return Err(Stop::OutOfMemory);
     };
-    let mut root = Root {
+    let mut root = FixedRoot {
         features: None,
         others: Map::new(alloc),
     };
@@ -161,7 +161,7 @@ fn bare_feature(alloc: Global, geometry: Value) -> Result<Value, Broken> {
 }
 
 /// A collection of what remains of one feature, or of a geometry alone.
-fn collection_of_one(alloc: Global, root: Value, rules: &Rules) -> Result<FixedText, Broken>
+fn collection_of_one(alloc: Global, root: Value, rules: &FixingRules) -> Result<FixedText, Broken>
     ensures { IfOk result (λ made. IsCounted made) }
 {
     let is_feature = text_member(&root, "type") == "Feature";
@@ -177,7 +177,7 @@ fn collection_of_one(alloc: Global, root: Value, rules: &Rules) -> Result<FixedT
 
 /// The text of one feature, or of a geometry alone, in which what would be fixed is null. It stays what it was, so that
 /// its faults have the paths of the file; a geometry of which nothing is left is a feature without one.
-fn blank_root(alloc: Global, root: Value, rules: &Rules) -> Result<FixedText, Broken>
+fn blank_root(alloc: Global, root: Value, rules: &FixingRules) -> Result<FixedText, Broken>
     ensures { IfOk result (λ made. IsCounted made) }
 {
     if text_member(&root, "type") == "Feature" {
@@ -193,10 +193,10 @@ fn blank_root(alloc: Global, root: Value, rules: &Rules) -> Result<FixedText, Br
     FixedText::of_one(alloc, text, fixes)
 }
 
-fn fix_root(alloc: Global, root: Root, rules: &Rules) -> Result<FixedText, Broken>
+fn fix_root(alloc: Global, root: FixedRoot, rules: &FixingRules) -> Result<FixedText, Broken>
     ensures { IfOk result (λ made. IsCounted made) }
 {
-    let Root { features, others } = root;
+    let FixedRoot { features, others } = root;
     match features {
         Some(features) => collection_of(alloc, features),
         None if rules.blanks => blank_root(alloc, Value::Object(others), rules),
@@ -205,11 +205,11 @@ fn fix_root(alloc: Global, root: Root, rules: &Rules) -> Result<FixedText, Broke
 }
 
 /// The text without what the rules fix, as a FeatureCollection, and how much was fixed. Where what would be fixed is only
-/// made null (`Rules::blanks`), a feature or a geometry alone stays one.
+/// made null (`FixingRules::blanks`), a feature or a geometry alone stays one.
 ///
 /// # Errors
 /// `Unread` where the text is no object; `OutOfMemory`.
-pub fn fix(alloc: Global, text: &str, rules: &Rules) -> Result<FixedText, Stop>
+pub fn fix(alloc: Global, text: &str, rules: &FixingRules) -> Result<FixedText, Stop>
     ensures { IfOk result (λ made. IsCounted made) }
 {
     let root = read_root(alloc, text, rules)?;

@@ -10,7 +10,7 @@ use Rattle.shapes.specs.declared.shape.Shape.{Shape}
 use Rattle.shapes.specs.declared.shape.Shape.TheVariants.{MultiPoint, MultiLine, MultiPolygon}
 use Rattle.sinks.specs.Texts.{joined, framed, list_text}
 use Rattle.sinks.proofs.Items.{one_more_text}
-use Rattle.writing.proofs.Joined.{joined_map}
+use Rattle.shapes.proofs.WritingLemmas.Joined.{joined_map}
 use Rattle.geojson_io.specs.CollectionText.{place_text, line_text, ring_text, closed_text, geometry_text, shape_text, feature_text, collection_text}
 
 -- the vertices of a ring, and the first once more

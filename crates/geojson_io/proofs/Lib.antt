@@ -1,3 +1,4 @@
+pub mod Ascending
 pub mod Places
 pub mod Sets
 pub mod Collections

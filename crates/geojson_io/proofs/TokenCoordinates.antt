@@ -6,9 +6,9 @@ use Rattle.json.specs.Json.{value, after_end_array}
 use Rattle.serde_json.specs.Data.{Data, array, no_items}
 use Rattle.faults.specs.Fault.{Pair}
 use Rattle.reading.specs.Parts.{list_faults, elements}
-use Rattle.json_tokens.specs.Reads.{Gives, Reads}
-use Rattle.json_tokens.proofs.Lists.{array_gone}
-use Rattle.json_tokens.proofs.Reading.{items_over}
+use Rattle.reading.specs.Tokens.Reads.{Gives, Reads}
+use Rattle.reading.proofs.TokensLemmas.Lists.{array_gone}
+use Rattle.reading.proofs.TokensLemmas.Reading.{items_over}
 
 pub empty_given : (depth : ℕ) (old mid new : List Token) → 0 < depth → old ≡ begin_array ∷ mid → after_end_array mid ≡ Some new → Gives depth old (array no_items) new
 empty_given depth old mid new some opens closed =

@@ -24,9 +24,9 @@ use Rattle.reading.specs.Text.{document}
 use Rattle.reading.specs.Types.{geometry_named}
 use Rattle.reading.specs.contracts.geometry.GeometryType.{the_type}
 use Rattle.reading.specs.declared.geometry.GeometryType.{GeometryType}
-use Rattle.token_parts.proofs.Members.{member_known, member_kept, member_faultless, apart, id_means}
+use Rattle.reading.proofs.TokenPartsLemmas.Members.{member_known, member_kept, member_faultless, apart, id_means}
 use Rattle.geojson_io.specs.TokenMembers.{KnowsKind, KnowsCoordinates, KnowsRootType, KnowsShape, KnowsFeature, KnowsFeatures, KnowsRootParts, KnowsRoot}
-use Rattle.token_parts.specs.Members.{KnowsId, KnowsProps}
+use Rattle.reading.specs.TokenParts.Members.{KnowsId, KnowsProps}
 use Rattle.geojson_io.specs.Geometries.{geometry_faults, geometry_form, typed_geometry_faults, typed_form}
 use Rattle.reading.specs.Plain.{Plain, plain, plain_form, plain_id}
 use Rattle.shapes.specs.declared.shape.Shape.{Shape}

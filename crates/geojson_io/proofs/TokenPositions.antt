@@ -10,8 +10,8 @@ use Rattle.grid.specs.Computed.{axis_number}
 use Rattle.grid.specs.declared.pos.Pos.{Pos}
 use Rattle.reading.proofs.Positions.{position_is}
 use Rattle.geojson_io.specs.Positions.{position_faults, position_of}
-use Rattle.json_tokens.specs.Reads.{Reads}
-use Rattle.token_parts.proofs.Pairs.{two_numbers}
+use Rattle.reading.specs.Tokens.Reads.{Reads}
+use Rattle.reading.proofs.TokenPartsLemmas.Pairs.{two_numbers}
 
 pub position_reads : (g : Transform) (depth : ℕ) (s t : List ℕ) (a b x y : ℤ) (new : List Token) (q : Pos) → 0 < depth
     → number_of s ≡ Some (of_integer a) → as_i64 (of_integer a) ≡ Some a → axis_number g.x a ≡ Ok x → number_of t ≡ Some (of_integer b) → as_i64 (of_integer b) ≡ Some b → axis_number g.y b ≡ Ok y

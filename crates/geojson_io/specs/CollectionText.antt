@@ -11,7 +11,7 @@ use Rattle.shapes.specs.declared.shape.Shape.TheVariants as shape
 use Rattle.shapes.specs.declared.feature.Feature.{Feature}
 use Rattle.sinks.specs.Texts.{joined, bracketed, list_text, pair_text, framed}
 use Rattle.theory.specs.LinesAndRings.{closed}
-use Rattle.writing.specs.Members.{id_text}
+use Rattle.shapes.specs.Writing.Members.{id_text}
 
 -- a position by its absolute numbers [RFC 7946, 3.1; starting place own]
 abbrev pub place_text : Transform → Pos → List ℕ

@@ -4,3 +4,4 @@ pub mod Geometries
 pub mod Features
 pub mod TokenCoordinates
 pub mod TokenMembers
+pub mod Laws

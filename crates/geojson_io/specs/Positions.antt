@@ -65,12 +65,14 @@ positions_of t d = map (position_of t) (elements d)
 abbrev pub outline_at_faults : Transform → (List Pos → List Pair) → Data → List Pair
 outline_at_faults t of d = unless_faulty (positions_faults t d) (of (positions_of t d))
 
+-- the faults of a line of absolute numbers [RFC 7946, 3.1.4]
 abbrev pub line_at_faults : Transform → Data → List Pair
 line_at_faults t = outline_at_faults t line_faults
 
 abbrev pub line_at : Transform → Data → List Pos
 line_at t d = line_of (positions_of t d)
 
+-- the faults of a ring of absolute numbers [RFC 7946, 3.1.6]
 abbrev pub ring_at_faults : Transform → Data → List Pair
 ring_at_faults t = outline_at_faults t ring_faults
 

@@ -23,13 +23,14 @@ use crate::reader::feature::{FeatureElement, read_feature};
 use crate::reader::geometry::read_geometry;
 use crate::reader::position::Position;
 use crate::token_reader;
+use crate::validity::validate;
 use faults::fault::{Fault, FaultKind};
 use grid::transform::Grid;
-use json_tokens::from_tokens::Stop;
 use reading::document::document;
 use reading::geometry::GeometryType;
 use reading::info::no_properties;
 use reading::part::{one, read_list_member, type_fault, type_name};
+use reading::tokens::from_tokens::Stop;
 use serde_json::Value;
 use shapes::feature::Feature;
 use shapes::layer::feature_set;
@@ -54,13 +55,13 @@ pub(crate) fn root_named(text: &str) -> Result<Root, FaultKind>
     if text == "Feature" {
         return Ok(Root::Feature);
     }
-    match GeometryType::named(text) {
+    match GeometryType::from_name(text) {
         Ok(kind) => Ok(Root::Geometry(kind)),
         Err(fault) => Err(fault),
     }
 }
 
-fn root_of(value: &Value) -> Result<Root, FaultKind>
+pub(crate) fn root_of(value: &Value) -> Result<Root, FaultKind>
     ensures { result ≡ root_type (view value.now) }
 {
     match type_name(value) {
@@ -80,12 +81,12 @@ pub(crate) fn bare_feature(alloc: Global, shape: Shape) -> Result<Feature, Fault
             props,
             shape,
         }),
-        Err(fault) => refused(shape, fault),
+        Err(fault) => refuse_shape(shape, fault),
     }
 }
 
 // The shape is given up.
-fn refused(_shape: Shape, fault: Fault) -> Result<Feature, Fault>
+fn refuse_shape(_shape: Shape, fault: Fault) -> Result<Feature, Fault>
     ensures { result ≡ Err fault }
 {
     Err(fault)
@@ -167,6 +168,7 @@ pub fn read_as_value(alloc: Global, bytes: &[u8], grid: &Grid) -> Result<Vec<Fea
     ensures err { IfErr result (λ f. LeastOrWant (faults_of_text grid.now bytes.now) f) }
 {
     let value = document(alloc, bytes)?;
+    validate(alloc, grid, &value)?;
     read_root(alloc, &Position { grid: *grid }, &value)
 }
 

@@ -16,10 +16,10 @@ mod shape;
 use crate::reader::position::Position;
 use crate::token_reader::root::RootFeatures;
 use grid::transform::Grid;
-use json_tokens::from_tokens::Stop;
+use reading::token_parts::text::read_text;
+use reading::tokens::from_tokens::Stop;
 use shapes::feature::Feature;
 use std::alloc::Global;
-use token_parts::text::read_text;
 
 /// The features of a GeoJSON text that has no fault and that this reader takes.
 ///

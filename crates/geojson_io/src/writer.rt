@@ -16,11 +16,11 @@ use lines::ring::Ring;
 use shapes::feature::Feature;
 use shapes::props::Props;
 use shapes::shape::{Id, Shape};
+use shapes::writing::{IdMember, Lists};
 use sinks::written::{
     Bracketed, Each, Listed, Notation, Noted, Pair, Text, Then, Written, write_framed,
 };
 use sinks::{Sink, WriteFault};
-use writing::{IdMember, Lists};
 
 /// Positions, by their absolute numbers on a grid.
 #[derive(Clone, Copy)]

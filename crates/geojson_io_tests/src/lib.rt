@@ -2,6 +2,8 @@
 #![tactic(auto)]
 
 #[cfg(test)]
+mod all_faults;
+#[cfg(test)]
 mod foreign_members;
 #[cfg(test)]
 mod texts_read;

@@ -4,7 +4,7 @@ use grid::{Grid, Pos};
 use shapes::{Feature, Items, Ring, Shape};
 use std::alloc::Global;
 use std::test::Fail;
-use test_values::{rows, told};
+use test_values::{fault_line, rows};
 
 fn grid(scale: i64) -> Result<Grid, Fail> {
     Ok(Grid::new(scale, scale, 0, 0).ok_or("no grid")?)
@@ -33,7 +33,7 @@ const FAULTS: &[(&str, i64, &str, &str)] = rows! {
 fn read_told(alloc: Global, scale: i64, text: &str) -> Result<String, Fail> {
     let grid = grid(scale)?;
     let fault = read(alloc, text.as_bytes(), &grid).err();
-    Ok(told(alloc, fault.as_ref())?)
+    Ok(fault_line(alloc, fault.as_ref())?)
 }
 
 #[test]

@@ -61,6 +61,6 @@ fn stops_at_a_failure(rt: HostRuntime) -> Result<(), Fail> {
     let mut script = failing_sink(rt.alloc())?;
     let fault = write_squares(rt.alloc(), &mut script)?;
     assert!(rt; fault == Some(WriteFault::Write));
-    assert!(rt; script.taken() == &SQUARES.as_bytes()[..16]);
+    assert!(rt; script.bytes_taken() == &SQUARES.as_bytes()[..16]);
     Ok(())
 }

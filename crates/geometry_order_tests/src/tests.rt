@@ -1,11 +1,11 @@
 //! Maps of features that tie by id and properties, and differ in their positions alone.
-ghost use Rattle.geometry_order.specs.Noded.{AreNoded};
-ghost use Rattle.geometry_order.specs.Noted.{IsNotedFor};
+ghost use Rattle.renumbering.specs.GeometryOrder.Noded.{AreNoded};
+ghost use Rattle.renumbering.specs.GeometryOrder.Noted.{IsNotedFor};
 ghost use Rattle.topo.specs.Features.{HasFeature};
 ghost use Rattle.topo.specs.GeometryOrder.{HaveFeatures};
 
 use chains::ArcTable;
-use geometry_order::GeometryOrder;
+use renumbering::geometry_order::GeometryOrder;
 use std::alloc::Global;
 use std::test::Fail;
 use topo::{Geom, Topology};
@@ -147,6 +147,31 @@ fn geometries_of_a_layer_ascend(rt: HostRuntime) -> Result<(), Fail> {
     for (title, maps, count) in CASES {
         let topology = topology_of(rt.alloc(), *maps)?;
         assert!(rt; ascends(rt.alloc(), &topology, *count)?, "{title}");
+    }
+    Ok(())
+}
+
+/// The geometries from the last to the first, each twice.
+fn backwards_twice(alloc: Global, geometries: &[Geom]) -> Result<Vec<Geom>, Fail> {
+    let mut made = Vec::new(alloc);
+    for geometry in geometries.iter().rev() {
+        made.push(geometry.copy(alloc)?)?;
+        made.push(geometry.copy(alloc)?)?;
+    }
+    Ok(made)
+}
+
+#[test]
+fn geometries_are_sorted_and_once(rt: HostRuntime) -> Result<(), Fail> {
+    for (title, maps, _) in CASES {
+        let topology = topology_of(rt.alloc(), *maps)?;
+        let Some(geometries) = topology.geometries("a") else {
+            return Err("no layer".into());
+        };
+        let given = backwards_twice(rt.alloc(), geometries)?;
+        let mut order = GeometryOrder::new();
+        let sorted = order.sort(rt.alloc(), topology.arcs(), given)?;
+        assert!(rt; sorted.as_slice() == geometries, "{title}");
     }
     Ok(())
 }

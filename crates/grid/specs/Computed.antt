@@ -41,7 +41,7 @@ both_numbers (Err f) other = Err (at_element 0 f)
 both_numbers (Ok m) (Err g) = Err (at_element 1 g)
 both_numbers (Ok m) (Ok n) = Ok (m, n)
 
--- the two grid numbers of an absolute place, or its fault, x judged before y
+-- the two grid numbers of an absolute place, or its fault, x checked before y
 abbrev pub place_numbers : Transform → ℤ × ℤ → Result (ℤ × ℤ) GridFault
 place_numbers t a = both_numbers (axis_number t.x a.0) (axis_number t.y a.1)
 

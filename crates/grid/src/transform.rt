@@ -71,7 +71,7 @@ pub enum GridFault {
     OutOfRange(usize),
 }
 
-fn scaled(n: i64, scale: i64) -> i64
+fn multiply(n: i64, scale: i64) -> i64
     requires scale { IsScale scale }
     requires number { IsGridNumber n }
     ensures value { result ≡ (n *ℤ scale) }
@@ -85,7 +85,7 @@ fn absolute(scale: i64, translate: i64, n: i64) -> i64
     requires number { IsGridNumber n }
     ensures { result ≡ absolute_number (scaling scale translate) n }
 {
-    scaled(n, scale) + translate
+    multiply(n, scale) + translate
 }
 
 fn is_absolute(a: i64) -> bool

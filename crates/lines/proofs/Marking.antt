@@ -6,7 +6,7 @@ use Rattle.std.proofs.lemmas.Nat.{and_or_self}
 use Rattle.std.proofs.lemmas.Nat.Bits.{same_from_bits, bit_at_and, bit_at_or}
 use Rattle.theory.specs.Lists.{Has}
 use Rattle.grid.specs.declared.pos.Pos.{Pos}
-use Rattle.lines.specs.Bits.{mask_at, AreSet}
+use Rattle.lines.specs.PositionFilter.{mask_at, AreSet}
 use Rattle.lines.specs.Holding.{AreMarked, IsMarked, Keeps}
 use Rattle.lines.proofs.Dropping.{drop_item, none_left}
 

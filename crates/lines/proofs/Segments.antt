@@ -6,7 +6,7 @@ use Rattle.std.proofs.lemmas.List.Sorted.{IsPermutation-sym}
 use Rattle.grid.specs.declared.pos.Pos.{Pos}
 use Rattle.theory.specs.Lists.{Has, Steps, Beside}
 use Rattle.theory.specs.TopologyFunction.{keep}
-use Rattle.lines.specs.Again.{HoldEnds, joins}
+use Rattle.lines.specs.Visited.{HoldEnds, joins}
 use Rattle.lines.specs.Holding.{Holds}
 use Rattle.lines.specs.Turned.{position_cmp}
 use Rattle.lines.specs.Positions.{position_total, position_same}
@@ -14,7 +14,7 @@ use Rattle.lines.specs.Pairs.{pair_eq, pair_cmp, pair_of}
 use Rattle.lines.specs.Reading.{repeats}
 use Rattle.lines.specs.Neighbours.{equal_neighbours}
 use Rattle.lines.specs.Segments.{segments_from, segments_of}
-use Rattle.lines.specs.declared.pair.Pair.{Pair}
+use Rattle.lines.specs.declared.pair.PositionPair.{PositionPair}
 use Rattle.lines.proofs.Dropping.{drop_item}
 use Rattle.lines.proofs.Doubles.{Doubled, doubled_twice, twice_doubled, twice_kept, kept_doubled, neighbours_doubled, doubled_neighbours, Doubled-permutation}
 use Rattle.lines.proofs.Pairs.{pair_total, pair_tied, pair_true, pair_refl, pair_same, pair_flip, pair_at}
@@ -63,7 +63,7 @@ one_test false true f g = g refl
 one_test false false f g = refl
 
 -- neighbours in a sorted list tell whether a segment stands twice, where one does so in the list only if one does so among the segments
-told_by_sorting : (l : List Pos) (xs ys : List Pair) → (Doubled (segments_of l) → Doubled xs) → (Doubled xs → Doubled (segments_of l)) →
+told_by_sorting : (l : List Pos) (xs ys : List PositionPair) → (Doubled (segments_of l) → Doubled xs) → (Doubled xs → Doubled (segments_of l)) →
     IsPermutation xs ys → IsSorted pair_cmp ys → equal_neighbours pair_eq ys ≡ repeats position_cmp l
 told_by_sorting l xs ys f g p s =
     one_test (equal_neighbours pair_eq ys) (repeats position_cmp l)
@@ -82,7 +82,7 @@ doubled_between l ends may noted held h =
     twice_doubled t.0 (keep (joins may) (segments_of l)) (twice_kept (joins may) (segments_of l) t.0 m t.1)
 
 -- the same in the form of the code: made, sorted, looked through
-pub told_by_code : (l ends marked : List Pos) (may : Pos → Bool) (xs ys zs : List Pair) (b : Bool) → HoldEnds ends l → marked ≡ ends → Holds may marked →
+pub told_by_code : (l ends marked : List Pos) (may : Pos → Bool) (xs ys zs : List PositionPair) (b : Bool) → HoldEnds ends l → marked ≡ ends → Holds may marked →
     xs ≡ keep (joins may) (segments_of l) → IsPermutation xs ys → IsSorted pair_cmp ys → zs ≡ ys → b ≡ equal_neighbours pair_eq zs → b ≡ repeats position_cmp l
 told_by_code l ends marked may xs ys zs b noted same held e p s f g =
     g ∙ ap (equal_neighbours pair_eq) f
@@ -102,14 +102,14 @@ none_told l ends n b noted m e t =
     nothing (x ∷ ps) z p h = absurd (omega (arith, z))
 
 -- one more segment is kept, or left out
-kept_from : (f : Pair → Bool) (here next : Pos) (others : List Pos) (i : ℕ) (b : Bool) → i < length others → next ≡ get_or others i next → f (pair_of here next) ≡ b →
+kept_from : (f : PositionPair → Bool) (here next : Pos) (others : List Pos) (i : ℕ) (b : Bool) → i < length others → next ≡ get_or others i next → f (pair_of here next) ≡ b →
     keep f (segments_from here (drop i others))
     ≡ cond b (pair_of here next ∷ keep f (segments_from next (drop (i + 1) others))) (keep f (segments_from next (drop (i + 1) others)))
 kept_from f here next others i b h e t =
     ap (λ l. keep f (segments_from here l)) (drop_item others i next h e)
     ∙ ap (λ t. cond t (pair_of here next ∷ keep f (segments_from next (drop (i + 1) others))) (keep f (segments_from next (drop (i + 1) others)))) t
 
-pub segment_kept : (f : Pair → Bool) (made more whole : List Pair) (segment : Pair) (here next : Pos) (others : List Pos) (i : ℕ) (b : Bool) →
+pub segment_kept : (f : PositionPair → Bool) (made more whole : List PositionPair) (segment : PositionPair) (here next : Pos) (others : List Pos) (i : ℕ) (b : Bool) →
     i < length others → next ≡ get_or others i next → segment ≡ pair_of here next → b ≡ f segment → b ≡ true → more ≡ made ++ (segment ∷ []) →
     made ++ keep f (segments_from here (drop i others)) ≡ whole → more ++ keep f (segments_from next (drop (i + 1) others)) ≡ whole
 segment_kept f made more whole segment here next others i b h e s t y m before =
@@ -117,7 +117,7 @@ segment_kept f made more whole segment here next others i b h e s t y m before =
     ap (λ l. l ++ rest) m ∙ append_assoc made (segment ∷ []) rest ∙ ap (λ w. made ++ (w ∷ rest)) s
     ∙ sym (ap (λ l. made ++ l) (kept_from f here next others i true h e (ap f (sym s) ∙ sym t ∙ y))) ∙ before
 
-pub segment_left_out : (f : Pair → Bool) (made more whole : List Pair) (segment : Pair) (here next : Pos) (others : List Pos) (i : ℕ) (b : Bool) →
+pub segment_left_out : (f : PositionPair → Bool) (made more whole : List PositionPair) (segment : PositionPair) (here next : Pos) (others : List Pos) (i : ℕ) (b : Bool) →
     i < length others → next ≡ get_or others i next → segment ≡ pair_of here next → b ≡ f segment → b ≡ false → more ≡ made →
     made ++ keep f (segments_from here (drop i others)) ≡ whole → more ++ keep f (segments_from next (drop (i + 1) others)) ≡ whole
 segment_left_out f made more whole segment here next others i b h e s t n m before =

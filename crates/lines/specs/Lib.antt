@@ -7,6 +7,6 @@ pub mod Segments
 pub mod Neighbours
 pub mod Seen
 pub mod Holding
-pub mod Bits
-pub mod Again
+pub mod PositionFilter
+pub mod Visited
 pub mod ByVertex

@@ -1,7 +1,7 @@
--- Equal neighbours in a list, where `eq` tells which items are equal.
+-- Equal neighbours in a list, where `eq` says which items are equal.
 use Rattle.std.specs.Prelude.{Bool, true, false, cond, List, [], ◌∷◌}
 
--- the same where x stands in front of the list
+-- the same where x is in front of the list
 abbrev pub equal_from : {T : Type 0} → (T → T → Bool) → T → List T → Bool
 equal_from eq x [] = false
 equal_from eq x (y ∷ l) = cond (eq y x) true (equal_from eq y l)

@@ -26,7 +26,7 @@ abbrev pub repeats_from : {V : Type 0} → (V → V → Ordering) → V → List
 repeats_from cmp x [] = false
 repeats_from cmp x (y ∷ l) = cond (are_beside cmp x y y l) true (repeats_from cmp y l)
 
--- whether an unordered pair of neighbours stands at two places [RFC 7946, 3.1.6; own]
+-- whether an unordered pair of neighbours is at two places [RFC 7946, 3.1.6; own]
 abbrev pub repeats : {V : Type 0} → (V → V → Ordering) → List V → Bool
 repeats cmp [] = false
 repeats cmp (x ∷ l) = repeats_from cmp x l
@@ -61,7 +61,7 @@ ring_fault cmp l = collapsed_ring_fault cmp (collapsed cmp l)
 abbrev pub IsRingRead : {V : Type 0} → (V → V → Ordering) → List V → Type 0
 IsRingRead {V} cmp c = (l : List V) × (c ≡ collapsed cmp l) × (ring_fault cmp l ≡ None)
 
--- the ring of a closed list: the least of its rotations, without the closing repeat
+-- the ring of a closed list: its least rotation, without the closing repeat
 -- [RFC 7946, 3.1.6; starting place own]
 unfoldable pub ring_of : {V : Type 0} → (V → V → Ordering) → List V → List V
 ring_of cmp l = least_list (slice_cmp cmp) (rotations (opened (collapsed cmp l)))

@@ -7,23 +7,23 @@ use grid::pos::Pos;
 /// An unordered pair of positions. It is kept with the lesser first, so the pair of a and b is that of
 /// b and a.
 #[derive(Clone, Copy, PartialEq, Eq, PartialOrd, Ord, Hash, Debug)]
-pub struct Pair {
+pub struct PositionPair {
     lesser: Pos,
     greater: Pos,
 }
 
-impl Pair {
+impl PositionPair {
     /// The pair of two positions, in either order.
-    pub fn of(a: Pos, b: Pos) -> Pair
+    pub fn of(a: Pos, b: Pos) -> PositionPair
         ensures { result ≡ pair_of a b }
     {
         if a < b {
-            Pair {
+            PositionPair {
                 lesser: a,
                 greater: b,
             }
         } else {
-            Pair {
+            PositionPair {
                 lesser: b,
                 greater: a,
             }

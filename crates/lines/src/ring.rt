@@ -61,7 +61,7 @@ impl Ring {
         if repeats_segment(alloc, &closed)? {
             return Err(ShapeFault::Revisit);
         }
-        Ok(Ring::turned(closed))
+        Ok(Ring::turn_to_least(closed))
     }
 
     /// The same, where the caller knows that the list is a ring's: nothing is tested.
@@ -70,11 +70,11 @@ impl Ring {
         ensures { vertices_of result ≡ ring_of position_cmp closed.items }
     {
         collapse(&mut closed);
-        Ring::turned(closed)
+        Ring::turn_to_least(closed)
     }
 
     /// The ring of a list without a fault, in which no neighbours are equal.
-    fn turned(mut closed: Vec<Pos>) -> Ring
+    fn turn_to_least(mut closed: Vec<Pos>) -> Ring
         requires { IsRingRead position_cmp closed.items }
         ensures { (l : List Pos) → closed.items ≡ collapsed position_cmp l → ring_fault position_cmp l ≡ None → vertices_of result ≡ ring_of position_cmp l }
     {
@@ -99,7 +99,7 @@ impl Ring {
         ensures { IfOk result (λ ring. ring ≡ self.now) }
     {
         Ok(Ring {
-            positions: Items::cloned(alloc, self.vertices())?,
+            positions: Items::from_slice(alloc, self.vertices())?,
         })
     }
 }

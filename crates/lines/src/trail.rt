@@ -1,21 +1,21 @@
 //! What makes a list of positions a trail: neighbours differ, and no segment occurs twice.
-ghost use Rattle.lines.specs.Again.{joins};
-ghost use Rattle.lines.specs.Bits.{may_hold};
+ghost use Rattle.lines.specs.Visited.{joins};
+ghost use Rattle.lines.specs.PositionFilter.{may_hold};
 ghost use Rattle.lines.specs.Reading.{collapsed, is_closed as closes, repeats};
 ghost use Rattle.lines.specs.Segments.{segments_of};
 ghost use Rattle.lines.specs.Turned.{position_cmp};
 ghost use Rattle.std.specs.Prelude.{◌≡◌, IfOk};
 ghost use Rattle.theory.specs.TopologyFunction.{keep};
 
-use crate::again::ends_again;
-use crate::bits::PositionBits;
 use crate::neighbours::has_equal_neighbours;
-use crate::pair::Pair;
+use crate::pair::PositionPair;
+use crate::position_filter::PositionFilter;
+use crate::visited::ends_again;
 use grid::pos::Pos;
 use std::alloc::{AllocError, Global};
 
 /// Whether both ends of a segment may be among some positions.
-fn may_join(ends: &PositionBits, segment: Pair) -> bool
+fn may_join(ends: &PositionFilter, segment: PositionPair) -> bool
     ensures { result ≡ joins (may_hold ends.now) segment }
 {
     let (lesser, greater) = segment.ends();
@@ -25,9 +25,9 @@ fn may_join(ends: &PositionBits, segment: Pair) -> bool
 /// The segments both of whose ends may be among some positions, in the list's order.
 fn segments_between(
     alloc: Global,
-    ends: &PositionBits,
+    ends: &PositionFilter,
     positions: &[Pos],
-) -> Result<Vec<Pair>, AllocError>
+) -> Result<Vec<PositionPair>, AllocError>
     ensures { IfOk result (λ made. made.items ≡ keep (joins (may_hold ends.now)) (segments_of positions.now)) }
 {
     let mut made = Vec::new(alloc);
@@ -36,7 +36,7 @@ fn segments_between(
     };
     let mut here = *first;
     for next in others {
-        let segment = Pair::of(here, *next);
+        let segment = PositionPair::of(here, *next);
         if may_join(ends, segment) {
             made.push(segment)?;
         }
@@ -54,7 +54,7 @@ pub(crate) fn repeats_segment(alloc: Global, positions: &[Pos]) -> Result<bool, 
     if ends.is_empty() {
         return Ok(false);
     }
-    let bits = PositionBits::of(alloc, &ends)?;
+    let bits = PositionFilter::of(alloc, &ends)?;
     let mut segments = segments_between(alloc, &bits, positions)?;
     segments.sort_unstable();
     Ok(has_equal_neighbours(&segments))

@@ -13,8 +13,8 @@ use refused_calls::tables::both;
 use refused_calls::texts::{FIRST, Places, SHARED_EDGE};
 use shapes::Ring;
 use std::alloc::Global;
-use topo::run::is_same;
-use topo::{Geom, Layer, Run, Topology, Walk, kind_order};
+use topo::arc_slice::is_same;
+use topo::{ArcSlice, Geom, Layer, Topology, Walk, kind_order};
 
 /// The ring of the first square.
 const SQUARE: Places = &[(0, 0), (1, 0), (1, 1), (0, 1), (0, 0)];
@@ -79,8 +79,8 @@ fn is_at(position: Option<&Pos>, x: i64, y: i64) -> bool {
 }
 
 /// The first arc, backwards.
-fn run(topology: &Topology) -> Run<'_> {
-    Run::of_arc(topology.arcs(), ArcRef::from_index(-1))
+fn run(topology: &Topology) -> ArcSlice<'_> {
+    ArcSlice::of_arc(topology.arcs(), ArcRef::from_index(-1))
 }
 
 fn takes_first(topology: &Topology) -> bool {
@@ -94,7 +94,7 @@ fn takes_last(topology: &Topology) -> bool {
 }
 
 fn runs_behind_first(topology: &Topology) -> bool {
-    let mut run = Run::behind_first(topology.arcs(), ArcRef::from_index(-1));
+    let mut run = ArcSlice::behind_first(topology.arcs(), ArcRef::from_index(-1));
     is_at(run.take_first(), 0, 1) && run.len() == 2
 }
 
@@ -111,7 +111,7 @@ fn runs_behind(topology: &Topology) -> bool {
 fn runs_along(topology: &Topology) -> bool {
     match topology.arcs().arc(0) {
         Some(arc) => {
-            let forwards = Run::of_arc(topology.arcs(), ArcRef::from_index(0));
+            let forwards = ArcSlice::of_arc(topology.arcs(), ArcRef::from_index(0));
             forwards.is_along(arc) && !run(topology).is_along(arc)
         }
         None => false,
@@ -184,8 +184,15 @@ fn is_same_alone(grid: Grid) -> bool {
     }
 }
 
+/// The used arc that is read backwards, and back again.
+fn flips() -> bool {
+    let used = ArcRef::from_index(1);
+    are_used(&[used.flip(), used.flip().flip()], &[-2, 1])
+}
+
 fn settle_table(rt: &HostRuntime, tally: &mut Tally, arcs: &ArcTable) {
     rows!(rt, tally;
+        "ArcRef::flip" => flips(),
         "ArcTable::len" => arcs.len() == 3,
         "ArcTable::is_free" => !arcs.is_free(0) && !arcs.is_free(3),
     );
@@ -193,15 +200,15 @@ fn settle_table(rt: &HostRuntime, tally: &mut Tally, arcs: &ArcTable) {
 
 fn settle_runs(rt: &HostRuntime, tally: &mut Tally, topology: &Topology) {
     rows!(rt, tally;
-        "Run::empty" => Run::empty().len() == 0,
-        "Run::of_arc" => run(topology).len() == 4,
-        "Run::behind_first" => runs_behind_first(topology),
-        "Run::take_first" => takes_first(topology),
-        "Run::take_last" => takes_last(topology),
-        "Run::len" => run(topology).len() == 4,
-        "Run::until" => runs_until(topology),
-        "Run::behind" => runs_behind(topology),
-        "Run::is_along" => runs_along(topology),
+        "ArcSlice::empty" => ArcSlice::empty().len() == 0,
+        "ArcSlice::of_arc" => run(topology).len() == 4,
+        "ArcSlice::behind_first" => runs_behind_first(topology),
+        "ArcSlice::take_first" => takes_first(topology),
+        "ArcSlice::take_last" => takes_last(topology),
+        "ArcSlice::len" => run(topology).len() == 4,
+        "ArcSlice::until" => runs_until(topology),
+        "ArcSlice::behind" => runs_behind(topology),
+        "ArcSlice::is_along" => runs_along(topology),
     );
 }
 

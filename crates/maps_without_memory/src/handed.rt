@@ -1,7 +1,7 @@
 //! Topologies and results that are handed over to calls that take no memory.
 
 use crate::results::{cut_again, joined_again, taken_out};
-use recutting::Recut;
+use heal_arcs::Rejoined;
 use refine::Removal;
 use refused_calls::handed::Handed;
 use refused_calls::inputs::{built, is_of};
@@ -9,8 +9,8 @@ use refused_calls::outcome::Tally;
 use refused_calls::rows;
 use refused_calls::tables::both;
 use refused_calls::texts::{FIRST, SHARED_EDGE};
-use rejoining::Rejoined;
 use shapes::Spelled;
+use split_arcs::Recut;
 use std::alloc::Global;
 use topo::{Layer, Topology};
 

@@ -2,8 +2,8 @@
 
 use chains::ArcRef;
 use grid::Grid;
+use heal_arcs::{Rejoined, rejoin};
 use merging::Shard;
-use recutting::{Recut, Side, recut};
 use refine::remove::remove;
 use refine::{Cut, Edit, Removal, Session, Whole};
 use refused_calls::comparing::are_used;
@@ -13,7 +13,7 @@ use refused_calls::outcome::Tally;
 use refused_calls::rows;
 use refused_calls::tables::both;
 use refused_calls::texts::{FIRST, SECOND, SHARED_EDGE, THIRD};
-use rejoining::{Rejoined, rejoin};
+use split_arcs::{Recut, Side, recut};
 use std::alloc::Global;
 
 /// The arcs of two squares, cut again with those of a third and joined again without the second, and the squares

@@ -1,10 +1,9 @@
 -- Texts that are read one after the other, and what their merge answers.
-use Rattle.std.proofs.Common.{◌≡◌, ℕ, suc, ◌+◌, List, [], ◌∷◌, ◌++◌, Bool, Option, Some, None, Result, Ok, Err, IfOk, Bor, length, refl, sym, ◌∙◌, ap, subst, arith, append_assoc, append-nil, ◌<◌}
+use Rattle.std.proofs.Common.{◌≡◌, ℕ, suc, ◌+◌, List, [], ◌∷◌, ◌++◌, Bool, Some, None, Bor, length, refl, sym, ◌∙◌, ap, subst, arith, append_assoc, append-nil, ◌<◌}
 use Rattle.std.specs.Prelude.{map, All, cond, nat_lt, not}
 use Rattle.std.specs.List.{prefix_len}
 use Rattle.std.proofs.lemmas.List.{length-append}
 use Rattle.std.proofs.lemmas.List.Elements.{All-cons, All-nil}
-use Rattle.std.proofs.lemmas.Iterator.{YieldsList, IsCollectResult, items_from_drains}
 use Rattle.faults.specs.declared.fault.Fault.{Fault}
 use Rattle.grid.specs.Place.{Transform}
 use Rattle.shapes.specs.Maps.{Layers}
@@ -17,9 +16,7 @@ use Rattle.merging.specs.declared.fault.MergeFault.{MergeFault}
 use Rattle.merging.specs.declared.fault.MergeFault.TheVariants.{BadPlan, Text, OtherGrid, OutOfMemory}
 use Rattle.merging.specs.Leaves.{first_outside}
 use Rattle.merging.specs.Plans.{first_other, off_grid}
-use Rattle.std.specs.declared.vec.Vec.{Vec}
-use Rattle.std.specs.declared.alloc.Global.{Global}
-use Rattle.merging.specs.Merge.{bytes_of, AreAccepted, AreMeant, AreRead, IsFaultOf, IsReadFault, IsMergeFault}
+use Rattle.merging.specs.Merge.{AreAccepted, AreMeant, AreRead, IsFaultOf, IsReadFault, IsMergeFault}
 
 -- the texts before that number were read, and these are left
 pub record SoFar {S : Type 0} (grid : S → Transform) (map_of : S → Layers) (texts left : List (List ℕ)) (number : ℕ) (shards : List S) : Type 0 where
@@ -110,30 +107,28 @@ pub none_mapped : {A B : Type 0} (f : A → B) (xs : List A) → length xs ≡ 0
 none_mapped f [] e = refl
 none_mapped f (x ∷ xs) e = absurd (omega arith)
 
--- what a list that is collected shows
-pub collected : {S A B Z E : Type 0} {steps : S → Option A → S → Type 0} {v : A → B} {s : S} {all : List B} (r : Result (Vec A Z) E) → IsCollectResult steps s r → YieldsList steps v s all → IfOk r (λ w. map v w.items ≡ all)
-collected {v} (Ok w) (xs, drains, is) road = ap (map v) is.0 ∙ items_from_drains xs drains road
-collected (Err e) h road = tt
+pub length_bytes : {S M : Type 0} (f : S → M) (ss : List S) → length (map f ss) ≡ length ss
+length_bytes f [] = refl
+length_bytes f (s ∷ ss) = ap suc (length_bytes f ss)
 
 mapped_twice : {A B C : Type 0} (g : B → C) (f : A → B) (xs : List A) → map (λ x. g (f x)) xs ≡ map g (map f xs)
 mapped_twice g f [] = refl
 mapped_twice g f (x ∷ xs) = ap (λ w. g (f x) ∷ w) (mapped_twice g f xs)
 
 -- borrowed texts have the bytes of the texts
-pub lent_bytes : (lent : List (Bor (Vec ℕ Global))) (texts : List (Vec ℕ Global)) → map (λ t. t.now) lent ≡ texts → map (λ t. t.now.items) lent ≡ bytes_of texts
-lent_bytes lent texts e = mapped_twice (λ t. t.items) (λ t. t.now) lent ∙ ap bytes_of e
+pub lent_bytes : {T : Type 0} (bytes : T → List ℕ) (lent : List (Bor T)) (texts : List T) → map (λ t. t.now) lent ≡ texts → map (λ t. bytes t.now) lent ≡ map bytes texts
+lent_bytes bytes lent texts e = mapped_twice bytes (λ t. t.now) lent ∙ ap (map bytes) e
+
+pub lent_count : {T : Type 0} (lent : List (Bor T)) (texts : List T) → map (λ t. t.now) lent ≡ texts → length lent ≡ length texts
+lent_count lent texts e = sym (length_bytes (λ t. t.now) lent) ∙ ap length e
 
 prefix_mapped : {S M : Type 0} (p : M → Bool) (f : S → M) (ss : List S) → prefix_len p (map f ss) ≡ prefix_len (λ s. p (f s)) ss
 prefix_mapped p f [] = refl
 prefix_mapped p f (s ∷ ss) = ap (λ n. cond (p (f s)) (1 + n) 0) (prefix_mapped p f ss)
 
-length_mapped : {S M : Type 0} (f : S → M) (ss : List S) → length (map f ss) ≡ length ss
-length_mapped f [] = refl
-length_mapped f (s ∷ ss) = ap suc (length_mapped f ss)
-
 off_mapped : {S : Type 0} (f : S → Transform) (g : Transform) (ss : List S) → off_grid (λ h. h) g (map f ss) ≡ off_grid f g ss
 off_mapped f g ss =
-    (λ i. cond (nat_lt (prefix_mapped (λ h. not (not (same_grid h g))) f ss i) (length_mapped f ss i)) (Some (prefix_mapped (λ h. not (not (same_grid h g))) f ss i)) None)
+    (λ i. cond (nat_lt (prefix_mapped (λ h. not (not (same_grid h g))) f ss i) (length_bytes f ss i)) (Some (prefix_mapped (λ h. not (not (same_grid h g))) f ss i)) None)
 
 pub other_mapped : {S : Type 0} (f : S → Transform) (ss : List S) → first_other (λ h. h) (map f ss) ≡ first_other f ss
 other_mapped f [] = refl
@@ -151,6 +146,3 @@ grids_merge f h texts ss grids is n none read same other = (
   read_accepted f h texts ss read,
   sym (same_others f grid_of_text ss texts (read_grids f h texts ss read)) ∙ sym (other_mapped f ss) ∙ ap (first_other (λ g. g)) (sym same) ∙ other,
 )
-
-pub length_bytes : {A B : Type 0} (f : A → B) (xs : List A) → length (map f xs) ≡ length xs
-length_bytes f xs = length_mapped f xs

@@ -1,5 +1,6 @@
 -- What a merge of texts answers.
 use Rattle.std.specs.Prelude.{◌≡◌, ℕ, Bool, List, [], Some, None, length, map, All}
+use Rattle.std.specs.Borrow.{Bor}
 use Rattle.std.specs.List.{range_with_len}
 use Rattle.std.specs.declared.vec.Vec.{Vec}
 use Rattle.std.specs.declared.alloc.Global.{Global}
@@ -22,6 +23,10 @@ use Rattle.topo_io.specs.Roots.{faults_of_text, grid_of_text}
 -- the bytes of each text
 abbrev pub bytes_of : List (Vec ℕ Global) → List (List ℕ)
 bytes_of texts = map (λ t. t.items) texts
+
+-- the bytes of each borrowed text
+abbrev pub lent_texts : List (Bor (List ℕ)) → List (List ℕ)
+lent_texts texts = map (λ t. t.now) texts
 
 -- the places of all items of a list
 abbrev pub all_places : {A : Type 0} → List A → List ℕ
@@ -95,7 +100,7 @@ IsFaultOf number fault (Text n f) = (n ≡ number) × (f ≡ fault) × (IsWant f
 IsFaultOf number fault (OtherGrid n) = ⊥
 IsFaultOf number fault OutOfMemory = Unit {0}
 
--- the text of that number is refused with its least fault, or memory was refused
+-- the text of that number is refused with its first error, or memory was refused
 abbrev pub IsRefusalOf : ℕ → List ℕ → MergeFault → Type 0
 IsRefusalOf number text e = (f : Fault) × LeastOrWant (faults_of_text text) f × IsFaultOf number f e
 

@@ -16,19 +16,19 @@ use Rattle.theory.specs.ArcNumbers.{ArcRef, StitchTo, along}
 use Rattle.theory.specs.LinesAndRings.{IsRotation, closed}
 use Rattle.theory.specs.Lists.{Pairwise}
 use Rattle.theory.specs.Refinement.{replaced}
-use Rattle.rejoining.specs.Parts.{RejoinedParts}
+use Rattle.heal_arcs.specs.Parts.{RejoinedParts}
 use Rattle.topo.specs.Features.{IsLineOf, IsRingOf, IsShapeOf}
 use Rattle.topo.specs.Parts.{LayerParts}
 use Rattle.topo.specs.declared.geom.Body as bodies
 use Rattle.topo.specs.declared.geom.Body.TheVariants as to
 use Rattle.topo.specs.declared.geom.Geom.{Geom}
-use Rattle.taking.specs.Kept.{KeepLayers, KeepsFeature, KeepsLayer}
-use Rattle.taking.specs.Laws.{HaveI64}
+use Rattle.validate.specs.Accept.Kept.{KeepLayers, KeepsFeature, KeepsLayer}
+use Rattle.validate.specs.Accept.Laws.{HaveI64}
 use Rattle.normalize.specs.Lists.{all_have_pieces, begun_as, geometry_healed, layer_healed, line_healed, line_joined, listed_if, nowhere, place_of, ring_healed, ring_joined, same_ref, same_refs}
 use Rattle.normalize.specs.Pieces.{AreJoinedOf, AreSplit}
 use Rattle.normalize.proofs.Replaced.{replaced_stitch, unreplaced_stitch}
 use Rattle.normalize.proofs.Turning.{elsewhere}
-use Rattle.rewriting.specs.Rewritten.{body_rewritten}
+use Rattle.renumbering.specs.Rewritten.{body_rewritten}
 use mathlib.Core.Bool.{beq}
 
 -- one by one, where what f gives stands for each member

@@ -2,6 +2,9 @@ mod Marks
 mod SeenLists
 mod Behind
 mod Replaced
-mod Numbered
+pub mod Numbered
+mod Repeating
 mod Turning
 mod Kept
+pub mod Collapsing
+pub mod ArcListsLemmas

@@ -3,7 +3,7 @@ use Rattle.std.proofs.Common.{◌≡◌, ℕ, ◌+◌, ◌<◌, Bool, true, List
 use Rattle.lines.proofs.Dropping.{drop_item}
 use Rattle.theory.specs.ArcNumbers.{ArcRef}
 use Rattle.theory.specs.Lists.{joined}
-use Rattle.standing.specs.Marks.{marks_set}
+use Rattle.validate.specs.UsedArcs.{marks_set}
 use Rattle.normalize.specs.Used.{lists_marked}
 
 pub marked-append : (marks : List Bool) (l k : List (List ArcRef)) → lists_marked marks (l ++ k) ≡ lists_marked (lists_marked marks l) k

@@ -1,5 +1,5 @@
 -- Loops over the numbers of arcs.
-use Rattle.std.proofs.Common.{◌≡◌, ◌<◌, ◌≤◌, ◌+◌, ℕ, zero, suc, List, [], ◌∷◌, ◌++◌, drop, length, slice_get, Some, ◌⊎◌, inl, inr, refl, sym, ap, ◌∙◌, subst, append_assoc, arith}
+use Rattle.std.proofs.Common.{◌≡◌, ◌<◌, ◌≤◌, ◌+◌, ℕ, zero, suc, List, [], ◌∷◌, ◌++◌, drop, length, slice_get, Some, map, ◌⊎◌, inl, inr, refl, sym, ap, ◌∙◌, subst, append_assoc, arith}
 use Rattle.grid.specs.declared.pos.Pos.{Pos}
 use Rattle.theory.specs.ArcNumbers.{ArcRef, StitchTo}
 use Rattle.theory.specs.Refinement.{pieces_at}
@@ -8,7 +8,7 @@ use Rattle.normalize.specs.Pieces.{AreJoinedOf, ArePieces, AreSplit}
 use Rattle.normalize.proofs.Replaced.{at_some}
 
 -- what stands at a place, and what is left from it on
-at_place : {A : Type 0} (n : ℕ) (l : List A) → n < length l → (x : A) × (slice_get l n ≡ Some x) × (drop n l ≡ x ∷ drop (n + 1) l)
+pub at_place : {A : Type 0} (n : ℕ) (l : List A) → n < length l → (x : A) × (slice_get l n ≡ Some x) × (drop n l ≡ x ∷ drop (n + 1) l)
 at_place n [] h = absurd (omega (arith, h))
 at_place zero (x ∷ l) h = (x, refl, refl)
 at_place (suc n) (x ∷ l) h =
@@ -16,13 +16,13 @@ at_place (suc n) (x ∷ l) h =
     let k : suc n + 1 ≡ suc (n + 1) = omega arith in
     (t.0, t.1, t.2 ∙ ap (λ m. t.0 ∷ drop m (x ∷ l)) (sym k))
 
-none_left : {A : Type 0} (n : ℕ) (l : List A) → length l ≤ n → drop n l ≡ []
+pub none_left : {A : Type 0} (n : ℕ) (l : List A) → length l ≤ n → drop n l ≡ []
 none_left zero [] h = refl
 none_left zero (x ∷ l) h = absurd (omega (arith, h))
 none_left (suc n) [] h = refl
 none_left (suc n) (x ∷ l) h = none_left n l (omega (arith, h))
 
-within : {A : Type 0} (l : List A) (i : ℕ) (x : A) → slice_get l i ≡ Some x → i < length l
+pub within : {A : Type 0} (l : List A) (i : ℕ) (x : A) → slice_get l i ≡ Some x → i < length l
 within [] i x e = absurd cc
 within (y ∷ l) zero x e = omega arith
 within (y ∷ l) (suc i) x e = let k = within l i x e in omega (arith, k)
@@ -46,7 +46,7 @@ split_all table arcs made n h so =
 abbrev pub StitchBefore : List (List Pos) → List (List Pos) → List (List ArcRef) → ℕ → Type 0
 StitchBefore table arcs pieces n = (i : ℕ) (c : List Pos) → i < n → slice_get arcs i ≡ Some c → StitchTo table (pieces_at pieces i) c
 
-last_or : (i n : ℕ) → i < n + 1 → (i < n) ⊎ (i ≡ n)
+pub last_or : (i n : ℕ) → i < n + 1 → (i < n) ⊎ (i ≡ n)
 last_or zero zero h = inr refl
 last_or zero (suc n) h = inl (omega arith)
 last_or (suc i) zero h = absurd (omega (arith, h))
@@ -69,3 +69,20 @@ numbered_stitch table arcs pieces n ps c d e f h there =
     let k : Some c ≡ Some d = e ∙ there in
     let same : c ≡ d = cc in
     subst (λ w. StitchTo table w d) (sym (at_some pieces n ps f)) (subst (λ w. StitchTo table ps w) same h)
+
+-- what stands at a place is the first of what is left from it on
+pub left_at : {A : Type 0} (l : List A) (n : ℕ) (x : A) → slice_get l n ≡ Some x → drop n l ≡ x ∷ drop (n + 1) l
+left_at l n x there =
+    let t = at_place n l (within l n x there) in
+    let k : Some t.0 ≡ Some x = sym t.1 ∙ there in
+    let same : t.0 ≡ x = cc in
+    t.2 ∙ ap (λ w. w ∷ drop (n + 1) l) same
+
+-- with what is left, those made so far are all
+pub mapped_more : {A B : Type 0} (f : A → B) (l : List A) (n : ℕ) (x : A) (made now : List B) → slice_get l n ≡ Some x → now ≡ made ++ (f x ∷ []) →
+    made ++ map f (drop n l) ≡ map f l → now ++ map f (drop (n + 1) l) ≡ map f l
+mapped_more f l n x made now there e before =
+    ap (λ w. w ++ map f (drop (n + 1) l)) e
+    ∙ append_assoc made (f x ∷ []) (map f (drop (n + 1) l))
+    ∙ ap (λ w. made ++ map f w) (sym (left_at l n x there))
+    ∙ before

@@ -5,11 +5,11 @@ use Rattle.lines.proofs.Dropping.{drop_item}
 use Rattle.theory.specs.ArcNumbers.{ArcRef, flipped}
 use Rattle.theory.specs.Lists.{gathered, last_of}
 use Rattle.chains.proofs.Layers.{gathered-append}
-use Rattle.standing.specs.Runs.{ends_in, first_end}
-use Rattle.standing.proofs.Steps.{last_get}
+use Rattle.validate.specs.Chaining.{ends_in, first_end}
+use Rattle.validate.proofs.Steps.{last_get}
 use Rattle.normalize.specs.Seen.{list_ends, start_along}
 use Rattle.normalize.specs.Used.{lists_marked}
-use Rattle.normalize.specs.declared.seen.Seen.{Seen}
+use Rattle.normalize.specs.declared.seen.ArcsSeen.{ArcsSeen}
 use Rattle.normalize.proofs.Marks.{marked-append}
 
 -- the first vertex of an arc, and the last
@@ -36,14 +36,14 @@ ends_added arcs refs others a back old mid now r b e f =
     ∙ ap (λ w. old ++ list_ends arcs w) (sym r)
 
 -- a loop over what has lines and lists: with those of what is left the marks and the ends come to what they come to with all
-module _ {A : Type 0} (arcs : List (List Pos)) (lines lists : A → List (List ArcRef)) (xs : List A) (start : Seen) where
-  abbrev pub ComesTo : Seen → ℕ → Type 0
+module _ {A : Type 0} (arcs : List (List Pos)) (lines lists : A → List (List ArcRef)) (xs : List A) (start : ArcsSeen) where
+  abbrev pub ComesTo : ArcsSeen → ℕ → Type 0
   ComesTo seen i = record {
     used : lists_marked seen.used.items (gathered lists (drop i xs)) ≡ lists_marked start.used.items (gathered lists xs);
     ends : seen.ends.items ++ gathered (list_ends arcs) (gathered lines (drop i xs)) ≡ start.ends.items ++ gathered (list_ends arcs) (gathered lines xs);
   }
 
-  pub seen_on : (i : ℕ) (x : A) (old now : Seen) → i < length xs → x ≡ get_or xs i x → now.used.items ≡ lists_marked old.used.items (lists x) →
+  pub seen_on : (i : ℕ) (x : A) (old now : ArcsSeen) → i < length xs → x ≡ get_or xs i x → now.used.items ≡ lists_marked old.used.items (lists x) →
       now.ends.items ≡ old.ends.items ++ gathered (list_ends arcs) (lines x) → ComesTo old i → ComesTo now (i + 1)
   seen_on i x old now h e marked added before = record {
     used =

@@ -3,10 +3,10 @@ use Rattle.std.specs.Prelude.{List, [], ◌∷◌, ◌++◌, Option, Some, None}
 use Rattle.grid.specs.declared.pos.Pos.{Pos}
 use Rattle.theory.specs.ArcNumbers.{ArcRef, flipped}
 use Rattle.theory.specs.Lists.{gathered, last_of}
-use Rattle.standing.specs.Runs.{ends_along, first_end}
+use Rattle.validate.specs.Chaining.{ends_along, first_end}
 use Rattle.topo.specs.Parts.{LayerParts}
 use Rattle.topo.specs.declared.geom.Geom.{Geom}
-use Rattle.taking.specs.Lists.{body_lines, body_rings, layers_lines}
+use Rattle.validate.specs.Accept.Lists.{body_lines, body_rings, layers_lines}
 
 -- where there is one
 abbrev pub alone : {A : Type 0} → Option A → List A

@@ -1,7 +1,7 @@
 -- Marks of the arcs that lists use.
 use Rattle.std.specs.Prelude.{Bool, true, List, [], ◌∷◌}
 use Rattle.theory.specs.ArcNumbers.{ArcRef}
-use Rattle.standing.specs.Marks.{marks_set}
+use Rattle.validate.specs.UsedArcs.{marks_set}
 
 -- the marks, with those of the arcs of lists set
 abbrev pub lists_marked : List Bool → List (List ArcRef) → List Bool

@@ -11,7 +11,7 @@ use shapes::layer::feature_set;
 use shapes::props::Props;
 use shapes::shape::{Id, Shape};
 use std::alloc::Global;
-use taking::TextArcs;
+use validate::accept::TextArcs;
 
 /// The place of the first of the least positions.
 fn place_of_least(positions: &[Pos]) -> usize {

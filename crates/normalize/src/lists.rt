@@ -1,15 +1,14 @@
 //! The lists of lines and rings by the healed arcs.
 ghost use Rattle.normalize.specs.Lists as spec;
-ghost use Rattle.std.specs.Prelude.{◌≡◌, ◌≤◌, IfOk, length, map as map_list};
+ghost use Rattle.std.specs.Prelude.{◌≡◌, ◌≤◌, IfOk, length};
 
-use crate::pieces::replaced;
+use crate::pieces::replace_arcs;
 use crate::split::Split;
 use chains::ArcRef;
 use faults::OutOfMemory;
-use rejoining::Rejoined;
-use rewriting::{NewLists, copy_rewritten};
+use heal_arcs::Rejoined;
+use renumbering::NewLists;
 use std::alloc::Global;
-use topo::{Geom, Layer};
 
 /// The arcs of a text split, and healed again.
 #[derive(Drop)]
@@ -86,9 +85,9 @@ impl NewLists for HealedLists<'_> {
 
     /// The list of a line by the healed arcs, if these have the pieces that the line has.
     fn line(&self, alloc: Global, used: &[ArcRef]) -> Result<Vec<ArcRef>, OutOfMemory> {
-        let pieces = replaced(alloc, self.split, used)?;
+        let pieces = replace_arcs(alloc, self.split, used)?;
         let list = self.joined.line(alloc, &pieces)?;
-        let back = replaced(alloc, self.joined, &list)?;
+        let back = replace_arcs(alloc, self.joined, &list)?;
         if all_have_pieces(self.split, used) && are_same(&back, &pieces) {
             return Ok(list);
         }
@@ -97,44 +96,13 @@ impl NewLists for HealedLists<'_> {
 
     /// The same of a ring, whose pieces may begin elsewhere.
     fn ring(&self, alloc: Global, used: &[ArcRef]) -> Result<Vec<ArcRef>, OutOfMemory> {
-        let pieces = replaced(alloc, self.split, used)?;
+        let pieces = replace_arcs(alloc, self.split, used)?;
         let list = self.joined.ring(alloc, &pieces)?;
-        let back = replaced(alloc, self.joined, &list)?;
+        let back = replace_arcs(alloc, self.joined, &list)?;
         let turned = begun_as(&back, pieces);
         if all_have_pieces(self.split, used) && are_same(&back, &turned) {
             return Ok(list);
         }
         self.nowhere(alloc)
-    }
-}
-
-impl HealedLists<'_> {
-    fn geometries(&self, alloc: Global, geometries: &[Geom]) -> Result<Vec<Geom>, OutOfMemory>
-        ensures { IfOk result (λ v. v.items ≡ map_list (spec.geometry_healed self.now.split.now.pieces.items self.now.joined.now) geometries.now) }
-    {
-        let mut made = Vec::with_capacity(alloc, geometries.len())?;
-        for geometry in geometries {
-            made.push(copy_rewritten(alloc, self, geometry)?)?;
-        }
-        Ok(made)
-    }
-
-    fn layer(&self, alloc: Global, layer: &Layer) -> Result<Layer, OutOfMemory>
-        ensures { IfOk result (λ l. l ≡ spec.layer_healed self.now.split.now.pieces.items self.now.joined.now layer.now) }
-    {
-        let name = layer.name().copy(alloc)?;
-        let geometries = self.geometries(alloc, layer.geometries())?;
-        Ok(Layer::new(name, geometries))
-    }
-
-    /// Layers by the healed arcs.
-    pub(crate) fn layers(&self, alloc: Global, layers: &[Layer]) -> Result<Vec<Layer>, OutOfMemory>
-        ensures { IfOk result (λ v. v.items ≡ map_list (spec.layer_healed self.now.split.now.pieces.items self.now.joined.now) layers.now) }
-    {
-        let mut made = Vec::with_capacity(alloc, layers.len())?;
-        for layer in layers {
-            made.push(self.layer(alloc, layer)?)?;
-        }
-        Ok(made)
     }
 }

@@ -1,15 +1,15 @@
 //! Lists of used arcs with the pieces of each in its place.
 ghost use Rattle.std.specs.Option.{option_map};
-ghost use Rattle.std.specs.Prelude.{◌≡◌, ◌++◌, IfOk, List, OnOk, cond, slice_get};
+ghost use Rattle.std.specs.Prelude.{◌≡◌, ◌++◌, IfOk, List, OnOk, slice_get};
 ghost use Rattle.theory.specs.ArcNumbers as spec;
-ghost use Rattle.theory.specs.ArcNumbers.{backwards};
 ghost use Rattle.theory.specs.Refinement as refinement;
 ghost use Rattle.theory.specs.Refinement.{pieces_of_used};
 
 use crate::split::Split;
 use chains::ArcRef;
+use chains::used_arcs::add_in_direction;
 use faults::OutOfMemory;
-use rejoining::Rejoined;
+use heal_arcs::Rejoined;
 use std::alloc::{AllocError, Global};
 
 /// Arcs that have pieces.
@@ -41,38 +41,6 @@ impl HavePieces for Rejoined {
     }
 }
 
-/// The used arc in the other direction.
-fn flipped(used: &ArcRef) -> ArcRef
-    ensures { result ≡ spec.flipped used.now }
-{
-    ArcRef {
-        arc: used.arc,
-        reversed: !used.reversed,
-    }
-}
-
-fn add_backwards(refs: &mut Vec<ArcRef>, pieces: &[ArcRef]) -> Result<(), AllocError>
-    ensures { OnOk result (refs.new.items ≡ refs.old.items ++ backwards pieces.now) }
-{
-    let mut left = pieces;
-    while let Some((last, before)) = left.split_last() {
-        refs.push(flipped(last))?;
-        left = before;
-    }
-    Ok(())
-}
-
-/// Adds pieces in the direction in which their arc is used.
-fn add_pieces(refs: &mut Vec<ArcRef>, pieces: &[ArcRef], reversed: bool) -> Result<(), AllocError>
-    ensures { OnOk result (refs.new.items ≡ refs.old.items ++ cond reversed (backwards pieces.now) pieces.now) }
-{
-    if reversed {
-        add_backwards(refs, pieces)
-    } else {
-        refs.extend_from_slice(pieces)
-    }
-}
-
 fn add_used<P: HavePieces>(
     refs: &mut Vec<ArcRef>,
     arcs: &P,
@@ -81,13 +49,13 @@ fn add_used<P: HavePieces>(
     ensures { OnOk result (refs.new.items ≡ refs.old.items ++ pieces_of_used (P.pieces_of arcs.now) used.now) }
 {
     match arcs.pieces(used.arc) {
-        Some(pieces) => add_pieces(refs, pieces, used.reversed),
+        Some(pieces) => add_in_direction(refs, pieces, used.reversed),
         None => Ok(()),
     }
 }
 
 /// A list of used arcs by their pieces.
-pub(crate) fn replaced<P: HavePieces>(
+pub(crate) fn replace_arcs<P: HavePieces>(
     alloc: Global,
     arcs: &P,
     used: &[ArcRef],

@@ -2,11 +2,10 @@
 ghost use Rattle.normalize.specs.Seen as spec;
 ghost use Rattle.normalize.specs.Seen.{geometry_lists, layer_ends, layer_lists};
 ghost use Rattle.normalize.specs.Used.{lists_marked};
-ghost use Rattle.standing.specs.Marks.{marks_set};
-ghost use Rattle.standing.specs.Runs.{ends_along, ends_in, first_end};
+ghost use Rattle.validate.specs.UsedArcs.{marks_set};
+ghost use Rattle.validate.specs.Chaining.{ends_along, ends_in, first_end};
 ghost use Rattle.std.specs.Prelude.{◌≡◌, ◌++◌, [], IfOk, OnOk, false, length, replicate, true};
-ghost use Rattle.taking.specs.Lists.{body_lines, body_rings, layers_lines, lines_of};
-ghost use Rattle.theory.specs.ArcNumbers.{flipped};
+ghost use Rattle.validate.specs.Accept.Lists.{body_lines, body_rings, layers_lines, lines_of};
 ghost use Rattle.theory.specs.Lists.{gathered, last_of};
 
 use crate::used::{mark_each, mark_lists, mark_polygons};
@@ -14,8 +13,8 @@ use chains::ArcRef;
 use grid::pos::Pos;
 use lines::items::Items;
 use std::alloc::{AllocError, Global};
-use taking::TextArcs;
 use topo::{Body, Geom, Layer};
+use validate::accept::TextArcs;
 
 /// The first vertex of an arc, or of its reverse.
 fn first_along(arc: &[Pos], reversed: bool) -> Option<Pos>
@@ -59,16 +58,6 @@ fn last_ref(first: ArcRef, others: &[ArcRef]) -> ArcRef
     }
 }
 
-/// A used arc in the other direction.
-fn backward(used: ArcRef) -> ArcRef
-    ensures { result ≡ flipped used }
-{
-    ArcRef {
-        arc: used.arc,
-        reversed: !used.reversed,
-    }
-}
-
 /// Adds where a line begins and ends, by its list of used arcs.
 fn add_list_ends(ends: &mut Vec<Pos>, arcs: &TextArcs, refs: &[ArcRef]) -> Result<(), AllocError>
     ensures { OnOk result (ends.new.items ≡ ends.old.items ++ spec.list_ends arcs.now refs.now) }
@@ -77,7 +66,7 @@ fn add_list_ends(ends: &mut Vec<Pos>, arcs: &TextArcs, refs: &[ArcRef]) -> Resul
         return Ok(());
     };
     let last = last_ref(*first, others);
-    let back = backward(last);
+    let back = last.flip();
     add_start(ends, arcs, *first)?;
     add_start(ends, arcs, back)?;
     Ok(())
@@ -85,20 +74,20 @@ fn add_list_ends(ends: &mut Vec<Pos>, arcs: &TextArcs, refs: &[ArcRef]) -> Resul
 
 /// Which arcs the lists of layers use, and the vertices where lines begin and end.
 #[derive(Drop)]
-pub(crate) struct Seen {
+pub(crate) struct ArcsSeen {
     pub(crate) used: Vec<bool>,
     pub(crate) ends: Vec<Pos>,
 }
 
-impl Seen {
+impl ArcsSeen {
     /// None of so many arcs is used.
-    fn none(alloc: Global, count: usize) -> Result<Seen, AllocError>
+    fn none(alloc: Global, count: usize) -> Result<ArcsSeen, AllocError>
         ensures used { IfOk result (λ s. s.used.items ≡ replicate count false) }
         ensures ends { IfOk result (λ s. s.ends.items ≡ []) }
     {
         let used = vec![in alloc; false; count]?;
         let ends = Vec::new(alloc);
-        Ok(Seen { used, ends })
+        Ok(ArcsSeen { used, ends })
     }
 
     fn add_line(&mut self, arcs: &TextArcs, refs: &[ArcRef]) -> Result<(), AllocError>
@@ -155,11 +144,15 @@ impl Seen {
 }
 
 /// What all lists of layers use, and where their lines begin and end.
-pub(crate) fn seen_in(alloc: Global, arcs: &TextArcs, layers: &[Layer]) -> Result<Seen, AllocError>
+pub(crate) fn seen_in(
+    alloc: Global,
+    arcs: &TextArcs,
+    layers: &[Layer],
+) -> Result<ArcsSeen, AllocError>
     ensures used { IfOk result (λ s. s.used.items ≡ lists_marked (replicate (length arcs.now) false) (gathered layer_lists layers.now)) }
     ensures ends { IfOk result (λ s. s.ends.items ≡ layer_ends arcs.now layers.now) }
 {
-    let mut seen = Seen::none(alloc, arcs.len())?;
+    let mut seen = ArcsSeen::none(alloc, arcs.len())?;
     seen.add_layers(arcs, layers)?;
     Ok(seen)
 }

@@ -11,8 +11,8 @@ use grid::Grid;
 use grid::pos::Pos;
 use lines::items::Items;
 use std::alloc::{AllocError, Global};
-use taking::TextArcs;
 use topo::{Body, Geom, Layer, Topology};
+use validate::accept::TextArcs;
 
 /// A table in which each stretch of the arcs of a text is an arc once, and for each arc of the text its
 /// pieces: none where the arc is not used, or is not what its pieces stitch to.

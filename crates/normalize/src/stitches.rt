@@ -6,13 +6,13 @@ ghost use Rattle.theory.specs.ArcNumbers.{StitchTo};
 
 use chains::{ArcRef, ArcTable};
 use grid::pos::Pos;
-use topo::Run;
+use topo::ArcSlice;
 
 /// What is left of some positions from the last one along a used arc on, where they go on along it.
 fn behind<'a>(table: &ArcTable, used: ArcRef, left: &'a [Pos]) -> Option<&'a [Pos]>
     ensures { IfSome result (λ rest. (more : List numbers.ArcRef) → StitchOn table.now.arcs more rest.now → StitchOn table.now.arcs (used ∷ more) left.now) }
 {
-    let run = Run::of_arc(table, used);
+    let run = ArcSlice::of_arc(table, used);
     let count = run.len();
     if count == 0 || count > left.len() {
         return None;

@@ -1,6 +1,6 @@
 //! Marks of the arcs that lists use.
 ghost use Rattle.normalize.specs.Used.{lists_marked};
-ghost use Rattle.standing.specs.Marks.{marks_set};
+ghost use Rattle.validate.specs.UsedArcs.{marks_set};
 ghost use Rattle.std.specs.Prelude.{◌≡◌, set, true};
 ghost use Rattle.theory.specs.Lists.{joined};
 

@@ -1,24 +1,24 @@
 //! The arcs and the layers of a text, normalized.
 ghost use Rattle.std.specs.Prelude.{IfOk, IfSome};
-ghost use Rattle.taking.specs.Kept.{KeepLayers};
-ghost use Rattle.taking.specs.Laws.{HaveI64};
+ghost use Rattle.validate.specs.Accept.Kept.{KeepLayers};
+ghost use Rattle.validate.specs.Accept.Laws.{HaveI64};
 
+use crate::copies::layers_copied;
 use crate::heal::heal;
 use crate::lists::HealedLists;
 use crate::seen::seen_in;
 use crate::split::Split;
+use chains::ArcTable;
 use faults::OutOfMemory;
-use grid::pos::Pos;
-use lines::items::Items;
 use std::alloc::Global;
-use taking::TextArcs;
 use topo::Layer;
+use validate::accept::TextArcs;
 
 /// Arcs that are noded and healed, in order, each in its lesser direction and a free loop begun at its least
 /// vertex; and layers by these arcs.
 #[derive(Drop)]
 pub struct Normalized {
-    pub arcs: Vec<Items<Pos>>,
+    pub arcs: ArcTable,
     pub layers: Vec<Layer>,
 }
 
@@ -36,7 +36,7 @@ pub fn normalize(
     arcs: &TextArcs,
     layers: &[Layer],
 ) -> Result<Option<Normalized>, OutOfMemory>
-    ensures kept { IfOk result (λ o. IfSome o (λ n. KeepLayers arcs.now n.arcs.items layers.now n.layers.items)) }
+    ensures kept { IfOk result (λ o. IfSome o (λ n. KeepLayers arcs.now n.arcs.arcs layers.now n.layers.items)) }
     ensures ids { IfOk result (λ o. IfSome o (λ n. HaveI64 layers.now → HaveI64 n.layers.items)) }
 {
     let seen = seen_in(alloc, arcs, layers)?;
@@ -50,8 +50,7 @@ pub fn normalize(
         split: &split,
         joined: &joined,
     };
-    let layers = lists.layers(alloc, layers)?;
-    let (table, _) = joined.into_parts();
-    let arcs = table.into_arcs(alloc)?;
+    let layers = layers_copied(alloc, &lists, layers)?;
+    let (arcs, _) = joined.into_parts();
     Ok(Some(Normalized { arcs, layers }))
 }

@@ -1,12 +1,13 @@
 //! Texts that are normalized.
 use crate::texts::{
-    A, Arcs, B, C, D, E, F, G, H, I, J, Layers, Listed, is_made, normalized, text_arcs,
+    A, Arcs, B, C, D, E, F, G, H, I, J, Layers, Listed, is_left, is_made, left_without, normalized,
+    text_arcs,
 };
 use chains::ArcTable;
 use std::alloc::Global;
 use std::process::Abort;
 use std::test::Fail;
-use taking::TextArcs;
+use validate::accept::TextArcs;
 use worked_maps::lists;
 
 /// Arcs and layers of a text, and what is made of them.
@@ -198,6 +199,55 @@ fn texts_normalized(rt: HostRuntime) -> Result<(), Fail> {
 #[test]
 fn lists_that_stitch_to_nothing(rt: HostRuntime) -> Result<(), Fail> {
     check_rows(&rt, rt.alloc(), REFUSED)
+}
+
+/// Texts whose arcs repeat positions, and what is left without these.
+const REPEATS: &[Row] = &[
+    Row {
+        title: "a position twice at both ends and three times inside",
+        arcs: &[&[A, A, B, B, B, C, C]],
+        layers: &[("a", Listed::Line(&[-1]))],
+        made_arcs: &[&[A, B, C]],
+        made_layers: &[("a", Listed::Line(&[-1]))],
+    },
+    Row {
+        title: "arcs of one position leave the lists, in both directions",
+        arcs: &[&[A, A], &[A, B], &[B, B, B], &[B, C]],
+        layers: &[
+            ("a", Listed::Line(&[0, 1, -3, 3])),
+            ("b", Listed::Polygons(&[&[2], &[-2, 0]])),
+            ("c", Listed::Lines(&[&[3, -4], &[-1]])),
+        ],
+        made_arcs: &[&[A], &[A, B], &[B], &[B, C]],
+        made_layers: &[
+            ("a", Listed::Line(&[1, 3])),
+            ("b", Listed::Polygons(&[&[], &[-2]])),
+            ("c", Listed::Lines(&[&[3, -4], &[]])),
+        ],
+    },
+];
+
+#[test]
+fn repeated_positions_are_dropped(rt: HostRuntime) -> Result<(), Fail> {
+    for row in REPEATS {
+        let arcs = text_arcs(rt.alloc(), row.arcs)?;
+        let Some(left) = left_without(rt.alloc(), &arcs, row.layers)? else {
+            return Err(row.title.into());
+        };
+        assert!(rt;
+            is_left(rt.alloc(), &left, row.made_arcs, row.made_layers)?,
+            "{}",
+            row.title
+        );
+    }
+    Ok(())
+}
+
+#[test]
+fn arcs_that_repeat_no_position_stay(rt: HostRuntime) -> Result<(), Fail> {
+    let arcs = text_arcs(rt.alloc(), SQUARES)?;
+    assert!(rt; left_without(rt.alloc(), &arcs, SQUARE_LAYERS)?.is_none());
+    Ok(())
 }
 
 /// A loop's arc and ring of a table. From A the loop goes to D and to B; backwards to B first.

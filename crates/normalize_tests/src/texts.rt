@@ -1,14 +1,14 @@
 //! Arcs and layers of texts as tables of rows have them.
 use chains::ArcRef;
 use lines::items::Items;
-use normalize::{Normalized, normalize};
+use normalize::{Normalized, WithoutRepeats, normalize, without_repeats};
 use shapes::props::Props;
 use shapes::shape::Id;
 use shapes::spelled::Spelled;
 use std::alloc::Global;
 use std::test::Fail;
-use taking::TextArcs;
 use topo::{Body, Geom, Layer};
+use validate::accept::TextArcs;
 use worked_maps::{lists, refs_of};
 
 pub(crate) type Place = (i64, i64);
@@ -127,6 +127,35 @@ fn is_layer(alloc: Global, layer: &Layer, name: &str, listed: &Listed) -> Result
     Ok(is_named && geometry.body == body(alloc, listed)?)
 }
 
+/// Whether these are the arcs.
+fn are_arcs(alloc: Global, made: &TextArcs, arcs: Arcs) -> Result<bool, Fail> {
+    for (number, arc) in lists(alloc, arcs)?.iter().enumerate() {
+        if made.arc(number) != Some(arc.as_slice()) {
+            return Ok(false);
+        }
+    }
+    Ok(made.len() == arcs.len())
+}
+
+/// What is left of arcs and layers without repeated positions.
+pub(crate) fn left_without(
+    alloc: Global,
+    arcs: &TextArcs,
+    layers: Layers,
+) -> Result<Option<WithoutRepeats>, Fail> {
+    Ok(without_repeats(alloc, arcs, &layers_of(alloc, layers)?)?)
+}
+
+/// Whether these arcs and layers are left.
+pub(crate) fn is_left(
+    alloc: Global,
+    left: &WithoutRepeats,
+    arcs: Arcs,
+    layers: Layers,
+) -> Result<bool, Fail> {
+    Ok(are_arcs(alloc, &left.arcs, arcs)? && are_layers(alloc, &left.layers, layers)?)
+}
+
 fn are_layers(alloc: Global, made: &[Layer], layers: Layers) -> Result<bool, Fail> {
     for (layer, (name, listed)) in made.iter().zip(layers) {
         if !is_layer(alloc, layer, name, listed)? {
@@ -143,5 +172,6 @@ pub(crate) fn is_made(
     arcs: Arcs,
     layers: Layers,
 ) -> Result<bool, Fail> {
-    Ok(made.arcs == lists(alloc, arcs)? && are_layers(alloc, &made.layers, layers)?)
+    let made_arcs = made.arcs.copy(alloc)?.into_arcs(alloc)?;
+    Ok(made_arcs == lists(alloc, arcs)? && are_layers(alloc, &made.layers, layers)?)
 }

@@ -5,10 +5,10 @@ use Rattle.topo.specs.Parts.{TopologyParts}
 use Rattle.topo_io.specs.Means.{MeansTopology}
 use Rattle.noshinka.specs.Choices.{scope_of}
 use Rattle.noshinka.specs.Why.{IsBadName, IsChoiceRefusal, IsIdsRefusal, IsLayerRefusal, IsQuestionRefusal, IsScopeRefusal, IsTextRefusal}
-use Rattle.noshinka.specs.declared.refusal.Refusal.{Refusal}
-use Rattle.noshinka.specs.declared.refusal.Refusal.TheVariants.{BadGrid, BadName, BadChoice, NoId, Text, OtherGrid, NoText, BadPlan, NoLayer, OutOfMemory}
+use Rattle.noshinka.specs.declared.refusal.CallRefusal.{CallRefusal}
+use Rattle.noshinka.specs.declared.refusal.CallRefusal.TheVariants.{BadGrid, BadName, BadChoice, NoId, Text, OtherGrid, NoText, BadPlan, NoLayer, OutOfMemory}
 
-pub choice_question : (Bad Worse : Type 0) → (Bad → Worse) → (text : List ℕ) (scope : Option (List ℕ)) (r : Refusal) → IsChoiceRefusal Bad r → IsQuestionRefusal Worse text scope r
+pub choice_question : (Bad Worse : Type 0) → (Bad → Worse) → (text : List ℕ) (scope : Option (List ℕ)) (r : CallRefusal) → IsChoiceRefusal Bad r → IsQuestionRefusal Worse text scope r
 choice_question Bad Worse so text scope BadGrid h = absurd h
 choice_question Bad Worse so text scope (BadName p) h = absurd h
 choice_question Bad Worse so text scope BadChoice h = so h
@@ -20,7 +20,7 @@ choice_question Bad Worse so text scope (BadPlan k) h = absurd h
 choice_question Bad Worse so text scope NoLayer h = absurd h
 choice_question Bad Worse so text scope OutOfMemory h = absurd h
 
-pub name_question : (Bad : Type 0) (text name : List ℕ) (r : Refusal) → IsBadName 0 name r → IsQuestionRefusal Bad text (Some name) r
+pub name_question : (Bad : Type 0) (text name : List ℕ) (r : CallRefusal) → IsBadName 0 name r → IsQuestionRefusal Bad text (Some name) r
 name_question Bad text name BadGrid h = absurd h
 name_question Bad text name (BadName p) h = h
 name_question Bad text name BadChoice h = absurd h
@@ -32,7 +32,7 @@ name_question Bad text name (BadPlan k) h = absurd h
 name_question Bad text name NoLayer h = absurd h
 name_question Bad text name OutOfMemory h = tt
 
-pub scope_question : (Bad : Type 0) (text name : List ℕ) (n : ℕ) → (2 ≤ n → Bad) → (r : Refusal) → IsScopeRefusal n name r → IsQuestionRefusal Bad text (scope_of n name) r
+pub scope_question : (Bad : Type 0) (text name : List ℕ) (n : ℕ) → (2 ≤ n → Bad) → (r : CallRefusal) → IsScopeRefusal n name r → IsQuestionRefusal Bad text (scope_of n name) r
 scope_question Bad text name n so BadGrid h = absurd h
 scope_question Bad text name n so (BadName p) h = h
 scope_question Bad text name n so BadChoice h = so h
@@ -44,7 +44,7 @@ scope_question Bad text name n so (BadPlan k) h = absurd h
 scope_question Bad text name n so NoLayer h = absurd h
 scope_question Bad text name n so OutOfMemory h = tt
 
-pub text_question : (Bad : Type 0) (text : List ℕ) (scope : Option (List ℕ)) (r : Refusal) → IsTextRefusal 0 text r → IsQuestionRefusal Bad text scope r
+pub text_question : (Bad : Type 0) (text : List ℕ) (scope : Option (List ℕ)) (r : CallRefusal) → IsTextRefusal 0 text r → IsQuestionRefusal Bad text scope r
 text_question Bad text scope BadGrid h = absurd h
 text_question Bad text scope (BadName p) h = absurd h
 text_question Bad text scope BadChoice h = absurd h
@@ -56,7 +56,7 @@ text_question Bad text scope (BadPlan k) h = absurd h
 text_question Bad text scope NoLayer h = absurd h
 text_question Bad text scope OutOfMemory h = tt
 
-pub layer_question : (Bad : Type 0) (text : List ℕ) (scope : Option (List ℕ)) (t : TopologyParts) → MeansTopology text t → (r : Refusal) → IsLayerRefusal t scope r → IsQuestionRefusal Bad text scope r
+pub layer_question : (Bad : Type 0) (text : List ℕ) (scope : Option (List ℕ)) (t : TopologyParts) → MeansTopology text t → (r : CallRefusal) → IsLayerRefusal t scope r → IsQuestionRefusal Bad text scope r
 layer_question Bad text scope t m BadGrid h = absurd h
 layer_question Bad text scope t m (BadName p) h = absurd h
 layer_question Bad text scope t m BadChoice h = absurd h
@@ -68,7 +68,7 @@ layer_question Bad text scope t m (BadPlan k) h = absurd h
 layer_question Bad text scope t m NoLayer h = record { grid = t.grid; map = m.0; means = m.1; missing = h m.0 m.2 }
 layer_question Bad text scope t m OutOfMemory h = tt
 
-pub ids_question : (Bad : Type 0) (text name : List ℕ) (t : TopologyParts) → MeansTopology text t → (r : Refusal) → IsIdsRefusal t name r → IsQuestionRefusal Bad text (Some name) r
+pub ids_question : (Bad : Type 0) (text name : List ℕ) (t : TopologyParts) → MeansTopology text t → (r : CallRefusal) → IsIdsRefusal t name r → IsQuestionRefusal Bad text (Some name) r
 ids_question Bad text name t m BadGrid h = absurd h
 ids_question Bad text name t m (BadName p) h = absurd h
 ids_question Bad text name t m BadChoice h = absurd h
@@ -80,7 +80,7 @@ ids_question Bad text name t m (BadPlan k) h = absurd h
 ids_question Bad text name t m NoLayer h = record { grid = t.grid; map = m.0; means = m.1; missing = h m.0 m.2 }
 ids_question Bad text name t m OutOfMemory h = tt
 
-pub layer_ids : (t : TopologyParts) (name : List ℕ) (r : Refusal) → IsLayerRefusal t (Some name) r → IsIdsRefusal t name r
+pub layer_ids : (t : TopologyParts) (name : List ℕ) (r : CallRefusal) → IsLayerRefusal t (Some name) r → IsIdsRefusal t name r
 layer_ids t name BadGrid h = absurd h
 layer_ids t name (BadName p) h = absurd h
 layer_ids t name BadChoice h = absurd h

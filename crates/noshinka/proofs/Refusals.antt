@@ -2,17 +2,17 @@
 use Rattle.std.proofs.Common.{◌≡◌, ℕ, List, [], ◌∷◌, length, map, refl, ◌∙◌, sym, ap, subst}
 use Rattle.std.specs.List.{range_with_len}
 use Rattle.std.specs.Borrow.{Bor}
-use Rattle.built_text.specs.Maps.{borrowed_texts}
-use Rattle.built_text.specs.Sources.{IsRefusal}
-use Rattle.built_text.specs.declared.building.BuildFault.{BuildFault}
-use Rattle.built_text.specs.declared.building.BuildFault.TheVariants as build
+use Rattle.outputs.specs.BuiltText.Maps.{borrowed_texts}
+use Rattle.outputs.specs.BuiltText.Sources.{IsRefusal}
+use Rattle.outputs.specs.declared.built_text.building.BuildFault.{BuildFault}
+use Rattle.outputs.specs.declared.built_text.building.BuildFault.TheVariants as build
 use Rattle.grid.specs.Place.{Transform}
 use Rattle.merging.specs.Merge.{IsMergeFault}
 use Rattle.merging.specs.declared.fault.MergeFault.{MergeFault}
 use Rattle.merging.specs.declared.fault.MergeFault.TheVariants as merge
-use Rattle.noshinka.specs.Why.{IsBadSource, IsBuildRefusal, IsMergeRefusal, IsNoMemory, of_build, of_merge}
-use Rattle.noshinka.specs.declared.refusal.Refusal.{Refusal}
-use Rattle.noshinka.specs.declared.refusal.Refusal.TheVariants.{BadGrid, BadName, BadChoice, NoId, Text, OtherGrid, NoText, BadPlan, NoLayer, OutOfMemory}
+use Rattle.noshinka.specs.Why.{IsBadSource, IsBuildRefusal, IsMergeRefusal, of_build, of_merge}
+use Rattle.noshinka.specs.declared.refusal.CallRefusal.{CallRefusal}
+use Rattle.noshinka.specs.declared.refusal.CallRefusal.TheVariants.{BadGrid, BadName, BadChoice, NoId, Text, OtherGrid, NoText, BadPlan, NoLayer, OutOfMemory}
 
 pub of_merge_refused : (texts : List (List ℕ)) (e : MergeFault) → IsMergeFault texts (range_with_len 0 (length texts)) e → IsMergeRefusal texts (of_merge e)
 of_merge_refused texts (merge.BadPlan k) is = is
@@ -29,7 +29,7 @@ of_build_refused t sources texts same (build.Text place f) is =
     subst (λ (all : List (List ℕ)). IsRefusal t all (build.Text place f)) (sym (texts_of texts) ∙ ap (map (λ s. s.1)) same) is
 of_build_refused t sources texts same build.OutOfMemory is = tt
 
-pub bad_source_refused : (t : Transform) (sources : List (List ℕ × List ℕ)) (r : Refusal) → IsBadSource sources r → IsBuildRefusal t sources r
+pub bad_source_refused : (t : Transform) (sources : List (List ℕ × List ℕ)) (r : CallRefusal) → IsBadSource sources r → IsBuildRefusal t sources r
 bad_source_refused t sources BadGrid h = absurd h
 bad_source_refused t sources (BadName p) h = h
 bad_source_refused t sources BadChoice h = absurd h

@@ -1,7 +1,7 @@
 -- Refusals of the parts of a removal, as refusals of the removal.
 use Rattle.std.proofs.Common.{◌≡◌, ◌∙◌, ap, sym, subst, ℕ, List, inl, inr}
 use Rattle.grid.specs.Place.{Transform}
-use Rattle.layer_laws.specs.Less.{less}
+use Rattle.renumbering.specs.LayerLaws.Less.{less}
 use Rattle.shapes.specs.Maps.{Layers}
 use Rattle.topo.proofs.TopologyLaws.{is_computed}
 use Rattle.topo.specs.OfMap.{IsOf, seen_parts}
@@ -12,10 +12,10 @@ use Rattle.topo_io.specs.Roots.{grid_of_text}
 use Rattle.topo_io.specs.TopologyText.{topology_text}
 use Rattle.noshinka.specs.Answers.{IsRemoval, IsTextWithout}
 use Rattle.noshinka.specs.Why.{IsOtherGrid, IsRemoveRefusal, IsTextRefusal}
-use Rattle.noshinka.specs.declared.refusal.Refusal.{Refusal}
-use Rattle.noshinka.specs.declared.refusal.Refusal.TheVariants.{BadGrid, BadName, BadChoice, NoId, Text, OtherGrid, NoText, BadPlan, NoLayer, OutOfMemory}
+use Rattle.noshinka.specs.declared.refusal.CallRefusal.{CallRefusal}
+use Rattle.noshinka.specs.declared.refusal.CallRefusal.TheVariants.{BadGrid, BadName, BadChoice, NoId, Text, OtherGrid, NoText, BadPlan, NoLayer, OutOfMemory}
 
-pub first_refused : (text removed : List ℕ) (r : Refusal) → IsTextRefusal 0 text r → IsRemoveRefusal text removed r
+pub first_refused : (text removed : List ℕ) (r : CallRefusal) → IsTextRefusal 0 text r → IsRemoveRefusal text removed r
 first_refused text removed BadGrid h = absurd h
 first_refused text removed (BadName p) h = absurd h
 first_refused text removed BadChoice h = absurd h
@@ -27,7 +27,7 @@ first_refused text removed (BadPlan k) h = absurd h
 first_refused text removed NoLayer h = absurd h
 first_refused text removed OutOfMemory h = tt
 
-pub second_refused : (text removed : List ℕ) (r : Refusal) → IsTextRefusal 1 removed r → IsRemoveRefusal text removed r
+pub second_refused : (text removed : List ℕ) (r : CallRefusal) → IsTextRefusal 1 removed r → IsRemoveRefusal text removed r
 second_refused text removed BadGrid h = absurd h
 second_refused text removed (BadName p) h = absurd h
 second_refused text removed BadChoice h = absurd h
@@ -39,7 +39,7 @@ second_refused text removed (BadPlan k) h = absurd h
 second_refused text removed NoLayer h = absurd h
 second_refused text removed OutOfMemory h = tt
 
-pub grids_refused : (text removed : List ℕ) (g i : Transform) → g ≡ grid_of_text text → i ≡ grid_of_text removed → (r : Refusal) → IsOtherGrid g i r → IsRemoveRefusal text removed r
+pub grids_refused : (text removed : List ℕ) (g i : Transform) → g ≡ grid_of_text text → i ≡ grid_of_text removed → (r : CallRefusal) → IsOtherGrid g i r → IsRemoveRefusal text removed r
 grids_refused text removed g i a b BadGrid h = absurd h
 grids_refused text removed g i a b (BadName p) h = absurd h
 grids_refused text removed g i a b BadChoice h = absurd h
@@ -52,7 +52,7 @@ grids_refused text removed g i a b NoLayer h = absurd h
 grids_refused text removed g i a b OutOfMemory h = tt
 
 -- the same of topologies of texts
-pub other_grids : (text removed : List ℕ) (whole others : TopologyParts) → MeansTopology text whole → MeansTopology removed others → (r : Refusal) → IsOtherGrid whole.grid others.grid r → IsRemoveRefusal text removed r
+pub other_grids : (text removed : List ℕ) (whole others : TopologyParts) → MeansTopology text whole → MeansTopology removed others → (r : CallRefusal) → IsOtherGrid whole.grid others.grid r → IsRemoveRefusal text removed r
 other_grids text removed whole others a b r h =
     let (m, means, of) = a in
     let (n, others_mean, of_others) = b in

@@ -12,8 +12,8 @@ use Rattle.topo_io.specs.Means.{MeansTopology}
 use Rattle.topo_io.specs.Roots.{faults_of_text}
 use Rattle.noshinka.specs.Answers.{IsBordersText, IsFeatureText, IsListsText, IsMeshText, IsNeighborsAnswer}
 use Rattle.noshinka.specs.Why.{IsFaultAt, IsTextRefusal}
-use Rattle.noshinka.specs.declared.refusal.Refusal.{Refusal}
-use Rattle.noshinka.specs.declared.refusal.Refusal.TheVariants.{BadGrid, BadName, BadChoice, NoId, Text, OtherGrid, NoText, BadPlan, NoLayer, OutOfMemory}
+use Rattle.noshinka.specs.declared.refusal.CallRefusal.{CallRefusal}
+use Rattle.noshinka.specs.declared.refusal.CallRefusal.TheVariants.{BadGrid, BadName, BadChoice, NoId, Text, OtherGrid, NoText, BadPlan, NoLayer, OutOfMemory}
 
 pub feature_answer : (text name t : List ℕ) (whole : TopologyParts) → MeansTopology text whole → ForItsMap whole (λ m. t ≡ layer_collection whole.grid m name) → IsFeatureText text name t
 feature_answer text name t whole meant is =
@@ -39,7 +39,7 @@ neighbors_answer text name false t whole meant is =
     record { grid = whole.grid; map = m; means = means; lists = lists; neighbors = neighbors m of; is = written }
 
 -- the fault of a text, as a refusal of it
-pub text_refused : (place : ℕ) (text : List ℕ) (f : Fault) → LeastOrWant (faults_of_text text) f → (r : Refusal) → IsFaultAt place f r → IsTextRefusal place text r
+pub text_refused : (place : ℕ) (text : List ℕ) (f : Fault) → LeastOrWant (faults_of_text text) f → (r : CallRefusal) → IsFaultAt place f r → IsTextRefusal place text r
 text_refused place text f least BadGrid h = absurd h
 text_refused place text f least (BadName p) h = absurd h
 text_refused place text f least BadChoice h = absurd h

@@ -3,7 +3,7 @@ use Rattle.std.specs.Prelude.{◌≡◌, ◌↔◌, ◌<◌, ◌^◌, ℕ, Bool,
 use Rattle.chains.specs.Arcs.{Arcs}
 use Rattle.chains.specs.declared.segment.Segment.{Segment}
 use Rattle.grid.specs.Place.{Transform}
-use Rattle.layer_laws.specs.Less.{less}
+use Rattle.renumbering.specs.LayerLaws.Less.{less}
 use Rattle.query.specs.Collections.{layer_collection}
 use Rattle.query.specs.AnswerTexts.{mesh_text, neighbor_ids_text, neighbors_text}
 use Rattle.query.specs.Mesh.{Answers, AreBorders, AreLinesOver, AreSelected, InScope}

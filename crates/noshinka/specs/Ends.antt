@@ -1,11 +1,11 @@
 -- How a call ends: its outcome, and its room before and after the call.
 use Rattle.std.specs.Prelude.{◌≡◌, ◌⊎◌, ℕ, Bool, true, false, ◌<◌, ◌≤◌, List, length, map, take}
-use Rattle.fault_paths.specs.PathText.{path_text}
+use Rattle.sinks.specs.PathText.PathText.{path_text}
 use Rattle.faults.specs.Fault.{number_of, turn_of}
 use Rattle.faults.specs.declared.fault.Fault.{Fault}
 use Rattle.noshinka.specs.declared.outcome.Outcome.{Outcome}
-use Rattle.noshinka.specs.declared.refusal.Refusal.{Refusal}
-use Rattle.noshinka.specs.declared.refusal.Refusal.TheVariants.{BadGrid, BadName, BadChoice, NoId, Text, OtherGrid, NoText, BadPlan, NoLayer, OutOfMemory}
+use Rattle.noshinka.specs.declared.refusal.CallRefusal.{CallRefusal}
+use Rattle.noshinka.specs.declared.refusal.CallRefusal.TheVariants.{BadGrid, BadName, BadChoice, NoId, Text, OtherGrid, NoText, BadPlan, NoLayer, OutOfMemory}
 
 -- the text of the path of a fault
 abbrev pub path_of : Fault → List ℕ
@@ -32,7 +32,7 @@ pub record IsEnd (number kind at : ℕ) (o : Outcome) : Type 0 where
   pub place : o.place ≡ at
 
 -- the outcome says the refusal; if there is no memory for the path of a fault, it says that
-abbrev pub IsRefused : Refusal → Outcome → List ℕ → List ℕ → Type 0
+abbrev pub IsRefused : CallRefusal → Outcome → List ℕ → List ℕ → Type 0
 IsRefused BadGrid o old new = IsEnd 2 0 0 o
 IsRefused (BadName place) o old new = IsEnd 2 0 place o
 IsRefused BadChoice o old new = IsEnd 2 0 0 o
@@ -60,8 +60,8 @@ pub record HasAnswer (Answer : List ℕ → Type 0) (o : Outcome) (new : List �
   pub answer : Answer (take o.length new)
 
 -- the outcome says why there is no answer
-pub record HasRefusal (Why : Refusal → Type 0) (o : Outcome) (old new : List ℕ) : Type 0 where
-  pub refusal : Refusal
+pub record HasRefusal (Why : CallRefusal → Type 0) (o : Outcome) (old new : List ℕ) : Type 0 where
+  pub refusal : CallRefusal
   pub why : Why refusal
   pub says : IsRefused refusal o old new
 
@@ -74,7 +74,7 @@ pub record NeedsRoom (Answer : List ℕ → Type 0) (o : Outcome) (old new : Lis
   pub length : o.length ≡ length text
 
 -- a call ends with an answer, with a reason why there is none, out of memory, or with a room that is too small
-pub record EndsWith (Answer : List ℕ → Type 0) (Why : Refusal → Type 0) (o : Outcome) (old new : List ℕ) : Type 0 where
+pub record EndsWith (Answer : List ℕ → Type 0) (Why : CallRefusal → Type 0) (o : Outcome) (old new : List ℕ) : Type 0 where
   pub statuses : (o.status ≡ 0) ⊎ ((o.status ≡ 2) ⊎ ((o.status ≡ 4) ⊎ ((o.status ≡ 5) ⊎ (o.status ≡ 6))))
   pub done : o.status ≡ 0 → HasAnswer Answer o new
   pub usage : o.status ≡ 2 → HasRefusal Why o old new
@@ -87,7 +87,7 @@ Says Yes No true = Yes
 Says Yes No false = No
 
 -- a question ends with yes, with no, with a reason why there is no answer, or out of memory
-pub record IsVerdict (Yes No : Type 0) (Why : Refusal → Type 0) (o : Outcome) (old new : List ℕ) : Type 0 where
+pub record IsVerdict (Yes No : Type 0) (Why : CallRefusal → Type 0) (o : Outcome) (old new : List ℕ) : Type 0 where
   pub statuses : (o.status ≡ 0) ⊎ ((o.status ≡ 1) ⊎ ((o.status ≡ 2) ⊎ ((o.status ≡ 4) ⊎ (o.status ≡ 5))))
   pub yes : o.status ≡ 0 → Yes
   pub no : o.status ≡ 1 → No

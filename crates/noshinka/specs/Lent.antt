@@ -1,13 +1,8 @@
--- What a caller of the library lends.
+-- What a caller of the library passes for a call.
 use Rattle.std.specs.Prelude.{ℕ, List, map}
-use Rattle.std.specs.Borrow.{Bor}
 use Rattle.grid.specs.Place.{Transform, scaling, transform}
 use Rattle.noshinka.specs.declared.lent.GridNumbers.{GridNumbers}
 use Rattle.noshinka.specs.declared.lent.Source.{Source}
-
--- the bytes of each text
-abbrev pub lent_texts : List (Bor (List ℕ)) → List (List ℕ)
-lent_texts texts = map (λ t. t.now) texts
 
 -- the bytes of each name and text
 abbrev pub lent_sources : List Source → List (List ℕ × List ℕ)

@@ -5,3 +5,4 @@ pub mod Why
 pub mod Answers
 pub mod Snapped
 pub mod Differing
+pub mod Listing

@@ -1,8 +1,8 @@
 -- What it is to snap a text, and why one is not snapped.
 use Rattle.std.specs.Prelude.{◌≡◌, ◌⊎◌, ◌<◌, ◌^◌, ℕ, pos, List, [], ◌∷◌, Option, None, IsUtf8, codes, false}
-use Rattle.decimal_geojson.specs.Snapped.{AreWritten, HasBad}
-use Rattle.decimal_geojson.specs.declared.place.Place.TheVariants.{Outside}
-use Rattle.decimal_geojson.specs.declared.rules.Rules.{Rules}
+use Rattle.decimals.specs.Geojson.Snapped.{AreWritten, HasBad}
+use Rattle.decimals.specs.declared.geojson.place.JsonPlace.TheVariants.{Outside}
+use Rattle.decimals.specs.declared.geojson.rules.RoundingRules.{RoundingRules}
 use Rattle.decimals.specs.Numeral.{IsMeasure, IsUnsigned, measure_of}
 use Rattle.fast_float.specs.Text.{scan, tens_down}
 use Rattle.faults.specs.Fault.{IsWant, pair_of}
@@ -13,8 +13,8 @@ use Rattle.grid.specs.Place.{Transform, scaling, transform}
 use Rattle.json.specs.Json.{document}
 use Rattle.json.specs.Lex.{tokens}
 use Rattle.reading.specs.Fault.{LeastOrWant}
-use Rattle.noshinka.specs.declared.refusal.Refusal.{Refusal}
-use Rattle.noshinka.specs.declared.refusal.Refusal.TheVariants.{BadGrid, Text, OutOfMemory}
+use Rattle.noshinka.specs.declared.refusal.CallRefusal.{CallRefusal}
+use Rattle.noshinka.specs.declared.refusal.CallRefusal.TheVariants.{BadGrid, Text, OutOfMemory}
 
 -- the grid of whole numbers
 abbrev pub whole : Transform
@@ -25,7 +25,7 @@ abbrev pub IsSize : List ℕ → Type 0
 IsSize numeral = IsUnsigned numeral × IsMeasure (measure_of numeral) × (tens_down (scan numeral) < 2 ^ 32)
 
 -- numbers may be so far from 0; heights are left out, and numbers with a fraction in properties become texts
-abbrev pub rules_within : List ℕ → ℕ → ℕ → Rules
+abbrev pub rules_within : List ℕ → ℕ → ℕ → RoundingRules
 rules_within numeral x y = record { step = measure_of numeral; greatest_x = x; greatest_y = y; keeps_heights = false; keeps_reals = false }
 
 -- no text stands for a millionth of a degree
@@ -38,17 +38,17 @@ abbrev pub IsStep : List ℕ → Type 0
 IsStep step = IsSize (numeral_of step)
 
 -- the rules for a step; of degrees, no number is beyond 180 and 90
-abbrev pub rules_of : List ℕ → Rules
+abbrev pub rules_of : List ℕ → RoundingRules
 rules_of [] = rules_within (numeral_of []) 180000000 90000000
 rules_of (b ∷ bs) = rules_within (b ∷ bs) (2 ^ 40) (2 ^ 40)
 
 -- the tokens of t are those of the text, each coordinate snapped, and a build on the grid of whole numbers accepts t
-pub record IsSnapped (rules : Rules) (text t : List ℕ) : Type 0 where
+pub record IsSnapped (rules : RoundingRules) (text t : List ℕ) : Type 0 where
   pub written : AreWritten rules Outside (tokens text) (tokens t)
   pub accepted : faults_of_text whole t ≡ []
 
 -- text 0 is refused as a whole, as no JSON
-pub record IsNotJson (r : Refusal) : Type 0 where
+pub record IsNotJson (r : CallRefusal) : Type 0 where
   pub fault : Fault
   pub is : r ≡ Text 0 fault
   pub at_root : pair_of fault ≡ record { path = []; kind = NotJson }
@@ -58,27 +58,27 @@ abbrev pub IsNoJson : List ℕ → Type 0
 IsNoJson text = (IsUtf8 text → ⊥) ⊎ ((document text ≡ None) ⊎ HasBad (tokens text))
 
 -- the text is refused as no JSON, or memory was refused
-abbrev pub IsNoJsonRefusal : List ℕ → Refusal → Type 0
+abbrev pub IsNoJsonRefusal : List ℕ → CallRefusal → Type 0
 IsNoJsonRefusal text r = (r ≡ OutOfMemory) ⊎ (IsNotJson r × IsNoJson text)
 
--- text 0 is refused with the least fault that it has on the grid of whole numbers
-pub record IsLeastRefusal (text : List ℕ) (r : Refusal) : Type 0 where
+-- text 0 is refused with the first error that it has on the grid of whole numbers
+pub record IsLeastRefusal (text : List ℕ) (r : CallRefusal) : Type 0 where
   pub fault : Fault
   pub is : r ≡ Text 0 fault
   pub least : LeastOrWant (faults_of_text whole text) fault
   pub no_want : IsWant fault → ⊥
 
 -- the text is refused on that grid, or memory was refused
-abbrev pub IsReadRefusal : List ℕ → Refusal → Type 0
+abbrev pub IsReadRefusal : List ℕ → CallRefusal → Type 0
 IsReadRefusal text r = (r ≡ OutOfMemory) ⊎ IsLeastRefusal text r
 
 -- the refusal of the text with its coordinates snapped
-pub record IsSnappedRefusal (rules : Rules) (text : List ℕ) (r : Refusal) : Type 0 where
+pub record IsSnappedRefusal (rules : RoundingRules) (text : List ℕ) (r : CallRefusal) : Type 0 where
   pub snapped : List ℕ
   pub written : AreWritten rules Outside (tokens text) (tokens snapped)
   pub refused : IsLeastRefusal snapped r
 
 -- why a text is not snapped: the step is none; else the text is no JSON; else, once it is snapped, it is refused
-abbrev pub IsSnapRefusal : List ℕ → List ℕ → Refusal → Type 0
+abbrev pub IsSnapRefusal : List ℕ → List ℕ → CallRefusal → Type 0
 IsSnapRefusal step text r =
     (r ≡ OutOfMemory) ⊎ (((r ≡ BadGrid) × (IsStep step → ⊥)) ⊎ (IsStep step × ((IsNotJson r × IsNoJson text) ⊎ IsSnappedRefusal (rules_of step) text r)))

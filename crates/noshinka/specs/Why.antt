@@ -1,9 +1,9 @@
 -- Why calls give no answer.
 use Rattle.std.specs.Prelude.{◌≡◌, ◌≤◌, ◌⊎◌, ℕ, List, length, map, slice_get, Option, Some, None, IsUtf8, true}
 use Rattle.std.specs.List.{range_with_len}
-use Rattle.built_text.specs.Sources.{IsRefusal}
-use Rattle.built_text.specs.declared.building.BuildFault.{BuildFault}
-use Rattle.built_text.specs.declared.building.BuildFault.TheVariants as build
+use Rattle.outputs.specs.BuiltText.Sources.{IsRefusal}
+use Rattle.outputs.specs.declared.built_text.building.BuildFault.{BuildFault}
+use Rattle.outputs.specs.declared.built_text.building.BuildFault.TheVariants as build
 use Rattle.faults.specs.Fault.{IsWant}
 use Rattle.faults.specs.declared.fault.Fault.{Fault}
 use Rattle.grid.specs.Place.{IsTransform, Transform}
@@ -21,29 +21,25 @@ use Rattle.topo.specs.declared.geom.Geom.{Geom}
 use Rattle.topo_io.specs.Means.{Means, MeansTopology}
 use Rattle.topo_io.specs.Roots.{faults_of_text, grid_of_text}
 use Rattle.noshinka.specs.Choices.{lacks_id, scope_of}
-use Rattle.noshinka.specs.declared.refusal.Refusal.{Refusal}
-use Rattle.noshinka.specs.declared.refusal.Refusal.TheVariants.{BadGrid, BadName, BadChoice, NoId, Text, OtherGrid, NoText, BadPlan, NoLayer, OutOfMemory}
+use Rattle.noshinka.specs.declared.refusal.CallRefusal.{CallRefusal}
+use Rattle.noshinka.specs.declared.refusal.CallRefusal.TheVariants.{BadGrid, BadName, BadChoice, NoId, Text, OtherGrid, NoText, BadPlan, NoLayer, OutOfMemory}
 
 -- a fault of a build, of a merge or of a question, as a refusal
-abbrev pub of_build : BuildFault → Refusal
+abbrev pub of_build : BuildFault → CallRefusal
 of_build (build.Text place f) = Text place f
 of_build build.OutOfMemory = OutOfMemory
 
 -- the fault of a merge, as a refusal
-abbrev pub of_merge : MergeFault → Refusal
+abbrev pub of_merge : MergeFault → CallRefusal
 of_merge (merge.BadPlan k) = BadPlan k
 of_merge (merge.Text place f) = Text place f
 of_merge (merge.OtherGrid place) = OtherGrid place
 of_merge merge.OutOfMemory = OutOfMemory
 
 -- the fault of a question, as a refusal
-abbrev pub of_query : QueryFault → Refusal
+abbrev pub of_query : QueryFault → CallRefusal
 of_query query.NoLayer = NoLayer
 of_query query.OutOfMemory = OutOfMemory
-
--- memory was refused
-abbrev pub IsNoMemory : Refusal → Type 0
-IsNoMemory r = r ≡ OutOfMemory
 
 -- the name of the layer is not UTF-8
 abbrev pub HasBadScope : Option (List ℕ) → Type 0
@@ -51,7 +47,7 @@ HasBadScope None = ⊥
 HasBadScope (Some name) = ¬ IsUtf8 name
 
 -- a number stands for no choice, which `Bad` says
-abbrev pub IsChoiceRefusal : Type 0 → Refusal → Type 0
+abbrev pub IsChoiceRefusal : Type 0 → CallRefusal → Type 0
 IsChoiceRefusal Bad BadGrid = ⊥
 IsChoiceRefusal Bad (BadName i) = ⊥
 IsChoiceRefusal Bad BadChoice = Bad
@@ -64,7 +60,7 @@ IsChoiceRefusal Bad NoLayer = ⊥
 IsChoiceRefusal Bad OutOfMemory = ⊥
 
 -- the number stands for no scope, or the name of the layer is not UTF-8
-abbrev pub IsScopeRefusal : ℕ → List ℕ → Refusal → Type 0
+abbrev pub IsScopeRefusal : ℕ → List ℕ → CallRefusal → Type 0
 IsScopeRefusal n name BadGrid = ⊥
 IsScopeRefusal n name (BadName i) = (i ≡ 0) × HasBadScope (scope_of n name)
 IsScopeRefusal n name BadChoice = 2 ≤ n
@@ -77,7 +73,7 @@ IsScopeRefusal n name NoLayer = ⊥
 IsScopeRefusal n name OutOfMemory = Unit {0}
 
 -- the fault of the text at the place, or memory was refused
-abbrev pub IsFaultAt : ℕ → Fault → Refusal → Type 0
+abbrev pub IsFaultAt : ℕ → Fault → CallRefusal → Type 0
 IsFaultAt place fault BadGrid = ⊥
 IsFaultAt place fault (BadName i) = ⊥
 IsFaultAt place fault BadChoice = ⊥
@@ -89,8 +85,8 @@ IsFaultAt place fault (BadPlan k) = ⊥
 IsFaultAt place fault NoLayer = ⊥
 IsFaultAt place fault OutOfMemory = Unit {0}
 
--- the text at the place is refused with its least fault, or memory was refused
-abbrev pub IsTextRefusal : ℕ → List ℕ → Refusal → Type 0
+-- the text at the place is refused with its first error, or memory was refused
+abbrev pub IsTextRefusal : ℕ → List ℕ → CallRefusal → Type 0
 IsTextRefusal place text BadGrid = ⊥
 IsTextRefusal place text (BadName i) = ⊥
 IsTextRefusal place text BadChoice = ⊥
@@ -103,7 +99,7 @@ IsTextRefusal place text NoLayer = ⊥
 IsTextRefusal place text OutOfMemory = Unit {0}
 
 -- the name at the place is not UTF-8, or memory was refused
-abbrev pub IsBadName : ℕ → List ℕ → Refusal → Type 0
+abbrev pub IsBadName : ℕ → List ℕ → CallRefusal → Type 0
 IsBadName place name BadGrid = ⊥
 IsBadName place name (BadName i) = (i ≡ place) × (¬ IsUtf8 name)
 IsBadName place name BadChoice = ⊥
@@ -120,7 +116,7 @@ abbrev pub HasBadName : List (List ℕ) → ℕ → Type 0
 HasBadName names place = (n : List ℕ) × (slice_get names place ≡ Some n) × (¬ IsUtf8 n)
 
 -- the name of a source is not UTF-8, or memory was refused
-abbrev pub IsBadSource : List (List ℕ × List ℕ) → Refusal → Type 0
+abbrev pub IsBadSource : List (List ℕ × List ℕ) → CallRefusal → Type 0
 IsBadSource sources BadGrid = ⊥
 IsBadSource sources (BadName place) = HasBadName (map (λ s. s.0) sources) place
 IsBadSource sources BadChoice = ⊥
@@ -133,7 +129,7 @@ IsBadSource sources NoLayer = ⊥
 IsBadSource sources OutOfMemory = Unit {0}
 
 -- why sources are not built on the grid; its numbers and the names are looked at first
-abbrev pub IsBuildRefusal : Transform → List (List ℕ × List ℕ) → Refusal → Type 0
+abbrev pub IsBuildRefusal : Transform → List (List ℕ × List ℕ) → CallRefusal → Type 0
 IsBuildRefusal t sources BadGrid = ¬ IsTransform t
 IsBuildRefusal t sources (BadName place) = HasBadName (map (λ s. s.0) sources) place
 IsBuildRefusal t sources BadChoice = ⊥
@@ -146,7 +142,7 @@ IsBuildRefusal t sources NoLayer = ⊥
 IsBuildRefusal t sources OutOfMemory = Unit {0}
 
 -- why texts are not merged, all of them in the order of the list
-abbrev pub IsMergeRefusal : List (List ℕ) → Refusal → Type 0
+abbrev pub IsMergeRefusal : List (List ℕ) → CallRefusal → Type 0
 IsMergeRefusal texts BadGrid = ⊥
 IsMergeRefusal texts (BadName place) = ⊥
 IsMergeRefusal texts BadChoice = ⊥
@@ -159,7 +155,7 @@ IsMergeRefusal texts NoLayer = ⊥
 IsMergeRefusal texts OutOfMemory = Unit {0}
 
 -- why a topology on one grid is not taken out of one on another, or memory was refused
-abbrev pub IsOtherGrid : Transform → Transform → Refusal → Type 0
+abbrev pub IsOtherGrid : Transform → Transform → CallRefusal → Type 0
 IsOtherGrid g h BadGrid = ⊥
 IsOtherGrid g h (BadName place) = ⊥
 IsOtherGrid g h BadChoice = ⊥
@@ -172,7 +168,7 @@ IsOtherGrid g h NoLayer = ⊥
 IsOtherGrid g h OutOfMemory = Unit {0}
 
 -- why the features of the second text are not taken out of the first: a text is refused, the first one first, or their grids differ
-abbrev pub IsRemoveRefusal : List ℕ → List ℕ → Refusal → Type 0
+abbrev pub IsRemoveRefusal : List ℕ → List ℕ → CallRefusal → Type 0
 IsRemoveRefusal text removed BadGrid = ⊥
 IsRemoveRefusal text removed (BadName place) = ⊥
 IsRemoveRefusal text removed BadChoice = ⊥
@@ -192,7 +188,7 @@ pub record LacksLayer (text : List ℕ) (scope : Option (List ℕ)) : Type 0 whe
   pub missing : IsMissing map scope
 
 -- the topology has no layer of that name, or memory was refused
-abbrev pub IsLayerRefusal : TopologyParts → Option (List ℕ) → Refusal → Type 0
+abbrev pub IsLayerRefusal : TopologyParts → Option (List ℕ) → CallRefusal → Type 0
 IsLayerRefusal t scope BadGrid = ⊥
 IsLayerRefusal t scope (BadName place) = ⊥
 IsLayerRefusal t scope BadChoice = ⊥
@@ -209,7 +205,7 @@ abbrev pub LacksId : TopologyParts → List ℕ → Type 0
 LacksId t name = (gs : List Geom) × IsOfLayerNamed t.layers name gs × (lacks_id gs ≡ true)
 
 -- the same, or a geometry of the layer has no id
-abbrev pub IsIdsRefusal : TopologyParts → List ℕ → Refusal → Type 0
+abbrev pub IsIdsRefusal : TopologyParts → List ℕ → CallRefusal → Type 0
 IsIdsRefusal t name BadGrid = ⊥
 IsIdsRefusal t name (BadName place) = ⊥
 IsIdsRefusal t name BadChoice = ⊥
@@ -227,7 +223,7 @@ TextLacksId text None = ⊥
 TextLacksId text (Some name) = (t : TopologyParts) × MeansTopology text t × LacksId t name
 
 -- why a question about a text is not answered, where `Bad` says that a number stands for no choice
-abbrev pub IsQuestionRefusal : Type 0 → List ℕ → Option (List ℕ) → Refusal → Type 0
+abbrev pub IsQuestionRefusal : Type 0 → List ℕ → Option (List ℕ) → CallRefusal → Type 0
 IsQuestionRefusal Bad text scope BadGrid = ⊥
 IsQuestionRefusal Bad text scope (BadName place) = (place ≡ 0) × HasBadScope scope
 IsQuestionRefusal Bad text scope BadChoice = Bad

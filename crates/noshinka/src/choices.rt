@@ -5,25 +5,25 @@ ghost use Rattle.std.specs.Option.{option_map};
 ghost use Rattle.std.specs.Prelude.{◌≡◌, ◌≤◌, IfErr, IfOk, nat_eq};
 
 use crate::lent::name_of;
-use crate::refusal::Refusal;
+use crate::refusal::CallRefusal;
 use query::Edges;
 use shapes::Id;
 use topo::Geom;
 
 /// Yes for 1, no for 0.
-pub(crate) fn flag(number: u32) -> Result<bool, Refusal>
+pub(crate) fn flag(number: u32) -> Result<bool, CallRefusal>
     ensures yes { IfOk result (λ b. b ≡ nat_eq number 1) }
     ensures bad { IfErr result (IsChoiceRefusal (2 ≤ number)) }
 {
     match number {
         0 => Ok(false),
         1 => Ok(true),
-        _ => Err(Refusal::BadChoice),
+        _ => Err(CallRefusal::BadChoice),
     }
 }
 
 /// The edges that a number stands for.
-pub(crate) fn edges_named(number: u32) -> Result<Edges, Refusal>
+pub(crate) fn edges_named(number: u32) -> Result<Edges, CallRefusal>
     ensures edges { IfOk result (λ e. e ≡ edges_of number) }
     ensures bad { IfErr result (IsChoiceRefusal (3 ≤ number)) }
 {
@@ -31,12 +31,12 @@ pub(crate) fn edges_named(number: u32) -> Result<Edges, Refusal>
         0 => Ok(Edges::All),
         1 => Ok(Edges::Interior),
         2 => Ok(Edges::Exterior),
-        _ => Err(Refusal::BadChoice),
+        _ => Err(CallRefusal::BadChoice),
     }
 }
 
 /// The name of a layer for 1, none for 0.
-pub(crate) fn scope_named(number: u32, layer: &[u8]) -> Result<Option<&str>, Refusal>
+pub(crate) fn scope_named(number: u32, layer: &[u8]) -> Result<Option<&str>, CallRefusal>
     ensures scope { IfOk result (λ s. option_map (λ n. n.now) s ≡ scope_of number layer.now) }
     ensures bad { IfErr result (IsScopeRefusal number layer.now) }
 {
@@ -46,7 +46,7 @@ pub(crate) fn scope_named(number: u32, layer: &[u8]) -> Result<Option<&str>, Ref
             Ok(name) => Ok(Some(name)),
             Err(refusal) => Err(refusal),
         },
-        _ => Err(Refusal::BadChoice),
+        _ => Err(CallRefusal::BadChoice),
     }
 }
 

@@ -4,9 +4,9 @@ ghost use Rattle.std.specs.Prelude.{◌≤◌, ⊤, IfErr, IfOk};
 
 use crate::choices::{flag, scope_named};
 use crate::making::on_one_grid;
-use crate::refusal::Refusal;
+use crate::refusal::CallRefusal;
 use crate::topologies::topology_of;
-use difference_text::{DifferenceFault, Options, write_difference};
+use outputs::difference_text::{DifferenceFault, DifferenceOptions, write_difference};
 use sinks::Kept;
 use std::alloc::Global;
 use topo::Topology;
@@ -17,18 +17,18 @@ fn text_of_difference(
     alloc: Global,
     old: &Topology,
     new: &Topology,
-    options: &Options<'_>,
-) -> Result<Vec<u8>, Refusal>
+    options: &DifferenceOptions<'_>,
+) -> Result<Vec<u8>, CallRefusal>
     ensures refused { IfErr result (IsTopologiesRefusal old.now.grid new.now.grid) }
 {
     if !on_one_grid(old, new) {
-        return Err(Refusal::OtherGrid(1));
+        return Err(CallRefusal::OtherGrid(1));
     }
     let mut kept = Kept::new(alloc);
     match write_difference(alloc, old, new, options, &mut kept) {
         Ok(_differs) => Ok(kept.into_bytes()),
-        Err(DifferenceFault::NoLayer) => Err(Refusal::NoLayer),
-        Err(_) => Err(Refusal::OutOfMemory),
+        Err(DifferenceFault::NoLayer) => Err(CallRefusal::NoLayer),
+        Err(_) => Err(CallRefusal::OutOfMemory),
     }
 }
 
@@ -50,7 +50,7 @@ pub(crate) fn diff(
     old: &[u8],
     new: &[u8],
     asked: &Asked<'_>,
-) -> Result<Vec<u8>, Refusal>
+) -> Result<Vec<u8>, CallRefusal>
     ensures made { IfOk result (λ _. ⊤) }
     ensures refused { IfErr result (IsDiffRefusal asked.now old.now new.now) }
 {
@@ -59,5 +59,5 @@ pub(crate) fn diff(
     let key = scope_named(asked.keyed, asked.key)?;
     let old = topology_of(alloc, 0, old)?;
     let new = topology_of(alloc, 1, new)?;
-    text_of_difference(alloc, &old, &new, &Options { layer, key, json })
+    text_of_difference(alloc, &old, &new, &DifferenceOptions { layer, key, json })
 }

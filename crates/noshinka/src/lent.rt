@@ -1,12 +1,11 @@
 //! What a caller's texts and room are during a call.
-ghost use Rattle.built_text.specs.Maps.{borrowed_texts};
-ghost use Rattle.merging.specs.Merge.{bytes_of};
-ghost use Rattle.noshinka.specs.Lent.{grid_of, lent_sources, lent_texts};
-ghost use Rattle.noshinka.specs.Why.{IsBadName, IsBadSource, IsNoMemory};
+ghost use Rattle.outputs.specs.BuiltText.Maps.{borrowed_texts};
+ghost use Rattle.noshinka.specs.Lent.{grid_of, lent_sources};
+ghost use Rattle.noshinka.specs.Why.{IsBadName, IsBadSource};
 ghost use Rattle.grid.specs.Place.{IsTransform};
 ghost use Rattle.std.specs.Prelude.{◌≡◌, IfErr, IfNone, IfOk, IfSome};
 
-use crate::refusal::Refusal;
+use crate::refusal::CallRefusal;
 use grid::Grid;
 use std::alloc::Global;
 
@@ -42,13 +41,13 @@ pub(crate) fn grid_within(numbers: &GridNumbers) -> Option<Grid>
 }
 
 /// The name of the layer at a place, if it is UTF-8.
-pub(crate) fn name_of(place: usize, name: &[u8]) -> Result<&str, Refusal>
+pub(crate) fn name_of(place: usize, name: &[u8]) -> Result<&str, CallRefusal>
     ensures name { IfOk result (λ n. n.now ≡ name.now) }
     ensures bad { IfErr result (IsBadName place name.now) }
 {
     match str::from_utf8(name) {
         Ok(name) => Ok(name),
-        Err(_) => Err(Refusal::BadName(place)),
+        Err(_) => Err(CallRefusal::BadName(place)),
     }
 }
 
@@ -56,7 +55,7 @@ pub(crate) fn name_of(place: usize, name: &[u8]) -> Result<&str, Refusal>
 pub(crate) fn borrow_sources<'a>(
     alloc: Global,
     sources: &[Source<'a>],
-) -> Result<Vec<(&'a str, &'a [u8])>, Refusal>
+) -> Result<Vec<(&'a str, &'a [u8])>, CallRefusal>
     ensures texts { IfOk result (λ v. borrowed_texts v.items ≡ lent_sources sources.now) }
     ensures refused { IfErr result (IsBadSource (lent_sources sources.now)) }
 {
@@ -68,16 +67,4 @@ pub(crate) fn borrow_sources<'a>(
         }
     }
     Ok(texts)
-}
-
-/// A copy of each text.
-pub(crate) fn copy_texts(alloc: Global, texts: &[&[u8]]) -> Result<Vec<Vec<u8>>, Refusal>
-    ensures copies { IfOk result (λ v. bytes_of v.items ≡ lent_texts texts.now) }
-    ensures refused { IfErr result IsNoMemory }
-{
-    let mut copies = Vec::with_capacity(alloc, texts.len())?;
-    for text in texts {
-        copies.push(Vec::from_slice(alloc, text)?)?;
-    }
-    Ok(copies)
 }

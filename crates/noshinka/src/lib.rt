@@ -2,13 +2,14 @@
 //! gives back all memory that it asks for. `c/noshinka.h` says what a caller owes.
 #![tactic(auto)]
 
-ghost use Rattle.built_text.specs.Maps.{IsTextOfTexts};
-ghost use Rattle.merging.specs.Merge.{IsMergeOf};
+ghost use Rattle.outputs.specs.BuiltText.Maps.{IsTextOfTexts};
+ghost use Rattle.merging.specs.Merge.{lent_texts, IsMergeOf};
 ghost use Rattle.noshinka.specs.Answers.{IsCanonical, IsFeatureText, IsMeshText, IsNeighborsAnswer, IsNotCanonical, IsRemoval};
 ghost use Rattle.noshinka.specs.Choices.{edges_of, scope_of};
 ghost use Rattle.noshinka.specs.Differing.{IsDiffRefusal};
 ghost use Rattle.noshinka.specs.Ends.{EndsWith, IsVerdict};
-ghost use Rattle.noshinka.specs.Lent.{grid_of, lent_sources, lent_texts};
+ghost use Rattle.noshinka.specs.Lent.{grid_of, lent_sources};
+ghost use Rattle.noshinka.specs.Listing.{IsFaultText, IsListRefusal, faults_as};
 ghost use Rattle.noshinka.specs.Snapped.{IsSnapped, IsSnapRefusal, rules_of};
 ghost use Rattle.noshinka.specs.Why.{IsBuildRefusal, IsMergeRefusal, IsQuestionRefusal, IsRemoveRefusal, IsTextRefusal};
 ghost use Rattle.std.specs.List.{range_with_len};
@@ -16,6 +17,7 @@ ghost use Rattle.std.specs.Prelude.{◌≡◌, ◌≤◌, ◌⊎◌, ⊤, None, 
 
 mod choices;
 mod differing;
+mod fault_texts;
 mod lent;
 mod making;
 mod outcome;
@@ -26,6 +28,7 @@ mod snapping;
 mod topologies;
 
 use differing::{Asked, diff};
+use fault_texts::faults;
 pub use lent::{GridNumbers, Source};
 use making::{build, merge, remove};
 pub use outcome::Outcome;
@@ -85,6 +88,21 @@ pub extern "C" fn noshinka_check(alloc: Global, text: &[u8], room: &mut [u8]) ->
     ensures { IsVerdict (IsCanonical text.now) (IsNotCanonical text.now) (IsTextRefusal 0 text.now) result room.old room.new }
 {
     verdict(alloc, check(alloc, text), room)
+}
+
+/// Puts all faults of a text into the room, as a JSON array of objects: those of a topology's text if `format` is 0, of a
+/// GeoJSON text on the grid if it is 1.
+#[unsafe(no_mangle)]
+pub extern "C" fn noshinka_faults(
+    alloc: Global,
+    text: &[u8],
+    format: u32,
+    grid: &GridNumbers,
+    room: &mut [u8],
+) -> Outcome
+    ensures { EndsWith (IsFaultText (faults_as (nat_eq format 1) (grid_of grid.now) text.now)) (IsListRefusal format (grid_of grid.now)) result room.old room.new }
+{
+    answer(alloc, faults(alloc, text, format, grid), room)
 }
 
 /// Puts the features of a layer of a topology's text into the room, as a GeoJSON FeatureCollection.

@@ -1,17 +1,17 @@
 //! From borrowed texts to the texts of topologies.
-ghost use Rattle.built_text.specs.Maps.{IsTextOfTexts};
-ghost use Rattle.merging.specs.Merge.{IsMergeOf};
+ghost use Rattle.outputs.specs.BuiltText.Maps.{IsTextOfTexts};
+ghost use Rattle.merging.specs.Merge.{lent_texts, IsMergeOf};
 ghost use Rattle.noshinka.specs.Answers.{IsRemoval, IsTextWithout};
-ghost use Rattle.noshinka.specs.Lent.{grid_of, lent_sources, lent_texts};
+ghost use Rattle.noshinka.specs.Lent.{grid_of, lent_sources};
 ghost use Rattle.noshinka.specs.Why.{IsBuildRefusal, IsMergeRefusal, IsOtherGrid, IsRemoveRefusal};
 ghost use Rattle.std.specs.List.{range_with_len};
 ghost use Rattle.std.specs.Prelude.{◌≡◌, ◌↔◌, IfErr, IfOk, length, true};
 
-use crate::lent::{GridNumbers, Source, borrow_sources, copy_texts, grid_within};
-use crate::refusal::Refusal;
+use crate::lent::{GridNumbers, Source, borrow_sources, grid_within};
+use crate::refusal::CallRefusal;
 use crate::topologies::topology_of;
-use built_text::build_borrowed;
-use refine::{JoinFault, merge_topologies, remove_topology};
+use outputs::built_text::build_borrowed;
+use refine::{JoinFault, merge_borrowed_topologies, remove_topology};
 use std::alloc::Global;
 use topo::Topology;
 
@@ -21,12 +21,12 @@ pub(crate) fn build(
     alloc: Global,
     grid: &GridNumbers,
     sources: &[Source<'_>],
-) -> Result<Vec<u8>, Refusal>
+) -> Result<Vec<u8>, CallRefusal>
     ensures built { IfOk result (λ t. IsTextOfTexts (grid_of grid.now) (lent_sources sources.now) t.items) }
     ensures refused { IfErr result (IsBuildRefusal (grid_of grid.now) (lent_sources sources.now)) }
 {
     let Some(grid) = grid_within(grid) else {
-        return Err(Refusal::BadGrid);
+        return Err(CallRefusal::BadGrid);
     };
     let texts = match borrow_sources(alloc, sources) {
         Ok(texts) => texts,
@@ -34,20 +34,19 @@ pub(crate) fn build(
     };
     match build_borrowed(alloc, &grid, texts.as_slice()) {
         Ok(text) => Ok(text),
-        Err(fault) => Err(Refusal::of_build(fault)),
+        Err(fault) => Err(CallRefusal::of_build(fault)),
     }
 }
 
-/// The canonical text of the union of the features of topologies' texts. Each copy is dropped once it is read.
+/// The canonical text of the union of the features of topologies' texts, none of which is copied.
 #[tactic(auto, using(crate::proofs::Refusals::of_merge_refused))]
-pub(crate) fn merge(alloc: Global, texts: &[&[u8]]) -> Result<Vec<u8>, Refusal>
+pub(crate) fn merge(alloc: Global, texts: &[&[u8]]) -> Result<Vec<u8>, CallRefusal>
     ensures merged { IfOk result (λ t. IsMergeOf (lent_texts texts.now) (range_with_len 0 (length texts.now)) t.items) }
     ensures refused { IfErr result (IsMergeRefusal (lent_texts texts.now)) }
 {
-    let copies = copy_texts(alloc, texts)?;
-    match merge_topologies(alloc, copies)? {
+    match merge_borrowed_topologies(alloc, texts)? {
         Some(topology) => Ok(topo_io::text_of(alloc, &topology)?),
-        None => Err(Refusal::NoText),
+        None => Err(CallRefusal::NoText),
     }
 }
 
@@ -60,23 +59,27 @@ pub(crate) fn on_one_grid(topology: &Topology, removed: &Topology) -> bool
 
 /// The canonical text of a topology without the features of another one.
 #[tactic(auto, using(crate::proofs::Removals::rest_text))]
-fn text_without(alloc: Global, topology: &Topology, removed: &Topology) -> Result<Vec<u8>, Refusal>
+fn text_without(
+    alloc: Global,
+    topology: &Topology,
+    removed: &Topology,
+) -> Result<Vec<u8>, CallRefusal>
     ensures removed { IfOk result (λ t. IsTextWithout topology.now removed.now t.items) }
     ensures refused { IfErr result (IsOtherGrid topology.now.grid removed.now.grid) }
 {
     if !on_one_grid(topology, removed) {
-        return Err(Refusal::OtherGrid(1));
+        return Err(CallRefusal::OtherGrid(1));
     }
     match remove_topology(alloc, topology, removed) {
         Ok(removal) => Ok(topo_io::text_of(alloc, removal.topology())?),
-        Err(JoinFault::OtherGrid) => Err(Refusal::OtherGrid(1)),
-        Err(JoinFault::OutOfMemory) => Err(Refusal::OutOfMemory),
+        Err(JoinFault::OtherGrid) => Err(CallRefusal::OtherGrid(1)),
+        Err(JoinFault::OutOfMemory) => Err(CallRefusal::OutOfMemory),
     }
 }
 
 /// The canonical text of a topology's text without the features of another text.
 #[tactic(auto, using(crate::proofs::Removals::first_refused, crate::proofs::Removals::second_refused, crate::proofs::Removals::other_grids, crate::proofs::Removals::removal_answer))]
-pub(crate) fn remove(alloc: Global, text: &[u8], removed: &[u8]) -> Result<Vec<u8>, Refusal>
+pub(crate) fn remove(alloc: Global, text: &[u8], removed: &[u8]) -> Result<Vec<u8>, CallRefusal>
     ensures removed { IfOk result (λ t. IsRemoval text.now removed.now t.items) }
     ensures refused { IfErr result (IsRemoveRefusal text.now removed.now) }
 {

@@ -11,10 +11,10 @@ ghost use Rattle.topo.specs.Parts.{IsOfLayerNamed};
 
 use crate::choices::{edges_named, flag, is_id_missing, scope_named};
 use crate::lent::name_of;
-use crate::refusal::Refusal;
+use crate::refusal::CallRefusal;
 use crate::topologies::topology_of;
 use faults::OutOfMemory;
-use info_text::{write_json, write_lines};
+use outputs::info_text::{write_json, write_lines};
 use query::{
     Edges, LayerFault, borders, neighbors as lists_of_neighbors, write_layer, write_mesh,
     write_neighbor_ids, write_neighbors,
@@ -24,21 +24,21 @@ use std::alloc::Global;
 use topo::{Geom, Topology};
 
 /// The text of a layer as GeoJSON.
-fn text_of_layer(alloc: Global, topology: &Topology, layer: &str) -> Result<Vec<u8>, Refusal>
+fn text_of_layer(alloc: Global, topology: &Topology, layer: &str) -> Result<Vec<u8>, CallRefusal>
     ensures text { IfOk result (λ t. ForItsMap topology.now (λ m. t.items ≡ layer_collection topology.now.grid m layer.now)) }
     ensures refused { IfErr result (IsLayerRefusal topology.now (Some layer.now)) }
 {
     let mut kept = Kept::new(alloc);
     match write_layer(topology, layer, &mut kept) {
         Ok(()) => Ok(kept.into_bytes()),
-        Err(LayerFault::NoLayer) => Err(Refusal::NoLayer),
-        Err(LayerFault::Write) => Err(Refusal::OutOfMemory),
+        Err(LayerFault::NoLayer) => Err(CallRefusal::NoLayer),
+        Err(LayerFault::Write) => Err(CallRefusal::OutOfMemory),
     }
 }
 
 /// The features of a layer of a topology's text, as GeoJSON.
 #[tactic(auto, using(crate::proofs::Texts::feature_answer, crate::proofs::PartRefusals::name_question, crate::proofs::PartRefusals::text_question, crate::proofs::PartRefusals::layer_question))]
-pub(crate) fn feature(alloc: Global, text: &[u8], layer: &[u8]) -> Result<Vec<u8>, Refusal>
+pub(crate) fn feature(alloc: Global, text: &[u8], layer: &[u8]) -> Result<Vec<u8>, CallRefusal>
     ensures features { IfOk result (λ t. IsFeatureText text.now layer.now t.items) }
     ensures refused { IfErr result (IsQuestionRefusal ⊥ text.now (Some layer.now)) }
 {
@@ -53,7 +53,7 @@ fn text_of_borders(
     topology: &Topology,
     layer: Option<&str>,
     edges: Edges,
-) -> Result<Vec<u8>, Refusal>
+) -> Result<Vec<u8>, CallRefusal>
     ensures text { IfOk result (λ t. IsBordersText topology.now (option_map (λ n. n.now) layer.entry) edges t.items) }
     ensures refused { IfErr result (IsLayerRefusal topology.now (option_map (λ n. n.now) layer.entry)) }
 {
@@ -61,7 +61,7 @@ fn text_of_borders(
     let mut kept = Kept::new(alloc);
     match write_mesh(&topology.grid(), &lines, &mut kept) {
         Ok(()) => Ok(kept.into_bytes()),
-        Err(_) => Err(Refusal::OutOfMemory),
+        Err(_) => Err(CallRefusal::OutOfMemory),
     }
 }
 
@@ -74,7 +74,7 @@ pub(crate) fn mesh(
     scope: u32,
     layer: &[u8],
     edges: u32,
-) -> Result<Vec<u8>, Refusal>
+) -> Result<Vec<u8>, CallRefusal>
     ensures borders { IfOk result (λ t. IsMeshText text.now (scope_of scope layer.now) (edges_of edges) t.items) }
     ensures refused { IfErr result (IsQuestionRefusal ((2 ≤ scope) ⊎ (3 ≤ edges)) text.now (scope_of scope layer.now)) }
 {
@@ -111,15 +111,15 @@ fn text_of_id_lists(
 }
 
 /// The geometries of a layer, each of which has an id.
-fn geometries_with_ids<'a>(topology: &'a Topology, layer: &str) -> Result<&'a [Geom], Refusal>
+fn geometries_with_ids<'a>(topology: &'a Topology, layer: &str) -> Result<&'a [Geom], CallRefusal>
     ensures geometries { IfOk result (λ gs. IsOfLayerNamed topology.now.layers layer.now gs.now) }
     ensures refused { IfErr result (IsIdsRefusal topology.now layer.now) }
 {
     let Some(geometries) = topology.geometries(layer) else {
-        return Err(Refusal::NoLayer);
+        return Err(CallRefusal::NoLayer);
     };
     if is_id_missing(geometries) {
-        return Err(Refusal::NoId);
+        return Err(CallRefusal::NoId);
     }
     Ok(geometries)
 }
@@ -131,7 +131,7 @@ fn text_of_neighbors(
     topology: &Topology,
     layer: &str,
     is_by_ids: bool,
-) -> Result<Vec<u8>, Refusal>
+) -> Result<Vec<u8>, CallRefusal>
     ensures text { IfOk result (λ t. IsListsText topology.now layer.now is_by_ids t.items) }
     ensures refused { IfErr result (IsIdsRefusal topology.now layer.now) }
 {
@@ -151,7 +151,7 @@ pub(crate) fn neighbors(
     text: &[u8],
     layer: &[u8],
     ids: u32,
-) -> Result<Vec<u8>, Refusal>
+) -> Result<Vec<u8>, CallRefusal>
     ensures neighbors { IfOk result (λ t. IsNeighborsAnswer text.now layer.now (nat_eq ids 1) t.items) }
     ensures refused { IfErr result (IsQuestionRefusal (2 ≤ ids) text.now (Some layer.now)) }
 {
@@ -163,7 +163,7 @@ pub(crate) fn neighbors(
 
 /// What a topology's text is made of, as lines, or as JSON where `json` is 1.
 #[tactic(auto, using(crate::proofs::PartRefusals::choice_question, crate::proofs::PartRefusals::text_question))]
-pub(crate) fn info(alloc: Global, text: &[u8], json: u32) -> Result<Vec<u8>, Refusal>
+pub(crate) fn info(alloc: Global, text: &[u8], json: u32) -> Result<Vec<u8>, CallRefusal>
     ensures made { IfOk result (λ _. ⊤) }
     ensures refused { IfErr result (IsQuestionRefusal (2 ≤ json) text.now None) }
 {

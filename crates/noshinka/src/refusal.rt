@@ -1,25 +1,25 @@
 //! Why a call gives no answer, and how it says so.
-ghost use Rattle.fault_paths.specs.PathText.{path_text};
+ghost use Rattle.sinks.specs.PathText.PathText.{path_text};
 ghost use Rattle.faults.specs.Fault.{IsWant, number_of, turn_of};
 ghost use Rattle.noshinka.specs.Ends.{IsFaultOutcome, IsRefused};
 ghost use Rattle.noshinka.specs.Why.{IsFaultAt, of_build};
-ghost use Rattle.noshinka.specs.declared.refusal.Refusal.TheVariants as refusal;
+ghost use Rattle.noshinka.specs.declared.refusal.CallRefusal.TheVariants as refusal;
 ghost use Rattle.std.specs.Prelude.{◌≡◌, ◌⊎◌, IfOk, map};
 
 use crate::outcome::Outcome;
 use crate::room::put_text;
-use built_text::BuildFault;
-use fault_paths::PathText;
 use faults::{Fault, FaultKind, OutOfMemory, Step};
+use outputs::built_text::BuildFault;
 use query::QueryFault;
 use refine::MergeFault;
 use sinks::Kept;
+use sinks::path_text::PathText;
 use sinks::written::Written;
 use std::alloc::{AllocError, AllocFailed, Global};
 
 /// Why a call gives no answer.
 #[derive(Drop)]
-pub(crate) enum Refusal {
+pub(crate) enum CallRefusal {
     /// A number of the grid is outside its limits.
     BadGrid,
     /// The name of the layer at this place is not UTF-8.
@@ -42,24 +42,24 @@ pub(crate) enum Refusal {
     OutOfMemory,
 }
 
-impl Refusal {
+impl CallRefusal {
     /// The refusal of the text at a place.
-    pub(crate) fn of_text(place: usize, fault: Fault) -> Refusal
+    pub(crate) fn of_text(place: usize, fault: Fault) -> CallRefusal
         ensures { IsFaultAt place fault result }
     {
         match fault.kind {
-            FaultKind::OutOfMemory => Refusal::OutOfMemory,
-            _ => Refusal::Text(place, fault),
+            FaultKind::OutOfMemory => CallRefusal::OutOfMemory,
+            _ => CallRefusal::Text(place, fault),
         }
     }
 
     /// The refusal of a build.
-    pub(crate) fn of_build(fault: BuildFault) -> Refusal
+    pub(crate) fn of_build(fault: BuildFault) -> CallRefusal
         ensures { result ≡ of_build fault }
     {
         match fault {
-            BuildFault::Text(place, fault) => Refusal::Text(place, fault),
-            BuildFault::OutOfMemory => Refusal::OutOfMemory,
+            BuildFault::Text(place, fault) => CallRefusal::Text(place, fault),
+            BuildFault::OutOfMemory => CallRefusal::OutOfMemory,
         }
     }
 
@@ -68,13 +68,19 @@ impl Refusal {
         ensures { IsRefused self.now result room.old room.new }
     {
         match self {
-            Refusal::BadGrid | Refusal::BadChoice | Refusal::NoId => ended(2, 0, 0),
-            Refusal::BadName(place) => ended(2, 0, *place),
-            Refusal::Text(place, fault) => put_fault(alloc, *place, fault, room),
-            Refusal::OtherGrid(place) => ended(4, number(FaultKind::OtherGrid), *place),
-            Refusal::NoText | Refusal::BadPlan(_) => ended(4, number(FaultKind::BadPlan), 0),
-            Refusal::NoLayer => ended(4, number(FaultKind::NoLayer), 0),
-            Refusal::OutOfMemory => out_of_memory(),
+            CallRefusal::BadGrid | CallRefusal::BadChoice | CallRefusal::NoId => outcome_of(
+                2, 0, 0,
+            ),
+            CallRefusal::BadName(place) => outcome_of(2, 0, *place),
+            CallRefusal::Text(place, fault) => put_fault(alloc, *place, fault, room),
+            CallRefusal::OtherGrid(place) => outcome_of(4, number(FaultKind::OtherGrid), *place),
+            CallRefusal::NoText | CallRefusal::BadPlan(_) => outcome_of(
+                4,
+                number(FaultKind::BadPlan),
+                0,
+            ),
+            CallRefusal::NoLayer => outcome_of(4, number(FaultKind::NoLayer), 0),
+            CallRefusal::OutOfMemory => out_of_memory(),
         }
     }
 }
@@ -85,7 +91,7 @@ fn number(kind: FaultKind) -> u32
     u32::from(kind.number())
 }
 
-pub(crate) fn ended(status: u32, fault: u32, place: usize) -> Outcome
+pub(crate) fn outcome_of(status: u32, fault: u32, place: usize) -> Outcome
     ensures status { result.status ≡ status }
     ensures fault { result.fault ≡ fault }
     ensures place { result.place ≡ place }
@@ -102,7 +108,7 @@ fn out_of_memory() -> Outcome
     ensures status { result.status ≡ 5 }
     ensures fault { result.fault ≡ 20 }
 {
-    ended(5, number(FaultKind::OutOfMemory), 0)
+    outcome_of(5, number(FaultKind::OutOfMemory), 0)
 }
 
 /// The text of a path.
@@ -134,54 +140,54 @@ fn put_fault(alloc: Global, place: usize, fault: &Fault, room: &mut [u8]) -> Out
     }
 }
 
-impl From<OutOfMemory> for Refusal {
+impl From<OutOfMemory> for CallRefusal {
     ghost from_gives = { λ _ r. r ≡ refusal.OutOfMemory };
 
-    fn from(_fault: OutOfMemory) -> Refusal {
-        Refusal::OutOfMemory
+    fn from(_fault: OutOfMemory) -> CallRefusal {
+        CallRefusal::OutOfMemory
     }
 }
 
-impl From<AllocError> for Refusal {
+impl From<AllocError> for CallRefusal {
     ghost from_gives = { λ _ r. r ≡ refusal.OutOfMemory };
 
-    fn from(_error: AllocError) -> Refusal {
-        Refusal::OutOfMemory
+    fn from(_error: AllocError) -> CallRefusal {
+        CallRefusal::OutOfMemory
     }
 }
 
-impl<T: Drop> From<AllocFailed<T>> for Refusal {
+impl<T: Drop> From<AllocFailed<T>> for CallRefusal {
     ghost from_gives = { λ _ r. r ≡ refusal.OutOfMemory };
 
-    fn from(_failed: AllocFailed<T>) -> Refusal {
-        Refusal::OutOfMemory
+    fn from(_failed: AllocFailed<T>) -> CallRefusal {
+        CallRefusal::OutOfMemory
     }
 }
 
-impl From<MergeFault> for Refusal {
+impl From<MergeFault> for CallRefusal {
     ghost use Rattle.noshinka.specs.Why.{of_merge};
 
     ghost from_gives = { λ e r. r ≡ of_merge e };
 
-    fn from(fault: MergeFault) -> Refusal {
+    fn from(fault: MergeFault) -> CallRefusal {
         match fault {
-            MergeFault::BadPlan(leaf) => Refusal::BadPlan(leaf),
-            MergeFault::Text(place, fault) => Refusal::Text(place, fault),
-            MergeFault::OtherGrid(place) => Refusal::OtherGrid(place),
-            MergeFault::OutOfMemory => Refusal::OutOfMemory,
+            MergeFault::BadPlan(leaf) => CallRefusal::BadPlan(leaf),
+            MergeFault::Text(place, fault) => CallRefusal::Text(place, fault),
+            MergeFault::OtherGrid(place) => CallRefusal::OtherGrid(place),
+            MergeFault::OutOfMemory => CallRefusal::OutOfMemory,
         }
     }
 }
 
-impl From<QueryFault> for Refusal {
+impl From<QueryFault> for CallRefusal {
     ghost use Rattle.noshinka.specs.Why.{of_query};
 
     ghost from_gives = { λ e r. r ≡ of_query e };
 
-    fn from(fault: QueryFault) -> Refusal {
+    fn from(fault: QueryFault) -> CallRefusal {
         match fault {
-            QueryFault::NoLayer => Refusal::NoLayer,
-            QueryFault::OutOfMemory => Refusal::OutOfMemory,
+            QueryFault::NoLayer => CallRefusal::NoLayer,
+            QueryFault::OutOfMemory => CallRefusal::OutOfMemory,
         }
     }
 }

@@ -3,7 +3,7 @@ ghost use Rattle.noshinka.specs.Ends.{IsDone, IsEnd, IsRefused};
 ghost use Rattle.std.specs.Prelude.{◌≡◌, ◌↔◌, ◌<◌, ◌≤◌, IfErr, IfOk, IsTrue, cond, length, take};
 
 use crate::outcome::Outcome;
-use crate::refusal::{Refusal, ended};
+use crate::refusal::{CallRefusal, outcome_of};
 use std::alloc::Global;
 
 /// Puts a text at the front of the room, if it fits.
@@ -34,7 +34,7 @@ fn put_answer(text: &[u8], room: &mut [u8]) -> Outcome
 }
 
 /// Puts what was made at the front of the room, or says why nothing was made.
-pub(crate) fn answer(alloc: Global, made: Result<Vec<u8>, Refusal>, room: &mut [u8]) -> Outcome
+pub(crate) fn answer(alloc: Global, made: Result<Vec<u8>, CallRefusal>, room: &mut [u8]) -> Outcome
     ensures done { IfOk made (λ t. IsDone t.items result room.old room.new) }
     ensures refused { IfErr made (λ r. IsRefused r result room.old room.new) }
 {
@@ -45,13 +45,13 @@ pub(crate) fn answer(alloc: Global, made: Result<Vec<u8>, Refusal>, room: &mut [
 }
 
 /// Says what was found, or why nothing was found.
-pub(crate) fn verdict(alloc: Global, found: Result<bool, Refusal>, room: &mut [u8]) -> Outcome
+pub(crate) fn verdict(alloc: Global, found: Result<bool, CallRefusal>, room: &mut [u8]) -> Outcome
     ensures said { IfOk found (λ b. IsEnd (cond b 0 1) 0 0 result) }
     ensures refused { IfErr found (λ r. IsRefused r result room.old room.new) }
 {
     match found {
-        Ok(true) => ended(0, 0, 0),
-        Ok(false) => ended(1, 0, 0),
+        Ok(true) => outcome_of(0, 0, 0),
+        Ok(false) => outcome_of(1, 0, 0),
         Err(refusal) => refusal.outcome(alloc, room),
     }
 }

@@ -10,29 +10,29 @@ use Rattle.lines.proofs.SortedLists.{less_most, not_less}
 use Rattle.theory.specs.Geometry.{AtMost}
 use Rattle.theory.specs.Lists.{Steps}
 use Rattle.query.specs.Steps.{step, step_cmp, is_step, lesser, least_from, behind_from, up_to_from}
-use Rattle.query.specs.declared.layer_text.steps.Step.{Step}
+use Rattle.query.specs.declared.layer_text.steps.GridStep.{GridStep}
 
 pub step_total : IsTotalOrder step_cmp
-step_total = then_total (on_total (λ (s : Step). s.from) position_total) (on_total (λ (s : Step). s.to) position_total)
+step_total = then_total (on_total (λ (s : GridStep). s.from) position_total) (on_total (λ (s : GridStep). s.to) position_total)
 
-most_self : (s : Step) → AtMost step_cmp s s
+most_self : (s : GridStep) → AtMost step_cmp s s
 most_self s = ap is_gt (tied_itself step_total s)
 
-lesser_left : (s t : Step) → AtMost step_cmp (lesser s t) s
+lesser_left : (s t : GridStep) → AtMost step_cmp (lesser s t) s
 lesser_left s t = go (is_lt (step_cmp t s)) refl
   where
     go : (b : Bool) → is_lt (step_cmp t s) ≡ b → AtMost step_cmp (cond b t s) s
     go true e = less_most (step_cmp t s) e
     go false e = most_self s
 
-lesser_right : (s t : Step) → AtMost step_cmp (lesser s t) t
+lesser_right : (s t : GridStep) → AtMost step_cmp (lesser s t) t
 lesser_right s t = go (is_lt (step_cmp t s)) refl
   where
     go : (b : Bool) → is_lt (step_cmp t s) ≡ b → AtMost step_cmp (cond b t s) t
     go true e = most_self t
     go false e = not_less step_cmp step_total (step_cmp t s) (step_cmp s t) (step_total.antisymm t s) e
 
-lesser_one : (s t : Step) → (lesser s t ≡ s) ⊎ (lesser s t ≡ t)
+lesser_one : (s t : GridStep) → (lesser s t ≡ s) ⊎ (lesser s t ≡ t)
 lesser_one s t = go (is_lt (step_cmp t s))
   where
     go : (b : Bool) → (cond b t s ≡ s) ⊎ (cond b t s ≡ t)
@@ -40,19 +40,19 @@ lesser_one s t = go (is_lt (step_cmp t s))
     go false = inl refl
 
 -- m is the least of s and the steps along l
-pub record IsLeast (s : Step) (l : List Pos) (m : Step) : Type 0 where
+pub record IsLeast (s : GridStep) (l : List Pos) (m : GridStep) : Type 0 where
   pub first : AtMost step_cmp m s
   pub all : (u v : Pos) → Steps u v l → AtMost step_cmp m (step u v)
   pub found : (m ≡ s) ⊎ Steps m.from m.to l
 
-pub least_steps : (s : Step) (x : Pos) (l : List Pos) → IsLeast s (x ∷ l) (least_from s x l)
+pub least_steps : (s : GridStep) (x : Pos) (l : List Pos) → IsLeast s (x ∷ l) (least_from s x l)
 least_steps s x [] = record {
   first = most_self s;
   all = λ u v h. elim h [ inl k ↦ absurd k.1 | inr n ↦ absurd n ];
   found = inl refl;
 }
 least_steps s x (y ∷ l) =
-    let m : Step = least_from (lesser s (step x y)) y l in
+    let m : GridStep = least_from (lesser s (step x y)) y l in
     let t : IsLeast (lesser s (step x y)) (y ∷ l) m = least_steps (lesser s (step x y)) y l in
     record {
       first = upto step_total m (lesser s (step x y)) s t.first (lesser_left s (step x y));
@@ -72,20 +72,20 @@ least_steps s x (y ∷ l) =
     }
 
 -- the step stands in a list, behind `before`
-pub record IsParted (s : Step) (x : Pos) (l before : List Pos) : Type 0 where
+pub record IsParted (s : GridStep) (x : Pos) (l before : List Pos) : Type 0 where
   pub whole : x ∷ l ≡ before ++ (s.from ∷ (s.to ∷ behind_from s x l))
   pub front : x ∷ up_to_from s x l ≡ before ++ (s.from ∷ [])
 
-step_there : (s : Step) (x y : Pos) → is_step s x y ≡ true → (s.from ≡ x) × (s.to ≡ y)
+step_there : (s : GridStep) (x y : Pos) → is_step s x y ≡ true → (s.from ≡ x) × (s.to ≡ y)
 step_there s x y e =
     let t = both_true (position_eq s.from x) (position_eq s.to y) e in
     (position_true s.from x t.0, position_true s.to y t.1)
 
-step_told : (s : Step) (x y : Pos) → s.from ≡ x → s.to ≡ y → is_step s x y ≡ true
+step_told : (s : GridStep) (x y : Pos) → s.from ≡ x → s.to ≡ y → is_step s x y ≡ true
 step_told s x y e f =
     (λ i. position_eq s.from (sym e i) && position_eq s.to (sym f i)) ∙ ap (λ b. b && position_eq s.to s.to) (position_refl s.from) ∙ position_refl s.to
 
-pub parted : (s : Step) (x : Pos) (l : List Pos) → Steps s.from s.to (x ∷ l) → (before : List Pos) × IsParted s x l before
+pub parted : (s : GridStep) (x : Pos) (l : List Pos) → Steps s.from s.to (x ∷ l) → (before : List Pos) × IsParted s x l before
 parted s x [] h = elim h [ inl k ↦ absurd k.1 | inr n ↦ absurd n ]
 parted s x (y ∷ l) h = let t = go (is_step s x y) refl (parted s y l) in (t.0, record { whole = t.1; front = t.2 })
   where

@@ -26,3 +26,4 @@ pub mod Turns
 pub mod Texts
 pub mod OfLayer
 pub mod Lines
+pub mod NeighboringBy

@@ -1,5 +1,5 @@
 -- The lists of neighbours, from the uses and the pairs.
-use Rattle.std.proofs.Common.{◌≡◌, ◌<◌, ◌+◌, ℕ, zero, suc, List, [], ◌∷◌, length, get_or, map, replicate, refl, sym, ap, ◌∙◌, subst, Some, slice_get, arith}
+use Rattle.std.proofs.Common.{◌≡◌, ◌+◌, ℕ, zero, suc, List, [], ◌∷◌, length, map, replicate, refl, sym, ap, ◌∙◌, subst, Some, slice_get, arith}
 use Rattle.std.specs.List.Sorted.{IsStrictlyIncreasing}
 use Rattle.grid.specs.declared.pos.Pos.{Pos}
 use Rattle.lines.specs.Turned.{position_cmp}
@@ -21,16 +21,11 @@ use Rattle.query.specs.Neighbors.{AreNeighbors, ListsNeighbors}
 use Rattle.query.specs.Pairs.{pairs_among, pair_cmp, with_others}
 use Rattle.query.specs.Uses.{bodies_uses, use_at, use_cmp}
 use Rattle.query.specs.declared.uses.Use.{Use}
-use Rattle.query.specs.declared.questions.neighbors.Pair.{Pair}
+use Rattle.query.specs.declared.questions.neighbors.IndexPair.{IndexPair}
 use Rattle.query.proofs.LayerFeatures.{pair_at, pair_back, pair_length, named_features, layer_form, features_share, OfFeature, OfFeatures}
-use Rattle.query.proofs.Others.{others_at, lists_hold, lists_length, other_paired, paired_other, others_increase}
+use Rattle.query.proofs.Others.{list_of_place, others_at, lists_length, other_paired, paired_other, others_increase}
 use Rattle.query.proofs.Pairing.{among_from, has_among, paired}
 use Rattle.query.proofs.UsesOfBodies.{bodies_from, has_bodies}
-
-get_there : (ls : List (List ℕ)) (i : ℕ) (l : List ℕ) → slice_get ls i ≡ Some l → (i < length ls) × (get_or ls i [] ≡ l)
-get_there [] i l e = absurd cc
-get_there (k ∷ ls) zero l e = let same : k ≡ l = cc in (omega arith, same)
-get_there (k ∷ ls) (suc i) l e = let t = get_there ls i l e in (omega (arith, t.0), t.1)
 
 pub body_at : (gs : List Geom) (i : ℕ) (b : Body Pos) → slice_get (map (λ g. body_of g.body) gs) i ≡ Some b → (g : Geom) × (slice_get gs i ≡ Some g) × (b ≡ body_of g.body)
 body_at [] i b e = absurd cc
@@ -43,10 +38,10 @@ at_body (h ∷ gs) zero g e = let same : h ≡ g = cc in ap (λ w. Some (body_of
 at_body (h ∷ gs) (suc i) g e = at_body gs i g e
 
 module _ (m : Layers) (t : TopologyParts) (of : IsOf m t) (name : List ℕ) (gs : List Geom) (under : IsOfLayerNamed t.layers name gs) where
-  abbrev features : List Feature
+  abbrev pub features : List Feature
   features = set.items (features_at m name)
 
-  abbrev OfOne : Feature → Geom → Type 0
+  abbrev pub OfOne : Feature → Geom → Type 0
   OfOne f g = OfFeature m t of f g
 
   all : OfFeatures m t of features gs
@@ -55,8 +50,15 @@ module _ (m : Layers) (t : TopologyParts) (of : IsOf m t) (name : List ℕ) (gs 
   feature_at : (i : ℕ) (g : Geom) → slice_get gs i ≡ Some g → (f : Feature) × (slice_get features i ≡ Some f) × OfOne f g
   feature_at i g e = pair_at (IsGeometryOf position_cmp (JunctionOf (geometry_of m)) t.arcs.arcs) seen_by.item_of item_of features gs all i g e
 
-  geometry_at : (i : ℕ) (f : Feature) → slice_get features i ≡ Some f → (g : Geom) × (slice_get gs i ≡ Some g) × OfOne f g
+  pub geometry_at : (i : ℕ) (f : Feature) → slice_get features i ≡ Some f → (g : Geom) × (slice_get gs i ≡ Some g) × OfOne f g
   geometry_at i f e = pair_back (IsGeometryOf position_cmp (JunctionOf (geometry_of m)) t.arcs.arcs) seen_by.item_of item_of features gs all i f e
+
+  -- the lists of places are as many as the features
+  pub lists_count : (ps : List IndexPair) (lists : List (List ℕ)) → lists ≡ with_others (replicate (length gs) []) ps → length lists ≡ length features
+  lists_count ps lists is =
+      ap length is
+      ∙ lists_length (length gs) ps
+      ∙ sym (pair_length (IsGeometryOf position_cmp (JunctionOf (geometry_of m)) t.arcs.arcs) seen_by.item_of item_of features gs all)
 
   -- the feature at the place of a use uses its arc
   user : (u : Use) → Has u (bodies_uses 0 (map (λ g. body_of g.body) gs)) →
@@ -74,9 +76,9 @@ module _ (m : Layers) (t : TopologyParts) (of : IsOf m t) (name : List ℕ) (gs 
       subst (λ n. Has (use_at k n) (bodies_uses 0 (map (λ g. body_of g.body) gs))) e
       (has_bodies (map (λ g. body_of g.body) gs) 0 i k (body_of g.body) (at_body gs i g at) uses)
 
-  module _ (us : List Use) (ps : List Pair) (used : AreSortedOnce use_cmp (bodies_uses 0 (map (λ g. body_of g.body) gs)) us)
+  module _ (us : List Use) (ps : List IndexPair) (used : AreSortedOnce use_cmp (bodies_uses 0 (map (λ g. body_of g.body) gs)) us)
       (pairs : AreSortedOnce pair_cmp (pairs_among us) ps) where
-    neighbors_from : (i j : ℕ) → Has j (others_at i ps) → AreNeighbors features i j
+    pub neighbors_from : (i j : ℕ) → Has j (others_at i ps) → AreNeighbors features i j
     neighbors_from i j h =
         let (p, hp, pi, pj) = other_paired i j ps h in
         let (u, v, hu, hv, arc, pu, pv, n) = among_from us used.ascends p (pairs.only p hp) in
@@ -93,7 +95,7 @@ module _ (m : Layers) (t : TopologyParts) (of : IsOf m t) (name : List ℕ) (gs 
           share = key.1 (u.arc, uses, subst (λ k. UsesArc k (body_of g'.body)) (sym arc) uses');
         }
 
-    from_neighbors : (i j : ℕ) → AreNeighbors features i j → Has j (others_at i ps)
+    pub from_neighbors : (i j : ℕ) → AreNeighbors features i j → Has j (others_at i ps)
     from_neighbors i j r =
         let (g, at, o) = geometry_at i r.one r.at in
         let (g', at', o') = geometry_at j r.other r.beside in
@@ -108,7 +110,7 @@ module _ (m : Layers) (t : TopologyParts) (of : IsOf m t) (name : List ℕ) (gs 
 
     pub lists_neighbors : (lists : List (List ℕ)) → lists ≡ with_others (replicate (length gs) []) ps → ListsNeighbors features lists
     lists_neighbors lists is = record {
-      each = count ∙ sym (pair_length (IsGeometryOf position_cmp (JunctionOf (geometry_of m)) t.arcs.arcs) seen_by.item_of item_of features gs all);
+      each = lists_count ps lists is;
       ascend = λ i js e. subst IsStrictlyIncreasing (sym (held i js e)) (others_increase i ps pairs.ascends);
       exact = λ i js e j. (
         (λ h. neighbors_from i j (subst (λ w. Has j w) (held i js e) h)),
@@ -116,10 +118,5 @@ module _ (m : Layers) (t : TopologyParts) (of : IsOf m t) (name : List ℕ) (gs 
       );
     }
       where
-        count : length lists ≡ length gs
-        count = ap length is ∙ lists_length (length gs) ps
-
         held : (i : ℕ) (js : List ℕ) → slice_get lists i ≡ Some js → js ≡ others_at i ps
-        held i js e =
-            let s = get_there lists i js e in
-            sym s.1 ∙ ap (λ w. get_or w i []) is ∙ lists_hold (length gs) ps i (subst (λ n. i < n) count s.0)
+        held = list_of_place (length gs) ps lists is

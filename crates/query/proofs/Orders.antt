@@ -17,9 +17,9 @@ use Rattle.topo.specs.declared.geom.Geom.{Geom}
 use Rattle.topo.proofs.SameGeometries.{geometry_same}
 use Rattle.query.specs.EachOnce.{AreEachOnce, lent}
 use Rattle.query.specs.declared.uses.Use.{Use}
-use Rattle.query.specs.declared.questions.neighbors.Pair.{Pair}
+use Rattle.query.specs.declared.questions.neighbors.IndexPair.{IndexPair}
 use Rattle.query.specs.contracts.uses.UsePartialEq.TheImpl as use_eq
-use Rattle.query.specs.contracts.questions.neighbors.PairPartialEq.TheImpl as pair_eq
+use Rattle.query.specs.contracts.questions.neighbors.IndexPairPartialEq.TheImpl as pair_eq
 use Rattle.query.specs.Uses.{use_cmp}
 use Rattle.query.specs.Pairs.{pair_cmp}
 use Rattle.query.specs.Spans.{span_cmp}
@@ -29,7 +29,7 @@ pub use_total : IsTotalOrder use_cmp
 use_total = then_total (on_total (λ (u : Use). u.arc) nat_cmp_total) (on_total (λ (u : Use). u.place) nat_cmp_total)
 
 pub pair_total : IsTotalOrder pair_cmp
-pair_total = then_total (on_total (λ (p : Pair). p.place) nat_cmp_total) (on_total (λ (p : Pair). p.other) nat_cmp_total)
+pair_total = then_total (on_total (λ (p : IndexPair). p.place) nat_cmp_total) (on_total (λ (p : IndexPair). p.other) nat_cmp_total)
 
 -- two pairs of numbers that tie are the same
 both_same : (a b c d : ℕ) → ordering_then (nat_cmp a b) (nat_cmp c d) ≡ Equal → (a ≡ b) × (c ≡ d)
@@ -52,7 +52,7 @@ pair_same p q e =
 pub use_ties : (u v : Use) → use_eq.eq-value.it u v ≡ eq_by_cmp use_cmp u v
 use_ties u v = search rules
 
-pub pair_ties : (p q : Pair) → pair_eq.eq-value.it p q ≡ eq_by_cmp pair_cmp p q
+pub pair_ties : (p q : IndexPair) → pair_eq.eq-value.it p q ≡ eq_by_cmp pair_cmp p q
 pair_ties p q = search rules
 
 first_most : (a b : ℕ) (r : Ordering) → ordering_then (nat_cmp a b) r ≡ Less → a ≤ b
@@ -81,7 +81,7 @@ pub places_rise : (u v : Use) → u.arc ≡ v.arc → use_cmp u v ≡ Less → u
 places_rise u v f e = second_less u.arc v.arc u.place v.place f e
 
 -- the other places rise along the pairs of one place
-pub others_rise : (p q : Pair) → p.place ≡ q.place → pair_cmp p q ≡ Less → p.other < q.other
+pub others_rise : (p q : IndexPair) → p.place ≡ q.place → pair_cmp p q ≡ Less → p.other < q.other
 others_rise p q f e = second_less p.place q.place p.other q.other f e
 
 geometry_order_same : IsAntisymmetric geometry_order.cmp-value.it

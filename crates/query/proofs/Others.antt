@@ -1,5 +1,5 @@
 -- The lists of the other places, and what stands in them.
-use Rattle.std.proofs.Common.{◌≡◌, ◌<◌, ◌+◌, ℕ, zero, suc, Bool, true, false, cond, ◌==◌, List, [], ◌∷◌, ◌++◌, length, get_or, set, map, replicate, inl, inr, refl, sym, ap, ◌∙◌, subst, arith, append_assoc, append-nil}
+use Rattle.std.proofs.Common.{◌≡◌, ◌<◌, ◌+◌, ℕ, zero, suc, Bool, true, false, cond, ◌==◌, List, [], ◌∷◌, ◌++◌, length, get_or, set, map, replicate, inl, inr, refl, sym, ap, ◌∙◌, subst, Some, slice_get, arith, append_assoc, append-nil}
 use Rattle.std.specs.Cmp.{unsigned_Decides}
 use Rattle.std.specs.List.Sorted.{IsStrictlyIncreasing}
 use Rattle.std.specs.Prelude.{slice_index}
@@ -7,7 +7,7 @@ use Rattle.std.proofs.lemmas.List.{map-set, get_or-set_same, get_or-set_other, l
 use Rattle.theory.specs.Arcs.{Ascends}
 use Rattle.theory.specs.Lists.{Has}
 use Rattle.query.specs.Pairs.{pair_cmp, with_other, with_others}
-use Rattle.query.specs.declared.questions.neighbors.Pair.{Pair}
+use Rattle.query.specs.declared.questions.neighbors.IndexPair.{IndexPair}
 use Rattle.query.proofs.Orders.{others_rise}
 
 get_map : {A : Type 0} (f : A → List ℕ) (ls : List A) (i : ℕ) (d : A) (e : List ℕ) → i < length ls → get_or (map f ls) i e ≡ f (get_or ls i d)
@@ -23,7 +23,7 @@ put_other f ls i x old new h e n =
     ∙ ap (set (map f ls) i) (n ∙ ap (λ l. l ++ (x ∷ [])) (ap f e ∙ sym (get_map f ls i old [] h)))
 
 -- the other places of those pairs that have the place
-abbrev pub others_at : ℕ → List Pair → List ℕ
+abbrev pub others_at : ℕ → List IndexPair → List ℕ
 others_at i [] = []
 others_at i (p ∷ ps) = cond (p.place == i) (p.other ∷ others_at i ps) (others_at i ps)
 
@@ -33,11 +33,11 @@ told a b t e h = (unsigned_Decides a b).0 (e ∙ h)
 untold : (a b : ℕ) (t : Bool) → (a == b) ≡ t → t ≡ false → ¬ (a ≡ b)
 untold a b t e h = λ k. let p : true ≡ false = sym ((unsigned_Decides a b).1 k) ∙ e ∙ h in cc
 
-with_length : (ls : List (List ℕ)) (ps : List Pair) → length (with_others ls ps) ≡ length ls
+with_length : (ls : List (List ℕ)) (ps : List IndexPair) → length (with_others ls ps) ≡ length ls
 with_length ls [] = refl
 with_length ls (p ∷ ps) = with_length (with_other ls p) ps ∙ length-set ls p.place (get_or ls p.place [] ++ (p.other ∷ []))
 
-with_at : (ls : List (List ℕ)) (ps : List Pair) (i : ℕ) → i < length ls → get_or (with_others ls ps) i [] ≡ get_or ls i [] ++ others_at i ps
+with_at : (ls : List (List ℕ)) (ps : List IndexPair) (i : ℕ) → i < length ls → get_or (with_others ls ps) i [] ≡ get_or ls i [] ++ others_at i ps
 with_at ls [] i h = sym (append-nil _)
 with_at ls (p ∷ ps) i h =
     let n = length-set ls p.place (get_or ls p.place [] ++ (p.other ∷ [])) in
@@ -56,7 +56,7 @@ with_at ls (p ∷ ps) i h =
         (get_or-set_other ls p.place i (get_or ls p.place [] ++ (p.other ∷ [])) [] (λ k. untold p.place i false e refl (sym k)))
 
 -- what the lists hold in the end
-pub lists_hold : (n : ℕ) (ps : List Pair) (i : ℕ) → i < n → get_or (with_others (replicate n []) ps) i [] ≡ others_at i ps
+pub lists_hold : (n : ℕ) (ps : List IndexPair) (i : ℕ) → i < n → get_or (with_others (replicate n []) ps) i [] ≡ others_at i ps
 lists_hold n ps i h =
     with_at (replicate n []) ps i (subst (λ k. i < k) (sym (replicate_length n)) h) ∙ ap (λ l. l ++ others_at i ps) (get_or-replicate n i [] [] h)
   where
@@ -64,27 +64,40 @@ lists_hold n ps i h =
     replicate_length zero = refl
     replicate_length (suc n) = ap suc (replicate_length n)
 
-pub lists_length : (n : ℕ) (ps : List Pair) → length (with_others (replicate n []) ps) ≡ n
+pub lists_length : (n : ℕ) (ps : List IndexPair) → length (with_others (replicate n []) ps) ≡ n
 lists_length n ps = with_length (replicate n []) ps ∙ replicate_length n
   where
     replicate_length : (n : ℕ) → length (replicate {A = List ℕ} n []) ≡ n
     replicate_length zero = refl
     replicate_length (suc n) = ap suc (replicate_length n)
 
-pub other_paired : (i j : ℕ) (ps : List Pair) → Has j (others_at i ps) → (p : Pair) × Has p ps × (p.place ≡ i) × (p.other ≡ j)
+get_there : (ls : List (List ℕ)) (i : ℕ) (l : List ℕ) → slice_get ls i ≡ Some l → (i < length ls) × (get_or ls i [] ≡ l)
+get_there [] i l e = absurd cc
+get_there (k ∷ ls) zero l e = let same : k ≡ l = cc in (omega arith, same)
+get_there (k ∷ ls) (suc i) l e = let t = get_there ls i l e in (omega (arith, t.0), t.1)
+
+-- the list of a place
+pub list_of_place : (n : ℕ) (ps : List IndexPair) (lists : List (List ℕ)) → lists ≡ with_others (replicate n []) ps →
+    (i : ℕ) (js : List ℕ) → slice_get lists i ≡ Some js → js ≡ others_at i ps
+list_of_place n ps lists is i js e =
+    let s = get_there lists i js e in
+    let count : length lists ≡ n = ap length is ∙ lists_length n ps in
+    sym s.1 ∙ ap (λ w. get_or w i []) is ∙ lists_hold n ps i (subst (λ k. i < k) count s.0)
+
+pub other_paired : (i j : ℕ) (ps : List IndexPair) → Has j (others_at i ps) → (p : IndexPair) × Has p ps × (p.place ≡ i) × (p.other ≡ j)
 other_paired i j [] h = absurd h
 other_paired i j (p ∷ ps) h = go (p.place == i) refl h (λ k. other_paired i j ps k)
   where
-    later : ((q : Pair) × Has q ps × (q.place ≡ i) × (q.other ≡ j)) → (q : Pair) × Has q (p ∷ ps) × (q.place ≡ i) × (q.other ≡ j)
+    later : ((q : IndexPair) × Has q ps × (q.place ≡ i) × (q.other ≡ j)) → (q : IndexPair) × Has q (p ∷ ps) × (q.place ≡ i) × (q.other ≡ j)
     later t = (t.0, inr t.1, t.2, t.3)
 
     go : (t : Bool) → (p.place == i) ≡ t → Has j (cond t (p.other ∷ others_at i ps) (others_at i ps)) →
-        (Has j (others_at i ps) → (q : Pair) × Has q ps × (q.place ≡ i) × (q.other ≡ j)) → (q : Pair) × Has q (p ∷ ps) × (q.place ≡ i) × (q.other ≡ j)
+        (Has j (others_at i ps) → (q : IndexPair) × Has q ps × (q.place ≡ i) × (q.other ≡ j)) → (q : IndexPair) × Has q (p ∷ ps) × (q.place ≡ i) × (q.other ≡ j)
     go true e (inl k) f = (p, inl refl, told p.place i true e refl, sym k)
     go true e (inr k) f = later (f k)
     go false e k f = later (f k)
 
-pub paired_other : (i j : ℕ) (ps : List Pair) (p : Pair) → Has p ps → p.place ≡ i → p.other ≡ j → Has j (others_at i ps)
+pub paired_other : (i j : ℕ) (ps : List IndexPair) (p : IndexPair) → Has p ps → p.place ≡ i → p.other ≡ j → Has j (others_at i ps)
 paired_other i j [] p h a b = absurd h
 paired_other i j (q ∷ ps) p h a b = go (q.place == i) refl h (λ k. paired_other i j ps p k a b)
   where
@@ -99,7 +112,7 @@ abbrev Climbs : List ℕ → Type 0
 Climbs [] = Unit {0}
 Climbs (x ∷ xs) = ((y : ℕ) → Has y xs → x < y) × Climbs xs
 
-others_climb : (i : ℕ) (ps : List Pair) → Ascends pair_cmp ps → Climbs (others_at i ps)
+others_climb : (i : ℕ) (ps : List IndexPair) → Ascends pair_cmp ps → Climbs (others_at i ps)
 others_climb i [] a = tt
 others_climb i (p ∷ ps) a = go (p.place == i) refl (others_climb i ps a.1)
   where
@@ -123,5 +136,5 @@ increasing (x ∷ (y ∷ xs)) c = λ k h. go (increasing (y ∷ xs) c.1) k h
         let e : suc (k + 1) ≡ suc k + 1 = omega arith in
         subst (λ n. slice_index (y ∷ xs) k < slice_index (x ∷ (y ∷ xs)) n) e (f k (omega (arith, h)))
 
-pub others_increase : (i : ℕ) (ps : List Pair) → Ascends pair_cmp ps → IsStrictlyIncreasing (others_at i ps)
+pub others_increase : (i : ℕ) (ps : List IndexPair) → Ascends pair_cmp ps → IsStrictlyIncreasing (others_at i ps)
 others_increase i ps a = increasing (others_at i ps) (others_climb i ps a)

@@ -7,10 +7,10 @@ use Rattle.theory.proofs.Lists.{Has-append, Has-append_left, Has-append_right}
 use Rattle.query.specs.Uses.{use_cmp}
 use Rattle.query.specs.Pairs.{pairs_behind, pairs_among}
 use Rattle.query.specs.declared.uses.Use.{Use}
-use Rattle.query.specs.declared.questions.neighbors.Pair.{Pair}
+use Rattle.query.specs.declared.questions.neighbors.IndexPair.{IndexPair}
 use Rattle.query.proofs.Orders.{arcs_rise, places_rise}
 
-abbrev pub paired : Use → Use → Pair
+abbrev pub paired : Use → Use → IndexPair
 paired u v = record { place = u.place; other = v.place }
 
 same_number : (a b : ℕ) → (a == b) ≡ true → a ≡ b
@@ -19,7 +19,7 @@ same_number a b e = (unsigned_Decides a b).0 e
 other_number : (a b : ℕ) → (a == b) ≡ false → ¬ (a ≡ b)
 other_number a b e = λ k. let p : true ≡ false = sym ((unsigned_Decides a b).1 k) ∙ e in cc
 
-behind_from : (u : Use) (vs : List Use) (q : Pair) → Has q (pairs_behind u vs) →
+behind_from : (u : Use) (vs : List Use) (q : IndexPair) → Has q (pairs_behind u vs) →
     (v : Use) × Has v vs × (v.arc ≡ u.arc) × ((q ≡ paired u v) ⊎ (q ≡ paired v u))
 behind_from u [] q h = absurd h
 behind_from u (v ∷ vs) q h = go (v.arc == u.arc) refl h (λ k. behind_from u vs q k)
@@ -51,7 +51,7 @@ has_behind u (w ∷ vs) a v h e = go (w.arc == u.arc) refl h (λ k. has_behind u
     go false t (inr k) f = absurd (other_number w.arc u.arc t (between k))
 
 -- a pair comes from two uses of one arc
-pub among_from : (us : List Use) → Ascends use_cmp us → (q : Pair) → Has q (pairs_among us) →
+pub among_from : (us : List Use) → Ascends use_cmp us → (q : IndexPair) → Has q (pairs_among us) →
     (u : Use) × (v : Use) × Has u us × Has v us × (u.arc ≡ v.arc) × (q.place ≡ u.place) × (q.other ≡ v.place) × (¬ (q.place ≡ q.other))
 among_from [] a q h = absurd h
 among_from (u ∷ us) a q h = elim (Has-append q (pairs_behind u us) (pairs_among us) h) [

@@ -21,7 +21,7 @@ use Rattle.chains.specs.Table.{IsTableOf}
 use Rattle.lines.proofs.Positions.{position_apart, position_decide, position_true, tied_position, true_false, true_position}
 use Rattle.lines.proofs.ByVertex.{behind_at, here_at, sorted_stand, stand_behind}
 use Rattle.lines.proofs.SortedLists.{Has-permutation}
-use Rattle.query.specs.declared.ends.End.{End}
+use Rattle.query.specs.declared.ends.SpanEnd.{SpanEnd}
 use Rattle.query.specs.declared.stops.Sides.{Sides}
 use Rattle.query.specs.declared.stops.Sides.TheVariants.{One, Two, More}
 use Rattle.query.specs.Stops.{AreHalts, AreJudged, IsJudged, Means, OnOne, OnThreeOf, beside, halts, sided, sided_all, sides_at, stop_step}
@@ -58,11 +58,11 @@ Means-sided (Two a b) H n h = go (position_eq a n) refl (position_eq b n) refl
 Means-sided More H n h = (h.0, h.1, h.2, inr h.3, inr h.4, inr h.5, h.6, h.7, h.8)
 
 -- p is beside the vertex of one of the ends
-abbrev IsSideOf : Pos → List End → Type 0
+abbrev IsSideOf : Pos → List SpanEnd → Type 0
 IsSideOf p [] = ⊥
 IsSideOf p (e ∷ es) = (p ≡ e.to) ⊎ IsSideOf p es
 
-Means-all : (s : Sides) (H : Pos → Type 0) (es : List End) → Means s H → Means (sided_all s es) (λ p. IsSideOf p es ⊎ H p)
+Means-all : (s : Sides) (H : Pos → Type 0) (es : List SpanEnd) → Means s H → Means (sided_all s es) (λ p. IsSideOf p es ⊎ H p)
 Means-all s H [] h = Means-iff s H (λ p. ⊥ ⊎ H p) (λ p k. inr k) (λ p k. elim k [ inl z ↦ absurd z | inr f ↦ f ]) h
 Means-all s H (e ∷ es) h =
     Means-iff (sided_all (sided s e.to) es) (λ p. IsSideOf p es ⊎ ((p ≡ e.to) ⊎ H p)) (λ p. IsSideOf p (e ∷ es) ⊎ H p)
@@ -70,18 +70,18 @@ Means-all s H (e ∷ es) h =
     (λ p k. elim k [ inl f ↦ elim f [ inl i ↦ inr (inl i) | inr i ↦ inl i ] | inr f ↦ inr (inr f) ])
     (Means-all (sided s e.to) (λ p. (p ≡ e.to) ⊎ H p) es (Means-sided s H e.to h))
 
-side_has : (v w : Pos) (es : List End) → ((x : End) → Has x es → x.at ≡ v) → IsSideOf w es → Has (beside v w) es
+side_has : (v w : Pos) (es : List SpanEnd) → ((x : SpanEnd) → Has x es → x.at ≡ v) → IsSideOf w es → Has (beside v w) es
 side_has v w [] at h = absurd h
 side_has v w (e ∷ es) at (inl k) = let here = at e (inl refl) in inl (λ i. record { at = sym here i; to = k i })
 side_has v w (e ∷ es) at (inr h) = inr (side_has v w es (λ x i. at x (inr i)) h)
 
-has_side : (v w : Pos) (es : List End) → Has (beside v w) es → IsSideOf w es
+has_side : (v w : Pos) (es : List SpanEnd) → Has (beside v w) es → IsSideOf w es
 has_side v w [] h = absurd h
 has_side v w (e ∷ es) (inl k) = inl (ap (λ z. z.to) k)
 has_side v w (e ∷ es) (inr h) = inr (has_side v w es h)
 
 -- what is told of the ends at one vertex
-Means-here : (first : End) (here : List End) → ((x : End) → Has x (first ∷ here) → x.at ≡ first.at) →
+Means-here : (first : SpanEnd) (here : List SpanEnd) → ((x : SpanEnd) → Has x (first ∷ here) → x.at ≡ first.at) →
     Means (sides_at first here) (λ w. Has (beside first.at w) (first ∷ here))
 Means-here first here at =
     Means-iff (sides_at first here) (λ p. IsSideOf p here ⊎ (p ≡ first.to)) (λ w. Has (beside first.at w) (first ∷ here))
@@ -90,14 +90,14 @@ Means-here first here at =
     (Means-all (One first.to) (λ p. p ≡ first.to) here (refl, λ p k. k))
 
 -- the vertices of the ends before these are judged
-pub record Judging (ends left : List End) (stops : List Pos) : Type 0 where
-  pub done : List End
+pub record Judging (ends left : List SpanEnd) (stops : List Pos) : Type 0 where
+  pub done : List SpanEnd
   pub is : ends ≡ done ++ left
   pub stand : StandByVertex vertex_of left
-  pub other : (x y : End) → Has x done → Has y left → ¬ (x.at ≡ y.at)
+  pub other : (x y : SpanEnd) → Has x done → Has y left → ¬ (x.at ≡ y.at)
   pub judged : AreJudged done stops
 
-pub judging_starts : (ends : List End) (stops : List Pos) → stops ≡ [] → StandByVertex vertex_of ends → Judging ends ends stops
+pub judging_starts : (ends : List SpanEnd) (stops : List Pos) → stops ≡ [] → StandByVertex vertex_of ends → Judging ends ends stops
 judging_starts ends stops e g = record {
   done = [];
   is = refl;
@@ -106,22 +106,22 @@ judging_starts ends stops e g = record {
   judged = λ v. inl ((λ w h. h), ap (λ l. among l v) e);
 }
 
-pub judging_over : (ends left : List End) (stops : List Pos) → left ≡ [] → Judging ends left stops → AreJudged ends stops
+pub judging_over : (ends left : List SpanEnd) (stops : List Pos) → left ≡ [] → Judging ends left stops → AreJudged ends stops
 judging_over ends left stops e p v =
     subst (λ es. IsJudged es v (among stops v)) (sym (p.is ∙ ap (λ w. p.done ++ w) e ∙ append-nil p.done)) (p.judged v)
 
 -- the ends at one vertex: the first of those that are left, and those that follow it there
-module _ (ends : List End) (first : End) (here behind : List End) (stops new : List Pos) (p : Judging ends (first ∷ (here ++ behind)) stops)
-    (at : (x : End) → Has x here → x.at ≡ first.at) (past : (x : End) → Has x behind → ¬ (x.at ≡ first.at))
+module _ (ends : List SpanEnd) (first : SpanEnd) (here behind : List SpanEnd) (stops new : List Pos) (p : Judging ends (first ∷ (here ++ behind)) stops)
+    (at : (x : SpanEnd) → Has x here → x.at ≡ first.at) (past : (x : SpanEnd) → Has x behind → ¬ (x.at ≡ first.at))
     (made : (q : Pos) → among new q ≡ stop_step (halts (sides_at first here)) q (among stops q) first.at) where
-  at_first : (x : End) → Has x (first ∷ here) → x.at ≡ first.at
+  at_first : (x : SpanEnd) → Has x (first ∷ here) → x.at ≡ first.at
   at_first x (inl e) = ap (λ w. w.at) e
   at_first x (inr h) = at x h
 
-  in_behind : (x : End) → Has x behind → Has x (first ∷ (here ++ behind))
+  in_behind : (x : SpanEnd) → Has x behind → Has x (first ∷ (here ++ behind))
   in_behind x h = inr (Has-append_right x here behind h)
 
-  abbrev now : List End
+  abbrev now : List SpanEnd
   now = p.done ++ (first ∷ here)
 
   -- at its vertex no end stood before
@@ -180,7 +180,7 @@ module _ (ends : List End) (first : End) (here behind : List End) (stops new : L
   }
 
 -- in the form of the code
-pub judging_step : (ends left others : List End) (first : End) (n : ℕ) (here behind : List End) (s : Sides) (stops new : List Pos) → left ≡ first ∷ others → n ≡ count_at vertex_of first.at others →
+pub judging_step : (ends left others : List SpanEnd) (first : SpanEnd) (n : ℕ) (here behind : List SpanEnd) (s : Sides) (stops new : List Pos) → left ≡ first ∷ others → n ≡ count_at vertex_of first.at others →
     here ≡ take n others → behind ≡ drop n others → s ≡ sides_at first here → ((q : Pos) → among new q ≡ stop_step (halts s) q (among stops q) first.at) →
     Judging ends left stops → Judging ends behind new
 judging_step ends left others first n here behind s stops new l c h b is made p =
@@ -207,7 +207,7 @@ two_only S v t (inr o) =
     ]
 
 -- the segments S at a vertex where arcs end are those of the ends, and each other vertex lies on two
-module _ (S : Pos → Pos → Type 0) (ends : List End) (stops : List Pos)
+module _ (S : Pos → Pos → Type 0) (ends : List SpanEnd) (stops : List Pos)
     (on : (v w : Pos) → Has (beside v w) ends → S v w) (all : (v p w : Pos) → Has (beside v p) ends → S v w → Has (beside v w) ends)
     (others : (v w : Pos) → S v w → Has (beside v w) ends ⊎ OnTwo S v) (judged : AreJudged ends stops) where
   -- a vertex that is no stop lies on two segments
@@ -264,18 +264,18 @@ stop_put s t b v q h e =
 pub stop_left : (keys : List Pos) (b : Bool) (v q : Pos) → b ≡ false → among keys q ≡ stop_step b q (among keys q) v
 stop_left keys b v q h = sym (ap (λ a. cond a (cond (is_eq (position_cmp v q)) true (among keys q)) (among keys q)) h)
 
-among_has : (v w : Pos) (es : List End) → AmongEnds v w es → Has (beside v w) es
+among_has : (v w : Pos) (es : List SpanEnd) → AmongEnds v w es → Has (beside v w) es
 among_has v w [] h = absurd h
 among_has v w (e ∷ es) (inl k) = inl (λ i. record { at = k.0 i; to = k.1 i })
 among_has v w (e ∷ es) (inr h) = inr (among_has v w es h)
 
-has_among : (v w : Pos) (es : List End) → Has (beside v w) es → AmongEnds v w es
+has_among : (v w : Pos) (es : List SpanEnd) → Has (beside v w) es → AmongEnds v w es
 has_among v w [] h = absurd h
 has_among v w (e ∷ es) (inl k) = inl (ap (λ z. z.at) k, ap (λ z. z.to) k)
 has_among v w (e ∷ es) (inr h) = inr (has_among v w es h)
 
 -- the stops that are noted at the ends of arcs of a map
-are_halts : (g : Geometry Pos) → IsSound g → (t : Arcs) → IsTableOf g t → (ks : List ℕ) (ends sorted : List End) → HasEnds t.arcs ks ends → IsPermutation ends sorted →
+are_halts : (g : Geometry Pos) → IsSound g → (t : Arcs) → IsTableOf g t → (ks : List ℕ) (ends sorted : List SpanEnd) → HasEnds t.arcs ks ends → IsPermutation ends sorted →
     (stops : List Pos) → AreJudged sorted stops → AreHalts t.arcs ks stops
 are_halts g sound t table ks ends sorted has moved stops judged = record {
   exact = λ v. (stops_lie (OnArcs t.arcs ks) sorted stops on all others judged v, lies_stop (OnArcs t.arcs ks) sorted stops on all others judged v);
@@ -298,7 +298,7 @@ are_halts g sound t table ks ends sorted has moved stops judged = record {
     others v w s = elim (end_or_two g sound t table ks v w s) [ inl h ↦ inl (to v w ((has v w).1 h)) | inr h ↦ inr h ]
 
 -- in the form of the code
-pub stops_told : {E : Type 0} (t : Arcs) (ks : List ℕ) (ends sorted slice : List End) (r : Result (BTreeSet Pos) E) →
+pub stops_told : {E : Type 0} (t : Arcs) (ks : List ℕ) (ends sorted slice : List SpanEnd) (r : Result (BTreeSet Pos) E) →
     HasEnds t.arcs ks ends → IsPermutation ends sorted → IsSorted by_vertex sorted → slice ≡ sorted → IfOk r (λ s. StandByVertex vertex_of slice → AreJudged slice s.keys) →
     IfOk r (λ s. (g : Geometry Pos) → IsSound g → IsTableOf g t → AreHalts t.arcs ks s.keys)
 stops_told t ks ends sorted slice (Ok s) has moved order e judged = λ g sound table.

@@ -1,5 +1,6 @@
--- Which features differ in a property, and the borders between them.
+-- Which features differ in a property, the borders between them, and which of them are neighbours.
 use Rattle.std.specs.Prelude.{◌≡◌, ◌↔◌, ◌⊎◌, ℕ, List, [], ◌∷◌, ◌++◌, Option, Some, None, cond, is_some, length, map, option_map, slice_get, unwrap_or}
+use Rattle.std.specs.List.Sorted.{IsStrictlyIncreasing}
 use Rattle.std.specs.Str.{bytes_eq}
 use Rattle.serde_json.specs.Find.{get}
 use Rattle.serde_json.specs.Written.{compact_text}
@@ -11,11 +12,13 @@ use Rattle.shapes.specs.declared.props.Props.{Props}
 use Rattle.chains.specs.Arcs.{Arcs}
 use Rattle.chains.specs.Joined.{AmongSegments}
 use Rattle.chains.specs.declared.segment.Segment.{Segment}
+use Rattle.theory.specs.Lists.{Has}
 use Rattle.topo.specs.ItsMap.{ForItsMap}
 use Rattle.topo.specs.OfMap.{body_of}
 use Rattle.topo.specs.Parts.{TopologyParts}
 use Rattle.topo.specs.declared.geom.Geom.{Geom}
 use Rattle.query.specs.Mesh.{AreLinesOver, HasSide, InScope}
+use Rattle.query.specs.Neighbors.{AreNeighbors}
 use Rattle.query.specs.Uses.{body_uses}
 use Rattle.query.specs.declared.uses.Use.{Use}
 
@@ -40,6 +43,17 @@ pub record AreDividing (In : Feature → Type 0) (name : List ℕ) (segs : List 
 -- the lines are those over the segments at which features in scope differ
 abbrev pub AreBordersBy : TopologyParts → Option (List ℕ) → List ℕ → Arcs → Type 0
 AreBordersBy t scope name lines = (segments : List Segment) × AreLinesOver segments lines × ForItsMap t (λ m. AreDividing (InScope m scope) name segments)
+
+-- neighbours that differ
+pub record AreNeighborsBy (name : List ℕ) (fs : List Feature) (i j : ℕ) : Type 0 where
+  pub neighbors : AreNeighbors fs i j
+  pub differ : Differ name neighbors.one neighbors.other
+
+-- one list for each feature, in order: the places of those of its neighbours that differ from it, ascending
+pub record ListsNeighborsBy (name : List ℕ) (fs : List Feature) (lists : List (List ℕ)) : Type 0 where
+  pub each : length lists ≡ length fs
+  pub ascend : (i : ℕ) (js : List ℕ) → slice_get lists i ≡ Some js → IsStrictlyIncreasing js
+  pub exact : (i : ℕ) (js : List ℕ) → slice_get lists i ≡ Some js → (j : ℕ) → Has j js ↔ AreNeighborsBy name fs i j
 
 -- the values of geometries
 abbrev pub values_of : List ℕ → List Geom → List (Option (List ℕ))

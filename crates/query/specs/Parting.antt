@@ -1,4 +1,4 @@
--- Which arcs of some numbers are maximal lines as they stand: those that begin and end with a stop.
+-- Which arcs of some numbers are maximal lines as they are: those that begin and end with a stop.
 use Rattle.std.specs.Prelude.{Bool, false, cond, ◌&&◌, ℕ, List, [], ◌∷◌, ◌++◌}
 use Rattle.theory.specs.Lists.{last_of}
 use Rattle.grid.specs.declared.pos.Pos.{Pos}

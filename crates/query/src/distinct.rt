@@ -6,7 +6,11 @@ ghost use Rattle.theory.specs.Lists.{gathered};
 use std::alloc::{AllocError, Global};
 use topo::{Geom, Layer};
 
-fn note_geometries<'a>(noted: &mut Vec<&'a Geom>, geometries: &'a [Geom]) -> Result<(), AllocError>
+/// Puts references to geometries at the end.
+pub(crate) fn note_geometries<'a>(
+    noted: &mut Vec<&'a Geom>,
+    geometries: &'a [Geom],
+) -> Result<(), AllocError>
     ensures { OnOk result (lent noted.new.items ≡ lent noted.old.items ++ geometries.now) }
 {
     for geometry in geometries {

@@ -10,34 +10,34 @@ use std::alloc::{AllocError, Global};
 
 /// A vertex at which an arc ends, and the vertex beside it on the arc.
 #[derive(Clone, Copy, PartialEq, Eq, Debug)]
-pub(crate) struct End {
+pub(crate) struct SpanEnd {
     pub(crate) at: Pos,
     pub(crate) to: Pos,
 }
 
-fn first_end(arc: &[Pos]) -> Option<End>
+fn first_end(arc: &[Pos]) -> Option<SpanEnd>
     ensures { result ≡ begin_of arc.now }
 {
     let (first, rest) = arc.split_first()?;
     let next = rest.first()?;
-    Some(End {
+    Some(SpanEnd {
         at: *first,
         to: *next,
     })
 }
 
-fn last_end(arc: &[Pos]) -> Option<End>
+fn last_end(arc: &[Pos]) -> Option<SpanEnd>
     ensures { result ≡ begin_of (reverse arc.now) }
 {
     let (last, rest) = arc.split_last()?;
     let before = rest.last()?;
-    Some(End {
+    Some(SpanEnd {
         at: *last,
         to: *before,
     })
 }
 
-fn note_end(ends: &mut Vec<End>, end: Option<End>) -> Result<(), AllocError>
+fn note_end(ends: &mut Vec<SpanEnd>, end: Option<SpanEnd>) -> Result<(), AllocError>
     ensures { OnOk result ((v w : Pos) → AmongEnds v w ends.new.items ↔ (AmongEnds v w ends.old.items ⊎ IsEnd v w end)) }
 {
     let Some(found) = end else {
@@ -48,14 +48,14 @@ fn note_end(ends: &mut Vec<End>, end: Option<End>) -> Result<(), AllocError>
 }
 
 /// Puts the two ends of an arc behind the others.
-fn note_ends(ends: &mut Vec<End>, arc: &[Pos]) -> Result<(), AllocError>
+fn note_ends(ends: &mut Vec<SpanEnd>, arc: &[Pos]) -> Result<(), AllocError>
     ensures { OnOk result ((v w : Pos) → AmongEnds v w ends.new.items ↔ (AmongEnds v w ends.old.items ⊎ EndStep v w arc.now)) }
 {
     note_end(ends, first_end(arc))?;
     note_end(ends, last_end(arc))
 }
 
-fn note_number(ends: &mut Vec<End>, arcs: &ArcTable, number: usize) -> Result<(), AllocError>
+fn note_number(ends: &mut Vec<SpanEnd>, arcs: &ArcTable, number: usize) -> Result<(), AllocError>
     ensures { OnOk result ((v w : Pos) → AmongEnds v w ends.new.items ↔ (AmongEnds v w ends.old.items ⊎ EndStep v w (arc_at arcs.now.arcs number))) }
 {
     match arcs.arc(number) {
@@ -69,7 +69,7 @@ pub(crate) fn ends_of(
     alloc: Global,
     arcs: &ArcTable,
     chosen: &[usize],
-) -> Result<Vec<End>, AllocError>
+) -> Result<Vec<SpanEnd>, AllocError>
     ensures { IfOk result (λ v. HasEnds arcs.now.arcs chosen.now v.items) }
 {
     let mut ends = Vec::new(alloc);

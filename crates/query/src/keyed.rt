@@ -11,9 +11,9 @@ use topo::Geom;
 
 /// An id as the name of a member: a number by its decimal text.
 #[derive(Clone, Copy)]
-struct Key<'a>(&'a Id);
+struct IdKey<'a>(&'a Id);
 
-impl<'a> Written for Key<'a> {
+impl<'a> Written for IdKey<'a> {
     ghost text = { λ k. key_text k.0.now };
 
     fn write<W: Sink>(&self, sink: &mut W) -> Result<(), WriteFault> {
@@ -37,7 +37,7 @@ fn write_member<W: Sink>(
     ensures part { OnErr result (TookPart (W.seen sink.old) (W.seen sink.new) (member_text separator.entry.0.now geometries.now geometry.now list.now)) }
 {
     let ids = Listed(list, &IdsOf(geometries));
-    Then(separator, Then(Key(&geometry.id), Then(Text(b":"), ids))).write(sink)
+    Then(separator, Then(IdKey(&geometry.id), Then(Text(b":"), ids))).write(sink)
 }
 
 /// Writes the members of an object, with commas between them.

@@ -35,4 +35,5 @@ pub use questions::borders_by::borders_by;
 pub use questions::feature::feature;
 pub use questions::mesh::mesh;
 pub use questions::neighbors::neighbors;
+pub use questions::neighbors_by::neighbors_by;
 pub use writer::{write_mesh, write_neighbor_ids, write_neighbors};

@@ -5,3 +5,4 @@ pub(crate) mod borders_by;
 pub(crate) mod feature;
 pub(crate) mod mesh;
 pub(crate) mod neighbors;
+pub(crate) mod neighbors_by;

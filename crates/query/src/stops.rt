@@ -9,7 +9,7 @@ ghost use Rattle.std.specs.List.Sorted.{IsPermutation, IsSorted};
 ghost use Rattle.std.specs.Prelude.{◌≡◌, ◌≤◌, IfOk, OnOk, length};
 ghost use Rattle.theory.specs.Geometry.{Geometry, IsSound};
 
-use crate::ends::{End, ends_of};
+use crate::ends::{SpanEnd, ends_of};
 use chains::ArcTable;
 use grid::pos::Pos;
 use std::alloc::{AllocError, Global};
@@ -48,7 +48,7 @@ fn with_side(sides: Sides, to: Pos) -> Sides
 }
 
 /// The sides of the vertex of an end and of the others there.
-fn sides_of(first: &End, others: &[End]) -> Sides
+fn sides_of(first: &SpanEnd, others: &[SpanEnd]) -> Sides
     ensures { result ≡ sides_at first.now others.now }
 {
     let mut sides = Sides::One(first.to);
@@ -70,7 +70,7 @@ fn is_halt(sides: Sides) -> bool
 }
 
 /// How many of the first ends are at a vertex.
-fn count_of(ends: &[End], vertex: Pos) -> usize
+fn count_of(ends: &[SpanEnd], vertex: Pos) -> usize
     ensures count { result ≡ count_at vertex_of vertex ends.now }
     ensures within { result ≤ length ends.now }
 {
@@ -94,7 +94,7 @@ fn note_stop(stops: &mut BTreeSet<Pos>, vertex: Pos, sides: Sides) -> Result<(),
 }
 
 /// The vertices of ends, which are vertex by vertex, that do not lie on two segments.
-fn stops_by(alloc: Global, ends: &[End]) -> Result<BTreeSet<Pos>, AllocError>
+fn stops_by(alloc: Global, ends: &[SpanEnd]) -> Result<BTreeSet<Pos>, AllocError>
     ensures { IfOk result (λ s. StandByVertex vertex_of ends.now → AreJudged ends.now s.keys) }
 {
     let mut stops = BTreeSet::new(alloc);
@@ -107,7 +107,7 @@ fn stops_by(alloc: Global, ends: &[End]) -> Result<BTreeSet<Pos>, AllocError>
     Ok(stops)
 }
 
-fn sort_ends(ends: &mut Vec<End>)
+fn sort_ends(ends: &mut Vec<SpanEnd>)
     ensures permutation { IsPermutation ends.old.items ends.new.items }
     ensures sorted { IsSorted by_vertex ends.new.items }
 {

@@ -1,5 +1,5 @@
 -- Where the texts before are accepted, the next one is the first that is refused.
-use Rattle.std.proofs.Common.{◌≡◌, ℕ, List, [], ◌∷◌, ◌++◌, length, ◌∙◌, sym}
+use Rattle.std.proofs.Common.{◌≡◌, ℕ, List, [], ◌∷◌, ◌++◌, length}
 use Rattle.std.specs.Prelude.{All}
 use Rattle.faults.specs.Fault.{Pair, IsWant}
 use Rattle.faults.specs.declared.fault.Fault.{Fault}

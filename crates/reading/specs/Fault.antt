@@ -1,4 +1,4 @@
--- Faults of a value: pairs of a path and a kind, their order, and the least of them.
+-- Faults of a value: pairs of a path and a kind, their order, and the first of them.
 use Rattle.std.specs.Prelude.{◌≡◌, List, [], ◌∷◌, map, All, Contains, IsTrue}
 use Rattle.std.specs.Ordering.{nat_cmp, ordering_then, is_le}
 use Rattle.std.specs.declared.cmp.Ordering.{Ordering}
@@ -33,7 +33,7 @@ pub record IsLeast (ps : List Pair) (p : Pair) : Type 0 where
   pub present : Contains ps p
   pub first : All (IsUpto p) ps
 
--- the fault is the least of these, unless memory was refused
+-- the fault is the first of these, unless memory was refused
 pub record LeastOrWant (ps : List Pair) (f : Fault) : Type 0 where
   pub least : (f.kind ≡ OutOfMemory → ⊥) → IsLeast ps (pair_of f)
 

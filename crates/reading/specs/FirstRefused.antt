@@ -4,7 +4,7 @@ use Rattle.faults.specs.Fault.{Pair, pair_of, IsWant}
 use Rattle.faults.specs.declared.fault.Fault.{Fault}
 use Rattle.reading.specs.Fault.{IsLeast}
 
--- the text of that number is refused with its least fault, and those before it are accepted
+-- the text of that number is refused with its first error, and those before it are accepted
 pub record IsFirstRefused (faults : List ℕ → List Pair) (texts : List (List ℕ)) (number : ℕ) (f : Fault) : Type 0 where
   pub before : List (List ℕ)
   pub text : List ℕ

@@ -69,7 +69,7 @@ pub record IsIdOf (d : Data) (i : Id) : Type 0 where
 abbrev pub properties_of : Data → List ℕ
 properties_of d = if is_some (as_null d) then codes "{}" else compact_text d
 
--- ---- the faults that `Props::from_value` tells
+-- ---- the faults that `Props::from_value` reports
 
 -- the kind of error that a fault of properties is
 abbrev pub properties_kind : props.PropFault → FaultKind

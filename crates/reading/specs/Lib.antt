@@ -12,3 +12,6 @@ pub mod Text
 pub mod Meant
 pub mod Fitting
 pub mod Shapes
+pub mod FaultLists
+pub mod Tokens
+pub mod TokenParts

@@ -21,7 +21,7 @@ impl GeometryType {
     ghost use Rattle.reading.specs.Types.{geometry_named, geometry_type};
 
     /// The type of that name.
-    pub fn named(text: &str) -> Result<GeometryType, FaultKind>
+    pub fn from_name(text: &str) -> Result<GeometryType, FaultKind>
         ensures { result ≡ geometry_named text.now }
     {
         if text == "Point" {
@@ -46,7 +46,7 @@ impl GeometryType {
         ensures { result ≡ geometry_type (view value.now) }
     {
         match type_name(value) {
-            Ok(text) => GeometryType::named(text),
+            Ok(text) => GeometryType::from_name(text),
             Err(kind) => Err(kind),
         }
     }

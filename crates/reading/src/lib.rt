@@ -7,11 +7,14 @@
 #![tactic(auto)]
 
 pub mod document;
+pub mod fault_lists;
 pub mod geometry;
 pub mod info;
 pub mod number;
 pub mod outline;
 pub mod part;
 pub mod shape;
+pub mod token_parts;
+pub mod tokens;
 
-pub use part::{Listed, Part};
+pub use part::{Part, PartList};

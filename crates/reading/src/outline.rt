@@ -70,7 +70,7 @@ fn kind_of(fault: ShapeFault) -> FaultKind
 }
 
 /// The line or ring of a list of positions.
-pub fn outlined<O: Outline>(alloc: Global, positions: Vec<Pos>) -> Result<O, Fault>
+pub fn read_outline<O: Outline>(alloc: Global, positions: Vec<Pos>) -> Result<O, Fault>
     ensures ok { OnOk result (outline_faults (O.fault positions.items) ≡ []) }
     ensures made { IfOk result (λ made. O.seen made ≡ O.of positions.items) }
     ensures err { IfErr result (λ f. LeastOrWant (outline_faults (O.fault positions.items)) f) }

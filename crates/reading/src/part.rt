@@ -220,11 +220,11 @@ fn keep_named<T: Drop>(
 
 /// Lists of parts are parts.
 #[derive(Drop)]
-pub struct Listed<P: Part> {
+pub struct PartList<P: Part> {
     pub of: P,
 }
 
-impl<P: Part> Part for Listed<P> {
+impl<P: Part> Part for PartList<P> {
     type Made = Items<P::Made>;
 
     ghost faults = { λ p. list_faults (P.faults p.of) };
@@ -251,7 +251,7 @@ pub fn read_list_member<P: Part + Drop>(
     ensures err { IfErr result
         (λ f. LeastOrWant (member_faults member.now (list_faults (P.faults of)) (view value.now)) f) }
 {
-    match read_member(alloc, &Listed { of }, value, member) {
+    match read_member(alloc, &PartList { of }, value, member) {
         Ok(items) => Ok(items.into_vec()),
         Err(fault) => Err(fault),
     }

@@ -10,8 +10,8 @@ ghost use Rattle.serde_json.specs.View.{view};
 ghost use Rattle.std.specs.Prelude.{◌≡◌, [], List, IfOk, IfErr, OnOk};
 
 use crate::geometry::GeometryType;
-use crate::outline::{Outline, outlined};
-use crate::part::{Listed, Part};
+use crate::outline::{Outline, read_outline};
+use crate::part::{Part, PartList};
 use faults::fault::Fault;
 use grid::pos::Pos;
 use lines::line::Line;
@@ -76,7 +76,7 @@ impl<S: Positions, O: Outline> Part for OutlineFrom<S, O> {
 
     fn read(&self, alloc: Global, value: &Value) -> Result<O, Fault> {
         let positions = self.from.read_positions(alloc, value)?;
-        outlined(alloc, positions)
+        read_outline(alloc, positions)
     }
 }
 
@@ -103,15 +103,15 @@ impl<S: Positions> Part for ShapeFrom<S> {
         let of = PositionFrom { from };
         match self.kind {
             GeometryType::Point => Ok(Shape::Point(of.read(alloc, value)?)),
-            GeometryType::MultiPoint => Ok(Shape::MultiPoint(Listed { of }.read(alloc, value)?)),
+            GeometryType::MultiPoint => Ok(Shape::MultiPoint(PartList { of }.read(alloc, value)?)),
             GeometryType::LineString => Ok(Shape::Line(line.read(alloc, value)?)),
             GeometryType::MultiLineString => {
-                Ok(Shape::MultiLine(Listed { of: line }.read(alloc, value)?))
+                Ok(Shape::MultiLine(PartList { of: line }.read(alloc, value)?))
             }
-            GeometryType::Polygon => Ok(Shape::Polygon(Listed { of: ring }.read(alloc, value)?)),
+            GeometryType::Polygon => Ok(Shape::Polygon(PartList { of: ring }.read(alloc, value)?)),
             GeometryType::MultiPolygon => {
-                let of = Listed { of: ring };
-                Ok(Shape::MultiPolygon(Listed { of }.read(alloc, value)?))
+                let of = PartList { of: ring };
+                Ok(Shape::MultiPolygon(PartList { of }.read(alloc, value)?))
             }
         }
     }

@@ -24,10 +24,10 @@ use Rattle.chains.specs.Table.{IsTableOf}
 use Rattle.theory.specs.Geometry.{Geometry, IsSound, JunctionOf}
 use Rattle.theory.specs.Lists.{Pairwise}
 use Rattle.theory.specs.Refinement.{IsUnionOf}
-use Rattle.geometry_order.proofs.NodedTables.{table_noded}
-use Rattle.geometry_order.specs.Noded.{AreNoded}
-use Rattle.recutting.specs.Cutting.{IsRecutOf}
-use Rattle.recutting.specs.Parts.{RecutParts}
+use Rattle.renumbering.proofs.GeometryOrderLemmas.NodedTables.{table_noded}
+use Rattle.renumbering.specs.GeometryOrder.Noded.{AreNoded}
+use Rattle.split_arcs.specs.Cutting.{IsRecutOf}
+use Rattle.split_arcs.specs.Parts.{RecutParts}
 use Rattle.topo.specs.Features.{HasFeature, IsFeatureOf}
 use Rattle.topo.specs.GeometryOrder.{HaveFeatures, LayersHaveFeatures, geometry_cmp}
 use Rattle.topo.specs.OfMap.{IsOf}
@@ -37,16 +37,16 @@ use Rattle.topo.proofs.FeatureOrder.{features_stand}
 use Rattle.topo.proofs.Pairs.{Pairwise-same}
 use Rattle.topo.proofs.Sound.{are_sound}
 use Rattle.topo.proofs.Stitched.{IsEntryOf, entries_of, feature_of}
-use Rattle.layer_laws.specs.CutLayers.{behind, layer_cmp, layer_recut, tied}
-use Rattle.layer_laws.specs.Cuts.{by_order}
-use Rattle.layer_laws.specs.Leaving.{from_on, is_first, layer_less, order_to, others}
-use Rattle.layer_laws.proofs.Ascending.{keys_ascend}
-use Rattle.layer_laws.proofs.JoinedLayers.{IsJoinedLayer, IsNewFor}
-use Rattle.layer_laws.proofs.JoinedPairs.{cut_layers, layers_have}
-use Rattle.layer_laws.proofs.MergedSets.{all_weaker, picked}
-use Rattle.layer_laws.proofs.Passing.{order_told}
-use Rattle.layer_laws.proofs.RecutGeometries.{IsLayerRecut, IsRecutFor}
-use Rattle.layer_laws.proofs.UnitedGeometry.{geometries_unite}
+use Rattle.renumbering.specs.LayerLaws.CutLayers.{behind, layer_cmp, layer_recut, tied}
+use Rattle.renumbering.specs.LayerLaws.Cuts.{by_order}
+use Rattle.renumbering.specs.LayerLaws.Leaving.{from_on, is_first, layer_less, order_to, others}
+use Rattle.renumbering.proofs.LayerLawsLemmas.Ascending.{keys_ascend}
+use Rattle.renumbering.proofs.LayerLawsLemmas.JoinedLayers.{IsJoinedLayer, IsNewFor}
+use Rattle.renumbering.proofs.LayerLawsLemmas.JoinedPairs.{cut_layers, layers_have}
+use Rattle.renumbering.proofs.LayerLawsLemmas.MergedSets.{all_weaker, picked}
+use Rattle.renumbering.proofs.LayerLawsLemmas.Passing.{order_told}
+use Rattle.renumbering.proofs.LayerLawsLemmas.RecutGeometries.{IsLayerRecut, IsRecutFor}
+use Rattle.renumbering.proofs.LayerLawsLemmas.UnitedGeometry.{geometries_unite}
 use Rattle.refine.specs.Difference.{HaveRecut, LayersHaveRecut, by_lists, cut_again, geometries_in, layer_without, layers_without}
 use Rattle.refine.proofs.JoinedParts.{left_after_recut, right_after_recut}
 

@@ -16,8 +16,8 @@ use Rattle.theory.specs.ArcNumbers.{ArcRef, StitchTo, Uses}
 use Rattle.theory.specs.Geometry.{Geometry, JunctionOf}
 use Rattle.theory.specs.Lists.{EndOf, Has, Pairwise, gathered, joined}
 use Rattle.theory.specs.Refinement.{ArePiecesOfArc, IsPartOf}
-use Rattle.theory.specs.Removing.{AreStarts, EndsInLayers, IsKept, IsLineEnd}
-use Rattle.theory.specs.Standing.{InLayers}
+use Rattle.theory.specs.Healing.{AreStarts, EndsInLayers, IsKept, IsLineEnd}
+use Rattle.theory.specs.Validity.{InLayers}
 use Rattle.theory.specs.Topology.{IsGeometryOf, IsLayerOf, IsRingList, lines_in}
 use Rattle.theory.specs.Users.{UsesArc}
 use Rattle.theory.proofs.ArcNumbers.{taken_of, to_from, uses_along}
@@ -25,14 +25,14 @@ use Rattle.theory.proofs.GroupedPieces.{uses_parts}
 use Rattle.theory.proofs.ListsOfLists.{Has-gathered, Has-map, gathered_from, map_has}
 use Rattle.theory.proofs.ProvedLaws as law
 use Rattle.theory.proofs.RefinementLaws.{pieces_unique}
-use Rattle.theory.proofs.RemovingKept.{list_ends}
-use Rattle.theory.proofs.RemovingLists.{starts_once}
-use Rattle.theory.proofs.StandingMaps.{ends_list}
+use Rattle.theory.proofs.HealingKept.{list_ends}
+use Rattle.theory.proofs.HealingLists.{starts_once}
+use Rattle.theory.proofs.ValidMaps.{ends_list}
 use Rattle.theory.proofs.UsersOfArcs.{line_partner_back, partner_back}
-use Rattle.rejoining.specs.Parts.{RejoinedParts}
-use Rattle.rejoining.specs.Rejoining.{IsLeftBy, IsRejoinedOf}
-use Rattle.rejoining.specs.Starts.{starts_by}
-use Rattle.rejoining.proofs.Begun.{starts_are}
+use Rattle.heal_arcs.specs.Parts.{RejoinedParts}
+use Rattle.heal_arcs.specs.Healing.{IsLeftBy, IsRejoinedOf}
+use Rattle.heal_arcs.specs.Starts.{starts_by}
+use Rattle.heal_arcs.proofs.Begun.{starts_are}
 use Rattle.topo.specs.OfMap.{ArePartsOf, IsOf, body_of, item_of, layer_of}
 use Rattle.topo.specs.Parts.{LayerParts, TopologyParts}
 use Rattle.topo.specs.Walked.{walked}
@@ -41,17 +41,17 @@ use Rattle.topo.specs.declared.geom.Body.TheVariants as to
 use Rattle.topo.specs.declared.geom.Geom.{Geom}
 use Rattle.topo.proofs.Sound.{are_sound}
 use Rattle.topo.proofs.Walks.{walked_stitched}
-use Rattle.layer_laws.specs.Leaving.{layer_less}
+use Rattle.renumbering.specs.LayerLaws.Leaving.{layer_less}
 use Rattle.refine.specs.Lent.{all_lent}
-use Rattle.layer_laws.specs.LeftLists.{body_ends, body_refs, both_ends, layer_ends, layer_refs, layers_ends, layers_refs, line_ends, marked_by}
+use Rattle.renumbering.specs.LayerLaws.LeftLists.{body_ends, body_refs, both_ends, layer_ends, layer_refs, layers_ends, layers_refs, line_ends, marked_by}
 use Rattle.refine.specs.declared.remove.LayerLeft.{LayerLeft}
-use Rattle.layer_laws.specs.Less.{layer_rejoined, layers_left, less, marks_of}
+use Rattle.renumbering.specs.LayerLaws.Less.{layer_rejoined, layers_left, less, marks_of}
 use Rattle.refine.specs.Removals.{AreJoinedOf}
-use Rattle.layer_laws.proofs.LeftGeometries as left
-use Rattle.layer_laws.proofs.LeftMarks.{marks_tell}
-use Rattle.layer_laws.proofs.Passing.{pass_marks}
-use Rattle.layer_laws.proofs.RecutGeometries.{order}
-use Rattle.layer_laws.proofs.RejoinedLayers.{parts_left}
+use Rattle.renumbering.proofs.LayerLawsLemmas.LeftGeometries as left
+use Rattle.renumbering.proofs.LayerLawsLemmas.LeftMarks.{marks_tell}
+use Rattle.renumbering.proofs.LayerLawsLemmas.Passing.{pass_marks}
+use Rattle.renumbering.proofs.LayerLawsLemmas.RecutGeometries.{order}
+use Rattle.renumbering.proofs.LayerLawsLemmas.RejoinedLayers.{parts_left}
 
 -- ---- used arcs
 

@@ -4,7 +4,7 @@ pub mod WrittenTexts
 mod LeftTold
 mod DifferenceTold
 mod Stitching
-mod Ways
+mod WalkedLists
 mod JoinedTexts
 pub mod EditsDone
 pub mod EditsUndone

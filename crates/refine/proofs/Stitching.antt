@@ -34,7 +34,7 @@ use Rattle.topo.specs.declared.geom.Body.TheVariants as to
 use Rattle.topo.specs.declared.geom.Geom.{Geom}
 use Rattle.topo.proofs.FeatureOrder.{shape_form, shapes_by_form}
 use Rattle.topo.proofs.Walks.{walked_stitched}
-use Rattle.layer_laws.specs.Leaving.{info_to, order_to}
+use Rattle.renumbering.specs.LayerLaws.Leaving.{info_to, order_to}
 
 head_of : (x y : Pos) (l m : List Pos) → x ∷ l ≡ y ∷ m → x ≡ y
 head_of x y l m e = cc

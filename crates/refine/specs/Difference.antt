@@ -2,20 +2,20 @@
 use Rattle.std.specs.Prelude.{List, [], ◌∷◌, Option, Some, None}
 use Rattle.std.specs.List.{AllByRecursion}
 use Rattle.std.specs.declared.cmp.Ordering.{Ordering}
-use Rattle.recutting.specs.Parts.{RecutParts}
+use Rattle.split_arcs.specs.Parts.{RecutParts}
 use Rattle.topo.specs.Features.{HasFeature}
 use Rattle.topo.specs.GeometryOrder.{geometry_cmp}
 use Rattle.topo.specs.Parts.{LayerParts}
 use Rattle.topo.specs.declared.geom.Geom.{Geom}
-use Rattle.layer_laws.specs.CutLayers.{behind, layer_cmp, tied}
-use Rattle.layer_laws.specs.Cuts.{geometry_recut}
-use Rattle.layer_laws.specs.Leaving.{others}
+use Rattle.renumbering.specs.LayerLaws.CutLayers.{behind, layer_cmp, tied}
+use Rattle.renumbering.specs.LayerLaws.Cuts.{geometry_recut}
+use Rattle.renumbering.specs.LayerLaws.Leaving.{others}
 
 -- a geometry of the left side by the arcs of both
 abbrev pub cut_again : RecutParts → Geom → Geom
 cut_again r g = geometry_recut r.arcs.arcs r.left g
 
--- how it stands to one that is by the arcs of both already
+-- how it compares with one that is by the arcs of both already
 abbrev pub by_lists : RecutParts → Geom → Geom → Ordering
 by_lists r g h = geometry_cmp r.arcs.arcs (cut_again r g) h
 

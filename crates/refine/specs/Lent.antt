@@ -1,9 +1,9 @@
--- What a removal is lent of the layers of a topology.
+-- What a removal borrows of the layers of a topology.
 use Rattle.std.specs.Prelude.{List, map as map_list}
 use Rattle.topo.specs.Parts.{LayerParts}
 use Rattle.refine.specs.declared.remove.LayerLeft.{LayerLeft}
 
--- what is lent of a layer, as its parts
+-- what is borrowed of a layer, as its parts
 abbrev pub lent : LayerLeft → LayerParts
 lent l = record { name = l.name.now; geometries = map_list (λ g. g.now) l.geometries.items }
 

@@ -5,5 +5,5 @@ pub mod OnGrid
 pub mod Lent
 pub mod Removals
 pub mod Difference
-pub mod Ways
+pub mod WalkedLists
 pub mod Merged

@@ -1,12 +1,12 @@
 //! The join of two topologies: their arcs are cut again, their geometries follow the pieces, and
 //! the sorted layers and geometries of both are merged in one pass.
-ghost use Rattle.geometry_order.specs.Noded.{AreNoded};
-ghost use Rattle.geometry_order.specs.Noted.{IsNotedFor};
-ghost use Rattle.layer_laws.specs.CutLayers.{before, behind, layer_cmp, layer_recut, layers_as_one, layers_merged, tied, to_first, with_other};
-ghost use Rattle.layer_laws.specs.Cuts as cuts;
-ghost use Rattle.layer_laws.specs.ItsMap.{ItsMap, ItsMap-prop};
+ghost use Rattle.renumbering.specs.GeometryOrder.Noded.{AreNoded};
+ghost use Rattle.renumbering.specs.GeometryOrder.Noted.{IsNotedFor};
+ghost use Rattle.renumbering.specs.LayerLaws.CutLayers.{before, behind, layer_cmp, layer_recut, layers_as_one, layers_merged, tied, to_first, with_other};
+ghost use Rattle.renumbering.specs.LayerLaws.Cuts as cuts;
+ghost use Rattle.renumbering.specs.LayerLaws.ItsMap.{ItsMap, ItsMap-prop};
 ghost use Rattle.merging.specs.declared.fault.JoinFault.TheVariants.{OtherGrid};
-ghost use Rattle.recutting.specs.Parts.{of_side};
+ghost use Rattle.split_arcs.specs.Parts.{of_side};
 ghost use Rattle.shapes.specs.Maps.{Layers};
 ghost use Rattle.shapes.specs.Union.{union};
 ghost use Rattle.std.specs.Prelude.{◌≡◌, ◌↔◌, ◌<◌, ◌^◌, ◌++◌, length, IfOk, IfSome, IsErrOf, OnOk, Option, None, true, take, drop, map as map_list};
@@ -18,9 +18,9 @@ ghost use Rattle.topo.specs.declared.geom.Geom.{Geom};
 use crate::fault::JoinFault;
 use chains::table::{ArcRef, ArcTable};
 use faults::OutOfMemory;
-use geometry_order::GeometryOrder;
-use recutting::{Recut, Side, recut_owned};
-use rewriting::{NewLists, layers_rewritten};
+use renumbering::geometry_order::GeometryOrder;
+use renumbering::{NewLists, layers_rewritten};
+use split_arcs::{Recut, Side, recut_owned};
 use std::alloc::Global;
 use std::cmp::Ordering;
 use std::collections::VecDeque;

@@ -12,15 +12,15 @@ pub mod merge;
 pub mod remove;
 pub mod session;
 mod stitches;
-mod way;
+mod walked_list;
 pub mod whole;
 
 pub use cut_shard::Cut;
 pub use edit::Edit;
 pub use fault::{EditsFault, JoinFault, MergeFault, PlanFault};
-pub use merge::{merge_texts, merge_topologies};
+pub use merge::{merge_borrowed_topologies, merge_texts, merge_topologies};
 pub use merging::{Plan, Shard, plan, run_plan, shard};
-pub use recutting::{Recut, Side, recut};
 pub use remove::{Removal, remove_topology};
 pub use session::Session;
+pub use split_arcs::{Recut, Side, recut};
 pub use whole::Whole;

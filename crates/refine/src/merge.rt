@@ -1,16 +1,16 @@
 //! Merging texts of topologies.
-ghost use Rattle.merging.specs.Merge.{all_places, bytes_of, IsMergeFault, IsMergeOf, MeansUnion};
+ghost use Rattle.merging.specs.Merge.{all_places, bytes_of, lent_texts, IsMergeFault, IsMergeOf, IsUnionOf, MeansUnion};
 ghost use Rattle.merging.specs.declared.fault.MergeFault.TheVariants.{BadPlan};
 ghost use Rattle.merging.specs.Leaves.{leaves, first_outside};
 ghost use Rattle.refine.specs.Merged.{IsTopologyOfUnion};
-ghost use Rattle.std.specs.Prelude.{◌≡◌, ℕ, IfOk, IfErr, IfSome, MatchOption, Some, Err, length};
+ghost use Rattle.std.specs.Prelude.{◌≡◌, ℕ, IfOk, IfErr, IfSome, List, MatchOption, Some, Err, length};
 ghost use Rattle.topo.specs.OfMap.{seen_parts};
 ghost use Rattle.topo_io.specs.TopologyText.{topology_text};
 
 use crate::cut_shard::Cut;
 use crate::fault::MergeFault;
 use merging::Plan;
-pub use merging::merge::{merge_all, merge_as};
+pub use merging::merge::{merge_all, merge_all_borrowed, merge_as};
 use std::alloc::Global;
 use topo::Topology;
 
@@ -31,9 +31,20 @@ pub fn merge_texts(alloc: Global, texts: &[Vec<u8>], plan: &Plan) -> Result<Vec<
     merge_as::<Cut>(alloc, texts, plan)
 }
 
+// The topology of the shard of a union, where there is one.
+fn topology_of_union(shard: Option<Cut>) -> Option<Topology>
+    ensures merged { (texts : List (List ℕ)) (is : List ℕ) (n : ℕ) → MatchOption shard (n ≡ 0) (λ s. IsUnionOf texts is s.grid s.map) → MatchOption result (n ≡ 0) (IsTopologyOfUnion texts is) }
+    ensures text { (texts : List (List ℕ)) (is : List ℕ) (n : ℕ) → MatchOption shard (n ≡ 0) (λ s. IsUnionOf texts is s.grid s.map) → IfSome result (λ t. IsMergeOf texts is (topology_text (seen_parts t))) }
+{
+    match shard {
+        Some(shard) => Some(shard.into_topology()),
+        None => None,
+    }
+}
+
 /// The topology of the union of the features of all texts, whatever their order in the list; `None` exactly where there
 /// is no text. Its canonical text is what `merge_texts` answers for each plan that names all texts. Each text is dropped
-/// once it is read.
+/// once it is read, so its memory is free for what follows. For texts that you keep, call `merge_borrowed_topologies`.
 ///
 /// # Errors
 /// `Text` with the first text of the list that is refused, and its first error; otherwise `OtherGrid` with the first text
@@ -43,9 +54,20 @@ pub fn merge_topologies(alloc: Global, texts: Vec<Vec<u8>>) -> Result<Option<Top
     ensures merged { IfOk result (λ o. MatchOption o (length texts.items ≡ 0) (IsTopologyOfUnion (bytes_of texts.items) (all_places texts.items))) }
     ensures text { IfOk result (λ o. IfSome o (λ t. IsMergeOf (bytes_of texts.items) (all_places texts.items) (topology_text (seen_parts t)))) }
 {
-    let shard: Option<Cut> = merge_all(alloc, texts)?;
-    match shard {
-        Some(shard) => Ok(Some(shard.into_topology())),
-        None => Ok(None),
-    }
+    Ok(topology_of_union(merge_all(alloc, texts)?))
+}
+
+/// `merge_topologies` of borrowed texts: none is copied, and all stay in memory to the end.
+///
+/// # Errors
+/// As `merge_topologies`.
+pub fn merge_borrowed_topologies(
+    alloc: Global,
+    texts: &[&[u8]],
+) -> Result<Option<Topology>, MergeFault>
+    ensures fault { IfErr result (IsMergeFault (lent_texts texts.now) (all_places texts.now)) }
+    ensures merged { IfOk result (λ o. MatchOption o (length texts.now ≡ 0) (IsTopologyOfUnion (lent_texts texts.now) (all_places texts.now))) }
+    ensures text { IfOk result (λ o. IfSome o (λ t. IsMergeOf (lent_texts texts.now) (all_places texts.now) (topology_text (seen_parts t)))) }
+{
+    Ok(topology_of_union(merge_all_borrowed(alloc, texts)?))
 }

@@ -22,7 +22,7 @@ use std::marker::Model;
 use topo::topology::Topology;
 
 /// The topology after an edit.
-fn edited(alloc: Global, topology: &Topology, edit: &Edit) -> Result<Topology, JoinFault>
+fn apply_edit(alloc: Global, topology: &Topology, edit: &Edit) -> Result<Topology, JoinFault>
     ensures grid { IfOk result (λ t. t.grid ≡ topology.now.grid) }
     ensures of_map { IfOk result (λ t. (m : Layers) → IsOf m topology.now → (n : Layers) × IsEditedTo m edit.now n × IsOf n t) }
     ensures few { IfOk result (λ t. length t.arcs.arcs < 2 ^ 63) }
@@ -78,7 +78,7 @@ impl Session {
         ensures on_grid { OnOk result (IsOnGrid self.old.grid edit.now) }
         ensures other_grid { IsErrOf result OtherGrid ↔ ¬ IsOnGrid self.old.grid edit.now }
     {
-        let topology = edited(self.alloc, self.shard.topology(), edit)?;
+        let topology = apply_edit(self.alloc, self.shard.topology(), edit)?;
         self.shard = Cut::of_topology(topology);
         Ok(())
     }

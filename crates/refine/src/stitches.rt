@@ -8,21 +8,21 @@ ghost use Rattle.theory.specs.Lists.{Pairwise};
 ghost use Rattle.topo.specs.Features.{IsLineOf, IsRingOf, IsShapeOf};
 ghost use Rattle.topo.specs.Walked.{walked};
 
-use crate::way::Way;
+use crate::walked_list::WalkedList;
 use chains::table::ArcRef;
 use grid::Pos;
 use lines::items::Items;
 use lines::line::Line;
 use lines::ring::Ring;
 use shapes::shape::Shape;
-use topo::run::is_same;
+use topo::arc_slice::is_same;
 use topo::{Body, Topology};
 
 /// Whether used arcs go along the first positions, then the second, and end.
 fn goes_along(topology: &Topology, used: &[ArcRef], first: &[Pos], second: &[Pos]) -> bool
     ensures { (result ≡ true) ↔ (walked topology.now.arcs.arcs used.now ≡ first.now ++ second.now) }
 {
-    let mut way = Way::over(topology.arcs(), used);
+    let mut way = WalkedList::over(topology.arcs(), used);
     if !way.passes(first) {
         return false;
     }
@@ -33,7 +33,7 @@ fn goes_along(topology: &Topology, used: &[ArcRef], first: &[Pos], second: &[Pos
 }
 
 /// What a list of used arcs may stitch to, or a list of such lists.
-trait Stitched {
+trait StitchesTo {
     type Used;
 
     ghost stitches_by: { List (List place) → Self → Self.Used → Type 0 };
@@ -45,7 +45,7 @@ trait Stitched {
 }
 
 /// Whether lists stitch each to the one at its place.
-fn all_stitch<S: Stitched>(topology: &Topology, lists: &[S::Used], items: &[S]) -> bool
+fn all_stitch<S: StitchesTo>(topology: &Topology, lists: &[S::Used], items: &[S]) -> bool
     requires { (ss : List S) × Pairwise (S.stitches_by topology.now.arcs.arcs) ss lists.now }
     ensures { (result ≡ true) ↔ Pairwise (S.stitches_by topology.now.arcs.arcs) items.now lists.now }
 {
@@ -62,7 +62,7 @@ fn all_stitch<S: Stitched>(topology: &Topology, lists: &[S::Used], items: &[S]) 
     left.is_empty()
 }
 
-impl Stitched for Line {
+impl StitchesTo for Line {
     type Used = Items<ArcRef>;
 
     ghost stitches_by = { IsLineOf };
@@ -98,7 +98,7 @@ fn ring_stitches(topology: &Topology, used: &[ArcRef], ring: &Ring) -> bool
     false
 }
 
-impl Stitched for Ring {
+impl StitchesTo for Ring {
     type Used = Items<ArcRef>;
 
     ghost stitches_by = { IsRingOf };
@@ -108,7 +108,7 @@ impl Stitched for Ring {
     }
 }
 
-impl Stitched for Items<Ring> {
+impl StitchesTo for Items<Ring> {
     type Used = Items<Items<ArcRef>>;
 
     ghost stitches_by = { λ arcs. Pairwise (IsRingOf arcs) };

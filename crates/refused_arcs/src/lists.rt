@@ -2,13 +2,13 @@
 
 use chains::ArcRef;
 use faults::OutOfMemory;
-use recutting::{Recut, Side, recut, recut_owned};
 use refused_calls::calls::Lent;
 use refused_calls::comparing::{are_used, same_arcs};
 use refused_calls::inputs::{built, is_of};
 use refused_calls::outcome::Tally;
 use refused_calls::tables::{Lends, Row, both};
 use refused_calls::texts::{SHARED_EDGE, THIRD, THREE};
+use split_arcs::{Recut, Side, recut, recut_owned};
 use std::alloc::Global;
 use topo::Topology;
 
@@ -64,7 +64,7 @@ enum Call {
 }
 
 const ROWS: &[Row<Call>] = &[
-    ("recutting::recut_owned", Call::Owned),
+    ("split_arcs::recut_owned", Call::Owned),
     ("Recut::line", Call::Line),
     ("Recut::ring", Call::Ring),
 ];

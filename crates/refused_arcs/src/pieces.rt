@@ -1,7 +1,8 @@
 //! What lines and rings are cut into.
 
 use crate::indexes::has_junctions;
-use chains::{ArcTable, Piece, VisitIndex, add_pieces, cut_line, cut_ring};
+use chains::used_arcs::{add_backwards, add_in_direction};
+use chains::{ArcRef, ArcTable, Piece, VisitIndex, add_pieces, cut_line, cut_ring};
 use faults::OutOfMemory;
 use refused_calls::calls::Lent;
 use refused_calls::comparing::{are_arcs, are_used, stand_at};
@@ -120,10 +121,28 @@ fn table(alloc: Global, cutting: &Cutting) -> Result<bool, OutOfMemory> {
     Ok(are_arcs(&ArcTable::from_pieces(alloc, pieces)?, &[ALONE, SHARED]))
 }
 
-fn numbered(alloc: Global, cutting: &Cutting) -> Result<bool, OutOfMemory> {
+fn number_pieces(alloc: Global, cutting: &Cutting) -> Result<bool, OutOfMemory> {
     let pieces = cut_ring(alloc, &cutting.index, &cutting.ring)?;
     let (table, refs) = ArcTable::numbered(alloc, pieces)?;
     Ok(are_used(refs.as_slice(), &[1, -1]) && are_arcs(&table, &[ALONE, SHARED]))
+}
+
+/// Two used arcs, the second against its direction.
+fn two_used() -> [ArcRef; 2] {
+    [ArcRef::from_index(0), ArcRef::from_index(-3)]
+}
+
+fn backwards(alloc: Global) -> Result<bool, OutOfMemory> {
+    let mut refs = Vec::new(alloc);
+    add_backwards(&mut refs, &two_used())?;
+    Ok(are_used(refs.as_slice(), &[2, -1]))
+}
+
+fn in_direction(alloc: Global) -> Result<bool, OutOfMemory> {
+    let mut refs = Vec::new(alloc);
+    add_in_direction(&mut refs, &two_used(), false)?;
+    add_in_direction(&mut refs, &two_used(), true)?;
+    Ok(are_used(refs.as_slice(), &[0, -3, 2, -1]))
 }
 
 /// Tells the calls apart.
@@ -135,6 +154,8 @@ enum Call {
     Added,
     Table,
     Numbered,
+    Backwards,
+    InDirection,
 }
 
 const ROWS: &[Row<Call>] = &[
@@ -144,6 +165,8 @@ const ROWS: &[Row<Call>] = &[
     ("chains::add_pieces", Call::Added),
     ("ArcTable::from_pieces", Call::Table),
     ("ArcTable::numbered", Call::Numbered),
+    ("chains::add_backwards", Call::Backwards),
+    ("chains::add_in_direction", Call::InDirection),
 ];
 
 impl Lends for Cutting {
@@ -172,7 +195,9 @@ impl Lends for Cutting {
             Call::Piece => piece(alloc),
             Call::Added => added(alloc, self),
             Call::Table => table(alloc, self),
-            Call::Numbered => numbered(alloc, self),
+            Call::Numbered => number_pieces(alloc, self),
+            Call::Backwards => backwards(alloc),
+            Call::InDirection => in_direction(alloc),
         }
     }
 }

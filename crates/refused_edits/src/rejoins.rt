@@ -2,13 +2,13 @@
 
 use chains::{ArcRef, ArcTable};
 use faults::OutOfMemory;
+use heal_arcs::{Rejoined, rejoin};
 use refused_calls::calls::Lent;
 use refused_calls::comparing::{are_used, same_arcs};
 use refused_calls::inputs::{built, is_of, positions};
 use refused_calls::outcome::Tally;
 use refused_calls::texts::{FIRST, Places, SHARED_EDGE};
 use refused_calls::{calls, layer};
-use rejoining::{Rejoined, rejoin};
 use std::alloc::Global;
 use topo::Topology;
 
@@ -86,7 +86,7 @@ fn ring(alloc: Global, rejoins: &Rejoins) -> Result<bool, OutOfMemory> {
 pub(crate) fn settle(rt: &HostRuntime, tally: &mut Tally) {
     if let Some(rejoins) = tally.lent(rt, "arcs joined again", "their maps", Rejoins::of) {
         calls!(tally.attempt(rt, "arcs joined again", &rejoins);
-            "rejoining::rejoin" => join,
+            "heal_arcs::rejoin" => join,
             "Rejoined::line" => line,
             "Rejoined::ring" => ring,
         );

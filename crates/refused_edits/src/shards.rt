@@ -3,9 +3,10 @@
 use faults::{FaultKind, OutOfMemory};
 use grid::Grid;
 use merging::{
-    JoinFault, MergeFault, Plan, Shard, first_bad_leaf, merge_all, merge_as, named_places,
+    JoinFault, MergeFault, Plan, Shard, first_bad_leaf, merge_all, merge_all_borrowed, merge_as,
+    named_places,
 };
-use refine::{Cut, Whole, merge_topologies};
+use refine::{Cut, Whole, merge_borrowed_topologies, merge_topologies};
 use refused_calls::calls;
 use refused_calls::calls::Lent;
 use refused_calls::comparing::same_map;
@@ -14,6 +15,7 @@ use refused_calls::outcome::{Answer, Tally};
 use refused_calls::texts::{FIRST, SECOND, SHARED_EDGE};
 use shapes::FeatureMap;
 use std::alloc::Global;
+use topo::Topology;
 
 /// Two squares as shards, the map of the first with a copy, and a plan of their texts.
 #[derive(Drop)]
@@ -117,12 +119,25 @@ fn merged<T: Drop>(made: Result<T, MergeFault>) -> Result<Option<T>, OutOfMemory
     }
 }
 
-fn merge_to_shard<S: Shard>(alloc: Global, _: &Pair<S>) -> Result<bool, OutOfMemory> {
-    let made: Result<Option<S>, MergeFault> = merge_all(alloc, texts(alloc)?);
+fn is_merged_shard<S: Shard>(
+    alloc: Global,
+    made: Result<Option<S>, MergeFault>,
+) -> Result<bool, OutOfMemory> {
     match merged(made)? {
         Some(Some(shard)) => is_shard(alloc, &shard, SHARED_EDGE),
         _ => Ok(false),
     }
+}
+
+fn merge_to_shard<S: Shard>(alloc: Global, _: &Pair<S>) -> Result<bool, OutOfMemory> {
+    let made: Result<Option<S>, MergeFault> = merge_all(alloc, texts(alloc)?);
+    is_merged_shard(alloc, made)
+}
+
+fn merge_borrowed_to_shard<S: Shard>(alloc: Global, _: &Pair<S>) -> Result<bool, OutOfMemory> {
+    let texts = [FIRST.as_bytes(), SECOND.as_bytes()];
+    let made: Result<Option<S>, MergeFault> = merge_all_borrowed(alloc, &texts);
+    is_merged_shard(alloc, made)
 }
 
 fn merge_to_text<S: Shard>(alloc: Global, pair: &Pair<S>) -> Result<bool, OutOfMemory> {
@@ -133,11 +148,20 @@ fn merge_to_text<S: Shard>(alloc: Global, pair: &Pair<S>) -> Result<bool, OutOfM
     }
 }
 
-fn merge_to_topology(alloc: Global, _: &Pair<Cut>) -> Result<bool, OutOfMemory> {
-    match merged(merge_topologies(alloc, texts(alloc)?))? {
+fn is_merged_topology(made: Result<Option<Topology>, MergeFault>) -> Result<bool, OutOfMemory> {
+    match merged(made)? {
         Some(Some(topology)) => Ok(is_of(&topology, SHARED_EDGE)),
         _ => Ok(false),
     }
+}
+
+fn merge_to_topology(alloc: Global, _: &Pair<Cut>) -> Result<bool, OutOfMemory> {
+    is_merged_topology(merge_topologies(alloc, texts(alloc)?))
+}
+
+fn merge_borrowed_to_topology(alloc: Global, _: &Pair<Cut>) -> Result<bool, OutOfMemory> {
+    let texts = [FIRST.as_bytes(), SECOND.as_bytes()];
+    is_merged_topology(merge_borrowed_topologies(alloc, &texts))
 }
 
 fn name_places(alloc: Global, _: &Pair<Cut>) -> Result<bool, OutOfMemory> {
@@ -162,6 +186,7 @@ fn settle_wholes(rt: &HostRuntime, tally: &mut Tally, pair: &Pair<Whole>) {
         "Shard::join_owned of Whole" => join_owned::<Whole>,
         "Shard::text of Whole" => text::<Whole>,
         "merging::merge_all of Whole" => merge_to_shard::<Whole>,
+        "merging::merge_all_borrowed of Whole" => merge_borrowed_to_shard::<Whole>,
         "merging::merge_as of Whole" => merge_to_text::<Whole>,
     );
 }
@@ -175,8 +200,10 @@ fn settle_cuts(rt: &HostRuntime, tally: &mut Tally, pair: &Pair<Cut>) {
         "Shard::join_owned of Cut" => join_owned::<Cut>,
         "Shard::text of Cut" => text::<Cut>,
         "merging::merge_all of Cut" => merge_to_shard::<Cut>,
+        "merging::merge_all_borrowed of Cut" => merge_borrowed_to_shard::<Cut>,
         "merging::merge_as of Cut" => merge_to_text::<Cut>,
         "refine::merge_topologies" => merge_to_topology,
+        "refine::merge_borrowed_topologies" => merge_borrowed_to_topology,
         "merging::named_places" => name_places,
         "merging::first_bad_leaf" => find_leaf,
     );

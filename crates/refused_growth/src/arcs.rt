@@ -10,9 +10,9 @@ use refused_calls::comparing::{are_lists_of, same_arcs};
 use refused_calls::inputs::{built, is_of, positions};
 use refused_calls::outcome::{Answer, Tally};
 use refused_calls::texts::{FREE_LOOP, LOOP_AND_LINE, SHARED_EDGE};
-use standing::{free_loops, is_apart};
 use std::alloc::Global;
 use topo::Topology;
+use validate::{free_loops, is_apart};
 
 /// A map, the ends of its lines, and for each of its arcs whether it is a free loop.
 #[derive(Clone, Copy)]
@@ -52,7 +52,7 @@ struct Standing {
     arcs: Vec<Items<Pos>>,
 }
 
-fn listed(alloc: Global, arc: &[Pos]) -> Option<Items<Pos>> {
+fn items_of(alloc: Global, arc: &[Pos]) -> Option<Items<Pos>> {
     Some(Items::from_vec(arc.to_vec(alloc).ok()?))
 }
 
@@ -60,7 +60,7 @@ fn listed(alloc: Global, arc: &[Pos]) -> Option<Items<Pos>> {
 fn lists(alloc: Global, table: &ArcTable) -> Option<Vec<Items<Pos>>> {
     let mut made = Vec::new(alloc);
     for number in 0..table.len() {
-        made.push(listed(alloc, table.arc(number)?)?).ok()?;
+        made.push(items_of(alloc, table.arc(number)?)?).ok()?;
     }
     Some(made)
 }

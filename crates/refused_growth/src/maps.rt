@@ -124,7 +124,7 @@ fn with_features(alloc: Global, maps: &Maps) -> Answer {
     }
 }
 
-fn united(_: Global, maps: &Maps) -> Answer {
+fn unite_maps(_: Global, maps: &Maps) -> Answer {
     let Ok(map) = maps.one.copy() else {
         return Answer::Unasked;
     };
@@ -147,7 +147,7 @@ pub(crate) fn settle(rt: &HostRuntime, tally: &mut Tally) {
         );
         calls!(tally.ask(rt, "maps of squares", &maps);
             "FeatureMap::with_features" => with_features,
-            "FeatureMap::united" => united,
+            "FeatureMap::united" => unite_maps,
             "FeatureMap::union" => union,
         );
     }

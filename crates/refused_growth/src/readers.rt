@@ -1,9 +1,9 @@
 //! Readers, and from texts to topologies and back to maps.
 
 use crate::worked::Worked;
-use built_text::BuildFault;
 use faults::OutOfMemory;
-use json_tokens::from_tokens::Stop;
+use outputs::built_text::BuildFault;
+use reading::tokens::from_tokens::Stop;
 use refused_calls::calls;
 use refused_calls::comparing::{are_lists_of, same_geometries, same_map};
 use refused_calls::inputs::is_of;
@@ -71,7 +71,7 @@ fn build(alloc: Global, worked: &Worked) -> Answer {
 }
 
 fn build_text(alloc: Global, worked: &Worked) -> Answer {
-    match built_text::build_text(alloc, &worked.grid, worked.sources.as_slice()) {
+    match outputs::built_text::build_text(alloc, &worked.grid, worked.sources.as_slice()) {
         Ok(text) => Answer::of(text.as_slice() == worked.row.topology.as_bytes()),
         Err(BuildFault::OutOfMemory) => Answer::Wanting,
         Err(BuildFault::Text(_, _)) => Answer::Wrong,
@@ -80,7 +80,7 @@ fn build_text(alloc: Global, worked: &Worked) -> Answer {
 
 fn build_borrowed(alloc: Global, worked: &Worked) -> Answer {
     let texts = [("a", worked.geojson())];
-    match built_text::build_borrowed(alloc, &worked.grid, &texts) {
+    match outputs::built_text::build_borrowed(alloc, &worked.grid, &texts) {
         Ok(text) => Answer::of(text.as_slice() == worked.row.topology.as_bytes()),
         Err(BuildFault::OutOfMemory) => Answer::Wanting,
         Err(BuildFault::Text(_, _)) => Answer::Wrong,
@@ -88,7 +88,7 @@ fn build_borrowed(alloc: Global, worked: &Worked) -> Answer {
 }
 
 fn build_topology(alloc: Global, worked: &Worked) -> Answer {
-    match built_text::build_topology(alloc, &worked.grid, worked.sources.as_slice()) {
+    match outputs::built_text::build_topology(alloc, &worked.grid, worked.sources.as_slice()) {
         Ok(topology) => Answer::of(is_of(&topology, worked.row.topology)),
         Err(BuildFault::OutOfMemory) => Answer::Wanting,
         Err(BuildFault::Text(_, _)) => Answer::Wrong,
@@ -110,9 +110,9 @@ pub(crate) fn settle(rt: &HostRuntime, tally: &mut Tally, worked: &Worked) {
         "topo_io::read_parts" => read_parts,
         "topo_io::is_canonical" => is_canonical,
         "Topology::build" => build,
-        "built_text::build_text" => build_text,
-        "built_text::build_borrowed" => build_borrowed,
-        "built_text::build_topology" => build_topology,
+        "outputs::build_text" => build_text,
+        "outputs::build_borrowed" => build_borrowed,
+        "outputs::build_topology" => build_topology,
         "Topology::expand" => expand,
     );
 }

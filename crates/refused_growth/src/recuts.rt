@@ -1,12 +1,12 @@
 //! Arcs of two maps cut again.
 
 use faults::OutOfMemory;
-use recutting::{Recut, Side, recut};
 use refused_calls::calls::Lent;
 use refused_calls::comparing::{are_used, same_arcs};
 use refused_calls::inputs::{built, is_of};
 use refused_calls::outcome::{Answer, Tally};
 use refused_calls::texts::{FREE_LOOP, LINE, LOOP_AND_LINE, SHARED_EDGE, THIRD, THREE};
+use split_arcs::{Recut, Side, recut};
 use std::alloc::Global;
 use topo::Topology;
 
@@ -93,7 +93,7 @@ fn ask(alloc: Global, pair: &Pair) -> Answer {
 pub(crate) fn settle(rt: &HostRuntime, tally: &mut Tally) {
     for row in ROWS {
         if let Some(pair) = tally.lent(rt, row.title, "recut", |alloc| Pair::of(alloc, row)) {
-            tally.ask(rt, row.title, &pair, "recutting::recut", ask);
+            tally.ask(rt, row.title, &pair, "split_arcs::recut", ask);
         }
     }
 }

@@ -61,17 +61,17 @@ fn offer_to_script(alloc: Global, worked: &Worked) -> Answer {
     let mut script = Script::new(alloc, Vec::new(alloc));
     let text = worked.text.as_slice();
     match script.offer(text) {
-        Ok(taken) => Answer::of(taken == text.len() && script.taken() == text),
+        Ok(taken) => Answer::of(taken == text.len() && script.bytes_taken() == text),
         Err(Refused) => after_script(script, text),
     }
 }
 
 fn after_script(mut script: Script, text: &[u8]) -> Answer {
-    if !script.taken().is_empty() || script.failures() != 1 {
+    if !script.bytes_taken().is_empty() || script.failures() != 1 {
         return Answer::Wrong;
     }
     match script.offer(text) {
-        Ok(_) => wanting_if(script.taken() == text),
+        Ok(_) => wanting_if(script.bytes_taken() == text),
         Err(Refused) => Answer::Wanting,
     }
 }

@@ -4,7 +4,7 @@ use faults::{Fault, FaultKind, OutOfMemory};
 use geojson_io::reader::read_as_value;
 use geojson_io::token_reader::read_features;
 use grid::Grid;
-use json_tokens::from_tokens::Stop;
+use reading::tokens::from_tokens::Stop;
 use refused_calls::calls::Lent;
 use refused_calls::comparing::{are_features, same_map};
 use refused_calls::inputs::read;
@@ -15,11 +15,19 @@ use shapes::FeatureMap;
 use sinks::{Buffered, Sink, put};
 use std::alloc::Global;
 use std::io::Cursor;
-use taking::TextArcs;
+use validate::accept::TextArcs;
 
 /// The first square.
 const GEOJSON: &str =
     r#"{"type":"Feature","properties":{},"geometry":{"type":"Polygon","coordinates":[[[0,0],[1,0],[1,1],[0,1],[0,0]]]}}"#;
+
+/// A position of one number, and a fraction in properties.
+const FAULTY_GEOJSON: &str =
+    r#"{"type":"Feature","properties":{"a":1.5},"geometry":{"type":"Point","coordinates":[0]}}"#;
+
+/// A line of an arc that is not there, a scale of 0, and a translation of one number.
+const FAULTY_TOPOLOGY: &str =
+    r#"{"type":"Topology","arcs":[],"objects":{"a":{"type":"LineString","arcs":[0]}},"transform":{"scale":[0,1],"translate":[0]}}"#;
 
 /// The features of the square, and their grid.
 #[derive(Drop)]
@@ -72,6 +80,29 @@ fn map(alloc: Global, square: &Square) -> Result<bool, OutOfMemory> {
     }
 }
 
+/// Whether faults are of these kinds, in this order.
+fn are_of_kinds(faults: &[Fault], kinds: &[FaultKind]) -> bool {
+    faults.len() == kinds.len()
+        && faults
+            .iter()
+            .zip(kinds)
+            .all(|(fault, kind)| fault.kind == *kind)
+}
+
+fn geojson_faults(alloc: Global, square: &Square) -> Result<bool, OutOfMemory> {
+    let faults = geojson_io::faults(alloc, FAULTY_GEOJSON.as_bytes(), &square.grid)?;
+    Ok(are_of_kinds(
+        faults.as_slice(),
+        &[FaultKind::NotTwo, FaultKind::PropertyNumber],
+    ))
+}
+
+fn topology_faults(alloc: Global) -> Result<bool, OutOfMemory> {
+    let faults = topo_io::faults(alloc, FAULTY_TOPOLOGY.as_bytes())?;
+    let kinds = [FaultKind::NoArc, FaultKind::OutOfRange, FaultKind::NotTwo];
+    Ok(are_of_kinds(faults.as_slice(), &kinds))
+}
+
 /// Small pieces that are held until there is no more room, and a fifth byte, for which the writer has none.
 fn gather(alloc: Global) -> Result<bool, OutOfMemory> {
     let mut sink = Buffered::new(alloc, Cursor::new([0_u8; 4]), 3)?;
@@ -86,6 +117,8 @@ enum Call {
     ReadValue,
     ReadTokens,
     Map,
+    GeoJsonFaults,
+    TopologyFaults,
     Gather,
 }
 
@@ -93,6 +126,8 @@ const ROWS: &[Row<Call>] = &[
     ("geojson_io::read_as_value", Call::ReadValue),
     ("geojson_io::read_features", Call::ReadTokens),
     ("topo_io::map_of_parts", Call::Map),
+    ("geojson_io::faults", Call::GeoJsonFaults),
+    ("topo_io::faults", Call::TopologyFaults),
     ("Buffered::new", Call::Gather),
 ];
 
@@ -110,6 +145,8 @@ impl Lends for Square {
             Call::ReadValue => read_value(alloc, self),
             Call::ReadTokens => read_tokens(alloc, self),
             Call::Map => map(alloc, self),
+            Call::GeoJsonFaults => geojson_faults(alloc, self),
+            Call::TopologyFaults => topology_faults(alloc),
             Call::Gather => gather(alloc),
         }
     }

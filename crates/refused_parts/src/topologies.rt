@@ -1,10 +1,10 @@
-//! Topologies and their geometries, copied, and asked for their borders.
+//! Topologies and their geometries, copied, and asked for their borders and neighbours.
 
 use chains::ArcTable;
 use faults::OutOfMemory;
 use query::{Edges, QueryFault};
 use refused_calls::calls::Lent;
-use refused_calls::comparing::{are_arcs, same_geometries};
+use refused_calls::comparing::{are_arcs, are_neighbors, same_geometries};
 use refused_calls::inputs::{built, is_of};
 use refused_calls::outcome::Tally;
 use refused_calls::tables::{Lends, Row};
@@ -78,6 +78,14 @@ fn borders_by(alloc: Global, squares: &Squares) -> Result<bool, OutOfMemory> {
     is_common(query::borders_by(alloc, &squares.topology, Some("a"), "name"))
 }
 
+fn neighbors_by(alloc: Global, squares: &Squares) -> Result<bool, OutOfMemory> {
+    match query::neighbors_by(alloc, &squares.topology, "a", "name") {
+        Ok(lists) => Ok(are_neighbors(lists.as_slice(), &[&[1], &[0]])),
+        Err(QueryFault::OutOfMemory) => Err(OutOfMemory),
+        Err(QueryFault::NoLayer) => Ok(false),
+    }
+}
+
 /// Tells the calls apart.
 #[derive(Clone, Copy)]
 enum Call {
@@ -87,6 +95,7 @@ enum Call {
     Share,
     Borders,
     BordersBy,
+    NeighborsBy,
 }
 
 const ROWS: &[Row<Call>] = &[
@@ -96,6 +105,7 @@ const ROWS: &[Row<Call>] = &[
     ("Topology::share", Call::Share),
     ("query::borders", Call::Borders),
     ("query::borders_by", Call::BordersBy),
+    ("query::neighbors_by", Call::NeighborsBy),
 ];
 
 impl Lends for Squares {
@@ -115,6 +125,7 @@ impl Lends for Squares {
             Call::Share => share(alloc, self),
             Call::Borders => borders(alloc, self),
             Call::BordersBy => borders_by(alloc, self),
+            Call::NeighborsBy => neighbors_by(alloc, self),
         }
     }
 }

@@ -2,7 +2,7 @@
 
 use faults::{Fault, FaultKind, OutOfMemory, Step};
 use grid::Pos;
-use lines::bits::PositionBits;
+use lines::position_filter::PositionFilter;
 use refused_calls::calls::Lent;
 use refused_calls::comparing::stand_at;
 use refused_calls::inputs::positions;
@@ -82,20 +82,20 @@ fn copy_places(alloc: Global, values: &Values) -> Result<bool, OutOfMemory> {
 }
 
 fn clone_places(alloc: Global, values: &Values) -> Result<bool, OutOfMemory> {
-    Ok(Items::cloned(alloc, values.places.as_slice())? == values.places)
+    Ok(Items::from_slice(alloc, values.places.as_slice())? == values.places)
 }
 
 fn clear_bits(alloc: Global, values: &Values) -> Result<bool, OutOfMemory> {
-    let bits = PositionBits::clear(alloc, 4)?;
+    let bits = PositionFilter::clear(alloc, 4)?;
     Ok(!may_hold_some(&bits, values.places.as_slice()))
 }
 
 fn bits_of(alloc: Global, values: &Values) -> Result<bool, OutOfMemory> {
-    let bits = PositionBits::of(alloc, values.places.as_slice())?;
+    let bits = PositionFilter::of(alloc, values.places.as_slice())?;
     Ok(may_hold_each(&bits, values.places.as_slice()))
 }
 
-fn may_hold_some(bits: &PositionBits, positions: &[Pos]) -> bool {
+fn may_hold_some(bits: &PositionFilter, positions: &[Pos]) -> bool {
     for position in positions {
         if bits.may_hold(*position) {
             return true;
@@ -104,7 +104,7 @@ fn may_hold_some(bits: &PositionBits, positions: &[Pos]) -> bool {
     false
 }
 
-fn may_hold_each(bits: &PositionBits, positions: &[Pos]) -> bool {
+fn may_hold_each(bits: &PositionFilter, positions: &[Pos]) -> bool {
     for position in positions {
         if !bits.may_hold(*position) {
             return false;
@@ -194,9 +194,9 @@ const ROWS: &[Row<Call>] = &[
     ("Spelled::copy", Call::CopyName),
     ("CopyIn::copy_in", Call::CopyIn),
     ("shapes::copy_each", Call::CopyPlaces),
-    ("Items::cloned", Call::ClonePlaces),
-    ("PositionBits::clear", Call::ClearBits),
-    ("PositionBits::of", Call::BitsOf),
+    ("Items::from_slice", Call::ClonePlaces),
+    ("PositionFilter::clear", Call::ClearBits),
+    ("PositionFilter::of", Call::BitsOf),
     ("Props::from_value", Call::Properties),
     ("Fault::under_index", Call::UnderIndex),
     ("Fault::under_name", Call::UnderName),

@@ -27,7 +27,7 @@ use Rattle.topo.specs.Box.{widened, box_from, box_of}
 use Rattle.topo.specs.Parts.{Corners}
 use Rattle.shapes.proofs.Entries.{at_entry}
 use Rattle.shapes.specs.Ids.{IsI64}
-use Rattle.compact.proofs.Numbers.{IsI64-between}
+use Rattle.round_trip.proofs.CompactLemmas.Numbers.{IsI64-between}
 use Rattle.topo_io.proofs.Entries.{holds_item}
 use Rattle.round_trip.proofs.Standing.{BoxStands}
 use Rattle.topo.proofs.Positions.{around_has}

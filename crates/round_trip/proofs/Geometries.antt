@@ -25,10 +25,10 @@ use Rattle.topo_io.specs.Arcs.{known, line_list_faults, ring_list_faults, line_a
 use Rattle.topo_io.specs.Geometries.{body_form, shape_faults, shape_form, typed_faults_of, text_or_null, type_or_missing, geometry_by, geometry_type, geometry_faults, type_or_none, geometry_feature, layer_faults, layer_features}
 use Rattle.topo_io.specs.Limits.{limits_on, position_faults, position_of}
 use Rattle.topo_io.specs.Roots.{layers_in}
-use Rattle.compact.specs.Values.{list_data, id_data, properties_data}
-use Rattle.compact.proofs.Info.{id_faultless, id_means, properties_faultless, properties_mean}
-use Rattle.compact.proofs.Lists.{list_faultless, elements_are, elements_mean, map-same}
-use Rattle.compact.proofs.Members.{get_past, get_here}
+use Rattle.round_trip.specs.Compact.Values.{list_data, id_data, properties_data}
+use Rattle.round_trip.proofs.CompactLemmas.Info.{id_faultless, id_means, properties_faultless, properties_mean}
+use Rattle.round_trip.proofs.CompactLemmas.Lists.{list_faultless, elements_are, elements_mean, map-same}
+use Rattle.round_trip.proofs.CompactLemmas.Members.{get_past, get_here}
 use Rattle.round_trip.specs.Values.{position_data, index_data, used_data, coordinates_data, type_data, type_member, after_id, after_coordinates, after_arcs, geometry_data, layer_data, layers_data}
 use Rattle.round_trip.proofs.Positions.{position_none, position_means}
 use Rattle.round_trip.proofs.Standing.{LineStands, RingStands, Stands, LayerStands, right_of, pairs_mean}

@@ -1,3 +1,5 @@
+pub mod CompactLemmas
+pub mod GeojsonLemmas
 pub mod TextIs
 pub mod Stitched
 pub mod Standing

@@ -18,12 +18,12 @@ use Rattle.reading.proofs.Positions.{position_itself}
 use Rattle.topo_io.specs.Arcs.{steps_faults, short_faults, arc_faults, places_from, arc_of, arcs_of}
 use Rattle.topo_io.specs.Limits.{limits_on, limit_faults, Sums, sums_at, step_faults, next_sums, moved, place_of, position_faults, position_of}
 use Rattle.topo_io.specs.Roots.{within_faults, scale_faults, translate_faults, both_numbers}
-use Rattle.compact.specs.Good.{Good}
+use Rattle.round_trip.specs.Compact.Good.{Good}
 use Rattle.shapes.specs.Ids.{IsI64}
-use Rattle.compact.specs.Values.{integer, list_data, pair_data}
-use Rattle.compact.proofs.GoodParts.{AllGood, Good-array}
-use Rattle.compact.proofs.Lists.{list_of-items_of, elements_mean, map-same, unless_none, pair_faultless, Good-pair}
-use Rattle.compact.proofs.Numbers.{IsI64-between, as_i64-of_integer, whole_of-integer}
+use Rattle.round_trip.specs.Compact.Values.{integer, list_data, pair_data}
+use Rattle.round_trip.proofs.CompactLemmas.GoodParts.{AllGood, Good-array}
+use Rattle.round_trip.proofs.CompactLemmas.Lists.{list_of-items_of, elements_mean, map-same, unless_none, pair_faultless, Good-pair}
+use Rattle.round_trip.proofs.CompactLemmas.Numbers.{IsI64-between, as_i64-of_integer, whole_of-integer}
 use Rattle.round_trip.specs.Values.{position_data, steps_from, arc_steps, arc_data}
 
 -- ---- numbers

@@ -15,14 +15,14 @@ use Rattle.reading.specs.Plain.{Plain, PlainForm}
 use Rattle.chains.specs.Seen.{Info}
 use Rattle.topo.specs.OfMap.{Seen}
 use Rattle.topo.specs.Parts.{Corners}
-use Rattle.compact.specs.Good.{Good}
+use Rattle.round_trip.specs.Compact.Good.{Good}
 use Rattle.shapes.specs.Ids.{IsI64}
-use Rattle.compact.specs.Values.{integer, list_data, id_data, properties_data}
-use Rattle.compact.proofs.GoodParts.{deeper, Good-number, Good-string, Good-null, ComesBefore, GoodMembers, Good-object}
-use Rattle.compact.proofs.Info.{Good-id, Good-properties}
-use Rattle.compact.proofs.Lists.{Good-list, Good-pair}
-use Rattle.compact.proofs.Members.{OptionGood, ComesBefore-given, GoodMembers-given}
-use Rattle.compact.proofs.Numbers.{Fits-IsI64}
+use Rattle.round_trip.specs.Compact.Values.{integer, list_data, id_data, properties_data}
+use Rattle.round_trip.proofs.CompactLemmas.GoodParts.{deeper, Good-number, Good-string, Good-null, ComesBefore, GoodMembers, Good-object}
+use Rattle.round_trip.proofs.CompactLemmas.Info.{Good-id, Good-properties}
+use Rattle.round_trip.proofs.CompactLemmas.Lists.{Good-list, Good-pair}
+use Rattle.round_trip.proofs.CompactLemmas.Members.{OptionGood, ComesBefore-given, GoodMembers-given}
+use Rattle.round_trip.proofs.CompactLemmas.Numbers.{Fits-IsI64}
 use Rattle.round_trip.specs.Values.{position_data, arc_data, index_data, used_data, coordinates_data, type_data, type_member, after_id, after_coordinates, after_arcs, geometry_data, layer_data, layers_data, box_data, transform_data, after_box, topology_data}
 use Rattle.round_trip.proofs.Positions.{Good-position, Good-arc, I64-scale, I64-translation}
 use Rattle.round_trip.proofs.Standing.{LineStands, RingStands, Stands, LayerStands, BoxStands, TopologyStands, right_of}

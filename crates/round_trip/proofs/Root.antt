@@ -16,10 +16,10 @@ use Rattle.topo_io.specs.Arcs.{Arcs, known, arc_faults}
 use Rattle.topo_io.specs.Limits.{limits_on}
 use Rattle.topo_io.specs.Roots.{transform_faults, transform_of, limits_by, limits_of, arcs_by, arcs_in, objects_faults, content_faults, transformed_faults, topology_named, topology_faults, layers_if_object, layers_of, grid_of, faults_of_text, grid_of_text, layers_of_text, grid_or_unit, layers_or_none}
 use Rattle.topo_io.specs.TopologyText.{topology_text}
-use Rattle.compact.specs.Values.{list_data}
-use Rattle.compact.proofs.Documents.{document_is_read}
-use Rattle.compact.proofs.Lists.{list_faultless}
-use Rattle.compact.proofs.Members.{get_past}
+use Rattle.round_trip.specs.Compact.Values.{list_data}
+use Rattle.round_trip.proofs.CompactLemmas.Documents.{document_is_read}
+use Rattle.round_trip.proofs.CompactLemmas.Lists.{list_faultless}
+use Rattle.round_trip.proofs.CompactLemmas.Members.{get_past}
 use Rattle.round_trip.specs.Values.{arc_data, layers_data, box_data, transform_data, after_box, topology_data}
 use Rattle.round_trip.proofs.Geometries.{layers_none, layers_mean}
 use Rattle.round_trip.proofs.Positions.{arc_none, arcs_mean, scale_none, translate_none, numbers_back, I64-scale, I64-translation}

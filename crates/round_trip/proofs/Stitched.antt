@@ -17,12 +17,12 @@ use Rattle.topo_io.specs.Arcs.{known, no_arc_faults, index_faults, used_arc, use
 use Rattle.topo_io.proofs.Indexes.{number_of_index, along_index}
 use Rattle.topo_io.proofs.Stitching.{stitched_passed}
 use Rattle.topo_io.proofs.Stitched.{meets_last}
-use Rattle.compact.specs.Good.{Good}
+use Rattle.round_trip.specs.Compact.Good.{Good}
 use Rattle.shapes.specs.Ids.{IsI64}
-use Rattle.compact.specs.Values.{list_data}
-use Rattle.compact.proofs.GoodParts.{Good-number}
-use Rattle.compact.proofs.Lists.{list_faultless, elements_mean, Good-list, unless_none}
-use Rattle.compact.proofs.Numbers.{Fits-IsI64, whole_of-integer, element_faultless}
+use Rattle.round_trip.specs.Compact.Values.{list_data}
+use Rattle.round_trip.proofs.CompactLemmas.GoodParts.{Good-number}
+use Rattle.round_trip.proofs.CompactLemmas.Lists.{list_faultless, elements_mean, Good-list, unless_none}
+use Rattle.round_trip.proofs.CompactLemmas.Numbers.{Fits-IsI64, whole_of-integer, element_faultless}
 use Rattle.round_trip.specs.Values.{index_data}
 
 -- ---- the arc of an index

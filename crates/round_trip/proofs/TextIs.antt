@@ -14,10 +14,12 @@ use Rattle.theory.specs.Topology.{Item, Layer, Body, null, point, points, line, 
 use Rattle.chains.specs.Seen.{Info}
 use Rattle.topo.specs.OfMap.{Seen}
 use Rattle.topo.specs.Parts.{Corners}
-use Rattle.writing.specs.Members.{id_text}
-use Rattle.topo_io.specs.TopologyText.{position_text, differences_text, arc_text, index_text, content_text, type_text, properties_member, geometry_text, layer_text, bbox_text, transform_text, topology_text}
-use Rattle.compact.specs.Values.{list_data, given, id_data, properties_data}
-use Rattle.compact.proofs.Texts.{number_is, list_is, joined_is, numbers_are, pair_is, HasMember, HasMember-given, given_text, given_is, member_then, id_is, properties_are}
+use Rattle.shapes.specs.Writing.Members.{id_text}
+use Rattle.topo.specs.ArcTexts.{position_text, differences_text, arc_text, index_text}
+use Rattle.shapes.specs.Writing.Members.{properties_member}
+use Rattle.topo_io.specs.TopologyText.{content_text, type_text, geometry_text, layer_text, bbox_text, transform_text, topology_text}
+use Rattle.round_trip.specs.Compact.Values.{list_data, given, id_data, properties_data}
+use Rattle.round_trip.proofs.CompactLemmas.Texts.{number_is, list_is, joined_is, numbers_are, pair_is, HasMember, HasMember-given, given_text, given_is, member_then, id_is, properties_are}
 use Rattle.round_trip.specs.Values.{position_data, steps_from, arc_data, index_data, used_data, coordinates_data, type_member, after_id, after_coordinates, after_arcs, geometry_data, layer_data, layers_data, box_data, transform_data, after_box, topology_data}
 
 -- ---- positions, arcs, lists of indexes

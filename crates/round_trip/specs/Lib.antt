@@ -1,2 +1,4 @@
+pub mod Compact
+pub mod Geojson
 pub mod Values
 pub mod Laws

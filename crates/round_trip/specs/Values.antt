@@ -11,7 +11,7 @@ use Rattle.theory.specs.Topology.{Item, Layer, Body, null, point, points, line, 
 use Rattle.chains.specs.Seen.{Info}
 use Rattle.topo.specs.OfMap.{Seen}
 use Rattle.topo.specs.Parts.{Corners}
-use Rattle.compact.specs.Values.{integer, list_data, pair_data, given, id_data, properties_data}
+use Rattle.round_trip.specs.Compact.Values.{integer, list_data, pair_data, given, id_data, properties_data}
 
 -- a position by its grid numbers
 abbrev pub position_data : Pos → Data

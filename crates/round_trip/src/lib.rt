@@ -1,6 +1,9 @@
 //! What is written is read back: laws, promised by functions that do nothing.
 #![tactic(auto)]
 
+pub mod compact;
+pub mod geojson;
+
 ghost use Rattle.round_trip.specs.Laws.{WrittenTopologiesAreRead, OneMapOfAText};
 
 /// The text that `topo_io::write` writes of a topology that `Topology::build` made of a map that fits its grid

@@ -11,3 +11,4 @@ pub mod Union
 pub mod Maps
 pub mod Fitting
 pub mod Inside
+pub mod Writing

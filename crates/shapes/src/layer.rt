@@ -52,11 +52,11 @@ impl FeatureLayer {
     }
 
     // The layer with the features of another one beside its own, moved.
-    pub(crate) fn joined(self, other: FeatureLayer) -> Result<FeatureLayer, OutOfMemory>
+    pub(crate) fn join(self, other: FeatureLayer) -> Result<FeatureLayer, OutOfMemory>
         ensures name { IfOk result (λ l. l.name ≡ self.name) }
         ensures features { IfOk result (λ l. set_of l.features ≡ set.union (set_of self.features) (set_of other.features)) }
     {
-        let features = merged(self.features, other.features)?;
+        let features = merge_sets(self.features, other.features)?;
         Ok(FeatureLayer {
             name: self.name,
             features,
@@ -77,20 +77,20 @@ impl FeatureLayer {
 }
 
 // The features of both sets: the fewer are moved to the others.
-fn merged(
+fn merge_sets(
     these: BTreeSet<Feature>,
     those: BTreeSet<Feature>,
 ) -> Result<BTreeSet<Feature>, OutOfMemory>
     ensures { IfOk result (λ s. set_of s ≡ set.union (set_of these) (set_of those)) }
 {
     if these.len() < those.len() {
-        appended(those, these)
+        append_few(those, these)
     } else {
-        appended(these, those)
+        append_few(these, those)
     }
 }
 
-fn appended(
+fn append_few(
     mut many: BTreeSet<Feature>,
     mut few: BTreeSet<Feature>,
 ) -> Result<BTreeSet<Feature>, OutOfMemory>

@@ -11,6 +11,7 @@ pub mod nesting;
 pub mod props;
 pub mod shape;
 pub mod spelled;
+pub mod writing;
 
 pub use faults::{Fault, FaultKind, OutOfMemory, Step};
 pub use feature::Feature;

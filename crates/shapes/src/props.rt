@@ -9,7 +9,7 @@ ghost use Rattle.std.specs.Prelude.{◌≡◌, true};
 
 use crate::nesting::{GREATEST_PROPERTY_DEPTH, has_fraction, nests_within};
 use faults::OutOfMemory;
-use lines::text::Text;
+use lines::text::JsonText;
 use serde_json::Value;
 use std::alloc::{AllocError, Global};
 use thiserror::Error;
@@ -19,7 +19,7 @@ use thiserror::Error;
 /// Equality and order are those of the text, by its bytes.
 #[derive(PartialEq, Eq, PartialOrd, Ord, Drop, Debug)]
 pub struct Props {
-    text: Text,
+    text: JsonText,
     pub ghost properties: { is_properties text ≡ true } by { Coded-set coded_bool _ _ },
     pub ghost lexed: { tokens text ≡ json_tokens (outline (properties_value text)) } by { Coded-set tokens_code _ _ },
 }
@@ -66,7 +66,7 @@ impl Props {
         }
         match value.to_string(alloc) {
             Ok(text) => Ok(Props {
-                text: Text::from_string(text),
+                text: JsonText::from_string(text),
             }),
             Err(AllocError) => Err(PropFault::OutOfMemory),
         }
@@ -76,7 +76,7 @@ impl Props {
     pub fn empty(alloc: Global) -> Result<Props, OutOfMemory>
         ensures { IfOk result (λ p. properties_text p ≡ codes "{}") }
     {
-        let text = Text::from_string(String::from_str(alloc, "{}")?);
+        let text = JsonText::from_string(String::from_str(alloc, "{}")?);
         Ok(Props { text })
     }
 
@@ -98,7 +98,7 @@ impl Props {
     pub fn copy(&self, alloc: Global) -> Result<Props, OutOfMemory>
         ensures { IfOk result (λ p. p ≡ self.now) }
     {
-        let text = Text::from_string(String::from_str(alloc, self.text())?);
+        let text = JsonText::from_string(String::from_str(alloc, self.text())?);
         Ok(Props { text })
     }
 }

@@ -5,7 +5,7 @@ ghost use Rattle.std.specs.Prelude.{◌≡◌, true};
 ghost use Rattle.std.specs.Str.{is_utf8};
 
 use faults::OutOfMemory;
-use lines::text::Text;
+use lines::text::JsonText;
 use serde_json::Value;
 use std::alloc::Global;
 
@@ -14,9 +14,9 @@ use std::alloc::Global;
 #[derive(Drop)]
 #[derive_where(PartialEq, Eq, PartialOrd, Ord, Debug)]
 pub struct Spelled {
-    text: Text,
+    text: JsonText,
     #[derive_where(skip(EqHashOrd))]
-    json: Text,
+    json: JsonText,
     pub ghost spelled: { json ≡ spelling_of text },
     pub ghost utf8: { is_utf8 text ≡ true } by { Coded-set coded_bool _ _ },
 }
@@ -30,8 +30,8 @@ impl Spelled {
         ensures { IfOk result (λ s. spelled_text s ≡ text.now) }
     {
         let value = Value::String(String::from_str(alloc, text)?);
-        let json = Text::from_string(value.to_string(alloc)?);
-        let text = Text::from_string(String::from_str(alloc, text)?);
+        let json = JsonText::from_string(value.to_string(alloc)?);
+        let text = JsonText::from_string(String::from_str(alloc, text)?);
         Ok(Spelled { text, json })
     }
 
@@ -53,8 +53,8 @@ impl Spelled {
     pub fn copy(&self, alloc: Global) -> Result<Spelled, OutOfMemory>
         ensures { IfOk result (λ s. s ≡ self.now) }
     {
-        let text = Text::from_string(String::from_str(alloc, self.text())?);
-        let json = Text::from_string(String::from_str(alloc, self.spelling())?);
+        let text = JsonText::from_string(String::from_str(alloc, self.text())?);
+        let json = JsonText::from_string(String::from_str(alloc, self.spelling())?);
         Ok(Spelled { text, json })
     }
 }

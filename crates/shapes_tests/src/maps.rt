@@ -123,14 +123,14 @@ fn is_union_both(alloc: Global, one: &[Layer], two: &[Layer]) -> Result<bool, Fa
     is_map(alloc, &first.union(&second)?, BOTH)
 }
 
-fn copied(alloc: Global, layers: &[Layer]) -> Result<FeatureMap, Fail> {
+fn copy_of(alloc: Global, layers: &[Layer]) -> Result<FeatureMap, Fail> {
     let map = map_of(alloc, layers)?;
     Ok(map.copy()?)
 }
 
 fn are_copies_united(alloc: Global, one: &[Layer], two: &[Layer]) -> Result<bool, Fail> {
-    let first = copied(alloc, one)?;
-    let second = copied(alloc, two)?;
+    let first = copy_of(alloc, one)?;
+    let second = copy_of(alloc, two)?;
     is_map(alloc, &first.united(second)?, BOTH)
 }
 

@@ -19,7 +19,7 @@ abbrev pub next_of : List Answer → Answer
 next_of [] = Take (2 ^ 64 - 1)
 next_of (a ∷ l) = a
 
--- the offer of a piece has this answer: as many bytes are taken as it says, or it fails; want of memory fails any offer
+-- the offer of a piece has this answer: as many bytes are taken as it says, or it fails; running out of memory fails any offer
 abbrev pub IsAnswered : {E : Type 0} → List ℕ → Result ℕ E → Answer → Type 0
 IsAnswered piece r (Take most) = IfOk r (λ n. n ≡ min most (length piece))
 IsAnswered piece r Fail = IsErr r

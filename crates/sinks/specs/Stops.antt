@@ -24,7 +24,7 @@ pub data StopsIn {S T : Type 0} (steps : S → Option T → S → Type 0) (f : T
   in_value : (mid : Seen) → TookAll old mid head → StopsAtValue steps f s t mid new → StopsIn steps f head tail s t old new
   in_tail : (mid near : Seen) → TookAll old mid head → WritesAll steps f s t mid near → TookPart near new tail → StopsIn steps f head tail s t old new
 
--- the sink failed in the text of what an iterator gives from s on, of which v is what the text tells. The iterator
+-- the sink failed in the text of what an iterator gives from s on, of which v is what the text shows. The iterator
 -- was asked to its end; or it gave xs and was asked for no more, and then the sink took a beginning of the text
 -- whatever follows xs
 pub data FailedIn {S T X : Type 0} (steps : S → Option T → S → Type 0) (v : T → X) (text : List X → List ℕ) (s : S) (old new : Seen) : Type 0 where

@@ -21,7 +21,7 @@ abbrev pub joined : {T : Type 0} → (T → List ℕ) → List T → List ℕ
 joined f [] = []
 joined f (x ∷ xs) = f x ++ after_commas f xs
 
--- what stands before the next text: a comma where some were written
+-- what is before the next text: a comma where some were written
 abbrev pub separator : {T : Type 0} → List T → List ℕ
 separator [] = []
 separator (x ∷ xs) = codes ","

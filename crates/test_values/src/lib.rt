@@ -4,4 +4,4 @@
 mod printed;
 mod tables;
 
-pub use printed::told;
+pub use printed::fault_line;

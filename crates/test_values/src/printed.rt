@@ -21,7 +21,7 @@ fn line_of(alloc: Global, fault: &Fault) -> Result<String, AllocError> {
 ///
 /// # Errors
 /// Where memory is refused.
-pub fn told(alloc: Global, fault: Option<&Fault>) -> Result<String, AllocError> {
+pub fn fault_line(alloc: Global, fault: Option<&Fault>) -> Result<String, AllocError> {
     match fault {
         Some(fault) => line_of(alloc, fault),
         None => String::from_str(alloc, "accepted"),

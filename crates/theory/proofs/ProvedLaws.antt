@@ -16,7 +16,7 @@ use Rattle.theory.proofs.Pieces.{line_junction, ring_junction, two_segments_of}
 use Rattle.theory.proofs.PiecesExist.{are_arcs_as_map, arcs_are_pieces, recut_refines, refinement_once}
 use Rattle.theory.proofs.RecutBodies.{form_replaced}
 use Rattle.theory.specs.ArcNumbers.{StitchTo}
-use Rattle.theory.proofs.Removal.{removal_laws}
+use Rattle.theory.proofs.Healed.{removal_laws}
 use Rattle.theory.proofs.ReplacedNumbers.{refinement_laws}
 use Rattle.theory.proofs.Reversing.{IsChain-reverse}
 use Rattle.theory.proofs.RingListStart.{least_start, turned_used_is}

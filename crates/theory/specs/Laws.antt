@@ -33,7 +33,7 @@ OneChainThroughASegment V =
     (cmp : V → V → Ordering) (n : Network V) → IsOrder cmp → IsNetwork n →
     (c d : List V) → IsChainIn cmp n c → IsChainIn cmp n d → (u v : V) → Beside u v c → Beside u v d → SameArc c d
 
--- no segment stands twice in a chain
+-- no segment occurs twice in a chain
 abbrev pub NoSegmentTwice : Type 0 → Type 0
 NoSegmentTwice V =
     (cmp : V → V → Ordering) (n : Network V) → IsOrder cmp → IsNetwork n → (c : List V) → IsChainIn cmp n c → Trail c

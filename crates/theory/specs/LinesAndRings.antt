@@ -1,8 +1,8 @@
--- Lines and rings: lists of vertices, and cyclic lists, which may come to a vertex again but use no segment twice.
+-- Lines and rings: lists of vertices, and cyclic lists, which may visit a vertex again but use no segment twice.
 use Rattle.std.specs.Prelude.{◌≡◌, List, [], ◌∷◌, ◌++◌, ◌≤◌, length}
 use Rattle.theory.specs.Lists.{Begins, Beside}
 
--- neighbours differ, and no unordered pair of neighbours stands twice
+-- neighbours differ, and no unordered pair of neighbours occurs twice
 abbrev pub Trail : {V : Type 0} → List V → Type 0
 Trail [] = Unit {0}
 Trail {V} (x ∷ l) = ((y : V) → Begins y l → (¬ (x ≡ y)) × (¬ Beside x y l)) × Trail l
@@ -12,7 +12,7 @@ abbrev pub closed : {V : Type 0} → List V → List V
 closed [] = []
 closed (x ∷ l) = x ∷ (l ++ (x ∷ []))
 
--- a ring's vertices, and the first two once more: each vertex stands there between its neighbours [RFC 7946, 3.1.6]
+-- a ring's vertices, and the first two once more: each vertex is there between its neighbours [RFC 7946, 3.1.6]
 abbrev pub around : {V : Type 0} → List V → List V
 around [] = []
 around (x ∷ []) = []
@@ -27,7 +27,7 @@ pub record IsLine {V : Type 0} (l : List V) : Type 0 where
   pub long : 2 ≤ length l
   pub once : Trail l
 
--- three places or more, and round the list no segment stands twice [RFC 7946, 3.1.6; own]
+-- three places or more, and round the list no segment occurs twice [RFC 7946, 3.1.6; own]
 pub record IsRing {V : Type 0} (r : List V) : Type 0 where
   pub long : 3 ≤ length r
   pub once : Trail (closed r)

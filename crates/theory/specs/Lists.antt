@@ -11,12 +11,12 @@ abbrev pub BeginsTwo : {V : Type 0} → V → V → List V → Type 0
 BeginsTwo v b [] = ⊥
 BeginsTwo v b (x ∷ l) = (v ≡ x) × Begins b l
 
--- v stands somewhere in the list
+-- v occurs somewhere in the list
 abbrev pub Has : {V : Type 0} → V → List V → Type 0
 Has v [] = ⊥
 Has v (x ∷ l) = (v ≡ x) ⊎ Has v l
 
--- the vertex stands at two places
+-- the vertex is at two places
 abbrev pub Twice : {V : Type 0} → V → List V → Type 0
 Twice v [] = ⊥
 Twice v (x ∷ l) = ((v ≡ x) × Has v l) ⊎ Twice v l
@@ -26,7 +26,7 @@ abbrev pub Distinct : {V : Type 0} → List V → Type 0
 Distinct [] = Unit {0}
 Distinct (x ∷ l) = (¬ Has x l) × Distinct l
 
--- v stands right after u somewhere in the list
+-- v is right after u somewhere in the list
 abbrev pub Steps : {V : Type 0} → V → V → List V → Type 0
 Steps u v [] = ⊥
 Steps u v (x ∷ l) = ((u ≡ x) × Begins v l) ⊎ Steps u v l
@@ -35,12 +35,12 @@ Steps u v (x ∷ l) = ((u ≡ x) × Begins v l) ⊎ Steps u v l
 abbrev pub Beside : {V : Type 0} → V → V → List V → Type 0
 Beside u v l = Steps u v l ⊎ Steps v u l
 
--- a, v, b stand one after the other somewhere in the list: v at an inner place
+-- a, v, b are one after the other somewhere in the list: v at an inner place
 abbrev pub Passes : {V : Type 0} → V → V → V → List V → Type 0
 Passes a v b [] = ⊥
 Passes a v b (x ∷ l) = ((a ≡ x) × BeginsTwo v b l) ⊎ Passes a v b l
 
--- v stands between a and b somewhere in the list, in either direction
+-- v is between a and b somewhere in the list, in either direction
 abbrev pub Between : {V : Type 0} → V → V → V → List V → Type 0
 Between a v b l = Passes a v b l ⊎ Passes b v a l
 

@@ -6,7 +6,7 @@ use Rattle.theory.specs.Geometry.{AtMost}
 use Rattle.theory.specs.LinesAndRings.{IsRotation}
 use Rattle.theory.specs.Lists.{Has}
 
--- v is the least of the vertices of the list that have P
+-- v is the least vertex of the list that has P
 pub record IsLeastOf {V : Type 0} (cmp : V → V → Ordering) (P : V → Type 0) (l : List V) (v : V) : Type 0 where
   pub there : Has v l
   pub has_it : P v
@@ -20,7 +20,7 @@ Any v = Unit {0}
 abbrev pub IsSeamOf : {V : Type 0} → (V → V → Ordering) → (V → Type 0) → List V → V → Type 0
 IsSeamOf {V} cmp J r v = IsLeastOf cmp J r v ⊎ (((u : V) → Has u r → ¬ J u) × IsLeastOf cmp Any r v)
 
--- x ∷ l is the least of the ring's rotations that begin at its seam
+-- x ∷ l is the ring's least rotation that begins at its seam
 pub record IsTurned {V : Type 0} (cmp : V → V → Ordering) (J : V → Type 0) (r : List V) (x : V) (l : List V) : Type 0 where
   pub rotation : IsRotation r (x ∷ l)
   pub seam : IsSeamOf cmp J r x

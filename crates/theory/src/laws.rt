@@ -1,7 +1,7 @@
 //! The laws of maps, each promised by a function that does nothing.
 ghost use Rattle.theory.specs.Laws as law;
-ghost use Rattle.theory.specs.RemovingLaws as removing;
-ghost use Rattle.theory.specs.StandingLaws as standing;
+ghost use Rattle.theory.specs.HealingLaws as removing;
+ghost use Rattle.theory.specs.ValidityLaws as standing;
 
 /// Two chains that have one segment are one chain, or each is the other's reverse.
 #[tactic(auto, using(crate::proofs::ProvedLaws::one_chain_through_a_segment))]
@@ -201,13 +201,13 @@ pub fn pieces_of_what_is_left<V>()
 // What is left of a map when features are removed.
 
 /// The arcs that the lists left use determine which segments are left, and which of their ends are junctions.
-#[tactic(auto, using(crate::proofs::RemovingProved::kept_arcs_tell))]
+#[tactic(auto, using(crate::proofs::HealingProved::kept_arcs_tell))]
 pub fn kept_arcs_tell<V>()
     ensures { removing.KeptArcsTell V }
 {}
 
 /// Where a kept arc begins at no junction, exactly one other end of a kept arc meets it.
-#[tactic(auto, using(crate::proofs::RemovingProved::two_ends_meet))]
+#[tactic(auto, using(crate::proofs::HealingProved::two_ends_meet))]
 pub fn two_ends_meet<V>()
     ensures { removing.TwoEndsMeet V }
 {}
@@ -218,7 +218,7 @@ pub fn joined_arcs_are_the_arcs<V>()
 {}
 
 /// Arcs of what is left that are known already have as pieces the kept arcs that stitch to them.
-#[tactic(auto, using(crate::proofs::RemovingProved::arcs_that_are_cut))]
+#[tactic(auto, using(crate::proofs::HealingProved::arcs_that_are_cut))]
 pub fn arcs_that_are_cut<V>()
     ensures { removing.ArcsThatAreCut V }
 {}
@@ -246,7 +246,7 @@ pub fn topology_of_what_is_left<V, I, G, B>()
 // Arcs, lists and topologies that stand as a text has them.
 
 /// Arcs of which no vertex inside one is at another place are valid.
-#[tactic(auto, using(crate::proofs::StandingProved::arcs_apart_stand))]
+#[tactic(auto, using(crate::proofs::ValidityProved::arcs_apart_stand))]
 pub fn arcs_apart_stand<V>()
     ensures { standing.ArcsApartStand V }
 {}
@@ -257,7 +257,7 @@ pub fn arcs_that_stand<V>()
 {}
 
 /// What a list stitches to that uses no arc twice is a line, or, closed, a ring.
-#[tactic(auto, using(crate::proofs::StandingProved::lists_that_stand))]
+#[tactic(auto, using(crate::proofs::ValidityProved::lists_that_stand))]
 pub fn lists_that_stand<V>()
     ensures { standing.ListsThatStand V }
 {}
@@ -268,7 +268,7 @@ pub fn arcs_of_a_map_that_stand<V>()
 {}
 
 /// A ring's list, turned to begin where it starts least, is the one that the topology has.
-#[tactic(auto, using(crate::proofs::StandingProved::ring_lists_that_stand))]
+#[tactic(auto, using(crate::proofs::ValidityProved::ring_lists_that_stand))]
 pub fn ring_lists_that_stand<V>()
     ensures { standing.RingListsThatStand V }
 {}
@@ -279,7 +279,7 @@ pub fn topology_that_stands<V, I, G, B>()
 {}
 
 /// And the topology of each map is valid for it.
-#[tactic(auto, using(crate::proofs::StandingProved::topologies_stand))]
+#[tactic(auto, using(crate::proofs::ValidityProved::topologies_stand))]
 pub fn topologies_stand<V, I, G, B>()
     ensures { standing.TopologiesStand V I G B }
 {}

@@ -1,10 +1,10 @@
 //! The command `build`.
-use crate::files::{Files, input_once, name_at, read_named};
-use crate::grid_word::parse_grid;
-use crate::refusal::Refusal;
-use built_text::{BuildFault, build_topology};
+use crate::grid_word::grid_of;
 use clap::ArgMatches;
+use command_line::files::{Files, input_once, name_at, read_named};
+use command_line::refusal::{Refusal, Usage};
 use grid::Grid;
+use outputs::built_text::{BuildFault, build_topology};
 use std::alloc::Global;
 use topo::Topology;
 
@@ -36,14 +36,6 @@ fn topology_of_words<'a, F: Files>(
     topology_of_texts(alloc, grid, names.as_slice(), texts.as_slice())
 }
 
-/// The transform that a word names.
-fn grid_of<'a>(word: &'a str) -> Result<Grid, Refusal<'a>> {
-    match parse_grid(word) {
-        Some(grid) => Ok(grid),
-        None => Err(Refusal::BadGrid(word)),
-    }
-}
-
 /// The topology of texts, each after its layer's name, which were read from the files of these names.
 fn topology_of_texts<'a>(
     alloc: Global,
@@ -62,7 +54,7 @@ fn topology_of_texts<'a>(
 fn split_word<'a>(word: &'a str) -> Result<(&'a str, &'a str), Refusal<'a>> {
     match word.split_once('=') {
         Some(names) => Ok(names),
-        None => Err(Refusal::BadLayer(word)),
+        None => Err(Refusal::Usage(Usage::BadLayer(word))),
     }
 }
 

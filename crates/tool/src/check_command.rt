@@ -1,11 +1,11 @@
 //! The command `check`: whether a text is canonical, and the tests of the map that are asked for beside it.
-use crate::files::{Files, read_named};
-use crate::refusal::Refusal;
-use crate::status::Status;
 use crate::topologies::{of_file, topology_of, word};
 use clap::ArgMatches;
+use command_line::files::{Files, read_named};
+use command_line::refusal::{Refusal, Usage};
+use command_line::status::Status;
+use compare::quality::{NearPlace, NearVertices, near_vertices, repeated_ids, without_id};
 use itoa::{Buffer, Integer};
-use quality::{NearPlace, NearVertices, near_vertices, repeated_ids, without_id};
 use shapes::Id;
 use sinks::{Sink, WriteFault, put};
 use std::alloc::Global;
@@ -68,11 +68,11 @@ fn steps_asked<'a>(word: Option<&'a str>) -> Result<Option<u32>, Refusal<'a>> {
         return Ok(None);
     };
     if !word.as_bytes().iter().all(|byte| byte.is_ascii_digit()) {
-        return Err(Refusal::BadSteps(word));
+        return Err(Refusal::Usage(Usage::BadSteps(word)));
     }
     match word.parse::<u32>() {
         Ok(steps) if steps >= 1 && steps <= MOST_STEPS => Ok(Some(steps)),
-        _ => Err(Refusal::BadSteps(word)),
+        _ => Err(Refusal::Usage(Usage::BadSteps(word))),
     }
 }
 

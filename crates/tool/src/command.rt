@@ -2,25 +2,31 @@
 use crate::build_command::topology_built;
 use crate::check_command::{Checked, check, print_checked};
 use crate::diff_command::{Compared, print_difference, topologies_compared};
-use crate::files::Files;
+use crate::faults_command::{Found, faults_found, print_faults};
 use crate::merge_command::topology_merged;
-use crate::output::Output;
 use crate::progress::Progress;
 use crate::queries::Question;
-use crate::refusal::Refusal;
 use crate::removing::topology_left;
-use crate::status::Status;
 use crate::topologies::read_topology;
-use arguments::parse;
-use clap::error::ErrorKind;
-use clap::{ArgMatches, Error};
-use sinks::{Sink, WriteFault, put};
+use clap::ArgMatches;
+use command_line::arguments::parse;
+use command_line::ending::{explain, refuse};
+use command_line::files::Files;
+use command_line::output::{OUTPUT_BUFFER, Output};
+use command_line::refusal::Refusal;
+use command_line::status::Status;
+use sinks::{Buffered, Refused, Sink};
 use std::alloc::Global;
+use std::io::Write;
 use topo::Topology;
+
+/// How lines on standard error begin.
+const PROGRAM: &str = "topotool";
 
 /// Runs the command that the words ask for, of which the first is the program's name, and answers
 /// the exit status: 0 done, 1 `check` says no or `diff` found a difference, 2 usage, 3 a file can't be read, 4 an input is
-/// refused, 5 out of memory, 6 the output failed. From 2 on `err` is given a line that says why.
+/// refused or `faults` found an error, 5 out of memory, 6 the output failed. From 2 on `err` is given a line that says
+/// why, but for the errors that `faults` prints.
 /// Where an input is refused nothing is written to `out`; otherwise it is flushed last. Where the words name
 /// a file for the output it is made by `files`, and `out` is given nothing. Where they ask for it `err` is also
 /// given a line for each file that is read and each stage that is done.
@@ -34,15 +40,15 @@ pub fn run<F: Files, O: Sink, E: Sink>(
     let status = match parse(alloc, words) {
         Ok(matches) => match perform(alloc, &matches, files, out, err) {
             Ok(status) => status,
-            Err(refusal) => refuse(&refusal, err),
+            Err(refusal) => refuse(PROGRAM, &refusal, err),
         },
-        Err(error) => explain(alloc, &error, out, err),
+        Err(error) => explain(alloc, PROGRAM, &error, out, err),
     };
     status.number()
 }
 
-/// Does what the words ask for. Answers `Done`, or `NotCanonical` where `check` says no, or `Different` where `diff`
-/// found a difference.
+/// Does what the words ask for. Answers `Done`, or `NotCanonical` where `check` says no, `Different` where `diff`
+/// found a difference, `Refused` where `faults` found an error.
 fn perform<'a, F: Files, O: Sink, E: Sink>(
     alloc: Global,
     matches: &ArgMatches<'a>,
@@ -69,16 +75,33 @@ fn perform_named<'a, F: Files, O: Sink, E: Sink>(
 ) -> Result<Status, Refusal<'a>> {
     let made = make(alloc, name, found, progress)?;
     match &made {
-        Made::Verdict(_) => progress.tell_check(),
-        Made::Compared(compared) => progress.tell_difference(compared.difference.counts()),
-        Made::Topology(topology) => progress.tell_topology(topology),
+        Made::Verdict(_) => progress.report_check(),
+        Made::Compared(compared) => progress.report_difference(compared.difference.counts()),
+        Made::Faults(faults) => progress.report_faults(faults.count()),
+        Made::Topology(topology) => progress.report_topology(topology),
     }
     let mut output = Output::open(alloc, progress.files(), out, found.get_str("output"))?;
-    let printed = print(alloc, name, found, &made, &mut output);
+    let printed = print_buffered(alloc, name, found, &made, &mut output);
     let bytes = output.bytes();
     let status = output.close(printed)?;
-    progress.tell_output(bytes);
+    progress.report_output(bytes);
     Ok(status)
+}
+
+/// Prints it through a buffer.
+fn print_buffered<'a, W: Write + Drop>(
+    alloc: Global,
+    name: &str,
+    found: &ArgMatches<'a>,
+    made: &Made,
+    output: W,
+) -> Result<Status, Refusal<'a>> {
+    let mut sink = Buffered::new(alloc, output, OUTPUT_BUFFER)?;
+    let status = print(alloc, name, found, made, &mut sink)?;
+    match sink.flush() {
+        Ok(()) => Ok(status),
+        Err(Refused) => Err(Refusal::Write),
+    }
 }
 
 /// What a command prints, or prints an answer about.
@@ -86,6 +109,7 @@ fn perform_named<'a, F: Files, O: Sink, E: Sink>(
 enum Made {
     Verdict(Checked),
     Compared(Compared),
+    Faults(Found),
     Topology(Topology),
 }
 
@@ -102,10 +126,13 @@ fn make<'a, F: Files>(
     if name == "diff" {
         return Ok(Made::Compared(topologies_compared(alloc, found, files)?));
     }
+    if name == "faults" {
+        return Ok(Made::Faults(faults_found(alloc, found, files)?));
+    }
     Ok(Made::Topology(topology_named(alloc, name, found, files)?))
 }
 
-/// Prints it. All but `check` and `diff` print what they make or ask of a topology.
+/// Prints it. All but `check`, `diff` and `faults` print what they make or ask of a topology.
 fn print<'a, O: Sink>(
     alloc: Global,
     name: &str,
@@ -116,6 +143,7 @@ fn print<'a, O: Sink>(
     match made {
         Made::Verdict(checked) => print_checked(checked, out),
         Made::Compared(compared) => print_difference(compared, found.get_flag("json"), out),
+        Made::Faults(faults) => print_faults(found, faults, out),
         Made::Topology(topology) => {
             let question = Question {
                 alloc,
@@ -162,36 +190,4 @@ fn print_named<'a, O: Sink>(
 fn print_topology<'a, O: Sink>(topology: &Topology, out: &mut O) -> Result<Status, Refusal<'a>> {
     topo_io::write(topology, out)?;
     Ok(Status::Done)
-}
-
-/// Says why, and answers the status. A failure of standard error changes nothing.
-fn refuse<E: Sink>(refusal: &Refusal<'_>, err: &mut E) -> Status {
-    let _ = refusal.write_line(err);
-    refusal.status()
-}
-
-/// Prints the help that was asked for, or what is wrong with the words.
-fn explain<O: Sink, E: Sink>(alloc: Global, error: &Error, out: &mut O, err: &mut E) -> Status {
-    if matches!(error.kind(), ErrorKind::OutOfMemory) {
-        return refuse(&Refusal::OutOfMemory, err);
-    }
-    let Ok(text) = error.to_string(alloc) else {
-        return refuse(&Refusal::OutOfMemory, err);
-    };
-    if error.use_stderr() {
-        let _ = put(err, text.as_bytes());
-        return Status::Usage;
-    }
-    match print_help(text.as_str(), out) {
-        Ok(()) => Status::Done,
-        Err(WriteFault::Write) => refuse(&Refusal::Write, err),
-    }
-}
-
-fn print_help<O: Sink>(text: &str, out: &mut O) -> Result<(), WriteFault> {
-    put(out, text.as_bytes())?;
-    match out.flush() {
-        Ok(()) => Ok(()),
-        Err(_) => Err(WriteFault::Write),
-    }
 }

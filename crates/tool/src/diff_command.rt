@@ -1,11 +1,11 @@
 //! The command `diff`.
-use crate::files::{Files, input_once, read_named};
-use crate::refusal::Refusal;
-use crate::status::Status;
 use crate::topologies::{topology_of, word};
 use clap::ArgMatches;
-use difference_text::{
-    Difference, DifferenceFault, Options, find_difference, write_json, write_lines,
+use command_line::files::{Files, input_once, read_named};
+use command_line::refusal::Refusal;
+use command_line::status::Status;
+use outputs::difference_text::{
+    Difference, DifferenceFault, DifferenceOptions, find_difference, write_json, write_lines,
 };
 use sinks::Sink;
 use std::alloc::Global;
@@ -56,8 +56,8 @@ fn compare_texts<'a>(
 }
 
 /// What the words ask of the difference.
-fn options_of<'a>(found: &ArgMatches<'a>) -> Options<'a> {
-    Options {
+fn options_of<'a>(found: &ArgMatches<'a>) -> DifferenceOptions<'a> {
+    DifferenceOptions {
         layer: found.get_str("layer"),
         key: found.get_str("key"),
         json: found.get_flag("json"),

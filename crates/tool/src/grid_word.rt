@@ -1,11 +1,20 @@
 //! The word after `--grid`.
+use command_line::refusal::{Refusal, Usage};
 use grid::Grid;
 use std::str::Split;
+
+/// The transform that a word names.
+pub(crate) fn grid_of<'a>(word: &'a str) -> Result<Grid, Refusal<'a>> {
+    match parse_grid(word) {
+        Some(grid) => Ok(grid),
+        None => Err(Refusal::Usage(Usage::BadGrid(word))),
+    }
+}
 
 /// The transform that a word such as `10,10,-500,0` names: the scales of x and y, then their
 /// translations. None where it is not four decimal numbers (an optional minus, then digits) within
 /// the limits of a transform.
-pub(crate) fn parse_grid(word: &str) -> Option<Grid> {
+fn parse_grid(word: &str) -> Option<Grid> {
     let mut numbers = word.split(',');
     let scales = parse_pair(&mut numbers)?;
     let translations = parse_pair(&mut numbers)?;

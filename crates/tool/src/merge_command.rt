@@ -1,7 +1,7 @@
 //! The command `merge`.
-use crate::files::{Files, name_at, read_all};
-use crate::refusal::Refusal;
 use clap::ArgMatches;
+use command_line::files::{Files, name_at, read_all};
+use command_line::refusal::Refusal;
 use refine::{MergeFault, merge_topologies};
 use std::alloc::Global;
 use topo::Topology;
@@ -18,11 +18,11 @@ pub(crate) fn topology_merged<'a, F: Files>(
     match merge_topologies(alloc, texts) {
         Ok(Some(topology)) => Ok(topology),
         Ok(None) => Err(Refusal::BadPlan),
-        Err(fault) => Err(refused(names, fault)),
+        Err(fault) => Err(merge_refusal(names, fault)),
     }
 }
 
-fn refused<'a>(names: &[&'a str], fault: MergeFault) -> Refusal<'a> {
+fn merge_refusal<'a>(names: &[&'a str], fault: MergeFault) -> Refusal<'a> {
     match fault {
         MergeFault::BadPlan(_) => Refusal::BadPlan,
         MergeFault::Text(place, fault) => Refusal::of_text(name_at(names, place), fault),

@@ -1,7 +1,7 @@
 //! What a run says of its progress on standard error, where it is asked to.
-use crate::files::{FileFault, Files};
-use difference_text::Counts;
+use command_line::files::{FileFault, Files};
 use itoa::{Buffer, Integer};
+use outputs::difference_text::ChangeCounts;
 use query::count_arcs;
 use sinks::{Sink, WriteFault, put};
 use std::alloc::Global;
@@ -13,19 +13,23 @@ use topo::Topology;
 pub(crate) struct Progress<'m, F, E> {
     files: &'m mut F,
     err: &'m mut E,
-    is_told: bool,
+    is_reported: bool,
     since: Option<u64>,
     bytes: u64,
 }
 
 impl<'m, F: Files, E: Sink> Progress<'m, F, E> {
     /// The progress of a run that begins now.
-    pub(crate) fn begin(files: &'m mut F, err: &'m mut E, is_told: bool) -> Progress<'m, F, E> {
-        let since = if is_told { files.milliseconds() } else { None };
+    pub(crate) fn begin(files: &'m mut F, err: &'m mut E, is_reported: bool) -> Progress<'m, F, E> {
+        let since = if is_reported {
+            files.milliseconds()
+        } else {
+            None
+        };
         Progress {
             files,
             err,
-            is_told,
+            is_reported,
             since,
             bytes: 0,
         }
@@ -37,16 +41,16 @@ impl<'m, F: Files, E: Sink> Progress<'m, F, E> {
     }
 
     /// Reports that the texts were compared with their canonical form.
-    pub(crate) fn tell_check(&mut self) {
-        if self.is_told {
+    pub(crate) fn report_check(&mut self) {
+        if self.is_reported {
             let bytes = self.bytes;
             let _ = self.put_stage("check", &[(bytes, "byte")]);
         }
     }
 
     /// Reports that a topology was made.
-    pub(crate) fn tell_topology(&mut self, topology: &Topology) {
-        if self.is_told {
+    pub(crate) fn report_topology(&mut self, topology: &Topology) {
+        if self.is_reported {
             let positions = count_arcs(topology).positions.min(u128::from(u64::MAX)) as u64;
             let counts = [(features_of(topology), "feature"), (positions, "position")];
             let _ = self.put_stage("topology", &counts);
@@ -54,8 +58,8 @@ impl<'m, F: Files, E: Sink> Progress<'m, F, E> {
     }
 
     /// Reports that two topologies were compared.
-    pub(crate) fn tell_difference(&mut self, counts: Counts) {
-        if self.is_told {
+    pub(crate) fn report_difference(&mut self, counts: ChangeCounts) {
+        if self.is_reported {
             let features = counts
                 .added
                 .saturating_add(counts.removed)
@@ -64,18 +68,25 @@ impl<'m, F: Files, E: Sink> Progress<'m, F, E> {
         }
     }
 
+    /// Reports that so many errors were found.
+    pub(crate) fn report_faults(&mut self, count: u64) {
+        if self.is_reported {
+            let _ = self.put_stage("faults", &[(count, "error")]);
+        }
+    }
+
     /// Reports that so many bytes were printed.
-    pub(crate) fn tell_output(&mut self, bytes: u64) {
-        if self.is_told {
+    pub(crate) fn report_output(&mut self, bytes: u64) {
+        if self.is_reported {
             let _ = self.put_stage("output", &[(bytes, "byte")]);
         }
     }
 
     /// Reports that a file was read.
-    fn tell_read(&mut self, name: &str, length: usize) {
+    fn report_read(&mut self, name: &str, length: usize) {
         let length = length as u64;
         self.bytes = self.bytes.saturating_add(length);
-        if self.is_told {
+        if self.is_reported {
             let _ = self.put_read(name, length);
         }
     }
@@ -117,13 +128,13 @@ impl<'m, F: Files, E: Sink> Progress<'m, F, E> {
 impl<'m, F: Files, E: Sink> Files for Progress<'m, F, E> {
     fn read_file(&mut self, alloc: Global, name: &str) -> Result<Vec<u8>, FileFault> {
         let bytes = self.files.read_file(alloc, name)?;
-        self.tell_read(name, bytes.len());
+        self.report_read(name, bytes.len());
         Ok(bytes)
     }
 
     fn read_input(&mut self, alloc: Global) -> Result<Vec<u8>, FileFault> {
         let bytes = self.files.read_input(alloc)?;
-        self.tell_read("-", bytes.len());
+        self.report_read("-", bytes.len());
         Ok(bytes)
     }
 }

@@ -1,13 +1,14 @@
 //! The commands that ask one topology: `feature`, `mesh`, `neighbors` and `info`.
-use crate::refusal::Refusal;
-use crate::status::Status;
 use crate::topologies::word;
 use clap::ArgMatches;
-use info_text::{write_json, write_lines};
+use command_line::refusal::{Refusal, Usage};
+use command_line::status::Status;
 use itoa::Buffer;
+use outputs::info_text::{write_json, write_lines};
 use query::{
-    Edges, LayerFault, QueryFault, borders, borders_by, neighbors, write_layer, write_mesh,
-    write_neighbor_ids, write_neighbors, write_neighbors_keyed, write_sequence, write_sequences,
+    Edges, LayerFault, QueryFault, borders, borders_by, neighbors, neighbors_by, write_layer,
+    write_mesh, write_neighbor_ids, write_neighbors, write_neighbors_keyed, write_sequence,
+    write_sequences,
 };
 use shapes::Id;
 use sinks::Sink;
@@ -51,22 +52,30 @@ impl<'t, 'a> Question<'t, 'a> {
                 write_mesh(&self.topology.grid(), &lines, out)?;
                 Ok(Status::Done)
             }
-            Err(fault) => Err(refused(layer.unwrap_or(""), fault)),
+            Err(fault) => Err(query_refusal(layer.unwrap_or(""), fault)),
         }
     }
 
     /// Prints which features of a layer share a border.
     pub(crate) fn print_neighbors<O: Sink>(&self, out: &mut O) -> Result<Status, Refusal<'a>> {
         let layer = word(self.found, "layer");
-        let lists = match neighbors(self.alloc, self.topology, layer) {
+        let lists = match self.neighbor_lists(layer) {
             Ok(lists) => lists,
-            Err(fault) => return Err(refused(layer, fault)),
+            Err(fault) => return Err(query_refusal(layer, fault)),
         };
         if self.found.get_flag("ids") {
             return self.print_ids(layer, lists.as_slice(), out);
         }
         write_neighbors(lists.as_slice(), out)?;
         Ok(Status::Done)
+    }
+
+    /// The neighbors of each feature of a layer, or those that differ from it in a property.
+    fn neighbor_lists(&self, layer: &str) -> Result<Vec<Vec<usize>>, QueryFault> {
+        match self.found.get_str("by") {
+            Some(property) => neighbors_by(self.alloc, self.topology, layer, property),
+            None => neighbors(self.alloc, self.topology, layer),
+        }
     }
 
     /// Prints the ids of the neighbors of each feature of a layer.
@@ -82,7 +91,7 @@ impl<'t, 'a> Question<'t, 'a> {
             return Ok(Status::Done);
         }
         if has_key_twice(geometries) {
-            return Err(Refusal::SameIds(layer));
+            return Err(Refusal::Usage(Usage::SameIds(layer)));
         }
         write_neighbors_keyed(geometries, lists, out)?;
         Ok(Status::Done)
@@ -125,7 +134,7 @@ fn geometries_with_ids<'a, 't>(
     let geometries = topology.geometries(layer).unwrap_or(&[]);
     for geometry in geometries {
         if geometry.id == Id::None {
-            return Err(Refusal::NoId(layer));
+            return Err(Refusal::Usage(Usage::NoId(layer)));
         }
     }
     Ok(geometries)
@@ -166,7 +175,7 @@ fn is_number_too(geometries: &[Geom], id: &Id) -> bool {
             .is_ok()
 }
 
-fn refused<'a>(layer: &'a str, fault: QueryFault) -> Refusal<'a> {
+fn query_refusal<'a>(layer: &'a str, fault: QueryFault) -> Refusal<'a> {
     match fault {
         QueryFault::NoLayer => Refusal::NoLayer(layer),
         QueryFault::OutOfMemory => Refusal::OutOfMemory,

@@ -1,8 +1,8 @@
 //! The command `remove`.
-use crate::files::{Files, input_once, read_named};
-use crate::refusal::Refusal;
 use crate::topologies::{topology_of, word};
 use clap::ArgMatches;
+use command_line::files::{Files, input_once, read_named};
+use command_line::refusal::Refusal;
 use refine::{JoinFault, remove_topology};
 use std::alloc::Global;
 use topo::Topology;

@@ -1,7 +1,7 @@
 //! The topologies that a command is given, each by the word of its file.
-use crate::files::{Files, read_named};
-use crate::refusal::Refusal;
 use clap::ArgMatches;
+use command_line::files::{Files, read_named};
+use command_line::refusal::Refusal;
 use faults::Fault;
 use std::alloc::Global;
 use topo::Topology;

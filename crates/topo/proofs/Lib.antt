@@ -1,3 +1,4 @@
+pub mod ArcTexts
 pub mod Walks
 pub mod Runs
 pub mod Boxes

@@ -2,7 +2,7 @@
 use Rattle.std.specs.Prelude.{List, ◌++◌, cond, reverse}
 use Rattle.grid.specs.declared.pos.Pos.{Pos}
 use Rattle.topo.specs.Walked.{behind}
-use Rattle.topo.specs.declared.run.Run.TheInside as run
+use Rattle.topo.specs.declared.arc_slice.ArcSlice.TheInside as run
 use Rattle.topo.specs.declared.walk.Walk.TheInside as walk
 
 -- the positions that are left of an arc, in the direction of its use

@@ -1,3 +1,4 @@
+pub mod ArcTexts
 pub mod Walked
 pub mod Left
 pub mod Parts

@@ -29,7 +29,7 @@ fn wider(corners: Corners, x: i64, y: i64) -> Corners
     )
 }
 
-fn widened(corners: Option<Corners>, x: i64, y: i64) -> Corners
+fn widen_corners(corners: Option<Corners>, x: i64, y: i64) -> Corners
     ensures { result ≡ widened_at corners (x, y) }
 {
     match corners {
@@ -41,7 +41,7 @@ fn widened(corners: Option<Corners>, x: i64, y: i64) -> Corners
 fn widened_by(corners: Option<Corners>, p: Pos) -> Corners
     ensures { result ≡ widened_at corners (numbers_of p) }
 {
-    widened(corners, p.x(), p.y())
+    widen_corners(corners, p.x(), p.y())
 }
 
 fn around(mut corners: Option<Corners>, positions: &[Pos]) -> Option<Corners>
@@ -144,7 +144,7 @@ pub(crate) enum KeptBox {
 impl KeptBox {
     /// What is kept where no position is walked: with no arcs and no layers there is no box, and any
     /// other one is sought.
-    pub(crate) fn unmeasured(arcs: &ArcTable, layers: &[Layer]) -> KeptBox
+    pub(crate) fn unmeasured_box(arcs: &ArcTable, layers: &[Layer]) -> KeptBox
         ensures kept { (g : Transform) → kept_box g arcs.now layers.now result ≡ box_of g (joined arcs.now.arcs ++ gathered layer_points layers.now) }
         ensures few { length arcs.now.arcs < 2 ^ 63 }
     {

@@ -159,12 +159,12 @@ impl<'a> UsedLists<'a> {
 
 /// The table of a map's arcs, and its layers by them.
 #[derive(Drop)]
-struct Parts {
+struct BuiltParts {
     table: ArcTable,
     layers: Vec<Layer>,
 }
 
-fn parts_of(alloc: Global, map: &FeatureMap) -> Result<Parts, OutOfMemory>
+fn parts_of(alloc: Global, map: &FeatureMap) -> Result<BuiltParts, OutOfMemory>
     ensures { IfOk result (λ p. ArePartsOf map.now p.table p.layers.items) }
 {
     let Cuts { pieces, counts } = Cuts::of(alloc, map)?;
@@ -174,7 +174,7 @@ fn parts_of(alloc: Global, map: &FeatureMap) -> Result<Parts, OutOfMemory>
         counts: &counts,
     };
     let layers = lists.layers(alloc, map)?;
-    Ok(Parts { table, layers })
+    Ok(BuiltParts { table, layers })
 }
 
 impl Topology {

@@ -24,33 +24,33 @@ use std::alloc::Global;
 use std::collections::BTreeSet;
 
 /// What is cut at junctions: a line or a ring.
-trait Cut {
+trait CutIntoArcs {
     // The positions that the map has of it.
     ghost positions: { Self → List Pos };
 
     // The pieces of such positions, cut at these junctions.
     ghost pieces: { List Pos → List Pos → List the_piece.Piece };
 
-    fn cut(&self, alloc: Global, index: &VisitIndex) -> Result<Vec<Piece>, OutOfMemory>
+    fn cut_into_arcs(&self, alloc: Global, index: &VisitIndex) -> Result<Vec<Piece>, OutOfMemory>
         ensures { IfOk result (λ v. v.items ≡ pieces index.now (positions self.now)) };
 }
 
-impl Cut for Line {
+impl CutIntoArcs for Line {
     ghost positions = { line_of };
 
     ghost pieces = { line_pieces };
 
-    fn cut(&self, alloc: Global, index: &VisitIndex) -> Result<Vec<Piece>, OutOfMemory> {
+    fn cut_into_arcs(&self, alloc: Global, index: &VisitIndex) -> Result<Vec<Piece>, OutOfMemory> {
         cut_line(alloc, index, self)
     }
 }
 
-impl Cut for Ring {
+impl CutIntoArcs for Ring {
     ghost positions = { ring_of };
 
     ghost pieces = { ring_pieces };
 
-    fn cut(&self, alloc: Global, index: &VisitIndex) -> Result<Vec<Piece>, OutOfMemory> {
+    fn cut_into_arcs(&self, alloc: Global, index: &VisitIndex) -> Result<Vec<Piece>, OutOfMemory> {
         cut_ring(alloc, index, self)
     }
 }
@@ -64,7 +64,7 @@ pub(crate) struct Cuts {
 
 impl Cuts {
     /// Puts the pieces of a line or ring last.
-    fn add<C: Cut>(
+    fn add<C: CutIntoArcs>(
         &mut self,
         alloc: Global,
         index: &VisitIndex,
@@ -73,13 +73,13 @@ impl Cuts {
         ensures pieces { OnOk result (self.new.pieces.items ≡ self.old.pieces.items ++ C.pieces index.now (C.positions item.now)) }
         ensures counts { OnOk result (self.new.counts.items ≡ self.old.counts.items ++ count_of (C.pieces index.now) (C.positions item.now)) }
     {
-        let mut cut = item.cut(alloc, index)?;
+        let mut cut = item.cut_into_arcs(alloc, index)?;
         self.counts.push(cut.len())?;
         self.pieces.append(&mut cut)?;
         Ok(())
     }
 
-    fn add_each<C: Cut>(
+    fn add_each<C: CutIntoArcs>(
         &mut self,
         alloc: Global,
         index: &VisitIndex,

@@ -2,19 +2,20 @@
 //! of arcs.
 #![tactic(auto)]
 
+pub mod arc_slice;
 mod bounds;
 mod building;
 mod cuts;
 mod expanding;
 pub mod geom;
 pub mod order;
-pub mod run;
 pub mod stitching;
 pub mod topology;
 pub mod walk;
+pub mod writing;
 
+pub use arc_slice::ArcSlice;
 pub use geom::{Body, Geom};
 pub use order::{kind_order, order_of};
-pub use run::Run;
 pub use topology::{Layer, Topology};
 pub use walk::Walk;

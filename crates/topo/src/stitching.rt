@@ -35,39 +35,39 @@ fn walked_positions(
 }
 
 /// What used arcs stitch to, or lists of them.
-trait Stitched: Sized + Drop {
+trait Stitch: Sized + Drop {
     /// What it is stitched from.
     type Used;
 
     ghost stitches_by: { List (List place) → Self → Self.Used → Type 0 };
 
     /// What stitches by these, where anything does.
-    fn stitched(alloc: Global, arcs: &ArcTable, used: &Self::Used) -> Result<Self, OutOfMemory>
+    fn stitch(alloc: Global, arcs: &ArcTable, used: &Self::Used) -> Result<Self, OutOfMemory>
         requires { (s : Self) × stitches_by arcs.now.arcs s used.now }
         ensures { IfOk result (λ made. (s : Self) → stitches_by arcs.now.arcs s used.now → made ≡ s) };
 }
 
-impl Stitched for Line {
+impl Stitch for Line {
     type Used = Items<ArcRef>;
 
     ghost stitches_by = { IsLineOf };
 
-    fn stitched(alloc: Global, arcs: &ArcTable, used: &Self::Used) -> Result<Line, OutOfMemory> {
+    fn stitch(alloc: Global, arcs: &ArcTable, used: &Self::Used) -> Result<Line, OutOfMemory> {
         Ok(Line::from_sound(walked_positions(alloc, arcs, used.as_slice())?))
     }
 }
 
-impl Stitched for Ring {
+impl Stitch for Ring {
     type Used = Items<ArcRef>;
 
     ghost stitches_by = { IsRingOf };
 
-    fn stitched(alloc: Global, arcs: &ArcTable, used: &Self::Used) -> Result<Ring, OutOfMemory> {
+    fn stitch(alloc: Global, arcs: &ArcTable, used: &Self::Used) -> Result<Ring, OutOfMemory> {
         Ok(Ring::from_sound(walked_positions(alloc, arcs, used.as_slice())?))
     }
 }
 
-fn each_stitched<S: Stitched>(
+fn each_stitched<S: Stitch>(
     alloc: Global,
     arcs: &ArcTable,
     lists: &[S::Used],
@@ -77,21 +77,17 @@ fn each_stitched<S: Stitched>(
 {
     let mut made = Vec::with_capacity(alloc, lists.len())?;
     for used in lists {
-        made.push(S::stitched(alloc, arcs, used)?)?;
+        made.push(S::stitch(alloc, arcs, used)?)?;
     }
     Ok(made)
 }
 
-impl<S: Stitched> Stitched for Items<S> {
+impl<S: Stitch> Stitch for Items<S> {
     type Used = Items<S::Used>;
 
     ghost stitches_by = { λ arcs. Pairwise (S.stitches_by arcs) };
 
-    fn stitched(
-        alloc: Global,
-        arcs: &ArcTable,
-        used: &Self::Used,
-    ) -> Result<Items<S>, OutOfMemory> {
+    fn stitch(alloc: Global, arcs: &ArcTable, used: &Self::Used) -> Result<Items<S>, OutOfMemory> {
         Ok(Items::from_vec(each_stitched(alloc, arcs, used.as_slice())?))
     }
 }
@@ -104,10 +100,10 @@ fn stitched_shape(alloc: Global, arcs: &ArcTable, body: &Body) -> Result<Shape, 
         Body::Null => Ok(Shape::Null),
         Body::Point(p) => Ok(Shape::Point(*p)),
         Body::MultiPoint(ps) => Ok(Shape::MultiPoint(copy_positions(alloc, ps.as_slice())?)),
-        Body::Line(used) => Ok(Shape::Line(Line::stitched(alloc, arcs, used)?)),
-        Body::MultiLine(lists) => Ok(Shape::MultiLine(Items::stitched(alloc, arcs, lists)?)),
-        Body::Polygon(lists) => Ok(Shape::Polygon(Items::stitched(alloc, arcs, lists)?)),
-        Body::MultiPolygon(lists) => Ok(Shape::MultiPolygon(Items::stitched(alloc, arcs, lists)?)),
+        Body::Line(used) => Ok(Shape::Line(Line::stitch(alloc, arcs, used)?)),
+        Body::MultiLine(lists) => Ok(Shape::MultiLine(Items::stitch(alloc, arcs, lists)?)),
+        Body::Polygon(lists) => Ok(Shape::Polygon(Items::stitch(alloc, arcs, lists)?)),
+        Body::MultiPolygon(lists) => Ok(Shape::MultiPolygon(Items::stitch(alloc, arcs, lists)?)),
     }
 }
 

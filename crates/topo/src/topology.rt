@@ -156,7 +156,7 @@ impl Topology {
         ensures of_map { (m : Layers) → ArePartsOf m arcs layers.items → IsOf m result }
         ensures few { length result.arcs.arcs < 2 ^ 63 }
     {
-        let bbox = KeptBox::unmeasured(&arcs, &layers);
+        let bbox = KeptBox::unmeasured_box(&arcs, &layers);
         Topology {
             grid,
             arcs,

@@ -3,7 +3,7 @@ ghost use Rattle.std.specs.Iterator.{YieldsFirstRef, YieldsLastRef, item_count};
 ghost use Rattle.std.specs.Prelude.{◌≡◌};
 ghost use Rattle.topo.specs.Walked.{walked};
 
-use crate::run::Run;
+use crate::arc_slice::ArcSlice;
 use chains::table::{ArcRef, ArcTable};
 use grid::pos::Pos;
 use std::marker::Model;
@@ -13,9 +13,9 @@ use std::marker::Model;
 #[derive(Drop)]
 pub struct Walk<'a> {
     arcs: &'a ArcTable,
-    front: Run<'a>,
+    front: ArcSlice<'a>,
     middle: &'a [ArcRef],
-    back: Run<'a>,
+    back: ArcSlice<'a>,
 }
 
 impl<'a> Model for Walk<'a> {
@@ -36,15 +36,15 @@ impl<'a> Walk<'a> {
         match refs.split_first() {
             Some((used, rest)) => Walk {
                 arcs,
-                front: Run::of_arc(arcs, *used),
+                front: ArcSlice::of_arc(arcs, *used),
                 middle: rest,
-                back: Run::empty(),
+                back: ArcSlice::empty(),
             },
             None => Walk {
                 arcs,
-                front: Run::empty(),
+                front: ArcSlice::empty(),
                 middle: refs,
-                back: Run::empty(),
+                back: ArcSlice::empty(),
             },
         }
     }
@@ -65,7 +65,7 @@ impl<'a> Iterator for Walk<'a> {
             let Some((used, rest)) = self.middle.split_first() else {
                 return self.back.take_first();
             };
-            self.front = Run::behind_first(self.arcs, *used);
+            self.front = ArcSlice::behind_first(self.arcs, *used);
             self.middle = rest;
         }
     }
@@ -82,7 +82,7 @@ impl<'a> DoubleEndedIterator for Walk<'a> {
             let Some((used, rest)) = self.middle.split_last() else {
                 return self.front.take_last();
             };
-            self.back = Run::behind_first(self.arcs, *used);
+            self.back = ArcSlice::behind_first(self.arcs, *used);
             self.middle = rest;
         }
     }

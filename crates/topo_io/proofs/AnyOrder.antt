@@ -1,12 +1,9 @@
 -- A text whose layers stand in order over its arcs, once they are normalized and geometries are put into order, means a map.
 use Rattle.std.proofs.Common.{◌≡◌, ◌↔◌, ℕ, IsTrue, List, [], ◌∷◌, map as map_list, inl, inr, refl, sym, ap, ◌∙◌, subst}
 use Rattle.std.proofs.lemmas.Cmp.{tied_itself}
-use Rattle.std.proofs.lemmas.List.Sorted.{IsPermutation-sym}
 use Rattle.std.specs.FinMap as map
-use Rattle.std.specs.List.Sorted.{IsPermutation}
 use Rattle.grid.specs.Place.{Transform}
 use Rattle.grid.specs.declared.pos.Pos.{Pos}
-use Rattle.lines.proofs.SortedLists.{Has-permutation}
 use Rattle.shapes.specs.Maps.{Features, Layers, features_at}
 use Rattle.shapes.specs.OrderLaws.{feature_cmp_total, same_feature}
 use Rattle.shapes.specs.Parts.{spelled_text}
@@ -17,26 +14,27 @@ use Rattle.theory.proofs.ListsOfLists.{Has-map, map_has}
 use Rattle.theory.proofs.UsersOfArcs.{partner, partner_back}
 use Rattle.reading.specs.Meant.{AreFeatures, AreLayers}
 use Rattle.reading.specs.Plain.{Plain, plain}
+use Rattle.chains.specs.Arcs.{Arcs}
 use Rattle.topo.specs.Features.{AreFeaturesOf, IsFeatureOf}
 use Rattle.topo.specs.OfMap.{ArePartsOf, IsOf}
 use Rattle.topo.specs.Parts.{LayerParts, TopologyParts}
 use Rattle.topo.specs.declared.geom.Geom.{Geom}
 use Rattle.topo.proofs.FeatureOrder.{features_stand}
-use Rattle.taking.specs.Kept.{KeepLayers, KeepsFeature}
-use Rattle.taking.specs.Laws.{HaveI64, IsStitched}
-use Rattle.taking.specs.Sorting.{AreReordered}
-use Rattle.taking.specs.Taken.{IfWhole, IsWhole}
-use Rattle.taking.specs.Whole.{StandInOrder, table_of}
-use Rattle.taking.specs.declared.whole.Taken.{Taken}
-use Rattle.taking.specs.declared.whole.Taken.TheVariants.{Whole}
-use Rattle.taking.proofs.PartsOfMaps.{layers_are_the_maps}
-use Rattle.taking.proofs.StitchedMaps.{layers_make_a_map}
+use Rattle.validate.specs.Accept.Kept.{KeepLayers, KeepsFeature}
+use Rattle.validate.specs.Accept.Laws.{HaveI64, IsStitched, LayersStand}
+use Rattle.validate.specs.Accept.Order.{InOrder}
+use Rattle.validate.specs.Accept.Sorting.{AreReordered}
+use Rattle.validate.specs.Accept.Accepted.{IfWhole, IsWhole}
+use Rattle.validate.specs.Accept.Topology.{StandInOrder, table_of}
+use Rattle.validate.specs.declared.accept.topology.Accepted.{Accepted}
+use Rattle.validate.specs.declared.accept.topology.Accepted.TheVariants.{Whole}
+use Rattle.validate.proofs.AcceptLemmas.PartsOfMaps.{layers_are_the_maps}
+use Rattle.validate.proofs.AcceptLemmas.StitchedMaps.{layers_make_a_map}
 use Rattle.topo_io.specs.Laws as law
-use Rattle.topo_io.specs.Means.{Means, MeansTopology}
-use Rattle.topo_io.specs.Parts.{AreSaid}
+use Rattle.topo_io.specs.Means.{AreStitchedTo, IsTopologyOver}
 use Rattle.topo_io.proofs.Entries.{holds_layers, meant}
 use Rattle.topo_io.proofs.Filling.{plain_of}
-use Rattle.topo_io.proofs.Stitched.{LayersStitchTo, features_named, said_means}
+use Rattle.topo_io.proofs.Stitched.{LayersStitchTo, features_named, stitched_means, stitched_to}
 
 -- ---- maps by what they hold
 
@@ -88,9 +86,9 @@ module _ (arcs new_arcs : List (List Pos)) where
       same_feature f h (features_stand new_arcs f h k k a b ∙ sym (features_stand new_arcs f f k k a a) ∙ tied_itself feature_cmp_total f)
 
   -- the features of a layer's geometries, where the new ones stand in another order
-  module _ (fs : List Feature) (gs ks ms : List Geom) (keep : Pairwise (KeepsFeature arcs new_arcs) gs ks) (moved : IsPermutation ks ms) (are : AreFeaturesOf new_arcs fs ms) where
+  module _ (fs : List Feature) (gs ks ms : List Geom) (keep : Pairwise (KeepsFeature arcs new_arcs) gs ks) (moved : (g : Geom) → Has g ks ↔ Has g ms) (are : AreFeaturesOf new_arcs fs ms) where
     each : (k : Geom) → Has k ks → (f : Feature) × Has f fs × IsFeatureOf new_arcs f k
-    each k h = partner_back (IsFeatureOf new_arcs) fs ms are k (Has-permutation ks ms k moved h)
+    each k h = partner_back (IsFeatureOf new_arcs) fs ms are k ((moved k).0 h)
 
     pub features_kept : (hs : List Feature) × AreFeaturesOf arcs hs gs × ((p : Plain) → Has p (map_list plain fs) ↔ Has p (map_list plain hs))
     features_kept =
@@ -101,7 +99,7 @@ module _ (arcs new_arcs : List (List Pos)) where
             (λ i.
                 let (f, there, e) = map_has plain fs p i in
                 let (m, at, is) = partner (IsFeatureOf new_arcs) fs ms are f there in
-                let (h, among, also) = partner_back (IsFeatureOf new_arcs) hs ks of_new m (Has-permutation ms ks m (IsPermutation-sym ks ms moved) at) in
+                let (h, among, also) = partner_back (IsFeatureOf new_arcs) hs ks of_new m ((moved m).1 at) in
                 subst (λ w. Has w (map_list plain hs)) (sym (e ∙ ap plain (one_feature f h m is also))) (Has-map plain hs h among)),
             (λ i.
                 let (h, there, e) = map_has plain hs p i in
@@ -127,27 +125,35 @@ module _ (arcs new_arcs : List (List Pos)) where
   layers_kept [] ls ks (m ∷ ms) p r s = absurd s
   layers_kept (e ∷ es) ls ks [] p r s = absurd s
 
-pub in_any_order : law.InAnyOrder
-in_any_order bytes g arcs ls ks t ms said keep moved ids stand order =
+-- layers that stand in order over other arcs stitch to a map, to which the others stitch too
+over_other_arcs : (arcs : List (List Pos)) (ls ks : List LayerParts) (t : Arcs) (ms : List LayerParts) → KeepLayers arcs t.arcs ls ks → AreReordered ks ms → HaveI64 ms →
+    LayersStand t ms → InOrder t.arcs ms → (m : Layers) × AreStitchedTo arcs ls m × ArePartsOf m t ms
+over_other_arcs arcs ls ks t ms keep moved ids stand order =
     let (m, stitched) = layers_make_a_map t ms stand ids order in
     let (fss, are, alike) = layers_kept arcs t.arcs (map.entries m) ls ks ms keep moved stitched in (
       m,
-      said_means arcs bytes g ls said fss are m (layers_alike m (map_list meant (map.entries m)) (map_list plain_of (features_named fss ls)) alike (holds_layers m)),
+      stitched_to arcs fss ls are m (layers_alike m (map_list meant (map.entries m)) (map_list plain_of (features_named fss ls)) alike (holds_layers m)),
       layers_are_the_maps t ms stand m stitched,
     )
 
--- a topology of such layers, which stand in order over other arcs, is what the text means
-pub normalized_means : (bytes : List ℕ) (g : Transform) (arcs cs : List (List Pos)) (ls ks ms : List LayerParts) → KeepLayers arcs cs ls ks → AreReordered ks ms → HaveI64 ms →
-    (o : Taken) (t : TopologyParts) → o ≡ Whole t → IfWhole o (λ t. t.grid ≡ g) → IfWhole o (λ t. t.arcs ≡ table_of cs ms) → IfWhole o (λ t. t.layers ≡ ms) →
-    IsWhole o ↔ StandInOrder (table_of cs ms) ms → IfWhole o (λ t. (m : Layers) → ArePartsOf m t.arcs t.layers → IsOf m t) → AreSaid bytes g arcs ls → MeansTopology bytes t
-normalized_means bytes g arcs cs ls ks ms keep moved ids o t e grid table layers stand of_map said =
-    let same_grid : t.grid ≡ g = subst (λ w. IfWhole w (λ t. t.grid ≡ g)) e grid in
+pub in_any_order : law.InAnyOrder
+in_any_order bytes g arcs ls ks t ms said keep moved ids stand order =
+    let (m, stitched, parts) = over_other_arcs arcs ls ks t ms keep moved ids stand order in
+    (m, stitched_means arcs bytes g ls said m stitched, parts)
+
+-- a topology of such layers, which stand in order over other arcs, is that of the map that the layers stitch to
+pub normalized_over : (g : Transform) (arcs cs : List (List Pos)) (ls ks ms : List LayerParts) → KeepLayers arcs cs ls ks → AreReordered ks ms → HaveI64 ms →
+    (o : Accepted) (t : TopologyParts) → o ≡ Whole t → IfWhole o (λ t. t.grid ≡ g) → IfWhole o (λ t. t.arcs ≡ table_of cs ms) → IfWhole o (λ t. t.layers ≡ ms) →
+    IsWhole o ↔ StandInOrder (table_of cs ms) ms → IfWhole o (λ t. (m : Layers) → ArePartsOf m t.arcs t.layers → IsOf m t) → IsTopologyOver g arcs ls t
+normalized_over g arcs cs ls ks ms keep moved ids o t e grid table layers stand of_map =
     let same_table : t.arcs ≡ table_of cs ms = subst (λ w. IfWhole w (λ t. t.arcs ≡ table_of cs ms)) e table in
     let same_layers : t.layers ≡ ms = subst (λ w. IfWhole w (λ t. t.layers ≡ ms)) e layers in
     let in_order : StandInOrder (table_of cs ms) ms = stand.0 (subst IsWhole (sym e) tt) in
-    let (m, means, parts) = in_any_order bytes g arcs ls ks (table_of cs ms) ms said keep moved ids in_order.stand in_order.order in (
-      m,
-      subst (λ w. Means bytes w m) (sym same_grid) means,
-      (subst (λ w. IfWhole w (λ t. (m : Layers) → ArePartsOf m t.arcs t.layers → IsOf m t)) e of_map) m
-          (subst (λ w. w) (λ i. ArePartsOf m (sym same_table i) (sym same_layers i)) parts),
-    )
+    let (m, stitched, parts) = over_other_arcs arcs ls ks (table_of cs ms) ms keep moved ids in_order.stand in_order.order in
+    record {
+      grid = subst (λ w. IfWhole w (λ t. t.grid ≡ g)) e grid;
+      of = m;
+      stitched = stitched;
+      is = (subst (λ w. IfWhole w (λ t. (m : Layers) → ArePartsOf m t.arcs t.layers → IsOf m t)) e of_map) m
+          (subst (λ w. w) (λ i. ArePartsOf m (sym same_table i) (sym same_layers i)) parts);
+    }

@@ -15,14 +15,14 @@ use Rattle.topo.specs.Features.{AreFeaturesOf}
 use Rattle.topo.specs.OfMap.{ArePartsOf, IsOf}
 use Rattle.topo.specs.Parts.{LayerParts, TopologyParts}
 use Rattle.topo.specs.declared.geom.Geom.{Geom}
-use Rattle.taking.specs.Laws.{HaveI64, IsStitched}
-use Rattle.taking.specs.Taken.{IfWhole, IsWhole}
-use Rattle.taking.specs.Whole.{StandInOrder, table_of}
-use Rattle.taking.specs.declared.whole.Taken.{Taken}
-use Rattle.taking.specs.declared.whole.Taken.TheVariants.{Whole}
-use Rattle.taking.proofs.PairsGathered.{pairs_with}
-use Rattle.taking.proofs.PartsOfMaps.{layers_are_the_maps}
-use Rattle.taking.proofs.StitchedMaps.{layers_make_a_map}
+use Rattle.validate.specs.Accept.Laws.{HaveI64, IsStitched}
+use Rattle.validate.specs.Accept.Accepted.{IfWhole, IsWhole}
+use Rattle.validate.specs.Accept.Topology.{StandInOrder, table_of}
+use Rattle.validate.specs.declared.accept.topology.Accepted.{Accepted}
+use Rattle.validate.specs.declared.accept.topology.Accepted.TheVariants.{Whole}
+use Rattle.validate.proofs.AcceptLemmas.PairsGathered.{pairs_with}
+use Rattle.validate.proofs.AcceptLemmas.PartsOfMaps.{layers_are_the_maps}
+use Rattle.validate.proofs.AcceptLemmas.StitchedMaps.{layers_make_a_map}
 use Rattle.topo_io.specs.Laws as law
 use Rattle.topo_io.specs.Means.{MeansTopology}
 use Rattle.topo_io.specs.Parts.{AreSaid, GeomStored, LayerStored, layer_of_geoms, plain_geom}
@@ -80,7 +80,7 @@ taken_means bytes g arcs ls t s same_grid same_table same_layers stand of_map =
     (m, means, of_map m parts)
 
 -- the same of what is answered, where that is a topology
-pub whole_means : (bytes : List ℕ) (g : Transform) (arcs : List (List Pos)) (ls : List LayerParts) → AreSaid bytes g arcs ls → (o : Taken) (t : TopologyParts) → o ≡ Whole t →
+pub whole_means : (bytes : List ℕ) (g : Transform) (arcs : List (List Pos)) (ls : List LayerParts) → AreSaid bytes g arcs ls → (o : Accepted) (t : TopologyParts) → o ≡ Whole t →
     IfWhole o (λ t. t.grid ≡ g) → IfWhole o (λ t. t.arcs ≡ table_of arcs ls) → IfWhole o (λ t. t.layers ≡ ls) → IsWhole o ↔ StandInOrder (table_of arcs ls) ls →
     IfWhole o (λ t. (m : Layers) → ArePartsOf m t.arcs t.layers → IsOf m t) → MeansTopology bytes t
 whole_means bytes g arcs ls s o t e grid table layers stand of_map =

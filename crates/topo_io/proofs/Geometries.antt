@@ -1,5 +1,5 @@
 -- The body of a geometry comes before its id and properties.
-use Rattle.std.proofs.Common.{◌≡◌, ℕ, List, Option, Some, None, codes, refl, sym, subst, arith}
+use Rattle.std.proofs.Common.{◌≡◌, ℕ, List, Option, Some, codes, refl, sym, subst}
 use Rattle.serde_json.specs.Data.{Data}
 use Rattle.faults.specs.Path.{name}
 use Rattle.faults.specs.declared.fault.Fault.{Fault}
@@ -10,7 +10,7 @@ use Rattle.reading.specs.declared.geometry.GeometryType.{GeometryType}
 use Rattle.reading.specs.declared.geometry.GeometryType.TheVariants.{Point, MultiPoint, LineString, MultiLineString, Polygon, MultiPolygon}
 use Rattle.reading.proofs.Least.{After, after_under, after_append, first_of}
 use Rattle.topo_io.specs.Arcs.{Arcs}
-use Rattle.topo_io.specs.Geometries.{body_name, body_faults, shape_faults, typed_faults_of}
+use Rattle.topo_io.specs.Geometries.{body_name, body_faults, typed_faults_of}
 use Rattle.topo_io.specs.declared.reader.position.Limits.{Limits}
 
 after_arcs : (d : Data) → After (name (codes "arcs")) (info_faults d)
@@ -32,8 +32,3 @@ pub body_first : (l : Limits) (arcs : Arcs) (o : Option GeometryType) (k : Geome
 body_first l arcs o k n d f typed named h =
     subst (λ o. LeastOrWant (typed_faults_of l arcs o d) f) (sym typed)
     (first_of (name (body_name k)) _ _ f (subst (λ n. LeastOrWant (member_faults n (body_faults l arcs k) d) f) named h) (after_body k d))
-
--- the same, of null too, which has no body
-pub shape_first : (l : Limits) (arcs : Arcs) (o : Option GeometryType) (d : Data) (f : Fault) → LeastOrWant (shape_faults l arcs o d) f → LeastOrWant (typed_faults_of l arcs o d) f
-shape_first l arcs None d f h = record { least = λ real. let none = (h.least real).present in absurd (omega (arith, none.1)) }
-shape_first l arcs (Some k) d f h = body_first l arcs (Some k) k (body_name k) d f refl refl h

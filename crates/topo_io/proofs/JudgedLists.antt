@@ -1,5 +1,5 @@
 -- Lists that are judged by their arcs, and answers on lists item by item.
-use Rattle.std.proofs.Common.{◌≡◌, ◌↔◌, ◌<◌, ◌≤◌, ◌+◌, ◌-◌, ◌&&◌, ℕ, Bool, true, false, if◌then◌else◌, List, [], ◌∷◌, ◌++◌, drop, length, map, get_or, slice_get, is_some, Option, Some, None, Result, Ok, Err, OnOk, IfOk, refl, sym, ap, ◌∙◌, subst, arith}
+use Rattle.std.proofs.Common.{◌≡◌, ◌↔◌, ◌<◌, ◌≤◌, ◌+◌, ◌-◌, ◌&&◌, ℕ, Bool, true, false, if◌then◌else◌, List, [], ◌∷◌, ◌++◌, drop, length, map, get_or, slice_get, is_some, Option, Some, None, refl, sym, ap, ◌∙◌, subst, arith}
 use Rattle.std.proofs.lemmas.List.{drop_all, drop_more}
 use Rattle.std.specs.List.{AllByRecursion}
 use Rattle.faults.specs.declared.fault.FaultKind.TheVariants.{Broken as BrokenFault}
@@ -10,13 +10,13 @@ use Rattle.lines.specs.declared.shape_fault.ShapeFault.{ShapeFault}
 use Rattle.lines.proofs.Positions.{position_true}
 use Rattle.reading.specs.Fault.{here}
 use Rattle.reading.specs.Outlines.{outline_faults, outline_kind}
-use Rattle.standing.specs.Runs.{ends_along}
-use Rattle.standing.proofs.Running.{ends_run}
+use Rattle.validate.specs.Chaining.{ends_along}
+use Rattle.validate.proofs.ChainedLists.{ends_run}
 use Rattle.theory.specs.ArcNumbers.{ArcRef, StitchFrom, StitchTo}
 use Rattle.theory.specs.ArcNumbers as numbers
 use Rattle.theory.specs.Lists.{last_of}
 use Rattle.theory.proofs.Lists.{last_join}
-use Rattle.arc_lists.specs.Lists.{AreBroken, SameFaults, StitchToFault, all_have_ends, has_ends_at}
+use Rattle.normalize.specs.ArcLists.Lists.{AreBroken, SameFaults, StitchToFault, all_have_ends, has_ends_at}
 use Rattle.topo_io.specs.Arcs.{along, meets, same_as, stitched, stitched_faults, stitched_onto}
 use Rattle.topo.specs.Parts.{LayerParts}
 use Rattle.topo.specs.declared.geom.Geom.{Geom}
@@ -109,10 +109,6 @@ module _ (arcs : List (List Pos)) where
       go : (o : Option (List Pos)) → stitched (map (along arcs) used) ≡ o → stitched_faults (faults_as k) o ≡ here BrokenFault
       go None e = refl
       go (Some l) e = absurd (let t = stitched_some used l b.ends e in b.none t.0 t.1)
-
-pub ok_from : {X E : Type 0} (r : Result X E) (A : Type 0) (C : X → Type 0) → OnOk r A → (A → (x : X) → C x) → IfOk r C
-ok_from (Ok x) A C a f = f a x
-ok_from (Err e) A C a f = tt
 
 -- ---- items of a list, judged one by one
 

@@ -1,5 +1,6 @@
+pub mod AllFaults
+pub mod Ascending
 pub mod Comparing
-pub mod Arcs
 pub mod Indexes
 pub mod Parts
 pub mod Steps
@@ -27,3 +28,5 @@ pub mod TokenLayers
 pub mod TokenLimits
 pub mod TokenMembers
 pub mod TokenRoots
+pub mod Repeats
+pub mod Rewritten

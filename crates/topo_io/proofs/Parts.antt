@@ -1,11 +1,5 @@
 -- The texts of a topology's parts, as they are written.
-use Rattle.std.proofs.Common.{◌≡◌, ℕ, ℤ, List, [], ◌++◌, refl, sym, ap, ◌∙◌, codes, Option, Some, None, IsTrue, Bool, true, false, rules, if◌then◌else◌, ◌<◌, length, get_or}
-use Rattle.std.specs.Borrow.{Bor}
-use Rattle.std.proofs.lemmas.Option.{slice_get-get_or}
-use Rattle.std.specs.List.{slice_get}
-use Rattle.std.specs.Option.{option_map}
-use Rattle.std.specs.Str.{bytes_eq}
-use Rattle.std.proofs.lemmas.Slice.Eq.{bytes_eq-Decides}
+use Rattle.std.proofs.Common.{◌≡◌, ℕ, ℤ, List, ◌++◌, sym, ap, ◌∙◌, codes, Option}
 use Rattle.grid.specs.Place.{Transform}
 use Rattle.grid.specs.declared.pos.Pos.{Pos}
 use Rattle.chains.specs.Arcs.{Arcs}
@@ -16,32 +10,9 @@ use Rattle.sinks.specs.Texts.{joined, list_text, option_text}
 use Rattle.topo.specs.Parts.{Corners, LayerParts, TopologyParts}
 use Rattle.topo.specs.OfMap.{item_of, layer_of, seen_parts}
 use Rattle.topo.specs.declared.geom.Geom.{Geom}
-use Rattle.topo_io.specs.TopologyText.{arc_text, geometry_text, layer_text, bbox_text, transform_of, transform_text, topology_text, properties_member}
-use Rattle.writing.proofs.Joined.{joined_map, list_text_map}
-
-not_true : (b : Bool) → b ≡ false → IsTrue b → ⊥
-not_true b e h = search rules
-
-false_is : (b : Bool) → (b ≡ true → ⊥) → b ≡ false
-false_is true h = absurd (h refl)
-false_is false h = refl
-
--- properties that are there
-pub properties_are : (t u : List ℕ) (b : Bool) → b ≡ false → (u ≡ codes "{}" → IsTrue b) → t ≡ u → codes "\"properties\":" ++ (t ++ codes ",") ≡ properties_member u
-properties_are t u b none empty e =
-    ap (λ s. codes "\"properties\":" ++ (s ++ codes ",")) e
-    ∙ sym (ap (λ c. if c then [] else codes "\"properties\":" ++ (u ++ codes ","))
-    (false_is (bytes_eq u (codes "{}")) (λ yes. not_true b none (empty ((bytes_eq-Decides u (codes "{}")).0 yes)))))
-
-pub some_at : {X : Type 0} (xs : List X) (n : ℕ) (o : Option (Bor X)) (a : Bor X) → option_map (λ b. b.now) o ≡ slice_get xs n → o ≡ Some a → slice_get xs n ≡ Some a.now
-some_at xs n o a e f = sym e ∙ ap (option_map (λ b. b.now)) f
-
-no_list : (l : List Pos) → ◌≡◌ {A = Option (List Pos)} None (Some l) → ⊥
-no_list l e = cc
-
-pub none_at : (xs : List (List Pos)) (n : ℕ) (o : Option (Bor (List Pos))) → option_map (λ b. b.now) o ≡ slice_get xs n → o ≡ None → n < length xs → ⊥
-none_at xs n o e f h =
-    no_list (get_or xs n []) (sym (ap (option_map (λ (b : Bor (List Pos)). b.now)) f) ∙ (e ∙ slice_get-get_or xs n [] h))
+use Rattle.topo.specs.ArcTexts.{arc_text}
+use Rattle.topo_io.specs.TopologyText.{geometry_text, layer_text, bbox_text, transform_of, transform_text, topology_text}
+use Rattle.shapes.proofs.WritingLemmas.Joined.{joined_map, list_text_map}
 
 -- a layer's name and its geometries, as they are written
 pub layer_is : (l : LayerParts) {n m : List ℕ} {s : Spelled} {gs : List Geom} → n ≡ m → m ≡ spelling_of (spelled_text s) → s ≡ l.name → gs ≡ l.geometries

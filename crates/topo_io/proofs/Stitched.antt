@@ -28,16 +28,15 @@ use Rattle.reading.specs.Outlines.{outline_faults, line_faults, ring_faults, lin
 use Rattle.reading.specs.Plain.{plain, plain_form, plain_id}
 use Rattle.topo.specs.Features.{IsLineOf, IsRingOf, IsShapeOf, IsFeatureOf, AreFeaturesOf}
 use Rattle.topo.specs.OfMap.{body_of}
-use Rattle.topo.specs.Parts.{LayerParts}
+use Rattle.topo.specs.Parts.{LayerParts, TopologyParts}
 use Rattle.topo.specs.declared.geom.Body as bodies
 use Rattle.topo.specs.declared.geom.Body.TheVariants as to
 use Rattle.topo.specs.declared.geom.Geom.{Geom}
 use Rattle.topo.proofs.Pairs.{Pairwise-same}
 use Rattle.topo_io.specs.Arcs.{along, same_as, meets, stitched_onto, stitched, stitched_faults, list_or_none}
 use Rattle.topo_io.specs.Layers.{with_layers}
-use Rattle.topo_io.specs.Means.{Means}
+use Rattle.topo_io.specs.Means.{AreStitchedTo, IsTopologyOver, Means, MeansTopology}
 use Rattle.topo_io.specs.Parts.{plain_geom, layer_of_geoms, arcs_of_text, AreSaid}
-use Rattle.topo_io.specs.Roots.{layers_of_text}
 use Rattle.topo_io.specs.Stitching.{StitchToLine, StitchToRing, BodyStitches, GeomStitches, LayerStitches, line_along, ring_along, form_along, feature_along, layer_along}
 use Rattle.topo_io.proofs.Filling.{plain_of, names_of, are_layers}
 use Rattle.topo_io.proofs.Known.{stitches_faultless, features_stitched}
@@ -186,17 +185,27 @@ module _ (arcs : List (List Pos)) where
   names_kept (fs ∷ fss) [] h = absurd h
   names_kept (fs ∷ fss) (l ∷ ls) h = λ i. spelled_text l.name ∷ names_kept fss ls h.1 i
 
-  module _ (bytes : List ℕ) (g : Transform) (ls : List LayerParts) (s : AreSaid bytes g arcs ls) (fss : List (List Feature)) (h : LayersStitchTo arcs fss ls) where
-    said_layers : map_list plain_of (features_named fss ls) ≡ layers_of_text bytes
-    said_layers = layers_mean fss ls h ∙ (λ i. map_list (layer_along (s.arcs i)) (s.layers i)) ∙ sym (features_stitched bytes)
+  -- layers that stitch to these features stitch to a map that has them
+  pub stitched_to : (fss : List (List Feature)) (ls : List LayerParts) → LayersStitchTo arcs fss ls → (m : Layers) → AreLayers m (map_list plain_of (features_named fss ls)) → AreStitchedTo arcs ls m
+  stitched_to fss ls h m are = record { stitch = layers_hold arcs fss ls h; layers = subst (AreLayers m) (layers_mean fss ls h) are }
 
+  module _ (bytes : List ℕ) (g : Transform) (ls : List LayerParts) (s : AreSaid bytes g arcs ls) where
+    -- a text whose parts stitch to a map means the map
+    pub stitched_means : (m : Layers) → AreStitchedTo arcs ls m → Means bytes g m
+    stitched_means m k = record {
+      accepted = stitches_faultless bytes s.loose (subst (AllByRecursion (LayerStitches (arcs_of_text bytes))) s.layers (subst (λ cs. AllByRecursion (LayerStitches cs) (map_list layer_of_geoms ls)) s.arcs k.stitch));
+      grid = s.grid;
+      layers = subst (AreLayers m) ((λ i. map_list (layer_along (s.arcs i)) (s.layers i)) ∙ sym (features_stitched bytes)) k.layers;
+    }
+
+    -- and so does a topology over them
+    pub over_means : (t : TopologyParts) → IsTopologyOver g arcs ls t → MeansTopology bytes t
+    over_means t k = (k.of, subst (λ w. Means bytes w k.of) (sym k.grid) (stitched_means k.of k.stitched), k.is)
+
+  module _ (bytes : List ℕ) (g : Transform) (ls : List LayerParts) (s : AreSaid bytes g arcs ls) (fss : List (List Feature)) (h : LayersStitchTo arcs fss ls) where
     -- a text whose parts stitch to the features of a map means the map
     pub said_means : (m : Layers) → AreLayers m (map_list plain_of (features_named fss ls)) → Means bytes g m
-    said_means m are = record {
-      accepted = stitches_faultless bytes s.loose (subst (AllByRecursion (LayerStitches (arcs_of_text bytes))) s.layers (subst (λ cs. AllByRecursion (LayerStitches cs) (map_list layer_of_geoms ls)) s.arcs (layers_hold arcs fss ls h)));
-      grid = s.grid;
-      layers = subst (AreLayers m) said_layers are;
-    }
+    said_means m are = stitched_means bytes g ls s m (stitched_to fss ls h m are)
 
     -- the map of those features
     pub said_map : Means bytes g (with_layers map.empty (features_named fss ls))

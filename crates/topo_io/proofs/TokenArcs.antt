@@ -21,10 +21,10 @@ use Rattle.reading.proofs.Lists.{list_of-items_of}
 use Rattle.reading.proofs.Positions.{position_itself}
 use Rattle.topo_io.specs.Arcs.{arc_faults, arc_of, steps_faults, short_faults, places_from}
 use Rattle.topo_io.specs.Limits.{no_limits, step_faults, Sums, sums_at, next_sums, place_of}
-use Rattle.json_tokens.specs.Reads.{Reads, Meets}
-use Rattle.json_tokens.proofs.Lists.{Passed, passed_none, passed_more, passed_all}
-use Rattle.json_tokens.proofs.Reading.{converted-array}
-use Rattle.token_parts.proofs.Pairs.{two_numbers}
+use Rattle.reading.specs.Tokens.Reads.{Reads, Meets}
+use Rattle.reading.proofs.TokensLemmas.Lists.{Passed, passed_none, passed_more, passed_all}
+use Rattle.reading.proofs.TokensLemmas.Reading.{converted-array}
+use Rattle.reading.proofs.TokenPartsLemmas.Pairs.{two_numbers}
 use Rattle.topo_io.specs.TokenArcs.{Walks, ReadsSteps}
 
 -- ---- a step

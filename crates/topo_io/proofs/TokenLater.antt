@@ -26,13 +26,13 @@ use Rattle.topo.specs.declared.geom.Body.TheVariants as body
 use Rattle.topo_io.specs.Arcs.{counted, no_arc_faults, index_faults, stitched_list_faults}
 use Rattle.topo_io.specs.Limits.{limits_on, no_limits, sums_at, next_sums, step_faults, place_of, position_faults, position_of}
 use Rattle.topo_io.specs.Parts.{ref_at, refs_of}
-use Rattle.json_tokens.specs.Reads.{Gives, Reads}
-use Rattle.json_tokens.proofs.Lists.{number_gives, array_gone}
-use Rattle.json_tokens.proofs.Reading.{items_over}
+use Rattle.reading.specs.Tokens.Reads.{Gives, Reads}
+use Rattle.reading.proofs.TokensLemmas.Lists.{number_gives, array_gone}
+use Rattle.reading.proofs.TokensLemmas.Reading.{items_over}
 use Rattle.topo_io.specs.TokenBounds.{IsBelow}
 use Rattle.topo_io.specs.TokenLater.{any_index_faults, IsRef, IsCoordinates, AreLists, BodyMeans}
-use Rattle.topo_io.specs.declared.token_reader.lists.Coordinates.TheVariants.{One, Many}
-use Rattle.topo_io.specs.declared.token_reader.lists.ArcLists.TheVariants as of
+use Rattle.topo_io.specs.declared.token_reader.lists.PlacedCoordinates.TheVariants.{One, Many}
+use Rattle.topo_io.specs.declared.token_reader.lists.ArcRefLists.TheVariants as of
 use Rattle.topo_io.proofs.TokenLimits.{position_limited}
 
 -- ---- positions and indexes of tokens

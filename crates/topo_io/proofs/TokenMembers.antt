@@ -25,13 +25,13 @@ use Rattle.topo_io.specs.Parts.{plain_geom, geometry_geom, IdStored, GeomStored}
 use Rattle.topo_io.specs.declared.reader.layer_type.LayerType.{LayerType}
 use Rattle.topo_io.specs.declared.reader.layer_type.LayerType.TheVariants.{Collection, Geometry}
 use Rattle.topo_io.proofs.Said.{stored_plain, zip_all}
-use Rattle.token_parts.specs.Members.{KnowsId, KnowsProps}
-use Rattle.token_parts.proofs.Members.{member_known, member_kept, member_faultless, apart, id_means, id_bits}
+use Rattle.reading.specs.TokenParts.Members.{KnowsId, KnowsProps}
+use Rattle.reading.proofs.TokenPartsLemmas.Members.{member_known, member_kept, member_faultless, apart, id_means, id_bits}
 use Rattle.topo_io.specs.TokenBounds.{BodyWithin}
 use Rattle.topo_io.specs.TokenLater.{IsCoordinates, AreLists}
 use Rattle.topo_io.specs.TokenMembers.{no_faults, IsType, IsIfKept, KnowsIfKept, KnowsType, KnowsCoordinates, KnowsLists, KnowsGeom, ShapeMeans, GeomMeans, GeometryMeans, LayerMeans}
-use Rattle.topo_io.specs.declared.token_reader.lists.Coordinates.{Coordinates}
-use Rattle.topo_io.specs.declared.token_reader.lists.ArcLists.{ArcLists}
+use Rattle.topo_io.specs.declared.token_reader.lists.PlacedCoordinates.{PlacedCoordinates}
+use Rattle.topo_io.specs.declared.token_reader.lists.ArcRefLists.{ArcRefLists}
 use Rattle.topo_io.proofs.TokenLater.{list_later}
 
 -- ---- a member that was kept
@@ -47,7 +47,7 @@ module _ {X : Type 0} (n : List ℕ) (R : Data → X → Type 0) (name : List �
 
 -- ---- a geometry's members
 
-module _ (t : Option LayerType) (s : Option Coordinates) (u : Option ArcLists) (i : Option Id) (p : Option Props) (name : List ℕ) (d : Data) (ms : Members) where
+module _ (t : Option LayerType) (s : Option PlacedCoordinates) (u : Option ArcRefLists) (i : Option Id) (p : Option Props) (name : List ℕ) (d : Data) (ms : Members) where
   type_kept : (codes "type" ≡ name → ⊥) → KnowsType t ms → KnowsType t (put name d ms)
   type_kept = member_kept (codes "type") no_faults IsType t name d ms
 
@@ -72,7 +72,7 @@ module _ (t : Option LayerType) (s : Option Coordinates) (u : Option ArcLists) (
     props_kept (apart (codes "type") (codes "properties") name refl same) h.4,
   )
 
-  pub with_coordinates : (x : Option Coordinates) → name ≡ codes "coordinates" → IsIfKept IsCoordinates d x → KnowsGeom t s u i p ms → KnowsGeom t x u i p (put name d ms)
+  pub with_coordinates : (x : Option PlacedCoordinates) → name ≡ codes "coordinates" → IsIfKept IsCoordinates d x → KnowsGeom t s u i p ms → KnowsGeom t x u i p (put name d ms)
   with_coordinates x same is h = (
     type_kept (apart (codes "coordinates") (codes "type") name refl same) h.0,
     kept_now (codes "coordinates") IsCoordinates name d ms x same is,
@@ -81,7 +81,7 @@ module _ (t : Option LayerType) (s : Option Coordinates) (u : Option ArcLists) (
     props_kept (apart (codes "coordinates") (codes "properties") name refl same) h.4,
   )
 
-  pub with_lists : (x : Option ArcLists) → name ≡ codes "arcs" → IsIfKept AreLists d x → KnowsGeom t s u i p ms → KnowsGeom t s x i p (put name d ms)
+  pub with_lists : (x : Option ArcRefLists) → name ≡ codes "arcs" → IsIfKept AreLists d x → KnowsGeom t s u i p ms → KnowsGeom t s x i p (put name d ms)
   with_lists x same is h = (
     type_kept (apart (codes "arcs") (codes "type") name refl same) h.0,
     coordinates_kept (apart (codes "arcs") (codes "coordinates") name refl same) h.1,
@@ -126,7 +126,7 @@ geom_known k i p ms x t b of_id of_props is props shape =
 
 -- ---- a layer
 
-pub geoms_kept : (t : Option LayerType) (s : Option Coordinates) (u : Option ArcLists) (i : Option Id) (p : Option Props) (name : List ℕ) (d : Data) (ms : Members) → name ≡ codes "geometries" → KnowsGeom t s u i p ms → KnowsGeom t s u i p (put name d ms)
+pub geoms_kept : (t : Option LayerType) (s : Option PlacedCoordinates) (u : Option ArcRefLists) (i : Option Id) (p : Option Props) (name : List ℕ) (d : Data) (ms : Members) → name ≡ codes "geometries" → KnowsGeom t s u i p ms → KnowsGeom t s u i p (put name d ms)
 geoms_kept t s u i p name d ms same =
     with_other t s u i p name d ms (apart (codes "geometries") (codes "type") name refl same) (apart (codes "geometries") (codes "coordinates") name refl same) (apart (codes "geometries") (codes "arcs") name refl same)
     (apart (codes "geometries") (codes "id") name refl same) (apart (codes "geometries") (codes "properties") name refl same)

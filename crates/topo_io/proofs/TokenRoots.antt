@@ -16,7 +16,7 @@ use Rattle.topo_io.specs.Limits.{limits_on, no_limits}
 use Rattle.topo_io.specs.Parts.{loose_content, loose_transformed, arc_count}
 use Rattle.topo_io.specs.Roots.{transform_faults, limits_by, limits_of, objects_faults}
 use Rattle.topo_io.specs.declared.reader.parts.TextParts.{TextParts}
-use Rattle.token_parts.proofs.Members.{member_known, member_kept, apart}
+use Rattle.reading.proofs.TokenPartsLemmas.Members.{member_known, member_kept, apart}
 use Rattle.topo_io.specs.TokenMembers.{no_faults}
 use Rattle.topo_io.specs.TokenLayers.{ObjectsMean, LayerWithin}
 use Rattle.topo_io.specs.TokenRoot.{IsWord, IsGrid, AreArcs, AreLayers, KnowsWord, KnowsGrid, KnowsArcs, KnowsLayers, KnowsRoot, RootMeans}

@@ -17,7 +17,7 @@ use Rattle.topo_io.specs.declared.reader.position.Limits.{Limits}
 
 -- ---- arcs
 
--- a first position and differences, whose sums are judged
+-- a first position and differences, whose sums are checked
 abbrev pub steps_faults : Limits → List Data → List Pair
 steps_faults l = scan_faults (step_faults l) next_sums (sums_at (pos 0) (pos 0)) 0
 

@@ -18,3 +18,5 @@ pub mod TokenLater
 pub mod TokenMembers
 pub mod TokenLayers
 pub mod TokenRoot
+pub mod Named
+pub mod Sums

@@ -52,6 +52,7 @@ step_faults l s = pair_faults (difference_faults l.x s.x) (difference_faults l.y
 abbrev pub moved : Option ℤ → Data → Option ℤ
 moved s d = option_and_then (λ sum. option_map (λ a. sum +ℤ a) (option_and_then as_i64 (as_number d))) s
 
+-- the sums after a pair, none where it is no pair
 abbrev pub moved_both : Sums → List Data → Sums
 moved_both s (x ∷ y ∷ []) = record { x = moved s.x x; y = moved s.y y }
 moved_both s _ = record { x = None; y = None }

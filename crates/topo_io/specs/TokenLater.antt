@@ -15,10 +15,10 @@ use Rattle.topo_io.specs.Limits.{limits_on, no_limits, position_faults, position
 use Rattle.topo_io.specs.Parts.{ref_at, body_at}
 use Rattle.topo_io.specs.TokenBounds.{BodyWithin}
 use Rattle.topo_io.specs.declared.token_reader.bounds.Bounds.{Bounds}
-use Rattle.topo_io.specs.declared.token_reader.lists.Coordinates.{Coordinates}
-use Rattle.topo_io.specs.declared.token_reader.lists.Coordinates.TheVariants.{One, Many}
-use Rattle.topo_io.specs.declared.token_reader.lists.ArcLists as lists
-use Rattle.topo_io.specs.declared.token_reader.lists.ArcLists.TheVariants as of
+use Rattle.topo_io.specs.declared.token_reader.lists.PlacedCoordinates.{PlacedCoordinates}
+use Rattle.topo_io.specs.declared.token_reader.lists.PlacedCoordinates.TheVariants.{One, Many}
+use Rattle.topo_io.specs.declared.token_reader.lists.ArcRefLists as lists
+use Rattle.topo_io.specs.declared.token_reader.lists.ArcRefLists.TheVariants as of
 
 -- a whole number
 abbrev pub any_index_faults : Data → List Pair
@@ -28,35 +28,35 @@ abbrev pub IsRef : Data → ArcRef → Type 0
 IsRef d u = u ≡ ref_at (whole_of d)
 
 -- the faults of coordinates that are read before the grid is known
-abbrev pub loose_coordinates_faults : Coordinates → Data → List Pair
+abbrev pub loose_coordinates_faults : PlacedCoordinates → Data → List Pair
 loose_coordinates_faults (One p) = position_faults no_limits
 loose_coordinates_faults (Many ps) = list_faults (position_faults no_limits)
 
 -- the coordinates are those that the value means
-abbrev pub CoordinatesMean : Data → Coordinates → Type 0
+abbrev pub CoordinatesMean : Data → PlacedCoordinates → Type 0
 CoordinatesMean d (One p) = p ≡ position_of d
 CoordinatesMean d (Many ps) = AllZip (λ e p. p ≡ position_of e) (elements d) ps
 
 -- coordinates
-abbrev pub IsCoordinates : Data → Coordinates → Type 0
+abbrev pub IsCoordinates : Data → PlacedCoordinates → Type 0
 IsCoordinates d n = (loose_coordinates_faults n d ≡ []) × CoordinatesMean d n
 
 -- the faults of lists of arcs that are read before the number of the arcs is known
-abbrev pub loose_lists_faults : lists.ArcLists → Data → List Pair
+abbrev pub loose_lists_faults : lists.ArcRefLists → Data → List Pair
 loose_lists_faults of.Empty = list_faults any_index_faults
 loose_lists_faults (of.List us) = list_faults any_index_faults
 loose_lists_faults (of.Lists ls) = list_faults (list_faults any_index_faults)
 loose_lists_faults (of.Groups gs) = list_faults (list_faults (list_faults any_index_faults))
 
 -- the lists of used arcs are those that the value means
-abbrev pub ListsMean : Data → lists.ArcLists → Type 0
+abbrev pub ListsMean : Data → lists.ArcRefLists → Type 0
 ListsMean d of.Empty = elements d ≡ []
 ListsMean d (of.List us) = AllZip IsRef (elements d) us
 ListsMean d (of.Lists ls) = AllZip (λ e us. AllZip IsRef (elements e) us) (elements d) ls
 ListsMean d (of.Groups gs) = AllZip (λ c ls. AllZip (λ e us. AllZip IsRef (elements e) us) (elements c) ls) (elements d) gs
 
 -- lists of arcs
-abbrev pub AreLists : Data → lists.ArcLists → Type 0
+abbrev pub AreLists : Data → lists.ArcRefLists → Type 0
 AreLists d n = (loose_lists_faults n d ≡ []) × ListsMean d n
 
 -- the body is what the value says, which has no fault where the body is within bounds

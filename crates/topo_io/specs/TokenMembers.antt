@@ -19,12 +19,12 @@ use Rattle.std.specs.Prelude.{Vec}
 use Rattle.std.specs.List.{AllZip}
 use Rattle.std.specs.declared.alloc.Global.{Global}
 use Rattle.reading.specs.Parts.{list_faults, elements}
-use Rattle.token_parts.specs.Members.{KnowsMember, KnowsId, KnowsProps}
+use Rattle.reading.specs.TokenParts.Members.{KnowsMember, KnowsId, KnowsProps}
 use Rattle.topo_io.specs.TokenBounds.{BodyWithin}
 use Rattle.topo_io.specs.TokenLater.{IsCoordinates, AreLists}
 use Rattle.topo_io.specs.declared.token_reader.bounds.Bounds.{Bounds}
-use Rattle.topo_io.specs.declared.token_reader.lists.Coordinates.{Coordinates}
-use Rattle.topo_io.specs.declared.token_reader.lists.ArcLists.{ArcLists}
+use Rattle.topo_io.specs.declared.token_reader.lists.PlacedCoordinates.{PlacedCoordinates}
+use Rattle.topo_io.specs.declared.token_reader.lists.ArcRefLists.{ArcRefLists}
 
 -- no faults, whatever the value is
 abbrev pub no_faults : Data → List Pair
@@ -55,15 +55,15 @@ KnowsIfKept n means None ms = Unit {0}
 KnowsIfKept n means (Some x) ms = KnowsMember n no_faults means (Some x) ms
 
 -- the member `coordinates`, where it was kept, of the members that are read
-abbrev pub KnowsCoordinates : Option Coordinates → Members → Type 0
+abbrev pub KnowsCoordinates : Option PlacedCoordinates → Members → Type 0
 KnowsCoordinates = KnowsIfKept (codes "coordinates") IsCoordinates
 
 -- the member `arcs`, where it was kept, of the members that are read
-abbrev pub KnowsLists : Option ArcLists → Members → Type 0
+abbrev pub KnowsLists : Option ArcRefLists → Members → Type 0
 KnowsLists = KnowsIfKept (codes "arcs") AreLists
 
 -- the members of a geometry that are read: type, coordinates, arcs, id and properties
-abbrev pub KnowsGeom : Option LayerType → Option Coordinates → Option ArcLists → Option Id → Option Props → Members → Type 0
+abbrev pub KnowsGeom : Option LayerType → Option PlacedCoordinates → Option ArcRefLists → Option Id → Option Props → Members → Type 0
 KnowsGeom t s u i p ms = KnowsType t ms × KnowsCoordinates s ms × KnowsLists u ms × KnowsId i ms × KnowsProps p ms
 
 -- ---- meaning

@@ -12,7 +12,7 @@ use Rattle.topo_io.specs.Limits.{no_limits}
 use Rattle.topo_io.specs.Parts.{loose_topology, ArePartsOf}
 use Rattle.topo_io.specs.Roots.{transform_faults, transform_of, grid_of}
 use Rattle.topo_io.specs.declared.reader.parts.TextParts.{TextParts}
-use Rattle.token_parts.specs.Members.{KnowsMember}
+use Rattle.reading.specs.TokenParts.Members.{KnowsMember}
 use Rattle.topo_io.specs.TokenMembers.{no_faults}
 use Rattle.topo_io.specs.TokenLayers.{ObjectsMean}
 

@@ -1,44 +1,17 @@
 -- The canonical text of a topology (TopoJSON, sections 2 and 3): compact JSON, members in byte order of their names.
-use Rattle.std.specs.Prelude.{ℕ, ℤ, ◌-ℤ◌, List, [], ◌∷◌, ◌++◌, codes, if◌then◌else◌}
+use Rattle.std.specs.Prelude.{ℕ, ℤ, List, [], ◌∷◌, ◌++◌, codes}
 use Rattle.std.specs.Fmt.{signed_decimal}
-use Rattle.std.specs.Str.{bytes_eq}
 use Rattle.grid.specs.Place.{Transform, transform, scaling}
 use Rattle.grid.specs.declared.pos.Pos.{Pos}
 use Rattle.chains.specs.Seen.{Info}
 use Rattle.shapes.specs.Parts.{properties_text}
 use Rattle.shapes.specs.Spelling.{spelling_of}
-use Rattle.sinks.specs.Texts.{joined, bracketed, list_text, option_text, pair_text}
-use Rattle.theory.specs.ArcNumbers.{ArcRef, index_of}
+use Rattle.sinks.specs.Texts.{joined, list_text, option_text, pair_text}
 use Rattle.theory.specs.Topology.{Item, Layer, Body, null, point, points, line, lines, polygon, polygons}
+use Rattle.topo.specs.ArcTexts.{position_text, arc_text, index_text}
 use Rattle.topo.specs.OfMap.{Seen}
 use Rattle.topo.specs.Parts.{Corners}
-use Rattle.writing.specs.Members.{id_text}
-
--- a position by its grid numbers
-abbrev pub position_text : Pos → List ℕ
-position_text p = pair_text p.x p.y
-
--- the difference of a position from the one before, after a comma
-abbrev pub difference_text : Pos → Pos → List ℕ
-difference_text before p = codes "," ++ pair_text (p.x -ℤ before.x) (p.y -ℤ before.y)
-
--- each position as the difference from the one before [TopoJSON, 2.1.3]
-abbrev pub differences_text : Pos → List Pos → List ℕ
-differences_text before [] = []
-differences_text before (p ∷ ps) = difference_text before p ++ differences_text p ps
-
--- the positions of an arc: the first as it is, the others as differences
-abbrev pub arc_positions : List Pos → List ℕ
-arc_positions [] = []
-arc_positions (p ∷ ps) = position_text p ++ differences_text p ps
-
--- an arc: its first position as it is, each later one as the difference from the one before [TopoJSON, 2.1.3]
-abbrev pub arc_text : List Pos → List ℕ
-arc_text ps = bracketed (arc_positions ps)
-
--- a used arc by its index [TopoJSON, 2.1.4]
-abbrev pub index_text : ArcRef → List ℕ
-index_text a = signed_decimal (index_of a)
+use Rattle.shapes.specs.Writing.Members.{id_text, properties_member}
 
 -- what a geometry is made of, as a member and a comma; nothing for the null shape
 -- [TopoJSON, 2.2; order of members own]
@@ -60,10 +33,6 @@ type_text (line used) = codes "\"LineString\""
 type_text (lines ls) = codes "\"MultiLineString\""
 type_text (polygon rs) = codes "\"Polygon\""
 type_text (polygons ps) = codes "\"MultiPolygon\""
-
--- the member `properties` and a comma; nothing where there are none [TopoJSON, 2.2; order of members own]
-abbrev pub properties_member : List ℕ → List ℕ
-properties_member t = if bytes_eq t (codes "{}") then [] else codes "\"properties\":" ++ (t ++ codes ",")
 
 -- a geometry: coordinates or arcs, its id, its properties unless there are none, and its type
 -- [TopoJSON, 2.2; order of members own]

@@ -1,5 +1,5 @@
-//! The laws of what texts mean, as contracts of functions that do nothing.
-ghost use Rattle.topo_io.specs.Laws.{AsItStands, InAnyOrder, OneMeaning};
+//! The laws of what texts mean and of their faults, as contracts of functions that do nothing.
+ghost use Rattle.topo_io.specs.Laws.{AsItStands, FirstIsRead, InAnyOrder, OneMeaning};
 
 /// A text means at most one grid and one feature map.
 pub fn one_meaning()
@@ -16,4 +16,9 @@ pub fn as_it_stands()
 /// geometries are in another order.
 pub fn in_any_order()
     ensures { InAnyOrder }
+{}
+
+/// The fault that `read` answers is the first that `faults` lists.
+pub fn first_is_read()
+    ensures { FirstIsRead }
 {}

@@ -16,4 +16,5 @@ pub use reader::read;
 pub use same::{is_canonical, is_text_of};
 pub use token_reader::read_parts;
 pub use topology::read_topology;
+pub use validity::faults;
 pub use writer::{text_of, write};

@@ -44,7 +44,7 @@ use shapes::feature::Feature;
 use shapes::feature_map::FeatureMap;
 use shapes::layer::feature_set;
 use std::alloc::Global;
-use taking::TextArcs;
+use validate::accept::TextArcs;
 
 /// Layers by name, each with the features that its geometries mean.
 type Layers = Vec<(String, Vec<Feature>)>;

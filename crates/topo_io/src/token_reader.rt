@@ -16,19 +16,19 @@ pub mod transform;
 pub mod within;
 
 use crate::reader::parts::TextParts;
-use crate::token_reader::root::Root;
-use json_tokens::from_tokens::Stop;
+use crate::token_reader::root::TopologyRoot;
+use reading::token_parts::text::read_text;
+use reading::tokens::from_tokens::Stop;
 use std::alloc::Global;
-use token_parts::text::read_text;
 
 /// The parts of a topology's text, where all that is not known of it is what its lists of arcs stitch
 /// to. The text is read along its tokens, with no value made of it.
 ///
 /// # Errors
-/// `json_tokens::from_tokens::Stop`: `OutOfMemory` where memory is refused, and `Unread` where the text
+/// `reading::tokens::from_tokens::Stop`: `OutOfMemory` where memory is refused, and `Unread` where the text
 /// has a fault, or a form that this reader does not take; it is then to be read by way of a value.
 pub fn read_parts(alloc: Global, bytes: &[u8]) -> Result<TextParts, Stop>
     ensures ok { IfOk result (λ p. AreSaid bytes.now p.grid p.arcs.items p.layers.items) }
 {
-    read_text(alloc, &Root, bytes)
+    read_text(alloc, &TopologyRoot, bytes)
 }

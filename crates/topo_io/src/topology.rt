@@ -1,25 +1,30 @@
 //! Topologies in: the arcs and the layers of a text taken as they are, where they are valid, or once they are
 //! normalized.
 ghost use Rattle.reading.specs.Fault.{LeastOrWant};
-ghost use Rattle.std.specs.Prelude.{◌≡◌, ◌≢◌, ◌<◌, ◌^◌, [], length, IfOk, IfErr, IfSome, IfNone, OnOk};
-ghost use Rattle.taking.specs.Laws.{HaveI64};
+ghost use Rattle.reading.specs.Text.{document as document_of};
+ghost use Rattle.serde_json.specs.View.{view};
+ghost use Rattle.std.specs.Prelude.{◌≡◌, ◌≢◌, ◌<◌, ◌^◌, ℕ, List, [], length, Some, IfOk, IfErr, IfSome, IfNone, OnOk};
+ghost use Rattle.validate.specs.Accept.Laws.{HaveI64};
 ghost use Rattle.topo_io.specs.Means.{MeansTopology, IsTopologyOfParts, AreFaultyParts};
+ghost use Rattle.topo_io.specs.Parts.{AreSaid};
 ghost use Rattle.topo_io.specs.Roots.{faults_of_text};
 
-use crate::other_forms::topology_of_normalized;
+use crate::other_forms::topology_of_stitched;
 use crate::reader::parts::TextParts;
 use crate::reader::parts::features::map_of_parts;
 use crate::reader::read;
 use crate::token_reader::read_parts;
-use crate::validity::judge_text;
 use crate::validity::parts::layers_stitch;
+use crate::validity::{judge_root, judge_text};
 use faults::OutOfMemory;
 use faults::fault::{Fault, FaultKind};
 use grid::transform::Grid;
-use json_tokens::from_tokens::Stop;
+use reading::document::document;
+use reading::tokens::from_tokens::Stop;
+use serde_json::Value;
 use std::alloc::Global;
-use taking::{Taken, TextArcs, take};
 use topo::{Layer, Topology};
+use validate::accept::{Accepted, TextArcs, take};
 
 // A list that doesn't stitch is a fault, but not where it stands: the text is read once more, and its
 // least fault is told.
@@ -35,7 +40,7 @@ fn least_fault(alloc: Global, bytes: &[u8]) -> Fault
 
 /// The topology of a text whose arcs and layers are given, built of the features that they stitch to.
 /// None where a list of arcs stitches to no line or ring.
-fn built(
+fn build_topology(
     alloc: Global,
     grid: &Grid,
     arcs: &TextArcs,
@@ -68,9 +73,9 @@ fn topology_of_judged(
     if !layers_stitch(alloc, arcs, &layers)? {
         return Ok(None);
     }
-    match topology_of_normalized(alloc, grid, arcs, &layers)? {
+    match topology_of_stitched(alloc, grid, arcs, &layers)? {
         Some(topology) => Ok(Some(topology)),
-        None => built(alloc, &grid, arcs, layers),
+        None => build_topology(alloc, &grid, arcs, layers),
     }
 }
 
@@ -84,14 +89,52 @@ fn topology_of_parts(alloc: Global, parts: TextParts) -> Result<Option<Topology>
 {
     let grid = parts.grid;
     match take(alloc, grid, parts.arcs, parts.layers)? {
-        Taken::Whole(topology) => Ok(Some(topology)),
-        Taken::Not { arcs, layers } => topology_of_judged(alloc, grid, &arcs, layers),
+        Accepted::Whole(topology) => Ok(Some(topology)),
+        Accepted::Not { arcs, layers } => topology_of_judged(alloc, grid, &arcs, layers),
     }
 }
 
-// The topology of a text that is not read along its tokens, or the text's least fault: it is built of the
-// features that the text's value means.
-fn topology_of_value(alloc: Global, bytes: &[u8]) -> Result<Topology, Fault>
+/// The topology of a text's parts, or the first error of the text.
+fn topology_or_fault(alloc: Global, bytes: &[u8], parts: TextParts) -> Result<Topology, Fault>
+    requires { AreSaid bytes.now parts.grid parts.arcs.items parts.layers.items }
+    ensures ok { OnOk result (faults_of_text bytes.now ≡ []) }
+    ensures means { IfOk result (MeansTopology bytes.now) }
+    ensures few { IfOk result (λ t. length t.arcs.arcs < 2 ^ 63) }
+    ensures err { IfErr result (λ f. LeastOrWant (faults_of_text bytes.now) f) }
+{
+    match topology_of_parts(alloc, parts) {
+        Ok(Some(topology)) => Ok(topology),
+        Ok(None) => Err(least_fault(alloc, bytes)),
+        Err(OutOfMemory) => Err(Fault::here(alloc, FaultKind::OutOfMemory)),
+    }
+}
+
+// The value of a text, or the text's least fault.
+fn value_of(alloc: Global, bytes: &[u8]) -> Result<Value, Fault>
+    ensures ok { IfOk result (λ v. document_of bytes.now ≡ Some (view v)) }
+    ensures err { IfErr result (λ f. LeastOrWant (faults_of_text bytes.now) f) }
+{
+    let value = document(alloc, bytes)?;
+    judge_root(alloc, &value)?;
+    Ok(value)
+}
+
+// The parts of a text with that value, read along the tokens of the text that the value is written as: each
+// member is there once, and layers are in the order of their names. None where that text is not read so.
+fn parts_of_value(alloc: Global, value: Value) -> Result<Option<TextParts>, OutOfMemory>
+    ensures { IfOk result (λ o. IfSome o (λ p. (bytes : List ℕ) → document_of bytes ≡ Some (view value) → AreSaid bytes p.grid p.arcs.items p.layers.items)) }
+{
+    let text = value.to_string(alloc)?;
+    drop(value);
+    match read_parts(alloc, text.as_bytes()) {
+        Ok(parts) => Ok(Some(parts)),
+        Err(Stop::Unread) => Ok(None),
+        Err(Stop::OutOfMemory) => Err(OutOfMemory),
+    }
+}
+
+// The topology of a text, built of the features that its value means.
+fn built_of_value(alloc: Global, bytes: &[u8]) -> Result<Topology, Fault>
     ensures ok { OnOk result (faults_of_text bytes.now ≡ []) }
     ensures means { IfOk result (MeansTopology bytes.now) }
     ensures few { IfOk result (λ t. length t.arcs.arcs < 2 ^ 63) }
@@ -104,11 +147,27 @@ fn topology_of_value(alloc: Global, bytes: &[u8]) -> Result<Topology, Fault>
     }
 }
 
+// The topology of a text that is not read along its tokens, or the text's least fault: that of the text that
+// its value is written as, and where that is not read along its tokens either, of the features that it means.
+fn topology_of_value(alloc: Global, bytes: &[u8]) -> Result<Topology, Fault>
+    ensures ok { OnOk result (faults_of_text bytes.now ≡ []) }
+    ensures means { IfOk result (MeansTopology bytes.now) }
+    ensures few { IfOk result (λ t. length t.arcs.arcs < 2 ^ 63) }
+    ensures err { IfErr result (λ f. LeastOrWant (faults_of_text bytes.now) f) }
+{
+    let value = value_of(alloc, bytes)?;
+    match parts_of_value(alloc, value) {
+        Ok(Some(parts)) => topology_or_fault(alloc, bytes, parts),
+        Ok(None) => built_of_value(alloc, bytes),
+        Err(OutOfMemory) => Err(Fault::here(alloc, FaultKind::OutOfMemory)),
+    }
+}
+
 /// The topology of what a topology's text means, on its grid (TopoJSON, section 2). A text whose arcs
-/// and layers are those of that topology is taken as it is. Of others the arcs are noded and healed, the
-/// features put into order, and what comes of it is taken where it is valid: no feature is stitched. Of all
-/// others the topology is built, of the features that their arcs stitch to. A text is read along its tokens
-/// where it has a usual form, and else by way of a value.
+/// and layers are those of that topology is taken as it is. Of others the arcs are noded and healed, without the
+/// positions that they repeat, the features put into order, and what comes of it is taken where it is valid: no
+/// feature is stitched. Of all others the topology is built, of the features that their arcs stitch to. A
+/// text is read along its tokens where it has a usual form, and else the text that its value is written as.
 ///
 /// # Errors
 /// The first error of the text, by path and then by number; `OutOfMemory` at the root.
@@ -119,11 +178,7 @@ pub fn read_topology(alloc: Global, bytes: &[u8]) -> Result<Topology, Fault>
     ensures err { IfErr result (λ f. LeastOrWant (faults_of_text bytes.now) f) }
 {
     match read_parts(alloc, bytes) {
-        Ok(parts) => match topology_of_parts(alloc, parts) {
-            Ok(Some(topology)) => Ok(topology),
-            Ok(None) => Err(least_fault(alloc, bytes)),
-            Err(OutOfMemory) => Err(Fault::here(alloc, FaultKind::OutOfMemory)),
-        },
+        Ok(parts) => topology_or_fault(alloc, bytes, parts),
         Err(Stop::Unread) => topology_of_value(alloc, bytes),
         Err(Stop::OutOfMemory) => Err(Fault::here(alloc, FaultKind::OutOfMemory)),
     }

@@ -1,100 +1,204 @@
-//! The first error of a topology's text, of which nothing is kept. A list of arcs is validated by its arcs, and
-//! stitched only where they don't say enough, so that many features which use one long arc cost no more
-//! than their lists are long.
-ghost use Rattle.faults.specs.Path.{name as name_turn};
-ghost use Rattle.reading.specs.Fault.{LeastOrWant, under};
-ghost use Rattle.reading.specs.Parts.{member_faults};
-ghost use Rattle.serde_json.specs.Data.{Data};
+//! The faults of a topology's text, all or the first, of which nothing else is kept. A list of arcs is validated
+//! by its arcs, and stitched only where they don't say enough, so that many features which use one long arc
+//! cost no more than their lists are long.
+ghost use Rattle.reading.specs.FaultLists.Ascending.{IsAscending};
+ghost use Rattle.reading.specs.FaultLists.Found.{AreFound, pairs_of};
+ghost use Rattle.reading.specs.Fault.{LeastOrWant};
+ghost use Rattle.reading.specs.declared.fault_lists.found.Wanted.{Wanted};
+ghost use Rattle.reading.specs.Parts.{list_faults, member_faults};
 ghost use Rattle.serde_json.specs.Find.{get};
 ghost use Rattle.serde_json.specs.View.{view};
-ghost use Rattle.std.specs.Prelude.{◌≡◌, [], ◌++◌, codes, IfErr, OnOk};
-ghost use Rattle.topo_io.specs.Arcs.{known};
-ghost use Rattle.topo_io.specs.Roots.{objects_faults, content_faults, limits_of, transform_faults, transformed_faults, topology_faults, faults_of_text};
+ghost use Rattle.std.specs.Prelude.{◌≡◌, [], codes, IfErr, IfOk, OnOk, Some};
+ghost use Rattle.topo_io.specs.Arcs.{arc_faults};
+ghost use Rattle.topo_io.specs.Named.{named};
+ghost use Rattle.topo_io.specs.Roots.{objects_faults, arcs_in, content_faults, limits_of as limits_of_transform, transform_faults, transformed_faults, topology_faults, faults_of_text};
+ghost use Rattle.topo_io.specs.declared.reader.position.Limits.{Limits as limits_type};
 
+pub mod arc;
 pub mod geometry;
+pub mod index;
 pub mod layer;
 pub mod list;
 pub mod parts;
+pub mod position;
+pub mod transform;
 
 use crate::reader::arc::ArcOf;
 use crate::reader::position::Limits;
 use crate::reader::transform::read_transform;
+use crate::validity::arc::ArcIn;
+use crate::validity::index::Named;
 use crate::validity::layer::ObjectsIn;
 use crate::validity::list::Known;
-use arc_lists::ArcLists;
+use crate::validity::transform::judge_transform;
 use faults::OutOfMemory;
 use faults::fault::{Fault, FaultKind};
+use normalize::arc_lists::ArcLists;
 use reading::document::document;
-use reading::part::{judge_type, read_list_member, read_member, type_fault};
+use reading::fault_lists::found::{
+    Wanted, first_or_none, is_enough, join, one, one_of, under_name,
+};
+use reading::fault_lists::judge::ListOf;
+use reading::fault_lists::members::judge_member;
+use reading::fault_lists::types::type_fault;
+use reading::part::{judge_type, read_list_member};
 use serde_json::Value;
 use std::alloc::Global;
-use taking::TextArcs;
+use validate::accept::TextArcs;
 
-/// Validates the member `objects`, by the arcs.
+/// Validates the member `objects`, by what is known of the arcs.
 fn judge_objects(
     alloc: Global,
-    limits: &Limits,
-    arcs: &TextArcs,
+    wanted: Wanted,
+    on: &Known,
     value: &Value,
-) -> Result<(), Fault>
-    ensures ok { OnOk result (member_faults (codes "objects") (objects_faults limits.now (known arcs.now)) (view value.now) ≡ []) }
-    ensures err { IfErr result (λ f. LeastOrWant (member_faults (codes "objects") (objects_faults limits.now (known arcs.now)) (view value.now)) f) }
+) -> Result<Vec<Fault>, OutOfMemory>
+    ensures { IfOk result (λ fs. AreFound wanted (member_faults (codes "objects") (objects_faults on.now.limits (named on.now.arcs)) (view value.now)) (pairs_of fs.items)) }
 {
-    match ArcLists::new(alloc, arcs) {
-        Ok(lists) => {
+    judge_member(alloc, wanted, &ObjectsIn { on }, value, "objects")
+}
+
+/// Validates the member `objects` where no arc has a fault.
+fn judge_on_arcs(
+    alloc: Global,
+    wanted: Wanted,
+    limits: &Limits,
+    value: &Value,
+) -> Result<Vec<Fault>, OutOfMemory>
+    ensures { IfOk result (λ fs. AreFound wanted (content_faults limits.now (view value.now)) (pairs_of fs.items)) }
+{
+    match read_list_member(alloc, ArcOf { limits: *limits }, value, "arcs") {
+        Ok(listed) => {
+            let arcs = TextArcs::from_list(listed);
+            let lists = ArcLists::new(alloc, &arcs)?;
             let on = Known {
-                lists: &lists,
+                arcs: Named::Known(&lists),
                 limits: *limits,
             };
-            read_member(alloc, &ObjectsIn { on: &on }, value, "objects")
+            judge_objects(alloc, wanted, &on, value)
         }
-        Err(OutOfMemory) => Err(Fault::here(alloc, FaultKind::OutOfMemory)),
+        Err(_) => Err(OutOfMemory),
     }
 }
 
-/// Validates the arcs, used or not, and then the layers.
-fn judge_content(alloc: Global, limits: &Limits, value: &Value) -> Result<(), Fault>
-    ensures ok { OnOk result (content_faults limits.now (view value.now) ≡ []) }
-    ensures err { IfErr result (λ f. LeastOrWant (content_faults limits.now (view value.now)) f) }
+/// How many arcs there are, where they are an array.
+fn count_of_arcs<'a>(value: &Value) -> Named<'a>
+    ensures { (l : limits_type) → ¬ (member_faults (codes "arcs") (list_faults (arc_faults l)) (view value.now) ≡ []) → named result ≡ arcs_in l (view value.now) }
 {
-    let of = ArcOf { limits: *limits };
-    let listed = read_list_member(alloc, of, value, "arcs")?;
-    let arcs = TextArcs::from_list(listed);
-    judge_objects(alloc, limits, &arcs, value)
-}
-
-// A faulty transform is told after the faults of arcs and objects, and absolute numbers then have no
-// limits.
-fn judge_before(alloc: Global, fault: Fault, value: &Value) -> Result<(), Fault>
-    ensures err { IfErr result (λ f. (t : Data) → LeastOrWant (transform_faults t) fault → LeastOrWant (content_faults (limits_of t) (view value.now) ++ under (name_turn (codes "transform")) (transform_faults t)) f) }
-    ensures ok { OnOk result ⊥ }
-{
-    match fault.kind {
-        FaultKind::OutOfMemory => Err(fault),
-        _ => match judge_content(alloc, &Limits::of_positions(), value) {
-            Ok(()) => Err(fault.under_name(alloc, "transform")),
-            Err(before) => Err(before),
+    match value.get("arcs") {
+        None => Named::Unknown,
+        Some(arcs) => match arcs.as_array() {
+            None => Named::Unknown,
+            Some(items) => Named::Counted(items.len()),
         },
     }
 }
 
-fn judge_with(alloc: Global, transform: &Value, value: &Value) -> Result<(), Fault>
-    ensures ok { OnOk result (content_faults (limits_of (view transform.now)) (view value.now) ++ under (name_turn (codes "transform")) (transform_faults (view transform.now)) ≡ []) }
-    ensures err { IfErr result (λ f. LeastOrWant (content_faults (limits_of (view transform.now)) (view value.now) ++ under (name_turn (codes "transform")) (transform_faults (view transform.now))) f) }
+/// Validates the arcs, used or not, and then the layers.
+fn judge_content(
+    alloc: Global,
+    wanted: Wanted,
+    limits: &Limits,
+    value: &Value,
+) -> Result<Vec<Fault>, OutOfMemory>
+    ensures { IfOk result (λ fs. AreFound wanted (content_faults limits.now (view value.now)) (pairs_of fs.items)) }
 {
+    let of = ListOf {
+        of: ArcIn { limits: *limits },
+    };
+    let arcs = judge_member(alloc, wanted, &of, value, "arcs")?;
+    if is_enough(wanted, &arcs) {
+        return Ok(arcs);
+    }
+    if arcs.is_empty() {
+        return judge_on_arcs(alloc, wanted, limits, value);
+    }
+    let on = Known {
+        arcs: count_of_arcs(value),
+        limits: *limits,
+    };
+    let objects = judge_objects(alloc, wanted, &on, value)?;
+    Ok(join(arcs, objects)?)
+}
+
+/// The limits of a transform with these faults. Where it has any, absolute numbers have none.
+fn limits_of(alloc: Global, found: &[Fault], transform: &Value) -> Result<Limits, OutOfMemory>
+    ensures { IfOk result (λ l. (w : Wanted) → AreFound w (transform_faults (view transform.now)) (pairs_of found.now) → l ≡ limits_of_transform (view transform.now)) }
+{
+    if !found.is_empty() {
+        return Ok(Limits::of_positions());
+    }
     match read_transform(alloc, transform) {
-        Ok(grid) => judge_content(alloc, &Limits::of(&grid), value),
-        Err(fault) => judge_before(alloc, fault, value),
+        Ok(grid) => Ok(Limits::of(&grid)),
+        Err(_) => Err(OutOfMemory),
     }
 }
 
-fn judge_members(alloc: Global, value: &Value) -> Result<(), Fault>
-    ensures ok { OnOk result (transformed_faults (view value.now) (get (codes "transform") (view value.now)) ≡ []) }
-    ensures err { IfErr result (λ f. LeastOrWant (transformed_faults (view value.now) (get (codes "transform") (view value.now))) f) }
+/// Validates arcs and layers where the transform has these faults.
+fn judge_within(
+    alloc: Global,
+    wanted: Wanted,
+    found: &[Fault],
+    transform: &Value,
+    value: &Value,
+) -> Result<Vec<Fault>, OutOfMemory>
+    ensures { IfOk result (λ fs. AreFound wanted (transform_faults (view transform.now)) (pairs_of found.now) → AreFound wanted (content_faults (limits_of_transform (view transform.now)) (view value.now)) (pairs_of fs.items)) }
+{
+    match limits_of(alloc, found, transform) {
+        Ok(limits) => judge_content(alloc, wanted, &limits, value),
+        Err(OutOfMemory) => Err(OutOfMemory),
+    }
+}
+
+// The faults of a transform come after those of arcs and objects.
+fn judge_with(
+    alloc: Global,
+    wanted: Wanted,
+    transform: &Value,
+    value: &Value,
+) -> Result<Vec<Fault>, OutOfMemory>
+    ensures { IfOk result (λ fs. AreFound wanted (transformed_faults (view value.now) (Some (view transform.now))) (pairs_of fs.items)) }
+{
+    let later = judge_transform(alloc, wanted, transform)?;
+    let content = judge_within(alloc, wanted, &later, transform, value)?;
+    if is_enough(wanted, &content) {
+        return Ok(content);
+    }
+    let behind = under_name(alloc, later, "transform")?;
+    Ok(join(content, behind)?)
+}
+
+fn judge_members(alloc: Global, wanted: Wanted, value: &Value) -> Result<Vec<Fault>, OutOfMemory>
+    ensures { IfOk result (λ fs. AreFound wanted (transformed_faults (view value.now) (get (codes "transform") (view value.now))) (pairs_of fs.items)) }
 {
     match value.get("transform") {
-        None => Err(Fault::here(alloc, FaultKind::NoTransform).under_name(alloc, "transform")),
-        Some(transform) => judge_with(alloc, transform, value),
+        None => under_name(alloc, one(alloc, FaultKind::NoTransform)?, "transform"),
+        Some(transform) => judge_with(alloc, wanted, transform, value),
+    }
+}
+
+/// The faults of a topology's value.
+#[tactic(auto, using(reading::proofs::FaultListsLemmas::Wholes::found_leaf))]
+fn judge_value(alloc: Global, wanted: Wanted, value: &Value) -> Result<Vec<Fault>, OutOfMemory>
+    ensures { IfOk result (λ fs. AreFound wanted (topology_faults (view value.now)) (pairs_of fs.items)) }
+{
+    if !value.is_object() {
+        return Ok(one(alloc, FaultKind::WrongKind)?);
+    }
+    match judge_type(value, "Topology") {
+        Ok(()) => judge_members(alloc, wanted, value),
+        Err(kind) => Ok(type_fault(alloc, kind)?),
+    }
+}
+
+/// The faults of a value are listed in order, as the members of an object are sorted by name.
+fn look_at_names(value: &Value)
+    ensures { IsAscending (topology_faults (view value.now)) }
+{
+    if let Some(objects) = value.get("objects") {
+        if let Some(layers) = objects.as_object() {
+            let _names = layers.iter();
+        }
     }
 }
 
@@ -103,12 +207,10 @@ pub(crate) fn judge_root(alloc: Global, value: &Value) -> Result<(), Fault>
     ensures ok { OnOk result (topology_faults (view value.now) ≡ []) }
     ensures err { IfErr result (λ f. LeastOrWant (topology_faults (view value.now)) f) }
 {
-    if !value.is_object() {
-        return Err(Fault::here(alloc, FaultKind::WrongKind));
-    }
-    match judge_type(value, "Topology") {
-        Ok(()) => judge_members(alloc, value),
-        Err(kind) => Err(type_fault(alloc, kind)),
+    look_at_names(value);
+    match judge_value(alloc, Wanted::First, value) {
+        Ok(found) => first_or_none(found),
+        Err(OutOfMemory) => Err(Fault::here(alloc, FaultKind::OutOfMemory)),
     }
 }
 
@@ -122,4 +224,25 @@ pub(crate) fn judge_text(alloc: Global, bytes: &[u8]) -> Result<(), Fault>
 {
     let value = document(alloc, bytes)?;
     judge_root(alloc, &value)
+}
+
+/// All faults of a topology's text, by path and then by number: none where `read` accepts it, else the first
+/// is the one that `read` answers.
+///
+/// A faulty `type` is the only fault of its object, and so is a missing transform. Where an arc has a fault,
+/// lists of arcs are not stitched; where the transform has one, absolute numbers have no limits.
+///
+/// # Errors
+/// Where memory is refused.
+pub fn faults(alloc: Global, bytes: &[u8]) -> Result<Vec<Fault>, OutOfMemory>
+    ensures all { IfOk result (λ fs. pairs_of fs.items ≡ faults_of_text bytes.now) }
+    ensures sorted { IfOk result (λ fs. IsAscending (pairs_of fs.items)) }
+{
+    match document(alloc, bytes) {
+        Ok(value) => {
+            look_at_names(&value);
+            Ok(judge_value(alloc, Wanted::All, &value)?)
+        }
+        Err(fault) => Ok(one_of(alloc, fault.kind)?),
+    }
 }

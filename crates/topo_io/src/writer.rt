@@ -1,125 +1,22 @@
 //! Writing the canonical text of a topology (TopoJSON, section 2), piece by piece and with no memory:
 //! compact JSON, members in byte order of their names, no newline at the end.
 ghost use Rattle.grid.specs.Place.{IsTransform};
-ghost use Rattle.shapes.specs.Parts.{spelled_text, properties_text};
-ghost use Rattle.sinks.specs.Texts.{list_text, joined, option_text};
+ghost use Rattle.sinks.specs.Texts.{option_text};
 ghost use Rattle.sinks.specs.Writes.{TookAll, TookPart};
-ghost use Rattle.std.specs.Fmt.{signed_decimal};
-ghost use Rattle.std.specs.Prelude.{◌≡◌, ℕ, ℤ, ◌-ℤ◌, List, [], ◌++◌, codes, IfOk, OnErr, OnOk};
+ghost use Rattle.std.specs.Prelude.{◌≡◌, List, ◌++◌, codes, IfOk, OnErr, OnOk};
 ghost use Rattle.topo.specs.OfMap.{body_of, item_of, layer_of, seen_parts};
-ghost use Rattle.topo_io.specs.TopologyText.{position_text, difference_text, differences_text, arc_positions, arc_text, index_text, content_text, type_text, properties_member, geometry_text, layer_text, bbox_text, transform_of, transform_text, topology_text};
+ghost use Rattle.topo_io.specs.TopologyText.{content_text, type_text, geometry_text, layer_text, bbox_text, transform_of, transform_text, topology_text};
 
-use chains::table::{ArcRef, ArcTable};
 use faults::OutOfMemory;
-use grid::Pos;
-use itoa::Buffer;
-use shapes::props::Props;
+use shapes::writing::{IdMember, Lists, PropertiesMember};
 use sinks::written::{
     Bracketed, Each, Joined, Listed, Notation, Noted, Number, Pair, Text, Then, Written,
 };
-use sinks::{Kept, Sink, WriteFault, put};
+use sinks::{Kept, Sink, WriteFault};
 use std::alloc::Global;
 use topo::geom::{Body, Geom};
 use topo::topology::{Layer, Topology};
-use writing::{IdMember, Lists};
-
-/// Positions, by their grid numbers.
-#[derive(Clone, Copy)]
-struct GridNumbers;
-
-impl Notation<Pos> for GridNumbers {
-    ghost text = { λ _ p. position_text p };
-
-    fn write_value<W: Sink>(&self, value: &Pos, sink: &mut W) -> Result<(), WriteFault> {
-        Pair(value.x(), value.y()).write(sink)
-    }
-}
-
-fn difference(before: Pos, p: Pos) -> Pair
-    ensures x { result.0 ≡ p.x -ℤ before.x }
-    ensures y { result.1 ≡ p.y -ℤ before.y }
-{
-    Pair(p.x() - before.x(), p.y() - before.y())
-}
-
-// The difference of a position from the one before, after a comma.
-fn write_difference<W: Sink>(sink: &mut W, before: Pos, p: Pos) -> Result<(), WriteFault>
-    ensures whole { OnOk result (TookAll (W.seen sink.old) (W.seen sink.new) (difference_text before p)) }
-    ensures part { OnErr result (TookPart (W.seen sink.old) (W.seen sink.new) (difference_text before p)) }
-{
-    let pair = difference(before, p);
-    Then(Text(b","), pair).write(sink)
-}
-
-fn write_differences<W: Sink>(sink: &mut W, first: Pos, others: &[Pos]) -> Result<(), WriteFault>
-    ensures whole { OnOk result (TookAll (W.seen sink.old) (W.seen sink.new) (differences_text first others.now)) }
-    ensures part { OnErr result (TookPart (W.seen sink.old) (W.seen sink.new) (differences_text first others.now)) }
-{
-    let mut left = others;
-    let mut before = first;
-    while let Some((p, after)) = left.split_first() {
-        match write_difference(sink, before, *p) {
-            Ok(()) => {
-                left = after;
-                before = *p;
-            }
-            Err(fault) => return Err(fault),
-        }
-    }
-    Ok(())
-}
-
-/// The positions of an arc: the first as it is, each later one as the difference from the one before.
-#[derive(Clone, Copy)]
-struct ArcPositions<'a>(&'a [Pos]);
-
-impl<'a> Written for ArcPositions<'a> {
-    ghost text = { λ a. arc_positions a.0.now };
-
-    fn write<W: Sink>(&self, sink: &mut W) -> Result<(), WriteFault> {
-        match self.0.split_first() {
-            Some((first, others)) => match GridNumbers.write_value(first, sink) {
-                Ok(()) => write_differences(sink, *first, others),
-                Err(fault) => Err(fault),
-            },
-            None => Ok(()),
-        }
-    }
-}
-
-/// The arcs of a table, in order.
-#[derive(Clone, Copy)]
-struct ArcsText<'a>(&'a ArcTable);
-
-impl<'a> Written for ArcsText<'a> {
-    ghost text = { λ a. joined arc_text a.0.now.arcs };
-
-    fn write<W: Sink>(&self, sink: &mut W) -> Result<(), WriteFault> {
-        let mut separator = Text(b"");
-        for number in 0..self.0.len() {
-            if let Some(arc) = self.0.arc(number) {
-                match Then(separator, Bracketed(ArcPositions(arc))).write(sink) {
-                    Ok(()) => separator = Text(b","),
-                    Err(fault) => return Err(fault),
-                }
-            }
-        }
-        Ok(())
-    }
-}
-
-/// Used arcs, by TopoJSON's index.
-#[derive(Clone, Copy)]
-struct Indexes;
-
-impl Notation<ArcRef> for Indexes {
-    ghost text = { λ _ a. index_text a };
-
-    fn write_value<W: Sink>(&self, value: &ArcRef, sink: &mut W) -> Result<(), WriteFault> {
-        let mut buffer = Buffer::new();
-        put(sink, buffer.format(value.wide_index()).as_bytes())
-    }
-}
+use topo::writing::{ArcIndexes, ArcsText, PositionNumbers};
 
 /// The member `coordinates` or `arcs` and a comma.
 #[derive(Clone, Copy)]
@@ -147,21 +44,23 @@ impl<'a> Written for ContentOf<'a> {
     fn write<W: Sink>(&self, sink: &mut W) -> Result<(), WriteFault> {
         match self.0 {
             Body::Null => Ok(()),
-            Body::Point(p) => Content(COORDINATES, Noted(p, &GridNumbers)).write(sink),
-            Body::MultiPoint(ps) => Content(COORDINATES, Listed(ps.as_slice(), &GridNumbers)).write(
-                sink,
-            ),
-            Body::Line(used) => Content(ARCS, Listed(used.as_slice(), &Indexes)).write(sink),
+            Body::Point(p) => Content(COORDINATES, Noted(p, &PositionNumbers)).write(sink),
+            Body::MultiPoint(ps) => Content(
+                COORDINATES,
+                Listed(ps.as_slice(), &PositionNumbers),
+            ).write(sink),
+            Body::Line(used) => Content(ARCS, Listed(used.as_slice(), &ArcIndexes)).write(sink),
             Body::MultiLine(lines) => Content(
                 ARCS,
-                Listed(lines.as_slice(), &Lists(Indexes)),
+                Listed(lines.as_slice(), &Lists(ArcIndexes)),
             ).write(sink),
-            Body::Polygon(rings) => Content(ARCS, Listed(rings.as_slice(), &Lists(Indexes))).write(
-                sink,
-            ),
+            Body::Polygon(rings) => Content(
+                ARCS,
+                Listed(rings.as_slice(), &Lists(ArcIndexes)),
+            ).write(sink),
             Body::MultiPolygon(polygons) => Content(
                 ARCS,
-                Listed(polygons.as_slice(), &Lists(Lists(Indexes))),
+                Listed(polygons.as_slice(), &Lists(Lists(ArcIndexes))),
             ).write(sink),
         }
     }
@@ -179,22 +78,6 @@ fn type_name(body: &Body) -> &'static [u8]
         Body::MultiLine(_) => b"\"MultiLineString\"",
         Body::Polygon(_) => b"\"Polygon\"",
         Body::MultiPolygon(_) => b"\"MultiPolygon\"",
-    }
-}
-
-/// The member `properties` and a comma; nothing where there are none.
-#[derive(Clone, Copy)]
-struct PropertiesMember<'a>(&'a Props);
-
-impl<'a> Written for PropertiesMember<'a> {
-    ghost text = { λ p. properties_member (properties_text p.0.now) };
-
-    fn write<W: Sink>(&self, sink: &mut W) -> Result<(), WriteFault> {
-        if self.0.is_empty() {
-            return Ok(());
-        }
-        let text = Text(self.0.text().as_bytes());
-        Then(Text(b"\"properties\":"), Then(text, Text(b","))).write(sink)
     }
 }
 

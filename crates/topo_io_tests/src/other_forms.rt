@@ -1,13 +1,17 @@
 //! Texts in the form of other tools: arcs by first sight and as they were met, cut or doubled, features in the order of
 //! the input.
+ghost use Rattle.validate.specs.Accept.Laws.{HaveI64};
+
 use crate::texts::built_text;
-use normalize::normalize;
+use grid::Grid;
+use normalize::{normalize, without_repeats};
 use std::alloc::Global;
 use std::process::Abort;
 use std::test::Fail;
-use taking::{Taken, TextArcs, layers_sorted, take};
 use test_values::rows;
+use topo::Layer;
 use topo_io::{read_parts, read_topology, text_of};
+use validate::accept::{Accepted, TextArcs, layers_sorted, take};
 
 /// The text of a topology on the unit grid with these arcs and these geometries, in the order in which
 /// topojson-server writes its members.
@@ -23,19 +27,31 @@ macro_rules! topology {
     };
 }
 
-/// Whether the arcs and the layers of a text are taken once they are normalized.
+/// Whether arcs and layers are taken once they are normalized.
+fn are_taken(alloc: Global, grid: Grid, arcs: &TextArcs, layers: &[Layer]) -> Result<bool, Fail>
+    requires { HaveI64 layers.now }
+{
+    let Some(normalized) = normalize(alloc, arcs, layers)? else {
+        return Ok(false);
+    };
+    let layers = normalized.layers;
+    let sorted = layers_sorted(alloc, &normalized.arcs, layers)?;
+    let arcs = normalized.arcs.into_arcs(alloc)?;
+    match take(alloc, grid, arcs, sorted)? {
+        Accepted::Whole(_) => Ok(true),
+        Accepted::Not { .. } => Ok(false),
+    }
+}
+
+/// Whether the arcs and the layers of a text are taken once they are without repeated positions, and normalized.
 fn is_taken_normalized(alloc: Global, text: &str) -> Result<bool, Fail> {
     let Ok(parts) = read_parts(alloc, text.as_bytes()) else {
         return Err("refused".into());
     };
     let arcs = TextArcs::from_list(parts.arcs);
-    let Some(normalized) = normalize(alloc, &arcs, &parts.layers)? else {
-        return Ok(false);
-    };
-    let sorted = layers_sorted(alloc, normalized.layers)?;
-    match take(alloc, parts.grid, normalized.arcs, sorted)? {
-        Taken::Whole(_) => Ok(true),
-        Taken::Not { .. } => Ok(false),
+    match without_repeats(alloc, &arcs, &parts.layers)? {
+        Some(without) => are_taken(alloc, parts.grid, &without.arcs, &without.layers),
+        None => are_taken(alloc, parts.grid, &arcs, &parts.layers),
     }
 }
 
@@ -112,15 +128,72 @@ fn texts_of_other_arcs_are_taken(rt: HostRuntime) -> Result<(), Fail> {
     check_rows(&rt, rt.alloc(), OTHER_ARCS, true)
 }
 
-/// Texts that are built anew.
-const BUILT: &[(&str, &str)] = rows! {
+/// Texts with features of one layer that agree in id, properties and kind, or are there twice.
+const TIES: &[(&str, &str)] = rows! {
     "a feature that is there twice", topology!("[[[1,0],[0,1]],[[1,1],[-1,0],[0,-1],[1,0]],[[1,0],[1,0],[0,1],[-1,0]]]",
         r#"[{"type":"Polygon","arcs":[[0,1]],"id":"left"},{"type":"Polygon","arcs":[[2,-1]],"id":"right"},{"type":"Polygon","arcs":[[0,1]],"id":"left"}]"#);
+    "a feature that is there twice, the second time begun elsewhere and by other arcs", topology!("[[[1,0],[0,1]],[[1,1],[-1,0],[0,-1],[1,0]],[[0,0],[1,0],[0,1],[-1,0],[0,-1]]]",
+        r#"[{"type":"Polygon","arcs":[[0,1]]},{"type":"Point","coordinates":[5,5]},{"type":"Polygon","arcs":[[2]]}]"#);
+    "two squares without ids, the right one first", topology!("[[[1,0],[1,0],[0,1],[-1,0]],[[1,1],[0,-1]],[[1,1],[-1,0],[0,-1],[1,0]]]",
+        r#"[{"type":"Polygon","arcs":[[0,1]]},{"type":"Polygon","arcs":[[-2,2]]}]"#);
+    "lines without ids, out of order", topology!("[[[3,0],[1,0]],[[0,0],[1,0]],[[1,0],[0,1]]]",
+        r#"[{"type":"LineString","arcs":[0]},{"type":"LineString","arcs":[1,2]},{"type":"LineString","arcs":[1]}]"#);
+    "points, lists of points, lists of lines and of polygons without ids, out of order", topology!("[[[3,0],[1,0],[0,1],[-1,-1]],[[0,0],[1,0]],[[1,0],[0,1]],[[0,0],[0,1],[1,0],[-1,-1]]]",
+        r#"[{"type":"MultiPolygon","arcs":[[[0]],[[3]]]},{"type":"MultiPolygon","arcs":[[[3]],[[0]]]},{"type":"MultiLineString","arcs":[[2],[1]]},{"type":"MultiLineString","arcs":[[1],[2]]},{"type":"MultiPoint","coordinates":[[7,7],[6,6]]},{"type":"MultiPoint","coordinates":[[6,6]]},{"type":"Point","coordinates":[5,6]},{"type":"Point","coordinates":[5,5]},{"type":"Point","coordinates":[5,6]},{"type":null},{"type":null}]"#);
+    "lakes whose lists begin behind their least steps, out of order", topology!("[[[4,0],[0,4],[-4,0],[0,-4],[4,0]],[[3,0],[0,3],[-3,0],[0,-3],[3,0]],[[3,0],[1,0]],[[4,0],[3,0]]]",
+        r#"[{"type":"Polygon","arcs":[[0]]},{"type":"LineString","arcs":[3]},{"type":"LineString","arcs":[2]}]"#);
 };
 
 #[test]
-fn other_texts_are_built(rt: HostRuntime) -> Result<(), Fail> {
-    check_rows(&rt, rt.alloc(), BUILT, false)
+fn texts_with_ties_are_taken(rt: HostRuntime) -> Result<(), Fail> {
+    check_rows(&rt, rt.alloc(), TIES, true)
+}
+
+/// Texts with arcs that repeat positions.
+const REPEATS: &[(&str, &str)] = rows! {
+    "a position twice inside an arc, and at both ends of another", topology!("[[[1,0],[0,0],[0,1]],[[1,1],[0,0],[-1,0],[0,-1],[0,0],[0,0],[1,0],[0,0]],[[1,0],[1,0],[0,1],[0,0],[0,0],[-1,0]]]",
+        r#"[{"type":"Polygon","arcs":[[0,1]],"id":"left"},{"type":"Polygon","arcs":[[2,-1]],"id":"right"}]"#);
+    "an arc of equal positions alone, first, between others and last, and one that no list uses", topology!("[[[1,0],[0,0]],[[1,0],[0,1]],[[1,1],[0,0],[0,0]],[[1,1],[-1,0],[0,-1],[1,0]],[[7,7],[0,0]]]",
+        r#"[{"type":"Polygon","arcs":[[0,1,2,3,-1]],"id":"left"},{"type":"LineString","arcs":[-1,1,-3]},{"type":"MultiLineString","arcs":[[-4,-3,2],[1]]}]"#);
+    "an arc that is another one with a position twice, used against its direction", topology!("[[[0,0],[1,0],[0,1]],[[1,1],[0,-1],[0,0],[-1,0]]]",
+        r#"[{"type":"LineString","arcs":[-2]},{"type":"LineString","arcs":[0],"id":1},{"type":"LineString","arcs":[0]}]"#);
+    "a ring whose least vertex is there twice inside its arc", topology!("[[[4,0],[0,4],[-4,0],[0,0],[0,-4],[0,0],[4,0]]]",
+        r#"[{"type":"MultiPolygon","arcs":[[[0]]]},{"type":"Polygon","arcs":[[-1]]}]"#);
+};
+
+#[test]
+fn texts_that_repeat_positions_are_taken(rt: HostRuntime) -> Result<(), Fail> {
+    check_rows(&rt, rt.alloc(), REPEATS, true)
+}
+
+/// Texts that are not read along their tokens, and the same texts without the member that is there twice, or out of
+/// its place.
+const TWICE: &[(&str, &str)] = &[
+    (
+        r#"{"type":"Topology","transform":{"scale":[1,1],"translate":[0,0]},"arcs":"none yet","objects":{"a":{"type":"LineString","arcs":[-1]}},"arcs":[[[0,0],[1,0]]]}"#,
+        r#"{"type":"Topology","transform":{"scale":[1,1],"translate":[0,0]},"objects":{"a":{"type":"LineString","arcs":[-1]}},"arcs":[[[0,0],[1,0]]]}"#,
+    ),
+    (
+        r#"{"type":"None","type":"Topology","transform":{"scale":[1,1],"translate":[0,0]},"objects":{"a":{"type":"Point","type":"LineString","arcs":[-1,"b"],"arcs":[-1]}},"arcs":[[[0,0],[0,0],[1,0]]]}"#,
+        r#"{"type":"Topology","transform":{"scale":[1,1],"translate":[0,0]},"objects":{"a":{"type":"LineString","arcs":[-1]}},"arcs":[[[0,0],[0,0],[1,0]]]}"#,
+    ),
+    (
+        r#"{"type":"Topology","transform":{"scale":[1,1],"translate":[0,0]},"objects":{"a":{"arcs":[[7]],"type":"LineString","arcs":[-1]},"a":{"arcs":[{}],"type":null,"properties":{"n":1,"n":2}}},"arcs":[]}"#,
+        r#"{"type":"Topology","transform":{"scale":[1,1],"translate":[0,0]},"objects":{"a":{"type":null,"properties":{"n":2}}},"arcs":[]}"#,
+    ),
+];
+
+#[test]
+fn texts_that_are_read_by_way_of_a_value_mean_the_same(rt: HostRuntime) -> Result<(), Fail> {
+    for (text, other) in TWICE {
+        assert!(rt; read_parts(rt.alloc(), text.as_bytes()).is_err(), "{text}");
+        let topology = read_topology(rt.alloc(), text.as_bytes())?;
+        assert!(rt;
+            text_of(rt.alloc(), &topology)? == built_text(rt.alloc(), *other)?,
+            "{text}"
+        );
+    }
+    Ok(())
 }
 
 #[test]

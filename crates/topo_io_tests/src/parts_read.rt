@@ -2,8 +2,8 @@
 use crate::texts::{OTHER_TOOL, built_text, is_refused, topology};
 use chains::ArcRef;
 use grid::Pos;
-use json_tokens::from_tokens::Stop;
 use lines::items::Items;
+use reading::tokens::from_tokens::Stop;
 use shapes::Id;
 use std::alloc::Global;
 use std::process::Abort;

@@ -3,10 +3,10 @@ use crate::texts::{OTHER_TOOL, built_text, is_refused, topology};
 use shapes::FeatureMap;
 use std::alloc::Global;
 use std::test::Fail;
-use taking::TextArcs;
 use test_values::rows;
 use topo::Topology;
 use topo_io::{TextParts, map_of_parts, read_parts, text_of};
+use validate::accept::TextArcs;
 
 /// The map of the text's parts, where they stitch.
 fn map_of(alloc: Global, text: &str) -> Result<Option<FeatureMap>, Fail> {

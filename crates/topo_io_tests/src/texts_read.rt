@@ -4,7 +4,7 @@ use grid::Pos;
 use shapes::{FeatureMap, Shape};
 use std::alloc::Global;
 use std::test::Fail;
-use test_values::{rows, told};
+use test_values::{fault_line, rows};
 use topo_io::{read, read_topology};
 
 /// The text of a topology on the unit grid with these arcs and layers, its members in order.
@@ -49,12 +49,12 @@ const FAULTS: &[(&str, &str, &str)] = rows! {
 
 fn read_told(alloc: Global, text: &str) -> Result<String, Fail> {
     let fault = read(alloc, text.as_bytes()).err();
-    Ok(told(alloc, fault.as_ref())?)
+    Ok(fault_line(alloc, fault.as_ref())?)
 }
 
 fn read_topology_told(alloc: Global, text: &str) -> Result<String, Fail> {
     let fault = read_topology(alloc, text.as_bytes()).err();
-    Ok(told(alloc, fault.as_ref())?)
+    Ok(fault_line(alloc, fault.as_ref())?)
 }
 
 #[test]

@@ -3,9 +3,9 @@ use crate::texts::{NO_LAYERS, ONE_SQUARE, POINTS, SQUARES, collection};
 use std::alloc::Global;
 use std::process::Abort;
 use std::test::Fail;
-use taking::{Taken, take};
 use test_values::rows;
 use topo_io::{read_parts, read_topology, text_of};
+use validate::accept::{Accepted, take};
 
 const LINES: &str =
     r#"{"arcs":[[[0,0],[1,0]],[[1,0],[0,1]],[[1,0],[1,0]]],"bbox":[0,0,2,1],"objects":{"a":{"geometries":[{"arcs":[0,2],"type":"LineString"},{"arcs":[1],"type":"LineString"}],"type":"GeometryCollection"}},"transform":{"scale":[1,1],"translate":[0,0]},"type":"Topology"}"#;
@@ -22,8 +22,8 @@ fn is_taken(alloc: Global, text: &str) -> Result<bool, Fail> {
         return Err("refused".into());
     };
     match take(alloc, parts.grid, parts.arcs, parts.layers)? {
-        Taken::Whole(_) => Ok(true),
-        Taken::Not { .. } => Ok(false),
+        Accepted::Whole(_) => Ok(true),
+        Accepted::Not { .. } => Ok(false),
     }
 }
 

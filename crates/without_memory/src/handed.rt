@@ -2,8 +2,8 @@
 
 use crate::values::SQUARE;
 use grid::Pos;
-use lines::bits::PositionBits;
-use lines::text::Text;
+use lines::position_filter::PositionFilter;
+use lines::text::JsonText;
 use refused_calls::comparing::stand_at;
 use refused_calls::handed::Handed;
 use refused_calls::inputs::positions;
@@ -19,7 +19,7 @@ use std::alloc::Global;
 pub(crate) struct Lists {
     places: Vec<Pos>,
     text: String,
-    bits: PositionBits,
+    bits: PositionFilter,
     kept: Kept,
 }
 
@@ -34,7 +34,7 @@ fn keeps_places(places: Vec<Pos>) -> bool {
     stand_at(items.as_slice(), SQUARE) && stand_at(items.into_vec().as_slice(), SQUARE)
 }
 
-fn marks(mut bits: PositionBits) -> bool {
+fn marks(mut bits: PositionFilter) -> bool {
     let Some(position) = Pos::new(3, 4) else {
         return false;
     };
@@ -44,7 +44,7 @@ fn marks(mut bits: PositionBits) -> bool {
 }
 
 fn is_text(text: String) -> bool {
-    Text::from_string(text).as_str() == "text"
+    JsonText::from_string(text).as_str() == "text"
 }
 
 fn has_bytes(kept: Kept) -> bool {
@@ -57,16 +57,16 @@ fn settle_lists(rt: &HostRuntime, tally: &mut Tally, places: Vec<Pos>, text: Str
     rows!(rt, tally;
         "Items::from_vec" => are_places,
         "Items::into_vec" => are_places,
-        "Text::from_string" => is_text,
-        "Text::as_str" => is_text,
+        "JsonText::from_string" => is_text,
+        "JsonText::as_str" => is_text,
     );
 }
 
-fn settle_marks(rt: &HostRuntime, tally: &mut Tally, bits: PositionBits, kept: Kept) {
+fn settle_marks(rt: &HostRuntime, tally: &mut Tally, bits: PositionFilter, kept: Kept) {
     let are_marked = marks(bits);
     rows!(rt, tally;
-        "PositionBits::mark" => are_marked,
-        "PositionBits::may_hold" => are_marked,
+        "PositionFilter::mark" => are_marked,
+        "PositionFilter::may_hold" => are_marked,
         "Kept::into_bytes" => has_bytes(kept),
     );
 }
@@ -77,7 +77,7 @@ impl Handed for Lists {
             positions(alloc, SQUARE),
             String::from_str(alloc, "text").ok(),
         );
-        let marks = both(PositionBits::clear(alloc, 4).ok(), memory_sink(alloc));
+        let marks = both(PositionFilter::clear(alloc, 4).ok(), memory_sink(alloc));
         let ((places, text), (bits, kept)) = both(lists, marks)?;
         Some(Lists {
             places,

@@ -4,9 +4,9 @@ use chains::marking::{first_mark, is_marked};
 use chains::{ArcRef, Segment};
 use faults::{Fault, FaultKind};
 use grid::{Axis, AxisFault, Grid, GridFault, Pos};
-use lines::bits::place_among;
 use lines::neighbours::has_equal_neighbours;
-use lines::pair::Pair;
+use lines::pair::PositionPair;
+use lines::position_filter::place_among;
 use refused_calls::handed::Handed;
 use refused_calls::outcome::Tally;
 use refused_calls::rows;
@@ -37,7 +37,7 @@ impl Two {
     }
 
     fn has_ends(self) -> bool {
-        Pair::of(self.high, self.low).ends() == (self.low, self.high)
+        PositionPair::of(self.high, self.low).ends() == (self.low, self.high)
     }
 
     fn is_segment(self) -> bool {
@@ -57,8 +57,8 @@ impl Two {
             "Pos::x" => self.low.x() == 3,
             "Pos::y" => self.low.y() == -4,
             "Pos in order" => self.is_ordered(),
-            "Pair::of" => self.has_ends(),
-            "Pair::ends" => self.has_ends(),
+            "PositionPair::of" => self.has_ends(),
+            "PositionPair::ends" => self.has_ends(),
             "Segment::new" => self.is_no_segment(),
             "Segment::ends" => self.is_segment(),
             "lines::place_among" => place_among(1, self.low) == 0,

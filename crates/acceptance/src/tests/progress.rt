@@ -12,7 +12,7 @@ const TIMED: &str = "topotool: read shared.json: 290 bytes, 1.045 s\n\
     topotool: output: 290 bytes, 1.045 s\n";
 
 /// What a run of these words tells.
-fn told(alloc: Global, words: Words) -> Result<String, Fail> {
+fn progress_of(alloc: Global, words: Words) -> Result<String, Fail> {
     let mut disk = Disk::failing(alloc, None, 0);
     disk.add("shared.json", SHARED_EDGE.as_bytes())?;
     let (mut out, mut err) = (Kept::new(alloc), Kept::new(alloc));
@@ -25,7 +25,7 @@ fn told(alloc: Global, words: Words) -> Result<String, Fail> {
 
 #[test]
 fn seconds_by_the_clock(rt: HostRuntime) -> Result<(), Fail> {
-    let line = told(rt.alloc(), MERGE)?;
+    let line = progress_of(rt.alloc(), MERGE)?;
     assert!(rt; line.as_str() == TIMED);
     Ok(())
 }
@@ -34,7 +34,7 @@ const QUIET: Words = &["merge", "shared.json", "-o", "out.json"];
 
 #[test]
 fn nothing_without_the_word(rt: HostRuntime) -> Result<(), Fail> {
-    let line = told(rt.alloc(), QUIET)?;
+    let line = progress_of(rt.alloc(), QUIET)?;
     assert!(rt; line.is_empty());
     Ok(())
 }

@@ -75,6 +75,7 @@ impl io::Write for Stuck {
 const COMMANDS: &[Words] = &[
     BUILD,
     &["check", "shared.json"],
+    &["faults", "shared.json"],
     &["merge", "shared.json", "shared.json"],
     &["remove", "shared.json", "shared.json"],
     &["feature", "--layer", "a", "shared.json"],
@@ -92,7 +93,7 @@ const COMMANDS: &[Words] = &[
 fn fails_early(alloc: Global, run: &Run) -> Result<bool, Fail> {
     let whole = taken_whole(alloc, run, 0)?;
     let fails_at_once = run.fails(b"", 0, Answer::Fail)?;
-    Ok(fails_at_once && run.fails(whole.taken(), 1, Answer::FailAfter(1))?)
+    Ok(fails_at_once && run.fails(whole.bytes_taken(), 1, Answer::FailAfter(1))?)
 }
 
 /// The command fails at once, after two bytes, and at the flush.
@@ -120,6 +121,6 @@ fn a_failure_of_standard_error_changes_no_status(rt: HostRuntime) -> Result<(), 
     let run = run_of(rt.alloc(), FROM_NOWHERE)?;
     assert!(rt; run.over(&mut out, &mut err) == 3);
     let printed = out.into_bytes();
-    assert!(rt; printed.is_empty() && err.taken() == b"topo".as_slice());
+    assert!(rt; printed.is_empty() && err.bytes_taken() == b"topo".as_slice());
     Ok(())
 }

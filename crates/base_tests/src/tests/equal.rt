@@ -1,9 +1,9 @@
 //! Lines, rings, lists and texts: which are equal, which is less, and hashes and marks of them.
 use crate::tests::drawn::{A, B, C, D, E, Places, line, positions, ring};
 use grid::pos::Pos;
-use lines::bits::{PositionBits, place_among};
 use lines::items::Items;
-use lines::text::Text;
+use lines::position_filter::{PositionFilter, place_among};
+use lines::text::JsonText;
 use std::alloc::Global;
 use std::hash::{DefaultHasher, Hash, Hasher};
 use std::test::Fail;
@@ -89,8 +89,8 @@ fn a_list_has_what_was_put_in(rt: HostRuntime) -> Result<(), Fail> {
     Ok(())
 }
 
-fn text(alloc: Global, words: &str) -> Result<Text, Fail> {
-    Ok(Text::from_string(String::from_str(alloc, words)?))
+fn text(alloc: Global, words: &str) -> Result<JsonText, Fail> {
+    Ok(JsonText::from_string(String::from_str(alloc, words)?))
 }
 
 #[test]
@@ -104,7 +104,7 @@ fn texts_are_ordered(rt: HostRuntime) -> Result<(), Fail> {
 #[test]
 fn bits_of_positions(rt: HostRuntime) -> Result<(), Fail> {
     let dealt = positions(rt.alloc(), &[A, B, C])?;
-    let bits = PositionBits::of(rt.alloc(), dealt.as_slice())?;
+    let bits = PositionFilter::of(rt.alloc(), dealt.as_slice())?;
     for position in &dealt {
         assert!(rt; bits.may_hold(*position));
         assert!(rt; place_among(7, *position) < 7);
@@ -114,7 +114,7 @@ fn bits_of_positions(rt: HostRuntime) -> Result<(), Fail> {
 
 #[test]
 fn bits_that_are_clear(rt: HostRuntime) -> Result<(), Fail> {
-    let bits = PositionBits::clear(rt.alloc(), 9)?;
+    let bits = PositionFilter::clear(rt.alloc(), 9)?;
     for position in &positions(rt.alloc(), &[A, B, C])? {
         assert!(rt; !bits.may_hold(*position));
     }
@@ -123,7 +123,7 @@ fn bits_that_are_clear(rt: HostRuntime) -> Result<(), Fail> {
 
 #[test]
 fn bits_that_are_marked(rt: HostRuntime) -> Result<(), Fail> {
-    let mut bits = PositionBits::clear(rt.alloc(), 0)?;
+    let mut bits = PositionFilter::clear(rt.alloc(), 0)?;
     for position in &positions(rt.alloc(), &[A, B, C])? {
         bits.mark(*position);
         assert!(rt; bits.may_hold(*position));

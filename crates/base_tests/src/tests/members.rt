@@ -1,11 +1,11 @@
 //! Lists of lists and ids, as members of texts.
 use shapes::spelled::Spelled;
+use shapes::writing::{IdMember, Lists};
 use shapes::{Id, Items};
 use sinks::written::{Itself, Listed, Number, Written};
 use sinks::{Kept, WriteFault};
 use std::alloc::Global;
 use std::test::Fail;
-use writing::{IdMember, Lists};
 
 fn numbers(alloc: Global, list: &[i64]) -> Result<Items<Number>, Fail> {
     let mut made = Vec::new(alloc);

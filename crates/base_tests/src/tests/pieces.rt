@@ -41,6 +41,6 @@ fn stops_at_a_failure(rt: HostRuntime) -> Result<(), Fail> {
     let mut script = Script::new(rt.alloc(), answers);
     let fault = Joined(&[Number(123), Number(4)]).write(&mut script).err();
     assert!(rt; fault == Some(WriteFault::Write));
-    assert!(rt; script.taken() == b"123".as_slice() && script.failures() == 1);
+    assert!(rt; script.bytes_taken() == b"123".as_slice() && script.failures() == 1);
     Ok(())
 }

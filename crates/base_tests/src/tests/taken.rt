@@ -26,7 +26,7 @@ fn answers_from_its_list(rt: HostRuntime) -> Result<(), Fail> {
         assert!(rt; script.offer(offered.as_bytes()) == *answer, "{offered}");
     }
     assert!(rt; script.flush().is_ok());
-    assert!(rt; script.taken() == b"aefjkl".as_slice() && script.failures() == 3);
+    assert!(rt; script.bytes_taken() == b"aefjkl".as_slice() && script.failures() == 3);
     Ok(())
 }
 

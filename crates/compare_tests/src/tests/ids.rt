@@ -1,5 +1,5 @@
-//! `quality::without_id` and `quality::repeated_ids`.
-use quality::{repeated_ids, without_id};
+//! `compare::quality::without_id` and `compare::quality::repeated_ids`.
+use compare::quality::{repeated_ids, without_id};
 use shapes::{Id, Props};
 use std::alloc::Global;
 use std::test::Fail;

@@ -1,6 +1,6 @@
-//! `quality::near_vertices`.
+//! `compare::quality::near_vertices`.
+use compare::quality::{NearPlace, near_vertices};
 use grid::{Grid, Pos};
-use quality::{NearPlace, near_vertices};
 use shapes::{Feature, FeatureMap, Id, Items, Props, Shape};
 use std::alloc::Global;
 use std::test::Fail;

@@ -8,7 +8,7 @@ ghost use Rattle.reading.specs.Plain.{plain, plain_form};
 ghost use Rattle.serde_json.specs.View.{view};
 ghost use Rattle.std.specs.Prelude.{◌≡◌, [], IfOk, IfErr, OnOk, codes};
 
-use crate::reader::geometry::Geometry;
+use crate::reader::geometry::GeometryPart;
 use crate::reader::position::Position;
 use faults::fault::{Fault, FaultKind};
 use reading::info::read_info;
@@ -23,7 +23,7 @@ fn read_shape(alloc: Global, position: &Position, value: &Value) -> Result<Shape
     ensures made { IfOk result (λ s. plain_form s ≡ geometry_form position.now.grid (member_or_null (codes "geometry") (view value.now))) }
     ensures err { IfErr result (λ f. LeastOrWant (option_faults (codes "geometry") (unless_null (geometry_faults position.now.grid)) (view value.now)) f) }
 {
-    let geometry = Geometry {
+    let geometry = GeometryPart {
         position: *position,
     };
     match read_option(alloc, &geometry, value, "geometry")? {

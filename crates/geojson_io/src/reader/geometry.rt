@@ -33,11 +33,11 @@ pub fn read_geometry(
 
 /// The member `geometry` of a feature: null, or a geometry.
 #[derive(Clone, Copy)]
-pub struct Geometry {
+pub struct GeometryPart {
     pub position: Position,
 }
 
-impl Part for Geometry {
+impl Part for GeometryPart {
     type Made = Shape;
 
     ghost faults = { λ p. unless_null (geometry_faults p.position.grid) };

@@ -1,18 +1,18 @@
 //! Coordinates by how deep their brackets nest, whatever the type beside them.
 ghost use Rattle.geojson_io.specs.TokenCoordinates.{nested_faults, CoordinatesMean};
 ghost use Rattle.json.specs.Token as spec;
-ghost use Rattle.json_tokens.specs.Reads.{Reads};
+ghost use Rattle.reading.specs.Tokens.Reads.{Reads};
 ghost use Rattle.std.specs.Prelude.{◌≡◌, ◌∷◌, [], IfOk};
 
 use crate::reader::position::Position;
 use grid::pos::Pos;
 use json::Reader;
-use json_tokens::from_tokens::Stop;
-use json_tokens::list::read_rest;
-use json_tokens::token::take_begin_array;
+use reading::token_parts::list::{ListOf, single};
+use reading::token_parts::opened::{FromOpened, number_or_array};
+use reading::tokens::from_tokens::Stop;
+use reading::tokens::list::read_rest;
+use reading::tokens::token::take_begin_array;
 use std::alloc::Global;
-use token_parts::list::{ListOf, single};
-use token_parts::opened::{FromOpened, number_or_array};
 
 /// A position, a list of them, a list of lists, or a list of those.
 #[derive(Drop)]

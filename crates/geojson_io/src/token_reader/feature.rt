@@ -5,7 +5,7 @@ ghost use Rattle.grid.specs.Place.{Transform};
 ghost use Rattle.reading.specs.Plain.{plain};
 ghost use Rattle.serde_json.specs.Data.{Members, no_members, object};
 ghost use Rattle.std.specs.Prelude.{◌≡◌, [], IfOk};
-ghost use Rattle.token_parts.specs.Members.{KnowsId};
+ghost use Rattle.reading.specs.TokenParts.Members.{KnowsId};
 
 use crate::reader::Root;
 use crate::reader::feature::FeatureElement;
@@ -13,16 +13,16 @@ use crate::reader::position::Position;
 use crate::token_reader::geometry::read_geometry;
 use crate::token_reader::kind::take_root;
 use json::Reader;
-use json_tokens::from_tokens::{FromTokens, Stop};
-use json_tokens::object::{TakeMember, read_object};
-use json_tokens::skip::skip_value;
 use reading::info::{Ids, Properties};
+use reading::token_parts::info::props_or_empty;
+use reading::token_parts::part::read_part;
+use reading::tokens::from_tokens::{FromTokens, Stop};
+use reading::tokens::object::{TakeMember, read_object};
+use reading::tokens::skip::skip_value;
 use shapes::feature::Feature;
 use shapes::props::Props;
 use shapes::shape::{Id, Shape};
 use std::alloc::Global;
-use token_parts::info::props_or_empty;
-use token_parts::part::read_part;
 
 /// What is known of the members of a feature other than its type.
 #[derive(Drop)]

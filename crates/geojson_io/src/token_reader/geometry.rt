@@ -1,7 +1,7 @@
 //! Geometries, whose members come in any order.
 ghost use Rattle.geojson_io.specs.Geometries.{geometry_faults, geometry_form};
 ghost use Rattle.geojson_io.specs.TokenMembers.{KnowsKind, KnowsCoordinates};
-ghost use Rattle.json_tokens.specs.Reads.{GivesMembers, Reads};
+ghost use Rattle.reading.specs.Tokens.Reads.{GivesMembers, Reads};
 ghost use Rattle.reading.specs.Parts.{unless_null};
 ghost use Rattle.reading.specs.Plain.{plain_form};
 ghost use Rattle.serde_json.specs.Data.{Members, object};
@@ -12,10 +12,10 @@ use crate::token_reader::coordinates::{Coordinates, read_coordinates};
 use crate::token_reader::kind::take_geometry_type;
 use crate::token_reader::shape::shape_of;
 use json::{Reader, Token};
-use json_tokens::from_tokens::Stop;
-use json_tokens::object::{TakeMember, read_members};
-use json_tokens::skip::skip_value;
 use reading::geometry::GeometryType;
+use reading::tokens::from_tokens::Stop;
+use reading::tokens::object::{TakeMember, read_members};
+use reading::tokens::skip::skip_value;
 use shapes::shape::Shape;
 use std::alloc::Global;
 

@@ -1,14 +1,14 @@
 //! The member `type`.
 ghost use Rattle.geojson_io.specs.Features.{root_named as named_root};
-ghost use Rattle.json_tokens.specs.Reads.{Gives};
+ghost use Rattle.reading.specs.Tokens.Reads.{Gives};
 ghost use Rattle.reading.specs.Types.{geometry_named};
 ghost use Rattle.serde_json.specs.Data.{string};
 ghost use Rattle.std.specs.Prelude.{◌≡◌, ◌<◌, ℕ, List, length, Ok, IfOk, OnOk};
 
 use crate::reader::{Root, root_named};
 use json::{Reader, Token};
-use json_tokens::from_tokens::Stop;
 use reading::geometry::GeometryType;
+use reading::tokens::from_tokens::Stop;
 
 fn take_string<'a>(reader: &mut Reader<'a>) -> Result<&'a str, Stop>
     ensures read { IfOk result (λ s. (depth : ℕ) → Gives depth reader.old (string s.now) reader.new) }
@@ -26,7 +26,7 @@ pub fn take_geometry_type<'a>(reader: &mut Reader<'a>) -> Result<GeometryType, S
     ensures shorter { OnOk result (length reader.new < length reader.old) }
 {
     let text = take_string(reader)?;
-    match GeometryType::named(text) {
+    match GeometryType::from_name(text) {
         Ok(kind) => Ok(kind),
         Err(_) => Err(Stop::Unread),
     }

@@ -11,11 +11,11 @@ use crate::reader::position::Position;
 use grid::pos::Pos;
 use grid::transform::Axis;
 use json::Reader;
-use json_tokens::from_tokens::{FromTokens, Stop};
-use json_tokens::number::whole;
-use json_tokens::token::{take_begin_array, take_end_array, take_number};
+use reading::token_parts::opened::FromOpened;
+use reading::tokens::from_tokens::{FromTokens, Stop};
+use reading::tokens::number::whole;
+use reading::tokens::token::{take_begin_array, take_end_array, take_number};
 use std::alloc::Global;
-use token_parts::opened::FromOpened;
 
 /// The grid number of the number that a text writes.
 #[inline(always)]

@@ -15,13 +15,13 @@ use crate::token_reader::feature::{FeatureParts, feature_of_parts, nothing_known
 use crate::token_reader::kind::take_root;
 use crate::token_reader::shape::shape_of;
 use json::Reader;
-use json_tokens::from_tokens::{FromTokens, Stop};
-use json_tokens::object::{TakeMember, read_object};
-use json_tokens::skip::skip_value;
 use reading::geometry::GeometryType;
+use reading::token_parts::list::{read_list, single};
+use reading::tokens::from_tokens::{FromTokens, Stop};
+use reading::tokens::object::{TakeMember, read_object};
+use reading::tokens::skip::skip_value;
 use shapes::feature::Feature;
 use std::alloc::Global;
-use token_parts::list::{read_list, single};
 
 /// What is known of the members of a collection other than its type.
 #[derive(Drop)]

@@ -7,13 +7,13 @@ ghost use Rattle.std.specs.Prelude.{◌≡◌, [], IfOk, OnOk, ◌++◌, ◌∷�
 
 use crate::token_reader::coordinates::Coordinates;
 use grid::pos::Pos;
-use json_tokens::from_tokens::Stop;
 use lines::items::Items;
 use lines::line::Line;
 use lines::ring::Ring;
 use lines::shape_fault::ShapeFault;
 use reading::geometry::GeometryType;
 use reading::outline::Outline;
+use reading::tokens::from_tokens::Stop;
 use shapes::shape::Shape;
 use std::alloc::Global;
 

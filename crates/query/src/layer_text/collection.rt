@@ -13,10 +13,10 @@ use crate::layer_text::places::{Along, Round};
 use chains::ArcRef;
 use geojson_io::writer::{FeatureOf, Geometry, Places};
 use lines::items::Items;
+use shapes::writing::Lists;
 use sinks::written::{Bracketed, Each, Listed, Notation, Noted, Text, Then, Written};
 use sinks::{Sink, WriteFault};
 use topo::{Body, Geom, Topology};
-use writing::Lists;
 
 /// Used arcs, as lists of the places along them.
 #[derive(Clone, Copy)]

@@ -6,7 +6,7 @@ ghost use Rattle.sinks.specs.Texts.{after_comma, after_commas};
 ghost use Rattle.sinks.specs.Writes.{TookAll, TookPart};
 ghost use Rattle.std.specs.Prelude.{OnErr, OnOk};
 
-use crate::layer_text::steps::{Step, behind, is_step, least_step};
+use crate::layer_text::steps::{GridStep, behind, is_step, least_step};
 use chains::ArcRef;
 use geojson_io::writer::Places;
 use grid::{Grid, Pos};
@@ -41,7 +41,7 @@ fn write_up_to<W: Sink>(
     grid: &Grid,
     mut here: Pos,
     mut walk: Walk,
-    step: Step,
+    step: GridStep,
 ) -> Result<(), WriteFault>
     ensures whole { OnOk result (TookAll (W.seen sink.old) (W.seen sink.new) (after_commas (place_text grid.now) (up_to_from step here walk.entry))) }
     ensures part { OnErr result (TookPart (W.seen sink.old) (W.seen sink.new) (after_commas (place_text grid.now) (up_to_from step here walk.entry))) }
@@ -80,7 +80,7 @@ impl<'a> Written for Along<'a> {
 
 /// The places along used arcs behind a step, each after a comma.
 #[derive(Clone, Copy)]
-struct Behind<'a>(&'a Topology, &'a [ArcRef], Step);
+struct Behind<'a>(&'a Topology, &'a [ArcRef], GridStep);
 
 impl<'a> Written for Behind<'a> {
     ghost text = { λ b. after_commas (place_text b.0.now.grid) (behind_step b.2 (along b.0.now b.1.now)) };
@@ -93,7 +93,7 @@ impl<'a> Written for Behind<'a> {
 
 /// The places along used arcs from the second up to a step, each after a comma.
 #[derive(Clone, Copy)]
-struct UpTo<'a>(&'a Topology, &'a [ArcRef], Step);
+struct UpTo<'a>(&'a Topology, &'a [ArcRef], GridStep);
 
 impl<'a> Written for UpTo<'a> {
     ghost text = { λ u. after_commas (place_text u.0.now.grid) (up_to_step u.2 (along u.0.now u.1.now)) };

@@ -9,41 +9,41 @@ use topo::Walk;
 
 /// A step from a position to the next.
 #[derive(Clone, Copy, PartialEq, Eq, PartialOrd, Ord, Debug)]
-pub(crate) struct Step {
+pub(crate) struct GridStep {
     pub(crate) from: Pos,
     pub(crate) to: Pos,
 }
 
-fn comes_before(a: &Step, b: &Step) -> bool
+fn comes_before(a: &GridStep, b: &GridStep) -> bool
     ensures { result ≡ is_lt (step_cmp a.now b.now) }
 {
     a < b
 }
 
-fn lesser(a: Step, b: Step) -> Step
+fn lesser(a: GridStep, b: GridStep) -> GridStep
     ensures { result ≡ spec.lesser a b }
 {
     if comes_before(&b, &a) { b } else { a }
 }
 
 /// Whether the step goes from one position to another.
-pub(crate) fn is_step(step: Step, from: Pos, to: Pos) -> bool
+pub(crate) fn is_step(step: GridStep, from: Pos, to: Pos) -> bool
     ensures { result ≡ spec.is_step step from to }
 {
     step.from == from && step.to == to
 }
 
 /// The least step of a walk; None where it has none.
-pub(crate) fn least_step(mut walk: Walk) -> Option<Step>
+pub(crate) fn least_step(mut walk: Walk) -> Option<GridStep>
     ensures { result ≡ spec.least_step walk.entry }
 {
     let from = *walk.next()?;
     let mut here = *walk.next()?;
-    let mut least = Step { from, to: here };
+    let mut least = GridStep { from, to: here };
     while let Some(next) = walk.next() {
         least = lesser(
             least,
-            Step {
+            GridStep {
                 from: here,
                 to: *next,
             },
@@ -54,7 +54,7 @@ pub(crate) fn least_step(mut walk: Walk) -> Option<Step>
 }
 
 /// What is left of a walk behind a step.
-pub(crate) fn behind(mut walk: Walk<'_>, step: Step) -> Walk<'_>
+pub(crate) fn behind(mut walk: Walk<'_>, step: GridStep) -> Walk<'_>
     ensures { result ≡ behind_step step walk.entry }
 {
     if let Some(first) = walk.next() {

@@ -1,6 +1,6 @@
 //! Which features of a layer are neighbours: those that share a segment, so an arc.
 ghost use Rattle.query.specs.Neighbors.{ListsNeighbors};
-ghost use Rattle.query.specs.Pairs.{pairs_behind, pairs_among, pair_cmp, with_other, with_others};
+ghost use Rattle.query.specs.Pairs.{ArePairsOf, pairs_behind, pairs_among, pair_cmp, with_other, with_others};
 ghost use Rattle.query.specs.Uses.{geometries_uses, use_cmp};
 ghost use Rattle.query.specs.declared.fault.QueryFault.TheVariants.{NoLayer as MissingLayer};
 ghost use Rattle.shapes.specs.Maps.{features_at};
@@ -17,9 +17,9 @@ use topo::{Geom, Topology};
 
 /// Two places whose features share an arc.
 #[derive(Clone, Copy, PartialEq, Eq, PartialOrd, Ord, Debug)]
-struct Pair {
-    place: usize,
-    other: usize,
+pub(crate) struct IndexPair {
+    pub(crate) place: usize,
+    pub(crate) other: usize,
 }
 
 /// Which features use which arc, place by place.
@@ -40,18 +40,18 @@ fn sort_uses(uses: &mut Vec<Use>)
 }
 
 /// Pairs a use with the others of its arc, which are behind it.
-fn note_pairs(pairs: &mut Vec<Pair>, user: Use, behind: &[Use]) -> Result<(), AllocError>
+fn note_pairs(pairs: &mut Vec<IndexPair>, user: Use, behind: &[Use]) -> Result<(), AllocError>
     ensures { OnOk result (pairs.new.items ≡ pairs.old.items ++ pairs_behind user behind.now) }
 {
     for other in behind {
         if other.arc != user.arc {
             return Ok(());
         }
-        pairs.push(Pair {
+        pairs.push(IndexPair {
             place: user.place,
             other: other.place,
         })?;
-        pairs.push(Pair {
+        pairs.push(IndexPair {
             place: other.place,
             other: user.place,
         })?;
@@ -60,7 +60,7 @@ fn note_pairs(pairs: &mut Vec<Pair>, user: Use, behind: &[Use]) -> Result<(), Al
 }
 
 /// The pairs of places whose features share an arc.
-fn all_pairs(alloc: Global, uses: &[Use]) -> Result<Vec<Pair>, AllocError>
+fn all_pairs(alloc: Global, uses: &[Use]) -> Result<Vec<IndexPair>, AllocError>
     ensures { IfOk result (λ v. v.items ≡ pairs_among uses.now) }
 {
     let mut pairs = Vec::new(alloc);
@@ -73,11 +73,22 @@ fn all_pairs(alloc: Global, uses: &[Use]) -> Result<Vec<Pair>, AllocError>
 }
 
 /// Sorts pairs by places and then by the other places, and keeps each once.
-fn sort_pairs(pairs: &mut Vec<Pair>)
+fn sort_pairs(pairs: &mut Vec<IndexPair>)
     ensures { AreSortedOnce pair_cmp pairs.old.items pairs.new.items }
 {
     pairs.sort_unstable();
     pairs.dedup();
+}
+
+/// The pairs of places of geometries that share an arc, in order, each once.
+pub(crate) fn pairs_of(alloc: Global, geometries: &[Geom]) -> Result<Vec<IndexPair>, AllocError>
+    ensures { IfOk result (λ v. ArePairsOf geometries.now v.items) }
+{
+    let mut uses = all_uses(alloc, geometries)?;
+    sort_uses(&mut uses);
+    let mut pairs = all_pairs(alloc, &uses)?;
+    sort_pairs(&mut pairs);
+    Ok(pairs)
 }
 
 fn empty_lists(alloc: Global, count: usize) -> Result<Vec<Vec<usize>>, AllocError>
@@ -91,7 +102,7 @@ fn empty_lists(alloc: Global, count: usize) -> Result<Vec<Vec<usize>>, AllocErro
 }
 
 /// Puts the other place of a pair at the end of the list of its place.
-fn note_other(lists: &mut Vec<Vec<usize>>, pair: Pair) -> Result<(), AllocError>
+fn note_other(lists: &mut Vec<Vec<usize>>, pair: IndexPair) -> Result<(), AllocError>
     ensures { OnOk result (map_list (λ l. l.items) lists.new.items ≡ with_other (map_list (λ l. l.items) lists.old.items) pair) }
 {
     match lists.get_mut(pair.place) {
@@ -101,7 +112,11 @@ fn note_other(lists: &mut Vec<Vec<usize>>, pair: Pair) -> Result<(), AllocError>
 }
 
 /// For each of so many places the other places of its pairs, in the order of the pairs.
-fn lists_of(alloc: Global, count: usize, pairs: &[Pair]) -> Result<Vec<Vec<usize>>, AllocError>
+pub(crate) fn lists_of(
+    alloc: Global,
+    count: usize,
+    pairs: &[IndexPair],
+) -> Result<Vec<Vec<usize>>, AllocError>
     ensures { IfOk result (λ v. map_list (λ l. l.items) v.items ≡ with_others (replicate count []) pairs.now) }
 {
     let mut lists = empty_lists(alloc, count)?;
@@ -127,9 +142,6 @@ pub fn neighbors(
     let Some(geometries) = topology.geometries(layer) else {
         return Err(QueryFault::NoLayer);
     };
-    let mut uses = all_uses(alloc, geometries)?;
-    sort_uses(&mut uses);
-    let mut pairs = all_pairs(alloc, &uses)?;
-    sort_pairs(&mut pairs);
+    let pairs = pairs_of(alloc, geometries)?;
     Ok(lists_of(alloc, geometries.len(), &pairs)?)
 }

@@ -4,7 +4,7 @@ use crate::tests::texts::{ENDS, FIRST, ON_SCALE_TWO, SECOND, THIRD, THREE};
 use faults::{Fault, FaultKind};
 use grid::transform::Grid;
 use refine::fault::{MergeFault, PlanFault};
-use refine::merge::{merge_texts, merge_topologies};
+use refine::merge::{merge_borrowed_topologies, merge_texts, merge_topologies};
 use refine::shard::Shard;
 use refine::whole::Whole;
 use refine::{Plan, run_plan};
@@ -12,6 +12,7 @@ use shapes::feature_map::FeatureMap;
 use std::alloc::Global;
 use std::process::Abort;
 use std::test::Fail;
+use topo::Topology;
 
 fn texts(alloc: Global, list: &[&str]) -> Result<Vec<Vec<u8>>, Fail> {
     let mut made = Vec::new(alloc);
@@ -19,6 +20,15 @@ fn texts(alloc: Global, list: &[&str]) -> Result<Vec<Vec<u8>>, Fail> {
         made.push(text.as_bytes().to_vec(alloc)?)?;
     }
     Ok(made)
+}
+
+/// The bytes of texts, where they lie.
+fn borrow_bytes<'a>(alloc: Global, list: &[&'a str]) -> Result<Vec<&'a [u8]>, Fail> {
+    let mut borrowed = Vec::new(alloc);
+    for text in list {
+        borrowed.push(text.as_bytes())?;
+    }
+    Ok(borrowed)
 }
 
 /// Merges the texts that a plan names, and compares the merged text.
@@ -34,15 +44,25 @@ fn check_merged(
     Ok(())
 }
 
-/// The text of the topology of all texts of a list; none of no text.
-fn text_of_all(alloc: Global, list: &[&str]) -> Result<Option<Vec<u8>>, Fail> {
-    Ok(match merge_topologies(alloc, texts(alloc, list)?)? {
+fn text_of(alloc: Global, merged: Option<Topology>) -> Result<Option<Vec<u8>>, Fail> {
+    Ok(match merged {
         Some(topology) => Some(topo_io::text_of(alloc, &topology)?),
         None => None,
     })
 }
 
-/// Merges all texts of a list to a topology, and compares its text.
+/// The text of the topology of all texts of a list; none of no text.
+fn text_of_all(alloc: Global, list: &[&str]) -> Result<Option<Vec<u8>>, Fail> {
+    text_of(alloc, merge_topologies(alloc, texts(alloc, list)?)?)
+}
+
+/// The same of borrowed texts.
+fn text_of_borrowed(alloc: Global, list: &[&str]) -> Result<Option<Vec<u8>>, Fail> {
+    let borrowed = borrow_bytes(alloc, list)?;
+    text_of(alloc, merge_borrowed_topologies(alloc, &borrowed)?)
+}
+
+/// Merges all texts of a list to a topology, owned and borrowed, and compares its text.
 fn check_all_merged(
     rt: &impl Abort,
     alloc: Global,
@@ -51,6 +71,8 @@ fn check_all_merged(
 ) -> Result<(), Fail> {
     let text = text_of_all(alloc, list)?.ok_or("no topology")?;
     assert!(rt; text.as_slice() == merged.as_bytes(), "{merged}");
+    let text = text_of_borrowed(alloc, list)?.ok_or("no topology of borrowed texts")?;
+    assert!(rt; text.as_slice() == merged.as_bytes(), "borrowed: {merged}");
     Ok(())
 }
 
@@ -78,6 +100,7 @@ fn all_of_three_squares_in_any_order(rt: HostRuntime) -> Result<(), Fail> {
 #[test]
 fn no_topology_of_no_text(rt: HostRuntime) -> Result<(), Fail> {
     assert!(rt; text_of_all(rt.alloc(), &[])?.is_none());
+    assert!(rt; text_of_borrowed(rt.alloc(), &[])?.is_none());
     Ok(())
 }
 
@@ -189,6 +212,12 @@ fn check_all_refused(rt: &impl Abort, alloc: Global, row: &Refused) -> Result<()
     let expected = Some(fault_of(alloc, row.refusal));
     let fault = merge_topologies(alloc, texts(alloc, row.texts)?).err();
     assert!(rt; fault == expected, "{:?}: topology", row.refusal);
+    let fault = merge_borrowed_topologies(alloc, &borrow_bytes(alloc, row.texts)?).err();
+    assert!(rt;
+        fault == expected,
+        "{:?}: topology of borrowed texts",
+        row.refusal
+    );
     Ok(())
 }
 

@@ -7,7 +7,7 @@ ghost use Rattle.topo_io.specs.Arcs.{known, stitched_list_faults, stitched_of};
 ghost use Rattle.topo_io.specs.Geometries.{body_name as name_of_body, typed_faults_of, feature_of, text_or_null as text_or_null_of, type_or_null as type_text_or_null, geometry_type as type_of_geometry, geometry_faults, geometry_feature};
 ghost use Rattle.topo_io.specs.Limits.{position_faults, position_of};
 
-use crate::reader::position::{Limits, Position};
+use crate::reader::position::{DeltaPosition, Limits};
 use crate::reader::stitching::{IndexOf, stitch};
 use faults::fault::{Fault, FaultKind};
 use grid::pos::Pos;
@@ -19,7 +19,7 @@ use serde_json::Value;
 use shapes::feature::Feature;
 use shapes::shape::Shape;
 use std::alloc::Global;
-use taking::TextArcs;
+use validate::accept::TextArcs;
 
 fn text_or_null(value: &Value) -> Result<Option<&str>, FaultKind>
     ensures ok { IfOk result (λ s. text_or_null_of (view value.now) ≡ Ok (option_map (λ t. t.now) s)) }
@@ -61,7 +61,7 @@ impl Positions for &Ground<'_> {
 
     fn read_position(&self, alloc: Global, value: &Value) -> Result<Pos, Fault> {
         let limits = self.limits;
-        Position { limits }.read(alloc, value)
+        DeltaPosition { limits }.read(alloc, value)
     }
 
     fn read_positions(&self, alloc: Global, value: &Value) -> Result<Vec<Pos>, Fault> {
@@ -112,7 +112,7 @@ pub(crate) fn geometry_type(value: &Value) -> Result<Option<GeometryType>, Fault
 {
     match type_or_null(value) {
         Ok(None) => Ok(None),
-        Ok(Some(text)) => match GeometryType::named(text) {
+        Ok(Some(text)) => match GeometryType::from_name(text) {
             Ok(kind) => Ok(Some(kind)),
             Err(fault) => Err(fault),
         },

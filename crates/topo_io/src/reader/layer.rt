@@ -23,7 +23,7 @@ fn layer_named(text: &str) -> Result<LayerType, FaultKind>
     if text == "GeometryCollection" {
         return Ok(LayerType::Collection);
     }
-    match GeometryType::named(text) {
+    match GeometryType::from_name(text) {
         Ok(kind) => Ok(LayerType::Geometry(Some(kind))),
         Err(fault) => Err(fault),
     }

@@ -21,7 +21,7 @@ const LEAST_DIFFERENCE: i64 = LEAST_GRID_NUMBER - GREATEST_GRID_NUMBER;
 
 /// Whether a number is within the limits of grid numbers and, where the transform has no fault, of
 /// absolute numbers.
-fn is_allowed(axis: &Option<Axis>, n: i64) -> bool
+pub(crate) fn is_allowed(axis: &Option<Axis>, n: i64) -> bool
     ensures { result ≡ allows axis.now n }
 {
     match axis {
@@ -53,13 +53,13 @@ fn sum_within(alloc: Global, axis: &Option<Axis>, from: i64, a: i64) -> Result<i
 
 /// A difference from a grid number, as a part of a position.
 #[derive(Clone, Copy)]
-pub struct Difference {
+pub struct DeltaNumber {
     pub axis: Option<Axis>,
     pub from: i64,
     pub ghost inside: { IsGridNumber from } by { IsGridNumber-prop from },
 }
 
-impl Part for Difference {
+impl Part for DeltaNumber {
     type Made = i64;
 
     ghost faults = { λ p. difference_faults p.axis (Some p.from) };

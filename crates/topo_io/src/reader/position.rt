@@ -4,7 +4,7 @@ ghost use Rattle.serde_json.specs.View.{view};
 ghost use Rattle.std.specs.Prelude.{◌≡◌, [], IfOk, IfErr, OnOk, pos, Some, None};
 ghost use Rattle.topo_io.specs.Limits.{step_faults, next_sums, sums_at, position_faults, position_of};
 
-use crate::reader::limit::Difference;
+use crate::reader::limit::DeltaNumber;
 use faults::fault::Fault;
 use grid::pos::Pos;
 use grid::transform::{Axis, Grid};
@@ -47,11 +47,11 @@ pub fn read_from(alloc: Global, limits: &Limits, from: &Pos, value: &Value) -> R
     ensures made { IfOk result (λ p. next_sums (sums_at from.now.x from.now.y) (view value.now) ≡ sums_at p.x p.y) }
     ensures err { IfErr result (λ f. LeastOrWant (step_faults limits.now (sums_at from.now.x from.now.y) (view value.now)) f) }
 {
-    let x = Difference {
+    let x = DeltaNumber {
         axis: limits.x,
         from: from.x(),
     };
-    let y = Difference {
+    let y = DeltaNumber {
         axis: limits.y,
         from: from.y(),
     };
@@ -75,11 +75,11 @@ pub fn origin() -> Pos
 
 /// A position of grid numbers.
 #[derive(Clone, Copy)]
-pub struct Position {
+pub struct DeltaPosition {
     pub limits: Limits,
 }
 
-impl Part for Position {
+impl Part for DeltaPosition {
     type Made = Pos;
 
     ghost faults = { λ p. position_faults p.limits };

@@ -15,11 +15,11 @@ use chains::ArcRef;
 use faults::fault::{Fault, FaultKind};
 use grid::pos::Pos;
 use reading::number::whole_number;
-use reading::outline::{Outline, outlined};
+use reading::outline::{Outline, read_outline};
 use reading::part::{Part, keep};
 use serde_json::Value;
 use std::alloc::Global;
-use taking::TextArcs;
+use validate::accept::TextArcs;
 
 /// An index of one of the arcs.
 #[derive(Clone, Copy)]
@@ -28,7 +28,7 @@ pub struct IndexOf<'a> {
 }
 
 #[tactic(auto, using(crate::proofs::Indexes::number_of_index, crate::proofs::Indexes::along_index))]
-pub(crate) fn used(alloc: Global, count: usize, index: i64) -> Result<ArcRef, Fault>
+pub(crate) fn read_used_arc(alloc: Global, count: usize, index: i64) -> Result<ArcRef, Fault>
     ensures ok { OnOk result (no_arc_faults count index ≡ []) }
     ensures index { IfOk result (λ u. index_of u ≡ index) }
     ensures made { IfOk result (λ u. (arcs : List (List Pos)) → along arcs u ≡ used_arc arcs index) }
@@ -51,7 +51,7 @@ impl Part for IndexOf<'_> {
 
     fn read(&self, alloc: Global, value: &Value) -> Result<ArcRef, Fault> {
         match whole_number(value) {
-            Ok(index) => used(alloc, self.arcs.len(), index),
+            Ok(index) => read_used_arc(alloc, self.arcs.len(), index),
             Err(kind) => Err(Fault::here(alloc, kind)),
         }
     }
@@ -181,5 +181,5 @@ pub(crate) fn stitched_to<O: Outline>(
     ensures err { IfErr result (λ f. LeastOrWant (stitched_faults (λ ps. outline_faults (O.fault ps)) (stitched (map (along arcs.now) used.now))) f) }
 {
     let positions = stitch(alloc, arcs, used)?;
-    outlined(alloc, positions)
+    read_outline(alloc, positions)
 }

@@ -17,12 +17,12 @@ use std::alloc::Global;
 
 /// A whole number within limits.
 #[derive(Clone, Copy)]
-struct Within {
-    least: i64,
-    greatest: i64,
+pub(crate) struct Within {
+    pub least: i64,
+    pub greatest: i64,
 }
 
-fn judged(alloc: Global, least: i64, greatest: i64, a: i64) -> Result<i64, Fault>
+fn check_range(alloc: Global, least: i64, greatest: i64, a: i64) -> Result<i64, Fault>
     ensures ok { OnOk result (within_faults least greatest a ≡ []) }
     ensures made { IfOk result (λ n. n ≡ a) }
     ensures low { IfOk result (λ n. least ≤ℤ n) }
@@ -47,7 +47,7 @@ impl Part for Within {
 
     fn read(&self, alloc: Global, value: &Value) -> Result<i64, Fault> {
         match whole_number(value) {
-            Ok(a) => judged(alloc, self.least, self.greatest, a),
+            Ok(a) => check_range(alloc, self.least, self.greatest, a),
             Err(kind) => Err(Fault::here(alloc, kind)),
         }
     }
@@ -55,8 +55,8 @@ impl Part for Within {
 
 /// A pair of such numbers, for x and y.
 #[derive(Clone, Copy)]
-struct Both {
-    of: Within,
+pub(crate) struct Both {
+    pub of: Within,
 }
 
 impl Part for Both {

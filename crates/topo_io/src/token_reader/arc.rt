@@ -1,7 +1,7 @@
 //! Arcs: a first position and differences, of which the sums are grid numbers.
 ghost use Rattle.grid.specs.Computed.{is_grid_number};
 ghost use Rattle.grid.specs.Place.{IsGridNumber};
-ghost use Rattle.json_tokens.specs.Reads.{Reads};
+ghost use Rattle.reading.specs.Tokens.Reads.{Reads};
 ghost use Rattle.topo_io.specs.TokenArcs.{ReadsSteps};
 ghost use Rattle.serde_json.specs.Find.{as_i64, of_integer};
 ghost use Rattle.serde_json.specs.Read.{number_of};
@@ -13,10 +13,10 @@ use crate::reader::position::origin;
 use grid::limits::{GREATEST_GRID_NUMBER, LEAST_GRID_NUMBER};
 use grid::pos::Pos;
 use json::Reader;
-use json_tokens::from_tokens::{FromTokens, Stop};
-use json_tokens::number::whole;
-use json_tokens::token::{take_begin_array, take_end_array, take_number};
 use lines::items::Items;
+use reading::tokens::from_tokens::{FromTokens, Stop};
+use reading::tokens::number::whole;
+use reading::tokens::token::{take_begin_array, take_end_array, take_number};
 use std::alloc::Global;
 
 /// The sum of a grid number and the number that a text writes, where it is a grid number.

@@ -4,23 +4,23 @@ ghost use Rattle.serde_json.specs.Data.{Data};
 ghost use Rattle.std.specs.Prelude.{◌≡◌, codes, IfOk};
 ghost use Rattle.topo_io.specs.Geometries.{body_name};
 
-use crate::token_reader::lists::{ArcLists, Coordinates};
-use json_tokens::from_tokens::Stop;
+use crate::token_reader::lists::{ArcRefLists, PlacedCoordinates};
 use lines::items::Items;
 use reading::geometry::GeometryType;
+use reading::tokens::from_tokens::Stop;
 use std::alloc::Global;
 use topo::Body;
 
 /// The body that coordinates mean in a geometry of that type.
-pub fn body_of_coordinates(kind: GeometryType, coordinates: Coordinates) -> Result<Body, Stop>
+pub fn body_of_coordinates(kind: GeometryType, coordinates: PlacedCoordinates) -> Result<Body, Stop>
     ensures { IfOk result (λ b. (body_name kind ≡ codes "coordinates") × ((d : Data) → IsCoordinates d coordinates → BodyMeans kind d b)) }
 {
     match coordinates {
-        Coordinates::One(place) => match kind {
+        PlacedCoordinates::One(place) => match kind {
             GeometryType::Point => Ok(Body::Point(place)),
             _ => Err(Stop::Unread),
         },
-        Coordinates::Many(places) => match kind {
+        PlacedCoordinates::Many(places) => match kind {
             GeometryType::MultiPoint => Ok(Body::MultiPoint(places)),
             _ => Err(Stop::Unread),
         },
@@ -29,7 +29,7 @@ pub fn body_of_coordinates(kind: GeometryType, coordinates: Coordinates) -> Resu
 
 /// The body that an empty list means in a geometry of that type.
 fn body_of_none(alloc: Global, kind: GeometryType) -> Result<Body, Stop>
-    ensures { IfOk result (λ b. (body_name kind ≡ codes "arcs") × ((d : Data) → AreLists d ArcLists.Empty → BodyMeans kind d b)) }
+    ensures { IfOk result (λ b. (body_name kind ≡ codes "arcs") × ((d : Data) → AreLists d ArcRefLists.Empty → BodyMeans kind d b)) }
 {
     match kind {
         GeometryType::LineString => Ok(Body::Line(Items::from_vec(Vec::new(alloc)))),
@@ -41,21 +41,21 @@ fn body_of_none(alloc: Global, kind: GeometryType) -> Result<Body, Stop>
 }
 
 /// The body that lists of arcs mean in a geometry of that type.
-pub fn body_of_lists(alloc: Global, kind: GeometryType, lists: ArcLists) -> Result<Body, Stop>
+pub fn body_of_lists(alloc: Global, kind: GeometryType, lists: ArcRefLists) -> Result<Body, Stop>
     ensures { IfOk result (λ b. (body_name kind ≡ codes "arcs") × ((d : Data) → AreLists d lists → BodyMeans kind d b)) }
 {
     match lists {
-        ArcLists::Empty => body_of_none(alloc, kind),
-        ArcLists::List(list) => match kind {
+        ArcRefLists::Empty => body_of_none(alloc, kind),
+        ArcRefLists::List(list) => match kind {
             GeometryType::LineString => Ok(Body::Line(list)),
             _ => Err(Stop::Unread),
         },
-        ArcLists::Lists(lists) => match kind {
+        ArcRefLists::Lists(lists) => match kind {
             GeometryType::MultiLineString => Ok(Body::MultiLine(lists)),
             GeometryType::Polygon => Ok(Body::Polygon(lists)),
             _ => Err(Stop::Unread),
         },
-        ArcLists::Groups(groups) => match kind {
+        ArcRefLists::Groups(groups) => match kind {
             GeometryType::MultiPolygon => Ok(Body::MultiPolygon(groups)),
             _ => Err(Stop::Unread),
         },

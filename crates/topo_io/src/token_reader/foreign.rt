@@ -1,16 +1,16 @@
 //! Members of a geometry that its type has no use for: coordinates of lines, and lists of arcs of points.
-ghost use Rattle.json_tokens.specs.Reads.{Gives};
+ghost use Rattle.reading.specs.Tokens.Reads.{Gives};
 ghost use Rattle.serde_json.specs.Data.{Data};
 ghost use Rattle.std.specs.Prelude.{IfOk};
 ghost use Rattle.topo_io.specs.TokenLater.{IsCoordinates, AreLists};
 ghost use Rattle.topo_io.specs.TokenMembers.{IsIfKept};
 
 use crate::reader::layer_type::LayerType;
-use crate::token_reader::lists::{ArcLists, Coordinates, read_coordinates, read_lists};
+use crate::token_reader::lists::{ArcRefLists, PlacedCoordinates, read_coordinates, read_lists};
 use json::Reader;
-use json_tokens::from_tokens::Stop;
-use json_tokens::skip::skip_value;
 use reading::geometry::GeometryType;
+use reading::tokens::from_tokens::Stop;
+use reading::tokens::skip::skip_value;
 use std::alloc::Global;
 
 /// Whether a geometry of that type has coordinates, else it has lists of arcs.
@@ -42,7 +42,7 @@ pub fn coordinates_unless_foreign<'a>(
     kind: Option<LayerType>,
     reader: &mut Reader<'a>,
     depth: usize,
-) -> Result<Option<Coordinates>, Stop>
+) -> Result<Option<PlacedCoordinates>, Stop>
     ensures { IfOk result (λ o. (d : Data) × Gives depth reader.old d reader.new × IsIfKept IsCoordinates d o) }
 {
     if may_have_coordinates(kind) {
@@ -59,7 +59,7 @@ pub fn lists_unless_foreign<'a>(
     kind: Option<LayerType>,
     reader: &mut Reader<'a>,
     depth: usize,
-) -> Result<Option<ArcLists>, Stop>
+) -> Result<Option<ArcRefLists>, Stop>
     ensures { IfOk result (λ o. (d : Data) × Gives depth reader.old d reader.new × IsIfKept AreLists d o) }
 {
     if may_have_lists(kind) {

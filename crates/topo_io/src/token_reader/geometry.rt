@@ -1,6 +1,6 @@
 //! Geometries, whose members come in any order.
-ghost use Rattle.token_parts.specs.Members.{KnowsId, KnowsProps};
-ghost use Rattle.json_tokens.specs.Reads.{Gives, Reads};
+ghost use Rattle.reading.specs.TokenParts.Members.{KnowsId, KnowsProps};
+ghost use Rattle.reading.specs.Tokens.Reads.{Gives, Reads};
 ghost use Rattle.topo_io.specs.TokenMembers.{no_faults, IsType, KnowsType, KnowsCoordinates, KnowsLists, KnowsGeom, ShapeMeans, GeomMeans, GeometryMeans};
 ghost use Rattle.reading.specs.Info.{properties_of, member_or_null};
 ghost use Rattle.serde_json.specs.Data.{Data, Members, object, string};
@@ -12,18 +12,18 @@ use crate::token_reader::body::{body_of_coordinates, body_of_lists};
 use crate::token_reader::foreign::{
     coordinates_unless_foreign, has_coordinates, lists_unless_foreign,
 };
-use crate::token_reader::lists::{ArcLists, Coordinates};
+use crate::token_reader::lists::{ArcRefLists, PlacedCoordinates};
 use json::{Reader, Token};
-use json_tokens::from_tokens::{FromTokens, Stop};
-use json_tokens::object::{TakeMember, read_object};
-use json_tokens::skip::skip_value;
 use reading::geometry::GeometryType;
 use reading::info::{Ids, Properties};
+use reading::token_parts::info::props_or_empty;
+use reading::token_parts::part::read_part;
+use reading::tokens::from_tokens::{FromTokens, Stop};
+use reading::tokens::object::{TakeMember, read_object};
+use reading::tokens::skip::skip_value;
 use shapes::props::Props;
 use shapes::shape::Id;
 use std::alloc::Global;
-use token_parts::info::props_or_empty;
-use token_parts::part::read_part;
 use topo::{Body, Geom};
 
 /// What is known of a geometry's members.
@@ -31,9 +31,9 @@ use topo::{Body, Geom};
 pub struct GeomMembers {
     pub kind: Option<LayerType>,
     /// None where there are none, or the last were foreign.
-    pub coordinates: Option<Coordinates>,
+    pub coordinates: Option<PlacedCoordinates>,
     /// None where there are none, or the last were foreign.
-    pub lists: Option<ArcLists>,
+    pub lists: Option<ArcRefLists>,
     pub id: Option<Id>,
     pub props: Option<Props>,
 }
@@ -57,7 +57,7 @@ fn kind_named(text: &str) -> Result<LayerType, Stop>
     if text == "GeometryCollection" {
         return Ok(LayerType::Collection);
     }
-    match GeometryType::named(text) {
+    match GeometryType::from_name(text) {
         Ok(kind) => Ok(LayerType::Geometry(Some(kind))),
         Err(_) => Err(Stop::Unread),
     }
@@ -124,8 +124,8 @@ impl TakeMember for GeomMembers {
 fn body_of(
     alloc: Global,
     kind: Option<GeometryType>,
-    coordinates: Option<Coordinates>,
-    lists: Option<ArcLists>,
+    coordinates: Option<PlacedCoordinates>,
+    lists: Option<ArcRefLists>,
 ) -> Result<Body, Stop>
     ensures { IfOk result (λ b. (ms : Members) → KnowsCoordinates coordinates ms → KnowsLists lists ms → ShapeMeans kind (object ms) b) }
 {
@@ -168,9 +168,9 @@ pub fn geom_of(
 
 /// A geometry of a collection.
 #[derive(Clone, Copy)]
-pub struct Geometry;
+pub struct GeometryObject;
 
-impl FromTokens for Geometry {
+impl FromTokens for GeometryObject {
     type Made = Geom;
 
     ghost faults = { λ p. no_faults };

@@ -4,12 +4,12 @@ ghost use Rattle.serde_json.specs.Data.{Members, object};
 ghost use Rattle.std.specs.Prelude.{◌≡◌, ◌∷◌, [], IfOk};
 
 use crate::reader::layer_type::LayerType;
-use crate::token_reader::geometry::{GeomMembers, Geometry, geom_of, no_members};
+use crate::token_reader::geometry::{GeomMembers, GeometryObject, geom_of, no_members};
 use json::Reader;
-use json_tokens::from_tokens::{FromTokens, Stop};
-use json_tokens::object::{TakeMember, read_object};
+use reading::token_parts::list::{read_list, single};
+use reading::tokens::from_tokens::{FromTokens, Stop};
+use reading::tokens::object::{TakeMember, read_object};
 use std::alloc::Global;
-use token_parts::list::{read_list, single};
 use topo::Geom;
 
 /// What is known of a layer's members.
@@ -33,7 +33,7 @@ impl TakeMember for LayerMembers {
         depth: usize,
     ) -> Result<(), Stop> {
         if name == "geometries" {
-            let geoms = read_list(alloc, &Geometry, reader, depth)?;
+            let geoms = read_list(alloc, &GeometryObject, reader, depth)?;
             self.geoms = Some(geoms);
             return Ok(());
         }

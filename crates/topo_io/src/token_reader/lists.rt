@@ -1,32 +1,32 @@
 //! Coordinates and lists of arcs by how deep their brackets nest, whatever the type beside them.
 ghost use Rattle.json.specs.Token as spec;
-ghost use Rattle.json_tokens.specs.Reads.{Reads};
+ghost use Rattle.reading.specs.Tokens.Reads.{Reads};
 ghost use Rattle.topo_io.specs.TokenLater.{loose_coordinates_faults, CoordinatesMean, loose_lists_faults, ListsMean};
 ghost use Rattle.std.specs.Prelude.{◌∷◌, IfOk};
 
-use crate::token_reader::position::{GridPosition, Index};
+use crate::token_reader::position::{ArcIndex, GridPosition};
 use chains::ArcRef;
 use grid::pos::Pos;
 use json::Reader;
-use json_tokens::from_tokens::Stop;
-use json_tokens::list::read_rest;
-use json_tokens::token::take_begin_array;
 use lines::items::Items;
+use reading::token_parts::items::ItemsOf;
+use reading::token_parts::list::single;
+use reading::token_parts::opened::{FromOpened, number_or_array};
+use reading::tokens::from_tokens::Stop;
+use reading::tokens::list::read_rest;
+use reading::tokens::token::take_begin_array;
 use std::alloc::Global;
-use token_parts::items::ItemsOf;
-use token_parts::list::single;
-use token_parts::opened::{FromOpened, number_or_array};
 
 /// A position, or a list of them.
 #[derive(Drop)]
-pub enum Coordinates {
+pub enum PlacedCoordinates {
     One(Pos),
     Many(Items<Pos>),
 }
 
 /// A list of used arcs, a list of lists, or a list of those.
 #[derive(Drop)]
-pub enum ArcLists {
+pub enum ArcRefLists {
     /// A list of nothing, of whatever.
     Empty,
     List(Items<ArcRef>),
@@ -39,19 +39,19 @@ pub fn read_coordinates<'a>(
     alloc: Global,
     reader: &mut Reader<'a>,
     depth: usize,
-) -> Result<Coordinates, Stop>
+) -> Result<PlacedCoordinates, Stop>
     ensures { IfOk result (λ n. Reads (loose_coordinates_faults n) CoordinatesMean depth reader.old reader.new n) }
 {
     let many = ItemsOf { of: GridPosition };
     take_begin_array(reader, depth)?;
     if reader.take_end_array() {
-        return Ok(Coordinates::Many(Items::from_vec(Vec::new(alloc))));
+        return Ok(PlacedCoordinates::Many(Items::from_vec(Vec::new(alloc))));
     }
     if let Some(x) = number_or_array(reader)? {
-        return Ok(Coordinates::One(GridPosition.read_opened(alloc, x, reader, depth)?));
+        return Ok(PlacedCoordinates::One(GridPosition.read_opened(alloc, x, reader, depth)?));
     }
     if let Some(x) = number_or_array(reader)? {
-        return Ok(Coordinates::Many(many.read_opened(alloc, x, reader, depth)?));
+        return Ok(PlacedCoordinates::Many(many.read_opened(alloc, x, reader, depth)?));
     }
     Err(Stop::Unread)
 }
@@ -61,18 +61,18 @@ fn read_behind_empty<'a>(
     alloc: Global,
     reader: &mut Reader<'a>,
     depth: usize,
-) -> Result<ArcLists, Stop>
+) -> Result<ArcRefLists, Stop>
     ensures { IfOk result (λ n. Reads (loose_lists_faults n) ListsMean depth (spec.begin_array ∷ spec.begin_array ∷ spec.end_array ∷ reader.old) reader.new n) }
 {
     if depth < 2 {
         return Err(Stop::Unread);
     }
     let polygon = ItemsOf {
-        of: ItemsOf { of: Index },
+        of: ItemsOf { of: ArcIndex },
     };
     let begun = single(alloc, Items::from_vec(Vec::new(alloc)))?;
     let groups = read_rest(alloc, &polygon, reader, depth - 1, begun)?;
-    Ok(ArcLists::Groups(Items::from_vec(groups)))
+    Ok(ArcRefLists::Groups(Items::from_vec(groups)))
 }
 
 /// The lists of arcs that come next.
@@ -80,27 +80,27 @@ pub fn read_lists<'a>(
     alloc: Global,
     reader: &mut Reader<'a>,
     depth: usize,
-) -> Result<ArcLists, Stop>
+) -> Result<ArcRefLists, Stop>
     ensures { IfOk result (λ n. Reads (loose_lists_faults n) ListsMean depth reader.old reader.new n) }
 {
-    let list = ItemsOf { of: Index };
+    let list = ItemsOf { of: ArcIndex };
     let lists = ItemsOf { of: list };
     let groups = ItemsOf { of: lists };
     take_begin_array(reader, depth)?;
     if reader.take_end_array() {
-        return Ok(ArcLists::Empty);
+        return Ok(ArcRefLists::Empty);
     }
     if let Some(x) = number_or_array(reader)? {
-        return Ok(ArcLists::List(list.read_opened(alloc, x, reader, depth)?));
+        return Ok(ArcRefLists::List(list.read_opened(alloc, x, reader, depth)?));
     }
     if reader.take_end_array() {
         return read_behind_empty(alloc, reader, depth);
     }
     if let Some(x) = number_or_array(reader)? {
-        return Ok(ArcLists::Lists(lists.read_opened(alloc, x, reader, depth)?));
+        return Ok(ArcRefLists::Lists(lists.read_opened(alloc, x, reader, depth)?));
     }
     if let Some(x) = number_or_array(reader)? {
-        return Ok(ArcLists::Groups(groups.read_opened(alloc, x, reader, depth)?));
+        return Ok(ArcRefLists::Groups(groups.read_opened(alloc, x, reader, depth)?));
     }
     Err(Stop::Unread)
 }

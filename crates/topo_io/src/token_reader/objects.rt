@@ -1,5 +1,5 @@
 //! The layers of a topology, put into the order of their names.
-ghost use Rattle.json_tokens.specs.Reads.{Reads};
+ghost use Rattle.reading.specs.Tokens.Reads.{Reads};
 ghost use Rattle.topo_io.specs.TokenLayers.{LayersMean, ObjectsMean, IsBefore, IsAfter, Ascending, IsPlace, BeginsWith, HasRoom};
 ghost use Rattle.topo_io.specs.TokenMembers.{no_faults};
 ghost use Rattle.shapes.specs.Parts.{spelled_text};
@@ -9,8 +9,8 @@ ghost use Rattle.theory.specs.Lists.{Distinct};
 
 use crate::token_reader::layer::LayerOf;
 use json::Reader;
-use json_tokens::from_tokens::{FromTokens, Stop};
-use json_tokens::object::{TakeMember, read_object};
+use reading::tokens::from_tokens::{FromTokens, Stop};
+use reading::tokens::object::{TakeMember, read_object};
 use shapes::spelled::Spelled;
 use std::alloc::Global;
 use std::cmp::Ordering;

@@ -1,7 +1,7 @@
 //! Positions of grid numbers, and indexes of arcs, whatever the grid and the number of the arcs.
 ghost use Rattle.grid.specs.Place.{IsGridNumber};
 ghost use Rattle.json.specs.Token as spec;
-ghost use Rattle.json_tokens.specs.Reads.{Reads};
+ghost use Rattle.reading.specs.Tokens.Reads.{Reads};
 ghost use Rattle.topo_io.specs.TokenLater.{any_index_faults};
 ghost use Rattle.reading.specs.Numbers.{whole_of};
 ghost use Rattle.serde_json.specs.Find.{as_i64, of_integer};
@@ -16,11 +16,11 @@ use crate::token_reader::arc::{next_number, read_step};
 use chains::ArcRef;
 use grid::pos::Pos;
 use json::Reader;
-use json_tokens::from_tokens::{FromTokens, Stop};
-use json_tokens::number::whole;
-use json_tokens::token::{take_end_array, take_number};
+use reading::token_parts::opened::FromOpened;
+use reading::tokens::from_tokens::{FromTokens, Stop};
+use reading::tokens::number::whole;
+use reading::tokens::token::{take_end_array, take_number};
 use std::alloc::Global;
-use token_parts::opened::FromOpened;
 
 /// The position of a pair of differences, of which the bracket and the first number are behind.
 #[inline(always)]
@@ -90,9 +90,9 @@ fn arc_of_index(text: &str) -> Result<ArcRef, Stop>
 
 /// An index of an arc.
 #[derive(Clone, Copy)]
-pub struct Index;
+pub struct ArcIndex;
 
-impl FromTokens for Index {
+impl FromTokens for ArcIndex {
     type Made = ArcRef;
 
     ghost faults = { λ p. any_index_faults };
@@ -111,7 +111,7 @@ impl FromTokens for Index {
     }
 }
 
-impl FromOpened for Index {
+impl FromOpened for ArcIndex {
     ghost opening = { λ p ts. ts };
 
     #[inline(always)]

@@ -13,25 +13,25 @@ use crate::token_reader::within::each_within;
 use grid::pos::Pos;
 use grid::transform::Grid;
 use json::Reader;
-use json_tokens::from_tokens::{FromTokens, Stop};
-use json_tokens::object::{TakeMember, read_object};
-use json_tokens::skip::skip_value;
 use lines::items::Items;
+use reading::token_parts::list::read_list;
+use reading::token_parts::text::take_text;
+use reading::tokens::from_tokens::{FromTokens, Stop};
+use reading::tokens::object::{TakeMember, read_object};
+use reading::tokens::skip::skip_value;
 use std::alloc::Global;
-use token_parts::list::read_list;
-use token_parts::text::take_text;
 use topo::Layer;
 
 /// What is known of a topology's members.
 #[derive(Drop)]
-pub struct RootMembers {
+pub struct TopologyMembers {
     pub kind: Option<bool>,
     pub grid: Option<Grid>,
     pub arcs: Option<Vec<Items<Pos>>>,
     pub layers: Option<Vec<Layer>>,
 }
 
-impl TakeMember for RootMembers {
+impl TakeMember for TopologyMembers {
     type On = ();
 
     ghost knows = { λ on m ms. KnowsRoot m.kind m.grid m.arcs m.layers ms };
@@ -88,10 +88,10 @@ fn parts_within_bounds(
     Ok(TextParts { grid, arcs, layers })
 }
 
-fn parts_of(members: RootMembers) -> Result<TextParts, Stop>
+fn parts_of(members: TopologyMembers) -> Result<TextParts, Stop>
     ensures { IfOk result (λ p. (ms : Members) → KnowsRoot members.kind members.grid members.arcs members.layers ms → RootMeans (object ms) p) }
 {
-    let RootMembers {
+    let TopologyMembers {
         kind,
         grid,
         arcs,
@@ -114,9 +114,9 @@ fn parts_of(members: RootMembers) -> Result<TextParts, Stop>
 
 /// A topology.
 #[derive(Clone, Copy)]
-pub struct Root;
+pub struct TopologyRoot;
 
-impl FromTokens for Root {
+impl FromTokens for TopologyRoot {
     type Made = TextParts;
 
     ghost faults = { λ p. no_faults };
@@ -129,7 +129,7 @@ impl FromTokens for Root {
         reader: &mut Reader<'a>,
         depth: usize,
     ) -> Result<TextParts, Stop> {
-        let mut members = RootMembers {
+        let mut members = TopologyMembers {
             kind: None,
             grid: None,
             arcs: None,

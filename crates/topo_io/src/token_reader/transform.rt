@@ -1,13 +1,13 @@
 //! Transforms, by way of a value.
-ghost use Rattle.json_tokens.specs.Reads.{Reads};
+ghost use Rattle.reading.specs.Tokens.Reads.{Reads};
 ghost use Rattle.std.specs.Prelude.{◌≡◌, ◌<◌, length, IfOk, OnOk};
 ghost use Rattle.topo_io.specs.Roots.{transform_faults, transform_of};
 
 use crate::reader::transform::read_transform as read_value;
 use grid::transform::Grid;
 use json::Reader;
-use json_tokens::from_tokens::Stop;
-use json_tokens::value::make_value;
+use reading::tokens::from_tokens::Stop;
+use reading::tokens::value::make_value;
 use std::alloc::Global;
 
 /// The grid of the transform that comes next.

@@ -1,100 +1,90 @@
 //! Geometries of a topology, validated (TopoJSON, section 2.2).
-ghost use Rattle.reading.specs.Fault.{LeastOrWant};
+ghost use Rattle.reading.specs.FaultLists.Found.{AreFound, pairs_of};
 ghost use Rattle.serde_json.specs.View.{view};
-ghost use Rattle.std.specs.Prelude.{◌≡◌, [], IfErr, OnOk};
-ghost use Rattle.topo_io.specs.Arcs.{known};
+ghost use Rattle.std.specs.Prelude.{IfOk};
 ghost use Rattle.topo_io.specs.Geometries.{body_faults, shape_faults, typed_faults_of, geometry_faults};
+ghost use Rattle.topo_io.specs.Named.{named};
 
 use crate::reader::geometry::{body_name, geometry_type};
-use crate::reader::position::Position;
-use crate::validity::list::{Known, ListOf, OutlineType};
+use crate::reader::position::DeltaPosition;
+use crate::validity::list::{Known, ListIn, OutlineType};
+use faults::OutOfMemory;
 use faults::fault::{Fault, FaultKind};
+use reading::fault_lists::found::{Wanted, is_enough, join, one};
+use reading::fault_lists::info::judge_info;
+use reading::fault_lists::judge::Judge;
+use reading::fault_lists::members::judge_member;
+use reading::fault_lists::shape::{ShapeParts, judge_shape};
+use reading::fault_lists::types::type_fault;
 use reading::geometry::GeometryType;
-use reading::info::read_info;
-use reading::part::{Listed, Part, read_member, type_fault};
 use serde_json::Value;
 use std::alloc::Global;
 
-/// Validates a part, of which nothing is kept.
-fn judge_part<P: Part>(alloc: Global, part: &P, value: &Value) -> Result<(), Fault>
-    ensures ok { OnOk result (P.faults part.now (view value.now) ≡ []) }
-    ensures err { IfErr result (λ f. LeastOrWant (P.faults part.now (view value.now)) f) }
-{
-    match part.read(alloc, value) {
-        Ok(_) => Ok(()),
-        Err(fault) => Err(fault),
-    }
-}
-
 /// The body of a geometry of that type.
 #[derive(Clone, Copy)]
-struct BodyOf<'g, 'a> {
+struct BodyIn<'g, 'a> {
     on: &'g Known<'a>,
     kind: GeometryType,
 }
 
-impl Part for BodyOf<'_, '_> {
-    type Made = ();
+impl Judge for BodyIn<'_, '_> {
+    ghost faults = { λ p. body_faults p.on.now.limits (named p.on.now.arcs) p.kind };
 
-    ghost faults = { λ p. body_faults p.on.now.limits (known p.on.now.lists.now.arcs.now) p.kind };
-
-    ghost means = { λ p d u. Unit {0} };
-
-    fn read(&self, alloc: Global, value: &Value) -> Result<(), Fault> {
+    #[tactic(auto, using(reading::proofs::FaultListsLemmas::Wholes::found_leaf))]
+    fn judge(
+        &self,
+        alloc: Global,
+        wanted: Wanted,
+        value: &Value,
+    ) -> Result<Vec<Fault>, OutOfMemory> {
         let on = self.on;
-        let of = Position { limits: on.limits };
-        let line = ListOf {
-            on,
-            kind: OutlineType::Line,
+        let parts = ShapeParts {
+            position: DeltaPosition { limits: on.limits },
+            line: ListIn {
+                on,
+                kind: OutlineType::Line,
+            },
+            ring: ListIn {
+                on,
+                kind: OutlineType::Ring,
+            },
         };
-        let ring = ListOf {
-            on,
-            kind: OutlineType::Ring,
-        };
-        match self.kind {
-            GeometryType::Point => judge_part(alloc, &of, value),
-            GeometryType::MultiPoint => judge_part(alloc, &Listed { of }, value),
-            GeometryType::LineString => judge_part(alloc, &line, value),
-            GeometryType::MultiLineString => judge_part(alloc, &Listed { of: line }, value),
-            GeometryType::Polygon => judge_part(alloc, &Listed { of: ring }, value),
-            GeometryType::MultiPolygon => {
-                let of = Listed { of: ring };
-                judge_part(alloc, &Listed { of }, value)
-            }
-        }
+        judge_shape(alloc, wanted, &parts, self.kind, value)
     }
 }
 
 fn judge_body(
     alloc: Global,
+    wanted: Wanted,
     on: &Known,
     kind: Option<GeometryType>,
     value: &Value,
-) -> Result<(), Fault>
-    ensures ok { OnOk result (shape_faults on.now.limits (known on.now.lists.now.arcs.now) kind (view value.now) ≡ []) }
-    ensures err { IfErr result (λ f. LeastOrWant (shape_faults on.now.limits (known on.now.lists.now.arcs.now) kind (view value.now)) f) }
+) -> Result<Vec<Fault>, OutOfMemory>
+    ensures { IfOk result (λ fs. AreFound wanted (shape_faults on.now.limits (named on.now.arcs) kind (view value.now)) (pairs_of fs.items)) }
 {
     match kind {
-        None => Ok(()),
-        Some(kind) => read_member(alloc, &BodyOf { on, kind }, value, body_name(kind)),
+        None => Ok(Vec::new(alloc)),
+        Some(kind) => judge_member(alloc, wanted, &BodyIn { on, kind }, value, body_name(kind)),
     }
 }
 
 /// Validates a geometry of that type, none for null.
+#[tactic(auto, using(reading::proofs::FaultListsLemmas::Wholes::found_parts))]
 pub(crate) fn judge_as(
     alloc: Global,
+    wanted: Wanted,
     on: &Known,
     kind: Option<GeometryType>,
     value: &Value,
-) -> Result<(), Fault>
-    ensures ok { OnOk result (typed_faults_of on.now.limits (known on.now.lists.now.arcs.now) kind (view value.now) ≡ []) }
-    ensures err { IfErr result (λ f. LeastOrWant (typed_faults_of on.now.limits (known on.now.lists.now.arcs.now) kind (view value.now)) f) }
+) -> Result<Vec<Fault>, OutOfMemory>
+    ensures { IfOk result (λ fs. AreFound wanted (typed_faults_of on.now.limits (named on.now.arcs) kind (view value.now)) (pairs_of fs.items)) }
 {
-    judge_body(alloc, on, kind, value)?;
-    match read_info(alloc, value) {
-        Ok(_) => Ok(()),
-        Err(fault) => Err(fault),
+    let body = judge_body(alloc, wanted, on, kind, value)?;
+    if is_enough(wanted, &body) {
+        return Ok(body);
     }
+    let info = judge_info(alloc, wanted, value)?;
+    Ok(join(body, info)?)
 }
 
 /// A geometry of a collection.
@@ -103,20 +93,22 @@ pub struct GeometryIn<'g, 'a> {
     pub on: &'g Known<'a>,
 }
 
-impl Part for GeometryIn<'_, '_> {
-    type Made = ();
+impl Judge for GeometryIn<'_, '_> {
+    ghost faults = { λ p. geometry_faults p.on.now.limits (named p.on.now.arcs) };
 
-    ghost faults = { λ p. geometry_faults p.on.now.limits (known p.on.now.lists.now.arcs.now) };
-
-    ghost means = { λ p d u. Unit {0} };
-
-    fn read(&self, alloc: Global, value: &Value) -> Result<(), Fault> {
+    #[tactic(auto, using(reading::proofs::FaultListsLemmas::Wholes::found_leaf))]
+    fn judge(
+        &self,
+        alloc: Global,
+        wanted: Wanted,
+        value: &Value,
+    ) -> Result<Vec<Fault>, OutOfMemory> {
         if !value.is_object() {
-            return Err(Fault::here(alloc, FaultKind::WrongKind));
+            return Ok(one(alloc, FaultKind::WrongKind)?);
         }
         match geometry_type(value) {
-            Ok(kind) => judge_as(alloc, self.on, kind, value),
-            Err(kind) => Err(type_fault(alloc, kind)),
+            Ok(kind) => judge_as(alloc, wanted, self.on, kind, value),
+            Err(kind) => Ok(type_fault(alloc, kind)?),
         }
     }
 }

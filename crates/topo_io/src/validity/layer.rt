@@ -1,32 +1,41 @@
 //! Layers of a topology, validated (TopoJSON, section 2.1.5).
-ghost use Rattle.reading.specs.Fault.{LeastOrWant};
+ghost use Rattle.reading.specs.FaultLists.Found.{AreFound, pairs_of};
 ghost use Rattle.serde_json.specs.View.{view};
-ghost use Rattle.std.specs.Prelude.{◌≡◌, [], IfErr, OnOk};
-ghost use Rattle.topo_io.specs.Arcs.{known};
+ghost use Rattle.std.specs.Prelude.{IfOk};
 ghost use Rattle.topo_io.specs.Geometries.{typed_layer_faults, layer_faults};
+ghost use Rattle.topo_io.specs.Named.{named};
 ghost use Rattle.topo_io.specs.Roots.{objects_faults};
 
 use crate::reader::layer::layer_type;
 use crate::reader::layer_type::LayerType;
 use crate::validity::geometry::{GeometryIn, judge_as};
 use crate::validity::list::Known;
+use faults::OutOfMemory;
 use faults::fault::{Fault, FaultKind};
-use reading::part::{Part, read_each_member, read_list_member, type_fault};
+use reading::fault_lists::found::{Wanted, one};
+use reading::fault_lists::judge::{Judge, ListOf};
+use reading::fault_lists::members::{judge_each_member, judge_member};
+use reading::fault_lists::types::type_fault;
 use serde_json::Value;
 use std::alloc::Global;
 
-fn judge_typed(alloc: Global, on: &Known, kind: LayerType, value: &Value) -> Result<(), Fault>
-    ensures ok { OnOk result (typed_layer_faults on.now.limits (known on.now.lists.now.arcs.now) (view value.now) kind ≡ []) }
-    ensures err { IfErr result (λ f. LeastOrWant (typed_layer_faults on.now.limits (known on.now.lists.now.arcs.now) (view value.now) kind) f) }
+fn judge_typed(
+    alloc: Global,
+    wanted: Wanted,
+    on: &Known,
+    kind: LayerType,
+    value: &Value,
+) -> Result<Vec<Fault>, OutOfMemory>
+    ensures { IfOk result (λ fs. AreFound wanted (typed_layer_faults on.now.limits (named on.now.arcs) (view value.now) kind) (pairs_of fs.items)) }
 {
     match kind {
         LayerType::Collection => {
-            match read_list_member(alloc, GeometryIn { on }, value, "geometries") {
-                Ok(_) => Ok(()),
-                Err(fault) => Err(fault),
-            }
+            let of = ListOf {
+                of: GeometryIn { on },
+            };
+            judge_member(alloc, wanted, &of, value, "geometries")
         }
-        LayerType::Geometry(kind) => judge_as(alloc, on, kind, value),
+        LayerType::Geometry(kind) => judge_as(alloc, wanted, on, kind, value),
     }
 }
 
@@ -36,20 +45,22 @@ struct LayerIn<'g, 'a> {
     on: &'g Known<'a>,
 }
 
-impl Part for LayerIn<'_, '_> {
-    type Made = ();
+impl Judge for LayerIn<'_, '_> {
+    ghost faults = { λ p. layer_faults p.on.now.limits (named p.on.now.arcs) };
 
-    ghost faults = { λ p. layer_faults p.on.now.limits (known p.on.now.lists.now.arcs.now) };
-
-    ghost means = { λ p d u. Unit {0} };
-
-    fn read(&self, alloc: Global, value: &Value) -> Result<(), Fault> {
+    #[tactic(auto, using(reading::proofs::FaultListsLemmas::Wholes::found_leaf))]
+    fn judge(
+        &self,
+        alloc: Global,
+        wanted: Wanted,
+        value: &Value,
+    ) -> Result<Vec<Fault>, OutOfMemory> {
         if !value.is_object() {
-            return Err(Fault::here(alloc, FaultKind::WrongKind));
+            return Ok(one(alloc, FaultKind::WrongKind)?);
         }
         match layer_type(value) {
-            Ok(kind) => judge_typed(alloc, self.on, kind, value),
-            Err(kind) => Err(type_fault(alloc, kind)),
+            Ok(kind) => judge_typed(alloc, wanted, self.on, kind, value),
+            Err(kind) => Ok(type_fault(alloc, kind)?),
         }
     }
 }
@@ -60,21 +71,19 @@ pub struct ObjectsIn<'g, 'a> {
     pub on: &'g Known<'a>,
 }
 
-impl Part for ObjectsIn<'_, '_> {
-    type Made = ();
+impl Judge for ObjectsIn<'_, '_> {
+    ghost faults = { λ p. objects_faults p.on.now.limits (named p.on.now.arcs) };
 
-    ghost faults = { λ p. objects_faults p.on.now.limits (known p.on.now.lists.now.arcs.now) };
-
-    ghost means = { λ p d u. Unit {0} };
-
-    fn read(&self, alloc: Global, value: &Value) -> Result<(), Fault> {
-        let of = LayerIn { on: self.on };
-        let Some(members) = value.as_object() else {
-            return Err(Fault::here(alloc, FaultKind::WrongKind));
-        };
-        match read_each_member(alloc, &of, members) {
-            Ok(_) => Ok(()),
-            Err(fault) => Err(fault),
+    #[tactic(auto, using(reading::proofs::FaultListsLemmas::Wholes::found_leaf))]
+    fn judge(
+        &self,
+        alloc: Global,
+        wanted: Wanted,
+        value: &Value,
+    ) -> Result<Vec<Fault>, OutOfMemory> {
+        match value.as_object() {
+            Some(members) => judge_each_member(alloc, wanted, &LayerIn { on: self.on }, members),
+            None => Ok(one(alloc, FaultKind::WrongKind)?),
         }
     }
 }

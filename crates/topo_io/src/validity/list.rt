@@ -1,21 +1,28 @@
 //! Lists of indexes of arcs, validated by their arcs.
-ghost use Rattle.arc_lists.specs.Lists.{IsTold};
+ghost use Rattle.normalize.specs.ArcLists.Lists.{IsTold};
+ghost use Rattle.reading.specs.FaultLists.Found.{AtMostOne, pairs_of};
 ghost use Rattle.reading.specs.Fault.{LeastOrWant};
 ghost use Rattle.reading.specs.Outlines.{outline_kind};
+ghost use Rattle.reading.specs.Parts.{list_faults};
+ghost use Rattle.serde_json.specs.View.{view};
 ghost use Rattle.std.specs.Prelude.{◌≡◌, [], IfOk, IfErr, OnOk};
-ghost use Rattle.topo_io.specs.Arcs.{known, stitched_list_faults};
+ghost use Rattle.topo_io.specs.Arcs.{index_faults, known, stitched_list_faults};
+ghost use Rattle.topo_io.specs.Named.{named};
 ghost use Rattle.topo_io.specs.Validity.{fault_of, faults_as, used_faults};
 
 use crate::reader::position::Limits;
 use crate::reader::stitching::{IndexOf, stitched_to};
-use arc_lists::{ArcLists, Told};
+use crate::validity::index::{IndexIn, Named};
 use chains::ArcRef;
 use faults::OutOfMemory;
 use faults::fault::{Fault, FaultKind};
 use lines::line::Line;
 use lines::ring::Ring;
 use lines::shape_fault::ShapeFault;
-use reading::part::{Part, read_list};
+use normalize::arc_lists::{ArcLists, ListVerdict};
+use reading::fault_lists::found::{Wanted, one_of};
+use reading::fault_lists::judge::{Judge, judge_list as judge_indexes};
+use reading::part::read_list;
 use serde_json::Value;
 use std::alloc::Global;
 
@@ -29,7 +36,7 @@ pub enum OutlineType {
 /// What geometries are validated by: what is known of the topology's arcs, and the limits of positions.
 #[derive(Clone, Copy)]
 pub struct Known<'a> {
-    pub lists: &'a ArcLists<'a>,
+    pub arcs: Named<'a>,
     pub limits: Limits,
 }
 
@@ -38,7 +45,7 @@ fn told_of(
     lists: &ArcLists,
     kind: OutlineType,
     used: &[ArcRef],
-) -> Result<Told, OutOfMemory>
+) -> Result<ListVerdict, OutOfMemory>
     ensures { IfOk result (IsTold (fault_of kind) lists.now.arcs.now used.now) }
 {
     match kind {
@@ -104,7 +111,7 @@ fn judge_tangled(
     kind: OutlineType,
     used: &[ArcRef],
 ) -> Result<(), Fault>
-    requires { IsTold (fault_of kind) lists.now.arcs.now used.now Told.Tangled }
+    requires { IsTold (fault_of kind) lists.now.arcs.now used.now ListVerdict.Tangled }
     ensures ok { OnOk result (used_faults lists.now.arcs.now kind used.now ≡ []) }
     ensures err { IfErr result (λ f. LeastOrWant (used_faults lists.now.arcs.now kind used.now) f) }
 {
@@ -120,18 +127,18 @@ fn judge_told(
     lists: &ArcLists,
     kind: OutlineType,
     used: &[ArcRef],
-    told: Told,
+    told: ListVerdict,
 ) -> Result<(), Fault>
     requires { IsTold (fault_of kind) lists.now.arcs.now used.now told }
     ensures ok { OnOk result (used_faults lists.now.arcs.now kind used.now ≡ []) }
     ensures err { IfErr result (λ f. LeastOrWant (used_faults lists.now.arcs.now kind used.now) f) }
 {
     match told {
-        Told::Sound => Ok(()),
-        Told::Broken => Err(Fault::here(alloc, FaultKind::Broken)),
-        Told::Faulty(fault) => Err(Fault::here(alloc, kind_of(fault))),
-        Told::Tangled => judge_tangled(alloc, lists, kind, used),
-        Told::Unknown => judge_stitched(alloc, lists, kind, used),
+        ListVerdict::Sound => Ok(()),
+        ListVerdict::Broken => Err(Fault::here(alloc, FaultKind::Broken)),
+        ListVerdict::Faulty(fault) => Err(Fault::here(alloc, kind_of(fault))),
+        ListVerdict::Tangled => judge_tangled(alloc, lists, kind, used),
+        ListVerdict::Unknown => judge_stitched(alloc, lists, kind, used),
     }
 }
 
@@ -151,24 +158,74 @@ pub(crate) fn judge_list(
     }
 }
 
-/// A list of indexes of arcs, of which nothing is kept.
+/// Validates what used arcs stitch to.
+fn judge_outline(
+    alloc: Global,
+    lists: &ArcLists,
+    kind: OutlineType,
+    used: &[ArcRef],
+) -> Result<Vec<Fault>, OutOfMemory>
+    ensures { IfOk result (λ fs. AtMostOne (used_faults lists.now.arcs.now kind used.now) (pairs_of fs.items)) }
+{
+    match judge_list(alloc, lists, kind, used) {
+        Ok(()) => Ok(Vec::new(alloc)),
+        Err(fault) => Ok(one_of(alloc, fault.kind)?),
+    }
+}
+
+/// Validates the indexes of a list that have no fault, by what is known of the arcs.
+fn judge_used(
+    alloc: Global,
+    lists: &ArcLists,
+    kind: OutlineType,
+    value: &Value,
+) -> Result<Vec<Fault>, OutOfMemory>
+    ensures { IfOk result (λ fs. AtMostOne (stitched_list_faults (known lists.now.arcs.now) (faults_as kind) (view value.now)) (pairs_of fs.items)) }
+{
+    match read_list(alloc, &IndexOf { arcs: lists.arcs }, value) {
+        Ok(used) => Ok(judge_outline(alloc, lists, kind, &used)?),
+        Err(_) => Err(OutOfMemory),
+    }
+}
+
+/// Validates what a list of indexes that have no fault stitches to, where no arc has one either.
+fn judge_stitching(
+    alloc: Global,
+    on: &Known,
+    kind: OutlineType,
+    value: &Value,
+) -> Result<Vec<Fault>, OutOfMemory>
+    ensures { IfOk result (λ fs. list_faults (index_faults (named on.now.arcs)) (view value.now) ≡ [] → AtMostOne (stitched_list_faults (named on.now.arcs) (faults_as kind) (view value.now)) (pairs_of fs.items)) }
+{
+    match on.arcs {
+        Named::Known(lists) => Ok(judge_used(alloc, lists, kind, value)?),
+        Named::Counted(_) => Ok(Vec::new(alloc)),
+        Named::Unknown => Ok(Vec::new(alloc)),
+    }
+}
+
+/// A list of indexes of arcs. What it stitches to is looked at where no index and no arc has a fault.
 #[derive(Clone, Copy)]
-pub struct ListOf<'g, 'a> {
+pub struct ListIn<'g, 'a> {
     pub on: &'g Known<'a>,
     pub kind: OutlineType,
 }
 
-impl Part for ListOf<'_, '_> {
-    type Made = ();
+impl Judge for ListIn<'_, '_> {
+    ghost faults = { λ p. stitched_list_faults (named p.on.now.arcs) (faults_as p.kind) };
 
-    ghost faults = { λ p. stitched_list_faults (known p.on.now.lists.now.arcs.now) (faults_as p.kind) };
-
-    ghost means = { λ p d u. Unit {0} };
-
-    fn read(&self, alloc: Global, value: &Value) -> Result<(), Fault> {
-        let lists = self.on.lists;
-        let of = IndexOf { arcs: lists.arcs };
-        let used = read_list(alloc, &of, value)?;
-        judge_list(alloc, lists, self.kind, &used)
+    #[tactic(auto, using(reading::proofs::FaultListsLemmas::Wholes::found_leaf))]
+    fn judge(
+        &self,
+        alloc: Global,
+        wanted: Wanted,
+        value: &Value,
+    ) -> Result<Vec<Fault>, OutOfMemory> {
+        let of = IndexIn { arcs: self.on.arcs };
+        let found = judge_indexes(alloc, wanted, &of, value)?;
+        if !found.is_empty() {
+            return Ok(found);
+        }
+        Ok(judge_stitching(alloc, self.on, self.kind, value)?)
     }
 }

@@ -8,14 +8,14 @@ ghost use Rattle.topo_io.specs.Stitching.{BodyStitches, GeomStitches, LayerStitc
 ghost use Rattle.topo_io.specs.Validity.{IsJudged, used_faults};
 
 use crate::validity::list::{OutlineType, judge_list};
-use arc_lists::ArcLists;
 use chains::ArcRef;
 use faults::OutOfMemory;
 use faults::fault::FaultKind;
 use lines::items::Items;
+use normalize::arc_lists::ArcLists;
 use std::alloc::Global;
-use taking::TextArcs;
 use topo::{Body, Geom, Layer};
+use validate::accept::TextArcs;
 
 fn list_stitches(
     alloc: Global,

@@ -6,7 +6,7 @@ use Rattle.decimals.proofs.digits.kept_of.Goals as goal
 pub returns-then-is_exponent_negative : goal.returns-then-is_exponent_negative
 returns-then-is_exponent_negative c =
     let p = c.args.numeral.now in
-    let exponent : c.capped-exponent.result ≡ min (digits_value 10 p.exponent) (10 ^ 30) = rw c.exponent.ensures.value at c.capped-exponent.ensures in
+    let exponent : c.capped_number-exponent.result ≡ min (digits_value 10 p.exponent) (10 ^ 30) = rw c.exponent.ensures.value at c.capped_number-exponent.ensures in
     let whole = ap length c.whole-whole.ensures.value in
     let fraction = ap length c.fraction-fraction.ensures.value in
     let short : length p.whole < 2 ^ 64 = omega arith in
@@ -15,7 +15,7 @@ returns-then-is_exponent_negative c =
 pub returns-else-is_exponent_negative : goal.returns-else-is_exponent_negative
 returns-else-is_exponent_negative c =
     let p = c.args.numeral.now in
-    let exponent : c.capped-exponent.result ≡ min (digits_value 10 p.exponent) (10 ^ 30) = rw c.exponent.ensures.value at c.capped-exponent.ensures in
+    let exponent : c.capped_number-exponent.result ≡ min (digits_value 10 p.exponent) (10 ^ 30) = rw c.exponent.ensures.value at c.capped_number-exponent.ensures in
     let whole = ap length c.whole-whole.ensures.value in
     let fraction = ap length c.fraction-fraction.ensures.value in
     let short : length p.fraction < 2 ^ 64 = omega arith in

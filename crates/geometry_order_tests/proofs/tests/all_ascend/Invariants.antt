@@ -1,5 +1,5 @@
 use Rattle.std.proofs.Common.{length}
-use Rattle.geometry_order.specs.Noted.{IsNotedFor}
+use Rattle.renumbering.specs.GeometryOrder.Noted.{IsNotedFor}
 use Rattle.topo.specs.GeometryOrder.{HaveFeatures}
 use Rattle.geometry_order_tests.proofs.tests.all_ascend.Given as goal
 

@@ -1,6 +1,6 @@
 use Rattle.std.proofs.Common.{subst, sym}
-use Rattle.geometry_order.proofs.NodedTables.{table_noded}
-use Rattle.geometry_order.specs.Noded.{AreNoded}
+use Rattle.renumbering.proofs.GeometryOrderLemmas.NodedTables.{table_noded}
+use Rattle.renumbering.specs.GeometryOrder.Noded.{AreNoded}
 use Rattle.topo.proofs.Stitched.{geometries_of}
 use Rattle.topo.specs.GeometryOrder.{HaveFeatures}
 use Rattle.geometry_order_tests.proofs.Features.{have_all}

@@ -1,5 +1,5 @@
 use Rattle.std.proofs.Common.{drop}
-use Rattle.geometry_order.specs.Noted.{IsNotedFor}
+use Rattle.renumbering.specs.GeometryOrder.Noted.{IsNotedFor}
 use Rattle.topo.specs.GeometryOrder.{HaveFeatures}
 use Rattle.geometry_order_tests.proofs.tests.comes_first.Given as goal
 

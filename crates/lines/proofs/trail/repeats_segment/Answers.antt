@@ -1,4 +1,4 @@
-use Rattle.lines.specs.Bits.{may_hold}
+use Rattle.lines.specs.PositionFilter.{may_hold}
 use Rattle.lines.proofs.Segments.{none_told, told_by_code}
 use Rattle.lines.proofs.trail.repeats_segment.Goals as goal
 

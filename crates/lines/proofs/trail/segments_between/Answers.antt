@@ -1,6 +1,6 @@
 use Rattle.std.proofs.Common.{ap, ◌∙◌}
-use Rattle.lines.specs.Again.{joins}
-use Rattle.lines.specs.Bits.{may_hold}
+use Rattle.lines.specs.Visited.{joins}
+use Rattle.lines.specs.PositionFilter.{may_hold}
 use Rattle.lines.proofs.Segments.{segment_kept, segment_left_out}
 use Rattle.lines.proofs.trail.segments_between.Goals.{then-may_join+in_ok-push, else-may_join}
 use Rattle.lines.proofs.trail.segments_between.Goals as goal

@@ -1,7 +1,7 @@
 use Rattle.std.proofs.Common.{◌≡◌, ◌++◌, drop}
 use Rattle.theory.specs.TopologyFunction.{keep}
-use Rattle.lines.specs.Again.{joins}
-use Rattle.lines.specs.Bits.{may_hold}
+use Rattle.lines.specs.Visited.{joins}
+use Rattle.lines.specs.PositionFilter.{may_hold}
 use Rattle.lines.specs.Segments.{segments_from, segments_of}
 use Rattle.lines.proofs.trail.segments_between.Given as goal
 

@@ -5,10 +5,10 @@ use Rattle.normalize.proofs.pieces.add_used.Goals as goal
 
 pub returns-in-Some : goal.returns-in-Some
 returns-in-Some g c =
-    subst (λ w. OnOk c.add_pieces.result (c.add_pieces.new.refs.items ≡ c.args.refs.now.items ++ w))
+    subst (λ w. OnOk c.add_in_direction.result (c.add_in_direction.new.refs.items ≡ c.args.refs.now.items ++ w))
     (used_by_code (g.P.HavePieces.pieces_of c.args.arcs.now) c.args.used.now (record { arc = c.used.inside.arc; reversed = c.used.inside.reversed }) c.in-Some.pieces.now
     c.in-Some.ensures c.used.view_is)
-    c.add_pieces.ensures
+    c.add_in_direction.ensures
 
 pub returns-in-None : goal.returns-in-None
 returns-in-None g c =

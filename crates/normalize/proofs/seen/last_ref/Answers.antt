@@ -1,4 +1,4 @@
-use Rattle.standing.proofs.Meets.{last_told}
+use Rattle.validate.proofs.EndsMeet.{last_told}
 use Rattle.normalize.proofs.seen.last_ref.Goals as goal
 
 pub returns-in-Some : goal.returns-in-Some

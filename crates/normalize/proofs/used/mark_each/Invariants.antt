@@ -1,5 +1,5 @@
 use Rattle.std.proofs.Common.{◌≡◌, drop, true}
-use Rattle.standing.specs.Marks.{marks_set}
+use Rattle.validate.specs.UsedArcs.{marks_set}
 use Rattle.normalize.proofs.used.mark_each.Given as goal
 
 abbrev pub invariant-loop-used : goal.invariant-loop-used

@@ -1,6 +1,6 @@
 -- The names and texts so far, and those of the sources that are left, are those of the sources.
 use Rattle.std.proofs.Common.{◌≡◌, ◌++◌, drop}
-use Rattle.built_text.specs.Maps.{borrowed_texts}
+use Rattle.outputs.specs.BuiltText.Maps.{borrowed_texts}
 use Rattle.noshinka.specs.Lent.{lent_sources}
 use Rattle.noshinka.proofs.lent.borrow_sources.Given as goal
 

@@ -2,7 +2,7 @@ use Rattle.std.proofs.Common.{ℕ, List, slice_get, sym, subst}
 use Rattle.std.specs.Result.{OnOk, OnErr}
 use Rattle.sinks.specs.Texts.{list_text}
 use Rattle.sinks.specs.Writes.{TookAll, TookPart}
-use Rattle.writing.proofs.Joined.{list_text_map}
+use Rattle.shapes.proofs.WritingLemmas.Joined.{list_text_map}
 use Rattle.query.specs.AnswerTexts.{id_text_of}
 use Rattle.query.proofs.writer.write_neighbor_ids.Goals as goal
 

@@ -3,7 +3,7 @@ use Rattle.std.specs.Fmt.{decimal}
 use Rattle.std.specs.Result.{OnOk, OnErr}
 use Rattle.sinks.specs.Texts.{list_text}
 use Rattle.sinks.specs.Writes.{TookAll, TookPart}
-use Rattle.writing.proofs.Joined.{list_text_map}
+use Rattle.shapes.proofs.WritingLemmas.Joined.{list_text_map}
 use Rattle.query.proofs.writer.write_neighbors.Goals as goal
 
 pub returns-clause-whole : goal.returns-clause-whole

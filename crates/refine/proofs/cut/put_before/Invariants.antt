@@ -1,7 +1,7 @@
 use Rattle.std.proofs.Common.{◌≡◌, ◌++◌, length}
-use Rattle.geometry_order.specs.Noted.{IsNotedFor}
+use Rattle.renumbering.specs.GeometryOrder.Noted.{IsNotedFor}
 use Rattle.topo.specs.GeometryOrder.{HaveFeatures, geometry_cmp}
-use Rattle.layer_laws.specs.CutLayers.{before, behind}
+use Rattle.renumbering.specs.LayerLaws.CutLayers.{before, behind}
 use Rattle.refine.proofs.cut.put_before.Given as goal
 
 abbrev pub invariant-loop-others : goal.invariant-loop-others

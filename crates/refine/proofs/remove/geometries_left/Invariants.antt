@@ -1,5 +1,5 @@
 use Rattle.std.proofs.Common.{◌≡◌, ◌++◌, drop, map}
-use Rattle.layer_laws.specs.Leaving.{order_to, others}
+use Rattle.renumbering.specs.LayerLaws.Leaving.{order_to, others}
 use Rattle.refine.proofs.remove.geometries_left.Given as goal
 
 abbrev pub invariant-loop-geometry : goal.invariant-loop-geometry

@@ -1,7 +1,7 @@
 use Rattle.std.proofs.Common.{map}
 use Rattle.theory.specs.Lists.{gathered}
-use Rattle.layer_laws.specs.LeftLists.{body_refs, marked_by}
-use Rattle.layer_laws.proofs.LeftMarks.{mark_step, marked_join}
+use Rattle.renumbering.specs.LayerLaws.LeftLists.{body_refs, marked_by}
+use Rattle.renumbering.proofs.LayerLawsLemmas.LeftMarks.{mark_step, marked_join}
 use Rattle.refine.proofs.remove.mark_layer.Goals as goal
 
 pub loop-geometry-preserved : goal.loop-geometry-preserved

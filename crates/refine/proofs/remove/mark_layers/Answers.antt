@@ -1,6 +1,6 @@
 use Rattle.refine.specs.Lent.{all_lent, lent}
-use Rattle.layer_laws.specs.LeftLists.{layer_refs, layers_refs, marked_by}
-use Rattle.layer_laws.proofs.LeftMarks.{mark_step, marked_join}
+use Rattle.renumbering.specs.LayerLaws.LeftLists.{layer_refs, layers_refs, marked_by}
+use Rattle.renumbering.proofs.LayerLawsLemmas.LeftMarks.{mark_step, marked_join}
 use Rattle.refine.proofs.remove.mark_layers.Goals as goal
 
 pub loop-layer-preserved : goal.loop-layer-preserved

@@ -1,5 +1,5 @@
 use Rattle.std.proofs.Common.{◌≡◌, drop}
-use Rattle.layer_laws.specs.LeftLists.{marked_by}
+use Rattle.renumbering.specs.LayerLaws.LeftLists.{marked_by}
 use Rattle.refine.proofs.remove.mark_list.Given as goal
 
 abbrev pub invariant-loop-arc : goal.invariant-loop-arc

@@ -1,7 +1,7 @@
 use Rattle.std.proofs.Common.{◌∙◌, ap}
 use Rattle.theory.specs.Lists.{joined}
-use Rattle.layer_laws.specs.LeftLists.{marked_by}
-use Rattle.layer_laws.proofs.LeftMarks.{mark_step, marked_join}
+use Rattle.renumbering.specs.LayerLaws.LeftLists.{marked_by}
+use Rattle.renumbering.proofs.LayerLawsLemmas.LeftMarks.{mark_step, marked_join}
 use Rattle.refine.proofs.remove.mark_lists.Goals as goal
 
 pub loop-used-preserved : goal.loop-used-preserved

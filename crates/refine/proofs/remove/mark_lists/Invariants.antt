@@ -1,6 +1,6 @@
 use Rattle.std.proofs.Common.{◌≡◌, drop}
 use Rattle.theory.specs.Lists.{joined}
-use Rattle.layer_laws.specs.LeftLists.{marked_by}
+use Rattle.renumbering.specs.LayerLaws.LeftLists.{marked_by}
 use Rattle.refine.proofs.remove.mark_lists.Given as goal
 
 abbrev pub invariant-loop-used : goal.invariant-loop-used

@@ -1,7 +1,7 @@
 use Rattle.std.proofs.Common.{◌∙◌, ap}
 use Rattle.theory.specs.Lists.{joined}
-use Rattle.layer_laws.specs.LeftLists.{marked_by}
-use Rattle.layer_laws.proofs.LeftMarks.{mark_step, marked_lists}
+use Rattle.renumbering.specs.LayerLaws.LeftLists.{marked_by}
+use Rattle.renumbering.proofs.LayerLawsLemmas.LeftMarks.{mark_step, marked_lists}
 use Rattle.refine.proofs.remove.mark_polygons.Goals as goal
 
 pub loop-rings-preserved : goal.loop-rings-preserved

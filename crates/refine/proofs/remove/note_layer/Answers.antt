@@ -1,7 +1,7 @@
 use Rattle.std.proofs.Common.{◌++◌, map, refl}
 use Rattle.theory.specs.Lists.{gathered}
-use Rattle.layer_laws.specs.LeftLists.{body_ends}
-use Rattle.layer_laws.proofs.LeftEnds.{note_step}
+use Rattle.renumbering.specs.LayerLaws.LeftLists.{body_ends}
+use Rattle.renumbering.proofs.LayerLawsLemmas.LeftEnds.{note_step}
 use Rattle.refine.proofs.remove.note_layer.Goals as goal
 
 pub loop-geometry-preserved : goal.loop-geometry-preserved

@@ -1,6 +1,6 @@
 use Rattle.std.proofs.Common.{◌≡◌, ◌++◌, drop}
 use Rattle.theory.specs.Lists.{gathered}
-use Rattle.layer_laws.specs.LeftLists.{line_ends}
+use Rattle.renumbering.specs.LayerLaws.LeftLists.{line_ends}
 use Rattle.refine.proofs.remove.note_lines.Given as goal
 
 abbrev pub invariant-loop-used : goal.invariant-loop-used

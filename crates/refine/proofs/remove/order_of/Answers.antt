@@ -1,6 +1,6 @@
 use Rattle.std.proofs.Common.{◌∙◌, subst, sym}
 use Rattle.topo.specs.Features.{HasFeature, IsFeatureOf}
-use Rattle.layer_laws.proofs.Passing.{info_tells, info_told, order_told}
+use Rattle.renumbering.proofs.LayerLawsLemmas.Passing.{info_tells, info_told, order_told}
 use Rattle.refine.proofs.Stitching.{told_same}
 use Rattle.refine.proofs.remove.order_of.Goals as goal
 

@@ -1,6 +1,6 @@
 use Rattle.std.proofs.Common.{◌≡◌, ◌∙◌, ◌++◌, ap, rules, sym}
 use Rattle.topo.specs.Walked.{walked}
-use Rattle.refine.specs.Ways.{way_left}
+use Rattle.refine.specs.WalkedLists.{way_left}
 use Rattle.refine.proofs.Stitching.{both_passed, parted_early, parted_late}
 use Rattle.refine.proofs.stitches.goes_along.Goals as goal
 

@@ -1,4 +1,4 @@
-use Rattle.theory.proofs.RemovingProved.{joined_arcs_are_the_arcs}
+use Rattle.theory.proofs.HealingProved.{joined_arcs_are_the_arcs}
 use Rattle.theory.proofs.laws.joined_arcs_are_the_arcs.Goals as goal
 
 pub returns : goal.returns

@@ -1,4 +1,4 @@
-use Rattle.theory.proofs.RemovingProved.{marked_features_are_a_part}
+use Rattle.theory.proofs.HealingProved.{marked_features_are_a_part}
 use Rattle.theory.proofs.laws.marked_features_are_a_part.Goals as goal
 
 pub returns : goal.returns

@@ -1,4 +1,4 @@
-use Rattle.theory.proofs.RemovingProved.{new_lists_along_old_ones}
+use Rattle.theory.proofs.HealingProved.{new_lists_along_old_ones}
 use Rattle.theory.proofs.laws.new_lists_along_old_ones.Goals as goal
 
 pub returns : goal.returns

@@ -1,4 +1,4 @@
-use Rattle.theory.proofs.RemovingProved.{topology_of_what_is_left}
+use Rattle.theory.proofs.HealingProved.{topology_of_what_is_left}
 use Rattle.theory.proofs.laws.topology_of_what_is_left.Goals as goal
 
 pub returns : goal.returns

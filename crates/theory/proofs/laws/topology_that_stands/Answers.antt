@@ -1,4 +1,4 @@
-use Rattle.theory.proofs.StandingProved.{topology_that_stands}
+use Rattle.theory.proofs.ValidityProved.{topology_that_stands}
 use Rattle.theory.proofs.laws.topology_that_stands.Goals as goal
 
 pub returns : goal.returns

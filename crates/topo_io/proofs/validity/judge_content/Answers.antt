@@ -1,24 +1,18 @@
-use Rattle.std.proofs.Common.{codes, refl, sym, ◌∙◌, subst, rules}
+use Rattle.std.proofs.Common.{◌≡◌, false, vec_len, codes, arith}
 use Rattle.serde_json.specs.View.{view}
-use Rattle.faults.specs.Path.{name}
-use Rattle.reading.specs.Fault.{LeastOrWant}
-use Rattle.reading.proofs.Least.{first_of, after_under}
-use Rattle.reading.proofs.Results.{on_ok_map, err_map}
-use Rattle.topo_io.specs.Roots.{content_faults}
-use Rattle.topo_io.proofs.Roots.{content_over}
+use Rattle.reading.specs.FaultLists.Found.{is_full, pairs_of}
+use Rattle.reading.specs.Parts.{list_faults, member_faults}
+use Rattle.topo_io.specs.Arcs.{arc_faults}
+use Rattle.topo_io.specs.Named.{named}
+use Rattle.topo_io.proofs.AllFaults.{content_more, empty_some, some_there}
 use Rattle.topo_io.proofs.validity.judge_content.Goals as goal
 
-pub returns-in_err-listed-clause-err : goal.returns-in_err-listed-clause-err
-returns-in_err-listed-clause-err c =
-    let part : LeastOrWant (content_faults c.args.limits.now (view c.args.value.now)) c.in_err-listed.field-0.0 = first_of (name (codes "arcs")) _ _ c.in_err-listed.field-0.0 c.in_err-listed.ensures.err (after_under _ (name (codes "objects")) _ refl) in
-    search (rules, part)
-
-pub returns-clause-ok : goal.returns-clause-ok
-returns-clause-ok c =
-    let faults = content_over c.args.limits.now (view c.args.value.now) _ _ c.from_list-arcs.ensures c.in_ok-listed.ensures.made c.in_ok-listed.ensures.ok in
-    on_ok_map c.judge_objects.result _ _ c.judge_objects.ensures.ok (λ none. faults ∙ none)
-
-pub returns-clause-err : goal.returns-clause-err
-returns-clause-err c =
-    let faults = content_over c.args.limits.now (view c.args.value.now) _ _ c.from_list-arcs.ensures c.in_ok-listed.ensures.made c.in_ok-listed.ensures.ok in
-    err_map c.judge_objects.result _ _ c.judge_objects.ensures.err (λ f told. subst (λ ps. LeastOrWant ps f) (sym faults) told)
+pub returns : goal.returns
+returns c =
+    let w = c.args.wanted in
+    let l = c.args.limits.now in
+    let d = view c.args.value.now in
+    let fs = c.in_ok-arcs.arcs in
+    let some = some_there w (member_faults (codes "arcs") (list_faults (arc_faults l)) d) fs.items c.in_ok-arcs.ensures (empty_some fs.items (vec_len fs) (omega (arith, fs.ok.0)) c.if-is_empty.ensures) in
+    let more : is_full w (pairs_of fs.items) ≡ false = cc in
+    content_more w l d (named c.count_of_arcs.result) fs.items c.in_ok-objects.objects.items c.in_ok-join.field-0.items (c.count_of_arcs.ensures l some) c.in_ok-arcs.ensures more c.in_ok-objects.ensures c.in_ok-join.ensures

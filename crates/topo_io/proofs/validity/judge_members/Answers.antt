@@ -1,16 +1,15 @@
-use Rattle.std.proofs.Common.{codes}
-use Rattle.faults.specs.Path.{name}
-use Rattle.faults.specs.declared.fault.FaultKind.TheVariants.{NoTransform}
-use Rattle.reading.specs.Fault.{here}
-use Rattle.reading.proofs.Least.{only, lifted_only}
+use Rattle.std.proofs.Common.{subst}
+use Rattle.serde_json.specs.View.{view}
+use Rattle.reading.specs.FaultLists.Found.{AreFound, pairs_of}
+use Rattle.reading.proofs.Results.{ok_map}
+use Rattle.topo_io.specs.Roots.{transformed_faults}
+use Rattle.topo_io.proofs.AllFaults.{no_transform}
 use Rattle.topo_io.proofs.validity.judge_members.Goals as goal
 
-pub returns-in-None-clause-err : goal.returns-in-None-clause-err
-returns-in-None-clause-err c =
-    rw (← c.in-None.ensures) (lifted_only (name (codes "transform")) (here NoTransform) c.here.result c.under_name.result (only NoTransform c.here.result c.here.ensures) c.under_name.ensures)
+pub returns-in_ok-one-in-None : goal.returns-in_ok-one-in-None
+returns-in_ok-one-in-None c =
+    ok_map c.under_name.result _ _ c.under_name.ensures (λ fs is. no_transform c.args.wanted (view c.args.value.now) _ (pairs_of c.in_ok-one-in-None.field-0.items) (pairs_of fs.items) c.in-None.ensures c.in_ok-one-in-None.ensures is)
 
-pub returns-in-Some-clause-ok : goal.returns-in-Some-clause-ok
-returns-in-Some-clause-ok c = rw (← c.in-Some.ensures) c.judge_with.ensures.ok
-
-pub returns-in-Some-clause-err : goal.returns-in-Some-clause-err
-returns-in-Some-clause-err c = rw (← c.in-Some.ensures) c.judge_with.ensures.err
+pub returns-in-Some : goal.returns-in-Some
+returns-in-Some c =
+    ok_map c.judge_with.result _ _ c.judge_with.ensures (λ fs h. subst (λ o. AreFound c.args.wanted (transformed_faults (view c.args.value.now) o) (pairs_of fs.items)) c.in-Some.ensures h)

@@ -1,31 +1,24 @@
-use Rattle.std.proofs.Common.{◌≡◌, [], ◌++◌, codes, sym, ap, ◌∙◌, subst}
+use Rattle.std.proofs.Common.{◌≡◌, true, false, sym, subst}
 use Rattle.serde_json.specs.View.{view}
-use Rattle.faults.specs.Path.{name}
-use Rattle.reading.specs.Fault.{LeastOrWant, under}
-use Rattle.reading.proofs.Results.{on_ok_map, err_map}
-use Rattle.topo_io.specs.Limits.{limits_on}
-use Rattle.topo_io.specs.Roots.{content_faults, limits_of, transform_faults}
-use Rattle.topo_io.proofs.Roots.{limits_known, earlier, content_before, append_none}
+use Rattle.reading.specs.FaultLists.Found.{AreFound, is_full, pairs_of}
+use Rattle.topo_io.specs.Roots.{transform_faults}
+use Rattle.topo_io.proofs.AllFaults.{transformed_enough, transformed_more}
 use Rattle.topo_io.proofs.validity.judge_with.Goals as goal
 
-pub returns-in-Ok-clause-ok : goal.returns-in-Ok-clause-ok
-returns-in-Ok-clause-ok c =
+pub returns-then-is_enough : goal.returns-then-is_enough
+returns-then-is_enough c =
+    let w = c.args.wanted in
     let t = view c.args.transform.now in
-    let v = view c.args.value.now in
-    let same : c.of.result ≡ limits_of t = c.of.ensures ∙ ap limits_on c.in-Ok.ensures.made ∙ sym (limits_known (transform_faults t) t c.in-Ok.ensures.ok) in
-    on_ok_map c.judge_content.result _ _ c.judge_content.ensures.ok (λ none.
-    append_none _ _ (subst (λ l. content_faults l v ≡ []) same none) (ap (under (name (codes "transform"))) c.in-Ok.ensures.ok))
+    let fs = c.in_ok-content.content.items in
+    let told = subst (λ gs. AreFound w (transform_faults t) (pairs_of gs)) (sym c.deref.ensures.value) c.in_ok-later.ensures in
+    let full : is_full w (pairs_of fs) ≡ true = cc in
+    transformed_enough w (view c.args.value.now) t (pairs_of fs) (c.in_ok-content.ensures told) full
 
-pub returns-in-Ok-clause-err : goal.returns-in-Ok-clause-err
-returns-in-Ok-clause-err c =
+pub returns : goal.returns
+returns c =
+    let w = c.args.wanted in
     let t = view c.args.transform.now in
-    let v = view c.args.value.now in
-    let same : c.of.result ≡ limits_of t = c.of.ensures ∙ ap limits_on c.in-Ok.ensures.made ∙ sym (limits_known (transform_faults t) t c.in-Ok.ensures.ok) in
-    err_map c.judge_content.result _ _ c.judge_content.ensures.err (λ f told.
-    earlier (name (codes "transform")) (content_faults (limits_of t) v) (transform_faults t) f (subst (λ l. LeastOrWant (content_faults l v) f) same told) (content_before (limits_of t) v))
-
-pub returns-in-Err-clause-ok : goal.returns-in-Err-clause-ok
-returns-in-Err-clause-ok c = on_ok_map c.judge_before.result _ _ c.judge_before.ensures.ok (λ none. absurd none)
-
-pub returns-in-Err-clause-err : goal.returns-in-Err-clause-err
-returns-in-Err-clause-err c = err_map c.judge_before.result _ _ c.judge_before.ensures.err (λ f h. h (view c.args.transform.now) c.in-Err.ensures.err)
+    let fs = c.in_ok-content.content.items in
+    let told = subst (λ gs. AreFound w (transform_faults t) (pairs_of gs)) (sym c.deref.ensures.value) c.in_ok-later.ensures in
+    let more : is_full w (pairs_of fs) ≡ false = cc in
+    transformed_more w (view c.args.value.now) t fs c.in_ok-later.later.items c.in_ok-behind.behind.items c.in_ok-join.field-0.items (c.in_ok-content.ensures told) more c.in_ok-later.ensures c.in_ok-behind.ensures c.in_ok-join.ensures

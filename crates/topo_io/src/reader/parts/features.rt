@@ -30,11 +30,11 @@ use shapes::feature::Feature;
 use shapes::feature_map::FeatureMap;
 use shapes::shape::{Id, Shape};
 use std::alloc::Global;
-use taking::TextArcs;
 use topo::{Body, Geom, Layer};
+use validate::accept::TextArcs;
 
 /// What is stitched together from the arcs of a text.
-trait Stitched: Sized + Drop {
+trait StitchFrom: Sized + Drop {
     /// What it is stitched from.
     type From: Drop;
 
@@ -49,13 +49,13 @@ trait Stitched: Sized + Drop {
     // What is seen of what they stitch to.
     ghost along: { List (List Pos) → Self.From → Seen };
 
-    fn stitched(alloc: Global, arcs: &TextArcs, from: Self::From) -> Result<Self, Fault>
+    fn stitch_from(alloc: Global, arcs: &TextArcs, from: Self::From) -> Result<Self, Fault>
         ensures ok { OnOk result (stitches arcs.now from) }
         ensures made { IfOk result (λ made. seen made ≡ along arcs.now from) }
         ensures err { IfErr result (NotOrWant (stitches arcs.now from)) };
 }
 
-impl Stitched for Line {
+impl StitchFrom for Line {
     type From = Items<ArcRef>;
 
     ghost Seen = { List Pos };
@@ -66,12 +66,12 @@ impl Stitched for Line {
 
     ghost along = { line_along };
 
-    fn stitched(alloc: Global, arcs: &TextArcs, from: Items<ArcRef>) -> Result<Line, Fault> {
+    fn stitch_from(alloc: Global, arcs: &TextArcs, from: Items<ArcRef>) -> Result<Line, Fault> {
         stitched_to(alloc, arcs, from.as_slice())
     }
 }
 
-impl Stitched for Ring {
+impl StitchFrom for Ring {
     type From = Items<ArcRef>;
 
     ghost Seen = { List Pos };
@@ -82,13 +82,13 @@ impl Stitched for Ring {
 
     ghost along = { ring_along };
 
-    fn stitched(alloc: Global, arcs: &TextArcs, from: Items<ArcRef>) -> Result<Ring, Fault> {
+    fn stitch_from(alloc: Global, arcs: &TextArcs, from: Items<ArcRef>) -> Result<Ring, Fault> {
         stitched_to(alloc, arcs, from.as_slice())
     }
 }
 
 /// What each part stitches to, in their order.
-fn each_stitched<S: Stitched>(
+fn each_stitched<S: StitchFrom>(
     alloc: Global,
     arcs: &TextArcs,
     parts: Vec<S::From>,
@@ -99,13 +99,13 @@ fn each_stitched<S: Stitched>(
 {
     let mut made = room(alloc, parts.len())?;
     for part in parts {
-        let stitched = S::stitched(alloc, arcs, part)?;
+        let stitched = S::stitch_from(alloc, arcs, part)?;
         keep(&mut made, stitched)?;
     }
     Ok(made)
 }
 
-impl<S: Stitched> Stitched for Items<S> {
+impl<S: StitchFrom> StitchFrom for Items<S> {
     type From = Items<S::From>;
 
     ghost Seen = { List S.Seen };
@@ -116,7 +116,11 @@ impl<S: Stitched> Stitched for Items<S> {
 
     ghost along = { λ arcs. map_list (S.along arcs) };
 
-    fn stitched(alloc: Global, arcs: &TextArcs, from: Items<S::From>) -> Result<Items<S>, Fault> {
+    fn stitch_from(
+        alloc: Global,
+        arcs: &TextArcs,
+        from: Items<S::From>,
+    ) -> Result<Items<S>, Fault> {
         Ok(Items::from_vec(each_stitched(alloc, arcs, from.into_vec())?))
     }
 }
@@ -130,11 +134,11 @@ fn shape_of(alloc: Global, arcs: &TextArcs, body: Body) -> Result<Shape, Fault>
         Body::Null => Ok(Shape::Null),
         Body::Point(p) => Ok(Shape::Point(p)),
         Body::MultiPoint(ps) => Ok(Shape::MultiPoint(ps)),
-        Body::Line(used) => Ok(Shape::Line(Line::stitched(alloc, arcs, used)?)),
-        Body::MultiLine(lists) => Ok(Shape::MultiLine(Items::stitched(alloc, arcs, lists)?)),
-        Body::Polygon(lists) => Ok(Shape::Polygon(Items::stitched(alloc, arcs, lists)?)),
+        Body::Line(used) => Ok(Shape::Line(Line::stitch_from(alloc, arcs, used)?)),
+        Body::MultiLine(lists) => Ok(Shape::MultiLine(Items::stitch_from(alloc, arcs, lists)?)),
+        Body::Polygon(lists) => Ok(Shape::Polygon(Items::stitch_from(alloc, arcs, lists)?)),
         Body::MultiPolygon(polygons) => {
-            Ok(Shape::MultiPolygon(Items::stitched(alloc, arcs, polygons)?))
+            Ok(Shape::MultiPolygon(Items::stitch_from(alloc, arcs, polygons)?))
         }
     }
 }
@@ -148,7 +152,7 @@ fn judge_id(id: &Id)
     }
 }
 
-impl Stitched for Feature {
+impl StitchFrom for Feature {
     type From = Geom;
 
     ghost Seen = { Plain };
@@ -159,7 +163,7 @@ impl Stitched for Feature {
 
     ghost along = { λ arcs g. feature_along arcs (plain_geom g) };
 
-    fn stitched(alloc: Global, arcs: &TextArcs, from: Geom) -> Result<Feature, Fault> {
+    fn stitch_from(alloc: Global, arcs: &TextArcs, from: Geom) -> Result<Feature, Fault> {
         let Geom { id, props, body } = from;
         judge_id(&id);
         let shape = shape_of(alloc, arcs, body)?;
@@ -179,7 +183,7 @@ fn name_of(alloc: Global, text: &str) -> Result<String, Fault>
 
 type NamedFeatures = (String, Vec<Feature>);
 
-impl Stitched for NamedFeatures {
+impl StitchFrom for NamedFeatures {
     type From = Layer;
 
     ghost Seen = { List ℕ × List Plain };
@@ -190,7 +194,7 @@ impl Stitched for NamedFeatures {
 
     ghost along = { λ arcs l. layer_along arcs (layer_of_geoms l) };
 
-    fn stitched(alloc: Global, arcs: &TextArcs, from: Layer) -> Result<NamedFeatures, Fault> {
+    fn stitch_from(alloc: Global, arcs: &TextArcs, from: Layer) -> Result<NamedFeatures, Fault> {
         let (name, geometries) = from.into_parts();
         let features = each_stitched(alloc, arcs, geometries)?;
         let name = name_of(alloc, name.text())?;

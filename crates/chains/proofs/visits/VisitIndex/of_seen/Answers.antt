@@ -1,6 +1,6 @@
 use Rattle.std.proofs.Common.{rules, subst}
 use Rattle.std.proofs.lemmas.List.Sorted.{answers_always}
-use Rattle.chains.specs.Shared.{KeepsClashes}
+use Rattle.chains.specs.VertexFilter.{KeepsClashes}
 use Rattle.chains.specs.Visits.{HaveSame}
 use Rattle.chains.proofs.Gathered.{ends_alike, junctions_kept}
 use Rattle.chains.proofs.Recurring.{keeps_through}

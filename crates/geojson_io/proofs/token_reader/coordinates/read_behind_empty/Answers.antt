@@ -5,8 +5,8 @@ use Rattle.serde_json.specs.Data.{Data}
 use Rattle.faults.specs.Fault.{Pair}
 use Rattle.grid.specs.declared.pos.Pos.{Pos}
 use Rattle.reading.specs.Parts.{list_faults, elements}
-use Rattle.json_tokens.specs.Reads.{ReadsRest}
-use Rattle.token_parts.proofs.Listing.{opened_reads}
+use Rattle.reading.specs.Tokens.Reads.{ReadsRest}
+use Rattle.reading.proofs.TokenPartsLemmas.Listing.{opened_reads}
 use Rattle.geojson_io.specs.Positions.{position_faults, position_of}
 use Rattle.geojson_io.proofs.TokenCoordinates.{empty_reads}
 use Rattle.geojson_io.proofs.token_reader.coordinates.read_behind_empty.Goals as goal

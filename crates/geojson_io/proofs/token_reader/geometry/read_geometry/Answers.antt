@@ -2,8 +2,8 @@ use Rattle.std.proofs.Common.{◌≡◌, ◌∷◌, ap, ◌∙◌, refl, arith}
 use Rattle.std.proofs.lemmas.Result.{IfOk-weaker}
 use Rattle.json.specs.Reads.{token_of}
 use Rattle.serde_json.specs.Data.{object, null}
-use Rattle.json_tokens.proofs.Lists.{null_gives}
-use Rattle.json_tokens.proofs.Objects.{object_gone}
+use Rattle.reading.proofs.TokensLemmas.Lists.{null_gives}
+use Rattle.reading.proofs.TokensLemmas.Objects.{object_gone}
 use Rattle.geojson_io.proofs.token_reader.geometry.read_geometry.Goals as goal
 
 pub returns-in-Null : goal.returns-in-Null

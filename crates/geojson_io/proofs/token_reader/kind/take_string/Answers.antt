@@ -1,6 +1,6 @@
 use Rattle.std.proofs.Common.{◌≡◌, ◌∷◌, arith}
 use Rattle.json.specs.Token.{string}
-use Rattle.json_tokens.proofs.Lists.{string_gives}
+use Rattle.reading.proofs.TokensLemmas.Lists.{string_gives}
 use Rattle.geojson_io.proofs.token_reader.kind.take_string.Goals as goal
 
 pub returns-in-Some-String-clause-read : goal.returns-in-Some-String-clause-read

@@ -1,6 +1,6 @@
 use Rattle.std.proofs.Common.{◌∙◌, ap}
 use Rattle.geojson_io.specs.CollectionText.{feature_frame}
-use Rattle.writing.proofs.Same.{whole_as, part_as}
+use Rattle.shapes.proofs.WritingLemmas.Same.{whole_as, part_as}
 use Rattle.geojson_io.proofs.writer.FeatureOfWritten.write.Goals as goal
 
 pub returns-clause-whole : goal.returns-clause-whole

@@ -1,4 +1,4 @@
-use Rattle.writing.proofs.Same.{whole_as, part_as}
+use Rattle.shapes.proofs.WritingLemmas.Same.{whole_as, part_as}
 use Rattle.geojson_io.proofs.Collections.{points_text, lines_text, polygons_text}
 use Rattle.geojson_io.proofs.writer.ShapesOnNotationShape.write_value.Goals as goal
 

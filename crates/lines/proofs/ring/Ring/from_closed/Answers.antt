@@ -32,8 +32,8 @@ returns-clause-ok c =
     (c.if-not-is_closed.ensures ∙ ap (is_closed position_cmp) c.deref.ensures.value) (omega (arith, c.collapse.new.positions.ok.0))
     (sym c.if-branch.false ∙ c.in_ok-repeats_segment.ensures ∙ ap (repeats position_cmp) c.deref-2.ensures.value)
 
-pub turned-requires : goal.turned-requires
-turned-requires c = (
+pub turn_to_least-requires : goal.turn_to_least-requires
+turn_to_least-requires c = (
   c.args.closed.items,
   c.collapse.ensures,
   ring_good c.args.closed.items c.collapse.new.positions.items c.collapse.ensures
@@ -43,7 +43,7 @@ turned-requires c = (
 
 pub returns-clause-ring : goal.returns-clause-ring
 returns-clause-ring c =
-    c.turned.ensures c.args.closed.items c.collapse.ensures
+    c.turn_to_least.ensures c.args.closed.items c.collapse.ensures
     (ring_good c.args.closed.items c.collapse.new.positions.items c.collapse.ensures
     (c.if-not-is_closed.ensures ∙ ap (is_closed position_cmp) c.deref.ensures.value) (omega (arith, c.collapse.new.positions.ok.0))
     (sym c.if-branch.false ∙ c.in_ok-repeats_segment.ensures ∙ ap (repeats position_cmp) c.deref-2.ensures.value))

@@ -1,7 +1,5 @@
-use Rattle.std.proofs.Common.{[], ap, ◌∙◌, subst, replicate, length}
-use Rattle.theory.specs.Arcs.{AreSortedOnce}
-use Rattle.query.specs.Pairs.{pair_cmp, pairs_among, with_others}
-use Rattle.query.specs.Uses.{use_cmp}
+use Rattle.std.proofs.Common.{[], ap, ◌∙◌, replicate, length}
+use Rattle.query.specs.Pairs.{with_others}
 use Rattle.query.proofs.Neighboring.{lists_neighbors}
 use Rattle.query.proofs.LayerFeatures.{layer_found, layer_missing, layer_stands, not_named, named_features}
 use Rattle.query.proofs.questions.neighbors.neighbors.Goals as goal
@@ -9,11 +7,8 @@ use Rattle.query.proofs.questions.neighbors.neighbors.Goals as goal
 pub returns-in_default-clause-layer : goal.returns-in_default-clause-layer
 returns-in_default-clause-layer c = λ m of. layer_missing _ (not_named m c.args.topology.now of c.args.layer.now c.in_default.ensures.none)
 
-pub returns-in_err-uses-clause-layer : goal.returns-in_err-uses-clause-layer
-returns-in_err-uses-clause-layer c = λ m of. layer_stands c.from_residual.result _ c.from_residual.ensures.1 (named_features m c.args.topology.now of c.args.layer.now c.in-Some.geometries.now c.in-Some.ensures.found).0
-
 pub returns-in_err-pairs-clause-layer : goal.returns-in_err-pairs-clause-layer
-returns-in_err-pairs-clause-layer c = λ m of. layer_stands c.from_residual-in_err-pairs.result _ c.from_residual-in_err-pairs.ensures.1 (named_features m c.args.topology.now of c.args.layer.now c.in-Some.geometries.now c.in-Some.ensures.found).0
+returns-in_err-pairs-clause-layer c = λ m of. layer_stands c.from_residual.result _ c.from_residual.ensures.1 (named_features m c.args.topology.now of c.args.layer.now c.in-Some.geometries.now c.in-Some.ensures.found).0
 
 pub returns-in_err-lists_of-clause-layer : goal.returns-in_err-lists_of-clause-layer
 returns-in_err-lists_of-clause-layer c = λ m of. layer_stands c.from_residual-in_err-lists_of.result _ c.from_residual-in_err-lists_of.ensures.1 (named_features m c.args.topology.now of c.args.layer.now c.in-Some.geometries.now c.in-Some.ensures.found).0
@@ -23,7 +18,6 @@ returns-clause-layer c = λ m of. layer_found _ _ (named_features m c.args.topol
 
 pub returns-clause-neighbors : goal.returns-clause-neighbors
 returns-clause-neighbors c = λ m of.
-    lists_neighbors m c.args.topology.now of c.args.layer.now c.in-Some.geometries.now c.in-Some.ensures.found c.sort_uses.new.uses.items c.sort_pairs.new.pairs.items
-    (subst (λ w. AreSortedOnce use_cmp w c.sort_uses.new.uses.items) c.in_ok-uses.ensures c.sort_uses.ensures)
-    (subst (λ w. AreSortedOnce pair_cmp w c.sort_pairs.new.pairs.items) (c.in_ok-pairs.ensures ∙ ap pairs_among c.deref.ensures.value) c.sort_pairs.ensures)
-    _ (c.in_ok-lists_of.ensures ∙ ap (with_others (replicate (length c.in-Some.geometries.now) [])) c.deref-2.ensures.value)
+    lists_neighbors m c.args.topology.now of c.args.layer.now c.in-Some.geometries.now c.in-Some.ensures.found c.in_ok-pairs.ensures.uses c.in_ok-pairs.pairs.items
+    c.in_ok-pairs.ensures.used c.in_ok-pairs.ensures.paired
+    _ (c.in_ok-lists_of.ensures ∙ ap (with_others (replicate (length c.in-Some.geometries.now) [])) c.deref.ensures.value)

@@ -1,5 +1,5 @@
 use Rattle.query.specs.Pairs.{pair_cmp}
-use Rattle.query.specs.contracts.questions.neighbors.PairPartialEq.TheImpl as pair_eq
+use Rattle.query.specs.contracts.questions.neighbors.IndexPairPartialEq.TheImpl as pair_eq
 use Rattle.query.proofs.Orders.{pair_total, pair_same, pair_ties}
 use Rattle.query.proofs.SortedOnce.{sorted_once}
 use Rattle.query.proofs.questions.neighbors.sort_pairs.Goals as goal

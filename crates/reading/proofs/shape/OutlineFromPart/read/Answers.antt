@@ -16,10 +16,10 @@ returns-in_err-positions-clause-err g c =
 pub returns-clause-ok : goal.returns-clause-ok
 returns-clause-ok g c =
     let (judged, same) = c.in_ok-positions.ensures.ok in
-    ok_with c.outlined.result _ _ _ c.outlined.ensures.ok c.outlined.ensures.made
+    ok_with c.read_outline.result _ _ _ c.read_outline.ensures.ok c.read_outline.ensures.made
     (λ none o made. (judged (λ ps. outline_faults (g.O.Outline.fault ps)) ∙ none, made ∙ ap g.O.Outline.of same))
 
 pub returns-clause-err : goal.returns-clause-err
 returns-clause-err g c =
     let asked : List Pos → List Pair = λ ps. outline_faults (g.O.Outline.fault ps) in
-    err_map c.outlined.result _ _ c.outlined.ensures.err (λ f h. subst (λ ps. LeastOrWant ps f) (sym (c.in_ok-positions.ensures.ok.0 asked)) h)
+    err_map c.read_outline.result _ _ c.read_outline.ensures.err (λ f h. subst (λ ps. LeastOrWant ps f) (sym (c.in_ok-positions.ensures.ok.0 asked)) h)

@@ -5,8 +5,8 @@ use Rattle.topo.proofs.cuts.Cuts.add_each.Given as goal
 
 abbrev pub invariant-loop-item : goal.invariant-loop-item
 invariant-loop-item g l = record {
-  pieces : l.self.pieces.items ++ gathered (g.C.Cut.pieces l.fn.index) (map g.C.Cut.positions (drop l.item-index l.fn.items))
-      ≡ l.fn.self.pieces.items ++ gathered (g.C.Cut.pieces l.fn.index) (map g.C.Cut.positions l.fn.items);
-  counts : l.self.counts.items ++ gathered (count_of (g.C.Cut.pieces l.fn.index)) (map g.C.Cut.positions (drop l.item-index l.fn.items))
-      ≡ l.fn.self.counts.items ++ gathered (count_of (g.C.Cut.pieces l.fn.index)) (map g.C.Cut.positions l.fn.items);
+  pieces : l.self.pieces.items ++ gathered (g.C.CutIntoArcs.pieces l.fn.index) (map g.C.CutIntoArcs.positions (drop l.item-index l.fn.items))
+      ≡ l.fn.self.pieces.items ++ gathered (g.C.CutIntoArcs.pieces l.fn.index) (map g.C.CutIntoArcs.positions l.fn.items);
+  counts : l.self.counts.items ++ gathered (count_of (g.C.CutIntoArcs.pieces l.fn.index)) (map g.C.CutIntoArcs.positions (drop l.item-index l.fn.items))
+      ≡ l.fn.self.counts.items ++ gathered (count_of (g.C.CutIntoArcs.pieces l.fn.index)) (map g.C.CutIntoArcs.positions l.fn.items);
 }

@@ -7,16 +7,16 @@ use Rattle.topo.proofs.topology.Topology.from_unmeasured_parts.Goals as goal
 pub invariant_of-result : goal.invariant_of-result
 invariant_of-result c = (
   c.requires.0,
-  of_parts c.requires.0 (record { grid = c.args.grid; arcs = c.args.arcs; layers = c.from_vec.result; bbox = kept_box c.args.grid c.args.arcs c.from_vec.result c.unmeasured-bbox.result })
+  of_parts c.requires.0 (record { grid = c.args.grid; arcs = c.args.arcs; layers = c.from_vec.result; bbox = kept_box c.args.grid c.args.arcs c.from_vec.result c.unmeasured_box-bbox.result })
       (subst (ArePartsOf c.requires.0 c.args.arcs) (sym c.from_vec.ensures) c.requires.1)
-      (kept_for c.args.grid c.args.arcs _ _ c.unmeasured-bbox.result (c.deref.ensures.value ∙ sym c.from_vec.ensures) (c.unmeasured-bbox.ensures.kept c.args.grid)),
+      (kept_for c.args.grid c.args.arcs _ _ c.unmeasured_box-bbox.result (c.deref.ensures.value ∙ sym c.from_vec.ensures) (c.unmeasured_box-bbox.ensures.kept c.args.grid)),
 )
 
 pub returns-clause-of_map : goal.returns-clause-of_map
 returns-clause-of_map c = λ m h.
-    of_parts m (record { grid = c.args.grid; arcs = c.args.arcs; layers = c.from_vec.result; bbox = kept_box c.args.grid c.args.arcs c.from_vec.result c.unmeasured-bbox.result })
+    of_parts m (record { grid = c.args.grid; arcs = c.args.arcs; layers = c.from_vec.result; bbox = kept_box c.args.grid c.args.arcs c.from_vec.result c.unmeasured_box-bbox.result })
     (subst (ArePartsOf m c.args.arcs) (sym c.from_vec.ensures) h)
-    (kept_for c.args.grid c.args.arcs _ _ c.unmeasured-bbox.result (c.deref.ensures.value ∙ sym c.from_vec.ensures) (c.unmeasured-bbox.ensures.kept c.args.grid))
+    (kept_for c.args.grid c.args.arcs _ _ c.unmeasured_box-bbox.result (c.deref.ensures.value ∙ sym c.from_vec.ensures) (c.unmeasured_box-bbox.ensures.kept c.args.grid))
 
 pub returns-clause-few : goal.returns-clause-few
-returns-clause-few c = c.unmeasured-bbox.ensures.few
+returns-clause-few c = c.unmeasured_box-bbox.ensures.few

@@ -10,13 +10,13 @@ use Rattle.topo_io.proofs.reader.stitching.stitched_to.Goals as goal
 pub returns-clause-ok : goal.returns-clause-ok
 returns-clause-ok g c =
     let asked : List Pos → List Pair = λ ps. outline_faults (g.O.Outline.fault ps) in
-    on_ok_map c.outlined.result _ _ c.outlined.ensures.ok (λ e. ap (stitched_faults asked) c.in_ok-positions.ensures.made ∙ e)
+    on_ok_map c.read_outline.result _ _ c.read_outline.ensures.ok (λ e. ap (stitched_faults asked) c.in_ok-positions.ensures.made ∙ e)
 
 pub returns-clause-made : goal.returns-clause-made
 returns-clause-made g c =
-    ok_map c.outlined.result _ _ c.outlined.ensures.made (λ o e. e ∙ sym (ap (λ l. g.O.Outline.of (list_or_none l)) c.in_ok-positions.ensures.made))
+    ok_map c.read_outline.result _ _ c.read_outline.ensures.made (λ o e. e ∙ sym (ap (λ l. g.O.Outline.of (list_or_none l)) c.in_ok-positions.ensures.made))
 
 pub returns-clause-err : goal.returns-clause-err
 returns-clause-err g c =
     let asked : List Pos → List Pair = λ ps. outline_faults (g.O.Outline.fault ps) in
-    err_map c.outlined.result _ _ c.outlined.ensures.err (λ f h. subst (λ l. LeastOrWant (stitched_faults asked l) f) (sym c.in_ok-positions.ensures.made) h)
+    err_map c.read_outline.result _ _ c.read_outline.ensures.err (λ f h. subst (λ l. LeastOrWant (stitched_faults asked l) f) (sym c.in_ok-positions.ensures.made) h)

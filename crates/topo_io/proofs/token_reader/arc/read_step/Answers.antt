@@ -2,7 +2,7 @@ use Rattle.std.proofs.Common.{◌≡◌, ◌+ℤ◌, to_z, of_z, w64, ◌∷◌,
 use Rattle.json.specs.Token.{Token, begin_array}
 use Rattle.reading.proofs.Positions.{number_reads}
 use Rattle.topo_io.specs.Limits.{no_limits, step_faults, sums_at, next_sums}
-use Rattle.json_tokens.specs.Reads.{Reads}
+use Rattle.reading.specs.Tokens.Reads.{Reads}
 use Rattle.topo_io.proofs.TokenArcs.{step_reads}
 use Rattle.topo_io.proofs.token_reader.arc.read_step.Goals as goal
 

@@ -1,7 +1,7 @@
 use Rattle.std.proofs.Common.{◌≡◌, ◌<◌, length, None, pos, arith, subst, sym}
 use Rattle.json.specs.Json.{after_end_array}
 use Rattle.topo_io.specs.Limits.{no_limits, step_faults, sums_at, next_sums}
-use Rattle.json_tokens.specs.Reads.{Reads}
+use Rattle.reading.specs.Tokens.Reads.{Reads}
 use Rattle.topo_io.proofs.TokenArcs.{Walked, walked_none, walked_more, walked_all}
 use Rattle.topo_io.proofs.token_reader.arc.read_steps.Goals as goal
 

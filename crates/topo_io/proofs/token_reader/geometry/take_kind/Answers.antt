@@ -2,7 +2,7 @@ use Rattle.std.proofs.Common.{◌≡◌, ◌∷◌, refl, ap, ◌∙◌, arith}
 use Rattle.std.proofs.lemmas.Result.{IfOk-weaker}
 use Rattle.json.specs.Reads.{token_of}
 use Rattle.serde_json.specs.Data.{string, null}
-use Rattle.json_tokens.proofs.Lists.{null_gives, string_gives}
+use Rattle.reading.proofs.TokensLemmas.Lists.{null_gives, string_gives}
 use Rattle.topo_io.proofs.token_reader.geometry.take_kind.Goals as goal
 
 pub returns-in-Null-clause-read : goal.returns-in-Null-clause-read

@@ -1,12 +1,12 @@
-use Rattle.std.proofs.Common.{◌≡◌, ◌-◌, List, ◌∷◌, ◌∙◌, subst, sym, arith}
+use Rattle.std.proofs.Common.{◌-◌, List, ◌∷◌, ◌∙◌, subst, sym, arith}
 use Rattle.std.specs.List.{AllZip}
 use Rattle.json.specs.Token.{begin_array, end_array}
 use Rattle.serde_json.specs.Data.{Data}
 use Rattle.faults.specs.Fault.{Pair}
 use Rattle.theory.specs.ArcNumbers.{ArcRef}
 use Rattle.reading.specs.Parts.{list_faults, elements}
-use Rattle.json_tokens.specs.Reads.{Reads, ReadsRest}
-use Rattle.token_parts.proofs.Listing.{opened_reads}
+use Rattle.reading.specs.Tokens.Reads.{ReadsRest}
+use Rattle.reading.proofs.TokenPartsLemmas.Listing.{opened_reads}
 use Rattle.topo_io.specs.TokenLater.{any_index_faults, IsRef}
 use Rattle.topo_io.proofs.TokenLater.{empty_reads}
 use Rattle.topo_io.proofs.token_reader.lists.read_behind_empty.Goals as goal

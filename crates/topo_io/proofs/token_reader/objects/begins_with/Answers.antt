@@ -1,6 +1,6 @@
 use Rattle.std.proofs.Common.{◌≡◌, true, sym, ap, ◌∙◌, subst, arith}
 use Rattle.shapes.specs.Parts.{spelled_text}
-use Rattle.token_parts.proofs.Members.{same_name}
+use Rattle.reading.proofs.TokenPartsLemmas.Members.{same_name}
 use Rattle.topo_io.specs.TokenLayers.{Ascending, BeginsWith}
 use Rattle.topo_io.proofs.TokenLayers.{begins_named}
 use Rattle.topo_io.proofs.token_reader.objects.begins_with.Goals as goal

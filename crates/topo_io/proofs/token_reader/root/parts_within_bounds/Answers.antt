@@ -4,7 +4,6 @@ use Rattle.std.specs.List.{AllByRecursion}
 use Rattle.grid.specs.Fits.{Fits}
 use Rattle.topo_io.specs.declared.reader.parts.TextParts.{TextParts}
 use Rattle.topo_io.specs.TokenLayers.{LayerWithin}
-use Rattle.topo_io.specs.declared.token_reader.bounds.Bounds.{Bounds}
 use Rattle.topo_io.proofs.TokenRoots.{root_means}
 use Rattle.topo_io.proofs.token_reader.root.parts_within_bounds.Goals as goal
 

@@ -1,7 +1,7 @@
 use Rattle.std.proofs.Common.{◌∙◌, subst, sym}
 use Rattle.reading.specs.Fault.{LeastOrWant}
 use Rattle.reading.proofs.Results.{err_map, on_ok_map}
-use Rattle.arc_lists.specs.Lists.{SameFaults}
+use Rattle.normalize.specs.ArcLists.Lists.{SameFaults}
 use Rattle.topo_io.proofs.JudgedLists.{kept_list}
 use Rattle.topo_io.proofs.validity.list.judge_tangled.Goals as goal
 

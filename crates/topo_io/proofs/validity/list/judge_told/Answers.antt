@@ -2,7 +2,7 @@ use Rattle.std.proofs.Common.{◌∙◌, ap, subst, sym}
 use Rattle.faults.specs.declared.fault.FaultKind.TheVariants.{Broken}
 use Rattle.reading.specs.Fault.{here}
 use Rattle.reading.proofs.Least.{only_of}
-use Rattle.arc_lists.specs.Lists.{IsTold}
+use Rattle.normalize.specs.ArcLists.Lists.{IsTold}
 use Rattle.topo_io.specs.Validity.{fault_of, used_faults}
 use Rattle.topo_io.proofs.JudgedLists.{broken_list, faulty_list, sound_list}
 use Rattle.topo_io.proofs.validity.list.judge_told.Goals as goal

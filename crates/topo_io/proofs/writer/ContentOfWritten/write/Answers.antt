@@ -3,7 +3,8 @@ use Rattle.std.specs.Result.{OnOk}
 use Rattle.sinks.specs.Texts.{list_text}
 use Rattle.sinks.specs.Writes.{TookAll}
 use Rattle.topo.specs.OfMap.{body_of}
-use Rattle.topo_io.specs.TopologyText.{content_text, position_text}
+use Rattle.topo.specs.ArcTexts.{position_text}
+use Rattle.topo_io.specs.TopologyText.{content_text}
 use Rattle.topo_io.proofs.writer.ContentOfWritten.write.Goals as goal
 
 pub returns-in-MultiPoint-clause-whole : goal.returns-in-MultiPoint-clause-whole

@@ -2,7 +2,7 @@ use Rattle.std.proofs.Common.{codes, refl}
 use Rattle.std.proofs.lemmas.Result.{on_ok_weaker}
 use Rattle.serde_json.specs.Data.{string}
 use Rattle.geojson_io.proofs.TokenMembers.{root_word, root_kept, feature_behind}
-use Rattle.token_parts.proofs.Members.{same_name, other_name}
+use Rattle.reading.proofs.TokenPartsLemmas.Members.{same_name, other_name}
 use Rattle.geojson_io.proofs.token_reader.feature.FeatureMembersTakeMember.take.Goals as goal
 
 pub returns-then-eq-clause-read : goal.returns-then-eq-clause-read

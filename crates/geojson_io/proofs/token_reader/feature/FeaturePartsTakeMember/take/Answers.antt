@@ -1,8 +1,8 @@
 use Rattle.std.proofs.Common.{codes}
 use Rattle.std.proofs.lemmas.Result.{on_ok_weaker}
-use Rattle.json_tokens.proofs.Reading.{gives_shorter}
+use Rattle.reading.proofs.TokensLemmas.Reading.{gives_shorter}
 use Rattle.geojson_io.proofs.TokenMembers.{with_shape, with_id, with_props, feature_kept}
-use Rattle.token_parts.proofs.Members.{same_name, other_name}
+use Rattle.reading.proofs.TokenPartsLemmas.Members.{same_name, other_name}
 use Rattle.geojson_io.proofs.token_reader.feature.FeaturePartsTakeMember.take.Goals as goal
 
 pub returns-then-eq-clause-read : goal.returns-then-eq-clause-read

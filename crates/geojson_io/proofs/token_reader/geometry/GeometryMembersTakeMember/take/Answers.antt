@@ -1,9 +1,9 @@
 use Rattle.std.proofs.Common.{codes}
 use Rattle.std.proofs.lemmas.Result.{on_ok_weaker}
 use Rattle.serde_json.specs.Data.{string}
-use Rattle.json_tokens.proofs.Reading.{gives_shorter}
+use Rattle.reading.proofs.TokensLemmas.Reading.{gives_shorter}
 use Rattle.geojson_io.proofs.TokenMembers.{type_known, kind_kept, coordinates_known, coordinates_kept, not_both, nor_both}
-use Rattle.token_parts.proofs.Members.{same_name, other_name}
+use Rattle.reading.proofs.TokenPartsLemmas.Members.{same_name, other_name}
 use Rattle.geojson_io.proofs.token_reader.geometry.GeometryMembersTakeMember.take.Goals as goal
 
 pub returns-then-eq-clause-read : goal.returns-then-eq-clause-read

@@ -3,7 +3,7 @@ use Rattle.json.specs.Token.{Token, begin_array}
 use Rattle.grid.specs.Computed.{axis_number}
 use Rattle.reading.proofs.Positions.{number_reads}
 use Rattle.geojson_io.specs.Positions.{position_faults, position_of}
-use Rattle.json_tokens.specs.Reads.{Reads}
+use Rattle.reading.specs.Tokens.Reads.{Reads}
 use Rattle.geojson_io.proofs.TokenPositions.{position_reads}
 use Rattle.geojson_io.proofs.token_reader.position.PositionFromOpened.read_opened.Goals as goal
 

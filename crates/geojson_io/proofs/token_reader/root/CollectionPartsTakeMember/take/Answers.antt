@@ -1,6 +1,6 @@
 use Rattle.std.proofs.Common.{codes}
 use Rattle.std.proofs.lemmas.Result.{on_ok_weaker}
-use Rattle.token_parts.proofs.Members.{same_name, other_name}
+use Rattle.reading.proofs.TokenPartsLemmas.Members.{same_name, other_name}
 use Rattle.geojson_io.proofs.TokenMembers.{with_features, features_kept}
 use Rattle.geojson_io.proofs.token_reader.root.CollectionPartsTakeMember.take.Goals as goal
 

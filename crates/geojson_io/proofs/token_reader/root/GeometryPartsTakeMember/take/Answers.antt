@@ -1,7 +1,7 @@
 use Rattle.std.proofs.Common.{codes}
 use Rattle.std.proofs.lemmas.Result.{on_ok_weaker}
-use Rattle.json_tokens.proofs.Reading.{gives_shorter}
-use Rattle.token_parts.proofs.Members.{same_name, other_name}
+use Rattle.reading.proofs.TokensLemmas.Reading.{gives_shorter}
+use Rattle.reading.proofs.TokenPartsLemmas.Members.{same_name, other_name}
 use Rattle.geojson_io.proofs.TokenMembers.{coordinates_known, coordinates_kept}
 use Rattle.geojson_io.proofs.token_reader.root.GeometryPartsTakeMember.take.Goals as goal
 

@@ -2,7 +2,7 @@ use Rattle.std.proofs.Common.{◌∙◌, sym, ap, codes}
 use Rattle.sinks.specs.Texts.{list_text}
 use Rattle.geojson_io.specs.CollectionText.{place_text, geometry_text}
 use Rattle.query.specs.ByArcs.{line_along, ring_along, body_text}
-use Rattle.writing.proofs.Same.{whole_as, part_as}
+use Rattle.shapes.proofs.WritingLemmas.Same.{whole_as, part_as}
 use Rattle.query.proofs.layer_text.collection.BodiesOfNotationBody.write_value.Goals as goal
 
 pub returns-in-MultiPoint : goal.returns-in-MultiPoint

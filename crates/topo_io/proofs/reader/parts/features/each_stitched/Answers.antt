@@ -7,7 +7,7 @@ use Rattle.topo_io.proofs.reader.parts.features.each_stitched.Goals as goal
 
 pub returns-in_err-stitched-clause-err : goal.returns-in_err-stitched-clause-err
 returns-in_err-stitched-clause-err g c =
-    let stitches = g.S.Stitched.stitches c.args.arcs.now in
+    let stitches = g.S.StitchFrom.stitches c.args.arcs.now in
     let part : NotOrWant (AllByRecursion stitches c.args.parts.items) c.in_err-stitched.field-0.0 =
     one_refused stitches _ c.loop-part.part-iterator.rest.items c.in-Some.part c.next.new.self.rest.items
     c.in-Some.ensures.steps.0 c.loop-part.invariant.stitch c.in_err-stitched.field-0.0 c.in_err-stitched.ensures.err in
@@ -20,16 +20,16 @@ loop-part-preserved g c =
     let x = c.in-Some.part in
     let left = c.next.new.self.rest.items in
     let is = c.in-Some.ensures.steps.0 in record {
-      stitch = one_holds (g.S.Stitched.stitches arcs) _ old x left is c.loop-part.invariant.stitch c.in_ok-stitched.ensures.ok;
-      made = one_made g.S.Stitched.seen (g.S.Stitched.along arcs) _ c.loop-part.made.items old x left c.in_ok-stitched.stitched c.keep.new.list.items is c.in_ok-stitched.ensures.made c.in_ok-keep.ensures.ok c.loop-part.invariant.made;
+      stitch = one_holds (g.S.StitchFrom.stitches arcs) _ old x left is c.loop-part.invariant.stitch c.in_ok-stitched.ensures.ok;
+      made = one_made g.S.StitchFrom.seen (g.S.StitchFrom.along arcs) _ c.loop-part.made.items old x left c.in_ok-stitched.stitched c.keep.new.list.items is c.in_ok-stitched.ensures.made c.in_ok-keep.ensures.ok c.loop-part.invariant.made;
     }
 
 pub returns-clause-ok : goal.returns-clause-ok
 returns-clause-ok g c =
     let left = c.loop-part.part-iterator.rest in
-    all_hold (g.S.Stitched.stitches c.args.arcs.now) _ left.items (none_left left.items (sym left.ok.0 ∙ c.in-None.ensures.steps.0)) c.loop-part.invariant.stitch
+    all_hold (g.S.StitchFrom.stitches c.args.arcs.now) _ left.items (none_left left.items (sym left.ok.0 ∙ c.in-None.ensures.steps.0)) c.loop-part.invariant.stitch
 
 pub returns-clause-made : goal.returns-clause-made
 returns-clause-made g c =
     let left = c.loop-part.part-iterator.rest in
-    all_made g.S.Stitched.seen (g.S.Stitched.along c.args.arcs.now) _ c.loop-part.made.items left.items (none_left left.items (sym left.ok.0 ∙ c.in-None.ensures.steps.0)) c.loop-part.invariant.made
+    all_made g.S.StitchFrom.seen (g.S.StitchFrom.along c.args.arcs.now) _ c.loop-part.made.items left.items (none_left left.items (sym left.ok.0 ∙ c.in-None.ensures.steps.0)) c.loop-part.invariant.made

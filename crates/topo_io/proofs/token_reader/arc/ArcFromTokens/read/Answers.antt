@@ -1,5 +1,5 @@
 use Rattle.std.proofs.Common.{◌≡◌, ◌≤◌, length, sym, subst, arith}
-use Rattle.json_tokens.specs.Reads.{Reads}
+use Rattle.reading.specs.Tokens.Reads.{Reads}
 use Rattle.topo_io.specs.Arcs.{arc_faults, arc_of}
 use Rattle.topo_io.specs.Limits.{no_limits}
 use Rattle.topo_io.proofs.TokenArcs.{arc_reads}

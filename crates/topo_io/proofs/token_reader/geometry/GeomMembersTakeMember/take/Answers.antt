@@ -1,7 +1,7 @@
 use Rattle.std.proofs.Common.{codes}
 use Rattle.std.proofs.lemmas.Result.{on_ok_weaker}
-use Rattle.json_tokens.proofs.Reading.{gives_shorter}
-use Rattle.token_parts.proofs.Members.{same_name, other_name}
+use Rattle.reading.proofs.TokensLemmas.Reading.{gives_shorter}
+use Rattle.reading.proofs.TokenPartsLemmas.Members.{same_name, other_name}
 use Rattle.topo_io.proofs.TokenMembers.{with_type, with_coordinates, with_lists, with_id, with_props, with_other}
 use Rattle.topo_io.proofs.token_reader.geometry.GeomMembersTakeMember.take.Goals as goal
 

@@ -2,7 +2,7 @@ use Rattle.std.proofs.Common.{codes}
 use Rattle.std.proofs.lemmas.Result.{on_ok_weaker}
 use Rattle.std.specs.List.{AllZip}
 use Rattle.reading.specs.Parts.{list_faults, elements}
-use Rattle.token_parts.proofs.Members.{same_name, other_name, member_known, member_kept}
+use Rattle.reading.proofs.TokenPartsLemmas.Members.{same_name, other_name, member_known, member_kept}
 use Rattle.topo_io.specs.TokenMembers.{no_faults, GeometryMeans}
 use Rattle.topo_io.proofs.TokenMembers.{geoms_kept}
 use Rattle.topo_io.proofs.token_reader.layer.LayerMembersTakeMember.take.Goals as goal

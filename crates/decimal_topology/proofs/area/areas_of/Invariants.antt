@@ -1,6 +1,0 @@
-use Rattle.std.proofs.Common.{◌≡◌, map, take}
-use Rattle.decimal_topology.specs.Turning.{area_along}
-use Rattle.decimal_topology.proofs.area.areas_of.Given as goal
-
-abbrev pub invariant-loop-number : goal.invariant-loop-number
-invariant-loop-number l = l.areas.items ≡ map area_along (take l.number l.arcs.arcs)

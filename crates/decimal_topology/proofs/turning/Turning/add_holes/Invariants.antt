@@ -1,6 +1,0 @@
-use Rattle.std.proofs.Common.{◌≡◌, ◌++◌, false, map, take}
-use Rattle.decimal_topology.specs.Turning.{rewound_ring}
-use Rattle.decimal_topology.proofs.turning.Turning.add_holes.Given as goal
-
-abbrev pub invariant-loop-hole : goal.invariant-loop-hole
-invariant-loop-hole l = l.rings.items ≡ l.initial.rings.items ++ map (rewound_ring l.self.areas.items l.self.rewind false) (take l.hole-index l.holes)

@@ -1,6 +1,0 @@
-use Rattle.std.proofs.Common.{◌≡◌, ◌+ℤ◌, drop}
-use Rattle.decimal_topology.specs.Turning.{ring_area}
-use Rattle.decimal_topology.proofs.turning.Turning.of_ring.Given as goal
-
-abbrev pub invariant-loop-used : goal.invariant-loop-used
-invariant-loop-used l = l.sum +ℤ ring_area l.self.areas.items (drop l.used-index l.ring) ≡ ring_area l.self.areas.items l.ring

@@ -1,6 +1,0 @@
-use Rattle.std.proofs.Common.{◌≡◌, ◌++◌, false, map, take}
-use Rattle.decimal_topology.specs.Turning.{rewound_rings}
-use Rattle.decimal_topology.proofs.turning.Turning.polygons.Given as goal
-
-abbrev pub invariant-loop-rings : goal.invariant-loop-rings
-invariant-loop-rings l = l.made.items ≡ map (rewound_rings l.self.areas.items l.self.rewind) (take l.rings-index l.polygons)

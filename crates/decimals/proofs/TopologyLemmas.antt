@@ -1,0 +1,4 @@
+pub mod Areas
+pub mod Parts
+pub mod SinkLemmas
+pub mod Whole

@@ -1,0 +1,38 @@
+-- Texts that are written in pieces.
+use Rattle.std.proofs.Common.{codes, ◌≡◌, ℕ, ℤ, List, ◌++◌, map, sym, subst, ap, ◌∙◌, append_assoc}
+use Rattle.sinks.specs.Seen.{Seen}
+use Rattle.sinks.specs.Writes.{TookAll}
+use Rattle.sinks.proofs.Writes.{all_all}
+use Rattle.decimals.specs.Topology.TopologyText.{bbox_text, transform_text}
+use Rattle.decimals.specs.Topology.Unit.{length_text, x_text, y_text}
+use Rattle.decimals.specs.declared.topology.units.Units.{Units}
+use Rattle.grid.specs.Place.{Transform}
+use Rattle.topo.specs.Parts.{Corners}
+
+pieces : (h a m b t u : List ℕ) → (h ++ (a ++ (m ++ (b ++ t)))) ++ u ≡ h ++ (a ++ (m ++ (b ++ (t ++ u))))
+pieces h a m b t u = simp append_assoc
+
+-- a text in two pieces, of which the first is five
+pub both_pieces : {x y z : Seen} (h a m b t u goal : List ℕ) → TookAll x y (h ++ (a ++ (m ++ (b ++ t)))) → TookAll y z u
+    → h ++ (a ++ (m ++ (b ++ (t ++ u)))) ≡ goal → TookAll x z goal
+both_pieces {x} {y} {z} h a m b t u goal p q e = subst (λ l. TookAll x z l) (pieces h a m b t u ∙ e) (all_all p q)
+
+-- a text in four pieces
+pub four_pieces : {v w x y z : Seen} (a b c d : List ℕ) → TookAll v w a → TookAll w x b → TookAll x y c → TookAll y z d → TookAll v z (a ++ (b ++ (c ++ d)))
+four_pieces a b c d p q r s = all_all p (all_all q (all_all r s))
+
+-- the member `transform`, as it is written
+pub transform_is : (u : Units) (g : Transform) (s d : ℤ × ℤ) (a b x y : List ℕ) → s ≡ (g.x.scale, g.y.scale) → d ≡ (g.x.translate, g.y.translate)
+    → a ≡ length_text u s.0 → b ≡ length_text u s.1 → x ≡ x_text u d.0 → y ≡ y_text u d.1
+    → codes "\"transform\":{\"scale\":[" ++ (a ++ (codes "," ++ (b ++ (codes "]" ++ (codes ",\"translate\":[" ++ (x ++ (codes "," ++ (y ++ codes "]},")))))))) ≡ transform_text u g
+transform_is u g s d a b x y scales places ea eb ex ey =
+    let first : a ≡ length_text u g.x.scale = ea ∙ ap (λ (p : ℤ × ℤ). length_text u p.0) scales in
+    let second : b ≡ length_text u g.y.scale = eb ∙ ap (λ (p : ℤ × ℤ). length_text u p.1) scales in
+    let third : x ≡ x_text u g.x.translate = ex ∙ ap (λ (p : ℤ × ℤ). x_text u p.0) places in
+    let fourth : y ≡ y_text u g.y.translate = ey ∙ ap (λ (p : ℤ × ℤ). y_text u p.1) places in
+    (λ i. codes "\"transform\":{\"scale\":[" ++ (first i ++ (codes "," ++ (second i ++ (codes "]" ++ (codes ",\"translate\":[" ++ (third i ++ (codes "," ++ (fourth i ++ codes "]},")))))))))
+
+-- the member `bbox`, as it is written
+pub bbox_is : (u : Units) (c : Corners) (a b x y : List ℕ) → a ≡ x_text u c.0 → b ≡ y_text u c.1 → x ≡ x_text u c.2 → y ≡ y_text u c.3
+    → codes "\"bbox\":[" ++ (a ++ (codes "," ++ (b ++ (codes "," ++ (x ++ (codes "," ++ (y ++ codes "],"))))))) ≡ bbox_text u c
+bbox_is u c a b x y ea eb ex ey = (λ i. codes "\"bbox\":[" ++ (ea i ++ (codes "," ++ (eb i ++ (codes "," ++ (ex i ++ (codes "," ++ (ey i ++ codes "],"))))))))

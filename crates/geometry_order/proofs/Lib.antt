@@ -1,9 +1,0 @@
-pub mod StepLists
-pub mod RingSteps
-pub mod ArcSteps
-pub mod RoundRings
-pub mod LeastSteps
-pub mod RingsStand
-pub mod BodiesStand
-pub mod Noting
-pub mod NodedTables

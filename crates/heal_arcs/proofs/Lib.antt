@@ -1,0 +1,16 @@
+pub mod ByUses
+pub mod Choices
+pub mod WalkedRuns
+pub mod WholeArcs
+pub mod PartnersMeet
+pub mod Pairing
+pub mod Partners
+pub mod Stitches
+pub mod LeastVertex
+pub mod RunsAre
+pub mod Placed
+pub mod Heals
+pub mod Begun
+pub mod NewLists
+pub mod Noting
+pub mod ProvedLaws

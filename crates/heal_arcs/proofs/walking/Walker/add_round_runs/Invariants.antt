@@ -1,0 +1,10 @@
+use Rattle.heal_arcs.specs.PseudoNodes.{partner_in}
+use Rattle.heal_arcs.specs.Walks.{ArePaired, AreWalked, EndsGone}
+use Rattle.heal_arcs.proofs.WalkedRuns.{Rounded}
+use Rattle.heal_arcs.proofs.walking.Walker.add_round_runs.Given as goal
+
+abbrev pub invariant-loop-arc : goal.invariant-loop-arc
+invariant-loop-arc l =
+    (p : ArePaired l.fn.kept (partner_in l.fn.meeting)) → AreWalked l.fn.kept (partner_in l.fn.meeting) l.fn.self.left.items l.fn.self.runs.items →
+    EndsGone l.fn.kept (partner_in l.fn.meeting) l.fn.self.left.items →
+    Rounded l.fn.kept (partner_in l.fn.meeting) p l.arc l.self.left.items l.self.runs.items

@@ -1,0 +1,10 @@
+pub mod Parts
+pub mod ArcRuns
+pub mod Choosing
+pub mod ByUse
+pub mod PseudoNodes
+pub mod Walks
+pub mod Healing
+pub mod HealedArcs
+pub mod Starts
+pub mod Laws

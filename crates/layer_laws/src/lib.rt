@@ -1,5 +1,0 @@
-//! What joins and removals make of maps and of the layers of their topologies: definitions, and laws
-//! that need no code that cuts arcs again or joins them again.
-#![tactic(auto)]
-
-pub mod laws;

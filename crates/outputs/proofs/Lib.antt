@@ -1,0 +1,2 @@
+pub mod BuiltTextLemmas
+pub mod DifferenceTextLemmas

@@ -1,0 +1,5 @@
+use Rattle.std.proofs.Common.{length, ◌-◌}
+use Rattle.outputs.proofs.fault_reports.places.next_value.Given as goal
+
+abbrev pub decreases-blanks : goal.decreases-blanks
+decreases-blanks l = length l.bytes - l.at

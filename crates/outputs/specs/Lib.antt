@@ -1,0 +1,3 @@
+pub mod BuiltText
+pub mod DifferenceText
+pub mod FaultReports

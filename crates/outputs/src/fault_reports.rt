@@ -1,0 +1,14 @@
+//! What is reported of each error of a text: its line and column, the feature that it lies in, and what helps.
+
+mod features;
+mod line_columns;
+mod places;
+mod remedies;
+mod report;
+mod steps;
+mod written;
+
+pub use features::Format;
+pub use line_columns::LineColumn;
+pub use report::{FaultReport, reports, spell_text};
+pub use written::{ReportArray, write_json, write_lines};

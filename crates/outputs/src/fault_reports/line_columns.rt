@@ -1,0 +1,98 @@
+//! Lines and columns of a text, both from 1, columns in characters.
+use faults::OutOfMemory;
+use std::alloc::Global;
+
+/// A place in a text.
+#[derive(Clone, Copy, PartialEq, Eq, Debug, Drop)]
+pub struct LineColumn {
+    pub line: usize,
+    pub column: usize,
+}
+
+impl LineColumn {
+    /// That of the first character.
+    pub fn first() -> LineColumn {
+        LineColumn { line: 1, column: 1 }
+    }
+
+    /// The place behind a byte, of which those within a character change nothing.
+    fn after(self, byte: u8) -> LineColumn {
+        match byte {
+            b'\n' => LineColumn {
+                line: self.line.saturating_add(1),
+                column: 1,
+            },
+            0x80..=0xbf => self,
+            _ => LineColumn {
+                line: self.line,
+                column: self.column.saturating_add(1),
+            },
+        }
+    }
+}
+
+/// The place behind some bytes more.
+fn place_after(place: LineColumn, bytes: &[u8]) -> LineColumn {
+    let mut place = place;
+    for byte in bytes {
+        place = place.after(*byte);
+    }
+    place
+}
+
+/// The place that a line and a column name, where columns count bytes.
+pub fn place_at(text: &[u8], line: usize, column: usize) -> LineColumn {
+    let mut here = LineColumn::first();
+    let mut byte_column = 1usize;
+    for byte in text {
+        if here.line >= line && byte_column >= column {
+            break;
+        }
+        here = here.after(*byte);
+        byte_column = if *byte == b'\n' {
+            1
+        } else {
+            byte_column.saturating_add(1)
+        };
+    }
+    here
+}
+
+/// The place of each of some bytes of a text, found in one pass.
+///
+/// # Errors
+/// Where memory is refused.
+pub fn line_columns(
+    alloc: Global,
+    text: &[u8],
+    offsets: &[usize],
+) -> Result<Vec<LineColumn>, OutOfMemory> {
+    let mut sorted = Vec::with_capacity(alloc, offsets.len())?;
+    for (number, offset) in offsets.iter().enumerate() {
+        sorted.push((*offset, number))?;
+    }
+    sorted.sort_unstable();
+    places_in_order(alloc, text, sorted.as_slice())
+}
+
+/// The same of offsets in their order, each with its number.
+fn places_in_order(
+    alloc: Global,
+    text: &[u8],
+    sorted: &[(usize, usize)],
+) -> Result<Vec<LineColumn>, OutOfMemory> {
+    let mut places = Vec::new(alloc);
+    places.resize(sorted.len(), LineColumn::first())?;
+    let mut here = LineColumn::first();
+    let mut passed = 0;
+    for (offset, number) in sorted {
+        if let Some(between) = text.get(passed..*offset) {
+            here = place_after(here, between);
+            passed = *offset;
+        }
+        if let Some(place) = places.get_mut(*number) {
+            *place = here;
+        }
+    }
+    Ok(places)
+}

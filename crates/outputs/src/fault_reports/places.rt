@@ -1,0 +1,169 @@
+//! Where the value of each error begins, in bytes: found in one pass along the tokens.
+ghost use Rattle.std.specs.Prelude.{◌<◌, length, IfSome};
+
+use crate::fault_reports::steps::{Range, Sought, through};
+use faults::{Fault, FaultKind, OutOfMemory};
+use json::{Reader, Scratch, Token};
+use std::alloc::Global;
+
+/// How deep values may nest in `serde_json`.
+const DEEPEST: usize = 127;
+
+/// The members that an object may lack.
+const REQUIRED: [&str; 9] = [
+    "arcs",
+    "coordinates",
+    "features",
+    "geometries",
+    "objects",
+    "scale",
+    "transform",
+    "translate",
+    "type",
+];
+
+/// A text, and its errors by path.
+#[derive(Clone, Copy)]
+struct FaultyText<'t> {
+    bytes: &'t [u8],
+    faults: &'t [Fault],
+}
+
+/// The first byte from here on that is no blank, comma or colon.
+fn next_value(bytes: &[u8], from: usize) -> usize {
+    let mut at = from;
+    'blanks: while at < bytes.len() {
+        match bytes[at] {
+            b' ' | b'\t' | b'\r' | b'\n' | b',' | b':' => at += 1,
+            _ => return at,
+        }
+    }
+    at
+}
+
+/// Errors of these begin here.
+fn put_place(places: &mut [usize], range: Range, at: usize) {
+    if let Some(found) = places.get_mut(range.from..range.to) {
+        found.fill(at);
+    }
+}
+
+/// Whether the first of some errors is that of a member that is missing, and they lie there.
+fn is_missing(faults: &[Fault], found: Range) -> bool {
+    match faults.get(found.from) {
+        Some(fault) => {
+            !found.is_empty()
+                && matches!(fault.kind, FaultKind::Missing | FaultKind::NoTransform)
+                && fault.path.as_slice().len() == found.depth
+        }
+        None => false,
+    }
+}
+
+/// The error of a missing member is placed at the object.
+fn place_missing(faults: &[Fault], places: &mut [usize], range: Range, at: usize) {
+    for name in REQUIRED {
+        let found = through(faults, range, Sought::Name(name));
+        if is_missing(faults, found) {
+            put_place(places, found, at);
+        }
+    }
+}
+
+/// Whether the errors of a range lie in a value itself.
+fn is_here(faults: &[Fault], range: Range) -> bool {
+    match faults.get(range.from) {
+        Some(fault) => fault.path.as_slice().len() == range.depth,
+        None => false,
+    }
+}
+
+/// Places the errors that lie in the next value, below which others may nest `left` deep. None where the text ends before.
+#[cycle(place)]
+fn place_value<'a>(
+    text: &FaultyText,
+    reader: &mut Reader<'a>,
+    places: &mut [usize],
+    range: Range,
+    left: usize,
+) -> Option<()>
+    ensures { IfSome result (λ _. length reader.new < length reader.old) }
+{
+    if range.is_empty() || left == 0 {
+        return reader.skip_value(DEEPEST).ok();
+    }
+    let at = next_value(text.bytes, reader.offset());
+    if is_here(text.faults, range) {
+        put_place(places, range, at);
+        return reader.skip_value(DEEPEST).ok();
+    }
+    match reader.next()? {
+        Token::BeginObject => {
+            place_missing(text.faults, places, range, at);
+            place_members(text, reader, places, range, left - 1)
+        }
+        Token::BeginArray => place_items(text, reader, places, range, left - 1),
+        _ => Some(()),
+    }
+}
+
+#[cycle(place)]
+fn place_members<'a>(
+    text: &FaultyText,
+    reader: &mut Reader<'a>,
+    places: &mut [usize],
+    range: Range,
+    left: usize,
+) -> Option<()>
+    ensures { IfSome result (λ _. length reader.new < length reader.old) }
+{
+    'members: loop {
+        let Some(key) = reader.next_key().ok()? else {
+            return Some(());
+        };
+        let within = through(text.faults, range, Sought::Name(key));
+        place_value(text, reader, places, within, left)?;
+    }
+}
+
+#[cycle(place)]
+fn place_items<'a>(
+    text: &FaultyText,
+    reader: &mut Reader<'a>,
+    places: &mut [usize],
+    range: Range,
+    left: usize,
+) -> Option<()>
+    ensures { IfSome result (λ _. length reader.new < length reader.old) }
+{
+    let mut index = 0usize;
+    'items: while !reader.take_end_array() {
+        let within = through(text.faults, range, Sought::Index(index));
+        place_value(text, reader, places, within, left)?;
+        index = index.saturating_add(1);
+    }
+    Some(())
+}
+
+/// The byte of a text at which the value of each error begins; at a missing member that of its object. The errors are
+/// sorted by path.
+///
+/// # Errors
+/// Where memory is refused.
+pub fn places(alloc: Global, text: &str, faults: &[Fault]) -> Result<Vec<usize>, OutOfMemory> {
+    let mut places = Vec::new(alloc);
+    places.resize(faults.len(), 0)?;
+    let mut scratch = Scratch::new(alloc);
+    let mut reader = Reader::new(text, &mut scratch)?;
+    let all = Range {
+        from: 0,
+        to: faults.len(),
+        depth: 0,
+    };
+    let text = FaultyText {
+        bytes: text.as_bytes(),
+        faults,
+    };
+    let _ = place_value(&text, &mut reader, places.as_mut_slice(), all, DEEPEST);
+    Ok(places)
+}

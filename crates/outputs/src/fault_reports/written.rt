@@ -1,0 +1,389 @@
+//! Errors as lines, in the form that editors and compilers share, and as JSON.
+ghost use Rattle.faults.specs.Fault.{name_of, number_of, turn_of};
+ghost use Rattle.outputs.specs.FaultReports.{array_text, feature_text, fault_text, file_text, label_text, line_text, lines_text, object_behind, object_end, object_kind, object_line, object_place, object_text, objects_text, place_text, remedy_member, report_lines};
+ghost use Rattle.sinks.specs.PathText.PathText.{path_text};
+ghost use Rattle.sinks.specs.Writes.{TookAll, TookPart};
+ghost use Rattle.std.specs.Prelude.{◌++◌, None, false, OnErr, OnOk, decimal, map, nat_lt, string_bytes};
+
+use crate::fault_reports::remedies::remedy;
+use crate::fault_reports::report::FaultReport;
+use faults::FaultKind;
+use itoa::Buffer;
+use sinks::path_text::write_path;
+use sinks::written::{Bracketed, Text, Then, Written};
+use sinks::{Sink, WriteFault, put};
+
+/// A number in decimal digits.
+#[derive(Clone, Copy)]
+struct Digits(usize);
+
+impl Written for Digits {
+    ghost text = { λ d. decimal d.0 };
+
+    fn write<W: Sink>(&self, sink: &mut W) -> Result<(), WriteFault> {
+        let mut buffer = Buffer::new();
+        put(sink, buffer.format(self.0).as_bytes())
+    }
+}
+
+/// A text as it is.
+#[derive(Clone, Copy)]
+struct Chars<'a>(&'a str);
+
+impl<'a> Written for Chars<'a> {
+    ghost text = { λ t. t.0.now };
+
+    fn write<W: Sink>(&self, sink: &mut W) -> Result<(), WriteFault> {
+        put(sink, self.0.as_bytes())
+    }
+}
+
+/// The number of a kind of error.
+#[derive(Clone, Copy)]
+struct KindNumber(FaultKind);
+
+impl Written for KindNumber {
+    ghost text = { λ k. decimal (number_of k.0) };
+
+    fn write<W: Sink>(&self, sink: &mut W) -> Result<(), WriteFault> {
+        let mut buffer = Buffer::new();
+        put(sink, buffer.format(self.0.number()).as_bytes())
+    }
+}
+
+/// The name of a kind of error.
+#[derive(Clone, Copy)]
+struct KindName(FaultKind);
+
+impl Written for KindName {
+    ghost text = { λ k. name_of k.0 };
+
+    fn write<W: Sink>(&self, sink: &mut W) -> Result<(), WriteFault> {
+        put(sink, self.0.name().as_bytes())
+    }
+}
+
+/// The path of an error.
+#[derive(Clone, Copy)]
+struct FaultPath<'a>(&'a FaultReport);
+
+impl<'a> Written for FaultPath<'a> {
+    ghost text = { λ p. path_text (map turn_of p.0.now.fault.path.items) };
+
+    fn write<W: Sink>(&self, sink: &mut W) -> Result<(), WriteFault> {
+        write_path(self.0.fault.path.as_slice(), sink)
+    }
+}
+
+/// The path of an error as JSON.
+#[derive(Clone, Copy)]
+struct SpelledPath<'a>(&'a FaultReport);
+
+impl<'a> Written for SpelledPath<'a> {
+    ghost text = { λ p. string_bytes p.0.now.path };
+
+    fn write<W: Sink>(&self, sink: &mut W) -> Result<(), WriteFault> {
+        put(sink, self.0.path.as_bytes())
+    }
+}
+
+/// A text behind a word.
+#[derive(Clone, Copy)]
+struct Worded<'a, A>(&'a str, A);
+
+impl<'a, A: Written> Written for Worded<'a, A> {
+    ghost text = { λ w. w.0.now ++ A.text w.1 };
+
+    fn write<W: Sink>(&self, sink: &mut W) -> Result<(), WriteFault> {
+        Then(Text(self.0.as_bytes()), &self.1).write(sink)
+    }
+}
+
+/// A text behind a word, where there is one.
+#[derive(Clone, Copy)]
+struct LabelledText<'a>(&'a str, &'a Option<String>);
+
+impl<'a> Written for LabelledText<'a> {
+    ghost text = { λ t. label_text t.0.now t.1.now };
+
+    fn write<W: Sink>(&self, sink: &mut W) -> Result<(), WriteFault> {
+        match self.1 {
+            Some(text) => Then(Text(self.0.as_bytes()), Text(text.as_bytes())).write(sink),
+            None => Ok(()),
+        }
+    }
+}
+
+/// The file, the line and the column of an error.
+#[derive(Clone, Copy)]
+struct ReportPlace<'a>(&'a str, &'a FaultReport);
+
+impl<'a> Written for ReportPlace<'a> {
+    ghost text = { λ p. place_text p.0.now p.1.now };
+
+    fn write<W: Sink>(&self, sink: &mut W) -> Result<(), WriteFault> {
+        let place = self.1.place;
+        let line = Worded(":", Digits(place.line));
+        let column = Worded(":", Digits(place.column));
+        Then(Chars(self.0), Then(line, column)).write(sink)
+    }
+}
+
+/// The number, the name and the path of an error.
+#[derive(Clone, Copy)]
+struct ReportFault<'a>(&'a FaultReport);
+
+impl<'a> Written for ReportFault<'a> {
+    ghost text = { λ f. fault_text f.0.now };
+
+    fn write<W: Sink>(&self, sink: &mut W) -> Result<(), WriteFault> {
+        let kind = self.0.fault.kind;
+        let number = Worded(": ", KindNumber(kind));
+        let name = Worded(" ", KindName(kind));
+        Then(number, Then(name, Worded(" ", FaultPath(self.0)))).write(sink)
+    }
+}
+
+/// The id of the feature and the member of the properties, where there is one, and the end of a line.
+#[derive(Clone, Copy)]
+struct ReportFeature<'a>(&'a FaultReport);
+
+impl<'a> Written for ReportFeature<'a> {
+    ghost text = { λ f. feature_text f.0.now };
+
+    fn write<W: Sink>(&self, sink: &mut W) -> Result<(), WriteFault> {
+        let id = LabelledText(" id ", &self.0.id);
+        let member = LabelledText(" member ", &self.0.member);
+        Then(id, Then(member, Text(b"\n"))).write(sink)
+    }
+}
+
+/// The report of an error of a file as a line.
+#[derive(Clone, Copy)]
+struct ReportLine<'a>(&'a str, &'a FaultReport);
+
+impl<'a> Written for ReportLine<'a> {
+    ghost text = { λ l. line_text l.0.now l.1.now };
+
+    fn write<W: Sink>(&self, sink: &mut W) -> Result<(), WriteFault> {
+        let fault = Then(ReportFault(self.1), ReportFeature(self.1));
+        Then(ReportPlace(self.0, self.1), fault).write(sink)
+    }
+}
+
+/// Writes the line of a report, and where that is asked for a second one with what helps.
+fn write_report<W: Sink>(
+    file: &str,
+    report: &FaultReport,
+    is_explained: bool,
+    sink: &mut W,
+) -> Result<(), WriteFault>
+    ensures whole { OnOk result (TookAll (W.seen sink.old) (W.seen sink.new) (report_lines file.now is_explained report.now)) }
+    ensures part { OnErr result (TookPart (W.seen sink.old) (W.seen sink.new) (report_lines file.now is_explained report.now)) }
+{
+    let line = ReportLine(file, report);
+    if is_explained {
+        let help = remedy(report.fault.kind).as_bytes();
+        Then(line, Then(Text(b"    "), Then(Text(help), Text(b"\n")))).write(sink)
+    } else {
+        line.write(sink)
+    }
+}
+
+/// Writes a line for each error of a file, and where that is asked for a second one with what helps; or that there is none.
+///
+/// # Errors
+/// `Write` where the sink failed; it then took a beginning of the text.
+pub fn write_lines<W: Sink>(
+    file: &str,
+    reports: &[FaultReport],
+    is_explained: bool,
+    sink: &mut W,
+) -> Result<(), WriteFault>
+    ensures whole { OnOk result (TookAll (W.seen sink.old) (W.seen sink.new) (file_text file.now is_explained reports.now)) }
+    ensures part { OnErr result (TookPart (W.seen sink.old) (W.seen sink.new) (file_text file.now is_explained reports.now)) }
+{
+    match reports.split_first() {
+        Some(_) => write_reports(file, reports, is_explained, sink),
+        None => Then(Chars(file), Text(b": no faults\n")).write(sink),
+    }
+}
+
+fn write_reports<W: Sink>(
+    file: &str,
+    reports: &[FaultReport],
+    is_explained: bool,
+    sink: &mut W,
+) -> Result<(), WriteFault>
+    ensures whole { OnOk result (TookAll (W.seen sink.old) (W.seen sink.new) (lines_text file.now is_explained reports.now)) }
+    ensures part { OnErr result (TookPart (W.seen sink.old) (W.seen sink.new) (lines_text file.now is_explained reports.now)) }
+{
+    let mut left = reports;
+    while let Some((report, after)) = left.split_first() {
+        match write_report(file, report, is_explained, sink) {
+            Ok(()) => left = after,
+            Err(fault) => return Err(fault),
+        }
+    }
+    Ok(())
+}
+
+/// What helps, as a member of an object, where that is asked for.
+#[derive(Clone, Copy)]
+struct RemedyMember<'a>(&'a FaultReport, bool);
+
+impl<'a> Written for RemedyMember<'a> {
+    ghost text = { λ m. remedy_member m.1 m.0.now };
+
+    fn write<W: Sink>(&self, sink: &mut W) -> Result<(), WriteFault> {
+        if self.1 {
+            let help = remedy(self.0.fault.kind).as_bytes();
+            Then(Text(b",\"remedy\":\""), Then(Text(help), Text(b"\""))).write(sink)
+        } else {
+            Ok(())
+        }
+    }
+}
+
+/// The members column and file of an object. The name of the file, where it has one, is JSON.
+#[derive(Clone, Copy)]
+struct ObjectPlace<'a>(&'a Option<String>, &'a FaultReport);
+
+impl<'a> Written for ObjectPlace<'a> {
+    ghost text = { λ p. object_place p.0.now p.1.now };
+
+    fn write<W: Sink>(&self, sink: &mut W) -> Result<(), WriteFault> {
+        let column = Worded("{\"column\":", Digits(self.1.place.column));
+        Then(column, LabelledText(",\"file\":", self.0)).write(sink)
+    }
+}
+
+/// The members id, line and member of an object.
+#[derive(Clone, Copy)]
+struct ObjectLine<'a>(&'a FaultReport);
+
+impl<'a> Written for ObjectLine<'a> {
+    ghost text = { λ l. object_line l.0.now };
+
+    fn write<W: Sink>(&self, sink: &mut W) -> Result<(), WriteFault> {
+        let id = LabelledText(",\"id\":", &self.0.id);
+        let line = Worded(",\"line\":", Digits(self.0.place.line));
+        Then(id, Then(line, LabelledText(",\"member\":", &self.0.member))).write(sink)
+    }
+}
+
+/// The members name, number and path of an object.
+#[derive(Clone, Copy)]
+struct ObjectKind<'a>(&'a FaultReport);
+
+impl<'a> Written for ObjectKind<'a> {
+    ghost text = { λ k. object_kind k.0.now };
+
+    fn write<W: Sink>(&self, sink: &mut W) -> Result<(), WriteFault> {
+        let kind = self.0.fault.kind;
+        let name = Worded(",\"name\":\"", KindName(kind));
+        let number = Worded("\",\"number\":", KindNumber(kind));
+        Then(
+            name,
+            Then(number, Worded(",\"path\":", SpelledPath(self.0))),
+        )
+        .write(sink)
+    }
+}
+
+/// The member remedy of an object, where that is asked for, and its end.
+#[derive(Clone, Copy)]
+struct ObjectEnd<'a>(&'a FaultReport, bool);
+
+impl<'a> Written for ObjectEnd<'a> {
+    ghost text = { λ e. object_end e.1 e.0.now };
+
+    fn write<W: Sink>(&self, sink: &mut W) -> Result<(), WriteFault> {
+        Then(RemedyMember(self.0, self.1), Text(b"}")).write(sink)
+    }
+}
+
+/// The report of an error of a file, whose name, where it has one, is JSON, as an object with its members in byte order of
+/// their names.
+#[derive(Clone, Copy)]
+struct ReportObject<'a>(&'a Option<String>, &'a FaultReport, bool);
+
+impl<'a> Written for ReportObject<'a> {
+    ghost text = { λ o. object_text o.0.now o.2 o.1.now };
+
+    fn write<W: Sink>(&self, sink: &mut W) -> Result<(), WriteFault> {
+        let place = Then(ObjectPlace(self.0, self.1), ObjectLine(self.1));
+        let end = ObjectEnd(self.1, self.2);
+        Then(place, Then(ObjectKind(self.1), end)).write(sink)
+    }
+}
+
+/// Writes an object, behind a comma where others are before it.
+fn write_object<W: Sink>(
+    file: &Option<String>,
+    report: &FaultReport,
+    is_explained: bool,
+    is_behind: bool,
+    sink: &mut W,
+) -> Result<(), WriteFault>
+    ensures whole { OnOk result (TookAll (W.seen sink.old) (W.seen sink.new) (object_behind is_behind file.now is_explained report.now)) }
+    ensures part { OnErr result (TookPart (W.seen sink.old) (W.seen sink.new) (object_behind is_behind file.now is_explained report.now)) }
+{
+    let object = ReportObject(file, report, is_explained);
+    if is_behind {
+        Then(Text(b",\n"), object).write(sink)
+    } else {
+        object.write(sink)
+    }
+}
+
+/// Writes the errors of a file, whose name, where it has one, is JSON, as elements of a JSON array, behind `before` of other
+/// files.
+///
+/// # Errors
+/// `Write` where the sink failed; it then took a beginning of the text.
+pub fn write_json<W: Sink>(
+    file: &Option<String>,
+    reports: &[FaultReport],
+    is_explained: bool,
+    before: usize,
+    sink: &mut W,
+) -> Result<(), WriteFault>
+    ensures whole { OnOk result (TookAll (W.seen sink.old) (W.seen sink.new) (objects_text file.now is_explained (nat_lt 0 before) reports.now)) }
+    ensures part { OnErr result (TookPart (W.seen sink.old) (W.seen sink.new) (objects_text file.now is_explained (nat_lt 0 before) reports.now)) }
+{
+    let mut is_behind = before > 0;
+    let mut left = reports;
+    while let Some((report, after)) = left.split_first() {
+        match write_object(file, report, is_explained, is_behind, sink) {
+            Ok(()) => left = after,
+            Err(fault) => return Err(fault),
+        }
+        is_behind = true;
+    }
+    Ok(())
+}
+
+/// The reports of the errors of a text without a name, as a JSON array.
+#[derive(Clone, Copy)]
+pub struct ReportArray<'a>(pub &'a [FaultReport]);
+
+impl<'a> Written for ReportArray<'a> {
+    ghost text = { λ a. array_text a.0.now };
+
+    fn write<W: Sink>(&self, sink: &mut W) -> Result<(), WriteFault> {
+        Bracketed(ReportObjects(self.0)).write(sink)
+    }
+}
+
+/// The elements of that array.
+#[derive(Clone, Copy)]
+struct ReportObjects<'a>(&'a [FaultReport]);
+
+impl<'a> Written for ReportObjects<'a> {
+    ghost text = { λ a. objects_text None false false a.0.now };
+
+    fn write<W: Sink>(&self, sink: &mut W) -> Result<(), WriteFault> {
+        write_json(&None, self.0, false, 0, sink)
+    }
+}

@@ -1,6 +1,0 @@
-use Rattle.std.proofs.Common.{◌≡◌, ◌++◌, drop}
-use Rattle.quality.specs.Ids.{ids_in, numbers_of, stands_again}
-use Rattle.quality.proofs.ids.repeated_ids.Given as goal
-
-abbrev pub invariant-loop-number : goal.invariant-loop-number
-invariant-loop-number l = l.numbers.items ++ numbers_of (stands_again (ids_in l.fn.geometries)) l.number (ids_in (drop l.number l.fn.geometries)) ≡ numbers_of (stands_again (ids_in l.fn.geometries)) 0 (ids_in l.fn.geometries)

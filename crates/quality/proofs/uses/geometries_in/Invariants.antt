@@ -1,8 +1,0 @@
-use Rattle.std.proofs.Common.{◌≡◌, ◌++◌, drop}
-use Rattle.theory.specs.Lists.{gathered}
-use Rattle.quality.specs.Uses.{lent}
-use Rattle.quality.proofs.uses.geometries_in.Given as goal
-
-abbrev pub invariant-loop-layer : goal.invariant-loop-layer
-invariant-loop-layer l =
-    lent l.noted.items ++ gathered (λ k. k.geometries) (drop l.layer-index l.fn.layers) ≡ gathered (λ k. k.geometries) l.fn.layers

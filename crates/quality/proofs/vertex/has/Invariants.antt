@@ -1,6 +1,0 @@
-use Rattle.std.proofs.Common.{◌≡◌, drop}
-use Rattle.quality.specs.Near.{has_feature}
-use Rattle.quality.proofs.vertex.has.Given as goal
-
-abbrev pub invariant-loop-used : goal.invariant-loop-used
-invariant-loop-used l = has_feature l.fn.feature (drop l.used-index l.fn.uses) ≡ has_feature l.fn.feature l.fn.uses

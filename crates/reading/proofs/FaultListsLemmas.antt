@@ -1,0 +1,4 @@
+pub mod Kept
+pub mod Ascending
+pub mod Wholes
+pub mod Order

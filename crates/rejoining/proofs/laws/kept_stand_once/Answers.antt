@@ -1,5 +1,0 @@
-use Rattle.rejoining.proofs.ProvedLaws.{kept_stand_once}
-use Rattle.rejoining.proofs.laws.kept_stand_once.Goals as goal
-
-pub returns : goal.returns
-returns c = kept_stand_once

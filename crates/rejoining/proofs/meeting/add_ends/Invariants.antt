@@ -1,7 +1,0 @@
-use Rattle.std.proofs.Common.{◌≡◌, ◌++◌, drop}
-use Rattle.rejoining.specs.Meeting.{ends_from}
-use Rattle.rejoining.proofs.meeting.add_ends.Given as goal
-
-abbrev pub invariant-loop-number : goal.invariant-loop-number
-invariant-loop-number l =
-    l.ends.items ++ ends_from l.fn.arcs.arcs l.fn.reversed (drop l.number-index l.fn.chosen) ≡ l.fn.ends.items ++ ends_from l.fn.arcs.arcs l.fn.reversed l.fn.chosen

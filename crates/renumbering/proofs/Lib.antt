@@ -1,0 +1,2 @@
+pub mod GeometryOrderLemmas
+pub mod LayerLawsLemmas

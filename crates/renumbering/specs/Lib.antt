@@ -1,0 +1,4 @@
+pub mod GeometryOrder
+pub mod Rewritten
+pub mod Rules
+pub mod LayerLaws

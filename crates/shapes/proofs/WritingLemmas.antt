@@ -1,0 +1,3 @@
+pub mod Joined
+pub mod Same
+pub mod Properties

@@ -1,0 +1,18 @@
+-- The members `id` and `properties` of a written text.
+use Rattle.std.specs.Prelude.{ℕ, List, [], ◌++◌, codes, if◌then◌else◌}
+use Rattle.std.specs.Fmt.{signed_decimal}
+use Rattle.std.specs.Str.{bytes_eq}
+use Rattle.shapes.specs.Parts.{spelled_text}
+use Rattle.shapes.specs.Spelling.{spelling_of}
+use Rattle.shapes.specs.declared.shape.Id.{Id}
+use Rattle.shapes.specs.declared.shape.Id.TheVariants as id
+
+-- nothing where there is no id, else the member and a comma
+abbrev pub id_text : Id → List ℕ
+id_text id.None = []
+id_text (id.Number n) = codes "\"id\":" ++ (signed_decimal n ++ codes ",")
+id_text (id.Text s) = codes "\"id\":" ++ (spelling_of (spelled_text s) ++ codes ",")
+
+-- the member `properties` and a comma; nothing where there are none
+abbrev pub properties_member : List ℕ → List ℕ
+properties_member t = if bytes_eq t (codes "{}") then [] else codes "\"properties\":" ++ (t ++ codes ",")

@@ -1,0 +1,2 @@
+pub mod NearlySharedLemmas
+pub mod MovesLemmas

@@ -1,0 +1,2 @@
+pub mod NearlyShared
+pub mod Moves

@@ -1,0 +1,123 @@
+//! The vertices of features, each with the number of its feature.
+ghost use Rattle.lines.specs.Seen.{positions_of};
+ghost use Rattle.snapping.specs.NearlyShared.Uses.{features_uses, line_uses, ring_uses, shape_uses};
+ghost use Rattle.compare.specs.Quality.Uses.{places_uses, use_cmp};
+ghost use Rattle.shapes.specs.Maps.{set_of};
+ghost use Rattle.shapes.specs.Sets as set;
+ghost use Rattle.std.specs.List.Sorted.{IsPermutation};
+ghost use Rattle.std.specs.Prelude.{◌≡◌, ◌+◌, ◌++◌, [], length, IfOk, OnOk};
+ghost use Rattle.theory.specs.Lists.{gathered};
+
+use crate::nearly_shared::index::VertexIndex;
+use compare::quality::uses::note_places;
+use compare::quality::vertex::VertexUse;
+use grid::pos::Pos;
+use lines::items::Items;
+use lines::line::Line;
+use lines::ring::Ring;
+use shapes::feature::Feature;
+use shapes::shape::Shape;
+use std::alloc::{AllocError, Global};
+use std::collections::BTreeSet;
+
+/// The vertices of features, each with the number of its feature.
+#[derive(Drop)]
+pub struct Vertices {
+    uses: Vec<VertexUse>,
+    /// How many features there are.
+    features: usize,
+}
+
+fn note_lines(uses: &mut Vec<VertexUse>, feature: usize, lines: &[Line]) -> Result<(), AllocError>
+    ensures { OnOk result (uses.new.items ≡ uses.old.items ++ gathered (line_uses feature) lines.now) }
+{
+    for line in lines {
+        note_places(uses, feature, line.positions())?;
+    }
+    Ok(())
+}
+
+fn note_rings(uses: &mut Vec<VertexUse>, feature: usize, rings: &[Ring]) -> Result<(), AllocError>
+    ensures { OnOk result (uses.new.items ≡ uses.old.items ++ gathered (ring_uses feature) rings.now) }
+{
+    for ring in rings {
+        note_places(uses, feature, ring.vertices())?;
+    }
+    Ok(())
+}
+
+fn note_polygons(
+    uses: &mut Vec<VertexUse>,
+    feature: usize,
+    polygons: &[Items<Ring>],
+) -> Result<(), AllocError>
+    ensures { OnOk result (uses.new.items ≡ uses.old.items ++ gathered (gathered (ring_uses feature)) polygons.now) }
+{
+    for rings in polygons {
+        note_rings(uses, feature, rings.as_slice())?;
+    }
+    Ok(())
+}
+
+/// Notes that a feature has the vertices of its shape.
+fn note_shape(uses: &mut Vec<VertexUse>, feature: usize, shape: &Shape) -> Result<(), AllocError>
+    ensures { OnOk result (uses.new.items ≡ uses.old.items ++ shape_uses feature shape.now) }
+{
+    match shape {
+        Shape::Null => Ok(()),
+        Shape::Point(place) => Ok(uses.push(VertexUse {
+            at: *place,
+            feature,
+        })?),
+        Shape::MultiPoint(places) => note_places(uses, feature, places.as_slice()),
+        Shape::Line(line) => note_places(uses, feature, line.positions()),
+        Shape::MultiLine(lines) => note_lines(uses, feature, lines.as_slice()),
+        Shape::Polygon(rings) => note_rings(uses, feature, rings.as_slice()),
+        Shape::MultiPolygon(polygons) => note_polygons(uses, feature, polygons.as_slice()),
+    }
+}
+
+impl Vertices {
+    /// No vertices.
+    pub fn new(alloc: Global) -> Vertices
+        ensures uses { result.uses.items ≡ [] }
+        ensures features { result.features ≡ 0 }
+    {
+        Vertices {
+            uses: Vec::new(alloc),
+            features: 0,
+        }
+    }
+
+    /// Adds the vertices of a feature.
+    fn add_shape(&mut self, shape: &Shape) -> Result<(), AllocError>
+        ensures uses { OnOk result (self.new.uses.items ≡ self.old.uses.items ++ shape_uses self.old.features shape.now) }
+        ensures features { OnOk result (self.new.features ≡ self.old.features + 1) }
+    {
+        note_shape(&mut self.uses, self.features, shape)?;
+        match self.features.checked_add(1) {
+            Some(features) => {
+                self.features = features;
+                Ok(())
+            }
+            None => Err(AllocError),
+        }
+    }
+
+    /// Adds the vertices of features, which are numbered on from those before.
+    pub fn add(&mut self, features: &BTreeSet<Feature>) -> Result<(), AllocError>
+        ensures { OnOk result (self.new.uses.items ≡ self.old.uses.items ++ features_uses self.old.features (set.items (set_of features.now))) }
+    {
+        for feature in features.iter() {
+            self.add_shape(&feature.shape)?;
+        }
+        Ok(())
+    }
+
+    /// The index of the vertices, made in time n log n.
+    pub fn into_index(self) -> VertexIndex
+        ensures { IsPermutation self.uses.items result }
+    {
+        VertexIndex::of(self.uses)
+    }
+}

@@ -1,0 +1,10 @@
+//! Two tables of arcs cut again under the junctions of both maps together.
+#![tactic(auto)]
+
+pub mod laws;
+mod piece_lists;
+pub mod split;
+pub mod split_lists;
+
+pub use split::{recut, recut_owned};
+pub use split_lists::{Recut, Side};

@@ -1,5 +1,0 @@
-use Rattle.lines.proofs.Codes.{closes_told}
-use Rattle.standing.proofs.apart.is_closed.Goals as goal
-
-pub returns : goal.returns
-returns c = closes_told c.args.arc.now c.first.result c.last.result c.eq.result c.first.ensures.value c.last.ensures.value c.eq.ensures

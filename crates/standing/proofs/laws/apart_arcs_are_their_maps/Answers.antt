@@ -1,5 +1,0 @@
-use Rattle.standing.proofs.ApartArcs.{is_table, map_sound}
-use Rattle.standing.proofs.laws.apart_arcs_are_their_maps.Goals as goal
-
-pub returns : goal.returns
-returns c = λ t apart. (map_sound t apart, is_table t apart)

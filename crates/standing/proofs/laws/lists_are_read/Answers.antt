@@ -1,5 +1,0 @@
-use Rattle.standing.proofs.Together.{lists_are_read}
-use Rattle.standing.proofs.laws.lists_are_read.Goals as goal
-
-pub returns : goal.returns
-returns c = lists_are_read

@@ -1,6 +1,0 @@
-use Rattle.std.proofs.Common.{◌≡◌, drop}
-use Rattle.standing.specs.Starts.{none_starts}
-use Rattle.standing.proofs.starts.none_starts.Given as goal
-
-abbrev pub invariant-loop-used : goal.invariant-loop-used
-invariant-loop-used l = none_starts l.fn.table.arcs l.fn.start (drop l.used-index l.fn.refs) ≡ none_starts l.fn.table.arcs l.fn.start l.fn.refs

@@ -1,7 +1,0 @@
-use Rattle.std.proofs.Common.{subst}
-use Rattle.taking.specs.Whole.{StandInOrder}
-use Rattle.taking.proofs.StandingParts.{parts_of_a_map}
-use Rattle.taking.proofs.whole.of_table.Goals as goal
-
-pub from_parts-requires : goal.from_parts-requires
-from_parts-requires c = parts_of_a_map c.args.table c.args.layers.items c.requires.ids (subst (StandInOrder c.args.table) c.deref.ensures.value (c.in_ok-stand_in_order.ensures.0 c.if-not-branch.false))

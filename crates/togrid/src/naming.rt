@@ -1,0 +1,87 @@
+//! The names of layers and of files, in words `NAME=FILE`.
+use command_line::refusal::{Refusal, Usage};
+use std::alloc::Global;
+
+/// The name of a file without its folders, up to its first point: `provinces` for `in/provinces.geojson`.
+fn stem(file: &str) -> &str {
+    let name = match file.rsplit_once('/') {
+        Some((_, name)) => name,
+        None => file,
+    };
+    match name.split_once('.') {
+        Some((stem, _)) => stem,
+        None => name,
+    }
+}
+
+/// The name and the file of a word, split at the first `=`. Without one the name is the file's.
+fn source_of<'a>(word: &'a str) -> (&'a str, &'a str) {
+    match word.split_once('=') {
+        Some(source) => source,
+        None => (stem(word), word),
+    }
+}
+
+/// The names and the files of words.
+pub(crate) fn sources_of<'a>(
+    alloc: Global,
+    words: &[&'a str],
+) -> Result<Vec<(&'a str, &'a str)>, Refusal<'a>> {
+    let mut sources = Vec::new(alloc);
+    for word in words {
+        sources.push(source_of(*word))?;
+    }
+    Ok(sources)
+}
+
+/// The files of sources.
+pub(crate) fn files_of<'a>(
+    alloc: Global,
+    sources: &[(&'a str, &'a str)],
+) -> Result<Vec<&'a str>, Refusal<'a>> {
+    let mut files = Vec::with_capacity(alloc, sources.len())?;
+    for source in sources {
+        files.push(source.1)?;
+    }
+    Ok(files)
+}
+
+/// A name that occurs twice, if there is one.
+fn find_doubled<'a>(
+    alloc: Global,
+    sources: &[(&'a str, &'a str)],
+) -> Result<Option<&'a str>, Refusal<'a>> {
+    let mut names = Vec::new(alloc);
+    for source in sources {
+        names.push(source.0)?;
+    }
+    names.sort()?;
+    let mut last: Option<&'a str> = None;
+    for name in &names {
+        if last == Some(*name) {
+            return Ok(last);
+        }
+        last = Some(*name);
+    }
+    Ok(None)
+}
+
+/// Files that are written into one folder need names, and no two the same.
+pub(crate) fn check_names<'a>(
+    alloc: Global,
+    sources: &[(&'a str, &'a str)],
+) -> Result<(), Refusal<'a>> {
+    if let Some(name) = find_doubled(alloc, sources)? {
+        return Err(Refusal::Usage(Usage::NameTwice(name)));
+    }
+    Ok(())
+}
+
+/// The file of a name in a folder: `out/provinces.json`.
+pub(crate) fn file_in<'a>(alloc: Global, folder: &str, name: &str) -> Result<String, Refusal<'a>> {
+    let mut file = String::from_str(alloc, folder)?;
+    file.push_str("/")?;
+    file.push_str(name)?;
+    file.push_str(".json")?;
+    Ok(file)
+}

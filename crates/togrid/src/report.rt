@@ -1,0 +1,269 @@
+//! The report on standard error.
+use crate::options::GridOptions;
+use crate::rounding::Rounded;
+use command_line::refusal::put_words;
+use fixing::Fixes;
+use grid::Pos;
+use itoa::Buffer;
+use sinks::{Sink, WriteFault, put};
+use snapping::nearly_shared::{Clusters, VertexCounts};
+use snapping::text::SnappedText;
+use std::alloc::Global;
+
+/// What is reported.
+#[derive(Clone, Copy)]
+pub(crate) struct Report<'r, 'a> {
+    pub(crate) options: &'r GridOptions<'a>,
+    pub(crate) sources: &'r [(&'a str, &'a str)],
+    pub(crate) rounded: &'r Rounded,
+    /// The folder that files were written into.
+    pub(crate) folder: Option<&'a str>,
+}
+
+/// A count, or the greatest of 64 bits where it is more.
+pub(crate) fn at_most_u64(count: u128) -> u64 {
+    u64::try_from(count).unwrap_or(u64::MAX)
+}
+
+fn put_count<E: Sink>(err: &mut E, count: u64, of: &str) -> Result<(), WriteFault> {
+    put(err, Buffer::new().format(count).as_bytes())?;
+    put_words(err, " ", of)
+}
+
+/// A count that is not 0, on a line of its own.
+fn put_some<E: Sink>(err: &mut E, count: u64, of: &str) -> Result<(), WriteFault> {
+    if count == 0 {
+        return Ok(());
+    }
+    put(err, b"  ")?;
+    put_count(err, count, of)?;
+    put(err, b"\n")
+}
+
+/// How many positions were moved, and how far: `7446 positions moved, by at most 0.4999 steps (0.0000004999)`.
+fn put_moves<E: Sink>(
+    alloc: Global,
+    err: &mut E,
+    outcome: &SnappedText,
+    options: &GridOptions<'_>,
+) -> Result<(), WriteFault> {
+    if outcome.moves.moved == 0 {
+        return Ok(());
+    }
+    let Ok(steps) = outcome.moves.in_steps(alloc) else {
+        return Ok(());
+    };
+    let Ok(units) = outcome.moves.in_units(alloc, &options.step) else {
+        return Ok(());
+    };
+    put(err, b"  ")?;
+    put_count(err, outcome.moves.moved, "positions moved, by at most ")?;
+    put_words(err, steps.as_str(), " steps")?;
+    if !units.as_str().is_empty() {
+        put_words(err, " (", units.as_str())?;
+        put(err, b")")?;
+    }
+    put(err, b"\n")
+}
+
+/// A kind of what is fixed.
+#[derive(Clone, Copy)]
+enum Kind {
+    Collapsed,
+    Folded,
+    Collections,
+    Lost,
+}
+
+impl Kind {
+    fn count_of(self, fixes: Fixes) -> u64 {
+        match self {
+            Kind::Collapsed => fixes.collapsed,
+            Kind::Folded => fixes.folded,
+            Kind::Collections => fixes.collections,
+            Kind::Lost => fixes.lost,
+        }
+    }
+
+    fn words(self) -> &'static str {
+        match self {
+            Kind::Collapsed => "lines or rings collapsed",
+            Kind::Folded => "lines or rings folded, and split",
+            Kind::Collections => "collections split",
+            Kind::Lost => "features without a shape left",
+        }
+    }
+}
+
+/// How much of a kind was fixed, with the first feature of which it was.
+fn put_fixed<E: Sink>(err: &mut E, outcome: &SnappedText, kind: Kind) -> Result<(), WriteFault> {
+    let count = kind.count_of(outcome.fixes);
+    if count == 0 {
+        return Ok(());
+    }
+    put(err, b"  ")?;
+    put_count(err, count, kind.words())?;
+    for feature in outcome.fixed_features.as_slice() {
+        if kind.count_of(feature.fixes) > 0 {
+            put(err, b", the first in feature ")?;
+            put(err, Buffer::new().format(feature.feature as u64).as_bytes())?;
+            break;
+        }
+    }
+    put(err, b"\n")
+}
+
+/// What became of a file: `provinces.geojson: 13 features, 7458 positions, step 0.000001`, how far positions were moved,
+/// and what was lost or split.
+fn put_outcome<E: Sink>(
+    alloc: Global,
+    err: &mut E,
+    file: &str,
+    outcome: &SnappedText,
+    options: &GridOptions<'_>,
+) -> Result<(), WriteFault> {
+    put_words(err, file, ": ")?;
+    put_count(err, outcome.features as u64, "features, ")?;
+    put_count(err, outcome.counts.positions, "positions, step ")?;
+    put_words(err, options.step_word, "\n")?;
+    put_moves(alloc, err, outcome, options)?;
+    put_some(err, outcome.counts.heights, "heights dropped")?;
+    put_some(
+        err,
+        outcome.counts.reals,
+        "numbers with a fraction made texts",
+    )?;
+    for kind in [Kind::Collapsed, Kind::Folded, Kind::Collections, Kind::Lost] {
+        put_fixed(err, outcome, kind)?;
+    }
+    Ok(())
+}
+
+fn put_number<E: Sink>(err: &mut E, number: i64) -> Result<(), WriteFault> {
+    put(err, Buffer::new().format(number).as_bytes())
+}
+
+fn put_position<E: Sink>(err: &mut E, position: Pos) -> Result<(), WriteFault> {
+    put_number(err, position.x())?;
+    put(err, b",")?;
+    put_number(err, position.y())
+}
+
+/// The vertices of more than one feature, where there are any: `2406 vertices shared before, 2406 after`.
+fn put_shared<E: Sink>(err: &mut E, before: u64, after: u64) -> Result<(), WriteFault> {
+    if before == 0 && after == 0 {
+        return Ok(());
+    }
+    put_count(err, before, "vertices shared before, ")?;
+    put_count(err, after, "after\n")
+}
+
+/// What was joined, and what was not.
+fn put_clusters<E: Sink>(err: &mut E, clusters: &Clusters) -> Result<(), WriteFault> {
+    put_count(err, clusters.len() as u64, "vertices joined to others\n")?;
+    let Some(first) = clusters.first_wide else {
+        return Ok(());
+    };
+    put_count(
+        err,
+        clusters.wide,
+        "clusters too wide to be joined, the first at ",
+    )?;
+    put_position(err, first)?;
+    put(err, b"\n")
+}
+
+/// The pairs of nearly shared vertices of all files, with the first: `279 nearly shared vertices, the first at
+/// 7413821,46998713 and 7413822,46998713`.
+fn put_pairs<E: Sink>(err: &mut E, counts: &VertexCounts) -> Result<(), WriteFault> {
+    let Some((first, second)) = counts.first else {
+        return Ok(());
+    };
+    put_count(
+        err,
+        at_most_u64(counts.near),
+        "nearly shared vertices, the first at ",
+    )?;
+    put_position(err, first)?;
+    put(err, b" and ")?;
+    put_position(err, second)?;
+    put(err, b"\n")
+}
+
+/// Whether a shell takes a byte as it is.
+fn is_plain(byte: u8) -> bool {
+    byte.is_ascii_alphanumeric() || b"_-./=,:+@%".contains(&byte)
+}
+
+/// A byte between single quotes.
+fn put_quoted<E: Sink>(err: &mut E, byte: u8) -> Result<(), WriteFault> {
+    match byte {
+        b'\'' => put(err, b"'\\''"),
+        _ => put(err, &[byte]),
+    }
+}
+
+/// A word for a shell: in single quotes where it needs them.
+fn put_shell_word<E: Sink>(err: &mut E, word: &[u8]) -> Result<(), WriteFault> {
+    if word.iter().all(|byte| is_plain(*byte)) {
+        return put(err, word);
+    }
+    put(err, b"'")?;
+    for byte in word {
+        put_quoted(err, *byte)?;
+    }
+    put(err, b"'")
+}
+
+/// A layer and its file, as a word for a shell.
+fn put_layer<E: Sink>(
+    alloc: Global,
+    err: &mut E,
+    name: &str,
+    folder: &str,
+) -> Result<(), WriteFault> {
+    let mut word = sinks::Kept::new(alloc);
+    put_words(&mut word, name, "=")?;
+    put_words(&mut word, folder, "/")?;
+    put_words(&mut word, name, ".json")?;
+    put(err, b" ")?;
+    put_shell_word(err, word.into_bytes().as_slice())
+}
+
+/// The command to go on with: `topotool build --grid 1,1,0,0 provinces=out/provinces.json`.
+pub(crate) fn put_next<E: Sink>(
+    alloc: Global,
+    err: &mut E,
+    sources: &[(&str, &str)],
+    folder: &str,
+) -> Result<(), WriteFault> {
+    put(err, b"topotool build --grid 1,1,0,0")?;
+    for source in sources {
+        put_layer(alloc, err, source.0, folder)?;
+    }
+    Ok(())
+}
+
+/// The whole report.
+pub(crate) fn put_report<E: Sink>(
+    alloc: Global,
+    report: &Report<'_, '_>,
+    err: &mut E,
+) -> Result<(), WriteFault> {
+    let rounded = report.rounded;
+    for (source, outcome) in report.sources.iter().zip(rounded.outcomes.iter()) {
+        put_outcome(alloc, err, source.1, outcome, report.options)?;
+    }
+    let after = rounded.counts.shared as u64;
+    put_shared(err, rounded.shared_before, after)?;
+    if let Some(clusters) = &rounded.clusters {
+        put_clusters(err, clusters)?;
+    }
+    put_pairs(err, &rounded.counts)?;
+    if let Some(folder) = report.folder {
+        put(err, b"next: ")?;
+        put_next(alloc, err, report.sources, folder)?;
+        put(err, b"\n")?;
+    }
+    Ok(())
+}

@@ -1,0 +1,154 @@
+//! The report as JSON.
+use crate::report::{Report, at_most_u64, put_next};
+use fixing::{FeatureFixes, Fixes};
+use grid::Pos;
+use json::Writer;
+use sinks::Kept;
+use snapping::nearly_shared::{Clusters, VertexCounts};
+use snapping::text::SnappedText;
+use std::alloc::{AllocError, Global};
+
+fn write_count(writer: &mut Writer, name: &str, count: u64) -> Result<(), AllocError> {
+    writer.key(name)?;
+    writer.u64(count)
+}
+
+fn write_text(writer: &mut Writer, name: &str, text: &str) -> Result<(), AllocError> {
+    writer.key(name)?;
+    writer.string(text)
+}
+
+fn write_position(writer: &mut Writer, position: Pos) -> Result<(), AllocError> {
+    writer.begin_array()?;
+    writer.i64(position.x())?;
+    writer.i64(position.y())?;
+    writer.end_array()
+}
+
+/// How much was fixed, as members.
+fn write_fixes(writer: &mut Writer, fixes: Fixes) -> Result<(), AllocError> {
+    write_count(writer, "collapsed", fixes.collapsed)?;
+    write_count(writer, "folded", fixes.folded)?;
+    write_count(writer, "collections", fixes.collections)?;
+    write_count(writer, "lost", fixes.lost)
+}
+
+/// The features of which anything was fixed.
+fn write_features(writer: &mut Writer, features: &[FeatureFixes]) -> Result<(), AllocError> {
+    writer.key("fixed")?;
+    writer.begin_array()?;
+    for feature in features {
+        writer.begin_object()?;
+        write_count(writer, "feature", feature.feature as u64)?;
+        write_fixes(writer, feature.fixes)?;
+        writer.end_object()?;
+    }
+    writer.end_array()
+}
+
+/// What became of a file.
+fn write_outcome(
+    alloc: Global,
+    writer: &mut Writer,
+    source: &(&str, &str),
+    outcome: &SnappedText,
+    report: &Report<'_, '_>,
+) -> Result<(), AllocError> {
+    writer.begin_object()?;
+    write_text(writer, "file", source.1)?;
+    write_text(writer, "name", source.0)?;
+    write_count(writer, "features", outcome.features as u64)?;
+    write_count(writer, "positions", outcome.counts.positions)?;
+    write_count(writer, "moved", outcome.moves.moved)?;
+    write_text(
+        writer,
+        "furthest_steps",
+        outcome.moves.in_steps(alloc)?.as_str(),
+    )?;
+    let units = outcome.moves.in_units(alloc, &report.options.step)?;
+    write_text(writer, "furthest", units.as_str())?;
+    write_count(writer, "heights", outcome.counts.heights)?;
+    write_count(writer, "reals", outcome.counts.reals)?;
+    write_fixes(writer, outcome.fixes)?;
+    write_features(writer, outcome.fixed_features.as_slice())?;
+    writer.end_object()
+}
+
+fn write_pairs(writer: &mut Writer, counts: &VertexCounts) -> Result<(), AllocError> {
+    write_count(writer, "nearly_shared", at_most_u64(counts.near))?;
+    writer.key("first_nearly_shared")?;
+    let Some((first, second)) = counts.first else {
+        return writer.null();
+    };
+    writer.begin_array()?;
+    write_position(writer, first)?;
+    write_position(writer, second)?;
+    writer.end_array()
+}
+
+fn write_clusters(writer: &mut Writer, clusters: &Clusters) -> Result<(), AllocError> {
+    write_count(writer, "joined", clusters.len() as u64)?;
+    write_count(writer, "too_wide", clusters.wide)?;
+    writer.key("first_too_wide")?;
+    match clusters.first_wide {
+        Some(first) => write_position(writer, first),
+        None => writer.null(),
+    }
+}
+
+/// The command to go on with, where files were written.
+fn write_next(
+    alloc: Global,
+    writer: &mut Writer,
+    report: &Report<'_, '_>,
+) -> Result<(), AllocError> {
+    let Some(folder) = report.folder else {
+        return Ok(());
+    };
+    let mut next = Kept::new(alloc);
+    if put_next(alloc, &mut next, report.sources, folder).is_err() {
+        return Err(AllocError);
+    }
+    let bytes = next.into_bytes();
+    match simdutf8::compat::from_utf8(bytes.as_slice()) {
+        Ok(text) => write_text(writer, "next", text),
+        Err(_) => Ok(()),
+    }
+}
+
+fn write_files(
+    alloc: Global,
+    writer: &mut Writer,
+    report: &Report<'_, '_>,
+) -> Result<(), AllocError> {
+    writer.key("files")?;
+    writer.begin_array()?;
+    for (source, outcome) in report.sources.iter().zip(report.rounded.outcomes.iter()) {
+        write_outcome(alloc, writer, source, outcome, report)?;
+    }
+    writer.end_array()
+}
+
+/// The report as a JSON text, with a line's end.
+pub(crate) fn report_text(alloc: Global, report: &Report<'_, '_>) -> Result<Vec<u8>, AllocError> {
+    let rounded = report.rounded;
+    let mut writer = Writer::new(Vec::new(alloc));
+    writer.begin_object()?;
+    write_text(&mut writer, "step", report.options.step_word)?;
+    let translate = report.options.translate_word.unwrap_or("0,0");
+    write_text(&mut writer, "translate", translate)?;
+    write_files(alloc, &mut writer, report)?;
+    write_count(&mut writer, "shared_before", rounded.shared_before)?;
+    write_count(&mut writer, "shared_after", rounded.counts.shared as u64)?;
+    if let Some(clusters) = &rounded.clusters {
+        write_clusters(&mut writer, clusters)?;
+    }
+    write_pairs(&mut writer, &rounded.counts)?;
+    write_next(alloc, &mut writer, report)?;
+    writer.end_object()?;
+    let mut text = writer.into_inner();
+    if text.push(b'\n').is_err() {
+        return Err(AllocError);
+    }
+    Ok(text)
+}

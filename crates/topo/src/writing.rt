@@ -1,0 +1,109 @@
+//! The texts of positions, of arcs and of used arcs, as each text of a topology has them (TopoJSON, section 2.1).
+ghost use Rattle.sinks.specs.Texts.{joined};
+ghost use Rattle.sinks.specs.Writes.{TookAll, TookPart};
+ghost use Rattle.std.specs.Prelude.{◌≡◌, ◌-ℤ◌, OnErr, OnOk};
+ghost use Rattle.topo.specs.ArcTexts.{position_text, difference_text, differences_text, arc_positions, arc_text, index_text};
+
+use chains::table::{ArcRef, ArcTable};
+use grid::Pos;
+use itoa::Buffer;
+use sinks::written::{Bracketed, Notation, Pair, Text, Then, Written};
+use sinks::{Sink, WriteFault, put};
+
+/// Positions, by their grid numbers.
+#[derive(Clone, Copy)]
+pub struct PositionNumbers;
+
+impl Notation<Pos> for PositionNumbers {
+    ghost text = { λ _ p. position_text p };
+
+    fn write_value<W: Sink>(&self, value: &Pos, sink: &mut W) -> Result<(), WriteFault> {
+        Pair(value.x(), value.y()).write(sink)
+    }
+}
+
+fn difference(before: Pos, p: Pos) -> Pair
+    ensures x { result.0 ≡ p.x -ℤ before.x }
+    ensures y { result.1 ≡ p.y -ℤ before.y }
+{
+    Pair(p.x() - before.x(), p.y() - before.y())
+}
+
+// The difference of a position from the one before, after a comma.
+fn write_difference<W: Sink>(sink: &mut W, before: Pos, p: Pos) -> Result<(), WriteFault>
+    ensures whole { OnOk result (TookAll (W.seen sink.old) (W.seen sink.new) (difference_text before p)) }
+    ensures part { OnErr result (TookPart (W.seen sink.old) (W.seen sink.new) (difference_text before p)) }
+{
+    let pair = difference(before, p);
+    Then(Text(b","), pair).write(sink)
+}
+
+fn write_differences<W: Sink>(sink: &mut W, first: Pos, others: &[Pos]) -> Result<(), WriteFault>
+    ensures whole { OnOk result (TookAll (W.seen sink.old) (W.seen sink.new) (differences_text first others.now)) }
+    ensures part { OnErr result (TookPart (W.seen sink.old) (W.seen sink.new) (differences_text first others.now)) }
+{
+    let mut left = others;
+    let mut before = first;
+    while let Some((p, after)) = left.split_first() {
+        match write_difference(sink, before, *p) {
+            Ok(()) => {
+                left = after;
+                before = *p;
+            }
+            Err(fault) => return Err(fault),
+        }
+    }
+    Ok(())
+}
+
+/// The positions of an arc: the first as it is, each later one as the difference from the one before.
+#[derive(Clone, Copy)]
+struct ArcPositions<'a>(&'a [Pos]);
+
+impl<'a> Written for ArcPositions<'a> {
+    ghost text = { λ a. arc_positions a.0.now };
+
+    fn write<W: Sink>(&self, sink: &mut W) -> Result<(), WriteFault> {
+        match self.0.split_first() {
+            Some((first, others)) => match PositionNumbers.write_value(first, sink) {
+                Ok(()) => write_differences(sink, *first, others),
+                Err(fault) => Err(fault),
+            },
+            None => Ok(()),
+        }
+    }
+}
+
+/// The arcs of a table, in order.
+#[derive(Clone, Copy)]
+pub struct ArcsText<'a>(pub &'a ArcTable);
+
+impl<'a> Written for ArcsText<'a> {
+    ghost text = { λ a. joined arc_text a.0.now.arcs };
+
+    fn write<W: Sink>(&self, sink: &mut W) -> Result<(), WriteFault> {
+        let mut separator = Text(b"");
+        for number in 0..self.0.len() {
+            if let Some(arc) = self.0.arc(number) {
+                match Then(separator, Bracketed(ArcPositions(arc))).write(sink) {
+                    Ok(()) => separator = Text(b","),
+                    Err(fault) => return Err(fault),
+                }
+            }
+        }
+        Ok(())
+    }
+}
+
+/// Used arcs, by TopoJSON's index.
+#[derive(Clone, Copy)]
+pub struct ArcIndexes;
+
+impl Notation<ArcRef> for ArcIndexes {
+    ghost text = { λ _ a. index_text a };
+
+    fn write_value<W: Sink>(&self, value: &ArcRef, sink: &mut W) -> Result<(), WriteFault> {
+        let mut buffer = Buffer::new();
+        put(sink, buffer.format(value.wide_index()).as_bytes())
+    }
+}

@@ -1,0 +1,9 @@
+pub mod Rising
+pub mod StitchedFeatures
+pub mod StitchedMaps
+pub mod PartsOfMaps
+pub mod PairsGathered
+pub mod Adding
+pub mod Ending
+pub mod StandingParts
+pub mod Sorted

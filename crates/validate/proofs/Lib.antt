@@ -1,0 +1,15 @@
+pub mod Steps
+pub mod Twins
+pub mod Insides
+pub mod ComingAgain
+pub mod NodedArcs
+pub mod ChainedLists
+pub mod Once
+pub mod Marking
+pub mod Listing
+pub mod Starting
+pub mod Threes
+pub mod EndsMeet
+pub mod Together
+pub mod FreeLoops
+pub mod AcceptLemmas

@@ -1,0 +1,10 @@
+pub mod Lists
+pub mod Order
+pub mod Laws
+pub mod Added
+pub mod LineEnds
+pub mod Topology
+pub mod TextArcs
+pub mod Accepted
+pub mod Kept
+pub mod Sorting

@@ -1,0 +1,11 @@
+pub mod EndTests
+pub mod Noding
+pub mod FreeLoops
+pub mod Chaining
+pub mod UsedArcs
+pub mod RingStarts
+pub mod Lists
+pub mod ArcEnds
+pub mod Validity
+pub mod SharedVertices
+pub mod Accept

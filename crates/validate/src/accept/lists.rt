@@ -1,0 +1,142 @@
+//! Whether the lists of used arcs of layers are valid over a table of arcs.
+ghost use Rattle.validate.specs.Validity.{ListsStand};
+ghost use Rattle.std.specs.Prelude.{◌≡◌, ◌↔◌, [], ◌∷◌, length, true, IfOk};
+ghost use Rattle.validate.specs.Accept.Added.{AreAdded};
+ghost use Rattle.validate.specs.Accept.Lists.{body_lines, body_rings, layer_lines, layer_rings, layers_lines, layers_rings, lines_of, rings_of};
+ghost use Rattle.theory.specs.Lists.{joined};
+
+use crate::{ArcsUsed, ends_meet, line_run, ring_stands};
+use chains::table::{ArcRef, ArcTable};
+use faults::OutOfMemory;
+use grid::pos::Pos;
+use lines::items::Items;
+use std::alloc::{AllocError, Global};
+use topo::{Body, Geom, Layer};
+
+/// What the lists that were added have: the arcs that they use, and where the lines begin and end.
+///
+/// Each call that adds lists answers whether each of them stands for itself, and stops at the first
+/// that doesn't.
+#[derive(Drop)]
+struct ListsSeen {
+    used: ArcsUsed,
+    ends: Vec<Pos>,
+}
+
+impl ListsSeen {
+    fn add_line(&mut self, table: &ArcTable, refs: &[ArcRef]) -> Result<bool, AllocError>
+        requires { length self.old.used ≡ length table.now.arcs }
+        ensures { IfOk result (λ b. AreAdded table.now (refs.now ∷ []) [] b self.old self.new) }
+    {
+        let Some((start, end)) = line_run(table, &mut self.used, refs) else {
+            return Ok(false);
+        };
+        self.ends.push(start)?;
+        self.ends.push(end)?;
+        Ok(true)
+    }
+
+    fn add_lines(&mut self, table: &ArcTable, lists: &[Items<ArcRef>]) -> Result<bool, AllocError>
+        requires { length self.old.used ≡ length table.now.arcs }
+        ensures { IfOk result (λ b. AreAdded table.now lists.now [] b self.old self.new) }
+    {
+        for refs in lists {
+            if !self.add_line(table, refs.as_slice())? {
+                return Ok(false);
+            }
+        }
+        Ok(true)
+    }
+
+    fn add_ring(&mut self, table: &ArcTable, refs: &[ArcRef]) -> bool
+        requires { length self.old.used ≡ length table.now.arcs }
+        ensures { AreAdded table.now [] (refs.now ∷ []) result self.old self.new }
+    {
+        ring_stands(table, &mut self.used, refs)
+    }
+
+    fn add_rings(&mut self, table: &ArcTable, lists: &[Items<ArcRef>]) -> bool
+        requires { length self.old.used ≡ length table.now.arcs }
+        ensures { AreAdded table.now [] lists.now result self.old self.new }
+    {
+        for refs in lists {
+            if !self.add_ring(table, refs.as_slice()) {
+                return false;
+            }
+        }
+        true
+    }
+
+    fn add_polygons(&mut self, table: &ArcTable, polygons: &[Items<Items<ArcRef>>]) -> bool
+        requires { length self.old.used ≡ length table.now.arcs }
+        ensures { AreAdded table.now [] (joined polygons.now) result self.old self.new }
+    {
+        for lists in polygons {
+            if !self.add_rings(table, lists.as_slice()) {
+                return false;
+            }
+        }
+        true
+    }
+
+    #[tactic(auto, using(crate::proofs::AcceptLemmas::Adding::added_none))]
+    fn add_body(&mut self, table: &ArcTable, body: &Body) -> Result<bool, AllocError>
+        requires { length self.old.used ≡ length table.now.arcs }
+        ensures { IfOk result (λ b. AreAdded table.now (body_lines body.now) (body_rings body.now) b self.old self.new) }
+    {
+        match body {
+            Body::Null | Body::Point(_) | Body::MultiPoint(_) => Ok(true),
+            Body::Line(refs) => self.add_line(table, refs.as_slice()),
+            Body::MultiLine(lists) => self.add_lines(table, lists.as_slice()),
+            Body::Polygon(lists) => Ok(self.add_rings(table, lists.as_slice())),
+            Body::MultiPolygon(polygons) => Ok(self.add_polygons(table, polygons.as_slice())),
+        }
+    }
+
+    fn add_geometries(&mut self, table: &ArcTable, geometries: &[Geom]) -> Result<bool, AllocError>
+        requires { length self.old.used ≡ length table.now.arcs }
+        ensures { IfOk result (λ b. AreAdded table.now (lines_of geometries.now) (rings_of geometries.now) b self.old self.new) }
+    {
+        for geometry in geometries {
+            if !self.add_body(table, &geometry.body)? {
+                return Ok(false);
+            }
+        }
+        Ok(true)
+    }
+
+    fn add_layers(&mut self, table: &ArcTable, layers: &[Layer]) -> Result<bool, AllocError>
+        requires { length self.old.used ≡ length table.now.arcs }
+        ensures { IfOk result (λ b. AreAdded table.now (layers_lines layers.now) (layers_rings layers.now) b self.old self.new) }
+    {
+        for layer in layers {
+            if !self.add_geometries(table, layer.geometries())? {
+                return Ok(false);
+            }
+        }
+        Ok(true)
+    }
+}
+
+/// Whether the lists of used arcs of all layers are valid: each line's and each ring's for itself, each arc
+/// of the table is used by one of them, and each end of an arc that is no free loop is where one of the
+/// lines begins or ends, or three ends of arcs meet there.
+///
+/// # Errors
+/// Where memory is refused.
+pub fn lists_stand(alloc: Global, table: &ArcTable, layers: &[Layer]) -> Result<bool, OutOfMemory>
+    ensures { IfOk result (λ b. (b ≡ true) ↔ ListsStand table.now (layers_lines layers.now) (layers_rings layers.now)) }
+{
+    let used = ArcsUsed::none(alloc, table.len())?;
+    let mut seen = ListsSeen {
+        used,
+        ends: Vec::new(alloc),
+    };
+    if !seen.add_layers(table, layers)? {
+        return Ok(false);
+    }
+    if !seen.used.all() {
+        return Ok(false);
+    }
+    ends_meet(alloc, table, &seen.ends)
+}

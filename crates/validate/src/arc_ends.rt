@@ -1,0 +1,122 @@
+//! Whether each end of an arc is an end of a line, or meets two others.
+ghost use Rattle.chains.specs.OfArcs.{table_as_map};
+ghost use Rattle.validate.specs.ArcEnds as spec;
+ghost use Rattle.validate.specs.ArcEnds.{EndsMeet, both_ends, both_if, line_ends};
+ghost use Rattle.validate.specs.Chaining as list;
+ghost use Rattle.std.specs.Prelude.{◌≡◌, ◌↔◌, ◌++◌, true, slice_get, IfOk, OnOk};
+ghost use Rattle.theory.specs.Lists.{gathered, last_of};
+
+use crate::chaining::{ends_in, last_from};
+use crate::end_tests::{EndsHaveToBe, each_ends};
+use chains::table::{ArcRef, ArcTable};
+use faults::OutOfMemory;
+use grid::pos::Pos;
+use lines::items::Items;
+use std::alloc::{AllocError, Global};
+
+fn ends_of(arcs: &[Items<Pos>], used: ArcRef) -> Option<(Pos, Pos)>
+    ensures { result ≡ list.ends_along arcs.now used }
+{
+    match arcs.get(used.arc) {
+        Some(arc) => ends_in(arc.as_slice(), used.reversed),
+        None => None,
+    }
+}
+
+fn last_ref(first: ArcRef, others: &[ArcRef]) -> ArcRef
+    ensures { result ≡ last_of first others.now }
+{
+    match others.last() {
+        Some(last) => *last,
+        None => first,
+    }
+}
+
+/// Adds where a line begins and ends, by its list of used arcs.
+///
+/// # Errors
+/// Where memory is refused.
+pub fn add_line_ends(
+    ends: &mut Vec<Pos>,
+    arcs: &[Items<Pos>],
+    refs: &[ArcRef],
+) -> Result<(), OutOfMemory>
+    ensures { OnOk result (ends.new.items ≡ ends.old.items ++ line_ends arcs.now refs.now) }
+{
+    let Some((first, others)) = refs.split_first() else {
+        return Ok(());
+    };
+    let last = last_ref(*first, others);
+    if let (Some((start, _)), Some((_, end))) = (ends_of(arcs, *first), ends_of(arcs, last)) {
+        ends.push(start)?;
+        ends.push(end)?;
+    }
+    Ok(())
+}
+
+/// Adds the first and the last vertex of an arc.
+fn add_both(ends: &mut Vec<Pos>, arc: &[Pos]) -> Result<(), AllocError>
+    ensures { OnOk result (ends.new.items ≡ ends.old.items ++ both_ends arc.now) }
+{
+    let Some((first, others)) = arc.split_first() else {
+        return Ok(());
+    };
+    ends.push(*first)?;
+    ends.push(last_from(*first, others))?;
+    Ok(())
+}
+
+fn add_numbered(ends: &mut Vec<Pos>, table: &ArcTable, number: usize) -> Result<(), AllocError>
+    ensures { OnOk result (ends.new.items ≡ ends.old.items ++ both_if (slice_get table.now.arcs number)) }
+{
+    match table.arc(number) {
+        Some(arc) => add_both(ends, arc),
+        None => Ok(()),
+    }
+}
+
+/// The ends of all arcs.
+pub(crate) fn all_ends(alloc: Global, table: &ArcTable) -> Result<Vec<Pos>, AllocError>
+    ensures { IfOk result (λ v. v.items ≡ gathered both_ends table.now.arcs) }
+{
+    let mut ends = Vec::new(alloc);
+    for number in 0..table.len() {
+        add_numbered(&mut ends, table, number)?;
+    }
+    Ok(ends)
+}
+
+/// The vertices of a sorted list, each once less often.
+fn again(alloc: Global, sorted: &[Pos]) -> Result<Vec<Pos>, AllocError>
+    ensures { IfOk result (λ v. v.items ≡ spec.again sorted.now) }
+{
+    let mut found = Vec::new(alloc);
+    let Some((first, others)) = sorted.split_first() else {
+        return Ok(found);
+    };
+    let mut before = *first;
+    for vertex in others {
+        if *vertex == before {
+            found.push(*vertex)?;
+        }
+        before = *vertex;
+    }
+    Ok(found)
+}
+
+/// Whether each end of an arc that is no free loop is an end of a line, of which all are given, or
+/// three ends of arcs meet there.
+///
+/// # Errors
+/// Where memory is refused.
+pub fn ends_meet(alloc: Global, table: &ArcTable, line_ends: &[Pos]) -> Result<bool, OutOfMemory>
+    ensures { IfOk result (λ b. (b ≡ true) ↔ EndsMeet table.now.arcs (table_as_map table.now) line_ends.now) }
+{
+    let mut ends = all_ends(alloc, table)?;
+    ends.sort_unstable();
+    let twice = again(alloc, &ends)?;
+    let mut meeting = again(alloc, &twice)?;
+    meeting.extend_from_slice(line_ends)?;
+    meeting.sort_unstable();
+    Ok(each_ends(EndsHaveToBe::Among, &meeting, table))
+}

@@ -1,0 +1,98 @@
+//! Lists of used arcs, validated by the ends of the arcs alone.
+ghost use Rattle.grid.specs.declared.pos.Pos.{Pos};
+ghost use Rattle.validate.specs.Chaining as spec;
+ghost use Rattle.std.specs.Prelude.{◌≡◌, IfNone, IfSome, [], slice_get};
+ghost use Rattle.theory.specs.Lists.{last_of};
+ghost use Rattle.theory.specs.Validity.{Runs};
+
+use chains::table::{ArcRef, ArcTable};
+use grid::pos::Pos;
+
+/// The last of some vertices, or the one before them where there are none.
+pub(crate) fn last_from(first: Pos, others: &[Pos]) -> Pos
+    ensures { result ≡ last_of first others.now }
+{
+    match others.last() {
+        Some(last) => *last,
+        None => first,
+    }
+}
+
+/// The first and the last vertex of an arc, in the direction in which it is used.
+pub(crate) fn ends_in(arc: &[Pos], reversed: bool) -> Option<(Pos, Pos)>
+    ensures { result ≡ spec.ends_in reversed arc.now }
+{
+    let Some((first, others)) = arc.split_first() else {
+        return None;
+    };
+    let last = last_from(*first, others);
+    if reversed {
+        Some((last, *first))
+    } else {
+        Some((*first, last))
+    }
+}
+
+/// The first and the last vertex along a used arc; `None` where no arc has its number.
+fn ends_along(table: &ArcTable, used: ArcRef) -> Option<(Pos, Pos)>
+    ensures { result ≡ spec.ends_along table.now.arcs used }
+{
+    match table.arc(used.arc) {
+        Some(arc) => ends_in(arc, used.reversed),
+        None => None,
+    }
+}
+
+/// Where a used arc leads from a vertex; `None` where it doesn't begin there.
+fn next_from(table: &ArcTable, here: Pos, used: ArcRef) -> Option<Pos>
+    ensures { result ≡ spec.next_from here (spec.ends_along table.now.arcs used) }
+{
+    match ends_along(table, used) {
+        Some((first, last)) => { if first == here { Some(last) } else { None } }
+        None => None,
+    }
+}
+
+/// Where used arcs end of which the first begins at a vertex, and each other where the one before it
+/// ends; `None` where they don't.
+fn run_from(table: &ArcTable, start: Pos, refs: &[ArcRef]) -> Option<Pos>
+    ensures { result ≡ spec.run_from table.now.arcs start refs.now }
+{
+    let mut here = start;
+    for used in refs {
+        match next_from(table, here, *used) {
+            Some(next) => here = next,
+            None => return None,
+        }
+    }
+    Some(here)
+}
+
+/// Where a list of used arcs begins.
+fn start_of(table: &ArcTable, refs: &[ArcRef]) -> Option<Pos>
+    ensures { result ≡ spec.start_of table.now.arcs refs.now }
+{
+    match refs.first() {
+        Some(first) => match ends_along(table, *first) {
+            Some((start, _)) => Some(start),
+            None => None,
+        },
+        None => None,
+    }
+}
+
+/// Where a list of used arcs begins and ends; `None` exactly where it is empty, or some arc of it
+/// doesn't begin where the one before it ends.
+pub fn run(table: &ArcTable, refs: &[ArcRef]) -> Option<(Pos, Pos)>
+    ensures runs { IfSome result (λ e. Runs table.now.arcs e.0 refs.now e.1) }
+    ensures some { IfSome result (λ _. ¬ (refs.now ≡ [])) }
+    ensures none { IfNone result ((v w : Pos) → ¬ (refs.now ≡ []) → ¬ Runs table.now.arcs v refs.now w) }
+{
+    let Some(start) = start_of(table, refs) else {
+        return None;
+    };
+    match run_from(table, start, refs) {
+        Some(end) => Some((start, end)),
+        None => None,
+    }
+}

@@ -1,0 +1,69 @@
+//! Vertices that are looked up in a sorted list: the ends of all arcs.
+ghost use Rattle.chains.specs.Among.{among};
+ghost use Rattle.lines.specs.Turned.{position_cmp};
+ghost use Rattle.validate.specs.EndTests as spec;
+ghost use Rattle.std.specs.List.Sorted.{IsSorted};
+ghost use Rattle.std.specs.Prelude.{◌≡◌, slice_get};
+
+use chains::table::ArcTable;
+use grid::pos::Pos;
+
+/// Where the ends of arcs have to be: among some vertices, or apart from them.
+#[derive(Clone, Copy)]
+pub(crate) enum EndsHaveToBe {
+    Among,
+    Apart,
+}
+
+pub(crate) fn has(sorted: &[Pos], vertex: Pos) -> bool
+    requires { IsSorted position_cmp sorted.now }
+    ensures { result ≡ among sorted.now vertex }
+{
+    sorted.binary_search(&vertex).is_ok()
+}
+
+/// Whether a vertex is where it has to be.
+fn is_as(ends: EndsHaveToBe, sorted: &[Pos], vertex: Pos) -> bool
+    requires { IsSorted position_cmp sorted.now }
+    ensures { result ≡ spec.is_as ends (among sorted.now vertex) }
+{
+    match ends {
+        EndsHaveToBe::Among => has(sorted, vertex),
+        EndsHaveToBe::Apart => !has(sorted, vertex),
+    }
+}
+
+/// Whether both ends of an arc are where they have to be.
+fn both_are(ends: EndsHaveToBe, sorted: &[Pos], arc: &[Pos]) -> bool
+    requires { IsSorted position_cmp sorted.now }
+    ensures { result ≡ spec.both_are ends sorted.now arc.now }
+{
+    match (arc.first(), arc.last()) {
+        (Some(first), Some(last)) => is_as(ends, sorted, *first) && is_as(ends, sorted, *last),
+        _ => true,
+    }
+}
+
+/// The same for an arc of a table; a free loop has no ends.
+fn numbered_are(ends: EndsHaveToBe, sorted: &[Pos], table: &ArcTable, number: usize) -> bool
+    requires { IsSorted position_cmp sorted.now }
+    ensures { result ≡ spec.ends_if ends sorted.now table.now.loops (slice_get table.now.arcs number) }
+{
+    match table.arc(number) {
+        Some(arc) => table.is_free(number) || both_are(ends, sorted, arc),
+        None => true,
+    }
+}
+
+/// The same for each arc of a table.
+pub(crate) fn each_ends(ends: EndsHaveToBe, sorted: &[Pos], table: &ArcTable) -> bool
+    requires { IsSorted position_cmp sorted.now }
+    ensures { result ≡ spec.each_ends ends sorted.now table.now.loops table.now.arcs }
+{
+    for number in 0..table.len() {
+        if !numbered_are(ends, sorted, table, number) {
+            return false;
+        }
+    }
+    true
+}

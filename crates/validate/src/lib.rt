@@ -1,0 +1,22 @@
+//! Topologies taken as they are: what is checked of arcs and of lists of arcs, so that the arcs are
+//! those of the map that they make.
+#![tactic(auto)]
+
+pub mod accept;
+pub mod arc_ends;
+pub mod chaining;
+mod end_tests;
+pub mod laws;
+pub mod lists;
+pub mod loops;
+pub mod noding;
+mod ring_starts;
+mod shared_vertices;
+pub mod used_arcs;
+
+pub use arc_ends::{add_line_ends, ends_meet};
+pub use chaining::run;
+pub use lists::{line_run, ring_stands};
+pub use loops::free_loops;
+pub use noding::{arcs_in_order, is_apart};
+pub use used_arcs::ArcsUsed;

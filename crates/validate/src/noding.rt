@@ -1,0 +1,162 @@
+//! Arcs as a text has them, checked: in order, each before its own reverse, and no vertex inside one at
+//! another place.
+ghost use Rattle.grid.specs.declared.pos.Pos.{Pos};
+ghost use Rattle.lines.specs.Reading as list;
+ghost use Rattle.lines.specs.Turned.{position_cmp};
+ghost use Rattle.validate.specs.Noding as spec;
+ghost use Rattle.validate.specs.Noding.{AreInOrder, IsApart, arc_inside, inside_if};
+ghost use Rattle.std.specs.Prelude.{◌≡◌, ◌↔◌, ◌++◌, cond, slice_get, true, IfOk, OnOk};
+ghost use Rattle.theory.specs.Lists.{gathered};
+ghost use Rattle.theory.specs.Refinement.{unclosed};
+ghost use Rattle.theory.specs.Validity.{inner_of};
+
+use crate::end_tests::{EndsHaveToBe, each_ends};
+use crate::shared_vertices::elsewhere_too;
+use chains::ordered::is_rising;
+use chains::table::ArcTable;
+use faults::OutOfMemory;
+use grid::pos::Pos;
+use lines::items::Items;
+use lines::neighbours::has_equal_neighbours;
+use std::alloc::{AllocError, Global};
+
+/// Whether an arc comes before its own reverse.
+fn is_forward(arc: &[Pos]) -> bool
+    ensures { result ≡ spec.is_forward arc.now }
+{
+    arc.iter().rev().cmp(arc.iter()).is_gt()
+}
+
+/// Whether each arc comes before its own reverse.
+fn each_forward(arcs: &[Items<Pos>]) -> bool
+    ensures { result ≡ spec.each_forward arcs.now }
+{
+    for arc in arcs {
+        if !is_forward(arc.as_slice()) {
+            return false;
+        }
+    }
+    true
+}
+
+/// Whether arcs are in order: each before the next, so that each is there once, and before its own
+/// reverse. Their ends alone decide it where no two begin or end alike, and takes no memory.
+pub fn arcs_in_order(arcs: &[Items<Pos>]) -> bool
+    ensures { (result ≡ true) ↔ AreInOrder arcs.now }
+{
+    is_rising(arcs) && each_forward(arcs)
+}
+
+/// Whether an arc ends where it begins.
+pub(crate) fn is_closed(arc: &[Pos]) -> bool
+    ensures { result ≡ list.is_closed position_cmp arc.now }
+{
+    arc.first() == arc.last()
+}
+
+/// Whether no vertex of an arc comes before its first.
+fn begins_least(arc: &[Pos]) -> bool
+    ensures { result ≡ spec.begins_least arc.now }
+{
+    let Some((first, others)) = arc.split_first() else {
+        return true;
+    };
+    for vertex in others {
+        if *vertex < *first {
+            return false;
+        }
+    }
+    true
+}
+
+/// Whether an arc comes before its own reverse and, where it is a free loop, goes round from its least
+/// vertex.
+fn stands_alone(arc: &[Pos], free: bool) -> bool
+    ensures { result ≡ spec.stands_alone free arc.now }
+{
+    if !is_forward(arc) {
+        return false;
+    }
+    if !free {
+        return true;
+    }
+    is_closed(arc) && begins_least(arc)
+}
+
+fn numbered_stands(table: &ArcTable, number: usize) -> bool
+    ensures { result ≡ spec.stands_if table.now.loops (slice_get table.now.arcs number) }
+{
+    match table.arc(number) {
+        Some(arc) => stands_alone(arc, table.is_free(number)),
+        None => true,
+    }
+}
+
+fn each_stands(table: &ArcTable) -> bool
+    ensures { result ≡ spec.each_stands table.now.loops table.now.arcs }
+{
+    for number in 0..table.len() {
+        if !numbered_stands(table, number) {
+            return false;
+        }
+    }
+    true
+}
+
+/// Adds the vertices inside an arc, those of a free loop all.
+fn add_inside(inside: &mut Vec<Pos>, arc: &[Pos], free: bool) -> Result<(), AllocError>
+    ensures { OnOk result (inside.new.items ≡ inside.old.items ++ cond free (unclosed arc.now) (inner_of arc.now)) }
+{
+    let Some((_, front)) = arc.split_last() else {
+        return Ok(());
+    };
+    if free {
+        return inside.extend_from_slice(front);
+    }
+    match front.split_first() {
+        Some((_, inner)) => inside.extend_from_slice(inner),
+        None => Ok(()),
+    }
+}
+
+fn add_numbered(inside: &mut Vec<Pos>, table: &ArcTable, number: usize) -> Result<(), AllocError>
+    ensures { OnOk result (inside.new.items ≡ inside.old.items ++ inside_if table.now.loops (slice_get table.now.arcs number)) }
+{
+    match table.arc(number) {
+        Some(arc) => add_inside(inside, arc, table.is_free(number)),
+        None => Ok(()),
+    }
+}
+
+/// The vertices inside all arcs.
+fn all_inside(alloc: Global, table: &ArcTable) -> Result<Vec<Pos>, AllocError>
+    ensures { IfOk result (λ v. v.items ≡ gathered (arc_inside table.now.loops) table.now.arcs) }
+{
+    let mut inside = Vec::new(alloc);
+    for number in 0..table.len() {
+        add_numbered(&mut inside, table, number)?;
+    }
+    Ok(inside)
+}
+
+/// Whether the arcs of a table are apart: each comes before its own reverse; each vertex inside an arc,
+/// and each of a free loop, is at one place of all arcs, and no end of an arc that is no free loop; and
+/// a free loop goes round from its least vertex. Where they are in order too, they are then the arcs of
+/// the map that has the free loops as its rings and the other arcs as its lines.
+///
+/// # Errors
+/// Where memory is refused.
+pub fn is_apart(alloc: Global, table: &ArcTable) -> Result<bool, OutOfMemory>
+    ensures { IfOk result (λ b. IsApart b table.now) }
+{
+    if !each_stands(table) {
+        return Ok(false);
+    }
+    let inside = all_inside(alloc, table)?;
+    let mut few = elsewhere_too(alloc, table, &inside)?;
+    few.sort_unstable();
+    if has_equal_neighbours(&few) {
+        return Ok(false);
+    }
+    Ok(each_ends(EndsHaveToBe::Apart, &few, table))
+}
