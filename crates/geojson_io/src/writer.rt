@@ -4,7 +4,7 @@ ghost use Rattle.lines.specs.Seen.{positions_of, vertices_of};
 ghost use Rattle.shapes.specs.Parts.{properties_text};
 ghost use Rattle.shapes.specs.declared.feature.Feature.{Feature};
 ghost use Rattle.sinks.specs.Stops.{FailedIn};
-ghost use Rattle.sinks.specs.Texts.{list_text, framed};
+ghost use Rattle.sinks.specs.Texts.{after_comma, after_commas, framed, joined, list_text};
 ghost use Rattle.sinks.specs.Writes.{TookAll, TookPart};
 ghost use Rattle.std.specs.Borrow.{Bor};
 ghost use Rattle.std.specs.Iterator.{Drains, IsFinite};
@@ -18,7 +18,7 @@ use shapes::props::Props;
 use shapes::shape::{Id, Shape};
 use shapes::writing::{IdMember, Lists};
 use sinks::written::{
-    Bracketed, Each, Listed, Notation, Noted, Pair, Text, Then, Written, write_framed,
+    Bracketed, Listed, Notation, Noted, Pair, PairAfterComma, Text, Then, Written, write_framed,
 };
 use sinks::{Sink, WriteFault};
 
@@ -35,6 +35,56 @@ impl<'a> Notation<Pos> for Places<'a> {
     }
 }
 
+/// A position after a comma, by its absolute numbers, as one piece.
+#[derive(Clone, Copy)]
+pub struct PlaceAfterComma<'a>(pub &'a Pos, pub &'a Grid);
+
+impl<'a> Written for PlaceAfterComma<'a> {
+    ghost text = { λ p. after_comma (place_text p.1.now) p.0.now };
+
+    fn write<W: Sink>(&self, sink: &mut W) -> Result<(), WriteFault> {
+        let (x, y) = self.1.to_absolute(*self.0);
+        PairAfterComma(x, y).write(sink)
+    }
+}
+
+/// Positions by their absolute numbers, with commas between them.
+#[derive(Clone, Copy)]
+pub struct JoinedPlaces<'a>(pub &'a [Pos], pub &'a Grid);
+
+impl<'a> Written for JoinedPlaces<'a> {
+    ghost text = { λ p. joined (place_text p.1.now) p.0.now };
+
+    fn write<W: Sink>(&self, sink: &mut W) -> Result<(), WriteFault> {
+        match self.0.split_first() {
+            Some((first, others)) => match Noted(first, &Places(self.1)).write(sink) {
+                Ok(()) => write_after_commas(sink, self.1, others),
+                Err(fault) => Err(fault),
+            },
+            None => Ok(()),
+        }
+    }
+}
+
+/// Writes positions, each after a comma.
+fn write_after_commas<W: Sink>(
+    sink: &mut W,
+    grid: &Grid,
+    positions: &[Pos],
+) -> Result<(), WriteFault>
+    ensures whole { OnOk result (TookAll (W.seen sink.old) (W.seen sink.new) (after_commas (place_text grid.now) positions.now)) }
+    ensures part { OnErr result (TookPart (W.seen sink.old) (W.seen sink.new) (after_commas (place_text grid.now) positions.now)) }
+{
+    let mut left = positions;
+    while let Some((place, after)) = left.split_first() {
+        match PlaceAfterComma(place, grid).write(sink) {
+            Ok(()) => left = after,
+            Err(fault) => return Err(fault),
+        }
+    }
+    Ok(())
+}
+
 /// Lines, as lists of places.
 #[derive(Clone, Copy)]
 pub struct LinesOn<'a>(pub &'a Grid);
@@ -43,7 +93,7 @@ impl<'a> Notation<Line> for LinesOn<'a> {
     ghost text = { λ lines line. line_text lines.0.now (positions_of line) };
 
     fn write_value<W: Sink>(&self, value: &Line, sink: &mut W) -> Result<(), WriteFault> {
-        Listed(value.positions(), &Places(self.0)).write(sink)
+        Bracketed(JoinedPlaces(value.positions(), self.0)).write(sink)
     }
 }
 
@@ -69,8 +119,7 @@ impl<'a> Written for Closed<'a> {
     fn write<W: Sink>(&self, sink: &mut W) -> Result<(), WriteFault> {
         match self.0.split_first() {
             Some((first, _)) => {
-                let last = Then(Text(b","), Noted(first, &Places(self.1)));
-                Then(Each(self.0, &Places(self.1)), last).write(sink)
+                Then(JoinedPlaces(self.0, self.1), PlaceAfterComma(first, self.1)).write(sink)
             }
             None => Ok(()),
         }

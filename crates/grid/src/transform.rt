@@ -116,18 +116,25 @@ fn remainder(a: i64, scale: i64) -> i64
     a % scale
 }
 
+#[tactic(auto, using(crate::proofs::Multiples::quotient_by_one))]
 fn quotient(a: i64, scale: i64) -> i64
     requires scale { IsScale scale }
     ensures { result ≡ int_div a scale }
 {
+    if scale == 1 {
+        return a;
+    }
     a / scale
 }
 
-#[tactic(auto, using(crate::proofs::Multiples::rest_of_multiple, crate::proofs::Multiples::multiple_by_rest))]
+#[tactic(auto, using(crate::proofs::Multiples::rest_of_multiple, crate::proofs::Multiples::multiple_by_rest, crate::proofs::Multiples::multiple_of_one))]
 fn is_multiple(d: i64, scale: i64) -> bool
     requires scale { IsScale scale }
     ensures { IsTrue result ↔ IsMultiple scale d }
 {
+    if scale == 1 {
+        return true;
+    }
     if remainder(d, scale) != 0 {
         return false;
     }

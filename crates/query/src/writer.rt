@@ -9,7 +9,7 @@ ghost use Rattle.std.specs.Prelude.{◌≡◌, map, slice_get, OnErr, OnOk};
 ghost use Rattle.topo.specs.Points.{arc_at};
 
 use chains::ArcTable;
-use geojson_io::writer::{Geometry, Places};
+use geojson_io::writer::{Geometry, JoinedPlaces};
 use grid::{Grid, Pos};
 use itoa::Buffer;
 use shapes::shape::Id;
@@ -37,7 +37,7 @@ impl<'a> Written for LinesIn<'a> {
     fn write<W: Sink>(&self, sink: &mut W) -> Result<(), WriteFault> {
         let mut separator = Text(b"");
         for number in 0..self.0.len() {
-            let line = Listed(line_at(self.0, number), &Places(self.1));
+            let line = Bracketed(JoinedPlaces(line_at(self.0, number), self.1));
             match Then(separator, line).write(sink) {
                 Ok(()) => separator = Text(b","),
                 Err(fault) => return Err(fault),

@@ -8,7 +8,7 @@ ghost use Rattle.std.specs.Fmt.{signed_decimal};
 ghost use Rattle.std.specs.Iterator.{IsFinite, YieldsThen};
 ghost use Rattle.std.specs.Prelude.{◌≡◌, ℕ, ℤ, ◌<◌, ◌≤◌, ◌++◌, length, List, [], codes, None, OnErr, OnOk};
 
-use crate::pair::{LONGEST_PAIR, write_pair};
+use crate::pair::{LONGEST_AFTER_COMMA, LONGEST_PAIR, write_pair, write_pair_after_comma};
 use crate::{Sink, WriteFault, put};
 use itoa::Buffer;
 
@@ -182,6 +182,20 @@ impl Written for Pair {
     fn write<W: Sink>(&self, sink: &mut W) -> Result<(), WriteFault> {
         let mut bytes = [0; LONGEST_PAIR];
         let start = write_pair(self.0, self.1, &mut bytes);
+        put(sink, &bytes[start..])
+    }
+}
+
+/// Two numbers in brackets after a comma, as one piece.
+#[derive(Clone, Copy)]
+pub struct PairAfterComma(pub i64, pub i64);
+
+impl Written for PairAfterComma {
+    ghost text = { λ p. codes "," ++ pair_text p.0 p.1 };
+
+    fn write<W: Sink>(&self, sink: &mut W) -> Result<(), WriteFault> {
+        let mut bytes = [0; LONGEST_AFTER_COMMA];
+        let start = write_pair_after_comma(self.0, self.1, &mut bytes);
         put(sink, &bytes[start..])
     }
 }

@@ -2,12 +2,12 @@
 ghost use Rattle.sinks.specs.Texts.{joined};
 ghost use Rattle.sinks.specs.Writes.{TookAll, TookPart};
 ghost use Rattle.std.specs.Prelude.{◌≡◌, ◌-ℤ◌, OnErr, OnOk};
-ghost use Rattle.topo.specs.ArcTexts.{position_text, difference_text, differences_text, arc_positions, arc_text, index_text};
+ghost use Rattle.topo.specs.ArcTexts.{position_text, differences_text, arc_positions, arc_text, index_text};
 
 use chains::table::{ArcRef, ArcTable};
 use grid::Pos;
 use itoa::Buffer;
-use sinks::written::{Bracketed, Notation, Pair, Text, Then, Written};
+use sinks::written::{Bracketed, Notation, Pair, PairAfterComma, Text, Then, Written};
 use sinks::{Sink, WriteFault, put};
 
 /// Positions, by their grid numbers.
@@ -22,20 +22,12 @@ impl Notation<Pos> for PositionNumbers {
     }
 }
 
-fn difference(before: Pos, p: Pos) -> Pair
+/// The difference of a position from the one before, after a comma.
+fn difference(before: Pos, p: Pos) -> PairAfterComma
     ensures x { result.0 ≡ p.x -ℤ before.x }
     ensures y { result.1 ≡ p.y -ℤ before.y }
 {
-    Pair(p.x() - before.x(), p.y() - before.y())
-}
-
-// The difference of a position from the one before, after a comma.
-fn write_difference<W: Sink>(sink: &mut W, before: Pos, p: Pos) -> Result<(), WriteFault>
-    ensures whole { OnOk result (TookAll (W.seen sink.old) (W.seen sink.new) (difference_text before p)) }
-    ensures part { OnErr result (TookPart (W.seen sink.old) (W.seen sink.new) (difference_text before p)) }
-{
-    let pair = difference(before, p);
-    Then(Text(b","), pair).write(sink)
+    PairAfterComma(p.x() - before.x(), p.y() - before.y())
 }
 
 fn write_differences<W: Sink>(sink: &mut W, first: Pos, others: &[Pos]) -> Result<(), WriteFault>
@@ -45,7 +37,7 @@ fn write_differences<W: Sink>(sink: &mut W, first: Pos, others: &[Pos]) -> Resul
     let mut left = others;
     let mut before = first;
     while let Some((p, after)) = left.split_first() {
-        match write_difference(sink, before, *p) {
+        match difference(before, *p).write(sink) {
             Ok(()) => {
                 left = after;
                 before = *p;

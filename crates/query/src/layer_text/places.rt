@@ -2,24 +2,17 @@
 ghost use Rattle.geojson_io.specs.CollectionText.{place_text};
 ghost use Rattle.query.specs.ByArcs.{along, places_along, places_round};
 ghost use Rattle.query.specs.Steps.{behind_step, up_to_from, up_to_step};
-ghost use Rattle.sinks.specs.Texts.{after_comma, after_commas};
+ghost use Rattle.sinks.specs.Texts.{after_commas};
 ghost use Rattle.sinks.specs.Writes.{TookAll, TookPart};
 ghost use Rattle.std.specs.Prelude.{OnErr, OnOk};
 
 use crate::layer_text::steps::{GridStep, behind, is_step, least_step};
 use chains::ArcRef;
-use geojson_io::writer::Places;
+use geojson_io::writer::{PlaceAfterComma, Places};
 use grid::{Grid, Pos};
-use sinks::written::{Noted, Text, Then, Written};
+use sinks::written::{Noted, Then, Written};
 use sinks::{Sink, WriteFault};
 use topo::{Topology, Walk};
-
-fn write_after_comma<W: Sink>(sink: &mut W, grid: &Grid, place: &Pos) -> Result<(), WriteFault>
-    ensures whole { OnOk result (TookAll (W.seen sink.old) (W.seen sink.new) (after_comma (place_text grid.now) place.now)) }
-    ensures part { OnErr result (TookPart (W.seen sink.old) (W.seen sink.new) (after_comma (place_text grid.now) place.now)) }
-{
-    Then(Text(b","), Noted(place, &Places(grid))).write(sink)
-}
 
 /// Writes what is left of a walk, each place after a comma.
 fn write_others<W: Sink>(sink: &mut W, grid: &Grid, mut walk: Walk) -> Result<(), WriteFault>
@@ -27,7 +20,7 @@ fn write_others<W: Sink>(sink: &mut W, grid: &Grid, mut walk: Walk) -> Result<()
     ensures part { OnErr result (TookPart (W.seen sink.old) (W.seen sink.new) (after_commas (place_text grid.now) walk.entry)) }
 {
     while let Some(place) = walk.next() {
-        match write_after_comma(sink, grid, place) {
+        match PlaceAfterComma(place, grid).write(sink) {
             Ok(()) => {}
             Err(fault) => return Err(fault),
         }
@@ -50,7 +43,7 @@ fn write_up_to<W: Sink>(
         if is_step(step, here, *next) {
             return Ok(());
         }
-        match write_after_comma(sink, grid, next) {
+        match PlaceAfterComma(next, grid).write(sink) {
             Ok(()) => here = *next,
             Err(fault) => return Err(fault),
         }
@@ -120,10 +113,9 @@ impl<'a> Written for Round<'a> {
         match least_step(topology.walk(used)) {
             Some(step) => {
                 let grid = topology.grid();
-                let places = Places(&grid);
                 let others = Then(Behind(topology, used, step), UpTo(topology, used, step));
-                let second = Then(Text(b","), Then(Noted(&step.to, &places), others));
-                Then(Noted(&step.from, &places), second).write(sink)
+                let second = Then(PlaceAfterComma(&step.to, &grid), others);
+                Then(Noted(&step.from, &Places(&grid)), second).write(sink)
             }
             None => Ok(()),
         }

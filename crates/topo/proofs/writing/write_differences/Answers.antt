@@ -4,7 +4,11 @@ use Rattle.sinks.proofs.Left.{left_step, left_part}
 use Rattle.topo.proofs.writing.write_differences.Goals as goal
 
 pub loop-p-preserved : goal.loop-p-preserved
-loop-p-preserved g c = left_step _ c.loop-p.invariant (ap (differences_text c.loop-p.before) c.in-Some.ensures.cases.0) c.in-Ok.ensures.whole
+loop-p-preserved g c =
+    left_step _ c.loop-p.invariant (ap (differences_text c.loop-p.before) c.in-Some.ensures.cases.0)
+    (rw (← c.difference.ensures.x, ← c.difference.ensures.y) c.in-Ok.ensures.whole)
 
 pub returns-in-Err-clause-part : goal.returns-in-Err-clause-part
-returns-in-Err-clause-part g c = left_part _ c.loop-p.invariant (ap (differences_text c.loop-p.before) c.in-Some.ensures.cases.0) c.in-Err.ensures.part
+returns-in-Err-clause-part g c =
+    left_part _ c.loop-p.invariant (ap (differences_text c.loop-p.before) c.in-Some.ensures.cases.0)
+    (rw (← c.difference.ensures.x, ← c.difference.ensures.y) c.in-Err.ensures.part)

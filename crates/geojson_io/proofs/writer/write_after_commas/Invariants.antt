@@ -1,0 +1,12 @@
+use Rattle.std.proofs.Common.{length}
+use Rattle.sinks.specs.Texts.{after_commas}
+use Rattle.sinks.specs.Writes.{TookUpTo}
+use Rattle.geojson_io.specs.CollectionText.{place_text}
+use Rattle.geojson_io.proofs.writer.write_after_commas.Given as goal
+
+abbrev pub invariant-loop-place : goal.invariant-loop-place
+invariant-loop-place g l =
+    TookUpTo (g.W.Sink.seen l.initial.sink) (g.W.Sink.seen l.sink) (after_commas (place_text l.grid) l.positions) (after_commas (place_text l.grid) l.left)
+
+abbrev pub decreases-loop-place : goal.decreases-loop-place
+decreases-loop-place g l = length l.left
