@@ -76,21 +76,20 @@ fn round<'a, F: Files, O: Sink, E: Sink>(
         check_outputs(alloc, options, sources)?;
     }
     let (sheets, rounded) = round_files(alloc, options, files, sources)?;
-    if options.is_build {
-        let topology = build(alloc, sheets)?;
-        write_output(alloc, files, out, options.output, topology.as_slice())?;
+    let made = make(alloc, options, sheets)?;
+    let folder = if options.is_build {
+        None
     } else {
-        write_texts(alloc, options, files, sheets.as_slice(), out)?;
+        options.output
+    };
+    if options.output.is_some() {
+        made.write(alloc, options, files, out)?;
     }
     let report = Report {
         options,
         sources,
         rounded: &rounded,
-        folder: if options.is_build {
-            None
-        } else {
-            options.output
-        },
+        folder,
     };
     if let Some(file) = options.report {
         let text = report_text(alloc, &report)?;
@@ -99,7 +98,53 @@ fn round<'a, F: Files, O: Sink, E: Sink>(
     if !options.is_quiet {
         let _ = put_report(alloc, &report, err);
     }
+    if options.output.is_none() {
+        made.write(alloc, options, files, out)?;
+    }
     Ok(status_of(options, &rounded))
+}
+
+/// What is written: one topology, or each file's text.
+#[derive(Drop)]
+enum Made {
+    Topology(Vec<u8>),
+    Sheets(Vec<(String, Sheet)>),
+}
+
+/// What the options ask for, made of the files that were rounded.
+fn make<'a>(
+    alloc: Global,
+    options: &GridOptions<'a>,
+    sheets: Vec<(String, Sheet)>,
+) -> Result<Made, Refusal<'a>> {
+    if options.is_build {
+        Ok(Made::Topology(build(alloc, sheets)?))
+    } else {
+        Ok(Made::Sheets(sheets))
+    }
+}
+
+impl Made {
+    /// Writes it to the output that the options name. On standard output it comes last, since a terminal shows it
+    /// with the report.
+    fn write<'a, F: Files, O: Sink>(
+        &self,
+        alloc: Global,
+        options: &GridOptions<'a>,
+        files: &mut F,
+        out: &mut O,
+    ) -> Result<(), Refusal<'a>> {
+        match self {
+            Made::Topology(text) => write_output(
+                alloc,
+                files,
+                out,
+                options.output,
+                text.as_slice(),
+            ),
+            Made::Sheets(sheets) => write_texts(alloc, options, files, sheets.as_slice(), out),
+        }
+    }
 }
 
 /// Whether something was lost, split or nearly shared, where that is asked.

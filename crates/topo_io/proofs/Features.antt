@@ -28,6 +28,10 @@ module _ (arcs : List (List Pos)) (ls : List LayerParts) where
     of_text : AllStitch ≡ AllByRecursion (LayerStitches (arcs_of_text bytes)) (geoms_of_text bytes)
     of_text = λ i. AllByRecursion (LayerStitches (s.arcs i)) (s.layers i)
 
+    -- where all lists stitch, the text has no fault
+    pub said_accepted : AllStitch → faults_of_text bytes ≡ []
+    said_accepted all = stitches_faultless bytes s.loose (subst (λ A. A) of_text all)
+
     -- where some list doesn't stitch, the text has a fault
     pub said_refused : (AllStitch → ⊥) → faults_of_text bytes ≡ [] → ⊥
     said_refused not none = not (subst (λ A. A) (sym of_text) (faultless_stitches bytes none))
@@ -43,7 +47,7 @@ module _ (arcs : List (List Pos)) (ls : List LayerParts) where
       -- the map of the layers that the parts stitch to is the map that the text means
       pub said_stitched : (m : Layers) → AllStitch → m ≡ with_layers map.empty (map_list layer_read named) → Means bytes g m
       said_stitched m all is = record {
-        accepted = stitches_faultless bytes s.loose (subst (λ A. A) of_text all);
+        accepted = said_accepted all;
         grid = s.grid;
         layers = read_layers named m (layers_of_text bytes) is (subst Distinct (sym names_said) s.names)
             (made ∙ (λ i. map_list (layer_along (s.arcs i)) (s.layers i)) ∙ sym (features_stitched bytes));

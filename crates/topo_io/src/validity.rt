@@ -8,7 +8,7 @@ ghost use Rattle.reading.specs.declared.fault_lists.found.Wanted.{Wanted};
 ghost use Rattle.reading.specs.Parts.{list_faults, member_faults};
 ghost use Rattle.serde_json.specs.Find.{get};
 ghost use Rattle.serde_json.specs.View.{view};
-ghost use Rattle.std.specs.Prelude.{◌≡◌, [], codes, IfErr, IfOk, OnOk, Some};
+ghost use Rattle.std.specs.Prelude.{◌≡◌, [], codes, IfErr, IfOk, IsTrue, OnOk, Some};
 ghost use Rattle.topo_io.specs.Arcs.{arc_faults};
 ghost use Rattle.topo_io.specs.Named.{named};
 ghost use Rattle.topo_io.specs.Roots.{objects_faults, arcs_in, content_faults, limits_of as limits_of_transform, transform_faults, transformed_faults, topology_faults, faults_of_text};
@@ -26,10 +26,12 @@ pub mod transform;
 use crate::reader::arc::ArcOf;
 use crate::reader::position::Limits;
 use crate::reader::transform::read_transform;
+use crate::token_reader::read_parts;
 use crate::validity::arc::ArcIn;
 use crate::validity::index::Named;
 use crate::validity::layer::ObjectsIn;
 use crate::validity::list::Known;
+use crate::validity::parts::layers_stitch;
 use crate::validity::transform::judge_transform;
 use faults::OutOfMemory;
 use faults::fault::{Fault, FaultKind};
@@ -42,6 +44,7 @@ use reading::fault_lists::judge::ListOf;
 use reading::fault_lists::members::judge_member;
 use reading::fault_lists::types::type_fault;
 use reading::part::{judge_type, read_list_member};
+use reading::tokens::from_tokens::Stop;
 use serde_json::Value;
 use std::alloc::Global;
 use validate::accept::TextArcs;
@@ -226,6 +229,21 @@ pub(crate) fn judge_text(alloc: Global, bytes: &[u8]) -> Result<(), Fault>
     judge_root(alloc, &value)
 }
 
+/// Whether a text is read along its tokens, and each of its lists stitches. It then has no fault, and no JSON value is
+/// made of it.
+fn is_faultless(alloc: Global, bytes: &[u8]) -> Result<bool, OutOfMemory>
+    ensures { IfOk result (λ b. IsTrue b → faults_of_text bytes.now ≡ []) }
+{
+    match read_parts(alloc, bytes) {
+        Ok(parts) => {
+            let arcs = TextArcs::from_list(parts.arcs);
+            layers_stitch(alloc, &arcs, &parts.layers)
+        }
+        Err(Stop::Unread) => Ok(false),
+        Err(Stop::OutOfMemory) => Err(OutOfMemory),
+    }
+}
+
 /// All faults of a topology's text, by path and then by number: none where `read` accepts it, else the first
 /// is the one that `read` answers.
 ///
@@ -238,6 +256,9 @@ pub fn faults(alloc: Global, bytes: &[u8]) -> Result<Vec<Fault>, OutOfMemory>
     ensures all { IfOk result (λ fs. pairs_of fs.items ≡ faults_of_text bytes.now) }
     ensures sorted { IfOk result (λ fs. IsAscending (pairs_of fs.items)) }
 {
+    if is_faultless(alloc, bytes)? {
+        return Ok(Vec::new(alloc));
+    }
     match document(alloc, bytes) {
         Ok(value) => {
             look_at_names(&value);
