@@ -25,6 +25,7 @@ pub mod PlacedPieces
 pub mod TableOfMap
 pub mod WalkSteps
 pub mod Noting
+pub mod NotedPlaces
 pub mod MeetingTwo
 pub mod Found
 pub mod AllChains

@@ -1,8 +1,7 @@
 -- Lists in which the same stand.
-use Rattle.std.proofs.Common.{◌≡◌, ℕ, ◌<◌, List, [], ◌∷◌, ◌++◌, inl, inr, sym, subst, length, get_or, slice_get, Some}
+use Rattle.std.proofs.Common.{◌≡◌, ℕ, ◌<◌, List, [], ◌∷◌, ◌++◌, inl, inr, sym, subst, length, get_or}
 use Rattle.theory.specs.Lists.{Has}
 use Rattle.theory.proofs.Lists.{Has-append, Has-append_left, Has-append_right}
-use Rattle.theory.proofs.ListsOfLists.{get_has}
 use Rattle.chains.specs.Visits.{HaveSame}
 use Rattle.lines.proofs.SortedLists.{has_from_contains}
 
@@ -45,10 +44,6 @@ same_again w a h = record { members = λ v. (Has-append_left v a (w ∷ []), aga
 -- an equal one stands at a place of the list
 pub same_at : {A : Type 0} (w v : A) (a : List A) (k : ℕ) → k < length a → v ≡ get_or a k v → v ≡ w → HaveSame a (a ++ w ∷ [])
 same_at w v a k h e t = same_again w a (subst (λ u. Has u a) t (has_from_contains v a k h (sym e)))
-
--- what stands at an index of the list
-pub same_stands : {A : Type 0} (w : A) (a : List A) (k : ℕ) → slice_get a k ≡ Some w → HaveSame a (a ++ w ∷ [])
-same_stands w a k e = same_again w a (get_has a k w e)
 
 -- what is left behind both
 pub same_step : {A : Type 0} {now seen left all : List A} (rest : List A) → HaveSame now seen → HaveSame left all → left ≡ seen ++ rest → HaveSame (now ++ rest) all

@@ -1,5 +1,6 @@
 pub mod Among
 pub mod Visits
+pub mod Noted
 pub mod Holding
 pub mod LookUp
 pub mod Extents

@@ -1,5 +1,5 @@
 -- The vertices that come again among visits.
-use Rattle.std.specs.Prelude.{◌≡◌, Bool, true, List}
+use Rattle.std.specs.Prelude.{◌≡◌, Bool, true, List, ◌⊎◌}
 use Rattle.theory.specs.Lists.{Has}
 use Rattle.grid.specs.declared.pos.Pos.{Pos}
 use Rattle.lines.specs.PositionFilter.{may_hold}
@@ -13,6 +13,11 @@ pub record IsNoted (p : Pos) (old new : Repeats) : Type 0 where
   pub again : Keeps (may_hold old.again) (may_hold new.again)
   pub here : may_hold new.met p ≡ true
   pub twice : may_hold old.met p ≡ true → may_hold new.again p ≡ true
+
+-- of all visits, those whose vertex is not met are still to come; of two that clash one is, or their vertex came again
+pub record AreNoted (r : Repeats) (all left : List Visit) : Type 0 where
+  pub met : (v : Visit) → Has v all → Has v left ⊎ (may_hold r.met v.vertex ≡ true)
+  pub again : (v w : Visit) → Has v all → Has w all → v.vertex ≡ w.vertex → ¬ (v ≡ w) → (Has v left ⊎ Has w left) ⊎ (may_hold r.again v.vertex ≡ true)
 
 -- it holds of each vertex where visits clash
 abbrev pub HoldsClashing : (Pos → Bool) → List Visit → Type 0

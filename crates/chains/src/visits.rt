@@ -8,8 +8,10 @@ ghost use Rattle.chains.specs.Seen.{line_of, ring_of, form_of, geometry_of, seen
 ghost use Rattle.chains.specs.VertexFilter.{KeepsClashes, StaysApart, StayWhole, arc_meets, arc_shared, may_hold, meets, meets_if, met_visits, shared_if};
 ghost use Rattle.chains.specs.Table.{IsTableOf};
 ghost use Rattle.chains.specs.Visits.{visit_of, inner_of, ends_of, around_of, clash, clashes_of, HaveSame};
+ghost use Rattle.chains.specs.Noted.{visits_at, visits_noted};
 ghost use Rattle.chains.specs.declared.visits.Visit.{Visit as Visiting};
 ghost use Rattle.grid.specs.declared.pos.Pos.{Pos};
+ghost use Rattle.lines.specs.Pairs.{pair_of};
 ghost use Rattle.shapes.specs.Maps.{set_of};
 ghost use Rattle.shapes.specs.Sets as set;
 ghost use Rattle.std.specs.List.{list_any};
@@ -56,11 +58,22 @@ fn visit_between(before: Pos, here: Pos, next: Pos) -> Visit
     }
 }
 
+/// The visit of a place that stands between two others.
+pub(crate) fn visit_within(window: &[Pos; 3]) -> Visit
+    ensures { inner_of window.now ≡ result ∷ [] }
+{
+    visit_between(window[0], window[1], window[2])
+}
+
 /// What lines and rings are seen to visit: the ends of the lines apart from the other visits.
 #[derive(Drop)]
-struct VisitsSeen {
+struct VisitsSeen<'a> {
     ends: Vec<Pos>,
-    visits: Vec<Visit>,
+    /// Places with those before and behind them, where these three stand side by side in a list. They
+    /// stay where they are: a reference takes a sixth of the memory of a visit.
+    inner: Vec<&'a [Pos; 3]>,
+    /// The visits across the ends of a ring's list, two for each ring.
+    seams: Vec<Visit>,
     /// Where a visit was noted, by its vertex. It is only a hint: most visits of a map whose rings share
     /// borders come twice, and the second is found here.
     recent: Recent,
@@ -69,71 +82,89 @@ struct VisitsSeen {
     last_found: usize,
 }
 
-/// Whether a visit is at an index.
-fn stands_at(visits: &[Visit], index: usize, visit: Visit) -> bool
-    ensures { IsTrue result ↔ (slice_get visits.now index ≡ Some visit) }
+/// Whether two positions are two others, in either order.
+fn are_same_two(a: Pos, b: Pos, c: Pos, d: Pos) -> bool
+    ensures { IsTrue result ↔ (pair_of a b ≡ pair_of c d) }
 {
-    match visits.get(index) {
-        Some(noted) => *noted == visit,
-        None => false,
+    if a == d {
+        return b == c;
     }
+    a == c && b == d
 }
 
-impl VisitsSeen {
+/// Whether two places are one vertex with the same two neighbours, in either order.
+fn is_same_visit(a: &[Pos; 3], b: &[Pos; 3]) -> bool
+    ensures { IsTrue result ↔ (inner_of a.now ≡ inner_of b.now) }
+{
+    a[1] == b[1] && are_same_two(a[0], a[2], b[0], b[2])
+}
+
+/// Whether the visit of a place is noted at an index.
+fn stands_at(inner: &[&[Pos; 3]], index: usize, window: &[Pos; 3]) -> bool
+    ensures { IsTrue result ↔ (slice_get (map_list visits_at inner.now) index ≡ Some (inner_of window.now)) }
+{
+    if index < inner.len() {
+        return is_same_visit(inner[index], window);
+    }
+    false
+}
+
+impl<'a> VisitsSeen<'a> {
     /// Nothing is seen yet; so many visits may be noted.
-    fn nothing(alloc: Global, visits: usize) -> Result<VisitsSeen, AllocError>
+    fn nothing(alloc: Global, visits: usize) -> Result<VisitsSeen<'a>, AllocError>
         ensures ends { IfOk result (λ s. s.ends.items ≡ []) }
-        ensures visits { IfOk result (λ s. s.visits.items ≡ []) }
+        ensures visits { IfOk result (λ s. visits_noted s ≡ []) }
     {
         Ok(VisitsSeen {
             ends: Vec::new(alloc),
-            visits: Vec::new(alloc),
+            inner: Vec::new(alloc),
+            seams: Vec::new(alloc),
             recent: Recent::for_positions(alloc, visits)?,
             last_found: 0,
         })
     }
 
     /// Where a visit is beside the last one that was found, if it is there.
-    fn beside_last(&self, visit: Visit) -> Option<usize>
-        ensures { IfSome result (λ i. slice_get self.now.visits.items i ≡ Some visit) }
+    fn beside_last(&self, window: &[Pos; 3]) -> Option<usize>
+        ensures { IfSome result (λ i. slice_get (map_list visits_at self.now.inner.items) i ≡ Some (inner_of window.now)) }
     {
         let before = self.last_found.saturating_sub(1);
-        if stands_at(&self.visits, before, visit) {
+        if stands_at(&self.inner, before, window) {
             return Some(before);
         }
         let after = self.last_found.saturating_add(1);
-        if stands_at(&self.visits, after, visit) {
+        if stands_at(&self.inner, after, window) {
             return Some(after);
         }
         None
     }
 
-    /// Notes a visit, unless an equal one is beside the last that was found, or where the table of
+    /// Notes the visit of a place, unless it is beside the last that was found, or where the table of
     /// recent visits points.
-    fn note(&mut self, visit: Visit) -> Result<(), AllocError>
+    fn note(&mut self, window: &'a [Pos; 3]) -> Result<(), AllocError>
         ensures ends { self.new.ends.items ≡ self.old.ends.items }
-        ensures visits { OnOk result (HaveSame self.new.visits.items (self.old.visits.items ++ visit ∷ [])) }
+        ensures visits { OnOk result (HaveSame (visits_noted self.new) (visits_noted self.old ++ inner_of window.now)) }
     {
-        if let Some(index) = self.beside_last(visit) {
+        if let Some(index) = self.beside_last(window) {
             self.last_found = index;
             return Ok(());
         }
-        if let Some(place) = self.recent.place(visit.vertex) {
+        if let Some(place) = self.recent.place(window[1]) {
             let index = *place as usize;
-            if stands_at(&self.visits, index, visit) {
+            if stands_at(&self.inner, index, window) {
                 self.last_found = index;
                 return Ok(());
             }
-            *place = kept_place(self.visits.len());
+            *place = kept_place(self.inner.len());
         }
-        self.visits.push(visit)?;
+        self.inner.push(window)?;
         Ok(())
     }
 
     /// Notes the first and the last place of a line.
     fn see_ends(&mut self, line: &[Pos]) -> Result<(), AllocError>
         ensures ends { OnOk result (self.new.ends.items ≡ self.old.ends.items ++ ends_of line.now) }
-        ensures visits { self.new.visits.items ≡ self.old.visits.items }
+        ensures visits { visits_noted self.new ≡ visits_noted self.old }
     {
         let Some((first, others)) = line.split_first() else {
             return Ok(());
@@ -146,37 +177,29 @@ impl VisitsSeen {
     }
 
     /// Notes the visits of a line that are no ends.
-    fn see_inside(&mut self, line: &[Pos]) -> Result<(), AllocError>
+    fn see_inside(&mut self, line: &'a [Pos]) -> Result<(), AllocError>
         ensures ends { OnOk result (self.new.ends.items ≡ self.old.ends.items) }
-        ensures visits { OnOk result (HaveSame self.new.visits.items (self.old.visits.items ++ inner_of line.now)) }
+        ensures visits { OnOk result (HaveSame (visits_noted self.new) (visits_noted self.old ++ inner_of line.now)) }
     {
-        let Some((first, others)) = line.split_first() else {
-            return Ok(());
-        };
-        let Some((second, rest)) = others.split_first() else {
-            return Ok(());
-        };
-        let mut before = *first;
-        let mut here = *second;
-        for next in rest {
-            self.note(visit_between(before, here, *next))?;
-            before = here;
-            here = *next;
+        let mut left = line;
+        while let Some((window, _)) = left.split_first_chunk::<3>() {
+            self.note(window)?;
+            left = &left[1..];
         }
         Ok(())
     }
 
-    fn see_line(&mut self, line: &[Pos]) -> Result<(), AllocError>
+    fn see_line(&mut self, line: &'a [Pos]) -> Result<(), AllocError>
         ensures ends { OnOk result (self.new.ends.items ≡ self.old.ends.items ++ ends_of line.now) }
-        ensures visits { OnOk result (HaveSame self.new.visits.items (self.old.visits.items ++ inner_of line.now)) }
+        ensures visits { OnOk result (HaveSame (visits_noted self.new) (visits_noted self.old ++ inner_of line.now)) }
     {
         self.see_ends(line)?;
         self.see_inside(line)
     }
 
-    fn see_ring(&mut self, ring: &[Pos]) -> Result<(), AllocError>
+    fn see_ring(&mut self, ring: &'a [Pos]) -> Result<(), AllocError>
         ensures ends { OnOk result (self.new.ends.items ≡ self.old.ends.items) }
-        ensures visits { OnOk result (HaveSame self.new.visits.items (self.old.visits.items ++ around_of ring.now)) }
+        ensures visits { OnOk result (HaveSame (visits_noted self.new) (visits_noted self.old ++ around_of ring.now)) }
     {
         self.see_inside(ring)?;
         let count = ring.len();
@@ -185,15 +208,16 @@ impl VisitsSeen {
         }
         let first = ring[0];
         let last = ring[count - 1];
-        self.note(visit_between(ring[count - 2], last, first))?;
-        self.note(visit_between(last, first, ring[1]))?;
+        self.seams
+            .push(visit_between(ring[count - 2], last, first))?;
+        self.seams.push(visit_between(last, first, ring[1]))?;
         Ok(())
     }
 
     /// Notes the ends of an arc; a free loop has none.
     fn see_arc_ends(&mut self, arc: &[Pos], free: bool) -> Result<(), AllocError>
         ensures ends { OnOk result (self.new.ends.items ≡ self.old.ends.items ++ cond free [] (ends_of arc.now)) }
-        ensures visits { self.new.visits.items ≡ self.old.visits.items }
+        ensures visits { visits_noted self.new ≡ visits_noted self.old }
     {
         if free {
             return Ok(());
@@ -202,9 +226,9 @@ impl VisitsSeen {
     }
 
     /// Notes the other visits of an arc: a free loop is a ring, each other arc a line.
-    fn see_arc_inside(&mut self, arc: &[Pos], free: bool) -> Result<(), AllocError>
+    fn see_arc_inside(&mut self, arc: &'a [Pos], free: bool) -> Result<(), AllocError>
         ensures ends { OnOk result (self.new.ends.items ≡ self.old.ends.items) }
-        ensures visits { OnOk result (HaveSame self.new.visits.items (self.old.visits.items ++ cond free (around_of (unclosed arc.now)) (inner_of arc.now))) }
+        ensures visits { OnOk result (HaveSame (visits_noted self.new) (visits_noted self.old ++ cond free (around_of (unclosed arc.now)) (inner_of arc.now))) }
     {
         if !free {
             return self.see_inside(arc);
@@ -219,13 +243,13 @@ impl VisitsSeen {
     fn see_met(
         &mut self,
         other: &VertexFilter,
-        arc: &[Pos],
+        arc: &'a [Pos],
         free: bool,
         near: bool,
     ) -> Result<bool, AllocError>
         requires { StaysApart (may_hold other.now) arc.now near }
         ensures ends { OnOk result (self.new.ends.items ≡ self.old.ends.items) }
-        ensures visits { OnOk result (HaveSame self.new.visits.items (self.old.visits.items ++ met_visits (may_hold other.now) free arc.now)) }
+        ensures visits { OnOk result (HaveSame (visits_noted self.new) (visits_noted self.old ++ met_visits (may_hold other.now) free arc.now)) }
         ensures met { IfOk result (λ b. b ≡ meets (may_hold other.now) free arc.now) }
     {
         if !near || !other.may_meet(inside(arc, free)) {
@@ -240,13 +264,13 @@ impl VisitsSeen {
     fn see_arc(
         &mut self,
         other: &VertexFilter,
-        arc: &[Pos],
+        arc: &'a [Pos],
         free: bool,
         near: bool,
     ) -> Result<bool, AllocError>
         requires { StaysApart (may_hold other.now) arc.now near }
         ensures ends { OnOk result (self.new.ends.items ≡ self.old.ends.items ++ cond free [] (ends_of arc.now)) }
-        ensures visits { OnOk result (HaveSame self.new.visits.items (self.old.visits.items ++ met_visits (may_hold other.now) free arc.now)) }
+        ensures visits { OnOk result (HaveSame (visits_noted self.new) (visits_noted self.old ++ met_visits (may_hold other.now) free arc.now)) }
         ensures met { IfOk result (λ b. b ≡ meets (may_hold other.now) free arc.now) }
     {
         self.see_arc_ends(arc, free)?;
@@ -256,13 +280,13 @@ impl VisitsSeen {
     fn see_numbered(
         &mut self,
         other: &VertexFilter,
-        table: &ArcTable,
+        table: &'a ArcTable,
         number: usize,
         near: bool,
     ) -> Result<bool, AllocError>
         requires { (c : List Pos) → slice_get table.now.arcs number ≡ Some c → StaysApart (may_hold other.now) c near }
         ensures ends { OnOk result (self.new.ends.items ≡ self.old.ends.items ++ ends_if table.now.loops (slice_get table.now.arcs number)) }
-        ensures visits { OnOk result (HaveSame self.new.visits.items (self.old.visits.items ++ shared_if (may_hold other.now) table.now.loops (slice_get table.now.arcs number))) }
+        ensures visits { OnOk result (HaveSame (visits_noted self.new) (visits_noted self.old ++ shared_if (may_hold other.now) table.now.loops (slice_get table.now.arcs number))) }
         ensures met { IfOk result (λ b. b ≡ meets_if (may_hold other.now) table.now.loops (slice_get table.now.arcs number)) }
     {
         match table.arc(number) {
@@ -278,12 +302,12 @@ impl VisitsSeen {
         &mut self,
         alloc: Global,
         other: &VertexFilter,
-        table: &ArcTable,
+        table: &'a ArcTable,
         near: &[bool],
     ) -> Result<Vec<bool>, AllocError>
         requires { near.now ≡ map_list (list_any (within other.now.extent)) table.now.arcs }
         ensures ends { OnOk result (self.new.ends.items ≡ self.old.ends.items ++ gathered (arc_ends table.now.loops) table.now.arcs) }
-        ensures visits { OnOk result (HaveSame self.new.visits.items (self.old.visits.items ++ gathered (arc_shared (may_hold other.now) table.now.loops) table.now.arcs)) }
+        ensures visits { OnOk result (HaveSame (visits_noted self.new) (visits_noted self.old ++ gathered (arc_shared (may_hold other.now) table.now.loops) table.now.arcs)) }
         ensures marks { IfOk result (λ v. v.items ≡ map_list (arc_meets (may_hold other.now) table.now.loops) table.now.arcs) }
     {
         let mut marks = Vec::with_capacity(alloc, table.len())?;
@@ -293,9 +317,9 @@ impl VisitsSeen {
         Ok(marks)
     }
 
-    fn see_lines(&mut self, lines: &[Line]) -> Result<(), AllocError>
+    fn see_lines(&mut self, lines: &'a [Line]) -> Result<(), AllocError>
         ensures ends { OnOk result (self.new.ends.items ≡ self.old.ends.items ++ gathered ends_of (map_list line_of lines.now)) }
-        ensures visits { OnOk result (HaveSame self.new.visits.items (self.old.visits.items ++ gathered inner_of (map_list line_of lines.now))) }
+        ensures visits { OnOk result (HaveSame (visits_noted self.new) (visits_noted self.old ++ gathered inner_of (map_list line_of lines.now))) }
     {
         for line in lines {
             self.see_line(line.positions())?;
@@ -303,9 +327,9 @@ impl VisitsSeen {
         Ok(())
     }
 
-    fn see_rings(&mut self, rings: &[Ring]) -> Result<(), AllocError>
+    fn see_rings(&mut self, rings: &'a [Ring]) -> Result<(), AllocError>
         ensures ends { OnOk result (self.new.ends.items ≡ self.old.ends.items) }
-        ensures visits { OnOk result (HaveSame self.new.visits.items (self.old.visits.items ++ gathered around_of (map_list ring_of rings.now))) }
+        ensures visits { OnOk result (HaveSame (visits_noted self.new) (visits_noted self.old ++ gathered around_of (map_list ring_of rings.now))) }
     {
         for ring in rings {
             self.see_ring(ring.vertices())?;
@@ -313,9 +337,9 @@ impl VisitsSeen {
         Ok(())
     }
 
-    fn see_polygons(&mut self, polygons: &[Items<Ring>]) -> Result<(), AllocError>
+    fn see_polygons(&mut self, polygons: &'a [Items<Ring>]) -> Result<(), AllocError>
         ensures ends { OnOk result (self.new.ends.items ≡ self.old.ends.items) }
-        ensures visits { OnOk result (HaveSame self.new.visits.items (self.old.visits.items ++ gathered around_of (joined (map_list (map_list ring_of) polygons.now)))) }
+        ensures visits { OnOk result (HaveSame (visits_noted self.new) (visits_noted self.old ++ gathered around_of (joined (map_list (map_list ring_of) polygons.now)))) }
     {
         for rings in polygons {
             self.see_rings(rings.as_slice())?;
@@ -323,9 +347,9 @@ impl VisitsSeen {
         Ok(())
     }
 
-    fn see_shape(&mut self, shape: &Shape) -> Result<(), AllocError>
+    fn see_shape(&mut self, shape: &'a Shape) -> Result<(), AllocError>
         ensures ends { OnOk result (self.new.ends.items ≡ self.old.ends.items ++ form_ends (form_of shape.now)) }
-        ensures visits { OnOk result (HaveSame self.new.visits.items (self.old.visits.items ++ form_visits (form_of shape.now))) }
+        ensures visits { OnOk result (HaveSame (visits_noted self.new) (visits_noted self.old ++ form_visits (form_of shape.now))) }
     {
         match shape {
             Shape::Null | Shape::Point(_) | Shape::MultiPoint(_) => Ok(()),
@@ -336,9 +360,9 @@ impl VisitsSeen {
         }
     }
 
-    fn see_features(&mut self, features: &BTreeSet<Feature>) -> Result<(), AllocError>
+    fn see_features(&mut self, features: &'a BTreeSet<Feature>) -> Result<(), AllocError>
         ensures ends { OnOk result (self.new.ends.items ≡ self.old.ends.items ++ gathered feature_ends (set.items (set_of features.now))) }
-        ensures visits { OnOk result (HaveSame self.new.visits.items (self.old.visits.items ++ gathered feature_visits (set.items (set_of features.now)))) }
+        ensures visits { OnOk result (HaveSame (visits_noted self.new) (visits_noted self.old ++ gathered feature_visits (set.items (set_of features.now)))) }
     {
         for feature in features.iter() {
             self.see_shape(&feature.shape)?;
@@ -346,9 +370,9 @@ impl VisitsSeen {
         Ok(())
     }
 
-    fn see_layers(&mut self, map: &FeatureMap) -> Result<(), AllocError>
+    fn see_layers(&mut self, map: &'a FeatureMap) -> Result<(), AllocError>
         ensures ends { OnOk result (self.new.ends.items ≡ self.old.ends.items ++ gathered form_ends (forms_of (seen map.now))) }
-        ensures visits { OnOk result (HaveSame self.new.visits.items (self.old.visits.items ++ gathered form_visits (forms_of (seen map.now)))) }
+        ensures visits { OnOk result (HaveSame (visits_noted self.new) (visits_noted self.old ++ gathered form_visits (forms_of (seen map.now)))) }
     {
         for layer in map.layers() {
             self.see_features(&layer.features)?;
@@ -414,11 +438,16 @@ pub struct ArcsIndex {
 }
 
 impl VisitIndex {
-    fn of_seen(alloc: Global, seen: VisitsSeen) -> Result<VisitIndex, AllocError>
-        ensures { IfOk result (λ i. (g : Geometry Pos) (all : List Visiting) → KeepsClashes seen.visits.items all → AreVisitsOf seen.ends.items all g → IsIndexOf i g) }
+    fn of_seen(alloc: Global, seen: VisitsSeen<'_>) -> Result<VisitIndex, AllocError>
+        ensures { IfOk result (λ i. (g : Geometry Pos) (all : List Visiting) → KeepsClashes (visits_noted seen.entry) all → AreVisitsOf seen.entry.ends.items all g → IsIndexOf i g) }
     {
-        let VisitsSeen { ends, visits, .. } = seen;
-        let mut repeats = find_repeated(alloc, &visits)?;
+        let VisitsSeen {
+            ends,
+            inner,
+            seams,
+            ..
+        } = seen;
+        let mut repeats = find_repeated(alloc, &inner, &seams)?;
         repeats.sort_unstable_by_key(|v| v.vertex);
         let mut junctions = thin_out(alloc, &ends)?;
         keep_clashes(&mut junctions, &repeats)?;

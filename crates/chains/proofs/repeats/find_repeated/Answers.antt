@@ -1,20 +1,19 @@
-use Rattle.std.proofs.Common.{sym, ap, ◌∙◌}
+use Rattle.std.proofs.Common.{◌++◌, ◌∙◌, ap, subst, sym}
+use Rattle.theory.specs.Lists.{gathered}
+use Rattle.theory.specs.TopologyFunction.{keep}
 use Rattle.lines.specs.PositionFilter.{may_hold}
-use Rattle.chains.proofs.Recurring.{all_kept, one_kept, one_left_out}
-use Rattle.chains.proofs.repeats.find_repeated.Goals.{then-may_hold+in_ok-push, else-may_hold}
+use Rattle.chains.specs.Noted.{noted_in, visits_at}
+use Rattle.chains.specs.VertexFilter.{KeepsClashes}
+use Rattle.chains.specs.declared.visits.Visit.{Visit}
+use Rattle.chains.proofs.Recurring.{held_kept, keep_both}
 use Rattle.chains.proofs.repeats.find_repeated.Goals as goal
-
-pub loop-visit-preserved : goal.loop-visit-preserved
-loop-visit-preserved c = elim c.if-may_hold.branch [
-  | then-may_hold+in_ok-push w ↦
-      one_kept (may_hold c.in_ok-repeats.repeats.again) c.loop-visit.kept.items c.if-may_hold.kept.items c.args.visits.now c.loop-visit.visit-index
-      c.visit-item.result c.loop-visit-test.true c.visit-item.is (ap (λ v. v.items) w.kept-is ∙ w.in_ok-push.ensures.items) c.loop-visit.invariant
-  | else-may_hold w ↦
-      one_left_out (may_hold c.in_ok-repeats.repeats.again) c.loop-visit.kept.items c.if-may_hold.kept.items c.args.visits.now c.loop-visit.visit-index
-      c.visit-item.result c.loop-visit-test.true c.visit-item.is (ap (λ v. v.items) w.kept-is) (sym w.if-may_hold.ensures) c.loop-visit.invariant
-]
 
 pub returns : goal.returns
 returns c =
-    all_kept (may_hold c.in_ok-repeats.repeats.again) c.loop-visit.kept.items c.args.visits.now c.loop-visit.visit-index c.loop-visit-test.false
-    c.in_ok-repeats.ensures c.loop-visit.invariant
+    let inner = gathered visits_at c.args.inner.now in
+    let seams = c.args.seams.now in
+    let f = λ (v : Visit). may_hold c.in_ok-repeats.repeats.again v.vertex in
+    subst (λ l. KeepsClashes l (noted_in c.args.inner.now seams))
+    (keep_both f inner seams
+    ∙ sym (c.in_ok-keep_visits.ensures ∙ ap (λ l. l ++ keep f seams) (c.in_ok-keep_inner.ensures ∙ ap (λ l. l ++ keep f inner) c.new-kept.ensures.items)))
+    (held_kept (may_hold c.in_ok-repeats.repeats.again) (noted_in c.args.inner.now seams) c.in_ok-repeats.ensures)

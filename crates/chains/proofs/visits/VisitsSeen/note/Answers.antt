@@ -1,12 +1,25 @@
-use Rattle.std.proofs.Common.{◌≡◌, subst, slice_get, Some}
-use Rattle.chains.proofs.Same.{same_stands}
+use Rattle.std.proofs.Common.{◌≡◌, ◌++◌, ap, map, subst, slice_get, Some}
+use Rattle.chains.specs.Noted.{visits_at, visits_noted}
+use Rattle.chains.specs.Visits.{inner_of}
+use Rattle.chains.proofs.NotedPlaces.{noted_before, noted_more}
+use Rattle.chains.proofs.Same.{same_equal, same_trans}
+use Rattle.chains.proofs.visits.VisitsSeen.note.Goals.{in-Some-place+else-stands_at, in_default-place}
 use Rattle.chains.proofs.visits.VisitsSeen.note.Goals as goal
 
 pub returns-in-Some-clause-visits : goal.returns-in-Some-clause-visits
-returns-in-Some-clause-visits c = same_stands c.args.visit c.args.self.now.visits.items c.in-Some.index c.in-Some.ensures
+returns-in-Some-clause-visits c =
+    noted_before c.args.self.now.inner.items c.args.self.now.seams.items c.in-Some.index (inner_of c.args.window.now) c.in-Some.ensures
 
 pub returns-then-stands_at-clause-visits : goal.returns-then-stands_at-clause-visits
 returns-then-stands_at-clause-visits c =
-    same_stands c.args.visit c.args.self.now.visits.items c.in-Some-place.place.now
-    (subst (λ l. slice_get l c.in-Some-place.place.now ≡ Some c.args.visit) c.deref.ensures.value
+    noted_before c.args.self.now.inner.items c.args.self.now.seams.items c.in-Some-place.place.now (inner_of c.args.window.now)
+    (subst (λ l. slice_get (map visits_at l) c.in-Some-place.place.now ≡ Some (inner_of c.args.window.now)) c.deref.ensures.value
     (c.stands_at.ensures.0 c.if-stands_at.true))
+
+pub returns-clause-visits : goal.returns-clause-visits
+returns-clause-visits c =
+    same_trans (noted_more c.match-place.self.inner.items c.push.new.self.items c.match-place.self.seams.items c.args.window c.in_ok-push.ensures.items)
+    (same_equal (ap (λ l. l ++ inner_of c.args.window.now) (elim c.match-place.branch [
+      | in-Some-place+else-stands_at w ↦ ap visits_noted w.self-is
+      | in_default-place w ↦ ap visits_noted w.self-is
+    ])))

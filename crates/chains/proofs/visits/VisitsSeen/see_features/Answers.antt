@@ -6,6 +6,7 @@ use Rattle.shapes.specs.OrderLaws.{feature_cmp_total}
 use Rattle.shapes.specs.SetLaws.{items-from_list}
 use Rattle.chains.specs.Index.{feature_ends, feature_visits}
 use Rattle.std.proofs.lemmas.Grind.{common_steps}
+use Rattle.chains.specs.Noted.{visits_noted}
 use Rattle.chains.proofs.Same.{same_equal, same_trans, same_step}
 use Rattle.chains.proofs.visits.VisitsSeen.see_features.Goals as goal
 
@@ -18,8 +19,8 @@ returns-clause-ends c =
 pub returns-clause-visits : goal.returns-clause-visits
 returns-clause-visits c =
     let k : set.items (set_of c.args.features.now) ≡ c.args.features.now.keys = items-from_list feature_cmp_total c.args.features.now.keys c.iter-feature-items.ensures.ordered in
-    same_trans (same_equal (sym (append-nil _) ∙ ap (λ es. c.loop-feature.self.visits.items ++ gathered feature_visits es) (sym c.in-None.ensures.steps.0)))
-    (same_trans c.loop-feature.invariant.visits (same_equal (ap (λ es. c.args.self.now.visits.items ++ gathered feature_visits es) (sym k))))
+    same_trans (same_equal (sym (append-nil _) ∙ ap (λ es. visits_noted c.loop-feature.self ++ gathered feature_visits es) (sym c.in-None.ensures.steps.0)))
+    (same_trans c.loop-feature.invariant.visits (same_equal (ap (λ es. visits_noted c.args.self.now ++ gathered feature_visits es) (sym k))))
 
 pub loop-feature-preserved : goal.loop-feature-preserved
 loop-feature-preserved c = record {

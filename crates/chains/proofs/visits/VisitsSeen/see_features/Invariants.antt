@@ -2,10 +2,11 @@ use Rattle.std.proofs.Common.{◌≡◌, ◌++◌}
 use Rattle.theory.specs.Lists.{gathered}
 use Rattle.chains.specs.Index.{feature_ends, feature_visits}
 use Rattle.chains.specs.Visits.{HaveSame}
+use Rattle.chains.specs.Noted.{visits_noted}
 use Rattle.chains.proofs.visits.VisitsSeen.see_features.Given as goal
 
 abbrev pub invariant-loop-feature : goal.invariant-loop-feature
 invariant-loop-feature l = record {
   ends : l.self.ends.items ++ gathered feature_ends l.feature-iterator ≡ l.fn.self.ends.items ++ gathered feature_ends l.features.keys;
-  visits : HaveSame (l.self.visits.items ++ gathered feature_visits l.feature-iterator) (l.fn.self.visits.items ++ gathered feature_visits l.features.keys);
+  visits : HaveSame (visits_noted l.self ++ gathered feature_visits l.feature-iterator) (visits_noted l.fn.self ++ gathered feature_visits l.features.keys);
 }

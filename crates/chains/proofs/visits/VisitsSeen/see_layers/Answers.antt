@@ -3,6 +3,7 @@ use Rattle.std.proofs.lemmas.Grind.{common_steps}
 use Rattle.theory.specs.Lists.{gathered}
 use Rattle.shapes.specs.Maps.{layer_entry}
 use Rattle.chains.specs.Index.{form_ends, form_visits, layer_ends, layer_visits}
+use Rattle.chains.specs.Noted.{visits_noted}
 use Rattle.chains.proofs.Layers.{of_layers}
 use Rattle.chains.proofs.Same.{same_equal, same_step, same_trans}
 use Rattle.chains.proofs.visits.VisitsSeen.see_layers.Goals as goal
@@ -24,5 +25,5 @@ pub returns-clause-visits : goal.returns-clause-visits
 returns-clause-visits c =
     let m = c.args.map.now in
     let first = ap (map_list layer_entry) c.into_iter-layer-iterator.ensures.into_iter_gives ∙ c.layers-layer-items.ensures in
-    same_trans (same_equal (sym (append-nil _) ∙ ap (λ ls. c.loop-layer.self.visits.items ++ gathered layer_visits ls) (sym c.in-None.ensures.steps.0)))
-    (same_trans c.loop-layer.invariant.visits (same_equal (ap (λ w. c.args.self.now.visits.items ++ w) (of_layers form_visits m c.into_iter-layer-iterator.result first))))
+    same_trans (same_equal (sym (append-nil _) ∙ ap (λ ls. visits_noted c.loop-layer.self ++ gathered layer_visits ls) (sym c.in-None.ensures.steps.0)))
+    (same_trans c.loop-layer.invariant.visits (same_equal (ap (λ w. visits_noted c.args.self.now ++ w) (of_layers form_visits m c.into_iter-layer-iterator.result first))))

@@ -1,0 +1,20 @@
+-- The visits that were noted while lines and rings were seen.
+use Rattle.std.specs.Borrow.{Bor}
+use Rattle.std.specs.Prelude.{List, ◌++◌}
+use Rattle.theory.specs.Lists.{gathered}
+use Rattle.grid.specs.declared.pos.Pos.{Pos}
+use Rattle.chains.specs.Visits.{inner_of}
+use Rattle.chains.specs.declared.visits.Visit.{Visit}
+use Rattle.chains.specs.declared.visits.VisitsSeen.{VisitsSeen}
+
+-- the visit of a place that stands in a list between two others
+abbrev pub visits_at : Bor (List Pos) → List Visit
+visits_at w = inner_of w.now
+
+-- the visits of such places, and those across the ends of rings
+abbrev pub noted_in : List (Bor (List Pos)) → List Visit → List Visit
+noted_in inner seams = gathered visits_at inner ++ seams
+
+-- the visits that were noted
+abbrev pub visits_noted : VisitsSeen → List Visit
+visits_noted s = noted_in s.inner.items s.seams.items
