@@ -237,7 +237,7 @@ fn is_faultless(alloc: Global, bytes: &[u8]) -> Result<bool, OutOfMemory>
     match read_parts(alloc, bytes) {
         Ok(parts) => {
             let arcs = TextArcs::from_list(parts.arcs);
-            layers_stitch(alloc, &arcs, &parts.layers)
+            Ok(layers_stitch(alloc, &arcs, &parts.layers)?)
         }
         Err(Stop::Unread) => Ok(false),
         Err(Stop::OutOfMemory) => Err(OutOfMemory),
