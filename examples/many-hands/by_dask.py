@@ -16,6 +16,7 @@ import tempfile
 
 from dask.distributed import Client, LocalCluster, as_completed
 
+AT_ONCE = 16
 REFUSED = 4
 
 
@@ -45,26 +46,28 @@ def build(grid, layer, text, name):
     return topotool("build", "--grid", grid, f"{layer}=-", given=text, name=name)
 
 
-def merge(text, other):
-    for it in (text, other):
+def merge(*texts):
+    for it in texts:
         if isinstance(it, Refusal):
             return it
-    with tempfile.NamedTemporaryFile() as file:
-        file.write(other)
-        file.flush()
-        return topotool("merge", "-", file.name, given=text, name="a merge")
+    with tempfile.TemporaryDirectory() as folder:
+        names = [os.path.join(folder, str(number)) for number in range(1, len(texts))]
+        for name, text in zip(names, texts[1:]):
+            with open(name, "wb") as file:
+                file.write(text)
+        return topotool("merge", "-", *names, given=texts[0], name="a merge")
 
 
 def merged(client, texts, retries):
-    """Merges by twos whatever is done first; the future of the whole."""
-    ready, waiting = as_completed(texts), None
+    """Merges whatever is done first, sixteen at a time; the future of the whole."""
+    ready, unfinished, waiting = as_completed(texts), len(texts), []
     for it in ready:
-        if waiting is None:
-            waiting = it
-        else:
-            ready.add(client.submit(merge, waiting, it, pure=False, retries=retries))
-            waiting = None
-    return waiting
+        unfinished -= 1
+        waiting.append(it)
+        if len(waiting) == AT_ONCE or len(waiting) > 1 and not unfinished:
+            ready.add(client.submit(merge, *waiting, pure=False, retries=retries))
+            unfinished, waiting = unfinished + 1, []
+    return waiting[0]
 
 
 def contents(name):
