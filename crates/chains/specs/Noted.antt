@@ -7,7 +7,7 @@ use Rattle.chains.specs.Visits.{inner_of}
 use Rattle.chains.specs.declared.visits.Visit.{Visit}
 use Rattle.chains.specs.declared.visits.VisitsSeen.{VisitsSeen}
 
--- the visit of a place that stands in a list between two others
+-- the visit of a place between two others of a list
 abbrev pub visits_at : Bor (List Pos) → List Visit
 visits_at w = inner_of w.now
 

@@ -38,7 +38,7 @@ impl Repeats {
         }
     }
 
-    /// Notes places that stand between two others.
+    /// Notes the vertices of places between two others.
     fn note_inner(&mut self, inner: &[&[Pos; 3]])
         ensures { (all later : List Visiting) → AreNoted self.old all (gathered visits_at inner.now ++ later) → AreNoted self.new all later }
     {

@@ -58,7 +58,7 @@ fn visit_between(before: Pos, here: Pos, next: Pos) -> Visit
     }
 }
 
-/// The visit of a place that stands between two others.
+/// The visit of a place between two others.
 pub(crate) fn visit_within(window: &[Pos; 3]) -> Visit
     ensures { inner_of window.now ≡ result ∷ [] }
 {
@@ -69,8 +69,8 @@ pub(crate) fn visit_within(window: &[Pos; 3]) -> Visit
 #[derive(Drop)]
 struct VisitsSeen<'a> {
     ends: Vec<Pos>,
-    /// Places with those before and behind them, where these three stand side by side in a list. They
-    /// stay where they are: a reference takes a sixth of the memory of a visit.
+    /// Places with those before and behind them, where these three are side by side in a list. They are
+    /// not copied: a reference takes a sixth of the memory of a visit.
     inner: Vec<&'a [Pos; 3]>,
     /// The visits across the ends of a ring's list, two for each ring.
     seams: Vec<Visit>,
