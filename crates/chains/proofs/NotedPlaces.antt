@@ -8,7 +8,7 @@ use Rattle.grid.specs.declared.pos.Pos.{Pos}
 use Rattle.lines.specs.Pairs.{pair_of, position_eq}
 use Rattle.lines.specs.declared.pair.PositionPair.{PositionPair}
 use Rattle.lines.proofs.Positions.{true_position, true_false}
-use Rattle.lines.proofs.Pairs.{pair_flip, pair_same}
+use Rattle.lines.proofs.Pairs.{pair_at, pair_flip, pair_same}
 use Rattle.chains.specs.Noted.{noted_in, visits_at}
 use Rattle.chains.specs.Visits.{HaveSame, inner_of, visit_of}
 use Rattle.chains.specs.declared.visits.Visit.{Visit}
@@ -104,12 +104,9 @@ same_visit l m x y z u v w n k = (
     other : inner_of m ≡ visit_of (get_or m 0 u) (get_or m 1 v) (get_or m 2 w) ∷ []
     other = ap inner_of (are_three m u v w k)
 
--- two positions in the same order, and in the other
-pub same_two : (a b c d : Pos) → a ≡ c → b ≡ d → pair_of a b ≡ pair_of c d
-same_two a b c d e f = λ i. pair_of (e i) (f i)
-
+-- two positions in the other order
 pub turned_two : (a b c d : Pos) → a ≡ d → b ≡ c → pair_of a b ≡ pair_of c d
-turned_two a b c d e f = pair_flip a b ∙ (λ i. pair_of (f i) (e i))
+turned_two a b c d e f = pair_flip a b ∙ pair_at b a c d f e
 
 -- the second of two that are equal in either order, where the first is told
 pub second_told : (a b c d : Pos) → a ≡ d → pair_of a b ≡ pair_of c d → b ≡ c

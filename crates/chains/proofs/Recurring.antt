@@ -1,11 +1,10 @@
--- Vertices that come again are noted, visit by visit, and the visits at them kept.
-use Rattle.std.proofs.Common.{◌≡◌, Bool, true, false, cond, List, [], ◌∷◌, ◌++◌, ◌⊎◌, inl, inr, append-nil, refl, sym, ap, ◌∙◌, subst}
-use Rattle.theory.specs.Lists.{Has}
+-- Vertices that come again are noted, and the visits at them kept.
+use Rattle.std.proofs.Common.{◌≡◌, Bool, true, false, cond, List, [], ◌∷◌, ◌++◌, inl, inr, append-nil, refl, sym, ap, subst}
 use Rattle.theory.specs.TopologyFunction.{keep}
 use Rattle.theory.proofs.Turning.{has_keep, keep_has}
 use Rattle.grid.specs.declared.pos.Pos.{Pos}
 use Rattle.lines.specs.PositionFilter.{may_hold}
-use Rattle.chains.specs.Repeats.{AreNoted, HoldsClashing, IsNoted}
+use Rattle.chains.specs.Repeats.{AreNoted, HoldsClashing}
 use Rattle.chains.specs.VertexFilter.{KeepsClashes}
 use Rattle.chains.specs.declared.repeats.Repeats.{Repeats}
 use Rattle.chains.specs.declared.visits.Visit.{Visit}
@@ -16,54 +15,6 @@ none_noted r first second = subst (λ l. AreNoted r (first ++ second) (first ++ 
   met = λ v h. inl h;
   again = λ v w h k s d. inl (inl h);
 })
-
-module _ (old new : Repeats) (all : List Visit) (x : Visit) (rest : List Visit) (n : IsNoted x.vertex old new) (before : AreNoted old all (x ∷ rest)) where
-  met_next : (v : Visit) → Has v all → Has v rest ⊎ (may_hold new.met v.vertex ≡ true)
-  met_next v h = elim (before.met v h) [
-    | inl k ↦ elim k [
-      | inl q ↦ inr (subst (λ (w : Visit). may_hold new.met w.vertex ≡ true) (sym q) n.here)
-      | inr r ↦ inl r
-    ]
-    | inr m ↦ inr (n.met v.vertex m)
-  ]
-
-  -- this visit comes again where another that was met stands at its vertex
-  comes_again : (v w : Visit) → w ≡ x → v.vertex ≡ w.vertex → may_hold old.met v.vertex ≡ true → may_hold new.again v.vertex ≡ true
-  comes_again v w q s m =
-      let at : v.vertex ≡ x.vertex = s ∙ ap (λ (u : Visit). u.vertex) q in
-      subst (λ p. may_hold new.again p ≡ true) (sym at) (n.twice (subst (λ p. may_hold old.met p ≡ true) at m))
-
-  -- one of two that clash is this visit, and the other was met or is still to come
-  with_other : (v w : Visit) → Has v all → w ≡ x → v.vertex ≡ w.vertex → ¬ (v ≡ w) → Has v rest ⊎ (may_hold new.again v.vertex ≡ true)
-  with_other v w h q s d = elim (before.met v h) [
-    | inl k ↦ elim k [
-      | inl e ↦ absurd (d (e ∙ sym q))
-      | inr r ↦ inl r
-    ]
-    | inr m ↦ inr (comes_again v w q s m)
-  ]
-
-  again_next : (v w : Visit) → Has v all → Has w all → v.vertex ≡ w.vertex → ¬ (v ≡ w) → (Has v rest ⊎ Has w rest) ⊎ (may_hold new.again v.vertex ≡ true)
-  again_next v w h k s d = elim (before.again v w h k s d) [
-    | inl (inl j) ↦ elim j [
-      | inl q ↦ elim (with_other w v k q (sym s) (λ e. d (sym e))) [
-        | inl r ↦ inl (inr r)
-        | inr a ↦ inr (subst (λ p. may_hold new.again p ≡ true) (sym s) a)
-      ]
-      | inr r ↦ inl (inl r)
-    ]
-    | inl (inr j) ↦ elim j [
-      | inl q ↦ elim (with_other v w h q s d) [
-        | inl r ↦ inl (inl r)
-        | inr a ↦ inr a
-      ]
-      | inr r ↦ inl (inr r)
-    ]
-    | inr a ↦ inr (n.again v.vertex a)
-  ]
-
-  pub noted_next : AreNoted new all rest
-  noted_next = record { met = met_next; again = again_next }
 
 -- behind the last
 pub all_noted : (r : Repeats) (all : List Visit) → AreNoted r all [] → HoldsClashing (may_hold r.again) all

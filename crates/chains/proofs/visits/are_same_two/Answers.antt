@@ -1,7 +1,8 @@
 use Rattle.std.proofs.Common.{sym, ◌∙◌}
+use Rattle.lines.proofs.Pairs.{pair_at}
 use Rattle.lines.proofs.Positions.{position_true, true_position, true_false}
 use Rattle.lines.specs.Pairs.{position_eq}
-use Rattle.chains.proofs.NotedPlaces.{as_they_stand, same_two, second_told, turned_two}
+use Rattle.chains.proofs.NotedPlaces.{as_they_stand, second_told, turned_two}
 use Rattle.chains.proofs.visits.are_same_two.Goals as goal
 
 pub returns-then-eq : goal.returns-then-eq
@@ -13,7 +14,7 @@ returns-then-eq c =
 
 pub returns-then-eq-2 : goal.returns-then-eq-2
 returns-then-eq-2 c = (
-  λ t. same_two c.args.a c.args.b c.args.c c.args.d (position_true c.args.a c.args.c (sym c.eq-2.ensures ∙ c.if-eq-2.true)) (position_true c.args.b c.args.d (sym c.eq-then-eq-2.ensures ∙ t)),
+  λ t. pair_at c.args.a c.args.b c.args.c c.args.d (position_true c.args.a c.args.c (sym c.eq-2.ensures ∙ c.if-eq-2.true)) (position_true c.args.b c.args.d (sym c.eq-then-eq-2.ensures ∙ t)),
   λ h. c.eq-then-eq-2.ensures ∙ true_position c.args.b c.args.d (as_they_stand c.args.a c.args.b c.args.c c.args.d (sym c.eq.ensures ∙ c.if-eq.false) h).1,
 )
 
