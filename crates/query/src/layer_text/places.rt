@@ -10,7 +10,7 @@ use crate::layer_text::steps::{GridStep, behind, is_step, least_step};
 use chains::ArcRef;
 use geojson_io::writer::{PlaceAfterComma, Places};
 use grid::{Grid, Pos};
-use sinks::written::{Noted, Then, Written};
+use sinks::written::{Noted, Text, Then, Written};
 use sinks::{Sink, WriteFault};
 use topo::{Topology, Walk};
 
@@ -113,9 +113,10 @@ impl<'a> Written for Round<'a> {
         match least_step(topology.walk(used)) {
             Some(step) => {
                 let grid = topology.grid();
+                let places = Places(&grid);
                 let others = Then(Behind(topology, used, step), UpTo(topology, used, step));
-                let second = Then(PlaceAfterComma(&step.to, &grid), others);
-                Then(Noted(&step.from, &Places(&grid)), second).write(sink)
+                let second = Then(Text(b","), Then(Noted(&step.to, &places), others));
+                Then(Noted(&step.from, &places), second).write(sink)
             }
             None => Ok(()),
         }
