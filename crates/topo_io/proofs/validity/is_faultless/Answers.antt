@@ -6,10 +6,10 @@ use Rattle.topo_io.proofs.Each.{all_mapped}
 use Rattle.topo_io.proofs.Features.{said_accepted}
 use Rattle.topo_io.proofs.validity.is_faultless.Goals as goal
 
-pub returns-in-Ok : goal.returns-in-Ok
-returns-in-Ok c = λ stitch.
+pub returns-in_ok-layers_stitch-in-Ok : goal.returns-in_ok-layers_stitch-in-Ok
+returns-in_ok-layers_stitch-in-Ok c = λ stitch.
     let parts = c.in-Ok.parts in
     said_accepted parts.arcs.items parts.layers.items c.args.bytes.now parts.grid c.in-Ok.ensures.ok
     (subst (λ A. A) (all_mapped (LayerStitches parts.arcs.items) layer_of_geoms parts.layers.items)
     (subst (λ arcs. AllByRecursion (λ l. LayerStitches arcs (layer_of_geoms l)) parts.layers.items) c.from_list-arcs.ensures
-    (subst (AllByRecursion (λ l. LayerStitches c.from_list-arcs.result (layer_of_geoms l))) c.deref.ensures.value (c.in_ok-layers_stitch.ensures.yes stitch))))
+    (subst (AllByRecursion (λ l. LayerStitches c.from_list-arcs.result (layer_of_geoms l))) c.deref.ensures.value (c.in_ok-layers_stitch-in-Ok.ensures.yes stitch))))
