@@ -106,7 +106,7 @@ fn round<'a, F: Files, O: Sink, E: Sink>(
 
 /// What is written: one topology, or each file's text.
 #[derive(Drop)]
-enum Made {
+enum OutputTexts {
     Topology(Vec<u8>),
     Sheets(Vec<(String, Sheet)>),
 }
@@ -116,15 +116,15 @@ fn make<'a>(
     alloc: Global,
     options: &GridOptions<'a>,
     sheets: Vec<(String, Sheet)>,
-) -> Result<Made, Refusal<'a>> {
+) -> Result<OutputTexts, Refusal<'a>> {
     if options.is_build {
-        Ok(Made::Topology(build(alloc, sheets)?))
+        Ok(OutputTexts::Topology(build(alloc, sheets)?))
     } else {
-        Ok(Made::Sheets(sheets))
+        Ok(OutputTexts::Sheets(sheets))
     }
 }
 
-impl Made {
+impl OutputTexts {
     /// Writes it to the output that the options name. On standard output it comes last, since a terminal shows it
     /// with the report.
     fn write<'a, F: Files, O: Sink>(
@@ -135,14 +135,20 @@ impl Made {
         out: &mut O,
     ) -> Result<(), Refusal<'a>> {
         match self {
-            Made::Topology(text) => write_output(
+            OutputTexts::Topology(text) => write_output(
                 alloc,
                 files,
                 out,
                 options.output,
                 text.as_slice(),
             ),
-            Made::Sheets(sheets) => write_texts(alloc, options, files, sheets.as_slice(), out),
+            OutputTexts::Sheets(sheets) => write_texts(
+                alloc,
+                options,
+                files,
+                sheets.as_slice(),
+                out,
+            ),
         }
     }
 }
