@@ -37,7 +37,7 @@ pub fn build(rt: &HostRuntime, words: &[String]) -> Option<Vec<u8>> {
     let grid = unit_grid()?;
     let mut map = FeatureMap::new(rt.alloc());
     for name in names {
-        map = map.united(read_map(rt, &grid, name.as_str())?).ok()?;
+        map = map.into_union(read_map(rt, &grid, name.as_str())?).ok()?;
     }
     let topology = built_last(rt.alloc(), &grid, &map, count)?;
     topo_io::text_of(rt.alloc(), &topology).ok()

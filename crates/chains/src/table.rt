@@ -122,7 +122,7 @@ impl ArcTable {
     ///
     /// # Errors
     /// Where memory is refused.
-    pub fn numbered(
+    pub fn with_refs(
         alloc: Global,
         pieces: Vec<Piece>,
     ) -> Result<(ArcTable, Vec<ArcRef>), OutOfMemory>

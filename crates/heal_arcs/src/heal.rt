@@ -34,7 +34,7 @@ pub fn rejoin(
     let meeting = PseudoNodes::of(alloc, old, &chosen, ends)?;
     let runs = runs_of(alloc, &meeting, kept)?;
     let JoinedArcs { pieces, lists } = joined_of(alloc, old, &meeting, runs)?;
-    let (arcs, refs) = ArcTable::numbered(alloc, pieces)?;
+    let (arcs, refs) = ArcTable::with_refs(alloc, pieces)?;
     let lists = by_numbers(alloc, &refs, lists, arcs.len())?;
     Ok(Rejoined::from_parts(alloc, arcs, lists, old.len())?)
 }

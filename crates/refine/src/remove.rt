@@ -165,7 +165,7 @@ fn geometries_left<'a>(
 }
 
 /// The features of a set, in their order.
-fn listed<'a>(
+fn features_in_order<'a>(
     alloc: Global,
     features: &'a BTreeSet<Feature>,
 ) -> Result<VecDeque<&'a Feature>, OutOfMemory>
@@ -190,7 +190,7 @@ fn features_under<'a>(
     let Some(features) = map.layer(name) else {
         return Ok(none);
     };
-    listed(alloc, features)
+    features_in_order(alloc, features)
 }
 
 /// A layer without the features that a map has under its name.

@@ -121,9 +121,9 @@ fn table(alloc: Global, cutting: &Cutting) -> Result<bool, OutOfMemory> {
     Ok(are_arcs(&ArcTable::from_pieces(alloc, pieces)?, &[ALONE, SHARED]))
 }
 
-fn number_pieces(alloc: Global, cutting: &Cutting) -> Result<bool, OutOfMemory> {
+fn table_with_refs(alloc: Global, cutting: &Cutting) -> Result<bool, OutOfMemory> {
     let pieces = cut_ring(alloc, &cutting.index, &cutting.ring)?;
-    let (table, refs) = ArcTable::numbered(alloc, pieces)?;
+    let (table, refs) = ArcTable::with_refs(alloc, pieces)?;
     Ok(are_used(refs.as_slice(), &[1, -1]) && are_arcs(&table, &[ALONE, SHARED]))
 }
 
@@ -153,7 +153,7 @@ enum Call {
     Piece,
     Added,
     Table,
-    Numbered,
+    WithRefs,
     Backwards,
     InDirection,
 }
@@ -164,7 +164,7 @@ const ROWS: &[Row<Call>] = &[
     ("Piece::new", Call::Piece),
     ("chains::add_pieces", Call::Added),
     ("ArcTable::from_pieces", Call::Table),
-    ("ArcTable::numbered", Call::Numbered),
+    ("ArcTable::with_refs", Call::WithRefs),
     ("chains::add_backwards", Call::Backwards),
     ("chains::add_in_direction", Call::InDirection),
 ];
@@ -195,7 +195,7 @@ impl Lends for Cutting {
             Call::Piece => piece(alloc),
             Call::Added => added(alloc, self),
             Call::Table => table(alloc, self),
-            Call::Numbered => number_pieces(alloc, self),
+            Call::WithRefs => table_with_refs(alloc, self),
             Call::Backwards => backwards(alloc),
             Call::InDirection => in_direction(alloc),
         }

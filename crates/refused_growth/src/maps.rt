@@ -129,7 +129,7 @@ fn unite_maps(_: Global, maps: &Maps) -> Answer {
         return Answer::Unasked;
     };
     match maps.other.copy() {
-        Ok(other) => judge(map.united(other), maps),
+        Ok(other) => judge(map.into_union(other), maps),
         Err(OutOfMemory) => Answer::Unasked,
     }
 }

@@ -35,7 +35,7 @@ impl FeatureLayer {
     }
 
     // The layer with the features of another one beside its own, copied.
-    pub(crate) fn united(
+    pub(crate) fn union_with(
         &self,
         alloc: Global,
         other: Option<&FeatureLayer>,

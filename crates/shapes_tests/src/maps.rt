@@ -131,7 +131,7 @@ fn copy_of(alloc: Global, layers: &[Layer]) -> Result<FeatureMap, Fail> {
 fn are_copies_united(alloc: Global, one: &[Layer], two: &[Layer]) -> Result<bool, Fail> {
     let first = copy_of(alloc, one)?;
     let second = copy_of(alloc, two)?;
-    is_map(alloc, &first.united(second)?, BOTH)
+    is_map(alloc, &first.into_union(second)?, BOTH)
 }
 
 #[test]

@@ -60,7 +60,7 @@ pub fn recut_owned(alloc: Global, left: ArcTable, right: ArcTable) -> Result<Rec
     let left_bounds = add_table(alloc, &mut pieces, &cuts.index, left_arcs, &cuts.left)?;
     let left_count = pieces.len();
     let right_bounds = add_table(alloc, &mut pieces, &cuts.index, right_arcs, &cuts.right)?;
-    let (arcs, refs) = ArcTable::numbered(alloc, pieces)?;
+    let (arcs, refs) = ArcTable::with_refs(alloc, pieces)?;
     let mut left_refs = refs;
     let right_refs = left_refs.split_off(left_count)?;
     let left_lists = PieceLists::between(left_refs, left_bounds);

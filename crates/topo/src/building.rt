@@ -168,7 +168,7 @@ fn parts_of(alloc: Global, map: &FeatureMap) -> Result<BuiltParts, OutOfMemory>
     ensures { IfOk result (λ p. ArePartsOf map.now p.table p.layers.items) }
 {
     let Cuts { pieces, counts } = Cuts::of(alloc, map)?;
-    let (table, refs) = ArcTable::numbered(alloc, pieces)?;
+    let (table, refs) = ArcTable::with_refs(alloc, pieces)?;
     let mut lists = UsedLists {
         refs: &refs,
         counts: &counts,

@@ -10,7 +10,7 @@ use Rattle.chains.proofs.Extents.{alone}
 use Rattle.chains.proofs.Marks.{merged_loops, merged_once}
 use Rattle.chains.proofs.PlacedPieces.{are_placed, pieces_moved, placed_rise, refs_are}
 use Rattle.chains.proofs.TableOfMap.{table_is}
-use Rattle.chains.proofs.table.ArcTable.numbered.Goals as goal
+use Rattle.chains.proofs.table.ArcTable.with_refs.Goals as goal
 
 pub numbered_arcs-requires-clause-placed : goal.numbered_arcs-requires-clause-placed
 numbered_arcs-requires-clause-placed c =

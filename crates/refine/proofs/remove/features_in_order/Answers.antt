@@ -3,7 +3,7 @@ use Rattle.shapes.specs.Maps.{set_of}
 use Rattle.shapes.specs.OrderLaws.{feature_cmp_total}
 use Rattle.shapes.specs.SetLaws.{items-from_list}
 use Rattle.shapes.specs.Sets as set
-use Rattle.refine.proofs.remove.listed.Goals as goal
+use Rattle.refine.proofs.remove.features_in_order.Goals as goal
 
 pub returns : goal.returns
 returns c =
