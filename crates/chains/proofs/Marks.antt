@@ -1,5 +1,5 @@
 -- Which arcs are free loops.
-use Rattle.std.proofs.Common.{◌≡◌, ℕ, zero, suc, Bool, true, false, List, [], ◌∷◌, map, inl, inr, refl, sym, ap, ◌∙◌, subst, Some, None, slice_get}
+use Rattle.std.proofs.Common.{◌≡◌, ℕ, zero, suc, Bool, true, false, List, [], ◌∷◌, map, inl, inr, refl, sym, ap, ◌∙◌, subst, Some, slice_get}
 use Rattle.std.specs.List.Sorted.{IsPermutation}
 use Rattle.std.proofs.lemmas.List.Sorted.{IsPermutation-sym}
 use Rattle.std.specs.Option.{option_map}
@@ -73,9 +73,6 @@ pub free_told : (l : List StoredArc) → rises (map positions_of l) ≡ true →
 free_told l r n a e =
     mark_of l (ascends_rising (map positions_of l) r) a (get_has l n a e)
     ∙ ap (is_loop_if (loops_of l)) (sym (get_mapped positions_of l n ∙ ap (option_map positions_of) e))
-
-pub none_told : (l : List StoredArc) (n : ℕ) → slice_get l n ≡ None → false ≡ is_loop_if (loops_of l) (slice_get (map positions_of l) n)
-none_told l n e = ap (is_loop_if (loops_of l)) (sym (get_mapped positions_of l n ∙ ap (option_map positions_of) e))
 
 -- the table of sorted pieces
 module _ (ps sorted : List Piece) (same : IsPermutation ps sorted) where

@@ -121,10 +121,4 @@ arc_on arcs (j ∷ ks) u v k c (inl h) e s =
     inl (subst (λ o. SidesOf (unwrap_or o []) u v) (sym e ∙ ap (slice_get arcs) h) s)
 arc_on arcs (j ∷ ks) u v k c (inr h) e s = inr (arc_on arcs ks u v k c h e s)
 
--- an arc that begins with x
-pub start_along : (l : List Segment) (arc : List Pos) (x : Pos) (r : List Pos) → arc ≡ x ∷ r → (u v : Pos) →
-    (AmongSegments u v l ⊎ SidesFrom x r u v) ↔ (AmongSegments u v l ⊎ SidesOf arc u v)
-start_along l arc x r e u v = (
-  (λ h. elim h [ inl k ↦ inl k | inr k ↦ inr (subst (λ w. SidesOf w u v) (sym e) k) ]),
-  (λ h. elim h [ inl k ↦ inl k | inr k ↦ inr (subst (λ w. SidesOf w u v) e k) ]),
 )

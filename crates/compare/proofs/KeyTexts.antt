@@ -1,5 +1,5 @@
 -- The compact texts of properties, and the keys that they are.
-use Rattle.std.proofs.Common.{◌≡◌, ◌<◌, ◌+◌, ℕ, suc, Bool, true, false, List, [], ◌∷◌, ◌++◌, length, drop, get_or, refl, sym, ap, ◌∙◌, subst, append_assoc, drop-cons, arith, Option, Some, None}
+use Rattle.std.proofs.Common.{◌≡◌, ◌<◌, ◌+◌, ℕ, suc, Bool, true, false, List, [], ◌∷◌, ◌++◌, length, drop, refl, sym, ap, ◌∙◌, subst, Option, Some}
 use Rattle.std.specs.Prelude.{◌&&◌, ◌||◌, not, nat_le, is_some, unwrap_or, IfOk, Result, Ok, Err}
 use Rattle.std.specs.Cmp.Lexicographic.{slice_cmp}
 use Rattle.std.specs.Ordering.{match_ordering, nat_cmp}
@@ -10,12 +10,11 @@ use Rattle.serde_json.specs.Data.{Data, Members, array, boolean, depth, member, 
 use Rattle.serde_json.specs.Find.{as_object, get, get_member}
 use Rattle.serde_json.specs.Read.{read}
 use Rattle.serde_json.specs.Written.{compact_text, has_float, members_have_float}
-use Rattle.shapes.specs.Parts.{properties_text}
 use Rattle.shapes.specs.Properties.{is_properties, properties_value}
 use Rattle.shapes.specs.declared.nesting.TheConstants.{GREATEST_PROPERTY_DEPTH}
 use Rattle.shapes.specs.declared.shape.Id.{Id}
 use Rattle.topo.specs.declared.geom.Geom.{Geom}
-use Rattle.compare.specs.Keyed.{AreKeys, IsKey, key_text, value_text}
+use Rattle.compare.specs.Keyed.{AreKeys, key_text, value_text}
 
 first : (a b : Bool) → (a || b) ≡ false → a ≡ false
 first true b e = e
@@ -82,13 +81,6 @@ text_answers f (Ok o) s t k v d is same e at h =
 text_answers f (Err x) s t k v d is same e at h = tt
 
 -- ---- keys
-
-pub more_keys : (name : List ℕ) (gs : List Geom) (i : ℕ) (g : Geom) (k : Id) (made new : List Id) → i < length gs → g ≡ get_or gs i g → IsKey (key_text name (properties_text g.props)) k →
-    new ≡ made ++ (k ∷ []) → ((rest : List Id) → AreKeys name (drop i gs) rest → AreKeys name gs (made ++ rest)) → (rest : List Id) → AreKeys name (drop (i + 1) gs) rest → AreKeys name gs (new ++ rest)
-more_keys name gs i g k made new l at is e goes rest keys =
-    let n : suc i ≡ i + 1 = omega arith in
-    let d : drop i gs ≡ g ∷ drop (i + 1) gs = drop-cons gs i g l ∙ ap (λ w. w ∷ drop (suc i) gs) (sym at) ∙ ap (λ w. g ∷ drop w gs) n in
-    subst (AreKeys name gs) (sym (ap (λ w. w ++ rest) e ∙ append_assoc made (k ∷ []) rest)) (goes (k ∷ rest) (subst (λ w. AreKeys name w (k ∷ rest)) (sym d) (is, keys)))
 
 none_behind : (gs : List Geom) → drop (length gs) gs ≡ []
 none_behind [] = refl

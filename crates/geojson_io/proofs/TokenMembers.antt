@@ -52,22 +52,12 @@ coordinates_kept t (Some n) name d ms other h = (h.0, get_member-put_other (code
 pub not_both : (name : List ℕ) → name ≡ codes "type" → codes "coordinates" ≡ name → ⊥
 not_both name a b = let e : codes "coordinates" ≡ codes "type" = b ∙ a in cc
 
-pub nor_both : (name : List ℕ) → name ≡ codes "coordinates" → codes "type" ≡ name → ⊥
-nor_both name a b = let e : codes "type" ≡ codes "coordinates" = b ∙ a in cc
-
 -- a geometry of a type whose coordinates are known
 pub typed_known : (t : Transform) (k : GeometryType) (n : Coordinates) (s : Shape) (ms : Members) → KnowsCoordinates t (Some n) ms → IsShapeOf k n s
     → (typed_geometry_faults t k (object ms) ≡ []) × (plain_form s ≡ typed_form t k (object ms))
 typed_known t k n s ms known is =
     let made = is t known.0 known.2 known.3 in
     (rw (known.1, made.0) refl, rw known.1 made.1)
-
--- a geometry whose members are known
-pub geometry_known : (t : Transform) (k : GeometryType) (n : Coordinates) (s : Shape) (ms : Members) → KnowsKind (Some k) ms → KnowsCoordinates t (Some n) ms → IsShapeOf k n s
-    → (geometry_faults t (object ms) ≡ []) × (plain_form s ≡ geometry_form t (object ms))
-geometry_known t k n s ms kind known is =
-    let made = typed_known t k n s ms known is in
-    (rw (kind, made.0) refl, rw kind made.1)
 
 -- ---- the type of a root
 

@@ -96,13 +96,6 @@ module _ {S : Type 0} (grid : S → Transform) (map_of : S → Layers) where
   pub none_read : (texts : List (List ℕ)) (shards : List S) → shards ≡ [] → SoFar grid map_of texts texts 0 shards
   none_read texts shards none = record { before = []; parts = refl; at = refl; read = subst (AreRead grid map_of []) (sym none) tt }
 
--- a fault of reading is one of a merge, whatever places are named
-pub read_fault : (texts : List (List ℕ)) (is : List ℕ) (e : MergeFault) → first_outside (length texts) is ≡ None → IsReadFault texts e → IsMergeFault texts is e
-read_fault texts is (BadPlan k) none h = absurd h
-read_fault texts is (Text n f) none h = (none, h)
-read_fault texts is (OtherGrid n) none h = absurd h
-read_fault texts is OutOfMemory none h = tt
-
 pub none_mapped : {A B : Type 0} (f : A → B) (xs : List A) → length xs ≡ 0 → map f xs ≡ []
 none_mapped f [] e = refl
 none_mapped f (x ∷ xs) e = absurd (omega arith)

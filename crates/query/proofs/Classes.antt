@@ -1,12 +1,11 @@
 -- The classes of values, one by one, and the uses of arcs by class.
-use Rattle.std.proofs.Common.{◌≡◌, ◌↔◌, ◌<◌, ◌+◌, ◌++◌, ℕ, zero, suc, Bool, true, false, cond, List, [], ◌∷◌, drop, get_or, length, length-append, ◌⊎◌, inl, inr, refl, sym, ap, ◌∙◌, subst, Option, Some, None, slice_get, arith}
+use Rattle.std.proofs.Common.{◌≡◌, ◌↔◌, ◌<◌, ◌+◌, ◌++◌, ℕ, zero, suc, Bool, true, false, cond, List, [], ◌∷◌, get_or, length, length-append, ◌⊎◌, inl, inr, refl, sym, ap, ◌∙◌, subst, Option, Some, None, slice_get, arith}
 use Rattle.std.specs.Prelude.{is_some, unwrap_or}
 use Rattle.std.specs.Map.{update}
 use Rattle.std.specs.Str.{bytes_eq}
-use Rattle.std.proofs.lemmas.List.{append_assoc}
 use Rattle.std.proofs.lemmas.Slice.Eq.{bytes_eq-Decides}
 use Rattle.std.specs.Borrow.{Bor}
-use Rattle.lines.proofs.Dropping.{drop_item, item_at}
+use Rattle.lines.proofs.Dropping.{item_at}
 use Rattle.topo.specs.OfMap.{body_of}
 use Rattle.topo.specs.declared.geom.Geom.{Geom}
 use Rattle.theory.specs.Lists.{Has}
@@ -141,16 +140,6 @@ has_classes (d ∷ cs) (b ∷ gs) zero k c g e f h =
     (subst (λ w. Has (use_at k w) (body_uses d (body_of b.body))) one (has_body d k (body_of b.body) (subst (λ w. UsesArc k (body_of w.body)) (sym same) h)))
 has_classes (d ∷ cs) (b ∷ gs) (suc n) k c g e f h =
     Has-append_right (use_at k c) (body_uses d (body_of b.body)) (class_uses cs gs) (has_classes cs gs n k c g e f h)
-
--- the uses, with those of one place more
-pub class_uses_step : (cs : List ℕ) (gs : List (Bor Geom)) (n c : ℕ) (g : Bor Geom) (old new all : List Use) → n < length cs → c ≡ get_or cs n c → n < length gs → g ≡ get_or gs n g →
-    new ≡ old ++ body_uses c (body_of g.now.body) → old ++ class_uses (drop n cs) (lent (drop n gs)) ≡ all → new ++ class_uses (drop (n + 1) cs) (lent (drop (n + 1) gs)) ≡ all
-class_uses_step cs gs n c g old new all l e m f made left =
-    ap (λ w. w ++ class_uses (drop (n + 1) cs) (lent (drop (n + 1) gs))) made
-    ∙ append_assoc old (body_uses c (body_of g.now.body)) (class_uses (drop (n + 1) cs) (lent (drop (n + 1) gs)))
-    ∙ ap (λ w. old ++ class_uses w (lent (g ∷ drop (n + 1) gs))) (sym (drop_item cs n c l e))
-    ∙ ap (λ w. old ++ class_uses (drop n cs) (lent w)) (sym (drop_item gs n g m f))
-    ∙ left
 
 -- the value at a place
 pub value_here : (name : List ℕ) (gs : List (Bor Geom)) (n : ℕ) (g : Bor Geom) → n < length gs → g ≡ get_or gs n g →

@@ -1,5 +1,5 @@
 -- Members of objects.
-use Rattle.std.proofs.Common.{◌≡◌, ℕ, List, [], Some, None, codes, Result, Ok, ap}
+use Rattle.std.proofs.Common.{◌≡◌, ℕ, List, [], Some, None, codes, ap}
 use Rattle.std.specs.Prelude.{unwrap_or}
 use Rattle.serde_json.specs.Data.{Data, null}
 use Rattle.reading.specs.Info.{member_or_null}
@@ -7,7 +7,7 @@ use Rattle.serde_json.specs.Find.{get}
 use Rattle.faults.specs.Path.{name}
 use Rattle.faults.specs.Fault.{Pair, Lifted}
 use Rattle.reading.specs.Fault.{under, LeastOrWant}
-use Rattle.reading.specs.Parts.{member_faults, typed_faults, option_faults}
+use Rattle.reading.specs.Parts.{member_faults, option_faults}
 use Rattle.faults.specs.declared.fault.FaultKind.{FaultKind}
 use Rattle.faults.specs.declared.fault.Fault.{Fault}
 use Rattle.faults.specs.Fault.{pair_of}
@@ -17,9 +17,6 @@ use Rattle.reading.proofs.Least.{lifted_only, only}
 
 pub member_refused : (n : List ℕ) (of : Data → List Pair) (d e : Data) (old new : Fault) → Some e ≡ get n d → LeastOrWant (of e) old → Lifted (name n) old new → LeastOrWant (member_faults n of d) new
 member_refused n of d e old new is part up = rw (← is) (lifted_only (name n) (of e) old new part up)
-
-pub of_kind : {K : Type 0} (rest : K → List Pair) (r : Result K FaultKind) (k : K) (f : Fault) → Ok k ≡ r → LeastOrWant (rest k) f → LeastOrWant (typed_faults rest r) f
-of_kind rest r k f is part = rw (← is) part
 
 pub option_refused : (n : List ℕ) (of : Data → List Pair) (d e : Data) (old new : Fault) → Some e ≡ get n d → LeastOrWant (of e) old → Lifted (name n) old new → LeastOrWant (option_faults n of d) new
 option_refused n of d e old new is part up = rw (← is) (lifted_only (name n) (of e) old new part up)

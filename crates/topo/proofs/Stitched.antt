@@ -1,5 +1,5 @@
 -- The features that the geometries of a topology stitch to.
-use Rattle.std.proofs.Common.{◌≡◌, ℕ, List, [], ◌∷◌, refl, sym, ap, ◌∙◌, subst, None}
+use Rattle.std.proofs.Common.{◌≡◌, ℕ, List, [], ◌∷◌, sym, ap, ◌∙◌, subst, None}
 use Rattle.std.specs.Prelude.{map as map_list}
 use Rattle.std.specs.FinMap as map
 use Rattle.grid.specs.declared.pos.Pos.{Pos}
@@ -17,7 +17,7 @@ use Rattle.shapes.specs.declared.feature.Feature.{Feature}
 use Rattle.shapes.specs.declared.shape.Shape as shapes
 use Rattle.shapes.specs.declared.shape.Shape.TheVariants as of
 use Rattle.chains.specs.Seen as seen_by
-use Rattle.chains.specs.Seen.{form_of, geometry_of, seen}
+use Rattle.chains.specs.Seen.{form_of, geometry_of}
 use Rattle.theory.specs.ArcNumbers.{ArcRef, StitchTo}
 use Rattle.theory.specs.Geometry.{JunctionOf}
 use Rattle.theory.specs.LinesAndRings.{closed}
@@ -31,7 +31,7 @@ use Rattle.topo.specs.declared.geom.Body as bodies
 use Rattle.topo.specs.declared.geom.Body.TheVariants as to
 use Rattle.topo.specs.declared.geom.Geom.{Geom}
 use Rattle.shapes.proofs.Entries.{at_entry}
-use Rattle.topo.proofs.Pairs.{Pairwise-mapped, Pairwise-same, Pairwise-weaker, pair_of}
+use Rattle.topo.proofs.Pairs.{Pairwise-mapped, Pairwise-weaker, pair_of}
 use Rattle.topo.proofs.Walks.{walked_stitched}
 
 module _ (arcs : List (List Pos)) (used : List ArcRef) (ps : List Pos) (is : ps ≡ walked arcs used) where
@@ -117,7 +117,3 @@ geometries_of m t name gs h (l, there, named, is) =
     subst (AreFeaturesOf t.arcs.arcs (set.items (features_at m name))) (sym is)
     (subst (λ n. AreFeaturesOf t.arcs.arcs (set.items (features_at m n)) l.geometries) (k.name ∙ named)
     (subst (λ s. AreFeaturesOf t.arcs.arcs (set.items s) l.geometries) (sym (at_entry m e at)) k.items))
-
--- the names of the layers are those of the map, in order
-pub names_of : (m : Layers) (t : TopologyParts) → IsOf m t → map.keys m ≡ map_list (λ l. spelled_text l.name) t.layers
-names_of m t h = Pairwise-same (IsEntryOf t.arcs.arcs) (λ e. e.0) (λ l. spelled_text l.name) (λ e l k. k.name) (map.entries m) t.layers (entries_of m t h)

@@ -4,7 +4,7 @@ use Rattle.std.specs.Prelude.{◌==◌, option_and_then, option_map, unwrap_or}
 use Rattle.std.specs.Cmp.{unsigned_Decides}
 use Rattle.std.proofs.lemmas.Bool.Decides.{nat_tests}
 use Rattle.std.specs.List.{Contains}
-use Rattle.std.proofs.lemmas.List.{drop_more, drop_all, length-map}
+use Rattle.std.proofs.lemmas.List.{drop_more, length-map}
 use Rattle.serde_json.specs.Data.{Data, Num}
 use Rattle.serde_json.specs.Find.{get, as_array, as_i64, as_number}
 use Rattle.serde_json.specs.View.{view, items_of}
@@ -25,13 +25,13 @@ use Rattle.reading.specs.Text.{document, text_faults}
 use Rattle.reading.specs.declared.fault_lists.found.Wanted.{Wanted}
 use Rattle.reading.specs.declared.fault_lists.found.Wanted.TheVariants.{First, All}
 use Rattle.reading.proofs.FaultListsLemmas.Ascending.{first_told}
-use Rattle.reading.proofs.FaultListsLemmas.Kept.{FoundSoFar, so_far_next, so_far_enough, so_far_all, found_none, found_same, found_under, found_more, found_enough, none_found, one_none, one_under}
+use Rattle.reading.proofs.FaultListsLemmas.Kept.{FoundSoFar, so_far_next, found_none, found_same, found_under, found_more, found_enough, none_found, one_none, one_under}
 use Rattle.reading.proofs.FaultListsLemmas.Wholes.{no_document, outline_told}
 use Rattle.reading.proofs.Lists.{elements_are}
-use Rattle.topo_io.specs.Limits.{moved, no_limits}
+use Rattle.topo_io.specs.Limits.{moved}
 use Rattle.theory.specs.ArcNumbers.{ArcRef}
 use Rattle.topo_io.specs.Arcs.{Arcs, counted, known, along, arc_faults, index_faults, short_faults, stitched, stitched_faults, stitched_list_faults, used_arcs}
-use Rattle.topo_io.specs.Roots.{arcs_by, arcs_if_array, arcs_if_there, arcs_in, limits_by, limits_of, content_faults, objects_faults, faults_of_text, topology_faults, transform_faults, transformed_faults}
+use Rattle.topo_io.specs.Roots.{arcs_by, arcs_if_array, arcs_if_there, arcs_in, limits_of, content_faults, objects_faults, faults_of_text, topology_faults, transform_faults, transformed_faults}
 use Rattle.topo_io.specs.Validity.{fault_of, faults_as, used_faults}
 use Rattle.topo_io.specs.declared.reader.position.Limits.{Limits}
 use Rattle.topo_io.specs.declared.validity.list.OutlineType.{OutlineType}
@@ -66,16 +66,6 @@ pub scan_next : {S : Type 0} (w : Wanted) (of : S → Data → List Pair) (next 
 scan_next w of next s t all vs i v found new now less at h one is more goes =
     subst (λ u. FoundSoFar w all (scan_faults of next u (i + 1) (map view (drop (i + 1) vs))) now) (sym goes)
     (so_far_next w (index i) all (of s (view v)) _ found new now (subst (λ ps. FoundSoFar w all ps found) (scan_more of next s vs i v less at) h) one is more)
-
-pub scan_enough : {S : Type 0} (w : Wanted) (of : S → Data → List Pair) (next : S → Data → S) (s : S) (all : List Pair) (vs : List Value) (i : ℕ) (v : Value) (found new now : List Pair) → i < length vs → v ≡ get_or vs i v
-    → FoundSoFar w all (scan_faults of next s i (map view (drop i vs))) found → AreFound w (of s (view v)) new → now ≡ found ++ under (index i) new → is_full w now ≡ true
-    → AreFound w all now
-scan_enough w of next s all vs i v found new now less at h one is full =
-    so_far_enough w (index i) all (of s (view v)) _ found new now (subst (λ ps. FoundSoFar w all ps found) (scan_more of next s vs i v less at) h) one is full
-
-pub scan_end : {S : Type 0} (w : Wanted) (of : S → Data → List Pair) (next : S → Data → S) (s : S) (all : List Pair) (vs : List Value) (i : ℕ) (found : List Pair) → length vs ≤ i
-    → FoundSoFar w all (scan_faults of next s i (map view (drop i vs))) found → AreFound w all found
-scan_end w of next s all vs i found past h = so_far_all w all found (subst (λ us. FoundSoFar w all (scan_faults of next s i (map view us)) found) (drop_all i vs past) h)
 
 -- ---- sums
 
@@ -179,16 +169,10 @@ pub stitching_only : (k : OutlineType) (arcs : List (List Pos)) (d : Data) (seen
     → AtMostOne (stitched_list_faults (known arcs) (faults_as k) d) qs
 stitching_only k arcs d seen qs none same h = rw none (subst (λ cs. AtMostOne (stitched_faults (faults_as k) (stitched cs)) qs) same h)
 
-pub not_stitched : (ps : List Pair) → ps ≡ [] → AtMostOne (unless_faulty ps []) []
-not_stitched ps none = rw none one_none
-
 pub list_found : (w : Wanted) (ps qs : List Pair) (fs : List Fault) (gs : List Pair) → AreFound w ps (pairs_of fs) → fs ≡ [] → (ps ≡ [] → AtMostOne (unless_faulty ps qs) gs) → AreFound w (unless_faulty ps qs) gs
 list_found w ps qs fs gs h none of = found_same w (unless_faulty ps qs) gs (of (no_faults w ps fs h none))
 
 -- ---- arcs and objects
-
-pub content_enough : (w : Wanted) (l : Limits) (v : Data) (fs : List Pair) → AreFound w (member_faults (codes "arcs") (list_faults (arc_faults l)) v) fs → is_full w fs ≡ true → AreFound w (content_faults l v) fs
-content_enough w l v fs h full = found_enough w _ (member_faults (codes "objects") (objects_faults l (arcs_in l v)) v) fs h full
 
 pub content_more : (w : Wanted) (l : Limits) (v : Data) (arcs : Arcs) (fs gs hs : List Fault) → arcs ≡ arcs_in l v → AreFound w (member_faults (codes "arcs") (list_faults (arc_faults l)) v) (pairs_of fs) → is_full w (pairs_of fs) ≡ false
     → AreFound w (member_faults (codes "objects") (objects_faults l arcs) v) (pairs_of gs) → hs ≡ fs ++ gs → AreFound w (content_faults l v) (pairs_of hs)
@@ -197,13 +181,6 @@ content_more w l v arcs fs gs hs same h more k is =
     subst (AreFound w (content_faults l v)) (sym (ap pairs_of is ∙ pairs_join fs gs)) (found_more w _ _ (pairs_of fs) (pairs_of gs) h objects more)
 
 -- ---- the transform
-
-pub limits_unknown : (w : Wanted) (t : Data) (fs : List Fault) → AreFound w (transform_faults t) (pairs_of fs) → (fs ≡ [] → ⊥) → no_limits ≡ limits_of t
-limits_unknown w t fs h some = go (transform_faults t) (some_there w _ fs h some)
-  where
-    go : (ps : List Pair) → (ps ≡ [] → ⊥) → no_limits ≡ limits_by ps t
-    go [] some = absurd (some refl)
-    go (p ∷ ps) some = refl
 
 pub transformed_enough : (w : Wanted) (v t : Data) (fs : List Pair) → AreFound w (content_faults (limits_of t) v) fs → is_full w fs ≡ true → AreFound w (transformed_faults v (Some t)) fs
 transformed_enough w v t fs h full = found_enough w (content_faults (limits_of t) v) (under (name (codes "transform")) (transform_faults t)) fs h full
@@ -224,9 +201,6 @@ first_none ps fs h none = no_faults First ps fs h none
 
 pub first_least : (ps : List Pair) (f : Fault) (fs gs : List Fault) → IsAscending ps → AreFound First ps (pairs_of gs) → gs ≡ f ∷ fs → LeastOrWant ps f
 first_least ps f fs gs a h is = first_told ps f fs a (subst (AreFound First ps) (ap pairs_of is) h)
-
-pub text_found : (bytes : List ℕ) (d : Data) (qs : List Pair) → document bytes ≡ Some d → AreFound All (topology_faults d) qs → qs ≡ faults_of_text bytes
-text_found bytes d qs is h = h.are ∙ sym (ap (text_faults topology_faults) is)
 
 pub text_refused : (bytes : List ℕ) (f : Fault) (qs : List Pair) → ((of : Data → List Pair) → LeastOrWant (text_faults of (document bytes)) f) → (f.kind ≡ OutOfMemory → ⊥) → AtMostOne (here f.kind) qs → qs ≡ faults_of_text bytes
 text_refused bytes f qs least real h = h.same ∙ sym (no_document (document bytes) f least real topology_faults)

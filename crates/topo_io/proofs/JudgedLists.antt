@@ -1,6 +1,6 @@
 -- Lists that are judged by their arcs, and answers on lists item by item.
 use Rattle.std.proofs.Common.{◌≡◌, ◌↔◌, ◌<◌, ◌≤◌, ◌+◌, ◌-◌, ◌&&◌, ℕ, Bool, true, false, if◌then◌else◌, List, [], ◌∷◌, ◌++◌, drop, length, map, get_or, slice_get, is_some, Option, Some, None, refl, sym, ap, ◌∙◌, subst, arith}
-use Rattle.std.proofs.lemmas.List.{drop_all, drop_more}
+use Rattle.std.proofs.lemmas.List.{drop_more}
 use Rattle.std.specs.List.{AllByRecursion}
 use Rattle.faults.specs.declared.fault.FaultKind.TheVariants.{Broken as BrokenFault}
 use Rattle.grid.specs.declared.pos.Pos.{Pos}
@@ -121,9 +121,6 @@ module _ {X : Type 0} (P : X → Type 0) (xs : List X) (i : ℕ) (x : X) (less :
 
   pub item_refused : (P x → ⊥) → AllByRecursion P xs → ⊥
   item_refused not w = not (subst P (sym is) (subst (AllByRecursion P) (drop_more xs i x less) (same.1 w)).0)
-
-pub items_hold : {X : Type 0} (P : X → Type 0) (xs : List X) (i : ℕ) → length xs ≤ i → AllByRecursion P (drop i xs) ↔ AllByRecursion P xs → AllByRecursion P xs
-items_hold P xs i h same = same.0 (subst (AllByRecursion P) (sym (drop_all i xs h)) tt)
 
 -- a layer, by its geometries
 pub layer_judged : (arcs other : List (List Pos)) (l : LayerParts) (gs : List Geom) → other ≡ arcs → gs ≡ l.geometries →

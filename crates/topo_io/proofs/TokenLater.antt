@@ -157,26 +157,6 @@ polygons_means gs d h = (ap polygons (groups_are d gs h.1), λ x w. groups_later
 
 -- ---- empty lists
 
-empty_elements : (F G : Data → List Pair) (o : Option Items) → array_faults (each_faults F 0) o ≡ [] → elements_of o ≡ [] → array_faults (each_faults G 0) o ≡ []
-empty_elements F G None e none = cc
-empty_elements F G (Some ds) e none = ap (each_faults G 0) none
-
-empty_faults : (F G : Data → List Pair) (d : Data) → list_faults F d ≡ [] → elements d ≡ [] → list_faults G d ≡ []
-empty_faults F G d e none = empty_elements F G (as_array d) e none
-
-empty_zip : {X : Type 0} (R : Data → X → Type 0) (ds : List Data) → ds ≡ [] → AllZip R ds []
-empty_zip R [] e = tt
-empty_zip R (d ∷ ds) e = cc
-
-pub empty_list : (d : Data) → AreLists d of.Empty → AreLists d (of.List [])
-empty_list d h = (h.0, empty_zip IsRef (elements d) h.1)
-
-pub empty_lists : (d : Data) → AreLists d of.Empty → AreLists d (of.Lists [])
-empty_lists d h = (empty_faults any_index_faults (list_faults any_index_faults) d h.0 h.1, empty_zip (λ e us. AllZip IsRef (elements e) us) (elements d) h.1)
-
-pub empty_groups : (d : Data) → AreLists d of.Empty → AreLists d (of.Groups [])
-empty_groups d h = (empty_faults any_index_faults (list_faults (list_faults any_index_faults)) d h.0 h.1, empty_zip (λ c ls. AllZip (λ e us. AllZip IsRef (elements e) us) (elements c) ls) (elements d) h.1)
-
 pub empty_given : (depth : ℕ) (old mid new : List Token) → 0 < depth → old ≡ begin_array ∷ mid → after_end_array mid ≡ Some new → Gives depth old (array no_items) new
 empty_given depth old mid new some opens closed =
     array_gone depth old mid new no_items some opens (items_over (value (depth - 1)) (length mid) mid new (omega arith) closed)

@@ -23,7 +23,7 @@ use Rattle.topo_io.specs.Geometries.{text_or_null, layer_by, geometry_faults}
 use Rattle.topo_io.specs.Limits.{limits_on}
 use Rattle.topo_io.specs.Parts.{plain_geom, geometry_geom, IdStored, GeomStored}
 use Rattle.topo_io.specs.declared.reader.layer_type.LayerType.{LayerType}
-use Rattle.topo_io.specs.declared.reader.layer_type.LayerType.TheVariants.{Collection, Geometry}
+use Rattle.topo_io.specs.declared.reader.layer_type.LayerType.TheVariants.{Collection}
 use Rattle.topo_io.proofs.Said.{stored_plain, zip_all}
 use Rattle.reading.specs.TokenParts.Members.{KnowsId, KnowsProps}
 use Rattle.reading.proofs.TokenPartsLemmas.Members.{member_known, member_kept, member_faultless, apart, id_means, id_bits}
@@ -141,6 +141,3 @@ collection_known gs ms c d typed is found none zip = (
       list_later no_faults (geometry_faults (limits_on x.grid) (counted x.arcs)) GeometryMeans (λ g. BodyWithin x g.body) (λ e g n m v. m.2 x v) d gs none zip w in
       rw (typed, is, found) (ap (under (name_turn (codes "geometries"))) each),
 )
-
-pub one_known : (k : Option GeometryType) (g : Geom) (ms : Members) (c : Data) → get (codes "type") (object ms) ≡ Some c → layer_by (text_or_null c) ≡ Ok (Geometry k) → GeomMeans k (object ms) g → LayerMeans (object ms) (g ∷ [])
-one_known k g ms c typed is h = (rw (typed, is) (ap (λ p. p ∷ []) h.0), rw (typed, is) (h.1, tt), λ x w. rw (typed, is) (h.2 x w.0))

@@ -19,17 +19,45 @@ use reading::tokens::skip::skip_value;
 use shapes::shape::Shape;
 use std::alloc::Global;
 
+/// What is known of the members of a geometry other than its type.
+#[derive(Drop)]
+pub struct GeometryParts {
+    pub coordinates: Option<Coordinates>,
+}
+
+impl TakeMember for GeometryParts {
+    type On = Position;
+
+    ghost knows = { λ on m ms. KnowsCoordinates on.grid m.coordinates ms };
+
+    fn take<'a>(
+        &mut self,
+        alloc: Global,
+        on: &Position,
+        name: &'a str,
+        reader: &mut Reader<'a>,
+        depth: usize,
+    ) -> Result<(), Stop> {
+        if name == "coordinates" {
+            let coordinates = read_coordinates(alloc, on, reader, depth)?;
+            self.coordinates = Some(coordinates);
+            return Ok(());
+        }
+        skip_value(reader, depth)
+    }
+}
+
 /// What is known of a geometry's members.
 #[derive(Drop)]
 pub struct GeometryMembers {
     pub kind: Option<GeometryType>,
-    pub coordinates: Option<Coordinates>,
+    pub parts: GeometryParts,
 }
 
 impl TakeMember for GeometryMembers {
     type On = Position;
 
-    ghost knows = { λ on m ms. KnowsKind m.kind ms × KnowsCoordinates on.grid m.coordinates ms };
+    ghost knows = { λ on m ms. KnowsKind m.kind ms × KnowsCoordinates on.grid m.parts.coordinates ms };
 
     fn take<'a>(
         &mut self,
@@ -44,12 +72,7 @@ impl TakeMember for GeometryMembers {
             self.kind = Some(kind);
             return Ok(());
         }
-        if name == "coordinates" {
-            let coordinates = read_coordinates(alloc, on, reader, depth)?;
-            self.coordinates = Some(coordinates);
-            return Ok(());
-        }
-        skip_value(reader, depth)
+        self.parts.take(alloc, on, name, reader, depth)
     }
 }
 
@@ -64,10 +87,13 @@ fn read_object<'a>(
 {
     let mut members = GeometryMembers {
         kind: None,
-        coordinates: None,
+        parts: GeometryParts { coordinates: None },
     };
     read_members(alloc, position, &mut members, reader, depth)?;
-    let GeometryMembers { kind, coordinates } = members;
+    let GeometryMembers {
+        kind,
+        parts: GeometryParts { coordinates },
+    } = members;
     let Some(kind) = kind else {
         return Err(Stop::Unread);
     };

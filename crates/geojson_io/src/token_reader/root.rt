@@ -10,8 +10,9 @@ ghost use Rattle.std.specs.Prelude.{◌≡◌, [], map, IfOk};
 use crate::reader::feature::FeatureElement;
 use crate::reader::position::Position;
 use crate::reader::{Root, bare_feature};
-use crate::token_reader::coordinates::{Coordinates, read_coordinates};
+use crate::token_reader::coordinates::Coordinates;
 use crate::token_reader::feature::{FeatureParts, feature_of_parts, nothing_known};
+use crate::token_reader::geometry::GeometryParts;
 use crate::token_reader::kind::take_root;
 use crate::token_reader::shape::shape_of;
 use json::Reader;
@@ -45,34 +46,6 @@ impl TakeMember for CollectionParts {
         if name == "features" {
             let features = read_list(alloc, &FeatureElement { position: *on }, reader, depth)?;
             self.features = Some(features);
-            return Ok(());
-        }
-        skip_value(reader, depth)
-    }
-}
-
-/// What is known of the members of a geometry other than its type.
-#[derive(Drop)]
-pub struct GeometryParts {
-    pub coordinates: Option<Coordinates>,
-}
-
-impl TakeMember for GeometryParts {
-    type On = Position;
-
-    ghost knows = { λ on m ms. KnowsCoordinates on.grid m.coordinates ms };
-
-    fn take<'a>(
-        &mut self,
-        alloc: Global,
-        on: &Position,
-        name: &'a str,
-        reader: &mut Reader<'a>,
-        depth: usize,
-    ) -> Result<(), Stop> {
-        if name == "coordinates" {
-            let coordinates = read_coordinates(alloc, on, reader, depth)?;
-            self.coordinates = Some(coordinates);
             return Ok(());
         }
         skip_value(reader, depth)

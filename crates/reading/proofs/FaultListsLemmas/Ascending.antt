@@ -213,10 +213,6 @@ ascending_shape at line_at ring_at a b c MultiPolygon d = ascending_list (list_f
 
 -- ---- ids and properties
 
-if_one : (b : Bool) (k : FaultKind) → IsAscending (if b then here k else [])
-if_one true k = ascending_here k
-if_one false k = ascending_none
-
 unless_one : (b : Bool) (k : FaultKind) → IsAscending (if b then [] else here k)
 unless_one true k = ascending_none
 unless_one false k = ascending_here k

@@ -5,15 +5,13 @@ use Rattle.std.specs.Prelude.{unwrap_or}
 use Rattle.faults.specs.Fault.{Pair}
 use Rattle.serde_json.specs.Data.{Data, Members, object, put}
 use Rattle.serde_json.proofs.Views.{get_member-put, get_member-put_other}
-use Rattle.reading.specs.Info.{id_of, properties_of, member_or_null}
+use Rattle.reading.specs.Info.{id_of, member_or_null}
 use Rattle.reading.specs.Parts.{option_faults}
 use Rattle.reading.specs.Plain.{plain_id}
 use Rattle.shapes.specs.Ids.{HasI64}
-use Rattle.shapes.specs.Parts.{properties_text}
-use Rattle.shapes.specs.declared.props.Props.{Props}
 use Rattle.shapes.specs.declared.shape.Id.{Id}
 use Rattle.shapes.specs.declared.shape.Id.TheVariants as id
-use Rattle.reading.specs.TokenParts.Members.{KnowsMember, KnowsId, KnowsProps}
+use Rattle.reading.specs.TokenParts.Members.{KnowsMember, KnowsId}
 
 pub same_name : (xs ys : List ℕ) → true ≡ bytes_eq xs ys → xs ≡ ys
 same_name xs ys e = (bytes_eq-Decides xs ys).0 (sym e)
@@ -47,9 +45,3 @@ id_means (Some i) ms h = rw h.1 h.3.means
 pub id_bits : (o : Option Id) (ms : Members) → KnowsId o ms → HasI64 (unwrap_or o id.None)
 id_bits None ms h = tt
 id_bits (Some i) ms h = h.3.bits
-
-pub props_means : (x : Props) (ms : Members) → KnowsProps (Some x) ms → properties_text x ≡ properties_of (member_or_null (codes "properties") (object ms))
-props_means x ms h = rw h.1 h.3
-
-pub props_missing : (x : Props) (ms : Members) → KnowsProps None ms → properties_text x ≡ codes "{}" → properties_text x ≡ properties_of (member_or_null (codes "properties") (object ms))
-props_missing x ms h empty = rw h empty

@@ -30,11 +30,6 @@ known_more K L depth old mid behind new k d known key given less step =
       left = known.left ∙ member_read (value depth) known.members_so_far known.fuel k mid behind new d (omega (arith, known.enough, shorter)) key given;
     }
 
-pub object_read : (K : Members → Type 0) (depth : ℕ) (whole old mid new : List Token) → 0 < depth → whole ≡ begin_object ∷ old → Known K (depth - 1) old mid → read_key mid ≡ Some (None, new) → (ms : Members) × Gives depth whole (object ms) new × K ms
-object_read K depth whole old mid new some opens known over = (
-  known.members_so_far,
-  ap (λ ts. converted of_json (value depth ts)) opens ∙ ap (converted of_json) (value-begin_object depth old some) ∙ converted-object (members (value (depth - 1)) (length old) old) ∙ ap (parse_map object) (known.left ∙ members_over (value (depth - 1)) known.members_so_far known.fuel mid new known.enough over),
-  known.known,
 )
 
 pub members_all : (K : Members → Type 0) (depth : ℕ) (old mid new : List Token) → Known K depth old mid → read_key mid ≡ Some (None, new) → (ms : Members) × GivesMembers depth old ms new

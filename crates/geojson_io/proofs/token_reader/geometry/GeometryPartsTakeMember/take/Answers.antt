@@ -3,7 +3,7 @@ use Rattle.std.proofs.lemmas.Result.{on_ok_weaker}
 use Rattle.reading.proofs.TokensLemmas.Reading.{gives_shorter}
 use Rattle.reading.proofs.TokenPartsLemmas.Members.{same_name, other_name}
 use Rattle.geojson_io.proofs.TokenMembers.{coordinates_known, coordinates_kept}
-use Rattle.geojson_io.proofs.token_reader.root.GeometryPartsTakeMember.take.Goals as goal
+use Rattle.geojson_io.proofs.token_reader.geometry.GeometryPartsTakeMember.take.Goals as goal
 
 pub returns-then-eq-clause-read : goal.returns-then-eq-clause-read
 returns-then-eq-clause-read c =
