@@ -120,5 +120,3 @@ arc_on arcs [] u v k c h e s = absurd h
 arc_on arcs (j ∷ ks) u v k c (inl h) e s =
     inl (subst (λ o. SidesOf (unwrap_or o []) u v) (sym e ∙ ap (slice_get arcs) h) s)
 arc_on arcs (j ∷ ks) u v k c (inr h) e s = inr (arc_on arcs ks u v k c h e s)
-
-)

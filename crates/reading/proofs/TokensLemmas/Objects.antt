@@ -30,8 +30,6 @@ known_more K L depth old mid behind new k d known key given less step =
       left = known.left ∙ member_read (value depth) known.members_so_far known.fuel k mid behind new d (omega (arith, known.enough, shorter)) key given;
     }
 
-)
-
 pub members_all : (K : Members → Type 0) (depth : ℕ) (old mid new : List Token) → Known K depth old mid → read_key mid ≡ Some (None, new) → (ms : Members) × GivesMembers depth old ms new
 members_all K depth old mid new known over = (known.members_so_far, known.left ∙ members_over (value depth) known.members_so_far known.fuel mid new known.enough over)
 
