@@ -10,7 +10,8 @@ is counted:
 - Functions are lines of src/ with `fn NAME`, in traits and impls too.
 - The longest chain is of product crates, each used by the next. What is above the crate that validates arcs counts tests too.
 - Two types of one name: a struct, enum, trait or type at the top level of a file, of product crates, in more than one crate.
-- A bare participle is a function's name of one word that ends in `ed`, or that is in IRREGULAR.
+- A bare participle is a function's name of one word that ends in `ed`, or that is in IRREGULAR. What gives the field of its own
+  name, as `fn reversed(&self)` that is `self.reversed`, is none.
 - Lines of code are those of src/ of product crates without blank ones, whole-line comments and contracts. A contract begins with
   `requires`, `ensures` or `ghost` and ends where its braces are closed. Lines of proofs are all lines of proofs/, those of all
   crates. The reader along tokens (TOKENS) is counted apart.
@@ -44,6 +45,7 @@ NO_PARTICIPLES = ["bed", "embed", "feed", "need", "seed", "speed", "shed"]
 SMALL = 100
 CONTRACT = re.compile(r"\s*(?:ensures|requires|ghost)\b")
 FUNCTION = re.compile(r"\s*(?:pub(?:\([^)]*\))? )?(?:const |final |unsafe |extern \"C\" )*fn (\w+)")
+GETTER = re.compile(r"\bfn (\w+)\(&self\) -> [^{]*\{\s*self\.\1\s*\}")
 TYPE = re.compile(r"(?:pub(?:\([^)]*\))? )?(?:struct|enum|trait|type) (\w+)")
 
 
@@ -92,6 +94,7 @@ class Crate:
         self.sources = {it: [*code_lines(it)] for it in sorted(glob.glob(f"{self.folder}/src/**/*.rt", recursive=True))}
         self.lines = sum(map(len, self.sources.values()))
         self.functions = [it[1] for lines in self.sources.values() for line in lines if (it := FUNCTION.match(line))]
+        self.getters = {it[1] for lines in self.sources.values() for it in GETTER.finditer("\n".join(lines))}
         self.types = {it[1] for lines in self.sources.values() for line in lines if (it := TYPE.match(line))}
         self.is_program = os.path.isfile(f"{self.folder}/src/main.rt")
 
@@ -171,7 +174,7 @@ def figures():
         for found in it.types:
             owners[found].append(name)
     doubles = sorted(f"{it}: {', '.join(names)}" for it, names in owners.items() if len(names) > 1)
-    participles = [f"{name}: {it}" for name, crate in product.items() for it in crate.functions if is_bare_participle(it)]
+    participles = [f"{name}: {it}" for name, crate in product.items() for it in crate.functions if is_bare_participle(it) and it not in crate.getters]
     edited = {name: len(names) for name, names in edits.crates_with_edits()}
     code = sum(it.lines for it in product.values())
     token_code = sum(it.token_lines() for it in product.values())
