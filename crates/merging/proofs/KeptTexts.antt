@@ -105,7 +105,7 @@ module _ {S : Type 0} (grid : S → Transform) (map_of : S → Layers) where
         let same : length shards ≡ length (kept marks k.meanings) = sym (length_bytes meaning_of shards) ∙ ap length k.shards_of in
         omega arith
 
-    -- the shards of the marked texts have the union of the maps at the places
+    -- the shards of the marked texts have the union of the maps at the indexes
     pub kept_union : (is : List ℕ) → AreMarksOf (length texts) is marks → union_all (map_list map_of shards) ≡ union_at (map_list (λ m. m.layers) k.meanings) is
     kept_union is a =
         let maps = map_list (λ m. m.layers) k.meanings in

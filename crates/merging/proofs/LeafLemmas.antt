@@ -1,4 +1,4 @@
--- The search of the leaves of a plan for the first that is no place.
+-- The search of the leaves of a plan for the first that is no index.
 use Rattle.std.proofs.Common.{◌≡◌, ℕ, ◌+◌, ◌<◌, ◌≤◌, Bool, true, false, cond, List, [], ◌∷◌, ◌++◌, length, Option, Some, None, refl, sym, ◌∙◌, ap, subst, inl, inr, arith, append-nil}
 use Rattle.std.specs.Prelude.{nat_lt}
 use Rattle.std.specs.Option.{option_or}
@@ -10,7 +10,7 @@ use Rattle.std.proofs.lemmas.List.Concat.{flat_map-cons}
 use Rattle.std.proofs.lemmas.List.Sums.{sum_by-append, sum_by-cons}
 use Rattle.merging.specs.declared.plan.Plan.{Plan}
 use Rattle.merging.specs.declared.plan.Plan.TheVariants.{Leaf, Node'}
-use Rattle.merging.specs.Leaves.{leaves, first_outside, HasPlaces}
+use Rattle.merging.specs.Leaves.{leaves, first_outside, HasIndexes}
 use Rattle.merging.specs.Alike.{IsIn}
 
 pub first_outside-append : (n : ℕ) (xs ys : List ℕ) → first_outside n (xs ++ ys) ≡ option_or (first_outside n xs) (first_outside n ys)
@@ -26,18 +26,18 @@ both_none : {A : Type 0} (x y : Option A) → option_or x y ≡ None → (x ≡ 
 both_none None y e = (refl, e)
 both_none (Some a) y e = absurd cc
 
-is_place : (n i : ℕ) → cond (nat_lt i n) None (Some i) ≡ None → i < n
-is_place n i e = ltb-true i n (go (nat_lt i n) e)
+is_index : (n i : ℕ) → cond (nat_lt i n) None (Some i) ≡ None → i < n
+is_index n i e = ltb-true i n (go (nat_lt i n) e)
   where
     go : (b : Bool) → cond b None (Some i) ≡ None → b ≡ true
     go true e = refl
     go false e = absurd cc
 
-pub has_places : (n : ℕ) (p : Plan) → first_outside n (leaves p) ≡ None → HasPlaces n p
-has_places n (Leaf i) e = is_place n i e
-has_places n (Node' p left q right) e =
+pub has_indexes : (n : ℕ) (p : Plan) → first_outside n (leaves p) ≡ None → HasIndexes n p
+has_indexes n (Leaf i) e = is_index n i e
+has_indexes n (Node' p left q right) e =
     let b = both_none (first_outside n (leaves left)) (first_outside n (leaves right)) (sym (first_outside-append n (leaves left) (leaves right)) ∙ e) in
-    (has_places n left b.0, has_places n right b.1)
+    (has_indexes n left b.0, has_indexes n right b.1)
 
 told_later : (n : ℕ) (xs ys : List ℕ) (o : Option ℕ) → option_or (first_outside n (xs ++ ys)) o ≡ option_or (first_outside n xs) (option_or (first_outside n ys) o)
 told_later n xs ys o = ap (λ f. option_or f o) (first_outside-append n xs ys) ∙ grouped (first_outside n xs) (first_outside n ys) o
@@ -51,15 +51,15 @@ pub told_as : (n : ℕ) (xs ys zs : List ℕ) (o p f : Option ℕ) → option_or
     option_or (first_outside n ys) o ≡ option_or (first_outside n zs) p → option_or (first_outside n (xs ++ zs)) p ≡ f
 told_as n xs ys zs o p f h e = told_later n xs zs p ∙ ap (option_or (first_outside n xs)) (sym e) ∙ sym (told_later n xs ys o) ∙ h
 
--- a leaf on the left that is a place tells nothing
-pub place_passed : (n i : ℕ) (xs ls rs ts : List ℕ) (o f : Option ℕ) → option_or (first_outside n (xs ++ (ls ++ rs))) o ≡ f →
+-- a leaf on the left that is an index tells nothing
+pub index_passed : (n i : ℕ) (xs ls rs ts : List ℕ) (o f : Option ℕ) → option_or (first_outside n (xs ++ (ls ++ rs))) o ≡ f →
     ls ≡ i ∷ [] → ts ≡ rs → i < n → option_or (first_outside n (xs ++ ts)) o ≡ f
-place_passed n i xs ls rs ts o f h leaf same lt =
+index_passed n i xs ls rs ts o f h leaf same lt =
     told_as n xs (ls ++ rs) ts o o f h
     (ap (λ w. option_or w o)
     (ap (λ w. first_outside n (w ++ rs)) leaf ∙ ap (λ b. cond b (first_outside n rs) (Some i)) (lt-ltb i n lt) ∙ ap (first_outside n) (sym same)))
 
--- a leaf on the left that is no place is told before what stands on its right
+-- a leaf on the left that is no index is told before what stands on its right
 pub leaf_told : (n i : ℕ) (xs ls rs ts : List ℕ) (o f : Option ℕ) → option_or (first_outside n (xs ++ (ls ++ rs))) o ≡ f →
     ls ≡ i ∷ [] → ts ≡ ls → n ≤ i → option_or (first_outside n (xs ++ ts)) o ≡ f
 leaf_told n i xs ls rs ts o f h leaf same le =

@@ -1,4 +1,4 @@
--- The marks of the places that a plan names.
+-- The marks of the indexes that a plan names.
 use Rattle.std.proofs.Common.{◌≡◌, ℕ, zero, suc, ◌+◌, ◌<◌, ◌≤◌, Bool, true, false, cond, List, [], ◌∷◌, ◌++◌, length, get_or, set, replicate, Some, None, refl, sym, ◌∙◌, ap, arith, ◌⊎◌, inl, inr, ◌≢◌, eqb}
 use Rattle.std.specs.Prelude.{nat_lt}
 use Rattle.std.specs.List.{flat_map, range_with_len}
@@ -14,10 +14,10 @@ pub marked-append : (marks : List Bool) (is js : List ℕ) → marked marks (is 
 marked-append marks [] js = refl
 marked-append marks (i ∷ is) js = ap (λ m. set m i true) (marked-append marks is js)
 
--- the place is marked, and what waits on its left is left
-pub place_marked : {X : Type 0} (f : X → List ℕ) (marks start : List Bool) (waiting : List X) (here : List ℕ) (i : ℕ) (all : List ℕ)
+-- the index is marked, and what waits on its left is left
+pub index_marked : {X : Type 0} (f : X → List ℕ) (marks start : List Bool) (waiting : List X) (here : List ℕ) (i : ℕ) (all : List ℕ)
     → marked marks (flat_map f waiting ++ here) ≡ marked start all → here ≡ i ∷ [] → marked (set marks i true) (flat_map f waiting) ≡ marked start all
-place_marked f marks start waiting here i all h e =
+index_marked f marks start waiting here i all h e =
     ap (λ m. marked m (flat_map f waiting)) (sym (ap (marked marks) e)) ∙ sym (marked-append marks (flat_map f waiting) here) ∙ h
 
 length-marked : (marks : List Bool) (is : List ℕ) → length (marked marks is) ≡ length marks
@@ -55,10 +55,10 @@ none_set n i h = go (nat_lt i n) refl
     go true e = let unset = get_or-replicate n i false false (ltb-true i n e) in cc
     go false e = let past = get_or_past (replicate n false) i false (omega (arith, length-replicate n false, ltb-false i n e)) in cc
 
--- the marks that are set at some places of a list of n
+-- the marks that are set at some indexes of a list of n
 pub marks_at : (n : ℕ) (is : List ℕ) (marks : List Bool) → first_outside n is ≡ None → marks ≡ marked (replicate n false) is → AreMarksOf n is marks
 marks_at n is marks none e = record {
-  places = none;
+  indexes = none;
   long = ap length e ∙ length-marked (replicate n false) is ∙ length-replicate n false;
   set_at = λ i. (
     λ h.
@@ -70,7 +70,7 @@ marks_at n is marks none e = record {
   );
 }
 
--- ---- all places
+-- ---- all indexes
 
 pub in_range : (k n i : ℕ) → k ≤ i → i < k + n → IsIn i (range_with_len k n)
 in_range k zero i ge lt = absurd (omega (arith, ge, lt))
@@ -80,24 +80,24 @@ in_range k (suc n) i ge lt = go (nat_lt k i) refl (λ above. in_range (k + 1) n 
     go true e later = inr (later (ltb-true k i e))
     go false e later = let below = ltb-false k i e in inl (omega (arith, below, ge))
 
-range_places : (m k n : ℕ) → k + n ≤ m → first_outside m (range_with_len k n) ≡ None
-range_places m k zero le = refl
-range_places m k (suc n) le =
-    ap (λ b. cond b (first_outside m (range_with_len (k + 1) n)) (Some k)) (lt-ltb k m (omega (arith, le))) ∙ range_places m (k + 1) n (omega (arith, le))
+range_indexes : (m k n : ℕ) → k + n ≤ m → first_outside m (range_with_len k n) ≡ None
+range_indexes m k zero le = refl
+range_indexes m k (suc n) le =
+    ap (λ b. cond b (first_outside m (range_with_len (k + 1) n)) (Some k)) (lt-ltb k m (omega (arith, le))) ∙ range_indexes m (k + 1) n (omega (arith, le))
 
 -- marks that are all set
 pub marks_of_all : (n : ℕ) (marks : List Bool) → marks ≡ replicate n true → AreMarksOf n (range_with_len 0 n) marks
 marks_of_all n marks e = record {
-  places = places;
+  indexes = indexes;
   long = long;
   set_at = λ i. (
     λ h. in_range 0 n i (omega arith) (within i h (nat_lt i n) refl),
-    λ h. ap (λ m. get_or m i false) e ∙ get_or-replicate n i true false (inside n (range_with_len 0 n) i places h),
+    λ h. ap (λ m. get_or m i false) e ∙ get_or-replicate n i true false (inside n (range_with_len 0 n) i indexes h),
   );
 }
   where
-    places : first_outside n (range_with_len 0 n) ≡ None
-    places = range_places n 0 n (omega arith)
+    indexes : first_outside n (range_with_len 0 n) ≡ None
+    indexes = range_indexes n 0 n (omega arith)
 
     long : length marks ≡ n
     long = ap length e ∙ length-replicate n true

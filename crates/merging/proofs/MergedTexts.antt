@@ -21,7 +21,7 @@ use Rattle.merging.specs.declared.plan.Plan.{Plan}
 use Rattle.merging.specs.Leaves.{leaves, first_outside}
 use Rattle.merging.specs.Plans.{union_at}
 use Rattle.merging.specs.Alike.{IsIn, Names, NameTheSame}
-use Rattle.merging.specs.Merge.{all_places, AreMeant, IsMergeOf}
+use Rattle.merging.specs.Merge.{all_indexes, AreMeant, IsMergeOf}
 use Rattle.merging.specs.MergeLaws.{MergeOfAllAlike, MergeOfAllMeanings, MergesAlike, OneCanon, MergeOfOneText, SegmentsOfMergeOnce}
 use Rattle.merging.specs.Laws.{union_empty}
 use Rattle.merging.proofs.AlikeLemmas.{plans_alike}
@@ -34,7 +34,7 @@ same_grids t g h m n a b = a.grid ∙ sym b.grid
 pub same_maps : (t : List ℕ) (g h : Transform) (m n : Layers) → Means t g m → Means t h n → m ≡ n
 same_maps t g h m n a b = layers_once m n (layers_of_text t) a.layers b.layers
 
--- ---- what texts mean, place by place
+-- ---- what texts mean, index by index
 
 pub meant_length : (g : Transform) (ts : List (List ℕ)) (ms : List Layers) → AreMeant ts g ms → length ts ≡ length ms
 meant_length g [] [] h = refl
@@ -67,7 +67,7 @@ present (x ∷ xs) (suc i) lt = present xs i (omega arith)
 named_text : (ts : List (List ℕ)) (p : Plan) (t : List ℕ) → IsMergeOf ts (leaves p) t → (u : List ℕ) × Names ts (leaves p) u
 named_text ts p t x =
     let (i, h) = some_leaf p in
-    let (u, e) = present ts i (inside (length ts) (leaves p) i x.places h) in
+    let (u, e) = present ts i (inside (length ts) (leaves p) i x.indexes h) in
     (u, (i, h, e))
 
 -- ---- plans over texts
@@ -86,16 +86,16 @@ grids_of_named g h ts us ms ns is js t a b (i, w, e) (j, v, k) =
     let (n, _, means') = map_at h us ns b j t k in
     same_grids t g h m n means means'
 
-places_of_maps : (g : Transform) (ts : List (List ℕ)) (ms : List Layers) (is : List ℕ) → AreMeant ts g ms → first_outside (length ts) is ≡ None → first_outside (length ms) is ≡ None
-places_of_maps g ts ms is a none = ap (λ n. first_outside n is) (sym (meant_length g ts ms a)) ∙ none
+indexes_of_maps : (g : Transform) (ts : List (List ℕ)) (ms : List Layers) (is : List ℕ) → AreMeant ts g ms → first_outside (length ts) is ≡ None → first_outside (length ms) is ≡ None
+indexes_of_maps g ts ms is a none = ap (λ n. first_outside n is) (sym (meant_length g ts ms a)) ∙ none
 
--- lists of places at which the same texts are, at least one
+-- lists of indexes at which the same texts are, at least one
 merged_alike : (ts us : List (List ℕ)) (is js t u w : List ℕ) → Names ts is w → IsMergeOf ts is t → IsMergeOf us js u → NameTheSame ts is us js → t ≡ u
 merged_alike ts us is js t u w named x y same =
     let grid : x.grid ≡ y.grid = grids_of_named x.grid y.grid ts us x.maps y.maps is js w x.meant y.meant named ((same w).0 named) in
     let union : union_at x.maps is ≡ union_at y.maps js =
     plans_alike x.maps y.maps is js
-    (places_of_maps x.grid ts x.maps is x.meant x.places) (places_of_maps y.grid us y.maps js y.meant y.places)
+    (indexes_of_maps x.grid ts x.maps is x.meant x.indexes) (indexes_of_maps y.grid us y.maps js y.meant y.indexes)
     (λ m. (
       one_way x.grid y.grid ts us x.maps y.maps is js x.meant y.meant (λ v. (same v).0) m,
       one_way y.grid x.grid us ts y.maps x.maps js is y.meant x.meant (λ v. (same v).1) m,
@@ -105,33 +105,33 @@ merged_alike ts us is js t u w named x y same =
 pub merges_alike : MergesAlike
 merges_alike ts us p q t u x y same = let (w, named) = named_text ts p t x in merged_alike ts us (leaves p) (leaves q) t u w named x y same
 
--- ---- all places
+-- ---- all indexes
 
-place_of : {A : Type 0} (xs : List A) (x : A) → Has x xs → (i : ℕ) × (slice_get xs i ≡ Some x)
-place_of [] x h = absurd h
-place_of (y ∷ ys) x (inl e) = (0, ap Some (sym e))
-place_of (y ∷ ys) x (inr h) = let (i, e) = place_of ys x h in (suc i, e)
+index_of : {A : Type 0} (xs : List A) (x : A) → Has x xs → (i : ℕ) × (slice_get xs i ≡ Some x)
+index_of [] x h = absurd h
+index_of (y ∷ ys) x (inl e) = (0, ap Some (sym e))
+index_of (y ∷ ys) x (inr h) = let (i, e) = index_of ys x h in (suc i, e)
 
 has_at : {A : Type 0} (xs : List A) (x : A) (i : ℕ) → slice_get xs i ≡ Some x → Has x xs
 has_at [] x i e = absurd cc
 has_at (y ∷ ys) x zero e = let same : x ≡ y = cc in inl same
 has_at (y ∷ ys) x (suc i) e = inr (has_at ys x i e)
 
-all_named : {A : Type 0} (xs : List A) (x : A) → Has x xs → Names xs (all_places xs) x
+all_named : {A : Type 0} (xs : List A) (x : A) → Has x xs → Names xs (all_indexes xs) x
 all_named xs x h =
-    let (i, e) = place_of xs x h in
+    let (i, e) = index_of xs x h in
     (i, in_range 0 (length xs) i (omega arith) (let lt = slice_get_within xs i x e in omega (arith, lt)), e)
 
 pub merge_of_all_alike : MergeOfAllAlike
 merge_of_all_alike ts us p t u x y same =
     let (w, named) = named_text us p u y in
-    merged_alike ts us (all_places ts) (leaves p) t u w (all_named ts w ((same w).1 named)) x y
+    merged_alike ts us (all_indexes ts) (leaves p) t u w (all_named ts w ((same w).1 named)) x y
     (λ v. (λ (i, within, e). (same v).0 (has_at ts v i e), λ k. all_named ts v ((same v).1 k)))
 
 pub merge_of_all_meanings : MergeOfAllMeanings
 merge_of_all_meanings ts p t x g ms meant =
     merges_alike ts ts p p t (canon g (union_at ms (leaves p))) x
-    (record { places = x.places; grid = g; maps = ms; meant = meant; text = refl }) (λ u. (λ h. h, λ h. h))
+    (record { indexes = x.indexes; grid = g; maps = ms; meant = meant; text = refl }) (λ u. (λ h. h, λ h. h))
 
 pub one_canon : OneCanon
 one_canon text t u a b =
@@ -145,7 +145,7 @@ merge_of_one_text ts p text t x one =
     let is : w ≡ text = one w named in
     let here : Means text x.grid m = subst (λ v. Means v x.grid m) is means in
     let alone : union_at x.maps (leaves p) ≡ union_at (m ∷ []) (0 ∷ []) =
-    plans_alike x.maps (m ∷ []) (leaves p) (0 ∷ []) (places_of_maps x.grid ts x.maps (leaves p) x.meant x.places) refl
+    plans_alike x.maps (m ∷ []) (leaves p) (0 ∷ []) (indexes_of_maps x.grid ts x.maps (leaves p) x.meant x.indexes) refl
     (λ n. (
       λ (j, inj, ej).
           let (v, ev, meansv) = text_at x.grid ts x.maps x.meant j n ej in

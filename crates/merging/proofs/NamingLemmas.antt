@@ -50,14 +50,14 @@ kept_some (true ∷ bs) (x ∷ xs) i is_set lt = omega arith
 kept_some (false ∷ bs) (x ∷ xs) zero is_set lt = absurd cc
 kept_some (false ∷ bs) (x ∷ xs) (suc i) is_set lt = kept_some bs xs i is_set (omega arith)
 
--- the maps that are marked, each once, have the union of the maps at the places
+-- the maps that are marked, each once, have the union of the maps at the indexes
 pub marked_union : (ms : List Layers) (is : List ℕ) (marks : List Bool) → AreMarksOf (length ms) is marks → union_all (kept marks ms) ≡ union_at ms is
 marked_union ms is marks a =
     same_union (kept marks ms) (map_list (at ms) is)
     (λ m h. let (i, is_set, e) = kept_from marks ms m h in named_among ms is m i ((a.set_at i).0 is_set) e)
-    (λ m h. let (i, there, e) = among_named ms is a.places m h in from_kept marks ms m i ((a.set_at i).1 there) e)
+    (λ m h. let (i, there, e) = among_named ms is a.indexes m h in from_kept marks ms m i ((a.set_at i).1 there) e)
 
 -- some item is kept
 pub some_marked : {X : Type 0} (xs : List X) (is : List ℕ) (marks : List Bool) → AreMarksOf (length xs) is marks → 0 < length is → 0 < length (kept marks xs)
 some_marked xs [] marks a lt = absurd (omega (arith, lt))
-some_marked xs (i ∷ js) marks a lt = kept_some marks xs i ((a.set_at i).1 (inl refl)) (inside (length xs) (i ∷ js) i a.places (inl refl))
+some_marked xs (i ∷ js) marks a lt = kept_some marks xs i ((a.set_at i).1 (inl refl)) (inside (length xs) (i ∷ js) i a.indexes (inl refl))

@@ -12,7 +12,7 @@ use Rattle.merging.specs.Laws.{union_commutes, union_associates, union_empty}
 use Rattle.merging.specs.Meaning.{same_grid, same_scaling}
 use Rattle.merging.specs.declared.plan.Plan.{Plan}
 use Rattle.merging.specs.declared.plan.Plan.TheVariants.{Leaf, Node'}
-use Rattle.merging.specs.Leaves.{HasPlaces}
+use Rattle.merging.specs.Leaves.{HasIndexes}
 use Rattle.merging.specs.Plans.{union_all, union_at, off_grid, first_other}
 use Rattle.std.specs.Prelude.{not, ◌&&◌}
 use Rattle.std.specs.List.{position_or_len}
@@ -29,9 +29,9 @@ union_all-append (m ∷ ms) ns = ap (union m) (union_all-append ms ns) ∙ sym (
 pub union_at-append : (ms : List Layers) (xs ys : List ℕ) → union_at ms (xs ++ ys) ≡ union (union_at ms xs) (union_at ms ys)
 union_at-append ms xs ys = ap union_all (map-append _ xs ys) ∙ union_all-append _ _
 
-pub no_places : (p : Plan) → ¬ HasPlaces 0 p
-no_places (Leaf i) h = omega arith
-no_places (Node' p left q right) h = no_places left h.0
+pub no_indexes : (p : Plan) → ¬ HasIndexes 0 p
+no_indexes (Leaf i) h = omega arith
+no_indexes (Node' p left q right) h = no_indexes left h.0
 
 both_true : (a b : Bool) → (a && b) ≡ true → (a ≡ true) × (b ≡ true)
 both_true true true e = (refl, refl)
@@ -75,7 +75,7 @@ off_grid_none f g ss e k d lt =
     let le : length ss ≤ position_or_len (λ t. not (same_grid (f t) g)) ss = all_before _ _ e in
     same_grid_true (f (get_or ss k d)) g (not_false _ (fails_before_first (λ t. not (same_grid (f t) g)) ss k d (omega arith)))
 
--- the map at a place
+-- the map at an index
 pub map_at : {S : Type 0} (f : S → Layers) (ss : List S) (i : ℕ) (s : S) → i < length ss → s ≡ get_or ss i s →
     unwrap_or (slice_get (map_list f ss) i) map.empty ≡ f s
 map_at f ss i s lt e =

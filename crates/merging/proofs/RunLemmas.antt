@@ -12,7 +12,7 @@ use Rattle.merging.specs.declared.plan.Plan.{Plan}
 use Rattle.merging.specs.declared.plan.Plan.TheVariants.{Leaf}
 use Rattle.merging.specs.declared.plan.running.Task.{Task}
 use Rattle.merging.specs.declared.plan.running.Task.TheVariants.{Run, Join}
-use Rattle.merging.specs.Leaves.{leaves, HasPlaces}
+use Rattle.merging.specs.Leaves.{leaves, HasIndexes}
 use Rattle.merging.specs.Plans.{union_at}
 use Rattle.merging.specs.Running.{LastJoined}
 use Rattle.merging.proofs.PlanSizes.{size}
@@ -27,7 +27,7 @@ task_size Join = 1
 abbrev pub Gives : {S : Type 0} → (S → Layers) → List S → List Task → List S → Layers → Type 0
 Gives {S = S} map_of shards [] stack m = (s : S) × (stack ≡ s ∷ []) × (map_of s ≡ m)
 Gives {S = S} map_of shards (Run r ∷ tasks) stack m =
-    HasPlaces (length shards) r.now × ((s : S) → map_of s ≡ union_at (map_list map_of shards) (leaves r.now) → Gives map_of shards tasks (s ∷ stack) m)
+    HasIndexes (length shards) r.now × ((s : S) → map_of s ≡ union_at (map_list map_of shards) (leaves r.now) → Gives map_of shards tasks (s ∷ stack) m)
 Gives {S = S} map_of shards (Join ∷ tasks) [] m = ⊥
 Gives {S = S} map_of shards (Join ∷ tasks) (b ∷ []) m = ⊥
 Gives {S = S} map_of shards (Join ∷ tasks) (b ∷ a ∷ stack) m = (s : S) → map_of s ≡ union (map_of a) (map_of b) → Gives map_of shards tasks (s ∷ stack) m
@@ -38,7 +38,7 @@ last_first old new x e = ap reverse e ∙ reverse-append new (x ∷ [])
 
 module _ {S : Type 0} (map_of : S → Layers) (shards : List S) where
   -- a plan alone is left, and nothing is made yet
-  pub all_left : (r : Bor Plan) (none tasks : List Task) (made : List S) → none ≡ [] → tasks ≡ none ++ (Run r ∷ []) → made ≡ [] → HasPlaces (length shards) r.now →
+  pub all_left : (r : Bor Plan) (none tasks : List Task) (made : List S) → none ≡ [] → tasks ≡ none ++ (Run r ∷ []) → made ≡ [] → HasIndexes (length shards) r.now →
       Gives map_of shards (reverse tasks) (reverse made) (union_at (map_list map_of shards) (leaves r.now))
   all_left r none tasks made n e k h =
       let m = union_at (map_list map_of shards) (leaves r.now) in
@@ -51,8 +51,8 @@ module _ {S : Type 0} (map_of : S → Layers) (shards : List S) where
   pub taken : (old new : List Task) (t : Task) (stack : List S) (m : Layers) → old ≡ new ++ (t ∷ []) → Gives map_of shards (reverse old) stack m → Gives map_of shards (t ∷ reverse new) stack m
   taken old new t stack m e h = subst (λ w. Gives map_of shards w stack m) (last_first old new t e) h
 
-  pub leaf_place : (r : Bor Plan) (i : ℕ) (tasks : List Task) (stack : List S) (m : Layers) → Gives map_of shards (Run r ∷ tasks) stack m → r.now ≡ Leaf i → i < length shards
-  leaf_place r i tasks stack m h e = subst (HasPlaces (length shards)) e h.0
+  pub leaf_index : (r : Bor Plan) (i : ℕ) (tasks : List Task) (stack : List S) (m : Layers) → Gives map_of shards (Run r ∷ tasks) stack m → r.now ≡ Leaf i → i < length shards
+  leaf_index r i tasks stack m h e = subst (HasIndexes (length shards)) e h.0
 
   -- a leaf is copied
   pub leaf_made : (r : Bor Plan) (i : ℕ) (tasks : List Task) (made more : List S) (s : S) (m : Layers) → Gives map_of shards (Run r ∷ tasks) (reverse made) m → r.now ≡ Leaf i →
@@ -62,11 +62,11 @@ module _ {S : Type 0} (map_of : S → Layers) (shards : List S) where
 
   -- a node is taken apart
   pub parts_left : (r a b : Bor Plan) (tasks one two three : List Task) (stack : List S) (m : Layers) → Gives map_of shards (Run r ∷ reverse tasks) stack m →
-      leaves r.now ≡ leaves a.now ++ leaves b.now → (HasPlaces (length shards) r.now → HasPlaces (length shards) a.now × HasPlaces (length shards) b.now) →
+      leaves r.now ≡ leaves a.now ++ leaves b.now → (HasIndexes (length shards) r.now → HasIndexes (length shards) a.now × HasIndexes (length shards) b.now) →
       one ≡ tasks ++ (Join ∷ []) → two ≡ one ++ (Run b ∷ []) → three ≡ two ++ (Run a ∷ []) → Gives map_of shards (reverse three) stack m
-  parts_left r a b tasks one two three stack m h parts places e f g =
+  parts_left r a b tasks one two three stack m h parts indexes e f g =
       let ms = map_list map_of shards in
-      let split = places h.0 in
+      let split = indexes h.0 in
       let apart : Gives map_of shards (Run a ∷ (Run b ∷ (Join ∷ reverse tasks))) stack m =
       (split.0, λ s is. (split.1, λ t it. λ u iu. h.1 u (iu ∙ (λ i. union (is i) (it i)) ∙ sym (union_at-append ms (leaves a.now) (leaves b.now)) ∙ ap (union_at ms) (sym parts)))) in
       let order : reverse three ≡ Run a ∷ (Run b ∷ (Join ∷ reverse tasks)) =

@@ -22,7 +22,7 @@ use Rattle.merging.proofs.LeafLemmas.{first_outside-append}
 use Rattle.merging.proofs.PlanLemmas.{union_at-append}
 use Rattle.merging.proofs.MergedTexts.{same_grids, same_maps, meant_length}
 
--- ---- places
+-- ---- indexes
 
 get_left : {A : Type 0} (xs ys : List A) (i : ℕ) → i < length xs → slice_get (xs ++ ys) i ≡ slice_get xs i
 get_left [] ys i lt = absurd (omega arith)
@@ -35,32 +35,32 @@ get_right (x ∷ xs) ys i =
     let e : length (x ∷ xs) + i ≡ suc (length xs + i) = omega arith in
     ap (slice_get (x ∷ (xs ++ ys))) e ∙ get_right xs ys i
 
-first_is_place : (n i : ℕ) (is : List ℕ) → first_outside n (i ∷ is) ≡ None → (i < n) × (first_outside n is ≡ None)
-first_is_place n i is none = go (nat_lt i n) refl none
+first_is_index : (n i : ℕ) (is : List ℕ) → first_outside n (i ∷ is) ≡ None → (i < n) × (first_outside n is ≡ None)
+first_is_index n i is none = go (nat_lt i n) refl none
   where
     go : (b : Bool) → nat_lt i n ≡ b → cond b (first_outside n is) (Some i) ≡ None → (i < n) × (first_outside n is ≡ None)
     go true low e = (ltb-true i n low, e)
     go false low e = absurd cc
 
-one_place : (n i : ℕ) (o : Option ℕ) → i < n → cond (nat_lt i n) o (Some i) ≡ o
-one_place n i o lt = ap (λ b. cond b o (Some i)) (lt-ltb i n lt)
+one_index : (n i : ℕ) (o : Option ℕ) → i < n → cond (nat_lt i n) o (Some i) ≡ o
+one_index n i o lt = ap (λ b. cond b o (Some i)) (lt-ltb i n lt)
 
-more_places : (n k : ℕ) (is : List ℕ) → first_outside n is ≡ None → first_outside (n + k) is ≡ None
-more_places n k [] none = refl
-more_places n k (i ∷ is) none =
-    let (lt, rest) = first_is_place n i is none in
-    one_place (n + k) i (first_outside (n + k) is) (omega (arith, lt)) ∙ more_places n k is rest
+more_indexes : (n k : ℕ) (is : List ℕ) → first_outside n is ≡ None → first_outside (n + k) is ≡ None
+more_indexes n k [] none = refl
+more_indexes n k (i ∷ is) none =
+    let (lt, rest) = first_is_index n i is none in
+    one_index (n + k) i (first_outside (n + k) is) (omega (arith, lt)) ∙ more_indexes n k is rest
 
-instead_places : (n k : ℕ) (ps : List ℕ) (i : ℕ) → first_outside n ps ≡ None → i < suc k → first_outside (n + k) (instead n ps i) ≡ None
-instead_places n k ps zero none lt = more_places n k ps none
-instead_places n k ps (suc i) none lt = one_place (n + k) (n + i) None (omega arith)
+instead_indexes : (n k : ℕ) (ps : List ℕ) (i : ℕ) → first_outside n ps ≡ None → i < suc k → first_outside (n + k) (instead n ps i) ≡ None
+instead_indexes n k ps zero none lt = more_indexes n k ps none
+instead_indexes n k ps (suc i) none lt = one_index (n + k) (n + i) None (omega arith)
 
-pub through_places : (n k : ℕ) (ps is : List ℕ) → first_outside n ps ≡ None → first_outside (suc k) is ≡ None → first_outside (n + k) (through n ps is) ≡ None
-through_places n k ps [] none places = refl
-through_places n k ps (i ∷ is) none places =
-    let (lt, rest) = first_is_place (suc k) i is places in
+pub through_indexes : (n k : ℕ) (ps is : List ℕ) → first_outside n ps ≡ None → first_outside (suc k) is ≡ None → first_outside (n + k) (through n ps is) ≡ None
+through_indexes n k ps [] none indexes = refl
+through_indexes n k ps (i ∷ is) none indexes =
+    let (lt, rest) = first_is_index (suc k) i is indexes in
     first_outside-append (n + k) (instead n ps i) (through n ps is)
-    ∙ (λ j. option_or (instead_places n k ps i none lt j) (through_places n k ps is none rest j))
+    ∙ (λ j. option_or (instead_indexes n k ps i none lt j) (through_indexes n k ps is none rest j))
 
 -- ---- unions
 
@@ -70,7 +70,7 @@ at ms i = unwrap_or (slice_get ms i) map.empty
 union_left : (ms ns : List Layers) (is : List ℕ) → first_outside (length ms) is ≡ None → union_at ms is ≡ union_at (ms ++ ns) is
 union_left ms ns [] none = refl
 union_left ms ns (i ∷ is) none =
-    let (lt, rest) = first_is_place (length ms) i is none in
+    let (lt, rest) = first_is_index (length ms) i is none in
     (λ j. union (unwrap_or (sym (get_left ms ns i lt) j) map.empty) (union_left ms ns is rest j))
 
 at_instead : (ms ns : List Layers) (ps : List ℕ) (i : ℕ) → first_outside (length ms) ps ≡ None → at (union_at ms ps ∷ ns) i ≡ union_at (ms ++ ns) (instead (length ms) ps i)
@@ -101,10 +101,10 @@ merged_through ts us ps is t a x back y = go y.grid y.maps y.meant y.text
     long = meant_length x.grid ts x.maps x.meant
 
     inside : first_outside (length x.maps) ps ≡ None
-    inside = ap (λ n. first_outside n ps) (sym long) ∙ x.places
+    inside = ap (λ n. first_outside n ps) (sym long) ∙ x.indexes
 
-    places : first_outside (length (ts ++ us)) (through (length ts) ps is) ≡ None
-    places = ap (λ n. first_outside n (through (length ts) ps is)) (length-append ts us) ∙ through_places (length ts) (length us) ps is x.places y.places
+    indexes : first_outside (length (ts ++ us)) (through (length ts) ps is) ≡ None
+    indexes = ap (λ n. first_outside n (through (length ts) ps is)) (length-append ts us) ∙ through_indexes (length ts) (length us) ps is x.indexes y.indexes
 
     go : (h : Transform) (ms : List Layers) → AreMeant (t ∷ us) h ms → a ≡ canon h (union_at ms is) → IsMergeOf (ts ++ us) (through (length ts) ps is) a
     go h [] meant text = absurd meant
@@ -115,7 +115,7 @@ merged_through ts us ps is t a x back y = go y.grid y.maps y.meant y.text
         ap (λ n. union_at (n ∷ ns) is) same ∙ union_through x.maps ns ps is inside
         ∙ ap (λ n. union_at (x.maps ++ ns) (through n ps is)) (sym long) in
         record {
-          places = places;
+          indexes = indexes;
           grid = h;
           maps = x.maps ++ ns;
           meant = meant_append h ts us x.maps ns (subst (λ k. AreMeant ts k x.maps) grid x.meant) meant.1;

@@ -9,7 +9,7 @@ abbrev pub IsIn : ℕ → List ℕ → Type 0
 IsIn i [] = ⊥
 IsIn i (j ∷ js) = (i ≡ j) ⊎ IsIn i js
 
--- one of the places holds the map or text
+-- one of the indexes holds the map or text
 abbrev pub Names : {A : Type 0} → List A → List ℕ → A → Type 0
 Names xs is x = (i : ℕ) × IsIn i is × (slice_get xs i ≡ Some x)
 
@@ -17,6 +17,6 @@ Names xs is x = (i : ℕ) × IsIn i is × (slice_get xs i ≡ Some x)
 abbrev pub NameTheSame : {A : Type 0} → List A → List ℕ → List A → List ℕ → Type 0
 NameTheSame {A = A} xs is ys js = (x : A) → Names xs is x ↔ Names ys js x
 
--- leaves that are places, in any order, with repeats and in any grouping: the union depends only on which maps are named
+-- leaves that are indexes, in any order, with repeats and in any grouping: the union depends only on which maps are named
 abbrev pub PlansAlike : Type 0
 PlansAlike = (ms ns : List Layers) (is js : List ℕ) → first_outside (length ms) is ≡ None → first_outside (length ns) js ≡ None → NameTheSame ms is ns js → union_at ms is ≡ union_at ns js

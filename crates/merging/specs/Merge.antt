@@ -28,9 +28,9 @@ bytes_of texts = map (λ t. t.items) texts
 abbrev pub lent_texts : List (Bor (List ℕ)) → List (List ℕ)
 lent_texts texts = map (λ t. t.now) texts
 
--- the places of all items of a list
-abbrev pub all_places : {A : Type 0} → List A → List ℕ
-all_places xs = range_with_len 0 (length xs)
+-- the indexes of all items of a list
+abbrev pub all_indexes : {A : Type 0} → List A → List ℕ
+all_indexes xs = range_with_len 0 (length xs)
 
 -- none of the texts has a fault
 abbrev pub AreAccepted : List (List ℕ) → Type 0
@@ -61,14 +61,14 @@ pub record AreKept {S : Type 0} (grid : S → Transform) (map_of : S → Layers)
 
 -- the texts are accepted, all on the grid g, and m is the union of the named maps
 pub record IsUnionOf (texts : List (List ℕ)) (is : List ℕ) (g : Transform) (m : Layers) : Type 0 where
-  pub places : first_outside (length texts) is ≡ None
+  pub indexes : first_outside (length texts) is ≡ None
   pub maps : List Layers
   pub meant : AreMeant texts g maps
   pub union : m ≡ union_at maps is
 
 -- the texts are accepted, on one grid, and the text is the canonical text of the union of the named maps on it
 pub record IsMergeOf (texts : List (List ℕ)) (is t : List ℕ) : Type 0 where
-  pub places : first_outside (length texts) is ≡ None
+  pub indexes : first_outside (length texts) is ≡ None
   pub grid : Transform
   pub maps : List Layers
   pub meant : AreMeant texts grid maps
@@ -79,7 +79,7 @@ pub record MeansUnion (texts : List (List ℕ)) (is t : List ℕ) : Type 0 where
   pub merge : IsMergeOf texts is t
   pub means : Means t merge.grid (union_at merge.maps is)
 
--- why texts are not merged: the first leaf that is no place; else the first refused text; else the first on another grid than text 0
+-- why texts are not merged: the first leaf that is no index; else the first refused text; else the first on another grid than text 0
 abbrev pub IsMergeFault : List (List ℕ) → List ℕ → MergeFault → Type 0
 IsMergeFault texts is (BadPlan k) = first_outside (length texts) is ≡ Some k
 IsMergeFault texts is (Text n f) = (first_outside (length texts) is ≡ None) × IsFirstRefused faults_of_text texts n f

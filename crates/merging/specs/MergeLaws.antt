@@ -11,7 +11,7 @@ use Rattle.topo_io.specs.Means.{Means}
 use Rattle.merging.specs.declared.plan.Plan.{Plan}
 use Rattle.merging.specs.Leaves.{leaves}
 use Rattle.merging.specs.Alike.{Names, NameTheSame}
-use Rattle.merging.specs.Merge.{all_places, AreMeant, IsMergeOf, MeansUnion}
+use Rattle.merging.specs.Merge.{all_indexes, AreMeant, IsMergeOf, MeansUnion}
 use Rattle.merging.specs.Plans.{union_at}
 
 -- whatever grid and maps the texts mean, the merged text is the canonical text of the union of the named maps
@@ -27,7 +27,7 @@ MergesAlike =
 -- all texts of a list give the bytes of each plan that names the same texts, in any order, with repeats and in any grouping
 abbrev pub MergeOfAllAlike : Type 0
 MergeOfAllAlike =
-    (texts others : List (List ℕ)) (p : Plan) (t u : List ℕ) → IsMergeOf texts (all_places texts) t → IsMergeOf others (leaves p) u →
+    (texts others : List (List ℕ)) (p : Plan) (t u : List ℕ) → IsMergeOf texts (all_indexes texts) t → IsMergeOf others (leaves p) u →
     ((x : List ℕ) → Has x texts ↔ Names others (leaves p) x) → t ≡ u
 
 -- the text is the canonical text of what the other means
@@ -50,7 +50,7 @@ MergeOfOneText =
 abbrev pub SegmentsOfMergeOnce : Type 0
 SegmentsOfMergeOnce = (g : Transform) (m : Layers) → EachSegmentOnce (geometry_of m) (the_topology g m).arcs
 
--- what stands for place i of a text and others, where the text was merged from n texts by a plan with the leaves ps
+-- what stands for index i of a text and others, where the text was merged from n texts by a plan with the leaves ps
 abbrev pub instead : ℕ → List ℕ → ℕ → List ℕ
 instead n ps zero = ps
 instead n ps (suc i) = (n + i) ∷ []

@@ -3,7 +3,7 @@ use Rattle.std.specs.Prelude.{◌≡◌, ◌↔◌, ℕ, Bool, true, false, cond
 use Rattle.merging.specs.Leaves.{first_outside}
 use Rattle.merging.specs.Alike.{IsIn}
 
--- the marks, with those at some places set, the last of these first
+-- the marks, with those at some indexes set, the last of these first
 abbrev pub marked : List Bool → List ℕ → List Bool
 marked marks [] = marks
 marked marks (i ∷ is) = set (marked marks is) i true
@@ -14,8 +14,8 @@ kept [] xs = []
 kept (b ∷ bs) [] = []
 kept (b ∷ bs) (x ∷ xs) = cond b (x ∷ kept bs xs) (kept bs xs)
 
--- the numbers are places of a list of n, and the marks are set there alone
+-- the numbers are indexes of a list of n, and the marks are set there alone
 pub record AreMarksOf (n : ℕ) (is : List ℕ) (marks : List Bool) : Type 0 where
-  pub places : first_outside n is ≡ None
+  pub indexes : first_outside n is ≡ None
   pub long : length marks ≡ n
   pub set_at : (i : ℕ) → (get_or marks i false ≡ true) ↔ IsIn i is

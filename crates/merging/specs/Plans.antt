@@ -10,7 +10,7 @@ use Rattle.merging.specs.Leaves.{first_outside}
 use Rattle.merging.specs.declared.fault.PlanFault.{PlanFault}
 use Rattle.merging.specs.declared.fault.PlanFault.TheVariants.{BadPlan, OtherGrid}
 
--- the place of the first item that isn't on the grid
+-- the index of the first item that isn't on the grid
 abbrev pub off_grid : {S : Type 0} → (S → Transform) → Transform → List S → Option ℕ
 off_grid grid g ss = position (λ t. not (same_grid (grid t) g)) ss
 
@@ -18,7 +18,7 @@ abbrev pub other_than : {S : Type 0} → (S → Transform) → Option S → List
 other_than grid None ss = None
 other_than grid (Some s) ss = off_grid grid (grid s) ss
 
--- the place of the first item whose grid isn't the first item's
+-- the index of the first item whose grid isn't the first item's
 abbrev pub first_other : {S : Type 0} → (S → Transform) → List S → Option ℕ
 first_other grid ss = other_than grid (slice_get ss 0) ss
 
@@ -27,7 +27,7 @@ abbrev pub union_all : List Layers → Layers
 union_all [] = map.empty
 union_all (m ∷ ms) = union m (union_all ms)
 
--- the union of the maps at some places of a list
+-- the union of the maps at some indexes of a list
 abbrev pub union_at : List Layers → List ℕ → Layers
 union_at ms is = union_all (map_list (λ i. unwrap_or (slice_get ms i) map.empty) is)
 

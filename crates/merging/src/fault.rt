@@ -37,7 +37,7 @@ impl<T: Drop> From<AllocFailed<T>> for JoinFault {
 /// Why a plan is not run.
 #[derive(Clone, Copy, PartialEq, Eq, Debug, Error)]
 pub enum PlanFault {
-    /// This leaf is no place of the list; the first such from the left.
+    /// This leaf is no index of the list; the first such from the left.
     #[error("leaf {0} is past the list")]
     BadPlan(usize),
     /// The shard of this number is on another grid than shard 0; the first such.
@@ -51,7 +51,7 @@ pub enum PlanFault {
 /// Why texts are not merged.
 #[derive(PartialEq, Eq, Drop, Debug, Error)]
 pub enum MergeFault {
-    /// This leaf of the plan is no place of the list; the first such from the left.
+    /// This leaf of the plan is no index of the list; the first such from the left.
     #[error("leaf {0} is past the list")]
     BadPlan(usize),
     /// The text of this number is refused, the first such, with its first error, which is never out

@@ -5,8 +5,8 @@ ghost use Rattle.merging.specs.declared.fault.JoinFault.TheVariants.{OutOfMemory
 ghost use Rattle.std.specs.Prelude.{◌≡◌, ◌≤◌, ◌<◌, ◌+◌, ◌*◌, All, IfOk, IsOkUnless, length, map};
 
 use crate::fault::JoinFault;
-use crate::placing::sort_by_place;
 use crate::shard::Shard;
+use crate::z_order::sort_by_z_order;
 use std::alloc::Global;
 
 // The shards joined in pairs of neighbours; the last of an odd number stays as it is.
@@ -29,7 +29,7 @@ fn join_pairs<S: Shard>(alloc: Global, shards: Vec<S>) -> Result<Vec<S>, JoinFau
     Ok(joined)
 }
 
-// The join of all shards, by halves, in the order of their places: a round joins neighbours, until one is left. Each
+// The join of all shards, by halves, along a Z-order curve: a round joins neighbours, until one is left. Each
 // shard is handed over to the join that takes it.
 pub(crate) fn join_all<S: Shard>(alloc: Global, shards: Vec<S>) -> Result<S, JoinFault>
     requires some { 0 < length shards.items }
@@ -38,7 +38,7 @@ pub(crate) fn join_all<S: Shard>(alloc: Global, shards: Vec<S>) -> Result<S, Joi
     ensures memory { (g : Transform) → All (λ s. S.grid_of s ≡ g) shards.items → IsOkUnless result OutOfMemory }
 {
     let mut left = shards;
-    sort_by_place(&mut left);
+    sort_by_z_order(&mut left);
     'rounds: while left.len() > 1 {
         left = join_pairs(alloc, left)?;
     }

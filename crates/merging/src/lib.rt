@@ -6,11 +6,11 @@ pub mod fault;
 mod joining;
 pub mod laws;
 pub mod merge;
-mod placing;
 pub mod plan;
 pub mod shard;
+mod z_order;
 
 pub use fault::{JoinFault, MergeFault, PlanFault};
 pub use merge::{merge_all, merge_all_borrowed, merge_as};
-pub use plan::{Plan, first_bad_leaf, named_places, run_plan};
+pub use plan::{Plan, first_bad_leaf, named_indexes, run_plan};
 pub use shard::Shard;

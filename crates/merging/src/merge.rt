@@ -1,6 +1,6 @@
 //! Merging texts of topologies.
 ghost use Rattle.merging.specs.Leaves.{leaves, first_outside};
-ghost use Rattle.merging.specs.Merge.{all_places, bytes_of, lent_texts, AreKept, IsFaultOf, IsGridOf, IsReadFault, IsRefusalOf, IsMergeFault, IsMergeOf, IsUnionOf, MeansUnion};
+ghost use Rattle.merging.specs.Merge.{all_indexes, bytes_of, lent_texts, AreKept, IsFaultOf, IsGridOf, IsReadFault, IsRefusalOf, IsMergeFault, IsMergeOf, IsUnionOf, MeansUnion};
 ghost use Rattle.merging.specs.Naming.{AreMarksOf};
 ghost use Rattle.merging.specs.Plans as stated;
 ghost use Rattle.merging.specs.Plans.{off_grid};
@@ -10,7 +10,7 @@ ghost use Rattle.topo_io.specs.Means.{Means};
 
 use crate::fault::MergeFault;
 use crate::joining::join_all;
-use crate::plan::{Plan, first_bad_leaf, named_places};
+use crate::plan::{Plan, first_bad_leaf, named_indexes};
 use crate::shard::{Shard, same_grid};
 use faults::{Fault, FaultKind};
 use grid::transform::Grid;
@@ -108,8 +108,8 @@ fn borrow_texts<T>(alloc: Global, texts: &[T]) -> Result<Vec<&T>, AllocError>
     texts.iter().collect(alloc)
 }
 
-// The shard of the union of the features of the texts whose marks are set, joined by halves in the order of their
-// places. Each text is dropped once it is read.
+// The shard of the union of the features of the texts whose marks are set, joined by halves along a
+// Z-order curve. Each text is dropped once it is read.
 fn merge_marked<S: Shard, T: AsSlice<u8> + Drop>(
     alloc: Global,
     texts: Vec<T>,
@@ -134,8 +134,8 @@ fn merge_list<S: Shard, T: AsSlice<u8> + Drop>(
     alloc: Global,
     texts: Vec<T>,
 ) -> Result<Option<S>, MergeFault>
-    ensures fault { IfErr result (IsMergeFault (map T.items texts.items) (all_places texts.items)) }
-    ensures merged { IfOk result (λ o. MatchOption o (length texts.items ≡ 0) (λ s. IsUnionOf (map T.items texts.items) (all_places texts.items) (S.grid_of s) (S.map_of s))) }
+    ensures fault { IfErr result (IsMergeFault (map T.items texts.items) (all_indexes texts.items)) }
+    ensures merged { IfOk result (λ o. MatchOption o (length texts.items ≡ 0) (λ s. IsUnionOf (map T.items texts.items) (all_indexes texts.items) (S.grid_of s) (S.map_of s))) }
 {
     if texts.is_empty() {
         return Ok(None);
@@ -146,7 +146,7 @@ fn merge_list<S: Shard, T: AsSlice<u8> + Drop>(
 }
 
 /// The shard of the union of the features of all texts; `None` exactly where there is no text. They are joined by
-/// halves, in the order of their places, whatever their order in the list, which makes no difference to what the shard
+/// halves, along a Z-order curve, whatever their order in the list, which makes no difference to what the shard
 /// means. Each text is dropped once it is read, so its memory is free for what follows. For texts that you keep, call
 /// `merge_all_borrowed`.
 ///
@@ -154,8 +154,8 @@ fn merge_list<S: Shard, T: AsSlice<u8> + Drop>(
 /// `Text` with the first text of the list that is refused, and its first error; otherwise `OtherGrid` with the first
 /// text whose transform differs from that of text 0.
 pub fn merge_all<S: Shard>(alloc: Global, texts: Vec<Vec<u8>>) -> Result<Option<S>, MergeFault>
-    ensures fault { IfErr result (IsMergeFault (bytes_of texts.items) (all_places texts.items)) }
-    ensures merged { IfOk result (λ o. MatchOption o (length texts.items ≡ 0) (λ s. IsUnionOf (bytes_of texts.items) (all_places texts.items) (S.grid_of s) (S.map_of s))) }
+    ensures fault { IfErr result (IsMergeFault (bytes_of texts.items) (all_indexes texts.items)) }
+    ensures merged { IfOk result (λ o. MatchOption o (length texts.items ≡ 0) (λ s. IsUnionOf (bytes_of texts.items) (all_indexes texts.items) (S.grid_of s) (S.map_of s))) }
 {
     merge_list(alloc, texts)
 }
@@ -165,18 +165,18 @@ pub fn merge_all<S: Shard>(alloc: Global, texts: Vec<Vec<u8>>) -> Result<Option<
 /// # Errors
 /// As `merge_all`.
 pub fn merge_all_borrowed<S: Shard>(alloc: Global, texts: &[&[u8]]) -> Result<Option<S>, MergeFault>
-    ensures fault { IfErr result (IsMergeFault (lent_texts texts.now) (all_places texts.now)) }
-    ensures merged { IfOk result (λ o. MatchOption o (length texts.now ≡ 0) (λ s. IsUnionOf (lent_texts texts.now) (all_places texts.now) (S.grid_of s) (S.map_of s))) }
+    ensures fault { IfErr result (IsMergeFault (lent_texts texts.now) (all_indexes texts.now)) }
+    ensures merged { IfOk result (λ o. MatchOption o (length texts.now ≡ 0) (λ s. IsUnionOf (lent_texts texts.now) (all_indexes texts.now) (S.grid_of s) (S.map_of s))) }
 {
     merge_list(alloc, borrow_texts(alloc, texts)?)
 }
 
 /// The canonical text of the union of the features of the texts that the plan names, merged over shards of a chosen
-/// kind. Each is joined once, by halves and in the order of their places, whatever the plan's order and grouping, which
+/// kind. Each is joined once, by halves and along a Z-order curve, whatever the plan's order and grouping, which
 /// make no difference to the text. The texts stay.
 ///
 /// # Errors
-/// `BadPlan` with the first leaf from the left that is no place of the list; otherwise `Text` with
+/// `BadPlan` with the first leaf from the left that is no index of the list; otherwise `Text` with
 /// the first text of the list that is refused, and its first error; otherwise `OtherGrid` with the
 /// first text whose transform differs from that of text 0. All texts are read, also those that the
 /// plan does not name.
@@ -193,7 +193,7 @@ pub fn merge_as<S: Shard>(
     if let Some(leaf) = first_bad_leaf(alloc, plan, texts.len()) {
         return Err(MergeFault::BadPlan(leaf));
     }
-    let marks = named_places(alloc, plan, texts.len())?;
+    let marks = named_indexes(alloc, plan, texts.len())?;
     let shard: S = merge_marked(alloc, borrow_texts(alloc, texts)?, &marks)?;
     Ok(shard.text(alloc)?)
 }

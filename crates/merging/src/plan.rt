@@ -6,15 +6,15 @@ pub mod grouping;
 pub mod naming;
 pub mod running;
 
-pub use naming::named_places;
+pub use naming::named_indexes;
 pub use running::run_plan;
 use std::alloc::Global;
 use std::mem;
 
-/// Which places of a list of shards are joined, from left to right, and in what grouping. A plan of
+/// Which indexes of a list of shards are joined, from left to right, and in what grouping. A plan of
 /// any depth is run and dropped without a call for each level of it.
 pub enum Plan {
-    /// The shard at a place of the list.
+    /// The shard at an index of the list.
     Leaf(usize),
     /// The join of what two plans give.
     Node(Box<Plan>, Box<Plan>),
@@ -45,7 +45,7 @@ impl Drop for Plan {
     }
 }
 
-/// The first leaf from the left that is no place of a list of `count`.
+/// The first leaf from the left that is no index of a list of `count`.
 // It looks at the plan from the right; what waits on the left stands on the heap. Only where memory for that is refused
 // is the right told by a call.
 pub fn first_bad_leaf(alloc: Global, plan: &Plan, count: usize) -> Option<usize>
@@ -56,9 +56,9 @@ pub fn first_bad_leaf(alloc: Global, plan: &Plan, count: usize) -> Option<usize>
     let mut found = None;
     loop {
         match rest {
-            Plan::Leaf(place) => {
-                if *place >= count {
-                    found = Some(*place);
+            Plan::Leaf(index) => {
+                if *index >= count {
+                    found = Some(*index);
                 }
                 let Some(before) = waiting.pop() else {
                     return found;
@@ -66,7 +66,7 @@ pub fn first_bad_leaf(alloc: Global, plan: &Plan, count: usize) -> Option<usize>
                 rest = before;
             }
             Plan::Node(left, right) => match &**left {
-                Plan::Leaf(place) if *place < count => rest = right,
+                Plan::Leaf(index) if *index < count => rest = right,
                 Plan::Leaf(_) => rest = left,
                 Plan::Node(..) => match waiting.push(&**left) {
                     Ok(()) => rest = right,

@@ -1,5 +1,5 @@
 //! Merging texts of topologies.
-ghost use Rattle.merging.specs.Merge.{all_places, bytes_of, lent_texts, IsMergeFault, IsMergeOf, IsUnionOf, MeansUnion};
+ghost use Rattle.merging.specs.Merge.{all_indexes, bytes_of, lent_texts, IsMergeFault, IsMergeOf, IsUnionOf, MeansUnion};
 ghost use Rattle.merging.specs.declared.fault.MergeFault.TheVariants.{BadPlan};
 ghost use Rattle.merging.specs.Leaves.{leaves, first_outside};
 ghost use Rattle.refine.specs.Merged.{IsTopologyOfUnion};
@@ -18,7 +18,7 @@ use topo::Topology;
 /// each once and by halves, whatever the plan's grouping, which makes no difference to the bytes.
 ///
 /// # Errors
-/// `BadPlan` with the first leaf from the left that is no place of the list; otherwise `Text` with
+/// `BadPlan` with the first leaf from the left that is no index of the list; otherwise `Text` with
 /// the first text of the list that is refused, and its first error; otherwise `OtherGrid` with the
 /// first text whose transform differs from that of text 0. All texts are read, also those that the
 /// plan does not name.
@@ -50,9 +50,9 @@ fn topology_of_union(shard: Option<Cut>) -> Option<Topology>
 /// `Text` with the first text of the list that is refused, and its first error; otherwise `OtherGrid` with the first text
 /// whose transform differs from that of text 0.
 pub fn merge_topologies(alloc: Global, texts: Vec<Vec<u8>>) -> Result<Option<Topology>, MergeFault>
-    ensures fault { IfErr result (IsMergeFault (bytes_of texts.items) (all_places texts.items)) }
-    ensures merged { IfOk result (λ o. MatchOption o (length texts.items ≡ 0) (IsTopologyOfUnion (bytes_of texts.items) (all_places texts.items))) }
-    ensures text { IfOk result (λ o. IfSome o (λ t. IsMergeOf (bytes_of texts.items) (all_places texts.items) (topology_text (seen_parts t)))) }
+    ensures fault { IfErr result (IsMergeFault (bytes_of texts.items) (all_indexes texts.items)) }
+    ensures merged { IfOk result (λ o. MatchOption o (length texts.items ≡ 0) (IsTopologyOfUnion (bytes_of texts.items) (all_indexes texts.items))) }
+    ensures text { IfOk result (λ o. IfSome o (λ t. IsMergeOf (bytes_of texts.items) (all_indexes texts.items) (topology_text (seen_parts t)))) }
 {
     Ok(topology_of_union(merge_all(alloc, texts)?))
 }
@@ -65,9 +65,9 @@ pub fn merge_borrowed_topologies(
     alloc: Global,
     texts: &[&[u8]],
 ) -> Result<Option<Topology>, MergeFault>
-    ensures fault { IfErr result (IsMergeFault (lent_texts texts.now) (all_places texts.now)) }
-    ensures merged { IfOk result (λ o. MatchOption o (length texts.now ≡ 0) (IsTopologyOfUnion (lent_texts texts.now) (all_places texts.now))) }
-    ensures text { IfOk result (λ o. IfSome o (λ t. IsMergeOf (lent_texts texts.now) (all_places texts.now) (topology_text (seen_parts t)))) }
+    ensures fault { IfErr result (IsMergeFault (lent_texts texts.now) (all_indexes texts.now)) }
+    ensures merged { IfOk result (λ o. MatchOption o (length texts.now ≡ 0) (IsTopologyOfUnion (lent_texts texts.now) (all_indexes texts.now))) }
+    ensures text { IfOk result (λ o. IfSome o (λ t. IsMergeOf (lent_texts texts.now) (all_indexes texts.now) (topology_text (seen_parts t)))) }
 {
     Ok(topology_of_union(merge_all_borrowed(alloc, texts)?))
 }

@@ -4,7 +4,7 @@ use faults::{FaultKind, OutOfMemory};
 use grid::Grid;
 use merging::{
     JoinFault, MergeFault, Plan, Shard, first_bad_leaf, merge_all, merge_all_borrowed, merge_as,
-    named_places,
+    named_indexes,
 };
 use refine::{Cut, Whole, merge_borrowed_topologies, merge_topologies};
 use refused_calls::calls;
@@ -164,8 +164,8 @@ fn merge_borrowed_to_topology(alloc: Global, _: &Pair<Cut>) -> Result<bool, OutO
     is_merged_topology(merge_borrowed_topologies(alloc, &texts))
 }
 
-fn name_places(alloc: Global, _: &Pair<Cut>) -> Result<bool, OutOfMemory> {
-    let named = named_places(alloc, &Plan::Leaf(1), 3)?;
+fn name_indexes(alloc: Global, _: &Pair<Cut>) -> Result<bool, OutOfMemory> {
+    let named = named_indexes(alloc, &Plan::Leaf(1), 3)?;
     Ok(named.as_slice() == [false, true, false].as_slice())
 }
 
@@ -204,7 +204,7 @@ fn settle_cuts(rt: &HostRuntime, tally: &mut Tally, pair: &Pair<Cut>) {
         "merging::merge_as of Cut" => merge_to_text::<Cut>,
         "refine::merge_topologies" => merge_to_topology,
         "refine::merge_borrowed_topologies" => merge_borrowed_to_topology,
-        "merging::named_places" => name_places,
+        "merging::named_indexes" => name_indexes,
         "merging::first_bad_leaf" => find_leaf,
     );
 }

@@ -18,8 +18,8 @@ impl Plan {
             return Ok(None);
         }
         let mut plan = Plan::Leaf(0);
-        for place in 1..count {
-            plan = node(alloc, plan, Plan::Leaf(place))?;
+        for index in 1..count {
+            plan = node(alloc, plan, Plan::Leaf(index))?;
         }
         Ok(Some(plan))
     }
@@ -33,8 +33,8 @@ impl Plan {
             return Ok(None);
         };
         let mut plan = Plan::Leaf(last);
-        for place in (0..last).rev() {
-            plan = node(alloc, Plan::Leaf(place), plan)?;
+        for index in (0..last).rev() {
+            plan = node(alloc, Plan::Leaf(index), plan)?;
         }
         Ok(Some(plan))
     }

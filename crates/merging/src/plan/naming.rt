@@ -1,5 +1,5 @@
 //! Which shards of a list a plan names.
-ghost use Rattle.merging.specs.Leaves.{leaves, HasPlaces};
+ghost use Rattle.merging.specs.Leaves.{leaves, HasIndexes};
 ghost use Rattle.merging.specs.Naming.{marked};
 ghost use Rattle.std.specs.Prelude.{◌≡◌, IfOk, false, replicate};
 
@@ -7,10 +7,10 @@ use crate::plan::Plan;
 use faults::OutOfMemory;
 use std::alloc::Global;
 
-/// A mark for each place of a list of `count`, set where the plan names the place.
+/// A mark for each index of a list of `count`, set where the plan names the index.
 // It goes through the plan from the right; what waits on the left stands on the heap.
-pub fn named_places(alloc: Global, plan: &Plan, count: usize) -> Result<Vec<bool>, OutOfMemory>
-    requires places { HasPlaces count plan.now }
+pub fn named_indexes(alloc: Global, plan: &Plan, count: usize) -> Result<Vec<bool>, OutOfMemory>
+    requires indexes { HasIndexes count plan.now }
     ensures { IfOk result (λ v. v.items ≡ marked (replicate count false) (leaves plan.now)) }
 {
     let mut marks = vec![in alloc; false; count]?;
@@ -18,8 +18,8 @@ pub fn named_places(alloc: Global, plan: &Plan, count: usize) -> Result<Vec<bool
     let mut rest = plan;
     loop {
         match rest {
-            Plan::Leaf(place) => {
-                marks[*place] = true;
+            Plan::Leaf(index) => {
+                marks[*index] = true;
                 let Some(before) = waiting.pop() else {
                     return Ok(marks);
                 };

@@ -1,6 +1,6 @@
 //! Running a plan over a list of shards, by a stack of what is left to do and one of the shards made so far.
 ghost use Rattle.grid.specs.Place.{Transform};
-ghost use Rattle.merging.specs.Leaves.{leaves, HasPlaces};
+ghost use Rattle.merging.specs.Leaves.{leaves, HasIndexes};
 ghost use Rattle.merging.specs.Plans.{first_other, off_grid, union_at, plan_fault};
 ghost use Rattle.merging.specs.Running.{LastJoined};
 ghost use Rattle.merging.specs.declared.fault.JoinFault.TheVariants as join_fault;
@@ -46,7 +46,7 @@ fn join_leaves<S: Shard>(
     grid: Grid,
     plan: &Plan,
 ) -> Result<S, JoinFault>
-    requires places { HasPlaces (length shards.now) plan.now }
+    requires indexes { HasIndexes (length shards.now) plan.now }
     requires one_grid { All (λ s. S.grid_of s ≡ grid) shards.now }
     ensures grid { IfOk result (λ s. S.grid_of s ≡ grid) }
     ensures map { IfOk result (λ s. S.map_of s ≡ union_at (map S.map_of shards.now) (leaves plan.now)) }
@@ -58,7 +58,7 @@ fn join_leaves<S: Shard>(
     while let Some(task) = tasks.pop() {
         match task {
             Task::Run(part) => match part {
-                Plan::Leaf(place) => made.push(shards[*place].copy(alloc)?)?,
+                Plan::Leaf(index) => made.push(shards[*index].copy(alloc)?)?,
                 Plan::Node(left, right) => {
                     tasks.push(Task::Join)?;
                     tasks.push(Task::Run(&**right))?;
@@ -95,7 +95,7 @@ fn first_other_grid<S: Shard>(shards: &[S]) -> Option<usize>
 /// Joins the shards that the plan names, in its grouping.
 ///
 /// # Errors
-/// `BadPlan` with the first leaf from the left that is no place of the list; otherwise `OtherGrid`
+/// `BadPlan` with the first leaf from the left that is no index of the list; otherwise `OtherGrid`
 /// with the number of the first shard of the list, named or not, whose grid differs from shard 0's.
 pub fn run_plan<S: Shard>(alloc: Global, shards: &[S], plan: &Plan) -> Result<S, PlanFault>
     ensures refused { (f : PlanFault) → plan_fault S.grid_of shards.now (leaves plan.now) ≡ Some f → result ≡ Err f }

@@ -12,8 +12,8 @@ returns-in_err-left-clause-memory g c = λ t h.
 
 pub rounds-init : goal.rounds-init
 rounds-init g c =
-    let sorted = c.sort_by_place.new.shards.items in
-    let moved = c.sort_by_place.ensures in
+    let sorted = c.sort_by_z_order.new.shards.items in
+    let moved = c.sort_by_z_order.ensures in
     record {
       some = omega (arith, length_permutation c.args.shards.items sorted moved, c.requires);
       union = moved_union g.S.Shard.grid_of g.S.Shard.map_of c.args.shards.items sorted moved;

@@ -4,14 +4,14 @@ use Rattle.merging.specs.Leaves.{leaves}
 use Rattle.merging.specs.Merge.{bytes_of, IsMergeFault, IsUnionOf}
 use Rattle.merging.specs.Naming.{AreMarksOf}
 use Rattle.topo_io.specs.Canon.{canon}
-use Rattle.merging.proofs.LeafLemmas.{has_places, some_leaves}
+use Rattle.merging.proofs.LeafLemmas.{has_indexes, some_leaves}
 use Rattle.merging.proofs.MarkLemmas.{marks_at}
 use Rattle.merging.proofs.MergeLemmas.{lent_bytes, lent_count}
 use Rattle.merging.proofs.ThroughTexts.{means_union}
 use Rattle.merging.proofs.merge.merge_as.Goals as goal
 
-pub named_places-requires : goal.named_places-requires
-named_places-requires g c = record { places = has_places _ _ (sym c.in_default.ensures.first) }
+pub named_indexes-requires : goal.named_indexes-requires
+named_indexes-requires g c = record { indexes = has_indexes _ _ (sym c.in_default.ensures.first) }
 
 pub merge_marked-requires : goal.merge_marked-requires
 merge_marked-requires g c =
@@ -42,7 +42,7 @@ returns-clause-merged g c =
     let bytes = lent_bytes (λ t. t.items) lent c.args.texts.now c.in_ok-borrow_texts.ensures in
     let union = subst (λ ts. IsUnionOf ts is grid (g.S.Shard.map_of c.in_ok-shard.shard)) bytes (c.in_ok-shard.ensures.merged is (subst (λ n. AreMarksOf n is c.deref.result.now) (sym same) are)) in
     record {
-      places = union.places;
+      indexes = union.indexes;
       grid = grid;
       maps = union.maps;
       meant = union.meant;

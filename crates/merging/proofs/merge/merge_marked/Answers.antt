@@ -13,9 +13,9 @@ read_marked-requires g c = let (is, some, are) = c.requires.marked in record { m
 pub returns-in-Some-clause-fault : goal.returns-in-Some-clause-fault
 returns-in-Some-clause-fault g c = λ is are.
     let texts = map g.T.AsSlice.items c.args.texts.items in
-    let places = ap (λ n. first_outside n is) (length_bytes g.T.AsSlice.items c.args.texts.items) ∙ are.places in
+    let indexes = ap (λ n. first_outside n is) (length_bytes g.T.AsSlice.items c.args.texts.items) ∙ are.indexes in
     let k = c.in_ok-grids.ensures.read in
-    grids_merge (λ m. m.grid) (λ m. m.layers) texts k.meanings c.in_ok-grids.grids.items is c.in-Some.number places k.read k.grids_of
+    grids_merge (λ m. m.grid) (λ m. m.layers) texts k.meanings c.in_ok-grids.grids.items is c.in-Some.number indexes k.read k.grids_of
     (ap (first_other (λ g. g)) (sym c.deref.ensures.value) ∙ sym c.in-Some.ensures)
 
 pub join_all-requires : goal.join_all-requires
@@ -38,13 +38,13 @@ returns-in-Ok-clause-merged g c = λ is are.
     let shards = c.in_ok-grids.shards.items in
     let k = c.in_ok-grids.ensures.read in
     let count = length_bytes g.T.AsSlice.items c.args.texts.items in
-    let places = ap (λ n. first_outside n is) count ∙ are.places in
+    let indexes = ap (λ n. first_outside n is) count ∙ are.indexes in
     let none = c.in_default.ensures ∙ ap (first_other (λ h. h)) c.deref.ensures.value in
     let (some_is, some, some_are) = c.requires.marked in
     let many = some_kept g.S.Shard.grid_of g.S.Shard.map_of texts marks grids shards k some_is some (subst (λ n. AreMarksOf n some_is marks) (sym count) some_are) in
     let (common, meant, on) = one_grid_kept g.S.Shard.grid_of g.S.Shard.map_of texts marks grids shards k none many in
     record {
-      places = places;
+      indexes = indexes;
       maps = map (λ m. m.layers) k.meanings;
       meant = read_meant (λ m. m.grid) (λ m. m.layers) grid texts k.meanings k.read (subst (λ h. All (λ m. m.grid ≡ h) k.meanings) (sym (c.in-Ok.ensures.grid common on)) meant);
       union = c.in-Ok.ensures.union ∙ kept_union g.S.Shard.grid_of g.S.Shard.map_of texts marks grids shards k is (subst (λ n. AreMarksOf n is marks) (sym count) are);

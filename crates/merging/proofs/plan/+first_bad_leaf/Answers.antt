@@ -5,35 +5,35 @@ use Rattle.std.specs.List.{flat_map}
 use Rattle.std.proofs.lemmas.Bool.{cond_below, cond_above}
 use Rattle.merging.specs.Leaves.{leaves, first_outside}
 use Rattle.merging.proofs.PlanSizes.{size}
-use Rattle.merging.proofs.LeafLemmas.{leaf_read, place_passed, leaf_told, right_told, flat_pop, sum_pop}
+use Rattle.merging.proofs.LeafLemmas.{leaf_read, index_passed, leaf_told, right_told, flat_pop, sum_pop}
 use Rattle.merging.proofs.plan.+first_bad_leaf.Goals as goal
-use Rattle.merging.proofs.plan.+first_bad_leaf.Goals.{then-place-count, else-place-count}
+use Rattle.merging.proofs.plan.+first_bad_leaf.Goals.{then-index-count, else-index-count}
 
 pub loop-rest-preserved-in-Leaf : goal.loop-rest-preserved-in-Leaf
 loop-rest-preserved-in-Leaf t c =
-    let is : c.if-place-count.found ≡ cond (nat_lt c.in-Leaf.place c.args.count) c.loop-rest.found (Some c.in-Leaf.place) =
-    elim c.if-place-count.branch [
-      | then-place-count w ↦ cond_above c.in-Leaf.place c.args.count c.loop-rest.found (Some c.in-Leaf.place) c.if-place-count.found w.if-place-count.true w.found-is
-      | else-place-count w ↦ w.found-is ∙ cond_below c.in-Leaf.place c.args.count c.loop-rest.found (Some c.in-Leaf.place) w.if-place-count.false
+    let is : c.if-index-count.found ≡ cond (nat_lt c.in-Leaf.index c.args.count) c.loop-rest.found (Some c.in-Leaf.index) =
+    elim c.if-index-count.branch [
+      | then-index-count w ↦ cond_above c.in-Leaf.index c.args.count c.loop-rest.found (Some c.in-Leaf.index) c.if-index-count.found w.if-index-count.true w.found-is
+      | else-index-count w ↦ w.found-is ∙ cond_below c.in-Leaf.index c.args.count c.loop-rest.found (Some c.in-Leaf.index) w.if-index-count.false
     ] in
-    let told = leaf_read c.args.count c.in-Leaf.place (flat_map (λ p. leaves p.now) c.loop-rest.waiting.items) (leaves c.loop-rest.rest.now) c.loop-rest.found c.if-place-count.found _ c.loop-rest.invariant.0 (ap leaves c.in-Leaf.is) is in
+    let told = leaf_read c.args.count c.in-Leaf.index (flat_map (λ p. leaves p.now) c.loop-rest.waiting.items) (leaves c.loop-rest.rest.now) c.loop-rest.found c.if-index-count.found _ c.loop-rest.invariant.0 (ap leaves c.in-Leaf.is) is in
     let sizes = sum_pop (λ p. size p.now) _ _ _ c.in-Some.ensures.items in (
-      subst (λ w. option_or (first_outside c.args.count w) c.if-place-count.found ≡ first_outside c.args.count (leaves c.args.plan.now))
+      subst (λ w. option_or (first_outside c.args.count w) c.if-index-count.found ≡ first_outside c.args.count (leaves c.args.plan.now))
           (flat_pop (λ p. leaves p.now) _ _ _ c.in-Some.ensures.items) told,
       omega (arith, c.loop-rest.invariant.1, sizes),
     )
 
-pub loop-rest-preserved-then-place-count-2 : goal.loop-rest-preserved-then-place-count-2
-loop-rest-preserved-then-place-count-2 t c = (
-  place_passed c.args.count c.in-Leaf-deref.place _ (leaves c.in-Node.left.value) (leaves c.in-Node.right.value) _ _ _ (rw c.in-Node.is at c.loop-rest.invariant.0)
-      (ap leaves (sym c.deref.ensures ∙ c.in-Leaf-deref.is)) (ap leaves c.deref-rest.ensures) c.if-place-count-2.true,
+pub loop-rest-preserved-then-index-count-2 : goal.loop-rest-preserved-then-index-count-2
+loop-rest-preserved-then-index-count-2 t c = (
+  index_passed c.args.count c.in-Leaf-deref.index _ (leaves c.in-Node.left.value) (leaves c.in-Node.right.value) _ _ _ (rw c.in-Node.is at c.loop-rest.invariant.0)
+      (ap leaves (sym c.deref.ensures ∙ c.in-Leaf-deref.is)) (ap leaves c.deref-rest.ensures) c.if-index-count-2.true,
   omega (arith, c.loop-rest.invariant.1, ap size c.in-Node.is, ap size c.deref-rest.ensures),
 )
 
 pub loop-rest-preserved-in-Leaf-2 : goal.loop-rest-preserved-in-Leaf-2
 loop-rest-preserved-in-Leaf-2 t c = (
-  leaf_told c.args.count c.in-Leaf-deref.place _ (leaves c.in-Node.left.value) (leaves c.in-Node.right.value) _ _ _ (rw c.in-Node.is at c.loop-rest.invariant.0)
-      (ap leaves (sym c.deref.ensures ∙ c.in-Leaf-deref.is)) (ap leaves c.deref-rest-in-Leaf-2.ensures) c.if-place-count-2.false,
+  leaf_told c.args.count c.in-Leaf-deref.index _ (leaves c.in-Node.left.value) (leaves c.in-Node.right.value) _ _ _ (rw c.in-Node.is at c.loop-rest.invariant.0)
+      (ap leaves (sym c.deref.ensures ∙ c.in-Leaf-deref.is)) (ap leaves c.deref-rest-in-Leaf-2.ensures) c.if-index-count-2.false,
   omega (arith, c.loop-rest.invariant.1, ap size c.in-Node.is, ap size c.deref-rest-in-Leaf-2.ensures),
 )
 

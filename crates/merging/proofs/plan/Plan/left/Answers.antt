@@ -4,4 +4,4 @@ use Rattle.merging.proofs.GroupingLemmas.{left_leaves}
 use Rattle.merging.proofs.plan.Plan.left.Goals as goal
 
 pub returns-clause-leaves : goal.returns-clause-leaves
-returns-clause-leaves c = let e : c.loop-place.place ≡ c.args.count = omega arith in left_leaves _ _ (subst (IsLeft c.loop-place.plan) e c.loop-place.invariant)
+returns-clause-leaves c = let e : c.loop-index.index ≡ c.args.count = omega arith in left_leaves _ _ (subst (IsLeft c.loop-index.plan) e c.loop-index.invariant)

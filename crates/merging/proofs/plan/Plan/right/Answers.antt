@@ -5,6 +5,6 @@ use Rattle.merging.proofs.plan.Plan.right.Goals as goal
 
 pub returns-clause-leaves : goal.returns-clause-leaves
 returns-clause-leaves c =
-    let e : c.loop-place.place ≡ 0 = omega arith in
-    let k : c.args.count - c.loop-place.place ≡ c.args.count = omega arith in
-    right_leaves _ _ _ c.loop-place.invariant ∙ ap₂ range_with_len e k
+    let e : c.loop-index.index ≡ 0 = omega arith in
+    let k : c.args.count - c.loop-index.index ≡ c.args.count = omega arith in
+    right_leaves _ _ _ c.loop-index.invariant ∙ ap₂ range_with_len e k

@@ -5,9 +5,9 @@ use Rattle.std.proofs.lemmas.List.Elements.{All-push, All-pop}
 use Rattle.std.specs.Prelude.{Some}
 use Rattle.merging.specs.declared.plan.Plan.TheVariants.{Leaf}
 use Rattle.merging.specs.declared.plan.running.Task.TheVariants.{Run, Join}
-use Rattle.merging.specs.Leaves.{leaves, HasPlaces}
+use Rattle.merging.specs.Leaves.{leaves, HasIndexes}
 use Rattle.merging.proofs.PlanLemmas.{union_at_one}
-use Rattle.merging.proofs.RunLemmas.{taken, leaf_place, leaf_made, parts_left, two_made, two_joined}
+use Rattle.merging.proofs.RunLemmas.{taken, leaf_index, leaf_made, parts_left, two_made, two_joined}
 use Rattle.merging.proofs.plan.running.join_leaves.Goals as goal
 
 pub loop-task-preserved-in_ok-push-in-Leaf : goal.loop-task-preserved-in_ok-push-in-Leaf
@@ -16,15 +16,15 @@ loop-task-preserved-in_ok-push-in-Leaf g c =
     let map_of = g.S.Shard.map_of in
     let r = c.in-Run.part in
     let left = c.pop.new.self.items in
-    let is_leaf : r.now ≡ Leaf c.in-Leaf.place = c.in-Leaf.is in
+    let is_leaf : r.now ≡ Leaf c.in-Leaf.index = c.in-Leaf.is in
     let is_run : c.in-Some.task ≡ Run r = c.in-Run.is in
     let next : c.loop-task.tasks.items ≡ left ++ (Run r ∷ []) = c.in-Some.ensures.items ∙ ap (λ t. left ++ (t ∷ [])) is_run in
     let todo = taken map_of shards c.loop-task.tasks.items left (Run r) (reverse c.loop-task.made.items) _ next c.loop-task.invariant.left in
-    let lt = leaf_place map_of shards r c.in-Leaf.place (reverse left) _ _ todo is_leaf in
-    let copied = c.in_ok-copy-in-Leaf.ensures.map ∙ union_at_one map_of shards c.in-Leaf.place c.index-shards-place.result lt c.index-shards-place.is in
-    let one_grid = c.in_ok-copy-in-Leaf.ensures.grid ∙ ap g.S.Shard.grid_of c.index-shards-place.is ∙ c.requires.one_grid c.in-Leaf.place c.index-shards-place.result lt in
+    let lt = leaf_index map_of shards r c.in-Leaf.index (reverse left) _ _ todo is_leaf in
+    let copied = c.in_ok-copy-in-Leaf.ensures.map ∙ union_at_one map_of shards c.in-Leaf.index c.index-shards-index.result lt c.index-shards-index.is in
+    let one_grid = c.in_ok-copy-in-Leaf.ensures.grid ∙ ap g.S.Shard.grid_of c.index-shards-index.is ∙ c.requires.one_grid c.in-Leaf.index c.index-shards-index.result lt in
     record {
-      left = leaf_made map_of shards r c.in-Leaf.place (reverse left) c.loop-task.made.items _ c.in_ok-copy-in-Leaf.field-0 _ todo is_leaf copied c.in_ok-push-in-Leaf.ensures.items;
+      left = leaf_made map_of shards r c.in-Leaf.index (reverse left) c.loop-task.made.items _ c.in_ok-copy-in-Leaf.field-0 _ todo is_leaf copied c.in_ok-push-in-Leaf.ensures.items;
       one_grid = rw c.in_ok-push-in-Leaf.ensures.items (All-push (λ s. g.S.Shard.grid_of s ≡ c.args.grid) c.loop-task.made.items c.in_ok-copy-in-Leaf.field-0 c.loop-task.invariant.one_grid one_grid);
     }
 
@@ -39,10 +39,10 @@ loop-task-preserved-in_ok-push-in-Node-3 g c =
     let todo = taken map_of shards c.loop-task.tasks.items left (Run r) (reverse c.loop-task.made.items) _ next c.loop-task.invariant.left in
     let parts : leaves r.now ≡ leaves c.deref-in-Node.result.now ++ leaves c.deref.result.now =
     ap leaves c.in-Node.is ∙ (λ i. leaves (sym c.deref-in-Node.ensures i) ++ leaves (sym c.deref.ensures i)) in
-    let places : HasPlaces (length shards) r.now → HasPlaces (length shards) c.deref-in-Node.result.now × HasPlaces (length shards) c.deref.result.now =
-    λ h. let both = subst (HasPlaces (length shards)) c.in-Node.is h in (subst (HasPlaces (length shards)) (sym c.deref-in-Node.ensures) both.0, subst (HasPlaces (length shards)) (sym c.deref.ensures) both.1) in
+    let indexes : HasIndexes (length shards) r.now → HasIndexes (length shards) c.deref-in-Node.result.now × HasIndexes (length shards) c.deref.result.now =
+    λ h. let both = subst (HasIndexes (length shards)) c.in-Node.is h in (subst (HasIndexes (length shards)) (sym c.deref-in-Node.ensures) both.0, subst (HasIndexes (length shards)) (sym c.deref.ensures) both.1) in
     record {
-      left = parts_left map_of shards r c.deref-in-Node.result c.deref.result left _ _ _ (reverse c.loop-task.made.items) _ todo parts places
+      left = parts_left map_of shards r c.deref-in-Node.result c.deref.result left _ _ _ (reverse c.loop-task.made.items) _ todo parts indexes
           c.in_ok-push-in-Node.ensures.items c.in_ok-push-in-Node-2.ensures.items c.in_ok-push-in-Node-3.ensures.items;
       one_grid = c.loop-task.invariant.one_grid;
     }

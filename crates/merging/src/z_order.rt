@@ -1,4 +1,4 @@
-//! The order of shards by their places, in which neighbours overlap most.
+//! The order of shards along a Z-order curve (Morton order), in which neighbours overlap most.
 ghost use Rattle.std.specs.Prelude.{IsPermutation};
 
 use crate::shard::Shard;
@@ -40,9 +40,9 @@ impl Cells {
     }
 }
 
-// How two cells stand on the curve that goes through the quarters of a square one after the other,
-// and in each of them through its quarters.
-fn along_curve(one: (u64, u64), other: (u64, u64)) -> Ordering {
+// The order of two cells on the Z-order curve, which goes through the quarters of a square one after the
+// other, and in each of them through its quarters.
+fn z_order(one: (u64, u64), other: (u64, u64)) -> Ordering {
     let across = one.0 ^ other.0;
     let up = one.1 ^ other.1;
     if up.leading_zeros() <= across.leading_zeros() {
@@ -52,13 +52,13 @@ fn along_curve(one: (u64, u64), other: (u64, u64)) -> Ordering {
     }
 }
 
-// Sorts shards by the places of their boxes, those without one first.
-pub(crate) fn sort_by_place<S: Shard>(shards: &mut Vec<S>)
+// Sorts shards by the cells of their boxes on a Z-order curve, those without a box first.
+pub(crate) fn sort_by_z_order<S: Shard>(shards: &mut Vec<S>)
     ensures { IsPermutation shards.old.items shards.new.items }
 {
     let cells = Cells::of(shards);
     shards.sort_unstable_by(|one, other| match (one.bbox(), other.bbox()) {
-        (Some(these), Some(those)) => along_curve(cells.cell(these), cells.cell(those)),
+        (Some(these), Some(those)) => z_order(cells.cell(these), cells.cell(those)),
         (these, those) => these.is_some().cmp(&those.is_some()),
     });
 }
