@@ -46,3 +46,4 @@ pub mod TurnedLists
 pub mod LeastUsed
 pub mod Backwards
 pub mod Paired
+pub mod ReplacedArcs
