@@ -5,7 +5,7 @@ use Rattle.theory.specs.ArcNumbers.{ArcRef, StitchTo}
 use Rattle.theory.specs.Refinement.{pieces_at}
 use Rattle.theory.proofs.Lists.{append_nil}
 use Rattle.normalize.specs.Pieces.{AreJoinedOf, ArePieces, AreSplit}
-use Rattle.normalize.proofs.Replaced.{at_some}
+use Rattle.chains.proofs.ReplacedArcs.{at_some}
 
 -- what stands at a place, and what is left from it on
 pub at_place : {A : Type 0} (n : ℕ) (l : List A) → n < length l → (x : A) × (slice_get l n ≡ Some x) × (drop n l ≡ x ∷ drop (n + 1) l)

@@ -1,6 +1,6 @@
 use Rattle.std.proofs.Common.{◌≡◌, ◌++◌, ◌∙◌, OnOk, ap, subst, slice_get}
 use Rattle.theory.specs.ArcNumbers.{ArcRef}
-use Rattle.normalize.proofs.Replaced.{none_used, used_by_code}
+use Rattle.chains.proofs.ReplacedArcs.{none_used, used_by_code}
 use Rattle.normalize.proofs.pieces.add_used.Goals as goal
 
 pub returns-in-Some : goal.returns-in-Some

@@ -1,7 +1,7 @@
 use Rattle.std.proofs.Common.{◌≡◌, ◌++◌, ◌∙◌, OnOk, ap, subst, slice_get}
 use Rattle.theory.specs.ArcNumbers.{ArcRef}
 use Rattle.split_arcs.specs.Parts.{of_side}
-use Rattle.split_arcs.proofs.Replaced.{none_used, used_by_code}
+use Rattle.chains.proofs.ReplacedArcs.{none_used, used_by_code}
 use Rattle.split_arcs.proofs.split_lists.Recut.add_used.Goals as goal
 
 pub returns-in-Some : goal.returns-in-Some
