@@ -85,12 +85,12 @@ not_there [] i p h e = absurd cc
 not_there (q ∷ ms) zero p h e = absurd (omega (arith, h))
 not_there (q ∷ ms) (suc i) p h e = not_there ms i p (omega (arith, h)) e
 
--- the filter may be asked about the features at the places of the span
+-- the filter may be asked about the features at the indexes of the span
 pub may_ask : (May : Feature → Feature → Type 0) (ms : List Member) (s : Span) (x y : Member) →
     s.least < length ms → x ≡ get_or ms s.least x → s.greatest < length ms → y ≡ get_or ms s.greatest y → MayAskAmong May ms → May x.feature y.feature
 may_ask May ms s x y h e k f may = may x y (get_has ms s.least x (item_at ms s.least x h e)) (get_has ms s.greatest y (item_at ms s.greatest y k f))
 
--- the filter was asked about the features at the places of the span
+-- the filter was asked about the features at the indexes of the span
 pub asked : (Says : Feature → Feature → Bool → Type 0) (ms : List Member) (s : Span) (x y : Member) (b : Bool) →
     s.least < length ms → x ≡ get_or ms s.least x → s.greatest < length ms → y ≡ get_or ms s.greatest y → Says x.feature y.feature b → Answered Says ms s b
 asked Says ms s x y b h e k f says = λ p q at there.

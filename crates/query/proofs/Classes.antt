@@ -18,7 +18,7 @@ use Rattle.query.specs.declared.uses.Use.{Use}
 use Rattle.query.proofs.Meshing.{get_map}
 use Rattle.query.proofs.UsesOfBodies.{body_from, has_body}
 
--- the values of the first n places have classes, and the classes of their texts are known
+-- the values of the first n indexes have classes, and the classes of their texts are known
 pub record Classed (vs : List (Option (List ℕ))) (n : ℕ) (at : List ℕ → Option ℕ) (cs : List ℕ) : Type 0 where
   pub many : length cs ≡ n
   pub found : (t : List ℕ) (p : ℕ) → at t ≡ Some p → (p < n) × (slice_get vs p ≡ Some (Some t))
@@ -44,14 +44,14 @@ module _ (vs : List (Option (List ℕ))) (n : ℕ) (at after : List ℕ → Opti
     none = λ i d h k. elim (get_behind cs c d i (sym (ap (λ l. slice_get l i) made) ∙ k)) [
       | inl j ↦ old.none i d h j
       | inr j ↦ (
-          let place : i ≡ n = j.0 ∙ old.many in
-          j.1 ∙ none (one_of (slice_get vs n) v None here (ap (slice_get vs) (sym place) ∙ h)) ∙ sym place)
+          let index : i ≡ n = j.0 ∙ old.many in
+          j.1 ∙ none (one_of (slice_get vs n) v None here (ap (slice_get vs) (sym index) ∙ h)) ∙ sym index)
     ];
     some = λ i d t h k. elim (get_behind cs c d i (sym (ap (λ l. slice_get l i) made) ∙ k)) [
       | inl j ↦ kept t d (old.some i d t h j)
       | inr j ↦ (
-          let place : i ≡ n = j.0 ∙ old.many in
-          some t (one_of (slice_get vs n) v (Some t) here (ap (slice_get vs) (sym place) ∙ h)) ∙ ap Some (sym j.1))
+          let index : i ≡ n = j.0 ∙ old.many in
+          some t (one_of (slice_get vs n) v (Some t) here (ap (slice_get vs) (sym index) ∙ h)) ∙ ap Some (sym j.1))
     ];
   }
 
@@ -78,8 +78,8 @@ module _ (vs : List (Option (List ℕ))) (n : ℕ) (at after : List ℕ → Opti
               at_test : (b : Bool) → bytes_eq s t ≡ b → cond b (Some n) (at t) ≡ Some q → (q < n + 1) × (slice_get vs q ≡ Some (Some t))
               at_test true f g =
                   let same : s ≡ t = (bytes_eq-Decides s t).0 f in
-                  let place : n ≡ q = cc in
-                  (omega (arith, place), ap (slice_get vs) (sym place) ∙ here ∙ ap (λ w. Some (Some w)) same)
+                  let index : n ≡ q = cc in
+                  (omega (arith, index), ap (slice_get vs) (sym index) ∙ here ∙ ap (λ w. Some (Some w)) same)
               at_test false f g = below t q g
 
           kept : (t : List ℕ) (q : ℕ) → at t ≡ Some q → after t ≡ Some q
@@ -101,12 +101,12 @@ are_classes vs n at cs all k = record { each = k.many ∙ all; exact = exact }
         to None None a b q = inl (sym (k.none i c a e) ∙ q ∙ k.none j d b f)
         to None (Some t) a b q =
             let at_d = (k.found t d (k.some j d t b f)).1 in
-            let place : d ≡ i = sym q ∙ k.none i c a e in
-            absurd (let g : Some (Some t) ≡ Some None = sym at_d ∙ ap (slice_get vs) place ∙ a in cc)
+            let index : d ≡ i = sym q ∙ k.none i c a e in
+            absurd (let g : Some (Some t) ≡ Some None = sym at_d ∙ ap (slice_get vs) index ∙ a in cc)
         to (Some t) None a b q =
             let at_c = (k.found t c (k.some i c t a e)).1 in
-            let place : c ≡ j = q ∙ k.none j d b f in
-            absurd (let g : Some (Some t) ≡ Some None = sym at_c ∙ ap (slice_get vs) place ∙ b in cc)
+            let index : c ≡ j = q ∙ k.none j d b f in
+            absurd (let g : Some (Some t) ≡ Some None = sym at_c ∙ ap (slice_get vs) index ∙ b in cc)
         to (Some t) (Some s) a b q =
             let at_c = (k.found t c (k.some i c t a e)).1 in
             let at_d = (k.found s d (k.some j d s b f)).1 in
@@ -121,7 +121,7 @@ are_classes vs n at cs all k = record { each = k.many ∙ all; exact = exact }
 -- ---- the uses of arcs by class
 
 pub classes_from : (cs : List ℕ) (gs : List Geom) (u : Use) → Has u (class_uses cs gs) →
-    (n : ℕ) × (g : Geom) × (slice_get cs n ≡ Some u.place) × (slice_get gs n ≡ Some g) × UsesArc u.arc (body_of g.body)
+    (n : ℕ) × (g : Geom) × (slice_get cs n ≡ Some u.index) × (slice_get gs n ≡ Some g) × UsesArc u.arc (body_of g.body)
 classes_from [] gs u h = absurd h
 classes_from (c ∷ cs) [] u h = absurd h
 classes_from (c ∷ cs) (g ∷ gs) u h = elim (Has-append u (body_uses c (body_of g.body)) (class_uses cs gs) h) [
@@ -141,7 +141,7 @@ has_classes (d ∷ cs) (b ∷ gs) zero k c g e f h =
 has_classes (d ∷ cs) (b ∷ gs) (suc n) k c g e f h =
     Has-append_right (use_at k c) (body_uses d (body_of b.body)) (class_uses cs gs) (has_classes cs gs n k c g e f h)
 
--- the value at a place
+-- the value at an index
 pub value_here : (name : List ℕ) (gs : List (Bor Geom)) (n : ℕ) (g : Bor Geom) → n < length gs → g ≡ get_or gs n g →
     slice_get (values_of name (lent gs)) n ≡ Some (value_text name g.now.props)
 value_here name gs n g m f = get_map (λ h. value_text name h.props) (lent gs) n g.now (get_map (λ h. h.now) gs n g (item_at gs n g m f))

@@ -46,7 +46,7 @@ partner_back R (x ∷ xs) [] p y h = absurd h
 partner_back R (x ∷ xs) (z ∷ ys) p y (inl e) = (x, inl refl, subst (λ w. R x w) (sym e) p.0)
 partner_back R (x ∷ xs) (z ∷ ys) p y (inr h) = let t = partner_back R xs ys p.1 y h in (t.0, inr t.1, t.2)
 
--- place by place
+-- index by index
 pub pair_at : {A B C D : Type 0} (R : C → D → Type 0) (a : A → C) (b : B → D) (xs : List A) (ys : List B) → Pairwise R (map_list a xs) (map_list b ys) →
     (i : ℕ) (y : B) → slice_get ys i ≡ Some y → (x : A) × (slice_get xs i ≡ Some x) × R (a x) (b y)
 pair_at R a b xs [] p i y e = absurd cc

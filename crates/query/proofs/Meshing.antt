@@ -91,8 +91,8 @@ module _ (m : Layers) (t : TopologyParts) (of : IsOf m t) (scope : Option (List 
   use_from k i h =
       let (n, b, at, is, used) = bodies_from bodies 0 (use_at k i) h in
       let (p, there, same) = map_get (λ p. body_of p.body.now) ms n b at in
-      let place : i ≡ n = omega (arith, is) in
-      (p, subst (λ j. slice_get ms j ≡ Some p) (sym place) there, subst (λ w. UsesArc k w) same used)
+      let index : i ≡ n = omega (arith, is) in
+      (p, subst (λ j. slice_get ms j ≡ Some p) (sym index) there, subst (λ w. UsesArc k w) same used)
 
   use_to : (k i : ℕ) (p : Member) → slice_get ms i ≡ Some p → UsesArc k (body_of p.body.now) → Has (use_at k i) uses
   use_to k i p at used =

@@ -23,7 +23,7 @@ use Rattle.query.specs.Uses.{bodies_uses, use_at, use_cmp}
 use Rattle.query.specs.declared.uses.Use.{Use}
 use Rattle.query.specs.declared.questions.neighbors.IndexPair.{IndexPair}
 use Rattle.query.proofs.LayerFeatures.{pair_at, pair_back, pair_length, named_features, layer_form, features_share, OfFeature, OfFeatures}
-use Rattle.query.proofs.Others.{list_of_place, others_at, lists_length, other_paired, paired_other, others_increase}
+use Rattle.query.proofs.Others.{list_of_index, others_at, lists_length, other_paired, paired_other, others_increase}
 use Rattle.query.proofs.Pairing.{among_from, has_among, paired}
 use Rattle.query.proofs.UsesOfBodies.{bodies_from, has_bodies}
 
@@ -53,22 +53,22 @@ module _ (m : Layers) (t : TopologyParts) (of : IsOf m t) (name : List ℕ) (gs 
   pub geometry_at : (i : ℕ) (f : Feature) → slice_get features i ≡ Some f → (g : Geom) × (slice_get gs i ≡ Some g) × OfOne f g
   geometry_at i f e = pair_back (IsGeometryOf position_cmp (JunctionOf (geometry_of m)) t.arcs.arcs) seen_by.item_of item_of features gs all i f e
 
-  -- the lists of places are as many as the features
+  -- the lists of indexes are as many as the features
   pub lists_count : (ps : List IndexPair) (lists : List (List ℕ)) → lists ≡ with_others (replicate (length gs) []) ps → length lists ≡ length features
   lists_count ps lists is =
       ap length is
       ∙ lists_length (length gs) ps
       ∙ sym (pair_length (IsGeometryOf position_cmp (JunctionOf (geometry_of m)) t.arcs.arcs) seen_by.item_of item_of features gs all)
 
-  -- the feature at the place of a use uses its arc
+  -- the feature at the index of a use uses its arc
   user : (u : Use) → Has u (bodies_uses 0 (map (λ g. body_of g.body) gs)) →
-      (f : Feature) × (g : Geom) × (slice_get features u.place ≡ Some f) × OfOne f g × UsesArc u.arc (body_of g.body)
+      (f : Feature) × (g : Geom) × (slice_get features u.index ≡ Some f) × OfOne f g × UsesArc u.arc (body_of g.body)
   user u h =
       let (n, b, at, is, uses) = bodies_from (map (λ g. body_of g.body) gs) 0 u h in
       let (g, there, same) = body_at gs n b at in
       let (f, here, o) = feature_at n g there in
-      let place : u.place ≡ n = omega (arith, is) in
-      (f, g, subst (λ k. slice_get features k ≡ Some f) (sym place) here, o, subst (λ w. UsesArc u.arc w) same uses)
+      let index : u.index ≡ n = omega (arith, is) in
+      (f, g, subst (λ k. slice_get features k ≡ Some f) (sym index) here, o, subst (λ w. UsesArc u.arc w) same uses)
 
   used_at : (i k : ℕ) (g : Geom) → slice_get gs i ≡ Some g → UsesArc k (body_of g.body) → Has (use_at k i) (bodies_uses 0 (map (λ g. body_of g.body) gs))
   used_at i k g at uses =
@@ -85,7 +85,7 @@ module _ (m : Layers) (t : TopologyParts) (of : IsOf m t) (name : List ℕ) (gs 
         let (f, g, at, o, uses) = user u (used.only u hu) in
         let (f', g', at', o', uses') = user v (used.only v hv) in
         let contained = (named_features m t of name gs under).0 in
-        let key = features_share m t of f f' g g' (layer_form m name contained f (get_has features u.place f at)) (layer_form m name contained f' (get_has features v.place f' at')) o o' in
+        let key = features_share m t of f f' g g' (layer_form m name contained f (get_has features u.index f at)) (layer_form m name contained f' (get_has features v.index f' at')) o o' in
         record {
           apart = λ z. n (pi ∙ z ∙ sym pj);
           one = f;
@@ -119,4 +119,4 @@ module _ (m : Layers) (t : TopologyParts) (of : IsOf m t) (name : List ℕ) (gs 
     }
       where
         held : (i : ℕ) (js : List ℕ) → slice_get lists i ≡ Some js → js ≡ others_at i ps
-        held = list_of_place (length gs) ps lists is
+        held = list_of_index (length gs) ps lists is

@@ -22,7 +22,7 @@ use Rattle.query.specs.Pairs.{ArePairsOf, are_unlike, pair_cmp, with_others}
 use Rattle.query.specs.declared.questions.neighbors.IndexPair.{IndexPair}
 use Rattle.query.proofs.Meshing.{get_less, get_map}
 use Rattle.query.proofs.Neighboring.{features, from_neighbors, geometry_at, lists_count, neighbors_from, OfOne}
-use Rattle.query.proofs.Others.{list_of_place, other_paired, others_at, others_increase, paired_other}
+use Rattle.query.proofs.Others.{list_of_index, other_paired, others_at, others_increase, paired_other}
 use Rattle.query.proofs.Using.{told_apart}
 
 -- what a test keeps of pairs in order
@@ -79,9 +79,9 @@ number_at (x ∷ l) zero h = refl
 number_at (x ∷ l) (suc n) h = number_at l n (omega (arith, h))
 
 module _ (m : Layers) (t : TopologyParts) (of : IsOf m t) (name : List ℕ) (gs : List Geom) (under : IsOfLayerNamed t.layers name gs) where
-  -- a feature has one place in its layer
-  one_place : (i j : ℕ) (f : Feature) → slice_get (features m t of name gs under) i ≡ Some f → slice_get (features m t of name gs under) j ≡ Some f → i ≡ j
-  one_place i j f =
+  -- a feature has one index in its layer
+  one_index : (i j : ℕ) (f : Feature) → slice_get (features m t of name gs under) i ≡ Some f → slice_get (features m t of name gs under) j ≡ Some f → i ≡ j
+  one_index i j f =
       get_once feature_cmp (less_self feature_cmp feature_cmp_total same_feature) (features m t of name gs under) i j f
       (keys_ascend feature_cmp (map.entries (features_at m name)) (map.entries_sorted (features_at m name)))
 
@@ -96,7 +96,7 @@ module _ (m : Layers) (t : TopologyParts) (of : IsOf m t) (name : List ℕ) (gs 
     its_value : (f : Feature) (g : Geom) → OfOne m t of name gs under f g → value_text property g.props ≡ value_text property f.props
     its_value f g h = ap (λ w. value_text property w.1) (sym h.info)
 
-    -- whether features at two places differ is told by their classes
+    -- whether features at two indexes differ is told by their classes
     differ : (i j : ℕ) (a b : Feature) → slice_get (features m t of name gs under) i ≡ Some a → slice_get (features m t of name gs under) j ≡ Some b → ¬ (i ≡ j) →
         IsTrue (not (get_or cs i 0 == get_or cs j 0)) ↔ Differ property a b
     differ i j a b at at' apart =
@@ -106,7 +106,7 @@ module _ (m : Layers) (t : TopologyParts) (of : IsOf m t) (name : List ℕ) (gs 
         (classed.exact i j (get_or cs i 0) (get_or cs j 0) (value_text property g.props) (value_text property h.props)
         (value_at i g here) (value_at j h there) (class_at i g here) (class_at j h there)) in (
           (λ e. record {
-            apart = λ q. apart (one_place i j a at (at' ∙ ap Some (sym q)));
+            apart = λ q. apart (one_index i j a at (at' ∙ ap Some (sym q)));
             unlike = λ o. told.0 e (inr (o.0, its_value a g of_a ∙ o.1, its_value b h of_b ∙ o.2));
           }),
           (λ d. told.1 (λ p. elim p [
@@ -116,7 +116,7 @@ module _ (m : Layers) (t : TopologyParts) (of : IsOf m t) (name : List ℕ) (gs 
         )
 
     module _ (ps kept : List IndexPair) (pairs : ArePairsOf gs ps) (is : kept ≡ filter (are_unlike cs) ps) where
-      test_at : (i j : ℕ) (p : IndexPair) → p.place ≡ i → p.other ≡ j → are_unlike cs p ≡ not (get_or cs i 0 == get_or cs j 0)
+      test_at : (i j : ℕ) (p : IndexPair) → p.index ≡ i → p.other ≡ j → are_unlike cs p ≡ not (get_or cs i 0 == get_or cs j 0)
       test_at i j p a b = λ k. not (get_or cs (a k) 0 == get_or cs (b k) 0)
 
       by_from : (i j : ℕ) → Has j (others_at i kept) → AreNeighborsBy property (features m t of name gs under) i j
@@ -140,15 +140,15 @@ module _ (m : Layers) (t : TopologyParts) (of : IsOf m t) (name : List ℕ) (gs 
           ListsNeighborsBy property (features m t of name gs under) lists
       lists_neighbors_by lists made = record {
         each = lists_count m t of name gs under kept lists made;
-        ascend = λ i js e. subst IsStrictlyIncreasing (sym (place i js e)) (others_increase i kept rise);
+        ascend = λ i js e. subst IsStrictlyIncreasing (sym (index i js e)) (others_increase i kept rise);
         exact = λ i js e j. (
-          (λ h. by_from i j (subst (λ w. Has j w) (place i js e) h)),
-          (λ r. subst (λ w. Has j w) (sym (place i js e)) (from_by i j r)),
+          (λ h. by_from i j (subst (λ w. Has j w) (index i js e) h)),
+          (λ r. subst (λ w. Has j w) (sym (index i js e)) (from_by i j r)),
         );
       }
         where
-          place : (i : ℕ) (js : List ℕ) → slice_get lists i ≡ Some js → js ≡ others_at i kept
-          place = list_of_place (length gs) kept lists made
+          index : (i : ℕ) (js : List ℕ) → slice_get lists i ≡ Some js → js ≡ others_at i kept
+          index = list_of_index (length gs) kept lists made
 
           rise : Ascends pair_cmp kept
           rise = subst (Ascends pair_cmp) (sym is) (kept_ascend (are_unlike cs) ps pairs.paired.ascends)

@@ -26,10 +26,10 @@ use Rattle.query.specs.Spans.{span_cmp}
 use Rattle.query.proofs.SortedOnce.{sorted_once_by}
 
 pub use_total : IsTotalOrder use_cmp
-use_total = then_total (on_total (λ (u : Use). u.arc) nat_cmp_total) (on_total (λ (u : Use). u.place) nat_cmp_total)
+use_total = then_total (on_total (λ (u : Use). u.arc) nat_cmp_total) (on_total (λ (u : Use). u.index) nat_cmp_total)
 
 pub pair_total : IsTotalOrder pair_cmp
-pair_total = then_total (on_total (λ (p : IndexPair). p.place) nat_cmp_total) (on_total (λ (p : IndexPair). p.other) nat_cmp_total)
+pair_total = then_total (on_total (λ (p : IndexPair). p.index) nat_cmp_total) (on_total (λ (p : IndexPair). p.other) nat_cmp_total)
 
 -- two pairs of numbers that tie are the same
 both_same : (a b c d : ℕ) → ordering_then (nat_cmp a b) (nat_cmp c d) ≡ Equal → (a ≡ b) × (c ≡ d)
@@ -42,11 +42,11 @@ span_same s t e =
 
 pub use_same : IsAntisymmetric use_cmp
 use_same u v e =
-    let h = both_same u.arc v.arc u.place v.place e in λ i. record { arc = h.0 i; place = h.1 i }
+    let h = both_same u.arc v.arc u.index v.index e in λ i. record { arc = h.0 i; index = h.1 i }
 
 pub pair_same : IsAntisymmetric pair_cmp
 pair_same p q e =
-    let h = both_same p.place q.place p.other q.other e in λ i. record { place = h.0 i; other = h.1 i }
+    let h = both_same p.index q.index p.other q.other e in λ i. record { index = h.0 i; other = h.1 i }
 
 -- the derived tests are those of the orders
 pub use_ties : (u v : Use) → use_eq.eq-value.it u v ≡ eq_by_cmp use_cmp u v
@@ -73,16 +73,16 @@ second_less a b c d f e = go (nat_cmp a b) (ranks a b) (nat_cmp c d) (ranks c d)
     go Equal h Greater k q = cc
     go Greater h s k q = absurd (omega (arith, h, f))
 
--- arcs don't fall along uses in order, and places rise along the uses of one arc
+-- arcs don't fall along uses in order, and indexes rise along the uses of one arc
 pub arcs_rise : (u v : Use) → use_cmp u v ≡ Less → u.arc ≤ v.arc
-arcs_rise u v e = first_most u.arc v.arc (nat_cmp u.place v.place) e
+arcs_rise u v e = first_most u.arc v.arc (nat_cmp u.index v.index) e
 
-pub places_rise : (u v : Use) → u.arc ≡ v.arc → use_cmp u v ≡ Less → u.place < v.place
-places_rise u v f e = second_less u.arc v.arc u.place v.place f e
+pub indexes_rise : (u v : Use) → u.arc ≡ v.arc → use_cmp u v ≡ Less → u.index < v.index
+indexes_rise u v f e = second_less u.arc v.arc u.index v.index f e
 
--- the other places rise along the pairs of one place
-pub others_rise : (p q : IndexPair) → p.place ≡ q.place → pair_cmp p q ≡ Less → p.other < q.other
-others_rise p q f e = second_less p.place q.place p.other q.other f e
+-- the other indexes rise along the pairs of one index
+pub others_rise : (p q : IndexPair) → p.index ≡ q.index → pair_cmp p q ≡ Less → p.other < q.other
+others_rise p q f e = second_less p.index q.index p.other q.other f e
 
 geometry_order_same : IsAntisymmetric geometry_order.cmp-value.it
 geometry_order_same g h e = geometry_same g h (matches_eq-law g h ∙ ap is_eq e)

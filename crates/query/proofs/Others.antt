@@ -1,4 +1,4 @@
--- The lists of the other places, and what stands in them.
+-- The lists of the other indexes, and what stands in them.
 use Rattle.std.proofs.Common.{◌≡◌, ◌<◌, ◌+◌, ℕ, zero, suc, Bool, true, false, cond, ◌==◌, List, [], ◌∷◌, ◌++◌, length, get_or, set, map, replicate, inl, inr, refl, sym, ap, ◌∙◌, subst, Some, slice_get, arith, append_assoc, append-nil}
 use Rattle.std.specs.Cmp.{unsigned_Decides}
 use Rattle.std.specs.List.Sorted.{IsStrictlyIncreasing}
@@ -15,17 +15,17 @@ get_map f [] i d e h = absurd (omega arith)
 get_map f (l ∷ ls) zero d e h = refl
 get_map f (l ∷ ls) (suc i) d e h = get_map f ls i d e (omega (arith, h))
 
--- a number at the end of the list of a place
+-- a number at the end of the list of an index
 pub put_other : {A : Type 0} (f : A → List ℕ) (ls : List A) (i x : ℕ) (old new : A) → i < length ls → old ≡ get_or ls i old → f new ≡ f old ++ (x ∷ []) →
     map f (set ls i new) ≡ set (map f ls) i (get_or (map f ls) i [] ++ (x ∷ []))
 put_other f ls i x old new h e n =
     map-set f ls i new
     ∙ ap (set (map f ls) i) (n ∙ ap (λ l. l ++ (x ∷ [])) (ap f e ∙ sym (get_map f ls i old [] h)))
 
--- the other places of those pairs that have the place
+-- the other indexes of those pairs that have the index
 abbrev pub others_at : ℕ → List IndexPair → List ℕ
 others_at i [] = []
-others_at i (p ∷ ps) = cond (p.place == i) (p.other ∷ others_at i ps) (others_at i ps)
+others_at i (p ∷ ps) = cond (p.index == i) (p.other ∷ others_at i ps) (others_at i ps)
 
 told : (a b : ℕ) (t : Bool) → (a == b) ≡ t → t ≡ true → a ≡ b
 told a b t e h = (unsigned_Decides a b).0 (e ∙ h)
@@ -35,25 +35,25 @@ untold a b t e h = λ k. let p : true ≡ false = sym ((unsigned_Decides a b).1 
 
 with_length : (ls : List (List ℕ)) (ps : List IndexPair) → length (with_others ls ps) ≡ length ls
 with_length ls [] = refl
-with_length ls (p ∷ ps) = with_length (with_other ls p) ps ∙ length-set ls p.place (get_or ls p.place [] ++ (p.other ∷ []))
+with_length ls (p ∷ ps) = with_length (with_other ls p) ps ∙ length-set ls p.index (get_or ls p.index [] ++ (p.other ∷ []))
 
 with_at : (ls : List (List ℕ)) (ps : List IndexPair) (i : ℕ) → i < length ls → get_or (with_others ls ps) i [] ≡ get_or ls i [] ++ others_at i ps
 with_at ls [] i h = sym (append-nil _)
 with_at ls (p ∷ ps) i h =
-    let n = length-set ls p.place (get_or ls p.place [] ++ (p.other ∷ [])) in
-    with_at (with_other ls p) ps i (subst (λ k. i < k) (sym n) h) ∙ go (p.place == i) refl
+    let n = length-set ls p.index (get_or ls p.index [] ++ (p.other ∷ [])) in
+    with_at (with_other ls p) ps i (subst (λ k. i < k) (sym n) h) ∙ go (p.index == i) refl
   where
-    go : (t : Bool) → (p.place == i) ≡ t →
+    go : (t : Bool) → (p.index == i) ≡ t →
         get_or (with_other ls p) i [] ++ others_at i ps ≡ get_or ls i [] ++ cond t (p.other ∷ others_at i ps) (others_at i ps)
     go true e =
-        let q : p.place ≡ i = told p.place i true e refl in
+        let q : p.index ≡ i = told p.index i true e refl in
         ap (λ l. l ++ others_at i ps)
         (subst (λ k. get_or (set ls k (get_or ls k [] ++ (p.other ∷ []))) i [] ≡ get_or ls i [] ++ (p.other ∷ [])) (sym q)
         (get_or-set_same ls i (get_or ls i [] ++ (p.other ∷ [])) [] h))
         ∙ append_assoc (get_or ls i []) (p.other ∷ []) (others_at i ps)
     go false e =
         ap (λ l. l ++ others_at i ps)
-        (get_or-set_other ls p.place i (get_or ls p.place [] ++ (p.other ∷ [])) [] (λ k. untold p.place i false e refl (sym k)))
+        (get_or-set_other ls p.index i (get_or ls p.index [] ++ (p.other ∷ [])) [] (λ k. untold p.index i false e refl (sym k)))
 
 -- what the lists hold in the end
 pub lists_hold : (n : ℕ) (ps : List IndexPair) (i : ℕ) → i < n → get_or (with_others (replicate n []) ps) i [] ≡ others_at i ps
@@ -76,35 +76,35 @@ get_there [] i l e = absurd cc
 get_there (k ∷ ls) zero l e = let same : k ≡ l = cc in (omega arith, same)
 get_there (k ∷ ls) (suc i) l e = let t = get_there ls i l e in (omega (arith, t.0), t.1)
 
--- the list of a place
-pub list_of_place : (n : ℕ) (ps : List IndexPair) (lists : List (List ℕ)) → lists ≡ with_others (replicate n []) ps →
+-- the list of an index
+pub list_of_index : (n : ℕ) (ps : List IndexPair) (lists : List (List ℕ)) → lists ≡ with_others (replicate n []) ps →
     (i : ℕ) (js : List ℕ) → slice_get lists i ≡ Some js → js ≡ others_at i ps
-list_of_place n ps lists is i js e =
+list_of_index n ps lists is i js e =
     let s = get_there lists i js e in
     let count : length lists ≡ n = ap length is ∙ lists_length n ps in
     sym s.1 ∙ ap (λ w. get_or w i []) is ∙ lists_hold n ps i (subst (λ k. i < k) count s.0)
 
-pub other_paired : (i j : ℕ) (ps : List IndexPair) → Has j (others_at i ps) → (p : IndexPair) × Has p ps × (p.place ≡ i) × (p.other ≡ j)
+pub other_paired : (i j : ℕ) (ps : List IndexPair) → Has j (others_at i ps) → (p : IndexPair) × Has p ps × (p.index ≡ i) × (p.other ≡ j)
 other_paired i j [] h = absurd h
-other_paired i j (p ∷ ps) h = go (p.place == i) refl h (λ k. other_paired i j ps k)
+other_paired i j (p ∷ ps) h = go (p.index == i) refl h (λ k. other_paired i j ps k)
   where
-    later : ((q : IndexPair) × Has q ps × (q.place ≡ i) × (q.other ≡ j)) → (q : IndexPair) × Has q (p ∷ ps) × (q.place ≡ i) × (q.other ≡ j)
+    later : ((q : IndexPair) × Has q ps × (q.index ≡ i) × (q.other ≡ j)) → (q : IndexPair) × Has q (p ∷ ps) × (q.index ≡ i) × (q.other ≡ j)
     later t = (t.0, inr t.1, t.2, t.3)
 
-    go : (t : Bool) → (p.place == i) ≡ t → Has j (cond t (p.other ∷ others_at i ps) (others_at i ps)) →
-        (Has j (others_at i ps) → (q : IndexPair) × Has q ps × (q.place ≡ i) × (q.other ≡ j)) → (q : IndexPair) × Has q (p ∷ ps) × (q.place ≡ i) × (q.other ≡ j)
-    go true e (inl k) f = (p, inl refl, told p.place i true e refl, sym k)
+    go : (t : Bool) → (p.index == i) ≡ t → Has j (cond t (p.other ∷ others_at i ps) (others_at i ps)) →
+        (Has j (others_at i ps) → (q : IndexPair) × Has q ps × (q.index ≡ i) × (q.other ≡ j)) → (q : IndexPair) × Has q (p ∷ ps) × (q.index ≡ i) × (q.other ≡ j)
+    go true e (inl k) f = (p, inl refl, told p.index i true e refl, sym k)
     go true e (inr k) f = later (f k)
     go false e k f = later (f k)
 
-pub paired_other : (i j : ℕ) (ps : List IndexPair) (p : IndexPair) → Has p ps → p.place ≡ i → p.other ≡ j → Has j (others_at i ps)
+pub paired_other : (i j : ℕ) (ps : List IndexPair) (p : IndexPair) → Has p ps → p.index ≡ i → p.other ≡ j → Has j (others_at i ps)
 paired_other i j [] p h a b = absurd h
-paired_other i j (q ∷ ps) p h a b = go (q.place == i) refl h (λ k. paired_other i j ps p k a b)
+paired_other i j (q ∷ ps) p h a b = go (q.index == i) refl h (λ k. paired_other i j ps p k a b)
   where
-    go : (t : Bool) → (q.place == i) ≡ t → Has p (q ∷ ps) → (Has p ps → Has j (others_at i ps)) → Has j (cond t (q.other ∷ others_at i ps) (others_at i ps))
+    go : (t : Bool) → (q.index == i) ≡ t → Has p (q ∷ ps) → (Has p ps → Has j (others_at i ps)) → Has j (cond t (q.other ∷ others_at i ps) (others_at i ps))
     go true e (inl k) f = inl (sym b ∙ ap (λ w. w.other) k)
     go true e (inr k) f = inr (f k)
-    go false e (inl k) f = absurd (untold q.place i false e refl (sym (ap (λ w. w.place) k) ∙ a))
+    go false e (inl k) f = absurd (untold q.index i false e refl (sym (ap (λ w. w.index) k) ∙ a))
     go false e (inr k) f = f k
 
 -- each number is below all that follow
@@ -114,13 +114,13 @@ Climbs (x ∷ xs) = ((y : ℕ) → Has y xs → x < y) × Climbs xs
 
 others_climb : (i : ℕ) (ps : List IndexPair) → Ascends pair_cmp ps → Climbs (others_at i ps)
 others_climb i [] a = tt
-others_climb i (p ∷ ps) a = go (p.place == i) refl (others_climb i ps a.1)
+others_climb i (p ∷ ps) a = go (p.index == i) refl (others_climb i ps a.1)
   where
-    go : (t : Bool) → (p.place == i) ≡ t → Climbs (others_at i ps) → Climbs (cond t (p.other ∷ others_at i ps) (others_at i ps))
+    go : (t : Bool) → (p.index == i) ≡ t → Climbs (others_at i ps) → Climbs (cond t (p.other ∷ others_at i ps) (others_at i ps))
     go true e c = (
       (λ y h.
           let q = other_paired i y ps h in
-          subst (λ w. p.other < w) q.3 (others_rise p q.0 (told p.place i true e refl ∙ sym q.2) (a.0 q.0 q.1))),
+          subst (λ w. p.other < w) q.3 (others_rise p q.0 (told p.index i true e refl ∙ sym q.2) (a.0 q.0 q.1))),
       c,
     )
     go false e c = c

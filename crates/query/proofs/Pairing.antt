@@ -8,10 +8,10 @@ use Rattle.query.specs.Uses.{use_cmp}
 use Rattle.query.specs.Pairs.{pairs_behind, pairs_among}
 use Rattle.query.specs.declared.uses.Use.{Use}
 use Rattle.query.specs.declared.questions.neighbors.IndexPair.{IndexPair}
-use Rattle.query.proofs.Orders.{arcs_rise, places_rise}
+use Rattle.query.proofs.Orders.{arcs_rise, indexes_rise}
 
 abbrev pub paired : Use → Use → IndexPair
-paired u v = record { place = u.place; other = v.place }
+paired u v = record { index = u.index; other = v.index }
 
 same_number : (a b : ℕ) → (a == b) ≡ true → a ≡ b
 same_number a b e = (unsigned_Decides a b).0 e
@@ -52,30 +52,30 @@ has_behind u (w ∷ vs) a v h e = go (w.arc == u.arc) refl h (λ k. has_behind u
 
 -- a pair comes from two uses of one arc
 pub among_from : (us : List Use) → Ascends use_cmp us → (q : IndexPair) → Has q (pairs_among us) →
-    (u : Use) × (v : Use) × Has u us × Has v us × (u.arc ≡ v.arc) × (q.place ≡ u.place) × (q.other ≡ v.place) × (¬ (q.place ≡ q.other))
+    (u : Use) × (v : Use) × Has u us × Has v us × (u.arc ≡ v.arc) × (q.index ≡ u.index) × (q.other ≡ v.index) × (¬ (q.index ≡ q.other))
 among_from [] a q h = absurd h
 among_from (u ∷ us) a q h = elim (Has-append q (pairs_behind u us) (pairs_among us) h) [
   | inl k ↦ (
       let t = behind_from u us q k in
-      let below : u.place < t.0.place = places_rise u t.0 (sym t.2) (a.0 t.0 t.1) in
+      let below : u.index < t.0.index = indexes_rise u t.0 (sym t.2) (a.0 t.0 t.1) in
       elim t.3 [
         | inl e ↦ (
-            let p : q.place ≡ u.place = ap (λ w. w.place) e in
-            let o : q.other ≡ t.0.place = ap (λ w. w.other) e in
+            let p : q.index ≡ u.index = ap (λ w. w.index) e in
+            let o : q.other ≡ t.0.index = ap (λ w. w.other) e in
             (u, t.0, inl refl, inr t.1, sym t.2, p, o, λ z. omega (arith, below, p, o, z)))
         | inr e ↦ (
-            let p : q.place ≡ t.0.place = ap (λ w. w.place) e in
-            let o : q.other ≡ u.place = ap (λ w. w.other) e in
+            let p : q.index ≡ t.0.index = ap (λ w. w.index) e in
+            let o : q.other ≡ u.index = ap (λ w. w.other) e in
             (t.0, u, inr t.1, inl refl, t.2, p, o, λ z. omega (arith, below, p, o, z)))
       ])
   | inr k ↦ (let t = among_from us a.1 q k in (t.0, t.1, inr t.2, inr t.3, t.4, t.5, t.6, t.7))
 ]
 
--- two uses of one arc, at different places, make a pair
-pub has_among : (us : List Use) → Ascends use_cmp us → (u v : Use) → Has u us → Has v us → u.arc ≡ v.arc → ¬ (u.place ≡ v.place) →
+-- two uses of one arc, at different indexes, make a pair
+pub has_among : (us : List Use) → Ascends use_cmp us → (u v : Use) → Has u us → Has v us → u.arc ≡ v.arc → ¬ (u.index ≡ v.index) →
     Has (paired u v) (pairs_among us)
 has_among [] a u v h k e n = absurd h
-has_among (w ∷ us) a u v (inl h) (inl k) e n = absurd (n (ap (λ x. x.place) (h ∙ sym k)))
+has_among (w ∷ us) a u v (inl h) (inl k) e n = absurd (n (ap (λ x. x.index) (h ∙ sym k)))
 has_among (w ∷ us) a u v (inl h) (inr k) e n =
     Has-append_left (paired u v) (pairs_behind w us) (pairs_among us)
     (subst (λ x. Has (paired x v) (pairs_behind w us)) (sym h) (has_behind w us a v k (sym e ∙ ap (λ x. x.arc) h)).0)

@@ -26,7 +26,7 @@ use Rattle.chains.proofs.ArcSegments.{segments_on}
 use Rattle.query.proofs.Halting.{halts_stops}
 use Rattle.chains.proofs.Siding.{arc_on, on_arc, sides_beside}
 use Rattle.query.proofs.Sides.{two_only}
-use Rattle.query.proofs.Vertices.{at_place, beside_on, end_of, inner_two}
+use Rattle.query.proofs.Vertices.{at_index, beside_on, end_of, inner_two}
 
 -- what a list of at most one has
 has_if : {A : Type 0} (b : Bool) (x y : A) → Has x (cond b (y ∷ []) []) → (b ≡ true) × (x ≡ y)
@@ -146,7 +146,7 @@ module _ (g : Geometry Pos) (sound : IsSound g) (t : Arcs) (table : IsTableOf g 
       none_whole : (v w : Pos) → ¬ StopAt stops v → AmongSegments v w rest → (k : ℕ) (u : Pos) (c : List Pos) → Has k ks → slice_get t.arcs k ≡ Some c →
           is_whole stops c ≡ true → Beside v u c → ⊥
       none_whole v w free h k u c there e is beside =
-          elim (at_place c v u beside) [
+          elim (at_index c v u beside) [
             | inr end ↦ free (end_stops stops t.arcs v c is (end_of c v u end))
             | inl (a, b, passes, side) ↦ (
                 let two = inner_two g sound t table ks k c there e a v b passes in

@@ -20,27 +20,27 @@ other_number a b t e h = λ k. let p : true ≡ false = sym ((unsigned_Decides a
 -- the span of arc k, once the uses are met
 abbrev span_from : Option Span → ℕ → List Use → Option Span
 span_from o k [] = o
-span_from o k (u ∷ us) = span_from (cond (u.arc == k) (Some (widened o u.place)) o) k us
+span_from o k (u ∷ us) = span_from (cond (u.arc == k) (Some (widened o u.index)) o) k us
 
 uses_length : (ss : List (Option Span)) (us : List Use) → length (with_uses ss us) ≡ length ss
 uses_length ss [] = refl
-uses_length ss (u ∷ us) = uses_length (with_use ss u) us ∙ length-set ss u.arc (Some (widened (get_or ss u.arc None) u.place))
+uses_length ss (u ∷ us) = uses_length (with_use ss u) us ∙ length-set ss u.arc (Some (widened (get_or ss u.arc None) u.index))
 
 spans_at : (ss : List (Option Span)) (us : List Use) (k : ℕ) → k < length ss → get_or (with_uses ss us) k None ≡ span_from (get_or ss k None) k us
 spans_at ss [] k h = refl
 spans_at ss (u ∷ us) k h =
-    let n = length-set ss u.arc (Some (widened (get_or ss u.arc None) u.place)) in
+    let n = length-set ss u.arc (Some (widened (get_or ss u.arc None) u.index)) in
     spans_at (with_use ss u) us k (subst (λ j. k < j) (sym n) h) ∙ ap (λ o. span_from o k us) (go (u.arc == k) refl)
   where
-    go : (t : Bool) → (u.arc == k) ≡ t → get_or (with_use ss u) k None ≡ cond t (Some (widened (get_or ss k None) u.place)) (get_or ss k None)
+    go : (t : Bool) → (u.arc == k) ≡ t → get_or (with_use ss u) k None ≡ cond t (Some (widened (get_or ss k None) u.index)) (get_or ss k None)
     go true e =
         let q : u.arc ≡ k = same_number u.arc k true e refl in
-        subst (λ j. get_or (set ss j (Some (widened (get_or ss j None) u.place))) k None ≡ Some (widened (get_or ss k None) u.place)) (sym q)
-        (get_or-set_same ss k (Some (widened (get_or ss k None) u.place)) None h)
+        subst (λ j. get_or (set ss j (Some (widened (get_or ss j None) u.index))) k None ≡ Some (widened (get_or ss k None) u.index)) (sym q)
+        (get_or-set_same ss k (Some (widened (get_or ss k None) u.index)) None h)
     go false e =
-        get_or-set_other ss u.arc k (Some (widened (get_or ss u.arc None) u.place)) None (λ j. other_number u.arc k false e refl (sym j))
+        get_or-set_other ss u.arc k (Some (widened (get_or ss u.arc None) u.index)) None (λ j. other_number u.arc k false e refl (sym j))
 
--- the span goes from the least to the greatest place that has H
+-- the span goes from the least to the greatest index that has H
 abbrev pub Spans : Option Span → (ℕ → Type 0) → Type 0
 Spans None H = (p : ℕ) → ¬ H p
 Spans (Some s) H = H s.least × H s.greatest × ((p : ℕ) → H p → (s.least ≤ p) × (p ≤ s.greatest))
@@ -74,19 +74,19 @@ spans_all k [] o H h = spans_iff o H (λ q. ⊥ ⊎ H q) (λ p i. inr i) (λ p i
 spans_all k (u ∷ us) o H h = go (u.arc == k) refl (λ n G i. spans_all k us n G i)
   where
     go : (t : Bool) → (u.arc == k) ≡ t → ((n : Option Span) (G : ℕ → Type 0) → Spans n G → Spans (span_from n k us) (λ q. Has (use_at k q) us ⊎ G q)) →
-        Spans (span_from (cond t (Some (widened o u.place)) o) k us) (λ q. Has (use_at k q) (u ∷ us) ⊎ H q)
+        Spans (span_from (cond t (Some (widened o u.index)) o) k us) (λ q. Has (use_at k q) (u ∷ us) ⊎ H q)
     go true e ih =
         let same : u.arc ≡ k = same_number u.arc k true e refl in
-        spans_iff (span_from (Some (widened o u.place)) k us) (λ q. Has (use_at k q) us ⊎ ((q ≡ u.place) ⊎ H q)) (λ q. Has (use_at k q) (u ∷ us) ⊎ H q)
+        spans_iff (span_from (Some (widened o u.index)) k us) (λ q. Has (use_at k q) us ⊎ ((q ≡ u.index) ⊎ H q)) (λ q. Has (use_at k q) (u ∷ us) ⊎ H q)
         (λ q i. elim i [
           | inl j ↦ inl (inr j)
-          | inr j ↦ elim j [ inl f ↦ inl (inl (λ x. record { arc = sym same x; place = f x })) | inr l ↦ inr l ]
+          | inr j ↦ elim j [ inl f ↦ inl (inl (λ x. record { arc = sym same x; index = f x })) | inr l ↦ inr l ]
         ])
         (λ q i. elim i [
           | inr l ↦ inr (inr l)
-          | inl j ↦ elim j [ inl f ↦ inr (inl (ap (λ w. w.place) f)) | inr l ↦ inl l ]
+          | inl j ↦ elim j [ inl f ↦ inr (inl (ap (λ w. w.index) f)) | inr l ↦ inl l ]
         ])
-        (ih (Some (widened o u.place)) (λ q. (q ≡ u.place) ⊎ H q) (spans_widened o H u.place h))
+        (ih (Some (widened o u.index)) (λ q. (q ≡ u.index) ⊎ H q) (spans_widened o H u.index h))
     go false e ih =
         spans_iff (span_from o k us) (λ q. Has (use_at k q) us ⊎ H q) (λ q. Has (use_at k q) (u ∷ us) ⊎ H q)
         (λ q i. elim i [ inl j ↦ inl (inr j) | inr l ↦ inr l ])

@@ -29,7 +29,7 @@ use Rattle.query.specs.Steps.{least_step, behind_step, up_to_step}
 use Rattle.query.specs.declared.layer_text.steps.GridStep.{GridStep}
 use Rattle.query.proofs.Turns.{begun_at, turned_back}
 
--- ---- lists whose members have the same texts, place by place
+-- ---- lists whose members have the same texts, index by index
 
 module _ {A C D : Type 0} (R : C → D → Type 0) (h : A → C) (f : A → List ℕ) (g : D → List ℕ) (same : (x : A) (y : D) → R (h x) y → f x ≡ g y) where
   commas_same : (xs : List A) (ys : List D) → Pairwise R (map_list h xs) ys → after_commas f xs ≡ after_commas g ys

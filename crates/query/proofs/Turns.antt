@@ -40,7 +40,7 @@ not_before m u v h =
     ap (λ r. is_lt (ordering_then (position_cmp u m.from) r)) (then_nothing (position_cmp v m.to))
     ∙ less_not_most (step_cmp (step u v) m) (step_cmp m (step u v)) (step_total.antisymm (step u v) m) h
 
--- what stands at a place and the next one
+-- what stands at an index and the next one
 window_step : (l : List Pos) (k : ℕ) → k + 1 < length l → (u : Pos) × (v : Pos) × (window l k ≡ u ∷ (v ∷ [])) × Steps u v l
 window_step [] k h = absurd (omega arith)
 window_step (x ∷ []) k h = absurd (omega arith)

@@ -10,9 +10,9 @@ use Rattle.theory.proofs.ListsOfLists.{Has-gathered, gathered_from, Has-joined, 
 use Rattle.query.specs.Uses.{use_at, refs_uses, body_uses, bodies_uses}
 use Rattle.query.specs.declared.uses.Use.{Use}
 
-refs_from : (p : ℕ) (us : List ArcRef) (u : Use) → Has u (refs_uses p us) → (u.place ≡ p) × Uses u.arc us
+refs_from : (p : ℕ) (us : List ArcRef) (u : Use) → Has u (refs_uses p us) → (u.index ≡ p) × Uses u.arc us
 refs_from p [] u h = absurd h
-refs_from p (r ∷ us) u (inl e) = (ap (λ w. w.place) e, inl (ap (λ w. w.arc) e))
+refs_from p (r ∷ us) u (inl e) = (ap (λ w. w.index) e, inl (ap (λ w. w.arc) e))
 refs_from p (r ∷ us) u (inr h) = let t = refs_from p us u h in (t.0, inr t.1)
 
 has_refs : (p k : ℕ) (us : List ArcRef) → Uses k us → Has (use_at k p) (refs_uses p us)
@@ -20,7 +20,7 @@ has_refs p k [] h = absurd h
 has_refs p k (r ∷ us) (inl e) = inl (ap (λ n. use_at n p) e)
 has_refs p k (r ∷ us) (inr h) = inr (has_refs p k us h)
 
-lists_from : (p : ℕ) (ls : List (List ArcRef)) (u : Use) → Has u (gathered (refs_uses p) ls) → (u.place ≡ p) × ((us : List ArcRef) × Has us ls × Uses u.arc us)
+lists_from : (p : ℕ) (ls : List (List ArcRef)) (u : Use) → Has u (gathered (refs_uses p) ls) → (u.index ≡ p) × ((us : List ArcRef) × Has us ls × Uses u.arc us)
 lists_from p ls u h =
     let t = gathered_from (refs_uses p) ls u h in
     let r = refs_from p t.0 u t.2 in (r.0, (t.0, t.1, r.1))
@@ -28,7 +28,7 @@ lists_from p ls u h =
 has_lists : (p k : ℕ) (ls : List (List ArcRef)) (us : List ArcRef) → Has us ls → Uses k us → Has (use_at k p) (gathered (refs_uses p) ls)
 has_lists p k ls us h s = Has-gathered (refs_uses p) ls us (use_at k p) h (has_refs p k us s)
 
-pub body_from : (p : ℕ) (b : Body Pos) (u : Use) → Has u (body_uses p b) → (u.place ≡ p) × UsesArc u.arc b
+pub body_from : (p : ℕ) (b : Body Pos) (u : Use) → Has u (body_uses p b) → (u.index ≡ p) × UsesArc u.arc b
 body_from p null u h = absurd h
 body_from p (point q) u h = absurd h
 body_from p (points qs) u h = absurd h
@@ -56,9 +56,9 @@ has_body p k (polygons ps) (inr (vs, h, s)) =
     let t = joined_from ps vs h in
     Has-gathered (gathered (refs_uses p)) ps t.0 (use_at k p) t.1 (has_lists p k t.0 vs t.2 s)
 
--- each noted use is of a body at its place
+-- each noted use is of a body at its index
 pub bodies_from : (bs : List (Body Pos)) (p : ℕ) (u : Use) → Has u (bodies_uses p bs) →
-    (n : ℕ) × (b : Body Pos) × (slice_get bs n ≡ Some b) × (u.place ≡ p + n) × UsesArc u.arc b
+    (n : ℕ) × (b : Body Pos) × (slice_get bs n ≡ Some b) × (u.index ≡ p + n) × UsesArc u.arc b
 bodies_from [] p u h = absurd h
 bodies_from (b ∷ bs) p u h = elim (Has-append u (body_uses p b) (bodies_uses (p + 1) bs) h) [
   | inl k ↦ (let t = body_from p b u k in (0, b, refl, omega (arith, t.0), t.1))

@@ -64,14 +64,14 @@ get_below (x ∷ l) (suc n) h = get_below l n (omega (arith, h))
 -- whether the uses have one
 has_use : (k p : ℕ) (us : List Use) → Has (use_at k p) us ⊎ (¬ Has (use_at k p) us)
 has_use k p [] = inr (λ h. h)
-has_use k p (u ∷ us) = elim (has_use k p us) [ inl h ↦ inl (inr h) | inr n ↦ go (u.arc == k) refl (u.place == p) refl n ]
+has_use k p (u ∷ us) = elim (has_use k p us) [ inl h ↦ inl (inr h) | inr n ↦ go (u.arc == k) refl (u.index == p) refl n ]
   where
-    go : (s : Bool) → (u.arc == k) ≡ s → (t : Bool) → (u.place == p) ≡ t → ¬ Has (use_at k p) us → Has (use_at k p) (u ∷ us) ⊎ (¬ Has (use_at k p) (u ∷ us))
+    go : (s : Bool) → (u.arc == k) ≡ s → (t : Bool) → (u.index == p) ≡ t → ¬ Has (use_at k p) us → Has (use_at k p) (u ∷ us) ⊎ (¬ Has (use_at k p) (u ∷ us))
     go true e true f n =
         let arc : u.arc ≡ k = same_number u.arc k true e refl in
-        let place : u.place ≡ p = same_number u.place p true f refl in
-        inl (inl (λ i. record { arc = sym arc i; place = sym place i }))
-    go true e false f n = inr (λ h. elim h [ inl q ↦ other_number u.place p false f refl (sym (ap (λ w. w.place) q)) | inr i ↦ n i ])
+        let index : u.index ≡ p = same_number u.index p true f refl in
+        inl (inl (λ i. record { arc = sym arc i; index = sym index i }))
+    go true e false f n = inr (λ h. elim h [ inl q ↦ other_number u.index p false f refl (sym (ap (λ w. w.index) q)) | inr i ↦ n i ])
     go false e t f n = inr (λ h. elim h [ inl q ↦ other_number u.arc k false e refl (sym (ap (λ w. w.arc) q)) | inr i ↦ n i ])
 
 -- whether a body uses an arc
@@ -252,11 +252,11 @@ module _ (m : Layers) (t : TopologyParts) (of_map : IsOf m t) where
     abbrev pairs : List (Feature × Body)
     pairs = gathered (layer_pairs m) ls
 
-    -- the geometry at the place is of the feature
+    -- the geometry at the index is of the feature
     abbrev StandsAt : ℕ → Feature → Type 0
     StandsAt p f = (g : Geom) × (slice_get gs p ≡ Some g) × OfFeature m t of_map f g
 
-    -- the feature at the place uses the arc
+    -- the feature at the index uses the arc
     abbrev UsesAt : ℕ → ℕ → Type 0
     UsesAt k p = Has (use_at k p) (geometries_uses gs)
 
@@ -266,7 +266,7 @@ module _ (m : Layers) (t : TopologyParts) (of_map : IsOf m t) where
     layer_features : (l : LayerParts) → Has l ls → OfFeatures m t of_map (set.items (features_at m (spelled_text l.name))) l.geometries
     layer_features l there = (named_features m t of_map (spelled_text l.name) l.geometries (l, scope_layers t scope ls layers l there, refl, refl)).1
 
-    -- at a place stands one feature
+    -- at an index stands one feature
     one_feature : (p : ℕ) (f h : Feature) → StandsAt p f → StandsAt p h → f ≡ h
     one_feature p f h (g, at, is) (k, at', is') =
         let same : Some k ≡ Some g = sym at' ∙ at in
@@ -275,9 +275,9 @@ module _ (m : Layers) (t : TopologyParts) (of_map : IsOf m t) where
         let also = feature_of (JunctionOf (geometry_of m)) t.arcs.arcs h g (subst (OfFeature m t of_map h) one is') in
         same_feature f h (features_stand t.arcs.arcs f h g g stitched also ∙ sym (features_stand t.arcs.arcs f f g g stitched stitched) ∙ tied_itself feature_cmp_total f)
 
-    -- and a feature stands at one place
-    one_place : (p q : ℕ) (f : Feature) → StandsAt p f → StandsAt q f → p ≡ q
-    one_place p q f (g, at, is) (k, at', is') =
+    -- and a feature stands at one index
+    one_index : (p q : ℕ) (f : Feature) → StandsAt p f → StandsAt q f → p ≡ q
+    one_index p q f (g, at, is) (k, at', is') =
         let same : k ≡ g = one_geometry f k g is' is in
         each.once p q g at (at' ∙ ap Some same)
 
@@ -287,17 +287,17 @@ module _ (m : Layers) (t : TopologyParts) (of_map : IsOf m t) where
         let (g, there, same) = body_at gs n b at in
         let (l, layer, within) = gathered_from (λ l. l.geometries) ls g (each.only g (get_has gs n g there)) in
         let (f, beside, of_feature) = body_pair (set.items (features_at m (spelled_text l.name))) l.geometries (layer_features l layer) g within in
-        let place : n ≡ p = omega (arith, is) in
-        (f, g.body, Has-gathered (layer_pairs m) ls l (f, g.body) layer beside, subst (λ w. UsesArc k w) same used, (g, subst (λ j. slice_get gs j ≡ Some g) place there, of_feature))
+        let index : n ≡ p = omega (arith, is) in
+        (f, g.body, Has-gathered (layer_pairs m) ls l (f, g.body) layer beside, subst (λ w. UsesArc k w) same used, (g, subst (λ j. slice_get gs j ≡ Some g) index there, of_feature))
 
     use_to : (k : ℕ) (f : Feature) (b : Body) → Has (f, b) pairs → UsesArc k (body_of b) → (p : ℕ) × UsesAt k p × StandsAt p f
     use_to k f b h used =
         let (l, layer, beside) = gathered_from (layer_pairs m) ls (f, b) h in
         let (g, within, is, of_feature) = pair_body (set.items (features_at m (spelled_text l.name))) l.geometries (layer_features l layer) f b beside in
         let (n, at) = has_get gs g (each.there g (Has-gathered (λ l. l.geometries) ls l g layer within)) in
-        let place : 0 + n ≡ n = omega arith in
+        let index : 0 + n ≡ n = omega arith in
         let there = has_bodies (map_list (λ g. body_of g.body) gs) 0 n k (body_of g.body) (at_body gs n g at) (subst (λ w. UsesArc k (body_of w)) is used) in
-        (n, subst (UsesAt k) place there, (g, at, of_feature))
+        (n, subst (UsesAt k) index there, (g, at, of_feature))
 
     -- a feature in scope has a segment where its body uses the arc
     has_uses : (f : Feature) (b : Body) → Has (f, b) pairs → (k : ℕ) (c : List Pos) (u v : Pos) → slice_get t.arcs.arcs k ≡ Some c → Beside u v c →
@@ -358,7 +358,7 @@ module _ (m : Layers) (t : TopologyParts) (of_map : IsOf m t) where
           subst (StandsAt p) same stands
 
       ends_agree : (s.least ≡ s.greatest) ↔ (a ≡ b)
-      ends_agree = (one_user, λ q. one_place s.least s.greatest a (alone q s.least means.0) (alone q s.greatest means.1))
+      ends_agree = (one_user, λ q. one_index s.least s.greatest a (alone q s.least means.0) (alone q s.greatest means.1))
 
     abbrev spans : List (Option Span)
     spans = with_uses (replicate (length t.arcs.arcs) None) (geometries_uses gs)
@@ -427,9 +427,9 @@ module _ (m : Layers) (t : TopologyParts) (of_map : IsOf m t) where
           let less = get_less (values_of name gs) n (value_text name g.props) (value_at n g at) in
           get_below cs n (subst (λ m. n < m) (sym classed.each) less)
 
-      -- the geometry at a place is of a feature in scope
-      of_place : (n : ℕ) (g : Geom) → slice_get gs n ≡ Some g → (f : Feature) × Has (f, g.body) pairs × OfFeature m t of_map f g
-      of_place n g at =
+      -- the geometry at an index is of a feature in scope
+      of_index : (n : ℕ) (g : Geom) → slice_get gs n ≡ Some g → (f : Feature) × Has (f, g.body) pairs × OfFeature m t of_map f g
+      of_index n g at =
           let (l, layer, within) = gathered_from (λ l. l.geometries) ls g (each.only g (get_has gs n g at)) in
           let (f, beside, of_feature) = body_pair (set.items (features_at m (spelled_text l.name))) l.geometries (layer_features l layer) g within in
           (f, Has-gathered (layer_pairs m) ls l (f, g.body) layer beside, of_feature)
@@ -442,7 +442,7 @@ module _ (m : Layers) (t : TopologyParts) (of_map : IsOf m t) where
           OfFeature m t of_map a g → OfFeature m t of_map b h → (¬ (c ≡ d)) ↔ Differ name a b
       differ i j c d g h a b at at' e f of_a of_b = (
         (λ n. record {
-          apart = λ q. n (same.1 (inl (one_place i j a (g, at, of_a) (h, at', subst (λ w. OfFeature m t of_map w h) (sym q) of_b))));
+          apart = λ q. n (same.1 (inl (one_index i j a (g, at, of_a) (h, at', subst (λ w. OfFeature m t of_map w h) (sym q) of_b))));
           unlike = λ o. n (same.1 (inr (o.0, value_a ∙ o.1, value_b ∙ o.2)));
         }),
         (λ apart q. elim (same.0 q) [
@@ -468,7 +468,7 @@ module _ (m : Layers) (t : TopologyParts) (of_map : IsOf m t) where
           (n : ℕ) × (g : Geom) × (f : Feature) × (slice_get cs n ≡ Some q) × (slice_get gs n ≡ Some g) × OfFeature m t of_map f g × In f × HasSide u v f
       user k c u v e side q h =
           let (n, g, at, there, used) = classes_from cs gs (use_at k q) h in
-          let (f, beside, of_feature) = of_place n g there in
+          let (f, beside, of_feature) = of_index n g there in
           (n, g, f, at, there, of_feature, (are.only f g.body beside).0, (has_uses f g.body beside k c u v e side).1 used)
 
       dividing_only : (u v : Pos) → AmongSegments u v segs → (a : Feature) × (b : Feature) × In a × In b × HasSide u v a × HasSide u v b × Differ name a b

@@ -1,4 +1,4 @@
--- On which segments of arcs a vertex lies: at an inner place of an arc on two, at an end on the last step of each arc that ends there.
+-- On which segments of arcs a vertex lies: at an inner index of an arc on two, at an end on the last step of each arc that ends there.
 use Rattle.std.proofs.Common.{◌≡◌, ℕ, List, [], ◌∷◌, ◌⊎◌, inl, inr, refl, sym, ap, ◌∙◌, subst, Option, Some, None, slice_get, unwrap_or, reverse}
 use Rattle.std.proofs.lemmas.List.{reverse-reverse}
 use Rattle.grid.specs.declared.pos.Pos.{Pos}
@@ -20,14 +20,14 @@ use Rattle.query.specs.Ends.{EndStep, OnEnds}
 use Rattle.chains.proofs.Siding.{arc_on, beside_sides, on_arc, sides_beside}
 use Rattle.query.proofs.Meshing.{beside_differ}
 
--- a neighbour on a list: at an inner place, or at an end
-pub at_place : {V : Type 0} (c : List V) (v w : V) → Beside v w c →
+-- a neighbour on a list: at an inner index, or at an end
+pub at_index : {V : Type 0} (c : List V) (v w : V) → Beside v w c →
     ((a : V) × (b : V) × Passes a v b c × ((w ≡ a) ⊎ (w ≡ b))) ⊎ EndStep v w c
-at_place [] v w (inl h) = absurd h
-at_place [] v w (inr h) = absurd h
-at_place (x ∷ r) v w (inl h) =
+at_index [] v w (inl h) = absurd h
+at_index [] v w (inr h) = absurd h
+at_index (x ∷ r) v w (inl h) =
     elim (step_from x v w r h) [ inl k ↦ inr (inl k) | inr t ↦ inl (t.0, w, t.1, inr refl) ]
-at_place {V} (x ∷ r) v w (inr h) = back (reverse (x ∷ r)) refl (Steps-reverse w v (x ∷ r) h)
+at_index {V} (x ∷ r) v w (inr h) = back (reverse (x ∷ r)) refl (Steps-reverse w v (x ∷ r) h)
   where
     back : (l : List V) → reverse (x ∷ r) ≡ l → Steps v w l →
         ((a : V) × (b : V) × Passes a v b (x ∷ r) × ((w ≡ a) ⊎ (w ≡ b))) ⊎ EndStep v w (x ∷ r)
@@ -60,12 +60,12 @@ end_of [] v w (inr h) = absurd h
 end_of (x ∷ r) v w (inl h) = inl h.0
 end_of (x ∷ r) v w (inr h) = inr ((subst (BeginsTwo v w) (reverse-last x r) h).0)
 
--- an inner place of a list stands before its last
+-- an inner index of a list stands before its last
 inner_front : {V : Type 0} (x a v b : V) (r : List V) → Passes a v b (x ∷ r) → Steps v b r
 inner_front x a v b r (inl h) = BeginsTwo-Steps v b r h.1
 inner_front x a v b r (inr h) = Passes-after a v b r h
 
--- the first vertex of a chain stands at no inner place
+-- the first vertex of a chain stands at no inner index
 first_outer : {V : Type 0} (x a b : V) (r : List V) → Distinct (front_of x r) → ¬ Passes a x b (x ∷ r)
 first_outer x a b [] d h = inner_front x a x b [] h
 first_outer x a b (y ∷ r) d h = d.0 (Steps-front x b y r (inner_front x a x b (y ∷ r) h))
@@ -199,7 +199,7 @@ module _ (g : Geometry Pos) (sound : IsSound g) (t : Arcs) (table : IsTableOf g 
   end_sides ks v p w h s =
       let (k, c, there, e, step) = end_arc t.arcs ks v p h in
       let (j, d, also, f, side) = on_arc t.arcs ks v w s in
-      elim (at_place d v w (sides_beside d v w side)) [
+      elim (at_index d v w (sides_beside d v w side)) [
         | inl (a, b, inner, is) ↦ absurd (end_outer k j c d e f v a b (end_of c v p step) inner)
         | inr last ↦ arc_end t.arcs ks v w j d also f last
       ]
@@ -208,7 +208,7 @@ module _ (g : Geometry Pos) (sound : IsSound g) (t : Arcs) (table : IsTableOf g 
   pub end_or_two : (ks : List ℕ) (v w : Pos) → OnArcs t.arcs ks v w → OnEnds t.arcs ks v w ⊎ OnTwo (OnArcs t.arcs ks) v
   end_or_two ks v w s =
       let (k, c, there, e, side) = on_arc t.arcs ks v w s in
-      elim (at_place c v w (sides_beside c v w side)) [
+      elim (at_index c v w (sides_beside c v w side)) [
         | inl (a, b, inner, is) ↦ (
             let (apart, before, behind, only) = inner_two ks k c there e a v b inner in
             inr (a, b, apart, before, behind, only))

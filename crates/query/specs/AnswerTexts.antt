@@ -30,6 +30,6 @@ abbrev pub id_text_of : Option Geom → List ℕ
 id_text_of None = codes "null"
 id_text_of (Some g) = id_value_text g.id
 
--- lists of places of geometries, each as its id [RFC 8259; own]
+-- lists of indexes of geometries, each as its id [RFC 8259; own]
 abbrev pub neighbor_ids_text : List Geom → List (List ℕ) → List ℕ
 neighbor_ids_text gs lists = list_text (list_text (λ p. id_text_of (slice_get gs p))) lists

@@ -49,7 +49,7 @@ pub record AreNeighborsBy (name : List ℕ) (fs : List Feature) (i j : ℕ) : Ty
   pub neighbors : AreNeighbors fs i j
   pub differ : Differ name neighbors.one neighbors.other
 
--- one list for each feature, in order: the places of those of its neighbours that differ from it, ascending
+-- one list for each feature, in order: the indexes of those of its neighbours that differ from it, ascending
 pub record ListsNeighborsBy (name : List ℕ) (fs : List Feature) (lists : List (List ℕ)) : Type 0 where
   pub each : length lists ≡ length fs
   pub ascend : (i : ℕ) (js : List ℕ) → slice_get lists i ≡ Some js → IsStrictlyIncreasing js
@@ -59,13 +59,13 @@ pub record ListsNeighborsBy (name : List ℕ) (fs : List Feature) (lists : List 
 abbrev pub values_of : List ℕ → List Geom → List (Option (List ℕ))
 values_of name gs = map (λ g. value_text name g.props) gs
 
--- a number for each value, which two places have in common where they are one, or have one value
+-- a number for each value, which two indexes have in common where they are one, or have one value
 pub record AreClasses (vs : List (Option (List ℕ))) (cs : List ℕ) : Type 0 where
   pub each : length cs ≡ length vs
   pub exact : (i j c d : ℕ) (v w : Option (List ℕ)) → slice_get vs i ≡ Some v → slice_get vs j ≡ Some w → slice_get cs i ≡ Some c → slice_get cs j ≡ Some d →
       (c ≡ d) ↔ ((i ≡ j) ⊎ AreOneValue v w)
 
--- the class of the value at a place, where the classes of texts are known
+-- the class of the value at an index, where the classes of texts are known
 abbrev pub class_in : (List ℕ → Option ℕ) → ℕ → Option (List ℕ) → ℕ
 class_in at p None = p
 class_in at p (Some t) = unwrap_or (at t) p

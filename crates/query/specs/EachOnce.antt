@@ -8,7 +8,7 @@ use Rattle.topo.specs.declared.geom.Geom.{Geom}
 abbrev pub lent : List (Bor Geom) → List Geom
 lent gs = map_list (λ g. g.now) gs
 
--- the same geometries, none at two places
+-- the same geometries, none at two indexes
 pub record AreEachOnce (all kept : List Geom) : Type 0 where
   pub once : (i j : ℕ) (g : Geom) → slice_get kept i ≡ Some g → slice_get kept j ≡ Some g → i ≡ j
   pub there : (g : Geom) → Has g all → Has g kept

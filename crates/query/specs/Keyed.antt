@@ -15,10 +15,10 @@ key_text id.None = codes "\"null\""
 key_text (id.Number n) = codes "\"" ++ (signed_decimal n ++ codes "\"")
 key_text (id.Text s) = spelling_of (spelled_text s)
 
--- a member behind what separates it from the one before: a geometry's id, and the ids of the geometries at some places
+-- a member behind what separates it from the one before: a geometry's id, and the ids of the geometries at some indexes
 -- [RFC 8259; own]
 abbrev pub member_text : List ℕ → List Geom → Geom → List ℕ → List ℕ
-member_text separator all g places = separator ++ (key_text g.id ++ (codes ":" ++ list_text (λ p. id_text_of (slice_get all p)) places))
+member_text separator all g indexes = separator ++ (key_text g.id ++ (codes ":" ++ list_text (λ p. id_text_of (slice_get all p)) indexes))
 
 -- the members of geometries, each with its list, with commas between them [RFC 8259; own]
 abbrev pub members : List ℕ → List Geom → List Geom → List (List ℕ) → List ℕ

@@ -10,7 +10,7 @@ use Rattle.theory.specs.Users.{ShareSegment}
 abbrev pub SharesSegment : Feature → Feature → Type 0
 SharesSegment f g = ShareSegment (form_of f.shape) (form_of g.shape)
 
--- the features at two different places share a segment [topojson-client (neighbors)]
+-- the features at two different indexes share a segment [topojson-client (neighbors)]
 pub record AreNeighbors (fs : List Feature) (i j : ℕ) : Type 0 where
   pub apart : ¬ (i ≡ j)
   pub one : Feature
@@ -19,7 +19,7 @@ pub record AreNeighbors (fs : List Feature) (i j : ℕ) : Type 0 where
   pub beside : slice_get fs j ≡ Some other
   pub share : SharesSegment one other
 
--- one list for each feature, in order: the places of its neighbours, ascending [topojson-client (neighbors)]
+-- one list for each feature, in order: the indexes of its neighbours, ascending [topojson-client (neighbors)]
 pub record ListsNeighbors (fs : List Feature) (lists : List (List ℕ)) : Type 0 where
   pub each : length lists ≡ length fs
   pub ascend : (i : ℕ) (js : List ℕ) → slice_get lists i ≡ Some js → IsStrictlyIncreasing js

@@ -1,4 +1,4 @@
--- Pairs of places whose features share an arc.
+-- Pairs of indexes whose features share an arc.
 use Rattle.std.specs.Prelude.{ℕ, Bool, cond, not, ◌==◌, List, [], ◌∷◌, ◌++◌, get_or, set}
 use Rattle.std.specs.Ordering.{nat_cmp, ordering_then}
 use Rattle.std.specs.declared.cmp.Ordering.{Ordering}
@@ -12,30 +12,30 @@ use Rattle.query.specs.declared.questions.neighbors.IndexPair.{IndexPair}
 abbrev pub pairs_behind : Use → List Use → List IndexPair
 pairs_behind u [] = []
 pairs_behind u (v ∷ vs) =
-    cond (v.arc == u.arc) (record { place = u.place; other = v.place } ∷ (record { place = v.place; other = u.place } ∷ pairs_behind u vs)) []
+    cond (v.arc == u.arc) (record { index = u.index; other = v.index } ∷ (record { index = v.index; other = u.index } ∷ pairs_behind u vs)) []
 
 -- and so for each use
 abbrev pub pairs_among : List Use → List IndexPair
 pairs_among [] = []
 pairs_among (u ∷ us) = pairs_behind u us ++ pairs_among us
 
--- by places, then by the other places
+-- by indexes, then by the other indexes
 abbrev pub pair_cmp : IndexPair → IndexPair → Ordering
-pair_cmp p q = ordering_then (nat_cmp p.place q.place) (nat_cmp p.other q.other)
+pair_cmp p q = ordering_then (nat_cmp p.index q.index) (nat_cmp p.other q.other)
 
--- the pairs of places of geometries that share an arc, in order, each once
+-- the pairs of indexes of geometries that share an arc, in order, each once
 pub record ArePairsOf (gs : List Geom) (ps : List IndexPair) : Type 0 where
   pub uses : List Use
   pub used : AreSortedOnce use_cmp (geometries_uses gs) uses
   pub paired : AreSortedOnce pair_cmp (pairs_among uses) ps
 
--- whether the places of a pair have two classes
+-- whether the indexes of a pair have two classes
 abbrev pub are_unlike : List ℕ → IndexPair → Bool
-are_unlike cs p = not (get_or cs p.place 0 == get_or cs p.other 0)
+are_unlike cs p = not (get_or cs p.index 0 == get_or cs p.other 0)
 
--- the other place of the pair at the end of the list of its place
+-- the other index of the pair at the end of the list of its index
 abbrev pub with_other : List (List ℕ) → IndexPair → List (List ℕ)
-with_other ls p = set ls p.place (get_or ls p.place [] ++ (p.other ∷ []))
+with_other ls p = set ls p.index (get_or ls p.index [] ++ (p.other ∷ []))
 
 -- and so for each pair in turn
 abbrev pub with_others : List (List ℕ) → List IndexPair → List (List ℕ)

@@ -11,7 +11,7 @@ use Rattle.query.specs.declared.spans.Span.{Span}
 abbrev pub MayAskAmong : (Feature → Feature → Type 0) → List Member → Type 0
 MayAskAmong May ms = (p q : Member) → Has p ms → Has q ms → May p.feature q.feature
 
--- b is the answer of the features at the places of the span
+-- b is the answer of the features at the indexes of the span
 abbrev pub Answered : (Feature → Feature → Bool → Type 0) → List Member → Span → Bool → Type 0
 Answered Says ms s b = (p q : Member) → slice_get ms s.least ≡ Some p → slice_get ms s.greatest ≡ Some q → Says p.feature q.feature b
 

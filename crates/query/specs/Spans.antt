@@ -1,4 +1,4 @@
--- The least and the greatest place of the features that use each arc.
+-- The least and the greatest index of the features that use each arc.
 use Rattle.std.specs.Prelude.{ℕ, ◌+◌, ◌==◌, min, max, Bool, true, false, not, cond, List, [], ◌∷◌, ◌++◌, Option, Some, None, get_or, set}
 use Rattle.std.specs.Ordering.{nat_cmp, ordering_then}
 use Rattle.std.specs.declared.cmp.Ordering.{Ordering}
@@ -7,21 +7,21 @@ use Rattle.query.specs.declared.edges.Edges.TheVariants.{All, Interior, Exterior
 use Rattle.query.specs.declared.spans.Span.{Span}
 use Rattle.query.specs.declared.uses.Use.{Use}
 
--- the span with one more place
+-- the span with one more index
 abbrev pub widened : Option Span → ℕ → Span
 widened None p = record { least = p; greatest = p }
 widened (Some s) p = record { least = min s.least p; greatest = max s.greatest p }
 
 -- the spans of the arcs with one more use
 abbrev pub with_use : List (Option Span) → Use → List (Option Span)
-with_use ss u = set ss u.arc (Some (widened (get_or ss u.arc None) u.place))
+with_use ss u = set ss u.arc (Some (widened (get_or ss u.arc None) u.index))
 
 -- and with each use in turn
 abbrev pub with_uses : List (Option Span) → List Use → List (Option Span)
 with_uses ss [] = ss
 with_uses ss (u ∷ us) = with_uses (with_use ss u) us
 
--- by least places, then by greatest
+-- by least indexes, then by greatest
 abbrev pub span_cmp : Span → Span → Ordering
 span_cmp s t = ordering_then (nat_cmp s.least t.least) (nat_cmp s.greatest t.greatest)
 

@@ -10,13 +10,13 @@ use Rattle.topo.specs.OfMap.{body_of}
 use Rattle.topo.specs.declared.geom.Geom.{Geom}
 use Rattle.query.specs.declared.uses.Use.{Use}
 
--- the use of arc k by the feature at place p
+-- the use of arc k by the feature at index p
 abbrev pub use_at : ℕ → ℕ → Use
-use_at k p = record { arc = k; place = p }
+use_at k p = record { arc = k; index = p }
 
--- the feature at the place uses each of the arcs
+-- the feature at the index uses each of the arcs
 abbrev pub refs_uses : ℕ → List ArcRef → List Use
-refs_uses p us = map_list (λ u. record { arc = u.arc; place = p }) us
+refs_uses p us = map_list (λ u. record { arc = u.arc; index = p }) us
 
 -- and each arc of its body
 abbrev pub body_uses : ℕ → Body Pos → List Use
@@ -26,15 +26,15 @@ body_uses p (polygon rs) = gathered (refs_uses p) rs
 body_uses p (polygons ps) = gathered (gathered (refs_uses p)) ps
 body_uses p b = []
 
--- the bodies from the place on, one after the other
+-- the bodies from the index on, one after the other
 abbrev pub bodies_uses : ℕ → List (Body Pos) → List Use
 bodies_uses p [] = []
 bodies_uses p (b ∷ bs) = body_uses p b ++ bodies_uses (p + 1) bs
 
--- those of the bodies of geometries, from place 0 on
+-- those of the bodies of geometries, from index 0 on
 abbrev pub geometries_uses : List Geom → List Use
 geometries_uses gs = bodies_uses 0 (map_list (λ g. body_of g.body) gs)
 
--- by arcs, then by places
+-- by arcs, then by indexes
 abbrev pub use_cmp : Use → Use → Ordering
-use_cmp u v = ordering_then (nat_cmp u.arc v.arc) (nat_cmp u.place v.place)
+use_cmp u v = ordering_then (nat_cmp u.arc v.arc) (nat_cmp u.index v.index)

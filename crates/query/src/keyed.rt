@@ -25,7 +25,7 @@ impl<'a> Written for IdKey<'a> {
     }
 }
 
-/// Writes a geometry's id, and the ids of the geometries at the places of a list.
+/// Writes a geometry's id, and the ids of the geometries at the indexes of a list.
 fn write_member<W: Sink>(
     separator: Text<'_>,
     geometries: &[Geom],
@@ -66,9 +66,9 @@ fn write_members<W: Sink>(
     Ok(())
 }
 
-/// Writes lists of places of a layer's geometries, as `neighbors` answers them, as a JSON object: for each geometry
+/// Writes lists of indexes of a layer's geometries, as `neighbors` answers them, as a JSON object: for each geometry
 /// that has a list, in their order, a member under its id, a number's by its decimal text, with the ids of the
-/// geometries at those places. An id that occurs twice gives two members of one name. It takes no memory.
+/// geometries at those indexes. An id that occurs twice gives two members of one name. It takes no memory.
 ///
 /// # Errors
 /// `Write` where the sink failed; it then took a beginning of the text.

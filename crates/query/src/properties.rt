@@ -23,23 +23,23 @@ fn value_text(alloc: Global, props: &Props, property: &str) -> Result<Option<Str
     }
 }
 
-/// The class of the value at a place: the first place with this value, or the place itself where there is none.
+/// The class of the value at an index: the first index with this value, or the index itself where there is none.
 fn class_at(
     classes: &mut BTreeMap<String, usize>,
-    place: usize,
+    index: usize,
     value: Option<String>,
 ) -> Result<usize, AllocError>
-    ensures class { IfOk result (λ c. c ≡ class_in (get_by_text classes.old) place (option_map string_bytes value)) }
-    ensures known { OnOk result ((q : List ℕ) → get_by_text classes.new q ≡ known_then (get_by_text classes.old) place (option_map string_bytes value) q) }
+    ensures class { IfOk result (λ c. c ≡ class_in (get_by_text classes.old) index (option_map string_bytes value)) }
+    ensures known { OnOk result ((q : List ℕ) → get_by_text classes.new q ≡ known_then (get_by_text classes.old) index (option_map string_bytes value) q) }
 {
     let Some(text) = value else {
-        return Ok(place);
+        return Ok(index);
     };
     if let Some(first) = classes.get(&text) {
         return Ok(*first);
     }
-    classes.insert(text, place)?;
-    Ok(place)
+    classes.insert(text, index)?;
+    Ok(index)
 }
 
 /// For each of the geometries a number, which two have in common where they have one value of the property.
@@ -52,9 +52,9 @@ pub(crate) fn classes_of(
 {
     let mut known = BTreeMap::new(alloc);
     let mut classes = Vec::new(alloc);
-    for place in 0..geometries.len() {
-        let value = value_text(alloc, &geometries[place].props, property)?;
-        classes.push(class_at(&mut known, place, value)?)?;
+    for index in 0..geometries.len() {
+        let value = value_text(alloc, &geometries[index].props, property)?;
+        classes.push(class_at(&mut known, index, value)?)?;
     }
     Ok(classes)
 }

@@ -8,24 +8,24 @@ use crate::members::Member;
 use crate::uses::{Use, note_body};
 use std::alloc::{AllocError, Global};
 
-/// The places of the least and the greatest feature that use an arc.
+/// The indexes of the least and the greatest feature that use an arc.
 #[derive(Clone, Copy, PartialEq, Eq, PartialOrd, Ord, Debug)]
 pub(crate) struct Span {
     pub(crate) least: usize,
     pub(crate) greatest: usize,
 }
 
-fn widen(old: Option<Span>, place: usize) -> Span
-    ensures { result ≡ widened old place }
+fn widen(old: Option<Span>, index: usize) -> Span
+    ensures { result ≡ widened old index }
 {
     match old {
         Some(span) => Span {
-            least: span.least.min(place),
-            greatest: span.greatest.max(place),
+            least: span.least.min(index),
+            greatest: span.greatest.max(index),
         },
         None => Span {
-            least: place,
-            greatest: place,
+            least: index,
+            greatest: index,
         },
     }
 }
@@ -34,17 +34,17 @@ fn note_use(spans: &mut [Option<Span>], used: Use)
     ensures { spans.new ≡ with_use spans.old used }
 {
     if used.arc < spans.len() {
-        spans[used.arc] = Some(widen(spans[used.arc], used.place));
+        spans[used.arc] = Some(widen(spans[used.arc], used.index));
     }
 }
 
-/// Which members use which arc, place by place.
+/// Which members use which arc, index by index.
 fn all_uses(alloc: Global, members: &[Member]) -> Result<Vec<Use>, AllocError>
     ensures { IfOk result (λ v. v.items ≡ bodies_uses 0 (map_list (λ p. body_of p.body.now) members.now)) }
 {
     let mut uses = Vec::new(alloc);
-    for place in 0..members.len() {
-        note_body(&mut uses, place, members[place].body)?;
+    for index in 0..members.len() {
+        note_body(&mut uses, index, members[index].body)?;
     }
     Ok(uses)
 }
@@ -74,7 +74,7 @@ pub(crate) fn spans_by(
     Ok(spans)
 }
 
-/// For each of the arcs the places of its least and its greatest user, where it has one.
+/// For each of the arcs the indexes of its least and its greatest user, where it has one.
 pub(crate) fn spans_of(
     alloc: Global,
     arcs: usize,

@@ -11,18 +11,18 @@ use crate::uses::{Use, note_body};
 use std::alloc::{AllocError, Global};
 use topo::Geom;
 
-/// The uses of arcs by these geometries, place by place.
+/// The uses of arcs by these geometries, index by index.
 pub(crate) fn uses_by(alloc: Global, geometries: &[&Geom]) -> Result<Vec<Use>, AllocError>
     ensures { IfOk result (λ v. v.items ≡ geometries_uses (lent geometries.now)) }
 {
     let mut uses = Vec::new(alloc);
-    for place in 0..geometries.len() {
-        note_body(&mut uses, place, &geometries[place].body)?;
+    for index in 0..geometries.len() {
+        note_body(&mut uses, index, &geometries[index].body)?;
     }
     Ok(uses)
 }
 
-/// The uses of arcs by these geometries, where the class of each stands for its place.
+/// The uses of arcs by these geometries, where the class of each stands for its index.
 pub(crate) fn uses_by_class(
     alloc: Global,
     geometries: &[&Geom],
@@ -32,8 +32,8 @@ pub(crate) fn uses_by_class(
     ensures { IfOk result (λ v. v.items ≡ class_uses classes.now (lent geometries.now)) }
 {
     let mut uses = Vec::new(alloc);
-    for place in 0..geometries.len() {
-        note_body(&mut uses, classes[place], &geometries[place].body)?;
+    for index in 0..geometries.len() {
+        note_body(&mut uses, classes[index], &geometries[index].body)?;
     }
     Ok(uses)
 }

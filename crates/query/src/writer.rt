@@ -86,7 +86,7 @@ impl Notation<Vec<usize>> for DecimalLists {
     }
 }
 
-/// Writes lists of places, as `neighbors` answers them, as compact JSON: a list of lists of numbers, in
+/// Writes lists of indexes, as `neighbors` answers them, as compact JSON: a list of lists of numbers, in
 /// their order. It takes no memory.
 ///
 /// # Errors
@@ -115,7 +115,7 @@ fn write_id<W: Sink>(id: &Id, sink: &mut W) -> Result<(), WriteFault>
 pub(crate) struct IdsOf<'a>(pub(crate) &'a [Geom]);
 
 impl<'a> Notation<usize> for IdsOf<'a> {
-    ghost text = { λ ids place. id_text_of (slice_get ids.0.now place) };
+    ghost text = { λ ids index. id_text_of (slice_get ids.0.now index) };
 
     fn write_value<W: Sink>(&self, value: &usize, sink: &mut W) -> Result<(), WriteFault> {
         match self.0.get(*value) {
@@ -125,7 +125,7 @@ impl<'a> Notation<usize> for IdsOf<'a> {
     }
 }
 
-/// Lists of such places, each in brackets.
+/// Lists of such indexes, each in brackets.
 #[derive(Clone, Copy)]
 struct IdListsOf<'a>(&'a [Geom]);
 
@@ -137,8 +137,8 @@ impl<'a> Notation<Vec<usize>> for IdListsOf<'a> {
     }
 }
 
-/// Writes lists of places of a layer's geometries, as `neighbors` answers them, as `write_neighbors` does, with
-/// the ids of the geometries in place of their places: a number or a text, or `null` where there is none. It
+/// Writes lists of indexes of a layer's geometries, as `neighbors` answers them, as `write_neighbors` does, with
+/// the ids of the geometries in place of their indexes: a number or a text, or `null` where there is none. It
 /// takes no memory.
 ///
 /// # Errors

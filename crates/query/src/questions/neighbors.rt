@@ -15,14 +15,14 @@ use crate::uses::{Use, note_geometries};
 use std::alloc::{AllocError, Global};
 use topo::{Geom, Topology};
 
-/// Two places whose features share an arc.
+/// Two indexes whose features share an arc.
 #[derive(Clone, Copy, PartialEq, Eq, PartialOrd, Ord, Debug)]
 pub(crate) struct IndexPair {
-    pub(crate) place: usize,
+    pub(crate) index: usize,
     pub(crate) other: usize,
 }
 
-/// Which features use which arc, place by place.
+/// Which features use which arc, index by index.
 fn all_uses(alloc: Global, geometries: &[Geom]) -> Result<Vec<Use>, AllocError>
     ensures { IfOk result (λ v. v.items ≡ geometries_uses geometries.now) }
 {
@@ -31,7 +31,7 @@ fn all_uses(alloc: Global, geometries: &[Geom]) -> Result<Vec<Use>, AllocError>
     Ok(uses)
 }
 
-/// Sorts uses by arcs and then by places, and keeps each once.
+/// Sorts uses by arcs and then by indexes, and keeps each once.
 fn sort_uses(uses: &mut Vec<Use>)
     ensures { AreSortedOnce use_cmp uses.old.items uses.new.items }
 {
@@ -48,18 +48,18 @@ fn note_pairs(pairs: &mut Vec<IndexPair>, user: Use, behind: &[Use]) -> Result<(
             return Ok(());
         }
         pairs.push(IndexPair {
-            place: user.place,
-            other: other.place,
+            index: user.index,
+            other: other.index,
         })?;
         pairs.push(IndexPair {
-            place: other.place,
-            other: user.place,
+            index: other.index,
+            other: user.index,
         })?;
     }
     Ok(())
 }
 
-/// The pairs of places whose features share an arc.
+/// The pairs of indexes whose features share an arc.
 fn all_pairs(alloc: Global, uses: &[Use]) -> Result<Vec<IndexPair>, AllocError>
     ensures { IfOk result (λ v. v.items ≡ pairs_among uses.now) }
 {
@@ -72,7 +72,7 @@ fn all_pairs(alloc: Global, uses: &[Use]) -> Result<Vec<IndexPair>, AllocError>
     Ok(pairs)
 }
 
-/// Sorts pairs by places and then by the other places, and keeps each once.
+/// Sorts pairs by indexes and then by the other indexes, and keeps each once.
 fn sort_pairs(pairs: &mut Vec<IndexPair>)
     ensures { AreSortedOnce pair_cmp pairs.old.items pairs.new.items }
 {
@@ -80,7 +80,7 @@ fn sort_pairs(pairs: &mut Vec<IndexPair>)
     pairs.dedup();
 }
 
-/// The pairs of places of geometries that share an arc, in order, each once.
+/// The pairs of indexes of geometries that share an arc, in order, each once.
 pub(crate) fn pairs_of(alloc: Global, geometries: &[Geom]) -> Result<Vec<IndexPair>, AllocError>
     ensures { IfOk result (λ v. ArePairsOf geometries.now v.items) }
 {
@@ -101,17 +101,17 @@ fn empty_lists(alloc: Global, count: usize) -> Result<Vec<Vec<usize>>, AllocErro
     Ok(lists)
 }
 
-/// Puts the other place of a pair at the end of the list of its place.
+/// Puts the other index of a pair at the end of the list of its index.
 fn note_other(lists: &mut Vec<Vec<usize>>, pair: IndexPair) -> Result<(), AllocError>
     ensures { OnOk result (map_list (λ l. l.items) lists.new.items ≡ with_other (map_list (λ l. l.items) lists.old.items) pair) }
 {
-    match lists.get_mut(pair.place) {
+    match lists.get_mut(pair.index) {
         Some(list) => Ok(list.push(pair.other)?),
         None => Ok(()),
     }
 }
 
-/// For each of so many places the other places of its pairs, in the order of the pairs.
+/// For each of so many indexes the other indexes of its pairs, in the order of the pairs.
 pub(crate) fn lists_of(
     alloc: Global,
     count: usize,
@@ -126,7 +126,7 @@ pub(crate) fn lists_of(
     Ok(lists)
 }
 
-/// For each feature of a layer, in order, the places of the other features of the layer that share a
+/// For each feature of a layer, in order, the indexes of the other features of the layer that share a
 /// segment with it, ascending.
 ///
 /// # Errors

@@ -24,21 +24,21 @@ fn classes_in(alloc: Global, geometries: &[Geom], property: &str) -> Result<Vec<
     classes_of(alloc, &noted, property)
 }
 
-/// The class at a place.
-fn class_of(classes: &[usize], place: usize) -> usize
-    ensures { result ≡ get_or classes.now place 0 }
+/// The class at an index.
+fn class_of(classes: &[usize], index: usize) -> usize
+    ensures { result ≡ get_or classes.now index 0 }
 {
-    classes.get(place).copied().unwrap_or(0)
+    classes.get(index).copied().unwrap_or(0)
 }
 
-/// Keeps the pairs whose places have two classes.
+/// Keeps the pairs whose indexes have two classes.
 fn keep_unlike(pairs: &mut Vec<IndexPair>, classes: &[usize])
     ensures { pairs.new.items ≡ filter (are_unlike classes.now) pairs.old.items }
 {
-    pairs.retain(|pair| class_of(classes, pair.place) != class_of(classes, pair.other));
+    pairs.retain(|pair| class_of(classes, pair.index) != class_of(classes, pair.other));
 }
 
-/// For each feature of a layer, in order, the places of the other features of the layer that share a segment with it and
+/// For each feature of a layer, in order, the indexes of the other features of the layer that share a segment with it and
 /// whose values of the property differ from its own, ascending. A feature without the property differs from every other
 /// feature, also from one without it.
 ///

@@ -4,5 +4,5 @@ use Rattle.query.specs.EachOnce.{lent}
 use Rattle.query.proofs.Classes.{Classed}
 use Rattle.query.proofs.properties.classes_of.Given as goal
 
-abbrev pub invariant-loop-place : goal.invariant-loop-place
-invariant-loop-place l = Classed (values_of l.fn.property (lent l.fn.geometries)) l.place (get_by_text l.known) l.classes.items
+abbrev pub invariant-loop-index : goal.invariant-loop-index
+invariant-loop-index l = Classed (values_of l.fn.property (lent l.fn.geometries)) l.index (get_by_text l.known) l.classes.items

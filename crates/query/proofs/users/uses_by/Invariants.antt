@@ -4,6 +4,6 @@ use Rattle.query.specs.EachOnce.{lent}
 use Rattle.query.specs.Uses.{bodies_uses, geometries_uses}
 use Rattle.query.proofs.users.uses_by.Given as goal
 
-abbrev pub invariant-loop-place : goal.invariant-loop-place
-invariant-loop-place l =
-    l.uses.items ++ bodies_uses l.place (map (λ g. body_of g.body) (lent (drop l.place l.fn.geometries))) ≡ geometries_uses (lent l.fn.geometries)
+abbrev pub invariant-loop-index : goal.invariant-loop-index
+invariant-loop-index l =
+    l.uses.items ++ bodies_uses l.index (map (λ g. body_of g.body) (lent (drop l.index l.fn.geometries))) ≡ geometries_uses (lent l.fn.geometries)

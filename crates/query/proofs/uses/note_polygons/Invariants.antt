@@ -5,5 +5,5 @@ use Rattle.query.proofs.uses.note_polygons.Given as goal
 
 abbrev pub invariant-loop-lists : goal.invariant-loop-lists
 invariant-loop-lists l =
-    l.uses.items ++ gathered (gathered (refs_uses l.fn.place)) (drop l.lists-index l.fn.polygons)
-    ≡ l.fn.uses.items ++ gathered (gathered (refs_uses l.fn.place)) l.fn.polygons
+    l.uses.items ++ gathered (gathered (refs_uses l.fn.index)) (drop l.lists-index l.fn.polygons)
+    ≡ l.fn.uses.items ++ gathered (gathered (refs_uses l.fn.index)) l.fn.polygons
