@@ -3,6 +3,7 @@
 #![tactic(auto)]
 
 pub mod arc_slice;
+pub mod body_lists;
 mod bounds;
 mod building;
 mod cuts;
@@ -15,6 +16,7 @@ pub mod walk;
 pub mod writing;
 
 pub use arc_slice::ArcSlice;
+pub use body_lists::BodyLists;
 pub use geom::{Body, Geom};
 pub use order::{kind_order, order_of};
 pub use topology::{Layer, Topology};
