@@ -1,3 +1,4 @@
+pub mod BodyUses
 pub mod QualityLemmas
 pub mod Tables
 pub mod Standings

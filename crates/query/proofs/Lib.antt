@@ -1,3 +1,4 @@
+pub mod BodyUses
 pub mod Sides
 pub mod SortedOnce
 pub mod Orders

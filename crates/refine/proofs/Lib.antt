@@ -1,3 +1,4 @@
+pub mod BodyLists
 pub mod MeantTexts
 pub mod JoinedParts
 pub mod WrittenTexts

@@ -242,31 +242,11 @@ fn mark_list(kept: &mut [bool], used: &[ArcRef])
     }
 }
 
-fn mark_lists(kept: &mut [bool], lists: &[Items<ArcRef>])
-    ensures { kept.new ≡ marked_by kept.old (joined lists.now) }
-{
-    for used in lists {
-        mark_list(kept, used.as_slice());
-    }
-}
-
-fn mark_polygons(kept: &mut [bool], polygons: &[Items<Items<ArcRef>>])
-    ensures { kept.new ≡ marked_by kept.old (joined (joined polygons.now)) }
-{
-    for rings in polygons {
-        mark_lists(kept, rings.as_slice());
-    }
-}
-
 fn mark_body(kept: &mut [bool], body: &Body)
     ensures { kept.new ≡ marked_by kept.old (left_lists.body_refs body.now) }
 {
-    match body {
-        Body::Null | Body::Point(_) | Body::MultiPoint(_) => (),
-        Body::Line(used) => mark_list(kept, used.as_slice()),
-        Body::MultiLine(lists) => mark_lists(kept, lists.as_slice()),
-        Body::Polygon(rings) => mark_lists(kept, rings.as_slice()),
-        Body::MultiPolygon(polygons) => mark_polygons(kept, polygons.as_slice()),
+    for used in body.lists() {
+        mark_list(kept, used);
     }
 }
 
@@ -310,28 +290,13 @@ fn note_line(ends: &mut Vec<Pos>, topology: &Topology, used: &[ArcRef]) -> Resul
     Ok(())
 }
 
-fn note_lines(
-    ends: &mut Vec<Pos>,
-    topology: &Topology,
-    lists: &[Items<ArcRef>],
-) -> Result<(), OutOfMemory>
-    ensures { OnOk result (ends.new.items ≡ ends.old.items ++ gathered (left_lists.line_ends topology.now.arcs.arcs) lists.now) }
-{
-    for used in lists {
-        note_line(ends, topology, used.as_slice())?;
-    }
-    Ok(())
-}
-
 fn note_body(ends: &mut Vec<Pos>, topology: &Topology, body: &Body) -> Result<(), OutOfMemory>
     ensures { OnOk result (ends.new.items ≡ ends.old.items ++ left_lists.body_ends topology.now.arcs.arcs body.now) }
 {
-    match body {
-        Body::Line(used) => note_line(ends, topology, used.as_slice()),
-        Body::MultiLine(lists) => note_lines(ends, topology, lists.as_slice()),
-        Body::Null | Body::Point(_) | Body::MultiPoint(_) => Ok(()),
-        Body::Polygon(_) | Body::MultiPolygon(_) => Ok(()),
+    for used in body.lines() {
+        note_line(ends, topology, used)?;
     }
+    Ok(())
 }
 
 fn note_layer(

@@ -3,11 +3,11 @@ ghost use Rattle.compare.specs.Quality.Uses.{all_uses, body_uses, geometries_use
 ghost use Rattle.std.specs.List.Sorted.{IsPermutation, IsSorted};
 ghost use Rattle.std.specs.Prelude.{◌≡◌, ◌++◌, IfOk, OnOk};
 ghost use Rattle.theory.specs.Lists.{gathered};
+ghost use Rattle.topo.specs.BodyLists.{body_lists};
 
 use crate::quality::vertex::VertexUse;
 use chains::ArcRef;
 use grid::pos::Pos;
-use lines::items::Items;
 use std::alloc::{AllocError, Global};
 use topo::{Body, Geom, Layer, Topology};
 
@@ -47,30 +47,17 @@ fn note_line(
     Ok(())
 }
 
-fn note_lines(
+/// Notes that a feature has the positions of its lines and rings.
+fn note_lists(
     uses: &mut Vec<VertexUse>,
     topology: &Topology,
     feature: usize,
-    lists: &[Items<ArcRef>],
+    body: &Body,
 ) -> Result<(), AllocError>
-    ensures { OnOk result (uses.new.items ≡ uses.old.items ++ gathered (line_uses topology.now.arcs.arcs feature) lists.now) }
+    ensures { OnOk result (uses.new.items ≡ uses.old.items ++ gathered (line_uses topology.now.arcs.arcs feature) (body_lists body.now)) }
 {
-    for refs in lists {
-        note_line(uses, topology, feature, refs.as_slice())?;
-    }
-    Ok(())
-}
-
-fn note_polygons(
-    uses: &mut Vec<VertexUse>,
-    topology: &Topology,
-    feature: usize,
-    polygons: &[Items<Items<ArcRef>>],
-) -> Result<(), AllocError>
-    ensures { OnOk result (uses.new.items ≡ uses.old.items ++ gathered (gathered (line_uses topology.now.arcs.arcs feature)) polygons.now) }
-{
-    for lists in polygons {
-        note_lines(uses, topology, feature, lists.as_slice())?;
+    for refs in body.lists() {
+        note_line(uses, topology, feature, refs)?;
     }
     Ok(())
 }
@@ -85,16 +72,12 @@ fn note_body(
     ensures { OnOk result (uses.new.items ≡ uses.old.items ++ body_uses topology.now.arcs.arcs feature body.now) }
 {
     match body {
-        Body::Null => Ok(()),
         Body::Point(place) => Ok(uses.push(VertexUse {
             at: *place,
             feature,
         })?),
         Body::MultiPoint(places) => note_places(uses, feature, places.as_slice()),
-        Body::Line(refs) => note_line(uses, topology, feature, refs.as_slice()),
-        Body::MultiLine(lists) => note_lines(uses, topology, feature, lists.as_slice()),
-        Body::Polygon(lists) => note_lines(uses, topology, feature, lists.as_slice()),
-        Body::MultiPolygon(polygons) => note_polygons(uses, topology, feature, polygons.as_slice()),
+        _ => note_lists(uses, topology, feature, body),
     }
 }
 

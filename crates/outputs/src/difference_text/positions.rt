@@ -1,7 +1,6 @@
 //! The positions of a geometry, each once.
 use chains::ArcRef;
 use grid::Pos;
-use lines::items::Items;
 use std::alloc::{AllocError, Global};
 use topo::{Body, Topology};
 
@@ -20,14 +19,9 @@ pub(crate) fn positions_of(
 
 fn push_body(topology: &Topology, body: &Body, positions: &mut Vec<Pos>) -> Result<(), AllocError> {
     match body {
-        Body::Null => Ok(()),
         Body::Point(position) => Ok(positions.push(*position)?),
         Body::MultiPoint(others) => push_each(others.as_slice(), positions),
-        Body::Line(used) => push_walk(topology, used.as_slice(), positions),
-        Body::MultiLine(lists) | Body::Polygon(lists) => {
-            push_walks(topology, lists.as_slice(), positions)
-        }
-        Body::MultiPolygon(polygons) => push_polygons(topology, polygons.as_slice(), positions),
+        _ => push_walks(topology, body, positions),
     }
 }
 
@@ -52,22 +46,11 @@ fn push_walk(
 
 fn push_walks(
     topology: &Topology,
-    lists: &[Items<ArcRef>],
+    body: &Body,
     positions: &mut Vec<Pos>,
 ) -> Result<(), AllocError> {
-    for used in lists {
-        push_walk(topology, used.as_slice(), positions)?;
-    }
-    Ok(())
-}
-
-fn push_polygons(
-    topology: &Topology,
-    polygons: &[Items<Items<ArcRef>>],
-    positions: &mut Vec<Pos>,
-) -> Result<(), AllocError> {
-    for rings in polygons {
-        push_walks(topology, rings.as_slice(), positions)?;
+    for used in body.lists() {
+        push_walk(topology, used, positions)?;
     }
     Ok(())
 }
