@@ -1,5 +1,5 @@
 -- The uses of a body of lines or rings are those of its lists.
-use Rattle.std.proofs.Common.{◌≡◌, ℕ, List, ⊥, append-nil, refl}
+use Rattle.std.proofs.Common.{◌≡◌, ℕ, List, append-nil, refl}
 use Rattle.grid.specs.declared.pos.Pos.{Pos}
 use Rattle.theory.specs.Lists.{gathered}
 use Rattle.topo.proofs.Gathered.{gathered_joined}
@@ -9,10 +9,10 @@ use Rattle.topo.specs.declared.geom.Body.TheVariants.{Null, Point, MultiPoint, L
 use Rattle.compare.specs.Quality.Uses.{body_uses, line_uses}
 
 pub uses_of_lists : (arcs : List (List Pos)) (n : ℕ) (b : Body) → ((p : Pos) → b ≡ Point p → ⊥) → ((ps : List Pos) → b ≡ MultiPoint ps → ⊥) → gathered (line_uses arcs n) (body_lists b) ≡ body_uses arcs n b
-uses_of_lists arcs n Null no none = refl
-uses_of_lists arcs n (Point p) no none = absurd (no p refl)
-uses_of_lists arcs n (MultiPoint ps) no none = absurd (none ps refl)
-uses_of_lists arcs n (Line used) no none = append-nil (line_uses arcs n used)
-uses_of_lists arcs n (MultiLine lists) no none = refl
-uses_of_lists arcs n (Polygon lists) no none = refl
-uses_of_lists arcs n (MultiPolygon ps) no none = gathered_joined (line_uses arcs n) ps
+uses_of_lists arcs n Null point points = refl
+uses_of_lists arcs n (Point p) point points = absurd (point p refl)
+uses_of_lists arcs n (MultiPoint ps) point points = absurd (points ps refl)
+uses_of_lists arcs n (Line used) point points = append-nil (line_uses arcs n used)
+uses_of_lists arcs n (MultiLine lists) point points = refl
+uses_of_lists arcs n (Polygon lists) point points = refl
+uses_of_lists arcs n (MultiPolygon ps) point points = gathered_joined (line_uses arcs n) ps

@@ -1,4 +1,4 @@
-use Rattle.std.proofs.Common.{◌≡◌, ◌++◌, append_assoc, append-nil, ap, sym, ◌∙◌}
+use Rattle.std.proofs.Common.{◌++◌, append_assoc, append-nil, ap, sym, ◌∙◌}
 use Rattle.theory.specs.Lists.{gathered}
 use Rattle.compare.specs.Quality.Uses.{line_uses}
 use Rattle.compare.proofs.quality.uses.note_lists.Goals as goal
