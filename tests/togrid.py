@@ -603,6 +603,15 @@ def wrong_halves(folder, made, built, asked):
     return None if asked.distance else wrong_merge(files, built, asked)
 
 
+def is_behind(folder, words, text):
+    """Whether a text is written behind the report, where a terminal shows both."""
+    with open(f"{folder}/shown", "wb") as it:
+        run = subprocess.run([TOGRID, *words], stdout=it, stderr=it)
+    with open(f"{folder}/shown", "rb") as it:
+        shown = it.read()
+    return run.returncode == 0 and len(shown) > len(text) and shown.endswith(text)
+
+
 def wrong_topology(file, folder, made, text, asked):
     """What differs of the topology of a text, and of its way back."""
     with open(f"{folder}/map.json", "wb") as it:
@@ -611,6 +620,11 @@ def wrong_topology(file, folder, made, text, asked):
     whole = subprocess.run([TOGRID, "--build", "-q", *asked.words, file], capture_output=True)
     if (whole.returncode, whole.stdout) != (built.returncode, built.stdout):
         return f"--build differs: {whole.stderr!r} {built.stderr!r}"
+    for words in ([], ["-o", "-"]):
+        if not is_behind(folder, ["--build", *words, *asked.words, file], built.stdout):
+            return f"--build {words}: not behind the report"
+    if not is_behind(folder, [*asked.words, file], text):
+        return "not behind the report"
     with open(f"{folder}/map.topo.json", "wb") as it:
         it.write(built.stdout)
     words = ["--step", asked.word or "0.000001", *asked.origin_words]

@@ -14,6 +14,14 @@ pub const OUTPUT_BUFFER: usize = 65536;
 /// The word after `--output` that stands for standard output.
 const STANDARD_OUTPUT: &str = "-";
 
+/// Whether a word after `--output`, or none, stands for standard output.
+pub fn is_standard(word: Option<&str>) -> bool {
+    match word {
+        Some(name) => name == STANDARD_OUTPUT,
+        None => true,
+    }
+}
+
 /// How many names are tried for the file that is written first.
 const MOST_NAMES: u32 = 1000;
 
@@ -136,7 +144,7 @@ fn place_of_word<'a, F: Files>(
     files: &mut F,
     name: &str,
 ) -> Result<OutputPlace, Refusal<'a>> {
-    if name == STANDARD_OUTPUT {
+    if is_standard(Some(name)) {
         return Ok(OutputPlace::Standard);
     }
     match files.find_output(alloc, name)? {

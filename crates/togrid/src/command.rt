@@ -8,7 +8,7 @@ use crate::rounding::{Rounded, round_files};
 use clap::ArgMatches;
 use command_line::ending::{explain, refuse};
 use command_line::files::{Files, input_once};
-use command_line::output::write_output;
+use command_line::output::{is_standard, write_output};
 use command_line::refusal::{Refusal, Usage};
 use command_line::status::Status;
 use command_line::togrid::parse;
@@ -82,7 +82,8 @@ fn round<'a, F: Files, O: Sink, E: Sink>(
     } else {
         options.output
     };
-    if options.output.is_some() {
+    let is_last = is_shown(options);
+    if !is_last {
         made.write(alloc, options, files, out)?;
     }
     let report = Report {
@@ -98,7 +99,7 @@ fn round<'a, F: Files, O: Sink, E: Sink>(
     if !options.is_quiet {
         let _ = put_report(alloc, &report, err);
     }
-    if options.output.is_none() {
+    if is_last {
         made.write(alloc, options, files, out)?;
     }
     Ok(status_of(options, &rounded))
@@ -109,6 +110,14 @@ fn round<'a, F: Files, O: Sink, E: Sink>(
 enum OutputTexts {
     Topology(Vec<u8>),
     Sheets(Vec<(String, Sheet)>),
+}
+
+/// Whether the texts go to standard output. Each of them alone goes into a folder where one is named.
+fn is_shown(options: &GridOptions<'_>) -> bool {
+    match options.output {
+        Some(word) => options.is_build && is_standard(Some(word)),
+        None => true,
+    }
 }
 
 /// What the options ask for, made of the files that were rounded.
