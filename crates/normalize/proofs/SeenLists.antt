@@ -1,31 +1,14 @@
 -- Where lines begin and end, as the code tells it.
-use Rattle.std.proofs.Common.{◌≡◌, ℕ, ◌+◌, ◌-◌, ◌<◌, Bool, true, false, List, [], ◌∷◌, ◌++◌, drop, get_or, length, refl, sym, ap, ◌∙◌, append_assoc, arith, Option, slice_get}
+use Rattle.std.proofs.Common.{◌≡◌, ℕ, ◌+◌, ◌<◌, List, ◌∷◌, ◌++◌, drop, get_or, length, sym, ap, ◌∙◌, append_assoc}
 use Rattle.grid.specs.declared.pos.Pos.{Pos}
 use Rattle.lines.proofs.Dropping.{drop_item}
 use Rattle.theory.specs.ArcNumbers.{ArcRef, flipped}
 use Rattle.theory.specs.Lists.{gathered, last_of}
 use Rattle.chains.proofs.Layers.{gathered-append}
-use Rattle.validate.specs.Chaining.{ends_in, first_end}
-use Rattle.validate.proofs.Steps.{last_get}
 use Rattle.normalize.specs.Seen.{list_ends, start_along}
 use Rattle.normalize.specs.Used.{lists_marked}
 use Rattle.normalize.specs.declared.seen.ArcsSeen.{ArcsSeen}
 use Rattle.normalize.proofs.Marks.{marked-append}
-
--- the first vertex of an arc, and the last
-pub first_told : (b : Bool) (l : List Pos) (o : Option Pos) → b ≡ false → o ≡ slice_get l 0 → o ≡ first_end (ends_in b l)
-first_told b l o f e = e ∙ go l ∙ ap (λ w. first_end (ends_in w l)) (sym f)
-  where
-    go : (l : List Pos) → slice_get l 0 ≡ first_end (ends_in false l)
-    go [] = refl
-    go (x ∷ l) = refl
-
-pub last_told : (b : Bool) (l : List Pos) (o : Option Pos) → b ≡ true → o ≡ slice_get l (length l - 1) → o ≡ first_end (ends_in b l)
-last_told b l o f e = e ∙ go l ∙ ap (λ w. first_end (ends_in w l)) (sym f)
-  where
-    go : (l : List Pos) → slice_get l (length l - 1) ≡ first_end (ends_in true l)
-    go [] = refl
-    go (x ∷ l) = let k : length (x ∷ l) - 1 ≡ length l = omega arith in ap (slice_get (x ∷ l)) k ∙ last_get x l
 
 pub ends_added : (arcs : List (List Pos)) (refs others : List ArcRef) (a back : ArcRef) (old mid now : List Pos) → refs ≡ a ∷ others → back ≡ flipped (last_of a others) →
     mid ≡ old ++ start_along arcs a → now ≡ mid ++ start_along arcs back → now ≡ old ++ list_ends arcs refs

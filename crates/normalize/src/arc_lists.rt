@@ -1,7 +1,6 @@
 //! Which lists of a text's arcs are lines or rings, told by what is known of each arc, so that the positions
 //! of a list need not be put together.
 
-mod chaining;
 mod labels;
 pub mod lists;
 mod segments;

@@ -3,10 +3,9 @@ ghost use Rattle.normalize.specs.Seen as spec;
 ghost use Rattle.normalize.specs.Seen.{geometry_lists, layer_ends, layer_lists};
 ghost use Rattle.normalize.specs.Used.{lists_marked};
 ghost use Rattle.validate.specs.UsedArcs.{marks_set};
-ghost use Rattle.validate.specs.Chaining.{ends_along, ends_in, first_end};
 ghost use Rattle.std.specs.Prelude.{◌≡◌, ◌++◌, [], IfOk, OnOk, false, length, replicate, true};
 ghost use Rattle.validate.specs.Accept.Lists.{body_lines, body_rings, layers_lines, lines_of};
-ghost use Rattle.theory.specs.Lists.{gathered, last_of};
+ghost use Rattle.theory.specs.Lists.{gathered};
 
 use crate::used::{mark_each, mark_lists, mark_polygons};
 use chains::ArcRef;
@@ -15,46 +14,18 @@ use lines::items::Items;
 use std::alloc::{AllocError, Global};
 use topo::{Body, Geom, Layer};
 use validate::accept::TextArcs;
-
-/// The first vertex of an arc, or of its reverse.
-fn first_along(arc: &[Pos], reversed: bool) -> Option<Pos>
-    ensures { result ≡ first_end (ends_in reversed arc.now) }
-{
-    if reversed {
-        arc.last().copied()
-    } else {
-        arc.first().copied()
-    }
-}
-
-/// The vertex at which a used arc begins.
-fn start_along(arcs: &TextArcs, used: ArcRef) -> Option<Pos>
-    ensures { result ≡ first_end (ends_along arcs.now used) }
-{
-    match arcs.arc(used.arc) {
-        Some(arc) => first_along(arc, used.reversed),
-        None => None,
-    }
-}
+use validate::chaining::last_from;
+use validate::ends_along;
 
 fn add_start(ends: &mut Vec<Pos>, arcs: &TextArcs, used: ArcRef) -> Result<(), AllocError>
     ensures { OnOk result (ends.new.items ≡ ends.old.items ++ spec.start_along arcs.now used) }
 {
-    match start_along(arcs, used) {
-        Some(start) => {
+    match ends_along(arcs, used) {
+        Some((start, _)) => {
             ends.push(start)?;
             Ok(())
         }
         None => Ok(()),
-    }
-}
-
-fn last_ref(first: ArcRef, others: &[ArcRef]) -> ArcRef
-    ensures { result ≡ last_of first others.now }
-{
-    match others.last() {
-        Some(last) => *last,
-        None => first,
     }
 }
 
@@ -65,7 +36,7 @@ fn add_list_ends(ends: &mut Vec<Pos>, arcs: &TextArcs, refs: &[ArcRef]) -> Resul
     let Some((first, others)) = refs.split_first() else {
         return Ok(());
     };
-    let last = last_ref(*first, others);
+    let last = last_from(*first, others);
     let back = last.flip();
     add_start(ends, arcs, *first)?;
     add_start(ends, arcs, back)?;

@@ -8,6 +8,7 @@ use Rattle.theory.specs.Lists.{front_of, last_of}
 use Rattle.theory.specs.Validity.{Runs}
 use Rattle.theory.proofs.Reversing.{last_back, reverse-last}
 use Rattle.validate.specs.Chaining.{ends_along, ends_if, ends_in, first_end, gone_on, next_from, run_from, start_of}
+use Rattle.validate.proofs.Steps.{last_get}
 
 abbrev first_or : Pos → Option (Pos × Pos) → Pos
 first_or d None = d
@@ -17,12 +18,8 @@ abbrev second_or : Pos → Option (Pos × Pos) → Pos
 second_or d None = d
 second_or d (Some e) = e.1
 
-last_get : {V : Type 0} (x : V) (l : List V) → slice_get (x ∷ l) (length l) ≡ Some (last_of x l)
-last_get x [] = refl
-last_get x (y ∷ l) = last_get y l
-
 -- the last of a list behind x, as the code has it
-pub last_told : (x a : Pos) (l : List Pos) → Some a ≡ slice_get l (length l - 1) → a ≡ last_of x l
+pub last_told : {A : Type 0} (x a : A) (l : List A) → Some a ≡ slice_get l (length l - 1) → a ≡ last_of x l
 last_told x a [] e = absurd cc
 last_told x a (y ∷ l) e =
     let k : length (y ∷ l) - 1 ≡ length l = omega arith in

@@ -1,5 +1,5 @@
 -- Ends that meet, as the code tells it.
-use Rattle.std.proofs.Common.{◌≡◌, ◌-◌, ◌≤◌, Bool, true, false, ◌||◌, ◌↔◌, List, [], ◌∷◌, ◌++◌, ◌⊎◌, length, inl, inr, refl, sym, ap, ◌∙◌, arith, Option, Some, None, slice_get}
+use Rattle.std.proofs.Common.{◌≡◌, ◌≤◌, Bool, true, false, ◌||◌, ◌↔◌, List, [], ◌∷◌, ◌++◌, ◌⊎◌, inl, inr, refl, sym, ap, ◌∙◌, arith, Option, Some, None}
 use Rattle.std.specs.List.Sorted.{IsPermutation, IsSorted}
 use Rattle.std.proofs.lemmas.List.Sorted.{IsPermutation-sym}
 use Rattle.grid.specs.declared.pos.Pos.{Pos}
@@ -19,7 +19,7 @@ use Rattle.chains.proofs.TablesAsMap.{given, has_open, open_has}
 use Rattle.validate.specs.ArcEnds.{EndsMeet, again, both_ends, both_if}
 use Rattle.validate.specs.EndTests.{both_are, each_ends, ends_are}
 use Rattle.validate.specs.declared.end_tests.EndsHaveToBe.TheVariants.{Among}
-use Rattle.validate.proofs.Steps.{all_from, all_has, last_get}
+use Rattle.validate.proofs.Steps.{all_from, all_has}
 use Rattle.validate.proofs.Threes.{count, count_again, count_has, count_moved, has_count, three_told, up_again}
 
 pub both_given : (o : Option (List Pos)) → both_if o ≡ given both_ends o
@@ -75,10 +75,3 @@ module _ (t : Arcs) (lines ends sorted meeting : List Pos) (made : ends ≡ gath
       go : EndsMeet t.arcs (table_as_map t) lines → (c : List Pos) → Has c t.arcs → (d : Bool) → is_loop t.loops c ≡ d → (d || both_are Among meeting c) ≡ true
       go h c k true f = refl
       go h c k false f = in_ends meeting c (λ v i. from v (h c (has_open t.loops t.arcs c k f) v i))
-
-pub last_told : {A : Type 0} (x a : A) (l : List A) → Some a ≡ slice_get l (length l - 1) → a ≡ last_of x l
-last_told x a [] e = absurd cc
-last_told x a (y ∷ l) e =
-    let k : length (y ∷ l) - 1 ≡ length l = omega arith in
-    let m : Some a ≡ Some (last_of y l) = e ∙ ap (slice_get (y ∷ l)) k ∙ last_get y l in
-    let f : a ≡ last_of y l = cc in f

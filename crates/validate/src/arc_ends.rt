@@ -4,7 +4,7 @@ ghost use Rattle.validate.specs.ArcEnds as spec;
 ghost use Rattle.validate.specs.ArcEnds.{EndsMeet, both_ends, both_if, line_ends};
 ghost use Rattle.validate.specs.Chaining as list;
 ghost use Rattle.std.specs.Prelude.{◌≡◌, ◌↔◌, ◌++◌, true, slice_get, IfOk, OnOk};
-ghost use Rattle.theory.specs.Lists.{gathered, last_of};
+ghost use Rattle.theory.specs.Lists.{gathered};
 
 use crate::chaining::{ends_in, last_from};
 use crate::end_tests::{EndsHaveToBe, each_ends};
@@ -23,15 +23,6 @@ fn ends_of(arcs: &[Items<Pos>], used: ArcRef) -> Option<(Pos, Pos)>
     }
 }
 
-fn last_ref(first: ArcRef, others: &[ArcRef]) -> ArcRef
-    ensures { result ≡ last_of first others.now }
-{
-    match others.last() {
-        Some(last) => *last,
-        None => first,
-    }
-}
-
 /// Adds where a line begins and ends, by its list of used arcs.
 ///
 /// # Errors
@@ -46,7 +37,7 @@ pub fn add_line_ends(
     let Some((first, others)) = refs.split_first() else {
         return Ok(());
     };
-    let last = last_ref(*first, others);
+    let last = last_from(*first, others);
     if let (Some((start, _)), Some((_, end))) = (ends_of(arcs, *first), ends_of(arcs, last)) {
         ends.push(start)?;
         ends.push(end)?;

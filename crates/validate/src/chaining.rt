@@ -1,15 +1,16 @@
-//! Lists of used arcs, validated by the ends of the arcs alone.
+//! Where lists of used arcs begin and end, by the ends of the arcs alone.
 ghost use Rattle.grid.specs.declared.pos.Pos.{Pos};
 ghost use Rattle.validate.specs.Chaining as spec;
 ghost use Rattle.std.specs.Prelude.{◌≡◌, IfNone, IfSome, [], slice_get};
 ghost use Rattle.theory.specs.Lists.{last_of};
 ghost use Rattle.theory.specs.Validity.{Runs};
 
-use chains::table::{ArcRef, ArcTable};
+use crate::numbered_arcs::NumberedArcs;
+use chains::table::ArcRef;
 use grid::pos::Pos;
 
-/// The last of some vertices, or the one before them where there are none.
-pub(crate) fn last_from(first: Pos, others: &[Pos]) -> Pos
+/// The last of some values, or the one before them where there are none.
+pub fn last_from<T: Copy>(first: T, others: &[T]) -> T
     ensures { result ≡ last_of first others.now }
 {
     match others.last() {
@@ -34,20 +35,20 @@ pub(crate) fn ends_in(arc: &[Pos], reversed: bool) -> Option<(Pos, Pos)>
 }
 
 /// The first and the last vertex along a used arc; `None` where no arc has its number.
-fn ends_along(table: &ArcTable, used: ArcRef) -> Option<(Pos, Pos)>
-    ensures { result ≡ spec.ends_along table.now.arcs used }
+pub fn ends_along<A: NumberedArcs>(arcs: &A, used: ArcRef) -> Option<(Pos, Pos)>
+    ensures { result ≡ spec.ends_along (A.arcs arcs.now) used }
 {
-    match table.arc(used.arc) {
+    match arcs.arc(used.arc) {
         Some(arc) => ends_in(arc, used.reversed),
         None => None,
     }
 }
 
 /// Where a used arc leads from a vertex; `None` where it doesn't begin there.
-fn next_from(table: &ArcTable, here: Pos, used: ArcRef) -> Option<Pos>
-    ensures { result ≡ spec.next_from here (spec.ends_along table.now.arcs used) }
+fn next_from<A: NumberedArcs>(arcs: &A, here: Pos, used: ArcRef) -> Option<Pos>
+    ensures { result ≡ spec.next_from here (spec.ends_along (A.arcs arcs.now) used) }
 {
-    match ends_along(table, used) {
+    match ends_along(arcs, used) {
         Some((first, last)) => { if first == here { Some(last) } else { None } }
         None => None,
     }
@@ -55,12 +56,12 @@ fn next_from(table: &ArcTable, here: Pos, used: ArcRef) -> Option<Pos>
 
 /// Where used arcs end of which the first begins at a vertex, and each other where the one before it
 /// ends; `None` where they don't.
-fn run_from(table: &ArcTable, start: Pos, refs: &[ArcRef]) -> Option<Pos>
-    ensures { result ≡ spec.run_from table.now.arcs start refs.now }
+fn run_from<A: NumberedArcs>(arcs: &A, start: Pos, refs: &[ArcRef]) -> Option<Pos>
+    ensures { result ≡ spec.run_from (A.arcs arcs.now) start refs.now }
 {
     let mut here = start;
     for used in refs {
-        match next_from(table, here, *used) {
+        match next_from(arcs, here, *used) {
             Some(next) => here = next,
             None => return None,
         }
@@ -69,11 +70,11 @@ fn run_from(table: &ArcTable, start: Pos, refs: &[ArcRef]) -> Option<Pos>
 }
 
 /// Where a list of used arcs begins.
-fn start_of(table: &ArcTable, refs: &[ArcRef]) -> Option<Pos>
-    ensures { result ≡ spec.start_of table.now.arcs refs.now }
+fn start_of<A: NumberedArcs>(arcs: &A, refs: &[ArcRef]) -> Option<Pos>
+    ensures { result ≡ spec.start_of (A.arcs arcs.now) refs.now }
 {
     match refs.first() {
-        Some(first) => match ends_along(table, *first) {
+        Some(first) => match ends_along(arcs, *first) {
             Some((start, _)) => Some(start),
             None => None,
         },
@@ -83,15 +84,15 @@ fn start_of(table: &ArcTable, refs: &[ArcRef]) -> Option<Pos>
 
 /// Where a list of used arcs begins and ends; `None` exactly where it is empty, or some arc of it
 /// doesn't begin where the one before it ends.
-pub fn run(table: &ArcTable, refs: &[ArcRef]) -> Option<(Pos, Pos)>
-    ensures runs { IfSome result (λ e. Runs table.now.arcs e.0 refs.now e.1) }
+pub fn run<A: NumberedArcs>(arcs: &A, refs: &[ArcRef]) -> Option<(Pos, Pos)>
+    ensures runs { IfSome result (λ e. Runs (A.arcs arcs.now) e.0 refs.now e.1) }
     ensures some { IfSome result (λ _. ¬ (refs.now ≡ [])) }
-    ensures none { IfNone result ((v w : Pos) → ¬ (refs.now ≡ []) → ¬ Runs table.now.arcs v refs.now w) }
+    ensures none { IfNone result ((v w : Pos) → ¬ (refs.now ≡ []) → ¬ Runs (A.arcs arcs.now) v refs.now w) }
 {
-    let Some(start) = start_of(table, refs) else {
+    let Some(start) = start_of(arcs, refs) else {
         return None;
     };
-    match run_from(table, start, refs) {
+    match run_from(arcs, start, refs) {
         Some(end) => Some((start, end)),
         None => None,
     }

@@ -10,13 +10,15 @@ pub mod laws;
 pub mod lists;
 pub mod loops;
 pub mod noding;
+pub mod numbered_arcs;
 mod ring_starts;
 mod shared_vertices;
 pub mod used_arcs;
 
 pub use arc_ends::{add_line_ends, ends_meet};
-pub use chaining::run;
+pub use chaining::{ends_along, run};
 pub use lists::{line_run, ring_stands};
 pub use loops::free_loops;
 pub use noding::{arcs_in_order, is_apart};
+pub use numbered_arcs::NumberedArcs;
 pub use used_arcs::ArcsUsed;

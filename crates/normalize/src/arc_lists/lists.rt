@@ -9,7 +9,6 @@ ghost use Rattle.lines.specs.Turned.{position_cmp};
 ghost use Rattle.std.specs.Prelude.{◌≡◌, ◌++◌, [], IfOk, OnOk, min, true};
 ghost use Rattle.theory.specs.Validity.{Runs};
 
-use crate::arc_lists::chaining::{have_ends, run};
 use crate::arc_lists::labels::{label_of, labels_of};
 use crate::arc_lists::summaries::{ArcSummary, summaries_of};
 use crate::arc_lists::verdict::ListVerdict;
@@ -19,6 +18,7 @@ use lines::neighbours::has_equal_neighbours;
 use lines::shape_fault::ShapeFault;
 use std::alloc::{AllocError, Global};
 use validate::accept::TextArcs;
+use validate::{ends_along, run};
 
 /// The arcs of a text, and what lists have to know of them.
 #[derive(Drop)]
@@ -168,7 +168,7 @@ impl ArcLists<'_> {
         if used.is_empty() {
             return ListVerdict::Faulty(ShapeFault::TooShort);
         }
-        if have_ends(self.arcs, used) {
+        if used.iter().all(|arc| ends_along(self.arcs, *arc).is_some()) {
             return ListVerdict::Broken;
         }
         ListVerdict::Unknown
