@@ -77,7 +77,7 @@ impl LongArcs<'_> {
         }
     }
 
-    fn list(&self, alloc: Global, used: &[ArcRef]) -> Result<Vec<ArcRef>, OutOfMemory>
+    fn long_refs(&self, alloc: Global, used: &[ArcRef]) -> Result<Vec<ArcRef>, OutOfMemory>
         ensures { IfOk result (λ v. v.items ≡ spec.long_refs self.now.arcs.now used.now) }
     {
         let mut refs = Vec::with_capacity(alloc, used.len())?;
@@ -96,11 +96,11 @@ impl NewLists for LongArcs<'_> {
     ghost ring_of = { λ l. spec.long_refs l.arcs.now };
 
     fn line(&self, alloc: Global, used: &[ArcRef]) -> Result<Vec<ArcRef>, OutOfMemory> {
-        self.list(alloc, used)
+        self.long_refs(alloc, used)
     }
 
     fn ring(&self, alloc: Global, used: &[ArcRef]) -> Result<Vec<ArcRef>, OutOfMemory> {
-        self.list(alloc, used)
+        self.long_refs(alloc, used)
     }
 }
 

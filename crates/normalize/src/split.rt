@@ -61,7 +61,7 @@ fn found_pieces(alloc: Global, left: &[Geom], number: usize) -> Result<Vec<ArcRe
 }
 
 /// The geometries behind that of the arc of a number, where it is the first.
-fn behind(left: &[Geom], number: usize) -> &[Geom] {
+fn behind_number(left: &[Geom], number: usize) -> &[Geom] {
     match left.split_first() {
         Some((_, others)) => { if is_first(left, number) { others } else { left } }
         None => left,
@@ -80,7 +80,7 @@ fn checked_pieces(alloc: Global, table: &ArcTable, arc: &[Pos], found: Vec<ArcRe
 }
 
 /// The same by the arc's number.
-fn numbered_pieces(
+fn pieces_of_number(
     alloc: Global,
     table: &ArcTable,
     arcs: &TextArcs,
@@ -108,8 +108,8 @@ fn all_pieces(
     let mut left = geometries;
     for number in 0..arcs.len() {
         let found = found_pieces(alloc, left, number)?;
-        left = behind(left, number);
-        let checked = numbered_pieces(alloc, table, arcs, number, found);
+        left = behind_number(left, number);
+        let checked = pieces_of_number(alloc, table, arcs, number, found);
         pieces.push(Items::from_vec(checked))?;
     }
     Ok(pieces)

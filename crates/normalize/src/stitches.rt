@@ -9,7 +9,7 @@ use grid::pos::Pos;
 use topo::ArcSlice;
 
 /// What is left of some positions from the last one along a used arc on, where they go on along it.
-fn behind<'a>(table: &ArcTable, used: ArcRef, left: &'a [Pos]) -> Option<&'a [Pos]>
+fn rest_along<'a>(table: &ArcTable, used: ArcRef, left: &'a [Pos]) -> Option<&'a [Pos]>
     ensures { IfSome result (λ rest. (more : List numbers.ArcRef) → StitchOn table.now.arcs more rest.now → StitchOn table.now.arcs (used ∷ more) left.now) }
 {
     let run = ArcSlice::of_arc(table, used);
@@ -33,7 +33,7 @@ pub(crate) fn stitch_to(table: &ArcTable, refs: &[ArcRef], positions: &[Pos]) ->
     let mut left = positions;
     let mut others = refs;
     while let Some((used, more)) = others.split_first() {
-        let Some(rest) = behind(table, *used, left) else {
+        let Some(rest) = rest_along(table, *used, left) else {
             return false;
         };
         left = rest;

@@ -57,7 +57,7 @@ fn add_both(ends: &mut Vec<Pos>, arc: &[Pos]) -> Result<(), AllocError>
     Ok(())
 }
 
-fn add_numbered(ends: &mut Vec<Pos>, table: &ArcTable, number: usize) -> Result<(), AllocError>
+fn add_ends_of(ends: &mut Vec<Pos>, table: &ArcTable, number: usize) -> Result<(), AllocError>
     ensures { OnOk result (ends.new.items ≡ ends.old.items ++ both_if (slice_get table.now.arcs number)) }
 {
     match table.arc(number) {
@@ -72,13 +72,13 @@ pub(crate) fn all_ends(alloc: Global, table: &ArcTable) -> Result<Vec<Pos>, Allo
 {
     let mut ends = Vec::new(alloc);
     for number in 0..table.len() {
-        add_numbered(&mut ends, table, number)?;
+        add_ends_of(&mut ends, table, number)?;
     }
     Ok(ends)
 }
 
 /// The vertices of a sorted list, each once less often.
-fn again(alloc: Global, sorted: &[Pos]) -> Result<Vec<Pos>, AllocError>
+fn without_firsts(alloc: Global, sorted: &[Pos]) -> Result<Vec<Pos>, AllocError>
     ensures { IfOk result (λ v. v.items ≡ spec.again sorted.now) }
 {
     let mut found = Vec::new(alloc);
@@ -105,8 +105,8 @@ pub fn ends_meet(alloc: Global, table: &ArcTable, line_ends: &[Pos]) -> Result<b
 {
     let mut ends = all_ends(alloc, table)?;
     ends.sort_unstable();
-    let twice = again(alloc, &ends)?;
-    let mut meeting = again(alloc, &twice)?;
+    let twice = without_firsts(alloc, &ends)?;
+    let mut meeting = without_firsts(alloc, &twice)?;
     meeting.extend_from_slice(line_ends)?;
     meeting.sort_unstable();
     Ok(each_ends(EndsHaveToBe::Among, &meeting, table))

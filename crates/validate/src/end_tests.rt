@@ -15,7 +15,7 @@ pub(crate) enum EndsHaveToBe {
     Apart,
 }
 
-pub(crate) fn has(sorted: &[Pos], vertex: Pos) -> bool
+pub(crate) fn is_among(sorted: &[Pos], vertex: Pos) -> bool
     requires { IsSorted position_cmp sorted.now }
     ensures { result ≡ among sorted.now vertex }
 {
@@ -28,8 +28,8 @@ fn is_as(ends: EndsHaveToBe, sorted: &[Pos], vertex: Pos) -> bool
     ensures { result ≡ spec.is_as ends (among sorted.now vertex) }
 {
     match ends {
-        EndsHaveToBe::Among => has(sorted, vertex),
-        EndsHaveToBe::Apart => !has(sorted, vertex),
+        EndsHaveToBe::Among => is_among(sorted, vertex),
+        EndsHaveToBe::Apart => !is_among(sorted, vertex),
     }
 }
 
@@ -45,7 +45,7 @@ fn both_are(ends: EndsHaveToBe, sorted: &[Pos], arc: &[Pos]) -> bool
 }
 
 /// The same for an arc of a table; a free loop has no ends.
-fn numbered_are(ends: EndsHaveToBe, sorted: &[Pos], table: &ArcTable, number: usize) -> bool
+fn arc_ends_are(ends: EndsHaveToBe, sorted: &[Pos], table: &ArcTable, number: usize) -> bool
     requires { IsSorted position_cmp sorted.now }
     ensures { result ≡ spec.ends_if ends sorted.now table.now.loops (slice_get table.now.arcs number) }
 {
@@ -61,7 +61,7 @@ pub(crate) fn each_ends(ends: EndsHaveToBe, sorted: &[Pos], table: &ArcTable) ->
     ensures { result ≡ spec.each_ends ends sorted.now table.now.loops table.now.arcs }
 {
     for number in 0..table.len() {
-        if !numbered_are(ends, sorted, table, number) {
+        if !arc_ends_are(ends, sorted, table, number) {
             return false;
         }
     }

@@ -12,7 +12,7 @@ ghost use Rattle.theory.specs.Geometry.{Geometry, IsSound};
 ghost use Rattle.theory.specs.Lists.{gathered};
 
 use crate::chaining::last_from;
-use crate::end_tests::has;
+use crate::end_tests::is_among;
 use crate::noding::is_closed;
 use faults::OutOfMemory;
 use grid::pos::Pos;
@@ -48,7 +48,7 @@ fn is_once(sorted: &[Pos], vertex: Pos) -> bool
     ensures { result ≡ stands_once sorted.now vertex }
 {
     match sorted.binary_search(&vertex) {
-        Ok(place) => !has(&sorted[..place], vertex) && !has(&sorted[place + 1..], vertex),
+        Ok(place) => !is_among(&sorted[..place], vertex) && !is_among(&sorted[place + 1..], vertex),
         Err(_) => false,
     }
 }

@@ -83,7 +83,7 @@ fn stands_alone(arc: &[Pos], free: bool) -> bool
     is_closed(arc) && begins_least(arc)
 }
 
-fn numbered_stands(table: &ArcTable, number: usize) -> bool
+fn arc_stands_alone(table: &ArcTable, number: usize) -> bool
     ensures { result ≡ spec.stands_if table.now.loops (slice_get table.now.arcs number) }
 {
     match table.arc(number) {
@@ -96,7 +96,7 @@ fn each_stands(table: &ArcTable) -> bool
     ensures { result ≡ spec.each_stands table.now.loops table.now.arcs }
 {
     for number in 0..table.len() {
-        if !numbered_stands(table, number) {
+        if !arc_stands_alone(table, number) {
             return false;
         }
     }
@@ -119,7 +119,7 @@ fn add_inside(inside: &mut Vec<Pos>, arc: &[Pos], free: bool) -> Result<(), Allo
     }
 }
 
-fn add_numbered(inside: &mut Vec<Pos>, table: &ArcTable, number: usize) -> Result<(), AllocError>
+fn add_inside_of(inside: &mut Vec<Pos>, table: &ArcTable, number: usize) -> Result<(), AllocError>
     ensures { OnOk result (inside.new.items ≡ inside.old.items ++ inside_if table.now.loops (slice_get table.now.arcs number)) }
 {
     match table.arc(number) {
@@ -134,7 +134,7 @@ fn all_inside(alloc: Global, table: &ArcTable) -> Result<Vec<Pos>, AllocError>
 {
     let mut inside = Vec::new(alloc);
     for number in 0..table.len() {
-        add_numbered(&mut inside, table, number)?;
+        add_inside_of(&mut inside, table, number)?;
     }
     Ok(inside)
 }

@@ -160,7 +160,7 @@ impl ArcLists<'_> {
     }
 
     /// What is known of used arcs that don't run on.
-    fn told_apart(&self, used: &[ArcRef]) -> ListVerdict
+    fn verdict_without_run(&self, used: &[ArcRef]) -> ListVerdict
         requires { (v w : Pos) → ¬ (used.now ≡ []) → ¬ Runs self.now.arcs.now v used.now w }
         ensures line { IsTold (line_fault position_cmp) self.now.arcs.now used.now result }
         ensures ring { IsTold (ring_fault position_cmp) self.now.arcs.now used.now result }
@@ -182,7 +182,7 @@ impl ArcLists<'_> {
         ensures { IfOk result (IsTold (line_fault position_cmp) self.now.arcs.now used.now) }
     {
         let Some((start, end)) = run(self.arcs, used) else {
-            return Ok(self.told_apart(used));
+            return Ok(self.verdict_without_run(used));
         };
         let count = self.segment_count(used);
         if count < 1 {
@@ -212,7 +212,7 @@ impl ArcLists<'_> {
         ensures { IfOk result (IsTold (ring_fault position_cmp) self.now.arcs.now used.now) }
     {
         let Some((start, end)) = run(self.arcs, used) else {
-            return Ok(self.told_apart(used));
+            return Ok(self.verdict_without_run(used));
         };
         if start != end {
             return Ok(ListVerdict::Faulty(ShapeFault::NotClosed));

@@ -9,7 +9,7 @@ pub loop-number-preserved : goal.loop-number-preserved
 loop-number-preserved c =
     let t = c.args.table.now in
     let i = c.loop-number.number in
-    ap (λ w. w ++ gathered both_ends (drop (i + 1) t.arcs)) c.in_ok-add_numbered.ensures
+    ap (λ w. w ++ gathered both_ends (drop (i + 1) t.arcs)) c.in_ok-add_ends_of.ensures
     ∙ sym (left_step both_ends t.arcs i c.loop-number.ends.items (both_if (slice_get t.arcs i))
     (subst (λ w. i < w) c.len-number-end.ensures.len c.loop-number-test.true) (both_given (slice_get t.arcs i)))
     ∙ c.loop-number.invariant

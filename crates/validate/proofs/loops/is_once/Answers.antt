@@ -6,23 +6,23 @@ use Rattle.chains.proofs.Search.{found}
 use Rattle.validate.proofs.Once.{never_once, once_at}
 use Rattle.validate.proofs.loops.is_once.Goals as goal
 
-pub returns-then-not-has : goal.returns-then-not-has
-returns-then-not-has c =
+pub returns-then-not-is_among : goal.returns-then-not-is_among
+returns-then-not-is_among c =
     let l = c.args.sorted.now in
     let i = c.in-Ok.place in
     let v = c.args.vertex in
     sym (once_at l i v c.in-Ok.ensures.bound c.in-Ok.ensures.position
-    ∙ ap (λ w. not w && not (among (take (length l - (i + 1)) (drop (i + 1) l)) v)) (sym c.has.ensures ∙ c.if-not-has.true)
-    ∙ ap not (sym c.has-then-not-has.ensures))
+    ∙ ap (λ w. not w && not (among (take (length l - (i + 1)) (drop (i + 1) l)) v)) (sym c.is_among.ensures ∙ c.if-not-is_among.true)
+    ∙ ap not (sym c.is_among-then-not-is_among.ensures))
 
-pub returns-else-not-has : goal.returns-else-not-has
-returns-else-not-has c =
+pub returns-else-not-is_among : goal.returns-else-not-is_among
+returns-else-not-is_among c =
     let l = c.args.sorted.now in
     let i = c.in-Ok.place in
     let v = c.args.vertex in
-    ap not c.if-not-has.false
+    ap not c.if-not-is_among.false
     ∙ sym (once_at l i v c.in-Ok.ensures.bound c.in-Ok.ensures.position
-    ∙ ap (λ w. not w && not (among (take (length l - (i + 1)) (drop (i + 1) l)) v)) (sym c.has.ensures ∙ c.if-not-has.false))
+    ∙ ap (λ w. not w && not (among (take (length l - (i + 1)) (drop (i + 1) l)) v)) (sym c.is_among.ensures ∙ c.if-not-is_among.false))
 
 pub returns-in-Err : goal.returns-in-Err
 returns-in-Err c =

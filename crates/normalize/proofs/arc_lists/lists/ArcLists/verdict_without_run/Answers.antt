@@ -1,6 +1,6 @@
 use Rattle.std.proofs.Common.{sym, ◌∙◌}
 use Rattle.normalize.proofs.ArcListsLemmas.RunningOn.{broken, empty_line, empty_ring}
-use Rattle.normalize.proofs.arc_lists.lists.ArcLists.told_apart.Goals as goal
+use Rattle.normalize.proofs.arc_lists.lists.ArcLists.verdict_without_run.Goals as goal
 
 pub returns-then-is_empty-clause-line : goal.returns-then-is_empty-clause-line
 returns-then-is_empty-clause-line c = empty_line c.args.self.now.arcs.now c.args.used.now (sym c.is_empty.ensures ∙ c.if-is_empty.true)

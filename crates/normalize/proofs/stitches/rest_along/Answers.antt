@@ -1,5 +1,5 @@
 use Rattle.normalize.proofs.Behind.{behind_arc}
-use Rattle.normalize.proofs.stitches.behind.Goals as goal
+use Rattle.normalize.proofs.stitches.rest_along.Goals as goal
 
 pub returns : goal.returns
 returns c =

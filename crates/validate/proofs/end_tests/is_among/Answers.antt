@@ -1,6 +1,6 @@
 use Rattle.chains.proofs.Among.{told_among}
 use Rattle.chains.proofs.Search.{found}
-use Rattle.validate.proofs.end_tests.has.Goals as goal
+use Rattle.validate.proofs.end_tests.is_among.Goals as goal
 
 pub returns : goal.returns
 returns c =
