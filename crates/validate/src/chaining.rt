@@ -1,7 +1,7 @@
 //! Where lists of used arcs begin and end, by the ends of the arcs alone.
 ghost use Rattle.grid.specs.declared.pos.Pos.{Pos};
 ghost use Rattle.validate.specs.Chaining as spec;
-ghost use Rattle.std.specs.Prelude.{◌≡◌, IfNone, IfSome, [], slice_get};
+ghost use Rattle.std.specs.Prelude.{◌≡◌, IfNone, IfSome, []};
 ghost use Rattle.theory.specs.Lists.{last_of};
 ghost use Rattle.theory.specs.Validity.{Runs};
 

@@ -6,7 +6,7 @@ ghost use Rattle.normalize.specs.ArcLists.Summaries.{AreSummaries, AreSummaries-
 ghost use Rattle.grid.specs.declared.pos.Pos.{Pos};
 ghost use Rattle.lines.specs.Reading.{line_fault, ring_fault};
 ghost use Rattle.lines.specs.Turned.{position_cmp};
-ghost use Rattle.std.specs.Prelude.{◌≡◌, ◌++◌, [], IfOk, OnOk, min, true};
+ghost use Rattle.std.specs.Prelude.{◌≡◌, ◌++◌, [], IfOk, min, true};
 ghost use Rattle.theory.specs.Validity.{Runs};
 
 use crate::arc_lists::labels::{label_of, labels_of};
