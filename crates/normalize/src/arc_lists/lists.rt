@@ -20,6 +20,13 @@ use std::alloc::{AllocError, Global};
 use validate::accept::TextArcs;
 use validate::{ends_along, run};
 
+/// Whether each used arc is there, and has a position.
+fn have_ends(arcs: &TextArcs, used: &[ArcRef]) -> bool
+    ensures { result ≡ spec.all_have_ends arcs.now used.now }
+{
+    used.iter().all(|arc| ends_along(arcs, *arc).is_some())
+}
+
 /// The arcs of a text, and what lists have to know of them.
 #[derive(Drop)]
 pub struct ArcLists<'a> {
@@ -168,7 +175,7 @@ impl ArcLists<'_> {
         if used.is_empty() {
             return ListVerdict::Faulty(ShapeFault::TooShort);
         }
-        if used.iter().all(|arc| ends_along(self.arcs, *arc).is_some()) {
+        if have_ends(self.arcs, used) {
             return ListVerdict::Broken;
         }
         ListVerdict::Unknown

@@ -8,9 +8,9 @@ returns-then-is_empty-clause-line c = empty_line c.args.self.now.arcs.now c.args
 pub returns-then-is_empty-clause-ring : goal.returns-then-is_empty-clause-ring
 returns-then-is_empty-clause-ring c = empty_ring c.args.self.now.arcs.now c.args.used.now (sym c.is_empty.ensures ∙ c.if-is_empty.true)
 
-pub returns-then-all-clause-line : goal.returns-then-all-clause-line
-returns-then-all-clause-line c =
-    broken c.args.self.now.arcs.now c.args.used.now c.requires (sym c.is_empty.ensures ∙ c.if-is_empty.false) (sym c.all.ensures ∙ c.if-all.true)
+pub returns-then-have_ends-clause-line : goal.returns-then-have_ends-clause-line
+returns-then-have_ends-clause-line c =
+    broken c.args.self.now.arcs.now c.args.used.now c.requires (sym c.is_empty.ensures ∙ c.if-is_empty.false) (sym c.have_ends.ensures ∙ c.if-have_ends.true)
 
-pub returns-then-all-clause-ring : goal.returns-then-all-clause-ring
-returns-then-all-clause-ring c = returns-then-all-clause-line c
+pub returns-then-have_ends-clause-ring : goal.returns-then-have_ends-clause-ring
+returns-then-have_ends-clause-ring c = returns-then-have_ends-clause-line c
