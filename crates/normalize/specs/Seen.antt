@@ -6,7 +6,8 @@ use Rattle.theory.specs.Lists.{gathered, last_of}
 use Rattle.validate.specs.Chaining.{ends_along, first_end}
 use Rattle.topo.specs.Parts.{LayerParts}
 use Rattle.topo.specs.declared.geom.Geom.{Geom}
-use Rattle.validate.specs.Accept.Lists.{body_lines, body_rings, layers_lines}
+use Rattle.validate.specs.Accept.Lists.{layers_lines}
+use Rattle.topo.specs.BodyLists.{body_lines, body_rings}
 
 -- where there is one
 abbrev pub alone : {A : Type 0} → Option A → List A

@@ -4,7 +4,8 @@ ghost use Rattle.normalize.specs.Seen.{geometry_lists, layer_ends, layer_lists};
 ghost use Rattle.normalize.specs.Used.{lists_marked};
 ghost use Rattle.validate.specs.UsedArcs.{marks_set};
 ghost use Rattle.std.specs.Prelude.{◌≡◌, ◌++◌, [], IfOk, OnOk, false, length, replicate, true};
-ghost use Rattle.validate.specs.Accept.Lists.{body_lines, body_rings, layers_lines, lines_of};
+ghost use Rattle.validate.specs.Accept.Lists.{layers_lines, lines_of};
+ghost use Rattle.topo.specs.BodyLists.{body_lines, body_rings};
 ghost use Rattle.theory.specs.Lists.{gathered};
 
 use crate::used::{mark_each, mark_lists, mark_polygons};

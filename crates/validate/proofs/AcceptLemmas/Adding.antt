@@ -20,7 +20,7 @@ use Rattle.validate.specs.Validity.{ListsStand}
 use Rattle.validate.proofs.Marking.{marks_set_long, other_mark, set_mark, uses_or}
 use Rattle.topo.specs.declared.geom.Body.{Body}
 use Rattle.validate.specs.Accept.Added.{AreAdded, EachStands, IsUsed}
-use Rattle.validate.specs.Accept.Lists.{body_lines, body_rings}
+use Rattle.topo.specs.BodyLists.{body_lines, body_rings}
 use Rattle.validate.specs.declared.accept.lists.ListsSeen.{ListsSeen}
 
 -- lists used by some of all

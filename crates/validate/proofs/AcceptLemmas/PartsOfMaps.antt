@@ -27,7 +27,8 @@ use Rattle.validate.specs.Validity.{AreTurnedListsOf, StitchAround}
 use Rattle.validate.proofs.Together.{lists_are_the_maps}
 use Rattle.validate.specs.Accept.Laws as law
 use Rattle.validate.specs.Accept.Laws.{AreStitched, IsStitched, LayersStand}
-use Rattle.validate.specs.Accept.Lists.{body_lines, body_rings, layer_lines, layer_rings, layers_lines, layers_rings}
+use Rattle.validate.specs.Accept.Lists.{layer_lines, layer_rings, layers_lines, layers_rings}
+use Rattle.topo.specs.BodyLists.{body_lines, body_rings}
 use Rattle.validate.proofs.AcceptLemmas.PairsGathered.{pairs_gathered, pairs_joined, pairs_mapped, pairs_parted, pairs_unjoined, pairs_with}
 
 module _ (arcs : List (List Pos)) where

@@ -35,7 +35,8 @@ use Rattle.validate.specs.Validity.{AreListsOf, AreTurnedListsOf, StitchAround}
 use Rattle.validate.proofs.Together.{lists_are_the_maps, lists_make_a_map, made}
 use Rattle.validate.specs.Accept.Laws as law
 use Rattle.validate.specs.Accept.Laws.{HaveI64, LayersStand}
-use Rattle.validate.specs.Accept.Lists.{body_lines, body_rings, layer_lines, layer_rings, layers_lines, layers_rings}
+use Rattle.validate.specs.Accept.Lists.{layer_lines, layer_rings, layers_lines, layers_rings}
+use Rattle.topo.specs.BodyLists.{body_lines, body_rings}
 
 -- the least rotation of a ring
 least_ring : (q : List Pos) → IsRing q → (r : the_ring.Ring) × IsRotation (vertices_of r) q

@@ -4,7 +4,8 @@ ghost use Rattle.validate.specs.ArcEnds as spec;
 ghost use Rattle.validate.specs.FreeLoops.{AreLineEnds};
 ghost use Rattle.std.specs.Prelude.{◌≡◌, ◌++◌, IfOk, OnOk};
 ghost use Rattle.validate.specs.Accept.LineEnds.{LinesStitch};
-ghost use Rattle.validate.specs.Accept.Lists.{body_lines, layers_lines, lines_of};
+ghost use Rattle.validate.specs.Accept.Lists.{layers_lines, lines_of};
+ghost use Rattle.topo.specs.BodyLists.{body_lines};
 ghost use Rattle.theory.specs.Geometry.{Geometry};
 ghost use Rattle.theory.specs.Lists.{gathered};
 

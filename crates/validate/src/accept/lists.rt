@@ -2,7 +2,8 @@
 ghost use Rattle.validate.specs.Validity.{ListsStand};
 ghost use Rattle.std.specs.Prelude.{◌≡◌, ◌↔◌, [], ◌∷◌, length, true, IfOk};
 ghost use Rattle.validate.specs.Accept.Added.{AreAdded};
-ghost use Rattle.validate.specs.Accept.Lists.{body_lines, body_rings, layer_lines, layer_rings, layers_lines, layers_rings, lines_of, rings_of};
+ghost use Rattle.validate.specs.Accept.Lists.{layers_lines, layers_rings, lines_of, rings_of};
+ghost use Rattle.topo.specs.BodyLists.{body_lines, body_rings};
 ghost use Rattle.theory.specs.Lists.{joined};
 
 use crate::{ArcsUsed, ends_meet, line_run, ring_stands};

@@ -1,5 +1,5 @@
 use Rattle.std.proofs.Common.{◌∙◌, sym}
-use Rattle.validate.specs.Accept.Lists.{body_lines, body_rings}
+use Rattle.topo.specs.BodyLists.{body_lines, body_rings}
 use Rattle.normalize.specs.Seen.{geometry_lists}
 use Rattle.normalize.proofs.SeenLists.{seen_on}
 use Rattle.normalize.proofs.Marks.{marked-append}

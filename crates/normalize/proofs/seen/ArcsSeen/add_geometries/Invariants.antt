@@ -1,4 +1,4 @@
-use Rattle.validate.specs.Accept.Lists.{body_lines}
+use Rattle.topo.specs.BodyLists.{body_lines}
 use Rattle.normalize.specs.Seen.{geometry_lists}
 use Rattle.normalize.proofs.SeenLists.{ComesTo}
 use Rattle.normalize.proofs.seen.ArcsSeen.add_geometries.Given as goal

@@ -1,7 +1,8 @@
 use Rattle.std.proofs.Common.{◌++◌}
 use Rattle.theory.specs.Lists.{gathered}
 use Rattle.validate.specs.ArcEnds.{line_ends}
-use Rattle.validate.specs.Accept.Lists.{body_lines, lines_of}
+use Rattle.validate.specs.Accept.Lists.{lines_of}
+use Rattle.topo.specs.BodyLists.{body_lines}
 use Rattle.validate.proofs.AcceptLemmas.Ending.{more_ends}
 use Rattle.validate.proofs.accept.ends.add_geometries.Goals as goal
 

@@ -1,5 +1,6 @@
 use Rattle.std.proofs.Common.{refl, ◌∙◌}
-use Rattle.validate.specs.Accept.Lists.{body_lines, body_rings, lines_of, rings_of}
+use Rattle.validate.specs.Accept.Lists.{lines_of, rings_of}
+use Rattle.topo.specs.BodyLists.{body_lines, body_rings}
 use Rattle.validate.proofs.AcceptLemmas.Adding.{loop_done, loop_not, loop_on}
 use Rattle.validate.proofs.accept.lists.ListsSeen.add_geometries.Goals as goal
 
