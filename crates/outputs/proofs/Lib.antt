@@ -1,2 +1,4 @@
 pub mod BuiltTextLemmas
 pub mod DifferenceTextLemmas
+pub mod LineColumnsLemmas
+pub mod PlacesLemmas

@@ -1,3 +1,4 @@
 pub mod BuiltText
 pub mod DifferenceText
 pub mod FaultReports
+pub mod LineColumns

@@ -1,4 +1,8 @@
 //! Lines and columns of a text, both from 1, columns in characters.
+ghost use Rattle.outputs.specs.LineColumns.{IsNumbered, IsPlaceNamed, IsPlacedIn, offset_of, place_behind};
+ghost use Rattle.std.specs.List.Sorted.{IsNonDecreasingBy};
+ghost use Rattle.std.specs.Prelude.{◌≡◌, ◌+◌, ◌^◌, ◌<◌, ◌≤◌, [], ◌∷◌, ◌++◌, ℕ, All, IfOk, List, Some, length, slice_get, slice_index, take, vec_len};
+
 use faults::OutOfMemory;
 use std::alloc::Global;
 
@@ -11,12 +15,16 @@ pub struct LineColumn {
 
 impl LineColumn {
     /// That of the first character.
-    pub fn first() -> LineColumn {
+    pub fn first() -> LineColumn
+        ensures { result ≡ place_behind [] }
+    {
         LineColumn { line: 1, column: 1 }
     }
 
     /// The place behind a byte, of which those within a character change nothing.
-    fn after(self, byte: u8) -> LineColumn {
+    fn after(self, byte: u8) -> LineColumn
+        ensures { (text : List ℕ) → length text < 2 ^ 63 → self ≡ place_behind text → result ≡ place_behind (text ++ byte ∷ []) }
+    {
         match byte {
             b'\n' => LineColumn {
                 line: self.line.saturating_add(1),
@@ -32,7 +40,9 @@ impl LineColumn {
 }
 
 /// The place behind some bytes more.
-fn place_after(place: LineColumn, bytes: &[u8]) -> LineColumn {
+fn place_after(place: LineColumn, bytes: &[u8]) -> LineColumn
+    ensures { (text : List ℕ) → length text + length bytes.now < 2 ^ 63 → place ≡ place_behind text → result ≡ place_behind (text ++ bytes.now) }
+{
     let mut place = place;
     for byte in bytes {
         place = place.after(*byte);
@@ -41,7 +51,9 @@ fn place_after(place: LineColumn, bytes: &[u8]) -> LineColumn {
 }
 
 /// The place that a line and a column name, where columns count bytes.
-pub fn place_at(text: &[u8], line: usize, column: usize) -> LineColumn {
+pub fn place_at(text: &[u8], line: usize, column: usize) -> LineColumn
+    ensures { IsPlaceNamed text.now line column result }
+{
     let mut here = LineColumn::first();
     let mut byte_column = 1usize;
     for byte in text {
@@ -66,7 +78,10 @@ pub fn line_columns(
     alloc: Global,
     text: &[u8],
     offsets: &[usize],
-) -> Result<Vec<LineColumn>, OutOfMemory> {
+) -> Result<Vec<LineColumn>, OutOfMemory>
+    ensures len { IfOk result (λ v. vec_len v ≡ length offsets.now) }
+    ensures places { IfOk result (λ v. (n o : ℕ) → slice_get offsets.now n ≡ Some o → o ≤ length text.now → slice_get v.items n ≡ Some (place_behind (take o text.now))) }
+{
     let mut sorted = Vec::with_capacity(alloc, offsets.len())?;
     for (number, offset) in offsets.iter().enumerate() {
         sorted.push((*offset, number))?;
@@ -80,7 +95,10 @@ fn places_in_order(
     alloc: Global,
     text: &[u8],
     sorted: &[(usize, usize)],
-) -> Result<Vec<LineColumn>, OutOfMemory> {
+) -> Result<Vec<LineColumn>, OutOfMemory>
+    ensures len { IfOk result (λ v. vec_len v ≡ length sorted.now) }
+    ensures places { IfOk result (λ v. (offsets : List ℕ) → All (IsNumbered offsets) sorted.now → IsNonDecreasingBy offset_of sorted.now → All (IsPlacedIn text.now v.items) sorted.now) }
+{
     let mut places = Vec::new(alloc);
     places.resize(sorted.len(), LineColumn::first())?;
     let mut here = LineColumn::first();
