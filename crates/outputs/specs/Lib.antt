@@ -1,4 +1,5 @@
 pub mod BuiltText
 pub mod DifferenceText
 pub mod FaultReports
+pub mod FaultyFeatures
 pub mod LineColumns
