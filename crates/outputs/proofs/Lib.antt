@@ -1,4 +1,5 @@
 pub mod BuiltTextLemmas
+pub mod DifferenceCounts
 pub mod DifferenceTextLemmas
 pub mod FaultyFeaturesLemmas
 pub mod LineColumnsLemmas

@@ -1,5 +1,5 @@
 -- What differs between two topologies.
-use Rattle.std.specs.Prelude.{◌≡◌, ◌↔◌, ◌⊎◌, ◌==◌, ◌&&◌, ⊤, ℕ, Bool, List, Option, Some, None, is_some, slice_get, vec_len, map as map_list}
+use Rattle.std.specs.Prelude.{◌≡◌, ◌↔◌, ◌⊎◌, ◌==◌, ◌&&◌, ◌-◌, ◌^◌, ⊤, ℕ, Bool, List, Option, Some, None, count_by, is_none, is_some, min, slice_get, sum_by, vec_len, map as map_list}
 use Rattle.std.specs.Cmp.Lexicographic.{slice_cmp}
 use Rattle.std.specs.FinMap as map
 use Rattle.std.specs.List.Sorted.{IsStrictlySortedBy}
@@ -14,6 +14,7 @@ use Rattle.compare.specs.declared.comparison.Comparison.{Comparison}
 use Rattle.compare.specs.declared.difference.Changed.{Changed}
 use Rattle.compare.specs.declared.difference.LayerDifference.{LayerDifference}
 use Rattle.compare.specs.declared.pairs.LayerPair.{LayerPair}
+use Rattle.outputs.specs.declared.difference_text.difference.ChangeCounts.{ChangeCounts}
 use Rattle.outputs.specs.declared.difference_text.difference.FeatureChange.{FeatureChange}
 use Rattle.outputs.specs.declared.difference_text.difference.LayerChanges.{LayerChanges}
 use Rattle.outputs.specs.declared.difference_text.difference.Single.{Single}
@@ -80,3 +81,17 @@ pub record AreAllChanges (layer key : Option (List ℕ)) (m n : Layers) (ls : Li
 -- both layers are there, and no feature was removed, added or changed
 abbrev pub is_same_layer : LayerChanges → Bool
 is_same_layer l = is_some l.layers.old && (is_some l.layers.new && (vec_len l.removed == 0 && (vec_len l.added == 0 && vec_len l.changed == 0)))
+
+-- a number, or the greatest of 64 bits where it is greater
+abbrev pub capped : ℕ → ℕ
+capped n = min n (2 ^ 64 - 1)
+
+-- how much differs: the features that were added, removed and changed, and the layers that only the new or only the old topology has
+unfoldable pub counts_of : List LayerChanges → ChangeCounts
+counts_of layers = record {
+  added = capped (sum_by (λ l. vec_len l.added) layers);
+  removed = capped (sum_by (λ l. vec_len l.removed) layers);
+  changed = capped (sum_by (λ l. vec_len l.changed) layers);
+  layers_added = count_by (λ l. is_none l.layers.old) layers;
+  layers_removed = count_by (λ l. is_none l.layers.new) layers;
+}

@@ -1,11 +1,11 @@
 //! What differs between two topologies, before it is written.
 ghost use Rattle.compare.specs.Compared.{IsComparisonOf, IsPairOf};
-ghost use Rattle.outputs.specs.DifferenceText.{AgreeAt, AreAllChanges, AreChanges, ArePairsAsked, IsDifferenceAsked, is_same_layer, single_number, changed_numbers};
+ghost use Rattle.outputs.specs.DifferenceText.{AgreeAt, AreAllChanges, AreChanges, ArePairsAsked, IsDifferenceAsked, counts_of, is_same_layer, single_number, changed_numbers};
 ghost use Rattle.shapes.specs.Maps.{Layers, features_at};
 ghost use Rattle.shapes.specs.Sets as set;
 ghost use Rattle.std.specs.List.{list_all};
 ghost use Rattle.std.specs.Option.{option_copied};
-ghost use Rattle.std.specs.Prelude.{◌≡◌, ◌↔◌, IfOk, List, map as map_list, true, ℕ};
+ghost use Rattle.std.specs.Prelude.{◌≡◌, ◌↔◌, ◌+◌, ◌^◌, ◌<◌, [], ◌∷◌, ◌++◌, IfOk, List, length, map as map_list, true, ℕ};
 ghost use Rattle.topo.specs.OfMap.{IsOf};
 
 use crate::difference_text::DifferenceOptions;
@@ -80,7 +80,9 @@ impl LayerChanges {
 
 impl Difference {
     /// How much differs.
-    pub fn counts(&self) -> ChangeCounts {
+    pub fn counts(&self) -> ChangeCounts
+        ensures { result ≡ counts_of self.now.layers.items }
+    {
         let mut counts = ChangeCounts {
             added: 0,
             removed: 0,
@@ -103,7 +105,9 @@ impl Difference {
 }
 
 /// Counts with those of a layer.
-fn with_layer(counts: ChangeCounts, layer: &LayerChanges) -> ChangeCounts {
+fn with_layer(counts: ChangeCounts, layer: &LayerChanges) -> ChangeCounts
+    ensures { (layers : List LayerChanges) → length layers + 1 < 2 ^ 64 → counts ≡ counts_of layers → result ≡ counts_of (layers ++ layer.now ∷ []) }
+{
     ChangeCounts {
         added: counts.added.saturating_add(layer.added.len()),
         removed: counts.removed.saturating_add(layer.removed.len()),
