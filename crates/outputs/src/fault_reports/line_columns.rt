@@ -1,7 +1,7 @@
 //! Lines and columns of a text, both from 1, columns in characters.
 ghost use Rattle.outputs.specs.LineColumns.{IsNumbered, IsPlaceNamed, IsPlacedIn, offset_of, place_behind};
 ghost use Rattle.std.specs.List.Sorted.{IsNonDecreasingBy};
-ghost use Rattle.std.specs.Prelude.{◌≡◌, ◌+◌, ◌^◌, ◌<◌, ◌≤◌, [], ◌∷◌, ◌++◌, ℕ, All, IfOk, List, Some, length, slice_get, slice_index, take, vec_len};
+ghost use Rattle.std.specs.Prelude.{◌≡◌, ◌+◌, ◌^◌, ◌<◌, ◌≤◌, [], ◌∷◌, ◌++◌, ℕ, All, IfOk, List, Some, length, slice_get, take, vec_len};
 
 use faults::OutOfMemory;
 use std::alloc::Global;

@@ -1,5 +1,6 @@
 //! Where the value of each error begins, in bytes: found in one pass along the tokens.
-ghost use Rattle.std.specs.Prelude.{◌<◌, length, IfSome};
+ghost use Rattle.outputs.specs.FaultPlaces.{AreUpTo};
+ghost use Rattle.std.specs.Prelude.{◌≡◌, ◌<◌, ◌≤◌, IfOk, IfSome, length, vec_len, ℕ};
 
 use crate::fault_reports::steps::{Range, Sought, through};
 use faults::{Fault, FaultKind, OutOfMemory};
@@ -29,9 +30,11 @@ struct FaultyText<'t> {
     faults: &'t [Fault],
 }
 
-/// The first byte from here on that is no blank, comma or colon.
-fn next_value(bytes: &[u8], from: usize) -> usize {
-    let mut at = from;
+/// The first byte from here on that is no blank, comma or colon, or the end.
+fn next_value(bytes: &[u8], from: usize) -> usize
+    ensures { result ≤ length bytes.now }
+{
+    let mut at = from.min(bytes.len());
     'blanks: while at < bytes.len() {
         match bytes[at] {
             b' ' | b'\t' | b'\r' | b'\n' | b',' | b':' => at += 1,
@@ -42,9 +45,11 @@ fn next_value(bytes: &[u8], from: usize) -> usize {
 }
 
 /// Errors of these begin here.
-fn put_place(places: &mut [usize], range: Range, at: usize) {
-    if let Some(found) = places.get_mut(range.from..range.to) {
-        found.fill(at);
+fn put_place(places: &mut [usize], range: Range, at: usize)
+    ensures { (n : ℕ) → at ≤ n → AreUpTo n places.old → AreUpTo n places.new }
+{
+    if range.from <= range.to && range.to <= places.len() {
+        places[range.from..range.to].fill(at);
     }
 }
 
@@ -61,7 +66,9 @@ fn is_missing(faults: &[Fault], found: Range) -> bool {
 }
 
 /// The error of a missing member is placed at the object.
-fn place_missing(faults: &[Fault], places: &mut [usize], range: Range, at: usize) {
+fn place_missing(faults: &[Fault], places: &mut [usize], range: Range, at: usize)
+    ensures { (n : ℕ) → at ≤ n → AreUpTo n places.old → AreUpTo n places.new }
+{
     for name in REQUIRED {
         let found = through(faults, range, Sought::Name(name));
         if is_missing(faults, found) {
@@ -87,7 +94,8 @@ fn place_value<'a>(
     range: Range,
     left: usize,
 ) -> Option<()>
-    ensures { IfSome result (λ _. length reader.new < length reader.old) }
+    ensures shorter { IfSome result (λ _. length reader.new < length reader.old) }
+    ensures within { AreUpTo (length text.now.bytes.now) places.old → AreUpTo (length text.now.bytes.now) places.new }
 {
     if range.is_empty() || left == 0 {
         return reader.skip_value(DEEPEST).ok();
@@ -115,7 +123,8 @@ fn place_members<'a>(
     range: Range,
     left: usize,
 ) -> Option<()>
-    ensures { IfSome result (λ _. length reader.new < length reader.old) }
+    ensures shorter { IfSome result (λ _. length reader.new < length reader.old) }
+    ensures within { AreUpTo (length text.now.bytes.now) places.old → AreUpTo (length text.now.bytes.now) places.new }
 {
     'members: loop {
         let Some(key) = reader.next_key().ok()? else {
@@ -134,7 +143,8 @@ fn place_items<'a>(
     range: Range,
     left: usize,
 ) -> Option<()>
-    ensures { IfSome result (λ _. length reader.new < length reader.old) }
+    ensures shorter { IfSome result (λ _. length reader.new < length reader.old) }
+    ensures within { AreUpTo (length text.now.bytes.now) places.old → AreUpTo (length text.now.bytes.now) places.new }
 {
     let mut index = 0usize;
     'items: while !reader.take_end_array() {
@@ -150,7 +160,10 @@ fn place_items<'a>(
 ///
 /// # Errors
 /// Where memory is refused.
-pub fn places(alloc: Global, text: &str, faults: &[Fault]) -> Result<Vec<usize>, OutOfMemory> {
+pub fn places(alloc: Global, text: &str, faults: &[Fault]) -> Result<Vec<usize>, OutOfMemory>
+    ensures len { IfOk result (λ v. vec_len v ≡ length faults.now) }
+    ensures within { IfOk result (λ v. AreUpTo (length text.now) v.items) }
+{
     let mut places = Vec::new(alloc);
     places.resize(faults.len(), 0)?;
     let mut scratch = Scratch::new(alloc);

@@ -1,6 +1,12 @@
 //! Errors of a text with what is reported of each.
+ghost use Rattle.faults.specs.Fault.{turn_of};
+ghost use Rattle.json.specs.Print.{quoted};
 ghost use Rattle.outputs.specs.FaultReports.{reported_fault};
-ghost use Rattle.std.specs.Prelude.{◌≡◌, IfOk, map};
+ghost use Rattle.outputs.specs.ReportsOfTexts.{IsPlaceIn, IsReadAs, IsReport, IsReportOf, named_member};
+ghost use Rattle.serde_json.specs.View.{view};
+ghost use Rattle.serde_json.specs.Written.{compact_text, has_float};
+ghost use Rattle.sinks.specs.PathText.PathText.{path_text};
+ghost use Rattle.std.specs.Prelude.{◌≡◌, All, IfOk, IfSome, false, map, option_map, string_bytes};
 
 use crate::fault_reports::features::{Format, id_at, member_at};
 use crate::fault_reports::line_columns::{LineColumn, line_columns, place_at};
@@ -24,7 +30,9 @@ pub struct FaultReport {
     pub member: Option<String>,
 }
 
-fn spell_id(alloc: Global, id: Option<&Value>) -> Result<Option<String>, OutOfMemory> {
+fn spell_id(alloc: Global, id: Option<&Value>) -> Result<Option<String>, OutOfMemory>
+    ensures { IfOk result (λ o. IfSome id.entry (λ v. has_float (view v.now) ≡ false) → option_map (λ s. string_bytes s) o ≡ option_map (λ v. compact_text (view v.now)) id.entry) }
+{
     match id {
         Some(id) => Ok(Some(id.to_string(alloc)?)),
         None => Ok(None),
@@ -35,12 +43,16 @@ fn spell_id(alloc: Global, id: Option<&Value>) -> Result<Option<String>, OutOfMe
 ///
 /// # Errors
 /// Where memory is refused.
-pub fn spell_text(alloc: Global, text: &str) -> Result<String, OutOfMemory> {
+pub fn spell_text(alloc: Global, text: &str) -> Result<String, OutOfMemory>
+    ensures { IfOk result (λ s. string_bytes s ≡ quoted text.now) }
+{
     let text = Value::String(String::from_str(alloc, text)?);
     Ok(text.to_string(alloc)?)
 }
 
-fn spell_name(alloc: Global, name: Option<&str>) -> Result<Option<String>, OutOfMemory> {
+fn spell_name(alloc: Global, name: Option<&str>) -> Result<Option<String>, OutOfMemory>
+    ensures { IfOk result (λ o. option_map (λ s. string_bytes s) o ≡ option_map (λ s. quoted s.now) name.entry) }
+{
     match name {
         Some(name) => Ok(Some(spell_text(alloc, name)?)),
         None => Ok(None),
@@ -48,7 +60,9 @@ fn spell_name(alloc: Global, name: Option<&str>) -> Result<Option<String>, OutOf
 }
 
 /// A path as JSON.
-fn spell_path(alloc: Global, path: &[Step]) -> Result<String, OutOfMemory> {
+fn spell_path(alloc: Global, path: &[Step]) -> Result<String, OutOfMemory>
+    ensures { IfOk result (λ s. string_bytes s ≡ quoted (path_text (map turn_of path.now))) }
+{
     let mut kept = Kept::new(alloc);
     if write_path(path, &mut kept).is_err() {
         return Err(OutOfMemory);
@@ -60,6 +74,16 @@ fn spell_path(alloc: Global, path: &[Step]) -> Result<String, OutOfMemory> {
     }
 }
 
+/// The name of the member that an error of a kind is of.
+fn name_of<'v>(kind: FaultKind, text: &'v Value, path: &[Step]) -> Option<&'v str>
+    ensures { option_map (λ s. s.now) result ≡ named_member kind (view text.now) (map turn_of path.now) }
+{
+    match kind {
+        FaultKind::PropertyNumber => member_at(text, path),
+        _ => None,
+    }
+}
+
 fn report_of(
     alloc: Global,
     format: Format,
@@ -67,15 +91,12 @@ fn report_of(
     fault: Fault,
     place: LineColumn,
 ) -> Result<FaultReport, OutOfMemory>
-    ensures { IfOk result (λ r. r.fault ≡ fault) }
+    ensures { IfOk result (λ r. IsReportOf format (view text.now) fault place r) }
 {
-    let id = spell_id(alloc, id_at(format, text, fault.path.as_slice()))?;
-    let name = match fault.kind {
-        FaultKind::PropertyNumber => member_at(text, fault.path.as_slice()),
-        _ => None,
-    };
-    let member = spell_name(alloc, name)?;
-    let path = spell_path(alloc, fault.path.as_slice())?;
+    let path = fault.path.as_slice();
+    let id = spell_id(alloc, id_at(format, text, path))?;
+    let member = spell_name(alloc, name_of(fault.kind, text, path))?;
+    let path = spell_path(alloc, path)?;
     Ok(FaultReport {
         fault,
         place,
@@ -86,11 +107,9 @@ fn report_of(
 }
 
 /// The place of each of some errors of a text that is JSON, in their order.
-fn places_of(
-    alloc: Global,
-    bytes: &[u8],
-    faults: &[Fault],
-) -> Result<Vec<LineColumn>, OutOfMemory> {
+fn places_of(alloc: Global, bytes: &[u8], faults: &[Fault]) -> Result<Vec<LineColumn>, OutOfMemory>
+    ensures { IfOk result (λ v. All (IsPlaceIn bytes.now) v.items) }
+{
     match std::str::from_utf8(bytes) {
         Ok(text) => {
             let offsets = places(alloc, text, faults)?;
@@ -105,7 +124,10 @@ fn value_and_places(
     alloc: Global,
     bytes: &[u8],
     faults: &[Fault],
-) -> Result<(Value, Vec<LineColumn>), OutOfMemory> {
+) -> Result<(Value, Vec<LineColumn>), OutOfMemory>
+    ensures value { IfOk result (λ p. IsReadAs bytes.now (view p.0)) }
+    ensures places { IfOk result (λ p. All (IsPlaceIn bytes.now) p.1.items) }
+{
     match Value::from_slice(alloc, bytes) {
         Ok(value) => Ok((value, places_of(alloc, bytes, faults)?)),
         Err(error) => {
@@ -129,7 +151,8 @@ pub fn reports(
     bytes: &[u8],
     faults: Vec<Fault>,
 ) -> Result<Vec<FaultReport>, OutOfMemory>
-    ensures { IfOk result (λ rs. map reported_fault rs.items ≡ faults.items) }
+    ensures all { IfOk result (λ rs. map reported_fault rs.items ≡ faults.items) }
+    ensures each { IfOk result (λ rs. All (IsReport format bytes.now) rs.items) }
 {
     let mut reports = Vec::new(alloc);
     if faults.is_empty() {

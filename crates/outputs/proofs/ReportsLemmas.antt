@@ -1,0 +1,49 @@
+-- Lemmas on what is reported of each error of a text.
+use Rattle.std.proofs.Common.{◌≡◌, ℕ, ◌<◌, ◌≤◌, All, Err, IfOk, List, [], ◌++◌, None, Ok, Option, Result, Some, arith, get_or, length, slice_get, subst, sym, take, vec_len}
+use Rattle.std.specs.Global.{Vec}
+use Rattle.std.specs.Option.{option_to_list}
+use Rattle.std.specs.Prelude.{unwrap_or}
+use Rattle.std.proofs.lemmas.List.Elements.{All-head, All-tail}
+use Rattle.std.proofs.lemmas.Option.{get_or_from_slice_get, slice_get-get_or}
+use Rattle.faults.specs.declared.fault.Fault.{Fault}
+use Rattle.serde_json.specs.Data.{Data}
+use Rattle.outputs.specs.FaultPlaces.{AreUpTo}
+use Rattle.outputs.specs.LineColumns.{place_behind}
+use Rattle.outputs.specs.ReportsOfTexts.{IsPlaceIn, IsReadAs, IsReport, IsReportOf}
+use Rattle.outputs.specs.declared.fault_reports.features.Format.{Format}
+use Rattle.outputs.specs.declared.fault_reports.line_columns.LineColumn.{LineColumn}
+use Rattle.outputs.specs.declared.fault_reports.report.FaultReport.{FaultReport}
+
+-- the places of offsets that are not past the end
+pub places_in : {E : Type 0} (text offsets : List ℕ) (r : Result (Vec LineColumn) E) → AreUpTo (length text) offsets → IfOk r (λ v. vec_len v ≡ length offsets)
+    → IfOk r (λ v. (n o : ℕ) → slice_get offsets n ≡ Some o → o ≤ length text → slice_get v.items n ≡ Some (place_behind (take o text))) → IfOk r (λ v. All (IsPlaceIn text) v.items)
+places_in text offsets (Ok v) within len is = λ k d h.
+    let lt : k < length offsets = omega (arith, v.ok.0, len) in
+    let o : ℕ = get_or offsets k 0 in record {
+      at = o;
+      within = within k 0 lt;
+      is = get_or_from_slice_get v.items k (place_behind (take o text)) d (is k o (slice_get-get_or offsets k 0 lt) (within k 0 lt));
+    }
+places_in text offsets (Err e) within len is = tt
+
+-- the first of some elements, and the rest
+pub all_after_first : {X : Type 0} (P : X → Type 0) (xs ys : List X) (r : Option X) → xs ≡ option_to_list r ++ ys → All P xs → All P ys
+all_after_first P xs ys None e h = subst (All P) e h
+all_after_first P xs ys (Some x) e h = All-tail P x ys (subst (All P) e h)
+
+pub first_of_all : {X : Type 0} (P : X → Type 0) (xs ys : List X) (r : Option X) (d : X) → xs ≡ option_to_list r ++ ys → All P xs → P d → P (unwrap_or r d)
+first_of_all P xs ys None d e h other = other
+first_of_all P xs ys (Some x) d e h other = All-head P x ys (subst (All P) e h)
+
+-- the place of the first byte
+pub first_place : (text : List ℕ) (place : LineColumn) → place ≡ place_behind [] → IsPlaceIn text place
+first_place text place is = record { at = 0; within = omega arith; is = is }
+
+-- a report of one error is one of the text
+pub report_is : (format : Format) (bytes : List ℕ) (text : Data) (fault : Fault) (place : LineColumn) (r : FaultReport) → IsReadAs bytes text → IsPlaceIn bytes place → IsReportOf format text fault place r → IsReport format bytes r
+report_is format bytes text fault place r reads at says = record {
+  text = text;
+  reads = reads;
+  place = subst (IsPlaceIn bytes) (sym says.place_is) at;
+  says = subst (λ f. IsReportOf format text f r.place r) (sym says.fault_is) (subst (λ p. IsReportOf format text fault p r) (sym says.place_is) says);
+}
