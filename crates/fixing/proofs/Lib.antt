@@ -12,3 +12,9 @@ pub mod PolygonSteps
 pub mod Counting
 pub mod PolygonLaws
 pub mod CrossSteps
+pub mod ValueSteps
+pub mod Joining
+pub mod FeatureSteps
+pub mod Made
+pub mod Members
+pub mod ProvedTexts

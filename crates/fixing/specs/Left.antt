@@ -8,6 +8,8 @@ use Rattle.lines.specs.declared.shape_fault.ShapeFault.{ShapeFault}
 use Rattle.lines.specs.declared.shape_fault.ShapeFault.TheVariants.{TooShort, NotClosed, Revisit, OutOfMemory}
 use Rattle.fixing.specs.Loops.{loops_of}
 use Rattle.fixing.specs.Runs.{runs_of}
+use Rattle.fixing.specs.declared.linework.Linework.{Linework}
+use Rattle.fixing.specs.declared.linework.Linework.TheVariants.{Line, Ring}
 use Rattle.fixing.specs.declared.linework.Need.{Need}
 use Rattle.fixing.specs.declared.linework.Need.TheVariants.{Nothing, Drop, Split}
 use Rattle.fixing.specs.declared.rules.Collapsed.{Collapsed}
@@ -27,6 +29,11 @@ need_of rules (Some TooShort) = cond (is_refusing rules.collapsed) None (Some Dr
 need_of rules (Some Revisit) = cond rules.splits_folded (Some Split) None
 need_of rules (Some NotClosed) = None
 need_of rules (Some OutOfMemory) = None
+
+-- the parts that a line or a closed list is split into
+abbrev pub parts_of : Linework → List Pos → List (List Pos)
+parts_of Line l = runs_of (collapsed position_cmp l)
+parts_of Ring l = loops_of l
 
 -- what is left of a list, where `parts` are those that it is split into
 abbrev pub left_by : Need → List Pos → List (List Pos) → List (List Pos)

@@ -9,4 +9,11 @@ pub mod Laws
 pub mod Measures
 pub mod Polygons
 pub mod Counts
-pub mod Counted
+pub mod Values
+pub mod Geometries
+pub mod Features
+pub mod Texts
+pub mod FixedFeatures
+pub mod Roots
+pub mod Known
+pub mod TextLaws

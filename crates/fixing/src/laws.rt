@@ -1,14 +1,14 @@
-//! The laws of what is left of lines and rings, each promised by a function that does nothing.
+//! The laws of what is left of lines, rings and whole texts, each promised by a function that does nothing.
 ghost use Rattle.fixing.specs.Laws as law;
+ghost use Rattle.fixing.specs.TextLaws as text;
 
-/// What is left of a line is lines: two positions or more, and no segment twice.
-pub fn lines_left_are_sound()
-    ensures { law.LinesLeftAreSound }
-{}
-
-/// What is left of a ring is rings: closed, four positions or more, and no segment twice.
-pub fn rings_left_are_sound()
-    ensures { law.RingsLeftAreSound }
+/// What is left of a line is lines: two positions or more, and no segment twice. What is left of a ring is rings:
+/// closed, four positions or more, and no segment twice. So are the rings of what is left of a polygon, before they are
+/// turned.
+pub fn shapes_left_are_sound()
+    ensures lines { law.LinesLeftAreSound }
+    ensures rings { law.RingsLeftAreSound }
+    ensures polygons { law.PolygonsLeftAreSound }
 {}
 
 /// The runs of a line have each of its segments once, in the order in which it is used first.
@@ -16,42 +16,29 @@ pub fn runs_use_each_segment_once()
     ensures { law.RunsUseEachSegmentOnce }
 {}
 
-/// Each loop of a ring meets no vertex again.
+/// Each loop of a ring meets no vertex again, and together they use each segment an odd number of times exactly where
+/// the ring does.
 pub fn loops_are_simple()
-    ensures { law.LoopsAreSimple }
+    ensures simple { law.LoopsAreSimple }
+    ensures odd_uses { law.LoopsKeepOddUses }
 {}
 
-/// The loops of a ring use each segment an odd number of times exactly where the ring does.
-pub fn loops_keep_odd_uses()
-    ensures { law.LoopsKeepOddUses }
-{}
-
-/// A line without a fault is left as it is, and nothing is counted.
-pub fn sound_lines_stay()
-    ensures { law.SoundLinesStay }
-{}
-
-/// A ring without a fault is left as it is, and nothing is counted.
-pub fn sound_rings_stay()
-    ensures { law.SoundRingsStay }
-{}
-
-/// The rings of what is left of a polygon are rings, before they are turned.
-pub fn polygons_left_are_sound()
-    ensures { law.PolygonsLeftAreSound }
-{}
-
-/// Lines without a fault are left as they are, and nothing is counted.
-pub fn sound_multi_lines_stay()
-    ensures { law.SoundMultiLinesStay }
-{}
-
-/// A polygon of rings without a fault is left as it is, and nothing is counted.
-pub fn sound_polygons_stay()
-    ensures { law.SoundPolygonsStay }
+/// Lines, rings, lists of lines and polygons without a fault are left as they are, and nothing is counted.
+pub fn sound_shapes_stay()
+    ensures lines { law.SoundLinesStay }
+    ensures rings { law.SoundRingsStay }
+    ensures multi_lines { law.SoundMultiLinesStay }
+    ensures polygons { law.SoundPolygonsStay }
 {}
 
 /// Rings that are turned turn as they are wanted.
 pub fn turned_rings_turn()
     ensures { law.TurnedRingsTurn }
+{}
+
+/// The text that is made is determined by the value that was read, where what is left has no floats; and of a text that
+/// is one value, that is the value.
+pub fn texts_are_exact()
+    ensures exact { text.TextsWithoutFloatsAreExact }
+    ensures whole { text.WholeTextsAreFixed }
 {}

@@ -10,6 +10,7 @@ mod feature;
 mod geometry;
 pub mod laws;
 mod linework;
+mod lists;
 mod loops;
 mod measures;
 mod polygons;

@@ -1,9 +1,10 @@
 //! Lines and rings, checked and fixed one by one.
-ghost use Rattle.fixing.specs.Left.{all_counted, all_left, counted, line_left, line_need as needed_of_line, need_of as needed, ring_left, ring_need as needed_of_ring};
+ghost use Rattle.fixing.specs.Left.{all_counted, all_left, counted, left_by as lists_left, line_left, line_need as needed_of_line, need_of as needed, parts_of, ring_left, ring_need as needed_of_ring};
 ghost use Rattle.fixing.specs.Seen.{lists_in};
-ghost use Rattle.std.specs.Prelude.{◌≡◌, ◌∷◌, [], IfErr, IfOk, OnOk, None, Some};
+ghost use Rattle.std.specs.Prelude.{◌≡◌, IfErr, IfOk, OnOk, None, Some};
 
 use crate::broken::Broken;
+use crate::lists::only;
 use crate::loops::loops_of;
 use crate::rules::{Collapsed, Fixes, FixingRules};
 use crate::runs::runs_of;
@@ -11,7 +12,7 @@ use grid::pos::Pos;
 use lines::line::Line;
 use lines::ring::Ring;
 use lines::shape_fault::ShapeFault;
-use std::alloc::Global;
+use std::alloc::{AllocError, Global};
 
 /// What is to be done with a line or ring.
 #[derive(Clone, Copy, PartialEq, Eq, Debug)]
@@ -21,29 +22,6 @@ enum Need {
     Split,
 }
 
-/// What the rules say of a list of too few positions.
-fn need_of_short(rules: &FixingRules) -> Result<Need, Broken>
-    ensures ok { IfOk result (λ need. needed rules.now (Some ShapeFault.TooShort) ≡ Some need) }
-    ensures refused { IfErr result (λ e. needed rules.now (Some ShapeFault.TooShort) ≡ None) }
-{
-    match rules.collapsed {
-        Collapsed::Refuse => Err(Broken::Faulty),
-        Collapsed::Null | Collapsed::Drop => Ok(Need::Drop),
-    }
-}
-
-/// What the rules say of a list that uses a segment twice.
-fn need_of_folded(rules: &FixingRules) -> Result<Need, Broken>
-    ensures ok { IfOk result (λ need. needed rules.now (Some ShapeFault.Revisit) ≡ Some need) }
-    ensures refused { IfErr result (λ e. needed rules.now (Some ShapeFault.Revisit) ≡ None) }
-{
-    if rules.splits_folded {
-        Ok(Need::Split)
-    } else {
-        Err(Broken::Faulty)
-    }
-}
-
 /// What the rules say of a fault.
 fn need_of(fault: ShapeFault, rules: &FixingRules) -> Result<Need, Broken>
     ensures ok { IfOk result (λ need. needed rules.now (Some fault) ≡ Some need) }
@@ -51,9 +29,12 @@ fn need_of(fault: ShapeFault, rules: &FixingRules) -> Result<Need, Broken>
     ensures memory { IfErr result (λ e. fault ≡ ShapeFault.OutOfMemory → e ≡ Broken.OutOfMemory) }
 {
     match fault {
-        ShapeFault::TooShort => need_of_short(rules),
-        ShapeFault::Revisit => need_of_folded(rules),
-        ShapeFault::NotClosed => Err(Broken::Faulty),
+        ShapeFault::TooShort => match rules.collapsed {
+            Collapsed::Refuse => Err(Broken::Faulty),
+            Collapsed::Null | Collapsed::Drop => Ok(Need::Drop),
+        },
+        ShapeFault::Revisit if rules.splits_folded => Ok(Need::Split),
+        ShapeFault::Revisit | ShapeFault::NotClosed => Err(Broken::Faulty),
         ShapeFault::OutOfMemory => Err(Broken::OutOfMemory),
     }
 }
@@ -80,14 +61,38 @@ fn ring_need(alloc: Global, closed: &[Pos], rules: &FixingRules) -> Result<Need,
     }
 }
 
-/// One list alone.
-fn only(alloc: Global, list: Vec<Pos>) -> Result<Vec<Vec<Pos>>, Broken>
-    ensures ok { IfOk result (λ lists. lists.items ≡ list ∷ []) }
-    ensures memory { IfErr result (λ e. e ≡ Broken.OutOfMemory) }
+/// Whether a list is a line or a ring.
+#[derive(Clone, Copy, PartialEq, Eq, Debug)]
+enum Linework {
+    Line,
+    Ring,
+}
+
+/// The lists that remain of a line or ring of which that is to be done.
+fn left_by(
+    alloc: Global,
+    need: Need,
+    list: Vec<Pos>,
+    kind: Linework,
+    fixes: &mut Fixes,
+) -> Result<Vec<Vec<Pos>>, AllocError>
+    ensures left { IfOk result (λ lists. lists_in lists.items ≡ lists_left need list.items (parts_of kind list.items)) }
+    ensures fixes { OnOk result (fixes.new ≡ counted (Some need) fixes.old) }
 {
-    let mut lists = Vec::new(alloc);
-    lists.push(list)?;
-    Ok(lists)
+    match need {
+        Need::Nothing => only(alloc, list),
+        Need::Drop => {
+            fixes.collapsed = fixes.collapsed.saturating_add(1);
+            Ok(Vec::new(alloc))
+        }
+        Need::Split => {
+            fixes.folded = fixes.folded.saturating_add(1);
+            match kind {
+                Linework::Line => runs_of(alloc, list),
+                Linework::Ring => loops_of(alloc, list.as_slice()),
+            }
+        }
+    }
 }
 
 /// The lines that remain of a line.
@@ -101,17 +106,8 @@ pub(crate) fn fix_line(
     ensures fixes { OnOk result (fixes.new ≡ counted (needed_of_line rules.now positions.items) fixes.old) }
     ensures refused { IfErr result (λ e. e ≡ Broken.Faulty → line_left rules.now positions.items ≡ None) }
 {
-    match line_need(alloc, positions.as_slice(), rules)? {
-        Need::Nothing => only(alloc, positions),
-        Need::Drop => {
-            fixes.collapsed = fixes.collapsed.saturating_add(1);
-            Ok(Vec::new(alloc))
-        }
-        Need::Split => {
-            fixes.folded = fixes.folded.saturating_add(1);
-            Ok(runs_of(alloc, positions)?)
-        }
-    }
+    let need = line_need(alloc, positions.as_slice(), rules)?;
+    Ok(left_by(alloc, need, positions, Linework::Line, fixes)?)
 }
 
 /// The rings that remain of a ring.
@@ -125,17 +121,8 @@ pub(crate) fn fix_ring(
     ensures fixes { OnOk result (fixes.new ≡ counted (needed_of_ring rules.now closed.items) fixes.old) }
     ensures refused { IfErr result (λ e. e ≡ Broken.Faulty → ring_left rules.now closed.items ≡ None) }
 {
-    match ring_need(alloc, closed.as_slice(), rules)? {
-        Need::Nothing => only(alloc, closed),
-        Need::Drop => {
-            fixes.collapsed = fixes.collapsed.saturating_add(1);
-            Ok(Vec::new(alloc))
-        }
-        Need::Split => {
-            fixes.folded = fixes.folded.saturating_add(1);
-            Ok(loops_of(alloc, closed.as_slice())?)
-        }
-    }
+    let need = ring_need(alloc, closed.as_slice(), rules)?;
+    Ok(left_by(alloc, need, closed, Linework::Ring, fixes)?)
 }
 
 /// The lines that remain of some lines.

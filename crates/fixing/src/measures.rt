@@ -1,6 +1,5 @@
 //! On which side of rings positions lie, and how rings turn.
-ghost use Rattle.fixing.specs.Left.{one_more};
-ghost use Rattle.fixing.specs.Measures.{twice_area, cross as cross_of, doubled, inside_from, is_inside, lies_in as lies_within, middle as middle_of, ray_crosses, rewound, spread as spread_of, turned_by as turned_if, turned_to, turns_left as is_left};
+ghost use Rattle.fixing.specs.Measures.{twice_area, cross as cross_of, doubled, inside_from, is_inside, lies_in as lies_within, middle as middle_of, ray_crosses, rewound, spread as spread_of, turns_left as is_left};
 ghost use Rattle.std.specs.Int.{int_wrap};
 ghost use Rattle.std.specs.Prelude.{◌≡◌, ◌*ℤ◌, int_lt, not, if◌then◌else◌};
 ghost use mir.Syntax.{w128};
@@ -72,7 +71,7 @@ fn spread(a: i128, b: i128, c: i128, d: i128) -> i128
 }
 
 /// Whether two tests have one answer.
-fn is_same(a: bool, b: bool) -> bool
+pub(crate) fn is_same(a: bool, b: bool) -> bool
     ensures { result ≡ (if a then b else not b) }
 {
     if a { b } else { !b }
@@ -96,13 +95,6 @@ fn crosses(a: Pos, b: Pos, place: (i128, i128)) -> bool
     }
 }
 
-/// A test, turned round where the other holds.
-fn turned_by(turns: bool, inside: bool) -> bool
-    ensures { result ≡ turned_if turns inside }
-{
-    if turns { !inside } else { inside }
-}
-
 /// Whether a place, of which the doubled numbers are said, lies inside a ring.
 fn contains(closed: &[Pos], place: (i128, i128)) -> bool
     ensures { result ≡ is_inside closed.now place }
@@ -113,7 +105,9 @@ fn contains(closed: &[Pos], place: (i128, i128)) -> bool
     let mut inside = false;
     let mut here = *first;
     for next in others {
-        inside = turned_by(crosses(here, *next, place), inside);
+        if crosses(here, *next, place) {
+            inside = !inside;
+        }
         here = *next;
     }
     inside
@@ -129,26 +123,6 @@ fn middle(a: Pos, b: Pos) -> (i128, i128)
     )
 }
 
-/// How many places lie inside a ring, and how many do not.
-#[derive(Clone, Copy)]
-struct Tally {
-    inside: u64,
-    outside: u64,
-}
-
-impl Tally {
-    fn count(&mut self, is_inside: bool)
-        ensures inside { self.new.inside ≡ (if is_inside then one_more self.old.inside else self.old.inside) }
-        ensures outside { self.new.outside ≡ (if is_inside then self.old.outside else one_more self.old.outside) }
-    {
-        if is_inside {
-            self.inside = self.inside.saturating_add(1);
-        } else {
-            self.outside = self.outside.saturating_add(1);
-        }
-    }
-}
-
 /// Whether a ring lies in another: whether more than half of the middles of its first sides do, as the two may
 /// touch.
 pub(crate) fn lies_in(ring: &[Pos], other: &[Pos]) -> bool
@@ -158,34 +132,29 @@ pub(crate) fn lies_in(ring: &[Pos], other: &[Pos]) -> bool
     let Some((first, others)) = begun.split_first() else {
         return false;
     };
-    let mut tally = Tally {
-        inside: 0,
-        outside: 0,
-    };
+    let (mut inside, mut outside) = (0u64, 0u64);
     let mut here = *first;
     for next in others {
-        tally.count(contains(other, middle(here, *next)));
+        if contains(other, middle(here, *next)) {
+            inside = inside.saturating_add(1);
+        } else {
+            outside = outside.saturating_add(1);
+        }
         here = *next;
     }
-    tally.outside < tally.inside
-}
-
-/// Turns a ring counterclockwise or clockwise.
-fn turn_to(ring: &mut Vec<Pos>, counterclockwise: bool)
-    ensures { ring.new.items ≡ turned_to counterclockwise ring.old.items }
-{
-    if !is_same(turns_left(ring.as_slice()), counterclockwise) {
-        ring.reverse();
-    }
+    outside < inside
 }
 
 /// Turns a ring as it is wanted: an outer one, or a hole.
 pub(crate) fn turn(ring: &mut Vec<Pos>, is_outer: bool, rewind: Rewind)
     ensures { ring.new.items ≡ rewound rewind is_outer ring.old.items }
 {
-    match rewind {
-        Rewind::Keep => {}
-        Rewind::Rfc7946 => turn_to(ring, is_outer),
-        Rewind::D3 => turn_to(ring, !is_outer),
+    let counterclockwise = match rewind {
+        Rewind::Keep => return,
+        Rewind::Rfc7946 => is_outer,
+        Rewind::D3 => !is_outer,
+    };
+    if !is_same(turns_left(ring.as_slice()), counterclockwise) {
+        ring.reverse();
     }
 }

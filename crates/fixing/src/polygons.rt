@@ -1,13 +1,14 @@
 //! Polygons, fixed one by one.
 ghost use Rattle.fixing.specs.Left.{all_left};
-ghost use Rattle.fixing.specs.Polygons.{home_of as home_in, home_of_hole as home_in_of_hole, is_home as is_home_of, polygon_counted, polygon_kept, polygon_left, polygons_counted, polygons_of as alone, polygons_of_loops as made_of_loops, put_at, put_holes as with_these, put_others as with_others, put_ring as with_ring, rewound_polygon, turns_to as is_turned_to};
+ghost use Rattle.fixing.specs.Polygons.{home_of as home_in, home_of_hole as home_in_of_hole, polygon_counted, polygon_kept, polygon_left, polygons_counted, polygons_of as alone, polygons_of_loops as made_of_loops, put_holes as with_these, put_others as with_others, put_ring as with_ring, rewound_polygon, turns_to as is_turned_to};
 ghost use Rattle.fixing.specs.Seen.{lists_in, polygons_in};
-ghost use Rattle.std.specs.Prelude.{◌≡◌, ◌∷◌, [], IfErr, IfOk, OnOk, None, Some, map, not};
+ghost use Rattle.std.specs.Prelude.{◌≡◌, IfErr, IfOk, OnOk, None, Some, map, not};
 ghost use Rattle.theory.specs.TopologyFunction.{keep};
 
 use crate::broken::Broken;
 use crate::linework::fix_ring;
-use crate::measures::{lies_in, turn, turns_left};
+use crate::lists::only;
+use crate::measures::{is_same, lies_in, turn, turns_left};
 use crate::rules::{Fixes, FixingRules, Rewind};
 use grid::pos::Pos;
 use std::alloc::{AllocError, Global};
@@ -18,21 +19,9 @@ fn polygons_of(alloc: Global, rings: Vec<Vec<Pos>>) -> Result<Vec<Vec<Vec<Pos>>>
 {
     let mut polygons = Vec::new(alloc);
     for ring in rings {
-        let mut polygon = Vec::new(alloc);
-        polygon.push(ring)?;
-        polygons.push(polygon)?;
+        polygons.push(only(alloc, ring)?)?;
     }
     Ok(polygons)
-}
-
-/// Whether a ring lies in the outer ring of a polygon.
-fn is_home(polygon: &[Vec<Pos>], ring: &[Pos]) -> bool
-    ensures { result ≡ is_home_of ring.now (lists_in polygon.now) }
-{
-    match polygon.first() {
-        Some(outer) => lies_in(ring, outer.as_slice()),
-        None => false,
-    }
 }
 
 /// The first polygon in whose outer ring a ring lies.
@@ -40,8 +29,10 @@ fn home_of(polygons: &[Vec<Vec<Pos>>], ring: &[Pos]) -> Option<usize>
     ensures { result ≡ home_in (polygons_in polygons.now) ring.now }
 {
     for (place, polygon) in polygons.iter().enumerate() {
-        if is_home(polygon.as_slice(), ring) {
-            return Some(place);
+        if let Some(outer) = polygon.first() {
+            if lies_in(ring, outer.as_slice()) {
+                return Some(place);
+            }
         }
     }
     None
@@ -83,35 +74,16 @@ fn put_holes(polygons: &mut Vec<Vec<Vec<Pos>>>, holes: Vec<Vec<Pos>>) -> Result<
     Ok(())
 }
 
-/// Puts a ring into the polygon that it lies in, or drops it.
-fn put_other(polygons: &mut Vec<Vec<Vec<Pos>>>, ring: Vec<Pos>) -> Result<(), AllocError>
-    ensures { OnOk result (polygons_in polygons.new.items ≡ put_at (home_in (polygons_in polygons.old.items) ring.items) ring.items (polygons_in polygons.old.items)) }
-{
-    match home_of(polygons.as_slice(), ring.as_slice()) {
-        Some(home) => put_ring(polygons, ring, home),
-        None => Ok(()),
-    }
-}
-
 /// Puts each of the rings into the polygon that it lies in, or drops it.
 fn put_others(polygons: &mut Vec<Vec<Vec<Pos>>>, rings: Vec<Vec<Pos>>) -> Result<(), AllocError>
     ensures { OnOk result (polygons_in polygons.new.items ≡ with_others (lists_in rings.items) (polygons_in polygons.old.items)) }
 {
     for ring in rings {
-        put_other(polygons, ring)?;
+        if let Some(home) = home_of(polygons.as_slice(), ring.as_slice()) {
+            put_ring(polygons, ring, home)?;
+        }
     }
     Ok(())
-}
-
-/// Whether a ring turns counterclockwise, or clockwise.
-fn turns_to(ring: &[Pos], counterclockwise: bool) -> bool
-    ensures { result ≡ is_turned_to counterclockwise ring.now }
-{
-    if counterclockwise {
-        turns_left(ring)
-    } else {
-        !turns_left(ring)
-    }
 }
 
 /// The loops of an outer ring that turn as it does, and the others.
@@ -126,7 +98,7 @@ fn split_by_turn(
     let mut outers = Vec::new(alloc);
     let mut others = Vec::new(alloc);
     for ring in loops {
-        if turns_to(ring.as_slice(), counterclockwise) {
+        if is_same(counterclockwise, turns_left(ring.as_slice())) {
             outers.push(ring)?;
         } else {
             others.push(ring)?;
@@ -186,15 +158,6 @@ fn turn_polygons(
     Ok(turned)
 }
 
-/// The only polygon, without a ring.
-fn empty_polygon(alloc: Global) -> Result<Vec<Vec<Vec<Pos>>>, AllocError>
-    ensures { IfOk result (λ made. polygons_in made.items ≡ [] ∷ []) }
-{
-    let mut polygons = Vec::new(alloc);
-    polygons.push(Vec::new(alloc))?;
-    Ok(polygons)
-}
-
 /// The polygons that remain of a polygon, before their rings are turned.
 fn fix_rings(
     alloc: Global,
@@ -208,7 +171,7 @@ fn fix_rings(
 {
     let mut rings = rings.into_iter();
     let Some(outer) = rings.next() else {
-        return Ok(empty_polygon(alloc)?);
+        return Ok(only(alloc, Vec::new(alloc))?);
     };
     let counterclockwise = turns_left(outer.as_slice());
     let loops = fix_ring(alloc, outer, rules, fixes)?;

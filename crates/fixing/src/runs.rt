@@ -7,6 +7,7 @@ ghost use Rattle.lines.specs.Reading.{collapsed};
 ghost use Rattle.lines.specs.Turned.{position_cmp};
 ghost use Rattle.std.specs.Prelude.{◌≡◌, ◌∷◌, ◌++◌, [], IfOk, OnOk, List};
 
+use crate::lists::only;
 use grid::pos::Pos;
 use lines::pair::PositionPair;
 use std::alloc::{AllocError, Global};
@@ -20,15 +21,6 @@ struct Cutting {
     ended: Vec<Vec<Pos>>,
     run: Vec<Pos>,
     here: Pos,
-}
-
-/// A list of one position.
-fn list_of_one(alloc: Global, position: Pos) -> Result<Vec<Pos>, AllocError>
-    ensures { IfOk result (λ list. list.items ≡ position ∷ []) }
-{
-    let mut list = Vec::new(alloc);
-    list.push(position)?;
-    Ok(list)
 }
 
 /// Puts a run behind others, unless it has fewer than two positions.
@@ -49,7 +41,7 @@ impl Cutting {
         Ok(Cutting {
             used: BTreeSet::new(alloc),
             ended: Vec::new(alloc),
-            run: list_of_one(alloc, here)?,
+            run: only(alloc, here)?,
             here,
         })
     }
@@ -61,7 +53,7 @@ impl Cutting {
         ensures here { self.new.here ≡ self.old.here }
         ensures used { self.new.used ≡ self.old.used }
     {
-        let run = list_of_one(alloc, self.here)?;
+        let run = only(alloc, self.here)?;
         let ended = std::mem::replace(&mut self.run, run);
         push_run(&mut self.ended, ended)
     }

@@ -11,6 +11,6 @@ returns-in_default c =
 pub returns : goal.returns
 returns c =
     begun_told c.args.ring.now c.args.other.now _
-    (ap (mostly_inside c.loop-next.tally.inside c.loop-next.tally.outside c.args.other.now c.loop-next.here)
+    (ap (mostly_inside c.loop-next.inside c.loop-next.outside c.args.other.now c.loop-next.here)
     (sym (drop_all c.loop-next.next-index c.in-Some.others.now c.loop-next-test.false))
     ∙ c.loop-next.invariant)

@@ -4,4 +4,4 @@ use Rattle.fixing.proofs.measures.lies_in.Given as goal
 
 abbrev pub invariant-loop-next : goal.invariant-loop-next
 invariant-loop-next l =
-    mostly_inside l.tally.inside l.tally.outside l.other l.here (drop l.next-index l.others) ≡ lies_begun (take 9 l.fn.ring) l.fn.other
+    mostly_inside l.inside l.outside l.other l.here (drop l.next-index l.others) ≡ lies_begun (take 9 l.fn.ring) l.fn.other

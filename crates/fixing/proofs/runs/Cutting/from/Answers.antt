@@ -9,5 +9,5 @@ use Rattle.fixing.proofs.runs.Cutting.from.Goals as goal
 
 pub returns : goal.returns
 returns c =
-    begun (contains pair_cmp c.new.result) (lists_in c.new-2.result.items) c.in_ok-list_of_one.field-0.items c.args.here
-    (λ q. ap (list_any (is_at (pair_cmp q))) c.new.ensures.empty) (ap lists_in c.new-2.ensures.items) c.in_ok-list_of_one.ensures
+    begun (contains pair_cmp c.new.result) (lists_in c.new-2.result.items) c.in_ok-only.field-0.items c.args.here
+    (λ q. ap (list_any (is_at (pair_cmp q))) c.new.ensures.empty) (ap lists_in c.new-2.ensures.items) c.in_ok-only.ensures
