@@ -15,7 +15,7 @@ import sys
 
 TOP = os.path.dirname(os.path.dirname(os.path.abspath(__file__)))
 MOST = 8
-MOST_IN_ALL = 150
+MOST_IN_ALL = 140
 LINE = re.compile(r"(file|old|new):(?: (.*))?")
 CONTRACT = re.compile(r"\s*(?:ensures|requires|ghost)\b")
 WORDS = re.compile(r"\b(?:ensures|requires|ghost)\b")
