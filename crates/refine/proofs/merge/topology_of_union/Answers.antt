@@ -19,7 +19,7 @@ returns-in-Some-clause-text c = λ texts is n of_union.
     let topology = c.into_topology.result in
     let of_map = c.into_topology.ensures.of_map in
     record {
-      places = union.places;
+      indexes = union.indexes;
       grid = s.grid;
       maps = union.maps;
       meant = union.meant;
