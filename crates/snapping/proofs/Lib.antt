@@ -1,2 +1,3 @@
 pub mod NearlySharedLemmas
 pub mod MovesLemmas
+pub mod EditsLemmas

@@ -1,2 +1,3 @@
 pub mod NearlyShared
 pub mod Moves
+pub mod Edits

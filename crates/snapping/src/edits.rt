@@ -4,6 +4,8 @@
 //! Texts are edited along their tokens, so no value of a whole text is made.
 
 mod attributes;
+pub mod laws;
+mod number_text;
 mod rules;
 mod shifting;
 mod spot;

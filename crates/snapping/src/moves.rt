@@ -6,3 +6,4 @@ mod originals;
 
 pub use distance::Moves;
 pub use originals::Originals;
+pub(crate) use originals::coordinate;

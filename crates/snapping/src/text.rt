@@ -197,7 +197,7 @@ fn shift_bytes(
         return Ok(bytes);
     };
     let text = text_of(alloc, bytes.as_slice())?;
-    match count_from(alloc, text, &rules.snapping, origin) {
+    match count_from(alloc, text, origin) {
         Ok(shifted) => Ok(shifted),
         Err(unread) => Err(fault_of(alloc, unread)),
     }

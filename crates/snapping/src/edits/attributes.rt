@@ -1,13 +1,22 @@
 //! A property as the id of each feature, and properties times a power of ten.
+ghost use Rattle.faults.specs.Fault.{pair_of};
+ghost use Rattle.json.specs.Json.{document};
+ghost use Rattle.json.specs.Lex.{tokens};
 ghost use Rattle.json.specs.Print.{IsPrintable};
 ghost use Rattle.json.specs.Reads.{token_of};
-ghost use Rattle.std.specs.Prelude.{◌≢◌};
+ghost use Rattle.json.specs.Token.{Token as SpecToken};
+ghost use Rattle.snapping.specs.Edits.Refusals.{IsEditFault, IsIdRefused, IsPropertyRefused, IsRefused, IsStayRefused, IsUnedited, properties_path, property_path};
+ghost use Rattle.snapping.specs.Edits.Attributes.{AreEdited, IsEdited, IsIdMember, IsScaled, as_id, id_value, known_behind, known_of, unknown};
+ghost use Rattle.snapping.specs.declared.edits.attributes.Unedited.TheVariants.{OutOfMemory};
+ghost use Rattle.snapping.specs.Edits.Spots.{has_features, start_of};
+ghost use Rattle.std.specs.Prelude.{◌≡◌, ◌≢◌, ◌∷◌, [], ◌++◌, List, Some, IfErr, IfOk, IsSome, OnOk};
 
+use crate::edits::number_text::NumberText;
 use crate::edits::rules::AttributeRules;
-use crate::edits::spot::{MemberKind, Spot, Turn};
+use crate::edits::spot::{MemberKind, Spot, Turn, depth_behind};
 use decimals::{DecimalStep, snap};
 use faults::{Fault, FaultKind};
-use json::{Reader, Scratch, Token, Writer, is_number, is_valid};
+use json::{Reader, Scratch, Token, Writer, is_valid};
 use std::alloc::{AllocError, Global};
 
 /// Why a text is not edited.
@@ -26,6 +35,8 @@ enum Unedited {
 }
 
 impl From<AllocError> for Unedited {
+    ghost from_gives = { λ _ e. e ≡ OutOfMemory };
+
     fn from(_error: AllocError) -> Unedited {
         Unedited::OutOfMemory
     }
@@ -38,17 +49,22 @@ enum NewId {
     Missing,
     /// A text.
     Text(String),
-    /// A number, as it is written.
-    Number(String),
+    /// A number.
+    Number(NumberText),
     /// Something else.
     Wrong,
 }
 
 impl NewId {
-    fn of(alloc: Global, token: Token<'_>) -> Result<NewId, AllocError> {
+    fn of(alloc: Global, token: Token<'_>) -> Result<NewId, AllocError>
+        requires { token ≢ Token.Bad → IsPrintable (token_of token) }
+        ensures { IfOk result (λ id. id_value id ≡ Some (as_id (token_of token.entry))) }
+    {
         match token {
             Token::String(text) => Ok(NewId::Text(String::from_str(alloc, text)?)),
-            Token::Number(text) => Ok(NewId::Number(String::from_str(alloc, text)?)),
+            Token::Number(text) => Ok(NewId::Number(NumberText {
+                text: String::from_str(alloc, text)?,
+            })),
             _ => Ok(NewId::Wrong),
         }
     }
@@ -65,7 +81,9 @@ struct EditedFeature {
 }
 
 impl EditedFeature {
-    fn new() -> EditedFeature {
+    fn new() -> EditedFeature
+        ensures { known_of result ≡ unknown }
+    {
         EditedFeature {
             id: NewId::Missing,
             is_id: false,
@@ -73,26 +91,36 @@ impl EditedFeature {
         }
     }
 
-    /// Meets the key of a property.
-    fn meet(&mut self, token: Token<'_>, rules: &AttributeRules<'_, '_>) {
-        if let Token::Key(name) = token {
-            self.is_id = rules.is_id(name);
-            self.step = rules.step_of(name);
+    /// Goes over a token.
+    fn pass(
+        &mut self,
+        alloc: Global,
+        token: Token<'_>,
+        turn: Turn,
+        rules: &AttributeRules<'_, '_>,
+    ) -> Result<(), AllocError>
+        requires { token ≢ Token.Bad → IsPrintable (token_of token) }
+        ensures { OnOk result (known_of self.new ≡ known_behind rules.now turn (token_of token.entry) (known_of self.old)) }
+    {
+        match turn {
+            Turn::PropertyKey => if let Token::Key(name) = token {
+                self.is_id = rules.is_id(name);
+                self.step = rules.step_of(name);
+            },
+            Turn::Property => if self.is_id {
+                self.id = NewId::of(alloc, token)?;
+            },
+            Turn::FeatureEnd => *self = EditedFeature::new(),
+            _ => {}
         }
-    }
-}
-
-/// How many brackets are open behind a token.
-fn depth_behind(depth: u64, token: Token<'_>) -> u64 {
-    match token {
-        Token::BeginObject | Token::BeginArray => depth.saturating_add(1),
-        Token::EndObject | Token::EndArray => depth.saturating_sub(1),
-        _ => depth,
+        Ok(())
     }
 }
 
 /// Whether a root has the member `features`.
-fn is_collection(alloc: Global, text: &str) -> Result<bool, AllocError> {
+fn is_collection(alloc: Global, text: &str) -> Result<bool, AllocError>
+    ensures { IfOk result (λ b. b ≡ has_features 0 (tokens text.now)) }
+{
     let mut scratch = Scratch::new(alloc);
     let mut reader = Reader::new(text, &mut scratch)?;
     let mut depth = 0u64;
@@ -108,18 +136,19 @@ fn is_collection(alloc: Global, text: &str) -> Result<bool, AllocError> {
 }
 
 /// Writes the id of a feature.
-fn write_id(writer: &mut Writer, id: &NewId) -> Result<(), Unedited> {
+fn write_id(writer: &mut Writer, id: &NewId) -> Result<(), Unedited>
+    ensures before { OnOk result (writer.new.before ≡ writer.old.before) }
+    ensures tokens { OnOk result ((us : List SpecToken) × (writer.new.tokens ≡ writer.old.tokens ++ us) × IsIdMember (id_value id.now) us) }
+    ensures err { IfErr result (IsIdRefused (id_value id.now)) }
+{
     match id {
         NewId::Text(text) => {
             writer.key("id")?;
             Ok(writer.string(text.as_str())?)
         }
-        NewId::Number(text) => {
-            if !is_number(text.as_str()) {
-                return Err(Unedited::NotAnId);
-            }
+        NewId::Number(number) => {
             writer.key("id")?;
-            Ok(writer.number(text.as_str())?)
+            Ok(writer.number(number.text.as_str())?)
         }
         NewId::Wrong => Err(Unedited::NotAnId),
         NewId::Missing => Err(Unedited::NoId),
@@ -133,6 +162,9 @@ fn write_property(
     step: Option<DecimalStep>,
 ) -> Result<(), Unedited>
     requires { token ≢ Token.Bad → IsPrintable (token_of token) }
+    ensures before { OnOk result (writer.new.before ≡ writer.old.before) }
+    ensures tokens { OnOk result ((u : SpecToken) × (writer.new.tokens ≡ writer.old.tokens ++ (u ∷ [])) × IsScaled step (token_of token.entry) u) }
+    ensures err { IfErr result (IsPropertyRefused step (token_of token.entry)) }
 {
     if let Token::Bad = token {
         return Err(Unedited::NotJson);
@@ -149,6 +181,9 @@ fn write_property(
 /// Writes a token that stays.
 fn write(writer: &mut Writer, token: Token<'_>) -> Result<(), Unedited>
     requires { token ≢ Token.Bad → IsPrintable (token_of token) }
+    ensures before { OnOk result (writer.new.before ≡ writer.old.before) }
+    ensures tokens { OnOk result (writer.new.tokens ≡ writer.old.tokens ++ (token_of token.entry ∷ [])) }
+    ensures err { IfErr result (IsStayRefused (token_of token.entry)) }
 {
     if let Token::Bad = token {
         return Err(Unedited::NotJson);
@@ -158,14 +193,16 @@ fn write(writer: &mut Writer, token: Token<'_>) -> Result<(), Unedited>
 
 /// Writes what becomes of a token.
 fn write_edited(
-    alloc: Global,
     writer: &mut Writer,
     token: Token<'_>,
     turn: Turn,
-    feature: &mut EditedFeature,
+    feature: &EditedFeature,
     rules: &AttributeRules<'_, '_>,
 ) -> Result<(), Unedited>
     requires { token ≢ Token.Bad → IsPrintable (token_of token) }
+    ensures before { OnOk result (writer.new.before ≡ writer.old.before) }
+    ensures tokens { OnOk result ((us : List SpecToken) × (writer.new.tokens ≡ writer.old.tokens ++ us) × IsEdited rules.now turn (token_of token.entry) (known_of feature.now) us) }
+    ensures err { IfErr result (IsRefused rules.now turn (token_of token.entry) (known_of feature.now)) }
 {
     match turn {
         Turn::FeatureKey(MemberKind::Id) | Turn::Inside(MemberKind::Id) => if rules.id.is_some() {
@@ -173,34 +210,28 @@ fn write_edited(
         } else {
             write(writer, token)
         },
-        Turn::PropertyKey => {
-            feature.meet(token, rules);
-            write(writer, token)
-        }
-        Turn::Property => {
-            if feature.is_id {
-                feature.id = NewId::of(alloc, token)?;
-            }
-            write_property(writer, token, feature.step)
-        }
+        Turn::Property => write_property(writer, token, feature.step),
         Turn::FeatureEnd => {
             if rules.id.is_some() {
                 write_id(writer, &feature.id)?;
             }
-            *feature = EditedFeature::new();
             write(writer, token)
         }
         _ => write(writer, token),
     }
 }
 
-/// The edited text, or why there is none and where its walk stood.
+/// The edited text, or why there is none and where its walk stopped.
 fn edit(
     alloc: Global,
     text: &str,
     rules: &AttributeRules<'_, '_>,
     spot: &mut Spot,
-) -> Result<Vec<u8>, Unedited> {
+) -> Result<Vec<u8>, Unedited>
+    ensures ok { IfOk result (λ made. AreEdited rules.now spot.old unknown (tokens text.now) (tokens made.items)) }
+    ensures json { IfOk result (λ made. IsSome (document text.now)) }
+    ensures err { IfErr result (IsUnedited rules.now text.now spot.old spot.new) }
+{
     let mut scratch = Scratch::new(alloc);
     if !is_valid(text, &mut scratch)? {
         return Err(Unedited::NotJson);
@@ -210,14 +241,17 @@ fn edit(
     let mut feature = EditedFeature::new();
     while let Some(token) = reader.next() {
         let turn = spot.turn(token);
-        write_edited(alloc, &mut writer, token, turn, &mut feature, rules)?;
-        *spot = spot.after(token);
+        write_edited(&mut writer, token, turn, &feature, rules)?;
+        feature.pass(alloc, token, turn, rules)?;
+        *spot = spot.behind(token);
     }
     Ok(writer.into_inner())
 }
 
 /// A fault in the properties of the feature at which a walk is, or in one of these properties.
-fn feature_fault(alloc: Global, spot: Spot, kind: FaultKind, property: Option<&str>) -> Fault {
+fn feature_fault(alloc: Global, spot: Spot, kind: FaultKind, property: Option<&str>) -> Fault
+    ensures { (result.kind ≡ FaultKind.OutOfMemory → ⊥) → pair_of result ≡ record { path = properties_path spot (property_path property.entry); kind = kind } }
+{
     let mut fault = Fault::here(alloc, kind);
     if let Some(property) = property {
         fault = fault.under_name(alloc, property);
@@ -240,7 +274,11 @@ pub fn edit_attributes(
     alloc: Global,
     text: &str,
     rules: &AttributeRules<'_, '_>,
-) -> Result<Vec<u8>, Fault> {
+) -> Result<Vec<u8>, Fault>
+    ensures ok { IfOk result (λ made. AreEdited rules.now (start_of (has_features 0 (tokens text.now))) unknown (tokens text.now) (tokens made.items)) }
+    ensures json { IfOk result (λ made. IsSome (document made.items)) }
+    ensures err { IfErr result (λ fault. (fault.kind ≡ FaultKind.OutOfMemory → ⊥) → IsEditFault rules.now text.now (pair_of fault)) }
+{
     let Ok(is_collection) = is_collection(alloc, text) else {
         return Err(Fault::here(alloc, FaultKind::OutOfMemory));
     };

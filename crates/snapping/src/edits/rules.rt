@@ -1,4 +1,7 @@
 //! What becomes of ids and properties.
+ghost use Rattle.snapping.specs.Edits.Attributes.{is_id, step_of};
+ghost use Rattle.std.specs.Prelude.{◌≡◌};
+
 use decimals::DecimalStep;
 
 /// A property whose numbers are multiplied by a power of ten, and rounded: 1.5 becomes 1500 where `places` is 3.
@@ -18,7 +21,9 @@ pub struct AttributeRules<'r, 'a> {
 
 impl<'r, 'a> AttributeRules<'r, 'a> {
     /// Whether a property becomes the id.
-    pub(crate) fn is_id(&self, property: &str) -> bool {
+    pub(crate) fn is_id(&self, property: &str) -> bool
+        ensures { result ≡ is_id self.now.id property.now }
+    {
         match self.id {
             Some(id) => id == property,
             None => false,
@@ -26,7 +31,9 @@ impl<'r, 'a> AttributeRules<'r, 'a> {
     }
 
     /// The step to which a property is rounded, as the first of its scales says.
-    pub(crate) fn step_of(&self, property: &str) -> Option<DecimalStep> {
+    pub(crate) fn step_of(&self, property: &str) -> Option<DecimalStep>
+        ensures { result ≡ step_of self.now.scales.now property.now }
+    {
         for scale in self.scales {
             if scale.property == property {
                 return DecimalStep::new(1, scale.places);

@@ -37,7 +37,7 @@ struct PlacesWalk {
 }
 
 /// The number of a position that is met here, if one is, and how many are before it.
-fn coordinate<'a>(place: JsonPlace, token: Token<'a>) -> Option<(u64, &'a str)>
+pub(crate) fn coordinate<'a>(place: JsonPlace, token: Token<'a>) -> Option<(u64, &'a str)>
     ensures text { option_map (λ c. c.1.now) result ≡ coordinate place (token_of token.entry) }
     ensures seen { IfSome result (λ c. c.0 ≡ seen_at place) }
 {

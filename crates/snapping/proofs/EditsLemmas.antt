@@ -1,0 +1,5 @@
+pub mod Offsets
+pub mod Rounding
+pub mod Runs
+pub mod ShiftsStayJson
+pub mod EditsStayJson

@@ -1,0 +1,5 @@
+pub mod Shifts
+pub mod Laws
+pub mod Spots
+pub mod Attributes
+pub mod Refusals
