@@ -64,15 +64,11 @@ pub struct Sheet {
     pub features: BTreeSet<Feature>,
 }
 
-fn out_of_memory(alloc: Global) -> Fault {
-    Fault::here(alloc, FaultKind::OutOfMemory)
-}
-
 /// The fault of a text as a whole.
 fn fault_of(alloc: Global, unread: Unread) -> Fault {
     match unread {
         Unread::NotJson => Fault::here(alloc, FaultKind::NotJson),
-        Unread::OutOfMemory => out_of_memory(alloc),
+        Unread::OutOfMemory => Fault::here(alloc, FaultKind::OutOfMemory),
     }
 }
 
@@ -126,7 +122,7 @@ fn add_vertices(
     }
     match vertices.add(features) {
         Ok(()) => Ok(()),
-        Err(_) => Err(out_of_memory(alloc)),
+        Err(_) => Err(Fault::here(alloc, FaultKind::OutOfMemory)),
     }
 }
 
@@ -138,7 +134,7 @@ fn settle_fixed(
     first: Option<Fault>,
 ) -> Result<Settled, Fault> {
     let Some(made) = fix_bytes(alloc, text.as_slice(), rules) else {
-        return Err(first.unwrap_or(out_of_memory(alloc)));
+        return Err(first.unwrap_or(Fault::here(alloc, FaultKind::OutOfMemory)));
     };
     let FixedText {
         text: fixed,
@@ -215,7 +211,7 @@ fn measure(
     }
     match originals.add(alloc, text, &rules.snapping) {
         Ok(moves) => Ok(moves),
-        Err(_) => Err(out_of_memory(alloc)),
+        Err(_) => Err(Fault::here(alloc, FaultKind::OutOfMemory)),
     }
 }
 
