@@ -14,7 +14,7 @@ use refused_calls::texts::{FIRST, Places, SHARED_EDGE};
 use shapes::Ring;
 use std::alloc::Global;
 use topo::arc_slice::is_same;
-use topo::{ArcSlice, Geom, Layer, Topology, Walk, kind_order};
+use topo::{ArcSlice, Body, BodyLists, Geom, Layer, Topology, Walk, kind_order};
 
 /// The ring of the first square.
 const SQUARE: Places = &[(0, 0), (1, 0), (1, 1), (0, 1), (0, 0)];
@@ -164,6 +164,47 @@ fn has_one_kind(topology: &Topology) -> bool {
     }
 }
 
+/// The shape of the first square.
+fn square(topology: &Topology) -> Option<&Body> {
+    match topology.geometries("a") {
+        Some([first, _]) => Some(&first.body),
+        _ => None,
+    }
+}
+
+/// Its ring alone.
+fn is_ring_of_square(lists: BodyLists<'_>) -> bool {
+    let mut left = lists;
+    match left.next() {
+        Some(used) => are_used(used, &[1, -1]) && left.next().is_none(),
+        None => false,
+    }
+}
+
+fn has_no_line(topology: &Topology) -> bool {
+    match square(topology) {
+        Some(body) => {
+            let mut lines = body.lines();
+            lines.next().is_none()
+        }
+        None => false,
+    }
+}
+
+fn has_rings(topology: &Topology) -> bool {
+    match square(topology) {
+        Some(body) => is_ring_of_square(body.rings()),
+        None => false,
+    }
+}
+
+fn has_lists(topology: &Topology) -> bool {
+    match square(topology) {
+        Some(body) => is_ring_of_square(body.lists()),
+        None => false,
+    }
+}
+
 fn is_text(topology: &Topology) -> bool {
     topo_io::is_text_of(topology, SHARED_EDGE.as_bytes())
         && !topo_io::is_text_of(topology, FIRST.as_bytes())
@@ -223,6 +264,9 @@ fn settle_topology(rt: &HostRuntime, tally: &mut Tally, topology: &Topology) {
         "Topology::geometries" => has_geometries(topology),
         "Topology::bbox" => topology.bbox() == Some((0, 0, 2, 1)),
         "Topology::walk" => walks(topology),
+        "Body::lines" => has_no_line(topology),
+        "Body::rings" => has_rings(topology),
+        "Body::lists" => has_lists(topology),
         "topo_io::is_text_of" => is_text(topology),
         "topo::is_same" => has_equal_places(topology),
         "merging::same_grid" => is_same_alone(topology.grid()),

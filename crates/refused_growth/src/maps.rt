@@ -147,7 +147,7 @@ pub(crate) fn settle(rt: &HostRuntime, tally: &mut Tally) {
         );
         calls!(tally.ask(rt, "maps of squares", &maps);
             "FeatureMap::with_features" => with_features,
-            "FeatureMap::united" => unite_maps,
+            "FeatureMap::into_union" => unite_maps,
             "FeatureMap::union" => union,
         );
     }
