@@ -10,12 +10,15 @@ use sinks::{Refused, Tap};
 use std::alloc::Global;
 use std::fs::{File, OpenOptions};
 use std::io::{Read, Write};
-use std::path::AsPath;
+use std::path::PathBuf;
 use std::time::Instant;
 use std::{fs, io};
 
 /// For how many bytes an input is given room at least, before any is read.
 const INPUT_ROOM: usize = 65536;
+
+/// How many symbolic links one name may lead through: one more than Linux follows.
+const MOST_LINKS: usize = 41;
 
 /// The machine's files, and the one that is written.
 #[derive(Drop)]
@@ -110,20 +113,40 @@ fn place_of(rt: &HostRuntime, alloc: Global, name: &str) -> io::Result<Place> {
         Ok(found) if found.is_file() => Ok(Place::File(name_behind_links(rt, alloc, name)?)),
         Ok(found) if found.is_dir() => Err(io::Error::from(io::ErrorKind::IsADirectory)),
         Ok(_) => Ok(Place::Stream),
-        Err(error) if error.kind() == io::ErrorKind::NotFound => Ok(Place::File(String::from_str(
-            alloc, name,
-        )?)),
+        Err(error) if error.kind() == io::ErrorKind::NotFound => {
+            Ok(Place::File(name_behind_links(rt, alloc, name)?))
+        }
         Err(error) => Err(error),
     }
 }
 
-/// The name of the file that a name leads to: another one only where it is a symbolic link.
+/// The name of the file that a name leads to, which may not be there yet: another one only where it is a symbolic link.
 fn name_behind_links(rt: &HostRuntime, alloc: Global, name: &str) -> io::Result<String> {
-    if fs::symlink_metadata(rt, name)?.is_symlink() {
-        let path = fs::canonicalize(rt, name)?;
-        return Ok(String::from_str(alloc, path.path_text())?);
+    let mut path = PathBuf::from_str(alloc, name)?;
+    for _ in 0..MOST_LINKS {
+        if !is_link(rt, &path)? {
+            return Ok(path.into_string());
+        }
+        follow_link(rt, &mut path)?;
     }
-    Ok(String::from_str(alloc, name)?)
+    Err(io::Error::from(io::ErrorKind::FilesystemLoop))
+}
+
+/// Whether a path is that of a symbolic link; it may be that of nothing.
+fn is_link(rt: &HostRuntime, path: &PathBuf) -> io::Result<bool> {
+    match fs::symlink_metadata(rt, path) {
+        Ok(found) => Ok(found.is_symlink()),
+        Err(error) if error.kind() == io::ErrorKind::NotFound => Ok(false),
+        Err(error) => Err(error),
+    }
+}
+
+/// Goes from a symbolic link to what it says, which is seen from the folder that the link is in.
+fn follow_link(rt: &HostRuntime, path: &mut PathBuf) -> io::Result<()> {
+    let target = fs::read_link(rt, path.as_path())?;
+    let _ = path.pop();
+    path.push(target)?;
+    Ok(())
 }
 
 /// Makes a file, with the permissions of another one, where that is there and they can be given.

@@ -7,6 +7,7 @@ use sinks::{Refused, Sink};
 use std::alloc::{AllocError, Global};
 use std::io;
 use std::io::Write;
+use std::path::PathBuf;
 
 /// How many bytes of output are gathered before the system is asked to write them.
 pub const OUTPUT_BUFFER: usize = 65536;
@@ -22,7 +23,10 @@ pub fn is_standard(word: Option<&str>) -> bool {
     }
 }
 
-/// How many names are tried for the file that is written first.
+/// What the name of the file that is written first begins with.
+const WRITTEN_NAME: &str = "noshinka.tmp-";
+
+/// How many names are tried for it.
 const MOST_NAMES: u32 = 1000;
 
 /// A file that is written, and the one whose place it takes in the end.
@@ -156,14 +160,18 @@ fn place_of_word<'a, F: Files>(
     }
 }
 
-/// Makes a file beside the one of a name, under the first name that is free.
+/// Makes a file in the folder of the one of a name, under the first name that no other file has.
 fn create_beside<'a, F: Files>(
     alloc: Global,
     files: &mut F,
     name: String,
 ) -> Result<Replacing, Refusal<'a>> {
     for number in 0..MOST_NAMES {
-        let written = name_beside(alloc, name.as_str(), number)?;
+        let short = short_name(alloc, number)?;
+        if name.as_str().ends_with(short.as_str()) {
+            continue;
+        }
+        let written = path_beside(alloc, name.as_str(), short.as_str())?;
         match files.create_output(written.as_str(), name.as_str()) {
             Ok(()) => return Ok(Replacing { written, name }),
             Err(OutputFault::IsThere) => {}
@@ -173,12 +181,18 @@ fn create_beside<'a, F: Files>(
     Err(Refusal::Write)
 }
 
-/// A name and a number behind it.
-fn name_beside(alloc: Global, name: &str, number: u32) -> Result<String, AllocError> {
-    let mut beside = String::from_str(alloc, name)?;
-    beside.push_str(".tmp-")?;
-    beside.push_str(Buffer::new().format(number))?;
-    Ok(beside)
+/// A name with a number behind it. It is short, so that an output may have the longest name that the system allows.
+fn short_name(alloc: Global, number: u32) -> Result<String, AllocError> {
+    let mut name = String::from_str(alloc, WRITTEN_NAME)?;
+    name.push_str(Buffer::new().format(number))?;
+    Ok(name)
+}
+
+/// The path of another name in the folder of a file.
+fn path_beside(alloc: Global, file: &str, name: &str) -> Result<String, AllocError> {
+    let mut path = PathBuf::from_str(alloc, file)?;
+    path.set_file_name(name)?;
+    Ok(path.into_string())
 }
 
 /// Writes a whole text to the output that a word names; standard output where there is none.

@@ -1,10 +1,15 @@
 //! How a command says that it did not do its work: an exit status and a line on standard error.
+ghost use Rattle.command_line.specs.Refusal.{fault_text, kind_text, line_text, reason_text, status_of, usage_name, usage_words};
+ghost use Rattle.faults.specs.declared.fault.FaultKind.TheVariants.{NoLayer as MissingLayer, OtherGrid as AnotherGrid};
+ghost use Rattle.sinks.specs.Writes.{TookAll, TookPart};
+ghost use Rattle.std.specs.Prelude.{◌≡◌, ◌++◌, OnErr, OnOk, codes};
+
 use crate::files::OutputFault;
 use crate::status::Status;
 use faults::{Fault, FaultKind, OutOfMemory};
-use itoa::Buffer;
-use sinks::path_text::write_path;
-use sinks::{Sink, WriteFault, put};
+use sinks::path_text::{KindNumber, PathText};
+use sinks::written::{Text, Then, Written};
+use sinks::{Sink, WriteFault};
 use std::alloc::{AllocError, AllocFailed};
 
 /// What is wrong with the words of a command line, where clap lets them through.
@@ -41,26 +46,42 @@ pub enum Usage<'a> {
 }
 
 impl<'a> Usage<'a> {
-    fn put_reason<E: Sink>(&self, err: &mut E) -> Result<(), WriteFault> {
+    /// What is wrong, up to what it names.
+    fn words(&self) -> &'static str
+        ensures { result.now ≡ usage_words self.now }
+    {
         match self {
-            Usage::BadGrid(word) => put_words(err, "bad grid ", word),
-            Usage::BadSteps(word) => put_words(err, "bad steps ", word),
-            Usage::BadLayer(word) => put_words(err, "bad layer ", word),
-            Usage::InputTwice => put(err, b"standard input can be read once only"),
-            Usage::NoId(name) => put_words(err, "--ids: a feature without an id in layer ", name),
-            Usage::SameIds(name) => put_words(
-                err,
-                "--keyed: two features with one id in layer ",
-                name,
-            ),
-            Usage::BadStep(word) => put_words(err, "bad step ", word),
-            Usage::BadTranslation(word) => put_words(err, "bad translation ", word),
-            Usage::NoStep => put(err, b"--translate needs --step"),
-            Usage::BadReals(word) => put_words(err, "bad reals ", word),
-            Usage::BadDistance(word) => put_words(err, "bad snap ", word),
-            Usage::BadBack => put(err, b"--back takes one topology, and no --build"),
-            Usage::NoFolder => put(err, b"more than one file: say -o FOLDER"),
-            Usage::NameTwice(name) => put_words(err, "two files would be called ", name),
+            Usage::BadGrid(_) => "bad grid ",
+            Usage::BadSteps(_) => "bad steps ",
+            Usage::BadLayer(_) => "bad layer ",
+            Usage::InputTwice => "standard input can be read once only",
+            Usage::NoId(_) => "--ids: a feature without an id in layer ",
+            Usage::SameIds(_) => "--keyed: two features with one id in layer ",
+            Usage::BadStep(_) => "bad step ",
+            Usage::BadTranslation(_) => "bad translation ",
+            Usage::NoStep => "--translate needs --step",
+            Usage::BadReals(_) => "bad reals ",
+            Usage::BadDistance(_) => "bad snap ",
+            Usage::BadBack => "--back takes one topology, and no --build",
+            Usage::NoFolder => "more than one file: say -o FOLDER",
+            Usage::NameTwice(_) => "two files would be called ",
+        }
+    }
+
+    /// The word, the layer or the file that is wrong; empty where there is none.
+    fn name(&self) -> &'a str
+        ensures { result.now ≡ usage_name self.now }
+    {
+        match self {
+            Usage::BadGrid(word)
+            | Usage::BadSteps(word)
+            | Usage::BadLayer(word)
+            | Usage::BadStep(word)
+            | Usage::BadTranslation(word)
+            | Usage::BadReals(word)
+            | Usage::BadDistance(word) => word,
+            Usage::NoId(name) | Usage::SameIds(name) | Usage::NameTwice(name) => name,
+            Usage::InputTwice | Usage::NoStep | Usage::BadBack | Usage::NoFolder => "",
         }
     }
 }
@@ -110,7 +131,9 @@ impl<'a> Refusal<'a> {
     }
 
     /// The exit status.
-    pub fn status(&self) -> Status {
+    pub fn status(&self) -> Status
+        ensures { result ≡ status_of self.now }
+    {
         match self {
             Refusal::Usage(_) => Status::Usage,
             Refusal::Unreadable(_) => Status::Unreadable,
@@ -125,26 +148,30 @@ impl<'a> Refusal<'a> {
     }
 
     /// Writes the line on standard error, which begins with the program's name.
-    pub fn write_line<E: Sink>(&self, program: &str, err: &mut E) -> Result<(), WriteFault> {
-        put_words(err, program, ": ")?;
-        self.put_reason(err)?;
-        put(err, b"\n")
+    pub fn write_line<E: Sink>(&self, program: &str, err: &mut E) -> Result<(), WriteFault>
+        ensures whole { OnOk result (TookAll (E.seen err.old) (E.seen err.new) (line_text program.now self.now)) }
+        ensures part { OnErr result (TookPart (E.seen err.old) (E.seen err.new) (line_text program.now self.now)) }
+    {
+        let reason = Then(self, Text(b"\n"));
+        Then(Text(program.as_bytes()), Then(Text(b": "), reason)).write(err)
     }
+}
 
-    fn put_reason<E: Sink>(&self, err: &mut E) -> Result<(), WriteFault> {
+/// Why a command is refused, as its line says it.
+impl<'a> Written for Refusal<'a> {
+    ghost text = { λ r. reason_text r };
+
+    fn write<W: Sink>(&self, sink: &mut W) -> Result<(), WriteFault> {
         match self {
-            Refusal::Usage(usage) => usage.put_reason(err),
-            Refusal::Unreadable(file) => put_words(err, "cannot read ", file),
-            Refusal::Text(file, fault) => put_fault(err, file, fault),
-            Refusal::NoDegrees(file, fault) => {
-                put_fault(err, file, fault)?;
-                put(err, b": numbers beyond 180 and 90 need --step")
-            }
-            Refusal::OtherGrid(file) => put_kind_of(err, file, FaultKind::OtherGrid),
-            Refusal::NoLayer(name) => put_no_layer(err, name),
-            Refusal::BadPlan => put_kind(err, FaultKind::BadPlan),
-            Refusal::OutOfMemory => put_kind(err, FaultKind::OutOfMemory),
-            Refusal::Write => put_kind(err, FaultKind::Write),
+            Refusal::Usage(usage) => write_usage(sink, usage),
+            Refusal::Unreadable(file) => put_words(sink, "cannot read ", file),
+            Refusal::Text(file, fault) => FaultText(file, fault).write(sink),
+            Refusal::NoDegrees(file, fault) => write_no_degrees(sink, file, fault),
+            Refusal::OtherGrid(file) => write_other_grid(sink, file),
+            Refusal::NoLayer(name) => write_no_layer(sink, name),
+            Refusal::BadPlan => KindText(FaultKind::BadPlan).write(sink),
+            Refusal::OutOfMemory => KindText(FaultKind::OutOfMemory).write(sink),
+            Refusal::Write => KindText(FaultKind::Write).write(sink),
         }
     }
 }
@@ -183,31 +210,70 @@ impl<'a> From<OutputFault> for Refusal<'a> {
 }
 
 /// Writes two texts, one behind the other.
-pub fn put_words<E: Sink>(err: &mut E, first: &str, second: &str) -> Result<(), WriteFault> {
-    put(err, first.as_bytes())?;
-    put(err, second.as_bytes())
+pub fn put_words<E: Sink>(err: &mut E, first: &str, second: &str) -> Result<(), WriteFault>
+    ensures whole { OnOk result (TookAll (E.seen err.old) (E.seen err.new) (first.now ++ second.now)) }
+    ensures part { OnErr result (TookPart (E.seen err.old) (E.seen err.new) (first.now ++ second.now)) }
+{
+    Then(Text(first.as_bytes()), Text(second.as_bytes())).write(err)
 }
 
-/// A fault's number and name.
-fn put_kind<E: Sink>(err: &mut E, kind: FaultKind) -> Result<(), WriteFault> {
-    put(err, Buffer::new().format(kind.number()).as_bytes())?;
-    put_words(err, " ", kind.name())
+/// The number and the name of a kind of fault.
+#[derive(Clone, Copy)]
+struct KindText(FaultKind);
+
+impl Written for KindText {
+    ghost text = { λ k. kind_text k.0 };
+
+    fn write<W: Sink>(&self, sink: &mut W) -> Result<(), WriteFault> {
+        let name = Text(self.0.name().as_bytes());
+        Then(KindNumber(self.0), Then(Text(b" "), name)).write(sink)
+    }
 }
 
-/// A file's name, and the number and name of its fault.
-fn put_kind_of<E: Sink>(err: &mut E, file: &str, kind: FaultKind) -> Result<(), WriteFault> {
-    put_words(err, file, ": ")?;
-    put_kind(err, kind)
+/// A file, and the number, the name and the path of its fault.
+#[derive(Clone, Copy)]
+struct FaultText<'a>(&'a str, &'a Fault);
+
+impl<'a> Written for FaultText<'a> {
+    ghost text = { λ f. fault_text f.0.now f.1.now };
+
+    fn write<W: Sink>(&self, sink: &mut W) -> Result<(), WriteFault> {
+        let path = Then(Text(b" "), PathText(self.1.path.as_slice()));
+        let fault = Then(KindText(self.1.kind), path);
+        Then(Text(self.0.as_bytes()), Then(Text(b": "), fault)).write(sink)
+    }
 }
 
-/// The same with the fault's path.
-fn put_fault<E: Sink>(err: &mut E, file: &str, fault: &Fault) -> Result<(), WriteFault> {
-    put_kind_of(err, file, fault.kind)?;
-    put(err, b" ")?;
-    write_path(fault.path.as_slice(), err)
+fn write_usage<W: Sink>(sink: &mut W, usage: &Usage<'_>) -> Result<(), WriteFault>
+    ensures whole { OnOk result (TookAll (W.seen sink.old) (W.seen sink.new) (usage_words usage.now ++ usage_name usage.now)) }
+    ensures part { OnErr result (TookPart (W.seen sink.old) (W.seen sink.new) (usage_words usage.now ++ usage_name usage.now)) }
+{
+    put_words(sink, usage.words(), usage.name())
 }
 
-fn put_no_layer<E: Sink>(err: &mut E, name: &str) -> Result<(), WriteFault> {
-    put_kind(err, FaultKind::NoLayer)?;
-    put_words(err, " ", name)
+fn write_no_degrees<W: Sink>(sink: &mut W, file: &str, fault: &Fault) -> Result<(), WriteFault>
+    ensures whole { OnOk result (TookAll (W.seen sink.old) (W.seen sink.new) (fault_text file.now fault.now ++ codes ": numbers beyond 180 and 90 need --step")) }
+    ensures part { OnErr result (TookPart (W.seen sink.old) (W.seen sink.new) (fault_text file.now fault.now ++ codes ": numbers beyond 180 and 90 need --step")) }
+{
+    Then(
+        FaultText(file, fault),
+        Text(b": numbers beyond 180 and 90 need --step"),
+    )
+    .write(sink)
+}
+
+fn write_other_grid<W: Sink>(sink: &mut W, file: &str) -> Result<(), WriteFault>
+    ensures whole { OnOk result (TookAll (W.seen sink.old) (W.seen sink.new) (file.now ++ (codes ": " ++ kind_text AnotherGrid))) }
+    ensures part { OnErr result (TookPart (W.seen sink.old) (W.seen sink.new) (file.now ++ (codes ": " ++ kind_text AnotherGrid))) }
+{
+    let kind = Then(Text(b": "), KindText(FaultKind::OtherGrid));
+    Then(Text(file.as_bytes()), kind).write(sink)
+}
+
+fn write_no_layer<W: Sink>(sink: &mut W, name: &str) -> Result<(), WriteFault>
+    ensures whole { OnOk result (TookAll (W.seen sink.old) (W.seen sink.new) (kind_text MissingLayer ++ (codes " " ++ name.now))) }
+    ensures part { OnErr result (TookPart (W.seen sink.old) (W.seen sink.new) (kind_text MissingLayer ++ (codes " " ++ name.now))) }
+{
+    let layer = Then(Text(b" "), Text(name.as_bytes()));
+    Then(KindText(FaultKind::NoLayer), layer).write(sink)
 }

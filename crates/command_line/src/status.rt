@@ -1,4 +1,5 @@
 //! The exit statuses of the programs.
+ghost use Rattle.std.specs.Prelude.{◌≡◌};
 
 /// How a command ended.
 #[derive(Clone, Copy, PartialEq, Eq, Debug)]
@@ -24,8 +25,12 @@ pub enum Status {
 }
 
 impl Status {
+    ghost use Rattle.command_line.specs.Status.{exit_status};
+
     /// The number that the program exits with.
-    pub fn number(self) -> u8 {
+    pub fn number(self) -> u8
+        ensures { result ≡ exit_status self }
+    {
         match self {
             Status::Done => 0,
             Status::NotCanonical | Status::Different | Status::Lost => 1,

@@ -13,7 +13,7 @@ ghost use Rattle.topo_io.specs.Means.{Means};
 ghost use Rattle.topo_io.specs.Roots.{faults_of_text};
 
 use crate::fault::JoinFault;
-use faults::{Fault, OutOfMemory};
+use faults::{Fault, FaultKind, OutOfMemory};
 use grid::transform::Grid;
 use shapes::feature_map::FeatureMap;
 use std::alloc::Global;
@@ -53,7 +53,14 @@ pub trait Shard: Sized + Drop {
     fn of_text(alloc: Global, bytes: &[u8]) -> Result<Self, Fault>
         ensures ok { OnOk result (faults_of_text bytes.now ≡ []) }
         ensures means { IfOk result (λ s. Means bytes.now (grid_of s) (map_of s)) }
-        ensures err { IfErr result (λ f. LeastOrWant (faults_of_text bytes.now) f) };
+        ensures err { IfErr result (λ f. LeastOrWant (faults_of_text bytes.now) f) }
+    {
+        let (grid, map) = topo_io::read(alloc, bytes)?;
+        match Self::from_map(alloc, &grid, &map) {
+            Ok(shard) => Ok(shard),
+            Err(OutOfMemory) => Err(Fault::here(alloc, FaultKind::OutOfMemory)),
+        }
+    }
 
     /// Least x, least y, greatest x and greatest y of the shard's positions, where the shard has them.
     /// They say no more than in what order shards are best joined.

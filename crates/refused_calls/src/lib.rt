@@ -1,6 +1,6 @@
 //! Calls that are made where memory may be refused: what they answer, what comes of them, the worked
 //! texts that are lent to them, and comparisons with copies. What the programs share that
-//! tests/refused_growth.py and tests/growths.py run.
+//! tests/growths.py runs.
 #![tactic(auto)]
 
 pub mod calls;

@@ -1,14 +1,27 @@
-//! The path to a faulty place, as it is printed.
+//! The number of a fault, and the path to it, as they are printed.
 
 ghost use Rattle.sinks.specs.PathText.PathText.{byte_text, bytes_text, path_text, step_text, steps_text};
-ghost use Rattle.faults.specs.Fault.{turn_of};
+ghost use Rattle.faults.specs.Fault.{number_of, turn_of};
 ghost use Rattle.sinks.specs.Writes.{TookAll, TookPart};
-ghost use Rattle.std.specs.Prelude.{◌++◌, codes, map, OnErr, OnOk};
+ghost use Rattle.std.specs.Prelude.{◌++◌, codes, decimal, map, OnErr, OnOk};
 
 use crate::written::{Notation, Noted, Text, Then, Written};
 use crate::{Sink, WriteFault, put};
-use faults::Step;
+use faults::{FaultKind, Step};
 use itoa::Buffer;
+
+/// The number of a kind of fault.
+#[derive(Clone, Copy)]
+pub struct KindNumber(pub FaultKind);
+
+impl Written for KindNumber {
+    ghost text = { λ k. decimal (number_of k.0) };
+
+    fn write<W: Sink>(&self, sink: &mut W) -> Result<(), WriteFault> {
+        let mut buffer = Buffer::new();
+        put(sink, buffer.format(self.0.number()).as_bytes())
+    }
+}
 
 /// Writes a byte of a member's name: `~0` for `~`, `~1` for `/`, and any other as it is.
 fn write_byte<W: Sink>(sink: &mut W, byte: u8) -> Result<(), WriteFault>

@@ -48,7 +48,7 @@ fn keeps_nothing(alloc: Global) -> bool {
 /// A script that takes what it has memory for.
 fn scripts(alloc: Global) -> bool {
     let mut script = Script::new(alloc, Vec::new(alloc));
-    script.offer(b"") == Ok(0) && script.bytes_taken().is_empty() && script.failures() == 0
+    script.offer(b"") == Ok(0) && script.taken().is_empty() && script.failures() == 0
 }
 
 fn writes_number() -> bool {
@@ -87,7 +87,7 @@ fn settle_sinks(rt: &HostRuntime, tally: &mut Tally, alloc: Global) {
         "Tap::new" => puts(),
         "Kept::new" => keeps_nothing(alloc),
         "Script::new" => scripts(alloc),
-        "Script::bytes_taken" => scripts(alloc),
+        "Script::taken" => scripts(alloc),
         "Script::failures" => scripts(alloc),
     );
 }

@@ -1,5 +1,7 @@
-//! Used arcs by their indexes, and comparisons of used arcs and of tables.
+//! Used arcs by their indexes, and comparisons of positions, of used arcs and of tables.
+use crate::Places;
 use chains::{ArcRef, ArcTable};
+use grid::Pos;
 use std::alloc::Global;
 use std::test::Fail;
 
@@ -23,6 +25,40 @@ pub fn are_used(used: &[ArcRef], indexes: &[i64]) -> bool {
         }
     }
     used.len() == indexes.len()
+}
+
+/// Whether a position is at a place.
+pub fn is_at(position: &Pos, place: &(i64, i64)) -> bool {
+    position.x() == place.0 && position.y() == place.1
+}
+
+/// Whether positions are those of places.
+pub fn stand_at(positions: &[Pos], places: &[(i64, i64)]) -> bool {
+    for (position, place) in positions.iter().zip(places) {
+        if !is_at(position, place) {
+            return false;
+        }
+    }
+    positions.len() == places.len()
+}
+
+fn is_arc(table: &ArcTable, number: usize, places: Places, free: bool) -> bool {
+    match table.arc(number) {
+        Some(positions) => stand_at(positions, places) && table.is_free(number) == free,
+        None => false,
+    }
+}
+
+/// Whether a table has the arcs of these places and no more, and those of them that are marked are free.
+/// Where a mark is missing, it is not set.
+pub fn has_arcs(table: &ArcTable, arcs: &[Places], free: &[bool]) -> bool {
+    for (number, places) in arcs.iter().enumerate() {
+        if !is_arc(table, number, *places, free.get(number) == Some(&true)) {
+            return false;
+        }
+    }
+    let count = arcs.len();
+    table.len() == count && table.arc(count).is_none() && !table.is_free(count)
 }
 
 /// Whether two tables have the same arcs, and the same ones are free.

@@ -1,11 +1,14 @@
-//! Maps drawn as lines and rings of places, their topologies, and comparisons of arcs: what several
-//! crates of tests share.
+//! What crates of tests share: maps drawn as lines and rings of places, their topologies, and
+//! comparisons of arcs; tables of rows, and faults as they are printed.
 #![tactic(auto)]
 
 mod comparing;
+mod printed;
+mod tables;
 
-pub use comparing::{are_used, refs_of, same_arcs};
+pub use comparing::{are_used, has_arcs, is_at, refs_of, same_arcs, stand_at};
 use grid::{Grid, Pos};
+pub use printed::fault_line;
 use shapes::{Feature, FeatureMap, Id, Items, Line, Props, Ring, Shape};
 use std::alloc::Global;
 use std::test::Fail;
@@ -19,6 +22,13 @@ pub type Places = &'static [(i64, i64)];
 pub struct Drawn {
     pub lines: &'static [Places],
     pub rings: &'static [Places],
+}
+
+/// What a list of places or of arcs is that of.
+#[derive(Clone, Copy)]
+pub enum Of {
+    Line,
+    Ring,
 }
 
 /// The unit square at the origin.
@@ -66,10 +76,14 @@ pub fn lists(alloc: Global, arcs: &[&[(i64, i64)]]) -> Result<Vec<Items<Pos>>, F
     Ok(made)
 }
 
-fn put(alloc: Global, map: &mut FeatureMap, shape: Shape) -> Result<(), Fail> {
+/// Adds a feature without an id and without properties to a layer.
+///
+/// # Errors
+/// Where the map has no such layer, or memory is refused.
+pub fn insert(alloc: Global, map: &mut FeatureMap, layer: &str, shape: Shape) -> Result<(), Fail> {
     let props = Props::empty(alloc)?;
     map.insert(
-        "a",
+        layer,
         Feature {
             id: Id::None,
             props,
@@ -113,18 +127,43 @@ pub fn polygon(alloc: Global, places: &[(i64, i64)]) -> Result<Shape, Fail> {
     Ok(Shape::Polygon(Items::from_vec(rings)))
 }
 
-fn put_lines(alloc: Global, map: &mut FeatureMap, lines: &[Places]) -> Result<(), Fail> {
+fn insert_lines(
+    alloc: Global,
+    map: &mut FeatureMap,
+    layer: &str,
+    lines: &[Places],
+) -> Result<(), Fail> {
     for places in lines {
-        put(alloc, map, line(alloc, *places)?)?;
+        insert(alloc, map, layer, line(alloc, *places)?)?;
     }
     Ok(())
 }
 
-fn put_rings(alloc: Global, map: &mut FeatureMap, rings: &[Places]) -> Result<(), Fail> {
+fn insert_rings(
+    alloc: Global,
+    map: &mut FeatureMap,
+    layer: &str,
+    rings: &[Places],
+) -> Result<(), Fail> {
     for places in rings {
-        put(alloc, map, polygon(alloc, *places)?)?;
+        insert(alloc, map, layer, polygon(alloc, *places)?)?;
     }
     Ok(())
+}
+
+/// Adds a map to a layer.
+///
+/// # Errors
+/// Where the map has no such layer, a place is outside the limits of grid numbers, a list of places is
+/// no line or ring, or memory is refused.
+pub fn insert_all(
+    alloc: Global,
+    map: &mut FeatureMap,
+    layer: &str,
+    drawn: Drawn,
+) -> Result<(), Fail> {
+    insert_lines(alloc, map, layer, drawn.lines)?;
+    insert_rings(alloc, map, layer, drawn.rings)
 }
 
 /// All these maps in one layer.
@@ -136,10 +175,17 @@ pub fn map_of(alloc: Global, maps: &[Drawn]) -> Result<FeatureMap, Fail> {
     let mut map = FeatureMap::new(alloc);
     map.add_layer("a")?;
     for drawn in maps {
-        put_lines(alloc, &mut map, drawn.lines)?;
-        put_rings(alloc, &mut map, drawn.rings)?;
+        insert_all(alloc, &mut map, "a", *drawn)?;
     }
     Ok(map)
+}
+
+/// The grid 1,1,0,0.
+///
+/// # Errors
+/// None: this grid is within the limits.
+pub fn unit_grid() -> Result<Grid, Fail> {
+    Ok(Grid::new(1, 1, 0, 0).ok_or("no grid")?)
 }
 
 /// The topology of all these maps in one layer.
@@ -147,6 +193,5 @@ pub fn map_of(alloc: Global, maps: &[Drawn]) -> Result<FeatureMap, Fail> {
 /// # Errors
 /// As `map_of`.
 pub fn topology_of(alloc: Global, maps: &[Drawn]) -> Result<Topology, Fail> {
-    let grid = Grid::new(1, 1, 0, 0).ok_or("no grid")?;
-    Ok(Topology::build(alloc, &grid, &map_of(alloc, maps)?)?)
+    Ok(Topology::build(alloc, &unit_grid()?, &map_of(alloc, maps)?)?)
 }

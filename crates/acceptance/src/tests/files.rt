@@ -1,6 +1,6 @@
 //! Files that only have names.
-use command_runs::Run;
-use command_runs::inputs::SHARED_EDGE;
+use crate::inputs::SHARED_EDGE;
+use crate::runs::Run;
 use sinks::Kept;
 use std::test::Fail;
 

@@ -1,6 +1,7 @@
 //! `write_layer`, `feature`, `mesh`, `borders`, `neighbors` and the writers of their answers, called on topologies.
-use command_runs::inputs::{BOW_TIE_TOPOLOGY, EMPTY, SHARED_EDGE};
-use command_runs::{rows, script, took, topology};
+use crate::inputs::{BOW_TIE_TOPOLOGY, EMPTY, SHARED_EDGE};
+use crate::scripts::{script, took};
+use crate::{rows, topology};
 use query::{
     Edges, LayerFault, QueryFault, borders, feature, mesh, neighbors, write_layer, write_mesh,
     write_neighbors,

@@ -1,6 +1,6 @@
 //! `merge_texts` by plans of any form: its answers, and its faults in their order.
-use command_runs::inputs::{EMPTY, FREE_LOOP, ONE_SQUARE, OTHER_TOOL, SHARED_EDGE};
-use command_runs::{rows, topology};
+use crate::inputs::{EMPTY, FREE_LOOP, ONE_SQUARE, OTHER_TOOL, SHARED_EDGE};
+use crate::{rows, topology};
 use refine::{MergeFault, Plan, merge_texts};
 use shapes::{Fault, Step};
 use std::alloc::{AllocError, Global};

@@ -1,6 +1,8 @@
 //! Files that a run replaces as a whole, or leaves as they were, where any call for them fails.
-use command_runs::inputs::{SHARED_EDGE, SQUARES};
-use command_runs::{Call, Disk, Run, Words};
+use crate::disk::{Call, Disk};
+use crate::inputs::{SHARED_EDGE, SQUARES};
+use crate::runs::Run;
+use crate::tables::Words;
 use sinks::Kept;
 use std::alloc::Global;
 use std::test::Fail;

@@ -1,6 +1,8 @@
 //! What a run tells of its progress, by a clock that goes on by 1045 milliseconds between two looks, and without one.
-use command_runs::inputs::SHARED_EDGE;
-use command_runs::{Disk, Run, Words};
+use crate::disk::Disk;
+use crate::inputs::SHARED_EDGE;
+use crate::runs::Run;
+use crate::tables::Words;
 use sinks::Kept;
 use std::alloc::Global;
 use std::test::Fail;

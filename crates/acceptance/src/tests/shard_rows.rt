@@ -1,6 +1,6 @@
 //! Plans that are run as they stand, over shards that keep their map and over shards that keep
 //! their topology: the same text in each order and grouping.
-use command_runs::inputs::{UNIONS, Union};
+use crate::inputs::{UNIONS, Union};
 use grid::Grid;
 use refine::{Cut, Plan, Shard, Whole, run_plan};
 use shapes::FeatureMap;

@@ -1,6 +1,9 @@
 //! Writers that fail, and writers that take little.
-use command_runs::inputs::{LARGEST_AND_LEAST, LONGEST_LINE, SHARED_EDGE, SQUARES};
-use command_runs::{Run, Texts, Words, rows, script, took};
+use crate::inputs::{LARGEST_AND_LEAST, LONGEST_LINE, SHARED_EDGE, SQUARES};
+use crate::rows;
+use crate::runs::Run;
+use crate::scripts::{script, took};
+use crate::tables::{Texts, Words};
 use sinks::{Answer, Kept, Script, Tap};
 use std::alloc::{AllocError, Global};
 use std::io;
@@ -93,7 +96,7 @@ const COMMANDS: &[Words] = &[
 fn fails_early(alloc: Global, run: &Run) -> Result<bool, Fail> {
     let whole = taken_whole(alloc, run, 0)?;
     let fails_at_once = run.fails(b"", 0, Answer::Fail)?;
-    Ok(fails_at_once && run.fails(whole.bytes_taken(), 1, Answer::FailAfter(1))?)
+    Ok(fails_at_once && run.fails(whole.taken(), 1, Answer::FailAfter(1))?)
 }
 
 /// The command fails at once, after two bytes, and at the flush.
@@ -121,6 +124,6 @@ fn a_failure_of_standard_error_changes_no_status(rt: HostRuntime) -> Result<(), 
     let run = run_of(rt.alloc(), FROM_NOWHERE)?;
     assert!(rt; run.over(&mut out, &mut err) == 3);
     let printed = out.into_bytes();
-    assert!(rt; printed.is_empty() && err.bytes_taken() == b"topo".as_slice());
+    assert!(rt; printed.is_empty() && err.taken() == b"topo".as_slice());
     Ok(())
 }

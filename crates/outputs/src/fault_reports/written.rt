@@ -1,5 +1,5 @@
 //! Errors as lines, in the form that editors and compilers share, and as JSON.
-ghost use Rattle.faults.specs.Fault.{name_of, number_of, turn_of};
+ghost use Rattle.faults.specs.Fault.{name_of, turn_of};
 ghost use Rattle.outputs.specs.FaultReports.{array_text, feature_text, fault_text, file_text, label_text, line_text, lines_text, object_behind, object_end, object_kind, object_line, object_place, object_text, objects_text, place_text, remedy_member, report_lines};
 ghost use Rattle.sinks.specs.PathText.PathText.{path_text};
 ghost use Rattle.sinks.specs.Writes.{TookAll, TookPart};
@@ -9,7 +9,7 @@ use crate::fault_reports::remedies::remedy;
 use crate::fault_reports::report::FaultReport;
 use faults::FaultKind;
 use itoa::Buffer;
-use sinks::path_text::write_path;
+use sinks::path_text::{KindNumber, write_path};
 use sinks::written::{Bracketed, Text, Then, Written};
 use sinks::{Sink, WriteFault, put};
 
@@ -35,19 +35,6 @@ impl<'a> Written for Chars<'a> {
 
     fn write<W: Sink>(&self, sink: &mut W) -> Result<(), WriteFault> {
         put(sink, self.0.as_bytes())
-    }
-}
-
-/// The number of a kind of error.
-#[derive(Clone, Copy)]
-struct KindNumber(FaultKind);
-
-impl Written for KindNumber {
-    ghost text = { λ k. decimal (number_of k.0) };
-
-    fn write<W: Sink>(&self, sink: &mut W) -> Result<(), WriteFault> {
-        let mut buffer = Buffer::new();
-        put(sink, buffer.format(self.0.number()).as_bytes())
     }
 }
 

@@ -1,0 +1,9 @@
+//! Tests of the libraries of arcs: `chains`, `split_arcs` and `heal_arcs`.
+#![tactic(auto)]
+
+#[cfg(test)]
+mod chains_tests;
+#[cfg(test)]
+mod heal_arcs_tests;
+#[cfg(test)]
+mod split_arcs_tests;

@@ -1,0 +1,4 @@
+use Rattle.refused_memory.proofs.arcs.segments.chains.Goals as goal
+
+pub maximal-requires : goal.maximal-requires
+maximal-requires c = c.in_ok-meets_two.ensures.0 c.if-not-branch.false

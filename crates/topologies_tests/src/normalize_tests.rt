@@ -1,0 +1,4 @@
+//! Tests of `normalize`.
+mod arc_lists;
+mod drawn;
+mod texts;

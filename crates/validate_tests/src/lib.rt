@@ -1,5 +1,0 @@
-//! Tests of the public calls of `standing`.
-#![tactic(auto)]
-
-#[cfg(test)]
-mod tests;
