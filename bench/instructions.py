@@ -1,14 +1,14 @@
 #!/usr/bin/env python3
 """Counts the instructions of commands, merges and removals by valgrind, and how they grow when the map doubles.
 
-    for p in topotool bench_runs; do (cd crates/$p && rt run); done
+    for p in topotool examples; do (cd crates/$p && rt run); done
     python3 bench/instructions.py
 
 Times on a machine whose processors and caches others use too disagree from run to run by a fifth and more; counts don't.
 What a cache that is too small costs is not in them. Each row is a program at about 250,000 positions and at the double:
 a command on a topology or on GeoJSON, a merge of 16 and of 32 shards of one size, a topology read and built anew, or one of
 two removals (what a program that does two more of them takes more, halved). A command stands beside the JSON values of its
-files alone (`bench_runs values`). Beside a ratio stands its goal, which no test asks for; a ratio that misses it is marked
+files alone (`examples values`). Beside a ratio stands its goal, which no test asks for; a ratio that misses it is marked
 by an exclamation mark. It needs valgrind.
 """
 

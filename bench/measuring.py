@@ -10,7 +10,7 @@ import sys
 HERE = os.path.dirname(os.path.abspath(__file__))
 TOP = os.path.dirname(HERE)
 TOOL = os.path.join(TOP, "crates", "topotool", "out", "topotool")
-BENCH = os.path.join(TOP, "crates", "bench_runs", "out", "bench_runs")
+BENCH = os.path.join(TOP, "crates", "examples", "out", "examples")
 GENERATE = os.path.join(HERE, "generate.py")
 GRID = ["--grid", "1,1,0,0"]
 

@@ -1,7 +1,7 @@
 #!/usr/bin/env python3
 """Measures merging over shards that keep their map and over shards that keep their topology.
 
-    (cd crates/topotool && rt run) && (cd crates/bench_runs && rt run)
+    for p in topotool examples; do (cd crates/$p && rt run); done
     python3 bench/merges.py
 
 builds the programs and prints, for tilings that are spread over 16 and over 256 shards, what merging

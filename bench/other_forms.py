@@ -1,12 +1,12 @@
 #!/usr/bin/env python3
 """Measures what topologies cost that are not in the canonical form, against reading and building them anew.
 
-    for p in topotool bench_runs; do (cd crates/$p && rt run); done
+    for p in topotool examples; do (cd crates/$p && rt run); done
     python3 bench/other_forms.py
 
 Each row is a rewriting of one tiling's topology, which has to be normalized: in the form of topojson-server, whose arcs are
 numbered by first use; with an arc that is cut where no junction is, doubled for one user, or used by nobody, the arcs in that
-order or sorted, so that some checks pass before it shows. `merge` of the one file is compared with `bench_runs merge whole
+order or sorted, so that some checks pass before it shows. `merge` of the one file is compared with `examples merge whole
 left`, which reads the text's features and builds their topology, in interleaved runs. Both print the same bytes. Times are processor
 times (user and system), the least of some runs; a ratio above the goal of 1.15 is marked, and no test depends on it.
 """

@@ -1,7 +1,7 @@
 #!/usr/bin/env python3
 """Measures cutting arcs again, against building the topology of both maps together.
 
-    (cd crates/bench_runs && rt run)
+    (cd crates/examples && rt run)
     python3 bench/recut.py
 
 builds the program and prints, for tilings of two sizes, what cutting the arcs of their two halves

@@ -1,7 +1,7 @@
 #!/usr/bin/env python3
 """Measures taking features out of a topology, against building the topology of what is left.
 
-    (cd crates/bench_runs && rt run)
+    (cd crates/examples && rt run)
     python3 bench/removals.py
 
 builds the program and prints, for tilings of two sizes or more (`--doublings`), what it takes to take out one district, the

@@ -1,7 +1,7 @@
 #!/usr/bin/env python3
 """Measures the command on tilings of districts, against reading the same files as JSON values.
 
-    for p in topotool bench_runs; do (cd crates/$p && rt run); done
+    for p in topotool examples; do (cd crates/$p && rt run); done
     python3 bench/run.py
 
 builds the programs and prints a table: for each command its time, how many times the time and the

@@ -1,7 +1,7 @@
 #!/usr/bin/env python3
 """Measures the commands on a topology's text against reading its value alone, and against topojson-client.
 
-    for p in topotool bench_runs; do (cd crates/$p && rt run); done
+    for p in topotool examples; do (cd crates/$p && rt run); done
     python3 bench/topologies.py
 
 Each row is a command of topotool, the reading of the same files as JSON values alone, and, where node and Debian's

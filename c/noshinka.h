@@ -12,7 +12,8 @@
  * - The room was written before (calloc is enough), and overlaps nothing else that is passed. Any bytes may be in it.
  * - Memory. malloc, realloc and free of the program come from one allocator, and malloc and realloc align a block to
  *   each power of two up to 16 that divides its size, as the C library's do.
- * - Stack. 512 KiB are free. Less than 128 KiB were seen to be used; no proof says how much.
+ * - Stack. 512 KiB are free. Between 196 and 212 KB were seen to be used, by `topotool faults` of 5,000 opening brackets;
+ *   no proof says how much.
  * - Threads. Any number of threads may call at once, each with its own room. The texts may be shared.
  * - Fork and signals. No call is made from a signal handler, nor in the child of a fork of a process that had threads.
  *

@@ -308,8 +308,9 @@ def undescribed():
     readme, pages = (open(f"{TOP}/{it}", encoding="utf-8").read() for it in ("README.md", "docs/COMMANDS.md"))
     if shutil.which("rt"):
         kit = subprocess.run(["rt", "version"], stdin=subprocess.DEVNULL, capture_output=True, text=True).stdout.strip()
-        if f"`{kit}`" not in readme:
-            yield f"README.md: the kit is {kit}"
+        logic = " ".join(kit.split()[-2:])
+        if f"`{logic}`" not in readme:
+            yield f"README.md: the kit ends in {logic}"
     said = subprocess.run([PROGRAM, "--help"], stdin=subprocess.DEVNULL, capture_output=True, text=True).stdout
     for command in re.findall(r"^  (\w+)  ", said.partition("Commands:\n")[2].partition("\n\n")[0], re.MULTILINE):
         if command != "help" and not re.search(rf"^\| `{command}\b", readme, re.MULTILINE):

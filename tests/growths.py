@@ -1,19 +1,26 @@
-"""Compares the rows of the programs that are refused memory with the public calls of the libraries, and runs four of them.
+"""Compares the rows of the programs that are refused memory with the public calls of the libraries, and runs them.
 
     python3 tests/growths.py [--seconds N]
 
 A call is a public function that can be named from the root of its crate (tests/conditions.py), or a method of such a
 type or trait. The crates are those whose calls docs/LIBRARY.md lists, and those that these pass on calls of: CRATES. A
 row names its call `Type::call`, or `crate::call` where it is of no type, and may say more behind that. Each call has a
-row in one of the programs of REFUSED and WITHOUT: one that takes an allocator or may be out of memory in a program that makes it with
-each request refused, and any other in one of these or in one that makes it with all requests refused. EXCEPTIONS has
+row: one that takes an allocator or may be out of memory in REFUSED, which makes it with each request refused, and any other there or in
+a program of WITHOUT, which makes it with all requests refused. EXCEPTIONS has
 the calls that have none, with a reason each, and MODULES those of whole modules; both name no others, and each row names
 a call.
 
-crates/refused_parts and crates/refused_arcs are then run with each request refused in turn, as refused_growth.py runs the
-other two. crates/without_memory and crates/maps_without_memory make their last request just before their calls: where that
-is refused with all behind it, nothing else may have been asked for, and each call has to give its answer. Prints a line of counts for each, and ends with one of the
-calls, and with status 1 where anything was wrong.
+crates/refused_memory is then run, each of its GROUPS with each request for memory refused in turn, and with all from each on. Where a
+call answers want of memory, it compares what was lent with a copy, and asks again. With one request refused, each call has
+to be right, at once or when asked again, so the counts have to be those of a run with no refusal, but for one that was
+refused. With all from one on, the program has to end by itself with the status for want of memory, and none of its
+calls may go wrong; those that take no memory give their answers then, too, where what they are lent was made before.
+tests/refusing.py tells what is needed, and how the runs stop.
+
+crates/without_memory and crates/maps_without_memory make their last request just before their calls: where that is
+refused with all behind it, nothing else may have been asked for, and each call has to give its answer. Prints a line of
+counts for each, and ends with one of the calls, and with status 1 where anything was wrong, where runs were too few, or where
+fewer of them told want of memory than there are calls that take memory.
 """
 
 import os
@@ -23,13 +30,13 @@ import sys
 sys.dont_write_bytecode = True
 
 import conditions
-import refused_growth
 import refusing
 from refusing import TOP
 
 CRATES = ["grid", "faults", "sinks", "lines", "shapes", "geojson_io", "chains", "topo", "topo_io", "query", "refine", "merging",
           "split_arcs", "heal_arcs", "outputs", "tool"]
-REFUSED = ["refused_growth", "refused_edits", "refused_parts", "refused_arcs"]
+REFUSED = "refused_memory"
+GROUPS = ["parts", "arcs", "maps", "edits"]
 WITHOUT = ["without_memory", "maps_without_memory"]
 
 NO_REQUEST = "is passed an allocator and asks it for nothing"
@@ -63,6 +70,9 @@ MODULES = {
 LAWS = "laws"  # Modules of functions that have no answer: their contracts are what they are for.
 
 FULL_NAME = re.compile(r'"(\w+::\w+)\b[^"]*"')
+COUNTS = re.compile(rb"calls (\d+), (\d+) without memory, refused (\d+), wrong 0\n")
+AGAIN = "right when asked again"
+LEAN = "status 5 with the answers that take no memory"
 MEMORY = re.compile(r"\balloc: Global|\b_alloc: Global|OutOfMemory|AllocError")
 
 
@@ -82,11 +92,11 @@ def calls():
 
 def rows(crate):
     """The names of the calls that the rows of a program name."""
-    folder = f"{TOP}/crates/{crate}/src"
     names = set()
-    for file in os.listdir(folder):
-        with open(f"{folder}/{file}", encoding="utf-8") as text:
-            names |= set(FULL_NAME.findall(text.read()))
+    for at, _, files in os.walk(f"{TOP}/crates/{crate}/src"):
+        for file in files:
+            with open(f"{at}/{file}", encoding="utf-8") as text:
+                names |= set(FULL_NAME.findall(text.read()))
     return names
 
 
@@ -102,7 +112,7 @@ def is_of_trait(name, known):
 
 def wrongs(known, left_out):
     """What is wrong with the rows and the exceptions."""
-    refused = set().union(*map(rows, REFUSED))
+    refused = rows(REFUSED)
     without = set().union(*map(rows, WITHOUT))
     others = set().union(*map(passed_on, CRATES))
     for name, takes_memory in sorted(known.items()):
@@ -118,18 +128,52 @@ def wrongs(known, left_out):
             yield f"a row names {name}, which is no call"
 
 
+def counts_of(end):
+    """The calls of a run, those without memory and those that told want of memory; None where it told anything else."""
+    _, printed, said = end
+    found = COUNTS.fullmatch(printed)
+    return tuple(int(it) for it in found.groups()) if found and not said else None
+
+
+def kind_of(task, end):
+    counts, right = counts_of(end), counts_of(task.right)
+    if not counts or not right or task.right[0] != 0:
+        return refusing.WRONG
+    calls, lean, _ = right
+    if end[0] == 0 and counts == right:
+        return "as with ample memory"
+    if end[0] == 0 and not task.on and counts == (calls, lean, 1):
+        return AGAIN
+    if end[0] == 5 and task.on and counts[1] in (0, lean):
+        return LEAN if counts[1] else "status 5"
+    return refusing.WRONG
+
+
+def is_well_refused(group):
+    """Runs a group of the calls that take memory, prints a line of counts, and tells whether all was right."""
+    with refusing.program(REFUSED.upper(), REFUSED) as program:
+        right, _ = program.asked([group])
+        if right[0] != 0 or not counts_of(right):
+            sys.exit(f"{REFUSED} {group} goes wrong with no request refused: {right}")
+        tally = program.judge([[group]], kind_of)
+    count, lean, _ = counts_of(right)
+    print(f"{REFUSED} {group}: {count} calls, {lean} of them without memory: {tally}")
+    is_enough = tally.kinds[AGAIN] >= (count - lean) * tally.share() and (lean == 0 or tally.kinds[LEAN] > 0)
+    return is_enough and not tally.is_wrong()
+
+
 def is_well_without_memory(crate):
     """Runs a program of calls that take no memory, prints a line of counts, and tells whether all was right."""
     with refusing.program(crate.upper(), crate) as program:
         right, count = program.asked([])
-        found = refused_growth.counts_of(right)
+        found = counts_of(right)
         if right[0] != 0 or not found:
             sys.exit(f"{crate} goes wrong with no request refused: {right}")
         end, refusals = program.run([], {"REFUSE_AT": count, "REFUSE_ON": 1, "REFUSE_TOLD": None})
-        is_lean = end[0] == 5 and refused_growth.counts_of(end) == found and refusals == 2
+        is_lean = end[0] == 5 and counts_of(end) == found and refusals == 2
         if not is_lean:
             print(f"{crate}: with all requests from {count} on refused, {refusals} times: {end}")
-        tally = program.judge([[]], refused_growth.kind_of)
+        tally = program.judge([[]], kind_of)
     print(f"{crate}: {found[0]} calls, {found[1]} of them without memory: {tally}")
     return is_lean and not tally.is_wrong()
 
@@ -139,8 +183,7 @@ def main():
     told = list(wrongs(known, left_out))
     for it in told:
         print(it)
-    ran = [refused_growth.is_well(crate.upper(), crate) for crate in REFUSED if crate not in refused_growth.PROGRAMS.values()]
-    ran += [is_well_without_memory(crate) for crate in WITHOUT]
+    ran = [*map(is_well_refused, GROUPS), *map(is_well_without_memory, WITHOUT)]
     counted = len(known) - len(EXCEPTIONS)
     print(f"{len(known)} public calls, {counted} with rows, {len(EXCEPTIONS)} exceptions, {len(told)} wrong")
     return 0 if all(ran) and not told else 1

@@ -7,6 +7,7 @@ file of today's figures. --list prints what stands behind the figures: names, ed
 is counted:
 
 - Product crates are those of crates.txt that are neither tests, nor what tests share, nor measurements, nor examples (OTHERS).
+  A program is a crate with src/main.rt; each is built by two compilers and run twice, so there are few.
 - Functions are lines of src/ with `fn NAME`, in traits and impls too.
 - The longest chain is of product crates, each used by the next. What is above the crate that validates arcs counts tests too.
 - Two types of one name: a struct, enum, trait or type at the top level of a file, of product crates, in more than one crate.
@@ -34,7 +35,7 @@ sys.dont_write_bytecode = True
 import edits
 
 TOP = os.path.dirname(os.path.dirname(os.path.abspath(__file__)))
-OTHERS = ["*_tests", "refused_*", "*without_memory", "test_values", "worked_maps", "acceptance", "text_readers", "*_runs", "border_walk", "district_day"]
+OTHERS = ["*_tests", "refused_*", "*without_memory", "text_readers", "worked_maps", "acceptance", "examples"]
 LAWS = ["theory", "round_trip"]
 VALIDATORS = ["validate"]
 TOKENS = ["reading/src/token*", "reading/proofs/[tT]oken*", "reading/specs/[tT]oken*", "*/token_reader*"]
@@ -45,7 +46,7 @@ NO_PARTICIPLES = ["bed", "embed", "feed", "need", "seed", "speed", "shed"]
 SMALL = 100
 CONTRACT = re.compile(r"\s*(?:ensures|requires|ghost)\b")
 FUNCTION = re.compile(r"\s*(?:pub(?:\([^)]*\))? )?(?:const |final |unsafe |extern \"C\" )*fn (\w+)")
-GETTER = re.compile(r"\bfn (\w+)\(&self\) -> [^{]*\{\s*self\.\1\s*\}")
+GETTER = re.compile(r"\bfn (\w+)\(&self\) -> [^{]*\{\s*&?self\.\1\s*\}")
 TYPE = re.compile(r"(?:pub(?:\([^)]*\))? )?(?:struct|enum|trait|type) (\w+)")
 
 
@@ -175,7 +176,8 @@ def figures():
             owners[found].append(name)
     doubles = sorted(f"{it}: {', '.join(names)}" for it, names in owners.items() if len(names) > 1)
     participles = [f"{name}: {it}" for name, crate in product.items() for it in crate.functions if is_bare_participle(it) and it not in crate.getters]
-    edited = {name: len(names) for name, names in edits.crates_with_edits()}
+    edited = {name: len(paths) for name, paths in edits.crates_with(edits.GATE)}
+    apart = sum(len(paths) for _, paths in edits.crates_with(edits.APART))
     code = sum(it.lines for it in product.values())
     token_code = sum(it.token_lines() for it in product.values())
     token_proofs, proofs = proof_lines()
@@ -185,6 +187,8 @@ def figures():
     busiest = max(edited, key=edited.get)
     return [
         ("product crates", len(product), 30, sorted(product)),
+        ("crates of tests and examples", len(crates) - len(product), 11, sorted({*crates} - {*product})),
+        ("programs", sum(it.is_program for it in crates.values()), 5, [name for name, it in crates.items() if it.is_program]),
         ("functions of the largest crate", functions[most], 100, [f"{name} {it}" for name, it in sorted(functions.items(), key=lambda it: -it[1])]),
         ("product crates of more than 100 functions", sum(it > 100 for it in functions.values()), 0, []),
         ("functions of product crates", sum(functions.values()), None, []),
@@ -192,8 +196,9 @@ def figures():
         ("crates above the one that validates arcs", len(above), 13, [f"{validator}: {', '.join(above)}"]),
         ("type names in more than one product crate", len(doubles), 0, doubles),
         ("functions named by a bare participle", len(participles), 0, participles),
-        ("must-fail edits", sum(edited.values()), edits.MOST_IN_ALL, []),
+        ("must-fail edits in the gate", sum(edited.values()), None, [f"{name} {it}, {functions[name]} functions" for name, it in edited.items()]),
         ("must-fail edits of the crate with most", edited[busiest], edits.MOST, [busiest]),
+        ("must-fail edits in all", sum(edited.values()) + apart, edits.MOST_IN_ALL, []),
         ("lines of code without the token reader", code - token_code, 11500, [f"{name} {it.lines}" for name, it in product.items()]),
         ("lines of code of the token reader", token_code, None, []),
         ("lines of proofs without the token reader", proofs, 45300, []),

@@ -5,8 +5,9 @@
 A step makes the file, writes to it, syncs it, renames it or removes it. Where the program is ended at one of them FILE has to
 stand as it was, and the next run has to replace it. Where one fails the status has to be 6 with the line for it, FILE has to
 stand as it was, and nothing may be left beside it; where all behind it fail too, so that nothing can be removed, FILE has to
-stand. FILE is a file of its own, or one that the command reads. tests/refusing.py tells what is needed. Ends with a line of
-counts, and with status 1 where a run did anything else, or where they were too few.
+stand. FILE is a file of its own, or one that the command reads; or it has the longest name, or is a symbolic link that leads
+by another one to a file that isn't there yet: then that file is made, and both stay links. tests/refusing.py tells what is
+needed. Ends with a line of counts, and with status 1 where a run did anything else, or where they were too few.
 """
 
 import json
@@ -21,6 +22,8 @@ import refusing
 KILLED = -signal.SIGKILL
 POINTS = 9000  # some hundred kilobytes, which are written in several pieces
 LEAST_STEPS = 4  # made, written, synced, renamed
+LINKS = {"link.json": "./other.json", "other.json": "far.json"}  # the last one is not there
+LONGEST = 250 * "n" + ".json"  # as many bytes as a name may have
 
 
 def inputs(program):
@@ -33,8 +36,10 @@ def inputs(program):
         sys.exit(f"no topology was built: status {status}")
     lay(program, "points.topo.json", text)
     lay(program, "old.json", b"what was there")
+    lay_links(program)
     merge, feature, info = ["merge", "points.topo.json"], ["feature", "--layer", "a", "points.topo.json"], ["info", "points.topo.json"]
-    return [(build, "old.json"), (build, "points.json"), (feature, "old.json"), (feature, "points.topo.json"), (info, "old.json"), (merge, "new.json")]
+    return [(build, "old.json"), (build, "points.json"), (feature, "old.json"), (feature, "points.topo.json"), (info, "old.json"), (merge, "new.json"),
+            (info, "link.json"), (info, LONGEST)]
 
 
 def rounded(program):
@@ -47,7 +52,8 @@ def rounded(program):
     if status or len(text) < 200000:
         sys.exit(f"no topology was built: status {status}")
     lay(program, "degrees.topo.json", text)
-    return [(build, "old.json"), (build, "degrees.json"), (["-q", "--back", "degrees.topo.json"], "degrees.topo.json")]
+    lay_links(program)
+    return [(build, "old.json"), (build, "link.json"), (build, LONGEST), (build, "degrees.json"), (["-q", "--back", "degrees.topo.json"], "degrees.topo.json")]
 
 
 PROGRAMS = {"topotool": inputs, "togrid": rounded}
@@ -58,20 +64,39 @@ def lay(program, name, text):
         file.write(text)
 
 
+def lay_links(program):
+    for name, target in LINKS.items():
+        os.symlink(target, f"{program.folder}/{name}")
+
+
+def led_to(name):
+    """The name of the file that a name leads to."""
+    return led_to(os.path.normpath(LINKS[name])) if name in LINKS else name
+
+
 def held(program):
-    """The files of the folder, by their names."""
+    """The files of the folder, by their names: the bytes of a file, and of a link what it says."""
     texts = {}
     for name in os.listdir(program.folder):
-        with open(f"{program.folder}/{name}", "rb") as file:
+        path = f"{program.folder}/{name}"
+        if os.path.islink(path):
+            texts[name] = os.readlink(path)
+            continue
+        with open(path, "rb") as file:
             texts[name] = file.read()
     return texts
 
 
 def put_back(program, before):
-    for name in held(program).keys() - before.keys():
-        os.remove(f"{program.folder}/{name}")
+    found = held(program)
+    for name in found:
+        if name not in before or isinstance(found[name], str) != isinstance(before[name], str):
+            os.remove(f"{program.folder}/{name}")
     for name, text in before.items():
-        lay(program, name, text)
+        if isinstance(text, bytes):
+            lay(program, name, text)
+        elif not os.path.islink(f"{program.folder}/{name}"):
+            os.symlink(text, f"{program.folder}/{name}")
 
 
 class Runs:
@@ -82,7 +107,7 @@ class Runs:
         self.failure = (6, b"", f"{crate}: 21 Write\n".encode())
         (_, printed, _), _ = program.run(words, {})
         end, self.steps = program.run(self.words, {"STEPS_TOLD": None})
-        self.whole = {**self.before, name: printed}
+        self.whole = {**self.before, led_to(name): printed}
         self.is_right = end == (0, b"", b"") and held(program) == self.whole and self.steps >= LEAST_STEPS
         put_back(program, self.before)
 
