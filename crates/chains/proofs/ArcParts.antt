@@ -1,6 +1,6 @@
 -- The parts of a list that is cut at its inner stops.
 use Rattle.std.proofs.Common.{◌≡◌, ℕ, zero, suc, ◌+◌, ◌<◌, ◌≤◌, Bool, true, false, cond, not, ◌&&◌, List, [], ◌∷◌, ◌++◌, map, reverse, length, drop, slice_get, slice_range, Some, inl, inr, refl, sym, ap, ◌∙◌, subst, arith, append_assoc}
-use Rattle.std.proofs.lemmas.List.{reverse-reverse}
+use Rattle.std.proofs.lemmas.List.{length-reverse, reverse-reverse}
 use Rattle.std.specs.Cmp.Lexicographic.{lists_total}
 use Rattle.std.specs.Ordering.{is_lt, ordering_reverse}
 use Rattle.std.specs.declared.cmp.Ordering.{Ordering}
@@ -18,7 +18,7 @@ use Rattle.lines.proofs.Positions.{true_false}
 use Rattle.chains.specs.ArcPieces.{meets_stop, turned_loop, pieces_at, read_from, JoinTo, EndsAtStop, MeetAtStops, AreCutAt}
 use Rattle.chains.specs.Pieces.{cut_inside, cut_inside_from, goes_on, is_backwards_less, least_direction, open_pieces, piece_along, used}
 use Rattle.chains.specs.declared.cutting.Piece.{Piece}
-use Rattle.chains.proofs.LoopStops.{turned_least}
+use Rattle.chains.proofs.LoopStops.{turned_least, turned_long}
 use Rattle.chains.proofs.Oriented.{used_along, used_parts}
 use Rattle.chains.proofs.Sharing.{none_met}
 use Rattle.chains.proofs.Slices.{range_more, range_one}
@@ -176,6 +176,34 @@ module _ (stop : Pos → Bool) where
       go true e f g (inr z) = f z
       go false e f g z = g e z
 
+  -- where a part ends before the last position, the next one has two positions or more
+  parts_long : (x : Pos) (m rest : List Pos) → 2 ≤ length (x ∷ (m ++ rest)) → (c : List Pos) → Has c (cut_inside_from stop (x ∷ m) rest) → 2 ≤ length c
+  parts_long x m [] k c (inl e) = subst (λ w. 2 ≤ length w) (ap (λ w. x ∷ w) (append_nil m) ∙ sym e) k
+  parts_long x m [] k c (inr z) = absurd z
+  parts_long x m (p ∷ rest) k c t =
+      go (goes_on rest && stop p) refl
+      (λ h. parts_long p [] rest h c)
+      (parts_long x (m ++ (p ∷ [])) rest (subst (λ w. 2 ≤ length (x ∷ w)) (sym (append_assoc m (p ∷ []) rest)) k) c) t
+    where
+      ended : (m : List Pos) → 2 ≤ length (x ∷ (m ++ (p ∷ [])))
+      ended [] = omega arith
+      ended (y ∷ m) = let h = ended m in omega arith
+
+      goes_far : (l : List Pos) (b : Bool) → (goes_on l && b) ≡ true → 2 ≤ length (p ∷ l)
+      goes_far [] b e = absurd cc
+      goes_far (y ∷ l) b e = omega arith
+
+      go : (w : Bool) → (goes_on rest && stop p) ≡ w → (2 ≤ length (p ∷ rest) → Has c (cut_inside_from stop (p ∷ []) rest) → 2 ≤ length c) →
+          (Has c (cut_inside_from stop (x ∷ (m ++ (p ∷ []))) rest) → 2 ≤ length c) →
+          Has c (cond w ((x ∷ (m ++ (p ∷ []))) ∷ cut_inside_from stop (p ∷ []) rest) (cut_inside_from stop (x ∷ (m ++ (p ∷ []))) rest)) → 2 ≤ length c
+      go true e f g (inl z) = subst (λ w. 2 ≤ length w) (sym z) (ended m)
+      go true e f g (inr z) = f (goes_far rest (stop p) e) z
+      go false e f g z = g z
+
+  list_long : (l : List Pos) → 2 ≤ length l → (c : List Pos) → Has c (cut_inside stop l) → 2 ≤ length c
+  list_long [] k c h = absurd (omega (arith, k))
+  list_long (x ∷ r) k c h = parts_long x [] r k c h
+
   list_joined : (l : List Pos) → JoinTo l (cut_inside stop l)
   list_joined [] = refl
   list_joined (x ∷ r) = parts_joined x [] r
@@ -205,6 +233,15 @@ module _ (stop : Pos → Bool) where
       let t = map_has (piece_along free) cs p k in
       ap (λ (q : Piece). is_backwards_less q.chain) t.2 ∙ not_backwards t.0
 
+  long_parts : (free : Bool) (cs : List (List Pos)) → ((c : List Pos) → Has c cs → 2 ≤ length c) → (p : Piece) → Has p (map (piece_along free) cs) → 2 ≤ length p.chain
+  long_parts free cs h p k =
+      let t = map_has (piece_along free) cs p k in
+      subst (λ (q : Piece). 2 ≤ length q.chain) (sym t.2) (go t.0 (is_backwards_less t.0) (h t.0 t.1))
+    where
+      go : (c : List Pos) (b : Bool) → 2 ≤ length c → 2 ≤ length (cond b (reverse c) c)
+      go c true n = omega (arith, n, length-reverse c)
+      go c false n = n
+
   free_parts : (free : Bool) (cs : List (List Pos)) (p : Piece) → Has p (map (piece_along free) cs) → p.free ≡ free
   free_parts free cs p k = let t = map_has (piece_along free) cs p k in ap (λ (q : Piece). q.free) t.2
 
@@ -225,6 +262,7 @@ are_cut stop false c = record {
   begins = λ e. absurd cc;
   meet = subst (MeetAtStops stop) (sym (used_parts false (cut_inside stop c))) (list_meet stop c);
   inner = of_parts stop false (cut_inside stop c) (list_inner stop c);
+  long = λ k. long_parts stop false (cut_inside stop c) (list_long stop c k);
   least = least_parts stop false (cut_inside stop c);
   marked = free_parts stop false (cut_inside stop c);
 }
@@ -241,6 +279,7 @@ are_cut stop true c = go (meets_stop stop c) refl
           begins = λ f g v h. turned_least stop (unclosed c) e v (subst (Begins v) r h);
           meet = subst (MeetAtStops stop) (sym (used_parts false (cut_inside stop t))) (list_meet stop t);
           inner = of_parts stop false (cut_inside stop t) (list_inner stop t);
+          long = λ k. long_parts stop false (cut_inside stop t) (list_long stop t (turned_long stop (unclosed c) e));
           least = least_parts stop false (cut_inside stop t);
           marked = λ p h. free_parts stop false (cut_inside stop t) p h ∙ ap not (sym e);
         }
@@ -251,6 +290,7 @@ are_cut stop true c = go (meets_stop stop c) refl
           begins = λ f g. absurd (true_false (meets_stop stop c) g e);
           meet = tt;
           inner = of_parts stop true (c ∷ []) (whole_inner stop c e);
+          long = λ k. long_parts stop true (c ∷ []) (λ d h. elim h [ inl z ↦ subst (λ w. 2 ≤ length w) (sym z) k | inr z ↦ absurd z ]);
           least = least_parts stop true (c ∷ []);
           marked = λ p h. free_parts stop true (c ∷ []) p h ∙ ap not (sym e);
         }

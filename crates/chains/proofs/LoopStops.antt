@@ -175,6 +175,18 @@ turned_least stop (x ∷ r) e w h =
       least = s.least;
     })
 
+-- it begins and ends there, so it has two positions or more
+pub turned_long : (stop : Pos → Bool) (r : List Pos) → list_any stop r ≡ true → 2 ≤ length (opened_at (start_place stop r) r)
+turned_long stop [] e = absurd cc
+turned_long stop (x ∷ r) e =
+    let s = starts_at stop x r in
+    let o = opened_parted (x ∷ r) s.before s.vertex s.behind (start_place stop (x ∷ r)) s.parted s.place in
+    subst (λ w. 2 ≤ length w) (sym o) (closed s.vertex (s.behind ++ s.before))
+  where
+    closed : (v : Pos) (m : List Pos) → 2 ≤ length (v ∷ (m ++ (v ∷ [])))
+    closed v [] = omega arith
+    closed v (y ∷ m) = let h = closed v m in omega arith
+
 pub none_to_cut : (junctions : List Pos) (r : List Pos) (i : ℕ) → i ≡ start_place (among junctions) r → length r ≤ i → piece_along true [] ∷ [] ≡ ring_pieces junctions r
 none_to_cut junctions [] i e h = refl
 none_to_cut junctions (x ∷ r) i e h = let k = place_within (among junctions) x r in absurd (omega (arith, e))

@@ -1,5 +1,5 @@
 -- The pieces of an arc under any stops.
-use Rattle.std.specs.Prelude.{◌≡◌, ℕ, Bool, true, false, cond, not, ◌&&◌, List, [], ◌∷◌, map, Option, Some, None}
+use Rattle.std.specs.Prelude.{◌≡◌, ◌≤◌, ℕ, Bool, true, false, cond, not, ◌&&◌, List, [], ◌∷◌, length, map, Option, Some, None}
 use Rattle.std.specs.List.{list_any}
 use Rattle.theory.specs.Geometry.{AtMost}
 use Rattle.theory.specs.Lists.{Begins, Has, Passes, last_of}
@@ -68,6 +68,8 @@ pub record AreCutAt (stop : Pos → Bool) (free : Bool) (c : List Pos) (ps : Lis
   pub meet : MeetAtStops stop (map used ps)
   -- no inner place of a piece is a stop
   pub inner : (p : Piece) (a v b : Pos) → Has p ps → Passes a v b (used p) → stop v ≡ false
+  -- of an arc of two positions or more, so is each piece
+  pub long : 2 ≤ length c → (p : Piece) → Has p ps → 2 ≤ length p.chain
   -- no piece comes after its reverse
   pub least : (p : Piece) → Has p ps → is_backwards_less p.chain ≡ false
   -- a piece is free exactly where the arc is a free loop on which no stop lies
