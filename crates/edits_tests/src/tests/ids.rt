@@ -1,6 +1,7 @@
 //! `compare::quality::without_id` and `compare::quality::repeated_ids`.
+use crate::tests::inputs::id_of;
 use compare::quality::{repeated_ids, without_id};
-use shapes::{Id, Props};
+use shapes::Props;
 use std::alloc::Global;
 use std::test::Fail;
 use topo::{Body, Geom};
@@ -25,13 +26,8 @@ const ROWS: &[Row] = &[
 fn geometries(alloc: Global, numbers: &[i64]) -> Result<Vec<Geom>, Fail> {
     let mut made = Vec::new(alloc);
     for number in numbers {
-        let id = if *number == 0 {
-            Id::None
-        } else {
-            Id::Number(*number)
-        };
         made.push(Geom {
-            id,
+            id: id_of(*number),
             props: Props::empty(alloc)?,
             body: Body::Null,
         })?;

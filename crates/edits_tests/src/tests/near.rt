@@ -1,10 +1,10 @@
 //! `compare::quality::near_vertices`.
 use compare::quality::{NearPlace, near_vertices};
-use grid::{Grid, Pos};
 use shapes::{Feature, FeatureMap, Id, Items, Props, Shape};
 use std::alloc::Global;
 use std::test::Fail;
 use topo::Topology;
+use worked_maps::{positions, unit_grid};
 
 /// A place of a feature: x, y and the feature's number.
 type Placed = (i64, i64, usize);
@@ -95,10 +95,7 @@ fn topology(alloc: Global, features: &[&[(i64, i64)]]) -> Result<Topology, Fail>
     let mut map = FeatureMap::new(alloc);
     map.add_layer("a")?;
     for (number, places) in features.iter().enumerate() {
-        let mut points = Vec::new(alloc);
-        for (x, y) in *places {
-            points.push(Pos::new(*x, *y).ok_or("outside the limits")?)?;
-        }
+        let points = positions(alloc, *places)?;
         map.insert(
             "a",
             Feature {
@@ -108,8 +105,7 @@ fn topology(alloc: Global, features: &[&[(i64, i64)]]) -> Result<Topology, Fail>
             },
         )?;
     }
-    let grid = Grid::new(1, 1, 0, 0).ok_or("no grid")?;
-    Ok(Topology::build(alloc, &grid, &map)?)
+    Ok(Topology::build(alloc, &unit_grid()?, &map)?)
 }
 
 fn is_place(made: NearPlace, placed: Placed) -> bool {

@@ -1,8 +1,9 @@
 //! `compare`, on two maps of one layer.
+use crate::tests::inputs::id_of;
 use compare::{Changed, CompareFault, Comparison, LayerDifference, compare};
 use grid::Grid;
 use serde_json::Value;
-use shapes::{Feature, FeatureMap, Id, Props};
+use shapes::{Feature, FeatureMap, Props};
 use std::alloc::Global;
 use std::test::Fail;
 use topo::Topology;
@@ -121,13 +122,8 @@ const ROWS: &[Row] = &[
 fn feature(alloc: Global, drawn: Drawn) -> Result<Feature, Fail> {
     let Drawn(number, text, places) = drawn;
     let value = serde_json::from_str(alloc, text)?;
-    let id = if number == 0 {
-        Id::None
-    } else {
-        Id::Number(number)
-    };
     Ok(Feature {
-        id,
+        id: id_of(number),
         props: Props::from_value(alloc, &value)?,
         shape: polygon(alloc, places)?,
     })

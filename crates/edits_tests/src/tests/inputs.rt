@@ -1,9 +1,22 @@
-//! What texts of topologies mean, plans of each grouping, and what a text is compared with.
+//! What texts of topologies mean, plans of each grouping, what a text is compared with, and ids of numbers.
 use refine::Plan;
-use shapes::FeatureMap;
+use shapes::{FeatureMap, Id};
 use std::alloc::Global;
 use std::test::Fail;
 use topo::Topology;
+
+/// No layer, on another grid.
+pub(crate) const ON_SCALE_TWO: &str =
+    r#"{"arcs":[],"objects":{},"transform":{"scale":[2,2],"translate":[0,0]},"type":"Topology"}"#;
+
+/// The id of a number, where 0 is none.
+pub(crate) fn id_of(number: i64) -> Id {
+    if number == 0 {
+        Id::None
+    } else {
+        Id::Number(number)
+    }
+}
 
 /// The features of a text.
 pub(crate) fn map_of(alloc: Global, text: &str) -> Result<FeatureMap, Fail> {

@@ -1,6 +1,5 @@
 //! Merging of texts and shards by plans: answers, faults in their order, and deep plans.
-use crate::tests::inputs::{GROUPINGS, grouped, plan_of};
-use crate::tests::texts::{ENDS, FIRST, ON_SCALE_TWO, SECOND, THIRD, THREE};
+use crate::tests::inputs::{GROUPINGS, ON_SCALE_TWO, grouped, plan_of};
 use faults::{Fault, FaultKind};
 use grid::transform::Grid;
 use refine::fault::{MergeFault, PlanFault};
@@ -8,6 +7,7 @@ use refine::merge::{merge_borrowed_topologies, merge_texts, merge_topologies};
 use refine::shard::Shard;
 use refine::whole::Whole;
 use refine::{Plan, run_plan};
+use refused_calls::texts::{EMPTY, ENDS, FIRST, SECOND, THIRD, THREE};
 use shapes::feature_map::FeatureMap;
 use std::alloc::Global;
 use std::process::Abort;
@@ -397,9 +397,6 @@ fn deep_plan(alloc: Global, sides: (bool, bool)) -> Result<Plan, Fail> {
     Ok(plan)
 }
 
-const ONE_LAYER: &str =
-    "{\"arcs\":[],\"objects\":{\"a\":{\"geometries\":[],\"type\":\"GeometryCollection\"}},\"transform\":{\"scale\":[1,1],\"translate\":[0,0]},\"type\":\"Topology\"}";
-
 /// A plan with a leaf more, which is past the shards, is refused.
 fn check_past(rt: &impl Abort, alloc: Global, shards: &[Whole], plan: Plan) -> Result<(), Fail> {
     let past = node(alloc, plan, Plan::Leaf(1))?;
@@ -415,7 +412,7 @@ fn check_deep(
     sides: (bool, bool),
 ) -> Result<(), Fail> {
     let plan = deep_plan(alloc, sides)?;
-    check_joined(rt, alloc, shards, &plan, ONE_LAYER)?;
+    check_joined(rt, alloc, shards, &plan, EMPTY)?;
     check_past(rt, alloc, shards, plan)
 }
 

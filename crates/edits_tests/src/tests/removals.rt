@@ -1,9 +1,12 @@
 //! Features taken out of topologies: the text that is left, and the old arcs of each new one. Expected
 //! texts and indexes are worked out by hand.
 use crate::tests::inputs::{is_text_of, map_of, topology_of};
-use crate::tests::texts::{ENDS, FIRST, SECOND, SHARED_EDGE, THREE, topology};
 use refine::remove::{Removal, remove};
 use refine::{JoinFault, remove_topology};
+use refused_calls::layer;
+use refused_calls::texts::{
+    EMPTY, ENDS, FIRST, FREE_LOOP, LINE, LOOP_AND_LINE, SECOND, SHARED_EDGE, THREE,
+};
 use std::alloc::Global;
 use std::process::Abort;
 use std::test::Fail;
@@ -20,27 +23,19 @@ struct Row {
     pieces: &'static [&'static [i64]],
 }
 
-const EMPTY: &str = topology!(
-    r#"{"arcs":[],"objects":{"a":{"geometries":[],"type":"GeometryCollection"}},"#
-);
-
 const ON_ANOTHER_GRID: &str =
     r#"{"arcs":[],"objects":{},"transform":{"scale":[2,1],"translate":[0,0]},"type":"Topology"}"#;
 
-const FREE_LOOP: &str = topology!(
-    r#"{"arcs":[[[0,0],[0,2],[2,-2],[-2,0]]],"bbox":[0,0,2,2],"objects":{"a":{"geometries":[{"arcs":[[-1]],"type":"Polygon"}],"type":"GeometryCollection"}},"#
+const LINES: &str = layer!(
+    r#"{"arcs":[[[0,0],[1,0]],[[1,0],[0,1]],[[1,0],[1,0]]],"bbox":[0,0,2,1],"objects":{"a":{"geometries":[{"arcs":[0,1],"type":"LineString"},{"arcs":[0,2],"type":"LineString"}"#
 );
 
-const LINES: &str = topology!(
-    r#"{"arcs":[[[0,0],[1,0]],[[1,0],[0,1]],[[1,0],[1,0]]],"bbox":[0,0,2,1],"objects":{"a":{"geometries":[{"arcs":[0,1],"type":"LineString"},{"arcs":[0,2],"type":"LineString"}],"type":"GeometryCollection"}},"#
+const TWO_RINGS: &str = layer!(
+    r#"{"arcs":[[[0,0],[0,1],[1,0],[0,-1],[-1,0]],[[5,5],[0,1],[1,-1],[-1,0]]],"bbox":[0,0,6,6],"objects":{"a":{"geometries":[{"arcs":[[-1],[1]],"type":"Polygon"}"#
 );
 
-const TWO_RINGS: &str = topology!(
-    r#"{"arcs":[[[0,0],[0,1],[1,0],[0,-1],[-1,0]],[[5,5],[0,1],[1,-1],[-1,0]]],"bbox":[0,0,6,6],"objects":{"a":{"geometries":[{"arcs":[[-1],[1]],"type":"Polygon"}],"type":"GeometryCollection"}},"#
-);
-
-const PINCHED: &str = topology!(
-    r#"{"arcs":[[[0,0],[0,1],[1,0],[1,-1],[0,1],[-1,0],[-1,-1]]],"bbox":[0,0,2,1],"objects":{"a":{"geometries":[{"arcs":[[0]],"type":"Polygon"}],"type":"GeometryCollection"}},"#
+const PINCHED: &str = layer!(
+    r#"{"arcs":[[[0,0],[0,1],[1,0],[1,-1],[0,1],[-1,0],[-1,-1]]],"bbox":[0,0,2,1],"objects":{"a":{"geometries":[{"arcs":[[0]],"type":"Polygon"}"#
 );
 
 /// Rows: a title, a topology, another one whose features are taken out, what is left, and for each of its
@@ -58,13 +53,11 @@ macro_rules! left {
 }
 
 const ROWS: &[Row] = left![
-    "the seam vanishes": topology!(r#"{"arcs":[[[2,0],[-2,0],[0,2],[2,-2]],[[2,0],[1,0]]],"bbox":[0,0,3,2],"objects":{"a":{"geometries":[{"arcs":[1],"type":"LineString"},{"arcs":[[-1]],"type":"Polygon"}],"type":"GeometryCollection"}},"#),
-        topology!(r#"{"arcs":[[[2,0],[1,0]]],"bbox":[2,0,3,0],"objects":{"a":{"geometries":[{"arcs":[0],"type":"LineString"}],"type":"GeometryCollection"}},"#),
-        FREE_LOOP, &[&[0]];
+    "the seam vanishes": LOOP_AND_LINE, LINE, FREE_LOOP, &[&[0]];
     "one of two squares with a shared edge": SHARED_EDGE, SECOND, FIRST, &[&[0, -2]];
     "a junction of the union alone": LINES,
-        topology!(r#"{"arcs":[[[0,0],[1,0],[0,1]]],"bbox":[0,0,1,1],"objects":{"a":{"geometries":[{"arcs":[0],"type":"LineString"}],"type":"GeometryCollection"}},"#),
-        topology!(r#"{"arcs":[[[0,0],[1,0],[1,0]]],"bbox":[0,0,2,0],"objects":{"a":{"geometries":[{"arcs":[0],"type":"LineString"}],"type":"GeometryCollection"}},"#), &[&[0, 2]];
+        layer!(r#"{"arcs":[[[0,0],[1,0],[0,1]]],"bbox":[0,0,1,1],"objects":{"a":{"geometries":[{"arcs":[0],"type":"LineString"}"#),
+        layer!(r#"{"arcs":[[[0,0],[1,0],[1,0]]],"bbox":[0,0,2,0],"objects":{"a":{"geometries":[{"arcs":[0],"type":"LineString"}"#), &[&[0, 2]];
     "the middle one of three squares": THREE, SECOND, ENDS, &[&[0, -2], &[4, -6]];
     "all of two squares: the layer keeps its name": SHARED_EDGE, SHARED_EDGE, EMPTY, &[];
     "a square whose list begins at a junction, and not at its least corner": SHARED_EDGE, FIRST, SECOND, &[&[1, -3]];
@@ -80,17 +73,17 @@ macro_rules! kept {
 }
 
 const KEPT: &[Row] = kept![
-    "a feature with another id": SHARED_EDGE, &[&[0], &[1], &[2]], topology!(r#"{"arcs":[[[0,0],[0,1],[1,0],[0,-1],[-1,0]]],"bbox":[0,0,1,1],"objects":{"a":{"geometries":[{"arcs":[[-1]],"id":1,"type":"Polygon"}],"type":"GeometryCollection"}},"#);
-    "a feature of another layer": SHARED_EDGE, &[&[0], &[1], &[2]], topology!(r#"{"arcs":[[[0,0],[0,1],[1,0],[0,-1],[-1,0]]],"bbox":[0,0,1,1],"objects":{"b":{"geometries":[{"arcs":[[-1]],"type":"Polygon"}],"type":"GeometryCollection"}},"#);
-    "a square that differs at one corner": SHARED_EDGE, &[&[0], &[1], &[2]], topology!(r#"{"arcs":[[[0,0],[0,2],[1,-1],[0,-1],[-1,0]]],"bbox":[0,0,1,2],"objects":{"a":{"geometries":[{"arcs":[[-1]],"type":"Polygon"}],"type":"GeometryCollection"}},"#);
-    "a square that goes round the other way": SHARED_EDGE, &[&[0], &[1], &[2]], topology!(r#"{"arcs":[[[0,0],[0,1],[1,0],[0,-1],[-1,0]]],"bbox":[0,0,1,1],"objects":{"a":{"geometries":[{"arcs":[[0]],"type":"Polygon"}],"type":"GeometryCollection"}},"#);
-    "the corners of a square in another order": SHARED_EDGE, &[&[0], &[1], &[2]], topology!(r#"{"arcs":[[[0,0],[1,1],[0,-1],[-1,1],[0,-1]]],"bbox":[0,0,1,1],"objects":{"a":{"geometries":[{"arcs":[[0]],"type":"Polygon"}],"type":"GeometryCollection"}},"#);
-    "a square as the one of many": SHARED_EDGE, &[&[0], &[1], &[2]], topology!(r#"{"arcs":[[[0,0],[0,1],[1,0],[0,-1],[-1,0]]],"bbox":[0,0,1,1],"objects":{"a":{"geometries":[{"arcs":[[[-1]]],"type":"MultiPolygon"}],"type":"GeometryCollection"}},"#);
+    "a feature with another id": SHARED_EDGE, &[&[0], &[1], &[2]], layer!(r#"{"arcs":[[[0,0],[0,1],[1,0],[0,-1],[-1,0]]],"bbox":[0,0,1,1],"objects":{"a":{"geometries":[{"arcs":[[-1]],"id":1,"type":"Polygon"}"#);
+    "a feature of another layer": SHARED_EDGE, &[&[0], &[1], &[2]], layer!(r#"{"arcs":[[[0,0],[0,1],[1,0],[0,-1],[-1,0]]],"bbox":[0,0,1,1],"objects":{"b":{"geometries":[{"arcs":[[-1]],"type":"Polygon"}"#);
+    "a square that differs at one corner": SHARED_EDGE, &[&[0], &[1], &[2]], layer!(r#"{"arcs":[[[0,0],[0,2],[1,-1],[0,-1],[-1,0]]],"bbox":[0,0,1,2],"objects":{"a":{"geometries":[{"arcs":[[-1]],"type":"Polygon"}"#);
+    "a square that goes round the other way": SHARED_EDGE, &[&[0], &[1], &[2]], layer!(r#"{"arcs":[[[0,0],[0,1],[1,0],[0,-1],[-1,0]]],"bbox":[0,0,1,1],"objects":{"a":{"geometries":[{"arcs":[[0]],"type":"Polygon"}"#);
+    "the corners of a square in another order": SHARED_EDGE, &[&[0], &[1], &[2]], layer!(r#"{"arcs":[[[0,0],[1,1],[0,-1],[-1,1],[0,-1]]],"bbox":[0,0,1,1],"objects":{"a":{"geometries":[{"arcs":[[0]],"type":"Polygon"}"#);
+    "a square as the one of many": SHARED_EDGE, &[&[0], &[1], &[2]], layer!(r#"{"arcs":[[[0,0],[0,1],[1,0],[0,-1],[-1,0]]],"bbox":[0,0,1,1],"objects":{"a":{"geometries":[{"arcs":[[[-1]]],"type":"MultiPolygon"}"#);
     "a polygon with a ring more": SHARED_EDGE, &[&[0], &[1], &[2]], TWO_RINGS;
     "a polygon with a ring less": TWO_RINGS, &[&[0], &[1]], FIRST;
-    "a line that goes the other way": LINES, &[&[0], &[1], &[2]], topology!(r#"{"arcs":[[[1,1],[0,-1],[-1,0]]],"bbox":[0,0,1,1],"objects":{"a":{"geometries":[{"arcs":[0],"type":"LineString"}],"type":"GeometryCollection"}},"#);
-    "the front of a line": LINES, &[&[0], &[1], &[2]], topology!(r#"{"arcs":[[[0,0],[1,0]]],"bbox":[0,0,1,0],"objects":{"a":{"geometries":[{"arcs":[0],"type":"LineString"}],"type":"GeometryCollection"}},"#);
-    "a line that goes on": LINES, &[&[0], &[1], &[2]], topology!(r#"{"arcs":[[[0,0],[1,0],[0,1],[0,1]]],"bbox":[0,0,1,2],"objects":{"a":{"geometries":[{"arcs":[0],"type":"LineString"}],"type":"GeometryCollection"}},"#);
+    "a line that goes the other way": LINES, &[&[0], &[1], &[2]], layer!(r#"{"arcs":[[[1,1],[0,-1],[-1,0]]],"bbox":[0,0,1,1],"objects":{"a":{"geometries":[{"arcs":[0],"type":"LineString"}"#);
+    "the front of a line": LINES, &[&[0], &[1], &[2]], layer!(r#"{"arcs":[[[0,0],[1,0]]],"bbox":[0,0,1,0],"objects":{"a":{"geometries":[{"arcs":[0],"type":"LineString"}"#);
+    "a line that goes on": LINES, &[&[0], &[1], &[2]], layer!(r#"{"arcs":[[[0,0],[1,0],[0,1],[0,1]]],"bbox":[0,0,1,2],"objects":{"a":{"geometries":[{"arcs":[0],"type":"LineString"}"#);
 ];
 
 /// Whether the old arcs of each new one are those of the indexes.

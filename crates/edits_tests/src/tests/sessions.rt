@@ -1,19 +1,15 @@
 //! Sessions: a topology that is edited by joins and removals, and its text. Expected texts are worked
 //! out by hand.
-use crate::tests::inputs::{is_text_of, map_of, topology_of};
-use crate::tests::texts::{FIRST, ON_SCALE_TWO, SECOND, SHARED_EDGE};
-use grid::Grid;
+use crate::tests::inputs::{ON_SCALE_TWO, is_text_of, map_of, topology_of};
 use refine::{Edit, EditsFault, JoinFault, Session};
+use refused_calls::texts::{FIRST, NO_LAYERS, SECOND, SHARED_EDGE};
 use std::alloc::Global;
 use std::process::Abort;
 use std::test::Fail;
-
-const NO_LAYERS: &str =
-    r#"{"arcs":[],"objects":{},"transform":{"scale":[1,1],"translate":[0,0]},"type":"Topology"}"#;
+use worked_maps::unit_grid;
 
 fn start(alloc: Global) -> Result<Session, Fail> {
-    let grid = Grid::new(1, 1, 0, 0).ok_or("a grid")?;
-    Ok(Session::start(alloc, &grid)?)
+    Ok(Session::start(alloc, &unit_grid()?)?)
 }
 
 /// An edit, by the text of the topology that is joined or taken out.

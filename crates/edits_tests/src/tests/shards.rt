@@ -1,16 +1,15 @@
 //! Maps joined by plans over each kind of shard. Expected texts are worked out by hand.
 use crate::tests::inputs::{GROUPINGS, Grouping, plan_of};
-use crate::tests::texts::THREE;
-use grid::transform::Grid;
 use refine::cut_shard::Cut;
 use refine::run_plan;
 use refine::shard::Shard;
 use refine::whole::Whole;
-use shapes::{Feature, FeatureMap, Id, Props, Shape};
+use refused_calls::texts::THREE;
+use shapes::{FeatureMap, Shape};
 use std::alloc::Global;
 use std::process::Abort;
 use std::test::Fail;
-use worked_maps::{FIRST, Places, SECOND, THIRD, line, polygon};
+use worked_maps::{FIRST, Places, SECOND, THIRD, insert, line, polygon, unit_grid};
 
 const FROM_CORNER: &[(i64, i64)] = &[(1, 1), (2, 2)];
 
@@ -20,29 +19,16 @@ const CORNER: &str =
 /// How many squares each of some shards has.
 const COUNTS: &[i64] = &[1, 7, 1, 1, 3, 12, 2, 1, 1, 5, 9, 1, 4];
 
-/// A feature of this shape alone.
-fn feature(alloc: Global, shape: Shape) -> Result<Feature, Fail> {
-    Ok(Feature {
-        id: Id::None,
-        props: Props::empty(alloc)?,
-        shape,
-    })
-}
-
 /// The map of one layer with one feature.
 fn map_of(alloc: Global, layer: &str, shape: Shape) -> Result<FeatureMap, Fail> {
     let mut map = FeatureMap::new(alloc);
     map.add_layer(layer)?;
-    map.insert(layer, feature(alloc, shape)?)?;
+    insert(alloc, &mut map, layer, shape)?;
     Ok(map)
 }
 
-fn grid() -> Result<Grid, Fail> {
-    Ok(Grid::new(1, 1, 0, 0).ok_or("no grid")?)
-}
-
 fn shards<S: Shard>(alloc: Global, maps: &[FeatureMap]) -> Result<Vec<S>, Fail> {
-    let grid = grid()?;
+    let grid = unit_grid()?;
     let mut made = Vec::new(alloc);
     for map in maps {
         made.push(S::from_map(alloc, &grid, map)?)?;
@@ -125,10 +111,10 @@ fn a_line_from_a_corner(rt: HostRuntime) -> Result<(), Fail> {
 }
 
 /// The unit square that begins at this place of a row.
-fn square(alloc: Global, left: i64) -> Result<Feature, Fail> {
+fn square(alloc: Global, left: i64) -> Result<Shape, Fail> {
     let right = left.saturating_add(1);
     let places = [(left, 0), (right, 0), (right, 1), (left, 1), (left, 0)];
-    feature(alloc, polygon(alloc, &places)?)
+    polygon(alloc, &places)
 }
 
 /// The map of squares in a row, from a place of it to another.
@@ -136,7 +122,7 @@ fn row(alloc: Global, first: i64, end: i64) -> Result<FeatureMap, Fail> {
     let mut map = FeatureMap::new(alloc);
     map.add_layer("a")?;
     for left in first..end {
-        map.insert("a", square(alloc, left)?)?;
+        insert(alloc, &mut map, "a", square(alloc, left)?)?;
     }
     Ok(map)
 }
@@ -155,7 +141,7 @@ fn rows(alloc: Global) -> Result<Vec<FeatureMap>, Fail> {
 
 /// The text of the map of all rows.
 fn text_of_rows(alloc: Global) -> Result<Vec<u8>, Fail> {
-    let whole = Whole::from_map(alloc, &grid()?, &row(alloc, -1, 48)?)?;
+    let whole = Whole::from_map(alloc, &unit_grid()?, &row(alloc, -1, 48)?)?;
     Ok(whole.text(alloc)?)
 }
 
