@@ -26,19 +26,19 @@ pub(crate) struct Results {
 }
 
 /// The arcs of two squares cut again with those of a third.
-pub(crate) fn cut_again(alloc: Global) -> Option<Recut> {
+fn cut_again(alloc: Global) -> Option<Recut> {
     let (two, third) = both(built(alloc, SHARED_EDGE), built(alloc, THIRD))?;
     recut(alloc, two.arcs(), third.arcs()).ok()
 }
 
 /// What is left of the arcs of two squares where the second goes.
-pub(crate) fn joined_again(alloc: Global) -> Option<Rejoined> {
+fn joined_again(alloc: Global) -> Option<Rejoined> {
     let two = built(alloc, SHARED_EDGE)?;
     rejoin(alloc, two.arcs(), &[true, true, false], &[]).ok()
 }
 
 /// Two squares without the second.
-pub(crate) fn taken_out(alloc: Global) -> Option<Removal> {
+fn taken_out(alloc: Global) -> Option<Removal> {
     let (two, second) = both(built(alloc, SHARED_EDGE), read(alloc, SECOND))?;
     remove(alloc, &two, &second).ok()
 }
@@ -63,6 +63,24 @@ fn has_joined(rejoined: &Rejoined) -> bool {
 
 fn has_old_arcs(removal: &Removal) -> bool {
     is_list(removal.pieces(0), &[0, -2]) && removal.pieces(1).is_none()
+}
+
+/// The arcs alone.
+fn has_arcs(recut: Recut) -> bool {
+    recut.into_arcs().len() == 6
+}
+
+/// The one arc, and the run of old ones that it is made of.
+fn has_run(rejoined: Rejoined) -> bool {
+    let (arcs, runs) = rejoined.into_parts();
+    match runs.as_slice() {
+        [run] => arcs.len() == 1 && run.as_slice().len() == 2,
+        _ => false,
+    }
+}
+
+fn is_first(removal: Removal) -> bool {
+    is_of(&removal.into_topology(), FIRST)
 }
 
 impl Results {
@@ -91,6 +109,20 @@ impl Handed for Results {
 
     fn settle(self, rt: &HostRuntime, tally: &mut Tally) {
         self.settle_each(rt, tally);
+        let Results {
+            recut,
+            rejoined,
+            removal,
+        } = self;
+        let has_arcs = has_arcs(recut);
+        let has_run = has_run(rejoined);
+        let is_first = is_first(removal);
+        rows!(rt, tally;
+            "Recut::into_arcs" => has_arcs,
+            "Rejoined::into_parts" => has_run,
+            "ArcRun::as_slice" => has_run,
+            "Removal::into_topology" => is_first,
+        );
     }
 }
 

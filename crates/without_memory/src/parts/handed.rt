@@ -1,6 +1,6 @@
 //! Values that are handed over to calls that take no memory.
 
-use crate::values::SQUARE;
+use crate::square::SQUARE;
 use grid::Pos;
 use lines::position_filter::PositionFilter;
 use lines::text::JsonText;

@@ -24,7 +24,7 @@ fn add_step(line: &mut String, step: &Step) -> Result<(), AllocError> {
 }
 
 /// The line that topotool tells.
-pub fn line_of(alloc: Global, file: &str, fault: &Fault) -> Result<String, AllocError> {
+pub(crate) fn line_of(alloc: Global, file: &str, fault: &Fault) -> Result<String, AllocError> {
     let kind = fault.kind;
     let mut line = format!(in alloc; "topotool: {file}: {} {} $", kind.number(), kind.name())?;
     for step in &fault.path {

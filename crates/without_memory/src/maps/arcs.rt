@@ -1,23 +1,21 @@
 //! Arcs, topologies, and walks along them.
 
+use crate::square::ring;
 use chains::ordered::is_rising;
 use chains::{ArcRef, ArcTable, Piece, VisitIndex, cut_ring, turn_ring};
 use grid::{Grid, Pos};
 use merging::shard::same_grid;
 use refused_calls::comparing::{are_used, stand_at};
 use refused_calls::handed::Handed;
-use refused_calls::inputs::{built, is_of, positions, read};
+use refused_calls::inputs::{built, is_of, read};
 use refused_calls::outcome::Tally;
 use refused_calls::rows;
 use refused_calls::tables::both;
 use refused_calls::texts::{FIRST, Places, SHARED_EDGE};
-use shapes::Ring;
+use shapes::Spelled;
 use std::alloc::Global;
 use topo::arc_slice::is_same;
 use topo::{ArcSlice, Body, BodyLists, Geom, Layer, Topology, Walk, kind_order};
-
-/// The ring of the first square.
-const SQUARE: Places = &[(0, 0), (1, 0), (1, 1), (0, 1), (0, 0)];
 
 /// The side that both squares have.
 const SHARED: Places = &[(1, 0), (1, 1)];
@@ -274,23 +272,57 @@ fn settle_topology(rt: &HostRuntime, tally: &mut Tally, topology: &Topology) {
     );
 }
 
-/// Two squares.
+/// The layer's geometries, under another name.
+fn is_named(layer: Layer, name: Spelled) -> bool {
+    let (old, geometries) = layer.into_parts();
+    let layer = Layer::new(name, geometries);
+    old.text() == "a" && layer.name().text() == "b" && layer.geometries().len() == 2
+}
+
+/// The same of the first layer.
+fn names_again(layers: Vec<Layer>, name: Spelled) -> bool {
+    match layers.into_iter().next() {
+        Some(layer) => is_named(layer, name),
+        None => false,
+    }
+}
+
+fn takes_apart(topology: Topology, name: Spelled) -> bool {
+    let (arcs, layers) = topology.into_parts();
+    let has_arcs = arcs.len() == 3 && layers.len() == 1;
+    names_again(layers, name) && has_arcs
+}
+
+/// Two squares, and another name for their layer.
 #[derive(Drop)]
 pub(crate) struct Squares {
     topology: Topology,
+    name: Spelled,
+}
+
+impl Squares {
+    fn settle_each(&self, rt: &HostRuntime, tally: &mut Tally) {
+        settle_table(rt, tally, self.topology.arcs());
+        settle_runs(rt, tally, &self.topology);
+        settle_topology(rt, tally, &self.topology);
+    }
 }
 
 impl Handed for Squares {
     fn make(alloc: Global) -> Option<Squares> {
-        Some(Squares {
-            topology: built(alloc, SHARED_EDGE)?,
-        })
+        let (topology, name) = both(built(alloc, SHARED_EDGE), Spelled::new(alloc, "b").ok())?;
+        Some(Squares { topology, name })
     }
 
     fn settle(self, rt: &HostRuntime, tally: &mut Tally) {
-        settle_table(rt, tally, self.topology.arcs());
-        settle_runs(rt, tally, &self.topology);
-        settle_topology(rt, tally, &self.topology);
+        self.settle_each(rt, tally);
+        let Squares { topology, name } = self;
+        let are_apart = takes_apart(topology, name);
+        rows!(rt, tally;
+            "Topology::into_parts" => are_apart,
+            "Layer::new" => are_apart,
+            "Layer::into_parts" => are_apart,
+        );
     }
 }
 
@@ -306,12 +338,8 @@ fn index_of_squares(alloc: Global) -> Option<VisitIndex> {
     VisitIndex::of(alloc, &read(alloc, SHARED_EDGE)?).ok()
 }
 
-fn ring_of_square(alloc: Global) -> Option<Ring> {
-    Ring::from_closed(alloc, positions(alloc, SQUARE)?).ok()
-}
-
 fn pieces_of_square(alloc: Global) -> Option<Vec<Piece>> {
-    let (index, ring) = both(index_of_squares(alloc), ring_of_square(alloc))?;
+    let (index, ring) = both(index_of_squares(alloc), ring(alloc))?;
     cut_ring(alloc, &index, &ring).ok()
 }
 

@@ -1,5 +1,6 @@
 //! Single values, and maps of features.
 
+use crate::square::{SQUARE, ring};
 use grid::{Grid, Pos};
 use refused_calls::comparing::stand_at;
 use refused_calls::handed::Handed;
@@ -17,9 +18,6 @@ use std::alloc::Global;
 const NAMED: &str = layer!(
     r#"{"arcs":[[[0,0],[0,1],[1,0],[0,-1],[-1,0]]],"bbox":[0,0,1,1],"objects":{"a":{"geometries":[{"arcs":[[-1]],"id":"x","properties":{"n":1},"type":"Polygon"}"#
 );
-
-/// The unit square, which comes back to its first place.
-pub(crate) const SQUARE: Places = &[(0, 0), (1, 0), (1, 1), (0, 1), (0, 0)];
 
 /// The vertices of the square.
 const VERTICES: Places = &[(0, 0), (1, 0), (1, 1), (0, 1)];
@@ -40,10 +38,6 @@ fn places(alloc: Global) -> Option<Items<Pos>> {
 
 fn line(alloc: Global) -> Option<Line> {
     Line::from_positions(alloc, positions(alloc, SQUARE)?).ok()
-}
-
-fn ring(alloc: Global) -> Option<Ring> {
-    Ring::from_closed(alloc, positions(alloc, SQUARE)?).ok()
 }
 
 fn value(alloc: Global, text: &str) -> Option<Value> {

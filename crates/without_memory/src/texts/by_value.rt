@@ -1,7 +1,7 @@
 //! Files that are read by their JSON values alone.
 
-use crate::Format;
-use crate::refusal::line_of;
+use crate::texts::Format;
+use crate::texts::refusal::line_of;
 use faults::Fault;
 use grid::Grid;
 use shapes::FeatureMap;
@@ -31,7 +31,7 @@ fn read_map(
 }
 
 /// Prints the canonical text of the topology, or why the text is refused.
-pub fn print_text(rt: &HostRuntime, format: Format, file: &str) -> Option<u8> {
+pub(crate) fn print_text(rt: &HostRuntime, format: Format, file: &str) -> Option<u8> {
     let bytes = fs::read(rt, file).ok()?;
     match read_map(rt.alloc(), format, bytes.as_slice())? {
         Ok((grid, map)) => {

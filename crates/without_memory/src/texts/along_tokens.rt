@@ -1,6 +1,6 @@
 //! Files that are read along their tokens alone.
 
-use crate::Format;
+use crate::texts::Format;
 use std::fs;
 
 fn is_read(rt: &HostRuntime, format: &Format, bytes: &[u8]) -> bool {
@@ -15,7 +15,7 @@ fn is_read(rt: &HostRuntime, format: &Format, bytes: &[u8]) -> bool {
 }
 
 /// Prints a line for each file.
-pub fn print_each(rt: &HostRuntime, format: &Format, files: &[String]) -> Option<u8> {
+pub(crate) fn print_each(rt: &HostRuntime, format: &Format, files: &[String]) -> Option<u8> {
     for file in files {
         let bytes = fs::read(rt, file.as_str()).ok()?;
         if is_read(rt, format, bytes.as_slice()) {
