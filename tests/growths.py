@@ -6,18 +6,18 @@ A call is a public function that can be named from the root of its crate (tests/
 type or trait. The crates are those whose calls docs/LIBRARY.md lists, and those that these pass on calls of: CRATES. A
 row names its call `Type::call`, or `crate::call` where it is of no type, and may say more behind that. Each call has a
 row: one that takes an allocator or may be out of memory in REFUSED, which makes it with each request refused, and any other there or in
-a program of WITHOUT, which makes it with all requests refused. EXCEPTIONS has
+in WITHOUT, which makes it with all requests refused. EXCEPTIONS has
 the calls that have none, with a reason each, and MODULES those of whole modules; both name no others, and each row names
 a call.
 
-crates/refused_memory is then run, each of its GROUPS with each request for memory refused in turn, and with all from each on. Where a
+crates/refused_memory is then run, each of its groups (GROUPS) with each request for memory refused in turn, and with all from each on. Where a
 call answers want of memory, it compares what was lent with a copy, and asks again. With one request refused, each call has
 to be right, at once or when asked again, so the counts have to be those of a run with no refusal, but for one that was
 refused. With all from one on, the program has to end by itself with the status for want of memory, and none of its
 calls may go wrong; those that take no memory give their answers then, too, where what they are lent was made before.
 tests/refusing.py tells what is needed, and how the runs stop.
 
-crates/without_memory and crates/maps_without_memory make their last request just before their calls: where that is
+crates/without_memory makes its last request just before the calls of a group (WITHOUT_GROUPS): where that is
 refused with all behind it, nothing else may have been asked for, and each call has to give its answer. Prints a line of
 counts for each, and ends with one of the calls, and with status 1 where anything was wrong, where runs were too few, or where
 fewer of them told want of memory than there are calls that take memory.
@@ -37,7 +37,8 @@ CRATES = ["grid", "faults", "sinks", "lines", "shapes", "geojson_io", "chains", 
           "split_arcs", "heal_arcs", "outputs", "tool"]
 REFUSED = "refused_memory"
 GROUPS = ["parts", "arcs", "maps", "edits"]
-WITHOUT = ["without_memory", "maps_without_memory"]
+WITHOUT = "without_memory"
+WITHOUT_GROUPS = ["parts", "maps"]
 
 NO_REQUEST = "is passed an allocator and asks it for nothing"
 JUDGED = "has a condition, which its caller knows: "
@@ -113,7 +114,7 @@ def is_of_trait(name, known):
 def wrongs(known, left_out):
     """What is wrong with the rows and the exceptions."""
     refused = rows(REFUSED)
-    without = set().union(*map(rows, WITHOUT))
+    without = rows(WITHOUT)
     others = set().union(*map(passed_on, CRATES))
     for name, takes_memory in sorted(known.items()):
         has_row = name in refused or name in without and (not takes_memory or name in NO_GROWTH)
@@ -162,19 +163,19 @@ def is_well_refused(group):
     return is_enough and not tally.is_wrong()
 
 
-def is_well_without_memory(crate):
-    """Runs a program of calls that take no memory, prints a line of counts, and tells whether all was right."""
-    with refusing.program(crate.upper(), crate) as program:
-        right, count = program.asked([])
+def is_well_without_memory(group):
+    """Runs a group of the calls that take no memory, prints a line of counts, and tells whether all was right."""
+    with refusing.program(WITHOUT.upper(), WITHOUT) as program:
+        right, count = program.asked([group])
         found = counts_of(right)
         if right[0] != 0 or not found:
-            sys.exit(f"{crate} goes wrong with no request refused: {right}")
-        end, refusals = program.run([], {"REFUSE_AT": count, "REFUSE_ON": 1, "REFUSE_TOLD": None})
+            sys.exit(f"{WITHOUT} {group} goes wrong with no request refused: {right}")
+        end, refusals = program.run([group], {"REFUSE_AT": count, "REFUSE_ON": 1, "REFUSE_TOLD": None})
         is_lean = end[0] == 5 and counts_of(end) == found and refusals == 2
         if not is_lean:
-            print(f"{crate}: with all requests from {count} on refused, {refusals} times: {end}")
-        tally = program.judge([[]], kind_of)
-    print(f"{crate}: {found[0]} calls, {found[1]} of them without memory: {tally}")
+            print(f"{WITHOUT} {group}: with all requests from {count} on refused, {refusals} times: {end}")
+        tally = program.judge([[group]], kind_of)
+    print(f"{WITHOUT} {group}: {found[0]} calls, {found[1]} of them without memory: {tally}")
     return is_lean and not tally.is_wrong()
 
 
@@ -183,7 +184,7 @@ def main():
     told = list(wrongs(known, left_out))
     for it in told:
         print(it)
-    ran = [*map(is_well_refused, GROUPS), *map(is_well_without_memory, WITHOUT)]
+    ran = [*map(is_well_refused, GROUPS), *map(is_well_without_memory, WITHOUT_GROUPS)]
     counted = len(known) - len(EXCEPTIONS)
     print(f"{len(known)} public calls, {counted} with rows, {len(EXCEPTIONS)} exceptions, {len(told)} wrong")
     return 0 if all(ran) and not told else 1

@@ -35,7 +35,7 @@ sys.dont_write_bytecode = True
 import edits
 
 TOP = os.path.dirname(os.path.dirname(os.path.abspath(__file__)))
-OTHERS = ["*_tests", "refused_*", "*without_memory", "text_readers", "worked_maps", "acceptance", "examples"]
+OTHERS = ["*_tests", "refused_*", "without_memory", "worked_maps", "acceptance", "examples"]
 LAWS = ["theory", "round_trip"]
 VALIDATORS = ["validate"]
 TOKENS = ["reading/src/token*", "reading/proofs/[tT]oken*", "reading/specs/[tT]oken*", "*/token_reader*"]

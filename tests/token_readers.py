@@ -4,11 +4,11 @@
     python3 tests/token_readers.py [--seed N] [--texts N] [--seconds N]
 
 No contract can say that a text is read along its tokens, which is the quick way, so this does: each text that topotool
-accepts in tests/rows and in examples/ has to be read so, by `text_readers tokens`, but for those of LEFT below. And so has
+accepts in tests/rows and in examples/ has to be read so, by `without_memory tokens`, but for those of LEFT below. And so has
 each of FORMS, the members of which stand in every order; those that the type of a GeoJSON root doesn't read stand behind it.
 
 Then random texts, GeoJSON and topologies in the forms of other tools, whole and hurt: what topotool prints of each has to be
-what `text_readers values` prints, which reads the same text by its value alone: the same status, output and error line. With
+what `without_memory values` prints, which reads the same text by its value alone: the same status, output and error line. With
 a limit of time it stops there. Ends with a line of counts, and with status 1 where something differed, or almost no text was
 tried.
 """
@@ -32,7 +32,7 @@ sys.path.insert(0, f"{TOP}/bench")
 
 from random_maps import random_map
 
-READERS = os.environ.get("TEXT_READERS", f"{TOP}/crates/text_readers/out/text_readers")
+READERS = os.environ.get("WITHOUT_MEMORY", f"{TOP}/crates/without_memory/out/without_memory")
 SURE_TEXTS = 200  # of so many some are accepted
 
 # Accepted texts that are left to the value, by the titles of their rows: a member whose first value is faulty and whose
@@ -266,7 +266,7 @@ def judge(seed):
 def main():
     words = words_of(20000)
     if not os.path.isfile(READERS):
-        sys.exit(f"{READERS} is not there: rt run in crates/text_readers builds it")
+        sys.exit(f"{READERS} is not there: rt run in crates/without_memory builds it")
     count, wrong = unread(itertools.chain(accepted_rows(), accepted_examples(), accepted_forms()))
     done = accepted = 0
     for is_whole, found in judged(judge, range(words.seed, words.seed + words.texts), words.seconds):

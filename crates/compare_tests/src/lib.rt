@@ -1,5 +1,0 @@
-//! Tests of `compare` and of `quality`.
-#![tactic(auto)]
-
-#[cfg(test)]
-mod tests;

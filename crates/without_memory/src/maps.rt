@@ -1,0 +1,13 @@
+//! Calls of arcs and topologies.
+
+mod arcs;
+mod results;
+
+use arcs::{Cut, Squares};
+use refused_calls::outcome::Tally;
+use results::{Results, Shards};
+
+/// Makes these calls.
+pub(crate) fn settle(rt: &HostRuntime, tally: &mut Tally) {
+    tally.settle_handed::<((Squares, Cut), (Results, Shards))>(rt);
+}

@@ -1,0 +1,195 @@
+//! What is made of topologies: arcs cut again and joined again, removals, sessions and shards.
+
+use chains::ArcRef;
+use grid::Grid;
+use heal_arcs::{Rejoined, rejoin};
+use merging::Shard;
+use refine::remove::remove;
+use refine::{Cut, Edit, Removal, Session, Whole};
+use refused_calls::comparing::are_used;
+use refused_calls::handed::Handed;
+use refused_calls::inputs::{built, is_of, read};
+use refused_calls::outcome::Tally;
+use refused_calls::rows;
+use refused_calls::tables::both;
+use refused_calls::texts::{FIRST, SECOND, SHARED_EDGE, THIRD};
+use split_arcs::{Recut, Side, recut};
+use std::alloc::Global;
+
+/// The arcs of two squares, cut again with those of a third and joined again without the second, and the squares
+/// without the second.
+#[derive(Drop)]
+pub(crate) struct Results {
+    recut: Recut,
+    rejoined: Rejoined,
+    removal: Removal,
+}
+
+/// The arcs of two squares cut again with those of a third.
+fn cut_again(alloc: Global) -> Option<Recut> {
+    let (two, third) = both(built(alloc, SHARED_EDGE), built(alloc, THIRD))?;
+    recut(alloc, two.arcs(), third.arcs()).ok()
+}
+
+/// What is left of the arcs of two squares where the second goes.
+fn joined_again(alloc: Global) -> Option<Rejoined> {
+    let two = built(alloc, SHARED_EDGE)?;
+    rejoin(alloc, two.arcs(), &[true, true, false], &[]).ok()
+}
+
+/// Two squares without the second.
+fn taken_out(alloc: Global) -> Option<Removal> {
+    let (two, second) = both(built(alloc, SHARED_EDGE), read(alloc, SECOND))?;
+    remove(alloc, &two, &second).ok()
+}
+
+/// Whether a list is there, of these arcs.
+fn is_list(list: Option<&[ArcRef]>, indexes: &[i64]) -> bool {
+    match list {
+        Some(list) => are_used(list, indexes),
+        None => false,
+    }
+}
+
+fn has_cut(recut: &Recut) -> bool {
+    is_list(recut.pieces(Side::Left, 2), &[2, 4, -4])
+        && is_list(recut.pieces(Side::Right, 0), &[4, -6])
+        && recut.pieces(Side::Right, 1).is_none()
+}
+
+fn has_joined(rejoined: &Rejoined) -> bool {
+    is_list(rejoined.pieces(0), &[0, -2]) && rejoined.pieces(1).is_none()
+}
+
+fn has_old_arcs(removal: &Removal) -> bool {
+    is_list(removal.pieces(0), &[0, -2]) && removal.pieces(1).is_none()
+}
+
+/// The arcs alone.
+fn has_arcs(recut: Recut) -> bool {
+    recut.into_arcs().len() == 6
+}
+
+/// The one arc, and the run of old ones that it is made of.
+fn has_run(rejoined: Rejoined) -> bool {
+    let (arcs, runs) = rejoined.into_parts();
+    match runs.as_slice() {
+        [run] => arcs.len() == 1 && run.as_slice().len() == 2,
+        _ => false,
+    }
+}
+
+fn is_first(removal: Removal) -> bool {
+    is_of(&removal.into_topology(), FIRST)
+}
+
+impl Results {
+    fn settle_each(&self, rt: &HostRuntime, tally: &mut Tally) {
+        rows!(rt, tally;
+            "Recut::arcs" => self.recut.arcs().len() == 6,
+            "Recut::pieces" => has_cut(&self.recut),
+            "Rejoined::arcs" => self.rejoined.arcs().len() == 1,
+            "Rejoined::pieces" => has_joined(&self.rejoined),
+            "Removal::topology" => is_of(self.removal.topology(), FIRST),
+            "Removal::pieces" => has_old_arcs(&self.removal),
+        );
+    }
+}
+
+impl Handed for Results {
+    fn make(alloc: Global) -> Option<Results> {
+        let joined = both(joined_again(alloc), taken_out(alloc));
+        let (recut, (rejoined, removal)) = both(cut_again(alloc), joined)?;
+        Some(Results {
+            recut,
+            rejoined,
+            removal,
+        })
+    }
+
+    fn settle(self, rt: &HostRuntime, tally: &mut Tally) {
+        self.settle_each(rt, tally);
+        let Results {
+            recut,
+            rejoined,
+            removal,
+        } = self;
+        let has_arcs = has_arcs(recut);
+        let has_run = has_run(rejoined);
+        let is_first = is_first(removal);
+        rows!(rt, tally;
+            "Recut::into_arcs" => has_arcs,
+            "Rejoined::into_parts" => has_run,
+            "ArcRun::as_slice" => has_run,
+            "Removal::into_topology" => is_first,
+        );
+    }
+}
+
+/// A session that took the first square, and both squares as a shard of each kind.
+#[derive(Drop)]
+pub(crate) struct Shards {
+    session: Session,
+    whole: Whole,
+    cut: Cut,
+}
+
+fn grid() -> Option<Grid> {
+    Grid::new(1, 1, 0, 0)
+}
+
+fn join_first(alloc: Global) -> Option<Edit> {
+    Some(Edit::Join(built(alloc, FIRST)?))
+}
+
+fn started(alloc: Global) -> Option<Session> {
+    Session::start(alloc, &grid()?).ok()
+}
+
+fn session(alloc: Global) -> Option<Session> {
+    let (mut session, edit) = both(started(alloc), join_first(alloc))?;
+    session.apply(&edit).ok()?;
+    Some(session)
+}
+
+fn whole(alloc: Global) -> Option<Whole> {
+    let (grid, map) = both(grid(), read(alloc, SHARED_EDGE))?;
+    Whole::from_map(alloc, &grid, &map).ok()
+}
+
+fn cut_shard(alloc: Global) -> Option<Cut> {
+    let (grid, map) = both(grid(), read(alloc, SHARED_EDGE))?;
+    Cut::from_map(alloc, &grid, &map).ok()
+}
+
+fn is_on_grid<S: Shard>(shard: &S) -> bool {
+    Some(shard.grid()) == grid()
+}
+
+impl Shards {
+    fn settle_each(&self, rt: &HostRuntime, tally: &mut Tally) {
+        rows!(rt, tally;
+            "Session::topology" => is_of(self.session.topology(), FIRST),
+            "Shard::grid of Whole" => is_on_grid(&self.whole),
+            "Shard::grid of Cut" => is_on_grid(&self.cut),
+            "Shard::bbox of Whole" => self.whole.bbox().is_none(),
+            "Shard::bbox of Cut" => self.cut.bbox() == Some((0, 0, 2, 1)),
+        );
+    }
+}
+
+impl Handed for Shards {
+    fn make(alloc: Global) -> Option<Shards> {
+        let shards = both(whole(alloc), cut_shard(alloc));
+        let (session, (whole, cut)) = both(session(alloc), shards)?;
+        Some(Shards {
+            session,
+            whole,
+            cut,
+        })
+    }
+
+    fn settle(self, rt: &HostRuntime, tally: &mut Tally) {
+        self.settle_each(rt, tally);
+    }
+}

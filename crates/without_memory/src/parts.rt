@@ -1,0 +1,17 @@
+//! Calls of numbers, values and sinks.
+
+mod handed;
+mod numbers;
+mod values;
+mod writers;
+
+use handed::Lists;
+use numbers::Numbers;
+use refused_calls::outcome::Tally;
+use values::{Features, Values};
+use writers::Writers;
+
+/// Makes these calls.
+pub(crate) fn settle(rt: &HostRuntime, tally: &mut Tally) {
+    tally.settle_handed::<((Numbers, Writers), ((Values, Features), Lists))>(rt);
+}
