@@ -156,9 +156,9 @@ def geometry_change(old, new):
 
 
 def member_changes(old, new):
-    """The properties that differ, with their values; None is a value that is missing."""
-    changed = [(name, value, new.properties.get(name)) for name, value in old.properties.items()]
-    changed += [(name, None, value) for name, value in new.properties.items() if name not in old.properties]
+    """The properties that differ, by their names, with their values; None is a value that is missing."""
+    names = sorted({*old.properties, *new.properties}, key=str.encode)
+    changed = [(name, old.properties.get(name), new.properties.get(name)) for name in names]
     return [it for it in changed if it[1] != it[2]]
 
 

@@ -31,7 +31,11 @@ DEEPEST_TEXT, DEEPEST_PROPERTIES = 127, 64
 # ---- texts with places: a value of JSON knows where it begins
 
 class NotJson(Exception):
-    """No JSON, as docs/FAULTS.md has it: no UTF-8, or nested more than 127 deep, or a number past all floats, too."""
+    """No JSON from a place on, as docs/FAULTS.md has it: no UTF-8, or nested more than 127 deep, or a number past all floats, too."""
+
+    def __init__(self, at):
+        super().__init__(at)
+        self.at = at
 
 
 class Value:
@@ -56,20 +60,20 @@ class Reader:
 
     def take(self, word):
         if not self.text.startswith(word, self.at):
-            raise NotJson
+            raise NotJson(self.at)
         self.at += len(word)
 
     def whole(self):
         value = self.value(0)
         self.blank()
         if self.at < len(self.text):
-            raise NotJson
+            raise NotJson(self.at)
         return value
 
     def value(self, depth):
         self.blank()
         if self.at >= len(self.text):
-            raise NotJson
+            raise NotJson(self.at)
         at, first = self.at, self.text[self.at]
         if first == "{":
             return self.object(at, depth + 1)
@@ -81,41 +85,45 @@ class Reader:
             return self.number(at)
         for word, kind, what in (("null", "null", None), ("true", "bool", True), ("false", "bool", False)):
             if self.text.startswith(word, at):
-                self.at += len(word)
+                self.end(at, at + len(word))
                 return Value(kind, at, what)
-        raise NotJson
+        raise NotJson(at)
+
+    def end(self, at, end):
+        """A word or a number ends here, and is none where more follows at once."""
+        if self.text[end:end + 1] not in ("", *" \t\r\n{}[]:,"):
+            raise NotJson(at)
+        self.at = end
 
     def string(self):
+        at = self.at
         try:
-            what, self.at = json.decoder.scanstring(self.text, self.at + 1, True)
-        except ValueError:
-            raise NotJson from None
-        try:
+            what, self.at = json.decoder.scanstring(self.text, at + 1, True)
             what.encode()
-        except UnicodeEncodeError:
-            raise NotJson from None
+        except ValueError:
+            raise NotJson(at) from None
         return what
 
     def number(self, at):
         match = json.scanner.NUMBER_RE.match(self.text, at)
         if match is None:
-            raise NotJson
-        self.at = match.end()
+            raise NotJson(at)
+        self.end(at, match.end())
         whole, fraction, power = match.groups()
         if fraction or power:
             if abs(float(match.group())) == float("inf"):
-                raise NotJson
+                raise NotJson(at)
             return Value("float", at)
         number = int(whole)
         if whole.startswith("-0") or not -2 ** 63 <= number < 2 ** 64:
             if abs(float(whole)) == float("inf"):
-                raise NotJson
+                raise NotJson(at)
             return Value("float", at)
         return Value("int", at, number)
 
     def parts(self, depth, end, part):
         if depth > DEEPEST_TEXT:
-            raise NotJson
+            raise NotJson(self.at)
         self.at += 1
         self.blank()
         if self.text.startswith(end, self.at):
@@ -140,7 +148,7 @@ class Reader:
         def member():
             self.blank()
             if not self.text.startswith('"', self.at):
-                raise NotJson
+                raise NotJson(self.at)
             name = self.string()
             self.blank()
             self.take(":")
@@ -424,8 +432,19 @@ def place_of(text, value, path):
         if inner is None:
             break
         value = inner
-    before = text[:value.at]
-    return before.count("\n") + 1, value.at - (before.rfind("\n") + 1) + 1
+    return line_and_column(text, value.at)
+
+
+def line_and_column(text, at):
+    before = text[:at]
+    return before.count("\n") + 1, at - (before.rfind("\n") + 1) + 1
+
+
+def not_json(text, at):
+    """The one error of a text that is no JSON: of one that is cut off at its last character, unless that ends the line."""
+    is_cut = at == len(text) and text[-1:] not in ("", "\n")
+    line, column = line_and_column(text, at - is_cut)
+    return [{"column": column, "line": line, "name": "NotJson", "number": 1, "path": "$"}]
 
 
 def feature_path(path, is_topology):
@@ -464,8 +483,11 @@ def errors_of(bytes_, grid):
     try:
         text = bytes_.decode()
         value = Reader(text).whole()
-    except (UnicodeDecodeError, NotJson):
-        return None
+    except UnicodeDecodeError as wrong:
+        front = bytes_[:wrong.start].decode()
+        return not_json(front + "?", len(front))
+    except NotJson as wrong:
+        return not_json(text, wrong.at)
     judge = Topology() if grid is None else GeoJson(grid)
     found = judge.root(value)
     answers = []
@@ -606,9 +628,6 @@ def judge(task):
             bytes_ = text.read()
         wanted = errors_of(bytes_, None if grid is None else tuple(map(int, grid.split(","))))
         said = [{name: it for name, it in one.items() if name != "file"} for one in found if one["file"] == file]
-        if wanted is None:
-            wanted = [{"name": "NotJson", "number": 1, "path": "$"}]
-            said = [{name: it for name, it in one.items() if name not in ("line", "column")} for one in said]
         counts.append(len(wanted))
         if said != wanted:
             wrong.append(f"{file} on {grid}: said {said}, wanted {wanted}, of {bytes_!r}")

@@ -32,15 +32,15 @@ count_no : {X : Type 0} (p : X → Bool) (xs : List X) (x : X) → p x ≡ false
 count_no p xs x h = let e : count_by p (xs ++ x ∷ []) ≡ count_by p xs + 0 = sum_by_push (λ y. cond (p y) 1 0) xs x ∙ ap (λ b. count_by p xs + cond b 1 0) h in omega (arith, e)
 
 -- the last line, one byte on
-pub last_line_more : (text : List ℕ) (b : ℕ) → is_line_feed b ≡ false → last_line (text ++ b ∷ []) ≡ last_line text ++ b ∷ []
+last_line_more : (text : List ℕ) (b : ℕ) → is_line_feed b ≡ false → last_line (text ++ b ∷ []) ≡ last_line text ++ b ∷ []
 unfolding last_line
 last_line_more = after_last_more is_line_feed
 
-pub last_line_ends : (text : List ℕ) (b : ℕ) → is_line_feed b ≡ true → last_line (text ++ b ∷ []) ≡ []
+last_line_ends : (text : List ℕ) (b : ℕ) → is_line_feed b ≡ true → last_line (text ++ b ∷ []) ≡ []
 unfolding last_line
 last_line_ends = after_last_ends is_line_feed
 
-pub last_line_within : (text : List ℕ) → length (last_line text) ≤ length text
+last_line_within : (text : List ℕ) → length (last_line text) ≤ length text
 unfolding last_line
 last_line_within text = omega (arith, length-drop (length text - suffix_len (λ b. not (is_line_feed b)) text) text)
 
@@ -80,11 +80,3 @@ after_start text b s p short is h c e =
 
 pub after_inner : (text : List ℕ) (b : ℕ) (p : LineColumn) → p ≡ place_behind text → is_line_feed b ≡ false → is_char_start b ≡ false → p ≡ place_behind (text ++ b ∷ [])
 after_inner text b p is h c = is ∙ sym (behind_inner text b h c)
-
--- the bytes of the last line, one on
-pub bytes_after_feed : (text : List ℕ) (b : ℕ) → is_line_feed b ≡ true → 1 ≡ 1 + length (last_line (text ++ b ∷ []))
-bytes_after_feed text b h = omega (arith, ap length (last_line_ends text b h))
-
-pub bytes_after : (text : List ℕ) (b n s : ℕ) → length text < 2 ^ 63 → n ≡ 1 + length (last_line text) → is_line_feed b ≡ false → s ≡ min (n + 1) (2 ^ 64 - 1) → s ≡ 1 + length (last_line (text ++ b ∷ []))
-bytes_after text b n s short is h e =
-    omega (arith, ap length (last_line_more text b h), length-append (last_line text) (b ∷ []), last_line_within text)

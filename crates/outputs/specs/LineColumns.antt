@@ -16,18 +16,6 @@ last_line text = after_last is_line_feed text
 unfoldable pub place_behind : List ℕ → LineColumn
 place_behind text = record { line = 1 + count_by is_line_feed text; column = 1 + count_by is_char_start (last_line text) }
 
--- a line and a column, which counts bytes, are not past the end of a text
-abbrev pub ReachesPlace : ℕ → ℕ → List ℕ → Type 0
-ReachesPlace line column text = (line ≤ (place_behind text).line) × (column ≤ 1 + length (last_line text))
-
--- the place behind the shortest beginning of a text that reaches a line and a column in bytes, or behind the whole text where none does
-pub record IsPlaceNamed (text : List ℕ) (line column : ℕ) (place : LineColumn) : Type 0 where
-  pub end : ℕ
-  pub within : end ≤ length text
-  pub is : place ≡ place_behind (take end text)
-  pub reaches : end < length text → ReachesPlace line column (take end text)
-  pub shortest : (k : ℕ) → k < end → ¬ ReachesPlace line column (take k text)
-
 -- an offset beside its number
 abbrev pub offset_of : ℕ × ℕ → ℕ
 offset_of e = e.0

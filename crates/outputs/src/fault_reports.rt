@@ -6,6 +6,7 @@ mod places;
 mod remedies;
 mod report;
 mod steps;
+mod unexpected;
 mod written;
 
 pub use features::Format;

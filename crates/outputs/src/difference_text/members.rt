@@ -15,8 +15,7 @@ pub struct MemberChange {
     pub new: Option<String>,
 }
 
-/// The properties that differ, with their values: first those that the old feature has, in the byte order of their
-/// names, then those that only the new one has.
+/// The properties that differ, with their values, in the byte order of their names.
 pub(crate) fn member_changes(
     alloc: Global,
     old: &Props,
@@ -36,6 +35,7 @@ pub(crate) fn member_changes(
     };
     push_changed(alloc, &mut changes, olds, news)?;
     push_new(alloc, &mut changes, olds, news)?;
+    changes.sort_unstable_by(|one, other| one.name.cmp(&other.name));
     Ok(changes)
 }
 

@@ -1,5 +1,5 @@
 //! Lines and columns of a text, both from 1, columns in characters.
-ghost use Rattle.outputs.specs.LineColumns.{IsNumbered, IsPlaceNamed, IsPlacedIn, offset_of, place_behind};
+ghost use Rattle.outputs.specs.LineColumns.{IsNumbered, IsPlacedIn, offset_of, place_behind};
 ghost use Rattle.std.specs.List.Sorted.{IsNonDecreasingBy};
 ghost use Rattle.std.specs.Prelude.{◌≡◌, ◌+◌, ◌^◌, ◌<◌, ◌≤◌, [], ◌∷◌, ◌++◌, ℕ, All, IfOk, List, Some, length, slice_get, take, vec_len};
 
@@ -50,24 +50,11 @@ fn place_after(place: LineColumn, bytes: &[u8]) -> LineColumn
     place
 }
 
-/// The place that a line and a column name, where columns count bytes.
-pub fn place_at(text: &[u8], line: usize, column: usize) -> LineColumn
-    ensures { IsPlaceNamed text.now line column result }
+/// The place of a byte of a text, or of its end.
+pub fn place_at(text: &[u8], at: usize) -> LineColumn
+    ensures { at ≤ length text.now → result ≡ place_behind (take at text.now) }
 {
-    let mut here = LineColumn::first();
-    let mut byte_column = 1usize;
-    for byte in text {
-        if here.line >= line && byte_column >= column {
-            break;
-        }
-        here = here.after(*byte);
-        byte_column = if *byte == b'\n' {
-            1
-        } else {
-            byte_column.saturating_add(1)
-        };
-    }
-    here
+    place_after(LineColumn::first(), text.get(..at).unwrap_or(text))
 }
 
 /// The place of each of some bytes of a text, found in one pass.

@@ -8,7 +8,7 @@ use json::{Reader, Scratch, Token};
 use std::alloc::Global;
 
 /// How deep values may nest in `serde_json`.
-const DEEPEST: usize = 127;
+pub const DEEPEST: usize = 127;
 
 /// The members that an object may lack.
 const REQUIRED: [&str; 9] = [

@@ -11,6 +11,7 @@ ghost use Rattle.std.specs.Prelude.{◌≡◌, All, IfOk, IfSome, false, map, op
 use crate::fault_reports::features::{Format, id_at, member_at};
 use crate::fault_reports::line_columns::{LineColumn, line_columns, place_at};
 use crate::fault_reports::places::places;
+use crate::fault_reports::unexpected::unexpected_token;
 use faults::{Fault, FaultKind, OutOfMemory, Step};
 use serde_json::Value;
 use sinks::Kept;
@@ -135,7 +136,7 @@ fn value_and_places(
                 return Err(OutOfMemory);
             }
             let mut places = Vec::new(alloc);
-            places.push(place_at(bytes, error.line(), error.column()))?;
+            places.push(place_at(bytes, unexpected_token(alloc, bytes)?))?;
             Ok((Value::Null, places))
         }
     }
