@@ -8,7 +8,7 @@ use thiserror::Error;
 const STANDARD_INPUT: &str = "-";
 
 /// Why a file gave no bytes.
-#[derive(Clone, Copy, Debug, PartialEq, Eq, Error)]
+#[derive(Clone, Copy, Debug, Error)]
 pub enum FileFault {
     /// The file is not there, or can't be read.
     #[error("can't be read")]
@@ -19,7 +19,7 @@ pub enum FileFault {
 }
 
 /// Why there is no file to write to.
-#[derive(Clone, Copy, Debug, PartialEq, Eq, Error)]
+#[derive(Clone, Copy, Debug, Error)]
 pub enum OutputFault {
     /// A file of that name is there.
     #[error("is there")]
