@@ -3,7 +3,7 @@
 mod rows;
 
 use clap::{Arg, ArgAction, ArgMatches, Command, Error};
-use rows::{ASKING, ArgumentRow, COMMON, CommandRow, Form, MAKING};
+use rows::{ASKING, ArgumentRow, COMMON, CommandRow, Form, JOINING, MAKING};
 use std::alloc::{AllocError, Global};
 
 const ABOUT: &str = "Builds, checks, merges and queries TopoJSON topologies on whole-number grids
@@ -46,26 +46,36 @@ fn among<'a>(argument: Arg<'a>, words: &'a [&'a str]) -> Arg<'a> {
         .default_value(words.first().copied().unwrap_or(""))
 }
 
+/// An argument that is given by its place.
+fn by_place<'a>(argument: Arg<'a>) -> Arg<'a> {
+    argument.required(true).action(ArgAction::Set)
+}
+
+/// An argument that is given by its name, with what its form says beside the value.
+fn with_rule<'a>(argument: Arg<'a>, form: Form) -> Result<Arg<'a>, AllocError> {
+    match form {
+        Form::Needed(_) => Ok(argument.required(true)),
+        Form::NeededWithout(_, other) => argument.required_unless_present(other),
+        Form::ValueNotWith(_, other) => argument.conflicts_with(other),
+        Form::Lettered(letter, _) => Ok(argument.short(letter)),
+        Form::OneOf(_, words) => Ok(among(argument, words)),
+        Form::FlagWith(other) => argument.requires_arg(other),
+        Form::Word | Form::Words | Form::Value(_) | Form::Flag => Ok(argument),
+    }
+}
+
 /// An argument with what its form says.
 fn with_form<'a>(argument: Arg<'a>, name: &'a str, form: Form) -> Result<Arg<'a>, AllocError> {
     match form {
-        Form::Word => Ok(argument.required(true).action(ArgAction::Set)),
-        Form::Words => Ok(
-            argument
-                .required(true)
-                .num_args(1..)
-                .action(ArgAction::Append),
-        ),
-        Form::Needed(called) => Ok(value(argument, name, called).required(true)),
-        Form::NeededWithout(called, other) => value(argument, name, called).required_unless_present(
-            other,
-        ),
-        Form::Value(called) => Ok(value(argument, name, called)),
-        Form::ValueNotWith(called, other) => value(argument, name, called).conflicts_with(other),
-        Form::Lettered(letter, called) => Ok(value(argument, name, called).short(letter)),
-        Form::OneOf(called, words) => Ok(among(value(argument, name, called), words)),
-        Form::Flag => Ok(flag(argument, name)),
-        Form::FlagWith(other) => flag(argument, name).requires_arg(other),
+        Form::Word => Ok(by_place(argument)),
+        Form::Words => Ok(by_place(argument).num_args(1..).action(ArgAction::Append)),
+        Form::Needed(called)
+        | Form::NeededWithout(called, _)
+        | Form::Value(called)
+        | Form::ValueNotWith(called, _)
+        | Form::Lettered(_, called)
+        | Form::OneOf(called, _) => with_rule(value(argument, name, called), form),
+        Form::Flag | Form::FlagWith(_) => with_rule(flag(argument, name), form),
     }
 }
 
@@ -120,8 +130,9 @@ fn with_commands<'a>(
 }
 
 fn topotool<'a>(alloc: Global) -> Result<Command<'a>, AllocError> {
-    let making = with_commands(alloc, program(alloc), MAKING)?;
-    with_commands(alloc, making, ASKING)
+    let program = with_commands(alloc, program(alloc), MAKING)?;
+    let program = with_commands(alloc, program, JOINING)?;
+    with_commands(alloc, program, ASKING)
 }
 
 /// What the words ask for. The first word is the program's name.

@@ -1,7 +1,7 @@
 //! The files that a command reads, and the one that it writes.
 use crate::refusal::{Refusal, Usage};
 use sinks::Refused;
-use std::alloc::Global;
+use std::alloc::{AllocError, Global};
 use thiserror::Error;
 
 /// The file word that stands for standard input.
@@ -30,6 +30,12 @@ pub enum OutputFault {
     /// There is no memory for it.
     #[error("out of memory")]
     OutOfMemory,
+}
+
+impl From<AllocError> for OutputFault {
+    fn from(_error: AllocError) -> OutputFault {
+        OutputFault::OutOfMemory
+    }
 }
 
 /// What is there under the name of an output.

@@ -123,14 +123,18 @@ fn with_rewind<'a>(alloc: Global, command: Command<'a>) -> Result<Command<'a>, A
     )
 }
 
-fn togrid<'a>(alloc: Global) -> Result<Command<'a>, AllocError> {
-    let program = Command::new(alloc, "togrid")
+/// The program with its files, without options.
+fn program<'a>(alloc: Global) -> Result<Command<'a>, AllocError> {
+    Command::new(alloc, "togrid")
         .about(ABOUT)
         .after_help(AFTER)
         .version(VERSION)
         .arg_required_else_help(true)
-        .arg(files(alloc))?;
-    let program = with_grid(alloc, with_tasks(alloc, program)?)?;
+        .arg(files(alloc))
+}
+
+fn togrid<'a>(alloc: Global) -> Result<Command<'a>, AllocError> {
+    let program = with_grid(alloc, with_tasks(alloc, program(alloc)?)?)?;
     let program = with_numbers(alloc, with_outputs(alloc, program)?)?;
     with_rewind(alloc, with_shapes(alloc, program)?)
 }

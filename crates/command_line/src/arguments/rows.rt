@@ -86,11 +86,14 @@ pub(crate) const COMMON: &[ArgumentRow] = &[
     ),
 ];
 
-/// The commands, in the order in which help names them: those that make or validate topologies ..
-pub(crate) const MAKING: &[CommandRow] = &[BUILD, CHECK, FAULTS, MERGE, REMOVE];
+/// The commands, in the order in which help names them: those that make a topology of files, or validate them ..
+pub(crate) const MAKING: &[CommandRow] = &[BUILD, CHECK, FAULTS];
 
-/// .. and those that ask about them.
-pub(crate) const ASKING: &[CommandRow] = &[DIFF, FEATURE, MESH, NEIGHBORS, INFO];
+/// .. those that take several topologies ..
+pub(crate) const JOINING: &[CommandRow] = &[MERGE, REMOVE, DIFF];
+
+/// .. and those that ask about one.
+pub(crate) const ASKING: &[CommandRow] = &[FEATURE, MESH, NEIGHBORS, INFO];
 
 const BUILD: CommandRow = CommandRow {
     name: "build",
