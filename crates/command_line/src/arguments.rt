@@ -2,7 +2,7 @@
 
 mod rows;
 
-use clap::{Arg, ArgAction, ArgMatches, Command, Error};
+use clap::{Arg, ArgMatches, Command, Error};
 use rows::{ASKING, ArgumentRow, COMMON, CommandRow, Form, JOINING, MAKING};
 use std::alloc::{AllocError, Global};
 
@@ -25,19 +25,6 @@ Status: 0 done, 1 `check` says no or `diff` finds a difference, 2 wrong usage,
 /// What `--version` prints behind the program's name.
 const VERSION: &str = "0.1.0";
 
-/// An argument that is given by its name, with a value that help calls by another.
-fn value<'a>(argument: Arg<'a>, name: &'a str, called: &'a str) -> Arg<'a> {
-    argument
-        .long(name)
-        .value_name(called)
-        .action(ArgAction::Set)
-}
-
-/// An argument that is given by its name alone.
-fn flag<'a>(argument: Arg<'a>, name: &'a str) -> Arg<'a> {
-    argument.long(name).action(ArgAction::SetTrue)
-}
-
 /// Lets no value through but these words, which help does not list. The first is taken where there is none.
 fn among<'a>(argument: Arg<'a>, words: &'a [&'a str]) -> Arg<'a> {
     argument
@@ -46,41 +33,56 @@ fn among<'a>(argument: Arg<'a>, words: &'a [&'a str]) -> Arg<'a> {
         .default_value(words.first().copied().unwrap_or(""))
 }
 
-/// An argument that is given by its place.
-fn by_place<'a>(argument: Arg<'a>) -> Arg<'a> {
-    argument.required(true).action(ArgAction::Set)
+/// An argument with its name, where the words give it by that, and what help calls its value.
+fn with_name<'a>(argument: Arg<'a>, name: &'a str, form: Form) -> Arg<'a> {
+    if form.is_by_place() {
+        return argument;
+    }
+    match form.called() {
+        Some(called) => argument.long(name).value_name(called),
+        None => argument.long(name),
+    }
 }
 
-/// An argument that is given by its name, with what its form says beside the value.
-fn with_rule<'a>(argument: Arg<'a>, form: Form) -> Result<Arg<'a>, AllocError> {
+/// An argument with the letter that stands for its name.
+fn with_letter<'a>(argument: Arg<'a>, form: Form) -> Arg<'a> {
     match form {
-        Form::Needed(_) => Ok(argument.required(true)),
+        Form::Lettered(letter, _) => argument.short(letter),
+        _ => argument,
+    }
+}
+
+/// An argument with how many values it takes, and which.
+fn with_values<'a>(argument: Arg<'a>, form: Form) -> Arg<'a> {
+    match form {
+        Form::Words => argument.num_args(1..),
+        Form::OneOf(_, words) => among(argument, words),
+        _ => argument,
+    }
+}
+
+/// An argument with what its form says of another one.
+fn with_other<'a>(argument: Arg<'a>, form: Form) -> Result<Arg<'a>, AllocError> {
+    match form {
         Form::NeededWithout(_, other) => argument.required_unless_present(other),
         Form::ValueNotWith(_, other) => argument.conflicts_with(other),
-        Form::Lettered(letter, _) => Ok(argument.short(letter)),
-        Form::OneOf(_, words) => Ok(among(argument, words)),
         Form::FlagWith(other) => argument.requires_arg(other),
-        Form::Word | Form::Words | Form::Value(_) | Form::Flag => Ok(argument),
+        _ => Ok(argument),
     }
 }
 
-/// An argument with what its form says.
-fn with_form<'a>(argument: Arg<'a>, name: &'a str, form: Form) -> Result<Arg<'a>, AllocError> {
-    match form {
-        Form::Word => Ok(by_place(argument)),
-        Form::Words => Ok(by_place(argument).num_args(1..).action(ArgAction::Append)),
-        Form::Needed(called)
-        | Form::NeededWithout(called, _)
-        | Form::Value(called)
-        | Form::ValueNotWith(called, _)
-        | Form::Lettered(_, called)
-        | Form::OneOf(called, _) => with_rule(value(argument, name, called), form),
-        Form::Flag | Form::FlagWith(_) => with_rule(flag(argument, name), form),
-    }
+/// An argument before its name is there.
+fn without_name<'a>(alloc: Global, row: &ArgumentRow) -> Arg<'a> {
+    Arg::new(alloc, row.name)
+        .help(row.help)
+        .required(row.form.is_needed())
+        .action(row.form.action())
 }
 
 fn argument<'a>(alloc: Global, row: &ArgumentRow) -> Result<Arg<'a>, AllocError> {
-    with_form(Arg::new(alloc, row.name).help(row.help), row.name, row.form)
+    let argument = with_name(without_name(alloc, row), row.name, row.form);
+    let argument = with_values(with_letter(argument, row.form), row.form);
+    with_other(argument, row.form)
 }
 
 /// A command of what its help prints in front and behind, without arguments.
@@ -129,10 +131,24 @@ fn with_commands<'a>(
     Ok(program)
 }
 
-fn topotool<'a>(alloc: Global) -> Result<Command<'a>, AllocError> {
-    let program = with_commands(alloc, program(alloc), MAKING)?;
-    let program = with_commands(alloc, program, JOINING)?;
+/// The commands that make a topology of files, or validate them.
+fn with_making<'a>(alloc: Global, program: Command<'a>) -> Result<Command<'a>, AllocError> {
+    with_commands(alloc, program, MAKING)
+}
+
+/// The commands that take several topologies.
+fn with_joining<'a>(alloc: Global, program: Command<'a>) -> Result<Command<'a>, AllocError> {
+    with_commands(alloc, program, JOINING)
+}
+
+/// The commands that ask about a topology.
+fn with_asking<'a>(alloc: Global, program: Command<'a>) -> Result<Command<'a>, AllocError> {
     with_commands(alloc, program, ASKING)
+}
+
+fn topotool<'a>(alloc: Global) -> Result<Command<'a>, AllocError> {
+    let program = with_making(alloc, program(alloc))?;
+    with_asking(alloc, with_joining(alloc, program)?)
 }
 
 /// What the words ask for. The first word is the program's name.

@@ -1,4 +1,5 @@
 //! The commands and their arguments, as rows.
+use clap::ArgAction;
 
 /// A command.
 #[derive(Clone, Copy)]
@@ -43,6 +44,38 @@ pub(crate) enum Form {
     Flag,
     /// The same, which wants another argument beside it.
     FlagWith(&'static str),
+}
+
+impl Form {
+    pub(crate) fn is_by_place(self) -> bool {
+        matches!(self, Form::Word | Form::Words)
+    }
+
+    /// Whether it has to be there, whatever else is.
+    pub(crate) fn is_needed(self) -> bool {
+        matches!(self, Form::Word | Form::Words | Form::Needed(_))
+    }
+
+    pub(crate) fn action(self) -> ArgAction {
+        match self {
+            Form::Words => ArgAction::Append,
+            Form::Flag | Form::FlagWith(_) => ArgAction::SetTrue,
+            _ => ArgAction::Set,
+        }
+    }
+
+    /// What help calls the value, where there is one.
+    pub(crate) fn called(self) -> Option<&'static str> {
+        match self {
+            Form::Needed(called)
+            | Form::NeededWithout(called, _)
+            | Form::Value(called)
+            | Form::ValueNotWith(called, _)
+            | Form::Lettered(_, called)
+            | Form::OneOf(called, _) => Some(called),
+            Form::Word | Form::Words | Form::Flag | Form::FlagWith(_) => None,
+        }
+    }
 }
 
 /// An argument's row: its name, form and help.
