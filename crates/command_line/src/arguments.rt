@@ -38,7 +38,7 @@ fn with_name<'a>(argument: Arg<'a>, name: &'a str, form: Form) -> Arg<'a> {
     if form.is_by_place() {
         return argument;
     }
-    match form.called() {
+    match form.value_name() {
         Some(called) => argument.long(name).value_name(called),
         None => argument.long(name),
     }

@@ -65,7 +65,7 @@ impl Form {
     }
 
     /// What help calls the value, where there is one.
-    pub(crate) fn called(self) -> Option<&'static str> {
+    pub(crate) fn value_name(self) -> Option<&'static str> {
         match self {
             Form::Needed(called)
             | Form::NeededWithout(called, _)
