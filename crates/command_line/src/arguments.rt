@@ -2,8 +2,8 @@
 
 mod rows;
 
-use clap::{Arg, ArgAction, ArgMatches, Command, Error};
-use rows::{ASKING, ArgumentRow, COMMON, CommandRow, Form, MAKING};
+use clap::{Arg, ArgMatches, Command, Error};
+use rows::{ASKING, ArgumentRow, COMMON, CommandRow, Form, JOINING, MAKING};
 use std::alloc::{AllocError, Global};
 
 const ABOUT: &str = "Builds, checks, merges and queries TopoJSON topologies on whole-number grids
@@ -25,19 +25,6 @@ Status: 0 done, 1 `check` says no or `diff` finds a difference, 2 wrong usage,
 /// What `--version` prints behind the program's name.
 const VERSION: &str = "0.1.0";
 
-/// An argument that is given by its name, with a value that help calls by another.
-fn value<'a>(argument: Arg<'a>, name: &'a str, called: &'a str) -> Arg<'a> {
-    argument
-        .long(name)
-        .value_name(called)
-        .action(ArgAction::Set)
-}
-
-/// An argument that is given by its name alone.
-fn flag<'a>(argument: Arg<'a>, name: &'a str) -> Arg<'a> {
-    argument.long(name).action(ArgAction::SetTrue)
-}
-
 /// Lets no value through but these words, which help does not list. The first is taken where there is none.
 fn among<'a>(argument: Arg<'a>, words: &'a [&'a str]) -> Arg<'a> {
     argument
@@ -46,31 +33,56 @@ fn among<'a>(argument: Arg<'a>, words: &'a [&'a str]) -> Arg<'a> {
         .default_value(words.first().copied().unwrap_or(""))
 }
 
-/// An argument with what its form says.
-fn with_form<'a>(argument: Arg<'a>, name: &'a str, form: Form) -> Result<Arg<'a>, AllocError> {
-    match form {
-        Form::Word => Ok(argument.required(true).action(ArgAction::Set)),
-        Form::Words => Ok(
-            argument
-                .required(true)
-                .num_args(1..)
-                .action(ArgAction::Append),
-        ),
-        Form::Needed(called) => Ok(value(argument, name, called).required(true)),
-        Form::NeededWithout(called, other) => value(argument, name, called).required_unless_present(
-            other,
-        ),
-        Form::Value(called) => Ok(value(argument, name, called)),
-        Form::ValueNotWith(called, other) => value(argument, name, called).conflicts_with(other),
-        Form::Lettered(letter, called) => Ok(value(argument, name, called).short(letter)),
-        Form::OneOf(called, words) => Ok(among(value(argument, name, called), words)),
-        Form::Flag => Ok(flag(argument, name)),
-        Form::FlagWith(other) => flag(argument, name).requires_arg(other),
+/// An argument with its name, where the words give it by that, and what help calls its value.
+fn with_name<'a>(argument: Arg<'a>, name: &'a str, form: Form) -> Arg<'a> {
+    if form.is_by_place() {
+        return argument;
+    }
+    match form.value_name() {
+        Some(called) => argument.long(name).value_name(called),
+        None => argument.long(name),
     }
 }
 
+/// An argument with the letter that stands for its name.
+fn with_letter<'a>(argument: Arg<'a>, form: Form) -> Arg<'a> {
+    match form {
+        Form::Lettered(letter, _) => argument.short(letter),
+        _ => argument,
+    }
+}
+
+/// An argument with how many values it takes, and which.
+fn with_values<'a>(argument: Arg<'a>, form: Form) -> Arg<'a> {
+    match form {
+        Form::Words => argument.num_args(1..),
+        Form::OneOf(_, words) => among(argument, words),
+        _ => argument,
+    }
+}
+
+/// An argument with what its form says of another one.
+fn with_other<'a>(argument: Arg<'a>, form: Form) -> Result<Arg<'a>, AllocError> {
+    match form {
+        Form::NeededWithout(_, other) => argument.required_unless_present(other),
+        Form::ValueNotWith(_, other) => argument.conflicts_with(other),
+        Form::FlagWith(other) => argument.requires_arg(other),
+        _ => Ok(argument),
+    }
+}
+
+/// An argument before its name is there.
+fn without_name<'a>(alloc: Global, row: &ArgumentRow) -> Arg<'a> {
+    Arg::new(alloc, row.name)
+        .help(row.help)
+        .required(row.form.is_needed())
+        .action(row.form.action())
+}
+
 fn argument<'a>(alloc: Global, row: &ArgumentRow) -> Result<Arg<'a>, AllocError> {
-    with_form(Arg::new(alloc, row.name).help(row.help), row.name, row.form)
+    let argument = with_name(without_name(alloc, row), row.name, row.form);
+    let argument = with_values(with_letter(argument, row.form), row.form);
+    with_other(argument, row.form)
 }
 
 /// A command of what its help prints in front and behind, without arguments.
@@ -119,9 +131,24 @@ fn with_commands<'a>(
     Ok(program)
 }
 
+/// The commands that make a topology of files, or validate them.
+fn with_making<'a>(alloc: Global, program: Command<'a>) -> Result<Command<'a>, AllocError> {
+    with_commands(alloc, program, MAKING)
+}
+
+/// The commands that take several topologies.
+fn with_joining<'a>(alloc: Global, program: Command<'a>) -> Result<Command<'a>, AllocError> {
+    with_commands(alloc, program, JOINING)
+}
+
+/// The commands that ask about a topology.
+fn with_asking<'a>(alloc: Global, program: Command<'a>) -> Result<Command<'a>, AllocError> {
+    with_commands(alloc, program, ASKING)
+}
+
 fn topotool<'a>(alloc: Global) -> Result<Command<'a>, AllocError> {
-    let making = with_commands(alloc, program(alloc), MAKING)?;
-    with_commands(alloc, making, ASKING)
+    let program = with_making(alloc, program(alloc))?;
+    with_asking(alloc, with_joining(alloc, program)?)
 }
 
 /// What the words ask for. The first word is the program's name.

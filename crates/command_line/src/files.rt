@@ -1,14 +1,14 @@
 //! The files that a command reads, and the one that it writes.
 use crate::refusal::{Refusal, Usage};
 use sinks::Refused;
-use std::alloc::Global;
+use std::alloc::{AllocError, Global};
 use thiserror::Error;
 
 /// The file word that stands for standard input.
 const STANDARD_INPUT: &str = "-";
 
 /// Why a file gave no bytes.
-#[derive(Clone, Copy, Debug, PartialEq, Eq, Error)]
+#[derive(Clone, Copy, Debug, Error)]
 pub enum FileFault {
     /// The file is not there, or can't be read.
     #[error("can't be read")]
@@ -19,7 +19,7 @@ pub enum FileFault {
 }
 
 /// Why there is no file to write to.
-#[derive(Clone, Copy, Debug, PartialEq, Eq, Error)]
+#[derive(Clone, Copy, Debug, Error)]
 pub enum OutputFault {
     /// A file of that name is there.
     #[error("is there")]
@@ -30,6 +30,12 @@ pub enum OutputFault {
     /// There is no memory for it.
     #[error("out of memory")]
     OutOfMemory,
+}
+
+impl From<AllocError> for OutputFault {
+    fn from(_error: AllocError) -> OutputFault {
+        OutputFault::OutOfMemory
+    }
 }
 
 /// What is there under the name of an output.

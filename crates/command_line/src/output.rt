@@ -143,11 +143,11 @@ impl<'m, F: Files, O: Sink> Write for Output<'m, F, O> {
 }
 
 /// Where the output of a name is written.
-fn place_of_word<'a, F: Files>(
+fn place_of_word<F: Files>(
     alloc: Global,
     files: &mut F,
     name: &str,
-) -> Result<OutputPlace, Refusal<'a>> {
+) -> Result<OutputPlace, OutputFault> {
     if is_standard(Some(name)) {
         return Ok(OutputPlace::Standard);
     }
@@ -161,24 +161,36 @@ fn place_of_word<'a, F: Files>(
 }
 
 /// Makes a file in the folder of the one of a name, under the first name that no other file has.
-fn create_beside<'a, F: Files>(
+fn create_beside<F: Files>(
     alloc: Global,
     files: &mut F,
     name: String,
-) -> Result<Replacing, Refusal<'a>> {
+) -> Result<Replacing, OutputFault> {
     for number in 0..MOST_NAMES {
-        let short = short_name(alloc, number)?;
-        if name.as_str().ends_with(short.as_str()) {
-            continue;
-        }
-        let written = path_beside(alloc, name.as_str(), short.as_str())?;
-        match files.create_output(written.as_str(), name.as_str()) {
-            Ok(()) => return Ok(Replacing { written, name }),
-            Err(OutputFault::IsThere) => {}
-            Err(fault) => return Err(Refusal::from(fault)),
+        if let Some(written) = create_numbered(alloc, files, name.as_str(), number)? {
+            return Ok(Replacing { written, name });
         }
     }
-    Err(Refusal::Write)
+    Err(OutputFault::IsThere)
+}
+
+/// Makes a file in the folder of the one of a name, under the name with a number; none where another file has that.
+fn create_numbered<F: Files>(
+    alloc: Global,
+    files: &mut F,
+    name: &str,
+    number: u32,
+) -> Result<Option<String>, OutputFault> {
+    let short = short_name(alloc, number)?;
+    if name.ends_with(short.as_str()) {
+        return Ok(None);
+    }
+    let written = path_beside(alloc, name, short.as_str())?;
+    match files.create_output(written.as_str(), name) {
+        Ok(()) => Ok(Some(written)),
+        Err(OutputFault::IsThere) => Ok(None),
+        Err(fault) => Err(fault),
+    }
 }
 
 /// A name with a number behind it. It is short, so that an output may have the longest name that the system allows.
@@ -207,12 +219,16 @@ pub fn write_output<'a, F: Files, O: Sink>(
     text: &[u8],
 ) -> Result<(), Refusal<'a>> {
     let mut output = Output::open(alloc, files, standard, word)?;
-    let printed = match output.write_all(text) {
-        Ok(()) => Ok(Status::Done),
-        Err(_) => Err(Refusal::Write),
-    };
+    let printed = print_text(&mut output, text);
     match output.close(printed) {
         Ok(_) => Ok(()),
         Err(refusal) => Err(refusal),
+    }
+}
+
+fn print_text<'a, W: Write>(output: &mut W, text: &[u8]) -> Result<Status, Refusal<'a>> {
+    match output.write_all(text) {
+        Ok(()) => Ok(Status::Done),
+        Err(_) => Err(Refusal::Write),
     }
 }

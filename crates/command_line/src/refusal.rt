@@ -13,7 +13,7 @@ use sinks::{Sink, WriteFault};
 use std::alloc::{AllocError, AllocFailed};
 
 /// What is wrong with the words of a command line, where clap lets them through.
-#[derive(Clone, Copy, PartialEq, Eq, Debug)]
+#[derive(Clone, Copy)]
 pub enum Usage<'a> {
     /// The word after `--grid` is no transform.
     BadGrid(&'a str),

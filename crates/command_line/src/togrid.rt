@@ -123,16 +123,26 @@ fn with_rewind<'a>(alloc: Global, command: Command<'a>) -> Result<Command<'a>, A
     )
 }
 
-fn togrid<'a>(alloc: Global) -> Result<Command<'a>, AllocError> {
-    let program = Command::new(alloc, "togrid")
+/// The program with its files, without options.
+fn program<'a>(alloc: Global) -> Result<Command<'a>, AllocError> {
+    Command::new(alloc, "togrid")
         .about(ABOUT)
         .after_help(AFTER)
         .version(VERSION)
         .arg_required_else_help(true)
-        .arg(files(alloc))?;
-    let program = with_grid(alloc, with_tasks(alloc, program)?)?;
-    let program = with_numbers(alloc, with_outputs(alloc, program)?)?;
-    with_rewind(alloc, with_shapes(alloc, program)?)
+        .arg(files(alloc))
+}
+
+/// The options that say what becomes of what a map of whole numbers can't have.
+fn with_losses<'a>(alloc: Global, command: Command<'a>) -> Result<Command<'a>, AllocError> {
+    let command = with_numbers(alloc, command)?;
+    with_rewind(alloc, with_shapes(alloc, command)?)
+}
+
+fn togrid<'a>(alloc: Global) -> Result<Command<'a>, AllocError> {
+    let program = with_tasks(alloc, program(alloc)?)?;
+    let program = with_outputs(alloc, with_grid(alloc, program)?)?;
+    with_losses(alloc, program)
 }
 
 /// What the words ask for. The first word is the program's name.

@@ -1,4 +1,5 @@
 //! The commands and their arguments, as rows.
+use clap::ArgAction;
 
 /// A command.
 #[derive(Clone, Copy)]
@@ -45,6 +46,38 @@ pub(crate) enum Form {
     FlagWith(&'static str),
 }
 
+impl Form {
+    pub(crate) fn is_by_place(self) -> bool {
+        matches!(self, Form::Word | Form::Words)
+    }
+
+    /// Whether it has to be there, whatever else is.
+    pub(crate) fn is_needed(self) -> bool {
+        matches!(self, Form::Word | Form::Words | Form::Needed(_))
+    }
+
+    pub(crate) fn action(self) -> ArgAction {
+        match self {
+            Form::Words => ArgAction::Append,
+            Form::Flag | Form::FlagWith(_) => ArgAction::SetTrue,
+            _ => ArgAction::Set,
+        }
+    }
+
+    /// What help calls the value, where there is one.
+    pub(crate) fn value_name(self) -> Option<&'static str> {
+        match self {
+            Form::Needed(called)
+            | Form::NeededWithout(called, _)
+            | Form::Value(called)
+            | Form::ValueNotWith(called, _)
+            | Form::Lettered(_, called)
+            | Form::OneOf(called, _) => Some(called),
+            Form::Word | Form::Words | Form::Flag | Form::FlagWith(_) => None,
+        }
+    }
+}
+
 /// An argument's row: its name, form and help.
 macro_rules! argument {
     ($name:literal, $form:expr, $help:literal) => {
@@ -86,11 +119,14 @@ pub(crate) const COMMON: &[ArgumentRow] = &[
     ),
 ];
 
-/// The commands, in the order in which help names them: those that make or validate topologies ..
-pub(crate) const MAKING: &[CommandRow] = &[BUILD, CHECK, FAULTS, MERGE, REMOVE];
+/// The commands, in the order in which help names them: those that make a topology of files, or validate them ..
+pub(crate) const MAKING: &[CommandRow] = &[BUILD, CHECK, FAULTS];
 
-/// .. and those that ask about them.
-pub(crate) const ASKING: &[CommandRow] = &[DIFF, FEATURE, MESH, NEIGHBORS, INFO];
+/// .. those that take several topologies ..
+pub(crate) const JOINING: &[CommandRow] = &[MERGE, REMOVE, DIFF];
+
+/// .. and those that ask about one.
+pub(crate) const ASKING: &[CommandRow] = &[FEATURE, MESH, NEIGHBORS, INFO];
 
 const BUILD: CommandRow = CommandRow {
     name: "build",
