@@ -6,6 +6,7 @@ mod ids;
 mod inputs;
 mod merges;
 mod near;
+mod own_shard;
 mod removals;
 mod sessions;
 mod shards;

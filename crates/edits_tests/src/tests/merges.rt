@@ -14,7 +14,8 @@ use std::process::Abort;
 use std::test::Fail;
 use topo::Topology;
 
-fn texts(alloc: Global, list: &[&str]) -> Result<Vec<Vec<u8>>, Fail> {
+/// The bytes of texts.
+pub(crate) fn texts(alloc: Global, list: &[&str]) -> Result<Vec<Vec<u8>>, Fail> {
     let mut made = Vec::new(alloc);
     for text in list {
         made.push(text.as_bytes().to_vec(alloc)?)?;
