@@ -1,4 +1,4 @@
-use Rattle.std.proofs.Common.{◌≡◌, ◌++◌, ◌∙◌, ap, sym, true, false}
+use Rattle.std.proofs.Common.{◌++◌, ◌∙◌, ap, sym}
 use Rattle.faults.specs.Path.{index}
 use Rattle.reading.specs.Fault.{under}
 use Rattle.reading.specs.FaultLists.Found.{is_full, pairs_of}
