@@ -265,9 +265,13 @@ pub collection_read : (g : Transform) (x : Vec Feature Global) (ms : Members) �
 collection_read g x ms typed h = (rw (typed, h.1, h.2) refl, rw (typed, h.1) (zip_map plain (feature_of g) (elements h.0) x.items h.3))
 
 -- of one feature
-pub one_read : (g : Transform) (r : Root) (f : Feature) (fs : List Feature) (x : Plain) (ms : Members) → KnowsRootType (Some r) ms → root_faults g (object ms) r ≡ [] → features_by g (object ms) (Ok r) ≡ x ∷ [] → plain f ≡ x → fs ≡ f ∷ []
+pub one_read : (g : Transform) (r : Root) (fs : List Feature) (x : Plain) (ms : Members) → KnowsRootType (Some r) ms → root_faults g (object ms) r ≡ [] → features_by g (object ms) (Ok r) ≡ x ∷ [] → map plain fs ≡ x ∷ []
     → (geojson_faults g (object ms) ≡ []) × (map plain fs ≡ features_of g (object ms))
-one_read g r f fs x ms typed none by means only = (rw (typed, none) refl, rw (typed, by) (ap (map plain) only ∙ ap (λ y. y ∷ []) means))
+one_read g r fs x ms typed none by means = (rw (typed, none) refl, rw (typed, by) means)
+
+-- a list of one feature
+pub one_plain : (f : Feature) (fs : List Feature) (x : Plain) → plain f ≡ x → fs ≡ f ∷ [] → map plain fs ≡ x ∷ []
+one_plain f fs x means only = ap (map plain) only ∙ ap (λ y. y ∷ []) means
 
 -- ---- the text
 

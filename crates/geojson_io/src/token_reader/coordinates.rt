@@ -45,25 +45,18 @@ fn read_behind_empty<'a>(
     Ok(Coordinates::Groups(groups))
 }
 
-/// The coordinates that come next.
-pub fn read_coordinates<'a>(
+// Lists, or lists of lists, of which two brackets are behind.
+fn read_lists<'a>(
     alloc: Global,
     position: &Position,
     reader: &mut Reader<'a>,
     depth: usize,
 ) -> Result<Coordinates, Stop>
-    ensures read { IfOk result (λ n. Reads (nested_faults position.now.grid n) (CoordinatesMean position.now.grid) depth reader.old reader.new n) }
+    ensures { IfOk result (λ n. Reads (nested_faults position.now.grid n) (CoordinatesMean position.now.grid) depth (spec.begin_array ∷ spec.begin_array ∷ reader.old) reader.new n) }
 {
     let places = ListOf { of: *position };
     let lists = ListOf { of: places };
     let groups = ListOf { of: lists };
-    take_begin_array(reader, depth)?;
-    if reader.take_end_array() {
-        return Ok(Coordinates::Empty);
-    }
-    if let Some(x) = number_or_array(reader)? {
-        return Ok(Coordinates::Place(position.read_opened(alloc, x, reader, depth)?));
-    }
     if reader.take_end_array() {
         return read_behind_empty(alloc, position, reader, depth);
     }
@@ -77,4 +70,23 @@ pub fn read_coordinates<'a>(
         return Ok(Coordinates::Groups(groups.read_opened(alloc, x, reader, depth)?));
     }
     Err(Stop::Unread)
+}
+
+/// The coordinates that come next.
+pub fn read_coordinates<'a>(
+    alloc: Global,
+    position: &Position,
+    reader: &mut Reader<'a>,
+    depth: usize,
+) -> Result<Coordinates, Stop>
+    ensures read { IfOk result (λ n. Reads (nested_faults position.now.grid n) (CoordinatesMean position.now.grid) depth reader.old reader.new n) }
+{
+    take_begin_array(reader, depth)?;
+    if reader.take_end_array() {
+        return Ok(Coordinates::Empty);
+    }
+    if let Some(x) = number_or_array(reader)? {
+        return Ok(Coordinates::Place(position.read_opened(alloc, x, reader, depth)?));
+    }
+    read_lists(alloc, position, reader, depth)
 }

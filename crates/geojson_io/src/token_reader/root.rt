@@ -1,11 +1,12 @@
 //! Roots: a collection of features, a feature or a geometry, whose members come in any order.
-ghost use Rattle.geojson_io.specs.Features.{geojson_faults, features_of, bare};
+ghost use Rattle.geojson_io.specs.Features.{geojson_faults, features_of, feature_members, feature_of, bare};
 ghost use Rattle.geojson_io.specs.Geometries.{typed_geometry_faults, typed_form};
-ghost use Rattle.geojson_io.specs.TokenMembers.{KnowsCoordinates, KnowsFeatures, KnowsRoot};
+ghost use Rattle.geojson_io.specs.TokenMembers.{KnowsCoordinates, KnowsFeature, KnowsFeatures, KnowsRoot};
 ghost use Rattle.grid.specs.Place.{Transform};
 ghost use Rattle.reading.specs.Plain.{plain};
+ghost use Rattle.reading.specs.TokenParts.Members.{KnowsId};
 ghost use Rattle.serde_json.specs.Data.{Members, object};
-ghost use Rattle.std.specs.Prelude.{◌≡◌, [], map, IfOk};
+ghost use Rattle.std.specs.Prelude.{◌≡◌, [], ◌∷◌, Some, map, IfOk};
 
 use crate::reader::feature::FeatureElement;
 use crate::reader::position::Position;
@@ -110,32 +111,52 @@ fn feature_of_geometry(
     }
 }
 
+// The features of a collection at the root.
+fn features_of_collection(parts: CollectionParts) -> Result<Vec<Feature>, Stop>
+    ensures { IfOk result (λ fs. parts.features ≡ Some fs) }
+{
+    match parts.features {
+        Some(features) => Ok(features),
+        None => Err(Stop::Unread),
+    }
+}
+
+// A list of the one feature at the root.
+fn features_of_feature(alloc: Global, parts: FeatureParts) -> Result<Vec<Feature>, Stop>
+    requires { (ms : Members) × KnowsId parts.id ms }
+    ensures { IfOk result (λ fs. (g : Transform) (ms : Members) → KnowsFeature g parts.shape parts.id parts.props ms → (feature_members g (object ms) ≡ []) × (map plain fs.items ≡ feature_of g (object ms) ∷ [])) }
+{
+    let feature = feature_of_parts(alloc, parts)?;
+    single(alloc, feature)
+}
+
+// A list of the feature of a geometry at the root.
+fn features_of_geometry(
+    alloc: Global,
+    kind: GeometryType,
+    coordinates: Option<Coordinates>,
+) -> Result<Vec<Feature>, Stop>
+    ensures { IfOk result (λ fs. (g : Transform) (ms : Members) → KnowsCoordinates g coordinates ms → (typed_geometry_faults g kind (object ms) ≡ []) × (map plain fs.items ≡ bare (typed_form g kind (object ms)) ∷ [])) }
+{
+    match coordinates {
+        Some(coordinates) => {
+            let feature = feature_of_geometry(alloc, kind, coordinates)?;
+            single(alloc, feature)
+        }
+        None => Err(Stop::Unread),
+    }
+}
+
 fn features_of_members(alloc: Global, members: RootMembers) -> Result<Vec<Feature>, Stop>
     requires { (g : Transform) × (ms : Members) × KnowsRoot g members.kind members.collection.features members.feature.shape members.feature.id members.feature.props members.geometry.coordinates ms }
     ensures { IfOk result (λ fs. (g : Transform) (ms : Members) → KnowsRoot g members.kind members.collection.features members.feature.shape members.feature.id members.feature.props members.geometry.coordinates ms → (geojson_faults g (object ms) ≡ []) × (map plain fs.items ≡ features_of g (object ms))) }
 {
-    let RootMembers {
-        kind,
-        collection: CollectionParts { features },
-        feature,
-        geometry: GeometryParts { coordinates },
-    } = members;
-    match kind {
-        Some(Root::Collection) => match features {
-            Some(features) => Ok(features),
-            None => Err(Stop::Unread),
-        },
-        Some(Root::Feature) => {
-            let feature = feature_of_parts(alloc, feature)?;
-            single(alloc, feature)
+    match members.kind {
+        Some(Root::Collection) => features_of_collection(members.collection),
+        Some(Root::Feature) => features_of_feature(alloc, members.feature),
+        Some(Root::Geometry(kind)) => {
+            features_of_geometry(alloc, kind, members.geometry.coordinates)
         }
-        Some(Root::Geometry(kind)) => match coordinates {
-            Some(coordinates) => {
-                let feature = feature_of_geometry(alloc, kind, coordinates)?;
-                single(alloc, feature)
-            }
-            None => Err(Stop::Unread),
-        },
         None => Err(Stop::Unread),
     }
 }

@@ -1,11 +1,12 @@
 -- The grammar's loops, a turn at a time, under the conversion to data, where they go on. (serde_json proves the same for itself, and exports none of it.)
-use Rattle.std.proofs.Common.{◌≡◌, ℕ, ◌-◌, ◌<◌, ◌≤◌, List, [], length, Option, Some, None, option_map, refl, ap, ◌∙◌}
+use Rattle.std.proofs.Common.{◌≡◌, ℕ, ◌-◌, ◌<◌, ◌≤◌, List, [], length, Option, Some, None, option_map, option_and_then, MatchOption, false, is_some, refl, ap, ◌∙◌}
 use Rattle.json.specs.Token.{Token}
+use Rattle.json.specs.Lex.{tokens}
 use Rattle.json.specs.Json as json
 use Rattle.json.specs.Json.{Parse, parse_map, after_end_array, read_key, items, members}
 use Rattle.json.proofs.Grammar.{left, skip_value-shorter, items_end, items_more, members_end, members_more}
 use Rattle.serde_json.specs.Data.{Data, array, object, no_items, item, Members, no_members, put}
-use Rattle.serde_json.specs.Read.{of_json, of_items, of_members, converted}
+use Rattle.serde_json.specs.Read.{of_json, of_items, of_members, converted, max_depth, read}
 
 abbrev pick : {A : Type 0} → A → Option A → A
 pick d None = d
@@ -63,3 +64,14 @@ module _ (p : Parse json.Json) where
 -- a value takes a token at least
 pub gives_shorter : (depth : ℕ) (old new : List Token) (d : Data) → converted of_json (json.value depth old) ≡ Some (d, new) → length new < length old
 gives_shorter depth old new d given = let j = converted_some of_json (json.value depth old) d new given in skip_value-shorter depth old new (ap left j.1)
+
+-- where nothing is behind its first value, a text reads as that
+pub whole_text : (text : List ℕ) (d : Data) (new : List Token) → converted of_json (json.value max_depth (tokens text)) ≡ Some (d, new) → new ≡ [] → read text ≡ Some d
+whole_text text d new given none =
+    let j = converted_some of_json (json.value max_depth (tokens text)) d new given in
+    ap (λ o. option_and_then of_json (option_and_then (λ p. json.if_last p.0 p.1) o)) (j.1 ∙ ap (λ ts. Some (j.0, ts)) none) ∙ j.2
+
+-- what holds where there is no next token
+pub nothing_left : {A : Type 0} (o : Option A) (P : Type 0) (Q : A → Type 0) → false ≡ is_some o → MatchOption o P Q → P
+nothing_left None P Q none h = h
+nothing_left (Some a) P Q none h = absurd (cc)
