@@ -5,5 +5,5 @@ use Rattle.compare.proofs.comparison.recut_both.Goals as goal
 pub returns : goal.returns
 returns c = λ m n hm hn.
     compared {left = c.args.old.now} {right = c.args.new.now} c.in_ok-share.ensures c.in_ok-share-2.ensures c.into_parts-old_arcs.ensures.arcs c.into_parts-new_arcs.ensures.arcs
-    c.into_parts-old_arcs.ensures.layers c.into_parts-new_arcs.ensures.layers c.in_ok-both.ensures.refined c.in_ok-olds.ensures c.in_ok-news.ensures m n hm hn
-    (record { old = c.in_ok-olds.olds; new = c.in_ok-news.news }) refl refl
+    c.into_parts-old_arcs.ensures.layers c.into_parts-new_arcs.ensures.layers c.in_ok-both.ensures.refined c.in_ok-made.ensures.old c.in_ok-made.ensures.new m n hm hn
+    c.in_ok-made.made refl refl
