@@ -1,6 +1,6 @@
 //! Arcs that are in order already, with marks beside them.
 ghost use Rattle.chains.specs.Stored.{rises, with_marks};
-ghost use Rattle.std.specs.Prelude.{◌≡◌, IfOk};
+ghost use Rattle.std.specs.Prelude.{◌≡◌, ◌++◌, ◌∷◌, [], IfOk, OnOk};
 
 use crate::marking::first_mark;
 use crate::shared_positions::SharedPositions;
@@ -26,6 +26,19 @@ pub fn is_rising(arcs: &[Items<Pos>]) -> bool
     true
 }
 
+/// Puts an arc last, with its mark.
+fn push_marked(
+    alloc: Global,
+    made: &mut ArcList,
+    positions: Items<Pos>,
+    free: bool,
+) -> Result<(), AllocError>
+    ensures { OnOk result (made.new ≡ made.old ++ record { positions = positions; free = free } ∷ []) }
+{
+    let positions = SharedPositions::new(alloc, positions)?;
+    made.push(StoredArc { positions, free })
+}
+
 /// The arcs, each with its mark.
 pub(crate) fn marked_arcs(
     alloc: Global,
@@ -38,8 +51,7 @@ pub(crate) fn marked_arcs(
     let mut left = marks;
     for positions in arcs {
         let (free, others) = first_mark(left);
-        let positions = SharedPositions::new(alloc, positions)?;
-        made.push(StoredArc { positions, free })?;
+        push_marked(alloc, &mut made, positions, free)?;
         left = others;
     }
     Ok(made)

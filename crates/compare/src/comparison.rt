@@ -94,19 +94,37 @@ fn on_one_grid(old: &Topology, new: &Topology) -> bool
     old.grid() == new.grid()
 }
 
+/// The layers of both sides by the new arcs.
+fn comparison_by(
+    alloc: Global,
+    recut: &Recut,
+    old: Vec<Layer>,
+    new: Vec<Layer>,
+) -> Result<Comparison, OutOfMemory>
+    ensures old { IfOk result (λ c. c.old.items ≡ map_list (layer_recut recut.now.arcs.arcs recut.now.left) old.items) }
+    ensures new { IfOk result (λ c. c.new.items ≡ map_list (layer_recut recut.now.arcs.arcs recut.now.right) new.items) }
+{
+    let old = layers_by(alloc, recut, Side::Left, old)?;
+    let new = layers_by(alloc, recut, Side::Right, new)?;
+    Ok(Comparison { old, new })
+}
+
+/// Two topologies by the same arcs. They are passed by value: their layers are moved.
+fn recut_layers(alloc: Global, old: Topology, new: Topology) -> Result<Comparison, OutOfMemory>
+    ensures { IfOk result (λ c. (m n : Layers) → IsOf m old → IsOf n new → IsComparisonOf m n c) }
+{
+    let (old_arcs, old_layers) = old.into_parts();
+    let (new_arcs, new_layers) = new.into_parts();
+    let both = recut_owned(alloc, old_arcs, new_arcs)?;
+    let made = comparison_by(alloc, &both, old_layers, new_layers)?;
+    Ok(made)
+}
+
 /// Both topologies by the same arcs.
 fn recut_both(alloc: Global, old: &Topology, new: &Topology) -> Result<Comparison, OutOfMemory>
     ensures { IfOk result (λ c. (m n : Layers) → IsOf m old.now → IsOf n new.now → IsComparisonOf m n c) }
 {
-    let (old_arcs, old_layers) = old.share(alloc)?.into_parts();
-    let (new_arcs, new_layers) = new.share(alloc)?.into_parts();
-    let both = recut_owned(alloc, old_arcs, new_arcs)?;
-    let olds = layers_by(alloc, &both, Side::Left, old_layers)?;
-    let news = layers_by(alloc, &both, Side::Right, new_layers)?;
-    Ok(Comparison {
-        old: olds,
-        new: news,
-    })
+    recut_layers(alloc, old.share(alloc)?, new.share(alloc)?)
 }
 
 /// Prepares two topologies to be compared: the arcs of both are split at the junctions of both, once. Then two features

@@ -1,8 +1,13 @@
 //! Joining the arcs that are left of a table. Only the ends of arcs are looked at: they say which arc
 //! goes on from another, and walks along these give the runs that the new arcs are joined of.
+ghost use Rattle.chains.specs.Pieces.{chain_of};
+ghost use Rattle.chains.specs.Table.{AreLoopsOf, located};
 ghost use Rattle.grid.specs.declared.pos.Pos.{Pos};
+ghost use Rattle.heal_arcs.specs.HealedArcs.{put_all};
 ghost use Rattle.heal_arcs.specs.Healing.{IsLeftBy, IsRejoinedOf};
-ghost use Rattle.std.specs.Prelude.{◌≡◌, IfOk, length};
+ghost use Rattle.lines.specs.Turned.{list_cmp};
+ghost use Rattle.std.specs.Prelude.{◌≡◌, [], IfOk, length, map, replicate};
+ghost use Rattle.theory.specs.Arcs.{AreSortedOnce};
 ghost use Rattle.theory.specs.Geometry.{Geometry};
 
 use crate::choosing::numbers_of;
@@ -14,6 +19,18 @@ use chains::table::ArcTable;
 use faults::OutOfMemory;
 use grid::pos::Pos;
 use std::alloc::Global;
+
+/// The table of joined arcs, and the old arcs of each by its number, of which there were so many.
+fn from_joined(alloc: Global, joined: JoinedArcs, count: usize) -> Result<Rejoined, OutOfMemory>
+    ensures arcs { IfOk result (λ r. AreSortedOnce list_cmp (map chain_of joined.pieces.items) r.arcs.arcs) }
+    ensures loops { IfOk result (λ r. AreLoopsOf joined.pieces.items r.arcs.loops) }
+    ensures pieces { IfOk result (λ r. r.pieces ≡ put_all (map (located r.arcs.arcs) joined.pieces.items) joined.lists.items (replicate (length r.arcs.arcs) [])) }
+{
+    let JoinedArcs { pieces, lists } = joined;
+    let (arcs, refs) = ArcTable::with_refs(alloc, pieces)?;
+    let lists = by_numbers(alloc, &refs, lists, arcs.len())?;
+    Ok(Rejoined::from_parts(alloc, arcs, lists, count)?)
+}
 
 /// The arcs that are left of a table when some are taken out: those that stay, joined where no
 /// junction is left. `kept` says of each old arc whether it is used by what is left, and `ends` has
@@ -33,8 +50,7 @@ pub fn rejoin(
     let chosen = numbers_of(alloc, kept)?;
     let meeting = PseudoNodes::of(alloc, old, &chosen, ends)?;
     let runs = runs_of(alloc, &meeting, kept)?;
-    let JoinedArcs { pieces, lists } = joined_of(alloc, old, &meeting, runs)?;
-    let (arcs, refs) = ArcTable::with_refs(alloc, pieces)?;
-    let lists = by_numbers(alloc, &refs, lists, arcs.len())?;
-    Ok(Rejoined::from_parts(alloc, arcs, lists, old.len())?)
+    let joined = joined_of(alloc, old, &meeting, runs)?;
+    let made = from_joined(alloc, joined, old.len())?;
+    Ok(made)
 }

@@ -60,6 +60,21 @@ pub(crate) fn layers_recut(
     layers_rewritten(alloc, &SideLists { recut, side }, layers)
 }
 
+/// The layers of both sides by the new arcs.
+fn layers_of_sides(
+    alloc: Global,
+    recut: &Recut,
+    left: Vec<Layer>,
+    right: Vec<Layer>,
+) -> Result<(Vec<Layer>, Vec<Layer>), OutOfMemory>
+    ensures left { IfOk result (λ l. l.0.items ≡ map_list (layer_recut recut.now.arcs.arcs recut.now.left) left.items) }
+    ensures right { IfOk result (λ l. l.1.items ≡ map_list (layer_recut recut.now.arcs.arcs recut.now.right) right.items) }
+{
+    let left = layers_recut(alloc, recut, Side::Left, left)?;
+    let right = layers_recut(alloc, recut, Side::Right, right)?;
+    Ok((left, right))
+}
+
 /// Moves the first of some items to the end of a list.
 fn put_first<T: Drop>(items: &mut VecDeque<T>, list: &mut Vec<T>) -> Result<(), OutOfMemory>
     ensures rest { items.new.items ≡ drop 1 items.old.items }
@@ -254,10 +269,9 @@ fn unite(alloc: Global, left: Topology, right: Topology) -> Result<Topology, Out
     let (left_arcs, left_layers) = left.into_parts();
     let (right_arcs, right_layers) = right.into_parts();
     let cut = recut_owned(alloc, left_arcs, right_arcs)?;
-    let left_layers = layers_recut(alloc, &cut, Side::Left, left_layers)?;
-    let right_layers = layers_recut(alloc, &cut, Side::Right, right_layers)?;
+    let (lefts, rights) = layers_of_sides(alloc, &cut, left_layers, right_layers)?;
     let arcs = cut.into_arcs();
-    let layers = layers_of_both(alloc, &arcs, left_layers, right_layers)?;
+    let layers = layers_of_both(alloc, &arcs, lefts, rights)?;
     Ok(Topology::from_unmeasured_parts(grid, arcs, layers))
 }
 

@@ -157,6 +157,25 @@ fn layers_left<'a>(
     Ok(left)
 }
 
+/// The layers of a topology, beside its arcs, without the geometries whose features another one has. That one
+/// is passed by value: its layers are moved.
+fn layers_less<'a>(
+    alloc: Global,
+    topology: &'a Topology,
+    arcs: ArcTable,
+    removed: Topology,
+) -> Result<Vec<LayerLeft<'a>>, OutOfMemory>
+    requires { arcs ≡ topology.now.arcs }
+    ensures left { IfOk result (λ v. (m n : Layers) → IsOf m topology.now → IsOf n removed → all_lent v.items ≡ map_list (layer_less topology.now.arcs.arcs n) topology.now.layers) }
+    ensures some { IfOk result (λ v. (r : Layers) × (all_lent v.items ≡ map_list (layer_less topology.now.arcs.arcs r) topology.now.layers)) }
+{
+    let (removed_arcs, layers) = removed.into_parts();
+    let both = recut_owned(alloc, arcs, removed_arcs)?;
+    let others = layers_recut(alloc, &both, Side::Right, layers)?;
+    let left = layers_left(alloc, &both, topology.layers(), others)?;
+    Ok(left)
+}
+
 /// The layers of a topology without the geometries whose features another one has.
 pub(crate) fn layers_apart<'a>(
     alloc: Global,
@@ -166,9 +185,6 @@ pub(crate) fn layers_apart<'a>(
     ensures left { IfOk result (λ v. (m n : Layers) → IsOf m topology.now → IsOf n removed.now → all_lent v.items ≡ map_list (layer_less topology.now.arcs.arcs n) topology.now.layers) }
     ensures some { IfOk result (λ v. (r : Layers) × (all_lent v.items ≡ map_list (layer_less topology.now.arcs.arcs r) topology.now.layers)) }
 {
-    let (arcs, layers) = removed.share(alloc)?.into_parts();
-    let both = recut_owned(alloc, topology.arcs().share(alloc)?, arcs)?;
-    let others = layers_recut(alloc, &both, Side::Right, layers)?;
-    let left = layers_left(alloc, &both, topology.layers(), others)?;
-    Ok(left)
+    let removed = removed.share(alloc)?;
+    layers_less(alloc, topology, topology.arcs().share(alloc)?, removed)
 }

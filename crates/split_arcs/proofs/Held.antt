@@ -14,7 +14,7 @@ use Rattle.chains.specs.Placing.{pieces_under, whole_pieces}
 use Rattle.chains.specs.VertexFilter.{whole}
 use Rattle.chains.specs.declared.cutting.Piece.{Piece}
 use Rattle.chains.proofs.PartsHeld.{under_has}
-use Rattle.split_arcs.specs.Cutting.{pieces_from}
+use Rattle.split_arcs.specs.Cutting.{pieces_from, table_pieces}
 
 module _ (may : Pos → Bool) where
   from_held : (js : List Pos) (marks : List Bool) (n : ℕ) (qs : List Piece) → ((q : Piece) → Has q qs → Holds may q.chain) →
@@ -40,19 +40,16 @@ module _ (may : Pos → Bool) where
       ]
 
   -- the pieces of a table's arcs
-  of_table : (js : List Pos) (marks : List Bool) (t : Arcs) (arcs : List Piece) → arcs ≡ whole_pieces t → HoldAll may t.arcs →
-      (p : Piece) → Has p (joined (pieces_from js marks 0 arcs)) → Holds may p.chain
-  of_table js marks t arcs e h =
-      from_held js marks 0 arcs (λ q k. whole_held t h q (subst (Has q) e k))
+  of_table : (js : List Pos) (marks : List Bool) (t : Arcs) → HoldAll may t.arcs → (p : Piece) → Has p (table_pieces js marks t) → Holds may p.chain
+  of_table js marks t h = from_held js marks 0 (whole_pieces t) (whole_held t h)
 
   -- the arcs that the pieces of two tables are
-  pub pieces_held : (js : List Pos) (s t : Arcs) (marks others : List Bool) (left_arcs right_arcs ps : List Piece) (new : List (List Pos)) →
-      left_arcs ≡ whole_pieces s → right_arcs ≡ whole_pieces t →
-      ps ≡ joined (pieces_from js marks 0 left_arcs) ++ joined (pieces_from js others 0 right_arcs) →
+  pub pieces_held : (js : List Pos) (s t : Arcs) (marks others : List Bool) (ps : List Piece) (new : List (List Pos)) →
+      ps ≡ table_pieces js marks s ++ table_pieces js others t →
       AreSortedOnce list_cmp (map chain_of ps) new → HoldAll may s.arcs → HoldAll may t.arcs → HoldAll may new
-  pieces_held js s t marks others left_arcs right_arcs ps new a b e once hs ht c h v k =
+  pieces_held js s t marks others ps new e once hs ht c h v k =
       let p = map_has chain_of ps c (once.only c h) in
-      elim (Has-append p.0 (joined (pieces_from js marks 0 left_arcs)) (joined (pieces_from js others 0 right_arcs)) (subst (Has p.0) e p.1)) [
-        | inl l ↦ of_table js marks s left_arcs a hs p.0 l v (subst (Has v) p.2 k)
-        | inr r ↦ of_table js others t right_arcs b ht p.0 r v (subst (Has v) p.2 k)
+      elim (Has-append p.0 (table_pieces js marks s) (table_pieces js others t) (subst (Has p.0) e p.1)) [
+        | inl l ↦ of_table js marks s hs p.0 l v (subst (Has v) p.2 k)
+        | inr r ↦ of_table js others t ht p.0 r v (subst (Has v) p.2 k)
       ]

@@ -13,7 +13,7 @@ use Rattle.chains.specs.VertexFilter.{StayWhole, whole}
 use Rattle.chains.specs.Table.{located}
 use Rattle.chains.specs.declared.cutting.Piece.{Piece}
 use Rattle.split_arcs.specs.Bounds.{bounds_of, parts_between}
-use Rattle.split_arcs.specs.Cutting.{arc_used, pieces_from}
+use Rattle.split_arcs.specs.Cutting.{arc_used, pieces_from, table_pieces}
 use Rattle.split_arcs.specs.Parts.{RecutParts}
 use Rattle.split_arcs.proofs.Bounds.{between_again}
 
@@ -47,18 +47,14 @@ kept js t marks stay = go 0 t.arcs (λ i c e f. stay i c e (subst (λ m. get_or 
 
 -- what is made of two tables: all pieces, the arcs that they are, and these in two, each between the bounds of a table
 pub record AreNumbered (js : List Pos) (s t : Arcs) (ms mt : List Bool) (ps : List Piece) (new : Arcs) (r : RecutParts) : Type 0 where
-  pub left_arcs : List Piece
-  pub right_arcs : List Piece
   pub count : ℕ
   pub refs : List ArcRef
-  pub left_is : left_arcs ≡ whole_pieces s
-  pub right_is : right_arcs ≡ whole_pieces t
-  pub count_is : count ≡ length (joined (pieces_from js ms 0 left_arcs))
-  pub pieces_are : ps ≡ joined (pieces_from js ms 0 left_arcs) ++ joined (pieces_from js mt 0 right_arcs)
+  pub count_is : count ≡ length (table_pieces js ms s)
+  pub pieces_are : ps ≡ table_pieces js ms s ++ table_pieces js mt t
   pub refs_are : refs ≡ map (located new.arcs) ps
   pub arcs_are : r.arcs ≡ new
-  pub lists_left : r.left ≡ parts_between (bounds_of (pieces_from js ms 0 left_arcs)) (take count refs)
-  pub lists_right : r.right ≡ parts_between (bounds_of (pieces_from js mt 0 right_arcs)) (drop count refs)
+  pub lists_left : r.left ≡ parts_between (bounds_of (pieces_from js ms 0 (whole_pieces s))) (take count refs)
+  pub lists_right : r.right ≡ parts_between (bounds_of (pieces_from js mt 0 (whole_pieces t))) (drop count refs)
 
 module _ (new : Arcs) (ls rs ps : List Piece) (refs : List ArcRef) (n : ℕ) (count : n ≡ length ls) (pieces : ps ≡ ls ++ rs) (located_are : refs ≡ map (located new.arcs) ps) where
   all_refs : refs ≡ map (located new.arcs) ls ++ map (located new.arcs) rs
@@ -77,10 +73,10 @@ module _ (new : Arcs) (ls rs ps : List Piece) (refs : List ArcRef) (n : ℕ) (co
 
 module _ (js : List Pos) (s t : Arcs) (ms mt : List Bool) (ps : List Piece) (new : Arcs) (r : RecutParts) (are : AreNumbered js s t ms mt ps new r) where
   abbrev of_left : List (List Piece)
-  of_left = pieces_from js ms 0 are.left_arcs
+  of_left = pieces_from js ms 0 (whole_pieces s)
 
   abbrev of_right : List (List Piece)
-  of_right = pieces_from js mt 0 are.right_arcs
+  of_right = pieces_from js mt 0 (whole_pieces t)
 
   abbrev by_number : List (List Piece) → List (List ArcRef)
   by_number = map (map (located new.arcs))
@@ -98,18 +94,18 @@ module _ (js : List Pos) (s t : Arcs) (ms mt : List Bool) (ps : List Piece) (new
       ∙ between_again (located new.arcs) of_right
 
   pub left_length : length r.left ≡ length s.arcs
-  left_length = ap length left_are ∙ length-map of_left (map (located new.arcs)) ∙ length_from js ms 0 are.left_arcs ∙ ap length are.left_is ∙ length_whole s.loops s.arcs
+  left_length = ap length left_are ∙ length-map of_left (map (located new.arcs)) ∙ length_from js ms 0 (whole_pieces s) ∙ length_whole s.loops s.arcs
 
   pub right_length : length r.right ≡ length t.arcs
   right_length =
-      ap length right_are ∙ length-map of_right (map (located new.arcs)) ∙ length_from js mt 0 are.right_arcs ∙ ap length are.right_is ∙ length_whole t.loops t.arcs
+      ap length right_are ∙ length-map of_right (map (located new.arcs)) ∙ length_from js mt 0 (whole_pieces t) ∙ length_whole t.loops t.arcs
 
   module _ (stay : StayWhole js s ms) (stay_too : StayWhole js t mt) where
     left_kept : of_left ≡ map (arc_pieces js s.loops) s.arcs
-    left_kept = ap (pieces_from js ms 0) are.left_is ∙ kept js s ms stay
+    left_kept = kept js s ms stay
 
     right_kept : of_right ≡ map (arc_pieces js t.loops) t.arcs
-    right_kept = ap (pieces_from js mt 0) are.right_is ∙ kept js t mt stay_too
+    right_kept = kept js t mt stay_too
 
     pub all_pieces : ps ≡ gathered (arc_pieces js s.loops) s.arcs ++ gathered (arc_pieces js t.loops) t.arcs
     all_pieces =

@@ -1,10 +1,11 @@
 //! Whole topologies.
 ghost use Rattle.decimals.specs.Topology.Turning.{rewound_layers};
 ghost use Rattle.decimals.specs.Topology.TopologyText.{HasBox, HasText, HasTransform, bbox_text, content_text, transform_text, unit_text};
+ghost use Rattle.decimals.specs.Topology.Unit.{HasPlace, length_text, x_text, y_text, zero_amount};
 ghost use Rattle.decimals.specs.declared.topology.fault.DecimalFault.TheVariants.{TooManyDigits};
 ghost use Rattle.sinks.specs.Texts.{option_text};
 ghost use Rattle.sinks.specs.Writes.{TookAll};
-ghost use Rattle.std.specs.Prelude.{◌≡◌, ◌++◌, Err, IfOk, IfSome, OnOk, codes};
+ghost use Rattle.std.specs.Prelude.{◌≡◌, ◌++◌, Err, IfOk, IfSome, OnOk, codes, string_bytes};
 
 use crate::topology::area::areas_of;
 use crate::topology::fault::DecimalFault;
@@ -20,16 +21,45 @@ use std::alloc::Global;
 use topo::topology::{Layer, Topology};
 use topo::writing::ArcsText;
 
-/// Two texts with a comma between, behind a head and before a tail.
-fn write_both<W: Sink>(
+/// The texts of two numbers.
+#[derive(Drop)]
+struct NumberPair {
+    first: String,
+    second: String,
+}
+
+/// The lengths of so many steps in x and in y.
+fn lengths(alloc: Global, units: &Units, x: i64, y: i64) -> Result<NumberPair, DecimalFault>
+    ensures first { IfOk result (λ p. string_bytes p.first ≡ length_text units.now x) }
+    ensures second { IfOk result (λ p. string_bytes p.second ≡ length_text units.now y) }
+    ensures refused { result ≡ Err DecimalFault.TooManyDigits → ¬ (HasPlace units.now.step zero_amount x × HasPlace units.now.step zero_amount y) }
+{
+    let first = units.length(alloc, x)?;
+    let second = units.length(alloc, y)?;
+    Ok(NumberPair { first, second })
+}
+
+/// The coordinates of a position so many steps from the origin.
+fn coordinates(alloc: Global, units: &Units, x: i64, y: i64) -> Result<NumberPair, DecimalFault>
+    ensures first { IfOk result (λ p. string_bytes p.first ≡ x_text units.now x) }
+    ensures second { IfOk result (λ p. string_bytes p.second ≡ y_text units.now y) }
+    ensures refused { result ≡ Err DecimalFault.TooManyDigits → ¬ (HasPlace units.now.step units.now.origin.0 x × HasPlace units.now.step units.now.origin.1 y) }
+{
+    let first = units.x(alloc, x)?;
+    let second = units.y(alloc, y)?;
+    Ok(NumberPair { first, second })
+}
+
+/// Two numbers with a comma between, behind a head and before a tail.
+fn write_pair<W: Sink>(
     head: &[u8],
-    first: &str,
-    second: &str,
+    pair: &NumberPair,
     tail: &[u8],
     out: &mut W,
 ) -> Result<(), WriteFault>
-    ensures { OnOk result (TookAll (W.seen out.old) (W.seen out.new) (head.now ++ (first.now ++ (codes "," ++ (second.now ++ tail.now))))) }
+    ensures { OnOk result (TookAll (W.seen out.old) (W.seen out.new) (head.now ++ (string_bytes pair.now.first ++ (codes "," ++ (string_bytes pair.now.second ++ tail.now))))) }
 {
+    let (first, second) = (pair.first.as_str(), pair.second.as_str());
     let rest = Then(Text(b","), Then(Text(second.as_bytes()), Text(tail)));
     Then(Text(head), Then(Text(first.as_bytes()), rest)).write(out)
 }
@@ -45,11 +75,10 @@ fn write_transform<W: Sink>(
     ensures refused { result ≡ Err DecimalFault.TooManyDigits → ¬ HasTransform units.now grid.now }
 {
     let (scale, translate) = (grid.scale(), grid.translate());
-    let (width, height) = (units.length(alloc, scale.0)?, units.length(alloc, scale.1)?);
-    let (x, y) = (units.x(alloc, translate.0)?, units.y(alloc, translate.1)?);
-    let head = b"\"transform\":{\"scale\":[";
-    write_both(head, width.as_str(), height.as_str(), b"]", out)?;
-    write_both(b",\"translate\":[", x.as_str(), y.as_str(), b"]},", out)?;
+    let size = lengths(alloc, units, scale.0, scale.1)?;
+    let place = coordinates(alloc, units, translate.0, translate.1)?;
+    write_pair(b"\"transform\":{\"scale\":[", &size, b"]", out)?;
+    write_pair(b",\"translate\":[", &place, b"]},", out)?;
     Ok(())
 }
 
@@ -66,10 +95,10 @@ fn write_bbox<W: Sink>(
     let Some((west, south, east, north)) = bbox else {
         return Ok(());
     };
-    let (west, south) = (units.x(alloc, west)?, units.y(alloc, south)?);
-    let (east, north) = (units.x(alloc, east)?, units.y(alloc, north)?);
-    write_both(b"\"bbox\":[", west.as_str(), south.as_str(), b",", out)?;
-    write_both(b"", east.as_str(), north.as_str(), b"],", out)?;
+    let least = coordinates(alloc, units, west, south)?;
+    let greatest = coordinates(alloc, units, east, north)?;
+    write_pair(b"\"bbox\":[", &least, b",", out)?;
+    write_pair(b"", &greatest, b"],", out)?;
     Ok(())
 }
 

@@ -77,6 +77,24 @@ fn put_features<W: Sink>(sink: &mut W, view: &View<'_>) -> Result<(), WriteFault
     Ok(())
 }
 
+/// Writes the object of a feature that only one layer has.
+fn put_single<W: Sink>(
+    sink: &mut W,
+    change: &str,
+    layer: &LayerView<'_>,
+    geometry: &Geom,
+    key: &Option<String>,
+) -> Result<(), WriteFault> {
+    put(sink, b"{\"change\":\"")?;
+    put(sink, change.as_bytes())?;
+    put(sink, b"\",\"id\":")?;
+    put_id(sink, &geometry.id)?;
+    put_key(sink, layer, key)?;
+    put(sink, b",\"properties\":")?;
+    put(sink, geometry.props.text().as_bytes())?;
+    put(sink, b"}")
+}
+
 /// Writes the objects of features that only one layer has, and returns what comes before the next object.
 fn put_singles<W: Sink>(
     sink: &mut W,
@@ -90,14 +108,7 @@ fn put_singles<W: Sink>(
     for single in singles {
         if let Some(geometry) = geometry_of(geometries, single) {
             put(sink, before.as_bytes())?;
-            put(sink, b"{\"change\":\"")?;
-            put(sink, change.as_bytes())?;
-            put(sink, b"\",\"id\":")?;
-            put_id(sink, &geometry.id)?;
-            put_key(sink, layer, &single.key)?;
-            put(sink, b",\"properties\":")?;
-            put(sink, geometry.props.text().as_bytes())?;
-            put(sink, b"}")?;
+            put_single(sink, change, layer, geometry, &single.key)?;
             before = ",";
         }
     }

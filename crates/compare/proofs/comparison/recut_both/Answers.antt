@@ -1,9 +1,16 @@
-use Rattle.std.proofs.Common.{refl}
-use Rattle.compare.proofs.Recutting.{compared}
+use Rattle.std.proofs.Common.{IfOk, subst}
+use Rattle.compare.specs.Compared.{IsComparisonOf}
+use Rattle.compare.specs.declared.comparison.Comparison.{Comparison}
+use Rattle.shapes.specs.Maps.{Layers}
+use Rattle.topo.specs.OfMap.{IsOf}
+use Rattle.topo.specs.Parts.{TopologyParts}
 use Rattle.compare.proofs.comparison.recut_both.Goals as goal
 
+-- what is promised of the topologies
+abbrev Compares : TopologyParts → TopologyParts → Comparison → Type 0
+Compares s t c = (m n : Layers) → IsOf m s → IsOf n t → IsComparisonOf m n c
+
 pub returns : goal.returns
-returns c = λ m n hm hn.
-    compared {left = c.args.old.now} {right = c.args.new.now} c.in_ok-share.ensures c.in_ok-share-2.ensures c.into_parts-old_arcs.ensures.arcs c.into_parts-new_arcs.ensures.arcs
-    c.into_parts-old_arcs.ensures.layers c.into_parts-new_arcs.ensures.layers c.in_ok-both.ensures.refined c.in_ok-olds.ensures c.in_ok-news.ensures m n hm hn
-    (record { old = c.in_ok-olds.olds; new = c.in_ok-news.news }) refl refl
+returns c =
+    subst (λ s. IfOk c.recut_layers.result (Compares s c.args.new.now)) c.in_ok-share.ensures
+    (subst (λ t. IfOk c.recut_layers.result (Compares c.in_ok-share.field-0 t)) c.in_ok-share-2.ensures c.recut_layers.ensures)

@@ -1,41 +1,15 @@
-use Rattle.std.proofs.Common.{◌∙◌, subst}
+use Rattle.std.proofs.Common.{◌≡◌, ◌∙◌, IfOk, map, subst}
+use Rattle.shapes.specs.Maps.{Layers}
 use Rattle.topo.specs.OfMap.{IsOf}
-use Rattle.refine.proofs.DifferenceTold.{told_left, told_noded, told_pass, told_right}
+use Rattle.renumbering.specs.LayerLaws.Leaving.{layer_less}
+use Rattle.refine.specs.Lent.{all_lent}
 use Rattle.refine.proofs.difference.layers_apart.Goals as goal
 
-pub layers_left-requires-clause-noded : goal.layers_left-requires-clause-noded
-layers_left-requires-clause-noded c =
-    let (m, hm) = c.arcs.ensures.of_map in
-    let (n, hn) = c.into_parts-arcs.ensures.of_map in
-    told_noded {left = c.args.topology.now} {right = c.args.removed.now} (c.in_ok-share-2.ensures ∙ c.arcs.ensures.arcs) c.in_ok-share.ensures c.into_parts-arcs.ensures.arcs
-    c.into_parts-arcs.ensures.layers c.in_ok-both.ensures.refined c.in_ok-others.ensures c.layers.ensures.layers m n hm (subst (IsOf n) c.in_ok-share.ensures hn)
-
-pub layers_left-requires-clause-there : goal.layers_left-requires-clause-there
-layers_left-requires-clause-there c =
-    let (m, hm) = c.arcs.ensures.of_map in
-    let (n, hn) = c.into_parts-arcs.ensures.of_map in
-    told_left {left = c.args.topology.now} {right = c.args.removed.now} (c.in_ok-share-2.ensures ∙ c.arcs.ensures.arcs) c.in_ok-share.ensures c.into_parts-arcs.ensures.arcs
-    c.into_parts-arcs.ensures.layers c.in_ok-both.ensures.refined c.in_ok-others.ensures c.layers.ensures.layers m n hm (subst (IsOf n) c.in_ok-share.ensures hn)
-
-pub layers_left-requires-clause-removed_there : goal.layers_left-requires-clause-removed_there
-layers_left-requires-clause-removed_there c =
-    let (m, hm) = c.arcs.ensures.of_map in
-    let (n, hn) = c.into_parts-arcs.ensures.of_map in
-    told_right {left = c.args.topology.now} {right = c.args.removed.now} (c.in_ok-share-2.ensures ∙ c.arcs.ensures.arcs) c.in_ok-share.ensures c.into_parts-arcs.ensures.arcs
-    c.into_parts-arcs.ensures.layers c.in_ok-both.ensures.refined c.in_ok-others.ensures c.layers.ensures.layers m n hm (subst (IsOf n) c.in_ok-share.ensures hn)
+pub layers_less-requires : goal.layers_less-requires
+layers_less-requires c = c.in_ok-share.ensures ∙ c.arcs.ensures.arcs
 
 pub returns-clause-left : goal.returns-clause-left
-returns-clause-left c = λ m n hm hn.
-    c.in_ok-left.ensures
-    ∙ told_pass {left = c.args.topology.now} {right = c.args.removed.now} (c.in_ok-share-2.ensures ∙ c.arcs.ensures.arcs) c.in_ok-share.ensures c.into_parts-arcs.ensures.arcs
-    c.into_parts-arcs.ensures.layers c.in_ok-both.ensures.refined c.in_ok-others.ensures c.layers.ensures.layers m n hm hn
-
-pub returns-clause-some : goal.returns-clause-some
-returns-clause-some c =
-    let (m, hm) = c.arcs.ensures.of_map in
-    let (n, hn) = c.into_parts-arcs.ensures.of_map in (
-      n,
-      c.in_ok-left.ensures
-          ∙ told_pass {left = c.args.topology.now} {right = c.args.removed.now} (c.in_ok-share-2.ensures ∙ c.arcs.ensures.arcs) c.in_ok-share.ensures c.into_parts-arcs.ensures.arcs
-          c.into_parts-arcs.ensures.layers c.in_ok-both.ensures.refined c.in_ok-others.ensures c.layers.ensures.layers m n hm (subst (IsOf n) c.in_ok-share.ensures hn),
-    )
+returns-clause-left c =
+    let t = c.args.topology.now in
+    subst (λ s. IfOk c.layers_less.result (λ v. (m n : Layers) → IsOf m t → IsOf n s → all_lent v.items ≡ map (layer_less t.arcs.arcs n) t.layers)) c.in_ok-removed.ensures
+    c.layers_less.ensures.left

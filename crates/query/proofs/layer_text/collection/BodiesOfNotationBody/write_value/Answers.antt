@@ -29,3 +29,26 @@ returns-in-MultiPolygon-clause-whole g c =
     whole_as c.write-in-MultiPolygon.result (g.W.Sink.seen c.args.sink.now) (g.W.Sink.seen c.write-in-MultiPolygon.new.sink) _ _
     (ap (λ qs. geometry_text (list_text (list_text (ring_along t)) qs) (codes "MultiPolygon")) c.as_slice-in-MultiPolygon.ensures ∙ sym (ap (body_text t) c.in-MultiPolygon.is))
     c.write-in-MultiPolygon.ensures.whole
+
+pub returns-in-MultiLine-clause-part : goal.returns-in-MultiLine-clause-part
+returns-in-MultiLine-clause-part g c =
+    let t = c.args.self.now.0.now in
+    part_as c.write-in-MultiLine.result (g.W.Sink.seen c.args.sink.now) (g.W.Sink.seen c.write-in-MultiLine.new.sink) _ _
+    (ap (λ qs. geometry_text (list_text (line_along t) qs) (codes "MultiLineString")) c.as_slice-in-MultiLine.ensures ∙ sym (ap (body_text t) c.in-MultiLine.is))
+    c.write-in-MultiLine.ensures.part
+
+pub returns-in-MultiPolygon-clause-part : goal.returns-in-MultiPolygon-clause-part
+returns-in-MultiPolygon-clause-part g c =
+    let t = c.args.self.now.0.now in
+    part_as c.write-in-MultiPolygon.result (g.W.Sink.seen c.args.sink.now) (g.W.Sink.seen c.write-in-MultiPolygon.new.sink) _ _
+    (ap (λ qs. geometry_text (list_text (list_text (ring_along t)) qs) (codes "MultiPolygon")) c.as_slice-in-MultiPolygon.ensures ∙ sym (ap (body_text t) c.in-MultiPolygon.is))
+    c.write-in-MultiPolygon.ensures.part
+
+pub returns-in-Polygon : goal.returns-in-Polygon
+returns-in-Polygon g c =
+    let t = c.args.self.now.0.now in
+    let same = ap (λ qs. geometry_text (list_text (ring_along t) qs) (codes "Polygon")) c.as_slice-in-Polygon.ensures ∙ sym (ap (body_text t) c.in-Polygon.is) in
+    record {
+      whole = whole_as c.write-in-Polygon.result (g.W.Sink.seen c.args.sink.now) (g.W.Sink.seen c.write-in-Polygon.new.sink) _ _ same c.write-in-Polygon.ensures.whole;
+      part = part_as c.write-in-Polygon.result (g.W.Sink.seen c.args.sink.now) (g.W.Sink.seen c.write-in-Polygon.new.sink) _ _ same c.write-in-Polygon.ensures.part;
+    }

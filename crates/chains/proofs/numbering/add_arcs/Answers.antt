@@ -11,7 +11,7 @@ use Rattle.chains.specs.declared.numbering.Placed.{Placed}
 use Rattle.chains.proofs.KeysFirst.{apart}
 use Rattle.chains.proofs.Merged.{emptied}
 use Rattle.chains.proofs.PlacedPieces.{LeftOrPut, number_put, ref_put}
-use Rattle.chains.proofs.numbering.numbered_arcs.Goals as goal
+use Rattle.chains.proofs.numbering.add_arcs.Goals as goal
 
 pub index_mut-requires : goal.index_mut-requires
 index_mut-requires c =
@@ -42,10 +42,10 @@ loop-placed-preserved c =
     ∙ ap (λ w. c.loop-placed.arcs ++ merged_behind c.loop-placed.last (w ∷ map stored_of (map piece_of more))) c.of.ensures
     ∙ ap (λ w. c.loop-placed.arcs ++ merged_behind c.loop-placed.last (map stored_of (map piece_of w))) (sym steps)
     ∙ was.all in
-    let number : c.len-in-loop-placed.result ≡ number_in (arcs_of l) x.piece =
-    c.len-in-loop-placed.ensures.len
+    let number : c.len.result ≡ number_in (arcs_of l) x.piece =
+    c.len.ensures.len
     ∙ number_put l arcs last (map stored_of (map piece_of more)) x.piece c.requires.rises all (c.in_ok-arc_behind.ensures.positions ∙ ap positions_of c.of.ensures) in
-    let used : ArcRef = record { arc = c.len-in-loop-placed.result; reversed = c.reversed-reversed.result } in
+    let used : ArcRef = record { arc = c.len.result; reversed = c.reversed-reversed.result } in
     let is : used ≡ located (arcs_of l) x.piece = λ i. record { arc = number i; reversed = c.reversed-reversed.ensures i } in
     record {
       all = all;
@@ -55,6 +55,12 @@ loop-placed-preserved c =
       put = ref_put l more c.loop-placed.refs.items x used c.requires.placed there was.len is
           (subst (λ w. (y : Placed) → Has y l → LeftOrPut (arcs_of l) w c.loop-placed.refs.items y) steps was.put);
     }
+
+pub returns-clause-arcs : goal.returns-clause-arcs
+returns-clause-arcs c =
+    let none : c.loop-placed.placed-iterator.rest.items ≡ [] =
+    emptied c.loop-placed.placed-iterator.rest.items (sym c.loop-placed.placed-iterator.rest.ok.0 ∙ c.in-None.ensures.steps.0) in
+    ap (λ w. c.loop-placed.arcs ++ merged_behind c.loop-placed.last (map stored_of (map piece_of w))) (sym none) ∙ c.loop-placed.invariant.all
 
 pub returns-clause-refs : goal.returns-clause-refs
 returns-clause-refs c = λ x h.

@@ -6,7 +6,7 @@ use Rattle.chains.specs.Placing.{arcs_of, piece_of}
 use Rattle.chains.specs.Stored.{merged, merged_behind, stored_of}
 use Rattle.chains.specs.declared.numbering.Placed.{Placed}
 use Rattle.chains.proofs.PlacedPieces.{LeftOrPut}
-use Rattle.chains.proofs.numbering.numbered_arcs.Given as goal
+use Rattle.chains.proofs.numbering.add_arcs.Given as goal
 
 abbrev pub invariant-loop-placed : goal.invariant-loop-placed
 invariant-loop-placed l = record {
