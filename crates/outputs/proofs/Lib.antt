@@ -3,6 +3,7 @@ pub mod DifferenceCounts
 pub mod DifferenceTextLemmas
 pub mod FaultPlacesLemmas
 pub mod FaultyFeaturesLemmas
+pub mod InfoTextLemmas
 pub mod LineColumnsLemmas
 pub mod PlacesLemmas
 pub mod ReportsLemmas

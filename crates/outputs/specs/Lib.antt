@@ -5,3 +5,5 @@ pub mod FaultReports
 pub mod FaultyFeatures
 pub mod LineColumns
 pub mod ReportsOfTexts
+pub mod TextParts
+pub mod InfoText
