@@ -3,6 +3,7 @@ use Rattle.std.proofs.Common.{◌≡◌, ◌↔◌, ℕ, Bool, true, false, IsTr
 use Rattle.std.specs.FinMap as layers
 use Rattle.faults.specs.Fault.{IsWant}
 use Rattle.faults.specs.declared.fault.Fault.{Fault}
+use Rattle.outputs.specs.InfoText.{info_text}
 use Rattle.query.specs.Mesh.{IsMissing}
 use Rattle.query.specs.declared.edges.Edges.{Edges}
 use Rattle.reading.specs.Fault.{LeastOrWant}
@@ -10,7 +11,7 @@ use Rattle.shapes.specs.Maps.{Layers}
 use Rattle.topo.specs.Parts.{TopologyParts}
 use Rattle.topo_io.specs.Means.{MeansTopology}
 use Rattle.topo_io.specs.Roots.{faults_of_text}
-use Rattle.noshinka.specs.Answers.{HasScope, IsBordersText, IsCollectionText, IsFeatureText, IsListsText, IsMeshText, IsNeighborsAnswer}
+use Rattle.noshinka.specs.Answers.{HasScope, IsBordersText, IsCollectionText, IsFeatureText, IsInfoAnswer, IsListsText, IsMeshText, IsNeighborsAnswer}
 use Rattle.noshinka.specs.Why.{IsFaultAt, IsTextRefusal}
 use Rattle.noshinka.specs.declared.refusal.CallRefusal.{CallRefusal}
 use Rattle.noshinka.specs.declared.refusal.CallRefusal.TheVariants.{BadGrid, BadName, BadChoice, NoId, Text, OtherGrid, NoText, BadPlan, NoLayer, OutOfMemory}
@@ -49,6 +50,9 @@ neighbors_answer text name false t whole meant is =
     let (m, means, of) = meant in
     let (lists, neighbors, written) = is in
     record { grid = whole.grid; map = m; means = means; there = (neighbors m of).0; lists = lists; neighbors = (neighbors m of).1; is = written }
+
+pub info_answer : (text : List ℕ) (by : Bool) (t : List ℕ) (whole : TopologyParts) → MeansTopology text whole → t ≡ info_text by whole → IsInfoAnswer text by t
+info_answer text by t whole means is = record { topology = whole; means = means; is = is }
 
 -- the fault of a text, as a refusal of it
 pub text_refused : (place : ℕ) (text : List ℕ) (f : Fault) → LeastOrWant (faults_of_text text) f → (r : CallRefusal) → IsFaultAt place f r → IsTextRefusal place text r

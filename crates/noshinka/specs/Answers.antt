@@ -4,6 +4,7 @@ use Rattle.std.specs.FinMap as layers
 use Rattle.chains.specs.Arcs.{Arcs}
 use Rattle.chains.specs.declared.segment.Segment.{Segment}
 use Rattle.grid.specs.Place.{Transform}
+use Rattle.outputs.specs.InfoText.{info_text}
 use Rattle.renumbering.specs.LayerLaws.Less.{less}
 use Rattle.query.specs.Collections.{layer_collection}
 use Rattle.query.specs.AnswerTexts.{mesh_text, neighbor_ids_text, neighbors_text}
@@ -17,7 +18,7 @@ use Rattle.topo.specs.OfMap.{IsOf}
 use Rattle.topo.specs.Parts.{IsOfLayerNamed, TopologyParts}
 use Rattle.topo.specs.declared.geom.Geom.{Geom}
 use Rattle.topo_io.specs.Canon.{canon}
-use Rattle.topo_io.specs.Means.{Means}
+use Rattle.topo_io.specs.Means.{Means, MeansTopology}
 use Rattle.topo_io.specs.Roots.{faults_of_text}
 
 -- the text is accepted, and it is the canonical text of what it means
@@ -94,6 +95,12 @@ pub record IsNeighborIdsText (text name t : List ℕ) : Type 0 where
   pub lists : List (List ℕ)
   pub neighbors : ListsNeighbors (set.items (features_at map name)) lists
   pub is : t ≡ neighbor_ids_text geometries lists
+
+-- the text is accepted, and t says what its topology is made of, as a JSON object or as lines
+pub record IsInfoAnswer (text : List ℕ) (is_json : Bool) (t : List ℕ) : Type 0 where
+  pub topology : TopologyParts
+  pub means : MeansTopology text topology
+  pub is : t ≡ info_text is_json topology
 
 -- t is the GeoJSON text of the features that the topology has in the layer of the name, which is there
 abbrev pub IsCollectionText : TopologyParts → List ℕ → List ℕ → Type 0

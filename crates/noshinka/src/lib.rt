@@ -4,16 +4,16 @@
 
 ghost use Rattle.outputs.specs.BuiltText.Maps.{IsTextOfTexts};
 ghost use Rattle.merging.specs.Merge.{lent_texts, IsMergeOf};
-ghost use Rattle.noshinka.specs.Answers.{IsCanonical, IsFeatureText, IsMeshText, IsNeighborsAnswer, IsNotCanonical, IsRemoval};
+ghost use Rattle.noshinka.specs.Answers.{IsCanonical, IsFeatureText, IsInfoAnswer, IsMeshText, IsNeighborsAnswer, IsNotCanonical, IsRemoval};
 ghost use Rattle.noshinka.specs.Choices.{edges_of, scope_of};
-ghost use Rattle.noshinka.specs.Differing.{IsDiffRefusal};
+ghost use Rattle.noshinka.specs.Differing.{AreTextsComparable, IsDiffRefusal};
 ghost use Rattle.noshinka.specs.Ends.{EndsWith, IsVerdict};
 ghost use Rattle.noshinka.specs.Lent.{grid_of, lent_sources};
 ghost use Rattle.noshinka.specs.Listing.{IsFaultText, IsListRefusal, faults_as, format_of};
 ghost use Rattle.noshinka.specs.Snapped.{IsSnapped, IsSnapRefusal, rules_of};
 ghost use Rattle.noshinka.specs.Why.{IsBuildRefusal, IsMergeRefusal, IsQuestionRefusal, IsRemoveRefusal, IsTextRefusal};
 ghost use Rattle.std.specs.List.{range_with_len};
-ghost use Rattle.std.specs.Prelude.{◌≡◌, ◌≤◌, ◌⊎◌, ⊤, None, Some, false, length, nat_eq};
+ghost use Rattle.std.specs.Prelude.{◌≡◌, ◌≤◌, ◌⊎◌, None, Some, false, length, nat_eq};
 
 mod choices;
 mod differing;
@@ -154,7 +154,7 @@ pub extern "C" fn noshinka_neighbors(
 /// is 1.
 #[unsafe(no_mangle)]
 pub extern "C" fn noshinka_info(alloc: Global, text: &[u8], json: u32, room: &mut [u8]) -> Outcome
-    ensures { EndsWith (λ _. ⊤) (IsQuestionRefusal (2 ≤ json) false text.now None) result room.old room.new }
+    ensures { EndsWith (IsInfoAnswer text.now (nat_eq json 1)) (IsQuestionRefusal (2 ≤ json) false text.now None) result room.old room.new }
 {
     answer(alloc, info(alloc, text, json), room)
 }
@@ -183,7 +183,7 @@ pub extern "C" fn noshinka_diff(
     json: u32,
     room: &mut [u8],
 ) -> Outcome
-    ensures { EndsWith (λ _. ⊤) (IsDiffRefusal (record { scope = scope; layer = layer.entry; keyed = keyed; key = key.entry; json = json }) text.now other.now) result room.old room.new }
+    ensures { EndsWith (λ _. AreTextsComparable text.now other.now (scope_of scope layer.now)) (IsDiffRefusal (record { scope = scope; layer = layer.entry; keyed = keyed; key = key.entry; json = json }) text.now other.now) result room.old room.new }
 {
     let asked = Asked {
         scope,

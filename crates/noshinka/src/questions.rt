@@ -1,10 +1,12 @@
 //! Answers to questions about a borrowed topology.
-ghost use Rattle.noshinka.specs.Answers.{IsBordersText, IsCollectionText, IsFeatureText, IsListsText, IsMeshText, IsNeighborsAnswer};
+ghost use Rattle.noshinka.specs.Answers.{IsBordersText, IsCollectionText, IsFeatureText, IsInfoAnswer, IsListsText, IsMeshText, IsNeighborsAnswer};
 ghost use Rattle.noshinka.specs.Choices.{edges_of, scope_of};
 ghost use Rattle.noshinka.specs.Why.{IsIdsRefusal, IsLayerRefusal, IsQuestionRefusal};
 ghost use Rattle.query.specs.AnswerTexts.{neighbor_ids_text, neighbors_text};
+ghost use Rattle.outputs.specs.InfoText.{info_text};
+ghost use Rattle.sinks.specs.Writes.{TookAll, TookPart};
 ghost use Rattle.std.specs.Option.{option_map};
-ghost use Rattle.std.specs.Prelude.{◌≡◌, ◌≤◌, ◌⊎◌, ⊤, IfErr, IfOk, Some, None, false, map, nat_eq, true};
+ghost use Rattle.std.specs.Prelude.{◌≡◌, ◌≤◌, ◌⊎◌, IfErr, IfOk, OnErr, OnOk, Some, None, false, map, nat_eq, true};
 ghost use Rattle.topo.specs.Parts.{IsOfLayerNamed};
 
 use crate::choices::{edges_named, flag, is_id_missing, scope_named};
@@ -17,7 +19,7 @@ use query::{
     Edges, LayerFault, borders, neighbors as lists_of_neighbors, write_layer, write_mesh,
     write_neighbor_ids, write_neighbors,
 };
-use sinks::Kept;
+use sinks::{Kept, Sink, WriteFault};
 use std::alloc::Global;
 use topo::{Geom, Topology};
 
@@ -160,9 +162,9 @@ pub(crate) fn neighbors(
 }
 
 /// What a topology's text is made of, as lines, or as JSON where `json` is 1.
-#[tactic(auto, using(crate::proofs::PartRefusals::choice_question, crate::proofs::PartRefusals::text_question))]
+#[tactic(auto, using(crate::proofs::Texts::info_answer, crate::proofs::PartRefusals::choice_question, crate::proofs::PartRefusals::text_question))]
 pub(crate) fn info(alloc: Global, text: &[u8], json: u32) -> Result<Vec<u8>, CallRefusal>
-    ensures made { IfOk result (λ _. ⊤) }
+    ensures made { IfOk result (λ t. IsInfoAnswer text.now (nat_eq json 1) t.items) }
     ensures refused { IfErr result (IsQuestionRefusal (2 ≤ json) false text.now None) }
 {
     let is_json = flag(json)?;
@@ -170,15 +172,29 @@ pub(crate) fn info(alloc: Global, text: &[u8], json: u32) -> Result<Vec<u8>, Cal
     Ok(text_of_info(alloc, &topology, is_json)?)
 }
 
-fn text_of_info(alloc: Global, topology: &Topology, is_json: bool) -> Result<Vec<u8>, OutOfMemory> {
+/// The text of what a topology is made of.
+fn text_of_info(alloc: Global, topology: &Topology, is_json: bool) -> Result<Vec<u8>, OutOfMemory>
+    ensures { IfOk result (λ t. t.items ≡ info_text is_json topology.now) }
+{
     let mut kept = Kept::new(alloc);
-    let written = if is_json {
-        write_json(topology, &mut kept)
-    } else {
-        write_lines(topology, &mut kept)
-    };
-    match written {
+    match write_info(topology, is_json, &mut kept) {
         Ok(()) => Ok(kept.into_bytes()),
         Err(_) => Err(OutOfMemory),
+    }
+}
+
+/// Writes what a topology is made of.
+fn write_info<W: Sink>(
+    topology: &Topology,
+    is_json: bool,
+    sink: &mut W,
+) -> Result<(), WriteFault>
+    ensures whole { OnOk result (TookAll (W.seen sink.old) (W.seen sink.new) (info_text is_json topology.now)) }
+    ensures part { OnErr result (TookPart (W.seen sink.old) (W.seen sink.new) (info_text is_json topology.now)) }
+{
+    if is_json {
+        write_json(topology, sink)
+    } else {
+        write_lines(topology, sink)
     }
 }

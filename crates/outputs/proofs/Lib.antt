@@ -1,6 +1,7 @@
 pub mod BuiltTextLemmas
 pub mod DifferenceCounts
 pub mod DifferenceTextLemmas
+pub mod DifferenceWriting
 pub mod FaultPlacesLemmas
 pub mod FaultyFeaturesLemmas
 pub mod InfoTextLemmas

@@ -7,3 +7,6 @@ pub mod LineColumns
 pub mod ReportsOfTexts
 pub mod TextParts
 pub mod InfoText
+pub mod DifferenceParts
+pub mod DifferenceLines
+pub mod DifferenceJson

@@ -1,10 +1,12 @@
 //! What differs between two topologies, feature by feature and member by member, as lines for people and as a JSON
 //! object.
+ghost use Rattle.outputs.specs.DifferenceJson.{IsDifferenceText, difference_text};
 ghost use Rattle.outputs.specs.DifferenceText.{AgreeAt, LackLayer};
 ghost use Rattle.outputs.specs.declared.difference_text.fault.DifferenceFault.TheVariants.{OtherGrid, NoLayer, Write};
 ghost use Rattle.shapes.specs.Maps.{Layers};
+ghost use Rattle.sinks.specs.Writes.{TookAll, TookPart};
 ghost use Rattle.std.specs.Option.{option_copied};
-ghost use Rattle.std.specs.Prelude.{◌≡◌, ◌↔◌, IfErr, IfOk, IsErrOf, false};
+ghost use Rattle.std.specs.Prelude.{◌≡◌, ◌↔◌, IfErr, IfOk, IsErrOf, List, OnErr, OnOk, false, ℕ};
 ghost use Rattle.topo.specs.OfMap.{IsOf};
 
 mod difference;
@@ -55,6 +57,8 @@ pub fn write_difference<W: Sink>(
     ensures same { IfOk result (λ b. (m n : Layers) → IsOf m old.now → IsOf n new.now → ((b ≡ false) ↔ AgreeAt (option_copied options.now.layer) m n)) }
     ensures other_grid { IsErrOf result OtherGrid ↔ ¬ (old.now.grid ≡ new.now.grid) }
     ensures no_layer { (m n : Layers) → IsOf m old.now → IsOf n new.now → (IsErrOf result NoLayer ↔ ((old.now.grid ≡ new.now.grid) × LackLayer (option_copied options.now.layer) m n)) }
+    ensures whole { IfOk result (λ _. (t : List ℕ) × IsDifferenceText (option_copied options.now.layer) (option_copied options.now.key) options.now.json old.now new.now t × TookAll (W.seen sink.old) (W.seen sink.new) t) }
+    ensures part { IfErr result (λ f. f ≡ Write → (t : List ℕ) × IsDifferenceText (option_copied options.now.layer) (option_copied options.now.key) options.now.json old.now new.now t × TookPart (W.seen sink.old) (W.seen sink.new) t) }
     ensures untouched { IfErr result (λ f. ¬ (f ≡ Write) → sink.new ≡ sink.old) }
 {
     let difference = match find_difference(alloc, old, new, options) {
@@ -74,7 +78,10 @@ fn write_found<W: Sink>(
     new: &Topology,
     is_json: bool,
     sink: &mut W,
-) -> Result<(), WriteFault> {
+) -> Result<(), WriteFault>
+    ensures whole { OnOk result (TookAll (W.seen sink.old) (W.seen sink.new) (difference_text is_json difference.now old.now new.now)) }
+    ensures part { OnErr result (TookPart (W.seen sink.old) (W.seen sink.new) (difference_text is_json difference.now old.now new.now)) }
+{
     if is_json {
         write_json(difference, old, new, sink)
     } else {

@@ -1,10 +1,10 @@
 //! Parts of which texts are put together.
-ghost use Rattle.outputs.specs.TextParts.{each_text, number_pair};
+ghost use Rattle.outputs.specs.TextParts.{behind_texts, each_text, number_pair};
 ghost use Rattle.sinks.specs.Writes.{TookAll, TookPart};
-ghost use Rattle.std.specs.Prelude.{[], ◌++◌, OnErr, OnOk, cond, decimal};
+ghost use Rattle.std.specs.Prelude.{◌≡◌, [], ◌++◌, ◌||◌, OnErr, OnOk, cond, decimal, nat_lt};
 
 use itoa::Buffer;
-use sinks::written::{Notation, Number, Text, Then, Written};
+use sinks::written::{Notation, Noted, Number, Text, Then, Written};
 use sinks::{Sink, WriteFault, put};
 
 /// A number in decimal digits.
@@ -43,6 +43,18 @@ impl Written for NumberPair {
     fn write<W: Sink>(&self, sink: &mut W) -> Result<(), WriteFault> {
         let (x, y) = self.0;
         Then(Number(x), Then(Text(b","), Number(y))).write(sink)
+    }
+}
+
+/// A text as it is.
+#[derive(Clone, Copy)]
+pub(crate) struct Chars<'a>(pub(crate) &'a str);
+
+impl<'a> Written for Chars<'a> {
+    ghost text = { λ t. t.0.now };
+
+    fn write<W: Sink>(&self, sink: &mut W) -> Result<(), WriteFault> {
+        put(sink, self.0.as_bytes())
     }
 }
 
@@ -112,6 +124,59 @@ fn write_each<W: Sink, T, N: Notation<T>>(
             Ok(()) => left = after,
             Err(fault) => return Err(fault),
         }
+    }
+    Ok(())
+}
+
+/// Whether there are some, or there were some before.
+pub(crate) fn has_some(before: bool, count: usize) -> bool
+    ensures { result ≡ (before || nat_lt 0 count) }
+{
+    before || count > 0
+}
+
+/// The values of a slice in order, in one notation, each behind a separator where others are before it.
+#[derive(Clone, Copy)]
+pub(crate) struct Behind<'a, T, N> {
+    pub(crate) separator: &'a [u8],
+    pub(crate) is_behind: bool,
+    pub(crate) values: &'a [T],
+    pub(crate) notation: &'a N,
+}
+
+impl<'a, T, N: Notation<T>> Written for Behind<'a, T, N> {
+    ghost text = { λ b. behind_texts b.separator.now b.is_behind (N.text b.notation.now) b.values.now };
+
+    fn write<W: Sink>(&self, sink: &mut W) -> Result<(), WriteFault> {
+        write_behind(
+            sink,
+            self.separator,
+            self.is_behind,
+            self.notation,
+            self.values,
+        )
+    }
+}
+
+fn write_behind<W: Sink, T, N: Notation<T>>(
+    sink: &mut W,
+    separator: &[u8],
+    is_first_behind: bool,
+    notation: &N,
+    values: &[T],
+) -> Result<(), WriteFault>
+    ensures whole { OnOk result (TookAll (W.seen sink.old) (W.seen sink.new) (behind_texts separator.now is_first_behind (N.text notation.now) values.now)) }
+    ensures part { OnErr result (TookPart (W.seen sink.old) (W.seen sink.new) (behind_texts separator.now is_first_behind (N.text notation.now) values.now)) }
+{
+    let mut is_behind = is_first_behind;
+    let mut left = values;
+    while let Some((value, after)) = left.split_first() {
+        let text = Then(If(is_behind, Text(separator)), Noted(value, notation));
+        match text.write(sink) {
+            Ok(()) => left = after,
+            Err(fault) => return Err(fault),
+        }
+        is_behind = true;
     }
     Ok(())
 }

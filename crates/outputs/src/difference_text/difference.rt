@@ -1,5 +1,6 @@
 //! What differs between two topologies, before it is written.
-ghost use Rattle.compare.specs.Compared.{IsComparisonOf, IsPairOf};
+ghost use Rattle.compare.specs.Compared.{IsComparisonOf, IsPairOf, geometries_from};
+ghost use Rattle.outputs.specs.DifferenceParts.{layer_in};
 ghost use Rattle.outputs.specs.DifferenceText.{AgreeAt, AreAllChanges, AreChanges, ArePairsAsked, IsDifferenceAsked, LackLayer, counts_of, is_same_layer, single_number, changed_numbers};
 ghost use Rattle.outputs.specs.declared.difference_text.fault.DifferenceFault.TheVariants.{OtherGrid, NoLayer, Write};
 ghost use Rattle.shapes.specs.Maps.{Layers, features_at};
@@ -362,15 +363,22 @@ impl<'a> BothLayers<'a> {
 }
 
 /// The geometries of the layer of a number, none where there is no such layer.
-pub(crate) fn geometries_at(layers: &[Layer], number: Option<usize>) -> &[Geom] {
-    match layer_at(layers, number) {
-        Some(layer) => layer.geometries(),
+pub(crate) fn geometries_at(layers: &[Layer], number: Option<usize>) -> &[Geom]
+    ensures { result.now ≡ geometries_from layers.now number }
+{
+    match number {
+        Some(number) => match layers.get(number) {
+            Some(layer) => layer.geometries(),
+            None => &[],
+        },
         None => &[],
     }
 }
 
 /// The layer of a number.
-pub(crate) fn layer_at(layers: &[Layer], number: Option<usize>) -> Option<&Layer> {
+pub(crate) fn layer_at(layers: &[Layer], number: Option<usize>) -> Option<&Layer>
+    ensures { option_copied result ≡ layer_in layers.now number }
+{
     match number {
         Some(number) => layers.get(number),
         None => None,

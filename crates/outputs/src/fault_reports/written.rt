@@ -7,23 +7,11 @@ ghost use Rattle.std.specs.Prelude.{◌++◌, None, false, OnErr, OnOk, decimal,
 
 use crate::fault_reports::remedies::remedy;
 use crate::fault_reports::report::FaultReport;
-use crate::text_parts::{Digits, Worded};
+use crate::text_parts::{Chars, Digits, Worded};
 use faults::FaultKind;
 use sinks::path_text::{KindNumber, write_path};
 use sinks::written::{Bracketed, Text, Then, Written};
 use sinks::{Sink, WriteFault, put};
-
-/// A text as it is.
-#[derive(Clone, Copy)]
-struct Chars<'a>(&'a str);
-
-impl<'a> Written for Chars<'a> {
-    ghost text = { λ t. t.0.now };
-
-    fn write<W: Sink>(&self, sink: &mut W) -> Result<(), WriteFault> {
-        put(sink, self.0.as_bytes())
-    }
-}
 
 /// The name of a kind of error.
 #[derive(Clone, Copy)]
