@@ -1,12 +1,12 @@
 -- Refusals of the parts of a difference, as refusals of the difference.
-use Rattle.std.proofs.Common.{◌≡◌, ◌↔◌, ◌≤◌, ◌∙◌, ℕ, List, Option, Result, Ok, Err, refl, subst, sym, inl, inr}
+use Rattle.std.proofs.Common.{◌≡◌, ◌↔◌, ◌≤◌, ◌∙◌, ℕ, Bool, List, Option, Result, Ok, Err, refl, subst, sym, inl, inr}
 use Rattle.outputs.specs.DifferenceText.{LackLayer}
 use Rattle.shapes.specs.Maps.{Layers}
 use Rattle.topo.specs.OfMap.{IsOf}
 use Rattle.topo.specs.Parts.{TopologyParts}
 use Rattle.topo_io.specs.Means.{Means, MeansTopology}
 use Rattle.noshinka.specs.Choices.{scope_of}
-use Rattle.noshinka.specs.Differing.{AreComparable, AreTextsComparable, IsDiffRefusal, IsMeaningRefusal, IsTopologiesRefusal}
+use Rattle.noshinka.specs.Differing.{IsComparisonText, IsDiffAnswer, IsDiffRefusal, IsMeaningRefusal, IsTopologiesRefusal}
 use Rattle.noshinka.specs.Why.{IsChoiceRefusal, IsScopeRefusal, IsTextRefusal}
 use Rattle.noshinka.specs.declared.differing.Asked.{Asked}
 use Rattle.noshinka.specs.declared.refusal.CallRefusal.{CallRefusal}
@@ -62,23 +62,20 @@ both_refused a old new s t means others layer named r h = inr (inr (inr (inr (in
         let (n, also, of_others) = others in
         inr (inr (h.0, λ e. h.1 (is.grid ∙ e ∙ sym also.grid)))
 
-pub comparable : (s t : TopologyParts) (layer : Option (List ℕ)) {T E : Type 0} (x : T) (e : E) →
-    ((m n : Layers) → IsOf m s → IsOf n t → (◌≡◌ {A = Result T E} (Ok x) (Err e)) ↔ ((s.grid ≡ t.grid) × LackLayer layer m n)) → s.grid ≡ t.grid → AreComparable s t layer
-comparable s t layer x e exact same = (same, λ m n of of_others lack. ok_no_err x e ((exact m n of of_others).1 (same, lack)))
+pub layer_told : (s t : TopologyParts) (layer : Option (List ℕ)) {T E : Type 0} (x : T) (e : E) →
+    ((m n : Layers) → IsOf m s → IsOf n t → (◌≡◌ {A = Result T E} (Ok x) (Err e)) ↔ ((s.grid ≡ t.grid) × LackLayer layer m n)) → s.grid ≡ t.grid →
+    (m n : Layers) → IsOf m s → IsOf n t → ¬ LackLayer layer m n
+layer_told s t layer x e exact same m n of of_others lack = ok_no_err x e ((exact m n of of_others).1 (same, lack))
   where
     ok_no_err : {T E : Type 0} (x : T) (e : E) → ◌≡◌ {A = Result T E} (Ok x) (Err e) → ⊥
     ok_no_err x e f = cc
 
-pub texts_comparable : (old new : List ℕ) (s t : TopologyParts) → MeansTopology old s → MeansTopology new t → (layer named : Option (List ℕ)) → layer ≡ named → AreComparable s t layer →
-    AreTextsComparable old new named
-texts_comparable old new s t means others layer named e h =
-    let (m, is, of) = means in
-    let (n, also, of_others) = others in
-    record {
-      grid = s.grid;
-      olds = m;
-      news = n;
-      means = is;
-      others_mean = subst (λ g. Means new g n) (sym h.0) also;
-      there = subst (λ l. ¬ LackLayer l m n) e (h.1 m n of of_others);
-    }
+pub diff_answer : (old new : List ℕ) (s t : TopologyParts) → MeansTopology old s → MeansTopology new t → {layer key l k : Option (List ℕ)} {j b : Bool} → layer ≡ l → key ≡ k → j ≡ b → (u : List ℕ) →
+    IsComparisonText s t layer key j u → IsDiffAnswer old new l k b u
+diff_answer old new s t means others {layer} {key} {l} {k} {j} {b} e f g u is = record {
+  olds = s;
+  news = t;
+  means = means;
+  others_mean = others;
+  is = subst (λ a. IsComparisonText s t l k a u) g (subst (λ a. IsComparisonText s t l a j u) f (subst (λ a. IsComparisonText s t a key j u) e is));
+}

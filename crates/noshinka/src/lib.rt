@@ -6,7 +6,7 @@ ghost use Rattle.outputs.specs.BuiltText.Maps.{IsTextOfTexts};
 ghost use Rattle.merging.specs.Merge.{lent_texts, IsMergeOf};
 ghost use Rattle.noshinka.specs.Answers.{IsCanonical, IsFeatureText, IsInfoAnswer, IsMeshText, IsNeighborsAnswer, IsNotCanonical, IsRemoval};
 ghost use Rattle.noshinka.specs.Choices.{edges_of, scope_of};
-ghost use Rattle.noshinka.specs.Differing.{AreTextsComparable, IsDiffRefusal};
+ghost use Rattle.noshinka.specs.Differing.{IsDiffAnswer, IsDiffRefusal};
 ghost use Rattle.noshinka.specs.Ends.{EndsWith, IsVerdict};
 ghost use Rattle.noshinka.specs.Lent.{grid_of, lent_sources};
 ghost use Rattle.noshinka.specs.Listing.{IsFaultText, IsListRefusal, faults_as, format_of};
@@ -183,7 +183,7 @@ pub extern "C" fn noshinka_diff(
     json: u32,
     room: &mut [u8],
 ) -> Outcome
-    ensures { EndsWith (λ _. AreTextsComparable text.now other.now (scope_of scope layer.now)) (IsDiffRefusal (record { scope = scope; layer = layer.entry; keyed = keyed; key = key.entry; json = json }) text.now other.now) result room.old room.new }
+    ensures { EndsWith (IsDiffAnswer text.now other.now (scope_of scope layer.now) (scope_of keyed key.now) (nat_eq json 1)) (IsDiffRefusal (record { scope = scope; layer = layer.entry; keyed = keyed; key = key.entry; json = json }) text.now other.now) result room.old room.new }
 {
     let asked = Asked {
         scope,

@@ -184,11 +184,7 @@ fn text_of_info(alloc: Global, topology: &Topology, is_json: bool) -> Result<Vec
 }
 
 /// Writes what a topology is made of.
-fn write_info<W: Sink>(
-    topology: &Topology,
-    is_json: bool,
-    sink: &mut W,
-) -> Result<(), WriteFault>
+fn write_info<W: Sink>(topology: &Topology, is_json: bool, sink: &mut W) -> Result<(), WriteFault>
     ensures whole { OnOk result (TookAll (W.seen sink.old) (W.seen sink.new) (info_text is_json topology.now)) }
     ensures part { OnErr result (TookPart (W.seen sink.old) (W.seen sink.new) (info_text is_json topology.now)) }
 {

@@ -14,7 +14,7 @@ use Rattle.sinks.specs.Texts.{joined}
 use Rattle.topo.proofs.FeatureOrder.{id_derived_is}
 use Rattle.topo.specs.Parts.{LayerParts, TopologyParts}
 use Rattle.topo.specs.declared.geom.Geom.{Geom}
-use Rattle.outputs.specs.DifferenceJson.{change_object, difference_json, geometry_member, has_objects, ids_at, key_member, layer_objects, member_object, names_text, objects_text, single_object}
+use Rattle.outputs.specs.DifferenceJson.{change_object, difference_json, geometry_member, has_objects, ids_at, is_missing, key_member, layer_objects, member_object, names_text, objects_text, single_object}
 use Rattle.outputs.specs.DifferenceLines.{change_line, counts_line, difference_lines, geometry_part, ids_part, layer_head, layer_lines, member_line, parts_text, single_line}
 use Rattle.outputs.specs.DifferenceParts.{ToldLayer, has_other_id, has_some, layer_in, layer_name, told_layer}
 use Rattle.outputs.specs.DifferenceText.{counts_of}
@@ -101,9 +101,15 @@ has_objects_is b l {h} {k} {r} {rs} {ns} {cs} removed added changed olds news la
     let two : k ≡ has_some (has_some b l.removed.items) l.added.items = news ∙ (λ i. has_some (one i) (added i)) in
     last ∙ (λ i. has_some (two i) (changed i))
 
-pub objects_step : (told : LayerChanges → ToldLayer) {b h : Bool} (ls xs : List LayerChanges) (l : LayerChanges) {v : ToldLayer} → ls ≡ l ∷ xs → v ≡ told l → h ≡ has_objects b l
+pub objects_step : (told : LayerChanges → ToldLayer) (b : Bool) {h : Bool} (ls xs : List LayerChanges) (l : LayerChanges) {v : ToldLayer} → ls ≡ l ∷ xs → v ≡ told l → h ≡ has_objects b l
     → objects_text told b ls ≡ layer_objects b v ++ objects_text told h xs
-objects_step told {b} {h} ls xs l {v} first view any = ap (objects_text told b) first ∙ (λ i. layer_objects b (sym view i) ++ objects_text told (sym any i) xs)
+objects_step told b {h} ls xs l {v} first view any = ap (objects_text told b) first ∙ (λ i. layer_objects b (sym view i) ++ objects_text told (sym any i) xs)
+
+pub names_step : (told : LayerChanges → ToldLayer) (is_added : Bool) (b : Bool) {h r : Bool} (ls xs : List LayerChanges) (l : LayerChanges) {v : ToldLayer} → ls ≡ l ∷ xs → v ≡ told l → r ≡ is_missing is_added l → h ≡ (b || r)
+    → names_text told is_added b ls ≡ cond r (cond b (codes ",") [] ++ v.name) [] ++ names_text told is_added h xs
+names_step told is_added b {h} {r} ls xs l {v} first view missing any =
+    let more : h ≡ (b || is_missing is_added l) = any ∙ (λ i. b || missing i) in
+    ap (names_text told is_added b) first ∙ (λ i. cond (sym missing i) (cond b (codes ",") [] ++ (sym view i).name) [] ++ names_text told is_added (sym more i) xs)
 
 pub json_text_is : (d : Difference) (old new : TopologyParts) {k : ChangeCounts} → k ≡ counts_of d.layers.items
     → (codes "{\"added\":" ++ decimal k.added)

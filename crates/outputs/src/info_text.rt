@@ -107,17 +107,11 @@ impl Written for KindsLine {
         );
         let many = Then(
             KindPart(b"MultiPoint", self.0.multi_points),
-            Then(
-                KindPart(b"MultiPolygon", self.0.multi_polygons),
-                points,
-            ),
+            Then(KindPart(b"MultiPolygon", self.0.multi_polygons), points),
         );
         Then(
             KindPart(b"LineString", self.0.lines),
-            Then(
-                KindPart(b"MultiLineString", self.0.multi_lines),
-                many,
-            ),
+            Then(KindPart(b"MultiLineString", self.0.multi_lines), many),
         )
         .write(sink)
     }
@@ -168,10 +162,7 @@ impl Written for BboxMember {
     ghost text = { λ b. bbox_member b.0 };
 
     fn write<W: Sink>(&self, sink: &mut W) -> Result<(), WriteFault> {
-        Then(
-            Text(b",\"bbox\":["),
-            Then(Corners(self.0), Text(b"]")),
-        ).write(sink)
+        Then(Text(b",\"bbox\":["), Then(Corners(self.0), Text(b"]"))).write(sink)
     }
 }
 
@@ -210,20 +201,14 @@ impl Written for KindsMembers {
         let many = Then(
             Worded(",\"MultiPoint\":", Digits(self.0.multi_points)),
             Then(
-                Worded(
-                    ",\"MultiPolygon\":",
-                    Digits(self.0.multi_polygons),
-                ),
+                Worded(",\"MultiPolygon\":", Digits(self.0.multi_polygons)),
                 points,
             ),
         );
         Then(
             Worded("\"LineString\":", Digits(self.0.lines)),
             Then(
-                Worded(
-                    ",\"MultiLineString\":",
-                    Digits(self.0.multi_lines),
-                ),
+                Worded(",\"MultiLineString\":", Digits(self.0.multi_lines)),
                 many,
             ),
         )

@@ -74,14 +74,8 @@ impl<'a> Notation<Single> for SingleObjects<'a> {
             KeyMember(self.1, &value.key),
             Then(Text(b",\"properties\":"), properties),
         );
-        let id = Then(
-            Text(b"\",\"id\":"),
-            Then(IdAt(self.2, value.number), tail),
-        );
-        Then(
-            Text(b"{\"change\":\""),
-            Then(Chars(self.0), id),
-        ).write(sink)
+        let id = Then(Text(b"\",\"id\":"), Then(IdAt(self.2, value.number), tail));
+        Then(Text(b"{\"change\":\""), Then(Chars(self.0), id)).write(sink)
     }
 }
 
@@ -164,10 +158,7 @@ impl<'a> Written for KindsMember<'a> {
 
     fn write<W: Sink>(&self, sink: &mut W) -> Result<(), WriteFault> {
         let old = Then(Chars(kind_of(self.0)), Text(b"\"}"));
-        let new = Then(
-            Chars(kind_of(self.1)),
-            Then(Text(b"\",\"old\":\""), old),
-        );
+        let new = Then(Chars(kind_of(self.1)), Then(Text(b"\",\"old\":\""), old));
         let kinds = Then(Text(b",\"kind\":{\"new\":\""), new);
         OneOf(is_one_kind(self.0, self.1), Text(b""), kinds).write(sink)
     }
@@ -229,17 +220,11 @@ impl<'a> Notation<FeatureChange> for ChangeObjects<'a> {
 
     fn write_value<W: Sink>(&self, value: &FeatureChange, sink: &mut W) -> Result<(), WriteFault> {
         let members = Each(value.members.as_slice(), &MemberObjects);
-        let properties = Then(
-            Text(b",\"properties\":{"),
-            Then(members, Text(b"}}")),
-        );
+        let properties = Then(Text(b",\"properties\":{"), Then(members, Text(b"}}")));
         let tail = Then(KeyMember(self.0, &value.key), properties);
         let ids = Then(Text(b",\"id\":"), Then(IdsAt(self.0, value), tail));
         let geometry = GeometryMember(self.0, value);
-        Then(
-            Text(b"{\"change\":\"changed\""),
-            Then(geometry, ids),
-        ).write(sink)
+        Then(Text(b"{\"change\":\"changed\""), Then(geometry, ids)).write(sink)
     }
 }
 
@@ -344,12 +329,7 @@ impl<'a> Written for Names<'a> {
     ghost text = { λ n. names_text (told_layer n.0.difference.now.is_keyed n.0.old.now n.0.new.now) n.1 false n.0.difference.now.layers.items };
 
     fn write<W: Sink>(&self, sink: &mut W) -> Result<(), WriteFault> {
-        write_names(
-            sink,
-            self.0,
-            self.1,
-            self.0.difference.layers.as_slice(),
-        )
+        write_names(sink, self.0, self.1, self.0.difference.layers.as_slice())
     }
 }
 
@@ -365,16 +345,13 @@ fn write_names<W: Sink>(
     let mut is_behind = false;
     let mut left = layers;
     while let Some((changes, after)) = left.split_first() {
-        let is_missing = is_missing(is_added, changes);
-        let name = Then(
-            If(is_behind, Text(b",")),
-            Chars(view.layer(changes).name),
-        );
-        match If(is_missing, name).write(sink) {
+        let is_told = is_missing(is_added, changes);
+        let name = Then(If(is_behind, Text(b",")), Chars(view.layer(changes).name));
+        match If(is_told, name).write(sink) {
             Ok(()) => left = after,
             Err(fault) => return Err(fault),
         }
-        is_behind = is_either(is_behind, is_missing);
+        is_behind = is_either(is_behind, is_told);
     }
     Ok(())
 }
@@ -402,18 +379,12 @@ pub fn write_json<W: Sink>(
         Worded("]},\"removed\":", Digits(counts.removed)),
         Text(b"}"),
     );
-    let removed = Then(
-        Text(b"],\"removed\":["),
-        Then(Names(view, false), end),
-    );
+    let removed = Then(Text(b"],\"removed\":["), Then(Names(view, false), end));
     let layers = Then(
         Text(b"],\"layers\":{\"added\":["),
         Then(Names(view, true), removed),
     );
-    let objects = Then(
-        Text(b",\"differences\":["),
-        Then(Objects(view), layers),
-    );
+    let objects = Then(Text(b",\"differences\":["), Then(Objects(view), layers));
     let changed = Worded(",\"changed\":", Digits(counts.changed));
     let added = Worded("{\"added\":", Digits(counts.added));
     Then(added, Then(changed, objects)).write(sink)
