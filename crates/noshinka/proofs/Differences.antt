@@ -1,5 +1,5 @@
 -- Refusals of the parts of a difference, as refusals of the difference.
-use Rattle.std.proofs.Common.{◌≡◌, ◌↔◌, ◌≤◌, ◌∙◌, ℕ, Bool, List, Option, Result, Ok, Err, refl, subst, sym, inl, inr}
+use Rattle.std.proofs.Common.{◌≡◌, ◌↔◌, ◌≤◌, ◌∙◌, ℕ, Bool, List, Option, Result, Ok, Err, ap, refl, subst, sym, inl, inr}
 use Rattle.outputs.specs.DifferenceText.{LackLayer}
 use Rattle.shapes.specs.Maps.{Layers}
 use Rattle.topo.specs.OfMap.{IsOf}
@@ -15,9 +15,9 @@ use Rattle.noshinka.specs.declared.refusal.CallRefusal.TheVariants.{OtherGrid, N
 pub other_grid : (s t : TopologyParts) (layer : Option (List ℕ)) → (s.grid ≡ t.grid → ⊥) → IsTopologiesRefusal s t layer (OtherGrid 1)
 other_grid s t layer apart = inr (inr (refl, apart))
 
-pub no_layer : (s t : TopologyParts) (layer : Option (List ℕ)) {T E : Type 0} (e : E) →
-    ((m n : Layers) → IsOf m s → IsOf n t → (◌≡◌ {A = Result T E} (Err e) (Err e)) ↔ ((s.grid ≡ t.grid) × LackLayer layer m n)) → s.grid ≡ t.grid → IsTopologiesRefusal s t layer NoLayer
-no_layer s t layer e exact same = inr (inl (refl, same, λ m n of of_others. ((exact m n of of_others).0 refl).1))
+pub no_layer : (s t : TopologyParts) (layer : Option (List ℕ)) {T E : Type 0} (f e : E) → f ≡ e →
+    ((m n : Layers) → IsOf m s → IsOf n t → (◌≡◌ {A = Result T E} (Err f) (Err e)) ↔ ((s.grid ≡ t.grid) × LackLayer layer m n)) → s.grid ≡ t.grid → IsTopologiesRefusal s t layer NoLayer
+no_layer s t layer f e told exact same = inr (inl (refl, (same, λ m n of of_others. ((exact m n of of_others).0 (ap Err told)).1)))
 
 pub no_memory : (s t : TopologyParts) (layer : Option (List ℕ)) → IsTopologiesRefusal s t layer OutOfMemory
 no_memory s t layer = inl refl

@@ -16,4 +16,5 @@ returns-in-Ok-clause-made c =
     )
 
 pub returns-in-Err-NoLayer-clause-refused : goal.returns-in-Err-NoLayer-clause-refused
-returns-in-Err-NoLayer-clause-refused c = no_layer c.args.old.now c.args.new.now _ _ c.in-Err-NoLayer.ensures.no_layer (c.if-not-on_one_grid.ensures.0 refl)
+returns-in-Err-NoLayer-clause-refused c =
+    no_layer c.args.old.now c.args.new.now (option_copied c.args.options.now.layer) c.in-Err-NoLayer.field-0 _ c.in-Err-NoLayer.field-0-is c.in-Err-NoLayer.ensures.no_layer (c.if-not-on_one_grid.ensures.0 refl)
