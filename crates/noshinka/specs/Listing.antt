@@ -1,9 +1,12 @@
 -- The faults of a text as an answer, and why they are not listed.
-use Rattle.std.specs.Prelude.{◌≡◌, ◌≤◌, ◌⊎◌, ℕ, Bool, true, false, List, map, nat_eq}
+use Rattle.std.specs.Prelude.{◌≡◌, ◌≤◌, ◌⊎◌, ℕ, All, Bool, true, false, List, map, nat_eq}
 use Rattle.faults.specs.Fault.{Pair}
 use Rattle.geojson_io.specs.Features.{faults_of_text as geojson_faults}
 use Rattle.grid.specs.Place.{Transform, IsTransform}
 use Rattle.outputs.specs.FaultReports.{array_text, reported_fault}
+use Rattle.outputs.specs.ReportsOfTexts.{IsReport}
+use Rattle.outputs.specs.declared.fault_reports.features.Format.{Format}
+use Rattle.outputs.specs.declared.fault_reports.features.Format.TheVariants.{GeoJson, Topology}
 use Rattle.outputs.specs.declared.fault_reports.report.FaultReport.{FaultReport}
 use Rattle.reading.specs.FaultLists.Found.{pairs_of}
 use Rattle.topo_io.specs.Roots.{faults_of_text}
@@ -11,11 +14,17 @@ use Rattle.noshinka.specs.Why.{IsChoiceRefusal}
 use Rattle.noshinka.specs.declared.refusal.CallRefusal.{CallRefusal}
 use Rattle.noshinka.specs.declared.refusal.CallRefusal.TheVariants.{BadGrid, OutOfMemory}
 
--- t is a JSON array of reports of just these faults, in order
-pub record IsFaultText (faults : List Pair) (t : List ℕ) : Type 0 where
+-- t is a JSON array of reports of just these faults, in order; each says where the fault is in a text of the format
+pub record IsFaultText (format : Format) (text : List ℕ) (faults : List Pair) (t : List ℕ) : Type 0 where
   pub reports : List FaultReport
   pub all : pairs_of (map reported_fault reports) ≡ faults
+  pub each : All (IsReport format text) reports
   pub is : t ≡ array_text reports
+
+-- the format of a text
+abbrev pub format_of : Bool → Format
+format_of true = GeoJson
+format_of false = Topology
 
 -- the faults of a GeoJSON text on a grid, or of a topology's text
 abbrev pub faults_as : Bool → Transform → List ℕ → List Pair

@@ -1,5 +1,5 @@
 -- Why calls give no answer.
-use Rattle.std.specs.Prelude.{◌≡◌, ◌≤◌, ◌⊎◌, ℕ, List, length, map, slice_get, Option, Some, None, IsUtf8, true}
+use Rattle.std.specs.Prelude.{◌≡◌, ◌≤◌, ◌⊎◌, ℕ, Bool, false, List, length, map, slice_get, Option, Some, None, IsUtf8, true}
 use Rattle.std.specs.List.{range_with_len}
 use Rattle.outputs.specs.BuiltText.Sources.{IsRefusal}
 use Rattle.outputs.specs.declared.built_text.building.BuildFault.{BuildFault}
@@ -204,33 +204,38 @@ IsLayerRefusal t scope OutOfMemory = Unit {0}
 abbrev pub LacksId : TopologyParts → List ℕ → Type 0
 LacksId t name = (gs : List Geom) × IsOfLayerNamed t.layers name gs × (lacks_id gs ≡ true)
 
--- the same, or a geometry of the layer has no id
-abbrev pub IsIdsRefusal : TopologyParts → List ℕ → CallRefusal → Type 0
-IsIdsRefusal t name BadGrid = ⊥
-IsIdsRefusal t name (BadName place) = ⊥
-IsIdsRefusal t name BadChoice = ⊥
-IsIdsRefusal t name NoId = LacksId t name
-IsIdsRefusal t name (Text place f) = ⊥
-IsIdsRefusal t name (OtherGrid place) = ⊥
-IsIdsRefusal t name NoText = ⊥
-IsIdsRefusal t name (BadPlan k) = ⊥
-IsIdsRefusal t name NoLayer = ForItsMap t (λ m. IsMissing m (Some name))
-IsIdsRefusal t name OutOfMemory = Unit {0}
+-- so it is where ids are asked for
+abbrev pub IfByIds : Bool → Type 0 → Type 0
+IfByIds true Fact = Fact
+IfByIds false Fact = ⊥
+
+-- the topology has no layer of that name, or memory was refused, or, where ids are asked for, a geometry of the layer has none
+abbrev pub IsIdsRefusal : TopologyParts → List ℕ → Bool → CallRefusal → Type 0
+IsIdsRefusal t name by BadGrid = ⊥
+IsIdsRefusal t name by (BadName place) = ⊥
+IsIdsRefusal t name by BadChoice = ⊥
+IsIdsRefusal t name by NoId = IfByIds by (LacksId t name)
+IsIdsRefusal t name by (Text place f) = ⊥
+IsIdsRefusal t name by (OtherGrid place) = ⊥
+IsIdsRefusal t name by NoText = ⊥
+IsIdsRefusal t name by (BadPlan k) = ⊥
+IsIdsRefusal t name by NoLayer = ForItsMap t (λ m. IsMissing m (Some name))
+IsIdsRefusal t name by OutOfMemory = Unit {0}
 
 -- the text is accepted, and a geometry of the layer of the name has no id in the topology of what it means
 abbrev pub TextLacksId : List ℕ → Option (List ℕ) → Type 0
 TextLacksId text None = ⊥
 TextLacksId text (Some name) = (t : TopologyParts) × MeansTopology text t × LacksId t name
 
--- why a question about a text is not answered, where `Bad` says that a number stands for no choice
-abbrev pub IsQuestionRefusal : Type 0 → List ℕ → Option (List ℕ) → CallRefusal → Type 0
-IsQuestionRefusal Bad text scope BadGrid = ⊥
-IsQuestionRefusal Bad text scope (BadName place) = (place ≡ 0) × HasBadScope scope
-IsQuestionRefusal Bad text scope BadChoice = Bad
-IsQuestionRefusal Bad text scope NoId = TextLacksId text scope
-IsQuestionRefusal Bad text scope (Text place f) = IsTextRefusal 0 text (Text place f)
-IsQuestionRefusal Bad text scope (OtherGrid place) = ⊥
-IsQuestionRefusal Bad text scope NoText = ⊥
-IsQuestionRefusal Bad text scope (BadPlan k) = ⊥
-IsQuestionRefusal Bad text scope NoLayer = LacksLayer text scope
-IsQuestionRefusal Bad text scope OutOfMemory = Unit {0}
+-- why a question about a text is not answered, where `Bad` says that a number stands for no choice; an id is missed only where ids are asked for
+abbrev pub IsQuestionRefusal : Type 0 → Bool → List ℕ → Option (List ℕ) → CallRefusal → Type 0
+IsQuestionRefusal Bad by text scope BadGrid = ⊥
+IsQuestionRefusal Bad by text scope (BadName place) = (place ≡ 0) × HasBadScope scope
+IsQuestionRefusal Bad by text scope BadChoice = Bad
+IsQuestionRefusal Bad by text scope NoId = IfByIds by (TextLacksId text scope)
+IsQuestionRefusal Bad by text scope (Text place f) = IsTextRefusal 0 text (Text place f)
+IsQuestionRefusal Bad by text scope (OtherGrid place) = ⊥
+IsQuestionRefusal Bad by text scope NoText = ⊥
+IsQuestionRefusal Bad by text scope (BadPlan k) = ⊥
+IsQuestionRefusal Bad by text scope NoLayer = LacksLayer text scope
+IsQuestionRefusal Bad by text scope OutOfMemory = Unit {0}

@@ -1,6 +1,8 @@
 //! What differs between two borrowed topologies.
-ghost use Rattle.noshinka.specs.Differing.{IsDiffRefusal, IsTopologiesRefusal};
-ghost use Rattle.std.specs.Prelude.{◌≤◌, ⊤, IfErr, IfOk};
+ghost use Rattle.noshinka.specs.Differing.{IsComparisonText, IsDiffAnswer, IsDiffRefusal, IsTopologiesRefusal};
+ghost use Rattle.noshinka.specs.Choices.{scope_of};
+ghost use Rattle.std.specs.Option.{option_copied};
+ghost use Rattle.std.specs.Prelude.{◌≤◌, IfErr, IfOk, nat_eq};
 
 use crate::choices::{flag, scope_named};
 use crate::making::on_one_grid;
@@ -12,14 +14,15 @@ use std::alloc::Global;
 use topo::Topology;
 
 /// The text of what differs between two topologies on one grid.
-#[tactic(auto, using(crate::proofs::Differences::other_grid, crate::proofs::Differences::no_layer, crate::proofs::Differences::no_memory))]
+#[tactic(auto, using(crate::proofs::Differences::other_grid, crate::proofs::Differences::no_memory))]
 fn text_of_difference(
     alloc: Global,
     old: &Topology,
     new: &Topology,
     options: &DifferenceOptions<'_>,
 ) -> Result<Vec<u8>, CallRefusal>
-    ensures refused { IfErr result (IsTopologiesRefusal old.now.grid new.now.grid) }
+    ensures made { IfOk result (λ t. IsComparisonText old.now new.now (option_copied options.now.layer) (option_copied options.now.key) options.now.json t.items) }
+    ensures refused { IfErr result (IsTopologiesRefusal old.now new.now (option_copied options.now.layer)) }
 {
     if !on_one_grid(old, new) {
         return Err(CallRefusal::OtherGrid(1));
@@ -51,7 +54,7 @@ pub(crate) fn diff(
     new: &[u8],
     asked: &Asked<'_>,
 ) -> Result<Vec<u8>, CallRefusal>
-    ensures made { IfOk result (λ _. ⊤) }
+    ensures made { IfOk result (λ t. IsDiffAnswer old.now new.now (scope_of asked.now.scope asked.now.layer.now) (scope_of asked.now.keyed asked.now.key.now) (nat_eq asked.now.json 1) t.items) }
     ensures refused { IfErr result (IsDiffRefusal asked.now old.now new.now) }
 {
     let json = flag(asked.json)?;

@@ -1,9 +1,10 @@
 //! All faults of a borrowed text.
 ghost use Rattle.noshinka.specs.Lent.{grid_of};
-ghost use Rattle.noshinka.specs.Listing.{IsFaultText, IsFormatRefusal, IsGridRefusal, IsListRefusal, faults_as};
+ghost use Rattle.noshinka.specs.Listing.{IsFaultText, IsFormatRefusal, IsGridRefusal, IsListRefusal, faults_as, format_of};
 ghost use Rattle.reading.specs.FaultLists.Found.{pairs_of};
 ghost use Rattle.geojson_io.specs.Features.{faults_of_text as geojson_faults};
 ghost use Rattle.outputs.specs.FaultReports.{array_text};
+ghost use Rattle.outputs.specs.declared.fault_reports.features.Format.TheVariants.{GeoJson, Topology};
 ghost use Rattle.std.specs.Prelude.{◌≡◌, ◌≤◌, IfErr, IfOk, nat_eq};
 ghost use Rattle.topo_io.specs.Roots.{faults_of_text};
 
@@ -34,7 +35,7 @@ fn text_of_faults(
     text: &[u8],
     faults: Vec<Fault>,
 ) -> Result<Vec<u8>, OutOfMemory>
-    ensures { IfOk result (λ t. IsFaultText (pairs_of faults.items) t.items) }
+    ensures { IfOk result (λ t. IsFaultText format text.now (pairs_of faults.items) t.items) }
 {
     let reports = reports(alloc, format, text, faults)?;
     text_of_reports(alloc, reports.as_slice())
@@ -42,7 +43,7 @@ fn text_of_faults(
 
 /// The faults of a topology's text.
 fn topology_faults(alloc: Global, text: &[u8]) -> Result<Vec<u8>, OutOfMemory>
-    ensures { IfOk result (λ t. IsFaultText (faults_of_text text.now) t.items) }
+    ensures { IfOk result (λ t. IsFaultText Topology text.now (faults_of_text text.now) t.items) }
 {
     let faults = topo_io::faults(alloc, text)?;
     text_of_faults(alloc, Format::Topology, text, faults)
@@ -50,7 +51,7 @@ fn topology_faults(alloc: Global, text: &[u8]) -> Result<Vec<u8>, OutOfMemory>
 
 /// The faults of a GeoJSON text on a grid.
 fn geojson_faults_on(alloc: Global, text: &[u8], grid: &GridNumbers) -> Result<Vec<u8>, CallRefusal>
-    ensures listed { IfOk result (λ t. IsFaultText (geojson_faults (grid_of grid.now) text.now) t.items) }
+    ensures listed { IfOk result (λ t. IsFaultText GeoJson text.now (geojson_faults (grid_of grid.now) text.now) t.items) }
     ensures refused { IfErr result (IsGridRefusal (grid_of grid.now)) }
 {
     let Some(grid) = grid_within(grid) else {
@@ -67,7 +68,7 @@ fn faults_of_format(
     is_geojson: bool,
     grid: &GridNumbers,
 ) -> Result<Vec<u8>, CallRefusal>
-    ensures listed { IfOk result (λ t. IsFaultText (faults_as is_geojson (grid_of grid.now) text.now) t.items) }
+    ensures listed { IfOk result (λ t. IsFaultText (format_of is_geojson) text.now (faults_as is_geojson (grid_of grid.now) text.now) t.items) }
     ensures refused { IfErr result (IsFormatRefusal is_geojson (grid_of grid.now)) }
 {
     if is_geojson {
@@ -84,7 +85,7 @@ pub(crate) fn faults(
     format: u32,
     grid: &GridNumbers,
 ) -> Result<Vec<u8>, CallRefusal>
-    ensures listed { IfOk result (λ t. IsFaultText (faults_as (nat_eq format 1) (grid_of grid.now) text.now) t.items) }
+    ensures listed { IfOk result (λ t. IsFaultText (format_of (nat_eq format 1)) text.now (faults_as (nat_eq format 1) (grid_of grid.now) text.now) t.items) }
     ensures refused { IfErr result (IsListRefusal format (grid_of grid.now)) }
 {
     let is_geojson = flag(format)?;

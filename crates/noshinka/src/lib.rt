@@ -4,16 +4,16 @@
 
 ghost use Rattle.outputs.specs.BuiltText.Maps.{IsTextOfTexts};
 ghost use Rattle.merging.specs.Merge.{lent_texts, IsMergeOf};
-ghost use Rattle.noshinka.specs.Answers.{IsCanonical, IsFeatureText, IsMeshText, IsNeighborsAnswer, IsNotCanonical, IsRemoval};
+ghost use Rattle.noshinka.specs.Answers.{IsCanonical, IsFeatureText, IsInfoAnswer, IsMeshText, IsNeighborsAnswer, IsNotCanonical, IsRemoval};
 ghost use Rattle.noshinka.specs.Choices.{edges_of, scope_of};
-ghost use Rattle.noshinka.specs.Differing.{IsDiffRefusal};
+ghost use Rattle.noshinka.specs.Differing.{IsDiffAnswer, IsDiffRefusal};
 ghost use Rattle.noshinka.specs.Ends.{EndsWith, IsVerdict};
 ghost use Rattle.noshinka.specs.Lent.{grid_of, lent_sources};
-ghost use Rattle.noshinka.specs.Listing.{IsFaultText, IsListRefusal, faults_as};
+ghost use Rattle.noshinka.specs.Listing.{IsFaultText, IsListRefusal, faults_as, format_of};
 ghost use Rattle.noshinka.specs.Snapped.{IsSnapped, IsSnapRefusal, rules_of};
 ghost use Rattle.noshinka.specs.Why.{IsBuildRefusal, IsMergeRefusal, IsQuestionRefusal, IsRemoveRefusal, IsTextRefusal};
 ghost use Rattle.std.specs.List.{range_with_len};
-ghost use Rattle.std.specs.Prelude.{◌≡◌, ◌≤◌, ◌⊎◌, ⊤, None, Some, length, nat_eq};
+ghost use Rattle.std.specs.Prelude.{◌≡◌, ◌≤◌, ◌⊎◌, None, Some, false, length, nat_eq};
 
 mod choices;
 mod differing;
@@ -100,7 +100,7 @@ pub extern "C" fn noshinka_faults(
     grid: &GridNumbers,
     room: &mut [u8],
 ) -> Outcome
-    ensures { EndsWith (IsFaultText (faults_as (nat_eq format 1) (grid_of grid.now) text.now)) (IsListRefusal format (grid_of grid.now)) result room.old room.new }
+    ensures { EndsWith (IsFaultText (format_of (nat_eq format 1)) text.now (faults_as (nat_eq format 1) (grid_of grid.now) text.now)) (IsListRefusal format (grid_of grid.now)) result room.old room.new }
 {
     answer(alloc, faults(alloc, text, format, grid), room)
 }
@@ -113,7 +113,7 @@ pub extern "C" fn noshinka_feature(
     layer: &[u8],
     room: &mut [u8],
 ) -> Outcome
-    ensures { EndsWith (IsFeatureText text.now layer.now) (IsQuestionRefusal ⊥ text.now (Some layer.now)) result room.old room.new }
+    ensures { EndsWith (IsFeatureText text.now layer.now) (IsQuestionRefusal ⊥ false text.now (Some layer.now)) result room.old room.new }
 {
     answer(alloc, feature(alloc, text, layer), room)
 }
@@ -130,7 +130,7 @@ pub extern "C" fn noshinka_mesh(
     edges: u32,
     room: &mut [u8],
 ) -> Outcome
-    ensures { EndsWith (IsMeshText text.now (scope_of scope layer.now) (edges_of edges)) (IsQuestionRefusal ((2 ≤ scope) ⊎ (3 ≤ edges)) text.now (scope_of scope layer.now)) result room.old room.new }
+    ensures { EndsWith (IsMeshText text.now (scope_of scope layer.now) (edges_of edges)) (IsQuestionRefusal ((2 ≤ scope) ⊎ (3 ≤ edges)) false text.now (scope_of scope layer.now)) result room.old room.new }
 {
     answer(alloc, mesh(alloc, text, scope, layer, edges), room)
 }
@@ -145,7 +145,7 @@ pub extern "C" fn noshinka_neighbors(
     ids: u32,
     room: &mut [u8],
 ) -> Outcome
-    ensures { EndsWith (IsNeighborsAnswer text.now layer.now (nat_eq ids 1)) (IsQuestionRefusal (2 ≤ ids) text.now (Some layer.now)) result room.old room.new }
+    ensures { EndsWith (IsNeighborsAnswer text.now layer.now (nat_eq ids 1)) (IsQuestionRefusal (2 ≤ ids) (nat_eq ids 1) text.now (Some layer.now)) result room.old room.new }
 {
     answer(alloc, neighbors(alloc, text, layer, ids), room)
 }
@@ -154,7 +154,7 @@ pub extern "C" fn noshinka_neighbors(
 /// is 1.
 #[unsafe(no_mangle)]
 pub extern "C" fn noshinka_info(alloc: Global, text: &[u8], json: u32, room: &mut [u8]) -> Outcome
-    ensures { EndsWith (λ _. ⊤) (IsQuestionRefusal (2 ≤ json) text.now None) result room.old room.new }
+    ensures { EndsWith (IsInfoAnswer text.now (nat_eq json 1)) (IsQuestionRefusal (2 ≤ json) false text.now None) result room.old room.new }
 {
     answer(alloc, info(alloc, text, json), room)
 }
@@ -183,7 +183,7 @@ pub extern "C" fn noshinka_diff(
     json: u32,
     room: &mut [u8],
 ) -> Outcome
-    ensures { EndsWith (λ _. ⊤) (IsDiffRefusal (record { scope = scope; layer = layer.entry; keyed = keyed; key = key.entry; json = json }) text.now other.now) result room.old room.new }
+    ensures { EndsWith (IsDiffAnswer text.now other.now (scope_of scope layer.now) (scope_of keyed key.now) (nat_eq json 1)) (IsDiffRefusal (record { scope = scope; layer = layer.entry; keyed = keyed; key = key.entry; json = json }) text.now other.now) result room.old room.new }
 {
     let asked = Asked {
         scope,

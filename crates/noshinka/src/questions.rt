@@ -1,12 +1,12 @@
 //! Answers to questions about a borrowed topology.
-ghost use Rattle.query.specs.Collections.{layer_collection};
-ghost use Rattle.noshinka.specs.Answers.{IsBordersText, IsFeatureText, IsListsText, IsMeshText, IsNeighborsAnswer};
+ghost use Rattle.noshinka.specs.Answers.{IsBordersText, IsCollectionText, IsFeatureText, IsInfoAnswer, IsListsText, IsMeshText, IsNeighborsAnswer};
 ghost use Rattle.noshinka.specs.Choices.{edges_of, scope_of};
 ghost use Rattle.noshinka.specs.Why.{IsIdsRefusal, IsLayerRefusal, IsQuestionRefusal};
 ghost use Rattle.query.specs.AnswerTexts.{neighbor_ids_text, neighbors_text};
+ghost use Rattle.outputs.specs.InfoText.{info_text};
+ghost use Rattle.sinks.specs.Writes.{TookAll, TookPart};
 ghost use Rattle.std.specs.Option.{option_map};
-ghost use Rattle.std.specs.Prelude.{◌≡◌, ◌≤◌, ◌⊎◌, ⊤, IfErr, IfOk, Some, None, map, nat_eq};
-ghost use Rattle.topo.specs.ItsMap.{ForItsMap};
+ghost use Rattle.std.specs.Prelude.{◌≡◌, ◌≤◌, ◌⊎◌, IfErr, IfOk, OnErr, OnOk, Some, None, false, map, nat_eq, true};
 ghost use Rattle.topo.specs.Parts.{IsOfLayerNamed};
 
 use crate::choices::{edges_named, flag, is_id_missing, scope_named};
@@ -19,13 +19,13 @@ use query::{
     Edges, LayerFault, borders, neighbors as lists_of_neighbors, write_layer, write_mesh,
     write_neighbor_ids, write_neighbors,
 };
-use sinks::Kept;
+use sinks::{Kept, Sink, WriteFault};
 use std::alloc::Global;
 use topo::{Geom, Topology};
 
 /// The text of a layer as GeoJSON.
 fn text_of_layer(alloc: Global, topology: &Topology, layer: &str) -> Result<Vec<u8>, CallRefusal>
-    ensures text { IfOk result (λ t. ForItsMap topology.now (λ m. t.items ≡ layer_collection topology.now.grid m layer.now)) }
+    ensures text { IfOk result (λ t. IsCollectionText topology.now layer.now t.items) }
     ensures refused { IfErr result (IsLayerRefusal topology.now (Some layer.now)) }
 {
     let mut kept = Kept::new(alloc);
@@ -40,7 +40,7 @@ fn text_of_layer(alloc: Global, topology: &Topology, layer: &str) -> Result<Vec<
 #[tactic(auto, using(crate::proofs::Texts::feature_answer, crate::proofs::PartRefusals::name_question, crate::proofs::PartRefusals::text_question, crate::proofs::PartRefusals::layer_question))]
 pub(crate) fn feature(alloc: Global, text: &[u8], layer: &[u8]) -> Result<Vec<u8>, CallRefusal>
     ensures features { IfOk result (λ t. IsFeatureText text.now layer.now t.items) }
-    ensures refused { IfErr result (IsQuestionRefusal ⊥ text.now (Some layer.now)) }
+    ensures refused { IfErr result (IsQuestionRefusal ⊥ false text.now (Some layer.now)) }
 {
     let layer = name_of(0, layer)?;
     let topology = topology_of(alloc, 0, text)?;
@@ -76,7 +76,7 @@ pub(crate) fn mesh(
     edges: u32,
 ) -> Result<Vec<u8>, CallRefusal>
     ensures borders { IfOk result (λ t. IsMeshText text.now (scope_of scope layer.now) (edges_of edges) t.items) }
-    ensures refused { IfErr result (IsQuestionRefusal ((2 ≤ scope) ⊎ (3 ≤ edges)) text.now (scope_of scope layer.now)) }
+    ensures refused { IfErr result (IsQuestionRefusal ((2 ≤ scope) ⊎ (3 ≤ edges)) false text.now (scope_of scope layer.now)) }
 {
     let layer = scope_named(scope, layer)?;
     let edges = edges_named(edges)?;
@@ -113,7 +113,7 @@ fn text_of_id_lists(
 /// The geometries of a layer, each of which has an id.
 fn geometries_with_ids<'a>(topology: &'a Topology, layer: &str) -> Result<&'a [Geom], CallRefusal>
     ensures geometries { IfOk result (λ gs. IsOfLayerNamed topology.now.layers layer.now gs.now) }
-    ensures refused { IfErr result (IsIdsRefusal topology.now layer.now) }
+    ensures refused { IfErr result (IsIdsRefusal topology.now layer.now true) }
 {
     let Some(geometries) = topology.geometries(layer) else {
         return Err(CallRefusal::NoLayer);
@@ -133,7 +133,7 @@ fn text_of_neighbors(
     is_by_ids: bool,
 ) -> Result<Vec<u8>, CallRefusal>
     ensures text { IfOk result (λ t. IsListsText topology.now layer.now is_by_ids t.items) }
-    ensures refused { IfErr result (IsIdsRefusal topology.now layer.now) }
+    ensures refused { IfErr result (IsIdsRefusal topology.now layer.now is_by_ids) }
 {
     let lists = lists_of_neighbors(alloc, topology, layer)?;
     if is_by_ids {
@@ -153,7 +153,7 @@ pub(crate) fn neighbors(
     ids: u32,
 ) -> Result<Vec<u8>, CallRefusal>
     ensures neighbors { IfOk result (λ t. IsNeighborsAnswer text.now layer.now (nat_eq ids 1) t.items) }
-    ensures refused { IfErr result (IsQuestionRefusal (2 ≤ ids) text.now (Some layer.now)) }
+    ensures refused { IfErr result (IsQuestionRefusal (2 ≤ ids) (nat_eq ids 1) text.now (Some layer.now)) }
 {
     let is_by_ids = flag(ids)?;
     let layer = name_of(0, layer)?;
@@ -162,25 +162,35 @@ pub(crate) fn neighbors(
 }
 
 /// What a topology's text is made of, as lines, or as JSON where `json` is 1.
-#[tactic(auto, using(crate::proofs::PartRefusals::choice_question, crate::proofs::PartRefusals::text_question))]
+#[tactic(auto, using(crate::proofs::Texts::info_answer, crate::proofs::PartRefusals::choice_question, crate::proofs::PartRefusals::text_question))]
 pub(crate) fn info(alloc: Global, text: &[u8], json: u32) -> Result<Vec<u8>, CallRefusal>
-    ensures made { IfOk result (λ _. ⊤) }
-    ensures refused { IfErr result (IsQuestionRefusal (2 ≤ json) text.now None) }
+    ensures made { IfOk result (λ t. IsInfoAnswer text.now (nat_eq json 1) t.items) }
+    ensures refused { IfErr result (IsQuestionRefusal (2 ≤ json) false text.now None) }
 {
     let is_json = flag(json)?;
     let topology = topology_of(alloc, 0, text)?;
     Ok(text_of_info(alloc, &topology, is_json)?)
 }
 
-fn text_of_info(alloc: Global, topology: &Topology, is_json: bool) -> Result<Vec<u8>, OutOfMemory> {
+/// The text of what a topology is made of.
+fn text_of_info(alloc: Global, topology: &Topology, is_json: bool) -> Result<Vec<u8>, OutOfMemory>
+    ensures { IfOk result (λ t. t.items ≡ info_text is_json topology.now) }
+{
     let mut kept = Kept::new(alloc);
-    let written = if is_json {
-        write_json(topology, &mut kept)
-    } else {
-        write_lines(topology, &mut kept)
-    };
-    match written {
+    match write_info(topology, is_json, &mut kept) {
         Ok(()) => Ok(kept.into_bytes()),
         Err(_) => Err(OutOfMemory),
+    }
+}
+
+/// Writes what a topology is made of.
+fn write_info<W: Sink>(topology: &Topology, is_json: bool, sink: &mut W) -> Result<(), WriteFault>
+    ensures whole { OnOk result (TookAll (W.seen sink.old) (W.seen sink.new) (info_text is_json topology.now)) }
+    ensures part { OnErr result (TookPart (W.seen sink.old) (W.seen sink.new) (info_text is_json topology.now)) }
+{
+    if is_json {
+        write_json(topology, sink)
+    } else {
+        write_lines(topology, sink)
     }
 }

@@ -1,6 +1,7 @@
 -- Two maps are alike exactly where nothing is told to differ between them.
 use Rattle.std.proofs.Common.{◌≡◌, ◌+◌, ◌<◌, ◌≤◌, ◌⊎◌, ◌++◌, ◌==◌, ◌&&◌, ℕ, suc, Bool, true, false, List, [], ◌∷◌, inl, inr, refl, sym, ap, ◌∙◌, subst, arith, length, Option, Some, None, IsSome, is_some, slice_get, get_or, vec_len, take}
-use Rattle.std.specs.Prelude.{◌↔◌, not, unwrap_or, map as map_list}
+use Rattle.std.specs.Borrow.{Bor}
+use Rattle.std.specs.Prelude.{◌↔◌, IfNone, IfSome, IsTrue, not, unwrap_or, map as map_list}
 use Rattle.std.specs.Cmp.{unsigned_Decides}
 use Rattle.std.specs.Cmp.Lexicographic.{nat_list_cmp_total, slice_cmp}
 use Rattle.std.specs.FinMap as map
@@ -21,7 +22,11 @@ use Rattle.shapes.specs.declared.feature.Feature.{Feature}
 use Rattle.shapes.specs.declared.shape.Id.TheVariants as ids
 use Rattle.theory.specs.Lists.{Has, Pairwise}
 use Rattle.theory.proofs.ListsOfLists.{get_has, has_get, map_has}
-use Rattle.topo.specs.Parts.{LayerParts}
+use Rattle.shapes.specs.Parts.{spelled_text}
+use Rattle.topo.specs.OfMap.{IsOf}
+use Rattle.topo.specs.Parts.{IsOfLayerNamed, LayerParts, TopologyParts}
+use Rattle.topo.specs.declared.geom.Geom.{Geom}
+use Rattle.query.proofs.LayerFeatures.{named_features, not_named}
 use Rattle.topo_io.proofs.Entries.{any_has, has_name, holds_item, item_held}
 use Rattle.compare.specs.Compared.{IsComparisonOf, IsNumberOf, IsPairOf, feature_id, name_of}
 use Rattle.compare.specs.Differences.{ArePartnersBy, IsDifferenceBy}
@@ -33,7 +38,7 @@ use Rattle.compare.specs.declared.difference.LayerDifference.{LayerDifference}
 use Rattle.compare.specs.declared.pairs.LayerPair.{LayerPair}
 use Rattle.compare.proofs.Alike.{from_a, from_b}
 use Rattle.compare.proofs.Recutting.{same_names}
-use Rattle.outputs.specs.DifferenceText.{AgreeAt, AreAllChanges, AreChanges, AreChangesOf, ArePairsAsked, IsDifferenceAsked, IsNamed, IsPlaceAmong, is_same_layer, single_number, changed_numbers}
+use Rattle.outputs.specs.DifferenceText.{AgreeAt, AreAllChanges, AreChanges, AreChangesOf, ArePairsAsked, IsDifferenceAsked, IsNamed, IsPlaceAmong, LackLayer, is_same_layer, single_number, changed_numbers}
 use Rattle.outputs.specs.declared.difference_text.difference.LayerChanges.{LayerChanges}
 
 -- ---- lists between which nothing differs
@@ -261,6 +266,23 @@ turned false h = absurd cc
 pub answer_alike : {P : Type 0} (a e : Bool) → e ≡ a → (a ≡ true) ↔ P → (not e ≡ false) ↔ P
 answer_alike a e is h = ((λ f. h.0 (sym is ∙ turned e f)), (λ p. ap not (is ∙ h.1 p)))
 
+-- ---- the layers that are asked for
+
+-- a topology has a layer of the name exactly where its map has
+pub layer_there : (t : TopologyParts) (m : Layers) → IsOf m t → (name : List ℕ) (r : Option (Bor (List Geom))) → IfSome r (λ gs. IsOfLayerNamed t.layers name gs.now) →
+    IfNone r ((l : LayerParts) → Has l t.layers → ¬ (spelled_text l.name ≡ name)) → (b : Bool) → b ≡ is_some r → IsTrue b ↔ IsTrue (map.contains_key m name)
+layer_there t m of name (Some gs) found none b e = ((λ f. (named_features m t of name gs.now found).0), (λ h. e))
+layer_there t m of name None found none b e = ((λ f. let z : true ≡ false = sym f ∙ e in cc), (λ h. absurd (not_named m t of name none h)))
+
+-- a name that one of the maps has
+pub known_name : (m n : Layers) (name : List ℕ) → ¬ LackLayer (Some name) m n → Has name (map.keys m) ⊎ Has name (map.keys n)
+known_name m n name asked = go (map.contains_key m name) (map.contains_key n name) refl refl
+  where
+    go : (a b : Bool) → map.contains_key m name ≡ a → map.contains_key n name ≡ b → Has name (map.keys m) ⊎ Has name (map.keys n)
+    go true b e f = inl (there_name m name e)
+    go false true e f = inr (there_name n name f)
+    go false false e f = absurd (asked ((λ h. let z : true ≡ false = sym h ∙ e in cc), (λ h. let z : true ≡ false = sym h ∙ f in cc)))
+
 -- ---- the pairs of layers that are asked for
 
 module _ (m n : Layers) (c : Comparison) (h : IsComparisonOf m n c) where
@@ -293,13 +315,9 @@ module _ (m n : Layers) (c : Comparison) (h : IsComparisonOf m n c) where
   new_place : (q : List ℕ) (p : LayerPair) → IsPairOf c q p → IsPlaceAmong (map.keys n) q p.new
   new_place q p is = subst (λ w. IsPlaceAmong w q p.new) (sym new_names) (numbered c.new.items q p.new is.new)
 
-  pub one_asked : (name : List ℕ) (p : LayerPair) (ps : List LayerPair) → IsPairOf c name p → IsSome p.old ⊎ IsSome p.new → ps ≡ p ∷ [] → ArePairsAsked (Some name) m n c ps
+  pub one_asked : (name : List ℕ) (p : LayerPair) (ps : List LayerPair) → IsPairOf c name p → Has name (map.keys m) ⊎ Has name (map.keys n) → ps ≡ p ∷ [] → ArePairsAsked (Some name) m n c ps
   unfolding IsStrictlySortedBy
-  one_asked name p ps is there e =
-      let known : Has name (map.keys m) ⊎ Has name (map.keys n) = elim there [
-        | inl o ↦ inl (placed_some (map.keys m) name p.old (old_place name p is) o)
-        | inr o ↦ inr (placed_some (map.keys n) name p.new (new_place name p is) o)
-      ] in
+  one_asked name p ps is known e =
       record {
         names = name ∷ [];
         asked = record {

@@ -1,8 +1,10 @@
 pub mod BuiltTextLemmas
 pub mod DifferenceCounts
 pub mod DifferenceTextLemmas
+pub mod DifferenceWriting
 pub mod FaultPlacesLemmas
 pub mod FaultyFeaturesLemmas
+pub mod InfoTextLemmas
 pub mod LineColumnsLemmas
 pub mod PlacesLemmas
 pub mod ReportsLemmas

@@ -14,6 +14,7 @@ use Rattle.compare.specs.declared.comparison.Comparison.{Comparison}
 use Rattle.compare.specs.declared.difference.Changed.{Changed}
 use Rattle.compare.specs.declared.difference.LayerDifference.{LayerDifference}
 use Rattle.compare.specs.declared.pairs.LayerPair.{LayerPair}
+use Rattle.query.specs.Mesh.{IsMissing}
 use Rattle.outputs.specs.declared.difference_text.difference.ChangeCounts.{ChangeCounts}
 use Rattle.outputs.specs.declared.difference_text.difference.FeatureChange.{FeatureChange}
 use Rattle.outputs.specs.declared.difference_text.difference.LayerChanges.{LayerChanges}
@@ -23,6 +24,10 @@ use Rattle.outputs.specs.declared.difference_text.difference.Single.{Single}
 abbrev pub AgreeAt : Option (List ℕ) → Layers → Layers → Type 0
 AgreeAt None m n = m ≡ n
 AgreeAt (Some name) m n = map.get m name ≡ map.get n name
+
+-- a layer is named that neither map has
+abbrev pub LackLayer : Option (List ℕ) → Layers → Layers → Type 0
+LackLayer layer m n = IsMissing m layer × IsMissing n layer
 
 -- features pair by a property where one is given, and else by their ids
 abbrev pub IsDifferenceAsked : Option (List ℕ) → List Feature → List Feature → LayerDifference → Type 0

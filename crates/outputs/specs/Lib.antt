@@ -5,3 +5,8 @@ pub mod FaultReports
 pub mod FaultyFeatures
 pub mod LineColumns
 pub mod ReportsOfTexts
+pub mod TextParts
+pub mod InfoText
+pub mod DifferenceParts
+pub mod DifferenceLines
+pub mod DifferenceJson

@@ -1,9 +1,12 @@
 //! What differs between two topologies, feature by feature and member by member, as lines for people and as a JSON
 //! object.
-ghost use Rattle.outputs.specs.DifferenceText.{AgreeAt};
+ghost use Rattle.outputs.specs.DifferenceJson.{IsDifferenceText, difference_text};
+ghost use Rattle.outputs.specs.DifferenceText.{AgreeAt, LackLayer};
+ghost use Rattle.outputs.specs.declared.difference_text.fault.DifferenceFault.TheVariants.{OtherGrid, NoLayer, Write};
 ghost use Rattle.shapes.specs.Maps.{Layers};
+ghost use Rattle.sinks.specs.Writes.{TookAll, TookPart};
 ghost use Rattle.std.specs.Option.{option_copied};
-ghost use Rattle.std.specs.Prelude.{◌≡◌, ◌↔◌, IfOk, false};
+ghost use Rattle.std.specs.Prelude.{◌≡◌, ◌↔◌, IfErr, IfOk, IsErrOf, List, OnErr, OnOk, false, ℕ};
 ghost use Rattle.topo.specs.OfMap.{IsOf};
 
 mod difference;
@@ -22,7 +25,7 @@ pub use fault::DifferenceFault;
 pub use geometry::GeometryChange;
 pub use members::MemberChange;
 pub use object::write_json;
-use sinks::Sink;
+use sinks::{Sink, WriteFault};
 use std::alloc::Global;
 pub use text::write_lines;
 use topo::Topology;
@@ -42,8 +45,8 @@ pub struct DifferenceOptions<'a> {
 /// all is known.
 ///
 /// # Errors
-/// `OtherGrid` where the grids differ; `NoLayer` where a layer is asked for that neither topology has; `OutOfMemory`;
-/// `Write` where the sink failed.
+/// `OtherGrid` exactly where the grids differ; else `NoLayer` exactly where a layer is asked for that neither topology
+/// has; `OutOfMemory`; `Write` where the sink failed, which then took a beginning of the text.
 pub fn write_difference<W: Sink>(
     alloc: Global,
     old: &Topology,
@@ -51,13 +54,37 @@ pub fn write_difference<W: Sink>(
     options: &DifferenceOptions<'_>,
     sink: &mut W,
 ) -> Result<bool, DifferenceFault>
-    ensures { IfOk result (λ b. (m n : Layers) → IsOf m old.now → IsOf n new.now → ((b ≡ false) ↔ AgreeAt (option_copied options.now.layer) m n)) }
+    ensures same { IfOk result (λ b. (m n : Layers) → IsOf m old.now → IsOf n new.now → ((b ≡ false) ↔ AgreeAt (option_copied options.now.layer) m n)) }
+    ensures other_grid { IsErrOf result OtherGrid ↔ ¬ (old.now.grid ≡ new.now.grid) }
+    ensures no_layer { (m n : Layers) → IsOf m old.now → IsOf n new.now → (IsErrOf result NoLayer ↔ ((old.now.grid ≡ new.now.grid) × LackLayer (option_copied options.now.layer) m n)) }
+    ensures whole { IfOk result (λ _. (t : List ℕ) × IsDifferenceText (option_copied options.now.layer) (option_copied options.now.key) options.now.json old.now new.now t × TookAll (W.seen sink.old) (W.seen sink.new) t) }
+    ensures part { IfErr result (λ f. f ≡ Write → (t : List ℕ) × IsDifferenceText (option_copied options.now.layer) (option_copied options.now.key) options.now.json old.now new.now t × TookPart (W.seen sink.old) (W.seen sink.new) t) }
+    ensures untouched { IfErr result (λ f. ¬ (f ≡ Write) → sink.new ≡ sink.old) }
 {
-    let difference = find_difference(alloc, old, new, options)?;
-    if options.json {
-        write_json(&difference, old, new, sink)?;
-    } else {
-        write_lines(&difference, old, new, sink)?;
+    let difference = match find_difference(alloc, old, new, options) {
+        Ok(difference) => difference,
+        Err(fault) => return Err(fault),
+    };
+    match write_found(&difference, old, new, options.json, sink) {
+        Ok(()) => Ok(!difference.is_empty()),
+        Err(WriteFault::Write) => Err(DifferenceFault::Write),
     }
-    Ok(!difference.is_empty())
+}
+
+/// Writes a difference, as lines or as a JSON object.
+fn write_found<W: Sink>(
+    difference: &Difference,
+    old: &Topology,
+    new: &Topology,
+    is_json: bool,
+    sink: &mut W,
+) -> Result<(), WriteFault>
+    ensures whole { OnOk result (TookAll (W.seen sink.old) (W.seen sink.new) (difference_text is_json difference.now old.now new.now)) }
+    ensures part { OnErr result (TookPart (W.seen sink.old) (W.seen sink.new) (difference_text is_json difference.now old.now new.now)) }
+{
+    if is_json {
+        write_json(difference, old, new, sink)
+    } else {
+        write_lines(difference, old, new, sink)
+    }
 }

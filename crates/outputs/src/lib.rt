@@ -6,3 +6,4 @@ pub mod built_text;
 pub mod difference_text;
 pub mod fault_reports;
 pub mod info_text;
+mod text_parts;

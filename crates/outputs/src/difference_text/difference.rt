@@ -1,11 +1,15 @@
 //! What differs between two topologies, before it is written.
-ghost use Rattle.compare.specs.Compared.{IsComparisonOf, IsPairOf};
-ghost use Rattle.outputs.specs.DifferenceText.{AgreeAt, AreAllChanges, AreChanges, ArePairsAsked, IsDifferenceAsked, counts_of, is_same_layer, single_number, changed_numbers};
+ghost use Rattle.compare.specs.Compared.{IsComparisonOf, IsPairOf, geometries_from};
+ghost use Rattle.outputs.specs.DifferenceParts.{layer_in};
+ghost use Rattle.outputs.specs.DifferenceText.{AgreeAt, AreAllChanges, AreChanges, ArePairsAsked, IsDifferenceAsked, LackLayer, counts_of, is_same_layer, single_number, changed_numbers};
+ghost use Rattle.outputs.specs.declared.difference_text.fault.DifferenceFault.TheVariants.{OtherGrid, NoLayer, Write};
 ghost use Rattle.shapes.specs.Maps.{Layers, features_at};
 ghost use Rattle.shapes.specs.Sets as set;
+ghost use Rattle.std.specs.FinMap as map;
 ghost use Rattle.std.specs.List.{list_all};
 ghost use Rattle.std.specs.Option.{option_copied};
-ghost use Rattle.std.specs.Prelude.{◌≡◌, ◌↔◌, ◌+◌, ◌^◌, ◌<◌, [], ◌∷◌, ◌++◌, IfOk, List, length, map as map_list, true, ℕ};
+ghost use Rattle.std.specs.Prelude.{◌≡◌, ◌↔◌, ◌+◌, ◌^◌, ◌<◌, [], ◌∷◌, ◌++◌, IfErr, IfOk, IsErrOf, IsTrue, List, is_some, length, map as map_list, true, ℕ};
+ghost use Rattle.topo.specs.ItsMap.{ForItsMap};
 ghost use Rattle.topo.specs.OfMap.{IsOf};
 
 use crate::difference_text::DifferenceOptions;
@@ -121,10 +125,34 @@ fn with_layer(counts: ChangeCounts, layer: &LayerChanges) -> ChangeCounts
     }
 }
 
+/// Whether a topology has a layer of the name.
+fn has_layer(topology: &Topology, name: &str) -> bool
+    ensures { ForItsMap topology.now (λ m. IsTrue result ↔ IsTrue (map.contains_key m name.now)) }
+{
+    topology.geometries(name).is_some()
+}
+
+/// Whether a layer is asked for that neither topology has.
+fn lack_layer(old: &Topology, new: &Topology, layer: Option<&str>) -> bool
+    ensures { (m n : Layers) → IsOf m old.now → IsOf n new.now → (IsTrue result ↔ LackLayer (option_copied layer.entry) m n) }
+{
+    match layer {
+        Some(name) => !has_layer(old, name) && !has_layer(new, name),
+        None => false,
+    }
+}
+
+fn on_one_grid(old: &Topology, new: &Topology) -> bool
+    ensures { (result ≡ true) ↔ (old.now.grid ≡ new.now.grid) }
+{
+    old.grid() == new.grid()
+}
+
 /// What differs between two topologies: all layers, or the one that is asked for.
 ///
 /// # Errors
-/// `OtherGrid` where the grids differ; `NoLayer` where a layer is asked for that neither topology has; `OutOfMemory`.
+/// `OtherGrid` exactly where the grids differ; else `NoLayer` exactly where a layer is asked for that neither topology
+/// has; `OutOfMemory`.
 pub fn find_difference(
     alloc: Global,
     old: &Topology,
@@ -133,8 +161,36 @@ pub fn find_difference(
 ) -> Result<Difference, DifferenceFault>
     ensures told { IfOk result (λ d. (m n : Layers) → IsOf m old.now → IsOf n new.now → AreAllChanges (option_copied options.now.layer) (option_copied options.now.key) m n d.layers.items) }
     ensures same { IfOk result (λ d. (m n : Layers) → IsOf m old.now → IsOf n new.now → ((list_all is_same_layer d.layers.items ≡ true) ↔ AgreeAt (option_copied options.now.layer) m n)) }
+    ensures keyed { IfOk result (λ d. d.is_keyed ≡ is_some options.now.key) }
+    ensures other_grid { IsErrOf result OtherGrid ↔ ¬ (old.now.grid ≡ new.now.grid) }
+    ensures no_layer { (m n : Layers) → IsOf m old.now → IsOf n new.now → (IsErrOf result NoLayer ↔ ((old.now.grid ≡ new.now.grid) × LackLayer (option_copied options.now.layer) m n)) }
+    ensures unwritten { IfErr result (λ f. ¬ (f ≡ Write)) }
 {
-    let comparison = compare(alloc, old, new)?;
+    if !on_one_grid(old, new) {
+        return Err(DifferenceFault::OtherGrid);
+    }
+    if lack_layer(old, new, options.layer) {
+        return Err(DifferenceFault::NoLayer);
+    }
+    match changes_asked(alloc, old, new, options) {
+        Ok(difference) => Ok(difference),
+        Err(OutOfMemory) => Err(DifferenceFault::OutOfMemory),
+    }
+}
+
+/// What differs between two topologies on one grid, in all layers or in the one that is asked for.
+fn changes_asked(
+    alloc: Global,
+    old: &Topology,
+    new: &Topology,
+    options: &DifferenceOptions<'_>,
+) -> Result<Difference, OutOfMemory>
+    ensures told { IfOk result (λ d. (m n : Layers) → IsOf m old.now → IsOf n new.now → ¬ LackLayer (option_copied options.now.layer) m n → AreAllChanges (option_copied options.now.layer) (option_copied options.now.key) m n d.layers.items) }
+    ensures keyed { IfOk result (λ d. d.is_keyed ≡ is_some options.now.key) }
+{
+    let Ok(comparison) = compare(alloc, old, new) else {
+        return Err(OutOfMemory);
+    };
     let pairs = pairs_asked(alloc, &comparison, options.layer)?;
     let key = options.key;
     let mut layers = Vec::new(alloc);
@@ -159,18 +215,14 @@ fn pairs_asked(
     alloc: Global,
     comparison: &Comparison,
     layer: Option<&str>,
-) -> Result<Vec<LayerPair>, DifferenceFault>
-    ensures { IfOk result (λ v. (m n : Layers) → IsComparisonOf m n comparison.now → ArePairsAsked (option_copied layer.entry) m n comparison.now v.items) }
+) -> Result<Vec<LayerPair>, AllocError>
+    ensures { IfOk result (λ v. (m n : Layers) → IsComparisonOf m n comparison.now → ¬ LackLayer (option_copied layer.entry) m n → ArePairsAsked (option_copied layer.entry) m n comparison.now v.items) }
 {
     let Some(name) = layer else {
-        return Ok(comparison.pairs(alloc)?);
+        return comparison.pairs(alloc);
     };
-    let pair = comparison.pair(name);
-    if pair.old.is_none() && pair.new.is_none() {
-        return Err(DifferenceFault::NoLayer);
-    }
     let mut pairs = Vec::new(alloc);
-    pairs.push(pair)?;
+    pairs.push(comparison.pair(name))?;
     Ok(pairs)
 }
 
@@ -311,15 +363,22 @@ impl<'a> BothLayers<'a> {
 }
 
 /// The geometries of the layer of a number, none where there is no such layer.
-pub(crate) fn geometries_at(layers: &[Layer], number: Option<usize>) -> &[Geom] {
-    match layer_at(layers, number) {
-        Some(layer) => layer.geometries(),
+pub(crate) fn geometries_at(layers: &[Layer], number: Option<usize>) -> &[Geom]
+    ensures { result.now ≡ geometries_from layers.now number }
+{
+    match number {
+        Some(number) => match layers.get(number) {
+            Some(layer) => layer.geometries(),
+            None => &[],
+        },
         None => &[],
     }
 }
 
 /// The layer of a number.
-pub(crate) fn layer_at(layers: &[Layer], number: Option<usize>) -> Option<&Layer> {
+pub(crate) fn layer_at(layers: &[Layer], number: Option<usize>) -> Option<&Layer>
+    ensures { option_copied result ≡ layer_in layers.now number }
+{
     match number {
         Some(number) => layers.get(number),
         None => None,

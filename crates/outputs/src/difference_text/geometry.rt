@@ -1,4 +1,7 @@
 //! What differs between the geometries of two features.
+ghost use Rattle.outputs.specs.DifferenceParts.{has_lines, kind_name};
+ghost use Rattle.std.specs.Prelude.{◌≡◌};
+
 use crate::difference_text::positions::count_missing;
 use chains::ArcRef;
 use grid::Pos;
@@ -31,7 +34,9 @@ pub(crate) fn change_of_positions(
 }
 
 /// The kind of a geometry, by its name in GeoJSON.
-pub(crate) fn kind_of(body: &Body) -> &'static str {
+pub(crate) fn kind_of(body: &Body) -> &'static str
+    ensures { result.now ≡ kind_name body.now }
+{
     match body {
         Body::Null => "null",
         Body::Point(_) => "Point",
@@ -44,7 +49,9 @@ pub(crate) fn kind_of(body: &Body) -> &'static str {
 }
 
 /// Whether a geometry is made of lines, rather than of rings.
-pub(crate) fn has_lines(body: &Body) -> bool {
+pub(crate) fn has_lines(body: &Body) -> bool
+    ensures { result ≡ has_lines body.now }
+{
     matches!(body, Body::Line(_) | Body::MultiLine(_))
 }
 

@@ -7,36 +7,11 @@ ghost use Rattle.std.specs.Prelude.{◌++◌, None, false, OnErr, OnOk, decimal,
 
 use crate::fault_reports::remedies::remedy;
 use crate::fault_reports::report::FaultReport;
+use crate::text_parts::{Chars, Digits, Worded};
 use faults::FaultKind;
-use itoa::Buffer;
 use sinks::path_text::{KindNumber, write_path};
 use sinks::written::{Bracketed, Text, Then, Written};
 use sinks::{Sink, WriteFault, put};
-
-/// A number in decimal digits.
-#[derive(Clone, Copy)]
-struct Digits(usize);
-
-impl Written for Digits {
-    ghost text = { λ d. decimal d.0 };
-
-    fn write<W: Sink>(&self, sink: &mut W) -> Result<(), WriteFault> {
-        let mut buffer = Buffer::new();
-        put(sink, buffer.format(self.0).as_bytes())
-    }
-}
-
-/// A text as it is.
-#[derive(Clone, Copy)]
-struct Chars<'a>(&'a str);
-
-impl<'a> Written for Chars<'a> {
-    ghost text = { λ t. t.0.now };
-
-    fn write<W: Sink>(&self, sink: &mut W) -> Result<(), WriteFault> {
-        put(sink, self.0.as_bytes())
-    }
-}
 
 /// The name of a kind of error.
 #[derive(Clone, Copy)]
@@ -71,18 +46,6 @@ impl<'a> Written for SpelledPath<'a> {
 
     fn write<W: Sink>(&self, sink: &mut W) -> Result<(), WriteFault> {
         put(sink, self.0.path.as_bytes())
-    }
-}
-
-/// A text behind a word.
-#[derive(Clone, Copy)]
-struct Worded<'a, A>(&'a str, A);
-
-impl<'a, A: Written> Written for Worded<'a, A> {
-    ghost text = { λ w. w.0.now ++ A.text w.1 };
-
-    fn write<W: Sink>(&self, sink: &mut W) -> Result<(), WriteFault> {
-        Then(Text(self.0.as_bytes()), &self.1).write(sink)
     }
 }
 
