@@ -3,7 +3,7 @@ ghost use Rattle.outputs.specs.InfoText.{arc_lines, arc_members, bbox_line, bbox
 ghost use Rattle.sinks.specs.Writes.{TookAll, TookPart};
 ghost use Rattle.std.specs.Prelude.{OnErr, OnOk};
 
-use crate::text_parts::{Digits, If, InTurn, NumberPair, OneOf, WideDigits, Worded};
+use crate::text_parts::{Digits, If, InTurn, OneOf, TwoNumbers, WideDigits, Worded};
 use query::{ArcCounts, Kinds, count_arcs, count_kinds};
 use sinks::written::{Each, Notation, Text, Then, Written};
 use sinks::{Sink, WriteFault};
@@ -17,15 +17,15 @@ impl Written for Pairs {
     ghost text = { λ p. pairs_text p.0 p.1 };
 
     fn write<W: Sink>(&self, sink: &mut W) -> Result<(), WriteFault> {
-        Then(NumberPair(self.0), Then(Text(b","), NumberPair(self.1))).write(sink)
+        Then(TwoNumbers(self.0), Then(Text(b","), TwoNumbers(self.1))).write(sink)
     }
 }
 
 /// The corners of a bbox.
 #[derive(Clone, Copy)]
-struct Corners((i64, i64, i64, i64));
+struct FourNumbers((i64, i64, i64, i64));
 
-impl Written for Corners {
+impl Written for FourNumbers {
     ghost text = { λ c. corners_text c.0 };
 
     fn write<W: Sink>(&self, sink: &mut W) -> Result<(), WriteFault> {
@@ -42,7 +42,7 @@ impl Written for BboxLine {
     ghost text = { λ b. bbox_line b.0 };
 
     fn write<W: Sink>(&self, sink: &mut W) -> Result<(), WriteFault> {
-        Then(Text(b"\nbbox: "), Corners(self.0)).write(sink)
+        Then(Text(b"\nbbox: "), FourNumbers(self.0)).write(sink)
     }
 }
 
@@ -156,13 +156,13 @@ pub fn write_lines<W: Sink>(topology: &Topology, sink: &mut W) -> Result<(), Wri
 
 /// The member bbox, behind a comma.
 #[derive(Clone, Copy)]
-struct BboxMember((i64, i64, i64, i64));
+struct InfoBbox((i64, i64, i64, i64));
 
-impl Written for BboxMember {
+impl Written for InfoBbox {
     ghost text = { λ b. bbox_member b.0 };
 
     fn write<W: Sink>(&self, sink: &mut W) -> Result<(), WriteFault> {
-        Then(Text(b",\"bbox\":["), Then(Corners(self.0), Text(b"]"))).write(sink)
+        Then(Text(b",\"bbox\":["), Then(FourNumbers(self.0), Text(b"]"))).write(sink)
     }
 }
 
@@ -177,7 +177,7 @@ impl Written for ArcMembers {
         let arcs = Worded("{\"arcs\":", Digits(self.0));
         let free = Worded(",\"freeLoops\":", Digits(self.2));
         match self.1 {
-            Some(corners) => Then(arcs, Then(BboxMember(corners), free)).write(sink),
+            Some(corners) => Then(arcs, Then(InfoBbox(corners), free)).write(sink),
             None => Then(arcs, free).write(sink),
         }
     }
@@ -235,15 +235,15 @@ impl Notation<Layer> for LayerObjects {
 
 /// The member transform, and the end.
 #[derive(Clone, Copy)]
-struct TransformMember((i64, i64), (i64, i64));
+struct InfoTransform((i64, i64), (i64, i64));
 
-impl Written for TransformMember {
+impl Written for InfoTransform {
     ghost text = { λ t. transform_member t.0 t.1 };
 
     fn write<W: Sink>(&self, sink: &mut W) -> Result<(), WriteFault> {
-        let translations = Then(NumberPair(self.1), Text(b"]}}"));
+        let translations = Then(TwoNumbers(self.1), Text(b"]}}"));
         let scales = Then(
-            NumberPair(self.0),
+            TwoNumbers(self.0),
             Then(Text(b"],\"translate\":["), translations),
         );
         Then(Text(b",\"transform\":{\"scale\":["), scales).write(sink)
@@ -267,6 +267,6 @@ pub fn write_json<W: Sink>(topology: &Topology, sink: &mut W) -> Result<(), Writ
         Each(topology.layers(), &LayerObjects),
     );
     let positions = Worded("],\"positions\":", WideDigits(counts.positions));
-    let transform = TransformMember(grid.scale(), grid.translate());
+    let transform = InfoTransform(grid.scale(), grid.translate());
     Then(arcs, Then(layers, Then(positions, transform))).write(sink)
 }

@@ -35,9 +35,9 @@ impl Written for WideDigits {
 
 /// Two numbers with a comma between them.
 #[derive(Clone, Copy)]
-pub(crate) struct NumberPair(pub(crate) (i64, i64));
+pub(crate) struct TwoNumbers(pub(crate) (i64, i64));
 
-impl Written for NumberPair {
+impl Written for TwoNumbers {
     ghost text = { λ p. number_pair p.0 };
 
     fn write<W: Sink>(&self, sink: &mut W) -> Result<(), WriteFault> {
@@ -137,14 +137,14 @@ pub(crate) fn has_some(before: bool, count: usize) -> bool
 
 /// The values of a slice in order, in one notation, each behind a separator where others are before it.
 #[derive(Clone, Copy)]
-pub(crate) struct Behind<'a, T, N> {
+pub(crate) struct SeparatedValues<'a, T, N> {
     pub(crate) separator: &'a [u8],
     pub(crate) is_behind: bool,
     pub(crate) values: &'a [T],
     pub(crate) notation: &'a N,
 }
 
-impl<'a, T, N: Notation<T>> Written for Behind<'a, T, N> {
+impl<'a, T, N: Notation<T>> Written for SeparatedValues<'a, T, N> {
     ghost text = { λ b. behind_texts b.separator.now b.is_behind (N.text b.notation.now) b.values.now };
 
     fn write<W: Sink>(&self, sink: &mut W) -> Result<(), WriteFault> {

@@ -11,7 +11,7 @@ use crate::difference_text::members::MemberChange;
 use crate::difference_text::parts::{
     IdText, LayerView, TextOr, View, direction_words, has_other_id, is_one_kind,
 };
-use crate::text_parts::{Behind, Chars, Digits, If, OneOf, Worded, has_some};
+use crate::text_parts::{Chars, Digits, If, OneOf, SeparatedValues, Worded, has_some};
 use shapes::Id;
 use sinks::written::{Each, Notation, Text, Then, Written};
 use sinks::{Sink, WriteFault};
@@ -240,19 +240,19 @@ impl<'a> Written for LayerObjects<'a> {
         let olds = layer.changes.removed.as_slice();
         let news = layer.changes.added.as_slice();
         let has_olds = has_some(self.0, olds.len());
-        let removed = Behind {
+        let removed = SeparatedValues {
             separator: b",",
             is_behind: self.0,
             values: olds,
             notation: &SingleObjects("removed", layer, layer.olds),
         };
-        let added = Behind {
+        let added = SeparatedValues {
             separator: b",",
             is_behind: has_olds,
             values: news,
             notation: &SingleObjects("added", layer, layer.news),
         };
-        let changed = Behind {
+        let changed = SeparatedValues {
             separator: b",",
             is_behind: has_some(has_olds, news.len()),
             values: layer.changes.changed.as_slice(),
@@ -273,9 +273,9 @@ fn has_objects(before: bool, changes: &LayerChanges) -> bool
 
 /// An object for each feature that differs.
 #[derive(Clone, Copy)]
-struct Objects<'a>(View<'a>);
+struct DifferenceObjects<'a>(View<'a>);
 
-impl<'a> Written for Objects<'a> {
+impl<'a> Written for DifferenceObjects<'a> {
     ghost text = { λ o. objects_text (told_layer o.0.difference.now.is_keyed o.0.old.now o.0.new.now) false o.0.difference.now.layers.items };
 
     fn write<W: Sink>(&self, sink: &mut W) -> Result<(), WriteFault> {
@@ -384,7 +384,10 @@ pub fn write_json<W: Sink>(
         Text(b"],\"layers\":{\"added\":["),
         Then(Names(view, true), removed),
     );
-    let objects = Then(Text(b",\"differences\":["), Then(Objects(view), layers));
+    let objects = Then(
+        Text(b",\"differences\":["),
+        Then(DifferenceObjects(view), layers),
+    );
     let changed = Worded(",\"changed\":", Digits(counts.changed));
     let added = Worded("{\"added\":", Digits(counts.added));
     Then(added, Then(changed, objects)).write(sink)

@@ -12,7 +12,7 @@ use crate::difference_text::members::MemberChange;
 use crate::difference_text::parts::{
     IdText, LayerView, TextOr, View, direction_words, has_other_id, is_one_kind,
 };
-use crate::text_parts::{Behind, Chars, Digits, If, InTurn, OneOf, Worded, has_some};
+use crate::text_parts::{Chars, Digits, If, InTurn, OneOf, SeparatedValues, Worded, has_some};
 use compare::LayerPair;
 use shapes::Id;
 use sinks::written::{Notation, Text, Then, Written};
@@ -159,9 +159,9 @@ impl<'a> Written for GeometryLine<'a> {
 
 /// What differs between two geometries, where anything does, behind other parts.
 #[derive(Clone, Copy)]
-struct GeometryPart<'a>(bool, Option<GeometryChange>, &'a Body, &'a Body);
+struct GeometryDifference<'a>(bool, Option<GeometryChange>, &'a Body, &'a Body);
 
-impl<'a> Written for GeometryPart<'a> {
+impl<'a> Written for GeometryDifference<'a> {
     ghost text = { λ g. geometry_part g.0 g.1 g.2.now g.3.now };
 
     fn write<W: Sink>(&self, sink: &mut W) -> Result<(), WriteFault> {
@@ -186,13 +186,13 @@ impl<'a> Written for PartsText<'a> {
     fn write<W: Sink>(&self, sink: &mut W) -> Result<(), WriteFault> {
         let is_behind = has_other_id(&self.1.id, &self.2.id);
         let values = self.0.members.as_slice();
-        let members = Behind {
+        let members = SeparatedValues {
             separator: b"; ",
             is_behind,
             values,
             notation: &MemberLines,
         };
-        let geometry = GeometryPart(
+        let geometry = GeometryDifference(
             has_some(is_behind, values.len()),
             self.0.geometry,
             &self.1.body,
@@ -258,9 +258,9 @@ impl<'a> Written for LayerLines<'a> {
 
 /// Layers of a difference, each as its lines.
 #[derive(Clone, Copy)]
-struct LinesOf<'a>(View<'a>);
+struct LayersAsLines<'a>(View<'a>);
 
-impl<'a> Notation<LayerChanges> for LinesOf<'a> {
+impl<'a> Notation<LayerChanges> for LayersAsLines<'a> {
     ghost text = { λ v l. layer_lines (told_layer v.0.difference.now.is_keyed v.0.old.now v.0.new.now l) };
 
     fn write_value<W: Sink>(&self, value: &LayerChanges, sink: &mut W) -> Result<(), WriteFault> {
@@ -318,7 +318,7 @@ pub fn write_lines<W: Sink>(
     ensures whole { OnOk result (TookAll (W.seen sink.old) (W.seen sink.new) (difference_lines difference.now old.now new.now)) }
     ensures part { OnErr result (TookPart (W.seen sink.old) (W.seen sink.new) (difference_lines difference.now old.now new.now)) }
 {
-    let lines = LinesOf(View {
+    let lines = LayersAsLines(View {
         difference,
         old,
         new,
