@@ -8,7 +8,7 @@ use Rattle.shapes.specs.Parts.{spelled_text}
 use Rattle.shapes.specs.Spelling.{spelling_of}
 use Rattle.shapes.specs.declared.spelled.Spelled.{Spelled}
 use Rattle.sinks.specs.Texts.{joined}
-use Rattle.topo.specs.Parts.{FourNumbers, LayerParts, TopologyParts}
+use Rattle.topo.specs.Parts.{Corners, LayerParts, TopologyParts}
 use Rattle.topo.specs.declared.geom.Geom.{Geom}
 use Rattle.outputs.specs.InfoText.{arc_lines, arc_members, grid_lines, info_json, info_lines, kinds_line, kinds_members, layer_line, layer_object, scales_of, transform_member, translations_of}
 use Rattle.outputs.specs.TextParts.{each_text}
@@ -34,7 +34,7 @@ layer_object_is l {n} {m} {s} {gs} {k} {kinds} bytes spelled name e count counte
     λ i. (codes "{\"features\":" ++ decimal (many i)) ++ (codes ",\"kinds\":{" ++ (kinds_members (kinded i) ++ (codes "},\"name\":" ++ (named i ++ codes "}"))))
 
 -- the lines of a topology, of its parts and counts
-pub lines_is : (t : TopologyParts) {g : Transform} {s d : ℤ × ℤ} {b : Option FourNumbers} {a p f : ℕ} {ls : List LayerParts} → g ≡ t.grid → s ≡ scales_of g → d ≡ translations_of g → b ≡ t.bbox
+pub lines_is : (t : TopologyParts) {g : Transform} {s d : ℤ × ℤ} {b : Option Corners} {a p f : ℕ} {ls : List LayerParts} → g ≡ t.grid → s ≡ scales_of g → d ≡ translations_of g → b ≡ t.bbox
     → a ≡ length t.arcs.arcs → p ≡ sum (map_list length t.arcs.arcs) → f ≡ free_below t.arcs (length t.arcs.arcs) → ls ≡ t.layers
     → grid_lines s d b ++ (arc_lines a p f ++ each_text layer_line ls) ≡ info_lines t
 lines_is t {g} {s} {d} {b} {a} {p} {f} {ls} grid scales translations bbox arcs positions free layers =
@@ -43,7 +43,7 @@ lines_is t {g} {s} {d} {b} {a} {p} {f} {ls} grid scales translations bbox arcs p
     λ i. grid_lines (scaled i) (translated i) (bbox i) ++ (arc_lines (arcs i) (positions i) (free i) ++ each_text layer_line (layers i))
 
 -- and its object
-pub json_is : (t : TopologyParts) {g : Transform} {s d : ℤ × ℤ} {b : Option FourNumbers} {a p f : ℕ} {ls : List LayerParts} → g ≡ t.grid → s ≡ scales_of g → d ≡ translations_of g → b ≡ t.bbox
+pub json_is : (t : TopologyParts) {g : Transform} {s d : ℤ × ℤ} {b : Option Corners} {a p f : ℕ} {ls : List LayerParts} → g ≡ t.grid → s ≡ scales_of g → d ≡ translations_of g → b ≡ t.bbox
     → a ≡ length t.arcs.arcs → p ≡ sum (map_list length t.arcs.arcs) → f ≡ free_below t.arcs (length t.arcs.arcs) → ls ≡ t.layers
     → arc_members a b f ++ ((codes ",\"layers\":[" ++ joined layer_object ls) ++ ((codes "],\"positions\":" ++ decimal p) ++ transform_member s d)) ≡ info_json t
 json_is t {g} {s} {d} {b} {a} {p} {f} {ls} grid scales translations bbox arcs positions free layers =

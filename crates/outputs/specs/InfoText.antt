@@ -7,7 +7,7 @@ use Rattle.query.specs.declared.info.Kinds.{Kinds}
 use Rattle.shapes.specs.Parts.{spelled_text}
 use Rattle.shapes.specs.Spelling.{spelling_of}
 use Rattle.sinks.specs.Texts.{joined}
-use Rattle.topo.specs.Parts.{FourNumbers, LayerParts, TopologyParts}
+use Rattle.topo.specs.Parts.{Corners, LayerParts, TopologyParts}
 use Rattle.outputs.specs.TextParts.{each_text, number_pair}
 
 -- two pairs of numbers with a comma between them
@@ -23,15 +23,15 @@ abbrev pub translations_of : Transform → ℤ × ℤ
 translations_of g = (g.x.translate, g.y.translate)
 
 -- the least x and y and then the greatest
-abbrev pub corners_text : FourNumbers → List ℕ
+abbrev pub corners_text : Corners → List ℕ
 corners_text c = pairs_text (c.0, c.1) (c.2, c.3)
 
 -- the line of the bbox, without its end
-abbrev pub bbox_line : FourNumbers → List ℕ
+abbrev pub bbox_line : Corners → List ℕ
 bbox_line c = codes "\nbbox: " ++ corners_text c
 
 -- the grid in the form of the word after `--grid`, and the bbox, where there is one
-abbrev pub grid_lines : ℤ × ℤ → ℤ × ℤ → Option FourNumbers → List ℕ
+abbrev pub grid_lines : ℤ × ℤ → ℤ × ℤ → Option Corners → List ℕ
 grid_lines scales translations None = codes "grid: " ++ pairs_text scales translations
 grid_lines scales translations (Some corners) = (codes "grid: " ++ pairs_text scales translations) ++ bbox_line corners
 
@@ -65,11 +65,11 @@ info_lines t =
     ++ (arc_lines (length t.arcs.arcs) (sum (map_list length t.arcs.arcs)) (free_below t.arcs (length t.arcs.arcs)) ++ each_text layer_line t.layers)
 
 -- the member bbox, behind a comma
-abbrev pub bbox_member : FourNumbers → List ℕ
+abbrev pub bbox_member : Corners → List ℕ
 bbox_member c = codes ",\"bbox\":[" ++ (corners_text c ++ codes "]")
 
 -- the members arcs, bbox, where there is one, and freeLoops
-abbrev pub arc_members : ℕ → Option FourNumbers → ℕ → List ℕ
+abbrev pub arc_members : ℕ → Option Corners → ℕ → List ℕ
 arc_members arcs None free = (codes "{\"arcs\":" ++ decimal arcs) ++ (codes ",\"freeLoops\":" ++ decimal free)
 arc_members arcs (Some corners) free = (codes "{\"arcs\":" ++ decimal arcs) ++ (bbox_member corners ++ (codes ",\"freeLoops\":" ++ decimal free))
 
