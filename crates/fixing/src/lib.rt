@@ -14,6 +14,7 @@ mod lists;
 mod loops;
 mod measures;
 mod polygons;
+pub mod raw;
 pub mod rules;
 mod runs;
 mod text;

@@ -1,0 +1,79 @@
+//! Arrays of parts.
+ghost use Rattle.decimal_maps.specs.Arrays.{ArrayMeans, array_tally};
+ghost use Rattle.decimal_maps.specs.Reads.{Reads, ReadsRest};
+ghost use Rattle.std.specs.Prelude.{◌≡◌, ◌<◌, ◌∷◌, [], length, IfOk, OnOk};
+
+use crate::from_tokens::{FromTokens, Stop};
+use crate::token::take_begin_array;
+use json::Reader;
+use std::alloc::Global;
+
+/// Reads the rest of an array, up to its end, and puts its parts behind those that were found before.
+pub fn read_rest<'t, P: FromTokens<'t>>(
+    alloc: Global,
+    part: &P,
+    reader: &mut Reader<'t>,
+    depth: usize,
+    dropped: &mut u64,
+    mut found: Vec<P::Made>,
+) -> Result<Vec<P::Made>, Stop>
+    ensures { IfOk result (λ xs. ReadsRest (P.means part.now) (P.heights part.now) depth reader.old reader.new found.items xs.items dropped.old dropped.new) }
+{
+    'items: while !reader.take_end_array() {
+        let made = part.read(alloc, reader, depth, dropped)?;
+        match found.push(made) {
+            Ok(()) => {}
+            Err(_) => return Err(Stop::OutOfMemory),
+        }
+    }
+    Ok(found)
+}
+
+/// Reads an array of such parts.
+pub fn read_list<'t, P: FromTokens<'t>>(
+    alloc: Global,
+    part: &P,
+    reader: &mut Reader<'t>,
+    depth: usize,
+    dropped: &mut u64,
+) -> Result<Vec<P::Made>, Stop>
+    ensures { IfOk result (λ xs. Reads (ArrayMeans (P.means part.now)) (array_tally (P.heights part.now)) depth reader.old reader.new dropped.old dropped.new xs.items) }
+{
+    take_begin_array(reader, depth)?;
+    read_rest(alloc, part, reader, depth - 1, dropped, Vec::new(alloc))
+}
+
+/// A list of one value.
+pub fn single<T: Drop>(alloc: Global, first: T) -> Result<Vec<T>, Stop>
+    ensures { IfOk result (λ xs. xs.items ≡ first ∷ []) }
+{
+    let mut found = Vec::new(alloc);
+    match found.push(first) {
+        Ok(()) => Ok(found),
+        Err(_) => Err(Stop::OutOfMemory),
+    }
+}
+
+/// The reader of arrays of such parts, which is a reader of parts itself.
+#[derive(Clone, Copy)]
+pub struct ListOf<P> {
+    pub of: P,
+}
+
+impl<'t, P: FromTokens<'t>> FromTokens<'t> for ListOf<P> {
+    type Made = Vec<P::Made>;
+
+    ghost means = { λ p j xs. ArrayMeans (P.means p.of) j xs.items };
+
+    ghost heights = { λ p. array_tally (P.heights p.of) };
+
+    fn read(
+        &self,
+        alloc: Global,
+        reader: &mut Reader<'t>,
+        depth: usize,
+        dropped: &mut u64,
+    ) -> Result<Vec<P::Made>, Stop> {
+        read_list(alloc, &self.of, reader, depth, dropped)
+    }
+}

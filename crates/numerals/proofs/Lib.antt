@@ -1,0 +1,5 @@
+pub mod Places
+pub mod Nearest
+pub mod Steps
+pub mod Shortness
+pub mod Amounts

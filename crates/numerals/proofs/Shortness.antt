@@ -1,0 +1,121 @@
+-- Numerals with no exponent, read digit by digit, and rounded.
+use Rattle.std.proofs.Common.{◌≡◌, ℕ, ◌+◌, ◌*◌, ◌/◌, ◌%◌, ◌^◌, ◌<◌, ◌≤◌, Bool, true, false, List, [], ◌∷◌, ◌++◌, length, IsTrue, Option, Some, ◌↔◌, refl, sym, ap, ap₂, ◌∙◌, subst, lit<, arith, append-nil, append_assoc, length-append, mul-le-mul_right}
+use Rattle.std.proofs.Math.Nat.{pow-le-pow_right}
+use Rattle.std.proofs.lemmas.Nat.{div-add-mod', mod_below, mul-le}
+use Rattle.std.proofs.lemmas.Str.{digit_value_digit}
+use Rattle.std.proofs.lemmas.Bool.Decides.{nat_tests}
+use Rattle.std.specs.Char.{digit_value}
+use Rattle.std.specs.Prelude.{if◌then◌else◌, ◌==◌}
+use Rattle.std.specs.Str.Parse.{digits_value, digits_value_after, AllDigits}
+use Rattle.fast_float.proofs.ExactLemmas.{ten_to_pos}
+use Rattle.fast_float.proofs.Rows.{AllDigits-append}
+use Rattle.fast_float.proofs.Writing.{scan-text_of}
+use Rattle.fast_float.specs.Text.{Parts, scan, has_digits, digits_of, tens_up, tens_down, IsWellFormed}
+use Rattle.numerals.specs.Nearest.{IsRounded}
+use Rattle.numerals.specs.Numeral.{IsUnsigned}
+use Rattle.numerals.specs.Short.{IsFront, IsShort}
+use Rattle.numerals.proofs.Places.{after_append}
+
+-- a byte less the code of 0
+pub digit : (c : ℕ) → c < 256 → (c + 208) % 256 ≤ 9 → (digit_value c < 10) × (digit_value c ≡ (c + 208) % 256)
+digit c byte le =
+    let low : 48 ≤ c = omega arith in
+    let high : c ≤ 57 = omega arith in
+    let is = digit_value_digit c (low, high) in
+    (omega (arith, is), omega (arith, is))
+
+pub front_none : (v : ℕ) (text : List ℕ) → IsFront v text v text
+front_none v text = record { front = []; all = refl; digits = tt; is = refl }
+
+-- one digit more
+pub front_more : (v : ℕ) (text : List ℕ) (n m : ℕ) (left behind : List ℕ) (c : ℕ) → left ≡ c ∷ behind → digit_value c < 10 → m ≡ n * 10 + digit_value c
+    → IsFront v text n left → IsFront v text m behind
+front_more v text n m left behind c is digit value h = record {
+  front = h.front ++ (c ∷ []);
+  all = h.all ∙ ap (λ l. h.front ++ l) is ∙ sym (append_assoc h.front (c ∷ []) behind);
+  digits = AllDigits-append h.front (c ∷ []) h.digits (digit, tt);
+  is = value ∙ ap (λ k. k * 10 + digit_value c) h.is ∙ after_append v h.front (c ∷ []);
+}
+
+abbrev plain_text : List ℕ → Bool → List ℕ → List ℕ
+plain_text w point f = w ++ ((if point then 46 ∷ f else []) ++ [])
+
+abbrev plain : List ℕ → Bool → List ℕ → Parts
+plain w point f = record { whole = w; point = point; fraction = f; exponent_negative = false; exponent = []; len = length (plain_text w point f) }
+
+of_plain : (w : List ℕ) (point : Bool) (f text : List ℕ) → AllDigits 10 w → AllDigits 10 f → (point ≡ false → f ≡ []) → 0 < length w → text ≡ plain_text w point f
+    → IsShort text (digits_value 10 (w ++ f)) (length f)
+of_plain w point f text dw df none some is =
+    let p = plain w point f in
+    let formed : IsWellFormed p = record { whole_digits = dw; fraction_digits = df; exponent_digits = tt; no_point = none; no_exponent = λ _. refl; len_is = refl } in
+    let e : scan text ≡ p = ap scan is ∙ scan-text_of p formed in
+    let any : IsTrue (has_digits p) = grind (arith, nat_tests) in
+    record {
+      some = subst (λ q. IsTrue (has_digits q)) (sym e) any;
+      complete = ap (λ (q : Parts). q.len) e ∙ ap length (sym is);
+      digits = rw e refl;
+      up = rw e refl;
+      down = rw e (omega arith);
+    }
+
+-- digits alone
+pub whole_short : (text left : List ℕ) (n : ℕ) → IsFront 0 text n left → left ≡ [] → length left < length text → IsShort text n 0
+whole_short text left n h e some =
+    let is : text ≡ h.front = h.all ∙ ap (λ l. h.front ++ l) e ∙ append-nil h.front in
+    let long : 0 < length h.front = omega (arith, ap length is, ap length e, some) in
+    let value : digits_value 10 (h.front ++ []) ≡ n = ap (digits_value 10) (append-nil h.front) ∙ sym h.is in
+    subst (λ k. IsShort text k 0) value (of_plain h.front false [] text h.digits tt (λ _. refl) long (is ∙ sym (append-nil h.front)))
+
+-- digits, a point and digits
+pub point_short : (text left behind rest : List ℕ) (n m c : ℕ) → IsFront 0 text n left → left ≡ c ∷ behind → c ≡ 46 → IsFront n behind m rest → rest ≡ []
+    → length left < length text → IsShort text m (length behind)
+point_short text left behind rest n m c h is dot g e some =
+    let end : behind ≡ g.front = g.all ∙ ap (λ l. g.front ++ l) e ∙ append-nil g.front in
+    let all : text ≡ h.front ++ 46 ∷ g.front = h.all ∙ ap (λ l. h.front ++ l) (is ∙ ap (λ k. k ∷ behind) dot ∙ ap (λ l. 46 ∷ l) end) in
+    let long : 0 < length h.front = omega (arith, ap length h.all, length-append h.front left, some) in
+    let value : digits_value 10 (h.front ++ g.front) ≡ m = sym (after_append 0 h.front g.front) ∙ ap (λ k. digits_value_after 10 k g.front) (sym h.is) ∙ sym g.is in
+    let same : length g.front ≡ length behind = ap length (sym end) in
+    subst (λ k. IsShort text k (length behind)) value
+    (subst (λ k. IsShort text (digits_value 10 (h.front ++ g.front)) k) same
+    (of_plain h.front true g.front text h.digits g.digits (λ no. absurd cc) long (all ∙ ap (λ l. h.front ++ l) (sym (append-nil (46 ∷ g.front))))))
+
+-- a fraction rounded
+pub rounded_halves : (n d : ℕ) → 0 < d → IsRounded n d ((2 * n + d) / (2 * d))
+rounded_halves n d some =
+    let q = (2 * n + d) / (2 * d) in
+    let split = div-add-mod' (2 * n + d) (2 * d) in
+    let rest = mod_below (2 * n + d) (2 * d) (omega arith) in
+    record { low = omega (arith, split, rest); high = omega (arith, split, rest) }
+
+pub emptied : (l : List ℕ) → length l ≡ 0 → l ≡ []
+emptied [] e = refl
+emptied (x ∷ l) e = absurd (omega (arith, e))
+
+pub none_left : (l : List ℕ) → (length l == 0) ≡ true → l ≡ []
+none_left l e = emptied l (grind (arith, nat_tests))
+
+pub unit_bounds : (size places : ℕ) → 1 ≤ size → size ≤ 10 ^ 12 → places ≤ 18 → (0 < size * 10 ^ places) × (size * 10 ^ places ≤ 10 ^ 30)
+unit_bounds size places some limit few =
+    let most : 10 ^ places ≤ 10 ^ 18 = pow-le-pow_right (lit< tt) {j = 18} few in
+    let above = mul-le size (10 ^ places) (10 ^ 12) (10 ^ 18) limit most in
+    (omega (arith, ten_to_pos places, mul-le-mul_right (10 ^ places) some), omega (arith, above))
+
+pub scaled_bound : (digits places : ℕ) → digits < 2 ^ 64 → places ≤ 12 → 2 * digits * 10 ^ places ≤ 2 ^ 65 * 10 ^ 12
+scaled_bound digits places less few =
+    let most : 10 ^ places ≤ 10 ^ 12 = pow-le-pow_right (lit< tt) {j = 12} few in
+    mul-le (2 * digits) (10 ^ places) (2 ^ 65) (10 ^ 12) (omega (arith, less)) most
+
+-- what is exact of a short numeral is exact of its text
+pub short_exact : (u : List ℕ) (digits places moved size : ℕ) (r : Option ℕ) (q : ℕ) → IsShort u digits places
+    → (r ≡ Some q) ↔ (IsRounded (digits * 10 ^ moved) (size * 10 ^ places) q × (q ≤ 2 ^ 40))
+    → (r ≡ Some q) ↔ (IsUnsigned u × IsRounded (digits_of (scan u) * 10 ^ (tens_up (scan u) + moved)) (size * 10 ^ tens_down (scan u)) q × (q ≤ 2 ^ 40))
+short_exact u digits places moved size r q s x =
+    let sum : tens_up (scan u) + moved ≡ moved = omega (arith, s.up) in
+    let n : digits_of (scan u) * 10 ^ (tens_up (scan u) + moved) ≡ digits * 10 ^ moved = ap₂ (λ a b. a * 10 ^ b) s.digits sum in
+    let d : size * 10 ^ tens_down (scan u) ≡ size * 10 ^ places = ap (λ a. size * 10 ^ a) s.down in
+    let unsigned : IsUnsigned u = record { digits = s.some; complete = s.complete } in (
+      λ e.
+          let a = x.0 e in
+          (unsigned, subst (λ k. IsRounded k (size * 10 ^ tens_down (scan u)) q) (sym n) (subst (λ k. IsRounded (digits * 10 ^ moved) k q) (sym d) a.0), a.1),
+      λ b. x.1 (subst (λ k. IsRounded k (size * 10 ^ places) q) n (subst (λ k. IsRounded (digits_of (scan u) * 10 ^ (tens_up (scan u) + moved)) k q) d b.1), b.2),
+    )

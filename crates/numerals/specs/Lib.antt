@@ -1,0 +1,6 @@
+pub mod Nearest
+pub mod Numeral
+pub mod Tenths
+pub mod Short
+pub mod Offset
+pub mod Amount
