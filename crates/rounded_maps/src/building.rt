@@ -8,7 +8,7 @@ use fixing::{FixedFeature, FixingRules};
 use grid::Grid;
 use shapes::{Feature, FeatureMap, Shape};
 use shapes::layer::feature_set;
-use snapping::{Clusters, VertexCounts, VertexIndex, Vertices};
+use snapping::nearly_shared::{Clusters, VertexCounts, VertexIndex, Vertices};
 use std::alloc::{AllocError, AllocFailed, Global};
 use std::collections::BTreeSet;
 use std::convert::AsSlice;
@@ -20,7 +20,7 @@ use topo::Topology;
 pub struct BuildRules<'r> {
     pub rounding: RoundingRules<'r>,
     /// How many steps apart nearly shared vertices are joined; 0 joins none.
-    pub join_distance: u64,
+    pub join_distance: u32,
     /// Whether shared and nearly shared vertices are counted.
     pub counts: bool,
 }
@@ -89,11 +89,19 @@ fn read_maps<T: AsSlice<u8> + Drop>(
     Ok(maps)
 }
 
+/// Adds the vertices of a map. Each shape that is left is a feature.
+fn add_vertices(vertices: &mut Vertices, map: &RoundedMap) -> Result<(), OutOfMemory> {
+    for feature in &map.features {
+        vertices.add(feature.shapes.as_slice())?;
+    }
+    Ok(())
+}
+
 /// The vertices of maps, numbered by feature in the order of the maps.
 fn index_of(alloc: Global, maps: &[RoundedMap]) -> Result<VertexIndex, OutOfMemory> {
     let mut vertices = Vertices::new(alloc);
     for map in maps {
-        vertices.add(map.features.as_slice())?;
+        add_vertices(&mut vertices, map)?;
     }
     Ok(vertices.into_index())
 }
@@ -175,6 +183,14 @@ pub fn round_maps<T: AsSlice<u8> + Drop>(
     Ok((maps, rounded))
 }
 
+/// The grid of whole numbers.
+fn unit_grid() -> Grid {
+    match Grid::new(1, 1, 0, 0) {
+        Some(grid) => grid,
+        None => unreachable!(),
+    }
+}
+
 /// Adds a feature for each of the shapes. Of equal ones one is enough.
 fn add_shapes(
     alloc: Global,
@@ -252,6 +268,6 @@ pub fn build_maps<T: AsSlice<u8> + Drop>(
 ) -> Result<(Topology, Rounded), MapsFault> {
     let (maps, rounded) = round_maps(alloc, texts, rules)?;
     let map = layers_of(alloc, names, maps)?;
-    let topology = Topology::build(alloc, &Grid::unit(), &map)?;
+    let topology = Topology::build(alloc, &unit_grid(), &map)?;
     Ok((topology, rounded))
 }

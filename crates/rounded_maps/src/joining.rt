@@ -3,10 +3,10 @@ use crate::map::RoundedMap;
 use faults::{Fault, FaultKind};
 use fixing::{Broken, Collapsed, FixedFeature, Fixes, FixingRules, RawGeometry, fix_geometry};
 use shapes::Shape;
-use snapping::{Clusters, join_shape};
+use snapping::nearly_shared::{Clusters, join_shape};
 use std::alloc::Global;
 
-/// Moves the vertices of a shape to where they are joined, and adds what is left of it.
+/// Adds a shape with its vertices moved to where they are joined: what is left of it where any is moved.
 fn join_one(
     alloc: Global,
     shape: Shape,
@@ -15,6 +15,10 @@ fn join_one(
     fixes: &mut Fixes,
     joined: &mut Vec<Shape>,
 ) -> Result<(), Broken> {
+    if !clusters.moves_any(&shape) {
+        joined.push(shape)?;
+        return Ok(());
+    }
     let moved = join_shape(alloc, shape, clusters)?;
     let left = fix_geometry(alloc, RawGeometry::One(moved), rules, fixes)?;
     for shape in left {

@@ -7,7 +7,7 @@ use fixing::{Collapsed, FixingRules, Rewind};
 use grid::limits::GREATEST_GRID_NUMBER;
 use numerals::DecimalStep;
 use rounded_maps::{BuildRules, RoundingRules};
-use snapping::GREATEST_DISTANCE;
+use snapping::nearly_shared::GREATEST_DISTANCE;
 use std::alloc::Global;
 
 /// The step of degrees, 0.000001.
@@ -32,7 +32,7 @@ pub(crate) struct GridOptions<'a> {
     pub(crate) refuses_heights: bool,
     pub(crate) fixing: FixingRules,
     /// How many steps apart vertices are joined.
-    pub(crate) join_distance: u64,
+    pub(crate) join_distance: u32,
     pub(crate) output: Option<&'a str>,
     pub(crate) report: Option<&'a str>,
     pub(crate) is_quiet: bool,
@@ -156,11 +156,11 @@ fn reals_of<'a>(alloc: Global, words: &[&'a str]) -> Result<(Vec<Scale<'a>>, boo
 }
 
 /// How many steps apart vertices are joined: a whole number of at most `GREATEST_DISTANCE`.
-fn join_distance_of<'a>(word: Option<&'a str>) -> Result<u64, Refusal<'a>> {
+fn join_distance_of<'a>(word: Option<&'a str>) -> Result<u32, Refusal<'a>> {
     let Some(word) = word else {
         return Ok(0);
     };
-    match word.parse::<u64>() {
+    match word.parse::<u32>() {
         Ok(distance) => if distance <= GREATEST_DISTANCE {
             Ok(distance)
         } else {

@@ -7,7 +7,7 @@ use itoa::Buffer;
 use numerals::Decimal;
 use rounded_maps::{Outcome, Rounded};
 use sinks::{Kept, Sink, WriteFault, put};
-use snapping::{Clusters, VertexCounts};
+use snapping::nearly_shared::{Clusters, VertexCounts};
 use std::alloc::{AllocError, Global};
 
 /// What is reported.
@@ -190,12 +190,12 @@ fn put_position<E: Sink>(err: &mut E, position: Pos) -> Result<(), WriteFault> {
 /// What was joined, and what was not.
 fn put_clusters<E: Sink>(err: &mut E, clusters: &Clusters) -> Result<(), WriteFault> {
     put_count(err, clusters.len() as u64, "vertices joined to others\n")?;
-    let Some(first) = clusters.first_wide else {
+    let Some(first) = clusters.first_wide() else {
         return Ok(());
     };
     put_count(
         err,
-        clusters.wide,
+        clusters.wide() as u64,
         "clusters too wide to be joined, the first at ",
     )?;
     put_position(err, first)?;

@@ -5,7 +5,7 @@ use grid::Pos;
 use json::Writer;
 use rounded_maps::Outcome;
 use sinks::Kept;
-use snapping::{Clusters, VertexCounts};
+use snapping::nearly_shared::{Clusters, VertexCounts};
 use std::alloc::{AllocError, Global};
 
 fn write_count(writer: &mut Writer, name: &str, count: u64) -> Result<(), AllocError> {
@@ -85,9 +85,9 @@ fn write_pairs(writer: &mut Writer, counts: &VertexCounts) -> Result<(), AllocEr
 
 fn write_clusters(writer: &mut Writer, clusters: &Clusters) -> Result<(), AllocError> {
     write_count(writer, "joined", clusters.len() as u64)?;
-    write_count(writer, "too_wide", clusters.wide)?;
+    write_count(writer, "too_wide", clusters.wide() as u64)?;
     writer.key("first_too_wide")?;
-    match clusters.first_wide {
+    match clusters.first_wide() {
         Some(first) => write_position(writer, first),
         None => writer.null(),
     }
