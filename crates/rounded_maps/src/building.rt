@@ -245,13 +245,8 @@ fn layers_of(
     maps: Vec<RoundedMap>,
 ) -> Result<FeatureMap, OutOfMemory> {
     let mut layers = FeatureMap::new(alloc);
-    let mut left = names;
-    for map in maps {
-        let Some((name, after)) = left.split_first() else {
-            break;
-        };
+    for (name, map) in names.iter().zip(maps) {
         layers = layers.with_features(*name, set_of(alloc, map)?)?;
-        left = after;
     }
     Ok(layers)
 }
