@@ -1,11 +1,19 @@
 //! Maps that are rounded together, and their topology.
+ghost use Rattle.compare.specs.declared.quality.vertex.VertexUse.{VertexUse};
+ghost use Rattle.faults.specs.declared.fault.Fault.{Fault as FirstFault};
+ghost use Rattle.rounded_maps.specs.Built.{AreLayersWith, AreMaps, IsTopologyOfMaps, plain_features, plain_of, plains_of};
+ghost use Rattle.rounded_maps.specs.Joined.{AreCountsOf, AreJoinedMaps, AreJoinedWithin, AreVertexUses, shapes_in};
+ghost use Rattle.rounded_maps.specs.Outcomes.{AreOutcomes};
+ghost use Rattle.rounded_maps.specs.Rounded.{AreRounded, IsRefusal, IsRefusalAt};
+ghost use Rattle.std.specs.Prelude.{◌≡◌, IfErr, IfOk};
+
+use crate::grid_of_steps::whole_grid;
 use crate::joining::join_map;
 use crate::map::RoundedMap;
 use crate::outcome::Outcome;
 use crate::rounding::{RoundingRules, round_map};
 use faults::{Fault, FaultKind, OutOfMemory};
 use fixing::{FixedFeature, FixingRules};
-use grid::Grid;
 use shapes::{Feature, FeatureMap, Shape};
 use shapes::layer::feature_set;
 use snapping::nearly_shared::{Clusters, VertexCounts, VertexIndex, Vertices};
@@ -92,7 +100,7 @@ fn read_maps<T: AsSlice<u8> + Drop>(
 /// Adds the vertices of a map. Each shape that is left is a feature.
 fn add_vertices(vertices: &mut Vertices, map: &RoundedMap) -> Result<(), OutOfMemory> {
     for feature in &map.features {
-        vertices.add(feature.shapes.as_slice())?;
+        vertices.add(feature.feature.shapes.as_slice())?;
     }
     Ok(())
 }
@@ -134,9 +142,6 @@ fn join_near(
     }
     let index = index_of(alloc, maps.as_slice())?;
     let clusters = index.clusters(alloc, rules.join_distance)?;
-    if clusters.is_empty() {
-        return Ok((maps, Some(clusters)));
-    }
     let joined = join_maps(alloc, maps, &clusters, &rules.rounding.fixing)?;
     Ok((joined, Some(clusters)))
 }
@@ -183,14 +188,6 @@ pub fn round_maps<T: AsSlice<u8> + Drop>(
     Ok((maps, rounded))
 }
 
-/// The grid of whole numbers.
-fn unit_grid() -> Grid {
-    match Grid::new(1, 1, 0, 0) {
-        Some(grid) => grid,
-        None => unreachable!(),
-    }
-}
-
 /// Adds a feature for each of the shapes. Of equal ones one is enough.
 fn add_shapes(
     alloc: Global,
@@ -233,7 +230,7 @@ fn add_feature(
 fn set_of(alloc: Global, map: RoundedMap) -> Result<BTreeSet<Feature>, OutOfMemory> {
     let mut features = Vec::with_capacity(alloc, map.features.len())?;
     for feature in map.features {
-        add_feature(alloc, feature, &mut features)?;
+        add_feature(alloc, feature.feature, &mut features)?;
     }
     feature_set(alloc, features)
 }
@@ -263,6 +260,6 @@ pub fn build_maps<T: AsSlice<u8> + Drop>(
 ) -> Result<(Topology, Rounded), MapsFault> {
     let (maps, rounded) = round_maps(alloc, texts, rules)?;
     let map = layers_of(alloc, names, maps)?;
-    let topology = Topology::build(alloc, &unit_grid(), &map)?;
+    let topology = Topology::build(alloc, &whole_grid(), &map)?;
     Ok((topology, rounded))
 }

@@ -4,13 +4,14 @@
 
 pub mod building;
 pub mod collection;
+pub mod grid_of_steps;
 pub mod joining;
 pub mod map;
 pub mod outcome;
 pub mod rounding;
 
 pub use building::{BuildRules, MapsFault, Rounded, build_maps, round_maps};
-pub use collection::write_collection;
-pub use map::RoundedMap;
+pub use collection::{collection_text, write_collection};
+pub use map::{RoundedFeature, RoundedMap};
 pub use outcome::Outcome;
 pub use rounding::{RoundingRules, round_map};

@@ -1,5 +1,8 @@
 //! What became of a map, as it is reported.
-use crate::map::RoundedMap;
+ghost use Rattle.fixing.specs.Counts.{AreCounted, no_fixes, told_from, total_from};
+ghost use Rattle.std.specs.Prelude.{◌≡◌, IfOk, map as map_list, vec_len};
+
+use crate::map::{RoundedFeature, RoundedMap};
 use decimal_maps::Tally;
 use faults::OutOfMemory;
 use fixing::{FeatureFixes, Fixes};
@@ -26,34 +29,46 @@ impl Outcome {
     }
 
     /// What became of a map.
-    pub fn of(alloc: Global, map: &RoundedMap) -> Result<Outcome, OutOfMemory> {
+    pub fn of(alloc: Global, map: &RoundedMap) -> Result<Outcome, OutOfMemory>
+        ensures features { IfOk result (λ o. o.features ≡ vec_len map.now.features) }
+        ensures tally { IfOk result (λ o. o.tally ≡ map.now.tally) }
+        ensures reals { IfOk result (λ o. o.reals ≡ map.now.reals) }
+        ensures fixes { IfOk result (λ o. AreCounted o.fixes o.fixed.items (map_list (λ f. f.fixes) map.now.features.items)) }
+    {
         Ok(Outcome {
             features: map.features.len(),
             tally: map.tally,
             reals: map.reals,
-            fixes: all_fixes(map.fixes.as_slice()),
-            fixed: features_fixed(alloc, map.fixes.as_slice())?,
+            fixes: all_fixes(map.features.as_slice()),
+            fixed: features_fixed(alloc, map.features.as_slice())?,
         })
     }
 }
 
 /// How much was fixed of all features.
-fn all_fixes(fixes: &[Fixes]) -> Fixes {
+fn all_fixes(features: &[RoundedFeature]) -> Fixes
+    ensures { result ≡ total_from no_fixes (map_list (λ f. f.fixes) features.now) }
+{
     let mut all = Fixes::default();
-    for of_one in fixes {
-        all = all.with(*of_one);
+    for feature in features {
+        all = all.with(feature.fixes);
     }
     all
 }
 
 /// The features of which anything was fixed, in order.
-fn features_fixed(alloc: Global, fixes: &[Fixes]) -> Result<Vec<FeatureFixes>, OutOfMemory> {
+fn features_fixed(
+    alloc: Global,
+    features: &[RoundedFeature],
+) -> Result<Vec<FeatureFixes>, OutOfMemory>
+    ensures { IfOk result (λ v. v.items ≡ told_from 0 (map_list (λ f. f.fixes) features.now)) }
+{
     let mut fixed = Vec::new(alloc);
-    for (feature, of_one) in fixes.iter().enumerate() {
-        if of_one.any() {
+    for (number, feature) in features.iter().enumerate() {
+        if feature.fixes.any() {
             fixed.push(FeatureFixes {
-                feature,
-                fixes: *of_one,
+                feature: number,
+                fixes: feature.fixes,
             })?;
         }
     }

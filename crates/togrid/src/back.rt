@@ -56,8 +56,11 @@ pub(crate) fn write_back<'a, F: Files, O: Sink>(
         return Err(Refusal::Usage(Usage::BadBack));
     };
     let topology = read_file(alloc, options, *file, files)?;
+    let Some(step) = decimals::DecimalStep::parse(options.step_word.as_bytes()) else {
+        return Err(Refusal::Usage(Usage::BadStep(options.step_word)));
+    };
     let units = Units {
-        step: options.step,
+        step,
         origin: (Decimal::zero(), Decimal::zero()),
     };
     match text_of(alloc, &topology, &units, options.fixing.rewind) {

@@ -3,8 +3,8 @@ use command_line::files::Files;
 use command_line::output::{OUTPUT_BUFFER, Output};
 use command_line::refusal::Refusal;
 use command_line::status::Status;
-use grid::Grid;
 use outputs::fault_reports::{FaultReport, write_lines};
+use rounded_maps::grid_of_steps::whole_grid;
 use rounded_maps::{RoundedMap, write_collection};
 use sinks::{Buffered, Refused, Sink, WriteFault};
 use std::alloc::Global;
@@ -21,10 +21,10 @@ pub(crate) enum Printed<'m, 'a> {
 }
 
 impl<'m, 'a> Printed<'m, 'a> {
-    fn put<W: Sink>(&self, grid: &Grid, sink: &mut W) -> Result<(), WriteFault> {
+    fn put<W: Sink>(&self, sink: &mut W) -> Result<(), WriteFault> {
         match self {
             Printed::Topology(topology) => topo_io::write(*topology, sink),
-            Printed::Map(map) => write_collection(map.features.as_slice(), grid, sink),
+            Printed::Map(map) => write_collection(map.features.as_slice(), &whole_grid(), sink),
             Printed::Faults(names, reports) => put_faults(*names, *reports, sink),
         }
     }
@@ -34,11 +34,8 @@ impl<'m, 'a> Printed<'m, 'a> {
         alloc: Global,
         output: W,
     ) -> Result<Status, Refusal<'a>> {
-        let Some(grid) = Grid::new(1, 1, 0, 0) else {
-            return Err(Refusal::OutOfMemory);
-        };
         let mut sink = Buffered::new(alloc, output, OUTPUT_BUFFER)?;
-        self.put(&grid, &mut sink)?;
+        self.put(&mut sink)?;
         match sink.flush() {
             Ok(()) => Ok(Status::Done),
             Err(Refused) => Err(Refusal::Write),

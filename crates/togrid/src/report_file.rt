@@ -3,7 +3,7 @@ use crate::report::{Report, at_most_u64, in_steps, in_units, put_next};
 use fixing::{FeatureFixes, Fixes};
 use grid::Pos;
 use json::Writer;
-use rounded_maps::Outcome;
+use rounded_maps::{Outcome, Rounded};
 use sinks::Kept;
 use snapping::nearly_shared::{Clusters, VertexCounts};
 use std::alloc::{AllocError, Global};
@@ -93,6 +93,20 @@ fn write_clusters(writer: &mut Writer, clusters: &Clusters) -> Result<(), AllocE
     }
 }
 
+/// The vertices of all files.
+fn write_vertices(writer: &mut Writer, rounded: &Rounded) -> Result<(), AllocError> {
+    if let Some(counts) = &rounded.counts {
+        write_count(writer, "shared", counts.shared as u64)?;
+    }
+    if let Some(clusters) = &rounded.clusters {
+        write_clusters(writer, clusters)?;
+    }
+    match &rounded.counts {
+        Some(counts) => write_pairs(writer, counts),
+        None => Ok(()),
+    }
+}
+
 /// The command to go on with, where files were written.
 fn write_next(
     alloc: Global,
@@ -133,13 +147,7 @@ pub(crate) fn report_text(alloc: Global, report: &Report<'_, '_>) -> Result<Vec<
     writer.begin_object()?;
     write_text(&mut writer, "step", report.options.step_word)?;
     write_files(alloc, &mut writer, report)?;
-    if let Some(counts) = &rounded.counts {
-        write_count(&mut writer, "shared_after", counts.shared as u64)?;
-        write_pairs(&mut writer, counts)?;
-    }
-    if let Some(clusters) = &rounded.clusters {
-        write_clusters(&mut writer, clusters)?;
-    }
+    write_vertices(&mut writer, rounded)?;
     write_next(alloc, &mut writer, report)?;
     writer.end_object()?;
     let mut text = writer.into_inner();

@@ -470,7 +470,7 @@ pub(crate) const TOGRID: &[ArgumentRow] = &[
     argument!(
         "heights",
         Form::OneOf("HOW", &["drop", "refuse"]),
-        "Third numbers of positions: drop, refuse"
+        "Third numbers of positions: drop,\nrefuse"
     ),
     argument!(
         "reals",
@@ -480,17 +480,17 @@ pub(crate) const TOGRID: &[ArgumentRow] = &[
     argument!(
         "collapsed",
         Form::OneOf("HOW", &["null", "drop", "refuse"]),
-        "Features with no shape left: null, drop, refuse"
+        "Features with no shape left: null,\ndrop, refuse"
     ),
     argument!(
         "folded",
         Form::OneOf("HOW", &["split", "refuse"]),
-        "Lines and rings with a segment twice: split, refuse"
+        "Lines and rings with a segment twice:\nsplit, refuse"
     ),
     argument!(
         "collections",
         Form::OneOf("HOW", &["split", "refuse"]),
-        "GeometryCollections: split, refuse"
+        "GeometryCollections: split,\nrefuse"
     ),
     argument!(
         "rewind",
