@@ -1,17 +1,111 @@
 //! Maps whose nearly shared vertices are joined.
 ghost use Rattle.rounded_maps.specs.Joined.{AreJoined, AreJoinedShapes, IsJoined, IsJoinedMap, IsJoinedShape};
-ghost use Rattle.snapping.specs.NearlyShared.Joined.{target_in};
+ghost use Rattle.rounded_maps.specs.declared.joining.Unjoined.TheVariants.{OutOfMemory as WantOfMemory};
 ghost use Rattle.shapes.specs.declared.shape.Shape.{Shape as Form};
-ghost use Rattle.std.specs.Prelude.{◌≡◌, ◌++◌, IfOk, List, OnOk};
+ghost use Rattle.snapping.specs.NearlyShared.Joined.{target_in};
+ghost use Rattle.std.specs.Prelude.{◌≡◌, ◌++◌, IfErr, IfOk, List, OnOk};
 
 use crate::map::{RoundedFeature, RoundedMap};
-use faults::{Fault, FaultKind};
-use fixing::{Broken, Collapsed, FixedFeature, Fixes, FixingRules, RawGeometry, fix_geometry};
+use faults::{Fault, FaultKind, OutOfMemory};
+use fixing::{Broken, FixedFeature, Fixes, FixingRules, RawGeometry, fix_geometry};
 use shapes::Shape;
 use snapping::nearly_shared::{Clusters, join_shape};
-use std::alloc::Global;
+use std::alloc::{AllocError, AllocFailed, Global};
 
-/// Adds a shape with its vertices moved to where they are joined: what is left of it where any is moved.
+/// Why a shape is not joined.
+#[derive(Clone, Copy, Drop)]
+enum Unjoined {
+    /// The moves collapse or fold it, and that is refused.
+    Refused(FaultKind),
+    /// A growth of memory was refused.
+    OutOfMemory,
+}
+
+impl From<OutOfMemory> for Unjoined {
+    ghost from_gives = { λ _ e. e ≡ WantOfMemory };
+
+    fn from(_error: OutOfMemory) -> Unjoined {
+        Unjoined::OutOfMemory
+    }
+}
+
+impl From<AllocError> for Unjoined {
+    ghost from_gives = { λ _ e. e ≡ WantOfMemory };
+
+    fn from(_error: AllocError) -> Unjoined {
+        Unjoined::OutOfMemory
+    }
+}
+
+impl<T: Drop> From<AllocFailed<T>> for Unjoined {
+    ghost from_gives = { λ _ e. e ≡ WantOfMemory };
+
+    fn from(_failed: AllocFailed<T>) -> Unjoined {
+        Unjoined::OutOfMemory
+    }
+}
+
+/// What is left of a shape whose vertices are moved to where they are joined.
+fn fix_moved(
+    alloc: Global,
+    shape: Shape,
+    clusters: &Clusters,
+    rules: &FixingRules,
+    fixes: &mut Fixes,
+) -> Result<Vec<Shape>, Broken> {
+    let moved = join_shape(alloc, shape, clusters)?;
+    fix_geometry(alloc, RawGeometry::One(moved), rules, fixes)
+}
+
+/// The fault of a shape that the moves collapse or fold: that it is too short, unless splitting it leaves something.
+fn refused_kind(
+    alloc: Global,
+    shape: Shape,
+    clusters: &Clusters,
+    rules: &FixingRules,
+) -> Result<FaultKind, OutOfMemory> {
+    let splitting = FixingRules {
+        splits_folded: true,
+        ..*rules
+    };
+    let mut fixes = Fixes::default();
+    match fix_moved(alloc, shape, clusters, &splitting, &mut fixes) {
+        Ok(_) => Ok(FaultKind::Revisit),
+        Err(Broken::Refused) => Ok(FaultKind::TooShort),
+        Err(Broken::OutOfMemory) => Err(OutOfMemory),
+    }
+}
+
+/// What becomes of a shape of which a vertex is moved.
+fn join_moved(
+    alloc: Global,
+    shape: Shape,
+    clusters: &Clusters,
+    rules: &FixingRules,
+    fixes: &mut Fixes,
+) -> Result<Vec<Shape>, Unjoined> {
+    let before = shape.copy(alloc)?;
+    match fix_moved(alloc, shape, clusters, rules, fixes) {
+        Ok(left) => Ok(left),
+        Err(Broken::Refused) => Err(Unjoined::Refused(refused_kind(
+            alloc, before, clusters, rules,
+        )?)),
+        Err(Broken::OutOfMemory) => Err(Unjoined::OutOfMemory),
+    }
+}
+
+/// Adds shapes behind others.
+fn add_shapes(shapes: &mut Vec<Shape>, others: Vec<Shape>) -> Result<(), Unjoined>
+    ensures ok { OnOk result (shapes.new.items ≡ shapes.old.items ++ others.items) }
+    ensures err { IfErr result (λ e. e ≡ WantOfMemory) }
+{
+    for shape in others {
+        shapes.push(shape)?;
+    }
+    Ok(())
+}
+
+/// Adds what becomes of a shape: what is left of it where a vertex is moved, else itself.
 fn join_one(
     alloc: Global,
     shape: Shape,
@@ -19,29 +113,25 @@ fn join_one(
     rules: &FixingRules,
     fixes: &mut Fixes,
     joined: &mut Vec<Shape>,
-) -> Result<(), Broken>
+) -> Result<(), Unjoined>
     ensures { OnOk result ((left : List Form) × (joined.new.items ≡ joined.old.items ++ left) × IsJoinedShape rules.now (target_in clusters.now) shape left fixes.old fixes.new) }
 {
     if !clusters.moves_any(&shape) {
         joined.push(shape)?;
         return Ok(());
     }
-    let moved = join_shape(alloc, shape, clusters)?;
-    let left = fix_geometry(alloc, RawGeometry::One(moved), rules, fixes)?;
-    for shape in left {
-        joined.push(shape)?;
-    }
-    Ok(())
+    let left = join_moved(alloc, shape, clusters, rules, fixes)?;
+    add_shapes(joined, left)
 }
 
-/// What is left of the shapes of a feature.
+/// What becomes of the shapes of a feature.
 fn join_shapes(
     alloc: Global,
     shapes: Vec<Shape>,
     clusters: &Clusters,
     rules: &FixingRules,
     fixes: &mut Fixes,
-) -> Result<Vec<Shape>, Broken>
+) -> Result<Vec<Shape>, Unjoined>
     ensures { IfOk result (λ joined. AreJoinedShapes rules.now (target_in clusters.now) shapes.items joined.items fixes.old fixes.new) }
 {
     let mut joined = Vec::with_capacity(alloc, shapes.len())?;
@@ -57,7 +147,7 @@ fn join_feature(
     feature: RoundedFeature,
     clusters: &Clusters,
     rules: &FixingRules,
-) -> Result<RoundedFeature, Broken>
+) -> Result<RoundedFeature, Unjoined>
     ensures { IfOk result (IsJoined rules.now (target_in clusters.now) feature) }
 {
     let RoundedFeature { feature, fixes } = feature;
@@ -70,16 +160,14 @@ fn join_feature(
     })
 }
 
-/// The fault of a feature that the moves collapse or fold, where that is refused.
-fn refuse_feature(alloc: Global, rules: &FixingRules, feature: usize) -> Fault {
-    let kind = if rules.collapsed == Collapsed::Refuse {
-        FaultKind::TooShort
-    } else {
-        FaultKind::Revisit
-    };
-    Fault::here(alloc, kind)
-        .under_index(feature)
-        .under_name(alloc, "features")
+/// The fault of the feature with this number.
+fn refuse_feature(alloc: Global, unjoined: Unjoined, feature: usize) -> Fault {
+    match unjoined {
+        Unjoined::Refused(kind) => Fault::here(alloc, kind)
+            .under_index(feature)
+            .under_name(alloc, "features"),
+        Unjoined::OutOfMemory => Fault::here(alloc, FaultKind::OutOfMemory),
+    }
 }
 
 /// The features of a map with their vertices joined.
@@ -95,10 +183,9 @@ fn join_features(
     for feature in features {
         match join_feature(alloc, feature, clusters, rules) {
             Ok(feature) => if joined.push(feature).is_err() {
-                return Err(Fault::here(alloc, FaultKind::OutOfMemory));
+                return Err(refuse_feature(alloc, Unjoined::OutOfMemory, 0));
             },
-            Err(Broken::Refused) => return Err(refuse_feature(alloc, rules, joined.len())),
-            Err(Broken::OutOfMemory) => return Err(Fault::here(alloc, FaultKind::OutOfMemory)),
+            Err(unjoined) => return Err(refuse_feature(alloc, unjoined, joined.len())),
         }
     }
     Ok(joined)
