@@ -14,3 +14,4 @@ pub mod AreaSteps
 pub mod PolygonSteps
 pub mod PolygonLaws
 pub mod CrossSteps
+pub mod Fixable
