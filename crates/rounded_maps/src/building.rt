@@ -5,12 +5,13 @@ ghost use Rattle.rounded_maps.specs.Joined.{AreCountsIf, AreJoinedMaps, AreJoine
 ghost use Rattle.rounded_maps.specs.Outcomes.{AreOutcomes};
 ghost use Rattle.rounded_maps.specs.Refusals.{IsMapsRefusal, IsTextFault};
 ghost use Rattle.rounded_maps.specs.Rounded.{AreRounded, faults_under};
+ghost use Rattle.rounded_maps.specs.Unjoined.{AreUnjoined, AreUnjoinedTexts};
 ghost use Rattle.rounded_maps.specs.declared.building.MapsFault.TheVariants.{OutOfMemory as WantOfMemory};
 ghost use Rattle.shapes.specs.Maps.{set_of as features_set};
 ghost use Rattle.snapping.specs.NearlyShared.Joined.{target_in};
 ghost use Rattle.snapping.specs.NearlyShared.Uses.{shapes_uses};
 ghost use Rattle.std.specs.FinMap as finite;
-ghost use Rattle.std.specs.Prelude.{◌≡◌, ◌+◌, ◌++◌, IfErr, IfOk, OnOk, length, map};
+ghost use Rattle.std.specs.Prelude.{◌≡◌, ◌⊎◌, ◌+◌, ◌++◌, ℕ, IfErr, IfOk, List, OnOk, length, map};
 
 use crate::grid_of_steps::whole_grid;
 use crate::joining::join_map;
@@ -142,7 +143,8 @@ fn join_maps(
     clusters: &Clusters,
     rules: &FixingRules,
 ) -> Result<Vec<RoundedMap>, MapsFault>
-    ensures { IfOk result (λ joined. AreJoinedMaps rules.now (target_in clusters.now) maps.items joined.items) }
+    ensures ok { IfOk result (λ joined. AreJoinedMaps rules.now (target_in clusters.now) maps.items joined.items) }
+    ensures err { IfErr result (AreUnjoined rules.now (target_in clusters.now) maps.items) }
 {
     let mut joined = Vec::new(alloc);
     for map in maps {
@@ -160,7 +162,8 @@ fn join_near(
     maps: Vec<RoundedMap>,
     rules: &BuildRules<'_>,
 ) -> Result<(Vec<RoundedMap>, Option<Clusters>), MapsFault>
-    ensures { IfOk result (λ joined. AreJoinedWithin rules.now.rounding.fixing rules.now.join_distance joined.1 maps.items joined.0.items) }
+    ensures ok { IfOk result (λ joined. AreJoinedWithin rules.now.rounding.fixing rules.now.join_distance joined.1 maps.items joined.0.items) }
+    ensures err { IfErr result (λ e. (texts : List (List ℕ)) → AreRounded rules.now.rounding texts maps.items → (e ≡ WantOfMemory) ⊎ AreUnjoinedTexts rules.now texts e) }
 {
     if rules.join_distance == 0 {
         return Ok((maps, None));
@@ -208,6 +211,7 @@ pub fn round_maps<T: AsSlice<u8> + Drop>(
     ensures maps { IfOk result (λ r. AreMaps rules.now (map T.items texts.items) r.1.clusters r.0.items) }
     ensures outcomes { IfOk result (λ r. AreOutcomes r.0.items r.1.outcomes.items) }
     ensures counts { IfOk result (λ r. AreCountsIf rules.now.counts r.0.items r.1.counts) }
+    ensures refused { IfErr result (λ e. IsMapsRefusal (faults_under rules.now.rounding) (map T.items texts.items) e ⊎ AreUnjoinedTexts rules.now (map T.items texts.items) e) }
 {
     let maps = read_maps(alloc, texts, &rules.rounding)?;
     let (maps, clusters) = join_near(alloc, maps, rules)?;
@@ -300,6 +304,7 @@ pub fn build_maps<T: AsSlice<u8> + Drop>(
     rules: &BuildRules<'_>,
 ) -> Result<(Topology, Rounded), MapsFault>
     ensures built { IfOk result (λ r. IsBuilt rules.now (map (λ n. n.now) names.now) (map T.items texts.items) r.1 r.0) }
+    ensures refused { IfErr result (λ e. IsMapsRefusal (faults_under rules.now.rounding) (map T.items texts.items) e ⊎ AreUnjoinedTexts rules.now (map T.items texts.items) e) }
 {
     let (maps, rounded) = round_maps(alloc, texts, rules)?;
     let map = layers_of(alloc, names, maps)?;

@@ -1,9 +1,15 @@
 //! Maps whose nearly shared vertices are joined.
+ghost use Rattle.faults.specs.Fault.{IsWant, pair_of};
+ghost use Rattle.faults.specs.Path.{index, name};
+ghost use Rattle.fixing.specs.Forms.{one, plain_shape};
+ghost use Rattle.fixing.specs.Geometries.{geometry_counted, geometry_left};
 ghost use Rattle.rounded_maps.specs.Joined.{AreJoined, AreJoinedShapes, IsJoined, IsJoinedMap, IsJoinedShape};
+ghost use Rattle.rounded_maps.specs.Unjoined.{HasRefusedShape, IsRefusedShape, IsUnjoined, RefusesFor, kind_moved};
 ghost use Rattle.rounded_maps.specs.declared.joining.Unjoined.TheVariants.{OutOfMemory as WantOfMemory};
 ghost use Rattle.shapes.specs.declared.shape.Shape.{Shape as Form};
 ghost use Rattle.snapping.specs.NearlyShared.Joined.{target_in};
-ghost use Rattle.std.specs.Prelude.{◌≡◌, ◌++◌, IfErr, IfOk, List, OnOk};
+ghost use Rattle.snapping.specs.NearlyShared.Moved.{Moves, moved_shape, places_in};
+ghost use Rattle.std.specs.Prelude.{◌≡◌, ◌⊎◌, ◌∷◌, ◌++◌, [], IfErr, IfOk, List, None, OnOk, Some, codes, map};
 
 use crate::map::{RoundedFeature, RoundedMap};
 use faults::{Fault, FaultKind, OutOfMemory};
@@ -52,7 +58,11 @@ fn fix_moved(
     clusters: &Clusters,
     rules: &FixingRules,
     fixes: &mut Fixes,
-) -> Result<Vec<Shape>, Broken> {
+) -> Result<Vec<Shape>, Broken>
+    ensures left { IfOk result (λ left. geometry_left rules.now (one (moved_shape (target_in clusters.now) shape)) ≡ Some (map plain_shape left.items)) }
+    ensures fixes { OnOk result (fixes.new ≡ geometry_counted rules.now (one (moved_shape (target_in clusters.now) shape)) fixes.old) }
+    ensures refused { IfErr result (λ e. e ≡ Broken.Refused → geometry_left rules.now (one (moved_shape (target_in clusters.now) shape)) ≡ None) }
+{
     let moved = join_shape(alloc, shape, clusters)?;
     fix_geometry(alloc, RawGeometry::One(moved), rules, fixes)
 }
@@ -63,7 +73,9 @@ fn refused_kind(
     shape: Shape,
     clusters: &Clusters,
     rules: &FixingRules,
-) -> Result<FaultKind, OutOfMemory> {
+) -> Result<FaultKind, OutOfMemory>
+    ensures { IfOk result (λ kind. kind ≡ kind_moved rules.now (target_in clusters.now) shape) }
+{
     let splitting = FixingRules {
         splits_folded: true,
         ..*rules
@@ -83,7 +95,11 @@ fn join_moved(
     clusters: &Clusters,
     rules: &FixingRules,
     fixes: &mut Fixes,
-) -> Result<Vec<Shape>, Unjoined> {
+) -> Result<Vec<Shape>, Unjoined>
+    ensures left { IfOk result (λ left. geometry_left rules.now (one (moved_shape (target_in clusters.now) shape)) ≡ Some (map plain_shape left.items)) }
+    ensures fixes { OnOk result (fixes.new ≡ geometry_counted rules.now (one (moved_shape (target_in clusters.now) shape)) fixes.old) }
+    ensures refused { Moves (target_in clusters.now) (places_in shape) → IfErr result (RefusesFor (IsRefusedShape rules.now (target_in clusters.now) shape)) }
+{
     let before = shape.copy(alloc)?;
     match fix_moved(alloc, shape, clusters, rules, fixes) {
         Ok(left) => Ok(left),
@@ -114,7 +130,8 @@ fn join_one(
     fixes: &mut Fixes,
     joined: &mut Vec<Shape>,
 ) -> Result<(), Unjoined>
-    ensures { OnOk result ((left : List Form) × (joined.new.items ≡ joined.old.items ++ left) × IsJoinedShape rules.now (target_in clusters.now) shape left fixes.old fixes.new) }
+    ensures ok { OnOk result ((left : List Form) × (joined.new.items ≡ joined.old.items ++ left) × IsJoinedShape rules.now (target_in clusters.now) shape left fixes.old fixes.new) }
+    ensures err { IfErr result (RefusesFor (IsRefusedShape rules.now (target_in clusters.now) shape)) }
 {
     if !clusters.moves_any(&shape) {
         joined.push(shape)?;
@@ -132,7 +149,8 @@ fn join_shapes(
     rules: &FixingRules,
     fixes: &mut Fixes,
 ) -> Result<Vec<Shape>, Unjoined>
-    ensures { IfOk result (λ joined. AreJoinedShapes rules.now (target_in clusters.now) shapes.items joined.items fixes.old fixes.new) }
+    ensures ok { IfOk result (λ joined. AreJoinedShapes rules.now (target_in clusters.now) shapes.items joined.items fixes.old fixes.new) }
+    ensures err { IfErr result (RefusesFor (HasRefusedShape rules.now (target_in clusters.now) shapes.items)) }
 {
     let mut joined = Vec::with_capacity(alloc, shapes.len())?;
     for shape in shapes {
@@ -148,7 +166,8 @@ fn join_feature(
     clusters: &Clusters,
     rules: &FixingRules,
 ) -> Result<RoundedFeature, Unjoined>
-    ensures { IfOk result (IsJoined rules.now (target_in clusters.now) feature) }
+    ensures ok { IfOk result (IsJoined rules.now (target_in clusters.now) feature) }
+    ensures err { IfErr result (RefusesFor (HasRefusedShape rules.now (target_in clusters.now) feature.feature.shapes.items)) }
 {
     let RoundedFeature { feature, fixes } = feature;
     let FixedFeature { id, props, shapes } = feature;
@@ -161,7 +180,10 @@ fn join_feature(
 }
 
 /// The fault of the feature with this number.
-fn refuse_feature(alloc: Global, unjoined: Unjoined, feature: usize) -> Fault {
+fn refuse_feature(alloc: Global, unjoined: Unjoined, feature: usize) -> Fault
+    ensures kind { RefusesFor (λ kind. IsWant result ⊎ (pair_of result ≡ record { path = name (codes "features") ∷ index feature ∷ []; kind = kind })) unjoined }
+    ensures want { unjoined ≡ WantOfMemory → IsWant result }
+{
     match unjoined {
         Unjoined::Refused(kind) => Fault::here(alloc, kind)
             .under_index(feature)
@@ -177,7 +199,8 @@ fn join_features(
     clusters: &Clusters,
     rules: &FixingRules,
 ) -> Result<Vec<RoundedFeature>, Fault>
-    ensures { IfOk result (λ fs. AreJoined rules.now (target_in clusters.now) features.items fs.items) }
+    ensures ok { IfOk result (λ fs. AreJoined rules.now (target_in clusters.now) features.items fs.items) }
+    ensures err { IfErr result (IsUnjoined rules.now (target_in clusters.now) features.items) }
 {
     let mut joined = Vec::new(alloc);
     for feature in features {
@@ -197,17 +220,18 @@ fn join_features(
 /// A fault of the feature that the moves collapse or fold, where that is refused; `OutOfMemory`.
 pub(crate) fn join_map(
     alloc: Global,
-    map: RoundedMap,
+    rounded: RoundedMap,
     clusters: &Clusters,
     rules: &FixingRules,
 ) -> Result<RoundedMap, Fault>
-    ensures { IfOk result (IsJoinedMap rules.now (target_in clusters.now) map) }
+    ensures ok { IfOk result (IsJoinedMap rules.now (target_in clusters.now) rounded) }
+    ensures err { IfErr result (IsUnjoined rules.now (target_in clusters.now) rounded.features.items) }
 {
     let RoundedMap {
         features,
         tally,
         reals,
-    } = map;
+    } = rounded;
     let features = join_features(alloc, features, clusters, rules)?;
     Ok(RoundedMap {
         features,
