@@ -74,4 +74,4 @@ pub scaled_by_step : (o : Option ℤ) (places : ℕ) (text bytes : List ℕ) (st
     → ((p : ℤ) → (o ≡ Some p) ↔ (IsNumeral bytes × IsSnapped step bytes p × IsGridNumber p)) → o ≡ scaled places text
 scaled_by_step o places text bytes step same is exact =
     scaled_is places text o (subst (λ s. (p : ℤ) → (o ≡ Some p) ↔ (IsNumeral text × IsSnapped s text p × IsGridNumber p)) is
-        (subst (λ t. (p : ℤ) → (o ≡ Some p) ↔ (IsNumeral t × IsSnapped step t p × IsGridNumber p)) same exact))
+    (subst (λ t. (p : ℤ) → (o ≡ Some p) ↔ (IsNumeral t × IsSnapped step t p × IsGridNumber p)) same exact))
