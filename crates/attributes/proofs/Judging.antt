@@ -83,9 +83,9 @@ judged r p (Some ms) made reals number deep named behind fs is count numbers dep
     ∙ ap (λ xs. xs ++ (pairs_of deep ++ pairs_of named)) (numbers ∙ ap (λ b. if has_beyond r.scales.now p || (r.refuses_reals && b) then here PropertyNumber else []) some)
     ∙ ap (λ xs. number_faults r p (members_reals r.scales.now ms) ++ (xs ++ pairs_of named)) (depths ∙ ap (λ m. depth_faults (object m)) same)
 
-total_at : (most a b m n : ℕ) → a ≤ most → min b most ≡ min (0 + m) most → min a most ≡ min (b + n) most → a ≡ min (m + n) most
-total_at most a b m n fits e f = omega arith
+total_at : (most a b m n : ℕ) → min b most ≡ min (0 + m) most → a ≡ min (b + n) most → a ≡ min (m + n) most
+total_at most a b m n e f = omega arith
 
--- a count of 64 bits
-pub total : (a b m n : ℕ) → a < 2 ^ 64 → counted b ≡ counted (0 + m) → counted a ≡ counted (b + n) → a ≡ counted (m + n)
-total a b m n fits e f = total_at (2 ^ 64 - 1) a b m n (omega arith) e f
+-- one count behind another
+pub total : (a b m n : ℕ) → counted b ≡ counted (0 + m) → a ≡ counted (b + n) → a ≡ counted (m + n)
+total a b m n e f = total_at (2 ^ 64 - 1) a b m n e f

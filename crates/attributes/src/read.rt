@@ -42,7 +42,7 @@ fn read_properties(
     reals: &mut u64,
 ) -> Result<Props, Unread>
     ensures made { IfOk result (λ p. properties_text p ≡ compact_text (object (members_of rules.now.scales.now (members_or_none (seen_member properties.entry))))) }
-    ensures reals { OnOk result (counted reals.new ≡ counted (reals.old + members_reals rules.now.scales.now (members_or_none (seen_member properties.entry)))) }
+    ensures reals { OnOk result (reals.new ≡ counted (reals.old + members_reals rules.now.scales.now (members_or_none (seen_member properties.entry)))) }
     ensures ok { OnOk result ((named : List Pair) → members_faults rules.now (seen_member properties.entry) named (properties_members (seen_member properties.entry)) ≡ named) }
     ensures refused { result ≡ Err Unread.Faulty → (named : List Pair) → members_faults rules.now (seen_member properties.entry) named (properties_members (seen_member properties.entry)) ≢ [] }
 {
