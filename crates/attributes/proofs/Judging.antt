@@ -1,5 +1,5 @@
 -- Faults of ids and properties, by what the code finds of them.
-use Rattle.std.proofs.Common.{◌≡◌, ℕ, zero, suc, ◌+◌, ◌-◌, ◌^◌, ◌<◌, ◌≤◌, min, Bool, true, false, not, ◌&&◌, ◌||◌, nat_le, nat_lt, lit<, List, [], ◌∷◌, ◌++◌, Option, Some, None, option_map, unwrap_or, codes, refl, sym, ap, ◌∙◌, arith, lt-ltb}
+use Rattle.std.proofs.Common.{◌≡◌, ℕ, zero, suc, ◌+◌, ◌-◌, ◌^◌, ◌<◌, min, Bool, true, false, not, ◌&&◌, ◌||◌, nat_le, nat_lt, lit<, List, [], ◌∷◌, ◌++◌, Option, Some, None, option_map, unwrap_or, codes, refl, sym, ap, ◌∙◌, arith, lt-ltb}
 use Rattle.std.proofs.lemmas.List.{map-append}
 use Rattle.std.specs.Prelude.{if◌then◌else◌}
 use Rattle.json.specs.Json as json
@@ -12,7 +12,6 @@ use Rattle.faults.specs.declared.fault.Fault.{Fault}
 use Rattle.faults.specs.declared.fault.FaultKind.TheVariants.{PropertyDepth, PropertyNumber}
 use Rattle.shapes.specs.PropertyFaults.{property_fault}
 use Rattle.shapes.specs.declared.nesting.TheConstants.{GREATEST_PROPERTY_DEPTH}
-use Rattle.shapes.specs.declared.props.PropFault.{PropFault}
 use Rattle.shapes.specs.declared.props.PropFault.TheVariants as prop
 use Rattle.reading.specs.Fault.{here, under}
 use Rattle.reading.specs.FaultLists.Found.{pairs_of}

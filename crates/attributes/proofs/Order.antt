@@ -1,7 +1,6 @@
 -- The faults of ids and properties are in order.
 use Rattle.std.proofs.Common.{◌≡◌, ℕ, Bool, true, false, not, ◌&&◌, nat_le, List, [], ◌∷◌, ◌++◌, Option, Some, None, codes, Less, refl}
 use Rattle.std.specs.Borrow.{Bor}
-use Rattle.std.specs.List.{AllByRecursion}
 use Rattle.std.specs.List.Sorted.{IsStrictlySortedBy}
 use Rattle.std.specs.Prelude.{if◌then◌else◌, is_some, option_and_then}
 use Rattle.json.specs.Json as json
@@ -13,7 +12,7 @@ use Rattle.faults.specs.Path.{name}
 use Rattle.faults.specs.declared.fault.FaultKind.{FaultKind}
 use Rattle.faults.specs.declared.fault.FaultKind.TheVariants.{Missing, NotWhole, PropertyDepth, PropertyNumber, WrongKind}
 use Rattle.shapes.specs.declared.nesting.TheConstants.{GREATEST_PROPERTY_DEPTH}
-use Rattle.reading.specs.Fault.{here, pair_cmp, turn_cmp, under}
+use Rattle.reading.specs.Fault.{here, turn_cmp, under}
 use Rattle.reading.specs.FaultLists.Ascending.{IsAscending}
 use Rattle.reading.proofs.FaultListsLemmas.Ascending.{AreBehind, IsBeyond, ascending_here, ascending_more, ascending_none, ascending_under, beyond_append, beyond_none, beyond_under}
 use Rattle.attributes.specs.Attributes.{properties_members}
