@@ -18,7 +18,3 @@ pub record IsKept (places : ℕ) (p : Parts) (kept : ℕ) : Type 0 where
 -- a numeral without its sign, its point moved by so many places, rounded down
 abbrev pub floor_of : ℕ → Parts → ℕ
 floor_of places p = first_digits (p.whole ++ p.fraction) (kept_of places p)
-
--- ten times the same
-abbrev pub tenths_of : ℕ → Parts → ℕ
-tenths_of places p = floor_of (places + 1) p
