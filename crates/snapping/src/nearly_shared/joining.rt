@@ -64,8 +64,8 @@ fn join_ring(alloc: Global, clusters: &Clusters, ring: &Ring) -> Result<Vec<Pos>
     ensures { IfOk result (λ v. v.items ≡ moved_ring (target_in clusters.now) ring.now) }
 {
     let mut moved = join_positions(alloc, clusters, ring.vertices())?;
-    if let Some(first) = ring.vertices().first() {
-        moved.push(clusters.target(*first))?;
+    if let Some(first) = moved.first().copied() {
+        moved.push(first)?;
     }
     Ok(moved)
 }
