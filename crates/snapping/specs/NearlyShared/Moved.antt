@@ -1,6 +1,6 @@
 -- Shapes whose positions go elsewhere.
 use Rattle.std.specs.Prelude.{◌≢◌, List, map}
-use Rattle.compare.specs.Quality.Uses.{use_at}
+use Rattle.compare.specs.declared.quality.vertex.VertexUse.{VertexUse}
 use Rattle.fixing.specs.declared.raw.RawShape.{RawShape}
 use Rattle.fixing.specs.declared.raw.RawShape.TheVariants as raw
 use Rattle.grid.specs.declared.pos.Pos.{Pos}
@@ -16,7 +16,7 @@ use Rattle.theory.specs.Topology.{Shape, null, point, points, line, lines, polyg
 
 -- one of the vertices of a shape goes elsewhere
 abbrev pub Moves : (Pos → Pos) → shapes.Shape → Type 0
-Moves f s = (p : Pos) × Has (use_at 0 p) (shape_uses 0 s) × (f p ≢ p)
+Moves f s = (u : VertexUse) × Has u (shape_uses 0 s) × (f u.at ≢ u.at)
 
 -- the positions of a line, where they go
 abbrev pub moved_line : (Pos → Pos) → Line → List Pos

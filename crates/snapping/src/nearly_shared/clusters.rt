@@ -5,6 +5,7 @@ ghost use Rattle.snapping.specs.NearlyShared.Connected.{are_within};
 ghost use Rattle.snapping.specs.NearlyShared.Joined.{AreJoined, moved_in, positions_in, target_in, wide_in};
 ghost use Rattle.snapping.specs.NearlyShared.Rest.{all_within, moved_to};
 ghost use Rattle.std.specs.BTreeMap.{get};
+ghost use Rattle.std.specs.List.Sorted.{IsStrictlySortedBy};
 ghost use Rattle.std.specs.Prelude.{◌≡◌, ◌↔◌, IfOk, IsTrue, OnOk, [], length, slice_get};
 
 use crate::nearly_shared::component::take_component;
@@ -38,7 +39,8 @@ impl Clusters {
 
     /// How many positions are moved.
     pub fn len(&self) -> usize
-        ensures { result ≡ length (moved_in self.now) }
+        ensures count { result ≡ length (moved_in self.now) }
+        ensures once { IsStrictlySortedBy position_cmp (moved_in self.now) }
     {
         self.moves.len()
     }
