@@ -1,5 +1,5 @@
 -- Tables of the positions beside positions, and lists of positions.
-use Rattle.std.proofs.Common.{◌≡◌, ◌+◌, ◌⊎◌, ◌↔◌, ℕ, Bool, true, false, cond, List, [], ◌∷◌, ◌++◌, length, inl, inr, refl, sym, ap, ◌∙◌, subst, arith, Option, Some, None}
+use Rattle.std.proofs.Common.{◌≡◌, ◌+◌, ◌<◌, ◌⊎◌, ◌↔◌, ℕ, Bool, true, false, cond, List, [], ◌∷◌, ◌++◌, length, inl, inr, refl, sym, ap, ◌∙◌, subst, arith, Option, Some, None}
 use Rattle.std.specs.Prelude.{IsSome, Vec, unwrap_or}
 use Rattle.std.specs.BTreeMap.{BTreeMap, get, is_at, Updates}
 use Rattle.std.specs.Map.{lookup, remove_entry}
@@ -69,6 +69,11 @@ nothing_out test (x ∷ es) e = go (test x.0) (nothing_out test es) e
 pub nil_of : {A : Type 0} (l : List A) → length l ≡ 0 → l ≡ []
 nil_of [] e = refl
 nil_of (x ∷ l) e = absurd (omega (arith, e))
+
+-- no entries have nothing
+pub empty_none : {X : Type 0} (test : Pos → Bool) (es : List (Pos × X)) → ¬ (0 < length es) → lookup test es ≡ None
+empty_none test [] n = refl
+empty_none test (e ∷ es) n = absurd (n (omega arith))
 
 -- ---- notes
 
