@@ -57,9 +57,7 @@ fn read_value<'t>(alloc: Global, reader: &mut Reader<'t>, depth: usize) -> Resul
     }
 }
 
-impl<'t> TakeMember<'t> for FeatureParts<'t> {
-    type On = DecimalGrid;
-
+impl<'t> TakeMember<'t, DecimalGrid> for FeatureParts<'t> {
     ghost knows = { λ on m ms. KnowsParts on m ms };
 
     fn take(
@@ -96,9 +94,7 @@ pub struct FeatureMembers<'t> {
     pub parts: FeatureParts<'t>,
 }
 
-impl<'t> TakeMember<'t> for FeatureMembers<'t> {
-    type On = DecimalGrid;
-
+impl<'t> TakeMember<'t, DecimalGrid> for FeatureMembers<'t> {
     ghost knows = { λ on m ms. KnowsFeature on m ms };
 
     fn take(
@@ -167,7 +163,7 @@ pub fn feature_of<'t>(
     })
 }
 
-impl<'t> FromTokens<'t> for MapRules<'t> {
+impl<'t, 'r> FromTokens<'t> for MapRules<'r> {
     type Made = RawFeature;
 
     type Count = ();

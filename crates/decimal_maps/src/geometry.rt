@@ -72,9 +72,7 @@ fn read_collected<'t>(
     }
 }
 
-impl<'t> TakeMember<'t> for GeometryMembers {
-    type On = GeometryStart;
-
+impl<'t> TakeMember<'t, GeometryStart> for GeometryMembers {
     ghost knows = { λ on m ms. KnowsGeometry on m ms };
 
     fn take(

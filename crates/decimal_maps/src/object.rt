@@ -34,19 +34,16 @@ impl<T: Drop> Lookup<T> {
     }
 }
 
-/// What was read of an object so far.
-pub trait TakeMember<'t> {
-    /// What the members are read by, which stays the same for all of them.
-    type On;
-
+/// What was read of an object so far. Its members are read by `On`, which stays the same for all of them.
+pub trait TakeMember<'t, On> {
     // What is known of the members that were read.
-    ghost knows: { Self.On → Self → Members → Type 0 };
+    ghost knows: { On → Self → Members → Type 0 };
 
     /// Reads the value of a member, or skips it where its name means nothing.
     fn take(
         &mut self,
         alloc: Global,
-        on: &Self::On,
+        on: &On,
         name: &'t str,
         reader: &mut Reader<'t>,
         depth: usize,
@@ -65,9 +62,9 @@ pub fn skip_value<'t>(reader: &mut Reader<'t>, depth: usize) -> Result<(), Stop>
 }
 
 /// Reads the members of an object of which the brace is behind, up to its end.
-pub fn read_members<'t, N: TakeMember<'t>>(
+pub fn read_members<'t, On, N: TakeMember<'t, On>>(
     alloc: Global,
-    on: &N::On,
+    on: &On,
     named: &mut N,
     reader: &mut Reader<'t>,
     depth: usize,
@@ -88,9 +85,9 @@ pub fn read_members<'t, N: TakeMember<'t>>(
 }
 
 /// Reads an object.
-pub fn read_object<'t, N: TakeMember<'t>>(
+pub fn read_object<'t, On, N: TakeMember<'t, On>>(
     alloc: Global,
-    on: &N::On,
+    on: &On,
     named: &mut N,
     reader: &mut Reader<'t>,
     depth: usize,
