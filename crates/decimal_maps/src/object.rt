@@ -32,6 +32,19 @@ impl<T: Drop> Lookup<T> {
             Lookup::Read(value) => Ok(Some(value)),
         }
     }
+
+    /// What was read.
+    ///
+    /// # Errors
+    /// Where the member is missing, or was skipped.
+    pub fn required(self) -> Result<T, Stop>
+        ensures { IfOk result (λ x. self ≡ Lookup.Read x) }
+    {
+        match self {
+            Lookup::Read(value) => Ok(value),
+            _ => Err(Stop::Unread),
+        }
+    }
 }
 
 /// What was read of an object so far. Its members are read by `On`, which stays the same for all of them.

@@ -164,10 +164,7 @@ fn map_of<'t>(
         parts,
     } = members;
     match geometry.simple.kind {
-        Lookup::Read(Kind::FeatureCollection) => match features {
-            Lookup::Read(features) => Ok(features),
-            _ => Err(Stop::Unread),
-        },
+        Lookup::Read(Kind::FeatureCollection) => features.required(),
         Lookup::Read(Kind::Feature) => single(alloc, feature_of(alloc, rules, parts)?),
         _ => single(alloc, bare_feature(alloc, rules, geometry)?),
     }
