@@ -1,0 +1,5 @@
+pub mod Parts
+pub mod Positions
+pub mod Unfixed
+pub mod Outlines
+pub mod Geometries
