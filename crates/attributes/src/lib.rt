@@ -1,0 +1,12 @@
+//! Ids and properties of a map in decimal numbers.
+#![tactic(auto)]
+
+pub mod info;
+pub mod judge;
+pub mod read;
+pub mod rules;
+
+pub use info::{Attributes, Unread};
+pub use judge::attribute_faults;
+pub use read::read_attributes;
+pub use rules::{AttributeRules, Scale};
