@@ -3,3 +3,4 @@ pub mod Nearest
 pub mod Steps
 pub mod Shortness
 pub mod Amounts
+pub mod Ceilings
