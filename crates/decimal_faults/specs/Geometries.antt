@@ -13,12 +13,13 @@ use Rattle.reading.specs.Parts.{named, typed_faults}
 use Rattle.reading.specs.Types.{geometry_named}
 use Rattle.reading.specs.declared.geometry.GeometryType.{GeometryType}
 use Rattle.reading.specs.declared.geometry.GeometryType.TheVariants.{Point, MultiPoint, LineString, MultiLineString, Polygon, MultiPolygon}
+use Rattle.decimal_faults.specs.Outlines.{outline_at_faults}
 use Rattle.decimal_faults.specs.Parts.{list_faults, member_faults, type_text}
 use Rattle.decimal_faults.specs.Positions.{position_faults}
-use Rattle.decimal_faults.specs.Outlines.{line_at_faults, ring_at_faults}
 use Rattle.decimal_faults.specs.declared.geometry.GeometryForm.{GeometryForm}
 use Rattle.decimal_faults.specs.declared.geometry.GeometryForm.TheVariants.{Simple, Collection}
-use Rattle.decimal_faults.specs.declared.stub.DecimalGrid.{DecimalGrid}
+use Rattle.decimal_faults.specs.declared.outline.Outline.TheVariants.{Line, Ring}
+use Rattle.decimal_maps.specs.declared.rules.DecimalGrid.{DecimalGrid}
 
 -- ---- coordinates
 
@@ -29,16 +30,16 @@ unless_empty of j (Some (item k ks)) = of j
 
 -- a position, or none at all
 abbrev pub point_faults : DecimalGrid → Json → List Pair
-point_faults g j = unless_empty (position_faults g) j (as_array j)
+point_faults grid j = unless_empty (position_faults grid) j (as_array j)
 
 -- the faults of `coordinates`, by the geometry's type [RFC 7946, 3.1.2 to 3.1.7]
 abbrev pub coordinates_faults : DecimalGrid → FixingRules → GeometryType → Json → List Pair
-coordinates_faults g fixing Point = point_faults g
-coordinates_faults g fixing MultiPoint = list_faults (position_faults g)
-coordinates_faults g fixing LineString = line_at_faults g fixing
-coordinates_faults g fixing MultiLineString = list_faults (line_at_faults g fixing)
-coordinates_faults g fixing Polygon = list_faults (ring_at_faults g fixing)
-coordinates_faults g fixing MultiPolygon = list_faults (list_faults (ring_at_faults g fixing))
+coordinates_faults grid fixing Point = point_faults grid
+coordinates_faults grid fixing MultiPoint = list_faults (position_faults grid)
+coordinates_faults grid fixing LineString = outline_at_faults grid fixing Line
+coordinates_faults grid fixing MultiLineString = list_faults (outline_at_faults grid fixing Line)
+coordinates_faults grid fixing Polygon = list_faults (outline_at_faults grid fixing Ring)
+coordinates_faults grid fixing MultiPolygon = list_faults (list_faults (outline_at_faults grid fixing Ring))
 
 -- ---- types
 
@@ -46,24 +47,22 @@ abbrev pub simple : Result GeometryType FaultKind → Result GeometryForm FaultK
 simple (Err k) = Err k
 simple (Ok k) = Ok (Simple k)
 
--- the geometry that a name says; a collection where collections are split [RFC 7946, 1.4]
-abbrev pub form_named : FixingRules → List ℕ → Result GeometryForm FaultKind
-form_named fixing s =
-    if bytes_eq s (codes "GeometryCollection") then (if fixing.splits_collections then Ok Collection else Err UnknownType)
-    else simple (geometry_named s)
+-- the geometry that a name says [RFC 7946, 1.4]
+abbrev pub form_named : List ℕ → Result GeometryForm FaultKind
+form_named s = if bytes_eq s (codes "GeometryCollection") then Ok Collection else simple (geometry_named s)
 
 -- the geometry that an object's member `type` names
-abbrev pub form_of : FixingRules → Json → Result GeometryForm FaultKind
-form_of fixing j = named (form_named fixing) (type_text j)
+abbrev pub form_of : Json → Result GeometryForm FaultKind
+form_of j = named form_named (type_text j)
 
--- the faults of a geometry by its type: those of its coordinates, or of its geometries
+-- the faults of a geometry by its type: those of its coordinates, or of its geometries where collections are split
 abbrev pub form_faults : DecimalGrid → FixingRules → Json → List Pair → GeometryForm → List Pair
-form_faults g fixing j within (Simple k) = member_faults (codes "coordinates") (coordinates_faults g fixing k) j
-form_faults g fixing j within Collection = under (name (codes "geometries")) within
+form_faults grid fixing j within (Simple k) = member_faults (codes "coordinates") (coordinates_faults grid fixing k) j
+form_faults grid fixing j within Collection = if fixing.splits_collections then under (name (codes "geometries")) within else under (name (codes "type")) (here UnknownType)
 
 -- ---- geometries
 
--- the faults of the last that there are, else of what is there
+-- the later of two, if it is there
 abbrev pub later : Option (List Pair) → Option (List Pair) → Option (List Pair)
 later None earlier = earlier
 later (Some ps) earlier = Some ps
@@ -72,32 +71,31 @@ abbrev pub or_missing : Option (List Pair) → List Pair
 or_missing None = here Missing
 or_missing (Some ps) = ps
 
-module _ (g : DecimalGrid) (fixing : FixingRules) where
-  unfoldable mutual
-    -- an object with a type, and coordinates or geometries [RFC 7946, 3.1]
-    pub geometry_faults : Json → List Pair
-    geometry_faults null = here WrongKind
-    geometry_faults (boolean b) = here WrongKind
-    geometry_faults (number s) = here WrongKind
-    geometry_faults (string s) = here WrongKind
-    geometry_faults (array js) = here WrongKind
-    geometry_faults (object ms) = typed_faults (form_faults g fixing (object ms) (or_missing (geometries_in ms))) (form_of fixing (object ms))
+unfoldable mutual
+  -- an object with a type, and coordinates or geometries [RFC 7946, 3.1]
+  pub geometry_faults : DecimalGrid → FixingRules → Json → List Pair
+  geometry_faults grid fixing null = here WrongKind
+  geometry_faults grid fixing (boolean b) = here WrongKind
+  geometry_faults grid fixing (number s) = here WrongKind
+  geometry_faults grid fixing (string s) = here WrongKind
+  geometry_faults grid fixing (array js) = here WrongKind
+  geometry_faults grid fixing (object ms) = typed_faults (form_faults grid fixing (object ms) (or_missing (geometries_in grid fixing ms))) (form_of (object ms))
 
-    -- a list of geometries [RFC 7946, 3.1.8]
-    pub geometries_faults : Json → List Pair
-    geometries_faults null = here WrongKind
-    geometries_faults (boolean b) = here WrongKind
-    geometries_faults (number s) = here WrongKind
-    geometries_faults (string s) = here WrongKind
-    geometries_faults (array js) = each_geometry_faults 0 js
-    geometries_faults (object ms) = here WrongKind
+  -- a list of geometries [RFC 7946, 3.1.8]
+  pub geometries_faults : DecimalGrid → FixingRules → Json → List Pair
+  geometries_faults grid fixing null = here WrongKind
+  geometries_faults grid fixing (boolean b) = here WrongKind
+  geometries_faults grid fixing (number s) = here WrongKind
+  geometries_faults grid fixing (string s) = here WrongKind
+  geometries_faults grid fixing (array js) = each_geometry_faults grid fixing 0 js
+  geometries_faults grid fixing (object ms) = here WrongKind
 
-    -- each geometry's faults, the first having that index
-    pub each_geometry_faults : ℕ → Items → List Pair
-    each_geometry_faults i no_items = []
-    each_geometry_faults i (item j js) = under (index i) (geometry_faults j) ++ each_geometry_faults (i + 1) js
+  -- each geometry's faults, the first having that index
+  pub each_geometry_faults : DecimalGrid → FixingRules → ℕ → Items → List Pair
+  each_geometry_faults grid fixing i no_items = []
+  each_geometry_faults grid fixing i (item j js) = under (index i) (geometry_faults grid fixing j) ++ each_geometry_faults grid fixing (i + 1) js
 
-    -- the faults of the last member `geometries`, if there is one
-    pub geometries_in : Members → Option (List Pair)
-    geometries_in no_members = None
-    geometries_in (member k j ms) = later (geometries_in ms) (if bytes_eq k (codes "geometries") then Some (geometries_faults j) else None)
+  -- the faults of the last member `geometries`, if there is one
+  pub geometries_in : DecimalGrid → FixingRules → Members → Option (List Pair)
+  geometries_in grid fixing no_members = None
+  geometries_in grid fixing (member k j ms) = later (geometries_in grid fixing ms) (if bytes_eq k (codes "geometries") then Some (geometries_faults grid fixing j) else None)

@@ -1,5 +1,5 @@
 -- Faults of positions of decimal numerals on a grid, and the positions themselves [RFC 7946, 3.1.1].
-use Rattle.std.specs.Prelude.{ℕ, ℤ, pos, ◌+◌, ◌*◌, ◌/◌, ◌^◌, min, Bool, true, false, ◌&&◌, nat_eq, nat_le, List, [], ◌∷◌, ◌++◌, length, Option, Some, None, unsigned_abs, if◌then◌else◌}
+use Rattle.std.specs.Prelude.{ℕ, ℤ, pos, ◌+◌, ◌*◌, ◌/◌, ◌^◌, min, Bool, true, false, ◌&&◌, not, nat_eq, nat_le, List, [], ◌∷◌, ◌++◌, length, Option, Some, None, unsigned_abs, if◌then◌else◌}
 use Rattle.std.specs.Str.Parse.{starts_with_minus}
 use Rattle.fast_float.specs.Text.{has_digits, with_sign}
 use Rattle.json.specs.Json.{Json, Items, no_items, item}
@@ -11,8 +11,8 @@ use Rattle.grid.specs.declared.pos.Pos.{Pos}
 use Rattle.numerals.specs.Numeral.{Measure, dividend, divisor, parts_of, unsigned_text}
 use Rattle.reading.specs.Fault.{here, under}
 use Rattle.reading.specs.Positions.{position_at}
-use Rattle.decimal_faults.specs.Parts.{array_faults, each_faults, list_faults, numeral_faults}
-use Rattle.decimal_faults.specs.declared.stub.DecimalGrid.{DecimalGrid}
+use Rattle.decimal_faults.specs.Parts.{array_faults, each_faults, numeral_faults}
+use Rattle.decimal_maps.specs.declared.rules.DecimalGrid.{DecimalGrid}
 
 -- ---- numbers
 
@@ -28,7 +28,7 @@ nearest_of s text = with_sign (starts_with_minus text) (steps_of s text)
 abbrev pub is_numeral : List ℕ → Bool
 is_numeral text = has_digits (parts_of text) && nat_eq (parts_of text).len (length (unsigned_text text))
 
--- a numeral is at most so many steps from 0, and no grid number is more than 2^40 steps from it
+-- the whole number of steps that is nearest is at most so far from 0, and a grid number
 unfoldable pub number_faults : Measure → ℕ → List ℕ → List Pair
 number_faults s greatest text = if is_numeral text && nat_le (steps_of s text) (min greatest (2 ^ 40)) then [] else here OutOfRange
 
@@ -50,22 +50,32 @@ whole_of s j = nearest_or_zero s (as_number j)
 
 -- ---- positions
 
--- whether there are none
-abbrev pub are_none : Items → Bool
-are_none no_items = true
-are_none (item j js) = false
+-- whether a position may have so many numbers
+abbrev pub may_have : DecimalGrid → Items → Bool
+may_have grid no_items = false
+may_have grid (item x no_items) = false
+may_have grid (item x (item y no_items)) = true
+may_have grid (item x (item y (item z js))) = not grid.refuses_heights
+
+-- the faults of the first two numbers
+abbrev pub both_faults : DecimalGrid → Items → List Pair
+both_faults grid no_items = []
+both_faults grid (item x no_items) = []
+both_faults grid (item x (item y js)) = under (index 0) (coordinate_faults grid.step grid.greatest_x x) ++ under (index 1) (coordinate_faults grid.step grid.greatest_y y)
+
+-- the numbers behind the first two
+abbrev pub behind_two : Items → Items
+behind_two no_items = no_items
+behind_two (item x no_items) = no_items
+behind_two (item x (item y js)) = js
 
 -- two numbers, and heights behind them where they are not refused
-abbrev pub places_faults : DecimalGrid → Items → List Pair
-places_faults g no_items = here NotTwo
-places_faults g (item x no_items) = here NotTwo
-places_faults g (item x (item y heights)) =
-    if g.refuses_heights && (if are_none heights then false else true) then here NotTwo
-    else under (index 0) (coordinate_faults g.step g.greatest_x x) ++ (under (index 1) (coordinate_faults g.step g.greatest_y y) ++ each_faults height_faults 2 heights)
+abbrev pub numbers_faults : DecimalGrid → Items → List Pair
+numbers_faults grid js = if may_have grid js then both_faults grid js ++ each_faults height_faults 2 (behind_two js) else here NotTwo
 
 -- the faults of a position [RFC 7946, 3.1.1]
 abbrev pub position_faults : DecimalGrid → Json → List Pair
-position_faults g j = array_faults (places_faults g) (as_array j)
+position_faults grid j = array_faults (numbers_faults grid) (as_array j)
 
 abbrev pub position_in : Measure → Option Items → Pos
 position_in s None = position_at (pos 0) (pos 0)

@@ -1,7 +1,17 @@
-//! The faults of GeoJSON trees in decimal numbers.
+//! All faults of GeoJSON texts in decimal numbers that the fixing rules leave, and the reader of a tree that has none.
+//!
+//! A part of a tree is given by the list of its faults, in the order of their paths and then of their numbers, and by what
+//! it means. It is judged, which gives all its faults, or made, which gives what it means where it has none.
 #![tactic(auto)]
 
+mod coordinates;
+mod feature;
 pub mod geometry;
-pub mod part;
-pub mod position;
-pub mod stub;
+mod lists;
+mod members;
+mod outline;
+mod part;
+mod position;
+mod root;
+
+pub use root::{faults, read_value};
