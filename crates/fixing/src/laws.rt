@@ -30,7 +30,8 @@ pub fn sound_shapes_stay()
     ensures polygons { law.SoundPolygonsStay }
 {}
 
-/// Rings that are turned turn as they are wanted.
+/// Rings that are turned turn as they are wanted, and turning them again changes nothing.
 pub fn turned_rings_turn()
-    ensures { law.TurnedRingsTurn }
+    ensures turn { law.TurnedRingsTurn }
+    ensures stay { law.TurnedRingsStay }
 {}
