@@ -5,3 +5,4 @@ pub mod Short
 pub mod Offset
 pub mod Amount
 pub mod Distance
+pub mod Laws

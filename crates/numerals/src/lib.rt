@@ -4,6 +4,7 @@
 pub mod decimal;
 mod digits;
 mod distances;
+pub mod laws;
 pub mod rounding;
 mod short;
 pub mod step;
