@@ -121,14 +121,20 @@ fn feature_type(value: &Value<'_>) -> Result<(), FaultKind>
     }
 }
 
-impl<'r> Part for MapRules<'r> {
+/// An element of a FeatureCollection.
+#[derive(Clone, Copy)]
+pub struct FeatureOf<'m, 'r> {
+    pub rules: &'m MapRules<'r>,
+}
+
+impl<'m, 'r> Part for FeatureOf<'m, 'r> {
     type Made = RawFeature;
 
     type Count = ();
 
-    ghost faults = { λ rules fixing. feature_faults rules fixing };
+    ghost faults = { λ p fixing. feature_faults p.rules.now fixing };
 
-    ghost means = { λ rules j f a b. IsFeature rules j f };
+    ghost means = { λ p j f a b. IsFeature p.rules.now j f };
 
     fn judge(
         &self,
@@ -140,7 +146,7 @@ impl<'r> Part for MapRules<'r> {
             return Ok(one(alloc, FaultKind::WrongKind)?);
         }
         match feature_type(value) {
-            Ok(()) => judge_feature(alloc, self, fixing, value),
+            Ok(()) => judge_feature(alloc, self.rules, fixing, value),
             Err(kind) => { Ok(type_fault(alloc, kind)?) }
         }
     }
@@ -152,7 +158,7 @@ impl<'r> Part for MapRules<'r> {
         _count: &mut (),
     ) -> Result<RawFeature, Stop> {
         match feature_type(value) {
-            Ok(()) => make_feature(alloc, self, value),
+            Ok(()) => make_feature(alloc, self.rules, value),
             Err(_) => Err(Stop::Unread),
         }
     }

@@ -1,5 +1,6 @@
 //! A part of a tree of JSON.
 ghost use Rattle.faults.specs.Fault.{Pair};
+ghost use Rattle.fixing.specs.declared.rules.FixingRules.{FixingRules};
 ghost use Rattle.json.specs.Json.{Json};
 ghost use Rattle.json.specs.Value.{value_view};
 ghost use Rattle.reading.specs.FaultLists.Found.{pairs_of};

@@ -9,7 +9,7 @@ ghost use Rattle.reading.specs.FaultLists.Ascending.{IsAscending};
 ghost use Rattle.reading.specs.FaultLists.Found.{pairs_of};
 ghost use Rattle.std.specs.Prelude.{◌≡◌, ◌≢◌, ◌∷◌, [], IfOk, Err};
 
-use crate::feature::{judge_feature, make_attributes, make_feature};
+use crate::feature::{FeatureOf, judge_feature, make_attributes, make_feature};
 use crate::geometry::{judge_geometry, make_geometry};
 use crate::lists::{ListOf, keep};
 use crate::members::{judge_member, make_member, type_name};
@@ -33,7 +33,8 @@ fn judge_map(
 {
     match type_name(value) {
         Ok("FeatureCollection") => {
-            judge_member(alloc, &ListOf { of: *rules }, fixing, value, "features")
+            let of = FeatureOf { rules };
+            judge_member(alloc, &ListOf { of }, fixing, value, "features")
         }
         Ok("Feature") => judge_feature(alloc, rules, fixing, value),
         _ => judge_geometry(alloc, &rules.grid, fixing, value),
@@ -111,7 +112,8 @@ pub fn read_value(
 {
     match type_name(value) {
         Ok("FeatureCollection") => {
-            make_member(alloc, &ListOf { of: *rules }, value, "features", &mut ())
+            let of = FeatureOf { rules };
+            make_member(alloc, &ListOf { of }, value, "features", &mut ())
         }
         Ok("Feature") => {
             let feature = make_feature(alloc, rules, value)?;
