@@ -9,7 +9,7 @@ use Rattle.std.specs.Str.Parse.{AllDigits, digits_value}
 use Rattle.fast_float.specs.Text.{Parts, digits_of, tens_up, tens_down, with_sign}
 use Rattle.fast_float.proofs.ExactLemmas.{ten_to_pos}
 use Rattle.numerals.specs.Distance.{AreTenThousandths, away, rounded_up}
-use Rattle.numerals.specs.Offset.{IsQuotient}
+use Rattle.numerals.specs.Quotient.{IsQuotient}
 use Rattle.numerals.specs.Floor.{floor_of, kept_of}
 use Rattle.numerals.specs.Laws.{OnTheGridIsNotMoved}
 use Rattle.numerals.specs.Numeral.{dividend, divisor}
