@@ -1,8 +1,8 @@
 -- Where positions go, component by component.
-use Rattle.std.proofs.Common.{◌≡◌, ◌≢◌, ◌⊎◌, ◌↔◌, ℕ, Bool, true, false, cond, List, [], ◌∷◌, ◌++◌, length, inl, inr, refl, sym, ap, ◌∙◌, subst, arith, rules, Option, Some, None, is_some}
+use Rattle.std.proofs.Common.{◌≡◌, ◌≢◌, ◌⊎◌, ◌↔◌, ℕ, Bool, true, false, cond, List, [], ◌∷◌, ◌++◌, inl, inr, refl, sym, ap, ◌∙◌, subst, arith, Option, Some, None, is_some}
 use Rattle.std.proofs.lemmas.Bool.Decides.{nat_tests}
-use Rattle.std.specs.Prelude.{◌&&◌, IsSome, Vec, not, unwrap_or}
-use Rattle.std.specs.BTreeMap.{BTreeMap, IsLowerBound, IsOrdered, get, is_at, keys, Updates}
+use Rattle.std.specs.Prelude.{IsSome, Vec, not, unwrap_or}
+use Rattle.std.specs.BTreeMap.{BTreeMap, IsLowerBound, get, is_at, Updates}
 use Rattle.std.specs.List.{AllByRecursion}
 use Rattle.std.specs.List.Sorted.{IsStrictlySortedBy}
 use Rattle.std.specs.Map.{keys_of, lookup}
@@ -15,7 +15,7 @@ use Rattle.grid.specs.declared.pos.Pos.{Pos}
 use Rattle.lines.specs.Pairs.{position_eq}
 use Rattle.lines.specs.Positions.{position_total, position_same}
 use Rattle.lines.specs.Turned.{position_cmp}
-use Rattle.lines.proofs.Positions.{bool_split, both_intro, position_apart, position_decide, position_most, position_refl, position_tied, position_true, tied_position, true_false, true_position}
+use Rattle.lines.proofs.Positions.{bool_split, both_intro, position_decide, position_most, position_tied, position_true, tied_position, true_false, true_position}
 use Rattle.theory.specs.Geometry.{AtMost}
 use Rattle.theory.specs.Lists.{Has}
 use Rattle.theory.proofs.Ascending.{at_most_less}
@@ -23,8 +23,8 @@ use Rattle.theory.proofs.Lists.{Has-append, Has-append_left, Has-append_right}
 use Rattle.compare.specs.Quality.Near.{within}
 use Rattle.snapping.specs.NearlyShared.Connected.{Connected, Goes, IsLeastOf, IsNarrow, are_within}
 use Rattle.snapping.specs.NearlyShared.Connected.Connected.{itself, turned, through}
-use Rattle.snapping.specs.NearlyShared.Joined.{AreJoined, moved_in, target_in, wide_in}
-use Rattle.snapping.specs.NearlyShared.Rest.{AreBeside, ArePaired, IsRest, IsTaken, Table, all_within, beside, listed, moved_to}
+use Rattle.snapping.specs.NearlyShared.Joined.{AreJoined, moved_in, target_in}
+use Rattle.snapping.specs.NearlyShared.Rest.{AreBeside, ArePaired, IsRest, IsTaken, Table, all_within, listed, moved_to}
 use Rattle.snapping.specs.declared.nearly_shared.clusters.Clusters.{Clusters}
 use Rattle.snapping.proofs.NearlySharedLemmas.Components.{pair_connects, pair_flip, rest_connected, stays}
 use Rattle.snapping.proofs.NearlySharedLemmas.Tables.{Has-decide, is_some_of, none_is, some_is, some_or_none}
