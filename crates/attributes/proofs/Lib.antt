@@ -1,0 +1,7 @@
+pub mod Cut
+pub mod Scaling
+pub mod Keeping
+pub mod Whole
+pub mod Loops
+pub mod Judging
+pub mod Order

@@ -1,8 +1,8 @@
 -- Values of properties: numbers that stay numbers, numbers that become texts, and numbers that are scaled.
-use Rattle.std.specs.Prelude.{ℕ, ℤ, ◌+◌, Bool, false, not, ◌&&◌, ◌||◌, List, [], ◌∷◌, bytes_eq, Option, Some, None, is_some, if◌then◌else◌}
+use Rattle.std.specs.Prelude.{ℕ, ℤ, ◌+◌, Bool, false, not, ◌||◌, List, [], ◌∷◌, bytes_eq, Option, Some, None, is_some, option_and_then, if◌then◌else◌}
 use Rattle.json.specs.Json as json
-use Rattle.json.specs.Find.{as_number, get_member}
-use Rattle.serde_json.specs.Data.{Data, null, boolean, number, string, array, object, Items, no_items, item, Members, no_members, member, put}
+use Rattle.json.specs.Find.{as_number, get, get_member}
+use Rattle.serde_json.specs.Data.{Data, null, boolean, number, string, array, object, Items, no_items, item, Members, no_members, put}
 use Rattle.serde_json.specs.Find.{of_integer}
 use Rattle.attributes.specs.Numerals.{number_value, scaled, whole_of}
 use Rattle.attributes.specs.declared.rules.Scale.{Scale}
@@ -56,6 +56,11 @@ abbrev mutual
 abbrev pub one_if : Bool → ℕ
 one_if b = if b then 1 else 0
 
+-- none where there is a number
+abbrev pub unless_number : Option ℤ → ℕ → ℕ
+unless_number None count = count
+unless_number (Some n) count = 0
+
 -- how many numbers of a value become texts
 abbrev mutual
   pub reals_of : json.Json → ℕ
@@ -73,19 +78,18 @@ abbrev mutual
   pub members_reals : List Scale → json.Members → ℕ
   members_reals ss json.no_members = 0
   members_reals ss (json.member k j ms) =
-      if comes_later k ms || is_some (scaled_property ss k j) then members_reals ss ms else reals_of j + members_reals ss ms
+      if comes_later k ms then members_reals ss ms else unless_number (scaled_property ss k j) (reals_of j) + members_reals ss ms
 
 -- a number that has places but no whole number
 abbrev pub is_beyond : ℕ → Option (List ℕ) → Bool
 is_beyond places None = false
 is_beyond places (Some text) = not (is_some (scaled places text))
 
--- the value of a member, where it is a number
-abbrev pub number_at : Option json.Json → Option (List ℕ)
-number_at None = None
-number_at (Some j) = as_number j
+-- the member of that name, where it is a number
+abbrev pub number_at : List ℕ → Option json.Json → Option (List ℕ)
+number_at name p = option_and_then as_number (option_and_then (get name) p)
 
 -- some property is a number that its scale takes beyond the limit
-abbrev pub has_beyond : List Scale → json.Members → Bool
-has_beyond [] ms = false
-has_beyond (s ∷ ss) ms = is_beyond s.places (number_at (get_member s.property.now ms)) || has_beyond ss ms
+abbrev pub has_beyond : List Scale → Option json.Json → Bool
+has_beyond [] p = false
+has_beyond (s ∷ ss) p = is_beyond s.places (number_at s.property.now p) || has_beyond ss p

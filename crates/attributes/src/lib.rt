@@ -1,10 +1,15 @@
 //! Ids and properties of a map in decimal numbers.
 #![tactic(auto)]
 
+mod id;
 pub mod info;
 pub mod judge;
+pub mod laws;
+mod numeral;
+mod properties;
 pub mod read;
 pub mod rules;
+mod values;
 
 pub use info::{Attributes, Unread};
 pub use judge::attribute_faults;
