@@ -18,5 +18,5 @@ returns-in-Some c =
       subst (λ n. IsCoordinate grid grid.greatest_x (number s) n) (sym (given.0 ∙ number_reads c.in_ok-across.across first.1)) first.0,
       subst (λ n. IsCoordinate grid grid.greatest_y (number t) n) (sym (given.1 ∙ number_reads c.in_ok-along.along second.1)) second.0,
       c.add_position.ensures
-      ∙ ap (λ far. with_position far c.args.tally.now) (c.max.ensures ∙ ap (λ a. max a c.distance_of-2.result) x ∙ ap (λ b. max (distance_from_grid grid (number s)) b) y),
+          ∙ ap (λ far. with_position far c.args.tally.now) (c.max.ensures ∙ ap (λ a. max a c.distance_of-2.result) x ∙ ap (λ b. max (distance_from_grid grid (number s)) b) y),
     )
