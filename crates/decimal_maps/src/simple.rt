@@ -17,6 +17,7 @@ use json::Reader;
 use std::alloc::Global;
 
 /// What a geometry is read by, and what was counted before it.
+#[derive(Drop)]
 pub struct GeometryStart {
     pub grid: DecimalGrid,
     pub counted: Tally,
@@ -167,6 +168,7 @@ pub fn simple_of(alloc: Global, members: SimpleMembers) -> Result<(RawShape, Tal
 }
 
 /// The reader of such geometries.
+#[derive(Drop)]
 pub struct SimpleGeometry {
     pub grid: DecimalGrid,
 }
