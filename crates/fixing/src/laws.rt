@@ -1,6 +1,6 @@
-//! The laws of what is left of lines, rings and whole texts, each promised by a function that does nothing.
+//! The laws of what is left of lines, rings and geometries, each promised by a function that does nothing.
+ghost use Rattle.fixing.specs.Fixable as fixable;
 ghost use Rattle.fixing.specs.Laws as law;
-ghost use Rattle.fixing.specs.TextLaws as text;
 
 /// What is left of a line is lines: two positions or more, and no segment twice. What is left of a ring is rings:
 /// closed, four positions or more, and no segment twice. So are the rings of what is left of a polygon, before they are
@@ -31,14 +31,21 @@ pub fn sound_shapes_stay()
     ensures polygons { law.SoundPolygonsStay }
 {}
 
-/// Rings that are turned turn as they are wanted.
+/// Rings that are turned turn as they are wanted, and turning them again changes nothing.
 pub fn turned_rings_turn()
-    ensures { law.TurnedRingsTurn }
+    ensures turn { law.TurnedRingsTurn }
+    ensures stay { law.TurnedRingsStay }
 {}
 
-/// The text that is made is determined by the value that was read, where what is left has no floats; and of a text that
-/// is one value, that is the value.
-pub fn texts_are_exact()
-    ensures exact { text.TextsWithoutFloatsAreExact }
-    ensures whole { text.WholeTextsAreFixed }
+/// What is left of a shape is left as it is when it is fixed again, and nothing is counted then.
+pub fn shapes_left_stay()
+    ensures { law.ShapesLeftStay }
+{}
+
+/// A line, a ring or a geometry is refused exactly where it has a fault that the rules don't fix, or is a GeometryCollection
+/// that they don't split.
+pub fn fixable_geometries_are_left()
+    ensures lines { fixable.FixableLinesAreLeft }
+    ensures rings { fixable.FixableRingsAreLeft }
+    ensures geometries { fixable.FixableGeometriesAreLeft }
 {}
