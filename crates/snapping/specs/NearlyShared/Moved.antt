@@ -1,8 +1,7 @@
 -- Shapes whose positions go elsewhere.
 use Rattle.std.specs.Prelude.{◌≢◌, List, map}
 use Rattle.compare.specs.declared.quality.vertex.VertexUse.{VertexUse}
-use Rattle.fixing.specs.declared.raw.RawShape.{RawShape}
-use Rattle.fixing.specs.declared.raw.RawShape.TheVariants as raw
+use Rattle.fixing.specs.Forms.{PlainForm}
 use Rattle.grid.specs.declared.pos.Pos.{Pos}
 use Rattle.lines.specs.Seen.{positions_of, vertices_of}
 use Rattle.lines.specs.declared.line.Line.{Line}
@@ -12,7 +11,7 @@ use Rattle.shapes.specs.declared.shape.Shape.TheVariants as of
 use Rattle.snapping.specs.NearlyShared.Uses.{shape_uses}
 use Rattle.theory.specs.LinesAndRings.{closed}
 use Rattle.theory.specs.Lists.{Has}
-use Rattle.theory.specs.Topology.{Shape, null, point, points, line, lines, polygon, polygons}
+use Rattle.theory.specs.Topology.{null, point, points, line, lines, polygon, polygons}
 
 -- one of the vertices of a shape goes elsewhere
 abbrev pub Moves : (Pos → Pos) → shapes.Shape → Type 0
@@ -27,7 +26,7 @@ abbrev pub moved_ring : (Pos → Pos) → Ring → List Pos
 moved_ring f r = closed (map f (vertices_of r))
 
 -- a shape whose positions are where they go, its rings with the closing repeat
-abbrev pub moved_shape : (Pos → Pos) → shapes.Shape → Shape Pos
+abbrev pub moved_shape : (Pos → Pos) → shapes.Shape → PlainForm
 moved_shape f of.Null = null
 moved_shape f (of.Point p) = point (f p)
 moved_shape f (of.MultiPoint ps) = points (map f ps)
@@ -35,13 +34,3 @@ moved_shape f (of.Line l) = line (moved_line f l)
 moved_shape f (of.MultiLine ls) = lines (map (moved_line f) ls)
 moved_shape f (of.Polygon rs) = polygon (map (moved_ring f) rs)
 moved_shape f (of.MultiPolygon ps) = polygons (map (map (moved_ring f)) ps)
-
--- a shape of lists of positions
-abbrev pub seen_raw : RawShape → Shape Pos
-seen_raw raw.Null = null
-seen_raw (raw.Point p) = point p
-seen_raw (raw.MultiPoint ps) = points ps.items
-seen_raw (raw.Line ps) = line ps.items
-seen_raw (raw.MultiLine ls) = lines (map (λ l. l.items) ls.items)
-seen_raw (raw.Polygon rs) = polygon (map (λ r. r.items) rs.items)
-seen_raw (raw.MultiPolygon ps) = polygons (map (λ p. map (λ r. r.items) p.items) ps.items)

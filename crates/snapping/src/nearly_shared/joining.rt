@@ -1,12 +1,14 @@
 //! Shapes whose positions are moved to where their vertices are joined.
+ghost use Rattle.fixing.specs.Forms.{seen_shape};
+ghost use Rattle.fixing.specs.Seen.{lists_in, polygons_in};
 ghost use Rattle.snapping.specs.NearlyShared.Joined.{target_in};
-ghost use Rattle.snapping.specs.NearlyShared.Moved.{Moves, moved_line, moved_ring, moved_shape, seen_raw};
+ghost use Rattle.snapping.specs.NearlyShared.Moved.{Moves, moved_line, moved_ring, moved_shape};
 ghost use Rattle.std.specs.Prelude.{◌≡◌, ◌↔◌, IfOk, IsTrue, map};
 
 use crate::nearly_shared::clusters::Clusters;
 use crate::nearly_shared::vertices::note_shape;
 use faults::OutOfMemory;
-use fixing::raw::RawShape;
+use fixing::RawShape;
 use grid::pos::Pos;
 use lines::items::Items;
 use lines::line::Line;
@@ -50,7 +52,7 @@ fn join_lines(
     clusters: &Clusters,
     lines: &[Line],
 ) -> Result<Vec<Vec<Pos>>, OutOfMemory>
-    ensures { IfOk result (λ v. map (λ l. l.items) v.items ≡ map (moved_line (target_in clusters.now)) lines.now) }
+    ensures { IfOk result (λ v. lists_in v.items ≡ map (moved_line (target_in clusters.now)) lines.now) }
 {
     let mut moved = Vec::with_capacity(alloc, lines.len())?;
     for line in lines {
@@ -75,7 +77,7 @@ fn join_rings(
     clusters: &Clusters,
     rings: &[Ring],
 ) -> Result<Vec<Vec<Pos>>, OutOfMemory>
-    ensures { IfOk result (λ v. map (λ r. r.items) v.items ≡ map (moved_ring (target_in clusters.now)) rings.now) }
+    ensures { IfOk result (λ v. lists_in v.items ≡ map (moved_ring (target_in clusters.now)) rings.now) }
 {
     let mut moved = Vec::with_capacity(alloc, rings.len())?;
     for ring in rings {
@@ -89,7 +91,7 @@ fn join_polygons(
     clusters: &Clusters,
     polygons: &[Items<Ring>],
 ) -> Result<Vec<Vec<Vec<Pos>>>, OutOfMemory>
-    ensures { IfOk result (λ v. map (λ p. map (λ r. r.items) p.items) v.items ≡ map (map (moved_ring (target_in clusters.now))) polygons.now) }
+    ensures { IfOk result (λ v. polygons_in v.items ≡ map (map (moved_ring (target_in clusters.now))) polygons.now) }
 {
     let mut moved = Vec::with_capacity(alloc, polygons.len())?;
     for rings in polygons {
@@ -100,7 +102,7 @@ fn join_polygons(
 
 /// A shape with each position where it is moved to, to be fixed again: lines and rings may be folded or too short.
 pub fn join_shape(alloc: Global, shape: Shape, clusters: &Clusters) -> Result<RawShape, OutOfMemory>
-    ensures { IfOk result (λ raw. seen_raw raw ≡ moved_shape (target_in clusters.now) shape) }
+    ensures { IfOk result (λ raw. seen_shape raw ≡ moved_shape (target_in clusters.now) shape) }
 {
     match &shape {
         Shape::Null => Ok(RawShape::Null),
