@@ -2,6 +2,7 @@
 use Rattle.std.proofs.Common.{◌≡◌, ℕ, zero, suc, ◌+◌, ◌*◌, ◌/◌, ◌<◌, ◌^◌, ◌≤◌, Bool, true, false, ℤ, pos, negsuc, ◌-ℤ◌, ◌*ℤ◌, ◌⊎◌, inl, inr, refl, zero-mul, arith, mul-le-mul_right}
 use Rattle.std.proofs.lemmas.Bool.{cases_lt}
 use Rattle.std.proofs.lemmas.Int.{ints}
+use Rattle.std.proofs.lemmas.Nat.{div-add-mod', mod_below}
 use Rattle.std.specs.Prelude.{unsigned_abs}
 use Rattle.fast_float.specs.Text.{with_sign}
 use Rattle.numerals.specs.Distance.{AreTenThousandths}
@@ -88,3 +89,11 @@ beyond n d k r e some h many a =
       | inl less ↦ omega (arith, many, one_rounded n d _ r (rounded_parts n d k h.low (h.high less)) a)
       | inr far ↦ rounded_far n d k r some far h.low a
     ]
+
+-- halves over twice the size, rounded down
+pub rounded_halves_of : (n d : ℕ) → 0 < d → IsRounded n d ((n * 2 + d) / (d * 2))
+rounded_halves_of n d some =
+    let q = (n * 2 + d) / (d * 2) in
+    let split = div-add-mod' (n * 2 + d) (d * 2) in
+    let rest = mod_below (n * 2 + d) (d * 2) (omega arith) in
+    record { low = omega (arith, split, rest); high = omega (arith, split, rest) }
