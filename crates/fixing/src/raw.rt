@@ -1,4 +1,4 @@
-//! Geometries whose lists of positions are not judged as lines or rings yet.
+//! Geometries whose lists of positions need not be lines or rings yet.
 use grid::pos::Pos;
 
 /// The positions of a geometry by its type (RFC 7946, sections 3.1.2 to 3.1.7), as a map has them: lines may be too short or

@@ -24,7 +24,7 @@ fn note(
     Ok(())
 }
 
-/// For each position of the pairs, those that stand beside it in one.
+/// For each position of the pairs, the other position of each pair that has it.
 pub(crate) fn neighbours_of(
     alloc: Global,
     pairs: &[(NearPlace, NearPlace)],
