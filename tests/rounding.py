@@ -46,17 +46,23 @@ class Options:
     def limits(self):
         return (GREATEST, GREATEST) if self.step else DEGREES
 
-    def words(self):
+    def words_of_errors(self):
+        """Those on which it depends what is an error."""
         made = ["--step", self.step] if self.step else []
         made += ["--heights", "refuse"] if self.refuses_heights else []
         made += ["--reals", "refuse"] if self.refuses_reals else []
         for name, places in self.scales.items():
             made += ["--reals", f"scale:{name}={10**places}"]
         made += ["--id", self.id] if self.id is not None else []
-        for name, default in ("collapsed", "null"), ("folded", "split"), ("collections", "split"), ("rewind", "keep"):
+        for name, default in ("collapsed", "null"), ("folded", "split"), ("collections", "split"):
             if getattr(self, name) != default:
                 made += [f"--{name}", getattr(self, name)]
-        return made + (["--snap", str(self.distance)] if self.distance else [])
+        return made
+
+    def words(self):
+        """All of them."""
+        made = ["--rewind", self.rewind] if self.rewind != "keep" else []
+        return self.words_of_errors() + made + (["--snap", str(self.distance)] if self.distance else [])
 
 
 # ---- numbers
@@ -207,7 +213,9 @@ class Errors:
         properties, id_ = member(value, "properties"), member(value, "id")
         errors = under("properties", self.property_errors(properties)) if properties is not None else []
         if self.options.id is not None:
-            id_ = properties.what.get(self.options.id) if properties is not None and properties.kind == "object" else None
+            if properties is not None and properties.kind != "object":
+                return errors
+            id_ = None if properties is None else properties.what.get(self.options.id)
             found = [((), 2)] if id_ is None else self.id_errors(id_)
             return errors + under("properties", under(self.options.id, found))
         return errors + (under("id", self.id_errors(id_)) if id_ is not None else [])
@@ -562,7 +570,7 @@ class File:
 
     def __init__(self, value, options):
         found, self.tally = read(value, options)
-        self.options, self.features, self.fixed = options, [], collections.defaultdict(collections.Counter)
+        self.count, self.options, self.features, self.fixed = len(found), options, [], collections.defaultdict(collections.Counter)
         for feature, is_collection in found:
             fixer = Fixer(options)
             self.take(feature, fixer, fixer.shapes(feature.shapes, is_collection))
@@ -652,7 +660,7 @@ def file_report(file, path, name):
     tally = file.tally
     steps, units = furthest_of(file)
     fixed = [{"feature": number, **fixed_members(it)} for number, it in sorted(file.fixed.items()) if any(it.values())]
-    return {"file": path, "name": name, "features": len(file.features), "positions": tally.positions, "moved": tally.moved,
+    return {"file": path, "name": name, "features": file.count, "positions": tally.positions, "moved": tally.moved,
             "furthest_steps": steps, "furthest": units, "heights": tally.heights, "reals": tally.reals,
             **{it: file.count_of(it) for it in FIXES}, "fixed": fixed}
 
@@ -674,14 +682,14 @@ WORDS = {"collapsed": "lines or rings collapsed", "folded": "lines or rings fold
 
 def file_lines(file, path):
     tally = file.tally
-    yield f"{path}: {len(file.features)} features, {tally.positions} positions, step {file.options.step_word}"
+    yield f"{path}: {file.count} features, {tally.positions} positions, step {file.options.step_word}"
     if tally.moved:
         steps, units = map(decimal_text, furthest_of(file))
         yield f"  {tally.moved} positions moved, by at most {steps} steps ({units})"
     if tally.heights:
         yield f"  {tally.heights} heights dropped"
     if tally.reals:
-        yield f"  {tally.reals} numbers with a fraction made texts"
+        yield f"  {tally.reals} numbers made texts"
     for name in FIXES:
         if count := file.count_of(name):
             yield f"  {count} {WORDS[name]}, the first in feature {min(number for number, it in file.fixed.items() if it[name])}"

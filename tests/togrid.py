@@ -440,7 +440,7 @@ def wrong_refused(file, ran_first, wanted):
 
 def wanted_errors(file, bytes_, asked):
     """The value of a text, and the first line and the lines of --faults where it has errors."""
-    words = asked.words()
+    words = asked.words_of_errors()
     try:
         text, value = rounding.parse(bytes_)
     except faults.NotJson as wrong:
