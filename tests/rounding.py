@@ -238,11 +238,7 @@ class Errors:
             return errors
         if kind == "FeatureCollection":
             return required(value, "features", lambda v: self.each(v, self.element))
-        if kind == "Feature":
-            return self.feature(value)
-        # A geometry is a feature without properties.
-        lacking = [(("properties", self.options.id), 2)] if self.options.id is not None else []
-        return self.typed(kind, value) + lacking
+        return self.feature(value) if kind == "Feature" else self.typed(kind, value)
 
 
 def has_real(value):
