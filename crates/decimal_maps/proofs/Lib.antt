@@ -1,4 +1,0 @@
-pub mod Looping
-pub mod Placing
-pub mod Naming
-pub mod Featuring

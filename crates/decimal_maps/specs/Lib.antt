@@ -1,6 +1,8 @@
 pub mod Arrays
-pub mod Reads
+pub mod Tally
 pub mod Positions
 pub mod Geometries
 pub mod Features
 pub mod Roots
+pub mod Reads
+pub mod Members

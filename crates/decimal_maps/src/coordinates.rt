@@ -1,13 +1,14 @@
 //! Coordinates by how deep their brackets nest.
-ghost use Rattle.decimal_maps.specs.Geometries.{CoordinatesMean, coordinates_heights};
+ghost use Rattle.decimal_maps.specs.Members.{CoordinatesMean};
 ghost use Rattle.decimal_maps.specs.Reads.{Reads};
 ghost use Rattle.std.specs.Prelude.{IfOk};
 
 use crate::from_tokens::{FromTokens, Stop};
-use crate::geometry::GeometryKind;
+use crate::kind::GeometryKind;
 use crate::list::ListOf;
 use crate::opened::{FromOpened, number_or_array};
-use crate::position::DecimalPosition;
+use crate::rules::DecimalGrid;
+use crate::tally::Tally;
 use crate::token::take_begin_array;
 use grid::Pos;
 use json::Reader;
@@ -27,14 +28,14 @@ pub enum Coordinates {
 /// The coordinates that come next, whatever the type beside them.
 pub fn read_coordinates<'t>(
     alloc: Global,
-    position: &DecimalPosition,
+    grid: &DecimalGrid,
     reader: &mut Reader<'t>,
     depth: usize,
-    dropped: &mut u64,
+    tally: &mut Tally,
 ) -> Result<Coordinates, Stop>
-    ensures { IfOk result (λ n. Reads (λ j m. CoordinatesMean position.now.x position.now.y j m) (coordinates_heights n) depth reader.old reader.new dropped.old dropped.new n) }
+    ensures { IfOk result (λ n. Reads (CoordinatesMean grid.now) depth reader.old reader.new tally.old tally.new n) }
 {
-    let places = ListOf { of: *position };
+    let places = ListOf { of: *grid };
     let lists = ListOf { of: places };
     let groups = ListOf { of: lists };
     take_begin_array(reader, depth)?;
@@ -42,16 +43,16 @@ pub fn read_coordinates<'t>(
         return Ok(Coordinates::Empty);
     }
     if let Some(x) = number_or_array(reader)? {
-        return Ok(Coordinates::Place(position.read_opened(alloc, x, reader, depth, dropped)?));
+        return Ok(Coordinates::Place(grid.read_opened(alloc, x, reader, depth, tally)?));
     }
     if let Some(x) = number_or_array(reader)? {
-        return Ok(Coordinates::Places(places.read_opened(alloc, x, reader, depth, dropped)?));
+        return Ok(Coordinates::Places(places.read_opened(alloc, x, reader, depth, tally)?));
     }
     if let Some(x) = number_or_array(reader)? {
-        return Ok(Coordinates::Lists(lists.read_opened(alloc, x, reader, depth, dropped)?));
+        return Ok(Coordinates::Lists(lists.read_opened(alloc, x, reader, depth, tally)?));
     }
     if let Some(x) = number_or_array(reader)? {
-        return Ok(Coordinates::Groups(groups.read_opened(alloc, x, reader, depth, dropped)?));
+        return Ok(Coordinates::Groups(groups.read_opened(alloc, x, reader, depth, tally)?));
     }
     Err(Stop::Unread)
 }
@@ -59,29 +60,27 @@ pub fn read_coordinates<'t>(
 /// The coordinates that come next, of a geometry of this type.
 pub fn read_typed<'t>(
     alloc: Global,
-    position: &DecimalPosition,
+    grid: &DecimalGrid,
     kind: GeometryKind,
     reader: &mut Reader<'t>,
     depth: usize,
-    dropped: &mut u64,
+    tally: &mut Tally,
 ) -> Result<Coordinates, Stop>
-    ensures { IfOk result (λ n. Reads (λ j m. CoordinatesMean position.now.x position.now.y j m) (coordinates_heights n) depth reader.old reader.new dropped.old dropped.new n) }
+    ensures { IfOk result (λ n. Reads (CoordinatesMean grid.now) depth reader.old reader.new tally.old tally.new n) }
 {
-    let places = ListOf { of: *position };
+    let places = ListOf { of: *grid };
     let lists = ListOf { of: places };
     let groups = ListOf { of: lists };
     match kind {
-        GeometryKind::Point => Ok(Coordinates::Place(position.read(
-            alloc, reader, depth, dropped,
-        )?)),
+        GeometryKind::Point => Ok(Coordinates::Place(grid.read(alloc, reader, depth, tally)?)),
         GeometryKind::MultiPoint | GeometryKind::LineString => Ok(Coordinates::Places(places.read(
-            alloc, reader, depth, dropped,
+            alloc, reader, depth, tally,
         )?)),
         GeometryKind::MultiLineString | GeometryKind::Polygon => Ok(Coordinates::Lists(lists.read(
-            alloc, reader, depth, dropped,
+            alloc, reader, depth, tally,
         )?)),
         GeometryKind::MultiPolygon => Ok(Coordinates::Groups(groups.read(
-            alloc, reader, depth, dropped,
+            alloc, reader, depth, tally,
         )?)),
     }
 }

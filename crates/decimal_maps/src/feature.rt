@@ -1,63 +1,53 @@
 //! Features, whose members come in any order.
-ghost use Rattle.decimal_maps.specs.Features.{IsFeature, IsRootKind, KnowsFeature, root_name};
-ghost use Rattle.decimal_maps.specs.Reads.{Gives, KnowsMember};
-ghost use Rattle.json.specs.Json.{Json, Members, no_members, object, string};
+ghost use Rattle.decimal_maps.specs.Features.{HaveAttributes, IsFeature, or_null};
+ghost use Rattle.decimal_maps.specs.Members.{IsCountedGeometry, IsKind, KnowsFeature, KnowsMember, KnowsParts};
+ghost use Rattle.decimal_maps.specs.Reads.{Gives};
+ghost use Rattle.json.specs.Find.{get_member};
+ghost use Rattle.json.specs.Json.{Json, Members, no_members, object};
 ghost use Rattle.json.specs.Value.{value_view};
-ghost use Rattle.numerals.specs.Numeral.{Measure};
-ghost use Rattle.std.specs.Prelude.{◌≡◌, ℕ, codes, IfOk, IfSome, Some};
+ghost use Rattle.attributes.specs.Attributes.{seen_member};
+ghost use Rattle.std.specs.Prelude.{◌≡◌, codes, IfOk};
 
 use crate::from_tokens::{FromTokens, Stop};
-use crate::geometry::{GeometryKind, LooseGeometry, read_geometry};
-use crate::object::{TakeMember, read_object, skip_value};
-use crate::position::DecimalPosition;
-use json::{Error, Reader, Token, Value};
+use crate::geometry::read_geometry;
+use crate::kind::{Kind, take_kind};
+use crate::object::{Lookup, TakeMember, read_object, skip_value};
+use crate::rules::{DecimalGrid, MapRules};
+use crate::tally::Tally;
+use attributes::{AttributeRules, Attributes, Unread, read_attributes};
+use fixing::raw::{RawGeometry, RawShape};
+use json::{Error, Reader, Value};
 use std::alloc::Global;
 
-/// What a root may be, and a feature, by its type.
-#[derive(Clone, Copy, PartialEq, Eq, Debug)]
-pub enum RootKind {
-    Collection,
-    Feature,
-    Geometry(GeometryKind),
+/// A feature whose geometry is not judged yet (RFC 7946, section 3.2), with what was counted of its positions.
+#[derive(Drop)]
+pub struct RawFeature {
+    pub attributes: Attributes,
+    pub geometry: RawGeometry,
+    pub tally: Tally,
 }
 
-impl RootKind {
-    /// The kind of that name.
-    pub fn from_name(text: &str) -> Option<RootKind>
-        ensures { IfSome result (λ k. text.now ≡ root_name k) }
-    {
-        if text == "FeatureCollection" {
-            return Some(RootKind::Collection);
-        }
-        if text == "Feature" {
-            return Some(RootKind::Feature);
-        }
-        match GeometryKind::from_name(text) {
-            Some(kind) => Some(RootKind::Geometry(kind)),
-            None => None,
-        }
-    }
+/// What was read of a feature's members other than its type.
+#[derive(Drop)]
+pub struct FeatureParts<'t> {
+    pub geometry: Lookup<(RawGeometry, Tally)>,
+    pub id: Lookup<Value<'t>>,
+    pub properties: Lookup<Value<'t>>,
 }
 
-/// The type that comes next.
-pub fn take_root_kind<'t>(reader: &mut Reader<'t>) -> Result<RootKind, Stop>
-    ensures { IfOk result (λ k. (depth : ℕ) → Gives depth reader.old (string (root_name k)) reader.new) }
+/// Nothing was read yet.
+pub fn no_parts<'t>() -> FeatureParts<'t>
+    ensures { (grid : DecimalGrid) → KnowsParts grid result no_members }
 {
-    let Some(Token::String(text)) = reader.next() else {
-        return Err(Stop::Unread);
-    };
-    match RootKind::from_name(text) {
-        Some(kind) => Ok(kind),
-        None => Err(Stop::Unread),
+    FeatureParts {
+        geometry: Lookup::Missing,
+        id: Lookup::Missing,
+        properties: Lookup::Missing,
     }
 }
 
-/// Any value, as it is: its strings are borrowed from the text, and its numbers stay text.
-pub fn read_value<'t>(
-    alloc: Global,
-    reader: &mut Reader<'t>,
-    depth: usize,
-) -> Result<Value<'t>, Stop>
+// Any value, as it is: its strings are borrowed from the text, and its numbers stay text.
+fn read_value<'t>(alloc: Global, reader: &mut Reader<'t>, depth: usize) -> Result<Value<'t>, Stop>
     ensures { IfOk result (λ v. Gives depth reader.old (value_view v) reader.new) }
 {
     match Value::read(alloc, reader, depth) {
@@ -67,142 +57,137 @@ pub fn read_value<'t>(
     }
 }
 
-/// A feature whose geometry is not judged yet.
-#[derive(Drop)]
-pub struct LooseFeature<'t> {
-    pub id: Option<Value<'t>>,
-    pub properties: Option<Value<'t>>,
-    pub geometry: Option<LooseGeometry>,
-}
-
-/// What is known of a feature's members other than its type.
-#[derive(Drop)]
-pub struct FeatureParts<'t> {
-    pub geometry: Option<Option<LooseGeometry>>,
-    pub id: Option<Value<'t>>,
-    pub properties: Option<Value<'t>>,
-}
-
-/// Nothing is known yet.
-pub fn nothing_known<'t>() -> FeatureParts<'t>
-    ensures { (x y : Measure) → KnowsFeature x y result.geometry result.id result.properties no_members }
-{
-    FeatureParts {
-        geometry: None,
-        id: None,
-        properties: None,
-    }
-}
-
 impl<'t> TakeMember<'t> for FeatureParts<'t> {
-    type On = DecimalPosition;
+    type On = DecimalGrid;
 
-    ghost knows = { λ on m ms. KnowsFeature on.x on.y m.geometry m.id m.properties ms };
+    ghost knows = { λ on m ms. KnowsParts on m ms };
 
     fn take(
         &mut self,
         alloc: Global,
-        on: &DecimalPosition,
+        on: &DecimalGrid,
         name: &'t str,
         reader: &mut Reader<'t>,
         depth: usize,
     ) -> Result<(), Stop> {
         if name == "geometry" {
             let geometry = read_geometry(alloc, on, reader, depth)?;
-            self.geometry = Some(geometry);
+            self.geometry = Lookup::Read(geometry);
             return Ok(());
         }
         if name == "id" {
             let id = read_value(alloc, reader, depth)?;
-            self.id = Some(id);
+            self.id = Lookup::Read(id);
             return Ok(());
         }
         if name == "properties" {
             let properties = read_value(alloc, reader, depth)?;
-            self.properties = Some(properties);
+            self.properties = Lookup::Read(properties);
             return Ok(());
         }
         skip_value(reader, depth)
     }
 }
 
-/// What is known of a feature's members.
+/// What was read of a feature.
 #[derive(Drop)]
 pub struct FeatureMembers<'t> {
-    pub kind: Option<RootKind>,
+    pub kind: Lookup<Kind>,
     pub parts: FeatureParts<'t>,
 }
 
 impl<'t> TakeMember<'t> for FeatureMembers<'t> {
-    type On = DecimalPosition;
+    type On = DecimalGrid;
 
-    ghost knows = { λ on m ms. KnowsMember (codes "type") IsRootKind m.kind ms × KnowsFeature on.x on.y m.parts.geometry m.parts.id m.parts.properties ms };
+    ghost knows = { λ on m ms. KnowsFeature on m ms };
 
     fn take(
         &mut self,
         alloc: Global,
-        on: &DecimalPosition,
+        on: &DecimalGrid,
         name: &'t str,
         reader: &mut Reader<'t>,
         depth: usize,
     ) -> Result<(), Stop> {
         if name == "type" {
-            let kind = take_root_kind(reader)?;
-            self.kind = Some(kind);
+            let kind = take_kind(reader)?;
+            self.kind = Lookup::Read(kind);
             return Ok(());
         }
         self.parts.take(alloc, on, name, reader, depth)
     }
 }
 
+/// The id and the properties that these values mean.
+pub fn attributes_of(
+    alloc: Global,
+    rules: &AttributeRules<'_>,
+    id: Option<&Value<'_>>,
+    properties: Option<&Value<'_>>,
+) -> Result<Attributes, Stop>
+    ensures { IfOk result (HaveAttributes rules.now (seen_member id.entry) (seen_member properties.entry)) }
+{
+    match read_attributes(alloc, rules, id, properties) {
+        Ok(attributes) => Ok(attributes),
+        Err(Unread::Faulty) => Err(Stop::Unread),
+        Err(Unread::OutOfMemory) => Err(Stop::OutOfMemory),
+    }
+}
+
+// The geometry of a feature, or the null one where it has none.
+fn geometry_or_null(geometry: Lookup<(RawGeometry, Tally)>) -> Result<(RawGeometry, Tally), Stop>
+    ensures { IfOk result (λ g. (grid : DecimalGrid) (ms : Members) → KnowsMember (codes "geometry") (IsCountedGeometry grid) geometry ms → IsCountedGeometry grid (or_null (get_member (codes "geometry") ms)) g) }
+{
+    match geometry {
+        Lookup::Read(geometry) => Ok(geometry),
+        Lookup::Missing => Ok((RawGeometry::One(RawShape::Null), Tally::new())),
+        Lookup::Skipped => Err(Stop::Unread),
+    }
+}
+
 /// The feature of members whose type is that of a feature.
-pub fn feature_of<'t>(parts: FeatureParts<'t>) -> LooseFeature<'t>
-    ensures { (x y : Measure) (ms : Members) → KnowsMember (codes "type") IsRootKind (Some RootKind.Feature) ms → KnowsFeature x y parts.entry.geometry parts.entry.id parts.entry.properties ms → IsFeature x y (object ms) result }
+pub fn feature_of<'t>(
+    alloc: Global,
+    rules: &MapRules<'_>,
+    parts: FeatureParts<'t>,
+) -> Result<RawFeature, Stop>
+    ensures { IfOk result (λ f. (ms : Members) → KnowsMember (codes "type") IsKind (Lookup.Read Kind.Feature) ms → KnowsParts rules.now.grid parts.entry ms → IsFeature rules.now (object ms) f) }
 {
     let FeatureParts {
         geometry,
         id,
         properties,
     } = parts;
-    let geometry = match geometry {
-        Some(geometry) => geometry,
-        None => None,
-    };
-    LooseFeature {
-        id,
-        properties,
+    let attributes = attributes_of(alloc, &rules.attributes, id.found()?, properties.found()?)?;
+    let (geometry, tally) = geometry_or_null(geometry)?;
+    Ok(RawFeature {
+        attributes,
         geometry,
-    }
+        tally,
+    })
 }
 
-/// The reader of features.
-#[derive(Clone, Copy)]
-pub struct FeatureElement {
-    pub position: DecimalPosition,
-}
+impl<'t> FromTokens<'t> for MapRules<'t> {
+    type Made = RawFeature;
 
-impl<'t> FromTokens<'t> for FeatureElement {
-    type Made = LooseFeature<'t>;
+    type Count = ();
 
-    ghost means = { λ p. IsFeature p.position.x p.position.y };
-
-    // The geometry has its own count.
-    ghost heights = { λ p j. 0 };
+    ghost means = { λ rules j f a b. IsFeature rules j f };
 
     fn read(
         &self,
         alloc: Global,
         reader: &mut Reader<'t>,
         depth: usize,
-        _dropped: &mut u64,
-    ) -> Result<LooseFeature<'t>, Stop> {
+        _count: &mut (),
+    ) -> Result<RawFeature, Stop> {
         let mut members = FeatureMembers {
-            kind: None,
-            parts: nothing_known(),
+            kind: Lookup::Missing,
+            parts: no_parts(),
         };
-        read_object(alloc, &self.position, &mut members, reader, depth)?;
+        read_object(alloc, &self.grid, &mut members, reader, depth)?;
         match members.kind {
-            Some(RootKind::Feature) => Ok(feature_of(members.parts)),
+            Lookup::Read(Kind::Feature) => feature_of(alloc, self, members.parts),
             _ => Err(Stop::Unread),
         }
     }

@@ -1,7 +1,7 @@
 //! The readers of parts off the tokens.
 ghost use Rattle.decimal_maps.specs.Reads.{Reads};
 ghost use Rattle.json.specs.Json.{Json};
-ghost use Rattle.std.specs.Prelude.{◌<◌, ℕ, length, IfOk, OnOk};
+ghost use Rattle.std.specs.Prelude.{IfOk};
 
 use json::Reader;
 use std::alloc::Global;
@@ -19,20 +19,20 @@ pub enum Stop {
 pub trait FromTokens<'t> {
     type Made: Drop;
 
-    // What a value means as such a part.
-    ghost means: { Self → Json → Self.Made → Type 0 };
+    /// What is counted of the parts.
+    type Count;
 
-    // How many heights are dropped of it.
-    ghost heights: { Self → Json → ℕ };
+    // What a value means as such a part, and what is counted before and behind it.
+    ghost means: { Self → Json → Self.Made → Self.Count → Self.Count → Type 0 };
 
-    /// Reads the next value, which may nest `depth` deep, and gives what it means. The heights that it
-    /// drops are added to `dropped`.
+    /// Reads the next value, which may nest `depth` deep, and gives what it means. What is counted of it is added to
+    /// `count`.
     fn read(
         &self,
         alloc: Global,
         reader: &mut Reader<'t>,
         depth: usize,
-        dropped: &mut u64,
+        count: &mut Self::Count,
     ) -> Result<Self::Made, Stop>
-        ensures { IfOk result (λ x. Reads (means self.now) (heights self.now) depth reader.old reader.new dropped.old dropped.new x) };
+        ensures { IfOk result (λ x. Reads (means self.now) depth reader.old reader.new count.old count.new x) };
 }

@@ -1,257 +1,151 @@
-//! Geometries, whose members come in any order.
-ghost use Rattle.decimal_maps.specs.Geometries.{IsGeometry, IsGeometryOrNull, IsShapeOf, AreCoordinates, KnowsGeometry, kind_name};
+//! Geometries of any type, whose members come in any order.
+ghost use Rattle.decimal_maps.specs.Geometries.{IsGeometry};
+ghost use Rattle.decimal_maps.specs.Members.{AreSimple, IsCountedGeometry, KnowsGeometry, LookupMeans};
 ghost use Rattle.decimal_maps.specs.Reads.{Gives, GivesMembers};
-ghost use Rattle.json.specs.Json.{Json, Members, object, string};
-ghost use Rattle.numerals.specs.Numeral.{Measure};
-ghost use Rattle.std.specs.Prelude.{◌≡◌, ℕ, IfOk, IfSome, Some};
+ghost use Rattle.decimal_maps.specs.Tally.{nothing_counted};
+ghost use Rattle.json.specs.Json.{Json, Members, no_members, object};
+ghost use Rattle.std.specs.Prelude.{◌≡◌, IfOk};
 
-use crate::coordinates::{Coordinates, read_coordinates, read_typed};
 use crate::from_tokens::Stop;
-use crate::object::{TakeMember, read_members, skip_value};
-use crate::position::DecimalPosition;
-use grid::Pos;
+use crate::kind::Kind;
+use crate::list::read_list;
+use crate::object::{Lookup, TakeMember, read_members, skip_value};
+use crate::rules::DecimalGrid;
+use crate::simple::{GeometryStart, SimpleGeometry, SimpleMembers, no_simple_members, simple_of};
+use crate::tally::Tally;
+use fixing::raw::{RawGeometry, RawShape};
 use json::{Reader, Token};
 use std::alloc::Global;
 
-/// A type of geometries (RFC 7946, sections 3.1.2 to 3.1.7).
-#[derive(Clone, Copy, PartialEq, Eq, Debug)]
-pub enum GeometryKind {
-    Point,
-    MultiPoint,
-    LineString,
-    MultiLineString,
-    Polygon,
-    MultiPolygon,
+/// What was read of a geometry: what it has if it is no collection, and its geometries if it is one, with what is
+/// counted behind them.
+#[derive(Drop)]
+pub struct GeometryMembers {
+    pub simple: SimpleMembers,
+    pub geometries: Lookup<(Vec<RawShape>, Tally)>,
 }
 
-impl GeometryKind {
-    /// The type of that name.
-    pub fn from_name(text: &str) -> Option<GeometryKind>
-        ensures { IfSome result (λ k. text.now ≡ kind_name k) }
-    {
-        if text == "Point" {
-            Some(GeometryKind::Point)
-        } else if text == "MultiPoint" {
-            Some(GeometryKind::MultiPoint)
-        } else if text == "LineString" {
-            Some(GeometryKind::LineString)
-        } else if text == "MultiLineString" {
-            Some(GeometryKind::MultiLineString)
-        } else if text == "Polygon" {
-            Some(GeometryKind::Polygon)
-        } else if text == "MultiPolygon" {
-            Some(GeometryKind::MultiPolygon)
-        } else {
-            None
+/// Nothing was read yet.
+pub fn no_geometry_members() -> GeometryMembers
+    ensures { (on : GeometryStart) → KnowsGeometry on result no_members }
+{
+    GeometryMembers {
+        simple: no_simple_members(),
+        geometries: Lookup::Missing,
+    }
+}
+
+// The geometries of a collection, none of which is a collection.
+fn read_geometries<'t>(
+    alloc: Global,
+    on: &GeometryStart,
+    reader: &mut Reader<'t>,
+    depth: usize,
+) -> Result<(Vec<RawShape>, Tally), Stop>
+    ensures { IfOk result (λ n. (j : Json) × Gives depth reader.old j reader.new × AreSimple on.now j n) }
+{
+    let mut tally = on.counted;
+    let simple = SimpleGeometry { grid: on.grid };
+    let shapes = read_list(alloc, &simple, reader, depth, &mut tally)?;
+    Ok((shapes, tally))
+}
+
+// The same, or nothing where the type is that of no collection.
+fn read_collected<'t>(
+    alloc: Global,
+    on: &GeometryStart,
+    kind: &Lookup<Kind>,
+    reader: &mut Reader<'t>,
+    depth: usize,
+) -> Result<Lookup<(Vec<RawShape>, Tally)>, Stop>
+    ensures { IfOk result (λ n. (j : Json) × Gives depth reader.old j reader.new × LookupMeans (AreSimple on.now) j n) }
+{
+    match kind {
+        Lookup::Missing => Ok(Lookup::Read(read_geometries(alloc, on, reader, depth)?)),
+        Lookup::Read(Kind::GeometryCollection) => {
+            Ok(Lookup::Read(read_geometries(alloc, on, reader, depth)?))
+        }
+        _ => {
+            skip_value(reader, depth)?;
+            Ok(Lookup::Skipped)
         }
     }
 }
 
-/// The positions of a geometry by its type. No list is judged as a line or a ring yet.
-#[derive(Drop)]
-pub enum LooseShape {
-    Point(Pos),
-    MultiPoint(Vec<Pos>),
-    LineString(Vec<Pos>),
-    MultiLineString(Vec<Vec<Pos>>),
-    Polygon(Vec<Vec<Pos>>),
-    MultiPolygon(Vec<Vec<Vec<Pos>>>),
-}
-
-/// A geometry that is not judged yet.
-#[derive(Drop)]
-pub struct LooseGeometry {
-    pub shape: LooseShape,
-    /// How many heights were dropped of its positions.
-    pub heights: u64,
-}
-
-/// What is known of a geometry's members: its type, and its coordinates with how many heights were dropped.
-#[derive(Drop)]
-pub struct GeometryMembers {
-    pub kind: Option<GeometryKind>,
-    pub coordinates: Option<(Coordinates, u64)>,
-}
-
-// The type of a geometry.
-fn take_kind<'t>(reader: &mut Reader<'t>) -> Result<GeometryKind, Stop>
-    ensures { IfOk result (λ k. (depth : ℕ) → Gives depth reader.old (string (kind_name k)) reader.new) }
-{
-    let Some(Token::String(text)) = reader.next() else {
-        return Err(Stop::Unread);
-    };
-    match GeometryKind::from_name(text) {
-        Some(kind) => Ok(kind),
-        None => Err(Stop::Unread),
-    }
-}
-
-/// Coordinates by their type, if it is known.
-pub fn read_of<'t>(
-    alloc: Global,
-    position: &DecimalPosition,
-    kind: Option<GeometryKind>,
-    reader: &mut Reader<'t>,
-    depth: usize,
-) -> Result<(Coordinates, u64), Stop>
-    ensures { IfOk result (λ n. (j : Json) × Gives depth reader.old j reader.new × AreCoordinates position.now.x position.now.y j n) }
-{
-    let mut dropped = 0;
-    let coordinates = match kind {
-        Some(kind) => read_typed(alloc, position, kind, reader, depth, &mut dropped)?,
-        None => read_coordinates(alloc, position, reader, depth, &mut dropped)?,
-    };
-    Ok((coordinates, dropped))
-}
-
 impl<'t> TakeMember<'t> for GeometryMembers {
-    type On = DecimalPosition;
+    type On = GeometryStart;
 
-    ghost knows = { λ on m ms. KnowsGeometry on.x on.y m.kind m.coordinates ms };
+    ghost knows = { λ on m ms. KnowsGeometry on m ms };
 
     fn take(
         &mut self,
         alloc: Global,
-        on: &DecimalPosition,
+        on: &GeometryStart,
         name: &'t str,
         reader: &mut Reader<'t>,
         depth: usize,
     ) -> Result<(), Stop> {
-        if name == "type" {
-            let kind = take_kind(reader)?;
-            self.kind = Some(kind);
+        if name == "geometries" {
+            let geometries = read_collected(alloc, on, &self.simple.kind, reader, depth)?;
+            self.geometries = geometries;
             return Ok(());
         }
-        if name == "coordinates" {
-            let coordinates = read_of(alloc, on, self.kind, reader, depth)?;
-            self.coordinates = Some(coordinates);
-            return Ok(());
-        }
-        skip_value(reader, depth)
+        self.simple.take(alloc, on, name, reader, depth)
     }
 }
 
-// The shape of the empty list of coordinates.
-fn shape_of_nothing(alloc: Global, kind: GeometryKind) -> Result<LooseShape, Stop>
-    ensures { IfOk result (IsShapeOf kind Coordinates.Empty) }
+/// The geometry of such members, with what is counted behind it.
+pub fn geometry_of(alloc: Global, members: GeometryMembers) -> Result<(RawGeometry, Tally), Stop>
+    ensures { IfOk result (λ g. (on : GeometryStart) (ms : Members) → KnowsGeometry on members ms → IsGeometry on.grid (object ms) g.0 on.counted g.1) }
 {
-    match kind {
-        GeometryKind::Point => Err(Stop::Unread),
-        GeometryKind::MultiPoint => Ok(LooseShape::MultiPoint(Vec::new(alloc))),
-        GeometryKind::LineString => Ok(LooseShape::LineString(Vec::new(alloc))),
-        GeometryKind::MultiLineString => Ok(LooseShape::MultiLineString(Vec::new(alloc))),
-        GeometryKind::Polygon => Ok(LooseShape::Polygon(Vec::new(alloc))),
-        GeometryKind::MultiPolygon => Ok(LooseShape::MultiPolygon(Vec::new(alloc))),
+    let GeometryMembers { simple, geometries } = members;
+    if let Lookup::Read(Kind::GeometryCollection) = simple.kind {
+        return match geometries {
+            Lookup::Read((shapes, tally)) => Ok((RawGeometry::Collection(shapes), tally)),
+            _ => Err(Stop::Unread),
+        };
     }
-}
-
-fn shape_of_place(kind: GeometryKind, place: Pos) -> Result<LooseShape, Stop>
-    ensures { IfOk result (IsShapeOf kind (Coordinates.Place place)) }
-{
-    match kind {
-        GeometryKind::Point => Ok(LooseShape::Point(place)),
-        _ => Err(Stop::Unread),
-    }
-}
-
-fn shape_of_places(kind: GeometryKind, places: Vec<Pos>) -> Result<LooseShape, Stop>
-    ensures { IfOk result (IsShapeOf kind (Coordinates.Places places)) }
-{
-    match kind {
-        GeometryKind::MultiPoint => Ok(LooseShape::MultiPoint(places)),
-        GeometryKind::LineString => Ok(LooseShape::LineString(places)),
-        _ => Err(Stop::Unread),
-    }
-}
-
-fn shape_of_lists(kind: GeometryKind, lists: Vec<Vec<Pos>>) -> Result<LooseShape, Stop>
-    ensures { IfOk result (IsShapeOf kind (Coordinates.Lists lists)) }
-{
-    match kind {
-        GeometryKind::MultiLineString => Ok(LooseShape::MultiLineString(lists)),
-        GeometryKind::Polygon => Ok(LooseShape::Polygon(lists)),
-        _ => Err(Stop::Unread),
-    }
-}
-
-fn shape_of_groups(kind: GeometryKind, groups: Vec<Vec<Vec<Pos>>>) -> Result<LooseShape, Stop>
-    ensures { IfOk result (IsShapeOf kind (Coordinates.Groups groups)) }
-{
-    match kind {
-        GeometryKind::MultiPolygon => Ok(LooseShape::MultiPolygon(groups)),
-        _ => Err(Stop::Unread),
-    }
-}
-
-// The shape that coordinates are in a geometry of that type.
-fn shape_of(alloc: Global, kind: GeometryKind, coordinates: Coordinates) -> Result<LooseShape, Stop>
-    ensures { IfOk result (IsShapeOf kind coordinates) }
-{
-    match coordinates {
-        Coordinates::Empty => shape_of_nothing(alloc, kind),
-        Coordinates::Place(place) => shape_of_place(kind, place),
-        Coordinates::Places(places) => shape_of_places(kind, places),
-        Coordinates::Lists(lists) => shape_of_lists(kind, lists),
-        Coordinates::Groups(groups) => shape_of_groups(kind, groups),
-    }
-}
-
-/// The geometry of a type and coordinates, with how many heights were dropped of them.
-pub fn geometry_of(
-    alloc: Global,
-    kind: GeometryKind,
-    read: (Coordinates, u64),
-) -> Result<LooseGeometry, Stop>
-    ensures { IfOk result (λ g. (x y : Measure) (ms : Members) → KnowsGeometry x y (Some kind) (Some read) ms → IsGeometry x y (object ms) g) }
-{
-    let (coordinates, heights) = read;
-    let shape = shape_of(alloc, kind, coordinates)?;
-    Ok(LooseGeometry { shape, heights })
+    let (shape, tally) = simple_of(alloc, simple)?;
+    Ok((RawGeometry::One(shape), tally))
 }
 
 // The geometry of an object that has begun.
 fn read_begun<'t>(
     alloc: Global,
-    position: &DecimalPosition,
+    grid: &DecimalGrid,
     reader: &mut Reader<'t>,
     depth: usize,
-) -> Result<LooseGeometry, Stop>
-    ensures { IfOk result (λ g. (ms : Members) × GivesMembers depth reader.old ms reader.new × IsGeometry position.now.x position.now.y (object ms) g) }
+) -> Result<(RawGeometry, Tally), Stop>
+    ensures { IfOk result (λ g. (ms : Members) × GivesMembers depth reader.old ms reader.new × IsGeometry grid.now (object ms) g.0 nothing_counted g.1) }
 {
-    let mut members = GeometryMembers {
-        kind: None,
-        coordinates: None,
+    let start = GeometryStart {
+        grid: *grid,
+        counted: Tally::new(),
     };
-    read_members(alloc, position, &mut members, reader, depth)?;
-    let GeometryMembers { kind, coordinates } = members;
-    let Some(kind) = kind else {
-        return Err(Stop::Unread);
-    };
-    let Some(coordinates) = coordinates else {
-        return Err(Stop::Unread);
-    };
-    geometry_of(alloc, kind, coordinates)
+    let mut members = no_geometry_members();
+    read_members(alloc, &start, &mut members, reader, depth)?;
+    geometry_of(alloc, members)
 }
 
 /// The geometry or the null that comes next.
 pub fn read_geometry<'t>(
     alloc: Global,
-    position: &DecimalPosition,
+    grid: &DecimalGrid,
     reader: &mut Reader<'t>,
     depth: usize,
-) -> Result<Option<LooseGeometry>, Stop>
-    ensures { IfOk result (λ o. (j : Json) × Gives depth reader.old j reader.new × IsGeometryOrNull position.now.x position.now.y j o) }
+) -> Result<(RawGeometry, Tally), Stop>
+    ensures { IfOk result (λ g. (j : Json) × Gives depth reader.old j reader.new × IsCountedGeometry grid.now j g) }
 {
     let Some(token) = reader.next() else {
         return Err(Stop::Unread);
     };
     match token {
-        Token::Null => Ok(None),
+        Token::Null => Ok((RawGeometry::One(RawShape::Null), Tally::new())),
         Token::BeginObject => {
             if depth == 0 {
                 return Err(Stop::Unread);
             }
-            Ok(Some(read_begun(alloc, position, reader, depth - 1)?))
+            read_begun(alloc, grid, reader, depth - 1)
         }
         _ => Err(Stop::Unread),
     }

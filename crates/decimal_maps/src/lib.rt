@@ -1,8 +1,8 @@
-//! Maps in decimal numbers, read in one pass along the tokens of `json::Reader` into loose features:
-//! positions on a grid, in lists that are not judged as lines or rings yet.
+//! GeoJSON in decimal numbers, read in one pass along the tokens of `json::Reader` into raw features: positions on a
+//! grid, in lists that are not judged as lines or rings yet.
 //!
-//! A text means the tree that it is (`document` of `json`), whose numbers keep their text. So each
-//! reader promises of which value of that tree its tokens are, and what that value means.
+//! A text means the tree that it is (`document` of `json`), whose numbers keep their text. So each reader promises of
+//! which value of that tree its tokens are, and what that value means.
 //!
 //! These readers only accept. Where one stops, that says nothing of the text.
 #![tactic(auto)]
@@ -11,9 +11,19 @@ pub mod coordinates;
 pub mod feature;
 pub mod from_tokens;
 pub mod geometry;
+pub mod kind;
 pub mod list;
 pub mod object;
 pub mod opened;
 pub mod position;
 pub mod root;
+pub mod rules;
+pub mod simple;
+pub mod tally;
 pub mod token;
+
+pub use feature::RawFeature;
+pub use from_tokens::Stop;
+pub use root::read_map;
+pub use rules::{DecimalGrid, MapRules};
+pub use tally::Tally;

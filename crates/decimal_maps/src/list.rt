@@ -1,7 +1,7 @@
 //! Arrays of parts.
-ghost use Rattle.decimal_maps.specs.Arrays.{ArrayMeans, array_tally};
+ghost use Rattle.decimal_maps.specs.Arrays.{ArrayMeans};
 ghost use Rattle.decimal_maps.specs.Reads.{Reads, ReadsRest};
-ghost use Rattle.std.specs.Prelude.{◌≡◌, ◌<◌, ◌∷◌, [], length, IfOk, OnOk};
+ghost use Rattle.std.specs.Prelude.{◌≡◌, ◌-◌, ◌∷◌, [], IfOk};
 
 use crate::from_tokens::{FromTokens, Stop};
 use crate::token::take_begin_array;
@@ -14,13 +14,13 @@ pub fn read_rest<'t, P: FromTokens<'t>>(
     part: &P,
     reader: &mut Reader<'t>,
     depth: usize,
-    dropped: &mut u64,
+    count: &mut P::Count,
     mut found: Vec<P::Made>,
 ) -> Result<Vec<P::Made>, Stop>
-    ensures { IfOk result (λ xs. ReadsRest (P.means part.now) (P.heights part.now) depth reader.old reader.new found.items xs.items dropped.old dropped.new) }
+    ensures { IfOk result (λ xs. ReadsRest (P.means part.now) depth reader.old reader.new found.items xs.items count.old count.new) }
 {
     'items: while !reader.take_end_array() {
-        let made = part.read(alloc, reader, depth, dropped)?;
+        let made = part.read(alloc, reader, depth, count)?;
         match found.push(made) {
             Ok(()) => {}
             Err(_) => return Err(Stop::OutOfMemory),
@@ -35,12 +35,12 @@ pub fn read_list<'t, P: FromTokens<'t>>(
     part: &P,
     reader: &mut Reader<'t>,
     depth: usize,
-    dropped: &mut u64,
+    count: &mut P::Count,
 ) -> Result<Vec<P::Made>, Stop>
-    ensures { IfOk result (λ xs. Reads (ArrayMeans (P.means part.now)) (array_tally (P.heights part.now)) depth reader.old reader.new dropped.old dropped.new xs.items) }
+    ensures { IfOk result (λ xs. Reads (ArrayMeans (P.means part.now)) depth reader.old reader.new count.old count.new xs.items) }
 {
     take_begin_array(reader, depth)?;
-    read_rest(alloc, part, reader, depth - 1, dropped, Vec::new(alloc))
+    read_rest(alloc, part, reader, depth - 1, count, Vec::new(alloc))
 }
 
 /// A list of one value.
@@ -63,17 +63,17 @@ pub struct ListOf<P> {
 impl<'t, P: FromTokens<'t>> FromTokens<'t> for ListOf<P> {
     type Made = Vec<P::Made>;
 
-    ghost means = { λ p j xs. ArrayMeans (P.means p.of) j xs.items };
+    type Count = P::Count;
 
-    ghost heights = { λ p. array_tally (P.heights p.of) };
+    ghost means = { λ p j xs a b. ArrayMeans (P.means p.of) j xs.items a b };
 
     fn read(
         &self,
         alloc: Global,
         reader: &mut Reader<'t>,
         depth: usize,
-        dropped: &mut u64,
+        count: &mut P::Count,
     ) -> Result<Vec<P::Made>, Stop> {
-        read_list(alloc, &self.of, reader, depth, dropped)
+        read_list(alloc, &self.of, reader, depth, count)
     }
 }

@@ -1,12 +1,38 @@
 //! Objects, whose members may come in any order, and more than once by one name.
+ghost use Rattle.decimal_maps.specs.Members.{lookup_of};
 ghost use Rattle.decimal_maps.specs.Reads.{Gives, GivesMembers, then_member};
 ghost use Rattle.json.specs.Json.{Json, Members, object, no_members};
-ghost use Rattle.std.specs.Prelude.{◌<◌, length, OnOk};
+ghost use Rattle.std.specs.Prelude.{◌≡◌, IfOk, OnOk, option_copied};
 
 use crate::from_tokens::Stop;
 use crate::token::take_begin_object;
 use json::Reader;
 use std::alloc::Global;
+
+/// What was read of the last member of a name.
+#[derive(Drop)]
+pub enum Lookup<T> {
+    Missing,
+    /// It was not read, since it is foreign to the type of its object.
+    Skipped,
+    Read(T),
+}
+
+impl<T: Drop> Lookup<T> {
+    /// What was read, or none where the member is missing.
+    ///
+    /// # Errors
+    /// Where it was skipped.
+    pub fn found(&self) -> Result<Option<&T>, Stop>
+        ensures { IfOk result (λ o. self.now ≡ lookup_of (option_copied o)) }
+    {
+        match self {
+            Lookup::Missing => Ok(None),
+            Lookup::Skipped => Err(Stop::Unread),
+            Lookup::Read(value) => Ok(Some(value)),
+        }
+    }
+}
 
 /// What was read of an object so far.
 pub trait TakeMember<'t> {

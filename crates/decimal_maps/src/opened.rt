@@ -5,7 +5,7 @@
 ghost use Rattle.decimal_maps.specs.Reads.{Reads};
 ghost use Rattle.json.specs.Token as spec;
 ghost use Rattle.json.specs.Token.{Token as SpecToken};
-ghost use Rattle.std.specs.Prelude.{◌≡◌, ◌∷◌, [], List, IfOk, MatchOption};
+ghost use Rattle.std.specs.Prelude.{◌≡◌, ◌∷◌, List, IfOk, MatchOption};
 
 use crate::from_tokens::{FromTokens, Stop};
 use crate::list::{ListOf, read_rest, single};
@@ -36,9 +36,9 @@ pub trait FromOpened<'t>: FromTokens<'t> {
         x: &'t str,
         reader: &mut Reader<'t>,
         depth: usize,
-        dropped: &mut u64,
+        count: &mut Self::Count,
     ) -> Result<Self::Made, Stop>
-        ensures { IfOk result (λ v. Reads (Self.means self.now) (Self.heights self.now) depth (opening self.now (spec.number x.now ∷ reader.old)) reader.new dropped.old dropped.new v) };
+        ensures { IfOk result (λ v. Reads (Self.means self.now) depth (opening self.now (spec.number x.now ∷ reader.old)) reader.new count.old count.new v) };
 }
 
 impl<'t, P: FromOpened<'t>> FromOpened<'t> for ListOf<P> {
@@ -50,13 +50,13 @@ impl<'t, P: FromOpened<'t>> FromOpened<'t> for ListOf<P> {
         x: &'t str,
         reader: &mut Reader<'t>,
         depth: usize,
-        dropped: &mut u64,
+        count: &mut P::Count,
     ) -> Result<Vec<P::Made>, Stop> {
         if depth == 0 {
             return Err(Stop::Unread);
         }
-        let first = self.of.read_opened(alloc, x, reader, depth - 1, dropped)?;
+        let first = self.of.read_opened(alloc, x, reader, depth - 1, count)?;
         let found = single(alloc, first)?;
-        read_rest(alloc, &self.of, reader, depth - 1, dropped, found)
+        read_rest(alloc, &self.of, reader, depth - 1, count, found)
     }
 }

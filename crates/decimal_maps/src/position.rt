@@ -1,87 +1,105 @@
 //! Positions of decimal numerals, rounded to a grid.
-ghost use Rattle.decimal_maps.specs.Arrays.{items_tally};
-ghost use Rattle.decimal_maps.specs.Positions.{AreHeights, IsPosition, heights_of};
+ghost use Rattle.decimal_maps.specs.Positions.{IsCoordinate, IsPosition};
+ghost use Rattle.decimal_maps.specs.Reads.{ReadsHeights};
+ghost use Rattle.decimal_maps.specs.Tally.{distance_from_grid, with_position};
 ghost use Rattle.grid.specs.Fits.{x_of, y_of};
 ghost use Rattle.grid.specs.Place.{IsGridNumber};
+ghost use Rattle.json.specs.Json.{number};
 ghost use Rattle.json.specs.Token as spec;
-ghost use Rattle.numerals.specs.Numeral.{IsSnapped};
-ghost use Rattle.std.specs.Prelude.{◌≡◌, ◌<◌, ◌≤◌, ◌∷◌, ℕ, length, IfOk, OnOk};
+ghost use Rattle.numerals.specs.Numeral.{IsNumeral};
+ghost use Rattle.std.specs.Prelude.{◌≡◌, ◌∷◌, ℕ, ℤ, max, IfOk, OnOk};
 
 use crate::from_tokens::{FromTokens, Stop};
 use crate::opened::FromOpened;
+use crate::rules::DecimalGrid;
+use crate::tally::Tally;
 use crate::token::{take_begin_array, take_number};
 use grid::Pos;
 use json::Reader;
-use numerals::{DecimalStep, snap};
+use numerals::{DecimalStep, distance, snap};
 use std::alloc::Global;
 
-/// The steps of the grid, along each axis.
-#[derive(Clone, Copy)]
-pub struct DecimalPosition {
-    pub x: DecimalStep,
-    pub y: DecimalStep,
-}
-
-/// Takes the numbers behind the second of a position, up to the bracket that closes it.
-pub fn drop_heights<'t>(reader: &mut Reader<'t>, dropped: &mut u64) -> Result<(), Stop>
-    ensures { OnOk result ((depth : ℕ) → AreHeights depth reader.old reader.new dropped.old dropped.new) }
+// Takes the numbers behind the second of a position, up to the bracket that closes it.
+fn drop_heights<'t>(
+    grid: &DecimalGrid,
+    reader: &mut Reader<'t>,
+    tally: &mut Tally,
+) -> Result<(), Stop>
+    ensures { OnOk result ((depth : ℕ) → ReadsHeights grid.now depth reader.old reader.new tally.old tally.new) }
 {
     'heights: while !reader.take_end_array() {
         take_number(reader)?;
-        if *dropped == u64::MAX {
+        if grid.refuses_heights {
             return Err(Stop::Unread);
         }
-        *dropped += 1;
+        tally.add_height();
     }
     Ok(())
 }
 
-// The whole number of steps that a numeral is nearest to.
-fn coordinate_of(step: &DecimalStep, text: &str) -> Result<i64, Stop>
-    ensures { IfOk result (λ n. IsSnapped step.now text.now n × IsGridNumber n) }
+// The whole number of steps that a numeral is nearest to, unless it is too great.
+fn coordinate_of(grid: &DecimalGrid, greatest: u64, text: &str) -> Result<i64, Stop>
+    ensures { IfOk result (λ n. IsCoordinate grid.now greatest (number text.now) n × IsGridNumber n × IsNumeral text.now) }
 {
-    match snap(text.as_bytes(), step) {
-        Some(n) => Ok(n),
-        None => Err(Stop::Unread),
+    let Some(n) = snap(text.as_bytes(), &grid.step) else {
+        return Err(Stop::Unread);
+    };
+    if n.unsigned_abs() > greatest {
+        return Err(Stop::Unread);
+    }
+    Ok(n)
+}
+
+// How far a numeral is from the grid, where that is measured.
+fn distance_of(grid: &DecimalGrid, text: &str) -> u64
+    ensures { (n : ℤ) (greatest : ℕ) → IsCoordinate grid.now greatest (number text.now) n → IsGridNumber n → IsNumeral text.now → result ≡ distance_from_grid grid.now (number text.now) }
+{
+    if grid.measures {
+        distance(text.as_bytes(), &grid.step)
+    } else {
+        0
     }
 }
 
-// The position that two numerals are nearest to.
-fn position_of(steps: &DecimalPosition, x: &str, y: &str) -> Result<Pos, Stop>
-    ensures { IfOk result (λ p. IsSnapped steps.now.x x.now (x_of p) × IsSnapped steps.now.y y.now (y_of p)) }
+// The position that two numerals are nearest to, which is counted.
+fn position_of(grid: &DecimalGrid, x: &str, y: &str, tally: &mut Tally) -> Result<Pos, Stop>
+    ensures { IfOk result (λ p. IsCoordinate grid.now grid.now.greatest_x (number x.now) (x_of p) × IsCoordinate grid.now grid.now.greatest_y (number y.now) (y_of p)
+        × (tally.new ≡ with_position (max (distance_from_grid grid.now (number x.now)) (distance_from_grid grid.now (number y.now))) tally.old)) }
 {
-    let across = coordinate_of(&steps.x, x)?;
-    let along = coordinate_of(&steps.y, y)?;
+    let across = coordinate_of(grid, grid.greatest_x, x)?;
+    let along = coordinate_of(grid, grid.greatest_y, y)?;
+    tally.add_position(distance_of(grid, x).max(distance_of(grid, y)));
     match Pos::new(across, along) {
         Some(position) => Ok(position),
         None => Err(Stop::Unread),
     }
 }
 
-impl<'t> FromTokens<'t> for DecimalPosition {
+impl<'t> FromTokens<'t> for DecimalGrid {
     type Made = Pos;
 
-    ghost means = { λ p. IsPosition p.x p.y };
+    type Count = Tally;
 
-    ghost heights = { λ p. heights_of };
+    ghost means = { λ grid. IsPosition grid };
 
     fn read(
         &self,
         _alloc: Global,
         reader: &mut Reader<'t>,
         depth: usize,
-        dropped: &mut u64,
+        count: &mut Tally,
     ) -> Result<Pos, Stop> {
         take_begin_array(reader, depth)?;
         let x = take_number(reader)?;
         let y = take_number(reader)?;
-        drop_heights(reader, dropped)?;
-        position_of(self, x, y)
+        let position = position_of(self, x, y, count)?;
+        drop_heights(self, reader, count)?;
+        Ok(position)
     }
 }
 
-impl<'t> FromOpened<'t> for DecimalPosition {
-    ghost opening = { λ p ts. spec.begin_array ∷ ts };
+impl<'t> FromOpened<'t> for DecimalGrid {
+    ghost opening = { λ grid ts. spec.begin_array ∷ ts };
 
     fn read_opened(
         &self,
@@ -89,13 +107,14 @@ impl<'t> FromOpened<'t> for DecimalPosition {
         x: &'t str,
         reader: &mut Reader<'t>,
         depth: usize,
-        dropped: &mut u64,
+        count: &mut Tally,
     ) -> Result<Pos, Stop> {
         if depth == 0 {
             return Err(Stop::Unread);
         }
         let y = take_number(reader)?;
-        drop_heights(reader, dropped)?;
-        position_of(self, x, y)
+        let position = position_of(self, x, y, count)?;
+        drop_heights(self, reader, count)?;
+        Ok(position)
     }
 }

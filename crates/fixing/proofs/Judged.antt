@@ -10,11 +10,11 @@ use Rattle.fixing.specs.declared.rules.FixingRules.{FixingRules}
 
 -- an error that is no want of memory says that the rules refuse the list
 abbrev pub Refuses : FixingRules → Option ShapeFault → Result Need Broken → Type 0
-Refuses rules given r = IfErr r (λ e. e ≡ broken.Faulty → need_of rules given ≡ None)
+Refuses rules given r = IfErr r (λ e. e ≡ broken.Refused → need_of rules given ≡ None)
 
 -- what refuses the fault refuses the list, unless there was no memory
 refused : (rules : FixingRules) (given : Option ShapeFault) (f : ShapeFault) (e : Broken) → (f ≢ fault.OutOfMemory → given ≡ Some f) →
-    (f ≡ fault.OutOfMemory → e ≡ broken.OutOfMemory) → (e ≡ broken.Faulty → need_of rules (Some f) ≡ None) → e ≡ broken.Faulty → need_of rules given ≡ None
+    (f ≡ fault.OutOfMemory → e ≡ broken.OutOfMemory) → (e ≡ broken.Refused → need_of rules (Some f) ≡ None) → e ≡ broken.Refused → need_of rules given ≡ None
 refused rules given fault.TooShort e is memory refuses k = ap (need_of rules) (is (λ q. cc)) ∙ refuses k
 refused rules given fault.NotClosed e is memory refuses k = ap (need_of rules) (is (λ q. cc)) ∙ refuses k
 refused rules given fault.Revisit e is memory refuses k = ap (need_of rules) (is (λ q. cc)) ∙ refuses k

@@ -12,9 +12,3 @@ pub mod PolygonSteps
 pub mod Counting
 pub mod PolygonLaws
 pub mod CrossSteps
-pub mod ValueSteps
-pub mod Joining
-pub mod FeatureSteps
-pub mod Made
-pub mod Members
-pub mod ProvedTexts

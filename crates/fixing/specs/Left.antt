@@ -1,5 +1,5 @@
 -- What is left of lines and rings, and what is counted.
-use Rattle.std.specs.Prelude.{ℕ, ◌+◌, ◌-◌, ◌^◌, min, Bool, true, false, cond, List, [], ◌∷◌, ◌++◌, Option, Some, None, option_and_then}
+use Rattle.std.specs.Prelude.{ℕ, ◌+◌, ◌-◌, ◌^◌, min, Bool, true, false, cond, List, [], ◌∷◌, ◌++◌, map, Option, Some, None, option_and_then}
 use Rattle.std.specs.Option.{option_map}
 use Rattle.grid.specs.declared.pos.Pos.{Pos}
 use Rattle.lines.specs.Reading.{collapsed, line_fault, ring_fault}
@@ -56,6 +56,18 @@ line_left rules l = option_map (λ need. left_by need l (runs_of (collapsed posi
 -- what is left of a closed list; none where it is refused
 abbrev pub ring_left : FixingRules → List Pos → Option (List (List Pos))
 ring_left rules l = option_map (λ need. left_by need l (loops_of l)) (ring_need rules l)
+
+-- the lines that are left of a line, equal neighbours read as one; none where it is refused
+abbrev pub lines_left : FixingRules → List Pos → Option (List (List Pos))
+lines_left rules l = option_map (map (collapsed position_cmp)) (line_left rules l)
+
+-- the fault of a line or ring, if it has one that the rules don't fix
+abbrev pub unfixed : FixingRules → Option ShapeFault → Option ShapeFault
+unfixed rules None = None
+unfixed rules (Some TooShort) = cond (is_refusing rules.collapsed) (Some TooShort) None
+unfixed rules (Some Revisit) = cond rules.splits_folded None (Some Revisit)
+unfixed rules (Some NotClosed) = Some NotClosed
+unfixed rules (Some OutOfMemory) = Some OutOfMemory
 
 -- what is left of each of the lists, one after the other; none where one is refused
 abbrev pub all_left : {A B : Type 0} → (A → Option (List B)) → List A → Option (List B)

@@ -9,11 +9,5 @@ pub mod Laws
 pub mod Measures
 pub mod Polygons
 pub mod Counts
-pub mod Values
+pub mod Forms
 pub mod Geometries
-pub mod Features
-pub mod Texts
-pub mod FixedFeatures
-pub mod Roots
-pub mod Known
-pub mod TextLaws

@@ -1,7 +1,10 @@
 -- How rings turn, and on which side of them places lie. Arithmetic is that of 128 bits.
 use Rattle.std.specs.Prelude.{ℕ, ℤ, pos, ◌*ℤ◌, ◌-ℤ◌, ◌+ℤ◌, Bool, false, cond, not, List, [], ◌∷◌, int_lt, nat_lt, take, reverse}
 use Rattle.std.specs.Int.{int_wrap, int_wrapping_add, int_wrapping_sub, int_wrapping_mul}
+use Rattle.std.specs.Ordering.{is_lt}
 use Rattle.grid.specs.declared.pos.Pos.{Pos}
+use Rattle.lines.specs.Reading.{ring_of}
+use Rattle.lines.specs.Turned.{list_cmp, position_cmp}
 use Rattle.fixing.specs.Left.{one_more}
 use Rattle.fixing.specs.declared.rules.Rewind.{Rewind}
 use Rattle.fixing.specs.declared.rules.Rewind.TheVariants.{Keep, Rfc7946, D3}
@@ -74,9 +77,18 @@ lies_begun (x ∷ l) other = mostly_inside 0 0 other x l
 unfoldable pub lies_in : List Pos → List Pos → Bool
 lies_in ring other = lies_begun (take 9 ring) other
 
--- a ring turned left or right
+-- whether a ring turns clockwise
+abbrev pub turns_right : List Pos → Bool
+turns_right closed = int_lt (int_wrap w128 (twice_area closed)) (pos 0)
+
+-- the lesser of the two directions of a ring, by its vertices from the least rotation
+abbrev pub lesser_turn : List Pos → List Pos
+lesser_turn closed = cond (is_lt (list_cmp (ring_of position_cmp (reverse closed)) (ring_of position_cmp closed))) (reverse closed) closed
+
+-- a ring turned left or right; without an area, turned as its lesser direction
 abbrev pub turned_to : Bool → List Pos → List Pos
-turned_to left closed = cond (turns_left closed) (cond left closed (reverse closed)) (cond left (reverse closed) closed)
+turned_to left closed =
+    cond (turns_left closed) (cond left closed (reverse closed)) (cond (turns_right closed) (cond left (reverse closed) closed) (lesser_turn closed))
 
 -- a ring turned as it is wanted: an outer one, or a hole
 abbrev pub rewound : Rewind → Bool → List Pos → List Pos

@@ -1,7 +1,9 @@
 -- What is left of polygons: lists of closed lists, the outer ring first.
-use Rattle.std.specs.Prelude.{ℕ, zero, suc, Bool, true, false, cond, not, List, [], ◌∷◌, ◌++◌, length, map, nat_lt, Option, Some, None, unwrap_or, option_and_then}
+use Rattle.std.specs.Prelude.{ℕ, zero, suc, Bool, true, false, cond, not, List, [], ◌∷◌, ◌++◌, length, map, nat_lt, Option, Some, None, unwrap_or, option_and_then, is_none}
 use Rattle.std.specs.Option.{option_map}
 use Rattle.grid.specs.declared.pos.Pos.{Pos}
+use Rattle.lines.specs.Reading.{ring_fault, ring_of}
+use Rattle.lines.specs.Turned.{position_cmp}
 use Rattle.theory.specs.TopologyFunction.{keep}
 use Rattle.fixing.specs.Left.{all_counted, ring_left, ring_need}
 use Rattle.fixing.specs.Measures.{lies_in, rewound, turns_left}
@@ -81,6 +83,29 @@ polygon_kept rules (outer ∷ holes) =
 -- what is left of a polygon; none where a ring of it is refused
 abbrev pub polygon_left : FixingRules → List (List Pos) → Option (List (List (List Pos)))
 polygon_left rules rings = option_map (map (rewound_polygon rules.rewind)) (polygon_kept rules rings)
+
+-- the polygons that are left of a polygon, by the vertices of their rings; none where a ring of it is refused
+abbrev pub polygons_left : FixingRules → List (List Pos) → Option (List (List (List Pos)))
+polygons_left rules rings = option_map (map (map (ring_of position_cmp))) (polygon_left rules rings)
+
+-- the vertices of the ring of a closed list, turned as it is wanted; none where it has a fault
+abbrev pub ring_made : Rewind → Bool → List Pos → Option (List Pos)
+ring_made rewind is_outer l = cond (is_none (ring_fault position_cmp l)) (Some (ring_of position_cmp (rewound rewind is_outer l))) None
+
+-- those of the rings of closed lists; none where one has a fault
+abbrev pub rings_made : Rewind → Bool → List (List Pos) → Option (List (List Pos))
+rings_made rewind is_outer [] = Some []
+rings_made rewind is_outer (l ∷ ls) = option_and_then (λ ring. option_map (λ rings. ring ∷ rings) (rings_made rewind false ls)) (ring_made rewind is_outer l)
+
+-- one list, or none
+abbrev pub listed : {A : Type 0} → Option A → List A
+listed None = []
+listed (Some x) = x ∷ []
+
+-- the polygons of closed lists without a fault
+abbrev pub polygons_made : Rewind → List (List (List Pos)) → List (List (List Pos))
+polygons_made rewind [] = []
+polygons_made rewind (p ∷ ps) = listed (rings_made rewind true p) ++ polygons_made rewind ps
 
 -- with what was done with each ring counted
 abbrev pub polygon_counted : FixingRules → List (List Pos) → Fixes → Fixes

@@ -1,201 +1,202 @@
 //! Geometries.
-ghost use Rattle.fixing.specs.Geometries.{coordinates_of as coordinates_in, geometry_counted, geometry_fixed, geometry_fixes, geometry_left, geometry_value, line_geometry, lines_geometry_counted, lines_geometry_left, lines_of, polygon_geometry, polygons_geometry_counted, polygons_geometry_left, polygons_of};
+ghost use Rattle.fixing.specs.Forms.{plain_shape, seen_geometry, seen_shape};
+ghost use Rattle.fixing.specs.Geometries.{form_counted, form_left, forms_counted, forms_left, geometry_counted, geometry_left, is_null as is_null_form, line_form, lost_counted, polygon_form, shown_left};
+ghost use Rattle.fixing.specs.Left.{all_left};
 ghost use Rattle.fixing.specs.Seen.{lists_in, polygons_in};
-ghost use Rattle.fixing.specs.Counts.{no_fixes};
-ghost use Rattle.serde_json.specs.View.{view};
-ghost use Rattle.std.specs.Prelude.{◌≡◌, IfErr, IfOk, OnOk, None, Some};
+ghost use Rattle.lines.specs.Seen.{positions_of, vertices_of};
+ghost use Rattle.std.specs.Prelude.{◌≡◌, IfErr, IfOk, OnOk, None, Some, map};
+ghost use Rattle.theory.specs.Topology as form;
 
 use crate::broken::Broken;
-use crate::coordinates::{
-    elements, lists_of, positions_of, text_member, value_of_lists, value_of_polygons,
-    value_of_positions,
-};
-use crate::linework::fix_lines;
+use crate::linework::{fix_line, fix_lines};
 use crate::lists::only;
-use crate::polygons::fix_polygons;
-use crate::rules::{Fixes, FixingRules};
-use grid::Pos;
-use serde_json::{Map, Value, put};
-use std::alloc::{AllocError, Global};
+use crate::polygons::{fix_polygon, fix_polygons};
+use crate::raw::{RawGeometry, RawShape};
+use crate::rules::{Collapsed, Fixes, FixingRules};
+use grid::pos::Pos;
+use lines::items::Items;
+use lines::line::Line;
+use lines::ring::Ring;
+use shapes::Shape;
+use std::alloc::Global;
 
-/// A geometry of this type and these coordinates.
-fn geometry_of(alloc: Global, kind: &str, coordinates: Value) -> Result<Value, AllocError>
-    ensures { IfOk result (λ geometry. view geometry ≡ geometry_value kind.now (view coordinates)) }
+/// The shape of lines: null of none, and a LineString of one if it was one.
+fn shape_of_lines(lines: Vec<Line>, was_multi: bool) -> Shape
+    ensures { plain_shape result ≡ line_form was_multi (map positions_of lines.items) }
 {
-    let mut members = Map::new(alloc);
-    let kind = Value::try_from_str(alloc, kind)?;
-    put(&mut members, alloc, "type", kind)?;
-    put(&mut members, alloc, "coordinates", coordinates)?;
-    Ok(Value::Object(members))
+    let mut lines = lines;
+    if was_multi || lines.len() > 1 {
+        if lines.is_empty() {
+            return Shape::Null;
+        }
+        return Shape::MultiLine(Items::from_vec(lines));
+    }
+    match lines.pop() {
+        Some(line) => Shape::Line(line),
+        None => Shape::Null,
+    }
 }
 
-/// The geometry of lines: null for none, and a LineString for one if it was one.
-fn geometry_of_lines(
+/// The shape of polygons: null of none, and a Polygon of one if it was one.
+fn shape_of_polygons(polygons: Vec<Items<Ring>>, was_multi: bool) -> Shape
+    ensures { plain_shape result ≡ polygon_form was_multi (map (map vertices_of) polygons.items) }
+{
+    let mut polygons = polygons;
+    if was_multi || polygons.len() > 1 {
+        if polygons.is_empty() {
+            return Shape::Null;
+        }
+        return Shape::MultiPolygon(Items::from_vec(polygons));
+    }
+    match polygons.pop() {
+        Some(polygon) => Shape::Polygon(polygon),
+        None => Shape::Null,
+    }
+}
+
+/// What is left of a MultiLineString. An empty one stays.
+fn fix_multi_line(
     alloc: Global,
-    lines: &[Vec<Pos>],
-    was_multi: bool,
-) -> Result<Value, AllocError>
-    ensures { IfOk result (λ geometry. view geometry ≡ line_geometry was_multi (lists_in lines.now)) }
+    lines: Vec<Vec<Pos>>,
+    rules: &FixingRules,
+    fixes: &mut Fixes,
+) -> Result<Shape, Broken>
+    ensures left { IfOk result (λ left. form_left rules.now (form.lines (lists_in lines.items)) ≡ Some (plain_shape left)) }
+    ensures fixes { OnOk result (fixes.new ≡ form_counted rules.now (form.lines (lists_in lines.items)) fixes.old) }
+    ensures refused { IfErr result (λ e. e ≡ Broken.Refused → form_left rules.now (form.lines (lists_in lines.items)) ≡ None) }
 {
     if lines.is_empty() {
-        return Ok(Value::Null);
+        return Ok(Shape::MultiLine(Items::from_vec(Vec::new(alloc))));
     }
-    if was_multi || lines.len() > 1 {
-        let coordinates = value_of_lists(alloc, lines)?;
-        return geometry_of(alloc, "MultiLineString", coordinates);
-    }
-    let coordinates = value_of_positions(alloc, lines[0].as_slice())?;
-    geometry_of(alloc, "LineString", coordinates)
+    let left = fix_lines(alloc, lines, rules, fixes)?;
+    Ok(shape_of_lines(left, true))
 }
 
-/// The geometry of polygons: null for none, and a Polygon for one if it was one.
-fn geometry_of_polygons(
+/// What is left of a MultiPolygon. An empty one stays.
+fn fix_multi_polygon(
     alloc: Global,
-    polygons: &[Vec<Vec<Pos>>],
-    was_multi: bool,
-) -> Result<Value, AllocError>
-    ensures { IfOk result (λ geometry. view geometry ≡ polygon_geometry was_multi (polygons_in polygons.now)) }
+    polygons: Vec<Vec<Vec<Pos>>>,
+    rules: &FixingRules,
+    fixes: &mut Fixes,
+) -> Result<Shape, Broken>
+    ensures left { IfOk result (λ left. form_left rules.now (form.polygons (polygons_in polygons.items)) ≡ Some (plain_shape left)) }
+    ensures fixes { OnOk result (fixes.new ≡ form_counted rules.now (form.polygons (polygons_in polygons.items)) fixes.old) }
+    ensures refused { IfErr result (λ e. e ≡ Broken.Refused → form_left rules.now (form.polygons (polygons_in polygons.items)) ≡ None) }
 {
     if polygons.is_empty() {
-        return Ok(Value::Null);
+        return Ok(Shape::MultiPolygon(Items::from_vec(Vec::new(alloc))));
     }
-    if was_multi || polygons.len() > 1 {
-        let coordinates = value_of_polygons(alloc, polygons)?;
-        return geometry_of(alloc, "MultiPolygon", coordinates);
-    }
-    let coordinates = value_of_lists(alloc, polygons[0].as_slice())?;
-    geometry_of(alloc, "Polygon", coordinates)
-}
-
-/// The lines of a LineString or a MultiLineString.
-fn read_lines(alloc: Global, coordinates: &Value, is_multi: bool) -> Result<Vec<Vec<Pos>>, Broken>
-    ensures ok { IfOk result (λ lines. lines_of is_multi (view coordinates.now) ≡ Some (lists_in lines.items)) }
-    ensures refused { IfErr result (λ e. e ≡ Broken.Faulty → lines_of is_multi (view coordinates.now) ≡ None) }
-{
-    if is_multi {
-        return lists_of(alloc, coordinates);
-    }
-    let line = positions_of(alloc, coordinates)?;
-    Ok(only(alloc, line)?)
-}
-
-/// The polygons of a Polygon or a MultiPolygon.
-fn read_polygons(
-    alloc: Global,
-    coordinates: &Value,
-    is_multi: bool,
-) -> Result<Vec<Vec<Vec<Pos>>>, Broken>
-    ensures ok { IfOk result (λ polygons. polygons_of is_multi (view coordinates.now) ≡ Some (polygons_in polygons.items)) }
-    ensures refused { IfErr result (λ e. e ≡ Broken.Faulty → polygons_of is_multi (view coordinates.now) ≡ None) }
-{
-    if !is_multi {
-        let polygon = lists_of(alloc, coordinates)?;
-        return Ok(only(alloc, polygon)?);
-    }
-    let elements = elements(coordinates)?;
-    let mut polygons = Vec::new(alloc);
-    for element in elements {
-        polygons.push(lists_of(alloc, element)?)?;
-    }
-    Ok(polygons)
-}
-
-/// What remains of a LineString or a MultiLineString.
-fn fix_line_geometry(
-    alloc: Global,
-    coordinates: &Value,
-    is_multi: bool,
-    rules: &FixingRules,
-    fixes: &mut Fixes,
-) -> Result<Value, Broken>
-    ensures left { IfOk result (λ left. lines_geometry_left rules.now is_multi (view coordinates.now) ≡ Some (view left)) }
-    ensures fixes { OnOk result (fixes.new ≡ lines_geometry_counted rules.now is_multi (view coordinates.now) fixes.old) }
-    ensures refused { IfErr result (λ e. e ≡ Broken.Faulty → lines_geometry_left rules.now is_multi (view coordinates.now) ≡ None) }
-{
-    let lines = read_lines(alloc, coordinates, is_multi)?;
-    let left = fix_lines(alloc, lines, rules, fixes)?;
-    Ok(geometry_of_lines(alloc, left.as_slice(), is_multi)?)
-}
-
-/// What remains of a Polygon or a MultiPolygon.
-fn fix_polygon_geometry(
-    alloc: Global,
-    coordinates: &Value,
-    is_multi: bool,
-    rules: &FixingRules,
-    fixes: &mut Fixes,
-) -> Result<Value, Broken>
-    ensures left { IfOk result (λ left. polygons_geometry_left rules.now is_multi (view coordinates.now) ≡ Some (view left)) }
-    ensures fixes { OnOk result (fixes.new ≡ polygons_geometry_counted rules.now is_multi (view coordinates.now) fixes.old) }
-    ensures refused { IfErr result (λ e. e ≡ Broken.Faulty → polygons_geometry_left rules.now is_multi (view coordinates.now) ≡ None) }
-{
-    let polygons = read_polygons(alloc, coordinates, is_multi)?;
     let left = fix_polygons(alloc, polygons, rules, fixes)?;
-    Ok(geometry_of_polygons(alloc, left.as_slice(), is_multi)?)
+    Ok(shape_of_polygons(left, true))
 }
 
-/// The coordinates of a geometry, if they are an array with an element.
-fn coordinates_of(geometry: &Value) -> Result<&Value, Broken>
-    ensures ok { IfOk result (λ coordinates. coordinates_in (view geometry.now) ≡ Some (view coordinates.now)) }
-    ensures refused { IfErr result (λ e. coordinates_in (view geometry.now) ≡ None) }
-{
-    let Some(coordinates) = geometry.get("coordinates") else {
-        return Err(Broken::Faulty);
-    };
-    if elements(coordinates)?.is_empty() {
-        return Err(Broken::Faulty);
-    }
-    Ok(coordinates)
-}
-
-/// What remains of a geometry, if it is one of lines or polygons that is understood, and how much was fixed of it.
-fn try_fix(
+/// What is left of a shape: null where nothing is. Lists without a line or polygon stay as they are.
+fn fix_shape(
     alloc: Global,
-    geometry: &Value,
-    rules: &FixingRules,
-    found: &mut Fixes,
-) -> Result<Value, Broken>
-    ensures left { IfOk result (λ left. geometry_left rules.now (view geometry.now) ≡ Some (view left)) }
-    ensures fixes { OnOk result (found.old ≡ no_fixes → found.new ≡ geometry_fixes rules.now (view geometry.now)) }
-    ensures refused { IfErr result (λ e. e ≡ Broken.Faulty → geometry_left rules.now (view geometry.now) ≡ None) }
-{
-    let coordinates = coordinates_of(geometry)?;
-    let kind = text_member(geometry, "type");
-    if kind == "LineString" {
-        return fix_line_geometry(alloc, coordinates, false, rules, found);
-    }
-    if kind == "MultiLineString" {
-        return fix_line_geometry(alloc, coordinates, true, rules, found);
-    }
-    if kind == "Polygon" {
-        return fix_polygon_geometry(alloc, coordinates, false, rules, found);
-    }
-    if kind == "MultiPolygon" {
-        return fix_polygon_geometry(alloc, coordinates, true, rules, found);
-    }
-    Err(Broken::Faulty)
-}
-
-/// What remains of a geometry, or the geometry as it is where it is not understood or needs no fixing.
-pub(crate) fn fix_geometry(
-    alloc: Global,
-    geometry: Value,
+    shape: RawShape,
     rules: &FixingRules,
     fixes: &mut Fixes,
-) -> Result<Value, Broken>
-    ensures fixed { IfOk result (λ fixed. view fixed ≡ geometry_fixed rules.now (view geometry)) }
-    ensures fixes { OnOk result (fixes.new ≡ geometry_counted rules.now (view geometry) fixes.old) }
+) -> Result<Shape, Broken>
+    ensures left { IfOk result (λ left. form_left rules.now (seen_shape shape) ≡ Some (plain_shape left)) }
+    ensures fixes { OnOk result (fixes.new ≡ form_counted rules.now (seen_shape shape) fixes.old) }
+    ensures refused { IfErr result (λ e. e ≡ Broken.Refused → form_left rules.now (seen_shape shape) ≡ None) }
 {
-    let mut found = Fixes::default();
-    match try_fix(alloc, &geometry, rules, &mut found) {
-        Ok(value) => {
-            *fixes = fixes.with(found);
-            if rules.blanks && found.any() {
-                return Ok(Value::Null);
-            }
-            Ok(value)
+    match shape {
+        RawShape::Null => Ok(Shape::Null),
+        RawShape::Point(position) => Ok(Shape::Point(position)),
+        RawShape::MultiPoint(positions) => Ok(Shape::MultiPoint(Items::from_vec(positions))),
+        RawShape::Line(line) => {
+            let left = fix_line(alloc, line, rules, fixes)?;
+            Ok(shape_of_lines(left, false))
         }
-        Err(Broken::Faulty) => Ok(geometry),
-        Err(Broken::OutOfMemory) => Err(Broken::OutOfMemory),
+        RawShape::MultiLine(lines) => fix_multi_line(alloc, lines, rules, fixes),
+        RawShape::Polygon(rings) => {
+            let left = fix_polygon(alloc, rings, rules, fixes)?;
+            Ok(shape_of_polygons(left, false))
+        }
+        RawShape::MultiPolygon(polygons) => fix_multi_polygon(alloc, polygons, rules, fixes),
+    }
+}
+
+/// Whether a shape is null.
+fn is_null(shape: &Shape) -> bool
+    ensures { result ≡ is_null_form (plain_shape shape.now) }
+{
+    match shape {
+        Shape::Null => true,
+        _ => false,
+    }
+}
+
+/// What is left of some shapes, without null.
+fn fix_shapes(
+    alloc: Global,
+    shapes: Vec<RawShape>,
+    rules: &FixingRules,
+    fixes: &mut Fixes,
+) -> Result<Vec<Shape>, Broken>
+    ensures left { IfOk result (λ made. all_left (shown_left rules.now) (map seen_shape shapes.items) ≡ Some (map plain_shape made.items)) }
+    ensures fixes { OnOk result (fixes.new ≡ forms_counted rules.now (map seen_shape shapes.items) fixes.old) }
+    ensures refused { IfErr result (λ e. e ≡ Broken.Refused → all_left (shown_left rules.now) (map seen_shape shapes.items) ≡ None) }
+{
+    let mut made = Vec::new(alloc);
+    for shape in shapes {
+        let left = fix_shape(alloc, shape, rules, fixes)?;
+        if !is_null(&left) {
+            made.push(left)?;
+        }
+    }
+    Ok(made)
+}
+
+/// What is left of shapes that are all of a feature: null, or no feature, where none is.
+fn fix_all(
+    alloc: Global,
+    shapes: Vec<RawShape>,
+    rules: &FixingRules,
+    fixes: &mut Fixes,
+) -> Result<Vec<Shape>, Broken>
+    ensures left { IfOk result (λ made. forms_left rules.now (map seen_shape shapes.items) ≡ Some (map plain_shape made.items)) }
+    ensures fixes { OnOk result (fixes.new ≡ lost_counted rules.now (map seen_shape shapes.items) fixes.old) }
+    ensures refused { IfErr result (λ e. e ≡ Broken.Refused → forms_left rules.now (map seen_shape shapes.items) ≡ None) }
+{
+    let left = fix_shapes(alloc, shapes, rules, fixes)?;
+    if !left.is_empty() {
+        return Ok(left);
+    }
+    fixes.lost = fixes.lost.saturating_add(1);
+    match rules.collapsed {
+        Collapsed::Drop => Ok(left),
+        Collapsed::Null | Collapsed::Refuse => Ok(only(alloc, Shape::Null)?),
+    }
+}
+
+/// The shapes that are left of a geometry, each to be the shape of a feature of its own, and how much was fixed. Null stays null.
+/// A LineString may become a MultiLineString, and a Polygon a MultiPolygon. Where no shape is left the geometry is null, or there
+/// is none if the feature is dropped.
+///
+/// # Errors
+/// `Refused` exactly where a line or ring has a fault that the rules don't fix, or the geometry is a GeometryCollection that they
+/// don't split.
+pub fn fix_geometry(
+    alloc: Global,
+    geometry: RawGeometry,
+    rules: &FixingRules,
+    fixes: &mut Fixes,
+) -> Result<Vec<Shape>, Broken>
+    ensures left { IfOk result (λ made. geometry_left rules.now (seen_geometry geometry) ≡ Some (map plain_shape made.items)) }
+    ensures fixes { OnOk result (fixes.new ≡ geometry_counted rules.now (seen_geometry geometry) fixes.old) }
+    ensures refused { IfErr result (λ e. e ≡ Broken.Refused → geometry_left rules.now (seen_geometry geometry) ≡ None) }
+{
+    match geometry {
+        RawGeometry::One(RawShape::Null) => Ok(only(alloc, Shape::Null)?),
+        RawGeometry::One(shape) => fix_all(alloc, only(alloc, shape)?, rules, fixes),
+        RawGeometry::Collection(shapes) => {
+            if !rules.splits_collections {
+                return Err(Broken::Refused);
+            }
+            fixes.collections = fixes.collections.saturating_add(1);
+            fix_all(alloc, shapes, rules, fixes)
+        }
     }
 }

@@ -1,6 +1,5 @@
-//! The laws of what is left of lines, rings and whole texts, each promised by a function that does nothing.
+//! The laws of what is left of lines, rings and geometries, each promised by a function that does nothing.
 ghost use Rattle.fixing.specs.Laws as law;
-ghost use Rattle.fixing.specs.TextLaws as text;
 
 /// What is left of a line is lines: two positions or more, and no segment twice. What is left of a ring is rings:
 /// closed, four positions or more, and no segment twice. So are the rings of what is left of a polygon, before they are
@@ -34,11 +33,4 @@ pub fn sound_shapes_stay()
 /// Rings that are turned turn as they are wanted.
 pub fn turned_rings_turn()
     ensures { law.TurnedRingsTurn }
-{}
-
-/// The text that is made is determined by the value that was read, where what is left has no floats; and of a text that
-/// is one value, that is the value.
-pub fn texts_are_exact()
-    ensures exact { text.TextsWithoutFloatsAreExact }
-    ensures whole { text.WholeTextsAreFixed }
 {}

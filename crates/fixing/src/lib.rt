@@ -1,11 +1,8 @@
-//! GeoJSON in whole numbers, without what snapping spoiled: lines and rings of which too few positions are left,
+//! Geometries in whole numbers, without what snapping spoiled: lines and rings of which too few positions are left,
 //! and those that use a segment twice. It also splits GeometryCollections, and turns rings.
-//!
-//! A geometry that it doesn't understand stays as it is, and a reader refuses it.
 #![tactic(auto)]
 
 mod broken;
-mod coordinates;
 mod feature;
 mod geometry;
 pub mod laws;
@@ -17,8 +14,11 @@ mod polygons;
 pub mod raw;
 pub mod rules;
 mod runs;
-mod text;
 
+pub use broken::Broken;
+pub use feature::FixedFeature;
+pub use geometry::fix_geometry;
+pub use linework::{unfixed_line, unfixed_ring};
 pub use measures::area;
+pub use raw::{RawGeometry, RawShape};
 pub use rules::{Collapsed, FeatureFixes, Fixes, FixingRules, Rewind};
-pub use text::{FixedText, fix};

@@ -1,13 +1,18 @@
 //! Lines and rings, checked and fixed one by one.
-ghost use Rattle.fixing.specs.Left.{all_counted, all_left, counted, left_by as lists_left, line_left, line_need as needed_of_line, need_of as needed, parts_of, ring_left, ring_need as needed_of_ring};
+ghost use Rattle.fixing.specs.Left.{all_counted, all_left, counted, left_by as lists_left, line_need as needed_of_line, lines_left, need_of as needed, parts_of, ring_left, ring_need as needed_of_ring, unfixed as refused};
 ghost use Rattle.fixing.specs.Seen.{lists_in};
-ghost use Rattle.std.specs.Prelude.{◌≡◌, IfErr, IfOk, OnOk, None, Some};
+ghost use Rattle.lines.specs.Reading.{collapsed, line_fault, ring_fault};
+ghost use Rattle.lines.specs.Seen.{positions_of};
+ghost use Rattle.lines.specs.Turned.{position_cmp};
+ghost use Rattle.std.specs.Prelude.{◌≡◌, ◌≢◌, IfErr, IfOk, OnOk, None, Some, map};
+ghost use Rattle.theory.specs.Lists.{Each};
 
 use crate::broken::Broken;
 use crate::lists::only;
 use crate::loops::loops_of;
 use crate::rules::{Collapsed, Fixes, FixingRules};
 use crate::runs::runs_of;
+use faults::OutOfMemory;
 use grid::pos::Pos;
 use lines::line::Line;
 use lines::ring::Ring;
@@ -25,39 +30,73 @@ enum Need {
 /// What the rules say of a fault.
 fn need_of(fault: ShapeFault, rules: &FixingRules) -> Result<Need, Broken>
     ensures ok { IfOk result (λ need. needed rules.now (Some fault) ≡ Some need) }
-    ensures refused { IfErr result (λ e. e ≡ Broken.Faulty → needed rules.now (Some fault) ≡ None) }
+    ensures refused { IfErr result (λ e. e ≡ Broken.Refused → needed rules.now (Some fault) ≡ None) }
     ensures memory { IfErr result (λ e. fault ≡ ShapeFault.OutOfMemory → e ≡ Broken.OutOfMemory) }
 {
     match fault {
         ShapeFault::TooShort => match rules.collapsed {
-            Collapsed::Refuse => Err(Broken::Faulty),
+            Collapsed::Refuse => Err(Broken::Refused),
             Collapsed::Null | Collapsed::Drop => Ok(Need::Drop),
         },
         ShapeFault::Revisit if rules.splits_folded => Ok(Need::Split),
-        ShapeFault::Revisit | ShapeFault::NotClosed => Err(Broken::Faulty),
+        ShapeFault::Revisit | ShapeFault::NotClosed => Err(Broken::Refused),
         ShapeFault::OutOfMemory => Err(Broken::OutOfMemory),
-    }
-}
-
-fn line_need(alloc: Global, positions: &[Pos], rules: &FixingRules) -> Result<Need, Broken>
-    ensures ok { IfOk result (λ need. needed_of_line rules.now positions.now ≡ Some need) }
-    ensures refused { IfErr result (λ e. e ≡ Broken.Faulty → needed_of_line rules.now positions.now ≡ None) }
-{
-    let copy = positions.to_vec(alloc)?;
-    match Line::from_positions(alloc, copy) {
-        Ok(_) => Ok(Need::Nothing),
-        Err(fault) => need_of(fault, rules),
     }
 }
 
 fn ring_need(alloc: Global, closed: &[Pos], rules: &FixingRules) -> Result<Need, Broken>
     ensures ok { IfOk result (λ need. needed_of_ring rules.now closed.now ≡ Some need) }
-    ensures refused { IfErr result (λ e. e ≡ Broken.Faulty → needed_of_ring rules.now closed.now ≡ None) }
+    ensures refused { IfErr result (λ e. e ≡ Broken.Refused → needed_of_ring rules.now closed.now ≡ None) }
 {
     let copy = closed.to_vec(alloc)?;
     match Ring::from_closed(alloc, copy) {
         Ok(_) => Ok(Need::Nothing),
         Err(fault) => need_of(fault, rules),
+    }
+}
+
+/// A fault, if the rules don't fix it.
+fn unfixed(fault: ShapeFault, rules: &FixingRules) -> Result<Option<ShapeFault>, OutOfMemory>
+    ensures unfixed { IfOk result (λ left. left ≡ refused rules.now (Some fault)) }
+    ensures memory { IfOk result (λ _. fault ≢ ShapeFault.OutOfMemory) }
+{
+    match fault {
+        ShapeFault::TooShort => match rules.collapsed {
+            Collapsed::Refuse => Ok(Some(ShapeFault::TooShort)),
+            Collapsed::Null | Collapsed::Drop => Ok(None),
+        },
+        ShapeFault::Revisit if rules.splits_folded => Ok(None),
+        ShapeFault::Revisit => Ok(Some(ShapeFault::Revisit)),
+        ShapeFault::NotClosed => Ok(Some(ShapeFault::NotClosed)),
+        ShapeFault::OutOfMemory => Err(OutOfMemory),
+    }
+}
+
+/// The fault of a line that the rules don't fix, if it has one.
+pub fn unfixed_line(
+    alloc: Global,
+    positions: Vec<Pos>,
+    rules: &FixingRules,
+) -> Result<Option<ShapeFault>, OutOfMemory>
+    ensures { IfOk result (λ fault. fault ≡ refused rules.now (line_fault position_cmp positions.items)) }
+{
+    match Line::from_positions(alloc, positions) {
+        Ok(_) => Ok(None),
+        Err(fault) => unfixed(fault, rules),
+    }
+}
+
+/// The fault of a ring that the rules don't fix, if it has one. The ring is the closed list of its positions.
+pub fn unfixed_ring(
+    alloc: Global,
+    closed: Vec<Pos>,
+    rules: &FixingRules,
+) -> Result<Option<ShapeFault>, OutOfMemory>
+    ensures { IfOk result (λ fault. fault ≡ refused rules.now (ring_fault position_cmp closed.items)) }
+{
+    match Ring::from_closed(alloc, closed) {
+        Ok(_) => Ok(None),
+        Err(fault) => unfixed(fault, rules),
     }
 }
 
@@ -68,7 +107,7 @@ enum Linework {
     Ring,
 }
 
-/// The lists that remain of a line or ring of which that is to be done.
+/// The lists that are left of a line or ring of which that is to be done.
 fn left_by(
     alloc: Global,
     need: Need,
@@ -95,22 +134,60 @@ fn left_by(
     }
 }
 
-/// The lines that remain of a line.
+/// The lines of lists without a fault.
+fn lines_of(alloc: Global, lists: Vec<Vec<Pos>>) -> Result<Vec<Line>, AllocError>
+    requires { Each (λ l. line_fault position_cmp l ≡ None) (lists_in lists.items) }
+    ensures { IfOk result (λ lines. map positions_of lines.items ≡ map (collapsed position_cmp) (lists_in lists.items)) }
+{
+    let mut lines = Vec::with_capacity(alloc, lists.len())?;
+    for list in lists {
+        lines.push(Line::from_sound(list))?;
+    }
+    Ok(lines)
+}
+
+/// The lines that are left of a line.
 pub(crate) fn fix_line(
     alloc: Global,
     positions: Vec<Pos>,
     rules: &FixingRules,
     fixes: &mut Fixes,
-) -> Result<Vec<Vec<Pos>>, Broken>
-    ensures left { IfOk result (λ parts. line_left rules.now positions.items ≡ Some (lists_in parts.items)) }
+) -> Result<Vec<Line>, Broken>
+    ensures left { IfOk result (λ lines. lines_left rules.now positions.items ≡ Some (map positions_of lines.items)) }
     ensures fixes { OnOk result (fixes.new ≡ counted (needed_of_line rules.now positions.items) fixes.old) }
-    ensures refused { IfErr result (λ e. e ≡ Broken.Faulty → line_left rules.now positions.items ≡ None) }
+    ensures refused { IfErr result (λ e. e ≡ Broken.Refused → lines_left rules.now positions.items ≡ None) }
 {
-    let need = line_need(alloc, positions.as_slice(), rules)?;
-    Ok(left_by(alloc, need, positions, Linework::Line, fixes)?)
+    let copy = positions.as_slice().to_vec(alloc)?;
+    match Line::from_positions(alloc, copy) {
+        Ok(line) => Ok(only(alloc, line)?),
+        Err(fault) => {
+            let need = need_of(fault, rules)?;
+            let lists = left_by(alloc, need, positions, Linework::Line, fixes)?;
+            Ok(lines_of(alloc, lists)?)
+        }
+    }
 }
 
-/// The rings that remain of a ring.
+/// The lines that are left of some lines.
+pub(crate) fn fix_lines(
+    alloc: Global,
+    lines: Vec<Vec<Pos>>,
+    rules: &FixingRules,
+    fixes: &mut Fixes,
+) -> Result<Vec<Line>, Broken>
+    ensures left { IfOk result (λ made. all_left (lines_left rules.now) (lists_in lines.items) ≡ Some (map positions_of made.items)) }
+    ensures fixes { OnOk result (fixes.new ≡ all_counted (needed_of_line rules.now) (lists_in lines.items) fixes.old) }
+    ensures refused { IfErr result (λ e. e ≡ Broken.Refused → all_left (lines_left rules.now) (lists_in lines.items) ≡ None) }
+{
+    let mut fixed = Vec::with_capacity(alloc, lines.len())?;
+    for line in lines {
+        let mut parts = fix_line(alloc, line, rules, fixes)?;
+        fixed.append(&mut parts)?;
+    }
+    Ok(fixed)
+}
+
+/// The closed lists of the rings that are left of a ring.
 pub(crate) fn fix_ring(
     alloc: Global,
     closed: Vec<Pos>,
@@ -119,27 +196,8 @@ pub(crate) fn fix_ring(
 ) -> Result<Vec<Vec<Pos>>, Broken>
     ensures left { IfOk result (λ parts. ring_left rules.now closed.items ≡ Some (lists_in parts.items)) }
     ensures fixes { OnOk result (fixes.new ≡ counted (needed_of_ring rules.now closed.items) fixes.old) }
-    ensures refused { IfErr result (λ e. e ≡ Broken.Faulty → ring_left rules.now closed.items ≡ None) }
+    ensures refused { IfErr result (λ e. e ≡ Broken.Refused → ring_left rules.now closed.items ≡ None) }
 {
     let need = ring_need(alloc, closed.as_slice(), rules)?;
     Ok(left_by(alloc, need, closed, Linework::Ring, fixes)?)
-}
-
-/// The lines that remain of some lines.
-pub(crate) fn fix_lines(
-    alloc: Global,
-    lines: Vec<Vec<Pos>>,
-    rules: &FixingRules,
-    fixes: &mut Fixes,
-) -> Result<Vec<Vec<Pos>>, Broken>
-    ensures left { IfOk result (λ parts. all_left (line_left rules.now) (lists_in lines.items) ≡ Some (lists_in parts.items)) }
-    ensures fixes { OnOk result (fixes.new ≡ all_counted (needed_of_line rules.now) (lists_in lines.items) fixes.old) }
-    ensures refused { IfErr result (λ e. e ≡ Broken.Faulty → all_left (line_left rules.now) (lists_in lines.items) ≡ None) }
-{
-    let mut fixed = Vec::new(alloc);
-    for line in lines {
-        let mut parts = fix_line(alloc, line, rules, fixes)?;
-        fixed.append(&mut parts)?;
-    }
-    Ok(fixed)
 }

@@ -1,11 +1,17 @@
 //! On which side of rings positions lie, and how rings turn.
 ghost use Rattle.fixing.specs.Measures.{twice_area, cross as cross_of, doubled, inside_from, is_inside, lies_in as lies_within, middle as middle_of, ray_crosses, rewound, spread as spread_of, turns_left as is_left};
+ghost use Rattle.lines.specs.Reading.{ring_fault, ring_of};
+ghost use Rattle.lines.specs.Seen.{vertices_of};
+ghost use Rattle.lines.specs.Turned.{list_cmp, position_cmp};
 ghost use Rattle.std.specs.Int.{int_wrap};
-ghost use Rattle.std.specs.Prelude.{◌≡◌, ◌*ℤ◌, int_lt, not, if◌then◌else◌};
+ghost use Rattle.std.specs.Ordering.{is_lt};
+ghost use Rattle.std.specs.Prelude.{◌≡◌, ◌*ℤ◌, IfOk, None, int_lt, not, reverse, if◌then◌else◌};
 ghost use mir.Syntax.{w128};
 
 use crate::rules::Rewind;
 use grid::pos::Pos;
+use lines::ring::Ring;
+use std::alloc::{AllocError, Global};
 
 /// Of how many positions of a ring the sides are looked at.
 const POSITIONS: usize = 9;
@@ -145,16 +151,47 @@ pub(crate) fn lies_in(ring: &[Pos], other: &[Pos]) -> bool
     outside < inside
 }
 
-/// Turns a ring as it is wanted: an outer one, or a hole.
-pub(crate) fn turn(ring: &mut Vec<Pos>, is_outer: bool, rewind: Rewind)
-    ensures { ring.new.items ≡ rewound rewind is_outer ring.old.items }
+/// A ring turned round.
+fn turned_round(alloc: Global, closed: &[Pos]) -> Result<Ring, AllocError>
+    requires { ring_fault position_cmp closed.now ≡ None }
+    ensures { IfOk result (λ ring. vertices_of ring ≡ ring_of position_cmp (reverse closed.now)) }
+{
+    let mut back = closed.to_vec(alloc)?;
+    back.reverse();
+    Ok(Ring::from_sound(back))
+}
+
+/// The lesser of two rings.
+fn lesser(ring: Ring, other: Ring) -> Ring
+    ensures { result ≡ (if is_lt (list_cmp (vertices_of other) (vertices_of ring)) then other else ring) }
+{
+    if other < ring { other } else { ring }
+}
+
+/// A ring turned as it is wanted: an outer one, or a hole. Without an area it turns as the lesser of its two directions does.
+pub(crate) fn turn(
+    alloc: Global,
+    ring: Ring,
+    closed: &[Pos],
+    is_outer: bool,
+    rewind: Rewind,
+) -> Result<Ring, AllocError>
+    requires ring { vertices_of ring ≡ ring_of position_cmp closed.now }
+    requires sound { ring_fault position_cmp closed.now ≡ None }
+    ensures { IfOk result (λ turned. vertices_of turned ≡ ring_of position_cmp (rewound rewind is_outer closed.now)) }
 {
     let counterclockwise = match rewind {
-        Rewind::Keep => return,
+        Rewind::Keep => return Ok(ring),
         Rewind::Rfc7946 => is_outer,
         Rewind::D3 => !is_outer,
     };
-    if !is_same(turns_left(ring.as_slice()), counterclockwise) {
-        ring.reverse();
+    let area = area(closed);
+    if area == 0 {
+        let back = turned_round(alloc, closed)?;
+        return Ok(lesser(ring, back));
     }
+    if is_same(is_less(0, area), counterclockwise) {
+        return Ok(ring);
+    }
+    turned_round(alloc, closed)
 }

@@ -1,8 +1,9 @@
 //! Polygons, fixed one by one.
 ghost use Rattle.fixing.specs.Left.{all_left};
-ghost use Rattle.fixing.specs.Polygons.{home_of as home_in, home_of_hole as home_in_of_hole, polygon_counted, polygon_kept, polygon_left, polygons_counted, polygons_of as alone, polygons_of_loops as made_of_loops, put_holes as with_these, put_others as with_others, put_ring as with_ring, rewound_polygon, turns_to as is_turned_to};
+ghost use Rattle.fixing.specs.Polygons.{home_of as home_in, home_of_hole as home_in_of_hole, polygon_counted, polygon_kept, polygons_counted, polygons_left, polygons_made, polygons_of as alone, polygons_of_loops as made_of_loops, put_holes as with_these, put_others as with_others, put_ring as with_ring, ring_made, rings_made, turns_to as is_turned_to};
 ghost use Rattle.fixing.specs.Seen.{lists_in, polygons_in};
-ghost use Rattle.std.specs.Prelude.{◌≡◌, IfErr, IfOk, OnOk, None, Some, map, not};
+ghost use Rattle.lines.specs.Seen.{vertices_of};
+ghost use Rattle.std.specs.Prelude.{◌≡◌, IfErr, IfOk, OnOk, None, Some, map, not, option_map};
 ghost use Rattle.theory.specs.TopologyFunction.{keep};
 
 use crate::broken::Broken;
@@ -10,7 +11,11 @@ use crate::linework::fix_ring;
 use crate::lists::only;
 use crate::measures::{is_same, lies_in, turn, turns_left};
 use crate::rules::{Fixes, FixingRules, Rewind};
+use faults::OutOfMemory;
 use grid::pos::Pos;
+use lines::items::Items;
+use lines::ring::Ring;
+use lines::shape_fault::ShapeFault;
 use std::alloc::{AllocError, Global};
 
 /// A polygon of each ring.
@@ -63,7 +68,7 @@ fn home_of_hole(polygons: &[Vec<Vec<Pos>>], hole: &[Pos]) -> usize
     }
 }
 
-/// Puts the holes that remain of a hole into the polygons that they lie in, or into the first.
+/// Puts the holes that are left of a hole into the polygons that they lie in, or into the first.
 fn put_holes(polygons: &mut Vec<Vec<Vec<Pos>>>, holes: Vec<Vec<Pos>>) -> Result<(), AllocError>
     ensures { OnOk result (polygons_in polygons.new.items ≡ with_these (lists_in holes.items) (polygons_in polygons.old.items)) }
 {
@@ -125,40 +130,61 @@ fn polygons_of_loops(
     Ok(polygons)
 }
 
-/// Turns the rings of a polygon as they are wanted.
-fn turn_rings(
+/// The ring of a closed list, turned as it is wanted; none where the list has a fault.
+fn ring_of(
     alloc: Global,
-    rings: Vec<Vec<Pos>>,
+    closed: &[Pos],
+    is_outer: bool,
     rewind: Rewind,
-) -> Result<Vec<Vec<Pos>>, AllocError>
-    ensures { IfOk result (λ turned. lists_in turned.items ≡ rewound_polygon rewind (lists_in rings.items)) }
+) -> Result<Option<Ring>, OutOfMemory>
+    ensures { IfOk result (λ ring. option_map vertices_of ring ≡ ring_made rewind is_outer closed.now) }
 {
-    let mut turned = Vec::with_capacity(alloc, rings.len())?;
-    let mut is_outer = true;
-    for mut ring in rings {
-        turn(&mut ring, is_outer, rewind);
-        turned.push(ring)?;
-        is_outer = false;
+    let copy = closed.to_vec(alloc)?;
+    match Ring::from_closed(alloc, copy) {
+        Ok(ring) => Ok(Some(turn(alloc, ring, closed, is_outer, rewind)?)),
+        Err(ShapeFault::OutOfMemory) => Err(OutOfMemory),
+        Err(_) => Ok(None),
     }
-    Ok(turned)
 }
 
-/// Turns the rings of polygons as they are wanted.
-fn turn_polygons(
+/// The rings of a polygon, turned as they are wanted; none where a list has a fault.
+fn rings_of(
+    alloc: Global,
+    lists: &[Vec<Pos>],
+    rewind: Rewind,
+) -> Result<Option<Vec<Ring>>, OutOfMemory>
+    ensures { IfOk result (λ made. option_map (λ rings. map vertices_of rings.items) made ≡ rings_made rewind true (lists_in lists.now)) }
+{
+    let mut rings = Vec::with_capacity(alloc, lists.len())?;
+    let mut is_outer = true;
+    for list in lists {
+        let Some(ring) = ring_of(alloc, list.as_slice(), is_outer, rewind)? else {
+            return Ok(None);
+        };
+        rings.push(ring)?;
+        is_outer = false;
+    }
+    Ok(Some(rings))
+}
+
+/// The polygons of closed lists, their rings turned as they are wanted. One of which a list has a fault is none.
+fn rings_of_polygons(
     alloc: Global,
     polygons: Vec<Vec<Vec<Pos>>>,
     rewind: Rewind,
-) -> Result<Vec<Vec<Vec<Pos>>>, AllocError>
-    ensures { IfOk result (λ turned. polygons_in turned.items ≡ map (rewound_polygon rewind) (polygons_in polygons.items)) }
+) -> Result<Vec<Items<Ring>>, OutOfMemory>
+    ensures { IfOk result (λ made. map (map vertices_of) made.items ≡ polygons_made rewind (polygons_in polygons.items)) }
 {
-    let mut turned = Vec::with_capacity(alloc, polygons.len())?;
+    let mut made = Vec::with_capacity(alloc, polygons.len())?;
     for polygon in polygons {
-        turned.push(turn_rings(alloc, polygon, rewind)?)?;
+        if let Some(rings) = rings_of(alloc, polygon.as_slice(), rewind)? {
+            made.push(Items::from_vec(rings))?;
+        }
     }
-    Ok(turned)
+    Ok(made)
 }
 
-/// The polygons that remain of a polygon, before their rings are turned.
+/// The polygons that are left of a polygon, before their rings are turned.
 fn fix_rings(
     alloc: Global,
     rings: Vec<Vec<Pos>>,
@@ -167,7 +193,7 @@ fn fix_rings(
 ) -> Result<Vec<Vec<Vec<Pos>>>, Broken>
     ensures left { IfOk result (λ made. polygon_kept rules.now (lists_in rings.items) ≡ Some (polygons_in made.items)) }
     ensures fixes { OnOk result (fixes.new ≡ polygon_counted rules.now (lists_in rings.items) fixes.old) }
-    ensures refused { IfErr result (λ e. e ≡ Broken.Faulty → polygon_kept rules.now (lists_in rings.items) ≡ None) }
+    ensures refused { IfErr result (λ e. e ≡ Broken.Refused → polygon_kept rules.now (lists_in rings.items) ≡ None) }
 {
     let mut rings = rings.into_iter();
     let Some(outer) = rings.next() else {
@@ -183,33 +209,36 @@ fn fix_rings(
     Ok(polygons)
 }
 
-/// The polygons that remain of a polygon. Without its outer ring none remain.
+/// The polygons that are left of a polygon. Without its outer ring none are.
 pub(crate) fn fix_polygon(
     alloc: Global,
     rings: Vec<Vec<Pos>>,
     rules: &FixingRules,
     fixes: &mut Fixes,
-) -> Result<Vec<Vec<Vec<Pos>>>, Broken>
-    ensures left { IfOk result (λ made. polygon_left rules.now (lists_in rings.items) ≡ Some (polygons_in made.items)) }
+) -> Result<Vec<Items<Ring>>, Broken>
+    ensures left { IfOk result (λ made. polygons_left rules.now (lists_in rings.items) ≡ Some (map (map vertices_of) made.items)) }
     ensures fixes { OnOk result (fixes.new ≡ polygon_counted rules.now (lists_in rings.items) fixes.old) }
-    ensures refused { IfErr result (λ e. e ≡ Broken.Faulty → polygon_left rules.now (lists_in rings.items) ≡ None) }
+    ensures refused { IfErr result (λ e. e ≡ Broken.Refused → polygons_left rules.now (lists_in rings.items) ≡ None) }
 {
+    if let Some(sound) = rings_of(alloc, rings.as_slice(), rules.rewind)? {
+        return Ok(only(alloc, Items::from_vec(sound))?);
+    }
     let polygons = fix_rings(alloc, rings, rules, fixes)?;
-    Ok(turn_polygons(alloc, polygons, rules.rewind)?)
+    Ok(rings_of_polygons(alloc, polygons, rules.rewind)?)
 }
 
-/// The polygons that remain of some polygons.
+/// The polygons that are left of some polygons.
 pub(crate) fn fix_polygons(
     alloc: Global,
     polygons: Vec<Vec<Vec<Pos>>>,
     rules: &FixingRules,
     fixes: &mut Fixes,
-) -> Result<Vec<Vec<Vec<Pos>>>, Broken>
-    ensures left { IfOk result (λ made. all_left (polygon_left rules.now) (polygons_in polygons.items) ≡ Some (polygons_in made.items)) }
+) -> Result<Vec<Items<Ring>>, Broken>
+    ensures left { IfOk result (λ made. all_left (polygons_left rules.now) (polygons_in polygons.items) ≡ Some (map (map vertices_of) made.items)) }
     ensures fixes { OnOk result (fixes.new ≡ polygons_counted rules.now (polygons_in polygons.items) fixes.old) }
-    ensures refused { IfErr result (λ e. e ≡ Broken.Faulty → all_left (polygon_left rules.now) (polygons_in polygons.items) ≡ None) }
+    ensures refused { IfErr result (λ e. e ≡ Broken.Refused → all_left (polygons_left rules.now) (polygons_in polygons.items) ≡ None) }
 {
-    let mut fixed = Vec::new(alloc);
+    let mut fixed = Vec::with_capacity(alloc, polygons.len())?;
     for polygon in polygons {
         let mut parts = fix_polygon(alloc, polygon, rules, fixes)?;
         fixed.append(&mut parts)?;

@@ -9,11 +9,11 @@ pub enum Collapsed {
     Null,
     /// It is dropped.
     Drop,
-    /// It stays as it is, and so does each line and ring of too few positions.
+    /// There is none: a line or ring of too few positions is a fault.
     Refuse,
 }
 
-/// How rings are turned.
+/// How rings are turned. One without an area turns as the lesser of its two directions does, unless all rings are kept.
 #[derive(Clone, Copy, PartialEq, Eq, Debug)]
 pub enum Rewind {
     /// Not at all.
@@ -30,11 +30,9 @@ pub struct FixingRules {
     pub collapsed: Collapsed,
     /// Whether lines and rings that use a segment twice are split.
     pub splits_folded: bool,
-    /// Whether GeometryCollections are split into features.
+    /// Whether GeometryCollections are split into features. Otherwise they are refused.
     pub splits_collections: bool,
     pub rewind: Rewind,
-    /// Whether a geometry in which anything would be fixed becomes null, so that features stay where they are.
-    pub blanks: bool,
 }
 
 /// How much was fixed.

@@ -4,3 +4,5 @@ pub mod Tenths
 pub mod Short
 pub mod Offset
 pub mod Amount
+pub mod Distance
+pub mod Laws

@@ -1,4 +1,5 @@
 //! Short numerals, read and rounded by machine words.
+ghost use Rattle.numerals.specs.Distance.{AreTenThousandths};
 ghost use Rattle.numerals.specs.Nearest.{IsRounded};
 ghost use Rattle.numerals.specs.Numeral.{IsMeasure};
 ghost use Rattle.numerals.specs.Short.{IsFront, IsShort};
@@ -71,7 +72,7 @@ pub(crate) fn read_short(text: &[u8]) -> Option<Short>
 }
 
 impl Short {
-    /// Whether `nearest` takes it at this step.
+    /// Whether `nearest` and `ten_thousandths` take it at this step.
     pub(crate) fn is_few(&self, step: &DecimalStep) -> bool
         ensures { IsTrue result → (self.now.places ≤ 18) × (step.now.places ≤ 12) }
     {
@@ -91,5 +92,17 @@ impl Short {
             return None;
         }
         Some(steps as u64)
+    }
+
+    /// It in ten-thousandths of a step, rounded down, and whether it is just that.
+    pub(crate) fn ten_thousandths(&self, step: &DecimalStep) -> (u128, bool)
+        requires { (self.now.places ≤ 18) × (step.now.places ≤ 12) }
+        ensures limits { IsMeasure step.now }
+        ensures given { AreTenThousandths (self.now.digits * 10 ^ step.now.places) (step.now.size * 10 ^ self.now.places) result.0 result.1 }
+    {
+        let scale = u128::from(10u64.pow(step.places()));
+        let unit = step.size() * u128::from(10u64.pow(self.places as u32));
+        let parts = 10_000 * u128::from(self.digits) * scale;
+        (parts / unit, parts % unit == 0)
     }
 }

@@ -1,0 +1,4 @@
+pub mod Numerals
+pub mod Values
+pub mod Attributes
+pub mod Refusals

@@ -1,0 +1,109 @@
+//! The faults of a feature's id and properties.
+ghost use Rattle.attributes.specs.Attributes.{properties_members, seen_member};
+ghost use Rattle.attributes.specs.Refusals.{attributes_faults, id_faults, members_faults, number_faults};
+ghost use Rattle.reading.specs.FaultLists.Found.{pairs_of};
+ghost use Rattle.reading.specs.Info.{depth_faults};
+ghost use Rattle.serde_json.specs.View.{view};
+ghost use Rattle.reading.specs.Fault.{here};
+ghost use Rattle.std.specs.Prelude.{◌≡◌, [], IfOk, if◌then◌else◌};
+
+use crate::id::member;
+use crate::numeral::signed_number;
+use crate::properties::{convert_properties, has_wrong_number};
+use crate::rules::AttributeRules;
+use faults::{Fault, FaultKind, OutOfMemory};
+use json::Value;
+use reading::fault_lists::found::{join, one, put_under_name, under_name};
+use shapes::nesting::{GREATEST_PROPERTY_DEPTH, nests_within};
+use std::alloc::Global;
+
+fn one_if(alloc: Global, is_there: bool, kind: FaultKind) -> Result<Vec<Fault>, OutOfMemory>
+    ensures { IfOk result (λ fs. pairs_of fs.items ≡ (if is_there then here kind else [])) }
+{
+    if is_there {
+        Ok(one(alloc, kind)?)
+    } else {
+        Ok(Vec::new(alloc))
+    }
+}
+
+// The faults of the value of an id, which is a property or the member `id`.
+fn judge_id(
+    alloc: Global,
+    is_property: bool,
+    refuses: bool,
+    value: Option<&Value<'_>>,
+) -> Result<Vec<Fault>, OutOfMemory>
+    ensures { IfOk result (λ fs. pairs_of fs.items ≡ id_faults is_property refuses (seen_member value.entry)) }
+{
+    match value {
+        None => one_if(alloc, is_property, FaultKind::Missing),
+        Some(Value::Null) => one_if(alloc, is_property, FaultKind::WrongKind),
+        Some(Value::Number(text)) => {
+            one_if(
+                alloc,
+                refuses && signed_number(text).is_none(),
+                FaultKind::NotWhole,
+            )
+        }
+        Some(Value::String(_)) => Ok(Vec::new(alloc)),
+        Some(_) => one_if(alloc, true, FaultKind::WrongKind),
+    }
+}
+
+// The faults of properties, with these of the id among them.
+fn judge_properties(
+    alloc: Global,
+    rules: &AttributeRules<'_>,
+    properties: Option<&Value<'_>>,
+    named: Vec<Fault>,
+) -> Result<Vec<Fault>, OutOfMemory>
+    ensures { IfOk result (λ fs. pairs_of fs.items ≡ members_faults rules.now (seen_member properties.entry) (pairs_of named.items) (properties_members (seen_member properties.entry))) }
+{
+    let mut reals = 0u64;
+    let made = convert_properties(alloc, rules.scales, properties, &mut reals)?;
+    let Some(members) = made else {
+        return one_if(alloc, true, FaultKind::WrongKind);
+    };
+    let is_shallow = nests_within(&serde_json::Value::Object(members), GREATEST_PROPERTY_DEPTH);
+    let depth = one_if(alloc, !is_shallow, FaultKind::PropertyDepth)?;
+    let number = one_if(
+        alloc,
+        has_wrong_number(rules, properties, reals),
+        FaultKind::PropertyNumber,
+    )?;
+    let behind = join(depth, named)?;
+    join(number, behind)
+}
+
+/// The faults of a feature's members `id` and `properties`, by their paths from the feature, in ascending order: `id`
+/// (`WrongKind`, `NotWhole`), `properties` (`WrongKind`, `PropertyNumber`, `PropertyDepth`), and, where a property is
+/// the id, that property (`Missing`, `WrongKind`, `NotWhole`).
+///
+/// # Errors
+/// Where memory is refused.
+pub fn attribute_faults(
+    alloc: Global,
+    rules: &AttributeRules<'_>,
+    id: Option<&Value<'_>>,
+    properties: Option<&Value<'_>>,
+) -> Result<Vec<Fault>, OutOfMemory>
+    ensures { IfOk result (λ fs. pairs_of fs.items ≡ attributes_faults rules.now (seen_member id.entry) (seen_member properties.entry)) }
+{
+    match rules.id {
+        None => {
+            let own = judge_id(alloc, false, rules.refuses_reals, id)?;
+            let mut found = under_name(alloc, own, "id")?;
+            let part = judge_properties(alloc, rules, properties, Vec::new(alloc))?;
+            put_under_name(alloc, &mut found, part, "properties")?;
+            Ok(found)
+        }
+        Some(name) => {
+            let value = member(properties, name);
+            let own = judge_id(alloc, true, rules.refuses_reals, value)?;
+            let named = under_name(alloc, own, name)?;
+            let part = judge_properties(alloc, rules, properties, named)?;
+            under_name(alloc, part, "properties")
+        }
+    }
+}

@@ -1,0 +1,16 @@
+//! Ids and properties of a map in decimal numbers.
+#![tactic(auto)]
+
+mod id;
+pub mod info;
+pub mod judge;
+pub mod numeral;
+mod properties;
+pub mod read;
+pub mod rules;
+mod values;
+
+pub use info::{Attributes, Unread};
+pub use judge::attribute_faults;
+pub use read::read_attributes;
+pub use rules::{AttributeRules, Scale};

@@ -1,0 +1,86 @@
+//! The types of GeoJSON's objects (RFC 7946, section 1.4).
+ghost use Rattle.decimal_maps.specs.Geometries.{kind_name};
+ghost use Rattle.decimal_maps.specs.Members.{type_name};
+ghost use Rattle.decimal_maps.specs.Reads.{Gives};
+ghost use Rattle.json.specs.Json.{string};
+ghost use Rattle.std.specs.Prelude.{◌≡◌, ℕ, IfOk, IfSome};
+
+use crate::from_tokens::Stop;
+use json::{Reader, Token};
+
+/// A type of geometries that have coordinates (RFC 7946, sections 3.1.2 to 3.1.7).
+#[derive(Clone, Copy, PartialEq, Eq, Debug)]
+pub enum GeometryKind {
+    Point,
+    MultiPoint,
+    LineString,
+    MultiLineString,
+    Polygon,
+    MultiPolygon,
+}
+
+impl GeometryKind {
+    /// The type of that name.
+    pub fn from_name(text: &str) -> Option<GeometryKind>
+        ensures { IfSome result (λ k. text.now ≡ kind_name k) }
+    {
+        if text == "Point" {
+            Some(GeometryKind::Point)
+        } else if text == "MultiPoint" {
+            Some(GeometryKind::MultiPoint)
+        } else if text == "LineString" {
+            Some(GeometryKind::LineString)
+        } else if text == "MultiLineString" {
+            Some(GeometryKind::MultiLineString)
+        } else if text == "Polygon" {
+            Some(GeometryKind::Polygon)
+        } else if text == "MultiPolygon" {
+            Some(GeometryKind::MultiPolygon)
+        } else {
+            None
+        }
+    }
+}
+
+/// A type.
+#[derive(Clone, Copy, PartialEq, Eq, Debug)]
+pub enum Kind {
+    FeatureCollection,
+    Feature,
+    GeometryCollection,
+    Simple(GeometryKind),
+}
+
+impl Kind {
+    /// The type of that name.
+    pub fn from_name(text: &str) -> Option<Kind>
+        ensures { IfSome result (λ k. text.now ≡ type_name k) }
+    {
+        if text == "FeatureCollection" {
+            return Some(Kind::FeatureCollection);
+        }
+        if text == "Feature" {
+            return Some(Kind::Feature);
+        }
+        if text == "GeometryCollection" {
+            return Some(Kind::GeometryCollection);
+        }
+        match GeometryKind::from_name(text) {
+            Some(kind) => Some(Kind::Simple(kind)),
+            None => None,
+        }
+    }
+}
+
+/// The type that comes next.
+pub fn take_kind<'t>(reader: &mut Reader<'t>) -> Result<Kind, Stop>
+    ensures { IfOk result (λ k. (depth : ℕ) → Gives depth reader.old (string (type_name k)) reader.new) }
+{
+    let Some(Token::String(text)) = reader.next() else {
+        return Err(Stop::Unread);
+    };
+    match Kind::from_name(text) {
+        Some(kind) => Ok(kind),
+        None => Err(Stop::Unread),
+    }
+}

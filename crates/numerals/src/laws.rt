@@ -1,0 +1,32 @@
+//! What snapping keeps, as contracts of functions that do nothing.
+ghost use Rattle.numerals.specs.Amount.{TextsAreWorth};
+ghost use Rattle.numerals.specs.Laws.{EqualNumeralsSnapAlike, OrderIsKept, GridStays, NumbersAreNumerals};
+
+/// Numerals that are worth the same have one position, however they are written: 1.5, 1.50 and 15e-1.
+#[tactic(auto, using(crate::proofs::Keeping::equal_numerals_snap_alike))]
+pub fn equal_numerals_snap_alike()
+    ensures { EqualNumeralsSnapAlike }
+{}
+
+/// Positions are in the order of the numerals. So the bounding box of snapped positions is the snapped
+/// bounding box.
+#[tactic(auto, using(crate::proofs::Keeping::order_is_kept))]
+pub fn order_is_kept()
+    ensures { OrderIsKept }
+{}
+
+/// A numeral that is worth a whole number of steps has that position.
+#[tactic(auto, using(crate::proofs::Keeping::grid_stays))]
+pub fn grid_stays()
+    ensures { GridStays }
+{}
+
+/// Each number of JSON is a numeral, so `snap` refuses none but those beyond the limits.
+pub fn numbers_are_numerals()
+    ensures { NumbersAreNumerals }
+{}
+
+/// What is printed of a decimal number is a numeral that is worth just that number.
+pub fn texts_are_worth()
+    ensures { TextsAreWorth }
+{}

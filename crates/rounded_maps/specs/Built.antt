@@ -1,0 +1,52 @@
+-- The topology of maps, each in the layer of its name.
+use Rattle.std.specs.Prelude.{◌≡◌, ℕ, List, [], ◌∷◌, Option, map as map_list, ⊤}
+use Rattle.std.specs.FinMap as map
+use Rattle.fixing.specs.declared.feature.FixedFeature.{FixedFeature}
+use Rattle.grid.specs.Place.{Transform}
+use Rattle.reading.specs.Meant.{AreFeatures}
+use Rattle.reading.specs.Plain.{Plain, plain_form, plain_id}
+use Rattle.shapes.specs.Maps.{Features, Layers, with_features}
+use Rattle.shapes.specs.Parts.{properties_text}
+use Rattle.shapes.specs.declared.shape.Shape.{Shape}
+use Rattle.snapping.specs.declared.nearly_shared.clusters.Clusters.{Clusters}
+use Rattle.theory.specs.Lists.{gathered}
+use Rattle.topo.specs.OfMap.{IsOf, IsTopology, seen_parts, the_topology}
+use Rattle.topo.specs.Parts.{TopologyParts}
+use Rattle.rounded_maps.specs.Joined.{AreJoinedWithin}
+use Rattle.rounded_maps.specs.Rounded.{AreRounded}
+use Rattle.rounded_maps.specs.declared.building.BuildRules.{BuildRules}
+use Rattle.rounded_maps.specs.declared.map.RoundedFeature.{RoundedFeature}
+use Rattle.rounded_maps.specs.declared.map.RoundedMap.{RoundedMap}
+
+-- the maps of the texts, with vertices joined that are nearly shared where that is asked
+pub record AreMaps (rules : BuildRules) (texts : List (List ℕ)) (clusters : Option Clusters) (maps : List RoundedMap) : Type 0 where
+  pub read : List RoundedMap
+  pub rounded : AreRounded rules.rounding texts read
+  pub joined : AreJoinedWithin rules.rounding.fixing rules.join_distance clusters read maps
+
+-- a feature of one of the shapes, as plain data
+abbrev pub plain_of : FixedFeature → Shape → Plain
+plain_of f s = record { id = plain_id f.id; properties = properties_text f.props; form = plain_form s }
+
+-- the features that a fixed feature stands for
+abbrev pub plains_of : RoundedFeature → List Plain
+plains_of r = map_list (plain_of r.feature) r.feature.shapes.items
+
+-- the features of a map
+abbrev pub plain_features : RoundedMap → List Plain
+plain_features m = gathered plains_of m.features.items
+
+-- the layers with the features of these maps too, each map with its name: its features are put beside those of that name
+abbrev pub AreLayersWith : Layers → List (List ℕ) → List RoundedMap → Layers → Type 0
+AreLayersWith before [] ms after = after ≡ before
+AreLayersWith before (n ∷ ns) [] after = after ≡ before
+AreLayersWith before (n ∷ ns) (m ∷ ms) after =
+    (features : Features) × (AreFeatures features (plain_features m) × AreLayersWith (with_features before n features) ns ms after)
+
+-- the topology in memory of the features of maps, each in the layer of its name
+pub record IsTopologyOfMaps (grid : Transform) (names : List (List ℕ)) (maps : List RoundedMap) (parts : TopologyParts) : Type 0 where
+  pub layers : Layers
+  pub of_maps : AreLayersWith map.empty names maps layers
+  pub topology : IsTopology grid layers (seen_parts parts)
+  pub computed : seen_parts parts ≡ the_topology grid layers
+  pub of_map : IsOf layers parts

@@ -1,0 +1,55 @@
+-- Shapes whose positions go elsewhere.
+use Rattle.std.specs.Prelude.{◌≢◌, List, [], ◌∷◌, map}
+use Rattle.fixing.specs.declared.raw.RawShape.{RawShape}
+use Rattle.fixing.specs.declared.raw.RawShape.TheVariants as raw
+use Rattle.grid.specs.declared.pos.Pos.{Pos}
+use Rattle.lines.specs.Seen.{positions_of, vertices_of}
+use Rattle.lines.specs.declared.line.Line.{Line}
+use Rattle.lines.specs.declared.ring.Ring.{Ring}
+use Rattle.shapes.specs.declared.shape.Shape as shapes
+use Rattle.shapes.specs.declared.shape.Shape.TheVariants as of
+use Rattle.theory.specs.LinesAndRings.{closed}
+use Rattle.theory.specs.Lists.{Has, gathered}
+use Rattle.theory.specs.Topology.{Shape, null, point, points, line, lines, polygon, polygons}
+
+-- the positions of a shape
+abbrev pub places_in : shapes.Shape → List Pos
+places_in of.Null = []
+places_in (of.Point p) = p ∷ []
+places_in (of.MultiPoint ps) = ps
+places_in (of.Line l) = positions_of l
+places_in (of.MultiLine ls) = gathered positions_of ls
+places_in (of.Polygon rs) = gathered vertices_of rs
+places_in (of.MultiPolygon ps) = gathered (gathered vertices_of) ps
+
+-- one of the positions goes elsewhere
+abbrev pub Moves : (Pos → Pos) → List Pos → Type 0
+Moves f ps = (p : Pos) × Has p ps × (f p ≢ p)
+
+-- the positions of a line, where they go
+abbrev pub moved_line : (Pos → Pos) → Line → List Pos
+moved_line f l = map f (positions_of l)
+
+-- and of a ring, with the closing repeat
+abbrev pub moved_ring : (Pos → Pos) → Ring → List Pos
+moved_ring f r = closed (map f (vertices_of r))
+
+-- a shape whose positions are where they go, its rings with the closing repeat
+abbrev pub moved_shape : (Pos → Pos) → shapes.Shape → Shape Pos
+moved_shape f of.Null = null
+moved_shape f (of.Point p) = point (f p)
+moved_shape f (of.MultiPoint ps) = points (map f ps)
+moved_shape f (of.Line l) = line (moved_line f l)
+moved_shape f (of.MultiLine ls) = lines (map (moved_line f) ls)
+moved_shape f (of.Polygon rs) = polygon (map (moved_ring f) rs)
+moved_shape f (of.MultiPolygon ps) = polygons (map (map (moved_ring f)) ps)
+
+-- a shape of lists of positions
+abbrev pub seen_raw : RawShape → Shape Pos
+seen_raw raw.Null = null
+seen_raw (raw.Point p) = point p
+seen_raw (raw.MultiPoint ps) = points ps.items
+seen_raw (raw.Line ps) = line ps.items
+seen_raw (raw.MultiLine ls) = lines (map (λ l. l.items) ls.items)
+seen_raw (raw.Polygon rs) = polygon (map (λ r. r.items) rs.items)
+seen_raw (raw.MultiPolygon ps) = polygons (map (λ p. map (λ r. r.items) p.items) ps.items)
