@@ -170,11 +170,19 @@ BASH_FIND = r"""    for word in "${COMP_WORDS[@]:1:COMP_CWORD-1}"; do
         esac
     done"""
 
+ZSH_LAYERS = """A layer's name is typed; behind its `=` comes a file.
+_PROGRAM_layers() {
+    if compset -P '*='; then _files; else _message 'a name of a layer, and ='; fi"""
+
+# A file may stand alone.
+ZSH_NAMED = """A file, or a layer's name, which is typed, a `=` and a file.
+_PROGRAM_layers() {
+    compset -P '*='
+    _files"""
+
 ZSH = """#compdef PROGRAM
 # Completion of PROGRAM for zsh: put it into a folder of $fpath. Made by docs/manual.py.
-# A layer's name is typed; behind its `=` comes a file.
-_PROGRAM_layers() {
-    if compset -P '*='; then _files; else NAMELESS; fi
+# LAYERS
 }
 _PROGRAM() {
 BODY
@@ -228,7 +236,8 @@ def zsh_option(of, row):
     letter, option, value = row.option()
     text = re.sub(r"([\[\]:\\])", r"\\\1", row.text)
     if value is None:
-        return f"'(- *)'{{{letter},{option}}}{quoted(f'[{text}]')}" if letter else quoted(f"{option}[{text}]")
+        alone = "- *" if option in ("--help", "--version") else f"{letter} {option}"
+        return f"'({alone})'{{{letter},{option}}}{quoted(f'[{text}]')}" if letter else quoted(f"{option}[{text}]")
     words = values_of(of, option)
     takes = "_files" if value in ("FILE", "PATH") else f"({' '.join(words)})" if words else " "
     told = f"[{text}]:{value}:{takes}"
@@ -252,8 +261,7 @@ def zsh(program, whole, commands):
         body = ZSH_COMMANDS.replace("COMMANDS", "\n".join(told)).replace("CASES", "\n".join(cases)).replace("GENERAL", general)
     else:
         body = "    " + zsh_arguments(program, [program], whole, f"*:[NAME=]FILE:_{program}_layers", " " * 8)
-    nameless = "_message 'a name of a layer, and ='" if commands else "_files"
-    return ZSH.replace("BODY", body).replace("NAMELESS", nameless).replace("PROGRAM", program)
+    return ZSH.replace("BODY", body).replace("LAYERS", ZSH_LAYERS if commands else ZSH_NAMED).replace("PROGRAM", program)
 
 
 def made_of(program):

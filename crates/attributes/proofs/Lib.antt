@@ -1,0 +1,5 @@
+pub mod Cut
+pub mod Scaling
+pub mod Keeping
+pub mod Whole
+pub mod Loops

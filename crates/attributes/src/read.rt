@@ -62,14 +62,7 @@ pub fn read_attributes(
     ensures refused { result ≡ Err Unread.Faulty → attributes_faults rules.now (seen_member id.entry) (seen_member properties.entry) ≢ [] }
 {
     let mut reals = 0u64;
-    let value = id_value(rules, id, properties);
-    let id = read_id(
-        alloc,
-        rules.id.is_some(),
-        rules.refuses_reals,
-        value,
-        &mut reals,
-    )?;
+    let id = read_id(alloc, rules, id, properties, &mut reals)?;
     let props = read_properties(alloc, rules, properties, &mut reals)?;
     Ok(Attributes { id, props, reals })
 }

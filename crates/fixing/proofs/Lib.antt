@@ -5,10 +5,13 @@ pub mod LoopLaws
 pub mod OddUses
 pub mod ProvedLaws
 pub mod Judged
+pub mod Parts
+pub mod RingsMade
 pub mod PolygonsStay
+pub mod Reversed
 pub mod TurnLaws
 pub mod AreaSteps
 pub mod PolygonSteps
-pub mod Counting
 pub mod PolygonLaws
 pub mod CrossSteps
+pub mod Fixable

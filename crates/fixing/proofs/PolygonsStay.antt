@@ -34,7 +34,7 @@ module _ (rules : FixingRules) (P : List Pos → Type 0) (stays : (l : List Pos)
       ∙ holes_stay holes (rings ++ (hole ∷ [])) h.1
       ∙ ap (λ w. Some (w ∷ [])) (append_assoc rings (hole ∷ []) holes)
 
-  kept_stays : (rings : List (List Pos)) → Each P rings → polygon_kept rules rings ≡ Some (rings ∷ [])
+  pub kept_stays : (rings : List (List Pos)) → Each P rings → polygon_kept rules rings ≡ Some (rings ∷ [])
   kept_stays [] h = refl
   kept_stays (outer ∷ holes) h =
       ap (λ o. option_and_then (λ loops. with_holes rules holes (polygons_of_loops (turns_left outer) loops)) o) (stays outer h.0)

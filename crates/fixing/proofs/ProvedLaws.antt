@@ -20,7 +20,7 @@ use Rattle.fixing.proofs.LoopLaws as loop
 use Rattle.fixing.proofs.OddUses.{odd_uses}
 use Rattle.fixing.proofs.PolygonLaws.{polygon_each}
 use Rattle.fixing.proofs.PolygonsStay.{all_stay, none_counted, polygon_stays}
-use Rattle.fixing.proofs.TurnLaws.{turned_turns}
+use Rattle.fixing.proofs.TurnLaws.{rewound_stays, turned_turns}
 use Rattle.fixing.proofs.RunLaws.{runs_are_lines, segments_once}
 
 Each-weaker : (P Q : List Pos → Type 0) → ((l : List Pos) → P l → Q l) → (ls : List (List Pos)) → Each P ls → Each Q ls
@@ -99,4 +99,7 @@ sound_polygons_stay rules polygon fixes keep h = (
 )
 
 pub turned_rings_turn : law.TurnedRingsTurn
-turned_rings_turn is_outer l f g n = turned_turns is_outer l f g n
+turned_rings_turn is_outer l f g n = turned_turns l (record { ahead = f; back = g }) is_outer n
+
+pub turned_rings_stay : law.TurnedRingsStay
+turned_rings_stay rewind is_outer l f g = rewound_stays rewind is_outer l (record { ahead = f; back = g })

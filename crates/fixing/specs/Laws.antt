@@ -14,6 +14,7 @@ use Rattle.fixing.specs.Polygons.{polygon_counted, polygon_kept, polygon_left}
 use Rattle.fixing.specs.Runs.{first_uses, runs_of}
 use Rattle.fixing.specs.Uses.{uses}
 use Rattle.fixing.specs.declared.rules.Fixes.{Fixes}
+use Rattle.fixing.specs.declared.rules.Rewind.{Rewind}
 use Rattle.fixing.specs.declared.rules.Rewind.TheVariants.{Keep, Rfc7946}
 use Rattle.fixing.specs.declared.rules.FixingRules.{FixingRules}
 use mir.Syntax.{w128}
@@ -90,3 +91,9 @@ abbrev pub TurnedRingsTurn : Type 0
 TurnedRingsTurn =
     (is_outer : Bool) (l : List Pos) → FitsSigned w128 (twice_area l) → FitsSigned w128 (pos 0 -ℤ twice_area l) → twice_area l ≢ pos 0 →
     turns_left (rewound Rfc7946 is_outer l) ≡ is_outer
+
+-- and a ring that was turned stays as it is, with an area or without: turning is idempotent
+abbrev pub TurnedRingsStay : Type 0
+TurnedRingsStay =
+    (rewind : Rewind) (is_outer : Bool) (l : List Pos) → FitsSigned w128 (twice_area l) → FitsSigned w128 (pos 0 -ℤ twice_area l) →
+    rewound rewind is_outer (rewound rewind is_outer l) ≡ rewound rewind is_outer l

@@ -165,7 +165,11 @@ fn turned_round(alloc: Global, closed: &[Pos]) -> Result<Ring, AllocError>
 fn lesser(ring: Ring, other: Ring) -> Ring
     ensures { result ≡ (if is_lt (list_cmp (vertices_of other) (vertices_of ring)) then other else ring) }
 {
-    if other < ring { other } else { ring }
+    if other.cmp(&ring).is_lt() {
+        other
+    } else {
+        ring
+    }
 }
 
 /// A ring turned as it is wanted: an outer one, or a hole. Without an area it turns as the lesser of its two directions does.

@@ -3,7 +3,7 @@ ghost use Rattle.fixing.specs.Left.{all_left};
 ghost use Rattle.fixing.specs.Polygons.{home_of as home_in, home_of_hole as home_in_of_hole, polygon_counted, polygon_kept, polygons_counted, polygons_left, polygons_made, polygons_of as alone, polygons_of_loops as made_of_loops, put_holes as with_these, put_others as with_others, put_ring as with_ring, ring_made, rings_made, turns_to as is_turned_to};
 ghost use Rattle.fixing.specs.Seen.{lists_in, polygons_in};
 ghost use Rattle.lines.specs.Seen.{vertices_of};
-ghost use Rattle.std.specs.Prelude.{◌≡◌, IfErr, IfOk, OnOk, None, Some, map, not, option_map};
+ghost use Rattle.std.specs.Prelude.{◌≡◌, IfErr, IfOk, OnOk, None, Some, map, not, option_map, true};
 ghost use Rattle.theory.specs.TopologyFunction.{keep};
 
 use crate::broken::Broken;

@@ -1,5 +1,5 @@
 -- Maps whose nearly shared vertices are joined.
-use Rattle.std.specs.Prelude.{◌≡◌, ◌⊎◌, ◌<◌, ℕ, List, [], ◌∷◌, ◌++◌, Option, Some, None, map, ⊤}
+use Rattle.std.specs.Prelude.{◌≡◌, ◌⊎◌, ◌<◌, ℕ, List, [], ◌∷◌, ◌++◌, Option, Some, None, Bool, true, false, map, ⊤}
 use Rattle.std.specs.List.Sorted.{IsPermutation}
 use Rattle.compare.specs.declared.quality.vertex.VertexUse.{VertexUse}
 use Rattle.fixing.specs.Counts.{no_fixes, sum_of_fixes}
@@ -86,3 +86,8 @@ pub record AreCountsOf (maps : List RoundedMap) (counts : VertexCounts) : Type 0
   pub uses : List VertexUse
   pub of : AreVertexUses maps uses
   pub counts : AreCounts uses 1 counts
+
+-- they are counted where that is asked
+abbrev pub AreCountsIf : Bool → List RoundedMap → Option VertexCounts → Type 0
+AreCountsIf asked maps None = asked ≡ false
+AreCountsIf asked maps (Some counts) = (asked ≡ true) × AreCountsOf maps counts

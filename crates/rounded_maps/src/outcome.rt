@@ -1,6 +1,6 @@
 //! What became of a map, as it is reported.
-ghost use Rattle.fixing.specs.Counts.{AreCounted, no_fixes, told_from, total_from};
-ghost use Rattle.std.specs.Prelude.{◌≡◌, IfOk, map as map_list, vec_len};
+ghost use Rattle.fixing.specs.Counts.{no_fixes, told_from, total_from};
+ghost use Rattle.std.specs.Prelude.{◌≡◌, IfOk, map as map_list};
 
 use crate::map::{RoundedFeature, RoundedMap};
 use decimal_maps::Tally;
@@ -23,17 +23,16 @@ pub struct Outcome {
 }
 
 impl Outcome {
+    ghost use Rattle.rounded_maps.specs.Outcomes.{IsOutcome};
+
     /// Whether anything was lost or split.
     pub fn is_lossy(&self) -> bool {
         self.tally.heights > 0 || self.reals > 0 || self.fixes.any()
     }
 
     /// What became of a map.
-    pub fn of(alloc: Global, map: &RoundedMap) -> Result<Outcome, OutOfMemory>
-        ensures features { IfOk result (λ o. o.features ≡ vec_len map.now.features) }
-        ensures tally { IfOk result (λ o. o.tally ≡ map.now.tally) }
-        ensures reals { IfOk result (λ o. o.reals ≡ map.now.reals) }
-        ensures fixes { IfOk result (λ o. AreCounted o.fixes o.fixed.items (map_list (λ f. f.fixes) map.now.features.items)) }
+    pub(crate) fn of(alloc: Global, map: &RoundedMap) -> Result<Outcome, OutOfMemory>
+        ensures { IfOk result (IsOutcome map.now) }
     {
         Ok(Outcome {
             features: map.features.len(),
