@@ -64,9 +64,7 @@ fn read_of<'t>(
     Ok(Lookup::Read((coordinates, tally)))
 }
 
-impl<'t> TakeMember<'t> for SimpleMembers {
-    type On = GeometryStart;
-
+impl<'t> TakeMember<'t, GeometryStart> for SimpleMembers {
     ghost knows = { λ on m ms. KnowsSimple on m ms };
 
     fn take(

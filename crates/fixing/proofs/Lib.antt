@@ -10,6 +10,7 @@ pub mod RingsMade
 pub mod PolygonsStay
 pub mod Reversed
 pub mod TurnLaws
+pub mod TurnedAgain
 pub mod AreaSteps
 pub mod PolygonSteps
 pub mod PolygonLaws

@@ -31,10 +31,12 @@ pub fn sound_shapes_stay()
     ensures polygons { law.SoundPolygonsStay }
 {}
 
-/// Rings that are turned turn as they are wanted, and turning them again changes nothing.
+/// Rings that are turned turn as they are wanted, and turning them again changes nothing: neither their lists, nor the rings
+/// that are made of these.
 pub fn turned_rings_turn()
     ensures turn { law.TurnedRingsTurn }
     ensures stay { law.TurnedRingsStay }
+    ensures made { law.RingsMadeStay }
 {}
 
 /// A line, a ring or a geometry is refused exactly where it has a fault that the rules don't fix, or is a GeometryCollection

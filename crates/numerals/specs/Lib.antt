@@ -1,6 +1,6 @@
 pub mod Nearest
 pub mod Numeral
-pub mod Tenths
+pub mod Floor
 pub mod Short
 pub mod Offset
 pub mod Amount

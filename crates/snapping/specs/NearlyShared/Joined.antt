@@ -37,9 +37,8 @@ wide_in c = c.wide.items
 pub record AreJoined (n : ℕ) (pairs : List (Pos × Pos)) (c : Clusters) : Type 0 where
   -- each position goes where it should
   pub goes : (p : Pos) → Goes n pairs p (target_in c p)
-  -- those that go elsewhere, each once
+  -- those that go elsewhere
   pub moved : (p : Pos) → Has p (moved_in c) ↔ (target_in c p ≢ p)
-  pub once : IsStrictlySortedBy position_cmp (moved_in c)
   -- the least position of each component that isn't narrow, in order
   pub wide : (r : Pos) → Has r (wide_in c) ↔ (IsLeastOf pairs r r × (¬ IsNarrow n pairs r))
   pub ascend : IsStrictlySortedBy position_cmp (wide_in c)

@@ -1,5 +1,6 @@
 -- Shapes whose positions go elsewhere.
-use Rattle.std.specs.Prelude.{◌≢◌, List, [], ◌∷◌, map}
+use Rattle.std.specs.Prelude.{◌≢◌, List, map}
+use Rattle.compare.specs.declared.quality.vertex.VertexUse.{VertexUse}
 use Rattle.fixing.specs.declared.raw.RawShape.{RawShape}
 use Rattle.fixing.specs.declared.raw.RawShape.TheVariants as raw
 use Rattle.grid.specs.declared.pos.Pos.{Pos}
@@ -8,23 +9,14 @@ use Rattle.lines.specs.declared.line.Line.{Line}
 use Rattle.lines.specs.declared.ring.Ring.{Ring}
 use Rattle.shapes.specs.declared.shape.Shape as shapes
 use Rattle.shapes.specs.declared.shape.Shape.TheVariants as of
+use Rattle.snapping.specs.NearlyShared.Uses.{shape_uses}
 use Rattle.theory.specs.LinesAndRings.{closed}
-use Rattle.theory.specs.Lists.{Has, gathered}
+use Rattle.theory.specs.Lists.{Has}
 use Rattle.theory.specs.Topology.{Shape, null, point, points, line, lines, polygon, polygons}
 
--- the positions of a shape
-abbrev pub places_in : shapes.Shape → List Pos
-places_in of.Null = []
-places_in (of.Point p) = p ∷ []
-places_in (of.MultiPoint ps) = ps
-places_in (of.Line l) = positions_of l
-places_in (of.MultiLine ls) = gathered positions_of ls
-places_in (of.Polygon rs) = gathered vertices_of rs
-places_in (of.MultiPolygon ps) = gathered (gathered vertices_of) ps
-
--- one of the positions goes elsewhere
-abbrev pub Moves : (Pos → Pos) → List Pos → Type 0
-Moves f ps = (p : Pos) × Has p ps × (f p ≢ p)
+-- one of the vertices of a shape goes elsewhere
+abbrev pub Moves : (Pos → Pos) → shapes.Shape → Type 0
+Moves f s = (u : VertexUse) × Has u (shape_uses 0 s) × (f u.at ≢ u.at)
 
 -- the positions of a line, where they go
 abbrev pub moved_line : (Pos → Pos) → Line → List Pos

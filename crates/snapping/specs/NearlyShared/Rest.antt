@@ -1,5 +1,5 @@
 -- Positions of pairs, each with those that stand beside it, while components are taken out.
-use Rattle.std.specs.Prelude.{◌≡◌, ◌⊎◌, ◌↔◌, cond, List, [], ◌∷◌, ◌++◌, Option, Some, None, IsSome, Vec}
+use Rattle.std.specs.Prelude.{◌≡◌, ◌⊎◌, ◌↔◌, ℕ, Bool, true, false, cond, List, [], ◌∷◌, ◌++◌, Option, Some, None, IsSome, Vec}
 use Rattle.std.specs.BTreeMap.{BTreeMap, get, Updates}
 use Rattle.std.specs.Ordering.{is_eq}
 use Rattle.std.specs.declared.alloc.Global.{Global}
@@ -7,7 +7,7 @@ use Rattle.grid.specs.declared.pos.Pos.{Pos}
 use Rattle.lines.specs.Pairs.{position_eq}
 use Rattle.lines.specs.Turned.{position_cmp}
 use Rattle.theory.specs.Lists.{Has}
-use Rattle.snapping.specs.NearlyShared.Connected.{Connected}
+use Rattle.snapping.specs.NearlyShared.Connected.{Connected, are_within}
 
 -- a table of the positions beside positions
 abbrev pub Table : Type 0
@@ -60,3 +60,8 @@ Takes first others old new members =
 abbrev pub moved_to : Pos → List Pos → Pos → Option Pos → Option Pos
 moved_to first [] q o = o
 moved_to first (p ∷ ps) q o = moved_to first ps q (cond (position_eq p first) o (cond (is_eq (position_cmp p q)) (Some first) o))
+
+-- whether each of the positions is at most n steps from r
+abbrev pub all_within : ℕ → Pos → List Pos → Bool
+all_within n r [] = true
+all_within n r (p ∷ ps) = cond (are_within n r p) (all_within n r ps) false

@@ -3,10 +3,10 @@ ghost use Rattle.grid.specs.declared.pos.Pos as positions;
 ghost use Rattle.lines.specs.Turned.{position_cmp};
 ghost use Rattle.snapping.specs.NearlyShared.Connected.{are_within};
 ghost use Rattle.snapping.specs.NearlyShared.Joined.{AreJoined, moved_in, positions_in, target_in, wide_in};
-ghost use Rattle.snapping.specs.NearlyShared.Rest.{moved_to};
+ghost use Rattle.snapping.specs.NearlyShared.Rest.{all_within, moved_to};
 ghost use Rattle.std.specs.BTreeMap.{get};
-ghost use Rattle.std.specs.List.{AllByRecursion};
-ghost use Rattle.std.specs.Prelude.{◌≡◌, ◌↔◌, IfOk, IsTrue, OnOk, [], length, slice_get, true};
+ghost use Rattle.std.specs.List.Sorted.{IsStrictlySortedBy};
+ghost use Rattle.std.specs.Prelude.{◌≡◌, ◌↔◌, IfOk, IsTrue, OnOk, [], length, slice_get};
 
 use crate::nearly_shared::component::take_component;
 use crate::nearly_shared::neighbours::neighbours_of;
@@ -39,7 +39,8 @@ impl Clusters {
 
     /// How many positions are moved.
     pub fn len(&self) -> usize
-        ensures { result ≡ length (moved_in self.now) }
+        ensures count { result ≡ length (moved_in self.now) }
+        ensures once { IsStrictlySortedBy position_cmp (moved_in self.now) }
     {
         self.moves.len()
     }
@@ -75,7 +76,7 @@ fn is_within(most: u32, one: Pos, other: Pos) -> bool
 
 /// Whether each of the positions is at most so many steps from the first one.
 fn is_narrow(most: u32, first: Pos, members: &[Pos]) -> bool
-    ensures { IsTrue result ↔ AllByRecursion (λ q. are_within most first q ≡ true) members.now }
+    ensures { result ≡ all_within most first members.now }
 {
     for member in members {
         if !is_within(most, first, *member) {

@@ -1,12 +1,10 @@
 //! Shapes whose positions are moved to where their vertices are joined.
-ghost use Rattle.grid.specs.declared.pos.Pos.{Pos};
-ghost use Rattle.lines.specs.Seen.{positions_of, vertices_of};
 ghost use Rattle.snapping.specs.NearlyShared.Joined.{target_in};
-ghost use Rattle.snapping.specs.NearlyShared.Moved.{Moves, moved_line, moved_ring, moved_shape, places_in, seen_raw};
+ghost use Rattle.snapping.specs.NearlyShared.Moved.{Moves, moved_line, moved_ring, moved_shape, seen_raw};
 ghost use Rattle.std.specs.Prelude.{◌≡◌, ◌↔◌, IfOk, IsTrue, map};
-ghost use Rattle.theory.specs.Lists.{gathered};
 
 use crate::nearly_shared::clusters::Clusters;
+use crate::nearly_shared::vertices::note_shape;
 use faults::OutOfMemory;
 use fixing::raw::RawShape;
 use grid::pos::Pos;
@@ -16,56 +14,19 @@ use lines::ring::Ring;
 use shapes::shape::Shape;
 use std::alloc::Global;
 
-/// Whether one of the positions is moved.
-fn moves_position(clusters: &Clusters, positions: &[Pos]) -> bool
-    ensures { IsTrue result ↔ Moves (target_in clusters.now) positions.now }
-{
-    for position in positions {
-        if clusters.target(*position) != *position {
-            return true;
-        }
-    }
-    false
-}
-
-fn moves_line(clusters: &Clusters, lines: &[Line]) -> bool
-    ensures { IsTrue result ↔ Moves (target_in clusters.now) (gathered positions_of lines.now) }
-{
-    lines
-        .iter()
-        .any(|line| moves_position(clusters, line.positions()))
-}
-
-fn moves_ring(clusters: &Clusters, rings: &[Ring]) -> bool
-    ensures { IsTrue result ↔ Moves (target_in clusters.now) (gathered vertices_of rings.now) }
-{
-    rings
-        .iter()
-        .any(|ring| moves_position(clusters, ring.vertices()))
-}
-
-fn moves_polygon(clusters: &Clusters, polygons: &[Items<Ring>]) -> bool
-    ensures { IsTrue result ↔ Moves (target_in clusters.now) (gathered (gathered vertices_of) polygons.now) }
-{
-    polygons
-        .iter()
-        .any(|rings| moves_ring(clusters, rings.as_slice()))
-}
-
 impl Clusters {
-    /// Whether a position of a shape is moved.
-    pub fn moves_any(&self, shape: &Shape) -> bool
-        ensures { IsTrue result ↔ Moves (target_in self.now) (places_in shape.now) }
+    /// Whether a vertex of a shape is moved.
+    pub fn moves_any(&self, alloc: Global, shape: &Shape) -> Result<bool, OutOfMemory>
+        ensures { IfOk result (λ b. IsTrue b ↔ Moves (target_in self.now) shape.now) }
     {
-        match shape {
-            Shape::Null => false,
-            Shape::Point(position) => self.target(*position) != *position,
-            Shape::MultiPoint(positions) => moves_position(self, positions.as_slice()),
-            Shape::Line(line) => moves_position(self, line.positions()),
-            Shape::MultiLine(lines) => moves_line(self, lines.as_slice()),
-            Shape::Polygon(rings) => moves_ring(self, rings.as_slice()),
-            Shape::MultiPolygon(polygons) => moves_polygon(self, polygons.as_slice()),
+        let mut uses = Vec::new(alloc);
+        note_shape(&mut uses, 0, shape)?;
+        for used in &uses {
+            if self.target(used.at) != used.at {
+                return Ok(true);
+            }
         }
+        Ok(false)
     }
 }
 
@@ -103,8 +64,8 @@ fn join_ring(alloc: Global, clusters: &Clusters, ring: &Ring) -> Result<Vec<Pos>
     ensures { IfOk result (λ v. v.items ≡ moved_ring (target_in clusters.now) ring.now) }
 {
     let mut moved = join_positions(alloc, clusters, ring.vertices())?;
-    if let Some(first) = ring.vertices().first() {
-        moved.push(clusters.target(*first))?;
+    if let Some(first) = moved.first().copied() {
+        moved.push(first)?;
     }
     Ok(moved)
 }

@@ -1,0 +1,17 @@
+//! All faults of GeoJSON texts in decimal numbers that the fixing rules leave, and the reader of a tree that has none.
+//!
+//! A part of a tree is given by the list of its faults, in the order of their paths and then of their numbers, and by what
+//! it means. It is judged, which gives all its faults, or made, which gives what it means where it has none.
+#![tactic(auto)]
+
+mod coordinates;
+mod feature;
+pub mod geometry;
+mod lists;
+mod members;
+mod outline;
+mod part;
+mod position;
+mod root;
+
+pub use root::{faults, read_value};
