@@ -2,8 +2,8 @@
 
     python3 tests/refused_memory.py [--seconds N]
 
-A run has to give the right answer, or status 5, nothing on standard output and the line for want of memory;
-while the words of the command are read, it may also be status 2 with the reader's text. tests/refusing.py tells what
+A run has to give the right answer, or status 5, nothing on standard output and the line for want of memory, perhaps
+behind the report of togrid; while the words of the command are read, it may also be status 2 with the reader's text. tests/refusing.py tells what
 is needed, and how the runs stop. Ends with a line of counts, and with status 1 where a run did anything else, or where
 they were too few.
 """
@@ -111,14 +111,19 @@ class Kinds:
     """Tells what kind of run it was. While the words of a command are read, status 2 is right too: so long as it has made
     no more requests than where no file is there, when the words are read and little more is done."""
 
-    def __init__(self, program, commands):
-        self.front = f"{os.path.basename(program.name)}: ".encode()
+    def __init__(self, name, program, commands):
+        self.front = f"{name}: ".encode()
         with tempfile.TemporaryDirectory() as empty:
             self.of_words = {tuple(it): program.asked(it, empty)[1] for it in commands}
 
+    def lines(self, task):
+        """The line for want of memory; also behind the report of togrid, which comes before what is printed."""
+        line = self.front + b"20 OutOfMemory\n"
+        return line, (task.right[2] if task.right[0] in (0, 1) else b"") + line
+
     def __call__(self, task, end):
         status, printed, said = end
-        if end == (5, b"", self.front + b"20 OutOfMemory\n"):
+        if end[:2] == (5, b"") and end[2] in self.lines(task):
             return "status 5"
         if end == task.right:
             return "as with ample memory"
@@ -137,7 +142,7 @@ def judge(name):
     with refusing.program(name.upper(), name) as program:
         commands = of_program(program)
         program.given = given
-        tally = program.judge(commands, Kinds(program, commands))
+        tally = program.judge(commands, Kinds(name, program, commands))
         left = [it for it in os.listdir(program.folder) if it.startswith("out.json")]
     if left:
         print(f"left beside a file that was not written: {left}")
