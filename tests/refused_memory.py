@@ -3,9 +3,9 @@
     python3 tests/refused_memory.py [--seconds N]
 
 A run has to give the right answer, or status 5, nothing on standard output and the line for want of memory, perhaps
-behind the report of togrid; while the words of the command are read, it may also be status 2 with the reader's text. tests/refusing.py tells what
-is needed, and how the runs stop. Ends with a line of counts, and with status 1 where a run did anything else, or where
-they were too few.
+behind the report of togrid. While the words of the command are read, it may also be status 2 with the reader's text.
+tests/refusing.py tells what is needed, and how the runs stop; the limit of time is for each program. Ends with lines of
+counts, and with status 1 where a run did anything else, or where they were too few.
 """
 
 import os
