@@ -10,7 +10,7 @@ use Rattle.fixing.specs.declared.rules.FixingRules.{FixingRules}
 use Rattle.grid.specs.declared.pos.Pos.{Pos}
 use Rattle.shapes.specs.declared.shape.Shape.{Shape}
 use Rattle.snapping.specs.NearlyShared.Joined.{AreClusters, target_in}
-use Rattle.snapping.specs.NearlyShared.Moved.{Moves, moved_shape, places_in}
+use Rattle.snapping.specs.NearlyShared.Moved.{Moves, moved_shape}
 use Rattle.snapping.specs.NearlyShared.Shared.{AreCounts}
 use Rattle.snapping.specs.NearlyShared.Uses.{shapes_uses}
 use Rattle.snapping.specs.declared.nearly_shared.clusters.Clusters.{Clusters}
@@ -21,13 +21,13 @@ use Rattle.rounded_maps.specs.declared.map.RoundedMap.{RoundedMap}
 
 -- a shape of which a position is moved: what the rules leave of it where the positions go, with what is fixed counted
 pub record IsMovedShape (rules : FixingRules) (f : Pos → Pos) (s : Shape) (left : List Shape) (before after : Fixes) : Type 0 where
-  pub moves : Moves f (places_in s)
+  pub moves : Moves f s
   pub left : geometry_left rules (one (moved_shape f s)) ≡ Some (map plain_shape left)
   pub fixes : after ≡ geometry_counted rules (one (moved_shape f s)) before
 
 -- any other shape stays as it is
 pub record IsKeptShape (f : Pos → Pos) (s : Shape) (left : List Shape) (before after : Fixes) : Type 0 where
-  pub stays : ¬ Moves f (places_in s)
+  pub stays : ¬ Moves f s
   pub left : left ≡ s ∷ []
   pub fixes : after ≡ before
 

@@ -12,7 +12,7 @@ use Rattle.fixing.specs.declared.rules.FixingRules.{FixingRules}
 use Rattle.grid.specs.declared.pos.Pos.{Pos}
 use Rattle.shapes.specs.declared.shape.Shape.{Shape}
 use Rattle.snapping.specs.NearlyShared.Joined.{AreClusters, target_in}
-use Rattle.snapping.specs.NearlyShared.Moved.{Moves, moved_shape, places_in}
+use Rattle.snapping.specs.NearlyShared.Moved.{Moves, moved_shape}
 use Rattle.snapping.specs.declared.nearly_shared.clusters.Clusters.{Clusters}
 use Rattle.theory.specs.Lists.{Has}
 use Rattle.rounded_maps.specs.Joined.{AreVertexUses}
@@ -36,7 +36,7 @@ kind_moved rules f s = kind_left (geometry_left (record rules { splits_folded = 
 
 -- a position of the shape is moved, and the rules refuse it then
 pub record IsRefusedShape (rules : FixingRules) (f : Pos → Pos) (s : Shape) (kind : FaultKind) : Type 0 where
-  pub moves : Moves f (places_in s)
+  pub moves : Moves f s
   pub refused : geometry_left rules (one (moved_shape f s)) ≡ None
   pub kind : kind ≡ kind_moved rules f s
 

@@ -8,7 +8,7 @@ ghost use Rattle.rounded_maps.specs.Unjoined.{HasRefusedShape, IsRefusedShape, I
 ghost use Rattle.rounded_maps.specs.declared.joining.Unjoined.TheVariants.{OutOfMemory as WantOfMemory};
 ghost use Rattle.shapes.specs.declared.shape.Shape.{Shape as Form};
 ghost use Rattle.snapping.specs.NearlyShared.Joined.{target_in};
-ghost use Rattle.snapping.specs.NearlyShared.Moved.{Moves, moved_shape, places_in};
+ghost use Rattle.snapping.specs.NearlyShared.Moved.{Moves, moved_shape};
 ghost use Rattle.std.specs.Prelude.{◌≡◌, ◌⊎◌, ◌∷◌, ◌++◌, [], IfErr, IfOk, List, None, OnOk, Some, codes, map};
 
 use crate::map::{RoundedFeature, RoundedMap};
@@ -98,7 +98,7 @@ fn join_moved(
 ) -> Result<Vec<Shape>, Unjoined>
     ensures left { IfOk result (λ left. geometry_left rules.now (one (moved_shape (target_in clusters.now) shape)) ≡ Some (map plain_shape left.items)) }
     ensures fixes { OnOk result (fixes.new ≡ geometry_counted rules.now (one (moved_shape (target_in clusters.now) shape)) fixes.old) }
-    ensures refused { Moves (target_in clusters.now) (places_in shape) → IfErr result (RefusesFor (IsRefusedShape rules.now (target_in clusters.now) shape)) }
+    ensures refused { Moves (target_in clusters.now) shape → IfErr result (RefusesFor (IsRefusedShape rules.now (target_in clusters.now) shape)) }
 {
     let before = shape.copy(alloc)?;
     match fix_moved(alloc, shape, clusters, rules, fixes) {
@@ -133,7 +133,7 @@ fn join_one(
     ensures ok { OnOk result ((left : List Form) × (joined.new.items ≡ joined.old.items ++ left) × IsJoinedShape rules.now (target_in clusters.now) shape left fixes.old fixes.new) }
     ensures err { IfErr result (RefusesFor (IsRefusedShape rules.now (target_in clusters.now) shape)) }
 {
-    if !clusters.moves_any(&shape) {
+    if !clusters.moves_any(alloc, &shape)? {
         joined.push(shape)?;
         return Ok(());
     }
