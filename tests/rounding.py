@@ -558,7 +558,11 @@ def moved(coordinates, moves):
 # ---- files
 
 class Refused(Exception):
-    """What the moves of --snap collapse or fold is refused."""
+    """What the moves of --snap collapse or fold is refused: the error of a feature."""
+
+    def __init__(self, feature, number):
+        super().__init__(feature, number)
+        self.error = (("features", feature), number)
 
 
 class File:
@@ -583,8 +587,9 @@ class File:
             if shape:
                 shape = (shape[0], moved(shape[1], moves))
             shapes = fixer.shapes([shape], False)
-            if self.options.collapsed == "refuse" and fixer.fixes["collapsed"] or self.options.folded == "refuse" and fixer.fixes["folded"]:
-                raise Refused
+            for name, number in ("collapsed", 8), ("folded", 10):
+                if getattr(self.options, name) == "refuse" and fixer.fixes[name]:
+                    raise Refused(feature.number, number)
             self.take(feature, fixer, shapes)
 
     def count_of(self, name):

@@ -389,10 +389,10 @@ def printed(folder, file, value, asked):
     """What has to be printed of a text without errors, and what is wrong with the run; None, None where the moves are refused."""
     try:
         rounded = rounding.Rounded([value], asked)
-    except rounding.Refused:
-        ran = togrid("-q", *asked.words(), file)
-        is_right = ran.returncode == 4 and not ran.stdout and (b" 8 TooShort $" in ran.stderr or b" 10 Revisit $" in ran.stderr)
-        return None, None if is_right else f"moves that are refused: {ran.returncode} {ran.stderr!r}"
+    except rounding.Refused as refused:
+        ran, line = togrid("-q", *asked.words(), file), rounding.first_line(file, refused.error, asked)
+        is_right = (ran.returncode, ran.stdout, ran.stderr.decode()) == (4, b"", line)
+        return None, None if is_right else f"moves that are refused: {ran.returncode} {ran.stderr!r}, wanted {line}"
     text = rounding.text_of(rounded.files[0].features)
     report = "".join(f"{it}\n" for it in rounding.report_lines(rounded, [file])).encode()
     ran = togrid("--strict", "--report", f"{folder}/report.json", *asked.words(), f"map={file}")
