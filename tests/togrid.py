@@ -427,11 +427,17 @@ def has_great_number(text):
     return any(abs(float(it)) == float("inf") for it in re.findall(rb"-?\d+(?:\.\d+)?(?:[eE][-+]?\d+)?", text))
 
 
+def is_deep(text):
+    """Whether values of a text nest more than 127 deep, as brackets do outside of strings."""
+    brackets = re.findall(rb"[][{}]", re.sub(rb'"(?:[^"\\]|\\.)*"', b"", text))
+    return max(itertools.accumulate(1 if it in b"[{" else -1 for it in brackets), default=0) > faults.DEEPEST_TEXT
+
+
 def compared(line, text):
-    """What is compared of a line of --faults: not the member that 13 names; and of a text with a number past all floats, by
-    which no id is found, neither an id, nor where it stops being JSON."""
+    """What is compared of a line of --faults: not the member that 13 names; and of a text that not every reader of JSON takes,
+    by a number past all floats or its depth, neither an id, nor where it stops being JSON."""
     line = re.sub(r'( 13 PropertyNumber .*) member ".*', r"\1", line)
-    if has_great_number(text):
+    if has_great_number(text) or is_deep(text):
         line = re.sub(r"^.*:\d+:\d+:( 1 NotJson)", r"\1", re.sub(r' id (-?\d+|".*")$', "", line))
     return line
 
