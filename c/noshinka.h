@@ -88,10 +88,11 @@ uint32_t noshinka_version(void);
 noshinka_outcome noshinka_build(const noshinka_grid *grid, const noshinka_source *sources, size_t count,
                                 uint8_t *room, size_t size);
 
-/* A GeoJSON text whose coordinates are decimal numbers, with each replaced by the nearest whole number of steps, so that a
- * build on the grid 1, 1, 0, 0 accepts it. The step is a decimal number without a sign, as 0.25 or 1e-6. If its length is
- * 0, the text is in degrees: steps of 0.000001, and numbers beyond 180 and 90 are refused. Heights are left out, and numbers
- * with a fraction in properties become texts. Lines and rings of which too few positions are left are refused. */
+/* The features of a GeoJSON text whose coordinates are decimal numbers, as a FeatureCollection in which each is replaced by
+ * the nearest whole number of steps, so that a build on the grid 1, 1, 0, 0 accepts it: what togrid prints. The step is a
+ * decimal number without a sign, as 0.25 or 1e-6. If its length is 0, the text is in degrees: steps of 0.000001, and numbers
+ * beyond 180 and 90 are refused. Heights are left out, and numbers with a fraction in properties become texts. Lines and
+ * rings of which too few positions are left are dropped, those that use a segment twice are split, and so are collections. */
 noshinka_outcome noshinka_snap(const uint8_t *text, size_t length, const uint8_t *step, size_t step_length,
                                uint8_t *room, size_t size);
 

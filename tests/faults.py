@@ -51,6 +51,8 @@ class Value:
 class Reader:
     """Reads one value, with the decoder of the standard library for texts and numbers."""
 
+    deepest = DEEPEST_TEXT
+
     def __init__(self, text):
         self.text, self.at = text, 0
 
@@ -122,7 +124,7 @@ class Reader:
         return Value("int", at, number)
 
     def parts(self, depth, end, part):
-        if depth > DEEPEST_TEXT:
+        if depth > self.deepest:
             raise NotJson(self.at)
         self.at += 1
         self.blank()

@@ -1,11 +1,11 @@
-"""Runs topotool with each of its requests for memory refused in turn, and with all from each on.
+"""Runs topotool and togrid with each of their requests for memory refused in turn, and with all from each on.
 
     python3 tests/refused_memory.py [--seconds N]
 
-A run has to give the right answer, or status 5, nothing on standard output and the line for want of memory;
-while the words of the command are read, it may also be status 2 with the reader's text. tests/refusing.py tells what
-is needed, and how the runs stop. Ends with a line of counts, and with status 1 where a run did anything else, or where
-they were too few.
+A run has to give the right answer, or status 5, nothing on standard output and the line for want of memory, perhaps
+behind the report of togrid. While the words of the command are read, it may also be status 2 with the reader's text.
+tests/refusing.py tells what is needed, and how the runs stop; the limit of time is for each program. Ends with lines of
+counts, and with status 1 where a run did anything else, or where they were too few.
 """
 
 import os
@@ -19,7 +19,6 @@ sys.dont_write_bytecode = True
 import refusing
 from refusing import TOP
 
-WANT = b"topotool: 20 OutOfMemory\n"
 DEEP = '{"type":"Feature","geometry":null,"properties":{"a":' + "[" * 63 + "]" * 63 + "}}"
 TWINS = """{"type":"FeatureCollection","features":[
 {"type":"Feature","id":1,"geometry":{"type":"Point","coordinates":[1,2]},"properties":{"name":"a"}},
@@ -34,13 +33,29 @@ MANY = """{"type":"FeatureCollection","features":[{"type":"Feature","id":7,"geom
 {"type":"Feature","id":"b","geometry":{"type":"Polygon","coordinates":[[[0,0],[1,0]],5]}}]}"""
 FAULTY = """{"type":"Topology","transform":{"scale":[0,1],"translate":[0]},"arcs":[[[0,0],[1,1]]],"objects":{"a":{"type":"LineString","id":1,"arcs":[0,0,5]}}}"""
 LINE = '{"type":"LineString","coordinates":[[2,0],[3,0]]}'
+POINT = '{"type":"Point","coordinates":[7.5,46.25]}'
+FOLDED = """{"type":"FeatureCollection","features":[{"type":"Feature","id":1.5,"geometry":{"type":"MultiPolygon","coordinates":[
+[[[0,0],[4,0],[9,0.2],[4,0.2],[4,4],[0,0]],[[1,0.9],[2,1],[2,2],[1,1]]],[[[7,7],[7.1,7],[7,7.1],[7,7]]]]},"properties":{"b":[2.50,{"c":7}],"a":1e3}},
+{"type":"Feature","geometry":{"type":"LineString","coordinates":[[0,0],[5,0,3],[5,5],[5,0.2],[9,0]]}},{"type":"Feature","geometry":{"type":"LineString","coordinates":[]}}]}"""
+COLLECTION = """{"type":"Feature","id":"x","properties":{"n":1,"area":0.25},"geometry":{"type":"GeometryCollection","geometries":[{"type":"Point","coordinates":[1.4,2]},
+{"type":"GeometryCollection","geometries":[{"type":"LineString","coordinates":[[0,0],[1,1.6]]},{"type":"MultiPoint","coordinates":[[3,3],[4,4]]}]}]}}"""
+NOISY = """{"type":"FeatureCollection","features":[{"type":"Feature","geometry":{"type":"Polygon","coordinates":[[[0,0],[5,0],[5.4,5],[0,5],[0,0]]]},"properties":{"n":1,"area":2}},
+{"type":"Feature","geometry":{"type":"Polygon","coordinates":[[[5,0],[9,0],[9,5],[5.6,5],[5,0]]]},"properties":{"n":2.0,"area":2.5}},
+{"type":"Feature","geometry":{"type":"LineString","coordinates":[[9,6],[9,5]]},"properties":{"n":"b"}}]}"""
+FOREIGN = """{"coordinates":[[1.5]],"features":7,"type":"FeatureCollection","features":[{"geometry":{"coordinates":[[[]]],"type":"MultiPolygon","geometries":5},"features":[],"type":"Feature"}]}"""
+WRONG = """{"type":"FeatureCollection","features":[{"type":"Feature","geometry":{"type":"LineString","coordinates":[[0,0],[0,0]]}},
+{"type":"Feature","id":[],"properties":{"a":1.5},"geometry":{"type":"GeometryCollection","geometries":[{"type":"Polygon","coordinates":[[[0,0],[1,0],[1,1]],5]},{"type":"Point","coordinates":[1e99,"x"]}]}}]}"""
+
+
+def lay(program, texts):
+    for name, text in texts.items():
+        with open(f"{program.folder}/{name}.json", "w", encoding="utf-8") as file:
+            file.write(text)
 
 
 def inputs(program):
     """Puts the texts of the runs into the folder, and gives the command lines."""
-    for name, text in [("deep.json", DEEP), ("twins.json", TWINS), ("loop.json", LOOP), ("line.json", LINE), ("other.json", OTHER), ("broken.json", "{"), ("many.json", MANY), ("faulty.json", FAULTY)]:
-        with open(f"{program.folder}/{name}", "w", encoding="utf-8") as file:
-            file.write(text)
+    lay(program, {"deep": DEEP, "twins": TWINS, "loop": LOOP, "line": LINE, "other": OTHER, "broken": "{", "many": MANY, "faulty": FAULTY})
     for name in ("squares", "west", "east"):
         shutil.copy(f"{TOP}/examples/{name}.json", program.folder)
     builds = [["build", "--grid", "1,1,0,0", f"a={it}.json"] for it in ("squares", "deep", "twins", "loop", "broken")]
@@ -72,36 +87,71 @@ def inputs(program):
     return [*builds, *queries, *merges, *removals, *diffs, *errors, *usages]
 
 
+def rounded(program):
+    """The same for togrid."""
+    lay(program, {"point": POINT, "folded": FOLDED, "collection": COLLECTION, "noisy": NOISY, "foreign": FOREIGN, "wrong": WRONG, "broken": '{"type":"Point"', "deep": DEEP})
+    with open(f"{program.folder}/noisy.topo.json", "wb") as file:
+        words = [program.name, "--build", "-q", "--step", "1", "a=noisy.json"]
+        file.write(subprocess.run(words, cwd=program.folder, stdout=subprocess.PIPE, stderr=subprocess.DEVNULL).stdout)
+    one = ["--step", "1"]
+    plain = [["-q", "point.json"], ["point.json"], ["--strict", "-"], [*one, "folded.json"], ["-q", *one, "collection.json"], [*one, "foreign.json"], ["-q", "deep.json"],
+             [*one, "--rewind", "rfc7946", "folded.json"], [*one, "--snap", "1", "noisy.json"], [*one, "--collapsed", "drop", "--strict", "folded.json"],
+             [*one, "--id", "n", "--reals", "scale:area=10", "noisy.json"], [*one, "-o", ".", "--report", "report.out", "a=point.json", "b=folded.json"]]
+    builds = [["--build", *one, "point.json"], ["--build", *one, "a=folded.json", "a=noisy.json"], ["--build", "-q", *one, "--snap", "2", "a=noisy.json", "b=folded.json"],
+              ["--build", "-q", *one, "a=collection.json"], ["--build", *one, "--report", "report.out", "-o", "built.out", "a=noisy.json"]]
+    wrong = [[*one, "wrong.json"], ["-q", "broken.json"], ["--build", *one, "--folded", "refuse", "a=point.json", "a=folded.json"], [*one, "--collapsed", "refuse", "folded.json"],
+             [*one, "--id", "n", "folded.json"], [*one, "--collections", "refuse", "collection.json"], ["-q", *one, "--reals", "refuse", "folded.json"], ["nowhere.json"]]
+    faults = [["--faults", *one, "wrong.json", "point.json"], ["--faults", *one, "--collapsed", "refuse", "--reals", "refuse", "folded.json"], ["--faults", "broken.json"]]
+    back = [["--back", "noisy.topo.json"], ["--back", "--rewind", "keep", "--step", "0.25", "noisy.topo.json", "-o", "back.out"], ["--back", "point.json"]]
+    usages = [["--help"], ["--version"], ["--step", "0", "point.json"], ["--build", "-", "a=-"], ["--back", "--snap", "1", "noisy.topo.json"]]
+    return [*plain, *builds, *wrong, *faults, *back, *usages]
+
+
 class Kinds:
     """Tells what kind of run it was. While the words of a command are read, status 2 is right too: so long as it has made
     no more requests than where no file is there, when the words are read and little more is done."""
 
-    def __init__(self, program, commands):
+    def __init__(self, name, program, commands):
+        self.front = f"{name}: ".encode()
         with tempfile.TemporaryDirectory() as empty:
             self.of_words = {tuple(it): program.asked(it, empty)[1] for it in commands}
 
+    def lines(self, task):
+        """The line for want of memory; also behind the report of togrid, which comes before what is printed."""
+        line = self.front + b"20 OutOfMemory\n"
+        return line, (task.right[2] if task.right[0] in (0, 1) else b"") + line
+
     def __call__(self, task, end):
         status, printed, said = end
-        if end == (5, b"", WANT):
+        if end[:2] == (5, b"") and end[2] in self.lines(task):
             return "status 5"
         if end == task.right:
             return "as with ample memory"
         is_of_words = task.place <= self.of_words[tuple(task.words)]
-        if is_of_words and status == 2 and not printed and said and not said.startswith(b"topotool: "):
+        if is_of_words and status == 2 and not printed and said and not said.startswith(self.front):
             return "status 2"
         return refusing.WRONG
 
 
-def main():
-    with refusing.program("TOPOTOOL", "topotool") as program:
-        commands = inputs(program)
-        program.given = "0.topo.json"
-        tally = program.judge(commands, Kinds(program, commands))
+PROGRAMS = {"topotool": (inputs, "0.topo.json"), "togrid": (rounded, "point.json")}
+
+
+def judge(name):
+    """Runs the commands of a program; gives whether anything was wrong."""
+    of_program, given = PROGRAMS[name]
+    with refusing.program(name.upper(), name) as program:
+        commands = of_program(program)
+        program.given = given
+        tally = program.judge(commands, Kinds(name, program, commands))
         left = [it for it in os.listdir(program.folder) if it.startswith("out.json")]
     if left:
         print(f"left beside a file that was not written: {left}")
-    print(f"{len(commands)} commands, {tally}")
-    return 1 if left or tally.is_wrong() else 0
+    print(f"{name}: {len(commands)} commands, {tally}")
+    return bool(left) or tally.is_wrong()
+
+
+def main():
+    return 1 if any([judge(name) for name in PROGRAMS]) else 0
 
 
 if __name__ == "__main__":

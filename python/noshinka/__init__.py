@@ -69,13 +69,14 @@ def _snapped(sources: Iterable[Tuple[bytes, bytes]], step: Step) -> Iterator[Tup
 
 
 def snap(text: Text, step: Step = "degrees") -> Answer:
-    """Rounds each coordinate of a GeoJSON text to the nearest whole number of steps.
+    """Rounds each coordinate of a GeoJSON text to the nearest whole number of steps, as togrid does.
 
     `step` is a number in the map's unit, as `0.25` or `"1e-6"`; with `"degrees"` it is 0.000001, and numbers beyond 180 and
     90 are refused. The decimal numbers of the text are used with all their digits; of two numbers that are equally near, it
-    is the one farther from 0. Heights are left out, and numbers with a fraction in properties become texts. The answer is
-    what `build` accepts on the grid `(1, 1, 0, 0)`. Raises `Fault` for a text that is refused, also where too few positions
-    of a line or a ring are left (8), and `Usage` if the step is no number above 0.
+    is the one farther from 0. Heights are left out, and numbers with a fraction in properties become texts. Lines and rings
+    of which too few positions are left are dropped, those that use a segment twice are split, and so are collections. The
+    answer is a FeatureCollection, which `build` accepts on the grid `(1, 1, 0, 0)`. Raises `Fault` for a text that is
+    refused, and `Usage` if the step is no number above 0.
     """
     text, numeral = text_of(text), _step_of(step)
     return _answer(CALLS.snap, 2 * len(text) + 1024, *bytes_lent(text), *bytes_lent(numeral))

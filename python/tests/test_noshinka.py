@@ -102,16 +102,17 @@ class Steps(unittest.TestCase):
     def test_snap(self):
         for step, wanted in (("degrees", [7438633, 46951083]), ("1e-6", [7438633, 46951083]), (0.5, [15, 94]), (decimal.Decimal("0.1"), [74, 470]), (2, [4, 23])):
             text = noshinka.snap(point(7.4386325, 46.9510827), step)
-            self.assertEqual(text.json()["geometry"]["coordinates"], wanted)
+            self.assertEqual(text.json()["features"][0]["geometry"]["coordinates"], wanted)
             self.assertEqual(noshinka.build({"a": point(7.4386325, 46.9510827)}, step=step), noshinka.build({"a": text}))
 
     def test_ties_go_away_from_zero(self):
         line = {"type": "LineString", "coordinates": [[0.5, -0.5], [1.5, 2.5]]}
-        self.assertEqual(noshinka.snap(line, 1), b'{"type":"LineString","coordinates":[[1,-1],[2,3]]}')
+        wanted = b'{"features":[{"geometry":{"coordinates":[[1,-1],[2,3]],"type":"LineString"},"properties":{},"type":"Feature"}],"type":"FeatureCollection"}'
+        self.assertEqual(noshinka.snap(line, 1), wanted)
 
     def test_heights_and_fractions_in_properties(self):
         given = '{"type":"Feature","bbox":[0,0,1,1],"properties":{"area":8810.0400},"geometry":{"type":"Point","coordinates":[1.0,2.0,540]}}'
-        wanted = '{"type":"Feature","properties":{"area":"8810.04"},"geometry":{"type":"Point","coordinates":[1,2]}}'
+        wanted = '{"features":[{"geometry":{"coordinates":[1,2],"type":"Point"},"properties":{"area":"8810.04"},"type":"Feature"}],"type":"FeatureCollection"}'
         self.assertEqual(noshinka.snap(given, "1").text(), wanted)
 
     def test_place_of_a_fault(self):
@@ -120,14 +121,19 @@ class Steps(unittest.TestCase):
         fault = told.exception
         self.assertEqual((fault.number, fault.name, fault.place, fault.path), (6, "OutOfRange", 1, "$/geometry/coordinates/0"))
 
-    def test_what_collapses_is_refused(self):
+    def test_what_collapses_is_dropped(self):
+        answer = noshinka.snap({"type": "LineString", "coordinates": [[0, 0], [0.4, 0.4]]}, 1)
+        self.assertEqual([it["geometry"] for it in answer.json()["features"]], [None])
+
+    def test_the_place_of_an_error(self):
         with self.assertRaises(noshinka.Fault) as told:
-            noshinka.snap({"type": "LineString", "coordinates": [[0, 0], [0.4, 0.4]]}, 1)
-        self.assertEqual((told.exception.name, told.exception.path), ("TooShort", "$/coordinates"))
+            noshinka.snap({"type": "Polygon", "coordinates": [[[0, 0], [0.4, 0.4]]]}, 0.1)
+        self.assertEqual((told.exception.name, told.exception.path), ("NotClosed", "$/coordinates/0"))
 
     def test_a_room_that_is_too_small(self):
         text = {"type": "MultiPoint", "coordinates": [[n % 9 + 1, 5] for n in range(5000)]}
-        self.assertEqual(noshinka.snap(text, "1e-9").json()["coordinates"][:2], [[10**9, 5 * 10**9], [2 * 10**9, 5 * 10**9]])
+        coordinates = noshinka.snap(text, "1e-9").json()["features"][0]["geometry"]["coordinates"]
+        self.assertEqual(coordinates[:2], [[10**9, 5 * 10**9], [2 * 10**9, 5 * 10**9]])
 
     def test_no_step(self):
         for step in (0, -1, "", "1m", 1e13):

@@ -111,14 +111,16 @@ pub fn build(grid: Grid, sources: &[(&str, &[u8])]) -> Result<Vec<u8>, Error> {
     })
 }
 
-/// A GeoJSON text with each coordinate replaced by the nearest whole number of steps, as [`build`] accepts it on
-/// [`Grid::WHOLE`]. The step is a decimal number without a sign, such as `0.25` or `1e-6`; `None` stands for degrees: steps
-/// of 0.000001, and no number beyond 180 and 90. Heights are left out, and numbers with a fraction in properties become
-/// texts.
+/// The features of a GeoJSON text as a FeatureCollection, with each coordinate replaced by the nearest whole number of steps,
+/// as [`build`] accepts it on [`Grid::WHOLE`]: what togrid prints. The step is a decimal number without a sign, such as `0.25`
+/// or `1e-6`; `None` stands for degrees: steps of 0.000001, and no number beyond 180 and 90. Heights are left out, and numbers
+/// with a fraction in properties become texts. Lines and rings of which too few positions are left are dropped, those that use
+/// a segment twice are split, and so are collections.
 ///
 /// ```
-/// let place = br#"{"type":"Point","coordinates":[7.4386325,46.9510827,540.0]}"#;
-/// assert_eq!(noshinka::snap(place, None)?, br#"{"type":"Point","coordinates":[7438633,46951083]}"#);
+/// let place = br#"{"type":"Feature","id":1.50,"geometry":{"type":"Point","coordinates":[7.4386325,46.9510827,540.0]}}"#;
+/// let text = br#"{"features":[{"geometry":{"coordinates":[7438633,46951083],"type":"Point"},"id":"1.5","properties":{},"type":"Feature"}],"type":"FeatureCollection"}"#;
+/// assert_eq!(noshinka::snap(place, None)?, text);
 /// # Ok::<(), noshinka::Error>(())
 /// ```
 ///

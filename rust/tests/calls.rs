@@ -97,7 +97,7 @@ fn decimal_numbers_are_rounded() {
     let line = br#"{"type":"LineString","coordinates":[[0.5,-0.5],[1.5,2.5,9]]}"#;
     assert_eq!(
         snap(line, Some("1")).unwrap(),
-        br#"{"type":"LineString","coordinates":[[1,-1],[2,3]]}"#
+        br#"{"features":[{"geometry":{"coordinates":[[1,-1],[2,3]],"type":"LineString"},"properties":{},"type":"Feature"}],"type":"FeatureCollection"}"#
     );
     let far = fault(snap(br#"{"type":"Point","coordinates":[0,90.5]}"#, None));
     assert_eq!((far.number, far.path.as_str()), (6, "$/coordinates/1"));

@@ -23,6 +23,11 @@
     "{\"type\":\"Feature\",\"id\":7,\"properties\":{\"a\":1.5},\n" \
     "\"geometry\":{\"type\":\"LineString\",\"coordinates\":[[0],[1,2.5]]}}"
 #define METRES "{\"type\":\"Point\",\"coordinates\":[604550,199784]}"
+/* The text of a feature with a geometry. */
+#define SNAPPED(geometry) "{\"features\":[{\"geometry\":" geometry ",\"properties\":{},\"type\":\"Feature\"}],\"type\":\"FeatureCollection\"}"
+#define IN_ONES SNAPPED("{\"coordinates\":[604550,199784],\"type\":\"Point\"}")
+#define IN_TWOS SNAPPED("{\"coordinates\":[302275,99892],\"type\":\"Point\"}")
+#define COLLAPSED SNAPPED("null")
 
 static long looked, wrong;
 
@@ -90,7 +95,7 @@ static const char *answers[CALLS] = {
     "{\"coordinates\":[[[1,0],[1,1]]],\"type\":\"MultiLineString\"}",
     "{\"coordinates\":[[[0,0],[0,1],[1,1],[2,1],[2,0],[1,0],[0,0]]],\"type\":\"MultiLineString\"}",
     "[[1],[0]]",
-    "{\"type\":\"Point\",\"coordinates\":[7438633,46951083]}",
+    SNAPPED("{\"coordinates\":[7438633,46951083],\"type\":\"Point\"}"),
     "+ \"a\" null {}\n1 added, 0 removed, 0 changed\n",
     "[{\"column\":48,\"id\":7,\"line\":2,\"name\":\"NotTwo\",\"number\":16,\"path\":\"$/geometry/coordinates/0\"},\n"
     "{\"column\":55,\"id\":7,\"line\":2,\"name\":\"NotWhole\",\"number\":5,\"path\":\"$/geometry/coordinates/1/1\"},\n"
@@ -215,20 +220,23 @@ static void look_at_faults(void) {
 /* The first number is 604550 times a step of 1, and half as many of 2; 604550 degrees are too many. */
 static void look_at_steps(void) {
     noshinka_bytes text = bytes(METRES), one = bytes("1"), two = bytes("2.0"), none = bytes("0"), minus = bytes("-1"), word = bytes("1m");
-    noshinka_bytes open = bytes("{"), folded = bytes("{\"type\":\"LineString\",\"coordinates\":[[0,0],[0.4,0.4]]}");
-    uint8_t *room = block(64);
-    LOOK(is(noshinka_snap(text.at, text.length, one.at, one.length, room, 64), NOSHINKA_DONE, 0, 0, text.length));
-    LOOK(memcmp(room, METRES, text.length) == 0);
-    LOOK(is(noshinka_snap(text.at, text.length, two.at, two.length, room, 64), NOSHINKA_DONE, 0, 0, text.length - 1));
-    LOOK(memcmp(room, "{\"type\":\"Point\",\"coordinates\":[302275,99892]}", text.length - 1) == 0);
-    LOOK(is(noshinka_snap(text.at, text.length, one.at, 0, room, 64), NOSHINKA_REFUSED, 6, 0, 15));
+    noshinka_bytes open = bytes("{"), short_one = bytes("{\"type\":\"LineString\",\"coordinates\":[[0,0],[0.4,0.4]]}");
+    noshinka_bytes unclosed = bytes("{\"type\":\"Polygon\",\"coordinates\":[[[0,0],[4,4]]]}");
+    uint8_t *room = block(256);
+    LOOK(is(noshinka_snap(text.at, text.length, one.at, one.length, room, 256), NOSHINKA_DONE, 0, 0, strlen(IN_ONES)));
+    LOOK(memcmp(room, IN_ONES, strlen(IN_ONES)) == 0);
+    LOOK(is(noshinka_snap(text.at, text.length, two.at, two.length, room, 256), NOSHINKA_DONE, 0, 0, strlen(IN_TWOS)));
+    LOOK(memcmp(room, IN_TWOS, strlen(IN_TWOS)) == 0);
+    LOOK(is(noshinka_snap(text.at, text.length, one.at, 0, room, 256), NOSHINKA_REFUSED, 6, 0, 15));
     LOOK(memcmp(room, "$/coordinates/0", 15) == 0);
-    LOOK(is(noshinka_snap(folded.at, folded.length, one.at, one.length, room, 64), NOSHINKA_REFUSED, 8, 0, 13));
-    LOOK(memcmp(room, "$/coordinates", 13) == 0);
-    LOOK(is(noshinka_snap(open.at, open.length, one.at, one.length, room, 64), NOSHINKA_REFUSED, 1, 0, 1));
-    LOOK(is(noshinka_snap(text.at, text.length, none.at, none.length, room, 64), NOSHINKA_USAGE, 0, 0, 0));
-    LOOK(is(noshinka_snap(text.at, text.length, minus.at, minus.length, room, 64), NOSHINKA_USAGE, 0, 0, 0));
-    LOOK(is(noshinka_snap(text.at, text.length, word.at, word.length, room, 64), NOSHINKA_USAGE, 0, 0, 0));
+    LOOK(is(noshinka_snap(short_one.at, short_one.length, one.at, one.length, room, 256), NOSHINKA_DONE, 0, 0, strlen(COLLAPSED)));
+    LOOK(memcmp(room, COLLAPSED, strlen(COLLAPSED)) == 0);
+    LOOK(is(noshinka_snap(unclosed.at, unclosed.length, one.at, one.length, room, 256), NOSHINKA_REFUSED, 9, 0, 15));
+    LOOK(memcmp(room, "$/coordinates/0", 15) == 0);
+    LOOK(is(noshinka_snap(open.at, open.length, one.at, one.length, room, 256), NOSHINKA_REFUSED, 1, 0, 1));
+    LOOK(is(noshinka_snap(text.at, text.length, none.at, none.length, room, 256), NOSHINKA_USAGE, 0, 0, 0));
+    LOOK(is(noshinka_snap(text.at, text.length, minus.at, minus.length, room, 256), NOSHINKA_USAGE, 0, 0, 0));
+    LOOK(is(noshinka_snap(text.at, text.length, word.at, word.length, room, 256), NOSHINKA_USAGE, 0, 0, 0));
     release();
 }
 

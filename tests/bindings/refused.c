@@ -57,7 +57,7 @@ static noshinka_outcome build(int which, uint8_t *to) {
     return noshinka_build(&grid, sources, 3, to, SIZE);
 }
 
-/* In steps of 0.000001 for degrees, or in steps of which each number is 0, so that a line is refused. */
+/* In steps of 0.000001 for degrees, or in steps of which each number is 0, so that a line collapses. */
 static noshinka_outcome snap(const char *step) {
     noshinka_bytes text = bytes("{\"type\":\"Feature\",\"properties\":{\"x\":1.50},\"geometry\":{\"type\":\"LineString\",\"coordinates\":[[0.5,1e1],[7.4386325,46.9510827]]}}");
     return noshinka_snap(text.at, text.length, (const uint8_t *)step, strlen(step), room, SIZE);

@@ -5,8 +5,8 @@
 NOSHINKA_LIBRARY names the library, TOPOTOOL the program; where there is no program, the answers are compared with the rows
 themselves. A row is left out if its words are none of a call: help, wrong usage, files that can't be read. An answer is what
 the program would print and its status: the bytes of a text, or the line of an error with its number, name and path. Rows of
-togrid, which TOGRID names, are put through `snap` and `build` with a step, but for those of which it fixes the text. Ends
-with a line of counts, and with status 1 where anything differs, or less than most rows were compared.
+togrid, which TOGRID names, are put through `snap` and `build` with a step. Ends with a line of counts, and with status 1 where
+anything differs, or less than most rows were compared.
 """
 
 import json
@@ -39,7 +39,6 @@ OPTIONS = {
 }
 WANTED = {"build": "--grid", "feature": "--layer", "neighbors": "--layer"}
 CHOICES = {"--shape": rows.SHAPES, "--edges": ["all", "interior", "exterior"]}
-FIXED = {4, 8, 10}  # faults of texts that togrid fixes: collections, and what collapses or folds
 FILES = {"remove": 2, "check": 1, "feature": 1, "mesh": 1, "neighbors": 1, "info": 1, "diff": 2}
 LEAST_COMPARED = 1000
 LEAST_ROUNDED = 10
@@ -188,8 +187,6 @@ def rounded(words, lent):
             return bytes(noshinka.build([(name, lent[file]) for name, file in names], step=step)), b"", 0
         return bytes(noshinka.snap(lent[files[0]], step)), b"", 0
     except noshinka.Fault as fault:
-        if fault.number in FIXED:
-            raise NoCall from None
         return b"", f"togrid: {line_of(fault, files, {})}".encode(), 4
     except noshinka.Usage:
         raise NoCall from None

@@ -11,7 +11,9 @@
 enum { SIZE = 1 << 16, SQUARES = 40, MOST = 16 };
 static uint8_t map[SIZE], right[SIZE];
 static size_t length, right_length;
-static const char degrees[] = "{\"type\":\"Point\",\"coordinates\":[7.4386325,46.9510827]}", snapped[] = "{\"type\":\"Point\",\"coordinates\":[7438633,46951083]}";
+static const char degrees[] = "{\"type\":\"Point\",\"coordinates\":[7.4386325,46.9510827]}",
+    snapped[] = "{\"features\":[{\"geometry\":{\"coordinates\":[7438633,46951083],\"type\":\"Point\"},\"properties\":{},\"type\":\"Feature\"}],"
+                "\"type\":\"FeatureCollection\"}";
 static long times;
 
 static noshinka_outcome build(uint8_t *room) {

@@ -3,25 +3,12 @@ ghost use Rattle.outputs.specs.FaultPlaces.{AreUpTo};
 ghost use Rattle.std.specs.Prelude.{◌≡◌, ◌<◌, ◌≤◌, IfOk, IfSome, length, vec_len, ℕ};
 
 use crate::fault_reports::steps::{Range, Sought, through};
-use faults::{Fault, FaultKind, OutOfMemory};
+use faults::{Fault, OutOfMemory};
 use json::{Reader, Scratch, Token};
 use std::alloc::Global;
 
 /// How deep values may nest in `serde_json`.
 pub const DEEPEST: usize = 127;
-
-/// The members that an object may lack.
-const REQUIRED: [&str; 9] = [
-    "arcs",
-    "coordinates",
-    "features",
-    "geometries",
-    "objects",
-    "scale",
-    "transform",
-    "translate",
-    "type",
-];
 
 /// A text, and its errors by path.
 #[derive(Clone, Copy)]
@@ -53,39 +40,16 @@ fn put_place(places: &mut [usize], range: Range, at: usize)
     }
 }
 
-/// Whether the first of some errors is that of a member that is missing, and they lie there.
-fn is_missing(faults: &[Fault], found: Range) -> bool {
-    match faults.get(found.from) {
-        Some(fault) => {
-            !found.is_empty()
-                && matches!(fault.kind, FaultKind::Missing | FaultKind::NoTransform)
-                && fault.path.as_slice().len() == found.depth
-        }
+/// Whether errors of a range lie further inside than a value itself. Those of the value come first.
+fn is_inside(faults: &[Fault], range: Range) -> bool {
+    match faults.get(range.to.saturating_sub(1)) {
+        Some(fault) => fault.path.as_slice().len() > range.depth,
         None => false,
     }
 }
 
-/// The error of a missing member is placed at the object.
-fn place_missing(faults: &[Fault], places: &mut [usize], range: Range, at: usize)
-    ensures { (n : ℕ) → at ≤ n → AreUpTo n places.old → AreUpTo n places.new }
-{
-    for name in REQUIRED {
-        let found = through(faults, range, Sought::Name(name));
-        if is_missing(faults, found) {
-            put_place(places, found, at);
-        }
-    }
-}
-
-/// Whether the errors of a range lie in a value itself.
-fn is_here(faults: &[Fault], range: Range) -> bool {
-    match faults.get(range.from) {
-        Some(fault) => fault.path.as_slice().len() == range.depth,
-        None => false,
-    }
-}
-
-/// Places the errors that lie in the next value, below which others may nest `left` deep. None where the text ends before.
+/// Places the errors that lie in the next value, below which others may nest `left` deep: at its beginning those of which
+/// nothing inside is the place, as of a missing member. None where the text ends before.
 #[cycle(place)]
 fn place_value<'a>(
     text: &FaultyText,
@@ -100,16 +64,16 @@ fn place_value<'a>(
     if range.is_empty() || left == 0 {
         return reader.skip_value(DEEPEST).ok();
     }
-    let at = next_value(text.bytes, reader.offset());
-    if is_here(text.faults, range) {
-        put_place(places, range, at);
+    put_place(
+        places,
+        range,
+        next_value(text.bytes, reader.offset()),
+    );
+    if !is_inside(text.faults, range) {
         return reader.skip_value(DEEPEST).ok();
     }
     match reader.next()? {
-        Token::BeginObject => {
-            place_missing(text.faults, places, range, at);
-            place_members(text, reader, places, range, left - 1)
-        }
+        Token::BeginObject => place_members(text, reader, places, range, left - 1),
         Token::BeginArray => place_items(text, reader, places, range, left - 1),
         _ => Some(()),
     }

@@ -120,7 +120,29 @@ fn places_of(alloc: Global, bytes: &[u8], faults: &[Fault]) -> Result<Vec<LineCo
     }
 }
 
-/// The value of a text, null where it is not JSON, and the places of its errors: where it stops being JSON.
+/// The places of the errors of a text that `serde_json` doesn't read: where it stops being JSON, if that is the error. In
+/// another text a number is too great for a float, or values nest too deep, and the errors have their places.
+fn places_without(
+    alloc: Global,
+    bytes: &[u8],
+    faults: &[Fault],
+) -> Result<Vec<LineColumn>, OutOfMemory>
+    ensures { IfOk result (λ v. All (IsPlaceIn bytes.now) v.items) }
+{
+    match faults {
+        [Fault {
+            kind: FaultKind::NotJson,
+            ..
+        }] => {
+            let mut places = Vec::new(alloc);
+            places.push(place_at(bytes, unexpected_token(alloc, bytes)?))?;
+            Ok(places)
+        }
+        _ => places_of(alloc, bytes, faults),
+    }
+}
+
+/// The value of a text, null where `serde_json` doesn't read it, and the places of its errors.
 fn value_and_places(
     alloc: Global,
     bytes: &[u8],
@@ -135,9 +157,7 @@ fn value_and_places(
             if error.is_memory() {
                 return Err(OutOfMemory);
             }
-            let mut places = Vec::new(alloc);
-            places.push(place_at(bytes, unexpected_token(alloc, bytes)?))?;
-            Ok((Value::Null, places))
+            Ok((Value::Null, places_without(alloc, bytes, faults)?))
         }
     }
 }
