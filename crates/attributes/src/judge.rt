@@ -18,10 +18,10 @@ use serde_json::Map;
 use shapes::nesting::{GREATEST_PROPERTY_DEPTH, nests_within};
 use std::alloc::Global;
 
-fn one_if(alloc: Global, is_there: bool, kind: FaultKind) -> Result<Vec<Fault>, OutOfMemory>
-    ensures { IfOk result (λ fs. pairs_of fs.items ≡ (if is_there then here kind else [])) }
+fn one_if(alloc: Global, applies: bool, kind: FaultKind) -> Result<Vec<Fault>, OutOfMemory>
+    ensures { IfOk result (λ fs. pairs_of fs.items ≡ (if applies then here kind else [])) }
 {
-    if is_there {
+    if applies {
         Ok(one(alloc, kind)?)
     } else {
         Ok(Vec::new(alloc))
