@@ -5,7 +5,7 @@
 tests/contracts.toml lists the calls by their crates, and the commit (`base`) where none is given. A call may gain a clause. It
 has to be there, with the signature that it had; no `requires` may come or change, and no `ensures` may go or change; and each
 definition that a clause of it reaches, through others, has to be the text that it was. Where one stands is no matter, so calls and
-definitions may move to another file or crate. What has changed all the same is told in the same file under its name, with the
+definitions may move to another file or crate; those of crates that no listed call stands on are not read. What has changed all the same is told in the same file under its name, with the
 reason why it promises no less: `Type::call`, `crate::call`, or the definition's own name. A name there that has not changed is
 an error too. Files are read as `rt fmt` lays them out.
 
@@ -74,10 +74,22 @@ def calls_of(root):
     return found
 
 
-def definitions_of(root):
-    """The texts of each definition of specs/, by its name."""
+def below(root, crates):
+    """The crates of the repository that these stand on, with themselves."""
+    lines = [it.split(":") for it in text_of(f"{root}/crates.txt").split("\n") if ":" in it and not it.startswith("#")]
+    used, found, left = {name.split()[0]: words.split() for name, words in lines}, set(), {*crates}
+    while left:
+        crate = left.pop()
+        if crate in used and crate not in found:
+            found.add(crate)
+            left |= {*used[crate]}
+    return found
+
+
+def definitions_of(root, crates):
+    """The texts of each definition of specs/ that these crates can name, by its name."""
     found = {}
-    for path in glob.glob(f"{root}/crates/*/specs/**/*.antt", recursive=True):
+    for path in [it for crate in below(root, crates) for it in glob.glob(f"{root}/crates/{crate}/specs/**/*.antt", recursive=True)]:
         name, block = None, []
         for line in [*text_of(path).split("\n"), "end"]:
             line = line.split("--")[0].rstrip()
@@ -128,7 +140,7 @@ def differences(old, new, names):
 
 def extracted(commit, folder):
     """Puts the crates of a commit into a folder; answers whether the history has it."""
-    archive = subprocess.run(["git", "-C", TOP, "archive", commit, "crates"], capture_output=True)
+    archive = subprocess.run(["git", "-C", TOP, "archive", commit, "crates", "crates.txt"], capture_output=True)
     return archive.returncode == 0 and subprocess.run(["tar", "-x", "-C", folder], input=archive.stdout).returncode == 0
 
 
@@ -140,7 +152,7 @@ def main():
         if not extracted(commit, folder):
             print(f"skipped: the history has no commit {commit}; 0 calls, 0 wrong")
             return 0
-        old, new = [(calls_of(it), definitions_of(it)) for it in (folder, TOP)]
+        old, new = [(calls_of(it), definitions_of(it, listed["calls"])) for it in (folder, TOP)]
     found = sorted(set(differences(old, new, names)))
     changed = listed["changed"] if commit == listed["base"] else {}
     for name, what in found:
