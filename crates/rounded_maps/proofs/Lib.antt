@@ -1,1 +1,3 @@
-mod Fixes
+mod Texts
+mod Vertices
+mod Ends

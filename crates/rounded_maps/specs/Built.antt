@@ -1,16 +1,16 @@
 -- The topology of maps, each in the layer of its name.
-use Rattle.std.specs.Prelude.{◌≡◌, ℕ, List, [], ◌∷◌, ◌++◌, Option, map as map_list}
+use Rattle.std.specs.Prelude.{◌≡◌, ℕ, List, [], ◌∷◌, Option, map as map_list}
 use Rattle.std.specs.FinMap as map
-use Rattle.fixing.specs.declared.feature.FixedFeature.{FixedFeature}
 use Rattle.grid.specs.Place.{Transform}
 use Rattle.reading.specs.Meant.{AreFeatures}
-use Rattle.reading.specs.Plain.{Plain, plain, plain_form, plain_id}
+use Rattle.reading.specs.Plain.{Plain, plain_form, plain_id}
 use Rattle.shapes.specs.Maps.{Features, Layers, with_features}
 use Rattle.shapes.specs.Parts.{properties_text}
-use Rattle.shapes.specs.declared.feature.Feature.{Feature}
+use Rattle.shapes.specs.declared.props.Props.{Props}
+use Rattle.shapes.specs.declared.shape.Id.{Id}
 use Rattle.shapes.specs.declared.shape.Shape.{Shape}
 use Rattle.snapping.specs.declared.nearly_shared.clusters.Clusters.{Clusters}
-use Rattle.theory.specs.Lists.{Has, gathered}
+use Rattle.theory.specs.Lists.{gathered}
 use Rattle.topo.specs.OfMap.{IsOf, IsTopology, seen_parts, the_topology}
 use Rattle.topo.specs.Parts.{TopologyParts}
 use Rattle.rounded_maps.specs.Joined.{AreCountsIf, AreJoinedWithin}
@@ -29,25 +29,16 @@ pub record AreMaps (rules : BuildRules) (texts : List (List ℕ)) (clusters : Op
   pub joined : AreJoinedWithin rules.rounding.fixing rules.join_distance clusters read maps
 
 -- a feature of one of the shapes, as plain data
-abbrev pub plain_of : FixedFeature → Shape → Plain
-plain_of f s = record { id = plain_id f.id; properties = properties_text f.props; form = plain_form s }
+abbrev pub plain_of : Id → Props → Shape → Plain
+plain_of i p s = record { id = plain_id i; properties = properties_text p; form = plain_form s }
 
 -- the features that a fixed feature stands for
 abbrev pub plains_of : RoundedFeature → List Plain
-plains_of r = map_list (plain_of r.feature) r.feature.shapes.items
+plains_of r = map_list (plain_of r.feature.id r.feature.props) r.feature.shapes.items
 
 -- the features of a map
 abbrev pub plain_features : RoundedMap → List Plain
 plain_features m = gathered plains_of m.features.items
-
--- the features, some more than once or not, are these as plain data
-pub record AreListed (made : List Feature) (meant : List Plain) : Type 0 where
-  pub only : (f : Feature) → Has f made → Has (plain f) meant
-  pub all : (p : Plain) → Has p meant → (f : Feature) × Has f made × (plain f ≡ p)
-
--- those that a fixed feature stands for too
-abbrev pub AddsFeatures : FixedFeature → List Feature → List Feature → Type 0
-AddsFeatures f before after = (ps : List Plain) → AreListed before ps → AreListed after (ps ++ map_list (plain_of f) f.shapes.items)
 
 -- the layers with the features of these maps too, each map with its name: its features are put beside those of that name
 abbrev pub AreLayersWith : Layers → List (List ℕ) → List RoundedMap → Layers → Type 0

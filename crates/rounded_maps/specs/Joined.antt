@@ -22,13 +22,13 @@ use Rattle.rounded_maps.specs.declared.map.RoundedMap.{RoundedMap}
 -- a shape of which a position is moved: what the rules leave of it where the positions go, with what is fixed counted
 pub record IsMovedShape (rules : FixingRules) (f : Pos → Pos) (s : Shape) (left : List Shape) (before after : Fixes) : Type 0 where
   pub moves : Moves f s
-  pub left : geometry_left rules (one (moved_shape f s)) ≡ Some (map plain_shape left)
+  pub are : geometry_left rules (one (moved_shape f s)) ≡ Some (map plain_shape left)
   pub fixes : after ≡ geometry_counted rules (one (moved_shape f s)) before
 
 -- any other shape stays as it is
 pub record IsKeptShape (f : Pos → Pos) (s : Shape) (left : List Shape) (before after : Fixes) : Type 0 where
   pub stays : ¬ Moves f s
-  pub left : left ≡ s ∷ []
+  pub same : left ≡ s ∷ []
   pub fixes : after ≡ before
 
 abbrev pub IsJoinedShape : FixingRules → (Pos → Pos) → Shape → List Shape → Fixes → Fixes → Type 0
@@ -38,7 +38,7 @@ IsJoinedShape rules f s left before after = IsMovedShape rules f s left before a
 abbrev pub AreJoinedShapes : FixingRules → (Pos → Pos) → List Shape → List Shape → Fixes → Fixes → Type 0
 AreJoinedShapes rules f [] left before after = (left ≡ []) × (after ≡ before)
 AreJoinedShapes rules f (s ∷ ss) left before after =
-    (first rest : List Shape) × ((between : Fixes) × ((left ≡ first ++ rest) × IsJoinedShape rules f s first before between × AreJoinedShapes rules f ss rest between after))
+    (first : List Shape) × ((rest : List Shape) × ((between : Fixes) × ((left ≡ first ++ rest) × IsJoinedShape rules f s first before between × AreJoinedShapes rules f ss rest between after)))
 
 -- a feature of which the shapes are joined, with what is fixed then counted too
 pub record IsJoined (rules : FixingRules) (f : Pos → Pos) (old new : RoundedFeature) : Type 0 where
@@ -67,9 +67,13 @@ AreJoinedMaps rules f [] (new ∷ news) = ⊥
 AreJoinedMaps rules f (old ∷ olds) [] = ⊥
 AreJoinedMaps rules f (old ∷ olds) (new ∷ news) = IsJoinedMap rules f old new × AreJoinedMaps rules f olds news
 
--- the shapes of a map, each of which is a feature
+-- the shapes of a feature, each of which is a feature of its own
+abbrev pub feature_shapes : RoundedFeature → List Shape
+feature_shapes f = f.feature.shapes.items
+
+-- and those of a map
 abbrev pub shapes_in : RoundedMap → List Shape
-shapes_in m = gathered (λ f. f.feature.shapes.items) m.features.items
+shapes_in m = gathered feature_shapes m.features.items
 
 -- the vertices of all maps, in their order
 pub record AreVertexUses (maps : List RoundedMap) (uses : List VertexUse) : Type 0 where
@@ -85,7 +89,7 @@ AreJoinedWithin rules n (Some clusters) olds news =
 pub record AreCountsOf (maps : List RoundedMap) (counts : VertexCounts) : Type 0 where
   pub uses : List VertexUse
   pub of : AreVertexUses maps uses
-  pub counts : AreCounts uses 1 counts
+  pub are : AreCounts uses 1 counts
 
 -- they are counted where that is asked
 abbrev pub AreCountsIf : Bool → List RoundedMap → Option VertexCounts → Type 0

@@ -1,5 +1,5 @@
 -- Maps that are not joined, since what the moves collapse or fold is refused.
-use Rattle.std.specs.Prelude.{◌≡◌, ◌⊎◌, ◌<◌, ℕ, List, [], ◌∷◌, ◌++◌, Option, Some, None, codes, length, true}
+use Rattle.std.specs.Prelude.{◌≡◌, ◌⊎◌, ◌+◌, ◌<◌, ℕ, List, [], ◌∷◌, Option, Some, None, codes, true}
 use Rattle.compare.specs.declared.quality.vertex.VertexUse.{VertexUse}
 use Rattle.faults.specs.Fault.{IsWant, pair_of}
 use Rattle.faults.specs.Path.{index, name}
@@ -38,7 +38,7 @@ kind_moved rules f s = kind_left (geometry_left (record rules { splits_folded = 
 pub record IsRefusedShape (rules : FixingRules) (f : Pos → Pos) (s : Shape) (kind : FaultKind) : Type 0 where
   pub moves : Moves f s
   pub refused : geometry_left rules (one (moved_shape f s)) ≡ None
-  pub kind : kind ≡ kind_moved rules f s
+  pub is : kind ≡ kind_moved rules f s
 
 -- one of the shapes is refused
 pub record HasRefusedShape (rules : FixingRules) (f : Pos → Pos) (ss : List Shape) (kind : FaultKind) : Type 0 where
@@ -46,37 +46,34 @@ pub record HasRefusedShape (rules : FixingRules) (f : Pos → Pos) (ss : List Sh
   pub there : Has shape ss
   pub refused : IsRefusedShape rules f shape kind
 
+-- the fault of the feature with the number n, which has a shape that is refused
+pub record IsRefusedFeature (rules : FixingRules) (f : Pos → Pos) (n : ℕ) (feature : RoundedFeature) (fault : Fault) : Type 0 where
+  pub kind : FaultKind
+  pub refused : HasRefusedShape rules f feature.feature.shapes.items kind
+  pub is : pair_of fault ≡ record { path = name (codes "features") ∷ index n ∷ []; kind = kind }
+
 -- what is refused has a fault of such a kind
 abbrev pub RefusesFor : (FaultKind → Type 0) → Unjoined → Type 0
 RefusesFor P (unjoined.Refused kind) = P kind
 RefusesFor P unjoined.OutOfMemory = Unit {0}
 
--- the fault is that of a feature with a shape that is refused, at the feature
-pub record HasRefusedFeature (rules : FixingRules) (f : Pos → Pos) (fs : List RoundedFeature) (fault : Fault) : Type 0 where
-  pub before : List RoundedFeature
-  pub feature : RoundedFeature
-  pub after : List RoundedFeature
-  pub parts : before ++ (feature ∷ after) ≡ fs
-  pub kind : FaultKind
-  pub refused : HasRefusedShape rules f feature.feature.shapes.items kind
-  pub is : pair_of fault ≡ record { path = name (codes "features") ∷ index (length before) ∷ []; kind = kind }
+-- the fault is that of a feature with a shape that is refused, at the feature, of those that are numbered from n
+abbrev pub HasRefusedFeature : FixingRules → (Pos → Pos) → ℕ → List RoundedFeature → Fault → Type 0
+HasRefusedFeature rules f n [] fault = ⊥
+HasRefusedFeature rules f n (r ∷ rs) fault = IsRefusedFeature rules f n r fault ⊎ HasRefusedFeature rules f (n + 1) rs fault
 
 -- memory was refused, or a feature
-abbrev pub IsUnjoined : FixingRules → (Pos → Pos) → List RoundedFeature → Fault → Type 0
-IsUnjoined rules f fs fault = IsWant fault ⊎ HasRefusedFeature rules f fs fault
+abbrev pub IsUnjoined : FixingRules → (Pos → Pos) → ℕ → List RoundedFeature → Fault → Type 0
+IsUnjoined rules f n fs fault = IsWant fault ⊎ HasRefusedFeature rules f n fs fault
 
--- the map at the place has a feature that is refused
-pub record HasUnjoinedMap (rules : FixingRules) (f : Pos → Pos) (maps : List RoundedMap) (place : ℕ) (fault : Fault) : Type 0 where
-  pub before : List RoundedMap
-  pub map : RoundedMap
-  pub after : List RoundedMap
-  pub parts : before ++ (map ∷ after) ≡ maps
-  pub at : length before ≡ place
-  pub refused : HasRefusedFeature rules f map.features.items fault
+-- the map at the place, of those that are numbered from n, has a feature that is refused
+abbrev pub HasUnjoinedMap : FixingRules → (Pos → Pos) → ℕ → List RoundedMap → ℕ → Fault → Type 0
+HasUnjoinedMap rules f n [] place fault = ⊥
+HasUnjoinedMap rules f n (m ∷ ms) place fault = ((place ≡ n) × HasRefusedFeature rules f 0 m.features.items fault) ⊎ HasUnjoinedMap rules f (n + 1) ms place fault
 
-abbrev pub AreUnjoined : FixingRules → (Pos → Pos) → List RoundedMap → MapsFault → Type 0
-AreUnjoined rules f maps (Text place fault) = HasUnjoinedMap rules f maps place fault
-AreUnjoined rules f maps OutOfMemory = Unit {0}
+abbrev pub AreUnjoined : FixingRules → (Pos → Pos) → ℕ → List RoundedMap → MapsFault → Type 0
+AreUnjoined rules f n maps (Text place fault) = HasUnjoinedMap rules f n maps place fault
+AreUnjoined rules f n maps OutOfMemory = Unit {0}
 
 -- all texts are maps, and one of these is refused where nearly shared vertices are joined
 pub record AreUnjoinedTexts (rules : BuildRules) (texts : List (List ℕ)) (fault : MapsFault) : Type 0 where
@@ -87,4 +84,4 @@ pub record AreUnjoinedTexts (rules : BuildRules) (texts : List (List ℕ)) (faul
   pub of : AreVertexUses read uses
   pub clusters : Clusters
   pub are : AreClusters uses rules.join_distance clusters
-  pub refused : AreUnjoined rules.rounding.fixing (target_in clusters) read fault
+  pub refused : AreUnjoined rules.rounding.fixing (target_in clusters) 0 read fault

@@ -1,12 +1,14 @@
 //! Maps that are rounded together, and their topology.
 ghost use Rattle.reading.specs.Meant.{AreFeatures};
-ghost use Rattle.rounded_maps.specs.Built.{AddsFeatures, AreLayersWith, AreMaps, IsBuilt, plain_features};
+ghost use Rattle.reading.specs.Plain.{plain};
+ghost use Rattle.rounded_maps.specs.Built.{AreLayersWith, AreMaps, IsBuilt, plain_features, plain_of};
 ghost use Rattle.rounded_maps.specs.Joined.{AreCountsIf, AreJoinedMaps, AreJoinedWithin, AreVertexUses, shapes_in};
 ghost use Rattle.rounded_maps.specs.Outcomes.{AreOutcomes};
 ghost use Rattle.rounded_maps.specs.Refusals.{IsMapsRefusal, IsTextFault};
-ghost use Rattle.rounded_maps.specs.Rounded.{AreRounded, faults_under};
+ghost use Rattle.rounded_maps.specs.Rounded.{AreRounded};
 ghost use Rattle.rounded_maps.specs.Unjoined.{AreUnjoined, AreUnjoinedTexts};
 ghost use Rattle.rounded_maps.specs.declared.building.MapsFault.TheVariants.{OutOfMemory as WantOfMemory};
+ghost use Rattle.shapes.specs.Ids.{HasI64};
 ghost use Rattle.shapes.specs.Maps.{set_of as features_set};
 ghost use Rattle.snapping.specs.NearlyShared.Joined.{target_in};
 ghost use Rattle.snapping.specs.NearlyShared.Uses.{shapes_uses};
@@ -20,8 +22,8 @@ use crate::outcome::Outcome;
 use crate::rounding::{RoundingRules, round_map};
 use faults::{Fault, FaultKind, OutOfMemory};
 use fixing::{FixedFeature, FixingRules};
-use shapes::{Feature, FeatureMap, Shape};
 use shapes::layer::feature_set;
+use shapes::{Feature, FeatureMap, Id, Props, Shape};
 use snapping::nearly_shared::{Clusters, VertexCounts, VertexIndex, Vertices};
 use std::alloc::{AllocError, AllocFailed, Global};
 use std::collections::BTreeSet;
@@ -102,7 +104,7 @@ fn read_maps<T: AsSlice<u8> + Drop>(
     rules: &RoundingRules<'_>,
 ) -> Result<Vec<RoundedMap>, MapsFault>
     ensures rounded { IfOk result (λ maps. AreRounded rules.now (map T.items texts.items) maps.items) }
-    ensures refused { IfErr result (IsMapsRefusal (faults_under rules.now) (map T.items texts.items)) }
+    ensures refused { IfErr result (IsMapsRefusal rules.now 0 (map T.items texts.items)) }
 {
     let mut maps = Vec::new(alloc);
     for text in texts {
@@ -144,7 +146,7 @@ fn join_maps(
     rules: &FixingRules,
 ) -> Result<Vec<RoundedMap>, MapsFault>
     ensures ok { IfOk result (λ joined. AreJoinedMaps rules.now (target_in clusters.now) maps.items joined.items) }
-    ensures err { IfErr result (AreUnjoined rules.now (target_in clusters.now) maps.items) }
+    ensures err { IfErr result (AreUnjoined rules.now (target_in clusters.now) 0 maps.items) }
 {
     let mut joined = Vec::new(alloc);
     for map in maps {
@@ -170,8 +172,10 @@ fn join_near(
     }
     let index = index_of(alloc, maps.as_slice())?;
     let clusters = index.clusters(alloc, rules.join_distance)?;
-    let joined = join_maps(alloc, maps, &clusters, &rules.rounding.fixing)?;
-    Ok((joined, Some(clusters)))
+    match join_maps(alloc, maps, &clusters, &rules.rounding.fixing) {
+        Ok(joined) => Ok((joined, Some(clusters))),
+        Err(fault) => Err(fault),
+    }
 }
 
 /// How many vertices are shared and nearly shared, at most a step apart, where that is asked.
@@ -211,7 +215,7 @@ pub fn round_maps<T: AsSlice<u8> + Drop>(
     ensures maps { IfOk result (λ r. AreMaps rules.now (map T.items texts.items) r.1.clusters r.0.items) }
     ensures outcomes { IfOk result (λ r. AreOutcomes r.0.items r.1.outcomes.items) }
     ensures counts { IfOk result (λ r. AreCountsIf rules.now.counts r.0.items r.1.counts) }
-    ensures refused { IfErr result (λ e. IsMapsRefusal (faults_under rules.now.rounding) (map T.items texts.items) e ⊎ AreUnjoinedTexts rules.now (map T.items texts.items) e) }
+    ensures refused { IfErr result (λ e. IsMapsRefusal rules.now.rounding 0 (map T.items texts.items) e ⊎ AreUnjoinedTexts rules.now (map T.items texts.items) e) }
 {
     let maps = read_maps(alloc, texts, &rules.rounding)?;
     let (maps, clusters) = join_near(alloc, maps, rules)?;
@@ -225,45 +229,43 @@ pub fn round_maps<T: AsSlice<u8> + Drop>(
     Ok((maps, rounded))
 }
 
-/// Adds a feature for each of the shapes. Of equal ones one is enough.
-fn add_shapes(
+/// Adds a feature for each of these shapes, with copies of an id and properties.
+fn add_copies(
     alloc: Global,
-    feature: FixedFeature,
+    id: &Id,
+    props: &Props,
+    shapes: Vec<Shape>,
     features: &mut Vec<Feature>,
 ) -> Result<(), OutOfMemory>
-    ensures { OnOk result (AddsFeatures feature features.old.items features.new.items) }
+    requires { HasI64 id.now }
+    ensures { OnOk result (map plain features.new.items ≡ map plain features.old.items ++ map (plain_of id.now props.now) shapes.items) }
 {
-    let FixedFeature { id, props, shapes } = feature;
-    let shapes: BTreeSet<Shape> = shapes.into_iter().collect(alloc)?;
     for shape in shapes {
-        features.push(Feature {
-            id: id.copy(alloc)?,
-            props: props.copy(alloc)?,
-            shape,
-        })?;
+        let id = id.copy(alloc)?;
+        let props = props.copy(alloc)?;
+        features.push(Feature { id, props, shape })?;
     }
     Ok(())
 }
 
-/// Adds the features that a fixed feature stands for.
+/// Adds the features that a fixed feature stands for: one for each of its shapes.
 fn add_feature(
     alloc: Global,
     feature: FixedFeature,
     features: &mut Vec<Feature>,
 ) -> Result<(), OutOfMemory>
-    ensures { OnOk result (AddsFeatures feature features.old.items features.new.items) }
+    ensures { OnOk result (map plain features.new.items ≡ map plain features.old.items ++ map (plain_of feature.id feature.props) feature.shapes.items) }
 {
-    if feature.shapes.len() != 1 {
-        return add_shapes(alloc, feature, features);
-    }
     let FixedFeature {
         id,
         props,
         mut shapes,
     } = feature;
-    if let Some(shape) = shapes.pop() {
-        features.push(Feature { id, props, shape })?;
-    }
+    let Some(shape) = shapes.pop() else {
+        return Ok(());
+    };
+    add_copies(alloc, &id, &props, shapes, features)?;
+    features.push(Feature { id, props, shape })?;
     Ok(())
 }
 
@@ -287,7 +289,11 @@ fn layers_of(
     ensures { IfOk result (AreLayersWith finite.empty (map (λ n. n.now) names.now) maps.items) }
 {
     let mut layers = FeatureMap::new(alloc);
-    for (name, map) in names.iter().zip(maps) {
+    let mut left = maps.into_iter();
+    for name in names {
+        let Some(map) = left.next() else {
+            return Ok(layers);
+        };
         layers = layers.with_features(*name, set_of(alloc, map)?)?;
     }
     Ok(layers)
@@ -304,7 +310,7 @@ pub fn build_maps<T: AsSlice<u8> + Drop>(
     rules: &BuildRules<'_>,
 ) -> Result<(Topology, Rounded), MapsFault>
     ensures built { IfOk result (λ r. IsBuilt rules.now (map (λ n. n.now) names.now) (map T.items texts.items) r.1 r.0) }
-    ensures refused { IfErr result (λ e. IsMapsRefusal (faults_under rules.now.rounding) (map T.items texts.items) e ⊎ AreUnjoinedTexts rules.now (map T.items texts.items) e) }
+    ensures refused { IfErr result (λ e. IsMapsRefusal rules.now.rounding 0 (map T.items texts.items) e ⊎ AreUnjoinedTexts rules.now (map T.items texts.items) e) }
 {
     let (maps, rounded) = round_maps(alloc, texts, rules)?;
     let map = layers_of(alloc, names, maps)?;

@@ -1,7 +1,8 @@
 //! Writing fixed features as a GeoJSON FeatureCollection (RFC 7946, section 3.3), piece by piece and with no memory.
-ghost use Rattle.rounded_maps.specs.Written.{feature_text, feature_texts, map_text, whole};
+ghost use Rattle.rounded_maps.specs.Written.{feature_text, feature_texts, is_after, map_text, text_behind, texts_behind, whole};
 ghost use Rattle.sinks.specs.Writes.{TookAll, TookPart};
-ghost use Rattle.std.specs.Prelude.{◌≡◌, IfOk, OnErr, OnOk};
+ghost use Rattle.std.specs.Prelude.{◌≡◌, IfOk, OnErr, OnOk, false, map};
+ghost use Rattle.theory.specs.Lists.{gathered};
 
 use crate::grid_of_steps::whole_grid;
 use crate::map::RoundedFeature;
@@ -11,7 +12,7 @@ use geojson_io::writer::{FeatureOf, ShapesOn};
 use grid::Grid;
 use shapes::Shape;
 use sinks::written::{Noted, Text, Then, Written};
-use sinks::{Kept, Sink, WriteFault, put};
+use sinks::{Kept, Sink, WriteFault};
 use std::alloc::Global;
 
 /// Writes a feature of a shape, behind a comma where others are before it.
@@ -21,7 +22,10 @@ fn write_feature<W: Sink>(
     grid: &Grid,
     is_behind: bool,
     sink: &mut W,
-) -> Result<(), WriteFault> {
+) -> Result<(), WriteFault>
+    ensures whole { OnOk result (TookAll (W.seen sink.old) (W.seen sink.new) (text_behind is_behind (feature_text grid.now feature.now shape.now))) }
+    ensures part { OnErr result (TookPart (W.seen sink.old) (W.seen sink.new) (text_behind is_behind (feature_text grid.now feature.now shape.now))) }
+{
     let written = FeatureOf {
         id: &feature.id,
         props: &feature.props,
@@ -34,13 +38,17 @@ fn write_feature<W: Sink>(
     }
 }
 
-/// Writes a feature for each shape that is left of one.
+/// Writes a feature for each shape that is left of one, and answers whether any is before what comes next.
 fn write_shapes<W: Sink>(
     feature: &FixedFeature,
     grid: &Grid,
     is_behind: bool,
     sink: &mut W,
-) -> Result<(), WriteFault> {
+) -> Result<bool, WriteFault>
+    ensures next { IfOk result (λ next. next ≡ is_after is_behind (map (feature_text grid.now feature.now) feature.now.shapes.items)) }
+    ensures whole { OnOk result (TookAll (W.seen sink.old) (W.seen sink.new) (texts_behind is_behind (map (feature_text grid.now feature.now) feature.now.shapes.items))) }
+    ensures part { OnErr result (TookPart (W.seen sink.old) (W.seen sink.new) (texts_behind is_behind (map (feature_text grid.now feature.now) feature.now.shapes.items))) }
+{
     let mut is_behind = is_behind;
     let mut left = feature.shapes.as_slice();
     while let Some((shape, after)) = left.split_first() {
@@ -50,7 +58,7 @@ fn write_shapes<W: Sink>(
         }
         is_behind = true;
     }
-    Ok(())
+    Ok(is_behind)
 }
 
 /// Writes the features, with commas between them.
@@ -58,17 +66,32 @@ fn write_features<W: Sink>(
     features: &[RoundedFeature],
     grid: &Grid,
     sink: &mut W,
-) -> Result<(), WriteFault> {
+) -> Result<(), WriteFault>
+    ensures whole { OnOk result (TookAll (W.seen sink.old) (W.seen sink.new) (texts_behind false (gathered (feature_texts grid.now) features.now))) }
+    ensures part { OnErr result (TookPart (W.seen sink.old) (W.seen sink.new) (texts_behind false (gathered (feature_texts grid.now) features.now))) }
+{
     let mut is_behind = false;
     let mut left = features;
     while let Some((feature, after)) = left.split_first() {
         match write_shapes(&feature.feature, grid, is_behind, sink) {
-            Ok(()) => left = after,
+            Ok(next) => is_behind = next,
             Err(fault) => return Err(fault),
         }
-        is_behind = is_behind || !feature.feature.shapes.is_empty();
+        left = after;
     }
     Ok(())
+}
+
+/// The features of a map, with commas between them.
+#[derive(Clone, Copy)]
+struct MapFeatures<'a>(&'a [RoundedFeature], &'a Grid);
+
+impl<'a> Written for MapFeatures<'a> {
+    ghost text = { λ m. texts_behind false (gathered (feature_texts m.1.now) m.0.now) };
+
+    fn write<W: Sink>(&self, sink: &mut W) -> Result<(), WriteFault> {
+        write_features(self.0, self.1, sink)
+    }
 }
 
 /// Writes the features of a map as a FeatureCollection, in their order: one for each shape that is left of a feature. Positions
@@ -84,11 +107,9 @@ pub fn write_collection<W: Sink>(
     ensures whole { OnOk result (TookAll (W.seen sink.old) (W.seen sink.new) (map_text grid.now features.now)) }
     ensures part { OnErr result (TookPart (W.seen sink.old) (W.seen sink.new) (map_text grid.now features.now)) }
 {
-    put(sink, b"{\"features\":[")?;
-    match write_features(features, grid, sink) {
-        Ok(()) => put(sink, b"],\"type\":\"FeatureCollection\"}"),
-        Err(fault) => Err(fault),
-    }
+    let written = MapFeatures(features, grid);
+    let tail = Then(written, Text(b"],\"type\":\"FeatureCollection\"}"));
+    Then(Text(b"{\"features\":["), tail).write(sink)
 }
 
 /// The text of the features of a map as a FeatureCollection, in whole numbers of steps.

@@ -5,13 +5,14 @@ ghost use Rattle.fixing.specs.Forms.{one, plain_shape};
 ghost use Rattle.fixing.specs.Geometries.{geometry_counted, geometry_left};
 ghost use Rattle.rounded_maps.specs.Joined.{AreJoined, AreJoinedShapes, IsJoined, IsJoinedMap, IsJoinedShape};
 ghost use Rattle.rounded_maps.specs.Unjoined.{HasRefusedShape, IsRefusedShape, IsUnjoined, RefusesFor, kind_moved};
+ghost use Rattle.rounded_maps.specs.declared.map.RoundedFeature.{RoundedFeature as Joined};
 ghost use Rattle.rounded_maps.specs.declared.joining.Unjoined.TheVariants.{OutOfMemory as WantOfMemory};
 ghost use Rattle.shapes.specs.declared.shape.Shape.{Shape as Form};
 ghost use Rattle.snapping.specs.NearlyShared.Joined.{target_in};
 ghost use Rattle.snapping.specs.NearlyShared.Moved.{Moves, moved_shape};
 ghost use Rattle.std.specs.Prelude.{◌≡◌, ◌⊎◌, ◌∷◌, ◌++◌, [], IfErr, IfOk, List, None, OnOk, Some, codes, map};
 
-use crate::map::{RoundedFeature, RoundedMap};
+use crate::map::{RoundedFeature, RoundedMap, nothing_fixed};
 use faults::{Fault, FaultKind, OutOfMemory};
 use fixing::{Broken, FixedFeature, Fixes, FixingRules, RawGeometry, fix_geometry};
 use shapes::Shape;
@@ -80,7 +81,7 @@ fn refused_kind(
         splits_folded: true,
         ..*rules
     };
-    let mut fixes = Fixes::default();
+    let mut fixes = nothing_fixed();
     match fix_moved(alloc, shape, clusters, &splitting, &mut fixes) {
         Ok(_) => Ok(FaultKind::Revisit),
         Err(Broken::Refused) => Ok(FaultKind::TooShort),
@@ -171,12 +172,27 @@ fn join_feature(
 {
     let RoundedFeature { feature, fixes } = feature;
     let FixedFeature { id, props, shapes } = feature;
-    let mut again = Fixes::default();
+    let mut again = nothing_fixed();
     let shapes = join_shapes(alloc, shapes, clusters, rules, &mut again)?;
     Ok(RoundedFeature {
         feature: FixedFeature { id, props, shapes },
         fixes: fixes.with(again),
     })
+}
+
+/// Adds a feature with its vertices joined.
+fn join_next(
+    alloc: Global,
+    feature: RoundedFeature,
+    clusters: &Clusters,
+    rules: &FixingRules,
+    joined: &mut Vec<RoundedFeature>,
+) -> Result<(), Unjoined>
+    ensures ok { OnOk result ((f : Joined) × (joined.new.items ≡ joined.old.items ++ f ∷ []) × IsJoined rules.now (target_in clusters.now) feature f) }
+    ensures err { IfErr result (RefusesFor (HasRefusedShape rules.now (target_in clusters.now) feature.feature.shapes.items)) }
+{
+    joined.push(join_feature(alloc, feature, clusters, rules)?)?;
+    Ok(())
 }
 
 /// The fault of the feature with this number.
@@ -200,15 +216,14 @@ fn join_features(
     rules: &FixingRules,
 ) -> Result<Vec<RoundedFeature>, Fault>
     ensures ok { IfOk result (λ fs. AreJoined rules.now (target_in clusters.now) features.items fs.items) }
-    ensures err { IfErr result (IsUnjoined rules.now (target_in clusters.now) features.items) }
+    ensures err { IfErr result (IsUnjoined rules.now (target_in clusters.now) 0 features.items) }
 {
     let mut joined = Vec::new(alloc);
     for feature in features {
-        match join_feature(alloc, feature, clusters, rules) {
-            Ok(feature) => if joined.push(feature).is_err() {
-                return Err(refuse_feature(alloc, Unjoined::OutOfMemory, 0));
-            },
-            Err(unjoined) => return Err(refuse_feature(alloc, unjoined, joined.len())),
+        let number = joined.len();
+        match join_next(alloc, feature, clusters, rules, &mut joined) {
+            Ok(()) => {}
+            Err(unjoined) => return Err(refuse_feature(alloc, unjoined, number)),
         }
     }
     Ok(joined)
@@ -225,7 +240,7 @@ pub(crate) fn join_map(
     rules: &FixingRules,
 ) -> Result<RoundedMap, Fault>
     ensures ok { IfOk result (IsJoinedMap rules.now (target_in clusters.now) rounded) }
-    ensures err { IfErr result (IsUnjoined rules.now (target_in clusters.now) rounded.features.items) }
+    ensures err { IfErr result (IsUnjoined rules.now (target_in clusters.now) 0 rounded.features.items) }
 {
     let RoundedMap {
         features,

@@ -1,10 +1,10 @@
 //! A map of fixed features.
-ghost use Rattle.decimal_maps.specs.declared.feature.RawFeature.{RawFeature as Raw};
+ghost use Rattle.decimal_maps.specs.Tally.{nothing_counted};
+ghost use Rattle.fixing.specs.Counts.{no_fixes, sum_of_counts as sum};
 ghost use Rattle.fixing.specs.Forms.{plain_shape, seen_geometry};
-ghost use Rattle.fixing.specs.Counts.{no_fixes};
 ghost use Rattle.fixing.specs.Geometries.{geometry_counted, geometry_left};
-ghost use Rattle.rounded_maps.specs.Fixed.{IsFixedMap, sum_of_tallies};
-ghost use Rattle.std.specs.Prelude.{◌≡◌, ◌++◌, ◌∷◌, [], Any, IfErr, IfOk, List, None, OnOk, Some, map};
+ghost use Rattle.rounded_maps.specs.Fixed.{sum_of_tallies};
+ghost use Rattle.std.specs.Prelude.{◌≡◌, ◌++◌, ◌∷◌, [], IfOk, OnOk, Some, map};
 
 use attributes::Attributes;
 use decimal_maps::{RawFeature, Tally};
@@ -29,14 +29,33 @@ pub struct RoundedMap {
     pub reals: u64,
 }
 
+/// Nothing is fixed.
+pub(crate) fn nothing_fixed() -> Fixes
+    ensures { result ≡ no_fixes }
+{
+    Fixes {
+        collapsed: 0,
+        folded: 0,
+        collections: 0,
+        lost: 0,
+    }
+}
+
+/// A sum of counts, up to the greatest.
+fn sum_of_counts(one: u64, other: u64) -> u64
+    ensures { result ≡ sum one other }
+{
+    one.saturating_add(other)
+}
+
 /// What is counted of both.
 fn sum_of(one: Tally, other: Tally) -> Tally
     ensures { result ≡ sum_of_tallies one other }
 {
     Tally {
-        positions: one.positions.saturating_add(other.positions),
-        heights: one.heights.saturating_add(other.heights),
-        moved: one.moved.saturating_add(other.moved),
+        positions: sum_of_counts(one.positions, other.positions),
+        heights: sum_of_counts(one.heights, other.heights),
+        moved: sum_of_counts(one.moved, other.moved),
         furthest: one.furthest.max(other.furthest),
     }
 }
@@ -52,25 +71,27 @@ fn fix_feature(
     ensures props { IfOk result (λ f. f.feature.props ≡ attributes.props) }
     ensures left { IfOk result (λ f. geometry_left rules.now (seen_geometry geometry) ≡ Some (map plain_shape f.feature.shapes.items)) }
     ensures fixes { IfOk result (λ f. f.fixes ≡ geometry_counted rules.now (seen_geometry geometry) no_fixes) }
-    ensures refused { IfErr result (λ e. e ≡ Broken.Refused → geometry_left rules.now (seen_geometry geometry) ≡ None) }
 {
     let Attributes { id, props, .. } = attributes;
-    let mut fixes = Fixes::default();
+    let mut fixes = nothing_fixed();
     let shapes = fix_geometry(alloc, geometry, rules, &mut fixes)?;
     let feature = FixedFeature { id, props, shapes };
     Ok(RoundedFeature { feature, fixes })
 }
 
 impl RoundedMap {
-    ghost use Rattle.fixing.specs.declared.rules.FixingRules.{FixingRules as Rules};
+    ghost use Rattle.rounded_maps.specs.Fixed.{IsFixed, IsFixedMap};
+    ghost use Rattle.rounded_maps.specs.declared.map.RoundedFeature.{RoundedFeature as Fixed};
 
     /// A map without features.
     fn new(alloc: Global) -> RoundedMap
-        ensures { (rules : Rules) → IsFixedMap rules [] result }
+        ensures features { result.features.items ≡ [] }
+        ensures tally { result.tally ≡ nothing_counted }
+        ensures reals { result.reals ≡ 0 }
     {
         RoundedMap {
             features: Vec::new(alloc),
-            tally: Tally::default(),
+            tally: Tally::new(),
             reals: 0,
         }
     }
@@ -82,8 +103,9 @@ impl RoundedMap {
         feature: RawFeature,
         rules: &FixingRules,
     ) -> Result<(), Broken>
-        ensures fixed { OnOk result ((raws : List Raw) → IsFixedMap rules.now raws self.old → IsFixedMap rules.now (raws ++ feature ∷ []) self.new) }
-        ensures refused { IfErr result (λ e. e ≡ Broken.Refused → geometry_left rules.now (seen_geometry feature.geometry) ≡ None) }
+        ensures fixed { OnOk result ((f : Fixed) × (self.new.features.items ≡ self.old.features.items ++ f ∷ []) × IsFixed rules.now feature f) }
+        ensures tally { OnOk result (self.new.tally ≡ sum_of_tallies self.old.tally feature.tally) }
+        ensures reals { OnOk result (self.new.reals ≡ sum self.old.reals feature.attributes.reals) }
     {
         let RawFeature {
             attributes,
@@ -93,7 +115,7 @@ impl RoundedMap {
         let reals = attributes.reals;
         self.features.push(fix_feature(alloc, attributes, geometry, rules)?)?;
         self.tally = sum_of(self.tally, tally);
-        self.reals = self.reals.saturating_add(reals);
+        self.reals = sum_of_counts(self.reals, reals);
         Ok(())
     }
 
@@ -106,8 +128,7 @@ impl RoundedMap {
         features: Vec<RawFeature>,
         rules: &FixingRules,
     ) -> Result<RoundedMap, Broken>
-        ensures fixed { IfOk result (IsFixedMap rules.now features.items) }
-        ensures refused { IfErr result (λ e. e ≡ Broken.Refused → Any (λ raw. geometry_left rules.now (seen_geometry raw.geometry) ≡ None) features.items) }
+        ensures { IfOk result (IsFixedMap rules.now features.items) }
     {
         let mut map = RoundedMap::new(alloc);
         for feature in features {

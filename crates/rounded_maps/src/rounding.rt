@@ -5,7 +5,7 @@ ghost use Rattle.json.specs.Json.{Json, document};
 ghost use Rattle.reading.specs.Fault.{LeastOrWant};
 ghost use Rattle.rounded_maps.specs.Fixed.{IsFixedMap};
 ghost use Rattle.rounded_maps.specs.Rounded.{IsRounded, faults_under};
-ghost use Rattle.std.specs.Prelude.{◌≡◌, [], IfErr, IfOk, OnOk, Some};
+ghost use Rattle.std.specs.Prelude.{◌≡◌, IfErr, IfOk, Some};
 
 use crate::map::RoundedMap;
 use decimal_faults::{faults, read_value};
@@ -71,7 +71,7 @@ fn read_tree(
     let value = match Value::parse(alloc, text, &mut scratch) {
         Ok(value) => value,
         Err(Error::OutOfMemory) => return Err(want_of_memory(alloc)),
-        Err(_) => return Err(Fault::here(alloc, FaultKind::NotJson)),
+        Err(_) => return Err(refuse(alloc, text.as_bytes(), rules)),
     };
     match read_value(alloc, &rules.map, &value) {
         Ok(features) => Ok(features),
@@ -107,11 +107,10 @@ pub fn round_map(
     rules: &RoundingRules<'_>,
 ) -> Result<RoundedMap, Fault>
     ensures made { IfOk result (IsRounded rules.now bytes.now) }
-    ensures ok { OnOk result (faults_under rules.now bytes.now ≡ []) }
     ensures err { IfErr result (LeastOrWant (faults_under rules.now bytes.now)) }
 {
     let Ok(text) = simdutf8::compat::from_utf8(bytes) else {
-        return Err(Fault::here(alloc, FaultKind::NotJson));
+        return Err(refuse(alloc, bytes, rules));
     };
     let features = read_features(alloc, text, rules)?;
     fix_features(alloc, bytes, features, rules)
