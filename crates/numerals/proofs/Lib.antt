@@ -1,6 +1,9 @@
 pub mod Places
 pub mod Nearest
 pub mod Steps
+pub mod Keeping
+pub mod Numbers
 pub mod Shortness
-pub mod Amounts
+pub mod Printed
 pub mod Ceilings
+pub mod Leasts

@@ -1,9 +1,7 @@
--- Decimal numbers that are added up.
-use Rattle.std.specs.Prelude.{ℕ, ℤ, pos, ◌+ℤ◌, ◌*ℤ◌, ◌-◌, ◌*◌, ◌^◌, ◌≤◌, max, List, FitsSigned}
-use Rattle.std.specs.Int.{w128}
-use Rattle.fast_float.specs.Text.{tens_down}
-use Rattle.numerals.specs.Nearest.{IsNearest}
-use Rattle.numerals.specs.Numeral.{Measure, numerator, parts_of}
+-- Decimal numbers that are printed.
+use Rattle.std.specs.Prelude.{◌≡◌, ℕ, zero, suc, ℤ, pos, negsuc, Bool, true, false, ◌*ℤ◌, ◌+◌, ◌-◌, ◌/◌, ◌%◌, ◌^◌, ◌<◌, ◌≤◌, List, ◌++◌, codes, length, take, drop, replicate, ◌==◌, nat_lt, if◌then◌else◌, unsigned_abs}
+use Rattle.std.specs.Fmt.{decimal, sign_text}
+use Rattle.numerals.specs.Numeral.{Measure, IsNumeral, numerator, denominator}
 
 -- an amount is worth value / 10 ^ places
 pub record Amount : Type 0 where
@@ -18,28 +16,48 @@ amount value places = record { value = value; places = places }
 pub record IsAmount (a : Amount) : Type 0 where
   pub short : a.places ≤ 30
 
--- what a numeral is worth, with as many places as it has
-abbrev pub amount_of : List ℕ → Amount
-amount_of text = amount (numerator text) (tens_down (parts_of text))
+-- so many steps
+abbrev pub steps_amount : Measure → ℤ → Amount
+steps_amount s steps = amount (steps *ℤ pos s.size) s.places
 
--- the value over 10 ^ places, where the amount has no more places than that
-abbrev pub value_at : ℕ → Amount → ℤ
-value_at places a = a.value *ℤ pos (10 ^ (places - a.places))
+-- the amount over a power of ten
+abbrev pub over_power : ℕ → Amount → Amount
+over_power places a = amount a.value (a.places + places)
 
--- the sum of two amounts, with the places of the one that has more
-abbrev pub sum_of : Amount → Amount → Amount
-sum_of a b = let places = max a.places b.places in amount (value_at places a +ℤ value_at places b) places
+-- A number of 10 ^ places-ths with no zero at the end of its fraction.
+pub record Shortest : Type 0 where
+  pub size : ℕ
+  pub places : ℕ
 
--- the sum is formed in numbers of 128 bits
-abbrev pub SumFits : Amount → Amount → Type 0
-SumFits a b =
-    let places = max a.places b.places in
-    FitsSigned w128 (value_at places a) × FitsSigned w128 (value_at places b) × FitsSigned w128 (value_at places a +ℤ value_at places b)
+-- size / 10 ^ places without the zeros at the end of its fraction: 2500 / 10 ^ 3 becomes 25 / 10
+abbrev pub shortest : ℕ → ℕ → Shortest
+shortest zero size = record { size = size; places = 0 }
+shortest (suc places) size = if size % 10 == 0 then shortest places (size / 10) else record { size = size; places = suc places }
 
--- so many times the amount
-abbrev pub times : ℤ → Amount → Amount
-times count a = amount (a.value *ℤ count) a.places
+-- digits with a point before the last so many, and zeros where there are fewer
+abbrev pub pointed : List ℕ → ℕ → List ℕ
+pointed digits places =
+    if places == 0 then digits
+    else (if nat_lt places (length digits) then take (length digits - places) digits ++ (codes "." ++ drop (length digits - places) digits)
+    else codes "0." ++ (replicate (places - length digits) 48 ++ digits))
 
--- n is the whole number of steps that is nearest to the amount
-abbrev pub IsAmountSnapped : Measure → Amount → ℤ → Type 0
-IsAmountSnapped s a n = IsNearest (a.value *ℤ pos (10 ^ s.places)) (s.size * 10 ^ a.places) n
+abbrev pub shortest_text : Shortest → List ℕ
+shortest_text s = pointed (decimal s.size) s.places
+
+-- the number has a minus
+abbrev pub is_below : ℤ → Bool
+is_below (pos n) = false
+is_below (negsuc n) = true
+
+-- an amount as JSON has it, with no exponent and no zeros at the end of its fraction: `-2.5` [RFC 8259, 6]
+abbrev pub amount_text : Amount → List ℕ
+amount_text a = sign_text (is_below a.value) ++ shortest_text (shortest a.places (unsigned_abs a.value))
+
+-- the text is a numeral that is worth just the amount
+pub record IsWorth (text : List ℕ) (a : Amount) : Type 0 where
+  pub numeral : IsNumeral text
+  pub worth : numerator text *ℤ pos (10 ^ a.places) ≡ a.value *ℤ pos (denominator text)
+
+-- what is printed of an amount is worth just the amount
+abbrev pub TextsAreWorth : Type 0
+TextsAreWorth = (a : Amount) → unsigned_abs a.value < 2 ^ 128 → IsWorth (amount_text a) a

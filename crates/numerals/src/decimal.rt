@@ -1,18 +1,12 @@
-//! Decimal numbers that are added up and written.
-ghost use Rattle.fast_float.specs.Text.{tens_down, with_sign};
-ghost use Rattle.grid.specs.Place.{IsGridNumber};
-ghost use Rattle.numerals.specs.Amount.{IsAmountSnapped, SumFits, amount, amount_of, sum_of, times, value_at};
-ghost use Rattle.numerals.specs.Nearest.{IsNearest};
-ghost use Rattle.numerals.specs.Numeral.{IsNumeral, numerator, parts_of};
-ghost use Rattle.std.specs.Int.{w128};
+//! Decimal numbers that are printed.
+ghost use Rattle.numerals.specs.Amount.{amount, amount_text, over_power, pointed, shortest, steps_amount};
 ghost use Rattle.std.specs.Option.{SomeIff};
-ghost use Rattle.std.specs.Prelude.{◌≡◌, ◌↔◌, ◌-◌, ◌^◌, ◌<◌, ◌≤◌, FitsSigned, IfSome, IsSome, pos, unsigned_abs};
+ghost use Rattle.std.specs.Prelude.{◌≡◌, ◌+◌, ◌≤◌, ◌++◌, IfOk, OnOk, codes, drop, length, replicate, take, string_bytes};
+ghost use Rattle.std.specs.Str.{IsAscii};
 
-use crate::digits::{CAP, places_of, size_of};
-use crate::rounding::{with_sign, without_sign};
 use crate::step::DecimalStep;
-use fast_float::Numeral;
-use grid::limits::GREATEST_GRID_NUMBER;
+use itoa::Buffer;
+use std::alloc::{AllocError, Global};
 use std::marker::Model;
 
 /// How many digits a decimal number may have behind its point.
@@ -38,16 +32,6 @@ impl Model for Decimal {
 }
 
 impl Decimal {
-    /// 0.
-    pub fn zero() -> Decimal
-        ensures { result ≡ amount (pos 0) 0 }
-    {
-        Decimal {
-            value: 0,
-            places: 0,
-        }
-    }
-
     /// So much over a power of ten, or None where that has more than `GREATEST_PLACES` places.
     pub fn new(value: i128, places: u32) -> Option<Decimal>
         ensures { SomeIff result (places ≤ 30) (amount value places) }
@@ -58,91 +42,82 @@ impl Decimal {
         Some(Decimal { value, places })
     }
 
-    /// The number that a numeral writes, perhaps with a minus. None where the text is no numeral, has more than
-    /// `GREATEST_PLACES` places, or its digits are 10^30 or more.
-    pub fn parse(text: &[u8]) -> Option<Decimal>
-        ensures given { IfSome result (λ d. d ≡ amount_of text.now) }
-        ensures exact { IsSome result ↔ (IsNumeral text.now × (unsigned_abs (numerator text.now) < 10 ^ 30) × (tens_down (parts_of text.now) ≤ 30)) }
+    /// So many steps, or None where the step has more than `GREATEST_PLACES` places.
+    pub fn of_steps(steps: i64, step: &DecimalStep) -> Option<Decimal>
+        ensures { SomeIff result (step.now.places ≤ 30) (steps_amount step.now steps) }
     {
-        let (negative, unsigned) = without_sign(text);
-        let numeral = Numeral::scan(unsigned);
-        if !numeral.has_digits() || numeral.len() < unsigned.len() {
-            return None;
-        }
-        let (size, places) = (size_of(&numeral), places_of(&numeral));
-        if size >= CAP || places > u128::from(GREATEST_PLACES) {
-            return None;
-        }
-        let value = if negative {
-            -(size as i128)
-        } else {
-            size as i128
-        };
-        Decimal::new(value, places as u32)
+        let size = step.size() as i128;
+        let value = i128::from(steps) * size;
+        Decimal::new(value, step.places())
     }
 
-    /// The value over 10^places, or None where it has more digits behind the point, or does not fit.
-    pub(crate) fn value_at(self, places: u32) -> Option<i128>
-        ensures { SomeIff result ((self.places ≤ places) × FitsSigned w128 (pos (10 ^ (places - self.places))) × FitsSigned w128 (value_at places self)) (value_at places self) }
+    /// The number over a power of ten, or None where it then has more than `GREATEST_PLACES` places.
+    pub fn over_power(self, places: u32) -> Option<Decimal>
+        ensures { SomeIff result (self.places + places ≤ 30) (over_power places self) }
     {
-        let more = places.checked_sub(self.places)?;
-        let power = 10i128.checked_pow(more)?;
-        self.value.checked_mul(power)
+        Decimal::new(self.value, self.places.checked_add(places)?)
     }
 
-    /// The sum of both, or None where it does not fit.
-    pub fn plus(self, other: Decimal) -> Option<Decimal>
-        ensures given { IfSome result (λ d. d ≡ sum_of self other) }
-        ensures exact { IsSome result ↔ SumFits self other }
+    /// The number as JSON has it, with no exponent and no zeros at the end of its fraction: `-2.5`.
+    pub fn to_text(self, alloc: Global) -> Result<String, AllocError>
+        ensures { IfOk result (λ t. string_bytes t ≡ amount_text self) }
     {
-        let places = self.places.max(other.places);
-        let value = self.value_at(places)?.checked_add(other.value_at(places)?)?;
-        Decimal::new(value, places)
-    }
-
-    /// The number where it is a whole one that is written with no place behind its point, and fits.
-    pub fn whole(self) -> Option<i64>
-        ensures { IfSome result (λ n. self ≡ amount n 0) }
-    {
-        if self.places > 0 {
-            return None;
-        }
-        match i64::try_from(self.value) {
-            Ok(n) => Some(n),
-            Err(_) => None,
-        }
-    }
-
-    /// So many times the number, or None where it does not fit.
-    pub fn times(self, count: i64) -> Option<Decimal>
-        ensures { IfSome result (λ d. d ≡ times count self) }
-    {
-        let value = self.value.checked_mul(i128::from(count))?;
-        Decimal::new(value, self.places)
-    }
-
-    /// The whole number of steps that is nearest to the number; of two that are equally near the one
-    /// farther from 0. None beyond the limits of grid numbers, and where it takes numbers of more than
-    /// 128 bits.
-    pub fn nearest(self, step: &DecimalStep) -> Option<i64>
-        ensures { IfSome result (λ n. IsAmountSnapped step.now self n × IsGridNumber n) }
-    {
-        let power = 10u128.checked_pow(step.places())?;
-        let scaled = self.value.unsigned_abs().checked_mul(power)?;
-        let unit = step.size().checked_mul(10u128.checked_pow(self.places)?)?;
-        nearest_whole(self.value < 0, scaled, unit)
+        let (size, places) = without_zeros(self.value.unsigned_abs(), self.places);
+        let mut buffer = Buffer::new();
+        let digits = buffer.format(size);
+        let sign = if self.value < 0 { "-" } else { "" };
+        let mut text = String::from_str(alloc, sign)?;
+        push_digits(&mut text, digits, places as usize)?;
+        Ok(text)
     }
 }
 
-// The whole number that is nearest to a fraction with this sign, or None beyond the limits.
-fn nearest_whole(negative: bool, n: u128, d: u128) -> Option<i64>
-    requires { 0 < d }
-    ensures { IfSome result (λ p. IsNearest (with_sign negative n) d p × IsGridNumber p) }
+// A size over 10^places without the zeros at the end of its fraction.
+fn without_zeros(size: u128, places: u32) -> (u128, u32)
+    ensures size { result.0 ≡ (shortest places size).size }
+    ensures places { result.1 ≡ (shortest places size).places }
 {
-    let halves = n.checked_mul(2)?.checked_add(d)?;
-    let steps = halves / d.checked_mul(2)?;
-    if steps > GREATEST_GRID_NUMBER as u128 {
-        return None;
+    let (mut size, mut places) = (size, places);
+    while places > 0 && size % 10 == 0 {
+        size /= 10;
+        places -= 1;
     }
-    Some(with_sign(negative, steps as u64))
+    (size, places)
+}
+
+// Digits with a point before the last so many.
+fn push_digits(text: &mut String, digits: &str, places: usize) -> Result<(), AllocError>
+    requires { IsAscii digits.now }
+    ensures { OnOk result (string_bytes text.new ≡ string_bytes text.old ++ pointed digits.now places) }
+{
+    if places == 0 {
+        return text.push_str(digits);
+    }
+    if places < digits.len() {
+        return push_split(text, digits, digits.len() - places);
+    }
+    text.push_str("0.")?;
+    push_zeros(text, places - digits.len())?;
+    text.push_str(digits)
+}
+
+// Digits with a point behind the first so many.
+fn push_split(text: &mut String, digits: &str, whole: usize) -> Result<(), AllocError>
+    requires ascii { IsAscii digits.now }
+    requires within { whole ≤ length digits.now }
+    ensures { OnOk result (string_bytes text.new ≡ string_bytes text.old ++ (take whole digits.now ++ (codes "." ++ drop whole digits.now))) }
+{
+    let (front, back) = digits.split_at(whole);
+    text.push_str(front)?;
+    text.push_str(".")?;
+    text.push_str(back)
+}
+
+fn push_zeros(text: &mut String, zeros: usize) -> Result<(), AllocError>
+    ensures { OnOk result (string_bytes text.new ≡ string_bytes text.old ++ replicate zeros 48) }
+{
+    for _ in 0..zeros {
+        text.push_str("0")?;
+    }
+    Ok(())
 }
