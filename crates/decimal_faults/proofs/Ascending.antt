@@ -9,7 +9,6 @@ use Rattle.faults.specs.Fault.{Pair}
 use Rattle.faults.specs.declared.fault.FaultKind.{FaultKind}
 use Rattle.faults.specs.declared.fault.FaultKind.TheVariants as kind
 use Rattle.fixing.specs.declared.rules.FixingRules.{FixingRules}
-use Rattle.attributes.specs.Refusals.{attributes_faults}
 use Rattle.attributes.proofs.Order.{ascending_attributes, beyond_attributes}
 use Rattle.numerals.specs.Numeral.{Measure}
 use Rattle.reading.specs.Fault.{here, under}
@@ -18,8 +17,8 @@ use Rattle.reading.specs.declared.geometry.GeometryType.{GeometryType}
 use Rattle.reading.specs.declared.geometry.GeometryType.TheVariants.{Point, MultiPoint, LineString, MultiLineString, Polygon, MultiPolygon}
 use Rattle.reading.specs.FaultLists.Ascending.{IsAscending}
 use Rattle.reading.proofs.FaultListsLemmas.Ascending.{IsBeyond, ascending_none, ascending_here, ascending_more, ascending_under, ascending_unless, ascending_typed, ascending_outline, beyond_none, beyond_under, beyond_append}
-use Rattle.decimal_faults.specs.Geometries.{unless_empty, coordinates_faults, form_of, form_faults, later, or_missing, geometry_faults, geometries_faults, each_geometry_faults, geometries_in}
-use Rattle.decimal_faults.specs.Maps.{feature_members_faults, feature_faults, root_faults, document_faults, faults_of_text}
+use Rattle.decimal_faults.specs.Geometries.{point_faults, coordinates_faults, form_of, form_faults, later, or_missing, geometry_faults, geometries_faults, each_geometry_faults, geometries_in}
+use Rattle.decimal_faults.specs.Maps.{feature_members_faults, feature_faults, root_faults, document_faults, map_faults, faults_of_text}
 use Rattle.decimal_faults.specs.Outlines.{outline_at_faults}
 use Rattle.decimal_faults.specs.Parts.{array_faults, each_faults, list_faults, there, member_faults, if_there, unless_null, object_faults, numeral_faults, type_text}
 use Rattle.decimal_faults.specs.Positions.{number_faults, coordinate_faults, height_faults, may_have, both_faults, behind_two, numbers_faults, position_faults}
@@ -67,11 +66,6 @@ module _ (of : Json → List Pair) (each : (j : Json) → IsAscending (of j)) wh
   ascending_unless_null : (j : Json) → IsAscending (unless_null of j)
   ascending_unless_null j = ascending_either (is_null j) [] (of j) ascending_none (each j)
 
-  ascending_unless_empty : (j : Json) (o : Option Items) → IsAscending (unless_empty of j o)
-  ascending_unless_empty j None = each j
-  ascending_unless_empty j (Some no_items) = ascending_none
-  ascending_unless_empty j (Some (item k ks)) = each j
-
 ascending_object : (ps : List Pair) (o : Option Members) → IsAscending ps → IsAscending (object_faults ps o)
 ascending_object ps None a = ascending_here kind.WrongKind
 ascending_object ps (Some ms) a = a
@@ -117,8 +111,12 @@ module _ (grid : DecimalGrid) (fixing : FixingRules) where
   ascending_at : (outline : Outline) (j : Json) → IsAscending (outline_at_faults grid fixing outline j)
   ascending_at outline j = ascending_unless (list_faults (position_faults grid) j) _ (ascending_list (position_faults grid) (ascending_position grid) j) (ascending_outline _)
 
+  ascending_point : (j : Json) → IsAscending (point_faults grid j)
+  ascending_point (array no_items) = ascending_none
+  ascending_point j = ascending_position grid j
+
   ascending_coordinates : (k : GeometryType) (j : Json) → IsAscending (coordinates_faults grid fixing k j)
-  ascending_coordinates Point j = ascending_unless_empty (position_faults grid) (ascending_position grid) j (as_array j)
+  ascending_coordinates Point j = ascending_point j
   ascending_coordinates MultiPoint j = ascending_list (position_faults grid) (ascending_position grid) j
   ascending_coordinates LineString j = ascending_at Line j
   ascending_coordinates MultiLineString j = ascending_list (outline_at_faults grid fixing Line) (ascending_at Line) j
@@ -194,13 +192,16 @@ module _ (rules : MapRules) (fixing : FixingRules) where
       (ascending_member (list_faults (feature_faults rules fixing)) (ascending_list (feature_faults rules fixing) ascending_feature) (codes "features") j)
       (ascending_either (bytes_eq s (codes "Feature")) _ _ (ascending_members j) (ascending_geometry rules.grid fixing j))
 
+  ascending_map : (j : Json) → IsAscending (map_faults rules fixing j)
+  ascending_map j = ascending_root j (type_text j)
+
   ascending_document : (o : Option Json) → IsAscending (document_faults rules fixing o)
   ascending_document None = ascending_here kind.NotJson
-  ascending_document (Some j) = ascending_root j (type_text j)
+  ascending_document (Some j) = ascending_map j
 
   pub ascending_text : (bytes : List ℕ) → IsAscending (faults_of_text rules fixing bytes)
   ascending_text bytes = ascending_document (if is_utf8 bytes then document bytes else None)
 
--- a list that has all of them has them in order
-pub told_in_order : (rules : MapRules) (fixing : FixingRules) (bytes : List ℕ) (ps : List Pair) → ps ≡ faults_of_text rules fixing bytes → IsAscending ps
-told_in_order rules fixing bytes ps is = subst IsAscending (sym is) (ascending_text rules fixing bytes)
+  -- a list that has all of a map's faults has them in order
+  pub told_in_order : (j : Json) (ps : List Pair) → ps ≡ map_faults rules fixing j → IsAscending ps
+  told_in_order j ps is = subst IsAscending (sym is) (ascending_map j)
