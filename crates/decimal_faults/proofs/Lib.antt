@@ -1,0 +1,5 @@
+pub mod Numbers
+pub mod Items
+pub mod Faulty
+pub mod Heights
+pub mod Ascending
