@@ -1,10 +1,10 @@
-"""Makes the manual page and the completions from what `topotool --help` and `topotool COMMAND --help` print.
+"""Makes the manual pages and the completions from what `topotool --help`, `topotool COMMAND --help` and `togrid --help` print.
 
     python3 docs/manual.py [--check]
 
-It writes docs/topotool.1, completions/topotool.bash and completions/_topotool (for zsh). With --check it writes nothing, and
-compares: it ends with a line of counts, and with status 1 where a file is not what would be written. The program is
-crates/topotool/out/topotool, or the one that the variable TOPOTOOL names.
+It writes for each program, as for topotool, docs/topotool.1, completions/topotool.bash and completions/_topotool (for zsh). With
+--check it writes nothing, and compares: it ends with a line of counts, and with status 1 where a file is not what would be written.
+The programs are crates/topotool/out/topotool and crates/togrid/out/togrid, or those that the variables TOPOTOOL and TOGRID name.
 """
 
 import os
@@ -14,7 +14,11 @@ import sys
 from typing import NamedTuple
 
 TOP = os.path.dirname(os.path.dirname(os.path.abspath(__file__)))
-PROGRAM = os.path.abspath(os.environ.get("TOPOTOOL", f"{TOP}/crates/topotool/out/topotool"))
+PROGRAMS = {it: os.path.abspath(os.environ.get(it.upper(), f"{TOP}/crates/{it}/out/{it}")) for it in ("topotool", "togrid")}
+SEE_ALSO = {
+    "topotool": ["docs/COMMANDS.md, docs/FAULTS.md and docs/LIBRARY.md of the repository.", ".BR togrid (1),"],
+    "togrid": ["docs/TOGRID.md and docs/FAULTS.md of the repository.", ".BR topotool (1),"],
+}
 OPTION = re.compile(r"(?:(-\w), |    )(--[\w-]+)(?: <([^>]+)>)?")
 
 
@@ -36,8 +40,8 @@ class Help(NamedTuple):
     after: list
 
 
-def called(*words):
-    ran = subprocess.run(["topotool", *words], executable=PROGRAM, stdin=subprocess.DEVNULL, capture_output=True)
+def called(program, *words):
+    ran = subprocess.run([program, *words], executable=PROGRAMS[program], stdin=subprocess.DEVNULL, capture_output=True)
     return ran.stdout.decode(), ran.stderr.decode()
 
 
@@ -58,7 +62,7 @@ def rows_of(part):
 
 
 def help_of(*words):
-    """The help of a command, or of the program."""
+    """The help of a program, or of one of its commands."""
     text, _ = called(*words, "--help")
     parts = paragraphs(text)
     at = next(place for place, it in enumerate(parts) if it.startswith("Usage: "))
@@ -67,9 +71,10 @@ def help_of(*words):
     return Help(parts[:at], parts[at].removeprefix("Usage: "), rows, [it for it in parts[at + 1:] if it not in lists])
 
 
-def values_of(command, option):
-    """The words that an option takes, where they are few: the program names them when it is given another."""
-    _, said = called(command, f"{option}=?")
+def values_of(words, option):
+    """The words that an option of a program or command takes, where they are few: the program names them when it is given
+    another."""
+    _, said = called(*words, f"{option}=?")
     found = re.search(r"\[possible values: ([^\]]+)\]", said)
     return found[1].split(", ") if found else []
 
@@ -106,61 +111,87 @@ def command_section(name, found):
         yield from paragraph(it)
 
 
-def manual(version, whole, commands):
-    """The manual page."""
+def manual(program, whole, commands):
+    """The manual page of a program."""
     title = whole.about[0].split("\n")[0]
+    version = called(program, "--version")[0].strip()
     yield '.\\" Made by docs/manual.py from the help of the program.'
-    yield f'.TH TOPOTOOL 1 "" "{version}" "User Commands"'
-    yield from (".SH NAME", f"topotool \\- {roff(title[0].lower() + title[1:])}")
+    yield f'.TH {program.upper()} 1 "" "{version}" "User Commands"'
+    yield from (".SH NAME", f"{program} \\- {roff(title[0].lower() + title[1:])}")
     yield from (".SH SYNOPSIS", ".B", roff(whole.usage))
     yield ".SH DESCRIPTION"
     for it in whole.about[1:]:
         yield from paragraph(it)
+    if "Arguments" in whole.rows:
+        yield ".SH ARGUMENTS"
+        yield from entries(whole.rows["Arguments"])
     yield ".SH OPTIONS"
     yield from entries(whole.rows["Options"])
-    yield ".SH COMMANDS"
+    if commands:
+        yield ".SH COMMANDS"
     for name, found in commands.items():
         yield from command_section(name, found)
     yield ".SH NOTES"
     for it in whole.after:
         yield from paragraph(it)
-    yield from (".SH SEE ALSO", "docs/COMMANDS.md, docs/FAULTS.md and docs/LIBRARY.md of the repository.", ".BR ogr2ogr (1),", ".BR jq (1)")
+    yield from (".SH SEE ALSO", *SEE_ALSO[program], ".BR ogr2ogr (1),", ".BR jq (1)")
 
 
 # ---- completions
 
-BASH = r"""# Completion of topotool for bash: source it, or put it into bash-completion's folder. Made by docs/manual.py.
-_topotool() {
+BASH = r"""# Completion of PROGRAM for bash: source it, or put it into bash-completion's folder. Made by docs/manual.py.
+_PROGRAM() {
     local word cur=${COMP_WORDS[COMP_CWORD]} before=${COMP_WORDS[COMP_CWORD-1]} command= words=
     COMPREPLY=()
     # A `=` is a word of its own.
     if [[ $before == = ]]; then before=${COMP_WORDS[COMP_CWORD-2]}; fi
     if [[ $cur == = ]]; then cur=; fi
-    for word in "${COMP_WORDS[@]:1:COMP_CWORD-1}"; do
-        case $word in
-            COMMANDS) command=$word; break ;;
-        esac
-    done
+FIND
     case $before in
 VALUES
     esac
     case $command in
 OPTIONS
     esac
-    if [[ -z $command || $cur == -* ]]; then
+    if [[ ALONE$cur == -* ]]; then
         COMPREPLY=($(compgen -W "$words" -- "$cur"))
         return
     fi
     compopt -o filenames 2> /dev/null
     mapfile -t COMPREPLY < <(compgen -f -- "$cur")
 }
-complete -F _topotool topotool
+complete -F _PROGRAM PROGRAM
 """
 
-ZSH = """#compdef topotool
-# Completion of topotool for zsh: put it into a folder of $fpath. Made by docs/manual.py.
-_topotool() {
-    local context state line
+# Finds which command a line names.
+BASH_FIND = r"""    for word in "${COMP_WORDS[@]:1:COMP_CWORD-1}"; do
+        case $word in
+            COMMANDS) command=$word; break ;;
+        esac
+    done"""
+
+ZSH_LAYERS = """A layer's name is typed; behind its `=` comes a file.
+_PROGRAM_layers() {
+    if compset -P '*='; then _files; else _message 'a name of a layer, and ='; fi"""
+
+# A file may stand alone.
+ZSH_NAMED = """A file, or a layer's name, which is typed, a `=` and a file.
+_PROGRAM_layers() {
+    compset -P '*='
+    _files"""
+
+ZSH = """#compdef PROGRAM
+# Completion of PROGRAM for zsh: put it into a folder of $fpath. Made by docs/manual.py.
+# LAYERS
+}
+_PROGRAM() {
+BODY
+}
+_PROGRAM "$@"
+"""
+
+# Where a line names a command first.
+ZSH_COMMANDS = """    local context state line
     typeset -A opt_args
     local -a commands
     commands=(
@@ -173,10 +204,7 @@ COMMANDS
             case $words[1] in
 CASES
             esac ;;
-    esac
-}
-_topotool "$@"
-"""
+    esac"""
 
 
 def words_of(rows):
@@ -184,59 +212,78 @@ def words_of(rows):
     return [it for row in rows for it in row.option()[:2] if it]
 
 
-def bash(whole, commands):
-    values, options = {}, [f'        "") words="{" ".join([*(it.word for it in whole.rows["Commands"]), *words_of(whole.rows["Options"])])}" ;;']
-    for name, found in commands.items():
-        options.append(f'        {name}) words="{" ".join(words_of(found.rows["Options"]))}" ;;')
+def bash(program, whole, commands):
+    values, general = {}, [*(it.word for it in whole.rows.get("Commands", [])), *words_of(whole.rows["Options"])]
+    options = [f'        "") words="{" ".join(general)}" ;;']
+    options += [f'        {name}) words="{" ".join(words_of(found.rows["Options"]))}" ;;' for name, found in commands.items()]
+    for words, found in [([program], whole), *(([program, name], found) for name, found in commands.items())]:
         for row in found.rows["Options"]:
             letter, option, value = row.option()
-            if value and value != "FILE":
-                values["|".join(filter(None, (letter, option)))] = values_of(name, option)
+            if value and value not in ("FILE", "PATH"):
+                values["|".join(filter(None, (letter, option)))] = values_of(words, option)
     cases = [f'        {it}) COMPREPLY=($(compgen -W "{" ".join(words)}" -- "$cur")); return ;;' if words else f"        {it}) return ;;" for it, words in values.items()]
-    return BASH.replace("COMMANDS", "|".join(commands)).replace("VALUES", "\n".join(cases)).replace("OPTIONS", "\n".join(options))
+    text = BASH.replace("FIND\n", BASH_FIND.replace("COMMANDS", "|".join(commands)) + "\n" if commands else "")
+    text = text.replace("ALONE", "-z $command || " if commands else "").replace("VALUES", "\n".join(cases))
+    return text.replace("OPTIONS", "\n".join(options)).replace("PROGRAM", program)
 
 
 def quoted(text):
     return "'" + text.replace("'", "'\\''") + "'"
 
 
-def zsh_option(name, row):
+def zsh_option(of, row):
     """What `_arguments` is told of an option."""
     letter, option, value = row.option()
     text = re.sub(r"([\[\]:\\])", r"\\\1", row.text)
     if value is None:
-        return f"'(- *)'{{{letter},{option}}}{quoted(f'[{text}]')}" if letter else quoted(f"{option}[{text}]")
-    words = values_of(name, option)
-    takes = "_files" if value == "FILE" else f"({' '.join(words)})" if words else " "
+        alone = "- *" if option in ("--help", "--version") else f"{letter} {option}"
+        return f"'({alone})'{{{letter},{option}}}{quoted(f'[{text}]')}" if letter else quoted(f"{option}[{text}]")
+    words = values_of(of, option)
+    takes = "_files" if value in ("FILE", "PATH") else f"({' '.join(words)})" if words else " "
     told = f"[{text}]:{value}:{takes}"
     return f"'({letter} {option})'{{{letter}+,{option}=}}{quoted(told)}" if letter else quoted(f"{option}={told}")
 
 
-def zsh(whole, commands):
-    told = [f"        {quoted(it.word + ':' + it.text.replace(':', chr(92) + ':'))}" for it in whole.rows["Commands"]]
-    cases = []
-    for name, found in commands.items():
-        options = [zsh_option(name, it) for it in found.rows["Options"]]
-        files = quoted("*:NAME=FILE:_topotool_layers" if name == "build" else "*:FILE:_files")
-        lines = " \\\n".join(f"                    {it}" for it in [*options, files])
-        cases.append(f"                {name}) _arguments \\\n{lines} ;;")
-    general = " ".join(zsh_option("", it) for it in whole.rows["Options"])
-    text = ZSH.replace("COMMANDS", "\n".join(told)).replace("CASES", "\n".join(cases)).replace("GENERAL", general)
-    layers = "# A layer's name is typed; behind its `=` comes a file.\n_topotool_layers() {\n    if compset -P '*='; then _files; else _message 'a name of a layer, and ='; fi\n}\n"
-    return text.replace("_topotool() {", layers + "_topotool() {", 1)
+def zsh_arguments(program, of, found, files, indent):
+    """What completes the options and files of a program or command."""
+    options = [zsh_option(of, it) for it in found.rows["Options"]]
+    return "_arguments \\\n" + " \\\n".join(f"{indent}{it}" for it in [*options, quoted(files)])
+
+
+def zsh(program, whole, commands):
+    if commands:
+        told = [f"        {quoted(it.word + ':' + it.text.replace(':', chr(92) + ':'))}" for it in whole.rows["Commands"]]
+        general = " ".join(zsh_option([program], it) for it in whole.rows["Options"])
+        cases = []
+        for name, found in commands.items():
+            files = f"*:NAME=FILE:_{program}_layers" if name == "build" else "*:FILE:_files"
+            cases.append(f"                {name}) {zsh_arguments(program, [program, name], found, files, ' ' * 20)} ;;")
+        body = ZSH_COMMANDS.replace("COMMANDS", "\n".join(told)).replace("CASES", "\n".join(cases)).replace("GENERAL", general)
+    else:
+        body = "    " + zsh_arguments(program, [program], whole, f"*:[NAME=]FILE:_{program}_layers", " " * 8)
+    return ZSH.replace("BODY", body).replace("LAYERS", ZSH_LAYERS if commands else ZSH_NAMED).replace("PROGRAM", program)
+
+
+def made_of(program):
+    """The names and texts of what is made of a program, and how many commands it has."""
+    whole = help_of(program)
+    names = [it.word for it in whole.rows.get("Commands", []) if it.word != "help"]
+    commands = {it: help_of(program, it) for it in names}
+    return {
+        f"docs/{program}.1": "\n".join(manual(program, whole, commands)) + "\n",
+        f"completions/{program}.bash": bash(program, whole, commands),
+        f"completions/_{program}": zsh(program, whole, commands),
+    }, len(names)
 
 
 def main():
-    if not os.path.isfile(PROGRAM):
-        sys.exit(f"{PROGRAM} is not there: rt run in crates/topotool builds it")
-    whole = help_of()
-    names = [it.word for it in whole.rows["Commands"] if it.word != "help"]
-    commands = {it: help_of(it) for it in names}
-    made = {
-        "docs/topotool.1": "\n".join(manual(called("--version")[0].strip(), whole, commands)) + "\n",
-        "completions/topotool.bash": bash(whole, commands),
-        "completions/_topotool": zsh(whole, commands),
-    }
+    made, count = {}, 0
+    for program, file in PROGRAMS.items():
+        if not os.path.isfile(file):
+            sys.exit(f"{file} is not there: rt run in crates/{program} builds it")
+        texts, commands = made_of(program)
+        made.update(texts)
+        count += commands
     wrong = 0
     for name, text in made.items():
         if "--check" not in sys.argv[1:]:
@@ -248,8 +295,8 @@ def main():
         if there != text:
             wrong += 1
             print(f"{name}: not as python3 docs/manual.py makes it")
-    print(f"manual page and completions of {len(commands)} commands: {len(made)} files, {wrong} wrong")
-    return 1 if wrong or not commands else 0
+    print(f"manual pages and completions of {len(PROGRAMS)} programs and {count} commands: {len(made)} files, {wrong} wrong")
+    return 1 if wrong or not count else 0
 
 
 if __name__ == "__main__":

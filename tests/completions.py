@@ -1,9 +1,9 @@
-"""Asks bash for the completions of command lines of topotool, by completions/topotool.bash, in a folder with some files.
+"""Asks bash for the completions of command lines of topotool and togrid, by the files in completions/, in a folder with some files.
 
     python3 tests/completions.py
 
 Ends with a line of counts, and with status 1 where bash answers anything else. Where there is no bash it says that it was
-skipped. That the completions name the words of the program is compared by docs/manual.py.
+skipped. That the completions name the words of the programs is compared by docs/manual.py.
 """
 
 import os
@@ -15,6 +15,12 @@ import tempfile
 TOP = os.path.dirname(os.path.dirname(os.path.abspath(__file__)))
 FILES = ["east.json", "east.topo.json", "west.json"]
 COMMANDS = {"build", "check", "faults", "merge", "remove", "diff", "feature", "mesh", "neighbors", "info", "help"}
+
+# All of togrid's.
+OPTIONS = {
+    *"--build --back --faults --step --snap --id --heights --reals --collapsed --folded --collections --rewind".split(),
+    *"-o --output --report -q --quiet --strict -h --help -V --version".split(),
+}
 
 # The words of a line as bash parts them, where a `=` is a word, and what may stand in place of the last one.
 ROWS = [
@@ -46,14 +52,27 @@ ROWS = [
     (["topotool", "neighbors", "--ids", "--k"], {"--keyed"}),
     (["topotool", "neighbors", "--b"], {"--by"}),
     (["topotool", "info", "--p"], {"--progress"}),
+    (["togrid", "--b"], {"--build", "--back"}),
+    (["togrid", "--st"], {"--step", "--strict"}),
+    (["togrid", "-"], OPTIONS),
+    (["togrid", ""], set(FILES)),
+    (["togrid", "zz"], set()),
+    (["togrid", "--build", "a", "=", "w"], {"west.json"}),
+    (["togrid", "--step", "1"], set()),
+    (["togrid", "--collapsed", ""], {"null", "drop", "refuse"}),
+    (["togrid", "--collapsed", "=", "d"], {"drop"}),
+    (["togrid", "--rewind", "r"], {"rfc7946"}),
+    (["togrid", "--reals", "t"], set()),
+    (["togrid", "-o", "w"], {"west.json"}),
+    (["togrid", "--report", "=", "w"], {"west.json"}),
 ]
 
-ASK = 'source "$1"; shift; COMP_WORDS=("$@"); COMP_CWORD=$(($# - 1)); _topotool; printf "%s\\n" "${COMPREPLY[@]}"'
+ASK = 'source "$1"; shift; COMP_WORDS=("$@"); COMP_CWORD=$(($# - 1)); "_$1"; printf "%s\\n" "${COMPREPLY[@]}"'
 
 
 def answered(words):
     """What bash answers for a line."""
-    ran = subprocess.run(["bash", "-c", ASK, "bash", f"{TOP}/completions/topotool.bash", *words], capture_output=True, text=True)
+    ran = subprocess.run(["bash", "-c", ASK, "bash", f"{TOP}/completions/{words[0]}.bash", *words], capture_output=True, text=True)
     return set(filter(None, ran.stdout.split("\n")))
 
 

@@ -38,6 +38,8 @@ OWNER = re.compile(rf"( *){VISIBLE}(?:impl\b|trait (?P<name>\w+))")
 END = re.compile(r"( *)\}")
 # Lines outside of functions that an edit may change beside functions.
 ASIDE = re.compile(rf"\s*(?://|{VISIBLE}use\b|$)")
+# What rt's must_fail answers for a refusal: kit 13b a truth, 13f a word, also where the prover met a limit of its own.
+REFUSALS = (True, "refused", "limit")
 # The last line of a check of functions alone, which rt does not know.
 COUNTED = re.compile(r"^only=\d+ proved=\d+$(?=\s*\Z)", re.MULTILINE)
 
@@ -331,10 +333,10 @@ class Tries:
         with tempfile.TemporaryDirectory(prefix="kept-") as own:
             try:
                 shutil.copytree(kept, own, copy_function=link_or_copy, dirs_exist_ok=True)
-                is_refused, said = must_fail(crate, f"{TOP}/{path}", flags_for(functions), own)
-                if not is_refused and ": NOT REFUSED: " in said and functions:
-                    is_refused, said = must_fail(crate, f"{TOP}/{path}", flags_for(None), own)
-                self.tell(path, is_refused, said.partition(f"{os.path.basename(path)}: ")[2])
+                answer, said = must_fail(crate, f"{TOP}/{path}", flags_for(functions), own)
+                if answer not in REFUSALS and ": NOT REFUSED: " in said and functions:
+                    answer, said = must_fail(crate, f"{TOP}/{path}", flags_for(None), own)
+                self.tell(path, answer in REFUSALS, said.partition(f"{os.path.basename(path)}: ")[2])
             except subprocess.TimeoutExpired:
                 pass
         self.end(kept)

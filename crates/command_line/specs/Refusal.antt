@@ -8,7 +8,7 @@ use Rattle.sinks.specs.PathText.PathText.{path_text}
 use Rattle.command_line.specs.declared.status.Status.{Status}
 use Rattle.command_line.specs.declared.status.Status.TheVariants.{Usage as WrongUsage, Unreadable as UnreadableFile, Refused, OutOfMemory as NoMemory, Write as OutputFailed}
 use Rattle.command_line.specs.declared.refusal.Usage.{Usage as UsageFault}
-use Rattle.command_line.specs.declared.refusal.Usage.TheVariants.{BadGrid, BadSteps, BadLayer, InputTwice, NoId, SameIds, BadStep, BadTranslation, NoStep, BadReals, BadDistance, BadBack, NoFolder, NameTwice}
+use Rattle.command_line.specs.declared.refusal.Usage.TheVariants.{BadGrid, BadSteps, BadLayer, InputTwice, NoId, SameIds, BadStep, BadReals, BadDistance, BadBack, BadReport, NoFolder, NameTwice}
 use Rattle.command_line.specs.declared.refusal.Refusal.{Refusal}
 use Rattle.command_line.specs.declared.refusal.Refusal.TheVariants.{Usage, Unreadable, Text, NoDegrees, OtherGrid, NoLayer, BadPlan, OutOfMemory, Write}
 
@@ -33,11 +33,10 @@ usage_words InputTwice = codes "standard input can be read once only"
 usage_words (NoId layer) = codes "--ids: a feature without an id in layer "
 usage_words (SameIds layer) = codes "--keyed: two features with one id in layer "
 usage_words (BadStep word) = codes "bad step "
-usage_words (BadTranslation word) = codes "bad translation "
-usage_words NoStep = codes "--translate needs --step"
 usage_words (BadReals word) = codes "bad reals "
 usage_words (BadDistance word) = codes "bad snap "
-usage_words BadBack = codes "--back takes one topology, and no --build"
+usage_words BadBack = codes "--back takes one topology"
+usage_words (BadReport file) = codes "the report would replace "
 usage_words NoFolder = codes "more than one file: say -o FOLDER"
 usage_words (NameTwice file) = codes "two files would be called "
 
@@ -50,11 +49,10 @@ usage_name InputTwice = []
 usage_name (NoId layer) = layer.now
 usage_name (SameIds layer) = layer.now
 usage_name (BadStep word) = word.now
-usage_name (BadTranslation word) = word.now
-usage_name NoStep = []
 usage_name (BadReals word) = word.now
 usage_name (BadDistance word) = word.now
 usage_name BadBack = []
+usage_name (BadReport file) = file.now
 usage_name NoFolder = []
 usage_name (NameTwice file) = file.now
 

@@ -1,6 +1,6 @@
 //! The words of the command line, read with clap: the commands, what each takes, and their help.
 
-mod rows;
+pub(crate) mod rows;
 
 use clap::{Arg, ArgMatches, Command, Error};
 use rows::{ASKING, ArgumentRow, COMMON, CommandRow, Form, JOINING, MAKING};
@@ -25,12 +25,9 @@ Status: 0 done, 1 `check` says no or `diff` finds a difference, 2 wrong usage,
 /// What `--version` prints behind the program's name.
 const VERSION: &str = "0.1.0";
 
-/// Lets no value through but these words, which help does not list. The first is taken where there is none.
+/// Lets no value through but these words, which help does not list.
 fn among<'a>(argument: Arg<'a>, words: &'a [&'a str]) -> Arg<'a> {
-    argument
-        .value_parser(words)
-        .hide_possible_values(true)
-        .default_value(words.first().copied().unwrap_or(""))
+    argument.value_parser(words).hide_possible_values(true)
 }
 
 /// An argument with its name, where the words give it by that, and what help calls its value.
@@ -47,7 +44,7 @@ fn with_name<'a>(argument: Arg<'a>, name: &'a str, form: Form) -> Arg<'a> {
 /// An argument with the letter that stands for its name.
 fn with_letter<'a>(argument: Arg<'a>, form: Form) -> Arg<'a> {
     match form {
-        Form::Lettered(letter, _) => argument.short(letter),
+        Form::Lettered(letter, _) | Form::LetteredFlag(letter) => argument.short(letter),
         _ => argument,
     }
 }
@@ -56,17 +53,30 @@ fn with_letter<'a>(argument: Arg<'a>, form: Form) -> Arg<'a> {
 fn with_values<'a>(argument: Arg<'a>, form: Form) -> Arg<'a> {
     match form {
         Form::Words => argument.num_args(1..),
-        Form::OneOf(_, words) => among(argument, words),
+        Form::OneOf(_, words) => {
+            among(argument, words).default_value(words.first().copied().unwrap_or(""))
+        }
+        Form::AnyOf(_, words) => among(argument, words),
         _ => argument,
     }
 }
 
-/// An argument with what its form says of another one.
+/// An argument that does not go with others.
+fn without<'a>(argument: Arg<'a>, others: &[&'a str]) -> Result<Arg<'a>, AllocError> {
+    let mut argument = argument;
+    for other in others {
+        argument = argument.conflicts_with(*other)?;
+    }
+    Ok(argument)
+}
+
+/// An argument with what its form says of others.
 fn with_other<'a>(argument: Arg<'a>, form: Form) -> Result<Arg<'a>, AllocError> {
     match form {
         Form::NeededWithout(_, other) => argument.required_unless_present(other),
         Form::ValueNotWith(_, other) => argument.conflicts_with(other),
         Form::FlagWith(other) => argument.requires_arg(other),
+        Form::FlagNotWith(others) => without(argument, others),
         _ => Ok(argument),
     }
 }
@@ -86,7 +96,7 @@ fn argument<'a>(alloc: Global, row: &ArgumentRow) -> Result<Arg<'a>, AllocError>
 }
 
 /// A command of what its help prints in front and behind, without arguments.
-fn with_title<'a>(alloc: Global, name: &'a str, about: &'a str, after: &'a str) -> Command<'a> {
+pub(crate) fn with_title<'a>(alloc: Global, name: &'a str, about: &'a str, after: &'a str) -> Command<'a> {
     Command::new(alloc, name).about(about).after_help(after)
 }
 
@@ -100,7 +110,7 @@ fn command<'a>(alloc: Global, row: &CommandRow) -> Result<Command<'a>, AllocErro
 }
 
 /// A command with further arguments.
-fn with_arguments<'a>(
+pub(crate) fn with_arguments<'a>(
     alloc: Global,
     mut command: Command<'a>,
     rows: &[ArgumentRow],

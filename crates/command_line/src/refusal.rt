@@ -29,16 +29,14 @@ pub enum Usage<'a> {
     SameIds(&'a str),
     /// The word after `--step` is no step.
     BadStep(&'a str),
-    /// The word after `--translate` is no pair of numbers, or has too many digits for the step.
-    BadTranslation(&'a str),
-    /// `--translate` is given without `--step`.
-    NoStep,
     /// A word after `--reals` is none of those that may be there.
     BadReals(&'a str),
     /// The word after `--snap` is no whole number up to 10.
     BadDistance(&'a str),
-    /// `--back` and `--build` are together, or `--back` with more than one file.
+    /// `--back` is given with more than one file.
     BadBack,
+    /// The file of a report is one that is read, or another output.
+    BadReport(&'a str),
     /// More than one file, and no folder for them.
     NoFolder,
     /// Two files of one name for a folder.
@@ -58,11 +56,10 @@ impl<'a> Usage<'a> {
             Usage::NoId(_) => "--ids: a feature without an id in layer ",
             Usage::SameIds(_) => "--keyed: two features with one id in layer ",
             Usage::BadStep(_) => "bad step ",
-            Usage::BadTranslation(_) => "bad translation ",
-            Usage::NoStep => "--translate needs --step",
             Usage::BadReals(_) => "bad reals ",
             Usage::BadDistance(_) => "bad snap ",
-            Usage::BadBack => "--back takes one topology, and no --build",
+            Usage::BadBack => "--back takes one topology",
+            Usage::BadReport(_) => "the report would replace ",
             Usage::NoFolder => "more than one file: say -o FOLDER",
             Usage::NameTwice(_) => "two files would be called ",
         }
@@ -77,11 +74,13 @@ impl<'a> Usage<'a> {
             | Usage::BadSteps(word)
             | Usage::BadLayer(word)
             | Usage::BadStep(word)
-            | Usage::BadTranslation(word)
             | Usage::BadReals(word)
             | Usage::BadDistance(word) => word,
-            Usage::NoId(name) | Usage::SameIds(name) | Usage::NameTwice(name) => name,
-            Usage::InputTwice | Usage::NoStep | Usage::BadBack | Usage::NoFolder => "",
+            Usage::NoId(name)
+            | Usage::SameIds(name)
+            | Usage::BadReport(name)
+            | Usage::NameTwice(name) => name,
+            Usage::InputTwice | Usage::BadBack | Usage::NoFolder => "",
         }
     }
 }

@@ -99,7 +99,7 @@ sound_polygons_stay rules polygon fixes keep h = (
 )
 
 pub turned_rings_turn : law.TurnedRingsTurn
-turned_rings_turn is_outer l f g n = turned_turns l (record { ahead = f; back = g }) is_outer n
+turned_rings_turn is_outer l fits n = turned_turns l fits is_outer n
 
 pub turned_rings_stay : law.TurnedRingsStay
-turned_rings_stay rewind is_outer l f g = rewound_stays rewind is_outer l (record { ahead = f; back = g })
+turned_rings_stay rewind is_outer l fits = rewound_stays rewind is_outer l fits

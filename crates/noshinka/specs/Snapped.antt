@@ -1,32 +1,40 @@
 -- What it is to snap a text, and why one is not snapped.
-use Rattle.std.specs.Prelude.{◌≡◌, ◌⊎◌, ◌<◌, ◌^◌, ℕ, pos, List, [], ◌∷◌, Option, None, IsUtf8, codes, false}
-use Rattle.decimals.specs.Geojson.Snapped.{AreWritten, HasBad}
-use Rattle.decimals.specs.declared.geojson.place.JsonPlace.TheVariants.{Outside}
-use Rattle.decimals.specs.declared.geojson.rules.RoundingRules.{RoundingRules}
-use Rattle.decimals.specs.Numeral.{IsMeasure, IsUnsigned, measure_of}
+use Rattle.std.specs.Prelude.{◌≡◌, ◌⊎◌, ◌<◌, ◌^◌, ℕ, List, [], ◌∷◌, None, codes, false, true}
 use Rattle.fast_float.specs.Text.{scan, tens_down}
-use Rattle.faults.specs.Fault.{IsWant, pair_of}
+use Rattle.faults.specs.Fault.{IsWant}
 use Rattle.faults.specs.declared.fault.Fault.{Fault}
-use Rattle.faults.specs.declared.fault.FaultKind.TheVariants.{NotJson}
-use Rattle.geojson_io.specs.Features.{faults_of_text}
-use Rattle.grid.specs.Place.{Transform, scaling, transform}
-use Rattle.json.specs.Json.{document}
-use Rattle.json.specs.Lex.{tokens}
+use Rattle.fixing.specs.declared.rules.Collapsed.TheVariants.{Null}
+use Rattle.fixing.specs.declared.rules.FixingRules.{FixingRules}
+use Rattle.fixing.specs.declared.rules.Rewind.TheVariants.{Keep}
+use Rattle.decimal_maps.specs.declared.rules.DecimalGrid.{DecimalGrid}
+use Rattle.numerals.specs.Numeral.{IsMeasure, IsUnsigned, measure_of}
 use Rattle.reading.specs.Fault.{LeastOrWant}
+use Rattle.rounded_maps.specs.Rounded.{IsRounded, faults_under}
+use Rattle.rounded_maps.specs.Written.{map_text, whole}
+use Rattle.rounded_maps.specs.declared.map.RoundedMap.{RoundedMap}
+use Rattle.rounded_maps.specs.declared.rounding.RoundingRules.{RoundingRules}
 use Rattle.noshinka.specs.declared.refusal.CallRefusal.{CallRefusal}
 use Rattle.noshinka.specs.declared.refusal.CallRefusal.TheVariants.{BadGrid, Text, OutOfMemory}
-
--- the grid of whole numbers
-abbrev pub whole : Transform
-whole = transform (scaling (pos 1) (pos 0)) (scaling (pos 1) (pos 0))
 
 -- a numeral without a sign, whose digits are within a step's limits
 abbrev pub IsSize : List ℕ → Type 0
 IsSize numeral = IsUnsigned numeral × IsMeasure (measure_of numeral) × (tens_down (scan numeral) < 2 ^ 32)
 
--- numbers may be so far from 0; heights are left out, and numbers with a fraction in properties become texts
-abbrev pub rules_within : List ℕ → ℕ → ℕ → RoundingRules
-rules_within numeral x y = record { step = measure_of numeral; greatest_x = x; greatest_y = y; keeps_heights = false; keeps_reals = false }
+-- the grid of a step, where numbers may be so far from 0; heights are left out
+abbrev pub grid_within : List ℕ → ℕ → ℕ → DecimalGrid
+grid_within numeral x y = record { step = measure_of numeral; greatest_x = x; greatest_y = y; refuses_heights = false; measures = false }
+
+-- what collapses becomes null, what is folded is split, so are collections, and rings are not turned
+abbrev pub all_fixed : FixingRules
+all_fixed = record { collapsed = Null; splits_folded = true; splits_collections = true; rewind = Keep }
+
+-- the rules of that grid, where all is fixed, ids stay, no property is scaled, and numbers with a fraction become texts
+pub record AreRulesWithin (numeral : List ℕ) (x y : ℕ) (rules : RoundingRules) : Type 0 where
+  pub grid : rules.map.grid ≡ grid_within numeral x y
+  pub id : rules.map.attributes.id ≡ None
+  pub scales : rules.map.attributes.scales.now ≡ []
+  pub reals : rules.map.attributes.refuses_reals ≡ false
+  pub fixing : rules.fixing ≡ all_fixed
 
 -- no text stands for a millionth of a degree
 abbrev pub numeral_of : List ℕ → List ℕ
@@ -38,47 +46,27 @@ abbrev pub IsStep : List ℕ → Type 0
 IsStep step = IsSize (numeral_of step)
 
 -- the rules for a step; of degrees, no number is beyond 180 and 90
-abbrev pub rules_of : List ℕ → RoundingRules
-rules_of [] = rules_within (numeral_of []) 180000000 90000000
-rules_of (b ∷ bs) = rules_within (b ∷ bs) (2 ^ 40) (2 ^ 40)
+abbrev pub AreRules : List ℕ → RoundingRules → Type 0
+AreRules [] = AreRulesWithin (numeral_of []) 180000000 90000000
+AreRules (b ∷ bs) = AreRulesWithin (b ∷ bs) (2 ^ 40) (2 ^ 40)
 
--- the tokens of t are those of the text, each coordinate snapped, and a build on the grid of whole numbers accepts t
-pub record IsSnapped (rules : RoundingRules) (text t : List ℕ) : Type 0 where
-  pub written : AreWritten rules Outside (tokens text) (tokens t)
-  pub accepted : faults_of_text whole t ≡ []
+-- t is the FeatureCollection of the features of the text, each coordinate the nearest whole number of steps, and each feature fixed
+pub record IsSnapped (step text t : List ℕ) : Type 0 where
+  pub rules : RoundingRules
+  pub are : AreRules step rules
+  pub map : RoundedMap
+  pub rounded : IsRounded rules text map
+  pub written : t ≡ map_text whole map.features.items
 
--- text 0 is refused as a whole, as no JSON
-pub record IsNotJson (r : CallRefusal) : Type 0 where
+-- text 0 is refused with the first fault that it has under the rules of the step
+pub record IsFaultyText (step text : List ℕ) (r : CallRefusal) : Type 0 where
+  pub rules : RoundingRules
+  pub are : AreRules step rules
   pub fault : Fault
   pub is : r ≡ Text 0 fault
-  pub at_root : pair_of fault ≡ record { path = []; kind = NotJson }
-
--- the text is not UTF-8, or no JSON
-abbrev pub IsNoJson : List ℕ → Type 0
-IsNoJson text = (IsUtf8 text → ⊥) ⊎ ((document text ≡ None) ⊎ HasBad (tokens text))
-
--- the text is refused as no JSON, or memory was refused
-abbrev pub IsNoJsonRefusal : List ℕ → CallRefusal → Type 0
-IsNoJsonRefusal text r = (r ≡ OutOfMemory) ⊎ (IsNotJson r × IsNoJson text)
-
--- text 0 is refused with the first error that it has on the grid of whole numbers
-pub record IsLeastRefusal (text : List ℕ) (r : CallRefusal) : Type 0 where
-  pub fault : Fault
-  pub is : r ≡ Text 0 fault
-  pub least : LeastOrWant (faults_of_text whole text) fault
+  pub least : LeastOrWant (faults_under rules text) fault
   pub no_want : IsWant fault → ⊥
 
--- the text is refused on that grid, or memory was refused
-abbrev pub IsReadRefusal : List ℕ → CallRefusal → Type 0
-IsReadRefusal text r = (r ≡ OutOfMemory) ⊎ IsLeastRefusal text r
-
--- the refusal of the text with its coordinates snapped
-pub record IsSnappedRefusal (rules : RoundingRules) (text : List ℕ) (r : CallRefusal) : Type 0 where
-  pub snapped : List ℕ
-  pub written : AreWritten rules Outside (tokens text) (tokens snapped)
-  pub refused : IsLeastRefusal snapped r
-
--- why a text is not snapped: the step is none; else the text is no JSON; else, once it is snapped, it is refused
+-- why a text is not snapped: the step is none; else the text has a fault that nothing fixes; or memory was refused
 abbrev pub IsSnapRefusal : List ℕ → List ℕ → CallRefusal → Type 0
-IsSnapRefusal step text r =
-    (r ≡ OutOfMemory) ⊎ (((r ≡ BadGrid) × (IsStep step → ⊥)) ⊎ (IsStep step × ((IsNotJson r × IsNoJson text) ⊎ IsSnappedRefusal (rules_of step) text r)))
+IsSnapRefusal step text r = (r ≡ OutOfMemory) ⊎ (((r ≡ BadGrid) × (IsStep step → ⊥)) ⊎ IsFaultyText step text r)

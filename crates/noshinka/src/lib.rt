@@ -10,7 +10,7 @@ ghost use Rattle.noshinka.specs.Differing.{IsDiffAnswer, IsDiffRefusal};
 ghost use Rattle.noshinka.specs.Ends.{EndsWith, IsVerdict};
 ghost use Rattle.noshinka.specs.Lent.{grid_of, lent_sources};
 ghost use Rattle.noshinka.specs.Listing.{IsFaultText, IsListRefusal, faults_as, format_of};
-ghost use Rattle.noshinka.specs.Snapped.{IsSnapped, IsSnapRefusal, rules_of};
+ghost use Rattle.noshinka.specs.Snapped.{IsSnapped, IsSnapRefusal};
 ghost use Rattle.noshinka.specs.Why.{IsBuildRefusal, IsMergeRefusal, IsQuestionRefusal, IsRemoveRefusal, IsTextRefusal};
 ghost use Rattle.std.specs.List.{range_with_len};
 ghost use Rattle.std.specs.Prelude.{◌≡◌, ◌≤◌, ◌⊎◌, None, Some, false, length, nat_eq};
@@ -159,11 +159,12 @@ pub extern "C" fn noshinka_info(alloc: Global, text: &[u8], json: u32, room: &mu
     answer(alloc, info(alloc, text, json), room)
 }
 
-/// Puts a GeoJSON text into the room whose coordinates are whole numbers of steps: of each the nearest. The step is a
-/// numeral without a sign, as `0.25` or `1e-6`; an empty one stands for degrees, with steps of 0.000001.
+/// Puts the features of a GeoJSON text into the room as a FeatureCollection, as `togrid` prints it: coordinates are whole
+/// numbers of steps, of each the nearest. The step is a numeral without a sign, as `0.25` or `1e-6`; an empty one stands for
+/// degrees, with steps of 0.000001.
 #[unsafe(no_mangle)]
 pub extern "C" fn noshinka_snap(alloc: Global, text: &[u8], step: &[u8], room: &mut [u8]) -> Outcome
-    ensures { EndsWith (IsSnapped (rules_of step.now) text.now) (IsSnapRefusal step.now text.now) result room.old room.new }
+    ensures { EndsWith (IsSnapped step.now text.now) (IsSnapRefusal step.now text.now) result room.old room.new }
 {
     answer(alloc, snap(alloc, text, step), room)
 }

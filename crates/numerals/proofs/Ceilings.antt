@@ -3,23 +3,25 @@ use Rattle.std.proofs.Common.{◌≡◌, ◌↔◌, ℕ, zero, suc, ◌+◌, ◌
 use Rattle.std.proofs.lemmas.Bool.{cases_lt}
 use Rattle.std.proofs.lemmas.Bool.Decides.{nat_tests}
 use Rattle.std.proofs.lemmas.Int.{ints}
-use Rattle.std.proofs.lemmas.Nat.{div-add-mod', mod_below, pow-add}
+use Rattle.std.proofs.lemmas.Nat.{div-add-mod', le-div, mod_below, pow-add}
 use Rattle.std.specs.Prelude.{unsigned_abs}
 use Rattle.std.specs.Str.Parse.{AllDigits, digits_value}
 use Rattle.fast_float.specs.Text.{Parts, digits_of, tens_up, tens_down, with_sign}
 use Rattle.fast_float.proofs.ExactLemmas.{ten_to_pos}
 use Rattle.numerals.specs.Distance.{AreTenThousandths, away, rounded_up}
-use Rattle.numerals.specs.Nearest.{IsRounded}
-use Rattle.numerals.specs.Offset.{IsQuotient}
-use Rattle.numerals.specs.Tenths.{floor_of, kept_of}
+use Rattle.numerals.specs.Quotient.{IsQuotient}
+use Rattle.numerals.specs.Floor.{floor_of, kept_of}
+use Rattle.numerals.specs.Laws.{OnTheGridIsNotMoved}
+use Rattle.numerals.specs.Numeral.{dividend, divisor}
+use Rattle.numerals.proofs.Steps.{some_divisor}
 use Rattle.numerals.proofs.Places.{exact_where, first_digits_is}
 
 -- x is a / b rounded up
-record IsCeiling (a b x : ℕ) : Type 0 where
-  low : a ≤ x * b
-  high : x * b < a + b
+pub record IsCeiling (a b x : ℕ) : Type 0 where
+  pub low : a ≤ x * b
+  pub high : x * b < a + b
 
-ceiling_of : (a b : ℕ) → 0 < b → IsCeiling a b (rounded_up a b)
+pub ceiling_of : (a b : ℕ) → 0 < b → IsCeiling a b (rounded_up a b)
 ceiling_of a b some =
     let split = div-add-mod' (a + (b - 1)) b in
     let rest = mod_below (a + (b - 1)) b some in
@@ -43,15 +45,15 @@ left_below k l b m r less e =
       | inr fine ↦ fine
     ]
 
-one_left : (k l b m r : ℕ) → m < b → r < b → k * b + m ≡ l * b + r → m ≡ r
+pub one_left : (k l b m r : ℕ) → m < b → r < b → k * b + m ≡ l * b + r → m ≡ r
 one_left k l b m r p q e =
     let same : k ≡ l = omega (arith, left_below k l b m r p e, left_below l k b r m q (sym e)) in
     omega (arith, e, ap (λ x. x * b) same)
 
 -- so many ten-thousandths, of which w are behind a whole number: the rest of the number is w ten-thousandths
-rest_is : (n d k : ℕ) (e : Bool) → 0 < d → AreTenThousandths n d k e
+rest_is : (n d k : ℕ) (e : Bool) → 0 < d → k * d ≤ 10000 * n → 10000 * n < (k + 1) * d → (IsTrue e ↔ (10000 * n ≡ k * d))
     → ((k % 10000) * d ≤ 10000 * (n % d)) × (10000 * (n % d) < (k % 10000 + 1) * d) × (IsTrue e ↔ (10000 * (n % d) ≡ (k % 10000) * d))
-rest_is n d k e some h =
+rest_is n d k e some low high exact =
     let q = n / d in
     let r = n % d in
     let split : n ≡ q * d + r = sym (div-add-mod' n d) in
@@ -61,16 +63,16 @@ rest_is n d k e some h =
     let all : k * d ≡ (k / 10000) * 10000 * d + (k % 10000) * d = ap (λ x. x * d) parts ∙ omega arith in
     let same : q ≡ k / 10000 =
     elim (cases_lt q (k / 10000)) [
-      | inl more ↦ let next : q + 1 ≤ k / 10000 = omega arith in absurd (omega (arith, h.low, all, split, below, mul-le-mul_right d next))
+      | inl more ↦ let next : q + 1 ≤ k / 10000 = omega arith in absurd (omega (arith, low, all, split, below, mul-le-mul_right d next))
       | inr other ↦ elim (cases_lt (k / 10000) q) [
-        | inl more ↦ let next : k / 10000 + 1 ≤ q = omega arith in absurd (omega (arith, h.high, all, split, mul-le-mul_right d few, mul-le-mul_right d next))
+        | inl more ↦ let next : k / 10000 + 1 ≤ q = omega arith in absurd (omega (arith, high, all, split, mul-le-mul_right d few, mul-le-mul_right d next))
         | inr fine ↦ omega arith
       ]
     ] in
     let whole : (k / 10000) * d ≡ q * d = ap (λ x. x * d) (sym same) in (
-      omega (arith, h.low, all, split, whole),
-      omega (arith, h.high, all, split, whole),
-      (λ t. omega (arith, h.is_exact.0 t, all, split, whole), λ z. h.is_exact.1 (omega (arith, z, all, split, whole))),
+      omega (arith, low, all, split, whole),
+      omega (arith, high, all, split, whole),
+      (λ t. omega (arith, exact.0 t, all, split, whole), λ z. exact.1 (omega (arith, z, all, split, whole))),
     )
 
 differences : (w d : ℕ) → w < 10000 → (10000 - w) * d + w * d ≡ 10000 * d
@@ -115,63 +117,76 @@ nearer r d w x false some below few low high exact is =
           | inr other ↦ absurd (different (omega arith))
         ]
 
-pub distance_is : (n d k x : ℕ) (e : Bool) → 0 < d → AreTenThousandths n d k e → x ≡ cond e (k % 10000) (k % 10000 + 1)
+pub distance_is : (n d k x : ℕ) (e : Bool) → 0 < d → k < 10 ^ 17 → AreTenThousandths n d k e → x ≡ cond e (k % 10000) (k % 10000 + 1)
     → min x (10000 - k % 10000) ≡ rounded_up (10000 * away n d) d
-distance_is n d k x e some h is =
-    let rest = rest_is n d k e some h in
+distance_is n d k x e some few h is =
+    let rest = rest_is n d k e some h.low (h.high few) (h.is_exact few) in
     one_ceiling (10000 * away n d) d _ _ (nearer (n % d) d (k % 10000) x e some (mod_below n d some) (omega arith) rest.0 rest.1 rest.2 is) (ceiling_of (10000 * away n d) d some)
 
+-- a count that is capped
+capped : (n d k x : ℕ) (e : Bool) → k * d ≤ 10000 * n → 10000 * n < (k + 1) * d → (IsTrue e ↔ (10000 * n ≡ k * d)) → x ≡ min k (10 ^ 17) → AreTenThousandths n d x e
+capped n d k x e low high exact is =
+    elim (cases_lt k (10 ^ 17)) [
+      | inl few ↦ let same : x ≡ k = omega arith in rw same (record { limit = omega arith; low = low; high = λ _. high; is_exact = λ _. exact })
+      | inr many ↦
+          let same : x ≡ 10 ^ 17 = omega arith in
+          rw same (record {
+            limit = omega arith;
+            low = omega (arith, low, mul-le-mul_right d many);
+            high = λ none. absurd (omega (arith, none));
+            is_exact = λ none. absurd (omega (arith, none));
+          })
+    ]
+
 -- a fraction by one division
-pub divided : (n d p u : ℕ) → 0 < d → p ≡ 10000 * n → u ≡ d → AreTenThousandths n d (p / u) (nat_eq (p % u) 0)
-divided n d p u some above below =
+pub divided : (n d p u x : ℕ) → 0 < d → p ≡ 10000 * n → u ≡ d → x ≡ min (p / u) (10 ^ 17) → AreTenThousandths n d x (nat_eq (p / u * u) p)
+divided n d p u x some above below is =
+    let k = 10000 * n / d in
     let split = div-add-mod' (10000 * n) d in
     let rest = mod_below (10000 * n) d some in
-    rw (above, below) (record {
-      low = omega (arith, split);
-      high = omega (arith, split, rest);
-      is_exact = grind (arith, nat_tests, split);
-    })
+    let capped_at : x ≡ min k (10 ^ 17) = rw (above, below) at is in
+    rw (above, below) (capped n d k x (nat_eq (k * d) (10000 * n)) (omega (arith, split)) (omega (arith, split, rest)) (grind (arith, nat_tests)) capped_at)
 
 -- units of which a step has s, rounded down and then divided
-in_steps : (n e s t q : ℕ) (b f : Bool) → 0 < s → 0 < e → t ≡ 10000 * n → IsQuotient t e q → (IsTrue b ↔ (t ≡ q * e)) → (IsTrue f ↔ (IsTrue b × (q % s ≡ 0)))
-    → AreTenThousandths n (s * e) (q / s) f
-in_steps n e s t q b f some units is quotient exact flag =
+in_steps : (n e s t q x : ℕ) (b f : Bool) → 0 < s → 0 < e → t ≡ 10000 * n → IsQuotient t e q → (IsTrue b ↔ (t ≡ q * e)) → (IsTrue f ↔ (IsTrue b × (q % s ≡ 0)))
+    → x ≡ min (q / s) (10 ^ 17) → AreTenThousandths n (s * e) x f
+in_steps n e s t q x b f some units is quotient exact flag cap =
     let k = q / s in
     let r = q % s in
     let split : q ≡ k * s + r = sym (div-add-mod' q s) in
     let rest : r + 1 ≤ s = omega (arith, mod_below q s some) in
     let all : q * e ≡ k * s * e + r * e = ap (λ x. x * e) split ∙ omega arith in
-    record {
-      low = omega (arith, is, quotient.low, all);
-      high = omega (arith, is, quotient.high, all, mul-le-mul_right e rest);
-      is_exact = (
-        λ y. let both = flag.0 y in omega (arith, is, exact.0 both.0, all, ap (λ x. x * e) both.1, zero-mul e),
-        λ z.
-            let none : r ≡ 0 = nothing r (λ more. let one : 1 ≤ r = omega arith in omega (arith, is, quotient.low, all, z, units, mul-le-mul_right e one)) in
-            flag.1 (exact.1 (omega (arith, is, z, all, ap (λ x. x * e) none, zero-mul e)), none),
-      );
-    }
+    capped n (s * e) k x f (omega (arith, is, quotient.low, all)) (omega (arith, is, quotient.high, all, mul-le-mul_right e rest)) (
+      λ y. let both = flag.0 y in omega (arith, is, exact.0 both.0, all, ap (λ x. x * e) both.1, zero-mul e),
+      λ z.
+          let none : r ≡ 0 = nothing r (λ more. let one : 1 ≤ r = omega arith in omega (arith, is, quotient.low, all, z, units, mul-le-mul_right e one)) in
+          flag.1 (exact.1 (omega (arith, is, z, all, ap (λ x. x * e) none, zero-mul e)), none),
+    ) cap
   where
     nothing : (r : ℕ) → (0 < r → ⊥) → r ≡ 0
     nothing zero h = refl
     nothing (suc k) h = absurd (h (omega arith))
 
--- a quotient below the cap was not capped
-not_capped : (n d q s : ℕ) → IsQuotient n d q → n < 10 ^ 30 * d → s ≡ min q (10 ^ 30) → s ≡ q
-not_capped n d q s h near e =
-    elim (cases_lt q (10 ^ 30)) [
-      | inl less ↦ omega arith
-      | inr more ↦ absurd (omega (arith, h.low, near, mul-le-mul_right d more))
-    ]
+-- a quotient that was capped
+in_many_steps : (n e s t q x : ℕ) (f : Bool) → 0 < s → s ≤ 10 ^ 12 → t ≡ 10000 * n → q * e ≤ t → 10 ^ 30 ≤ q → x ≡ min (10 ^ 30 / s) (10 ^ 17) → AreTenThousandths n (s * e) x f
+in_many_steps n e s t q x f some limit is low many cap =
+    let more : 10 ^ 17 ≤ 10 ^ 30 / s = le-div (10 ^ 17) (10 ^ 30) s some (omega arith) in
+    let same : x ≡ 10 ^ 17 = omega arith in
+    let most : s * e ≤ 10 ^ 12 * e = mul-le-mul_right e limit in
+    rw same (record {
+      limit = omega arith;
+      low = omega (arith, is, low, most, mul-le-mul_right e many);
+      high = λ none. absurd (omega (arith, none));
+      is_exact = λ none. absurd (omega (arith, none));
+    })
 
--- the digits of a numeral that is near, with four places more than the step has
-pub digits_in_steps : (p : Parts) (size places q : ℕ) (b f : Bool) → 1 ≤ size → size ≤ 10 ^ 12 → AllDigits 10 (p.whole ++ p.fraction)
+-- the digits of a numeral, with four places more than the step has
+pub digits_in_steps : (p : Parts) (size places q x : ℕ) (b f : Bool) → 1 ≤ size → size ≤ 10 ^ 12 → AllDigits 10 (p.whole ++ p.fraction)
     → q ≡ min (floor_of (places + 4) p) (10 ^ 30)
     → (IsTrue b ↔ (digits_value 10 (drop (kept_of (places + 4) p) (p.whole ++ p.fraction)) ≡ 0))
-    → (IsTrue f ↔ (IsTrue b × (q % size ≡ 0)))
-    → 2 * (digits_of p * 10 ^ (tens_up p + places)) ≤ (2 ^ 41 + 1) * (size * 10 ^ tens_down p)
-    → AreTenThousandths (digits_of p * 10 ^ (tens_up p + places)) (size * 10 ^ tens_down p) (q / size) f
-digits_in_steps p size places q b f some limit digits floor nothing flag near =
+    → (IsTrue f ↔ (IsTrue b × (q % size ≡ 0))) → x ≡ min (q / size) (10 ^ 17)
+    → AreTenThousandths (digits_of p * 10 ^ (tens_up p + places)) (size * 10 ^ tens_down p) x f
+digits_in_steps p size places q x b f some limit digits floor nothing flag cap =
     let n = digits_of p * 10 ^ (tens_up p + places) in
     let e = 10 ^ tens_down p in
     let units = ten_to_pos (tens_down p) in
@@ -180,10 +195,15 @@ digits_in_steps p size places q b f some limit digits floor nothing flag near =
     let more : digits_of p * 10 ^ (tens_up p + (places + 4)) ≡ 10000 * n = omega (arith, ap (λ x. digits_of p * x) tens) in
     let quotient = first_digits_is (p.whole ++ p.fraction) (tens_up p + (places + 4)) (tens_down p) digits in
     let exact = exact_where (p.whole ++ p.fraction) (tens_up p + (places + 4)) (tens_down p) digits in
-    let most : size * e ≤ 10 ^ 12 * e = mul-le-mul_right e limit in
-    let same : q ≡ floor_of (places + 4) p = not_capped _ e _ q quotient (omega (arith, more, near, most, units)) floor in
-    in_steps n e size _ q b f some units more (subst (λ x. IsQuotient (digits_of p * 10 ^ (tens_up p + (places + 4))) e x) (sym same) quotient)
-    (λ t. exact.0 (nothing.0 t) ∙ ap (λ x. x * e) (sym same), λ z. nothing.1 (exact.1 (z ∙ ap (λ x. x * e) same))) flag
+    elim (cases_lt (floor_of (places + 4) p) (10 ^ 30)) [
+      | inl few ↦
+          let same : q ≡ floor_of (places + 4) p = omega arith in
+          in_steps n e size _ q x b f some units more (subst (λ x. IsQuotient (digits_of p * 10 ^ (tens_up p + (places + 4))) e x) (sym same) quotient)
+          (λ t. exact.0 (nothing.0 t) ∙ ap (λ x. x * e) (sym same), λ z. nothing.1 (exact.1 (z ∙ ap (λ x. x * e) same))) flag cap
+      | inr many ↦
+          let same : q ≡ 10 ^ 30 = omega arith in
+          in_many_steps n e size _ (floor_of (places + 4) p) x f some limit more quotient.low many (cap ∙ ap (λ y. min (y / size) (10 ^ 17)) same)
+    ]
 
 -- one test after another
 pub whole_where : (r : ℕ) (b : Bool) → b ≡ true → IsTrue (nat_eq r 0) ↔ (IsTrue b × (r ≡ 0))
@@ -192,10 +212,26 @@ whole_where r b e = rw e (grind (arith, nat_tests))
 pub whole_not : (r : ℕ) (b : Bool) → b ≡ false → IsTrue b ↔ (IsTrue b × (r ≡ 0))
 whole_not r b e = rw e (λ t. let off = t in absurd (cc), λ both. both.0)
 
--- a number of which a grid number is the nearest
-pub near_rounded : (n d q : ℕ) → IsRounded n d q → q ≤ 2 ^ 40 → 2 * n ≤ (2 ^ 41 + 1) * d
-near_rounded n d q h few = omega (arith, h.high, mul-le-mul_right d few)
-
 pub size_of_sign : (negative : Bool) (n : ℕ) → unsigned_abs (with_sign negative n) ≡ n
 size_of_sign false n = refl
 size_of_sign true n = omega (arith, ints)
+
+away_zero : (n d : ℕ) → 0 < d → (rounded_up (10000 * away n d) d ≡ 0) ↔ ((k : ℕ) × (n ≡ k * d))
+away_zero n d some =
+    let split = div-add-mod' n d in
+    let below = mod_below n d some in
+    let ceiling = ceiling_of (10000 * away n d) d some in (
+      λ e. (n / d, omega (arith, split, below, ceiling.low, ap (λ x. x * d) e, zero-mul d)),
+      λ p.
+          let none : n % d ≡ 0 = one_left (n / d) p.0 d (n % d) 0 below some (omega (arith, split, p.1)) in
+          zero_from (rounded_up (10000 * away n d) d) (λ more.
+          let one : 1 ≤ rounded_up (10000 * away n d) d = omega arith in
+          omega (arith, none, ceiling.high, mul-le-mul_right d one)),
+    )
+  where
+    zero_from : (x : ℕ) → (0 < x → ⊥) → x ≡ 0
+    zero_from zero h = refl
+    zero_from (suc k) h = absurd (h (omega arith))
+
+pub on_the_grid_is_not_moved : OnTheGridIsNotMoved
+on_the_grid_is_not_moved s text h = away_zero (unsigned_abs (dividend s text)) (divisor s text) (some_divisor s text h)

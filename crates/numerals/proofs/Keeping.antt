@@ -3,13 +3,13 @@ use Rattle.std.proofs.Common.{◌≡◌, ℕ, suc, ◌+◌, ◌*◌, ◌^◌, �
 use Rattle.std.proofs.lemmas.Bool.{cases_lt}
 use Rattle.std.proofs.lemmas.Int.{ints, unsigned_abs-mul}
 use Rattle.std.specs.Prelude.{unsigned_abs}
-use Rattle.fast_float.proofs.ExactLemmas.{ten_to_pos}
-use Rattle.fast_float.specs.Text.{tens_down, with_sign}
+use Rattle.fast_float.specs.Text.{with_sign}
 use Rattle.grid.proofs.Multiples.{difference_times, times_order}
 use Rattle.numerals.specs.Laws.{EqualNumeralsSnapAlike, OrderIsKept, GridStays}
 use Rattle.numerals.specs.Nearest.{IsNearest, IsRounded}
-use Rattle.numerals.specs.Numeral.{Measure, IsMeasure, numerator, denominator, dividend, divisor, parts_of}
+use Rattle.numerals.specs.Numeral.{Measure, numerator, denominator, dividend, divisor}
 use Rattle.numerals.proofs.Nearest.{below_times, from_nearest}
+use Rattle.numerals.proofs.Steps.{some_divisor}
 
 swap : (p : ℤ) (a b : ℕ) → (p *ℤ pos a) *ℤ pos b ≡ (p *ℤ pos b) *ℤ pos a
 swap (pos q) a b = ap pos (omega arith)
@@ -59,9 +59,6 @@ nearest_order (negsuc a) (negsuc b) d e p q i j h r s =
       rounded_order (suc b) e (unsigned_abs q) (suc a) d (unsigned_abs p) j
           (omega (arith, ints, rw (below_times (suc a) e, below_times (suc b) d) at h)) y.0 x.0,
     )
-
-some_divisor : (s : Measure) (text : List ℕ) → IsMeasure s → 0 < divisor s text
-some_divisor s text h = omega (arith, mul-le-mul_right (denominator text) h.some, ten_to_pos (tens_down (parts_of text)))
 
 -- what is compared of two numerals, in steps
 crossed : (s : Measure) (a b : List ℕ) → dividend s a *ℤ pos (divisor s b) ≡ (numerator a *ℤ pos (denominator b)) *ℤ pos (10 ^ s.places * s.size)

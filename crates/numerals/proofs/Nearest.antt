@@ -1,10 +1,11 @@
 -- Numbers rounded to the nearest, by their size and with their sign.
-use Rattle.std.proofs.Common.{◌≡◌, ℕ, zero, suc, ◌+◌, ◌*◌, ◌/◌, ◌<◌, ◌^◌, ◌≤◌, min, Bool, true, false, ℤ, pos, negsuc, ◌-ℤ◌, ◌*ℤ◌, ◌⊎◌, inl, inr, refl, zero-mul, arith, mul-le-mul_right}
+use Rattle.std.proofs.Common.{◌≡◌, ℕ, zero, suc, ◌+◌, ◌*◌, ◌/◌, ◌<◌, ◌^◌, ◌≤◌, Bool, true, false, ℤ, pos, negsuc, ◌-ℤ◌, ◌*ℤ◌, ◌⊎◌, inl, inr, refl, zero-mul, arith, mul-le-mul_right}
 use Rattle.std.proofs.lemmas.Bool.{cases_lt}
 use Rattle.std.proofs.lemmas.Int.{ints}
-use Rattle.std.proofs.lemmas.Nat.{div-add-mod', mod_below, mul-le, le-div}
+use Rattle.std.proofs.lemmas.Nat.{div-add-mod', mod_below}
 use Rattle.std.specs.Prelude.{unsigned_abs}
 use Rattle.fast_float.specs.Text.{with_sign}
+use Rattle.numerals.specs.Distance.{AreTenThousandths}
 use Rattle.numerals.specs.Nearest.{IsNearest, IsRounded}
 
 not_above : (n d q r : ℕ) → IsRounded n d q → IsRounded n d r → q ≤ r
@@ -63,35 +64,31 @@ from_nearest true n d (negsuc k) h a = (
   refl,
 )
 
--- the tenths, rounded to whole numbers of a size
-pub rounded_tenths : (n e s t : ℕ) → 0 < s → t * e ≤ n * 10 → n * 10 < (t + 1) * e → IsRounded n (s * e) ((t + 5 * s) / (10 * s))
-rounded_tenths n e s t some low high =
-    let q = (t + 5 * s) / (10 * s) in
-    let split = div-add-mod' (t + 5 * s) (10 * s) in
-    let rest = mod_below (t + 5 * s) (10 * s) (omega arith) in
-    let under : q * (10 * s) ≤ t + 5 * s = omega arith in
-    let over : t + 5 * s + 1 ≤ q * (10 * s) + 10 * s = omega arith in
-    record {
-      low = omega (arith, low, mul-le-mul_right e under);
-      high = omega (arith, high, mul-le-mul_right e over);
-    }
+-- ten-thousandths, rounded to whole numbers
+pub rounded_parts : (n d k : ℕ) → k * d ≤ 10000 * n → 10000 * n < (k + 1) * d → IsRounded n d ((k + 5000) / 10000)
+rounded_parts n d k low high =
+    let q = (k + 5000) / 10000 in
+    let under : q * 10000 ≤ k + 5000 = omega arith in
+    let over : k + 5001 ≤ (q + 1) * 10000 = omega arith in
+    record { low = omega (arith, low, mul-le-mul_right d under); high = omega (arith, high, mul-le-mul_right d over) }
 
--- the same of tenths that were capped: within the limit the cap is not met, and beyond it every rounded number is
-pub capped_within : (n e s t c : ℕ) → 0 < s → s ≤ 10 ^ 12 → t * e ≤ n * 10 → n * 10 < (t + 1) * e → c ≡ min t (10 ^ 30)
-    → (c + 5 * s) / (10 * s) ≤ 2 ^ 40 → IsRounded n (s * e) ((c + 5 * s) / (10 * s))
-capped_within n e s t c some limit low high is within =
-    let q = (c + 5 * s) / (10 * s) in
-    let split = div-add-mod' (c + 5 * s) (10 * s) in
-    let rest = mod_below (c + 5 * s) (10 * s) (omega arith) in
-    let most = mul-le q s (2 ^ 40) (10 ^ 12) within limit in
-    let same : c ≡ t = omega (arith, split, rest, most) in
-    rw same (rounded_tenths n e s t some low high)
+-- so many that the limits are passed
+rounded_far : (n d k r : ℕ) → 0 < d → 10 ^ 17 ≤ k → k * d ≤ 10000 * n → IsRounded n d r → 2 ^ 40 < r
+rounded_far n d k r some far low a =
+    elim (cases_lt (2 ^ 40) r) [
+      | inl h ↦ h
+      | inr few ↦ let next : r + 1 ≤ 2 ^ 40 + 1 = omega arith in absurd (omega (arith, some, low, a.high, mul-le-mul_right d far, mul-le-mul_right d next))
+    ]
 
-pub capped_beyond : (n e s t c r : ℕ) → 0 < s → t * e ≤ n * 10 → n * 10 < (t + 1) * e → c ≡ min t (10 ^ 30)
-    → 2 ^ 40 < (c + 5 * s) / (10 * s) → IsRounded n (s * e) r → 2 ^ 40 < r
-capped_beyond n e s t c r some low high is beyond a =
-    let less : c + 5 * s ≤ t + 5 * s = omega arith in
-    omega (arith, one_rounded n (s * e) _ r (rounded_tenths n e s t some low high) a, le-div ((c + 5 * s) / (10 * s)) (t + 5 * s) (10 * s) (omega arith) (omega (arith, less, div-add-mod' (c + 5 * s) (10 * s))))
+pub within : (n d k : ℕ) (e : Bool) → AreTenThousandths n d k e → (k + 5000) / 10000 ≤ 2 ^ 40 → IsRounded n d ((k + 5000) / 10000)
+within n d k e h few = rounded_parts n d k h.low (h.high (omega arith))
+
+pub beyond : (n d k r : ℕ) (e : Bool) → 0 < d → AreTenThousandths n d k e → 2 ^ 40 < (k + 5000) / 10000 → IsRounded n d r → 2 ^ 40 < r
+beyond n d k r e some h many a =
+    elim (cases_lt k (10 ^ 17)) [
+      | inl less ↦ omega (arith, many, one_rounded n d _ r (rounded_parts n d k h.low (h.high less)) a)
+      | inr far ↦ rounded_far n d k r some far h.low a
+    ]
 
 -- halves over twice the size, rounded down
 pub rounded_halves_of : (n d : ℕ) → 0 < d → IsRounded n d ((n * 2 + d) / (d * 2))

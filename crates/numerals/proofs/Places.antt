@@ -11,8 +11,8 @@ use Rattle.fast_float.proofs.DigitsLemmas.{digits_value-append, digits_value_aft
 use Rattle.fast_float.proofs.ExactLemmas.{ten_to_pos}
 use Rattle.fast_float.proofs.Rows.{AllDigits-drop}
 use Rattle.fast_float.specs.Text.{Parts}
-use Rattle.numerals.specs.Offset.{IsQuotient}
-use Rattle.numerals.specs.Tenths.{IsKept, first_digits, floor_of, kept_of}
+use Rattle.numerals.specs.Quotient.{IsQuotient}
+use Rattle.numerals.specs.Floor.{IsKept, first_digits, floor_of, kept_of}
 
 pub after_more : (v : ℕ) (ds : List ℕ) (i : ℕ) → i < length ds
     → digits_value_after 10 v (take (i + 1) ds) ≡ digits_value_after 10 v (take i ds) * 10 + digit_value (get_or ds i 0)

@@ -1,7 +1,7 @@
 -- Numerals with no exponent, read digit by digit, and rounded.
-use Rattle.std.proofs.Common.{◌≡◌, ℕ, ◌+◌, ◌*◌, ◌/◌, ◌%◌, ◌^◌, ◌<◌, ◌≤◌, Bool, true, false, List, [], ◌∷◌, ◌++◌, length, IsTrue, Option, Some, ◌↔◌, refl, sym, ap, ap₂, ◌∙◌, subst, lit<, arith, append-nil, append_assoc, length-append, mul-le-mul_right}
+use Rattle.std.proofs.Common.{◌≡◌, ℕ, ◌+◌, ◌*◌, ◌%◌, ◌^◌, ◌<◌, ◌≤◌, Bool, true, false, List, [], ◌∷◌, ◌++◌, length, IsTrue, refl, sym, ap, ap₂, ◌∙◌, subst, lit<, arith, append-nil, append_assoc, length-append, mul-le-mul_right}
 use Rattle.std.proofs.Math.Nat.{pow-le-pow_right}
-use Rattle.std.proofs.lemmas.Nat.{div-add-mod', mod_below, mul-le}
+use Rattle.std.proofs.lemmas.Nat.{mul-le}
 use Rattle.std.proofs.lemmas.Str.{digit_value_digit}
 use Rattle.std.proofs.lemmas.Bool.Decides.{nat_tests}
 use Rattle.std.specs.Char.{digit_value}
@@ -11,8 +11,7 @@ use Rattle.fast_float.proofs.ExactLemmas.{ten_to_pos}
 use Rattle.fast_float.proofs.Rows.{AllDigits-append}
 use Rattle.fast_float.proofs.Writing.{scan-text_of}
 use Rattle.fast_float.specs.Text.{Parts, scan, has_digits, digits_of, tens_up, tens_down, IsWellFormed}
-use Rattle.numerals.specs.Nearest.{IsRounded}
-use Rattle.numerals.specs.Numeral.{IsUnsigned}
+use Rattle.numerals.specs.Distance.{AreTenThousandths}
 use Rattle.numerals.specs.Short.{IsFront, IsShort}
 use Rattle.numerals.proofs.Places.{after_append}
 
@@ -79,14 +78,6 @@ point_short text left behind rest n m c h is dot g e some =
     (subst (λ k. IsShort text (digits_value 10 (h.front ++ g.front)) k) same
     (of_plain h.front true g.front text h.digits g.digits (λ no. absurd cc) long (all ∙ ap (λ l. h.front ++ l) (sym (append-nil (46 ∷ g.front))))))
 
--- a fraction rounded
-pub rounded_halves : (n d : ℕ) → 0 < d → IsRounded n d ((2 * n + d) / (2 * d))
-rounded_halves n d some =
-    let q = (2 * n + d) / (2 * d) in
-    let split = div-add-mod' (2 * n + d) (2 * d) in
-    let rest = mod_below (2 * n + d) (2 * d) (omega arith) in
-    record { low = omega (arith, split, rest); high = omega (arith, split, rest) }
-
 pub emptied : (l : List ℕ) → length l ≡ 0 → l ≡ []
 emptied [] e = refl
 emptied (x ∷ l) e = absurd (omega (arith, e))
@@ -100,22 +91,16 @@ unit_bounds size places some limit few =
     let above = mul-le size (10 ^ places) (10 ^ 12) (10 ^ 18) limit most in
     (omega (arith, ten_to_pos places, mul-le-mul_right (10 ^ places) some), omega (arith, above))
 
-pub scaled_bound : (digits places : ℕ) → digits < 2 ^ 64 → places ≤ 12 → 2 * digits * 10 ^ places ≤ 2 ^ 65 * 10 ^ 12
+pub scaled_bound : (digits places : ℕ) → digits < 2 ^ 64 → places ≤ 12 → 10000 * digits * 10 ^ places ≤ 10 ^ 4 * 2 ^ 64 * 10 ^ 12
 scaled_bound digits places less few =
     let most : 10 ^ places ≤ 10 ^ 12 = pow-le-pow_right (lit< tt) {j = 12} few in
-    mul-le (2 * digits) (10 ^ places) (2 ^ 65) (10 ^ 12) (omega (arith, less)) most
+    mul-le (10000 * digits) (10 ^ places) (10 ^ 4 * 2 ^ 64) (10 ^ 12) (omega (arith, less)) most
 
--- what is exact of a short numeral is exact of its text
-pub short_exact : (u : List ℕ) (digits places moved size : ℕ) (r : Option ℕ) (q : ℕ) → IsShort u digits places
-    → (r ≡ Some q) ↔ (IsRounded (digits * 10 ^ moved) (size * 10 ^ places) q × (q ≤ 2 ^ 40))
-    → (r ≡ Some q) ↔ (IsUnsigned u × IsRounded (digits_of (scan u) * 10 ^ (tens_up (scan u) + moved)) (size * 10 ^ tens_down (scan u)) q × (q ≤ 2 ^ 40))
-short_exact u digits places moved size r q s x =
+-- the parts of a short numeral are those of its text
+pub short_parts : (u : List ℕ) (number places moved size k : ℕ) (e : Bool) → IsShort u number places → AreTenThousandths (number * 10 ^ moved) (size * 10 ^ places) k e
+    → AreTenThousandths (digits_of (scan u) * 10 ^ (tens_up (scan u) + moved)) (size * 10 ^ tens_down (scan u)) k e
+short_parts u number places moved size k e s h =
     let sum : tens_up (scan u) + moved ≡ moved = omega (arith, s.up) in
-    let n : digits_of (scan u) * 10 ^ (tens_up (scan u) + moved) ≡ digits * 10 ^ moved = ap₂ (λ a b. a * 10 ^ b) s.digits sum in
+    let n : digits_of (scan u) * 10 ^ (tens_up (scan u) + moved) ≡ number * 10 ^ moved = ap₂ (λ a b. a * 10 ^ b) s.digits sum in
     let d : size * 10 ^ tens_down (scan u) ≡ size * 10 ^ places = ap (λ a. size * 10 ^ a) s.down in
-    let unsigned : IsUnsigned u = record { digits = s.some; complete = s.complete } in (
-      λ e.
-          let a = x.0 e in
-          (unsigned, subst (λ k. IsRounded k (size * 10 ^ tens_down (scan u)) q) (sym n) (subst (λ k. IsRounded (digits * 10 ^ moved) k q) (sym d) a.0), a.1),
-      λ b. x.1 (subst (λ k. IsRounded k (size * 10 ^ places) q) n (subst (λ k. IsRounded (digits_of (scan u) * 10 ^ (tens_up (scan u) + moved)) k q) d b.1), b.2),
-    )
+    rw (n, d) h

@@ -1,37 +1,16 @@
 -- The steps of a numeral, with no sign and with one.
-use Rattle.std.proofs.Common.{◌≡◌, ℕ, suc, ◌+◌, ◌*◌, ◌/◌, ◌^◌, ◌<◌, ◌≤◌, ◌++◌, min, Bool, true, false, ℤ, pos, negsuc, ◌*ℤ◌, List, ◌↔◌, refl, sym, subst, ap, ◌∙◌, arith}
-use Rattle.std.proofs.Math.Nat.{pow-suc}
+use Rattle.std.proofs.Common.{◌≡◌, ℕ, ◌+◌, ◌*◌, ◌/◌, ◌^◌, ◌<◌, ◌≤◌, Bool, true, false, ℤ, pos, negsuc, ◌*ℤ◌, List, Option, Some, None, ◌↔◌, refl, sym, subst, ap, ◌∙◌, arith, mul-le-mul_right}
 use Rattle.std.proofs.lemmas.Int.{ints}
 use Rattle.std.proofs.lemmas.Nat.{pow-add}
 use Rattle.std.specs.Prelude.{unsigned_abs}
-use Rattle.std.specs.Str.Parse.{AllDigits, starts_with_minus}
-use Rattle.fast_float.specs.Text.{Parts, digits_of, tens_up, tens_down, with_sign}
+use Rattle.std.specs.Str.Parse.{starts_with_minus}
+use Rattle.fast_float.proofs.ExactLemmas.{ten_to_pos}
+use Rattle.fast_float.specs.Text.{digits_of, tens_up, tens_down, with_sign}
 use Rattle.grid.specs.Place.{IsGridNumber}
+use Rattle.numerals.specs.Distance.{AreTenThousandths, distance_of}
 use Rattle.numerals.specs.Nearest.{IsNearest, IsRounded}
-use Rattle.numerals.specs.Numeral.{Measure, dividend, parts_of}
-use Rattle.numerals.specs.Tenths.{tenths_of}
-use Rattle.numerals.proofs.Nearest.{below_times, one_rounded, to_nearest, from_nearest, capped_within, capped_beyond}
-use Rattle.numerals.specs.Offset.{IsQuotient}
-use Rattle.numerals.proofs.Places.{first_digits_is}
-
--- q steps of a size over 10 ^ places are nearest to a numeral with no sign
-abbrev pub IsNearestTo : Parts → ℕ → ℕ → ℕ → Type 0
-IsNearestTo p size places q = IsRounded (digits_of p * 10 ^ (tens_up p + places)) (size * 10 ^ tens_down p) q
-
-quotient_of : (p : Parts) (places : ℕ) → AllDigits 10 (p.whole ++ p.fraction)
-    → IsQuotient (digits_of p * 10 ^ (tens_up p + places) * 10) (10 ^ tens_down p) (tenths_of places p)
-quotient_of p places h =
-    let more : tens_up p + (places + 1) ≡ suc (tens_up p + places) = omega arith in
-    let tens : 10 ^ (tens_up p + (places + 1)) ≡ 10 ^ (tens_up p + places) * 10 = rw more (pow-suc 10 (tens_up p + places)) in
-    let same : digits_of p * 10 ^ (tens_up p + (places + 1)) ≡ digits_of p * 10 ^ (tens_up p + places) * 10 = omega (arith, ap (λ x. digits_of p * x) tens) in
-    subst (λ n. IsQuotient n (10 ^ tens_down p) (tenths_of places p)) same (first_digits_is (p.whole ++ p.fraction) (tens_up p + (places + 1)) (tens_down p) h)
-
-module _ (p : Parts) (size places capped : ℕ) (some : 1 ≤ size) (limit : size ≤ 10 ^ 12) (digits : AllDigits 10 (p.whole ++ p.fraction)) (is : capped ≡ min (tenths_of places p) (10 ^ 30)) where
-  pub steps_within : (capped + 5 * size) / (10 * size) ≤ 2 ^ 40 → IsNearestTo p size places ((capped + 5 * size) / (10 * size))
-  steps_within within = let quotient = quotient_of p places digits in capped_within _ _ size _ capped some limit quotient.low quotient.high is within
-
-  pub steps_beyond : (q : ℕ) → 2 ^ 40 < (capped + 5 * size) / (10 * size) → IsNearestTo p size places q → 2 ^ 40 < q
-  steps_beyond q beyond a = let quotient = quotient_of p places digits in capped_beyond _ _ size _ capped q some quotient.low quotient.high is beyond a
+use Rattle.numerals.specs.Numeral.{IsMeasure, IsNumeral, IsSnapped, Measure, denominator, dividend, divisor, parts_of}
+use Rattle.numerals.proofs.Nearest.{below_times, beyond, one_rounded, to_nearest, from_nearest, within}
 
 -- a sign is kept by a positive factor
 pub sign_times : (negative : Bool) (a b : ℕ) → with_sign negative a *ℤ pos b ≡ with_sign negative (a * b)
@@ -61,3 +40,42 @@ signed_nearest negative n d q p some a within = (
 pub grid_size : (p : ℤ) → IsGridNumber p → unsigned_abs p ≤ 2 ^ 40
 grid_size (pos q) h = omega (arith, ints, h.high)
 grid_size (negsuc k) h = omega (arith, ints, h.low)
+
+abbrev pub pair : ℤ → ℕ → Option (ℤ × ℕ)
+pair p d = Some (p, d)
+
+pub pair_parts : (z p : ℤ) (x d : ℕ) → pair z x ≡ pair p d → (z ≡ p) × (x ≡ d)
+pair_parts z p x d q = (ap first q, ap second q)
+  where
+    first : Option (ℤ × ℕ) → ℤ
+    first None = pos 0
+    first (Some q) = q.0
+
+    second : Option (ℤ × ℕ) → ℕ
+    second None = 0
+    second (Some q) = q.1
+
+-- a position and a distance are those of a numeral
+abbrev pub IsMeasured : Measure → List ℕ → ℤ → ℕ → Type 0
+IsMeasured s text p d = IsNumeral text × IsSnapped s text p × IsGridNumber p × (d ≡ distance_of s text)
+
+pub some_divisor : (s : Measure) (text : List ℕ) → IsMeasure s → 0 < divisor s text
+some_divisor s text h = omega (arith, mul-le-mul_right (denominator text) h.some, ten_to_pos (tens_down (parts_of text)))
+
+module _ (s : Measure) (text : List ℕ) (k : ℕ) (e : Bool) (limits : IsMeasure s) (numeral : IsNumeral text)
+    (h : AreTenThousandths (digits_of (parts_of text) * 10 ^ (tens_up (parts_of text) + s.places)) (s.size * 10 ^ tens_down (parts_of text)) k e) where
+  pub measured_within : (z : ℤ) (x : ℕ) → (k + 5000) / 10000 ≤ 2 ^ 40 → z ≡ with_sign (starts_with_minus text) ((k + 5000) / 10000) → x ≡ distance_of s text
+      → (p : ℤ) (d : ℕ) → (pair z x ≡ pair p d) ↔ IsMeasured s text p d
+  measured_within z x few is far p d =
+      let some = some_divisor s text limits in
+      let exact = rw (dividend_is text s) at (signed_nearest (starts_with_minus text) _ _ ((k + 5000) / 10000) p some (within _ _ k e h few) few) in (
+        λ q. let same = pair_parts z p x d q in let a = exact.0 (sym is ∙ same.0) in (numeral, a.0, a.1, sym same.1 ∙ far),
+        λ b. (λ i. pair ((is ∙ exact.1 (b.1, b.2)) i) ((far ∙ sym b.3) i)),
+      )
+
+  pub measured_beyond : (p : ℤ) (d : ℕ) → 2 ^ 40 < (k + 5000) / 10000 → IsMeasured s text p d → ⊥
+  measured_beyond p d many b =
+      let some = some_divisor s text limits in
+      let n = digits_of (parts_of text) * 10 ^ (tens_up (parts_of text) + s.places) in
+      let sized = from_nearest (starts_with_minus text) n (divisor s text) p some (rw (← dividend_is text s) at b.1) in
+      omega (arith, grid_size p b.2, beyond _ _ k (unsigned_abs p) e some h many sized.0)

@@ -1,5 +1,5 @@
 -- How far numerals are from the nearest whole number of steps.
-use Rattle.std.specs.Prelude.{◌≡◌, ◌↔◌, ℕ, ◌+◌, ◌-◌, ◌*◌, ◌/◌, ◌%◌, ◌<◌, ◌≤◌, min, IsTrue, Bool, List, unsigned_abs}
+use Rattle.std.specs.Prelude.{◌≡◌, ◌↔◌, ℕ, ◌+◌, ◌-◌, ◌*◌, ◌/◌, ◌%◌, ◌^◌, ◌<◌, ◌≤◌, min, IsTrue, Bool, List, unsigned_abs}
 use Rattle.numerals.specs.Numeral.{Measure, dividend, divisor}
 
 -- n / d is so much over d from the nearest whole number
@@ -14,8 +14,9 @@ rounded_up n d = (n + (d - 1)) / d
 abbrev pub distance_of : Measure → List ℕ → ℕ
 distance_of s text = rounded_up (10000 * away (unsigned_abs (dividend s text)) (divisor s text)) (divisor s text)
 
--- n / d is k ten-thousandths rounded down, and is just that or not
+-- n / d is k ten-thousandths rounded down, and is just that or not; from 10 ^ 17 on it is that many or more
 pub record AreTenThousandths (n d k : ℕ) (exact : Bool) : Type 0 where
+  pub limit : k ≤ 10 ^ 17
   pub low : k * d ≤ 10000 * n
-  pub high : 10000 * n < (k + 1) * d
-  pub is_exact : IsTrue exact ↔ (10000 * n ≡ k * d)
+  pub high : k < 10 ^ 17 → 10000 * n < (k + 1) * d
+  pub is_exact : k < 10 ^ 17 → IsTrue exact ↔ (10000 * n ≡ k * d)

@@ -1,8 +1,8 @@
 pub mod Nearest
 pub mod Numeral
-pub mod Tenths
+pub mod Floor
 pub mod Short
-pub mod Offset
+pub mod Quotient
 pub mod Amount
 pub mod Distance
 pub mod Laws

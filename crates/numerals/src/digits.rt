@@ -1,7 +1,7 @@
 //! Whole numbers of decimal digits, up to a cap.
 ghost use Rattle.fast_float.specs.Text.{digits_of, tens_up, tens_down};
-ghost use Rattle.numerals.specs.Tenths as spec;
-ghost use Rattle.numerals.specs.Tenths.{IsKept, first_digits, floor_of, tenths_of};
+ghost use Rattle.numerals.specs.Floor as spec;
+ghost use Rattle.numerals.specs.Floor.{IsKept, first_digits, floor_of};
 ghost use Rattle.std.specs.Prelude.{◌≡◌, ◌↔◌, IsTrue, drop, ◌≤◌, ◌*◌, ◌^◌, ◌++◌, min};
 ghost use Rattle.std.specs.Str.Parse.{digits_value, digits_value_after, AllDigits};
 
@@ -128,14 +128,6 @@ pub(crate) fn floor_at(numeral: &Numeral<'_>, places: u64) -> u128
         numeral.fraction(),
         kept_of(numeral, places),
     )
-}
-
-/// Ten times the numeral over 10^-places, rounded down, or `CAP` where that is less.
-pub(crate) fn tenths(numeral: &Numeral<'_>, places: u32) -> u128
-    ensures value { result ≡ min (tenths_of places numeral.now) CAP }
-    ensures digits { AllDigits 10 (numeral.now.whole ++ numeral.now.fraction) }
-{
-    floor_at(numeral, u64::from(places) + 1)
 }
 
 /// All digits as one number, with the zeros of a positive exponent, or `CAP` where that is less.

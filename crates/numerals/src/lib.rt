@@ -3,13 +3,11 @@
 
 pub mod decimal;
 mod digits;
-mod distances;
 pub mod laws;
 pub mod rounding;
 mod short;
 pub mod step;
 
 pub use decimal::Decimal;
-pub use distances::distance;
-pub use rounding::snap;
+pub use rounding::{distance, snap, snap_measured};
 pub use step::DecimalStep;

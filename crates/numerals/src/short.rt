@@ -1,12 +1,11 @@
 //! Short numerals, read and rounded by machine words.
 ghost use Rattle.numerals.specs.Distance.{AreTenThousandths};
-ghost use Rattle.numerals.specs.Nearest.{IsRounded};
 ghost use Rattle.numerals.specs.Numeral.{IsMeasure};
 ghost use Rattle.numerals.specs.Short.{IsFront, IsShort};
-ghost use Rattle.std.specs.Prelude.{◌≡◌, ◌↔◌, ◌*◌, ◌^◌, ◌≤◌, ℕ, IfSome, IsTrue, Some};
+ghost use Rattle.std.specs.Prelude.{◌*◌, ◌^◌, ◌≤◌, IfSome, IsTrue};
 
+use crate::rounding::FAR;
 use crate::step::DecimalStep;
-use grid::limits::GREATEST_GRID_NUMBER;
 
 /// From where on a machine word may not hold one more digit, 10^17.
 const FULL: u64 = 100_000_000_000_000_000;
@@ -72,37 +71,23 @@ pub(crate) fn read_short(text: &[u8]) -> Option<Short>
 }
 
 impl Short {
-    /// Whether `nearest` and `ten_thousandths` take it at this step.
+    /// Whether `ten_thousandths` takes it at this step.
     pub(crate) fn is_few(&self, step: &DecimalStep) -> bool
         ensures { IsTrue result → (self.now.places ≤ 18) × (step.now.places ≤ 12) }
     {
         self.places <= FEW_DIGITS && step.places() <= FEW_PLACES
     }
 
-    /// The whole number of steps that is nearest to it, or None beyond the limits.
-    pub(crate) fn nearest(&self, step: &DecimalStep) -> Option<u64>
-        requires { (self.now.places ≤ 18) × (step.now.places ≤ 12) }
-        ensures limits { IsMeasure step.now }
-        ensures exact { (q : ℕ) → (result ≡ Some q) ↔ (IsRounded (self.now.digits * 10 ^ step.now.places) (step.now.size * 10 ^ self.now.places) q × (q ≤ 2 ^ 40)) }
-    {
-        let scale = u128::from(10u64.pow(step.places()));
-        let unit = step.size() * u128::from(10u64.pow(self.places as u32));
-        let steps = (2 * u128::from(self.digits) * scale + unit) / (2 * unit);
-        if steps > GREATEST_GRID_NUMBER as u128 {
-            return None;
-        }
-        Some(steps as u64)
-    }
-
     /// It in ten-thousandths of a step, rounded down, and whether it is just that.
-    pub(crate) fn ten_thousandths(&self, step: &DecimalStep) -> (u128, bool)
+    pub(crate) fn ten_thousandths(&self, step: &DecimalStep) -> (u64, bool)
         requires { (self.now.places ≤ 18) × (step.now.places ≤ 12) }
         ensures limits { IsMeasure step.now }
         ensures given { AreTenThousandths (self.now.digits * 10 ^ step.now.places) (step.now.size * 10 ^ self.now.places) result.0 result.1 }
     {
         let scale = u128::from(10u64.pow(step.places()));
         let unit = step.size() * u128::from(10u64.pow(self.places as u32));
-        let parts = 10_000 * u128::from(self.digits) * scale;
-        (parts / unit, parts % unit == 0)
+        let all = 10_000 * u128::from(self.digits) * scale;
+        let parts = all / unit;
+        (parts.min(FAR) as u64, parts * unit == all)
     }
 }

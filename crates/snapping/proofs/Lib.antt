@@ -1,3 +1,1 @@
 pub mod NearlySharedLemmas
-pub mod MovesLemmas
-pub mod EditsLemmas

@@ -1,3 +1,1 @@
 pub mod NearlyShared
-pub mod Moves
-pub mod Edits

@@ -1,9 +1,4 @@
-//! What `togrid` does with a text besides rounding it: ids of properties, scaled properties, an origin, vertices that are
-//! joined, and how far positions moved.
+//! Vertices that different features share or nearly share: how many there are, and how they are joined.
 #![tactic(auto)]
 
-pub mod edits;
-pub mod joining;
-pub mod moves;
 pub mod nearly_shared;
-pub mod text;

@@ -3,6 +3,8 @@ use crate::options::{GREATEST_DEGREES, GridOptions};
 use command_line::files::{Files, read_named};
 use command_line::output::write_output;
 use command_line::refusal::{Refusal, Usage};
+use command_line::status::Status;
+use decimals::Decimal;
 use decimals::topology::{DecimalFault, Units, text_of};
 use faults::{Fault, FaultKind};
 use sinks::Sink;
@@ -42,24 +44,30 @@ fn read_file<'a, F: Files>(
     }
 }
 
-/// Writes the topology of the only source in the unit of the map.
+/// Writes the topology of the only file in the unit of the map.
 pub(crate) fn write_back<'a, F: Files, O: Sink>(
     alloc: Global,
     options: &GridOptions<'a>,
-    sources: &[(&'a str, &'a str)],
+    names: &[&'a str],
     files: &mut F,
     out: &mut O,
-) -> Result<(), Refusal<'a>> {
-    let [source] = sources else {
+) -> Result<Status, Refusal<'a>> {
+    let [file] = names else {
         return Err(Refusal::Usage(Usage::BadBack));
     };
-    let topology = read_file(alloc, options, source.1, files)?;
+    let topology = read_file(alloc, options, *file, files)?;
+    let Some(step) = decimals::DecimalStep::parse(options.step_word.as_bytes()) else {
+        return Err(Refusal::Usage(Usage::BadStep(options.step_word)));
+    };
     let units = Units {
-        step: options.step,
-        origin: options.translate,
+        step,
+        origin: (Decimal::zero(), Decimal::zero()),
     };
     match text_of(alloc, &topology, &units, options.fixing.rewind) {
-        Ok(text) => write_output(alloc, files, out, options.output, text.as_slice()),
+        Ok(text) => {
+            write_output(alloc, files, out, options.output, text.as_slice())?;
+            Ok(Status::Done)
+        }
         Err(DecimalFault::TooManyDigits) => Err(Refusal::Usage(Usage::BadStep(options.step_word))),
         Err(DecimalFault::OutOfMemory) => Err(Refusal::OutOfMemory),
     }

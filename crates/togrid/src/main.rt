@@ -1,13 +1,14 @@
 //! The program: the command over the machine's words, files and outputs.
 #![tactic(auto)]
 
+mod all_faults;
 mod back;
 mod command;
 mod naming;
 mod options;
+mod printing;
 mod report;
 mod report_file;
-mod rounding;
 
 use crate::command::run;
 use command_line::host::{HostFiles, refuse_words};

@@ -46,15 +46,24 @@ pub(crate) fn files_of<'a>(
     Ok(files)
 }
 
+/// The names of sources.
+pub(crate) fn names_of<'a>(
+    alloc: Global,
+    sources: &[(&'a str, &'a str)],
+) -> Result<Vec<&'a str>, Refusal<'a>> {
+    let mut names = Vec::with_capacity(alloc, sources.len())?;
+    for source in sources {
+        names.push(source.0)?;
+    }
+    Ok(names)
+}
+
 /// A name that occurs twice, if there is one.
 fn find_doubled<'a>(
     alloc: Global,
     sources: &[(&'a str, &'a str)],
 ) -> Result<Option<&'a str>, Refusal<'a>> {
-    let mut names = Vec::new(alloc);
-    for source in sources {
-        names.push(source.0)?;
-    }
+    let mut names = names_of(alloc, sources)?;
     names.sort()?;
     let mut last: Option<&'a str> = None;
     for name in &names {

@@ -1,10 +1,12 @@
 //! What the words ask for, as values.
+use attributes::{AttributeRules, Scale};
 use clap::ArgMatches;
 use command_line::refusal::{Refusal, Usage};
-use decimals::{Decimal, DecimalStep, Origin};
-use fixing::{Collapsed, Rewind};
+use decimal_maps::{DecimalGrid, MapRules};
+use fixing::{Collapsed, FixingRules, Rewind};
 use grid::limits::GREATEST_GRID_NUMBER;
-use snapping::edits::Scale;
+use numerals::DecimalStep;
+use rounded_maps::{BuildRules, RoundingRules};
 use snapping::nearly_shared::GREATEST_DISTANCE;
 use std::alloc::Global;
 
@@ -24,16 +26,13 @@ pub(crate) struct GridOptions<'a> {
     /// The step as it is written.
     pub(crate) step_word: &'a str,
     pub(crate) is_step_given: bool,
-    /// Where steps are counted from, as it is written and as decimal numbers.
-    pub(crate) translate_word: Option<&'a str>,
-    pub(crate) translate: (Decimal, Decimal),
     pub(crate) id: Option<&'a str>,
     pub(crate) scales: Vec<Scale<'a>>,
     pub(crate) refuses_reals: bool,
     pub(crate) refuses_heights: bool,
-    pub(crate) fixing: fixing::FixingRules,
+    pub(crate) fixing: FixingRules,
     /// How many steps apart vertices are joined.
-    pub(crate) join_distance: u64,
+    pub(crate) join_distance: u32,
     pub(crate) output: Option<&'a str>,
     pub(crate) report: Option<&'a str>,
     pub(crate) is_quiet: bool,
@@ -52,44 +51,46 @@ impl<'a> GridOptions<'a> {
         }
     }
 
-    /// How texts are rounded.
-    pub(crate) fn snapping(&self) -> decimals::geojson::RoundingRules {
+    /// How positions are read.
+    fn grid(&self) -> DecimalGrid {
         let (greatest_x, greatest_y) = self.greatest();
-        decimals::geojson::RoundingRules {
+        DecimalGrid {
             step: self.step,
             greatest_x,
             greatest_y,
-            keeps_heights: self.refuses_heights,
-            keeps_reals: self.refuses_reals,
+            refuses_heights: self.refuses_heights,
+            measures: self.reports(),
         }
     }
 
-    /// Where coordinates are counted from, if not from 0.
-    pub(crate) fn origin(&self) -> Result<Option<(Origin, Origin)>, Refusal<'a>> {
-        let Some(word) = self.translate_word else {
-            return Ok(None);
+    /// What is done with each map.
+    pub(crate) fn rounding(&self) -> RoundingRules<'_> {
+        let attributes = AttributeRules {
+            id: self.id,
+            scales: self.scales.as_slice(),
+            refuses_reals: self.refuses_reals,
         };
-        let x = Origin::new(self.translate.0, &self.step);
-        let y = Origin::new(self.translate.1, &self.step);
-        match (x, y) {
-            (Some(x), Some(y)) => Ok(Some((x, y))),
-            _ => Err(Refusal::Usage(Usage::BadTranslation(word))),
+        RoundingRules {
+            map: MapRules {
+                grid: self.grid(),
+                attributes,
+            },
+            fixing: self.fixing,
+        }
+    }
+
+    /// What is done with all maps together.
+    pub(crate) fn building(&self) -> BuildRules<'_> {
+        BuildRules {
+            rounding: self.rounding(),
+            join_distance: self.join_distance,
+            counts: self.reports() || self.is_strict,
         }
     }
 
     /// Whether anything is reported.
     pub(crate) fn reports(&self) -> bool {
         !self.is_quiet || self.report.is_some()
-    }
-
-    /// Whether anything asks how many vertices are nearly shared.
-    pub(crate) fn counts(&self) -> bool {
-        self.reports() || self.is_strict
-    }
-
-    /// Whether vertices are to be joined.
-    pub(crate) fn joins(&self) -> bool {
-        self.join_distance > 0
     }
 }
 
@@ -116,22 +117,13 @@ fn rewind_of(word: Option<&str>, is_back: bool) -> Rewind {
     }
 }
 
-fn fixing_of(found: &ArgMatches<'_>) -> fixing::FixingRules {
-    fixing::FixingRules {
+fn fixing_of(found: &ArgMatches<'_>) -> FixingRules {
+    FixingRules {
         collapsed: collapsed_of(word_of(found, "collapsed")),
         splits_folded: word_of(found, "folded") != "refuse",
         splits_collections: word_of(found, "collections") != "refuse",
         rewind: rewind_of(found.get_str("rewind"), found.get_flag("back")),
-        blanks: false,
     }
-}
-
-/// The two numbers of a word `TX,TY`.
-fn translation_of(word: &str) -> Option<(Decimal, Decimal)> {
-    let (x, y) = word.split_once(',')?;
-    let x = Decimal::parse(x.as_bytes())?;
-    let y = Decimal::parse(y.as_bytes())?;
-    Some((x, y))
 }
 
 /// The property and the power of ten of a word `scale:PROPERTY=K`.
@@ -164,34 +156,17 @@ fn reals_of<'a>(alloc: Global, words: &[&'a str]) -> Result<(Vec<Scale<'a>>, boo
 }
 
 /// How many steps apart vertices are joined: a whole number of at most `GREATEST_DISTANCE`.
-fn join_distance_of<'a>(word: Option<&'a str>) -> Result<u64, Refusal<'a>> {
+fn join_distance_of<'a>(word: Option<&'a str>) -> Result<u32, Refusal<'a>> {
     let Some(word) = word else {
         return Ok(0);
     };
-    match word.parse::<u64>() {
+    match word.parse::<u32>() {
         Ok(distance) => if distance <= GREATEST_DISTANCE {
             Ok(distance)
         } else {
             Err(Refusal::Usage(Usage::BadDistance(word)))
         },
         Err(_) => Err(Refusal::Usage(Usage::BadDistance(word))),
-    }
-}
-
-/// Where steps are counted from. Degrees are counted from 0.
-fn translate_of<'a>(
-    word: Option<&'a str>,
-    is_step_given: bool,
-) -> Result<(Decimal, Decimal), Refusal<'a>> {
-    let Some(word) = word else {
-        return Ok((Decimal::zero(), Decimal::zero()));
-    };
-    if !is_step_given {
-        return Err(Refusal::Usage(Usage::NoStep));
-    }
-    match translation_of(word) {
-        Some(translation) => Ok(translation),
-        None => Err(Refusal::Usage(Usage::BadTranslation(word))),
     }
 }
 
@@ -205,14 +180,11 @@ pub(crate) fn options_of<'a>(
     let Some(step) = DecimalStep::parse(step_word.as_bytes()) else {
         return Err(Refusal::Usage(Usage::BadStep(step_word)));
     };
-    let translate_word = found.get_str("translate");
     let (scales, refuses_reals) = reals_of(alloc, found.get_strs("reals").unwrap_or(&[]))?;
     Ok(GridOptions {
         step,
         step_word,
         is_step_given: given.is_some(),
-        translate_word,
-        translate: translate_of(translate_word, given.is_some())?,
         id: found.get_str("id"),
         scales,
         refuses_reals,

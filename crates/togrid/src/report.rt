@@ -1,14 +1,14 @@
 //! The report on standard error.
 use crate::options::GridOptions;
-use crate::rounding::Rounded;
 use command_line::refusal::put_words;
 use fixing::Fixes;
 use grid::Pos;
 use itoa::Buffer;
-use sinks::{Sink, WriteFault, put};
+use numerals::Decimal;
+use rounded_maps::{Outcome, Rounded};
+use sinks::{Kept, Sink, WriteFault, put};
 use snapping::nearly_shared::{Clusters, VertexCounts};
-use snapping::text::SnappedText;
-use std::alloc::Global;
+use std::alloc::{AllocError, Global};
 
 /// What is reported.
 #[derive(Clone, Copy)]
@@ -18,6 +18,21 @@ pub(crate) struct Report<'r, 'a> {
     pub(crate) rounded: &'r Rounded,
     /// The folder that files were written into.
     pub(crate) folder: Option<&'a str>,
+}
+
+/// There is no memory for a line: those are kept in memory, where nothing else fails.
+struct ReportFault;
+
+impl From<AllocError> for ReportFault {
+    fn from(_fault: AllocError) -> ReportFault {
+        ReportFault
+    }
+}
+
+impl From<WriteFault> for ReportFault {
+    fn from(_fault: WriteFault) -> ReportFault {
+        ReportFault
+    }
 }
 
 /// A count, or the greatest of 64 bits where it is more.
@@ -40,30 +55,57 @@ fn put_some<E: Sink>(err: &mut E, count: u64, of: &str) -> Result<(), WriteFault
     put(err, b"\n")
 }
 
-/// How many positions were moved, and how far: `7446 positions moved, by at most 0.4999 steps (0.0000004999)`.
-fn put_moves<E: Sink>(
+/// The text of a distance, empty where it has too many digits.
+fn text_of(alloc: Global, distance: Option<Decimal>) -> Result<String, AllocError> {
+    match distance {
+        Some(distance) => distance.to_text(alloc),
+        None => Ok(String::new(alloc)),
+    }
+}
+
+/// How far positions were moved at most, in steps: `0.4999`. It is measured in ten-thousandths of a step.
+pub(crate) fn in_steps(alloc: Global, outcome: &Outcome) -> Result<String, AllocError> {
+    text_of(alloc, Decimal::new(i128::from(outcome.tally.furthest), 4))
+}
+
+/// The same in the unit of the map, empty where it has too many digits.
+pub(crate) fn in_units(
     alloc: Global,
-    err: &mut E,
-    outcome: &SnappedText,
+    outcome: &Outcome,
     options: &GridOptions<'_>,
-) -> Result<(), WriteFault> {
-    if outcome.moves.moved == 0 {
+) -> Result<String, AllocError> {
+    let steps = i64::try_from(outcome.tally.furthest).unwrap_or(i64::MAX);
+    let distance = match Decimal::of_steps(steps, &options.step) {
+        Some(distance) => distance.over_power(4),
+        None => None,
+    };
+    text_of(alloc, distance)
+}
+
+/// How many positions were moved, and how far: `7446 positions moved, by at most 0.4999 steps (0.0000004999)`.
+fn put_moves(
+    alloc: Global,
+    lines: &mut Kept,
+    outcome: &Outcome,
+    options: &GridOptions<'_>,
+) -> Result<(), ReportFault> {
+    if outcome.tally.moved == 0 {
         return Ok(());
     }
-    let Ok(steps) = outcome.moves.in_steps(alloc) else {
-        return Ok(());
-    };
-    let Ok(units) = outcome.moves.in_units(alloc, &options.step) else {
-        return Ok(());
-    };
-    put(err, b"  ")?;
-    put_count(err, outcome.moves.moved, "positions moved, by at most ")?;
-    put_words(err, steps.as_str(), " steps")?;
+    let steps = in_steps(alloc, outcome)?;
+    let units = in_units(alloc, outcome, options)?;
+    put(lines, b"  ")?;
+    put_count(
+        lines,
+        outcome.tally.moved,
+        "positions moved, by at most ",
+    )?;
+    put_words(lines, steps.as_str(), " steps")?;
     if !units.as_str().is_empty() {
-        put_words(err, " (", units.as_str())?;
-        put(err, b")")?;
+        put_words(lines, " (", units.as_str())?;
+        put(lines, b")")?;
     }
-    put(err, b"\n")
+    Ok(put(lines, b"\n")?)
 }
 
 /// A kind of what is fixed.
@@ -96,14 +138,14 @@ impl Kind {
 }
 
 /// How much of a kind was fixed, with the first feature of which it was.
-fn put_fixed<E: Sink>(err: &mut E, outcome: &SnappedText, kind: Kind) -> Result<(), WriteFault> {
+fn put_fixed<E: Sink>(err: &mut E, outcome: &Outcome, kind: Kind) -> Result<(), WriteFault> {
     let count = kind.count_of(outcome.fixes);
     if count == 0 {
         return Ok(());
     }
     put(err, b"  ")?;
     put_count(err, count, kind.words())?;
-    for feature in outcome.fixed_features.as_slice() {
+    for feature in outcome.fixed.as_slice() {
         if kind.count_of(feature.fixes) > 0 {
             put(err, b", the first in feature ")?;
             put(err, Buffer::new().format(feature.feature as u64).as_bytes())?;
@@ -115,26 +157,22 @@ fn put_fixed<E: Sink>(err: &mut E, outcome: &SnappedText, kind: Kind) -> Result<
 
 /// What became of a file: `provinces.geojson: 13 features, 7458 positions, step 0.000001`, how far positions were moved,
 /// and what was lost or split.
-fn put_outcome<E: Sink>(
+fn put_outcome(
     alloc: Global,
-    err: &mut E,
+    lines: &mut Kept,
     file: &str,
-    outcome: &SnappedText,
+    outcome: &Outcome,
     options: &GridOptions<'_>,
-) -> Result<(), WriteFault> {
-    put_words(err, file, ": ")?;
-    put_count(err, outcome.features as u64, "features, ")?;
-    put_count(err, outcome.counts.positions, "positions, step ")?;
-    put_words(err, options.step_word, "\n")?;
-    put_moves(alloc, err, outcome, options)?;
-    put_some(err, outcome.counts.heights, "heights dropped")?;
-    put_some(
-        err,
-        outcome.counts.reals,
-        "numbers with a fraction made texts",
-    )?;
+) -> Result<(), ReportFault> {
+    put_words(lines, file, ": ")?;
+    put_count(lines, outcome.features as u64, "features, ")?;
+    put_count(lines, outcome.tally.positions, "positions, step ")?;
+    put_words(lines, options.step_word, "\n")?;
+    put_moves(alloc, lines, outcome, options)?;
+    put_some(lines, outcome.tally.heights, "heights dropped")?;
+    put_some(lines, outcome.reals, "numbers made texts")?;
     for kind in [Kind::Collapsed, Kind::Folded, Kind::Collections, Kind::Lost] {
-        put_fixed(err, outcome, kind)?;
+        put_fixed(lines, outcome, kind)?;
     }
     Ok(())
 }
@@ -149,24 +187,15 @@ fn put_position<E: Sink>(err: &mut E, position: Pos) -> Result<(), WriteFault> {
     put_number(err, position.y())
 }
 
-/// The vertices of more than one feature, where there are any: `2406 vertices shared before, 2406 after`.
-fn put_shared<E: Sink>(err: &mut E, before: u64, after: u64) -> Result<(), WriteFault> {
-    if before == 0 && after == 0 {
-        return Ok(());
-    }
-    put_count(err, before, "vertices shared before, ")?;
-    put_count(err, after, "after\n")
-}
-
 /// What was joined, and what was not.
 fn put_clusters<E: Sink>(err: &mut E, clusters: &Clusters) -> Result<(), WriteFault> {
     put_count(err, clusters.len() as u64, "vertices joined to others\n")?;
-    let Some(first) = clusters.first_wide else {
+    let Some(first) = clusters.first_wide() else {
         return Ok(());
     };
     put_count(
         err,
-        clusters.wide,
+        clusters.wide() as u64,
         "clusters too wide to be joined, the first at ",
     )?;
     put_position(err, first)?;
@@ -222,7 +251,7 @@ fn put_layer<E: Sink>(
     name: &str,
     folder: &str,
 ) -> Result<(), WriteFault> {
-    let mut word = sinks::Kept::new(alloc);
+    let mut word = Kept::new(alloc);
     put_words(&mut word, name, "=")?;
     put_words(&mut word, folder, "/")?;
     put_words(&mut word, name, ".json")?;
@@ -244,26 +273,48 @@ pub(crate) fn put_next<E: Sink>(
     Ok(())
 }
 
-/// The whole report.
-pub(crate) fn put_report<E: Sink>(
-    alloc: Global,
-    report: &Report<'_, '_>,
-    err: &mut E,
-) -> Result<(), WriteFault> {
-    let rounded = report.rounded;
-    for (source, outcome) in report.sources.iter().zip(rounded.outcomes.iter()) {
-        put_outcome(alloc, err, source.1, outcome, report.options)?;
+/// The vertices of all files.
+fn put_vertices<E: Sink>(err: &mut E, rounded: &Rounded) -> Result<(), WriteFault> {
+    if let Some(counts) = &rounded.counts {
+        if counts.shared > 0 {
+            put_count(err, counts.shared as u64, "vertices shared\n")?;
+        }
     }
-    let after = rounded.counts.shared as u64;
-    put_shared(err, rounded.shared_before, after)?;
     if let Some(clusters) = &rounded.clusters {
         put_clusters(err, clusters)?;
     }
-    put_pairs(err, &rounded.counts)?;
+    match &rounded.counts {
+        Some(counts) => put_pairs(err, counts),
+        None => Ok(()),
+    }
+}
+
+fn put_lines(
+    alloc: Global,
+    report: &Report<'_, '_>,
+    lines: &mut Kept,
+) -> Result<(), ReportFault> {
+    let rounded = report.rounded;
+    for (source, outcome) in report.sources.iter().zip(rounded.outcomes.iter()) {
+        put_outcome(alloc, lines, source.1, outcome, report.options)?;
+    }
+    put_vertices(lines, rounded)?;
     if let Some(folder) = report.folder {
-        put(err, b"next: ")?;
-        put_next(alloc, err, report.sources, folder)?;
-        put(err, b"\n")?;
+        put(lines, b"next: ")?;
+        put_next(alloc, lines, report.sources, folder)?;
+        put(lines, b"\n")?;
     }
     Ok(())
+}
+
+/// The lines of the report.
+pub(crate) fn report_lines(
+    alloc: Global,
+    report: &Report<'_, '_>,
+) -> Result<Vec<u8>, AllocError> {
+    let mut lines = Kept::new(alloc);
+    match put_lines(alloc, report, &mut lines) {
+        Ok(()) => Ok(lines.into_bytes()),
+        Err(ReportFault) => Err(AllocError),
+    }
 }

@@ -1,11 +1,11 @@
 //! The report as JSON.
-use crate::report::{Report, at_most_u64, put_next};
+use crate::report::{Report, at_most_u64, in_steps, in_units, put_next};
 use fixing::{FeatureFixes, Fixes};
 use grid::Pos;
 use json::Writer;
+use rounded_maps::{Outcome, Rounded};
 use sinks::Kept;
 use snapping::nearly_shared::{Clusters, VertexCounts};
-use snapping::text::SnappedText;
 use std::alloc::{AllocError, Global};
 
 fn write_count(writer: &mut Writer, name: &str, count: u64) -> Result<(), AllocError> {
@@ -51,26 +51,23 @@ fn write_outcome(
     alloc: Global,
     writer: &mut Writer,
     source: &(&str, &str),
-    outcome: &SnappedText,
+    outcome: &Outcome,
     report: &Report<'_, '_>,
 ) -> Result<(), AllocError> {
     writer.begin_object()?;
     write_text(writer, "file", source.1)?;
     write_text(writer, "name", source.0)?;
     write_count(writer, "features", outcome.features as u64)?;
-    write_count(writer, "positions", outcome.counts.positions)?;
-    write_count(writer, "moved", outcome.moves.moved)?;
-    write_text(
-        writer,
-        "furthest_steps",
-        outcome.moves.in_steps(alloc)?.as_str(),
-    )?;
-    let units = outcome.moves.in_units(alloc, &report.options.step)?;
+    write_count(writer, "positions", outcome.tally.positions)?;
+    write_count(writer, "moved", outcome.tally.moved)?;
+    let steps = in_steps(alloc, outcome)?;
+    write_text(writer, "furthest_steps", steps.as_str())?;
+    let units = in_units(alloc, outcome, report.options)?;
     write_text(writer, "furthest", units.as_str())?;
-    write_count(writer, "heights", outcome.counts.heights)?;
-    write_count(writer, "reals", outcome.counts.reals)?;
+    write_count(writer, "heights", outcome.tally.heights)?;
+    write_count(writer, "reals", outcome.reals)?;
     write_fixes(writer, outcome.fixes)?;
-    write_features(writer, outcome.fixed_features.as_slice())?;
+    write_features(writer, outcome.fixed.as_slice())?;
     writer.end_object()
 }
 
@@ -88,11 +85,25 @@ fn write_pairs(writer: &mut Writer, counts: &VertexCounts) -> Result<(), AllocEr
 
 fn write_clusters(writer: &mut Writer, clusters: &Clusters) -> Result<(), AllocError> {
     write_count(writer, "joined", clusters.len() as u64)?;
-    write_count(writer, "too_wide", clusters.wide)?;
+    write_count(writer, "too_wide", clusters.wide() as u64)?;
     writer.key("first_too_wide")?;
-    match clusters.first_wide {
+    match clusters.first_wide() {
         Some(first) => write_position(writer, first),
         None => writer.null(),
+    }
+}
+
+/// The vertices of all files.
+fn write_vertices(writer: &mut Writer, rounded: &Rounded) -> Result<(), AllocError> {
+    if let Some(counts) = &rounded.counts {
+        write_count(writer, "shared", counts.shared as u64)?;
+    }
+    if let Some(clusters) = &rounded.clusters {
+        write_clusters(writer, clusters)?;
+    }
+    match &rounded.counts {
+        Some(counts) => write_pairs(writer, counts),
+        None => Ok(()),
     }
 }
 
@@ -135,15 +146,8 @@ pub(crate) fn report_text(alloc: Global, report: &Report<'_, '_>) -> Result<Vec<
     let mut writer = Writer::new(Vec::new(alloc));
     writer.begin_object()?;
     write_text(&mut writer, "step", report.options.step_word)?;
-    let translate = report.options.translate_word.unwrap_or("0,0");
-    write_text(&mut writer, "translate", translate)?;
     write_files(alloc, &mut writer, report)?;
-    write_count(&mut writer, "shared_before", rounded.shared_before)?;
-    write_count(&mut writer, "shared_after", rounded.counts.shared as u64)?;
-    if let Some(clusters) = &rounded.clusters {
-        write_clusters(&mut writer, clusters)?;
-    }
-    write_pairs(&mut writer, &rounded.counts)?;
+    write_vertices(&mut writer, rounded)?;
     write_next(alloc, &mut writer, report)?;
     writer.end_object()?;
     let mut text = writer.into_inner();

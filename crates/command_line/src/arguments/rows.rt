@@ -37,13 +37,21 @@ pub(crate) enum Form {
     ValueNotWith(&'static str, &'static str),
     /// `--name VALUE`, what help calls the value, and a letter for it.
     Lettered(char, &'static str),
+    /// `--name VALUE`, which may be there more than once, and what help calls the value.
+    Repeated(&'static str),
     /// `--name VALUE`, what help calls the value, and the words that it may be, of which the first is taken
     /// where it is not there.
     OneOf(&'static str, &'static [&'static str]),
+    /// The same, of which none is taken where it is not there.
+    AnyOf(&'static str, &'static [&'static str]),
     /// `--name` alone.
     Flag,
+    /// The same, and a letter for it.
+    LetteredFlag(char),
     /// The same, which wants another argument beside it.
     FlagWith(&'static str),
+    /// The same, which does not go with other arguments.
+    FlagNotWith(&'static [&'static str]),
 }
 
 impl Form {
@@ -58,8 +66,10 @@ impl Form {
 
     pub(crate) fn action(self) -> ArgAction {
         match self {
-            Form::Words => ArgAction::Append,
-            Form::Flag | Form::FlagWith(_) => ArgAction::SetTrue,
+            Form::Words | Form::Repeated(_) => ArgAction::Append,
+            Form::Flag | Form::LetteredFlag(_) | Form::FlagWith(_) | Form::FlagNotWith(_) => {
+                ArgAction::SetTrue
+            }
             _ => ArgAction::Set,
         }
     }
@@ -72,8 +82,10 @@ impl Form {
             | Form::Value(called)
             | Form::ValueNotWith(called, _)
             | Form::Lettered(_, called)
-            | Form::OneOf(called, _) => Some(called),
-            Form::Word | Form::Words | Form::Flag | Form::FlagWith(_) => None,
+            | Form::Repeated(called)
+            | Form::OneOf(called, _)
+            | Form::AnyOf(called, _) => Some(called),
+            _ => None,
         }
     }
 }
@@ -410,3 +422,100 @@ const INFO: CommandRow = CommandRow {
         FILE,
     ],
 };
+
+/// What togrid takes, in the order in which its help names it.
+pub(crate) const TOGRID: &[ArgumentRow] = &[
+    argument!(
+        "build",
+        Form::Flag,
+        "Print the topology of all files, each in its layer"
+    ),
+    argument!(
+        "back",
+        Form::FlagNotWith(&[
+            "build",
+            "faults",
+            "snap",
+            "id",
+            "heights",
+            "reals",
+            "collapsed",
+            "folded",
+            "collections",
+            "report",
+            "strict",
+        ]),
+        "Print a topology in the map's unit again"
+    ),
+    argument!(
+        "faults",
+        Form::FlagNotWith(&["build", "snap", "rewind", "report", "strict", "quiet"]),
+        "Print all errors of the files that nothing fixes,\nwith their lines and columns"
+    ),
+    argument!(
+        "step",
+        Form::Value("S"),
+        "The size of a step [default: 0.000001, for degrees]"
+    ),
+    argument!(
+        "snap",
+        Form::Value("N"),
+        "Join vertices at most N steps apart, N up to 10"
+    ),
+    argument!(
+        "id",
+        Form::Value("PROPERTY"),
+        "The property that becomes the id of each feature"
+    ),
+    argument!(
+        "heights",
+        Form::OneOf("HOW", &["drop", "refuse"]),
+        "Third numbers of positions: drop,\nrefuse"
+    ),
+    argument!(
+        "reals",
+        Form::Repeated("HOW"),
+        "Numbers with a fraction: text, refuse, scale:P=K\n[default: text]"
+    ),
+    argument!(
+        "collapsed",
+        Form::OneOf("HOW", &["null", "drop", "refuse"]),
+        "Features with no shape left: null,\ndrop, refuse"
+    ),
+    argument!(
+        "folded",
+        Form::OneOf("HOW", &["split", "refuse"]),
+        "Lines and rings with a segment twice:\nsplit, refuse"
+    ),
+    argument!(
+        "collections",
+        Form::OneOf("HOW", &["split", "refuse"]),
+        "GeometryCollections: split,\nrefuse"
+    ),
+    argument!(
+        "rewind",
+        Form::AnyOf("HOW", &["keep", "rfc7946", "d3"]),
+        "How rings turn: keep, rfc7946, d3\n[default: keep; with --back d3]"
+    ),
+    argument!(
+        "output",
+        Form::Lettered('o', "PATH"),
+        "The folder for the files, or the file for what\n--build, --back or --faults prints"
+    ),
+    argument!(
+        "report",
+        Form::Value("FILE"),
+        "The report as JSON, for programs"
+    ),
+    argument!(
+        "quiet",
+        Form::LetteredFlag('q'),
+        "No report on standard error"
+    ),
+    argument!("strict", Form::Flag, "Status 1 where something was lost"),
+    argument!(
+        "[NAME=]FILE",
+        Form::Words,
+        "A file, and the name of its layer, else that of the\nfile; - is standard input, which can be read once"
+    ),
+];

@@ -6,7 +6,6 @@ use Rattle.lines.specs.declared.ring.Ring.{Ring}
 use Rattle.theory.specs.Lists.{gathered}
 use Rattle.shapes.specs.declared.shape.Shape.{Shape}
 use Rattle.shapes.specs.declared.shape.Shape.TheVariants.{Null, Point, MultiPoint, Line, MultiLine, Polygon, MultiPolygon}
-use Rattle.shapes.specs.declared.feature.Feature.{Feature}
 use Rattle.compare.specs.Quality.Uses.{places_uses, use_at}
 use Rattle.compare.specs.declared.quality.vertex.VertexUse.{VertexUse}
 
@@ -28,7 +27,7 @@ shape_uses f (MultiLine ls) = gathered (line_uses f) ls
 shape_uses f (Polygon rs) = gathered (ring_uses f) rs
 shape_uses f (MultiPolygon ps) = gathered (gathered (ring_uses f)) ps
 
--- the features, the first of which has the number n, have those of their shapes
-abbrev pub features_uses : ℕ → List Feature → List VertexUse
-features_uses n [] = []
-features_uses n (f ∷ fs) = shape_uses n f.shape ++ features_uses (n + 1) fs
+-- the shapes, each a feature, the first of which has the number n, have those of theirs
+abbrev pub shapes_uses : ℕ → List Shape → List VertexUse
+shapes_uses n [] = []
+shapes_uses n (s ∷ ss) = shape_uses n s ++ shapes_uses (n + 1) ss

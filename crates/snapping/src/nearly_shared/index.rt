@@ -1,4 +1,5 @@
 //! The vertices of features in order.
+ghost use Rattle.snapping.specs.NearlyShared.Joined.{AreClusters};
 ghost use Rattle.snapping.specs.NearlyShared.Shared.{AreCounts};
 ghost use Rattle.std.specs.List.Sorted.{IsPermutation};
 ghost use Rattle.std.specs.Prelude.{IfOk};
@@ -55,9 +56,13 @@ impl VertexIndex {
         })
     }
 
-    /// What becomes of vertices that are nearly shared and at most so many steps apart, and no more than
-    /// `GREATEST_DISTANCE`.
-    pub fn clusters(&self, alloc: Global, most: u64) -> Result<Clusters, AllocError> {
-        clusters_of(alloc, self.uses.as_slice(), most)
+    /// What becomes of vertices that are nearly shared at so many steps, where they are joined. It takes memory as the
+    /// pairs of these do, of which a vertex is in (2 * steps + 1)^2 - 1 at most, and n log n steps of that.
+    pub fn clusters(&self, alloc: Global, steps: u32) -> Result<Clusters, AllocError>
+        ensures { IfOk result (AreClusters self.now steps) }
+    {
+        let vertices = vertices_of(alloc, &self.uses)?;
+        let pairs = first_near(alloc, &vertices, steps, usize::MAX)?;
+        clusters_of(alloc, &pairs, steps)
     }
 }

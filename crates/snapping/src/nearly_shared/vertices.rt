@@ -1,9 +1,7 @@
 //! The vertices of features, each with the number of its feature.
 ghost use Rattle.lines.specs.Seen.{positions_of};
-ghost use Rattle.snapping.specs.NearlyShared.Uses.{features_uses, line_uses, ring_uses, shape_uses};
+ghost use Rattle.snapping.specs.NearlyShared.Uses.{shapes_uses, line_uses, ring_uses, shape_uses};
 ghost use Rattle.compare.specs.Quality.Uses.{places_uses, use_cmp};
-ghost use Rattle.shapes.specs.Maps.{set_of};
-ghost use Rattle.shapes.specs.Sets as set;
 ghost use Rattle.std.specs.List.Sorted.{IsPermutation};
 ghost use Rattle.std.specs.Prelude.{◌≡◌, ◌+◌, ◌++◌, [], length, IfOk, OnOk};
 ghost use Rattle.theory.specs.Lists.{gathered};
@@ -15,10 +13,8 @@ use grid::pos::Pos;
 use lines::items::Items;
 use lines::line::Line;
 use lines::ring::Ring;
-use shapes::feature::Feature;
 use shapes::shape::Shape;
 use std::alloc::{AllocError, Global};
-use std::collections::BTreeSet;
 
 /// The vertices of features, each with the number of its feature.
 #[derive(Drop)]
@@ -60,7 +56,11 @@ fn note_polygons(
 }
 
 /// Notes that a feature has the vertices of its shape.
-fn note_shape(uses: &mut Vec<VertexUse>, feature: usize, shape: &Shape) -> Result<(), AllocError>
+pub(crate) fn note_shape(
+    uses: &mut Vec<VertexUse>,
+    feature: usize,
+    shape: &Shape,
+) -> Result<(), AllocError>
     ensures { OnOk result (uses.new.items ≡ uses.old.items ++ shape_uses feature shape.now) }
 {
     match shape {
@@ -89,7 +89,7 @@ impl Vertices {
         }
     }
 
-    /// Adds the vertices of a feature.
+    /// Adds the vertices of a shape, which is a feature of its own.
     fn add_shape(&mut self, shape: &Shape) -> Result<(), AllocError>
         ensures uses { OnOk result (self.new.uses.items ≡ self.old.uses.items ++ shape_uses self.old.features shape.now) }
         ensures features { OnOk result (self.new.features ≡ self.old.features + 1) }
@@ -104,12 +104,13 @@ impl Vertices {
         }
     }
 
-    /// Adds the vertices of features, which are numbered on from those before.
-    pub fn add(&mut self, features: &BTreeSet<Feature>) -> Result<(), AllocError>
-        ensures { OnOk result (self.new.uses.items ≡ self.old.uses.items ++ features_uses self.old.features (set.items (set_of features.now))) }
+    /// Adds the vertices of shapes, each of which is a feature of its own, numbered on from those before.
+    pub fn add(&mut self, shapes: &[Shape]) -> Result<(), AllocError>
+        ensures uses { OnOk result (self.new.uses.items ≡ self.old.uses.items ++ shapes_uses self.old.features shapes.now) }
+        ensures features { OnOk result (self.new.features ≡ self.old.features + length shapes.now) }
     {
-        for feature in features.iter() {
-            self.add_shape(&feature.shape)?;
+        for shape in shapes {
+            self.add_shape(shape)?;
         }
         Ok(())
     }

@@ -1,5 +1,5 @@
 use Rattle.std.proofs.Common.{◌≡◌, ◌^◌, ◌++◌, min}
-use Rattle.numerals.specs.Tenths.{first_digits}
+use Rattle.numerals.specs.Floor.{first_digits}
 use Rattle.fast_float.proofs.Rows.{AllDigits-append}
 use Rattle.numerals.proofs.Places.{floor_kept}
 use Rattle.numerals.proofs.digits.floor_at.Goals as goal

@@ -1,7 +1,10 @@
-use Rattle.std.proofs.Common.{◌≡◌, ◌++◌}
-use Rattle.snapping.specs.NearlyShared.Uses.{features_uses}
+use Rattle.std.proofs.Common.{◌≡◌, ◌+◌, ◌++◌, drop}
+use Rattle.snapping.specs.NearlyShared.Uses.{shapes_uses}
 use Rattle.snapping.proofs.nearly_shared.vertices.Vertices.add.Given as goal
 
-abbrev pub invariant-loop-feature : goal.invariant-loop-feature
-invariant-loop-feature l =
-    l.self.uses.items ++ features_uses l.self.features l.feature-iterator ≡ l.fn.self.uses.items ++ features_uses l.fn.self.features l.features.keys
+abbrev pub invariant-loop-shape : goal.invariant-loop-shape
+invariant-loop-shape l = record {
+  uses :
+      l.self.uses.items ++ shapes_uses l.self.features (drop l.shape-index l.shapes) ≡ l.fn.self.uses.items ++ shapes_uses l.fn.self.features l.shapes;
+  features : l.self.features ≡ l.fn.self.features + l.shape-index;
+}

@@ -1,0 +1,313 @@
+//! Maps that are rounded together, and their topology.
+ghost use Rattle.reading.specs.Meant.{AreFeatures};
+ghost use Rattle.rounded_maps.specs.Built.{AddsFeatures, AreLayersWith, AreMaps, IsBuilt, plain_features};
+ghost use Rattle.rounded_maps.specs.Joined.{AreCountsIf, AreJoinedMaps, AreJoinedWithin, AreVertexUses, shapes_in};
+ghost use Rattle.rounded_maps.specs.Outcomes.{AreOutcomes};
+ghost use Rattle.rounded_maps.specs.Refusals.{IsMapsRefusal, IsTextFault};
+ghost use Rattle.rounded_maps.specs.Rounded.{AreRounded, faults_under};
+ghost use Rattle.rounded_maps.specs.Unjoined.{AreUnjoined, AreUnjoinedTexts};
+ghost use Rattle.rounded_maps.specs.declared.building.MapsFault.TheVariants.{OutOfMemory as WantOfMemory};
+ghost use Rattle.shapes.specs.Maps.{set_of as features_set};
+ghost use Rattle.snapping.specs.NearlyShared.Joined.{target_in};
+ghost use Rattle.snapping.specs.NearlyShared.Uses.{shapes_uses};
+ghost use Rattle.std.specs.FinMap as finite;
+ghost use Rattle.std.specs.Prelude.{◌≡◌, ◌⊎◌, ◌+◌, ◌++◌, ℕ, IfErr, IfOk, List, OnOk, length, map};
+
+use crate::grid_of_steps::whole_grid;
+use crate::joining::join_map;
+use crate::map::RoundedMap;
+use crate::outcome::Outcome;
+use crate::rounding::{RoundingRules, round_map};
+use faults::{Fault, FaultKind, OutOfMemory};
+use fixing::{FixedFeature, FixingRules};
+use shapes::{Feature, FeatureMap, Shape};
+use shapes::layer::feature_set;
+use snapping::nearly_shared::{Clusters, VertexCounts, VertexIndex, Vertices};
+use std::alloc::{AllocError, AllocFailed, Global};
+use std::collections::BTreeSet;
+use std::convert::AsSlice;
+use thiserror::Error;
+use topo::Topology;
+
+/// What is done with maps.
+#[derive(Clone, Copy)]
+pub struct BuildRules<'r> {
+    pub rounding: RoundingRules<'r>,
+    /// How many steps apart nearly shared vertices are joined; 0 joins none.
+    pub join_distance: u32,
+    /// Whether shared and nearly shared vertices are counted.
+    pub counts: bool,
+}
+
+/// Why maps are refused.
+#[derive(Debug, Drop, Error)]
+pub enum MapsFault {
+    /// The place of the first text that is refused, and its first fault, which is never out of memory.
+    #[error("text {0} is refused")]
+    Text(usize, Fault),
+    /// A growth of memory was refused.
+    #[error("out of memory")]
+    OutOfMemory,
+}
+
+impl From<OutOfMemory> for MapsFault {
+    ghost from_gives = { λ _ e. e ≡ WantOfMemory };
+
+    fn from(_fault: OutOfMemory) -> MapsFault {
+        MapsFault::OutOfMemory
+    }
+}
+
+impl From<AllocError> for MapsFault {
+    ghost from_gives = { λ _ e. e ≡ WantOfMemory };
+
+    fn from(_fault: AllocError) -> MapsFault {
+        MapsFault::OutOfMemory
+    }
+}
+
+impl<T: Drop> From<AllocFailed<T>> for MapsFault {
+    ghost from_gives = { λ _ e. e ≡ WantOfMemory };
+
+    fn from(_fault: AllocFailed<T>) -> MapsFault {
+        MapsFault::OutOfMemory
+    }
+}
+
+/// What became of maps that were rounded together.
+#[derive(Drop)]
+pub struct Rounded {
+    /// What became of each map.
+    pub outcomes: Vec<Outcome>,
+    /// Which vertices were joined, where that was asked.
+    pub clusters: Option<Clusters>,
+    /// How many vertices are shared and nearly shared in the end, where that was asked.
+    pub counts: Option<VertexCounts>,
+}
+
+/// The refusal of the text at a place.
+fn refuse_text(place: usize, fault: Fault) -> MapsFault
+    ensures { IsTextFault place fault result }
+{
+    match fault.kind {
+        FaultKind::OutOfMemory => MapsFault::OutOfMemory,
+        _ => MapsFault::Text(place, fault),
+    }
+}
+
+/// The maps of texts. Each text is let go of once it is read.
+fn read_maps<T: AsSlice<u8> + Drop>(
+    alloc: Global,
+    texts: Vec<T>,
+    rules: &RoundingRules<'_>,
+) -> Result<Vec<RoundedMap>, MapsFault>
+    ensures rounded { IfOk result (λ maps. AreRounded rules.now (map T.items texts.items) maps.items) }
+    ensures refused { IfErr result (IsMapsRefusal (faults_under rules.now) (map T.items texts.items)) }
+{
+    let mut maps = Vec::new(alloc);
+    for text in texts {
+        match round_map(alloc, text.as_slice(), rules) {
+            Ok(map) => maps.push(map)?,
+            Err(fault) => return Err(refuse_text(maps.len(), fault)),
+        }
+    }
+    Ok(maps)
+}
+
+/// Adds the vertices of a map. Each shape that is left is a feature.
+fn add_vertices(vertices: &mut Vertices, map: &RoundedMap) -> Result<(), OutOfMemory>
+    ensures uses { OnOk result (vertices.new.uses.items ≡ vertices.old.uses.items ++ shapes_uses vertices.old.features (shapes_in map.now)) }
+    ensures features { OnOk result (vertices.new.features ≡ vertices.old.features + length (shapes_in map.now)) }
+{
+    for feature in &map.features {
+        vertices.add(feature.feature.shapes.as_slice())?;
+    }
+    Ok(())
+}
+
+/// The vertices of maps, numbered by feature in the order of the maps.
+fn index_of(alloc: Global, maps: &[RoundedMap]) -> Result<VertexIndex, OutOfMemory>
+    ensures { IfOk result (AreVertexUses maps.now) }
+{
+    let mut vertices = Vertices::new(alloc);
+    for map in maps {
+        add_vertices(&mut vertices, map)?;
+    }
+    Ok(vertices.into_index())
+}
+
+/// The maps with the vertices of clusters joined.
+fn join_maps(
+    alloc: Global,
+    maps: Vec<RoundedMap>,
+    clusters: &Clusters,
+    rules: &FixingRules,
+) -> Result<Vec<RoundedMap>, MapsFault>
+    ensures ok { IfOk result (λ joined. AreJoinedMaps rules.now (target_in clusters.now) maps.items joined.items) }
+    ensures err { IfErr result (AreUnjoined rules.now (target_in clusters.now) maps.items) }
+{
+    let mut joined = Vec::new(alloc);
+    for map in maps {
+        match join_map(alloc, map, clusters, rules) {
+            Ok(map) => joined.push(map)?,
+            Err(fault) => return Err(refuse_text(joined.len(), fault)),
+        }
+    }
+    Ok(joined)
+}
+
+/// The maps with nearly shared vertices joined, where that is asked, and which these are.
+fn join_near(
+    alloc: Global,
+    maps: Vec<RoundedMap>,
+    rules: &BuildRules<'_>,
+) -> Result<(Vec<RoundedMap>, Option<Clusters>), MapsFault>
+    ensures ok { IfOk result (λ joined. AreJoinedWithin rules.now.rounding.fixing rules.now.join_distance joined.1 maps.items joined.0.items) }
+    ensures err { IfErr result (λ e. (texts : List (List ℕ)) → AreRounded rules.now.rounding texts maps.items → (e ≡ WantOfMemory) ⊎ AreUnjoinedTexts rules.now texts e) }
+{
+    if rules.join_distance == 0 {
+        return Ok((maps, None));
+    }
+    let index = index_of(alloc, maps.as_slice())?;
+    let clusters = index.clusters(alloc, rules.join_distance)?;
+    let joined = join_maps(alloc, maps, &clusters, &rules.rounding.fixing)?;
+    Ok((joined, Some(clusters)))
+}
+
+/// How many vertices are shared and nearly shared, at most a step apart, where that is asked.
+fn counts_of(
+    alloc: Global,
+    maps: &[RoundedMap],
+    rules: &BuildRules<'_>,
+) -> Result<Option<VertexCounts>, OutOfMemory>
+    ensures { IfOk result (AreCountsIf rules.now.counts maps.now) }
+{
+    if !rules.counts {
+        return Ok(None);
+    }
+    let index = index_of(alloc, maps)?;
+    Ok(Some(index.count(alloc, 1)?))
+}
+
+fn outcomes_of(alloc: Global, maps: &[RoundedMap]) -> Result<Vec<Outcome>, OutOfMemory>
+    ensures { IfOk result (λ outcomes. AreOutcomes maps.now outcomes.items) }
+{
+    let mut outcomes = Vec::with_capacity(alloc, maps.len())?;
+    for map in maps {
+        outcomes.push(Outcome::of(alloc, map)?)?;
+    }
+    Ok(outcomes)
+}
+
+/// The maps of texts in decimal numbers, with nearly shared vertices joined where that is asked, and what became of them.
+///
+/// # Errors
+/// `Text` with the first text that is refused and its first fault; `OutOfMemory`.
+pub fn round_maps<T: AsSlice<u8> + Drop>(
+    alloc: Global,
+    texts: Vec<T>,
+    rules: &BuildRules<'_>,
+) -> Result<(Vec<RoundedMap>, Rounded), MapsFault>
+    ensures maps { IfOk result (λ r. AreMaps rules.now (map T.items texts.items) r.1.clusters r.0.items) }
+    ensures outcomes { IfOk result (λ r. AreOutcomes r.0.items r.1.outcomes.items) }
+    ensures counts { IfOk result (λ r. AreCountsIf rules.now.counts r.0.items r.1.counts) }
+    ensures refused { IfErr result (λ e. IsMapsRefusal (faults_under rules.now.rounding) (map T.items texts.items) e ⊎ AreUnjoinedTexts rules.now (map T.items texts.items) e) }
+{
+    let maps = read_maps(alloc, texts, &rules.rounding)?;
+    let (maps, clusters) = join_near(alloc, maps, rules)?;
+    let outcomes = outcomes_of(alloc, maps.as_slice())?;
+    let counts = counts_of(alloc, maps.as_slice(), rules)?;
+    let rounded = Rounded {
+        outcomes,
+        clusters,
+        counts,
+    };
+    Ok((maps, rounded))
+}
+
+/// Adds a feature for each of the shapes. Of equal ones one is enough.
+fn add_shapes(
+    alloc: Global,
+    feature: FixedFeature,
+    features: &mut Vec<Feature>,
+) -> Result<(), OutOfMemory>
+    ensures { OnOk result (AddsFeatures feature features.old.items features.new.items) }
+{
+    let FixedFeature { id, props, shapes } = feature;
+    let shapes: BTreeSet<Shape> = shapes.into_iter().collect(alloc)?;
+    for shape in shapes {
+        features.push(Feature {
+            id: id.copy(alloc)?,
+            props: props.copy(alloc)?,
+            shape,
+        })?;
+    }
+    Ok(())
+}
+
+/// Adds the features that a fixed feature stands for.
+fn add_feature(
+    alloc: Global,
+    feature: FixedFeature,
+    features: &mut Vec<Feature>,
+) -> Result<(), OutOfMemory>
+    ensures { OnOk result (AddsFeatures feature features.old.items features.new.items) }
+{
+    if feature.shapes.len() != 1 {
+        return add_shapes(alloc, feature, features);
+    }
+    let FixedFeature {
+        id,
+        props,
+        mut shapes,
+    } = feature;
+    if let Some(shape) = shapes.pop() {
+        features.push(Feature { id, props, shape })?;
+    }
+    Ok(())
+}
+
+/// The set of the features of a map.
+fn set_of(alloc: Global, map: RoundedMap) -> Result<BTreeSet<Feature>, OutOfMemory>
+    ensures { IfOk result (λ s. AreFeatures (features_set s) (plain_features map)) }
+{
+    let mut features = Vec::with_capacity(alloc, map.features.len())?;
+    for feature in map.features {
+        add_feature(alloc, feature.feature, &mut features)?;
+    }
+    feature_set(alloc, features)
+}
+
+/// The layers of maps. Maps of one name are one layer.
+fn layers_of(
+    alloc: Global,
+    names: &[&str],
+    maps: Vec<RoundedMap>,
+) -> Result<FeatureMap, OutOfMemory>
+    ensures { IfOk result (AreLayersWith finite.empty (map (λ n. n.now) names.now) maps.items) }
+{
+    let mut layers = FeatureMap::new(alloc);
+    for (name, map) in names.iter().zip(maps) {
+        layers = layers.with_features(*name, set_of(alloc, map)?)?;
+    }
+    Ok(layers)
+}
+
+/// The topology of texts in decimal numbers, each in the layer of its name, and what became of them.
+///
+/// # Errors
+/// As `round_maps`.
+pub fn build_maps<T: AsSlice<u8> + Drop>(
+    alloc: Global,
+    names: &[&str],
+    texts: Vec<T>,
+    rules: &BuildRules<'_>,
+) -> Result<(Topology, Rounded), MapsFault>
+    ensures built { IfOk result (λ r. IsBuilt rules.now (map (λ n. n.now) names.now) (map T.items texts.items) r.1 r.0) }
+    ensures refused { IfErr result (λ e. IsMapsRefusal (faults_under rules.now.rounding) (map T.items texts.items) e ⊎ AreUnjoinedTexts rules.now (map T.items texts.items) e) }
+{
+    let (maps, rounded) = round_maps(alloc, texts, rules)?;
+    let map = layers_of(alloc, names, maps)?;
+    let topology = Topology::build(alloc, &whole_grid(), &map)?;
+    Ok((topology, rounded))
+}

@@ -1,0 +1,17 @@
+//! Maps in decimal numbers, rounded to a grid of whole numbers: each text read into features, fixed, joined where vertices
+//! are nearly shared, and built into a topology or written as GeoJSON.
+#![tactic(auto)]
+
+pub mod building;
+pub mod collection;
+pub mod grid_of_steps;
+pub mod joining;
+pub mod map;
+pub mod outcome;
+pub mod rounding;
+
+pub use building::{BuildRules, MapsFault, Rounded, build_maps, round_maps};
+pub use collection::{collection_text, write_collection};
+pub use map::{RoundedFeature, RoundedMap};
+pub use outcome::Outcome;
+pub use rounding::{RoundingRules, round_map};

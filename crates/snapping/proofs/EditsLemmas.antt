@@ -1,5 +1,0 @@
-pub mod Offsets
-pub mod Rounding
-pub mod Runs
-pub mod ShiftsStayJson
-pub mod EditsStayJson

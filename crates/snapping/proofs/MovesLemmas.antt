@@ -1,3 +1,0 @@
-pub mod Ceilings
-pub mod Distances
-pub mod Walks

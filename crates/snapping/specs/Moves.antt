@@ -1,3 +1,0 @@
-pub mod Distance
-pub mod Laws
-pub mod Walk
