@@ -12,4 +12,4 @@ returns c =
     let is = sym (number_reads n s.2) in
     let text = c.as_bytes.ensures.value in
     let small : unsigned_abs (to_z w64 (of_z w64 n)) ≤ c.args.greatest = grind arith in
-    ((subst (λ m. IsSnapped step c.args.text.now m) is (subst (λ t. IsSnapped step t n) text s.1), small), subst IsGridNumber is s.2, subst IsNumeral text s.0)
+    ((subst (λ m. IsSnapped step c.args.text.now m) is (subst (λ t. IsSnapped step t n) text s.1), small, subst IsNumeral text s.0), subst IsGridNumber is s.2, subst IsNumeral text s.0)
