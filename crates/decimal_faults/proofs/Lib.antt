@@ -2,3 +2,4 @@ pub mod Numbers
 pub mod Items
 pub mod Faulty
 pub mod Heights
+pub mod SoundPositions

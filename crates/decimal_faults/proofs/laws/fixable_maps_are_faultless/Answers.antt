@@ -1,0 +1,8 @@
+use Rattle.decimal_faults.proofs.laws.fixable_maps_are_faultless.Goals as goal
+use Rattle.decimal_faults.proofs.SoundPositions.{positions_sound}
+
+pub returns-clause-sound : goal.returns-clause-sound
+returns-clause-sound c = ?
+
+pub returns-clause-fixable : goal.returns-clause-fixable
+returns-clause-fixable c = ?
