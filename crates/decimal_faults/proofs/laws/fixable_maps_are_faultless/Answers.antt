@@ -1,5 +1,5 @@
 use Rattle.decimal_faults.proofs.laws.fixable_maps_are_faultless.Goals as goal
-use Rattle.decimal_faults.proofs.SoundPositions.{positions_sound}
+use Rattle.decimal_faults.proofs.SoundGeometries.{geometry_iff}
 
 pub returns-clause-sound : goal.returns-clause-sound
 returns-clause-sound c = ?
