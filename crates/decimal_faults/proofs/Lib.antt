@@ -3,3 +3,7 @@ pub mod Items
 pub mod Faulty
 pub mod Heights
 pub mod Ascending
+pub mod SoundPositions
+pub mod SoundParts
+pub mod SoundGeometries
+pub mod SoundMaps

@@ -5,3 +5,4 @@ pub mod Geometries
 pub mod Shapes
 pub mod Collections
 pub mod Maps
+pub mod Laws

@@ -7,6 +7,7 @@
 mod coordinates;
 mod feature;
 pub mod geometry;
+pub mod laws;
 mod lists;
 mod members;
 mod outline;

@@ -3,16 +3,16 @@ use Rattle.std.specs.Prelude.{◌≡◌, ◌≤◌, ℕ, ℤ, false, max, unsign
 use Rattle.json.specs.Json.{Json, null, boolean, number, string, array, object, Items, no_items, item}
 use Rattle.grid.specs.Fits.{x_of, y_of}
 use Rattle.grid.specs.declared.pos.Pos.{Pos}
-use Rattle.numerals.specs.Numeral.{IsSnapped}
+use Rattle.numerals.specs.Numeral.{IsNumeral, IsSnapped}
 use Rattle.decimal_maps.specs.Tally.{distance_from_grid, with_height, with_position}
 use Rattle.decimal_maps.specs.declared.rules.DecimalGrid.{DecimalGrid}
 use Rattle.decimal_maps.specs.declared.tally.Tally.{Tally}
 
--- a number, to which n is the nearest whole number of steps, and n is not too great
+-- a numeral, to which n is the nearest whole number of steps, and n is not too great
 abbrev pub IsCoordinate : DecimalGrid → ℕ → Json → ℤ → Type 0
 IsCoordinate grid greatest null n = ⊥
 IsCoordinate grid greatest (boolean b) n = ⊥
-IsCoordinate grid greatest (number text) n = IsSnapped grid.step text n × (unsigned_abs n ≤ greatest)
+IsCoordinate grid greatest (number text) n = IsSnapped grid.step text n × (unsigned_abs n ≤ greatest) × IsNumeral text
 IsCoordinate grid greatest (string t) n = ⊥
 IsCoordinate grid greatest (array js) n = ⊥
 IsCoordinate grid greatest (object ms) n = ⊥

@@ -6,7 +6,7 @@ ghost use Rattle.grid.specs.Fits.{x_of, y_of};
 ghost use Rattle.grid.specs.Place.{IsGridNumber};
 ghost use Rattle.json.specs.Json.{number};
 ghost use Rattle.json.specs.Token as spec;
-ghost use Rattle.numerals.specs.Numeral.{IsSnapped};
+ghost use Rattle.numerals.specs.Numeral.{IsNumeral, IsSnapped};
 ghost use Rattle.std.specs.Prelude.{◌≡◌, ◌∷◌, ℕ, max, IfOk, IfSome, OnOk};
 
 use crate::from_tokens::{FromTokens, Stop};
@@ -41,7 +41,7 @@ fn drop_heights<'t>(
 // The whole number of steps that a numeral is nearest to, and how far it is from it, where that is measured.
 #[inline(always)]
 fn nearest_of(grid: &DecimalGrid, text: &str) -> Option<(i64, u64)>
-    ensures { IfSome result (λ n. IsSnapped grid.now.step text.now n.0 × IsGridNumber n.0 × (n.1 ≡ distance_from_grid grid.now (number text.now))) }
+    ensures { IfSome result (λ n. IsNumeral text.now × IsSnapped grid.now.step text.now n.0 × IsGridNumber n.0 × (n.1 ≡ distance_from_grid grid.now (number text.now))) }
 {
     if grid.measures {
         return snap_measured(text.as_bytes(), &grid.step);
