@@ -61,8 +61,8 @@ number_reads n h = to_z-of_z w64 n (fits_signed_from_abs w64 n (grind (arith, in
 
 -- the nearest whole number of steps, and how far a numeral is from it, where that is measured
 pub measured : (grid : DecimalGrid) (b t : List ℕ) (r : Option (ℤ × ℕ)) → b ≡ t → true ≡ grid.measures → ((p : ℤ) (d : ℕ) → (r ≡ Some (p, d)) ↔ (IsNumeral b × IsSnapped grid.step b p × IsGridNumber p × (d ≡ distance_of grid.step b)))
-    → IfSome r (λ n. IsSnapped grid.step t n.0 × IsGridNumber n.0 × (n.1 ≡ distance_from_grid grid (number t)))
+    → IfSome r (λ n. IsNumeral t × IsSnapped grid.step t n.0 × IsGridNumber n.0 × (n.1 ≡ distance_from_grid grid (number t)))
 measured grid b t None is on h = tt
 measured grid b t (Some n) is on h =
     let s = (h n.0 n.1).0 refl in
-    (subst (λ u. IsSnapped grid.step u n.0) is s.1, s.2, s.3 ∙ ap (distance_of grid.step) is ∙ ap (λ v. if v then distance_of grid.step t else 0) on)
+    (subst IsNumeral is s.0, subst (λ u. IsSnapped grid.step u n.0) is s.1, s.2, s.3 ∙ ap (distance_of grid.step) is ∙ ap (λ v. if v then distance_of grid.step t else 0) on)

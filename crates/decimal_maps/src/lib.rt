@@ -1,5 +1,5 @@
 //! GeoJSON in decimal numbers, read in one pass along the tokens of `json::Reader` into raw features: positions on a
-//! grid, in lists that are not judged as lines or rings yet.
+//! grid, in lists that need not be lines or rings yet.
 //!
 //! A text means the tree that it is (`document` of `json`), whose numbers keep their text. So each reader promises of
 //! which value of that tree its tokens are, and what that value means.
