@@ -19,7 +19,7 @@ use fixing::raw::{RawGeometry, RawShape};
 use json::{Error, Reader, Value};
 use std::alloc::Global;
 
-/// A feature whose geometry is not judged yet (RFC 7946, section 3.2), with what was counted of its positions.
+/// A feature whose lists of positions need not be lines or rings yet (RFC 7946, section 3.2), with what was counted of its positions.
 #[derive(Drop)]
 pub struct RawFeature {
     pub attributes: Attributes,
