@@ -3,3 +3,5 @@ pub mod Scaling
 pub mod Keeping
 pub mod Whole
 pub mod Loops
+pub mod Judging
+pub mod Order

@@ -1,16 +1,16 @@
 -- Items from the first on, and members from the last on.
-use Rattle.std.proofs.Common.{◌≡◌, ℕ, ◌+◌, ◌-◌, ◌^◌, min, Bool, true, false, List, [], ◌∷◌, ◌++◌, Bor, refl, sym, ap, ◌∙◌, arith}
+use Rattle.std.proofs.Common.{◌≡◌, ℕ, ◌+◌, ◌-◌, ◌^◌, min, true, false, List, [], ◌∷◌, ◌++◌, refl, sym, ap, ◌∙◌, arith}
 use Rattle.std.specs.declared.alloc.Global.{Global}
 use Rattle.std.specs.Prelude.{is_some, if◌then◌else◌}
 use Rattle.json.specs.Json as json
-use Rattle.json.specs.Value.{items_view as json_items, members_view as json_members, value_view}
+use Rattle.json.specs.Value.{items_view as json_items, value_view}
 use Rattle.json.specs.declared.value.Value as tree
-use Rattle.serde_json.specs.Data.{Data, Items, no_items, item, Members, no_members, put}
+use Rattle.serde_json.specs.Data.{Data, Items, no_items, item, Members, put}
 use Rattle.serde_json.specs.Find.{get_member}
 use Rattle.serde_json.specs.View.{items_view, view}
 use Rattle.serde_json.specs.declared.value.Value.{Value}
 use Rattle.attributes.specs.Attributes.{counted}
-use Rattle.attributes.specs.Values.{comes_later, data_of, items_of, items_reals, members_of, members_reals, number_or, reals_of, scaled_property, unless_number}
+use Rattle.attributes.specs.Values.{comes_later, data_of, items_of, members_of, members_reals, number_or, reals_of, scaled_property, unless_number}
 use Rattle.attributes.specs.declared.rules.Scale.{Scale}
 use Rattle.attributes.proofs.Keeping.{present}
 

@@ -5,11 +5,10 @@ use Rattle.std.specs.Cmp.Lexicographic.{slice_cmp}
 use Rattle.std.specs.Ordering.{match_ordering}
 use Rattle.std.specs.Prelude.{if◌then◌else◌}
 use Rattle.json.specs.Json as json
-use Rattle.serde_json.specs.Data.{Data, Num, unsigned, negative, float, number, string, Members, no_members, member, put}
-use Rattle.serde_json.specs.Find.{of_integer}
+use Rattle.serde_json.specs.Data.{Data, Num, unsigned, negative, float, Members, no_members, member, put}
 use Rattle.serde_json.specs.Read.{number_of}
 use Rattle.serde_json.specs.Written.{has_float, items_have_float, members_have_float}
-use Rattle.attributes.specs.Numerals.{number_or_text, number_value, spelled, whole}
+use Rattle.attributes.specs.Numerals.{number_or_text, spelled, whole}
 use Rattle.attributes.specs.Values.{comes_later, data_of, items_of, members_of, number_or, scaled_property}
 use Rattle.attributes.specs.declared.rules.Scale.{Scale}
 

@@ -1,5 +1,5 @@
 -- Ids and properties of a map in decimal numbers.
-use Rattle.std.specs.Prelude.{◌≡◌, ℕ, ℤ, ◌+◌, ◌-◌, ◌^◌, min, List, [], not, is_some, Option, Some, None, option_map, option_and_then, unwrap_or}
+use Rattle.std.specs.Prelude.{◌≡◌, ℕ, ℤ, ◌+◌, ◌-◌, ◌^◌, min, List, not, is_some, Option, Some, None, option_map, option_and_then, unwrap_or}
 use Rattle.std.specs.Borrow.{Bor}
 use Rattle.std.specs.declared.alloc.Global.{Global}
 use Rattle.json.specs.Json as json
@@ -7,7 +7,7 @@ use Rattle.json.specs.Json.{Json}
 use Rattle.json.specs.Find.{get}
 use Rattle.json.specs.Value.{value_view}
 use Rattle.json.specs.declared.value.Value.{Value}
-use Rattle.serde_json.specs.Data.{Data, object}
+use Rattle.serde_json.specs.Data.{object}
 use Rattle.serde_json.specs.Written.{compact_text}
 use Rattle.shapes.specs.Parts.{properties_text}
 use Rattle.reading.specs.Plain.{PlainId, none, number, text, plain_id}

@@ -2,3 +2,4 @@ pub mod Numerals
 pub mod Values
 pub mod Attributes
 pub mod Refusals
+pub mod Laws

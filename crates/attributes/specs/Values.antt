@@ -2,7 +2,7 @@
 use Rattle.std.specs.Prelude.{ℕ, ℤ, ◌+◌, Bool, false, not, ◌||◌, List, [], ◌∷◌, bytes_eq, Option, Some, None, is_some, option_and_then, if◌then◌else◌}
 use Rattle.json.specs.Json as json
 use Rattle.json.specs.Find.{as_number, get, get_member}
-use Rattle.serde_json.specs.Data.{Data, null, boolean, number, string, array, object, Items, no_items, item, Members, no_members, member, put}
+use Rattle.serde_json.specs.Data.{Data, null, boolean, number, string, array, object, Items, no_items, item, Members, no_members, put}
 use Rattle.serde_json.specs.Find.{of_integer}
 use Rattle.attributes.specs.Numerals.{number_value, scaled, whole_of}
 use Rattle.attributes.specs.declared.rules.Scale.{Scale}

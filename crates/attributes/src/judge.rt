@@ -1,11 +1,11 @@
 //! The faults of a feature's id and properties.
 ghost use Rattle.attributes.specs.Attributes.{properties_members, seen_member};
-ghost use Rattle.attributes.specs.Refusals.{attributes_faults, id_faults, members_faults, number_faults};
+ghost use Rattle.attributes.specs.Refusals.{attributes_faults, id_faults, members_faults};
 ghost use Rattle.reading.specs.FaultLists.Found.{pairs_of};
-ghost use Rattle.reading.specs.Info.{depth_faults};
-ghost use Rattle.serde_json.specs.View.{view};
+ghost use Rattle.serde_json.specs.Data.{depth, object};
+ghost use Rattle.serde_json.specs.View.{members_view};
 ghost use Rattle.reading.specs.Fault.{here};
-ghost use Rattle.std.specs.Prelude.{◌≡◌, [], IfOk, if◌then◌else◌};
+ghost use Rattle.std.specs.Prelude.{◌≡◌, [], IfOk, nat_le, not, if◌then◌else◌};
 
 use crate::id::member;
 use crate::numeral::signed_number;
@@ -14,6 +14,7 @@ use crate::rules::AttributeRules;
 use faults::{Fault, FaultKind, OutOfMemory};
 use json::Value;
 use reading::fault_lists::found::{join, one, put_under_name, under_name};
+use serde_json::Map;
 use shapes::nesting::{GREATEST_PROPERTY_DEPTH, nests_within};
 use std::alloc::Global;
 
@@ -25,6 +26,13 @@ fn one_if(alloc: Global, is_there: bool, kind: FaultKind) -> Result<Vec<Fault>, 
     } else {
         Ok(Vec::new(alloc))
     }
+}
+
+fn nests_too_deep(members: Map<String, serde_json::Value>) -> bool
+    ensures { result ≡ not (nat_le (depth (object (members_view members.entries))) GREATEST_PROPERTY_DEPTH) }
+{
+    let value = serde_json::Value::Object(members);
+    !nests_within(&value, GREATEST_PROPERTY_DEPTH)
 }
 
 // The faults of the value of an id, which is a property or the member `id`.
@@ -65,8 +73,7 @@ fn judge_properties(
     let Some(members) = made else {
         return one_if(alloc, true, FaultKind::WrongKind);
     };
-    let is_shallow = nests_within(&serde_json::Value::Object(members), GREATEST_PROPERTY_DEPTH);
-    let depth = one_if(alloc, !is_shallow, FaultKind::PropertyDepth)?;
+    let depth = one_if(alloc, nests_too_deep(members), FaultKind::PropertyDepth)?;
     let number = one_if(
         alloc,
         has_wrong_number(rules, properties, reals),

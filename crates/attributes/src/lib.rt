@@ -4,7 +4,8 @@
 mod id;
 pub mod info;
 pub mod judge;
-pub mod numeral;
+pub mod laws;
+mod numeral;
 mod properties;
 pub mod read;
 pub mod rules;

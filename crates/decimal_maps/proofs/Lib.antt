@@ -1,0 +1,4 @@
+pub mod Looping
+pub mod Placing
+pub mod Naming
+pub mod Meaning

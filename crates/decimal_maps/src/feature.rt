@@ -57,9 +57,7 @@ fn read_value<'t>(alloc: Global, reader: &mut Reader<'t>, depth: usize) -> Resul
     }
 }
 
-impl<'t> TakeMember<'t> for FeatureParts<'t> {
-    type On = DecimalGrid;
-
+impl<'t> TakeMember<'t, DecimalGrid> for FeatureParts<'t> {
     ghost knows = { λ on m ms. KnowsParts on m ms };
 
     fn take(
@@ -96,9 +94,7 @@ pub struct FeatureMembers<'t> {
     pub parts: FeatureParts<'t>,
 }
 
-impl<'t> TakeMember<'t> for FeatureMembers<'t> {
-    type On = DecimalGrid;
-
+impl<'t> TakeMember<'t, DecimalGrid> for FeatureMembers<'t> {
     ghost knows = { λ on m ms. KnowsFeature on m ms };
 
     fn take(
@@ -134,10 +130,24 @@ pub fn attributes_of(
     }
 }
 
-// The geometry of a feature, or the null one where it has none.
-fn geometry_or_null(geometry: Lookup<(RawGeometry, Tally)>) -> Result<(RawGeometry, Tally), Stop>
-    ensures { IfOk result (λ g. (grid : DecimalGrid) (ms : Members) → KnowsMember (codes "geometry") (IsCountedGeometry grid) geometry ms → IsCountedGeometry grid (or_null (get_member (codes "geometry") ms)) g) }
+// The id and the properties of a feature.
+fn attributes_of_parts(
+    alloc: Global,
+    rules: &AttributeRules<'_>,
+    parts: &FeatureParts<'_>,
+) -> Result<Attributes, Stop>
+    ensures { IfOk result (λ a. (grid : DecimalGrid) (ms : Members) → KnowsParts grid parts.now ms → HaveAttributes rules.now (get_member (codes "id") ms) (get_member (codes "properties") ms) a) }
 {
+    let id = parts.id.found()?;
+    let properties = parts.properties.found()?;
+    attributes_of(alloc, rules, id, properties)
+}
+
+// The geometry of a feature, or the null one where it has none.
+fn geometry_of_parts(parts: FeatureParts<'_>) -> Result<(RawGeometry, Tally), Stop>
+    ensures { IfOk result (λ g. (grid : DecimalGrid) (ms : Members) → KnowsParts grid parts.entry ms → IsCountedGeometry grid (or_null (get_member (codes "geometry") ms)) g) }
+{
+    let FeatureParts { geometry, .. } = parts;
     match geometry {
         Lookup::Read(geometry) => Ok(geometry),
         Lookup::Missing => Ok((RawGeometry::One(RawShape::Null), Tally::new())),
@@ -146,20 +156,15 @@ fn geometry_or_null(geometry: Lookup<(RawGeometry, Tally)>) -> Result<(RawGeomet
 }
 
 /// The feature of members whose type is that of a feature.
-pub fn feature_of<'t>(
+pub fn feature_of(
     alloc: Global,
     rules: &MapRules<'_>,
-    parts: FeatureParts<'t>,
+    parts: FeatureParts<'_>,
 ) -> Result<RawFeature, Stop>
     ensures { IfOk result (λ f. (ms : Members) → KnowsMember (codes "type") IsKind (Lookup.Read Kind.Feature) ms → KnowsParts rules.now.grid parts.entry ms → IsFeature rules.now (object ms) f) }
 {
-    let FeatureParts {
-        geometry,
-        id,
-        properties,
-    } = parts;
-    let attributes = attributes_of(alloc, &rules.attributes, id.found()?, properties.found()?)?;
-    let (geometry, tally) = geometry_or_null(geometry)?;
+    let attributes = attributes_of_parts(alloc, &rules.attributes, &parts)?;
+    let (geometry, tally) = geometry_of_parts(parts)?;
     Ok(RawFeature {
         attributes,
         geometry,
@@ -167,7 +172,7 @@ pub fn feature_of<'t>(
     })
 }
 
-impl<'t> FromTokens<'t> for MapRules<'t> {
+impl<'t, 'r> FromTokens<'t> for MapRules<'r> {
     type Made = RawFeature;
 
     type Count = ();

@@ -72,9 +72,7 @@ fn read_collected<'t>(
     }
 }
 
-impl<'t> TakeMember<'t> for GeometryMembers {
-    type On = GeometryStart;
-
+impl<'t> TakeMember<'t, GeometryStart> for GeometryMembers {
     ghost knows = { λ on m ms. KnowsGeometry on m ms };
 
     fn take(
@@ -100,10 +98,8 @@ pub fn geometry_of(alloc: Global, members: GeometryMembers) -> Result<(RawGeomet
 {
     let GeometryMembers { simple, geometries } = members;
     if let Lookup::Read(Kind::GeometryCollection) = simple.kind {
-        return match geometries {
-            Lookup::Read((shapes, tally)) => Ok((RawGeometry::Collection(shapes), tally)),
-            _ => Err(Stop::Unread),
-        };
+        let (shapes, tally) = geometries.required()?;
+        return Ok((RawGeometry::Collection(shapes), tally));
     }
     let (shape, tally) = simple_of(alloc, simple)?;
     Ok((RawGeometry::One(shape), tally))

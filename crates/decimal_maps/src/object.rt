@@ -32,21 +32,31 @@ impl<T: Drop> Lookup<T> {
             Lookup::Read(value) => Ok(Some(value)),
         }
     }
+
+    /// What was read.
+    ///
+    /// # Errors
+    /// Where the member is missing, or was skipped.
+    pub fn required(self) -> Result<T, Stop>
+        ensures { IfOk result (λ x. self ≡ Lookup.Read x) }
+    {
+        match self {
+            Lookup::Read(value) => Ok(value),
+            _ => Err(Stop::Unread),
+        }
+    }
 }
 
-/// What was read of an object so far.
-pub trait TakeMember<'t> {
-    /// What the members are read by, which stays the same for all of them.
-    type On;
-
+/// What was read of an object so far. Its members are read by `On`, which stays the same for all of them.
+pub trait TakeMember<'t, On> {
     // What is known of the members that were read.
-    ghost knows: { Self.On → Self → Members → Type 0 };
+    ghost knows: { On → Self → Members → Type 0 };
 
     /// Reads the value of a member, or skips it where its name means nothing.
     fn take(
         &mut self,
         alloc: Global,
-        on: &Self::On,
+        on: &On,
         name: &'t str,
         reader: &mut Reader<'t>,
         depth: usize,
@@ -65,9 +75,9 @@ pub fn skip_value<'t>(reader: &mut Reader<'t>, depth: usize) -> Result<(), Stop>
 }
 
 /// Reads the members of an object of which the brace is behind, up to its end.
-pub fn read_members<'t, N: TakeMember<'t>>(
+pub fn read_members<'t, On, N: TakeMember<'t, On>>(
     alloc: Global,
-    on: &N::On,
+    on: &On,
     named: &mut N,
     reader: &mut Reader<'t>,
     depth: usize,
@@ -88,9 +98,9 @@ pub fn read_members<'t, N: TakeMember<'t>>(
 }
 
 /// Reads an object.
-pub fn read_object<'t, N: TakeMember<'t>>(
+pub fn read_object<'t, On, N: TakeMember<'t, On>>(
     alloc: Global,
-    on: &N::On,
+    on: &On,
     named: &mut N,
     reader: &mut Reader<'t>,
     depth: usize,

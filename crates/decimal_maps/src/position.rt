@@ -20,6 +20,7 @@ use numerals::{DecimalStep, distance, snap};
 use std::alloc::Global;
 
 // Takes the numbers behind the second of a position, up to the bracket that closes it.
+#[inline(always)]
 fn drop_heights<'t>(
     grid: &DecimalGrid,
     reader: &mut Reader<'t>,
@@ -38,6 +39,7 @@ fn drop_heights<'t>(
 }
 
 // The whole number of steps that a numeral is nearest to, unless it is too great.
+#[inline(always)]
 fn coordinate_of(grid: &DecimalGrid, greatest: u64, text: &str) -> Result<i64, Stop>
     ensures { IfOk result (λ n. IsCoordinate grid.now greatest (number text.now) n × IsGridNumber n × IsNumeral text.now) }
 {
@@ -51,6 +53,7 @@ fn coordinate_of(grid: &DecimalGrid, greatest: u64, text: &str) -> Result<i64, S
 }
 
 // How far a numeral is from the grid, where that is measured.
+#[inline(always)]
 fn distance_of(grid: &DecimalGrid, text: &str) -> u64
     ensures { (n : ℤ) (greatest : ℕ) → IsCoordinate grid.now greatest (number text.now) n → IsGridNumber n → IsNumeral text.now → result ≡ distance_from_grid grid.now (number text.now) }
 {
@@ -62,6 +65,7 @@ fn distance_of(grid: &DecimalGrid, text: &str) -> u64
 }
 
 // The position that two numerals are nearest to, which is counted.
+#[inline(always)]
 fn position_of(grid: &DecimalGrid, x: &str, y: &str, tally: &mut Tally) -> Result<Pos, Stop>
     ensures { IfOk result (λ p. IsCoordinate grid.now grid.now.greatest_x (number x.now) (x_of p) × IsCoordinate grid.now grid.now.greatest_y (number y.now) (y_of p)
         × (tally.new ≡ with_position (max (distance_from_grid grid.now (number x.now)) (distance_from_grid grid.now (number y.now))) tally.old)) }

@@ -34,7 +34,7 @@ pub struct RootMembers<'t> {
 // The features of a collection, or nothing where the type is that of no collection.
 fn read_features<'t>(
     alloc: Global,
-    rules: &MapRules<'t>,
+    rules: &MapRules<'_>,
     kind: &Lookup<Kind>,
     reader: &mut Reader<'t>,
     depth: usize,
@@ -93,15 +93,13 @@ fn take_part<'t>(
     }
 }
 
-impl<'t> TakeMember<'t> for RootMembers<'t> {
-    type On = MapRules<'t>;
-
+impl<'t, 'r> TakeMember<'t, MapRules<'r>> for RootMembers<'t> {
     ghost knows = { λ on m ms. KnowsRoot on m ms };
 
     fn take(
         &mut self,
         alloc: Global,
-        on: &MapRules<'t>,
+        on: &MapRules<'r>,
         name: &'t str,
         reader: &mut Reader<'t>,
         depth: usize,
@@ -166,10 +164,7 @@ fn map_of<'t>(
         parts,
     } = members;
     match geometry.simple.kind {
-        Lookup::Read(Kind::FeatureCollection) => match features {
-            Lookup::Read(features) => Ok(features),
-            _ => Err(Stop::Unread),
-        },
+        Lookup::Read(Kind::FeatureCollection) => features.required(),
         Lookup::Read(Kind::Feature) => single(alloc, feature_of(alloc, rules, parts)?),
         _ => single(alloc, bare_feature(alloc, rules, geometry)?),
     }
@@ -178,7 +173,7 @@ fn map_of<'t>(
 // The root that comes next.
 fn read_root<'t>(
     alloc: Global,
-    rules: &MapRules<'t>,
+    rules: &MapRules<'_>,
     reader: &mut Reader<'t>,
 ) -> Result<Vec<RawFeature>, Stop>
     ensures { IfOk result (λ fs. (j : Json) × Gives MAX_DEPTH reader.old j reader.new × IsMap rules.now j fs.items) }

@@ -17,7 +17,7 @@ use json::Reader;
 use std::alloc::Global;
 
 /// What a geometry is read by, and what was counted before it.
-#[derive(Clone, Copy)]
+#[derive(Drop)]
 pub struct GeometryStart {
     pub grid: DecimalGrid,
     pub counted: Tally,
@@ -64,9 +64,7 @@ fn read_of<'t>(
     Ok(Lookup::Read((coordinates, tally)))
 }
 
-impl<'t> TakeMember<'t> for SimpleMembers {
-    type On = GeometryStart;
-
+impl<'t> TakeMember<'t, GeometryStart> for SimpleMembers {
     ghost knows = { λ on m ms. KnowsSimple on m ms };
 
     fn take(
@@ -164,15 +162,13 @@ pub fn simple_of(alloc: Global, members: SimpleMembers) -> Result<(RawShape, Tal
     let Lookup::Read(Kind::Simple(kind)) = kind else {
         return Err(Stop::Unread);
     };
-    let Lookup::Read((coordinates, tally)) = coordinates else {
-        return Err(Stop::Unread);
-    };
+    let (coordinates, tally) = coordinates.required()?;
     let shape = shape_of(alloc, kind, coordinates)?;
     Ok((shape, tally))
 }
 
 /// The reader of such geometries.
-#[derive(Clone, Copy)]
+#[derive(Drop)]
 pub struct SimpleGeometry {
     pub grid: DecimalGrid,
 }

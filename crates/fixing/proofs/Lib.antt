@@ -10,7 +10,9 @@ pub mod RingsMade
 pub mod PolygonsStay
 pub mod Reversed
 pub mod TurnLaws
+pub mod TurnedAgain
 pub mod AreaSteps
 pub mod PolygonSteps
 pub mod PolygonLaws
 pub mod CrossSteps
+pub mod Fixable

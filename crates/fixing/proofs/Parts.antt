@@ -1,5 +1,5 @@
 -- What is left of a line or polygon by its lists, as lines and rings.
-use Rattle.std.proofs.Common.{◌≡◌, ◌≢◌, List, map, refl, sym, ap, ◌∙◌, Option, Some, None}
+use Rattle.std.proofs.Common.{◌≡◌, ◌≢◌, List, sym, ap, ◌∙◌, Some, None}
 use Rattle.std.specs.Option.{option_map}
 use Rattle.grid.specs.declared.pos.Pos.{Pos}
 use Rattle.theory.specs.Lists.{Each}
@@ -7,7 +7,7 @@ use Rattle.lines.specs.Reading.{collapsed, line_fault}
 use Rattle.lines.specs.Turned.{position_cmp}
 use Rattle.lines.specs.declared.shape_fault.ShapeFault.{ShapeFault}
 use Rattle.lines.specs.declared.shape_fault.ShapeFault.TheVariants as fault
-use Rattle.fixing.specs.Left.{left_by, line_left, lines_left, need_of}
+use Rattle.fixing.specs.Left.{left_by, line_left, need_of}
 use Rattle.fixing.specs.Runs.{runs_of}
 use Rattle.fixing.specs.declared.linework.Need.{Need}
 use Rattle.fixing.specs.declared.rules.FixingRules.{FixingRules}

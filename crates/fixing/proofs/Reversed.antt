@@ -15,14 +15,14 @@ use Rattle.lines.specs.Turned.{position_cmp}
 use Rattle.lines.proofs.ReadsItself.{ring_without_fault, trail_collapses}
 use Rattle.lines.proofs.Trails.{Closes, ring_accepted}
 
-same_is : (y x : Pos) → same_vertex position_cmp y x ≡ true → y ≡ x
+pub same_is : (y x : Pos) → same_vertex position_cmp y x ≡ true → y ≡ x
 same_is = same_vertex-equal position_cmp position_total position_same
 
 is_same : (y x : Pos) → y ≡ x → same_vertex position_cmp y x ≡ true
 is_same = equal-same_vertex position_cmp position_total position_same
 
 -- the positions of l that differ from the one before, the first from x
-abbrev after : Pos → List Pos → List Pos
+abbrev pub after : Pos → List Pos → List Pos
 after x [] = []
 after x (y ∷ l) = cond (same_vertex position_cmp y x) (after x l) (y ∷ after y l)
 
@@ -35,7 +35,7 @@ after_from x (y ∷ l) = go (same_vertex position_cmp y x) (after_from x l) (aft
     go true h k = h
     go false h k = ap (λ w. x ∷ w) k
 
-collapsed_after : (x : Pos) (l : List Pos) → collapsed position_cmp (x ∷ l) ≡ x ∷ after x l
+pub collapsed_after : (x : Pos) (l : List Pos) → collapsed position_cmp (x ∷ l) ≡ x ∷ after x l
 collapsed_after x l = after_from x l
 
 after_join : (x : Pos) (q s : List Pos) → after x (q ++ s) ≡ after x q ++ after (last_of x q) s
@@ -118,22 +118,24 @@ Trail-reverse {V} (x ∷ (y ∷ m)) t =
     last u v h (inr (inl k)) = (t.0 y refl).1 (inr (subst (λ z. Steps y z (y ∷ m)) k.1 (subst (λ z. Steps z u (y ∷ m)) k.0 (before u v h))))
     last u v h (inr (inr k)) = ends v u k
 
--- a ring the other way round
-record IsTurnedRound (r : List Pos) : Type 0 where
-  ring : List Pos
-  valid : IsRing ring
-  is : reverse (closed r) ≡ closed ring
+-- a ring the other way round, from the same vertex
+abbrev pub back : List Pos → List Pos
+back [] = []
+back (x ∷ m) = x ∷ reverse m
 
-turned_round : (r : List Pos) → IsRing r → IsTurnedRound r
-turned_round [] k = absurd (let n : 3 ≤ 0 = k.long in omega arith)
-turned_round (x ∷ m) k =
-    let is : reverse (x ∷ (m ++ (x ∷ []))) ≡ x ∷ (reverse m ++ (x ∷ [])) = reverse-snoc x (m ++ (x ∷ [])) ∙ ap (λ w. w ++ (x ∷ [])) (reverse-join m (x ∷ [])) in
+pub closed_back : (r : List Pos) → reverse (closed r) ≡ closed (back r)
+closed_back [] = refl
+closed_back (x ∷ m) = reverse-snoc x (m ++ (x ∷ [])) ∙ ap (λ w. w ++ (x ∷ [])) (reverse-join m (x ∷ []))
+
+pub back_ring : (r : List Pos) → IsRing r → IsRing (back r)
+back_ring [] k = k
+back_ring (x ∷ m) k =
     let n : 3 ≤ length (x ∷ m) = k.long in
-    record {
-      ring = x ∷ reverse m;
-      valid = record { long = (let e = length-reverse m in omega (arith, n)); once = subst Trail is (Trail-reverse (closed (x ∷ m)) k.once) };
-      is = is;
-    }
+    record { long = (let e = length-reverse m in omega (arith, n)); once = subst Trail (closed_back (x ∷ m)) (Trail-reverse (closed (x ∷ m)) k.once) }
+
+-- the list of a ring, reversed
+pub back_collapsed : (l r : List Pos) → collapsed position_cmp l ≡ closed r → collapsed position_cmp (reverse l) ≡ closed (back r)
+back_collapsed l r e = collapsed-reverse l ∙ ap reverse e ∙ closed_back r
 
 -- a closed list without a fault has none when it is reversed
 pub reversed_sound : (l : List Pos) → ring_fault position_cmp l ≡ None → ring_fault position_cmp (reverse l) ≡ None
@@ -141,10 +143,9 @@ unfolding ring_fault
 reversed_sound l e = go (ring_accepted position_cmp position_total position_same l e)
   where
     go : Closes position_cmp position_total position_same (collapsed position_cmp l) → collapsed_ring_fault position_cmp (collapsed position_cmp (reverse l)) ≡ None
-    go k = back (turned_round (opened (collapsed position_cmp l)) k.is_ring)
-      where
-        back : IsTurnedRound (opened (collapsed position_cmp l)) → collapsed_ring_fault position_cmp (collapsed position_cmp (reverse l)) ≡ None
-        back t =
-            ap (collapsed_ring_fault position_cmp)
-            (collapsed-reverse l ∙ ap reverse k.is ∙ t.is ∙ sym (trail_collapses position_cmp position_total position_same (closed t.ring) t.valid.once))
-            ∙ ring_without_fault position_cmp position_total position_same t.ring t.valid
+    go k =
+        let valid = back_ring (opened (collapsed position_cmp l)) k.is_ring in
+        ap (collapsed_ring_fault position_cmp)
+        (back_collapsed l (opened (collapsed position_cmp l)) k.is
+        ∙ sym (trail_collapses position_cmp position_total position_same (closed (back (opened (collapsed position_cmp l)))) valid.once))
+        ∙ ring_without_fault position_cmp position_total position_same (back (opened (collapsed position_cmp l))) valid

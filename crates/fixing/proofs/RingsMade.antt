@@ -10,7 +10,7 @@ use Rattle.fixing.specs.Laws.{EachRing}
 use Rattle.fixing.specs.Counts.{no_fixes}
 use Rattle.fixing.specs.Left.{ring_need}
 use Rattle.fixing.specs.Measures.{rewound}
-use Rattle.fixing.specs.Polygons.{listed, polygon_counted, polygon_kept, polygons_left, polygons_made, rewound_from, rewound_polygon, ring_made, rings_made}
+use Rattle.fixing.specs.Polygons.{listed, polygon_counted, polygon_kept, polygons_left, polygons_made, rewound_from, rewound_polygon, rings_made}
 use Rattle.fixing.specs.declared.rules.Fixes.{Fixes}
 use Rattle.fixing.specs.declared.rules.FixingRules.{FixingRules}
 use Rattle.fixing.specs.declared.rules.Rewind.{Rewind}

@@ -2,7 +2,7 @@
 use Rattle.std.specs.Prelude.{Bool, true, false, cond, List, [], ◌∷◌, Option, Some, None, unwrap_or}
 use Rattle.std.specs.Option.{option_map}
 use Rattle.grid.specs.declared.pos.Pos.{Pos}
-use Rattle.theory.specs.Topology.{Form, null, point, points, line, lines, polygon, polygons}
+use Rattle.theory.specs.Topology.{null, point, points, line, lines, polygon, polygons}
 use Rattle.fixing.specs.Forms.{PlainForm, PlainGeometry, one, collection}
 use Rattle.fixing.specs.Left.{all_counted, all_left, counted, line_need, lines_left, one_more}
 use Rattle.fixing.specs.Polygons.{polygon_counted, polygons_counted, polygons_left}

@@ -10,7 +10,7 @@ use Rattle.theory.specs.Lists.{Distinct, Each, gathered, last_of}
 use Rattle.fixing.specs.Left.{all_counted, all_left, counted, line_left, line_need, ring_left, ring_need}
 use Rattle.fixing.specs.Loops.{loops_of}
 use Rattle.fixing.specs.Measures.{rewound, turns_left, twice_area}
-use Rattle.fixing.specs.Polygons.{polygon_counted, polygon_kept, polygon_left}
+use Rattle.fixing.specs.Polygons.{polygon_counted, polygon_kept, polygon_left, ring_made}
 use Rattle.fixing.specs.Runs.{first_uses, runs_of}
 use Rattle.fixing.specs.Uses.{uses}
 use Rattle.fixing.specs.declared.rules.Fixes.{Fixes}
@@ -97,3 +97,9 @@ abbrev pub TurnedRingsStay : Type 0
 TurnedRingsStay =
     (rewind : Rewind) (is_outer : Bool) (l : List Pos) → FitsSigned w128 (twice_area l) → FitsSigned w128 (pos 0 -ℤ twice_area l) →
     rewound rewind is_outer (rewound rewind is_outer l) ≡ rewound rewind is_outer l
+
+-- the ring that is made of a closed list is made of its own closed list too
+abbrev pub RingsMadeStay : Type 0
+RingsMadeStay =
+    (rewind : Rewind) (is_outer : Bool) (l ring : List Pos) → FitsSigned w128 (twice_area l) → FitsSigned w128 (pos 0 -ℤ twice_area l) →
+    ring_made rewind is_outer l ≡ Some ring → ring_made rewind is_outer (closed ring) ≡ Some ring

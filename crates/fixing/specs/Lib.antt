@@ -11,3 +11,4 @@ pub mod Polygons
 pub mod Counts
 pub mod Forms
 pub mod Geometries
+pub mod Fixable

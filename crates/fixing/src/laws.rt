@@ -1,4 +1,5 @@
 //! The laws of what is left of lines, rings and geometries, each promised by a function that does nothing.
+ghost use Rattle.fixing.specs.Fixable as fixable;
 ghost use Rattle.fixing.specs.Laws as law;
 
 /// What is left of a line is lines: two positions or more, and no segment twice. What is left of a ring is rings:
@@ -30,8 +31,18 @@ pub fn sound_shapes_stay()
     ensures polygons { law.SoundPolygonsStay }
 {}
 
-/// Rings that are turned turn as they are wanted, and turning them again changes nothing.
+/// Rings that are turned turn as they are wanted, and turning them again changes nothing: neither their lists, nor the rings
+/// that are made of these.
 pub fn turned_rings_turn()
     ensures turn { law.TurnedRingsTurn }
     ensures stay { law.TurnedRingsStay }
+    ensures made { law.RingsMadeStay }
+{}
+
+/// A line, a ring or a geometry is refused exactly where it has a fault that the rules don't fix, or is a GeometryCollection
+/// that they don't split.
+pub fn fixable_geometries_are_left()
+    ensures lines { fixable.FixableLinesAreLeft }
+    ensures rings { fixable.FixableRingsAreLeft }
+    ensures geometries { fixable.FixableGeometriesAreLeft }
 {}

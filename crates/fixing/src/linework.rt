@@ -20,7 +20,7 @@ use lines::shape_fault::ShapeFault;
 use std::alloc::{AllocError, Global};
 
 /// What is to be done with a line or ring.
-#[derive(Clone, Copy, PartialEq, Eq, Debug)]
+#[derive(Clone, Copy)]
 enum Need {
     Nothing,
     Drop,
@@ -101,7 +101,7 @@ pub fn unfixed_ring(
 }
 
 /// Whether a list is a line or a ring.
-#[derive(Clone, Copy, PartialEq, Eq, Debug)]
+#[derive(Clone, Copy)]
 enum Linework {
     Line,
     Ring,

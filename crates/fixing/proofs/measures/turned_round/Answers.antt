@@ -1,4 +1,4 @@
-use Rattle.std.proofs.Common.{◌≡◌, reverse, ap, ◌∙◌, subst, sym, rules, None}
+use Rattle.std.proofs.Common.{◌≡◌, reverse, ap, ◌∙◌, rules}
 use Rattle.lines.specs.Reading.{ring_fault}
 use Rattle.lines.specs.Turned.{position_cmp}
 use Rattle.fixing.proofs.Reversed.{reversed_sound}

@@ -1,0 +1,24 @@
+use Rattle.std.proofs.Common.{◌<◌, ◌-◌, ◌∷◌, subst, arith}
+use Rattle.std.proofs.lemmas.Result.{IfOk-weaker}
+use Rattle.json.specs.Token.{number, begin_array}
+use Rattle.decimal_maps.specs.Arrays.{ArrayMeans}
+use Rattle.decimal_maps.specs.Reads.{ReadsRest}
+use Rattle.decimal_maps.proofs.Looping.{opened_reads, reads_of}
+use Rattle.decimal_maps.proofs.opened.ListOfFromOpened.read_opened.Goals as goal
+
+pub returns : goal.returns
+returns g c =
+    let of = c.args.self.now.of in
+    let R = g.P.FromTokens.means of in
+    let opened = g.P.FromOpened.opening of (number c.args.x.now ∷ c.args.reader.now) in
+    let mid = c.read_opened.new.reader in
+    let new = c.read_rest.new.reader in
+    let x = c.in_ok-first.first in
+    let some : 0 < c.args.depth = omega arith in
+    let before = c.args.count.now in
+    let between = c.read_opened.new.count in
+    let after = c.read_rest.new.count in
+    IfOk-weaker c.read_rest.result _ _
+    (λ xs rest. reads_of (ArrayMeans R) (λ v. v.items) c.args.depth (begin_array ∷ opened) new before after xs
+    (opened_reads R c.args.depth opened mid new x xs.items before between after some c.in_ok-first.ensures
+    (subst (λ found. ReadsRest R (c.args.depth - 1) mid new found xs.items between after) c.in_ok-found.ensures rest))) c.read_rest.ensures
