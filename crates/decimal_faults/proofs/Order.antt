@@ -145,6 +145,7 @@ missing_ascends (Some ps) a = a
 
 mutual
   unfolding AscendsIf geometry_faults
+
   geometry_ascends : (grid : DecimalGrid) (fixing : FixingRules) (j : Json) → IsAscending (geometry_faults grid fixing j)
   geometry_ascends grid fixing null = ascending_here kind.WrongKind
   geometry_ascends grid fixing (boolean b) = ascending_here kind.WrongKind
