@@ -2,7 +2,11 @@ pub mod Numbers
 pub mod Items
 pub mod Faulty
 pub mod Heights
-pub mod Ascending
+pub mod Meant
+pub mod Nested
+pub mod Bare
+pub mod Texts
+pub mod Order
 pub mod SoundPositions
 pub mod SoundParts
 pub mod SoundGeometries

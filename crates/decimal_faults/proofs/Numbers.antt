@@ -1,7 +1,7 @@
 -- Numerals, and the whole numbers of steps that are nearest to them.
 use Rattle.std.proofs.Common.{◌≡◌, ℕ, zero, suc, ◌+◌, ◌*◌, ◌/◌, ◌^◌, ◌<◌, ◌≤◌, min, Bool, true, false, ◌&&◌, ◌==◌, nat_eq, nat_le, ◌↔◌, ℤ, pos, List, [], length, Option, Some, None, refl, sym, ap, ◌∙◌, subst, inl, inr, arith, le-leb, leb-true, if◌then◌else◌, eq-eqb, eqb-true, mul-le-mul_right, unsigned_abs}
 use Rattle.std.proofs.lemmas.Bool.{lt-leb}
-use Rattle.std.proofs.lemmas.Int.{ints}
+use Rattle.std.proofs.lemmas.Nat.{div-add-mod', mod_below}
 use Rattle.std.specs.Str.Parse.{starts_with_minus}
 use Rattle.fast_float.proofs.ExactLemmas.{ten_to_pos}
 use Rattle.fast_float.specs.Text.{digits_of, has_digits, tens_up, tens_down, with_sign}
@@ -12,7 +12,7 @@ use Rattle.grid.specs.Place.{IsGridNumber}
 use Rattle.grid.proofs.Judged.{both_first, both_second}
 use Rattle.numerals.specs.Nearest.{IsNearest, IsRounded}
 use Rattle.numerals.specs.Numeral.{Measure, IsMeasure, IsNumeral, IsSnapped, dividend, divisor, parts_of, unsigned_text}
-use Rattle.numerals.proofs.Nearest.{from_nearest, to_nearest, one_rounded, rounded_halves_of}
+use Rattle.numerals.proofs.Nearest.{from_nearest, to_nearest, one_rounded}
 use Rattle.numerals.proofs.Steps.{dividend_is, grid_size, signed_nearest}
 use Rattle.reading.specs.Fault.{here}
 use Rattle.decimal_faults.specs.Positions.{steps_of, nearest_of, is_numeral, number_faults}
@@ -25,6 +25,14 @@ size_of_sign true (suc n) = refl
 some_divisor : (s : Measure) (text : List ℕ) → IsMeasure s → 0 < divisor s text
 some_divisor s text h = omega (arith, mul-le-mul_right (10 ^ tens_down (parts_of text)) h.some, ten_to_pos (tens_down (parts_of text)))
 
+-- halves over twice the size, rounded down
+halves : (n d : ℕ) → 0 < d → IsRounded n d ((n * 2 + d) / (d * 2))
+halves n d some =
+    let q = (n * 2 + d) / (d * 2) in
+    let split = div-add-mod' (n * 2 + d) (d * 2) in
+    let rest = mod_below (n * 2 + d) (d * 2) (omega arith) in
+    record { low = omega (arith, split, rest); high = omega (arith, split, rest) }
+
 abbrev size : Measure → List ℕ → ℕ
 size s text = digits_of (parts_of text) * 10 ^ (tens_up (parts_of text) + s.places)
 
@@ -32,7 +40,7 @@ rounded : (s : Measure) (text : List ℕ) → IsMeasure s → IsRounded (size s 
 unfolding steps_of
 rounded s text h =
     let same : unsigned_abs (dividend s text) ≡ size s text = ap unsigned_abs (sym (dividend_is text s)) ∙ size_of_sign (starts_with_minus text) (size s text) in
-    subst (λ n. IsRounded (size s text) (divisor s text) ((n * 2 + divisor s text) / (divisor s text * 2))) (sym same) (rounded_halves_of (size s text) (divisor s text) (some_divisor s text h))
+    subst (λ n. IsRounded (size s text) (divisor s text) ((n * 2 + divisor s text) / (divisor s text * 2))) (sym same) (halves (size s text) (divisor s text) (some_divisor s text h))
 
 -- the number of steps that is nearest
 pub snapped : (s : Measure) (text : List ℕ) (p : ℤ) → IsMeasure s → IsSnapped s text p → (unsigned_abs p ≡ steps_of s text) × (p ≡ nearest_of s text)

@@ -60,17 +60,13 @@ pub fn faults(
     let mut scratch = Scratch::new(alloc);
     match Value::from_slice(alloc, bytes, &mut scratch) {
         Ok(value) => judge_map(alloc, rules, fixing, &value),
-        Err(Error::OutOfMemory) => Err(OutOfMemory),
-        Err(_) => { Ok(one(alloc, FaultKind::NotJson)?) }
+        Err(Error::Invalid) => { Ok(one(alloc, FaultKind::NotJson)?) }
+        Err(_) => Err(OutOfMemory),
     }
 }
 
 // The feature of a geometry that is no feature's.
-fn make_bare(
-    alloc: Global,
-    rules: &MapRules<'_>,
-    value: &Value<'_>,
-) -> Result<RawFeature, Stop>
+fn make_bare(alloc: Global, rules: &MapRules<'_>, value: &Value<'_>) -> Result<RawFeature, Stop>
     ensures made { IfOk result (IsBareGeometry rules.now (value_view value.now)) }
     ensures refused { result ≡ Err Stop.Unread → (fixing : Rules) → geometry_faults rules.now.grid fixing (value_view value.now) ≢ [] }
 {
@@ -80,7 +76,10 @@ fn make_bare(
         id: None,
         ..rules.attributes
     };
-    let attributes = make_attributes(alloc, &unnamed, None, None)?;
+    let attributes = match make_attributes(alloc, &unnamed, None, None) {
+        Ok(attributes) => attributes,
+        Err(stop) => return Err(stop),
+    };
     Ok(RawFeature {
         attributes,
         geometry,
