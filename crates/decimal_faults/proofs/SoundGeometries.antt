@@ -33,7 +33,7 @@ use Rattle.decimal_maps.specs.declared.kind.GeometryKind.{GeometryKind}
 use Rattle.decimal_maps.specs.declared.kind.GeometryKind.TheVariants as kind
 use Rattle.decimal_maps.specs.declared.rules.DecimalGrid.{DecimalGrid}
 use Rattle.decimal_maps.specs.declared.tally.Tally.{Tally}
-use Rattle.decimal_faults.specs.Geometries.{coordinates_faults, each_geometry_faults, form_faults, form_named, form_of, geometries_faults, geometries_in, geometry_faults, later, or_missing, point_faults, unless_empty}
+use Rattle.decimal_faults.specs.Geometries.{coordinates_faults, each_geometry_faults, form_faults, form_named, form_of, geometries_faults, geometries_in, geometry_faults, later, or_missing, point_faults, is_nothing}
 use Rattle.decimal_faults.specs.Outlines.{fault_as, outline_at_faults}
 use Rattle.decimal_faults.specs.Parts.{list_faults, type_or_fault}
 use Rattle.decimal_faults.specs.Positions.{position_faults, positions_of}
@@ -82,7 +82,7 @@ no_fault : (f : Option ShapeFault) → (f ≡ None) ↔ (outline_faults f ≡ []
 no_fault None = ((λ h. refl), (λ h. refl))
 no_fault (Some f) = ((λ h. absurd (cc)), (λ h. absurd (cc)))
 
-unless_none : (of : Json → List Pair) (j : Json) (o : Option Items) → of j ≡ [] → unless_empty of j o ≡ []
+unless_none : (of : Json → List Pair) (j : Json) (o : Option Items) → of j ≡ [] → (if is_nothing o then [] else of j) ≡ []
 unless_none of j None e = e
 unless_none of j (Some no_items) e = refl
 unless_none of j (Some (item k ks)) e = e

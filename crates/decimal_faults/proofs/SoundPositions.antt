@@ -49,8 +49,7 @@ module _ (grid : DecimalGrid) (measured : IsMeasure grid.step) where
   numbers_sound (item x (item y js)) p a b h =
       let first = coordinate_sound grid.greatest_x x (x_of p) p.across h.0 in
       let second = coordinate_sound grid.greatest_y y (y_of p) p.along h.1 in
-      let both : both_faults grid (item x (item y js)) ≡ [] = ap₂ (λ ps qs. under (index 0) ps ++ under (index 1) qs) first.0 second.0 in
-      (
+      let both : both_faults grid (item x (item y js)) ≡ [] = ap₂ (λ ps qs. under (index 0) ps ++ under (index 1) qs) first.0 second.0 in (
         rw (may_be x y js _ b h.2) (ap₂ (λ ps qs. ps ++ qs) both (heights_sound 2 js _ b h.2)),
         ap₂ (λ m n. position_at m n) first.1 second.1 ∙ sym (position_itself p),
       )

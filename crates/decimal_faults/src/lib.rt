@@ -1,7 +1,7 @@
 //! All faults of GeoJSON texts in decimal numbers that the fixing rules leave, and the reader of a tree that has none.
 //!
 //! A part of a tree is given by the list of its faults, in the order of their paths and then of their numbers, and by what
-//! it means. It is judged, which gives all its faults, or made, which gives what it means where it has none.
+//! it means. It is checked, which gives all its faults, or made, which gives what it means where it has none.
 #![tactic(auto)]
 
 mod coordinates;

@@ -13,7 +13,7 @@ use fixing::FixingRules;
 use json::Value;
 use std::alloc::Global;
 
-/// What judges and makes one kind of part.
+/// What checks and makes one kind of part.
 pub trait Part {
     type Made: Drop;
 

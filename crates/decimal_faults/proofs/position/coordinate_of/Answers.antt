@@ -1,4 +1,4 @@
-use Rattle.std.proofs.Common.{◌≡◌, [], Some, None, arith, unsigned_abs, sym, ap, ◌∙◌, subst, if◌then◌else◌}
+use Rattle.std.proofs.Common.{◌≡◌, ◌≤◌, [], Some, None, arith, unsigned_abs, to_z, of_z, w64, sym, ap, ◌∙◌, subst, if◌then◌else◌}
 use Rattle.json.specs.Value.{value_view}
 use Rattle.faults.specs.declared.fault.FaultKind.TheVariants.{OutOfRange}
 use Rattle.numerals.specs.Distance.{distance_of}
@@ -6,6 +6,7 @@ use Rattle.grid.specs.Place.{IsGridNumber}
 use Rattle.numerals.specs.Numeral.{IsNumeral, IsSnapped}
 use Rattle.reading.specs.Fault.{here}
 use Rattle.reading.proofs.Positions.{number_reads}
+use Rattle.decimal_maps.specs.Positions.{IsCoordinate}
 use Rattle.decimal_maps.specs.Tally.{distance_from_grid}
 use Rattle.decimal_faults.specs.Positions.{number_faults}
 use Rattle.decimal_faults.specs.Parts.{numeral_faults}
@@ -32,7 +33,7 @@ returns-then-grid-clause-far c =
     let near = (c.snap.ensures c.in-Some-snap.n).0 c.in-Some-snap.is in
     let bytes = c.as_bytes.ensures.value ∙ sym c.as_bytes-then-grid.ensures.value in
     let s = c.args.grid.now.step in
-    let far = c.distance-far.ensures.given c.in-Some-snap.n (subst (λ b. IsNumeral b × IsSnapped s b c.in-Some-snap.n × IsGridNumber c.in-Some-snap.n) bytes near) in
+    let far = c.distance-far.ensures c.in-Some-snap.n (subst (λ b. IsNumeral b × IsSnapped s b c.in-Some-snap.n × IsGridNumber c.in-Some-snap.n) bytes near) in
     let is = number_is (value_view c.args.value.now) c.in-Some.text.now (sym c.in-Some.ensures) in
     let measured = ap (λ b. if b then distance_of s c.in-Some.text.now else 0) c.if-grid.true in
     far ∙ ap (distance_of s) c.as_bytes-then-grid.ensures.value ∙ sym (ap (distance_from_grid c.args.grid.now) is ∙ measured)
@@ -52,3 +53,31 @@ returns-else-grid-clause-faultless c =
     let near = (c.snap.ensures c.in-Some-snap.n).0 c.in-Some-snap.is in
     subst (λ o. numeral_faults (number_faults s c.args.greatest) o ≡ []) is
     (number_sound s c.args.greatest c.as_bytes.result.now c.in-Some-snap.n c.size-size.ensures.limits near.0 near.1 near.2 (omega (arith, c.unsigned_abs.ensures.value, ap unsigned_abs (number_reads c.in-Some-snap.n near.2), c.if-unsigned_abs-greatest.false)))
+
+pub returns-then-grid-clause-found : goal.returns-then-grid-clause-found
+returns-then-grid-clause-found c =
+    let n = c.in-Some-snap.n in
+    let s = c.args.grid.now.step in
+    let near = (c.snap.ensures n).0 c.in-Some-snap.is in
+    let text = c.as_bytes.ensures.value in
+    let is = sym (number_reads n near.2) in
+    let small : unsigned_abs (to_z w64 (of_z w64 n)) ≤ c.args.greatest = omega (arith, c.unsigned_abs.ensures.value, c.if-unsigned_abs-greatest.false) in
+    let from = sym (number_is (value_view c.args.value.now) c.in-Some.text.now (sym c.in-Some.ensures)) in (
+      subst (λ j. IsCoordinate c.args.grid.now c.args.greatest j (to_z w64 (of_z w64 n))) from
+          (subst (λ m. IsSnapped s c.in-Some.text.now m) is (subst (λ t. IsSnapped s t n) text near.1), small, subst IsNumeral text near.0),
+      subst IsGridNumber is near.2,
+    )
+
+pub returns-else-grid-clause-found : goal.returns-else-grid-clause-found
+returns-else-grid-clause-found c =
+    let n = c.in-Some-snap.n in
+    let s = c.args.grid.now.step in
+    let near = (c.snap.ensures n).0 c.in-Some-snap.is in
+    let text = c.as_bytes.ensures.value in
+    let is = sym (number_reads n near.2) in
+    let small : unsigned_abs (to_z w64 (of_z w64 n)) ≤ c.args.greatest = omega (arith, c.unsigned_abs.ensures.value, c.if-unsigned_abs-greatest.false) in
+    let from = sym (number_is (value_view c.args.value.now) c.in-Some.text.now (sym c.in-Some.ensures)) in (
+      subst (λ j. IsCoordinate c.args.grid.now c.args.greatest j (to_z w64 (of_z w64 n))) from
+          (subst (λ m. IsSnapped s c.in-Some.text.now m) is (subst (λ t. IsSnapped s t n) text near.1), small, subst IsNumeral text near.0),
+      subst IsGridNumber is near.2,
+    )
