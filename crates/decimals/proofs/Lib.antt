@@ -1,11 +1,1 @@
-pub mod Places
-pub mod Nearest
-pub mod Steps
-pub mod Keeping
-pub mod Numbers
-pub mod Shortness
-pub mod Printed
-pub mod Amounts
-pub mod Offsets
-pub mod GeojsonLemmas
 pub mod TopologyLemmas

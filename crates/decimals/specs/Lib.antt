@@ -1,9 +1,1 @@
-pub mod Nearest
-pub mod Numeral
-pub mod Tenths
-pub mod Laws
-pub mod Short
-pub mod Amount
-pub mod Offset
-pub mod Geojson
 pub mod Topology

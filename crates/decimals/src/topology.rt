@@ -8,9 +8,7 @@ mod fault;
 mod geometries;
 pub mod laws;
 mod turning;
-mod units;
 mod writer;
 
 pub use fault::DecimalFault;
-pub use units::Units;
 pub use writer::text_of;

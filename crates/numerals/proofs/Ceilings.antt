@@ -9,7 +9,7 @@ use Rattle.std.specs.Str.Parse.{AllDigits, digits_value}
 use Rattle.fast_float.specs.Text.{Parts, digits_of, tens_up, tens_down, with_sign}
 use Rattle.fast_float.proofs.ExactLemmas.{ten_to_pos}
 use Rattle.numerals.specs.Distance.{AreTenThousandths, away, rounded_up}
-use Rattle.numerals.specs.Offset.{IsQuotient}
+use Rattle.numerals.specs.Quotient.{IsQuotient}
 use Rattle.numerals.specs.Floor.{floor_of, kept_of}
 use Rattle.numerals.specs.Laws.{OnTheGridIsNotMoved}
 use Rattle.numerals.specs.Numeral.{dividend, divisor}
@@ -17,11 +17,11 @@ use Rattle.numerals.proofs.Steps.{some_divisor}
 use Rattle.numerals.proofs.Places.{exact_where, first_digits_is}
 
 -- x is a / b rounded up
-record IsCeiling (a b x : ℕ) : Type 0 where
-  low : a ≤ x * b
-  high : x * b < a + b
+pub record IsCeiling (a b x : ℕ) : Type 0 where
+  pub low : a ≤ x * b
+  pub high : x * b < a + b
 
-ceiling_of : (a b : ℕ) → 0 < b → IsCeiling a b (rounded_up a b)
+pub ceiling_of : (a b : ℕ) → 0 < b → IsCeiling a b (rounded_up a b)
 ceiling_of a b some =
     let split = div-add-mod' (a + (b - 1)) b in
     let rest = mod_below (a + (b - 1)) b some in
@@ -45,7 +45,7 @@ left_below k l b m r less e =
       | inr fine ↦ fine
     ]
 
-one_left : (k l b m r : ℕ) → m < b → r < b → k * b + m ≡ l * b + r → m ≡ r
+pub one_left : (k l b m r : ℕ) → m < b → r < b → k * b + m ≡ l * b + r → m ≡ r
 one_left k l b m r p q e =
     let same : k ≡ l = omega (arith, left_below k l b m r p e, left_below l k b r m q (sym e)) in
     omega (arith, e, ap (λ x. x * b) same)

@@ -6,3 +6,4 @@ pub mod Numbers
 pub mod Shortness
 pub mod Printed
 pub mod Ceilings
+pub mod Leasts

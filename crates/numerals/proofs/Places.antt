@@ -11,7 +11,7 @@ use Rattle.fast_float.proofs.DigitsLemmas.{digits_value-append, digits_value_aft
 use Rattle.fast_float.proofs.ExactLemmas.{ten_to_pos}
 use Rattle.fast_float.proofs.Rows.{AllDigits-drop}
 use Rattle.fast_float.specs.Text.{Parts}
-use Rattle.numerals.specs.Offset.{IsQuotient}
+use Rattle.numerals.specs.Quotient.{IsQuotient}
 use Rattle.numerals.specs.Floor.{IsKept, first_digits, floor_of, kept_of}
 
 pub after_more : (v : ℕ) (ds : List ℕ) (i : ℕ) → i < length ds

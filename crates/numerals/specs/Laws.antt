@@ -1,5 +1,5 @@
 -- What snapping keeps.
-use Rattle.std.specs.Prelude.{◌≡◌, ◌↔◌, ◌*◌, ℤ, pos, ◌*ℤ◌, ◌≤ℤ◌, List, ℕ, unsigned_abs}
+use Rattle.std.specs.Prelude.{◌≡◌, ◌↔◌, ◌*◌, ◌≤◌, ℤ, pos, ◌-ℤ◌, ◌*ℤ◌, ◌≤ℤ◌, List, ℕ, unsigned_abs}
 use Rattle.json.specs.Print.{IsNumber}
 use Rattle.numerals.specs.Distance.{distance_of}
 use Rattle.numerals.specs.Numeral.{Measure, IsMeasure, IsNumeral, IsSnapped, IsAtMost, AreEqual, dividend, divisor}
@@ -15,6 +15,16 @@ OrderIsKept = (s : Measure) (a b : List ℕ) (p q : ℤ) → IsMeasure s → IsA
 -- a numeral that is worth a whole number of steps has that position
 abbrev pub GridStays : Type 0
 GridStays = (s : Measure) (a : List ℕ) (p : ℤ) → dividend s a ≡ p *ℤ pos (divisor s a) → IsSnapped s a p
+
+-- a numeral is at most so many ten-thousandths of a step away from p steps
+abbrev pub IsWithin : Measure → List ℕ → ℤ → ℕ → Type 0
+IsWithin s text p far = 10000 * unsigned_abs (dividend s text -ℤ (p *ℤ pos (divisor s text))) ≤ far * divisor s text
+
+-- the distance is the least number of ten-thousandths within which a numeral is from any whole number of steps, and it is
+-- within that from its position
+abbrev pub DistanceIsLeast : Type 0
+DistanceIsLeast = (s : Measure) (text : List ℕ) (p : ℤ) → IsMeasure s
+    → (IsSnapped s text p → IsWithin s text p (distance_of s text)) × ((far : ℕ) → IsWithin s text p far → distance_of s text ≤ far)
 
 -- a numeral is not away from the grid exactly where it is worth a whole number of steps
 abbrev pub OnTheGridIsNotMoved : Type 0

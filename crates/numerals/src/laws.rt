@@ -1,6 +1,6 @@
 //! What snapping keeps, as contracts of functions that do nothing.
 ghost use Rattle.numerals.specs.Amount.{TextsAreWorth};
-ghost use Rattle.numerals.specs.Laws.{EqualNumeralsSnapAlike, OrderIsKept, GridStays, NumbersAreNumerals, OnTheGridIsNotMoved};
+ghost use Rattle.numerals.specs.Laws.{DistanceIsLeast, EqualNumeralsSnapAlike, OrderIsKept, GridStays, NumbersAreNumerals, OnTheGridIsNotMoved};
 
 /// Numerals that are worth the same have one position, however they are written: 1.5, 1.50 and 15e-1.
 #[tactic(auto, using(crate::proofs::Keeping::equal_numerals_snap_alike))]
@@ -19,6 +19,12 @@ pub fn order_is_kept()
 #[tactic(auto, using(crate::proofs::Keeping::grid_stays))]
 pub fn grid_stays()
     ensures { GridStays }
+{}
+
+/// A numeral is within its distance from its position, and within no less from any whole number of steps.
+#[tactic(auto, using(crate::proofs::Leasts::distance_is_least))]
+pub fn distance_is_least()
+    ensures { DistanceIsLeast }
 {}
 
 /// A numeral that is written as a whole number of steps is not moved, and each other one is.

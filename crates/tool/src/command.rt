@@ -80,8 +80,20 @@ fn perform_named<'a, F: Files, O: Sink, E: Sink>(
         Made::Faults(faults) => progress.report_faults(faults.count()),
         Made::Topology(topology) => progress.report_topology(topology),
     }
+    write_made(alloc, name, found, &made, progress, out)
+}
+
+/// Opens the output, prints what was made, and closes the output.
+fn write_made<'a, F: Files, O: Sink, E: Sink>(
+    alloc: Global,
+    name: &str,
+    found: &ArgMatches<'a>,
+    made: &Made,
+    progress: &mut Progress<'_, F, E>,
+    out: &mut O,
+) -> Result<Status, Refusal<'a>> {
     let mut output = Output::open(alloc, progress.files(), out, found.get_str("output"))?;
-    let printed = print_buffered(alloc, name, found, &made, &mut output);
+    let printed = print_buffered(alloc, name, found, made, &mut output);
     let bytes = output.bytes();
     let status = output.close(printed)?;
     progress.report_output(bytes);

@@ -48,10 +48,17 @@ fn compare_texts<'a>(
             new,
             difference,
         }),
-        Err(DifferenceFault::OtherGrid) => Err(Refusal::OtherGrid(file)),
-        Err(DifferenceFault::NoLayer) => Err(Refusal::NoLayer(word(found, "layer"))),
-        Err(DifferenceFault::OutOfMemory) => Err(Refusal::OutOfMemory),
-        Err(DifferenceFault::Write) => Err(Refusal::Write),
+        Err(fault) => Err(refusal_of(found, file, fault)),
+    }
+}
+
+/// Why nothing is said of the difference from a file.
+fn refusal_of<'a>(found: &ArgMatches<'a>, file: &'a str, fault: DifferenceFault) -> Refusal<'a> {
+    match fault {
+        DifferenceFault::OtherGrid => Refusal::OtherGrid(file),
+        DifferenceFault::NoLayer => Refusal::NoLayer(word(found, "layer")),
+        DifferenceFault::OutOfMemory => Refusal::OutOfMemory,
+        DifferenceFault::Write => Refusal::Write,
     }
 }
 

@@ -1,5 +1,5 @@
 -- Areas along lists of positions, and along those that arcs stitch to.
-use Rattle.std.proofs.Common.{◌≡◌, ℕ, zero, suc, ◌+◌, ◌<◌, length, drop, ℤ, pos, negsuc, ◌+ℤ◌, ◌-ℤ◌, ◌*ℤ◌, neg_ℤ, Bool, true, false, not, cond, List, [], ◌∷◌, ◌++◌, map, reverse, get_or, Option, Some, None, refl, sym, ap, ◌∙◌, arith, inl, inr}
+use Rattle.std.proofs.Common.{◌≡◌, ℕ, zero, suc, ◌+◌, ◌<◌, length, drop, ℤ, pos, negsuc, ◌+ℤ◌, neg_ℤ, Bool, true, false, not, cond, List, [], ◌∷◌, ◌++◌, map, reverse, get_or, Option, Some, None, refl, sym, ap, ◌∙◌, arith, inl, inr}
 use Rattle.std.proofs.lemmas.Bool.{cases_Bool}
 use Rattle.std.proofs.lemmas.Int.{ints}
 use Rattle.std.proofs.lemmas.List.{reverse-append}
@@ -8,11 +8,10 @@ use Rattle.std.proofs.Math.ListN.{get_or-map}
 use Rattle.std.specs.List.{slice_get}
 use Rattle.std.specs.Option.{option_map}
 use Rattle.grid.specs.declared.pos.Pos.{Pos}
-use Rattle.theory.specs.ArcNumbers.{ArcRef, StitchFrom, StitchTo, along, backwards, flipped}
+use Rattle.theory.specs.ArcNumbers.{ArcRef, StitchFrom, along, backwards, flipped}
 use Rattle.theory.specs.Lists.{last_of}
-use Rattle.fixing.specs.declared.rules.Rewind.{Rewind}
 use Rattle.decimals.specs.Topology.Laws.{AreasAddUp, RewoundRingsTurnRight}
-use Rattle.decimals.specs.Topology.Turning.{area_along, area_from, area_of, cross, ring_area, rewound_ring, turned_to, turns_wrong, wanted}
+use Rattle.decimals.specs.Topology.Turning.{area_along, area_from, area_of, cross, ring_area, turned_to, turns_wrong}
 
 -- read backwards
 

@@ -1,12 +1,11 @@
 -- The text of a topology in the unit of the map [TopoJSON, 2 and 3]: compact JSON, `type` first.
-use Rattle.std.specs.Prelude.{ℕ, ℤ, ◌-ℤ◌, List, [], ◌∷◌, ◌++◌, codes, Option, IfSome}
-use Rattle.std.specs.Fmt.{signed_decimal}
+use Rattle.std.specs.Prelude.{ℕ, List, ◌++◌, codes}
 use Rattle.grid.specs.Place.{Transform}
 use Rattle.grid.specs.declared.pos.Pos.{Pos}
 use Rattle.fixing.specs.declared.rules.Rewind.{Rewind}
 use Rattle.shapes.specs.Parts.{properties_text, spelled_text}
 use Rattle.shapes.specs.Spelling.{spelling_of}
-use Rattle.sinks.specs.Texts.{bracketed, joined, list_text, option_text, pair_text}
+use Rattle.sinks.specs.Texts.{joined, list_text, option_text}
 use Rattle.theory.specs.ArcNumbers.{ArcRef}
 use Rattle.topo.specs.ArcTexts.{arc_text, index_text, position_text}
 use Rattle.topo.specs.Parts.{Corners, LayerParts, TopologyParts}
@@ -15,8 +14,8 @@ use Rattle.topo.specs.declared.geom.Body.TheVariants as of
 use Rattle.topo.specs.declared.geom.Geom.{Geom}
 use Rattle.shapes.specs.Writing.Members.{id_text, properties_member}
 use Rattle.decimals.specs.Topology.Turning.{rewound_layers}
-use Rattle.decimals.specs.Topology.Unit.{HasPlace, length_text, x_text, y_text, zero_amount}
-use Rattle.decimals.specs.declared.topology.units.Units.{Units}
+use Rattle.decimals.specs.Topology.Unit.{steps_text}
+use Rattle.numerals.specs.Numeral.{Measure}
 
 abbrev pub list_of_lists : List (List ArcRef) → List ℕ
 list_of_lists ls = list_text (list_text index_text) ls
@@ -40,38 +39,19 @@ abbrev pub layer_text : LayerParts → List ℕ
 layer_text l = spelling_of (spelled_text l.name) ++ (codes ":{\"type\":\"GeometryCollection\",\"geometries\":" ++ (list_text geometry_text l.geometries ++ codes "}"))
 
 -- the member `transform`, in the unit of the map [TopoJSON, 2.1.2]
-abbrev pub transform_text : Units → Transform → List ℕ
-transform_text u t = codes "\"transform\":{\"scale\":[" ++ (length_text u t.x.scale ++ (codes "," ++ (length_text u t.y.scale
-    ++ (codes "],\"translate\":[" ++ (x_text u t.x.translate ++ (codes "," ++ (y_text u t.y.translate ++ codes "]},")))))))
+abbrev pub transform_text : Measure → Transform → List ℕ
+transform_text s t = codes "\"transform\":{\"scale\":[" ++ (steps_text s t.x.scale ++ (codes "," ++ (steps_text s t.y.scale
+    ++ (codes "],\"translate\":[" ++ (steps_text s t.x.translate ++ (codes "," ++ (steps_text s t.y.translate ++ codes "]},")))))))
 
 -- the member `bbox`, in the unit of the map [TopoJSON, 3]
-abbrev pub bbox_text : Units → Corners → List ℕ
-bbox_text u c = codes "\"bbox\":[" ++ (x_text u c.0 ++ (codes "," ++ (y_text u c.1 ++ (codes "," ++ (x_text u c.2 ++ (codes "," ++ (y_text u c.3 ++ codes "],")))))))
+abbrev pub bbox_text : Measure → Corners → List ℕ
+bbox_text s c = codes "\"bbox\":[" ++ (steps_text s c.0 ++ (codes "," ++ (steps_text s c.1 ++ (codes "," ++ (steps_text s c.2 ++ (codes "," ++ (steps_text s c.3 ++ codes "],")))))))
 
 -- the members `objects` and `arcs`
 abbrev pub content_text : List LayerParts → List (List Pos) → List ℕ
 content_text layers arcs = codes "\"objects\":{" ++ (joined layer_text layers ++ (codes "},\"arcs\":[" ++ (joined arc_text arcs ++ codes "]}")))
 
 -- the text of a topology, its rings turned as they are wanted
-abbrev pub unit_text : Units → Rewind → TopologyParts → List ℕ
-unit_text u r t = codes "{\"type\":\"Topology\"," ++ (transform_text u t.grid ++ (option_text (bbox_text u) t.bbox
+abbrev pub unit_text : Measure → Rewind → TopologyParts → List ℕ
+unit_text s r t = codes "{\"type\":\"Topology\"," ++ (transform_text s t.grid ++ (option_text (bbox_text s) t.bbox
     ++ content_text (rewound_layers r t.arcs.arcs t.layers) t.arcs.arcs))
-
--- the numbers of a transform have texts
-pub record HasTransform (u : Units) (t : Transform) : Type 0 where
-  pub scale_x : HasPlace u.step zero_amount t.x.scale
-  pub scale_y : HasPlace u.step zero_amount t.y.scale
-  pub x : HasPlace u.step u.origin.0 t.x.translate
-  pub y : HasPlace u.step u.origin.1 t.y.translate
-
--- those of a bounding box have
-pub record HasBox (u : Units) (c : Corners) : Type 0 where
-  pub west : HasPlace u.step u.origin.0 c.0
-  pub south : HasPlace u.step u.origin.1 c.1
-  pub east : HasPlace u.step u.origin.0 c.2
-  pub north : HasPlace u.step u.origin.1 c.3
-
--- the topology has a text in the unit of the map
-pub record HasText (u : Units) (t : TopologyParts) : Type 0 where
-  pub transform : HasTransform u t.grid
-  pub box : IfSome t.bbox (HasBox u)

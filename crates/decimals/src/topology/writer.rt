@@ -1,25 +1,37 @@
 //! Whole topologies.
 ghost use Rattle.decimals.specs.Topology.Turning.{rewound_layers};
-ghost use Rattle.decimals.specs.Topology.TopologyText.{HasBox, HasText, HasTransform, bbox_text, content_text, transform_text, unit_text};
-ghost use Rattle.decimals.specs.Topology.Unit.{HasPlace, length_text, x_text, y_text, zero_amount};
+ghost use Rattle.decimals.specs.Topology.TopologyText.{bbox_text, content_text, transform_text, unit_text};
+ghost use Rattle.decimals.specs.Topology.Unit.{steps_text};
 ghost use Rattle.decimals.specs.declared.topology.fault.DecimalFault.TheVariants.{TooManyDigits};
 ghost use Rattle.sinks.specs.Texts.{option_text};
 ghost use Rattle.sinks.specs.Writes.{TookAll};
-ghost use Rattle.std.specs.Prelude.{◌≡◌, ◌++◌, Err, IfOk, IfSome, OnOk, codes, string_bytes};
+ghost use Rattle.std.specs.Prelude.{◌≡◌, ◌<◌, ◌≤◌, ◌++◌, Err, IfOk, OnOk, codes, string_bytes};
 
 use crate::topology::area::areas_of;
 use crate::topology::fault::DecimalFault;
 use crate::topology::geometries::TypeFirstLayers;
 use crate::topology::turning::Turning;
-use crate::topology::units::Units;
 use chains::table::ArcTable;
 use fixing::Rewind;
 use grid::Grid;
+use numerals::{Decimal, DecimalStep};
 use sinks::written::{Each, Text, Then, Written};
 use sinks::{Kept, Sink, WriteFault};
 use std::alloc::Global;
 use topo::topology::{Layer, Topology};
 use topo::writing::ArcsText;
+
+/// The text of so many steps.
+fn number_text(alloc: Global, step: &DecimalStep, steps: i64) -> Result<String, DecimalFault>
+    ensures text { IfOk result (λ t. string_bytes t ≡ steps_text step.now steps) }
+    ensures within { OnOk result (step.now.places ≤ 30) }
+    ensures refused { result ≡ Err DecimalFault.TooManyDigits → 30 < step.now.places }
+{
+    match Decimal::of_steps(steps, step) {
+        Some(number) => Ok(number.to_text(alloc)?),
+        None => Err(DecimalFault::TooManyDigits),
+    }
+}
 
 /// The texts of two numbers.
 #[derive(Drop)]
@@ -28,25 +40,15 @@ struct NumberPair {
     second: String,
 }
 
-/// The lengths of so many steps in x and in y.
-fn lengths(alloc: Global, units: &Units, x: i64, y: i64) -> Result<NumberPair, DecimalFault>
-    ensures first { IfOk result (λ p. string_bytes p.first ≡ length_text units.now x) }
-    ensures second { IfOk result (λ p. string_bytes p.second ≡ length_text units.now y) }
-    ensures refused { result ≡ Err DecimalFault.TooManyDigits → ¬ (HasPlace units.now.step zero_amount x × HasPlace units.now.step zero_amount y) }
+/// The texts of so many steps in x and in y.
+fn pair_of(alloc: Global, step: &DecimalStep, x: i64, y: i64) -> Result<NumberPair, DecimalFault>
+    ensures first { IfOk result (λ p. string_bytes p.first ≡ steps_text step.now x) }
+    ensures second { IfOk result (λ p. string_bytes p.second ≡ steps_text step.now y) }
+    ensures within { OnOk result (step.now.places ≤ 30) }
+    ensures refused { result ≡ Err DecimalFault.TooManyDigits → 30 < step.now.places }
 {
-    let first = units.length(alloc, x)?;
-    let second = units.length(alloc, y)?;
-    Ok(NumberPair { first, second })
-}
-
-/// The coordinates of a position so many steps from the origin.
-fn coordinates(alloc: Global, units: &Units, x: i64, y: i64) -> Result<NumberPair, DecimalFault>
-    ensures first { IfOk result (λ p. string_bytes p.first ≡ x_text units.now x) }
-    ensures second { IfOk result (λ p. string_bytes p.second ≡ y_text units.now y) }
-    ensures refused { result ≡ Err DecimalFault.TooManyDigits → ¬ (HasPlace units.now.step units.now.origin.0 x × HasPlace units.now.step units.now.origin.1 y) }
-{
-    let first = units.x(alloc, x)?;
-    let second = units.y(alloc, y)?;
+    let first = number_text(alloc, step, x)?;
+    let second = number_text(alloc, step, y)?;
     Ok(NumberPair { first, second })
 }
 
@@ -68,15 +70,16 @@ fn write_pair<W: Sink>(
 fn write_transform<W: Sink>(
     alloc: Global,
     grid: &Grid,
-    units: &Units,
+    step: &DecimalStep,
     out: &mut W,
 ) -> Result<(), DecimalFault>
-    ensures text { OnOk result (TookAll (W.seen out.old) (W.seen out.new) (transform_text units.now grid.now)) }
-    ensures refused { result ≡ Err DecimalFault.TooManyDigits → ¬ HasTransform units.now grid.now }
+    ensures text { OnOk result (TookAll (W.seen out.old) (W.seen out.new) (transform_text step.now grid.now)) }
+    ensures within { OnOk result (step.now.places ≤ 30) }
+    ensures refused { result ≡ Err DecimalFault.TooManyDigits → 30 < step.now.places }
 {
     let (scale, translate) = (grid.scale(), grid.translate());
-    let size = lengths(alloc, units, scale.0, scale.1)?;
-    let place = coordinates(alloc, units, translate.0, translate.1)?;
+    let size = pair_of(alloc, step, scale.0, scale.1)?;
+    let place = pair_of(alloc, step, translate.0, translate.1)?;
     write_pair(b"\"transform\":{\"scale\":[", &size, b"]", out)?;
     write_pair(b",\"translate\":[", &place, b"]},", out)?;
     Ok(())
@@ -86,17 +89,17 @@ fn write_transform<W: Sink>(
 fn write_bbox<W: Sink>(
     alloc: Global,
     bbox: Option<(i64, i64, i64, i64)>,
-    units: &Units,
+    step: &DecimalStep,
     out: &mut W,
 ) -> Result<(), DecimalFault>
-    ensures text { OnOk result (TookAll (W.seen out.old) (W.seen out.new) (option_text (bbox_text units.now) bbox)) }
-    ensures refused { result ≡ Err DecimalFault.TooManyDigits → ¬ IfSome bbox (HasBox units.now) }
+    ensures text { OnOk result (TookAll (W.seen out.old) (W.seen out.new) (option_text (bbox_text step.now) bbox)) }
+    ensures refused { result ≡ Err DecimalFault.TooManyDigits → 30 < step.now.places }
 {
     let Some((west, south, east, north)) = bbox else {
         return Ok(());
     };
-    let least = coordinates(alloc, units, west, south)?;
-    let greatest = coordinates(alloc, units, east, north)?;
+    let least = pair_of(alloc, step, west, south)?;
+    let greatest = pair_of(alloc, step, east, north)?;
     write_pair(b"\"bbox\":[", &least, b",", out)?;
     write_pair(b"", &greatest, b"],", out)?;
     Ok(())
@@ -134,23 +137,24 @@ fn write_turned<W: Sink>(
 }
 
 /// The text of a topology in the unit of the map: `type` first, the numbers of the transform and the bounding box
-/// times the step and from the origin, all exactly, and the rings of polygons turned as they are wanted.
+/// times the step, all exactly, and the rings of polygons turned as they are wanted.
 ///
 /// # Errors
-/// `TooManyDigits` where a number needs more than 38 digits, or more than 30 behind the point; `OutOfMemory`.
+/// `TooManyDigits` where the step has more than 30 places; `OutOfMemory`.
 pub fn text_of(
     alloc: Global,
     topology: &Topology,
-    units: &Units,
+    step: &DecimalStep,
     rewind: Rewind,
 ) -> Result<Vec<u8>, DecimalFault>
-    ensures text { IfOk result (λ t. t.items ≡ unit_text units.now rewind topology.now) }
-    ensures refused { result ≡ Err DecimalFault.TooManyDigits → ¬ HasText units.now topology.now }
+    ensures text { IfOk result (λ t. t.items ≡ unit_text step.now rewind topology.now) }
+    ensures within { OnOk result (step.now.places ≤ 30) }
+    ensures refused { result ≡ Err DecimalFault.TooManyDigits → 30 < step.now.places }
 {
     let mut out = Kept::new(alloc);
     Text(b"{\"type\":\"Topology\",").write(&mut out)?;
-    write_transform(alloc, &topology.grid(), units, &mut out)?;
-    write_bbox(alloc, topology.bbox(), units, &mut out)?;
+    write_transform(alloc, &topology.grid(), step, &mut out)?;
+    write_bbox(alloc, topology.bbox(), step, &mut out)?;
     write_turned(alloc, topology, rewind, &mut out)?;
     Ok(out.into_bytes())
 }

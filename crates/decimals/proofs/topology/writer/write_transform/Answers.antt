@@ -1,19 +1,7 @@
-use Rattle.std.proofs.Common.{rules, ◌≡◌, codes, string_bytes, to_z, of_z, w64, arith}
+use Rattle.std.proofs.Common.{◌≡◌, codes, string_bytes, to_z, of_z, w64, arith}
 use Rattle.std.proofs.lemmas.Int.{ints}
 use Rattle.decimals.proofs.TopologyLemmas.Whole.{both_pieces, transform_is}
 use Rattle.decimals.proofs.topology.writer.write_transform.Goals as goal
-
-pub returns-in_err-size-clause-refused : goal.returns-in_err-size-clause-refused
-returns-in_err-size-clause-refused g c e h =
-    let width : to_z w64 (of_z w64 c.scale-scale.result.0) ≡ c.scale-scale.result.0 = omega (arith, ints) in
-    let height : to_z w64 (of_z w64 c.scale-scale.result.1) ≡ c.scale-scale.result.1 = omega (arith, ints) in
-    c.in_err-size.ensures.refused (search rules) (rw (width, c.scale-scale.ensures.value) h.scale_x, rw (height, c.scale-scale.ensures.value) h.scale_y)
-
-pub returns-in_err-place-clause-refused : goal.returns-in_err-place-clause-refused
-returns-in_err-place-clause-refused g c e h =
-    let x : to_z w64 (of_z w64 c.translate-translate.result.0) ≡ c.translate-translate.result.0 = omega (arith, ints) in
-    let y : to_z w64 (of_z w64 c.translate-translate.result.1) ≡ c.translate-translate.result.1 = omega (arith, ints) in
-    c.in_err-place.ensures.refused (search rules) (rw (x, c.translate-translate.ensures.value) h.x, rw (y, c.translate-translate.ensures.value) h.y)
 
 pub returns-clause-text : goal.returns-clause-text
 returns-clause-text g c =
@@ -24,6 +12,6 @@ returns-clause-text g c =
     let size = c.in_ok-size.size in
     let place = c.in_ok-place.place in
     both_pieces (codes "\"transform\":{\"scale\":[") (string_bytes size.first) (codes ",") (string_bytes size.second) (codes "]") _ _ c.in_ok-write_pair.ensures c.in_ok-write_pair-2.ensures
-    (transform_is c.args.units.now c.args.grid.now c.scale-scale.result c.translate-translate.result (string_bytes size.first) (string_bytes size.second)
+    (transform_is c.args.step.now c.args.grid.now c.scale-scale.result c.translate-translate.result (string_bytes size.first) (string_bytes size.second)
     (string_bytes place.first) (string_bytes place.second) c.scale-scale.ensures.value c.translate-translate.ensures.value
     (rw width at c.in_ok-size.ensures.first) (rw height at c.in_ok-size.ensures.second) (rw x at c.in_ok-place.ensures.first) (rw y at c.in_ok-place.ensures.second))

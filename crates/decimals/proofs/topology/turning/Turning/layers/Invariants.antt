@@ -1,4 +1,4 @@
-use Rattle.std.proofs.Common.{◌≡◌, ◌++◌, false, map, take}
+use Rattle.std.proofs.Common.{◌≡◌, map, take}
 use Rattle.decimals.specs.Topology.Turning.{rewound_layer}
 use Rattle.decimals.proofs.topology.turning.Turning.layers.Given as goal
 

@@ -1,4 +1,4 @@
--- Quotients.
+-- Fractions rounded down.
 use Rattle.std.specs.Prelude.{ℕ, ◌+◌, ◌*◌, ◌<◌, ◌≤◌}
 
 -- q is n / d rounded down

@@ -1,5 +1,0 @@
-pub mod Counts
-pub mod Nesting
-pub mod Place
-pub mod Real
-pub mod Snapped
