@@ -11,11 +11,11 @@ use Rattle.serde_json.proofs.Views.{get_member-put, get_member-put_other}
 use Rattle.attributes.specs.Values.{comes_later, data_of, members_of, number_or, scaled_property}
 use Rattle.attributes.specs.declared.rules.Scale.{Scale}
 
-later_some : (o : Option json.Json) (j : json.Json) → is_some (later_or o (Some j)) ≡ true
+pub later_some : (o : Option json.Json) (j : json.Json) → is_some (later_or o (Some j)) ≡ true
 later_some None j = refl
 later_some (Some i) j = refl
 
-later_none : (o : Option json.Json) → is_some (later_or o None) ≡ is_some o
+pub later_none : (o : Option json.Json) → is_some (later_or o None) ≡ is_some o
 later_none None = refl
 later_none (Some i) = refl
 

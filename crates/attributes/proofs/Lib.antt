@@ -5,3 +5,4 @@ pub mod Whole
 pub mod Loops
 pub mod Judging
 pub mod Order
+pub mod Same

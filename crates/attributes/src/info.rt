@@ -3,7 +3,6 @@ ghost use Rattle.shapes.specs.Ids.{HasI64, HasI64-prop};
 
 use faults::OutOfMemory;
 use shapes::{Id, Props};
-use std::alloc::AllocError;
 
 /// The id and the properties of a feature (RFC 7946, section 3.2), with the count of the numbers that became texts.
 /// A number that is the id has 64 bits.
@@ -31,17 +30,6 @@ impl From<OutOfMemory> for Unread {
     ghost from_gives = { λ _ e. e ≡ unread.OutOfMemory };
 
     fn from(_error: OutOfMemory) -> Unread {
-        Unread::OutOfMemory
-    }
-}
-
-impl From<AllocError> for Unread {
-    ghost use Rattle.attributes.specs.declared.info.Unread.TheVariants as unread;
-    ghost use Rattle.std.specs.Prelude.{◌≡◌};
-
-    ghost from_gives = { λ _ e. e ≡ unread.OutOfMemory };
-
-    fn from(_error: AllocError) -> Unread {
         Unread::OutOfMemory
     }
 }
