@@ -16,3 +16,4 @@ pub mod PolygonSteps
 pub mod PolygonLaws
 pub mod CrossSteps
 pub mod Fixable
+pub mod ShapesStay

@@ -21,7 +21,6 @@ use Rattle.fixing.proofs.OddUses.{odd_uses}
 use Rattle.fixing.proofs.PolygonLaws.{polygon_each}
 use Rattle.fixing.proofs.PolygonsStay.{all_stay, none_counted, polygon_stays}
 use Rattle.fixing.proofs.TurnLaws.{rewound_stays, turned_turns}
-use Rattle.fixing.proofs.TurnedAgain.{ring_stays}
 use Rattle.fixing.proofs.RunLaws.{runs_are_lines, segments_once}
 
 Each-weaker : (P Q : List Pos → Type 0) → ((l : List Pos) → P l → Q l) → (ls : List (List Pos)) → Each P ls → Each Q ls
@@ -100,10 +99,7 @@ sound_polygons_stay rules polygon fixes keep h = (
 )
 
 pub turned_rings_turn : law.TurnedRingsTurn
-turned_rings_turn is_outer l f g n = turned_turns l (record { ahead = f; back = g }) is_outer n
+turned_rings_turn is_outer l fits n = turned_turns l fits is_outer n
 
 pub turned_rings_stay : law.TurnedRingsStay
-turned_rings_stay rewind is_outer l f g = rewound_stays rewind is_outer l (record { ahead = f; back = g })
-
-pub rings_made_stay : law.RingsMadeStay
-rings_made_stay rewind is_outer l ring f g e = ring_stays rewind is_outer l ring (record { ahead = f; back = g }) e
+turned_rings_stay rewind is_outer l fits = rewound_stays rewind is_outer l fits

@@ -12,6 +12,7 @@ use Rattle.lines.specs.Turned.{list_cmp, position_cmp}
 use Rattle.theory.specs.Lists.{last_of}
 use Rattle.theory.proofs.Lists.{last-snoc}
 use Rattle.theory.proofs.Reversing.{reverse-snoc}
+use Rattle.fixing.specs.Laws.{HasArea}
 use Rattle.fixing.specs.Measures.{area_from, cross, lesser_turn, rewound, turned_to, turns_left, turns_right, twice_area}
 use Rattle.fixing.specs.declared.rules.Rewind.{Rewind}
 use Rattle.fixing.specs.declared.rules.Rewind.TheVariants.{Keep, Rfc7946, D3}
@@ -86,11 +87,6 @@ not_lesser Less s e h = ap is_lt e
 not_lesser Equal s e h = absurd cc
 not_lesser Greater s e h = absurd cc
 
--- a list and its reverse, with areas that don't wrap
-pub record HasArea (l : List Pos) : Type 0 where
-  pub ahead : FitsSigned w128 (twice_area l)
-  pub back : FitsSigned w128 (pos 0 -ℤ twice_area l)
-
 module _ (l : List Pos) (fits : HasArea l) where
   left_is : turns_left l ≡ int_lt (pos 0) (twice_area l)
   left_is = ap (λ m. int_lt (pos 0) m) (int_wrap_fits w128 (twice_area l) fits.ahead)
@@ -128,15 +124,18 @@ module _ (l : List Pos) (fits : HasArea l) where
       go false e true f false = ap turns_left (by_turn false true false e f) ∙ e
       go false e false f left = absurd (n (flat e f))
 
+pub reversed_area : (l : List Pos) → HasArea l → HasArea (reverse l)
+reversed_area l fits = record {
+  ahead = subst (FitsSigned w128) (sym (area_reverse l)) fits.back;
+  back = subst (FitsSigned w128) (sym (ap (λ m. pos 0 -ℤ m) (area_reverse l) ∙ twice_back (twice_area l))) fits.ahead;
+}
+
 -- a ring that was turned stays
 pub turned_stays : (left : Bool) (l : List Pos) → HasArea l → turned_to left (turned_to left l) ≡ turned_to left l
 turned_stays left l fits = go (turns_left l) refl (turns_right l) refl left
   where
     reversed_fits : HasArea (reverse l)
-    reversed_fits = record {
-      ahead = subst (FitsSigned w128) (sym (area_reverse l)) fits.back;
-      back = subst (FitsSigned w128) (sym (ap (λ m. pos 0 -ℤ m) (area_reverse l) ∙ twice_back (twice_area l))) fits.ahead;
-    }
+    reversed_fits = reversed_area l fits
 
     -- what is turned to a list that stays
     as_list : (left : Bool) (w : List Pos) → turned_to left l ≡ w → turned_to left w ≡ w → turned_to left (turned_to left l) ≡ turned_to left l

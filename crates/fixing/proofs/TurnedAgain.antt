@@ -1,9 +1,10 @@
 -- Rings that were made of closed lists, turned again.
-use Rattle.std.proofs.Common.{◌≡◌, ◌≤◌, Bool, true, false, cond, not, List, [], ◌∷◌, ◌++◌, length, reverse, refl, sym, ap, ◌∙◌, subst, arith, append_assoc, ℤ, pos, ◌+ℤ◌, ◌-ℤ◌, ◌*ℤ◌, int_lt, Option, Some, None, is_none}
+use Rattle.std.proofs.Common.{◌≡◌, ◌≤◌, Bool, true, false, cond, not, List, [], ◌∷◌, ◌++◌, length, reverse, refl, sym, ap, ◌∙◌, subst, arith, append_assoc, ℤ, pos, ◌+ℤ◌, ◌-ℤ◌, ◌*ℤ◌, FitsSigned, int_lt, Option, Some, None, is_none}
 use Rattle.std.specs.Cmp.Lexicographic.{lists_total, slice_cmp}
 use Rattle.std.specs.Int.{int_wrap}
 use Rattle.std.specs.Ordering.{is_lt}
 use Rattle.std.proofs.lemmas.Int.{ints}
+use Rattle.std.proofs.lemmas.List.{reverse-reverse}
 use Rattle.grid.specs.declared.pos.Pos.{Pos}
 use Rattle.theory.specs.Geometry.{AtMost}
 use Rattle.theory.specs.LinesAndRings.{IsRing, IsRotation, closed}
@@ -18,12 +19,13 @@ use Rattle.lines.specs.Turned.{list_cmp, position_cmp}
 use Rattle.lines.specs.declared.shape_fault.ShapeFault.{ShapeFault}
 use Rattle.lines.proofs.ReadsItself.{closed_reads, opened_closed, ring_without_fault}
 use Rattle.lines.proofs.Trails.{Closes, ring_accepted}
+use Rattle.fixing.specs.Laws.{HasArea}
 use Rattle.fixing.specs.Measures.{area_from, cross, rewound, turned_to, turns_left, turns_right, twice_area}
 use Rattle.fixing.specs.Polygons.{ring_made}
 use Rattle.fixing.specs.declared.rules.Rewind.{Rewind}
 use Rattle.fixing.specs.declared.rules.Rewind.TheVariants.{Keep, Rfc7946, D3}
 use Rattle.fixing.proofs.Reversed.{after, back, back_collapsed, back_ring, closed_back, collapsed_after, reversed_sound, same_is}
-use Rattle.fixing.proofs.TurnLaws.{HasArea, rewound_stays}
+use Rattle.fixing.proofs.TurnLaws.{reversed_area, rewound_stays}
 use mir.Syntax.{w128}
 
 -- ---- the least rotation of a ring
@@ -194,20 +196,42 @@ rewound_sound Keep is_outer l e = e
 rewound_sound Rfc7946 is_outer l e = turned_sound is_outer l e
 rewound_sound D3 is_outer l e = turned_sound (not is_outer) l e
 
+-- where the area of a turned list doesn't wrap, that of the list doesn't
+turned_area : (left : Bool) (l : List Pos) → HasArea (turned_to left l) → HasArea l
+turned_area left l = go left (turns_left l) (turns_right l) (is_lt (list_cmp (ring_of position_cmp (reverse l)) (ring_of position_cmp l)))
+  where
+    unreversed : HasArea (reverse l) → HasArea l
+    unreversed h = subst HasArea (reverse-reverse l) (reversed_area (reverse l) h)
+
+    go : (left p q r : Bool) → HasArea (cond p (cond left l (reverse l)) (cond q (cond left (reverse l) l) (cond r (reverse l) l))) → HasArea l
+    go true true q r = λ h. h
+    go false true q r = unreversed
+    go true false true r = unreversed
+    go false false true r = λ h. h
+    go left false false true = unreversed
+    go left false false false = λ h. h
+
+rewound_area : (rewind : Rewind) (is_outer : Bool) (l : List Pos) → HasArea (rewound rewind is_outer l) → HasArea l
+rewound_area Keep is_outer l h = h
+rewound_area Rfc7946 is_outer l h = turned_area is_outer l h
+rewound_area D3 is_outer l h = turned_area (not is_outer) l h
+
 -- the ring that is made of a list is made of its own closed list too
-pub ring_stays : (rewind : Rewind) (is_outer : Bool) (l v : List Pos) → HasArea l → ring_made rewind is_outer l ≡ Some v → ring_made rewind is_outer (closed v) ≡ Some v
+pub ring_stays : (rewind : Rewind) (is_outer : Bool) (l v : List Pos) → HasArea (closed v) → ring_made rewind is_outer l ≡ Some v → ring_made rewind is_outer (closed v) ≡ Some v
 ring_stays rewind is_outer l v fits e = go (ring_fault position_cmp l) refl e
   where
-    again : ring_fault position_cmp l ≡ None → ring_made rewind is_outer (closed (ring_of position_cmp (rewound rewind is_outer l))) ≡ Some (ring_of position_cmp (rewound rewind is_outer l))
-    again p =
+    again : ring_fault position_cmp l ≡ None → HasArea (closed (ring_of position_cmp (rewound rewind is_outer l))) →
+        ring_made rewind is_outer (closed (ring_of position_cmp (rewound rewind is_outer l))) ≡ Some (ring_of position_cmp (rewound rewind is_outer l))
+    again p h =
         let k = made_again (rewound rewind is_outer l) (rewound_sound rewind is_outer l p) in
+        let wound : HasArea (rewound rewind is_outer l) = record { ahead = subst (FitsSigned w128) k.area h.ahead; back = subst (λ a. FitsSigned w128 (pos 0 -ℤ a)) k.area h.back } in
         ap (λ f. cond (is_none f) (Some (ring_of position_cmp (rewound rewind is_outer (closed (ring_of position_cmp (rewound rewind is_outer l)))))) None) k.sound
         ∙ ap Some (same_rewound rewind is_outer (rewound rewind is_outer l) (closed (ring_of position_cmp (rewound rewind is_outer l))) k
-        ∙ ap (ring_of position_cmp) (rewound_stays rewind is_outer l fits))
+        ∙ ap (ring_of position_cmp) (rewound_stays rewind is_outer l (rewound_area rewind is_outer l wound)))
 
     go : (f : Option ShapeFault) → ring_fault position_cmp l ≡ f → cond (is_none f) (Some (ring_of position_cmp (rewound rewind is_outer l))) None ≡ Some v →
         ring_made rewind is_outer (closed v) ≡ Some v
     go None p h =
         let same : ring_of position_cmp (rewound rewind is_outer l) ≡ v = cc in
-        subst (λ u. ring_made rewind is_outer (closed u) ≡ Some u) same (again p)
+        subst (λ u. ring_made rewind is_outer (closed u) ≡ Some u) same (again p (subst (λ u. HasArea (closed u)) (sym same) fits))
     go (Some f) p h = absurd cc

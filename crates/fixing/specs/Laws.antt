@@ -1,16 +1,19 @@
 -- The laws of what is left of lines and rings.
-use Rattle.std.specs.Prelude.{◌≡◌, ◌≢◌, ℕ, ◌+◌, pos, ◌-ℤ◌, List, [], ◌∷◌, Bool, false, Some, None, FitsSigned}
+use Rattle.std.specs.Prelude.{◌≡◌, ◌≢◌, ℕ, ◌+◌, pos, ◌-ℤ◌, List, [], ◌∷◌, map, Bool, false, Some, None, FitsSigned}
 use Rattle.grid.specs.declared.pos.Pos.{Pos}
 use Rattle.lines.specs.Reading.{collapsed, line_fault, ring_fault}
 use Rattle.lines.specs.Segments.{segments_of}
 use Rattle.lines.specs.Turned.{position_cmp}
 use Rattle.lines.specs.declared.pair.PositionPair.{PositionPair}
 use Rattle.theory.specs.LinesAndRings.{IsRing, closed}
+use Rattle.theory.specs.Topology.{polygon, polygons}
 use Rattle.theory.specs.Lists.{Distinct, Each, gathered, last_of}
+use Rattle.fixing.specs.Forms.{PlainForm}
+use Rattle.fixing.specs.Geometries.{form_counted, form_left}
 use Rattle.fixing.specs.Left.{all_counted, all_left, counted, line_left, line_need, ring_left, ring_need}
 use Rattle.fixing.specs.Loops.{loops_of}
 use Rattle.fixing.specs.Measures.{rewound, turns_left, twice_area}
-use Rattle.fixing.specs.Polygons.{polygon_counted, polygon_kept, polygon_left, ring_made}
+use Rattle.fixing.specs.Polygons.{polygon_counted, polygon_kept, polygon_left}
 use Rattle.fixing.specs.Runs.{first_uses, runs_of}
 use Rattle.fixing.specs.Uses.{uses}
 use Rattle.fixing.specs.declared.rules.Fixes.{Fixes}
@@ -53,7 +56,7 @@ LoopsKeepOddUses =
 -- each ring of each polygon has P
 abbrev pub EachRing : (List Pos → Type 0) → List (List (List Pos)) → Type 0
 EachRing P [] = Unit {0}
-EachRing P (polygon ∷ polygons) = Each P polygon × EachRing P polygons
+EachRing P (p ∷ ps) = Each P p × EachRing P ps
 
 -- the rings of what is left of a polygon have no fault
 abbrev pub PolygonsLeftAreSound : Type 0
@@ -85,21 +88,34 @@ SoundPolygonsStay =
     (rules : FixingRules) (polygon : List (List Pos)) (fixes : Fixes) → rules.rewind ≡ Keep → Each (λ l. ring_fault position_cmp l ≡ None) polygon →
     (polygon_left rules polygon ≡ Some (polygon ∷ [])) × (polygon_counted rules polygon fixes ≡ fixes)
 
--- a ring that is turned turns as it is wanted: left for an outer ring, and right for a hole [RFC 7946, 3.1.6], where it
--- has an area that does not wrap
+-- twice the area of a closed list doesn't wrap, whichever way round
+pub record HasArea (l : List Pos) : Type 0 where
+  pub ahead : FitsSigned w128 (twice_area l)
+  pub back : FitsSigned w128 (pos 0 -ℤ twice_area l)
+
+-- a ring that is turned turns as it is wanted: left for an outer ring, and right for a hole [RFC 7946, 3.1.6], where it has an area
 abbrev pub TurnedRingsTurn : Type 0
-TurnedRingsTurn =
-    (is_outer : Bool) (l : List Pos) → FitsSigned w128 (twice_area l) → FitsSigned w128 (pos 0 -ℤ twice_area l) → twice_area l ≢ pos 0 →
-    turns_left (rewound Rfc7946 is_outer l) ≡ is_outer
+TurnedRingsTurn = (is_outer : Bool) (l : List Pos) → HasArea l → twice_area l ≢ pos 0 → turns_left (rewound Rfc7946 is_outer l) ≡ is_outer
 
 -- and a ring that was turned stays as it is, with an area or without: turning is idempotent
 abbrev pub TurnedRingsStay : Type 0
 TurnedRingsStay =
-    (rewind : Rewind) (is_outer : Bool) (l : List Pos) → FitsSigned w128 (twice_area l) → FitsSigned w128 (pos 0 -ℤ twice_area l) →
-    rewound rewind is_outer (rewound rewind is_outer l) ≡ rewound rewind is_outer l
+    (rewind : Rewind) (is_outer : Bool) (l : List Pos) → HasArea l → rewound rewind is_outer (rewound rewind is_outer l) ≡ rewound rewind is_outer l
 
--- the ring that is made of a closed list is made of its own closed list too
-abbrev pub RingsMadeStay : Type 0
-RingsMadeStay =
-    (rewind : Rewind) (is_outer : Bool) (l ring : List Pos) → FitsSigned w128 (twice_area l) → FitsSigned w128 (pos 0 -ℤ twice_area l) →
-    ring_made rewind is_outer l ≡ Some ring → ring_made rewind is_outer (closed ring) ≡ Some ring
+-- a shape that was fixed as it is read again: each ring by its closed list
+abbrev pub closed_form : PlainForm → PlainForm
+closed_form (polygon rs) = polygon (map closed rs)
+closed_form (polygons ps) = polygons (map (map closed) ps)
+closed_form form = form
+
+-- the areas of the rings of a shape that was fixed don't wrap
+abbrev pub HaveAreas : PlainForm → Type 0
+HaveAreas (polygon rs) = Each (λ r. HasArea (closed r)) rs
+HaveAreas (polygons ps) = EachRing (λ r. HasArea (closed r)) ps
+HaveAreas form = Unit {0}
+
+-- what is left of a shape is left as it is when it is fixed again, and nothing is counted: fixing is idempotent
+abbrev pub ShapesLeftStay : Type 0
+ShapesLeftStay =
+    (rules : FixingRules) (form left : PlainForm) (fixes : Fixes) → form_left rules form ≡ Some left → HaveAreas left →
+    (form_left rules (closed_form left) ≡ Some left) × (form_counted rules (closed_form left) fixes ≡ fixes)

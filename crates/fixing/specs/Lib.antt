@@ -5,10 +5,10 @@ pub mod Cutting
 pub mod Walks
 pub mod Left
 pub mod Uses
-pub mod Laws
 pub mod Measures
 pub mod Polygons
 pub mod Counts
 pub mod Forms
 pub mod Geometries
 pub mod Fixable
+pub mod Laws

@@ -31,12 +31,15 @@ pub fn sound_shapes_stay()
     ensures polygons { law.SoundPolygonsStay }
 {}
 
-/// Rings that are turned turn as they are wanted, and turning them again changes nothing: neither their lists, nor the rings
-/// that are made of these.
+/// Rings that are turned turn as they are wanted, and turning them again changes nothing.
 pub fn turned_rings_turn()
     ensures turn { law.TurnedRingsTurn }
     ensures stay { law.TurnedRingsStay }
-    ensures made { law.RingsMadeStay }
+{}
+
+/// What is left of a shape is left as it is when it is fixed again, and nothing is counted then.
+pub fn shapes_left_stay()
+    ensures { law.ShapesLeftStay }
 {}
 
 /// A line, a ring or a geometry is refused exactly where it has a fault that the rules don't fix, or is a GeometryCollection

@@ -1,5 +1,5 @@
 //! Lines and rings, checked and fixed one by one.
-ghost use Rattle.fixing.specs.Left.{all_counted, all_left, counted, left_by as lists_left, line_need as needed_of_line, lines_left, need_of as needed, parts_of, ring_left, ring_need as needed_of_ring, unfixed as refused};
+ghost use Rattle.fixing.specs.Left.{all_counted, all_left, counted, left_by as lists_left, line_need as needed_of_line, lines_left, need_of as needed, parts_of, ring_left, ring_need as needed_of_ring, unfixed};
 ghost use Rattle.fixing.specs.Seen.{lists_in};
 ghost use Rattle.lines.specs.Reading.{collapsed, line_fault, ring_fault};
 ghost use Rattle.lines.specs.Seen.{positions_of};
@@ -56,8 +56,8 @@ fn ring_need(alloc: Global, closed: &[Pos], rules: &FixingRules) -> Result<Need,
 }
 
 /// A fault, if the rules don't fix it.
-fn unfixed(fault: ShapeFault, rules: &FixingRules) -> Result<Option<ShapeFault>, OutOfMemory>
-    ensures unfixed { IfOk result (λ left. left ≡ refused rules.now (Some fault)) }
+fn unfixed_fault(fault: ShapeFault, rules: &FixingRules) -> Result<Option<ShapeFault>, OutOfMemory>
+    ensures unfixed { IfOk result (λ left. left ≡ unfixed rules.now (Some fault)) }
     ensures memory { IfOk result (λ _. fault ≢ ShapeFault.OutOfMemory) }
 {
     match fault {
@@ -78,11 +78,11 @@ pub fn unfixed_line(
     positions: Vec<Pos>,
     rules: &FixingRules,
 ) -> Result<Option<ShapeFault>, OutOfMemory>
-    ensures { IfOk result (λ fault. fault ≡ refused rules.now (line_fault position_cmp positions.items)) }
+    ensures { IfOk result (λ fault. fault ≡ unfixed rules.now (line_fault position_cmp positions.items)) }
 {
     match Line::from_positions(alloc, positions) {
         Ok(_) => Ok(None),
-        Err(fault) => unfixed(fault, rules),
+        Err(fault) => unfixed_fault(fault, rules),
     }
 }
 
@@ -92,11 +92,11 @@ pub fn unfixed_ring(
     closed: Vec<Pos>,
     rules: &FixingRules,
 ) -> Result<Option<ShapeFault>, OutOfMemory>
-    ensures { IfOk result (λ fault. fault ≡ refused rules.now (ring_fault position_cmp closed.items)) }
+    ensures { IfOk result (λ fault. fault ≡ unfixed rules.now (ring_fault position_cmp closed.items)) }
 {
     match Ring::from_closed(alloc, closed) {
         Ok(_) => Ok(None),
-        Err(fault) => unfixed(fault, rules),
+        Err(fault) => unfixed_fault(fault, rules),
     }
 }
 

@@ -1,4 +1,4 @@
-use Rattle.fixing.proofs.ProvedLaws.{rings_made_stay, turned_rings_stay, turned_rings_turn}
+use Rattle.fixing.proofs.ProvedLaws.{turned_rings_stay, turned_rings_turn}
 use Rattle.fixing.proofs.laws.turned_rings_turn.Goals as goal
 
 pub returns-clause-turn : goal.returns-clause-turn
@@ -6,6 +6,3 @@ returns-clause-turn c = turned_rings_turn
 
 pub returns-clause-stay : goal.returns-clause-stay
 returns-clause-stay c = turned_rings_stay
-
-pub returns-clause-made : goal.returns-clause-made
-returns-clause-made c = rings_made_stay
