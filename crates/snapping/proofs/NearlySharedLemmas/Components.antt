@@ -1,5 +1,5 @@
 -- How a component is taken out of what is left.
-use Rattle.std.proofs.Common.{◌≡◌, ◌⊎◌, ◌↔◌, List, [], ◌∷◌, ◌++◌, inl, inr, refl, sym, ap, ◌∙◌, subst, Option, Some, None}
+use Rattle.std.proofs.Common.{◌≡◌, ◌⊎◌, List, [], ◌∷◌, ◌++◌, inl, inr, refl, sym, ◌∙◌, subst, Some, None}
 use Rattle.std.specs.Prelude.{IsSome, Vec}
 use Rattle.std.specs.BTreeMap.{get, Updates}
 use Rattle.std.specs.declared.alloc.Global.{Global}
@@ -10,8 +10,8 @@ use Rattle.theory.specs.Lists.{Has}
 use Rattle.theory.proofs.Lists.{Has-append, Has-append_left, Has-append_right}
 use Rattle.snapping.specs.NearlyShared.Connected.{Connected}
 use Rattle.snapping.specs.NearlyShared.Connected.Connected.{itself, paired, turned, through}
-use Rattle.snapping.specs.NearlyShared.Rest.{AreOut, ArePaired, IsRest, IsTaken, Table, beside, listed}
-use Rattle.snapping.proofs.NearlySharedLemmas.Tables.{Has-decide, elsewhere, is_some_of, none_is, some_is, some_or_none}
+use Rattle.snapping.specs.NearlyShared.Rest.{AreOut, ArePaired, IsRest, IsTaken, Table}
+use Rattle.snapping.proofs.NearlySharedLemmas.Tables.{Has-decide, elsewhere, none_is, some_is}
 
 pub pair_flip : (pairs : List (Pos × Pos)) (p q : Pos) → ArePaired pairs p q → ArePaired pairs q p
 pair_flip pairs p q (inl h) = inr h

@@ -1,8 +1,8 @@
 -- Where positions go, component by component.
-use Rattle.std.proofs.Common.{◌≡◌, ◌≢◌, ◌⊎◌, ◌↔◌, ℕ, Bool, true, false, cond, List, [], ◌∷◌, ◌++◌, length, inl, inr, refl, sym, ap, ◌∙◌, subst, arith, rules, Option, Some, None, is_some}
+use Rattle.std.proofs.Common.{◌≡◌, ◌≢◌, ◌⊎◌, ◌↔◌, ℕ, Bool, true, false, cond, List, [], ◌∷◌, ◌++◌, inl, inr, refl, sym, ap, ◌∙◌, subst, arith, Option, Some, None, is_some}
 use Rattle.std.proofs.lemmas.Bool.Decides.{nat_tests}
-use Rattle.std.specs.Prelude.{◌&&◌, IsSome, Vec, not, unwrap_or}
-use Rattle.std.specs.BTreeMap.{BTreeMap, IsLowerBound, IsOrdered, get, is_at, keys, Updates}
+use Rattle.std.specs.Prelude.{IsSome, Vec, not, unwrap_or}
+use Rattle.std.specs.BTreeMap.{BTreeMap, IsLowerBound, get, is_at, Updates}
 use Rattle.std.specs.List.{AllByRecursion}
 use Rattle.std.specs.List.Sorted.{IsStrictlySortedBy}
 use Rattle.std.specs.Map.{keys_of, lookup}
@@ -15,7 +15,7 @@ use Rattle.grid.specs.declared.pos.Pos.{Pos}
 use Rattle.lines.specs.Pairs.{position_eq}
 use Rattle.lines.specs.Positions.{position_total, position_same}
 use Rattle.lines.specs.Turned.{position_cmp}
-use Rattle.lines.proofs.Positions.{bool_split, both_intro, position_apart, position_decide, position_most, position_refl, position_tied, position_true, tied_position, true_false, true_position}
+use Rattle.lines.proofs.Positions.{bool_split, both_intro, position_decide, position_most, position_tied, position_true, tied_position, true_false, true_position}
 use Rattle.theory.specs.Geometry.{AtMost}
 use Rattle.theory.specs.Lists.{Has}
 use Rattle.theory.proofs.Ascending.{at_most_less}
@@ -23,8 +23,8 @@ use Rattle.theory.proofs.Lists.{Has-append, Has-append_left, Has-append_right}
 use Rattle.compare.specs.Quality.Near.{within}
 use Rattle.snapping.specs.NearlyShared.Connected.{Connected, Goes, IsLeastOf, IsNarrow, are_within}
 use Rattle.snapping.specs.NearlyShared.Connected.Connected.{itself, turned, through}
-use Rattle.snapping.specs.NearlyShared.Joined.{AreJoined, moved_in, target_in, wide_in}
-use Rattle.snapping.specs.NearlyShared.Rest.{AreBeside, ArePaired, IsRest, IsTaken, Table, all_within, beside, listed, moved_to}
+use Rattle.snapping.specs.NearlyShared.Joined.{AreJoined, moved_in, target_in}
+use Rattle.snapping.specs.NearlyShared.Rest.{AreBeside, ArePaired, IsRest, IsTaken, Table, all_within, listed, moved_to}
 use Rattle.snapping.specs.declared.nearly_shared.clusters.Clusters.{Clusters}
 use Rattle.snapping.proofs.NearlySharedLemmas.Components.{pair_connects, pair_flip, rest_connected, stays}
 use Rattle.snapping.proofs.NearlySharedLemmas.Tables.{Has-decide, is_some_of, none_is, some_is, some_or_none}
@@ -176,10 +176,13 @@ settled_first n pairs m moves wide b e f = record {
       | inr g ↦ absurd (subst (Has p) (ap listed g) ((b q p).1 (pair_flip pairs p q h)))
     ];
   };
-  goes = λ p g. subst (Goes n pairs p) (sym (ap (λ o. unwrap_or o p) (nothing p))) (inl (record {
-    connected = itself p;
-    least = λ q c. subst (AtMost position_cmp p) (sym (alone pairs m b p q g c)) (most_itself p);
-  }, λ q c. narrow p g q c));
+  goes = λ p g. subst (Goes n pairs p) (sym (ap (λ o. unwrap_or o p) (nothing p))) (inl (
+    record {
+      connected = itself p;
+      least = λ q c. subst (AtMost position_cmp p) (sym (alone pairs m b p q g c)) (most_itself p);
+    },
+    λ q c. narrow p g q c,
+  ));
   waits = λ p s. nothing p;
   real = λ p t g. absurd (let k : None ≡ Some t = sym (nothing p) ∙ g in cc);
   wide = λ r. ((λ h. absurd (subst (Has r) f h)), (λ h. absurd (h.2 (λ q c. narrow r h.0 q c))));
@@ -227,7 +230,7 @@ rest_left pairs whole left first members t = record {
   lists = λ p v e. t.rest.lists p v (sym (t.taken.out.kept p (left_out pairs whole left first members t p (some_is _ v e))) ∙ e);
   closed = λ p q s h. subst IsSome
       (sym (t.taken.out.kept q (λ m. left_out pairs whole left first members t p s
-          ((t.taken.connected p).1 (through first q p ((t.taken.connected q).0 m) (pair_connects pairs q p (pair_flip pairs p q h)))))))
+      ((t.taken.connected p).1 (through first q p ((t.taken.connected q).0 m) (pair_connects pairs q p (pair_flip pairs p q h)))))))
       (t.rest.closed p q (left_whole pairs whole left first members t p s) h);
 }
 
@@ -310,9 +313,11 @@ settled_wide n pairs whole left moves ws more first others members s e l t a m =
     is_wide : (r : Pos) → Has r ws ⊎ Has r (first ∷ []) → (get position_cmp left r ≡ None) × IsLeastOf pairs r r × (¬ IsNarrow n pairs r)
     is_wide r (inl h) = let w = (s.wide r).0 h in (t.out.kept r (λ k. none_is _ w.0 (t.out.there r k)) ∙ w.0, w.1, w.2)
     is_wide r (inr (inl f)) =
-        subst (λ w. (get position_cmp left w ≡ None) × IsLeastOf pairs w w × (¬ IsNarrow n pairs w)) (sym f)
-        (t.out.gone first (first_member pairs whole left first members next),
-        member_least pairs whole left first members next first (first_member pairs whole left first members next), wide_not)
+        subst (λ w. (get position_cmp left w ≡ None) × IsLeastOf pairs w w × (¬ IsNarrow n pairs w)) (sym f) (
+          t.out.gone first (first_member pairs whole left first members next),
+          member_least pairs whole left first members next first (first_member pairs whole left first members next),
+          wide_not,
+        )
     is_wide r (inr (inr f)) = absurd f
 
     was_wide : (r : Pos) → (get position_cmp left r ≡ None) × IsLeastOf pairs r r × (¬ IsNarrow n pairs r) → Has r (ws ++ (first ∷ []))

@@ -1,5 +1,5 @@
 -- What becomes of vertices that are nearly shared, where they are joined.
-use Rattle.std.specs.Prelude.{◌≡◌, ◌≢◌, ◌↔◌, ℕ, List, map, unwrap_or}
+use Rattle.std.specs.Prelude.{◌≢◌, ◌↔◌, ℕ, List, map, unwrap_or}
 use Rattle.std.specs.BTreeMap.{get, keys}
 use Rattle.std.specs.List.Sorted.{IsStrictlySortedBy}
 use Rattle.grid.specs.declared.pos.Pos.{Pos}

@@ -56,7 +56,11 @@ fn note_polygons(
 }
 
 /// Notes that a feature has the vertices of its shape.
-pub(crate) fn note_shape(uses: &mut Vec<VertexUse>, feature: usize, shape: &Shape) -> Result<(), AllocError>
+pub(crate) fn note_shape(
+    uses: &mut Vec<VertexUse>,
+    feature: usize,
+    shape: &Shape,
+) -> Result<(), AllocError>
     ensures { OnOk result (uses.new.items ≡ uses.old.items ++ shape_uses feature shape.now) }
 {
     match shape {

@@ -5,7 +5,7 @@ use Rattle.std.specs.declared.alloc.Global.{Global}
 use Rattle.grid.specs.declared.pos.Pos.{Pos}
 use Rattle.lines.specs.Turned.{position_cmp}
 use Rattle.snapping.specs.NearlyShared.Joined.{positions_in}
-use Rattle.snapping.specs.NearlyShared.Rest.{IsTaken, all_within, moved_to}
+use Rattle.snapping.specs.NearlyShared.Rest.{all_within, moved_to}
 use Rattle.snapping.proofs.NearlySharedLemmas.Settling.{Settled, settled_all, settled_first, settled_narrow, settled_wide}
 use Rattle.snapping.proofs.NearlySharedLemmas.Tables.{empty_none}
 use Rattle.snapping.proofs.nearly_shared.clusters.clusters_of.Goals as goal

@@ -1,7 +1,6 @@
-use Rattle.std.proofs.Common.{◌≡◌, ◌+◌, ◌<◌, ◌++◌, [], ◌∷◌, length, length-append, append-nil, refl, sym, ap, ◌∙◌, arith, rules, Some, None}
-use Rattle.std.proofs.lemmas.Grind.{common_steps}
-use Rattle.std.specs.BTreeMap.{get, is_at}
-use Rattle.std.specs.Map.{lookup, remove_entry}
+use Rattle.std.proofs.Common.{◌++◌, [], ◌∷◌, length, length-append, sym, ap, ◌∙◌, arith, rules}
+use Rattle.std.specs.BTreeMap.{is_at}
+use Rattle.std.specs.Map.{lookup}
 use Rattle.lines.specs.Turned.{position_cmp}
 use Rattle.snapping.proofs.NearlySharedLemmas.Components.{taken_all, taken_before, taken_now, taking_first}
 use Rattle.snapping.proofs.NearlySharedLemmas.Tables.{listed_in, listed_without, nil_of}

@@ -1,4 +1,4 @@
-use Rattle.std.proofs.Common.{◌≡◌, ap, ◌∙◌}
+use Rattle.std.proofs.Common.{ap, ◌∙◌}
 use Rattle.snapping.specs.NearlyShared.Rest.{listed}
 use Rattle.snapping.proofs.NearlySharedLemmas.Tables.{listed_or, noted_there}
 use Rattle.snapping.proofs.nearly_shared.neighbours.note.Goals as goal

@@ -1,5 +1,4 @@
-use Rattle.std.proofs.Common.{◌≡◌, ◌≢◌, ◌+◌, ◌++◌, true, false, drop, inl, inr, refl, sym, ap, ◌∙◌, subst, arith}
-use Rattle.std.proofs.lemmas.List.{drop_all}
+use Rattle.std.proofs.Common.{◌≡◌, ◌++◌, true, false, inl, inr, refl, sym, ap, ◌∙◌, subst}
 use Rattle.lines.proofs.Dropping.{drop_item, item_at, none_left}
 use Rattle.compare.specs.declared.quality.vertex.VertexUse.{VertexUse}
 use Rattle.theory.specs.Lists.{Has}

@@ -1,4 +1,4 @@
-use Rattle.std.proofs.Common.{◌≡◌, ◌+◌, ◌++◌, drop, length}
+use Rattle.std.proofs.Common.{◌≡◌, ◌+◌, ◌++◌, drop}
 use Rattle.snapping.specs.NearlyShared.Uses.{shapes_uses}
 use Rattle.snapping.proofs.nearly_shared.vertices.Vertices.add.Given as goal
 
