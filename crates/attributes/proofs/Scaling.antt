@@ -1,6 +1,7 @@
 -- Scaled numerals: the nearest whole number is the rounded one.
-use Rattle.std.proofs.Common.{◌≡◌, ℕ, ◌+◌, ◌*◌, ◌^◌, ◌<◌, Bool, true, false, ◌&&◌, ◌==◌, ℤ, ◌↔◌, List, length, Option, Some, None, refl, sym, ap, ◌∙◌, subst, arith, le-leb, eq-eqb}
+use Rattle.std.proofs.Common.{◌≡◌, ℕ, ◌+◌, ◌*◌, ◌/◌, ◌^◌, ◌<◌, Bool, true, false, ◌&&◌, ◌==◌, ℤ, ◌↔◌, List, length, Option, Some, None, refl, sym, ap, ◌∙◌, subst, arith, le-leb, eq-eqb}
 use Rattle.std.proofs.lemmas.Bool.{and_from, and_parts, eqb-true, leb-true}
+use Rattle.std.proofs.lemmas.Nat.{div-add-mod', mod_below}
 use Rattle.std.specs.Prelude.{nat_le, unsigned_abs, if◌then◌else◌}
 use Rattle.std.specs.Str.Parse.{starts_with_minus}
 use Rattle.fast_float.proofs.ExactLemmas.{ten_to_pos}
@@ -8,9 +9,17 @@ use Rattle.fast_float.specs.Text.{digits_of, has_digits, tens_down, tens_up, wit
 use Rattle.grid.specs.Place.{IsGridNumber}
 use Rattle.numerals.specs.Nearest.{IsNearest, IsRounded}
 use Rattle.numerals.specs.Numeral.{IsNumeral, IsSnapped, Measure, denominator, divisor, measure, parts_of, unsigned_text}
-use Rattle.numerals.proofs.Nearest.{from_nearest, one_rounded, rounded_halves_of}
+use Rattle.numerals.proofs.Nearest.{from_nearest, one_rounded}
 use Rattle.numerals.proofs.Steps.{dividend_is, grid_size, signed_nearest}
 use Rattle.attributes.specs.Numerals.{is_numeral, scaled, scaled_size}
+
+-- halves over twice the size, rounded down
+rounded_halves_of : (n d : ℕ) → 0 < d → IsRounded n d ((n * 2 + d) / (d * 2))
+rounded_halves_of n d some =
+    let q = (n * 2 + d) / (d * 2) in
+    let split = div-add-mod' (n * 2 + d) (d * 2) in
+    let rest = mod_below (n * 2 + d) (d * 2) (omega arith) in
+    record { low = omega (arith, split, rest); high = omega (arith, split, rest) }
 
 numeral_from : (text : List ℕ) → is_numeral text ≡ true → IsNumeral text
 numeral_from text e =

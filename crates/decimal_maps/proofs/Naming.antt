@@ -1,5 +1,5 @@
 -- What is known of an object's members, as more are read.
-use Rattle.std.proofs.Common.{◌≡◌, ℕ, List, Bool, Option, Some, None, true, false, bytes_eq, ◌||◌, refl, sym, ap, ◌∙◌, cond}
+use Rattle.std.proofs.Common.{◌≡◌, ℕ, List, Bool, Some, true, false, bytes_eq, ◌||◌, refl, sym, ap, ◌∙◌, cond}
 use Rattle.std.proofs.lemmas.Slice.Eq.{bytes_eq-Decides}
 use Rattle.json.specs.Json.{Json, Members}
 use Rattle.json.specs.Find.{get_member}

@@ -1,5 +1,5 @@
 -- Positions of tokens.
-use Rattle.std.proofs.Common.{◌≡◌, ℕ, ℤ, Some, false, max, to_z, of_z, w64, ◌-◌, ◌<◌, List, ◌∷◌, length, refl, ap, ◌∙◌, subst, arith}
+use Rattle.std.proofs.Common.{◌≡◌, ◌↔◌, ℕ, ℤ, Option, Some, None, true, false, if◌then◌else◌, max, to_z, of_z, w64, ◌-◌, ◌<◌, List, ◌∷◌, length, refl, ap, ◌∙◌, subst, arith}
 use Rattle.std.proofs.lemmas.Int.{ints, fits_signed_from_abs, to_z-of_z}
 use Rattle.json.specs.Token.{Token, begin_array}
 use Rattle.json.specs.Json.{number, array, Items, no_items, item, value, parse_map, after_end_array}
@@ -7,6 +7,9 @@ use Rattle.json.proofs.Grammar.{value-begin_array, items_more}
 use Rattle.grid.specs.Fits.{x_of, y_of}
 use Rattle.grid.specs.Place.{IsGridNumber}
 use Rattle.grid.specs.declared.pos.Pos.{Pos}
+use Rattle.std.specs.Prelude.{IfSome}
+use Rattle.numerals.specs.Distance.{distance_of}
+use Rattle.numerals.specs.Numeral.{IsNumeral, IsSnapped}
 use Rattle.decimal_maps.specs.Positions.{AreHeights, IsCoordinate, IsPosition}
 use Rattle.decimal_maps.specs.Reads.{Reads, ReadsHeights}
 use Rattle.decimal_maps.specs.Tally.{distance_from_grid, with_height, with_position}
@@ -55,3 +58,11 @@ position_reads grid depth s t rest new a b c p some across along counted heights
 -- a grid number keeps its value in a machine word
 pub number_reads : (n : ℤ) → IsGridNumber n → to_z w64 (of_z w64 n) ≡ n
 number_reads n h = to_z-of_z w64 n (fits_signed_from_abs w64 n (grind (arith, ints, h.low, h.high)))
+
+-- the nearest whole number of steps, and how far a numeral is from it, where that is measured
+pub measured : (grid : DecimalGrid) (b t : List ℕ) (r : Option (ℤ × ℕ)) → b ≡ t → true ≡ grid.measures → ((p : ℤ) (d : ℕ) → (r ≡ Some (p, d)) ↔ (IsNumeral b × IsSnapped grid.step b p × IsGridNumber p × (d ≡ distance_of grid.step b)))
+    → IfSome r (λ n. IsSnapped grid.step t n.0 × IsGridNumber n.0 × (n.1 ≡ distance_from_grid grid (number t)))
+measured grid b t None is on h = tt
+measured grid b t (Some n) is on h =
+    let s = (h n.0 n.1).0 refl in
+    (subst (λ u. IsSnapped grid.step u n.0) is s.1, s.2, s.3 ∙ ap (distance_of grid.step) is ∙ ap (λ v. if v then distance_of grid.step t else 0) on)

@@ -1,5 +1,5 @@
 -- Geometries [RFC 7946, 3.1]. No list of positions is judged as a line or a ring.
-use Rattle.std.specs.Prelude.{◌≡◌, ◌⊎◌, ℕ, List, [], ◌∷◌, ◌++◌, Option, Some, Vec, codes}
+use Rattle.std.specs.Prelude.{◌≡◌, ◌⊎◌, ℕ, List, [], ◌∷◌, ◌++◌, Some, Vec, codes}
 use Rattle.std.specs.declared.alloc.Global.{Global}
 use Rattle.json.specs.Json.{Json, null, string, array, Items, no_items, item}
 use Rattle.json.specs.Find.{get}

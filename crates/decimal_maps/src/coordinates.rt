@@ -72,7 +72,7 @@ pub fn read_typed<'t>(
     let lists = ListOf { of: places };
     let groups = ListOf { of: lists };
     match kind {
-        GeometryKind::Point => Ok(Coordinates::Place(grid.read(alloc, reader, depth, tally)?)),
+        GeometryKind::Point => read_coordinates(alloc, grid, reader, depth, tally),
         GeometryKind::MultiPoint | GeometryKind::LineString => Ok(Coordinates::Places(places.read(
             alloc, reader, depth, tally,
         )?)),

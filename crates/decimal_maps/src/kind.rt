@@ -9,7 +9,7 @@ use crate::from_tokens::Stop;
 use json::{Reader, Token};
 
 /// A type of geometries that have coordinates (RFC 7946, sections 3.1.2 to 3.1.7).
-#[derive(Clone, Copy, PartialEq, Eq, Debug)]
+#[derive(Clone, Copy)]
 pub enum GeometryKind {
     Point,
     MultiPoint,
@@ -43,7 +43,7 @@ impl GeometryKind {
 }
 
 /// A type.
-#[derive(Clone, Copy, PartialEq, Eq, Debug)]
+#[derive(Clone, Copy)]
 pub enum Kind {
     FeatureCollection,
     Feature,

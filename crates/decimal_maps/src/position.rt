@@ -6,8 +6,8 @@ ghost use Rattle.grid.specs.Fits.{x_of, y_of};
 ghost use Rattle.grid.specs.Place.{IsGridNumber};
 ghost use Rattle.json.specs.Json.{number};
 ghost use Rattle.json.specs.Token as spec;
-ghost use Rattle.numerals.specs.Numeral.{IsNumeral};
-ghost use Rattle.std.specs.Prelude.{◌≡◌, ◌∷◌, ℕ, ℤ, max, IfOk, OnOk};
+ghost use Rattle.numerals.specs.Numeral.{IsSnapped};
+ghost use Rattle.std.specs.Prelude.{◌≡◌, ◌∷◌, ℕ, max, IfOk, IfSome, OnOk};
 
 use crate::from_tokens::{FromTokens, Stop};
 use crate::opened::FromOpened;
@@ -16,10 +16,11 @@ use crate::tally::Tally;
 use crate::token::{take_begin_array, take_number};
 use grid::Pos;
 use json::Reader;
-use numerals::{DecimalStep, distance, snap};
+use numerals::{snap, snap_measured};
 use std::alloc::Global;
 
 // Takes the numbers behind the second of a position, up to the bracket that closes it.
+#[inline(always)]
 fn drop_heights<'t>(
     grid: &DecimalGrid,
     reader: &mut Reader<'t>,
@@ -37,38 +38,43 @@ fn drop_heights<'t>(
     Ok(())
 }
 
-// The whole number of steps that a numeral is nearest to, unless it is too great.
-fn coordinate_of(grid: &DecimalGrid, greatest: u64, text: &str) -> Result<i64, Stop>
-    ensures { IfOk result (λ n. IsCoordinate grid.now greatest (number text.now) n × IsGridNumber n × IsNumeral text.now) }
-{
-    let Some(n) = snap(text.as_bytes(), &grid.step) else {
-        return Err(Stop::Unread);
-    };
-    if n.unsigned_abs() > greatest {
-        return Err(Stop::Unread);
-    }
-    Ok(n)
-}
-
-// How far a numeral is from the grid, where that is measured.
-fn distance_of(grid: &DecimalGrid, text: &str) -> u64
-    ensures { (n : ℤ) (greatest : ℕ) → IsCoordinate grid.now greatest (number text.now) n → IsGridNumber n → IsNumeral text.now → result ≡ distance_from_grid grid.now (number text.now) }
+// The whole number of steps that a numeral is nearest to, and how far it is from it, where that is measured.
+#[inline(always)]
+fn nearest_of(grid: &DecimalGrid, text: &str) -> Option<(i64, u64)>
+    ensures { IfSome result (λ n. IsSnapped grid.now.step text.now n.0 × IsGridNumber n.0 × (n.1 ≡ distance_from_grid grid.now (number text.now))) }
 {
     if grid.measures {
-        distance(text.as_bytes(), &grid.step)
-    } else {
-        0
+        return snap_measured(text.as_bytes(), &grid.step);
+    }
+    let steps = snap(text.as_bytes(), &grid.step)?;
+    Some((steps, 0))
+}
+
+// The same, unless the number is too great.
+#[inline(always)]
+fn coordinate_of(grid: &DecimalGrid, greatest: u64, text: &str) -> Result<(i64, u64), Stop>
+    ensures { IfOk result (λ n. IsCoordinate grid.now greatest (number text.now) n.0 × IsGridNumber n.0 × (n.1 ≡ distance_from_grid grid.now (number text.now))) }
+{
+    match nearest_of(grid, text) {
+        Some((steps, distance)) => {
+            if steps.unsigned_abs() > greatest {
+                return Err(Stop::Unread);
+            }
+            Ok((steps, distance))
+        }
+        None => Err(Stop::Unread),
     }
 }
 
 // The position that two numerals are nearest to, which is counted.
+#[inline(always)]
 fn position_of(grid: &DecimalGrid, x: &str, y: &str, tally: &mut Tally) -> Result<Pos, Stop>
     ensures { IfOk result (λ p. IsCoordinate grid.now grid.now.greatest_x (number x.now) (x_of p) × IsCoordinate grid.now grid.now.greatest_y (number y.now) (y_of p)
         × (tally.new ≡ with_position (max (distance_from_grid grid.now (number x.now)) (distance_from_grid grid.now (number y.now))) tally.old)) }
 {
-    let across = coordinate_of(grid, grid.greatest_x, x)?;
-    let along = coordinate_of(grid, grid.greatest_y, y)?;
-    tally.add_position(distance_of(grid, x).max(distance_of(grid, y)));
+    let (across, off_x) = coordinate_of(grid, grid.greatest_x, x)?;
+    let (along, off_y) = coordinate_of(grid, grid.greatest_y, y)?;
+    tally.add_position(off_x.max(off_y));
     match Pos::new(across, along) {
         Some(position) => Ok(position),
         None => Err(Stop::Unread),

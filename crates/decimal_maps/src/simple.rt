@@ -17,7 +17,7 @@ use json::Reader;
 use std::alloc::Global;
 
 /// What a geometry is read by, and what was counted before it.
-#[derive(Clone, Copy)]
+#[derive(Drop)]
 pub struct GeometryStart {
     pub grid: DecimalGrid,
     pub counted: Tally,
@@ -162,15 +162,13 @@ pub fn simple_of(alloc: Global, members: SimpleMembers) -> Result<(RawShape, Tal
     let Lookup::Read(Kind::Simple(kind)) = kind else {
         return Err(Stop::Unread);
     };
-    let Lookup::Read((coordinates, tally)) = coordinates else {
-        return Err(Stop::Unread);
-    };
+    let (coordinates, tally) = coordinates.required()?;
     let shape = shape_of(alloc, kind, coordinates)?;
     Ok((shape, tally))
 }
 
 /// The reader of such geometries.
-#[derive(Clone, Copy)]
+#[derive(Drop)]
 pub struct SimpleGeometry {
     pub grid: DecimalGrid,
 }

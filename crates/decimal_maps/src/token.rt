@@ -31,18 +31,6 @@ pub fn take_begin_array<'a>(reader: &mut Reader<'a>, depth: usize) -> Result<(),
     }
 }
 
-/// Takes the bracket that closes an array.
-#[inline(always)]
-pub fn take_end_array<'a>(reader: &mut Reader<'a>) -> Result<(), Stop>
-    ensures { OnOk result (reader.old ≡ spec.end_array ∷ reader.new) }
-{
-    if reader.take_end_array() {
-        Ok(())
-    } else {
-        Err(Stop::Unread)
-    }
-}
-
 /// Takes the brace that opens an object, where values may nest `depth` deep.
 #[inline(always)]
 pub fn take_begin_object<'a>(reader: &mut Reader<'a>, depth: usize) -> Result<(), Stop>

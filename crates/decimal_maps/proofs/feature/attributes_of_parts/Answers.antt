@@ -12,6 +12,6 @@ returns c =
     let rules = c.args.rules.now in
     IfOk-weaker c.attributes_of.result _ _
     (λ a have grid ms known.
-        let i = value_found (codes "id") c.in_ok-id.id ms (subst (λ l. KnowsMember (codes "id") IsValue l ms) c.in_ok-id.ensures known.1) in
-        let p = value_found (codes "properties") c.in_ok-properties.properties ms (subst (λ l. KnowsMember (codes "properties") IsValue l ms) c.in_ok-properties.ensures known.2) in
-        subst (λ o. HaveAttributes rules o (get_member (codes "properties") ms) a) (sym i) (subst (λ o. HaveAttributes rules (seen_member c.in_ok-id.id) o a) (sym p) have)) c.attributes_of.ensures
+    let i = value_found (codes "id") c.in_ok-id.id ms (subst (λ l. KnowsMember (codes "id") IsValue l ms) c.in_ok-id.ensures known.1) in
+    let p = value_found (codes "properties") c.in_ok-properties.properties ms (subst (λ l. KnowsMember (codes "properties") IsValue l ms) c.in_ok-properties.ensures known.2) in
+    subst (λ o. HaveAttributes rules o (get_member (codes "properties") ms) a) (sym i) (subst (λ o. HaveAttributes rules (seen_member c.in_ok-id.id) o a) (sym p) have)) c.attributes_of.ensures

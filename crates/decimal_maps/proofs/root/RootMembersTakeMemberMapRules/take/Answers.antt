@@ -1,4 +1,4 @@
-use Rattle.std.proofs.Common.{bytes_eq, refl, sym, subst, codes}
+use Rattle.std.proofs.Common.{◌≡◌, ℕ, List, false, bytes_eq, refl, sym, subst, codes}
 use Rattle.std.proofs.lemmas.Result.{on_ok_weaker}
 use Rattle.decimal_maps.specs.Members.{KnowsGeometry, root_start}
 use Rattle.decimal_maps.specs.Reads.{then_member}
@@ -28,8 +28,8 @@ returns-then-is_geometry_member c =
     let m = c.args.self.now in
     let on = c.args.on.now in
     let name = c.args.name.now in
-    let start = c.start_of.ensures in
-    let apart_from = λ w x y z. apart_any _ _ _ (codes "type") (codes "coordinates") (codes "geometries") w name x y z refl refl refl c.if-is_geometry_member.ensures in
+    let start = c.start_of-start.ensures in
+    let apart_from : (w : List ℕ) → bytes_eq (codes "type") w ≡ false → bytes_eq (codes "coordinates") w ≡ false → bytes_eq (codes "geometries") w ≡ false → false ≡ bytes_eq name w = λ w x y z. apart_any _ _ _ (codes "type") (codes "coordinates") (codes "geometries") w name x y z refl refl refl c.if-is_geometry_member.ensures in
     on_ok_weaker c.take.result (λ read. (
       read.0,
       read.1,
