@@ -1,5 +1,5 @@
 -- Faults of geometries, and of collections of them, which may nest [RFC 7946, 3.1].
-use Rattle.std.specs.Prelude.{ℕ, ◌+◌, List, [], ◌++◌, Option, Some, None, Result, Ok, Err, codes, if◌then◌else◌}
+use Rattle.std.specs.Prelude.{ℕ, ◌+◌, Bool, true, false, List, [], ◌++◌, Option, Some, None, Result, Ok, Err, codes, if◌then◌else◌}
 use Rattle.std.specs.Str.{bytes_eq}
 use Rattle.json.specs.Json.{Json, null, boolean, number, string, array, object, Items, no_items, item, Members, no_members, member}
 use Rattle.json.specs.Find.{as_array}
@@ -23,14 +23,15 @@ use Rattle.decimal_maps.specs.declared.rules.DecimalGrid.{DecimalGrid}
 
 -- ---- coordinates
 
-abbrev pub unless_empty : (Json → List Pair) → Json → Option Items → List Pair
-unless_empty of j None = of j
-unless_empty of j (Some no_items) = []
-unless_empty of j (Some (item k ks)) = of j
+-- an array of nothing
+abbrev pub is_nothing : Option Items → Bool
+is_nothing None = false
+is_nothing (Some no_items) = true
+is_nothing (Some (item j js)) = false
 
 -- a position, or none at all
 abbrev pub point_faults : DecimalGrid → Json → List Pair
-point_faults grid j = unless_empty (position_faults grid) j (as_array j)
+point_faults grid j = if is_nothing (as_array j) then [] else position_faults grid j
 
 -- the faults of `coordinates`, by the geometry's type [RFC 7946, 3.1.2 to 3.1.7]
 abbrev pub coordinates_faults : DecimalGrid → FixingRules → GeometryType → Json → List Pair

@@ -1,7 +1,8 @@
 //! The coordinates of geometries.
-ghost use Rattle.decimal_faults.specs.Geometries.{coordinates_faults, point_faults};
+ghost use Rattle.decimal_faults.specs.Geometries.{coordinates_faults, is_nothing, point_faults};
 ghost use Rattle.decimal_faults.specs.Shapes.{IsShapeOf};
 ghost use Rattle.fixing.specs.declared.rules.FixingRules.{FixingRules as Rules};
+ghost use Rattle.json.specs.Find.{as_array};
 ghost use Rattle.json.specs.Value.{value_view};
 ghost use Rattle.reading.specs.FaultLists.Found.{pairs_of};
 ghost use Rattle.reading.specs.declared.geometry.GeometryType.TheVariants as kinds;
@@ -19,9 +20,11 @@ use reading::geometry::GeometryType;
 use std::alloc::Global;
 
 // Whether a value is an array of nothing.
-fn is_empty(value: &Value<'_>) -> bool {
+fn is_empty(value: &Value<'_>) -> bool
+    ensures { result ≡ is_nothing (as_array (value_view value.now)) }
+{
     match items_of(value) {
-        Some(items) => items.is_empty(),
+        Some(items) => items.len() == 0,
         None => false,
     }
 }
@@ -35,10 +38,10 @@ fn judge_point(
 ) -> Result<Vec<Fault>, OutOfMemory>
     ensures { IfOk result (λ fs. pairs_of fs.items ≡ point_faults grid.now (value_view value.now)) }
 {
-    match items_of(value) {
-        Some([]) => Ok(Vec::new(alloc)),
-        _ => grid.judge(alloc, fixing, value),
+    if is_empty(value) {
+        return Ok(Vec::new(alloc));
     }
+    grid.judge(alloc, fixing, value)
 }
 
 fn make_point(
@@ -48,11 +51,14 @@ fn make_point(
     tally: &mut Tally,
 ) -> Result<RawShape, Stop>
     ensures made { IfOk result (λ s. IsShapeOf grid.now kinds.Point (value_view value.now) s tally.old tally.new) }
-    ensures refused { result ≡ Err Stop.Unread → point_faults grid.now (value_view value.now) ≢ [] }
+    ensures refused { result ≡ Err Stop.Unread → Rules → point_faults grid.now (value_view value.now) ≢ [] }
 {
-    match items_of(value) {
-        Some([]) => Ok(RawShape::Null),
-        _ => Ok(RawShape::Point(grid.make(alloc, value, tally)?)),
+    if is_empty(value) {
+        return Ok(RawShape::Null);
+    }
+    match grid.make(alloc, value, tally) {
+        Ok(place) => Ok(RawShape::Point(place)),
+        Err(stop) => Err(stop),
     }
 }
 
@@ -65,7 +71,8 @@ pub struct CoordinatesOf {
 
 impl CoordinatesOf {
     fn lists(&self, outline: Outline) -> ListOf<OutlineOn>
-        ensures { result ≡ record { of = record { grid = self.now.grid; outline = outline } } }
+        ensures grid { result.of.grid ≡ self.now.grid }
+        ensures outline { result.of.outline ≡ outline }
     {
         ListOf {
             of: OutlineOn {
@@ -113,20 +120,39 @@ impl Part for CoordinatesOf {
         match self.kind {
             GeometryType::Point => make_point(alloc, &self.grid, value, count),
             GeometryType::MultiPoint => {
-                Ok(RawShape::MultiPoint(ListOf { of: self.grid }.make(alloc, value, count)?))
+                let of = ListOf { of: self.grid };
+                match of.make(alloc, value, count) {
+                    Ok(made) => Ok(RawShape::MultiPoint(made)),
+                    Err(stop) => Err(stop),
+                }
             }
             GeometryType::LineString => {
-                Ok(RawShape::Line(self.lists(Outline::Line).of.make(alloc, value, count)?))
+                let of = self.lists(Outline::Line).of;
+                match of.make(alloc, value, count) {
+                    Ok(made) => Ok(RawShape::Line(made)),
+                    Err(stop) => Err(stop),
+                }
             }
             GeometryType::MultiLineString => {
-                Ok(RawShape::MultiLine(self.lists(Outline::Line).make(alloc, value, count)?))
+                let of = self.lists(Outline::Line);
+                match of.make(alloc, value, count) {
+                    Ok(made) => Ok(RawShape::MultiLine(made)),
+                    Err(stop) => Err(stop),
+                }
             }
             GeometryType::Polygon => {
-                Ok(RawShape::Polygon(self.lists(Outline::Ring).make(alloc, value, count)?))
+                let of = self.lists(Outline::Ring);
+                match of.make(alloc, value, count) {
+                    Ok(made) => Ok(RawShape::Polygon(made)),
+                    Err(stop) => Err(stop),
+                }
             }
             GeometryType::MultiPolygon => {
-                let of = self.lists(Outline::Ring);
-                Ok(RawShape::MultiPolygon(ListOf { of }.make(alloc, value, count)?))
+                let of = ListOf { of: self.lists(Outline::Ring) };
+                match of.make(alloc, value, count) {
+                    Ok(made) => Ok(RawShape::MultiPolygon(made)),
+                    Err(stop) => Err(stop),
+                }
             }
         }
     }

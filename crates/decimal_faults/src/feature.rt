@@ -95,9 +95,15 @@ pub fn make_feature(
     ensures refused { result ≡ Err Stop.Unread → (fixing : Rules) → feature_members_faults rules.now fixing (value_view value.now) ≢ [] }
 {
     let mut tally = Tally::new();
-    let geometry = geometry_of(alloc, &rules.grid, value, &mut tally)?;
+    let geometry = match geometry_of(alloc, &rules.grid, value, &mut tally) {
+        Ok(geometry) => geometry,
+        Err(stop) => return Err(stop),
+    };
     let (id, properties) = (value.get("id"), value.get("properties"));
-    let attributes = make_attributes(alloc, &rules.attributes, id, properties)?;
+    let attributes = match make_attributes(alloc, &rules.attributes, id, properties) {
+        Ok(attributes) => attributes,
+        Err(stop) => return Err(stop),
+    };
     Ok(RawFeature {
         attributes,
         geometry,

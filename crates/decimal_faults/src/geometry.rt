@@ -94,14 +94,32 @@ fn judge_collection(
 ) -> Result<Vec<Fault>, OutOfMemory>
     ensures { IfOk result (λ fs. pairs_of fs.items ≡ member_faults (codes "geometries") (geometries_faults grid.now fixing.now) (value_view value.now)) }
 {
-    let found = match value.get("geometries") {
-        None => one(alloc, FaultKind::Missing)?,
-        Some(list) => match items_of(list) {
-            None => one(alloc, FaultKind::WrongKind)?,
-            Some(items) => judge_each(alloc, grid, fixing, items)?,
-        },
-    };
-    under_name(alloc, found, "geometries")
+    match value.get("geometries") {
+        None => {
+            let missing = one(alloc, FaultKind::Missing)?;
+            under_name(alloc, missing, "geometries")
+        }
+        Some(list) => {
+            let found = judge_geometries(alloc, grid, fixing, list)?;
+            under_name(alloc, found, "geometries")
+        }
+    }
+}
+
+// A list of geometries.
+#[cycle(judging)]
+fn judge_geometries(
+    alloc: Global,
+    grid: &DecimalGrid,
+    fixing: &FixingRules,
+    value: &Value<'_>,
+) -> Result<Vec<Fault>, OutOfMemory>
+    ensures { IfOk result (λ fs. pairs_of fs.items ≡ geometries_faults grid.now fixing.now (value_view value.now)) }
+{
+    match items_of(value) {
+        Some(items) => judge_each(alloc, grid, fixing, items),
+        None => { Ok(one(alloc, FaultKind::WrongKind)?) }
+    }
 }
 
 // The geometries of a collection.
@@ -136,8 +154,10 @@ fn put_shapes(
 {
     match form_of(value) {
         Ok(GeometryForm::Simple(kind)) => {
-            let shape = make_simple(alloc, grid, kind, value, tally)?;
-            keep(found, shape)
+            match make_simple(alloc, grid, kind, value, tally) {
+                Ok(shape) => keep(found, shape),
+                Err(stop) => Err(stop),
+            }
         }
         Ok(GeometryForm::Collection) => put_collection(alloc, grid, value, found, tally),
         Err(_) => Err(Stop::Unread),
@@ -178,7 +198,10 @@ fn put_each(
     ensures refused { result ≡ Err Stop.Unread → (fixing : Rules) → each_geometry_faults grid.now fixing 0 (items_view values.now) ≢ [] }
 {
     for i in 0..values.len() {
-        put_shapes(alloc, grid, &values[i], found, tally)?;
+        match put_shapes(alloc, grid, &values[i], found, tally) {
+            Ok(()) => {}
+            Err(stop) => return Err(stop),
+        }
     }
     Ok(())
 }
@@ -213,12 +236,17 @@ pub fn make_geometry(
 {
     match form_of(value) {
         Ok(GeometryForm::Simple(kind)) => {
-            Ok(RawGeometry::One(make_simple(alloc, grid, kind, value, tally)?))
+            match make_simple(alloc, grid, kind, value, tally) {
+                Ok(shape) => Ok(RawGeometry::One(shape)),
+                Err(stop) => Err(stop),
+            }
         }
         Ok(GeometryForm::Collection) => {
             let mut shapes = Vec::new(alloc);
-            put_collection(alloc, grid, value, &mut shapes, tally)?;
-            Ok(RawGeometry::Collection(shapes))
+            match put_collection(alloc, grid, value, &mut shapes, tally) {
+                Ok(()) => Ok(RawGeometry::Collection(shapes)),
+                Err(stop) => Err(stop),
+            }
         }
         Err(_) => Err(Stop::Unread),
     }

@@ -31,6 +31,7 @@ pub fn items_of<'v, 'a>(value: &'v Value<'a>) -> Option<&'v [Value<'a>]>
 ///
 /// # Errors
 /// Where memory is refused.
+#[tactic(auto, using(crate::proofs::Items::judged_none, crate::proofs::Items::judged_more, crate::proofs::Items::judged_all))]
 pub fn judge_from<P: Part>(
     alloc: Global,
     of: &P,
@@ -60,6 +61,7 @@ pub fn keep<T: Drop>(list: &mut Vec<T>, x: T) -> Result<(), Stop>
 }
 
 // What each of the values means.
+#[tactic(auto, using(crate::proofs::Items::made_none, crate::proofs::Items::made_all))]
 fn make_each<P: Part>(
     alloc: Global,
     of: &P,
@@ -71,8 +73,10 @@ fn make_each<P: Part>(
 {
     let mut found = Vec::new(alloc);
     for i in 0..values.len() {
-        let made = of.make(alloc, &values[i], count)?;
-        keep(&mut found, made)?;
+        match of.make(alloc, &values[i], count) {
+            Ok(made) => keep(&mut found, made)?,
+            Err(stop) => return Err(stop),
+        }
     }
     Ok(found)
 }

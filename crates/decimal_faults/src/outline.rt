@@ -16,7 +16,7 @@ use fixing::{FixingRules, unfixed_line, unfixed_ring};
 use grid::Pos;
 use json::Value;
 use lines::shape_fault::ShapeFault;
-use reading::fault_lists::found::one;
+use reading::fault_lists::found::{Wanted, is_enough, one};
 use std::alloc::Global;
 
 /// What a list of positions is to be.
@@ -91,9 +91,10 @@ impl Part for OutlineOn {
         fixing: &FixingRules,
         value: &Value<'_>,
     ) -> Result<Vec<Fault>, OutOfMemory> {
+        let _size = self.grid.step.size();
         let positions = ListOf { of: self.grid };
         let found = positions.judge(alloc, fixing, value)?;
-        if !found.is_empty() {
+        if is_enough(Wanted::First, &found) {
             return Ok(found);
         }
         match positions.make(alloc, value, &mut Tally::new()) {

@@ -33,6 +33,7 @@ fn coordinate_of(
     ensures faultless { OnOk result (coordinate_faults grid.now.step greatest (value_view value.now) ≡ []) }
     ensures refused { IfErr result (λ k. coordinate_faults grid.now.step greatest (value_view value.now) ≡ here k) }
 {
+    let _size = grid.step.size();
     let Some(text) = value.as_number() else {
         return Err(FaultKind::WrongKind);
     };
@@ -76,6 +77,7 @@ fn judge_height(alloc: Global, value: &Value<'_>) -> Result<Vec<Fault>, OutOfMem
 }
 
 // The faults of the numbers behind the second.
+#[tactic(auto, using(crate::proofs::Items::judged_none, crate::proofs::Items::judged_more, crate::proofs::Items::judged_all))]
 fn judge_heights(alloc: Global, values: &[Value<'_>]) -> Result<Vec<Fault>, OutOfMemory>
     ensures { IfOk result (λ fs. pairs_of fs.items ≡ each_faults height_faults 2 (items_view (drop 2 values.now))) }
 {
@@ -130,6 +132,7 @@ fn judge_numbers(
 }
 
 // Counts the numbers behind the second.
+#[tactic(auto, using(crate::proofs::Heights::counted_none, crate::proofs::Heights::counted_all, crate::proofs::Heights::counted_not))]
 fn count_heights(
     grid: &DecimalGrid,
     values: &[Value<'_>],
@@ -140,10 +143,10 @@ fn count_heights(
     ensures refused { result ≡ Err Stop.Unread → each_faults height_faults 2 (items_view (drop 2 values.now)) ≢ [] }
 {
     for i in 2..values.len() {
-        if values[i].as_number().is_none() {
-            return Err(Stop::Unread);
+        match values[i].as_number() {
+            Some(_) => tally.add_height(),
+            None => return Err(Stop::Unread),
         }
-        tally.add_height();
     }
     Ok(())
 }

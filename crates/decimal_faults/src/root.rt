@@ -60,8 +60,8 @@ pub fn faults(
     let mut scratch = Scratch::new(alloc);
     match Value::from_slice(alloc, bytes, &mut scratch) {
         Ok(value) => judge_map(alloc, rules, fixing, &value),
-        Err(Error::OutOfMemory) => Err(OutOfMemory),
-        Err(_) => { Ok(one(alloc, FaultKind::NotJson)?) }
+        Err(Error::Invalid) => { Ok(one(alloc, FaultKind::NotJson)?) }
+        Err(_) => Err(OutOfMemory),
     }
 }
 
@@ -80,7 +80,10 @@ fn make_bare(
         id: None,
         ..rules.attributes
     };
-    let attributes = make_attributes(alloc, &unnamed, None, None)?;
+    let attributes = match make_attributes(alloc, &unnamed, None, None) {
+        Ok(attributes) => attributes,
+        Err(stop) => return Err(stop),
+    };
     Ok(RawFeature {
         attributes,
         geometry,
