@@ -12,10 +12,10 @@ loop-map-preserved c = λ after h.
     let maps = c.next.new.self.rest.items in
     let name = c.in-Some-next.name.now in
     let one : AreLayersWith old (name ∷ names) (c.in-Some.map ∷ maps) after =
-        (set_of c.in_ok-set_of.field-0, (c.in_ok-set_of.ensures, subst (λ l. AreLayersWith l names maps after) c.in_ok-layers.ensures h)) in
+    (set_of c.in_ok-set_of.field-0, (c.in_ok-set_of.ensures, subst (λ l. AreLayersWith l names maps after) c.in_ok-layers.ensures h)) in
     c.loop-map.invariant after
     (subst (λ ms. AreLayersWith old (map (λ n. n.now) c.loop-map.names.rest.items) ms after) (sym c.in-Some.ensures.steps.0)
-     (subst (λ ns. AreLayersWith old (map (λ n. n.now) ns) (c.in-Some.map ∷ maps) after) (sym c.in-Some-next.ensures.cases.0) one))
+    (subst (λ ns. AreLayersWith old (map (λ n. n.now) ns) (c.in-Some.map ∷ maps) after) (sym c.in-Some-next.ensures.cases.0) one))
 
 pub returns : goal.returns
 returns c =
