@@ -96,7 +96,12 @@ fn argument<'a>(alloc: Global, row: &ArgumentRow) -> Result<Arg<'a>, AllocError>
 }
 
 /// A command of what its help prints in front and behind, without arguments.
-pub(crate) fn with_title<'a>(alloc: Global, name: &'a str, about: &'a str, after: &'a str) -> Command<'a> {
+pub(crate) fn with_title<'a>(
+    alloc: Global,
+    name: &'a str,
+    about: &'a str,
+    after: &'a str,
+) -> Command<'a> {
     Command::new(alloc, name).about(about).after_help(after)
 }
 

@@ -30,11 +30,7 @@ const ATTRIBUTES: AttributeRules<'static> = AttributeRules {
 };
 
 /// The rules for the step of a numeral. So many steps a number may be from 0.
-fn rules_within(
-    numeral: &[u8],
-    greatest_x: u64,
-    greatest_y: u64,
-) -> Option<RoundingRules<'static>>
+fn rules_within(numeral: &[u8], greatest_x: u64, greatest_y: u64) -> Option<RoundingRules<'static>>
     ensures rules { IfSome result (AreRulesWithin numeral.now greatest_x greatest_y) }
     ensures exact { IsSome result ↔ IsSize numeral.now }
 {

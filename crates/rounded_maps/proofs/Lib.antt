@@ -1,3 +1,4 @@
 mod Texts
 mod Vertices
 mod Ends
+mod Layers

@@ -277,24 +277,27 @@ fn set_of(alloc: Global, map: RoundedMap) -> Result<BTreeSet<Feature>, OutOfMemo
     for feature in map.features {
         add_feature(alloc, feature.feature, &mut features)?;
     }
-    feature_set(alloc, features)
+    match feature_set(alloc, features) {
+        Ok(set) => Ok(set),
+        Err(fault) => Err(fault),
+    }
 }
 
 /// The layers of maps. Maps of one name are one layer.
 fn layers_of(
     alloc: Global,
-    names: &[&str],
+    names: Vec<&str>,
     maps: Vec<RoundedMap>,
 ) -> Result<FeatureMap, OutOfMemory>
-    ensures { IfOk result (AreLayersWith finite.empty (map (λ n. n.now) names.now) maps.items) }
+    ensures { IfOk result (AreLayersWith finite.empty (map (λ n. n.now) names.entry.items) maps.items) }
 {
     let mut layers = FeatureMap::new(alloc);
-    let mut left = maps.into_iter();
-    for name in names {
-        let Some(map) = left.next() else {
+    let mut names = names.into_iter();
+    for map in maps {
+        let Some(name) = names.next() else {
             return Ok(layers);
         };
-        layers = layers.with_features(*name, set_of(alloc, map)?)?;
+        layers = layers.with_features(name, set_of(alloc, map)?)?;
     }
     Ok(layers)
 }
@@ -305,11 +308,11 @@ fn layers_of(
 /// As `round_maps`.
 pub fn build_maps<T: AsSlice<u8> + Drop>(
     alloc: Global,
-    names: &[&str],
+    names: Vec<&str>,
     texts: Vec<T>,
     rules: &BuildRules<'_>,
 ) -> Result<(Topology, Rounded), MapsFault>
-    ensures built { IfOk result (λ r. IsBuilt rules.now (map (λ n. n.now) names.now) (map T.items texts.items) r.1 r.0) }
+    ensures built { IfOk result (λ r. IsBuilt rules.now (map (λ n. n.now) names.entry.items) (map T.items texts.items) r.1 r.0) }
     ensures refused { IfErr result (λ e. IsMapsRefusal rules.now.rounding 0 (map T.items texts.items) e ⊎ AreUnjoinedTexts rules.now (map T.items texts.items) e) }
 {
     let (maps, rounded) = round_maps(alloc, texts, rules)?;

@@ -97,12 +97,7 @@ impl RoundedMap {
     }
 
     /// Adds a feature, fixed.
-    fn add(
-        &mut self,
-        alloc: Global,
-        feature: RawFeature,
-        rules: &FixingRules,
-    ) -> Result<(), Broken>
+    fn add(&mut self, alloc: Global, feature: RawFeature, rules: &FixingRules) -> Result<(), Broken>
         ensures fixed { OnOk result ((f : Fixed) × (self.new.features.items ≡ self.old.features.items ++ f ∷ []) × IsFixed rules.now feature f) }
         ensures tally { OnOk result (self.new.tally ≡ sum_of_tallies self.old.tally feature.tally) }
         ensures reals { OnOk result (self.new.reals ≡ sum self.old.reals feature.attributes.reals) }
@@ -113,7 +108,8 @@ impl RoundedMap {
             tally,
         } = feature;
         let reals = attributes.reals;
-        self.features.push(fix_feature(alloc, attributes, geometry, rules)?)?;
+        self.features
+            .push(fix_feature(alloc, attributes, geometry, rules)?)?;
         self.tally = sum_of(self.tally, tally);
         self.reals = sum_of_counts(self.reals, reals);
         Ok(())

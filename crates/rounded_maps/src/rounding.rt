@@ -59,11 +59,7 @@ fn fix_features(
 }
 
 /// The features of a text, read from its tree.
-fn read_tree(
-    alloc: Global,
-    text: &str,
-    rules: &RoundingRules<'_>,
-) -> Result<Vec<RawFeature>, Fault>
+fn read_tree(alloc: Global, text: &str, rules: &RoundingRules<'_>) -> Result<Vec<RawFeature>, Fault>
     ensures made { IfOk result (λ fs. (j : Json) × (document text.now ≡ Some j) × IsMap rules.now.map j fs.items) }
     ensures err { IfErr result (LeastOrWant (faults_under rules.now text.now)) }
 {

@@ -4,8 +4,7 @@ use command_line::files::{Files, read_named};
 use command_line::output::write_output;
 use command_line::refusal::{Refusal, Usage};
 use command_line::status::Status;
-use decimals::Decimal;
-use decimals::topology::{DecimalFault, Units, text_of};
+use decimals::topology::{DecimalFault, text_of};
 use faults::{Fault, FaultKind};
 use sinks::Sink;
 use std::alloc::Global;
@@ -56,14 +55,7 @@ pub(crate) fn write_back<'a, F: Files, O: Sink>(
         return Err(Refusal::Usage(Usage::BadBack));
     };
     let topology = read_file(alloc, options, *file, files)?;
-    let Some(step) = decimals::DecimalStep::parse(options.step_word.as_bytes()) else {
-        return Err(Refusal::Usage(Usage::BadStep(options.step_word)));
-    };
-    let units = Units {
-        step,
-        origin: (Decimal::zero(), Decimal::zero()),
-    };
-    match text_of(alloc, &topology, &units, options.fixing.rewind) {
+    match text_of(alloc, &topology, &options.step, options.fixing.rewind) {
         Ok(text) => {
             write_output(alloc, files, out, options.output, text.as_slice())?;
             Ok(Status::Done)

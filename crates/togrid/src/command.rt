@@ -174,7 +174,7 @@ fn make<'a>(
     let rules = options.building();
     if options.is_build {
         let names = names_of(alloc, sources)?;
-        return match build_maps(alloc, names.as_slice(), texts, &rules) {
+        return match build_maps(alloc, names, texts, &rules) {
             Ok((topology, rounded)) => Ok((Made::Topology(topology), rounded)),
             Err(fault) => Err(refusal(options, sources, fault)),
         };

@@ -95,11 +95,7 @@ fn put_moves(
     let steps = in_steps(alloc, outcome)?;
     let units = in_units(alloc, outcome, options)?;
     put(lines, b"  ")?;
-    put_count(
-        lines,
-        outcome.tally.moved,
-        "positions moved, by at most ",
-    )?;
+    put_count(lines, outcome.tally.moved, "positions moved, by at most ")?;
     put_words(lines, steps.as_str(), " steps")?;
     if !units.as_str().is_empty() {
         put_words(lines, " (", units.as_str())?;
@@ -289,11 +285,7 @@ fn put_vertices<E: Sink>(err: &mut E, rounded: &Rounded) -> Result<(), WriteFaul
     }
 }
 
-fn put_lines(
-    alloc: Global,
-    report: &Report<'_, '_>,
-    lines: &mut Kept,
-) -> Result<(), ReportFault> {
+fn put_lines(alloc: Global, report: &Report<'_, '_>, lines: &mut Kept) -> Result<(), ReportFault> {
     let rounded = report.rounded;
     for (source, outcome) in report.sources.iter().zip(rounded.outcomes.iter()) {
         put_outcome(alloc, lines, source.1, outcome, report.options)?;
@@ -308,10 +300,7 @@ fn put_lines(
 }
 
 /// The lines of the report.
-pub(crate) fn report_lines(
-    alloc: Global,
-    report: &Report<'_, '_>,
-) -> Result<Vec<u8>, AllocError> {
+pub(crate) fn report_lines(alloc: Global, report: &Report<'_, '_>) -> Result<Vec<u8>, AllocError> {
     let mut lines = Kept::new(alloc);
     match put_lines(alloc, report, &mut lines) {
         Ok(()) => Ok(lines.into_bytes()),

@@ -1,14 +1,15 @@
-use Rattle.std.proofs.Common.{inr, rules}
+use Rattle.std.proofs.Common.{inr, rules, subst}
+use Rattle.rounded_maps.specs.Joined.{AreVertexUses}
 use Rattle.rounded_maps.proofs.building.join_near.Goals as goal
 
-pub returns-in-Err-clause-err : goal.returns-in-Err-clause-err
-returns-in-Err-clause-err c = λ texts rounded.
+pub returns-clause-err : goal.returns-clause-err
+returns-clause-err c = λ texts rounded.
     inr (record {
       read = c.args.maps.items;
       rounded = rounded;
       asked = search rules;
       uses = c.in_ok-index.index;
-      of = c.in_ok-index.ensures;
+      of = subst (λ ms. AreVertexUses ms c.in_ok-index.index) c.as_slice.ensures.value c.in_ok-index.ensures;
       clusters = c.in_ok-clusters.clusters;
       are = c.in_ok-clusters.ensures;
       refused = c.in-Err.ensures.err;

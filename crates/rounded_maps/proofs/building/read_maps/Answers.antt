@@ -22,7 +22,7 @@ loop-text-preserved g c =
       refused = λ place fault h.
           c.loop-text.invariant.refused place fault
           (subst (λ ts. IsFirstFrom rules (length maps) (map bytes ts) place fault) (sym split)
-           (inr (record { map = c.in-Ok.map; rounded = made }, subst (λ n. IsFirstFrom rules n (map bytes left) place fault) counted h)));
+          (inr (record { map = c.in-Ok.map; rounded = made }, subst (λ n. IsFirstFrom rules n (map bytes left) place fault) counted h)));
     }
 
 pub returns-clause-rounded : goal.returns-clause-rounded

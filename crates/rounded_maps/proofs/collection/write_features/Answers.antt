@@ -18,5 +18,5 @@ loop-feature-preserved g c =
     let left = gathered texts c.in-Some.after.now in
     left_step _ c.loop-feature.invariant
     (ap (λ l. texts_behind b (gathered texts l)) c.in-Some.ensures.cases.0 ∙ both_behind b (texts c.in-Some.feature.now) left
-     ∙ ap (λ q. texts_behind b (texts c.in-Some.feature.now) ++ texts_behind q left) (sym c.in-Ok.ensures.next))
+    ∙ ap (λ q. texts_behind b (texts c.in-Some.feature.now) ++ texts_behind q left) (sym c.in-Ok.ensures.next))
     c.in-Ok.ensures.whole
