@@ -64,11 +64,7 @@ fn place_value<'a>(
     if range.is_empty() || left == 0 {
         return reader.skip_value(DEEPEST).ok();
     }
-    put_place(
-        places,
-        range,
-        next_value(text.bytes, reader.offset()),
-    );
+    put_place(places, range, next_value(text.bytes, reader.offset()));
     if !is_inside(text.faults, range) {
         return reader.skip_value(DEEPEST).ok();
     }

@@ -130,10 +130,12 @@ fn places_without(
     ensures { IfOk result (λ v. All (IsPlaceIn bytes.now) v.items) }
 {
     match faults {
-        [Fault {
-            kind: FaultKind::NotJson,
-            ..
-        }] => {
+        [
+            Fault {
+                kind: FaultKind::NotJson,
+                ..
+            },
+        ] => {
             let mut places = Vec::new(alloc);
             places.push(place_at(bytes, unexpected_token(alloc, bytes)?))?;
             Ok(places)
