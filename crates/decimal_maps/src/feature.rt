@@ -138,8 +138,8 @@ fn attributes_of_parts(
 ) -> Result<Attributes, Stop>
     ensures { IfOk result (λ a. (grid : DecimalGrid) (ms : Members) → KnowsParts grid parts.now ms → HaveAttributes rules.now (get_member (codes "id") ms) (get_member (codes "properties") ms) a) }
 {
-    let id = parts.id.found()?;
-    let properties = parts.properties.found()?;
+    let id = parts.id.value_or_none()?;
+    let properties = parts.properties.value_or_none()?;
     attributes_of(alloc, rules, id, properties)
 }
 

@@ -98,7 +98,7 @@ pub fn geometry_of(alloc: Global, members: GeometryMembers) -> Result<(RawGeomet
 {
     let GeometryMembers { simple, geometries } = members;
     if let Lookup::Read(Kind::GeometryCollection) = simple.kind {
-        let (shapes, tally) = geometries.required()?;
+        let (shapes, tally) = geometries.into_value()?;
         return Ok((RawGeometry::Collection(shapes), tally));
     }
     let (shape, tally) = simple_of(alloc, simple)?;

@@ -23,7 +23,7 @@ impl<T: Drop> Lookup<T> {
     ///
     /// # Errors
     /// Where it was skipped.
-    pub fn found(&self) -> Result<Option<&T>, Stop>
+    pub fn value_or_none(&self) -> Result<Option<&T>, Stop>
         ensures { IfOk result (λ o. self.now ≡ lookup_of (option_copied o)) }
     {
         match self {
@@ -37,7 +37,7 @@ impl<T: Drop> Lookup<T> {
     ///
     /// # Errors
     /// Where the member is missing, or was skipped.
-    pub fn required(self) -> Result<T, Stop>
+    pub fn into_value(self) -> Result<T, Stop>
         ensures { IfOk result (λ x. self ≡ Lookup.Read x) }
     {
         match self {

@@ -164,7 +164,7 @@ fn map_of<'t>(
         parts,
     } = members;
     match geometry.simple.kind {
-        Lookup::Read(Kind::FeatureCollection) => features.required(),
+        Lookup::Read(Kind::FeatureCollection) => features.into_value(),
         Lookup::Read(Kind::Feature) => single(alloc, feature_of(alloc, rules, parts)?),
         _ => single(alloc, bare_feature(alloc, rules, geometry)?),
     }

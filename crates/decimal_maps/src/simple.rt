@@ -162,7 +162,7 @@ pub fn simple_of(alloc: Global, members: SimpleMembers) -> Result<(RawShape, Tal
     let Lookup::Read(Kind::Simple(kind)) = kind else {
         return Err(Stop::Unread);
     };
-    let (coordinates, tally) = coordinates.required()?;
+    let (coordinates, tally) = coordinates.into_value()?;
     let shape = shape_of(alloc, kind, coordinates)?;
     Ok((shape, tally))
 }
