@@ -4,3 +4,6 @@ pub mod Faulty
 pub mod Heights
 pub mod Meant
 pub mod Nested
+pub mod Bare
+pub mod Texts
+pub mod Order

@@ -111,12 +111,7 @@ impl Part for CoordinatesOf {
         }
     }
 
-    fn make(
-        &self,
-        alloc: Global,
-        value: &Value<'_>,
-        count: &mut Tally,
-    ) -> Result<RawShape, Stop> {
+    fn make(&self, alloc: Global, value: &Value<'_>, count: &mut Tally) -> Result<RawShape, Stop> {
         match self.kind {
             GeometryType::Point => make_point(alloc, &self.grid, value, count),
             GeometryType::MultiPoint => {
@@ -148,7 +143,9 @@ impl Part for CoordinatesOf {
                 }
             }
             GeometryType::MultiPolygon => {
-                let of = ListOf { of: self.lists(Outline::Ring) };
+                let of = ListOf {
+                    of: self.lists(Outline::Ring),
+                };
                 match of.make(alloc, value, count) {
                     Ok(made) => Ok(RawShape::MultiPolygon(made)),
                     Err(stop) => Err(stop),

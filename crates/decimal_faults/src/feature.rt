@@ -157,12 +157,7 @@ impl<'m, 'r> Part for FeatureOf<'m, 'r> {
         }
     }
 
-    fn make(
-        &self,
-        alloc: Global,
-        value: &Value<'_>,
-        _count: &mut (),
-    ) -> Result<RawFeature, Stop> {
+    fn make(&self, alloc: Global, value: &Value<'_>, _count: &mut ()) -> Result<RawFeature, Stop> {
         match feature_type(value) {
             Ok(()) => make_feature(alloc, self.rules, value),
             Err(_) => Err(Stop::Unread),

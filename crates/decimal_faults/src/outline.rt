@@ -103,12 +103,7 @@ impl Part for OutlineOn {
         }
     }
 
-    fn make(
-        &self,
-        alloc: Global,
-        value: &Value<'_>,
-        count: &mut Tally,
-    ) -> Result<Vec<Pos>, Stop> {
+    fn make(&self, alloc: Global, value: &Value<'_>, count: &mut Tally) -> Result<Vec<Pos>, Stop> {
         ListOf { of: self.grid }.make(alloc, value, count)
     }
 }

@@ -133,11 +133,7 @@ fn judge_numbers(
 
 // Counts the numbers behind the second.
 #[tactic(auto, using(crate::proofs::Heights::counted_none, crate::proofs::Heights::counted_all, crate::proofs::Heights::counted_not))]
-fn count_heights(
-    grid: &DecimalGrid,
-    values: &[Value<'_>],
-    tally: &mut Tally,
-) -> Result<(), Stop>
+fn count_heights(grid: &DecimalGrid, values: &[Value<'_>], tally: &mut Tally) -> Result<(), Stop>
     requires { IsTrue (may_have grid.now (items_view values.now)) }
     ensures made { OnOk result (AreHeights grid.now (items_view (drop 2 values.now)) tally.old tally.new) }
     ensures refused { result ≡ Err Stop.Unread → each_faults height_faults 2 (items_view (drop 2 values.now)) ≢ [] }
@@ -152,11 +148,7 @@ fn count_heights(
 }
 
 // The position nearest to the first two numbers, which is counted.
-fn position_of(
-    grid: &DecimalGrid,
-    values: &[Value<'_>],
-    tally: &mut Tally,
-) -> Result<Pos, Stop>
+fn position_of(grid: &DecimalGrid, values: &[Value<'_>], tally: &mut Tally) -> Result<Pos, Stop>
     ensures made { IfOk result (λ p. AreCoordinates grid.now (items_view values.now) p tally.old tally.new) }
     ensures refused { result ≡ Err Stop.Unread → numbers_faults grid.now (items_view values.now) ≢ [] }
 {
@@ -198,12 +190,7 @@ impl Part for DecimalGrid {
         }
     }
 
-    fn make(
-        &self,
-        _alloc: Global,
-        value: &Value<'_>,
-        count: &mut Tally,
-    ) -> Result<Pos, Stop> {
+    fn make(&self, _alloc: Global, value: &Value<'_>, count: &mut Tally) -> Result<Pos, Stop> {
         match items_of(value) {
             Some(items) => position_of(self, items, count),
             None => Err(Stop::Unread),

@@ -66,11 +66,7 @@ pub fn faults(
 }
 
 // The feature of a geometry that is no feature's.
-fn make_bare(
-    alloc: Global,
-    rules: &MapRules<'_>,
-    value: &Value<'_>,
-) -> Result<RawFeature, Stop>
+fn make_bare(alloc: Global, rules: &MapRules<'_>, value: &Value<'_>) -> Result<RawFeature, Stop>
     ensures made { IfOk result (IsBareGeometry rules.now (value_view value.now)) }
     ensures refused { result ≡ Err Stop.Unread → (fixing : Rules) → geometry_faults rules.now.grid fixing (value_view value.now) ≢ [] }
 {

@@ -1,4 +1,4 @@
-use Rattle.std.proofs.Common.{◌≡◌, ◌<◌, ◌≤◌, true, false, IfOk, is_some, sym, ap, ◌∙◌, subst, arith, rules}
+use Rattle.std.proofs.Common.{◌≡◌, ◌<◌, ◌≤◌, true, false, Ok, IfOk, is_some, sym, ap, ◌∙◌, subst, arith, rules}
 use Rattle.json.specs.Find.{as_object}
 use Rattle.json.specs.Tree.{depth, items_depth}
 use Rattle.json.specs.Value.{value_view, items_view}
@@ -39,18 +39,24 @@ judge_geometries-returns-in_ok-one-in-None t c =
 pub judge_geometry-returns-then-not-is_object : goal.judge_geometry-returns-then-not-is_object
 judge_geometry-returns-then-not-is_object t c =
     let other : is_some (as_object (value_view c.args.value.now)) ≡ false = cc in
-    let x = c in ?
+    c.in_ok-one.ensures.same ∙ sym (no_object c.args.grid.now c.args.fixing.now (value_view c.args.value.now) other)
 
 pub judge_geometry-returns-in-Ok-Simple : goal.judge_geometry-returns-in-Ok-Simple
 judge_geometry-returns-in-Ok-Simple t c =
     subst (λ ps. IfOk c.judge_member.result (λ fs. pairs_of fs.items ≡ ps))
-    (sym (simple_is c.args.grid.now c.args.fixing.now (value_view c.args.value.now) c.in-Ok-Simple.kind (sym c.form_of.ensures ∙ c.in-Ok-Simple.is))) c.judge_member.ensures
+    (sym (simple_is c.args.grid.now c.args.fixing.now (value_view c.args.value.now) c.in-Ok-Simple.kind (sym c.form_of.ensures ∙ (c.in-Ok-Simple.is ∙ ap Ok c.in-Ok-Simple.field-0-is)))) c.judge_member.ensures
 
 pub judge_geometry-returns-in-Ok-Collection : goal.judge_geometry-returns-in-Ok-Collection
-judge_geometry-returns-in-Ok-Collection t c = let x = c.in-Ok-Collection in ?
+judge_geometry-returns-in-Ok-Collection t c =
+    let splits : c.args.fixing.now.splits_collections ≡ true = cc in
+    subst (λ ps. IfOk c.judge_collection.result (λ fs. pairs_of fs.items ≡ ps))
+    (sym (split_is c.args.grid.now c.args.fixing.now (value_view c.args.value.now) splits (sym c.form_of.ensures ∙ (c.in-Ok-Collection.is ∙ ap Ok c.in-Ok-Collection.field-0-is)))) c.judge_collection.ensures
 
 pub judge_geometry-returns-in_ok-type_fault-in-Ok-Collection-2 : goal.judge_geometry-returns-in_ok-type_fault-in-Ok-Collection-2
-judge_geometry-returns-in_ok-type_fault-in-Ok-Collection-2 t c = let x = c in ?
+judge_geometry-returns-in_ok-type_fault-in-Ok-Collection-2 t c =
+    let stays : c.args.fixing.now.splits_collections ≡ false = cc in
+    c.in_ok-type_fault-in-Ok-Collection-2.ensures.same
+    ∙ sym (whole_is c.args.grid.now c.args.fixing.now (value_view c.args.value.now) stays (sym c.form_of.ensures ∙ (c.in-Ok-Collection.is ∙ ap Ok c.in-Ok-Collection.field-0-is)))
 
 pub judge_geometry-returns-in_ok-type_fault-in-Err : goal.judge_geometry-returns-in_ok-type_fault-in-Err
 judge_geometry-returns-in_ok-type_fault-in-Err t c =

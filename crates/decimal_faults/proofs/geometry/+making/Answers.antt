@@ -1,4 +1,4 @@
-use Rattle.std.proofs.Common.{◌≡◌, ◌<◌, ◌≤◌, Err, IfOk, sym, ap, ◌∙◌, subst, arith, rules}
+use Rattle.std.proofs.Common.{◌≡◌, ◌<◌, ◌≤◌, Err, Ok, IfOk, sym, ap, ◌∙◌, subst, arith, rules}
 use Rattle.json.specs.Tree.{depth, items_depth}
 use Rattle.json.specs.Value.{value_view, items_view}
 use Rattle.decimal_maps.specs.declared.from_tokens.Stop.TheVariants.{Unread}
@@ -43,7 +43,7 @@ put_each-returns-clause-made t c = shaped_all c.args.grid.now c.args.values.now 
 
 pub put_shapes-returns-in-Ok-Collection-clause-refused : goal.put_shapes-returns-in-Ok-Collection-clause-refused
 put_shapes-returns-in-Ok-Collection-clause-refused t c = λ e fixing.
-    faulty_collection c.args.grid.now fixing (value_view c.args.value.now) (sym c.form_of.ensures ∙ c.in-Ok-Collection.is) (c.put_collection.ensures.refused e fixing)
+    faulty_collection c.args.grid.now fixing (value_view c.args.value.now) (sym c.form_of.ensures ∙ (c.in-Ok-Collection.is ∙ ap Ok c.in-Ok-Collection.field-0-is)) (c.put_collection.ensures.refused e fixing)
 
 pub put_shapes-returns-in-Err-clause-refused : goal.put_shapes-returns-in-Err-clause-refused
 put_shapes-returns-in-Err-clause-refused t c = λ e fixing. faulty_type c.args.grid.now fixing (value_view c.args.value.now) _ (sym c.form_of.ensures ∙ c.in-Err.is)
