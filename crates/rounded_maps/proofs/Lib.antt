@@ -2,3 +2,4 @@ mod Texts
 mod Vertices
 mod Ends
 mod Layers
+mod Faultless

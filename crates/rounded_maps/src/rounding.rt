@@ -5,7 +5,7 @@ ghost use Rattle.json.specs.Json.{Json, document};
 ghost use Rattle.reading.specs.Fault.{LeastOrWant};
 ghost use Rattle.rounded_maps.specs.Fixed.{IsFixedMap};
 ghost use Rattle.rounded_maps.specs.Rounded.{IsRounded, faults_under};
-ghost use Rattle.std.specs.Prelude.{◌≡◌, IfErr, IfOk, Some};
+ghost use Rattle.std.specs.Prelude.{◌≡◌, [], IfErr, IfOk, OnOk, Some};
 
 use crate::map::RoundedMap;
 use decimal_faults::{faults, read_value};
@@ -103,11 +103,16 @@ pub fn round_map(
     rules: &RoundingRules<'_>,
 ) -> Result<RoundedMap, Fault>
     ensures made { IfOk result (IsRounded rules.now bytes.now) }
+    ensures ok { OnOk result (faults_under rules.now bytes.now ≡ []) }
     ensures err { IfErr result (LeastOrWant (faults_under rules.now bytes.now)) }
 {
+    let _step = rules.map.grid.step.size();
     let Ok(text) = simdutf8::compat::from_utf8(bytes) else {
         return Err(refuse(alloc, bytes, rules));
     };
     let features = read_features(alloc, text, rules)?;
-    fix_features(alloc, bytes, features, rules)
+    match fix_features(alloc, bytes, features, rules) {
+        Ok(map) => Ok(map),
+        Err(fault) => Err(fault),
+    }
 }
