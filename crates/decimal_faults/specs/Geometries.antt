@@ -44,6 +44,7 @@ coordinates_faults grid fixing MultiPolygon = list_faults (list_faults (outline_
 
 -- ---- types
 
+-- the geometry of one shape of that type
 abbrev pub simple : Result GeometryType FaultKind → Result GeometryForm FaultKind
 simple (Err k) = Err k
 simple (Ok k) = Ok (Simple k)

@@ -91,6 +91,7 @@ abbrev pub each_position : Measure → Items → List Pos
 each_position s no_items = []
 each_position s (item j js) = position_of s j ∷ each_position s js
 
+-- the positions of the items, none where there is no array
 abbrev pub positions_in : Measure → Option Items → List Pos
 positions_in s None = []
 positions_in s (Some js) = each_position s js

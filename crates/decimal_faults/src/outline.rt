@@ -28,7 +28,7 @@ pub enum Outline {
 }
 
 // The fault of a line or a ring that the rules don't fix, if it has one.
-fn unfixed(
+fn find_unfixed(
     alloc: Global,
     outline: Outline,
     positions: Vec<Pos>,
@@ -63,7 +63,7 @@ fn judge_outline(
 ) -> Result<Vec<Fault>, OutOfMemory>
     ensures { IfOk result (λ fs. pairs_of fs.items ≡ outline_faults (unfixed_of fixing.now (fault_as outline positions.items))) }
 {
-    match unfixed(alloc, outline, positions, fixing)? {
+    match find_unfixed(alloc, outline, positions, fixing)? {
         None => Ok(Vec::new(alloc)),
         Some(fault) => { Ok(one(alloc, kind_of(fault))?) }
     }

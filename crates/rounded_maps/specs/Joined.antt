@@ -31,6 +31,7 @@ pub record IsKeptShape (f : Pos → Pos) (s : Shape) (left : List Shape) (before
   pub same : left ≡ s ∷ []
   pub fixes : after ≡ before
 
+-- what becomes of a shape where positions move: it is fixed again if one of its own does, and else stays
 abbrev pub IsJoinedShape : FixingRules → (Pos → Pos) → Shape → List Shape → Fixes → Fixes → Type 0
 IsJoinedShape rules f s left before after = IsMovedShape rules f s left before after ⊎ IsKeptShape f s left before after
 
@@ -61,6 +62,7 @@ pub record IsJoinedMap (rules : FixingRules) (f : Pos → Pos) (old new : Rounde
   pub tally : new.tally ≡ old.tally
   pub reals : new.reals ≡ old.reals
 
+-- each map with its positions moved
 abbrev pub AreJoinedMaps : FixingRules → (Pos → Pos) → List RoundedMap → List RoundedMap → Type 0
 AreJoinedMaps rules f [] [] = ⊤
 AreJoinedMaps rules f [] (new ∷ news) = ⊥

@@ -71,6 +71,7 @@ abbrev pub HasUnjoinedMap : FixingRules → (Pos → Pos) → ℕ → List Round
 HasUnjoinedMap rules f n [] place fault = ⊥
 HasUnjoinedMap rules f n (m ∷ ms) place fault = ((place ≡ n) × HasRefusedFeature rules f 0 m.features.items fault) ⊎ HasUnjoinedMap rules f (n + 1) ms place fault
 
+-- the fault is that of a feature that the moves collapse or fold, in the map of that place; or memory was refused
 abbrev pub AreUnjoined : FixingRules → (Pos → Pos) → ℕ → List RoundedMap → MapsFault → Type 0
 AreUnjoined rules f n maps (Text place fault) = HasUnjoinedMap rules f n maps place fault
 AreUnjoined rules f n maps OutOfMemory = Unit {0}
