@@ -24,7 +24,7 @@ mod outcome;
 mod questions;
 mod refusal;
 mod room;
-mod snapping;
+mod rounding;
 mod topologies;
 
 use differing::{Asked, diff};
@@ -34,7 +34,7 @@ use making::{build, merge, remove};
 pub use outcome::Outcome;
 use questions::{feature, info, mesh, neighbors};
 use room::{answer, verdict};
-use snapping::snap;
+use rounding::snap;
 use std::alloc::Global;
 use topologies::check;
 
