@@ -65,6 +65,7 @@ fn rules_for(step: &[u8]) -> Option<RoundingRules<'static>>
 
 /// The features of a GeoJSON text as a FeatureCollection, with each coordinate replaced by the nearest whole number of steps, and
 /// each feature fixed: what `togrid` prints. The step is a numeral without a sign, or empty for degrees.
+#[tactic(auto, using(crate::proofs::Snaps::bad_step, crate::proofs::Snaps::not_rounded))]
 pub(crate) fn snap(alloc: Global, text: &[u8], step: &[u8]) -> Result<Vec<u8>, CallRefusal>
     ensures snapped { IfOk result (λ t. IsSnapped step.now text.now t.items) }
     ensures refused { IfErr result (IsSnapRefusal step.now text.now) }
