@@ -1,6 +1,6 @@
 -- A text that is a map of which each feature is fixed has no faults.
-use Rattle.std.proofs.Common.{◌≡◌, ℕ, List, [], ◌∷◌, Some, sym, subst, ◌∙◌}
-use Rattle.std.specs.Prelude.{IsSome, map}
+use Rattle.std.proofs.Common.{◌≡◌, ℕ, List, [], ◌∷◌, refl, sym, subst, ◌∙◌}
+use Rattle.std.specs.Prelude.{IsSome}
 use Rattle.std.specs.Str.{IsUtf8}
 use Rattle.numerals.specs.Numeral.{IsMeasure}
 use Rattle.fixing.specs.declared.rules.FixingRules.{FixingRules}
@@ -18,7 +18,7 @@ are_left : (rules : FixingRules) (raws : List RawFeature) (fs : List RoundedFeat
 are_left rules [] [] h = tt
 are_left rules [] (f ∷ fs) h = absurd h
 are_left rules (raw ∷ raws) [] h = absurd h
-are_left rules (raw ∷ raws) (f ∷ fs) h = (subst (λ o. IsSome o) (sym h.0.left) tt, are_left rules raws fs h.1)
+are_left rules (raw ∷ raws) (f ∷ fs) h = (subst (λ o. IsSome o) (sym h.0.left) refl, are_left rules raws fs h.1)
 
 pub no_faults : (rules : RoundingRules) (bytes : List ℕ) (m : RoundedMap) → IsMeasure rules.map.grid.step → IsUtf8 bytes → IsRounded rules bytes m → faults_under rules bytes ≡ []
 no_faults rules bytes m measured utf8 h =
