@@ -1,0 +1,12 @@
+use Rattle.std.proofs.Common.{ap, ◌∙◌}
+use Rattle.rounded_maps.specs.Written.{map_text, whole}
+use Rattle.noshinka.proofs.rounding.snap.Goals as goal
+
+pub returns-in-Ok-collection_text-clause-snapped : goal.returns-in-Ok-collection_text-clause-snapped
+returns-in-Ok-collection_text-clause-snapped c = record {
+  rules = c.in-Some.rules;
+  are = c.in-Some.ensures.rules;
+  map = c.in-Ok.map;
+  rounded = c.in-Ok.ensures.made;
+  written = c.in-Ok-collection_text.ensures ∙ ap (map_text whole) c.as_slice.ensures.value;
+}
