@@ -13,7 +13,7 @@ use command_line::output::{is_standard, write_output};
 use command_line::refusal::{Refusal, Usage};
 use command_line::status::Status;
 use command_line::togrid::parse;
-use rounded_maps::{MapsFault, Rounded, RoundedMap, build_maps, round_maps};
+use rounded_maps::{MapsFault, Rounded, RoundedMap};
 use sinks::{Sink, put};
 use std::alloc::Global;
 use topo::Topology;
@@ -171,15 +171,14 @@ fn make<'a>(
     sources: &[(&'a str, &'a str)],
     texts: Vec<Vec<u8>>,
 ) -> Result<(Made, Rounded), Refusal<'a>> {
-    let rules = options.building();
     if options.is_build {
         let names = names_of(alloc, sources)?;
-        return match build_maps(alloc, names, texts, &rules) {
+        return match options.build(alloc, names, texts) {
             Ok((topology, rounded)) => Ok((Made::Topology(topology), rounded)),
             Err(fault) => Err(refusal(options, sources, fault)),
         };
     }
-    match round_maps(alloc, texts, &rules) {
+    match options.round(alloc, texts) {
         Ok((maps, rounded)) => Ok((Made::Maps(maps), rounded)),
         Err(fault) => Err(refusal(options, sources, fault)),
     }

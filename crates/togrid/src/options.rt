@@ -6,9 +6,12 @@ use decimal_maps::{DecimalGrid, MapRules};
 use fixing::{Collapsed, FixingRules, Rewind};
 use grid::limits::GREATEST_GRID_NUMBER;
 use numerals::DecimalStep;
-use rounded_maps::{BuildRules, RoundingRules};
+use rounded_maps::{
+    BuildRules, MapsFault, Rounded, RoundedMap, RoundingRules, build_maps, round_maps,
+};
 use snapping::nearly_shared::GREATEST_DISTANCE;
 use std::alloc::Global;
+use topo::Topology;
 
 /// The step of degrees, 0.000001.
 const DEGREE_STEP: &str = "0.000001";
@@ -86,6 +89,31 @@ impl<'a> GridOptions<'a> {
             join_distance: self.join_distance,
             counts: self.reports() || self.is_strict,
         }
+    }
+
+    /// The topology of texts, each in the layer of its name.
+    pub(crate) fn build(
+        &self,
+        alloc: Global,
+        names: Vec<&str>,
+        texts: Vec<Vec<u8>>,
+    ) -> Result<(Topology, Rounded), MapsFault> {
+        let rules = self.building();
+        // Kit 13f proves a function that owns rules only where it names a place inside each of them.
+        let _attributes = &rules.rounding.map.attributes;
+        build_maps(alloc, names, texts, &rules)
+    }
+
+    /// The maps of texts.
+    pub(crate) fn round(
+        &self,
+        alloc: Global,
+        texts: Vec<Vec<u8>>,
+    ) -> Result<(Vec<RoundedMap>, Rounded), MapsFault> {
+        let rules = self.building();
+        // Kit 13f proves a function that owns rules only where it names a place inside each of them.
+        let _attributes = &rules.rounding.map.attributes;
+        round_maps(alloc, texts, &rules)
     }
 
     /// Whether anything is reported.
