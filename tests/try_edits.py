@@ -165,11 +165,27 @@ def was_built_by_gate(kit, library):
     return max(map(os.path.getmtime, [*files, *folders])) <= os.path.getmtime(made)
 
 
+def kept_by_gate(kit):
+    """The names of the libraries that rt ci of kit 13f left, of this run or of an earlier one: it knows them by sums of all that they were made of."""
+    if not hasattr(kit, "Kept"):
+        return set()
+    kit.Crate.allowed = kit.handles_of(TOP)
+    every = kit.crates_of(TOP)
+    kept, found = kit.Kept(every, False), set()
+    for crate in every:
+        is_ready = not crate.is_program and os.path.isdir(crate.rlib) and all(it.name in found for it in crate.below())
+        if is_ready and kept.at and os.path.isdir(kept.place(crate, False, kept.key(crate))):
+            kept.is_built(crate)
+            found.add(crate.name)
+    return found
+
+
 def build_libraries(kit, crates):
-    """Builds what is missing of the libraries below the crates. Those of one run of rt ci fit one another, and no others."""
-    missing = []
+    """Builds what is missing of the libraries below the crates. Those of rt ci fit one another, and no others."""
+    missing, kept = [], kept_by_gate(kit)
     for crate in crates:
-        if not all(it.is_built() for it in crate.below()) and not all(was_built_by_gate(kit, it) for it in crate.below()):
+        of_gate = all(it.name in kept or was_built_by_gate(kit, it) for it in crate.below())
+        if not all(it.is_built() for it in crate.below()) and not of_gate:
             missing += [it for it in crate.below() if it not in missing]
     for library in missing:
         if not library.is_built():
