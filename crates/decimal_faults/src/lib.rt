@@ -4,7 +4,7 @@
 //! it means. It is checked, which gives all its faults, or made, which gives what it means where it has none.
 #![tactic(auto)]
 
-mod coordinates;
+pub mod coordinates;
 pub mod feature;
 pub mod geometry;
 pub mod laws;
