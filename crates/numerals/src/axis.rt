@@ -50,6 +50,28 @@ impl DecimalAxis {
         })
     }
 
+    /// The scale times the power of ten of the axis' places.
+    pub fn scale(&self) -> i128
+        ensures value { result ≡ self.now.scale }
+        ensures limits { IsAxis self.now }
+    {
+        self.scale
+    }
+
+    /// The translation times the power of ten of the axis' places.
+    pub fn translate(&self) -> i128
+        ensures { result ≡ self.now.translate }
+    {
+        self.translate
+    }
+
+    /// How many places both have.
+    pub fn places(&self) -> u32
+        ensures { result ≡ self.now.places }
+    {
+        self.places
+    }
+
     /// The whole number of steps that is nearest to the value at a number of the axis, of two that are equally near the
     /// one farther from 0, and how far the value is from it, in ten-thousandths of a step, rounded up. None where that is
     /// no grid number.

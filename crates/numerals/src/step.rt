@@ -85,7 +85,8 @@ impl DecimalStep {
         u128::from(self.size)
     }
 
-    pub(crate) fn places(&self) -> u32
+    /// How many places the step has.
+    pub fn places(&self) -> u32
         ensures { result ≡ self.now.places }
     {
         self.places
