@@ -1,5 +1,5 @@
 -- Which rings are open, and that those that the rules close are not.
-use Rattle.std.proofs.Common.{◌≡◌, ◌↔◌, Bool, true, false, cond, not, ◌&&◌, List, [], ◌∷◌, ◌++◌, length, nat_lt, refl, sym, ap, ◌∙◌, subst, Option, Some, None}
+use Rattle.std.proofs.Common.{◌≡◌, ◌↔◌, Bool, true, false, cond, not, ◌&&◌, List, [], ◌∷◌, length, nat_lt, refl, sym, ap, ◌∙◌, subst, Some, None}
 use Rattle.std.specs.List.{dedup_from}
 use Rattle.grid.specs.declared.pos.Pos.{Pos}
 use Rattle.theory.specs.LinesAndRings.{closed}
@@ -8,9 +8,8 @@ use Rattle.theory.specs.TopologyFunction.{same_vertex}
 use Rattle.theory.proofs.JunctionTest.{equal-same_vertex, same_vertex-equal}
 use Rattle.theory.proofs.Lists.{last-snoc}
 use Rattle.lines.specs.Positions.{position_same, position_total}
-use Rattle.lines.specs.Reading.{collapsed_ring_fault, is_closed, repeats, ring_fault}
+use Rattle.lines.specs.Reading.{collapsed_ring_fault, repeats, ring_fault}
 use Rattle.lines.specs.Turned.{position_cmp}
-use Rattle.lines.specs.declared.shape_fault.ShapeFault.{ShapeFault}
 use Rattle.lines.specs.declared.shape_fault.ShapeFault.TheVariants.{TooShort, NotClosed, Revisit}
 use Rattle.fixing.specs.Laws.{OpenRingsAreClosed}
 use Rattle.fixing.specs.Left.{closes, is_open}
