@@ -1,3 +1,4 @@
+pub mod Stub
 pub mod Numerals
 pub mod Values
 pub mod Attributes
