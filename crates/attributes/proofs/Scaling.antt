@@ -10,7 +10,8 @@ use Rattle.numerals.specs.Nearest.{IsNearest, IsRounded}
 use Rattle.numerals.specs.Numeral.{IsNumeral, IsSnapped, Measure, denominator, divisor, measure, parts_of, unsigned_text}
 use Rattle.numerals.proofs.Nearest.{from_nearest, one_rounded, rounded_halves_of}
 use Rattle.numerals.proofs.Steps.{dividend_is, grid_size, signed_nearest}
-use Rattle.attributes.specs.Numerals.{is_numeral, scaled, scaled_size}
+use Rattle.numerals.specs.Whole.{is_numeral}
+use Rattle.attributes.specs.Numerals.{scaled, scaled_size}
 
 pub numeral_from : (text : List ℕ) → is_numeral text ≡ true → IsNumeral text
 numeral_from text e =

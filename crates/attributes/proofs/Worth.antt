@@ -11,7 +11,7 @@ use Rattle.fast_float.proofs.ExactLemmas.{ten_to_pos}
 use Rattle.fast_float.specs.Text.{Parts, digits_of, nearest, scan, tens_down, tens_up, with_sign}
 use Rattle.json.specs.Json as json
 use Rattle.numerals.specs.Numeral.{AreEqual, IsNumeral, denominator, numerator, parts_of, unsigned_text}
-use Rattle.numerals.proofs.Ceilings.{size_of_sign}
+use Rattle.numerals.specs.Whole.{IsWhole, is_numeral}
 use Rattle.numerals.proofs.Nearest.{below_times}
 use Rattle.numerals.proofs.Shortness.{none_left}
 use Rattle.numerals.proofs.Steps.{sign_times}
@@ -21,10 +21,13 @@ use Rattle.serde_json.specs.Find.{as_i64}
 use Rattle.serde_json.specs.Read.{float_of, is_integer, number_from, number_of}
 use Rattle.attributes.specs.Attributes.{id_of, number_id}
 use Rattle.attributes.specs.Laws.{EqualNumeralsAreOneId, EqualNumeralsAreOneNumber}
-use Rattle.attributes.specs.Numerals.{in_64_bits, integer_of, is_numeral, number_or_text, number_value, spelled, whole}
-use Rattle.attributes.specs.Stub.{IsWhole}
+use Rattle.attributes.specs.Numerals.{in_64_bits, integer_of, number_or_text, number_value, spelled, whole}
 use Rattle.attributes.specs.declared.rules.Reals.TheVariants.{Whole}
 use Rattle.attributes.proofs.Scaling.{numeral_from, numeral_is}
+
+size_of_sign : (m : Bool) (n : ℕ) → unsigned_abs (with_sign m n) ≡ n
+size_of_sign false n = refl
+size_of_sign true n = omega (arith, ints)
 
 same_size : (a b d : ℕ) → 0 < d → a * d ≡ b * d → a ≡ b
 same_size a b d some e = sym (mul-div_cancel a some) ∙ ap (λ n. n / d) e ∙ mul-div_cancel b some
@@ -193,16 +196,16 @@ units m n up down e f = ap (λ k. with_sign m (n * 10 ^ k)) e ∙ sym (sign_time
 
 written_from : (m : Bool) (p : Parts) (n : Num) → whole (number_from m p) ≡ Some n → (is_integer p ≡ true) × (in_64_bits (with_sign m (digits_of p)) ≡ Some n)
 written_from false p n e = elim (cases_Bool (is_integer p && nat_lt (digits_of p) (2 ^ 64))) [
-      | inl t ↦ let parts = and_parts _ _ t in (parts.0, rw parts.1 (rw t at e))
-      | inr f ↦ absurd (not_float false p n (rw f at e))
-    ]
+  | inl t ↦ let parts = and_parts _ _ t in (parts.0, rw parts.1 (rw t at e))
+  | inr f ↦ absurd (not_float false p n (rw f at e))
+]
 written_from true p n e = elim (cases_Bool (is_integer p && nat_lt 0 (digits_of p) && nat_le (digits_of p) (2 ^ 63))) [
-      | inl t ↦
-          let last = and_parts (is_integer p && nat_lt 0 (digits_of p)) (nat_le (digits_of p) (2 ^ 63)) t in
-          let first = and_parts (is_integer p) (nat_lt 0 (digits_of p)) last.0 in
-          (first.0, below (digits_of p) n first.1 last.1 (rw t at e))
-      | inr f ↦ absurd (not_float true p n (rw f at e))
-    ]
+  | inl t ↦
+      let last = and_parts (is_integer p && nat_lt 0 (digits_of p)) (nat_le (digits_of p) (2 ^ 63)) t in
+      let first = and_parts (is_integer p) (nat_lt 0 (digits_of p)) last.0 in
+      (first.0, below (digits_of p) n first.1 last.1 (rw t at e))
+  | inr f ↦ absurd (not_float true p n (rw f at e))
+]
 
 pub written_is_worth : (text : List ℕ) (n : Num) → IsNumeral text → whole (number_of text) ≡ Some n → option_and_then in_64_bits (integer_of text) ≡ Some n
 written_is_worth text n h e =

@@ -1,4 +1,3 @@
-pub mod Stub
 pub mod Numerals
 pub mod Values
 pub mod Attributes

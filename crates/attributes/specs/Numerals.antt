@@ -1,11 +1,12 @@
 -- Numerals as whole numbers, and as texts.
 use Rattle.std.specs.Prelude.{ℕ, zero, suc, ℤ, pos, negsuc, unsigned_abs, ◌+◌, ◌*◌, ◌/◌, ◌%◌, ◌^◌, Bool, ◌==◌, ◌&&◌, nat_le, nat_lt, List, length, take, slice_index, Option, Some, None, option_and_then, if◌then◌else◌}
 use Rattle.std.specs.Str.Parse.{starts_with_minus}
-use Rattle.fast_float.specs.Text.{digits_of, has_digits, tens_up, tens_down, with_sign}
+use Rattle.fast_float.specs.Text.{digits_of, tens_up, tens_down, with_sign}
 use Rattle.serde_json.specs.Data.{Num, Data, unsigned, negative, float, number, string}
 use Rattle.serde_json.specs.Find.{as_i64}
 use Rattle.serde_json.specs.Read.{number_of}
-use Rattle.numerals.specs.Numeral.{denominator, numerator, parts_of, unsigned_text}
+use Rattle.numerals.specs.Numeral.{denominator, numerator, parts_of}
+use Rattle.numerals.specs.Whole.{is_numeral}
 use Rattle.attributes.specs.declared.rules.Reals.{Reals}
 use Rattle.attributes.specs.declared.rules.Reals.TheVariants.{Whole, Text, Refuse}
 
@@ -27,10 +28,6 @@ has_fraction text = (parts_of text).point && length (parts_of text).exponent == 
 -- stays as it is written
 abbrev pub spelled : List ℕ → List ℕ
 spelled text = if has_fraction text then take (point_cut text (zeros_cut text (length text))) text else text
-
--- perhaps a minus, then digits, perhaps with a point, then perhaps an exponent, and nothing else [RFC 8259, section 6]
-abbrev pub is_numeral : List ℕ → Bool
-is_numeral text = has_digits (parts_of text) && (parts_of text).len == length (unsigned_text text)
 
 -- the whole number of 64 bits that a numeral is, as `serde_json` reads it: with no fraction and no exponent, and not `-0`
 abbrev pub whole : Option Num → Option Num

@@ -6,7 +6,6 @@ pub mod info;
 pub mod judge;
 pub mod laws;
 mod numeral;
-mod stub;
 mod properties;
 pub mod read;
 pub mod rules;

@@ -1,13 +1,13 @@
 //! Numerals as whole numbers, and as texts.
 ghost use Rattle.attributes.specs.Numerals.{has_fraction, in_64_bits, integer_of, point_cut, scaled, signed_of, spelled, whole_of, written_whole, zeros_cut};
 ghost use Rattle.fast_float.specs.Text.{with_sign};
+ghost use Rattle.numerals.specs.Numeral.{parts_of};
 ghost use Rattle.serde_json.specs.View.{number_view};
 ghost use Rattle.std.specs.Prelude.{◌≡◌, ◌≤◌, length, option_and_then, option_map};
 
 use crate::rules::Reals;
 use fast_float::Numeral;
-use crate::stub::whole;
-use numerals::{DecimalStep, snap};
+use numerals::{DecimalStep, snap, whole};
 use reading::tokens::number::read_number;
 use serde_json::Number;
 
@@ -101,13 +101,20 @@ fn without_point(bytes: &[u8], kept: usize) -> usize
     }
 }
 
+/// The parts of a numeral that may have a minus in front.
+pub fn scan(bytes: &[u8]) -> Numeral<'_>
+    ensures { result ≡ parts_of bytes.now }
+{
+    match bytes {
+        [b'-', rest @ ..] => Numeral::scan(rest),
+        _ => Numeral::scan(bytes),
+    }
+}
+
 fn has_fraction(bytes: &[u8]) -> bool
     ensures { result ≡ has_fraction bytes.now }
 {
-    let numeral = match bytes {
-        [b'-', rest @ ..] => Numeral::scan(rest),
-        _ => Numeral::scan(bytes),
-    };
+    let numeral = scan(bytes);
     numeral.has_point() && numeral.exponent().is_empty()
 }
 

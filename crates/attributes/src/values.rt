@@ -13,7 +13,8 @@ use faults::OutOfMemory;
 use serde_json::{Map, Number, Value, put};
 use std::alloc::Global;
 
-fn places_of(scales: &[Scale<'_>], name: &str) -> Option<u32>
+/// The places by which a property is scaled, as the first of its scales says.
+pub fn places_of(scales: &[Scale<'_>], name: &str) -> Option<u32>
     ensures { result ≡ places_of scales.now name.now }
 {
     for scale in scales {
@@ -32,7 +33,12 @@ fn scale_property(scales: &[Scale<'_>], name: &str, value: &json::Value<'_>) -> 
     scale(text, places)
 }
 
-fn convert_number(alloc: Global, rule: Reals, text: &str, reals: &mut u64) -> Result<Value, OutOfMemory>
+fn convert_number(
+    alloc: Global,
+    rule: Reals,
+    text: &str,
+    reals: &mut u64,
+) -> Result<Value, OutOfMemory>
     ensures made { IfOk result (λ v. view v ≡ number_value rule text.now) }
     ensures reals { OnOk result (counted reals.new ≡ counted (reals.old + one_if (not (is_some (whole_of rule text.now))))) }
 {
