@@ -20,8 +20,8 @@ use Rattle.decimal_maps.specs.Geometries.{IsGeometry, IsGeometryOrNull, IsSimple
 use Rattle.decimal_maps.specs.Roots.{IsFeatureCollection, IsMap, IsOneFeature}
 use Rattle.decimal_maps.specs.Tally.{nothing_counted}
 use Rattle.decimal_maps.specs.declared.feature.RawFeature.{RawFeature}
-use Rattle.decimal_maps.specs.declared.kind.GeometryKind.{GeometryKind}
-use Rattle.decimal_maps.specs.declared.kind.GeometryKind.TheVariants as kind
+use Rattle.reading.specs.declared.geometry.GeometryType.{GeometryType}
+use Rattle.reading.specs.declared.geometry.GeometryType.TheVariants as kind
 use Rattle.decimal_maps.specs.declared.rules.DecimalGrid.{DecimalGrid}
 use Rattle.decimal_maps.specs.declared.rules.MapRules.{MapRules}
 use Rattle.decimal_maps.specs.declared.tally.Tally.{Tally}
@@ -87,7 +87,7 @@ module _ (rules : MapRules) (fixing : FixingRules) (measured : IsMeasure rules.g
 
   -- ---- roots
 
-  root_named : (j : Json) (k : GeometryKind) → root_faults rules fixing j (Ok (kind_name k)) ≡ geometry_faults rules.grid fixing j
+  root_named : (j : Json) (k : GeometryType) → root_faults rules fixing j (Ok (kind_name k)) ≡ geometry_faults rules.grid fixing j
   root_named j kind.Point = refl
   root_named j kind.MultiPoint = refl
   root_named j kind.LineString = refl

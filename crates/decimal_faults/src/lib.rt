@@ -5,13 +5,13 @@
 #![tactic(auto)]
 
 mod coordinates;
-mod feature;
+pub mod feature;
 pub mod geometry;
 pub mod laws;
-mod lists;
-mod members;
-mod outline;
-mod part;
+pub mod lists;
+pub mod members;
+pub mod outline;
+pub mod part;
 mod position;
 mod root;
 
