@@ -1,7 +1,6 @@
 -- What positions and lists of them mean is one.
-use Rattle.std.proofs.Common.{◌≡◌, ◌≢◌, ℕ, ℤ, pos, List, [], ◌∷◌, Option, Some, None, refl, sym, ap, ◌∙◌, subst}
+use Rattle.std.proofs.Common.{◌≡◌, ◌≢◌, ℕ, ℤ, List, [], ◌∷◌, refl, sym, ap, ◌∙◌, subst}
 use Rattle.json.specs.Json.{Json, null, boolean, number, string, array, object, Items, no_items, item}
-use Rattle.json.specs.Find.{as_number}
 use Rattle.faults.specs.Fault.{Pair}
 use Rattle.fixing.specs.declared.rules.FixingRules.{FixingRules}
 use Rattle.grid.specs.Fits.{x_of, y_of}

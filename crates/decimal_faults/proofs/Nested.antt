@@ -1,5 +1,5 @@
 -- Geometries of collections: their faults, their shapes, and how deep they nest.
-use Rattle.std.proofs.Common.{◌≡◌, ◌≢◌, ℕ, zero, suc, ◌+◌, ◌<◌, ◌≤◌, max, length, get_or, drop, Bool, true, false, cond, List, [], ◌∷◌, ◌++◌, Option, Some, None, Result, Ok, Err, option_map, is_some, codes, bytes_eq, if◌then◌else◌, ◌⊎◌, inl, inr, refl, sym, ap, ◌∙◌, subst, arith, append_assoc, append-nil}
+use Rattle.std.proofs.Common.{◌≡◌, ◌≢◌, ℕ, zero, suc, ◌+◌, ◌<◌, ◌≤◌, length, get_or, drop, Bool, true, false, cond, List, [], ◌∷◌, ◌++◌, Option, Some, None, Result, Ok, Err, option_map, is_some, codes, bytes_eq, if◌then◌else◌, ◌⊎◌, inl, inr, refl, sym, ap, ◌∙◌, subst, arith, append_assoc, append-nil}
 use Rattle.std.proofs.lemmas.List.{drop_more, drop_all}
 use Rattle.std.specs.declared.alloc.Global.{Global}
 use Rattle.json.specs.Json.{Json, null, boolean, number, string, array, object, Items, no_items, item, Members, no_members, member}
@@ -8,7 +8,6 @@ use Rattle.json.specs.Tree.{depth, items_depth, members_depth}
 use Rattle.json.specs.Value.{value_view, items_view}
 use Rattle.json.specs.declared.value.Value.{Value}
 use Rattle.faults.specs.Path.{name, index}
-use Rattle.faults.specs.Fault.{Pair}
 use Rattle.faults.specs.declared.fault.FaultKind.{FaultKind}
 use Rattle.faults.specs.declared.fault.FaultKind.TheVariants.{WrongKind, UnknownType}
 use Rattle.fixing.specs.declared.raw.RawShape.{RawShape}
@@ -17,7 +16,7 @@ use Rattle.reading.specs.Fault.{here, under}
 use Rattle.reading.specs.Parts.{named, text_or_fault, typed_faults}
 use Rattle.reading.specs.Types.{geometry_named}
 use Rattle.reading.specs.declared.geometry.GeometryType.{GeometryType}
-use Rattle.decimal_maps.specs.Geometries.{AreShapes, none, simple, nested, HasGeometries, IsCollection, IsShape, IsSimple, kind_name, kind_of}
+use Rattle.decimal_maps.specs.Geometries.{AreShapes, none, simple, nested, IsCollection, IsSimple, kind_name}
 use Rattle.decimal_maps.specs.declared.rules.DecimalGrid.{DecimalGrid}
 use Rattle.decimal_maps.specs.declared.tally.Tally.{Tally}
 use Rattle.decimal_maps.proofs.Naming.{name_is, pick}

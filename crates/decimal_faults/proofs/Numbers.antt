@@ -1,6 +1,5 @@
 -- Numerals, and the whole numbers of steps that are nearest to them.
-use Rattle.std.proofs.Common.{◌≡◌, ℕ, zero, suc, ◌+◌, ◌*◌, ◌/◌, ◌^◌, ◌<◌, ◌≤◌, min, Bool, true, false, ◌&&◌, ◌==◌, nat_eq, nat_le, ◌↔◌, ℤ, pos, List, [], length, Option, Some, None, refl, sym, ap, ◌∙◌, subst, inl, inr, arith, le-leb, leb-true, if◌then◌else◌, eq-eqb, eqb-true, mul-le-mul_right, unsigned_abs}
-use Rattle.std.proofs.lemmas.Bool.{lt-leb}
+use Rattle.std.proofs.Common.{◌≡◌, ℕ, zero, suc, ◌+◌, ◌*◌, ◌/◌, ◌^◌, ◌<◌, ◌≤◌, min, Bool, true, false, ◌&&◌, nat_eq, nat_le, ℤ, List, [], length, Some, refl, sym, ap, ◌∙◌, subst, arith, le-leb, leb-true, if◌then◌else◌, eq-eqb, eqb-true, mul-le-mul_right, unsigned_abs}
 use Rattle.std.proofs.lemmas.Nat.{div-add-mod', mod_below}
 use Rattle.std.specs.Str.Parse.{starts_with_minus}
 use Rattle.fast_float.proofs.ExactLemmas.{ten_to_pos}
@@ -12,7 +11,7 @@ use Rattle.grid.specs.Place.{IsGridNumber}
 use Rattle.grid.proofs.Judged.{both_first, both_second}
 use Rattle.numerals.specs.Nearest.{IsNearest, IsRounded}
 use Rattle.numerals.specs.Numeral.{Measure, IsMeasure, IsNumeral, IsSnapped, dividend, divisor, parts_of, unsigned_text}
-use Rattle.numerals.proofs.Nearest.{from_nearest, to_nearest, one_rounded}
+use Rattle.numerals.proofs.Nearest.{from_nearest, one_rounded}
 use Rattle.numerals.proofs.Steps.{dividend_is, grid_size, signed_nearest}
 use Rattle.reading.specs.Fault.{here}
 use Rattle.decimal_faults.specs.Positions.{steps_of, nearest_of, is_numeral, number_faults}

@@ -1,5 +1,5 @@
 -- Geometries that have no faults are those of which the fixing rules leave something.
-use Rattle.std.proofs.Common.{◌≡◌, ◌↔◌, ℕ, ◌+◌, List, [], ◌++◌, map, Bool, true, false, cond, Option, Some, None, Ok, Vec, refl, sym, ap, ap₂, subst, ◌∙◌, codes, option_map, if◌then◌else◌}
+use Rattle.std.proofs.Common.{◌≡◌, ◌↔◌, ℕ, ◌+◌, List, [], map, Bool, true, false, cond, Option, Some, None, Ok, Vec, refl, sym, ap, ap₂, subst, ◌∙◌, codes, option_map, if◌then◌else◌}
 use Rattle.std.specs.List.{AllByRecursion}
 use Rattle.std.specs.Str.{bytes_eq}
 use Rattle.std.specs.declared.alloc.Global.{Global}

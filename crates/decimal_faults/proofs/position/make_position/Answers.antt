@@ -1,4 +1,4 @@
-use Rattle.std.proofs.Common.{◌≡◌, refl, rules}
+use Rattle.std.proofs.Common.{refl, rules}
 use Rattle.decimal_faults.proofs.MadePositions.{both_refused, heights_refused, position_made, second_refused}
 use Rattle.decimal_faults.proofs.position.make_position.Goals as goal
 
