@@ -4,7 +4,8 @@
 //! stitched together to lists of positions; so what is made of a topology is what is made of GeoJSON in decimal numbers.
 #![tactic(auto)]
 
-// mod arcs;
-// mod places;
-// mod transform;
+mod arcs;
+mod axes;
 pub mod place;
+mod places;
+mod transform;
