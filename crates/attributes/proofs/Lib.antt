@@ -1,8 +1,11 @@
 pub mod Cut
 pub mod Scaling
+pub mod Worth
 pub mod Keeping
 pub mod Whole
 pub mod Loops
 pub mod Judging
 pub mod Order
 pub mod Same
+pub mod Printing
+pub mod Gathering

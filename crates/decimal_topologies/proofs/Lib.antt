@@ -1,6 +1,13 @@
 pub mod Snapped
 pub mod Positions
+pub mod Heights
 pub mod Table
 pub mod Fits
 pub mod Numerals
-pub mod Heights
+pub mod Tables
+pub mod Judging
+pub mod Stitches
+pub mod Faulty
+pub mod Nested
+pub mod Layered
+pub mod Marked

@@ -5,3 +5,8 @@ pub mod Places
 pub mod Placed
 pub mod Arcs
 pub mod Transforms
+pub mod Stitching
+pub mod Geometries
+pub mod Features
+pub mod Layers
+pub mod Used

@@ -6,6 +6,15 @@
 
 mod arcs;
 mod axes;
+mod bodies;
+mod feature;
+mod geometry;
+mod numbers;
+pub mod objects;
 pub mod place;
 mod places;
+mod stitching;
 mod transform;
+mod used;
+
+pub use objects::TopologyLayer;
