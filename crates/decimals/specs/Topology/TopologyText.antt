@@ -14,7 +14,7 @@ use Rattle.topo.specs.declared.geom.Body.TheVariants as of
 use Rattle.topo.specs.declared.geom.Geom.{Geom}
 use Rattle.shapes.specs.Writing.Members.{id_text, properties_member}
 use Rattle.decimals.specs.Topology.Turning.{rewound_layers}
-use Rattle.decimals.specs.Topology.Unit.{steps_text}
+use Rattle.decimals.specs.Topology.Unit.{absolute_text}
 use Rattle.numerals.specs.Numeral.{Measure}
 
 abbrev pub list_of_lists : List (List ArcRef) → List ℕ
@@ -40,12 +40,12 @@ layer_text l = spelling_of (spelled_text l.name) ++ (codes ":{\"type\":\"Geometr
 
 -- the member `transform`, in the unit of the map [TopoJSON, 2.1.2]
 abbrev pub transform_text : Measure → Transform → List ℕ
-transform_text s t = codes "\"transform\":{\"scale\":[" ++ (steps_text s t.x.scale ++ (codes "," ++ (steps_text s t.y.scale
-    ++ (codes "],\"translate\":[" ++ (steps_text s t.x.translate ++ (codes "," ++ (steps_text s t.y.translate ++ codes "]},")))))))
+transform_text s t = codes "\"transform\":{\"scale\":[" ++ (absolute_text s t.x.scale ++ (codes "," ++ (absolute_text s t.y.scale
+    ++ (codes "],\"translate\":[" ++ (absolute_text s t.x.translate ++ (codes "," ++ (absolute_text s t.y.translate ++ codes "]},")))))))
 
 -- the member `bbox`, in the unit of the map [TopoJSON, 3]
 abbrev pub bbox_text : Measure → Corners → List ℕ
-bbox_text s c = codes "\"bbox\":[" ++ (steps_text s c.0 ++ (codes "," ++ (steps_text s c.1 ++ (codes "," ++ (steps_text s c.2 ++ (codes "," ++ (steps_text s c.3 ++ codes "],")))))))
+bbox_text s c = codes "\"bbox\":[" ++ (absolute_text s c.0 ++ (codes "," ++ (absolute_text s c.1 ++ (codes "," ++ (absolute_text s c.2 ++ (codes "," ++ (absolute_text s c.3 ++ codes "],")))))))
 
 -- the members `objects` and `arcs`
 abbrev pub content_text : List LayerParts → List (List Pos) → List ℕ

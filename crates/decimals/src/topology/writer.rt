@@ -1,7 +1,7 @@
 //! Whole topologies.
 ghost use Rattle.decimals.specs.Topology.Turning.{rewound_layers};
 ghost use Rattle.decimals.specs.Topology.TopologyText.{bbox_text, content_text, transform_text, unit_text};
-ghost use Rattle.decimals.specs.Topology.Unit.{steps_text};
+ghost use Rattle.decimals.specs.Topology.Unit.{absolute_text};
 ghost use Rattle.decimals.specs.declared.topology.fault.DecimalFault.TheVariants.{TooManyDigits};
 ghost use Rattle.sinks.specs.Texts.{option_text};
 ghost use Rattle.sinks.specs.Writes.{TookAll};
@@ -21,14 +21,14 @@ use std::alloc::Global;
 use topo::topology::{Layer, Topology};
 use topo::writing::ArcsText;
 
-/// The text of so many steps.
-fn number_text(alloc: Global, step: &DecimalStep, steps: i64) -> Result<String, DecimalFault>
-    ensures text { IfOk result (λ t. string_bytes t ≡ steps_text step.now steps) }
-    ensures within { OnOk result (step.now.places ≤ 30) }
-    ensures refused { result ≡ Err DecimalFault.TooManyDigits → 30 < step.now.places }
+/// The text of an absolute number.
+fn number_text(alloc: Global, unit: &DecimalStep, number: i64) -> Result<String, DecimalFault>
+    ensures text { IfOk result (λ t. string_bytes t ≡ absolute_text unit.now number) }
+    ensures within { OnOk result (unit.now.places ≤ 30) }
+    ensures refused { result ≡ Err DecimalFault.TooManyDigits → 30 < unit.now.places }
 {
-    match Decimal::of_steps(steps, step) {
-        Some(number) => Ok(number.to_text(alloc)?),
+    match Decimal::of_steps(number, unit) {
+        Some(decimal) => Ok(decimal.to_text(alloc)?),
         None => Err(DecimalFault::TooManyDigits),
     }
 }
@@ -40,15 +40,15 @@ struct NumberPair {
     second: String,
 }
 
-/// The texts of so many steps in x and in y.
-fn pair_of(alloc: Global, step: &DecimalStep, x: i64, y: i64) -> Result<NumberPair, DecimalFault>
-    ensures first { IfOk result (λ p. string_bytes p.first ≡ steps_text step.now x) }
-    ensures second { IfOk result (λ p. string_bytes p.second ≡ steps_text step.now y) }
-    ensures within { OnOk result (step.now.places ≤ 30) }
-    ensures refused { result ≡ Err DecimalFault.TooManyDigits → 30 < step.now.places }
+/// The texts of an absolute number in x and of one in y.
+fn pair_of(alloc: Global, unit: &DecimalStep, x: i64, y: i64) -> Result<NumberPair, DecimalFault>
+    ensures first { IfOk result (λ p. string_bytes p.first ≡ absolute_text unit.now x) }
+    ensures second { IfOk result (λ p. string_bytes p.second ≡ absolute_text unit.now y) }
+    ensures within { OnOk result (unit.now.places ≤ 30) }
+    ensures refused { result ≡ Err DecimalFault.TooManyDigits → 30 < unit.now.places }
 {
-    let first = number_text(alloc, step, x)?;
-    let second = number_text(alloc, step, y)?;
+    let first = number_text(alloc, unit, x)?;
+    let second = number_text(alloc, unit, y)?;
     Ok(NumberPair { first, second })
 }
 
@@ -70,16 +70,16 @@ fn write_pair<W: Sink>(
 fn write_transform<W: Sink>(
     alloc: Global,
     grid: &Grid,
-    step: &DecimalStep,
+    unit: &DecimalStep,
     out: &mut W,
 ) -> Result<(), DecimalFault>
-    ensures text { OnOk result (TookAll (W.seen out.old) (W.seen out.new) (transform_text step.now grid.now)) }
-    ensures within { OnOk result (step.now.places ≤ 30) }
-    ensures refused { result ≡ Err DecimalFault.TooManyDigits → 30 < step.now.places }
+    ensures text { OnOk result (TookAll (W.seen out.old) (W.seen out.new) (transform_text unit.now grid.now)) }
+    ensures within { OnOk result (unit.now.places ≤ 30) }
+    ensures refused { result ≡ Err DecimalFault.TooManyDigits → 30 < unit.now.places }
 {
     let (scale, translate) = (grid.scale(), grid.translate());
-    let size = pair_of(alloc, step, scale.0, scale.1)?;
-    let place = pair_of(alloc, step, translate.0, translate.1)?;
+    let size = pair_of(alloc, unit, scale.0, scale.1)?;
+    let place = pair_of(alloc, unit, translate.0, translate.1)?;
     write_pair(b"\"transform\":{\"scale\":[", &size, b"]", out)?;
     write_pair(b",\"translate\":[", &place, b"]},", out)?;
     Ok(())
@@ -89,17 +89,17 @@ fn write_transform<W: Sink>(
 fn write_bbox<W: Sink>(
     alloc: Global,
     bbox: Option<(i64, i64, i64, i64)>,
-    step: &DecimalStep,
+    unit: &DecimalStep,
     out: &mut W,
 ) -> Result<(), DecimalFault>
-    ensures text { OnOk result (TookAll (W.seen out.old) (W.seen out.new) (option_text (bbox_text step.now) bbox)) }
-    ensures refused { result ≡ Err DecimalFault.TooManyDigits → 30 < step.now.places }
+    ensures text { OnOk result (TookAll (W.seen out.old) (W.seen out.new) (option_text (bbox_text unit.now) bbox)) }
+    ensures refused { result ≡ Err DecimalFault.TooManyDigits → 30 < unit.now.places }
 {
     let Some((west, south, east, north)) = bbox else {
         return Ok(());
     };
-    let least = pair_of(alloc, step, west, south)?;
-    let greatest = pair_of(alloc, step, east, north)?;
+    let least = pair_of(alloc, unit, west, south)?;
+    let greatest = pair_of(alloc, unit, east, north)?;
     write_pair(b"\"bbox\":[", &least, b",", out)?;
     write_pair(b"", &greatest, b"],", out)?;
     Ok(())
@@ -136,25 +136,25 @@ fn write_turned<W: Sink>(
     Ok(())
 }
 
-/// The text of a topology in the unit of the map: `type` first, the numbers of the transform and the bounding box
-/// times the step, all exactly, and the rings of polygons turned as they are wanted.
+/// The text of a topology in the unit of the map, of which an absolute 1 is worth `unit`: `type` first, the numbers of
+/// the transform and the bounding box times that, all exactly, and the rings of polygons turned as they are wanted.
 ///
 /// # Errors
-/// `TooManyDigits` where the step has more than 30 places; `OutOfMemory`.
+/// `TooManyDigits` where `unit` has more than 30 places; `OutOfMemory`.
 pub fn text_of(
     alloc: Global,
     topology: &Topology,
-    step: &DecimalStep,
+    unit: &DecimalStep,
     rewind: Rewind,
 ) -> Result<Vec<u8>, DecimalFault>
-    ensures text { IfOk result (λ t. t.items ≡ unit_text step.now rewind topology.now) }
-    ensures within { OnOk result (step.now.places ≤ 30) }
-    ensures refused { result ≡ Err DecimalFault.TooManyDigits → 30 < step.now.places }
+    ensures text { IfOk result (λ t. t.items ≡ unit_text unit.now rewind topology.now) }
+    ensures within { OnOk result (unit.now.places ≤ 30) }
+    ensures refused { result ≡ Err DecimalFault.TooManyDigits → 30 < unit.now.places }
 {
     let mut out = Kept::new(alloc);
     Text(b"{\"type\":\"Topology\",").write(&mut out)?;
-    write_transform(alloc, &topology.grid(), step, &mut out)?;
-    write_bbox(alloc, topology.bbox(), step, &mut out)?;
+    write_transform(alloc, &topology.grid(), unit, &mut out)?;
+    write_bbox(alloc, topology.bbox(), unit, &mut out)?;
     write_turned(alloc, topology, rewind, &mut out)?;
     Ok(out.into_bytes())
 }
