@@ -1,9 +1,9 @@
 -- Texts that are written in pieces.
-use Rattle.std.proofs.Common.{codes, ◌≡◌, ℕ, ℤ, List, ◌++◌, subst, ap, ◌∙◌, append_assoc}
+use Rattle.std.proofs.Common.{codes, ◌≡◌, ℕ, ℤ, List, ◌++◌, refl, subst, ap, ◌∙◌, append_assoc}
 use Rattle.sinks.specs.Seen.{Seen}
 use Rattle.sinks.specs.Writes.{TookAll}
 use Rattle.sinks.proofs.Writes.{all_all}
-use Rattle.decimals.specs.Topology.TopologyText.{bbox_text, transform_text}
+use Rattle.decimals.specs.Topology.TopologyText.{bbox_text, transform_member, transform_text}
 use Rattle.decimals.specs.Topology.Unit.{absolute_text}
 use Rattle.numerals.specs.Numeral.{Measure}
 use Rattle.grid.specs.Place.{Transform}
@@ -31,6 +31,18 @@ transform_is u g s d a b x y scales places ea eb ex ey =
     let third : x ≡ absolute_text u g.x.translate = ex ∙ ap (λ (p : ℤ × ℤ). absolute_text u p.0) places in
     let fourth : y ≡ absolute_text u g.y.translate = ey ∙ ap (λ (p : ℤ × ℤ). absolute_text u p.1) places in
     (λ i. codes "\"transform\":{\"scale\":[" ++ (first i ++ (codes "," ++ (second i ++ (codes "]" ++ (codes ",\"translate\":[" ++ (third i ++ (codes "," ++ (fourth i ++ codes "]},")))))))))
+
+-- the member `transform` of four numerals, as it is written
+pub member_is : (a b x y : List ℕ)
+    → codes "\"transform\":{\"scale\":[" ++ (a ++ (codes "," ++ (b ++ (codes "]" ++ (codes ",\"translate\":[" ++ (x ++ (codes "," ++ (y ++ codes "]},")))))))) ≡ transform_member a b x y
+member_is a b x y = refl
+
+-- a text in three pieces, of which the first is three
+pub content_pieces : {w x y z : Seen} (h a m b t : List ℕ) → TookAll w x (h ++ (a ++ m)) → TookAll x y b → TookAll y z t → TookAll w z (h ++ (a ++ (m ++ (b ++ t))))
+content_pieces {w} {x} {y} {z} h a m b t p q r = subst (λ l. TookAll w z l) (regrouped h a m b t) (all_all p (all_all q r))
+  where
+    regrouped : (h a m b t : List ℕ) → (h ++ (a ++ m)) ++ (b ++ t) ≡ h ++ (a ++ (m ++ (b ++ t)))
+    regrouped h a m b t = simp append_assoc
 
 -- the member `bbox`, as it is written
 pub bbox_is : (u : Measure) (c : Corners) (a b x y : List ℕ) → a ≡ absolute_text u c.0 → b ≡ absolute_text u c.1 → x ≡ absolute_text u c.2 → y ≡ absolute_text u c.3
