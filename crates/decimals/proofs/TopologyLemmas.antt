@@ -1,4 +1,8 @@
 pub mod Areas
+pub mod Boxes
+pub mod Numbers
 pub mod Parts
+pub mod Powers
 pub mod SinkLemmas
+pub mod Transforms
 pub mod Whole
