@@ -3,6 +3,7 @@ use Rattle.std.proofs.Common.{◌≡◌, ℕ, ◌+◌, List, [], ◌∷◌, ◌+
 use Rattle.decimal_maps.specs.Tally.{nothing_counted}
 use Rattle.decimal_maps.specs.declared.feature.RawFeature.{RawFeature}
 use Rattle.decimal_maps.specs.declared.tally.Tally.{Tally}
+use Rattle.fixing.specs.Counts.{sum_of_counts}
 use Rattle.fixing.specs.declared.rules.FixingRules.{FixingRules}
 use Rattle.rounded_maps.specs.Fixed.{AreFixed, HasMore, IsFixedMap, reals_from, sum_of_tallies, tally_from}
 use Rattle.rounded_maps.specs.declared.map.RoundedFeature.{RoundedFeature}
@@ -22,7 +23,7 @@ tally_behind t (raw ∷ raws) others = tally_behind (sum_of_tallies t raw.tally)
 
 reals_behind : (n : ℕ) (raws others : List RawFeature) → reals_from n (raws ++ others) ≡ reals_from (reals_from n raws) others
 reals_behind n [] others = refl
-reals_behind n (raw ∷ raws) others = reals_behind _ raws others
+reals_behind n (raw ∷ raws) others = reals_behind (sum_of_counts n raw.attributes.reals) raws others
 
 -- a map of fixed features, and then more
 pub with_more : (rules : FixingRules) (numbers : Bool) (raws others : List RawFeature) (old new : RoundedMap) → IsFixedMap rules numbers raws old → HasMore rules numbers others old new → IsFixedMap rules numbers (raws ++ others) new

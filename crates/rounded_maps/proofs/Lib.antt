@@ -5,3 +5,7 @@ mod Layers
 mod Fixing
 mod Faultless
 mod Parts
+mod Repeats
+mod LayerOrder
+mod Placed
+mod Reading

@@ -19,9 +19,13 @@ pub record Printed : Type 0 where
   pub properties : List ℕ
   pub shape : Shape
 
+-- a fixed feature for one of its shapes
+abbrev pub printed_shape : List ℕ → RoundedFeature → Shape → Printed
+printed_shape layer f s = record { layer = layer; id = f.feature.id; properties = properties_text f.feature.props; shape = s }
+
 -- the features that a fixed feature stands for, each with the number that this one has in its map
 abbrev pub features_of : List ℕ → ℕ → RoundedFeature → List (ℕ × Printed)
-features_of layer n f = map_list (λ s. (n, record { layer = layer; id = f.feature.id; properties = properties_text f.feature.props; shape = s })) f.feature.shapes.items
+features_of layer n f = map_list (λ s. (n, printed_shape layer f s)) f.feature.shapes.items
 
 -- those of the features of a map, of which the first has the number n
 abbrev pub features_from : List ℕ → ℕ → List RoundedFeature → List (ℕ × Printed)
@@ -54,6 +58,11 @@ printed f = record { layer = f.layer.now; id = f.id.now; properties = properties
 -- the set holds the features that were seen
 abbrev pub Holds : BTreeSet LayerFeature → List Printed → Type 0
 Holds set seen = (p : Printed) → Has p (map_list printed set.keys) ↔ Has p seen
+
+-- a feature is seen too, and if it equals one that was, its number is behind others
+pub record IsSeen (f : ℕ × Printed) (before after : BTreeSet LayerFeature) (old new : List ℕ) : Type 0 where
+  pub holds : (seen : List Printed) → Holds before seen → Holds after (f.1 ∷ seen)
+  pub found : ((¬ Has f.1 (map_list printed before.keys)) × (new ≡ old)) ⊎ (Has f.1 (map_list printed before.keys) × (new ≡ old ++ f.0 ∷ []))
 
 -- these features are seen too, and the numbers of those that equal an earlier one are behind others
 abbrev pub FindsRepeats : List (ℕ × Printed) → BTreeSet LayerFeature → BTreeSet LayerFeature → List ℕ → List ℕ → Type 0

@@ -17,7 +17,7 @@ ghost use Rattle.shapes.specs.Maps.{set_of as features_set};
 ghost use Rattle.snapping.specs.NearlyShared.Joined.{target_in};
 ghost use Rattle.snapping.specs.NearlyShared.Uses.{shapes_uses};
 ghost use Rattle.std.specs.FinMap as finite;
-ghost use Rattle.std.specs.Prelude.{◌≡◌, ◌⊎◌, ◌+◌, ◌++◌, ◌∷◌, [], ℕ, Bool, IfErr, IfOk, List, OnOk, get_or, length, map};
+ghost use Rattle.std.specs.Prelude.{◌≡◌, ◌⊎◌, ◌+◌, ◌++◌, ◌∷◌, [], ℕ, Bool, IfErr, IfOk, List, OnOk, get_or, length, map, string_bytes};
 
 use crate::equal::{EqualFeatures, find_equal_features};
 use crate::joining::join_map;
@@ -257,6 +257,16 @@ fn outcomes_of(alloc: Global, maps: &[RoundedMap]) -> Result<Vec<Outcome>, OutOf
     Ok(outcomes)
 }
 
+/// The name of a map's layer.
+fn layer_name(alloc: Global, names: &[&str], origin: &Origin) -> Result<String, OutOfMemory>
+    ensures { IfOk result (λ layer. string_bytes layer ≡ layer_of (map (λ n. n.now) names.now) origin.now) }
+{
+    match &origin.layer {
+        Some(layer) => Ok(String::from_str(alloc, layer.as_str())?),
+        None => Ok(String::from_str(alloc, name_at(names, origin.text))?),
+    }
+}
+
 /// The name at a place, or an empty one.
 fn name_at<'n>(names: &[&'n str], place: usize) -> &'n str
     ensures { result.now ≡ get_or (map (λ n. n.now) names.now) place [] }
@@ -269,20 +279,16 @@ fn name_at<'n>(names: &[&'n str], place: usize) -> &'n str
 
 /// The names of the layers of maps: those that their files give them, else the caller's names of the files. One that is
 /// missing is empty.
-fn layer_names<'n>(
+fn layer_names(
     alloc: Global,
-    names: &[&'n str],
-    origins: &'n [Origin],
-) -> Result<Vec<&'n str>, OutOfMemory>
-    ensures { IfOk result (λ layers. map (λ n. n.now) layers.items ≡ map (layer_of (map (λ n. n.now) names.now)) origins.now) }
+    names: &[&str],
+    origins: &[Origin],
+) -> Result<Vec<String>, OutOfMemory>
+    ensures { IfOk result (λ layers. map string_bytes layers.items ≡ map (layer_of (map (λ n. n.now) names.now)) origins.now) }
 {
     let mut layers = Vec::new(alloc);
     for origin in origins {
-        let layer = match &origin.layer {
-            Some(layer) => layer.as_str(),
-            None => name_at(names, origin.text),
-        };
-        layers.push(layer)?;
+        layers.push(layer_name(alloc, names, origin)?)?;
     }
     Ok(layers)
 }
@@ -312,7 +318,9 @@ fn report_of(
     clusters: Option<Clusters>,
     rules: &BuildRules<'_>,
 ) -> Result<(Vec<RoundedMap>, Rounded), MapsFault>
-    ensures { IfOk result (λ r. (r.0 ≡ read.maps) × (r.1.origins ≡ read.origins) × (r.1.clusters ≡ clusters) × IsReport rules.now (map (λ n. n.now) names.now) r.0.items r.1) }
+    ensures same { IfOk result (λ r. (r.0 ≡ read.maps) × (r.1.origins ≡ read.origins) × (r.1.clusters ≡ clusters)) }
+    ensures report { IfOk result (λ r. IsReport rules.now (map (λ n. n.now) names.now) r.0.items r.1) }
+    ensures want { IfErr result (λ e. e ≡ WantOfMemory) }
 {
     let outcomes = outcomes_of(alloc, read.maps.as_slice())?;
     let counts = counts_of(alloc, read.maps.as_slice(), rules)?;
@@ -405,10 +413,10 @@ fn set_of(alloc: Global, map: RoundedMap) -> Result<BTreeSet<Feature>, OutOfMemo
 /// The layers of maps. Maps of one name are one layer.
 fn layers_of(
     alloc: Global,
-    names: Vec<&str>,
+    names: Vec<String>,
     maps: Vec<RoundedMap>,
 ) -> Result<FeatureMap, OutOfMemory>
-    ensures { IfOk result (AreLayersWith finite.empty (map (λ n. n.now) names.entry.items) maps.items) }
+    ensures { IfOk result (AreLayersWith finite.empty (map string_bytes names.items) maps.items) }
 {
     let mut layers = FeatureMap::new(alloc);
     let mut names = names.into_iter();
@@ -416,7 +424,7 @@ fn layers_of(
         let Some(name) = names.next() else {
             return Ok(layers);
         };
-        layers = layers.with_features(name, set_of(alloc, map)?)?;
+        layers = layers.with_features(name.as_str(), set_of(alloc, map)?)?;
     }
     Ok(layers)
 }

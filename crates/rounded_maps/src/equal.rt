@@ -1,6 +1,6 @@
 //! Features that equal an earlier one of their layer.
-ghost use Rattle.rounded_maps.specs.Equal.{AreEqual, FindsRepeats, features_from, features_of};
-ghost use Rattle.std.specs.Prelude.{◌≡◌, [], IfOk, OnOk, map as map_list};
+ghost use Rattle.rounded_maps.specs.Equal.{AreEqual, FindsRepeats, IsSeen, features_from, features_of, printed};
+ghost use Rattle.std.specs.Prelude.{[], IfOk, OnOk, map as map_list, string_bytes};
 
 use crate::map::{RoundedFeature, RoundedMap};
 use faults::OutOfMemory;
@@ -25,6 +25,22 @@ struct LayerFeature<'a> {
     shape: &'a Shape,
 }
 
+/// Adds the number of a feature if it equals one that was seen.
+fn find_one<'a>(
+    seen: &mut BTreeSet<LayerFeature<'a>>,
+    found: LayerFeature<'a>,
+    number: usize,
+    equal: &mut Vec<usize>,
+) -> Result<(), OutOfMemory>
+    ensures { OnOk result (IsSeen (number, printed found.entry) seen.old seen.new equal.old.items equal.new.items) }
+{
+    if seen.insert(found)? {
+        return Ok(());
+    }
+    equal.push(number)?;
+    Ok(())
+}
+
 /// Adds the number of a feature for each of its shapes by which it equals an earlier one.
 fn find_in_feature<'a>(
     seen: &mut BTreeSet<LayerFeature<'a>>,
@@ -42,9 +58,7 @@ fn find_in_feature<'a>(
             props: &feature.feature.props,
             shape,
         };
-        if !seen.insert(found)? {
-            equal.push(number)?;
-        }
+        find_one(seen, found, number, equal)?;
     }
     Ok(())
 }
@@ -68,15 +82,18 @@ fn find_in_map<'a>(
 /// The features of maps that equal an earlier one of their layer, for each map. Maps of one name are one layer.
 pub(crate) fn find_equal_features<'a>(
     alloc: Global,
-    layers: &'a [&'a str],
+    layers: &'a [String],
     maps: &'a [RoundedMap],
 ) -> Result<Vec<EqualFeatures>, OutOfMemory>
-    ensures { IfOk result (λ equal. AreEqual [] (map_list (λ n. n.now) layers.now) maps.now equal.items) }
+    ensures { IfOk result (λ equal. AreEqual [] (map_list string_bytes layers.now) maps.now equal.items) }
 {
     let mut seen = BTreeSet::new(alloc);
     let mut equal = Vec::new(alloc);
-    for (layer, map) in layers.iter().zip(maps) {
-        equal.push(find_in_map(alloc, &mut seen, *layer, map)?)?;
+    for (place, layer) in layers.iter().enumerate() {
+        let Some(map) = maps.get(place) else {
+            return Ok(equal);
+        };
+        equal.push(find_in_map(alloc, &mut seen, layer.as_str(), map)?)?;
     }
     Ok(equal)
 }

@@ -81,7 +81,7 @@ fn read_features(
 }
 
 /// The features of a text, of which the bytes have to be UTF-8.
-pub(crate) fn read_text(
+fn read_text(
     alloc: Global,
     bytes: &[u8],
     rules: &RoundingRules<'_>,
@@ -89,9 +89,12 @@ pub(crate) fn read_text(
     ensures read { IfOk result (λ fs. IsRead rules.now.map bytes.now fs.items) }
     ensures err { IfErr result (LeastOrWant (text_faults rules.now bytes.now)) }
 {
-    match simdutf8::compat::from_utf8(bytes) {
-        Ok(text) => read_features(alloc, text, rules),
-        Err(_) => Err(refuse(alloc, bytes, rules)),
+    let Ok(text) = simdutf8::compat::from_utf8(bytes) else {
+        return Err(refuse(alloc, bytes, rules));
+    };
+    match read_features(alloc, text, rules) {
+        Ok(features) => Ok(features),
+        Err(fault) => Err(fault),
     }
 }
 
