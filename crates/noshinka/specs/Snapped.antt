@@ -6,6 +6,7 @@ use Rattle.faults.specs.declared.fault.Fault.{Fault}
 use Rattle.fixing.specs.declared.rules.Collapsed.TheVariants.{Null}
 use Rattle.fixing.specs.declared.rules.FixingRules.{FixingRules}
 use Rattle.fixing.specs.declared.rules.Rewind.TheVariants.{Keep}
+use Rattle.attributes.specs.declared.rules.Reals.TheVariants as reals
 use Rattle.decimal_maps.specs.declared.rules.DecimalGrid.{DecimalGrid}
 use Rattle.numerals.specs.Numeral.{IsMeasure, IsUnsigned, measure_of}
 use Rattle.reading.specs.Fault.{LeastOrWant}
@@ -24,16 +25,16 @@ IsSize numeral = IsUnsigned numeral × IsMeasure (measure_of numeral) × (tens_d
 abbrev pub grid_within : List ℕ → ℕ → ℕ → DecimalGrid
 grid_within numeral x y = record { step = measure_of numeral; greatest_x = x; greatest_y = y; refuses_heights = false; measures = false }
 
--- what collapses becomes null, what is folded is split, so are collections, and rings are not turned
+-- what collapses becomes null, what is folded is split, so are collections, and rings are neither closed nor turned
 abbrev pub all_fixed : FixingRules
-all_fixed = record { collapsed = Null; splits_folded = true; splits_collections = true; rewind = Keep }
+all_fixed = record { collapsed = Null; closes_rings = false; splits_folded = true; splits_collections = true; rewind = Keep }
 
 -- the rules of that grid, where all is fixed, ids stay, no property is scaled, and numbers with a fraction become texts
 pub record AreRulesWithin (numeral : List ℕ) (x y : ℕ) (rules : RoundingRules) : Type 0 where
   pub grid : rules.map.grid ≡ grid_within numeral x y
   pub id : rules.map.attributes.id ≡ None
   pub scales : rules.map.attributes.scales.now ≡ []
-  pub reals : rules.map.attributes.refuses_reals ≡ false
+  pub reals : rules.map.attributes.reals ≡ reals.Text
   pub fixing : rules.fixing ≡ all_fixed
 
 -- no text stands for a millionth of a degree
