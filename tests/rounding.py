@@ -781,7 +781,7 @@ def file_lines(file, path):
         if count := file.count_of(name):
             yield f"  {count} {WORDS[name]}, the first in feature {min(number for number, it in file.fixed.items() if it[name])}"
     if file.equal:
-        yield f"  {len(file.equal)} features equal to earlier ones of their layer, the first is feature {file.equal[0]}"
+        yield f"  {len(file.equal)} features equal to others, the first is feature {file.equal[0]}"
 
 
 def pair_text(position, options):

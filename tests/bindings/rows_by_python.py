@@ -157,8 +157,8 @@ def answered(words, lent, given):
 
 
 def rounding(words):
-    """The step, whether a topology is built, and the names and files of words of togrid."""
-    step, is_build, names, left = "degrees", False, [], list(words)
+    """The step, whether a topology is built, and the names and files of words of togrid. The calls count steps, as with --unit."""
+    step, unit, is_build, names, left = "degrees", None, False, [], list(words)
     if "-q" not in left:
         raise NoCall
     left.remove("-q")
@@ -166,6 +166,8 @@ def rounding(words):
         word = left.pop(0)
         if word == "--step" and left:
             step = left.pop(0)
+        elif word == "--unit" and left:
+            unit = left.pop(0)
         elif word == "--build":
             is_build = True
         elif word.startswith("-"):
@@ -173,6 +175,10 @@ def rounding(words):
         else:
             name, equals, file = word.partition("=")
             names.append((name, file) if equals else (os.path.basename(word).partition(".")[0], word))
+            if word.endswith((".ndjson", ".geojsonl", ".geojsons")):
+                raise NoCall
+    if unit != (None if step == "degrees" else step):
+        raise NoCall
     return step, is_build, names
 
 
