@@ -5,7 +5,7 @@
 NOSHINKA_LIBRARY names the library, TOPOTOOL the program; where there is no program, the answers are compared with the rows
 themselves. A row is left out if its words are none of a call: help, wrong usage, files that can't be read. An answer is what
 the program would print and its status: the bytes of a text, or the line of an error with its number, name and path. Rows of
-togrid, which TOGRID names, are put through `snap` and `build` with a step. Ends with a line of counts, and with status 1 where
+togrid, which TOGRID names, are put through `snap` and `build` with a step: they do what it does with the options ROUNDED. Ends with a line of counts, and with status 1 where
 anything differs, or less than most rows were compared.
 """
 
@@ -40,6 +40,7 @@ OPTIONS = {
 WANTED = {"build": "--grid", "feature": "--layer", "neighbors": "--layer"}
 CHOICES = {"--shape": rows.SHAPES, "--edges": ["all", "interior", "exterior"]}
 FILES = {"remove": 2, "check": 1, "feature": 1, "mesh": 1, "neighbors": 1, "info": 1, "diff": 2}
+ROUNDED = ["--reals", "text", "--unclosed", "refuse"]
 LEAST_COMPARED = 1000
 LEAST_ROUNDED = 10
 
@@ -186,7 +187,7 @@ def rounded(words, lent):
     """What togrid would print for some words, and its status, by the package. The line of an error is the front of togrid's."""
     step, is_build, names = rounding(words)
     files = [file for _, file in names]
-    if any(file not in lent for file in files) or not (is_build or len(files) == 1):
+    if any(file not in lent or b'"Topology"' in lent[file] for file in files) or not (is_build or len(files) == 1):
         raise NoCall
     try:
         if is_build:
@@ -205,9 +206,10 @@ def wanted(row, lent):
         with tempfile.TemporaryDirectory() as folder:
             for name, text in lent.items():
                 rows.lay(folder, name, text)
-            ran = rows.called(folder, row["words"], row.get("input", b""), program)
+            words = row["words"] if program == "topotool" else [*ROUNDED, *row["words"]]
+            ran = rows.called(folder, words, row.get("input", b""), program)
         return ran.stdout, ran.stderr, ran.returncode
-    if {"answers", "complains", "help", "ending"} & row.keys():
+    if program == "togrid" or {"answers", "complains", "help", "ending"} & row.keys():
         return None
     whole = {**rows.WHOLE, **row}
     return whole["stdout"], whole["stderr"], whole["status"]
