@@ -89,10 +89,10 @@ class Maker:
     def __init__(self, chance, asked):
         self.chance, self.step = chance, asked.size
         self.far = 0.002 if chance.random() < 0.1 else 0
-        self.open = chance.choice([0, 0.02, 0.3]) if asked.unclosed == "close" else 0.003
+        self.open = chance.choice([0, 0.05, 0.3]) if asked.unclosed == "close" else chance.choice([0, 0.05])
         self.limits = [n + more for n in asked.limits for more in (-1, 0, 0, 1)]
         self.has_properties = 0.85 if asked.id is None else 0.99
-        self.is_great = 0.1 if not asked.scales else 0.02
+        self.is_great = 0.06 if not asked.scales else 0.01
 
     def one_of(self, *choices):
         return self.chance.choice(choices)
