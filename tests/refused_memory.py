@@ -54,6 +54,8 @@ MARKS = """\ufeff\x1e{"type":"Point",\n"coordinates":[1.5,2]}\n\x1e\x1e{"type":"
 EQUAL = """{"type":"FeatureCollection","features":[{"type":"Feature","properties":{"a":1.0,"b":2.5}},{"type":"Feature","properties":{"b":25e-1,"a":1}},{"type":"Feature","properties":{"a":1,"b":2.5}}]}"""
 OPEN = """{"type":"MultiPolygon","coordinates":[[[[0,0],[4,0],[4,4]],[[1,1],[2,1]]],[[[5,5],[6,5],[6,6],[5,5]]]]}"""
 
+LIKE = """{"type":"Topology","objects":{},"transform":{"scale":[0.0036003600360036005,-25e-2],"translate":[-180,90.5]},"arcs":[]}"""
+
 
 def lay(program, texts):
     for name, text in texts.items():
@@ -98,7 +100,7 @@ def inputs(program):
 def rounded(program):
     """The same for togrid."""
     lay(program, {"point": POINT, "folded": FOLDED, "collection": COLLECTION, "noisy": NOISY, "foreign": FOREIGN, "wrong": WRONG, "broken": '{"type":"Point"', "deep": DEEP,
-                  "lines": LINES, "marks": MARKS, "equal": EQUAL, "open": OPEN})
+                  "lines": LINES, "marks": MARKS, "equal": EQUAL, "open": OPEN, "like": LIKE})
     with open(f"{program.folder}/noisy.topo.json", "wb") as file:
         words = [program.name, "--build", "-q", "--step", "1", "a=noisy.json"]
         file.write(subprocess.run(words, cwd=program.folder, stdout=subprocess.PIPE, stderr=subprocess.DEVNULL).stdout)
@@ -113,7 +115,9 @@ def rounded(program):
     wrong = [[*one, "wrong.json"], ["-q", "--seq", "--unclosed", "refuse", *one, "marks.json"], [*one, "--unclosed", "refuse", "open.json"], ["-q", "broken.json"], ["--build", *one, "--folded", "refuse", "a=point.json", "a=folded.json"], [*one, "--collapsed", "refuse", "folded.json"],
              [*one, "--id", "n", "folded.json"], [*one, "--collections", "refuse", "collection.json"], ["-q", *one, "--reals", "refuse", "folded.json"], ["nowhere.json"]]
     faults = [["--faults", *one, "wrong.json", "point.json"], ["--faults", "--seq", *one, "--unclosed", "refuse", "marks.json"], ["--faults", *one, "--collapsed", "refuse", "--reals", "refuse", "folded.json"], ["--faults", "broken.json"]]
-    back = [["--back", "noisy.topo.json"], ["--back", "--rewind", "keep", "--unit", "0.25", "noisy.topo.json", "-o", "back.out"], ["--back", "point.json"]]
+    back = [["--back", "noisy.topo.json"], ["--back", "--rewind", "keep", "--unit", "0.25", "noisy.topo.json", "-o", "back.out"], ["--back", "point.json"],
+            ["--back", "--numbers", "noisy.topo.json"], ["--back", "--numbers=area,n", "--reals", "scale:n=10", "--quantize", "1000", "noisy.topo.json"],
+            ["--back", "--like", "like.json", "noisy.topo.json"], ["--back", "--like", "point.json", "noisy.topo.json"], ["--back", "--like", "nowhere.json", "noisy.topo.json"]]
     usages = [["--help"], ["--version"], ["--step", "0", "point.json"], ["--unit", "1", "point.json"], ["--build", "-", "a=-"], ["--back", "--snap", "1", "noisy.topo.json"]]
     return [*plain, *builds, *wrong, *faults, *back, *usages]
 
