@@ -56,6 +56,11 @@ OPEN = """{"type":"MultiPolygon","coordinates":[[[[0,0],[4,0],[4,4]],[[1,1],[2,1
 
 LIKE = """{"type":"Topology","objects":{},"transform":{"scale":[0.0036003600360036005,-25e-2],"translate":[-180,90.5]},"arcs":[]}"""
 
+ATLAS = """{"type":"Topology","bbox":[0,0,9,9],"transform":{"scale":[0.5,1e0],"translate":[-1.25,2]},"arcs":[[[0,0],[4,0,7],[0,4]],[[4,4],[-4,-4]],[[9]],[[4,4],[0,0],[2,2]]],
+"objects":{"a":{"type":"GeometryCollection","geometries":[{"type":"Polygon","arcs":[[0,1]],"id":"01001","properties":{"n":1.0,"b":2.5}},{"type":null}]},
+"b":{"type":"GeometryCollection","geometries":[{"type":"GeometryCollection","geometries":[{"type":"MultiLineString","arcs":[[3],[-4]]},{"type":"MultiPoint","coordinates":[[1,2],[1,2]]}]}]}}}"""
+WILD = """{"type":"Topology","arcs":[[[0,0],[4,0]],[[4,1],[4,4,"x"]],[]],"objects":{"a":{"type":"LineString","arcs":[0,1]},"b":{"type":"MultiPolygon","arcs":[[[0,-1,7,0.5],2]],"id":[]}}}"""
+
 
 def lay(program, texts):
     for name, text in texts.items():
@@ -100,7 +105,8 @@ def inputs(program):
 def rounded(program):
     """The same for togrid."""
     lay(program, {"point": POINT, "folded": FOLDED, "collection": COLLECTION, "noisy": NOISY, "foreign": FOREIGN, "wrong": WRONG, "broken": '{"type":"Point"', "deep": DEEP,
-                  "lines": LINES, "marks": MARKS, "equal": EQUAL, "open": OPEN, "like": LIKE})
+                  "lines": LINES, "marks": MARKS, "equal": EQUAL, "open": OPEN, "like": LIKE,
+                  "atlas": ATLAS, "wild": WILD})
     with open(f"{program.folder}/noisy.topo.json", "wb") as file:
         words = [program.name, "--build", "-q", "--step", "1", "a=noisy.json"]
         file.write(subprocess.run(words, cwd=program.folder, stdout=subprocess.PIPE, stderr=subprocess.DEVNULL).stdout)
@@ -118,8 +124,10 @@ def rounded(program):
     back = [["--back", "noisy.topo.json"], ["--back", "--rewind", "keep", "--unit", "0.25", "noisy.topo.json", "-o", "back.out"], ["--back", "point.json"],
             ["--back", "--numbers", "noisy.topo.json"], ["--back", "--numbers=area,n", "--reals", "scale:n=10", "--quantize", "1000", "noisy.topo.json"],
             ["--back", "--like", "like.json", "noisy.topo.json"], ["--back", "--like", "point.json", "noisy.topo.json"], ["--back", "--like", "nowhere.json", "noisy.topo.json"]]
+    topologies = [["--build", *one, "atlas.json"], ["--strict", *one, "--report", "report.out", "-o", ".", "atlas.json"], ["--build", "-q", *one, "--snap", "1", "atlas.json", "a=noisy.json"],
+                  [*one, "atlas.json"], ["-q", *one, "wild.json"], ["--faults", *one, "--folded", "refuse", "wild.json", "atlas.json"]]
     usages = [["--help"], ["--version"], ["--step", "0", "point.json"], ["--unit", "1", "point.json"], ["--build", "-", "a=-"], ["--back", "--snap", "1", "noisy.topo.json"]]
-    return [*plain, *builds, *wrong, *faults, *back, *usages]
+    return [*plain, *builds, *wrong, *faults, *back, *topologies, *usages]
 
 
 class Kinds:
