@@ -258,8 +258,8 @@ class Topology(rounding.Errors):
         return typed_value("Feature", geometry=self.geojson(value), **found)
 
     def collections(self):
-        """The name and the FeatureCollection of each layer."""
-        for name, value in self.value.what["objects"].what.items():
+        """The name and the FeatureCollection of each layer, in the order of their names."""
+        for name, value in sorted(self.value.what["objects"].what.items(), key=lambda it: it[0].encode()):
             parts = value.what["geometries"].what if value.what["type"].what == COLLECTION else [value]
             yield name, typed_value("FeatureCollection", features=Value("list", 0, [self.as_feature(it) for it in parts]))
 
