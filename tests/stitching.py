@@ -45,22 +45,16 @@ def pair_errors(value, element):
     return [it for axis, one in enumerate(value.what) for it in under(axis, element(axis, one))]
 
 
-def number_at(value, axis):
-    """The number of an axis, where there is one."""
-    numbers = value.what if value is not None and value.kind == "list" and len(value.what) == 2 else [None, None]
-    return numbers[axis] if numbers[axis] is not None and numbers[axis].kind == "number" else None
-
-
 def transform_errors(value):
+    """Two numbers each, and then within their limits."""
     if value.kind != "object":
         return [((), 3)]
-    found = []
-    for name, beside in ("scale", "translate"), ("translate", "scale"):
-        def element(axis, it, beside=value.what.get(beside)):
-            other = number_at(beside, axis)
-            return [((), 3)] if it.kind != "number" else [((), 6)] if other is not None and not is_fit(it, other) else []
-        found += under(name, pair_errors(value.what.get(name), element))
-    return found
+    names = ("scale", "translate")
+    found = [it for name in names for it in under(name, pair_errors(value.what.get(name), lambda _, it: [] if it.kind == "number" else [((), 3)]))]
+    if found:
+        return found
+    pairs = [value.what[name].what for name in names]
+    return [((name, axis), 6) for name, numbers, others in zip(names, pairs, pairs[::-1]) for axis in (0, 1) if not is_fit(numbers[axis], others[axis])]
 
 
 def numbers_in(value):
@@ -122,7 +116,9 @@ class Topology(rounding.Errors):
             number = whole(it) if it.kind == "number" else None
             sums[axis] = None if number is None or sums[axis] is None else sums[axis] + number
             wrong = [((), 3)] if it.kind != "number" else [((), 5)] if number is None else []
-            found += under(axis, wrong or ([] if sums[axis] is None else self.coordinate_through(axis, sums[axis])))
+            wrong = wrong or ([] if sums[axis] is None else self.coordinate_through(axis, sums[axis]))
+            sums[axis] = None if wrong else sums[axis]  # behind an error of an axis its sums are unknown
+            found += under(axis, wrong)
         return found + [it for i, one in enumerate(value.what[2:]) for it in under(i + 2, [] if one.kind == "number" else [((), 3)])]
 
     def position(self, value):
