@@ -691,6 +691,10 @@ class Rounded:
     def shapes(self):
         return [feature.shapes[0] for file in self.files for feature in file.features]
 
+    def absent(self):
+        """The properties that are scaled and that no feature of the result has."""
+        return [name for name in self.options.scales if not any(name in it.properties for file in self.files for it in file.features)]
+
     def is_lossy(self):
         counts = [file.tally.heights + file.tally.reals + len(file.equal) + sum(map(file.count_of, FIXES)) for file in self.files]
         return bool(self.near or any(counts))
@@ -755,6 +759,7 @@ def report_of(rounded, paths):
     """The report as an object, with fractions for the decimal numbers of files."""
     options = rounded.options
     made = {"step": options.step_word, "files": [file_report(*it) for it in zip(rounded.files, paths)]}
+    made |= {"absent": rounded.absent()} if options.scales else {}
     made["shared"] = rounded.shared
     if options.distance:
         wide = in_numbers(rounded.wide[0], options) if rounded.wide else None
@@ -792,6 +797,8 @@ def report_lines(rounded, paths):
     """The report on standard error."""
     for file, path in zip(rounded.files, paths):
         yield from file_lines(file, path)
+    for name in rounded.absent():
+        yield f"no feature has the property of --reals scale:{name}"
     if rounded.shared:
         yield f"{rounded.shared} vertices shared"
     if rounded.options.distance:
