@@ -25,12 +25,14 @@ sys.dont_write_bytecode = True
 
 import rounding
 import togrid
+from stitching import LONGEST, places_of
 from many_runs import LEAST_TEXTS, TOGRID, judged, look_for_program, told, words_of
 from togrid import Maker, dumped, spelled
 
 NUMBER = re.compile(r"-?(0|[1-9][0-9]*)(\.[0-9]+)?([eE][-+]?[0-9]+)?", re.ASCII)
 SCALES = ["0.0036003600360036005", "1", "1e-5", "25e-2", "0.1", "123.456", "-0.5", "7"]
 COUNTS = [2, 3, 100, 10**4, 10**6]
+MOST_PLACES = 17
 
 
 class Raw(str):
@@ -79,6 +81,11 @@ class Axis:
 
     def __init__(self, scale, translate):
         self.words, self.scale, self.translate = (scale, translate), Fraction(scale), Fraction(translate)
+
+    def has_few_digits(self):
+        """Whether both numbers have at most 25 digits over one power of ten, and not so many places that it may be refused."""
+        places = max(map(places_of, self.words))
+        return places <= MOST_PLACES and all(abs(it) * 10**places < LONGEST for it in (self.scale, self.translate))
 
     def number(self, worth):
         """The nearest whole number, of two the one farther from 0."""
@@ -208,7 +215,10 @@ def judge(seed):
         words += {"like": ["--like", f"{folder}/like.json"], "quantize": ["--quantize", str(count)], None: []}[kind]
         ran = togrid.togrid("--back", *words, f"{folder}/map.topo.json")
     one = read(built.stdout)
-    if ran.returncode or ran.stderr:
+    if kind == "like" and not all(it.has_few_digits() for it in axes) and ran.returncode:
+        is_right = (ran.returncode, ran.stderr.decode()) == (4, f"togrid: {folder}/like.json: 6 OutOfRange $/transform\n")
+        wrong = None if is_right else f"{ran.returncode} {ran.stderr!r}"
+    elif ran.returncode or ran.stderr:
         wrong = f"{ran.returncode} {ran.stderr!r}"
     else:
         back = read(ran.stdout)
