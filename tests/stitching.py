@@ -26,7 +26,7 @@ def whole(value):
 def places_of(text):
     """How many places a numeral has behind its point, those of a negative exponent too."""
     _, fraction, exponent = re.fullmatch(r"-?(\d+)(?:\.(\d+))?(?:[eE]([-+]?\d+))?", text).groups()
-    return max(0, len(fraction or "") - int(exponent or 0))
+    return len(fraction or "") + max(0, -int(exponent or 0))
 
 
 def is_fit(value, other):
