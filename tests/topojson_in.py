@@ -181,8 +181,13 @@ class TopologyMaker(Maker):
     # ---- the whole
 
     def transform(self):
+        def numeral(worth):
+            digits, places = decimal(worth)
+            is_plain = self.chance.random() < 0.7
+            return Numeral(f"{'-' * (worth < 0)}{rounding.decimal_text(abs(worth))}") if is_plain else spelled(self.chance, digits, places)
+
         def pair(name):
-            return [spelled(self.chance, *decimal(getattr(it, name))) for it in self.axes]
+            return [numeral(getattr(it, name)) for it in self.axes]
 
         return self.object(("arcs", "bbox"), scale=pair("scale"), translate=pair("translate"))
 
