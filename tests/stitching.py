@@ -63,19 +63,13 @@ def numbers_in(value):
 
 
 def used_arcs(value, count):
-    """The arcs, of so many, that geometries use."""
-    if value is None or value.kind not in ("object", "list"):
+    """The arcs, of so many, that a geometry object has in its member `arcs`, or one of its geometries has."""
+    if value.kind != "object":
         return set()
-    if value.kind == "list":
-        return set().union(*(used_arcs(it, count) for it in value.what))
-    kind = value.what["type"].what if "type" in value.what else None
-    if kind == COLLECTION:
-        return used_arcs(value.what.get("geometries"), count)
-    arcs = value.what.get("arcs")
-    if kind not in GEOMETRIES or kind in POINTS or arcs is None:
-        return set()
-    found = [it for it in map(whole, numbers_in(arcs)) if it is not None and -count <= it < count]
-    return {it if it >= 0 else ~it for it in found}
+    arcs, parts = value.what.get("arcs"), value.what.get("geometries")
+    numbers = [] if arcs is None else map(whole, numbers_in(arcs))
+    found = {it if it >= 0 else ~it for it in numbers if it is not None and -count <= it < count}
+    return found.union(*(used_arcs(it, count) for it in (parts.what if parts is not None and parts.kind == "list" else [])))
 
 
 class Place:

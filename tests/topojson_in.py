@@ -98,6 +98,10 @@ class TopologyMaker(Maker):
 
     # ---- positions
 
+    def doubled(self, made):
+        """As elsewhere, but for members that say which arcs are used: those behind count too."""
+        return made if any(name in ("arcs", "geometries") for name, _ in made) else super().doubled(made)
+
     def heights(self):
         return [Numeral(self.one_of("5.5", "0", "-1e3")) for _ in range(self.chance.choice([0] * 19 + [1, 2]))]
 
