@@ -14,6 +14,11 @@ fn stem(file: &str) -> &str {
     }
 }
 
+/// Whether a file is a sequence of texts by its name.
+pub(crate) fn is_sequence(file: &str) -> bool {
+    file.ends_with(".ndjson") || file.ends_with(".geojsonl") || file.ends_with(".geojsons")
+}
+
 /// The name and the file of a word, split at the first `=`. Without one the name is the file's.
 fn source_of<'a>(word: &'a str) -> (&'a str, &'a str) {
     match word.split_once('=') {

@@ -1,0 +1,29 @@
+//! The layer and the file of each map.
+use command_line::refusal::Refusal;
+use rounded_maps::Rounded;
+use std::alloc::Global;
+
+/// Where a map is from, and which layer it is.
+#[derive(Clone, Copy)]
+pub(crate) struct MapLayer<'m> {
+    pub(crate) name: &'m str,
+    pub(crate) file: &'m str,
+}
+
+/// The layer and the file of each map: a text names its layers itself, or has the name of its file.
+pub(crate) fn layers_of<'m, 'a>(
+    alloc: Global,
+    sources: &[(&'m str, &'m str)],
+    rounded: &'m Rounded,
+) -> Result<Vec<MapLayer<'m>>, Refusal<'a>> {
+    let mut layers = Vec::with_capacity(alloc, rounded.origins.len())?;
+    for origin in &rounded.origins {
+        let (own, file) = sources.get(origin.text).copied().unwrap_or(("", ""));
+        let name = match &origin.layer {
+            Some(layer) => layer.as_str(),
+            None => own,
+        };
+        layers.push(MapLayer { name, file })?;
+    }
+    Ok(layers)
+}
