@@ -274,6 +274,19 @@ impl<'a> Written for FaultText<'a> {
     }
 }
 
+/// A line or a column in decimal digits.
+#[derive(Clone, Copy)]
+struct PlaceNumber(usize);
+
+impl Written for PlaceNumber {
+    ghost text = { λ d. decimal d.0 };
+
+    fn write<W: Sink>(&self, sink: &mut W) -> Result<(), WriteFault> {
+        let mut buffer = Buffer::new();
+        put(sink, buffer.format(self.0).as_bytes())
+    }
+}
+
 /// What may help, behind the fault.
 #[derive(Clone, Copy)]
 struct RemedyText(Remedy);
@@ -290,26 +303,13 @@ impl Written for RemedyText {
     }
 }
 
-/// A number as decimal digits.
-#[derive(Clone, Copy)]
-struct Digits(usize);
-
-impl Written for Digits {
-    ghost text = { λ d. decimal d.0 };
-
-    fn write<W: Sink>(&self, sink: &mut W) -> Result<(), WriteFault> {
-        let mut buffer = Buffer::new();
-        put(sink, buffer.format(self.0).as_bytes())
-    }
-}
-
 /// Writes where a text is no UTF-8, and what names its encoding.
 fn write_encoding<W: Sink>(sink: &mut W, line: usize, column: usize) -> Result<(), WriteFault>
     ensures whole { OnOk result (TookAll (W.seen sink.old) (W.seen sink.new) (encoding_words line column)) }
     ensures part { OnErr result (TookPart (W.seen sink.old) (W.seen sink.new) (encoding_words line column)) }
 {
-    let column = Then(Digits(column), Text(b"; try ogr2ogr -oo ENCODING="));
-    let place = Then(Digits(line), Then(Text(b", column "), column));
+    let column = Then(PlaceNumber(column), Text(b"; try ogr2ogr -oo ENCODING="));
+    let place = Then(PlaceNumber(line), Then(Text(b", column "), column));
     Then(Text(b": no UTF-8 at line "), place).write(sink)
 }
 

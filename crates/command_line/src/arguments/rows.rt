@@ -527,7 +527,7 @@ pub(crate) const TOGRID: &[ArgumentRow] = &[
     argument!(
         "seq",
         Form::Flag,
-        "Each line is a GeoJSON text, or what follows each\nrecord mark; so it is in files .ndjson, .geojsonl, .geojsons"
+        "Sequences: a GeoJSON text a line. Files .ndjson,\n.geojsonl and .geojsons are read so anyway"
     ),
     argument!(
         "like",
