@@ -8,7 +8,7 @@ use Rattle.sinks.specs.PathText.PathText.{path_text}
 use Rattle.command_line.specs.declared.status.Status.{Status}
 use Rattle.command_line.specs.declared.status.Status.TheVariants.{Usage as WrongUsage, Unreadable as UnreadableFile, Refused, OutOfMemory as NoMemory, Write as OutputFailed}
 use Rattle.command_line.specs.declared.refusal.Usage.{Usage as UsageFault}
-use Rattle.command_line.specs.declared.refusal.Usage.TheVariants.{BadGrid, BadSteps, BadLayer, InputTwice, NoId, SameIds, BadStep, BadUnits, BadUnit, BadReals, BadDistance, BadQuantize, BadBack, BadReport, NoFolder, NameTwice}
+use Rattle.command_line.specs.declared.refusal.Usage.TheVariants.{BadGrid, BadSteps, BadLayer, InputTwice, NoId, SameIds, BadStep, BadUnits, BadUnit, BadReals, BadDistance, BadQuantize, BadBack, BadReport, NoFolder, NameTwice, BadName}
 use Rattle.command_line.specs.declared.refusal.Remedy.{Remedy}
 use Rattle.command_line.specs.declared.refusal.Remedy.TheVariants.{Step, Encoding, Unpacking}
 use Rattle.command_line.specs.declared.refusal.Refusal.{Refusal}
@@ -44,6 +44,7 @@ usage_words BadBack = codes "--back takes one topology"
 usage_words (BadReport file) = codes "the report would replace "
 usage_words NoFolder = codes "more than one file: say -o FOLDER"
 usage_words (NameTwice file) = codes "two files would be called "
+usage_words (BadName layer) = codes "no file can be called "
 
 -- the word, the layer or the file that is wrong, where there is one
 abbrev pub usage_name : UsageFault → List ℕ
@@ -63,6 +64,7 @@ usage_name BadBack = []
 usage_name (BadReport file) = file.now
 usage_name NoFolder = []
 usage_name (NameTwice file) = file.now
+usage_name (BadName layer) = layer.now
 
 -- what stands behind it, where anything does
 abbrev pub usage_end : UsageFault → List ℕ

@@ -48,6 +48,8 @@ pub enum Usage<'a> {
     NoFolder,
     /// Two files of one name for a folder.
     NameTwice(&'a str),
+    /// A layer of a name that no file in a folder can have.
+    BadName(&'a str),
 }
 
 impl<'a> Usage<'a> {
@@ -71,6 +73,7 @@ impl<'a> Usage<'a> {
             Usage::BadReport(_) => "the report would replace ",
             Usage::NoFolder => "more than one file: say -o FOLDER",
             Usage::NameTwice(_) => "two files would be called ",
+            Usage::BadName(_) => "no file can be called ",
         }
     }
 
@@ -91,7 +94,8 @@ impl<'a> Usage<'a> {
             Usage::NoId(name)
             | Usage::SameIds(name)
             | Usage::BadReport(name)
-            | Usage::NameTwice(name) => name,
+            | Usage::NameTwice(name)
+            | Usage::BadName(name) => name,
             Usage::InputTwice | Usage::BadBack | Usage::NoFolder => "",
         }
     }

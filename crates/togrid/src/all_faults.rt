@@ -2,6 +2,7 @@
 use crate::naming::is_sequence;
 use crate::options::GridOptions;
 use crate::printing::Printed;
+use crate::remedies::without_mark;
 use command_line::files::{Files, read_all};
 use command_line::refusal::Refusal;
 use command_line::status::Status;
@@ -127,7 +128,8 @@ fn sequence_reports(
     };
     for (number, text) in texts_of(alloc, bytes, true)?.iter().enumerate() {
         let (_, text) = text.split_at(count_between(*text));
-        rest.pass(count_between(rest.bytes));
+        let between = count_between(rest.bytes);
+        rest.pass(between);
         add_reports(
             alloc,
             &mut all,
@@ -150,8 +152,7 @@ fn reports_of(
     let rules = options.rounding();
     // Kit 13f proves a function that owns rules only where it names a place inside each of them.
     let _attributes = &rules.map.attributes;
-    let texts = texts_of(alloc, bytes, false)?;
-    let text = texts.first().copied().unwrap_or(bytes);
+    let text = without_mark(alloc, bytes)?;
     if options.is_sequence || is_sequence(file) {
         sequence_reports(alloc, &rules, text)
     } else {

@@ -1,11 +1,13 @@
 //! A topology in the unit of the map again.
-use crate::options::{decimal_word, rewind_of, unit_of};
+use crate::options::{decimal_word, rewind_of, scale_of, unit_of};
+use crate::remedies::{refuse_text, remedy_of, without_mark};
+use attributes::Scale;
 use clap::ArgMatches;
 use command_line::files::{Files, input_once, read_named};
 use command_line::output::write_output;
 use command_line::refusal::{Refusal, Usage};
 use command_line::status::Status;
-use decimals::topology::{DecimalFault, OtherTransform, TransformFault, text_of, text_on};
+use decimals::topology::{DecimalFault, DecimalTransform, TransformFault, text_of, text_on};
 use faults::{Fault, FaultKind};
 use fixing::Rewind;
 use grid::limits::GREATEST_GRID_NUMBER;
@@ -16,12 +18,14 @@ use topo::topology::Topology;
 use topo_io::read_topology;
 
 /// What the words ask for on the way back.
-#[derive(Clone, Copy)]
+#[derive(Drop)]
 pub(crate) struct BackOptions<'a> {
     unit: DecimalStep,
     /// The unit as it is written.
     unit_word: &'a str,
     rewind: Rewind,
+    /// The properties whose numbers are divided again.
+    scales: Vec<Scale<'a>>,
     /// The topology whose transform is taken.
     like: Option<&'a str>,
     /// How many numbers there are along an axis.
@@ -44,12 +48,28 @@ fn count_of<'a>(word: Option<&'a str>) -> Result<Option<u64>, Refusal<'a>> {
     }
 }
 
+/// The properties that words scale. No other word goes with the way back.
+fn scales_of<'a>(alloc: Global, words: &[&'a str]) -> Result<Vec<Scale<'a>>, Refusal<'a>> {
+    let mut scales = Vec::new(alloc);
+    for word in words {
+        match scale_of(*word) {
+            Some(scale) => scales.push(scale)?,
+            None => return Err(Refusal::Usage(Usage::BadReals(*word))),
+        }
+    }
+    Ok(scales)
+}
+
 /// The options of the way back that the words give, or why they are none.
-pub(crate) fn back_options_of<'a>(found: &ArgMatches<'a>) -> Result<BackOptions<'a>, Refusal<'a>> {
+pub(crate) fn back_options_of<'a>(
+    alloc: Global,
+    found: &ArgMatches<'a>,
+) -> Result<BackOptions<'a>, Refusal<'a>> {
     Ok(BackOptions {
         unit: unit_of(found)?,
         unit_word: decimal_word(found, "unit"),
         rewind: rewind_of(found, Rewind::D3),
+        scales: scales_of(alloc, found.get_strs("reals").unwrap_or(&[]))?,
         like: found.get_str("like"),
         count: count_of(found.get_str("quantize"))?,
         output: found.get_str("output"),
@@ -63,9 +83,10 @@ fn read_file<'a, F: Files>(
     files: &mut F,
 ) -> Result<Topology, Refusal<'a>> {
     let bytes = read_named(alloc, files, file)?;
-    match read_topology(alloc, bytes.as_slice()) {
+    let text = without_mark(alloc, bytes.as_slice())?;
+    match read_topology(alloc, text) {
         Ok(topology) => Ok(topology),
-        Err(fault) => Err(Refusal::of_text(file, fault)),
+        Err(fault) => Err(refuse_text(file, fault, remedy_of(alloc, text)?, true)),
     }
 }
 
@@ -90,11 +111,12 @@ fn refuse_like<'a>(alloc: Global, file: &'a str, fault: TransformFault) -> Refus
 /// The transform of another topology.
 fn transform_of_file<'a, F: Files>(
     alloc: Global,
+    options: &BackOptions<'a>,
     file: &'a str,
     files: &mut F,
-) -> Result<OtherTransform, Refusal<'a>> {
+) -> Result<DecimalTransform, Refusal<'a>> {
     let bytes = read_named(alloc, files, file)?;
-    match OtherTransform::read(alloc, bytes.as_slice()) {
+    match DecimalTransform::read(alloc, without_mark(alloc, bytes.as_slice())?, &options.unit) {
         Ok(transform) => Ok(transform),
         Err(fault) => Err(refuse_like(alloc, file, fault)),
     }
@@ -121,15 +143,20 @@ fn back_text(
     alloc: Global,
     options: &BackOptions<'_>,
     topology: &Topology,
-    like: Option<OtherTransform>,
+    like: Option<DecimalTransform>,
 ) -> Result<Vec<u8>, DecimalFault> {
     let other = match (like, options.count) {
         (Some(like), _) => Some(like),
-        (None, Some(count)) => Some(OtherTransform::of_box(alloc, topology, &options.unit, count)?),
+        (None, Some(count)) => Some(DecimalTransform::of_box(
+            alloc,
+            topology,
+            &options.unit,
+            count,
+        )?),
         (None, None) => None,
     };
     match other {
-        Some(other) => text_on(alloc, topology, &options.unit, &other, options.rewind),
+        Some(other) => text_on(alloc, topology, &other, options.rewind),
         None => text_of(alloc, topology, &options.unit, options.rewind),
     }
 }
@@ -148,7 +175,7 @@ pub(crate) fn write_back<'a, F: Files, O: Sink>(
     let like = match options.like {
         Some(like) => {
             input_once(&[*file, like])?;
-            Some(transform_of_file(alloc, like, files)?)
+            Some(transform_of_file(alloc, options, like, files)?)
         }
         None => None,
     };

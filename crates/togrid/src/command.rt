@@ -2,13 +2,12 @@
 use crate::all_faults::print_faults;
 use crate::back::{back_options_of, write_back};
 use crate::layers::{MapLayer, layers_of};
-use crate::naming::{check_names, files_of, is_sequence, names_of, sources_of};
+use crate::naming::{files_of, find_doubled, is_file_name, is_sequence, names_of, sources_of};
 use crate::options::{GridOptions, options_of};
 use crate::printing::Printed;
 use crate::remedies::{refuse_text, remedies_of};
 use crate::report::{Report, report_lines};
 use crate::report_file::report_text;
-use crate::target::Target;
 use clap::ArgMatches;
 use command_line::ending::{explain, refuse};
 use command_line::files::{Files, input_once, read_all};
@@ -55,31 +54,21 @@ fn perform<'a, F: Files, O: Sink, E: Sink>(
     let read = files_of(alloc, sources.as_slice())?;
     input_once(read.as_slice())?;
     if found.get_flag("back") {
-        let options = back_options_of(found)?;
+        let options = back_options_of(alloc, found)?;
         return write_back(alloc, &options, read.as_slice(), files, out);
     }
-    let options = options_of(alloc, found)?;
+    let options = options_of(alloc, found, sources.len())?;
     if found.get_flag("faults") {
         return print_faults(alloc, &options, read.as_slice(), files, out);
     }
-    let target = Target::of(&options, sources.len());
-    check_outputs(alloc, &options, &target, sources.as_slice())?;
-    round(
-        alloc,
-        &options,
-        &target,
-        sources.as_slice(),
-        files,
-        out,
-        err,
-    )
+    check_outputs(alloc, &options, sources.as_slice())?;
+    round(alloc, &options, sources.as_slice(), files, out, err)
 }
 
 /// Rounds the files, writes what becomes of them, and reports.
 fn round<'a, F: Files, O: Sink, E: Sink>(
     alloc: Global,
     options: &GridOptions<'a>,
-    target: &Target<'a>,
     sources: &[(&'a str, &'a str)],
     files: &mut F,
     out: &mut O,
@@ -87,19 +76,38 @@ fn round<'a, F: Files, O: Sink, E: Sink>(
 ) -> Result<Status, Refusal<'a>> {
     let texts = read_all(alloc, files, files_of(alloc, sources)?.as_slice())?;
     let (made, rounded) = make(alloc, options, sources, texts)?;
-    let layers = layers_of(alloc, sources, &rounded)?;
-    let reports = Reports::of(alloc, options, target, layers.as_slice(), &rounded)?;
-    if !target.is_standard() {
-        made.print(alloc, options, target, layers.as_slice(), files, out)?;
+    // A refusal may name a layer of a text, so it is written while that name is there.
+    match finish(alloc, options, sources, &made, &rounded, files, out, err) {
+        Ok(status) => Ok(status),
+        Err(refusal) => Ok(refuse(PROGRAM, &refusal, err)),
+    }
+}
+
+/// Writes what was made, and reports.
+fn finish<'m, F: Files, O: Sink, E: Sink>(
+    alloc: Global,
+    options: &GridOptions<'m>,
+    sources: &[(&'m str, &'m str)],
+    made: &Made,
+    rounded: &'m Rounded,
+    files: &mut F,
+    out: &mut O,
+    err: &mut E,
+) -> Result<Status, Refusal<'m>> {
+    let layers = layers_of(alloc, sources, rounded)?;
+    check_layers(alloc, options, layers.as_slice())?;
+    let reports = Reports::of(alloc, options, layers.as_slice(), rounded)?;
+    if !options.target.is_standard() {
+        made.print(alloc, options, layers.as_slice(), files, out)?;
     }
     if let Some(file) = options.report {
         write_output(alloc, files, out, Some(file), reports.json.as_slice())?;
     }
     let _ = put(err, reports.lines.as_slice());
-    if target.is_standard() {
-        made.print(alloc, options, target, layers.as_slice(), files, out)?;
+    if options.target.is_standard() {
+        made.print(alloc, options, layers.as_slice(), files, out)?;
     }
-    Ok(status_of(options, &rounded))
+    Ok(status_of(options, rounded))
 }
 
 /// What is reported. It is made before anything is written.
@@ -114,13 +122,11 @@ impl Reports {
     fn of<'a>(
         alloc: Global,
         options: &GridOptions<'a>,
-        target: &Target<'a>,
         layers: &[MapLayer<'_>],
         rounded: &Rounded,
     ) -> Result<Reports, Refusal<'a>> {
         let report = Report {
             options,
-            target,
             layers,
             rounded,
         };
@@ -205,7 +211,7 @@ fn refusal<'a>(
                 None => "",
             };
             let remedy = remedies.get(place).copied().unwrap_or(None);
-            refuse_text(options, file, fault, remedy)
+            refuse_text(file, fault, remedy, options.is_step_given)
         }
         MapsFault::OutOfMemory => Refusal::OutOfMemory,
     }
@@ -217,7 +223,6 @@ impl Made {
         &self,
         alloc: Global,
         options: &GridOptions<'a>,
-        target: &Target<'a>,
         layers: &[MapLayer<'_>],
         files: &mut F,
         out: &mut O,
@@ -228,7 +233,7 @@ impl Made {
             }
             Made::Maps(maps) => {
                 for (layer, map) in layers.iter().zip(maps.as_slice()) {
-                    let file = target.file(alloc, layer.name)?;
+                    let file = options.target.file(alloc, layer.name)?;
                     let word = file.as_ref().map(|file| file.as_str());
                     Printed::Map(map, &options.grid).print(alloc, word, files, out)?;
                 }
@@ -264,47 +269,72 @@ fn is_lossy(rounded: &Rounded) -> bool {
 fn check_outputs<'a>(
     alloc: Global,
     options: &GridOptions<'a>,
-    target: &Target<'a>,
     sources: &[(&'a str, &'a str)],
 ) -> Result<(), Refusal<'a>> {
-    match target {
-        Target::Folder(_) => check_names(alloc, sources)?,
-        _ => if !options.is_build && sources.len() > 1 {
-            return Err(Refusal::Usage(Usage::NoFolder));
-        },
+    let names = names_of(alloc, sources)?;
+    check_names(alloc, options, names.as_slice())?;
+    let Some(report) = options.report else {
+        return Ok(());
+    };
+    let is_twice = if is_standard(Some(report)) {
+        options.target.is_standard()
+    } else {
+        options.output == Some(report) || sources.iter().any(|source| source.1 == report)
+    };
+    if is_twice {
+        return Err(Refusal::Usage(Usage::BadReport(report)));
     }
-    match options.report {
-        Some(file) => check_report(alloc, options, target, sources, file),
-        None => Ok(()),
-    }
+    check_report(alloc, options, names.as_slice())
 }
 
-/// Whether a report would go where something else is read or written.
+/// The same of the layers that texts name.
+fn check_layers<'m>(
+    alloc: Global,
+    options: &GridOptions<'m>,
+    layers: &[MapLayer<'m>],
+) -> Result<(), Refusal<'m>> {
+    let mut names = Vec::with_capacity(alloc, layers.len())?;
+    for layer in layers {
+        if layer.is_named_by_text && options.target.is_folder() && !is_file_name(layer.name) {
+            return Err(Refusal::Usage(Usage::BadName(layer.name)));
+        }
+        names.push(layer.name)?;
+    }
+    check_names(alloc, options, names.as_slice())?;
+    check_report(alloc, options, names.as_slice())
+}
+
+/// Maps of these names that are not built go into files of their own, or there is one.
+fn check_names<'a>(
+    alloc: Global,
+    options: &GridOptions<'a>,
+    names: &[&'a str],
+) -> Result<(), Refusal<'a>> {
+    if options.target.is_folder() {
+        return match find_doubled(alloc, names)? {
+            Some(name) => Err(Refusal::Usage(Usage::NameTwice(name))),
+            None => Ok(()),
+        };
+    }
+    if !options.is_build && names.len() > 1 {
+        return Err(Refusal::Usage(Usage::NoFolder));
+    }
+    Ok(())
+}
+
+/// A report goes into no file of a map.
 fn check_report<'a>(
     alloc: Global,
     options: &GridOptions<'a>,
-    target: &Target<'a>,
-    sources: &[(&'a str, &'a str)],
-    file: &'a str,
+    names: &[&'a str],
 ) -> Result<(), Refusal<'a>> {
-    let refused = Refusal::Usage(Usage::BadReport(file));
-    if is_standard(Some(file)) {
-        return if target.is_standard() {
-            Err(refused)
-        } else {
-            Ok(())
-        };
-    }
-    if options.output == Some(file) {
-        return Err(refused);
-    }
-    for source in sources {
-        if source.1 == file {
-            return Err(refused);
-        }
-        if let Some(output) = target.file(alloc, source.0)? {
-            if output.as_str() == file {
-                return Err(refused);
+    let Some(report) = options.report else {
+        return Ok(());
+    };
+    for name in names {
+        if let Some(file) = options.target.file(alloc, *name)? {
+            if file.as_str() == report {
+                return Err(Refusal::Usage(Usage::BadReport(report)));
             }
         }
     }

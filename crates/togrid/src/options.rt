@@ -1,4 +1,5 @@
 //! What the words ask for, as values.
+use crate::target::Target;
 use attributes::{AttributeRules, Reals, Scale};
 use clap::ArgMatches;
 use command_line::refusal::{Refusal, Usage};
@@ -53,6 +54,7 @@ pub(crate) struct GridOptions<'a> {
     /// Whether each file is a sequence of texts.
     pub(crate) is_sequence: bool,
     pub(crate) output: Option<&'a str>,
+    pub(crate) target: Target<'a>,
     pub(crate) report: Option<&'a str>,
     pub(crate) is_quiet: bool,
     pub(crate) is_strict: bool,
@@ -177,7 +179,7 @@ fn fixing_of(found: &ArgMatches<'_>) -> FixingRules {
 }
 
 /// The property and the power of ten of a word `scale:PROPERTY=K`.
-fn scale_of<'a>(word: &'a str) -> Option<Scale<'a>> {
+pub(crate) fn scale_of<'a>(word: &'a str) -> Option<Scale<'a>> {
     let (kind, scale) = word.split_once(':')?;
     let (property, power) = scale.rsplit_once('=')?;
     if kind != "scale" || power.is_empty() || !POWERS.starts_with(power) {
@@ -198,7 +200,7 @@ fn kind_of_reals(word: &str) -> Option<Reals> {
 }
 
 /// The properties that words scale, and what becomes of other numbers: what the last word says that is no scale.
-pub(crate) fn reals_of<'a>(
+fn reals_of<'a>(
     alloc: Global,
     words: &[&'a str],
 ) -> Result<(Vec<Scale<'a>>, Option<Reals>), Refusal<'a>> {
@@ -263,10 +265,11 @@ fn join_distance_of<'a>(word: Option<&'a str>) -> Result<u32, Refusal<'a>> {
     }
 }
 
-/// The options that the words give, or why they are none.
+/// The options that the words give for so many files, or why they are none.
 pub(crate) fn options_of<'a>(
     alloc: Global,
     found: &ArgMatches<'a>,
+    files: usize,
 ) -> Result<GridOptions<'a>, Refusal<'a>> {
     let step = step_of(found)?;
     let (units, grid) = units_of(found, &step)?;
@@ -286,6 +289,7 @@ pub(crate) fn options_of<'a>(
         join_distance: join_distance_of(found.get_str("snap"))?,
         is_sequence: found.get_flag("seq"),
         output: found.get_str("output"),
+        target: Target::of(found.get_str("output"), found.get_flag("build"), files),
         report: found.get_str("report"),
         is_quiet: found.get_flag("quiet"),
         is_strict: found.get_flag("strict"),

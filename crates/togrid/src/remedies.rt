@@ -1,12 +1,18 @@
-//! What may help where a text is refused.
-use crate::options::GridOptions;
+//! Texts as they come, and what may help where one is refused.
 use command_line::refusal::{Refusal, Remedy};
 use faults::{Fault, FaultKind, OutOfMemory};
 use outputs::fault_reports::{Format, reports};
+use rounded_maps::texts_of;
 use std::alloc::Global;
 
 /// How a file begins that gzip compressed.
 const COMPRESSED: [u8; 2] = [0x1f, 0x8b];
+
+/// The bytes of a file behind a byte order mark in front.
+pub(crate) fn without_mark<'t>(alloc: Global, bytes: &'t [u8]) -> Result<&'t [u8], OutOfMemory> {
+    let texts = texts_of(alloc, bytes, false)?;
+    Ok(texts.first().copied().unwrap_or(bytes))
+}
 
 /// Where a text stops being UTF-8: as the errors of a text that is no JSON are reported.
 fn encoding_of(alloc: Global, text: &[u8]) -> Result<Option<Remedy>, OutOfMemory> {
@@ -43,14 +49,14 @@ pub(crate) fn remedies_of(
 
 /// The refusal of a file's text, of which `remedy` helps where it is no UTF-8.
 pub(crate) fn refuse_text<'a>(
-    options: &GridOptions<'a>,
     file: &'a str,
     fault: Fault,
     remedy: Option<Remedy>,
+    is_step_given: bool,
 ) -> Refusal<'a> {
     match (fault.kind, remedy) {
         (FaultKind::NotJson, Some(remedy)) => Refusal::of_text_with(file, fault, remedy),
-        (FaultKind::OutOfRange, _) => if options.is_step_given {
+        (FaultKind::OutOfRange, _) => if is_step_given {
             Refusal::of_text(file, fault)
         } else {
             Refusal::of_text_with(file, fault, Remedy::Step)

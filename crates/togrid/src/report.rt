@@ -16,7 +16,6 @@ use std::alloc::{AllocError, Global};
 #[derive(Clone, Copy)]
 pub(crate) struct Report<'r, 'a> {
     pub(crate) options: &'r GridOptions<'a>,
-    pub(crate) target: &'r Target<'a>,
     /// The layer and the file of each map.
     pub(crate) layers: &'r [MapLayer<'r>],
     pub(crate) rounded: &'r Rounded,
@@ -322,7 +321,7 @@ fn put_next(alloc: Global, lines: &mut Kept, report: &Report<'_, '_>) -> Result<
     put_words(lines, units, ",")?;
     put_words(lines, units, ",0,0")?;
     for layer in report.layers {
-        put_layer(alloc, lines, report.target, layer.name)?;
+        put_layer(alloc, lines, &report.options.target, layer.name)?;
     }
     Ok(())
 }
@@ -332,7 +331,7 @@ pub(crate) fn next_command(
     alloc: Global,
     report: &Report<'_, '_>,
 ) -> Result<Option<Vec<u8>>, AllocError> {
-    if report.options.is_build || report.target.is_standard() {
+    if report.options.is_build || report.options.target.is_standard() {
         return Ok(None);
     }
     let mut next = Kept::new(alloc);

@@ -1,6 +1,5 @@
 //! Where what is made goes.
 use crate::naming::file_in;
-use crate::options::GridOptions;
 use command_line::output::is_standard;
 use command_line::refusal::Refusal;
 use std::alloc::Global;
@@ -21,22 +20,26 @@ fn is_file(path: &str) -> bool {
 }
 
 impl<'a> Target<'a> {
-    /// The target of so many files.
-    pub(crate) fn of(options: &GridOptions<'a>, files: usize) -> Target<'a> {
-        match options.output {
-            None => Target::Standard,
-            Some(path) => if options.is_build && is_standard(Some(path)) {
+    /// The target of so many files, where the words name this path, or none.
+    pub(crate) fn of(path: Option<&'a str>, is_build: bool, files: usize) -> Target<'a> {
+        match path {
+            Some(path) => if is_build && is_standard(Some(path)) {
                 Target::Standard
-            } else if options.is_build || (files == 1 && is_file(path)) {
+            } else if is_build || (files == 1 && is_file(path)) {
                 Target::File(path)
             } else {
                 Target::Folder(path)
             },
+            None => Target::Standard,
         }
     }
 
     pub(crate) fn is_standard(&self) -> bool {
         matches!(self, Target::Standard)
+    }
+
+    pub(crate) fn is_folder(&self) -> bool {
+        matches!(self, Target::Folder(_))
     }
 
     /// The file that a map of this name goes into; none where that is standard output.

@@ -497,7 +497,7 @@ pub(crate) const TOGRID: &[ArgumentRow] = &[
     argument!(
         "reals",
         Form::Repeated("HOW"),
-        "Numbers of properties: whole, text, refuse,\nscale:P=K [default: whole; with --back scale alone]"
+        "Numbers of properties: whole, text, refuse,\nscale:P=K [default: whole; with --back only scale]"
     ),
     argument!(
         "numbers",
