@@ -17,7 +17,7 @@ use Rattle.reading.specs.Fault.{here, under}
 use Rattle.reading.specs.FaultLists.Found.{pairs_of}
 use Rattle.reading.specs.Info.{depth_faults}
 use Rattle.attributes.specs.Attributes.{counted, properties_members}
-use Rattle.attributes.specs.Refusals.{attributes_faults, members_faults, named_id_faults, number_faults, own_id_faults}
+use Rattle.attributes.specs.Refusals.{attributes_faults, members_faults, named_id_faults, number_faults, own_id_faults, refuses}
 use Rattle.attributes.specs.Values.{has_beyond, members_of, members_reals}
 use Rattle.attributes.specs.declared.rules.AttributeRules.{AttributeRules}
 use Rattle.attributes.proofs.Whole.{no_float_among}
@@ -45,19 +45,19 @@ depth_none ms whole e =
 
 -- what `Props::from_value` refuses has a fault
 pub refused : (r : AttributeRules) (p : Option Json) (o : Option json.Members) (made : Members) (named : List Pair)
-    → Some made ≡ option_map (members_of r.scales.now) o → (property_fault (object made) ≡ None → ⊥) → members_faults r p named o ≡ [] → ⊥
+    → Some made ≡ option_map (members_of r.reals r.scales.now) o → (property_fault (object made) ≡ None → ⊥) → members_faults r p named o ≡ [] → ⊥
 refused r p None made named is fault e = cc
 refused r p (Some ms) made named is fault e =
-    let same : made ≡ members_of r.scales.now ms = cc in
-    let behind = none_behind (number_faults r p (members_reals r.scales.now ms)) (depth_faults (object (members_of r.scales.now ms)) ++ named) e in
-    let shallow = none_before (depth_faults (object (members_of r.scales.now ms))) named behind in
-    fault (ap (λ m. property_fault (object m)) same ∙ depth_none (members_of r.scales.now ms) (no_float_among r.scales.now ms) shallow)
+    let same : made ≡ members_of r.reals r.scales.now ms = cc in
+    let behind = none_behind (number_faults r p (members_reals r.reals r.scales.now ms)) (depth_faults (object (members_of r.reals r.scales.now ms)) ++ named) e in
+    let shallow = none_before (depth_faults (object (members_of r.reals r.scales.now ms))) named behind in
+    fault (ap (λ m. property_fault (object m)) same ∙ depth_none (members_of r.reals r.scales.now ms) (no_float_among r.reals r.scales.now ms) shallow)
 
 -- faults of properties are faults of the feature
-pub none_of_properties : (r : AttributeRules) (i p : Option Json) → attributes_faults r i p ≡ [] → members_faults r p (named_id_faults r.id r.refuses_reals p) (properties_members p) ≡ []
+pub none_of_properties : (r : AttributeRules) (i p : Option Json) → attributes_faults r i p ≡ [] → members_faults r p (named_id_faults r.id r.reals p) (properties_members p) ≡ []
 none_of_properties r i p e =
-    let within = members_faults r p (named_id_faults r.id r.refuses_reals p) (properties_members p) in
-    none_under (name (codes "properties")) within (none_behind (own_id_faults r.id r.refuses_reals i) (under (name (codes "properties")) within) e)
+    let within = members_faults r p (named_id_faults r.id r.reals p) (properties_members p) in
+    none_under (name (codes "properties")) within (none_behind (own_id_faults r.id r.reals i) (under (name (codes "properties")) within) e)
 
 positive_at : (most a b : ℕ) → 0 < most → min a most ≡ min (0 + b) most → nat_lt 0 a ≡ nat_lt 0 b
 positive_at most zero zero some e = refl
@@ -71,16 +71,16 @@ positive a b e = positive_at (2 ^ 64 - 1) a b (lit< tt) e
 
 -- the faults that the code lists are those of the properties
 pub judged : (r : AttributeRules) (p : Option Json) (o : Option json.Members) (made : Members) (reals : ℕ) (number deep named behind fs : List Fault)
-    → Some made ≡ option_map (members_of r.scales.now) o → counted reals ≡ counted (0 + members_reals r.scales.now (unwrap_or o json.no_members))
+    → Some made ≡ option_map (members_of r.reals r.scales.now) o → counted reals ≡ counted (0 + members_reals r.reals r.scales.now (unwrap_or o json.no_members))
     → pairs_of number ≡ number_faults r p reals → pairs_of deep ≡ depth_faults (object made) → behind ≡ deep ++ named → fs ≡ number ++ behind
     → pairs_of fs ≡ members_faults r p (pairs_of named) o
 judged r p None made reals number deep named behind fs is count numbers depths joined whole = absurd (cc)
 judged r p (Some ms) made reals number deep named behind fs is count numbers depths joined whole =
-    let same : made ≡ members_of r.scales.now ms = cc in
-    let some = positive reals (members_reals r.scales.now ms) count in
+    let same : made ≡ members_of r.reals r.scales.now ms = cc in
+    let some = positive reals (members_reals r.reals r.scales.now ms) count in
     ap pairs_of whole ∙ map-append pair_of number behind ∙ ap (λ xs. pairs_of number ++ pairs_of xs) joined ∙ ap (λ xs. pairs_of number ++ xs) (map-append pair_of deep named)
-    ∙ ap (λ xs. xs ++ (pairs_of deep ++ pairs_of named)) (numbers ∙ ap (λ b. if has_beyond r.scales.now p || (r.refuses_reals && b) then here PropertyNumber else []) some)
-    ∙ ap (λ xs. number_faults r p (members_reals r.scales.now ms) ++ (xs ++ pairs_of named)) (depths ∙ ap (λ m. depth_faults (object m)) same)
+    ∙ ap (λ xs. xs ++ (pairs_of deep ++ pairs_of named)) (numbers ∙ ap (λ b. if has_beyond r.scales.now p || (refuses r.reals && b) then here PropertyNumber else []) some)
+    ∙ ap (λ xs. number_faults r p (members_reals r.reals r.scales.now ms) ++ (xs ++ pairs_of named)) (depths ∙ ap (λ m. depth_faults (object m)) same)
 
 total_at : (most a b m n : ℕ) → min b most ≡ min (0 + m) most → a ≡ min (b + n) most → a ≡ min (m + n) most
 total_at most a b m n e f = omega arith

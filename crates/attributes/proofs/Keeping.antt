@@ -9,6 +9,7 @@ use Rattle.serde_json.specs.Data.{Data, Members, put}
 use Rattle.serde_json.specs.Find.{get_member}
 use Rattle.serde_json.proofs.Views.{get_member-put, get_member-put_other}
 use Rattle.attributes.specs.Values.{comes_later, data_of, members_of, number_or, scaled_property}
+use Rattle.attributes.specs.declared.rules.Reals.{Reals}
 use Rattle.attributes.specs.declared.rules.Scale.{Scale}
 
 pub later_some : (o : Option json.Json) (j : json.Json) → is_some (later_or o (Some j)) ≡ true
@@ -30,17 +31,17 @@ there true name k d made other = refl
 there false name k d made other = ap is_some (get_member-put_other name k d made other)
 
 -- a name is there where the members have it
-pub present : (ss : List Scale) (name : List ℕ) (ms : json.Members) → is_some (get_member name (members_of ss ms)) ≡ comes_later name ms
-present ss name json.no_members = refl
-present ss name (json.member k j ms) =
-    let d = number_or (scaled_property ss k j) (data_of j) in
+pub present : (rule : Reals) (ss : List Scale) (name : List ℕ) (ms : json.Members) → is_some (get_member name (members_of rule ss ms)) ≡ comes_later name ms
+present rule ss name json.no_members = refl
+present rule ss name (json.member k j ms) =
+    let d = number_or (scaled_property ss k j) (data_of rule j) in
     let pick = λ (b : Bool). is_some (later_or (find name ms) (cond b (Some j) None)) in
     elim (cases_Bool (bytes_eq k name)) [
       | inl same ↦
           let is : name ≡ k = sym ((bytes_eq-Decides k name).0 same) in
-          let kept : is_some (get_member k (members_of ss ms)) ≡ comes_later k ms = ap (λ n. is_some (get_member n (members_of ss ms))) (sym is) ∙ present ss name ms ∙ ap (λ n. comes_later n ms) is in
-          ap (λ n. is_some (get_member n (members_of ss (json.member k j ms)))) is ∙ here (comes_later k ms) k d (members_of ss ms) kept ∙ sym (later_some (find name ms) j) ∙ sym (ap pick same)
+          let kept : is_some (get_member k (members_of rule ss ms)) ≡ comes_later k ms = ap (λ n. is_some (get_member n (members_of rule ss ms))) (sym is) ∙ present rule ss name ms ∙ ap (λ n. comes_later n ms) is in
+          ap (λ n. is_some (get_member n (members_of rule ss (json.member k j ms)))) is ∙ here (comes_later k ms) k d (members_of rule ss ms) kept ∙ sym (later_some (find name ms) j) ∙ sym (ap pick same)
       | inr apart ↦
           let other : name ≡ k → ⊥ = λ e. true≢false (sym ((bytes_eq-Decides k name).1 (sym e)) ∙ apart) in
-          there (comes_later k ms) name k d (members_of ss ms) other ∙ present ss name ms ∙ sym (later_none (find name ms)) ∙ sym (ap pick apart)
+          there (comes_later k ms) name k d (members_of rule ss ms) other ∙ present rule ss name ms ∙ sym (later_none (find name ms)) ∙ sym (ap pick apart)
     ]

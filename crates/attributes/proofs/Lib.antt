@@ -1,5 +1,6 @@
 pub mod Cut
 pub mod Scaling
+pub mod Worth
 pub mod Keeping
 pub mod Whole
 pub mod Loops

@@ -11,6 +11,7 @@ use Rattle.serde_json.specs.View.{items_view, view}
 use Rattle.serde_json.specs.declared.value.Value.{Value}
 use Rattle.attributes.specs.Attributes.{counted}
 use Rattle.attributes.specs.Values.{comes_later, data_of, items_of, members_of, members_reals, number_or, reals_of, scaled_property, unless_number}
+use Rattle.attributes.specs.declared.rules.Reals.{Reals}
 use Rattle.attributes.specs.declared.rules.Scale.{Scale}
 use Rattle.attributes.proofs.Keeping.{present}
 
@@ -42,29 +43,29 @@ pub counted_before : (b c r n : ℕ) → counted c ≡ counted (b + n) → count
 counted_before b c r n e = capped_before (2 ^ 64 - 1) b c r n e
 
 -- one item of those that are left
-pub item_next : (vs : List Value) (v : Value) (x : tree.Value Global) (xs : List (tree.Value Global)) (whole : Items) → view v ≡ data_of (value_view x)
-    → before vs (items_of (json_items (x ∷ xs))) ≡ whole → before (vs ++ v ∷ []) (items_of (json_items xs)) ≡ whole
-item_next vs v x xs whole same e = before_push vs v _ ∙ ap (λ d. before vs (item d (items_of (json_items xs)))) same ∙ e
+pub item_next : (rule : Reals) (vs : List Value) (v : Value) (x : tree.Value Global) (xs : List (tree.Value Global)) (whole : Items) → view v ≡ data_of rule (value_view x)
+    → before vs (items_of rule (json_items (x ∷ xs))) ≡ whole → before (vs ++ v ∷ []) (items_of rule (json_items xs)) ≡ whole
+item_next rule vs v x xs whole same e = before_push vs v _ ∙ ap (λ d. before vs (item d (items_of rule (json_items xs)))) same ∙ e
 
-module _ (ss : List Scale) (k : List ℕ) (j : json.Json) (ms : json.Members) (made : Members) (was : made ≡ members_of ss ms) where
+module _ (rule : Reals) (ss : List Scale) (k : List ℕ) (j : json.Json) (ms : json.Members) (made : Members) (was : made ≡ members_of rule ss ms) where
   later_is : comes_later k ms ≡ is_some (get_member k made)
-  later_is = sym (present ss k ms) ∙ ap (λ m. is_some (get_member k m)) (sym was)
+  later_is = sym (present rule ss k ms) ∙ ap (λ m. is_some (get_member k m)) (sym was)
 
   -- a member that comes again later
-  pub skipped : is_some (get_member k made) ≡ true → made ≡ members_of ss (json.member k j ms)
-  skipped e = was ∙ sym (ap (λ b. if b then members_of ss ms else put k (number_or (scaled_property ss k j) (data_of j)) (members_of ss ms)) (later_is ∙ e))
+  pub skipped : is_some (get_member k made) ≡ true → made ≡ members_of rule ss (json.member k j ms)
+  skipped e = was ∙ sym (ap (λ b. if b then members_of rule ss ms else put k (number_or (scaled_property ss k j) (data_of rule j)) (members_of rule ss ms)) (later_is ∙ e))
 
-  pub skipped_reals : (a r : ℕ) → is_some (get_member k made) ≡ true → counted r ≡ counted (a + members_reals ss ms) → counted r ≡ counted (a + members_reals ss (json.member k j ms))
-  skipped_reals a r e f = f ∙ sym (ap (λ b. counted (a + (if b then members_reals ss ms else unless_number (scaled_property ss k j) (reals_of j) + members_reals ss ms))) (later_is ∙ e))
+  pub skipped_reals : (a r : ℕ) → is_some (get_member k made) ≡ true → counted r ≡ counted (a + members_reals rule ss ms) → counted r ≡ counted (a + members_reals rule ss (json.member k j ms))
+  skipped_reals a r e f = f ∙ sym (ap (λ b. counted (a + (if b then members_reals rule ss ms else unless_number (scaled_property ss k j) (reals_of rule j) + members_reals rule ss ms))) (later_is ∙ e))
 
   -- a member that is the last of its name
-  pub kept : (d : Data) → is_some (get_member k made) ≡ false → d ≡ number_or (scaled_property ss k j) (data_of j) → put k d made ≡ members_of ss (json.member k j ms)
+  pub kept : (d : Data) → is_some (get_member k made) ≡ false → d ≡ number_or (scaled_property ss k j) (data_of rule j) → put k d made ≡ members_of rule ss (json.member k j ms)
   kept d e same =
-      ap (λ m. put k d m) was ∙ ap (λ v. put k v (members_of ss ms)) same
-      ∙ sym (ap (λ b. if b then members_of ss ms else put k (number_or (scaled_property ss k j) (data_of j)) (members_of ss ms)) (later_is ∙ e))
+      ap (λ m. put k d m) was ∙ ap (λ v. put k v (members_of rule ss ms)) same
+      ∙ sym (ap (λ b. if b then members_of rule ss ms else put k (number_or (scaled_property ss k j) (data_of rule j)) (members_of rule ss ms)) (later_is ∙ e))
 
-  pub kept_reals : (a b c : ℕ) → is_some (get_member k made) ≡ false → counted b ≡ counted (a + members_reals ss ms) → counted c ≡ counted (b + unless_number (scaled_property ss k j) (reals_of j))
-      → counted c ≡ counted (a + members_reals ss (json.member k j ms))
+  pub kept_reals : (a b c : ℕ) → is_some (get_member k made) ≡ false → counted b ≡ counted (a + members_reals rule ss ms) → counted c ≡ counted (b + unless_number (scaled_property ss k j) (reals_of rule j))
+      → counted c ≡ counted (a + members_reals rule ss (json.member k j ms))
   kept_reals a b c e f g =
-      counted_more a b c (members_reals ss ms) (unless_number (scaled_property ss k j) (reals_of j)) f g
-      ∙ sym (ap (λ b. counted (a + (if b then members_reals ss ms else unless_number (scaled_property ss k j) (reals_of j) + members_reals ss ms))) (later_is ∙ e))
+      counted_more a b c (members_reals rule ss ms) (unless_number (scaled_property ss k j) (reals_of rule j)) f g
+      ∙ sym (ap (λ b. counted (a + (if b then members_reals rule ss ms else unless_number (scaled_property ss k j) (reals_of rule j) + members_reals rule ss ms))) (later_is ∙ e))

@@ -17,19 +17,20 @@ use Rattle.reading.specs.FaultLists.Ascending.{IsAscending}
 use Rattle.reading.proofs.FaultListsLemmas.Ascending.{AreBehind, IsBeyond, ascending_here, ascending_more, ascending_none, ascending_under, beyond_append, beyond_none, beyond_under}
 use Rattle.attributes.specs.Attributes.{properties_members}
 use Rattle.attributes.specs.Numerals.{signed_of}
-use Rattle.attributes.specs.Refusals.{attributes_faults, has_wrong_number, id_faults, members_faults, named_id_faults, own_id_faults}
+use Rattle.attributes.specs.Refusals.{attributes_faults, has_wrong_number, id_faults, members_faults, named_id_faults, own_id_faults, refuses}
 use Rattle.attributes.specs.Values.{members_of, members_reals}
 use Rattle.attributes.specs.declared.rules.AttributeRules.{AttributeRules}
+use Rattle.attributes.specs.declared.rules.Reals.{Reals}
 
 one_if : (b : Bool) (k : FaultKind) → IsAscending (if b then here k else [])
 one_if true k = ascending_here k
 one_if false k = ascending_none
 
-ascending_id : (is_property refuses : Bool) (v : Option Json) → IsAscending (id_faults is_property refuses v)
+ascending_id : (is_property : Bool) (rule : Reals) (v : Option Json) → IsAscending (id_faults is_property rule v)
 ascending_id q r None = one_if q Missing
 ascending_id q r (Some json.null) = one_if q WrongKind
 ascending_id q r (Some (json.boolean b)) = ascending_here WrongKind
-ascending_id q r (Some (json.number s)) = one_if (r && not (is_some (signed_of s))) NotWhole
+ascending_id q r (Some (json.number s)) = one_if (refuses r && not (is_some (signed_of r s))) NotWhole
 ascending_id q r (Some (json.string s)) = ascending_none
 ascending_id q r (Some (json.array js)) = ascending_here WrongKind
 ascending_id q r (Some (json.object ms)) = ascending_here WrongKind
@@ -53,30 +54,30 @@ with_member : (b c : Bool) (n : List ℕ) (ps : List Pair) → IsAscending ps �
 with_member b c n ps a =
     here_more b PropertyNumber _ (depth_behind c n ps) (here_more c PropertyDepth _ (behind_here PropertyDepth n ps) (ascending_under (name n) ps a))
 
-ascending_named : (r : AttributeRules) (p : Option Json) (id : Option (Bor (List ℕ))) (o : Option json.Members) → IsAscending (members_faults r p (named_id_faults id r.refuses_reals p) o)
+ascending_named : (r : AttributeRules) (p : Option Json) (id : Option (Bor (List ℕ))) (o : Option json.Members) → IsAscending (members_faults r p (named_id_faults id r.reals p) o)
 ascending_named r p id None = ascending_here WrongKind
 ascending_named r p None (Some ms) =
-    with_member (has_wrong_number r p (members_reals r.scales.now ms)) (not (nat_le (depth (object (members_of r.scales.now ms))) GREATEST_PROPERTY_DEPTH)) [] [] ascending_none
+    with_member (has_wrong_number r p (members_reals r.reals r.scales.now ms)) (not (nat_le (depth (object (members_of r.reals r.scales.now ms))) GREATEST_PROPERTY_DEPTH)) [] [] ascending_none
 ascending_named r p (Some n) (Some ms) =
-    with_member (has_wrong_number r p (members_reals r.scales.now ms)) (not (nat_le (depth (object (members_of r.scales.now ms))) GREATEST_PROPERTY_DEPTH)) n.now
-    (id_faults true r.refuses_reals (option_and_then (get n.now) p)) (ascending_id true r.refuses_reals (option_and_then (get n.now) p))
+    with_member (has_wrong_number r p (members_reals r.reals r.scales.now ms)) (not (nat_le (depth (object (members_of r.reals r.scales.now ms))) GREATEST_PROPERTY_DEPTH)) n.now
+    (id_faults true r.reals (option_and_then (get n.now) p)) (ascending_id true r.reals (option_and_then (get n.now) p))
 
 -- the id's faults, and those of properties
-own_before : (id : Option (Bor (List ℕ))) (refuses : Bool) (i : Option Json) (ps : List Pair) → IsAscending ps → IsAscending (own_id_faults id refuses i ++ under (name (codes "properties")) ps)
-own_before None refuses i ps a =
-    ascending_more (name (codes "id")) (id_faults false refuses i) (under (name (codes "properties")) ps) (ascending_id false refuses i) (beyond_under (name (codes "id")) (name (codes "properties")) ps refl)
+own_before : (id : Option (Bor (List ℕ))) (rule : Reals) (i : Option Json) (ps : List Pair) → IsAscending ps → IsAscending (own_id_faults id rule i ++ under (name (codes "properties")) ps)
+own_before None rule i ps a =
+    ascending_more (name (codes "id")) (id_faults false rule i) (under (name (codes "properties")) ps) (ascending_id false rule i) (beyond_under (name (codes "id")) (name (codes "properties")) ps refl)
     (ascending_under (name (codes "properties")) ps a)
-own_before (Some n) refuses i ps a = ascending_under (name (codes "properties")) ps a
+own_before (Some n) rule i ps a = ascending_under (name (codes "properties")) ps a
 
 pub ascending_attributes : (r : AttributeRules) (i p : Option Json) → IsAscending (attributes_faults r i p)
-ascending_attributes r i p = own_before r.id r.refuses_reals i _ (ascending_named r p r.id (properties_members p))
+ascending_attributes r i p = own_before r.id r.reals i _ (ascending_named r p r.id (properties_members p))
 
-beyond_own : (n : List ℕ) (id : Option (Bor (List ℕ))) (refuses : Bool) (i : Option Json) → turn_cmp (name n) (name (codes "id")) ≡ Less → IsBeyond (name n) (own_id_faults id refuses i)
-beyond_own n None refuses i less = beyond_under (name n) (name (codes "id")) (id_faults false refuses i) less
-beyond_own n (Some property) refuses i less = beyond_none (name n)
+beyond_own : (n : List ℕ) (id : Option (Bor (List ℕ))) (rule : Reals) (i : Option Json) → turn_cmp (name n) (name (codes "id")) ≡ Less → IsBeyond (name n) (own_id_faults id rule i)
+beyond_own n None rule i less = beyond_under (name n) (name (codes "id")) (id_faults false rule i) less
+beyond_own n (Some property) rule i less = beyond_none (name n)
 
 -- they come after the faults of a member whose name comes before both
 pub beyond_attributes : (n : List ℕ) (r : AttributeRules) (i p : Option Json) → turn_cmp (name n) (name (codes "id")) ≡ Less → turn_cmp (name n) (name (codes "properties")) ≡ Less
     → IsBeyond (name n) (attributes_faults r i p)
 beyond_attributes n r i p own properties =
-    beyond_append (name n) (own_id_faults r.id r.refuses_reals i) _ (beyond_own n r.id r.refuses_reals i own) (beyond_under (name n) (name (codes "properties")) _ properties)
+    beyond_append (name n) (own_id_faults r.id r.reals i) _ (beyond_own n r.id r.reals i own) (beyond_under (name n) (name (codes "properties")) _ properties)

@@ -10,14 +10,15 @@ use Rattle.numerals.specs.Nearest.{IsNearest, IsRounded}
 use Rattle.numerals.specs.Numeral.{IsNumeral, IsSnapped, Measure, denominator, divisor, measure, parts_of, unsigned_text}
 use Rattle.numerals.proofs.Nearest.{from_nearest, one_rounded, rounded_halves_of}
 use Rattle.numerals.proofs.Steps.{dividend_is, grid_size, signed_nearest}
-use Rattle.attributes.specs.Numerals.{is_numeral, scaled, scaled_size}
+use Rattle.numerals.specs.Whole.{is_numeral}
+use Rattle.attributes.specs.Numerals.{scaled, scaled_size}
 
-numeral_from : (text : List ℕ) → is_numeral text ≡ true → IsNumeral text
+pub numeral_from : (text : List ℕ) → is_numeral text ≡ true → IsNumeral text
 numeral_from text e =
     let parts = and_parts (has_digits (parts_of text)) ((parts_of text).len == length (unsigned_text text)) e in
     record { digits = parts.0; complete = eqb-true _ _ parts.1 }
 
-numeral_is : (text : List ℕ) → IsNumeral text → is_numeral text ≡ true
+pub numeral_is : (text : List ℕ) → IsNumeral text → is_numeral text ≡ true
 numeral_is text h = and_from _ _ h.digits (eq-eqb _ _ h.complete)
 
 module _ (places : ℕ) (text : List ℕ) where

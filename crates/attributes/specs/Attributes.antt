@@ -15,6 +15,7 @@ use Rattle.attributes.specs.Numerals.{signed_of, spelled}
 use Rattle.attributes.specs.Values.{members_of, members_reals, one_if}
 use Rattle.attributes.specs.declared.info.Attributes.{Attributes}
 use Rattle.attributes.specs.declared.rules.AttributeRules.{AttributeRules}
+use Rattle.attributes.specs.declared.rules.Reals.{Reals}
 
 -- a member of a feature, where it has one
 abbrev pub seen_member : Option (Bor (Value Global)) → Option Json
@@ -31,24 +32,24 @@ number_id (Some n) s = number n
 number_id None s = text s
 
 -- the id that a value means: none, a number or a text [RFC 7946, 3.2; own]
-abbrev pub id_of : Option Json → PlainId
-id_of None = none
-id_of (Some json.null) = none
-id_of (Some (json.boolean b)) = none
-id_of (Some (json.number s)) = number_id (signed_of s) (spelled s)
-id_of (Some (json.string s)) = text s
-id_of (Some (json.array js)) = none
-id_of (Some (json.object ms)) = none
+abbrev pub id_of : Reals → Option Json → PlainId
+id_of rule None = none
+id_of rule (Some json.null) = none
+id_of rule (Some (json.boolean b)) = none
+id_of rule (Some (json.number s)) = number_id (signed_of rule s) (spelled s)
+id_of rule (Some (json.string s)) = text s
+id_of rule (Some (json.array js)) = none
+id_of rule (Some (json.object ms)) = none
 
 -- whether a number became a text there
-abbrev pub id_reals : Option Json → ℕ
-id_reals None = 0
-id_reals (Some json.null) = 0
-id_reals (Some (json.boolean b)) = 0
-id_reals (Some (json.number s)) = one_if (not (is_some (signed_of s)))
-id_reals (Some (json.string s)) = 0
-id_reals (Some (json.array js)) = 0
-id_reals (Some (json.object ms)) = 0
+abbrev pub id_reals : Reals → Option Json → ℕ
+id_reals rule None = 0
+id_reals rule (Some json.null) = 0
+id_reals rule (Some (json.boolean b)) = 0
+id_reals rule (Some (json.number s)) = one_if (not (is_some (signed_of rule s)))
+id_reals rule (Some (json.string s)) = 0
+id_reals rule (Some (json.array js)) = 0
+id_reals rule (Some (json.object ms)) = 0
 
 -- the members of properties, of which there are none where properties are missing or null [RFC 7946, 3.2; own]
 abbrev pub properties_members : Option Json → Option json.Members
@@ -70,6 +71,6 @@ counted n = min n (2 ^ 64 - 1)
 
 -- these are the id and the properties, with the count of numbers that became texts
 pub record AreAttributes (r : AttributeRules) (i p : Option Json) (a : Attributes) : Type 0 where
-  pub id : plain_id a.id ≡ id_of (id_source r.id i p)
-  pub properties : properties_text a.props ≡ compact_text (object (members_of r.scales.now (members_or_none p)))
-  pub reals : a.reals ≡ counted (id_reals (id_source r.id i p) + members_reals r.scales.now (members_or_none p))
+  pub id : plain_id a.id ≡ id_of r.reals (id_source r.id i p)
+  pub properties : properties_text a.props ≡ compact_text (object (members_of r.reals r.scales.now (members_or_none p)))
+  pub reals : a.reals ≡ counted (id_reals r.reals (id_source r.id i p) + members_reals r.reals r.scales.now (members_or_none p))

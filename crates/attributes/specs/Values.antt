@@ -5,6 +5,7 @@ use Rattle.json.specs.Find.{as_number, get, get_member}
 use Rattle.serde_json.specs.Data.{Data, null, boolean, number, string, array, object, Items, no_items, item, Members, no_members, put}
 use Rattle.serde_json.specs.Find.{of_integer}
 use Rattle.attributes.specs.Numerals.{number_value, scaled, whole_of}
+use Rattle.attributes.specs.declared.rules.Reals.{Reals}
 use Rattle.attributes.specs.declared.rules.Scale.{Scale}
 
 -- of members by one name the last counts
@@ -33,24 +34,24 @@ number_or (Some n) d = number (of_integer n)
 
 -- what a value becomes: its whole numbers of 64 bits stay, and its other numbers become texts
 abbrev mutual
-  pub data_of : json.Json → Data
-  data_of json.null = null
-  data_of (json.boolean b) = boolean b
-  data_of (json.number s) = number_value s
-  data_of (json.string s) = string s
-  data_of (json.array js) = array (items_of js)
-  data_of (json.object ms) = object (members_of [] ms)
+  pub data_of : Reals → json.Json → Data
+  data_of rule json.null = null
+  data_of rule (json.boolean b) = boolean b
+  data_of rule (json.number s) = number_value rule s
+  data_of rule (json.string s) = string s
+  data_of rule (json.array js) = array (items_of rule js)
+  data_of rule (json.object ms) = object (members_of rule [] ms)
 
-  pub items_of : json.Items → Items
-  items_of json.no_items = no_items
-  items_of (json.item j js) = item (data_of j) (items_of js)
+  pub items_of : Reals → json.Items → Items
+  items_of rule json.no_items = no_items
+  items_of rule (json.item j js) = item (data_of rule j) (items_of rule js)
 
   -- the members of an object, with those of these properties scaled
-  pub members_of : List Scale → json.Members → Members
-  members_of ss json.no_members = no_members
-  members_of ss (json.member k j ms) =
-      if comes_later k ms then members_of ss ms
-      else put k (number_or (scaled_property ss k j) (data_of j)) (members_of ss ms)
+  pub members_of : Reals → List Scale → json.Members → Members
+  members_of rule ss json.no_members = no_members
+  members_of rule ss (json.member k j ms) =
+      if comes_later k ms then members_of rule ss ms
+      else put k (number_or (scaled_property ss k j) (data_of rule j)) (members_of rule ss ms)
 
 -- one, unless it is false
 abbrev pub one_if : Bool → ℕ
@@ -63,22 +64,23 @@ unless_number (Some n) count = 0
 
 -- how many numbers of a value become texts
 abbrev mutual
-  pub reals_of : json.Json → ℕ
-  reals_of json.null = 0
-  reals_of (json.boolean b) = 0
-  reals_of (json.number s) = one_if (not (is_some (whole_of s)))
-  reals_of (json.string s) = 0
-  reals_of (json.array js) = items_reals js
-  reals_of (json.object ms) = members_reals [] ms
+  pub reals_of : Reals → json.Json → ℕ
+  reals_of rule json.null = 0
+  reals_of rule (json.boolean b) = 0
+  reals_of rule (json.number s) = one_if (not (is_some (whole_of rule s)))
+  reals_of rule (json.string s) = 0
+  reals_of rule (json.array js) = items_reals rule js
+  reals_of rule (json.object ms) = members_reals rule [] ms
 
-  pub items_reals : json.Items → ℕ
-  items_reals json.no_items = 0
-  items_reals (json.item j js) = reals_of j + items_reals js
+  pub items_reals : Reals → json.Items → ℕ
+  items_reals rule json.no_items = 0
+  items_reals rule (json.item j js) = reals_of rule j + items_reals rule js
 
-  pub members_reals : List Scale → json.Members → ℕ
-  members_reals ss json.no_members = 0
-  members_reals ss (json.member k j ms) =
-      if comes_later k ms then members_reals ss ms else unless_number (scaled_property ss k j) (reals_of j) + members_reals ss ms
+  pub members_reals : Reals → List Scale → json.Members → ℕ
+  members_reals rule ss json.no_members = 0
+  members_reals rule ss (json.member k j ms) =
+      if comes_later k ms then members_reals rule ss ms
+      else unless_number (scaled_property ss k j) (reals_of rule j) + members_reals rule ss ms
 
 -- a number that has places but no whole number
 abbrev pub is_beyond : ℕ → Option (List ℕ) → Bool

@@ -10,7 +10,7 @@ ghost use Rattle.std.specs.Prelude.{◌≡◌, [], IfOk, nat_le, not, if◌then�
 use crate::id::member;
 use crate::numeral::signed_number;
 use crate::properties::{convert_properties, has_wrong_number};
-use crate::rules::AttributeRules;
+use crate::rules::{AttributeRules, Reals};
 use faults::{Fault, FaultKind, OutOfMemory};
 use json::Value;
 use reading::fault_lists::found::{join, one, put_under_name, under_name};
@@ -39,10 +39,10 @@ fn nests_too_deep(members: Map<String, serde_json::Value>) -> bool
 fn judge_id(
     alloc: Global,
     is_property: bool,
-    refuses: bool,
+    rule: Reals,
     value: Option<&Value<'_>>,
 ) -> Result<Vec<Fault>, OutOfMemory>
-    ensures { IfOk result (λ fs. pairs_of fs.items ≡ id_faults is_property refuses (seen_member value.entry)) }
+    ensures { IfOk result (λ fs. pairs_of fs.items ≡ id_faults is_property rule (seen_member value.entry)) }
 {
     match value {
         None => one_if(alloc, is_property, FaultKind::Missing),
@@ -50,7 +50,7 @@ fn judge_id(
         Some(Value::Number(text)) => {
             one_if(
                 alloc,
-                refuses && signed_number(text).is_none(),
+                rule.refuses() && signed_number(rule, text).is_none(),
                 FaultKind::NotWhole,
             )
         }
@@ -69,7 +69,7 @@ fn judge_properties(
     ensures { IfOk result (λ fs. pairs_of fs.items ≡ members_faults rules.now (seen_member properties.entry) (pairs_of named.items) (properties_members (seen_member properties.entry))) }
 {
     let mut reals = 0u64;
-    let made = convert_properties(alloc, rules.scales, properties, &mut reals)?;
+    let made = convert_properties(alloc, rules.reals, rules.scales, properties, &mut reals)?;
     let Some(members) = made else {
         return one_if(alloc, true, FaultKind::WrongKind);
     };
@@ -99,7 +99,7 @@ pub fn attribute_faults(
 {
     match rules.id {
         None => {
-            let own = judge_id(alloc, false, rules.refuses_reals, id)?;
+            let own = judge_id(alloc, false, rules.reals, id)?;
             let mut found = under_name(alloc, own, "id")?;
             let part = judge_properties(alloc, rules, properties, Vec::new(alloc))?;
             put_under_name(alloc, &mut found, part, "properties")?;
@@ -107,7 +107,7 @@ pub fn attribute_faults(
         }
         Some(name) => {
             let value = member(properties, name);
-            let own = judge_id(alloc, true, rules.refuses_reals, value)?;
+            let own = judge_id(alloc, true, rules.reals, value)?;
             let named = under_name(alloc, own, name)?;
             let part = judge_properties(alloc, rules, properties, named)?;
             under_name(alloc, part, "properties")

@@ -14,4 +14,4 @@ mod values;
 pub use info::{Attributes, Unread};
 pub use judge::attribute_faults;
 pub use read::read_attributes;
-pub use rules::{AttributeRules, Scale};
+pub use rules::{AttributeRules, Reals, Scale};

@@ -1,17 +1,20 @@
 //! Numerals as whole numbers, and as texts.
-ghost use Rattle.attributes.specs.Numerals.{has_fraction, point_cut, scaled, signed_of, spelled, whole_of, zeros_cut};
+ghost use Rattle.attributes.specs.Numerals.{has_fraction, in_64_bits, integer_of, point_cut, scaled, signed_of, spelled, whole_of, written_whole, zeros_cut};
+ghost use Rattle.fast_float.specs.Text.{with_sign};
+ghost use Rattle.numerals.specs.Numeral.{parts_of};
 ghost use Rattle.serde_json.specs.View.{number_view};
-ghost use Rattle.std.specs.Prelude.{◌≡◌, ◌≤◌, length, option_map};
+ghost use Rattle.std.specs.Prelude.{◌≡◌, ◌≤◌, length, option_and_then, option_map};
 
+use crate::rules::Reals;
 use fast_float::Numeral;
-use numerals::{DecimalStep, snap};
+use numerals::{DecimalStep, snap, whole};
 use reading::tokens::number::read_number;
 use serde_json::Number;
 
-/// The whole number of 64 bits that a numeral is, as `serde_json` reads it: with no fraction and no exponent, and not
-/// `-0`.
-pub fn whole_number(text: &str) -> Option<Number>
-    ensures { option_map number_view result ≡ whole_of text.now }
+// The whole number of 64 bits that a numeral is written as, with no fraction and no exponent, and not `-0`: as
+// `serde_json` reads it.
+fn written_whole(text: &str) -> Option<Number>
+    ensures { option_map number_view result ≡ written_whole text.now }
 {
     match read_number(text) {
         Some(number) => if number.is_f64() { None } else { Some(number) },
@@ -19,11 +22,44 @@ pub fn whole_number(text: &str) -> Option<Number>
     }
 }
 
-/// The whole number of 64 signed bits that a numeral is.
-pub fn signed_number(text: &str) -> Option<i64>
-    ensures { result ≡ signed_of text.now }
+// The number of that sign and that size, if it has 64 bits.
+fn number_of(negative: bool, size: u64) -> Option<Number>
+    ensures { option_map number_view result ≡ in_64_bits (with_sign negative size) }
 {
-    match whole_number(text) {
+    if !negative {
+        return Some(Number::from(size));
+    }
+    if size > 1 << 63 {
+        return None;
+    }
+    Some(Number::from(-(size as i128) as i64))
+}
+
+// The whole number of 64 bits that a numeral is worth, however it is written.
+fn whole_value(text: &str) -> Option<Number>
+    ensures { option_map number_view result ≡ option_and_then in_64_bits (integer_of text.now) }
+{
+    match whole(text.as_bytes()) {
+        Some((negative, size)) => number_of(negative, size),
+        None => None,
+    }
+}
+
+/// The whole number of 64 bits that a numeral is.
+pub fn whole_number(rule: Reals, text: &str) -> Option<Number>
+    ensures { option_map number_view result ≡ whole_of rule text.now }
+{
+    match rule {
+        Reals::Text => written_whole(text),
+        Reals::Whole | Reals::Refuse => whole_value(text),
+    }
+}
+
+/// The whole number of 64 signed bits that a numeral is.
+pub fn signed_number(rule: Reals, text: &str) -> Option<i64>
+    ensures { result ≡ signed_of rule text.now }
+{
+    match whole_number(rule, text) {
         Some(number) => number.as_i64(),
         None => None,
     }
@@ -65,13 +101,20 @@ fn without_point(bytes: &[u8], kept: usize) -> usize
     }
 }
 
+/// The parts of a numeral that may have a minus in front.
+pub fn scan(bytes: &[u8]) -> Numeral<'_>
+    ensures { result ≡ parts_of bytes.now }
+{
+    match bytes {
+        [b'-', rest @ ..] => Numeral::scan(rest),
+        _ => Numeral::scan(bytes),
+    }
+}
+
 fn has_fraction(bytes: &[u8]) -> bool
     ensures { result ≡ has_fraction bytes.now }
 {
-    let numeral = match bytes {
-        [b'-', rest @ ..] => Numeral::scan(rest),
-        _ => Numeral::scan(bytes),
-    };
+    let numeral = scan(bytes);
     numeral.has_point() && numeral.exponent().is_empty()
 }
 

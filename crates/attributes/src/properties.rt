@@ -7,7 +7,7 @@ ghost use Rattle.std.specs.Prelude.{◌+◌, ◌≡◌, IfOk, OnOk, option_map};
 
 use crate::id::member;
 use crate::numeral::scale;
-use crate::rules::{AttributeRules, Scale};
+use crate::rules::{AttributeRules, Reals, Scale};
 use crate::values::convert_members;
 use faults::OutOfMemory;
 use json::Value;
@@ -18,17 +18,18 @@ use std::alloc::Global;
 /// that become texts.
 pub fn convert_properties(
     alloc: Global,
+    rule: Reals,
     scales: &[Scale<'_>],
     properties: Option<&Value<'_>>,
     reals: &mut u64,
 ) -> Result<Option<Map<String, serde_json::Value>>, OutOfMemory>
-    ensures made { IfOk result (λ o. option_map (λ m. members_view m.entries) o ≡ option_map (members_of scales.now) (properties_members (seen_member properties.entry))) }
-    ensures reals { OnOk result (counted reals.new ≡ counted (reals.old + members_reals scales.now (members_or_none (seen_member properties.entry)))) }
+    ensures made { IfOk result (λ o. option_map (λ m. members_view m.entries) o ≡ option_map (members_of rule scales.now) (properties_members (seen_member properties.entry))) }
+    ensures reals { OnOk result (counted reals.new ≡ counted (reals.old + members_reals rule scales.now (members_or_none (seen_member properties.entry)))) }
 {
     match properties {
         None | Some(Value::Null) => Ok(Some(Map::new(alloc))),
         Some(Value::Object(members)) => {
-            let made = convert_members(alloc, scales, members, reals)?;
+            let made = convert_members(alloc, rule, scales, members, reals)?;
             Ok(Some(made))
         }
         Some(_) => Ok(None),
@@ -63,5 +64,5 @@ pub fn has_wrong_number(
 ) -> bool
     ensures { result ≡ has_wrong_number rules.now (seen_member properties.entry) reals }
 {
-    has_beyond(rules.scales, properties) || (rules.refuses_reals && reals > 0)
+    has_beyond(rules.scales, properties) || (rules.reals.refuses() && reals > 0)
 }

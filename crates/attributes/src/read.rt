@@ -41,13 +41,14 @@ fn read_properties(
     properties: Option<&Value<'_>>,
     reals: &mut u64,
 ) -> Result<Props, Unread>
-    ensures made { IfOk result (λ p. properties_text p ≡ compact_text (object (members_of rules.now.scales.now (members_or_none (seen_member properties.entry))))) }
-    ensures reals { OnOk result (reals.new ≡ counted (reals.old + members_reals rules.now.scales.now (members_or_none (seen_member properties.entry)))) }
+    ensures made { IfOk result (λ p. properties_text p ≡ compact_text (object (members_of rules.now.reals rules.now.scales.now (members_or_none (seen_member properties.entry))))) }
+    ensures reals { OnOk result (reals.new ≡ counted (reals.old + members_reals rules.now.reals rules.now.scales.now (members_or_none (seen_member properties.entry)))) }
     ensures ok { OnOk result ((named : List Pair) → members_faults rules.now (seen_member properties.entry) named (properties_members (seen_member properties.entry)) ≡ named) }
     ensures refused { result ≡ Err Unread.Faulty → (named : List Pair) → members_faults rules.now (seen_member properties.entry) named (properties_members (seen_member properties.entry)) ≢ [] }
 {
     let mut texts = 0u64;
-    let Some(members) = convert_properties(alloc, rules.scales, properties, &mut texts)? else {
+    let made = convert_properties(alloc, rules.reals, rules.scales, properties, &mut texts)?;
+    let Some(members) = made else {
         return Err(Unread::Faulty);
     };
     if has_wrong_number(rules, properties, texts) {
@@ -60,8 +61,8 @@ fn read_properties(
 /// The id and the properties of a feature, by its members `id` and `properties`, which may be missing (RFC 7946, section
 /// 3.2).
 ///
-/// Whole numbers of 64 bits stay numbers, others become the texts of their numerals, and scaled properties whole
-/// numbers.
+/// Whole numbers of 64 bits are numbers, others become the texts of their numerals, and scaled properties whole numbers.
+/// `rules.reals` says which numbers are whole.
 ///
 /// # Errors
 /// `Faulty` where the members have faults, which `attribute_faults` lists; `OutOfMemory`.

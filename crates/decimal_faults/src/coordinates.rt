@@ -19,8 +19,8 @@ use json::Value;
 use reading::geometry::GeometryType;
 use std::alloc::Global;
 
-// Whether a value is an array of nothing.
-fn is_empty(value: &Value<'_>) -> bool
+/// Whether a value is an array of nothing.
+pub fn is_empty(value: &Value<'_>) -> bool
     ensures { result ≡ is_nothing (as_array (value_view value.now)) }
 {
     match items_of(value) {

@@ -32,8 +32,8 @@ pub enum GeometryForm {
     Collection,
 }
 
-// The geometry that a name says.
-fn form_named(text: &str) -> Result<GeometryForm, FaultKind>
+/// The geometry that a name says.
+pub fn form_named(text: &str) -> Result<GeometryForm, FaultKind>
     ensures { result ≡ named_form text.now }
 {
     if text == "GeometryCollection" {

@@ -4,14 +4,14 @@
 //! it means. It is checked, which gives all its faults, or made, which gives what it means where it has none.
 #![tactic(auto)]
 
-mod coordinates;
-mod feature;
+pub mod coordinates;
+pub mod feature;
 pub mod geometry;
 pub mod laws;
-mod lists;
-mod members;
-mod outline;
-mod part;
+pub mod lists;
+pub mod members;
+pub mod outline;
+pub mod part;
 mod position;
 mod root;
 

@@ -54,8 +54,11 @@ fn kind_of(fault: ShapeFault) -> FaultKind
     }
 }
 
-// The faults of a list of positions without faults.
-fn judge_outline(
+/// The faults of a list of positions without faults.
+///
+/// # Errors
+/// Where memory is refused.
+pub fn judge_outline(
     alloc: Global,
     outline: Outline,
     positions: Vec<Pos>,

@@ -140,7 +140,7 @@ fn bare_feature(
     let unnamed = AttributeRules {
         id: None,
         scales: rules.attributes.scales,
-        refuses_reals: rules.attributes.refuses_reals,
+        reals: rules.attributes.reals,
     };
     let attributes = attributes_of(alloc, &unnamed, None, None)?;
     Ok(RawFeature {

@@ -6,6 +6,7 @@ use Rattle.faults.specs.declared.fault.Fault.{Fault}
 use Rattle.fixing.specs.declared.rules.Collapsed.TheVariants.{Null}
 use Rattle.fixing.specs.declared.rules.FixingRules.{FixingRules}
 use Rattle.fixing.specs.declared.rules.Rewind.TheVariants.{Keep}
+use Rattle.attributes.specs.declared.rules.Reals.TheVariants as reals
 use Rattle.decimal_maps.specs.declared.rules.DecimalGrid.{DecimalGrid}
 use Rattle.numerals.specs.Numeral.{IsMeasure, IsUnsigned, measure_of}
 use Rattle.reading.specs.Fault.{LeastOrWant}
@@ -33,7 +34,7 @@ pub record AreRulesWithin (numeral : List ℕ) (x y : ℕ) (rules : RoundingRule
   pub grid : rules.map.grid ≡ grid_within numeral x y
   pub id : rules.map.attributes.id ≡ None
   pub scales : rules.map.attributes.scales.now ≡ []
-  pub reals : rules.map.attributes.refuses_reals ≡ false
+  pub reals : rules.map.attributes.reals ≡ reals.Text
   pub fixing : rules.fixing ≡ all_fixed
 
 -- no text stands for a millionth of a degree

@@ -3,7 +3,7 @@ ghost use Rattle.noshinka.specs.Snapped.{AreRules, AreRulesWithin, IsSize, IsSna
 ghost use Rattle.std.specs.Prelude.{◌↔◌, IfErr, IfOk, IfSome, IsSome};
 
 use crate::refusal::CallRefusal;
-use attributes::AttributeRules;
+use attributes::{AttributeRules, Reals};
 use decimal_maps::{DecimalGrid, MapRules};
 use fixing::{Collapsed, FixingRules, Rewind};
 use grid::limits::GREATEST_GRID_NUMBER;
@@ -26,7 +26,7 @@ const FIXING: FixingRules = FixingRules {
 const ATTRIBUTES: AttributeRules<'static> = AttributeRules {
     id: None,
     scales: &[],
-    refuses_reals: false,
+    reals: Reals::Text,
 };
 
 /// The rules for the step of a numeral. So many steps a number may be from 0.

@@ -2,11 +2,10 @@
 use Rattle.std.proofs.Common.{◌≡◌, ◌↔◌, ℕ, zero, suc, ◌+◌, ◌-◌, ◌*◌, ◌/◌, ◌%◌, ◌<◌, ◌≤◌, ◌^◌, min, Bool, true, false, cond, nat_eq, IsTrue, ◌++◌, drop, inl, inr, refl, sym, subst, ap, ◌∙◌, arith, mul-le-mul_right, zero-mul}
 use Rattle.std.proofs.lemmas.Bool.{cases_lt}
 use Rattle.std.proofs.lemmas.Bool.Decides.{nat_tests}
-use Rattle.std.proofs.lemmas.Int.{ints}
 use Rattle.std.proofs.lemmas.Nat.{div-add-mod', le-div, mod_below, pow-add}
 use Rattle.std.specs.Prelude.{unsigned_abs}
 use Rattle.std.specs.Str.Parse.{AllDigits, digits_value}
-use Rattle.fast_float.specs.Text.{Parts, digits_of, tens_up, tens_down, with_sign}
+use Rattle.fast_float.specs.Text.{Parts, digits_of, tens_up, tens_down}
 use Rattle.fast_float.proofs.ExactLemmas.{ten_to_pos}
 use Rattle.numerals.specs.Distance.{AreTenThousandths, away, rounded_up}
 use Rattle.numerals.specs.Quotient.{IsQuotient}
@@ -124,7 +123,7 @@ distance_is n d k x e some few h is =
     one_ceiling (10000 * away n d) d _ _ (nearer (n % d) d (k % 10000) x e some (mod_below n d some) (omega arith) rest.0 rest.1 rest.2 is) (ceiling_of (10000 * away n d) d some)
 
 -- a count that is capped
-capped : (n d k x : ℕ) (e : Bool) → k * d ≤ 10000 * n → 10000 * n < (k + 1) * d → (IsTrue e ↔ (10000 * n ≡ k * d)) → x ≡ min k (10 ^ 17) → AreTenThousandths n d x e
+pub capped : (n d k x : ℕ) (e : Bool) → k * d ≤ 10000 * n → 10000 * n < (k + 1) * d → (IsTrue e ↔ (10000 * n ≡ k * d)) → x ≡ min k (10 ^ 17) → AreTenThousandths n d x e
 capped n d k x e low high exact is =
     elim (cases_lt k (10 ^ 17)) [
       | inl few ↦ let same : x ≡ k = omega arith in rw same (record { limit = omega arith; low = low; high = λ _. high; is_exact = λ _. exact })
@@ -137,15 +136,6 @@ capped n d k x e low high exact is =
             is_exact = λ none. absurd (omega (arith, none));
           })
     ]
-
--- a fraction by one division
-pub divided : (n d p u x : ℕ) → 0 < d → p ≡ 10000 * n → u ≡ d → x ≡ min (p / u) (10 ^ 17) → AreTenThousandths n d x (nat_eq (p / u * u) p)
-divided n d p u x some above below is =
-    let k = 10000 * n / d in
-    let split = div-add-mod' (10000 * n) d in
-    let rest = mod_below (10000 * n) d some in
-    let capped_at : x ≡ min k (10 ^ 17) = rw (above, below) at is in
-    rw (above, below) (capped n d k x (nat_eq (k * d) (10000 * n)) (omega (arith, split)) (omega (arith, split, rest)) (grind (arith, nat_tests)) capped_at)
 
 -- units of which a step has s, rounded down and then divided
 in_steps : (n e s t q x : ℕ) (b f : Bool) → 0 < s → 0 < e → t ≡ 10000 * n → IsQuotient t e q → (IsTrue b ↔ (t ≡ q * e)) → (IsTrue f ↔ (IsTrue b × (q % s ≡ 0)))
@@ -211,10 +201,6 @@ whole_where r b e = rw e (grind (arith, nat_tests))
 
 pub whole_not : (r : ℕ) (b : Bool) → b ≡ false → IsTrue b ↔ (IsTrue b × (r ≡ 0))
 whole_not r b e = rw e (λ t. let off = t in absurd (cc), λ both. both.0)
-
-pub size_of_sign : (negative : Bool) (n : ℕ) → unsigned_abs (with_sign negative n) ≡ n
-size_of_sign false n = refl
-size_of_sign true n = omega (arith, ints)
 
 away_zero : (n d : ℕ) → 0 < d → (rounded_up (10000 * away n d) d ≡ 0) ↔ ((k : ℕ) × (n ≡ k * d))
 away_zero n d some =

@@ -11,7 +11,7 @@ use Rattle.numerals.specs.Numeral.{Measure, numerator, denominator, dividend, di
 use Rattle.numerals.proofs.Nearest.{below_times, from_nearest}
 use Rattle.numerals.proofs.Steps.{some_divisor}
 
-swap : (p : ℤ) (a b : ℕ) → (p *ℤ pos a) *ℤ pos b ≡ (p *ℤ pos b) *ℤ pos a
+pub swap : (p : ℤ) (a b : ℕ) → (p *ℤ pos a) *ℤ pos b ≡ (p *ℤ pos b) *ℤ pos a
 swap (pos q) a b = ap pos (omega arith)
 swap (negsuc k) a b = below_times (suc k * a) b ∙ (ap (with_sign true) (omega arith) ∙ sym (below_times (suc k * b) a))
 

@@ -7,3 +7,6 @@ pub mod Shortness
 pub mod Printed
 pub mod Ceilings
 pub mod Leasts
+pub mod Fractions
+pub mod Wholes
+pub mod Axes

@@ -1,17 +1,16 @@
 -- Numerals with no exponent, read digit by digit, and rounded.
-use Rattle.std.proofs.Common.{◌≡◌, ℕ, ◌+◌, ◌*◌, ◌%◌, ◌^◌, ◌<◌, ◌≤◌, Bool, true, false, List, [], ◌∷◌, ◌++◌, length, IsTrue, refl, sym, ap, ap₂, ◌∙◌, subst, lit<, arith, append-nil, append_assoc, length-append, mul-le-mul_right}
-use Rattle.std.proofs.Math.Nat.{pow-le-pow_right}
-use Rattle.std.proofs.lemmas.Nat.{mul-le}
+use Rattle.std.proofs.Common.{◌≡◌, ℕ, ◌↔◌, ◌+◌, ◌*◌, ◌%◌, ◌^◌, ◌<◌, ◌≤◌, Bool, true, false, Some, List, [], ◌∷◌, ◌++◌, length, IsTrue, refl, sym, ap, ap₂, ◌∙◌, subst, arith, append-nil, append_assoc, length-append}
 use Rattle.std.proofs.lemmas.Str.{digit_value_digit}
 use Rattle.std.proofs.lemmas.Bool.Decides.{nat_tests}
 use Rattle.std.specs.Char.{digit_value}
 use Rattle.std.specs.Prelude.{if◌then◌else◌, ◌==◌}
 use Rattle.std.specs.Str.Parse.{digits_value, digits_value_after, AllDigits}
-use Rattle.fast_float.proofs.ExactLemmas.{ten_to_pos}
 use Rattle.fast_float.proofs.Rows.{AllDigits-append}
 use Rattle.fast_float.proofs.Writing.{scan-text_of}
 use Rattle.fast_float.specs.Text.{Parts, scan, has_digits, digits_of, tens_up, tens_down, IsWellFormed}
 use Rattle.numerals.specs.Distance.{AreTenThousandths}
+use Rattle.numerals.specs.Nearest.{IsRounded}
+use Rattle.numerals.specs.Numeral.{IsUnsigned}
 use Rattle.numerals.specs.Short.{IsFront, IsShort}
 use Rattle.numerals.proofs.Places.{after_append}
 
@@ -85,17 +84,6 @@ emptied (x ∷ l) e = absurd (omega (arith, e))
 pub none_left : (l : List ℕ) → (length l == 0) ≡ true → l ≡ []
 none_left l e = emptied l (grind (arith, nat_tests))
 
-pub unit_bounds : (size places : ℕ) → 1 ≤ size → size ≤ 10 ^ 12 → places ≤ 18 → (0 < size * 10 ^ places) × (size * 10 ^ places ≤ 10 ^ 30)
-unit_bounds size places some limit few =
-    let most : 10 ^ places ≤ 10 ^ 18 = pow-le-pow_right (lit< tt) {j = 18} few in
-    let above = mul-le size (10 ^ places) (10 ^ 12) (10 ^ 18) limit most in
-    (omega (arith, ten_to_pos places, mul-le-mul_right (10 ^ places) some), omega (arith, above))
-
-pub scaled_bound : (digits places : ℕ) → digits < 2 ^ 64 → places ≤ 12 → 10000 * digits * 10 ^ places ≤ 10 ^ 4 * 2 ^ 64 * 10 ^ 12
-scaled_bound digits places less few =
-    let most : 10 ^ places ≤ 10 ^ 12 = pow-le-pow_right (lit< tt) {j = 12} few in
-    mul-le (10000 * digits) (10 ^ places) (10 ^ 4 * 2 ^ 64) (10 ^ 12) (omega (arith, less)) most
-
 -- the parts of a short numeral are those of its text
 pub short_parts : (u : List ℕ) (number places moved size k : ℕ) (e : Bool) → IsShort u number places → AreTenThousandths (number * 10 ^ moved) (size * 10 ^ places) k e
     → AreTenThousandths (digits_of (scan u) * 10 ^ (tens_up (scan u) + moved)) (size * 10 ^ tens_down (scan u)) k e
@@ -104,3 +92,22 @@ short_parts u number places moved size k e s h =
     let n : digits_of (scan u) * 10 ^ (tens_up (scan u) + moved) ≡ number * 10 ^ moved = ap₂ (λ a b. a * 10 ^ b) s.digits sum in
     let d : size * 10 ^ tens_down (scan u) ≡ size * 10 ^ places = ap (λ a. size * 10 ^ a) s.down in
     rw (n, d) h
+
+-- and so is the nearest number of steps
+pub short_rounded : (u : List ℕ) (number places moved size q : ℕ) → IsShort u number places → IsRounded (number * 10 ^ moved) (size * 10 ^ places) q
+    → IsRounded (digits_of (scan u) * 10 ^ (tens_up (scan u) + moved)) (size * 10 ^ tens_down (scan u)) q
+short_rounded u number places moved size q s h =
+    let sum : tens_up (scan u) + moved ≡ moved = omega (arith, s.up) in
+    let n : digits_of (scan u) * 10 ^ (tens_up (scan u) + moved) ≡ number * 10 ^ moved = ap₂ (λ a b. a * 10 ^ b) s.digits sum in
+    let d : size * 10 ^ tens_down (scan u) ≡ size * 10 ^ places = ap (λ a. size * 10 ^ a) s.down in
+    rw (n, d) h
+
+-- a short numeral with no digits behind its point is its number
+pub short_whole : (u : List ℕ) (number k : ℕ) → number < 2 ^ 64 → IsShort u number 0
+    → (Some number ≡ Some k) ↔ (IsUnsigned u × (k * 10 ^ tens_down (scan u) ≡ digits_of (scan u) * 10 ^ tens_up (scan u)) × (k < 2 ^ 64))
+short_whole u number k fits s =
+    let worth : digits_of (scan u) * 10 ^ tens_up (scan u) ≡ number * 1 = ap₂ (λ a b. a * 10 ^ b) s.digits s.up in
+    let all : k * 10 ^ tens_down (scan u) ≡ k * 1 = ap (λ a. k * 10 ^ a) s.down in (
+      λ e. let same : number ≡ k = cc in (record { digits = s.some; complete = s.complete }, omega (arith, worth, all, same), omega (arith, same, fits)),
+      λ b. ap Some (omega (arith, worth, all, b.1)),
+    )

@@ -1,7 +1,8 @@
 -- What snapping keeps.
-use Rattle.std.specs.Prelude.{◌≡◌, ◌↔◌, ◌*◌, ◌≤◌, ℤ, pos, ◌-ℤ◌, ◌*ℤ◌, ◌≤ℤ◌, List, ℕ, unsigned_abs}
+use Rattle.std.specs.Prelude.{◌≡◌, ◌↔◌, ◌*◌, ◌≤◌, ℤ, pos, ◌-ℤ◌, ◌*ℤ◌, ◌≤ℤ◌, List, ℕ, Bool, unsigned_abs}
 use Rattle.json.specs.Print.{IsNumber}
 use Rattle.numerals.specs.Distance.{distance_of}
+use Rattle.numerals.specs.Whole.{IsWhole}
 use Rattle.numerals.specs.Numeral.{Measure, IsMeasure, IsNumeral, IsSnapped, IsAtMost, AreEqual, dividend, divisor}
 
 -- numerals that are worth the same have one position, however they are written
@@ -33,3 +34,7 @@ OnTheGridIsNotMoved = (s : Measure) (text : List ℕ) → IsMeasure s → (dista
 -- each number of JSON (RFC 8259, section 6) is a numeral
 abbrev pub NumbersAreNumerals : Type 0
 NumbersAreNumerals = (text : List ℕ) → IsNumber text → IsNumeral text
+
+-- numerals that are worth the same are the same whole number, or none
+abbrev pub EqualNumeralsAreWholeAlike : Type 0
+EqualNumeralsAreWholeAlike = (a b : List ℕ) (negative : Bool) (size : ℕ) → IsNumeral b → AreEqual a b → IsWhole a negative size → IsWhole b negative size

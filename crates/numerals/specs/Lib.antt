@@ -3,6 +3,8 @@ pub mod Numeral
 pub mod Floor
 pub mod Short
 pub mod Quotient
+pub mod Whole
+pub mod Axis
 pub mod Amount
 pub mod Distance
 pub mod Laws

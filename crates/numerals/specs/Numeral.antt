@@ -69,3 +69,9 @@ divisor s text = s.size * denominator text
 -- p is the whole number of steps that is nearest to the numeral
 abbrev pub IsSnapped : Measure → List ℕ → ℤ → Type 0
 IsSnapped s text p = IsNearest (dividend s text) (divisor s text) p
+
+-- a step is k units, a whole number of them from 1 to 1,000,000
+pub record IsOver (s unit : Measure) (k : ℕ) : Type 0 where
+  pub some : 1 ≤ k
+  pub limit : k ≤ 10 ^ 6
+  pub worth : s.size * 10 ^ unit.places ≡ k * unit.size * 10 ^ s.places

@@ -69,8 +69,8 @@ fn capped_number(value: u128, digits: &[u8]) -> u128
     capped_behind(number, left)
 }
 
-// The value with so many zeros behind it, or `CAP` where that is less.
-fn with_zeros(value: u128, zeros: u128) -> u128
+/// The value with so many zeros behind it, or `CAP` where that is less.
+pub(crate) fn with_zeros(value: u128, zeros: u128) -> u128
     requires { value ≤ CAP }
     ensures { result ≡ min (value * 10 ^ zeros) CAP }
 {

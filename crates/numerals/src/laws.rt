@@ -1,6 +1,6 @@
 //! What snapping keeps, as contracts of functions that do nothing.
 ghost use Rattle.numerals.specs.Amount.{TextsAreWorth};
-ghost use Rattle.numerals.specs.Laws.{DistanceIsLeast, EqualNumeralsSnapAlike, OrderIsKept, GridStays, NumbersAreNumerals, OnTheGridIsNotMoved};
+ghost use Rattle.numerals.specs.Laws.{DistanceIsLeast, EqualNumeralsAreWholeAlike, EqualNumeralsSnapAlike, OrderIsKept, GridStays, NumbersAreNumerals, OnTheGridIsNotMoved};
 
 /// Numerals that are worth the same have one position, however they are written: 1.5, 1.50 and 15e-1.
 #[tactic(auto, using(crate::proofs::Keeping::equal_numerals_snap_alike))]
@@ -41,4 +41,10 @@ pub fn numbers_are_numerals()
 /// What is printed of a decimal number is a numeral that is worth just that number.
 pub fn texts_are_worth()
     ensures { TextsAreWorth }
+{}
+
+/// Numerals that are worth the same are the same whole number, or none: 5, 5.0 and 50e-1.
+#[tactic(auto, using(crate::proofs::Wholes::equal_numerals_are_whole_alike))]
+pub fn equal_numerals_are_whole_alike()
+    ensures { EqualNumeralsAreWholeAlike }
 {}

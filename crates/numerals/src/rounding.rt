@@ -2,22 +2,20 @@
 ghost use Rattle.fast_float.specs.Text.{digits_of, scan, tens_up, tens_down, with_sign};
 ghost use Rattle.grid.specs.Place.{IsGridNumber};
 ghost use Rattle.numerals.specs.Distance.{AreTenThousandths, away, distance_of, rounded_up};
-ghost use Rattle.numerals.specs.Nearest.{IsRounded};
+ghost use Rattle.numerals.specs.Nearest.{IsNearest, IsRounded};
 ghost use Rattle.numerals.specs.Numeral.{IsMeasure, IsNumeral, IsSnapped, IsUnsigned, unsigned_text};
 ghost use Rattle.std.specs.Prelude.{◌≡◌, ◌↔◌, ℕ, ℤ, ◌+◌, ◌*◌, ◌^◌, ◌<◌, ◌≤◌, IfSome, IsSome, Some};
 ghost use Rattle.std.specs.Str.Parse.{starts_with_minus};
 
 use crate::digits::{floor_at, is_nothing_behind};
+use crate::fraction::FAR;
 use crate::short::read_short;
 use crate::step::DecimalStep;
 use fast_float::Numeral;
 use grid::limits::GREATEST_GRID_NUMBER;
 
-/// What more ten-thousandths are counted as, 10^17.
-pub(crate) const FAR: u128 = 100_000_000_000_000_000;
-
-// Whether a minus is in front, and the text without it.
-fn without_sign(text: &[u8]) -> (bool, &[u8])
+/// Whether a minus is in front, and the text without it.
+pub(crate) fn without_sign(text: &[u8]) -> (bool, &[u8])
     ensures sign { result.0 ≡ starts_with_minus text.now }
     ensures rest { result.1.now ≡ unsigned_text text.now }
 {
@@ -57,9 +55,7 @@ fn ten_thousandths(unsigned: &[u8], step: &DecimalStep) -> Option<(u64, bool)>
         (step.now.size * 10 ^ tens_down (scan unsigned.now)) r.0 r.1) }
 {
     if let Some(short) = read_short(unsigned) {
-        if short.is_few(step) {
-            return Some(short.ten_thousandths(step));
-        }
+        return Some(short.ten_thousandths(step));
     }
     let numeral = Numeral::scan(unsigned);
     if !numeral.has_digits() || numeral.len() < unsigned.len() {
@@ -78,6 +74,20 @@ fn from_nearest(parts: u64, is_exact: bool) -> u64
     after.min(10_000 - before)
 }
 
+/// The grid number nearest to a number of which the size is so many ten-thousandths, and how far the number is from
+/// it. None where it is no grid number.
+pub(crate) fn measured(negative: bool, parts: u64, is_exact: bool) -> Option<(i64, u64)>
+    requires { parts ≤ 10 ^ 17 }
+    ensures { (n d : ℕ) → 0 < d → AreTenThousandths n d parts is_exact
+        → (p : ℤ) (x : ℕ) → (result ≡ Some (p, x)) ↔ (IsNearest (with_sign negative n) d p × IsGridNumber p × (x ≡ rounded_up (10000 * away n d) d)) }
+{
+    let steps = (parts + 5000) / 10_000;
+    if steps > GREATEST_GRID_NUMBER as u64 {
+        return None;
+    }
+    Some((with_sign(negative, steps), from_nearest(parts, is_exact)))
+}
+
 /// The whole number of steps that is nearest to a decimal numeral, as 30 for `7.48` at the step 0.25, and how far the
 /// numeral is from it, in ten-thousandths of a step, rounded up: 800. Of two that are equally near it is the one
 /// farther from 0. None where the text is no numeral or the number is no grid number.
@@ -87,11 +97,17 @@ pub fn snap_measured(text: &[u8], step: &DecimalStep) -> Option<(i64, u64)>
 {
     let (negative, unsigned) = without_sign(text);
     let (parts, is_exact) = ten_thousandths(unsigned, step)?;
-    let steps = (parts + 5000) / 10_000;
-    if steps > GREATEST_GRID_NUMBER as u64 {
-        return None;
-    }
-    Some((with_sign(negative, steps), from_nearest(parts, is_exact)))
+    measured(negative, parts, is_exact)
+}
+
+// How many steps are nearest to a text with no sign, where it is a short numeral and machine words hold its fraction.
+fn nearest_short(unsigned: &[u8], step: &DecimalStep) -> Option<u64>
+    ensures limits { IsSome result → IsMeasure step.now }
+    ensures unsigned { IsSome result → IsUnsigned unsigned.now }
+    ensures given { IfSome result (λ q. IsRounded (digits_of (scan unsigned.now) * 10 ^ (tens_up (scan unsigned.now) + step.now.places))
+        (step.now.size * 10 ^ tens_down (scan unsigned.now)) q) }
+{
+    read_short(unsigned)?.nearest(step)
 }
 
 /// The whole number of steps that is nearest to a decimal numeral, as 30 for `7.413` at the step 0.25; of two
@@ -100,6 +116,13 @@ pub fn snap_measured(text: &[u8], step: &DecimalStep) -> Option<(i64, u64)>
 pub fn snap(text: &[u8], step: &DecimalStep) -> Option<i64>
     ensures { (p : ℤ) → (result ≡ Some p) ↔ (IsNumeral text.now × IsSnapped step.now text.now p × IsGridNumber p) }
 {
+    let (negative, unsigned) = without_sign(text);
+    if let Some(steps) = nearest_short(unsigned, step) {
+        if steps > GREATEST_GRID_NUMBER as u64 {
+            return None;
+        }
+        return Some(with_sign(negative, steps));
+    }
     match snap_measured(text, step) {
         Some((steps, _)) => Some(steps),
         None => None,

@@ -1,20 +1,16 @@
 //! Short numerals, read and rounded by machine words.
 ghost use Rattle.numerals.specs.Distance.{AreTenThousandths};
 ghost use Rattle.numerals.specs.Numeral.{IsMeasure};
+ghost use Rattle.numerals.specs.Nearest.{IsRounded};
+ghost use Rattle.numerals.specs.Quotient.{IsSameFraction};
 ghost use Rattle.numerals.specs.Short.{IsFront, IsShort};
-ghost use Rattle.std.specs.Prelude.{◌*◌, ◌^◌, ◌≤◌, IfSome, IsTrue};
+ghost use Rattle.std.specs.Prelude.{◌≡◌, ◌*◌, ◌^◌, IfSome, IsSome};
 
-use crate::rounding::FAR;
+use crate::fraction::{parts_of, rounded, word_parts, word_power};
 use crate::step::DecimalStep;
 
 /// From where on a machine word may not hold one more digit, 10^17.
 const FULL: u64 = 100_000_000_000_000_000;
-
-/// How many places of a step are few.
-const FEW_PLACES: u32 = 12;
-
-/// How many digits behind a point are few.
-const FEW_DIGITS: usize = 18;
 
 /// A numeral with no sign and no exponent, of so few digits that a machine word holds their number.
 #[derive(Clone, Copy)]
@@ -71,23 +67,61 @@ pub(crate) fn read_short(text: &[u8]) -> Option<Short>
 }
 
 impl Short {
-    /// Whether `ten_thousandths` takes it at this step.
-    pub(crate) fn is_few(&self, step: &DecimalStep) -> bool
-        ensures { IsTrue result → (self.now.places ≤ 18) × (step.now.places ≤ 12) }
+    /// All digits as one number.
+    pub(crate) fn digits(&self) -> u64
+        ensures { result ≡ self.now.digits }
     {
-        self.places <= FEW_DIGITS && step.places() <= FEW_PLACES
+        self.digits
+    }
+
+    /// How many of them are behind the point.
+    pub(crate) fn places(&self) -> usize
+        ensures { result ≡ self.now.places }
+    {
+        self.places
+    }
+
+    // A fraction of the same worth as it in steps, where machine words hold one.
+    fn fraction(&self, step: &DecimalStep) -> Option<(u64, u64)>
+        ensures limits { IsSome result → IsMeasure step.now }
+        ensures given { IfSome result (λ f. IsSameFraction (self.now.digits * 10 ^ step.now.places) (step.now.size * 10 ^ self.now.places) f.0 f.1) }
+    {
+        let (size, places) = (step.size() as u64, step.places() as usize);
+        if places <= self.places {
+            let below = size.checked_mul(word_power(self.places - places)?)?;
+            return Some((self.digits, below));
+        }
+        let above = self.digits.checked_mul(word_power(places - self.places)?)?;
+        Some((above, size))
+    }
+
+    /// How many steps are nearest to it, of two that are equally near the more. None where machine words don't hold its
+    /// fraction.
+    pub(crate) fn nearest(&self, step: &DecimalStep) -> Option<u64>
+        ensures limits { IsSome result → IsMeasure step.now }
+        ensures given { IfSome result (λ q. IsRounded (self.now.digits * 10 ^ step.now.places) (step.now.size * 10 ^ self.now.places) q) }
+    {
+        let (above, below) = self.fraction(step)?;
+        Some(rounded(above, below))
     }
 
     /// It in ten-thousandths of a step, rounded down, and whether it is just that.
     pub(crate) fn ten_thousandths(&self, step: &DecimalStep) -> (u64, bool)
-        requires { (self.now.places ≤ 18) × (step.now.places ≤ 12) }
         ensures limits { IsMeasure step.now }
         ensures given { AreTenThousandths (self.now.digits * 10 ^ step.now.places) (step.now.size * 10 ^ self.now.places) result.0 result.1 }
     {
-        let scale = u128::from(10u64.pow(step.places()));
-        let unit = step.size() * u128::from(10u64.pow(self.places as u32));
-        let all = 10_000 * u128::from(self.digits) * scale;
-        let parts = all / unit;
-        (parts.min(FAR) as u64, parts * unit == all)
+        match self.few_ten_thousandths(step) {
+            Some(parts) => parts,
+            None => parts_of(u128::from(self.digits), self.places as u64, step),
+        }
+    }
+
+    // The same where machine words hold it.
+    fn few_ten_thousandths(&self, step: &DecimalStep) -> Option<(u64, bool)>
+        ensures limits { IsSome result → IsMeasure step.now }
+        ensures given { IfSome result (λ r. AreTenThousandths (self.now.digits * 10 ^ step.now.places) (step.now.size * 10 ^ self.now.places) r.0 r.1) }
+    {
+        let (above, below) = self.fraction(step)?;
+        word_parts(above, below)
     }
 }

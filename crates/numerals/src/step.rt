@@ -1,14 +1,18 @@
 //! The step of a grid.
 ghost use Rattle.fast_float.specs.Text.{scan, tens_down};
-ghost use Rattle.numerals.specs.Numeral.{IsMeasure, IsUnsigned, measure, measure_of};
-ghost use Rattle.std.specs.Prelude.{◌≡◌, ◌↔◌, ◌<◌, ◌^◌, IsSome, IfSome};
+ghost use Rattle.numerals.specs.Numeral.{IsMeasure, IsOver, IsUnsigned, measure, measure_of};
+ghost use Rattle.std.specs.Prelude.{◌≡◌, ◌↔◌, ℕ, ◌<◌, ◌^◌, IsSome, IfSome, Some};
 
 use crate::digits::{places_of, size_of};
+use crate::fraction::times_power;
 use fast_float::Numeral;
 use std::marker::Model;
 
 /// The greatest size of a step, 10^12.
 pub const GREATEST_SIZE: u64 = 1_000_000_000_000;
+
+/// How many units a step is at most, 10^6.
+const MOST_UNITS: u128 = 1_000_000;
 
 /// The step of a grid: `size` over the power of ten `10^places`, as 25 and 2 for 0.25. Sizes are from 1 to
 /// `GREATEST_SIZE`.
@@ -59,6 +63,20 @@ impl DecimalStep {
         DecimalStep::new(size as u64, places as u32)
     }
 
+    /// How many units the step is, where that is a whole number from 1 to 1,000,000.
+    pub fn over(&self, unit: &DecimalStep) -> Option<u64>
+        ensures { (k : ℕ) → (result ≡ Some k) ↔ IsOver self.now unit.now k }
+    {
+        let (places, unit_places) = (u64::from(self.places()), u64::from(unit.places()));
+        let all = times_power(self.size(), unit_places.saturating_sub(places));
+        let each = times_power(unit.size(), places.saturating_sub(unit_places));
+        let count = all / each;
+        if count < 1 || count > MOST_UNITS || count * each != all {
+            return None;
+        }
+        Some(count as u64)
+    }
+
     /// The step times the power of ten of its places.
     pub fn size(&self) -> u128
         ensures value { result ≡ self.now.size }
@@ -67,7 +85,8 @@ impl DecimalStep {
         u128::from(self.size)
     }
 
-    pub(crate) fn places(&self) -> u32
+    /// How many places the step has.
+    pub fn places(&self) -> u32
         ensures { result ≡ self.now.places }
     {
         self.places

@@ -11,7 +11,7 @@ returns-in-Err-clause-refused c e none =
     let r = c.args.rules.now in
     let p = seen_member c.args.properties in
     let same : c.in-Err.error ≡ Faulty = cc in
-    c.in-Err.ensures.refused (ap Err same) (named_id_faults r.id r.refuses_reals p) (none_of_properties r (seen_member c.args.id) p none)
+    c.in-Err.ensures.refused (ap Err same) (named_id_faults r.id r.reals p) (none_of_properties r (seen_member c.args.id) p none)
 
 pub returns-in-Ok-clause-made : goal.returns-in-Ok-clause-made
 returns-in-Ok-clause-made c =
@@ -21,5 +21,5 @@ returns-in-Ok-clause-made c =
     record {
       id = c.in_ok-id.ensures.made;
       properties = c.in-Ok.ensures.made;
-      reals = total c.read_properties.new.reals c.read_id.new.reals (id_reals (id_source r.id i p)) (members_reals r.scales.now (members_or_none p)) c.in_ok-id.ensures.reals c.in-Ok.ensures.reals;
+      reals = total c.read_properties.new.reals c.read_id.new.reals (id_reals r.reals (id_source r.id i p)) (members_reals r.reals r.scales.now (members_or_none p)) c.in_ok-id.ensures.reals c.in-Ok.ensures.reals;
     }

@@ -16,21 +16,21 @@ convert_items-loop-item-preserved t c =
     let i = l.item-index in
     let x = c.item-item.result in
     let v = c.in_ok-convert.field-0 in
-    let rest = items_of (json_items (drop (i + 1) xs)) in
-    let whole = items_of (json_items xs) in
+    let rest = items_of c.args.rule (json_items (drop (i + 1) xs)) in
+    let whole = items_of c.args.rule (json_items xs) in
     let front : drop i xs ≡ x ∷ drop (i + 1) xs = drop_more xs i x (omega arith) ∙ ap (λ y. y ∷ drop (i + 1) xs) (sym (c.item-item.is ∙ ap (λ ys. get_or ys i x) c.deref-item-items.ensures.value)) in
     record {
-      made = ap (λ vs. before vs rest) c.in_ok-push.ensures.items ∙ item_next l.made.items v x (drop (i + 1) xs) whole c.in_ok-convert.ensures.made
-          (subst (λ ys. before l.made.items (items_of (json_items ys)) ≡ whole) front l.invariant.made);
-      reals = counted_before l.reals c.convert.new.reals (items_reals (json_items (drop (i + 1) xs))) (reals_of (value_view x)) c.in_ok-convert.ensures.reals
-          ∙ subst (λ ys. counted (l.reals + items_reals (json_items ys)) ≡ counted (c.args.reals.now + items_reals (json_items xs))) front l.invariant.reals;
+      made = ap (λ vs. before vs rest) c.in_ok-push.ensures.items ∙ item_next c.args.rule l.made.items v x (drop (i + 1) xs) whole c.in_ok-convert.ensures.made
+          (subst (λ ys. before l.made.items (items_of c.args.rule (json_items ys)) ≡ whole) front l.invariant.made);
+      reals = counted_before l.reals c.convert.new.reals (items_reals c.args.rule (json_items (drop (i + 1) xs))) (reals_of c.args.rule (value_view x)) c.in_ok-convert.ensures.reals
+          ∙ subst (λ ys. counted (l.reals + items_reals c.args.rule (json_items ys)) ≡ counted (c.args.reals.now + items_reals c.args.rule (json_items xs))) front l.invariant.reals;
     }
 
 pub convert_items-returns-clause-made : goal.convert_items-returns-clause-made
 convert_items-returns-clause-made t c =
     let l = c.loop-item in
     let xs = c.args.items.now.items in
-    sym (before_none l.made.items) ∙ sym (ap (λ ys. before l.made.items (items_of (json_items ys))) (drop_all l.item-index xs (omega arith))) ∙ l.invariant.made
+    sym (before_none l.made.items) ∙ sym (ap (λ ys. before l.made.items (items_of c.args.rule (json_items ys))) (drop_all l.item-index xs (omega arith))) ∙ l.invariant.made
 
 pub convert_members-loop-left-preserved-in-Continue-branch-2 : goal.convert_members-loop-left-preserved-in-Continue-branch-2
 convert_members-loop-left-preserved-in-Continue-branch-2 t c =
@@ -45,10 +45,10 @@ convert_members-loop-left-preserved-in-Continue-branch-2 t c =
     let behind = json_members (drop l.left xs) in
     record {
       within = omega (arith, l.invariant.within);
-      made = c.in_ok-put.ensures.ok ∙ kept ss m.0.now (value_view m.1) behind (members_view l.made.entries) l.invariant.made (view c.in_ok-value.value) absent c.in_ok-value.ensures.made
-          ∙ sym (ap (λ ys. members_of ss (json_members ys)) front);
-      reals = kept_reals ss m.0.now (value_view m.1) behind (members_view l.made.entries) l.invariant.made c.args.reals.now l.reals c.convert_member.new.reals absent l.invariant.reals c.in_ok-value.ensures.reals
-          ∙ sym (ap (λ ys. counted (c.args.reals.now + members_reals ss (json_members ys))) front);
+      made = c.in_ok-put.ensures.ok ∙ kept c.args.rule ss m.0.now (value_view m.1) behind (members_view l.made.entries) l.invariant.made (view c.in_ok-value.value) absent c.in_ok-value.ensures.made
+          ∙ sym (ap (λ ys. members_of c.args.rule ss (json_members ys)) front);
+      reals = kept_reals c.args.rule ss m.0.now (value_view m.1) behind (members_view l.made.entries) l.invariant.made c.args.reals.now l.reals c.convert_member.new.reals absent l.invariant.reals c.in_ok-value.ensures.reals
+          ∙ sym (ap (λ ys. counted (c.args.reals.now + members_reals c.args.rule ss (json_members ys))) front);
     }
 
 pub convert_members-loop-left-preserved : goal.convert_members-loop-left-preserved
@@ -64,7 +64,7 @@ convert_members-loop-left-preserved t c =
     let behind = json_members (drop l.left xs) in
     record {
       within = omega (arith, l.invariant.within);
-      made = skipped ss m.0.now (value_view m.1) behind (members_view l.made.entries) l.invariant.made there ∙ sym (ap (λ ys. members_of ss (json_members ys)) front);
-      reals = skipped_reals ss m.0.now (value_view m.1) behind (members_view l.made.entries) l.invariant.made c.args.reals.now l.reals there l.invariant.reals
-          ∙ sym (ap (λ ys. counted (c.args.reals.now + members_reals ss (json_members ys))) front);
+      made = skipped c.args.rule ss m.0.now (value_view m.1) behind (members_view l.made.entries) l.invariant.made there ∙ sym (ap (λ ys. members_of c.args.rule ss (json_members ys)) front);
+      reals = skipped_reals c.args.rule ss m.0.now (value_view m.1) behind (members_view l.made.entries) l.invariant.made c.args.reals.now l.reals there l.invariant.reals
+          ∙ sym (ap (λ ys. counted (c.args.reals.now + members_reals c.args.rule ss (json_members ys))) front);
     }

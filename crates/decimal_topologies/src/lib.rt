@@ -1,0 +1,10 @@
+//! TopoJSON in decimal numbers: all faults of a topology that the fixing rules leave, and the reader of one that has none.
+//!
+//! Its arcs are rounded once, in a table. The lines and rings of its geometries are lists of numbers of arcs, which are
+//! stitched together to lists of positions; so what is made of a topology is what is made of GeoJSON in decimal numbers.
+#![tactic(auto)]
+
+// mod arcs;
+// mod places;
+// mod transform;
+pub mod place;
