@@ -1,8 +1,12 @@
 -- What is known of an object's members, as more are read.
-use Rattle.std.proofs.Common.{◌≡◌, ℕ, List, Bool, Some, true, false, bytes_eq, ◌||◌, refl, sym, ap, ◌∙◌, cond}
+use Rattle.std.proofs.Common.{◌≡◌, ℕ, List, Bool, Some, Result, Ok, true, false, bytes_eq, ◌||◌, codes, refl, sym, ap, ◌∙◌, subst, cond, if◌then◌else◌}
 use Rattle.std.proofs.lemmas.Slice.Eq.{bytes_eq-Decides}
 use Rattle.json.specs.Json.{Json, Members}
 use Rattle.json.specs.Find.{get_member}
+use Rattle.reading.specs.Types.{geometry_named}
+use Rattle.reading.specs.declared.geometry.GeometryType.{GeometryType}
+use Rattle.reading.specs.declared.geometry.GeometryType.TheVariants.{Point, MultiPoint, LineString, MultiLineString, Polygon, MultiPolygon}
+use Rattle.decimal_maps.specs.Geometries.{kind_name}
 use Rattle.decimal_maps.specs.Members.{KnowsMember, LookupMeans}
 use Rattle.decimal_maps.specs.Reads.{then_member}
 use Rattle.decimal_maps.specs.declared.object.Lookup.{Lookup}
@@ -42,3 +46,24 @@ none_of true y z h = absurd (cc)
 none_of false true z h = absurd (cc)
 none_of false false true h = absurd (cc)
 none_of false false false h = (refl, refl, refl)
+
+-- ---- types
+
+-- a name that is picked
+pub pick : {K E : Type 0} (P : K → Type 0) (s n : List ℕ) (k l : K) (rest : Result K E) → (s ≡ n → P k) → (rest ≡ Ok l → P l) → (if bytes_eq s n then Ok k else rest) ≡ Ok l → P l
+pick {K} P s n k l rest same_name other e = go (bytes_eq s n) refl e
+  where
+    go : (b : Bool) → bytes_eq s n ≡ b → (if b then Ok k else rest) ≡ Ok l → P l
+    go true is e = let same : k ≡ l = cc in subst P same (same_name ((bytes_eq-Decides s n).0 is))
+    go false is e = other e
+
+-- the name of a type is that by which it is found
+pub name_is : (s : List ℕ) (k : GeometryType) → geometry_named s ≡ Ok k → s ≡ kind_name k
+name_is s k =
+    let P = λ (l : GeometryType). s ≡ kind_name l in
+    pick P s (codes "Point") Point k _ (λ e. e)
+    (pick P s (codes "MultiPoint") MultiPoint k _ (λ e. e)
+    (pick P s (codes "LineString") LineString k _ (λ e. e)
+    (pick P s (codes "MultiLineString") MultiLineString k _ (λ e. e)
+    (pick P s (codes "Polygon") Polygon k _ (λ e. e)
+    (pick P s (codes "MultiPolygon") MultiPolygon k _ (λ e. e) (λ e. cc))))))

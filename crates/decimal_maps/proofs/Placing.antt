@@ -1,5 +1,5 @@
 -- Positions of tokens.
-use Rattle.std.proofs.Common.{◌≡◌, ◌↔◌, ℕ, ℤ, Option, Some, None, true, false, if◌then◌else◌, max, to_z, of_z, w64, ◌-◌, ◌<◌, List, ◌∷◌, length, refl, ap, ◌∙◌, subst, arith}
+use Rattle.std.proofs.Common.{◌≡◌, ◌↔◌, ℕ, ℤ, Option, Some, None, true, false, if◌then◌else◌, max, to_z, of_z, w64, unsigned_abs, ◌-◌, ◌<◌, ◌≤◌, List, ◌∷◌, length, refl, sym, ap, ◌∙◌, subst, arith}
 use Rattle.std.proofs.lemmas.Int.{ints, fits_signed_from_abs, to_z-of_z}
 use Rattle.json.specs.Token.{Token, begin_array}
 use Rattle.json.specs.Json.{number, array, Items, no_items, item, value, parse_map, after_end_array}
@@ -7,7 +7,6 @@ use Rattle.json.proofs.Grammar.{value-begin_array, items_more}
 use Rattle.grid.specs.Fits.{x_of, y_of}
 use Rattle.grid.specs.Place.{IsGridNumber}
 use Rattle.grid.specs.declared.pos.Pos.{Pos}
-use Rattle.std.specs.Prelude.{IfSome}
 use Rattle.numerals.specs.Distance.{distance_of}
 use Rattle.numerals.specs.Numeral.{IsNumeral, IsSnapped}
 use Rattle.decimal_maps.specs.Positions.{AreHeights, IsCoordinate, IsPosition}
@@ -59,10 +58,50 @@ position_reads grid depth s t rest new a b c p some across along counted heights
 pub number_reads : (n : ℤ) → IsGridNumber n → to_z w64 (of_z w64 n) ≡ n
 number_reads n h = to_z-of_z w64 n (fits_signed_from_abs w64 n (grind (arith, ints, h.low, h.high)))
 
--- the nearest whole number of steps, and how far a numeral is from it, where that is measured
-pub measured : (grid : DecimalGrid) (b t : List ℕ) (r : Option (ℤ × ℕ)) → b ≡ t → true ≡ grid.measures → ((p : ℤ) (d : ℕ) → (r ≡ Some (p, d)) ↔ (IsNumeral b × IsSnapped grid.step b p × IsGridNumber p × (d ≡ distance_of grid.step b)))
-    → IfSome r (λ n. IsNumeral t × IsSnapped grid.step t n.0 × IsGridNumber n.0 × (n.1 ≡ distance_from_grid grid (number t)))
-measured grid b t None is on h = tt
-measured grid b t (Some n) is on h =
-    let s = (h n.0 n.1).0 refl in
-    (subst IsNumeral is s.0, subst (λ u. IsSnapped grid.step u n.0) is s.1, s.2, s.3 ∙ ap (distance_of grid.step) is ∙ ap (λ v. if v then distance_of grid.step t else 0) on)
+-- the nearest whole number of steps to a number, if it is not too far from 0, and how far the number is from it, where that is measured
+abbrev pub IsFound : DecimalGrid → ℕ → List ℕ → ℤ → ℕ → Type 0
+IsFound grid greatest t n far = IsCoordinate grid greatest (number t) n × IsGridNumber n × (far ≡ distance_from_grid grid (number t))
+
+-- a result that says which number is found
+abbrev Says : DecimalGrid → ℕ → List ℕ → Option (ℤ × ℕ) → Type 0
+Says grid greatest t r = (n : ℤ) (far : ℕ) → (r ≡ Some (n, far)) ↔ IsFound grid greatest t n far
+
+parted : (p n : ℤ) (d e : ℕ) → ◌≡◌ {A = Option (ℤ × ℕ)} (Some (p, d)) (Some (n, e)) → (p ≡ n) × (d ≡ e)
+parted p n d e is = (ap first is, ap second is)
+  where
+    first : Option (ℤ × ℕ) → ℤ
+    first None = p
+    first (Some x) = x.0
+
+    second : Option (ℤ × ℕ) → ℕ
+    second None = d
+    second (Some x) = x.1
+
+none_is : (n : ℤ) (e : ℕ) → ◌≡◌ {A = Option (ℤ × ℕ)} None (Some (n, e)) → ⊥
+none_is n e is = cc
+
+module _ (grid : DecimalGrid) (greatest : ℕ) (b t : List ℕ) (r : Option (ℤ × ℕ)) (is : b ≡ t)
+    (snaps : (p : ℤ) (d : ℕ) → (r ≡ Some (p, d)) ↔ (IsNumeral b × IsSnapped grid.step b p × IsGridNumber p × (d ≡ distance_of grid.step b))) where
+  snaps_to : (n : ℤ) (far : ℕ) → IsFound grid greatest t n far → r ≡ Some (n, distance_of grid.step b)
+  snaps_to n far h = (snaps n (distance_of grid.step b)).1 (subst IsNumeral (sym is) h.0.2, subst (λ u. IsSnapped grid.step u n) (sym is) h.0.0, h.1, refl)
+
+  pub none_found : r ≡ None → (q : Option (ℤ × ℕ)) → q ≡ None → Says grid greatest t q
+  none_found e q f n far = ((λ k. absurd (none_is n far (sym f ∙ k))), (λ h. absurd (none_is n (distance_of grid.step b) (sym e ∙ snaps_to n far h))))
+
+  module _ (p : ℤ) (d : ℕ) (snapped : r ≡ Some (p, d)) where
+    same_snapped : (n : ℤ) (far : ℕ) → IsFound grid greatest t n far → (p ≡ n) × (d ≡ distance_of grid.step b)
+    same_snapped n far h = parted p n d (distance_of grid.step b) (sym snapped ∙ snaps_to n far h)
+
+    pub too_far : greatest < unsigned_abs p → Says grid greatest t None
+    too_far beyond n far = ((λ k. absurd (none_is n far k)), (λ h. absurd (omega (arith, ap unsigned_abs (same_snapped n far h).0, h.0.1, beyond))))
+
+    pub one_found : unsigned_abs p ≤ greatest → (q : ℤ) (off : ℕ) → q ≡ p → off ≡ (if grid.measures then d else 0) → Says grid greatest t (Some (q, off))
+    one_found within q off same measured n far =
+        let s = (snaps p d).0 snapped in
+        let away : off ≡ distance_from_grid grid (number t) = measured ∙ ap (λ e. if grid.measures then e else 0) (s.3 ∙ ap (distance_of grid.step) is) in (
+          (λ k.
+              let of = parted q n off far k in
+              subst (λ m. IsFound grid greatest t m far) (sym same ∙ of.0)
+              ((subst (λ u. IsSnapped grid.step u p) is s.1, within, subst IsNumeral is s.0), s.2, sym of.1 ∙ away)),
+          (λ h. λ i. Some ((same ∙ (same_snapped n far h).0) i, (away ∙ sym h.2) i)),
+        )

@@ -10,8 +10,8 @@ use Rattle.fixing.specs.declared.raw.RawShape.{RawShape}
 use Rattle.fixing.specs.declared.raw.RawShape.TheVariants as raw
 use Rattle.decimal_maps.specs.Arrays.{ArrayMeans}
 use Rattle.decimal_maps.specs.Positions.{IsPosition}
-use Rattle.decimal_maps.specs.declared.kind.GeometryKind.{GeometryKind}
-use Rattle.decimal_maps.specs.declared.kind.GeometryKind.TheVariants as kind
+use Rattle.reading.specs.declared.geometry.GeometryType.{GeometryType}
+use Rattle.reading.specs.declared.geometry.GeometryType.TheVariants as kind
 use Rattle.decimal_maps.specs.declared.rules.DecimalGrid.{DecimalGrid}
 use Rattle.decimal_maps.specs.declared.tally.Tally.{Tally}
 
@@ -28,7 +28,7 @@ abbrev pub AreGroups : DecimalGrid → Json → Vec (Vec (Vec Pos Global) Global
 AreGroups grid j gs a b = ArrayMeans (AreLists grid) j gs.items a b
 
 -- the type's name [RFC 7946, 1.4]
-abbrev pub kind_name : GeometryKind → List ℕ
+abbrev pub kind_name : GeometryType → List ℕ
 kind_name kind.Point = codes "Point"
 kind_name kind.MultiPoint = codes "MultiPoint"
 kind_name kind.LineString = codes "LineString"
@@ -37,7 +37,7 @@ kind_name kind.Polygon = codes "Polygon"
 kind_name kind.MultiPolygon = codes "MultiPolygon"
 
 -- the type of a shape; a point may be without a position
-abbrev pub kind_of : RawShape → GeometryKind
+abbrev pub kind_of : RawShape → GeometryType
 kind_of raw.Null = kind.Point
 kind_of (raw.Point p) = kind.Point
 kind_of (raw.MultiPoint ps) = kind.MultiPoint

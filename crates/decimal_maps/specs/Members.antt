@@ -17,7 +17,7 @@ use Rattle.decimal_maps.specs.declared.coordinates.Coordinates.TheVariants.{Empt
 use Rattle.decimal_maps.specs.declared.feature.FeatureMembers.{FeatureMembers}
 use Rattle.decimal_maps.specs.declared.feature.FeatureParts.{FeatureParts}
 use Rattle.decimal_maps.specs.declared.geometry.GeometryMembers.{GeometryMembers}
-use Rattle.decimal_maps.specs.declared.kind.GeometryKind.{GeometryKind}
+use Rattle.reading.specs.declared.geometry.GeometryType.{GeometryType}
 use Rattle.decimal_maps.specs.declared.kind.Kind.{Kind}
 use Rattle.decimal_maps.specs.declared.kind.Kind.TheVariants as kind
 use Rattle.decimal_maps.specs.declared.object.Lookup.{Lookup}
@@ -63,7 +63,7 @@ CoordinatesMean grid j (Lists ls) a b = AreLists grid j ls a b
 CoordinatesMean grid j (Groups gs) a b = AreGroups grid j gs a b
 
 -- the shape that coordinates are in a geometry of that type
-abbrev pub IsShapeOf : GeometryKind → Coordinates → RawShape → Type 0
+abbrev pub IsShapeOf : GeometryType → Coordinates → RawShape → Type 0
 IsShapeOf k n s = (kind_of s ≡ k) × ((grid : DecimalGrid) (j : Json) (a b : Tally) → CoordinatesMean grid j n a b → IsShape grid j s a b)
 
 -- coordinates, and what is counted behind them

@@ -4,7 +4,6 @@ ghost use Rattle.decimal_maps.specs.Reads.{Reads};
 ghost use Rattle.std.specs.Prelude.{IfOk};
 
 use crate::from_tokens::{FromTokens, Stop};
-use crate::kind::GeometryKind;
 use crate::list::ListOf;
 use crate::opened::{FromOpened, number_or_array};
 use crate::rules::DecimalGrid;
@@ -12,6 +11,7 @@ use crate::tally::Tally;
 use crate::token::take_begin_array;
 use grid::Pos;
 use json::Reader;
+use reading::geometry::GeometryType;
 use std::alloc::Global;
 
 /// A position, a list of them, a list of lists, or a list of those.
@@ -61,7 +61,7 @@ pub fn read_coordinates<'t>(
 pub fn read_typed<'t>(
     alloc: Global,
     grid: &DecimalGrid,
-    kind: GeometryKind,
+    kind: GeometryType,
     reader: &mut Reader<'t>,
     depth: usize,
     tally: &mut Tally,
@@ -72,14 +72,14 @@ pub fn read_typed<'t>(
     let lists = ListOf { of: places };
     let groups = ListOf { of: lists };
     match kind {
-        GeometryKind::Point => read_coordinates(alloc, grid, reader, depth, tally),
-        GeometryKind::MultiPoint | GeometryKind::LineString => Ok(Coordinates::Places(places.read(
+        GeometryType::Point => read_coordinates(alloc, grid, reader, depth, tally),
+        GeometryType::MultiPoint | GeometryType::LineString => Ok(Coordinates::Places(places.read(
             alloc, reader, depth, tally,
         )?)),
-        GeometryKind::MultiLineString | GeometryKind::Polygon => Ok(Coordinates::Lists(lists.read(
+        GeometryType::MultiLineString | GeometryType::Polygon => Ok(Coordinates::Lists(lists.read(
             alloc, reader, depth, tally,
         )?)),
-        GeometryKind::MultiPolygon => Ok(Coordinates::Groups(groups.read(
+        GeometryType::MultiPolygon => Ok(Coordinates::Groups(groups.read(
             alloc, reader, depth, tally,
         )?)),
     }

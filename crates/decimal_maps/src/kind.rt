@@ -1,5 +1,4 @@
 //! The types of GeoJSON's objects (RFC 7946, section 1.4).
-ghost use Rattle.decimal_maps.specs.Geometries.{kind_name};
 ghost use Rattle.decimal_maps.specs.Members.{type_name};
 ghost use Rattle.decimal_maps.specs.Reads.{Gives};
 ghost use Rattle.json.specs.Json.{string};
@@ -7,40 +6,7 @@ ghost use Rattle.std.specs.Prelude.{◌≡◌, ℕ, IfOk, IfSome};
 
 use crate::from_tokens::Stop;
 use json::{Reader, Token};
-
-/// A type of geometries that have coordinates (RFC 7946, sections 3.1.2 to 3.1.7).
-#[derive(Clone, Copy)]
-pub enum GeometryKind {
-    Point,
-    MultiPoint,
-    LineString,
-    MultiLineString,
-    Polygon,
-    MultiPolygon,
-}
-
-impl GeometryKind {
-    /// The type of that name.
-    pub fn from_name(text: &str) -> Option<GeometryKind>
-        ensures { IfSome result (λ k. text.now ≡ kind_name k) }
-    {
-        if text == "Point" {
-            Some(GeometryKind::Point)
-        } else if text == "MultiPoint" {
-            Some(GeometryKind::MultiPoint)
-        } else if text == "LineString" {
-            Some(GeometryKind::LineString)
-        } else if text == "MultiLineString" {
-            Some(GeometryKind::MultiLineString)
-        } else if text == "Polygon" {
-            Some(GeometryKind::Polygon)
-        } else if text == "MultiPolygon" {
-            Some(GeometryKind::MultiPolygon)
-        } else {
-            None
-        }
-    }
-}
+use reading::geometry::GeometryType;
 
 /// A type.
 #[derive(Clone, Copy)]
@@ -48,7 +14,8 @@ pub enum Kind {
     FeatureCollection,
     Feature,
     GeometryCollection,
-    Simple(GeometryKind),
+    /// A type of geometries that have coordinates (RFC 7946, sections 3.1.2 to 3.1.7).
+    Simple(GeometryType),
 }
 
 impl Kind {
@@ -65,9 +32,9 @@ impl Kind {
         if text == "GeometryCollection" {
             return Some(Kind::GeometryCollection);
         }
-        match GeometryKind::from_name(text) {
-            Some(kind) => Some(Kind::Simple(kind)),
-            None => None,
+        match GeometryType::from_name(text) {
+            Ok(kind) => Some(Kind::Simple(kind)),
+            Err(_) => None,
         }
     }
 }

@@ -1,13 +1,13 @@
 //! Positions of decimal numerals, rounded to a grid.
-ghost use Rattle.decimal_maps.specs.Positions.{IsCoordinate, IsPosition};
+ghost use Rattle.decimal_maps.specs.Positions.{AreCoordinates, IsCoordinate, IsPosition};
 ghost use Rattle.decimal_maps.specs.Reads.{ReadsHeights};
-ghost use Rattle.decimal_maps.specs.Tally.{distance_from_grid, with_position};
-ghost use Rattle.grid.specs.Fits.{x_of, y_of};
+ghost use Rattle.decimal_maps.specs.Tally.{distance_from_grid};
+ghost use Rattle.decimal_maps.specs.declared.tally.Tally.{Tally};
 ghost use Rattle.grid.specs.Place.{IsGridNumber};
-ghost use Rattle.json.specs.Json.{number};
+ghost use Rattle.grid.specs.declared.pos.Pos.{Pos};
+ghost use Rattle.json.specs.Json.{item, no_items, number};
 ghost use Rattle.json.specs.Token as spec;
-ghost use Rattle.numerals.specs.Numeral.{IsNumeral, IsSnapped};
-ghost use Rattle.std.specs.Prelude.{◌≡◌, ◌∷◌, ℕ, max, IfOk, IfSome, OnOk};
+ghost use Rattle.std.specs.Prelude.{◌≡◌, ◌↔◌, ◌∷◌, ℕ, ℤ, Some, IfErr, IfOk, OnOk};
 
 use crate::from_tokens::{FromTokens, Stop};
 use crate::opened::FromOpened;
@@ -16,7 +16,7 @@ use crate::tally::Tally;
 use crate::token::{take_begin_array, take_number};
 use grid::Pos;
 use json::Reader;
-use numerals::{snap, snap_measured};
+use numerals::snap_measured;
 use std::alloc::Global;
 
 // Takes the numbers behind the second of a position, up to the bracket that closes it.
@@ -38,46 +38,40 @@ fn drop_heights<'t>(
     Ok(())
 }
 
-// The whole number of steps that a numeral is nearest to, and how far it is from it, where that is measured.
+/// The whole number of steps that a number is nearest to, and how far it is from it, where that is measured. None where it is
+/// too far from 0.
 #[inline(always)]
-fn nearest_of(grid: &DecimalGrid, text: &str) -> Option<(i64, u64)>
-    ensures { IfSome result (λ n. IsNumeral text.now × IsSnapped grid.now.step text.now n.0 × IsGridNumber n.0 × (n.1 ≡ distance_from_grid grid.now (number text.now))) }
+pub fn coordinate_of(grid: &DecimalGrid, greatest: u64, text: &str) -> Option<(i64, u64)>
+    ensures { (n : ℤ) (far : ℕ) → (result ≡ Some (n, far))
+        ↔ (IsCoordinate grid.now greatest (number text.now) n × IsGridNumber n × (far ≡ distance_from_grid grid.now (number text.now))) }
 {
-    if grid.measures {
-        return snap_measured(text.as_bytes(), &grid.step);
+    let (steps, distance) = snap_measured(text.as_bytes(), &grid.step)?;
+    if steps.unsigned_abs() > greatest {
+        return None;
     }
-    let steps = snap(text.as_bytes(), &grid.step)?;
-    Some((steps, 0))
+    let far = if grid.measures { distance } else { 0 };
+    Some((steps, far))
 }
 
-// The same, unless the number is too great.
+/// The position that two numbers are nearest to, which is counted.
+///
+/// # Errors
+/// Where one of them is too far from 0.
 #[inline(always)]
-fn coordinate_of(grid: &DecimalGrid, greatest: u64, text: &str) -> Result<(i64, u64), Stop>
-    ensures { IfOk result (λ n. IsCoordinate grid.now greatest (number text.now) n.0 × IsGridNumber n.0 × (n.1 ≡ distance_from_grid grid.now (number text.now))) }
+pub fn position_of(grid: &DecimalGrid, x: &str, y: &str, tally: &mut Tally) -> Result<Pos, Stop>
+    ensures made { IfOk result (λ p. AreCoordinates grid.now (item (number x.now) (item (number y.now) no_items)) p tally.old tally.new) }
+    ensures refused { IfErr result (λ _. (p : Pos) (b : Tally) → AreCoordinates grid.now (item (number x.now) (item (number y.now) no_items)) p tally.old b → ⊥) }
 {
-    match nearest_of(grid, text) {
-        Some((steps, distance)) => {
-            if steps.unsigned_abs() > greatest {
-                return Err(Stop::Unread);
-            }
-            Ok((steps, distance))
-        }
-        None => Err(Stop::Unread),
-    }
-}
-
-// The position that two numerals are nearest to, which is counted.
-#[inline(always)]
-fn position_of(grid: &DecimalGrid, x: &str, y: &str, tally: &mut Tally) -> Result<Pos, Stop>
-    ensures { IfOk result (λ p. IsCoordinate grid.now grid.now.greatest_x (number x.now) (x_of p) × IsCoordinate grid.now grid.now.greatest_y (number y.now) (y_of p)
-        × (tally.new ≡ with_position (max (distance_from_grid grid.now (number x.now)) (distance_from_grid grid.now (number y.now))) tally.old)) }
-{
-    let (across, off_x) = coordinate_of(grid, grid.greatest_x, x)?;
-    let (along, off_y) = coordinate_of(grid, grid.greatest_y, y)?;
+    let Some((across, off_x)) = coordinate_of(grid, grid.greatest_x, x) else {
+        return Err(Stop::Unread);
+    };
+    let Some((along, off_y)) = coordinate_of(grid, grid.greatest_y, y) else {
+        return Err(Stop::Unread);
+    };
     tally.add_position(off_x.max(off_y));
     match Pos::new(across, along) {
         Some(position) => Ok(position),
-        None => Err(Stop::Unread),
+        None => unreachable!(),
     }
 }
 

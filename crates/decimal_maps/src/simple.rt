@@ -7,13 +7,14 @@ ghost use Rattle.std.specs.Prelude.{◌≡◌, IfOk};
 
 use crate::coordinates::{Coordinates, read_coordinates, read_typed};
 use crate::from_tokens::{FromTokens, Stop};
-use crate::kind::{GeometryKind, Kind, take_kind};
+use crate::kind::{Kind, take_kind};
 use crate::object::{Lookup, TakeMember, read_object, skip_value};
 use crate::rules::DecimalGrid;
 use crate::tally::Tally;
 use fixing::raw::RawShape;
 use grid::Pos;
 use json::Reader;
+use reading::geometry::GeometryType;
 use std::alloc::Global;
 
 /// What a geometry is read by, and what was counted before it.
@@ -90,59 +91,59 @@ impl<'t> TakeMember<'t, GeometryStart> for SimpleMembers {
 }
 
 // The shape of the empty list of coordinates.
-fn shape_of_nothing(alloc: Global, kind: GeometryKind) -> RawShape
+fn shape_of_nothing(alloc: Global, kind: GeometryType) -> RawShape
     ensures { IsShapeOf kind Coordinates.Empty result }
 {
     match kind {
-        GeometryKind::Point => RawShape::Null,
-        GeometryKind::MultiPoint => RawShape::MultiPoint(Vec::new(alloc)),
-        GeometryKind::LineString => RawShape::Line(Vec::new(alloc)),
-        GeometryKind::MultiLineString => RawShape::MultiLine(Vec::new(alloc)),
-        GeometryKind::Polygon => RawShape::Polygon(Vec::new(alloc)),
-        GeometryKind::MultiPolygon => RawShape::MultiPolygon(Vec::new(alloc)),
+        GeometryType::Point => RawShape::Null,
+        GeometryType::MultiPoint => RawShape::MultiPoint(Vec::new(alloc)),
+        GeometryType::LineString => RawShape::Line(Vec::new(alloc)),
+        GeometryType::MultiLineString => RawShape::MultiLine(Vec::new(alloc)),
+        GeometryType::Polygon => RawShape::Polygon(Vec::new(alloc)),
+        GeometryType::MultiPolygon => RawShape::MultiPolygon(Vec::new(alloc)),
     }
 }
 
-fn shape_of_place(kind: GeometryKind, place: Pos) -> Result<RawShape, Stop>
+fn shape_of_place(kind: GeometryType, place: Pos) -> Result<RawShape, Stop>
     ensures { IfOk result (IsShapeOf kind (Coordinates.Place place)) }
 {
     match kind {
-        GeometryKind::Point => Ok(RawShape::Point(place)),
+        GeometryType::Point => Ok(RawShape::Point(place)),
         _ => Err(Stop::Unread),
     }
 }
 
-fn shape_of_places(kind: GeometryKind, places: Vec<Pos>) -> Result<RawShape, Stop>
+fn shape_of_places(kind: GeometryType, places: Vec<Pos>) -> Result<RawShape, Stop>
     ensures { IfOk result (IsShapeOf kind (Coordinates.Places places)) }
 {
     match kind {
-        GeometryKind::MultiPoint => Ok(RawShape::MultiPoint(places)),
-        GeometryKind::LineString => Ok(RawShape::Line(places)),
+        GeometryType::MultiPoint => Ok(RawShape::MultiPoint(places)),
+        GeometryType::LineString => Ok(RawShape::Line(places)),
         _ => Err(Stop::Unread),
     }
 }
 
-fn shape_of_lists(kind: GeometryKind, lists: Vec<Vec<Pos>>) -> Result<RawShape, Stop>
+fn shape_of_lists(kind: GeometryType, lists: Vec<Vec<Pos>>) -> Result<RawShape, Stop>
     ensures { IfOk result (IsShapeOf kind (Coordinates.Lists lists)) }
 {
     match kind {
-        GeometryKind::MultiLineString => Ok(RawShape::MultiLine(lists)),
-        GeometryKind::Polygon => Ok(RawShape::Polygon(lists)),
+        GeometryType::MultiLineString => Ok(RawShape::MultiLine(lists)),
+        GeometryType::Polygon => Ok(RawShape::Polygon(lists)),
         _ => Err(Stop::Unread),
     }
 }
 
-fn shape_of_groups(kind: GeometryKind, groups: Vec<Vec<Vec<Pos>>>) -> Result<RawShape, Stop>
+fn shape_of_groups(kind: GeometryType, groups: Vec<Vec<Vec<Pos>>>) -> Result<RawShape, Stop>
     ensures { IfOk result (IsShapeOf kind (Coordinates.Groups groups)) }
 {
     match kind {
-        GeometryKind::MultiPolygon => Ok(RawShape::MultiPolygon(groups)),
+        GeometryType::MultiPolygon => Ok(RawShape::MultiPolygon(groups)),
         _ => Err(Stop::Unread),
     }
 }
 
 // The shape that coordinates are in a geometry of that type.
-fn shape_of(alloc: Global, kind: GeometryKind, coordinates: Coordinates) -> Result<RawShape, Stop>
+fn shape_of(alloc: Global, kind: GeometryType, coordinates: Coordinates) -> Result<RawShape, Stop>
     ensures { IfOk result (IsShapeOf kind coordinates) }
 {
     match coordinates {

@@ -11,7 +11,7 @@ use Rattle.theory.specs.Topology.{null, point, points, line, lines, polygon, pol
 use Rattle.fixing.specs.Fixable.{FixableGeometriesAreLeft, FixableLinesAreLeft, FixableRingsAreLeft, IsFixable, IsFixableGeometry, IsFixableLine, IsFixableRing}
 use Rattle.fixing.specs.Forms.{PlainForm, PlainGeometry, one, collection}
 use Rattle.fixing.specs.Geometries.{form_left, forms_left, geometry_left, is_null, line_form, or_lost, polygon_form, shown_left}
-use Rattle.fixing.specs.Left.{all_left, is_refusing, left_by, line_left, lines_left, need_of, ring_left, unfixed}
+use Rattle.fixing.specs.Left.{all_left, closed_list, is_refusing, left_by, line_left, lines_left, need_of, ring_left, unfixed}
 use Rattle.fixing.specs.Loops.{loops_of}
 use Rattle.fixing.specs.Measures.{turns_left}
 use Rattle.fixing.specs.Polygons.{polygon_kept, polygon_left, polygons_left, polygons_of_loops, put_holes, rewound_polygon, with_holes}
@@ -55,7 +55,8 @@ module _ (rules : FixingRules) where
       mapped (λ need. left_by need l (runs_of (collapsed position_cmp l))) (need_of rules (line_fault position_cmp l)) (need_is (line_fault position_cmp l))
 
   pub ring_is_left : (l : List Pos) → IsSome (ring_left rules l) ↔ IsFixableRing rules l
-  ring_is_left l = mapped (λ need. left_by need l (loops_of l)) (need_of rules (ring_fault position_cmp l)) (need_is (ring_fault position_cmp l))
+  ring_is_left ring =
+      let l = closed_list rules ring in mapped (λ need. left_by need l (loops_of l)) (need_of rules (ring_fault position_cmp l)) (need_is (ring_fault position_cmp l))
 
   lines_are_left : (l : List Pos) → IsSome (lines_left rules l) ↔ IsFixableLine rules l
   lines_are_left l = mapped (map (collapsed position_cmp)) (line_left rules l) (line_is_left l)
@@ -68,8 +69,8 @@ module _ (rules : FixingRules) where
   rings_are_left : (rs : List (List Pos)) → IsSome (polygon_kept rules rs) ↔ AllByRecursion (IsFixableRing rules) rs
   rings_are_left [] = ((λ h. tt), (λ h. refl))
   rings_are_left (outer ∷ holes) =
-      chained (λ loops. with_holes rules holes (polygons_of_loops (turns_left outer) loops)) (ring_left rules outer) (ring_is_left outer)
-      (λ loops. holes_are_left holes (polygons_of_loops (turns_left outer) loops))
+      chained (λ loops. with_holes rules holes (polygons_of_loops (turns_left (closed_list rules outer)) loops)) (ring_left rules outer) (ring_is_left outer)
+      (λ loops. holes_are_left holes (polygons_of_loops (turns_left (closed_list rules outer)) loops))
 
   polygons_are_left : (rs : List (List Pos)) → IsSome (polygons_left rules rs) ↔ AllByRecursion (IsFixableRing rules) rs
   polygons_are_left rs =

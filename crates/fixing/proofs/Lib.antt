@@ -3,6 +3,7 @@ pub mod LoopSteps
 pub mod RunLaws
 pub mod LoopLaws
 pub mod OddUses
+pub mod OpenRings
 pub mod ProvedLaws
 pub mod Judged
 pub mod Parts

@@ -4,7 +4,7 @@ use Rattle.grid.specs.declared.pos.Pos.{Pos}
 use Rattle.theory.specs.Lists.{Each}
 use Rattle.theory.specs.TopologyFunction.{keep}
 use Rattle.fixing.specs.Laws.{EachRing}
-use Rattle.fixing.specs.Left.{ring_left}
+use Rattle.fixing.specs.Left.{closed_list, ring_left}
 use Rattle.fixing.specs.Measures.{turns_left}
 use Rattle.fixing.specs.Polygons.{home_of, home_of_hole, polygon_kept, polygons_of, polygons_of_loops, put_at, put_holes, put_others, put_ring, turns_to, with_holes}
 use Rattle.fixing.specs.declared.rules.FixingRules.{FixingRules}
@@ -69,6 +69,7 @@ module _ (P : List Pos → Type 0) where
     polygon_each (outer ∷ holes) made h = go (ring_left rules outer) (sound outer) h
       where
         go : (o : Option (List (List Pos))) → ((left : List (List Pos)) → o ≡ Some left → Each P left) →
-            option_and_then (λ loops. with_holes rules holes (polygons_of_loops (turns_left outer) loops)) o ≡ Some made → EachRing P made
+            option_and_then (λ loops. with_holes rules holes (polygons_of_loops (turns_left (closed_list rules outer)) loops)) o ≡ Some made → EachRing P made
         go None s k = absurd cc
-        go (Some loops) s k = with_holes_each holes (polygons_of_loops (turns_left outer) loops) made (loops_each (turns_left outer) loops (s loops refl)) k
+        go (Some loops) s k =
+            let left = turns_left (closed_list rules outer) in with_holes_each holes (polygons_of_loops left loops) made (loops_each left loops (s loops refl)) k

@@ -4,10 +4,9 @@ use Rattle.std.specs.Option.{option_map}
 use Rattle.grid.specs.declared.pos.Pos.{Pos}
 use Rattle.theory.specs.Lists.{Each}
 use Rattle.theory.proofs.Lists.{append_nil}
-use Rattle.fixing.specs.Left.{all_counted, all_left, counted, ring_left}
+use Rattle.fixing.specs.Left.{all_counted, all_left, closed_list, ring_left}
 use Rattle.fixing.specs.Measures.{turns_left}
 use Rattle.fixing.specs.Polygons.{polygon_kept, polygon_left, polygons_of_loops, put_holes, rewound_from, rewound_polygon, with_holes}
-use Rattle.fixing.specs.declared.linework.Need.{Need}
 use Rattle.fixing.specs.declared.rules.Fixes.{Fixes}
 use Rattle.fixing.specs.declared.rules.Rewind.TheVariants.{Keep}
 use Rattle.fixing.specs.declared.rules.FixingRules.{FixingRules}
@@ -21,10 +20,10 @@ all_stay left P stays (l ∷ ls) h =
     ∙ ap (λ o. option_map (λ more. (l ∷ []) ++ more) o) (all_stay left P stays ls h.1)
 
 -- and nothing is counted
-pub none_counted : (need : List Pos → Option Need) (P : List Pos → Type 0) (fixes : Fixes) → ((l : List Pos) → P l → counted (need l) fixes ≡ fixes) →
-    (ls : List (List Pos)) → Each P ls → all_counted need ls fixes ≡ fixes
-none_counted need P fixes stays [] h = refl
-none_counted need P fixes stays (l ∷ ls) h = ap (λ f. all_counted need ls f) (stays l h.0) ∙ none_counted need P fixes stays ls h.1
+pub none_counted : (count : List Pos → Fixes → Fixes) (P : List Pos → Type 0) (fixes : Fixes) → ((l : List Pos) → P l → count l fixes ≡ fixes) →
+    (ls : List (List Pos)) → Each P ls → all_counted count ls fixes ≡ fixes
+none_counted count P fixes stays [] h = refl
+none_counted count P fixes stays (l ∷ ls) h = ap (λ f. all_counted count ls f) (stays l h.0) ∙ none_counted count P fixes stays ls h.1
 
 module _ (rules : FixingRules) (P : List Pos → Type 0) (stays : (l : List Pos) → P l → ring_left rules l ≡ Some (l ∷ [])) where
   holes_stay : (holes rings : List (List Pos)) → Each P holes → with_holes rules holes (rings ∷ []) ≡ Some ((rings ++ holes) ∷ [])
@@ -37,7 +36,7 @@ module _ (rules : FixingRules) (P : List Pos → Type 0) (stays : (l : List Pos)
   pub kept_stays : (rings : List (List Pos)) → Each P rings → polygon_kept rules rings ≡ Some (rings ∷ [])
   kept_stays [] h = refl
   kept_stays (outer ∷ holes) h =
-      ap (λ o. option_and_then (λ loops. with_holes rules holes (polygons_of_loops (turns_left outer) loops)) o) (stays outer h.0)
+      ap (λ o. option_and_then (λ loops. with_holes rules holes (polygons_of_loops (turns_left (closed_list rules outer)) loops)) o) (stays outer h.0)
       ∙ holes_stay holes (outer ∷ []) h.1
 
   -- a polygon of which each ring is left as it is

@@ -1,8 +1,8 @@
 -- The laws of what is left of lines and rings, proved.
-use Rattle.std.proofs.Common.{◌≡◌, Bool, true, false, cond, List, [], ◌∷◌, refl, sym, ap, subst, Option, Some, None}
+use Rattle.std.proofs.Common.{◌≡◌, Bool, true, false, cond, List, [], ◌∷◌, refl, sym, ap, ◌∙◌, subst, Option, Some, None}
 use Rattle.std.specs.Option.{option_map}
 use Rattle.grid.specs.declared.pos.Pos.{Pos}
-use Rattle.theory.specs.LinesAndRings.{IsLine}
+use Rattle.theory.specs.LinesAndRings.{IsLine, closed}
 use Rattle.theory.specs.Lists.{Each}
 use Rattle.lines.specs.Positions.{position_same, position_total}
 use Rattle.lines.specs.Reading.{collapsed, line_fault, ring_fault}
@@ -11,13 +11,14 @@ use Rattle.lines.specs.declared.shape_fault.ShapeFault.{ShapeFault}
 use Rattle.lines.specs.declared.shape_fault.ShapeFault.TheVariants.{TooShort, NotClosed, Revisit, OutOfMemory}
 use Rattle.lines.proofs.ReadsItself.{line_without_fault, ring_without_fault}
 use Rattle.fixing.specs.Laws as law
-use Rattle.fixing.specs.Left.{counted, is_refusing, left_by, line_left, line_need, need_of, ring_need}
+use Rattle.fixing.specs.Left.{closed_left, closed_list, closed_need, counted, is_refusing, left_by, line_counted, line_left, need_of, one_more, ring_counted}
 use Rattle.fixing.specs.Loops.{loops_of}
 use Rattle.fixing.specs.Runs.{runs_of}
 use Rattle.fixing.specs.declared.linework.Need.TheVariants.{Drop, Split}
 use Rattle.fixing.specs.declared.rules.FixingRules.{FixingRules}
 use Rattle.fixing.proofs.LoopLaws as loop
 use Rattle.fixing.proofs.OddUses.{odd_uses}
+use Rattle.fixing.proofs.OpenRings.{sound_closed}
 use Rattle.fixing.proofs.PolygonLaws.{polygon_each}
 use Rattle.fixing.proofs.PolygonsStay.{all_stay, none_counted, polygon_stays}
 use Rattle.fixing.proofs.TurnLaws.{rewound_stays, turned_turns}
@@ -57,8 +58,9 @@ simple_sound l (ring, is, valid, distinct) =
 
 pub rings_left_are_sound : law.RingsLeftAreSound
 rings_left_are_sound rules ring left e =
-    left_has (λ l. ring_fault position_cmp l ≡ None) rules ring (loops_of ring) left (ring_fault position_cmp ring) (λ f. f)
-    (Each-weaker law.IsSimpleRing (λ l. ring_fault position_cmp l ≡ None) simple_sound (loops_of ring) (loop.loops_are_simple ring))
+    let l = closed_list rules ring in
+    left_has (λ l. ring_fault position_cmp l ≡ None) rules l (loops_of l) left (ring_fault position_cmp l) (λ f. f)
+    (Each-weaker law.IsSimpleRing (λ l. ring_fault position_cmp l ≡ None) simple_sound (loops_of l) (loop.loops_are_simple l))
     e
 
 pub runs_use_each_segment_once : law.RunsUseEachSegmentOnce
@@ -78,8 +80,9 @@ sound_lines_stay rules line fixes e = (
 
 pub sound_rings_stay : law.SoundRingsStay
 sound_rings_stay rules ring fixes e = (
-  ap (λ f. option_map (λ need. left_by need ring (loops_of ring)) (need_of rules f)) e,
-  ap (λ f. counted (need_of rules f) fixes) e,
+  ap (λ b. closed_left rules (cond b (closed ring) ring)) (sound_closed rules ring e) ∙ ap (λ f. option_map (λ need. left_by need ring (loops_of ring)) (need_of rules f)) e,
+  ap (λ b. counted (closed_need rules (cond b (closed ring) ring)) (cond b (record fixes { closed = one_more fixes.closed }) fixes)) (sound_closed rules ring e)
+      ∙ ap (λ f. counted (need_of rules f) fixes) e,
 )
 
 pub polygons_left_are_sound : law.PolygonsLeftAreSound
@@ -89,13 +92,13 @@ polygons_left_are_sound rules polygon left e =
 pub sound_multi_lines_stay : law.SoundMultiLinesStay
 sound_multi_lines_stay rules lines fixes h = (
   all_stay (line_left rules) (λ l. line_fault position_cmp l ≡ None) (λ l e. (sound_lines_stay rules l fixes e).0) lines h,
-  none_counted (line_need rules) (λ l. line_fault position_cmp l ≡ None) fixes (λ l e. (sound_lines_stay rules l fixes e).1) lines h,
+  none_counted (line_counted rules) (λ l. line_fault position_cmp l ≡ None) fixes (λ l e. (sound_lines_stay rules l fixes e).1) lines h,
 )
 
 pub sound_polygons_stay : law.SoundPolygonsStay
 sound_polygons_stay rules polygon fixes keep h = (
   polygon_stays rules (λ l. ring_fault position_cmp l ≡ None) (λ l e. (sound_rings_stay rules l fixes e).0) polygon keep h,
-  none_counted (ring_need rules) (λ l. ring_fault position_cmp l ≡ None) fixes (λ l e. (sound_rings_stay rules l fixes e).1) polygon h,
+  none_counted (ring_counted rules) (λ l. ring_fault position_cmp l ≡ None) fixes (λ l e. (sound_rings_stay rules l fixes e).1) polygon h,
 )
 
 pub turned_rings_turn : law.TurnedRingsTurn

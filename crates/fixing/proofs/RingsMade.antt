@@ -8,7 +8,7 @@ use Rattle.lines.specs.Turned.{position_cmp}
 use Rattle.lines.specs.declared.shape_fault.ShapeFault.{ShapeFault}
 use Rattle.fixing.specs.Laws.{EachRing}
 use Rattle.fixing.specs.Counts.{no_fixes}
-use Rattle.fixing.specs.Left.{ring_need}
+use Rattle.fixing.specs.Left.{ring_counted}
 use Rattle.fixing.specs.Measures.{rewound}
 use Rattle.fixing.specs.Polygons.{listed, polygon_counted, polygon_kept, polygons_left, polygons_made, rewound_from, rewound_polygon, rings_made}
 use Rattle.fixing.specs.declared.rules.Fixes.{Fixes}
@@ -57,7 +57,7 @@ module _ (rules : FixingRules) (rings : List (List Pos)) where
 
   pub sound_counted : (made : List (List Pos)) (fixes : Fixes) → Some made ≡ rings_made rules.rewind true rings → polygon_counted rules rings fixes ≡ fixes
   sound_counted made fixes e =
-      none_counted (ring_need rules) IsSound fixes (λ l h. (sound_rings_stay rules l fixes h).1) rings (made_sound rules.rewind true rings made (sym e))
+      none_counted (ring_counted rules) IsSound fixes (λ l h. (sound_rings_stay rules l fixes h).1) rings (made_sound rules.rewind true rings made (sym e))
 
   pub kept_left : (kept : List (List (List Pos))) (made : List (List (List Pos))) → polygon_kept rules rings ≡ Some kept → made ≡ polygons_made rules.rewind kept →
       polygons_left rules rings ≡ Some made

@@ -14,8 +14,8 @@ use Rattle.fixing.specs.Counts.{no_fixes}
 use Rattle.fixing.specs.Forms.{PlainForm}
 use Rattle.fixing.specs.Geometries.{form_counted, form_left, line_form, polygon_form}
 use Rattle.fixing.specs.Laws.{EachRing, HasArea, HaveAreas, ShapesLeftStay, closed_form}
-use Rattle.fixing.specs.Left.{all_counted, all_left, line_left, line_need, lines_left}
-use Rattle.fixing.specs.Polygons.{polygon_kept, polygons_counted, polygons_left, rewound_polygon, ring_made, rings_made}
+use Rattle.fixing.specs.Left.{all_counted, all_left, line_counted, line_left, lines_left}
+use Rattle.fixing.specs.Polygons.{polygon_counted, polygon_kept, polygons_left, rewound_polygon, ring_made, rings_made}
 use Rattle.fixing.specs.declared.rules.Fixes.{Fixes}
 use Rattle.fixing.specs.declared.rules.FixingRules.{FixingRules}
 use Rattle.fixing.proofs.PolygonsStay.{all_stay, none_counted}
@@ -66,8 +66,8 @@ module _ (rules : FixingRules) where
   abbrev Stays : PlainForm → Type 0
   Stays form = (fixes : Fixes) → (form_left rules (closed_form form) ≡ Some form) × (form_counted rules (closed_form form) fixes ≡ fixes)
 
-  lines_stay : (ls : List (List Pos)) → Each IsRead ls → (all_left (lines_left rules) ls ≡ Some ls) × ((fixes : Fixes) → all_counted (line_need rules) ls fixes ≡ fixes)
-  lines_stay ls h = (all_stay (lines_left rules) IsRead line_stays ls h, λ fixes. none_counted (line_need rules) IsRead fixes (λ l k. (sound_lines_stay rules l fixes k.0).1) ls h)
+  lines_stay : (ls : List (List Pos)) → Each IsRead ls → (all_left (lines_left rules) ls ≡ Some ls) × ((fixes : Fixes) → all_counted (line_counted rules) ls fixes ≡ fixes)
+  lines_stay ls h = (all_stay (lines_left rules) IsRead line_stays ls h, λ fixes. none_counted (line_counted rules) IsRead fixes (λ l k. (sound_lines_stay rules l fixes k.0).1) ls h)
 
   line_form_stays : (was_multi : Bool) (ls : List (List Pos)) → Each IsRead ls → Stays (line_form was_multi ls)
   line_form_stays was_multi [] h = λ fixes. (refl, refl)
@@ -156,9 +156,9 @@ module _ (rules : FixingRules) where
       ap (λ o. option_and_then (λ parts. option_map (λ more. parts ++ more) (all_left (polygons_left rules) (map (map closed) ps))) o) (polygon_stays p h.0)
       ∙ ap (option_map (λ more. p ∷ more)) (polygons_stay ps h.1)
 
-  none_counted_of : (ps : List (List (List Pos))) (fixes : Fixes) → AreMade ps → polygons_counted rules (map (map closed) ps) fixes ≡ fixes
+  none_counted_of : (ps : List (List (List Pos))) (fixes : Fixes) → AreMade ps → all_counted (polygon_counted rules) (map (map closed) ps) fixes ≡ fixes
   none_counted_of [] fixes h = refl
-  none_counted_of (p ∷ ps) fixes h = ap (polygons_counted rules (map (map closed) ps)) (sound_counted rules (map closed p) p fixes (sym h.0)) ∙ none_counted_of ps fixes h.1
+  none_counted_of (p ∷ ps) fixes h = ap (all_counted (polygon_counted rules) (map (map closed) ps)) (sound_counted rules (map closed p) p fixes (sym h.0)) ∙ none_counted_of ps fixes h.1
 
   polygon_form_stays : (was_multi : Bool) (ps : List (List (List Pos))) → AreMade ps → Stays (polygon_form was_multi ps)
   polygon_form_stays was_multi [] h = λ fixes. (refl, refl)

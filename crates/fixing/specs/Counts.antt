@@ -11,19 +11,20 @@ sum_of_counts a b = min (a + b) (2 ^ 64 - 1)
 -- both together
 abbrev pub sum_of_fixes : Fixes → Fixes → Fixes
 sum_of_fixes a b = record {
+  closed = sum_of_counts a.closed b.closed;
   collapsed = sum_of_counts a.collapsed b.collapsed;
   folded = sum_of_counts a.folded b.folded;
   collections = sum_of_counts a.collections b.collections;
   lost = sum_of_counts a.lost b.lost;
 }
 
--- whether anything was lost or split
+-- whether anything was closed, lost or split
 abbrev pub is_any : Fixes → Bool
-is_any f = ((nat_lt 0 f.collapsed || nat_lt 0 f.folded) || nat_lt 0 f.collections) || nat_lt 0 f.lost
+is_any f = (((nat_lt 0 f.closed || nat_lt 0 f.collapsed) || nat_lt 0 f.folded) || nat_lt 0 f.collections) || nat_lt 0 f.lost
 
 -- nothing
 abbrev pub no_fixes : Fixes
-no_fixes = record { collapsed = 0; folded = 0; collections = 0; lost = 0 }
+no_fixes = record { closed = 0; collapsed = 0; folded = 0; collections = 0; lost = 0 }
 
 -- the sum of all
 abbrev pub total_from : Fixes → List Fixes → Fixes

@@ -7,16 +7,16 @@ use Rattle.lines.specs.Turned.{position_cmp}
 use Rattle.theory.specs.Topology.{null, point, points, line, lines, polygon, polygons}
 use Rattle.fixing.specs.Forms.{PlainForm, PlainGeometry, one, collection}
 use Rattle.fixing.specs.Geometries.{geometry_left}
-use Rattle.fixing.specs.Left.{line_left, ring_left, unfixed}
+use Rattle.fixing.specs.Left.{closed_list, line_left, ring_left, unfixed}
 use Rattle.fixing.specs.declared.rules.FixingRules.{FixingRules}
 
 -- a line has no fault but what the rules fix
 abbrev pub IsFixableLine : FixingRules → List Pos → Type 0
 IsFixableLine rules l = unfixed rules (line_fault position_cmp l) ≡ None
 
--- nor has a closed list
+-- nor has a ring, once it is closed where the rules close it
 abbrev pub IsFixableRing : FixingRules → List Pos → Type 0
-IsFixableRing rules l = unfixed rules (ring_fault position_cmp l) ≡ None
+IsFixableRing rules l = unfixed rules (ring_fault position_cmp (closed_list rules l)) ≡ None
 
 -- nor has any line or ring of a shape
 abbrev pub IsFixable : FixingRules → PlainForm → Type 0

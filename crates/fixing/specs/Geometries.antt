@@ -4,8 +4,8 @@ use Rattle.std.specs.Option.{option_map}
 use Rattle.grid.specs.declared.pos.Pos.{Pos}
 use Rattle.theory.specs.Topology.{null, point, points, line, lines, polygon, polygons}
 use Rattle.fixing.specs.Forms.{PlainForm, PlainGeometry, one, collection}
-use Rattle.fixing.specs.Left.{all_counted, all_left, counted, line_need, lines_left, one_more}
-use Rattle.fixing.specs.Polygons.{polygon_counted, polygons_counted, polygons_left}
+use Rattle.fixing.specs.Left.{all_counted, all_left, line_counted, lines_left, one_more}
+use Rattle.fixing.specs.Polygons.{polygon_counted, polygons_left}
 use Rattle.fixing.specs.declared.rules.Collapsed.{Collapsed}
 use Rattle.fixing.specs.declared.rules.Collapsed.TheVariants.{Null, Drop, Refuse}
 use Rattle.fixing.specs.declared.rules.Fixes.{Fixes}
@@ -38,10 +38,10 @@ form_left rules (polygons (p ∷ ps)) = option_map (polygon_form true) (all_left
 
 -- with what was done with its lines or rings counted
 abbrev pub form_counted : FixingRules → PlainForm → Fixes → Fixes
-form_counted rules (line l) fixes = counted (line_need rules l) fixes
-form_counted rules (lines ls) fixes = all_counted (line_need rules) ls fixes
+form_counted rules (line l) fixes = line_counted rules l fixes
+form_counted rules (lines ls) fixes = all_counted (line_counted rules) ls fixes
 form_counted rules (polygon rs) fixes = polygon_counted rules rs fixes
-form_counted rules (polygons ps) fixes = polygons_counted rules ps fixes
+form_counted rules (polygons ps) fixes = all_counted (polygon_counted rules) ps fixes
 form_counted rules form fixes = fixes
 
 -- whether a form is null
@@ -52,11 +52,6 @@ is_null form = false
 -- what is left of a shape, if it is not null; none where the rules refuse it
 abbrev pub shown_left : FixingRules → PlainForm → Option (List PlainForm)
 shown_left rules form = option_map (λ left. cond (is_null left) [] (left ∷ [])) (form_left rules form)
-
--- with what was done with each shape counted
-abbrev pub forms_counted : FixingRules → List PlainForm → Fixes → Fixes
-forms_counted rules [] fixes = fixes
-forms_counted rules (form ∷ forms) fixes = forms_counted rules forms (form_counted rules form fixes)
 
 -- what becomes of a feature without a shape
 abbrev pub lost : Collapsed → List PlainForm
@@ -80,7 +75,7 @@ counted_lost (form ∷ forms) fixes = fixes
 
 -- with what was done with the shapes of a feature counted
 abbrev pub lost_counted : FixingRules → List PlainForm → Fixes → Fixes
-lost_counted rules forms fixes = counted_lost (unwrap_or (all_left (shown_left rules) forms) []) (forms_counted rules forms fixes)
+lost_counted rules forms fixes = counted_lost (unwrap_or (all_left (shown_left rules) forms) []) (all_counted (form_counted rules) forms fixes)
 
 -- the shapes that are left of a geometry, each to be a feature of its own; none where the rules refuse it. Null stays null
 abbrev pub geometry_left : FixingRules → PlainGeometry → Option (List PlainForm)

@@ -1,16 +1,17 @@
 -- The laws of what is left of lines and rings.
-use Rattle.std.specs.Prelude.{◌≡◌, ◌≢◌, ℕ, ◌+◌, pos, ◌-ℤ◌, List, [], ◌∷◌, map, Bool, false, Some, None, FitsSigned}
+use Rattle.std.specs.Prelude.{◌≡◌, ◌≢◌, ◌↔◌, ℕ, ◌+◌, pos, ◌-ℤ◌, List, [], ◌∷◌, map, Bool, true, false, Some, None, FitsSigned}
 use Rattle.grid.specs.declared.pos.Pos.{Pos}
 use Rattle.lines.specs.Reading.{collapsed, line_fault, ring_fault}
 use Rattle.lines.specs.Segments.{segments_of}
 use Rattle.lines.specs.Turned.{position_cmp}
 use Rattle.lines.specs.declared.pair.PositionPair.{PositionPair}
+use Rattle.lines.specs.declared.shape_fault.ShapeFault.TheVariants.{NotClosed}
 use Rattle.theory.specs.LinesAndRings.{IsRing, closed}
 use Rattle.theory.specs.Topology.{polygon, polygons}
 use Rattle.theory.specs.Lists.{Distinct, Each, gathered, last_of}
 use Rattle.fixing.specs.Forms.{PlainForm}
 use Rattle.fixing.specs.Geometries.{form_counted, form_left}
-use Rattle.fixing.specs.Left.{all_counted, all_left, counted, line_left, line_need, ring_left, ring_need}
+use Rattle.fixing.specs.Left.{all_counted, all_left, closed_list, is_open, line_counted, line_left, ring_counted, ring_left}
 use Rattle.fixing.specs.Loops.{loops_of}
 use Rattle.fixing.specs.Measures.{rewound, turns_left, twice_area}
 use Rattle.fixing.specs.Polygons.{polygon_counted, polygon_kept, polygon_left}
@@ -64,23 +65,28 @@ PolygonsLeftAreSound =
     (rules : FixingRules) (polygon : List (List Pos)) (left : List (List (List Pos))) → polygon_kept rules polygon ≡ Some left →
     EachRing (λ l. ring_fault position_cmp l ≡ None) left
 
+-- a ring that is judged is open exactly where its list is open and the rules don't close it
+abbrev pub OpenRingsAreClosed : Type 0
+OpenRingsAreClosed =
+    (rules : FixingRules) (ring : List Pos) → ring_fault position_cmp (closed_list rules ring) ≡ Some NotClosed ↔ ((rules.closes_rings ≡ false) × (is_open ring ≡ true))
+
 -- a line without a fault is left as it is, and nothing is counted
 abbrev pub SoundLinesStay : Type 0
 SoundLinesStay =
     (rules : FixingRules) (line : List Pos) (fixes : Fixes) → line_fault position_cmp line ≡ None →
-    (line_left rules line ≡ Some (line ∷ [])) × (counted (line_need rules line) fixes ≡ fixes)
+    (line_left rules line ≡ Some (line ∷ [])) × (line_counted rules line fixes ≡ fixes)
 
 -- and so is a ring
 abbrev pub SoundRingsStay : Type 0
 SoundRingsStay =
     (rules : FixingRules) (ring : List Pos) (fixes : Fixes) → ring_fault position_cmp ring ≡ None →
-    (ring_left rules ring ≡ Some (ring ∷ [])) × (counted (ring_need rules ring) fixes ≡ fixes)
+    (ring_left rules ring ≡ Some (ring ∷ [])) × (ring_counted rules ring fixes ≡ fixes)
 
 -- so do all lines of a list of them
 abbrev pub SoundMultiLinesStay : Type 0
 SoundMultiLinesStay =
     (rules : FixingRules) (lines : List (List Pos)) (fixes : Fixes) → Each (λ l. line_fault position_cmp l ≡ None) lines →
-    (all_left (line_left rules) lines ≡ Some lines) × (all_counted (line_need rules) lines fixes ≡ fixes)
+    (all_left (line_left rules) lines ≡ Some lines) × (all_counted (line_counted rules) lines fixes ≡ fixes)
 
 -- and a polygon of rings without a fault, where rings are not turned
 abbrev pub SoundPolygonsStay : Type 0

@@ -1,8 +1,9 @@
 -- What is left of lines and rings, and what is counted.
-use Rattle.std.specs.Prelude.{ℕ, ◌+◌, ◌-◌, ◌^◌, min, Bool, true, false, cond, List, [], ◌∷◌, ◌++◌, map, Option, Some, None, option_and_then}
+use Rattle.std.specs.Prelude.{ℕ, ◌+◌, ◌-◌, ◌^◌, min, Bool, true, false, cond, not, ◌&&◌, List, [], ◌∷◌, ◌++◌, map, Option, Some, None, option_and_then}
 use Rattle.std.specs.Option.{option_map}
 use Rattle.grid.specs.declared.pos.Pos.{Pos}
-use Rattle.lines.specs.Reading.{collapsed, line_fault, ring_fault}
+use Rattle.theory.specs.LinesAndRings.{closed}
+use Rattle.lines.specs.Reading.{collapsed, is_closed, line_fault, ring_fault}
 use Rattle.lines.specs.Turned.{position_cmp}
 use Rattle.lines.specs.declared.shape_fault.ShapeFault.{ShapeFault}
 use Rattle.lines.specs.declared.shape_fault.ShapeFault.TheVariants.{TooShort, NotClosed, Revisit, OutOfMemory}
@@ -45,17 +46,37 @@ left_by Split list parts = parts
 abbrev pub line_need : FixingRules → List Pos → Option Need
 line_need rules l = need_of rules (line_fault position_cmp l)
 
+-- whether a ring is open: its last position is not its first
+abbrev pub is_open : List Pos → Bool
+is_open l = not (is_closed position_cmp l)
+
+-- whether the rules close a ring
+abbrev pub closes : FixingRules → List Pos → Bool
+closes rules l = rules.closes_rings && is_open l
+
+-- the list of a ring: where the rules close it, with its first position once more at its end [RFC 7946, 3.1.6]
+abbrev pub closed_list : FixingRules → List Pos → List Pos
+closed_list rules l = cond (closes rules l) (closed l) l
+
 -- what is to be done with a closed list
+abbrev pub closed_need : FixingRules → List Pos → Option Need
+closed_need rules l = need_of rules (ring_fault position_cmp l)
+
+-- what is to be done with a ring
 abbrev pub ring_need : FixingRules → List Pos → Option Need
-ring_need rules l = need_of rules (ring_fault position_cmp l)
+ring_need rules l = closed_need rules (closed_list rules l)
 
 -- what is left of a line; none where it is refused
 abbrev pub line_left : FixingRules → List Pos → Option (List (List Pos))
 line_left rules l = option_map (λ need. left_by need l (runs_of (collapsed position_cmp l))) (line_need rules l)
 
 -- what is left of a closed list; none where it is refused
+abbrev pub closed_left : FixingRules → List Pos → Option (List (List Pos))
+closed_left rules l = option_map (λ need. left_by need l (loops_of l)) (closed_need rules l)
+
+-- what is left of a ring; none where it is refused
 abbrev pub ring_left : FixingRules → List Pos → Option (List (List Pos))
-ring_left rules l = option_map (λ need. left_by need l (loops_of l)) (ring_need rules l)
+ring_left rules l = closed_left rules (closed_list rules l)
 
 -- the lines that are left of a line, equal neighbours read as one; none where it is refused
 abbrev pub lines_left : FixingRules → List Pos → Option (List (List Pos))
@@ -85,7 +106,19 @@ counted (Some Nothing) fixes = fixes
 counted (Some Drop) fixes = record fixes { collapsed = one_more fixes.collapsed }
 counted (Some Split) fixes = record fixes { folded = one_more fixes.folded }
 
+-- a ring counted as closed, where the rules close it
+abbrev pub closed_counted : FixingRules → List Pos → Fixes → Fixes
+closed_counted rules l fixes = cond (closes rules l) (record fixes { closed = one_more fixes.closed }) fixes
+
+-- with what was done with a line counted
+abbrev pub line_counted : FixingRules → List Pos → Fixes → Fixes
+line_counted rules l fixes = counted (line_need rules l) fixes
+
+-- with what was done with a ring counted: whether it was closed, and what then
+abbrev pub ring_counted : FixingRules → List Pos → Fixes → Fixes
+ring_counted rules l fixes = counted (ring_need rules l) (closed_counted rules l fixes)
+
 -- with what was done with each counted
-abbrev pub all_counted : {A : Type 0} → (A → Option Need) → List A → Fixes → Fixes
-all_counted need [] fixes = fixes
-all_counted need (x ∷ l) fixes = all_counted need l (counted (need x) fixes)
+abbrev pub all_counted : {A : Type 0} → (A → Fixes → Fixes) → List A → Fixes → Fixes
+all_counted count [] fixes = fixes
+all_counted count (x ∷ l) fixes = all_counted count l (count x fixes)

@@ -5,7 +5,7 @@ use Rattle.grid.specs.declared.pos.Pos.{Pos}
 use Rattle.lines.specs.Reading.{ring_fault, ring_of}
 use Rattle.lines.specs.Turned.{position_cmp}
 use Rattle.theory.specs.TopologyFunction.{keep}
-use Rattle.fixing.specs.Left.{all_counted, ring_left, ring_need}
+use Rattle.fixing.specs.Left.{all_counted, closed_list, ring_counted, ring_left}
 use Rattle.fixing.specs.Measures.{lies_in, rewound, turns_left}
 use Rattle.fixing.specs.declared.rules.Rewind.{Rewind}
 use Rattle.fixing.specs.declared.rules.Fixes.{Fixes}
@@ -78,7 +78,7 @@ rewound_polygon rewind rings = rewound_from rewind true rings
 abbrev pub polygon_kept : FixingRules → List (List Pos) → Option (List (List (List Pos)))
 polygon_kept rules [] = Some ([] ∷ [])
 polygon_kept rules (outer ∷ holes) =
-    option_and_then (λ loops. with_holes rules holes (polygons_of_loops (turns_left outer) loops)) (ring_left rules outer)
+    option_and_then (λ loops. with_holes rules holes (polygons_of_loops (turns_left (closed_list rules outer)) loops)) (ring_left rules outer)
 
 -- what is left of a polygon; none where a ring of it is refused
 abbrev pub polygon_left : FixingRules → List (List Pos) → Option (List (List (List Pos)))
@@ -109,9 +109,4 @@ polygons_made rewind (p ∷ ps) = listed (rings_made rewind true p) ++ polygons_
 
 -- with what was done with each ring counted
 abbrev pub polygon_counted : FixingRules → List (List Pos) → Fixes → Fixes
-polygon_counted rules rings fixes = all_counted (ring_need rules) rings fixes
-
--- the counts once the rings of all these polygons are added
-abbrev pub polygons_counted : FixingRules → List (List (List Pos)) → Fixes → Fixes
-polygons_counted rules [] fixes = fixes
-polygons_counted rules (rings ∷ polygons) fixes = polygons_counted rules polygons (polygon_counted rules rings fixes)
+polygon_counted rules rings fixes = all_counted (ring_counted rules) rings fixes

@@ -1,7 +1,7 @@
 //! Geometries.
 ghost use Rattle.fixing.specs.Forms.{plain_shape, seen_geometry, seen_shape};
-ghost use Rattle.fixing.specs.Geometries.{form_counted, form_left, forms_counted, forms_left, geometry_counted, geometry_left, is_null as is_null_form, line_form, lost_counted, polygon_form, shown_left};
-ghost use Rattle.fixing.specs.Left.{all_left};
+ghost use Rattle.fixing.specs.Geometries.{form_counted, form_left, forms_left, geometry_counted, geometry_left, is_null as is_null_form, line_form, lost_counted, polygon_form, shown_left};
+ghost use Rattle.fixing.specs.Left.{all_counted, all_left};
 ghost use Rattle.fixing.specs.Seen.{lists_in, polygons_in};
 ghost use Rattle.lines.specs.Seen.{positions_of, vertices_of};
 ghost use Rattle.std.specs.Prelude.{◌≡◌, IfErr, IfOk, OnOk, None, Some, map};
@@ -136,7 +136,7 @@ fn fix_shapes(
     fixes: &mut Fixes,
 ) -> Result<Vec<Shape>, Broken>
     ensures left { IfOk result (λ made. all_left (shown_left rules.now) (map seen_shape shapes.items) ≡ Some (map plain_shape made.items)) }
-    ensures fixes { OnOk result (fixes.new ≡ forms_counted rules.now (map seen_shape shapes.items) fixes.old) }
+    ensures fixes { OnOk result (fixes.new ≡ all_counted (form_counted rules.now) (map seen_shape shapes.items) fixes.old) }
     ensures refused { IfErr result (λ e. e ≡ Broken.Refused → all_left (shown_left rules.now) (map seen_shape shapes.items) ≡ None) }
 {
     let mut made = Vec::new(alloc);

@@ -23,6 +23,11 @@ pub fn loops_are_simple()
     ensures odd_uses { law.LoopsKeepOddUses }
 {}
 
+/// A ring that is judged is open exactly where its list is open and the rules don't close it.
+pub fn open_rings_are_closed()
+    ensures { law.OpenRingsAreClosed }
+{}
+
 /// Lines, rings, lists of lines and polygons without a fault are left as they are, and nothing is counted.
 pub fn sound_shapes_stay()
     ensures lines { law.SoundLinesStay }

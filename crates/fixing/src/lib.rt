@@ -3,6 +3,7 @@
 #![tactic(auto)]
 
 mod broken;
+mod closing;
 mod feature;
 mod geometry;
 pub mod laws;

@@ -1,5 +1,5 @@
 //! Lines and rings, checked and fixed one by one.
-ghost use Rattle.fixing.specs.Left.{all_counted, all_left, counted, left_by as lists_left, line_need as needed_of_line, lines_left, need_of as needed, parts_of, ring_left, ring_need as needed_of_ring, unfixed};
+ghost use Rattle.fixing.specs.Left.{all_counted, all_left, closed_left, closed_list, closed_need as needed_of_closed, counted, left_by as lists_left, line_counted, lines_left, need_of as needed, parts_of, unfixed};
 ghost use Rattle.fixing.specs.Seen.{lists_in};
 ghost use Rattle.lines.specs.Reading.{collapsed, line_fault, ring_fault};
 ghost use Rattle.lines.specs.Seen.{positions_of};
@@ -8,6 +8,7 @@ ghost use Rattle.std.specs.Prelude.{◌≡◌, ◌≢◌, IfErr, IfOk, OnOk, Non
 ghost use Rattle.theory.specs.Lists.{Each};
 
 use crate::broken::Broken;
+use crate::closing::close;
 use crate::lists::only;
 use crate::loops::loops_of;
 use crate::rules::{Collapsed, Fixes, FixingRules};
@@ -44,9 +45,9 @@ fn need_of(fault: ShapeFault, rules: &FixingRules) -> Result<Need, Broken>
     }
 }
 
-fn ring_need(alloc: Global, closed: &[Pos], rules: &FixingRules) -> Result<Need, Broken>
-    ensures ok { IfOk result (λ need. needed_of_ring rules.now closed.now ≡ Some need) }
-    ensures refused { IfErr result (λ e. e ≡ Broken.Refused → needed_of_ring rules.now closed.now ≡ None) }
+fn closed_need(alloc: Global, closed: &[Pos], rules: &FixingRules) -> Result<Need, Broken>
+    ensures ok { IfOk result (λ need. needed_of_closed rules.now closed.now ≡ Some need) }
+    ensures refused { IfErr result (λ e. e ≡ Broken.Refused → needed_of_closed rules.now closed.now ≡ None) }
 {
     let copy = closed.to_vec(alloc)?;
     match Ring::from_closed(alloc, copy) {
@@ -86,14 +87,16 @@ pub fn unfixed_line(
     }
 }
 
-/// The fault of a ring that the rules don't fix, if it has one. The ring is the closed list of its positions.
+/// The fault of a ring that the rules don't fix, if it has one. The ring is a list of positions that ends with its first, if it
+/// isn't open.
 pub fn unfixed_ring(
     alloc: Global,
-    closed: Vec<Pos>,
+    ring: Vec<Pos>,
     rules: &FixingRules,
 ) -> Result<Option<ShapeFault>, OutOfMemory>
-    ensures { IfOk result (λ fault. fault ≡ unfixed rules.now (ring_fault position_cmp closed.items)) }
+    ensures { IfOk result (λ fault. fault ≡ unfixed rules.now (ring_fault position_cmp (closed_list rules.now ring.items))) }
 {
+    let closed = close(ring, rules)?;
     match Ring::from_closed(alloc, closed) {
         Ok(_) => Ok(None),
         Err(fault) => unfixed_fault(fault, rules),
@@ -154,7 +157,7 @@ pub(crate) fn fix_line(
     fixes: &mut Fixes,
 ) -> Result<Vec<Line>, Broken>
     ensures left { IfOk result (λ lines. lines_left rules.now positions.items ≡ Some (map positions_of lines.items)) }
-    ensures fixes { OnOk result (fixes.new ≡ counted (needed_of_line rules.now positions.items) fixes.old) }
+    ensures fixes { OnOk result (fixes.new ≡ line_counted rules.now positions.items fixes.old) }
     ensures refused { IfErr result (λ e. e ≡ Broken.Refused → lines_left rules.now positions.items ≡ None) }
 {
     let copy = positions.as_slice().to_vec(alloc)?;
@@ -176,7 +179,7 @@ pub(crate) fn fix_lines(
     fixes: &mut Fixes,
 ) -> Result<Vec<Line>, Broken>
     ensures left { IfOk result (λ made. all_left (lines_left rules.now) (lists_in lines.items) ≡ Some (map positions_of made.items)) }
-    ensures fixes { OnOk result (fixes.new ≡ all_counted (needed_of_line rules.now) (lists_in lines.items) fixes.old) }
+    ensures fixes { OnOk result (fixes.new ≡ all_counted (line_counted rules.now) (lists_in lines.items) fixes.old) }
     ensures refused { IfErr result (λ e. e ≡ Broken.Refused → all_left (lines_left rules.now) (lists_in lines.items) ≡ None) }
 {
     let mut fixed = Vec::with_capacity(alloc, lines.len())?;
@@ -187,17 +190,17 @@ pub(crate) fn fix_lines(
     Ok(fixed)
 }
 
-/// The closed lists of the rings that are left of a ring.
-pub(crate) fn fix_ring(
+/// The closed lists of the rings that are left of a closed list.
+pub(crate) fn fix_closed(
     alloc: Global,
     closed: Vec<Pos>,
     rules: &FixingRules,
     fixes: &mut Fixes,
 ) -> Result<Vec<Vec<Pos>>, Broken>
-    ensures left { IfOk result (λ parts. ring_left rules.now closed.items ≡ Some (lists_in parts.items)) }
-    ensures fixes { OnOk result (fixes.new ≡ counted (needed_of_ring rules.now closed.items) fixes.old) }
-    ensures refused { IfErr result (λ e. e ≡ Broken.Refused → ring_left rules.now closed.items ≡ None) }
+    ensures left { IfOk result (λ parts. closed_left rules.now closed.items ≡ Some (lists_in parts.items)) }
+    ensures fixes { OnOk result (fixes.new ≡ counted (needed_of_closed rules.now closed.items) fixes.old) }
+    ensures refused { IfErr result (λ e. e ≡ Broken.Refused → closed_left rules.now closed.items ≡ None) }
 {
-    let need = ring_need(alloc, closed.as_slice(), rules)?;
+    let need = closed_need(alloc, closed.as_slice(), rules)?;
     Ok(left_by(alloc, need, closed, Linework::Ring, fixes)?)
 }

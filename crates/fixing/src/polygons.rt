@@ -1,13 +1,14 @@
 //! Polygons, fixed one by one.
-ghost use Rattle.fixing.specs.Left.{all_left};
-ghost use Rattle.fixing.specs.Polygons.{home_of as home_in, home_of_hole as home_in_of_hole, polygon_counted, polygon_kept, polygons_counted, polygons_left, polygons_made, polygons_of as alone, polygons_of_loops as made_of_loops, put_holes as with_these, put_others as with_others, put_ring as with_ring, ring_made, rings_made, turns_to as is_turned_to};
+ghost use Rattle.fixing.specs.Left.{all_counted, all_left};
+ghost use Rattle.fixing.specs.Polygons.{home_of as home_in, home_of_hole as home_in_of_hole, polygon_counted, polygon_kept, polygons_left, polygons_made, polygons_of as alone, polygons_of_loops as made_of_loops, put_holes as with_these, put_others as with_others, put_ring as with_ring, ring_made, rings_made, turns_to as is_turned_to};
 ghost use Rattle.fixing.specs.Seen.{lists_in, polygons_in};
 ghost use Rattle.lines.specs.Seen.{vertices_of};
 ghost use Rattle.std.specs.Prelude.{◌≡◌, IfErr, IfOk, OnOk, None, Some, map, not, option_map, true};
 ghost use Rattle.theory.specs.TopologyFunction.{keep};
 
 use crate::broken::Broken;
-use crate::linework::fix_ring;
+use crate::closing::close_counted;
+use crate::linework::fix_closed;
 use crate::lists::only;
 use crate::measures::{is_same, lies_in, turn, turns_left};
 use crate::rules::{Fixes, FixingRules, Rewind};
@@ -199,11 +200,13 @@ fn fix_rings(
     let Some(outer) = rings.next() else {
         return Ok(only(alloc, Vec::new(alloc))?);
     };
+    let outer = close_counted(outer, rules, fixes)?;
     let counterclockwise = turns_left(outer.as_slice());
-    let loops = fix_ring(alloc, outer, rules, fixes)?;
+    let loops = fix_closed(alloc, outer, rules, fixes)?;
     let mut polygons = polygons_of_loops(alloc, loops, counterclockwise)?;
     for hole in rings {
-        let left = fix_ring(alloc, hole, rules, fixes)?;
+        let hole = close_counted(hole, rules, fixes)?;
+        let left = fix_closed(alloc, hole, rules, fixes)?;
         put_holes(&mut polygons, left)?;
     }
     Ok(polygons)
@@ -235,7 +238,7 @@ pub(crate) fn fix_polygons(
     fixes: &mut Fixes,
 ) -> Result<Vec<Items<Ring>>, Broken>
     ensures left { IfOk result (λ made. all_left (polygons_left rules.now) (polygons_in polygons.items) ≡ Some (map (map vertices_of) made.items)) }
-    ensures fixes { OnOk result (fixes.new ≡ polygons_counted rules.now (polygons_in polygons.items) fixes.old) }
+    ensures fixes { OnOk result (fixes.new ≡ all_counted (polygon_counted rules.now) (polygons_in polygons.items) fixes.old) }
     ensures refused { IfErr result (λ e. e ≡ Broken.Refused → all_left (polygons_left rules.now) (polygons_in polygons.items) ≡ None) }
 {
     let mut fixed = Vec::with_capacity(alloc, polygons.len())?;

@@ -28,6 +28,8 @@ pub enum Rewind {
 #[derive(Clone, Copy, PartialEq, Eq, Debug)]
 pub struct FixingRules {
     pub collapsed: Collapsed,
+    /// Whether an open ring is closed by its first position, before anything else is judged of it. Otherwise it is a fault.
+    pub closes_rings: bool,
     /// Whether lines and rings that use a segment twice are split.
     pub splits_folded: bool,
     /// Whether GeometryCollections are split into features. Otherwise they are refused.
@@ -38,6 +40,8 @@ pub struct FixingRules {
 /// How much was fixed.
 #[derive(Clone, Copy, PartialEq, Eq, Debug, Default)]
 pub struct Fixes {
+    /// Rings that were open, and were closed.
+    pub closed: u64,
     /// Lines and rings that were dropped, because too few positions were left.
     pub collapsed: u64,
     /// Lines and rings that were split, because they used a segment twice.
@@ -54,6 +58,7 @@ impl Fixes {
         ensures { result ≡ sum_of_fixes self other }
     {
         Fixes {
+            closed: self.closed.saturating_add(other.closed),
             collapsed: self.collapsed.saturating_add(other.collapsed),
             folded: self.folded.saturating_add(other.folded),
             collections: self.collections.saturating_add(other.collections),
@@ -61,11 +66,15 @@ impl Fixes {
         }
     }
 
-    /// Whether anything was lost or split.
+    /// Whether anything was closed, lost or split.
     pub fn any(self) -> bool
         ensures { result ≡ is_any self }
     {
-        self.collapsed > 0 || self.folded > 0 || self.collections > 0 || self.lost > 0
+        self.closed > 0
+            || self.collapsed > 0
+            || self.folded > 0
+            || self.collections > 0
+            || self.lost > 0
     }
 }
 

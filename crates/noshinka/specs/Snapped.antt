@@ -25,9 +25,9 @@ IsSize numeral = IsUnsigned numeral × IsMeasure (measure_of numeral) × (tens_d
 abbrev pub grid_within : List ℕ → ℕ → ℕ → DecimalGrid
 grid_within numeral x y = record { step = measure_of numeral; greatest_x = x; greatest_y = y; refuses_heights = false; measures = false }
 
--- what collapses becomes null, what is folded is split, so are collections, and rings are not turned
+-- what collapses becomes null, what is folded is split, so are collections, and rings are neither closed nor turned
 abbrev pub all_fixed : FixingRules
-all_fixed = record { collapsed = Null; splits_folded = true; splits_collections = true; rewind = Keep }
+all_fixed = record { collapsed = Null; closes_rings = false; splits_folded = true; splits_collections = true; rewind = Keep }
 
 -- the rules of that grid, where all is fixed, ids stay, no property is scaled, and numbers with a fraction become texts
 pub record AreRulesWithin (numeral : List ℕ) (x y : ℕ) (rules : RoundingRules) : Type 0 where

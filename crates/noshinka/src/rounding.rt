@@ -17,6 +17,7 @@ const DEGREE_STEP: &[u8] = b"0.000001";
 /// What is fixed.
 const FIXING: FixingRules = FixingRules {
     collapsed: Collapsed::Null,
+    closes_rings: false,
     splits_folded: true,
     splits_collections: true,
     rewind: Rewind::Keep,

@@ -34,6 +34,7 @@ pub(crate) fn nothing_fixed() -> Fixes
     ensures { result ≡ no_fixes }
 {
     Fixes {
+        closed: 0,
         collapsed: 0,
         folded: 0,
         collections: 0,

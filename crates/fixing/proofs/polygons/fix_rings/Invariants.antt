@@ -1,5 +1,5 @@
 use Rattle.std.proofs.Common.{◌≡◌}
-use Rattle.fixing.specs.Left.{all_counted, ring_need}
+use Rattle.fixing.specs.Left.{all_counted, ring_counted}
 use Rattle.fixing.specs.Polygons.{polygon_counted, polygon_kept, with_holes}
 use Rattle.fixing.specs.Seen.{lists_in, polygons_in}
 use Rattle.fixing.proofs.polygons.fix_rings.Given as goal
@@ -8,5 +8,5 @@ use Rattle.fixing.proofs.polygons.fix_rings.Given as goal
 abbrev pub invariant-loop-hole : goal.invariant-loop-hole
 invariant-loop-hole l = record {
   left : with_holes l.rules (lists_in l.hole-iterator.rest.items) (polygons_in l.polygons.items) ≡ polygon_kept l.rules (lists_in l.fn.rings.items);
-  counted : all_counted (ring_need l.rules) (lists_in l.hole-iterator.rest.items) l.fixes ≡ polygon_counted l.rules (lists_in l.fn.rings.items) l.fn.fixes;
+  counted : all_counted (ring_counted l.rules) (lists_in l.hole-iterator.rest.items) l.fixes ≡ polygon_counted l.rules (lists_in l.fn.rings.items) l.fn.fixes;
 }

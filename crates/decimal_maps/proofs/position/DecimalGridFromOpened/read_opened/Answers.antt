@@ -17,6 +17,6 @@ returns c =
     let p = c.in_ok-position.position in
     let some : 0 < c.args.depth = omega arith in
     let all = ap (λ ts. begin_array ∷ Token.number s ∷ ts) c.in_ok-y.ensures in
-    let is = c.in_ok-position.ensures in
+    let is = c.in_ok-position.ensures.made in
     subst (λ ts. Reads (IsPosition grid) c.args.depth ts new before after p) (sym all)
     (position_reads grid c.args.depth s t rest new before c.position_of.new.tally after p some is.0 is.1 is.2 (c.in_ok-drop_heights.ensures (c.args.depth - 1)))

@@ -17,6 +17,6 @@ returns c =
     let p = c.in_ok-position.position in
     let opened = c.in_ok-take_begin_array.ensures in
     let all = opened.opens ∙ ap (λ ts. begin_array ∷ ts) (c.in_ok-x.ensures ∙ ap (λ ts. Token.number s ∷ ts) c.in_ok-y.ensures) in
-    let is = c.in_ok-position.ensures in
+    let is = c.in_ok-position.ensures.made in
     subst (λ ts. Reads (IsPosition grid) c.args.depth ts new before after p) (sym all)
     (position_reads grid c.args.depth s t rest new before c.position_of.new.tally after p opened.nests is.0 is.1 is.2 (c.in_ok-drop_heights.ensures (c.args.depth - 1)))

@@ -2,8 +2,8 @@ use Rattle.std.proofs.Common.{◌≡◌, sym, ap, ◌∙◌, rules}
 use Rattle.lines.specs.Reading.{ring_fault}
 use Rattle.lines.specs.Turned.{position_cmp}
 use Rattle.fixing.proofs.Judged.{not_refused, refused_with}
-use Rattle.fixing.proofs.linework.ring_need.Goals.{in-Ok, in-Err}
-use Rattle.fixing.proofs.linework.ring_need.Goals as goal
+use Rattle.fixing.proofs.linework.closed_need.Goals.{in-Ok, in-Err}
+use Rattle.fixing.proofs.linework.closed_need.Goals as goal
 
 pub returns-clause-refused : goal.returns-clause-refused
 returns-clause-refused c =
