@@ -2,4 +2,10 @@ mod Texts
 mod Vertices
 mod Ends
 mod Layers
+mod Fixing
 mod Faultless
+mod Parts
+mod Repeats
+mod LayerOrder
+mod Placed
+mod Reading

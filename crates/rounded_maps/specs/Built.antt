@@ -1,5 +1,5 @@
 -- The topology of maps, each in the layer of its name.
-use Rattle.std.specs.Prelude.{◌≡◌, ℕ, List, [], ◌∷◌, Option, map as map_list}
+use Rattle.std.specs.Prelude.{◌≡◌, ℕ, List, [], ◌∷◌, map as map_list}
 use Rattle.std.specs.FinMap as map
 use Rattle.grid.specs.Place.{Transform}
 use Rattle.reading.specs.Meant.{AreFeatures}
@@ -9,24 +9,29 @@ use Rattle.shapes.specs.Parts.{properties_text}
 use Rattle.shapes.specs.declared.props.Props.{Props}
 use Rattle.shapes.specs.declared.shape.Id.{Id}
 use Rattle.shapes.specs.declared.shape.Shape.{Shape}
-use Rattle.snapping.specs.declared.nearly_shared.clusters.Clusters.{Clusters}
 use Rattle.theory.specs.Lists.{gathered}
 use Rattle.topo.specs.OfMap.{IsOf, IsTopology, seen_parts, the_topology}
 use Rattle.topo.specs.Parts.{TopologyParts}
+use Rattle.rounded_maps.specs.Equal.{AreEqualIf}
+use Rattle.rounded_maps.specs.Files.{AreRounded, File, layer_of}
 use Rattle.rounded_maps.specs.Joined.{AreCountsIf, AreJoinedWithin}
 use Rattle.rounded_maps.specs.Outcomes.{AreOutcomes}
-use Rattle.rounded_maps.specs.Rounded.{AreRounded}
-use Rattle.rounded_maps.specs.Written.{whole}
 use Rattle.rounded_maps.specs.declared.building.BuildRules.{BuildRules}
 use Rattle.rounded_maps.specs.declared.building.Rounded.{Rounded}
 use Rattle.rounded_maps.specs.declared.map.RoundedFeature.{RoundedFeature}
 use Rattle.rounded_maps.specs.declared.map.RoundedMap.{RoundedMap}
 
--- the maps of the texts, with vertices joined that are nearly shared where that is asked
-pub record AreMaps (rules : BuildRules) (texts : List (List ℕ)) (clusters : Option Clusters) (maps : List RoundedMap) : Type 0 where
+-- the maps of the files, with vertices joined that are nearly shared where that is asked
+pub record AreMaps (rules : BuildRules) (files : List File) (rounded : Rounded) (maps : List RoundedMap) : Type 0 where
   pub read : List RoundedMap
-  pub rounded : AreRounded rules.rounding texts read
-  pub joined : AreJoinedWithin rules.rounding.fixing rules.join_distance clusters read maps
+  pub of_files : AreRounded rules.rounding 0 files read rounded.origins.items
+  pub joined : AreJoinedWithin rules.rounding.fixing rules.join_distance rounded.clusters read maps
+
+-- what became of these maps, of files of these names
+pub record IsReport (rules : BuildRules) (names : List (List ℕ)) (maps : List RoundedMap) (rounded : Rounded) : Type 0 where
+  pub outcomes : AreOutcomes maps rounded.outcomes.items
+  pub counts : AreCountsIf rules.counts maps rounded.counts
+  pub equal : AreEqualIf rules.counts (map_list (layer_of names) rounded.origins.items) maps rounded.equal
 
 -- a feature of one of the shapes, as plain data
 abbrev pub plain_of : Id → Props → Shape → Plain
@@ -55,10 +60,9 @@ pub record IsTopologyOfMaps (grid : Transform) (names : List (List ℕ)) (maps :
   pub computed : seen_parts parts ≡ the_topology grid layers
   pub of_map : IsOf layers parts
 
--- the topology of texts, each in the layer of its name, and what became of them
-pub record IsBuilt (rules : BuildRules) (names texts : List (List ℕ)) (rounded : Rounded) (parts : TopologyParts) : Type 0 where
+-- the topology of files, each map in the layer of its name, and what became of them
+pub record IsBuilt (rules : BuildRules) (names : List (List ℕ)) (files : List File) (rounded : Rounded) (parts : TopologyParts) : Type 0 where
   pub maps : List RoundedMap
-  pub of_texts : AreMaps rules texts rounded.clusters maps
-  pub topology : IsTopologyOfMaps whole names maps parts
-  pub outcomes : AreOutcomes maps rounded.outcomes.items
-  pub counts : AreCountsIf rules.counts maps rounded.counts
+  pub of_files : AreMaps rules files rounded maps
+  pub topology : IsTopologyOfMaps rules.grid (map_list (layer_of names) rounded.origins.items) maps parts
+  pub report : IsReport rules names maps rounded

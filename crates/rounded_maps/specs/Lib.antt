@@ -1,8 +1,12 @@
+pub mod Sequences
 pub mod Fixed
 pub mod Rounded
+pub mod Laws
+pub mod Files
 pub mod Joined
 pub mod Outcomes
 pub mod Refusals
 pub mod Unjoined
 pub mod Written
+pub mod Equal
 pub mod Built

@@ -15,11 +15,12 @@ use Rattle.snapping.specs.NearlyShared.Joined.{AreClusters, target_in}
 use Rattle.snapping.specs.NearlyShared.Moved.{Moves, moved_shape}
 use Rattle.snapping.specs.declared.nearly_shared.clusters.Clusters.{Clusters}
 use Rattle.theory.specs.Lists.{Has}
+use Rattle.rounded_maps.specs.Files.{AreRounded, File}
 use Rattle.rounded_maps.specs.Joined.{AreVertexUses}
-use Rattle.rounded_maps.specs.Rounded.{AreRounded}
 use Rattle.rounded_maps.specs.declared.building.BuildRules.{BuildRules}
 use Rattle.rounded_maps.specs.declared.building.MapsFault.{MapsFault}
 use Rattle.rounded_maps.specs.declared.building.MapsFault.TheVariants.{Text, OutOfMemory}
+use Rattle.rounded_maps.specs.declared.building.Origin.{Origin}
 use Rattle.rounded_maps.specs.declared.joining.Unjoined.{Unjoined}
 use Rattle.rounded_maps.specs.declared.joining.Unjoined.TheVariants as unjoined
 use Rattle.rounded_maps.specs.declared.map.RoundedFeature.{RoundedFeature}
@@ -76,10 +77,11 @@ abbrev pub AreUnjoined : FixingRules → (Pos → Pos) → ℕ → List RoundedM
 AreUnjoined rules f n maps (Text place fault) = HasUnjoinedMap rules f n maps place fault
 AreUnjoined rules f n maps OutOfMemory = Unit {0}
 
--- all texts are maps, and one of these is refused where nearly shared vertices are joined
-pub record AreUnjoinedTexts (rules : BuildRules) (texts : List (List ℕ)) (fault : MapsFault) : Type 0 where
+-- all files are maps, and one of these is refused where nearly shared vertices are joined
+pub record AreUnjoinedTexts (rules : BuildRules) (files : List File) (fault : MapsFault) : Type 0 where
   pub read : List RoundedMap
-  pub rounded : AreRounded rules.rounding texts read
+  pub origins : List Origin
+  pub rounded : AreRounded rules.rounding 0 files read origins
   pub asked : 0 < rules.join_distance
   pub uses : List VertexUse
   pub of : AreVertexUses read uses

@@ -1,5 +1,5 @@
 -- The text of the features of a map as a FeatureCollection [RFC 7946, 3.3].
-use Rattle.std.specs.Prelude.{ℕ, pos, List, [], ◌∷◌, ◌++◌, Bool, true, false, map, codes}
+use Rattle.std.specs.Prelude.{ℕ, ℤ, pos, List, [], ◌∷◌, ◌++◌, Bool, true, false, map, codes}
 use Rattle.fixing.specs.declared.feature.FixedFeature.{FixedFeature}
 use Rattle.geojson_io.specs.CollectionText.{feature_frame, shape_text}
 use Rattle.grid.specs.Place.{Transform, scaling, transform}
@@ -9,9 +9,9 @@ use Rattle.sinks.specs.Texts.{after_commas, joined}
 use Rattle.theory.specs.Lists.{gathered}
 use Rattle.rounded_maps.specs.declared.map.RoundedFeature.{RoundedFeature}
 
--- the grid of whole numbers
-abbrev pub whole : Transform
-whole = transform (scaling (pos 1) (pos 0)) (scaling (pos 1) (pos 0))
+-- the grid of steps that are n units each
+abbrev pub of_units : ℤ → Transform
+of_units n = transform (scaling n (pos 0)) (scaling n (pos 0))
 
 -- a feature of one of the shapes
 abbrev pub feature_text : Transform → FixedFeature → Shape → List ℕ

@@ -1,27 +1,33 @@
 //! Maps that are rounded together, and their topology.
 ghost use Rattle.reading.specs.Meant.{AreFeatures};
-ghost use Rattle.reading.specs.Plain.{plain};
-ghost use Rattle.rounded_maps.specs.Built.{AreLayersWith, AreMaps, IsBuilt, plain_features, plain_of};
+ghost use Rattle.reading.specs.Plain.{Plain, plain};
+ghost use Rattle.rounded_maps.specs.Built.{AreLayersWith, AreMaps, IsBuilt, IsReport, plain_features, plain_of};
+ghost use Rattle.rounded_maps.specs.Equal.{AreEqualIf};
+ghost use Rattle.rounded_maps.specs.Files.{AreRounded, files_of, layer_of, origin_of};
 ghost use Rattle.rounded_maps.specs.Joined.{AreCountsIf, AreJoinedMaps, AreJoinedWithin, AreVertexUses, shapes_in};
 ghost use Rattle.rounded_maps.specs.Outcomes.{AreOutcomes};
-ghost use Rattle.rounded_maps.specs.Refusals.{IsMapsRefusal, IsTextFault};
-ghost use Rattle.rounded_maps.specs.Rounded.{AreRounded};
+ghost use Rattle.rounded_maps.specs.Refusals.{IsMapsRefusal, IsRefusal, IsTextFault};
+ghost use Rattle.rounded_maps.specs.Rounded.{IsRounded, faults_under};
 ghost use Rattle.rounded_maps.specs.Unjoined.{AreUnjoined, AreUnjoinedTexts};
 ghost use Rattle.rounded_maps.specs.declared.building.MapsFault.TheVariants.{OutOfMemory as WantOfMemory};
+ghost use Rattle.rounded_maps.specs.declared.building.Origin.{Origin as From};
+ghost use Rattle.rounded_maps.specs.declared.map.RoundedMap.{RoundedMap as Map};
 ghost use Rattle.shapes.specs.Ids.{HasI64};
 ghost use Rattle.shapes.specs.Maps.{set_of as features_set};
 ghost use Rattle.snapping.specs.NearlyShared.Joined.{target_in};
 ghost use Rattle.snapping.specs.NearlyShared.Uses.{shapes_uses};
 ghost use Rattle.std.specs.FinMap as finite;
-ghost use Rattle.std.specs.Prelude.{◌≡◌, ◌⊎◌, ◌+◌, ◌++◌, ℕ, IfErr, IfOk, List, OnOk, length, map};
+ghost use Rattle.std.specs.Prelude.{◌≡◌, ◌⊎◌, ◌+◌, ◌++◌, ◌∷◌, [], ℕ, Bool, IfErr, IfOk, List, OnOk, get_or, length, map, string_bytes};
 
-use crate::grid_of_steps::whole_grid;
+use crate::equal::{EqualFeatures, find_equal_features};
 use crate::joining::join_map;
 use crate::map::RoundedMap;
 use crate::outcome::Outcome;
 use crate::rounding::{RoundingRules, round_map};
+use crate::source::Source;
 use faults::{Fault, FaultKind, OutOfMemory};
 use fixing::{FixedFeature, FixingRules};
+use grid::Grid;
 use shapes::layer::feature_set;
 use shapes::{Feature, FeatureMap, Id, Props, Shape};
 use snapping::nearly_shared::{Clusters, VertexCounts, VertexIndex, Vertices};
@@ -35,9 +41,11 @@ use topo::Topology;
 #[derive(Clone, Copy)]
 pub struct BuildRules<'r> {
     pub rounding: RoundingRules<'r>,
+    /// The grid of the topology.
+    pub grid: Grid,
     /// How many steps apart nearly shared vertices are joined; 0 joins none.
     pub join_distance: u32,
-    /// Whether shared and nearly shared vertices are counted.
+    /// Whether shared and nearly shared vertices, and equal features, are counted.
     pub counts: bool,
 }
 
@@ -76,15 +84,35 @@ impl<T: Drop> From<AllocFailed<T>> for MapsFault {
     }
 }
 
+/// Where a map is from.
+#[derive(Drop)]
+pub struct Origin {
+    /// The place of its file.
+    pub text: usize,
+    /// The name of its layer, where its file gives it one. Otherwise it is the caller's.
+    pub layer: Option<String>,
+}
+
+/// The maps of files, and where each is from.
+#[derive(Drop)]
+struct ReadMaps {
+    maps: Vec<RoundedMap>,
+    origins: Vec<Origin>,
+}
+
 /// What became of maps that were rounded together.
 #[derive(Drop)]
 pub struct Rounded {
+    /// Where each map is from.
+    pub origins: Vec<Origin>,
     /// What became of each map.
     pub outcomes: Vec<Outcome>,
     /// Which vertices were joined, where that was asked.
     pub clusters: Option<Clusters>,
     /// How many vertices are shared and nearly shared in the end, where that was asked.
     pub counts: Option<VertexCounts>,
+    /// Which features of each map equal an earlier one of their layer, where that was asked.
+    pub equal: Option<Vec<EqualFeatures>>,
 }
 
 /// The refusal of the text at a place.
@@ -97,23 +125,49 @@ fn refuse_text(place: usize, fault: Fault) -> MapsFault
     }
 }
 
-/// The maps of texts. Each text is let go of once it is read.
+/// Adds the map of a file, and where it is from.
+fn add_map(
+    alloc: Global,
+    bytes: &[u8],
+    is_sequence: bool,
+    place: usize,
+    rules: &RoundingRules<'_>,
+    read: &mut ReadMaps,
+) -> Result<(), MapsFault>
+    ensures more { OnOk result ((m : Map) × IsRounded rules.now is_sequence bytes.now m × (read.new.maps.items ≡ read.old.maps.items ++ m ∷ []) × (read.new.origins.items ≡ read.old.origins.items ++ origin_of place ∷ [])) }
+    ensures refused { IfErr result (IsRefusal place (faults_under rules.now is_sequence bytes.now)) }
+{
+    match round_map(alloc, bytes, is_sequence, rules) {
+        Ok(map) => read.maps.push(map)?,
+        Err(fault) => return Err(refuse_text(place, fault)),
+    }
+    read.origins.push(Origin {
+        text: place,
+        layer: None,
+    })?;
+    Ok(())
+}
+
+/// The maps of files. The bytes of each are let go of once it is read.
 fn read_maps<T: AsSlice<u8> + Drop>(
     alloc: Global,
-    texts: Vec<T>,
+    sources: Vec<Source<T>>,
     rules: &RoundingRules<'_>,
-) -> Result<Vec<RoundedMap>, MapsFault>
-    ensures rounded { IfOk result (λ maps. AreRounded rules.now (map T.items texts.items) maps.items) }
-    ensures refused { IfErr result (IsMapsRefusal rules.now 0 (map T.items texts.items)) }
+) -> Result<ReadMaps, MapsFault>
+    ensures rounded { IfOk result (λ read. AreRounded rules.now 0 (files_of T.items sources.items) read.maps.items read.origins.items) }
+    ensures refused { IfErr result (IsMapsRefusal rules.now 0 (files_of T.items sources.items)) }
 {
-    let mut maps = Vec::new(alloc);
-    for text in texts {
-        match round_map(alloc, text.as_slice(), rules) {
-            Ok(map) => maps.push(map)?,
-            Err(fault) => return Err(refuse_text(maps.len(), fault)),
-        }
+    let mut read = ReadMaps {
+        maps: Vec::new(alloc),
+        origins: Vec::new(alloc),
+    };
+    let mut place = 0;
+    for source in sources {
+        let bytes = source.bytes.as_slice();
+        add_map(alloc, bytes, source.is_sequence, place, rules, &mut read)?;
+        place += 1;
     }
-    Ok(maps)
+    Ok(read)
 }
 
 /// Adds the vertices of a map. Each shape that is left is a feature.
@@ -165,7 +219,7 @@ fn join_near(
     rules: &BuildRules<'_>,
 ) -> Result<(Vec<RoundedMap>, Option<Clusters>), MapsFault>
     ensures ok { IfOk result (λ joined. AreJoinedWithin rules.now.rounding.fixing rules.now.join_distance joined.1 maps.items joined.0.items) }
-    ensures err { IfErr result (λ e. (texts : List (List ℕ)) → AreRounded rules.now.rounding texts maps.items → (e ≡ WantOfMemory) ⊎ AreUnjoinedTexts rules.now texts e) }
+    ensures err { IfErr result (λ e. (files : List (Bool × List ℕ)) (origins : List From) → AreRounded rules.now.rounding 0 files maps.items origins → (e ≡ WantOfMemory) ⊎ AreUnjoinedTexts rules.now files e) }
 {
     if rules.join_distance == 0 {
         return Ok((maps, None));
@@ -203,30 +257,103 @@ fn outcomes_of(alloc: Global, maps: &[RoundedMap]) -> Result<Vec<Outcome>, OutOf
     Ok(outcomes)
 }
 
-/// The maps of texts in decimal numbers, with nearly shared vertices joined where that is asked, and what became of them.
-///
-/// # Errors
-/// `Text` with the first text that is refused and its first fault; `OutOfMemory`.
-pub fn round_maps<T: AsSlice<u8> + Drop>(
+/// The name of a map's layer.
+fn layer_name(alloc: Global, names: &[&str], origin: &Origin) -> Result<String, OutOfMemory>
+    ensures { IfOk result (λ layer. string_bytes layer ≡ layer_of (map (λ n. n.now) names.now) origin.now) }
+{
+    match &origin.layer {
+        Some(layer) => Ok(String::from_str(alloc, layer.as_str())?),
+        None => Ok(String::from_str(alloc, name_at(names, origin.text))?),
+    }
+}
+
+/// The name at a place, or an empty one.
+fn name_at<'n>(names: &[&'n str], place: usize) -> &'n str
+    ensures { result.now ≡ get_or (map (λ n. n.now) names.now) place [] }
+{
+    match names.get(place) {
+        Some(name) => *name,
+        None => "",
+    }
+}
+
+/// The names of the layers of maps: those that their files give them, else the caller's names of the files. One that is
+/// missing is empty.
+fn layer_names(
     alloc: Global,
-    texts: Vec<T>,
+    names: &[&str],
+    origins: &[Origin],
+) -> Result<Vec<String>, OutOfMemory>
+    ensures { IfOk result (λ layers. map string_bytes layers.items ≡ map (layer_of (map (λ n. n.now) names.now)) origins.now) }
+{
+    let mut layers = Vec::new(alloc);
+    for origin in origins {
+        layers.push(layer_name(alloc, names, origin)?)?;
+    }
+    Ok(layers)
+}
+
+/// The features that equal an earlier one of their layer, where that is asked.
+fn equal_features_of(
+    alloc: Global,
+    names: &[&str],
+    read: &ReadMaps,
+    rules: &BuildRules<'_>,
+) -> Result<Option<Vec<EqualFeatures>>, OutOfMemory>
+    ensures { IfOk result (AreEqualIf rules.now.counts (map (layer_of (map (λ n. n.now) names.now)) read.now.origins.items) read.now.maps.items) }
+{
+    if !rules.counts {
+        return Ok(None);
+    }
+    let layers = layer_names(alloc, names, read.origins.as_slice())?;
+    let equal = find_equal_features(alloc, layers.as_slice(), read.maps.as_slice())?;
+    Ok(Some(equal))
+}
+
+/// What became of maps.
+fn report_of(
+    alloc: Global,
+    names: &[&str],
+    read: ReadMaps,
+    clusters: Option<Clusters>,
     rules: &BuildRules<'_>,
 ) -> Result<(Vec<RoundedMap>, Rounded), MapsFault>
-    ensures maps { IfOk result (λ r. AreMaps rules.now (map T.items texts.items) r.1.clusters r.0.items) }
-    ensures outcomes { IfOk result (λ r. AreOutcomes r.0.items r.1.outcomes.items) }
-    ensures counts { IfOk result (λ r. AreCountsIf rules.now.counts r.0.items r.1.counts) }
-    ensures refused { IfErr result (λ e. IsMapsRefusal rules.now.rounding 0 (map T.items texts.items) e ⊎ AreUnjoinedTexts rules.now (map T.items texts.items) e) }
+    ensures same { IfOk result (λ r. (r.0 ≡ read.maps) × (r.1.origins ≡ read.origins) × (r.1.clusters ≡ clusters)) }
+    ensures report { IfOk result (λ r. IsReport rules.now (map (λ n. n.now) names.now) r.0.items r.1) }
+    ensures want { IfErr result (λ e. e ≡ WantOfMemory) }
 {
-    let maps = read_maps(alloc, texts, &rules.rounding)?;
-    let (maps, clusters) = join_near(alloc, maps, rules)?;
-    let outcomes = outcomes_of(alloc, maps.as_slice())?;
-    let counts = counts_of(alloc, maps.as_slice(), rules)?;
+    let outcomes = outcomes_of(alloc, read.maps.as_slice())?;
+    let counts = counts_of(alloc, read.maps.as_slice(), rules)?;
+    let equal = equal_features_of(alloc, names, &read, rules)?;
+    let ReadMaps { maps, origins } = read;
     let rounded = Rounded {
+        origins,
         outcomes,
         clusters,
         counts,
+        equal,
     };
     Ok((maps, rounded))
+}
+
+/// The maps of files in decimal numbers, with nearly shared vertices joined where that is asked, and what became of them. A
+/// map that has no name in its file is in the layer that `names` has at the file's place.
+///
+/// # Errors
+/// `Text` with the first file that is refused and its first fault; `OutOfMemory`.
+pub fn round_maps<T: AsSlice<u8> + Drop>(
+    alloc: Global,
+    names: &[&str],
+    sources: Vec<Source<T>>,
+    rules: &BuildRules<'_>,
+) -> Result<(Vec<RoundedMap>, Rounded), MapsFault>
+    ensures maps { IfOk result (λ r. AreMaps rules.now (files_of T.items sources.items) r.1 r.0.items) }
+    ensures report { IfOk result (λ r. IsReport rules.now (map (λ n. n.now) names.now) r.0.items r.1) }
+    ensures refused { IfErr result (λ e. IsMapsRefusal rules.now.rounding 0 (files_of T.items sources.items) e ⊎ AreUnjoinedTexts rules.now (files_of T.items sources.items) e) }
+{
+    let ReadMaps { maps, origins } = read_maps(alloc, sources, &rules.rounding)?;
+    let (maps, clusters) = join_near(alloc, maps, rules)?;
+    report_of(alloc, names, ReadMaps { maps, origins }, clusters, rules)
 }
 
 /// Adds a feature for each of these shapes, with copies of an id and properties.
@@ -286,10 +413,10 @@ fn set_of(alloc: Global, map: RoundedMap) -> Result<BTreeSet<Feature>, OutOfMemo
 /// The layers of maps. Maps of one name are one layer.
 fn layers_of(
     alloc: Global,
-    names: Vec<&str>,
+    names: Vec<String>,
     maps: Vec<RoundedMap>,
 ) -> Result<FeatureMap, OutOfMemory>
-    ensures { IfOk result (AreLayersWith finite.empty (map (λ n. n.now) names.entry.items) maps.items) }
+    ensures { IfOk result (AreLayersWith finite.empty (map string_bytes names.items) maps.items) }
 {
     let mut layers = FeatureMap::new(alloc);
     let mut names = names.into_iter();
@@ -297,26 +424,27 @@ fn layers_of(
         let Some(name) = names.next() else {
             return Ok(layers);
         };
-        layers = layers.with_features(name, set_of(alloc, map)?)?;
+        layers = layers.with_features(name.as_str(), set_of(alloc, map)?)?;
     }
     Ok(layers)
 }
 
-/// The topology of texts in decimal numbers, each in the layer of its name, and what became of them.
+/// The topology of files in decimal numbers, each map in the layer of its name, and what became of them.
 ///
 /// # Errors
 /// As `round_maps`.
 pub fn build_maps<T: AsSlice<u8> + Drop>(
     alloc: Global,
-    names: Vec<&str>,
-    texts: Vec<T>,
+    names: &[&str],
+    sources: Vec<Source<T>>,
     rules: &BuildRules<'_>,
 ) -> Result<(Topology, Rounded), MapsFault>
-    ensures built { IfOk result (λ r. IsBuilt rules.now (map (λ n. n.now) names.entry.items) (map T.items texts.items) r.1 r.0) }
-    ensures refused { IfErr result (λ e. IsMapsRefusal rules.now.rounding 0 (map T.items texts.items) e ⊎ AreUnjoinedTexts rules.now (map T.items texts.items) e) }
+    ensures built { IfOk result (λ r. IsBuilt rules.now (map (λ n. n.now) names.now) (files_of T.items sources.items) r.1 r.0) }
+    ensures refused { IfErr result (λ e. IsMapsRefusal rules.now.rounding 0 (files_of T.items sources.items) e ⊎ AreUnjoinedTexts rules.now (files_of T.items sources.items) e) }
 {
-    let (maps, rounded) = round_maps(alloc, texts, rules)?;
-    let map = layers_of(alloc, names, maps)?;
-    let topology = Topology::build(alloc, &whole_grid(), &map)?;
+    let (maps, rounded) = round_maps(alloc, names, sources, rules)?;
+    let layers = layer_names(alloc, names, rounded.origins.as_slice())?;
+    let map = layers_of(alloc, layers, maps)?;
+    let topology = Topology::build(alloc, &rules.grid, &map)?;
     Ok((topology, rounded))
 }

@@ -1,10 +1,9 @@
 //! Writing fixed features as a GeoJSON FeatureCollection (RFC 7946, section 3.3), piece by piece and with no memory.
-ghost use Rattle.rounded_maps.specs.Written.{feature_text, feature_texts, is_after, map_text, text_behind, texts_behind, whole};
+ghost use Rattle.rounded_maps.specs.Written.{feature_text, feature_texts, is_after, map_text, text_behind, texts_behind};
 ghost use Rattle.sinks.specs.Writes.{TookAll, TookPart};
 ghost use Rattle.std.specs.Prelude.{◌≡◌, IfOk, OnErr, OnOk, false, map};
 ghost use Rattle.theory.specs.Lists.{gathered};
 
-use crate::grid_of_steps::whole_grid;
 use crate::map::RoundedFeature;
 use faults::OutOfMemory;
 use fixing::FixedFeature;
@@ -95,7 +94,7 @@ impl<'a> Written for MapFeatures<'a> {
 }
 
 /// Writes the features of a map as a FeatureCollection, in their order: one for each shape that is left of a feature. Positions
-/// are whole numbers of steps.
+/// are the absolute numbers that the grid gives them.
 ///
 /// # Errors
 /// `Write` where the sink failed; it then took a beginning of the text.
@@ -112,12 +111,16 @@ pub fn write_collection<W: Sink>(
     Then(Text(b"{\"features\":["), tail).write(sink)
 }
 
-/// The text of the features of a map as a FeatureCollection, in whole numbers of steps.
-pub fn collection_text(alloc: Global, features: &[RoundedFeature]) -> Result<Vec<u8>, OutOfMemory>
-    ensures { IfOk result (λ t. t.items ≡ map_text whole features.now) }
+/// The text of the features of a map as a FeatureCollection. Positions are the absolute numbers that the grid gives them.
+pub fn collection_text(
+    alloc: Global,
+    features: &[RoundedFeature],
+    grid: &Grid,
+) -> Result<Vec<u8>, OutOfMemory>
+    ensures { IfOk result (λ t. t.items ≡ map_text grid.now features.now) }
 {
     let mut kept = Kept::new(alloc);
-    match write_collection(features, &whole_grid(), &mut kept) {
+    match write_collection(features, grid, &mut kept) {
         Ok(()) => Ok(kept.into_bytes()),
         Err(_) => Err(OutOfMemory),
     }

@@ -2,16 +2,23 @@
 //! are nearly shared, and built into a topology or written as GeoJSON.
 #![tactic(auto)]
 
+pub mod all_faults;
 pub mod building;
 pub mod collection;
-pub mod grid_of_steps;
+pub mod equal;
+pub mod grid_of_units;
 pub mod joining;
+pub mod laws;
 pub mod map;
 pub mod outcome;
 pub mod rounding;
+pub mod source;
 
-pub use building::{BuildRules, MapsFault, Rounded, build_maps, round_maps};
+pub use all_faults::text_faults;
+pub use building::{BuildRules, MapsFault, Origin, Rounded, build_maps, round_maps};
 pub use collection::{collection_text, write_collection};
+pub use equal::EqualFeatures;
 pub use map::{RoundedFeature, RoundedMap};
 pub use outcome::Outcome;
 pub use rounding::{RoundingRules, round_map};
+pub use source::{Source, texts_of};

@@ -3,12 +3,14 @@ ghost use Rattle.decimal_maps.specs.Tally.{nothing_counted};
 ghost use Rattle.fixing.specs.Counts.{no_fixes, sum_of_counts as sum};
 ghost use Rattle.fixing.specs.Forms.{plain_shape, seen_geometry};
 ghost use Rattle.fixing.specs.Geometries.{geometry_counted, geometry_left};
-ghost use Rattle.rounded_maps.specs.Fixed.{sum_of_tallies};
-ghost use Rattle.std.specs.Prelude.{◌≡◌, ◌++◌, ◌∷◌, [], IfOk, OnOk, Some, map};
+ghost use Rattle.rounded_maps.specs.Fixed.{numbered, sum_of_tallies};
+ghost use Rattle.shapes.specs.Ids.{HasI64};
+ghost use Rattle.std.specs.Prelude.{◌≡◌, ◌+◌, ◌++◌, ◌∷◌, [], IfOk, OnOk, Some, length, map};
 
 use attributes::Attributes;
 use decimal_maps::{RawFeature, Tally};
 use fixing::{Broken, FixedFeature, Fixes, FixingRules, RawGeometry, fix_geometry};
+use shapes::Id;
 use std::alloc::Global;
 
 /// A fixed feature, and how much was fixed of it.
@@ -61,6 +63,36 @@ fn sum_of(one: Tally, other: Tally) -> Tally
     }
 }
 
+/// The id of a feature, which is its number where it has none and is to have one.
+fn number_id(id: Id, numbers: bool, number: usize) -> Result<Id, Broken>
+    ensures id { IfOk result (λ i. i ≡ numbered numbers number id) }
+    ensures bits { HasI64 id → IfOk result HasI64 }
+{
+    match id {
+        Id::None if numbers => match i64::try_from(number) {
+            Ok(number) => Ok(Id::Number(number)),
+            Err(_) => Err(Broken::OutOfMemory),
+        },
+        id => Ok(id),
+    }
+}
+
+/// The attributes of a feature with its number for an id, where it has none and is to have one.
+fn number_attributes(
+    attributes: Attributes,
+    numbers: bool,
+    number: usize,
+) -> Result<Attributes, Broken>
+    ensures id { IfOk result (λ a. a.id ≡ numbered numbers number attributes.id) }
+    ensures props { IfOk result (λ a. a.props ≡ attributes.props) }
+{
+    let Attributes { id, props, reals } = attributes;
+    match number_id(id, numbers, number) {
+        Ok(id) => Ok(Attributes { id, props, reals }),
+        Err(broken) => Err(broken),
+    }
+}
+
 /// The feature of these attributes and what the rules leave of this geometry.
 fn fix_feature(
     alloc: Global,
@@ -81,11 +113,11 @@ fn fix_feature(
 }
 
 impl RoundedMap {
-    ghost use Rattle.rounded_maps.specs.Fixed.{IsFixed, IsFixedMap};
+    ghost use Rattle.rounded_maps.specs.Fixed.{HasMore, IsFixed};
     ghost use Rattle.rounded_maps.specs.declared.map.RoundedFeature.{RoundedFeature as Fixed};
 
     /// A map without features.
-    fn new(alloc: Global) -> RoundedMap
+    pub(crate) fn new(alloc: Global) -> RoundedMap
         ensures features { result.features.items ≡ [] }
         ensures tally { result.tally ≡ nothing_counted }
         ensures reals { result.reals ≡ 0 }
@@ -97,9 +129,15 @@ impl RoundedMap {
         }
     }
 
-    /// Adds a feature, fixed.
-    fn add(&mut self, alloc: Global, feature: RawFeature, rules: &FixingRules) -> Result<(), Broken>
-        ensures fixed { OnOk result ((f : Fixed) × (self.new.features.items ≡ self.old.features.items ++ f ∷ []) × IsFixed rules.now feature f) }
+    /// Adds a feature, fixed, and numbered behind those before where that is asked.
+    fn add(
+        &mut self,
+        alloc: Global,
+        feature: RawFeature,
+        rules: &FixingRules,
+        numbers: bool,
+    ) -> Result<(), Broken>
+        ensures fixed { OnOk result ((f : Fixed) × (self.new.features.items ≡ self.old.features.items ++ f ∷ []) × IsFixed rules.now numbers (length self.old.features.items + 1) feature f) }
         ensures tally { OnOk result (self.new.tally ≡ sum_of_tallies self.old.tally feature.tally) }
         ensures reals { OnOk result (self.new.reals ≡ sum self.old.reals feature.attributes.reals) }
     {
@@ -109,6 +147,8 @@ impl RoundedMap {
             tally,
         } = feature;
         let reals = attributes.reals;
+        let number = self.features.len() + 1;
+        let attributes = number_attributes(attributes, numbers, number)?;
         self.features
             .push(fix_feature(alloc, attributes, geometry, rules)?)?;
         self.tally = sum_of(self.tally, tally);
@@ -116,21 +156,22 @@ impl RoundedMap {
         Ok(())
     }
 
-    /// The map of these features, each fixed.
+    /// Adds features, each fixed.
     ///
     /// # Errors
     /// `Refused` where one of them has a fault that the rules don't fix; `OutOfMemory`.
-    pub(crate) fn of(
+    pub(crate) fn add_all(
+        &mut self,
         alloc: Global,
         features: Vec<RawFeature>,
         rules: &FixingRules,
-    ) -> Result<RoundedMap, Broken>
-        ensures { IfOk result (IsFixedMap rules.now features.items) }
+        numbers: bool,
+    ) -> Result<(), Broken>
+        ensures { OnOk result (HasMore rules.now numbers features.items self.old self.new) }
     {
-        let mut map = RoundedMap::new(alloc);
         for feature in features {
-            map.add(alloc, feature, rules)?;
+            self.add(alloc, feature, rules, numbers)?;
         }
-        Ok(map)
+        Ok(())
     }
 }

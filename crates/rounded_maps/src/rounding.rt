@@ -1,14 +1,17 @@
-//! A text to a map of fixed features.
+//! A file to a map of fixed features.
 ghost use Rattle.decimal_maps.specs.Roots.{IsMap};
-ghost use Rattle.faults.specs.Fault.{IsWant};
+ghost use Rattle.decimal_maps.specs.declared.feature.RawFeature.{RawFeature as Raw};
+ghost use Rattle.faults.specs.Fault.{IsWant, Lifted};
+ghost use Rattle.faults.specs.Path.{index as index_turn};
 ghost use Rattle.json.specs.Json.{Json, document};
 ghost use Rattle.reading.specs.Fault.{LeastOrWant};
-ghost use Rattle.rounded_maps.specs.Fixed.{IsFixedMap};
-ghost use Rattle.rounded_maps.specs.Rounded.{IsRounded, faults_under};
-ghost use Rattle.std.specs.Prelude.{◌≡◌, [], IfErr, IfOk, OnOk, Some};
+ghost use Rattle.rounded_maps.specs.Fixed.{HasMore};
+ghost use Rattle.rounded_maps.specs.Rounded.{IsRead, IsRounded, faults_under, text_faults};
+ghost use Rattle.std.specs.Prelude.{◌≡◌, [], IfErr, IfOk, List, OnOk, Some, false, true};
 
 use crate::map::RoundedMap;
-use decimal_faults::{faults, read_value};
+use crate::source::texts_of;
+use decimal_faults::read_value;
 use decimal_maps::{MapRules, RawFeature, Stop, read_map};
 use faults::{Fault, FaultKind};
 use fixing::{Broken, FixingRules};
@@ -20,6 +23,8 @@ use std::alloc::Global;
 pub struct RoundingRules<'r> {
     pub map: MapRules<'r>,
     pub fixing: FixingRules,
+    /// Whether a feature without an id gets its number in its file for one, from 1.
+    pub numbers: bool,
 }
 
 fn want_of_memory(alloc: Global) -> Fault
@@ -30,9 +35,9 @@ fn want_of_memory(alloc: Global) -> Fault
 
 /// The first fault of a text that has one.
 fn refuse(alloc: Global, bytes: &[u8], rules: &RoundingRules<'_>) -> Fault
-    ensures { LeastOrWant (faults_under rules.now bytes.now) result }
+    ensures { LeastOrWant (text_faults rules.now bytes.now) result }
 {
-    match faults(alloc, &rules.map, &rules.fixing, bytes) {
+    match decimal_faults::faults(alloc, &rules.map, &rules.fixing, bytes) {
         Ok(faults) => match faults.into_iter().next() {
             Some(fault) => fault,
             None => want_of_memory(alloc),
@@ -41,27 +46,10 @@ fn refuse(alloc: Global, bytes: &[u8], rules: &RoundingRules<'_>) -> Fault
     }
 }
 
-/// The map of features that were read of a text.
-fn fix_features(
-    alloc: Global,
-    bytes: &[u8],
-    features: Vec<RawFeature>,
-    rules: &RoundingRules<'_>,
-) -> Result<RoundedMap, Fault>
-    ensures made { IfOk result (IsFixedMap rules.now.fixing features.items) }
-    ensures err { IfErr result (LeastOrWant (faults_under rules.now bytes.now)) }
-{
-    match RoundedMap::of(alloc, features, &rules.fixing) {
-        Ok(map) => Ok(map),
-        Err(Broken::Refused) => Err(refuse(alloc, bytes, rules)),
-        Err(Broken::OutOfMemory) => Err(want_of_memory(alloc)),
-    }
-}
-
 /// The features of a text, read from its tree.
 fn read_tree(alloc: Global, text: &str, rules: &RoundingRules<'_>) -> Result<Vec<RawFeature>, Fault>
     ensures made { IfOk result (λ fs. (j : Json) × (document text.now ≡ Some j) × IsMap rules.now.map j fs.items) }
-    ensures err { IfErr result (LeastOrWant (faults_under rules.now text.now)) }
+    ensures err { IfErr result (LeastOrWant (text_faults rules.now text.now)) }
 {
     let mut scratch = Scratch::new(alloc);
     let value = match Value::parse(alloc, text, &mut scratch) {
@@ -83,7 +71,7 @@ fn read_features(
     rules: &RoundingRules<'_>,
 ) -> Result<Vec<RawFeature>, Fault>
     ensures made { IfOk result (λ fs. (j : Json) × (document text.now ≡ Some j) × IsMap rules.now.map j fs.items) }
-    ensures err { IfErr result (LeastOrWant (faults_under rules.now text.now)) }
+    ensures err { IfErr result (LeastOrWant (text_faults rules.now text.now)) }
 {
     match read_map(alloc, &rules.map, text) {
         Ok(features) => Ok(features),
@@ -92,27 +80,79 @@ fn read_features(
     }
 }
 
-/// The map of a GeoJSON text in decimal numbers (RFC 7946): each coordinate the nearest whole number of steps, and each
-/// feature fixed as the rules say.
-///
-/// # Errors
-/// The first fault of the text that isn't fixed; `OutOfMemory`.
-pub fn round_map(
+/// The features of a text, of which the bytes have to be UTF-8.
+fn read_text(
     alloc: Global,
     bytes: &[u8],
     rules: &RoundingRules<'_>,
-) -> Result<RoundedMap, Fault>
-    ensures made { IfOk result (IsRounded rules.now bytes.now) }
-    ensures ok { OnOk result (faults_under rules.now bytes.now ≡ []) }
-    ensures err { IfErr result (LeastOrWant (faults_under rules.now bytes.now)) }
+) -> Result<Vec<RawFeature>, Fault>
+    ensures read { IfOk result (λ fs. IsRead rules.now.map bytes.now fs.items) }
+    ensures err { IfErr result (LeastOrWant (text_faults rules.now bytes.now)) }
 {
-    let _step = rules.map.grid.step.size();
     let Ok(text) = simdutf8::compat::from_utf8(bytes) else {
         return Err(refuse(alloc, bytes, rules));
     };
-    let features = read_features(alloc, text, rules)?;
-    match fix_features(alloc, bytes, features, rules) {
-        Ok(map) => Ok(map),
+    match read_features(alloc, text, rules) {
+        Ok(features) => Ok(features),
         Err(fault) => Err(fault),
     }
+}
+
+/// Adds the features of a text to a map, each fixed.
+fn add_text(
+    alloc: Global,
+    bytes: &[u8],
+    rules: &RoundingRules<'_>,
+    map: &mut RoundedMap,
+) -> Result<(), Fault>
+    ensures more { OnOk result ((raws : List Raw) × IsRead rules.now.map bytes.now raws × HasMore rules.now.fixing rules.now.numbers raws map.old map.new) }
+    ensures err { IfErr result (LeastOrWant (text_faults rules.now bytes.now)) }
+{
+    let features = read_text(alloc, bytes, rules)?;
+    match map.add_all(alloc, features, &rules.fixing, rules.numbers) {
+        Ok(()) => Ok(()),
+        Err(Broken::Refused) => Err(refuse(alloc, bytes, rules)),
+        Err(Broken::OutOfMemory) => Err(want_of_memory(alloc)),
+    }
+}
+
+/// A fault of a text, as that of its file: in a sequence under the number of the text.
+fn place_fault(fault: Fault, is_sequence: bool, number: usize) -> Fault
+    ensures sequence { is_sequence ≡ true → Lifted (index_turn number) fault result }
+    ensures text { is_sequence ≡ false → result ≡ fault }
+{
+    if is_sequence {
+        fault.under_index(number)
+    } else {
+        fault
+    }
+}
+
+/// The map of a file of GeoJSON in decimal numbers (RFC 7946), a text or a sequence of texts: each coordinate the nearest
+/// whole number of steps, and each feature fixed as the rules say. A byte order mark in front is passed over.
+///
+/// # Errors
+/// The first fault of the file that isn't fixed; `OutOfMemory`.
+pub fn round_map(
+    alloc: Global,
+    bytes: &[u8],
+    is_sequence: bool,
+    rules: &RoundingRules<'_>,
+) -> Result<RoundedMap, Fault>
+    ensures made { IfOk result (IsRounded rules.now is_sequence bytes.now) }
+    ensures ok { OnOk result (faults_under rules.now is_sequence bytes.now ≡ []) }
+    ensures err { IfErr result (LeastOrWant (faults_under rules.now is_sequence bytes.now)) }
+{
+    let _step = rules.map.grid.step.size();
+    let Ok(texts) = texts_of(alloc, bytes, is_sequence) else {
+        return Err(want_of_memory(alloc));
+    };
+    let mut map = RoundedMap::new(alloc);
+    for (number, text) in texts.iter().enumerate() {
+        match add_text(alloc, *text, rules, &mut map) {
+            Ok(()) => {}
+            Err(fault) => return Err(place_fault(fault, is_sequence, number)),
+        }
+    }
+    Ok(map)
 }

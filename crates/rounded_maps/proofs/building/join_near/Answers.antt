@@ -3,9 +3,10 @@ use Rattle.rounded_maps.specs.Joined.{AreVertexUses}
 use Rattle.rounded_maps.proofs.building.join_near.Goals as goal
 
 pub returns-clause-err : goal.returns-clause-err
-returns-clause-err c = λ texts rounded.
+returns-clause-err c = λ files origins rounded.
     inr (record {
       read = c.args.maps.items;
+      origins = origins;
       rounded = rounded;
       asked = search rules;
       uses = c.in_ok-index.index;

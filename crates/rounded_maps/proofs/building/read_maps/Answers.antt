@@ -1,36 +1,46 @@
-use Rattle.std.proofs.Common.{◌≡◌, ◌+◌, ◌∙◌, ◌∷◌, ◌++◌, [], ap, append_assoc, arith, inr, length, map, subst, sym}
-use Rattle.std.proofs.lemmas.List.{length-append}
+use Rattle.std.proofs.Common.{◌≡◌, ◌+◌, ◌∙◌, ◌∷◌, ◌++◌, [], ap, append_assoc, append-nil, arith, inr, length, map, refl, subst, sym}
+use Rattle.rounded_maps.specs.Files.{AreOfFile, AreRounded, File, files_of, origin_of}
 use Rattle.rounded_maps.specs.Refusals.{IsFirstFrom}
-use Rattle.rounded_maps.specs.Rounded.{AreRounded, IsRounded}
-use Rattle.rounded_maps.proofs.Ends.{at_end, nothing_left}
+use Rattle.rounded_maps.specs.Rounded.{IsRounded}
+use Rattle.rounded_maps.proofs.Ends.{nothing_left}
 use Rattle.rounded_maps.proofs.building.read_maps.Goals as goal
 
-pub loop-text-preserved : goal.loop-text-preserved
-loop-text-preserved g c =
+pub loop-source-preserved : goal.loop-source-preserved
+loop-source-preserved g c =
     let rules = c.args.rules.now in
-    let bytes = g.T.AsSlice.items in
-    let maps = c.loop-text.maps.items in
+    let n = c.loop-source.place in
+    let files = files_of g.T.AsSlice.items in
+    let maps = c.loop-source.read.maps.items in
+    let origins = c.loop-source.read.origins.items in
     let left = c.next.new.self.rest.items in
     let split = c.in-Some.ensures.steps.0 in
-    let grown = c.in_ok-push-in-Ok.ensures.items in
-    let counted : length c.push.new.self.items ≡ length maps + 1 = ap length grown ∙ length-append maps (c.in-Ok.map ∷ []) in
-    let made : IsRounded rules (bytes c.in-Some.text) c.in-Ok.map = rw c.as_slice.ensures at c.in-Ok.ensures.made in
+    let file : File = (c.in-Some.source.is_sequence, g.T.AsSlice.items c.in-Some.source.bytes) in
+    let (m, rounded, grown, from) = c.in_ok-add_map.ensures.more in
+    let is : IsRounded rules file.0 file.1 m = rw c.as_slice-bytes.ensures at rounded in
+    let one : AreOfFile rules n file (m ∷ []) (origin_of n ∷ []) = record { map = m; rounded = is; only = refl; from = refl } in
+    let len = ap length split in
+    let place = c.loop-source.invariant.place in
     record {
-      rounded = λ more h.
-          subst (AreRounded rules (map bytes c.args.texts.items)) (sym (ap (λ l. l ++ more) grown ∙ append_assoc maps (c.in-Ok.map ∷ []) more))
-          (c.loop-text.invariant.rounded (c.in-Ok.map ∷ more) (subst (λ ts. AreRounded rules (map bytes ts) (c.in-Ok.map ∷ more)) (sym split) (made, h)));
+      rounded = λ more others h.
+          let all : AreRounded rules n (file ∷ files left) (m ∷ more) (origin_of n ∷ others) = (m ∷ [], (more, (origin_of n ∷ [], (others, (refl, (refl, (one, h))))))) in
+          subst (λ ms. AreRounded rules 0 (files c.args.sources.items) ms (c.add_map.new.read.origins.items ++ others)) (sym (ap (λ l. l ++ more) grown ∙ append_assoc maps (m ∷ []) more))
+          (subst (λ os. AreRounded rules 0 (files c.args.sources.items) (maps ++ m ∷ more) os) (sym (ap (λ l. l ++ others) from ∙ append_assoc origins (origin_of n ∷ []) others))
+          (c.loop-source.invariant.rounded (m ∷ more) (origin_of n ∷ others) (subst (λ ss. AreRounded rules n (files ss) (m ∷ more) (origin_of n ∷ others)) (sym split) all)));
       refused = λ place fault h.
-          c.loop-text.invariant.refused place fault
-          (subst (λ ts. IsFirstFrom rules (length maps) (map bytes ts) place fault) (sym split)
-          (inr (record { map = c.in-Ok.map; rounded = made }, subst (λ n. IsFirstFrom rules n (map bytes left) place fault) counted h)));
+          c.loop-source.invariant.refused place fault
+          (subst (λ ss. IsFirstFrom rules n (files ss) place fault) (sym split) (inr (record { maps = m ∷ []; origins = origin_of n ∷ []; are = one }, h)));
+      place = omega (arith, len, place);
     }
 
 pub returns-clause-rounded : goal.returns-clause-rounded
 returns-clause-rounded g c =
     let rules = c.args.rules.now in
-    let bytes = g.T.AsSlice.items in
-    let left = c.loop-text.text-iterator.rest in
+    let n = c.loop-source.place in
+    let files = files_of g.T.AsSlice.items in
+    let left = c.loop-source.source-iterator.rest in
     let ok = left.ok in
     let len = c.in-None.ensures.steps.0 in
     let none : left.items ≡ [] = nothing_left left.items (omega (arith, ok, len)) in
-    at_end (λ ts. AreRounded rules (map bytes ts)) (AreRounded rules (map bytes c.args.texts.items)) c.loop-text.maps.items left.items none tt c.loop-text.invariant.rounded
+    let nothing : AreRounded rules n (files left.items) [] [] = subst (λ ss. AreRounded rules n (files ss) [] []) (sym none) (refl, refl) in
+    subst (λ ms. AreRounded rules 0 (files c.args.sources.items) ms c.loop-source.read.origins.items) (append-nil c.loop-source.read.maps.items)
+    (subst (λ os. AreRounded rules 0 (files c.args.sources.items) (c.loop-source.read.maps.items ++ []) os) (append-nil c.loop-source.read.origins.items) (c.loop-source.invariant.rounded [] [] nothing))

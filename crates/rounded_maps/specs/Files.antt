@@ -1,0 +1,36 @@
+-- The maps of files.
+use Rattle.std.specs.Prelude.{◌≡◌, ℕ, ◌+◌, List, [], ◌∷◌, ◌++◌, Bool, None, get_or, map as map_list, option_map, string_bytes, unwrap_or}
+use Rattle.rounded_maps.specs.Rounded.{IsRounded}
+use Rattle.rounded_maps.specs.declared.building.Origin.{Origin}
+use Rattle.rounded_maps.specs.declared.map.RoundedMap.{RoundedMap}
+use Rattle.rounded_maps.specs.declared.rounding.RoundingRules.{RoundingRules}
+use Rattle.rounded_maps.specs.declared.source.Source.{Source}
+
+-- a file: whether it is a sequence of texts, and its bytes
+abbrev pub File : Type 0
+File = Bool × List ℕ
+
+-- the files of sources, of which these are the bytes
+abbrev pub files_of : {T : Type 0} → (T → List ℕ) → List (Source T) → List File
+files_of items sources = map_list (λ s. (s.is_sequence, items s.bytes)) sources
+
+-- from the file at that place, which gives it no name
+abbrev pub origin_of : ℕ → Origin
+origin_of place = record { text = place; layer = None }
+
+-- the maps of the file at a place, and where they are from: a map of GeoJSON has no name
+pub record AreOfFile (rules : RoundingRules) (place : ℕ) (file : File) (maps : List RoundedMap) (origins : List Origin) : Type 0 where
+  pub map : RoundedMap
+  pub rounded : IsRounded rules file.0 file.1 map
+  pub only : maps ≡ map ∷ []
+  pub from : origins ≡ origin_of place ∷ []
+
+-- the maps of files, those of each behind those of the one before; the first file has the place n
+abbrev pub AreRounded : RoundingRules → ℕ → List File → List RoundedMap → List Origin → Type 0
+AreRounded rules n [] maps origins = (maps ≡ []) × (origins ≡ [])
+AreRounded rules n (file ∷ files) maps origins =
+    (some : List RoundedMap) × ((others : List RoundedMap) × ((from : List Origin) × ((rest : List Origin) × ((maps ≡ some ++ others) × ((origins ≡ from ++ rest) × (AreOfFile rules n file some from × AreRounded rules (n + 1) files others rest))))))
+
+-- the name of a map's layer: the one that its file gives it, else that of the file
+abbrev pub layer_of : List (List ℕ) → Origin → List ℕ
+layer_of names o = unwrap_or (option_map string_bytes o.layer) (get_or names o.text [])
