@@ -1,5 +1,6 @@
 -- The texts of layers, as they are written.
 use Rattle.std.proofs.Common.{◌≡◌, ℕ, List, ◌++◌, ap, ◌∙◌, codes}
+use Rattle.grid.specs.declared.pos.Pos.{Pos}
 use Rattle.shapes.specs.Parts.{spelled_text}
 use Rattle.shapes.specs.Spelling.{spelling_of}
 use Rattle.shapes.specs.declared.spelled.Spelled.{Spelled}
@@ -9,7 +10,7 @@ use Rattle.topo.specs.declared.geom.Geom.{Geom}
 use Rattle.decimals.specs.Topology.TopologyText.{geometry_text, layer_text}
 
 -- a layer's name and its geometries, as they are written
-pub layer_is : (l : LayerParts) {n m : List ℕ} {s : Spelled} {gs : List Geom} → n ≡ m → m ≡ spelling_of (spelled_text s) → s ≡ l.name → gs ≡ l.geometries
-    → n ++ (codes ":{\"type\":\"GeometryCollection\",\"geometries\":" ++ (list_text geometry_text gs ++ codes "}")) ≡ layer_text l
-layer_is l {n} {m} {s} {gs} bytes spelled name e =
-    (λ i. (bytes ∙ spelled ∙ ap (λ x. spelling_of (spelled_text x)) name) i ++ (codes ":{\"type\":\"GeometryCollection\",\"geometries\":" ++ (list_text geometry_text (e i) ++ codes "}")))
+pub layer_is : (f : Pos → List ℕ) (l : LayerParts) {n m : List ℕ} {s : Spelled} {gs : List Geom} → n ≡ m → m ≡ spelling_of (spelled_text s) → s ≡ l.name → gs ≡ l.geometries
+    → n ++ (codes ":{\"type\":\"GeometryCollection\",\"geometries\":" ++ (list_text (geometry_text f) gs ++ codes "}")) ≡ layer_text f l
+layer_is f l {n} {m} {s} {gs} bytes spelled name e =
+    (λ i. (bytes ∙ spelled ∙ ap (λ x. spelling_of (spelled_text x)) name) i ++ (codes ":{\"type\":\"GeometryCollection\",\"geometries\":" ++ (list_text (geometry_text f) (e i) ++ codes "}")))

@@ -14,7 +14,7 @@ returns-clause-text g c =
     let least = c.in_ok-least.least in
     let greatest = c.in_ok-greatest.greatest in
     both_pieces (codes "\"bbox\":[") (string_bytes least.first) (codes ",") (string_bytes least.second) (codes ",") _ _ c.in_ok-write_pair.ensures c.in_ok-write_pair-2.ensures
-    (bbox_is c.args.step.now (c.in-Some.west, c.in-Some.south, c.in-Some.east, c.in-Some.north) (string_bytes least.first) (string_bytes least.second)
+    (bbox_is c.args.unit.now (c.in-Some.west, c.in-Some.south, c.in-Some.east, c.in-Some.north) (string_bytes least.first) (string_bytes least.second)
     (string_bytes greatest.first) (string_bytes greatest.second) (rw west at c.in_ok-least.ensures.first) (rw south at c.in_ok-least.ensures.second)
     (rw east at c.in_ok-greatest.ensures.first) (rw north at c.in_ok-greatest.ensures.second)
-    ∙ sym (ap (option_text (bbox_text c.args.step.now)) c.in-Some.is))
+    ∙ sym (ap (option_text (bbox_text c.args.unit.now)) c.in-Some.is))

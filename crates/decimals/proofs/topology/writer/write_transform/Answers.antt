@@ -12,6 +12,6 @@ returns-clause-text g c =
     let size = c.in_ok-size.size in
     let place = c.in_ok-place.place in
     both_pieces (codes "\"transform\":{\"scale\":[") (string_bytes size.first) (codes ",") (string_bytes size.second) (codes "]") _ _ c.in_ok-write_pair.ensures c.in_ok-write_pair-2.ensures
-    (transform_is c.args.step.now c.args.grid.now c.scale-scale.result c.translate-translate.result (string_bytes size.first) (string_bytes size.second)
+    (transform_is c.args.unit.now c.args.grid.now c.scale-scale.result c.translate-translate.result (string_bytes size.first) (string_bytes size.second)
     (string_bytes place.first) (string_bytes place.second) c.scale-scale.ensures.value c.translate-translate.ensures.value
     (rw width at c.in_ok-size.ensures.first) (rw height at c.in_ok-size.ensures.second) (rw x at c.in_ok-place.ensures.first) (rw y at c.in_ok-place.ensures.second))

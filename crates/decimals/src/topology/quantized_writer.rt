@@ -1,0 +1,151 @@
+//! Topologies on another transform.
+ghost use Rattle.decimals.specs.Topology.DecimalTransform.{quantizer_of};
+ghost use Rattle.decimals.specs.Topology.TopologyText.{content_text, layer_text, numbers_text, quantized_arc, quantized_position, quantized_text, transform_member};
+ghost use Rattle.decimals.specs.Topology.Turning.{rewound_layers};
+ghost use Rattle.decimals.specs.declared.topology.fault.DecimalFault.TheVariants.{TooManyDigits};
+ghost use Rattle.sinks.specs.Texts.{joined};
+ghost use Rattle.sinks.specs.Writes.{TookAll};
+ghost use Rattle.std.specs.Fmt.{signed_decimal};
+ghost use Rattle.std.specs.Prelude.{◌≡◌, ◌<◌, ◌≤◌, ◌++◌, Err, IfOk, IfSome, OnOk, codes};
+
+use crate::topology::decimal_transform::DecimalTransform;
+use crate::topology::fault::DecimalFault;
+use crate::topology::geometries::TypeFirstLayers;
+use crate::topology::pairs::write_pair;
+use crate::topology::quantizer::Quantizer;
+use crate::topology::writer::{turned_layers, write_bbox};
+use chains::table::ArcTable;
+use fixing::Rewind;
+use grid::Pos;
+use itoa::Buffer;
+use sinks::written::{Bracketed, Each, Listed, Notation, Text, Then, Written};
+use sinks::{Kept, Sink, WriteFault, put};
+use std::alloc::Global;
+use topo::topology::{Layer, Topology};
+
+/// A whole number.
+#[derive(Clone, Copy)]
+struct WideNumber(i128);
+
+impl Written for WideNumber {
+    ghost text = { λ n. signed_decimal n.0 };
+
+    fn write<W: Sink>(&self, sink: &mut W) -> Result<(), WriteFault> {
+        let mut buffer = Buffer::new();
+        put(sink, buffer.format(self.0).as_bytes())
+    }
+}
+
+/// Two whole numbers, in brackets.
+#[derive(Clone, Copy)]
+struct NumbersText;
+
+impl Notation<(i128, i128)> for NumbersText {
+    ghost text = { λ _ p. numbers_text p };
+
+    fn write_value<W: Sink>(&self, value: &(i128, i128), sink: &mut W) -> Result<(), WriteFault> {
+        let (x, y) = *value;
+        Bracketed(Then(WideNumber(x), Then(Text(b","), WideNumber(y)))).write(sink)
+    }
+}
+
+/// Positions, by their numbers on another transform.
+#[derive(Clone, Copy)]
+struct QuantizedPositions<'a>(&'a Quantizer);
+
+impl<'a> Notation<Pos> for QuantizedPositions<'a> {
+    ghost text = { λ n p. quantized_position n.0.now p };
+
+    fn write_value<W: Sink>(&self, value: &Pos, sink: &mut W) -> Result<(), WriteFault> {
+        NumbersText.write_value(&self.0.numbers(*value), sink)
+    }
+}
+
+/// The arcs in the numbers of another transform.
+fn write_arcs<W: Sink>(
+    alloc: Global,
+    quantizer: &Quantizer,
+    arcs: &ArcTable,
+    out: &mut W,
+) -> Result<(), DecimalFault>
+    ensures text { OnOk result (TookAll (W.seen out.old) (W.seen out.new) (joined (quantized_arc quantizer.now) arcs.now.arcs)) }
+    ensures refused { ¬ (result ≡ Err DecimalFault.TooManyDigits) }
+{
+    let mut separator = Text(b"");
+    for number in 0..arcs.len() {
+        if let Some(arc) = arcs.arc(number) {
+            let numbers = quantizer.arc(alloc, arc)?;
+            Then(separator, Listed(numbers.as_slice(), &NumbersText)).write(out)?;
+            separator = Text(b",");
+        }
+    }
+    Ok(())
+}
+
+/// The member `objects`, and the beginning of `arcs`.
+fn write_objects<W: Sink>(
+    quantizer: &Quantizer,
+    layers: &[Layer],
+    out: &mut W,
+) -> Result<(), WriteFault>
+    ensures { OnOk result (TookAll (W.seen out.old) (W.seen out.new) (codes "\"objects\":{" ++ (joined (layer_text (quantized_position quantizer.now)) layers.now ++ codes "},\"arcs\":["))) }
+{
+    let positions = QuantizedPositions(quantizer);
+    let layers = Then(
+        Each(layers, &TypeFirstLayers(&positions)),
+        Text(b"},\"arcs\":["),
+    );
+    Then(Text(b"\"objects\":{"), layers).write(out)
+}
+
+/// The members `objects` and `arcs`, and the end of the text.
+fn write_quantized<W: Sink>(
+    alloc: Global,
+    topology: &Topology,
+    quantizer: &Quantizer,
+    rewind: Rewind,
+    out: &mut W,
+) -> Result<(), DecimalFault>
+    ensures text { OnOk result (TookAll (W.seen out.old) (W.seen out.new) (content_text (quantized_position quantizer.now) (quantized_arc quantizer.now) (rewound_layers rewind topology.now.arcs.arcs topology.now.layers) topology.now.arcs.arcs)) }
+    ensures refused { ¬ (result ≡ Err DecimalFault.TooManyDigits) }
+{
+    let layers = turned_layers(alloc, topology, rewind)?;
+    write_objects(quantizer, layers.as_slice(), out)?;
+    write_arcs(alloc, quantizer, topology.arcs(), out)?;
+    Text(b"]}").write(out)?;
+    Ok(())
+}
+
+/// The member `transform`, by its numerals as they are written.
+fn write_numerals<W: Sink>(transform: &DecimalTransform, out: &mut W) -> Result<(), WriteFault>
+    ensures { OnOk result (TookAll (W.seen out.old) (W.seen out.new) (transform_member transform.now.scale_x transform.now.scale_y transform.now.translate_x transform.now.translate_y)) }
+{
+    write_pair(b"\"transform\":{\"scale\":[", &transform.scale, b"]", out)?;
+    write_pair(b",\"translate\":[", &transform.translate, b"]},", out)?;
+    Ok(())
+}
+
+/// The text of a topology on another transform: each number of a position is the nearest whole number of steps of its
+/// scale from its translation, of two the one farther from 0. Steps of zero in an arc are left out, but one where an arc
+/// would have none. The bounding box is that of the positions as they were, exactly, and rings are turned by them.
+///
+/// # Errors
+/// `TooManyDigits` where the unit has more than 30 places, and there is a position; `OutOfMemory`.
+pub fn text_on(
+    alloc: Global,
+    topology: &Topology,
+    transform: &DecimalTransform,
+    rewind: Rewind,
+) -> Result<Vec<u8>, DecimalFault>
+    ensures text { IfOk result (λ t. t.items ≡ quantized_text transform.now rewind topology.now) }
+    ensures within { OnOk result (IfSome topology.now.bbox (λ _. transform.now.unit.places ≤ 30)) }
+    ensures refused { result ≡ Err DecimalFault.TooManyDigits → 30 < transform.now.unit.places }
+{
+    let quantizer = transform.quantizer(topology.grid());
+    let mut out = Kept::new(alloc);
+    Text(b"{\"type\":\"Topology\",").write(&mut out)?;
+    write_numerals(transform, &mut out)?;
+    write_bbox(alloc, topology.bbox(), &transform.unit, &mut out)?;
+    write_quantized(alloc, topology, &quantizer, rewind, &mut out)?;
+    Ok(out.into_bytes())
+}
