@@ -2,9 +2,9 @@
 use crate::all_faults::print_faults;
 use crate::back::{back_options_of, write_back};
 use crate::layers::{MapLayer, layers_of};
+use crate::made::Made;
 use crate::naming::{files_of, find_doubled, is_file_name, is_sequence, names_of, sources_of};
 use crate::options::{GridOptions, options_of};
-use crate::printing::Printed;
 use crate::remedies::{refuse_text, remedies_of};
 use crate::report::{Report, report_lines};
 use crate::report_file::report_text;
@@ -15,10 +15,9 @@ use command_line::output::{is_standard, write_output};
 use command_line::refusal::{Refusal, Remedy, Usage};
 use command_line::status::Status;
 use command_line::togrid::parse;
-use rounded_maps::{MapsFault, Rounded, RoundedMap, Source};
+use rounded_maps::{MapsFault, Rounded, Source};
 use sinks::{Sink, put};
 use std::alloc::{AllocError, Global};
-use topo::Topology;
 
 /// How lines on standard error begin.
 const PROGRAM: &str = "togrid";
@@ -96,7 +95,16 @@ fn finish<'m, F: Files, O: Sink, E: Sink>(
 ) -> Result<Status, Refusal<'m>> {
     let layers = layers_of(alloc, sources, rounded)?;
     check_layers(alloc, options, layers.as_slice())?;
-    let reports = Reports::of(alloc, options, layers.as_slice(), rounded)?;
+    let absent = made.absent(alloc, options)?;
+    let reports = Reports::of(
+        alloc,
+        &Report {
+            options,
+            layers: layers.as_slice(),
+            rounded,
+            absent: absent.as_slice(),
+        },
+    )?;
     if !options.target.is_standard() {
         made.print(alloc, options, layers.as_slice(), files, out)?;
     }
@@ -119,36 +127,20 @@ struct Reports {
 }
 
 impl Reports {
-    fn of<'a>(
-        alloc: Global,
-        options: &GridOptions<'a>,
-        layers: &[MapLayer<'_>],
-        rounded: &Rounded,
-    ) -> Result<Reports, Refusal<'a>> {
-        let report = Report {
-            options,
-            layers,
-            rounded,
-        };
+    fn of(alloc: Global, report: &Report<'_, '_>) -> Result<Reports, AllocError> {
+        let options = report.options;
         let lines = if options.is_quiet {
             Vec::new(alloc)
         } else {
-            report_lines(alloc, &report)?
+            report_lines(alloc, report)?
         };
         let json = if options.report.is_some() {
-            report_text(alloc, &report)?
+            report_text(alloc, report)?
         } else {
             Vec::new(alloc)
         };
         Ok(Reports { lines, json })
     }
-}
-
-/// What is printed: one topology, or each file's maps.
-#[derive(Drop)]
-enum Made {
-    Topology(Topology),
-    Maps(Vec<RoundedMap>),
 }
 
 /// The texts of files, each one text or a sequence.
@@ -214,32 +206,6 @@ fn refusal<'a>(
             refuse_text(file, fault, remedy, options.is_step_given)
         }
         MapsFault::OutOfMemory => Refusal::OutOfMemory,
-    }
-}
-
-impl Made {
-    /// Prints it where it goes. On standard output it comes last, since a terminal shows it with the report.
-    fn print<'a, F: Files, O: Sink>(
-        &self,
-        alloc: Global,
-        options: &GridOptions<'a>,
-        layers: &[MapLayer<'_>],
-        files: &mut F,
-        out: &mut O,
-    ) -> Result<(), Refusal<'a>> {
-        match self {
-            Made::Topology(topology) => {
-                Printed::Topology(topology).print(alloc, options.output, files, out)
-            }
-            Made::Maps(maps) => {
-                for (layer, map) in layers.iter().zip(maps.as_slice()) {
-                    let file = options.target.file(alloc, layer.name)?;
-                    let word = file.as_ref().map(|file| file.as_str());
-                    Printed::Map(map, &options.grid).print(alloc, word, files, out)?;
-                }
-                Ok(())
-            }
-        }
     }
 }
 

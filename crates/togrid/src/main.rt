@@ -5,6 +5,7 @@ mod all_faults;
 mod back;
 mod command;
 mod layers;
+mod made;
 mod naming;
 mod options;
 mod printing;

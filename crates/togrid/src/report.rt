@@ -19,6 +19,8 @@ pub(crate) struct Report<'r, 'a> {
     /// The layer and the file of each map.
     pub(crate) layers: &'r [MapLayer<'r>],
     pub(crate) rounded: &'r Rounded,
+    /// The properties that the words scale and no feature has.
+    pub(crate) absent: &'r [&'a str],
 }
 
 impl<'r, 'a> Report<'r, 'a> {
@@ -187,16 +189,25 @@ fn put_equal<E: Sink>(err: &mut E, equal: &EqualFeatures) -> Result<(), WriteFau
     put(err, b"\n")
 }
 
-/// What became of a file: `provinces.geojson: 13 features, 7458 positions, step 0.000001`, how far positions were moved,
-/// and what was lost or split.
+/// The file of a map, and the layer where the text names it.
+fn put_origin<E: Sink>(err: &mut E, layer: &MapLayer<'_>) -> Result<(), WriteFault> {
+    put(err, layer.file.as_bytes())?;
+    if layer.is_named_by_text {
+        put_words(err, ", layer ", layer.name)?;
+    }
+    put(err, b": ")
+}
+
+/// What became of a map: `provinces.geojson: 13 features, 7458 positions, step 0.000001`, how far positions were moved,
+/// and what was closed, lost or split.
 fn put_outcome(
     alloc: Global,
     lines: &mut Kept,
-    file: &str,
+    layer: &MapLayer<'_>,
     outcome: &Outcome,
     options: &GridOptions<'_>,
 ) -> Result<(), ReportFault> {
-    put_words(lines, file, ": ")?;
+    put_origin(lines, layer)?;
     put_count(lines, outcome.features as u64, "features, ")?;
     put_count(lines, outcome.tally.positions, "positions, step ")?;
     put_words(lines, options.step_word, "\n")?;
@@ -366,7 +377,7 @@ fn put_outcomes(
 ) -> Result<(), ReportFault> {
     let outcomes = report.rounded.outcomes.iter().enumerate();
     for (layer, (map, outcome)) in report.layers.iter().zip(outcomes) {
-        put_outcome(alloc, lines, layer.file, outcome, report.options)?;
+        put_outcome(alloc, lines, layer, outcome, report.options)?;
         if let Some(equal) = report.equal(map) {
             put_equal(lines, equal)?;
         }
@@ -374,8 +385,22 @@ fn put_outcomes(
     Ok(())
 }
 
+/// The properties that the words scale and no feature has.
+fn put_absent<E: Sink>(err: &mut E, report: &Report<'_, '_>) -> Result<(), WriteFault> {
+    for property in report.absent {
+        put_words(
+            err,
+            "no feature has the property of --reals scale:",
+            *property,
+        )?;
+        put(err, b"\n")?;
+    }
+    Ok(())
+}
+
 fn put_lines(alloc: Global, report: &Report<'_, '_>, lines: &mut Kept) -> Result<(), ReportFault> {
     put_outcomes(alloc, report, lines)?;
+    put_absent(lines, report)?;
     put_vertices(lines, report)?;
     if let Some(next) = next_command(alloc, report)? {
         put(lines, b"next: ")?;

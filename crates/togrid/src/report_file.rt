@@ -176,12 +176,26 @@ fn write_files(
     writer.end_array()
 }
 
+/// The properties that the words scale and no feature has, where they scale any.
+fn write_absent(writer: &mut Writer, report: &Report<'_, '_>) -> Result<(), AllocError> {
+    if report.options.scales.is_empty() {
+        return Ok(());
+    }
+    writer.key("absent")?;
+    writer.begin_array()?;
+    for property in report.absent {
+        writer.string(*property)?;
+    }
+    writer.end_array()
+}
+
 /// The report as a JSON text, with a line's end.
 pub(crate) fn report_text(alloc: Global, report: &Report<'_, '_>) -> Result<Vec<u8>, AllocError> {
     let mut writer = Writer::new(Vec::new(alloc));
     writer.begin_object()?;
     write_text(&mut writer, "step", report.options.step_word)?;
     write_files(alloc, &mut writer, report)?;
+    write_absent(&mut writer, report)?;
     write_vertices(&mut writer, report)?;
     write_next(alloc, &mut writer, report)?;
     writer.end_object()?;
