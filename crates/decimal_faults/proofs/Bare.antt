@@ -1,10 +1,8 @@
 -- A geometry that is no feature's has an id and properties without faults.
-use Rattle.std.proofs.Common.{◌≡◌, ℕ, Bool, true, false, ◌&&◌, ◌||◌, List, [], ◌∷◌, ◌++◌, Option, Some, None, codes, refl, sym, ap, ◌∙◌, subst, if◌then◌else◌}
-use Rattle.std.specs.Borrow.{Bor}
+use Rattle.std.proofs.Common.{◌≡◌, Bool, true, false, ◌&&◌, List, [], ◌∷◌, ◌++◌, Some, None, codes, refl, sym, subst}
 use Rattle.json.specs.Json as json
 use Rattle.faults.specs.Path.{name}
-use Rattle.faults.specs.declared.fault.FaultKind.TheVariants.{PropertyNumber}
-use Rattle.reading.specs.Fault.{here, under}
+use Rattle.reading.specs.Fault.{under}
 use Rattle.attributes.specs.Refusals.{attributes_faults, own_id_faults, named_id_faults, members_faults, has_wrong_number, refuses}
 use Rattle.attributes.specs.Values.{has_beyond}
 use Rattle.attributes.specs.declared.rules.AttributeRules.{AttributeRules}

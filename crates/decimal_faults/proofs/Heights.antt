@@ -1,8 +1,8 @@
 -- Numbers behind the second of a position.
-use Rattle.std.proofs.Common.{◌≡◌, ◌≢◌, ℕ, ◌+◌, ◌<◌, ◌≤◌, length, get_or, drop, not, Bool, true, false, List, [], ◌∷◌, Option, Some, None, IsTrue, refl, sym, ap, ◌∙◌, subst, arith}
+use Rattle.std.proofs.Common.{◌≡◌, ◌≢◌, ℕ, ◌+◌, ◌<◌, ◌≤◌, length, get_or, drop, not, Bool, true, false, List, [], ◌∷◌, Some, None, IsTrue, refl, sym, ap, ◌∙◌, subst, arith}
 use Rattle.std.proofs.lemmas.List.{drop_more, drop_all}
 use Rattle.std.specs.declared.alloc.Global.{Global}
-use Rattle.json.specs.Json.{Json, null, boolean, number, string, array, object, Items, no_items, item}
+use Rattle.json.specs.Json.{Json, null, boolean, number, string, array, object}
 use Rattle.json.specs.Find.{as_number}
 use Rattle.json.specs.Value.{value_view, items_view}
 use Rattle.json.specs.declared.value.Value.{Value}

@@ -11,3 +11,4 @@ pub mod SoundPositions
 pub mod SoundParts
 pub mod SoundGeometries
 pub mod SoundMaps
+pub mod MadePositions

@@ -1,9 +1,7 @@
 -- What positions and lists of them mean is one.
-use Rattle.std.proofs.Common.{◌≡◌, ◌≢◌, ℕ, ℤ, pos, List, [], ◌∷◌, Option, Some, None, refl, sym, ap, ◌∙◌, subst}
+use Rattle.std.proofs.Common.{◌≡◌, ◌≢◌, ℕ, ℤ, List, [], ◌∷◌, refl, sym, ap, ◌∙◌, subst}
 use Rattle.json.specs.Json.{Json, null, boolean, number, string, array, object, Items, no_items, item}
-use Rattle.json.specs.Find.{as_number}
 use Rattle.faults.specs.Fault.{Pair}
-use Rattle.fixing.specs.Left.{unfixed}
 use Rattle.fixing.specs.declared.rules.FixingRules.{FixingRules}
 use Rattle.grid.specs.Fits.{x_of, y_of}
 use Rattle.grid.specs.Place.{IsGridNumber}
@@ -18,7 +16,7 @@ use Rattle.decimal_maps.specs.Arrays.{ItemsMean, ArrayMeans}
 use Rattle.decimal_maps.specs.Positions.{IsCoordinate, IsPosition}
 use Rattle.decimal_maps.specs.declared.rules.DecimalGrid.{DecimalGrid}
 use Rattle.decimal_maps.specs.declared.tally.Tally.{Tally}
-use Rattle.decimal_faults.specs.Outlines.{fault_as, outline_at_faults}
+use Rattle.decimal_faults.specs.Outlines.{outline_at_faults, unfixed_as}
 use Rattle.decimal_faults.specs.Parts.{list_faults}
 use Rattle.decimal_faults.specs.Positions.{whole_of, position_faults, position_of, each_position, positions_of}
 use Rattle.decimal_faults.specs.declared.outline.Outline.{Outline}
@@ -63,10 +61,10 @@ module _ (grid : DecimalGrid) (sized : IsMeasure grid.step) where
 
   -- the faults of a list of positions that have none
   pub outline_is : (fixing : FixingRules) (outline : Outline) (j : Json) (ps : List Pos) (a b : Tally) → list_faults (position_faults grid) j ≡ [] → ArrayMeans (IsPosition grid) j ps a b
-      → outline_at_faults grid fixing outline j ≡ outline_faults (unfixed fixing (fault_as outline ps))
+      → outline_at_faults grid fixing outline j ≡ outline_faults (unfixed_as fixing outline ps)
   outline_is fixing outline j ps a b none h =
-      ap (λ qs. unless_faulty qs (outline_faults (unfixed fixing (fault_as outline (positions_of grid.step j))))) none
-      ∙ ap (λ qs. outline_faults (unfixed fixing (fault_as outline qs))) (sym (positions_are j ps a b h))
+      ap (λ qs. unless_faulty qs (outline_faults (unfixed_as fixing outline (positions_of grid.step j)))) none
+      ∙ ap (λ qs. outline_faults (unfixed_as fixing outline qs)) (sym (positions_are j ps a b h))
 
 pub faulty_outline : (grid : DecimalGrid) (fixing : FixingRules) (outline : Outline) (j : Json) → list_faults (position_faults grid) j ≢ [] → outline_at_faults grid fixing outline j ≢ []
 faulty_outline grid fixing outline j faulty none = faulty (unless_none (list_faults (position_faults grid) j) _ none)

@@ -1,7 +1,6 @@
 -- Geometries of collections: their faults, their shapes, and how deep they nest.
-use Rattle.std.proofs.Common.{◌≡◌, ◌≢◌, ℕ, zero, suc, ◌+◌, ◌<◌, ◌≤◌, max, length, get_or, drop, Bool, true, false, cond, List, [], ◌∷◌, ◌++◌, Option, Some, None, Result, Ok, Err, option_map, is_some, codes, bytes_eq, if◌then◌else◌, ◌⊎◌, inl, inr, refl, sym, ap, ◌∙◌, subst, arith, append_assoc, append-nil}
+use Rattle.std.proofs.Common.{◌≡◌, ◌≢◌, ℕ, zero, suc, ◌+◌, ◌<◌, ◌≤◌, length, get_or, drop, Bool, true, false, cond, List, [], ◌∷◌, ◌++◌, Option, Some, None, Result, Ok, Err, option_map, is_some, codes, bytes_eq, if◌then◌else◌, ◌⊎◌, inl, inr, refl, sym, ap, ◌∙◌, subst, arith, append_assoc, append-nil}
 use Rattle.std.proofs.lemmas.List.{drop_more, drop_all}
-use Rattle.std.proofs.lemmas.Slice.Eq.{bytes_eq-Decides}
 use Rattle.std.specs.declared.alloc.Global.{Global}
 use Rattle.json.specs.Json.{Json, null, boolean, number, string, array, object, Items, no_items, item, Members, no_members, member}
 use Rattle.json.specs.Find.{get, get_member, later_or, as_array, as_object, as_str}
@@ -9,7 +8,6 @@ use Rattle.json.specs.Tree.{depth, items_depth, members_depth}
 use Rattle.json.specs.Value.{value_view, items_view}
 use Rattle.json.specs.declared.value.Value.{Value}
 use Rattle.faults.specs.Path.{name, index}
-use Rattle.faults.specs.Fault.{Pair}
 use Rattle.faults.specs.declared.fault.FaultKind.{FaultKind}
 use Rattle.faults.specs.declared.fault.FaultKind.TheVariants.{WrongKind, UnknownType}
 use Rattle.fixing.specs.declared.raw.RawShape.{RawShape}
@@ -18,15 +16,15 @@ use Rattle.reading.specs.Fault.{here, under}
 use Rattle.reading.specs.Parts.{named, text_or_fault, typed_faults}
 use Rattle.reading.specs.Types.{geometry_named}
 use Rattle.reading.specs.declared.geometry.GeometryType.{GeometryType}
-use Rattle.reading.specs.declared.geometry.GeometryType.TheVariants.{Point, MultiPoint, LineString, MultiLineString, Polygon, MultiPolygon}
-use Rattle.decimal_maps.specs.Geometries.{AreShapes, none, simple, nested, HasGeometries, IsCollection, IsShape, IsSimple, kind_name, kind_of}
+use Rattle.decimal_maps.specs.Geometries.{AreShapes, none, simple, nested, IsCollection, IsSimple, kind_name}
 use Rattle.decimal_maps.specs.declared.rules.DecimalGrid.{DecimalGrid}
 use Rattle.decimal_maps.specs.declared.tally.Tally.{Tally}
+use Rattle.decimal_maps.proofs.Naming.{name_is, pick}
 use Rattle.decimal_faults.specs.Collections.{HasShapes}
 use Rattle.decimal_faults.specs.Geometries as geometries
 use Rattle.decimal_faults.specs.Geometries.{coordinates_faults, form_named, form_of, form_faults, later, or_missing, geometry_faults, geometries_faults, each_geometry_faults, geometries_in}
 use Rattle.decimal_faults.specs.Parts.{each_faults, member_faults, there, type_text, type_or_fault}
-use Rattle.decimal_faults.specs.Shapes.{kind_by, IsShapeOf}
+use Rattle.decimal_faults.specs.Shapes.{IsShapeOf}
 use Rattle.decimal_faults.specs.declared.geometry.GeometryForm.{GeometryForm}
 use Rattle.decimal_faults.specs.declared.geometry.GeometryForm.TheVariants.{Simple, Collection}
 use Rattle.decimal_faults.proofs.Items.{Values, faulty_item, faulty_later}
@@ -179,28 +177,11 @@ no_list_faulty grid fixing j other n = let m = sym (no_list grid fixing j other)
 
 -- ---- types
 
-pick : {K : Type 0} (P : K → Type 0) (s n : List ℕ) (k l : K) (rest : Result K FaultKind) → (s ≡ n → P k) → (rest ≡ Ok l → P l) → (if bytes_eq s n then Ok k else rest) ≡ Ok l → P l
-pick {K} P s n k l rest same_name other e = go (bytes_eq s n) refl e
-  where
-    go : (b : Bool) → bytes_eq s n ≡ b → (if b then Ok k else rest) ≡ Ok l → P l
-    go true is e = let same : k ≡ l = cc in subst P same (same_name ((bytes_eq-Decides s n).0 is))
-    go false is e = other e
-
-name_is : (s : List ℕ) (k : GeometryType) → geometry_named s ≡ Ok k → s ≡ kind_name (kind_by k)
-name_is s k =
-    let P = λ (l : GeometryType). s ≡ kind_name (kind_by l) in
-    pick P s (codes "Point") Point k _ (λ e. e)
-    (pick P s (codes "MultiPoint") MultiPoint k _ (λ e. e)
-    (pick P s (codes "LineString") LineString k _ (λ e. e)
-    (pick P s (codes "MultiLineString") MultiLineString k _ (λ e. e)
-    (pick P s (codes "Polygon") Polygon k _ (λ e. e)
-    (pick P s (codes "MultiPolygon") MultiPolygon k _ (λ e. e) (λ e. cc))))))
-
 abbrev form_name : GeometryForm → List ℕ
-form_name (Simple k) = kind_name (kind_by k)
+form_name (Simple k) = kind_name k
 form_name Collection = codes "GeometryCollection"
 
-simple_name : (s : List ℕ) (r : Result GeometryType FaultKind) (f : GeometryForm) → ((k : GeometryType) → r ≡ Ok k → s ≡ kind_name (kind_by k)) → geometries.simple r ≡ Ok f → s ≡ form_name f
+simple_name : (s : List ℕ) (r : Result GeometryType FaultKind) (f : GeometryForm) → ((k : GeometryType) → r ≡ Ok k → s ≡ kind_name k) → geometries.simple r ≡ Ok f → s ≡ form_name f
 simple_name s (Err k) f is e = cc
 simple_name s (Ok k) f is e = let same : Simple k ≡ f = cc in subst (λ g. s ≡ form_name g) same (is k refl)
 

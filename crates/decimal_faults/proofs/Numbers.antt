@@ -1,6 +1,5 @@
 -- Numerals, and the whole numbers of steps that are nearest to them.
-use Rattle.std.proofs.Common.{◌≡◌, ℕ, zero, suc, ◌+◌, ◌*◌, ◌/◌, ◌^◌, ◌<◌, ◌≤◌, min, Bool, true, false, ◌&&◌, ◌==◌, nat_eq, nat_le, ◌↔◌, ℤ, pos, List, [], length, Option, Some, None, refl, sym, ap, ◌∙◌, subst, inl, inr, arith, le-leb, leb-true, if◌then◌else◌, eq-eqb, eqb-true, mul-le-mul_right, unsigned_abs}
-use Rattle.std.proofs.lemmas.Bool.{lt-leb}
+use Rattle.std.proofs.Common.{◌≡◌, ℕ, zero, suc, ◌+◌, ◌*◌, ◌/◌, ◌^◌, ◌<◌, ◌≤◌, min, Bool, true, false, ◌&&◌, nat_eq, nat_le, ℤ, List, [], length, Some, refl, sym, ap, ◌∙◌, subst, arith, le-leb, leb-true, if◌then◌else◌, eq-eqb, eqb-true, mul-le-mul_right, unsigned_abs}
 use Rattle.std.proofs.lemmas.Nat.{div-add-mod', mod_below}
 use Rattle.std.specs.Str.Parse.{starts_with_minus}
 use Rattle.fast_float.proofs.ExactLemmas.{ten_to_pos}
@@ -12,7 +11,7 @@ use Rattle.grid.specs.Place.{IsGridNumber}
 use Rattle.grid.proofs.Judged.{both_first, both_second}
 use Rattle.numerals.specs.Nearest.{IsNearest, IsRounded}
 use Rattle.numerals.specs.Numeral.{Measure, IsMeasure, IsNumeral, IsSnapped, dividend, divisor, parts_of, unsigned_text}
-use Rattle.numerals.proofs.Nearest.{from_nearest, to_nearest, one_rounded}
+use Rattle.numerals.proofs.Nearest.{from_nearest, one_rounded}
 use Rattle.numerals.proofs.Steps.{dividend_is, grid_size, signed_nearest}
 use Rattle.reading.specs.Fault.{here}
 use Rattle.decimal_faults.specs.Positions.{steps_of, nearest_of, is_numeral, number_faults}
@@ -69,14 +68,6 @@ numeral_by_test text e = record {
 
 -- ---- the faults of a numeral
 
-within_test : (s : Measure) (greatest : ℕ) (text : List ℕ) → number_faults s greatest text ≡ [] → is_numeral text ≡ true
-unfolding number_faults
-within_test s greatest text e = go (is_numeral text) e
-  where
-    go : (b : Bool) → (if b && nat_le (steps_of s text) (min greatest (2 ^ 40)) then [] else here OutOfRange) ≡ [] → b ≡ true
-    go true e = refl
-    go false e = cc
-
 pub number_sound : (s : Measure) (greatest : ℕ) (text : List ℕ) (n : ℤ) → IsMeasure s → IsNumeral text → IsSnapped s text n → IsGridNumber n → unsigned_abs n ≤ greatest → number_faults s greatest text ≡ []
 unfolding number_faults
 number_sound s greatest text n h a b c d =
@@ -84,28 +75,30 @@ number_sound s greatest text n h a b c d =
     let test : nat_le (steps_of s text) (min greatest (2 ^ 40)) ≡ true = le-leb _ _ (omega (arith, near, grid_size n c)) in
     rw (numeral_test text a, test) refl
 
-pub number_beyond : (s : Measure) (greatest : ℕ) (text : List ℕ) (n : ℤ) → IsMeasure s → IsSnapped s text n → greatest < unsigned_abs n → number_faults s greatest text ≡ here OutOfRange
+-- a numeral without a fault has a nearest whole number of steps within the limits
+pub number_found : (s : Measure) (greatest : ℕ) (text : List ℕ) → IsMeasure s → number_faults s greatest text ≡ [] →
+    (p : ℤ) × (IsSnapped s text p × (unsigned_abs p ≤ greatest) × IsNumeral text) × IsGridNumber p
 unfolding number_faults
-number_beyond s greatest text n h b far =
-    let near = (snapped s text n h b).0 in
-    let test : nat_le (steps_of s text) (min greatest (2 ^ 40)) ≡ false = lt-leb _ _ (omega (arith, near)) in
-    go (is_numeral text) (nat_le (steps_of s text) (min greatest (2 ^ 40))) test
+number_found s greatest text h e = go (is_numeral text) (nat_le (steps_of s text) (min greatest (2 ^ 40))) refl refl e
   where
-    go : (b c : Bool) → c ≡ false → (if b && c then [] else here OutOfRange) ≡ here OutOfRange
-    go true c e = rw e refl
-    go false c e = refl
+    go : (b c : Bool) → is_numeral text ≡ b → nat_le (steps_of s text) (min greatest (2 ^ 40)) ≡ c → (if b && c then [] else here OutOfRange) ≡ [] →
+        (p : ℤ) × (IsSnapped s text p × (unsigned_abs p ≤ greatest) × IsNumeral text) × IsGridNumber p
+    go false c d f k = absurd cc
+    go true false d f k = absurd cc
+    go true true d f k =
+        let within = leb-true _ _ f in
+        let near = snaps s text h (omega (arith, within)) in
+        (near.0, (near.1, omega (arith, within, (snapped s text near.0 h near.1).0), numeral_by_test text d), near.2)
 
-pub number_refused : (s : Measure) (greatest : ℕ) (text : List ℕ) → IsMeasure s → ((p : ℤ) → IsNumeral text × IsSnapped s text p × IsGridNumber p → ⊥) → number_faults s greatest text ≡ here OutOfRange
+-- one that has none is out of range
+pub number_refused : (s : Measure) (greatest : ℕ) (text : List ℕ) → IsMeasure s → ((p : ℤ) → IsSnapped s text p × (unsigned_abs p ≤ greatest) × IsNumeral text → IsGridNumber p → ⊥) →
+    number_faults s greatest text ≡ here OutOfRange
 unfolding number_faults
-number_refused s greatest text h none = go (is_numeral text) (nat_le (steps_of s text) (min greatest (2 ^ 40))) refl refl
+number_refused s greatest text h none = go (is_numeral text && nat_le (steps_of s text) (min greatest (2 ^ 40))) refl
   where
-    go : (b c : Bool) → is_numeral text ≡ b → nat_le (steps_of s text) (min greatest (2 ^ 40)) ≡ c → (if b && c then [] else here OutOfRange) ≡ here OutOfRange
-    go false c e f = refl
-    go true false e f = refl
-    go true true e f =
-        let within : steps_of s text ≤ 2 ^ 40 = omega (arith, leb-true _ _ f) in
-        let near = snaps s text h within in
-        absurd (none near.0 (numeral_by_test text e, near.1, near.2))
+    go : (b : Bool) → (is_numeral text && nat_le (steps_of s text) (min greatest (2 ^ 40))) ≡ b → (if b then [] else here OutOfRange) ≡ here OutOfRange
+    go false e = refl
+    go true e = let f = number_found s greatest text h (ap (λ b. if b then [] else here OutOfRange) e) in absurd (none f.0 f.1 f.2)
 
 -- ---- numbers of JSON
 

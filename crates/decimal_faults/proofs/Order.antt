@@ -1,14 +1,13 @@
 -- The faults of a map are listed in order.
-use Rattle.std.proofs.Common.{◌≡◌, ℕ, ◌+◌, ◌<◌, Bool, true, false, List, [], ◌∷◌, ◌++◌, Option, Some, None, Result, Ok, Err, Less, codes, bytes_eq, if◌then◌else◌, refl, sym, ap, ◌∙◌, subst, arith, append_assoc, ◌&&◌, nat_le, min, ◌^◌}
+use Rattle.std.proofs.Common.{◌≡◌, ℕ, ◌+◌, ◌<◌, Bool, true, false, List, [], ◌++◌, Option, Some, None, Result, Ok, Err, Less, codes, bytes_eq, if◌then◌else◌, refl, sym, subst, arith, append_assoc, ◌&&◌, nat_le, min, ◌^◌}
 use Rattle.std.specs.Cmp.{nat_cmp_is}
 use Rattle.std.specs.Str.{is_utf8}
 use Rattle.json.specs.Json.{Json, null, boolean, number, string, array, object, Items, no_items, item, Members, no_members, member, document}
 use Rattle.json.specs.Find.{get, is_null, as_array, as_number, as_object}
-use Rattle.faults.specs.Path.{Turn, name, index}
+use Rattle.faults.specs.Path.{name, index}
 use Rattle.faults.specs.Fault.{Pair}
 use Rattle.faults.specs.declared.fault.FaultKind.{FaultKind}
 use Rattle.faults.specs.declared.fault.FaultKind.TheVariants as kind
-use Rattle.fixing.specs.Left.{unfixed}
 use Rattle.fixing.specs.declared.rules.FixingRules.{FixingRules}
 use Rattle.numerals.specs.Numeral.{Measure}
 use Rattle.attributes.specs.Refusals.{attributes_faults}
@@ -22,10 +21,10 @@ use Rattle.reading.specs.declared.geometry.GeometryType.TheVariants.{Point, Mult
 use Rattle.reading.proofs.FaultListsLemmas.Ascending.{IsBeyond, ascending_here, ascending_more, ascending_none, ascending_outline, ascending_typed, ascending_under, ascending_unless, beyond_append, beyond_none, beyond_under}
 use Rattle.decimal_maps.specs.declared.rules.DecimalGrid.{DecimalGrid}
 use Rattle.decimal_maps.specs.declared.rules.MapRules.{MapRules}
-use Rattle.decimal_faults.specs.Geometries.{is_nothing, point_faults, coordinates_faults, form_of, form_faults, later, or_missing, geometry_faults, geometries_faults, each_geometry_faults, geometries_in}
+use Rattle.decimal_faults.specs.Geometries.{is_nothing, coordinates_faults, form_of, form_faults, later, or_missing, geometry_faults, geometries_faults, each_geometry_faults, geometries_in}
 use Rattle.decimal_faults.specs.Maps.{feature_members_faults, feature_faults, root_faults, map_faults, document_faults, faults_of_text}
-use Rattle.decimal_faults.specs.Outlines.{fault_as, outline_at_faults}
-use Rattle.decimal_faults.specs.Parts.{array_faults, each_faults, list_faults, there, member_faults, if_there, option_faults, unless_null, object_faults, numeral_faults, type_text}
+use Rattle.decimal_faults.specs.Outlines.{outline_at_faults, unfixed_as}
+use Rattle.decimal_faults.specs.Parts.{array_faults, each_faults, list_faults, there, member_faults, if_there, unless_null, object_faults, numeral_faults, type_text}
 use Rattle.decimal_faults.specs.Positions.{is_numeral, steps_of, number_faults, coordinate_faults, height_faults, may_have, both_faults, numbers_faults, position_faults, positions_of}
 use Rattle.decimal_faults.specs.declared.geometry.GeometryForm.{GeometryForm}
 use Rattle.decimal_faults.specs.declared.geometry.GeometryForm.TheVariants.{Simple, Collection}
@@ -109,8 +108,8 @@ module _ (grid : DecimalGrid) where
   module _ (fixing : FixingRules) where
     outline_ascends : (outline : Outline) (j : Json) → IsAscending (outline_at_faults grid fixing outline j)
     outline_ascends outline j =
-        ascending_unless (list_faults (position_faults grid) j) (outline_faults (unfixed fixing (fault_as outline (positions_of grid.step j))))
-        (list_ascends (position_faults grid) position_ascends j) (ascending_outline (unfixed fixing (fault_as outline (positions_of grid.step j))))
+        ascending_unless (list_faults (position_faults grid) j) (outline_faults (unfixed_as fixing outline (positions_of grid.step j)))
+        (list_ascends (position_faults grid) position_ascends j) (ascending_outline (unfixed_as fixing outline (positions_of grid.step j)))
 
     coordinates_ascend : (k : GeometryType) (j : Json) → IsAscending (coordinates_faults grid fixing k j)
     coordinates_ascend Point j = either (is_nothing (as_array j)) [] (position_faults grid j) ascending_none (position_ascends j)

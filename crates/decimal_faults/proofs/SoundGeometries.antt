@@ -1,5 +1,5 @@
 -- Geometries that have no faults are those of which the fixing rules leave something.
-use Rattle.std.proofs.Common.{◌≡◌, ◌↔◌, ℕ, ◌+◌, List, [], ◌++◌, map, Bool, true, false, cond, Option, Some, None, Ok, Vec, refl, sym, ap, ap₂, subst, ◌∙◌, codes, option_map, if◌then◌else◌}
+use Rattle.std.proofs.Common.{◌≡◌, ◌↔◌, ℕ, ◌+◌, List, [], map, Bool, true, false, cond, Option, Some, None, Ok, Vec, refl, sym, ap, ap₂, subst, ◌∙◌, codes, option_map, if◌then◌else◌}
 use Rattle.std.specs.List.{AllByRecursion}
 use Rattle.std.specs.Str.{bytes_eq}
 use Rattle.std.specs.declared.alloc.Global.{Global}
@@ -12,7 +12,6 @@ use Rattle.grid.specs.declared.pos.Pos.{Pos}
 use Rattle.lines.specs.declared.shape_fault.ShapeFault.{ShapeFault}
 use Rattle.fixing.specs.Fixable.{IsFixable, IsFixableGeometry, IsFixableLine, IsFixableRing}
 use Rattle.fixing.specs.Forms.{seen_geometry, seen_shape}
-use Rattle.fixing.specs.Left.{unfixed}
 use Rattle.fixing.specs.Seen.{lists_in}
 use Rattle.fixing.specs.declared.raw.RawGeometry.{RawGeometry}
 use Rattle.fixing.specs.declared.raw.RawGeometry.TheVariants as geometry
@@ -29,12 +28,10 @@ use Rattle.reading.proofs.Faultless.{under_none}
 use Rattle.decimal_maps.specs.Arrays.{ArrayMeans}
 use Rattle.decimal_maps.specs.Geometries.{AreLists, ArePositions, AreShapes, HasGeometries, IsGeometry, IsShape, IsSimple, kind_name, kind_of}
 use Rattle.decimal_maps.specs.Positions.{IsPosition}
-use Rattle.decimal_maps.specs.declared.kind.GeometryKind.{GeometryKind}
-use Rattle.decimal_maps.specs.declared.kind.GeometryKind.TheVariants as kind
 use Rattle.decimal_maps.specs.declared.rules.DecimalGrid.{DecimalGrid}
 use Rattle.decimal_maps.specs.declared.tally.Tally.{Tally}
 use Rattle.decimal_faults.specs.Geometries.{coordinates_faults, each_geometry_faults, form_faults, form_named, form_of, geometries_faults, geometries_in, geometry_faults, later, or_missing, point_faults, is_nothing}
-use Rattle.decimal_faults.specs.Outlines.{fault_as, outline_at_faults}
+use Rattle.decimal_faults.specs.Outlines.{outline_at_faults, unfixed_as}
 use Rattle.decimal_faults.specs.Parts.{list_faults, type_or_fault}
 use Rattle.decimal_faults.specs.Positions.{position_faults, positions_of}
 use Rattle.decimal_faults.specs.declared.geometry.GeometryForm.{GeometryForm}
@@ -46,21 +43,13 @@ use Rattle.decimal_faults.proofs.SoundPositions.{position_sound, positions_sound
 
 -- ---- types
 
-abbrev type_by : GeometryKind → GeometryType
-type_by kind.Point = of.Point
-type_by kind.MultiPoint = of.MultiPoint
-type_by kind.LineString = of.LineString
-type_by kind.MultiLineString = of.MultiLineString
-type_by kind.Polygon = of.Polygon
-type_by kind.MultiPolygon = of.MultiPolygon
-
-named_is : (k : GeometryKind) → form_named (kind_name k) ≡ Ok (Simple (type_by k))
-named_is kind.Point = refl
-named_is kind.MultiPoint = refl
-named_is kind.LineString = refl
-named_is kind.MultiLineString = refl
-named_is kind.Polygon = refl
-named_is kind.MultiPolygon = refl
+named_is : (k : GeometryType) → form_named (kind_name k) ≡ Ok (Simple k)
+named_is of.Point = refl
+named_is of.MultiPoint = refl
+named_is of.LineString = refl
+named_is of.MultiLineString = refl
+named_is of.Polygon = refl
+named_is of.MultiPolygon = refl
 
 form_is : (ms : Members) (s : List ℕ) → get (codes "type") (object ms) ≡ Some (string s) → form_of (object ms) ≡ form_named s
 form_is ms s e = ap (λ o. named form_named (type_or_fault o)) e
@@ -126,11 +115,11 @@ module _ (grid : DecimalGrid) (fixing : FixingRules) where
 module _ (grid : DecimalGrid) (fixing : FixingRules) (measured : IsMeasure grid.step) where
   -- ---- coordinates
 
-  outline_iff : (outline : Outline) (j : Json) (ps : List Pos) (a b : Tally) → ArrayMeans (IsPosition grid) j ps a b → (unfixed fixing (fault_as outline ps) ≡ None) ↔ (outline_at_faults grid fixing outline j ≡ [])
+  outline_iff : (outline : Outline) (j : Json) (ps : List Pos) (a b : Tally) → ArrayMeans (IsPosition grid) j ps a b → (unfixed_as fixing outline ps ≡ None) ↔ (outline_at_faults grid fixing outline j ≡ [])
   outline_iff outline j ps a b h =
       let is = positions_sound grid measured j ps a b h in
-      subst (λ qs. (unfixed fixing (fault_as outline ps) ≡ None) ↔ (unless_faulty qs (outline_faults (unfixed fixing (fault_as outline (positions_of grid.step j)))) ≡ [])) (sym is.0)
-      (subst (λ qs. (unfixed fixing (fault_as outline ps) ≡ None) ↔ (outline_faults (unfixed fixing (fault_as outline qs)) ≡ [])) (sym is.1) (no_fault (unfixed fixing (fault_as outline ps))))
+      subst (λ qs. (unfixed_as fixing outline ps ≡ None) ↔ (unless_faulty qs (outline_faults (unfixed_as fixing outline (positions_of grid.step j))) ≡ [])) (sym is.0)
+      (subst (λ qs. (unfixed_as fixing outline ps ≡ None) ↔ (outline_faults (unfixed_as fixing outline qs) ≡ [])) (sym is.1) (no_fault (unfixed_as fixing outline ps)))
 
   lines_iff : (j : Json) (ls : Vec (Vec Pos Global) Global) (a b : Tally) → AreLists grid j ls a b → AllByRecursion (IsFixableLine fixing) (lists_in ls.items) ↔ (list_faults (outline_at_faults grid fixing Line) j ≡ [])
   lines_iff j ls a b h = list_iff (ArePositions grid) (outline_at_faults grid fixing Line) (λ list. list.items) (IsFixableLine fixing) (λ k ps c d. outline_iff Line k ps.items c d) j ls.items a b h
@@ -141,7 +130,7 @@ module _ (grid : DecimalGrid) (fixing : FixingRules) (measured : IsMeasure grid.
   empty_sound : (j : Json) → j ≡ array no_items → point_faults grid j ≡ []
   empty_sound j e = subst (λ k. point_faults grid k ≡ []) (sym e) refl
 
-  shape_iff : (j : Json) (s : RawShape) (a b : Tally) → IsShape grid j s a b → IsFixable fixing (seen_shape s) ↔ (coordinates_faults grid fixing (type_by (kind_of s)) j ≡ [])
+  shape_iff : (j : Json) (s : RawShape) (a b : Tally) → IsShape grid j s a b → IsFixable fixing (seen_shape s) ↔ (coordinates_faults grid fixing (kind_of s) j ≡ [])
   shape_iff j raw.Null a b h = ((λ k. empty_sound j h.0), (λ k. tt))
   shape_iff j (raw.Point p) a b h = ((λ k. unless_none (position_faults grid) j (as_array j) (position_sound grid measured j p a b h).0), (λ k. tt))
   shape_iff j (raw.MultiPoint ps) a b h = ((λ k. (positions_sound grid measured j ps.items a b h).0), (λ k. tt))
@@ -159,7 +148,7 @@ module _ (grid : DecimalGrid) (fixing : FixingRules) (measured : IsMeasure grid.
   simple_iff (string t) s a b h = absurd (no_member _ h.kind)
   simple_iff (array js) s a b h = absurd (no_member _ h.kind)
   simple_iff (object ms) s a b h =
-      let k = type_by (kind_of s) in
+      let k = kind_of s in
       subst (λ ps. IsFixable fixing (seen_shape s) ↔ (ps ≡ [])) (sym (typed_is grid fixing ms (Simple k) (form_is ms (kind_name (kind_of s)) h.kind ∙ named_is (kind_of s))))
       (member_iff (codes "coordinates") (coordinates_faults grid fixing k) (object ms) h.coordinates h.member (shape_iff h.coordinates s a b h.shape))
 

@@ -1,7 +1,6 @@
 -- Maps that have no faults are those of which the fixing rules leave something of each feature.
-use Rattle.std.proofs.Common.{◌≡◌, ◌↔◌, ◌⊎◌, ℕ, List, [], ◌∷◌, ◌++◌, map, Bool, true, false, Option, Some, None, Ok, refl, sym, ap, subst, ◌∙◌, inl, inr, codes, is_some, IsSome}
-use Rattle.std.specs.List.{AllByRecursion}
-use Rattle.json.specs.Json.{Json, null, boolean, number, string, array, object, Members}
+use Rattle.std.proofs.Common.{◌≡◌, ◌↔◌, ℕ, List, [], ◌∷◌, Option, Some, None, Ok, refl, sym, ap, subst, ◌∙◌, inl, inr, codes}
+use Rattle.json.specs.Json.{Json, null, boolean, number, string, array, object}
 use Rattle.json.specs.Find.{get}
 use Rattle.faults.specs.Path.{name}
 use Rattle.faults.specs.Fault.{Pair}
@@ -16,13 +15,12 @@ use Rattle.numerals.specs.Numeral.{IsMeasure}
 use Rattle.attributes.specs.Refusals.{attributes_faults}
 use Rattle.reading.specs.Parts.{named, of_type, typed_faults}
 use Rattle.decimal_maps.specs.Features.{IsBareGeometry, IsFeature, or_null}
-use Rattle.decimal_maps.specs.Geometries.{IsGeometry, IsGeometryOrNull, IsSimple, kind_name, kind_of}
+use Rattle.decimal_maps.specs.Geometries.{IsGeometry, IsGeometryOrNull, kind_name, kind_of}
 use Rattle.decimal_maps.specs.Roots.{IsFeatureCollection, IsMap, IsOneFeature}
 use Rattle.decimal_maps.specs.Tally.{nothing_counted}
 use Rattle.decimal_maps.specs.declared.feature.RawFeature.{RawFeature}
-use Rattle.decimal_maps.specs.declared.kind.GeometryKind.{GeometryKind}
-use Rattle.decimal_maps.specs.declared.kind.GeometryKind.TheVariants as kind
-use Rattle.decimal_maps.specs.declared.rules.DecimalGrid.{DecimalGrid}
+use Rattle.reading.specs.declared.geometry.GeometryType.{GeometryType}
+use Rattle.reading.specs.declared.geometry.GeometryType.TheVariants as kind
 use Rattle.decimal_maps.specs.declared.rules.MapRules.{MapRules}
 use Rattle.decimal_maps.specs.declared.tally.Tally.{Tally}
 use Rattle.decimal_faults.specs.Geometries.{geometry_faults}
@@ -87,7 +85,7 @@ module _ (rules : MapRules) (fixing : FixingRules) (measured : IsMeasure rules.g
 
   -- ---- roots
 
-  root_named : (j : Json) (k : GeometryKind) → root_faults rules fixing j (Ok (kind_name k)) ≡ geometry_faults rules.grid fixing j
+  root_named : (j : Json) (k : GeometryType) → root_faults rules fixing j (Ok (kind_name k)) ≡ geometry_faults rules.grid fixing j
   root_named j kind.Point = refl
   root_named j kind.MultiPoint = refl
   root_named j kind.LineString = refl

@@ -1,5 +1,5 @@
 -- What has a meaning as positions has no faults, and the positions are those.
-use Rattle.std.proofs.Common.{◌≡◌, ◌≤◌, ℕ, ◌+◌, ℤ, List, [], ◌∷◌, ◌++◌, true, false, not, refl, sym, ap, ap₂, ◌∙◌, unsigned_abs, if◌then◌else◌}
+use Rattle.std.proofs.Common.{◌≡◌, ℕ, ◌+◌, ℤ, List, [], ◌∷◌, ◌++◌, true, not, refl, sym, ap, ap₂, ◌∙◌}
 use Rattle.json.specs.Json.{Json, null, boolean, number, string, array, object, Items, no_items, item}
 use Rattle.faults.specs.Path.{index}
 use Rattle.grid.specs.Fits.{x_of, y_of}
@@ -15,7 +15,7 @@ use Rattle.decimal_maps.specs.Tally.{with_height}
 use Rattle.decimal_maps.specs.declared.rules.DecimalGrid.{DecimalGrid}
 use Rattle.decimal_maps.specs.declared.tally.Tally.{Tally}
 use Rattle.decimal_faults.specs.Parts.{each_faults, list_faults}
-use Rattle.decimal_faults.specs.Positions.{both_faults, coordinate_faults, each_position, height_faults, may_have, numbers_faults, position_faults, position_in, position_of, positions_of, whole_of}
+use Rattle.decimal_faults.specs.Positions.{both_faults, coordinate_faults, each_position, height_faults, may_have, numbers_faults, position_faults, position_of, positions_of, whole_of}
 use Rattle.decimal_faults.proofs.Numbers.{number_sound, snapped}
 
 module _ (grid : DecimalGrid) (measured : IsMeasure grid.step) where

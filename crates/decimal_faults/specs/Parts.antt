@@ -1,7 +1,7 @@
 -- Faults of arrays, objects and members of JSON, by the faults of their parts.
-use Rattle.std.specs.Prelude.{ℕ, ◌+◌, List, [], ◌++◌, Option, Some, None, Result, Ok, Err, codes, if◌then◌else◌}
+use Rattle.std.specs.Prelude.{ℕ, ◌+◌, List, [], ◌++◌, Option, Some, None, Result, Err, codes, if◌then◌else◌}
 use Rattle.json.specs.Json.{Json, Items, no_items, item, Members}
-use Rattle.json.specs.Find.{get, is_null, as_str, as_array, as_number}
+use Rattle.json.specs.Find.{get, is_null, as_str, as_array}
 use Rattle.faults.specs.Path.{name, index}
 use Rattle.faults.specs.Fault.{Pair}
 use Rattle.faults.specs.declared.fault.FaultKind.{FaultKind}

@@ -1,8 +1,7 @@
 //! Lists of positions that are to be lines or rings.
-ghost use Rattle.decimal_faults.specs.Outlines.{fault_as, outline_at_faults};
+ghost use Rattle.decimal_faults.specs.Outlines.{outline_at_faults, unfixed_as};
 ghost use Rattle.decimal_maps.specs.Arrays.{ArrayMeans};
 ghost use Rattle.decimal_maps.specs.Positions.{IsPosition};
-ghost use Rattle.fixing.specs.Left.{unfixed as unfixed_of};
 ghost use Rattle.reading.specs.FaultLists.Found.{pairs_of};
 ghost use Rattle.reading.specs.Outlines.{outline_faults, outline_kind};
 ghost use Rattle.std.specs.Prelude.{◌≡◌, IfOk};
@@ -23,7 +22,7 @@ use std::alloc::Global;
 #[derive(Clone, Copy, PartialEq, Eq, Debug)]
 pub enum Outline {
     Line,
-    /// The closed list of a ring's positions.
+    /// A ring, whose list ends with its first position unless it is open.
     Ring,
 }
 
@@ -34,7 +33,7 @@ fn find_unfixed(
     positions: Vec<Pos>,
     fixing: &FixingRules,
 ) -> Result<Option<ShapeFault>, OutOfMemory>
-    ensures { IfOk result (λ fault. fault ≡ unfixed_of fixing.now (fault_as outline positions.items)) }
+    ensures { IfOk result (λ fault. fault ≡ unfixed_as fixing.now outline positions.items) }
 {
     match outline {
         Outline::Line => unfixed_line(alloc, positions, fixing),
@@ -64,7 +63,7 @@ pub fn judge_outline(
     positions: Vec<Pos>,
     fixing: &FixingRules,
 ) -> Result<Vec<Fault>, OutOfMemory>
-    ensures { IfOk result (λ fs. pairs_of fs.items ≡ outline_faults (unfixed_of fixing.now (fault_as outline positions.items))) }
+    ensures { IfOk result (λ fs. pairs_of fs.items ≡ outline_faults (unfixed_as fixing.now outline positions.items)) }
 {
     match find_unfixed(alloc, outline, positions, fixing)? {
         None => Ok(Vec::new(alloc)),

@@ -1,55 +1,23 @@
 //! Positions of decimal numerals.
 ghost use Rattle.decimal_faults.specs.Parts.{each_faults};
 ghost use Rattle.decimal_faults.specs.Positions.{both_faults, coordinate_faults, height_faults, may_have, numbers_faults, position_faults};
-ghost use Rattle.decimal_maps.specs.Positions.{AreCoordinates, AreHeights, IsCoordinate, IsPosition};
-ghost use Rattle.decimal_maps.specs.Tally.{distance_from_grid};
+ghost use Rattle.decimal_maps.specs.Positions.{AreCoordinates, AreHeights, IsPosition};
 ghost use Rattle.fixing.specs.declared.rules.FixingRules.{FixingRules as Rules};
-ghost use Rattle.grid.specs.Place.{IsGridNumber};
 ghost use Rattle.json.specs.Value.{value_view, items_view};
-ghost use Rattle.reading.specs.Fault.{here};
 ghost use Rattle.reading.specs.FaultLists.Found.{pairs_of};
-ghost use Rattle.std.specs.Prelude.{◌≡◌, ◌≢◌, ◌≤◌, [], drop, length, IfErr, IfOk, OnOk, IsTrue, Err};
+ghost use Rattle.std.specs.Prelude.{◌≡◌, ◌≢◌, ◌≤◌, [], drop, length, IfOk, OnOk, IsTrue, Err};
 
 use crate::lists::items_of;
 use crate::part::Part;
+use decimal_maps::position::{coordinate_of, position_of};
 use decimal_maps::{DecimalGrid, Stop, Tally};
 use faults::OutOfMemory;
 use faults::fault::{Fault, FaultKind};
 use fixing::FixingRules;
 use grid::Pos;
 use json::Value;
-use numerals::{distance, snap};
 use reading::fault_lists::found::{join, one, put_under_index};
 use std::alloc::Global;
-
-// The nearest whole number of steps, at most so far from 0, with how far it is, or the kind of the value's fault.
-fn coordinate_of(
-    grid: &DecimalGrid,
-    greatest: u64,
-    value: &Value<'_>,
-) -> Result<(i64, u64), FaultKind>
-    ensures found { IfOk result (λ n. IsCoordinate grid.now greatest (value_view value.now) n.0 × IsGridNumber n.0) }
-    ensures far { IfOk result (λ n. n.1 ≡ distance_from_grid grid.now (value_view value.now)) }
-    ensures faultless { OnOk result (coordinate_faults grid.now.step greatest (value_view value.now) ≡ []) }
-    ensures refused { IfErr result (λ k. coordinate_faults grid.now.step greatest (value_view value.now) ≡ here k) }
-{
-    let _size = grid.step.size();
-    let Some(text) = value.as_number() else {
-        return Err(FaultKind::WrongKind);
-    };
-    let Some(n) = snap(text.as_bytes(), &grid.step) else {
-        return Err(FaultKind::OutOfRange);
-    };
-    if n.unsigned_abs() > greatest {
-        return Err(FaultKind::OutOfRange);
-    }
-    let far = if grid.measures {
-        distance(text.as_bytes(), &grid.step)
-    } else {
-        0
-    };
-    Ok((n, far))
-}
 
 // The fault of one of the first two numbers of a position.
 fn judge_coordinate(
@@ -60,9 +28,13 @@ fn judge_coordinate(
 ) -> Result<Vec<Fault>, OutOfMemory>
     ensures { IfOk result (λ fs. pairs_of fs.items ≡ coordinate_faults grid.now.step greatest (value_view value.now)) }
 {
-    match coordinate_of(grid, greatest, value) {
-        Ok(_) => Ok(Vec::new(alloc)),
-        Err(kind) => { Ok(one(alloc, kind)?) }
+    let _size = grid.step.size();
+    let Some(text) = value.as_number() else {
+        return Ok(one(alloc, FaultKind::WrongKind)?);
+    };
+    match coordinate_of(grid, greatest, text) {
+        Some(_) => Ok(Vec::new(alloc)),
+        None => { Ok(one(alloc, FaultKind::OutOfRange)?) }
     }
 }
 
@@ -147,26 +119,24 @@ fn count_heights(grid: &DecimalGrid, values: &[Value<'_>], tally: &mut Tally) ->
     Ok(())
 }
 
-// The position nearest to the first two numbers, which is counted.
-fn position_of(grid: &DecimalGrid, values: &[Value<'_>], tally: &mut Tally) -> Result<Pos, Stop>
+// The position nearest to the first two numbers, which is counted with its heights.
+fn make_position(grid: &DecimalGrid, values: &[Value<'_>], tally: &mut Tally) -> Result<Pos, Stop>
     ensures made { IfOk result (λ p. AreCoordinates grid.now (items_view values.now) p tally.old tally.new) }
     ensures refused { result ≡ Err Stop.Unread → numbers_faults grid.now (items_view values.now) ≢ [] }
 {
+    let _size = grid.step.size();
     if !has_numbers(grid, values) {
         return Err(Stop::Unread);
     }
-    let Ok((x, far_x)) = coordinate_of(grid, grid.greatest_x, &values[0]) else {
+    let Some(x) = values[0].as_number() else {
         return Err(Stop::Unread);
     };
-    let Ok((y, far_y)) = coordinate_of(grid, grid.greatest_y, &values[1]) else {
+    let Some(y) = values[1].as_number() else {
         return Err(Stop::Unread);
     };
-    tally.add_position(far_x.max(far_y));
+    let position = position_of(grid, x, y, tally)?;
     count_heights(grid, values, tally)?;
-    match Pos::new(x, y) {
-        Some(position) => Ok(position),
-        None => unreachable!(),
-    }
+    Ok(position)
 }
 
 impl Part for DecimalGrid {
@@ -192,7 +162,7 @@ impl Part for DecimalGrid {
 
     fn make(&self, _alloc: Global, value: &Value<'_>, count: &mut Tally) -> Result<Pos, Stop> {
         match items_of(value) {
-            Some(items) => position_of(self, items, count),
+            Some(items) => make_position(self, items, count),
             None => Err(Stop::Unread),
         }
     }

@@ -1,5 +1,5 @@
 -- Positions of tokens.
-use Rattle.std.proofs.Common.{◌≡◌, ◌↔◌, ℕ, ℤ, Option, Some, None, true, false, if◌then◌else◌, max, to_z, of_z, w64, unsigned_abs, ◌-◌, ◌<◌, ◌≤◌, List, ◌∷◌, length, refl, sym, ap, ◌∙◌, subst, arith}
+use Rattle.std.proofs.Common.{◌≡◌, ◌↔◌, ℕ, ℤ, Option, Some, None, false, if◌then◌else◌, max, to_z, of_z, w64, unsigned_abs, ◌-◌, ◌<◌, ◌≤◌, List, ◌∷◌, length, refl, sym, ap, ◌∙◌, subst, arith}
 use Rattle.std.proofs.lemmas.Int.{ints, fits_signed_from_abs, to_z-of_z}
 use Rattle.json.specs.Token.{Token, begin_array}
 use Rattle.json.specs.Json.{number, array, Items, no_items, item, value, parse_map, after_end_array}

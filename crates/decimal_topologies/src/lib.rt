@@ -5,6 +5,14 @@
 #![tactic(auto)]
 
 // mod arcs;
-// mod places;
-// mod transform;
+mod bodies;
+mod feature;
+mod geometry;
+mod numbers;
+pub mod objects;
 pub mod place;
+mod places;
+mod stitching;
+// mod transform;
+
+pub use objects::TopologyLayer;

@@ -1,4 +1,4 @@
-use Rattle.std.proofs.Common.{◌≡◌, ◌<◌, ◌≤◌, Some, None, unsigned_abs, ap, sym, arith, if◌then◌else◌}
+use Rattle.std.proofs.Common.{◌≡◌, Some, None, unsigned_abs, ap, sym, arith, if◌then◌else◌}
 use Rattle.decimal_maps.proofs.Placing.{none_found, number_reads, one_found, too_far}
 use Rattle.decimal_maps.proofs.position.coordinate_of.Goals as goal
 

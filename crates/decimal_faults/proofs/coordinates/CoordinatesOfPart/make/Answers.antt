@@ -5,7 +5,6 @@ use Rattle.decimal_maps.specs.declared.from_tokens.Stop.TheVariants.{Unread}
 use Rattle.decimal_faults.specs.Geometries.{coordinates_faults}
 use Rattle.decimal_faults.specs.Outlines.{outline_at_faults}
 use Rattle.decimal_faults.specs.Parts.{list_faults}
-use Rattle.decimal_faults.specs.Shapes.{kind_by}
 use Rattle.decimal_faults.specs.declared.outline.Outline.TheVariants.{Line, Ring}
 use Rattle.decimal_faults.proofs.coordinates.CoordinatesOfPart.make.Goals as goal
 
@@ -16,7 +15,7 @@ returns-in-Err-clause-refused c = λ e fixing.
 
 pub returns-in-Ok-make-clause-made : goal.returns-in-Ok-make-clause-made
 returns-in-Ok-make-clause-made c = (
-  ap kind_by (sym c.in-LineString.is),
+  sym c.in-LineString.is,
   subst (λ g. ArePositions g (value_view c.args.value.now) c.in-Ok-make.made c.args.count.now c.make-in-LineString.new.count) c.lists-of.ensures.grid c.in-Ok-make.ensures.made,
 )
 
@@ -31,7 +30,7 @@ returns-in-Err-make-clause-refused c = λ e fixing.
 
 pub returns-in-Ok-make-2-clause-made : goal.returns-in-Ok-make-2-clause-made
 returns-in-Ok-make-2-clause-made c = (
-  ap kind_by (sym c.in-MultiLineString.is),
+  sym c.in-MultiLineString.is,
   subst (λ g. AreLists g (value_view c.args.value.now) c.in-Ok-make-2.made c.args.count.now c.make-in-MultiLineString.new.count) c.lists-of-in-MultiLineString.ensures.grid c.in-Ok-make-2.ensures.made,
 )
 
@@ -46,7 +45,7 @@ returns-in-Err-make-2-clause-refused c = λ e fixing.
 
 pub returns-in-Ok-make-3-clause-made : goal.returns-in-Ok-make-3-clause-made
 returns-in-Ok-make-3-clause-made c = (
-  ap kind_by (sym c.in-Polygon.is),
+  sym c.in-Polygon.is,
   subst (λ g. AreLists g (value_view c.args.value.now) c.in-Ok-make-3.made c.args.count.now c.make-in-Polygon.new.count) c.lists-of-in-Polygon.ensures.grid c.in-Ok-make-3.ensures.made,
 )
 
@@ -61,7 +60,7 @@ returns-in-Err-make-3-clause-refused c = λ e fixing.
 
 pub returns-in-Ok-make-4-clause-made : goal.returns-in-Ok-make-4-clause-made
 returns-in-Ok-make-4-clause-made c = (
-  ap kind_by (sym c.in-MultiPolygon.is),
+  sym c.in-MultiPolygon.is,
   subst (λ g. AreGroups g (value_view c.args.value.now) c.in-Ok-make-4.made c.args.count.now c.make-in-MultiPolygon.new.count) c.lists.ensures.grid c.in-Ok-make-4.ensures.made,
 )
 

@@ -1,0 +1,31 @@
+-- Arcs of the table, and the places along them.
+use Rattle.std.proofs.Common.{◌≡◌, ℕ, ◌+◌, ◌-◌, ◌<◌, ◌≤◌, suc, zero, Bool, true, false, length, get_or, drop, reverse, map, List, [], ◌∷◌, ◌++◌, Option, Some, None, option_map, slice_get, Vec, refl, sym, ap, ◌∙◌, subst, arith, add-one}
+use Rattle.std.proofs.lemmas.List.{drop_more, get_or-reverse, length-map, length-reverse}
+use Rattle.std.proofs.lemmas.Option.{get_or_from_slice_get, slice_get-get_or, slice_get-map, slice_get_past, slice_get_within}
+use Rattle.std.specs.declared.alloc.Global.{Global}
+use Rattle.decimal_topologies.specs.Seen.{seen_arcs}
+use Rattle.decimal_topologies.specs.Stitching.{directed}
+use Rattle.decimal_topologies.specs.declared.place.Place.{Place}
+
+-- a table of arcs
+abbrev pub Table : Type 0
+Table = List (Option (Vec Place Global))
+
+pub seen-length : (ts : Table) → length (seen_arcs ts) ≡ length ts
+seen-length ts = length-map ts _
+
+pub directed-length : (b : Bool) (ps : List Place) → length (directed b ps) ≡ length ps
+directed-length false ps = refl
+directed-length true ps = length-reverse ps
+
+-- the place of an index, backwards
+pub backwards_at : (ps : List Place) (i : ℕ) (p : Place) → i < length ps → p ≡ get_or ps (length ps - 1 - i) p → slice_get (reverse ps) i ≡ Some p
+backwards_at ps i p less is =
+    slice_get-get_or (reverse ps) i p (omega (arith, length-reverse ps)) ∙ ap Some (get_or-reverse ps i p less ∙ sym is)
+
+pub forwards_at : (ps : List Place) (i : ℕ) (p : Place) → i < length ps → p ≡ get_or ps i p → slice_get ps i ≡ Some p
+forwards_at ps i p less is = slice_get-get_or ps i p less ∙ ap Some (sym is)
+
+-- the places from an index on begin with that one
+pub dropped : (ps : List Place) (i : ℕ) (p : Place) → slice_get ps i ≡ Some p → drop i ps ≡ p ∷ drop (i + 1) ps
+dropped ps i p is = drop_more ps i p (slice_get_within ps i p is) ∙ ap (λ q. q ∷ drop (i + 1) ps) (get_or_from_slice_get ps i p p is)
