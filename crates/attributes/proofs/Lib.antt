@@ -7,3 +7,5 @@ pub mod Loops
 pub mod Judging
 pub mod Order
 pub mod Same
+pub mod Printing
+pub mod Gathering

@@ -1,5 +1,5 @@
 -- The whole numbers that numerals are worth.
-use Rattle.std.proofs.Common.{◌≡◌, ℕ, zero, suc, ◌+◌, ◌*◌, ◌/◌, ◌%◌, ◌^◌, ◌<◌, Bool, true, false, cond, not, ◌&&◌, ◌==◌, ℤ, pos, negsuc, ◌*ℤ◌, ◌↔◌, List, [], length, Option, Some, None, inl, inr, refl, sym, ap, ◌∙◌, arith, eq-eqb, lt-ltb, true≢false}
+use Rattle.std.proofs.Common.{◌≡◌, ℕ, zero, suc, ◌*◌, ◌/◌, ◌%◌, ◌^◌, ◌<◌, Bool, true, false, cond, not, ◌&&◌, ◌==◌, ℤ, pos, negsuc, ◌*ℤ◌, ◌↔◌, List, [], length, Option, Some, None, inl, inr, refl, sym, ap, ◌∙◌, arith, eq-eqb, lt-ltb, true≢false}
 use Rattle.std.proofs.Math.Nat.{mul-div_cancel, mul-mod_left}
 use Rattle.std.proofs.lemmas.Bool.{and_from, and_parts, cases_Bool, eqb-true, leb-true, ltb-true, not-true}
 use Rattle.std.proofs.lemmas.Int.{ints, unsigned_abs-mul}
@@ -14,7 +14,7 @@ use Rattle.numerals.specs.Numeral.{AreEqual, IsNumeral, denominator, numerator, 
 use Rattle.numerals.specs.Whole.{IsWhole, is_numeral}
 use Rattle.numerals.proofs.Nearest.{below_times}
 use Rattle.numerals.proofs.Shortness.{none_left}
-use Rattle.numerals.proofs.Steps.{sign_times}
+use Rattle.numerals.proofs.Steps.{sign_times, size_of_sign}
 use Rattle.reading.specs.Plain as plain
 use Rattle.serde_json.specs.Data.{Num, float, negative, number, unsigned}
 use Rattle.serde_json.specs.Find.{as_i64}
@@ -24,10 +24,6 @@ use Rattle.attributes.specs.Laws.{EqualNumeralsAreOneId, EqualNumeralsAreOneNumb
 use Rattle.attributes.specs.Numerals.{in_64_bits, integer_of, number_or_text, number_value, spelled, whole}
 use Rattle.attributes.specs.declared.rules.Reals.TheVariants.{Whole}
 use Rattle.attributes.proofs.Scaling.{numeral_from, numeral_is}
-
-size_of_sign : (m : Bool) (n : ℕ) → unsigned_abs (with_sign m n) ≡ n
-size_of_sign false n = refl
-size_of_sign true n = omega (arith, ints)
 
 same_size : (a b d : ℕ) → 0 < d → a * d ≡ b * d → a ≡ b
 same_size a b d some e = sym (mul-div_cancel a some) ∙ ap (λ n. n / d) e ∙ mul-div_cancel b some

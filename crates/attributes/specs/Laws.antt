@@ -1,5 +1,5 @@
 -- What holds of values, of scaled numbers, and of faults.
-use Rattle.std.specs.Prelude.{◌≡◌, ◌↔◌, ℕ, ℤ, pos, ◌*ℤ◌, false, List, Option, Some}
+use Rattle.std.specs.Prelude.{◌≡◌, ◌↔◌, ℕ, ℤ, pos, ◌*ℤ◌, false, List, [], Option, Some}
 use Rattle.grid.specs.Place.{IsGridNumber}
 use Rattle.json.specs.Json as json
 use Rattle.json.specs.Json.{Json}
@@ -10,7 +10,10 @@ use Rattle.reading.specs.Plain as plain
 use Rattle.serde_json.specs.Data.{Data, Num, number}
 use Rattle.serde_json.specs.Read.{of_json}
 use Rattle.serde_json.specs.Written.{has_float}
+use Rattle.shapes.specs.Parts.{properties_text}
+use Rattle.shapes.specs.declared.props.Props.{Props}
 use Rattle.attributes.specs.Attributes.{id_of}
+use Rattle.attributes.specs.Back.{properties_back}
 use Rattle.attributes.specs.Numerals.{integer_of, scaled}
 use Rattle.attributes.specs.Refusals.{attributes_faults}
 use Rattle.attributes.specs.Values.{data_of}
@@ -48,3 +51,7 @@ ScaledIsNearest = (places : ℕ) (text : List ℕ) (p : ℤ) → (scaled places 
 -- faults are listed by their paths and numbers, each once
 abbrev pub FaultsAscend : Type 0
 FaultsAscend = (r : AttributeRules) (i p : Option Json) → IsAscending (attributes_faults r i p)
+
+-- where no member is a column of numbers, and none was scaled, properties are printed as they are
+abbrev pub PropertiesStayBack : Type 0
+PropertiesStayBack = (p : Props) → properties_back (λ _. false) [] (properties_text p) ≡ properties_text p

@@ -1,5 +1,5 @@
 //! What holds of definitions, as contracts of functions that do nothing.
-ghost use Rattle.attributes.specs.Laws.{EqualNumeralsAreOneId, EqualNumeralsAreOneNumber, FaultsAscend, IntegersAreWorth, ReadWholeValuesStay, ScaledIsNearest, WholeValuesStay};
+ghost use Rattle.attributes.specs.Laws.{EqualNumeralsAreOneId, EqualNumeralsAreOneNumber, FaultsAscend, IntegersAreWorth, PropertiesStayBack, ReadWholeValuesStay, ScaledIsNearest, WholeValuesStay};
 
 /// A value whose numbers are whole is the one that `serde_json` reads.
 pub fn whole_values_stay()
@@ -27,4 +27,9 @@ pub fn scaled_is_nearest()
 /// The faults of ids and properties are in ascending order, each once.
 pub fn faults_ascend()
     ensures { FaultsAscend }
+{}
+
+/// Without columns of numbers and scaled members, the way back prints properties as they are.
+pub fn properties_stay_back()
+    ensures { PropertiesStayBack }
 {}

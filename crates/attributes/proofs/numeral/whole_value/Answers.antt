@@ -1,4 +1,4 @@
-use Rattle.std.proofs.Common.{◌≡◌, Some, None, sym, ap, ◌∙◌, subst}
+use Rattle.std.proofs.Common.{sym, ◌∙◌, subst}
 use Rattle.numerals.specs.Whole.{IsWhole}
 use Rattle.attributes.proofs.Worth.{worth_found, worth_none}
 use Rattle.attributes.proofs.numeral.whole_value.Goals as goal
