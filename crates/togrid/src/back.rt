@@ -28,19 +28,19 @@ pub(crate) struct BackOptions<'a> {
     scales: Vec<Scale<'a>>,
     /// The topology whose transform is taken.
     like: Option<&'a str>,
-    /// How many numbers there are along an axis.
-    count: Option<u64>,
+    /// How many steps a side of the bounding box has.
+    steps: Option<u64>,
     output: Option<&'a str>,
 }
 
-/// How many numbers there are along an axis: 2 to 2^40.
-fn count_of<'a>(word: Option<&'a str>) -> Result<Option<u64>, Refusal<'a>> {
+/// How many steps a side of the bounding box has: one less than there are numbers along it, which are 2 to 2^40.
+fn steps_of<'a>(word: Option<&'a str>) -> Result<Option<u64>, Refusal<'a>> {
     let Some(word) = word else {
         return Ok(None);
     };
     match word.parse::<u64>() {
         Ok(count) => if count >= 2 && count <= GREATEST_GRID_NUMBER as u64 {
-            Ok(Some(count))
+            Ok(Some(count - 1))
         } else {
             Err(Refusal::Usage(Usage::BadQuantize(word)))
         },
@@ -71,7 +71,7 @@ pub(crate) fn back_options_of<'a>(
         rewind: rewind_of(found, Rewind::D3),
         scales: scales_of(alloc, found.get_strs("reals").unwrap_or(&[]))?,
         like: found.get_str("like"),
-        count: count_of(found.get_str("quantize"))?,
+        steps: steps_of(found.get_str("quantize"))?,
         output: found.get_str("output"),
     })
 }
@@ -131,9 +131,6 @@ fn refuse_back<'a>(
 ) -> Refusal<'a> {
     match fault {
         DecimalFault::TooManyDigits => Refusal::Usage(Usage::BadUnit(options.unit_word)),
-        DecimalFault::OutOfRange => {
-            Refusal::of_text(file, Fault::here(alloc, FaultKind::OutOfRange))
-        }
         DecimalFault::OutOfMemory => Refusal::OutOfMemory,
     }
 }
@@ -145,13 +142,14 @@ fn back_text(
     topology: &Topology,
     like: Option<DecimalTransform>,
 ) -> Result<Vec<u8>, DecimalFault> {
-    let other = match (like, options.count) {
+    // `steps_of` gives one step at least.
+    let other = match (like, options.steps) {
         (Some(like), _) => Some(like),
-        (None, Some(count)) => Some(DecimalTransform::of_box(
+        (None, Some(steps)) => Some(DecimalTransform::of_box(
             alloc,
             topology,
             &options.unit,
-            count,
+            steps.max(1),
         )?),
         (None, None) => None,
     };

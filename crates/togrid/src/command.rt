@@ -96,6 +96,7 @@ fn finish<'m, F: Files, O: Sink, E: Sink>(
     let layers = layers_of(alloc, sources, rounded)?;
     check_layers(alloc, options, layers.as_slice())?;
     let absent = made.absent(alloc, options)?;
+    let columns = made.columns(alloc, options, rounded)?;
     let reports = Reports::of(
         alloc,
         &Report {
@@ -103,6 +104,7 @@ fn finish<'m, F: Files, O: Sink, E: Sink>(
             layers: layers.as_slice(),
             rounded,
             absent: absent.as_slice(),
+            columns: &columns,
         },
     )?;
     if !options.target.is_standard() {

@@ -3,6 +3,8 @@
 
 mod all_faults;
 mod back;
+mod back_words;
+mod columns;
 mod command;
 mod layers;
 mod made;
