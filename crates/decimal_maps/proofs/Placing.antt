@@ -1,5 +1,5 @@
 -- Positions of tokens.
-use Rattle.std.proofs.Common.{◌≡◌, ◌↔◌, ℕ, ℤ, Option, Some, None, false, if◌then◌else◌, max, to_z, of_z, w64, unsigned_abs, ◌-◌, ◌<◌, ◌≤◌, List, ◌∷◌, length, refl, sym, ap, ◌∙◌, subst, arith}
+use Rattle.std.proofs.Common.{◌≡◌, ◌↔◌, ℕ, ℤ, Option, Some, None, true, false, if◌then◌else◌, max, to_z, of_z, w64, unsigned_abs, ◌-◌, ◌<◌, ◌≤◌, List, ◌∷◌, length, refl, sym, ap, ◌∙◌, subst, arith}
 use Rattle.std.proofs.lemmas.Int.{ints, fits_signed_from_abs, to_z-of_z}
 use Rattle.json.specs.Token.{Token, begin_array}
 use Rattle.json.specs.Json.{number, array, Items, no_items, item, value, parse_map, after_end_array}
@@ -80,28 +80,63 @@ parted p n d e is = (ap first is, ap second is)
 none_is : (n : ℤ) (e : ℕ) → ◌≡◌ {A = Option (ℤ × ℕ)} None (Some (n, e)) → ⊥
 none_is n e is = cc
 
-module _ (grid : DecimalGrid) (greatest : ℕ) (b t : List ℕ) (r : Option (ℤ × ℕ)) (is : b ≡ t)
-    (snaps : (p : ℤ) (d : ℕ) → (r ≡ Some (p, d)) ↔ (IsNumeral b × IsSnapped grid.step b p × IsGridNumber p × (d ≡ distance_of grid.step b))) where
-  snaps_to : (n : ℤ) (far : ℕ) → IsFound grid greatest t n far → r ≡ Some (n, distance_of grid.step b)
-  snaps_to n far h = (snaps n (distance_of grid.step b)).1 (subst IsNumeral (sym is) h.0.2, subst (λ u. IsSnapped grid.step u n) (sym is) h.0.0, h.1, refl)
+-- a result that says to which number the numeral is nearest
+abbrev pub SaysNear : DecimalGrid → List ℕ → Option (ℤ × ℕ) → Type 0
+SaysNear grid t r = (n : ℤ) (far : ℕ) → (r ≡ Some (n, far)) ↔ (IsNumeral t × IsSnapped grid.step t n × IsGridNumber n × (far ≡ distance_from_grid grid (number t)))
+
+one_some : (p n : ℤ) → ◌≡◌ {A = Option ℤ} (Some p) (Some n) → p ≡ n
+one_some p n is = ap it is
+  where
+    it : Option ℤ → ℤ
+    it None = p
+    it (Some x) = x
+
+module _ (grid : DecimalGrid) (b t : List ℕ) (is : b ≡ t) where
+  numeral : IsNumeral t → IsNumeral b
+  numeral h = subst IsNumeral (sym is) h
+
+  snapped_there : (n : ℤ) → IsSnapped grid.step t n → IsSnapped grid.step b n
+  snapped_there n h = subst (λ u. IsSnapped grid.step u n) (sym is) h
+
+  pub near_measured : (r : Option (ℤ × ℕ)) → ((p : ℤ) (d : ℕ) → (r ≡ Some (p, d)) ↔ (IsNumeral b × IsSnapped grid.step b p × IsGridNumber p × (d ≡ distance_of grid.step b))) → grid.measures ≡ true → SaysNear grid t r
+  near_measured r snaps on n far =
+      let same : distance_of grid.step b ≡ distance_from_grid grid (number t) = ap (distance_of grid.step) is ∙ sym (ap (λ v. if v then distance_of grid.step t else 0) on) in (
+        (λ k. let s = (snaps n far).0 k in (subst IsNumeral is s.0, subst (λ u. IsSnapped grid.step u n) is s.1, s.2, s.3 ∙ same)),
+        (λ h. (snaps n far).1 (numeral h.0, snapped_there n h.1, h.2, h.3 ∙ sym same)),
+      )
+
+  module _ (r : Option ℤ) (snaps : (p : ℤ) → (r ≡ Some p) ↔ (IsNumeral b × IsSnapped grid.step b p × IsGridNumber p)) where
+    pub near_unmeasured : grid.measures ≡ false → (p q : ℤ) → r ≡ Some p → q ≡ p → SaysNear grid t (Some (q, 0))
+    near_unmeasured off p q found same n far =
+        let nothing : 0 ≡ distance_from_grid grid (number t) = sym (ap (λ v. if v then distance_of grid.step t else 0) off) in (
+          (λ k.
+              let of = parted q n 0 far k in
+              let s = (snaps n).0 (found ∙ ap Some (sym same ∙ of.0)) in
+              (subst IsNumeral is s.0, subst (λ u. IsSnapped grid.step u n) is s.1, s.2, sym of.1 ∙ nothing)),
+          (λ h.
+              let there : p ≡ n = one_some p n (sym found ∙ (snaps n).1 (numeral h.0, snapped_there n h.1, h.2)) in
+              λ i. Some ((same ∙ there) i, (nothing ∙ sym h.3) i)),
+        )
+
+module _ (grid : DecimalGrid) (greatest : ℕ) (t : List ℕ) (r : Option (ℤ × ℕ)) (near : SaysNear grid t r) where
+  near_to : (n : ℤ) (far : ℕ) → IsFound grid greatest t n far → r ≡ Some (n, far)
+  near_to n far h = (near n far).1 (h.0.2, h.0.0, h.1, h.2)
 
   pub none_found : r ≡ None → (q : Option (ℤ × ℕ)) → q ≡ None → Says grid greatest t q
-  none_found e q f n far = ((λ k. absurd (none_is n far (sym f ∙ k))), (λ h. absurd (none_is n (distance_of grid.step b) (sym e ∙ snaps_to n far h))))
+  none_found e q f n far = ((λ k. absurd (none_is n far (sym f ∙ k))), (λ h. absurd (none_is n far (sym e ∙ near_to n far h))))
 
-  module _ (p : ℤ) (d : ℕ) (snapped : r ≡ Some (p, d)) where
-    same_snapped : (n : ℤ) (far : ℕ) → IsFound grid greatest t n far → (p ≡ n) × (d ≡ distance_of grid.step b)
-    same_snapped n far h = parted p n d (distance_of grid.step b) (sym snapped ∙ snaps_to n far h)
+  module _ (p : ℤ) (d : ℕ) (found : r ≡ Some (p, d)) where
+    same_found : (n : ℤ) (far : ℕ) → IsFound grid greatest t n far → (p ≡ n) × (d ≡ far)
+    same_found n far h = parted p n d far (sym found ∙ near_to n far h)
 
     pub too_far : greatest < unsigned_abs p → Says grid greatest t None
-    too_far beyond n far = ((λ k. absurd (none_is n far k)), (λ h. absurd (omega (arith, ap unsigned_abs (same_snapped n far h).0, h.0.1, beyond))))
+    too_far beyond n far = ((λ k. absurd (none_is n far k)), (λ h. absurd (omega (arith, ap unsigned_abs (same_found n far h).0, h.0.1, beyond))))
 
-    pub one_found : unsigned_abs p ≤ greatest → (q : ℤ) (off : ℕ) → q ≡ p → off ≡ (if grid.measures then d else 0) → Says grid greatest t (Some (q, off))
-    one_found within q off same measured n far =
-        let s = (snaps p d).0 snapped in
-        let away : off ≡ distance_from_grid grid (number t) = measured ∙ ap (λ e. if grid.measures then e else 0) (s.3 ∙ ap (distance_of grid.step) is) in (
+    pub one_found : unsigned_abs p ≤ greatest → (q : ℤ) → q ≡ p → Says grid greatest t (Some (q, d))
+    one_found within q same n far =
+        let s = (near p d).0 found in (
           (λ k.
-              let of = parted q n off far k in
-              subst (λ m. IsFound grid greatest t m far) (sym same ∙ of.0)
-              ((subst (λ u. IsSnapped grid.step u p) is s.1, within, subst IsNumeral is s.0), s.2, sym of.1 ∙ away)),
-          (λ h. λ i. Some ((same ∙ (same_snapped n far h).0) i, (away ∙ sym h.2) i)),
+              let of = parted q n d far k in
+              subst (λ m. IsFound grid greatest t m far) (sym same ∙ of.0) ((s.1, within, s.0), s.2, sym of.1 ∙ s.3)),
+          (λ h. let of = same_found n far h in λ i. Some ((same ∙ of.0) i, of.1 i)),
         )

@@ -7,6 +7,7 @@ ghost use Rattle.grid.specs.Place.{IsGridNumber};
 ghost use Rattle.grid.specs.declared.pos.Pos.{Pos};
 ghost use Rattle.json.specs.Json.{item, no_items, number};
 ghost use Rattle.json.specs.Token as spec;
+ghost use Rattle.numerals.specs.Numeral.{IsNumeral, IsSnapped};
 ghost use Rattle.std.specs.Prelude.{◌≡◌, ◌↔◌, ◌∷◌, ℕ, ℤ, Some, IfErr, IfOk, OnOk};
 
 use crate::from_tokens::{FromTokens, Stop};
@@ -16,7 +17,7 @@ use crate::tally::Tally;
 use crate::token::{take_begin_array, take_number};
 use grid::Pos;
 use json::Reader;
-use numerals::snap_measured;
+use numerals::{snap, snap_measured};
 use std::alloc::Global;
 
 // Takes the numbers behind the second of a position, up to the bracket that closes it.
@@ -38,6 +39,19 @@ fn drop_heights<'t>(
     Ok(())
 }
 
+// The whole number of steps that a numeral is nearest to, and how far it is from it, where that is measured.
+#[inline(always)]
+fn nearest_of(grid: &DecimalGrid, text: &str) -> Option<(i64, u64)>
+    ensures { (n : ℤ) (far : ℕ) → (result ≡ Some (n, far))
+        ↔ (IsNumeral text.now × IsSnapped grid.now.step text.now n × IsGridNumber n × (far ≡ distance_from_grid grid.now (number text.now))) }
+{
+    if grid.measures {
+        return snap_measured(text.as_bytes(), &grid.step);
+    }
+    let steps = snap(text.as_bytes(), &grid.step)?;
+    Some((steps, 0))
+}
+
 /// The whole number of steps that a number is nearest to, and how far it is from it, where that is measured. None where it is
 /// too far from 0.
 #[inline(always)]
@@ -45,11 +59,10 @@ pub fn coordinate_of(grid: &DecimalGrid, greatest: u64, text: &str) -> Option<(i
     ensures { (n : ℤ) (far : ℕ) → (result ≡ Some (n, far))
         ↔ (IsCoordinate grid.now greatest (number text.now) n × IsGridNumber n × (far ≡ distance_from_grid grid.now (number text.now))) }
 {
-    let (steps, distance) = snap_measured(text.as_bytes(), &grid.step)?;
+    let (steps, far) = nearest_of(grid, text)?;
     if steps.unsigned_abs() > greatest {
         return None;
     }
-    let far = if grid.measures { distance } else { 0 };
     Some((steps, far))
 }
 

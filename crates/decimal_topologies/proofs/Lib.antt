@@ -4,3 +4,4 @@ pub mod Stitches
 pub mod Faulty
 pub mod Nested
 pub mod Layered
+pub mod Marked

@@ -6,3 +6,4 @@ pub mod Stitching
 pub mod Geometries
 pub mod Features
 pub mod Layers
+pub mod Used

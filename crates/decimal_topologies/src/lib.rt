@@ -13,6 +13,7 @@ pub mod objects;
 pub mod place;
 mod places;
 mod stitching;
+mod used;
 // mod transform;
 
 pub use objects::TopologyLayer;

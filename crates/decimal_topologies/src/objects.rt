@@ -10,6 +10,7 @@ ghost use Rattle.std.specs.Prelude.{◌≡◌, ◌≢◌, [], IfOk, Err, option_
 
 use crate::feature::{FeatureOf, judge_layer, make_layer};
 use decimal_faults::lists::keep;
+use decimal_faults::part::Part;
 use decimal_maps::{RawFeature, Stop};
 use faults::OutOfMemory;
 use faults::fault::{Fault, FaultKind};
@@ -76,27 +77,6 @@ fn judge_layers(
     Ok(found)
 }
 
-/// All faults of `objects` that the fixing rules leave.
-///
-/// # Errors
-/// Where memory is refused.
-pub fn judge_objects(
-    alloc: Global,
-    of: &FeatureOf<'_, '_, '_>,
-    fixing: &FixingRules,
-    value: &Value<'_>,
-) -> Result<Vec<Fault>, OutOfMemory>
-    ensures { IfOk result (λ fs. pairs_of fs.items ≡ objects_faults (parts_of of.now.topology.now) of.now.rules.now fixing.now (value_view value.now)) }
-{
-    match members_of(value) {
-        Some(members) => {
-            let layers = members_in_order(alloc, members)?;
-            judge_layers(alloc, of, fixing, &layers)
-        }
-        None => { Ok(one(alloc, FaultKind::WrongKind)?) }
-    }
-}
-
 // A layer by its name.
 fn make_named(
     alloc: Global,
@@ -135,23 +115,48 @@ fn make_layers(
     Ok(found)
 }
 
-/// The layers of `objects`.
-///
-/// # Errors
-/// `Unread` where it has a fault, whatever the fixing rules.
-pub fn make_objects(
-    alloc: Global,
-    of: &FeatureOf<'_, '_, '_>,
-    value: &Value<'_>,
-) -> Result<Vec<TopologyLayer>, Stop>
-    ensures made { IfOk result (λ xs. AreLayers (parts_of of.now.topology.now) of.now.rules.now (value_view value.now) xs.items) }
-    ensures refused { result ≡ Err Stop.Unread → (fixing : Rules) → objects_faults (parts_of of.now.topology.now) of.now.rules.now fixing (value_view value.now) ≢ [] }
-{
-    match members_of(value) {
-        Some(members) => match members_in_order(alloc, members) {
-            Ok(layers) => make_layers(alloc, of, &layers),
-            Err(_) => Err(Stop::OutOfMemory),
-        },
-        None => Err(Stop::Unread),
+/// The member `objects` of a topology.
+#[derive(Clone, Copy)]
+pub struct LayersOf<'m, 'r, 't> {
+    pub of: FeatureOf<'m, 'r, 't>,
+}
+
+impl<'m, 'r, 't> Part for LayersOf<'m, 'r, 't> {
+    type Made = Vec<TopologyLayer>;
+
+    type Count = ();
+
+    ghost faults = { λ p fixing. objects_faults (parts_of p.of.topology.now) p.of.rules.now fixing };
+
+    ghost means = { λ p j xs a b. AreLayers (parts_of p.of.topology.now) p.of.rules.now j xs.items };
+
+    fn judge(
+        &self,
+        alloc: Global,
+        fixing: &FixingRules,
+        value: &Value<'_>,
+    ) -> Result<Vec<Fault>, OutOfMemory> {
+        match members_of(value) {
+            Some(members) => {
+                let layers = members_in_order(alloc, members)?;
+                judge_layers(alloc, &self.of, fixing, &layers)
+            }
+            None => { Ok(one(alloc, FaultKind::WrongKind)?) }
+        }
+    }
+
+    fn make(
+        &self,
+        alloc: Global,
+        value: &Value<'_>,
+        _count: &mut (),
+    ) -> Result<Vec<TopologyLayer>, Stop> {
+        match members_of(value) {
+            Some(members) => match members_in_order(alloc, members) {
+                Ok(layers) => make_layers(alloc, &self.of, &layers),
+                Err(_) => Err(Stop::OutOfMemory),
+            },
+            None => Err(Stop::Unread),
+        }
     }
 }
