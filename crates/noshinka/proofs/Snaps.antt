@@ -1,5 +1,5 @@
 -- Why a text is not snapped.
-use Rattle.std.proofs.Common.{◌≡◌, ◌⊎◌, inl, inr, List, ℕ, refl, subst, ap}
+use Rattle.std.proofs.Common.{◌≡◌, ◌⊎◌, inl, inr, false, List, ℕ, refl, subst, ap}
 use Rattle.faults.specs.Fault.{IsWant}
 use Rattle.faults.specs.declared.fault.Fault.{Fault}
 use Rattle.reading.specs.Fault.{LeastOrWant}
@@ -13,7 +13,7 @@ use Rattle.noshinka.specs.declared.refusal.CallRefusal.TheVariants.{BadGrid, Bad
 pub bad_step : (step text : List ℕ) → (IsStep step → ⊥) → IsSnapRefusal step text BadGrid
 bad_step step text not = inr (inl (refl, not))
 
-pub not_rounded : (step text : List ℕ) (rules : RoundingRules) (f : Fault) → AreRules step rules → LeastOrWant (faults_under rules text) f → (r : CallRefusal) → IsFaultAt 0 f r → IsSnapRefusal step text r
+pub not_rounded : (step text : List ℕ) (rules : RoundingRules) (f : Fault) → AreRules step rules → LeastOrWant (faults_under rules false text) f → (r : CallRefusal) → IsFaultAt 0 f r → IsSnapRefusal step text r
 not_rounded step text rules f are least BadGrid h = absurd h
 not_rounded step text rules f are least (BadName p) h = absurd h
 not_rounded step text rules f are least BadChoice h = absurd h

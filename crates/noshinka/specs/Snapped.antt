@@ -1,5 +1,5 @@
 -- What it is to snap a text, and why one is not snapped.
-use Rattle.std.specs.Prelude.{◌≡◌, ◌⊎◌, ◌<◌, ◌^◌, ℕ, List, [], ◌∷◌, None, codes, false, true}
+use Rattle.std.specs.Prelude.{◌≡◌, ◌⊎◌, ◌<◌, ◌^◌, ℕ, pos, List, [], ◌∷◌, None, codes, false, true}
 use Rattle.fast_float.specs.Text.{scan, tens_down}
 use Rattle.faults.specs.Fault.{IsWant}
 use Rattle.faults.specs.declared.fault.Fault.{Fault}
@@ -11,7 +11,7 @@ use Rattle.decimal_maps.specs.declared.rules.DecimalGrid.{DecimalGrid}
 use Rattle.numerals.specs.Numeral.{IsMeasure, IsUnsigned, measure_of}
 use Rattle.reading.specs.Fault.{LeastOrWant}
 use Rattle.rounded_maps.specs.Rounded.{IsRounded, faults_under}
-use Rattle.rounded_maps.specs.Written.{map_text, whole}
+use Rattle.rounded_maps.specs.Written.{map_text, of_units}
 use Rattle.rounded_maps.specs.declared.map.RoundedMap.{RoundedMap}
 use Rattle.rounded_maps.specs.declared.rounding.RoundingRules.{RoundingRules}
 use Rattle.noshinka.specs.declared.refusal.CallRefusal.{CallRefusal}
@@ -29,13 +29,14 @@ grid_within numeral x y = record { step = measure_of numeral; greatest_x = x; gr
 abbrev pub all_fixed : FixingRules
 all_fixed = record { collapsed = Null; closes_rings = false; splits_folded = true; splits_collections = true; rewind = Keep }
 
--- the rules of that grid, where all is fixed, ids stay, no property is scaled, and numbers with a fraction become texts
+-- the rules of that grid, where all is fixed, ids stay, none is made, no property is scaled, and numbers with a fraction become texts
 pub record AreRulesWithin (numeral : List ℕ) (x y : ℕ) (rules : RoundingRules) : Type 0 where
   pub grid : rules.map.grid ≡ grid_within numeral x y
   pub id : rules.map.attributes.id ≡ None
   pub scales : rules.map.attributes.scales.now ≡ []
   pub reals : rules.map.attributes.reals ≡ reals.Text
   pub fixing : rules.fixing ≡ all_fixed
+  pub numbers : rules.numbers ≡ false
 
 -- no text stands for a millionth of a degree
 abbrev pub numeral_of : List ℕ → List ℕ
@@ -56,8 +57,8 @@ pub record IsSnapped (step text t : List ℕ) : Type 0 where
   pub rules : RoundingRules
   pub are : AreRules step rules
   pub map : RoundedMap
-  pub rounded : IsRounded rules text map
-  pub written : t ≡ map_text whole map.features.items
+  pub rounded : IsRounded rules false text map
+  pub written : t ≡ map_text (of_units (pos 1)) map.features.items
 
 -- text 0 is refused with the first fault that it has under the rules of the step
 pub record IsFaultyText (step text : List ℕ) (r : CallRefusal) : Type 0 where
@@ -65,7 +66,7 @@ pub record IsFaultyText (step text : List ℕ) (r : CallRefusal) : Type 0 where
   pub are : AreRules step rules
   pub fault : Fault
   pub is : r ≡ Text 0 fault
-  pub least : LeastOrWant (faults_under rules text) fault
+  pub least : LeastOrWant (faults_under rules false text) fault
   pub no_want : IsWant fault → ⊥
 
 -- why a text is not snapped: the step is none; else the text has a fault that nothing fixes; or memory was refused

@@ -1,11 +1,13 @@
 //! From GeoJSON in decimal numbers to GeoJSON in whole numbers of steps.
 ghost use Rattle.noshinka.specs.Snapped.{AreRules, AreRulesWithin, IsSize, IsSnapped, IsSnapRefusal, IsStep};
-ghost use Rattle.std.specs.Prelude.{◌↔◌, IfErr, IfOk, IfSome, IsSome};
+ghost use Rattle.rounded_maps.specs.Written.{of_units};
+ghost use Rattle.std.specs.Prelude.{◌≡◌, ◌↔◌, IfErr, IfOk, IfSome, IsSome, pos};
 
 use crate::refusal::CallRefusal;
 use attributes::{AttributeRules, Reals};
 use decimal_maps::{DecimalGrid, MapRules};
 use fixing::{Collapsed, FixingRules, Rewind};
+use grid::Grid;
 use grid::limits::GREATEST_GRID_NUMBER;
 use numerals::DecimalStep;
 use rounded_maps::{RoundingRules, collection_text, round_map};
@@ -49,6 +51,7 @@ fn rules_within(numeral: &[u8], greatest_x: u64, greatest_y: u64) -> Option<Roun
             attributes: ATTRIBUTES,
         },
         fixing: FIXING,
+        numbers: false,
     })
 }
 
@@ -64,6 +67,16 @@ fn rules_for(step: &[u8]) -> Option<RoundingRules<'static>>
     rules_within(step, greatest, greatest)
 }
 
+/// The grid of whole numbers of steps.
+fn whole_grid() -> Grid
+    ensures { result ≡ of_units (pos 1) }
+{
+    match Grid::new(1, 1, 0, 0) {
+        Some(grid) => grid,
+        None => unreachable!(),
+    }
+}
+
 /// The features of a GeoJSON text as a FeatureCollection, with each coordinate replaced by the nearest whole number of steps, and
 /// each feature fixed: what `togrid` prints. The step is a numeral without a sign, or empty for degrees.
 #[tactic(auto, using(crate::proofs::Snaps::bad_step, crate::proofs::Snaps::not_rounded))]
@@ -74,11 +87,11 @@ pub(crate) fn snap(alloc: Global, text: &[u8], step: &[u8]) -> Result<Vec<u8>, C
     let Some(rules) = rules_for(step) else {
         return Err(CallRefusal::BadGrid);
     };
-    let map = match round_map(alloc, text, &rules) {
+    let map = match round_map(alloc, text, false, &rules) {
         Ok(map) => map,
         Err(fault) => return Err(CallRefusal::of_text(0, fault)),
     };
-    match collection_text(alloc, map.features.as_slice()) {
+    match collection_text(alloc, map.features.as_slice(), &whole_grid()) {
         Ok(text) => Ok(text),
         Err(_) => Err(CallRefusal::OutOfMemory),
     }

@@ -19,7 +19,7 @@ use Rattle.rounded_maps.specs.declared.equal.LayerFeature.{LayerFeature}
 id_derived_is : (a b : Id) → id.cmp-value.it a b ≡ id_cmp a b
 id_derived_is a b = search rules
 
-shape_derived_is : (a b : Shape) → shape.cmp-value.it a b ≡ shape_cmp a b
+pub shape_derived_is : (a b : Shape) → shape.cmp-value.it a b ≡ shape_cmp a b
 shape_derived_is a b = search rules
 
 derived_is : (a b : LayerFeature) → derived.cmp-value.it a b

@@ -9,3 +9,4 @@ mod Repeats
 mod LayerOrder
 mod Placed
 mod Reading
+mod Same

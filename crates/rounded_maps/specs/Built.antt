@@ -1,5 +1,5 @@
 -- The topology of maps, each in the layer of its name.
-use Rattle.std.specs.Prelude.{◌≡◌, ℕ, List, [], ◌∷◌, map as map_list}
+use Rattle.std.specs.Prelude.{◌≡◌, ◌↔◌, ℕ, List, [], ◌∷◌, map as map_list}
 use Rattle.std.specs.FinMap as map
 use Rattle.grid.specs.Place.{Transform}
 use Rattle.reading.specs.Meant.{AreFeatures}
@@ -9,7 +9,7 @@ use Rattle.shapes.specs.Parts.{properties_text}
 use Rattle.shapes.specs.declared.props.Props.{Props}
 use Rattle.shapes.specs.declared.shape.Id.{Id}
 use Rattle.shapes.specs.declared.shape.Shape.{Shape}
-use Rattle.theory.specs.Lists.{gathered}
+use Rattle.theory.specs.Lists.{Has, gathered}
 use Rattle.topo.specs.OfMap.{IsOf, IsTopology, seen_parts, the_topology}
 use Rattle.topo.specs.Parts.{TopologyParts}
 use Rattle.rounded_maps.specs.Equal.{AreEqualIf}
@@ -40,6 +40,10 @@ plain_of i p s = record { id = plain_id i; properties = properties_text p; form 
 -- the features that a fixed feature stands for
 abbrev pub plains_of : RoundedFeature → List Plain
 plains_of r = map_list (plain_of r.feature.id r.feature.props) r.feature.shapes.items
+
+-- what is in one of the lists is in the other
+abbrev pub HaveSame : {X : Type 0} → List X → List X → Type 0
+HaveSame {X} xs ys = (x : X) → Has x xs ↔ Has x ys
 
 -- the features of a map
 abbrev pub plain_features : RoundedMap → List Plain

@@ -1,7 +1,7 @@
 //! Maps that are rounded together, and their topology.
 ghost use Rattle.reading.specs.Meant.{AreFeatures};
 ghost use Rattle.reading.specs.Plain.{Plain, plain};
-ghost use Rattle.rounded_maps.specs.Built.{AreLayersWith, AreMaps, IsBuilt, IsReport, plain_features, plain_of};
+ghost use Rattle.rounded_maps.specs.Built.{AreLayersWith, AreMaps, HaveSame, IsBuilt, IsReport, plain_features, plain_of};
 ghost use Rattle.rounded_maps.specs.Equal.{AreEqualIf};
 ghost use Rattle.rounded_maps.specs.Files.{AreRounded, files_of, layer_of, origin_of};
 ghost use Rattle.rounded_maps.specs.Joined.{AreCountsIf, AreJoinedMaps, AreJoinedWithin, AreVertexUses, shapes_in};
@@ -375,8 +375,8 @@ fn add_copies(
     Ok(())
 }
 
-/// Adds the features that a fixed feature stands for: one for each of its shapes.
-fn add_feature(
+/// Adds a feature for each shape of a fixed feature.
+fn add_each(
     alloc: Global,
     feature: FixedFeature,
     features: &mut Vec<Feature>,
@@ -393,6 +393,30 @@ fn add_feature(
     };
     add_copies(alloc, &id, &props, shapes, features)?;
     features.push(Feature { id, props, shape })?;
+    Ok(())
+}
+
+/// The shapes, each once.
+fn distinct(shapes: Vec<Shape>) -> Result<Vec<Shape>, OutOfMemory>
+    ensures { IfOk result (λ some. HaveSame some.items shapes.items) }
+{
+    let mut some = shapes;
+    some.sort()?;
+    some.dedup();
+    Ok(some)
+}
+
+/// Adds the features that a fixed feature stands for: one for each of its shapes, of which those that are equal are one.
+fn add_feature(
+    alloc: Global,
+    feature: FixedFeature,
+    features: &mut Vec<Feature>,
+) -> Result<(), OutOfMemory>
+    ensures { OnOk result (HaveSame (map plain features.new.items) (map plain features.old.items ++ map (plain_of feature.id feature.props) feature.shapes.items)) }
+{
+    let FixedFeature { id, props, shapes } = feature;
+    let shapes = distinct(shapes)?;
+    add_each(alloc, FixedFeature { id, props, shapes }, features)?;
     Ok(())
 }
 

@@ -58,7 +58,7 @@ fn is_empty_part(part: &[u8]) -> bool
 }
 
 /// The part before the first separator, and the bytes behind that, if there is one.
-fn cut(bytes: &[u8], separator: u8) -> (&[u8], Option<&[u8]>)
+fn first_part(bytes: &[u8], separator: u8) -> (&[u8], Option<&[u8]>)
     ensures parts { parts_of separator bytes.now ≡ result.0.now ∷ parts_behind separator (option_map (λ b. b.now) result.1) }
     ensures shorter { IfSome result.1 (λ b. length b.now < length bytes.now) }
 {
@@ -78,7 +78,7 @@ fn records<'t>(alloc: Global, bytes: &'t [u8]) -> Result<Vec<&'t [u8]>, OutOfMem
     let mut texts = Vec::new(alloc);
     let mut left = Some(bytes);
     while let Some(bytes) = left {
-        let (part, behind) = cut(bytes, separator);
+        let (part, behind) = first_part(bytes, separator);
         if !is_empty_part(part) {
             texts.push(part)?;
         }

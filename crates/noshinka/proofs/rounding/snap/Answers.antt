@@ -1,5 +1,5 @@
-use Rattle.std.proofs.Common.{ap, ◌∙◌}
-use Rattle.rounded_maps.specs.Written.{map_text, whole}
+use Rattle.std.proofs.Common.{ap, pos, ◌∙◌}
+use Rattle.rounded_maps.specs.Written.{map_text, of_units}
 use Rattle.noshinka.proofs.rounding.snap.Goals as goal
 
 pub returns-in-Ok-collection_text-clause-snapped : goal.returns-in-Ok-collection_text-clause-snapped
@@ -8,5 +8,5 @@ returns-in-Ok-collection_text-clause-snapped c = record {
   are = c.in-Some.ensures.rules;
   map = c.in-Ok.map;
   rounded = c.in-Ok.ensures.made;
-  written = c.in-Ok-collection_text.ensures ∙ ap (map_text whole) c.as_slice.ensures.value;
+  written = c.in-Ok-collection_text.ensures ∙ ap (λ g. map_text g c.as_slice.result.now) c.whole_grid.ensures ∙ ap (map_text (of_units (pos 1))) c.as_slice.ensures.value;
 }

@@ -2,7 +2,7 @@ use Rattle.std.proofs.Common.{◌≡◌, ◌≤◌, ◌+◌, ◌-◌, ◌==◌, 
 use Rattle.std.proofs.lemmas.List.{take_all}
 use Rattle.rounded_maps.specs.Sequences.{parts_of}
 use Rattle.rounded_maps.proofs.Parts.{cut_at, cut_none}
-use Rattle.rounded_maps.proofs.source.cut.Goals as goal
+use Rattle.rounded_maps.proofs.source.first_part.Goals as goal
 
 pub returns-then-bytes-i-clause-parts : goal.returns-then-bytes-i-clause-parts
 returns-then-bytes-i-clause-parts c =

@@ -1,5 +1,5 @@
 use Rattle.std.proofs.Common.{◌≡◌, ℕ, ◌<◌, ◌==◌, false, slice_index}
-use Rattle.rounded_maps.proofs.source.cut.Given as goal
+use Rattle.rounded_maps.proofs.source.first_part.Given as goal
 
 -- no separator so far
 abbrev pub invariant-loop-i : goal.invariant-loop-i
