@@ -53,12 +53,6 @@ fn with_letter<'a>(argument: Arg<'a>, form: Form) -> Arg<'a> {
 fn with_values<'a>(argument: Arg<'a>, form: Form) -> Arg<'a> {
     match form {
         Form::Words => argument.num_args(1..),
-        Form::OptionalWith(..) => {
-            argument
-                .num_args(0..=1)
-                .require_equals(true)
-                .value_delimiter(',')
-        }
         Form::OneOf(_, words) => {
             among(argument, words).default_value(words.first().copied().unwrap_or(""))
         }
@@ -82,7 +76,7 @@ fn with_other<'a>(argument: Arg<'a>, form: Form) -> Result<Arg<'a>, AllocError> 
         Form::NeededWithout(_, other) => argument.required_unless_present(other),
         Form::ValueNotWith(_, other) => argument.conflicts_with(other),
         Form::ValueWith(_, other, others) => without(argument.requires_arg(other)?, others),
-        Form::FlagWith(other) | Form::OptionalWith(_, other) => argument.requires_arg(other),
+        Form::FlagWith(other) => argument.requires_arg(other),
         Form::FlagNotWith(others) => without(argument, others),
         _ => Ok(argument),
     }

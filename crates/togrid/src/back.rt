@@ -1,7 +1,6 @@
 //! A topology in the unit of the map again.
-use crate::options::{decimal_word, rewind_of, scale_of, unit_of};
+use crate::options::{decimal_word, rewind_of, unit_of};
 use crate::remedies::{refuse_text, remedy_of, without_mark};
-use attributes::Scale;
 use clap::ArgMatches;
 use command_line::files::{Files, input_once, read_named};
 use command_line::output::write_output;
@@ -18,14 +17,12 @@ use topo::topology::Topology;
 use topo_io::read_topology;
 
 /// What the words ask for on the way back.
-#[derive(Drop)]
+#[derive(Clone, Copy)]
 pub(crate) struct BackOptions<'a> {
     unit: DecimalStep,
     /// The unit as it is written.
     unit_word: &'a str,
     rewind: Rewind,
-    /// The properties whose numbers are divided again.
-    scales: Vec<Scale<'a>>,
     /// The topology whose transform is taken.
     like: Option<&'a str>,
     /// How many steps a side of the bounding box has.
@@ -48,28 +45,12 @@ fn steps_of<'a>(word: Option<&'a str>) -> Result<Option<u64>, Refusal<'a>> {
     }
 }
 
-/// The properties that words scale. No other word goes with the way back.
-fn scales_of<'a>(alloc: Global, words: &[&'a str]) -> Result<Vec<Scale<'a>>, Refusal<'a>> {
-    let mut scales = Vec::new(alloc);
-    for word in words {
-        match scale_of(*word) {
-            Some(scale) => scales.push(scale)?,
-            None => return Err(Refusal::Usage(Usage::BadReals(*word))),
-        }
-    }
-    Ok(scales)
-}
-
 /// The options of the way back that the words give, or why they are none.
-pub(crate) fn back_options_of<'a>(
-    alloc: Global,
-    found: &ArgMatches<'a>,
-) -> Result<BackOptions<'a>, Refusal<'a>> {
+pub(crate) fn back_options_of<'a>(found: &ArgMatches<'a>) -> Result<BackOptions<'a>, Refusal<'a>> {
     Ok(BackOptions {
         unit: unit_of(found)?,
         unit_word: decimal_word(found, "unit"),
         rewind: rewind_of(found, Rewind::D3),
-        scales: scales_of(alloc, found.get_strs("reals").unwrap_or(&[]))?,
         like: found.get_str("like"),
         steps: steps_of(found.get_str("quantize"))?,
         output: found.get_str("output"),

@@ -53,7 +53,7 @@ fn perform<'a, F: Files, O: Sink, E: Sink>(
     let read = files_of(alloc, sources.as_slice())?;
     input_once(read.as_slice())?;
     if found.get_flag("back") {
-        let options = back_options_of(alloc, found)?;
+        let options = back_options_of(found)?;
         return write_back(alloc, &options, read.as_slice(), files, out);
     }
     let options = options_of(alloc, found, sources.len())?;
@@ -96,7 +96,6 @@ fn finish<'m, F: Files, O: Sink, E: Sink>(
     let layers = layers_of(alloc, sources, rounded)?;
     check_layers(alloc, options, layers.as_slice())?;
     let absent = made.absent(alloc, options)?;
-    let columns = made.columns(alloc, options, rounded)?;
     let reports = Reports::of(
         alloc,
         &Report {
@@ -104,7 +103,6 @@ fn finish<'m, F: Files, O: Sink, E: Sink>(
             layers: layers.as_slice(),
             rounded,
             absent: absent.as_slice(),
-            columns: &columns,
         },
     )?;
     if !options.target.is_standard() {

@@ -1,7 +1,4 @@
 //! What is made of files: printed, and asked for properties.
-use crate::columns::{
-    ColumnCounts, count_in_columns, count_of_texts, counts_of_maps, counts_of_topology,
-};
 use crate::layers::MapLayer;
 use crate::options::GridOptions;
 use crate::printing::Printed;
@@ -9,11 +6,10 @@ use command_line::files::Files;
 use command_line::refusal::Refusal;
 use faults::OutOfMemory;
 use json::{Error, Scratch, Value};
-use rounded_maps::{Rounded, RoundedMap};
+use rounded_maps::RoundedMap;
 use shapes::Props;
 use sinks::Sink;
 use std::alloc::Global;
-use std::collections::BTreeMap;
 use topo::Topology;
 use topo::topology::Layer;
 
@@ -99,28 +95,6 @@ impl Made {
             }
         }
         Ok(absent)
-    }
-
-    /// The columns of numbers that became texts, where anything is reported. There are none where some of their texts
-    /// were no numbers before.
-    pub(crate) fn columns(
-        &self,
-        alloc: Global,
-        options: &GridOptions<'_>,
-        rounded: &Rounded,
-    ) -> Result<ColumnCounts, OutOfMemory> {
-        let texts = count_of_texts(rounded);
-        if !options.reports() || texts == 0 {
-            return Ok(BTreeMap::new(alloc));
-        }
-        let counts = match self {
-            Made::Topology(topology) => counts_of_topology(alloc, topology)?,
-            Made::Maps(maps) => counts_of_maps(alloc, maps.as_slice())?,
-        };
-        if count_in_columns(&counts) > texts {
-            return Ok(BTreeMap::new(alloc));
-        }
-        Ok(counts)
     }
 
     /// Prints it where it goes. On standard output it comes last, since a terminal shows it with the report.

@@ -3,8 +3,6 @@
 
 mod all_faults;
 mod back;
-mod back_words;
-mod columns;
 mod command;
 mod layers;
 mod made;

@@ -38,8 +38,6 @@ pub(crate) struct GridOptions<'a> {
     /// The step as it is written.
     pub(crate) step_word: &'a str,
     pub(crate) is_step_given: bool,
-    /// The unit of the output as it is written, where it is.
-    pub(crate) unit_word: Option<&'a str>,
     /// How many units of the output a step is.
     pub(crate) units: u64,
     /// The grid of the output: a scale of so many units.
@@ -180,13 +178,8 @@ fn fixing_of(found: &ArgMatches<'_>) -> FixingRules {
     }
 }
 
-/// A power of ten of so many places, as it is written in a word `scale:PROPERTY=K`.
-pub(crate) fn power_word(places: u32) -> &'static str {
-    POWERS.get(..=places as usize).unwrap_or(POWERS)
-}
-
 /// The property and the power of ten of a word `scale:PROPERTY=K`.
-pub(crate) fn scale_of<'a>(word: &'a str) -> Option<Scale<'a>> {
+fn scale_of<'a>(word: &'a str) -> Option<Scale<'a>> {
     let (kind, scale) = word.split_once(':')?;
     let (property, power) = scale.rsplit_once('=')?;
     if kind != "scale" || power.is_empty() || !POWERS.starts_with(power) {
@@ -285,7 +278,6 @@ pub(crate) fn options_of<'a>(
         step,
         step_word: decimal_word(found, "step"),
         is_step_given: found.get_str("step").is_some(),
-        unit_word: found.get_str("unit"),
         units,
         grid,
         id: found.get_str("id"),

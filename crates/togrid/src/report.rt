@@ -1,6 +1,4 @@
 //! The report on standard error.
-use crate::back_words::back_words;
-use crate::columns::ColumnCounts;
 use crate::layers::MapLayer;
 use crate::options::GridOptions;
 use crate::target::Target;
@@ -23,8 +21,6 @@ pub(crate) struct Report<'r, 'a> {
     pub(crate) rounded: &'r Rounded,
     /// The properties that the words scale and no feature has.
     pub(crate) absent: &'r [&'a str],
-    /// The columns of numbers that became texts.
-    pub(crate) columns: &'r ColumnCounts,
 }
 
 impl<'r, 'a> Report<'r, 'a> {
@@ -402,32 +398,8 @@ fn put_absent<E: Sink>(err: &mut E, report: &Report<'_, '_>) -> Result<(), Write
     Ok(())
 }
 
-/// The columns of numbers that became texts.
-fn put_columns<E: Sink>(err: &mut E, report: &Report<'_, '_>) -> Result<(), WriteFault> {
-    for (name, count) in report.columns.iter() {
-        put_words(err, name.as_str(), ": ")?;
-        put_count(err, *count, "numbers made texts\n")?;
-    }
-    Ok(())
-}
-
-/// The command for the way back, where it needs more words than `togrid --back`.
-fn put_back(alloc: Global, lines: &mut Kept, report: &Report<'_, '_>) -> Result<(), ReportFault> {
-    let words = back_words(alloc, report)?;
-    if words.is_empty() {
-        return Ok(());
-    }
-    put(lines, b"back:")?;
-    for word in &words {
-        put(lines, b" ")?;
-        put_shell_word(lines, word.as_bytes())?;
-    }
-    Ok(put(lines, b"\n")?)
-}
-
 fn put_lines(alloc: Global, report: &Report<'_, '_>, lines: &mut Kept) -> Result<(), ReportFault> {
     put_outcomes(alloc, report, lines)?;
-    put_columns(lines, report)?;
     put_absent(lines, report)?;
     put_vertices(lines, report)?;
     if let Some(next) = next_command(alloc, report)? {
@@ -435,7 +407,7 @@ fn put_lines(alloc: Global, report: &Report<'_, '_>, lines: &mut Kept) -> Result
         put(lines, next.as_slice())?;
         put(lines, b"\n")?;
     }
-    put_back(alloc, lines, report)
+    Ok(())
 }
 
 /// The lines of the report.

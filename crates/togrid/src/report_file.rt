@@ -1,5 +1,4 @@
 //! The report as JSON.
-use crate::back_words::back_words;
 use crate::layers::MapLayer;
 use crate::report::{Report, at_most_u64, in_steps, in_units, next_command};
 use fixing::{FeatureFixes, Fixes};
@@ -190,24 +189,6 @@ fn write_absent(writer: &mut Writer, report: &Report<'_, '_>) -> Result<(), Allo
     writer.end_array()
 }
 
-/// The command for the way back, where it needs more words than `togrid --back`.
-fn write_back(
-    alloc: Global,
-    writer: &mut Writer,
-    report: &Report<'_, '_>,
-) -> Result<(), AllocError> {
-    let words = back_words(alloc, report)?;
-    if words.is_empty() {
-        return Ok(());
-    }
-    writer.key("back")?;
-    writer.begin_array()?;
-    for word in &words {
-        writer.string(word.as_str())?;
-    }
-    writer.end_array()
-}
-
 /// The report as a JSON text, with a line's end.
 pub(crate) fn report_text(alloc: Global, report: &Report<'_, '_>) -> Result<Vec<u8>, AllocError> {
     let mut writer = Writer::new(Vec::new(alloc));
@@ -217,7 +198,6 @@ pub(crate) fn report_text(alloc: Global, report: &Report<'_, '_>) -> Result<Vec<
     write_absent(&mut writer, report)?;
     write_vertices(&mut writer, report)?;
     write_next(alloc, &mut writer, report)?;
-    write_back(alloc, &mut writer, report)?;
     writer.end_object()?;
     let mut text = writer.into_inner();
     if text.push(b'\n').is_err() {

@@ -37,9 +37,6 @@ pub(crate) enum Form {
     ValueNotWith(&'static str, &'static str),
     /// The same, which wants another argument beside it, and does not go with others.
     ValueWith(&'static str, &'static str, &'static [&'static str]),
-    /// `--name`, or `--name=VALUE` with one value or more and commas between, what help calls them, and another
-    /// argument that it wants beside it.
-    OptionalWith(&'static str, &'static str),
     /// `--name VALUE`, what help calls the value, and a letter for it.
     Lettered(char, &'static str),
     /// `--name VALUE`, which may be there more than once, and what help calls the value.
@@ -87,7 +84,6 @@ impl Form {
             | Form::Value(called)
             | Form::ValueNotWith(called, _)
             | Form::ValueWith(called, ..)
-            | Form::OptionalWith(called, _)
             | Form::Lettered(_, called)
             | Form::Repeated(called)
             | Form::OneOf(called, _)
@@ -447,6 +443,7 @@ pub(crate) const TOGRID: &[ArgumentRow] = &[
             "id",
             "number",
             "heights",
+            "reals",
             "unclosed",
             "collapsed",
             "folded",
@@ -497,12 +494,7 @@ pub(crate) const TOGRID: &[ArgumentRow] = &[
     argument!(
         "reals",
         Form::Repeated("HOW"),
-        "Numbers of properties: whole, text, refuse,\nscale:P=K [default: whole; with --back only scale]"
-    ),
-    argument!(
-        "numbers",
-        Form::OptionalWith("P,Q..", "back"),
-        "With --back: texts of these properties are numbers\nagain; without names, those of all that can be"
+        "Numbers of properties: whole, text, refuse,\nscale:P=K [default: whole]"
     ),
     argument!(
         "unclosed",
