@@ -8,16 +8,18 @@ use Rattle.sinks.specs.PathText.PathText.{path_text}
 use Rattle.command_line.specs.declared.status.Status.{Status}
 use Rattle.command_line.specs.declared.status.Status.TheVariants.{Usage as WrongUsage, Unreadable as UnreadableFile, Refused, OutOfMemory as NoMemory, Write as OutputFailed}
 use Rattle.command_line.specs.declared.refusal.Usage.{Usage as UsageFault}
-use Rattle.command_line.specs.declared.refusal.Usage.TheVariants.{BadGrid, BadSteps, BadLayer, InputTwice, NoId, SameIds, BadStep, BadReals, BadDistance, BadBack, BadReport, NoFolder, NameTwice}
+use Rattle.command_line.specs.declared.refusal.Usage.TheVariants.{BadGrid, BadSteps, BadLayer, InputTwice, NoId, SameIds, BadStep, BadUnits, BadUnit, BadReals, BadDistance, BadQuantize, BadBack, BadReport, NoFolder, NameTwice, BadName}
+use Rattle.command_line.specs.declared.refusal.Remedy.{Remedy}
+use Rattle.command_line.specs.declared.refusal.Remedy.TheVariants.{Step, Encoding, Unpacking}
 use Rattle.command_line.specs.declared.refusal.Refusal.{Refusal}
-use Rattle.command_line.specs.declared.refusal.Refusal.TheVariants.{Usage, Unreadable, Text, NoDegrees, OtherGrid, NoLayer, BadPlan, OutOfMemory, Write}
+use Rattle.command_line.specs.declared.refusal.Refusal.TheVariants.{Usage, Unreadable, Text, TextWith, OtherGrid, NoLayer, BadPlan, OutOfMemory, Write}
 
 -- the status of a command that is refused
 abbrev pub status_of : Refusal → Status
 status_of (Usage usage) = WrongUsage
 status_of (Unreadable file) = UnreadableFile
 status_of (Text file fault) = Refused
-status_of (NoDegrees file fault) = Refused
+status_of (TextWith file fault remedy) = Refused
 status_of (OtherGrid file) = Refused
 status_of (NoLayer layer) = Refused
 status_of BadPlan = Refused
@@ -33,12 +35,16 @@ usage_words InputTwice = codes "standard input can be read once only"
 usage_words (NoId layer) = codes "--ids: a feature without an id in layer "
 usage_words (SameIds layer) = codes "--keyed: two features with one id in layer "
 usage_words (BadStep word) = codes "bad step "
+usage_words (BadUnits word) = codes "bad step "
+usage_words (BadUnit word) = codes "bad unit "
 usage_words (BadReals word) = codes "bad reals "
 usage_words (BadDistance word) = codes "bad snap "
+usage_words (BadQuantize word) = codes "bad quantize "
 usage_words BadBack = codes "--back takes one topology"
 usage_words (BadReport file) = codes "the report would replace "
 usage_words NoFolder = codes "more than one file: say -o FOLDER"
 usage_words (NameTwice file) = codes "two files would be called "
+usage_words (BadName layer) = codes "no file can be called "
 
 -- the word, the layer or the file that is wrong, where there is one
 abbrev pub usage_name : UsageFault → List ℕ
@@ -49,12 +55,21 @@ usage_name InputTwice = []
 usage_name (NoId layer) = layer.now
 usage_name (SameIds layer) = layer.now
 usage_name (BadStep word) = word.now
+usage_name (BadUnits word) = word.now
+usage_name (BadUnit word) = word.now
 usage_name (BadReals word) = word.now
 usage_name (BadDistance word) = word.now
+usage_name (BadQuantize word) = word.now
 usage_name BadBack = []
 usage_name (BadReport file) = file.now
 usage_name NoFolder = []
 usage_name (NameTwice file) = file.now
+usage_name (BadName layer) = layer.now
+
+-- what stands behind it, where anything does
+abbrev pub usage_end : UsageFault → List ℕ
+usage_end (BadUnits word) = codes ": --unit says what the numbers of the output count"
+usage_end usage = []
 
 -- the number and the name of a fault
 abbrev pub kind_text : FaultKind → List ℕ
@@ -64,12 +79,22 @@ kind_text kind = decimal (number_of kind) ++ (codes " " ++ name_of kind)
 abbrev pub fault_text : List ℕ → Fault → List ℕ
 fault_text file fault = file ++ (codes ": " ++ (kind_text fault.kind ++ (codes " " ++ path_text (map turn_of fault.path.items))))
 
+-- where a text is no UTF-8, and what names its encoding
+abbrev pub encoding_words : ℕ → ℕ → List ℕ
+encoding_words line column = codes ": no UTF-8 at line " ++ (decimal line ++ (codes ", column " ++ (decimal column ++ codes "; try ogr2ogr -oo ENCODING=")))
+
+-- what may help
+abbrev pub remedy_words : Remedy → List ℕ
+remedy_words Step = codes ": numbers beyond 180 and 90 need --step"
+remedy_words (Encoding line column) = encoding_words line column
+remedy_words Unpacking = codes ": compressed, gunzip it first"
+
 -- why a command is refused
 abbrev pub reason_text : Refusal → List ℕ
-reason_text (Usage usage) = usage_words usage ++ usage_name usage
+reason_text (Usage usage) = usage_words usage ++ (usage_name usage ++ usage_end usage)
 reason_text (Unreadable file) = codes "cannot read " ++ file.now
 reason_text (Text file fault) = fault_text file.now fault
-reason_text (NoDegrees file fault) = fault_text file.now fault ++ codes ": numbers beyond 180 and 90 need --step"
+reason_text (TextWith file fault remedy) = fault_text file.now fault ++ remedy_words remedy
 reason_text (OtherGrid file) = file.now ++ (codes ": " ++ kind_text AnotherGrid)
 reason_text (NoLayer layer) = kind_text MissingLayer ++ (codes " " ++ layer.now)
 reason_text BadPlan = kind_text PlanPastTheFiles

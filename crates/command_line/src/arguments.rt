@@ -75,6 +75,7 @@ fn with_other<'a>(argument: Arg<'a>, form: Form) -> Result<Arg<'a>, AllocError> 
     match form {
         Form::NeededWithout(_, other) => argument.required_unless_present(other),
         Form::ValueNotWith(_, other) => argument.conflicts_with(other),
+        Form::ValueWith(_, other, others) => without(argument.requires_arg(other)?, others),
         Form::FlagWith(other) => argument.requires_arg(other),
         Form::FlagNotWith(others) => without(argument, others),
         _ => Ok(argument),

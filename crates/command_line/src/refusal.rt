@@ -1,15 +1,16 @@
 //! How a command says that it did not do its work: an exit status and a line on standard error.
-ghost use Rattle.command_line.specs.Refusal.{fault_text, kind_text, line_text, reason_text, status_of, usage_name, usage_words};
+ghost use Rattle.command_line.specs.Refusal.{encoding_words, fault_text, kind_text, line_text, reason_text, remedy_words, status_of, usage_end, usage_name, usage_words};
 ghost use Rattle.faults.specs.declared.fault.FaultKind.TheVariants.{NoLayer as MissingLayer, OtherGrid as AnotherGrid};
 ghost use Rattle.sinks.specs.Writes.{TookAll, TookPart};
-ghost use Rattle.std.specs.Prelude.{◌≡◌, ◌++◌, OnErr, OnOk, codes};
+ghost use Rattle.std.specs.Prelude.{◌≡◌, ◌++◌, OnErr, OnOk, codes, decimal};
 
 use crate::files::OutputFault;
 use crate::status::Status;
 use faults::{Fault, FaultKind, OutOfMemory};
+use itoa::Buffer;
 use sinks::path_text::{KindNumber, PathText};
 use sinks::written::{Text, Then, Written};
-use sinks::{Sink, WriteFault};
+use sinks::{Sink, WriteFault, put};
 use std::alloc::{AllocError, AllocFailed};
 
 /// What is wrong with the words of a command line, where clap lets them through.
@@ -29,10 +30,16 @@ pub enum Usage<'a> {
     SameIds(&'a str),
     /// The word after `--step` is no step.
     BadStep(&'a str),
+    /// The step is not 1 to 1,000,000 units.
+    BadUnits(&'a str),
+    /// The word after `--unit` is no unit.
+    BadUnit(&'a str),
     /// A word after `--reals` is none of those that may be there.
     BadReals(&'a str),
     /// The word after `--snap` is no whole number up to 10.
     BadDistance(&'a str),
+    /// The word after `--quantize` is no number of steps.
+    BadQuantize(&'a str),
     /// `--back` is given with more than one file.
     BadBack,
     /// The file of a report is one that is read, or another output.
@@ -41,6 +48,8 @@ pub enum Usage<'a> {
     NoFolder,
     /// Two files of one name for a folder.
     NameTwice(&'a str),
+    /// A layer of a name that no file in a folder can have.
+    BadName(&'a str),
 }
 
 impl<'a> Usage<'a> {
@@ -55,13 +64,16 @@ impl<'a> Usage<'a> {
             Usage::InputTwice => "standard input can be read once only",
             Usage::NoId(_) => "--ids: a feature without an id in layer ",
             Usage::SameIds(_) => "--keyed: two features with one id in layer ",
-            Usage::BadStep(_) => "bad step ",
+            Usage::BadStep(_) | Usage::BadUnits(_) => "bad step ",
+            Usage::BadUnit(_) => "bad unit ",
             Usage::BadReals(_) => "bad reals ",
             Usage::BadDistance(_) => "bad snap ",
+            Usage::BadQuantize(_) => "bad quantize ",
             Usage::BadBack => "--back takes one topology",
             Usage::BadReport(_) => "the report would replace ",
             Usage::NoFolder => "more than one file: say -o FOLDER",
             Usage::NameTwice(_) => "two files would be called ",
+            Usage::BadName(_) => "no file can be called ",
         }
     }
 
@@ -74,15 +86,40 @@ impl<'a> Usage<'a> {
             | Usage::BadSteps(word)
             | Usage::BadLayer(word)
             | Usage::BadStep(word)
+            | Usage::BadUnits(word)
+            | Usage::BadUnit(word)
             | Usage::BadReals(word)
-            | Usage::BadDistance(word) => word,
+            | Usage::BadDistance(word)
+            | Usage::BadQuantize(word) => word,
             Usage::NoId(name)
             | Usage::SameIds(name)
             | Usage::BadReport(name)
-            | Usage::NameTwice(name) => name,
+            | Usage::NameTwice(name)
+            | Usage::BadName(name) => name,
             Usage::InputTwice | Usage::BadBack | Usage::NoFolder => "",
         }
     }
+
+    /// What stands behind that; empty where nothing does.
+    fn end(&self) -> &'static str
+        ensures { result.now ≡ usage_end self.now }
+    {
+        match self {
+            Usage::BadUnits(_) => ": --unit says what the numbers of the output count",
+            _ => "",
+        }
+    }
+}
+
+/// What may help where togrid refuses a text.
+#[derive(Clone, Copy)]
+pub enum Remedy {
+    /// To say the step: without it numbers are degrees.
+    Step,
+    /// To say the encoding: at this line and column, both from 1, the text is no UTF-8.
+    Encoding(usize, usize),
+    /// To unpack the file.
+    Unpacking,
 }
 
 /// Why a command ends without its answer.
@@ -94,8 +131,8 @@ pub enum Refusal<'a> {
     Unreadable(&'a str),
     /// The text of a file is refused.
     Text(&'a str, Fault),
-    /// The text of a file is refused for a number beyond 180 and 90, and no step is given.
-    NoDegrees(&'a str, Fault),
+    /// The text of a file is refused, and what may help.
+    TextWith(&'a str, Fault, Remedy),
     /// The transform of a file is not that of the first file.
     OtherGrid(&'a str),
     /// The topology has no layer of this name.
@@ -117,15 +154,11 @@ impl<'a> Refusal<'a> {
         }
     }
 
-    /// The refusal of a file's text of decimal numbers, which are degrees where no step is given.
-    pub fn of_decimal_text(file: &'a str, fault: Fault, is_step_given: bool) -> Refusal<'a> {
+    /// The refusal of a file's text, and what may help.
+    pub fn of_text_with(file: &'a str, fault: Fault, remedy: Remedy) -> Refusal<'a> {
         match fault.kind {
-            FaultKind::OutOfRange => if is_step_given {
-                Refusal::Text(file, fault)
-            } else {
-                Refusal::NoDegrees(file, fault)
-            },
-            _ => Refusal::of_text(file, fault),
+            FaultKind::OutOfMemory => Refusal::OutOfMemory,
+            _ => Refusal::TextWith(file, fault, remedy),
         }
     }
 
@@ -137,7 +170,7 @@ impl<'a> Refusal<'a> {
             Refusal::Usage(_) => Status::Usage,
             Refusal::Unreadable(_) => Status::Unreadable,
             Refusal::Text(..)
-            | Refusal::NoDegrees(..)
+            | Refusal::TextWith(..)
             | Refusal::OtherGrid(_)
             | Refusal::NoLayer(_)
             | Refusal::BadPlan => Status::Refused,
@@ -165,7 +198,9 @@ impl<'a> Written for Refusal<'a> {
             Refusal::Usage(usage) => write_usage(sink, usage),
             Refusal::Unreadable(file) => put_words(sink, "cannot read ", file),
             Refusal::Text(file, fault) => FaultText(file, fault).write(sink),
-            Refusal::NoDegrees(file, fault) => write_no_degrees(sink, file, fault),
+            Refusal::TextWith(file, fault, remedy) => {
+                Then(FaultText(file, fault), RemedyText(*remedy)).write(sink)
+            }
             Refusal::OtherGrid(file) => write_other_grid(sink, file),
             Refusal::NoLayer(name) => write_no_layer(sink, name),
             Refusal::BadPlan => KindText(FaultKind::BadPlan).write(sink),
@@ -243,22 +278,51 @@ impl<'a> Written for FaultText<'a> {
     }
 }
 
-fn write_usage<W: Sink>(sink: &mut W, usage: &Usage<'_>) -> Result<(), WriteFault>
-    ensures whole { OnOk result (TookAll (W.seen sink.old) (W.seen sink.new) (usage_words usage.now ++ usage_name usage.now)) }
-    ensures part { OnErr result (TookPart (W.seen sink.old) (W.seen sink.new) (usage_words usage.now ++ usage_name usage.now)) }
-{
-    put_words(sink, usage.words(), usage.name())
+/// A line or a column in decimal digits.
+#[derive(Clone, Copy)]
+struct PlaceNumber(usize);
+
+impl Written for PlaceNumber {
+    ghost text = { λ d. decimal d.0 };
+
+    fn write<W: Sink>(&self, sink: &mut W) -> Result<(), WriteFault> {
+        let mut buffer = Buffer::new();
+        put(sink, buffer.format(self.0).as_bytes())
+    }
 }
 
-fn write_no_degrees<W: Sink>(sink: &mut W, file: &str, fault: &Fault) -> Result<(), WriteFault>
-    ensures whole { OnOk result (TookAll (W.seen sink.old) (W.seen sink.new) (fault_text file.now fault.now ++ codes ": numbers beyond 180 and 90 need --step")) }
-    ensures part { OnErr result (TookPart (W.seen sink.old) (W.seen sink.new) (fault_text file.now fault.now ++ codes ": numbers beyond 180 and 90 need --step")) }
+/// What may help, behind the fault.
+#[derive(Clone, Copy)]
+struct RemedyText(Remedy);
+
+impl Written for RemedyText {
+    ghost text = { λ r. remedy_words r.0 };
+
+    fn write<W: Sink>(&self, sink: &mut W) -> Result<(), WriteFault> {
+        match self.0 {
+            Remedy::Step => put(sink, b": numbers beyond 180 and 90 need --step"),
+            Remedy::Encoding(line, column) => write_encoding(sink, line, column),
+            Remedy::Unpacking => put(sink, b": compressed, gunzip it first"),
+        }
+    }
+}
+
+/// Writes where a text is no UTF-8, and what names its encoding.
+fn write_encoding<W: Sink>(sink: &mut W, line: usize, column: usize) -> Result<(), WriteFault>
+    ensures whole { OnOk result (TookAll (W.seen sink.old) (W.seen sink.new) (encoding_words line column)) }
+    ensures part { OnErr result (TookPart (W.seen sink.old) (W.seen sink.new) (encoding_words line column)) }
 {
-    Then(
-        FaultText(file, fault),
-        Text(b": numbers beyond 180 and 90 need --step"),
-    )
-    .write(sink)
+    let column = Then(PlaceNumber(column), Text(b"; try ogr2ogr -oo ENCODING="));
+    let place = Then(PlaceNumber(line), Then(Text(b", column "), column));
+    Then(Text(b": no UTF-8 at line "), place).write(sink)
+}
+
+fn write_usage<W: Sink>(sink: &mut W, usage: &Usage<'_>) -> Result<(), WriteFault>
+    ensures whole { OnOk result (TookAll (W.seen sink.old) (W.seen sink.new) (usage_words usage.now ++ (usage_name usage.now ++ usage_end usage.now))) }
+    ensures part { OnErr result (TookPart (W.seen sink.old) (W.seen sink.new) (usage_words usage.now ++ (usage_name usage.now ++ usage_end usage.now))) }
+{
+    let name = Then(Text(usage.name().as_bytes()), Text(usage.end().as_bytes()));
+    Then(Text(usage.words().as_bytes()), name).write(sink)
 }
 
 fn write_other_grid<W: Sink>(sink: &mut W, file: &str) -> Result<(), WriteFault>

@@ -1,52 +1,149 @@
 //! A topology in the unit of the map again.
-use crate::options::{GREATEST_DEGREES, GridOptions};
-use command_line::files::{Files, read_named};
+use crate::options::{decimal_word, rewind_of, unit_of};
+use crate::remedies::{refuse_text, remedy_of, without_mark};
+use clap::ArgMatches;
+use command_line::files::{Files, input_once, read_named};
 use command_line::output::write_output;
 use command_line::refusal::{Refusal, Usage};
 use command_line::status::Status;
-use decimals::topology::{DecimalFault, text_of};
+use decimals::topology::{DecimalFault, DecimalTransform, TransformFault, text_of, text_on};
 use faults::{Fault, FaultKind};
+use fixing::Rewind;
+use grid::limits::GREATEST_GRID_NUMBER;
+use numerals::DecimalStep;
 use sinks::Sink;
 use std::alloc::Global;
 use topo::topology::Topology;
 use topo_io::read_topology;
 
-/// Whether the positions of a topology are degrees, counted by the step of degrees.
-fn is_in_degrees(topology: &Topology) -> bool {
-    let (x, y) = GREATEST_DEGREES;
-    match topology.bbox() {
-        Some((west, south, east, north)) => {
-            west.unsigned_abs().max(east.unsigned_abs()) <= x
-                && south.unsigned_abs().max(north.unsigned_abs()) <= y
-        }
-        None => true,
+/// What the words ask for on the way back.
+#[derive(Clone, Copy)]
+pub(crate) struct BackOptions<'a> {
+    unit: DecimalStep,
+    /// The unit as it is written.
+    unit_word: &'a str,
+    rewind: Rewind,
+    /// The topology whose transform is taken.
+    like: Option<&'a str>,
+    /// How many steps a side of the bounding box has.
+    steps: Option<u64>,
+    output: Option<&'a str>,
+}
+
+/// How many steps a side of the bounding box has: one less than there are numbers along it, which are 2 to 2^40.
+fn steps_of<'a>(word: Option<&'a str>) -> Result<Option<u64>, Refusal<'a>> {
+    let Some(word) = word else {
+        return Ok(None);
+    };
+    match word.parse::<u64>() {
+        Ok(count) => if count >= 2 && count <= GREATEST_GRID_NUMBER as u64 {
+            Ok(Some(count - 1))
+        } else {
+            Err(Refusal::Usage(Usage::BadQuantize(word)))
+        },
+        Err(_) => Err(Refusal::Usage(Usage::BadQuantize(word))),
     }
 }
 
-/// The topology of a file. Without a step it has to be in degrees.
+/// The options of the way back that the words give, or why they are none.
+pub(crate) fn back_options_of<'a>(found: &ArgMatches<'a>) -> Result<BackOptions<'a>, Refusal<'a>> {
+    Ok(BackOptions {
+        unit: unit_of(found)?,
+        unit_word: decimal_word(found, "unit"),
+        rewind: rewind_of(found, Rewind::D3),
+        like: found.get_str("like"),
+        steps: steps_of(found.get_str("quantize"))?,
+        output: found.get_str("output"),
+    })
+}
+
+/// The topology of a file.
 fn read_file<'a, F: Files>(
     alloc: Global,
-    options: &GridOptions<'a>,
     file: &'a str,
     files: &mut F,
 ) -> Result<Topology, Refusal<'a>> {
     let bytes = read_named(alloc, files, file)?;
-    match read_topology(alloc, bytes.as_slice()) {
-        Ok(topology) => {
-            if options.is_step_given || is_in_degrees(&topology) {
-                return Ok(topology);
-            }
-            let fault = Fault::here(alloc, FaultKind::OutOfRange);
-            Err(Refusal::of_decimal_text(file, fault, false))
+    let text = without_mark(alloc, bytes.as_slice())?;
+    match read_topology(alloc, text) {
+        Ok(topology) => Ok(topology),
+        Err(fault) => Err(refuse_text(file, fault, remedy_of(alloc, text)?, true)),
+    }
+}
+
+/// The refusal of a topology of which no transform is taken.
+fn refuse_like<'a>(alloc: Global, file: &'a str, fault: TransformFault) -> Refusal<'a> {
+    let (kind, member) = match fault {
+        TransformFault::NotJson => return Refusal::of_text(
+            file,
+            Fault::here(alloc, FaultKind::NotJson),
+        ),
+        TransformFault::OutOfMemory => return Refusal::OutOfMemory,
+        TransformFault::NotTopology => (FaultKind::UnknownType, "type"),
+        TransformFault::NoTransform => (FaultKind::NoTransform, "transform"),
+        TransformFault::NotTwoNumbers => (FaultKind::NotTwo, "transform"),
+        TransformFault::TooManyDigits | TransformFault::ZeroScale => {
+            (FaultKind::OutOfRange, "transform")
         }
-        Err(fault) => Err(Refusal::of_text(file, fault)),
+    };
+    Refusal::of_text(file, Fault::here(alloc, kind).under_name(alloc, member))
+}
+
+/// The transform of another topology.
+fn transform_of_file<'a, F: Files>(
+    alloc: Global,
+    options: &BackOptions<'a>,
+    file: &'a str,
+    files: &mut F,
+) -> Result<DecimalTransform, Refusal<'a>> {
+    let bytes = read_named(alloc, files, file)?;
+    match DecimalTransform::read(alloc, without_mark(alloc, bytes.as_slice())?, &options.unit) {
+        Ok(transform) => Ok(transform),
+        Err(fault) => Err(refuse_like(alloc, file, fault)),
+    }
+}
+
+/// The refusal of a topology that gets no text in the unit of the map.
+fn refuse_back<'a>(
+    alloc: Global,
+    options: &BackOptions<'a>,
+    file: &'a str,
+    fault: DecimalFault,
+) -> Refusal<'a> {
+    match fault {
+        DecimalFault::TooManyDigits => Refusal::Usage(Usage::BadUnit(options.unit_word)),
+        DecimalFault::OutOfMemory => Refusal::OutOfMemory,
+    }
+}
+
+/// The text of a topology on the transform that the options ask for.
+fn back_text(
+    alloc: Global,
+    options: &BackOptions<'_>,
+    topology: &Topology,
+    like: Option<DecimalTransform>,
+) -> Result<Vec<u8>, DecimalFault> {
+    // `steps_of` gives one step at least.
+    let other = match (like, options.steps) {
+        (Some(like), _) => Some(like),
+        (None, Some(steps)) => Some(DecimalTransform::of_box(
+            alloc,
+            topology,
+            &options.unit,
+            steps.max(1),
+        )?),
+        (None, None) => None,
+    };
+    match other {
+        Some(other) => text_on(alloc, topology, &other, options.rewind),
+        None => text_of(alloc, topology, &options.unit, options.rewind),
     }
 }
 
 /// Writes the topology of the only file in the unit of the map.
 pub(crate) fn write_back<'a, F: Files, O: Sink>(
     alloc: Global,
-    options: &GridOptions<'a>,
+    options: &BackOptions<'a>,
     names: &[&'a str],
     files: &mut F,
     out: &mut O,
@@ -54,13 +151,19 @@ pub(crate) fn write_back<'a, F: Files, O: Sink>(
     let [file] = names else {
         return Err(Refusal::Usage(Usage::BadBack));
     };
-    let topology = read_file(alloc, options, *file, files)?;
-    match text_of(alloc, &topology, &options.step, options.fixing.rewind) {
+    let like = match options.like {
+        Some(like) => {
+            input_once(&[*file, like])?;
+            Some(transform_of_file(alloc, options, like, files)?)
+        }
+        None => None,
+    };
+    let topology = read_file(alloc, *file, files)?;
+    match back_text(alloc, options, &topology, like) {
         Ok(text) => {
             write_output(alloc, files, out, options.output, text.as_slice())?;
             Ok(Status::Done)
         }
-        Err(DecimalFault::TooManyDigits) => Err(Refusal::Usage(Usage::BadStep(options.step_word))),
-        Err(DecimalFault::OutOfMemory) => Err(Refusal::OutOfMemory),
+        Err(fault) => Err(refuse_back(alloc, options, *file, fault)),
     }
 }

@@ -1,22 +1,23 @@
 //! The whole command, over files and sinks that are passed in.
 use crate::all_faults::print_faults;
-use crate::back::write_back;
-use crate::naming::{check_names, file_in, files_of, names_of, sources_of};
+use crate::back::{back_options_of, write_back};
+use crate::layers::{MapLayer, layers_of};
+use crate::made::Made;
+use crate::naming::{files_of, find_doubled, is_file_name, is_sequence, names_of, sources_of};
 use crate::options::{GridOptions, options_of};
-use crate::printing::Printed;
+use crate::remedies::{refuse_text, remedies_of};
 use crate::report::{Report, report_lines};
 use crate::report_file::report_text;
 use clap::ArgMatches;
 use command_line::ending::{explain, refuse};
 use command_line::files::{Files, input_once, read_all};
 use command_line::output::{is_standard, write_output};
-use command_line::refusal::{Refusal, Usage};
+use command_line::refusal::{Refusal, Remedy, Usage};
 use command_line::status::Status;
 use command_line::togrid::parse;
-use rounded_maps::{MapsFault, Rounded, RoundedMap};
+use rounded_maps::{MapsFault, Rounded, Source};
 use sinks::{Sink, put};
-use std::alloc::Global;
-use topo::Topology;
+use std::alloc::{AllocError, Global};
 
 /// How lines on standard error begin.
 const PROGRAM: &str = "togrid";
@@ -48,13 +49,14 @@ fn perform<'a, F: Files, O: Sink, E: Sink>(
     out: &mut O,
     err: &mut E,
 ) -> Result<Status, Refusal<'a>> {
-    let options = options_of(alloc, found)?;
     let sources = sources_of(alloc, found.get_strs("[NAME=]FILE").unwrap_or(&[]))?;
     let read = files_of(alloc, sources.as_slice())?;
     input_once(read.as_slice())?;
     if found.get_flag("back") {
+        let options = back_options_of(found)?;
         return write_back(alloc, &options, read.as_slice(), files, out);
     }
+    let options = options_of(alloc, found, sources.len())?;
     if found.get_flag("faults") {
         return print_faults(alloc, &options, read.as_slice(), files, out);
     }
@@ -73,18 +75,47 @@ fn round<'a, F: Files, O: Sink, E: Sink>(
 ) -> Result<Status, Refusal<'a>> {
     let texts = read_all(alloc, files, files_of(alloc, sources)?.as_slice())?;
     let (made, rounded) = make(alloc, options, sources, texts)?;
-    let reports = Reports::of(alloc, options, sources, &rounded)?;
-    if !is_shown(options) {
-        made.print(alloc, options, sources, files, out)?;
+    // A refusal may name a layer of a text, so it is written while that name is there.
+    match finish(alloc, options, sources, &made, &rounded, files, out, err) {
+        Ok(status) => Ok(status),
+        Err(refusal) => Ok(refuse(PROGRAM, &refusal, err)),
+    }
+}
+
+/// Writes what was made, and reports.
+fn finish<'m, F: Files, O: Sink, E: Sink>(
+    alloc: Global,
+    options: &GridOptions<'m>,
+    sources: &[(&'m str, &'m str)],
+    made: &Made,
+    rounded: &'m Rounded,
+    files: &mut F,
+    out: &mut O,
+    err: &mut E,
+) -> Result<Status, Refusal<'m>> {
+    let layers = layers_of(alloc, sources, rounded)?;
+    check_layers(alloc, options, layers.as_slice())?;
+    let absent = made.absent(alloc, options)?;
+    let reports = Reports::of(
+        alloc,
+        &Report {
+            options,
+            layers: layers.as_slice(),
+            rounded,
+            absent: absent.as_slice(),
+        },
+    )?;
+    if !options.target.is_standard() {
+        made.print(alloc, options, layers.as_slice(), files, out)?;
     }
     if let Some(file) = options.report {
         write_output(alloc, files, out, Some(file), reports.json.as_slice())?;
     }
     let _ = put(err, reports.lines.as_slice());
-    if is_shown(options) {
-        made.print(alloc, options, sources, files, out)?;
+    if options.target.is_standard() {
+        made.print(alloc, options, layers.as_slice(), files, out)?;
     }
-    Ok(status_of(options, &rounded))
+    Ok(status_of(options, rounded))
 }
 
 /// What is reported. It is made before anything is written.
@@ -96,25 +127,15 @@ struct Reports {
 }
 
 impl Reports {
-    fn of<'a>(
-        alloc: Global,
-        options: &GridOptions<'a>,
-        sources: &[(&'a str, &'a str)],
-        rounded: &Rounded,
-    ) -> Result<Reports, Refusal<'a>> {
-        let report = Report {
-            options,
-            sources,
-            rounded,
-            folder: folder_of(options),
-        };
+    fn of(alloc: Global, report: &Report<'_, '_>) -> Result<Reports, AllocError> {
+        let options = report.options;
         let lines = if options.is_quiet {
             Vec::new(alloc)
         } else {
-            report_lines(alloc, &report)?
+            report_lines(alloc, report)?
         };
         let json = if options.report.is_some() {
-            report_text(alloc, &report)?
+            report_text(alloc, report)?
         } else {
             Vec::new(alloc)
         };
@@ -122,46 +143,19 @@ impl Reports {
     }
 }
 
-/// What is printed: one topology, or each file's map.
-#[derive(Drop)]
-enum Made {
-    Topology(Topology),
-    Maps(Vec<RoundedMap>),
-}
-
-/// The folder that maps are written into.
-fn folder_of<'a>(options: &GridOptions<'a>) -> Option<&'a str> {
-    if options.is_build {
-        None
-    } else {
-        options.output
+/// The texts of files, each one text or a sequence.
+fn with_kinds(
+    alloc: Global,
+    options: &GridOptions<'_>,
+    sources: &[(&str, &str)],
+    texts: Vec<Vec<u8>>,
+) -> Result<Vec<Source<Vec<u8>>>, AllocError> {
+    let mut files = Vec::with_capacity(alloc, texts.len())?;
+    for (bytes, source) in texts.into_iter().zip(sources) {
+        let is_sequence = options.is_sequence || is_sequence(source.1);
+        files.push(Source { bytes, is_sequence })?;
     }
-}
-
-/// Whether it goes to standard output. Each map alone goes into a folder where one is named.
-fn is_shown(options: &GridOptions<'_>) -> bool {
-    match options.output {
-        Some(word) => options.is_build && is_standard(Some(word)),
-        None => true,
-    }
-}
-
-/// Why the files are refused.
-fn refusal<'a>(
-    options: &GridOptions<'a>,
-    sources: &[(&'a str, &'a str)],
-    fault: MapsFault,
-) -> Refusal<'a> {
-    match fault {
-        MapsFault::Text(place, fault) => {
-            let file = match sources.get(place) {
-                Some(source) => source.1,
-                None => "",
-            };
-            Refusal::of_decimal_text(file, fault, options.is_step_given)
-        }
-        MapsFault::OutOfMemory => Refusal::OutOfMemory,
-    }
+    Ok(files)
 }
 
 /// What the options ask for, made of the texts of files.
@@ -171,58 +165,48 @@ fn make<'a>(
     sources: &[(&'a str, &'a str)],
     texts: Vec<Vec<u8>>,
 ) -> Result<(Made, Rounded), Refusal<'a>> {
-    if options.is_build {
-        let names = names_of(alloc, sources)?;
-        return match options.build(alloc, names, texts) {
-            Ok((topology, rounded)) => Ok((Made::Topology(topology), rounded)),
-            Err(fault) => Err(refusal(options, sources, fault)),
-        };
-    }
-    match options.round(alloc, texts) {
-        Ok((maps, rounded)) => Ok((Made::Maps(maps), rounded)),
-        Err(fault) => Err(refusal(options, sources, fault)),
+    let remedies = remedies_of(alloc, texts.as_slice())?;
+    let names = names_of(alloc, sources)?;
+    let files = with_kinds(alloc, options, sources, texts)?;
+    match made_of(alloc, options, names.as_slice(), files) {
+        Ok(made) => Ok(made),
+        Err(fault) => Err(refusal(options, sources, remedies.as_slice(), fault)),
     }
 }
 
-impl Made {
-    /// Prints it to the output that the options name. On standard output it comes last, since a terminal shows it
-    /// with the report.
-    fn print<'a, F: Files, O: Sink>(
-        &self,
-        alloc: Global,
-        options: &GridOptions<'a>,
-        sources: &[(&'a str, &'a str)],
-        files: &mut F,
-        out: &mut O,
-    ) -> Result<(), Refusal<'a>> {
-        match self {
-            Made::Topology(topology) => {
-                Printed::Topology(topology).print(alloc, options.output, files, out)
-            }
-            Made::Maps(maps) => print_maps(alloc, options, sources, maps.as_slice(), files, out),
-        }
-    }
-}
-
-/// Prints the maps into the folder, or the only one to the output.
-fn print_maps<'a, F: Files, O: Sink>(
+/// The same, or why the files are refused.
+fn made_of(
     alloc: Global,
+    options: &GridOptions<'_>,
+    names: &[&str],
+    files: Vec<Source<Vec<u8>>>,
+) -> Result<(Made, Rounded), MapsFault> {
+    if options.is_build {
+        let (topology, rounded) = options.build(alloc, names, files)?;
+        return Ok((Made::Topology(topology), rounded));
+    }
+    let (maps, rounded) = options.round(alloc, names, files)?;
+    Ok((Made::Maps(maps), rounded))
+}
+
+/// The refusal of the files.
+fn refusal<'a>(
     options: &GridOptions<'a>,
     sources: &[(&'a str, &'a str)],
-    maps: &[RoundedMap],
-    files: &mut F,
-    out: &mut O,
-) -> Result<(), Refusal<'a>> {
-    for (source, map) in sources.iter().zip(maps) {
-        match options.output {
-            Some(folder) => {
-                let file = file_in(alloc, folder, source.0)?;
-                Printed::Map(map).print(alloc, Some(file.as_str()), files, out)?;
-            }
-            None => Printed::Map(map).print(alloc, None, files, out)?,
+    remedies: &[Option<Remedy>],
+    fault: MapsFault,
+) -> Refusal<'a> {
+    match fault {
+        MapsFault::Text(place, fault) => {
+            let file = match sources.get(place) {
+                Some(source) => source.1,
+                None => "",
+            };
+            let remedy = remedies.get(place).copied().unwrap_or(None);
+            refuse_text(file, fault, remedy, options.is_step_given)
         }
+        MapsFault::OutOfMemory => Refusal::OutOfMemory,
     }
-    Ok(())
 }
 
 /// Whether something was lost, split or nearly shared, where that is asked.
@@ -234,13 +218,17 @@ fn status_of(options: &GridOptions<'_>, rounded: &Rounded) -> Status {
     }
 }
 
-/// Whether anything was lost or split, or is nearly shared.
+/// Whether anything was lost, closed or split, or is nearly shared or there twice.
 fn is_lossy(rounded: &Rounded) -> bool {
     let is_near = match &rounded.counts {
         Some(counts) => counts.near > 0,
         None => false,
     };
-    is_near || rounded.outcomes.iter().any(|outcome| outcome.is_lossy())
+    let is_double = match &rounded.equal {
+        Some(equal) => equal.iter().any(|equal| !equal.features.is_empty()),
+        None => false,
+    };
+    is_near || is_double || rounded.outcomes.iter().any(|outcome| outcome.is_lossy())
 }
 
 /// More than one file needs a folder, and a folder a name for each. A report replaces no input and no other output.
@@ -249,43 +237,70 @@ fn check_outputs<'a>(
     options: &GridOptions<'a>,
     sources: &[(&'a str, &'a str)],
 ) -> Result<(), Refusal<'a>> {
-    match folder_of(options) {
-        Some(_) => check_names(alloc, sources)?,
-        None => if !options.is_build && sources.len() > 1 {
-            return Err(Refusal::Usage(Usage::NoFolder));
-        },
+    let names = names_of(alloc, sources)?;
+    check_names(alloc, options, names.as_slice())?;
+    let Some(report) = options.report else {
+        return Ok(());
+    };
+    let is_twice = if is_standard(Some(report)) {
+        options.target.is_standard()
+    } else {
+        options.output == Some(report) || sources.iter().any(|source| source.1 == report)
+    };
+    if is_twice {
+        return Err(Refusal::Usage(Usage::BadReport(report)));
     }
-    match options.report {
-        Some(file) => check_report(alloc, options, sources, file),
-        None => Ok(()),
-    }
+    check_report(alloc, options, names.as_slice())
 }
 
-/// Whether a report would go where something else is read or written.
+/// The same of the layers that texts name.
+fn check_layers<'m>(
+    alloc: Global,
+    options: &GridOptions<'m>,
+    layers: &[MapLayer<'m>],
+) -> Result<(), Refusal<'m>> {
+    let mut names = Vec::with_capacity(alloc, layers.len())?;
+    for layer in layers {
+        if layer.is_named_by_text && options.target.is_folder() && !is_file_name(layer.name) {
+            return Err(Refusal::Usage(Usage::BadName(layer.name)));
+        }
+        names.push(layer.name)?;
+    }
+    check_names(alloc, options, names.as_slice())?;
+    check_report(alloc, options, names.as_slice())
+}
+
+/// Maps of these names that are not built go into files of their own, or there is one.
+fn check_names<'a>(
+    alloc: Global,
+    options: &GridOptions<'a>,
+    names: &[&'a str],
+) -> Result<(), Refusal<'a>> {
+    if options.target.is_folder() {
+        return match find_doubled(alloc, names)? {
+            Some(name) => Err(Refusal::Usage(Usage::NameTwice(name))),
+            None => Ok(()),
+        };
+    }
+    if !options.is_build && names.len() > 1 {
+        return Err(Refusal::Usage(Usage::NoFolder));
+    }
+    Ok(())
+}
+
+/// A report goes into no file of a map.
 fn check_report<'a>(
     alloc: Global,
     options: &GridOptions<'a>,
-    sources: &[(&'a str, &'a str)],
-    file: &'a str,
+    names: &[&'a str],
 ) -> Result<(), Refusal<'a>> {
-    let refused = Refusal::Usage(Usage::BadReport(file));
-    if is_standard(Some(file)) {
-        return if is_shown(options) {
-            Err(refused)
-        } else {
-            Ok(())
-        };
-    }
-    if options.output == Some(file) {
-        return Err(refused);
-    }
-    for source in sources {
-        if source.1 == file {
-            return Err(refused);
-        }
-        if let Some(folder) = folder_of(options) {
-            if file_in(alloc, folder, source.0)?.as_str() == file {
-                return Err(refused);
+    let Some(report) = options.report else {
+        return Ok(());
+    };
+    for name in names {
+        if let Some(file) = options.target.file(alloc, *name)? {
+            if file.as_str() == report {
+                return Err(Refusal::Usage(Usage::BadReport(report)));
             }
         }
     }

@@ -4,11 +4,15 @@
 mod all_faults;
 mod back;
 mod command;
+mod layers;
+mod made;
 mod naming;
 mod options;
 mod printing;
+mod remedies;
 mod report;
 mod report_file;
+mod target;
 
 use crate::command::run;
 use command_line::host::{HostFiles, refuse_words};

@@ -1,5 +1,5 @@
 //! The names of layers and of files, in words `NAME=FILE`.
-use command_line::refusal::{Refusal, Usage};
+use command_line::refusal::Refusal;
 use std::alloc::Global;
 
 /// The name of a file without its folders, up to its first point: `provinces` for `in/provinces.geojson`.
@@ -12,6 +12,11 @@ fn stem(file: &str) -> &str {
         Some((stem, _)) => stem,
         None => name,
     }
+}
+
+/// Whether a file is a sequence of texts by its name.
+pub(crate) fn is_sequence(file: &str) -> bool {
+    file.ends_with(".ndjson") || file.ends_with(".geojsonl") || file.ends_with(".geojsons")
 }
 
 /// The name and the file of a word, split at the first `=`. Without one the name is the file's.
@@ -59,11 +64,11 @@ pub(crate) fn names_of<'a>(
 }
 
 /// A name that occurs twice, if there is one.
-fn find_doubled<'a>(
+pub(crate) fn find_doubled<'a>(
     alloc: Global,
-    sources: &[(&'a str, &'a str)],
+    names: &[&'a str],
 ) -> Result<Option<&'a str>, Refusal<'a>> {
-    let mut names = names_of(alloc, sources)?;
+    let mut names = Vec::from_slice(alloc, names)?;
     names.sort()?;
     let mut last: Option<&'a str> = None;
     for name in &names {
@@ -75,15 +80,9 @@ fn find_doubled<'a>(
     Ok(None)
 }
 
-/// Files that are written into one folder need names, and no two the same.
-pub(crate) fn check_names<'a>(
-    alloc: Global,
-    sources: &[(&'a str, &'a str)],
-) -> Result<(), Refusal<'a>> {
-    if let Some(name) = find_doubled(alloc, sources)? {
-        return Err(Refusal::Usage(Usage::NameTwice(name)));
-    }
-    Ok(())
+/// Whether a file in a folder can have a name.
+pub(crate) fn is_file_name(name: &str) -> bool {
+    !name.is_empty() && name != "." && name != ".." && !name.contains('/') && !name.contains('\0')
 }
 
 /// The file of a name in a folder: `out/provinces.json`.

@@ -3,8 +3,8 @@ use command_line::files::Files;
 use command_line::output::{OUTPUT_BUFFER, Output};
 use command_line::refusal::Refusal;
 use command_line::status::Status;
+use grid::Grid;
 use outputs::fault_reports::{FaultReport, write_lines};
-use rounded_maps::grid_of_steps::whole_grid;
 use rounded_maps::{RoundedMap, write_collection};
 use sinks::{Buffered, Refused, Sink, WriteFault};
 use std::alloc::Global;
@@ -15,7 +15,8 @@ use topo::Topology;
 #[derive(Clone, Copy)]
 pub(crate) enum Printed<'m, 'a> {
     Topology(&'m Topology),
-    Map(&'m RoundedMap),
+    /// A map on a grid.
+    Map(&'m RoundedMap, &'m Grid),
     /// The errors of each file of these names.
     Faults(&'m [&'a str], &'m [Vec<FaultReport>]),
 }
@@ -24,7 +25,7 @@ impl<'m, 'a> Printed<'m, 'a> {
     fn put<W: Sink>(&self, sink: &mut W) -> Result<(), WriteFault> {
         match self {
             Printed::Topology(topology) => topo_io::write(*topology, sink),
-            Printed::Map(map) => write_collection(map.features.as_slice(), &whole_grid(), sink),
+            Printed::Map(map, grid) => write_collection(map.features.as_slice(), *grid, sink),
             Printed::Faults(names, reports) => put_faults(*names, *reports, sink),
         }
     }

@@ -1,11 +1,13 @@
 //! The report on standard error.
+use crate::layers::MapLayer;
 use crate::options::GridOptions;
+use crate::target::Target;
 use command_line::refusal::put_words;
 use fixing::Fixes;
 use grid::Pos;
 use itoa::Buffer;
 use numerals::Decimal;
-use rounded_maps::{Outcome, Rounded};
+use rounded_maps::{EqualFeatures, Outcome, Rounded};
 use sinks::{Kept, Sink, WriteFault, put};
 use snapping::nearly_shared::{Clusters, VertexCounts};
 use std::alloc::{AllocError, Global};
@@ -14,10 +16,28 @@ use std::alloc::{AllocError, Global};
 #[derive(Clone, Copy)]
 pub(crate) struct Report<'r, 'a> {
     pub(crate) options: &'r GridOptions<'a>,
-    pub(crate) sources: &'r [(&'a str, &'a str)],
+    /// The layer and the file of each map.
+    pub(crate) layers: &'r [MapLayer<'r>],
     pub(crate) rounded: &'r Rounded,
-    /// The folder that files were written into.
-    pub(crate) folder: Option<&'a str>,
+    /// The properties that the words scale and no feature has.
+    pub(crate) absent: &'r [&'a str],
+}
+
+impl<'r, 'a> Report<'r, 'a> {
+    /// The features of a map that equal others, where that was asked.
+    pub(crate) fn equal(&self, map: usize) -> Option<&'r EqualFeatures> {
+        match &self.rounded.equal {
+            Some(equal) => equal.get(map),
+            None => None,
+        }
+    }
+
+    /// A position in units of the output.
+    pub(crate) fn in_units_of_output(&self, position: Pos) -> (i64, i64) {
+        let units = i64::try_from(self.options.units).unwrap_or(1);
+        let x = position.x().saturating_mul(units);
+        (x, position.y().saturating_mul(units))
+    }
 }
 
 /// There is no memory for a line: those are kept in memory, where nothing else fails.
@@ -107,6 +127,7 @@ fn put_moves(
 /// A kind of what is fixed.
 #[derive(Clone, Copy)]
 enum Kind {
+    Closed,
     Collapsed,
     Folded,
     Collections,
@@ -116,6 +137,7 @@ enum Kind {
 impl Kind {
     fn count_of(self, fixes: Fixes) -> u64 {
         match self {
+            Kind::Closed => fixes.closed,
             Kind::Collapsed => fixes.collapsed,
             Kind::Folded => fixes.folded,
             Kind::Collections => fixes.collections,
@@ -125,6 +147,7 @@ impl Kind {
 
     fn words(self) -> &'static str {
         match self {
+            Kind::Closed => "rings closed",
             Kind::Collapsed => "lines or rings collapsed",
             Kind::Folded => "lines or rings folded, and split",
             Kind::Collections => "collections split",
@@ -151,23 +174,53 @@ fn put_fixed<E: Sink>(err: &mut E, outcome: &Outcome, kind: Kind) -> Result<(), 
     put(err, b"\n")
 }
 
-/// What became of a file: `provinces.geojson: 13 features, 7458 positions, step 0.000001`, how far positions were moved,
-/// and what was lost or split.
+/// How many features equal others, and the first that does.
+fn put_equal<E: Sink>(err: &mut E, equal: &EqualFeatures) -> Result<(), WriteFault> {
+    let Some(first) = equal.features.first() else {
+        return Ok(());
+    };
+    put(err, b"  ")?;
+    put_count(
+        err,
+        equal.features.len() as u64,
+        "features equal to others, the first is feature ",
+    )?;
+    put(err, Buffer::new().format(*first as u64).as_bytes())?;
+    put(err, b"\n")
+}
+
+/// The file of a map, and the layer where the text names it.
+fn put_origin<E: Sink>(err: &mut E, layer: &MapLayer<'_>) -> Result<(), WriteFault> {
+    put(err, layer.file.as_bytes())?;
+    if layer.is_named_by_text {
+        put_words(err, ", layer ", layer.name)?;
+    }
+    put(err, b": ")
+}
+
+/// What became of a map: `provinces.geojson: 13 features, 7458 positions, step 0.000001`, how far positions were moved,
+/// and what was closed, lost or split.
 fn put_outcome(
     alloc: Global,
     lines: &mut Kept,
-    file: &str,
+    layer: &MapLayer<'_>,
     outcome: &Outcome,
     options: &GridOptions<'_>,
 ) -> Result<(), ReportFault> {
-    put_words(lines, file, ": ")?;
+    put_origin(lines, layer)?;
     put_count(lines, outcome.features as u64, "features, ")?;
     put_count(lines, outcome.tally.positions, "positions, step ")?;
     put_words(lines, options.step_word, "\n")?;
     put_moves(alloc, lines, outcome, options)?;
     put_some(lines, outcome.tally.heights, "heights dropped")?;
     put_some(lines, outcome.reals, "numbers made texts")?;
-    for kind in [Kind::Collapsed, Kind::Folded, Kind::Collections, Kind::Lost] {
+    for kind in [
+        Kind::Closed,
+        Kind::Collapsed,
+        Kind::Folded,
+        Kind::Collections,
+        Kind::Lost,
+    ] {
         put_fixed(lines, outcome, kind)?;
     }
     Ok(())
@@ -177,14 +230,24 @@ fn put_number<E: Sink>(err: &mut E, number: i64) -> Result<(), WriteFault> {
     put(err, Buffer::new().format(number).as_bytes())
 }
 
-fn put_position<E: Sink>(err: &mut E, position: Pos) -> Result<(), WriteFault> {
-    put_number(err, position.x())?;
+/// A position in units of the output.
+fn put_position<E: Sink>(
+    err: &mut E,
+    report: &Report<'_, '_>,
+    position: Pos,
+) -> Result<(), WriteFault> {
+    let (x, y) = report.in_units_of_output(position);
+    put_number(err, x)?;
     put(err, b",")?;
-    put_number(err, position.y())
+    put_number(err, y)
 }
 
 /// What was joined, and what was not.
-fn put_clusters<E: Sink>(err: &mut E, clusters: &Clusters) -> Result<(), WriteFault> {
+fn put_clusters<E: Sink>(
+    err: &mut E,
+    report: &Report<'_, '_>,
+    clusters: &Clusters,
+) -> Result<(), WriteFault> {
     put_count(err, clusters.len() as u64, "vertices joined to others\n")?;
     let Some(first) = clusters.first_wide() else {
         return Ok(());
@@ -194,13 +257,17 @@ fn put_clusters<E: Sink>(err: &mut E, clusters: &Clusters) -> Result<(), WriteFa
         clusters.wide() as u64,
         "clusters too wide to be joined, the first at ",
     )?;
-    put_position(err, first)?;
+    put_position(err, report, first)?;
     put(err, b"\n")
 }
 
 /// The pairs of nearly shared vertices of all files, with the first: `279 nearly shared vertices, the first at
 /// 7413821,46998713 and 7413822,46998713`.
-fn put_pairs<E: Sink>(err: &mut E, counts: &VertexCounts) -> Result<(), WriteFault> {
+fn put_pairs<E: Sink>(
+    err: &mut E,
+    report: &Report<'_, '_>,
+    counts: &VertexCounts,
+) -> Result<(), WriteFault> {
     let Some((first, second)) = counts.first else {
         return Ok(());
     };
@@ -209,9 +276,9 @@ fn put_pairs<E: Sink>(err: &mut E, counts: &VertexCounts) -> Result<(), WriteFau
         at_most_u64(counts.near),
         "nearly shared vertices, the first at ",
     )?;
-    put_position(err, first)?;
+    put_position(err, report, first)?;
     put(err, b" and ")?;
-    put_position(err, second)?;
+    put_position(err, report, second)?;
     put(err, b"\n")
 }
 
@@ -241,59 +308,103 @@ fn put_shell_word<E: Sink>(err: &mut E, word: &[u8]) -> Result<(), WriteFault> {
 }
 
 /// A layer and its file, as a word for a shell.
-fn put_layer<E: Sink>(
+fn put_layer(
     alloc: Global,
-    err: &mut E,
+    lines: &mut Kept,
+    target: &Target<'_>,
     name: &str,
-    folder: &str,
-) -> Result<(), WriteFault> {
+) -> Result<(), ReportFault> {
+    let Ok(Some(file)) = target.file(alloc, name) else {
+        return Err(ReportFault);
+    };
     let mut word = Kept::new(alloc);
     put_words(&mut word, name, "=")?;
-    put_words(&mut word, folder, "/")?;
-    put_words(&mut word, name, ".json")?;
-    put(err, b" ")?;
-    put_shell_word(err, word.into_bytes().as_slice())
+    put(&mut word, file.as_bytes())?;
+    put(lines, b" ")?;
+    Ok(put_shell_word(lines, word.into_bytes().as_slice())?)
 }
 
 /// The command to go on with: `topotool build --grid 1,1,0,0 provinces=out/provinces.json`.
-pub(crate) fn put_next<E: Sink>(
-    alloc: Global,
-    err: &mut E,
-    sources: &[(&str, &str)],
-    folder: &str,
-) -> Result<(), WriteFault> {
-    put(err, b"topotool build --grid 1,1,0,0")?;
-    for source in sources {
-        put_layer(alloc, err, source.0, folder)?;
+fn put_next(alloc: Global, lines: &mut Kept, report: &Report<'_, '_>) -> Result<(), ReportFault> {
+    let mut units = Buffer::new();
+    let units = units.format(report.options.units);
+    put(lines, b"topotool build --grid ")?;
+    put_words(lines, units, ",")?;
+    put_words(lines, units, ",0,0")?;
+    for layer in report.layers {
+        put_layer(alloc, lines, &report.options.target, layer.name)?;
     }
     Ok(())
 }
 
+/// The command to go on with, where maps were written into files.
+pub(crate) fn next_command(
+    alloc: Global,
+    report: &Report<'_, '_>,
+) -> Result<Option<Vec<u8>>, AllocError> {
+    if report.options.is_build || report.options.target.is_standard() {
+        return Ok(None);
+    }
+    let mut next = Kept::new(alloc);
+    match put_next(alloc, &mut next, report) {
+        Ok(()) => Ok(Some(next.into_bytes())),
+        Err(ReportFault) => Err(AllocError),
+    }
+}
+
 /// The vertices of all files.
-fn put_vertices<E: Sink>(err: &mut E, rounded: &Rounded) -> Result<(), WriteFault> {
+fn put_vertices<E: Sink>(err: &mut E, report: &Report<'_, '_>) -> Result<(), WriteFault> {
+    let rounded = report.rounded;
     if let Some(counts) = &rounded.counts {
         if counts.shared > 0 {
             put_count(err, counts.shared as u64, "vertices shared\n")?;
         }
     }
     if let Some(clusters) = &rounded.clusters {
-        put_clusters(err, clusters)?;
+        put_clusters(err, report, clusters)?;
     }
     match &rounded.counts {
-        Some(counts) => put_pairs(err, counts),
+        Some(counts) => put_pairs(err, report, counts),
         None => Ok(()),
     }
 }
 
-fn put_lines(alloc: Global, report: &Report<'_, '_>, lines: &mut Kept) -> Result<(), ReportFault> {
-    let rounded = report.rounded;
-    for (source, outcome) in report.sources.iter().zip(rounded.outcomes.iter()) {
-        put_outcome(alloc, lines, source.1, outcome, report.options)?;
+/// What became of each map.
+fn put_outcomes(
+    alloc: Global,
+    report: &Report<'_, '_>,
+    lines: &mut Kept,
+) -> Result<(), ReportFault> {
+    let outcomes = report.rounded.outcomes.iter().enumerate();
+    for (layer, (map, outcome)) in report.layers.iter().zip(outcomes) {
+        put_outcome(alloc, lines, layer, outcome, report.options)?;
+        if let Some(equal) = report.equal(map) {
+            put_equal(lines, equal)?;
+        }
     }
-    put_vertices(lines, rounded)?;
-    if let Some(folder) = report.folder {
+    Ok(())
+}
+
+/// The properties that the words scale and no feature has.
+fn put_absent<E: Sink>(err: &mut E, report: &Report<'_, '_>) -> Result<(), WriteFault> {
+    for property in report.absent {
+        put_words(
+            err,
+            "no feature has the property of --reals scale:",
+            *property,
+        )?;
+        put(err, b"\n")?;
+    }
+    Ok(())
+}
+
+fn put_lines(alloc: Global, report: &Report<'_, '_>, lines: &mut Kept) -> Result<(), ReportFault> {
+    put_outcomes(alloc, report, lines)?;
+    put_absent(lines, report)?;
+    put_vertices(lines, report)?;
+    if let Some(next) = next_command(alloc, report)? {
         put(lines, b"next: ")?;
-        put_next(alloc, lines, report.sources, folder)?;
+        put(lines, next.as_slice())?;
         put(lines, b"\n")?;
     }
     Ok(())

@@ -1,10 +1,10 @@
 //! The report as JSON.
-use crate::report::{Report, at_most_u64, in_steps, in_units, put_next};
+use crate::layers::MapLayer;
+use crate::report::{Report, at_most_u64, in_steps, in_units, next_command};
 use fixing::{FeatureFixes, Fixes};
 use grid::Pos;
 use json::Writer;
-use rounded_maps::{Outcome, Rounded};
-use sinks::Kept;
+use rounded_maps::{EqualFeatures, Outcome};
 use snapping::nearly_shared::{Clusters, VertexCounts};
 use std::alloc::{AllocError, Global};
 
@@ -18,15 +18,22 @@ fn write_text(writer: &mut Writer, name: &str, text: &str) -> Result<(), AllocEr
     writer.string(text)
 }
 
-fn write_position(writer: &mut Writer, position: Pos) -> Result<(), AllocError> {
+/// A position in units of the output.
+fn write_position(
+    writer: &mut Writer,
+    report: &Report<'_, '_>,
+    position: Pos,
+) -> Result<(), AllocError> {
+    let (x, y) = report.in_units_of_output(position);
     writer.begin_array()?;
-    writer.i64(position.x())?;
-    writer.i64(position.y())?;
+    writer.i64(x)?;
+    writer.i64(y)?;
     writer.end_array()
 }
 
 /// How much was fixed, as members.
 fn write_fixes(writer: &mut Writer, fixes: Fixes) -> Result<(), AllocError> {
+    write_count(writer, "closed", fixes.closed)?;
     write_count(writer, "collapsed", fixes.collapsed)?;
     write_count(writer, "folded", fixes.folded)?;
     write_count(writer, "collections", fixes.collections)?;
@@ -46,17 +53,23 @@ fn write_features(writer: &mut Writer, features: &[FeatureFixes]) -> Result<(), 
     writer.end_array()
 }
 
-/// What became of a file.
-fn write_outcome(
+/// The features that equal others.
+fn write_equal(writer: &mut Writer, equal: &EqualFeatures) -> Result<(), AllocError> {
+    write_count(writer, "equal", equal.features.len() as u64)?;
+    writer.key("first_equal")?;
+    match equal.features.first() {
+        Some(first) => writer.u64(*first as u64),
+        None => writer.null(),
+    }
+}
+
+/// What became of a map's numbers.
+fn write_moves(
     alloc: Global,
     writer: &mut Writer,
-    source: &(&str, &str),
     outcome: &Outcome,
     report: &Report<'_, '_>,
 ) -> Result<(), AllocError> {
-    writer.begin_object()?;
-    write_text(writer, "file", source.1)?;
-    write_text(writer, "name", source.0)?;
     write_count(writer, "features", outcome.features as u64)?;
     write_count(writer, "positions", outcome.tally.positions)?;
     write_count(writer, "moved", outcome.tally.moved)?;
@@ -65,44 +78,71 @@ fn write_outcome(
     let units = in_units(alloc, outcome, report.options)?;
     write_text(writer, "furthest", units.as_str())?;
     write_count(writer, "heights", outcome.tally.heights)?;
-    write_count(writer, "reals", outcome.reals)?;
+    write_count(writer, "reals", outcome.reals)
+}
+
+/// What became of a map.
+fn write_outcome(
+    alloc: Global,
+    writer: &mut Writer,
+    layer: &MapLayer<'_>,
+    outcome: &Outcome,
+    equal: Option<&EqualFeatures>,
+    report: &Report<'_, '_>,
+) -> Result<(), AllocError> {
+    writer.begin_object()?;
+    write_text(writer, "file", layer.file)?;
+    write_text(writer, "name", layer.name)?;
+    write_moves(alloc, writer, outcome, report)?;
     write_fixes(writer, outcome.fixes)?;
+    if let Some(equal) = equal {
+        write_equal(writer, equal)?;
+    }
     write_features(writer, outcome.fixed.as_slice())?;
     writer.end_object()
 }
 
-fn write_pairs(writer: &mut Writer, counts: &VertexCounts) -> Result<(), AllocError> {
+fn write_pairs(
+    writer: &mut Writer,
+    report: &Report<'_, '_>,
+    counts: &VertexCounts,
+) -> Result<(), AllocError> {
     write_count(writer, "nearly_shared", at_most_u64(counts.near))?;
     writer.key("first_nearly_shared")?;
     let Some((first, second)) = counts.first else {
         return writer.null();
     };
     writer.begin_array()?;
-    write_position(writer, first)?;
-    write_position(writer, second)?;
+    write_position(writer, report, first)?;
+    write_position(writer, report, second)?;
     writer.end_array()
 }
 
-fn write_clusters(writer: &mut Writer, clusters: &Clusters) -> Result<(), AllocError> {
+fn write_clusters(
+    writer: &mut Writer,
+    report: &Report<'_, '_>,
+    clusters: &Clusters,
+) -> Result<(), AllocError> {
     write_count(writer, "joined", clusters.len() as u64)?;
     write_count(writer, "too_wide", clusters.wide() as u64)?;
     writer.key("first_too_wide")?;
     match clusters.first_wide() {
-        Some(first) => write_position(writer, first),
+        Some(first) => write_position(writer, report, first),
         None => writer.null(),
     }
 }
 
 /// The vertices of all files.
-fn write_vertices(writer: &mut Writer, rounded: &Rounded) -> Result<(), AllocError> {
+fn write_vertices(writer: &mut Writer, report: &Report<'_, '_>) -> Result<(), AllocError> {
+    let rounded = report.rounded;
     if let Some(counts) = &rounded.counts {
         write_count(writer, "shared", counts.shared as u64)?;
     }
     if let Some(clusters) = &rounded.clusters {
-        write_clusters(writer, clusters)?;
+        write_clusters(writer, report, clusters)?;
     }
     match &rounded.counts {
-        Some(counts) => write_pairs(writer, counts),
+        Some(counts) => write_pairs(writer, report, counts),
         None => Ok(()),
     }
 }
@@ -113,15 +153,10 @@ fn write_next(
     writer: &mut Writer,
     report: &Report<'_, '_>,
 ) -> Result<(), AllocError> {
-    let Some(folder) = report.folder else {
+    let Some(next) = next_command(alloc, report)? else {
         return Ok(());
     };
-    let mut next = Kept::new(alloc);
-    if put_next(alloc, &mut next, report.sources, folder).is_err() {
-        return Err(AllocError);
-    }
-    let bytes = next.into_bytes();
-    match simdutf8::compat::from_utf8(bytes.as_slice()) {
+    match simdutf8::compat::from_utf8(next.as_slice()) {
         Ok(text) => write_text(writer, "next", text),
         Err(_) => Ok(()),
     }
@@ -134,20 +169,34 @@ fn write_files(
 ) -> Result<(), AllocError> {
     writer.key("files")?;
     writer.begin_array()?;
-    for (source, outcome) in report.sources.iter().zip(report.rounded.outcomes.iter()) {
-        write_outcome(alloc, writer, source, outcome, report)?;
+    let outcomes = report.rounded.outcomes.iter().enumerate();
+    for (layer, (map, outcome)) in report.layers.iter().zip(outcomes) {
+        write_outcome(alloc, writer, layer, outcome, report.equal(map), report)?;
+    }
+    writer.end_array()
+}
+
+/// The properties that the words scale and no feature has, where they scale any.
+fn write_absent(writer: &mut Writer, report: &Report<'_, '_>) -> Result<(), AllocError> {
+    if report.options.scales.is_empty() {
+        return Ok(());
+    }
+    writer.key("absent")?;
+    writer.begin_array()?;
+    for property in report.absent {
+        writer.string(*property)?;
     }
     writer.end_array()
 }
 
 /// The report as a JSON text, with a line's end.
 pub(crate) fn report_text(alloc: Global, report: &Report<'_, '_>) -> Result<Vec<u8>, AllocError> {
-    let rounded = report.rounded;
     let mut writer = Writer::new(Vec::new(alloc));
     writer.begin_object()?;
     write_text(&mut writer, "step", report.options.step_word)?;
     write_files(alloc, &mut writer, report)?;
-    write_vertices(&mut writer, rounded)?;
+    write_absent(&mut writer, report)?;
+    write_vertices(&mut writer, report)?;
     write_next(alloc, &mut writer, report)?;
     writer.end_object()?;
     let mut text = writer.into_inner();

@@ -35,6 +35,8 @@ pub(crate) enum Form {
     Value(&'static str),
     /// The same, which does not go with another argument.
     ValueNotWith(&'static str, &'static str),
+    /// The same, which wants another argument beside it, and does not go with others.
+    ValueWith(&'static str, &'static str, &'static [&'static str]),
     /// `--name VALUE`, what help calls the value, and a letter for it.
     Lettered(char, &'static str),
     /// `--name VALUE`, which may be there more than once, and what help calls the value.
@@ -81,6 +83,7 @@ impl Form {
             | Form::NeededWithout(called, _)
             | Form::Value(called)
             | Form::ValueNotWith(called, _)
+            | Form::ValueWith(called, ..)
             | Form::Lettered(_, called)
             | Form::Repeated(called)
             | Form::OneOf(called, _)
@@ -435,13 +438,17 @@ pub(crate) const TOGRID: &[ArgumentRow] = &[
         Form::FlagNotWith(&[
             "build",
             "faults",
+            "step",
             "snap",
             "id",
+            "number",
             "heights",
             "reals",
+            "unclosed",
             "collapsed",
             "folded",
             "collections",
+            "seq",
             "report",
             "strict",
         ]),
@@ -449,13 +456,20 @@ pub(crate) const TOGRID: &[ArgumentRow] = &[
     ),
     argument!(
         "faults",
-        Form::FlagNotWith(&["build", "snap", "rewind", "report", "strict", "quiet"]),
+        Form::FlagNotWith(&[
+            "build", "snap", "number", "rewind", "report", "strict", "quiet"
+        ]),
         "Print all errors of the files that nothing fixes,\nwith their lines and columns"
     ),
     argument!(
         "step",
         Form::Value("S"),
-        "The size of a step [default: 0.000001, for degrees]"
+        "The size of a step, 1 to 1,000,000 units\n[default: 0.000001, for degrees]"
+    ),
+    argument!(
+        "unit",
+        Form::Value("U"),
+        "What 1 is in the output [default: 0.000001]"
     ),
     argument!(
         "snap",
@@ -468,6 +482,11 @@ pub(crate) const TOGRID: &[ArgumentRow] = &[
         "The property that becomes the id of each feature"
     ),
     argument!(
+        "number",
+        Form::Flag,
+        "A feature without an id gets its number, from 1"
+    ),
+    argument!(
         "heights",
         Form::OneOf("HOW", &["drop", "refuse"]),
         "Third numbers of positions: drop,\nrefuse"
@@ -475,7 +494,12 @@ pub(crate) const TOGRID: &[ArgumentRow] = &[
     argument!(
         "reals",
         Form::Repeated("HOW"),
-        "Numbers with a fraction: text, refuse, scale:P=K\n[default: text]"
+        "Numbers of properties: whole, text, refuse,\nscale:P=K [default: whole]"
+    ),
+    argument!(
+        "unclosed",
+        Form::OneOf("HOW", &["close", "refuse"]),
+        "Rings whose last position is not their first:\nclose, refuse"
     ),
     argument!(
         "collapsed",
@@ -493,6 +517,21 @@ pub(crate) const TOGRID: &[ArgumentRow] = &[
         "GeometryCollections: split,\nrefuse"
     ),
     argument!(
+        "seq",
+        Form::Flag,
+        "Sequences: a GeoJSON text a line. Files .ndjson,\n.geojsonl and .geojsons are read so anyway"
+    ),
+    argument!(
+        "like",
+        Form::ValueWith("FILE", "back", &["quantize"]),
+        "With --back: on the transform of this topology"
+    ),
+    argument!(
+        "quantize",
+        Form::ValueWith("N", "back", &[]),
+        "With --back: whole numbers from 0 to N-1 along\neach axis"
+    ),
+    argument!(
         "rewind",
         Form::AnyOf("HOW", &["keep", "rfc7946", "d3"]),
         "How rings turn: keep, rfc7946, d3\n[default: keep; with --back d3]"
@@ -500,7 +539,7 @@ pub(crate) const TOGRID: &[ArgumentRow] = &[
     argument!(
         "output",
         Form::Lettered('o', "PATH"),
-        "The folder for the files, or the file for what\n--build, --back or --faults prints"
+        "The folder for the files; a file where one is\nprinted, and where PATH ends in .json or .geojson"
     ),
     argument!(
         "report",

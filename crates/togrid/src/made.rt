@@ -1,0 +1,135 @@
+//! What is made of files: printed, and asked for properties.
+use crate::layers::MapLayer;
+use crate::options::GridOptions;
+use crate::printing::Printed;
+use command_line::files::Files;
+use command_line::refusal::Refusal;
+use faults::OutOfMemory;
+use json::{Error, Scratch, Value};
+use rounded_maps::RoundedMap;
+use shapes::Props;
+use sinks::Sink;
+use std::alloc::Global;
+use topo::Topology;
+use topo::topology::Layer;
+
+/// Whether properties have a member of this name.
+fn has_member(alloc: Global, props: &Props, name: &str) -> Result<bool, OutOfMemory> {
+    let mut scratch = Scratch::new(alloc);
+    match Value::parse(alloc, props.text(), &mut scratch) {
+        Ok(value) => Ok(value.get(name).is_some()),
+        Err(Error::OutOfMemory) => Err(OutOfMemory),
+        Err(_) => Ok(false),
+    }
+}
+
+/// Whether a feature of a layer has a property.
+fn is_in_layer(alloc: Global, layer: &Layer, name: &str) -> Result<bool, OutOfMemory> {
+    for geometry in layer.geometries() {
+        if has_member(alloc, &geometry.props, name)? {
+            return Ok(true);
+        }
+    }
+    Ok(false)
+}
+
+/// Whether a feature of a map has a property.
+fn is_in_map(alloc: Global, map: &RoundedMap, name: &str) -> Result<bool, OutOfMemory> {
+    for feature in &map.features {
+        if has_member(alloc, &feature.feature.props, name)? {
+            return Ok(true);
+        }
+    }
+    Ok(false)
+}
+
+/// Whether a feature of a topology has a property.
+fn is_in_topology(alloc: Global, topology: &Topology, name: &str) -> Result<bool, OutOfMemory> {
+    for layer in topology.layers() {
+        if is_in_layer(alloc, layer, name)? {
+            return Ok(true);
+        }
+    }
+    Ok(false)
+}
+
+/// Whether a feature of maps has a property.
+fn is_in_maps(alloc: Global, maps: &[RoundedMap], name: &str) -> Result<bool, OutOfMemory> {
+    for map in maps {
+        if is_in_map(alloc, map, name)? {
+            return Ok(true);
+        }
+    }
+    Ok(false)
+}
+
+/// What is made of files: one topology, or maps.
+#[derive(Drop)]
+pub(crate) enum Made {
+    Topology(Topology),
+    Maps(Vec<RoundedMap>),
+}
+
+impl Made {
+    /// Whether a feature has a property.
+    fn has_property(&self, alloc: Global, name: &str) -> Result<bool, OutOfMemory> {
+        match self {
+            Made::Topology(topology) => is_in_topology(alloc, topology, name),
+            Made::Maps(maps) => is_in_maps(alloc, maps.as_slice(), name),
+        }
+    }
+
+    /// The properties that the words scale and no feature has, where anything is reported.
+    pub(crate) fn absent<'a>(
+        &self,
+        alloc: Global,
+        options: &GridOptions<'a>,
+    ) -> Result<Vec<&'a str>, OutOfMemory> {
+        let mut absent = Vec::new(alloc);
+        if !options.reports() {
+            return Ok(absent);
+        }
+        for scale in &options.scales {
+            if !self.has_property(alloc, scale.property)? {
+                absent.push(scale.property)?;
+            }
+        }
+        Ok(absent)
+    }
+
+    /// Prints it where it goes. On standard output it comes last, since a terminal shows it with the report.
+    pub(crate) fn print<'a, F: Files, O: Sink>(
+        &self,
+        alloc: Global,
+        options: &GridOptions<'a>,
+        layers: &[MapLayer<'_>],
+        files: &mut F,
+        out: &mut O,
+    ) -> Result<(), Refusal<'a>> {
+        match self {
+            Made::Topology(topology) => {
+                Printed::Topology(topology).print(alloc, options.output, files, out)
+            }
+            Made::Maps(maps) => print_maps(alloc, options, layers, maps.as_slice(), files, out),
+        }
+    }
+}
+
+/// Prints each map where it goes.
+fn print_maps<'a, F: Files, O: Sink>(
+    alloc: Global,
+    options: &GridOptions<'a>,
+    layers: &[MapLayer<'_>],
+    maps: &[RoundedMap],
+    files: &mut F,
+    out: &mut O,
+) -> Result<(), Refusal<'a>> {
+    for (layer, map) in layers.iter().zip(maps) {
+        let printed = Printed::Map(map, &options.grid);
+        match options.target.file(alloc, layer.name)? {
+            Some(file) => printed.print(alloc, Some(file.as_str()), files, out)?,
+            None => printed.print(alloc, None, files, out)?,
+        }
+    }
+    Ok(())
+}
