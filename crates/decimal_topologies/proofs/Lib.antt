@@ -1,3 +1,9 @@
+pub mod Snapped
+pub mod Positions
+pub mod Heights
+pub mod Table
+pub mod Fits
+pub mod Numerals
 pub mod Tables
 pub mod Judging
 pub mod Stitches
