@@ -11,3 +11,5 @@ pub mod Faulty
 pub mod Nested
 pub mod Layered
 pub mod Marked
+pub mod Rooted
+pub mod Order

@@ -10,3 +10,4 @@ pub mod Geometries
 pub mod Features
 pub mod Layers
 pub mod Used
+pub mod Roots

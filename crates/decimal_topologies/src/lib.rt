@@ -13,8 +13,10 @@ mod numbers;
 pub mod objects;
 pub mod place;
 mod places;
+mod root;
 mod stitching;
 mod transform;
 mod used;
 
 pub use objects::TopologyLayer;
+pub use root::{is_topology, read_topology, topology_faults};
