@@ -1,13 +1,12 @@
 -- Objects that have faults.
-use Rattle.std.proofs.Common.{◌≡◌, ◌≢◌, Bool, true, false, List, [], ◌∷◌, ◌++◌, Option, Some, None, Result, Ok, Err, codes, is_some, refl, sym, ap, ◌∙◌, subst}
+use Rattle.std.proofs.Common.{◌≡◌, ◌≢◌, Bool, true, false, List, [], Option, Some, None, Result, Ok, Err, is_some, refl, sym, ap, ◌∙◌, subst}
 use Rattle.json.specs.Json.{Json, null, boolean, number, string, array, object, Members}
-use Rattle.json.specs.Find.{as_object, get}
-use Rattle.faults.specs.Path.{name}
+use Rattle.json.specs.Find.{as_object}
 use Rattle.faults.specs.Fault.{Pair}
 use Rattle.faults.specs.declared.fault.FaultKind.{FaultKind}
 use Rattle.faults.specs.declared.fault.FaultKind.TheVariants.{WrongKind, UnknownType}
 use Rattle.fixing.specs.declared.rules.FixingRules.{FixingRules}
-use Rattle.reading.specs.Fault.{here, under}
+use Rattle.reading.specs.Fault.{here}
 use Rattle.reading.specs.Parts.{typed_faults}
 use Rattle.decimal_faults.specs.Parts.{object_faults}
 use Rattle.decimal_faults.specs.declared.geometry.GeometryForm.{GeometryForm}

@@ -1,5 +1,5 @@
 -- Layers one after another, by their names.
-use Rattle.std.proofs.Common.{◌≡◌, ◌≢◌, ℕ, ◌+◌, ◌<◌, ◌≤◌, length, get_or, drop, map, List, [], ◌∷◌, ◌++◌, string_bytes, refl, sym, ap, ◌∙◌, subst, append_assoc, append-nil}
+use Rattle.std.proofs.Common.{◌≡◌, ◌≢◌, ℕ, ◌+◌, ◌<◌, ◌≤◌, length, get_or, drop, List, [], ◌∷◌, ◌++◌, refl, sym, ap, ◌∙◌, subst, append_assoc, append-nil}
 use Rattle.std.proofs.lemmas.List.{drop_more, drop_all}
 use Rattle.std.specs.Borrow.{Bor}
 use Rattle.std.specs.BTreeMap.{insert_entry}
@@ -17,9 +17,9 @@ use Rattle.fixing.specs.declared.rules.FixingRules.{FixingRules}
 use Rattle.reading.specs.Fault.{under}
 use Rattle.reading.proofs.Faultless.{under_none, first_none, second_none}
 use Rattle.decimal_maps.specs.declared.rules.MapRules.{MapRules}
-use Rattle.decimal_topologies.specs.Features.{IsLayer, layer_faults}
+use Rattle.decimal_topologies.specs.Features.{layer_faults}
 use Rattle.decimal_topologies.specs.Geometries.{TopologyParts}
-use Rattle.decimal_topologies.specs.Layers.{Named, AreNamedLayers, IsNamedLayer, layers_faults, seen_named, with_members}
+use Rattle.decimal_topologies.specs.Layers.{AreNamedLayers, IsNamedLayer, layers_faults, seen_named, with_members}
 use Rattle.decimal_topologies.specs.declared.objects.TopologyLayer.{TopologyLayer}
 
 -- a name and a value that are borrowed

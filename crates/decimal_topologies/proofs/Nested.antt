@@ -1,13 +1,12 @@
 -- Geometry objects of collections: their faults, and their shapes.
-use Rattle.std.proofs.Common.{◌≡◌, ◌≢◌, ℕ, ◌+◌, ◌<◌, ◌≤◌, length, get_or, drop, Bool, true, false, cond, List, [], ◌∷◌, ◌++◌, Option, Some, None, Result, Ok, Err, option_map, codes, bytes_eq, if◌then◌else◌, ◌⊎◌, inl, inr, refl, sym, ap, ◌∙◌, subst, append_assoc, append-nil}
+use Rattle.std.proofs.Common.{◌≡◌, ◌≢◌, ℕ, ◌+◌, ◌<◌, ◌≤◌, length, get_or, drop, Bool, true, false, cond, List, [], ◌∷◌, ◌++◌, Option, Some, None, Result, Ok, Err, option_map, codes, bytes_eq, if◌then◌else◌, inl, inr, refl, sym, ap, ◌∙◌, subst, append_assoc, append-nil}
 use Rattle.std.proofs.lemmas.List.{drop_more, drop_all}
 use Rattle.std.specs.declared.alloc.Global.{Global}
 use Rattle.json.specs.Json.{Json, null, boolean, number, string, array, object, Items, no_items, item, Members, no_members, member}
-use Rattle.json.specs.Find.{get, get_member, later_or, as_array, as_object}
+use Rattle.json.specs.Find.{get, get_member, later_or, as_array}
 use Rattle.json.specs.Value.{value_view, items_view}
 use Rattle.json.specs.declared.value.Value.{Value}
 use Rattle.faults.specs.Path.{index}
-use Rattle.faults.specs.Fault.{Pair}
 use Rattle.faults.specs.declared.fault.FaultKind.{FaultKind}
 use Rattle.faults.specs.declared.fault.FaultKind.TheVariants.{WrongKind}
 use Rattle.fixing.specs.declared.raw.RawShape.{RawShape}

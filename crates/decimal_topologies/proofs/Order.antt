@@ -1,10 +1,9 @@
 -- The faults of a topology are listed in order.
-use Rattle.std.proofs.Common.{◌≡◌, ℕ, ◌+◌, ◌<◌, Bool, true, false, List, [], ◌∷◌, ◌++◌, map, length, Option, Some, None, Result, Ok, Err, Less, Equal, Greater, codes, bytes_eq, if◌then◌else◌, refl, sym, ap, ◌∙◌, subst, arith, append_assoc}
+use Rattle.std.proofs.Common.{◌≡◌, ℕ, ◌+◌, ◌<◌, Bool, true, false, List, [], ◌∷◌, ◌++◌, length, Option, Some, None, Result, Ok, Err, Less, Equal, Greater, codes, bytes_eq, if◌then◌else◌, refl, sym, ap, ◌∙◌, subst, arith, append_assoc}
 use Rattle.std.proofs.lemmas.Cmp.{nat_list_cmp_total}
 use Rattle.std.specs.BTreeMap.{insert_entry}
 use Rattle.std.specs.Cmp.{nat_cmp_is}
 use Rattle.std.specs.Cmp.Lexicographic.{slice_cmp}
-use Rattle.std.specs.List.{AllByRecursion}
 use Rattle.std.specs.Ordering.{match_ordering, nat_cmp, ordering_reverse}
 use Rattle.std.specs.declared.cmp.Ordering.{Ordering}
 use Rattle.json.specs.Json.{Json, null, boolean, number, string, array, object, Items, no_items, item, Members, no_members, member}
@@ -20,7 +19,6 @@ use Rattle.attributes.specs.Refusals.{attributes_faults}
 use Rattle.attributes.proofs.Order.{ascending_attributes, beyond_attributes}
 use Rattle.reading.specs.Fault.{here, turn_cmp, under}
 use Rattle.reading.specs.FaultLists.Ascending.{IsAscending}
-use Rattle.reading.specs.Outlines.{outline_faults}
 use Rattle.reading.specs.Parts.{named, of_type}
 use Rattle.reading.specs.declared.geometry.GeometryType.{GeometryType}
 use Rattle.reading.specs.declared.geometry.GeometryType.TheVariants.{Point, MultiPoint, LineString, MultiLineString, Polygon, MultiPolygon}
@@ -35,14 +33,14 @@ use Rattle.decimal_faults.specs.declared.geometry.GeometryForm.TheVariants.{Simp
 use Rattle.decimal_faults.specs.declared.outline.Outline.{Outline}
 use Rattle.decimal_faults.specs.declared.outline.Outline.TheVariants.{Line, Ring}
 use Rattle.decimal_topologies.specs.Features.{feature_faults, feature_members_faults, has_features, layer_faults}
-use Rattle.decimal_topologies.specs.Geometries.{TopologyParts, body_faults, body_name, each_geometry_faults, form_faults, form_of, form_under, geometries_faults, geometries_in, geometry_faults, point_faults}
+use Rattle.decimal_topologies.specs.Geometries.{TopologyParts, body_faults, body_name, each_geometry_faults, form_faults, form_under, geometries_faults, geometries_in, geometry_faults}
 use Rattle.decimal_topologies.specs.Layers.{Named, layers_faults, layers_if_object, members_in_order, objects_faults, with_members}
 use Rattle.decimal_topologies.specs.Arcs.{arc_faults, arc_items_faults, arcs_faults, faults_if, steps_faults}
 use Rattle.decimal_topologies.specs.Places as place
 use Rattle.decimal_topologies.specs.Places.{both_of, fault_in, first_sums, next_sums, position_faults, step_faults}
 use Rattle.decimal_topologies.specs.Transforms as transform
 use Rattle.decimal_topologies.specs.Transforms.{quantization_of, transform_faults}
-use Rattle.decimal_topologies.specs.Roots.{content_faults as members_faults, content_of, if_array, if_there as arcs_if_there, parts_in, topology_faults, topology_members_faults, used_in}
+use Rattle.decimal_topologies.specs.Roots.{content_of, if_array, if_there as arcs_if_there, parts_in, topology_faults, topology_members_faults, used_in}
 use Rattle.decimal_topologies.specs.declared.axes.Reached.{Reached}
 use Rattle.decimal_topologies.specs.declared.places.Sums.{Sums}
 use Rattle.decimal_topologies.specs.Seen.{Arcs}

@@ -1,5 +1,5 @@
 -- Topologies that have faults.
-use Rattle.std.proofs.Common.{◌≡◌, ◌≢◌, ℕ, ◌+◌, Bool, true, false, length, List, [], ◌∷◌, ◌++◌, Option, Some, None, Result, Ok, Err, bytes_eq, codes, is_some, if◌then◌else◌, refl, sym, ap, ◌∙◌, subst, arith, add-one}
+use Rattle.std.proofs.Common.{◌≡◌, ◌≢◌, ℕ, Bool, true, false, length, List, [], ◌∷◌, Some, None, Result, Ok, Err, bytes_eq, codes, is_some, if◌then◌else◌, refl, sym, ap, ◌∙◌, arith}
 use Rattle.std.proofs.lemmas.Slice.Eq.{bytes_eq-Decides}
 use Rattle.std.specs.declared.alloc.Global.{Global}
 use Rattle.json.specs.Json.{Json, null, boolean, number, string, array, object, Items}
@@ -7,14 +7,13 @@ use Rattle.json.specs.Find.{as_array, as_object, get}
 use Rattle.json.specs.Value.{items_view}
 use Rattle.json.specs.declared.value.Value.{Value}
 use Rattle.faults.specs.Path.{name}
-use Rattle.faults.specs.Fault.{Pair}
 use Rattle.faults.specs.declared.fault.FaultKind.{FaultKind}
 use Rattle.faults.specs.declared.fault.FaultKind.TheVariants.{UnknownType}
 use Rattle.fixing.specs.declared.rules.FixingRules.{FixingRules}
 use Rattle.reading.specs.Fault.{under, unless_faulty}
 use Rattle.reading.specs.Parts.{named, of_type, typed_faults}
 use Rattle.reading.proofs.Faultless.{first_none, second_none, under_none, unless_none}
-use Rattle.decimal_faults.specs.Parts.{member_faults, object_faults, type_text}
+use Rattle.decimal_faults.specs.Parts.{member_faults, type_text}
 use Rattle.decimal_maps.specs.declared.rules.MapRules.{MapRules}
 use Rattle.decimal_topologies.specs.Arcs.{arcs_faults}
 use Rattle.decimal_topologies.specs.Layers.{objects_faults}

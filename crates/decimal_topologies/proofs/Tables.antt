@@ -1,7 +1,7 @@
 -- Arcs of the table, and the places along them.
-use Rattle.std.proofs.Common.{◌≡◌, ℕ, ◌+◌, ◌-◌, ◌<◌, ◌≤◌, suc, zero, Bool, true, false, length, get_or, drop, reverse, map, List, [], ◌∷◌, ◌++◌, Option, Some, None, option_map, slice_get, Vec, refl, sym, ap, ◌∙◌, subst, arith, add-one}
+use Rattle.std.proofs.Common.{◌≡◌, ℕ, ◌+◌, ◌-◌, ◌<◌, Bool, true, false, length, get_or, drop, reverse, List, ◌∷◌, Option, Some, slice_get, Vec, refl, sym, ap, ◌∙◌, arith}
 use Rattle.std.proofs.lemmas.List.{drop_more, get_or-reverse, length-map, length-reverse}
-use Rattle.std.proofs.lemmas.Option.{get_or_from_slice_get, slice_get-get_or, slice_get-map, slice_get_past, slice_get_within}
+use Rattle.std.proofs.lemmas.Option.{get_or_from_slice_get, slice_get-get_or, slice_get_within}
 use Rattle.std.specs.declared.alloc.Global.{Global}
 use Rattle.decimal_topologies.specs.Seen.{seen_arcs}
 use Rattle.decimal_topologies.specs.Stitching.{directed}

@@ -1,5 +1,5 @@
 -- Numbers of positions of topologies, along one axis [TopoJSON, 2.1.2 and 2.1.3; limits own].
-use Rattle.std.specs.Prelude.{ℕ, ℤ, pos, ◌+ℤ◌, ◌+◌, ◌*◌, ◌/◌, ◌^◌, ◌&&◌, nat_le, Bool, List, [], Option, Some, None, option_map, Result, Ok, Err, unsigned_abs, if◌then◌else◌}
+use Rattle.std.specs.Prelude.{ℕ, ℤ, pos, ◌+ℤ◌, ◌+◌, ◌*◌, ◌/◌, ◌^◌, ◌&&◌, nat_le, Bool, List, Option, Some, None, Result, Ok, Err, unsigned_abs, if◌then◌else◌}
 use Rattle.std.specs.Int.Signed.{lt_z}
 use Rattle.fast_float.specs.Text.{with_sign}
 use Rattle.json.specs.Json.{Json}

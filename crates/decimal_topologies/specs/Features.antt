@@ -1,5 +1,5 @@
 -- Features and layers of a topology [TopoJSON, 2.1.5 and 2.2; own].
-use Rattle.std.specs.Prelude.{◌≡◌, ℕ, ◌++◌, Bool, true, false, List, [], ◌∷◌, Option, Some, None, Result, Ok, Err, codes, if◌then◌else◌}
+use Rattle.std.specs.Prelude.{◌≡◌, ◌++◌, Bool, true, false, List, [], ◌∷◌, Option, Some, None, Result, Ok, Err, codes, if◌then◌else◌}
 use Rattle.json.specs.Json.{Json}
 use Rattle.json.specs.Find.{as_object, get}
 use Rattle.attributes.specs.Refusals.{attributes_faults}

@@ -9,7 +9,7 @@ use Rattle.faults.specs.declared.fault.FaultKind.TheVariants.{NotTwo}
 use Rattle.reading.specs.Fault.{here, under}
 use Rattle.reading.specs.Positions.{position_at}
 use Rattle.decimal_faults.specs.Parts.{array_faults, each_faults}
-use Rattle.decimal_faults.specs.Positions.{behind_two, height_faults, may_have}
+use Rattle.decimal_faults.specs.Positions.{height_faults, may_have}
 use Rattle.decimal_topologies.specs.Axes.{x_number, y_number}
 use Rattle.decimal_topologies.specs.declared.axes.Reached.{Reached}
 use Rattle.decimal_topologies.specs.declared.place.Place.{Place}

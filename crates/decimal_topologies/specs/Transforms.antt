@@ -1,10 +1,10 @@
 -- The transform of a topology [TopoJSON, 2.1.2; limits own].
-use Rattle.std.specs.Prelude.{ℕ, List, [], ◌∷◌, ◌++◌, Bool, ◌&&◌, nat_lt, ◌^◌, Option, Some, None, option_map, option_and_then, unwrap_or, codes, unsigned_abs, if◌then◌else◌}
+use Rattle.std.specs.Prelude.{ℕ, List, [], ◌++◌, Bool, ◌&&◌, nat_lt, ◌^◌, Option, None, option_map, option_and_then, unwrap_or, codes, unsigned_abs, if◌then◌else◌}
 use Rattle.json.specs.Json.{Json, Items, no_items, item}
 use Rattle.json.specs.Find.{get, as_array, as_number, as_object}
 use Rattle.faults.specs.Path.{name, index}
 use Rattle.faults.specs.Fault.{Pair}
-use Rattle.faults.specs.declared.fault.FaultKind.TheVariants.{Missing, WrongKind, NotTwo, OutOfRange}
+use Rattle.faults.specs.declared.fault.FaultKind.TheVariants.{NotTwo, OutOfRange}
 use Rattle.numerals.specs.Axis.{axis_of, common_numerator, places_of}
 use Rattle.numerals.specs.Whole.{is_numeral}
 use Rattle.reading.specs.Fault.{here, under, unless_faulty}

@@ -1,6 +1,6 @@
 //! The table of arcs (TopoJSON, section 2.1.3).
 ghost use Rattle.decimal_topologies.specs.Arcs as spec;
-ghost use Rattle.decimal_topologies.specs.Arcs.{arc_faults, arc_items_faults, arcs_faults, arcs_of, places_behind, places_of, steps_faults};
+ghost use Rattle.decimal_topologies.specs.Arcs.{arc_faults, arcs_faults, arcs_of, places_behind, places_of, steps_faults};
 ghost use Rattle.decimal_topologies.specs.Places.{first_sums};
 ghost use Rattle.decimal_topologies.specs.Seen.{seen_arcs};
 ghost use Rattle.json.specs.Value.{value_view, items_view};

@@ -3,7 +3,7 @@ ghost use Rattle.decimal_faults.specs.Parts.{each_faults};
 ghost use Rattle.decimal_faults.specs.Positions.{height_faults, may_have};
 ghost use Rattle.decimal_topologies.specs.Placed.{IsPlaced};
 ghost use Rattle.decimal_topologies.specs.Places as spec;
-ghost use Rattle.decimal_topologies.specs.Places.{both_of, first_sums, no_place, no_sums, place_behind, position_faults, step_faults};
+ghost use Rattle.decimal_topologies.specs.Places.{first_sums, no_place, no_sums, place_behind, position_faults, step_faults};
 ghost use Rattle.decimal_topologies.specs.Tallies.{with_place};
 ghost use Rattle.grid.specs.Place.{IsGridNumber};
 ghost use Rattle.json.specs.Value.{value_view, items_view};

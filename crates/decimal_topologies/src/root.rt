@@ -1,11 +1,10 @@
 //! Topologies (TopoJSON, section 2.1).
 ghost use Rattle.decimal_faults.specs.Parts.{member_faults, type_text};
 ghost use Rattle.decimal_topologies.specs.Arcs.{arcs_faults, arcs_of};
-ghost use Rattle.decimal_topologies.specs.Roots.{AreLayersOn, AreTopologyLayers, HaveLayers, content_faults, content_of, is_topology as is_a_topology, layers_in as named_layers, parts_in, topology_faults as faults_in, topology_members_faults, used_in as used_by};
+ghost use Rattle.decimal_topologies.specs.Roots.{AreLayersOn, AreTopologyLayers, HaveLayers, content_faults, content_of, is_topology as is_a_topology, layers_in as named_layers, topology_faults as faults_in, topology_members_faults, used_in as used_by};
 ghost use Rattle.decimal_topologies.specs.Geometries.{parts_of};
 ghost use Rattle.decimal_topologies.specs.Layers.{objects_faults, seen_named};
 ghost use Rattle.decimal_topologies.specs.Seen.{seen_arcs};
-ghost use Rattle.decimal_topologies.specs.Transforms.{quantization_of, transform_faults};
 ghost use Rattle.fixing.specs.declared.rules.FixingRules.{FixingRules as Rules};
 ghost use Rattle.json.specs.Find.{get};
 ghost use Rattle.json.specs.Value.{value_view, items_view};

@@ -1,6 +1,6 @@
 //! The transform of a topology (TopoJSON, section 2.1.2).
 ghost use Rattle.decimal_topologies.specs.Transforms as spec;
-ghost use Rattle.decimal_topologies.specs.Transforms.{fit_faults, fits_faults, limit_faults, members_faults, numbers_faults, pair_faults, quantization_of, texts_of, transform_by, transform_faults, two_faults};
+ghost use Rattle.decimal_topologies.specs.Transforms.{fit_faults, fits_faults, limit_faults, members_faults, pair_faults, quantization_of, texts_of, transform_faults, two_faults};
 ghost use Rattle.decimal_faults.specs.Parts.{member_faults};
 ghost use Rattle.json.specs.Value.{value_view, items_view};
 ghost use Rattle.reading.specs.FaultLists.Found.{pairs_of};

@@ -3,7 +3,7 @@ ghost use Rattle.decimal_topologies.specs.Layers.{seen_named};
 ghost use Rattle.decimal_topologies.specs.Stitching.{ref_of as named};
 ghost use Rattle.decimal_topologies.specs.Used.{is_arc, layers_use_arc, list_uses_arc, marked, member_uses_arc, members_use_arc, names_arc, some_names_arc, some_use_arc, used_arcs as used_by, uses_arc};
 ghost use Rattle.json.specs.Value.{value_view, items_view, members_view};
-ghost use Rattle.std.specs.Prelude.{◌≡◌, length, replicate, false, IfOk};
+ghost use Rattle.std.specs.Prelude.{◌≡◌, length, IfOk};
 
 use crate::numbers::ref_of;
 use crate::objects::members_of;

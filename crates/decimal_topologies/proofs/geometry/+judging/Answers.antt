@@ -1,4 +1,4 @@
-use Rattle.std.proofs.Common.{◌≡◌, ◌<◌, ◌≤◌, true, false, Ok, IfOk, is_some, sym, ap, ◌∙◌, subst, arith, rules}
+use Rattle.std.proofs.Common.{◌≡◌, ◌<◌, ◌≤◌, true, false, IfOk, is_some, sym, ap, ◌∙◌, subst, rules}
 use Rattle.json.specs.Find.{as_object}
 use Rattle.json.specs.Tree.{depth, items_depth}
 use Rattle.json.specs.Value.{value_view, items_view}

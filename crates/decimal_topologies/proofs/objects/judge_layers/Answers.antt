@@ -1,8 +1,8 @@
-use Rattle.std.proofs.lemmas.Map.Iter.{rest_all, rest_more}
+use Rattle.std.proofs.lemmas.Map.Iter.{rest_more}
 use Rattle.std.specs.Map.Iter.{deref_pair}
 use Rattle.reading.specs.FaultLists.Found.{pairs_of}
 use Rattle.decimal_topologies.specs.Geometries.{parts_of}
-use Rattle.decimal_topologies.proofs.Layered.{judged_all, judged_more, judged_none}
+use Rattle.decimal_topologies.proofs.Layered.{judged_more}
 use Rattle.decimal_topologies.proofs.objects.judge_layers.Goals as goal
 
 pub loop-name-preserved : goal.loop-name-preserved

@@ -1,9 +1,9 @@
-use Rattle.std.proofs.Common.{◌≡◌, ◌<◌, ◌≤◌, length, drop, refl, sym, ap, ◌∙◌, arith, rules}
+use Rattle.std.proofs.Common.{◌<◌, ◌≤◌, length, refl, ◌∙◌, rules}
 use Rattle.std.proofs.lemmas.List.{drop_all}
 use Rattle.json.specs.Tree.{depth, items_depth}
 use Rattle.json.specs.Value.{value_view, items_view}
 use Rattle.decimal_faults.proofs.Nested.{array_depth, item_depth}
-use Rattle.decimal_topologies.specs.Used.{is_arc, names_arc, some_names_arc}
+use Rattle.decimal_topologies.specs.Used.{names_arc}
 use Rattle.decimal_topologies.proofs.Marked.{here_is, list_is, marked_alike, marks_all, marks_more, marks_none, no_list, number_at, numbers_at}
 use Rattle.decimal_topologies.proofs.used.+numbers.Goals as goal
 
