@@ -1,10 +1,9 @@
 -- Positions out of two numbers, and their heights.
-use Rattle.std.proofs.Common.{◌≡◌, ℕ, ◌+◌, ◌-◌, ◌≤◌, ℤ, pos, negsuc, length, get_or, List, [], ◌∷◌, Option, Result, refl, sym, ap, ◌∙◌, arith}
+use Rattle.std.proofs.Common.{◌≡◌, ◌-◌, ◌≤◌, ℤ, length, get_or, List, [], ◌∷◌, Option, Result, refl, ap, ◌∙◌, arith}
 use Rattle.std.specs.declared.alloc.Global.{Global}
-use Rattle.json.specs.Json.{Items, no_items, item}
 use Rattle.json.specs.Value.{items_view, value_view}
 use Rattle.json.specs.declared.value.Value.{Value}
-use Rattle.grid.specs.Fits.{one_position, x_of, y_of}
+use Rattle.grid.specs.Fits.{one_position}
 use Rattle.grid.specs.declared.pos.Pos.{Pos}
 use Rattle.reading.specs.Positions.{clamped, position_at}
 use Rattle.faults.specs.declared.fault.FaultKind.{FaultKind}

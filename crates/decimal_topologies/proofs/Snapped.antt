@@ -1,10 +1,10 @@
 -- Numbers of steps: what is found of the nearest one is what the definitions compute.
-use Rattle.std.proofs.Common.{◌≡◌, ◌↔◌, ℕ, ◌+◌, ◌*◌, ◌/◌, ◌^◌, ◌<◌, ◌≤◌, Bool, true, false, ◌&&◌, nat_eq, nat_le, ℤ, pos, ◌*ℤ◌, List, length, Option, Some, None, refl, sym, subst, ap, ◌∙◌, arith, eqb-true, le-leb, leb-true, if◌then◌else◌}
+use Rattle.std.proofs.Common.{◌≡◌, ◌↔◌, ℕ, ◌+◌, ◌*◌, ◌/◌, ◌^◌, ◌<◌, ◌≤◌, Bool, true, false, nat_eq, nat_le, ℤ, pos, List, length, Option, Some, None, refl, sym, subst, ap, ◌∙◌, arith, eqb-true, le-leb, leb-true, if◌then◌else◌}
 use Rattle.std.proofs.lemmas.Int.{unsigned_abs-mul}
 use Rattle.std.specs.Int.Signed.{lt_z}
 use Rattle.std.specs.Prelude.{unsigned_abs}
 use Rattle.std.specs.Str.Parse.{starts_with_minus}
-use Rattle.fast_float.specs.Text.{digits_of, has_digits, tens_up, with_sign}
+use Rattle.fast_float.specs.Text.{has_digits, with_sign}
 use Rattle.grid.specs.Place.{IsGridNumber}
 use Rattle.grid.proofs.Judged.{both_first, both_second}
 use Rattle.numerals.specs.Axis.{Axis, IsSnappedAt, distance_at, value_at, value_dividend, value_divisor}

@@ -1,6 +1,5 @@
-use Rattle.std.proofs.Common.{sym, subst}
 use Rattle.reading.specs.FaultLists.Found.{pairs_of}
-use Rattle.decimal_topologies.proofs.Table.{ReadSteps, steps_faults_all, steps_more, steps_none, steps_places_all}
+use Rattle.decimal_topologies.proofs.Table.{steps_more}
 use Rattle.decimal_topologies.proofs.arcs.read_steps.Goals as goal
 
 pub loop-i-preserved : goal.loop-i-preserved

@@ -1,4 +1,3 @@
-use Rattle.std.proofs.Common.{sym}
 use Rattle.reading.proofs.Positions.{number_reads}
 use Rattle.decimal_topologies.proofs.Snapped.{axis_answer}
 use Rattle.decimal_topologies.proofs.axes.snapped_at.Goals as goal

@@ -1,4 +1,4 @@
-use Rattle.std.proofs.Common.{◌≡◌, ℕ, zero, suc, nat_eq, nat_lt, ◌+◌, ◌<◌, not, true, false, length, List, [], ◌∷◌, refl, sym, ◌∙◌, arith, eq-eqb, le-ltb}
+use Rattle.std.proofs.Common.{◌≡◌, ◌<◌, not, true, false, length, List, [], ◌∷◌, refl, ◌∙◌, arith, eq-eqb, le-ltb}
 use Rattle.std.specs.declared.alloc.Global.{Global}
 use Rattle.json.specs.Value.{items_view}
 use Rattle.json.specs.declared.value.Value.{Value}

@@ -1,4 +1,4 @@
-use Rattle.std.proofs.Common.{sym, ap, ◌∙◌, option_map}
+use Rattle.std.proofs.Common.{ap, ◌∙◌, option_map}
 use Rattle.decimal_topologies.proofs.Numerals.{few_texts, no_first, no_second, two_texts}
 use Rattle.decimal_topologies.proofs.transform.texts_in.Goals as goal
 
