@@ -7,17 +7,20 @@ _togrid() {
     if [[ $cur == = ]]; then cur=; fi
     case $before in
         --step) return ;;
+        --unit) return ;;
         --snap) return ;;
         --id) return ;;
         --heights) COMPREPLY=($(compgen -W "drop refuse" -- "$cur")); return ;;
         --reals) return ;;
+        --unclosed) COMPREPLY=($(compgen -W "close refuse" -- "$cur")); return ;;
         --collapsed) COMPREPLY=($(compgen -W "null drop refuse" -- "$cur")); return ;;
         --folded) COMPREPLY=($(compgen -W "split refuse" -- "$cur")); return ;;
         --collections) COMPREPLY=($(compgen -W "split refuse" -- "$cur")); return ;;
+        --quantize) return ;;
         --rewind) COMPREPLY=($(compgen -W "keep rfc7946 d3" -- "$cur")); return ;;
     esac
     case $command in
-        "") words="--build --back --faults --step --snap --id --heights --reals --collapsed --folded --collections --rewind -o --output --report -q --quiet --strict -h --help -V --version" ;;
+        "") words="--build --back --faults --step --unit --snap --id --number --heights --reals --numbers --unclosed --collapsed --folded --collections --seq --like --quantize --rewind -o --output --report -q --quiet --strict -h --help -V --version" ;;
     esac
     if [[ $cur == -* ]]; then
         COMPREPLY=($(compgen -W "$words" -- "$cur"))

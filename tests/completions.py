@@ -18,7 +18,8 @@ COMMANDS = {"build", "check", "faults", "merge", "remove", "diff", "feature", "m
 
 # All of togrid's.
 OPTIONS = {
-    *"--build --back --faults --step --snap --id --heights --reals --collapsed --folded --collections --rewind".split(),
+    *"--build --back --faults --step --unit --snap --id --number --heights --reals --numbers --unclosed --collapsed --folded --collections".split(),
+    *"--seq --like --quantize --rewind".split(),
     *"-o --output --report -q --quiet --strict -h --help -V --version".split(),
 }
 
@@ -58,7 +59,10 @@ ROWS = [
     (["togrid", ""], set(FILES)),
     (["togrid", "zz"], set()),
     (["togrid", "--build", "a", "=", "w"], {"west.json"}),
+    (["togrid", "--un"], {"--unit", "--unclosed"}),
+    (["togrid", "--n"], {"--number", "--numbers"}),
     (["togrid", "--step", "1"], set()),
+    (["togrid", "--unclosed", ""], {"close", "refuse"}),
     (["togrid", "--collapsed", ""], {"null", "drop", "refuse"}),
     (["togrid", "--collapsed", "=", "d"], {"drop"}),
     (["togrid", "--rewind", "r"], {"rfc7946"}),

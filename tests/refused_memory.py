@@ -47,6 +47,21 @@ WRONG = """{"type":"FeatureCollection","features":[{"type":"Feature","geometry":
 {"type":"Feature","id":[],"properties":{"a":1.5},"geometry":{"type":"GeometryCollection","geometries":[{"type":"Polygon","coordinates":[[[0,0],[1,0],[1,1]],5]},{"type":"Point","coordinates":[1e99,"x"]}]}}]}"""
 
 
+LINES = """{"type":"FeatureCollection","features":[{"type":"Feature"},{"type":"Feature","id":2.0}]}
+
+{"type":"Point","coordinates":[1.5,2]}"""
+MARKS = """\ufeff\x1e{"type":"Point",\n"coordinates":[1.5,2]}\n\x1e\x1e{"type":"Polygon","coordinates":[[[0,0],[4,0],[4,4.2]]]}\n"""
+EQUAL = """{"type":"FeatureCollection","features":[{"type":"Feature","properties":{"a":1.0,"b":2.5}},{"type":"Feature","properties":{"b":25e-1,"a":1}},{"type":"Feature","properties":{"a":1,"b":2.5}}]}"""
+OPEN = """{"type":"MultiPolygon","coordinates":[[[[0,0],[4,0],[4,4]],[[1,1],[2,1]]],[[[5,5],[6,5],[6,6],[5,5]]]]}"""
+
+LIKE = """{"type":"Topology","objects":{},"transform":{"scale":[0.0036003600360036005,-25e-2],"translate":[-180,90.5]},"arcs":[]}"""
+
+ATLAS = """{"type":"Topology","bbox":[0,0,9,9],"transform":{"scale":[0.5,1e0],"translate":[-1.25,2]},"arcs":[[[0,0],[4,0,7],[0,4]],[[4,4],[-4,-4]],[[9]],[[4,4],[0,0],[2,2]]],
+"objects":{"a":{"type":"GeometryCollection","geometries":[{"type":"Polygon","arcs":[[0,1]],"id":"01001","properties":{"n":1.0,"b":2.5}},{"type":null}]},
+"b":{"type":"GeometryCollection","geometries":[{"type":"GeometryCollection","geometries":[{"type":"MultiLineString","arcs":[[3],[-4]]},{"type":"MultiPoint","coordinates":[[1,2],[1,2]]}]}]}}}"""
+WILD = """{"type":"Topology","arcs":[[[0,0],[4,0]],[[4,1],[4,4,"x"]],[]],"objects":{"a":{"type":"LineString","arcs":[0,1]},"b":{"type":"MultiPolygon","arcs":[[[0,-1,7,0.5],2]],"id":[]}}}"""
+
+
 def lay(program, texts):
     for name, text in texts.items():
         with open(f"{program.folder}/{name}.json", "w", encoding="utf-8") as file:
@@ -89,22 +104,30 @@ def inputs(program):
 
 def rounded(program):
     """The same for togrid."""
-    lay(program, {"point": POINT, "folded": FOLDED, "collection": COLLECTION, "noisy": NOISY, "foreign": FOREIGN, "wrong": WRONG, "broken": '{"type":"Point"', "deep": DEEP})
+    lay(program, {"point": POINT, "folded": FOLDED, "collection": COLLECTION, "noisy": NOISY, "foreign": FOREIGN, "wrong": WRONG, "broken": '{"type":"Point"', "deep": DEEP,
+                  "lines": LINES, "marks": MARKS, "equal": EQUAL, "open": OPEN, "like": LIKE,
+                  "atlas": ATLAS, "wild": WILD})
     with open(f"{program.folder}/noisy.topo.json", "wb") as file:
         words = [program.name, "--build", "-q", "--step", "1", "a=noisy.json"]
         file.write(subprocess.run(words, cwd=program.folder, stdout=subprocess.PIPE, stderr=subprocess.DEVNULL).stdout)
     one = ["--step", "1"]
     plain = [["-q", "point.json"], ["point.json"], ["--strict", "-"], [*one, "folded.json"], ["-q", *one, "collection.json"], [*one, "foreign.json"], ["-q", "deep.json"],
              [*one, "--rewind", "rfc7946", "folded.json"], [*one, "--snap", "1", "noisy.json"], [*one, "--collapsed", "drop", "--strict", "folded.json"],
-             [*one, "--id", "n", "--reals", "scale:area=10", "noisy.json"], [*one, "-o", ".", "--report", "report.out", "a=point.json", "b=folded.json"]]
+             [*one, "--id", "n", "--reals", "scale:area=10", "noisy.json"], [*one, "-o", ".", "--report", "report.out", "a=point.json", "b=folded.json"],
+             ["--seq", "--number", "lines.json"], ["-q", "--seq", *one, "marks.json"], ["--strict", "--report", "report.out", "equal.json"], ["--reals", "text", "--unit", "0.001", *one, "equal.json"],
+             [*one, "open.json"]]
     builds = [["--build", *one, "point.json"], ["--build", *one, "a=folded.json", "a=noisy.json"], ["--build", "-q", *one, "--snap", "2", "a=noisy.json", "b=folded.json"],
               ["--build", "-q", *one, "a=collection.json"], ["--build", *one, "--report", "report.out", "-o", "built.out", "a=noisy.json"]]
-    wrong = [[*one, "wrong.json"], ["-q", "broken.json"], ["--build", *one, "--folded", "refuse", "a=point.json", "a=folded.json"], [*one, "--collapsed", "refuse", "folded.json"],
+    wrong = [[*one, "wrong.json"], ["-q", "--seq", "--unclosed", "refuse", *one, "marks.json"], [*one, "--unclosed", "refuse", "open.json"], ["-q", "broken.json"], ["--build", *one, "--folded", "refuse", "a=point.json", "a=folded.json"], [*one, "--collapsed", "refuse", "folded.json"],
              [*one, "--id", "n", "folded.json"], [*one, "--collections", "refuse", "collection.json"], ["-q", *one, "--reals", "refuse", "folded.json"], ["nowhere.json"]]
-    faults = [["--faults", *one, "wrong.json", "point.json"], ["--faults", *one, "--collapsed", "refuse", "--reals", "refuse", "folded.json"], ["--faults", "broken.json"]]
-    back = [["--back", "noisy.topo.json"], ["--back", "--rewind", "keep", "--step", "0.25", "noisy.topo.json", "-o", "back.out"], ["--back", "point.json"]]
-    usages = [["--help"], ["--version"], ["--step", "0", "point.json"], ["--build", "-", "a=-"], ["--back", "--snap", "1", "noisy.topo.json"]]
-    return [*plain, *builds, *wrong, *faults, *back, *usages]
+    faults = [["--faults", *one, "wrong.json", "point.json"], ["--faults", "--seq", *one, "--unclosed", "refuse", "marks.json"], ["--faults", *one, "--collapsed", "refuse", "--reals", "refuse", "folded.json"], ["--faults", "broken.json"]]
+    back = [["--back", "noisy.topo.json"], ["--back", "--rewind", "keep", "--unit", "0.25", "noisy.topo.json", "-o", "back.out"], ["--back", "point.json"],
+            ["--back", "--numbers", "noisy.topo.json"], ["--back", "--numbers=area,n", "--reals", "scale:n=10", "--quantize", "1000", "noisy.topo.json"],
+            ["--back", "--like", "like.json", "noisy.topo.json"], ["--back", "--like", "point.json", "noisy.topo.json"], ["--back", "--like", "nowhere.json", "noisy.topo.json"]]
+    topologies = [["--build", *one, "atlas.json"], ["--strict", *one, "--report", "report.out", "-o", ".", "atlas.json"], ["--build", "-q", *one, "--snap", "1", "atlas.json", "a=noisy.json"],
+                  [*one, "atlas.json"], ["-q", *one, "wild.json"], ["--faults", *one, "--folded", "refuse", "wild.json", "atlas.json"]]
+    usages = [["--help"], ["--version"], ["--step", "0", "point.json"], ["--unit", "1", "point.json"], ["--build", "-", "a=-"], ["--back", "--snap", "1", "noisy.topo.json"]]
+    return [*plain, *builds, *wrong, *faults, *back, *topologies, *usages]
 
 
 class Kinds:

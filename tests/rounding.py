@@ -1,6 +1,6 @@
-"""What docs/TOGRID.md says of a text of GeoJSON in decimal numbers, as a program over Python's fractions.
+"""What docs/TOGRID.md says of a file of GeoJSON in decimal numbers, as a program over Python's fractions.
 
-tests/togrid.py compares `togrid` with it: the errors of a text under some options, the features that are read, what is left of
+tests/togrid.py compares `togrid` with it: the errors of a file under some options, the features that are read, what is left of
 them, what is joined, the text that is printed, and what is reported. It is written from that page alone, and from
 docs/FAULTS.md and docs/DECISIONS.md, to which the page leads.
 """
@@ -14,23 +14,24 @@ from fractions import Fraction
 import faults
 from faults import Value, collapsed as merged, escaped, line_and_column
 
-GREATEST = 2**40
+GREATEST, GREATEST_NUMBER = 2**40, 2**53 - 1
 DEGREES = (180 * 10**6, 90 * 10**6)
 DEEPEST_PROPERTIES = 64
 GEOMETRIES = faults.GEOMETRIES
 COLLECTION = "GeometryCollection"
-FIXES = ("collapsed", "folded", "collections", "lost")
+FIXES = ("closed", "collapsed", "folded", "collections", "lost")
+BLANK = " \t\r\n"
 
 
 class Options:
     """The options of a run, by their names."""
 
     def __init__(self, **given):
-        self.step = None
-        self.refuses_heights = self.refuses_reals = False
-        self.scales = {}
+        self.step = self.unit = None
+        self.refuses_heights = self.is_sequence = self.numbers = False
+        self.reals, self.scales = "whole", {}
         self.id = None
-        self.collapsed, self.folded, self.collections, self.rewind = "null", "split", "split", "keep"
+        self.unclosed, self.collapsed, self.folded, self.collections, self.rewind = "close", "null", "split", "split", "keep"
         self.distance = 0
         self.__dict__.update(given)
 
@@ -43,25 +44,38 @@ class Options:
         return Fraction(self.step_word)
 
     @property
+    def one(self):
+        """What a 1 of the result is, in the unit of the map."""
+        return Fraction(self.unit or "0.000001")
+
+    @property
+    def scale(self):
+        """How many of these a step is."""
+        return int(self.size / self.one)
+
+    @property
     def limits(self):
-        return (GREATEST, GREATEST) if self.step else DEGREES
+        limits = (GREATEST, GREATEST) if self.step else DEGREES
+        return [min(it, GREATEST_NUMBER // self.scale) for it in limits]
 
     def words_of_errors(self):
-        """Those on which it depends what is an error."""
+        """Those on which it depends what is an error, but for --seq."""
         made = ["--step", self.step] if self.step else []
+        made += ["--unit", self.unit] if self.unit else []
         made += ["--heights", "refuse"] if self.refuses_heights else []
-        made += ["--reals", "refuse"] if self.refuses_reals else []
+        made += ["--reals", self.reals] if self.reals != "whole" else []
         for name, places in self.scales.items():
             made += ["--reals", f"scale:{name}={10**places}"]
         made += ["--id", self.id] if self.id is not None else []
-        for name, default in ("collapsed", "null"), ("folded", "split"), ("collections", "split"):
+        for name, default in ("unclosed", "close"), ("collapsed", "null"), ("folded", "split"), ("collections", "split"):
             if getattr(self, name) != default:
                 made += [f"--{name}", getattr(self, name)]
         return made
 
     def words(self):
-        """All of them."""
+        """All of them, but for --seq."""
         made = ["--rewind", self.rewind] if self.rewind != "keep" else []
+        made += ["--number"] if self.numbers else []
         return self.words_of_errors() + made + (["--snap", str(self.distance)] if self.distance else [])
 
 
@@ -84,9 +98,15 @@ def nearest(worth, step):
     return whole if worth >= 0 else -whole
 
 
-def is_whole(text, least=-(2**63), past=2**64):
+def is_integer(text, past=2**64):
     """Whether a number has no fraction and no exponent, and is within some limits."""
-    return not set(text) & set(".eE") and text != "-0" and len(text) < 30 and least <= int(text) < past
+    return not set(text) & set(".eE") and text != "-0" and len(text) < 30 and -(2**63) <= int(text) < past
+
+
+def is_whole(text, past=2**64):
+    """Whether the value of a number is whole, and within some limits."""
+    worth = worth_of(text)
+    return worth.denominator == 1 and -(2**63) <= worth < past
 
 
 def spelled(text):
@@ -111,13 +131,35 @@ class Reader(faults.Reader):
         return Value("number", at, match.group())
 
 
-def parse(bytes_):
-    """The text and its value. Fails with a place of the text where that is no JSON."""
-    try:
-        text = bytes_.decode()
-    except UnicodeDecodeError as wrong:
-        raise faults.NotJson(len(bytes_[: wrong.start].decode())) from None
-    return text, Reader(text).whole()
+class Record:
+    """A text of a file: its number where the file is a sequence, where it begins, and its value, or where it is no JSON."""
+
+    def __init__(self, number, start, text):
+        self.path, self.start, self.text = () if number is None else (number,), start, text
+        self.value = self.wrong = None
+        try:
+            self.value = Reader(text).whole()
+        except faults.NotJson as wrong:
+            self.wrong = wrong.at
+
+    def place_of(self, path):
+        """Where in the file an error is: that of what is no JSON is at the last character, where the text is cut off."""
+        if self.value is None:
+            return self.start + self.wrong - (self.wrong == len(self.text) and self.text[-1:] not in ("", "\n"))
+        return self.start + value_at(self.value, path).at
+
+
+def parse(bytes_, is_sequence):
+    """The text of a file without a byte order mark, and its records."""
+    text = bytes_.decode().removeprefix("\ufeff")
+    if not is_sequence:
+        return text, [Record(None, 0, text)]
+    separator, start, made = "\x1e" if text.startswith("\x1e") else "\n", 0, []
+    for part in text.split(separator):
+        if part.strip(BLANK):
+            made.append(Record(len(made), start, part))
+        start += len(part) + 1
+    return text, made
 
 
 def inner(value):
@@ -170,6 +212,9 @@ class Errors:
         errors = self.each(value, self.position)
         return errors or self.unfixed(asked([place(it, self.options) for it in value.what]))
 
+    def ring_error(self, positions):
+        return faults.ring_error(closed(positions) if self.options.unclosed == "close" else positions)
+
     def unfixed(self, errors):
         fixed = ([8] if self.options.collapsed != "refuse" else []) + ([10] if self.options.folded == "split" else [])
         return [it for it in errors if it[1] not in fixed]
@@ -177,7 +222,7 @@ class Errors:
     def typed(self, kind, value):
         if kind == COLLECTION:
             return required(value, "geometries", lambda v: self.each(v, self.geometry))
-        line, ring = (lambda v, asked=asked: self.outline(v, asked) for asked in (faults.line_error, faults.ring_error))
+        line, ring = (lambda v, asked=asked: self.outline(v, asked) for asked in (faults.line_error, self.ring_error))
         parts = {"Point": self.point, "MultiPoint": lambda v: self.each(v, self.position), "LineString": line,
                  "MultiLineString": lambda v: self.each(v, line), "Polygon": lambda v: self.each(v, ring),
                  "MultiPolygon": lambda v: self.each(v, lambda w: self.each(w, ring))}
@@ -197,7 +242,7 @@ class Errors:
             return [((), 3)]
         too_great = any(abs(nearest(worth_of(it.what), Fraction(1, 10**self.options.scales[name]))) > GREATEST
                         for name, it in properties.what.items() if self.is_scaled(name, it))
-        real = self.options.refuses_reals and any(has_real(it) for name, it in properties.what.items() if not self.is_scaled(name, it))
+        real = self.options.reals == "refuse" and any(has_real(it) for name, it in properties.what.items() if not self.is_scaled(name, it))
         errors = [((), 13)] if too_great or real else []
         return errors + ([((), 14)] if faults.depth_of(properties) > DEEPEST_PROPERTIES else [])
 
@@ -206,7 +251,7 @@ class Errors:
 
     def id_errors(self, value):
         if value.kind == "number":
-            return [((), 5)] if self.options.refuses_reals and not is_whole(value.what, past=2**63) else []
+            return [((), 5)] if self.options.reals == "refuse" and not is_whole(value.what, past=2**63) else []
         return [] if value.kind == "text" else [((), 3)]
 
     def attributes(self, value):
@@ -250,8 +295,9 @@ def in_order(errors):
     return sorted(errors, key=lambda it: ([(0, step.encode()) if isinstance(step, str) else (1, step) for step in it[0]], it[1]))
 
 
-def errors_of(value, options):
-    return in_order(Errors(options).root(value))
+def errors_of(records, options):
+    """The errors of a file, each with its record."""
+    return [(record, it) for record in records for it in in_order([((), 1)] if record.value is None else Errors(options).root(record.value))]
 
 
 # ---- features
@@ -303,55 +349,74 @@ def shapes_of(value, options, tally):
     return [it for one in value.what["geometries"].what for it in shapes_of(one, options, tally)]
 
 
-def plain(value, tally):
+def number_of(text, options, tally, past=2**64):
+    """What a number of ids and properties becomes: an integer, or a text."""
+    if is_integer(text, past) or options.reals != "text" and is_whole(text, past):
+        return int(worth_of(text))
+    tally.reals += 1
+    return spelled(text)
+
+
+def plain(value, options, tally):
     """A value of properties."""
     if value.kind == "number":
-        if is_whole(value.what):
-            return int(value.what)
-        tally.reals += 1
-        return spelled(value.what)
+        return number_of(value.what, options, tally)
     if value.kind == "object":
-        return {name: plain(it, tally) for name, it in value.what.items()}
-    return [plain(it, tally) for it in value.what] if value.kind == "list" else value.what
+        return {name: plain(it, options, tally) for name, it in value.what.items()}
+    return [plain(it, options, tally) for it in value.what] if value.kind == "list" else value.what
 
 
 def properties_of(value, options, tally):
     if value is None:
         return {}
     judge = Errors(options)
-    return {name: nearest(worth_of(it.what), Fraction(1, 10**options.scales[name])) if judge.is_scaled(name, it) else plain(it, tally)
+    return {name: nearest(worth_of(it.what), Fraction(1, 10**options.scales[name])) if judge.is_scaled(name, it) else plain(it, options, tally)
             for name, it in value.what.items()}
 
 
-def id_of(value, tally):
+def id_of(value, options, tally):
     if value is None or value.kind != "number":
         return None if value is None else value.what
-    if is_whole(value.what, past=2**63):
-        return int(value.what)
-    tally.reals += 1
-    return spelled(value.what)
+    return number_of(value.what, options, tally, past=2**63)
 
 
-def feature_of(number, value, options, tally):
+def feature_of(value, options, tally):
+    """A feature, without its number, and whether its geometry is a collection."""
     properties, geometry = member(value, "properties"), member(value, "geometry")
     id_ = member(value, "id") if options.id is None else properties.what[options.id]
     made = properties_of(properties, options, tally)
     shapes = None if geometry is None else shapes_of(geometry, options, tally)
     is_collection = geometry is not None and geometry.what["type"].what == COLLECTION
-    return Feature(number, id_of(id_, tally), made, shapes), is_collection
+    return Feature(None, id_of(id_, options, tally), made, shapes), is_collection
 
 
-def read(value, options):
-    """The features of a value that has no error, each with whether its geometry is a collection, and what is counted."""
-    tally, kind = Tally(), value.what["type"].what
+def features_of(value, options, tally):
+    """The features of a text that has no error."""
+    kind = value.what["type"].what
     if kind == "FeatureCollection":
-        return [feature_of(number, it, options, tally) for number, it in enumerate(value.what["features"].what)], tally
+        return [feature_of(it, options, tally) for it in value.what["features"].what]
     if kind == "Feature":
-        return [feature_of(0, value, options, tally)], tally
-    return [(Feature(0, None, {}, shapes_of(value, options, tally)), kind == COLLECTION)], tally
+        return [feature_of(value, options, tally)]
+    return [(Feature(None, None, {}, shapes_of(value, options, tally)), kind == COLLECTION)]
+
+
+def read(values, options):
+    """The features of a file that has no error, each with whether its geometry is a collection, and what is counted."""
+    tally = Tally()
+    found = [it for value in values for it in features_of(value, options, tally)]
+    for number, (feature, _) in enumerate(found):
+        feature.number = number
+        if options.numbers and feature.id is None:
+            feature.id = number + 1
+    return found, tally
 
 
 # ---- what is left of shapes
+
+def closed(ring):
+    """A ring that ends where it begins."""
+    return [*ring, ring[0]] if ring and ring[0] != ring[-1] else ring
+
 
 def runs(line):
     """A line cut where it comes to a segment again."""
@@ -423,10 +488,15 @@ class Fixer:
     def ring(self, positions):
         return self.outline(positions, faults.ring_error(positions), loops)
 
+    def closed(self, ring):
+        self.fixes["closed"] += closed(ring) != ring
+        return closed(ring)
+
     def polygon(self, rings):
         """The polygons that are left of one."""
         if not rings:
             return [[]]
+        rings = [self.closed(it) for it in rings]
         outers, others = self.ring(rings[0]), []
         if len(outers) > 1:
             turn = area(rings[0]) > 0
@@ -566,10 +636,12 @@ class Refused(Exception):
 
 
 class File:
-    """What becomes of a file: its features, each with one shape, what is counted, and what was fixed of each of its own."""
+    """What becomes of a file: its features, each with one shape, what is counted, what was fixed of each of its own, and which
+    equal earlier ones of their layer."""
 
-    def __init__(self, value, options):
-        found, self.tally = read(value, options)
+    def __init__(self, name, values, options):
+        found, self.tally = read(values, options)
+        self.name, self.equal = name, []
         self.count, self.options, self.features, self.fixed = len(found), options, [], collections.defaultdict(collections.Counter)
         for feature, is_collection in found:
             fixer = Fixer(options)
@@ -597,11 +669,11 @@ class File:
 
 
 class Rounded:
-    """What becomes of some files together."""
+    """What becomes of some files together, each a name and the values of its texts."""
 
-    def __init__(self, values, options):
+    def __init__(self, sources, options):
         self.options = options
-        self.files = [File(it, options) for it in values]
+        self.files = [File(name, values, options) for name, values in sources]
         self.moves, self.wide = {}, []
         if options.distance:
             self.moves, self.wide = moves_of(self.shapes(), options.distance)
@@ -610,12 +682,21 @@ class Rounded:
         users = users_of(self.shapes())
         self.shared = sum(len(it) > 1 for it in users.values())
         self.near = list(near_pairs(users, 1))
+        seen = set()
+        for file, feature in ((file, it) for file in self.files for it in file.features):
+            text = (file.name, feature_text(feature, options))
+            file.equal += [feature.number] if text in seen else []
+            seen.add(text)
 
     def shapes(self):
         return [feature.shapes[0] for file in self.files for feature in file.features]
 
+    def absent(self):
+        """The properties that are scaled and that no feature of the result has."""
+        return [name for name in self.options.scales if not any(name in it.properties for file in self.files for it in file.features)]
+
     def is_lossy(self):
-        counts = [file.tally.heights + file.tally.reals + sum(map(file.count_of, FIXES)) for file in self.files]
+        counts = [file.tally.heights + file.tally.reals + len(file.equal) + sum(map(file.count_of, FIXES)) for file in self.files]
         return bool(self.near or any(counts))
 
 
@@ -625,17 +706,25 @@ def written(value):
     return json.dumps(value, separators=(",", ":"), sort_keys=True, ensure_ascii=False)
 
 
-def geometry_text(shape):
-    return "null" if shape is None else written({"type": shape[0], "coordinates": shape[1]})
+def in_numbers(coordinates, options):
+    """Positions, or lists of them, in the numbers of the result."""
+    if isinstance(coordinates, int):
+        return coordinates * options.scale
+    return [in_numbers(it, options) for it in coordinates]
 
 
-def feature_text(feature):
+def geometry_text(shape, options):
+    return "null" if shape is None else written({"type": shape[0], "coordinates": in_numbers(shape[1], options)})
+
+
+def feature_text(feature, options):
     id_ = "" if feature.id is None else f'"id":{written(feature.id)},'
-    return f'{{"geometry":{geometry_text(feature.shapes[0])},{id_}"properties":{written(feature.properties)},"type":"Feature"}}'
+    return f'{{"geometry":{geometry_text(feature.shapes[0], options)},{id_}"properties":{written(feature.properties)},"type":"Feature"}}'
 
 
-def text_of(features):
-    return f'{{"features":[{",".join(map(feature_text, features))}],"type":"FeatureCollection"}}'.encode()
+def text_of(file):
+    texts = (feature_text(it, file.options) for it in file.features)
+    return f'{{"features":[{",".join(texts)}],"type":"FeatureCollection"}}'.encode()
 
 
 def decimal_text(number):
@@ -657,27 +746,29 @@ def fixed_members(fixes):
     return {name: fixes[name] for name in FIXES}
 
 
-def file_report(file, path, name):
+def file_report(file, path):
     tally = file.tally
     steps, units = furthest_of(file)
     fixed = [{"feature": number, **fixed_members(it)} for number, it in sorted(file.fixed.items()) if any(it.values())]
-    return {"file": path, "name": name, "features": file.count, "positions": tally.positions, "moved": tally.moved,
+    return {"file": path, "name": file.name, "features": file.count, "positions": tally.positions, "moved": tally.moved,
             "furthest_steps": steps, "furthest": units, "heights": tally.heights, "reals": tally.reals,
-            **{it: file.count_of(it) for it in FIXES}, "fixed": fixed}
+            **{it: file.count_of(it) for it in FIXES}, "equal": len(file.equal), "first_equal": file.equal[0] if file.equal else None, "fixed": fixed}
 
 
-def report_of(rounded, sources):
-    """The report as an object, with fractions for the decimal numbers of files; `sources` are names and paths."""
-    made = {"step": rounded.options.step_word, "files": [file_report(it, path, name) for it, (name, path) in zip(rounded.files, sources)]}
+def report_of(rounded, paths):
+    """The report as an object, with fractions for the decimal numbers of files."""
+    options = rounded.options
+    made = {"step": options.step_word, "files": [file_report(*it) for it in zip(rounded.files, paths)]}
+    made |= {"absent": rounded.absent()} if options.scales else {}
     made["shared"] = rounded.shared
-    if rounded.options.distance:
-        wide = list(rounded.wide[0]) if rounded.wide else None
+    if options.distance:
+        wide = in_numbers(rounded.wide[0], options) if rounded.wide else None
         made |= {"joined": len(rounded.moves), "too_wide": len(rounded.wide), "first_too_wide": wide}
-    near = [list(it) for it in rounded.near[0]] if rounded.near else None
+    near = in_numbers(rounded.near[0], options) if rounded.near else None
     return {**made, "nearly_shared": len(rounded.near), "first_nearly_shared": near}
 
 
-WORDS = {"collapsed": "lines or rings collapsed", "folded": "lines or rings folded, and split", "collections": "collections split",
+WORDS = {"closed": "rings closed", "collapsed": "lines or rings collapsed", "folded": "lines or rings folded, and split", "collections": "collections split",
          "lost": "features without a shape left"}
 
 
@@ -694,24 +785,28 @@ def file_lines(file, path):
     for name in FIXES:
         if count := file.count_of(name):
             yield f"  {count} {WORDS[name]}, the first in feature {min(number for number, it in file.fixed.items() if it[name])}"
+    if file.equal:
+        yield f"  {len(file.equal)} features equal to others, the first is feature {file.equal[0]}"
 
 
-def pair_text(position):
-    return f"{position[0]},{position[1]}"
+def pair_text(position, options):
+    return ",".join(map(str, in_numbers(position, options)))
 
 
 def report_lines(rounded, paths):
     """The report on standard error."""
     for file, path in zip(rounded.files, paths):
         yield from file_lines(file, path)
+    for name in rounded.absent():
+        yield f"no feature has the property of --reals scale:{name}"
     if rounded.shared:
         yield f"{rounded.shared} vertices shared"
     if rounded.options.distance:
         yield f"{len(rounded.moves)} vertices joined to others"
         if rounded.wide:
-            yield f"{len(rounded.wide)} clusters too wide to be joined, the first at {pair_text(rounded.wide[0])}"
+            yield f"{len(rounded.wide)} clusters too wide to be joined, the first at {pair_text(rounded.wide[0], rounded.options)}"
     if rounded.near:
-        yield f"{len(rounded.near)} nearly shared vertices, the first at {' and '.join(map(pair_text, rounded.near[0]))}"
+        yield f"{len(rounded.near)} nearly shared vertices, the first at {' and '.join(pair_text(it, rounded.options) for it in rounded.near[0])}"
 
 
 # ---- what is reported of errors
@@ -720,11 +815,10 @@ def path_text(path):
     return "$" + "".join(f"/{escaped(it)}" for it in path)
 
 
-def first_line(path, error, options):
+def first_line(file, path, number, options):
     """The line of a file that is refused."""
-    steps, number = error
     hint = ": numbers beyond 180 and 90 need --step" if number == 6 and options.step is None else ""
-    return f"togrid: {path}: {number} {faults.NAMES[number]} {path_text(steps)}{hint}\n"
+    return f"togrid: {file}: {number} {faults.NAMES[number]} {path_text(path)}{hint}\n"
 
 
 def value_at(value, path):
@@ -743,14 +837,14 @@ def feature_id(value, path):
     feature = value_at(value, path[:2]) if path[:1] == ("features",) and len(path) > 1 else value
     is_feature = path[:1] == ("features",) and len(path) > 1 or "type" in value.what and value.what["type"].what == "Feature"
     id_ = member(feature, "id") if is_feature and feature.kind == "object" else None
-    if id_ is None or id_.kind not in ("text", "number") or id_.kind == "number" and not is_whole(id_.what, past=2**63):
+    if id_ is None or id_.kind not in ("text", "number") or id_.kind == "number" and not is_integer(id_.what, past=2**63):
         return None
     return written(int(id_.what) if id_.kind == "number" else id_.what)
 
 
-def fault_line(file, text, value, error):
+def fault_line(file, text, record, error):
     """The line that --faults prints of an error, but for the member that 13 names."""
     path, number = error
-    line, column = line_and_column(text, value_at(value, path).at)
-    id_ = feature_id(value, path) if value.kind == "object" else None
-    return f"{file}:{line}:{column}: {number} {faults.NAMES[number]} {path_text(path)}" + (f" id {id_}" if id_ is not None else "")
+    line, column = line_and_column(text, record.place_of(path))
+    id_ = feature_id(record.value, path) if record.value is not None and record.value.kind == "object" else None
+    return f"{file}:{line}:{column}: {number} {faults.NAMES[number]} {path_text(record.path + path)}" + (f" id {id_}" if id_ is not None else "")

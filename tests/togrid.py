@@ -4,10 +4,11 @@
     python3 tests/togrid.py [--seed N] [--texts N] [--seconds N]
 
 Each text has numbers in many spellings: zeros behind, exponents, fifty digits, ties, -0. Its features are points, lines and
-rings, some of which collapse or fold on the grid, with heights, properties with a fraction, and collections in one another.
-Members are in any order, some are there twice, and some are foreign: `features`, `coordinates` and others where they mean
-nothing, of any kind. Every third text is damaged. It is run with random options: the step, and what becomes of heights,
-numbers with a fraction, ids, what collapses or folds, collections, directions and vertices that are nearly shared.
+rings, some of which are open, collapse or fold on the grid, with heights, properties with a fraction, and collections in one
+another; some are there twice. Members are in any order, some are there twice, and some are foreign: `features`, `coordinates`
+and others where they mean nothing, of any kind. Every fifth file is a sequence of texts, and some begin with a byte order mark.
+Every third is damaged. It is run with random options: the step and the unit, and what becomes of heights, numbers with a
+fraction, ids, open rings, what collapses or folds, collections, directions and vertices that are nearly shared.
 
 The program has to print the same bytes, with the same report, as lines and as JSON; or to refuse the text with the same
 first error, and `--faults` has to print the same list. What is printed is printed again as it is; what `--build` prints is
@@ -34,7 +35,8 @@ from many_runs import LEAST_TEXTS, TOGRID, judged, look_for_program, told, topot
 from rounding import Options, area
 
 SURE_TEXTS = 100  # of so many some are refused, and some are not
-STEPS = [None, None, "0.000001", "1e-6", "0.25", "1e-3", "3", "0.0000001", "25e-2", "1"]
+STEPS = [(None, None)] * 3 + [("0.000001", None), ("1e-6", None), ("0.25", None), ("1e-3", None), ("1", None), ("3", "1"), ("0.0000001", "1e-7"), (None, "1e-7"),
+         ("25e-2", "0.25"), ("6.3", "7e-3"), ("1000000", "1"), ("0.999983", "0.000001"), ("1", "1.0")]
 
 
 # ---- texts: an object is a list of members, so that a name may be there twice
@@ -87,8 +89,10 @@ class Maker:
     def __init__(self, chance, asked):
         self.chance, self.step = chance, asked.size
         self.far = 0.002 if chance.random() < 0.1 else 0
+        self.open = chance.choice([0, 0.05, 0.3]) if asked.unclosed == "close" else chance.choice([0, 0.05])
+        self.limits = [n + more for n in asked.limits for more in (-1, 0, 0, 1)]
         self.has_properties = 0.85 if asked.id is None else 0.99
-        self.is_great = 0.1 if not asked.scales else 0.02
+        self.is_great = 0.06 if not asked.scales else 0.01
 
     def one_of(self, *choices):
         return self.chance.choice(choices)
@@ -96,7 +100,8 @@ class Maker:
     def position(self, place):
         numbers = [near(self.chance, self.step, n) for n in place]
         if self.chance.random() < self.far:
-            numbers[self.chance.randrange(2)] = Numeral(self.one_of("1e30", "-99999999999999999999", "1e13", "1e99999999999"))
+            far = Numeral(self.one_of("1e30", "-99999999999999999999", "1e13", "1e99999999999"))
+            numbers[self.chance.randrange(2)] = self.one_of(far, near(self.chance, self.step, self.one_of(1, -1) * self.one_of(*self.limits)))
         heights = self.chance.choice([0] * 9 + [1, 2])
         return numbers + [Numeral("1e999" if self.chance.random() < 0.02 else self.one_of("5.5", "0", "-1e3")) for _ in range(heights)]
 
@@ -111,7 +116,7 @@ class Maker:
         if self.chance.random() < 0.3:  # there and back, without area
             made += made[::-1][1:]
         positions = [self.position(it) for it in made]
-        return positions if self.chance.random() < 0.003 else positions + positions[:1]
+        return positions if self.chance.random() < self.open else positions + positions[:1]
 
     def some(self, part):
         return [part() for _ in range(self.one_of(0, 1, 1, 2, 3))]
@@ -133,11 +138,11 @@ class Maker:
         return self.object(foreign, type=kind, coordinates=self.coordinates(kind))
 
     def id(self):
-        return self.one_of(1, "a", "\u00e9\n\"", None, *map(Numeral, ("1.50", "7e0", "-0", "-7", "9223372036854775808", "-9223372036854775808", "18446744073709551616", "1e400")))
+        return self.one_of(1, "a", "\u00e9\n\"", None, *map(Numeral, ("1.50", "7e0", "-0", "-7", "7.0", "9223372036854775807.0", "9223372036854775808e0", "9223372036854775808", "-9223372036854775808", "18446744073709551616", "1e400")))
 
     def properties(self):
-        great = ["1e400", "18446744073709551616", "18446744073709551615", "10000000000000"]
-        area = self.chance.choice(great if self.chance.random() < self.is_great else ["8810.0400", "99.0", "-0.50", "15e-1", "0.0", "-0", "0.0005", "7.50", "2e-3", "1"])
+        great = ["1e400", "1e-400", "18446744073709551616", "18446744073709551615", "1844674407370955161.5e1", "-92233720368547758080e-1", "-9223372036854775809.0", "10000000000000", "1e13"]
+        area = self.chance.choice(great if self.chance.random() < self.is_great else ["8810.0400", "99.0", "-0.50", "15e-1", "0.0", "-0", "-0.0e7", "0.0005", "7.50", "2e-3", "1", "10e-1", "1.20e3"])
         made = members(whole=self.chance.randint(-10**18, 10**18), code=self.one_of(3, "b", "", *map(Numeral, ("2.50", "-0", "7.0"))), area=Numeral(area))
         made.append(["coordinates", [Numeral("1.5"), members(features=[Numeral("0.10")], x=True)]])
         self.chance.shuffle(made)
@@ -183,6 +188,8 @@ class Maker:
         if kind < 0.25:
             return self.feature()
         features = [self.feature() for _ in range(self.chance.randint(0, 6))]
+        if features and self.chance.random() < 0.3:
+            features.insert(self.chance.randint(0, len(features)), copied(self.chance.choice(features)))
         return self.object(("coordinates", "geometries", "geometry", "properties", "id"), type="FeatureCollection", features=features)
 
 
@@ -256,20 +263,37 @@ def dumped(chance, value, comma):
     return json.dumps(value, ensure_ascii=chance.random() < 0.5)
 
 
-def text_of(chance, value, is_damaged):
-    text = dumped(chance, value, chance.choice([",", ", ", " ,\n"]))
+def record_of(chance, value, is_damaged, commas):
+    text = dumped(chance, value, chance.choice(commas))
     kind = chance.randrange(12) if is_damaged else None
     if kind == 0:
         text = text[: chance.randrange(len(text))]
     elif kind == 1:
         at = chance.randrange(len(text))
         text = text[:at] + chance.choice('{}[],:"x0e.-') + text[at:]
-    return text.encode()
+    return text
+
+
+def text_of(chance, values, is_damaged, is_sequence):
+    """The bytes of a file: of one text, or of a sequence, whose texts a line's end separates, or the byte 30."""
+    mark = "\ufeff" if chance.random() < 0.1 else ""
+    if not is_sequence:
+        return (mark + record_of(chance, values[0], is_damaged, [",", ", ", " ,\n"])).encode()
+    has_bytes = chance.random() < 0.3
+    texts = [record_of(chance, it, is_damaged, [",", ", ", " ,\n"] if has_bytes or is_damaged else [",", ", "]) for it in values]
+    for _ in range(chance.choice([0, 0, 1, 2])):
+        texts.insert(chance.randint(0, len(texts)), chance.choice(["", " ", "\t\r"]))
+    if has_bytes:
+        return (mark + "".join(f"\x1e{it}{chance.choice(['', chr(10)])}" for it in texts)).encode()
+    return (mark + "\n".join(texts) + chance.choice(["", "\n", "\r\n"])).encode()
 
 
 def options_of(chance):
-    asked = Options(step=chance.choice(STEPS), rewind=chance.choice(["keep", "keep", "rfc7946", "d3"]))
-    asked.refuses_heights, asked.refuses_reals = chance.random() < 0.05, chance.random() < 0.05
+    step, unit = chance.choice(STEPS)
+    asked = Options(step=step, unit=unit, rewind=chance.choice(["keep", "keep", "rfc7946", "d3"]))
+    asked.refuses_heights, asked.reals = chance.random() < 0.05, chance.choice(["whole"] * 10 + ["text"] * 4 + ["refuse"])
+    asked.is_sequence, asked.numbers = chance.random() < 0.2, chance.random() < 0.2
+    asked.unclosed = chance.choice(["close"] * 4 + ["refuse"])
     asked.id = "code" if chance.random() < 0.2 else None
     asked.scales = {name: chance.choice([0, 1, 3, 12]) for name in ("area", "code") if chance.random() < 0.25}
     asked.collapsed = chance.choice(["null"] * 12 + ["drop"] * 4 + ["refuse"])
@@ -312,13 +336,13 @@ def wrong_back(folder, topology, asked):
     """What is wrong with a topology in the unit of the map, or nothing."""
     with open(f"{folder}/map.topo.json", "wb") as it:
         it.write(topology)
-    ran = togrid("--back", "--step", asked.step_word, f"{folder}/map.topo.json")
+    ran = togrid("--back", *(["--unit", asked.unit] if asked.unit else []), f"{folder}/map.topo.json")
     if ran.returncode:
         return f"--back: {ran.stderr!r}"
     built, back = json.loads(topology), json.loads(ran.stdout, parse_float=Fraction)
     if list(back)[0] != "type" or [Fraction(it) for it in back["transform"]["scale"]] != [asked.size] * 2 or back["transform"]["translate"] != [0, 0]:
         return f"--back: transform {back['transform']}"
-    if [Fraction(it) for it in back.get("bbox", [])] != [it * asked.size for it in built.get("bbox", [])]:
+    if [Fraction(it) for it in back.get("bbox", [])] != [it * asked.one for it in built.get("bbox", [])]:
         return f"--back: bbox {back['bbox']}"
     wrong = wrong_rings(built, back)
     return wrong and f"--back: {wrong}"
@@ -337,10 +361,15 @@ def halves_of(folder, root, chance):
 def wrong_halves(files, topology, asked):
     """What differs where features are in two files, in either order, built together, or apart and merged in either order."""
     for order in files, files[::-1]:
-        ran = togrid("--build", "-q", *asked.words(), *order)
-        if (ran.returncode, ran.stdout) != (0, topology):
-            return f"two files differ: {order} {ran.stderr!r}"
-    if asked.distance:
+        ran = togrid("--build", *asked.words(), *order)
+        paths, sources = [it.partition("=")[2] for it in order], []
+        for path in paths:
+            with open(path, "rb") as it:
+                sources.append(("map", [it.value for it in rounding.parse(it.read(), False)[1]]))
+        report = "".join(f"{it}\n" for it in rounding.report_lines(rounding.Rounded(sources, asked), paths))
+        if (ran.returncode, ran.stdout) != (0, topology) and not asked.numbers or ran.stderr.decode() != report:
+            return f"two files differ: {order} {ran.stderr!r}, wanted {report}"
+    if asked.distance or asked.numbers:
         return None  # what --snap joins depends on all files, so that they are built together
     shards = [f"{file.partition('=')[2]}.topo.json" for file in files]
     for file, shard in zip(files, shards):
@@ -366,11 +395,11 @@ def wrong_topology(folder, file, text, report, asked):
     """The topology of a text, and what differs of it."""
     with open(f"{folder}/map.json", "wb") as it:
         it.write(text)
-    built = topotool("build", "--grid", "1,1,0,0", f"map={folder}/map.json")
-    whole = togrid("--build", "-q", *asked.words(), f"map={file}")
+    built = topotool("build", "--grid", f"{asked.scale},{asked.scale},0,0", f"map={folder}/map.json")
+    whole = togrid("--build", "-q", *asked.words(), *seq_of(file, asked), f"map={file}")
     if built.returncode or (whole.returncode, whole.stdout, whole.stderr) != (0, built.stdout, b""):
         return None, f"--build differs: {whole.stderr!r} {built.stderr!r}"
-    if not is_behind(folder, ["--build", "-o", "-", *asked.words(), f"map={file}"], built.stdout, report):
+    if not is_behind(folder, ["--build", "-o", "-", *asked.words(), *seq_of(file, asked), f"map={file}"], built.stdout, report):
         return None, "--build -o -: not behind the report"
     return built.stdout, None
 
@@ -385,33 +414,39 @@ def same_report(found, wanted):
     return found == wanted
 
 
-def printed(folder, file, value, asked):
-    """What has to be printed of a text without errors, and what is wrong with the run; None, None where the moves are refused."""
+def seq_of(file, asked):
+    """The word by which a file is a sequence, unless its name says it."""
+    return ["--seq"] if asked.is_sequence and not file.endswith((".ndjson", ".geojsonl", ".geojsons")) else []
+
+
+def printed(folder, file, values, asked):
+    """What has to be printed of a file without errors, and what is wrong with the run; None, None where the moves are refused."""
+    seq = seq_of(file, asked)
     try:
-        rounded = rounding.Rounded([value], asked)
+        rounded = rounding.Rounded([("map", values)], asked)
     except rounding.Refused as refused:
-        ran, line = togrid("-q", *asked.words(), file), rounding.first_line(file, refused.error, asked)
+        ran, line = togrid("-q", *asked.words(), *seq, file), rounding.first_line(file, *refused.error, asked)
         is_right = (ran.returncode, ran.stdout, ran.stderr.decode()) == (4, b"", line)
         return None, None if is_right else f"moves that are refused: {ran.returncode} {ran.stderr!r}, wanted {line}"
-    text = rounding.text_of(rounded.files[0].features)
+    text = rounding.text_of(rounded.files[0])
     report = "".join(f"{it}\n" for it in rounding.report_lines(rounded, [file])).encode()
-    ran = togrid("--strict", "--report", f"{folder}/report.json", *asked.words(), f"map={file}")
+    ran = togrid("--strict", "--report", f"{folder}/report.json", *asked.words(), *seq, f"map={file}")
     if ran.stdout != text:
         return None, f"printed {ran.returncode} {ran.stdout!r} {ran.stderr!r}, wanted {text!r}"
     if (ran.returncode, ran.stderr) != (int(rounded.is_lossy()), report):
         return None, f"reported {ran.returncode} {ran.stderr!r}, wanted {report!r}"
     with open(f"{folder}/report.json", encoding="utf-8") as it:
-        found, wanted = json.load(it), rounding.report_of(rounded, [("map", file)])
+        found, wanted = json.load(it), rounding.report_of(rounded, [file])
     return (text, report), None if same_report(found, wanted) else f"report {found}, wanted {wanted}"
 
 
-def wrong_accepted(folder, file, value, root, asked, chance):
-    """What is wrong with the runs on a text without errors, or nothing."""
-    made, wrong = printed(folder, file, value, asked)
+def wrong_accepted(folder, file, values, root, asked, chance):
+    """What is wrong with the runs on a file without errors, or nothing."""
+    made, wrong = printed(folder, file, values, asked)
     if made is None or wrong:
         return wrong
     text, report = made
-    again = togrid("-q", "--step", "1", "--rewind", asked.rewind, "-", input=text)
+    again = togrid("-q", "--unit", "1", "--step", str(asked.scale), "--rewind", asked.rewind, "-", input=text)
     if (again.returncode, again.stdout) != (0, text):
         return f"printed again as {again.stdout!r} {again.stderr!r}, and not {text!r}"
     topology, wrong = wrong_topology(folder, file, text, report, asked)
@@ -424,72 +459,62 @@ def wrong_accepted(folder, file, value, root, asked, chance):
 
 def has_great_number(text):
     """Whether a number of a text is past all floats."""
-    return any(abs(float(it)) == float("inf") for it in re.findall(rb"-?\d+(?:\.\d+)?(?:[eE][-+]?\d+)?", text))
+    return any(abs(float(it)) == float("inf") for it in re.findall(r"-?\d+(?:\.\d+)?(?:[eE][-+]?\d+)?", text))
 
 
 def is_deep(text):
     """Whether values of a text nest more than 127 deep, as brackets do outside of strings."""
-    brackets = re.findall(rb"[][{}]", re.sub(rb'"(?:[^"\\]|\\.)*"', b"", text))
-    return max(itertools.accumulate(1 if it in b"[{" else -1 for it in brackets), default=0) > faults.DEEPEST_TEXT
+    brackets = re.findall(r"[][{}]", re.sub(r'"(?:[^"\\]|\\.)*"', "", text))
+    return max(itertools.accumulate(1 if it in "[{" else -1 for it in brackets), default=0) > faults.DEEPEST_TEXT
 
 
-def compared(line, text):
+def compared(line, record):
     """What is compared of a line of --faults: not the member that 13 names; and of a text that not every reader of JSON takes,
     by a number past all floats or its depth, neither an id, nor where it stops being JSON."""
     line = re.sub(r'( 13 PropertyNumber .*) member ".*', r"\1", line)
-    if has_great_number(text) or is_deep(text):
+    if has_great_number(record.text) or is_deep(record.text):
         line = re.sub(r"^.*:\d+:\d+:( 1 NotJson)", r"\1", re.sub(r' id (-?\d+|".*")$', "", line))
     return line
 
 
-def wrong_refused(file, text, ran_first, wanted):
-    """What is wrong with the runs on a text with errors, or nothing: the first line, and the lines of --faults."""
-    first, lines, words = wanted
-    if (ran_first.returncode, ran_first.stdout, ran_first.stderr.decode()) != (4, b"", first):
-        return f"refused {ran_first.returncode} {ran_first.stderr!r}, wanted {first!r}"
-    ran = togrid("--faults", *words, file)
-    found = [compared(it, text) for it in ran.stdout.decode().split("\n")[:-1]]
-    if (ran.returncode, found, ran.stderr) != (4, [compared(it, text) for it in lines], b""):
+def wrong_refused(file, text, errors, asked):
+    """What is wrong with the runs on a file with errors, or nothing: the first line, and the lines of --faults."""
+    record, (path, number) = errors[0]
+    first, seq = rounding.first_line(file, record.path + path, number, asked), seq_of(file, asked)
+    ran = togrid("-q", *asked.words(), *seq, file)
+    if (ran.returncode, ran.stdout, ran.stderr.decode()) != (4, b"", first):
+        return f"refused {ran.returncode} {ran.stderr!r}, wanted {first!r}"
+    ran = togrid("--faults", *asked.words_of_errors(), *seq, file)
+    found, lines = ran.stdout.decode().split("\n")[:-1], [rounding.fault_line(file, text, *it) for it in errors]
+    is_alike = len(found) == len(errors) and all(compared(one, it) == compared(line, it) for one, line, (it, _) in zip(found, lines, errors))
+    if (ran.returncode, is_alike, ran.stderr) != (4, True, b""):
         return f"--faults {ran.returncode} {ran.stdout!r} {ran.stderr!r}, wanted {lines}"
     return None
 
 
-def wanted_errors(file, bytes_, asked):
-    """The value of a text, and the first line and the lines of --faults where it has errors."""
-    words = asked.words_of_errors()
-    try:
-        text, value = rounding.parse(bytes_)
-    except faults.NotJson as wrong:
-        [error] = faults.not_json(bytes_.decode(), wrong.at)
-        line = f"{file}:{error['line']}:{error['column']}: 1 NotJson $"
-        return None, (f"togrid: {file}: 1 NotJson $\n", [line], words)
-    errors = rounding.errors_of(value, asked)
-    if not errors:
-        return value, None
-    lines = [rounding.fault_line(file, text, value, it) for it in errors]
-    return value, (rounding.first_line(file, errors[0], asked), lines, words)
-
-
 def judge(seed):
-    """Whether a text is refused, and what is wrong with the runs on it, or nothing."""
+    """Whether a file is refused, and what is wrong with the runs on it, or nothing."""
     chance = random.Random(seed)
     asked = options_of(chance)
-    root = Maker(chance, asked).root()
+    maker = Maker(chance, asked)
+    roots = [maker.root() for _ in range(chance.randint(0, 4) if asked.is_sequence else 1)]
     is_damaged = chance.random() < 0.33
-    for _ in range(chance.choice([1, 1, 2, 3]) if is_damaged else 0):
-        damage(chance, root)
-    bytes_ = text_of(chance, root, is_damaged)
+    for _ in range(chance.choice([1, 1, 2, 3]) if is_damaged and roots else 0):
+        damage(chance, chance.choice(roots))
+    bytes_ = text_of(chance, roots, is_damaged, asked.is_sequence)
     with tempfile.TemporaryDirectory() as folder:
-        file = f"{folder}/map.geojson"
+        file = f"{folder}/map.{chance.choice(['geojson', 'ndjson', 'geojsonl', 'geojsons']) if asked.is_sequence else 'geojson'}"
         with open(file, "wb") as it:
             it.write(bytes_)
-        value, wanted = wanted_errors(file, bytes_, asked)
-        if wanted:
-            wrong = wrong_refused(file, bytes_, togrid("-q", *asked.words(), file), wanted)
+        text, records = rounding.parse(bytes_, asked.is_sequence)
+        errors = rounding.errors_of(records, asked)
+        if errors:
+            wrong = wrong_refused(file, text, errors, asked)
         else:
-            is_collection = not is_damaged and value.what["type"].what == "FeatureCollection"
-            wrong = wrong_accepted(folder, file, value, root if is_collection else None, asked, chance)
-    return wanted is not None, wrong and f"seed {seed}: {asked.words()}: {wrong}\n  of {bytes_!r}"
+            values = [it.value for it in records]
+            is_collection = not is_damaged and not asked.is_sequence and values[0].what["type"].what == "FeatureCollection"
+            wrong = wrong_accepted(folder, file, values, roots[0] if is_collection else None, asked, chance)
+    return bool(errors), wrong and f"seed {seed}: {asked.words()}: {wrong}\n  of {bytes_!r}"
 
 
 def main():

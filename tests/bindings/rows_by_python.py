@@ -5,7 +5,7 @@
 NOSHINKA_LIBRARY names the library, TOPOTOOL the program; where there is no program, the answers are compared with the rows
 themselves. A row is left out if its words are none of a call: help, wrong usage, files that can't be read. An answer is what
 the program would print and its status: the bytes of a text, or the line of an error with its number, name and path. Rows of
-togrid, which TOGRID names, are put through `snap` and `build` with a step. Ends with a line of counts, and with status 1 where
+togrid, which TOGRID names, are put through `snap` and `build` with a step: they do what it does with the options ROUNDED. Ends with a line of counts, and with status 1 where
 anything differs, or less than most rows were compared.
 """
 
@@ -40,6 +40,7 @@ OPTIONS = {
 WANTED = {"build": "--grid", "feature": "--layer", "neighbors": "--layer"}
 CHOICES = {"--shape": rows.SHAPES, "--edges": ["all", "interior", "exterior"]}
 FILES = {"remove": 2, "check": 1, "feature": 1, "mesh": 1, "neighbors": 1, "info": 1, "diff": 2}
+ROUNDED = ["--reals", "text", "--unclosed", "refuse"]
 LEAST_COMPARED = 1000
 LEAST_ROUNDED = 10
 
@@ -157,8 +158,8 @@ def answered(words, lent, given):
 
 
 def rounding(words):
-    """The step, whether a topology is built, and the names and files of words of togrid."""
-    step, is_build, names, left = "degrees", False, [], list(words)
+    """The step, whether a topology is built, and the names and files of words of togrid. The calls count steps, as with --unit."""
+    step, unit, is_build, names, left = "degrees", None, False, [], list(words)
     if "-q" not in left:
         raise NoCall
     left.remove("-q")
@@ -166,6 +167,8 @@ def rounding(words):
         word = left.pop(0)
         if word == "--step" and left:
             step = left.pop(0)
+        elif word == "--unit" and left:
+            unit = left.pop(0)
         elif word == "--build":
             is_build = True
         elif word.startswith("-"):
@@ -173,6 +176,10 @@ def rounding(words):
         else:
             name, equals, file = word.partition("=")
             names.append((name, file) if equals else (os.path.basename(word).partition(".")[0], word))
+            if word.endswith((".ndjson", ".geojsonl", ".geojsons")):
+                raise NoCall
+    if unit != (None if step == "degrees" else step):
+        raise NoCall
     return step, is_build, names
 
 
@@ -180,7 +187,7 @@ def rounded(words, lent):
     """What togrid would print for some words, and its status, by the package. The line of an error is the front of togrid's."""
     step, is_build, names = rounding(words)
     files = [file for _, file in names]
-    if any(file not in lent for file in files) or not (is_build or len(files) == 1):
+    if any(file not in lent or b'"Topology"' in lent[file] for file in files) or not (is_build or len(files) == 1):
         raise NoCall
     try:
         if is_build:
@@ -199,9 +206,10 @@ def wanted(row, lent):
         with tempfile.TemporaryDirectory() as folder:
             for name, text in lent.items():
                 rows.lay(folder, name, text)
-            ran = rows.called(folder, row["words"], row.get("input", b""), program)
+            words = row["words"] if program == "topotool" else [*ROUNDED, *row["words"]]
+            ran = rows.called(folder, words, row.get("input", b""), program)
         return ran.stdout, ran.stderr, ran.returncode
-    if {"answers", "complains", "help", "ending"} & row.keys():
+    if program == "togrid" or {"answers", "complains", "help", "ending"} & row.keys():
         return None
     whole = {**rows.WHOLE, **row}
     return whole["stdout"], whole["stderr"], whole["status"]
