@@ -1,4 +1,6 @@
 pub mod Areas
+pub mod Boxes
+pub mod Numbers
 pub mod Parts
 pub mod Powers
 pub mod SinkLemmas

@@ -4,5 +4,6 @@ pub mod QuantizedAxis
 pub mod Quantizing
 pub mod DecimalTransform
 pub mod TransformFaults
+pub mod BoxTransform
 pub mod TopologyText
 pub mod Laws

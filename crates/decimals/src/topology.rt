@@ -6,6 +6,7 @@
 //! Positions may be rounded to the transform of another topology, as topoquantize does.
 
 mod area;
+mod box_transform;
 mod decimal_transform;
 mod fault;
 mod geometries;

@@ -7,7 +7,7 @@ use Rattle.std.specs.Option.{SomeIff}
 use Rattle.std.specs.Prelude.{unsigned_abs}
 use Rattle.decimals.specs.Topology.QuantizedAxis.{AxisParts, IsQuantizedAxis, axis_parts}
 
--- from the thirty-seventh on, more behind a number make no difference
+-- from the thirty-seventh on, zeros behind a number make no difference
 pub few_zeros : (v z : ℕ) → min (v * 10 ^ min z 37) (10 ^ 37) ≡ min (v * 10 ^ z) (10 ^ 37)
 few_zeros zero z = omega (arith, zero-mul (10 ^ min z 37), zero-mul (10 ^ z))
 few_zeros (suc v) z =

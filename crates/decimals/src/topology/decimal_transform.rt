@@ -1,11 +1,15 @@
 //! Transforms of decimal numbers as they are written.
+ghost use Rattle.decimals.specs.Topology.BoxTransform.{IsBoxTransform, box_transform, corners_or_zero};
 ghost use Rattle.decimals.specs.Topology.DecimalTransform.{quantizer_of, written_axis, written_transform};
 ghost use Rattle.decimals.specs.Topology.TransformFaults.{IsAxisFault, IsTransformFault, IsTransformOf, IsWrittenAxis, numerals_at, text_numerals, transform_numerals};
+ghost use Rattle.decimals.specs.declared.topology.fault.DecimalFault.TheVariants.{TooManyDigits};
 ghost use Rattle.decimals.specs.declared.topology.transform_fault.TransformFault.TheVariants.{OutOfMemory};
 ghost use Rattle.json.specs.Find.{as_str, get};
 ghost use Rattle.json.specs.Value.{value_view};
-ghost use Rattle.std.specs.Prelude.{◌≡◌, ◌≢◌, ◌⊎◌, ◌↔◌, Err, Ok, Some, IfErr, IfOk, IsTrue, OnOk, codes, option_and_then, option_map};
+ghost use Rattle.std.specs.Prelude.{◌≡◌, ◌≢◌, ◌⊎◌, ◌↔◌, ◌≤◌, Err, Ok, Some, IfErr, IfOk, IsTrue, OnOk, codes, option_and_then, option_map};
 
+use crate::topology::box_transform::{box_axis, corners_of};
+use crate::topology::fault::DecimalFault;
 use crate::topology::pairs::{NumberPair, copies_of};
 use crate::topology::quantized_axis::QuantizedAxis;
 use crate::topology::quantizer::Quantizer;
@@ -15,6 +19,7 @@ use json::{Error, Scratch, Value};
 use numerals::{DecimalAxis, DecimalStep};
 use std::alloc::Global;
 use std::marker::Model;
+use topo::topology::Topology;
 
 /// What an absolute 1 is worth, and a transform in the unit of the map: its four numerals, and its axes.
 #[derive(Drop)]
@@ -153,6 +158,47 @@ impl DecimalTransform {
             Err(Error::Invalid) => Err(TransformFault::NotJson),
             Err(_) => Err(TransformFault::OutOfMemory),
         }
+    }
+
+    /// The transform of a topology's bounding box, with so many steps from its least x to its greatest, and as many in y:
+    /// the scale is the least number of twelve places more than the unit has with which no position is farther, and 1
+    /// where a side has no length.
+    ///
+    /// # Errors
+    /// `TooManyDigits` where the unit has more than 18 places or a size of more than 10^6; `OutOfMemory`.
+    pub fn of_box(
+        alloc: Global,
+        topology: &Topology,
+        unit: &DecimalStep,
+        steps: u64,
+    ) -> Result<DecimalTransform, DecimalFault>
+        requires { 1 ≤ steps }
+        ensures value { IfOk result (λ d. d ≡ box_transform unit.now steps topology.now.bbox) }
+        ensures within { OnOk result (IsBoxTransform unit.now steps (corners_or_zero topology.now.bbox)) }
+        ensures refused { result ≡ Err DecimalFault.TooManyDigits → ¬ (IsBoxTransform unit.now steps (corners_or_zero topology.now.bbox)) }
+    {
+        let (west, south, east, north) = corners_of(topology.bbox());
+        let x = match box_axis(alloc, unit, steps, west, east) {
+            Ok(axis) => axis,
+            Err(fault) => return Err(fault),
+        };
+        let y = match box_axis(alloc, unit, steps, south, north) {
+            Ok(axis) => axis,
+            Err(fault) => return Err(fault),
+        };
+        Ok(DecimalTransform {
+            unit: *unit,
+            scale: NumberPair {
+                first: x.scale,
+                second: y.scale,
+            },
+            translate: NumberPair {
+                first: x.translate,
+                second: y.translate,
+            },
+            x: x.axis,
+            y: y.axis,
+        })
     }
 
     /// The axes beside a grid.

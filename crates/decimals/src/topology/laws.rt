@@ -1,5 +1,5 @@
-//! What the areas along arcs say of rings, as contracts of functions that do nothing.
-ghost use Rattle.decimals.specs.Topology.Laws.{AreasAddUp, RewoundRingsTurnRight};
+//! What the areas along arcs say of rings, and of numbers on another transform, as contracts of functions that do nothing.
+ghost use Rattle.decimals.specs.Topology.Laws.{AreasAddUp, NumbersAreNearest, RewoundRingsTurnRight};
 
 /// A ring that is asked to turn some way does not turn the other way.
 pub fn rewound_rings_turn_right()
@@ -9,4 +9,11 @@ pub fn rewound_rings_turn_right()
 /// The areas along its arcs add up to that along the positions of a ring.
 pub fn areas_add_up()
     ensures { AreasAddUp }
+{}
+
+/// The number of an absolute number on another transform is the whole one nearest to its place there, and of two that
+/// are equally near the one farther from 0.
+#[tactic(auto, using(crate::proofs::TopologyLemmas::Numbers::numbers_are_nearest))]
+pub fn numbers_are_nearest()
+    ensures { NumbersAreNearest }
 {}

@@ -18,7 +18,11 @@ pub struct NumberPair {
 }
 
 /// The text of an absolute number.
-fn number_text(alloc: Global, unit: &DecimalStep, number: i64) -> Result<String, DecimalFault>
+pub(crate) fn number_text(
+    alloc: Global,
+    unit: &DecimalStep,
+    number: i64,
+) -> Result<String, DecimalFault>
     ensures text { IfOk result (λ t. string_bytes t ≡ absolute_text unit.now number) }
     ensures within { OnOk result (unit.now.places ≤ 30) }
     ensures refused { result ≡ Err DecimalFault.TooManyDigits → 30 < unit.now.places }
