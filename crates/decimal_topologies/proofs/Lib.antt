@@ -1,3 +1,9 @@
+pub mod Snapped
+pub mod Positions
+pub mod Heights
+pub mod Table
+pub mod Fits
+pub mod Numerals
 pub mod Tables
 pub mod Judging
 pub mod Stitches
@@ -5,3 +11,5 @@ pub mod Faulty
 pub mod Nested
 pub mod Layered
 pub mod Marked
+pub mod Rooted
+pub mod Order

@@ -20,7 +20,6 @@ use Rattle.reading.specs.declared.geometry.GeometryType.{GeometryType}
 use Rattle.reading.specs.declared.geometry.GeometryType.TheVariants.{Point, MultiPoint, LineString, MultiLineString, Polygon, MultiPolygon}
 use Rattle.decimal_faults.specs.Geometries.{form_named, is_nothing, later, or_missing}
 use Rattle.decimal_faults.specs.Parts.{list_faults, member_faults}
-use Rattle.decimal_faults.specs.Shapes.{kind_by}
 use Rattle.decimal_faults.specs.declared.geometry.GeometryForm.{GeometryForm}
 use Rattle.decimal_faults.specs.declared.geometry.GeometryForm.TheVariants.{Simple, Collection}
 use Rattle.decimal_faults.specs.declared.outline.Outline.{Outline}
@@ -178,7 +177,7 @@ IsShape t j (raw.MultiPolygon gs) a b = ArrayMeans (AreLines t) j gs.items a b
 
 -- the same in a geometry of that type
 abbrev pub IsShapeOf : TopologyParts → GeometryType → Json → RawShape → Tally → Tally → Type 0
-IsShapeOf t k j s a b = (kind_of s ≡ kind_by k) × IsShape t j s a b
+IsShapeOf t k j s a b = (kind_of s ≡ k) × IsShape t j s a b
 
 -- a geometry with coordinates or arcs, which are the shape
 pub record IsSimple (t : TopologyParts) (j : Json) (s : RawShape) (a b : Tally) : Type 0 where

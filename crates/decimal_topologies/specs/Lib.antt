@@ -1,9 +1,13 @@
 pub mod Seen
 pub mod Tallies
+pub mod Axes
 pub mod Places
 pub mod Placed
+pub mod Arcs
+pub mod Transforms
 pub mod Stitching
 pub mod Geometries
 pub mod Features
 pub mod Layers
 pub mod Used
+pub mod Roots

@@ -6,14 +6,13 @@ use Rattle.faults.specs.Path.{index}
 use Rattle.faults.specs.Fault.{Pair}
 use Rattle.faults.specs.declared.fault.FaultKind.{FaultKind}
 use Rattle.faults.specs.declared.fault.FaultKind.TheVariants.{WrongKind, NotWhole, NoArc, Broken}
-use Rattle.fixing.specs.Left.{unfixed}
 use Rattle.fixing.specs.declared.rules.FixingRules.{FixingRules}
 use Rattle.grid.specs.declared.pos.Pos.{Pos}
 use Rattle.lines.specs.Pairs.{position_eq}
 use Rattle.numerals.specs.Whole.{whole_of}
 use Rattle.reading.specs.Fault.{here, under, unless_faulty}
 use Rattle.reading.specs.Outlines.{outline_faults}
-use Rattle.decimal_faults.specs.Outlines.{fault_as}
+use Rattle.decimal_faults.specs.Outlines.{unfixed_as}
 use Rattle.decimal_faults.specs.Parts.{array_faults}
 use Rattle.decimal_faults.specs.declared.outline.Outline.{Outline}
 use Rattle.decimal_maps.specs.declared.tally.Tally.{Tally}
@@ -130,7 +129,7 @@ are_known arcs (item j js) = is_some (along_if arcs (ref_of (length arcs) j)) &&
 
 -- the faults of the line or ring that arcs are stitched to; none where the places of one are not known
 abbrev pub stitched_faults : Arcs → FixingRules → Outline → Items → List Pair
-stitched_faults arcs fixing outline js = if are_known arcs js then outline_faults (unfixed fixing (fault_as outline (positions_along arcs js))) else []
+stitched_faults arcs fixing outline js = if are_known arcs js then outline_faults (unfixed_as fixing outline (positions_along arcs js)) else []
 
 -- a list of numbers of arcs, then the line or ring that these are stitched to
 abbrev pub items_faults : Arcs → FixingRules → Outline → Items → List Pair

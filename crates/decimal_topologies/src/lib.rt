@@ -4,7 +4,8 @@
 //! stitched together to lists of positions; so what is made of a topology is what is made of GeoJSON in decimal numbers.
 #![tactic(auto)]
 
-// mod arcs;
+mod arcs;
+mod axes;
 mod bodies;
 mod feature;
 mod geometry;
@@ -12,8 +13,10 @@ mod numbers;
 pub mod objects;
 pub mod place;
 mod places;
+mod root;
 mod stitching;
+mod transform;
 mod used;
-// mod transform;
 
 pub use objects::TopologyLayer;
+pub use root::{is_topology, read_topology, topology_faults};

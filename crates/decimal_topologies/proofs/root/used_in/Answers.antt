@@ -1,0 +1,13 @@
+use Rattle.std.proofs.Common.{ap, ◌∙◌}
+use Rattle.std.proofs.lemmas.Result.{IfOk-weaker}
+use Rattle.json.specs.Value.{items_view}
+use Rattle.decimal_topologies.specs.Layers.{seen_named}
+use Rattle.decimal_topologies.specs.Places.{count_of}
+use Rattle.decimal_topologies.specs.Used.{used_arcs}
+use Rattle.decimal_topologies.proofs.Rooted.{count_is}
+use Rattle.decimal_topologies.proofs.root.used_in.Goals as goal
+
+pub returns-clause-used : goal.returns-clause-used
+returns-clause-used c =
+    IfOk-weaker c.used_arcs.result _ _
+    (λ used is. is ∙ ap (λ n. used_arcs n (seen_named c.in_ok-layers.layers.entries)) (count_is c.args.items.now) ∙ ap (used_arcs (count_of (items_view c.args.items.now))) c.in_ok-layers.ensures) c.used_arcs.ensures.used
