@@ -127,7 +127,7 @@ fn sequence_reports(
         place: LineColumn::first(),
     };
     for (number, text) in texts_of(alloc, bytes, true)?.iter().enumerate() {
-        let (_, text) = text.split_at(count_between(*text));
+        let text = text.get(count_between(*text)..).unwrap_or(*text);
         let between = count_between(rest.bytes);
         rest.pass(between);
         add_reports(
