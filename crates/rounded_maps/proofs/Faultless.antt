@@ -14,7 +14,6 @@ use Rattle.rounded_maps.specs.Laws.{RoundedMapsAreFaultless}
 use Rattle.rounded_maps.specs.Rounded.{AreRead, IsRead, text_faults, texts_faults}
 use Rattle.rounded_maps.specs.Sequences.{records_of, without_mark}
 use Rattle.rounded_maps.specs.declared.map.RoundedFeature.{RoundedFeature}
-use Rattle.rounded_maps.specs.declared.map.RoundedMap.{RoundedMap}
 use Rattle.rounded_maps.specs.declared.rounding.RoundingRules.{RoundingRules}
 
 pub are_left : (rules : FixingRules) (numbers : Bool) (n : ℕ) (raws : List RawFeature) (fs : List RoundedFeature) → AreFixed rules numbers n raws fs → AreLeft rules raws

@@ -1,5 +1,5 @@
 -- The order of features of layers, as derived: those tie that are the same.
-use Rattle.std.proofs.Common.{◌≡◌, ◌↔◌, ℕ, List, refl, ap, sym, subst, ◌∙◌, rules, Equal}
+use Rattle.std.proofs.Common.{◌≡◌, ◌↔◌, ℕ, List, ap, sym, ◌∙◌, rules, Equal}
 use Rattle.std.proofs.lemmas.Cmp.{tied_itself}
 use Rattle.std.specs.declared.cmp.Ordering.{Ordering}
 use Rattle.std.specs.Cmp.Lexicographic.{slice_cmp}

@@ -1,5 +1,5 @@
 -- Layers of maps that are put one after the other.
-use Rattle.std.proofs.Common.{◌≡◌, ℕ, List, [], ◌∷◌, refl}
+use Rattle.std.proofs.Common.{ℕ, List, [], ◌∷◌, refl}
 use Rattle.shapes.specs.Maps.{Layers}
 use Rattle.rounded_maps.specs.Built.{AreLayersWith}
 

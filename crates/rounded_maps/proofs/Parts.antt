@@ -1,8 +1,7 @@
 -- Parts of a sequence, cut one after the other.
-use Rattle.std.proofs.Common.{◌≡◌, ℕ, zero, suc, ◌+◌, ◌<◌, ◌==◌, List, [], ◌∷◌, ◌++◌, Option, Some, None, Bool, true, false, cond, length, take, drop, slice_index, refl, ap, sym, ◌∙◌, arith, append_assoc, append-nil}
-use Rattle.std.specs.List.{filter, list_all, onto_first, slice_split}
-use Rattle.std.specs.Prelude.{not}
-use Rattle.rounded_maps.specs.Sequences.{is_blank, parts_behind, parts_of, texts_among}
+use Rattle.std.proofs.Common.{◌≡◌, ℕ, zero, suc, ◌+◌, ◌<◌, ◌==◌, List, [], ◌∷◌, Option, Some, None, true, false, length, take, drop, slice_index, refl, ap, arith}
+use Rattle.std.specs.List.{onto_first}
+use Rattle.rounded_maps.specs.Sequences.{parts_of}
 
 -- the first part ends before the first separator
 pub cut_at : (c : ℕ) (bs : List ℕ) (i j : ℕ) → j ≡ i + 1 → i < length bs → ((k : ℕ) → k < i → (slice_index bs k == c) ≡ false) → (slice_index bs i == c) ≡ true

@@ -1,11 +1,9 @@
 -- Lists that have the same members.
-use Rattle.std.proofs.Common.{◌≡◌, ◌⊎◌, ◌↔◌, ⊎_elim, inl, inr, ℕ, List, [], ◌∷◌, ◌++◌, Bool, true, ap, append_assoc, map, refl, subst, sym, ◌∙◌}
-use Rattle.std.specs.List.{Contains, dedup}
-use Rattle.std.specs.Ordering.{eq_by_cmp}
+use Rattle.std.proofs.Common.{◌≡◌, ⊎_elim, inl, inr, List, [], ◌∷◌, ◌++◌, Bool, true, ap, map, refl, subst, sym}
+use Rattle.std.specs.List.{dedup}
 use Rattle.std.specs.Cmp.{IsEquivalence}
 use Rattle.std.specs.List.Sorted.{IsPermutation}
 use Rattle.std.proofs.lemmas.List.Kept.{Contains-dedup, Contains-from_dedup}
-use Rattle.std.proofs.lemmas.List.Sorted.{Contains-permutation}
 use Rattle.lines.proofs.SortedLists.{Contains-from_has, Has-permutation, has_from_contains}
 use Rattle.reading.specs.Meant.{AreFeatures}
 use Rattle.reading.specs.Plain.{Plain}

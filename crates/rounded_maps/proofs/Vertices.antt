@@ -1,5 +1,5 @@
 -- Vertices of shapes, noted one after the other.
-use Rattle.std.proofs.Common.{◌≡◌, ℕ, ◌+◌, List, [], ◌∷◌, ◌++◌, length, refl, arith, ap, append_assoc, sym, ◌∙◌, add-zero}
+use Rattle.std.proofs.Common.{◌≡◌, ℕ, ◌+◌, List, [], ◌∷◌, ◌++◌, length, arith, ap, append_assoc, sym, ◌∙◌, add-zero}
 use Rattle.std.proofs.lemmas.List.{length-append}
 use Rattle.compare.specs.declared.quality.vertex.VertexUse.{VertexUse}
 use Rattle.shapes.specs.declared.shape.Shape.{Shape}

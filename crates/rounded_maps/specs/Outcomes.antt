@@ -1,5 +1,5 @@
 -- What became of maps.
-use Rattle.std.specs.Prelude.{◌≡◌, ℕ, List, [], ◌∷◌, map, vec_len, ⊤}
+use Rattle.std.specs.Prelude.{◌≡◌, List, [], ◌∷◌, map, vec_len, ⊤}
 use Rattle.fixing.specs.Counts.{AreCounted}
 use Rattle.rounded_maps.specs.declared.map.RoundedMap.{RoundedMap}
 use Rattle.rounded_maps.specs.declared.outcome.Outcome.{Outcome}

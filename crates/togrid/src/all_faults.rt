@@ -6,14 +6,16 @@ use crate::remedies::without_mark;
 use command_line::files::{Files, read_all};
 use command_line::refusal::Refusal;
 use command_line::status::Status;
+use decimal_topologies::{is_topology, topology_faults};
 use faults::{Fault, FaultKind, OutOfMemory};
 use itoa::Buffer;
+use json::{Error, Scratch, Value};
 use outputs::fault_reports::{FaultReport, Format, LineColumn, reports};
 use rounded_maps::{RoundingRules, text_faults, texts_of};
 use sinks::Sink;
 use std::alloc::{AllocError, Global};
 
-/// The errors of a text that the rules don't fix, and what is reported of each.
+/// The errors of a text of a sequence that the rules don't fix, and what is reported of each.
 fn text_reports(
     alloc: Global,
     rules: &RoundingRules<'_>,
@@ -21,6 +23,40 @@ fn text_reports(
 ) -> Result<Vec<FaultReport>, OutOfMemory> {
     let faults = text_faults(alloc, text, rules)?;
     reports(alloc, Format::GeoJson, text, faults)
+}
+
+/// The errors of a text that is a topology, if it is one.
+fn faults_of_topology(
+    alloc: Global,
+    rules: &RoundingRules<'_>,
+    text: &[u8],
+) -> Result<Option<Vec<Fault>>, OutOfMemory> {
+    let mut scratch = Scratch::new(alloc);
+    match Value::from_slice(alloc, text, &mut scratch) {
+        Ok(value) => if is_topology(&value) {
+            Ok(Some(topology_faults(alloc, &rules.map, &rules.fixing, &value)?))
+        } else {
+            Ok(None)
+        },
+        Err(Error::Invalid) => Ok(None),
+        Err(_) => Err(OutOfMemory),
+    }
+}
+
+/// What is reported of the errors of a file that is one text, GeoJSON or a topology.
+fn file_reports(
+    alloc: Global,
+    rules: &RoundingRules<'_>,
+    text: &[u8],
+) -> Result<Vec<FaultReport>, OutOfMemory> {
+    let faults = text_faults(alloc, text, rules)?;
+    if faults.is_empty() {
+        return Ok(Vec::new(alloc));
+    }
+    match faults_of_topology(alloc, rules, text)? {
+        Some(faults) => reports(alloc, Format::Topology, text, faults),
+        None => reports(alloc, Format::GeoJson, text, faults),
+    }
 }
 
 /// What is left of a file, and the place where that begins.
@@ -127,7 +163,7 @@ fn sequence_reports(
         place: LineColumn::first(),
     };
     for (number, text) in texts_of(alloc, bytes, true)?.iter().enumerate() {
-        let (_, text) = text.split_at(count_between(*text));
+        let text = text.get(count_between(*text)..).unwrap_or(*text);
         let between = count_between(rest.bytes);
         rest.pass(between);
         add_reports(
@@ -156,7 +192,7 @@ fn reports_of(
     if options.is_sequence || is_sequence(file) {
         sequence_reports(alloc, &rules, text)
     } else {
-        text_reports(alloc, &rules, text)
+        file_reports(alloc, &rules, text)
     }
 }
 

@@ -1,9 +1,10 @@
 //! The whole command, over files and sinks that are passed in.
 use crate::all_faults::print_faults;
 use crate::back::{back_options_of, write_back};
-use crate::layers::{MapLayer, layers_of};
+use crate::checks::{check_layers, check_outputs};
+use crate::layers::layers_of;
 use crate::made::Made;
-use crate::naming::{files_of, find_doubled, is_file_name, is_sequence, names_of, sources_of};
+use crate::naming::{files_of, is_sequence, names_of, sources_of};
 use crate::options::{GridOptions, options_of};
 use crate::remedies::{refuse_text, remedies_of};
 use crate::report::{Report, report_lines};
@@ -11,8 +12,8 @@ use crate::report_file::report_text;
 use clap::ArgMatches;
 use command_line::ending::{explain, refuse};
 use command_line::files::{Files, input_once, read_all};
-use command_line::output::{is_standard, write_output};
-use command_line::refusal::{Refusal, Remedy, Usage};
+use command_line::output::write_output;
+use command_line::refusal::{Refusal, Remedy};
 use command_line::status::Status;
 use command_line::togrid::parse;
 use rounded_maps::{MapsFault, Rounded, Source};
@@ -229,80 +230,4 @@ fn is_lossy(rounded: &Rounded) -> bool {
         None => false,
     };
     is_near || is_double || rounded.outcomes.iter().any(|outcome| outcome.is_lossy())
-}
-
-/// More than one file needs a folder, and a folder a name for each. A report replaces no input and no other output.
-fn check_outputs<'a>(
-    alloc: Global,
-    options: &GridOptions<'a>,
-    sources: &[(&'a str, &'a str)],
-) -> Result<(), Refusal<'a>> {
-    let names = names_of(alloc, sources)?;
-    check_names(alloc, options, names.as_slice())?;
-    let Some(report) = options.report else {
-        return Ok(());
-    };
-    let is_twice = if is_standard(Some(report)) {
-        options.target.is_standard()
-    } else {
-        options.output == Some(report) || sources.iter().any(|source| source.1 == report)
-    };
-    if is_twice {
-        return Err(Refusal::Usage(Usage::BadReport(report)));
-    }
-    check_report(alloc, options, names.as_slice())
-}
-
-/// The same of the layers that texts name.
-fn check_layers<'m>(
-    alloc: Global,
-    options: &GridOptions<'m>,
-    layers: &[MapLayer<'m>],
-) -> Result<(), Refusal<'m>> {
-    let mut names = Vec::with_capacity(alloc, layers.len())?;
-    for layer in layers {
-        if layer.is_named_by_text && options.target.is_folder() && !is_file_name(layer.name) {
-            return Err(Refusal::Usage(Usage::BadName(layer.name)));
-        }
-        names.push(layer.name)?;
-    }
-    check_names(alloc, options, names.as_slice())?;
-    check_report(alloc, options, names.as_slice())
-}
-
-/// Maps of these names that are not built go into files of their own, or there is one.
-fn check_names<'a>(
-    alloc: Global,
-    options: &GridOptions<'a>,
-    names: &[&'a str],
-) -> Result<(), Refusal<'a>> {
-    if options.target.is_folder() {
-        return match find_doubled(alloc, names)? {
-            Some(name) => Err(Refusal::Usage(Usage::NameTwice(name))),
-            None => Ok(()),
-        };
-    }
-    if !options.is_build && names.len() > 1 {
-        return Err(Refusal::Usage(Usage::NoFolder));
-    }
-    Ok(())
-}
-
-/// A report goes into no file of a map.
-fn check_report<'a>(
-    alloc: Global,
-    options: &GridOptions<'a>,
-    names: &[&'a str],
-) -> Result<(), Refusal<'a>> {
-    let Some(report) = options.report else {
-        return Ok(());
-    };
-    for name in names {
-        if let Some(file) = options.target.file(alloc, *name)? {
-            if file.as_str() == report {
-                return Err(Refusal::Usage(Usage::BadReport(report)));
-            }
-        }
-    }
-    Ok(())
 }

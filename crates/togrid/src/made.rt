@@ -33,10 +33,11 @@ fn is_in_layer(alloc: Global, layer: &Layer, name: &str) -> Result<bool, OutOfMe
     Ok(false)
 }
 
-/// Whether a feature of a map has a property.
+/// Whether a feature of a map that is printed has a property.
 fn is_in_map(alloc: Global, map: &RoundedMap, name: &str) -> Result<bool, OutOfMemory> {
     for feature in &map.features {
-        if has_member(alloc, &feature.feature.props, name)? {
+        let feature = &feature.feature;
+        if !feature.shapes.is_empty() && has_member(alloc, &feature.props, name)? {
             return Ok(true);
         }
     }

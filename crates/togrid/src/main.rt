@@ -3,10 +3,12 @@
 
 mod all_faults;
 mod back;
+mod checks;
 mod command;
 mod layers;
 mod made;
 mod naming;
+mod next;
 mod options;
 mod printing;
 mod remedies;

@@ -1,6 +1,7 @@
 //! The report as JSON.
 use crate::layers::MapLayer;
-use crate::report::{Report, at_most_u64, in_steps, in_units, next_command};
+use crate::next::next_command;
+use crate::report::{Report, at_most_u64, in_steps, in_units};
 use fixing::{FeatureFixes, Fixes};
 use grid::Pos;
 use json::Writer;

@@ -1,5 +1,5 @@
 -- The transform of corners, by its axes.
-use Rattle.std.proofs.Common.{◌≡◌, ℕ, ℤ, List, Err, Result, ap}
+use Rattle.std.proofs.Common.{◌≡◌, ℕ, List, Err, Result, ap}
 use Rattle.numerals.specs.Numeral.{Measure}
 use Rattle.topo.specs.Parts.{Corners}
 use Rattle.decimals.specs.Topology.BoxTransform.{box_axis, box_scale_text, corners_transform}

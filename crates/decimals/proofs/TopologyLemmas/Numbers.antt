@@ -1,5 +1,5 @@
 -- Numbers on another transform are the nearest ones.
-use Rattle.std.proofs.Common.{◌≡◌, ℕ, suc, zero, ◌+◌, ◌*◌, ◌/◌, ◌≤◌, ◌<◌, ℤ, pos, negsuc, ◌*ℤ◌, ◌-ℤ◌, neg_ℤ, refl, subst, sym, ap, ap₂, arith}
+use Rattle.std.proofs.Common.{◌≡◌, ℕ, suc, ◌+◌, ◌*◌, ◌/◌, ◌≤◌, ℤ, pos, negsuc, ◌*ℤ◌, ◌-ℤ◌, neg_ℤ, refl, subst, ap₂, arith}
 use Rattle.std.specs.Prelude.{unsigned_abs}
 use Rattle.fast_float.specs.Text.{with_sign}
 use Rattle.numerals.specs.Amount.{is_below}

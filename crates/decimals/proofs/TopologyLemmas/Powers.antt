@@ -1,8 +1,8 @@
 -- Numbers times powers of ten, up to a limit.
-use Rattle.std.proofs.Common.{◌≡◌, ℕ, zero, suc, ◌+◌, ◌-◌, ◌*◌, ◌^◌, ◌<◌, ◌≤◌, min, ℤ, pos, negsuc, ◌*ℤ◌, neg_ℤ, Option, Some, None, inl, inr, refl, sym, subst, ap, ◌∙◌, lit<, arith, zero-mul, mul-le-mul_right}
+use Rattle.std.proofs.Common.{◌≡◌, ℕ, zero, suc, ◌*◌, ◌^◌, ◌<◌, ◌≤◌, min, ℤ, pos, ◌*ℤ◌, Option, Some, None, inl, inr, refl, subst, ◌∙◌, lit<, arith, zero-mul, mul-le-mul_right}
 use Rattle.std.proofs.Math.Nat.{pow-le-pow_right}
 use Rattle.std.proofs.lemmas.Bool.{cases_lt}
-use Rattle.std.proofs.lemmas.Int.{ints, unsigned_abs-mul}
+use Rattle.std.proofs.lemmas.Int.{unsigned_abs-mul}
 use Rattle.std.specs.Option.{SomeIff}
 use Rattle.std.specs.Prelude.{unsigned_abs}
 use Rattle.decimals.specs.Topology.QuantizedAxis.{AxisParts, IsQuantizedAxis, axis_parts}

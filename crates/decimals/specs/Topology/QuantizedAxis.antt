@@ -1,5 +1,5 @@
 -- Absolute numbers rounded to the whole numbers of another transform [TopoJSON, 2.1.2].
-use Rattle.std.specs.Prelude.{◌≡◌, ℕ, ℤ, pos, negsuc, ◌+◌, ◌*◌, ◌/◌, ◌^◌, ◌<◌, ◌≤◌, ◌-ℤ◌, ◌*ℤ◌, neg_ℤ, suc, unsigned_abs}
+use Rattle.std.specs.Prelude.{ℕ, ℤ, pos, negsuc, ◌+◌, ◌*◌, ◌/◌, ◌^◌, ◌<◌, ◌≤◌, ◌-ℤ◌, ◌*ℤ◌, neg_ℤ, suc, unsigned_abs}
 use Rattle.fast_float.specs.Text.{with_sign}
 use Rattle.numerals.specs.Amount.{is_below}
 

@@ -1,4 +1,4 @@
-use Rattle.std.proofs.Common.{◌≡◌, ◌∙◌, ap, map, subst}
+use Rattle.std.proofs.Common.{◌∙◌, ap, map, subst}
 use Rattle.std.specs.FinMap as finite
 use Rattle.rounded_maps.specs.Built.{AreLayersWith}
 use Rattle.rounded_maps.specs.Files.{layer_of}

@@ -1,4 +1,4 @@
-use Rattle.std.proofs.Common.{◌≡◌, ◌+◌, ◌∙◌, ◌∷◌, ◌++◌, [], ap, append_assoc, append-nil, arith, inr, length, map, refl, subst, sym}
+use Rattle.std.proofs.Common.{◌≡◌, ◌∙◌, ◌∷◌, ◌++◌, [], ap, append_assoc, append-nil, arith, inr, length, refl, subst, sym}
 use Rattle.rounded_maps.specs.Files.{AreOfFile, AreRounded, File, files_of, origin_of}
 use Rattle.rounded_maps.specs.Refusals.{IsFirstFrom}
 use Rattle.rounded_maps.specs.Rounded.{IsRounded}

@@ -1,4 +1,4 @@
-use Rattle.std.proofs.Common.{◌≡◌, ◌+◌, ◌∙◌, List, [], ◌∷◌, ◌++◌, ap, append-nil, append_assoc, drop, map, refl, string_bytes, subst, sym}
+use Rattle.std.proofs.Common.{◌≡◌, ◌+◌, ◌∙◌, [], ◌∷◌, ◌++◌, ap, append-nil, append_assoc, drop, map, refl, string_bytes, subst, sym}
 use Rattle.std.proofs.lemmas.List.{drop_all}
 use Rattle.lines.proofs.Dropping.{drop_item}
 use Rattle.rounded_maps.specs.Equal.{AreEqual, AreRepeats, FindsRepeats, features_from, seen_behind}

@@ -1,4 +1,4 @@
-use Rattle.std.proofs.Common.{◌≡◌, ◌+◌, ◌∙◌, ap, arith, length, sym}
+use Rattle.std.proofs.Common.{◌≡◌, ◌+◌, ◌∙◌, ap, arith, length}
 use Rattle.rounded_maps.specs.Fixed.{numbered}
 use Rattle.rounded_maps.proofs.map.RoundedMap.add.Goals as goal
 

@@ -1,4 +1,4 @@
-use Rattle.std.proofs.Common.{◌≡◌, ◌≢◌, Err, IfErr, IfOk, inl, sym, ap, subst}
+use Rattle.std.proofs.Common.{◌≢◌, Err, IfErr, IfOk, inl, sym, ap, subst}
 use Rattle.json.specs.Value.{value_view}
 use Rattle.decimals.specs.Topology.TransformFaults.{IsTransformFault, IsTransformOf}
 use Rattle.decimals.specs.declared.topology.transform_fault.TransformFault.TheVariants.{OutOfMemory}
