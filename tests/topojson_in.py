@@ -366,11 +366,12 @@ def main():
     words = words_of(5000)
     look_for_program(TOGRID)
     seeds = range(words.seed * 1_000_000, words.seed * 1_000_000 + words.texts)
-    answers = [it for it in judged(judge, seeds, words.seconds) if it is not None]
+    tried = list(judged(judge, seeds, words.seconds))
+    answers = [it for it in tried if it is not None]
     refused, differ = sum(it for it, _ in answers), [it for _, it in answers if it]
     for it in differ[:5]:
         print(it)
-    print(f"{told(len(answers), words.texts, 'topologies', words.seconds)}, {refused:,} refused, {len(differ)} differ")
+    print(f"{told(len(tried), words.texts, 'texts', words.seconds)}, {len(answers):,} of them topologies, {refused:,} refused, {len(differ)} differ")
     is_enough = len(answers) >= min(LEAST_TEXTS, words.texts) and (len(answers) < SURE_TEXTS or 0.1 < refused / len(answers) < 0.7)
     return 1 if differ or not is_enough else 0
 
