@@ -163,10 +163,12 @@ def wrong_geometry(one, other, back, columns, scales):
 
 
 def wrong_size(built, axes, count, unit):
-    """What is wrong with the axes that --quantize makes, or nothing: from 0 to the last of so many numbers, along the bounding box."""
+    """What is wrong with the axes that --quantize makes, or nothing: from 0 to the last of so many numbers, along the bounding box. A
+    scale has twelve places more than the unit, and is rounded up, so a small map may end before."""
     for axis, it in enumerate(axes):
         least, greatest = (int(built["bbox"][at]) * unit for at in (axis, axis + 2))
-        if greatest > least and (it.number(least), it.number(greatest)) != (0, count - 1):
+        missing = count - 1 - it.number(greatest) if greatest > least else 0
+        if it.number(least) != 0 or not 0 <= missing <= 1 + (count - 1) ** 2 * unit / (10**12 * max(greatest - least, unit)):
             return f"numbers from {it.number(least)} to {it.number(greatest)} by {it.words}"
     return None
 
@@ -232,7 +234,7 @@ def main():
     words = words_of(2000)
     look_for_program(TOGRID)
     seeds = range(words.seed * 1_000_000, words.seed * 1_000_000 + words.texts)
-    answers = list(judged(judge, seeds, words.seconds))
+    answers = list(judged(judge, seeds, words.seconds))  # None is right, or a map that isn't built
     differ = [it for it in answers if it]
     for it in differ[:5]:
         print(it[:3000])

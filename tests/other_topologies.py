@@ -9,8 +9,8 @@ steps, as mapshaper does, with and without steps, and as the package topojson fo
 
 - all of it with the program of tests/stitching.py and tests/rounding.py, as tests/topojson_in.py does;
 - the features and the neighbours that topojson-client reads from the original, with those that it reads from the result of
-  `togrid --back`: ids, positions within half a step, and neighbours, but for features that the report names as fixed. This is
-  skipped where there is no node or topojson-client (Debian: node-vega).
+  `togrid --back`: ids, positions within half a step, and neighbours, but for features that the report names as fixed. Without
+  steps there may be more neighbours in the result, since borders that differ by noise become one. This is skipped where there is no node or topojson-client (Debian: node-vega).
 
 Ends with a line of counts, and with status 1 where anything differs.
 """
@@ -272,7 +272,7 @@ def is_near(places, others):
     return True
 
 
-def compared(folder, file, ids_of):
+def compared(folder, file, ids_of, has_steps):
     """Compares what topojson-client reads of a topology and of the result; gives what differs."""
     paths = [f"{folder}/{name}" for name in ("built.json", "back.json", "report.json")]
     togrid.togrid("--build", "-q", "--report", paths[2], "-o", paths[0], file)
@@ -291,7 +291,8 @@ def compared(folder, file, ids_of):
         for id_ in places.keys() & others.keys() - fixed[name]:
             if not is_near(places[id_], others[id_]) or not is_near(others[id_], places[id_]):
                 wrong.append(f"{name}: other positions of {id_}")
-            if beside[id_] - fixed[name] != neighbours[id_] - fixed[name]:
+            before, after = beside[id_] - fixed[name], neighbours[id_] - fixed[name]
+            if before != after and (has_steps or not before <= after):
                 wrong.append(f"{name}: other neighbours of {id_}")
     return wrong
 
@@ -321,7 +322,7 @@ def main():
                 with tempfile.TemporaryDirectory() as folder:
                     file = f"{folder}/map.topo.json"
                     found = wrong_text(folder, file, json.dumps(write(Maker(layers, steps)), separators=(",", ":")))
-                    found = [found] if found else compared(folder, file, ids_of) if by_client else []
+                    found = [found] if found else compared(folder, file, ids_of, steps is not None) if by_client else []
                 count, wrong = count + 1, wrong + bool(found)
                 for it in found[:3]:
                     print(f"{title}: {it[:1500]}")

@@ -276,13 +276,13 @@ def wrong_topology(folder, file, rounded, asked):
             out.write(rounding.text_of(it))
     ran = togrid.togrid("--build", "--strict", "--report", f"{folder}/report.json", *asked.words(), file)
     built = togrid.topotool("build", "--grid", f"{asked.scale},{asked.scale},0,0", *files)
-    report = "".join(f"{it}\n" for it in rounding.report_lines(rounded, [title_of(file, it.name) for it in rounded.files]))
+    report = "".join(f"{it}\n" for it in rounding.report_lines(rounded, [title_of(file, it.name) for it in rounded.files], True))
     if built.returncode or (ran.returncode, ran.stdout) != (int(rounded.is_lossy()), built.stdout):
         return f"--build {ran.returncode} {ran.stdout!r} {ran.stderr!r}, wanted {built.stdout!r} {built.stderr!r}"
     if ran.stderr.decode() != report:
         return f"reported {ran.stderr!r}, wanted {report!r}"
     with open(f"{folder}/report.json", encoding="utf-8") as it:
-        found, wanted = json.load(it), rounding.report_of(rounded, [file for _ in rounded.files])
+        found, wanted = json.load(it), rounding.report_of(rounded, [file for _ in rounded.files], True)
     return None if togrid.same_report(found, wanted) else f"report {found}, wanted {wanted}"
 
 
@@ -366,11 +366,12 @@ def main():
     words = words_of(5000)
     look_for_program(TOGRID)
     seeds = range(words.seed * 1_000_000, words.seed * 1_000_000 + words.texts)
-    answers = [it for it in judged(judge, seeds, words.seconds) if it is not None]
+    tried = list(judged(judge, seeds, words.seconds))
+    answers = [it for it in tried if it is not None]
     refused, differ = sum(it for it, _ in answers), [it for _, it in answers if it]
     for it in differ[:5]:
         print(it)
-    print(f"{told(len(answers), words.texts, 'topologies', words.seconds)}, {refused:,} refused, {len(differ)} differ")
+    print(f"{told(len(tried), words.texts, 'texts', words.seconds)}, {len(answers):,} of them topologies, {refused:,} refused, {len(differ)} differ")
     is_enough = len(answers) >= min(LEAST_TEXTS, words.texts) and (len(answers) < SURE_TEXTS or 0.1 < refused / len(answers) < 0.7)
     return 1 if differ or not is_enough else 0
 
