@@ -10,3 +10,4 @@ mod LayerOrder
 mod Placed
 mod Reading
 mod Same
+mod Either

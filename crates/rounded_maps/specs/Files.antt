@@ -1,7 +1,9 @@
 -- The maps of files.
-use Rattle.std.specs.Prelude.{◌≡◌, ℕ, ◌+◌, List, [], ◌∷◌, ◌++◌, Bool, None, get_or, map as map_list, option_map, string_bytes, unwrap_or}
+use Rattle.std.specs.Prelude.{◌≡◌, ◌⊎◌, ℕ, ◌+◌, List, [], ◌∷◌, ◌++◌, Bool, false, None, get_or, map as map_list, option_map, string_bytes, unwrap_or}
 use Rattle.rounded_maps.specs.Rounded.{IsRounded}
-use Rattle.rounded_maps.specs.declared.building.Origin.{Origin}
+use Rattle.rounded_maps.specs.Sequences.{without_mark}
+use Rattle.rounded_maps.specs.Topologies.{IsTopologyText}
+use Rattle.rounded_maps.specs.declared.files.Origin.{Origin}
 use Rattle.rounded_maps.specs.declared.map.RoundedMap.{RoundedMap}
 use Rattle.rounded_maps.specs.declared.rounding.RoundingRules.{RoundingRules}
 use Rattle.rounded_maps.specs.declared.source.Source.{Source}
@@ -18,12 +20,21 @@ files_of items sources = map_list (λ s. (s.is_sequence, items s.bytes)) sources
 abbrev pub origin_of : ℕ → Origin
 origin_of place = record { text = place; layer = None }
 
--- the maps of the file at a place, and where they are from: a map of GeoJSON has no name
-pub record AreOfFile (rules : RoundingRules) (place : ℕ) (file : File) (maps : List RoundedMap) (origins : List Origin) : Type 0 where
+-- the map of a file of GeoJSON, which has no name
+pub record IsOfGeoJson (rules : RoundingRules) (place : ℕ) (file : File) (maps : List RoundedMap) (origins : List Origin) : Type 0 where
   pub map : RoundedMap
   pub rounded : IsRounded rules file.0 file.1 map
   pub only : maps ≡ map ∷ []
   pub from : origins ≡ origin_of place ∷ []
+
+-- the maps of a file that is one text, a topology
+pub record AreOfTopology (rules : RoundingRules) (place : ℕ) (file : File) (maps : List RoundedMap) (origins : List Origin) : Type 0 where
+  pub one : file.0 ≡ false
+  pub text : IsTopologyText rules place (without_mark file.1) maps origins
+
+-- the maps of the file at a place, and where they are from
+abbrev pub AreOfFile : RoundingRules → ℕ → File → List RoundedMap → List Origin → Type 0
+AreOfFile rules place file maps origins = IsOfGeoJson rules place file maps origins ⊎ AreOfTopology rules place file maps origins
 
 -- the maps of files, those of each behind those of the one before; the first file has the place n
 abbrev pub AreRounded : RoundingRules → ℕ → List File → List RoundedMap → List Origin → Type 0

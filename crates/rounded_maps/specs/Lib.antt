@@ -2,6 +2,7 @@ pub mod Sequences
 pub mod Fixed
 pub mod Rounded
 pub mod Laws
+pub mod Topologies
 pub mod Files
 pub mod Joined
 pub mod Outcomes

@@ -4,8 +4,8 @@ use Rattle.faults.specs.Fault.{IsWant, Pair, pair_of}
 use Rattle.faults.specs.declared.fault.Fault.{Fault}
 use Rattle.reading.specs.Fault.{IsLeast}
 use Rattle.rounded_maps.specs.Files.{AreOfFile, File}
-use Rattle.rounded_maps.specs.Rounded.{faults_under}
-use Rattle.rounded_maps.specs.declared.building.Origin.{Origin}
+use Rattle.rounded_maps.specs.Topologies.{file_faults}
+use Rattle.rounded_maps.specs.declared.files.Origin.{Origin}
 use Rattle.rounded_maps.specs.declared.building.MapsFault.{MapsFault}
 use Rattle.rounded_maps.specs.declared.building.MapsFault.TheVariants.{Text, OutOfMemory}
 use Rattle.rounded_maps.specs.declared.map.RoundedMap.{RoundedMap}
@@ -36,7 +36,7 @@ pub record IsTaken (rules : RoundingRules) (place : ℕ) (file : File) : Type 0 
 abbrev pub IsFirstFrom : RoundingRules → ℕ → List File → ℕ → Fault → Type 0
 IsFirstFrom rules n [] place fault = ⊥
 IsFirstFrom rules n (file ∷ files) place fault =
-    ((place ≡ n) × IsRefusedText (faults_under rules file.0 file.1) fault) ⊎ (IsTaken rules n file × IsFirstFrom rules (n + 1) files place fault)
+    ((place ≡ n) × IsRefusedText (file_faults rules file.0 file.1) fault) ⊎ (IsTaken rules n file × IsFirstFrom rules (n + 1) files place fault)
 
 -- the first file that is refused, or memory was
 abbrev pub IsMapsRefusal : RoundingRules → ℕ → List File → MapsFault → Type 0

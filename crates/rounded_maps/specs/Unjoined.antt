@@ -1,5 +1,5 @@
 -- Maps that are not joined, since what the moves collapse or fold is refused.
-use Rattle.std.specs.Prelude.{◌≡◌, ◌⊎◌, ◌+◌, ◌<◌, ℕ, List, [], ◌∷◌, Option, Some, None, codes, true}
+use Rattle.std.specs.Prelude.{◌≡◌, ◌⊎◌, ◌+◌, ◌<◌, ℕ, List, [], ◌∷◌, Option, Some, None, codes, get_or, map as map_list, true}
 use Rattle.compare.specs.declared.quality.vertex.VertexUse.{VertexUse}
 use Rattle.faults.specs.Fault.{IsWant, pair_of}
 use Rattle.faults.specs.Path.{index, name}
@@ -20,7 +20,7 @@ use Rattle.rounded_maps.specs.Joined.{AreVertexUses}
 use Rattle.rounded_maps.specs.declared.building.BuildRules.{BuildRules}
 use Rattle.rounded_maps.specs.declared.building.MapsFault.{MapsFault}
 use Rattle.rounded_maps.specs.declared.building.MapsFault.TheVariants.{Text, OutOfMemory}
-use Rattle.rounded_maps.specs.declared.building.Origin.{Origin}
+use Rattle.rounded_maps.specs.declared.files.Origin.{Origin}
 use Rattle.rounded_maps.specs.declared.joining.Unjoined.{Unjoined}
 use Rattle.rounded_maps.specs.declared.joining.Unjoined.TheVariants as unjoined
 use Rattle.rounded_maps.specs.declared.map.RoundedFeature.{RoundedFeature}
@@ -77,6 +77,15 @@ abbrev pub AreUnjoined : FixingRules → (Pos → Pos) → ℕ → List RoundedM
 AreUnjoined rules f n maps (Text place fault) = HasUnjoinedMap rules f n maps place fault
 AreUnjoined rules f n maps OutOfMemory = Unit {0}
 
+-- the place of the file that the map of that number is from
+abbrev pub file_at : List Origin → ℕ → ℕ
+file_at origins n = get_or (map_list (λ o. o.text) origins) n n
+
+-- the refusal of a map as that of its file
+abbrev pub of_file : List Origin → MapsFault → MapsFault
+of_file origins (Text n fault) = Text (file_at origins n) fault
+of_file origins OutOfMemory = OutOfMemory
+
 -- all files are maps, and one of these is refused where nearly shared vertices are joined
 pub record AreUnjoinedTexts (rules : BuildRules) (files : List File) (fault : MapsFault) : Type 0 where
   pub read : List RoundedMap
@@ -87,4 +96,6 @@ pub record AreUnjoinedTexts (rules : BuildRules) (files : List File) (fault : Ma
   pub of : AreVertexUses read uses
   pub clusters : Clusters
   pub are : AreClusters uses rules.join_distance clusters
-  pub refused : AreUnjoined rules.rounding.fixing (target_in clusters) 0 read fault
+  pub of_map : MapsFault
+  pub refused : AreUnjoined rules.rounding.fixing (target_in clusters) 0 read of_map
+  pub is : fault ≡ of_file origins of_map

@@ -3,15 +3,12 @@ ghost use Rattle.reading.specs.Meant.{AreFeatures};
 ghost use Rattle.reading.specs.Plain.{Plain, plain};
 ghost use Rattle.rounded_maps.specs.Built.{AreLayersWith, AreMaps, HaveSame, IsBuilt, IsReport, plain_features, plain_of};
 ghost use Rattle.rounded_maps.specs.Equal.{AreEqualIf};
-ghost use Rattle.rounded_maps.specs.Files.{AreRounded, files_of, layer_of, origin_of};
+ghost use Rattle.rounded_maps.specs.Files.{AreRounded, files_of, layer_of};
 ghost use Rattle.rounded_maps.specs.Joined.{AreCountsIf, AreJoinedMaps, AreJoinedWithin, AreVertexUses, shapes_in};
 ghost use Rattle.rounded_maps.specs.Outcomes.{AreOutcomes};
-ghost use Rattle.rounded_maps.specs.Refusals.{IsMapsRefusal, IsRefusal, IsTextFault};
-ghost use Rattle.rounded_maps.specs.Rounded.{IsRounded, faults_under};
-ghost use Rattle.rounded_maps.specs.Unjoined.{AreUnjoined, AreUnjoinedTexts};
+ghost use Rattle.rounded_maps.specs.Refusals.{IsMapsRefusal, IsTextFault};
+ghost use Rattle.rounded_maps.specs.Unjoined.{AreUnjoined, AreUnjoinedTexts, file_at, of_file};
 ghost use Rattle.rounded_maps.specs.declared.building.MapsFault.TheVariants.{OutOfMemory as WantOfMemory};
-ghost use Rattle.rounded_maps.specs.declared.building.Origin.{Origin as From};
-ghost use Rattle.rounded_maps.specs.declared.map.RoundedMap.{RoundedMap as Map};
 ghost use Rattle.shapes.specs.Ids.{HasI64};
 ghost use Rattle.shapes.specs.Maps.{set_of as features_set};
 ghost use Rattle.snapping.specs.NearlyShared.Joined.{target_in};
@@ -20,10 +17,11 @@ ghost use Rattle.std.specs.FinMap as finite;
 ghost use Rattle.std.specs.Prelude.{◌≡◌, ◌⊎◌, ◌+◌, ◌++◌, ◌∷◌, [], ℕ, Bool, IfErr, IfOk, List, OnOk, get_or, length, map, string_bytes};
 
 use crate::equal::{EqualFeatures, find_equal_features};
+use crate::files::{Origin, ReadMaps, read_maps};
 use crate::joining::join_map;
 use crate::map::RoundedMap;
 use crate::outcome::Outcome;
-use crate::rounding::{RoundingRules, round_map};
+use crate::rounding::RoundingRules;
 use crate::source::Source;
 use faults::{Fault, FaultKind, OutOfMemory};
 use fixing::{FixedFeature, FixingRules};
@@ -84,22 +82,6 @@ impl<T: Drop> From<AllocFailed<T>> for MapsFault {
     }
 }
 
-/// Where a map is from.
-#[derive(Drop)]
-pub struct Origin {
-    /// The place of its file.
-    pub text: usize,
-    /// The name of its layer, where its file gives it one. Otherwise it is the caller's.
-    pub layer: Option<String>,
-}
-
-/// The maps of files, and where each is from.
-#[derive(Drop)]
-struct ReadMaps {
-    maps: Vec<RoundedMap>,
-    origins: Vec<Origin>,
-}
-
 /// What became of maps that were rounded together.
 #[derive(Drop)]
 pub struct Rounded {
@@ -116,58 +98,13 @@ pub struct Rounded {
 }
 
 /// The refusal of the text at a place.
-fn refuse_text(place: usize, fault: Fault) -> MapsFault
+pub(crate) fn refuse_text(place: usize, fault: Fault) -> MapsFault
     ensures { IsTextFault place fault result }
 {
     match fault.kind {
         FaultKind::OutOfMemory => MapsFault::OutOfMemory,
         _ => MapsFault::Text(place, fault),
     }
-}
-
-/// Adds the map of a file, and where it is from.
-fn add_map(
-    alloc: Global,
-    bytes: &[u8],
-    is_sequence: bool,
-    place: usize,
-    rules: &RoundingRules<'_>,
-    read: &mut ReadMaps,
-) -> Result<(), MapsFault>
-    ensures more { OnOk result ((m : Map) × IsRounded rules.now is_sequence bytes.now m × (read.new.maps.items ≡ read.old.maps.items ++ m ∷ []) × (read.new.origins.items ≡ read.old.origins.items ++ origin_of place ∷ [])) }
-    ensures refused { IfErr result (IsRefusal place (faults_under rules.now is_sequence bytes.now)) }
-{
-    match round_map(alloc, bytes, is_sequence, rules) {
-        Ok(map) => read.maps.push(map)?,
-        Err(fault) => return Err(refuse_text(place, fault)),
-    }
-    read.origins.push(Origin {
-        text: place,
-        layer: None,
-    })?;
-    Ok(())
-}
-
-/// The maps of files. The bytes of each are let go of once it is read.
-fn read_maps<T: AsSlice<u8> + Drop>(
-    alloc: Global,
-    sources: Vec<Source<T>>,
-    rules: &RoundingRules<'_>,
-) -> Result<ReadMaps, MapsFault>
-    ensures rounded { IfOk result (λ read. AreRounded rules.now 0 (files_of T.items sources.items) read.maps.items read.origins.items) }
-    ensures refused { IfErr result (IsMapsRefusal rules.now 0 (files_of T.items sources.items)) }
-{
-    let mut read = ReadMaps {
-        maps: Vec::new(alloc),
-        origins: Vec::new(alloc),
-    };
-    let mut place = 0;
-    for source in sources {
-        let bytes = source.bytes.as_slice();
-        add_map(alloc, bytes, source.is_sequence, place, rules, &mut read)?;
-        place += 1;
-    }
-    Ok(read)
 }
 
 /// Adds the vertices of a map. Each shape that is left is a feature.
@@ -212,14 +149,35 @@ fn join_maps(
     Ok(joined)
 }
 
+/// The place of the file that a map is from.
+fn file_of(origins: &[Origin], map: usize) -> usize
+    ensures { result ≡ file_at origins.now map }
+{
+    match origins.get(map) {
+        Some(origin) => origin.text,
+        None => map,
+    }
+}
+
+/// The refusal of a map, as that of the file that it is from.
+fn in_file(origins: &[Origin], fault: MapsFault) -> MapsFault
+    ensures { result ≡ of_file origins.now fault }
+{
+    match fault {
+        MapsFault::Text(map, fault) => MapsFault::Text(file_of(origins, map), fault),
+        MapsFault::OutOfMemory => MapsFault::OutOfMemory,
+    }
+}
+
 /// The maps with nearly shared vertices joined, where that is asked, and which these are.
 fn join_near(
     alloc: Global,
     maps: Vec<RoundedMap>,
+    origins: &[Origin],
     rules: &BuildRules<'_>,
 ) -> Result<(Vec<RoundedMap>, Option<Clusters>), MapsFault>
     ensures ok { IfOk result (λ joined. AreJoinedWithin rules.now.rounding.fixing rules.now.join_distance joined.1 maps.items joined.0.items) }
-    ensures err { IfErr result (λ e. (files : List (Bool × List ℕ)) (origins : List From) → AreRounded rules.now.rounding 0 files maps.items origins → (e ≡ WantOfMemory) ⊎ AreUnjoinedTexts rules.now files e) }
+    ensures err { IfErr result (λ e. (files : List (Bool × List ℕ)) → AreRounded rules.now.rounding 0 files maps.items origins.now → (e ≡ WantOfMemory) ⊎ AreUnjoinedTexts rules.now files e) }
 {
     if rules.join_distance == 0 {
         return Ok((maps, None));
@@ -228,7 +186,7 @@ fn join_near(
     let clusters = index.clusters(alloc, rules.join_distance)?;
     match join_maps(alloc, maps, &clusters, &rules.rounding.fixing) {
         Ok(joined) => Ok((joined, Some(clusters))),
-        Err(fault) => Err(fault),
+        Err(fault) => Err(in_file(origins, fault)),
     }
 }
 
@@ -352,7 +310,7 @@ pub fn round_maps<T: AsSlice<u8> + Drop>(
     ensures refused { IfErr result (λ e. IsMapsRefusal rules.now.rounding 0 (files_of T.items sources.items) e ⊎ AreUnjoinedTexts rules.now (files_of T.items sources.items) e) }
 {
     let ReadMaps { maps, origins } = read_maps(alloc, sources, &rules.rounding)?;
-    let (maps, clusters) = join_near(alloc, maps, rules)?;
+    let (maps, clusters) = join_near(alloc, maps, origins.as_slice(), rules)?;
     report_of(alloc, names, ReadMaps { maps, origins }, clusters, rules)
 }
 

@@ -27,7 +27,7 @@ pub struct RoundingRules<'r> {
     pub numbers: bool,
 }
 
-fn want_of_memory(alloc: Global) -> Fault
+pub(crate) fn want_of_memory(alloc: Global) -> Fault
     ensures { IsWant result }
 {
     Fault::here(alloc, FaultKind::OutOfMemory)

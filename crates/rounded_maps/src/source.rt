@@ -21,7 +21,7 @@ pub struct Source<T> {
 }
 
 /// The bytes behind a byte order mark in front.
-fn skip_mark(bytes: &[u8]) -> &[u8]
+pub(crate) fn skip_mark(bytes: &[u8]) -> &[u8]
     ensures { result.now ≡ without_mark bytes.now }
 {
     match bytes.strip_prefix(&MARK) {

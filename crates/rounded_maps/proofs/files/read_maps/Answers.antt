@@ -1,9 +1,8 @@
 use Rattle.std.proofs.Common.{◌≡◌, ◌∙◌, ◌∷◌, ◌++◌, [], ap, append_assoc, append-nil, arith, inr, length, refl, subst, sym}
-use Rattle.rounded_maps.specs.Files.{AreOfFile, AreRounded, File, files_of, origin_of}
+use Rattle.rounded_maps.specs.Files.{AreOfFile, AreRounded, File, files_of}
 use Rattle.rounded_maps.specs.Refusals.{IsFirstFrom}
-use Rattle.rounded_maps.specs.Rounded.{IsRounded}
 use Rattle.rounded_maps.proofs.Ends.{nothing_left}
-use Rattle.rounded_maps.proofs.building.read_maps.Goals as goal
+use Rattle.rounded_maps.proofs.files.read_maps.Goals as goal
 
 pub loop-source-preserved : goal.loop-source-preserved
 loop-source-preserved g c =
@@ -15,20 +14,24 @@ loop-source-preserved g c =
     let left = c.next.new.self.rest.items in
     let split = c.in-Some.ensures.steps.0 in
     let file : File = (c.in-Some.source.is_sequence, g.T.AsSlice.items c.in-Some.source.bytes) in
-    let (m, rounded, grown, from) = c.in_ok-add_map.ensures.more in
-    let is : IsRounded rules file.0 file.1 m = rw c.as_slice-bytes.ensures at rounded in
-    let one : AreOfFile rules n file (m ∷ []) (origin_of n ∷ []) = record { map = m; rounded = is; only = refl; from = refl } in
+    let more = c.in_ok-add_file.ensures.more in
+    let ms = more.0 in
+    let os = more.1.0 in
+    let of = more.1.1.0 in
+    let grown = more.1.1.1.0 in
+    let from = more.1.1.1.1 in
+    let one : AreOfFile rules n file ms os = rw c.as_slice-bytes.ensures at of in
     let len = ap length split in
     let place = c.loop-source.invariant.place in
     record {
       rounded = λ more others h.
-          let all : AreRounded rules n (file ∷ files left) (m ∷ more) (origin_of n ∷ others) = (m ∷ [], (more, (origin_of n ∷ [], (others, (refl, (refl, (one, h))))))) in
-          subst (λ ms. AreRounded rules 0 (files c.args.sources.items) ms (c.add_map.new.read.origins.items ++ others)) (sym (ap (λ l. l ++ more) grown ∙ append_assoc maps (m ∷ []) more))
-          (subst (λ os. AreRounded rules 0 (files c.args.sources.items) (maps ++ m ∷ more) os) (sym (ap (λ l. l ++ others) from ∙ append_assoc origins (origin_of n ∷ []) others))
-          (c.loop-source.invariant.rounded (m ∷ more) (origin_of n ∷ others) (subst (λ ss. AreRounded rules n (files ss) (m ∷ more) (origin_of n ∷ others)) (sym split) all)));
+          let all : AreRounded rules n (file ∷ files left) (ms ++ more) (os ++ others) = (ms, (more, (os, (others, (refl, (refl, (one, h))))))) in
+          subst (λ ms. AreRounded rules 0 (files c.args.sources.items) ms (c.add_file.new.read.origins.items ++ others)) (sym (ap (λ l. l ++ more) grown ∙ append_assoc maps ms more))
+          (subst (λ os. AreRounded rules 0 (files c.args.sources.items) (maps ++ (ms ++ more)) os) (sym (ap (λ l. l ++ others) from ∙ append_assoc origins os others))
+          (c.loop-source.invariant.rounded (ms ++ more) (os ++ others) (subst (λ ss. AreRounded rules n (files ss) (ms ++ more) (os ++ others)) (sym split) all)));
       refused = λ place fault h.
           c.loop-source.invariant.refused place fault
-          (subst (λ ss. IsFirstFrom rules n (files ss) place fault) (sym split) (inr (record { maps = m ∷ []; origins = origin_of n ∷ []; are = one }, h)));
+          (subst (λ ss. IsFirstFrom rules n (files ss) place fault) (sym split) (inr (record { maps = ms; origins = os; are = one }, h)));
       place = omega (arith, len, place);
     }
 

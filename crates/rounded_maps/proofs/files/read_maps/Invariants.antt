@@ -2,9 +2,9 @@ use Rattle.std.proofs.Common.{◌≡◌, ℕ, ◌+◌, ◌++◌, List, length}
 use Rattle.faults.specs.declared.fault.Fault.{Fault}
 use Rattle.rounded_maps.specs.Files.{AreRounded, files_of}
 use Rattle.rounded_maps.specs.Refusals.{IsFirstFrom}
-use Rattle.rounded_maps.specs.declared.building.Origin.{Origin}
+use Rattle.rounded_maps.specs.declared.files.Origin.{Origin}
 use Rattle.rounded_maps.specs.declared.map.RoundedMap.{RoundedMap}
-use Rattle.rounded_maps.proofs.building.read_maps.Given as goal
+use Rattle.rounded_maps.proofs.files.read_maps.Given as goal
 
 -- the maps so far, with those of the other files, are those of all
 abbrev pub invariant-loop-source : goal.invariant-loop-source
