@@ -1,22 +1,19 @@
 #!/usr/bin/env python3
-"""Compares `togrid --back` on other transforms, and with numbers of properties, with a program over Python's fractions that is
-written from docs/TOGRID.md.
+"""Compares `togrid --back` on other transforms with a program over Python's fractions that is written from docs/TOGRID.md.
 
     python3 tests/back.py [--seed N] [--texts N] [--seconds N]
 
-The topologies are those that togrid builds of the random GeoJSON of tests/togrid.py, whose properties have decimal numbers as
-texts. Each goes back with random options: the unit, `--numbers` with and without names, `--reals scale:P=K`, and `--like` a
-topology of a random transform (scales that are small, great, unequal, negative, with exponents), or `--quantize N`.
+The topologies are those that togrid builds of the random GeoJSON of tests/togrid.py. Each goes back with random options: the unit,
+and `--like` a topology of a random transform (scales that are small, great, unequal, negative, with exponents), or `--quantize N`.
 
-What is compared: the transform, number for number, and with `--quantize` its size; each position of points and arcs; the numbers
-of properties, as they are written; ids, types and lists of arcs. Ends with a line of counts, and with status 1 where something
+What is compared: the transform, number for number, and with `--quantize` its size; each position of points and arcs; ids,
+properties and types. Ends with a line of counts, and with status 1 where something
 differed, or almost no topology was tried.
 """
 
 import itertools
 import json
 import random
-import re
 import sys
 import tempfile
 from fractions import Fraction
@@ -29,7 +26,6 @@ from stitching import LONGEST, places_of
 from many_runs import LEAST_TEXTS, TOGRID, judged, look_for_program, told, words_of
 from togrid import Maker, dumped, spelled
 
-NUMBER = re.compile(r"-?(0|[1-9][0-9]*)(\.[0-9]+)?([eE][-+]?[0-9]+)?", re.ASCII)
 SCALES = ["0.0036003600360036005", "1", "1e-5", "25e-2", "0.1", "123.456", "-0.5", "7"]
 COUNTS = [2, 3, 100, 10**4, 10**6]
 MOST_PLACES = 17
@@ -42,36 +38,6 @@ class Raw(str):
 def read(text):
     """A value of JSON whose numbers keep their text."""
     return json.loads(text, parse_int=Raw, parse_float=Raw)
-
-
-# ---- numbers of properties
-
-def is_decimal(value):
-    return isinstance(value, str) and not isinstance(value, Raw) and NUMBER.fullmatch(value) is not None
-
-
-def is_column(values):
-    """Whether some values are whole numbers, decimal numbers as texts, and null, and a text has a point or an exponent."""
-    texts = [it for it in values if it is not None and not isinstance(it, Raw)]
-    return all(map(is_decimal, texts)) and any(set(it) & set(".eE") for it in texts)
-
-
-def columns_of(geometries, names):
-    """The properties whose texts become numbers: those of the names, or where there are none, all that can be."""
-    if names is None or names:
-        return set(names or ())
-    found = {}
-    for it in geometries:
-        for name, value in it.get("properties", {}).items():
-            found.setdefault(name, []).append(value)
-    return {name for name, values in found.items() if is_column(values)}
-
-
-def property_back(name, value, columns, scales):
-    if isinstance(value, Raw):
-        worth = Fraction(int(value), 10 ** scales.get(name, 0))
-        return Raw(f"{'-' * (worth < 0)}{rounding.decimal_text(abs(worth))}") if name in scales else value
-    return Raw(value) if name in columns and is_decimal(value) else value
 
 
 # ---- transforms
@@ -149,12 +115,9 @@ def as_numbers(coordinates):
     return tuple(map(int, coordinates)) if is_one else [tuple(map(int, it)) for it in coordinates]
 
 
-def wrong_geometry(one, other, back, columns, scales):
-    wanted = {name: property_back(name, it, columns, scales) for name, it in one.get("properties", {}).items()}
-    found = other.get("properties", {})
-    kinds = [[(name, type(it)) for name, it in sorted(its.items()) if not isinstance(it, (dict, list))] for its in (wanted, found)]
-    if wanted != found or kinds[0] != kinds[1]:
-        return f"properties {found}, wanted {wanted}"
+def wrong_geometry(one, other, back):
+    if one.get("properties") != other.get("properties"):
+        return f"properties {other.get('properties')}"
     if (one.get("id"), one["type"]) != (other.get("id"), other["type"]) or "arcs" in one and "arcs" not in other:
         return f"geometry {other}"
     if "coordinates" in one and as_numbers(other["coordinates"]) != back.coordinates(one):
@@ -173,9 +136,8 @@ def wrong_size(built, axes, count, unit):
     return None
 
 
-def wrong_back(built, back, axes, asked):
+def wrong_back(built, back, axes, unit):
     """What is wrong with a topology on the way back, or nothing."""
-    unit, names, scales, _ = asked
     found = axes_of(back)
     if axes and [it.words for it in found] != [it.words for it in axes]:
         return f"transform {back['transform']}"
@@ -185,9 +147,8 @@ def wrong_back(built, back, axes, asked):
     if [along(it) for it in back["arcs"]] != [numbers.arc(it) for it in built["arcs"]]:
         return f"arcs {back['arcs']}"
     for name, layer in built["objects"].items():
-        geometries, columns = layer["geometries"], columns_of(layer["geometries"], names)
-        for one, other in zip(geometries, back["objects"][name]["geometries"], strict=True):
-            if wrong := wrong_geometry(one, other, numbers, columns, scales):
+        for one, other in zip(layer["geometries"], back["objects"][name]["geometries"], strict=True):
+            if wrong := wrong_geometry(one, other, numbers):
                 return wrong
     return None
 
@@ -198,8 +159,6 @@ def judge(seed):
     options = togrid.options_of(chance)
     options.is_sequence, options.scales, options.reals = False, {}, chance.choice(["whole", "text"])
     text = dumped(chance, Maker(chance, options).root(), ",")
-    names = chance.choice([None, [], ["area"], ["code", "area", "none"]])
-    scales = {name: chance.choice([0, 1, 3, 12]) for name in ("whole", "code") if chance.random() < 0.3}
     count = chance.choice(COUNTS)
     with tempfile.TemporaryDirectory() as folder:
         built = togrid.togrid("--build", "-q", *options.words(), "map=-", input=text.encode())
@@ -212,8 +171,6 @@ def judge(seed):
             out.write(other)
         kind = chance.choice(["like", "quantize", None])
         words = ["--rewind", "keep", *(["--unit", options.unit] if options.unit else [])]
-        words += [] if names is None else [f"--numbers={','.join(names)}" if names else "--numbers"]
-        words += [it for name, places in scales.items() for it in ("--reals", f"scale:{name}={10**places}")]
         words += {"like": ["--like", f"{folder}/like.json"], "quantize": ["--quantize", str(count)], None: []}[kind]
         ran = togrid.togrid("--back", *words, f"{folder}/map.topo.json")
     one = read(built.stdout)
@@ -224,7 +181,7 @@ def judge(seed):
         wrong = f"{ran.returncode} {ran.stderr!r}"
     else:
         back = read(ran.stdout)
-        wrong = wrong_back(one, back, axes if kind == "like" else None, (options.one, names, scales, count))
+        wrong = wrong_back(one, back, axes if kind == "like" else None, options.one)
         if kind == "quantize" and "bbox" in one:
             wrong = wrong or wrong_size(one, axes_of(back), count, options.one)
     return wrong and f"seed {seed}: {words}: {wrong}\n  of {built.stdout!r}\n  {ran.stdout!r}"

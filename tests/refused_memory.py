@@ -122,7 +122,7 @@ def rounded(program):
              [*one, "--id", "n", "folded.json"], [*one, "--collections", "refuse", "collection.json"], ["-q", *one, "--reals", "refuse", "folded.json"], ["nowhere.json"]]
     faults = [["--faults", *one, "wrong.json", "point.json"], ["--faults", "--seq", *one, "--unclosed", "refuse", "marks.json"], ["--faults", *one, "--collapsed", "refuse", "--reals", "refuse", "folded.json"], ["--faults", "broken.json"]]
     back = [["--back", "noisy.topo.json"], ["--back", "--rewind", "keep", "--unit", "0.25", "noisy.topo.json", "-o", "back.out"], ["--back", "point.json"],
-            ["--back", "--numbers", "noisy.topo.json"], ["--back", "--numbers=area,n", "--reals", "scale:n=10", "--quantize", "1000", "noisy.topo.json"],
+            ["--back", "--quantize", "1000", "noisy.topo.json"],
             ["--back", "--like", "like.json", "noisy.topo.json"], ["--back", "--like", "point.json", "noisy.topo.json"], ["--back", "--like", "nowhere.json", "noisy.topo.json"]]
     topologies = [["--build", *one, "atlas.json"], ["--strict", *one, "--report", "report.out", "-o", ".", "atlas.json"], ["--build", "-q", *one, "--snap", "1", "atlas.json", "a=noisy.json"],
                   [*one, "atlas.json"], ["-q", *one, "wild.json"], ["--faults", *one, "--folded", "refuse", "wild.json", "atlas.json"]]

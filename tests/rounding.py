@@ -9,7 +9,6 @@ import collections
 import itertools
 import json
 import math
-import re
 from fractions import Fraction
 
 import faults
@@ -22,7 +21,6 @@ GEOMETRIES = faults.GEOMETRIES
 COLLECTION = "GeometryCollection"
 FIXES = ("closed", "collapsed", "folded", "collections", "lost")
 BLANK = " \t\r\n"
-NUMBER = re.compile(r"-?(0|[1-9][0-9]*)(\.[0-9]+)?([eE][-+]?[0-9]+)?", re.ASCII)
 
 
 class Options:
@@ -643,7 +641,7 @@ class File:
 
     def __init__(self, name, values, options):
         found, self.tally = read(values, options)
-        self.name, self.equal, self.found = name, [], [it for it, _ in found]
+        self.name, self.equal = name, []
         self.count, self.options, self.features, self.fixed = len(found), options, [], collections.defaultdict(collections.Counter)
         for feature, is_collection in found:
             fixer = Fixer(options)
@@ -697,41 +695,9 @@ class Rounded:
         """The properties that are scaled and that no feature of the result has."""
         return [name for name in self.options.scales if not any(name in it.properties for file in self.files for it in file.features)]
 
-    def columns(self, is_build):
-        """The properties of which only numbers became texts, with how many of a layer's; none where there are more than became
-        texts. A layer of a topology has equal features once."""
-        reals, counts, layers = sum(it.tally.reals for it in self.files), collections.Counter(), collections.defaultdict(dict)
-        for file in self.files if is_build else ():
-            layers[file.name] |= {feature_text(it, self.options): it.properties for it in file.features}
-        parts = [list(it.values()) for it in layers.values()] if is_build else [[it.properties for it in file.found] for file in self.files]
-        for properties in parts if reals else ():
-            for name in set().union(*properties):
-                counts[name] += column_of([it[name] for it in properties if name in it])
-        found = {name: counts[name] for name in sorted(counts, key=str.encode) if counts[name]}
-        return found if sum(found.values()) <= reals else {}
-
-    def back(self, is_build):
-        """The words of the way back, where there are more than two."""
-        columns, options = self.columns(is_build), self.options
-        words = ["--unit", options.unit] if options.unit else []
-        words += [f"--numbers={','.join(columns)}"] if columns else []
-        words += [it for name, places in options.scales.items() for it in ("--reals", f"scale:{name}={10**places}")]
-        return ["togrid", "--back", *words] if columns or options.scales else []
-
     def is_lossy(self):
         counts = [file.tally.heights + file.tally.reals + len(file.equal) + sum(map(file.count_of, FIXES)) for file in self.files]
         return bool(self.near or any(counts))
-
-
-def is_number(value):
-    return isinstance(value, int) and not isinstance(value, bool)
-
-
-def column_of(values):
-    """How many of some values are texts of numbers with a point or an exponent, where all are numbers, texts of them, or null."""
-    texts = [it for it in values if it is not None and not is_number(it)]
-    is_column = all(isinstance(it, str) and NUMBER.fullmatch(it) for it in texts)
-    return sum(bool(set(it) & set(".eE")) for it in texts) if is_column else 0
 
 
 # ---- what is printed
@@ -789,7 +755,7 @@ def file_report(file, path):
             **{it: file.count_of(it) for it in FIXES}, "equal": len(file.equal), "first_equal": file.equal[0] if file.equal else None, "fixed": fixed}
 
 
-def report_of(rounded, paths, is_build=False):
+def report_of(rounded, paths):
     """The report as an object, with fractions for the decimal numbers of files."""
     options = rounded.options
     made = {"step": options.step_word, "files": [file_report(*it) for it in zip(rounded.files, paths)]}
@@ -799,8 +765,7 @@ def report_of(rounded, paths, is_build=False):
         wide = in_numbers(rounded.wide[0], options) if rounded.wide else None
         made |= {"joined": len(rounded.moves), "too_wide": len(rounded.wide), "first_too_wide": wide}
     near = in_numbers(rounded.near[0], options) if rounded.near else None
-    back = rounded.back(is_build)
-    return {**made, "nearly_shared": len(rounded.near), "first_nearly_shared": near, **({"back": back} if back else {})}
+    return {**made, "nearly_shared": len(rounded.near), "first_nearly_shared": near}
 
 
 WORDS = {"closed": "rings closed", "collapsed": "lines or rings collapsed", "folded": "lines or rings folded, and split", "collections": "collections split",
@@ -828,12 +793,10 @@ def pair_text(position, options):
     return ",".join(map(str, in_numbers(position, options)))
 
 
-def report_lines(rounded, paths, is_build=False):
+def report_lines(rounded, paths):
     """The report on standard error."""
     for file, path in zip(rounded.files, paths):
         yield from file_lines(file, path)
-    for name, count in rounded.columns(is_build).items():
-        yield f"{name}: {count} numbers made texts"
     for name in rounded.absent():
         yield f"no feature has the property of --reals scale:{name}"
     if rounded.shared:
@@ -844,8 +807,6 @@ def report_lines(rounded, paths, is_build=False):
             yield f"{len(rounded.wide)} clusters too wide to be joined, the first at {pair_text(rounded.wide[0], rounded.options)}"
     if rounded.near:
         yield f"{len(rounded.near)} nearly shared vertices, the first at {' and '.join(pair_text(it, rounded.options) for it in rounded.near[0])}"
-    if back := rounded.back(is_build):
-        yield f"back: {' '.join(back)}"
 
 
 # ---- what is reported of errors

@@ -366,7 +366,7 @@ def wrong_halves(files, topology, asked):
         for path in paths:
             with open(path, "rb") as it:
                 sources.append(("map", [it.value for it in rounding.parse(it.read(), False)[1]]))
-        report = "".join(f"{it}\n" for it in rounding.report_lines(rounding.Rounded(sources, asked), paths, True))
+        report = "".join(f"{it}\n" for it in rounding.report_lines(rounding.Rounded(sources, asked), paths))
         if (ran.returncode, ran.stdout) != (0, topology) and not asked.numbers or ran.stderr.decode() != report:
             return f"two files differ: {order} {ran.stderr!r}, wanted {report}"
     if asked.distance or asked.numbers:
@@ -429,7 +429,7 @@ def printed(folder, file, values, asked):
         is_right = (ran.returncode, ran.stdout, ran.stderr.decode()) == (4, b"", line)
         return None, None if is_right else f"moves that are refused: {ran.returncode} {ran.stderr!r}, wanted {line}"
     text = rounding.text_of(rounded.files[0])
-    report, of_build = ("".join(f"{it}\n" for it in rounding.report_lines(rounded, [file], it)).encode() for it in (False, True))
+    report = "".join(f"{it}\n" for it in rounding.report_lines(rounded, [file])).encode()
     ran = togrid("--strict", "--report", f"{folder}/report.json", *asked.words(), *seq, f"map={file}")
     if ran.stdout != text:
         return None, f"printed {ran.returncode} {ran.stdout!r} {ran.stderr!r}, wanted {text!r}"
@@ -437,7 +437,7 @@ def printed(folder, file, values, asked):
         return None, f"reported {ran.returncode} {ran.stderr!r}, wanted {report!r}"
     with open(f"{folder}/report.json", encoding="utf-8") as it:
         found, wanted = json.load(it), rounding.report_of(rounded, [file])
-    return (text, of_build), None if same_report(found, wanted) else f"report {found}, wanted {wanted}"
+    return (text, report), None if same_report(found, wanted) else f"report {found}, wanted {wanted}"
 
 
 def wrong_accepted(folder, file, values, root, asked, chance):

@@ -276,13 +276,13 @@ def wrong_topology(folder, file, rounded, asked):
             out.write(rounding.text_of(it))
     ran = togrid.togrid("--build", "--strict", "--report", f"{folder}/report.json", *asked.words(), file)
     built = togrid.topotool("build", "--grid", f"{asked.scale},{asked.scale},0,0", *files)
-    report = "".join(f"{it}\n" for it in rounding.report_lines(rounded, [title_of(file, it.name) for it in rounded.files], True))
+    report = "".join(f"{it}\n" for it in rounding.report_lines(rounded, [title_of(file, it.name) for it in rounded.files]))
     if built.returncode or (ran.returncode, ran.stdout) != (int(rounded.is_lossy()), built.stdout):
         return f"--build {ran.returncode} {ran.stdout!r} {ran.stderr!r}, wanted {built.stdout!r} {built.stderr!r}"
     if ran.stderr.decode() != report:
         return f"reported {ran.stderr!r}, wanted {report!r}"
     with open(f"{folder}/report.json", encoding="utf-8") as it:
-        found, wanted = json.load(it), rounding.report_of(rounded, [file for _ in rounded.files], True)
+        found, wanted = json.load(it), rounding.report_of(rounded, [file for _ in rounded.files])
     return None if togrid.same_report(found, wanted) else f"report {found}, wanted {wanted}"
 
 
