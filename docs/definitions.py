@@ -40,6 +40,8 @@ The last column is the public source that a definition follows. 'Own' marks what
 """
 DEFINED = re.compile(r"^(?:(?:abbrev|unfoldable|opaque) )*pub (?:(?:abbrev|unfoldable|opaque|data|record) )*([^\s:({]+)(?=[\s:({]|$)")
 SOURCE = re.compile(r"\s*\[((?:[A-Z]|topojson-)[^\]]*)\]$")
+GHOST = re.compile(r"ghost use Rattle\.(\w+)\.specs\.([\w.]+?)(\.\{.*\};|\.[\w'-]+;| as \w+;)$")
+WITHIN = re.compile(r"(\w+)\.([\w'-]+)")
 SYMBOL = re.compile(r"[\w◌≡≤⊎⟨⟩'-]+")
 
 
@@ -67,27 +69,47 @@ def specs():
             yield crate, path
 
 
+def imported(lines):
+    """What the `ghost use` lines of a file bring in: of each word the definitions, each by its crate, its module and its name."""
+    names, modules = {}, {}
+    for line in lines:
+        found = GHOST.match(line.strip())
+        if not found:
+            continue
+        crate, module, rest = found.groups()
+        if rest.startswith("."):
+            for it in rest.strip(".{}; ").split(","):
+                name, _, word = it.strip().partition(" as ")
+                names[word or name] = (crate, module, name)
+        else:
+            modules[rest.removeprefix(" as ").rstrip("; ")] = (crate, module)
+    return names, modules
+
+
 def cited():
-    """The words in contracts of src/ of product crates."""
+    """The definitions that contracts in src/ of product crates name, each by its crate, its module and its name."""
     found = set()
     for crate in house.edges():
         if house.matches(crate, house.OTHERS):
             continue
         for path in glob.glob(f"{TOP}/crates/{crate}/src/**/*.rt", recursive=True):
-            open_braces = 0
-            for line in house.read_lines(path):
+            lines, open_braces = house.read_lines(path), 0
+            names, modules = imported(lines)
+            for line in lines:
                 if open_braces > 0 or house.CONTRACT.match(line):
                     open_braces += line.count("{") - line.count("}")
-                    found |= {*SYMBOL.findall(line)}
+                    found |= {names[it] for it in SYMBOL.findall(line) if it in names}
+                    found |= {(*modules[module], name) for module, name in WITHIN.findall(line) if module in modules}
     return found
 
 
 def without_comment():
     """Gives each definition that a contract cites and that has no comment."""
     words = cited()
-    for _, path in specs():
+    for crate, path in specs():
+        module = os.path.relpath(path, f"{TOP}/crates/{crate}/specs")[:-5].replace("/", ".")
         for name, comment in definitions(path):
-            if name in words and not comment:
+            if (crate, module, name) in words and not comment:
                 yield f"{os.path.relpath(path, TOP)}: {name} has no comment"
 
 

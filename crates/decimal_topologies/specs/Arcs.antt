@@ -49,6 +49,7 @@ unless_any (f ∷ fs) ps = None
 abbrev pub arc_of : Quantization → Json → Option (List Place)
 arc_of q j = unless_any (arc_faults q j) (places_of q j)
 
+-- the faults of an arc, if it is used
 abbrev pub faults_if : Bool → Quantization → Json → List Pair
 faults_if false q j = []
 faults_if true q j = arc_faults q j
@@ -59,6 +60,7 @@ arcs_faults q [] i js = []
 arcs_faults q (u ∷ us) i no_items = []
 arcs_faults q (u ∷ us) i (item j js) = under (index i) (faults_if u q j) ++ arcs_faults q us (i + 1) js
 
+-- an arc, if it is used
 abbrev pub arc_if : Bool → Quantization → Json → Option (List Place)
 arc_if false q j = None
 arc_if true q j = arc_of q j

@@ -55,6 +55,7 @@ whole_text (Some text) = whole_if (whole_of text)
 abbrev pub whole_number : Json → Result ℤ FaultKind
 whole_number j = whole_text (as_number j)
 
+-- a sum, with the number of steps that it becomes; there is none beyond the limits
 abbrev pub reached_by : ℤ → Option (ℤ × ℕ) → Result (Option Reached) FaultKind
 reached_by n None = Err OutOfRange
 reached_by n (Some p) = Ok (Some (record { sum = n; at = p.0; far = p.1 }))

@@ -39,6 +39,7 @@ pub record TopologyParts : Type 0 where
   pub quantization : Quantization
   pub arcs : Arcs
 
+-- what the geometries of a topology refer to
 abbrev pub parts_of : Topology → TopologyParts
 parts_of t = record { quantization = t.quantization; arcs = seen_arcs t.arcs.now }
 

@@ -19,10 +19,12 @@ use Rattle.decimal_topologies.specs.declared.places.Both.{Both}
 
 -- ---- what both numbers lead to
 
+-- the fault of a number, if it has one
 abbrev pub fault_in : Result (Option Reached) FaultKind → List Pair
 fault_in (Err k) = here k
 fault_in (Ok r) = []
 
+-- what a number leads to, where that is known
 abbrev pub found_in : Result (Option Reached) FaultKind → Option Reached
 found_in (Err k) = None
 found_in (Ok r) = r
@@ -31,9 +33,11 @@ found_in (Ok r) = r
 abbrev pub sum_in : Result (Option Reached) FaultKind → Option ℤ
 sum_in r = option_map (λ f. f.sum) (found_in r)
 
+-- the number of steps at a number, 0 where it isn't known
 abbrev pub at_in : Result (Option Reached) FaultKind → ℤ
 at_in r = unwrap_or (option_map (λ f. f.at) (found_in r)) (pos 0)
 
+-- how far it was moved, 0 where that isn't known
 abbrev pub far_in : Result (Option Reached) FaultKind → ℕ
 far_in r = unwrap_or (option_map (λ f. f.far) (found_in r)) 0
 
@@ -85,6 +89,7 @@ numbers_faults q s js = if may_have q.grid js then two_faults q s js else here N
 abbrev pub step_faults : Quantization → Sums → Json → List Pair
 step_faults q s j = array_faults (numbers_faults q s) (as_array j)
 
+-- the sums behind a position
 abbrev pub sums_of_two : Quantization → Sums → Items → Sums
 sums_of_two q s no_items = no_sums
 sums_of_two q s (item x no_items) = no_sums
@@ -98,6 +103,7 @@ sums_of_items q s (Some js) = if may_have q.grid js then sums_of_two q s js else
 abbrev pub next_sums : Quantization → Sums → Json → Sums
 next_sums q s j = sums_of_items q s (as_array j)
 
+-- the place of a position
 abbrev pub place_of_two : Quantization → Sums → Items → Place
 place_of_two q s no_items = no_place
 place_of_two q s (item x no_items) = no_place

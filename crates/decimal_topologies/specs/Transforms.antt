@@ -49,6 +49,7 @@ texts_of n j = unwrap_or (option_and_then texts_in (option_and_then as_array (ge
 abbrev pub is_fit : List ℕ → List ℕ → Bool
 is_fit text other = is_numeral text && nat_lt (places_of text) (2 ^ 32) && nat_lt (unsigned_abs (common_numerator text other)) (10 ^ 25)
 
+-- the fault of a number that, written over one power of ten with the other, has too many digits
 abbrev pub fit_faults : List ℕ → List ℕ → List Pair
 fit_faults text other = if is_fit text other then [] else here OutOfRange
 
@@ -82,6 +83,7 @@ transform_faults root = option_faults (codes "transform") faults_of root
 abbrev pub transform_by : List ℕ × List ℕ → List ℕ × List ℕ → DecimalTransform
 transform_by scale translate = record { x = axis_of scale.0 translate.0; y = axis_of scale.1 translate.1 }
 
+-- the transform of a topology that has one
 abbrev pub transform_of : Json → DecimalTransform
 transform_of j = transform_by (texts_of (codes "scale") j) (texts_of (codes "translate") j)
 

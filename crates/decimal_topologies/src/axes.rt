@@ -41,7 +41,7 @@ fn snapped_text(step: &DecimalStep, text: &str) -> Option<(i64, u64)>
 }
 
 // A number of steps that is at most so far from 0.
-fn kept(grid: &DecimalGrid, greatest: u64, found: Option<(i64, u64)>) -> Option<(i64, u64)>
+fn keep_within(grid: &DecimalGrid, greatest: u64, found: Option<(i64, u64)>) -> Option<(i64, u64)>
     ensures { result ≡ spec.kept grid.now greatest found }
 {
     let (steps, far) = found?;
@@ -60,7 +60,7 @@ fn reached_by(sum: i64, found: Option<(i64, u64)>) -> Result<Option<Reached>, Fa
     }
 }
 
-fn signed(negative: bool, size: u64) -> i128
+fn with_sign(negative: bool, size: u64) -> i128
     ensures given { result ≡ with_sign negative size }
     ensures few { unsigned_abs result < 2 ^ 64 }
 {
@@ -77,7 +77,7 @@ fn whole_number(value: &Value<'_>) -> Result<i128, FaultKind>
         return Err(FaultKind::WrongKind);
     };
     match whole(text.as_bytes()) {
-        Some((negative, size)) => Ok(signed(negative, size)),
+        Some((negative, size)) => Ok(with_sign(negative, size)),
         None => Err(FaultKind::NotWhole),
     }
 }
@@ -95,7 +95,10 @@ fn reach(
         return Err(FaultKind::OutOfRange);
     }
     let sum = sum as i64;
-    reached_by(sum, kept(grid, greatest, snapped_at(axis, &grid.step, sum)))
+    reached_by(
+        sum,
+        keep_within(grid, greatest, snapped_at(axis, &grid.step, sum)),
+    )
 }
 
 // What one more difference leads to.
@@ -140,7 +143,10 @@ fn decimal_number(
     ensures { result ≡ spec.decimal_number grid.now greatest (value_view value.now) }
 {
     match value.as_number() {
-        Some(text) => reached_by(0, kept(grid, greatest, snapped_text(&grid.step, text))),
+        Some(text) => reached_by(
+            0,
+            keep_within(grid, greatest, snapped_text(&grid.step, text)),
+        ),
         None => Err(FaultKind::WrongKind),
     }
 }
