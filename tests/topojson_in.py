@@ -317,6 +317,8 @@ def wrong_peers(folder, file, topology, asked):
         with open(path, "w", encoding="utf-8") as out:
             out.write(stitching.text_of(collection))
         words.append(f"{name}={path}")
+    if not words:
+        return None
     one, other = (togrid.togrid("--build", "-q", *asked.words(), *it) for it in ([file], words))
     return None if (one.returncode, one.stdout) == (0, other.stdout) else f"as GeoJSON: {other.returncode} {other.stdout!r} {other.stderr!r}"
 
