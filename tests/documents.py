@@ -65,7 +65,7 @@ VERSIONS = {
     "tests/rows/usage.toml": '"topotool ',
 }
 # Words of AVOID that are in a comment of a crate until it is changed for another reason: a comment alone proves all above it again.
-LEFT = {("command_line/src/refusal.rt", "stands"), ("fixing/src/rules.rt", "judged"), ("fixing/src/laws.rt", "judged")}
+LEFT = {("fixing/src/rules.rt", "judged"), ("fixing/src/laws.rt", "judged")}
 # Words that readers don't expect or search for, and what to write instead.
 AVOID = {
     r"want of memory|memory is wanting": "out of memory",

@@ -100,7 +100,7 @@ impl<'a> Usage<'a> {
         }
     }
 
-    /// What stands behind that; empty where nothing does.
+    /// What comes after that; empty where nothing does.
     fn end(&self) -> &'static str
         ensures { result.now ≡ usage_end self.now }
     {
