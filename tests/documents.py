@@ -64,8 +64,6 @@ VERSIONS = {
     "docs/topotool.1": '"topotool ',
     "tests/rows/usage.toml": '"topotool ',
 }
-# Words of AVOID that are in a comment of a crate until it is changed for another reason: a comment alone proves all above it again.
-LEFT = {("fixing/src/rules.rt", "judged"), ("fixing/src/laws.rt", "judged")}
 # Words that readers don't expect or search for, and what to write instead.
 AVOID = {
     r"want of memory|memory is wanting": "out of memory",
@@ -344,8 +342,7 @@ def avoided_in_comments():
             plain = re.sub(r"//[/!]|`[^`]*`", "", comments)
             for words, better in AVOID.items():
                 for found in re.findall(rf"\b(?:{words})\b", plain, re.IGNORECASE):
-                    if (os.path.relpath(path, f"{TOP}/crates"), found) not in LEFT:
-                        yield f"{os.path.relpath(path, TOP)}: '{found}' in a comment (write: {better})"
+                    yield f"{os.path.relpath(path, TOP)}: '{found}' in a comment (write: {better})"
 
 
 def main(documents):

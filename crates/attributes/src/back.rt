@@ -18,7 +18,7 @@ use std::alloc::Global;
 use std::collections::BTreeMap;
 
 // The number that a whole number was before it was scaled.
-fn unscaled(places: Option<u32>, number: &Number) -> Option<Decimal>
+fn unscale(places: Option<u32>, number: &Number) -> Option<Decimal>
     ensures { result ≡ unscaled places (number_view number.now) }
 {
     let places = places?;
@@ -36,7 +36,7 @@ fn value_text(
     ensures { IfOk result (λ t. has_float (view value.now) ≡ false → string_bytes t ≡ value_back is_numeric places (view value.now)) }
 {
     match value {
-        Value::Number(number) => match unscaled(places, number) {
+        Value::Number(number) => match unscale(places, number) {
             Some(amount) => Ok(amount.to_text(alloc)?),
             None => Ok(value.to_string(alloc)?),
         },

@@ -23,7 +23,7 @@ pub fn loops_are_simple()
     ensures odd_uses { law.LoopsKeepOddUses }
 {}
 
-/// A ring that is judged is open exactly where its list is open and the rules don't close it.
+/// A ring counts as open exactly where its list is open and the rules don't close it.
 pub fn open_rings_are_closed()
     ensures { law.OpenRingsAreClosed }
 {}

@@ -28,7 +28,7 @@ pub enum Rewind {
 #[derive(Clone, Copy, PartialEq, Eq, Debug)]
 pub struct FixingRules {
     pub collapsed: Collapsed,
-    /// Whether an open ring is closed by its first position, before anything else is judged of it. Otherwise it is a fault.
+    /// Whether an open ring is closed by its first position, before anything else is checked. Otherwise it is a fault.
     pub closes_rings: bool,
     /// Whether lines and rings that use a segment twice are split.
     pub splits_folded: bool,

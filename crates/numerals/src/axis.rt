@@ -8,7 +8,7 @@ ghost use Rattle.std.specs.Prelude.{◌≡◌, ◌↔◌, ℕ, ℤ, ◌-◌, ◌
 
 use crate::digits::{places_of, size_of, with_zeros};
 use crate::fraction::parts_of;
-use crate::rounding::{measured, without_sign};
+use crate::rounding::{nearest_with_distance, without_sign};
 use crate::step::DecimalStep;
 use fast_float::Numeral;
 use std::marker::Model;
@@ -82,7 +82,7 @@ impl DecimalAxis {
     {
         let value = self.value(number);
         let (parts, is_exact) = parts_of(value.unsigned_abs(), u64::from(self.places), step);
-        measured(value < 0, parts, is_exact)
+        nearest_with_distance(value < 0, parts, is_exact)
     }
 
     // The value at a number of the axis, times the power of ten of its places.

@@ -20,7 +20,7 @@ pub(crate) fn word_power(n: usize) -> Option<u64>
 }
 
 /// A fraction rounded to the nearest whole number, upward from half on.
-pub(crate) fn rounded(above: u64, below: u64) -> u64
+pub(crate) fn round_fraction(above: u64, below: u64) -> u64
     requires { 0 < below }
     ensures { IsRounded above below result }
 {

@@ -13,6 +13,6 @@ pub mod whole_numbers;
 
 pub use axis::{DecimalAxis, is_fit};
 pub use decimal::Decimal;
-pub use rounding::{distance, snap, snap_measured};
+pub use rounding::{snap, snap_measured};
 pub use step::DecimalStep;
 pub use whole_numbers::whole;

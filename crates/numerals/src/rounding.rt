@@ -76,7 +76,7 @@ fn from_nearest(parts: u64, is_exact: bool) -> u64
 
 /// The grid number nearest to a number of which the size is so many ten-thousandths, and how far the number is from
 /// it. None where it is no grid number.
-pub(crate) fn measured(negative: bool, parts: u64, is_exact: bool) -> Option<(i64, u64)>
+pub(crate) fn nearest_with_distance(negative: bool, parts: u64, is_exact: bool) -> Option<(i64, u64)>
     requires { parts ≤ 10 ^ 17 }
     ensures { (n d : ℕ) → 0 < d → AreTenThousandths n d parts is_exact
         → (p : ℤ) (x : ℕ) → (result ≡ Some (p, x)) ↔ (IsNearest (with_sign negative n) d p × IsGridNumber p × (x ≡ rounded_up (10000 * away n d) d)) }
@@ -97,7 +97,7 @@ pub fn snap_measured(text: &[u8], step: &DecimalStep) -> Option<(i64, u64)>
 {
     let (negative, unsigned) = without_sign(text);
     let (parts, is_exact) = ten_thousandths(unsigned, step)?;
-    measured(negative, parts, is_exact)
+    nearest_with_distance(negative, parts, is_exact)
 }
 
 // How many steps are nearest to a text with no sign, where it is a short numeral and machine words hold its fraction.
@@ -126,16 +126,5 @@ pub fn snap(text: &[u8], step: &DecimalStep) -> Option<i64>
     match snap_measured(text, step) {
         Some((steps, _)) => Some(steps),
         None => None,
-    }
-}
-
-/// How far a decimal numeral is from the nearest whole number of steps, in ten-thousandths of a step, rounded up: 800
-/// for `7.48` at the step 0.25, and at most 5000. 0 where `snap` gives nothing.
-pub fn distance(text: &[u8], step: &DecimalStep) -> u64
-    ensures { (p : ℤ) → (IsNumeral text.now × IsSnapped step.now text.now p × IsGridNumber p) → result ≡ distance_of step.now text.now }
-{
-    match snap_measured(text, step) {
-        Some((_, distance)) => distance,
-        None => 0,
     }
 }

@@ -6,7 +6,7 @@ ghost use Rattle.numerals.specs.Quotient.{IsSameFraction};
 ghost use Rattle.numerals.specs.Short.{IsFront, IsShort};
 ghost use Rattle.std.specs.Prelude.{◌≡◌, ◌*◌, ◌^◌, IfSome, IsSome};
 
-use crate::fraction::{parts_of, rounded, word_parts, word_power};
+use crate::fraction::{parts_of, round_fraction, word_parts, word_power};
 use crate::step::DecimalStep;
 
 /// From where on a machine word may not hold one more digit, 10^17.
@@ -102,7 +102,7 @@ impl Short {
         ensures given { IfSome result (λ q. IsRounded (self.now.digits * 10 ^ step.now.places) (step.now.size * 10 ^ self.now.places) q) }
     {
         let (above, below) = self.fraction(step)?;
-        Some(rounded(above, below))
+        Some(round_fraction(above, below))
     }
 
     /// It in ten-thousandths of a step, rounded down, and whether it is just that.

@@ -35,7 +35,7 @@ impl Model for QuantizedAxis {
 }
 
 // A number over a size, rounded to the nearest whole number, from half on away from 0.
-fn rounded(n: i128, d: u128) -> i128
+fn round_quotient(n: i128, d: u128) -> i128
     requires some { 1 ≤ d }
     requires few { d < 10 ^ 37 }
     requires within { unsigned_abs n < 2 * 10 ^ 37 }
@@ -55,9 +55,9 @@ fn nearest(n: i128, d: i128) -> i128
     ensures bound { unsigned_abs result < 5 * 10 ^ 37 }
 {
     if d < 0 {
-        rounded(-n, d.unsigned_abs())
+        round_quotient(-n, d.unsigned_abs())
     } else {
-        rounded(n, d.unsigned_abs())
+        round_quotient(n, d.unsigned_abs())
     }
 }
 

@@ -13,4 +13,4 @@ returns c p d =
     let parts = rw c.without_sign-negative.ensures.rest at c.in_ok-parts.ensures.given in
     let unsigned = rw c.without_sign-negative.ensures.rest at (c.in_ok-parts.ensures.exact.0 refl) in
     let numeral : IsNumeral text = record { digits = unsigned.digits; complete = unsigned.complete } in
-    text_measured s text c.measured.result numeral (rw c.without_sign-negative.ensures.sign at (c.measured.ensures n (divisor s text) (some_divisor s text limits) parts)) p d
+    text_measured s text c.nearest_with_distance.result numeral (rw c.without_sign-negative.ensures.sign at (c.nearest_with_distance.ensures n (divisor s text) (some_divisor s text limits) parts)) p d

@@ -23,5 +23,5 @@ returns c p d =
     let size : c.unsigned_abs.result ≡ unsigned_abs v = c.unsigned_abs.ensures.value ∙ ap unsigned_abs kept in
     let places : c.from.result ≡ a.places = c.from.ensures ∙ ap (λ (x : Axis). x.places) c.self.view_is in
     let parts = rw (size, places) at c.parts_of-parts.ensures.given in
-    axis_measured a s c.args.number (lt_z v (pos 0)) c.measured.result (sign_by v)
-    (rw kept at (c.measured.ensures (unsigned_abs v * 10 ^ s.places) (value_divisor a s) (some_value_divisor a s c.parts_of-parts.ensures.limits) parts)) p d
+    axis_measured a s c.args.number (lt_z v (pos 0)) c.nearest_with_distance.result (sign_by v)
+    (rw kept at (c.nearest_with_distance.ensures (unsigned_abs v * 10 ^ s.places) (value_divisor a s) (some_value_divisor a s c.parts_of-parts.ensures.limits) parts)) p d

@@ -2,7 +2,7 @@ use Rattle.std.proofs.Common.{◌≡◌, ◌+◌, ◌/◌, to_z, of_z, w64, ◌�
 use Rattle.std.proofs.lemmas.Int.{ints}
 use Rattle.fast_float.specs.Text.{with_sign}
 use Rattle.numerals.proofs.Steps.{measured_beyond, measured_within}
-use Rattle.numerals.proofs.rounding.measured.Goals as goal
+use Rattle.numerals.proofs.rounding.nearest_with_distance.Goals as goal
 
 pub returns-then-steps : goal.returns-then-steps
 returns-then-steps c n d some h p x = (λ none. absurd cc, λ b. absurd (measured_beyond c.args.negative n d c.args.parts c.args.is_exact some h p x c.if-steps.true b))
