@@ -1,13 +1,15 @@
 -- Lemmas on the first reports of each number, and on how many more there are.
-use Rattle.std.proofs.Common.{◌≡◌, ℕ, ◌+◌, ◌-◌, ◌^◌, ◌<◌, ◌≤◌, Bool, true, false, List, [], ◌∷◌, ◌++◌, append_assoc, ap, ◌∙◌, arith, codes, cond, le-ltb, length, length-append, lt-ltb, nat_lt, refl, subst, sym}
+use Rattle.std.proofs.Common.{◌≡◌, ℕ, ◌+◌, ◌-◌, ◌^◌, ◌<◌, ◌≤◌, Bool, true, false, Err, Ok, Result, List, [], ◌∷◌, ◌++◌, append_assoc, ap, ◌∙◌, arith, codes, cond, le-ltb, length, length-append, lt-ltb, nat_lt, refl, subst, sym}
+use Rattle.std.specs.Result.{OnOk}
 use Rattle.std.proofs.lemmas.List.{append-nil, nil_from_length}
 use Rattle.std.proofs.lemmas.List.Sums.{count_by-le-length}
 use Rattle.faults.specs.declared.fault.FaultKind.{FaultKind}
 use Rattle.sinks.specs.Seen.{Seen}
 use Rattle.sinks.specs.Writes.{TookAll, TookPart, TookUpTo}
+use Rattle.sinks.proofs.Writes.{all_all, part_more}
 use Rattle.sinks.proofs.Left.{left_none, left_step, left_part}
 use Rattle.outputs.specs.FaultReports.{file_text, lines_text, report_lines}
-use Rattle.outputs.specs.FirstReports.{AreCounts, all_kinds, count_of, counted, first_of_each, first_text, is_of, more_line, more_lines, more_text}
+use Rattle.outputs.specs.FirstReports.{AreCounts, all_kinds, count_of, counted, first_and_more, first_of_each, first_text, is_of, more_line, more_lines, more_text}
 use Rattle.outputs.specs.TextParts.{each_text}
 use Rattle.outputs.specs.declared.fault_reports.counts.FaultCounts.{FaultCounts}
 use Rattle.outputs.specs.declared.fault_reports.report.FaultReport.{FaultReport}
@@ -43,7 +45,7 @@ none_more file rs kind =
 
 -- the first reports are all where the limit is how many there are
 pub text_of_all : (file : List ℕ) (e : Bool) (rs : List FaultReport) → first_text (length rs) file e rs ≡ file_text file e rs
-unfolding first_text more_lines
+unfolding first_text first_and_more more_lines
 text_of_all file e [] = refl
 text_of_all file e (r ∷ rs) =
     let n = length (r ∷ rs) in
@@ -57,12 +59,25 @@ unfolding more_lines
 same_more limit file f g h = each_same (λ kind. more_line limit file kind (f kind)) (λ kind. more_line limit file kind (g kind)) (λ kind. ap (more_line limit file kind) (h kind)) all_kinds
 
 -- the text by what was counted
-pub text_of_counts : (limit : ℕ) (file : List ℕ) (e : Bool) (rs : List FaultReport) (c : FaultCounts) → 0 < length rs → AreCounts rs c
-    → first_text limit file e rs ≡ lines_text file e (first_of_each limit [] rs) ++ more_lines limit file (counted c)
+pub text_of_counts : (limit : ℕ) (file : List ℕ) (e : Bool) (rs : List FaultReport) (c : FaultCounts) → AreCounts rs c → first_and_more limit file e rs ≡ lines_text file e (first_of_each limit [] rs) ++ more_lines limit file (counted c)
+unfolding first_and_more
+text_of_counts limit file e rs c counts = ap (λ t. lines_text file e (first_of_each limit [] rs) ++ t) (same_more limit file (λ kind. count_of kind rs) (counted c) (λ kind. sym (counts.is kind)))
+
+-- a part of its front
+pub front_of_text : {old new : Seen} (limit : ℕ) (file : List ℕ) (e : Bool) (rs : List FaultReport) → TookPart old new (lines_text file e (first_of_each limit [] rs)) → TookPart old new (first_and_more limit file e rs)
+unfolding first_and_more
+front_of_text {old} {new} limit file e rs part = part_more (more_lines limit file (λ kind. count_of kind rs)) part
+
+-- one text after another
+pub ok_after : {T E : Type 0} {a b : Seen} {s t u : List ℕ} (c : Seen) (r : Result T E) → u ≡ s ++ t → TookAll a b s → OnOk r (TookAll b c t) → OnOk r (TookAll a c u)
+ok_after {T} {E} {a} {b} {s} {t} {u} c (Ok x) is first next = let P : List ℕ → Type 0 = λ l. TookAll a c l in subst P (sym is) (all_all first next)
+ok_after {T} {E} {a} {b} {s} {t} {u} c (Err x) is first next = tt
+
+-- some reports
+pub text_of_some : (limit : ℕ) (file : List ℕ) (e : Bool) (rs : List FaultReport) (r : FaultReport) (after : List FaultReport) → rs ≡ r ∷ after → first_text limit file e rs ≡ first_and_more limit file e rs
 unfolding first_text
-text_of_counts limit file e [] c some counts = absurd (omega (arith, some))
-text_of_counts limit file e (r ∷ rs) c some counts =
-    ap (λ t. lines_text file e (first_of_each limit [] (r ∷ rs)) ++ t) (same_more limit file (λ kind. count_of kind (r ∷ rs)) (counted c) (λ kind. sym (counts.is kind)))
+text_of_some limit file e [] r after is = absurd cc
+text_of_some limit file e (x ∷ rs) r after is = refl
 
 -- no reports
 pub text_of_none : (limit : ℕ) (file : List ℕ) (e : Bool) (rs : List FaultReport) → length rs ≡ 0 → first_text limit file e rs ≡ file ++ codes ": no faults\n"

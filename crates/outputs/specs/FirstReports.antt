@@ -37,10 +37,14 @@ more_line limit file kind n = cond (nat_lt limit n) (more_text file kind (n - li
 unfoldable pub more_lines : ℕ → List ℕ → (FaultKind → ℕ) → List ℕ
 more_lines limit file count = each_text (λ kind. more_line limit file kind (count kind)) all_kinds
 
--- the lines of the reports that are among the first of their number, up to the limit, in order, and then how many more each number has; or that there are none
+-- the lines of the reports that are among the first of their number, up to the limit, in order, and then how many more each number has
+unfoldable pub first_and_more : ℕ → List ℕ → Bool → List FaultReport → List ℕ
+first_and_more limit file e rs = lines_text file e (first_of_each limit [] rs) ++ more_lines limit file (λ kind. count_of kind rs)
+
+-- the same, or that there are none
 unfoldable pub first_text : ℕ → List ℕ → Bool → List FaultReport → List ℕ
 first_text limit file e [] = file ++ codes ": no faults\n"
-first_text limit file e (r ∷ rs) = lines_text file e (first_of_each limit [] (r ∷ rs)) ++ more_lines limit file (λ kind. count_of kind (r ∷ rs))
+first_text limit file e (r ∷ rs) = first_and_more limit file e (r ∷ rs)
 
 -- what is counted of a kind
 abbrev pub counted : FaultCounts → FaultKind → ℕ

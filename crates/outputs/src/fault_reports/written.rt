@@ -1,7 +1,7 @@
 //! Errors as lines, in the form that editors and compilers share, and as JSON.
 ghost use Rattle.faults.specs.Fault.{name_of, turn_of};
 ghost use Rattle.outputs.specs.FaultReports.{array_text, feature_text, fault_text, file_text, label_text, line_text, lines_text, object_behind, object_end, object_kind, object_line, object_place, object_text, objects_text, place_text, remedy_member, report_lines};
-ghost use Rattle.outputs.specs.FirstReports.{AreCounts, first_of_each, first_text};
+ghost use Rattle.outputs.specs.FirstReports.{AreCounts, first_and_more, first_of_each, first_text};
 ghost use Rattle.sinks.specs.PathText.PathText.{path_text};
 ghost use Rattle.sinks.specs.Writes.{TookAll, TookPart};
 ghost use Rattle.std.specs.Prelude.{[], ◌++◌, IfOk, None, false, OnErr, OnOk, decimal, map, nat_lt, string_bytes};
@@ -185,9 +185,23 @@ fn write_up_to<W: Sink>(
     ensures whole { OnOk result (TookAll (W.seen sink.old) (W.seen sink.new) (first_text limit file.now is_explained reports.now)) }
     ensures part { OnErr result (TookPart (W.seen sink.old) (W.seen sink.new) (first_text limit file.now is_explained reports.now)) }
 {
-    if reports.is_empty() {
-        return Then(Chars(file), Text(b": no faults\n")).write(sink);
+    match reports.split_first() {
+        Some(_) => write_first_and_more(limit, file, reports, is_explained, sink),
+        None => Then(Chars(file), Text(b": no faults\n")).write(sink),
     }
+}
+
+/// Writes the same, and nothing where there is no error.
+fn write_first_and_more<W: Sink>(
+    limit: usize,
+    file: &str,
+    reports: &[FaultReport],
+    is_explained: bool,
+    sink: &mut W,
+) -> Result<(), WriteFault>
+    ensures whole { OnOk result (TookAll (W.seen sink.old) (W.seen sink.new) (first_and_more limit file.now is_explained reports.now)) }
+    ensures part { OnErr result (TookPart (W.seen sink.old) (W.seen sink.new) (first_and_more limit file.now is_explained reports.now)) }
+{
     match write_reports(limit, file, reports, is_explained, sink) {
         Ok(counts) => write_more(limit, file, &counts, sink),
         Err(fault) => Err(fault),
