@@ -69,9 +69,9 @@ unfolding first_and_more
 front_of_text {old} {new} limit file e rs part = part_more (more_lines limit file (λ kind. count_of kind rs)) part
 
 -- one text after another
-pub ok_after : {T E : Type 0} {a b : Seen} {s t u : List ℕ} (c : Seen) (r : Result T E) → u ≡ s ++ t → TookAll a b s → OnOk r (TookAll b c t) → OnOk r (TookAll a c u)
-ok_after {T} {E} {a} {b} {s} {t} {u} c (Ok x) is first next = let P : List ℕ → Type 0 = λ l. TookAll a c l in subst P (sym is) (all_all first next)
-ok_after {T} {E} {a} {b} {s} {t} {u} c (Err x) is first next = tt
+pub ok_after : {T E : Type 0} {a b : Seen} {s u : List ℕ} (t : List ℕ) (c : Seen) (r : Result T E) → u ≡ s ++ t → TookAll a b s → OnOk r (TookAll b c t) → OnOk r (TookAll a c u)
+ok_after {T} {E} {a} {b} {s} {u} t c (Ok x) is first next = let P : List ℕ → Type 0 = λ l. TookAll a c l in subst P (sym is) (all_all first next)
+ok_after {T} {E} {a} {b} {s} {u} t c (Err x) is first next = tt
 
 -- some reports
 pub text_of_some : (limit : ℕ) (file : List ℕ) (e : Bool) (rs : List FaultReport) (r : FaultReport) (after : List FaultReport) → rs ≡ r ∷ after → first_text limit file e rs ≡ first_and_more limit file e rs

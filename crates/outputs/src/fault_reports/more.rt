@@ -49,11 +49,12 @@ impl<'a> Written for MoreLine<'a> {
     ghost text = { λ m. more_text m.0.now m.1 m.2 };
 
     fn write<W: Sink>(&self, sink: &mut W) -> Result<(), WriteFault> {
-        let number = Then(Chars(self.0), Worded(": ", KindNumber(self.1)));
+        let number = Worded(": ", KindNumber(self.1));
         let name = Worded(" ", KindName(self.1));
         let count = Worded(": ", Digits(self.2));
         let end = Text(b" more (--all prints each)\n");
-        Then(number, Then(name, Then(count, end))).write(sink)
+        let kind = Then(number, Then(name, Then(count, end)));
+        Then(Chars(self.0), kind).write(sink)
     }
 }
 
@@ -76,6 +77,7 @@ impl<'a> Notation<FaultKind> for MoreLines<'a> {
 }
 
 /// Writes for each number how many more errors than the limit a file has, where it has more.
+#[tactic(auto, unfolding(crate::specs::FirstReports::more_lines))]
 pub(crate) fn write_more<W: Sink>(
     limit: usize,
     file: &str,
