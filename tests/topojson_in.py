@@ -278,15 +278,17 @@ def wrong_topology(folder, file, rounded, asked):
     if not files:
         # (topotool builds no topology of no file)
         empty = f'{{"arcs":[],"objects":{{}},"transform":{{"scale":[{asked.scale},{asked.scale}],"translate":[0,0]}},"type":"Topology"}}'
-        return None if (ran.returncode, ran.stdout.decode().strip()) == (0, empty) else f"--build {ran.returncode} {ran.stdout!r}, wanted {empty}"
+        report = "".join(f"{it}\n" for it in [f"{file}: no objects", *rounding.report_lines(rounded, [])])
+        is_right = (ran.returncode, ran.stdout.decode().strip(), ran.stderr.decode()) == (0, empty, report)
+        return None if is_right else f"--build {ran.returncode} {ran.stdout!r} {ran.stderr!r}, wanted {empty} {report!r}"
     built = togrid.topotool("build", "--grid", f"{asked.scale},{asked.scale},0,0", *files)
-    report = "".join(f"{it}\n" for it in rounding.report_lines(rounded, [title_of(file, it.name) for it in rounded.files]))
+    report = "".join(f"{it}\n" for it in rounding.report_lines(rounded, [title_of(file, it.name) for it in rounded.files], is_build=True))
     if built.returncode or (ran.returncode, ran.stdout) != (int(rounded.is_lossy()), built.stdout):
         return f"--build {ran.returncode} {ran.stdout!r} {ran.stderr!r}, wanted {built.stdout!r} {built.stderr!r}"
     if ran.stderr.decode() != report:
         return f"reported {ran.stderr!r}, wanted {report!r}"
     with open(f"{folder}/report.json", encoding="utf-8") as it:
-        found, wanted = json.load(it), rounding.report_of(rounded, [file for _ in rounded.files])
+        found, wanted = json.load(it), rounding.report_of(rounded, [file for _ in rounded.files], is_build=True)
     return None if togrid.same_report(found, wanted) else f"report {found}, wanted {wanted}"
 
 
