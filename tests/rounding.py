@@ -31,7 +31,7 @@ class Options:
         self.step = self.unit = None
         self.refuses_heights = self.is_sequence = self.numbers = False
         self.reals, self.scales = "whole", {}
-        self.id = None
+        self.id = self.layer = None
         self.unclosed, self.collapsed, self.folded, self.collections, self.rewind = "close", "null", "split", "split", "keep"
         self.distance = 0
         self.__dict__.update(given)
@@ -68,6 +68,7 @@ class Options:
         for name, places in self.scales.items():
             made += ["--reals", f"scale:{name}={10**places}"]
         made += ["--id", self.id] if self.id is not None else []
+        made += ["--layer", self.layer] if self.layer is not None else []
         for name, default in ("unclosed", "close"), ("collapsed", "null"), ("folded", "split"), ("collections", "split"):
             if getattr(self, name) != default:
                 made += [f"--{name}", getattr(self, name)]
