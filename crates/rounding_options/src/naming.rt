@@ -2,6 +2,16 @@
 use command_line::refusal::Refusal;
 use std::alloc::Global;
 
+/// A file that the words name.
+#[derive(Clone, Copy)]
+pub struct NamedFile<'a> {
+    /// The name of its layer: what the words say, else the file's own.
+    pub name: &'a str,
+    /// Whether the words say the name.
+    pub is_named: bool,
+    pub file: &'a str,
+}
+
 /// The name of a file without its folders, up to its first point: `provinces` for `in/provinces.geojson`.
 fn stem(file: &str) -> &str {
     let name = match file.rsplit_once('/') {
@@ -15,23 +25,26 @@ fn stem(file: &str) -> &str {
 }
 
 /// Whether a file is a sequence of texts by its name.
-pub(crate) fn is_sequence(file: &str) -> bool {
+pub fn is_sequence(file: &str) -> bool {
     file.ends_with(".ndjson") || file.ends_with(".geojsonl") || file.ends_with(".geojsons")
 }
 
 /// The name and the file of a word, split at the first `=`. Without one the name is the file's.
-fn source_of<'a>(word: &'a str) -> (&'a str, &'a str) {
-    match word.split_once('=') {
+fn source_of<'a>(word: &'a str) -> NamedFile<'a> {
+    let (name, file) = match word.split_once('=') {
         Some(source) => source,
         None => (stem(word), word),
+    };
+    let is_named = word.len() != file.len();
+    NamedFile {
+        name,
+        is_named,
+        file,
     }
 }
 
 /// The names and the files of words.
-pub(crate) fn sources_of<'a>(
-    alloc: Global,
-    words: &[&'a str],
-) -> Result<Vec<(&'a str, &'a str)>, Refusal<'a>> {
+pub fn sources_of<'a>(alloc: Global, words: &[&'a str]) -> Result<Vec<NamedFile<'a>>, Refusal<'a>> {
     let mut sources = Vec::new(alloc);
     for word in words {
         sources.push(source_of(*word))?;
@@ -40,25 +53,19 @@ pub(crate) fn sources_of<'a>(
 }
 
 /// The files of sources.
-pub(crate) fn files_of<'a>(
-    alloc: Global,
-    sources: &[(&'a str, &'a str)],
-) -> Result<Vec<&'a str>, Refusal<'a>> {
+pub fn files_of<'a>(alloc: Global, sources: &[NamedFile<'a>]) -> Result<Vec<&'a str>, Refusal<'a>> {
     let mut files = Vec::with_capacity(alloc, sources.len())?;
     for source in sources {
-        files.push(source.1)?;
+        files.push(source.file)?;
     }
     Ok(files)
 }
 
 /// The names of sources.
-pub(crate) fn names_of<'a>(
-    alloc: Global,
-    sources: &[(&'a str, &'a str)],
-) -> Result<Vec<&'a str>, Refusal<'a>> {
+pub fn names_of<'a>(alloc: Global, sources: &[NamedFile<'a>]) -> Result<Vec<&'a str>, Refusal<'a>> {
     let mut names = Vec::with_capacity(alloc, sources.len())?;
     for source in sources {
-        names.push(source.0)?;
+        names.push(source.name)?;
     }
     Ok(names)
 }

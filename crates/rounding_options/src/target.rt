@@ -6,7 +6,7 @@ use std::alloc::Global;
 
 /// Where what is made goes.
 #[derive(Clone, Copy)]
-pub(crate) enum Target<'a> {
+pub enum Target<'a> {
     Standard,
     /// All that is made, into one file.
     File(&'a str),
@@ -21,7 +21,7 @@ fn is_file(path: &str) -> bool {
 
 impl<'a> Target<'a> {
     /// The target of so many files, where the words name this path, or none.
-    pub(crate) fn of(path: Option<&'a str>, is_build: bool, files: usize) -> Target<'a> {
+    pub fn of(path: Option<&'a str>, is_build: bool, files: usize) -> Target<'a> {
         match path {
             Some(path) => if is_build && is_standard(Some(path)) {
                 Target::Standard
@@ -34,16 +34,16 @@ impl<'a> Target<'a> {
         }
     }
 
-    pub(crate) fn is_standard(&self) -> bool {
+    pub fn is_standard(&self) -> bool {
         matches!(self, Target::Standard)
     }
 
-    pub(crate) fn is_folder(&self) -> bool {
+    pub fn is_folder(&self) -> bool {
         matches!(self, Target::Folder(_))
     }
 
     /// The file that a map of this name goes into; none where that is standard output.
-    pub(crate) fn file(&self, alloc: Global, name: &str) -> Result<Option<String>, Refusal<'a>> {
+    pub fn file(&self, alloc: Global, name: &str) -> Result<Option<String>, Refusal<'a>> {
         match self {
             Target::Standard => Ok(None),
             Target::File(file) => Ok(Some(String::from_str(alloc, *file)?)),

@@ -1,26 +1,34 @@
 //! The report on standard error.
-use crate::layers::MapLayer;
+use crate::back_words::put_back;
+use crate::columns::PrintedColumns;
 use crate::next::next_command;
-use crate::options::GridOptions;
 use command_line::refusal::put_words;
+use faults::OutOfMemory;
 use fixing::Fixes;
 use grid::Pos;
 use itoa::Buffer;
 use numerals::Decimal;
 use rounded_maps::{EqualFeatures, Outcome, Rounded};
+use rounding_options::layers::MapLayer;
+use rounding_options::options::GridOptions;
 use sinks::{Kept, Sink, WriteFault, put};
 use snapping::nearly_shared::{Clusters, VertexCounts};
-use std::alloc::{AllocError, Global};
+use std::alloc::{AllocError, AllocFailed, Global};
+use std::collections::BTreeMap;
 
 /// What is reported.
 #[derive(Clone, Copy)]
-pub(crate) struct Report<'r, 'a> {
-    pub(crate) options: &'r GridOptions<'a>,
+pub struct Report<'r, 'a> {
+    pub options: &'r GridOptions<'a>,
     /// The layer and the file of each map.
-    pub(crate) layers: &'r [MapLayer<'r>],
-    pub(crate) rounded: &'r Rounded,
+    pub layers: &'r [MapLayer<'r>],
+    pub rounded: &'r Rounded,
+    /// The files that no map is from.
+    pub without_maps: &'r [&'r str],
+    /// The columns of numbers that are printed.
+    pub columns: &'r PrintedColumns,
     /// The properties that the words scale and no feature has.
-    pub(crate) absent: &'r [&'a str],
+    pub absent: &'r [&'a str],
 }
 
 impl<'r, 'a> Report<'r, 'a> {
@@ -42,6 +50,18 @@ impl<'r, 'a> Report<'r, 'a> {
 
 /// There is no memory for a line: those are kept in memory, where nothing else fails.
 pub(crate) struct ReportFault;
+
+impl From<OutOfMemory> for ReportFault {
+    fn from(_fault: OutOfMemory) -> ReportFault {
+        ReportFault
+    }
+}
+
+impl<T: Drop> From<AllocFailed<T>> for ReportFault {
+    fn from(_failed: AllocFailed<T>) -> ReportFault {
+        ReportFault
+    }
+}
 
 impl From<AllocError> for ReportFault {
     fn from(_fault: AllocError) -> ReportFault {
@@ -198,6 +218,16 @@ fn put_origin<E: Sink>(err: &mut E, layer: &MapLayer<'_>) -> Result<(), WriteFau
     put(err, b": ")
 }
 
+/// The columns of numbers, each with how many texts it has.
+fn put_columns<E: Sink>(err: &mut E, numbers: &BTreeMap<String, u64>) -> Result<(), WriteFault> {
+    for (name, count) in numbers {
+        put(err, b"  ")?;
+        put_count(err, *count, "texts in column ")?;
+        put_words(err, name.as_str(), "\n")?;
+    }
+    Ok(())
+}
+
 /// What became of a map: `provinces.geojson: 13 features, 7458 positions, step 0.000001`, how far positions were moved,
 /// and what was closed, lost or split.
 fn put_outcome(
@@ -205,8 +235,9 @@ fn put_outcome(
     lines: &mut Kept,
     layer: &MapLayer<'_>,
     outcome: &Outcome,
-    options: &GridOptions<'_>,
+    report: &Report<'_, '_>,
 ) -> Result<(), ReportFault> {
+    let options = report.options;
     put_origin(lines, layer)?;
     put_count(lines, outcome.features as u64, "features, ")?;
     put_count(lines, outcome.tally.positions, "positions, step ")?;
@@ -214,6 +245,9 @@ fn put_outcome(
     put_moves(alloc, lines, outcome, options)?;
     put_some(lines, outcome.tally.heights, "heights dropped")?;
     put_some(lines, outcome.reals, "numbers made texts")?;
+    if let Some(numbers) = report.columns.of_map(layer, outcome) {
+        put_columns(lines, numbers)?;
+    }
     for kind in [
         Kind::Closed,
         Kind::Collapsed,
@@ -307,10 +341,23 @@ fn put_outcomes(
 ) -> Result<(), ReportFault> {
     let outcomes = report.rounded.outcomes.iter().enumerate();
     for (layer, (map, outcome)) in report.layers.iter().zip(outcomes) {
-        put_outcome(alloc, lines, layer, outcome, report.options)?;
+        put_outcome(alloc, lines, layer, outcome, report)?;
         if let Some(equal) = report.equal(map) {
             put_equal(lines, equal)?;
         }
+    }
+    Ok(())
+}
+
+/// The files without a map, of which a folder gets none.
+fn put_without_maps<E: Sink>(err: &mut E, report: &Report<'_, '_>) -> Result<(), WriteFault> {
+    let end = if report.options.target.is_folder() {
+        ": no objects, so no file is written\n"
+    } else {
+        ": no objects\n"
+    };
+    for file in report.without_maps {
+        put_words(err, *file, end)?;
     }
     Ok(())
 }
@@ -330,6 +377,7 @@ fn put_absent<E: Sink>(err: &mut E, report: &Report<'_, '_>) -> Result<(), Write
 
 fn put_lines(alloc: Global, report: &Report<'_, '_>, lines: &mut Kept) -> Result<(), ReportFault> {
     put_outcomes(alloc, report, lines)?;
+    put_without_maps(lines, report)?;
     put_absent(lines, report)?;
     put_vertices(lines, report)?;
     if let Some(next) = next_command(alloc, report)? {
@@ -337,11 +385,11 @@ fn put_lines(alloc: Global, report: &Report<'_, '_>, lines: &mut Kept) -> Result
         put(lines, next.as_slice())?;
         put(lines, b"\n")?;
     }
-    Ok(())
+    put_back(alloc, lines, report)
 }
 
 /// The lines of the report.
-pub(crate) fn report_lines(alloc: Global, report: &Report<'_, '_>) -> Result<Vec<u8>, AllocError> {
+pub fn report_lines(alloc: Global, report: &Report<'_, '_>) -> Result<Vec<u8>, AllocError> {
     let mut lines = Kept::new(alloc);
     match put_lines(alloc, report, &mut lines) {
         Ok(()) => Ok(lines.into_bytes()),

@@ -33,33 +33,37 @@ const POWERS: &str = "1000000000000";
 
 /// What the words ask for.
 #[derive(Drop)]
-pub(crate) struct GridOptions<'a> {
-    pub(crate) step: DecimalStep,
+pub struct GridOptions<'a> {
+    pub step: DecimalStep,
     /// The step as it is written.
-    pub(crate) step_word: &'a str,
-    pub(crate) is_step_given: bool,
+    pub step_word: &'a str,
+    pub is_step_given: bool,
+    /// The unit of the output, where the words say it.
+    pub unit_word: Option<&'a str>,
     /// How many units of the output a step is.
-    pub(crate) units: u64,
+    pub units: u64,
     /// The grid of the output: a scale of so many units.
-    pub(crate) grid: Grid,
-    pub(crate) id: Option<&'a str>,
+    pub grid: Grid,
+    pub id: Option<&'a str>,
+    /// The only object that is read of a topology.
+    pub layer: Option<&'a str>,
     /// Whether features without an id get their numbers.
-    pub(crate) numbers: bool,
-    pub(crate) scales: Vec<Scale<'a>>,
-    pub(crate) reals: Reals,
-    pub(crate) refuses_heights: bool,
-    pub(crate) fixing: FixingRules,
+    pub numbers: bool,
+    pub scales: Vec<Scale<'a>>,
+    pub reals: Reals,
+    pub refuses_heights: bool,
+    pub fixing: FixingRules,
     /// How many steps apart vertices are joined.
-    pub(crate) join_distance: u32,
+    pub join_distance: u32,
     /// Whether each file is a sequence of texts.
-    pub(crate) is_sequence: bool,
-    pub(crate) output: Option<&'a str>,
-    pub(crate) target: Target<'a>,
-    pub(crate) report: Option<&'a str>,
-    pub(crate) is_quiet: bool,
-    pub(crate) is_strict: bool,
+    pub is_sequence: bool,
+    pub output: Option<&'a str>,
+    pub target: Target<'a>,
+    pub report: Option<&'a str>,
+    pub is_quiet: bool,
+    pub is_strict: bool,
     /// Whether a topology is printed.
-    pub(crate) is_build: bool,
+    pub is_build: bool,
 }
 
 impl<'a> GridOptions<'a> {
@@ -87,7 +91,7 @@ impl<'a> GridOptions<'a> {
     }
 
     /// What is done with each map.
-    pub(crate) fn rounding(&self) -> RoundingRules<'_> {
+    pub fn rounding(&self) -> RoundingRules<'_> {
         let attributes = AttributeRules {
             id: self.id,
             scales: self.scales.as_slice(),
@@ -100,6 +104,7 @@ impl<'a> GridOptions<'a> {
             },
             fixing: self.fixing,
             numbers: self.numbers,
+            layer: self.layer,
         }
     }
 
@@ -114,7 +119,7 @@ impl<'a> GridOptions<'a> {
     }
 
     /// The topology of files, each in the layer of its name.
-    pub(crate) fn build(
+    pub fn build(
         &self,
         alloc: Global,
         names: &[&str],
@@ -127,7 +132,7 @@ impl<'a> GridOptions<'a> {
     }
 
     /// The maps of files.
-    pub(crate) fn round(
+    pub fn round(
         &self,
         alloc: Global,
         names: &[&str],
@@ -140,7 +145,7 @@ impl<'a> GridOptions<'a> {
     }
 
     /// Whether anything is reported.
-    pub(crate) fn reports(&self) -> bool {
+    pub fn reports(&self) -> bool {
         !self.is_quiet || self.report.is_some()
     }
 }
@@ -159,7 +164,7 @@ fn collapsed_of(word: &str) -> Collapsed {
 }
 
 /// How rings are turned, and how they are if nothing is said.
-pub(crate) fn rewind_of(found: &ArgMatches<'_>, otherwise: Rewind) -> Rewind {
+pub fn rewind_of(found: &ArgMatches<'_>, otherwise: Rewind) -> Rewind {
     match found.get_str("rewind") {
         Some("rfc7946") => Rewind::Rfc7946,
         Some("d3") => Rewind::D3,
@@ -179,7 +184,7 @@ fn fixing_of(found: &ArgMatches<'_>) -> FixingRules {
 }
 
 /// The property and the power of ten of a word `scale:PROPERTY=K`.
-fn scale_of<'a>(word: &'a str) -> Option<Scale<'a>> {
+pub fn scale_of<'a>(word: &'a str) -> Option<Scale<'a>> {
     let (kind, scale) = word.split_once(':')?;
     let (property, power) = scale.rsplit_once('=')?;
     if kind != "scale" || power.is_empty() || !POWERS.starts_with(power) {
@@ -187,6 +192,12 @@ fn scale_of<'a>(word: &'a str) -> Option<Scale<'a>> {
     }
     let places = power.len().saturating_sub(1) as u32;
     Some(Scale { property, places })
+}
+
+/// The power of ten that a property is multiplied by, as it is written.
+pub fn power_of(scale: &Scale<'_>) -> &'static str {
+    let digits = (scale.places as usize).saturating_add(1);
+    POWERS.get(..digits).unwrap_or(POWERS)
 }
 
 /// What becomes of numbers that are not scaled, where a word says that.
@@ -219,12 +230,12 @@ fn reals_of<'a>(
 }
 
 /// The word after an option that is a decimal number, 0.000001 if there is none.
-pub(crate) fn decimal_word<'a>(found: &ArgMatches<'a>, name: &str) -> &'a str {
+pub fn decimal_word<'a>(found: &ArgMatches<'a>, name: &str) -> &'a str {
     found.get_str(name).unwrap_or(MILLIONTH)
 }
 
 /// What an absolute 1 of the output is.
-pub(crate) fn unit_of<'a>(found: &ArgMatches<'a>) -> Result<DecimalStep, Refusal<'a>> {
+pub fn unit_of<'a>(found: &ArgMatches<'a>) -> Result<DecimalStep, Refusal<'a>> {
     let word = decimal_word(found, "unit");
     match DecimalStep::parse(word.as_bytes()) {
         Some(unit) => Ok(unit),
@@ -266,7 +277,7 @@ fn join_distance_of<'a>(word: Option<&'a str>) -> Result<u32, Refusal<'a>> {
 }
 
 /// The options that the words give for so many files, or why they are none.
-pub(crate) fn options_of<'a>(
+pub fn options_of<'a>(
     alloc: Global,
     found: &ArgMatches<'a>,
     files: usize,
@@ -278,9 +289,11 @@ pub(crate) fn options_of<'a>(
         step,
         step_word: decimal_word(found, "step"),
         is_step_given: found.get_str("step").is_some(),
+        unit_word: found.get_str("unit"),
         units,
         grid,
         id: found.get_str("id"),
+        layer: found.get_str("layer"),
         numbers: found.get_flag("number"),
         scales,
         reals: reals.unwrap_or(Reals::Whole),

@@ -1,35 +1,11 @@
 //! The command to go on with.
 use crate::report::{Report, ReportFault};
-use crate::target::Target;
+use crate::shell::put_shell_word;
 use command_line::refusal::put_words;
 use itoa::Buffer;
-use sinks::{Kept, Sink, WriteFault, put};
+use rounding_options::target::Target;
+use sinks::{Kept, put};
 use std::alloc::{AllocError, Global};
-
-/// Whether a shell takes a byte as it is.
-fn is_plain(byte: u8) -> bool {
-    byte.is_ascii_alphanumeric() || b"_-./=,:+@%".contains(&byte)
-}
-
-/// A byte between single quotes.
-fn put_quoted<E: Sink>(err: &mut E, byte: u8) -> Result<(), WriteFault> {
-    match byte {
-        b'\'' => put(err, b"'\\''"),
-        _ => put(err, &[byte]),
-    }
-}
-
-/// A word for a shell: in single quotes where it needs them.
-fn put_shell_word<E: Sink>(err: &mut E, word: &[u8]) -> Result<(), WriteFault> {
-    if word.iter().all(|byte| is_plain(*byte)) {
-        return put(err, word);
-    }
-    put(err, b"'")?;
-    for byte in word {
-        put_quoted(err, *byte)?;
-    }
-    put(err, b"'")
-}
 
 /// A layer and its file, as a word for a shell.
 fn put_layer(
@@ -66,7 +42,8 @@ pub(crate) fn next_command(
     alloc: Global,
     report: &Report<'_, '_>,
 ) -> Result<Option<Vec<u8>>, AllocError> {
-    if report.options.is_build || report.options.target.is_standard() {
+    let options = report.options;
+    if options.is_build || options.target.is_standard() || report.layers.is_empty() {
         return Ok(None);
     }
     let mut next = Kept::new(alloc);

@@ -1,13 +1,15 @@
 //! The report as JSON.
-use crate::layers::MapLayer;
+use crate::back_words::back_words;
 use crate::next::next_command;
 use crate::report::{Report, at_most_u64, in_steps, in_units};
 use fixing::{FeatureFixes, Fixes};
 use grid::Pos;
 use json::Writer;
 use rounded_maps::{EqualFeatures, Outcome};
+use rounding_options::layers::MapLayer;
 use snapping::nearly_shared::{Clusters, VertexCounts};
 use std::alloc::{AllocError, Global};
+use std::collections::BTreeMap;
 
 fn write_count(writer: &mut Writer, name: &str, count: u64) -> Result<(), AllocError> {
     writer.key(name)?;
@@ -82,6 +84,22 @@ fn write_moves(
     write_count(writer, "reals", outcome.reals)
 }
 
+/// The columns of numbers, each with how many texts it has.
+fn write_columns(
+    writer: &mut Writer,
+    numbers: Option<&BTreeMap<String, u64>>,
+) -> Result<(), AllocError> {
+    writer.key("columns")?;
+    writer.begin_object()?;
+    let Some(numbers) = numbers else {
+        return writer.end_object();
+    };
+    for (name, count) in numbers {
+        write_count(writer, name.as_str(), *count)?;
+    }
+    writer.end_object()
+}
+
 /// What became of a map.
 fn write_outcome(
     alloc: Global,
@@ -95,6 +113,7 @@ fn write_outcome(
     write_text(writer, "file", layer.file)?;
     write_text(writer, "name", layer.name)?;
     write_moves(alloc, writer, outcome, report)?;
+    write_columns(writer, report.columns.of_map(layer, outcome))?;
     write_fixes(writer, outcome.fixes)?;
     if let Some(equal) = equal {
         write_equal(writer, equal)?;
@@ -177,28 +196,59 @@ fn write_files(
     writer.end_array()
 }
 
+fn write_texts(writer: &mut Writer, name: &str, texts: &[&str]) -> Result<(), AllocError> {
+    writer.key(name)?;
+    writer.begin_array()?;
+    for text in texts {
+        writer.string(*text)?;
+    }
+    writer.end_array()
+}
+
+/// The files without a map, where there are any.
+fn write_without_maps(writer: &mut Writer, report: &Report<'_, '_>) -> Result<(), AllocError> {
+    if report.without_maps.is_empty() {
+        return Ok(());
+    }
+    write_texts(writer, "without_objects", report.without_maps)
+}
+
 /// The properties that the words scale and no feature has, where they scale any.
 fn write_absent(writer: &mut Writer, report: &Report<'_, '_>) -> Result<(), AllocError> {
     if report.options.scales.is_empty() {
         return Ok(());
     }
-    writer.key("absent")?;
+    write_texts(writer, "absent", report.absent)
+}
+
+/// The words of the way back.
+fn write_back(
+    alloc: Global,
+    writer: &mut Writer,
+    report: &Report<'_, '_>,
+) -> Result<(), AllocError> {
+    let Ok(words) = back_words(alloc, report) else {
+        return Err(AllocError);
+    };
+    writer.key("back")?;
     writer.begin_array()?;
-    for property in report.absent {
-        writer.string(*property)?;
+    for word in &words {
+        writer.string(word.as_str())?;
     }
     writer.end_array()
 }
 
 /// The report as a JSON text, with a line's end.
-pub(crate) fn report_text(alloc: Global, report: &Report<'_, '_>) -> Result<Vec<u8>, AllocError> {
+pub fn report_text(alloc: Global, report: &Report<'_, '_>) -> Result<Vec<u8>, AllocError> {
     let mut writer = Writer::new(Vec::new(alloc));
     writer.begin_object()?;
     write_text(&mut writer, "step", report.options.step_word)?;
     write_files(alloc, &mut writer, report)?;
+    write_without_maps(&mut writer, report)?;
     write_absent(&mut writer, report)?;
     write_vertices(&mut writer, report)?;
     write_next(alloc, &mut writer, report)?;
+    write_back(alloc, &mut writer, report)?;
     writer.end_object()?;
     let mut text = writer.into_inner();
     if text.push(b'\n').is_err() {
