@@ -24,20 +24,3 @@ pub use fault::DecimalFault;
 pub use quantized_writer::text_on;
 pub use transform_fault::TransformFault;
 pub use writer::text_of;
-
-use attributes::Scale;
-use fixing::Rewind;
-
-#[derive(Clone, Copy)]
-pub enum NumbersBack<'r> {
-    None,
-    Named(&'r [&'r str]),
-    Columns,
-}
-
-#[derive(Clone, Copy)]
-pub struct BackRules<'r> {
-    pub rewind: Rewind,
-    pub numbers: NumbersBack<'r>,
-    pub scales: &'r [Scale<'r>],
-}

@@ -135,7 +135,7 @@ pub fn text_on(
     alloc: Global,
     topology: &Topology,
     transform: &DecimalTransform,
-    rules: &crate::topology::BackRules<'_>,
+    rewind: Rewind,
 ) -> Result<Vec<u8>, DecimalFault>
     ensures text { IfOk result (λ t. t.items ≡ quantized_text transform.now rewind topology.now) }
     ensures within { OnOk result (IfSome topology.now.bbox (λ _. transform.now.unit.places ≤ 30)) }
@@ -146,6 +146,6 @@ pub fn text_on(
     Text(b"{\"type\":\"Topology\",").write(&mut out)?;
     write_numerals(transform, &mut out)?;
     write_bbox(alloc, topology.bbox(), &transform.unit, &mut out)?;
-    write_quantized(alloc, topology, &quantizer, rules.rewind, &mut out)?;
+    write_quantized(alloc, topology, &quantizer, rewind, &mut out)?;
     Ok(out.into_bytes())
 }

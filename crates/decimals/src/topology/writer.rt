@@ -114,7 +114,7 @@ pub fn text_of(
     alloc: Global,
     topology: &Topology,
     unit: &DecimalStep,
-    rules: &crate::topology::BackRules<'_>,
+    rewind: Rewind,
 ) -> Result<Vec<u8>, DecimalFault>
     ensures text { IfOk result (λ t. t.items ≡ unit_text unit.now rewind topology.now) }
     ensures within { OnOk result (unit.now.places ≤ 30) }
@@ -124,6 +124,6 @@ pub fn text_of(
     Text(b"{\"type\":\"Topology\",").write(&mut out)?;
     write_transform(alloc, &topology.grid(), unit, &mut out)?;
     write_bbox(alloc, topology.bbox(), unit, &mut out)?;
-    write_turned(alloc, topology, rules.rewind, &mut out)?;
+    write_turned(alloc, topology, rewind, &mut out)?;
     Ok(out.into_bytes())
 }
