@@ -6,7 +6,9 @@ use command_line::files::{Files, input_once, read_named};
 use command_line::output::write_output;
 use command_line::refusal::{Refusal, Usage};
 use command_line::status::Status;
-use decimals::topology::{DecimalFault, DecimalTransform, TransformFault, text_of, text_on};
+use decimals::topology::{
+    BackRules, DecimalFault, DecimalTransform, NumbersBack, TransformFault, text_of, text_on,
+};
 use faults::{Fault, FaultKind};
 use fixing::Rewind;
 use grid::limits::GREATEST_GRID_NUMBER;
@@ -134,9 +136,14 @@ fn back_text(
         )?),
         (None, None) => None,
     };
+    let rules = BackRules {
+        rewind: options.rewind,
+        numbers: NumbersBack::None,
+        scales: &[],
+    };
     match other {
-        Some(other) => text_on(alloc, topology, &other, options.rewind),
-        None => text_of(alloc, topology, &options.unit, options.rewind),
+        Some(other) => text_on(alloc, topology, &other, &rules),
+        None => text_of(alloc, topology, &options.unit, &rules),
     }
 }
 
