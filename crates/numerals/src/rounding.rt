@@ -76,7 +76,11 @@ fn from_nearest(parts: u64, is_exact: bool) -> u64
 
 /// The grid number nearest to a number of which the size is so many ten-thousandths, and how far the number is from
 /// it. None where it is no grid number.
-pub(crate) fn nearest_with_distance(negative: bool, parts: u64, is_exact: bool) -> Option<(i64, u64)>
+pub(crate) fn nearest_with_distance(
+    negative: bool,
+    parts: u64,
+    is_exact: bool,
+) -> Option<(i64, u64)>
     requires { parts ≤ 10 ^ 17 }
     ensures { (n d : ℕ) → 0 < d → AreTenThousandths n d parts is_exact
         → (p : ℤ) (x : ℕ) → (result ≡ Some (p, x)) ↔ (IsNearest (with_sign negative n) d p × IsGridNumber p × (x ≡ rounded_up (10000 * away n d) d)) }
