@@ -89,9 +89,10 @@ fn back_text(
         )?),
         (None, None) => None,
     };
+    let rules = options.rules();
     match other {
-        Some(other) => text_on(alloc, topology, &other, &options.rules()),
-        None => text_of(alloc, topology, &options.unit, &options.rules()),
+        Some(other) => text_on(alloc, topology, &other, &rules),
+        None => text_of(alloc, topology, &options.unit, &rules),
     }
 }
 

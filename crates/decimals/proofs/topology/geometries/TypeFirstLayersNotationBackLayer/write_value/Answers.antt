@@ -1,6 +1,6 @@
 use Rattle.decimals.proofs.TopologyLemmas.Parts.{layer_is}
 use Rattle.shapes.proofs.WritingLemmas.Same.{whole_as, part_as}
-use Rattle.decimals.proofs.topology.geometries.TypeFirstLayersNotationLayer.write_value.Goals as goal
+use Rattle.decimals.proofs.topology.geometries.TypeFirstLayersNotationBackLayer.write_value.Goals as goal
 
 pub returns-clause-whole : goal.returns-clause-whole
 returns-clause-whole g c =
