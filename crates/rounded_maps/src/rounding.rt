@@ -25,8 +25,6 @@ pub struct RoundingRules<'r> {
     pub fixing: FixingRules,
     /// Whether a feature without an id gets its number in its file for one, from 1.
     pub numbers: bool,
-    /// The only object that is read of a topology, where one is named.
-    pub layer: Option<&'r str>,
 }
 
 pub(crate) fn want_of_memory(alloc: Global) -> Fault
