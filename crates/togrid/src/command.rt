@@ -154,7 +154,11 @@ fn with_kinds(
     let mut files = Vec::with_capacity(alloc, texts.len())?;
     for (bytes, source) in texts.into_iter().zip(sources) {
         let is_sequence = options.is_sequence || is_sequence(source.1);
-        files.push(Source { bytes, is_sequence })?;
+        files.push(Source {
+            bytes,
+            is_sequence,
+            is_named: false,
+        })?;
     }
     Ok(files)
 }

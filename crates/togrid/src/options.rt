@@ -100,6 +100,7 @@ impl<'a> GridOptions<'a> {
             },
             fixing: self.fixing,
             numbers: self.numbers,
+            layer: None,
         }
     }
 
