@@ -34,7 +34,7 @@ fn faults_of_topology(
     let mut scratch = Scratch::new(alloc);
     match Value::from_slice(alloc, text, &mut scratch) {
         Ok(value) => if is_topology(&value) {
-            Ok(Some(topology_faults(alloc, &rules.map, &rules.fixing, &value)?))
+            Ok(Some(topology_faults(alloc, &rules.topology(), &rules.fixing, &value)?))
         } else {
             Ok(None)
         },

@@ -2,7 +2,7 @@ use Rattle.std.proofs.Common.{refl, ap, ◌∙◌}
 use Rattle.reading.specs.FaultLists.Found.{pairs_of}
 use Rattle.decimal_topologies.specs.Seen.{seen_arcs}
 use Rattle.decimal_topologies.proofs.Table.{seen_more, table_more}
-use Rattle.decimal_topologies.proofs.arcs.read_all.Goals as goal
+use Rattle.decimal_topologies.proofs.arcs.read_arcs.Goals as goal
 
 pub loop-i-preserved : goal.loop-i-preserved
 loop-i-preserved c =
