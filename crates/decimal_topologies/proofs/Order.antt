@@ -32,6 +32,7 @@ use Rattle.decimal_faults.specs.declared.geometry.GeometryForm.{GeometryForm}
 use Rattle.decimal_faults.specs.declared.geometry.GeometryForm.TheVariants.{Simple, Collection}
 use Rattle.decimal_faults.specs.declared.outline.Outline.{Outline}
 use Rattle.decimal_faults.specs.declared.outline.Outline.TheVariants.{Line, Ring}
+use Rattle.decimal_faults.proofs.Order.{beyond_each, each_ascends, either, height_ascends, list_ascends, member_ascends, object_ascends, there_ascends}
 use Rattle.decimal_topologies.specs.Features.{feature_faults, feature_members_faults, has_features, layer_faults}
 use Rattle.decimal_topologies.specs.Geometries.{TopologyParts, body_faults, body_name, each_geometry_faults, form_faults, form_under, geometries_faults, geometries_in, geometry_faults}
 use Rattle.decimal_topologies.specs.Layers.{Named, chosen_faults, layers_faults, layers_if_object, members_in_order, objects_faults, with_members}
@@ -50,48 +51,7 @@ use Rattle.decimal_topologies.specs.declared.place.Quantization.{Quantization}
 use Rattle.decimal_topologies.specs.declared.rules.TopologyRules.{TopologyRules}
 use Rattle.decimal_topologies.proofs.Nested.{each_is}
 
--- ---- wholes, by their parts
-
-beyond_each : (of : Json → List Pair) (i j : ℕ) (js : Items) → i < j → IsBeyond (index i) (each_faults of j js)
-beyond_each of i j no_items less = beyond_none (index i)
-beyond_each of i j (item k js) less =
-    beyond_append (index i) (under (index j) (of k)) _ (beyond_under (index i) (index j) (of k) (sym (nat_cmp_is i j Less less))) (beyond_each of i (j + 1) js (omega arith))
-
-either : (b : Bool) (ps qs : List Pair) → IsAscending ps → IsAscending qs → IsAscending (if b then ps else qs)
-either true ps qs a b = a
-either false ps qs a b = b
-
-module _ (of : Json → List Pair) (each : (j : Json) → IsAscending (of j)) where
-  each_ascends : (i : ℕ) (js : Items) → IsAscending (each_faults of i js)
-  each_ascends i no_items = ascending_none
-  each_ascends i (item j js) = ascending_more (index i) (of j) _ (each j) (beyond_each of i (i + 1) js (omega arith)) (each_ascends (i + 1) js)
-
-  list_ascends : (j : Json) → IsAscending (list_faults of j)
-  list_ascends j = go (as_array j)
-    where
-      go : (o : Option Items) → IsAscending (array_faults (each_faults of 0) o)
-      go None = ascending_here kind.WrongKind
-      go (Some js) = each_ascends 0 js
-
-  there_ascends : (o : Option Json) → IsAscending (there of o)
-  there_ascends None = ascending_here kind.Missing
-  there_ascends (Some k) = each k
-
-  member_ascends : (n : List ℕ) (j : Json) → IsAscending (member_faults n of j)
-  member_ascends n j = ascending_under (name n) (there of (get n j)) (there_ascends (get n j))
-
-object_ascends : (ps : List Pair) (o : Option Members) → IsAscending ps → IsAscending (object_faults ps o)
-object_ascends ps None a = ascending_here kind.WrongKind
-object_ascends ps (Some ms) a = a
-
 -- ---- positions
-
-height_ascends : (j : Json) → IsAscending (height_faults j)
-height_ascends j = go (as_number j)
-  where
-    go : (o : Option (List ℕ)) → IsAscending (numeral_faults (λ text. []) o)
-    go None = ascending_here kind.WrongKind
-    go (Some text) = ascending_none
 
 fault_ascends : (r : Result (Option Reached) FaultKind) → IsAscending (fault_in r)
 fault_ascends (Err k) = ascending_here k
