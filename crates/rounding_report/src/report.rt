@@ -49,6 +49,7 @@ impl<'r, 'a> Report<'r, 'a> {
 }
 
 /// There is no memory for a line: those are kept in memory, where nothing else fails.
+#[derive(Drop)]
 pub(crate) struct ReportFault;
 
 impl From<OutOfMemory> for ReportFault {

@@ -121,7 +121,7 @@ struct Reports {
 
 impl Reports {
     /// What is reported, as the options ask for it.
-    fn written(alloc: Global, report: &Report<'_, '_>) -> Result<Reports, AllocError> {
+    fn write(alloc: Global, report: &Report<'_, '_>) -> Result<Reports, AllocError> {
         let options = report.options;
         let lines = if options.is_quiet {
             Vec::new(alloc)
@@ -156,7 +156,7 @@ impl Reports {
             columns: &columns,
             absent: absent.as_slice(),
         };
-        Ok(Reports::written(alloc, &report)?)
+        Ok(Reports::write(alloc, &report)?)
     }
 }
 
