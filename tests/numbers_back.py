@@ -57,7 +57,7 @@ class Column:
 
     def real(self):
         if self.is_topology:
-            return rounding.spelled(numeral(self.chance, [1, 2, 3, 7]))
+            return str(rounding.spelled(numeral(self.chance, [1, 2, 3, 7])))
         return numeral(self.chance, [0, 0, 1, 2, 3, 7])
 
     def any(self):
