@@ -84,7 +84,18 @@ fn tree_content(alloc: Global, text: &str, rules: &RoundingRules<'_>) -> Result<
     }
 }
 
-/// What a text has, of which the bytes have to be UTF-8: read along its tokens, and from its tree where that stops.
+/// What a text has: read along its tokens, and from its tree where that stops.
+fn text_content(alloc: Global, text: &str, rules: &RoundingRules<'_>) -> Result<Content, Stop>
+    ensures made { IfOk result (λ read. (j : Json) × (document text.now ≡ Some j) × HasContent rules.now j read) }
+{
+    match read_map(alloc, &rules.map, text) {
+        Ok(features) => Ok(Content::Map(features)),
+        Err(Stop::Unread) => tree_content(alloc, text, rules),
+        Err(Stop::OutOfMemory) => Err(Stop::OutOfMemory),
+    }
+}
+
+/// What a text has, of which the bytes have to be UTF-8.
 pub(crate) fn read_content(
     alloc: Global,
     bytes: &[u8],
@@ -95,9 +106,8 @@ pub(crate) fn read_content(
     let Ok(text) = simdutf8::compat::from_utf8(bytes) else {
         return Err(Stop::Unread);
     };
-    match read_map(alloc, &rules.map, text) {
-        Ok(features) => Ok(Content::Map(features)),
-        Err(Stop::Unread) => tree_content(alloc, text, rules),
-        Err(Stop::OutOfMemory) => Err(Stop::OutOfMemory),
+    match text_content(alloc, text, rules) {
+        Ok(content) => Ok(content),
+        Err(stop) => Err(stop),
     }
 }
