@@ -23,7 +23,7 @@ _topotool() {
         "") words="build check faults merge remove diff feature mesh neighbors info help -h --help -V --version" ;;
         build) words="--grid -o --output --progress -h --help" ;;
         check) words="--ids --near -o --output --progress -h --help" ;;
-        faults) words="--grid --json --explain -o --output --progress -h --help" ;;
+        faults) words="--grid --all --json --explain -o --output --progress -h --help" ;;
         merge) words="--shape -o --output --progress -h --help" ;;
         remove) words="-o --output --progress -h --help" ;;
         diff) words="--layer --key --json -o --output --progress -h --help" ;;

@@ -4,6 +4,7 @@ pub mod DifferenceTextLemmas
 pub mod DifferenceWriting
 pub mod FaultPlacesLemmas
 pub mod FaultyFeaturesLemmas
+pub mod FirstReportsLemmas
 pub mod InfoTextLemmas
 pub mod LineColumnsLemmas
 pub mod PlacesLemmas

@@ -3,6 +3,7 @@ pub mod DifferenceText
 pub mod FaultPlaces
 pub mod FaultReports
 pub mod FaultyFeatures
+pub mod FirstReports
 pub mod LineColumns
 pub mod ReportsOfTexts
 pub mod TextParts

@@ -1,7 +1,9 @@
 //! What is reported of each error of a text: its line and column, the feature that it lies in, and what helps.
 
+mod counts;
 mod features;
 mod line_columns;
+mod more;
 mod places;
 mod remedies;
 mod report;
@@ -12,4 +14,4 @@ mod written;
 pub use features::Format;
 pub use line_columns::LineColumn;
 pub use report::{FaultReport, reports, spell_text};
-pub use written::{ReportArray, write_json, write_lines};
+pub use written::{ReportArray, write_first_lines, write_json, write_lines};

@@ -6,7 +6,9 @@ use command_line::refusal::Refusal;
 use command_line::status::Status;
 use faults::OutOfMemory;
 use grid::Grid;
-use outputs::fault_reports::{FaultReport, Format, reports, spell_text, write_json, write_lines};
+use outputs::fault_reports::{
+    FaultReport, Format, reports, spell_text, write_first_lines, write_json, write_lines,
+};
 use sinks::{Sink, WriteFault, put};
 use std::alloc::Global;
 
@@ -85,7 +87,8 @@ pub(crate) fn print_faults<'a, O: Sink>(
         print_json(faults, is_explained, out)?;
     } else {
         let names = found.get_strs("FILE").unwrap_or(&[]);
-        print_lines(names, faults, is_explained, out)?;
+        let is_whole = found.get_flag("all");
+        print_lines(names, faults, is_whole, is_explained, out)?;
     }
     if faults.count() == 0 {
         Ok(Status::Done)
@@ -94,14 +97,21 @@ pub(crate) fn print_faults<'a, O: Sink>(
     }
 }
 
+/// A line for each error, or for the first of each number in a file.
 fn print_lines<O: Sink>(
     names: &[&str],
     faults: &Found,
+    is_whole: bool,
     is_explained: bool,
     out: &mut O,
 ) -> Result<(), WriteFault> {
     for (name, file) in names.iter().zip(faults.files.iter()) {
-        write_lines(*name, file.reports.as_slice(), is_explained, out)?;
+        let reports = file.reports.as_slice();
+        if is_whole {
+            write_lines(*name, reports, is_explained, out)?;
+        } else {
+            write_first_lines(*name, reports, is_explained, out)?;
+        }
     }
     Ok(())
 }

@@ -213,7 +213,9 @@ const FAULTS: CommandRow = CommandRow {
          member is that of the properties in which a number is no integer. Both are\n\
          JSON. A missing member is placed at its object. The first line of a file is\n\
          the error that the other commands report. A file without errors has the line\n\
-         FILE: no faults.\n\n\
+         FILE: no faults. Of each number the first ten errors of a file have lines,\n\
+         and behind them stands how many more there are:\n\n  \
+         FILE: NUMBER NAME: COUNT more (--all prints each)\n\n\
          Where an arc of a topology has an error, lists of arcs are not connected.\n\n\
          Status: 0 no errors, 4 some.\n\n\
          Example: topotool faults --grid 1,1,0,0 squares.json\n\
@@ -226,9 +228,14 @@ const FAULTS: CommandRow = CommandRow {
             "The files are GeoJSON on this grid, as for build;\nwithout it they are topologies"
         ),
         argument!(
+            "all",
+            Form::Flag,
+            "A line for each error, also where a file has more than\nten of one number"
+        ),
+        argument!(
             "json",
             Form::Flag,
-            "One JSON array of objects in place of lines"
+            "One JSON array of objects, one for each error, in place\nof lines"
         ),
         argument!(
             "explain",

@@ -1,13 +1,16 @@
 //! Errors as lines, in the form that editors and compilers share, and as JSON.
 ghost use Rattle.faults.specs.Fault.{name_of, turn_of};
 ghost use Rattle.outputs.specs.FaultReports.{array_text, feature_text, fault_text, file_text, label_text, line_text, lines_text, object_behind, object_end, object_kind, object_line, object_place, object_text, objects_text, place_text, remedy_member, report_lines};
+ghost use Rattle.outputs.specs.FirstReports.{AreCounts, first_and_more, first_of_each, first_text};
 ghost use Rattle.sinks.specs.PathText.PathText.{path_text};
 ghost use Rattle.sinks.specs.Writes.{TookAll, TookPart};
-ghost use Rattle.std.specs.Prelude.{◌++◌, None, false, OnErr, OnOk, decimal, map, nat_lt, string_bytes};
+ghost use Rattle.std.specs.Prelude.{[], ◌++◌, IfOk, None, false, OnErr, OnOk, decimal, map, nat_lt, string_bytes};
 
+use crate::fault_reports::counts::FaultCounts;
+use crate::fault_reports::more::write_more;
 use crate::fault_reports::remedies::remedy;
 use crate::fault_reports::report::FaultReport;
-use crate::text_parts::{Chars, Digits, Worded};
+use crate::text_parts::{Chars, Digits, If, Worded};
 use faults::FaultKind;
 use sinks::path_text::{KindNumber, write_path};
 use sinks::written::{Bracketed, Text, Then, Written};
@@ -15,7 +18,7 @@ use sinks::{Sink, WriteFault, put};
 
 /// The name of a kind of error.
 #[derive(Clone, Copy)]
-struct KindName(FaultKind);
+pub(crate) struct KindName(pub(crate) FaultKind);
 
 impl Written for KindName {
     ghost text = { λ k. name_of k.0 };
@@ -121,22 +124,21 @@ impl<'a> Written for ReportLine<'a> {
     }
 }
 
-/// Writes the line of a report, and where that is asked for a second one with what helps.
-fn write_report<W: Sink>(
-    file: &str,
-    report: &FaultReport,
-    is_explained: bool,
-    sink: &mut W,
-) -> Result<(), WriteFault>
-    ensures whole { OnOk result (TookAll (W.seen sink.old) (W.seen sink.new) (report_lines file.now is_explained report.now)) }
-    ensures part { OnErr result (TookPart (W.seen sink.old) (W.seen sink.new) (report_lines file.now is_explained report.now)) }
-{
-    let line = ReportLine(file, report);
-    if is_explained {
-        let help = remedy(report.fault.kind).as_bytes();
-        Then(line, Then(Text(b"    "), Then(Text(help), Text(b"\n")))).write(sink)
-    } else {
-        line.write(sink)
+/// The line of a report, and where that is asked for a second one with what helps.
+#[derive(Clone, Copy)]
+struct ReportLines<'a>(&'a str, &'a FaultReport, bool);
+
+impl<'a> Written for ReportLines<'a> {
+    ghost text = { λ l. report_lines l.0.now l.2 l.1.now };
+
+    fn write<W: Sink>(&self, sink: &mut W) -> Result<(), WriteFault> {
+        let line = ReportLine(self.0, self.1);
+        if self.2 {
+            let help = remedy(self.1.fault.kind).as_bytes();
+            Then(line, Then(Text(b"    "), Then(Text(help), Text(b"\n")))).write(sink)
+        } else {
+            line.write(sink)
+        }
     }
 }
 
@@ -153,29 +155,82 @@ pub fn write_lines<W: Sink>(
     ensures whole { OnOk result (TookAll (W.seen sink.old) (W.seen sink.new) (file_text file.now is_explained reports.now)) }
     ensures part { OnErr result (TookPart (W.seen sink.old) (W.seen sink.new) (file_text file.now is_explained reports.now)) }
 {
-    match reports.split_first() {
-        Some(_) => write_reports(file, reports, is_explained, sink),
-        None => Then(Chars(file), Text(b": no faults\n")).write(sink),
-    }
+    write_up_to(reports.len(), file, reports, is_explained, sink)
 }
 
-fn write_reports<W: Sink>(
+/// Writes the same of the first ten errors of each number, in their order, and then for each number how many more there are.
+///
+/// # Errors
+/// `Write` where the sink failed; it then took a beginning of the text.
+pub fn write_first_lines<W: Sink>(
     file: &str,
     reports: &[FaultReport],
     is_explained: bool,
     sink: &mut W,
 ) -> Result<(), WriteFault>
-    ensures whole { OnOk result (TookAll (W.seen sink.old) (W.seen sink.new) (lines_text file.now is_explained reports.now)) }
-    ensures part { OnErr result (TookPart (W.seen sink.old) (W.seen sink.new) (lines_text file.now is_explained reports.now)) }
+    ensures whole { OnOk result (TookAll (W.seen sink.old) (W.seen sink.new) (first_text 10 file.now is_explained reports.now)) }
+    ensures part { OnErr result (TookPart (W.seen sink.old) (W.seen sink.new) (first_text 10 file.now is_explained reports.now)) }
 {
+    write_up_to(10, file, reports, is_explained, sink)
+}
+
+/// The same with another limit than ten.
+fn write_up_to<W: Sink>(
+    limit: usize,
+    file: &str,
+    reports: &[FaultReport],
+    is_explained: bool,
+    sink: &mut W,
+) -> Result<(), WriteFault>
+    ensures whole { OnOk result (TookAll (W.seen sink.old) (W.seen sink.new) (first_text limit file.now is_explained reports.now)) }
+    ensures part { OnErr result (TookPart (W.seen sink.old) (W.seen sink.new) (first_text limit file.now is_explained reports.now)) }
+{
+    match reports.split_first() {
+        Some(_) => write_first_and_more(limit, file, reports, is_explained, sink),
+        None => Then(Chars(file), Text(b": no faults\n")).write(sink),
+    }
+}
+
+/// Writes the same, and nothing where there is no error.
+fn write_first_and_more<W: Sink>(
+    limit: usize,
+    file: &str,
+    reports: &[FaultReport],
+    is_explained: bool,
+    sink: &mut W,
+) -> Result<(), WriteFault>
+    ensures whole { OnOk result (TookAll (W.seen sink.old) (W.seen sink.new) (first_and_more limit file.now is_explained reports.now)) }
+    ensures part { OnErr result (TookPart (W.seen sink.old) (W.seen sink.new) (first_and_more limit file.now is_explained reports.now)) }
+{
+    match write_reports(limit, file, reports, is_explained, sink) {
+        Ok(counts) => write_more(limit, file, &counts, sink),
+        Err(fault) => Err(fault),
+    }
+}
+
+/// Writes the reports that are among the first of their number, and counts all.
+fn write_reports<W: Sink>(
+    limit: usize,
+    file: &str,
+    reports: &[FaultReport],
+    is_explained: bool,
+    sink: &mut W,
+) -> Result<FaultCounts, WriteFault>
+    ensures counts { IfOk result (AreCounts reports.now) }
+    ensures whole { OnOk result (TookAll (W.seen sink.old) (W.seen sink.new) (lines_text file.now is_explained (first_of_each limit [] reports.now))) }
+    ensures part { OnErr result (TookPart (W.seen sink.old) (W.seen sink.new) (lines_text file.now is_explained (first_of_each limit [] reports.now))) }
+{
+    let mut counts = FaultCounts::none();
     let mut left = reports;
     while let Some((report, after)) = left.split_first() {
-        match write_report(file, report, is_explained, sink) {
+        let is_first = counts.of(report.fault.kind) < limit;
+        match If(is_first, ReportLines(file, report, is_explained)).write(sink) {
             Ok(()) => left = after,
             Err(fault) => return Err(fault),
         }
+        counts.add(report);
     }
-    Ok(())
+    Ok(counts)
 }
 
 /// What helps, as a member of an object, where that is asked for.

@@ -1,0 +1,94 @@
+//! How many errors a file has of a number, behind the first of them.
+ghost use Rattle.faults.specs.Fault.{name_of, number_of};
+ghost use Rattle.outputs.specs.FirstReports.{all_kinds, counted, more_line, more_lines, more_text};
+ghost use Rattle.sinks.specs.Writes.{TookAll, TookPart};
+ghost use Rattle.std.specs.Prelude.{◌≡◌, ◌++◌, OnErr, OnOk, codes, decimal};
+
+use crate::fault_reports::counts::FaultCounts;
+use crate::fault_reports::written::KindName;
+use crate::text_parts::{Chars, Digits, If, InTurn, Worded};
+use faults::FaultKind;
+use sinks::path_text::KindNumber;
+use sinks::written::{Notation, Text, Then, Written};
+use sinks::{Sink, WriteFault};
+
+/// The kinds of errors, ascending by number.
+fn all_kinds() -> [FaultKind; 21]
+    ensures { result ≡ all_kinds }
+{
+    [
+        FaultKind::NotJson,
+        FaultKind::Missing,
+        FaultKind::WrongKind,
+        FaultKind::UnknownType,
+        FaultKind::NotWhole,
+        FaultKind::OutOfRange,
+        FaultKind::OffGrid,
+        FaultKind::TooShort,
+        FaultKind::NotClosed,
+        FaultKind::Revisit,
+        FaultKind::NoArc,
+        FaultKind::Broken,
+        FaultKind::PropertyNumber,
+        FaultKind::PropertyDepth,
+        FaultKind::NoTransform,
+        FaultKind::NotTwo,
+        FaultKind::OtherGrid,
+        FaultKind::BadPlan,
+        FaultKind::NoLayer,
+        FaultKind::OutOfMemory,
+        FaultKind::Write,
+    ]
+}
+
+/// How many more errors of a kind a file has.
+#[derive(Clone, Copy)]
+struct MoreLine<'a>(&'a str, FaultKind, usize);
+
+impl<'a> Written for MoreLine<'a> {
+    ghost text = { λ m. more_text m.0.now m.1 m.2 };
+
+    fn write<W: Sink>(&self, sink: &mut W) -> Result<(), WriteFault> {
+        let number = Then(Chars(self.0), Worded(": ", KindNumber(self.1)));
+        let name = Worded(" ", KindName(self.1));
+        let count = Worded(": ", Digits(self.2));
+        let end = Text(b" more (--all prints each)\n");
+        Then(number, Then(name, Then(count, end))).write(sink)
+    }
+}
+
+/// Of each kind how many more errors than the limit a file has, where it has more.
+#[derive(Clone, Copy)]
+struct MoreLines<'a> {
+    file: &'a str,
+    limit: usize,
+    counts: &'a FaultCounts,
+}
+
+impl<'a> Notation<FaultKind> for MoreLines<'a> {
+    ghost text = { λ m kind. more_line m.limit m.file.now kind (counted m.counts.now kind) };
+
+    fn write_value<W: Sink>(&self, kind: &FaultKind, sink: &mut W) -> Result<(), WriteFault> {
+        let count = self.counts.of(*kind);
+        let more = count.saturating_sub(self.limit);
+        If(count > self.limit, MoreLine(self.file, *kind, more)).write(sink)
+    }
+}
+
+/// Writes for each number how many more errors than the limit a file has, where it has more.
+pub(crate) fn write_more<W: Sink>(
+    limit: usize,
+    file: &str,
+    counts: &FaultCounts,
+    sink: &mut W,
+) -> Result<(), WriteFault>
+    ensures whole { OnOk result (TookAll (W.seen sink.old) (W.seen sink.new) (more_lines limit file.now (counted counts.now))) }
+    ensures part { OnErr result (TookPart (W.seen sink.old) (W.seen sink.new) (more_lines limit file.now (counted counts.now))) }
+{
+    let lines = MoreLines {
+        file,
+        limit,
+        counts,
+    };
+    InTurn(&all_kinds(), &lines).write(sink)
+}
