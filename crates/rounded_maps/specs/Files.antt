@@ -14,6 +14,7 @@ pub record File : Type 0 where
   pub is_named : Bool
   pub bytes : List ℕ
 
+-- the file of these bytes
 abbrev pub file_of : Bool → Bool → List ℕ → File
 file_of is_sequence is_named bytes = record { is_sequence = is_sequence; is_named = is_named; bytes = bytes }
 
