@@ -15,7 +15,7 @@ use crate::topology::layers::BackLayer;
 use crate::topology::pairs::write_pair;
 use crate::topology::quantizer::Quantizer;
 use crate::topology::rules::BackRules;
-use crate::topology::writer::{written_layers, write_bbox};
+use crate::topology::writer::{write_bbox, written_layers};
 use chains::table::ArcTable;
 use grid::Pos;
 use itoa::Buffer;

@@ -65,7 +65,11 @@ pub(crate) fn write_bbox<W: Sink>(
 }
 
 /// The members `objects` and `arcs`, and the end of the text.
-fn write_content<W: Sink>(layers: &[BackLayer], arcs: &ArcTable, out: &mut W) -> Result<(), WriteFault>
+fn write_content<W: Sink>(
+    layers: &[BackLayer],
+    arcs: &ArcTable,
+    out: &mut W,
+) -> Result<(), WriteFault>
     ensures { OnOk result (TookAll (W.seen out.old) (W.seen out.new) (content_text position_text arc_text layers.now arcs.now.arcs)) }
 {
     let tail = Then(Text(b"},\"arcs\":["), Then(ArcsText(arcs), Text(b"]}")));
