@@ -6,7 +6,8 @@
     python3 bench/rounding.py --positions 3200000 --no-instructions
 
 The map is a tiling of about 8 MB, in degrees of seven digits, of which togrid takes away the last; or of 75 MB. `topotool build`
-reads it in whole numbers, and has to print the same bytes. valgrind counts instructions; times are processor times (user and
+reads it in whole numbers, and has to print the same bytes. So has togrid of its topology in degrees; that topology, and one that is quantized
+as geo2topo does, by scales of many digits, are compared with the GeoJSON in degrees. valgrind counts instructions; times are processor times (user and
 system) of whole processes, the least of some interleaved runs. Beside a ratio is its goal, which no test asks for; a ratio that
 misses it is marked by an exclamation mark.
 """
@@ -28,7 +29,10 @@ TOGRID = os.path.join(TOP, "crates", "togrid", "out", "togrid")
 POSITIONS = 340_000
 STEPS = 100  # of a millionth of a degree, for one of the tiling
 BUILD = "topotool build"
-GOALS = {"togrid --build -q": 1.3, "togrid --build": 2.0}
+OF_DEGREES = "togrid --build -q"
+OF_TOPOLOGIES = {"togrid --build -q, of a topology": [], "togrid --build -q, of a quantized topology": ["--quantize", "1000000"]}
+GOALS = {OF_DEGREES: 1.3, "togrid --build": 2.0}
+OF_GEOJSON = 1.6
 MEMORY = 1.25
 
 
@@ -56,7 +60,17 @@ def write_maps(folder, positions, seed):
             file.write(",".join(feature_text(it, number) for it in members) + "]}")
 
 
-def rows_of(folder):
+def write_topologies(folder):
+    """Writes the topologies in degrees; gives them by their titles."""
+    built = os.path.join(folder, "built.json")
+    run_once([TOOL, "build", *GRID, f"a={os.path.join(folder, 'whole.json')}"], built)
+    made = {title: os.path.join(folder, f"topology-{number}.json") for number, title in enumerate(OF_TOPOLOGIES)}
+    for title, file in made.items():
+        run_once([TOGRID, "--back", "--rewind", "keep", *OF_TOPOLOGIES[title], built], file)
+    return made
+
+
+def rows_of(folder, topologies):
     """The programs by their titles, of which the others are compared with the first."""
     whole, decimal = (os.path.join(folder, f"{name}.json") for name in ("whole", "degrees"))
     return {
@@ -66,16 +80,18 @@ def rows_of(folder):
         "togrid -q": [TOGRID, "-q", decimal],
         "togrid --snap 1 --build -q": [TOGRID, "--build", "-q", "--snap", "1", f"a={decimal}"],
         "togrid --faults, none": [TOGRID, "--faults", decimal],
+        **{title: [TOGRID, "--build", "-q", file] for title, file in topologies.items()},
     }
 
 
 def check(folder, rows):
     """The topology is the same, byte for byte."""
     outs = [os.path.join(folder, name) for name in ("left", "right")]
-    for out, title in zip(outs, (BUILD, "togrid --build -q")):
-        run_once(rows[title], out)
-    if not same_bytes(*outs):
-        raise Failed("togrid --build prints another topology than topotool build")
+    run_once(rows[BUILD], outs[0])
+    for title in (OF_DEGREES, *[it for it, words in OF_TOPOLOGIES.items() if not words]):
+        run_once(rows[title], outs[1])
+        if not same_bytes(*outs):
+            raise Failed(f"{title} prints another topology than topotool build")
 
 
 def ratio_of(title, found, base):
@@ -96,7 +112,7 @@ def main():
         # another process writes: the peak memory of a measured one counts from its parent's
         written = [sys.executable, __file__, "--write", folder, "--positions", str(words.positions), "--seed", str(words.seed)]
         subprocess.run(written, check=True)
-        rows = rows_of(folder)
+        rows = rows_of(folder, write_topologies(folder))
         check(folder, rows)
         found = by_turns(rows, os.path.join(folder, "printed"), words.runs)
         counts = {title: count(each) for title, each in rows.items()} if has_counts else {}
@@ -107,6 +123,9 @@ def main():
         counted = f"{counts[title] / 1e6:,.0f} | {ratio_of(title, counts[title], counts[BUILD])}" if counts else " | "
         memory = marked(it.megabytes / base.megabytes, MEMORY) if title in GOALS else f"{it.megabytes / base.megabytes:.2f}"
         print(f"| `{title}` | {counted} | {it.seconds:.2f} | {it.seconds / base.seconds:.2f} | {it.megabytes:.0f} | {memory} |")
+    for title in OF_TOPOLOGIES:
+        unit, ratio = ("instructions", counts[title] / counts[OF_DEGREES]) if counts else ("seconds", found[title].seconds / found[OF_DEGREES].seconds)
+        print(f"{title}: {marked(ratio, OF_GEOJSON)} times the {unit} of its GeoJSON")
     return 0
 
 

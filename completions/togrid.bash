@@ -10,6 +10,7 @@ _togrid() {
         --unit) return ;;
         --snap) return ;;
         --id) return ;;
+        --layer) return ;;
         --heights) COMPREPLY=($(compgen -W "drop refuse" -- "$cur")); return ;;
         --reals) return ;;
         --unclosed) COMPREPLY=($(compgen -W "close refuse" -- "$cur")); return ;;
@@ -20,7 +21,7 @@ _togrid() {
         --rewind) COMPREPLY=($(compgen -W "keep rfc7946 d3" -- "$cur")); return ;;
     esac
     case $command in
-        "") words="--build --back --faults --step --unit --snap --id --number --heights --reals --unclosed --collapsed --folded --collections --seq --like --quantize --rewind -o --output --report -q --quiet --strict -h --help -V --version" ;;
+        "") words="--build --back --faults --step --unit --snap --id --number --layer --heights --reals --unclosed --collapsed --folded --collections --seq --numbers --like --quantize --rewind -o --output --report -q --quiet --strict -h --help -V --version" ;;
     esac
     if [[ $cur == -* ]]; then
         COMPREPLY=($(compgen -W "$words" -- "$cur"))

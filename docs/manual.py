@@ -20,6 +20,7 @@ SEE_ALSO = {
     "togrid": ["docs/TOGRID.md and docs/FAULTS.md of the repository.", ".BR topotool (1),"],
 }
 OPTION = re.compile(r"(?:(-\w), |    )(--[\w-]+)(?: <([^>]+)>)?")
+OPTIONAL = re.compile(r"(--[\w-]+)\[=<([^>]+)>\]$")
 
 
 class Row(NamedTuple):
@@ -30,6 +31,10 @@ class Row(NamedTuple):
     def option(self):
         """Its letter and name, and what it calls the value; the letter and the value may be missing."""
         return OPTION.match(self.word.rjust(len(self.word) + 4) if self.word.startswith("--") else self.word).groups()
+
+    def optional(self):
+        """Its name, and what it calls a value that it may have behind a `=`, if it may."""
+        return OPTIONAL.match(self.word)
 
 
 class Help(NamedTuple):
@@ -235,6 +240,8 @@ def zsh_option(of, row):
     """What `_arguments` is told of an option."""
     letter, option, value = row.option()
     text = re.sub(r"([\[\]:\\])", r"\\\1", row.text)
+    if row.optional():
+        return quoted(f"{option}=-[{text}]::{row.optional()[2]}: ")
     if value is None:
         alone = "- *" if option in ("--help", "--version") else f"{letter} {option}"
         return f"'({alone})'{{{letter},{option}}}{quoted(f'[{text}]')}" if letter else quoted(f"{option}[{text}]")

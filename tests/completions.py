@@ -19,7 +19,7 @@ COMMANDS = {"build", "check", "faults", "merge", "remove", "diff", "feature", "m
 # All of togrid's.
 OPTIONS = {
     *"--build --back --faults --step --unit --snap --id --number --heights --reals --unclosed --collapsed --folded --collections".split(),
-    *"--seq --like --quantize --rewind".split(),
+    *"--seq --layer --like --quantize --numbers --rewind".split(),
     *"-o --output --report -q --quiet --strict -h --help -V --version".split(),
 }
 
@@ -60,7 +60,9 @@ ROWS = [
     (["togrid", "zz"], set()),
     (["togrid", "--build", "a", "=", "w"], {"west.json"}),
     (["togrid", "--un"], {"--unit", "--unclosed"}),
-    (["togrid", "--n"], {"--number"}),
+    (["togrid", "--n"], {"--number", "--numbers"}),
+    (["togrid", "--l"], {"--layer", "--like"}),
+    (["togrid", "--layer", "w"], set()),
     (["togrid", "--step", "1"], set()),
     (["togrid", "--unclosed", ""], {"close", "refuse"}),
     (["togrid", "--collapsed", ""], {"null", "drop", "refuse"}),

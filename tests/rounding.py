@@ -9,6 +9,7 @@ import collections
 import itertools
 import json
 import math
+import re
 from fractions import Fraction
 
 import faults
@@ -30,7 +31,7 @@ class Options:
         self.step = self.unit = None
         self.refuses_heights = self.is_sequence = self.numbers = False
         self.reals, self.scales = "whole", {}
-        self.id = None
+        self.id = self.layer = None
         self.unclosed, self.collapsed, self.folded, self.collections, self.rewind = "close", "null", "split", "split", "keep"
         self.distance = 0
         self.__dict__.update(given)
@@ -67,6 +68,7 @@ class Options:
         for name, places in self.scales.items():
             made += ["--reals", f"scale:{name}={10**places}"]
         made += ["--id", self.id] if self.id is not None else []
+        made += ["--layer", self.layer] if self.layer is not None else []
         for name, default in ("unclosed", "close"), ("collapsed", "null"), ("folded", "split"), ("collections", "split"):
             if getattr(self, name) != default:
                 made += [f"--{name}", getattr(self, name)]
@@ -695,9 +697,47 @@ class Rounded:
         """The properties that are scaled and that no feature of the result has."""
         return [name for name in self.options.scales if not any(name in it.properties for file in self.files for it in file.features)]
 
+    def columns(self, is_build):
+        """The columns of each file that has numbers made texts; of a topology those of the file's layer, which has equal features once."""
+        layers = collections.defaultdict(dict)
+        for number, file in enumerate(self.files):
+            for i, it in enumerate(file.features):
+                layers[file.name if is_build else number][feature_text(it, self.options) if is_build else i] = it.properties
+        return [columns_of(layers[file.name if is_build else i].values()) if file.tally.reals else {} for i, file in enumerate(self.files)]
+
     def is_lossy(self):
         counts = [file.tally.heights + file.tally.reals + len(file.equal) + sum(map(file.count_of, FIXES)) for file in self.files]
         return bool(self.near or any(counts))
+
+
+# ---- columns of numbers
+
+NUMERAL = re.compile(r"-?(?:0|[1-9][0-9]*)(?:\.[0-9]+)?(?:[eE][-+]?[0-9]+)?")
+
+
+def is_decimal(value):
+    """Whether a value of properties is a text that is a number of JSON."""
+    return isinstance(value, str) and NUMERAL.fullmatch(value) is not None
+
+
+def is_fraction(value):
+    """Whether it is one with a point or an exponent."""
+    return is_decimal(value) and bool(set(value) & set(".eE"))
+
+
+def is_numeric(value):
+    """Whether a column of numbers may have the value."""
+    return value is None or isinstance(value, int) and not isinstance(value, bool) or is_decimal(value)
+
+
+def columns_of(features):
+    """How many texts with a point or an exponent each column of numbers has, by its name, of the properties of some features."""
+    values = collections.defaultdict(list)
+    for properties in features:
+        for name, it in properties.items():
+            values[name].append(it)
+    counts = {name: sum(map(is_fraction, its)) for name, its in values.items() if all(map(is_numeric, its))}
+    return {name: counts[name] for name in sorted(counts, key=str.encode) if counts[name]}
 
 
 # ---- what is printed
@@ -746,33 +786,49 @@ def fixed_members(fixes):
     return {name: fixes[name] for name in FIXES}
 
 
-def file_report(file, path):
+def file_report(file, path, columns):
     tally = file.tally
     steps, units = furthest_of(file)
     fixed = [{"feature": number, **fixed_members(it)} for number, it in sorted(file.fixed.items()) if any(it.values())]
     return {"file": path, "name": file.name, "features": file.count, "positions": tally.positions, "moved": tally.moved,
-            "furthest_steps": steps, "furthest": units, "heights": tally.heights, "reals": tally.reals,
+            "furthest_steps": steps, "furthest": units, "heights": tally.heights, "reals": tally.reals, "columns": columns,
             **{it: file.count_of(it) for it in FIXES}, "equal": len(file.equal), "first_equal": file.equal[0] if file.equal else None, "fixed": fixed}
 
 
-def report_of(rounded, paths):
+def back_words(rounded, columns):
+    """The words of the way back, of a topology on standard input."""
+    names = sorted({name for it in columns for name in it}, key=str.encode)
+    words = ["togrid", "--back", *(["--unit", rounded.options.unit] if rounded.options.unit else [])]
+    if names:
+        words.append("--numbers" if any(not it or "," in it for it in names) else f"--numbers={','.join(names)}")
+    for name, places in rounded.options.scales.items():
+        words += ["--reals", f"scale:{name}={10**places}"]
+    return [*words, "-"]
+
+
+def shell_word(word):
+    quoted = word.replace("'", "'\\''")
+    return word if re.fullmatch(r"[A-Za-z0-9_./=,:+@%-]*", word) else f"'{quoted}'"
+
+
+def report_of(rounded, paths, is_build=False):
     """The report as an object, with fractions for the decimal numbers of files."""
-    options = rounded.options
-    made = {"step": options.step_word, "files": [file_report(*it) for it in zip(rounded.files, paths)]}
+    options, columns = rounded.options, rounded.columns(is_build)
+    made = {"step": options.step_word, "files": [file_report(*it) for it in zip(rounded.files, paths, columns)]}
     made |= {"absent": rounded.absent()} if options.scales else {}
     made["shared"] = rounded.shared
     if options.distance:
         wide = in_numbers(rounded.wide[0], options) if rounded.wide else None
         made |= {"joined": len(rounded.moves), "too_wide": len(rounded.wide), "first_too_wide": wide}
     near = in_numbers(rounded.near[0], options) if rounded.near else None
-    return {**made, "nearly_shared": len(rounded.near), "first_nearly_shared": near}
+    return {**made, "nearly_shared": len(rounded.near), "first_nearly_shared": near, "back": back_words(rounded, columns)}
 
 
 WORDS = {"closed": "rings closed", "collapsed": "lines or rings collapsed", "folded": "lines or rings folded, and split", "collections": "collections split",
          "lost": "features without a shape left"}
 
 
-def file_lines(file, path):
+def file_lines(file, path, columns):
     tally = file.tally
     yield f"{path}: {file.count} features, {tally.positions} positions, step {file.options.step_word}"
     if tally.moved:
@@ -782,6 +838,8 @@ def file_lines(file, path):
         yield f"  {tally.heights} heights dropped"
     if tally.reals:
         yield f"  {tally.reals} numbers made texts"
+    for name, count in columns.items():
+        yield f"  {count} texts in column {name}"
     for name in FIXES:
         if count := file.count_of(name):
             yield f"  {count} {WORDS[name]}, the first in feature {min(number for number, it in file.fixed.items() if it[name])}"
@@ -793,10 +851,11 @@ def pair_text(position, options):
     return ",".join(map(str, in_numbers(position, options)))
 
 
-def report_lines(rounded, paths):
+def report_lines(rounded, paths, is_build=False):
     """The report on standard error."""
-    for file, path in zip(rounded.files, paths):
-        yield from file_lines(file, path)
+    columns = rounded.columns(is_build)
+    for it in zip(rounded.files, paths, columns):
+        yield from file_lines(*it)
     for name in rounded.absent():
         yield f"no feature has the property of --reals scale:{name}"
     if rounded.shared:
@@ -807,6 +866,8 @@ def report_lines(rounded, paths):
             yield f"{len(rounded.wide)} clusters too wide to be joined, the first at {pair_text(rounded.wide[0], rounded.options)}"
     if rounded.near:
         yield f"{len(rounded.near)} nearly shared vertices, the first at {' and '.join(pair_text(it, rounded.options) for it in rounded.near[0])}"
+    if any(columns) or rounded.options.scales:
+        yield f"back: {' '.join(map(shell_word, back_words(rounded, columns)))}"
 
 
 # ---- what is reported of errors

@@ -204,6 +204,9 @@ class Topology(rounding.Errors):
     def layers(self, value):
         if value.kind != "object":
             return [((), 3)]
+        if self.options.layer is not None:
+            one = value.what.get(self.options.layer)
+            return under(self.options.layer, [((), 2)] if one is None else self.layer(one))
         return [it for name, one in value.what.items() for it in under(name, self.layer(one))]
 
     def root(self, value):
@@ -215,7 +218,7 @@ class Topology(rounding.Errors):
             self.axes = list(zip(*pairs))
         if arcs is None or arcs.kind != "list":
             return [(("arcs",), 2 if arcs is None else 3)]
-        used, errors = used_arcs_of(value, len(arcs.what)), []
+        used, errors = used_arcs_of(value, len(arcs.what), self.options.layer), []
         for i, arc in enumerate(arcs.what):
             found = self.arc(arc) if i in used else []
             self.arcs.append(self.along(arc) if i in used and not found else None)
@@ -249,16 +252,20 @@ class Topology(rounding.Errors):
 
     def collections(self):
         """The name and the FeatureCollection of each layer, in the order of their names."""
-        for name, value in sorted(self.value.what["objects"].what.items(), key=lambda it: it[0].encode()):
+        for name, value in sorted(objects_of(self.value, self.options.layer).items(), key=lambda it: it[0].encode()):
             parts = value.what["geometries"].what if value.what["type"].what == COLLECTION else [value]
             yield name, typed_value("FeatureCollection", features=Value("list", 0, [self.as_feature(it) for it in parts]))
 
 
-def used_arcs_of(value, count):
+def objects_of(value, layer):
+    """The objects of a topology that are read, by their names: all, or the one that is named."""
     objects = value.what.get("objects")
-    if objects is None or objects.kind != "object":
-        return set()
-    return set().union(*(used_arcs(it, count) for it in objects.what.values()))
+    found = {} if objects is None or objects.kind != "object" else objects.what
+    return {name: it for name, it in found.items() if layer in (None, name)}
+
+
+def used_arcs_of(value, count, layer):
+    return set().union(*(used_arcs(it, count) for it in objects_of(value, layer).values()))
 
 
 def typed_value(kind, **members):

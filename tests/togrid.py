@@ -366,7 +366,7 @@ def wrong_halves(files, topology, asked):
         for path in paths:
             with open(path, "rb") as it:
                 sources.append(("map", [it.value for it in rounding.parse(it.read(), False)[1]]))
-        report = "".join(f"{it}\n" for it in rounding.report_lines(rounding.Rounded(sources, asked), paths))
+        report = "".join(f"{it}\n" for it in rounding.report_lines(rounding.Rounded(sources, asked), paths, is_build=True))
         if (ran.returncode, ran.stdout) != (0, topology) and not asked.numbers or ran.stderr.decode() != report:
             return f"two files differ: {order} {ran.stderr!r}, wanted {report}"
     if asked.distance or asked.numbers:
@@ -420,7 +420,8 @@ def seq_of(file, asked):
 
 
 def printed(folder, file, values, asked):
-    """What has to be printed of a file without errors, and what is wrong with the run; None, None where the moves are refused."""
+    """What has to be printed of a file without errors, with the report of --build, and what is wrong with the run; None, None where the
+    moves are refused."""
     seq = seq_of(file, asked)
     try:
         rounded = rounding.Rounded([("map", values)], asked)
@@ -437,7 +438,8 @@ def printed(folder, file, values, asked):
         return None, f"reported {ran.returncode} {ran.stderr!r}, wanted {report!r}"
     with open(f"{folder}/report.json", encoding="utf-8") as it:
         found, wanted = json.load(it), rounding.report_of(rounded, [file])
-    return (text, report), None if same_report(found, wanted) else f"report {found}, wanted {wanted}"
+    built = "".join(f"{it}\n" for it in rounding.report_lines(rounded, [file], is_build=True)).encode()
+    return (text, built), None if same_report(found, wanted) else f"report {found}, wanted {wanted}"
 
 
 def wrong_accepted(folder, file, values, root, asked, chance):

@@ -8,10 +8,10 @@ Each text is a random topology as other tools write them: with scales of 17 digi
 a transform; members in any order, bbox first, some of them foreign or there twice; several objects, single geometries in place of
 collections, collections in one another, geometries of type null; ids and properties of any kind; arcs of one position, positions
 that are there twice, heights, arcs that are shared and reversed; broken arcs that nothing uses. Rings and lines collapse, fold and
-are open. Every third text is damaged. It is run with random options.
+are open. Every third text is damaged. It is run with random options, and sometimes one object is named.
 
 togrid has to print the topology of its layers, with the same report, as lines and as JSON, and each layer as GeoJSON; or to refuse
-it with the same first error, and `--faults` has to print the same list. The layers as GeoJSON in exact decimal numbers, in files
+it with the same first error, and `--faults` has to print the same list. One layer may get another name, several may not. The layers as GeoJSON in exact decimal numbers, in files
 of their own, have to give the same topology. Ends with a line of counts, and with status 1 where something differed, or almost no
 text was tried, or almost all or none were refused.
 """
@@ -199,7 +199,7 @@ class TopologyMaker(Maker):
         return self.one_of([], [[0, 0]], 5, None, [[1]], [["x", 2]], members(), [[Numeral("1.5"), Numeral("1e999")], [0, 0]])
 
     def root(self):
-        names = self.chance.sample(NAMES, self.one_of(1, 1, 1, 2, 3))
+        names = self.chance.sample(NAMES, self.one_of(0, 1, 1, 1, 1, 1, 1, 2, 2, 2, 3, 3))
         objects = Members([name, self.layer()] for name in names)
         arcs = [self.arc(it) for it in self.arcs.made]
         count = len(arcs) + self.chance.choice([0, 0, 0, 1, 2])
@@ -278,15 +278,17 @@ def wrong_topology(folder, file, rounded, asked):
     if not files:
         # (topotool builds no topology of no file)
         empty = f'{{"arcs":[],"objects":{{}},"transform":{{"scale":[{asked.scale},{asked.scale}],"translate":[0,0]}},"type":"Topology"}}'
-        return None if (ran.returncode, ran.stdout.decode().strip()) == (0, empty) else f"--build {ran.returncode} {ran.stdout!r}, wanted {empty}"
+        report = "".join(f"{it}\n" for it in [f"{file}: no objects", *rounding.report_lines(rounded, [])])
+        is_right = (ran.returncode, ran.stdout.decode().strip(), ran.stderr.decode()) == (0, empty, report)
+        return None if is_right else f"--build {ran.returncode} {ran.stdout!r} {ran.stderr!r}, wanted {empty} {report!r}"
     built = togrid.topotool("build", "--grid", f"{asked.scale},{asked.scale},0,0", *files)
-    report = "".join(f"{it}\n" for it in rounding.report_lines(rounded, [title_of(file, it.name) for it in rounded.files]))
+    report = "".join(f"{it}\n" for it in rounding.report_lines(rounded, [title_of(file, it.name) for it in rounded.files], is_build=True))
     if built.returncode or (ran.returncode, ran.stdout) != (int(rounded.is_lossy()), built.stdout):
         return f"--build {ran.returncode} {ran.stdout!r} {ran.stderr!r}, wanted {built.stdout!r} {built.stderr!r}"
     if ran.stderr.decode() != report:
         return f"reported {ran.stderr!r}, wanted {report!r}"
     with open(f"{folder}/report.json", encoding="utf-8") as it:
-        found, wanted = json.load(it), rounding.report_of(rounded, [file for _ in rounded.files])
+        found, wanted = json.load(it), rounding.report_of(rounded, [file for _ in rounded.files], is_build=True)
     return None if togrid.same_report(found, wanted) else f"report {found}, wanted {wanted}"
 
 
@@ -307,6 +309,19 @@ def wrong_layers(folder, file, rounded, asked):
             if text.read() != rounding.text_of(it):
                 return f"-o: {it.name}.json differs"
     return None
+
+
+def wrong_name(folder, file, rounded, asked):
+    """What is wrong where the layer gets another name, or nothing: of several it is refused."""
+    ran = togrid.togrid("--build", *asked.words(), f"x={file}")
+    if len(rounded.files) != 1:
+        wanted = (2, b"", b"togrid: several objects would be called x: say --layer OBJECT\n")
+        return None if not rounded.files or (ran.returncode, ran.stdout, ran.stderr) == wanted else f"a name for all: {ran.returncode} {ran.stderr!r}"
+    path = f"{folder}/0.rounded.json"
+    built = togrid.topotool("build", "--grid", f"{asked.scale},{asked.scale},0,0", f"x={path}")
+    report = "".join(f"{it}\n" for it in rounding.report_lines(rounded, [file], is_build=True))
+    is_right = (ran.returncode, ran.stdout, ran.stderr.decode()) == (0, built.stdout, report)
+    return None if is_right else f"another name: {ran.returncode} {ran.stdout!r} {ran.stderr!r}, wanted {built.stdout!r} {report!r}"
 
 
 def wrong_peers(folder, file, topology, asked):
@@ -331,7 +346,8 @@ def wrong_accepted(folder, file, topology, asked):
         ran, (_, number) = togrid.togrid("-q", "--build", *asked.words(), file), refused.error
         is_right = ran.returncode == 4 and not ran.stdout and ran.stderr.startswith(f"togrid: {file}: {number} ".encode())
         return None if is_right else f"moves that are refused: {ran.returncode} {ran.stderr!r}, wanted {refused.error}"
-    return wrong_topology(folder, file, rounded, asked) or wrong_layers(folder, file, rounded, asked) or wrong_peers(folder, file, topology, asked)
+    wrongs = (it(folder, file, rounded, asked) for it in (wrong_topology, wrong_name, wrong_layers))
+    return next(filter(None, wrongs), None) or wrong_peers(folder, file, topology, asked)
 
 
 def options_of(chance):
@@ -347,6 +363,7 @@ def text_for(seed):
     root, is_damaged = TopologyMaker(chance, asked).root(), chance.random() < 0.33
     for _ in range(chance.choice([1, 1, 2, 3]) if is_damaged else 0):
         togrid.damage(chance, root)
+    asked.layer = chance.choice(NAMES) if chance.random() < 0.2 else None
     return asked, togrid.dumped(chance, root, chance.choice([",", ", ", " ,\n"]))
 
 

@@ -8,7 +8,7 @@ use Rattle.sinks.specs.PathText.PathText.{path_text}
 use Rattle.command_line.specs.declared.status.Status.{Status}
 use Rattle.command_line.specs.declared.status.Status.TheVariants.{Usage as WrongUsage, Unreadable as UnreadableFile, Refused, OutOfMemory as NoMemory, Write as OutputFailed}
 use Rattle.command_line.specs.declared.refusal.Usage.{Usage as UsageFault}
-use Rattle.command_line.specs.declared.refusal.Usage.TheVariants.{BadGrid, BadSteps, BadLayer, InputTwice, NoId, SameIds, BadStep, BadUnits, BadUnit, BadReals, BadDistance, BadQuantize, BadBack, BadReport, NoFolder, NameTwice, BadName}
+use Rattle.command_line.specs.declared.refusal.Usage.TheVariants.{BadGrid, BadSteps, BadLayer, InputTwice, NoId, SameIds, BadStep, BadUnits, BadUnit, BadReals, BadScale, BadNumbers, BadDistance, BadQuantize, BadBack, BadReport, NoFolder, NameTwice, BadName, NameForMany}
 use Rattle.command_line.specs.declared.refusal.Remedy.{Remedy}
 use Rattle.command_line.specs.declared.refusal.Remedy.TheVariants.{Step, Encoding, Unpacking}
 use Rattle.command_line.specs.declared.refusal.Refusal.{Refusal}
@@ -38,6 +38,8 @@ usage_words (BadStep word) = codes "bad step "
 usage_words (BadUnits word) = codes "bad step "
 usage_words (BadUnit word) = codes "bad unit "
 usage_words (BadReals word) = codes "bad reals "
+usage_words (BadScale word) = codes "bad reals "
+usage_words (BadNumbers word) = codes "bad numbers "
 usage_words (BadDistance word) = codes "bad snap "
 usage_words (BadQuantize word) = codes "bad quantize "
 usage_words BadBack = codes "--back takes one topology"
@@ -45,6 +47,7 @@ usage_words (BadReport file) = codes "the report would replace "
 usage_words NoFolder = codes "more than one file: say -o FOLDER"
 usage_words (NameTwice file) = codes "two files would be called "
 usage_words (BadName layer) = codes "no file can be called "
+usage_words (NameForMany layer) = codes "several objects would be called "
 
 -- the word, the layer or the file that is wrong, where there is one
 abbrev pub usage_name : UsageFault → List ℕ
@@ -58,6 +61,8 @@ usage_name (BadStep word) = word.now
 usage_name (BadUnits word) = word.now
 usage_name (BadUnit word) = word.now
 usage_name (BadReals word) = word.now
+usage_name (BadScale word) = word.now
+usage_name (BadNumbers word) = word.now
 usage_name (BadDistance word) = word.now
 usage_name (BadQuantize word) = word.now
 usage_name BadBack = []
@@ -65,10 +70,14 @@ usage_name (BadReport file) = file.now
 usage_name NoFolder = []
 usage_name (NameTwice file) = file.now
 usage_name (BadName layer) = layer.now
+usage_name (NameForMany layer) = layer.now
 
 -- what stands behind it, where anything does
 abbrev pub usage_end : UsageFault → List ℕ
 usage_end (BadUnits word) = codes ": --unit says what the numbers of the output count"
+usage_end (BadScale word) = codes ": --back takes scale:P=K alone"
+usage_end (BadNumbers word) = codes ": names with commas between, or none"
+usage_end (NameForMany layer) = codes ": say --layer OBJECT"
 usage_end usage = []
 
 -- the number and the name of a fault

@@ -53,6 +53,12 @@ fn with_letter<'a>(argument: Arg<'a>, form: Form) -> Arg<'a> {
 fn with_values<'a>(argument: Arg<'a>, form: Form) -> Arg<'a> {
     match form {
         Form::Words => argument.num_args(1..),
+        Form::OptionalWith(..) => {
+            argument
+                .num_args(0..=1)
+                .require_equals(true)
+                .default_missing_value("")
+        }
         Form::OneOf(_, words) => {
             among(argument, words).default_value(words.first().copied().unwrap_or(""))
         }
@@ -76,7 +82,7 @@ fn with_other<'a>(argument: Arg<'a>, form: Form) -> Result<Arg<'a>, AllocError> 
         Form::NeededWithout(_, other) => argument.required_unless_present(other),
         Form::ValueNotWith(_, other) => argument.conflicts_with(other),
         Form::ValueWith(_, other, others) => without(argument.requires_arg(other)?, others),
-        Form::FlagWith(other) => argument.requires_arg(other),
+        Form::OptionalWith(_, other) | Form::FlagWith(other) => argument.requires_arg(other),
         Form::FlagNotWith(others) => without(argument, others),
         _ => Ok(argument),
     }

@@ -36,6 +36,10 @@ pub enum Usage<'a> {
     BadUnit(&'a str),
     /// A word after `--reals` is none of those that may be there.
     BadReals(&'a str),
+    /// A word after `--reals` is no scale, with `--back`.
+    BadScale(&'a str),
+    /// A word after `--numbers` has an empty name, or names are given beside none.
+    BadNumbers(&'a str),
     /// The word after `--snap` is no whole number up to 10.
     BadDistance(&'a str),
     /// The word after `--quantize` is no number of steps.
@@ -50,6 +54,8 @@ pub enum Usage<'a> {
     NameTwice(&'a str),
     /// A layer of a name that no file in a folder can have.
     BadName(&'a str),
+    /// Several objects of a topology would have the name that the words give its file.
+    NameForMany(&'a str),
 }
 
 impl<'a> Usage<'a> {
@@ -66,7 +72,8 @@ impl<'a> Usage<'a> {
             Usage::SameIds(_) => "--keyed: two features with one id in layer ",
             Usage::BadStep(_) | Usage::BadUnits(_) => "bad step ",
             Usage::BadUnit(_) => "bad unit ",
-            Usage::BadReals(_) => "bad reals ",
+            Usage::BadReals(_) | Usage::BadScale(_) => "bad reals ",
+            Usage::BadNumbers(_) => "bad numbers ",
             Usage::BadDistance(_) => "bad snap ",
             Usage::BadQuantize(_) => "bad quantize ",
             Usage::BadBack => "--back takes one topology",
@@ -74,6 +81,7 @@ impl<'a> Usage<'a> {
             Usage::NoFolder => "more than one file: say -o FOLDER",
             Usage::NameTwice(_) => "two files would be called ",
             Usage::BadName(_) => "no file can be called ",
+            Usage::NameForMany(_) => "several objects would be called ",
         }
     }
 
@@ -89,13 +97,16 @@ impl<'a> Usage<'a> {
             | Usage::BadUnits(word)
             | Usage::BadUnit(word)
             | Usage::BadReals(word)
+            | Usage::BadScale(word)
+            | Usage::BadNumbers(word)
             | Usage::BadDistance(word)
             | Usage::BadQuantize(word) => word,
             Usage::NoId(name)
             | Usage::SameIds(name)
             | Usage::BadReport(name)
             | Usage::NameTwice(name)
-            | Usage::BadName(name) => name,
+            | Usage::BadName(name)
+            | Usage::NameForMany(name) => name,
             Usage::InputTwice | Usage::BadBack | Usage::NoFolder => "",
         }
     }
@@ -106,6 +117,9 @@ impl<'a> Usage<'a> {
     {
         match self {
             Usage::BadUnits(_) => ": --unit says what the numbers of the output count",
+            Usage::BadScale(_) => ": --back takes scale:P=K alone",
+            Usage::BadNumbers(_) => ": names with commas between, or none",
+            Usage::NameForMany(_) => ": say --layer OBJECT",
             _ => "",
         }
     }

@@ -34,43 +34,43 @@ use Rattle.decimal_faults.proofs.Nested.{each_is}
 
 -- ---- wholes, by their parts
 
-beyond_each : (of : Json → List Pair) (i j : ℕ) (js : Items) → i < j → IsBeyond (index i) (each_faults of j js)
+pub beyond_each : (of : Json → List Pair) (i j : ℕ) (js : Items) → i < j → IsBeyond (index i) (each_faults of j js)
 beyond_each of i j no_items less = beyond_none (index i)
 beyond_each of i j (item k js) less =
     beyond_append (index i) (under (index j) (of k)) _ (beyond_under (index i) (index j) (of k) (sym (nat_cmp_is i j Less less))) (beyond_each of i (j + 1) js (omega arith))
 
-either : (b : Bool) (ps qs : List Pair) → IsAscending ps → IsAscending qs → IsAscending (if b then ps else qs)
+pub either : (b : Bool) (ps qs : List Pair) → IsAscending ps → IsAscending qs → IsAscending (if b then ps else qs)
 either true ps qs a b = a
 either false ps qs a b = b
 
 module _ (of : Json → List Pair) (each : (j : Json) → IsAscending (of j)) where
-  each_ascends : (i : ℕ) (js : Items) → IsAscending (each_faults of i js)
+  pub each_ascends : (i : ℕ) (js : Items) → IsAscending (each_faults of i js)
   each_ascends i no_items = ascending_none
   each_ascends i (item j js) = ascending_more (index i) (of j) _ (each j) (beyond_each of i (i + 1) js (omega arith)) (each_ascends (i + 1) js)
 
-  list_ascends : (j : Json) → IsAscending (list_faults of j)
+  pub list_ascends : (j : Json) → IsAscending (list_faults of j)
   list_ascends j = go (as_array j)
     where
       go : (o : Option Items) → IsAscending (array_faults (each_faults of 0) o)
       go None = ascending_here kind.WrongKind
       go (Some js) = each_ascends 0 js
 
-  member_ascends : (n : List ℕ) (j : Json) → IsAscending (member_faults n of j)
-  member_ascends n j = ascending_under (name n) (there of (get n j)) (go (get n j))
-    where
-      go : (o : Option Json) → IsAscending (there of o)
-      go None = ascending_here kind.Missing
-      go (Some k) = each k
+  pub there_ascends : (o : Option Json) → IsAscending (there of o)
+  there_ascends None = ascending_here kind.Missing
+  there_ascends (Some k) = each k
+
+  pub member_ascends : (n : List ℕ) (j : Json) → IsAscending (member_faults n of j)
+  member_ascends n j = ascending_under (name n) (there of (get n j)) (there_ascends (get n j))
 
   if_ascends : (o : Option Json) → IsAscending (if_there of o)
   if_ascends None = ascending_none
   if_ascends (Some j) = each j
 
-object_ascends : (ps : List Pair) (o : Option Members) → IsAscending ps → IsAscending (object_faults ps o)
+pub object_ascends : (ps : List Pair) (o : Option Members) → IsAscending ps → IsAscending (object_faults ps o)
 object_ascends ps None a = ascending_here kind.WrongKind
 object_ascends ps (Some ms) a = a
 
-numeral_ascends : (of : List ℕ → List Pair) → ((text : List ℕ) → IsAscending (of text)) → (o : Option (List ℕ)) → IsAscending (numeral_faults of o)
+pub numeral_ascends : (of : List ℕ → List Pair) → ((text : List ℕ) → IsAscending (of text)) → (o : Option (List ℕ)) → IsAscending (numeral_faults of o)
 numeral_ascends of each None = ascending_here kind.WrongKind
 numeral_ascends of each (Some text) = each text
 
@@ -80,7 +80,7 @@ number_ascends : (s : Measure) (greatest : ℕ) (text : List ℕ) → IsAscendin
 unfolding number_faults
 number_ascends s greatest text = either (is_numeral text && nat_le (steps_of s text) (min greatest (2 ^ 40))) [] (here kind.OutOfRange) ascending_none (ascending_here kind.OutOfRange)
 
-height_ascends : (j : Json) → IsAscending (height_faults j)
+pub height_ascends : (j : Json) → IsAscending (height_faults j)
 height_ascends j = numeral_ascends (λ text. []) (λ text. ascending_none) (as_number j)
 
 module _ (grid : DecimalGrid) where

@@ -12,7 +12,7 @@ pub mod lists;
 pub mod members;
 pub mod outline;
 pub mod part;
-mod position;
+pub mod position;
 mod root;
 
 pub use root::{faults, read_value};

@@ -48,9 +48,12 @@ fn judge_height(alloc: Global, value: &Value<'_>) -> Result<Vec<Fault>, OutOfMem
     }
 }
 
-// The faults of the numbers behind the second.
+/// The faults of the numbers behind the second of a position.
+///
+/// # Errors
+/// Where memory is refused.
 #[tactic(auto, using(crate::proofs::Items::judged_none, crate::proofs::Items::judged_more, crate::proofs::Items::judged_all))]
-fn judge_heights(alloc: Global, values: &[Value<'_>]) -> Result<Vec<Fault>, OutOfMemory>
+pub fn judge_heights(alloc: Global, values: &[Value<'_>]) -> Result<Vec<Fault>, OutOfMemory>
     ensures { IfOk result (λ fs. pairs_of fs.items ≡ each_faults height_faults 2 (items_view (drop 2 values.now))) }
 {
     let mut found = Vec::new(alloc);
@@ -78,8 +81,8 @@ fn judge_both(
     Ok(found)
 }
 
-// Whether a position may have so many numbers.
-fn has_numbers(grid: &DecimalGrid, values: &[Value<'_>]) -> bool
+/// Whether a position may have so many numbers.
+pub fn has_numbers(grid: &DecimalGrid, values: &[Value<'_>]) -> bool
     ensures told { result ≡ may_have grid.now (items_view values.now) }
     ensures two { IsTrue result → 2 ≤ length values.now }
 {

@@ -22,7 +22,7 @@ object_some ps None e = cc
 object_some ps (Some ms) e = refl
 
 -- what has a type is an object
-form_object : (j : Json) (f : Option GeometryForm) → form_of j ≡ Ok f → is_some (as_object j) ≡ true
+pub form_object : (j : Json) (f : Option GeometryForm) → form_of j ≡ Ok f → is_some (as_object j) ≡ true
 form_object null f e = cc
 form_object (boolean b) f e = cc
 form_object (number s) f e = cc

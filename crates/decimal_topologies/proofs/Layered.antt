@@ -1,5 +1,5 @@
 -- Layers one after another, by their names.
-use Rattle.std.proofs.Common.{◌≡◌, ◌≢◌, ℕ, ◌+◌, ◌<◌, ◌≤◌, length, get_or, drop, List, [], ◌∷◌, ◌++◌, refl, sym, ap, ◌∙◌, subst, append_assoc, append-nil}
+use Rattle.std.proofs.Common.{◌≡◌, ◌≢◌, ℕ, ◌+◌, ◌<◌, ◌≤◌, length, get_or, drop, List, [], ◌∷◌, ◌++◌, Option, Some, None, refl, sym, ap, ◌∙◌, subst, append_assoc, append-nil}
 use Rattle.std.proofs.lemmas.List.{drop_more, drop_all}
 use Rattle.std.specs.Borrow.{Bor}
 use Rattle.std.specs.BTreeMap.{insert_entry}
@@ -8,7 +8,8 @@ use Rattle.std.specs.Ordering.{match_ordering, nat_cmp}
 use Rattle.std.specs.declared.cmp.Ordering.{Ordering}
 use Rattle.std.specs.declared.cmp.Ordering.TheVariants.{Less, Equal, Greater}
 use Rattle.std.specs.declared.alloc.Global.{Global}
-use Rattle.json.specs.Json.{Members}
+use Rattle.json.specs.Json.{Json, Members}
+use Rattle.json.specs.Find.{as_object, get}
 use Rattle.json.specs.Value.{value_view, members_view}
 use Rattle.json.specs.declared.value.Value.{Value}
 use Rattle.faults.specs.Path.{name}
@@ -16,10 +17,12 @@ use Rattle.faults.specs.Fault.{Pair}
 use Rattle.fixing.specs.declared.rules.FixingRules.{FixingRules}
 use Rattle.reading.specs.Fault.{under}
 use Rattle.reading.proofs.Faultless.{under_none, first_none, second_none}
+use Rattle.decimal_faults.specs.Parts.{member_faults, object_faults, there}
 use Rattle.decimal_maps.specs.declared.rules.MapRules.{MapRules}
+use Rattle.decimal_faults.proofs.Faulty.{faulty_member}
 use Rattle.decimal_topologies.specs.Features.{layer_faults}
 use Rattle.decimal_topologies.specs.Geometries.{TopologyParts}
-use Rattle.decimal_topologies.specs.Layers.{AreNamedLayers, IsNamedLayer, layers_faults, seen_named, with_members}
+use Rattle.decimal_topologies.specs.Layers.{AreNamedLayers, IsNamedLayer, chosen_faults, layers_faults, seen_named, with_members}
 use Rattle.decimal_topologies.specs.declared.objects.TopologyLayer.{TopologyLayer}
 
 -- a name and a value that are borrowed
@@ -113,3 +116,20 @@ module _ (t : TopologyParts) (rules : MapRules) where
   pub faulty_here : (fixing : FixingRules) (all rest left : List Entry) (e : Entry) (made : List TopologyLayer) → rest ≡ e ∷ left → Made all rest made → layer_faults t rules fixing (value_view e.1.now) ≢ [] → layers_faults t rules fixing (seen_named all) ≢ []
   faulty_here fixing all rest left e made is h faulty = h.faulty fixing (λ none.
       faulty (under_none (name e.0.now) (layer_faults t rules fixing (value_view e.1.now)) (first_none (under (name e.0.now) (layer_faults t rules fixing (value_view e.1.now))) _ (ap (λ es. layers_faults t rules fixing (seen_named es)) (sym is) ∙ none))))
+
+-- ---- the only object that is read
+
+module _ (t : TopologyParts) (rules : MapRules) (fixing : FixingRules) (n : List ℕ) (j : Json) where
+  pub missing_only : None ≡ get n j → chosen_faults t rules fixing (Some n) j ≢ []
+  missing_only e none = go (as_object j) none
+    where
+      go : (o : Option Members) → object_faults (member_faults n (layer_faults t rules fixing) j) o ≡ [] → ⊥
+      go None h = cc
+      go (Some ms) h = let m = ap (λ k. under (name n) (there (layer_faults t rules fixing) k)) e ∙ h in cc
+
+  pub faulty_only : (k : Json) → Some k ≡ get n j → layer_faults t rules fixing k ≢ [] → chosen_faults t rules fixing (Some n) j ≢ []
+  faulty_only k e faulty none = go (as_object j) none
+    where
+      go : (o : Option Members) → object_faults (member_faults n (layer_faults t rules fixing) j) o ≡ [] → ⊥
+      go None h = cc
+      go (Some ms) h = faulty_member n (layer_faults t rules fixing) j k e faulty h

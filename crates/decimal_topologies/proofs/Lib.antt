@@ -1,6 +1,5 @@
 pub mod Snapped
 pub mod Positions
-pub mod Heights
 pub mod Table
 pub mod Fits
 pub mod Numerals
@@ -13,3 +12,5 @@ pub mod Layered
 pub mod Marked
 pub mod Rooted
 pub mod Order
+pub mod SoundGeometries
+pub mod SoundTopologies

@@ -32,65 +32,26 @@ use Rattle.decimal_faults.specs.declared.geometry.GeometryForm.{GeometryForm}
 use Rattle.decimal_faults.specs.declared.geometry.GeometryForm.TheVariants.{Simple, Collection}
 use Rattle.decimal_faults.specs.declared.outline.Outline.{Outline}
 use Rattle.decimal_faults.specs.declared.outline.Outline.TheVariants.{Line, Ring}
+use Rattle.decimal_faults.proofs.Order.{beyond_each, each_ascends, either, height_ascends, list_ascends, member_ascends, object_ascends, there_ascends}
 use Rattle.decimal_topologies.specs.Features.{feature_faults, feature_members_faults, has_features, layer_faults}
 use Rattle.decimal_topologies.specs.Geometries.{TopologyParts, body_faults, body_name, each_geometry_faults, form_faults, form_under, geometries_faults, geometries_in, geometry_faults}
-use Rattle.decimal_topologies.specs.Layers.{Named, layers_faults, layers_if_object, members_in_order, objects_faults, with_members}
+use Rattle.decimal_topologies.specs.Layers.{Named, chosen_faults, layers_faults, layers_if_object, members_in_order, objects_faults, with_members}
 use Rattle.decimal_topologies.specs.Arcs.{arc_faults, arc_items_faults, arcs_faults, faults_if, steps_faults}
 use Rattle.decimal_topologies.specs.Places as place
 use Rattle.decimal_topologies.specs.Places.{both_of, fault_in, first_sums, next_sums, position_faults, step_faults}
 use Rattle.decimal_topologies.specs.Transforms as transform
 use Rattle.decimal_topologies.specs.Transforms.{quantization_of, transform_faults}
-use Rattle.decimal_topologies.specs.Roots.{content_of, if_array, if_there as arcs_if_there, parts_in, topology_faults, topology_members_faults, used_in}
+use Rattle.decimal_topologies.specs.Roots.{chosen, content_of, if_array, if_there as arcs_if_there, parts_in, topology_faults, topology_members_faults, used_in}
 use Rattle.decimal_topologies.specs.declared.axes.Reached.{Reached}
 use Rattle.decimal_topologies.specs.declared.places.Sums.{Sums}
 use Rattle.decimal_topologies.specs.Seen.{Arcs}
 use Rattle.decimal_topologies.specs.Stitching.{along, along_if, are_known, arcs_outline_faults, begins, ends, items_faults, joint_faults, number_faults, numbers_faults, positions_along, ref_of, stitched_faults}
 use Rattle.decimal_topologies.specs.declared.numbers.ArcRef.{ArcRef}
 use Rattle.decimal_topologies.specs.declared.place.Quantization.{Quantization}
+use Rattle.decimal_topologies.specs.declared.rules.TopologyRules.{TopologyRules}
 use Rattle.decimal_topologies.proofs.Nested.{each_is}
 
--- ---- wholes, by their parts
-
-beyond_each : (of : Json → List Pair) (i j : ℕ) (js : Items) → i < j → IsBeyond (index i) (each_faults of j js)
-beyond_each of i j no_items less = beyond_none (index i)
-beyond_each of i j (item k js) less =
-    beyond_append (index i) (under (index j) (of k)) _ (beyond_under (index i) (index j) (of k) (sym (nat_cmp_is i j Less less))) (beyond_each of i (j + 1) js (omega arith))
-
-either : (b : Bool) (ps qs : List Pair) → IsAscending ps → IsAscending qs → IsAscending (if b then ps else qs)
-either true ps qs a b = a
-either false ps qs a b = b
-
-module _ (of : Json → List Pair) (each : (j : Json) → IsAscending (of j)) where
-  each_ascends : (i : ℕ) (js : Items) → IsAscending (each_faults of i js)
-  each_ascends i no_items = ascending_none
-  each_ascends i (item j js) = ascending_more (index i) (of j) _ (each j) (beyond_each of i (i + 1) js (omega arith)) (each_ascends (i + 1) js)
-
-  list_ascends : (j : Json) → IsAscending (list_faults of j)
-  list_ascends j = go (as_array j)
-    where
-      go : (o : Option Items) → IsAscending (array_faults (each_faults of 0) o)
-      go None = ascending_here kind.WrongKind
-      go (Some js) = each_ascends 0 js
-
-  there_ascends : (o : Option Json) → IsAscending (there of o)
-  there_ascends None = ascending_here kind.Missing
-  there_ascends (Some k) = each k
-
-  member_ascends : (n : List ℕ) (j : Json) → IsAscending (member_faults n of j)
-  member_ascends n j = ascending_under (name n) (there of (get n j)) (there_ascends (get n j))
-
-object_ascends : (ps : List Pair) (o : Option Members) → IsAscending ps → IsAscending (object_faults ps o)
-object_ascends ps None a = ascending_here kind.WrongKind
-object_ascends ps (Some ms) a = a
-
 -- ---- positions
-
-height_ascends : (j : Json) → IsAscending (height_faults j)
-height_ascends j = go (as_number j)
-  where
-    go : (o : Option (List ℕ)) → IsAscending (numeral_faults (λ text. []) o)
-    go None = ascending_here kind.WrongKind
-    go (Some text) = ascending_none
 
 fault_ascends : (r : Result (Option Reached) FaultKind) → IsAscending (fault_in r)
 fault_ascends (Err k) = ascending_here k
@@ -344,6 +305,10 @@ module _ (t : TopologyParts) (rules : MapRules) (fixing : FixingRules) where
       go None = ascending_here kind.WrongKind
       go (Some ms) = layers_ascend (members_in_order ms) (members_are_in_order [] ms tt)
 
+  pub chosen_ascend : (n : Option (List ℕ)) (j : Json) → IsAscending (chosen_faults t rules fixing n j)
+  chosen_ascend None j = objects_ascend j
+  chosen_ascend (Some n) j = object_ascends _ (as_object j) (member_ascends (layer_faults t rules fixing) layer_ascends n j)
+
 -- ---- the transform
 
 number_is : (j : Json) → IsAscending (transform.number_faults j)
@@ -393,12 +358,12 @@ transform_ascends j = ascending_under (name (codes "transform")) (if_there trans
 
 -- ---- the root
 
-module _ (rules : MapRules) (fixing : FixingRules) (j : Json) where
+module _ (rules : TopologyRules) (fixing : FixingRules) (j : Json) where
   both_ascend : (q : Quantization) (js : Items) → IsAscending (content_of q rules fixing j js)
   both_ascend q js =
-      let of = objects_faults (parts_in q j js) rules fixing in
-      ascending_more (name (codes "arcs")) (arcs_faults q (used_in j js) 0 js) (member_faults (codes "objects") of j) (arcs_ascend q (used_in j js) 0 js)
-      (beyond_under (name (codes "arcs")) (name (codes "objects")) (there of (get (codes "objects") j)) refl) (member_ascends of (objects_ascend (parts_in q j js) rules fixing) (codes "objects") j)
+      let of = chosen_faults (parts_in rules q j js) rules.map fixing (chosen rules) in
+      ascending_more (name (codes "arcs")) (arcs_faults q (used_in rules j js) 0 js) (member_faults (codes "objects") of j) (arcs_ascend q (used_in rules j js) 0 js)
+      (beyond_under (name (codes "arcs")) (name (codes "objects")) (there of (get (codes "objects") j)) refl) (member_ascends of (chosen_ascend (parts_in rules q j js) rules.map fixing (chosen rules)) (codes "objects") j)
 
   array_ascends : (q : Quantization) (o : Option Items) → IsAscending (if_array q rules fixing j o)
   array_ascends q None = ascending_under (name (codes "arcs")) (here kind.WrongKind) (ascending_here kind.WrongKind)
@@ -409,7 +374,7 @@ module _ (rules : MapRules) (fixing : FixingRules) (j : Json) where
   content_ascends q (Some a) = array_ascends q (as_array a)
 
   root_ascends : IsAscending (topology_members_faults rules fixing j)
-  root_ascends = ascending_unless (transform_faults j) _ (transform_ascends j) (content_ascends (quantization_of rules.grid j) (get (codes "arcs") j))
+  root_ascends = ascending_unless (transform_faults j) _ (transform_ascends j) (content_ascends (quantization_of rules.map.grid j) (get (codes "arcs") j))
 
   pub topology_in_order : (qs : List Pair) → qs ≡ topology_faults rules fixing j → IsAscending qs
   topology_in_order qs is =

@@ -14,13 +14,13 @@ use Rattle.reading.specs.Fault.{under, unless_faulty}
 use Rattle.reading.specs.Parts.{named, of_type, typed_faults}
 use Rattle.reading.proofs.Faultless.{first_none, second_none, under_none, unless_none}
 use Rattle.decimal_faults.specs.Parts.{member_faults, type_text}
-use Rattle.decimal_maps.specs.declared.rules.MapRules.{MapRules}
 use Rattle.decimal_topologies.specs.Arcs.{arcs_faults}
-use Rattle.decimal_topologies.specs.Layers.{objects_faults}
+use Rattle.decimal_topologies.specs.Layers.{chosen_faults}
 use Rattle.decimal_topologies.specs.Places.{count_of}
-use Rattle.decimal_topologies.specs.Roots.{content_faults, content_of, if_array, if_there, parts_in, topology_faults, topology_members_faults, used_in}
+use Rattle.decimal_topologies.specs.Roots.{chosen, content_faults, content_of, if_array, if_there, parts_in, topology_faults, topology_members_faults, used_in}
 use Rattle.decimal_topologies.specs.Transforms.{quantization_of, transform_faults}
 use Rattle.decimal_topologies.specs.declared.place.Quantization.{Quantization}
+use Rattle.decimal_topologies.specs.declared.rules.TopologyRules.{TopologyRules}
 use Rattle.decimal_topologies.proofs.Faulty.{object_none, object_some}
 
 pub count_is : (vs : List (Value Global)) → length vs ≡ count_of (items_view vs)
@@ -32,7 +32,7 @@ count_is (v ∷ vs) = omega (arith, count_is vs)
 abbrev pub root_type : Json → Result Unit FaultKind
 root_type j = named (of_type (codes "Topology")) (type_text j)
 
-typed_object : (j : Json) (u : Unit {0}) → root_type j ≡ Ok u → is_some (as_object j) ≡ true
+pub typed_object : (j : Json) (u : Unit {0}) → root_type j ≡ Ok u → is_some (as_object j) ≡ true
 typed_object null u e = cc
 typed_object (boolean b) u e = cc
 typed_object (number s) u e = cc
@@ -51,7 +51,7 @@ text_is j u e = go (type_text j) refl e
     go (Err k) is e = cc
     go (Ok s) is e = is ∙ ap Ok (same s (bytes_eq s (codes "Topology")) refl e)
 
-module _ (rules : MapRules) (fixing : FixingRules) (j : Json) where
+module _ (rules : TopologyRules) (fixing : FixingRules) (j : Json) where
   pub faulty_members : (u : Unit {0}) → root_type j ≡ Ok u → topology_members_faults rules fixing j ≢ [] → topology_faults rules fixing j ≢ []
   faulty_members u e faulty n =
       faulty (sym (ap (typed_faults (λ t. topology_members_faults rules fixing j)) e) ∙ (sym (object_some _ (as_object j) (typed_object j u e)) ∙ n))
@@ -68,8 +68,8 @@ module _ (rules : MapRules) (fixing : FixingRules) (j : Json) where
   pub faulty_transform : transform_faults j ≢ [] → topology_members_faults rules fixing j ≢ []
   faulty_transform faulty n = faulty (unless_none (transform_faults j) _ n)
 
-  pub faulty_content : transform_faults j ≡ [] → content_faults (quantization_of rules.grid j) rules fixing j ≢ [] → topology_members_faults rules fixing j ≢ []
-  faulty_content none faulty n = faulty (sym (ap (λ ps. unless_faulty ps (content_faults (quantization_of rules.grid j) rules fixing j)) none) ∙ n)
+  pub faulty_content : transform_faults j ≡ [] → content_faults (quantization_of rules.map.grid j) rules fixing j ≢ [] → topology_members_faults rules fixing j ≢ []
+  faulty_content none faulty n = faulty (sym (ap (λ ps. unless_faulty ps (content_faults (quantization_of rules.map.grid j) rules fixing j)) none) ∙ n)
 
   pub no_arcs : (q : Quantization) → None ≡ get (codes "arcs") j → content_faults q rules fixing j ≢ []
   no_arcs q is n = let m = ap (if_there q rules fixing j) is ∙ n in cc
@@ -80,9 +80,9 @@ module _ (rules : MapRules) (fixing : FixingRules) (j : Json) where
   pub faulty_array : (q : Quantization) (a : Json) (js : Items) → Some a ≡ get (codes "arcs") j → Some js ≡ as_array a → content_of q rules fixing j js ≢ [] → content_faults q rules fixing j ≢ []
   faulty_array q a js is some faulty n = faulty (ap (if_array q rules fixing j) some ∙ (ap (if_there q rules fixing j) is ∙ n))
 
-  pub faulty_arcs : (q : Quantization) (js : Items) → arcs_faults q (used_in j js) 0 js ≢ [] → content_of q rules fixing j js ≢ []
+  pub faulty_arcs : (q : Quantization) (js : Items) → arcs_faults q (used_in rules j js) 0 js ≢ [] → content_of q rules fixing j js ≢ []
   faulty_arcs q js faulty n =
-      faulty (under_none (name (codes "arcs")) (arcs_faults q (used_in j js) 0 js) (first_none (under (name (codes "arcs")) (arcs_faults q (used_in j js) 0 js)) (member_faults (codes "objects") (objects_faults (parts_in q j js) rules fixing) j) n))
+      faulty (under_none (name (codes "arcs")) (arcs_faults q (used_in rules j js) 0 js) (first_none (under (name (codes "arcs")) (arcs_faults q (used_in rules j js) 0 js)) (member_faults (codes "objects") (chosen_faults (parts_in rules q j js) rules.map fixing (chosen rules)) j) n))
 
-  pub faulty_objects : (q : Quantization) (js : Items) → member_faults (codes "objects") (objects_faults (parts_in q j js) rules fixing) j ≢ [] → content_of q rules fixing j js ≢ []
-  faulty_objects q js faulty n = faulty (second_none (under (name (codes "arcs")) (arcs_faults q (used_in j js) 0 js)) (member_faults (codes "objects") (objects_faults (parts_in q j js) rules fixing) j) n)
+  pub faulty_objects : (q : Quantization) (js : Items) → member_faults (codes "objects") (chosen_faults (parts_in rules q j js) rules.map fixing (chosen rules)) j ≢ [] → content_of q rules fixing j js ≢ []
+  faulty_objects q js faulty n = faulty (second_none (under (name (codes "arcs")) (arcs_faults q (used_in rules j js) 0 js)) (member_faults (codes "objects") (chosen_faults (parts_in rules q j js) rules.map fixing (chosen rules)) j) n)

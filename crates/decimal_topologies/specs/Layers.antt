@@ -6,7 +6,7 @@ use Rattle.std.specs.Cmp.Lexicographic.{slice_cmp}
 use Rattle.std.specs.Ordering.{nat_cmp}
 use Rattle.std.specs.declared.alloc.Global.{Global}
 use Rattle.json.specs.Json.{Json, Members, no_members, member}
-use Rattle.json.specs.Find.{as_object}
+use Rattle.json.specs.Find.{as_object, get}
 use Rattle.json.specs.Value.{value_view}
 use Rattle.json.specs.declared.value.Value.{Value}
 use Rattle.faults.specs.Path.{name}
@@ -14,6 +14,7 @@ use Rattle.faults.specs.Fault.{Pair}
 use Rattle.faults.specs.declared.fault.FaultKind.TheVariants.{WrongKind}
 use Rattle.fixing.specs.declared.rules.FixingRules.{FixingRules}
 use Rattle.reading.specs.Fault.{here, under}
+use Rattle.decimal_faults.specs.Parts.{member_faults, object_faults}
 use Rattle.decimal_maps.specs.declared.rules.MapRules.{MapRules}
 use Rattle.decimal_topologies.specs.Features.{IsLayer, layer_faults}
 use Rattle.decimal_topologies.specs.Geometries.{TopologyParts}
@@ -45,6 +46,11 @@ layers_if_object t rules fixing (Some ms) = layers_faults t rules fixing (member
 abbrev pub objects_faults : TopologyParts → MapRules → FixingRules → Json → List Pair
 objects_faults t rules fixing j = layers_if_object t rules fixing (as_object j)
 
+-- the faults of `objects`, or of the only object that is read, which has to be there; others are not looked at then
+abbrev pub chosen_faults : TopologyParts → MapRules → FixingRules → Option (List ℕ) → Json → List Pair
+chosen_faults t rules fixing None j = objects_faults t rules fixing j
+chosen_faults t rules fixing (Some n) j = object_faults (member_faults n (layer_faults t rules fixing) j) (as_object j)
+
 -- ---- meaning
 
 -- a layer by its name
@@ -63,6 +69,19 @@ pub record AreLayers (t : TopologyParts) (rules : MapRules) (j : Json) (xs : Lis
   pub members : Members
   pub is : Some members ≡ as_object j
   pub each : AreNamedLayers t rules (members_in_order members) xs
+
+-- the layer of that name alone
+pub record IsOnlyLayer (t : TopologyParts) (rules : MapRules) (n : List ℕ) (j : Json) (xs : List TopologyLayer) : Type 0 where
+  pub value : Json
+  pub there : get n j ≡ Some value
+  pub layer : TopologyLayer
+  pub only : xs ≡ layer ∷ []
+  pub is : IsNamedLayer t rules (n, value) layer
+
+-- the layers of `objects`, or the only one that is read
+abbrev pub AreChosenLayers : TopologyParts → MapRules → Option (List ℕ) → Json → List TopologyLayer → Type 0
+AreChosenLayers t rules None j xs = AreLayers t rules j xs
+AreChosenLayers t rules (Some n) j xs = IsOnlyLayer t rules n j xs
 
 -- names and values that are borrowed
 abbrev pub seen_named : List (Bor (List ℕ) × Bor (Value Global)) → Named

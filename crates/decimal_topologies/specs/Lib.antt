@@ -11,3 +11,4 @@ pub mod Features
 pub mod Layers
 pub mod Used
 pub mod Roots
+pub mod Laws

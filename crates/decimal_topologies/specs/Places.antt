@@ -69,6 +69,7 @@ first_sums = record { x = Some (pos 0); y = Some (pos 0) }
 abbrev pub no_place : Place
 no_place = record { at = position_at (pos 0) (pos 0); far = 0; heights = 0 }
 
+-- how many items there are
 abbrev pub count_of : Items → ℕ
 count_of no_items = 0
 count_of (item j js) = 1 + count_of js

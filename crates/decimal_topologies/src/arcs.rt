@@ -27,9 +27,10 @@ struct ReadArc {
 
 /// What was read of the arcs that are used.
 #[derive(Drop)]
-struct ReadArcs {
-    faults: Vec<Fault>,
-    arcs: Vec<Option<Vec<Place>>>,
+pub struct ReadArcs {
+    pub faults: Vec<Fault>,
+    /// The table of arcs. Of one that isn't used or has a fault nothing is known.
+    pub arcs: Vec<Option<Vec<Place>>>,
 }
 
 // The positions of an arc.
@@ -110,9 +111,12 @@ fn read_used(
     Ok((arc.faults, if known { Some(arc.places) } else { None }))
 }
 
-// The arcs that are used.
+/// The arcs that are used, and all their faults.
+///
+/// # Errors
+/// Where memory is refused.
 #[tactic(auto, using(crate::proofs::Table::table_none, crate::proofs::Table::table_faults_all, crate::proofs::Table::table_arcs_all))]
-fn read_all(
+pub fn read_arcs(
     alloc: Global,
     quantization: &Quantization,
     used: &[bool],
@@ -133,40 +137,6 @@ fn read_all(
     Ok(ReadArcs { faults, arcs })
 }
 
-/// All faults of the arcs that are used.
-///
-/// # Errors
-/// Where memory is refused.
-pub fn judge_arcs(
-    alloc: Global,
-    quantization: &Quantization,
-    used: &[bool],
-    values: &[Value<'_>],
-) -> Result<Vec<Fault>, OutOfMemory>
-    requires { length used.now ≡ length values.now }
-    ensures { IfOk result (λ fs. pairs_of fs.items ≡ arcs_faults quantization.now used.now 0 (items_view values.now)) }
-{
-    let read = read_all(alloc, quantization, used, values)?;
-    Ok(read.faults)
-}
-
-/// The table of the arcs that are used. Of one that has a fault nothing is known.
-///
-/// # Errors
-/// Where memory is refused.
-pub fn read_arcs(
-    alloc: Global,
-    quantization: &Quantization,
-    used: &[bool],
-    values: &[Value<'_>],
-) -> Result<Vec<Option<Vec<Place>>>, OutOfMemory>
-    requires { length used.now ≡ length values.now }
-    ensures { IfOk result (λ arcs. seen_arcs arcs.items ≡ arcs_of quantization.now used.now (items_view values.now)) }
-{
-    let read = read_all(alloc, quantization, used, values)?;
-    Ok(read.arcs)
-}
-
 /// The table of the arcs that are used, none of which may have a fault.
 ///
 /// # Errors
@@ -182,7 +152,7 @@ pub fn make_arcs(
     ensures ok { OnOk result (arcs_faults quantization.now used.now 0 (items_view values.now) ≡ []) }
     ensures refused { result ≡ Err Stop.Unread → arcs_faults quantization.now used.now 0 (items_view values.now) ≢ [] }
 {
-    let read = match read_all(alloc, quantization, used, values) {
+    let read = match read_arcs(alloc, quantization, used, values) {
         Ok(read) => read,
         Err(_) => return Err(Stop::OutOfMemory),
     };

@@ -115,13 +115,16 @@ fn has_features(value: &Value<'_>) -> bool
     }
 }
 
-// A list of one feature.
-fn only(alloc: Global, feature: RawFeature) -> Result<Vec<RawFeature>, Stop>
-    ensures made { IfOk result (λ fs. fs.items ≡ feature ∷ []) }
+/// A list of one item.
+///
+/// # Errors
+/// `OutOfMemory`.
+pub fn only<T: Drop>(alloc: Global, item: T) -> Result<Vec<T>, Stop>
+    ensures made { IfOk result (λ xs. xs.items ≡ item ∷ []) }
     ensures memory { result ≢ Err Stop.Unread }
 {
     let mut found = Vec::new(alloc);
-    keep(&mut found, feature)?;
+    keep(&mut found, item)?;
     Ok(found)
 }
 
@@ -161,5 +164,39 @@ pub fn make_layer(
     match of.make(alloc, value, &mut ()) {
         Ok(feature) => only(alloc, feature),
         Err(stop) => Err(stop),
+    }
+}
+
+/// A layer.
+#[derive(Clone, Copy)]
+pub struct LayerOf<'m, 'r, 't> {
+    pub of: FeatureOf<'m, 'r, 't>,
+}
+
+impl<'m, 'r, 't> Part for LayerOf<'m, 'r, 't> {
+    type Made = Vec<RawFeature>;
+
+    type Count = ();
+
+    ghost faults = { λ p fixing. layer_faults (parts_of p.of.topology.now) p.of.rules.now fixing };
+
+    ghost means = { λ p j fs a b. IsLayer (parts_of p.of.topology.now) p.of.rules.now j fs.items };
+
+    fn judge(
+        &self,
+        alloc: Global,
+        fixing: &FixingRules,
+        value: &Value<'_>,
+    ) -> Result<Vec<Fault>, OutOfMemory> {
+        judge_layer(alloc, &self.of, fixing, value)
+    }
+
+    fn make(
+        &self,
+        alloc: Global,
+        value: &Value<'_>,
+        _count: &mut (),
+    ) -> Result<Vec<RawFeature>, Stop> {
+        make_layer(alloc, &self.of, value)
     }
 }

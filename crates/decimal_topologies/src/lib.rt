@@ -9,14 +9,17 @@ mod axes;
 mod bodies;
 mod feature;
 mod geometry;
+pub mod laws;
 mod numbers;
 pub mod objects;
 pub mod place;
 mod places;
 mod root;
+pub mod rules;
 mod stitching;
 mod transform;
 mod used;
 
 pub use objects::TopologyLayer;
 pub use root::{is_topology, read_topology, topology_faults};
+pub use rules::TopologyRules;

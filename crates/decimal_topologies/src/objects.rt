@@ -1,15 +1,16 @@
 //! The layers of a topology: the members of `objects` (TopoJSON, section 2.1.5).
 ghost use Rattle.decimal_topologies.specs.Geometries.{parts_of};
 ghost use Rattle.decimal_topologies.specs.Features.{layer_faults};
-ghost use Rattle.decimal_topologies.specs.Layers.{AreLayers, AreNamedLayers, IsNamedLayer, layers_faults, members_in_order as in_order, objects_faults, seen_named};
+ghost use Rattle.decimal_topologies.specs.Layers.{AreChosenLayers, AreLayers, AreNamedLayers, IsNamedLayer, IsOnlyLayer, chosen_faults, layers_faults, members_in_order as in_order, objects_faults, seen_named};
 ghost use Rattle.fixing.specs.declared.rules.FixingRules.{FixingRules as Rules};
 ghost use Rattle.json.specs.Find.{as_object};
 ghost use Rattle.json.specs.Value.{value_view, members_view};
 ghost use Rattle.reading.specs.FaultLists.Found.{pairs_of};
-ghost use Rattle.std.specs.Prelude.{◌≡◌, ◌≢◌, [], IfOk, Err, option_map};
+ghost use Rattle.std.specs.Prelude.{◌≡◌, ◌≢◌, [], IfOk, Err, Some, option_map};
 
-use crate::feature::{FeatureOf, judge_layer, make_layer};
+use crate::feature::{FeatureOf, LayerOf, judge_layer, make_layer, only};
 use decimal_faults::lists::keep;
+use decimal_faults::members::{is_object, judge_member};
 use decimal_faults::part::Part;
 use decimal_maps::{RawFeature, Stop};
 use faults::OutOfMemory;
@@ -115,10 +116,82 @@ fn make_layers(
     Ok(found)
 }
 
-/// The member `objects` of a topology.
+// The faults of all objects.
+fn judge_all(
+    alloc: Global,
+    of: &FeatureOf<'_, '_, '_>,
+    fixing: &FixingRules,
+    value: &Value<'_>,
+) -> Result<Vec<Fault>, OutOfMemory>
+    ensures { IfOk result (λ fs. pairs_of fs.items ≡ objects_faults (parts_of of.now.topology.now) of.now.rules.now fixing.now (value_view value.now)) }
+{
+    match members_of(value) {
+        Some(members) => {
+            let layers = members_in_order(alloc, members)?;
+            judge_layers(alloc, of, fixing, &layers)
+        }
+        None => { Ok(one(alloc, FaultKind::WrongKind)?) }
+    }
+}
+
+// The layers of all objects.
+fn make_all(
+    alloc: Global,
+    of: &FeatureOf<'_, '_, '_>,
+    value: &Value<'_>,
+) -> Result<Vec<TopologyLayer>, Stop>
+    ensures made { IfOk result (λ xs. AreLayers (parts_of of.now.topology.now) of.now.rules.now (value_view value.now) xs.items) }
+    ensures refused { result ≡ Err Stop.Unread → (fixing : Rules) → objects_faults (parts_of of.now.topology.now) of.now.rules.now fixing (value_view value.now) ≢ [] }
+{
+    match members_of(value) {
+        Some(members) => match members_in_order(alloc, members) {
+            Ok(layers) => make_layers(alloc, of, &layers),
+            Err(_) => Err(Stop::OutOfMemory),
+        },
+        None => Err(Stop::Unread),
+    }
+}
+
+// The faults of the object of that name, which has to be there.
+fn judge_only(
+    alloc: Global,
+    of: &FeatureOf<'_, '_, '_>,
+    fixing: &FixingRules,
+    value: &Value<'_>,
+    name: &str,
+) -> Result<Vec<Fault>, OutOfMemory>
+    ensures { IfOk result (λ fs. pairs_of fs.items ≡ chosen_faults (parts_of of.now.topology.now) of.now.rules.now fixing.now (Some name.now) (value_view value.now)) }
+{
+    if !is_object(value) {
+        return Ok(one(alloc, FaultKind::WrongKind)?);
+    }
+    judge_member(alloc, &LayerOf { of: *of }, fixing, value, name)
+}
+
+// The layer of the object of that name.
+fn make_only(
+    alloc: Global,
+    of: &FeatureOf<'_, '_, '_>,
+    value: &Value<'_>,
+    name: &str,
+) -> Result<Vec<TopologyLayer>, Stop>
+    ensures made { IfOk result (λ xs. IsOnlyLayer (parts_of of.now.topology.now) of.now.rules.now name.now (value_view value.now) xs.items) }
+    ensures refused { result ≡ Err Stop.Unread → (fixing : Rules) → chosen_faults (parts_of of.now.topology.now) of.now.rules.now fixing (Some name.now) (value_view value.now) ≢ [] }
+{
+    match value.get(name) {
+        Some(there) => match make_named(alloc, of, name, there) {
+            Ok(layer) => only(alloc, layer),
+            Err(stop) => Err(stop),
+        },
+        None => Err(Stop::Unread),
+    }
+}
+
+/// The member `objects` of a topology, of which one object alone may be read.
 #[derive(Clone, Copy)]
 pub struct LayersOf<'m, 'r, 't> {
     pub of: FeatureOf<'m, 'r, 't>,
+    pub layer: Option<&'m str>,
 }
 
 impl<'m, 'r, 't> Part for LayersOf<'m, 'r, 't> {
@@ -126,9 +199,9 @@ impl<'m, 'r, 't> Part for LayersOf<'m, 'r, 't> {
 
     type Count = ();
 
-    ghost faults = { λ p fixing. objects_faults (parts_of p.of.topology.now) p.of.rules.now fixing };
+    ghost faults = { λ p fixing. chosen_faults (parts_of p.of.topology.now) p.of.rules.now fixing (option_map (λ n. n.now) p.layer) };
 
-    ghost means = { λ p j xs a b. AreLayers (parts_of p.of.topology.now) p.of.rules.now j xs.items };
+    ghost means = { λ p j xs a b. AreChosenLayers (parts_of p.of.topology.now) p.of.rules.now (option_map (λ n. n.now) p.layer) j xs.items };
 
     fn judge(
         &self,
@@ -136,12 +209,9 @@ impl<'m, 'r, 't> Part for LayersOf<'m, 'r, 't> {
         fixing: &FixingRules,
         value: &Value<'_>,
     ) -> Result<Vec<Fault>, OutOfMemory> {
-        match members_of(value) {
-            Some(members) => {
-                let layers = members_in_order(alloc, members)?;
-                judge_layers(alloc, &self.of, fixing, &layers)
-            }
-            None => { Ok(one(alloc, FaultKind::WrongKind)?) }
+        match self.layer {
+            Some(name) => judge_only(alloc, &self.of, fixing, value, name),
+            None => judge_all(alloc, &self.of, fixing, value),
         }
     }
 
@@ -151,12 +221,9 @@ impl<'m, 'r, 't> Part for LayersOf<'m, 'r, 't> {
         value: &Value<'_>,
         _count: &mut (),
     ) -> Result<Vec<TopologyLayer>, Stop> {
-        match members_of(value) {
-            Some(members) => match members_in_order(alloc, members) {
-                Ok(layers) => make_layers(alloc, &self.of, &layers),
-                Err(_) => Err(Stop::OutOfMemory),
-            },
-            None => Err(Stop::Unread),
+        match self.layer {
+            Some(name) => make_only(alloc, &self.of, value, name),
+            None => make_all(alloc, &self.of, value),
         }
     }
 }

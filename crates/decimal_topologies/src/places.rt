@@ -1,6 +1,4 @@
 //! Positions, each behind the sums of those before (TopoJSON, section 2.1.3).
-ghost use Rattle.decimal_faults.specs.Parts.{each_faults};
-ghost use Rattle.decimal_faults.specs.Positions.{height_faults, may_have};
 ghost use Rattle.decimal_topologies.specs.Placed.{IsPlaced};
 ghost use Rattle.decimal_topologies.specs.Places as spec;
 ghost use Rattle.decimal_topologies.specs.Places.{first_sums, no_place, no_sums, place_behind, position_faults, step_faults};
@@ -10,13 +8,14 @@ ghost use Rattle.json.specs.Value.{value_view, items_view};
 ghost use Rattle.reading.specs.Fault.{here};
 ghost use Rattle.reading.specs.FaultLists.Found.{pairs_of};
 ghost use Rattle.reading.specs.Positions.{clamped, position_at};
-ghost use Rattle.std.specs.Prelude.{◌≡◌, ◌≤◌, drop, length, IfOk, IsTrue};
+ghost use Rattle.std.specs.Prelude.{◌≡◌, ◌≤◌, length, IfOk};
 
 use crate::axes::{Reached, x_number, y_number};
 use crate::place::{Place, Quantization};
 use decimal_faults::lists::items_of;
 use decimal_faults::part::Part;
-use decimal_maps::{DecimalGrid, Stop, Tally};
+use decimal_faults::position::{has_numbers, judge_heights};
+use decimal_maps::{Stop, Tally};
 use faults::OutOfMemory;
 use faults::fault::{Fault, FaultKind};
 use fixing::FixingRules;
@@ -171,37 +170,6 @@ fn judge_both(alloc: Global, both: Both) -> Result<Vec<Fault>, OutOfMemory>
     put_under_index(&mut found, x, 0)?;
     put_under_index(&mut found, y, 1)?;
     Ok(found)
-}
-
-// The fault of a number behind the second.
-fn judge_height(alloc: Global, value: &Value<'_>) -> Result<Vec<Fault>, OutOfMemory>
-    ensures { IfOk result (λ fs. pairs_of fs.items ≡ height_faults (value_view value.now)) }
-{
-    match value.as_number() {
-        Some(_) => Ok(Vec::new(alloc)),
-        None => { Ok(one(alloc, FaultKind::WrongKind)?) }
-    }
-}
-
-// The faults of the numbers behind the second.
-#[tactic(auto, using(crate::proofs::Heights::judged_none, crate::proofs::Heights::judged_more, crate::proofs::Heights::judged_all))]
-fn judge_heights(alloc: Global, values: &[Value<'_>]) -> Result<Vec<Fault>, OutOfMemory>
-    ensures { IfOk result (λ fs. pairs_of fs.items ≡ each_faults height_faults 2 (items_view (drop 2 values.now))) }
-{
-    let mut found = Vec::new(alloc);
-    for i in 2..values.len() {
-        let height = judge_height(alloc, &values[i])?;
-        put_under_index(&mut found, height, i)?;
-    }
-    Ok(found)
-}
-
-// Whether a position may have so many numbers.
-fn has_numbers(grid: &DecimalGrid, values: &[Value<'_>]) -> bool
-    ensures told { result ≡ may_have grid.now (items_view values.now) }
-    ensures two { IsTrue result → 2 ≤ length values.now }
-{
-    values.len() == 2 || (values.len() > 2 && !grid.refuses_heights)
 }
 
 // Two numbers or more.

@@ -3,6 +3,7 @@ pub mod Boxes
 pub mod Numbers
 pub mod Parts
 pub mod Powers
+pub mod Properties
 pub mod SinkLemmas
 pub mod Transforms
 pub mod Whole

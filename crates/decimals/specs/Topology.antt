@@ -1,4 +1,5 @@
 pub mod Turning
+pub mod LayersBack
 pub mod Unit
 pub mod QuantizedAxis
 pub mod Quantizing

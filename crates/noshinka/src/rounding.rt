@@ -52,6 +52,7 @@ fn rules_within(numeral: &[u8], greatest_x: u64, greatest_y: u64) -> Option<Roun
         },
         fixing: FIXING,
         numbers: false,
+        layer: None,
     })
 }
 

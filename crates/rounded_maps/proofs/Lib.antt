@@ -3,6 +3,8 @@ mod Vertices
 mod Ends
 mod Layers
 mod Fixing
+mod Either
+mod Contents
 mod Faultless
 mod Parts
 mod Repeats
@@ -10,4 +12,3 @@ mod LayerOrder
 mod Placed
 mod Reading
 mod Same
-mod Either

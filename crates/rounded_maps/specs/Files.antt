@@ -8,13 +8,19 @@ use Rattle.rounded_maps.specs.declared.map.RoundedMap.{RoundedMap}
 use Rattle.rounded_maps.specs.declared.rounding.RoundingRules.{RoundingRules}
 use Rattle.rounded_maps.specs.declared.source.Source.{Source}
 
--- a file: whether it is a sequence of texts, and its bytes
-abbrev pub File : Type 0
-File = Bool × List ℕ
+-- a file: whether it is a sequence of texts, whether the caller's name counts for the only object of a topology, and its bytes
+pub record File : Type 0 where
+  pub is_sequence : Bool
+  pub is_named : Bool
+  pub bytes : List ℕ
+
+-- the file of these bytes
+abbrev pub file_of : Bool → Bool → List ℕ → File
+file_of is_sequence is_named bytes = record { is_sequence = is_sequence; is_named = is_named; bytes = bytes }
 
 -- the files of sources, of which these are the bytes
 abbrev pub files_of : {T : Type 0} → (T → List ℕ) → List (Source T) → List File
-files_of items sources = map_list (λ s. (s.is_sequence, items s.bytes)) sources
+files_of items sources = map_list (λ s. file_of s.is_sequence s.is_named (items s.bytes)) sources
 
 -- from the file at that place, which gives it no name
 abbrev pub origin_of : ℕ → Origin
@@ -23,14 +29,14 @@ origin_of place = record { text = place; layer = None }
 -- the map of a file of GeoJSON, which has no name
 pub record IsOfGeoJson (rules : RoundingRules) (place : ℕ) (file : File) (maps : List RoundedMap) (origins : List Origin) : Type 0 where
   pub map : RoundedMap
-  pub rounded : IsRounded rules file.0 file.1 map
+  pub rounded : IsRounded rules file.is_sequence file.bytes map
   pub only : maps ≡ map ∷ []
   pub from : origins ≡ origin_of place ∷ []
 
 -- the maps of a file that is one text, a topology
 pub record AreOfTopology (rules : RoundingRules) (place : ℕ) (file : File) (maps : List RoundedMap) (origins : List Origin) : Type 0 where
-  pub one : file.0 ≡ false
-  pub text : IsTopologyText rules place (without_mark file.1) maps origins
+  pub one : file.is_sequence ≡ false
+  pub text : IsTopologyText rules place file.is_named (without_mark file.bytes) maps origins
 
 -- the maps of the file at a place, and where they are from
 abbrev pub AreOfFile : RoundingRules → ℕ → File → List RoundedMap → List Origin → Type 0

@@ -1,9 +1,10 @@
 pub mod Sequences
 pub mod Fixed
 pub mod Rounded
-pub mod Laws
 pub mod Topologies
 pub mod Files
+pub mod Laws
+pub mod Contents
 pub mod Joined
 pub mod Outcomes
 pub mod Refusals

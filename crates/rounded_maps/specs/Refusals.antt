@@ -36,7 +36,7 @@ pub record IsTaken (rules : RoundingRules) (place : ℕ) (file : File) : Type 0 
 abbrev pub IsFirstFrom : RoundingRules → ℕ → List File → ℕ → Fault → Type 0
 IsFirstFrom rules n [] place fault = ⊥
 IsFirstFrom rules n (file ∷ files) place fault =
-    ((place ≡ n) × IsRefusedText (file_faults rules file.0 file.1) fault) ⊎ (IsTaken rules n file × IsFirstFrom rules (n + 1) files place fault)
+    ((place ≡ n) × IsRefusedText (file_faults rules file.is_sequence file.bytes) fault) ⊎ (IsTaken rules n file × IsFirstFrom rules (n + 1) files place fault)
 
 -- the first file that is refused, or memory was
 abbrev pub IsMapsRefusal : RoundingRules → ℕ → List File → MapsFault → Type 0

@@ -3,8 +3,9 @@ ghost use Rattle.reading.specs.Meant.{AreFeatures};
 ghost use Rattle.reading.specs.Plain.{Plain, plain};
 ghost use Rattle.rounded_maps.specs.Built.{AreLayersWith, AreMaps, HaveSame, IsBuilt, IsReport, plain_features, plain_of};
 ghost use Rattle.rounded_maps.specs.Equal.{AreEqualIf};
-ghost use Rattle.rounded_maps.specs.Files.{AreRounded, files_of, layer_of};
+ghost use Rattle.rounded_maps.specs.Files.{AreRounded, File as OneFile, files_of, layer_of};
 ghost use Rattle.rounded_maps.specs.Joined.{AreCountsIf, AreJoinedMaps, AreJoinedWithin, AreVertexUses, shapes_in};
+ghost use Rattle.rounded_maps.specs.Laws.{AreFaultless};
 ghost use Rattle.rounded_maps.specs.Outcomes.{AreOutcomes};
 ghost use Rattle.rounded_maps.specs.Refusals.{IsMapsRefusal, IsTextFault};
 ghost use Rattle.rounded_maps.specs.Unjoined.{AreUnjoined, AreUnjoinedTexts, file_at, of_file};
@@ -14,7 +15,7 @@ ghost use Rattle.shapes.specs.Maps.{set_of as features_set};
 ghost use Rattle.snapping.specs.NearlyShared.Joined.{target_in};
 ghost use Rattle.snapping.specs.NearlyShared.Uses.{shapes_uses};
 ghost use Rattle.std.specs.FinMap as finite;
-ghost use Rattle.std.specs.Prelude.{◌≡◌, ◌⊎◌, ◌+◌, ◌++◌, ◌∷◌, [], ℕ, Bool, IfErr, IfOk, List, OnOk, get_or, length, map, string_bytes};
+ghost use Rattle.std.specs.Prelude.{◌≡◌, ◌⊎◌, ◌+◌, ◌++◌, ◌∷◌, [], IfErr, IfOk, List, OnOk, get_or, length, map, string_bytes};
 
 use crate::equal::{EqualFeatures, find_equal_features};
 use crate::files::{Origin, ReadMaps, read_maps};
@@ -177,7 +178,7 @@ fn join_near(
     rules: &BuildRules<'_>,
 ) -> Result<(Vec<RoundedMap>, Option<Clusters>), MapsFault>
     ensures ok { IfOk result (λ joined. AreJoinedWithin rules.now.rounding.fixing rules.now.join_distance joined.1 maps.items joined.0.items) }
-    ensures err { IfErr result (λ e. (files : List (Bool × List ℕ)) → AreRounded rules.now.rounding 0 files maps.items origins.now → (e ≡ WantOfMemory) ⊎ AreUnjoinedTexts rules.now files e) }
+    ensures err { IfErr result (λ e. (files : List OneFile) → AreRounded rules.now.rounding 0 files maps.items origins.now → (e ≡ WantOfMemory) ⊎ AreUnjoinedTexts rules.now files e) }
 {
     if rules.join_distance == 0 {
         return Ok((maps, None));
@@ -306,6 +307,7 @@ pub fn round_maps<T: AsSlice<u8> + Drop>(
     rules: &BuildRules<'_>,
 ) -> Result<(Vec<RoundedMap>, Rounded), MapsFault>
     ensures maps { IfOk result (λ r. AreMaps rules.now (files_of T.items sources.items) r.1 r.0.items) }
+    ensures faultless { OnOk result (AreFaultless rules.now.rounding (files_of T.items sources.items)) }
     ensures report { IfOk result (λ r. IsReport rules.now (map (λ n. n.now) names.now) r.0.items r.1) }
     ensures refused { IfErr result (λ e. IsMapsRefusal rules.now.rounding 0 (files_of T.items sources.items) e ⊎ AreUnjoinedTexts rules.now (files_of T.items sources.items) e) }
 {
@@ -422,6 +424,7 @@ pub fn build_maps<T: AsSlice<u8> + Drop>(
     rules: &BuildRules<'_>,
 ) -> Result<(Topology, Rounded), MapsFault>
     ensures built { IfOk result (λ r. IsBuilt rules.now (map (λ n. n.now) names.now) (files_of T.items sources.items) r.1 r.0) }
+    ensures faultless { OnOk result (AreFaultless rules.now.rounding (files_of T.items sources.items)) }
     ensures refused { IfErr result (λ e. IsMapsRefusal rules.now.rounding 0 (files_of T.items sources.items) e ⊎ AreUnjoinedTexts rules.now (files_of T.items sources.items) e) }
 {
     let (maps, rounded) = round_maps(alloc, names, sources, rules)?;

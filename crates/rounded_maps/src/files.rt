@@ -1,25 +1,26 @@
 //! The maps of files: one of GeoJSON, or one for each layer of a topology.
-ghost use Rattle.decimal_topologies.specs.Roots.{topology_faults as topology_faults_of};
-ghost use Rattle.json.specs.Value.{value_view};
 ghost use Rattle.reading.specs.Fault.{LeastOrWant};
-ghost use Rattle.rounded_maps.specs.Files.{AreOfFile, AreRounded, files_of, origin_of};
+ghost use Rattle.rounded_maps.specs.Contents.{AreMapsOf, IsContent, IsOnlyMap};
+ghost use Rattle.rounded_maps.specs.Files.{AreOfFile, AreRounded, IsOfGeoJson, file_of, files_of};
 ghost use Rattle.rounded_maps.specs.Fixed.{IsFixedMap};
 ghost use Rattle.rounded_maps.specs.Refusals.{IsMapsRefusal, IsRefusal};
-ghost use Rattle.rounded_maps.specs.Rounded.{text_faults};
-ghost use Rattle.rounded_maps.specs.Topologies.{AreLayerMaps, AreTopologyMaps, IsTopologyText, faults_of_either, file_faults};
+ghost use Rattle.rounded_maps.specs.Laws.{AreFaultless};
+ghost use Rattle.rounded_maps.specs.Rounded.{faults_under};
+ghost use Rattle.rounded_maps.specs.Topologies.{AreLayerMaps, faults_of_either, file_faults, kept_unless, takes_name};
+ghost use Rattle.rounded_maps.specs.declared.content.Content.{Content as Has};
 ghost use Rattle.rounded_maps.specs.declared.files.Origin.{Origin as From};
 ghost use Rattle.rounded_maps.specs.declared.map.RoundedMap.{RoundedMap as Map};
-ghost use Rattle.std.specs.Prelude.{◌≡◌, ◌++◌, ◌∷◌, [], IfErr, IfOk, List, OnOk};
+ghost use Rattle.std.specs.Prelude.{◌≡◌, ◌++◌, ◌∷◌, [], Bool, IfErr, IfOk, List, OnOk, true};
 
 use crate::building::{MapsFault, refuse_text};
+use crate::content::{Content, read_content, refuse_either};
 use crate::map::RoundedMap;
 use crate::rounding::{RoundingRules, round_map, want_of_memory};
 use crate::source::{Source, skip_mark};
-use decimal_maps::RawFeature;
-use decimal_topologies::{TopologyLayer, is_topology, read_topology, topology_faults};
+use decimal_maps::{RawFeature, Stop};
+use decimal_topologies::TopologyLayer;
 use faults::{Fault, OutOfMemory};
 use fixing::Broken;
-use json::{Error, Scratch, Value};
 use std::alloc::Global;
 use std::convert::AsSlice;
 
@@ -39,20 +40,6 @@ pub(crate) struct ReadMaps {
     pub(crate) origins: Vec<Origin>,
 }
 
-/// Refuses a topology that has faults for the first of them.
-fn refuse_faults(alloc: Global, value: &Value<'_>, rules: &RoundingRules<'_>) -> Result<(), Fault>
-    ensures ok { OnOk result (topology_faults_of rules.now.map rules.now.fixing (value_view value.now) ≡ []) }
-    ensures err { IfErr result (LeastOrWant (topology_faults_of rules.now.map rules.now.fixing (value_view value.now))) }
-{
-    match topology_faults(alloc, &rules.map, &rules.fixing, value) {
-        Ok(faults) => match faults.into_iter().next() {
-            Some(fault) => Err(fault),
-            None => Ok(()),
-        },
-        Err(_) => Err(want_of_memory(alloc)),
-    }
-}
-
 /// The map of a layer's features.
 fn layer_map(
     alloc: Global,
@@ -66,14 +53,29 @@ fn layer_map(
     Ok(map)
 }
 
-/// The maps of layers, from the file at that place.
+/// Whether the caller's name counts for the layers: where it is asked, and there is one alone.
+fn is_renamed(is_named: bool, layers: &[TopologyLayer]) -> bool
+    ensures { result ≡ takes_name is_named layers.now }
+{
+    is_named && layers.len() == 1
+}
+
+/// The name of a layer, where the caller's doesn't count.
+fn name_unless(renamed: bool, name: String) -> Option<String>
+    ensures { result ≡ kept_unless renamed name }
+{
+    if renamed { None } else { Some(name) }
+}
+
+/// The maps of layers, from the file at that place. Their names count unless they get the caller's.
 fn layer_maps(
     alloc: Global,
     layers: Vec<TopologyLayer>,
     place: usize,
+    renamed: bool,
     rules: &RoundingRules<'_>,
 ) -> Result<ReadMaps, Broken>
-    ensures { IfOk result (λ read. AreLayerMaps rules.now place layers.items read.maps.items read.origins.items) }
+    ensures { IfOk result (λ read. AreLayerMaps rules.now place renamed layers.items read.maps.items read.origins.items) }
 {
     let mut read = ReadMaps {
         maps: Vec::new(alloc),
@@ -84,60 +86,15 @@ fn layer_maps(
         read.maps.push(layer_map(alloc, features, rules)?)?;
         read.origins.push(Origin {
             text: place,
-            layer: Some(name),
+            layer: name_unless(renamed, name),
         })?;
     }
     Ok(read)
 }
 
-/// The maps of a topology's layers.
-fn topology_maps(
-    alloc: Global,
-    value: &Value<'_>,
-    place: usize,
-    rules: &RoundingRules<'_>,
-) -> Result<ReadMaps, Fault>
-    ensures made { IfOk result (λ read. AreTopologyMaps rules.now place (value_view value.now) read.maps.items read.origins.items) }
-    ensures err { IfErr result (LeastOrWant (topology_faults_of rules.now.map rules.now.fixing (value_view value.now))) }
-{
-    refuse_faults(alloc, value, rules)?;
-    let Ok(layers) = read_topology(alloc, &rules.map, value) else {
-        return Err(want_of_memory(alloc));
-    };
-    match layer_maps(alloc, layers, place, rules) {
-        Ok(read) => Ok(read),
-        Err(_) => Err(want_of_memory(alloc)),
-    }
-}
-
-/// The maps of a text that is a topology. Any other is refused for that fault, which it has as GeoJSON.
-fn maps_unless_geojson(
-    alloc: Global,
-    text: &[u8],
-    place: usize,
-    rules: &RoundingRules<'_>,
-    fault: Fault,
-) -> Result<ReadMaps, Fault>
-    requires { LeastOrWant (text_faults rules.now text.now) fault }
-    ensures made { IfOk result (λ read. IsTopologyText rules.now place text.now read.maps.items read.origins.items) }
-    ensures err { IfErr result (LeastOrWant (faults_of_either rules.now text.now)) }
-{
-    let mut scratch = Scratch::new(alloc);
-    match Value::from_slice(alloc, text, &mut scratch) {
-        Ok(value) => if is_topology(&value) {
-            topology_maps(alloc, &value, place, rules)
-        } else {
-            Err(fault)
-        },
-        Err(Error::Invalid) => Err(fault),
-        Err(_) => Err(want_of_memory(alloc)),
-    }
-}
-
 /// The only map of the file at a place.
 fn only_map(alloc: Global, map: RoundedMap, place: usize) -> Result<ReadMaps, OutOfMemory>
-    ensures maps { IfOk result (λ read. read.maps.items ≡ map ∷ []) }
-    ensures origins { IfOk result (λ read. read.origins.items ≡ origin_of place ∷ []) }
+    ensures { IfOk result (λ read. IsOnlyMap place map read.maps.items read.origins.items) }
 {
     let (mut maps, mut origins) = (Vec::new(alloc), Vec::new(alloc));
     maps.push(map)?;
@@ -148,28 +105,84 @@ fn only_map(alloc: Global, map: RoundedMap, place: usize) -> Result<ReadMaps, Ou
     Ok(ReadMaps { maps, origins })
 }
 
+/// The maps of what a text has, which is the file at that place.
+fn content_maps(
+    alloc: Global,
+    content: Content,
+    is_named: bool,
+    place: usize,
+    rules: &RoundingRules<'_>,
+) -> Result<ReadMaps, Broken>
+    ensures { IfOk result (λ read. AreMapsOf rules.now place is_named content read.maps.items read.origins.items) }
+{
+    match content {
+        Content::Map(features) => {
+            let map = layer_map(alloc, features, rules)?;
+            Ok(only_map(alloc, map, place)?)
+        }
+        Content::Topology(layers) => {
+            let renamed = is_renamed(is_named, layers.as_slice());
+            layer_maps(alloc, layers, place, renamed, rules)
+        }
+    }
+}
+
+/// The maps of a text, which is the file at that place.
+fn text_maps(
+    alloc: Global,
+    text: &[u8],
+    is_named: bool,
+    place: usize,
+    rules: &RoundingRules<'_>,
+) -> Result<ReadMaps, Fault>
+    ensures made { IfOk result (λ read. (content : Has) × (IsContent rules.now text.now content × AreMapsOf rules.now place is_named content read.maps.items read.origins.items)) }
+    ensures err { IfErr result (LeastOrWant (faults_of_either rules.now text.now)) }
+{
+    let content = match read_content(alloc, text, rules) {
+        Ok(content) => content,
+        Err(Stop::Unread) => return Err(refuse_either(alloc, text, rules)),
+        Err(Stop::OutOfMemory) => return Err(want_of_memory(alloc)),
+    };
+    match content_maps(alloc, content, is_named, place, rules) {
+        Ok(read) => Ok(read),
+        Err(Broken::Refused) => Err(refuse_either(alloc, text, rules)),
+        Err(Broken::OutOfMemory) => Err(want_of_memory(alloc)),
+    }
+}
+
+/// The only map of a file that is a sequence of texts.
+fn sequence_maps(
+    alloc: Global,
+    bytes: &[u8],
+    place: usize,
+    rules: &RoundingRules<'_>,
+) -> Result<ReadMaps, Fault>
+    ensures made { IfOk result (λ read. (named : Bool) → IsOfGeoJson rules.now place (file_of true named bytes.now) read.maps.items read.origins.items) }
+    ensures err { IfErr result (LeastOrWant (faults_under rules.now true bytes.now)) }
+{
+    let map = round_map(alloc, bytes, true, rules)?;
+    match only_map(alloc, map, place) {
+        Ok(read) => Ok(read),
+        Err(_) => Err(want_of_memory(alloc)),
+    }
+}
+
 /// The maps of a file: that of GeoJSON, or those of a topology's layers.
 fn file_maps(
     alloc: Global,
     bytes: &[u8],
     is_sequence: bool,
+    is_named: bool,
     place: usize,
     rules: &RoundingRules<'_>,
 ) -> Result<ReadMaps, Fault>
-    ensures made { IfOk result (λ read. AreOfFile rules.now place (is_sequence, bytes.now) read.maps.items read.origins.items) }
+    ensures made { IfOk result (λ read. AreOfFile rules.now place (file_of is_sequence is_named bytes.now) read.maps.items read.origins.items) }
     ensures err { IfErr result (LeastOrWant (file_faults rules.now is_sequence bytes.now)) }
 {
-    match round_map(alloc, bytes, is_sequence, rules) {
-        Ok(map) => match only_map(alloc, map, place) {
-            Ok(read) => Ok(read),
-            Err(_) => Err(want_of_memory(alloc)),
-        },
-        Err(fault) => if is_sequence {
-            Err(fault)
-        } else {
-            maps_unless_geojson(alloc, skip_mark(bytes), place, rules, fault)
-        },
+    if is_sequence {
+        return sequence_maps(alloc, bytes, place, rules);
     }
+    text_maps(alloc, skip_mark(bytes), is_named, place, rules)
 }
 
 /// Adds the maps of a file, and where they are from.
@@ -177,14 +190,15 @@ fn add_file(
     alloc: Global,
     bytes: &[u8],
     is_sequence: bool,
+    is_named: bool,
     place: usize,
     rules: &RoundingRules<'_>,
     read: &mut ReadMaps,
 ) -> Result<(), MapsFault>
-    ensures more { OnOk result ((ms : List Map) × ((os : List From) × (AreOfFile rules.now place (is_sequence, bytes.now) ms os × ((read.new.maps.items ≡ read.old.maps.items ++ ms) × (read.new.origins.items ≡ read.old.origins.items ++ os))))) }
+    ensures more { OnOk result ((ms : List Map) × ((os : List From) × (AreOfFile rules.now place (file_of is_sequence is_named bytes.now) ms os × ((read.new.maps.items ≡ read.old.maps.items ++ ms) × (read.new.origins.items ≡ read.old.origins.items ++ os))))) }
     ensures refused { IfErr result (IsRefusal place (file_faults rules.now is_sequence bytes.now)) }
 {
-    match file_maps(alloc, bytes, is_sequence, place, rules) {
+    match file_maps(alloc, bytes, is_sequence, is_named, place, rules) {
         Ok(made) => {
             let ReadMaps {
                 mut maps,
@@ -205,8 +219,10 @@ pub(crate) fn read_maps<T: AsSlice<u8> + Drop>(
     rules: &RoundingRules<'_>,
 ) -> Result<ReadMaps, MapsFault>
     ensures rounded { IfOk result (λ read. AreRounded rules.now 0 (files_of T.items sources.items) read.maps.items read.origins.items) }
+    ensures faultless { OnOk result (AreFaultless rules.now (files_of T.items sources.items)) }
     ensures refused { IfErr result (IsMapsRefusal rules.now 0 (files_of T.items sources.items)) }
 {
+    let _step = rules.map.grid.step.size();
     let mut read = ReadMaps {
         maps: Vec::new(alloc),
         origins: Vec::new(alloc),
@@ -214,7 +230,8 @@ pub(crate) fn read_maps<T: AsSlice<u8> + Drop>(
     let mut place = 0;
     for source in sources {
         let bytes = source.bytes.as_slice();
-        add_file(alloc, bytes, source.is_sequence, place, rules, &mut read)?;
+        let (is_sequence, is_named) = (source.is_sequence, source.is_named);
+        add_file(alloc, bytes, is_sequence, is_named, place, rules, &mut read)?;
         place += 1;
     }
     Ok(read)

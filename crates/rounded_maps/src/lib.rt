@@ -5,6 +5,7 @@
 pub mod all_faults;
 pub mod building;
 pub mod collection;
+pub mod content;
 pub mod equal;
 pub mod files;
 pub mod grid_of_units;

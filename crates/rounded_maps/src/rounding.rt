@@ -13,6 +13,7 @@ use crate::map::RoundedMap;
 use crate::source::texts_of;
 use decimal_faults::read_value;
 use decimal_maps::{MapRules, RawFeature, Stop, read_map};
+use decimal_topologies::TopologyRules;
 use faults::{Fault, FaultKind};
 use fixing::{Broken, FixingRules};
 use json::{Error, Scratch, Value};
@@ -25,6 +26,22 @@ pub struct RoundingRules<'r> {
     pub fixing: FixingRules,
     /// Whether a feature without an id gets its number in its file for one, from 1.
     pub numbers: bool,
+    /// The only object that is read of a topology, where one is named.
+    pub layer: Option<&'r str>,
+}
+
+impl<'r> RoundingRules<'r> {
+    ghost use Rattle.rounded_maps.specs.Topologies.{topology_rules};
+
+    /// How a topology is read.
+    pub fn topology(&self) -> TopologyRules<'r>
+        ensures { result ≡ topology_rules self.now }
+    {
+        TopologyRules {
+            map: self.map,
+            layer: self.layer,
+        }
+    }
 }
 
 pub(crate) fn want_of_memory(alloc: Global) -> Fault
@@ -33,8 +50,8 @@ pub(crate) fn want_of_memory(alloc: Global) -> Fault
     Fault::here(alloc, FaultKind::OutOfMemory)
 }
 
-/// The first fault of a text that has one.
-fn refuse(alloc: Global, bytes: &[u8], rules: &RoundingRules<'_>) -> Fault
+/// The first fault of a text of GeoJSON that has one.
+pub(crate) fn refuse(alloc: Global, bytes: &[u8], rules: &RoundingRules<'_>) -> Fault
     ensures { LeastOrWant (text_faults rules.now bytes.now) result }
 {
     match decimal_faults::faults(alloc, &rules.map, &rules.fixing, bytes) {

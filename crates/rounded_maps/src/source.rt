@@ -18,6 +18,8 @@ const LINE_FEED: u8 = 10;
 pub struct Source<T> {
     pub bytes: T,
     pub is_sequence: bool,
+    /// Whether the caller's name counts for the only object of a topology.
+    pub is_named: bool,
 }
 
 /// The bytes behind a byte order mark in front.

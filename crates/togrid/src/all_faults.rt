@@ -1,6 +1,4 @@
 //! All errors of files, with their lines and columns.
-use crate::naming::is_sequence;
-use crate::options::GridOptions;
 use crate::printing::Printed;
 use crate::remedies::without_mark;
 use command_line::files::{Files, read_all};
@@ -12,6 +10,8 @@ use itoa::Buffer;
 use json::{Error, Scratch, Value};
 use outputs::fault_reports::{FaultReport, Format, LineColumn, reports};
 use rounded_maps::{RoundingRules, text_faults, texts_of};
+use rounding_options::naming::is_sequence;
+use rounding_options::options::GridOptions;
 use sinks::Sink;
 use std::alloc::{AllocError, Global};
 
@@ -34,7 +34,7 @@ fn faults_of_topology(
     let mut scratch = Scratch::new(alloc);
     match Value::from_slice(alloc, text, &mut scratch) {
         Ok(value) => if is_topology(&value) {
-            Ok(Some(topology_faults(alloc, &rules.map, &rules.fixing, &value)?))
+            Ok(Some(topology_faults(alloc, &rules.topology(), &rules.fixing, &value)?))
         } else {
             Ok(None)
         },

@@ -1,61 +1,16 @@
 //! A topology in the unit of the map again.
-use crate::options::{decimal_word, rewind_of, unit_of};
+use crate::back_options::BackOptions;
 use crate::remedies::{refuse_text, remedy_of, without_mark};
-use clap::ArgMatches;
 use command_line::files::{Files, input_once, read_named};
 use command_line::output::write_output;
 use command_line::refusal::{Refusal, Usage};
 use command_line::status::Status;
 use decimals::topology::{DecimalFault, DecimalTransform, TransformFault, text_of, text_on};
 use faults::{Fault, FaultKind};
-use fixing::Rewind;
-use grid::limits::GREATEST_GRID_NUMBER;
-use numerals::DecimalStep;
 use sinks::Sink;
 use std::alloc::Global;
 use topo::topology::Topology;
 use topo_io::read_topology;
-
-/// What the words ask for on the way back.
-#[derive(Clone, Copy)]
-pub(crate) struct BackOptions<'a> {
-    unit: DecimalStep,
-    /// The unit as it is written.
-    unit_word: &'a str,
-    rewind: Rewind,
-    /// The topology whose transform is taken.
-    like: Option<&'a str>,
-    /// How many steps a side of the bounding box has.
-    steps: Option<u64>,
-    output: Option<&'a str>,
-}
-
-/// How many steps a side of the bounding box has: one less than there are numbers along it, which are 2 to 2^40.
-fn steps_of<'a>(word: Option<&'a str>) -> Result<Option<u64>, Refusal<'a>> {
-    let Some(word) = word else {
-        return Ok(None);
-    };
-    match word.parse::<u64>() {
-        Ok(count) => if count >= 2 && count <= GREATEST_GRID_NUMBER as u64 {
-            Ok(Some(count - 1))
-        } else {
-            Err(Refusal::Usage(Usage::BadQuantize(word)))
-        },
-        Err(_) => Err(Refusal::Usage(Usage::BadQuantize(word))),
-    }
-}
-
-/// The options of the way back that the words give, or why they are none.
-pub(crate) fn back_options_of<'a>(found: &ArgMatches<'a>) -> Result<BackOptions<'a>, Refusal<'a>> {
-    Ok(BackOptions {
-        unit: unit_of(found)?,
-        unit_word: decimal_word(found, "unit"),
-        rewind: rewind_of(found, Rewind::D3),
-        like: found.get_str("like"),
-        steps: steps_of(found.get_str("quantize"))?,
-        output: found.get_str("output"),
-    })
-}
 
 /// The topology of a file.
 fn read_file<'a, F: Files>(
@@ -134,9 +89,10 @@ fn back_text(
         )?),
         (None, None) => None,
     };
+    let rules = options.rules();
     match other {
-        Some(other) => text_on(alloc, topology, &other, options.rewind),
-        None => text_of(alloc, topology, &options.unit, options.rewind),
+        Some(other) => text_on(alloc, topology, &other, &rules),
+        None => text_of(alloc, topology, &options.unit, &rules),
     }
 }
 

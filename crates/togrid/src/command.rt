@@ -1,14 +1,9 @@
 //! The whole command, over files and sinks that are passed in.
 use crate::all_faults::print_faults;
-use crate::back::{back_options_of, write_back};
-use crate::checks::{check_layers, check_outputs};
-use crate::layers::layers_of;
+use crate::back::write_back;
+use crate::back_options::back_options_of;
 use crate::made::Made;
-use crate::naming::{files_of, is_sequence, names_of, sources_of};
-use crate::options::{GridOptions, options_of};
 use crate::remedies::{refuse_text, remedies_of};
-use crate::report::{Report, report_lines};
-use crate::report_file::report_text;
 use clap::ArgMatches;
 use command_line::ending::{explain, refuse};
 use command_line::files::{Files, input_once, read_all};
@@ -17,6 +12,12 @@ use command_line::refusal::{Refusal, Remedy};
 use command_line::status::Status;
 use command_line::togrid::parse;
 use rounded_maps::{MapsFault, Rounded, Source};
+use rounding_options::checks::{check_layers, check_outputs};
+use rounding_options::layers::{MapLayer, files_without_maps, layers_of};
+use rounding_options::naming::{NamedFile, files_of, is_sequence, names_of, sources_of};
+use rounding_options::options::{GridOptions, options_of};
+use rounding_report::report::{Report, report_lines};
+use rounding_report::report_file::report_text;
 use sinks::{Sink, put};
 use std::alloc::{AllocError, Global};
 
@@ -54,7 +55,7 @@ fn perform<'a, F: Files, O: Sink, E: Sink>(
     let read = files_of(alloc, sources.as_slice())?;
     input_once(read.as_slice())?;
     if found.get_flag("back") {
-        let options = back_options_of(found)?;
+        let options = back_options_of(alloc, found)?;
         return write_back(alloc, &options, read.as_slice(), files, out);
     }
     let options = options_of(alloc, found, sources.len())?;
@@ -69,7 +70,7 @@ fn perform<'a, F: Files, O: Sink, E: Sink>(
 fn round<'a, F: Files, O: Sink, E: Sink>(
     alloc: Global,
     options: &GridOptions<'a>,
-    sources: &[(&'a str, &'a str)],
+    sources: &[NamedFile<'a>],
     files: &mut F,
     out: &mut O,
     err: &mut E,
@@ -87,7 +88,7 @@ fn round<'a, F: Files, O: Sink, E: Sink>(
 fn finish<'m, F: Files, O: Sink, E: Sink>(
     alloc: Global,
     options: &GridOptions<'m>,
-    sources: &[(&'m str, &'m str)],
+    sources: &[NamedFile<'m>],
     made: &Made,
     rounded: &'m Rounded,
     files: &mut F,
@@ -96,16 +97,7 @@ fn finish<'m, F: Files, O: Sink, E: Sink>(
 ) -> Result<Status, Refusal<'m>> {
     let layers = layers_of(alloc, sources, rounded)?;
     check_layers(alloc, options, layers.as_slice())?;
-    let absent = made.absent(alloc, options)?;
-    let reports = Reports::of(
-        alloc,
-        &Report {
-            options,
-            layers: layers.as_slice(),
-            rounded,
-            absent: absent.as_slice(),
-        },
-    )?;
+    let reports = Reports::of(alloc, options, sources, made, layers.as_slice(), rounded)?;
     if !options.target.is_standard() {
         made.print(alloc, options, layers.as_slice(), files, out)?;
     }
@@ -128,7 +120,8 @@ struct Reports {
 }
 
 impl Reports {
-    fn of(alloc: Global, report: &Report<'_, '_>) -> Result<Reports, AllocError> {
+    /// What is reported, as the options ask for it.
+    fn write(alloc: Global, report: &Report<'_, '_>) -> Result<Reports, AllocError> {
         let options = report.options;
         let lines = if options.is_quiet {
             Vec::new(alloc)
@@ -142,19 +135,45 @@ impl Reports {
         };
         Ok(Reports { lines, json })
     }
+
+    /// What is reported of what was made of files.
+    fn of<'m>(
+        alloc: Global,
+        options: &GridOptions<'m>,
+        sources: &[NamedFile<'m>],
+        made: &Made,
+        layers: &[MapLayer<'m>],
+        rounded: &'m Rounded,
+    ) -> Result<Reports, Refusal<'m>> {
+        let absent = made.absent(alloc, options)?;
+        let columns = made.columns(alloc, options, layers, rounded)?;
+        let without_maps = files_without_maps(alloc, sources, rounded)?;
+        let report = Report {
+            options,
+            layers,
+            rounded,
+            without_maps: without_maps.as_slice(),
+            columns: &columns,
+            absent: absent.as_slice(),
+        };
+        Ok(Reports::write(alloc, &report)?)
+    }
 }
 
 /// The texts of files, each one text or a sequence.
 fn with_kinds(
     alloc: Global,
     options: &GridOptions<'_>,
-    sources: &[(&str, &str)],
+    sources: &[NamedFile<'_>],
     texts: Vec<Vec<u8>>,
 ) -> Result<Vec<Source<Vec<u8>>>, AllocError> {
     let mut files = Vec::with_capacity(alloc, texts.len())?;
     for (bytes, source) in texts.into_iter().zip(sources) {
-        let is_sequence = options.is_sequence || is_sequence(source.1);
-        files.push(Source { bytes, is_sequence })?;
+        files.push(Source {
+            bytes,
+            is_sequence: options.is_sequence || is_sequence(source.file),
+            is_named: source.is_named,
+        })?;
     }
     Ok(files)
 }
@@ -163,7 +182,7 @@ fn with_kinds(
 fn make<'a>(
     alloc: Global,
     options: &GridOptions<'a>,
-    sources: &[(&'a str, &'a str)],
+    sources: &[NamedFile<'a>],
     texts: Vec<Vec<u8>>,
 ) -> Result<(Made, Rounded), Refusal<'a>> {
     let remedies = remedies_of(alloc, texts.as_slice())?;
@@ -193,14 +212,14 @@ fn made_of(
 /// The refusal of the files.
 fn refusal<'a>(
     options: &GridOptions<'a>,
-    sources: &[(&'a str, &'a str)],
+    sources: &[NamedFile<'a>],
     remedies: &[Option<Remedy>],
     fault: MapsFault,
 ) -> Refusal<'a> {
     match fault {
         MapsFault::Text(place, fault) => {
             let file = match sources.get(place) {
-                Some(source) => source.1,
+                Some(source) => source.file,
                 None => "",
             };
             let remedy = remedies.get(place).copied().unwrap_or(None);

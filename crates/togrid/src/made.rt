@@ -1,12 +1,13 @@
 //! What is made of files: printed, and asked for properties.
-use crate::layers::MapLayer;
-use crate::options::GridOptions;
 use crate::printing::Printed;
 use command_line::files::Files;
 use command_line::refusal::Refusal;
 use faults::OutOfMemory;
 use json::{Error, Scratch, Value};
-use rounded_maps::RoundedMap;
+use rounded_maps::{Rounded, RoundedMap};
+use rounding_options::layers::MapLayer;
+use rounding_options::options::GridOptions;
+use rounding_report::columns::PrintedColumns;
 use shapes::Props;
 use sinks::Sink;
 use std::alloc::Global;
@@ -98,6 +99,25 @@ impl Made {
         Ok(absent)
     }
 
+    /// The columns of numbers that are printed, where anything is reported.
+    pub(crate) fn columns(
+        &self,
+        alloc: Global,
+        options: &GridOptions<'_>,
+        layers: &[MapLayer<'_>],
+        rounded: &Rounded,
+    ) -> Result<PrintedColumns, OutOfMemory> {
+        if !options.reports() {
+            return Ok(PrintedColumns::new(alloc));
+        }
+        match self {
+            Made::Topology(topology) => {
+                PrintedColumns::of_topology(alloc, layers, rounded, topology)
+            }
+            Made::Maps(maps) => PrintedColumns::of_maps(alloc, layers, rounded, maps.as_slice()),
+        }
+    }
+
     /// Prints it where it goes. On standard output it comes last, since a terminal shows it with the report.
     pub(crate) fn print<'a, F: Files, O: Sink>(
         &self,
@@ -116,6 +136,19 @@ impl Made {
     }
 }
 
+/// Prints the FeatureCollection of no features, where no map is there and the output is no folder.
+fn print_nothing<'a, F: Files, O: Sink>(
+    alloc: Global,
+    options: &GridOptions<'a>,
+    files: &mut F,
+    out: &mut O,
+) -> Result<(), Refusal<'a>> {
+    if options.target.is_folder() {
+        return Ok(());
+    }
+    Printed::Map(&[], &options.grid).print(alloc, options.output, files, out)
+}
+
 /// Prints each map where it goes.
 fn print_maps<'a, F: Files, O: Sink>(
     alloc: Global,
@@ -125,8 +158,11 @@ fn print_maps<'a, F: Files, O: Sink>(
     files: &mut F,
     out: &mut O,
 ) -> Result<(), Refusal<'a>> {
+    if maps.is_empty() {
+        return print_nothing(alloc, options, files, out);
+    }
     for (layer, map) in layers.iter().zip(maps) {
-        let printed = Printed::Map(map, &options.grid);
+        let printed = Printed::Map(map.features.as_slice(), &options.grid);
         match options.target.file(alloc, layer.name)? {
             Some(file) => printed.print(alloc, Some(file.as_str()), files, out)?,
             None => printed.print(alloc, None, files, out)?,

@@ -3,18 +3,11 @@
 
 mod all_faults;
 mod back;
-mod checks;
+mod back_options;
 mod command;
-mod layers;
 mod made;
-mod naming;
-mod next;
-mod options;
 mod printing;
 mod remedies;
-mod report;
-mod report_file;
-mod target;
 
 use crate::command::run;
 use command_line::host::{HostFiles, refuse_words};

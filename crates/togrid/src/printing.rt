@@ -5,7 +5,7 @@ use command_line::refusal::Refusal;
 use command_line::status::Status;
 use grid::Grid;
 use outputs::fault_reports::{FaultReport, write_lines};
-use rounded_maps::{RoundedMap, write_collection};
+use rounded_maps::{RoundedFeature, write_collection};
 use sinks::{Buffered, Refused, Sink, WriteFault};
 use std::alloc::Global;
 use std::io::Write;
@@ -15,8 +15,8 @@ use topo::Topology;
 #[derive(Clone, Copy)]
 pub(crate) enum Printed<'m, 'a> {
     Topology(&'m Topology),
-    /// A map on a grid.
-    Map(&'m RoundedMap, &'m Grid),
+    /// The features of a map, on a grid.
+    Map(&'m [RoundedFeature], &'m Grid),
     /// The errors of each file of these names.
     Faults(&'m [&'a str], &'m [Vec<FaultReport>]),
 }
@@ -25,7 +25,7 @@ impl<'m, 'a> Printed<'m, 'a> {
     fn put<W: Sink>(&self, sink: &mut W) -> Result<(), WriteFault> {
         match self {
             Printed::Topology(topology) => topo_io::write(*topology, sink),
-            Printed::Map(map, grid) => write_collection(map.features.as_slice(), *grid, sink),
+            Printed::Map(features, grid) => write_collection(*features, *grid, sink),
             Printed::Faults(names, reports) => put_faults(*names, *reports, sink),
         }
     }

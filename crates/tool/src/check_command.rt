@@ -1,5 +1,5 @@
 //! The command `check`: whether a text is canonical, and the tests of the map that are asked for beside it.
-use crate::topologies::{of_file, topology_of, word};
+use crate::topologies::{of_file, word};
 use clap::ArgMatches;
 use command_line::files::{Files, read_named};
 use command_line::refusal::{Refusal, Usage};
@@ -48,14 +48,15 @@ pub(crate) fn check<'a, F: Files>(
     let steps = steps_asked(found.get_str("near"))?;
     let file = word(found, "FILE");
     let text = read_named(alloc, files, file)?;
-    let is_canonical = of_file(file, topo_io::is_canonical(alloc, text.as_slice()))?;
+    let topology = of_file(file, topo_io::read_topology(alloc, text.as_slice()))?;
+    let is_canonical = topo_io::is_text_of(&topology, text.as_slice());
+    drop(text);
     if steps.is_none() && !found.get_flag("ids") {
         return Ok(Checked {
             is_canonical,
             map: None,
         });
     }
-    let topology = topology_of(alloc, file, text)?;
     Ok(Checked {
         is_canonical,
         map: Some(checked_map(alloc, topology, found.get_flag("ids"), steps)?),

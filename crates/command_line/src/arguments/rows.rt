@@ -41,6 +41,9 @@ pub(crate) enum Form {
     Lettered(char, &'static str),
     /// `--name VALUE`, which may be there more than once, and what help calls the value.
     Repeated(&'static str),
+    /// `--name` or `--name=VALUE`, which may be there more than once and wants another argument beside it, and what
+    /// help calls the value. A value that is not there is empty.
+    OptionalWith(&'static str, &'static str),
     /// `--name VALUE`, what help calls the value, and the words that it may be, of which the first is taken
     /// where it is not there.
     OneOf(&'static str, &'static [&'static str]),
@@ -68,7 +71,7 @@ impl Form {
 
     pub(crate) fn action(self) -> ArgAction {
         match self {
-            Form::Words | Form::Repeated(_) => ArgAction::Append,
+            Form::Words | Form::Repeated(_) | Form::OptionalWith(..) => ArgAction::Append,
             Form::Flag | Form::LetteredFlag(_) | Form::FlagWith(_) | Form::FlagNotWith(_) => {
                 ArgAction::SetTrue
             }
@@ -86,6 +89,7 @@ impl Form {
             | Form::ValueWith(called, ..)
             | Form::Lettered(_, called)
             | Form::Repeated(called)
+            | Form::OptionalWith(called, _)
             | Form::OneOf(called, _)
             | Form::AnyOf(called, _) => Some(called),
             _ => None,
@@ -450,7 +454,7 @@ pub(crate) const TOGRID: &[ArgumentRow] = &[
             "id",
             "number",
             "heights",
-            "reals",
+            "layer",
             "unclosed",
             "collapsed",
             "folded",
@@ -494,6 +498,11 @@ pub(crate) const TOGRID: &[ArgumentRow] = &[
         "A feature without an id gets its number, from 1"
     ),
     argument!(
+        "layer",
+        Form::Value("OBJECT"),
+        "Of topologies only this object"
+    ),
+    argument!(
         "heights",
         Form::OneOf("HOW", &["drop", "refuse"]),
         "Third numbers of positions: drop,\nrefuse"
@@ -501,7 +510,7 @@ pub(crate) const TOGRID: &[ArgumentRow] = &[
     argument!(
         "reals",
         Form::Repeated("HOW"),
-        "Numbers of properties: whole, text, refuse,\nscale:P=K [default: whole]"
+        "Numbers of properties: whole, text, refuse,\nscale:P=K [default: whole]; with --back scale:P=K"
     ),
     argument!(
         "unclosed",
@@ -527,6 +536,11 @@ pub(crate) const TOGRID: &[ArgumentRow] = &[
         "seq",
         Form::Flag,
         "Sequences: a GeoJSON text a line. Files .ndjson,\n.geojsonl and .geojsons are read so anyway"
+    ),
+    argument!(
+        "numbers",
+        Form::OptionalWith("P,Q", "back"),
+        "With --back: texts of these properties become\nnumbers; without P,Q, of columns of numbers"
     ),
     argument!(
         "like",

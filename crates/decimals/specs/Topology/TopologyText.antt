@@ -2,22 +2,21 @@
 use Rattle.std.specs.Prelude.{ℕ, ℤ, List, ◌++◌, codes}
 use Rattle.grid.specs.Place.{Transform}
 use Rattle.grid.specs.declared.pos.Pos.{Pos}
-use Rattle.fixing.specs.declared.rules.Rewind.{Rewind}
-use Rattle.shapes.specs.Parts.{properties_text, spelled_text}
+use Rattle.shapes.specs.Parts.{spelled_text}
 use Rattle.shapes.specs.Spelling.{spelling_of}
 use Rattle.sinks.specs.Texts.{joined, list_text, option_text, pair_text}
 use Rattle.theory.specs.ArcNumbers.{ArcRef}
 use Rattle.topo.specs.ArcTexts.{arc_text, index_text, position_text}
-use Rattle.topo.specs.Parts.{Corners, LayerParts, TopologyParts}
+use Rattle.topo.specs.Parts.{Corners, TopologyParts}
 use Rattle.topo.specs.declared.geom.Body.{Body}
 use Rattle.topo.specs.declared.geom.Body.TheVariants as of
-use Rattle.topo.specs.declared.geom.Geom.{Geom}
 use Rattle.shapes.specs.Writing.Members.{id_text, properties_member}
 use Rattle.decimals.specs.Topology.DecimalTransform.{DecimalTransformParts, quantizer_of}
+use Rattle.decimals.specs.Topology.LayersBack.{BackGeometryParts, BackLayerParts, layers_back}
 use Rattle.decimals.specs.Topology.Quantizing.{arc_numbers, numbers_on}
-use Rattle.decimals.specs.Topology.Turning.{rewound_layers}
 use Rattle.decimals.specs.Topology.Unit.{absolute_text}
 use Rattle.decimals.specs.declared.topology.quantizer.Quantizer.{Quantizer}
+use Rattle.decimals.specs.declared.topology.rules.BackRules.{BackRules}
 use Rattle.numerals.specs.Numeral.{Measure}
 
 abbrev pub list_of_lists : List (List ArcRef) → List ℕ
@@ -34,11 +33,11 @@ body_text position (of.Polygon rs) = codes "\"Polygon\",\"arcs\":" ++ list_of_li
 body_text position (of.MultiPolygon ps) = codes "\"MultiPolygon\",\"arcs\":" ++ list_text list_of_lists ps
 
 -- the text of a geometry: id, properties, type, and arcs or coordinates [TopoJSON, 2.2]
-abbrev pub geometry_text : (Pos → List ℕ) → Geom → List ℕ
-geometry_text position g = codes "{" ++ (id_text g.id ++ (properties_member (properties_text g.props) ++ (codes "\"type\":" ++ (body_text position g.body ++ codes "}"))))
+abbrev pub geometry_text : (Pos → List ℕ) → BackGeometryParts → List ℕ
+geometry_text position g = codes "{" ++ (id_text g.id ++ (properties_member g.properties ++ (codes "\"type\":" ++ (body_text position g.body ++ codes "}"))))
 
 -- a member of `objects`
-abbrev pub layer_text : (Pos → List ℕ) → LayerParts → List ℕ
+abbrev pub layer_text : (Pos → List ℕ) → BackLayerParts → List ℕ
 layer_text position l = spelling_of (spelled_text l.name) ++ (codes ":{\"type\":\"GeometryCollection\",\"geometries\":" ++ (list_text (geometry_text position) l.geometries ++ codes "}"))
 
 -- the member `transform` of four numerals: the scales of x and y, and the translations [TopoJSON, 2.1.2]
@@ -55,13 +54,13 @@ abbrev pub bbox_text : Measure → Corners → List ℕ
 bbox_text s c = codes "\"bbox\":[" ++ (absolute_text s c.0 ++ (codes "," ++ (absolute_text s c.1 ++ (codes "," ++ (absolute_text s c.2 ++ (codes "," ++ (absolute_text s c.3 ++ codes "],")))))))
 
 -- the members `objects` and `arcs`, by the texts of positions and of arcs
-abbrev pub content_text : (Pos → List ℕ) → (List Pos → List ℕ) → List LayerParts → List (List Pos) → List ℕ
+abbrev pub content_text : (Pos → List ℕ) → (List Pos → List ℕ) → List BackLayerParts → List (List Pos) → List ℕ
 content_text position arc layers arcs = codes "\"objects\":{" ++ (joined (layer_text position) layers ++ (codes "},\"arcs\":[" ++ (joined arc arcs ++ codes "]}")))
 
--- the text of a topology, its rings turned as they are wanted
-abbrev pub unit_text : Measure → Rewind → TopologyParts → List ℕ
+-- the text of a topology, its rings and properties as the rules say
+abbrev pub unit_text : Measure → BackRules → TopologyParts → List ℕ
 unit_text u r t = codes "{\"type\":\"Topology\"," ++ (transform_text u t.grid ++ (option_text (bbox_text u) t.bbox
-    ++ content_text position_text arc_text (rewound_layers r t.arcs.arcs t.layers) t.arcs.arcs))
+    ++ content_text position_text arc_text (layers_back r t.arcs.arcs t.layers) t.arcs.arcs))
 
 -- two numbers in brackets
 abbrev pub numbers_text : ℤ × ℤ → List ℕ
@@ -75,7 +74,7 @@ quantized_position q p = numbers_text (numbers_on q p)
 abbrev pub quantized_arc : Quantizer → List Pos → List ℕ
 quantized_arc q arc = list_text numbers_text (arc_numbers (numbers_on q) arc)
 
--- the text of a topology on another transform: positions in its numbers, the bounding box as it was, rings turned as they are wanted
-abbrev pub quantized_text : DecimalTransformParts → Rewind → TopologyParts → List ℕ
+-- the text of a topology on another transform: positions in its numbers, the bounding box as it was, rings and properties as the rules say
+abbrev pub quantized_text : DecimalTransformParts → BackRules → TopologyParts → List ℕ
 quantized_text d r t = codes "{\"type\":\"Topology\"," ++ (transform_member d.scale_x d.scale_y d.translate_x d.translate_y ++ (option_text (bbox_text d.unit) t.bbox
-    ++ content_text (quantized_position (quantizer_of d t.grid)) (quantized_arc (quantizer_of d t.grid)) (rewound_layers r t.arcs.arcs t.layers) t.arcs.arcs))
+    ++ content_text (quantized_position (quantizer_of d t.grid)) (quantized_arc (quantizer_of d t.grid)) (layers_back r t.arcs.arcs t.layers) t.arcs.arcs))

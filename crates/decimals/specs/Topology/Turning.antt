@@ -4,10 +4,8 @@ use Rattle.grid.specs.declared.pos.Pos.{Pos}
 use Rattle.theory.specs.ArcNumbers.{ArcRef, backwards}
 use Rattle.fixing.specs.declared.rules.Rewind.{Rewind}
 use Rattle.fixing.specs.declared.rules.Rewind.TheVariants.{Keep, Rfc7946, D3}
-use Rattle.topo.specs.Parts.{LayerParts}
 use Rattle.topo.specs.declared.geom.Body.{Body}
 use Rattle.topo.specs.declared.geom.Body.TheVariants as of
-use Rattle.topo.specs.declared.geom.Geom.{Geom}
 
 -- twice the signed area of the triangle of 0 and two positions
 abbrev pub cross : Pos → Pos → ℤ
@@ -68,15 +66,3 @@ rewound_body areas r (of.Point p) = of.Point p
 rewound_body areas r (of.MultiPoint ps) = of.MultiPoint ps
 rewound_body areas r (of.Line used) = of.Line used
 rewound_body areas r (of.MultiLine ls) = of.MultiLine ls
-
--- nothing but its rings is changed
-abbrev pub rewound_geometry : List ℤ → Rewind → Geom → Geom
-rewound_geometry areas r g = record g { body = rewound_body areas r g.body }
-
--- a layer with the rings of its geometries in the directions that are wanted
-abbrev pub rewound_layer : List ℤ → Rewind → LayerParts → LayerParts
-rewound_layer areas r l = record { name = l.name; geometries = map (rewound_geometry areas r) l.geometries }
-
--- the layers over some arcs, their rings turned as they are wanted
-abbrev pub rewound_layers : Rewind → List (List Pos) → List LayerParts → List LayerParts
-rewound_layers r arcs layers = map (rewound_layer (map area_along arcs) r) layers

@@ -1,5 +1,6 @@
-//! What the areas along arcs say of rings, and of numbers on another transform, as contracts of functions that do nothing.
-ghost use Rattle.decimals.specs.Topology.Laws.{AreasAddUp, NumbersAreNearest, RewoundRingsTurnRight};
+//! What the areas along arcs say of rings, and of numbers on another transform, and what stays on the way back, as
+//! contracts of functions that do nothing.
+ghost use Rattle.decimals.specs.Topology.Laws.{AreasAddUp, NumbersAreNearest, PropertiesStay, RewoundRingsTurnRight};
 
 /// A ring that is asked to turn some way does not turn the other way.
 pub fn rewound_rings_turn_right()
@@ -16,4 +17,10 @@ pub fn areas_add_up()
 #[tactic(auto, using(crate::proofs::TopologyLemmas::Numbers::numbers_are_nearest))]
 pub fn numbers_are_nearest()
     ensures { NumbersAreNearest }
+{}
+
+/// Where texts stay texts and nothing was scaled, properties stay as they are.
+#[tactic(auto, using(crate::proofs::TopologyLemmas::Properties::properties_stay))]
+pub fn properties_stay()
+    ensures { PropertiesStay }
 {}

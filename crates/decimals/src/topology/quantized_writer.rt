@@ -1,7 +1,7 @@
 //! Topologies on another transform.
 ghost use Rattle.decimals.specs.Topology.DecimalTransform.{quantizer_of};
+ghost use Rattle.decimals.specs.Topology.LayersBack.{layers_back};
 ghost use Rattle.decimals.specs.Topology.TopologyText.{content_text, layer_text, numbers_text, quantized_arc, quantized_position, quantized_text, transform_member};
-ghost use Rattle.decimals.specs.Topology.Turning.{rewound_layers};
 ghost use Rattle.decimals.specs.declared.topology.fault.DecimalFault.TheVariants.{TooManyDigits};
 ghost use Rattle.sinks.specs.Texts.{joined};
 ghost use Rattle.sinks.specs.Writes.{TookAll};
@@ -11,17 +11,18 @@ ghost use Rattle.std.specs.Prelude.{◌≡◌, ◌<◌, ◌≤◌, ◌++◌, Err
 use crate::topology::decimal_transform::DecimalTransform;
 use crate::topology::fault::DecimalFault;
 use crate::topology::geometries::TypeFirstLayers;
+use crate::topology::layers::BackLayer;
 use crate::topology::pairs::write_pair;
 use crate::topology::quantizer::Quantizer;
-use crate::topology::writer::{turned_layers, write_bbox};
+use crate::topology::rules::BackRules;
+use crate::topology::writer::{write_bbox, written_layers};
 use chains::table::ArcTable;
-use fixing::Rewind;
 use grid::Pos;
 use itoa::Buffer;
 use sinks::written::{Bracketed, Each, Listed, Notation, Text, Then, Written};
 use sinks::{Kept, Sink, WriteFault, put};
 use std::alloc::Global;
-use topo::topology::{Layer, Topology};
+use topo::topology::Topology;
 
 /// A whole number.
 #[derive(Clone, Copy)]
@@ -85,7 +86,7 @@ fn write_arcs<W: Sink>(
 /// The member `objects`, and the beginning of `arcs`.
 fn write_objects<W: Sink>(
     quantizer: &Quantizer,
-    layers: &[Layer],
+    layers: &[BackLayer],
     out: &mut W,
 ) -> Result<(), WriteFault>
     ensures { OnOk result (TookAll (W.seen out.old) (W.seen out.new) (codes "\"objects\":{" ++ (joined (layer_text (quantized_position quantizer.now)) layers.now ++ codes "},\"arcs\":["))) }
@@ -103,13 +104,13 @@ fn write_quantized<W: Sink>(
     alloc: Global,
     topology: &Topology,
     quantizer: &Quantizer,
-    rewind: Rewind,
+    rules: &BackRules<'_>,
     out: &mut W,
 ) -> Result<(), DecimalFault>
-    ensures text { OnOk result (TookAll (W.seen out.old) (W.seen out.new) (content_text (quantized_position quantizer.now) (quantized_arc quantizer.now) (rewound_layers rewind topology.now.arcs.arcs topology.now.layers) topology.now.arcs.arcs)) }
+    ensures text { OnOk result (TookAll (W.seen out.old) (W.seen out.new) (content_text (quantized_position quantizer.now) (quantized_arc quantizer.now) (layers_back rules.now topology.now.arcs.arcs topology.now.layers) topology.now.arcs.arcs)) }
     ensures refused { ¬ (result ≡ Err DecimalFault.TooManyDigits) }
 {
-    let layers = turned_layers(alloc, topology, rewind)?;
+    let layers = written_layers(alloc, topology, rules)?;
     write_objects(quantizer, layers.as_slice(), out)?;
     write_arcs(alloc, quantizer, topology.arcs(), out)?;
     Text(b"]}").write(out)?;
@@ -127,7 +128,8 @@ fn write_numerals<W: Sink>(transform: &DecimalTransform, out: &mut W) -> Result<
 
 /// The text of a topology on another transform: each number of a position is the nearest whole number of steps of its
 /// scale from its translation, of two the one farther from 0. Steps of zero in an arc are left out, but one where an arc
-/// would have none. The bounding box is that of the positions as they were, exactly, and rings are turned by them.
+/// would have none. The bounding box is that of the positions as they were, exactly, and rings are turned by them. Rings and
+/// properties are as the rules say.
 ///
 /// # Errors
 /// `TooManyDigits` where the unit has more than 30 places, and there is a position; `OutOfMemory`.
@@ -135,9 +137,9 @@ pub fn text_on(
     alloc: Global,
     topology: &Topology,
     transform: &DecimalTransform,
-    rewind: Rewind,
+    rules: &BackRules<'_>,
 ) -> Result<Vec<u8>, DecimalFault>
-    ensures text { IfOk result (λ t. t.items ≡ quantized_text transform.now rewind topology.now) }
+    ensures text { IfOk result (λ t. t.items ≡ quantized_text transform.now rules.now topology.now) }
     ensures within { OnOk result (IfSome topology.now.bbox (λ _. transform.now.unit.places ≤ 30)) }
     ensures refused { result ≡ Err DecimalFault.TooManyDigits → 30 < transform.now.unit.places }
 {
@@ -146,6 +148,6 @@ pub fn text_on(
     Text(b"{\"type\":\"Topology\",").write(&mut out)?;
     write_numerals(transform, &mut out)?;
     write_bbox(alloc, topology.bbox(), &transform.unit, &mut out)?;
-    write_quantized(alloc, topology, &quantizer, rewind, &mut out)?;
+    write_quantized(alloc, topology, &quantizer, rules, &mut out)?;
     Ok(out.into_bytes())
 }

@@ -1,23 +1,23 @@
 //! Rings that are turned as they are wanted.
-ghost use Rattle.decimals.specs.Topology.Turning.{area_of, rewound_body, rewound_geometry, rewound_layer, rewound_ring, rewound_rings, ring_area, turned_to, turns_wrong, wanted as wanted_of};
+ghost use Rattle.decimals.specs.Topology.Turning.{area_of, rewound_body, rewound_ring, rewound_rings, ring_area, turned_to, turns_wrong, wanted as wanted_of};
 ghost use Rattle.std.specs.Prelude.{◌≡◌, ◌++◌, IfOk, IfSome, OnOk, if◌then◌else◌, false, map};
 ghost use Rattle.theory.specs.ArcNumbers as spec;
 ghost use Rattle.theory.specs.ArcNumbers.{backwards};
 
+use crate::topology::rules::BackRules;
 use chains::table::ArcRef;
 use chains::used_arcs::add_backwards;
 use faults::OutOfMemory;
 use fixing::Rewind;
 use lines::items::Items;
 use std::alloc::{AllocError, Global};
-use topo::geom::{Body, Geom};
-use topo::topology::Layer;
+use topo::geom::Body;
 
-/// How rings are turned: by twice the area along each arc.
+/// How layers are written: by twice the area along each arc, and the rules.
 #[derive(Drop)]
-pub(crate) struct Turning {
+pub(crate) struct Turning<'r> {
     pub(crate) areas: Vec<i128>,
-    pub(crate) rewind: Rewind,
+    pub(crate) rules: BackRules<'r>,
 }
 
 /// Whether rings are asked to turn counterclockwise, if they are asked to turn.
@@ -55,7 +55,7 @@ fn rewind_ring(alloc: Global, ring: &[ArcRef], is_wrong: bool) -> Result<Items<A
     Ok(Items::from_vec(refs))
 }
 
-impl Turning {
+impl<'r> Turning<'r> {
     /// The area along a used arc.
     fn along(&self, used: ArcRef) -> Option<i128>
         ensures { IfSome result (λ a. a ≡ area_of self.now.areas.items used) }
@@ -86,9 +86,9 @@ impl Turning {
         ring: &[ArcRef],
         is_outer: bool,
     ) -> Result<Items<ArcRef>, OutOfMemory>
-        ensures { IfOk result (λ r. r ≡ rewound_ring self.now.areas.items self.now.rewind is_outer ring.now) }
+        ensures { IfOk result (λ r. r ≡ rewound_ring self.now.areas.items self.now.rules.rewind is_outer ring.now) }
     {
-        match turn_for(self.rewind, is_outer) {
+        match turn_for(self.rules.rewind, is_outer) {
             Some(counterclockwise) => match self.of_ring(ring) {
                 Some(area) => Ok(rewind_ring(alloc, ring, is_wrong(counterclockwise, area))?),
                 None => Err(OutOfMemory),
@@ -104,7 +104,7 @@ impl Turning {
         rings: &mut Vec<Items<ArcRef>>,
         holes: &[Items<ArcRef>],
     ) -> Result<(), OutOfMemory>
-        ensures { OnOk result (rings.new.items ≡ rings.old.items ++ map (rewound_ring self.now.areas.items self.now.rewind false) holes.now) }
+        ensures { OnOk result (rings.new.items ≡ rings.old.items ++ map (rewound_ring self.now.areas.items self.now.rules.rewind false) holes.now) }
     {
         for hole in holes {
             rings.push(self.ring(alloc, hole.as_slice(), false)?)?;
@@ -118,7 +118,7 @@ impl Turning {
         alloc: Global,
         rings: &[Items<ArcRef>],
     ) -> Result<Items<Items<ArcRef>>, OutOfMemory>
-        ensures { IfOk result (λ r. r ≡ rewound_rings self.now.areas.items self.now.rewind rings.now) }
+        ensures { IfOk result (λ r. r ≡ rewound_rings self.now.areas.items self.now.rules.rewind rings.now) }
     {
         let mut made = Vec::new(alloc);
         if let Some((outer, holes)) = rings.split_first() {
@@ -133,7 +133,7 @@ impl Turning {
         alloc: Global,
         polygons: &[Items<Items<ArcRef>>],
     ) -> Result<Items<Items<Items<ArcRef>>>, OutOfMemory>
-        ensures { IfOk result (λ r. r ≡ map (rewound_rings self.now.areas.items self.now.rewind) polygons.now) }
+        ensures { IfOk result (λ r. r ≡ map (rewound_rings self.now.areas.items self.now.rules.rewind) polygons.now) }
     {
         let mut made = Vec::new(alloc);
         for rings in polygons {
@@ -142,8 +142,8 @@ impl Turning {
         Ok(Items::from_vec(made))
     }
 
-    fn body(&self, alloc: Global, body: &Body) -> Result<Body, OutOfMemory>
-        ensures { IfOk result (λ b. b ≡ rewound_body self.now.areas.items self.now.rewind body.now) }
+    pub(crate) fn body(&self, alloc: Global, body: &Body) -> Result<Body, OutOfMemory>
+        ensures { IfOk result (λ b. b ≡ rewound_body self.now.areas.items self.now.rules.rewind body.now) }
     {
         match body {
             Body::Polygon(rings) => Ok(Body::Polygon(self.rings(alloc, rings.as_slice())?)),
@@ -153,36 +153,5 @@ impl Turning {
             )?)),
             _ => Ok(body.copy(alloc)?),
         }
-    }
-
-    fn geometry(&self, alloc: Global, geometry: &Geom) -> Result<Geom, OutOfMemory>
-        ensures { IfOk result (λ g. g ≡ rewound_geometry self.now.areas.items self.now.rewind geometry.now) }
-    {
-        let id = geometry.id.copy(alloc)?;
-        let props = geometry.props.copy(alloc)?;
-        let body = self.body(alloc, &geometry.body)?;
-        Ok(Geom { id, props, body })
-    }
-
-    fn layer(&self, alloc: Global, layer: &Layer) -> Result<Layer, OutOfMemory>
-        ensures { IfOk result (λ l. l ≡ rewound_layer self.now.areas.items self.now.rewind layer.now) }
-    {
-        let mut geometries = Vec::new(alloc);
-        for geometry in layer.geometries() {
-            geometries.push(self.geometry(alloc, geometry)?)?;
-        }
-        let name = layer.name().copy(alloc)?;
-        Ok(Layer::new(name, geometries))
-    }
-
-    /// The layers with their rings turned.
-    pub(crate) fn layers(&self, alloc: Global, layers: &[Layer]) -> Result<Vec<Layer>, OutOfMemory>
-        ensures { IfOk result (λ ls. ls.items ≡ map (rewound_layer self.now.areas.items self.now.rewind) layers.now) }
-    {
-        let mut made = Vec::new(alloc);
-        for layer in layers {
-            made.push(self.layer(alloc, layer)?)?;
-        }
-        Ok(made)
     }
 }

@@ -1,5 +1,5 @@
 //! Whole topologies.
-ghost use Rattle.decimals.specs.Topology.Turning.{rewound_layers};
+ghost use Rattle.decimals.specs.Topology.LayersBack.{layers_back};
 ghost use Rattle.decimals.specs.Topology.TopologyText.{bbox_text, content_text, transform_text, unit_text};
 ghost use Rattle.decimals.specs.declared.topology.fault.DecimalFault.TheVariants.{TooManyDigits};
 ghost use Rattle.sinks.specs.Texts.{option_text};
@@ -10,17 +10,18 @@ ghost use Rattle.topo.specs.ArcTexts.{arc_text, position_text};
 use crate::topology::area::areas_of;
 use crate::topology::fault::DecimalFault;
 use crate::topology::geometries::TypeFirstLayers;
+use crate::topology::layers::BackLayer;
 use crate::topology::pairs::{pair_of, write_pair};
+use crate::topology::rules::BackRules;
 use crate::topology::turning::Turning;
 use chains::table::ArcTable;
 use faults::OutOfMemory;
-use fixing::Rewind;
 use grid::Grid;
 use numerals::DecimalStep;
 use sinks::written::{Each, Text, Then, Written};
 use sinks::{Kept, Sink, WriteFault};
 use std::alloc::Global;
-use topo::topology::{Layer, Topology};
+use topo::topology::Topology;
 use topo::writing::{ArcsText, PositionNumbers};
 
 /// The member `transform`. The differences in the arcs are steps of the scale.
@@ -64,7 +65,11 @@ pub(crate) fn write_bbox<W: Sink>(
 }
 
 /// The members `objects` and `arcs`, and the end of the text.
-fn write_content<W: Sink>(layers: &[Layer], arcs: &ArcTable, out: &mut W) -> Result<(), WriteFault>
+fn write_content<W: Sink>(
+    layers: &[BackLayer],
+    arcs: &ArcTable,
+    out: &mut W,
+) -> Result<(), WriteFault>
     ensures { OnOk result (TookAll (W.seen out.old) (W.seen out.new) (content_text position_text arc_text layers.now arcs.now.arcs)) }
 {
     let tail = Then(Text(b"},\"arcs\":["), Then(ArcsText(arcs), Text(b"]}")));
@@ -75,38 +80,39 @@ fn write_content<W: Sink>(layers: &[Layer], arcs: &ArcTable, out: &mut W) -> Res
     .write(out)
 }
 
-/// The layers of a topology, rings turned as they are wanted.
-pub(crate) fn turned_layers(
+/// The layers of a topology as the rules say.
+pub(crate) fn written_layers(
     alloc: Global,
     topology: &Topology,
-    rewind: Rewind,
-) -> Result<Vec<Layer>, OutOfMemory>
-    ensures { IfOk result (λ ls. ls.items ≡ rewound_layers rewind topology.now.arcs.arcs topology.now.layers) }
+    rules: &BackRules<'_>,
+) -> Result<Vec<BackLayer>, OutOfMemory>
+    ensures { IfOk result (λ ls. ls.items ≡ layers_back rules.now topology.now.arcs.arcs topology.now.layers) }
 {
     let turning = Turning {
         areas: areas_of(alloc, topology.arcs())?,
-        rewind,
+        rules: *rules,
     };
     turning.layers(alloc, topology.layers())
 }
 
-/// The members `objects` and `arcs`, with rings turned as they are wanted.
-fn write_turned<W: Sink>(
+/// The members `objects` and `arcs`, with layers as the rules say.
+fn write_layers<W: Sink>(
     alloc: Global,
     topology: &Topology,
-    rewind: Rewind,
+    rules: &BackRules<'_>,
     out: &mut W,
 ) -> Result<(), DecimalFault>
-    ensures text { OnOk result (TookAll (W.seen out.old) (W.seen out.new) (content_text position_text arc_text (rewound_layers rewind topology.now.arcs.arcs topology.now.layers) topology.now.arcs.arcs)) }
+    ensures text { OnOk result (TookAll (W.seen out.old) (W.seen out.new) (content_text position_text arc_text (layers_back rules.now topology.now.arcs.arcs topology.now.layers) topology.now.arcs.arcs)) }
     ensures refused { ¬ (result ≡ Err DecimalFault.TooManyDigits) }
 {
-    let layers = turned_layers(alloc, topology, rewind)?;
+    let layers = written_layers(alloc, topology, rules)?;
     write_content(layers.as_slice(), topology.arcs(), out)?;
     Ok(())
 }
 
 /// The text of a topology in the unit of the map, of which an absolute 1 is worth `unit`: `type` first, the numbers of
-/// the transform and the bounding box times that, all exactly, and the rings of polygons turned as they are wanted.
+/// the transform and the bounding box times that, all exactly, and the rings of polygons and the numbers of properties as
+/// the rules say.
 ///
 /// # Errors
 /// `TooManyDigits` where `unit` has more than 30 places; `OutOfMemory`.
@@ -114,9 +120,9 @@ pub fn text_of(
     alloc: Global,
     topology: &Topology,
     unit: &DecimalStep,
-    rewind: Rewind,
+    rules: &BackRules<'_>,
 ) -> Result<Vec<u8>, DecimalFault>
-    ensures text { IfOk result (λ t. t.items ≡ unit_text unit.now rewind topology.now) }
+    ensures text { IfOk result (λ t. t.items ≡ unit_text unit.now rules.now topology.now) }
     ensures within { OnOk result (unit.now.places ≤ 30) }
     ensures refused { result ≡ Err DecimalFault.TooManyDigits → 30 < unit.now.places }
 {
@@ -124,6 +130,6 @@ pub fn text_of(
     Text(b"{\"type\":\"Topology\",").write(&mut out)?;
     write_transform(alloc, &topology.grid(), unit, &mut out)?;
     write_bbox(alloc, topology.bbox(), unit, &mut out)?;
-    write_turned(alloc, topology, rewind, &mut out)?;
+    write_layers(alloc, topology, rules, &mut out)?;
     Ok(out.into_bytes())
 }

@@ -1,7 +1,8 @@
 use Rattle.std.proofs.Common.{◌≡◌, ◌∙◌, ◌∷◌, ◌++◌, [], ap, append_assoc, append-nil, arith, inr, length, refl, subst, sym}
-use Rattle.rounded_maps.specs.Files.{AreOfFile, AreRounded, File, files_of}
+use Rattle.rounded_maps.specs.Files.{AreOfFile, AreRounded, File, file_of, files_of}
 use Rattle.rounded_maps.specs.Refusals.{IsFirstFrom}
 use Rattle.rounded_maps.proofs.Ends.{nothing_left}
+use Rattle.rounded_maps.proofs.Faultless.{files_sound}
 use Rattle.rounded_maps.proofs.files.read_maps.Goals as goal
 
 pub loop-source-preserved : goal.loop-source-preserved
@@ -13,7 +14,7 @@ loop-source-preserved g c =
     let origins = c.loop-source.read.origins.items in
     let left = c.next.new.self.rest.items in
     let split = c.in-Some.ensures.steps.0 in
-    let file : File = (c.in-Some.source.is_sequence, g.T.AsSlice.items c.in-Some.source.bytes) in
+    let file : File = file_of c.in-Some.source.is_sequence c.in-Some.source.is_named (g.T.AsSlice.items c.in-Some.source.bytes) in
     let more = c.in_ok-add_file.ensures.more in
     let ms = more.0 in
     let os = more.1.0 in
@@ -35,8 +36,8 @@ loop-source-preserved g c =
       place = omega (arith, len, place);
     }
 
-pub returns-clause-rounded : goal.returns-clause-rounded
-returns-clause-rounded g c =
+all_read : goal.returns-clause-rounded
+all_read g c =
     let rules = c.args.rules.now in
     let n = c.loop-source.place in
     let files = files_of g.T.AsSlice.items in
@@ -47,3 +48,10 @@ returns-clause-rounded g c =
     let nothing : AreRounded rules n (files left.items) [] [] = subst (λ ss. AreRounded rules n (files ss) [] []) (sym none) (refl, refl) in
     subst (λ ms. AreRounded rules 0 (files c.args.sources.items) ms c.loop-source.read.origins.items) (append-nil c.loop-source.read.maps.items)
     (subst (λ os. AreRounded rules 0 (files c.args.sources.items) (c.loop-source.read.maps.items ++ []) os) (append-nil c.loop-source.read.origins.items) (c.loop-source.invariant.rounded [] [] nothing))
+
+pub returns-clause-rounded : goal.returns-clause-rounded
+returns-clause-rounded g c = all_read g c
+
+pub returns-clause-faultless : goal.returns-clause-faultless
+returns-clause-faultless g c =
+    files_sound c.args.rules.now 0 (files_of g.T.AsSlice.items c.args.sources.items) c.loop-source.read.maps.items c.loop-source.read.origins.items c.size-step.ensures.limits (all_read g c)

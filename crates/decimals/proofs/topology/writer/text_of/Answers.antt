@@ -7,5 +7,5 @@ pub returns-clause-text : goal.returns-clause-text
 returns-clause-text c =
     let took =
     four_pieces _ _ _ _ c.in_ok-write.ensures.whole (rw c.grid.ensures at c.in_ok-write_transform.ensures.text) (rw c.bbox.ensures at c.in_ok-write_bbox.ensures.text)
-    c.in_ok-write_turned.ensures.text in
+    c.in_ok-write_layers.ensures.text in
     appended _ _ _ _ (ap (λ s. s.bytes) c.new-out.ensures) c.into_bytes.ensures took.bytes

@@ -1,0 +1,106 @@
+//! The words of the way back: a topology in the unit of the map, with its numbers.
+use crate::report::{Report, ReportFault};
+use crate::shell::put_shell_word;
+use attributes::Scale;
+use rounding_options::options::{GridOptions, power_of};
+use rounding_options::target::Target;
+use sinks::{Kept, put};
+use std::alloc::{AllocError, Global};
+use std::collections::BTreeSet;
+
+/// A word of these parts.
+fn word_of(alloc: Global, parts: &[&str]) -> Result<String, AllocError> {
+    let mut word = String::new(alloc);
+    for part in parts {
+        word.push_str(*part)?;
+    }
+    Ok(word)
+}
+
+/// Whether words can say which columns become numbers.
+fn are_words(names: &BTreeSet<&str>) -> bool {
+    names
+        .iter()
+        .all(|name| !name.is_empty() && !name.contains(','))
+}
+
+/// The names of columns, behind `--numbers`. Where words can't say them it has none: then all columns are found again.
+fn numbers_word(alloc: Global, names: &BTreeSet<&str>) -> Result<String, AllocError> {
+    let mut word = word_of(alloc, &["--numbers"])?;
+    if !are_words(names) {
+        return Ok(word);
+    }
+    let mut between = "=";
+    for name in names {
+        word.push_str(between)?;
+        word.push_str(*name)?;
+        between = ",";
+    }
+    Ok(word)
+}
+
+/// Adds the words of scales.
+fn add_scales(
+    alloc: Global,
+    words: &mut Vec<String>,
+    scales: &[Scale<'_>],
+) -> Result<(), AllocError> {
+    for scale in scales {
+        words.push(word_of(alloc, &["--reals"])?)?;
+        let parts = ["scale:", scale.property, "=", power_of(scale)];
+        words.push(word_of(alloc, &parts)?)?;
+    }
+    Ok(())
+}
+
+/// The word of the topology: its file, or standard input. A `=` in front lets a word be a file that would be none.
+fn file_word(alloc: Global, options: &GridOptions<'_>) -> Result<String, AllocError> {
+    let file = match options.target {
+        Target::File(file) if options.is_build => file,
+        _ => "-",
+    };
+    if file.contains('=') || (file.starts_with('-') && file != "-") {
+        word_of(alloc, &["=", file])
+    } else {
+        word_of(alloc, &[file])
+    }
+}
+
+/// The words of the way back.
+pub(crate) fn back_words(
+    alloc: Global,
+    report: &Report<'_, '_>,
+) -> Result<Vec<String>, ReportFault> {
+    let options = report.options;
+    let mut words = Vec::new(alloc);
+    words.push(word_of(alloc, &["togrid"])?)?;
+    words.push(word_of(alloc, &["--back"])?)?;
+    if let Some(unit) = options.unit_word {
+        words.push(word_of(alloc, &["--unit"])?)?;
+        words.push(word_of(alloc, &[unit])?)?;
+    }
+    let names = report.columns.names(alloc)?;
+    if !names.is_empty() {
+        words.push(numbers_word(alloc, &names)?)?;
+    }
+    add_scales(alloc, &mut words, options.scales.as_slice())?;
+    words.push(file_word(alloc, options)?)?;
+    Ok(words)
+}
+
+/// The line of the way back, where numbers became texts of columns or were scaled.
+pub(crate) fn put_back(
+    alloc: Global,
+    lines: &mut Kept,
+    report: &Report<'_, '_>,
+) -> Result<(), ReportFault> {
+    if report.options.scales.is_empty() && report.columns.names(alloc)?.is_empty() {
+        return Ok(());
+    }
+    put(lines, b"back:")?;
+    for word in back_words(alloc, report)? {
+        put(lines, b" ")?;
+        put_shell_word(lines, word.as_bytes())?;
+    }
+    Ok(put(lines, b"\n")?)
+}
