@@ -117,10 +117,6 @@ pub next_part : {limit : ℕ} {file : List ℕ} {e : Bool} {rs left : List Fault
 next_part {limit} {file} {e} {rs} {left} {c} {old} {new} r after n newer is next count part =
     left_part _ is.took (next_text r after is next) (let P : ℕ → Type 0 = λ k. TookPart new newer (cond (nat_lt k limit) (report_lines file e r) []) in subst P count part)
 
--- the same of a number that is how many there are
-pub text_of_limit : (n : ℕ) (file : List ℕ) (e : Bool) (rs : List FaultReport) → n ≡ length rs → first_text n file e rs ≡ file_text file e rs
-text_of_limit n file e rs is = ap (λ k. first_text k file e rs) is ∙ text_of_all file e rs
-
 -- where nothing is left, all are counted, and the sink took the lines of all
 pub all_counted : {limit : ℕ} {file : List ℕ} {e : Bool} {rs left : List FaultReport} {c : FaultCounts} {old new : Seen} → IsWrittenTo limit file e rs left c old new → length left ≡ 0 → AreCounts rs c
 all_counted {limit} {file} {e} {rs} {left} {c} {old} {new} is none =

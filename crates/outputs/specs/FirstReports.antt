@@ -25,9 +25,17 @@ first_of_each limit before (r ∷ rs) = cond (nat_lt (count_of r.fault.kind befo
 unfoldable pub all_kinds : List FaultKind
 all_kinds = NotJson ∷ Missing ∷ WrongKind ∷ UnknownType ∷ NotWhole ∷ OutOfRange ∷ OffGrid ∷ TooShort ∷ NotClosed ∷ Revisit ∷ NoArc ∷ Broken ∷ PropertyNumber ∷ PropertyDepth ∷ NoTransform ∷ NotTwo ∷ OtherGrid ∷ BadPlan ∷ NoLayer ∷ OutOfMemory ∷ Write ∷ []
 
+-- the number and the name of a kind
+abbrev pub kind_text : FaultKind → List ℕ
+kind_text kind = (codes ": " ++ decimal (number_of kind)) ++ codes " " ++ name_of kind
+
+-- how many more errors there are, and the end of a line
+abbrev pub count_text : ℕ → List ℕ
+count_text n = (codes ": " ++ decimal n) ++ codes " more (--all prints each)\n"
+
 -- the line that says how many more errors of a kind a file has
 abbrev pub more_text : List ℕ → FaultKind → ℕ → List ℕ
-more_text file kind n = file ++ (codes ": " ++ decimal (number_of kind)) ++ (codes " " ++ name_of kind) ++ (codes ": " ++ decimal n) ++ codes " more (--all prints each)\n"
+more_text file kind n = file ++ kind_text kind ++ count_text n
 
 -- that line of n errors of a kind, where these are more than the limit
 abbrev pub more_line : ℕ → List ℕ → FaultKind → ℕ → List ℕ

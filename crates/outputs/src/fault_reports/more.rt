@@ -1,6 +1,6 @@
 //! How many errors a file has of a number, behind the first of them.
 ghost use Rattle.faults.specs.Fault.{name_of, number_of};
-ghost use Rattle.outputs.specs.FirstReports.{all_kinds, counted, more_line, more_lines, more_text};
+ghost use Rattle.outputs.specs.FirstReports.{all_kinds, count_text, counted, kind_text, more_line, more_lines, more_text};
 ghost use Rattle.sinks.specs.Writes.{TookAll, TookPart};
 ghost use Rattle.std.specs.Prelude.{◌≡◌, ◌++◌, OnErr, OnOk, codes, decimal};
 
@@ -41,6 +41,32 @@ fn all_kinds() -> [FaultKind; 21]
     ]
 }
 
+/// The number and the name of a kind.
+#[derive(Clone, Copy)]
+struct NumberAndName(FaultKind);
+
+impl Written for NumberAndName {
+    ghost text = { λ k. kind_text k.0 };
+
+    fn write<W: Sink>(&self, sink: &mut W) -> Result<(), WriteFault> {
+        let number = Worded(": ", KindNumber(self.0));
+        Then(number, Worded(" ", KindName(self.0))).write(sink)
+    }
+}
+
+/// How many more errors there are.
+#[derive(Clone, Copy)]
+struct MoreCount(usize);
+
+impl Written for MoreCount {
+    ghost text = { λ m. count_text m.0 };
+
+    fn write<W: Sink>(&self, sink: &mut W) -> Result<(), WriteFault> {
+        let count = Worded(": ", Digits(self.0));
+        Then(count, Text(b" more (--all prints each)\n")).write(sink)
+    }
+}
+
 /// How many more errors of a kind a file has.
 #[derive(Clone, Copy)]
 struct MoreLine<'a>(&'a str, FaultKind, usize);
@@ -49,12 +75,11 @@ impl<'a> Written for MoreLine<'a> {
     ghost text = { λ m. more_text m.0.now m.1 m.2 };
 
     fn write<W: Sink>(&self, sink: &mut W) -> Result<(), WriteFault> {
-        let number = Worded(": ", KindNumber(self.1));
-        let name = Worded(" ", KindName(self.1));
-        let count = Worded(": ", Digits(self.2));
-        let end = Text(b" more (--all prints each)\n");
-        let kind = Then(number, Then(name, Then(count, end)));
-        Then(Chars(self.0), kind).write(sink)
+        Then(
+            Chars(self.0),
+            Then(NumberAndName(self.1), MoreCount(self.2)),
+        )
+        .write(sink)
     }
 }
 

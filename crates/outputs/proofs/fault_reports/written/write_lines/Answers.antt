@@ -1,15 +1,15 @@
 use Rattle.std.proofs.Common.{ℕ, List, subst}
 use Rattle.std.specs.Result.{OnErr, OnOk}
 use Rattle.sinks.specs.Writes.{TookAll, TookPart}
-use Rattle.outputs.proofs.FirstReportsLemmas.{text_of_limit}
+use Rattle.outputs.proofs.FirstReportsLemmas.{text_of_all}
 use Rattle.outputs.proofs.fault_reports.written.write_lines.Goals as goal
 
 pub returns-clause-whole : goal.returns-clause-whole
 returns-clause-whole g c =
     let P : List ℕ → Type 0 = λ t. OnOk c.write_up_to.result (TookAll (g.W.Sink.seen c.args.sink.now) (g.W.Sink.seen c.write_up_to.new.sink) t) in
-    subst P (text_of_limit c.len.result c.args.file.now c.args.is_explained c.args.reports.now c.len.ensures) c.write_up_to.ensures.whole
+    subst P (text_of_all c.args.file.now c.args.is_explained c.args.reports.now) c.write_up_to.ensures.whole
 
 pub returns-clause-part : goal.returns-clause-part
 returns-clause-part g c =
     let P : List ℕ → Type 0 = λ t. OnErr c.write_up_to.result (TookPart (g.W.Sink.seen c.args.sink.now) (g.W.Sink.seen c.write_up_to.new.sink) t) in
-    subst P (text_of_limit c.len.result c.args.file.now c.args.is_explained c.args.reports.now c.len.ensures) c.write_up_to.ensures.part
+    subst P (text_of_all c.args.file.now c.args.is_explained c.args.reports.now) c.write_up_to.ensures.part

@@ -1,8 +1,5 @@
-use Rattle.std.proofs.Common.{◌≡◌, ◌^◌, ◌<◌, [], ◌++◌, arith, length, refl, rules, subst, sym}
-use Rattle.std.proofs.lemmas.List.{append-nil}
+use Rattle.std.proofs.Common.{[], refl, rules}
 use Rattle.sinks.proofs.Writes.{up_to_start}
-use Rattle.outputs.specs.FaultReports.{lines_text}
-use Rattle.outputs.specs.FirstReports.{first_of_each}
 use Rattle.outputs.proofs.FirstReportsLemmas.{all_written, all_counted, next_part, next_written}
 use Rattle.outputs.proofs.fault_reports.written.write_reports.Goals as goal
 
