@@ -1,5 +1,5 @@
 //! The words of the way back: a topology in the unit of the map, with its numbers.
-use crate::report::{Report, ReportFault};
+use crate::report::{LineFault, Report};
 use crate::shell::put_shell_word;
 use attributes::Scale;
 use rounding_options::options::{GridOptions, power_of};
@@ -67,10 +67,7 @@ fn file_word(alloc: Global, options: &GridOptions<'_>) -> Result<String, AllocEr
 }
 
 /// The words of the way back.
-pub(crate) fn back_words(
-    alloc: Global,
-    report: &Report<'_, '_>,
-) -> Result<Vec<String>, ReportFault> {
+pub(crate) fn back_words(alloc: Global, report: &Report<'_, '_>) -> Result<Vec<String>, LineFault> {
     let options = report.options;
     let mut words = Vec::new(alloc);
     words.push(word_of(alloc, &["togrid"])?)?;
@@ -93,7 +90,7 @@ pub(crate) fn put_back(
     alloc: Global,
     lines: &mut Kept,
     report: &Report<'_, '_>,
-) -> Result<(), ReportFault> {
+) -> Result<(), LineFault> {
     if report.options.scales.is_empty() && report.columns.names(alloc)?.is_empty() {
         return Ok(());
     }

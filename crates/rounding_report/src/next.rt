@@ -1,5 +1,5 @@
 //! The command to go on with.
-use crate::report::{Report, ReportFault};
+use crate::report::{LineFault, Report};
 use crate::shell::put_shell_word;
 use command_line::refusal::put_words;
 use itoa::Buffer;
@@ -13,9 +13,9 @@ fn put_layer(
     lines: &mut Kept,
     target: &Target<'_>,
     name: &str,
-) -> Result<(), ReportFault> {
+) -> Result<(), LineFault> {
     let Ok(Some(file)) = target.file(alloc, name) else {
-        return Err(ReportFault);
+        return Err(LineFault);
     };
     let mut word = Kept::new(alloc);
     put_words(&mut word, name, "=")?;
@@ -25,7 +25,7 @@ fn put_layer(
 }
 
 /// The command to go on with: `topotool build --grid 1,1,0,0 provinces=out/provinces.json`.
-fn put_next(alloc: Global, lines: &mut Kept, report: &Report<'_, '_>) -> Result<(), ReportFault> {
+fn put_next(alloc: Global, lines: &mut Kept, report: &Report<'_, '_>) -> Result<(), LineFault> {
     let mut units = Buffer::new();
     let units = units.format(report.options.units);
     put(lines, b"topotool build --grid ")?;
@@ -49,6 +49,6 @@ pub(crate) fn next_command(
     let mut next = Kept::new(alloc);
     match put_next(alloc, &mut next, report) {
         Ok(()) => Ok(Some(next.into_bytes())),
-        Err(ReportFault) => Err(AllocError),
+        Err(LineFault) => Err(AllocError),
     }
 }

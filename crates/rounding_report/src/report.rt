@@ -50,29 +50,29 @@ impl<'r, 'a> Report<'r, 'a> {
 
 /// There is no memory for a line: those are kept in memory, where nothing else fails.
 #[derive(Drop)]
-pub(crate) struct ReportFault;
+pub(crate) struct LineFault;
 
-impl From<OutOfMemory> for ReportFault {
-    fn from(_fault: OutOfMemory) -> ReportFault {
-        ReportFault
+impl From<OutOfMemory> for LineFault {
+    fn from(_fault: OutOfMemory) -> LineFault {
+        LineFault
     }
 }
 
-impl<T: Drop> From<AllocFailed<T>> for ReportFault {
-    fn from(_failed: AllocFailed<T>) -> ReportFault {
-        ReportFault
+impl<T: Drop> From<AllocFailed<T>> for LineFault {
+    fn from(_failed: AllocFailed<T>) -> LineFault {
+        LineFault
     }
 }
 
-impl From<AllocError> for ReportFault {
-    fn from(_fault: AllocError) -> ReportFault {
-        ReportFault
+impl From<AllocError> for LineFault {
+    fn from(_fault: AllocError) -> LineFault {
+        LineFault
     }
 }
 
-impl From<WriteFault> for ReportFault {
-    fn from(_fault: WriteFault) -> ReportFault {
-        ReportFault
+impl From<WriteFault> for LineFault {
+    fn from(_fault: WriteFault) -> LineFault {
+        LineFault
     }
 }
 
@@ -129,7 +129,7 @@ fn put_moves(
     lines: &mut Kept,
     outcome: &Outcome,
     options: &GridOptions<'_>,
-) -> Result<(), ReportFault> {
+) -> Result<(), LineFault> {
     if outcome.tally.moved == 0 {
         return Ok(());
     }
@@ -147,7 +147,7 @@ fn put_moves(
 
 /// A kind of what is fixed.
 #[derive(Clone, Copy)]
-enum Kind {
+enum FixKind {
     Closed,
     Collapsed,
     Folded,
@@ -155,30 +155,30 @@ enum Kind {
     Lost,
 }
 
-impl Kind {
+impl FixKind {
     fn count_of(self, fixes: Fixes) -> u64 {
         match self {
-            Kind::Closed => fixes.closed,
-            Kind::Collapsed => fixes.collapsed,
-            Kind::Folded => fixes.folded,
-            Kind::Collections => fixes.collections,
-            Kind::Lost => fixes.lost,
+            FixKind::Closed => fixes.closed,
+            FixKind::Collapsed => fixes.collapsed,
+            FixKind::Folded => fixes.folded,
+            FixKind::Collections => fixes.collections,
+            FixKind::Lost => fixes.lost,
         }
     }
 
     fn words(self) -> &'static str {
         match self {
-            Kind::Closed => "rings closed",
-            Kind::Collapsed => "lines or rings collapsed",
-            Kind::Folded => "lines or rings folded, and split",
-            Kind::Collections => "collections split",
-            Kind::Lost => "features without a shape left",
+            FixKind::Closed => "rings closed",
+            FixKind::Collapsed => "lines or rings collapsed",
+            FixKind::Folded => "lines or rings folded, and split",
+            FixKind::Collections => "collections split",
+            FixKind::Lost => "features without a shape left",
         }
     }
 }
 
 /// How much of a kind was fixed, with the first feature of which it was.
-fn put_fixed<E: Sink>(err: &mut E, outcome: &Outcome, kind: Kind) -> Result<(), WriteFault> {
+fn put_fixed<E: Sink>(err: &mut E, outcome: &Outcome, kind: FixKind) -> Result<(), WriteFault> {
     let count = kind.count_of(outcome.fixes);
     if count == 0 {
         return Ok(());
@@ -237,7 +237,7 @@ fn put_outcome(
     layer: &MapLayer<'_>,
     outcome: &Outcome,
     report: &Report<'_, '_>,
-) -> Result<(), ReportFault> {
+) -> Result<(), LineFault> {
     let options = report.options;
     put_origin(lines, layer)?;
     put_count(lines, outcome.features as u64, "features, ")?;
@@ -250,11 +250,11 @@ fn put_outcome(
         put_columns(lines, numbers)?;
     }
     for kind in [
-        Kind::Closed,
-        Kind::Collapsed,
-        Kind::Folded,
-        Kind::Collections,
-        Kind::Lost,
+        FixKind::Closed,
+        FixKind::Collapsed,
+        FixKind::Folded,
+        FixKind::Collections,
+        FixKind::Lost,
     ] {
         put_fixed(lines, outcome, kind)?;
     }
@@ -335,11 +335,7 @@ fn put_vertices<E: Sink>(err: &mut E, report: &Report<'_, '_>) -> Result<(), Wri
 }
 
 /// What became of each map.
-fn put_outcomes(
-    alloc: Global,
-    report: &Report<'_, '_>,
-    lines: &mut Kept,
-) -> Result<(), ReportFault> {
+fn put_outcomes(alloc: Global, report: &Report<'_, '_>, lines: &mut Kept) -> Result<(), LineFault> {
     let outcomes = report.rounded.outcomes.iter().enumerate();
     for (layer, (map, outcome)) in report.layers.iter().zip(outcomes) {
         put_outcome(alloc, lines, layer, outcome, report)?;
@@ -376,7 +372,7 @@ fn put_absent<E: Sink>(err: &mut E, report: &Report<'_, '_>) -> Result<(), Write
     Ok(())
 }
 
-fn put_lines(alloc: Global, report: &Report<'_, '_>, lines: &mut Kept) -> Result<(), ReportFault> {
+fn put_lines(alloc: Global, report: &Report<'_, '_>, lines: &mut Kept) -> Result<(), LineFault> {
     put_outcomes(alloc, report, lines)?;
     put_without_maps(lines, report)?;
     put_absent(lines, report)?;
@@ -394,6 +390,6 @@ pub fn report_lines(alloc: Global, report: &Report<'_, '_>) -> Result<Vec<u8>, A
     let mut lines = Kept::new(alloc);
     match put_lines(alloc, report, &mut lines) {
         Ok(()) => Ok(lines.into_bytes()),
-        Err(ReportFault) => Err(AllocError),
+        Err(LineFault) => Err(AllocError),
     }
 }

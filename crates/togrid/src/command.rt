@@ -2,8 +2,8 @@
 use crate::all_faults::print_faults;
 use crate::back::write_back;
 use crate::back_options::back_options_of;
-use crate::made::Made;
 use crate::remedies::{refuse_text, remedies_of};
+use crate::rounding_result::RoundingResult;
 use clap::ArgMatches;
 use command_line::ending::{explain, refuse};
 use command_line::files::{Files, input_once, read_all};
@@ -89,7 +89,7 @@ fn finish<'m, F: Files, O: Sink, E: Sink>(
     alloc: Global,
     options: &GridOptions<'m>,
     sources: &[NamedFile<'m>],
-    made: &Made,
+    made: &RoundingResult,
     rounded: &'m Rounded,
     files: &mut F,
     out: &mut O,
@@ -141,7 +141,7 @@ impl Reports {
         alloc: Global,
         options: &GridOptions<'m>,
         sources: &[NamedFile<'m>],
-        made: &Made,
+        made: &RoundingResult,
         layers: &[MapLayer<'m>],
         rounded: &'m Rounded,
     ) -> Result<Reports, Refusal<'m>> {
@@ -184,7 +184,7 @@ fn make<'a>(
     options: &GridOptions<'a>,
     sources: &[NamedFile<'a>],
     texts: Vec<Vec<u8>>,
-) -> Result<(Made, Rounded), Refusal<'a>> {
+) -> Result<(RoundingResult, Rounded), Refusal<'a>> {
     let remedies = remedies_of(alloc, texts.as_slice())?;
     let names = names_of(alloc, sources)?;
     let files = with_kinds(alloc, options, sources, texts)?;
@@ -200,13 +200,13 @@ fn made_of(
     options: &GridOptions<'_>,
     names: &[&str],
     files: Vec<Source<Vec<u8>>>,
-) -> Result<(Made, Rounded), MapsFault> {
+) -> Result<(RoundingResult, Rounded), MapsFault> {
     if options.is_build {
         let (topology, rounded) = options.build(alloc, names, files)?;
-        return Ok((Made::Topology(topology), rounded));
+        return Ok((RoundingResult::Topology(topology), rounded));
     }
     let (maps, rounded) = options.round(alloc, names, files)?;
-    Ok((Made::Maps(maps), rounded))
+    Ok((RoundingResult::Maps(maps), rounded))
 }
 
 /// The refusal of the files.

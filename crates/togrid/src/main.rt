@@ -5,9 +5,9 @@ mod all_faults;
 mod back;
 mod back_options;
 mod command;
-mod made;
 mod printing;
 mod remedies;
+mod rounding_result;
 
 use crate::command::run;
 use command_line::host::{HostFiles, refuse_words};

@@ -67,17 +67,17 @@ fn is_in_maps(alloc: Global, maps: &[RoundedMap], name: &str) -> Result<bool, Ou
 
 /// What is made of files: one topology, or maps.
 #[derive(Drop)]
-pub(crate) enum Made {
+pub(crate) enum RoundingResult {
     Topology(Topology),
     Maps(Vec<RoundedMap>),
 }
 
-impl Made {
+impl RoundingResult {
     /// Whether a feature has a property.
     fn has_property(&self, alloc: Global, name: &str) -> Result<bool, OutOfMemory> {
         match self {
-            Made::Topology(topology) => is_in_topology(alloc, topology, name),
-            Made::Maps(maps) => is_in_maps(alloc, maps.as_slice(), name),
+            RoundingResult::Topology(topology) => is_in_topology(alloc, topology, name),
+            RoundingResult::Maps(maps) => is_in_maps(alloc, maps.as_slice(), name),
         }
     }
 
@@ -111,10 +111,15 @@ impl Made {
             return Ok(PrintedColumns::new(alloc));
         }
         match self {
-            Made::Topology(topology) => {
+            RoundingResult::Topology(topology) => {
                 PrintedColumns::of_topology(alloc, layers, rounded, topology)
             }
-            Made::Maps(maps) => PrintedColumns::of_maps(alloc, layers, rounded, maps.as_slice()),
+            RoundingResult::Maps(maps) => PrintedColumns::of_maps(
+                alloc,
+                layers,
+                rounded,
+                maps.as_slice(),
+            ),
         }
     }
 
@@ -128,10 +133,17 @@ impl Made {
         out: &mut O,
     ) -> Result<(), Refusal<'a>> {
         match self {
-            Made::Topology(topology) => {
+            RoundingResult::Topology(topology) => {
                 Printed::Topology(topology).print(alloc, options.output, files, out)
             }
-            Made::Maps(maps) => print_maps(alloc, options, layers, maps.as_slice(), files, out),
+            RoundingResult::Maps(maps) => print_maps(
+                alloc,
+                options,
+                layers,
+                maps.as_slice(),
+                files,
+                out,
+            ),
         }
     }
 }
