@@ -1,5 +1,5 @@
 -- Properties with their numbers as they were.
-use Rattle.std.proofs.Common.{◌≡◌, ℕ, ℤ, zero, suc, ◌+◌, ◌<◌, Bool, true, false, cond, List, [], ◌∷◌, ◌++◌, drop, take, map, length, get_or, BTreeMap, String, string_bytes, Option, Some, None, is_some, Ordering, nat_cmp, bytes_eq, refl, sym, ap, ◌∙◌, arith}
+use Rattle.std.proofs.Common.{◌≡◌, ℕ, ℤ, zero, suc, ◌+◌, ◌<◌, Bool, true, false, cond, List, [], ◌∷◌, drop, length, get_or, BTreeMap, String, string_bytes, Option, Some, None, is_some, Ordering, nat_cmp, bytes_eq, refl, sym, ap, ◌∙◌, arith}
 use Rattle.std.proofs.lemmas.Map.Text.{btree_map_updates_text}
 use Rattle.std.specs.Borrow.{Bor}
 use Rattle.std.specs.BTreeMap.{UpdatesBy, btree_map_len, get_by_text}
@@ -13,9 +13,8 @@ use Rattle.attributes.specs.declared.rules.Scale.{Scale}
 use Rattle.shapes.specs.Parts.{properties_text}
 use Rattle.shapes.specs.declared.props.Props.{Props}
 use Rattle.topo.specs.Parts.{LayerParts}
-use Rattle.topo.specs.declared.geom.Geom.{Geom}
 use Rattle.decimals.specs.Topology.Laws.{PropertiesStay}
-use Rattle.decimals.specs.Topology.LayersBack.{are_numbers, is_named, layer_in, props_of}
+use Rattle.decimals.specs.Topology.LayersBack.{are_numbers, is_named, layer_in}
 use Rattle.decimals.specs.declared.topology.rules.BackRules.{BackRules}
 
 abbrev Numbers : Type 0
@@ -31,65 +30,46 @@ either v true None rest = refl
 either v true (Some n) rest = refl
 either v false o rest = refl
 
-name_step : (names : List (Bor (List ℕ))) (i : ℕ) (name : Bor (List ℕ)) → i < length names → name ≡ get_or names i name → drop i names ≡ name ∷ drop (i + 1) names
-name_step [] i name within is = absurd (omega arith)
-name_step (n ∷ ns) zero name within is = ap (λ m. m ∷ ns) (sym is)
-name_step (n ∷ ns) (suc i) name within is = let e : suc i + 1 ≡ suc (i + 1) = omega arith in rw e (name_step ns i name (omega arith) is)
+name_step : (names : List (Bor (List ℕ))) (i : ℕ) (d : Bor (List ℕ)) → i < length names → drop i names ≡ get_or names i d ∷ drop (i + 1) names
+name_step [] i d within = absurd (omega arith)
+name_step (n ∷ ns) zero d within = refl
+name_step (n ∷ ns) (suc i) d within = let e : suc i + 1 ≡ suc (i + 1) = omega arith in rw e (name_step ns i d (omega arith))
 
 -- one name more is a column
-pub name_more : (old new : Numbers) (names : List (Bor (List ℕ))) (i : ℕ) (name : Bor (List ℕ)) (key : List ℕ) (v : ℕ) → i < length names → name ≡ get_or names i name → key ≡ name.now
+pub name_more : (old new : Numbers) (names : List (Bor (List ℕ))) (i : ℕ) (d : Bor (List ℕ)) (key : List ℕ) (v : ℕ) → i < length names → key ≡ (get_or names i d).now
     → UpdatesBy string_cmp (compare key) old new (Some v)
     → ((q : List ℕ) → (is_some (get_by_text old q) || is_named (drop i names) q) ≡ is_named names q)
     → (q : List ℕ) → (is_some (get_by_text new q) || is_named (drop (i + 1) names) q) ≡ is_named names q
-name_more old new names i name key v within is same updates before q =
+name_more old new names i d key v within same updates before q =
     let rest = is_named (drop (i + 1) names) q in
-    let found : get_by_text new q ≡ cond (bytes_eq name.now q) (Some v) (get_by_text old q) =
+    let name = (get_or names i d).now in
+    let found : get_by_text new q ≡ cond (bytes_eq name q) (Some v) (get_by_text old q) =
     btree_map_updates_text key old new (Some v) updates q ∙ ap (λ k. cond (bytes_eq k q) (Some v) (get_by_text old q)) same in
     ap (λ o. is_some o || rest) found
-    ∙ (either v (bytes_eq name.now q) (get_by_text old q) rest
-    ∙ (ap (λ l. is_some (get_by_text old q) || is_named l q) (sym (name_step names i name within is)) ∙ before q))
+    ∙ (either v (bytes_eq name q) (get_by_text old q) rest
+    ∙ (ap (λ l. is_some (get_by_text old q) || is_named l q) (sym (name_step names i d within)) ∙ before q))
 
-no_entries : {X : Type 0} (l : List X) → length l ≡ 0 → l ≡ []
+-- ---- no columns
+
+pub no_entries : {X : Type 0} (l : List X) → length l ≡ 0 → l ≡ []
 no_entries [] e = refl
 no_entries (x ∷ l) e = absurd (omega (arith, e))
 
-nothing : (numbers : Numbers) → btree_map_len numbers ≡ 0 → (q : List ℕ) → is_some (get_by_text numbers q) ≡ false
-nothing numbers empty q = rw (no_entries numbers.entries empty) refl
-
-or_false : (b : Bool) → (b || false) ≡ b
-or_false true = refl
-or_false false = refl
-
--- before the first name
-pub names_begin : (m : Numbers) (names : List (Bor (List ℕ))) → btree_map_len m ≡ 0 → (q : List ℕ) → (is_some (get_by_text m q) || is_named names q) ≡ is_named names q
-names_begin m names empty q = rw (nothing m empty q) refl
-
--- behind the last
-pub names_end : (m : Numbers) (names left : List (Bor (List ℕ))) → left ≡ [] → ((q : List ℕ) → (is_some (get_by_text m q) || is_named left q) ≡ is_named names q)
-    → (q : List ℕ) → is_some (get_by_text m q) ≡ is_named names q
-names_end m names left none before q = sym (or_false (is_some (get_by_text m q))) ∙ (ap (λ l. is_some (get_by_text m q) || is_named l q) (sym none) ∙ before q)
-
--- ---- features
-
--- the properties of one geometry more
-pub props_more : (gs : List Geom) (i : ℕ) (g : Geom) → i < length gs → g ≡ get_or gs i g → map props_of (take i gs) ++ g.props ∷ [] ≡ map props_of (take (i + 1) gs)
-props_more [] i g within is = absurd (omega arith)
-props_more (h ∷ gs) zero g within is = ap (λ k. props_of k ∷ []) is
-props_more (h ∷ gs) (suc i) g within is = let e : suc i + 1 ≡ suc (i + 1) = omega arith in rw e (ap (λ ps. h.props ∷ ps) (props_more gs i g (omega arith) is))
+-- an empty map has no column
+pub no_columns : (numbers : Numbers) → numbers.entries ≡ [] → (q : List ℕ) → is_some (get_by_text numbers q) ≡ false
+no_columns numbers none q = rw none refl
 
 -- ---- texts
 
 -- with no columns and no scales properties stay
 pub none_back : (numbers : Numbers) (scales : List Scale) (p : Props) → btree_map_len numbers ≡ 0 → scales ≡ []
     → properties_back (λ name. is_some (get_by_text numbers name)) scales (properties_text p) ≡ properties_text p
-none_back numbers scales p empty none = (λ i. properties_back (λ name. nothing numbers empty name i) (none i) p.text) ∙ stay_back p
+none_back numbers scales p empty none = (λ i. properties_back (λ name. no_columns numbers (no_entries numbers.entries empty) name i) (none i) p.text) ∙ stay_back p
 
 -- columns that are alike make one layer
 pub alike : (f g : List ℕ → Bool) (r : BackRules) (areas : List ℤ) (l : LayerParts) → ((q : List ℕ) → f q ≡ g q) → layer_in f r areas l ≡ layer_in g r areas l
 alike f g r areas l same = ap (λ h. layer_in h r areas l) (λ i q. same q i)
 
-pub no_columns : (numbers : Numbers) → numbers.entries ≡ [] → (q : List ℕ) → is_some (get_by_text numbers q) ≡ false
-no_columns numbers none q = rw none refl
-
+-- with no columns and no scales the text of each geometry's properties stays
 pub properties_stay : PropertiesStay
 properties_stay r features areas g none empty = (λ i. properties_back (are_numbers (none i) features) (empty i) (properties_text g.props)) ∙ stay_back g.props

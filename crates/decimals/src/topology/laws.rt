@@ -20,7 +20,6 @@ pub fn numbers_are_nearest()
 {}
 
 /// Where texts stay texts and nothing was scaled, properties stay as they are.
-#[tactic(auto, using(crate::proofs::TopologyLemmas::Properties::properties_stay))]
 pub fn properties_stay()
     ensures { PropertiesStay }
 {}

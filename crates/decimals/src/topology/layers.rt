@@ -66,7 +66,7 @@ impl<'r> Turning<'r> {
         })
     }
 
-    // A layer with these columns of numbers.
+    /// A layer with these columns of numbers.
     fn layer_in(
         &self,
         alloc: Global,
