@@ -4,7 +4,7 @@ use crate::arguments::{with_arguments, with_title};
 use clap::{ArgMatches, Command, Error};
 use std::alloc::{AllocError, Global};
 
-const ABOUT: &str = "Rounds the coordinates of GeoJSON files to a grid of whole numbers
+const ABOUT: &str = "Rounds the coordinates of GeoJSON and TopoJSON to a grid of whole numbers
 
 Each coordinate becomes the nearest whole number of steps, ties away from zero,
 exactly: no floating-point number is used. topotool builds what comes out.

@@ -230,12 +230,12 @@ const FAULTS: CommandRow = CommandRow {
         argument!(
             "all",
             Form::Flag,
-            "A line for each error, also where a file has more than\nten of one number"
+            "A line for each error, also where a file has more\nthan ten of one number"
         ),
         argument!(
             "json",
             Form::Flag,
-            "One JSON array of objects, one for each error, in place\nof lines"
+            "One JSON array of objects, one for each error, in\nplace of lines"
         ),
         argument!(
             "explain",
