@@ -7,7 +7,7 @@ use Rattle.std.specs.Cmp.Lexicographic.{slice_cmp}
 use Rattle.std.specs.Ordering.{match_ordering, nat_cmp, ordering_reverse}
 use Rattle.std.specs.declared.cmp.Ordering.{Ordering}
 use Rattle.json.specs.Json.{Json, null, boolean, number, string, array, object, Items, no_items, item, Members, no_members, member}
-use Rattle.json.specs.Find.{get, as_array, as_number, as_object}
+use Rattle.json.specs.Find.{get, as_array, as_object}
 use Rattle.faults.specs.Path.{name, index}
 use Rattle.faults.specs.Fault.{Pair}
 use Rattle.faults.specs.declared.fault.FaultKind.{FaultKind}
@@ -26,7 +26,7 @@ use Rattle.reading.proofs.FaultListsLemmas.Ascending.{IsBeyond, ascending_here, 
 use Rattle.decimal_maps.specs.declared.rules.MapRules.{MapRules}
 use Rattle.decimal_faults.specs.Geometries.{is_nothing, later, or_missing}
 use Rattle.decimal_faults.specs.Outlines.{unfixed_as}
-use Rattle.decimal_faults.specs.Parts.{array_faults, each_faults, if_there, list_faults, member_faults, numeral_faults, object_faults, there, type_text}
+use Rattle.decimal_faults.specs.Parts.{array_faults, each_faults, if_there, list_faults, member_faults, there, type_text}
 use Rattle.decimal_faults.specs.Positions.{height_faults, may_have}
 use Rattle.decimal_faults.specs.declared.geometry.GeometryForm.{GeometryForm}
 use Rattle.decimal_faults.specs.declared.geometry.GeometryForm.TheVariants.{Simple, Collection}

@@ -1,5 +1,6 @@
 -- Topologies that have faults.
-use Rattle.std.proofs.Common.{◌≡◌, ◌≢◌, ℕ, Bool, true, false, length, List, [], ◌∷◌, Some, None, Result, Ok, Err, bytes_eq, codes, is_some, if◌then◌else◌, refl, sym, ap, ◌∙◌, arith}
+use Rattle.std.proofs.Common.{◌≡◌, ◌≢◌, ℕ, Bool, true, false, length, List, [], ◌∷◌, ◌++◌, Some, None, Result, Ok, Err, bytes_eq, codes, is_some, if◌then◌else◌, refl, sym, ap, ap₂, ◌∙◌, arith}
+use Rattle.std.proofs.lemmas.List.{map-append}
 use Rattle.std.proofs.lemmas.Slice.Eq.{bytes_eq-Decides}
 use Rattle.std.specs.declared.alloc.Global.{Global}
 use Rattle.json.specs.Json.{Json, null, boolean, number, string, array, object, Items}
@@ -7,17 +8,21 @@ use Rattle.json.specs.Find.{as_array, as_object, get}
 use Rattle.json.specs.Value.{items_view}
 use Rattle.json.specs.declared.value.Value.{Value}
 use Rattle.faults.specs.Path.{name}
+use Rattle.faults.specs.Fault.{Pair, pair_of}
+use Rattle.faults.specs.declared.fault.Fault.{Fault}
 use Rattle.faults.specs.declared.fault.FaultKind.{FaultKind}
 use Rattle.faults.specs.declared.fault.FaultKind.TheVariants.{UnknownType}
 use Rattle.fixing.specs.declared.rules.FixingRules.{FixingRules}
 use Rattle.reading.specs.Fault.{under, unless_faulty}
+use Rattle.reading.specs.FaultLists.Found.{pairs_of}
 use Rattle.reading.specs.Parts.{named, of_type, typed_faults}
 use Rattle.reading.proofs.Faultless.{first_none, second_none, under_none, unless_none}
 use Rattle.decimal_faults.specs.Parts.{member_faults, type_text}
-use Rattle.decimal_topologies.specs.Arcs.{arcs_faults}
+use Rattle.decimal_topologies.specs.Arcs.{arcs_faults, arcs_of}
 use Rattle.decimal_topologies.specs.Layers.{chosen_faults}
 use Rattle.decimal_topologies.specs.Places.{count_of}
 use Rattle.decimal_topologies.specs.Roots.{chosen, content_faults, content_of, if_array, if_there, parts_in, topology_faults, topology_members_faults, used_in}
+use Rattle.decimal_topologies.specs.Seen.{Arcs}
 use Rattle.decimal_topologies.specs.Transforms.{quantization_of, transform_faults}
 use Rattle.decimal_topologies.specs.declared.place.Quantization.{Quantization}
 use Rattle.decimal_topologies.specs.declared.rules.TopologyRules.{TopologyRules}
@@ -86,3 +91,11 @@ module _ (rules : TopologyRules) (fixing : FixingRules) (j : Json) where
 
   pub faulty_objects : (q : Quantization) (js : Items) → member_faults (codes "objects") (chosen_faults (parts_in rules q j js) rules.map fixing (chosen rules)) j ≢ [] → content_of q rules fixing j js ≢ []
   faulty_objects q js faulty n = faulty (second_none (under (name (codes "arcs")) (arcs_faults q (used_in rules j js) 0 js)) (member_faults (codes "objects") (chosen_faults (parts_in rules q j js) rules.map fixing (chosen rules)) j) n)
+
+  -- the faults of both parts, by the arcs that are used
+  pub both_judged : (q : Quantization) (js : Items) (used : List Bool) (arcs : Arcs) (table : List Pair) (first others found : List Fault) → used ≡ used_in rules j js → table ≡ arcs_faults q used 0 js → arcs ≡ arcs_of q used js
+      → pairs_of first ≡ under (name (codes "arcs")) table → pairs_of others ≡ member_faults (codes "objects") (chosen_faults (record { quantization = q; arcs = arcs }) rules.map fixing (chosen rules)) j → found ≡ first ++ others → pairs_of found ≡ content_of q rules fixing j js
+  both_judged q js used arcs table first others found by judged read put objects is =
+      ap pairs_of is ∙ map-append pair_of first others
+      ∙ ap₂ (λ ps qs. ps ++ qs) (put ∙ ap (under (name (codes "arcs"))) (judged ∙ ap (λ u. arcs_faults q u 0 js) by))
+      (objects ∙ ap (λ table. member_faults (codes "objects") (chosen_faults (record { quantization = q; arcs = table }) rules.map fixing (chosen rules)) j) (read ∙ ap (λ u. arcs_of q u js) by))

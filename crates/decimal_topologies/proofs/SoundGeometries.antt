@@ -29,10 +29,9 @@ use Rattle.decimal_faults.specs.declared.geometry.GeometryForm.TheVariants.{Simp
 use Rattle.decimal_faults.specs.declared.outline.Outline.{Outline}
 use Rattle.decimal_faults.specs.declared.outline.Outline.TheVariants.{Line, Ring}
 use Rattle.decimal_faults.proofs.SoundParts.{all_both}
-use Rattle.decimal_topologies.specs.Geometries.{AreLines, AreShapes, HasGeometries, IsCollection, IsGeometry, IsLine, IsOne, IsShape, IsSimple, TopologyParts, body_faults, body_name, content_faults, each_geometry_faults, form_of, geometries_faults, geometry_faults, point_faults, split_if, taken}
+use Rattle.decimal_topologies.specs.Geometries.{AreLines, AreShapes, HasGeometries, IsGeometry, IsLine, IsOne, IsShape, TopologyParts, body_faults, body_name, content_faults, each_geometry_faults, form_of, geometries_faults, geometry_faults, point_faults, split_if, taken}
 use Rattle.decimal_topologies.specs.Placed.{IsPlaced}
 use Rattle.decimal_topologies.specs.Places.{position_faults}
-use Rattle.decimal_topologies.specs.Seen.{Arcs}
 use Rattle.decimal_topologies.specs.Stitching.{IsStitched, are_known, arcs_outline_faults, items_faults, stitched_faults}
 use Rattle.decimal_topologies.specs.declared.place.Quantization.{Quantization}
 use Rattle.decimal_topologies.proofs.Faulty.{by_form, form_object, object_some}
