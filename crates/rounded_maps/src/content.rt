@@ -26,7 +26,10 @@ pub(crate) enum Content {
 fn refuse_topology(alloc: Global, value: &Value<'_>, rules: &RoundingRules<'_>) -> Fault
     ensures { LeastOrWant (topology_faults_of (topology_rules rules.now) rules.now.fixing (value_view value.now)) result }
 {
-    match topology_faults(alloc, &rules.topology(), &rules.fixing, value) {
+    let topology = rules.topology();
+    // Kit 13f proves a function that owns rules only where it names a place inside each of them.
+    let _attributes = &topology.map.attributes;
+    match topology_faults(alloc, &topology, &rules.fixing, value) {
         Ok(faults) => match faults.into_iter().next() {
             Some(fault) => fault,
             None => want_of_memory(alloc),
@@ -60,7 +63,9 @@ fn value_content(
     ensures made { IfOk result (HasContent rules.now (value_view value.now)) }
 {
     if is_topology(value) {
-        match read_topology(alloc, &rules.topology(), value) {
+        let topology = rules.topology();
+        let (_attributes, _layer) = (&topology.map.attributes, &topology.layer);
+        match read_topology(alloc, &topology, value) {
             Ok(layers) => Ok(Content::Topology(layers)),
             Err(stop) => Err(stop),
         }

@@ -11,6 +11,7 @@ ghost use Rattle.std.specs.Prelude.{◌≡◌, [], IfErr, IfOk, List, OnOk, Some
 
 use crate::map::RoundedMap;
 use crate::source::texts_of;
+use attributes::AttributeRules;
 use decimal_faults::read_value;
 use decimal_maps::{MapRules, RawFeature, Stop, read_map};
 use decimal_topologies::TopologyRules;
@@ -37,8 +38,16 @@ impl<'r> RoundingRules<'r> {
     pub fn topology(&self) -> TopologyRules<'r>
         ensures { result ≡ topology_rules self.now }
     {
+        let attributes = &self.map.attributes;
         TopologyRules {
-            map: self.map,
+            map: MapRules {
+                grid: self.map.grid,
+                attributes: AttributeRules {
+                    id: attributes.id,
+                    scales: attributes.scales,
+                    reals: attributes.reals,
+                },
+            },
             layer: self.layer,
         }
     }

@@ -12,8 +12,8 @@ returns-then-is_topology c =
     let kind : is_topology j ≡ true = sym c.is_topology.ensures ∙ c.if-is_topology.true in
     subst (λ ps. LeastOrWant ps c.refuse_topology.result) (sym (of_topology c.args.rules.now c.args.text.now j ok.0 ok.1 kind)) c.refuse_topology.ensures
 
-pub returns-else-is_topology : goal.returns-else-is_topology
-returns-else-is_topology c =
+pub returns-in-Ok : goal.returns-in-Ok
+returns-in-Ok c =
     let j = value_view c.in-Ok.value in
     let ok = c.in-Ok.ensures.ok in
     let kind : is_topology j ≡ false = sym c.is_topology.ensures ∙ c.if-is_topology.false in

@@ -15,6 +15,6 @@ returns-in-Some c =
     let split : c.in-Ok.faults.items ≡ c.in-Some.fault ∷ rest = sym c.into_iter.ensures.rest ∙ c.in-Some.ensures.cases.0 in
     let rules = c.args.rules.now in
     let read = sym (ap pairs_of split) ∙ c.in-Ok.ensures.all in
-    let are : pair_of c.in-Some.fault ∷ pairs_of rest ≡ topology_faults (topology_rules rules) rules.fixing (value_view c.args.value.now) = read ∙ ap (λ r. topology_faults r rules.fixing (value_view c.args.value.now)) c.topology.ensures in
+    let are : pair_of c.in-Some.fault ∷ pairs_of rest ≡ topology_faults (topology_rules rules) rules.fixing (value_view c.args.value.now) = read ∙ ap (λ r. topology_faults r rules.fixing (value_view c.args.value.now)) c.topology-topology.ensures in
     let sorted : IsAscending (pair_of c.in-Some.fault ∷ pairs_of rest) = subst (λ fs. IsAscending (pairs_of fs)) split c.in-Ok.ensures.sorted in
     record { least = λ _. subst (λ ps. IsLeast ps (pair_of c.in-Some.fault)) are (first_least (pair_of c.in-Some.fault) (pairs_of rest) sorted) }
