@@ -8,15 +8,6 @@ use sinks::{Kept, put};
 use std::alloc::{AllocError, Global};
 use std::collections::BTreeSet;
 
-/// A word of these parts.
-fn word_of(alloc: Global, parts: &[&str]) -> Result<String, AllocError> {
-    let mut word = String::new(alloc);
-    for part in parts {
-        word.push_str(*part)?;
-    }
-    Ok(word)
-}
-
 /// Whether words can say which columns become numbers.
 fn are_words(names: &BTreeSet<&str>) -> bool {
     names
@@ -26,7 +17,7 @@ fn are_words(names: &BTreeSet<&str>) -> bool {
 
 /// The names of columns, behind `--numbers`. Where words can't say them it has none: then all columns are found again.
 fn numbers_word(alloc: Global, names: &BTreeSet<&str>) -> Result<String, AllocError> {
-    let mut word = word_of(alloc, &["--numbers"])?;
+    let mut word = String::from_str(alloc, "--numbers")?;
     if !are_words(names) {
         return Ok(word);
     }
@@ -39,6 +30,15 @@ fn numbers_word(alloc: Global, names: &BTreeSet<&str>) -> Result<String, AllocEr
     Ok(word)
 }
 
+/// The word of a scale: `scale:area=100`.
+fn scale_word(alloc: Global, scale: &Scale<'_>) -> Result<String, AllocError> {
+    let mut word = String::from_str(alloc, "scale:")?;
+    word.push_str(scale.property)?;
+    word.push_str("=")?;
+    word.push_str(power_of(scale))?;
+    Ok(word)
+}
+
 /// Adds the words of scales.
 fn add_scales(
     alloc: Global,
@@ -46,9 +46,8 @@ fn add_scales(
     scales: &[Scale<'_>],
 ) -> Result<(), AllocError> {
     for scale in scales {
-        words.push(word_of(alloc, &["--reals"])?)?;
-        let parts = ["scale:", scale.property, "=", power_of(scale)];
-        words.push(word_of(alloc, &parts)?)?;
+        words.push(String::from_str(alloc, "--reals")?)?;
+        words.push(scale_word(alloc, scale)?)?;
     }
     Ok(())
 }
@@ -59,22 +58,23 @@ fn file_word(alloc: Global, options: &GridOptions<'_>) -> Result<String, AllocEr
         Target::File(file) if options.is_build => file,
         _ => "-",
     };
+    let mut word = String::new(alloc);
     if file.contains('=') || (file.starts_with('-') && file != "-") {
-        word_of(alloc, &["=", file])
-    } else {
-        word_of(alloc, &[file])
+        word.push_str("=")?;
     }
+    word.push_str(file)?;
+    Ok(word)
 }
 
 /// The words of the way back.
 pub(crate) fn back_words(alloc: Global, report: &Report<'_, '_>) -> Result<Vec<String>, LineFault> {
     let options = report.options;
     let mut words = Vec::new(alloc);
-    words.push(word_of(alloc, &["togrid"])?)?;
-    words.push(word_of(alloc, &["--back"])?)?;
+    words.push(String::from_str(alloc, "togrid")?)?;
+    words.push(String::from_str(alloc, "--back")?)?;
     if let Some(unit) = options.unit_word {
-        words.push(word_of(alloc, &["--unit"])?)?;
-        words.push(word_of(alloc, &[unit])?)?;
+        words.push(String::from_str(alloc, "--unit")?)?;
+        words.push(String::from_str(alloc, unit)?)?;
     }
     let names = report.columns.names(alloc)?;
     if !names.is_empty() {
