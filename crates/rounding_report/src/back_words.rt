@@ -21,11 +21,14 @@ fn numbers_word(alloc: Global, names: &BTreeSet<&str>) -> Result<String, AllocEr
     if !are_words(names) {
         return Ok(word);
     }
-    let mut between = "=";
+    word.push_str("=")?;
+    let mut later = false;
     for name in names {
-        word.push_str(between)?;
+        if later {
+            word.push_str(",")?;
+        }
         word.push_str(*name)?;
-        between = ",";
+        later = true;
     }
     Ok(word)
 }
