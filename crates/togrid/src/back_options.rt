@@ -66,17 +66,11 @@ fn steps_of<'a>(word: Option<&'a str>) -> Result<Option<u64>, Refusal<'a>> {
 
 /// Adds the names of a word, with commas between.
 fn add_names<'a>(names: &mut Vec<&'a str>, word: &'a str) -> Result<(), Refusal<'a>> {
-    let mut left = Some(word);
-    while let Some(text) = left {
-        let (name, rest) = match text.split_once(',') {
-            Some((name, rest)) => (name, Some(rest)),
-            None => (text, None),
-        };
+    for name in word.split(',') {
         if name.is_empty() {
             return Err(Refusal::Usage(Usage::BadNumbers(word)));
         }
         names.push(name)?;
-        left = rest;
     }
     Ok(())
 }
