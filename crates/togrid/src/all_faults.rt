@@ -190,7 +190,7 @@ fn reports_of(
 ) -> Result<Vec<FaultReport>, OutOfMemory> {
     let rules = options.rounding();
     // Kit 13f proves a function that owns rules only where it names a place inside each of them.
-    let _attributes = &rules.map.attributes;
+    let (_attributes, _layer) = (&rules.map.attributes, &rules.layer);
     let text = without_mark(alloc, bytes)?;
     if options.is_sequence || is_sequence(file) {
         sequence_reports(alloc, &rules, text)
