@@ -9,8 +9,8 @@ use Rattle.lines.specs.Seen.{positions_of, vertices_of}
 use Rattle.shapes.specs.Maps.{Layers, Features}
 use Rattle.shapes.specs.declared.props.Props.{Props}
 use Rattle.shapes.specs.declared.shape.Id.{Id}
-use Rattle.shapes.specs.declared.shape.Shape as shapes
-use Rattle.shapes.specs.declared.shape.Shape.TheVariants as of
+use Rattle.shapes.specs.Shapes as shapes
+use Rattle.shapes.specs.declared.form.Form.TheVariants as of
 use Rattle.shapes.specs.declared.feature.Feature.{Feature}
 use Rattle.theory.specs.Geometry.{Geometry}
 use Rattle.theory.specs.Topology as topology

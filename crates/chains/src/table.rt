@@ -23,6 +23,7 @@ use crate::stored::ArcList;
 use faults::OutOfMemory;
 use grid::pos::Pos;
 use lines::items::Items;
+use shapes::copying::CopyIn;
 use std::alloc::{AllocError, Global};
 use std::marker::Model;
 
@@ -41,6 +42,12 @@ impl Model for ArcRef {
     ghost view = { λ a. record { arc = a.arc; reversed = a.reversed } };
 
     ghost inverse = { λ d. record { arc = d.arc; reversed = d.reversed } };
+}
+
+impl CopyIn for ArcRef {
+    fn copy_in(&self, _alloc: Global) -> Result<ArcRef, OutOfMemory> {
+        Ok(*self)
+    }
 }
 
 impl ArcRef {

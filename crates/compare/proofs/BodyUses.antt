@@ -4,8 +4,8 @@ use Rattle.grid.specs.declared.pos.Pos.{Pos}
 use Rattle.theory.specs.Lists.{gathered}
 use Rattle.topo.proofs.Gathered.{gathered_joined}
 use Rattle.topo.specs.BodyLists.{body_lists}
-use Rattle.topo.specs.declared.geom.Body.{Body}
-use Rattle.topo.specs.declared.geom.Body.TheVariants.{Null, Point, MultiPoint, Line, MultiLine, Polygon, MultiPolygon}
+use Rattle.topo.specs.Bodies.{Body}
+use Rattle.shapes.specs.declared.form.Form.TheVariants.{Null, Point, MultiPoint, Line, MultiLine, Polygon, MultiPolygon}
 use Rattle.compare.specs.Quality.Uses.{body_uses, line_uses}
 
 pub uses_of_lists : (arcs : List (List Pos)) (n : ℕ) (b : Body) → ((p : Pos) → b ≡ Point p → ⊥) → ((ps : List Pos) → b ≡ MultiPoint ps → ⊥) → gathered (line_uses arcs n) (body_lists b) ≡ body_uses arcs n b

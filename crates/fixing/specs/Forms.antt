@@ -3,8 +3,8 @@ use Rattle.std.specs.Prelude.{List, map}
 use Rattle.theory.specs.Topology.{Form, null, point, points, line, lines, polygon, polygons}
 use Rattle.grid.specs.declared.pos.Pos.{Pos}
 use Rattle.lines.specs.Seen.{positions_of, vertices_of}
-use Rattle.shapes.specs.declared.shape.Shape as shapes
-use Rattle.shapes.specs.declared.shape.Shape.TheVariants as shape
+use Rattle.shapes.specs.Shapes as shapes
+use Rattle.shapes.specs.declared.form.Form.TheVariants as shape
 use Rattle.fixing.specs.Seen.{lists_in, polygons_in}
 use Rattle.fixing.specs.declared.raw.RawGeometry.{RawGeometry}
 use Rattle.fixing.specs.declared.raw.RawGeometry.TheVariants as geometry

@@ -6,8 +6,8 @@ use Rattle.lines.specs.Seen.{positions_of, vertices_of}
 use Rattle.lines.specs.declared.line.Line.{Line}
 use Rattle.lines.specs.declared.ring.Ring.{Ring}
 use Rattle.shapes.specs.declared.feature.Feature.{Feature}
-use Rattle.shapes.specs.declared.shape.Shape.{Shape}
-use Rattle.shapes.specs.declared.shape.Shape.TheVariants.{MultiPoint, MultiLine, MultiPolygon}
+use Rattle.shapes.specs.Shapes.{Shape}
+use Rattle.shapes.specs.declared.form.Form.TheVariants.{MultiPoint, MultiLine, MultiPolygon}
 use Rattle.sinks.specs.Texts.{joined, framed, list_text}
 use Rattle.sinks.proofs.Items.{one_more_text}
 use Rattle.shapes.proofs.WritingLemmas.Joined.{joined_map}

@@ -18,7 +18,7 @@ use Rattle.shapes.specs.declared.feature.Feature.{Feature}
 use Rattle.shapes.specs.declared.props.Props.{Props}
 use Rattle.shapes.specs.declared.shape.Id.{Id}
 use Rattle.shapes.specs.declared.shape.Id.TheVariants as id
-use Rattle.shapes.specs.declared.shape.Shape.TheVariants as shape
+use Rattle.shapes.specs.declared.form.Form.TheVariants as shape
 use Rattle.grid.specs.Place.{Transform}
 use Rattle.reading.specs.Text.{document}
 use Rattle.reading.specs.Types.{geometry_named}
@@ -29,7 +29,7 @@ use Rattle.geojson_io.specs.TokenMembers.{KnowsKind, KnowsCoordinates, KnowsRoot
 use Rattle.reading.specs.TokenParts.Members.{KnowsId, KnowsProps}
 use Rattle.geojson_io.specs.Geometries.{geometry_faults, geometry_form, typed_geometry_faults, typed_form}
 use Rattle.reading.specs.Plain.{Plain, plain, plain_form, plain_id}
-use Rattle.shapes.specs.declared.shape.Shape.{Shape}
+use Rattle.shapes.specs.Shapes.{Shape}
 use Rattle.geojson_io.specs.TokenCoordinates.{nested_faults, CoordinatesMean, IsShapeOf}
 use Rattle.geojson_io.specs.declared.token_reader.coordinates.Coordinates.{Coordinates}
 use denote.Enum.Bare.{same_true}

@@ -6,8 +6,8 @@ use Rattle.grid.specs.declared.pos.Pos.{Pos}
 use Rattle.lines.specs.Seen.{positions_of, vertices_of}
 use Rattle.shapes.specs.Parts.{properties_text}
 use Rattle.shapes.specs.declared.shape.Id.{Id}
-use Rattle.shapes.specs.declared.shape.Shape.{Shape}
-use Rattle.shapes.specs.declared.shape.Shape.TheVariants as shape
+use Rattle.shapes.specs.Shapes.{Shape}
+use Rattle.shapes.specs.declared.form.Form.TheVariants as shape
 use Rattle.shapes.specs.declared.feature.Feature.{Feature}
 use Rattle.sinks.specs.Texts.{joined, bracketed, list_text, pair_text, framed}
 use Rattle.theory.specs.LinesAndRings.{closed}

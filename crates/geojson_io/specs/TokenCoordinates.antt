@@ -15,7 +15,7 @@ use Rattle.lines.specs.declared.ring.Ring.{Ring}
 use Rattle.reading.specs.Outlines.{ring_of}
 use Rattle.reading.specs.Plain.{plain_form}
 use Rattle.reading.specs.declared.geometry.GeometryType.{GeometryType}
-use Rattle.shapes.specs.declared.shape.Shape.{Shape}
+use Rattle.shapes.specs.Shapes.{Shape}
 use Rattle.geojson_io.specs.Geometries.{coordinates_faults, form_of}
 use Rattle.geojson_io.specs.Positions.{position_faults, position_of}
 use Rattle.geojson_io.specs.declared.token_reader.coordinates.Coordinates.{Coordinates}

@@ -12,7 +12,7 @@ use Rattle.reading.specs.declared.geometry.GeometryType.{GeometryType}
 use Rattle.shapes.specs.declared.feature.Feature.{Feature}
 use Rattle.shapes.specs.declared.props.Props.{Props}
 use Rattle.shapes.specs.declared.shape.Id.{Id}
-use Rattle.shapes.specs.declared.shape.Shape.{Shape}
+use Rattle.shapes.specs.Shapes.{Shape}
 use Rattle.reading.specs.TokenParts.Members.{KnowsMember, KnowsId, KnowsProps}
 use Rattle.geojson_io.specs.Features.{feature_of, element_of_features_faults, root_type}
 use Rattle.geojson_io.specs.Geometries.{geometry_faults, geometry_form}

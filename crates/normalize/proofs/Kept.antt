@@ -9,8 +9,8 @@ use Rattle.lines.specs.Seen.{positions_of, vertices_of}
 use Rattle.lines.specs.declared.line.Line as the_line
 use Rattle.lines.specs.declared.ring.Ring as the_ring
 use Rattle.shapes.specs.Ids.{HasI64}
-use Rattle.shapes.specs.declared.shape.Shape as shapes
-use Rattle.shapes.specs.declared.shape.Shape.TheVariants as of
+use Rattle.shapes.specs.Shapes as shapes
+use Rattle.shapes.specs.declared.form.Form.TheVariants as of
 use Rattle.theory.proofs.Rotations.{rotation_trans}
 use Rattle.theory.specs.ArcNumbers.{ArcRef, StitchTo, along}
 use Rattle.theory.specs.LinesAndRings.{IsRotation, closed}
@@ -19,8 +19,7 @@ use Rattle.theory.specs.Refinement.{replaced}
 use Rattle.heal_arcs.specs.Parts.{RejoinedParts}
 use Rattle.topo.specs.Features.{IsLineOf, IsRingOf, IsShapeOf}
 use Rattle.topo.specs.Parts.{LayerParts}
-use Rattle.topo.specs.declared.geom.Body as bodies
-use Rattle.topo.specs.declared.geom.Body.TheVariants as to
+use Rattle.topo.specs.Bodies as bodies
 use Rattle.topo.specs.declared.geom.Geom.{Geom}
 use Rattle.validate.specs.Accept.Kept.{KeepLayers, KeepsFeature, KeepsLayer}
 use Rattle.validate.specs.Accept.Laws.{HaveI64}
@@ -116,14 +115,14 @@ module _ (table : List (List Pos)) where
     rings_kept rs lists h = mapped_pairs (IsRingOf r.arcs.arcs) (IsRingOf arcs) (ring_healed pieces r) ring_kept rs lists h
 
     shape_kept : (s : shapes.Shape) (b : bodies.Body) → IsShapeOf r.arcs.arcs s (body_rewritten (line_healed pieces r) (ring_healed pieces r) b) → IsShapeOf arcs s b
-    shape_kept of.Null to.Null h = tt
-    shape_kept (of.Point p) (to.Point q) h = h
-    shape_kept (of.MultiPoint ps) (to.MultiPoint qs) h = h
-    shape_kept (of.Line l) (to.Line used) h = line_kept l used h
-    shape_kept (of.MultiLine ls) (to.MultiLine lists) h =
+    shape_kept of.Null of.Null h = tt
+    shape_kept (of.Point p) (of.Point q) h = h
+    shape_kept (of.MultiPoint ps) (of.MultiPoint qs) h = h
+    shape_kept (of.Line l) (of.Line used) h = line_kept l used h
+    shape_kept (of.MultiLine ls) (of.MultiLine lists) h =
         mapped_pairs (IsLineOf r.arcs.arcs) (IsLineOf arcs) (line_healed pieces r) line_kept ls lists h
-    shape_kept (of.Polygon rs) (to.Polygon lists) h = rings_kept rs lists h
-    shape_kept (of.MultiPolygon ps) (to.MultiPolygon lists) h =
+    shape_kept (of.Polygon rs) (of.Polygon lists) h = rings_kept rs lists h
+    shape_kept (of.MultiPolygon ps) (of.MultiPolygon lists) h =
         mapped_pairs (Pairwise (IsRingOf r.arcs.arcs)) (Pairwise (IsRingOf arcs)) (map (ring_healed pieces r)) rings_kept ps lists h
     shape_kept s b h = absurd h
 

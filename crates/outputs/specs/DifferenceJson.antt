@@ -10,7 +10,7 @@ use Rattle.shapes.specs.declared.shape.Id.{Id}
 use Rattle.sinks.specs.Texts.{joined}
 use Rattle.topo.specs.OfMap.{IsOf}
 use Rattle.topo.specs.Parts.{TopologyParts}
-use Rattle.topo.specs.declared.geom.Body.{Body}
+use Rattle.topo.specs.Bodies.{Body}
 use Rattle.topo.specs.declared.geom.Geom.{Geom}
 use Rattle.outputs.specs.DifferenceParts.{ToldLayer, direction_words, has_other_id, has_some, kind_name, text_or, told_layer}
 use Rattle.outputs.specs.DifferenceLines.{difference_lines}

@@ -9,7 +9,7 @@ use Rattle.shapes.specs.Spelling.{spelling_of}
 use Rattle.shapes.specs.declared.shape.Id.{Id}
 use Rattle.sinks.specs.Texts.{option_text}
 use Rattle.topo.specs.Parts.{TopologyParts}
-use Rattle.topo.specs.declared.geom.Body.{Body}
+use Rattle.topo.specs.Bodies.{Body}
 use Rattle.topo.specs.declared.geom.Geom.{Geom}
 use Rattle.outputs.specs.DifferenceParts.{ToldLayer, direction_words, has_other_id, has_some, kind_name, text_or, told_layer}
 use Rattle.outputs.specs.DifferenceText.{counts_of}

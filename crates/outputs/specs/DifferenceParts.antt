@@ -8,8 +8,8 @@ use Rattle.shapes.specs.Parts.{spelled_text}
 use Rattle.shapes.specs.Spelling.{spelling_of}
 use Rattle.shapes.specs.declared.shape.Id.{Id}
 use Rattle.topo.specs.Parts.{LayerParts, TopologyParts}
-use Rattle.topo.specs.declared.geom.Body.{Body}
-use Rattle.topo.specs.declared.geom.Body.TheVariants as of
+use Rattle.topo.specs.Bodies.{Body}
+use Rattle.shapes.specs.declared.form.Form.TheVariants as of
 use Rattle.topo.specs.declared.geom.Geom.{Geom}
 use Rattle.outputs.specs.declared.difference_text.difference.LayerChanges.{LayerChanges}
 use Rattle.outputs.specs.declared.difference_text.parts.LayerView.{LayerView}

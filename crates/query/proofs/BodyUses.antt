@@ -4,8 +4,8 @@ use Rattle.theory.specs.Lists.{gathered}
 use Rattle.topo.proofs.Gathered.{gathered_joined}
 use Rattle.topo.specs.BodyLists.{body_lists}
 use Rattle.topo.specs.OfMap.{body_of}
-use Rattle.topo.specs.declared.geom.Body.{Body}
-use Rattle.topo.specs.declared.geom.Body.TheVariants.{Null, Point, MultiPoint, Line, MultiLine, Polygon, MultiPolygon}
+use Rattle.topo.specs.Bodies.{Body}
+use Rattle.shapes.specs.declared.form.Form.TheVariants.{Null, Point, MultiPoint, Line, MultiLine, Polygon, MultiPolygon}
 use Rattle.query.specs.Uses.{body_uses, refs_uses}
 
 pub uses_of_lists : (n : ℕ) (b : Body) → gathered (refs_uses n) (body_lists b) ≡ body_uses n (body_of b)

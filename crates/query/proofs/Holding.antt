@@ -21,7 +21,7 @@ use Rattle.theory.proofs.ListsOfLists.{Has-map, map_has, Has-gathered, gathered_
 use Rattle.topo.specs.Features.{AreFeaturesOf, IsFeatureOf}
 use Rattle.topo.specs.OfMap.{IsOf}
 use Rattle.topo.specs.Parts.{IsOfLayerNamed, LayerParts, TopologyParts}
-use Rattle.topo.specs.declared.geom.Body.{Body}
+use Rattle.topo.specs.Bodies.{Body}
 use Rattle.topo.specs.declared.geom.Geom.{Geom}
 use Rattle.topo.proofs.Pairs.{none_behind, pair_at}
 use Rattle.topo.proofs.Stitched.{geometries_of}

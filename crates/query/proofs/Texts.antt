@@ -9,8 +9,8 @@ use Rattle.lines.specs.declared.line.Line as the_line
 use Rattle.lines.specs.declared.ring.Ring as the_ring
 use Rattle.shapes.specs.Parts.{properties_text}
 use Rattle.shapes.specs.declared.feature.Feature.{Feature}
-use Rattle.shapes.specs.declared.shape.Shape.{Shape}
-use Rattle.shapes.specs.declared.shape.Shape.TheVariants as of
+use Rattle.shapes.specs.Shapes.{Shape}
+use Rattle.shapes.specs.declared.form.Form.TheVariants as of
 use Rattle.sinks.specs.Texts.{after_comma, after_commas, joined, bracketed, list_text}
 use Rattle.geojson_io.specs.CollectionText.{place_text, line_text, ring_text, geometry_text, shape_text, feature_frame, feature_text}
 use Rattle.theory.specs.ArcNumbers.{ArcRef, StitchTo}
@@ -20,8 +20,7 @@ use Rattle.theory.specs.Topology.{IsFormOf, IsGeometryOf, IsRingList}
 use Rattle.chains.specs.Seen as seen_by
 use Rattle.topo.specs.OfMap.{body_of, item_of}
 use Rattle.topo.specs.Parts.{TopologyParts}
-use Rattle.topo.specs.declared.geom.Body.{Body}
-use Rattle.topo.specs.declared.geom.Body.TheVariants as to
+use Rattle.topo.specs.Bodies.{Body}
 use Rattle.topo.specs.declared.geom.Geom.{Geom}
 use Rattle.topo.proofs.Walks.{walked_stitched}
 use Rattle.query.specs.ByArcs.{turned_at, line_along, ring_along, body_text, geom_text}
@@ -99,13 +98,13 @@ polygons_same t J ps qs h =
 
 shape_same : (t : TopologyParts) (J : Pos → Type 0) (s : Shape) (b : Body) →
     IsFormOf (λ l used. StitchTo t.arcs.arcs used l) (IsRingList position_cmp J t.arcs.arcs) (seen_by.form_of s) (body_of b) → shape_text t.grid s ≡ body_text t b
-shape_same t J of.Null to.Null h = refl
-shape_same t J (of.Point p) (to.Point q) h = ap (λ w. geometry_text (place_text t.grid w) (codes "Point")) h
-shape_same t J (of.MultiPoint ps) (to.MultiPoint qs) h = ap (λ w. geometry_text (list_text (place_text t.grid) w) (codes "MultiPoint")) h
-shape_same t J (of.Line l) (to.Line used) h = ap (λ w. geometry_text w (codes "LineString")) (line_same t (positions_of l) used h)
-shape_same t J (of.MultiLine ls) (to.MultiLine ks) h = ap (λ w. geometry_text w (codes "MultiLineString")) (lines_same t ls ks h)
-shape_same t J (of.Polygon rs) (to.Polygon qs) h = ap (λ w. geometry_text w (codes "Polygon")) (rings_same t J rs qs h)
-shape_same t J (of.MultiPolygon ps) (to.MultiPolygon qs) h = ap (λ w. geometry_text w (codes "MultiPolygon")) (polygons_same t J ps qs h)
+shape_same t J of.Null of.Null h = refl
+shape_same t J (of.Point p) (of.Point q) h = ap (λ w. geometry_text (place_text t.grid w) (codes "Point")) h
+shape_same t J (of.MultiPoint ps) (of.MultiPoint qs) h = ap (λ w. geometry_text (list_text (place_text t.grid) w) (codes "MultiPoint")) h
+shape_same t J (of.Line l) (of.Line used) h = ap (λ w. geometry_text w (codes "LineString")) (line_same t (positions_of l) used h)
+shape_same t J (of.MultiLine ls) (of.MultiLine ks) h = ap (λ w. geometry_text w (codes "MultiLineString")) (lines_same t ls ks h)
+shape_same t J (of.Polygon rs) (of.Polygon qs) h = ap (λ w. geometry_text w (codes "Polygon")) (rings_same t J rs qs h)
+shape_same t J (of.MultiPolygon ps) (of.MultiPolygon qs) h = ap (λ w. geometry_text w (codes "MultiPolygon")) (polygons_same t J ps qs h)
 shape_same t J s b h = absurd h
 
 pub feature_same : (t : TopologyParts) (J : Pos → Type 0) (f : Feature) (g : Geom) → IsGeometryOf position_cmp J t.arcs.arcs (seen_by.item_of f) (item_of g) →

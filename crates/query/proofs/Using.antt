@@ -32,8 +32,8 @@ use Rattle.theory.proofs.OneTopology.{ring_list_unique, stitch_unique}
 use Rattle.theory.proofs.UsersOfArcs.{users}
 use Rattle.topo.specs.OfMap.{IsOf, body_of}
 use Rattle.topo.specs.Parts.{LayerParts, TopologyParts}
-use Rattle.topo.specs.declared.geom.Body.{Body}
-use Rattle.topo.specs.declared.geom.Body.TheVariants as of
+use Rattle.topo.specs.Bodies.{Body}
+use Rattle.shapes.specs.declared.form.Form.TheVariants as of
 use Rattle.topo.specs.declared.geom.Geom.{Geom}
 use Rattle.topo.proofs.FeatureOrder.{features_stand}
 use Rattle.topo.proofs.Sound.{are_sound}

@@ -10,8 +10,8 @@ use Rattle.sinks.specs.Texts.{after_commas, joined, bracketed, list_text}
 use Rattle.theory.specs.ArcNumbers.{ArcRef}
 use Rattle.topo.specs.Parts.{TopologyParts}
 use Rattle.topo.specs.Walked.{walked}
-use Rattle.topo.specs.declared.geom.Body.{Body}
-use Rattle.topo.specs.declared.geom.Body.TheVariants as of
+use Rattle.topo.specs.Bodies.{Body}
+use Rattle.shapes.specs.declared.form.Form.TheVariants as of
 use Rattle.topo.specs.declared.geom.Geom.{Geom}
 
 -- the positions along used arcs [TopoJSON, 2.1.4; RFC 7946, 3.1]

@@ -15,7 +15,7 @@ use Rattle.theory.specs.Lists.{Has}
 use Rattle.theory.specs.Topology.{IsFormOf, IsRingList, forms_of}
 use Rattle.topo.specs.OfMap.{body_of}
 use Rattle.topo.specs.Parts.{LayerParts, TopologyParts}
-use Rattle.topo.specs.declared.geom.Body.{Body}
+use Rattle.topo.specs.Bodies.{Body}
 use Rattle.topo.specs.declared.geom.Geom.{Geom}
 use Rattle.query.specs.Mesh.{InScope}
 use Rattle.query.specs.declared.members.Member.{Member}

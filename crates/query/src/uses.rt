@@ -30,8 +30,8 @@ fn note_refs(uses: &mut Vec<Use>, index: usize, refs: &[ArcRef]) -> Result<(), A
 pub(crate) fn note_body(uses: &mut Vec<Use>, index: usize, body: &Body) -> Result<(), AllocError>
     ensures { OnOk result (uses.new.items ≡ uses.old.items ++ body_uses index (body_of body.now)) }
 {
-    for refs in body.lists() {
-        note_refs(uses, index, refs)?;
+    for refs in body.parts() {
+        note_refs(uses, index, refs.as_slice())?;
     }
     Ok(())
 }

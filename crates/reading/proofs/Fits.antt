@@ -12,8 +12,8 @@ use Rattle.lines.specs.Seen.{positions_of, vertices_of}
 use Rattle.lines.specs.Reading.{opened, ring_of as ring_by}
 use Rattle.shapes.specs.Fitting.{ShapeFits}
 use Rattle.shapes.specs.Maps.{Features}
-use Rattle.shapes.specs.declared.shape.Shape.{Shape}
-use Rattle.shapes.specs.declared.shape.Shape.TheVariants.{Null, Point, MultiPoint, Line, MultiLine, Polygon, MultiPolygon}
+use Rattle.shapes.specs.Shapes.{Shape}
+use Rattle.shapes.specs.declared.form.Form.TheVariants.{Null, Point, MultiPoint, Line, MultiLine, Polygon, MultiPolygon}
 use Rattle.reading.specs.Plain.{Plain, plain, plain_form}
 use Rattle.reading.specs.Outlines.{line_of, ring_of}
 use Rattle.reading.specs.Meant.{AreFeatures}

@@ -15,8 +15,8 @@ use Rattle.shapes.specs.OrderLaws.{feature_cmp_total, same_feature, feature_alik
 use Rattle.shapes.specs.Fitting.{MapFits}
 use Rattle.shapes.specs.declared.shape.Id as ids
 use Rattle.shapes.specs.declared.shape.Id.TheVariants as id
-use Rattle.shapes.specs.declared.shape.Shape as shapes
-use Rattle.shapes.specs.declared.shape.Shape.TheVariants as shape
+use Rattle.shapes.specs.Shapes as shapes
+use Rattle.shapes.specs.declared.form.Form.TheVariants as shape
 use Rattle.shapes.specs.declared.feature.Feature.{Feature}
 use Rattle.reading.specs.Plain.{Plain, plain, plain_id, plain_form}
 use Rattle.reading.specs.Meant.{AreFeatures, AreLayers}

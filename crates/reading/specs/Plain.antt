@@ -6,8 +6,8 @@ use Rattle.lines.specs.Seen.{positions_of, vertices_of}
 use Rattle.shapes.specs.Parts.{spelled_text, properties_text}
 use Rattle.shapes.specs.declared.shape.Id as ids
 use Rattle.shapes.specs.declared.shape.Id.TheVariants as id
-use Rattle.shapes.specs.declared.shape.Shape as shapes
-use Rattle.shapes.specs.declared.shape.Shape.TheVariants as shape
+use Rattle.shapes.specs.Shapes as shapes
+use Rattle.shapes.specs.declared.form.Form.TheVariants as shape
 use Rattle.shapes.specs.declared.feature.Feature.{Feature}
 
 -- an id: none, a number, or a text by its bytes

@@ -3,8 +3,8 @@ use Rattle.std.proofs.Common.{◌≡◌, List, append-nil, refl}
 use Rattle.grid.specs.declared.pos.Pos.{Pos}
 use Rattle.theory.specs.Lists.{gathered, joined}
 use Rattle.topo.specs.BodyLists.{body_lines, body_lists}
-use Rattle.topo.specs.declared.geom.Body.{Body}
-use Rattle.topo.specs.declared.geom.Body.TheVariants.{Null, Point, MultiPoint, Line, MultiLine, Polygon, MultiPolygon}
+use Rattle.topo.specs.Bodies.{Body}
+use Rattle.shapes.specs.declared.form.Form.TheVariants.{Null, Point, MultiPoint, Line, MultiLine, Polygon, MultiPolygon}
 use Rattle.renumbering.specs.LayerLaws.LeftLists.{body_ends, body_refs, line_ends}
 
 pub refs_of_lists : (b : Body) → joined (body_lists b) ≡ body_refs b

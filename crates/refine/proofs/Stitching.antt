@@ -16,8 +16,8 @@ use Rattle.lines.proofs.Positions.{position_refl, position_true}
 use Rattle.shapes.specs.Order.{feature_cmp, id_cmp, shape_cmp}
 use Rattle.shapes.specs.OrderLaws.{feature_cmp_total}
 use Rattle.shapes.specs.declared.feature.Feature.{Feature}
-use Rattle.shapes.specs.declared.shape.Shape as shapes
-use Rattle.shapes.specs.declared.shape.Shape.TheVariants as of
+use Rattle.shapes.specs.Shapes as shapes
+use Rattle.shapes.specs.declared.form.Form.TheVariants as of
 use Rattle.chains.specs.Seen.{form_of}
 use Rattle.chains.specs.Table.{same_list}
 use Rattle.chains.proofs.Places.{list_refl, list_true}
@@ -29,8 +29,7 @@ use Rattle.theory.proofs.Rotations.{rotation_length}
 use Rattle.topo.specs.Features.{IsLineOf, IsRingOf, IsShapeOf}
 use Rattle.topo.specs.Walked.{walked}
 use Rattle.topo.specs.GeometryOrder.{body_form, form_cmp}
-use Rattle.topo.specs.declared.geom.Body as bodies
-use Rattle.topo.specs.declared.geom.Body.TheVariants as to
+use Rattle.topo.specs.Bodies as bodies
 use Rattle.topo.specs.declared.geom.Geom.{Geom}
 use Rattle.topo.proofs.FeatureOrder.{shape_form, shapes_by_form}
 use Rattle.topo.proofs.Walks.{walked_stitched}
@@ -185,28 +184,28 @@ module _ {A B : Type 0} (R : A → B → Type 0) where
 -- ---- shapes
 
 module _ (arcs : List (List Pos)) where
-  pub line_shape : (b : bodies.Body) (used : List ArcRef) → b ≡ to.Line used → (s : shapes.Shape) × IsShapeOf arcs s b → (l : the_line.Line) × IsLineOf arcs l used
+  pub line_shape : (b : bodies.Body) (used : List ArcRef) → b ≡ of.Line used → (s : shapes.Shape) × IsShapeOf arcs s b → (l : the_line.Line) × IsLineOf arcs l used
   line_shape b used e h = go h.0 (subst (IsShapeOf arcs h.0) e h.1)
     where
-      go : (s : shapes.Shape) → IsShapeOf arcs s (to.Line used) → (l : the_line.Line) × IsLineOf arcs l used
+      go : (s : shapes.Shape) → IsShapeOf arcs s (of.Line used) → (l : the_line.Line) × IsLineOf arcs l used
       go (of.Line l) k = (l, k)
       go s k = absurd k
 
-  pub polygons_shape : (b : bodies.Body) (lists : List (List (List ArcRef))) → b ≡ to.MultiPolygon lists → (s : shapes.Shape) × IsShapeOf arcs s b →
+  pub polygons_shape : (b : bodies.Body) (lists : List (List (List ArcRef))) → b ≡ of.MultiPolygon lists → (s : shapes.Shape) × IsShapeOf arcs s b →
       (ps : List (List the_ring.Ring)) × Pairwise (Pairwise (IsRingOf arcs)) ps lists
   polygons_shape b lists e h = go h.0 (subst (IsShapeOf arcs h.0) e h.1)
     where
-      go : (s : shapes.Shape) → IsShapeOf arcs s (to.MultiPolygon lists) → (ps : List (List the_ring.Ring)) × Pairwise (Pairwise (IsRingOf arcs)) ps lists
+      go : (s : shapes.Shape) → IsShapeOf arcs s (of.MultiPolygon lists) → (ps : List (List the_ring.Ring)) × Pairwise (Pairwise (IsRingOf arcs)) ps lists
       go (of.MultiPolygon ps) k = (ps, k)
       go s k = absurd k
 
-  pub point_told : (s : shapes.Shape) (b : bodies.Body) (p q : Pos) (r : Bool) → s ≡ of.Point p → b ≡ to.Point q → r ≡ position_eq q p → (r ≡ true) ↔ IsShapeOf arcs s b
+  pub point_told : (s : shapes.Shape) (b : bodies.Body) (p q : Pos) (r : Bool) → s ≡ of.Point p → b ≡ of.Point q → r ≡ position_eq q p → (r ≡ true) ↔ IsShapeOf arcs s b
   point_told s b p q r e f g =
       subst (λ x. (r ≡ true) ↔ IsShapeOf arcs x b) (sym e)
       (subst (λ x. (r ≡ true) ↔ IsShapeOf arcs (of.Point p) x) (sym f)
       ((λ k. sym (position_true q p (sym g ∙ k))), (λ k. g ∙ ap (λ x. position_eq q x) k ∙ position_refl q)))
 
-  pub points_told : (s : shapes.Shape) (b : bodies.Body) (ps qs : List Pos) (r : Bool) → s ≡ of.MultiPoint ps → b ≡ to.MultiPoint qs → r ≡ same_list qs ps →
+  pub points_told : (s : shapes.Shape) (b : bodies.Body) (ps qs : List Pos) (r : Bool) → s ≡ of.MultiPoint ps → b ≡ of.MultiPoint qs → r ≡ same_list qs ps →
       (r ≡ true) ↔ IsShapeOf arcs s b
   points_told s b ps qs r e f g =
       subst (λ x. (r ≡ true) ↔ IsShapeOf arcs x b) (sym e)

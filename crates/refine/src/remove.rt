@@ -245,8 +245,8 @@ fn mark_list(kept: &mut [bool], used: &[ArcRef])
 fn mark_body(kept: &mut [bool], body: &Body)
     ensures { kept.new ≡ marked_by kept.old (left_lists.body_refs body.now) }
 {
-    for used in body.lists() {
-        mark_list(kept, used);
+    for used in body.parts() {
+        mark_list(kept, used.as_slice());
     }
 }
 
@@ -294,7 +294,7 @@ fn note_body(ends: &mut Vec<Pos>, topology: &Topology, body: &Body) -> Result<()
     ensures { OnOk result (ends.new.items ≡ ends.old.items ++ left_lists.body_ends topology.now.arcs.arcs body.now) }
 {
     for used in body.lines() {
-        note_line(ends, topology, used)?;
+        note_line(ends, topology, used.as_slice())?;
     }
     Ok(())
 }

@@ -2,7 +2,7 @@
 //! together, and no memory is taken.
 ghost use Rattle.grid.specs.declared.pos.Pos.{Pos as place};
 ghost use Rattle.lines.specs.declared.ring.Ring as the_ring;
-ghost use Rattle.shapes.specs.declared.shape.Shape as shapes;
+ghost use Rattle.shapes.specs.Shapes as shapes;
 ghost use Rattle.std.specs.Prelude.{◌≡◌, ◌<◌, ◌+◌, ◌++◌, ◌↔◌, List, false, true, length, drop, take};
 ghost use Rattle.theory.specs.Lists.{Pairwise};
 ghost use Rattle.topo.specs.Features.{IsLineOf, IsRingOf, IsShapeOf};

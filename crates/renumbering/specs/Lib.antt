@@ -1,4 +1,3 @@
 pub mod GeometryOrder
 pub mod Rewritten
-pub mod Rules
 pub mod LayerLaws

@@ -2,8 +2,8 @@
 use Rattle.std.specs.Prelude.{List, map as map_list}
 use Rattle.theory.specs.ArcNumbers.{ArcRef}
 use Rattle.topo.specs.Parts.{LayerParts}
-use Rattle.topo.specs.declared.geom.Body.{Body}
-use Rattle.topo.specs.declared.geom.Body.TheVariants.{Null, Point, MultiPoint, Line, MultiLine, Polygon, MultiPolygon}
+use Rattle.topo.specs.Bodies.{Body}
+use Rattle.shapes.specs.Forms.{form_map}
 use Rattle.topo.specs.declared.geom.Geom.{Geom}
 
 -- what a list of used arcs becomes
@@ -12,13 +12,7 @@ ListRule = List ArcRef → List ArcRef
 
 -- a body whose lines' lists become other ones by the first rule, and its rings' lists by the second
 abbrev pub body_rewritten : ListRule → ListRule → Body → Body
-body_rewritten line ring Null = Null
-body_rewritten line ring (Point p) = Point p
-body_rewritten line ring (MultiPoint ps) = MultiPoint ps
-body_rewritten line ring (Line used) = Line (line used)
-body_rewritten line ring (MultiLine lists) = MultiLine (map_list line lists)
-body_rewritten line ring (Polygon lists) = Polygon (map_list ring lists)
-body_rewritten line ring (MultiPolygon ps) = MultiPolygon (map_list (map_list ring) ps)
+body_rewritten line ring b = form_map line ring b
 
 -- a geometry of such a body: its id and its properties stay
 abbrev pub geometry_rewritten : ListRule → ListRule → Geom → Geom

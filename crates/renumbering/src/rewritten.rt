@@ -1,90 +1,61 @@
 //! Geometries and layers by their new lists. Ids, properties, points, names and the order stay.
 ghost use Rattle.renumbering.specs.Rewritten as rewritten;
-ghost use Rattle.renumbering.specs.Rules.{rule_for};
-ghost use Rattle.std.specs.Prelude.{◌≡◌, IfOk, map as map_list};
+ghost use Rattle.std.specs.Prelude.{◌≡◌, IfOk, List, map as map_list};
+ghost use Rattle.theory.specs.ArcNumbers as numbers;
 
 use crate::new_lists::NewLists;
 use chains::table::ArcRef;
 use faults::OutOfMemory;
 use lines::items::Items;
+use shapes::form_map::Become;
 use std::alloc::Global;
 use topo::{Body, Geom, Layer};
 
-/// What a list of used arcs is of, which says by which rule it becomes another.
-#[derive(Clone, Copy)]
-enum ListKind {
-    Line,
-    Ring,
+/// Lists of lines by their rule.
+#[derive(Drop)]
+struct NewLine<'a, L> {
+    lists: &'a L,
 }
 
-fn list_rewritten<L: NewLists>(
-    alloc: Global,
-    lists: &L,
-    of: ListKind,
-    used: &Items<ArcRef>,
-) -> Result<Items<ArcRef>, OutOfMemory>
-    ensures { IfOk result (λ v. v ≡ rule_for (L.line_of lists.now) (L.ring_of lists.now) of used.now) }
-{
-    let made = match of {
-        ListKind::Line => lists.line(alloc, used.as_slice())?,
-        ListKind::Ring => lists.ring(alloc, used.as_slice())?,
-    };
-    Ok(Items::from_vec(made))
-}
+impl<'a, L: NewLists> Become<Items<ArcRef>> for NewLine<'a, L> {
+    type Made = Items<ArcRef>;
 
-fn lists_rewritten<L: NewLists>(
-    alloc: Global,
-    lists: &L,
-    of: ListKind,
-    all: &[Items<ArcRef>],
-) -> Result<Items<Items<ArcRef>>, OutOfMemory>
-    ensures { IfOk result (λ v. v ≡ map_list (rule_for (L.line_of lists.now) (L.ring_of lists.now) of) all.now) }
-{
-    let mut made = Vec::with_capacity(alloc, all.len())?;
-    for used in all {
-        made.push(list_rewritten(alloc, lists, of, used)?)?;
+    ghost Seen = { List numbers.ArcRef };
+
+    ghost seen = { λ used. used };
+
+    ghost becomes = { λ n used. L.line_of n.lists.now used };
+
+    fn make(&self, alloc: Global, old: &Items<ArcRef>) -> Result<Items<ArcRef>, OutOfMemory> {
+        Ok(Items::from_vec(self.lists.line(alloc, old.as_slice())?))
     }
-    Ok(Items::from_vec(made))
 }
 
-fn polygons_rewritten<L: NewLists>(
-    alloc: Global,
-    lists: &L,
-    polygons: &[Items<Items<ArcRef>>],
-) -> Result<Items<Items<Items<ArcRef>>>, OutOfMemory>
-    ensures { IfOk result (λ v. v ≡ map_list (map_list (L.ring_of lists.now)) polygons.now) }
-{
-    let mut made = Vec::with_capacity(alloc, polygons.len())?;
-    for rings in polygons {
-        made.push(lists_rewritten(alloc, lists, ListKind::Ring, rings.as_slice())?)?;
+/// Lists of rings by their rule.
+#[derive(Drop)]
+struct NewRing<'a, L> {
+    lists: &'a L,
+}
+
+impl<'a, L: NewLists> Become<Items<ArcRef>> for NewRing<'a, L> {
+    type Made = Items<ArcRef>;
+
+    ghost Seen = { List numbers.ArcRef };
+
+    ghost seen = { λ used. used };
+
+    ghost becomes = { λ n used. L.ring_of n.lists.now used };
+
+    fn make(&self, alloc: Global, old: &Items<ArcRef>) -> Result<Items<ArcRef>, OutOfMemory> {
+        Ok(Items::from_vec(self.lists.ring(alloc, old.as_slice())?))
     }
-    Ok(Items::from_vec(made))
 }
 
 fn body_copied<L: NewLists>(alloc: Global, lists: &L, body: &Body) -> Result<Body, OutOfMemory>
     ensures { IfOk result (λ b. b ≡ rewritten.body_rewritten (L.line_of lists.now) (L.ring_of lists.now) body.now) }
 {
-    match body {
-        Body::Line(used) => Ok(Body::Line(list_rewritten(alloc, lists, ListKind::Line, used)?)),
-        Body::MultiLine(lines) => Ok(Body::MultiLine(lists_rewritten(
-            alloc,
-            lists,
-            ListKind::Line,
-            lines.as_slice(),
-        )?)),
-        Body::Polygon(rings) => Ok(Body::Polygon(lists_rewritten(
-            alloc,
-            lists,
-            ListKind::Ring,
-            rings.as_slice(),
-        )?)),
-        Body::MultiPolygon(polygons) => Ok(Body::MultiPolygon(polygons_rewritten(
-            alloc,
-            lists,
-            polygons.as_slice(),
-        )?)),
-        Body::Null | Body::Point(_) | Body::MultiPoint(_) => body.copy(alloc),
-    }
+    let made = body.try_map(alloc, &NewLine { lists }, &NewRing { lists })?;
+    Ok(made)
 }
 
 /// The body by its new lists; points, which have none, are moved.

@@ -19,8 +19,8 @@ use Rattle.shapes.specs.Fitting.{ShapeFits, MapFits}
 use Rattle.shapes.specs.Maps.{Layers, Features}
 use Rattle.shapes.specs.Sets as set
 use Rattle.shapes.specs.declared.feature.Feature.{Feature}
-use Rattle.shapes.specs.declared.shape.Shape as shapes
-use Rattle.shapes.specs.declared.shape.Shape.TheVariants as of
+use Rattle.shapes.specs.Shapes as shapes
+use Rattle.shapes.specs.declared.form.Form.TheVariants as of
 use Rattle.reading.proofs.Fits.{all_has}
 use Rattle.chains.specs.Seen.{line_of, ring_of, form_of, item_of, layer_of, seen, geometry_of}
 use Rattle.topo.specs.Box.{widened, box_from, box_of}

@@ -25,8 +25,8 @@ use Rattle.shapes.specs.Ids.{HasI64}
 use Rattle.shapes.specs.Parts.{spelled_text, properties_text}
 use Rattle.shapes.specs.Sets as set
 use Rattle.shapes.specs.declared.feature.Feature.{Feature}
-use Rattle.shapes.specs.declared.shape.Shape as shapes
-use Rattle.shapes.specs.declared.shape.Shape.TheVariants as of
+use Rattle.shapes.specs.Shapes as shapes
+use Rattle.shapes.specs.declared.form.Form.TheVariants as of
 use Rattle.reading.specs.Meant.{AreLayers}
 use Rattle.reading.specs.Outlines.{outline_faults}
 use Rattle.reading.specs.Plain.{plain, plain_form, plain_id}

@@ -10,7 +10,7 @@ use Rattle.shapes.specs.OrderLaws.{same_id, same_shape, same_text}
 use Rattle.shapes.specs.contracts.shape.IdOrd.TheImpl as id
 use Rattle.shapes.specs.contracts.shape.ShapeOrd.TheImpl as shape
 use Rattle.shapes.specs.declared.shape.Id.{Id}
-use Rattle.shapes.specs.declared.shape.Shape.{Shape}
+use Rattle.shapes.specs.Shapes.{Shape}
 use Rattle.rounded_maps.specs.Equal.{Printed, printed}
 use Rattle.rounded_maps.specs.contracts.equal.LayerFeatureOrd.TheImpl as derived
 use Rattle.rounded_maps.specs.contracts.equal.LayerFeatureOrd.TheImpl.Laws.{total-law}

@@ -6,7 +6,7 @@ use Rattle.std.specs.BTreeMap.{is_at}
 use Rattle.std.specs.BTreeSet.{BTreeSet, contains, insert_key}
 use Rattle.theory.specs.Lists.{Has}
 use Rattle.rounded_maps.specs.Equal.{AreRepeats, FindsRepeats, Holds, IsSeen, Printed, printed, printed_shape, seen_behind}
-use Rattle.shapes.specs.declared.shape.Shape.{Shape}
+use Rattle.shapes.specs.Shapes.{Shape}
 use Rattle.rounded_maps.specs.declared.map.RoundedFeature.{RoundedFeature}
 use Rattle.rounded_maps.specs.declared.equal.LayerFeature.{LayerFeature}
 

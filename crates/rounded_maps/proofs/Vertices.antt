@@ -2,7 +2,7 @@
 use Rattle.std.proofs.Common.{◌≡◌, ℕ, ◌+◌, List, [], ◌∷◌, ◌++◌, length, arith, ap, append_assoc, sym, ◌∙◌, add-zero}
 use Rattle.std.proofs.lemmas.List.{length-append}
 use Rattle.compare.specs.declared.quality.vertex.VertexUse.{VertexUse}
-use Rattle.shapes.specs.declared.shape.Shape.{Shape}
+use Rattle.shapes.specs.Shapes.{Shape}
 use Rattle.snapping.specs.NearlyShared.Uses.{shape_uses, shapes_uses}
 use Rattle.theory.specs.Lists.{gathered}
 

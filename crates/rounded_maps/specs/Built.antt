@@ -8,7 +8,7 @@ use Rattle.shapes.specs.Maps.{Features, Layers, with_features}
 use Rattle.shapes.specs.Parts.{properties_text}
 use Rattle.shapes.specs.declared.props.Props.{Props}
 use Rattle.shapes.specs.declared.shape.Id.{Id}
-use Rattle.shapes.specs.declared.shape.Shape.{Shape}
+use Rattle.shapes.specs.Shapes.{Shape}
 use Rattle.theory.specs.Lists.{Has, gathered}
 use Rattle.topo.specs.OfMap.{IsOf, IsTopology, seen_parts, the_topology}
 use Rattle.topo.specs.Parts.{TopologyParts}

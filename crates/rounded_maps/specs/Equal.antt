@@ -5,7 +5,7 @@ use Rattle.std.specs.declared.vec.Vec.{Vec}
 use Rattle.std.specs.declared.alloc.Global.{Global}
 use Rattle.shapes.specs.Parts.{properties_text}
 use Rattle.shapes.specs.declared.shape.Id.{Id}
-use Rattle.shapes.specs.declared.shape.Shape.{Shape}
+use Rattle.shapes.specs.Shapes.{Shape}
 use Rattle.theory.specs.Lists.{Has}
 use Rattle.rounded_maps.specs.declared.equal.EqualFeatures.{EqualFeatures}
 use Rattle.rounded_maps.specs.declared.equal.LayerFeature.{LayerFeature}

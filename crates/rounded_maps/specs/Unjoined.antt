@@ -10,7 +10,7 @@ use Rattle.fixing.specs.Forms.{PlainForm, one}
 use Rattle.fixing.specs.Geometries.{geometry_left}
 use Rattle.fixing.specs.declared.rules.FixingRules.{FixingRules}
 use Rattle.grid.specs.declared.pos.Pos.{Pos}
-use Rattle.shapes.specs.declared.shape.Shape.{Shape}
+use Rattle.shapes.specs.Shapes.{Shape}
 use Rattle.snapping.specs.NearlyShared.Joined.{AreClusters, target_in}
 use Rattle.snapping.specs.NearlyShared.Moved.{Moves, moved_shape}
 use Rattle.snapping.specs.declared.nearly_shared.clusters.Clusters.{Clusters}

@@ -4,7 +4,7 @@ use Rattle.fixing.specs.declared.feature.FixedFeature.{FixedFeature}
 use Rattle.geojson_io.specs.CollectionText.{feature_frame, shape_text}
 use Rattle.grid.specs.Place.{Transform, scaling, transform}
 use Rattle.shapes.specs.Parts.{properties_text}
-use Rattle.shapes.specs.declared.shape.Shape.{Shape}
+use Rattle.shapes.specs.Shapes.{Shape}
 use Rattle.sinks.specs.Texts.{after_commas, joined}
 use Rattle.theory.specs.Lists.{gathered}
 use Rattle.rounded_maps.specs.declared.map.RoundedFeature.{RoundedFeature}

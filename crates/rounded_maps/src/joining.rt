@@ -7,7 +7,7 @@ ghost use Rattle.rounded_maps.specs.Joined.{AreJoined, AreJoinedShapes, IsJoined
 ghost use Rattle.rounded_maps.specs.Unjoined.{HasRefusedShape, IsRefusedShape, IsUnjoined, RefusesFor, kind_moved};
 ghost use Rattle.rounded_maps.specs.declared.map.RoundedFeature.{RoundedFeature as Joined};
 ghost use Rattle.rounded_maps.specs.declared.joining.Unjoined.TheVariants.{OutOfMemory as WantOfMemory};
-ghost use Rattle.shapes.specs.declared.shape.Shape.{Shape as Form};
+ghost use Rattle.shapes.specs.Shapes.{Shape as Form};
 ghost use Rattle.snapping.specs.NearlyShared.Joined.{target_in};
 ghost use Rattle.snapping.specs.NearlyShared.Moved.{Moves, moved_shape};
 ghost use Rattle.std.specs.Prelude.{◌≡◌, ◌⊎◌, ◌∷◌, ◌++◌, [], IfErr, IfOk, List, None, OnOk, Some, codes, map};

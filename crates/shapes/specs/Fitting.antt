@@ -6,8 +6,8 @@ use Rattle.grid.specs.Fits.{Fits}
 use Rattle.lines.specs.Seen.{positions_of, vertices_of}
 use Rattle.shapes.specs.Sets as set
 use Rattle.shapes.specs.Maps.{Layers, features_at}
-use Rattle.shapes.specs.declared.shape.Shape.{Shape}
-use Rattle.shapes.specs.declared.shape.Shape.TheVariants.{Null, Point, MultiPoint, Line, MultiLine, Polygon, MultiPolygon}
+use Rattle.shapes.specs.Shapes.{Shape}
+use Rattle.shapes.specs.declared.form.Form.TheVariants.{Null, Point, MultiPoint, Line, MultiLine, Polygon, MultiPolygon}
 use Rattle.shapes.specs.declared.feature.Feature.{Feature}
 
 -- each position of the shape fits

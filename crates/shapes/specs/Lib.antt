@@ -3,6 +3,10 @@ pub mod Properties
 pub mod Parts
 pub mod Ids
 pub mod PropertyFaults
+pub mod Shapes
+pub mod Forms
+pub mod FormLaws
+pub mod Left
 pub mod Order
 pub mod OrderLaws
 pub mod Sets

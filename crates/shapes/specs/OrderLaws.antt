@@ -4,9 +4,9 @@ use Rattle.std.specs.Cmp.{IsTotalOrder, then_total, on_total, nat_cmp_total, int
 use Rattle.std.specs.Ordering.{eq_by_cmp}
 use Rattle.std.specs.Prelude.{◌↔◌}
 use Rattle.std.specs.FinMap.{IsAntisymmetric, nat_cmp-IsAntisymmetric, int_cmp-IsAntisymmetric, slice_cmp-IsAntisymmetric}
-use Rattle.shapes.specs.Order.{id_rank, id_cmp, shape_rank, shape_cmp, feature_cmp}
+use Rattle.shapes.specs.Order.{id_rank, id_cmp, form_rank, form_cmp, shape_cmp, feature_cmp}
 use Rattle.shapes.specs.declared.shape.Id.{Id}
-use Rattle.shapes.specs.declared.shape.Shape.{Shape}
+use Rattle.shapes.specs.declared.form.Form.{Form}
 use Rattle.shapes.specs.declared.feature.Feature.{Feature}
 use Rattle.std.specs.declared.cmp.Ordering.{Ordering}
 use Rattle.std.specs.declared.cmp.Ordering.TheVariants.{Less, Equal, Greater}
@@ -14,8 +14,8 @@ use Rattle.std.specs.Ordering.{ordering_then, int_cmp, nat_cmp}
 use Rattle.std.specs.Cmp.Lexicographic.{slice_cmp, lists_total, nat_list_cmp_total}
 use Rattle.lines.specs.Positions.{position_total, then_equal, position_same}
 use Rattle.lines.specs.Turned.{position_cmp, list_cmp, IsLeastRotation-prop}
+use Rattle.shapes.specs.Forms.{points_in, lines_in}
 use Rattle.shapes.specs.Order.{line_cmp, ring_cmp}
-use Rattle.grid.specs.declared.pos.Pos.{Pos}
 use Rattle.lines.specs.declared.line.Line as the_line
 use Rattle.lines.specs.declared.ring.Ring as the_ring
 use Rattle.shapes.specs.declared.spelled.Spelled.{Spelled}
@@ -32,7 +32,7 @@ use Rattle.json.specs.Token.{tokens_code}
 use Rattle.json.specs.Tree.{json_tokens}
 use Rattle.serde_json.specs.Written.{outline}
 use Rattle.shapes.specs.declared.shape.Id.TheVariants.{None, Number, Text}
-use Rattle.shapes.specs.declared.shape.Shape.TheVariants.{Null, Point, MultiPoint, Line, MultiLine, Polygon, MultiPolygon}
+use Rattle.shapes.specs.declared.form.Form.TheVariants.{Null, Point, MultiPoint, Line, MultiLine, Polygon, MultiPolygon}
 
 -- what ties with nothing behind it
 then_nothing : (x : Ordering) → ordering_then x Equal ≡ x
@@ -69,55 +69,50 @@ id_cmp_total =
     subst IsTotalOrder (λ i a b. id_by_parts a b i)
     (then_total (on_total id_rank nat_cmp_total) (then_total (on_total number_in (lists_total int_cmp_total)) (on_total text_in nat_list_cmp_total)))
 
--- the points, lines and polygons of a shape, one or many
-points_in : Shape → List Pos
-points_in (Point p) = p ∷ []
-points_in (MultiPoint ps) = ps
-points_in s = []
-
-lines_in : Shape → List the_line.Line
-lines_in (Line l) = l ∷ []
-lines_in (MultiLine ls) = ls
-lines_in s = []
-
-polygons_in : Shape → List (List the_ring.Ring)
+-- the polygons of a form, one or many
+polygons_in : {L R : Type 0} → Form L R → List (List R)
 polygons_in (Polygon rs) = rs ∷ []
 polygons_in (MultiPolygon ps) = ps
 polygons_in s = []
 
--- the order of shapes goes by rank, points, lines and polygons in turn
-by_parts : Shape → Shape → Ordering
-by_parts a b =
-    ordering_then (nat_cmp (shape_rank a) (shape_rank b))
-    (ordering_then (list_cmp (points_in a) (points_in b))
-    (ordering_then (slice_cmp line_cmp (lines_in a) (lines_in b)) (slice_cmp (slice_cmp ring_cmp) (polygons_in a) (polygons_in b))))
+module _ {L R : Type 0} (of_line : L → L → Ordering) (of_ring : R → R → Ordering) where
+  -- the order of forms goes by rank, points, lines and polygons in turn
+  by_parts : Form L R → Form L R → Ordering
+  by_parts a b =
+      ordering_then (nat_cmp (form_rank a) (form_rank b))
+      (ordering_then (list_cmp (points_in a) (points_in b))
+      (ordering_then (slice_cmp of_line (lines_in a) (lines_in b)) (slice_cmp (slice_cmp of_ring) (polygons_in a) (polygons_in b))))
 
-shape_by_parts : (a b : Shape) → by_parts a b ≡ shape_cmp a b
-unfolding by_parts points_in lines_in polygons_in
-shape_by_parts (Point p) (Point q) = ap (λ x. ordering_then x Equal) (then_nothing (position_cmp p q)) ∙ then_nothing (position_cmp p q)
-shape_by_parts (MultiPoint ps) (MultiPoint qs) = then_nothing (list_cmp ps qs)
-shape_by_parts (Line k) (Line l) = ap (λ x. ordering_then x Equal) (then_nothing (line_cmp k l)) ∙ then_nothing (line_cmp k l)
-shape_by_parts (MultiLine ks) (MultiLine ls) = then_nothing (slice_cmp line_cmp ks ls)
-shape_by_parts (Polygon ps) (Polygon qs) = then_nothing (slice_cmp ring_cmp ps qs)
-shape_by_parts (MultiPolygon ps) (MultiPolygon qs) = refl
-shape_by_parts a b = search rules
+  form_by_parts : (a b : Form L R) → by_parts a b ≡ form_cmp of_line of_ring a b
+  unfolding by_parts polygons_in
+  form_by_parts (Point p) (Point q) = ap (λ x. ordering_then x Equal) (then_nothing (position_cmp p q)) ∙ then_nothing (position_cmp p q)
+  form_by_parts (MultiPoint ps) (MultiPoint qs) = then_nothing (list_cmp ps qs)
+  form_by_parts (Line k) (Line l) = ap (λ x. ordering_then x Equal) (then_nothing (of_line k l)) ∙ then_nothing (of_line k l)
+  form_by_parts (MultiLine ks) (MultiLine ls) = then_nothing (slice_cmp of_line ks ls)
+  form_by_parts (Polygon ps) (Polygon qs) = then_nothing (slice_cmp of_ring ps qs)
+  form_by_parts (MultiPolygon ps) (MultiPolygon qs) = refl
+  form_by_parts a b = search rules
+
+  -- where the orders of lines and rings are total, that of forms is
+  pub form_cmp_total : IsTotalOrder of_line → IsTotalOrder of_ring → IsTotalOrder (form_cmp of_line of_ring)
+  unfolding by_parts
+  form_cmp_total line ring =
+      subst IsTotalOrder (λ i a b. form_by_parts a b i)
+      (then_total (on_total form_rank nat_cmp_total)
+      (then_total (on_total points_in (lists_total position_total))
+      (then_total (on_total lines_in (lists_total line))
+      (on_total polygons_in (lists_total (lists_total ring))))))
+
+line_total : IsTotalOrder line_cmp
+line_total = on_total (λ (l : the_line.Line). l.positions) (lists_total position_total)
 
 ring_total : IsTotalOrder ring_cmp
 ring_total = on_total (λ (r : the_ring.Ring). r.positions) (lists_total position_total)
 
-shape_cmp_total : IsTotalOrder shape_cmp
-unfolding by_parts
-shape_cmp_total =
-    subst IsTotalOrder (λ i a b. shape_by_parts a b i)
-    (then_total (on_total shape_rank nat_cmp_total)
-    (then_total (on_total points_in (lists_total position_total))
-    (then_total (on_total lines_in (lists_total (on_total (λ (l : the_line.Line). l.positions) (lists_total position_total))))
-    (on_total polygons_in (lists_total (lists_total ring_total))))))
-
 -- the order of features is total
 pub feature_cmp_total : IsTotalOrder feature_cmp
 unfolding feature_cmp
-feature_cmp_total = then_total (on_total (λ f. f.id) id_cmp_total) (then_total (on_total (λ f. f.props.text) nat_list_cmp_total) (on_total (λ f. f.shape) shape_cmp_total))
+feature_cmp_total = then_total (on_total (λ f. f.id) id_cmp_total) (then_total (on_total (λ f. f.props.text) nat_list_cmp_total) (on_total (λ f. f.shape) (form_cmp_total line_cmp ring_cmp line_total ring_total)))
 
 -- lists of positions that tie are equal
 pub same_list : IsAntisymmetric list_cmp
@@ -166,15 +161,19 @@ same_id (Number m) (Number n) e = ap Number (int_cmp-IsAntisymmetric m n e)
 same_id (Text s) (Text t) e = ap Text (one_spelled s t (same_text s.text t.text e))
 same_id a b e = cc
 
+-- where lines that tie are equal, and rings, forms are
+pub same_form : {L R : Type 0} {of_line : L → L → Ordering} {of_ring : R → R → Ordering} → IsAntisymmetric of_line → IsAntisymmetric of_ring → IsAntisymmetric (form_cmp of_line of_ring)
+same_form line ring Null Null e = refl
+same_form line ring (Point p) (Point q) e = ap Point (position_same p q e)
+same_form line ring (MultiPoint ps) (MultiPoint qs) e = ap MultiPoint (same_list ps qs e)
+same_form line ring (Line k) (Line l) e = ap Line (line k l e)
+same_form line ring (MultiLine ks) (MultiLine ls) e = ap MultiLine (slice_cmp-IsAntisymmetric line ks ls e)
+same_form line ring (Polygon ps) (Polygon qs) e = ap Polygon (slice_cmp-IsAntisymmetric ring ps qs e)
+same_form line ring (MultiPolygon ps) (MultiPolygon qs) e = ap MultiPolygon (slice_cmp-IsAntisymmetric (slice_cmp-IsAntisymmetric ring) ps qs e)
+same_form line ring a b e = cc
+
 pub same_shape : IsAntisymmetric shape_cmp
-same_shape Null Null e = refl
-same_shape (Point p) (Point q) e = ap Point (position_same p q e)
-same_shape (MultiPoint ps) (MultiPoint qs) e = ap MultiPoint (same_list ps qs e)
-same_shape (Line k) (Line l) e = ap Line (same_line k l e)
-same_shape (MultiLine ks) (MultiLine ls) e = ap MultiLine (slice_cmp-IsAntisymmetric same_line ks ls e)
-same_shape (Polygon ps) (Polygon qs) e = ap Polygon (slice_cmp-IsAntisymmetric same_ring ps qs e)
-same_shape (MultiPolygon ps) (MultiPolygon qs) e = ap MultiPolygon (slice_cmp-IsAntisymmetric (slice_cmp-IsAntisymmetric same_ring) ps qs e)
-same_shape a b e = cc
+same_shape = same_form same_line same_ring
 
 -- features of one id, properties and shape are one
 one_feature : (a b : Feature) → a.id ≡ b.id → a.props.text ≡ b.props.text → a.shape ≡ b.shape → a ≡ b

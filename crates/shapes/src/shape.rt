@@ -1,11 +1,9 @@
 //! Ids and shapes.
-use crate::copying::CopyIn;
 use crate::fitting::FitsGrid;
+use crate::form::Form;
 use crate::spelled::Spelled;
 use faults::OutOfMemory;
-use grid::pos::Pos;
 use grid::transform::Grid;
-use lines::items::Items;
 use lines::line::Line;
 use lines::ring::Ring;
 use std::alloc::Global;
@@ -35,37 +33,12 @@ impl Id {
 }
 
 /// The shape of a feature, over positions of a grid (RFC 7946, section 3.1).
-/// Shapes are ordered by type, as listed here, and then by their lists of positions.
-/// A polygon is a list of rings, the first its exterior.
-#[derive(PartialEq, Eq, PartialOrd, Ord, Drop, Debug)]
-pub enum Shape {
-    Null,
-    Point(Pos),
-    MultiPoint(Items<Pos>),
-    Line(Line),
-    MultiLine(Items<Line>),
-    Polygon(Items<Ring>),
-    MultiPolygon(Items<Items<Ring>>),
-}
+/// Shapes are ordered by type, as `Form` lists them, and then by their lists of positions.
+pub type Shape = Form<Line, Ring>;
 
 impl Shape {
     ghost use Rattle.shapes.specs.Fitting.{ShapeFits};
-    ghost use Rattle.std.specs.Prelude.{◌≡◌, ◌↔◌, IfOk, IsTrue};
-
-    /// An equal shape, or out of memory.
-    pub fn copy(&self, alloc: Global) -> Result<Shape, OutOfMemory>
-        ensures { IfOk result (λ shape. shape ≡ self.now) }
-    {
-        match self {
-            Shape::Null => Ok(Shape::Null),
-            Shape::Point(position) => Ok(Shape::Point(*position)),
-            Shape::MultiPoint(positions) => Ok(Shape::MultiPoint(positions.copy_in(alloc)?)),
-            Shape::Line(line) => Ok(Shape::Line(line.copy(alloc)?)),
-            Shape::MultiLine(lines) => Ok(Shape::MultiLine(lines.copy_in(alloc)?)),
-            Shape::Polygon(rings) => Ok(Shape::Polygon(rings.copy_in(alloc)?)),
-            Shape::MultiPolygon(polygons) => Ok(Shape::MultiPolygon(polygons.copy_in(alloc)?)),
-        }
-    }
+    ghost use Rattle.std.specs.Prelude.{◌↔◌, IsTrue};
 
     /// Whether each position of the shape fits the grid.
     pub fn fits(&self, grid: &Grid) -> bool

@@ -20,8 +20,8 @@ use Rattle.shapes.specs.contracts.shape.IdOrd.TheImpl as id
 use Rattle.shapes.specs.OrderLaws.{feature_cmp_total}
 use Rattle.shapes.specs.declared.feature.Feature.{Feature}
 use Rattle.shapes.specs.declared.shape.Id.{Id}
-use Rattle.shapes.specs.declared.shape.Shape as shapes
-use Rattle.shapes.specs.declared.shape.Shape.TheVariants as of
+use Rattle.shapes.specs.Shapes as shapes
+use Rattle.shapes.specs.declared.form.Form.TheVariants as of
 use Rattle.chains.specs.Seen.{form_of, line_of, ring_of as vertices_seen}
 use Rattle.theory.specs.ArcNumbers.{ArcRef}
 use Rattle.theory.specs.Lists.{Pairwise}
@@ -31,8 +31,7 @@ use Rattle.topo.proofs.Pairs.{Pairwise-same}
 use Rattle.topo.proofs.Walks.{walked_stitched}
 use Rattle.topo.specs.Features.{IsFeatureOf, IsLineOf, IsRingOf, IsShapeOf}
 use Rattle.topo.specs.Walked.{walked}
-use Rattle.topo.specs.declared.geom.Body as bodies
-use Rattle.topo.specs.declared.geom.Body.TheVariants as to
+use Rattle.topo.specs.Bodies as bodies
 use Rattle.topo.specs.declared.geom.Geom.{Geom}
 use Rattle.topo.specs.GeometryOrder.{body_form, body_rank, form_cmp, form_rank, geometry_cmp, info_cmp, kind_cmp, vertices_used}
 
@@ -47,13 +46,13 @@ module _ (arcs : List (List Pos)) where
   rings_form = Pairwise-same (IsRingOf arcs) vertices_seen (vertices_used arcs) ring_form
 
   pub shape_form : (s : shapes.Shape) (b : bodies.Body) → IsShapeOf arcs s b → form_of s ≡ body_form arcs b
-  shape_form of.Null to.Null h = refl
-  shape_form (of.Point p) (to.Point q) h = cc
-  shape_form (of.MultiPoint ps) (to.MultiPoint qs) h = cc
-  shape_form (of.Line l) (to.Line used) h = ap line (line_form l used h)
-  shape_form (of.MultiLine ls) (to.MultiLine lists) h = ap lines (Pairwise-same (IsLineOf arcs) line_of (walked arcs) line_form ls lists h)
-  shape_form (of.Polygon rs) (to.Polygon lists) h = ap polygon (rings_form rs lists h)
-  shape_form (of.MultiPolygon ps) (to.MultiPolygon lists) h =
+  shape_form of.Null of.Null h = refl
+  shape_form (of.Point p) (of.Point q) h = cc
+  shape_form (of.MultiPoint ps) (of.MultiPoint qs) h = cc
+  shape_form (of.Line l) (of.Line used) h = ap line (line_form l used h)
+  shape_form (of.MultiLine ls) (of.MultiLine lists) h = ap lines (Pairwise-same (IsLineOf arcs) line_of (walked arcs) line_form ls lists h)
+  shape_form (of.Polygon rs) (of.Polygon lists) h = ap polygon (rings_form rs lists h)
+  shape_form (of.MultiPolygon ps) (of.MultiPolygon lists) h =
       ap polygons (Pairwise-same (Pairwise (IsRingOf arcs)) (map_list vertices_seen) (map_list (vertices_used arcs)) rings_form ps lists h)
   shape_form s b h = absurd h
 
@@ -97,13 +96,13 @@ features_stand arcs f h a b k m =
     ∙ (λ i. ordering_then (info_cmp a b) (form_cmp (shape_form arcs f.shape a.body k.shape i) (shape_form arcs h.shape b.body m.shape i)))
 
 rank_of_form : (arcs : List (List Pos)) (b : bodies.Body) → form_rank (body_form arcs b) ≡ body_rank b
-rank_of_form arcs to.Null = refl
-rank_of_form arcs (to.Point p) = refl
-rank_of_form arcs (to.MultiPoint ps) = refl
-rank_of_form arcs (to.Line used) = refl
-rank_of_form arcs (to.MultiLine lists) = refl
-rank_of_form arcs (to.Polygon lists) = refl
-rank_of_form arcs (to.MultiPolygon ps) = refl
+rank_of_form arcs of.Null = refl
+rank_of_form arcs (of.Point p) = refl
+rank_of_form arcs (of.MultiPoint ps) = refl
+rank_of_form arcs (of.Line used) = refl
+rank_of_form arcs (of.MultiLine lists) = refl
+rank_of_form arcs (of.Polygon lists) = refl
+rank_of_form arcs (of.MultiPolygon ps) = refl
 
 -- where kinds differ, they alone say how forms stand
 kinds_decide : (f h : Shape Pos) → is_ne (nat_cmp (form_rank f) (form_rank h)) ≡ true → nat_cmp (form_rank f) (form_rank h) ≡ form_cmp f h

@@ -6,9 +6,8 @@ use Rattle.grid.specs.declared.pos.Pos.{Pos}
 use Rattle.lines.proofs.Positions.{both_true, derived_eq, position_eq_is, position_true}
 use Rattle.chains.specs.contracts.table.ArcRefPartialEq.TheImpl as ref_eq
 use Rattle.theory.specs.ArcNumbers.{ArcRef}
-use Rattle.topo.specs.contracts.geom.BodyPartialEq.TheImpl as body_eq
-use Rattle.topo.specs.declared.geom.Body as bodies
-use Rattle.topo.specs.declared.geom.Body.TheVariants as to
+use Rattle.shapes.specs.declared.form.Form.TheVariants.{Null, Point, MultiPoint, Line, MultiLine, Polygon, MultiPolygon}
+use Rattle.topo.specs.Bodies.{Body}
 use lib.Pointwise.{pointwise}
 use mathlib.Core.Bool.{beq}
 
@@ -44,12 +43,27 @@ refs_same = each_same ref_eq.eq-value.it ref_same
 lists_same : (us vs : List (List ArcRef)) → pointwise (pointwise ref_eq.eq-value.it) us vs ≡ true → us ≡ vs
 lists_same = each_same (pointwise ref_eq.eq-value.it) refs_same
 
-pub body_same : (a b : bodies.Body) → body_eq.eq-value.it a b ≡ true → a ≡ b
-body_same to.Null to.Null e = refl
-body_same (to.Point p) (to.Point q) e = ap to.Point (position_same p q e)
-body_same (to.MultiPoint ps) (to.MultiPoint qs) e = ap to.MultiPoint (each_same pos_eq.eq-value.it position_same ps qs e)
-body_same (to.Line us) (to.Line vs) e = ap to.Line (refs_same us vs e)
-body_same (to.MultiLine us) (to.MultiLine vs) e = ap to.MultiLine (lists_same us vs e)
-body_same (to.Polygon us) (to.Polygon vs) e = ap to.Polygon (lists_same us vs e)
-body_same (to.MultiPolygon us) (to.MultiPolygon vs) e = ap to.MultiPolygon (each_same (pointwise (pointwise ref_eq.eq-value.it)) lists_same us vs e)
-body_same a b e = absurd cc
+-- bodies of one kind and equal lists
+abbrev pub body_eq : Body → Body → Bool
+body_eq Null Null = true
+body_eq (Point p) (Point q) = pos_eq.eq-value.it p q
+body_eq (MultiPoint ps) (MultiPoint qs) = pointwise pos_eq.eq-value.it ps qs
+body_eq (Line us) (Line vs) = pointwise ref_eq.eq-value.it us vs
+body_eq (MultiLine us) (MultiLine vs) = pointwise (pointwise ref_eq.eq-value.it) us vs
+body_eq (Polygon us) (Polygon vs) = pointwise (pointwise ref_eq.eq-value.it) us vs
+body_eq (MultiPolygon us) (MultiPolygon vs) = pointwise (pointwise (pointwise ref_eq.eq-value.it)) us vs
+body_eq a b = false
+
+-- from what the derived test answers
+pub body_same : (a b : Body) (found : Bool) → found ≡ true → found ≡ body_eq a b → a ≡ b
+body_same a b found e f = same a b (sym f ∙ e)
+  where
+    same : (a b : Body) → body_eq a b ≡ true → a ≡ b
+    same Null Null e = refl
+    same (Point p) (Point q) e = ap Point (position_same p q e)
+    same (MultiPoint ps) (MultiPoint qs) e = ap MultiPoint (each_same pos_eq.eq-value.it position_same ps qs e)
+    same (Line us) (Line vs) e = ap Line (refs_same us vs e)
+    same (MultiLine us) (MultiLine vs) e = ap MultiLine (lists_same us vs e)
+    same (Polygon us) (Polygon vs) e = ap Polygon (lists_same us vs e)
+    same (MultiPolygon us) (MultiPolygon vs) e = ap MultiPolygon (each_same (pointwise (pointwise ref_eq.eq-value.it)) lists_same us vs e)
+    same a b e = absurd cc

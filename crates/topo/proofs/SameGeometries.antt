@@ -13,7 +13,6 @@ use Rattle.shapes.specs.contracts.shape.IdOrd.TheImpl.Laws.{matches_eq-law as id
 use Rattle.shapes.specs.contracts.shape.IdPartialEq.TheImpl as id_eq
 use Rattle.shapes.specs.declared.props.Props.{Props}
 use Rattle.shapes.specs.declared.shape.Id.{Id}
-use Rattle.topo.specs.contracts.geom.BodyPartialEq.TheImpl as body_eq
 use Rattle.topo.specs.contracts.geom.GeomPartialEq.TheImpl as geometry_eq
 use Rattle.topo.specs.declared.geom.Geom.{Geom}
 use Rattle.topo.proofs.FeatureOrder.{id_derived_is}
@@ -32,8 +31,8 @@ props_same a b e =
 pub geometry_same : (a b : Geom) → geometry_eq.eq-value.it a b ≡ true → a ≡ b
 geometry_same a b e =
     let one = both_true (id_eq.eq-value.it a.id b.id) _ e in
-    let rest = both_true (props_eq.eq-value.it a.props b.props) (body_eq.eq-value.it a.body b.body) one.1 in
+    let rest = both_true (props_eq.eq-value.it a.props b.props) _ one.1 in
     let id = id_same a.id b.id one.0 in
     let props = props_same a.props b.props rest.0 in
-    let body = body_same a.body b.body rest.1 in
+    let body = body_same a.body b.body _ rest.1 (search rules) in
     λ i. record { id = id i; props = props i; body = body i }

@@ -3,8 +3,8 @@ use Rattle.std.proofs.Common.{◌≡◌, inl, inr, List, [], ◌∷◌, sym, sub
 use Rattle.std.specs.Prelude.{map as map_list}
 use Rattle.grid.specs.declared.pos.Pos.{Pos}
 use Rattle.shapes.specs.Maps.{Layers}
-use Rattle.shapes.specs.declared.shape.Shape as shapes
-use Rattle.shapes.specs.declared.shape.Shape.TheVariants as of
+use Rattle.shapes.specs.Shapes as shapes
+use Rattle.shapes.specs.declared.form.Form.TheVariants as of
 use Rattle.chains.specs.Seen.{line_of, ring_of, form_of, item_of, layer_of, seen, geometry_of}
 use Rattle.theory.specs.Geometry.{IsSound}
 use Rattle.theory.specs.LinesAndRings.{IsLine, IsRing}

@@ -14,8 +14,8 @@ use Rattle.shapes.specs.OrderLaws.{one_line, one_ring}
 use Rattle.shapes.specs.Parts.{spelled_text}
 use Rattle.shapes.specs.Sets as set
 use Rattle.shapes.specs.declared.feature.Feature.{Feature}
-use Rattle.shapes.specs.declared.shape.Shape as shapes
-use Rattle.shapes.specs.declared.shape.Shape.TheVariants as of
+use Rattle.shapes.specs.Shapes as shapes
+use Rattle.shapes.specs.declared.form.Form.TheVariants as of
 use Rattle.chains.specs.Seen as seen_by
 use Rattle.chains.specs.Seen.{form_of, geometry_of}
 use Rattle.theory.specs.ArcNumbers.{ArcRef, StitchTo}
@@ -27,8 +27,7 @@ use Rattle.topo.specs.Features.{AreFeaturesOf, IsFeatureOf, IsLineOf, IsRingOf, 
 use Rattle.topo.specs.OfMap.{IsOf, body_of, item_of, layer_of}
 use Rattle.topo.specs.Parts.{IsOfLayerNamed, LayerParts, TopologyParts}
 use Rattle.topo.specs.Walked.{walked}
-use Rattle.topo.specs.declared.geom.Body as bodies
-use Rattle.topo.specs.declared.geom.Body.TheVariants as to
+use Rattle.topo.specs.Bodies as bodies
 use Rattle.topo.specs.declared.geom.Geom.{Geom}
 use Rattle.shapes.proofs.Entries.{at_entry}
 use Rattle.topo.proofs.Pairs.{Pairwise-mapped, Pairwise-weaker, pair_of}
@@ -79,13 +78,13 @@ module _ (J : Pos → Type 0) (arcs : List (List Pos)) where
   polygons_of (x ∷ xs) (y ∷ ys) h = (rings_of x y h.0, polygons_of xs ys h.1)
 
   shape_of : (s : shapes.Shape) (b : bodies.Body) → IsFormOf A B (form_of s) (body_of b) → IsShapeOf arcs s b
-  shape_of of.Null to.Null h = tt
-  shape_of (of.Point p) (to.Point q) h = h
-  shape_of (of.MultiPoint ps) (to.MultiPoint qs) h = h
-  shape_of (of.Line l) (to.Line used) h = h
-  shape_of (of.MultiLine ls) (to.MultiLine lists) h = lines_of ls lists h
-  shape_of (of.Polygon rs) (to.Polygon lists) h = rings_of rs lists h
-  shape_of (of.MultiPolygon ps) (to.MultiPolygon lists) h = polygons_of ps lists h
+  shape_of of.Null of.Null h = tt
+  shape_of (of.Point p) (of.Point q) h = h
+  shape_of (of.MultiPoint ps) (of.MultiPoint qs) h = h
+  shape_of (of.Line l) (of.Line used) h = h
+  shape_of (of.MultiLine ls) (of.MultiLine lists) h = lines_of ls lists h
+  shape_of (of.Polygon rs) (of.Polygon lists) h = rings_of rs lists h
+  shape_of (of.MultiPolygon ps) (of.MultiPolygon lists) h = polygons_of ps lists h
   shape_of s b h = absurd h
 
   pub feature_of : (f : Feature) (g : Geom) → IsGeometryOf position_cmp J arcs (seen_by.item_of f) (item_of g) → IsFeatureOf arcs f g

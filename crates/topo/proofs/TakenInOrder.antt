@@ -11,8 +11,8 @@ use Rattle.shapes.specs.Maps.{Layers, Features, layer_entry, set_of}
 use Rattle.shapes.specs.Sets as set
 use Rattle.shapes.specs.declared.feature.Feature.{Feature}
 use Rattle.shapes.specs.declared.layer.FeatureLayer.{FeatureLayer}
-use Rattle.shapes.specs.declared.shape.Shape as shapes
-use Rattle.shapes.specs.declared.shape.Shape.TheVariants as of
+use Rattle.shapes.specs.Shapes as shapes
+use Rattle.shapes.specs.declared.form.Form.TheVariants as of
 use Rattle.chains.specs.Pieces.{line_pieces, ring_pieces}
 use Rattle.chains.specs.Seen.{line_of, ring_of, form_of, item_of, layer_of, seen}
 use Rattle.chains.specs.Table.{located}
@@ -23,7 +23,6 @@ use Rattle.theory.specs.Lists.{gathered, joined}
 use Rattle.theory.specs.Topology.{Shape, forms_of, lines_in, rings_in}
 use Rattle.topo.specs.Building.{form_counts, form_pieces, line_used, ring_used, body_built, geometry_built, entry_built, parts_entry}
 use Rattle.topo.specs.Taken.{Left, parted, first_list, taken, polygons_taken, polygons_left, body_taken, shape_left, geometries_taken, features_left, layer_taken, layers_taken, entries_taken}
-use Rattle.topo.specs.declared.geom.Body.TheVariants as to
 
 drop_behind : (n : ℕ) (ls : Left) → drop n (drop 1 ls) ≡ drop (suc n) ls
 drop_behind zero ls = refl
@@ -188,10 +187,10 @@ module _ (i : List Pos) where
     body_own (of.Point p) rest = refl
     body_own (of.MultiPoint ps) rest = refl
     body_own (of.Line l) rest = refl
-    body_own (of.MultiLine ls) rest = ap (λ w. body_taken (of.MultiLine ls) (w ++ rest)) (lines_used ls) ∙ ap to.MultiLine (taken_own (line_used i arcs) ls rest)
-    body_own (of.Polygon rs) rest = ap (λ w. body_taken (of.Polygon rs) (w ++ rest)) (rings_used rs) ∙ ap to.Polygon (taken_own (ring_used i arcs) rs rest)
+    body_own (of.MultiLine ls) rest = ap (λ w. body_taken (of.MultiLine ls) (w ++ rest)) (lines_used ls) ∙ ap of.MultiLine (taken_own (line_used i arcs) ls rest)
+    body_own (of.Polygon rs) rest = ap (λ w. body_taken (of.Polygon rs) (w ++ rest)) (rings_used rs) ∙ ap of.Polygon (taken_own (ring_used i arcs) rs rest)
     body_own (of.MultiPolygon ps) rest =
-        ap (λ w. body_taken (of.MultiPolygon ps) (w ++ rest)) (polygons_used ps) ∙ ap to.MultiPolygon (polygons_own (ring_used i arcs) ps rest)
+        ap (λ w. body_taken (of.MultiPolygon ps) (w ++ rest)) (polygons_used ps) ∙ ap of.MultiPolygon (polygons_own (ring_used i arcs) ps rest)
 
     shape_behind : (s : shapes.Shape) (rest : Left) → shape_left s (used_in (form_of s) ++ rest) ≡ rest
     shape_behind of.Null rest = refl

@@ -8,8 +8,8 @@ use Rattle.shapes.specs.Parts.{spelled_text}
 use Rattle.shapes.specs.Sets as set
 use Rattle.shapes.specs.declared.feature.Feature.{Feature}
 use Rattle.shapes.specs.declared.layer.FeatureLayer.{FeatureLayer}
-use Rattle.shapes.specs.declared.shape.Shape as shapes
-use Rattle.shapes.specs.declared.shape.Shape.TheVariants as of
+use Rattle.shapes.specs.Shapes as shapes
+use Rattle.shapes.specs.declared.form.Form.TheVariants as of
 use Rattle.chains.specs.Pieces.{line_pieces, ring_pieces}
 use Rattle.chains.specs.Seen.{line_of, ring_of, form_of}
 use Rattle.chains.specs.Table.{located}
@@ -18,8 +18,7 @@ use Rattle.theory.specs.ArcNumbers.{ArcRef}
 use Rattle.theory.specs.Lists.{gathered}
 use Rattle.theory.specs.Topology.{Shape, lines_in, rings_in}
 use Rattle.topo.specs.Parts.{LayerParts}
-use Rattle.topo.specs.declared.geom.Body as bodies
-use Rattle.topo.specs.declared.geom.Body.TheVariants as to
+use Rattle.topo.specs.Bodies as bodies
 use Rattle.topo.specs.declared.geom.Geom.{Geom}
 
 -- the pieces of the lines and of the rings of a form [topojson-server]
@@ -60,13 +59,13 @@ ring_used i arcs r = map_list (located arcs) (ring_pieces i (ring_of r))
 
 -- the body of a shape, its lines and rings by the arcs of a table [TopoJSON, 2.2]
 abbrev pub body_built : List Pos → List (List Pos) → shapes.Shape → bodies.Body
-body_built i arcs of.Null = to.Null
-body_built i arcs (of.Point p) = to.Point p
-body_built i arcs (of.MultiPoint ps) = to.MultiPoint ps
-body_built i arcs (of.Line l) = to.Line (line_used i arcs l)
-body_built i arcs (of.MultiLine ls) = to.MultiLine (map_list (line_used i arcs) ls)
-body_built i arcs (of.Polygon rs) = to.Polygon (map_list (ring_used i arcs) rs)
-body_built i arcs (of.MultiPolygon ps) = to.MultiPolygon (map_list (map_list (ring_used i arcs)) ps)
+body_built i arcs of.Null = of.Null
+body_built i arcs (of.Point p) = of.Point p
+body_built i arcs (of.MultiPoint ps) = of.MultiPoint ps
+body_built i arcs (of.Line l) = of.Line (line_used i arcs l)
+body_built i arcs (of.MultiLine ls) = of.MultiLine (map_list (line_used i arcs) ls)
+body_built i arcs (of.Polygon rs) = of.Polygon (map_list (ring_used i arcs) rs)
+body_built i arcs (of.MultiPolygon ps) = of.MultiPolygon (map_list (map_list (ring_used i arcs)) ps)
 
 -- the geometry of a feature, by the arcs of a table [TopoJSON, 2.2]
 abbrev pub geometry_built : List Pos → List (List Pos) → Feature → Geom

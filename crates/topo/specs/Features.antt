@@ -5,13 +5,12 @@ use Rattle.lines.specs.Seen.{positions_of, vertices_of}
 use Rattle.lines.specs.declared.line.Line as the_line
 use Rattle.lines.specs.declared.ring.Ring as the_ring
 use Rattle.shapes.specs.declared.feature.Feature.{Feature}
-use Rattle.shapes.specs.declared.shape.Shape as shapes
-use Rattle.shapes.specs.declared.shape.Shape.TheVariants as of
+use Rattle.shapes.specs.Shapes as shapes
+use Rattle.shapes.specs.declared.form.Form.TheVariants as of
 use Rattle.theory.specs.ArcNumbers.{ArcRef, StitchTo}
 use Rattle.theory.specs.LinesAndRings.{IsRotation, closed}
 use Rattle.theory.specs.Lists.{Pairwise}
-use Rattle.topo.specs.declared.geom.Body as bodies
-use Rattle.topo.specs.declared.geom.Body.TheVariants as to
+use Rattle.topo.specs.Bodies as bodies
 use Rattle.topo.specs.declared.geom.Geom.{Geom}
 
 -- the used arcs stitch to the line [TopoJSON, 2.1.4]
@@ -24,13 +23,13 @@ IsRingOf arcs r used = (q : List Pos) × IsRotation (vertices_of r) q × StitchT
 
 -- the same kind, with the same points, and lists of used arcs that stitch to the lines and rings [TopoJSON, 2.1.4]
 abbrev pub IsShapeOf : List (List Pos) → shapes.Shape → bodies.Body → Type 0
-IsShapeOf arcs of.Null to.Null = Unit {0}
-IsShapeOf arcs (of.Point p) (to.Point q) = p ≡ q
-IsShapeOf arcs (of.MultiPoint ps) (to.MultiPoint qs) = ps ≡ qs
-IsShapeOf arcs (of.Line l) (to.Line used) = IsLineOf arcs l used
-IsShapeOf arcs (of.MultiLine ls) (to.MultiLine lists) = Pairwise (IsLineOf arcs) ls lists
-IsShapeOf arcs (of.Polygon rs) (to.Polygon lists) = Pairwise (IsRingOf arcs) rs lists
-IsShapeOf arcs (of.MultiPolygon ps) (to.MultiPolygon lists) = Pairwise (Pairwise (IsRingOf arcs)) ps lists
+IsShapeOf arcs of.Null of.Null = Unit {0}
+IsShapeOf arcs (of.Point p) (of.Point q) = p ≡ q
+IsShapeOf arcs (of.MultiPoint ps) (of.MultiPoint qs) = ps ≡ qs
+IsShapeOf arcs (of.Line l) (of.Line used) = IsLineOf arcs l used
+IsShapeOf arcs (of.MultiLine ls) (of.MultiLine lists) = Pairwise (IsLineOf arcs) ls lists
+IsShapeOf arcs (of.Polygon rs) (of.Polygon lists) = Pairwise (IsRingOf arcs) rs lists
+IsShapeOf arcs (of.MultiPolygon ps) (of.MultiPolygon lists) = Pairwise (Pairwise (IsRingOf arcs)) ps lists
 IsShapeOf arcs s b = ⊥
 
 -- the geometry stitches to the feature: the same id and properties, and its body stitches to the shape

@@ -1,11 +1,8 @@
--- What is left of an arc, of a walk, and of the lists of a body.
+-- What is left of an arc, and of a walk.
 use Rattle.std.specs.Prelude.{List, ◌++◌, cond, reverse}
 use Rattle.grid.specs.declared.pos.Pos.{Pos}
-use Rattle.theory.specs.ArcNumbers.{ArcRef}
-use Rattle.theory.specs.Lists.{joined}
 use Rattle.topo.specs.Walked.{behind}
 use Rattle.topo.specs.declared.arc_slice.ArcSlice.TheInside as run
-use Rattle.topo.specs.declared.body_lists.BodyLists.TheInside as of_body
 use Rattle.topo.specs.declared.walk.Walk.TheInside as walk
 
 -- the positions that are left of an arc, in the direction of its use
@@ -15,7 +12,3 @@ run_left r = cond r.reversed (reverse r.positions.now) r.positions.now
 -- the positions that are left, from the front
 abbrev pub walk_left : walk.Inside → List Pos
 walk_left w = w.front ++ (behind w.arcs.now.arcs w.middle.now ++ w.back)
-
--- the lists that are left, from the front
-abbrev pub lists_left : of_body.Inside → List (List ArcRef)
-lists_left b = b.lists.now ++ joined b.polygons.now

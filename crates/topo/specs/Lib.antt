@@ -1,6 +1,7 @@
 pub mod ArcTexts
 pub mod Walked
 pub mod Left
+pub mod Bodies
 pub mod BodyLists
 pub mod Parts
 pub mod Box

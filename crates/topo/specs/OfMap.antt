@@ -15,8 +15,8 @@ use Rattle.theory.specs.Topology.{Form, Item, Layer, Topology, IsTopologyOf, IsL
 use Rattle.theory.specs.TopologyFunction.{topology_of}
 use Rattle.topo.specs.Box.{box_of}
 use Rattle.topo.specs.Parts.{Corners, LayerParts, TopologyParts}
-use Rattle.topo.specs.declared.geom.Body.{Body}
-use Rattle.topo.specs.declared.geom.Body.TheVariants as of
+use Rattle.topo.specs.Bodies.{Body}
+use Rattle.shapes.specs.declared.form.Form.TheVariants as of
 use Rattle.topo.specs.declared.geom.Geom.{Geom}
 
 -- a body in the words of `theory`

@@ -5,7 +5,7 @@ use Rattle.theory.specs.Lists.{gathered}
 use Rattle.theory.specs.Topology.{points_in}
 use Rattle.topo.specs.OfMap.{body_of}
 use Rattle.topo.specs.Parts.{LayerParts}
-use Rattle.topo.specs.declared.geom.Body.{Body}
+use Rattle.topo.specs.Bodies.{Body}
 use Rattle.topo.specs.declared.geom.Geom.{Geom}
 
 -- the positions of the points of a body [TopoJSON, 2.2.1 and 2.2.2]

@@ -5,12 +5,11 @@ use Rattle.shapes.specs.Maps.{Features, set_of}
 use Rattle.shapes.specs.Sets as set
 use Rattle.shapes.specs.declared.feature.Feature.{Feature}
 use Rattle.shapes.specs.declared.layer.FeatureLayer.{FeatureLayer}
-use Rattle.shapes.specs.declared.shape.Shape as shapes
-use Rattle.shapes.specs.declared.shape.Shape.TheVariants as of
+use Rattle.shapes.specs.Shapes as shapes
+use Rattle.shapes.specs.declared.form.Form.TheVariants as of
 use Rattle.theory.specs.ArcNumbers.{ArcRef}
 use Rattle.topo.specs.Parts.{LayerParts}
-use Rattle.topo.specs.declared.geom.Body as bodies
-use Rattle.topo.specs.declared.geom.Body.TheVariants as to
+use Rattle.topo.specs.Bodies as bodies
 use Rattle.topo.specs.declared.geom.Geom.{Geom}
 
 -- the lists that are left
@@ -44,13 +43,13 @@ polygons_left (p ∷ ps) ls = polygons_left ps (drop (length p) ls)
 
 -- the body of a shape, and what is left behind it
 abbrev pub body_taken : shapes.Shape → Left → bodies.Body
-body_taken of.Null ls = to.Null
-body_taken (of.Point p) ls = to.Point p
-body_taken (of.MultiPoint ps) ls = to.MultiPoint ps
-body_taken (of.Line l) ls = to.Line (first_list ls)
-body_taken (of.MultiLine xs) ls = to.MultiLine (taken (length xs) ls)
-body_taken (of.Polygon rs) ls = to.Polygon (taken (length rs) ls)
-body_taken (of.MultiPolygon ps) ls = to.MultiPolygon (polygons_taken ps ls)
+body_taken of.Null ls = of.Null
+body_taken (of.Point p) ls = of.Point p
+body_taken (of.MultiPoint ps) ls = of.MultiPoint ps
+body_taken (of.Line l) ls = of.Line (first_list ls)
+body_taken (of.MultiLine xs) ls = of.MultiLine (taken (length xs) ls)
+body_taken (of.Polygon rs) ls = of.Polygon (taken (length rs) ls)
+body_taken (of.MultiPolygon ps) ls = of.MultiPolygon (polygons_taken ps ls)
 
 -- the lists that are left behind those of a shape's lines and rings
 abbrev pub shape_left : shapes.Shape → Left → Left

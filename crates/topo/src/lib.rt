@@ -3,7 +3,6 @@
 #![tactic(auto)]
 
 pub mod arc_slice;
-pub mod body_lists;
 mod bounds;
 mod building;
 mod cuts;
@@ -16,7 +15,6 @@ pub mod walk;
 pub mod writing;
 
 pub use arc_slice::ArcSlice;
-pub use body_lists::BodyLists;
 pub use geom::{Body, Geom};
 pub use order::{kind_order, order_of};
 pub use topology::{Layer, Topology};

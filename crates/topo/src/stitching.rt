@@ -1,7 +1,7 @@
 //! Features put together from arcs.
 ghost use Rattle.grid.specs.declared.pos.Pos.{Pos as place};
 ghost use Rattle.shapes.specs.declared.feature.Feature as features;
-ghost use Rattle.shapes.specs.declared.shape.Shape as shapes;
+ghost use Rattle.shapes.specs.Shapes as shapes;
 ghost use Rattle.std.specs.Prelude.{◌≡◌, IfOk, List};
 ghost use Rattle.theory.specs.Lists.{Pairwise};
 ghost use Rattle.topo.specs.Features.{HasFeature, IsFeatureOf, IsKnownOf, IsLineOf, IsRingOf, IsShapeOf};

@@ -25,8 +25,8 @@ use Rattle.theory.specs.TopologyFunction.{keep, least_list, rotations}
 use Rattle.theory.proofs.Lists.{append_nil}
 use Rattle.topo.specs.OfMap.{body_of}
 use Rattle.topo.specs.Parts.{LayerParts, TopologyParts}
-use Rattle.topo.specs.declared.geom.Body as bodies
-use Rattle.topo.specs.declared.geom.Body.TheVariants as to
+use Rattle.topo.specs.Bodies as bodies
+use Rattle.shapes.specs.declared.form.Form.TheVariants as to
 use Rattle.topo.specs.declared.geom.Geom.{Geom}
 use Rattle.normalize.proofs.Collapsing.{begins, ends, once, once_reversed}
 use Rattle.normalize.specs.Repeats.{AreWithoutRepeats, is_long, layer_long, long_arc, long_refs}

@@ -21,16 +21,15 @@ use Rattle.theory.proofs.Lists.{append_nil, last_join}
 use Rattle.shapes.specs.Maps.{Layers}
 use Rattle.shapes.specs.Parts.{spelled_text, properties_text}
 use Rattle.shapes.specs.declared.feature.Feature.{Feature}
-use Rattle.shapes.specs.declared.shape.Shape as shapes
-use Rattle.shapes.specs.declared.shape.Shape.TheVariants as of
+use Rattle.shapes.specs.Shapes as shapes
+use Rattle.shapes.specs.declared.form.Form.TheVariants as of
 use Rattle.reading.specs.Meant.{AreLayers}
 use Rattle.reading.specs.Outlines.{outline_faults, line_faults, ring_faults, line_of, ring_of}
 use Rattle.reading.specs.Plain.{plain, plain_form, plain_id}
 use Rattle.topo.specs.Features.{IsLineOf, IsRingOf, IsShapeOf, IsFeatureOf, AreFeaturesOf}
 use Rattle.topo.specs.OfMap.{body_of}
 use Rattle.topo.specs.Parts.{LayerParts, TopologyParts}
-use Rattle.topo.specs.declared.geom.Body as bodies
-use Rattle.topo.specs.declared.geom.Body.TheVariants as to
+use Rattle.topo.specs.Bodies as bodies
 use Rattle.topo.specs.declared.geom.Geom.{Geom}
 use Rattle.topo.proofs.Pairs.{Pairwise-same}
 use Rattle.topo_io.specs.Arcs.{along, same_as, meets, stitched_onto, stitched, stitched_faults, list_or_none}
@@ -116,24 +115,24 @@ module _ (arcs : List (List Pos)) where
   -- ---- features
 
   body_holds : (s : shapes.Shape) (b : bodies.Body) → IsShapeOf arcs s b → BodyStitches arcs (body_of b)
-  body_holds of.Null to.Null h = tt
-  body_holds (of.Point p) (to.Point q) h = tt
-  body_holds (of.MultiPoint ps) (to.MultiPoint qs) h = tt
-  body_holds (of.Line l) (to.Line used) h = line_holds l used h
-  body_holds (of.MultiLine ls) (to.MultiLine us) h = each_holds (IsLineOf arcs) (StitchToLine arcs) line_holds ls us h
-  body_holds (of.Polygon rs) (to.Polygon us) h = each_holds (IsRingOf arcs) (StitchToRing arcs) ring_holds rs us h
-  body_holds (of.MultiPolygon ps) (to.MultiPolygon us) h =
+  body_holds of.Null of.Null h = tt
+  body_holds (of.Point p) (of.Point q) h = tt
+  body_holds (of.MultiPoint ps) (of.MultiPoint qs) h = tt
+  body_holds (of.Line l) (of.Line used) h = line_holds l used h
+  body_holds (of.MultiLine ls) (of.MultiLine us) h = each_holds (IsLineOf arcs) (StitchToLine arcs) line_holds ls us h
+  body_holds (of.Polygon rs) (of.Polygon us) h = each_holds (IsRingOf arcs) (StitchToRing arcs) ring_holds rs us h
+  body_holds (of.MultiPolygon ps) (of.MultiPolygon us) h =
       each_holds (Pairwise (IsRingOf arcs)) (AllByRecursion (StitchToRing arcs)) (each_holds (IsRingOf arcs) (StitchToRing arcs) ring_holds) ps us h
   body_holds s b h = absurd h
 
   form_means : (s : shapes.Shape) (b : bodies.Body) → IsShapeOf arcs s b → plain_form s ≡ form_along arcs (body_of b)
-  form_means of.Null to.Null h = refl
-  form_means (of.Point p) (to.Point q) h = ap point h
-  form_means (of.MultiPoint ps) (to.MultiPoint qs) h = ap points h
-  form_means (of.Line l) (to.Line used) h = ap line (line_means l used h)
-  form_means (of.MultiLine ls) (to.MultiLine us) h = ap lines (Pairwise-same (IsLineOf arcs) positions_of (line_along arcs) line_means ls us h)
-  form_means (of.Polygon rs) (to.Polygon us) h = ap polygon (rings_mean rs us h)
-  form_means (of.MultiPolygon ps) (to.MultiPolygon us) h =
+  form_means of.Null of.Null h = refl
+  form_means (of.Point p) (of.Point q) h = ap point h
+  form_means (of.MultiPoint ps) (of.MultiPoint qs) h = ap points h
+  form_means (of.Line l) (of.Line used) h = ap line (line_means l used h)
+  form_means (of.MultiLine ls) (of.MultiLine us) h = ap lines (Pairwise-same (IsLineOf arcs) positions_of (line_along arcs) line_means ls us h)
+  form_means (of.Polygon rs) (of.Polygon us) h = ap polygon (rings_mean rs us h)
+  form_means (of.MultiPolygon ps) (of.MultiPolygon us) h =
       ap polygons (Pairwise-same (Pairwise (IsRingOf arcs)) (map_list vertices_of) (map_list (ring_along arcs)) rings_mean ps us h)
   form_means s b h = absurd h
 

@@ -22,7 +22,7 @@ use Rattle.reading.specs.declared.geometry.GeometryType.TheVariants.{Point, Mult
 use Rattle.reading.proofs.Faultless.{under_none, first_none, second_none}
 use Rattle.reading.proofs.Lists.{zip_is, zip_weaker}
 use Rattle.reading.proofs.Positions.{position_itself}
-use Rattle.topo.specs.declared.geom.Body.TheVariants as body
+use Rattle.shapes.specs.declared.form.Form.TheVariants as body
 use Rattle.topo_io.specs.Arcs.{counted, no_arc_faults, index_faults, stitched_list_faults}
 use Rattle.topo_io.specs.Limits.{limits_on, no_limits, sums_at, next_sums, step_faults, place_of, position_faults, position_of}
 use Rattle.topo_io.specs.Parts.{ref_at, refs_of}

@@ -16,7 +16,7 @@ use Rattle.shapes.specs.Parts.{properties_text}
 use Rattle.shapes.specs.declared.props.Props.{Props}
 use Rattle.shapes.specs.declared.shape.Id.{Id}
 use Rattle.shapes.specs.declared.shape.Id.TheVariants as id
-use Rattle.topo.specs.declared.geom.Body.{Body}
+use Rattle.topo.specs.Bodies.{Body}
 use Rattle.topo.specs.declared.geom.Geom.{Geom}
 use Rattle.topo_io.specs.Arcs.{counted}
 use Rattle.topo_io.specs.Geometries.{text_or_null, layer_by, geometry_faults}

@@ -3,8 +3,8 @@ use Rattle.std.specs.Prelude.{◌<◌, ℕ}
 use Rattle.std.specs.List.{AllByRecursion}
 use Rattle.theory.specs.ArcNumbers.{ArcRef}
 use Rattle.grid.specs.Fits.{Fits}
-use Rattle.topo.specs.declared.geom.Body.{Body}
-use Rattle.topo.specs.declared.geom.Body.TheVariants.{Null, Point, MultiPoint, Line, MultiLine, Polygon, MultiPolygon}
+use Rattle.topo.specs.Bodies.{Body}
+use Rattle.shapes.specs.declared.form.Form.TheVariants.{Null, Point, MultiPoint, Line, MultiLine, Polygon, MultiPolygon}
 use Rattle.topo_io.specs.declared.token_reader.bounds.Bounds.{Bounds}
 
 -- one of so many arcs

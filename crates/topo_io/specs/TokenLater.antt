@@ -8,7 +8,7 @@ use Rattle.reading.specs.Numbers.{element_faults, whole_of}
 use Rattle.reading.specs.Parts.{list_faults, elements}
 use Rattle.reading.specs.declared.geometry.GeometryType.{GeometryType}
 use Rattle.topo.specs.OfMap.{body_of}
-use Rattle.topo.specs.declared.geom.Body.{Body}
+use Rattle.topo.specs.Bodies.{Body}
 use Rattle.topo_io.specs.Arcs.{counted}
 use Rattle.topo_io.specs.Geometries.{body_faults}
 use Rattle.topo_io.specs.Limits.{limits_on, no_limits, position_faults, position_of}

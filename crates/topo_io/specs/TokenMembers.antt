@@ -7,7 +7,7 @@ use Rattle.reading.specs.declared.geometry.GeometryType.{GeometryType}
 use Rattle.shapes.specs.declared.props.Props.{Props}
 use Rattle.shapes.specs.declared.shape.Id.{Id}
 use Rattle.topo.specs.OfMap.{body_of}
-use Rattle.topo.specs.declared.geom.Body.{Body}
+use Rattle.topo.specs.Bodies.{Body}
 use Rattle.topo.specs.declared.geom.Geom.{Geom}
 use Rattle.topo_io.specs.Arcs.{counted}
 use Rattle.topo_io.specs.Geometries.{text_or_null, layer_by, geometry_by, shape_faults, typed_faults_of, geometry_faults, layer_faults}

@@ -11,8 +11,8 @@ use Rattle.theory.specs.ArcNumbers.{ArcRef}
 use Rattle.theory.specs.Lists.{Has, gathered}
 use Rattle.topo.specs.Parts.{TopologyParts}
 use Rattle.topo.specs.Walked.{walked}
-use Rattle.topo.specs.declared.geom.Body.{Body}
-use Rattle.topo.specs.declared.geom.Body.TheVariants as of
+use Rattle.topo.specs.Bodies.{Body}
+use Rattle.shapes.specs.declared.form.Form.TheVariants as of
 use Rattle.topo.specs.declared.geom.Geom.{Geom}
 use Rattle.compare.specs.Quality.Near.{Ascend}
 use Rattle.compare.specs.declared.quality.vertex.Vertex.{Vertex}

@@ -56,8 +56,8 @@ fn note_lists(
 ) -> Result<(), AllocError>
     ensures { OnOk result (uses.new.items ≡ uses.old.items ++ gathered (line_uses topology.now.arcs.arcs feature) (body_lists body.now)) }
 {
-    for refs in body.lists() {
-        note_line(uses, topology, feature, refs)?;
+    for refs in body.parts() {
+        note_line(uses, topology, feature, refs.as_slice())?;
     }
     Ok(())
 }

@@ -10,7 +10,7 @@ use Rattle.shapes.specs.declared.props.Props.{Props}
 use Rattle.shapes.specs.declared.shape.Id.{Id}
 use Rattle.shapes.specs.declared.spelled.Spelled.{Spelled}
 use Rattle.topo.specs.Parts.{LayerParts}
-use Rattle.topo.specs.declared.geom.Body.{Body}
+use Rattle.topo.specs.Bodies.{Body}
 use Rattle.topo.specs.declared.geom.Geom.{Geom}
 use Rattle.decimals.specs.Topology.Turning.{area_along, rewound_body}
 use Rattle.decimals.specs.declared.topology.rules.BackRules.{BackRules}

@@ -8,8 +8,8 @@ use Rattle.sinks.specs.Texts.{joined, list_text, option_text, pair_text}
 use Rattle.theory.specs.ArcNumbers.{ArcRef}
 use Rattle.topo.specs.ArcTexts.{arc_text, index_text, position_text}
 use Rattle.topo.specs.Parts.{Corners, TopologyParts}
-use Rattle.topo.specs.declared.geom.Body.{Body}
-use Rattle.topo.specs.declared.geom.Body.TheVariants as of
+use Rattle.topo.specs.Bodies.{Body}
+use Rattle.shapes.specs.declared.form.Form.TheVariants as of
 use Rattle.shapes.specs.Writing.Members.{id_text, properties_member}
 use Rattle.decimals.specs.Topology.DecimalTransform.{DecimalTransformParts, quantizer_of}
 use Rattle.decimals.specs.Topology.LayersBack.{BackGeometryParts, BackLayerParts, layers_back}

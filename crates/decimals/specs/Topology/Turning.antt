@@ -4,8 +4,8 @@ use Rattle.grid.specs.declared.pos.Pos.{Pos}
 use Rattle.theory.specs.ArcNumbers.{ArcRef, backwards}
 use Rattle.fixing.specs.declared.rules.Rewind.{Rewind}
 use Rattle.fixing.specs.declared.rules.Rewind.TheVariants.{Keep, Rfc7946, D3}
-use Rattle.topo.specs.declared.geom.Body.{Body}
-use Rattle.topo.specs.declared.geom.Body.TheVariants as of
+use Rattle.topo.specs.Bodies.{Body}
+use Rattle.shapes.specs.declared.form.Form.TheVariants as of
 
 -- twice the signed area of the triangle of 0 and two positions
 abbrev pub cross : Pos → Pos → ℤ

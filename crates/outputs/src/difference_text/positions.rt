@@ -49,8 +49,8 @@ fn push_walks(
     body: &Body,
     positions: &mut Vec<Pos>,
 ) -> Result<(), AllocError> {
-    for used in body.lists() {
-        push_walk(topology, used, positions)?;
+    for used in body.parts() {
+        push_walk(topology, used.as_slice(), positions)?;
     }
     Ok(())
 }

@@ -10,15 +10,14 @@ use Rattle.lines.specs.Turned.{list_cmp, position_cmp}
 use Rattle.lines.specs.declared.line.Line as the_line
 use Rattle.lines.specs.declared.ring.Ring as the_ring
 use Rattle.shapes.specs.Order.{line_cmp, ring_cmp, shape_cmp}
-use Rattle.shapes.specs.declared.shape.Shape as shapes
-use Rattle.shapes.specs.declared.shape.Shape.TheVariants as of
+use Rattle.shapes.specs.Shapes as shapes
+use Rattle.shapes.specs.declared.form.Form.TheVariants as of
 use Rattle.theory.specs.ArcNumbers.{ArcRef}
 use Rattle.theory.specs.Lists.{Pairwise}
 use Rattle.topo.proofs.FeatureOrder.{shape_form, shapes_by_form}
 use Rattle.topo.specs.Features.{HasFeature, IsLineOf, IsRingOf, IsShapeOf}
 use Rattle.topo.specs.GeometryOrder.{body_form, body_rank, form_cmp, geometry_cmp, info_cmp, kind_cmp}
-use Rattle.topo.specs.declared.geom.Body as bodies
-use Rattle.topo.specs.declared.geom.Body.TheVariants as to
+use Rattle.topo.specs.Bodies as bodies
 use Rattle.topo.specs.declared.geom.Geom.{Geom}
 use Rattle.renumbering.proofs.GeometryOrderLemmas.RingsStand.{lines_stand, rings_stand}
 use Rattle.renumbering.specs.GeometryOrder.Bodies.{bodies_cmp}
@@ -46,39 +45,39 @@ module _ (arcs : List (List Pos)) (noded : AreNoded arcs) where
   of_rings : (r s : the_ring.Ring) (us vs : List ArcRef) → IsRingOf arcs r us → IsRingOf arcs s vs → ring_cmp r s ≡ ring_refs_cmp arcs (least_of arcs) us vs
   of_rings = rings_stand arcs noded
 
-  nulls : (s t : shapes.Shape) → IsShapeOf arcs s to.Null → IsShapeOf arcs t to.Null → shape_cmp s t ≡ Equal
+  nulls : (s t : shapes.Shape) → IsShapeOf arcs s of.Null → IsShapeOf arcs t of.Null → shape_cmp s t ≡ Equal
   nulls of.Null of.Null h k = refl
   nulls of.Null t h k = absurd k
   nulls s t h k = absurd h
 
-  points : (p q : Pos) (s t : shapes.Shape) → IsShapeOf arcs s (to.Point p) → IsShapeOf arcs t (to.Point q) → shape_cmp s t ≡ position_cmp p q
+  points : (p q : Pos) (s t : shapes.Shape) → IsShapeOf arcs s (of.Point p) → IsShapeOf arcs t (of.Point q) → shape_cmp s t ≡ position_cmp p q
   points p q (of.Point a) (of.Point b) h k = (λ i. position_cmp (h i) (k i))
   points p q (of.Point a) t h k = absurd k
   points p q s t h k = absurd h
 
-  point_lists : (p q : List Pos) (s t : shapes.Shape) → IsShapeOf arcs s (to.MultiPoint p) → IsShapeOf arcs t (to.MultiPoint q) → shape_cmp s t ≡ list_cmp p q
+  point_lists : (p q : List Pos) (s t : shapes.Shape) → IsShapeOf arcs s (of.MultiPoint p) → IsShapeOf arcs t (of.MultiPoint q) → shape_cmp s t ≡ list_cmp p q
   point_lists p q (of.MultiPoint a) (of.MultiPoint b) h k = (λ i. list_cmp (h i) (k i))
   point_lists p q (of.MultiPoint a) t h k = absurd k
   point_lists p q s t h k = absurd h
 
-  one_line : (us vs : List ArcRef) (s t : shapes.Shape) → IsShapeOf arcs s (to.Line us) → IsShapeOf arcs t (to.Line vs) → shape_cmp s t ≡ line_refs_cmp arcs (least_of arcs) us vs
+  one_line : (us vs : List ArcRef) (s t : shapes.Shape) → IsShapeOf arcs s (of.Line us) → IsShapeOf arcs t (of.Line vs) → shape_cmp s t ≡ line_refs_cmp arcs (least_of arcs) us vs
   one_line us vs (of.Line k) (of.Line l) h m = of_lines k l us vs h m
   one_line us vs (of.Line k) t h m = absurd m
   one_line us vs s t h m = absurd h
 
-  many_lines : (ls ks : List (List ArcRef)) (s t : shapes.Shape) → IsShapeOf arcs s (to.MultiLine ls) → IsShapeOf arcs t (to.MultiLine ks) →
+  many_lines : (ls ks : List (List ArcRef)) (s t : shapes.Shape) → IsShapeOf arcs s (of.MultiLine ls) → IsShapeOf arcs t (of.MultiLine ks) →
       shape_cmp s t ≡ slice_cmp (line_refs_cmp arcs (least_of arcs)) ls ks
   many_lines ls ks (of.MultiLine xs) (of.MultiLine ys) h m = slices_stand (IsLineOf arcs) line_cmp (line_refs_cmp arcs (least_of arcs)) of_lines xs ys ls ks h m
   many_lines ls ks (of.MultiLine xs) t h m = absurd m
   many_lines ls ks s t h m = absurd h
 
-  one_polygon : (ls ks : List (List ArcRef)) (s t : shapes.Shape) → IsShapeOf arcs s (to.Polygon ls) → IsShapeOf arcs t (to.Polygon ks) →
+  one_polygon : (ls ks : List (List ArcRef)) (s t : shapes.Shape) → IsShapeOf arcs s (of.Polygon ls) → IsShapeOf arcs t (of.Polygon ks) →
       shape_cmp s t ≡ slice_cmp (ring_refs_cmp arcs (least_of arcs)) ls ks
   one_polygon ls ks (of.Polygon xs) (of.Polygon ys) h m = slices_stand (IsRingOf arcs) ring_cmp (ring_refs_cmp arcs (least_of arcs)) of_rings xs ys ls ks h m
   one_polygon ls ks (of.Polygon xs) t h m = absurd m
   one_polygon ls ks s t h m = absurd h
 
-  many_polygons : (ps qs : List (List (List ArcRef))) (s t : shapes.Shape) → IsShapeOf arcs s (to.MultiPolygon ps) → IsShapeOf arcs t (to.MultiPolygon qs) →
+  many_polygons : (ps qs : List (List (List ArcRef))) (s t : shapes.Shape) → IsShapeOf arcs s (of.MultiPolygon ps) → IsShapeOf arcs t (of.MultiPolygon qs) →
       shape_cmp s t ≡ slice_cmp (slice_cmp (ring_refs_cmp arcs (least_of arcs))) ps qs
   many_polygons ps qs (of.MultiPolygon xs) (of.MultiPolygon ys) h m =
       slices_stand (Pairwise (IsRingOf arcs)) (slice_cmp ring_cmp) (slice_cmp (ring_refs_cmp arcs (least_of arcs)))
@@ -88,13 +87,13 @@ module _ (arcs : List (List Pos)) (noded : AreNoded arcs) where
 
   bodies_stand : (b c : bodies.Body) → body_rank b ≡ body_rank c → (s t : shapes.Shape) → IsShapeOf arcs s b → IsShapeOf arcs t c →
       shape_cmp s t ≡ bodies_cmp arcs (least_of arcs) b c
-  bodies_stand to.Null to.Null e s t h k = nulls s t h k
-  bodies_stand (to.Point p) (to.Point q) e s t h k = points p q s t h k
-  bodies_stand (to.MultiPoint p) (to.MultiPoint q) e s t h k = point_lists p q s t h k
-  bodies_stand (to.Line us) (to.Line vs) e s t h k = one_line us vs s t h k
-  bodies_stand (to.MultiLine ls) (to.MultiLine ks) e s t h k = many_lines ls ks s t h k
-  bodies_stand (to.Polygon ls) (to.Polygon ks) e s t h k = one_polygon ls ks s t h k
-  bodies_stand (to.MultiPolygon ps) (to.MultiPolygon qs) e s t h k = many_polygons ps qs s t h k
+  bodies_stand of.Null of.Null e s t h k = nulls s t h k
+  bodies_stand (of.Point p) (of.Point q) e s t h k = points p q s t h k
+  bodies_stand (of.MultiPoint p) (of.MultiPoint q) e s t h k = point_lists p q s t h k
+  bodies_stand (of.Line us) (of.Line vs) e s t h k = one_line us vs s t h k
+  bodies_stand (of.MultiLine ls) (of.MultiLine ks) e s t h k = many_lines ls ks s t h k
+  bodies_stand (of.Polygon ls) (of.Polygon ks) e s t h k = one_polygon ls ks s t h k
+  bodies_stand (of.MultiPolygon ps) (of.MultiPolygon qs) e s t h k = many_polygons ps qs s t h k
   bodies_stand b c e s t h k = absurd (omega arith)
 
   tied : (x y : Ordering) → is_ne (ordering_then x y) ≡ false → (x ≡ Equal) × (y ≡ Equal)

@@ -22,8 +22,8 @@ use Rattle.theory.specs.Lists.{Has}
 use Rattle.topo.proofs.FeatureOrder.{id_derived_is, kind_decides}
 use Rattle.topo.specs.Features.{HasFeature}
 use Rattle.topo.specs.GeometryOrder.{body_rank, geometry_cmp, info_cmp, kind_cmp}
-use Rattle.topo.specs.declared.geom.Body as bodies
-use Rattle.topo.specs.declared.geom.Body.TheVariants as to
+use Rattle.topo.specs.Bodies as bodies
+use Rattle.shapes.specs.declared.form.Form.TheVariants as to
 use Rattle.topo.specs.declared.geom.Geom.{Geom}
 use Rattle.renumbering.specs.GeometryOrder.Bodies.{bodies_cmp}
 use Rattle.renumbering.specs.GeometryOrder.Keys.{by_key, key_cmp, key_of, keyed, keyed_cmp, line_key, point_step, ring_key}

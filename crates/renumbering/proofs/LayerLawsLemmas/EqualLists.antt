@@ -13,8 +13,8 @@ use Rattle.theory.proofs.ListsOfLists.{Pairwise-same}
 use Rattle.theory.proofs.ProvedLaws.{one_list_of_a_ring, one_list_of_numbers}
 use Rattle.topo.specs.Features.{IsFeatureOf}
 use Rattle.topo.specs.OfMap.{body_of}
-use Rattle.topo.specs.declared.geom.Body as bodies
-use Rattle.topo.specs.declared.geom.Body.TheVariants as to
+use Rattle.topo.specs.Bodies as bodies
+use Rattle.shapes.specs.declared.form.Form.TheVariants as to
 use Rattle.topo.specs.declared.geom.Geom.{Geom}
 use Rattle.topo.proofs.Stitched.{feature_of}
 use Rattle.renumbering.specs.LayerLaws.CutLaws.{EqualFeaturesEqualLists, IsListedFor, SameLists}

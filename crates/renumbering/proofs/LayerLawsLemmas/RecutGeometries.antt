@@ -21,8 +21,8 @@ use Rattle.theory.specs.TopologyFunction.{form_map}
 use Rattle.theory.proofs.ProvedLaws as law
 use Rattle.topo.specs.OfMap.{body_of, item_of, layer_of}
 use Rattle.topo.specs.Parts.{LayerParts}
-use Rattle.topo.specs.declared.geom.Body as bodies
-use Rattle.topo.specs.declared.geom.Body.TheVariants as to
+use Rattle.topo.specs.Bodies as bodies
+use Rattle.shapes.specs.declared.form.Form.TheVariants as to
 use Rattle.topo.specs.declared.geom.Geom.{Geom}
 use Rattle.topo.proofs.Sound.{are_sound}
 use Rattle.renumbering.specs.Rewritten.{ListRule, body_rewritten}

@@ -5,8 +5,8 @@ use Rattle.std.specs.declared.cmp.Ordering.{Ordering}
 use Rattle.std.specs.declared.cmp.Ordering.TheVariants.{Equal}
 use Rattle.grid.specs.declared.pos.Pos.{Pos}
 use Rattle.lines.specs.Turned.{position_cmp, list_cmp}
-use Rattle.topo.specs.declared.geom.Body.{Body}
-use Rattle.topo.specs.declared.geom.Body.TheVariants.{Point, MultiPoint, Line, MultiLine, Polygon, MultiPolygon}
+use Rattle.topo.specs.Bodies.{Body}
+use Rattle.shapes.specs.declared.form.Form.TheVariants.{Point, MultiPoint, Line, MultiLine, Polygon, MultiPolygon}
 use Rattle.renumbering.specs.GeometryOrder.Lists.{line_refs_cmp, ring_refs_cmp}
 use Rattle.renumbering.specs.declared.geometry_order.least.LeastSteps.{LeastSteps}
 

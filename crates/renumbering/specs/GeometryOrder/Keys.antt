@@ -7,8 +7,8 @@ use Rattle.std.specs.declared.cmp.Ordering.{Ordering}
 use Rattle.grid.specs.declared.pos.Pos.{Pos}
 use Rattle.theory.specs.ArcNumbers.{ArcRef}
 use Rattle.topo.specs.GeometryOrder.{kind_cmp}
-use Rattle.topo.specs.declared.geom.Body.{Body}
-use Rattle.topo.specs.declared.geom.Body.TheVariants.{Null, Point, MultiPoint, Line, MultiLine, Polygon, MultiPolygon}
+use Rattle.topo.specs.Bodies.{Body}
+use Rattle.shapes.specs.declared.form.Form.TheVariants.{Null, Point, MultiPoint, Line, MultiLine, Polygon, MultiPolygon}
 use Rattle.topo.specs.declared.geom.Geom.{Geom}
 use Rattle.renumbering.specs.GeometryOrder.Least.{step}
 use Rattle.renumbering.specs.GeometryOrder.Lists.{lead_of, turned}

@@ -5,8 +5,8 @@ use Rattle.theory.specs.ArcNumbers.{ArcRef}
 use Rattle.theory.specs.Lists.{gathered, joined, last_of}
 use Rattle.topo.specs.Parts.{LayerParts}
 use Rattle.topo.specs.Walked.{walked}
-use Rattle.topo.specs.declared.geom.Body.{Body}
-use Rattle.topo.specs.declared.geom.Body.TheVariants.{Null, Point, MultiPoint, Line, MultiLine, Polygon, MultiPolygon}
+use Rattle.topo.specs.Bodies.{Body}
+use Rattle.shapes.specs.declared.form.Form.TheVariants.{Null, Point, MultiPoint, Line, MultiLine, Polygon, MultiPolygon}
 
 -- the used arcs of a body
 abbrev pub body_refs : Body → List ArcRef

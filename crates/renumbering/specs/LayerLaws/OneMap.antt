@@ -13,16 +13,15 @@ use Rattle.shapes.specs.Maps.{Features, Layers}
 use Rattle.shapes.specs.OrderLaws.{feature_alike, one_line, one_ring}
 use Rattle.shapes.specs.Sets as set
 use Rattle.shapes.specs.declared.feature.Feature.{Feature}
-use Rattle.shapes.specs.declared.shape.Shape as shapes
-use Rattle.shapes.specs.declared.shape.Shape.TheVariants as of
+use Rattle.shapes.specs.Shapes as shapes
+use Rattle.shapes.specs.declared.form.Form.TheVariants as of
 use Rattle.theory.specs.ArcNumbers.{ArcRef}
 use Rattle.theory.specs.LinesAndRings.{closed}
 use Rattle.theory.specs.Lists.{Pairwise}
 use Rattle.topo.specs.Features.{IsFeatureOf, IsLineOf, IsRingOf, IsShapeOf}
 use Rattle.topo.specs.OfMap.{IsOf}
 use Rattle.topo.specs.Parts.{LayerParts, TopologyParts}
-use Rattle.topo.specs.declared.geom.Body as bodies
-use Rattle.topo.specs.declared.geom.Body.TheVariants as to
+use Rattle.topo.specs.Bodies as bodies
 use Rattle.topo.specs.declared.geom.Geom.{Geom}
 use Rattle.topo.proofs.Filling.{all_members}
 use Rattle.topo.proofs.Stitched.{IsEntryOf, entries_of}
@@ -52,52 +51,52 @@ module _ (arcs : List (List Pos)) where
       ∙ (ring_reads l q rotated).1)
 
   -- a shape by the kind of its body
-  is_null : (s : shapes.Shape) → IsShapeOf arcs s to.Null → s ≡ of.Null
+  is_null : (s : shapes.Shape) → IsShapeOf arcs s of.Null → s ≡ of.Null
   is_null of.Null h = refl
   is_null s h = absurd h
 
-  is_point : (s : shapes.Shape) (p : Pos) → IsShapeOf arcs s (to.Point p) → s ≡ of.Point p
+  is_point : (s : shapes.Shape) (p : Pos) → IsShapeOf arcs s (of.Point p) → s ≡ of.Point p
   is_point (of.Point q) p h = ap of.Point h
   is_point s p h = absurd h
 
-  is_points : (s : shapes.Shape) (ps : List Pos) → IsShapeOf arcs s (to.MultiPoint ps) → s ≡ of.MultiPoint ps
+  is_points : (s : shapes.Shape) (ps : List Pos) → IsShapeOf arcs s (of.MultiPoint ps) → s ≡ of.MultiPoint ps
   is_points (of.MultiPoint qs) ps h = ap of.MultiPoint h
   is_points s ps h = absurd h
 
-  is_line : (s : shapes.Shape) (used : List ArcRef) → IsShapeOf arcs s (to.Line used) → (l : the_line.Line) × (s ≡ of.Line l) × IsLineOf arcs l used
+  is_line : (s : shapes.Shape) (used : List ArcRef) → IsShapeOf arcs s (of.Line used) → (l : the_line.Line) × (s ≡ of.Line l) × IsLineOf arcs l used
   is_line (of.Line l) used h = (l, refl, h)
   is_line s used h = absurd h
 
-  is_lines : (s : shapes.Shape) (lists : List (List ArcRef)) → IsShapeOf arcs s (to.MultiLine lists) → (ls : List the_line.Line) × (s ≡ of.MultiLine ls) × Pairwise (IsLineOf arcs) ls lists
+  is_lines : (s : shapes.Shape) (lists : List (List ArcRef)) → IsShapeOf arcs s (of.MultiLine lists) → (ls : List the_line.Line) × (s ≡ of.MultiLine ls) × Pairwise (IsLineOf arcs) ls lists
   is_lines (of.MultiLine ls) lists h = (ls, refl, h)
   is_lines s lists h = absurd h
 
-  is_polygon : (s : shapes.Shape) (lists : List (List ArcRef)) → IsShapeOf arcs s (to.Polygon lists) → (rs : List the_ring.Ring) × (s ≡ of.Polygon rs) × Pairwise (IsRingOf arcs) rs lists
+  is_polygon : (s : shapes.Shape) (lists : List (List ArcRef)) → IsShapeOf arcs s (of.Polygon lists) → (rs : List the_ring.Ring) × (s ≡ of.Polygon rs) × Pairwise (IsRingOf arcs) rs lists
   is_polygon (of.Polygon rs) lists h = (rs, refl, h)
   is_polygon s lists h = absurd h
 
-  is_polygons : (s : shapes.Shape) (lists : List (List (List ArcRef))) → IsShapeOf arcs s (to.MultiPolygon lists) →
+  is_polygons : (s : shapes.Shape) (lists : List (List (List ArcRef))) → IsShapeOf arcs s (of.MultiPolygon lists) →
       (ps : List (List the_ring.Ring)) × (s ≡ of.MultiPolygon ps) × Pairwise (Pairwise (IsRingOf arcs)) ps lists
   is_polygons (of.MultiPolygon ps) lists h = (ps, refl, h)
   is_polygons s lists h = absurd h
 
   one_shape : (s t : shapes.Shape) (b : bodies.Body) → IsShapeOf arcs s b → IsShapeOf arcs t b → s ≡ t
-  one_shape s t to.Null h i = is_null s h ∙ sym (is_null t i)
-  one_shape s t (to.Point p) h i = is_point s p h ∙ sym (is_point t p i)
-  one_shape s t (to.MultiPoint ps) h i = is_points s ps h ∙ sym (is_points t ps i)
-  one_shape s t (to.Line used) h i =
+  one_shape s t of.Null h i = is_null s h ∙ sym (is_null t i)
+  one_shape s t (of.Point p) h i = is_point s p h ∙ sym (is_point t p i)
+  one_shape s t (of.MultiPoint ps) h i = is_points s ps h ∙ sym (is_points t ps i)
+  one_shape s t (of.Line used) h i =
       let (k, e, p) = is_line s used h in
       let (l, f, q) = is_line t used i in
       e ∙ ap of.Line (one_line_of k l used p q) ∙ sym f
-  one_shape s t (to.MultiLine lists) h i =
+  one_shape s t (of.MultiLine lists) h i =
       let (k, e, p) = is_lines s lists h in
       let (l, f, q) = is_lines t lists i in
       e ∙ ap of.MultiLine (beside_one (IsLineOf arcs) one_line_of k l lists p q) ∙ sym f
-  one_shape s t (to.Polygon lists) h i =
+  one_shape s t (of.Polygon lists) h i =
       let (k, e, p) = is_polygon s lists h in
       let (l, f, q) = is_polygon t lists i in
       e ∙ ap of.Polygon (beside_one (IsRingOf arcs) one_ring_of k l lists p q) ∙ sym f
-  one_shape s t (to.MultiPolygon lists) h i =
+  one_shape s t (of.MultiPolygon lists) h i =
       let (k, e, p) = is_polygons s lists h in
       let (l, f, q) = is_polygons t lists i in
       e ∙ ap of.MultiPolygon (beside_one (Pairwise (IsRingOf arcs)) (beside_one (IsRingOf arcs) one_ring_of) k l lists p q) ∙ sym f

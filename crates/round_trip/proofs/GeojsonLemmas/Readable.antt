@@ -9,8 +9,8 @@ use Rattle.grid.specs.Fits.{Fits}
 use Rattle.lines.specs.Seen.{positions_of, vertices_of}
 use Rattle.lines.specs.declared.ring.Ring as the_ring
 use Rattle.shapes.specs.Fitting.{ShapeFits}
-use Rattle.shapes.specs.declared.shape.Shape.{Shape}
-use Rattle.shapes.specs.declared.shape.Shape.TheVariants as shape
+use Rattle.shapes.specs.Shapes.{Shape}
+use Rattle.shapes.specs.declared.form.Form.TheVariants as shape
 use Rattle.shapes.specs.declared.feature.Feature.{Feature}
 use Rattle.reading.proofs.Fits.{all_has}
 use Rattle.round_trip.specs.Compact.Good.{Good}

@@ -9,8 +9,8 @@ use Rattle.lines.specs.Seen.{positions_of, vertices_of}
 use Rattle.lines.specs.declared.line.Line as the_line
 use Rattle.lines.specs.declared.ring.Ring as the_ring
 use Rattle.shapes.specs.Fitting.{ShapeFits}
-use Rattle.shapes.specs.declared.shape.Shape.{Shape}
-use Rattle.shapes.specs.declared.shape.Shape.TheVariants as shape
+use Rattle.shapes.specs.Shapes.{Shape}
+use Rattle.shapes.specs.declared.form.Form.TheVariants as shape
 use Rattle.theory.specs.Topology.{point, points, line, lines, polygon, polygons}
 use Rattle.reading.specs.Fault.{under}
 use Rattle.reading.specs.Parts.{elements, list_faults, unless_null}

@@ -11,8 +11,8 @@ use Rattle.lines.specs.Seen.{positions_of, vertices_of}
 use Rattle.lines.specs.declared.line.Line as the_line
 use Rattle.lines.specs.declared.ring.Ring as the_ring
 use Rattle.shapes.specs.Parts.{properties_text}
-use Rattle.shapes.specs.declared.shape.Shape.{Shape}
-use Rattle.shapes.specs.declared.shape.Shape.TheVariants as shape
+use Rattle.shapes.specs.Shapes.{Shape}
+use Rattle.shapes.specs.declared.form.Form.TheVariants as shape
 use Rattle.shapes.specs.declared.feature.Feature.{Feature}
 use Rattle.sinks.specs.Texts.{list_text}
 use Rattle.theory.specs.LinesAndRings.{closed}

@@ -10,8 +10,8 @@ use Rattle.lines.specs.declared.line.Line as the_line
 use Rattle.lines.specs.declared.ring.Ring as the_ring
 use Rattle.shapes.specs.Parts.{properties_text}
 use Rattle.shapes.specs.Properties.{properties_value}
-use Rattle.shapes.specs.declared.shape.Shape.{Shape}
-use Rattle.shapes.specs.declared.shape.Shape.TheVariants as shape
+use Rattle.shapes.specs.Shapes.{Shape}
+use Rattle.shapes.specs.declared.form.Form.TheVariants as shape
 use Rattle.shapes.specs.declared.feature.Feature.{Feature}
 use Rattle.theory.specs.LinesAndRings.{closed}
 use Rattle.round_trip.specs.Compact.Values.{list_data, pair_data, given, id_data}

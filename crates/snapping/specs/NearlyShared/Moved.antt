@@ -6,8 +6,8 @@ use Rattle.grid.specs.declared.pos.Pos.{Pos}
 use Rattle.lines.specs.Seen.{positions_of, vertices_of}
 use Rattle.lines.specs.declared.line.Line.{Line}
 use Rattle.lines.specs.declared.ring.Ring.{Ring}
-use Rattle.shapes.specs.declared.shape.Shape as shapes
-use Rattle.shapes.specs.declared.shape.Shape.TheVariants as of
+use Rattle.shapes.specs.Shapes as shapes
+use Rattle.shapes.specs.declared.form.Form.TheVariants as of
 use Rattle.snapping.specs.NearlyShared.Uses.{shape_uses}
 use Rattle.theory.specs.LinesAndRings.{closed}
 use Rattle.theory.specs.Lists.{Has}

@@ -4,8 +4,8 @@ use Rattle.lines.specs.Seen.{positions_of, vertices_of}
 use Rattle.lines.specs.declared.line.Line.{Line as TheLine}
 use Rattle.lines.specs.declared.ring.Ring.{Ring}
 use Rattle.theory.specs.Lists.{gathered}
-use Rattle.shapes.specs.declared.shape.Shape.{Shape}
-use Rattle.shapes.specs.declared.shape.Shape.TheVariants.{Null, Point, MultiPoint, Line, MultiLine, Polygon, MultiPolygon}
+use Rattle.shapes.specs.Shapes.{Shape}
+use Rattle.shapes.specs.declared.form.Form.TheVariants.{Null, Point, MultiPoint, Line, MultiLine, Polygon, MultiPolygon}
 use Rattle.compare.specs.Quality.Uses.{places_uses, use_at}
 use Rattle.compare.specs.declared.quality.vertex.VertexUse.{VertexUse}
 

@@ -18,7 +18,7 @@ use Rattle.validate.specs.UsedArcs.{marks_set}
 use Rattle.validate.specs.ArcEnds.{EndsMeet, line_ends}
 use Rattle.validate.specs.Validity.{ListsStand}
 use Rattle.validate.proofs.Marking.{marks_set_long, other_mark, set_mark, uses_or}
-use Rattle.topo.specs.declared.geom.Body.{Body}
+use Rattle.topo.specs.Bodies.{Body}
 use Rattle.validate.specs.Accept.Added.{AreAdded, EachStands, IsUsed}
 use Rattle.topo.specs.BodyLists.{body_lines, body_rings}
 use Rattle.validate.specs.declared.accept.lists.ListsSeen.{ListsSeen}

@@ -8,8 +8,8 @@ use Rattle.lines.specs.declared.ring.Ring as the_ring
 use Rattle.shapes.specs.Maps.{Features, Layers}
 use Rattle.shapes.specs.Sets as set
 use Rattle.shapes.specs.declared.feature.Feature.{Feature}
-use Rattle.shapes.specs.declared.shape.Shape as shapes
-use Rattle.shapes.specs.declared.shape.Shape.TheVariants as of
+use Rattle.shapes.specs.Shapes as shapes
+use Rattle.shapes.specs.declared.form.Form.TheVariants as of
 use Rattle.chains.specs.Seen as seen_by
 use Rattle.chains.specs.Seen.{form_of, geometry_of, line_of, ring_of, seen}
 use Rattle.theory.specs.ArcNumbers.{ArcRef, StitchTo}
@@ -19,8 +19,7 @@ use Rattle.theory.specs.Topology.{IsFormOf, IsGeometryOf, IsLayerOf, IsRingList,
 use Rattle.topo.specs.Features.{IsFeatureOf, IsLineOf, IsRingOf, IsShapeOf}
 use Rattle.topo.specs.OfMap.{body_of, item_of, layer_of}
 use Rattle.topo.specs.Parts.{LayerParts}
-use Rattle.topo.specs.declared.geom.Body as bodies
-use Rattle.topo.specs.declared.geom.Body.TheVariants as to
+use Rattle.topo.specs.Bodies as bodies
 use Rattle.topo.specs.declared.geom.Geom.{Geom}
 use Rattle.topo.proofs.TakenInOrder.{entries_forms}
 use Rattle.validate.specs.Validity.{AreTurnedListsOf, StitchAround}
@@ -40,13 +39,13 @@ module _ (arcs : List (List Pos)) where
 
   -- the lines and the rings of a shape, and the lists of its body
   shape_lines : (s : shapes.Shape) (b : bodies.Body) → IsShapeOf arcs s b → Pairwise Stitches (lines_in (form_of s)) (body_lines b)
-  shape_lines of.Null to.Null h = tt
-  shape_lines (of.Point p) (to.Point q) h = tt
-  shape_lines (of.MultiPoint ps) (to.MultiPoint qs) h = tt
-  shape_lines (of.Line l) (to.Line used) h = (h, tt)
-  shape_lines (of.MultiLine ls) (to.MultiLine lists) h = pairs_with (IsLineOf arcs) Stitches line_of (λ l us k. k) ls lists h
-  shape_lines (of.Polygon rs) (to.Polygon lists) h = tt
-  shape_lines (of.MultiPolygon ps) (to.MultiPolygon lists) h = tt
+  shape_lines of.Null of.Null h = tt
+  shape_lines (of.Point p) (of.Point q) h = tt
+  shape_lines (of.MultiPoint ps) (of.MultiPoint qs) h = tt
+  shape_lines (of.Line l) (of.Line used) h = (h, tt)
+  shape_lines (of.MultiLine ls) (of.MultiLine lists) h = pairs_with (IsLineOf arcs) Stitches line_of (λ l us k. k) ls lists h
+  shape_lines (of.Polygon rs) (of.Polygon lists) h = tt
+  shape_lines (of.MultiPolygon ps) (of.MultiPolygon lists) h = tt
   shape_lines s b h = absurd h
 
   polygons_turn : (ps : List (List the_ring.Ring)) (lists : List (List (List ArcRef))) → Pairwise (Pairwise (IsRingOf arcs)) ps lists →
@@ -54,13 +53,13 @@ module _ (arcs : List (List Pos)) where
   polygons_turn = pairs_with (Pairwise (IsRingOf arcs)) (Pairwise Turns) (map_list ring_of) (pairs_with (IsRingOf arcs) Turns ring_of (λ r us k. k))
 
   shape_rings : (s : shapes.Shape) (b : bodies.Body) → IsShapeOf arcs s b → Pairwise Turns (rings_in (form_of s)) (body_rings b)
-  shape_rings of.Null to.Null h = tt
-  shape_rings (of.Point p) (to.Point q) h = tt
-  shape_rings (of.MultiPoint ps) (to.MultiPoint qs) h = tt
-  shape_rings (of.Line l) (to.Line used) h = tt
-  shape_rings (of.MultiLine ls) (to.MultiLine lists) h = tt
-  shape_rings (of.Polygon rs) (to.Polygon lists) h = pairs_with (IsRingOf arcs) Turns ring_of (λ r us k. k) rs lists h
-  shape_rings (of.MultiPolygon ps) (to.MultiPolygon lists) h = pairs_joined Turns (map_list (map_list ring_of) ps) lists (polygons_turn ps lists h)
+  shape_rings of.Null of.Null h = tt
+  shape_rings (of.Point p) (of.Point q) h = tt
+  shape_rings (of.MultiPoint ps) (of.MultiPoint qs) h = tt
+  shape_rings (of.Line l) (of.Line used) h = tt
+  shape_rings (of.MultiLine ls) (of.MultiLine lists) h = tt
+  shape_rings (of.Polygon rs) (of.Polygon lists) h = pairs_with (IsRingOf arcs) Turns ring_of (λ r us k. k) rs lists h
+  shape_rings (of.MultiPolygon ps) (of.MultiPolygon lists) h = pairs_joined Turns (map_list (map_list ring_of) ps) lists (polygons_turn ps lists h)
   shape_rings s b h = absurd h
 
   -- those of a feature, and of a layer
@@ -99,13 +98,13 @@ module _ (arcs : List (List Pos)) where
     Listed = IsRingList position_cmp J arcs
 
     body_form : (s : shapes.Shape) (b : bodies.Body) → IsShapeOf arcs s b → Pairwise Listed (rings_in (form_of s)) (body_rings b) → IsFormOf Stitches Listed (form_of s) (body_of b)
-    body_form of.Null to.Null h k = tt
-    body_form (of.Point p) (to.Point q) h k = h
-    body_form (of.MultiPoint ps) (to.MultiPoint qs) h k = h
-    body_form (of.Line l) (to.Line used) h k = h
-    body_form (of.MultiLine ls) (to.MultiLine lists) h k = shape_lines (of.MultiLine ls) (to.MultiLine lists) h
-    body_form (of.Polygon rs) (to.Polygon lists) h k = k
-    body_form (of.MultiPolygon ps) (to.MultiPolygon lists) h k = pairs_unjoined Turns Listed (map_list (map_list ring_of) ps) lists (polygons_turn ps lists h) k
+    body_form of.Null of.Null h k = tt
+    body_form (of.Point p) (of.Point q) h k = h
+    body_form (of.MultiPoint ps) (of.MultiPoint qs) h k = h
+    body_form (of.Line l) (of.Line used) h k = h
+    body_form (of.MultiLine ls) (of.MultiLine lists) h k = shape_lines (of.MultiLine ls) (of.MultiLine lists) h
+    body_form (of.Polygon rs) (of.Polygon lists) h k = k
+    body_form (of.MultiPolygon ps) (of.MultiPolygon lists) h k = pairs_unjoined Turns Listed (map_list (map_list ring_of) ps) lists (polygons_turn ps lists h) k
     body_form s b h k = absurd h
 
     abbrev Made : Feature → Geom → Type 0

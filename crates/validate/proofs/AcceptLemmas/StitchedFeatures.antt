@@ -11,8 +11,8 @@ use Rattle.lines.specs.Turned.{list_cmp}
 use Rattle.lines.specs.declared.line.Line as the_line
 use Rattle.lines.specs.declared.ring.Ring as the_ring
 use Rattle.shapes.specs.Ids.{HasI64}
-use Rattle.shapes.specs.declared.shape.Shape as shapes
-use Rattle.shapes.specs.declared.shape.Shape.TheVariants as of
+use Rattle.shapes.specs.Shapes as shapes
+use Rattle.shapes.specs.declared.form.Form.TheVariants as of
 use Rattle.theory.specs.ArcNumbers.{ArcRef, StitchTo}
 use Rattle.theory.specs.Geometry.{Geometry, IsSound}
 use Rattle.theory.specs.LinesAndRings.{IsRing, IsRotation, closed}
@@ -27,8 +27,7 @@ use Rattle.chains.specs.Arcs.{Arcs}
 use Rattle.topo.specs.Features.{HasFeature, IsLineOf, IsRingOf, IsShapeOf}
 use Rattle.topo.specs.GeometryOrder.{HaveFeatures, LayersHaveFeatures}
 use Rattle.topo.specs.Parts.{LayerParts}
-use Rattle.topo.specs.declared.geom.Body as bodies
-use Rattle.topo.specs.declared.geom.Body.TheVariants as to
+use Rattle.topo.specs.Bodies as bodies
 use Rattle.topo.specs.declared.geom.Geom.{Geom}
 use Rattle.topo.proofs.Pairs.{Pairwise-weaker}
 use Rattle.validate.specs.Validity.{AreListsOf, AreTurnedListsOf, StitchAround}
@@ -85,13 +84,13 @@ module _ (t : Arcs) (ls : List LayerParts) (st : LayersStand t ls) where
 
   shape_of : (b : bodies.Body) → ((us : List ArcRef) → Has us (body_lines b) → Has us (layers_lines ls)) →
       ((us : List ArcRef) → Has us (body_rings b) → Has us (layers_rings ls)) → (s : shapes.Shape) × IsShapeOf t.arcs s b
-  shape_of to.Null i j = (of.Null, tt)
-  shape_of (to.Point p) i j = (of.Point p, refl)
-  shape_of (to.MultiPoint ps) i j = (of.MultiPoint ps, refl)
-  shape_of (to.Line used) i j = let l = line_of used (i used (inl refl)) in (of.Line l.0, l.1)
-  shape_of (to.MultiLine lists) i j = let p = made (IsLineOf t.arcs) lists (λ us h. line_of us (i us h)) in (of.MultiLine p.0, p.1)
-  shape_of (to.Polygon lists) i j = let p = made (IsRingOf t.arcs) lists (λ us h. ring_of us (j us h)) in (of.Polygon p.0, p.1)
-  shape_of (to.MultiPolygon ps) i j =
+  shape_of of.Null i j = (of.Null, tt)
+  shape_of (of.Point p) i j = (of.Point p, refl)
+  shape_of (of.MultiPoint ps) i j = (of.MultiPoint ps, refl)
+  shape_of (of.Line used) i j = let l = line_of used (i used (inl refl)) in (of.Line l.0, l.1)
+  shape_of (of.MultiLine lists) i j = let p = made (IsLineOf t.arcs) lists (λ us h. line_of us (i us h)) in (of.MultiLine p.0, p.1)
+  shape_of (of.Polygon lists) i j = let p = made (IsRingOf t.arcs) lists (λ us h. ring_of us (j us h)) in (of.Polygon p.0, p.1)
+  shape_of (of.MultiPolygon ps) i j =
       let p = made (Pairwise (IsRingOf t.arcs)) ps (λ lists h. made (IsRingOf t.arcs) lists (λ us k. ring_of us (j us (Has-joined ps lists us h k)))) in
       (of.MultiPolygon p.0, p.1)
 

@@ -12,10 +12,11 @@ use refused_calls::outcome::Tally;
 use refused_calls::rows;
 use refused_calls::tables::both;
 use refused_calls::texts::{FIRST, Places, SHARED_EDGE};
-use shapes::Spelled;
+use shapes::form_parts::FormParts;
+use shapes::{Items, Spelled};
 use std::alloc::Global;
 use topo::arc_slice::is_same;
-use topo::{ArcSlice, Body, BodyLists, Geom, Layer, Topology, Walk, kind_order};
+use topo::{ArcSlice, Body, Geom, Layer, Topology, Walk, kind_order};
 
 /// The side that both squares have.
 const SHARED: Places = &[(1, 0), (1, 1)];
@@ -171,10 +172,10 @@ fn square(topology: &Topology) -> Option<&Body> {
 }
 
 /// Its ring alone.
-fn is_ring_of_square(lists: BodyLists<'_>) -> bool {
+fn is_ring_of_square(lists: FormParts<'_, Items<ArcRef>>) -> bool {
     let mut left = lists;
     match left.next() {
-        Some(used) => are_used(used, &[1, -1]) && left.next().is_none(),
+        Some(used) => are_used(used.as_slice(), &[1, -1]) && left.next().is_none(),
         None => false,
     }
 }
@@ -198,7 +199,7 @@ fn has_rings(topology: &Topology) -> bool {
 
 fn has_lists(topology: &Topology) -> bool {
     match square(topology) {
-        Some(body) => is_ring_of_square(body.lists()),
+        Some(body) => is_ring_of_square(body.parts()),
         None => false,
     }
 }

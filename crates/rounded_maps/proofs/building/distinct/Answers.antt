@@ -8,7 +8,7 @@ use Rattle.shapes.specs.OrderLaws.{same_shape}
 use Rattle.shapes.specs.contracts.shape.ShapeEq.TheImpl.Laws.{laws-law}
 use Rattle.shapes.specs.contracts.shape.ShapeOrd.TheImpl.Laws.{matches_eq-law as shape_ties}
 use Rattle.shapes.specs.contracts.shape.ShapePartialEq.TheImpl as shape_eq
-use Rattle.shapes.specs.declared.shape.Shape.{Shape}
+use Rattle.shapes.specs.Shapes.{Shape}
 use Rattle.rounded_maps.specs.Built.{HaveSame}
 use Rattle.rounded_maps.proofs.LayerOrder.{shape_derived_is}
 use Rattle.rounded_maps.proofs.Same.{same_deduped}

@@ -1,7 +1,7 @@
 use Rattle.std.proofs.Common.{◌++◌, List}
 use Rattle.faults.specs.declared.fault.FaultKind.{FaultKind}
 use Rattle.fixing.specs.declared.rules.Fixes.{Fixes}
-use Rattle.shapes.specs.declared.shape.Shape.{Shape}
+use Rattle.shapes.specs.Shapes.{Shape}
 use Rattle.snapping.specs.NearlyShared.Joined.{target_in}
 use Rattle.rounded_maps.specs.Joined.{AreJoinedShapes}
 use Rattle.rounded_maps.specs.Unjoined.{HasRefusedShape}

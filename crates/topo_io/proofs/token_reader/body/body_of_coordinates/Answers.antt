@@ -1,5 +1,5 @@
 use Rattle.std.proofs.Common.{sym, ap, subst}
-use Rattle.topo.specs.declared.geom.Body.TheVariants as body
+use Rattle.shapes.specs.declared.form.Form.TheVariants as body
 use Rattle.topo_io.specs.Geometries.{body_name}
 use Rattle.topo_io.specs.TokenLater.{IsCoordinates, BodyMeans}
 use Rattle.topo_io.proofs.TokenLater.{point_means, points_means}

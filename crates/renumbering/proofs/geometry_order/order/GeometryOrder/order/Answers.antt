@@ -1,4 +1,4 @@
-use Rattle.std.proofs.Common.{◌∙◌, sym, ap}
+use Rattle.std.proofs.Common.{◌∙◌, sym, ap, rules}
 use Rattle.topo.proofs.FeatureOrder.{equal_bodies_tie, kind_decides}
 use Rattle.topo.proofs.SameBodies.{body_same}
 use Rattle.renumbering.proofs.GeometryOrderLemmas.BodiesStand.{bodies_decide}
@@ -12,7 +12,7 @@ returns-then-is_ne-clause-order c =
 pub returns-then-eq-clause-order : goal.returns-then-eq-clause-order
 returns-then-eq-clause-order c =
     equal_bodies_tie c.args.arcs.now.arcs c.requires.there.0 c.args.geometry.now c.args.other.now c.kind_order-order.result c.requires.there.1 c.kind_order-order.ensures
-    (sym c.is_ne.ensures ∙ c.if-is_ne.false) (body_same c.args.geometry.now.body c.args.other.now.body (sym c.eq.ensures ∙ c.if-eq.true))
+    (sym c.is_ne.ensures ∙ c.if-is_ne.false) (body_same c.args.geometry.now.body c.args.other.now.body _ (sym c.eq.ensures ∙ c.if-eq.true) (search rules))
 
 pub returns-clause-order : goal.returns-clause-order
 returns-clause-order c =

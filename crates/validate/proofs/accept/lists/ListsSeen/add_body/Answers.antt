@@ -1,7 +1,7 @@
 use Rattle.std.proofs.Common.{[], ◌∷◌, ap, refl}
 use Rattle.std.proofs.lemmas.Result.{IfOk-weaker}
 use Rattle.theory.specs.Lists.{joined}
-use Rattle.topo.specs.declared.geom.Body.TheVariants.{Line, MultiLine, MultiPolygon, Polygon}
+use Rattle.shapes.specs.declared.form.Form.TheVariants.{Line, MultiLine, MultiPolygon, Polygon}
 use Rattle.validate.proofs.AcceptLemmas.Adding.{of_kind}
 use Rattle.validate.proofs.accept.lists.ListsSeen.add_body.Goals as goal
 

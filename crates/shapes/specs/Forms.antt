@@ -1,0 +1,56 @@
+-- The points, lines and rings of a geometry, and geometries of other lines and rings.
+use Rattle.std.specs.Prelude.{List, [], ◌∷◌, map}
+use Rattle.grid.specs.declared.pos.Pos.{Pos}
+use Rattle.theory.specs.Lists.{joined}
+use Rattle.shapes.specs.declared.form.Form.{Form}
+use Rattle.shapes.specs.declared.form.Form.TheVariants.{Null, Point, MultiPoint, Line, MultiLine, Polygon, MultiPolygon}
+
+-- the points of a geometry [RFC 7946, 3.1]
+abbrev pub points_in : {L R : Type 0} → Form L R → List Pos
+points_in Null = []
+points_in (Point p) = p ∷ []
+points_in (MultiPoint ps) = ps
+points_in (Line l) = []
+points_in (MultiLine ls) = []
+points_in (Polygon rs) = []
+points_in (MultiPolygon ps) = []
+
+-- the lines of a geometry [RFC 7946, 3.1]
+abbrev pub lines_in : {L R : Type 0} → Form L R → List L
+lines_in Null = []
+lines_in (Point p) = []
+lines_in (MultiPoint ps) = []
+lines_in (Line l) = l ∷ []
+lines_in (MultiLine ls) = ls
+lines_in (Polygon rs) = []
+lines_in (MultiPolygon ps) = []
+
+-- the rings of a geometry, polygon by polygon [RFC 7946, 3.1]
+abbrev pub rings_in : {L R : Type 0} → Form L R → List R
+rings_in Null = []
+rings_in (Point p) = []
+rings_in (MultiPoint ps) = []
+rings_in (Line l) = []
+rings_in (MultiLine ls) = []
+rings_in (Polygon rs) = rs
+rings_in (MultiPolygon ps) = joined ps
+
+-- the lines or rings of a geometry in which both are of one type
+abbrev pub parts_in : {T : Type 0} → Form T T → List T
+parts_in Null = []
+parts_in (Point p) = []
+parts_in (MultiPoint ps) = []
+parts_in (Line l) = l ∷ []
+parts_in (MultiLine ls) = ls
+parts_in (Polygon rs) = rs
+parts_in (MultiPolygon ps) = joined ps
+
+-- the geometry of the same kind and points whose lines and rings become others
+abbrev pub form_map : {L R M S : Type 0} → (L → M) → (R → S) → Form L R → Form M S
+form_map of_line of_ring Null = Null
+form_map of_line of_ring (Point p) = Point p
+form_map of_line of_ring (MultiPoint ps) = MultiPoint ps
+form_map of_line of_ring (Line l) = Line (of_line l)
+form_map of_line of_ring (MultiLine ls) = MultiLine (map of_line ls)
+form_map of_line of_ring (Polygon rs) = Polygon (map of_ring rs)
+form_map of_line of_ring (MultiPolygon ps) = MultiPolygon (map (map of_ring) ps)
