@@ -45,6 +45,7 @@ JUDGED = "has a condition, which its caller knows: "
 NO_GROWTH = {"Fault::here": NO_REQUEST, "FeatureMap::new": NO_REQUEST, "Kept::new": NO_REQUEST, "Script::new": NO_REQUEST}
 EXCEPTIONS = {
     "ArcTable::with_extent": JUDGED + "split_arcs::recut",
+    "Become::make": "is what Form::try_map calls",
     "Topology::feature": JUDGED + "query::feature",
     "Topology::features": JUDGED + "query::feature",
     "topo::feature": JUDGED + "query::feature",

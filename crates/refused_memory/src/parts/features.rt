@@ -1,4 +1,6 @@
 //! Features, copies of their parts, and sets of them.
+ghost use Rattle.lines.specs.declared.line.Line as the_line;
+ghost use Rattle.lines.specs.declared.ring.Ring as the_ring;
 
 use faults::OutOfMemory;
 use refused_calls::calls::Lent;
@@ -6,7 +8,8 @@ use refused_calls::inputs::read;
 use refused_calls::layer;
 use refused_calls::outcome::Tally;
 use refused_calls::tables::{Lends, Row};
-use shapes::{Feature, FeatureMap, feature_set};
+use shapes::form_map::Become;
+use shapes::{Feature, FeatureMap, Line, Ring, Shape, feature_set};
 use std::alloc::Global;
 
 /// A square with an id and properties.
@@ -63,6 +66,48 @@ fn copy_shape(alloc: Global, features: &Features) -> Result<bool, OutOfMemory> {
     }
 }
 
+/// Lines and rings as they are.
+#[derive(Drop)]
+struct AsTheyAre;
+
+impl Become<Line> for AsTheyAre {
+    type Made = Line;
+
+    ghost Seen = { the_line.Line };
+
+    ghost seen = { λ line. line };
+
+    ghost becomes = { λ by line. line };
+
+    fn make(&self, alloc: Global, old: &Line) -> Result<Line, OutOfMemory> {
+        old.copy(alloc)
+    }
+}
+
+impl Become<Ring> for AsTheyAre {
+    type Made = Ring;
+
+    ghost Seen = { the_ring.Ring };
+
+    ghost seen = { λ ring. ring };
+
+    ghost becomes = { λ by ring. ring };
+
+    fn make(&self, alloc: Global, old: &Ring) -> Result<Ring, OutOfMemory> {
+        old.copy(alloc)
+    }
+}
+
+fn map_shape(alloc: Global, features: &Features) -> Result<bool, OutOfMemory> {
+    match features.feature() {
+        Some(feature) => {
+            let made: Shape = feature.shape.try_map(alloc, &AsTheyAre, &AsTheyAre)?;
+            Ok(made == feature.shape)
+        }
+        None => Ok(false),
+    }
+}
+
 fn copy_feature(alloc: Global, features: &Features) -> Result<bool, OutOfMemory> {
     match features.feature() {
         Some(feature) => Ok(feature.copy(alloc)? == *feature),
@@ -104,6 +149,7 @@ enum Call {
     CopyProps,
     CopyId,
     CopyShape,
+    MapShape,
     CopyFeature,
     Names,
     Set,
@@ -112,7 +158,8 @@ enum Call {
 const ROWS: &[Row<Call>] = &[
     ("Props::copy", Call::CopyProps),
     ("Id::copy", Call::CopyId),
-    ("Shape::copy", Call::CopyShape),
+    ("Form::copy, of a shape", Call::CopyShape),
+    ("Form::try_map", Call::MapShape),
     ("Feature::copy", Call::CopyFeature),
     ("FeatureMap::names", Call::Names),
     ("shapes::feature_set", Call::Set),
@@ -132,6 +179,7 @@ impl Lends for Features {
             Call::CopyProps => copy_props(alloc, self),
             Call::CopyId => copy_id(alloc, self),
             Call::CopyShape => copy_shape(alloc, self),
+            Call::MapShape => map_shape(alloc, self),
             Call::CopyFeature => copy_feature(alloc, self),
             Call::Names => names(self),
             Call::Set => set(alloc, self),

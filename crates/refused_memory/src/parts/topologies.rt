@@ -100,7 +100,7 @@ enum Call {
 
 const ROWS: &[Row<Call>] = &[
     ("Geom::copy", Call::CopyGeometry),
-    ("Body::copy", Call::CopyBody),
+    ("Form::copy, of a body", Call::CopyBody),
     ("Layer::copy", Call::CopyLayer),
     ("Topology::share", Call::Share),
     ("query::borders", Call::Borders),

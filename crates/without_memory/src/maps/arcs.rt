@@ -190,6 +190,13 @@ fn has_no_line(topology: &Topology) -> bool {
     }
 }
 
+fn has_no_point(topology: &Topology) -> bool {
+    match square(topology) {
+        Some(body) => body.points().is_empty(),
+        None => false,
+    }
+}
+
 fn has_rings(topology: &Topology) -> bool {
     match square(topology) {
         Some(body) => is_ring_of_square(body.rings()),
@@ -263,9 +270,10 @@ fn settle_topology(rt: &HostRuntime, tally: &mut Tally, topology: &Topology) {
         "Topology::geometries" => has_geometries(topology),
         "Topology::bbox" => topology.bbox() == Some((0, 0, 2, 1)),
         "Topology::walk" => walks(topology),
-        "Body::lines" => has_no_line(topology),
-        "Body::rings" => has_rings(topology),
-        "Body::lists" => has_lists(topology),
+        "Form::lines" => has_no_line(topology),
+        "Form::rings" => has_rings(topology),
+        "Form::parts" => has_lists(topology),
+        "Form::points" => has_no_point(topology),
         "topo_io::is_text_of" => is_text(topology),
         "topo::is_same" => has_equal_places(topology),
         "merging::same_grid" => is_same_alone(topology.grid()),
