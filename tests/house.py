@@ -14,8 +14,12 @@ is counted:
 - A bare participle is a function's name of one word that ends in `ed`, or that is in IRREGULAR. What gives the field of its own
   name, as `fn reversed(&self)` that is `self.reversed`, is none.
 - Lines of code are those of src/ of product crates without blank ones, whole-line comments and contracts. A contract begins with
-  `requires`, `ensures` or `ghost` and ends where its braces are closed. Lines of proofs are all lines of proofs/, those of all
-  crates. The reader along tokens (TOKENS) is counted apart.
+  `requires`, `ensures` or `ghost` and ends where its braces are closed. Lines of proofs are all lines of proofs/ of product crates.
+- Both are counted by three areas: what the product is (core), what makes it fast (SPEED: readers along tokens, topologies that
+  are taken as they stand or normalized), and what users got beyond the core (USERS: togrid, lists of all errors, differences,
+  quality, the library for C, questions by property). A file is of one area, by its path below crates/.
+- A file that matches all kinds by hand names each of the variants of LINEWORK, of whatever enum.
+- The heaviest path is the chain of product crates, each used by the next, with the most lines of src/, specs/ and proofs/.
 - Small crates have fewer than 100 lines of code; programs, libraries for other languages and crates of laws (LAWS) don't count.
 - An edge that nothing uses: a crate that crates.txt names behind another, and that no .rt or .antt file of this one names.
 
@@ -38,7 +42,16 @@ TOP = os.path.dirname(os.path.dirname(os.path.abspath(__file__)))
 OTHERS = ["*_tests", "refused_*", "without_memory", "worked_maps", "acceptance", "examples"]
 LAWS = ["theory", "round_trip"]
 VALIDATORS = ["validate"]
-TOKENS = ["reading/src/token*", "reading/proofs/[tT]oken*", "reading/specs/[tT]oken*", "*/token_reader*"]
+SPEED = ["reading/*/[tT]oken*", "geojson_io/*/[tT]oken*", "topo_io/*/[tT]oken*", "topo_io/*/same*", "validate/*", "normalize/*",
+         "theory/*/Valid*", "renumbering/*/geometry_order*", "renumbering/*/GeometryOrder*", "renumbering/*/layer_laws*",
+         "renumbering/*/LayerLaws*"]
+USERS = ["numerals/*", "fixing/*", "attributes/*", "decimal_*", "decimals/*", "snapping/*", "rounded_maps/*", "rounding_*", "togrid/*",
+         "command_line/src/togrid*", "compare/*", "noshinka/*", "reading/*/fault_lists*", "reading/*/FaultLists*", "*/[vV]alidity/*",
+         "*/validity.rt", "*/Validity.antt", "outputs/*/[fF]ault*", "outputs/*/[dD]ifference*", "outputs/*/[iI]nfo*", "tool/src/diff*",
+         "tool/src/check*", "tool/src/faults*", "query/*_by*", "query/*By*", "query/*/[kK]eyed*", "query/*/properties*", "query/*/distinct*",
+         "query/*/info*", "query/*/sequence*", "query/*edges*", "query/*/borders*"]
+AREAS = {"core": [11800, 42000], "speed": [4800, 13900], "users": [18000, 23300]}  # lines of code and of proofs that are wanted
+LINEWORK = ["Line", "MultiLine", "Polygon", "MultiPolygon"]
 IRREGULAR = ["begun", "built", "cut", "drawn", "found", "given", "gone", "held", "kept", "known", "laid", "lent", "made", "met", "said", "seen",
              "sent", "taken", "thrown", "told", "understood", "woven", "written"]
 # Words that end so and are none.
@@ -99,8 +112,17 @@ class Crate:
         self.types = {it[1] for lines in self.sources.values() for line in lines if (it := TYPE.match(line))}
         self.is_program = os.path.isfile(f"{self.folder}/src/main.rt")
 
-    def token_lines(self):
-        return sum(len(lines) for it, lines in self.sources.items() if is_of_tokens(it))
+    def raw_lines(self):
+        """The lines of its source, definitions and proofs, blank ones and all."""
+        found = [f"{self.folder}/{it}" for it in ("src/**/*.rt", "specs/**/*.antt", "proofs/**/*.antt")]
+        return sum(len(read_lines(path)) - 1 for it in found for path in glob.glob(it, recursive=True))
+
+    def by_hand(self):
+        """Its files that match all kinds of geometries by hand."""
+        for path, lines in self.sources.items():
+            named = {*re.findall(r"::(\w+)", "\n".join(lines))}
+            if named.issuperset(LINEWORK):
+                yield os.path.relpath(path, f"{TOP}/crates")
 
     def texts(self):
         for ending in ("rt", "antt"):
@@ -110,21 +132,33 @@ class Crate:
                         yield file.read()
 
 
-def is_of_tokens(path):
-    below = os.path.relpath(path, f"{TOP}/crates").split("/", 1)
-    return matches("/".join(below), TOKENS) or matches(f"{below[0]}/{os.path.basename(path)}", TOKENS) or "/token_reader" in path
+def area_of(path):
+    """The area of a file, by its path below crates/."""
+    below = os.path.relpath(path, f"{TOP}/crates")
+    return "speed" if matches(below, SPEED) else "users" if matches(below, USERS) else "core"
 
 
-def longest_chain(below):
-    """The longest list of crates of which each uses the one before."""
+def lines_by_area(product):
+    """Lines of code and of proofs of product crates, by area."""
+    found = {it: [0, 0] for it in AREAS}
+    for name, crate in product.items():
+        for path, lines in crate.sources.items():
+            found[area_of(path)][0] += len(lines)
+        for path in glob.glob(f"{crate.folder}/proofs/**/*.antt", recursive=True):
+            found[area_of(path)][1] += len(read_lines(path)) - 1
+    return found
+
+
+def longest_chain(below, weigh=len):
+    """The list of crates, each using the one before, that weighs most: by their number where nothing else is said."""
     found = {}
 
     def chain(name):
         if name not in found:
-            found[name] = max((chain(it) for it in below[name] if it in below), key=len, default=[]) + [name]
+            found[name] = max((chain(it) for it in below[name] if it in below), key=weigh, default=[]) + [name]
         return found[name]
 
-    return max(map(chain, below), key=len, default=[])
+    return max(map(chain, below), key=weigh, default=[])
 
 
 def crates_above(name, below):
@@ -148,18 +182,6 @@ def unused_edges(below, crates):
                 yield f"{name}: {it}"
 
 
-def proof_lines():
-    """Lines of proofs of all crates: of the reader along tokens, and of all else."""
-    tokens = rest = 0
-    for it in glob.glob(f"{TOP}/crates/*/proofs/**/*.antt", recursive=True):
-        count = len(read_lines(it)) - 1
-        if is_of_tokens(it):
-            tokens += count
-        else:
-            rest += count
-    return tokens, rest
-
-
 def figures():
     """Each figure: its name, its number, the limit that is wanted of it (None: no limit), and what stands behind it."""
     below = edges()
@@ -170,6 +192,10 @@ def figures():
     validator = next((it for it in VALIDATORS if it in below), None)
     above = crates_above(validator, below) if validator else []
     chain = longest_chain(inner)
+    raw = {name: it.raw_lines() for name, it in product.items()}
+    heaviest = longest_chain(inner, lambda names: sum(raw[it] for it in names))
+    by_hand = [path for it in product.values() for path in it.by_hand()]
+    areas = lines_by_area(product)
     owners = collections.defaultdict(list)
     for name, it in product.items():
         for found in it.types:
@@ -178,9 +204,6 @@ def figures():
     participles = [f"{name}: {it}" for name, crate in product.items() for it in crate.functions if is_bare_participle(it) and it not in crate.getters]
     edited = {name: len(paths) for name, paths in edits.crates_with(edits.GATE)}
     apart = sum(len(paths) for _, paths in edits.crates_with(edits.APART))
-    code = sum(it.lines for it in product.values())
-    token_code = sum(it.token_lines() for it in product.values())
-    token_proofs, proofs = proof_lines()
     small = [f"{name} {it.lines}" for name, it in product.items() if it.lines < SMALL and not it.is_program and name not in {*LAWS, *foreign()}]
     unused = [*unused_edges(below, crates)]
     most = max(functions, key=functions.get)
@@ -189,20 +212,21 @@ def figures():
         ("product crates", len(product), 30, sorted(product)),
         ("crates of tests and examples", len(crates) - len(product), 11, sorted({*crates} - {*product})),
         ("programs", sum(it.is_program for it in crates.values()), 5, [name for name, it in crates.items() if it.is_program]),
-        ("functions of the largest crate", functions[most], 100, [f"{name} {it}" for name, it in sorted(functions.items(), key=lambda it: -it[1])]),
-        ("product crates of more than 100 functions", sum(it > 100 for it in functions.values()), 0, []),
+        ("functions of the largest crate", functions[most], 120, [f"{name} {it}" for name, it in sorted(functions.items(), key=lambda it: -it[1])]),
+        ("product crates of more than 120 functions", sum(it > 120 for it in functions.values()), 0, []),
         ("functions of product crates", sum(functions.values()), None, []),
-        ("crates in the longest chain", len(chain), 11, chain),
+        ("crates in the longest chain", len(chain), 12, chain),
+        ("lines of the heaviest path of crates", sum(raw[it] for it in heaviest), 60000, [f"{it} {raw[it]}" for it in heaviest]),
+        ("files that match all kinds by hand", len(by_hand), 14, by_hand),
         ("crates above the one that validates arcs", len(above), 13, [f"{validator}: {', '.join(above)}"]),
         ("type names in more than one product crate", len(doubles), 0, doubles),
         ("functions named by a bare participle", len(participles), 0, participles),
         ("must-fail edits in the gate", sum(edited.values()), None, [f"{name} {it}, {functions[name]} functions" for name, it in edited.items()]),
         ("must-fail edits of the crate with most", edited[busiest], edits.MOST, [busiest]),
         ("must-fail edits in all", sum(edited.values()) + apart, edits.MOST_IN_ALL, []),
-        ("lines of code without the token reader", code - token_code, 11500, [f"{name} {it.lines}" for name, it in product.items()]),
-        ("lines of code of the token reader", token_code, None, []),
-        ("lines of proofs without the token reader", proofs, 45300, []),
-        ("lines of proofs of the token reader", token_proofs, None, []),
+        *[(f"lines of code of the area {it}", areas[it][0], AREAS[it][0], []) for it in AREAS],
+        *[(f"lines of proofs of the area {it}", areas[it][1], AREAS[it][1], []) for it in AREAS],
+        ("lines of code", sum(it.lines for it in product.values()), None, [f"{name} {it.lines}" for name, it in product.items()]),
         ("crates of fewer than 100 lines of code", len(small), 0, small),
         ("edges of crates.txt that nothing uses", len(unused), 0, unused),
     ]
