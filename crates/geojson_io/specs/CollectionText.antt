@@ -7,7 +7,8 @@ use Rattle.lines.specs.Seen.{positions_of, vertices_of}
 use Rattle.shapes.specs.Parts.{properties_text}
 use Rattle.shapes.specs.declared.shape.Id.{Id}
 use Rattle.shapes.specs.Shapes.{Shape}
-use Rattle.shapes.specs.declared.form.Form.TheVariants as shape
+use Rattle.shapes.specs.declared.form.Form.{Form}
+use Rattle.shapes.specs.declared.form.Form.TheVariants as of
 use Rattle.shapes.specs.declared.feature.Feature.{Feature}
 use Rattle.sinks.specs.Texts.{joined, bracketed, list_text, pair_text, framed}
 use Rattle.theory.specs.LinesAndRings.{closed}
@@ -33,16 +34,19 @@ ring_text t vs = bracketed (closed_text t vs)
 abbrev pub geometry_text : List ℕ → List ℕ → List ℕ
 geometry_text coordinates name = codes "{\"coordinates\":" ++ (coordinates ++ (codes ",\"type\":\"" ++ (name ++ codes "\"}")))
 
--- a geometry, or null [RFC 7946, 3.1]
+-- a geometry, or null, where positions, lines and rings have these texts [RFC 7946, 3.1]
+abbrev pub form_text : {L R : Type 0} → (Pos → List ℕ) → (L → List ℕ) → (R → List ℕ) → Form L R → List ℕ
+form_text place line ring of.Null = codes "null"
+form_text place line ring (of.Point p) = geometry_text (place p) (codes "Point")
+form_text place line ring (of.MultiPoint ps) = geometry_text (list_text place ps) (codes "MultiPoint")
+form_text place line ring (of.Line l) = geometry_text (line l) (codes "LineString")
+form_text place line ring (of.MultiLine ls) = geometry_text (list_text line ls) (codes "MultiLineString")
+form_text place line ring (of.Polygon rs) = geometry_text (list_text ring rs) (codes "Polygon")
+form_text place line ring (of.MultiPolygon ps) = geometry_text (list_text (list_text ring) ps) (codes "MultiPolygon")
+
+-- the geometry of a shape, or null [RFC 7946, 3.1]
 abbrev pub shape_text : Transform → Shape → List ℕ
-shape_text t shape.Null = codes "null"
-shape_text t (shape.Point p) = geometry_text (place_text t p) (codes "Point")
-shape_text t (shape.MultiPoint ps) = geometry_text (list_text (place_text t) ps) (codes "MultiPoint")
-shape_text t (shape.Line l) = geometry_text (line_text t (positions_of l)) (codes "LineString")
-shape_text t (shape.MultiLine ls) = geometry_text (list_text (λ l. line_text t (positions_of l)) ls) (codes "MultiLineString")
-shape_text t (shape.Polygon rs) = geometry_text (list_text (λ r. ring_text t (vertices_of r)) rs) (codes "Polygon")
-shape_text t (shape.MultiPolygon ps) =
-    geometry_text (list_text (list_text (λ r. ring_text t (vertices_of r))) ps) (codes "MultiPolygon")
+shape_text t = form_text (place_text t) (λ l. line_text t (positions_of l)) (λ r. ring_text t (vertices_of r))
 
 -- a feature around the text of its geometry
 abbrev pub feature_frame : Id → List ℕ → List ℕ → List ℕ

@@ -1,5 +1,5 @@
 //! Writing a GeoJSON FeatureCollection (RFC 7946, section 3.3), piece by piece and with no memory.
-ghost use Rattle.geojson_io.specs.CollectionText.{place_text, line_text, ring_text, closed_text, geometry_text, shape_text, feature_frame, feature_text, collection_text};
+ghost use Rattle.geojson_io.specs.CollectionText.{place_text, line_text, ring_text, closed_text, geometry_text, form_text, shape_text, feature_frame, feature_text, collection_text};
 ghost use Rattle.lines.specs.Seen.{positions_of, vertices_of};
 ghost use Rattle.shapes.specs.Parts.{properties_text};
 ghost use Rattle.shapes.specs.declared.feature.Feature.{Feature};
@@ -14,6 +14,7 @@ use grid::{Grid, Pos};
 use lines::line::Line;
 use lines::ring::Ring;
 use shapes::feature::Feature;
+use shapes::form::Form;
 use shapes::props::Props;
 use shapes::shape::{Id, Shape};
 use shapes::writing::{IdMember, Lists};
@@ -139,6 +140,46 @@ impl<'a, C: Written> Written for Geometry<'a, C> {
     }
 }
 
+/// Geometries, or `null`. Positions, lines and rings are each in a notation.
+#[derive(Clone, Copy)]
+pub struct FormNotation<P, L, R> {
+    pub places: P,
+    pub lines: L,
+    pub rings: R,
+}
+
+impl<K, Q, P: Notation<Pos>, L: Notation<K>, R: Notation<Q> + Copy> Notation<Form<K, Q>>
+    for FormNotation<P, L, R> {
+    ghost text = { λ g form. form_text (P.text g.places) (L.text g.lines) (R.text g.rings) form };
+
+    fn write_value<W: Sink>(&self, value: &Form<K, Q>, sink: &mut W) -> Result<(), WriteFault> {
+        match value {
+            Form::Null => Text(b"null").write(sink),
+            Form::Point(place) => Geometry(Noted(place, &self.places), b"Point").write(sink),
+            Form::MultiPoint(places) => Geometry(
+                Listed(places.as_slice(), &self.places),
+                b"MultiPoint",
+            ).write(sink),
+            Form::Line(line) => Geometry(Noted(line, &self.lines), b"LineString").write(sink),
+            Form::MultiLine(lines) => Geometry(
+                Listed(lines.as_slice(), &self.lines),
+                b"MultiLineString",
+            ).write(sink),
+            Form::Polygon(rings) => Geometry(
+                Listed(rings.as_slice(), &self.rings),
+                b"Polygon",
+            ).write(sink),
+            Form::MultiPolygon(polygons) => {
+                Geometry(
+                    Listed(polygons.as_slice(), &Lists(self.rings)),
+                    b"MultiPolygon",
+                )
+                .write(sink)
+            }
+        }
+    }
+}
+
 /// Shapes as geometries, or `null`.
 #[derive(Clone, Copy)]
 pub struct ShapesOn<'a>(pub &'a Grid);
@@ -147,31 +188,12 @@ impl<'a> Notation<Shape> for ShapesOn<'a> {
     ghost text = { λ shapes shape. shape_text shapes.0.now shape };
 
     fn write_value<W: Sink>(&self, value: &Shape, sink: &mut W) -> Result<(), WriteFault> {
-        let grid = self.0;
-        match value {
-            Shape::Null => Text(b"null").write(sink),
-            Shape::Point(place) => Geometry(Noted(place, &Places(grid)), b"Point").write(sink),
-            Shape::MultiPoint(places) => Geometry(
-                Listed(places.as_slice(), &Places(grid)),
-                b"MultiPoint",
-            ).write(sink),
-            Shape::Line(line) => Geometry(Noted(line, &LinesOn(grid)), b"LineString").write(sink),
-            Shape::MultiLine(lines) => Geometry(
-                Listed(lines.as_slice(), &LinesOn(grid)),
-                b"MultiLineString",
-            ).write(sink),
-            Shape::Polygon(rings) => Geometry(
-                Listed(rings.as_slice(), &RingsOn(grid)),
-                b"Polygon",
-            ).write(sink),
-            Shape::MultiPolygon(polygons) => {
-                Geometry(
-                    Listed(polygons.as_slice(), &Lists(RingsOn(grid))),
-                    b"MultiPolygon",
-                )
-                .write(sink)
-            }
+        FormNotation {
+            places: Places(self.0),
+            lines: LinesOn(self.0),
+            rings: RingsOn(self.0),
         }
+        .write_value(value, sink)
     }
 }
 

@@ -2,16 +2,15 @@
 use Rattle.std.specs.Prelude.{ℕ, List, [], ◌++◌, codes, Option, Some, None}
 use Rattle.grid.specs.Place.{Transform}
 use Rattle.grid.specs.declared.pos.Pos.{Pos}
-use Rattle.geojson_io.specs.CollectionText.{place_text, geometry_text, feature_frame}
+use Rattle.geojson_io.specs.CollectionText.{place_text, form_text, feature_frame}
 use Rattle.query.specs.Steps.{least_step, behind_step, up_to_step}
 use Rattle.query.specs.declared.layer_text.steps.GridStep.{GridStep}
 use Rattle.shapes.specs.Parts.{properties_text}
-use Rattle.sinks.specs.Texts.{after_commas, joined, bracketed, list_text}
+use Rattle.sinks.specs.Texts.{after_commas, joined, bracketed}
 use Rattle.theory.specs.ArcNumbers.{ArcRef}
 use Rattle.topo.specs.Parts.{TopologyParts}
 use Rattle.topo.specs.Walked.{walked}
 use Rattle.topo.specs.Bodies.{Body}
-use Rattle.shapes.specs.declared.form.Form.TheVariants as of
 use Rattle.topo.specs.declared.geom.Geom.{Geom}
 
 -- the positions along used arcs [TopoJSON, 2.1.4; RFC 7946, 3.1]
@@ -42,13 +41,7 @@ ring_along t used = bracketed (places_round t used)
 
 -- a geometry, or null [RFC 7946, 3.1 and 3.2]
 abbrev pub body_text : TopologyParts → Body → List ℕ
-body_text t of.Null = codes "null"
-body_text t (of.Point p) = geometry_text (place_text t.grid p) (codes "Point")
-body_text t (of.MultiPoint ps) = geometry_text (list_text (place_text t.grid) ps) (codes "MultiPoint")
-body_text t (of.Line used) = geometry_text (line_along t used) (codes "LineString")
-body_text t (of.MultiLine ls) = geometry_text (list_text (line_along t) ls) (codes "MultiLineString")
-body_text t (of.Polygon rs) = geometry_text (list_text (ring_along t) rs) (codes "Polygon")
-body_text t (of.MultiPolygon ps) = geometry_text (list_text (list_text (ring_along t)) ps) (codes "MultiPolygon")
+body_text t = form_text (place_text t.grid) (line_along t) (ring_along t)
 
 -- the feature of a geometry [RFC 7946, 3.1 and 3.2]
 abbrev pub geom_text : TopologyParts → Geom → List ℕ

@@ -11,10 +11,9 @@ ghost use Rattle.topo.specs.ItsMap.{ForItsMap};
 use crate::layer_text::fault::LayerFault;
 use crate::layer_text::places::{Along, Round};
 use chains::ArcRef;
-use geojson_io::writer::{FeatureOf, Geometry, Places};
+use geojson_io::writer::{FeatureOf, FormNotation, Places};
 use lines::items::Items;
-use shapes::writing::Lists;
-use sinks::written::{Bracketed, Each, Listed, Notation, Noted, Text, Then, Written};
+use sinks::written::{Bracketed, Each, Notation, Noted, Text, Then, Written};
 use sinks::{Sink, WriteFault};
 use topo::{Body, Geom, Topology};
 
@@ -53,33 +52,12 @@ impl<'a> Notation<Body> for BodiesOf<'a> {
     fn write_value<W: Sink>(&self, value: &Body, sink: &mut W) -> Result<(), WriteFault> {
         let topology = self.0;
         let grid = topology.grid();
-        match value {
-            Body::Null => Text(b"null").write(sink),
-            Body::Point(place) => Geometry(Noted(place, &Places(&grid)), b"Point").write(sink),
-            Body::MultiPoint(places) => Geometry(
-                Listed(places.as_slice(), &Places(&grid)),
-                b"MultiPoint",
-            ).write(sink),
-            Body::Line(used) => Geometry(Noted(used, &LinesOf(topology)), b"LineString").write(
-                sink,
-            ),
-            Body::MultiLine(lines) => Geometry(
-                Listed(lines.as_slice(), &LinesOf(topology)),
-                b"MultiLineString",
-            )
-            .write(sink),
-            Body::Polygon(rings) => Geometry(
-                Listed(rings.as_slice(), &RingsOf(topology)),
-                b"Polygon",
-            ).write(sink),
-            Body::MultiPolygon(polygons) => {
-                Geometry(
-                    Listed(polygons.as_slice(), &Lists(RingsOf(topology))),
-                    b"MultiPolygon",
-                )
-                .write(sink)
-            }
+        FormNotation {
+            places: Places(&grid),
+            lines: LinesOf(topology),
+            rings: RingsOf(topology),
         }
+        .write_value(value, sink)
     }
 }
 
