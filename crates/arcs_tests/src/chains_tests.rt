@@ -1,6 +1,5 @@
 //! What tests of `chains` share: lines and rings of maps, their pieces, and stops.
 mod junctions;
-mod maximal;
 mod stops;
 mod tables;
 

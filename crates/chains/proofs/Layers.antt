@@ -1,16 +1,21 @@
 -- What is gathered layer by layer, and what is gathered from the forms of a map.
 use Rattle.std.proofs.Common.{◌≡◌, ℕ, List, [], ◌∷◌, ◌++◌, refl, sym, ap, ◌∙◌, append_assoc, None, length, arith}
+use Rattle.std.proofs.lemmas.List.{map-append}
 use Rattle.std.specs.Prelude.{map as map_list, unwrap_or}
 use Rattle.std.specs.FinMap as map
-use Rattle.theory.specs.Lists.{gathered}
-use Rattle.theory.specs.Topology.{Shape, forms_of}
+use Rattle.theory.specs.Lists.{gathered, joined}
+use Rattle.theory.specs.Topology.{Shape, forms_of, lines_in, rings_in}
 use Rattle.grid.specs.declared.pos.Pos.{Pos}
+use Rattle.lines.specs.declared.ring.Ring.{Ring}
+use Rattle.shapes.specs.Forms as forms
 use Rattle.shapes.specs.Maps.{Layers, features_at, layer_entry, set_of}
 use Rattle.shapes.specs.Order.{feature_cmp}
 use Rattle.shapes.specs.Sets as set
+use Rattle.shapes.specs.Shapes as shapes
+use Rattle.shapes.specs.declared.form.Form.TheVariants as of
 use Rattle.shapes.specs.declared.feature.Feature.{Feature}
 use Rattle.shapes.specs.declared.layer.FeatureLayer.{FeatureLayer}
-use Rattle.chains.specs.Seen.{form_of, item_of, layer_of, seen}
+use Rattle.chains.specs.Seen.{form_of, item_of, layer_of, line_of, ring_of, seen}
 
 pub gathered-append : {A B : Type 0} (f : A → List B) (s t : List A) → gathered f (s ++ t) ≡ gathered f s ++ gathered f t
 gathered-append f [] t = refl
@@ -47,3 +52,27 @@ module _ {X : Type 0} (f : Shape Pos → List X) where
       gathered (λ l. gathered (λ (x : Feature). f (form_of x.shape)) (set.items (set_of l.features))) ls ≡ gathered f (forms_of (seen m))
   unfolding of_features
   of_layers m ls e = of_entries ls ∙ ap (λ es. gathered f (forms_of (map_list layer_of es))) e
+
+-- the lines of a shape, as they are seen
+pub lines_seen : (s : shapes.Shape) → lines_in (form_of s) ≡ map_list line_of (forms.lines_in s)
+lines_seen of.Null = refl
+lines_seen (of.Point p) = refl
+lines_seen (of.MultiPoint ps) = refl
+lines_seen (of.Line l) = refl
+lines_seen (of.MultiLine ls) = refl
+lines_seen (of.Polygon rs) = refl
+lines_seen (of.MultiPolygon ps) = refl
+
+joined_seen : (ps : List (List Ring)) → joined (map_list (map_list ring_of) ps) ≡ map_list ring_of (joined ps)
+joined_seen [] = refl
+joined_seen (rs ∷ ps) = ap (λ w. map_list ring_of rs ++ w) (joined_seen ps) ∙ sym (map-append ring_of rs (joined ps))
+
+-- the rings of a shape, as they are seen
+pub rings_seen : (s : shapes.Shape) → rings_in (form_of s) ≡ map_list ring_of (forms.rings_in s)
+rings_seen of.Null = refl
+rings_seen (of.Point p) = refl
+rings_seen (of.MultiPoint ps) = refl
+rings_seen (of.Line l) = refl
+rings_seen (of.MultiLine ls) = refl
+rings_seen (of.Polygon rs) = refl
+rings_seen (of.MultiPolygon ps) = joined_seen ps

@@ -26,7 +26,6 @@ pub mod TableOfMap
 pub mod WalkSteps
 pub mod Noting
 pub mod NotedPlaces
-pub mod MeetingTwo
 pub mod Found
 pub mod AllChains
 pub mod Slices

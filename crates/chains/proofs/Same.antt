@@ -1,5 +1,5 @@
 -- Lists in which the same stand.
-use Rattle.std.proofs.Common.{◌≡◌, ℕ, ◌<◌, List, [], ◌∷◌, ◌++◌, inl, inr, sym, subst, length, get_or}
+use Rattle.std.proofs.Common.{◌≡◌, ℕ, ◌<◌, List, [], ◌∷◌, ◌++◌, append_assoc, inl, inr, sym, subst, length, get_or}
 use Rattle.theory.specs.Lists.{Has}
 use Rattle.theory.proofs.Lists.{Has-append, Has-append_left, Has-append_right}
 use Rattle.chains.specs.Visits.{HaveSame}
@@ -48,3 +48,7 @@ same_at w v a k h e t = same_again w a (subst (λ u. Has u a) t (has_from_contai
 -- what is left behind both
 pub same_step : {A : Type 0} {now seen left all : List A} (rest : List A) → HaveSame now seen → HaveSame left all → left ≡ seen ++ rest → HaveSame (now ++ rest) all
 same_step rest s t e = same_trans (same_before rest s) (same_trans (same_equal (sym e)) t)
+
+-- one list behind, and then another
+pub same_twice : {A : Type 0} {first second : List A} (old xs ys : List A) → HaveSame first (old ++ xs) → HaveSame second (first ++ ys) → HaveSame second (old ++ (xs ++ ys))
+same_twice old xs ys s t = same_trans t (same_trans (same_before ys s) (same_equal (append_assoc old xs ys)))

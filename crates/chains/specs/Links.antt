@@ -1,5 +1,5 @@
 -- The two neighbours of each vertex, noted from the segments one by one.
-use Rattle.std.specs.Prelude.{Bool, true, false, not, cond, ◌&&◌, ◌||◌, List, [], ◌∷◌, Option, Some, None}
+use Rattle.std.specs.Prelude.{cond, List, [], ◌∷◌, Option, Some, None}
 use Rattle.std.specs.Ordering.{is_eq}
 use Rattle.grid.specs.declared.pos.Pos.{Pos}
 use Rattle.lines.specs.Turned.{position_cmp}
@@ -20,12 +20,3 @@ noted stops q o at to = cond (among stops at) o (cond (is_eq (position_cmp at q)
 abbrev pub noted_all : List Pos → Pos → Option (Pos × Pos) → List Segment → Option (Pos × Pos)
 noted_all stops q o [] = o
 noted_all stops q o (s ∷ ss) = noted_all stops q (noted stops q (noted stops q o s.ends.lesser s.ends.greater) s.ends.greater s.ends.lesser) ss
-
--- whether the neighbours are two and `to` is one of them
-abbrev pub one_of : Option (Pos × Pos) → Pos → Bool
-one_of None to = false
-one_of (Some p) to = not (position_eq p.0 p.1) && (position_eq to p.0 || position_eq to p.1)
-
--- whether `at` is a stop, or its neighbours are two and `to` is one of them
-abbrev pub one_of_two : List Pos → Option (Pos × Pos) → Pos → Pos → Bool
-one_of_two stops o at to = cond (among stops at) true (one_of o to)

@@ -1,13 +1,13 @@
 //! Finding the maximal chains over segments, by walking along them from stop to stop.
 ghost use Rattle.chains.specs.Among.{among};
 ghost use Rattle.chains.specs.Joined.{AmongSegments, MeetsTwo, IsJoining, Took, AreCovering, AreParted, AreMaximal};
-ghost use Rattle.chains.specs.Links.{joined, noted, noted_all, one_of_two};
+ghost use Rattle.chains.specs.Links.{joined, noted, noted_all};
 ghost use Rattle.chains.specs.Pieces.{oriented};
 ghost use Rattle.chains.specs.Walk.{IsWalk, links_in};
 ghost use Rattle.chains.specs.declared.segment.Segment.{Segment};
 ghost use Rattle.grid.specs.declared.pos.Pos.{Pos};
 ghost use Rattle.std.specs.BTreeMap.{btree_map_len};
-ghost use Rattle.std.specs.Prelude.{◌≡◌, ◌≤◌, ◌↔◌, IfOk, IsTrue, OnOk, None, List, map, ◌∷◌};
+ghost use Rattle.std.specs.Prelude.{◌≡◌, ◌≤◌, IfOk, OnOk, None, List, map, ◌∷◌};
 
 use crate::cutting::{Piece, begins_free};
 use crate::listing::list_of_set;
@@ -153,53 +153,6 @@ fn pieces_of(
         pieces.push(Piece::new(alloc, chain, free)?)?;
     }
     Ok(pieces)
-}
-
-/// Whether a position is noted as one of the two neighbours of a vertex, or the vertex is a stop.
-fn is_one_of_two(links: &BTreeMap<Pos, (Pos, Pos)>, stops: &StopSet, at: Pos, to: Pos) -> bool
-    ensures { result ≡ one_of_two stops.now (links_in links.now at) at to }
-{
-    if is_stop(stops, at) {
-        return true;
-    }
-    match links.get(&at) {
-        Some((first, second)) => first != second && (to == *first || to == *second),
-        None => false,
-    }
-}
-
-/// Whether each segment goes to one of the two neighbours that are noted, from each of its ends.
-fn all_meet_two(segments: &[Segment], stops: &StopSet, links: &BTreeMap<Pos, (Pos, Pos)>) -> bool
-    ensures { ((q : Pos) → links_in links.now q ≡ noted_all stops.now q None segments.now) → IsTrue result ↔ MeetsTwo segments.now stops.now }
-{
-    for segment in segments {
-        let (lesser, greater) = segment.ends();
-        if !is_one_of_two(links, stops, lesser, greater) {
-            return false;
-        }
-        if !is_one_of_two(links, stops, greater, lesser) {
-            return false;
-        }
-    }
-    true
-}
-
-/// Whether chains can be found over segments with these stops: each vertex that is no stop lies on
-/// exactly two of the segments.
-///
-/// # Errors
-/// Where memory is refused.
-pub fn meets_two(
-    alloc: Global,
-    segments: &BTreeSet<Segment>,
-    stops: &BTreeSet<Pos>,
-) -> Result<bool, OutOfMemory>
-    ensures { IfOk result (λ b. IsTrue b ↔ MeetsTwo segments.now.keys stops.now.keys) }
-{
-    let list = list_of_set(alloc, segments)?;
-    let stops = StopSet::of(alloc, stops)?;
-    let links = links_of(alloc, &list, &stops)?;
-    Ok(all_meet_two(&list, &stops, &links))
 }
 
 /// The maximal chains over segments, of which some are in `whole` as chains already: these, and

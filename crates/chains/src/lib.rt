@@ -30,7 +30,7 @@ pub mod visits;
 pub use arc_cutting::cut_arc;
 pub use arcs_box::Extent;
 pub use cutting::{Piece, add_pieces, cut_line, cut_ring};
-pub use joining::{maximal, maximal_with, meets_two};
+pub use joining::{maximal, maximal_with};
 pub use segment::Segment;
 pub use sides::segments_of;
 pub use table::{ArcRef, ArcTable};

@@ -5,10 +5,7 @@ ghost use Rattle.std.specs.Prelude.{◌++◌, ◌∷◌, [], IfOk, OnOk};
 use crate::marking::is_marked;
 use crate::table::ArcTable;
 use grid::pos::Pos;
-use lines::items::Items;
-use lines::line::Line;
 use lines::position_filter::place_among;
-use lines::ring::Ring;
 use shapes::feature::Feature;
 use shapes::feature_map::FeatureMap;
 use shapes::shape::Shape;
@@ -21,35 +18,13 @@ const PLACES_EACH: usize = 2;
 /// The most places in a table, which then takes 64 MiB.
 const MOST_PLACES: usize = 16777216;
 
-fn count_in_lines(lines: &[Line]) -> usize {
-    lines.iter().fold(
-        0usize,
-        |count, line| count.saturating_add(line.positions().len()),
-    )
-}
-
-fn count_in_rings(rings: &[Ring]) -> usize {
-    rings.iter().fold(
-        0usize,
-        |count, ring| count.saturating_add(ring.vertices().len()),
-    )
-}
-
-fn count_in_polygons(polygons: &[Items<Ring>]) -> usize {
-    polygons.iter().fold(
-        0usize,
-        |count, rings| count.saturating_add(count_in_rings(rings.as_slice())),
-    )
-}
-
 fn count_in_shape(shape: &Shape) -> usize {
-    match shape {
-        Shape::Null | Shape::Point(_) | Shape::MultiPoint(_) => 0,
-        Shape::Line(line) => line.positions().len(),
-        Shape::MultiLine(lines) => count_in_lines(lines.as_slice()),
-        Shape::Polygon(rings) => count_in_rings(rings.as_slice()),
-        Shape::MultiPolygon(polygons) => count_in_polygons(polygons.as_slice()),
-    }
+    let in_lines = shape.lines().fold(0usize, |count, line| {
+        count.saturating_add(line.positions().len())
+    });
+    shape.rings().fold(in_lines, |count, ring| {
+        count.saturating_add(ring.vertices().len())
+    })
 }
 
 fn count_in_features(features: &BTreeSet<Feature>) -> usize {

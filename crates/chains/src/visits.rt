@@ -4,7 +4,7 @@ ghost use Rattle.chains.specs.Extents.{within};
 ghost use Rattle.chains.specs.Holding.{HoldAll};
 ghost use Rattle.chains.specs.Index.{IsIndexOf, EndsALine, AreVisitsOf, feature_ends, feature_visits, form_ends, form_visits};
 ghost use Rattle.chains.specs.OfArcs.{arc_ends, ends_if, tables_as_map};
-ghost use Rattle.chains.specs.Seen.{line_of, ring_of, form_of, geometry_of, seen};
+ghost use Rattle.chains.specs.Seen.{form_of, geometry_of, seen};
 ghost use Rattle.chains.specs.VertexFilter.{KeepsClashes, StaysApart, StayWhole, arc_meets, arc_shared, may_hold, meets, meets_if, met_visits, shared_if};
 ghost use Rattle.chains.specs.Table.{IsTableOf};
 ghost use Rattle.chains.specs.Visits.{visit_of, inner_of, ends_of, around_of, clash, clashes_of, HaveSame};
@@ -17,10 +17,10 @@ ghost use Rattle.shapes.specs.Sets as set;
 ghost use Rattle.std.specs.List.{list_any};
 ghost use Rattle.std.specs.Prelude.{◌≡◌, cond, [], ◌∷◌, ◌++◌, ◌↔◌, ◌⊎◌, map as map_list, slice_get, IfOk, IfSome, List, OnOk, IsTrue, Some};
 ghost use Rattle.theory.specs.Geometry.{Geometry, IsSound, JunctionOf, SegmentOf};
-ghost use Rattle.theory.specs.Lists.{Has, gathered, joined};
+ghost use Rattle.theory.specs.Lists.{Has, gathered};
 ghost use Rattle.theory.specs.Refinement.{IsUnionOf, unclosed};
 ghost use Rattle.theory.specs.Segments.{OnThree};
-ghost use Rattle.theory.specs.Topology.{forms_of};
+ghost use Rattle.theory.specs.Topology.{forms_of, lines_in, rings_in};
 
 use crate::arcs_box::Extent;
 use crate::marking::is_marked;
@@ -30,11 +30,8 @@ use crate::table::ArcTable;
 use crate::vertex_filter::{VertexFilter, inside};
 use faults::OutOfMemory;
 use grid::pos::Pos;
-use lines::items::Items;
-use lines::line::Line;
 use lines::pair::PositionPair;
 use lines::position_filter::PositionFilter;
-use lines::ring::Ring;
 use shapes::feature::Feature;
 use shapes::feature_map::FeatureMap;
 use shapes::shape::Shape;
@@ -317,47 +314,24 @@ impl<'a> VisitsSeen<'a> {
         Ok(marks)
     }
 
-    fn see_lines(&mut self, lines: &'a [Line]) -> Result<(), AllocError>
-        ensures ends { OnOk result (self.new.ends.items ≡ self.old.ends.items ++ gathered ends_of (map_list line_of lines.now)) }
-        ensures visits { OnOk result (HaveSame (visits_noted self.new) (visits_noted self.old ++ gathered inner_of (map_list line_of lines.now))) }
+    fn see_lines(&mut self, shape: &'a Shape) -> Result<(), AllocError>
+        ensures ends { OnOk result (self.new.ends.items ≡ self.old.ends.items ++ form_ends (form_of shape.now)) }
+        ensures visits { OnOk result (HaveSame (visits_noted self.new) (visits_noted self.old ++ gathered inner_of (lines_in (form_of shape.now)))) }
     {
-        for line in lines {
+        for line in shape.lines() {
             self.see_line(line.positions())?;
         }
         Ok(())
     }
 
-    fn see_rings(&mut self, rings: &'a [Ring]) -> Result<(), AllocError>
+    fn see_rings(&mut self, shape: &'a Shape) -> Result<(), AllocError>
         ensures ends { OnOk result (self.new.ends.items ≡ self.old.ends.items) }
-        ensures visits { OnOk result (HaveSame (visits_noted self.new) (visits_noted self.old ++ gathered around_of (map_list ring_of rings.now))) }
+        ensures visits { OnOk result (HaveSame (visits_noted self.new) (visits_noted self.old ++ gathered around_of (rings_in (form_of shape.now)))) }
     {
-        for ring in rings {
+        for ring in shape.rings() {
             self.see_ring(ring.vertices())?;
         }
         Ok(())
-    }
-
-    fn see_polygons(&mut self, polygons: &'a [Items<Ring>]) -> Result<(), AllocError>
-        ensures ends { OnOk result (self.new.ends.items ≡ self.old.ends.items) }
-        ensures visits { OnOk result (HaveSame (visits_noted self.new) (visits_noted self.old ++ gathered around_of (joined (map_list (map_list ring_of) polygons.now)))) }
-    {
-        for rings in polygons {
-            self.see_rings(rings.as_slice())?;
-        }
-        Ok(())
-    }
-
-    fn see_shape(&mut self, shape: &'a Shape) -> Result<(), AllocError>
-        ensures ends { OnOk result (self.new.ends.items ≡ self.old.ends.items ++ form_ends (form_of shape.now)) }
-        ensures visits { OnOk result (HaveSame (visits_noted self.new) (visits_noted self.old ++ form_visits (form_of shape.now))) }
-    {
-        match shape {
-            Shape::Null | Shape::Point(_) | Shape::MultiPoint(_) => Ok(()),
-            Shape::Line(line) => self.see_line(line.positions()),
-            Shape::MultiLine(lines) => self.see_lines(lines.as_slice()),
-            Shape::Polygon(rings) => self.see_rings(rings.as_slice()),
-            Shape::MultiPolygon(polygons) => self.see_polygons(polygons.as_slice()),
-        }
     }
 
     fn see_features(&mut self, features: &'a BTreeSet<Feature>) -> Result<(), AllocError>
@@ -365,7 +339,8 @@ impl<'a> VisitsSeen<'a> {
         ensures visits { OnOk result (HaveSame (visits_noted self.new) (visits_noted self.old ++ gathered feature_visits (set.items (set_of features.now)))) }
     {
         for feature in features.iter() {
-            self.see_shape(&feature.shape)?;
+            self.see_lines(&feature.shape)?;
+            self.see_rings(&feature.shape)?;
         }
         Ok(())
     }

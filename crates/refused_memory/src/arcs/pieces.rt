@@ -24,7 +24,7 @@ const VERTICES: Places = &[(0, 0), (1, 0), (1, 1), (0, 1)];
 const LOWER: Places = &[(0, 0), (1, 0), (2, 0)];
 
 /// The sides of the first square that it has alone, and the one that it shares.
-pub(crate) const ALONE: Places = &[(1, 0), (0, 0), (0, 1), (1, 1)];
+const ALONE: Places = &[(1, 0), (0, 0), (0, 1), (1, 1)];
 
 pub(crate) const SHARED: Places = &[(1, 0), (1, 1)];
 

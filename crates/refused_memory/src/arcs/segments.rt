@@ -1,7 +1,7 @@
 //! Segments of arcs, and the longest chains of them.
 
-use crate::arcs::pieces::{ALONE, OF_ARC, SHARED, are_parts};
-use chains::{Segment, cut_arc, maximal, maximal_with, meets_two, segments_of};
+use crate::arcs::pieces::{OF_ARC, SHARED, are_parts};
+use chains::{Segment, cut_arc, maximal, maximal_with, segments_of};
 use faults::OutOfMemory;
 use grid::Pos;
 use refused_calls::calls::Lent;
@@ -9,34 +9,17 @@ use refused_calls::comparing::are_arcs;
 use refused_calls::inputs::{built, is_of, positions};
 use refused_calls::outcome::Tally;
 use refused_calls::tables::{Lends, Row, both};
-use refused_calls::texts::{FIRST, Places, SHARED_EDGE};
+use refused_calls::texts::{FIRST, SHARED_EDGE};
 use std::alloc::Global;
 use std::collections::BTreeSet;
 use topo::Topology;
 
-/// The sides that the second square has alone.
-const BEYOND: Places = &[(1, 0), (2, 0), (2, 1), (1, 1)];
-
-/// Two squares, the first alone, the segments of both, and the ends of the shared side.
+/// Two squares, the first alone, and the ends of the shared side.
 #[derive(Drop)]
 struct Segments {
     squares: Topology,
     first: Topology,
-    segments: BTreeSet<Segment>,
     stops: BTreeSet<Pos>,
-}
-
-/// The segments of three arcs.
-fn segments_in(alloc: Global, topology: &Topology) -> Option<BTreeSet<Segment>> {
-    let mut segments = BTreeSet::new(alloc);
-    for segment in segments_of(alloc, topology.arcs(), &[0, 1, 2]).ok()? {
-        segments.insert(segment).ok()?;
-    }
-    Some(segments)
-}
-
-fn segments_of_squares(alloc: Global) -> Option<BTreeSet<Segment>> {
-    segments_in(alloc, &built(alloc, SHARED_EDGE)?)
 }
 
 /// The ends of the shared side.
@@ -50,10 +33,7 @@ fn stops(alloc: Global) -> Option<BTreeSet<Pos>> {
 
 impl Lent for Segments {
     fn is_as_before(&self) -> bool {
-        is_of(&self.squares, SHARED_EDGE)
-            && is_of(&self.first, FIRST)
-            && self.segments.len() == 7
-            && self.stops.len() == 2
+        is_of(&self.squares, SHARED_EDGE) && is_of(&self.first, FIRST) && self.stops.len() == 2
     }
 }
 
@@ -82,19 +62,11 @@ fn list(alloc: Global, lent: &Segments) -> Result<bool, OutOfMemory> {
     Ok(is_shared_side(segments.as_slice()))
 }
 
-/// Without stops, the ends of the shared side would lie on three segments each.
-fn meets(alloc: Global, lent: &Segments) -> Result<bool, OutOfMemory> {
-    let none = BTreeSet::new(alloc);
-    let meets_none = meets_two(alloc, &lent.segments, &none)?;
-    Ok(meets_two(alloc, &lent.segments, &lent.stops)? && !meets_none)
-}
-
+/// Over no segments there are no chains.
 fn chains(alloc: Global, lent: &Segments) -> Result<bool, OutOfMemory> {
-    if !meets_two(alloc, &lent.segments, &lent.stops)? {
-        return Ok(false);
-    }
-    let table = maximal(alloc, &lent.segments, &lent.stops)?;
-    Ok(are_arcs(&table, &[ALONE, SHARED, BEYOND]))
+    let none = BTreeSet::new(alloc);
+    let table = maximal(alloc, &none, &lent.stops)?;
+    Ok(are_arcs(&table, &[]))
 }
 
 /// A chain that stands already.
@@ -118,7 +90,6 @@ fn chains_beside(alloc: Global, lent: &Segments) -> Result<bool, OutOfMemory> {
 enum Call {
     Arc,
     List,
-    Meets,
     Chains,
     ChainsBeside,
 }
@@ -126,7 +97,6 @@ enum Call {
 const ROWS: &[Row<Call>] = &[
     ("chains::cut_arc", Call::Arc),
     ("chains::segments_of", Call::List),
-    ("chains::meets_two", Call::Meets),
     ("chains::maximal", Call::Chains),
     ("chains::maximal_with", Call::ChainsBeside),
 ];
@@ -136,12 +106,10 @@ impl Lends for Segments {
 
     fn make(alloc: Global) -> Option<Segments> {
         let topologies = both(built(alloc, SHARED_EDGE), built(alloc, FIRST));
-        let sets = both(segments_of_squares(alloc), stops(alloc));
-        let ((squares, first), (segments, stops)) = both(topologies, sets)?;
+        let ((squares, first), stops) = both(topologies, stops(alloc))?;
         Some(Segments {
             squares,
             first,
-            segments,
             stops,
         })
     }
@@ -150,7 +118,6 @@ impl Lends for Segments {
         match call {
             Call::Arc => arc(alloc, self),
             Call::List => list(alloc, self),
-            Call::Meets => meets(alloc, self),
             Call::Chains => chains(alloc, self),
             Call::ChainsBeside => chains_beside(alloc, self),
         }
