@@ -50,7 +50,6 @@ EXCEPTIONS = {
     "Topology::features": JUDGED + "query::feature",
     "topo::feature": JUDGED + "query::feature",
     "topo::known_feature": JUDGED + "refine::remove",
-    "topo::order_of": JUDGED + "Shard::join",
     "Topology::from_parts": JUDGED + "Topology::build",
     "Topology::from_unmeasured_parts": JUDGED + "refine::remove",
     "tool::run": "is the command: tests/refused_memory.py",

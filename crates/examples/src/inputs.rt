@@ -2,7 +2,8 @@
 
 use grid::Grid;
 use serde_json::Value;
-use shapes::FeatureMap;
+use shapes::{Feature, FeatureMap};
+use std::collections::BTreeSet;
 use std::fs;
 use topo::Topology;
 
@@ -21,8 +22,7 @@ pub fn read_values(rt: &HostRuntime, names: &[String]) -> Option<()> {
 pub fn read_features(rt: &HostRuntime, names: &[String]) -> Option<()> {
     let grid = unit_grid()?;
     for name in names {
-        let bytes = fs::read(rt, name.as_str()).ok()?;
-        geojson_io::read(rt.alloc(), bytes.as_slice(), &grid).ok()?;
+        features_of(rt, &grid, name.as_str())?;
     }
     Some(())
 }
@@ -32,10 +32,15 @@ pub fn unit_grid() -> Option<Grid> {
     Grid::new(1, 1, 0, 0)
 }
 
+/// The features of a GeoJSON file.
+pub fn features_of(rt: &HostRuntime, grid: &Grid, name: &str) -> Option<BTreeSet<Feature>> {
+    let bytes = fs::read(rt, name).ok()?;
+    geojson_io::read(rt.alloc(), bytes.as_slice(), grid).ok()
+}
+
 /// The features of a GeoJSON file, in one layer.
 pub fn read_map(rt: &HostRuntime, grid: &Grid, layer: &str, name: &str) -> Option<FeatureMap> {
-    let bytes = fs::read(rt, name).ok()?;
-    let features = geojson_io::read(rt.alloc(), bytes.as_slice(), grid).ok()?;
+    let features = features_of(rt, grid, name)?;
     FeatureMap::new(rt.alloc())
         .with_features(layer, features)
         .ok()

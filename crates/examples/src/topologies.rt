@@ -1,7 +1,7 @@
 //! Building topologies, cutting their arcs again and taking features out, each so many times, of which
 //! what is made is given up before the next, and then once more.
 
-use crate::inputs::{read_map, read_topology, unit_grid};
+use crate::inputs::{features_of, read_map, read_topology, unit_grid};
 use grid::Grid;
 use refine::remove::remove;
 use shapes::FeatureMap;
@@ -40,9 +40,8 @@ pub fn build(rt: &HostRuntime, words: &[String]) -> Option<Vec<u8>> {
     let grid = unit_grid()?;
     let mut map = FeatureMap::new(rt.alloc());
     for name in names {
-        map = map
-            .into_union(read_map(rt, &grid, LAYER, name.as_str())?)
-            .ok()?;
+        let features = features_of(rt, &grid, name.as_str())?;
+        map = map.with_features(LAYER, features).ok()?;
     }
     let topology = built_last(rt.alloc(), &grid, &map, count)?;
     topo_io::text_of(rt.alloc(), &topology).ok()

@@ -58,12 +58,7 @@ module _ (arcs : List (List Pos)) where
 
 kind_rank : (s : shapes.Shape) → shape_rank s ≡ form_rank (form_of s)
 kind_rank of.Null = refl
-kind_rank (of.Point p) = refl
-kind_rank (of.MultiPoint ps) = refl
-kind_rank (of.Line l) = refl
-kind_rank (of.MultiLine ls) = refl
-kind_rank (of.Polygon rs) = refl
-kind_rank (of.MultiPolygon ps) = refl
+kind_rank s = refl
 
 pub shapes_by_form : (s t : shapes.Shape) → shape_cmp s t ≡ form_cmp (form_of s) (form_of t)
 shapes_by_form (of.Point p) (of.Point q) = refl
@@ -97,12 +92,7 @@ features_stand arcs f h a b k m =
 
 rank_of_form : (arcs : List (List Pos)) (b : bodies.Body) → form_rank (body_form arcs b) ≡ body_rank b
 rank_of_form arcs of.Null = refl
-rank_of_form arcs (of.Point p) = refl
-rank_of_form arcs (of.MultiPoint ps) = refl
-rank_of_form arcs (of.Line used) = refl
-rank_of_form arcs (of.MultiLine lists) = refl
-rank_of_form arcs (of.Polygon lists) = refl
-rank_of_form arcs (of.MultiPolygon ps) = refl
+rank_of_form arcs b = refl
 
 -- where kinds differ, they alone say how forms stand
 kinds_decide : (f h : Shape Pos) → is_ne (nat_cmp (form_rank f) (form_rank h)) ≡ true → nat_cmp (form_rank f) (form_rank h) ≡ form_cmp f h

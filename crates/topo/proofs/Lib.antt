@@ -19,3 +19,4 @@ pub mod Expanded
 pub mod SameBodies
 pub mod FeatureOrder
 pub mod SameGeometries
+pub mod SeenForms

@@ -1,17 +1,17 @@
 -- The lines of a map's features are lines, its rings are rings: each value carries the fact.
-use Rattle.std.proofs.Common.{◌≡◌, inl, inr, List, [], ◌∷◌, sym, subst}
+use Rattle.std.proofs.Common.{◌≡◌, inl, inr, List, [], ◌∷◌, ap, ◌∙◌, sym, subst}
 use Rattle.std.specs.Prelude.{map as map_list}
 use Rattle.grid.specs.declared.pos.Pos.{Pos}
 use Rattle.shapes.specs.Maps.{Layers}
+use Rattle.shapes.specs.Forms as walked
 use Rattle.shapes.specs.Shapes as shapes
-use Rattle.shapes.specs.declared.form.Form.TheVariants as of
 use Rattle.chains.specs.Seen.{line_of, ring_of, form_of, item_of, layer_of, seen, geometry_of}
 use Rattle.theory.specs.Geometry.{IsSound}
 use Rattle.theory.specs.LinesAndRings.{IsLine, IsRing}
-use Rattle.theory.specs.Lists.{Has, gathered, joined}
+use Rattle.theory.specs.Lists.{Has, gathered}
 use Rattle.theory.specs.Topology.{Shape, lines_in, rings_in, forms_of}
 use Rattle.theory.proofs.ListsOfLists.{gathered_from, map_has}
-use Rattle.theory.proofs.Lists.{Has-append}
+use Rattle.topo.proofs.SeenForms.{lines_seen, rings_seen}
 use Rattle.shapes.specs.Sets as set
 use Rattle.std.specs.FinMap as map
 
@@ -27,38 +27,14 @@ from_shape m g h =
 mapped_all : {A B : Type 0} (P : B → Type 0) (f : A → B) → ((x : A) → P (f x)) → (l : List A) (y : B) → Has y (map_list f l) → P y
 mapped_all P f h l y k = let (x, there, e) = map_has f l y k in subst P (sym e) (h x)
 
-joined_all : {A B : Type 0} (P : B → Type 0) (f : A → B) → ((x : A) → P (f x)) → (ls : List (List A)) (y : B) → Has y (joined (map_list (map_list f) ls)) → P y
-joined_all P f h [] y k = absurd k
-joined_all P f h (l ∷ ls) y k =
-    elim (Has-append y (map_list f l) (joined (map_list (map_list f) ls)) k) [ inl u ↦ mapped_all P f h l y u | inr u ↦ joined_all P f h ls y u ]
-
-lines_of_shape : (s : shapes.Shape) (l : List Pos) → Has l (lines_in (form_of s)) → IsLine l
-lines_of_shape of.Null l k = absurd k
-lines_of_shape (of.Point p) l k = absurd k
-lines_of_shape (of.MultiPoint p) l k = absurd k
-lines_of_shape (of.Line x) l (inl e) = subst IsLine (sym e) x.line
-lines_of_shape (of.Line x) l (inr n) = absurd n
-lines_of_shape (of.MultiLine xs) l k = mapped_all IsLine line_of (λ x. x.line) xs l k
-lines_of_shape (of.Polygon p) l k = absurd k
-lines_of_shape (of.MultiPolygon p) l k = absurd k
-
-rings_of_shape : (s : shapes.Shape) (l : List Pos) → Has l (rings_in (form_of s)) → IsRing l
-rings_of_shape of.Null l k = absurd k
-rings_of_shape (of.Point p) l k = absurd k
-rings_of_shape (of.MultiPoint p) l k = absurd k
-rings_of_shape (of.Line x) l k = absurd k
-rings_of_shape (of.MultiLine xs) l k = absurd k
-rings_of_shape (of.Polygon rs) l k = mapped_all IsRing ring_of (λ x. x.ring) rs l k
-rings_of_shape (of.MultiPolygon ps) l k = joined_all IsRing ring_of (λ x. x.ring) ps l k
-
 pub are_sound : (m : Layers) → IsSound (geometry_of m)
 are_sound m = record {
   lines = λ l h.
       let (f, there, k) = gathered_from lines_in (forms_of (seen m)) l h in
       let (s, e) = from_shape m f there in
-      lines_of_shape s l (subst (λ w. Has l (lines_in w)) e k);
+      mapped_all IsLine line_of (λ x. x.line) (walked.lines_in s) l (subst (Has l) (ap lines_in e ∙ sym (lines_seen s)) k);
   rings = λ r h.
       let (f, there, k) = gathered_from rings_in (forms_of (seen m)) r h in
       let (s, e) = from_shape m f there in
-      rings_of_shape s r (subst (λ w. Has r (rings_in w)) e k);
+      mapped_all IsRing ring_of (λ x. x.ring) (walked.rings_in s) r (subst (Has r) (ap rings_in e ∙ sym (rings_seen s)) k);
 }

@@ -3,13 +3,13 @@ use Rattle.std.specs.Prelude.{ℕ, List, [], ◌∷◌, ◌++◌, length, map as
 use Rattle.grid.specs.declared.pos.Pos.{Pos}
 use Rattle.lines.specs.declared.line.Line as the_line
 use Rattle.lines.specs.declared.ring.Ring as the_ring
+use Rattle.shapes.specs.Forms.{form_map}
 use Rattle.shapes.specs.Maps.{Features, set_of}
 use Rattle.shapes.specs.Parts.{spelled_text}
 use Rattle.shapes.specs.Sets as set
 use Rattle.shapes.specs.declared.feature.Feature.{Feature}
 use Rattle.shapes.specs.declared.layer.FeatureLayer.{FeatureLayer}
 use Rattle.shapes.specs.Shapes as shapes
-use Rattle.shapes.specs.declared.form.Form.TheVariants as of
 use Rattle.chains.specs.Pieces.{line_pieces, ring_pieces}
 use Rattle.chains.specs.Seen.{line_of, ring_of, form_of}
 use Rattle.chains.specs.Table.{located}
@@ -59,13 +59,7 @@ ring_used i arcs r = map_list (located arcs) (ring_pieces i (ring_of r))
 
 -- the body of a shape, its lines and rings by the arcs of a table [TopoJSON, 2.2]
 abbrev pub body_built : List Pos → List (List Pos) → shapes.Shape → bodies.Body
-body_built i arcs of.Null = of.Null
-body_built i arcs (of.Point p) = of.Point p
-body_built i arcs (of.MultiPoint ps) = of.MultiPoint ps
-body_built i arcs (of.Line l) = of.Line (line_used i arcs l)
-body_built i arcs (of.MultiLine ls) = of.MultiLine (map_list (line_used i arcs) ls)
-body_built i arcs (of.Polygon rs) = of.Polygon (map_list (ring_used i arcs) rs)
-body_built i arcs (of.MultiPolygon ps) = of.MultiPolygon (map_list (map_list (ring_used i arcs)) ps)
+body_built i arcs s = form_map (line_used i arcs) (ring_used i arcs) s
 
 -- the geometry of a feature, by the arcs of a table [TopoJSON, 2.2]
 abbrev pub geometry_built : List Pos → List (List Pos) → Feature → Geom

@@ -1,5 +1,5 @@
 -- The order of geometries: that of the features that they stitch to.
-use Rattle.std.specs.Prelude.{ℕ, List, map as map_list}
+use Rattle.std.specs.Prelude.{ℕ, List}
 use Rattle.std.specs.Cmp.Lexicographic.{slice_cmp}
 use Rattle.std.specs.List.{AllByRecursion}
 use Rattle.std.specs.Ordering.{nat_cmp, ordering_then}
@@ -7,6 +7,7 @@ use Rattle.std.specs.declared.cmp.Ordering.{Ordering}
 use Rattle.grid.specs.declared.pos.Pos.{Pos}
 use Rattle.lines.specs.Reading.{ring_of}
 use Rattle.lines.specs.Turned.{position_cmp, list_cmp}
+use Rattle.shapes.specs.Forms.{form_map}
 use Rattle.shapes.specs.Order.{id_cmp}
 use Rattle.theory.specs.ArcNumbers.{ArcRef}
 use Rattle.theory.specs.Topology.{Form, Shape, null, point, points, line, lines, polygon, polygons}
@@ -15,7 +16,6 @@ use Rattle.topo.specs.OfMap.{body_of}
 use Rattle.topo.specs.Parts.{LayerParts}
 use Rattle.topo.specs.Walked.{walked}
 use Rattle.topo.specs.Bodies.{Body}
-use Rattle.shapes.specs.declared.form.Form.TheVariants.{Null, Point, MultiPoint, Line, MultiLine, Polygon, MultiPolygon}
 use Rattle.topo.specs.declared.geom.Geom.{Geom}
 
 -- the vertices of a ring of used arcs, from the least rotation
@@ -24,13 +24,7 @@ vertices_used arcs used = ring_of position_cmp (walked arcs used)
 
 -- a body with its lines as the positions that they stitch to, and its rings as their vertices from the least rotation
 abbrev pub body_form : List (List Pos) → Body → Shape Pos
-body_form arcs Null = null
-body_form arcs (Point p) = point p
-body_form arcs (MultiPoint ps) = points ps
-body_form arcs (Line used) = line (walked arcs used)
-body_form arcs (MultiLine lists) = lines (map_list (walked arcs) lists)
-body_form arcs (Polygon lists) = polygon (map_list (vertices_used arcs) lists)
-body_form arcs (MultiPolygon ps) = polygons (map_list (map_list (vertices_used arcs)) ps)
+body_form arcs b = body_of (form_map (walked arcs) (vertices_used arcs) b)
 
 -- the number of a form's kind, in the order of kinds
 abbrev pub form_rank : {V L R : Type 0} → Form V L R → ℕ

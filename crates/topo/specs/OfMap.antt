@@ -15,12 +15,12 @@ use Rattle.theory.specs.Topology.{Form, Item, Layer, Topology, IsTopologyOf, IsL
 use Rattle.theory.specs.TopologyFunction.{topology_of}
 use Rattle.topo.specs.Box.{box_of}
 use Rattle.topo.specs.Parts.{Corners, LayerParts, TopologyParts}
-use Rattle.topo.specs.Bodies.{Body}
+use Rattle.shapes.specs.declared.form.Form as forms
 use Rattle.shapes.specs.declared.form.Form.TheVariants as of
 use Rattle.topo.specs.declared.geom.Geom.{Geom}
 
--- a body in the words of `theory`
-abbrev pub body_of : Body → topology.Body Pos
+-- a body in the words of `theory`, with lines and rings of any type
+abbrev pub body_of : {L R : Type 0} → forms.Form L R → Form Pos L R
 body_of of.Null = null
 body_of (of.Point p) = point p
 body_of (of.MultiPoint ps) = points ps

@@ -5,9 +5,9 @@ ghost use Rattle.std.specs.Prelude.{◌≡◌, ◌<◌, ◌^◌, Some, None, ◌
 ghost use Rattle.theory.specs.Lists.{gathered, joined};
 ghost use Rattle.topo.specs.Box.{widened_at, numbers_of, box_by, box_of, AreGridNumbers};
 ghost use Rattle.topo.specs.Kept.{kept_box};
-ghost use Rattle.topo.specs.Points.{arc_at, body_points, geometry_points, layer_points};
+ghost use Rattle.topo.specs.Points.{arc_at, geometry_points, layer_points};
 
-use crate::geom::{Body, Geom};
+use crate::geom::Geom;
 use crate::topology::Layer;
 use chains::table::ArcTable;
 use grid::{Grid, Pos};
@@ -74,21 +74,11 @@ fn around_arcs(arcs: &ArcTable) -> Option<Corners>
     corners
 }
 
-fn around_body(corners: Option<Corners>, body: &Body) -> Option<Corners>
-    ensures { result ≡ box_by numbers_of corners (body_points body.now) }
-{
-    match body {
-        Body::Point(p) => Some(widened_by(corners, *p)),
-        Body::MultiPoint(ps) => around(corners, ps.as_slice()),
-        _ => corners,
-    }
-}
-
 fn around_geometries(mut corners: Option<Corners>, geometries: &[Geom]) -> Option<Corners>
     ensures { result ≡ box_by numbers_of corners (gathered geometry_points geometries.now) }
 {
     for geometry in geometries {
-        corners = around_body(corners, &geometry.body);
+        corners = around(corners, geometry.body.points());
     }
     corners
 }

@@ -6,7 +6,7 @@ ghost use Rattle.grid.specs.declared.pos.Pos.{Pos};
 ghost use Rattle.shapes.specs.Maps.{set_of};
 ghost use Rattle.shapes.specs.Sets as set;
 ghost use Rattle.std.specs.Prelude.{◌≡◌, ◌++◌, IfOk, List, OnOk, map as map_list};
-ghost use Rattle.theory.specs.Lists.{gathered, joined};
+ghost use Rattle.theory.specs.Lists.{gathered};
 ghost use Rattle.theory.specs.Topology.{forms_of};
 ghost use Rattle.topo.specs.Building.{count_of, form_pieces, feature_pieces, form_counts, feature_counts};
 ghost use Rattle.topo.specs.Cuts.{AreCutsOf};
@@ -14,11 +14,11 @@ ghost use Rattle.topo.specs.Cuts.{AreCutsOf};
 use chains::cutting::{Piece, cut_line, cut_ring};
 use chains::visits::VisitIndex;
 use faults::OutOfMemory;
-use lines::items::Items;
 use lines::line::Line;
 use lines::ring::Ring;
 use shapes::feature::Feature;
 use shapes::feature_map::FeatureMap;
+use shapes::form_parts::FormParts;
 use shapes::shape::Shape;
 use std::alloc::Global;
 use std::collections::BTreeSet;
@@ -83,29 +83,13 @@ impl Cuts {
         &mut self,
         alloc: Global,
         index: &VisitIndex,
-        items: &[C],
+        items: FormParts<'_, C>,
     ) -> Result<(), OutOfMemory>
-        ensures pieces { OnOk result (self.new.pieces.items ≡ self.old.pieces.items ++ gathered (C.pieces index.now) (map_list C.positions items.now)) }
-        ensures counts { OnOk result (self.new.counts.items ≡ self.old.counts.items ++ gathered (count_of (C.pieces index.now)) (map_list C.positions items.now)) }
+        ensures pieces { OnOk result (self.new.pieces.items ≡ self.old.pieces.items ++ gathered (C.pieces index.now) (map_list C.positions items.entry)) }
+        ensures counts { OnOk result (self.new.counts.items ≡ self.old.counts.items ++ gathered (count_of (C.pieces index.now)) (map_list C.positions items.entry)) }
     {
         for item in items {
             self.add(alloc, index, item)?;
-        }
-        Ok(())
-    }
-
-    #[tactic(auto, using(crate::proofs::Gathered::gathered_join))]
-    fn add_polygons(
-        &mut self,
-        alloc: Global,
-        index: &VisitIndex,
-        polygons: &[Items<Ring>],
-    ) -> Result<(), OutOfMemory>
-        ensures pieces { OnOk result (self.new.pieces.items ≡ self.old.pieces.items ++ gathered (ring_pieces index.now) (joined (map_list (map_list ring_of) polygons.now))) }
-        ensures counts { OnOk result (self.new.counts.items ≡ self.old.counts.items ++ gathered (count_of (ring_pieces index.now)) (joined (map_list (map_list ring_of) polygons.now))) }
-    {
-        for rings in polygons {
-            self.add_each(alloc, index, rings.as_slice())?;
         }
         Ok(())
     }
@@ -119,13 +103,8 @@ impl Cuts {
         ensures pieces { OnOk result (self.new.pieces.items ≡ self.old.pieces.items ++ form_pieces index.now (form_of shape.now)) }
         ensures counts { OnOk result (self.new.counts.items ≡ self.old.counts.items ++ form_counts index.now (form_of shape.now)) }
     {
-        match shape {
-            Shape::Null | Shape::Point(_) | Shape::MultiPoint(_) => Ok(()),
-            Shape::Line(line) => self.add(alloc, index, line),
-            Shape::MultiLine(lines) => self.add_each(alloc, index, lines.as_slice()),
-            Shape::Polygon(rings) => self.add_each(alloc, index, rings.as_slice()),
-            Shape::MultiPolygon(polygons) => self.add_polygons(alloc, index, polygons.as_slice()),
-        }
+        self.add_each(alloc, index, shape.lines())?;
+        self.add_each(alloc, index, shape.rings())
     }
 
     fn add_features(

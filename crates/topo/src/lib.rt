@@ -16,6 +16,6 @@ pub mod writing;
 
 pub use arc_slice::ArcSlice;
 pub use geom::{Body, Geom};
-pub use order::{kind_order, order_of};
+pub use order::kind_order;
 pub use topology::{Layer, Topology};
 pub use walk::Walk;

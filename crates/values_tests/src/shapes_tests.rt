@@ -211,25 +211,10 @@ fn is_union_both(alloc: Global, one: &[Layer], two: &[Layer]) -> Result<bool, Fa
     is_map(alloc, &first.union(&second)?, BOTH)
 }
 
-fn copy_of(alloc: Global, layers: &[Layer]) -> Result<FeatureMap, Fail> {
-    let map = map_of(alloc, layers)?;
-    Ok(map.copy()?)
-}
-
-fn are_copies_united(alloc: Global, one: &[Layer], two: &[Layer]) -> Result<bool, Fail> {
-    let first = copy_of(alloc, one)?;
-    let second = copy_of(alloc, two)?;
-    is_map(alloc, &first.into_union(second)?, BOTH)
-}
-
 #[test]
 fn unions_have_both(rt: HostRuntime) -> Result<(), Fail> {
     for (title, one, two) in UNITED {
         assert!(rt; is_union_both(rt.alloc(), *one, *two)?, "{title}");
-        assert!(rt;
-            are_copies_united(rt.alloc(), *one, *two)?,
-            "{title}: copies"
-        );
     }
     Ok(())
 }

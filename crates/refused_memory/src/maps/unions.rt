@@ -124,16 +124,6 @@ fn with_features(alloc: Global, maps: &Maps) -> Answer {
     }
 }
 
-fn unite_maps(_: Global, maps: &Maps) -> Answer {
-    let Ok(map) = maps.one.copy() else {
-        return Answer::Unasked;
-    };
-    match maps.other.copy() {
-        Ok(other) => judge(map.into_union(other), maps),
-        Err(OutOfMemory) => Answer::Unasked,
-    }
-}
-
 fn union(_: Global, maps: &Maps) -> Answer {
     judge(maps.one.union(&maps.other), maps)
 }
@@ -147,7 +137,6 @@ pub(crate) fn settle(rt: &HostRuntime, tally: &mut Tally) {
         );
         calls!(tally.ask(rt, "maps of squares", &maps);
             "FeatureMap::with_features" => with_features,
-            "FeatureMap::into_union" => unite_maps,
             "FeatureMap::union" => union,
         );
     }
