@@ -1,21 +1,18 @@
 -- What a test of positions says of lists of them.
-use Rattle.std.proofs.Common.{◌≡◌, ℕ, ◌+◌, ◌<◌, Bool, true, false, ◌||◌, List, [], ◌∷◌, ◌++◌, inl, inr, length, drop, ◌⊎◌, slice_get, Option, Some, None, refl, sym, ap, ◌∙◌, subst, arith, suc, zero}
+use Rattle.std.proofs.Common.{◌≡◌, Bool, true, false, ◌||◌, List, [], ◌∷◌, ◌++◌, inl, inr, ◌⊎◌, Option, Some, None, refl, sym, ap, ◌∙◌, subst}
 use Rattle.std.specs.List.{list_any}
 use Rattle.theory.specs.Lists.{Has}
-use Rattle.theory.specs.TopologyFunction.{keep}
 use Rattle.theory.proofs.Lists.{last-snoc}
 use Rattle.grid.specs.declared.pos.Pos.{Pos}
 use Rattle.lines.proofs.Positions.{true_false}
 use Rattle.chains.specs.Among.{among}
 use Rattle.lines.specs.PositionFilter.{may_hold}
-use Rattle.lines.specs.Holding.{Holds}
-use Rattle.chains.specs.Holding.{AreDealtTo}
-use Rattle.chains.specs.VertexFilter.{arc_meets, arc_shared, kept_if, meets_if, near_if, shared_if, KeepsClashes}
+use Rattle.lines.specs.Holding.{AreMarked, Holds}
+use Rattle.chains.specs.VertexFilter.{arc_meets, arc_shared, meets_if, shared_if, KeepsClashes}
 use Rattle.chains.specs.Visits.{ends_of}
 use Rattle.lines.specs.declared.position_filter.PositionFilter.{PositionFilter}
 use Rattle.chains.specs.declared.visits.Visit.{Visit}
 use Rattle.chains.proofs.Among.{among_has}
-use Rattle.lines.proofs.Dropping.{drop_next}
 use Rattle.chains.proofs.TablesAsMap.{given, answered}
 
 -- what finds a bit not set is none of the list
@@ -30,22 +27,13 @@ not_held bits js ks p b v e f h = f ∙ sym (go (among ks p) refl) ∙ ap (λ l.
 abbrev pub ArcsAreLeft : (Pos → Bool) → List (List Pos) → List (List Pos) → Type 0
 ArcsAreLeft may all left = (c : List Pos) → Has c all → Has c left ⊎ Holds may c
 
-there : {A : Type 0} (l : List A) (i : ℕ) → i < length l → (x : A) × (slice_get l i ≡ Some x)
-there [] i h = absurd (omega arith)
-there (x ∷ l) zero h = (x, refl)
-there (x ∷ l) (suc i) h = there l i (omega (arith, h))
-
-pub arc_marked : (now new : Pos → Bool) (arcs : List (List Pos)) (i : ℕ) → i < length arcs → AreDealtTo now new arcs i →
-    ArcsAreLeft now arcs (drop i arcs) → ArcsAreLeft new arcs (drop (i + 1) arcs)
-arc_marked now new arcs i h m before c j =
-    let t = there arcs i h in
-    elim (before c j) [
-      | inl k ↦ elim (subst (Has c) (drop_next arcs i t.0 t.1) k) [
-        | inl e ↦ inr (m.1 c (t.1 ∙ ap Some (sym e)))
-        | inr r ↦ inl r
-      ]
-      | inr k ↦ inr (λ p q. m.0 p (k p q))
-    ]
+pub arc_marked : (now new : Pos → Bool) (all left : List (List Pos)) (arc : List Pos) → AreMarked arc now new →
+    ArcsAreLeft now all (arc ∷ left) → ArcsAreLeft new all left
+arc_marked now new all left arc m before c j = elim (before c j) [
+  | inl (inl e) ↦ inr (subst (Holds new) (sym e) m.1)
+  | inl (inr r) ↦ inl r
+  | inr k ↦ inr (λ p q. m.0 p (k p q))
+]
 
 -- what is said of none holds of no member
 pub none_met : (may : Pos → Bool) (l : List Pos) → list_any may l ≡ false → (v : Pos) → Has v l → may v ≡ false
@@ -72,14 +60,6 @@ shared_given may loops (Some c) = refl
 pub meets_answered : (may : Pos → Bool) (loops : List (List Pos)) (o : Option (List Pos)) → meets_if may loops o ≡ answered false (arc_meets may loops) o
 meets_answered may loops None = refl
 meets_answered may loops (Some c) = refl
-
-pub near_answered : (f : Pos → Bool) (o : Option (List Pos)) → near_if f o ≡ answered false (list_any f) o
-near_answered f None = refl
-near_answered f (Some c) = refl
-
-pub kept_given : (f : Pos → Bool) (o : Option (List Pos)) → kept_if f o ≡ given (keep f) o
-kept_given f None = refl
-kept_given f (Some c) = refl
 
 -- the first and the last of a list
 pub ends_split : (x : Pos) (others front : List Pos) (last : Pos) → others ≡ front ++ (last ∷ []) → ends_of (x ∷ others) ≡ x ∷ (last ∷ [])

@@ -3,7 +3,6 @@ use Rattle.std.specs.Prelude.{◌≡◌, ℕ, Bool, true, false, ◌&&◌, cond,
 use Rattle.std.specs.List.{list_any}
 use Rattle.theory.specs.Lists.{Has}
 use Rattle.theory.specs.Refinement.{unclosed}
-use Rattle.theory.specs.TopologyFunction.{keep}
 use Rattle.grid.specs.declared.pos.Pos.{Pos}
 use Rattle.chains.specs.Arcs.{Arcs}
 use Rattle.lines.specs.PositionFilter as bits
@@ -15,16 +14,6 @@ use Rattle.chains.specs.declared.cutting.Piece.{Piece}
 use Rattle.chains.specs.declared.arcs_box.Extent.{Extent}
 use Rattle.chains.specs.declared.vertex_filter.VertexFilter.{VertexFilter}
 use Rattle.chains.specs.declared.visits.Visit.{Visit}
-
--- those of an arc's vertices of which f holds, where there is an arc
-abbrev pub kept_if : (Pos → Bool) → Option (List Pos) → List Pos
-kept_if f None = []
-kept_if f (Some c) = keep f c
-
--- whether f holds of some vertex of an arc, where there is an arc
-abbrev pub near_if : (Pos → Bool) → Option (List Pos) → Bool
-near_if f None = false
-near_if f (Some c) = list_any f c
 
 -- whether a position may be a vertex of both tables
 abbrev pub may_hold : VertexFilter → Pos → Bool

@@ -1,6 +1,6 @@
 //! A box in which the positions of a table's arcs lie.
 ghost use Rattle.chains.specs.Extents.{between, within};
-ghost use Rattle.chains.specs.Holding.{AreDealtTo, HoldAll};
+ghost use Rattle.chains.specs.Holding.{HoldAll};
 ghost use Rattle.lines.specs.Holding.{AreMarked};
 ghost use Rattle.std.specs.Int.{int_min, int_max};
 ghost use Rattle.std.specs.Prelude.{◌≡◌};
@@ -73,21 +73,13 @@ impl Extent {
         }
     }
 
-    fn widen_numbered(&mut self, table: &ArcTable, number: usize)
-        ensures { AreDealtTo (within self.old) (within self.new) table.now.arcs number }
-    {
-        if let Some(arc) = table.arc(number) {
-            self.widen_all(arc);
-        }
-    }
-
     /// That of a table's arcs, of which none is known.
     fn find(table: &ArcTable) -> Extent
         ensures { HoldAll (within result) table.now.arcs }
     {
         let mut extent = NOWHERE;
-        for number in 0..table.len() {
-            extent.widen_numbered(table, number);
+        for arc in table.iter() {
+            extent.widen_all(arc);
         }
         extent
     }

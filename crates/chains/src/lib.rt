@@ -22,6 +22,7 @@ mod stop_set;
 mod stops;
 mod stored;
 pub mod table;
+pub mod table_arcs;
 pub mod turning;
 pub mod used_arcs;
 mod vertex_filter;

@@ -87,7 +87,7 @@ impl ArcList {
         Ok(ArcList { arcs })
     }
 
-    fn as_slice(&self) -> &[StoredArc]
+    pub(crate) fn as_slice(&self) -> &[StoredArc]
         ensures { result.now ≡ self.now }
     {
         self.arcs.values().as_slice()

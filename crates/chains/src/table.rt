@@ -20,6 +20,7 @@ use crate::merging::merged_arcs;
 use crate::numbering::{numbered_arcs, with_places};
 use crate::ordered::{is_rising, marked_arcs};
 use crate::stored::ArcList;
+use crate::table_arcs::TableArcs;
 use faults::OutOfMemory;
 use grid::pos::Pos;
 use lines::items::Items;
@@ -188,6 +189,14 @@ impl ArcTable {
         ensures small { result < 2 ^ 63 }
     {
         self.arcs.len()
+    }
+
+    /// The arcs, in the order of their numbers.
+    pub fn iter(&self) -> TableArcs<'_>
+        ensures arcs { result ≡ self.now.arcs }
+        ensures small { length result < 2 ^ 63 }
+    {
+        TableArcs::of(self.arcs.as_slice())
     }
 
     /// The arc of a number, `None` exactly past the last arc.

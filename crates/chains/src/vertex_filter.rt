@@ -2,9 +2,9 @@
 //! bit of theirs not set, and so are known to be no vertices of the first.
 ghost use Rattle.chains.specs.Extents.{within};
 ghost use Rattle.chains.specs.VertexFilter as spec;
-ghost use Rattle.chains.specs.VertexFilter.{HoldCommon, kept_if, may_hold, near_if};
+ghost use Rattle.chains.specs.VertexFilter.{HoldCommon, may_hold};
 ghost use Rattle.std.specs.List.{list_any};
-ghost use Rattle.std.specs.Prelude.{◌≡◌, ◌++◌, IfOk, OnOk, map as map_list, slice_get};
+ghost use Rattle.std.specs.Prelude.{◌≡◌, ◌++◌, IfOk, OnOk, map as map_list};
 ghost use Rattle.theory.specs.Lists.{gathered};
 ghost use Rattle.theory.specs.TopologyFunction.{keep};
 
@@ -38,21 +38,6 @@ fn add_within(list: &mut Vec<Pos>, arc: &[Pos], extent: &Extent) -> Result<bool,
     Ok(near)
 }
 
-fn add_numbered(
-    list: &mut Vec<Pos>,
-    table: &ArcTable,
-    number: usize,
-    extent: &Extent,
-) -> Result<bool, AllocError>
-    ensures list { OnOk result (list.new.items ≡ list.old.items ++ kept_if (within extent.now) (slice_get table.now.arcs number)) }
-    ensures near { IfOk result (λ b. b ≡ near_if (within extent.now) (slice_get table.now.arcs number)) }
-{
-    match table.arc(number) {
-        Some(arc) => add_within(list, arc, extent),
-        None => Ok(false),
-    }
-}
-
 /// Adds the vertices of a table's arcs that lie in an extent, and answers which arcs have some.
 fn add_table(
     alloc: Global,
@@ -64,8 +49,8 @@ fn add_table(
     ensures near { IfOk result (λ v. v.items ≡ map_list (list_any (within extent.now)) table.now.arcs) }
 {
     let mut near = Vec::with_capacity(alloc, table.len())?;
-    for number in 0..table.len() {
-        near.push(add_numbered(list, table, number, extent)?)?;
+    for arc in table.iter() {
+        near.push(add_within(list, arc, extent)?)?;
     }
     Ok(near)
 }

@@ -5,6 +5,5 @@ pub mod RoundRings
 pub mod LeastSteps
 pub mod RingsStand
 pub mod BodiesStand
-pub mod Noting
 pub mod NodedTables
 pub mod KeysStand

@@ -1,4 +1,5 @@
 pub mod ArcTexts
+pub mod TextsLeft
 pub mod Walks
 pub mod Runs
 pub mod Boxes

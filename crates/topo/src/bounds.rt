@@ -1,11 +1,11 @@
 //! The box around positions.
 ghost use Rattle.grid.specs.Place.{IsTransform, Transform, absolute as absolute_number};
 ghost use Rattle.std.specs.Int.{int_min, int_max};
-ghost use Rattle.std.specs.Prelude.{◌≡◌, ◌<◌, ◌^◌, Some, None, ◌++◌, length, map as map_list};
+ghost use Rattle.std.specs.Prelude.{◌≡◌, ◌<◌, ◌^◌, Some, None, ◌++◌, length};
 ghost use Rattle.theory.specs.Lists.{gathered, joined};
 ghost use Rattle.topo.specs.Box.{widened_at, numbers_of, box_by, box_of, AreGridNumbers};
 ghost use Rattle.topo.specs.Kept.{kept_box};
-ghost use Rattle.topo.specs.Points.{arc_at, geometry_points, layer_points};
+ghost use Rattle.topo.specs.Points.{geometry_points, layer_points};
 
 use crate::geom::Geom;
 use crate::topology::Layer;
@@ -53,23 +53,13 @@ fn around(mut corners: Option<Corners>, positions: &[Pos]) -> Option<Corners>
     corners
 }
 
-fn around_arc(corners: Option<Corners>, arcs: &ArcTable, number: usize) -> Option<Corners>
-    ensures { result ≡ box_by numbers_of corners (arc_at arcs.now.arcs number) }
-{
-    match arcs.arc(number) {
-        Some(arc) => around(corners, arc),
-        None => corners,
-    }
-}
-
-#[tactic(auto, using(crate::proofs::ArcsLeft::arcs_step))]
 fn around_arcs(arcs: &ArcTable) -> Option<Corners>
     ensures corners { result ≡ box_by numbers_of None (joined arcs.now.arcs) }
     ensures few { length arcs.now.arcs < 2 ^ 63 }
 {
     let mut corners = None;
-    for number in 0..arcs.len() {
-        corners = around_arc(corners, arcs, number);
+    for arc in arcs.iter() {
+        corners = around(corners, arc);
     }
     corners
 }

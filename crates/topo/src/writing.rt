@@ -75,12 +75,10 @@ impl<'a> Written for ArcsText<'a> {
 
     fn write<W: Sink>(&self, sink: &mut W) -> Result<(), WriteFault> {
         let mut separator = Text(b"");
-        for number in 0..self.0.len() {
-            if let Some(arc) = self.0.arc(number) {
-                match Then(separator, Bracketed(ArcPositions(arc))).write(sink) {
-                    Ok(()) => separator = Text(b","),
-                    Err(fault) => return Err(fault),
-                }
+        for arc in self.0.iter() {
+            match Then(separator, Bracketed(ArcPositions(arc))).write(sink) {
+                Ok(()) => separator = Text(b","),
+                Err(fault) => return Err(fault),
             }
         }
         Ok(())

@@ -76,10 +76,7 @@ pub(crate) fn least_of_arcs(
     ensures { IfOk result (λ v. v.items ≡ least_of arcs.now.arcs) }
 {
     let mut least = Vec::with_capacity(alloc, arcs.len())?;
-    for number in 0..arcs.len() {
-        let Some(arc) = arcs.arc(number) else {
-            return Ok(least);
-        };
+    for arc in arcs.iter() {
         least.push(least_steps(arc))?;
     }
     Ok(least)

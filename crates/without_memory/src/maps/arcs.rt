@@ -241,6 +241,7 @@ fn settle_table(rt: &HostRuntime, tally: &mut Tally, arcs: &ArcTable) {
     rows!(rt, tally;
         "ArcRef::flip" => flips(),
         "ArcTable::len" => arcs.len() == 3,
+        "ArcTable::iter" => arcs.iter().count() == 3,
         "ArcTable::is_free" => !arcs.is_free(0) && !arcs.is_free(3),
     );
 }

@@ -1,28 +1,22 @@
-use Rattle.std.proofs.Common.{◌<◌, length, arith}
+use Rattle.std.proofs.Common.{◌∙◌}
 use Rattle.topo.specs.ArcTexts.{arc_text}
-use Rattle.topo.proofs.ArcTexts.{step_all, step_part, step_separator}
-use Rattle.topo.proofs.ArcTexts.{some_at, none_at}
+use Rattle.topo.proofs.TextsLeft.{text_more, text_part, texts_begun, texts_done}
 use Rattle.topo.proofs.writing.ArcsTextWritten.write.Goals as goal
-use Rattle.topo.proofs.writing.ArcsTextWritten.write.Goals.{in-Some+in-Ok, in_default}
+
+pub loop-arc-init : goal.loop-arc-init
+loop-arc-init g c =
+    texts_begun arc_text c.args.self.now.0.now.arcs c.into_iter-arc-iterator.result (g.W.Sink.seen c.args.sink.now)
+    (c.into_iter-arc-iterator.ensures.into_iter_gives ∙ c.iter-arc-items.ensures.arcs)
+
+pub loop-arc-preserved : goal.loop-arc-preserved
+loop-arc-preserved g c =
+    text_more arc_text c.args.self.now.0.now.arcs c.loop-arc.separator.0.now c.loop-arc.arc-iterator c.next.new.self c.in-Some.arc.now c.in-Some.ensures.steps
+    c.loop-arc.invariant c.in-Ok.ensures.whole
 
 pub returns-in-Err-clause-part : goal.returns-in-Err-clause-part
 returns-in-Err-clause-part g c =
-    let arcs = c.args.self.now.0.now.arcs in
-    let at = some_at arcs c.loop-number.number c.arc.result c.in-Some.arc c.arc.ensures c.in-Some.is in
-    step_part arc_text arcs c.loop-number.number c.in-Some.arc.now c.loop-number.separator.0.now at c.loop-number.invariant.before c.loop-number.invariant.took c.in-Err.ensures.part
+    text_part arc_text c.args.self.now.0.now.arcs c.loop-arc.separator.0.now c.loop-arc.arc-iterator c.next.new.self c.in-Some.arc.now c.in-Some.ensures.steps
+    c.loop-arc.invariant c.in-Err.ensures.part
 
-pub loop-number-preserved : goal.loop-number-preserved
-loop-number-preserved g c = elim c.match-arc.branch [
-  | in-Some+in-Ok w ↦
-      let arcs = c.args.self.now.0.now.arcs in
-      let at = some_at arcs c.loop-number.number c.arc.result w.in-Some.arc c.arc.ensures w.in-Some.is in
-      rw (w.sink-is, w.separator-is) (record {
-        took = step_all arc_text arcs c.loop-number.number w.in-Some.arc.now c.loop-number.separator.0.now at c.loop-number.invariant.before c.loop-number.invariant.took w.in-Ok.ensures.whole;
-        before = step_separator arcs c.loop-number.number w.in-Some.arc.now at;
-      })
-  | in_default w ↦
-      let below = c.loop-number-test.true in
-      let count = c.len-number-end.ensures.len in
-      let within : c.loop-number.number < length c.args.self.now.0.now.arcs = omega arith in
-      absurd (none_at c.args.self.now.0.now.arcs c.loop-number.number c.arc.result c.arc.ensures w.in_default.is within)
-]
+pub returns-clause-whole : goal.returns-clause-whole
+returns-clause-whole g c = texts_done arc_text c.args.self.now.0.now.arcs c.loop-arc.separator.0.now c.loop-arc.arc-iterator c.in-None.ensures.steps.0 c.loop-arc.invariant
