@@ -1,5 +1,5 @@
 -- Lists that are added to those that were seen, one after the other, and what is told of all of them.
-use Rattle.std.proofs.Common.{◌≡◌, ◌↔◌, ℕ, zero, suc, ◌+◌, ◌<◌, ◌≤◌, Bool, true, false, List, [], ◌∷◌, ◌++◌, ◌⊎◌, ◌&&◌, drop, get_or, length, replicate, inl, inr, refl, sym, ap, ◌∙◌, subst, arith, append_assoc, append-nil, Some, slice_get}
+use Rattle.std.proofs.Common.{◌≡◌, ◌↔◌, ℕ, zero, suc, ◌+◌, ◌<◌, Bool, true, false, List, [], ◌∷◌, ◌++◌, ◌⊎◌, ◌&&◌, get_or, length, replicate, inl, inr, refl, sym, ap, ◌∙◌, subst, arith, append_assoc, append-nil, Some, slice_get}
 use Rattle.std.proofs.lemmas.List.{get_or-replicate, length-replicate}
 use Rattle.std.proofs.lemmas.Option.{slice_get_within}
 use Rattle.std.specs.List.{list_all}
@@ -11,16 +11,12 @@ use Rattle.theory.proofs.Lists.{Has-append, Has-append_left, Has-append_right}
 use Rattle.chains.specs.Arcs.{Arcs}
 use Rattle.chains.specs.OfArcs.{table_as_map}
 use Rattle.chains.proofs.Layers.{gathered-append}
-use Rattle.chains.proofs.Siding.{none_left}
-use Rattle.lines.proofs.Dropping.{drop_item}
 use Rattle.validate.specs.Lists.{LineStands, RingStands}
 use Rattle.validate.specs.UsedArcs.{marks_set}
 use Rattle.validate.specs.ArcEnds.{EndsMeet, line_ends}
 use Rattle.validate.specs.Validity.{ListsStand}
 use Rattle.validate.proofs.Marking.{marks_set_long, other_mark, set_mark, uses_or}
-use Rattle.topo.specs.Bodies.{Body}
 use Rattle.validate.specs.Accept.Added.{AreAdded, EachStands, IsUsed}
-use Rattle.topo.specs.BodyLists.{body_lines, body_rings}
 use Rattle.validate.specs.declared.accept.lists.ListsSeen.{ListsSeen}
 
 -- lists used by some of all
@@ -57,7 +53,7 @@ module _ (t : Arcs) where
   }
 
   -- nothing is added
-  pub added_none : (s : ListsSeen) → AreAdded t [] [] true s s
+  added_none : (s : ListsSeen) → AreAdded t [] [] true s s
   added_none s = record {
     len = refl;
     stand = ((λ e. record { each_line = λ us h. absurd h; each_ring = λ us h. absurd h }), (λ st. refl));
@@ -66,7 +62,7 @@ module _ (t : Arcs) where
   }
 
   -- lists that stand are added, and then others
-  pub added_both : (l k m n : List (List ArcRef)) (b c : Bool) (s u w : ListsSeen) → b ≡ true → AreAdded t l m b s u → AreAdded t k n c u w → AreAdded t (l ++ k) (m ++ n) c s w
+  added_both : (l k m n : List (List ArcRef)) (b c : Bool) (s u w : ListsSeen) → b ≡ true → AreAdded t l m b s u → AreAdded t k n c u w → AreAdded t (l ++ k) (m ++ n) c s w
   added_both l k m n b c s u w e h g = record {
     len = g.len ∙ h.len;
     stand = ((λ f. stand_both l k m n (h.stand.0 e) (g.stand.0 f)), (λ st. g.stand.1 (stand_behind l k m n st)));
@@ -88,7 +84,7 @@ module _ (t : Arcs) where
   }
 
   -- some list doesn't stand, whatever others there are
-  pub added_not : (l k m n : List (List ArcRef)) (b : Bool) (s u : ListsSeen) → b ≡ false → AreAdded t l m b s u → AreAdded t (l ++ k) (m ++ n) false s u
+  added_not : (l k m n : List (List ArcRef)) (b : Bool) (s u : ListsSeen) → b ≡ false → AreAdded t l m b s u → AreAdded t (l ++ k) (m ++ n) false s u
   added_not l k m n b s u e h = record {
     len = h.len;
     stand = ((λ f. absurd cc), (λ st. absurd (let x : false ≡ true = sym e ∙ h.stand.1 (stand_before l k m n st) in cc)));
@@ -152,42 +148,34 @@ module _ (t : Arcs) where
     ends = λ e. same ∙ sym (append-nil s.ends.items);
   }
 
-  -- loops over what has lists: `lines` and `rings` gather what each has
+  -- a body's rings behind its lines
+  pub rings_behind : (l m : List (List ArcRef)) (b c : Bool) (s u w : ListsSeen) → b ≡ true → AreAdded t l [] b s u → AreAdded t [] m c u w → AreAdded t l m c s w
+  rings_behind l m b c s u w e h g = subst (λ z. AreAdded t z m c s w) (append-nil l) (added_both l [] [] m b c s u w e h g)
+
+  pub lines_not : (l m : List (List ArcRef)) (b : Bool) (s u : ListsSeen) → b ≡ false → AreAdded t l [] b s u → AreAdded t l m false s u
+  lines_not l m b s u e h = subst (λ z. AreAdded t z m false s u) (append-nil l) (added_not l [] [] m b s u e h)
+
+  -- loops over what has lists: `lines` and `rings` gather what each of `xs` has, and of those that are left
   module _ {A : Type 0} (lines rings : List A → List (List ArcRef)) (l m : A → List (List ArcRef))
       (on_lines : (x : A) (xs : List A) → lines (x ∷ xs) ≡ l x ++ lines xs) (on_rings : (x : A) (xs : List A) → rings (x ∷ xs) ≡ m x ++ rings xs)
-      (xs : List A) (i : ℕ) (s u : ListsSeen) (rest : (c : Bool) (w : ListsSeen) → AreAdded t (lines (drop i xs)) (rings (drop i xs)) c u w → AreAdded t (lines xs) (rings xs) c s w) where
-    parts_lines : (x : A) → i < length xs → x ≡ get_or xs i x → l x ++ lines (drop (i + 1) xs) ≡ lines (drop i xs)
-    parts_lines x h e = sym (ap lines (drop_item xs i x h e) ∙ on_lines x (drop (i + 1) xs))
-
-    parts_rings : (x : A) → i < length xs → x ≡ get_or xs i x → m x ++ rings (drop (i + 1) xs) ≡ rings (drop i xs)
-    parts_rings x h e = sym (ap rings (drop_item xs i x h e) ∙ on_rings x (drop (i + 1) xs))
-
-    pub loop_on : (x : A) (b : Bool) (v : ListsSeen) → i < length xs → x ≡ get_or xs i x → b ≡ true → AreAdded t (l x) (m x) b u v →
-        (c : Bool) (w : ListsSeen) → AreAdded t (lines (drop (i + 1) xs)) (rings (drop (i + 1) xs)) c v w → AreAdded t (lines xs) (rings xs) c s w
-    loop_on x b v h e f added c w more =
+      (xs left : List A) (s u : ListsSeen) (rest : (c : Bool) (w : ListsSeen) → AreAdded t (lines left) (rings left) c u w → AreAdded t (lines xs) (rings xs) c s w) where
+    parts : (x : A) (after : List A) → left ≡ x ∷ after → (c : Bool) (w : ListsSeen) → AreAdded t (l x ++ lines after) (m x ++ rings after) c u w → AreAdded t (lines xs) (rings xs) c s w
+    parts x after e c w h =
         rest c w
-        (subst (λ z. AreAdded t z (rings (drop i xs)) c u w) (parts_lines x h e)
-        (subst (λ z. AreAdded t (l x ++ lines (drop (i + 1) xs)) z c u w) (parts_rings x h e)
-        (added_both (l x) (lines (drop (i + 1) xs)) (m x) (rings (drop (i + 1) xs)) b c u v w f added more)))
+        (subst (λ z. AreAdded t z (rings left) c u w) (sym (ap lines e ∙ on_lines x after))
+        (subst (λ z. AreAdded t (l x ++ lines after) z c u w) (sym (ap rings e ∙ on_rings x after)) h))
 
-    pub loop_not : (x : A) (b : Bool) (v : ListsSeen) → i < length xs → x ≡ get_or xs i x → b ≡ false → AreAdded t (l x) (m x) b u v → AreAdded t (lines xs) (rings xs) false s v
-    loop_not x b v h e f added =
-        rest false v
-        (subst (λ z. AreAdded t z (rings (drop i xs)) false u v) (parts_lines x h e)
-        (subst (λ z. AreAdded t (l x ++ lines (drop (i + 1) xs)) z false u v) (parts_rings x h e)
-        (added_not (l x) (lines (drop (i + 1) xs)) (m x) (rings (drop (i + 1) xs)) b u v f added)))
+    pub loop_on : (x : A) (after : List A) (b : Bool) (v : ListsSeen) → left ≡ x ∷ after → b ≡ true → AreAdded t (l x) (m x) b u v →
+        (c : Bool) (w : ListsSeen) → AreAdded t (lines after) (rings after) c v w → AreAdded t (lines xs) (rings xs) c s w
+    loop_on x after b v e f added c w more = parts x after e c w (added_both (l x) (lines after) (m x) (rings after) b c u v w f added more)
 
-    pub loop_done : lines [] ≡ [] → rings [] ≡ [] → length xs ≤ i → AreAdded t (lines xs) (rings xs) true s u
-    loop_done no_lines no_rings h =
+    pub loop_not : (x : A) (after : List A) (b : Bool) (v : ListsSeen) → left ≡ x ∷ after → b ≡ false → AreAdded t (l x) (m x) b u v → AreAdded t (lines xs) (rings xs) false s v
+    loop_not x after b v e f added = parts x after e false v (added_not (l x) (lines after) (m x) (rings after) b u v f added)
+
+    pub loop_done : left ≡ [] → lines [] ≡ [] → rings [] ≡ [] → AreAdded t (lines xs) (rings xs) true s u
+    loop_done e no_lines no_rings =
         rest true u
-        (subst (λ z. AreAdded t z (rings (drop i xs)) true u u) (sym (ap lines (none_left xs i h) ∙ no_lines))
-        (subst (λ z. AreAdded t [] z true u u) (sym (ap rings (none_left xs i h) ∙ no_rings)) (added_none u)))
-
-  -- the lists that were added are those of a body of a known kind
-  pub of_kind : (b c : Body) (lines rings : List (List ArcRef)) (a : Bool) (s u : ListsSeen) → b ≡ c → lines ≡ body_lines c → rings ≡ body_rings c → AreAdded t lines rings a s u →
-      AreAdded t (body_lines b) (body_rings b) a s u
-  of_kind b c lines rings a s u e f g h =
-      subst (λ w. AreAdded t (body_lines w) (body_rings w) a s u) (sym e) (subst (λ w. AreAdded t (body_lines c) w a s u) g (subst (λ w. AreAdded t w rings a s u) f h))
+        (subst (λ z. AreAdded t z (rings left) true u u) (sym (ap lines e ∙ no_lines)) (subst (λ z. AreAdded t [] z true u u) (sym (ap rings e ∙ no_rings)) (added_none u)))
 
   -- what is told of all lists
   there : {A : Type 0} (l : List A) (i : ℕ) → i < length l → (x : A) × (slice_get l i ≡ Some x)

@@ -10,38 +10,19 @@ ghost use Rattle.theory.specs.Geometry.{Geometry};
 ghost use Rattle.theory.specs.Lists.{gathered};
 
 use crate::add_line_ends;
-use chains::table::ArcRef;
 use faults::OutOfMemory;
 use grid::pos::Pos;
 use lines::items::Items;
 use std::alloc::Global;
 use topo::{Body, Geom, Layer};
 
-fn add_lists(
-    ends: &mut Vec<Pos>,
-    arcs: &[Items<Pos>],
-    lists: &[Items<ArcRef>],
-) -> Result<(), OutOfMemory>
-    ensures { OnOk result (ends.new.items ≡ ends.old.items ++ gathered (spec.line_ends arcs.now) lists.now) }
-{
-    for refs in lists {
-        add_line_ends(ends, arcs, refs.as_slice())?;
-    }
-    Ok(())
-}
-
 fn add_body(ends: &mut Vec<Pos>, arcs: &[Items<Pos>], body: &Body) -> Result<(), OutOfMemory>
     ensures { OnOk result (ends.new.items ≡ ends.old.items ++ gathered (spec.line_ends arcs.now) (body_lines body.now)) }
 {
-    match body {
-        Body::Line(refs) => add_line_ends(ends, arcs, refs.as_slice()),
-        Body::MultiLine(lists) => add_lists(ends, arcs, lists.as_slice()),
-        Body::Null
-        | Body::Point(_)
-        | Body::MultiPoint(_)
-        | Body::Polygon(_)
-        | Body::MultiPolygon(_) => Ok(()),
+    for refs in body.lines() {
+        add_line_ends(ends, arcs, refs.as_slice())?;
     }
+    Ok(())
 }
 
 fn add_geometries(

@@ -4,13 +4,11 @@ ghost use Rattle.std.specs.Prelude.{◌≡◌, ◌↔◌, [], ◌∷◌, length,
 ghost use Rattle.validate.specs.Accept.Added.{AreAdded};
 ghost use Rattle.validate.specs.Accept.Lists.{layers_lines, layers_rings, lines_of, rings_of};
 ghost use Rattle.topo.specs.BodyLists.{body_lines, body_rings};
-ghost use Rattle.theory.specs.Lists.{joined};
 
 use crate::{ArcsUsed, ends_meet, line_run, ring_stands};
 use chains::table::{ArcRef, ArcTable};
 use faults::OutOfMemory;
 use grid::pos::Pos;
-use lines::items::Items;
 use std::alloc::{AllocError, Global};
 use topo::{Body, Geom, Layer};
 
@@ -37,18 +35,6 @@ impl ListsSeen {
         Ok(true)
     }
 
-    fn add_lines(&mut self, table: &ArcTable, lists: &[Items<ArcRef>]) -> Result<bool, AllocError>
-        requires { length self.old.used ≡ length table.now.arcs }
-        ensures { IfOk result (λ b. AreAdded table.now lists.now [] b self.old self.new) }
-    {
-        for refs in lists {
-            if !self.add_line(table, refs.as_slice())? {
-                return Ok(false);
-            }
-        }
-        Ok(true)
-    }
-
     fn add_ring(&mut self, table: &ArcTable, refs: &[ArcRef]) -> bool
         requires { length self.old.used ≡ length table.now.arcs }
         ensures { AreAdded table.now [] (refs.now ∷ []) result self.old self.new }
@@ -56,11 +42,23 @@ impl ListsSeen {
         ring_stands(table, &mut self.used, refs)
     }
 
-    fn add_rings(&mut self, table: &ArcTable, lists: &[Items<ArcRef>]) -> bool
+    fn add_lines(&mut self, table: &ArcTable, body: &Body) -> Result<bool, AllocError>
         requires { length self.old.used ≡ length table.now.arcs }
-        ensures { AreAdded table.now [] lists.now result self.old self.new }
+        ensures { IfOk result (λ b. AreAdded table.now (body_lines body.now) [] b self.old self.new) }
     {
-        for refs in lists {
+        for refs in body.lines() {
+            if !self.add_line(table, refs.as_slice())? {
+                return Ok(false);
+            }
+        }
+        Ok(true)
+    }
+
+    fn add_rings(&mut self, table: &ArcTable, body: &Body) -> bool
+        requires { length self.old.used ≡ length table.now.arcs }
+        ensures { AreAdded table.now [] (body_rings body.now) result self.old self.new }
+    {
+        for refs in body.rings() {
             if !self.add_ring(table, refs.as_slice()) {
                 return false;
             }
@@ -68,30 +66,14 @@ impl ListsSeen {
         true
     }
 
-    fn add_polygons(&mut self, table: &ArcTable, polygons: &[Items<Items<ArcRef>>]) -> bool
-        requires { length self.old.used ≡ length table.now.arcs }
-        ensures { AreAdded table.now [] (joined polygons.now) result self.old self.new }
-    {
-        for lists in polygons {
-            if !self.add_rings(table, lists.as_slice()) {
-                return false;
-            }
-        }
-        true
-    }
-
-    #[tactic(auto, using(crate::proofs::AcceptLemmas::Adding::added_none))]
     fn add_body(&mut self, table: &ArcTable, body: &Body) -> Result<bool, AllocError>
         requires { length self.old.used ≡ length table.now.arcs }
         ensures { IfOk result (λ b. AreAdded table.now (body_lines body.now) (body_rings body.now) b self.old self.new) }
     {
-        match body {
-            Body::Null | Body::Point(_) | Body::MultiPoint(_) => Ok(true),
-            Body::Line(refs) => self.add_line(table, refs.as_slice()),
-            Body::MultiLine(lists) => self.add_lines(table, lists.as_slice()),
-            Body::Polygon(lists) => Ok(self.add_rings(table, lists.as_slice())),
-            Body::MultiPolygon(polygons) => Ok(self.add_polygons(table, polygons.as_slice())),
+        if !self.add_lines(table, body)? {
+            return Ok(false);
         }
+        Ok(self.add_rings(table, body))
     }
 
     fn add_geometries(&mut self, table: &ArcTable, geometries: &[Geom]) -> Result<bool, AllocError>

@@ -1,4 +1,5 @@
-use Rattle.std.proofs.Common.{◌≡◌, Bool, [], drop, length}
+use Rattle.std.proofs.Common.{◌≡◌, Bool, [], length}
+use Rattle.topo.specs.BodyLists.{body_rings}
 use Rattle.validate.specs.Accept.Added.{AreAdded}
 use Rattle.validate.specs.declared.accept.lists.ListsSeen.{ListsSeen}
 use Rattle.validate.proofs.accept.lists.ListsSeen.add_rings.Given as goal
@@ -6,5 +7,5 @@ use Rattle.validate.proofs.accept.lists.ListsSeen.add_rings.Given as goal
 abbrev pub invariant-loop-refs : goal.invariant-loop-refs
 invariant-loop-refs l = record {
   len : length l.self.used ≡ length l.fn.table.arcs;
-  rest : (b : Bool) (s : ListsSeen) → AreAdded l.fn.table [] (drop l.refs-index l.fn.lists) b l.self s → AreAdded l.fn.table [] l.fn.lists b l.fn.self s;
+  rest : (b : Bool) (s : ListsSeen) → AreAdded l.fn.table [] l.refs-iterator b l.self s → AreAdded l.fn.table [] (body_rings l.fn.body) b l.fn.self s;
 }
