@@ -1,5 +1,5 @@
 -- Ends that meet, as the code tells it.
-use Rattle.std.proofs.Common.{◌≡◌, ◌≤◌, Bool, true, false, ◌||◌, ◌↔◌, List, [], ◌∷◌, ◌++◌, ◌⊎◌, inl, inr, refl, sym, ap, ◌∙◌, arith, Option, Some, None}
+use Rattle.std.proofs.Common.{◌≡◌, ◌≤◌, Bool, true, false, ◌||◌, ◌↔◌, List, [], ◌∷◌, ◌++◌, ◌⊎◌, inl, inr, refl, sym, ap, ◌∙◌, arith}
 use Rattle.std.specs.List.Sorted.{IsPermutation, IsSorted}
 use Rattle.std.proofs.lemmas.List.Sorted.{IsPermutation-sym}
 use Rattle.grid.specs.declared.pos.Pos.{Pos}
@@ -15,16 +15,12 @@ use Rattle.chains.specs.Arcs.{Arcs}
 use Rattle.chains.specs.OfArcs.{table_as_map}
 use Rattle.chains.specs.Table.{is_loop}
 use Rattle.chains.proofs.Among.{among_has, has_among}
-use Rattle.chains.proofs.TablesAsMap.{given, has_open, open_has}
-use Rattle.validate.specs.ArcEnds.{EndsMeet, again, both_ends, both_if}
+use Rattle.chains.proofs.TablesAsMap.{has_open, open_has}
+use Rattle.validate.specs.ArcEnds.{EndsMeet, again, both_ends}
 use Rattle.validate.specs.EndTests.{both_are, each_ends, ends_are}
 use Rattle.validate.specs.declared.end_tests.EndsHaveToBe.TheVariants.{Among}
 use Rattle.validate.proofs.Steps.{all_from, all_has}
 use Rattle.validate.proofs.Threes.{count, count_again, count_has, count_moved, has_count, three_told, up_again}
-
-pub both_given : (o : Option (List Pos)) → both_if o ≡ given both_ends o
-both_given None = refl
-both_given (Some c) = refl
 
 ends_in : (meeting c : List Pos) → both_are Among meeting c ≡ true → (v : Pos) → EndOf v c → Has v meeting
 ends_in meeting [] e v h = absurd h

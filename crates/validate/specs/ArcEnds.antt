@@ -24,11 +24,6 @@ abbrev pub both_ends : List Pos → List Pos
 both_ends [] = []
 both_ends (x ∷ r) = x ∷ (last_of x r ∷ [])
 
--- the same, where there is one
-abbrev pub both_if : Option (List Pos) → List Pos
-both_if None = []
-both_if (Some c) = both_ends c
-
 -- the vertices that are equal to the one before, where `before` is in front
 abbrev pub again_from : Pos → List Pos → List Pos
 again_from before [] = []

@@ -1,9 +1,9 @@
 //! Whether each end of an arc is an end of a line, or meets two others.
 ghost use Rattle.chains.specs.OfArcs.{table_as_map};
 ghost use Rattle.validate.specs.ArcEnds as spec;
-ghost use Rattle.validate.specs.ArcEnds.{EndsMeet, both_ends, both_if, line_ends};
+ghost use Rattle.validate.specs.ArcEnds.{EndsMeet, both_ends, line_ends};
 ghost use Rattle.validate.specs.Chaining as list;
-ghost use Rattle.std.specs.Prelude.{◌≡◌, ◌↔◌, ◌++◌, true, slice_get, IfOk, OnOk};
+ghost use Rattle.std.specs.Prelude.{◌≡◌, ◌↔◌, ◌++◌, true, IfOk, OnOk};
 ghost use Rattle.theory.specs.Lists.{gathered};
 
 use crate::chaining::{ends_in, last_from};
@@ -57,22 +57,13 @@ fn add_both(ends: &mut Vec<Pos>, arc: &[Pos]) -> Result<(), AllocError>
     Ok(())
 }
 
-fn add_ends_of(ends: &mut Vec<Pos>, table: &ArcTable, number: usize) -> Result<(), AllocError>
-    ensures { OnOk result (ends.new.items ≡ ends.old.items ++ both_if (slice_get table.now.arcs number)) }
-{
-    match table.arc(number) {
-        Some(arc) => add_both(ends, arc),
-        None => Ok(()),
-    }
-}
-
 /// The ends of all arcs.
 pub(crate) fn all_ends(alloc: Global, table: &ArcTable) -> Result<Vec<Pos>, AllocError>
     ensures { IfOk result (λ v. v.items ≡ gathered both_ends table.now.arcs) }
 {
     let mut ends = Vec::new(alloc);
-    for number in 0..table.len() {
-        add_ends_of(&mut ends, table, number)?;
+    for arc in table.iter() {
+        add_both(&mut ends, arc)?;
     }
     Ok(ends)
 }
