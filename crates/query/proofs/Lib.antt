@@ -20,7 +20,6 @@ pub mod Ending
 pub mod Halting
 pub mod Parted
 pub mod Wholes
-pub mod LinesLeft
 pub mod Counting
 pub mod LeastSteps
 pub mod Turns

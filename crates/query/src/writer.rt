@@ -36,9 +36,8 @@ impl<'a> Written for LinesIn<'a> {
 
     fn write<W: Sink>(&self, sink: &mut W) -> Result<(), WriteFault> {
         let mut separator = Text(b"");
-        for number in 0..self.0.len() {
-            let line = Bracketed(JoinedPlaces(line_at(self.0, number), self.1));
-            match Then(separator, line).write(sink) {
+        for line in self.0.iter() {
+            match Then(separator, Bracketed(JoinedPlaces(line, self.1))).write(sink) {
                 Ok(()) => separator = Text(b","),
                 Err(fault) => return Err(fault),
             }

@@ -1,4 +1,3 @@
-pub mod ArcTexts
 pub mod TextsLeft
 pub mod Walks
 pub mod Runs

@@ -1,6 +1,6 @@
 //! Areas along arcs, exactly.
 ghost use Rattle.decimals.specs.Topology.Turning.{area_along, area_from, cross as spec_cross};
-ghost use Rattle.std.specs.Prelude.{◌≡◌, ◌<◌, ◌*ℤ◌, [], IfOk, IfSome, get_or, length, map};
+ghost use Rattle.std.specs.Prelude.{◌≡◌, ◌*ℤ◌, IfOk, IfSome, map};
 
 use chains::table::ArcTable;
 use faults::OutOfMemory;
@@ -43,24 +43,13 @@ fn area(positions: &[Pos]) -> Option<i128>
     }
 }
 
-/// The area along an arc of a table.
-fn area_of(arcs: &ArcTable, number: usize) -> Option<i128>
-    requires { number < length arcs.now.arcs }
-    ensures { IfSome result (λ a. a ≡ area_along (get_or arcs.now.arcs number [])) }
-{
-    match arcs.arc(number) {
-        Some(positions) => area(positions),
-        None => None,
-    }
-}
-
 /// The areas along all arcs.
 pub(crate) fn areas_of(alloc: Global, arcs: &ArcTable) -> Result<Vec<i128>, OutOfMemory>
     ensures { IfOk result (λ areas. areas.items ≡ map area_along arcs.now.arcs) }
 {
     let mut areas = Vec::new(alloc);
-    for number in 0..arcs.len() {
-        let Some(along) = area_of(arcs, number) else {
+    for arc in arcs.iter() {
+        let Some(along) = area(arc) else {
             return Err(OutOfMemory);
         };
         areas.push(along)?;

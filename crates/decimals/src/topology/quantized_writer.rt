@@ -73,12 +73,10 @@ fn write_arcs<W: Sink>(
     ensures refused { ¬ (result ≡ Err DecimalFault.TooManyDigits) }
 {
     let mut separator = Text(b"");
-    for number in 0..arcs.len() {
-        if let Some(arc) = arcs.arc(number) {
-            let numbers = quantizer.arc(alloc, arc)?;
-            Then(separator, Listed(numbers.as_slice(), &NumbersText)).write(out)?;
-            separator = Text(b",");
-        }
+    for arc in arcs.iter() {
+        let numbers = quantizer.arc(alloc, arc)?;
+        Then(separator, Listed(numbers.as_slice(), &NumbersText)).write(out)?;
+        separator = Text(b",");
     }
     Ok(())
 }

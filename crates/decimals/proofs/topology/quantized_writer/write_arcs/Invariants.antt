@@ -1,11 +1,9 @@
-use Rattle.std.proofs.Common.{◌≡◌, take}
-use Rattle.sinks.specs.Texts.{joined, separator}
-use Rattle.sinks.specs.Writes.{TookAll}
+use Rattle.sinks.specs.Texts.{joined}
+use Rattle.sinks.specs.Writes.{TookUpTo}
 use Rattle.decimals.specs.Topology.TopologyText.{quantized_arc}
+use Rattle.topo.proofs.TextsLeft.{behind}
 use Rattle.decimals.proofs.topology.quantized_writer.write_arcs.Given as goal
 
-abbrev pub invariant-loop-number : goal.invariant-loop-number
-invariant-loop-number g l = record {
-  took : TookAll (g.W.Sink.seen l.initial.out) (g.W.Sink.seen l.out) (joined (quantized_arc l.quantizer) (take l.number l.arcs.arcs));
-  before : l.separator.0.now ≡ separator (take l.number l.arcs.arcs);
-}
+abbrev pub invariant-loop-arc : goal.invariant-loop-arc
+invariant-loop-arc g l =
+    TookUpTo (g.W.Sink.seen l.initial.out) (g.W.Sink.seen l.out) (joined (quantized_arc l.quantizer) l.arcs.arcs) (behind (quantized_arc l.quantizer) l.separator.0.now l.arc-iterator)

@@ -1,30 +1,23 @@
-use Rattle.std.proofs.Common.{◌≤◌, ◌<◌, length, arith}
+use Rattle.std.proofs.Common.{◌∙◌}
 use Rattle.geojson_io.specs.CollectionText.{line_text}
-use Rattle.query.proofs.LinesLeft.{line_more, line_part, lines_begun, lines_done}
+use Rattle.topo.proofs.TextsLeft.{text_more, text_part, texts_begun, texts_done}
 use Rattle.query.proofs.writer.LinesInWritten.write.Goals as goal
 
-pub loop-number-init : goal.loop-number-init
-loop-number-init g c = lines_begun (line_text c.args.self.now.1.now) c.args.self.now.0.now.arcs (g.W.Sink.seen c.args.sink.now)
+pub loop-line-init : goal.loop-line-init
+loop-line-init g c =
+    texts_begun (line_text c.args.self.now.1.now) c.args.self.now.0.now.arcs c.into_iter-line-iterator.result (g.W.Sink.seen c.args.sink.now)
+    (c.into_iter-line-iterator.ensures.into_iter_gives ∙ c.iter-line-items.ensures.arcs)
 
-pub loop-number-preserved : goal.loop-number-preserved
-loop-number-preserved g c =
-    let below = c.loop-number-test.true in
-    let count = c.len-number-end.ensures.len in
-    let within : c.loop-number.number < length c.args.self.now.0.now.arcs = omega arith in
-    line_more (line_text c.args.self.now.1.now) c.args.self.now.0.now.arcs c.loop-number.separator.0.now c.loop-number.number c.line_at.result.now within c.line_at.ensures
-    (g.W.Sink.seen c.write.new.sink) c.loop-number.invariant c.in-Ok.ensures.whole
+pub loop-line-preserved : goal.loop-line-preserved
+loop-line-preserved g c =
+    text_more (line_text c.args.self.now.1.now) c.args.self.now.0.now.arcs c.loop-line.separator.0.now c.loop-line.line-iterator c.next.new.self c.in-Some.line.now
+    c.in-Some.ensures.steps c.loop-line.invariant c.in-Ok.ensures.whole
 
 pub returns-in-Err-clause-part : goal.returns-in-Err-clause-part
 returns-in-Err-clause-part g c =
-    let below = c.loop-number-test.true in
-    let count = c.len-number-end.ensures.len in
-    let within : c.loop-number.number < length c.args.self.now.0.now.arcs = omega arith in
-    line_part (line_text c.args.self.now.1.now) c.args.self.now.0.now.arcs c.loop-number.separator.0.now c.loop-number.number c.line_at.result.now within c.line_at.ensures
-    (g.W.Sink.seen c.write.new.sink) c.loop-number.invariant c.in-Err.ensures.part
+    text_part (line_text c.args.self.now.1.now) c.args.self.now.0.now.arcs c.loop-line.separator.0.now c.loop-line.line-iterator c.next.new.self c.in-Some.line.now
+    c.in-Some.ensures.steps c.loop-line.invariant c.in-Err.ensures.part
 
 pub returns-clause-whole : goal.returns-clause-whole
 returns-clause-whole g c =
-    let past = c.loop-number-test.false in
-    let count = c.len-number-end.ensures.len in
-    let all : length c.args.self.now.0.now.arcs ≤ c.loop-number.number = omega arith in
-    lines_done (line_text c.args.self.now.1.now) c.args.self.now.0.now.arcs c.loop-number.separator.0.now c.loop-number.number all c.loop-number.invariant
+    texts_done (line_text c.args.self.now.1.now) c.args.self.now.0.now.arcs c.loop-line.separator.0.now c.loop-line.line-iterator c.in-None.ensures.steps.0 c.loop-line.invariant
